@@ -1,0 +1,5 @@
+use Rattle.std.proofs.Common.{length}
+use Rattle.cpg_base.proofs.limits.+slots_differ.Given as goal
+
+abbrev pub decreases-slots_differ : goal.decreases-slots_differ
+decreases-slots_differ l = length l.slots.now

@@ -1,0 +1,162 @@
+//! Tests of the limits of a graph file.
+ghost use Rattle.std.specs.Prelude.{◌≡◌, ◌≢◌, ◌↔◌, ◌≤◌, ◌==◌, IsTrue, IfSome, All, AllPairs};
+ghost use Rattle.std.specs.List.{list_any};
+ghost use Rattle.std.specs.Str.{bytes_eq};
+ghost use Rattle.cpg_base.specs.Numbers.{are_apart};
+ghost use Rattle.cpg_base.specs.Limits.{IsProcessWithin, IsSlotWithin, IsEdgeWithin};
+
+use crate::{Edge, Name, Process, Slot};
+
+/// The greatest time, in time units of the graph file.
+const LONGEST: u64 = 1_000_000_000;
+/// The greatest size of a message or a slot, in bytes.
+const LARGEST: u32 = 65_535;
+
+fn are_costs_within(process: &Process) -> bool
+    ensures { IsTrue result ↔ ((process.now.alpha ≤ 1000000000) × (process.now.chi ≤ 1000000000) × (process.now.mu ≤ 1000000000)) }
+{
+    process.alpha <= LONGEST && process.chi <= LONGEST && process.mu <= LONGEST
+}
+
+fn is_window_within(process: &Process) -> bool
+    ensures { IsTrue result ↔ ((process.now.release ≤ 1000000000) × IfSome process.now.deadline (λ d. d ≤ 1000000000)) }
+{
+    let due = match process.deadline {
+        Some(deadline) => deadline <= LONGEST,
+        None => true,
+    };
+    process.release <= LONGEST && due
+}
+
+/// Whether a process is on one of so many nodes, and each of its numbers is in range.
+fn is_process_within(process: &Process, nodes: usize) -> bool
+    ensures { IsTrue result ↔ IsProcessWithin nodes process.now }
+{
+    if process.node as usize >= nodes || process.wcet == 0 || process.wcet > LONGEST {
+        return false;
+    }
+    if process.parts == 0 || process.parts > 255 {
+        return false;
+    }
+    are_costs_within(process) && is_window_within(process)
+}
+
+/// Whether a slot is of one of so many nodes, and its numbers are in range.
+fn is_slot_within(slot: &Slot, nodes: usize) -> bool
+    ensures { IsTrue result ↔ IsSlotWithin nodes slot.now }
+{
+    if slot.node as usize >= nodes || slot.length == 0 || slot.length > LONGEST {
+        return false;
+    }
+    1 <= slot.bytes && slot.bytes <= LARGEST
+}
+
+/// Whether an edge is between two of so many processes, and its size is in range.
+fn is_edge_within(edge: &Edge, processes: usize) -> bool
+    ensures { IsTrue result ↔ IsEdgeWithin processes edge.now }
+{
+    if edge.from as usize >= processes || edge.to as usize >= processes {
+        return false;
+    }
+    1 <= edge.size && edge.size <= LARGEST
+}
+
+/// Whether all processes are within the limits.
+pub fn are_processes_within(processes: &[Process], nodes: usize) -> bool
+    ensures { IsTrue result ↔ All (IsProcessWithin nodes) processes.now }
+{
+    processes
+        .iter()
+        .all(|process| is_process_within(process, nodes))
+}
+
+/// Whether all slots are within the limits.
+pub fn are_slots_within(slots: &[Slot], nodes: usize) -> bool
+    ensures { IsTrue result ↔ All (IsSlotWithin nodes) slots.now }
+{
+    slots.iter().all(|slot| is_slot_within(slot, nodes))
+}
+
+/// Whether all edges are within the limits.
+pub fn are_edges_within(edges: &[Edge], processes: usize) -> bool
+    ensures { IsTrue result ↔ All (IsEdgeWithin processes) edges.now }
+{
+    edges.iter().all(|edge| is_edge_within(edge, processes))
+}
+
+fn has_name(names: &[Name], name: &Name) -> bool
+    ensures { result ≡ list_any (bytes_eq name.now) names.now }
+{
+    names.iter().any(|other| name.as_str() == other.as_str())
+}
+
+fn names_differ(names: &[Name]) -> bool
+    ensures { result ≡ are_apart bytes_eq names.now }
+{
+    let Some((first, rest)) = names.split_first() else {
+        return true;
+    };
+    if has_name(rest, first) {
+        return false;
+    }
+    names_differ(rest)
+}
+
+fn has_process(processes: &[Process], name: &Name) -> bool
+    ensures { result ≡ list_any (λ q. bytes_eq name.now q.name) processes.now }
+{
+    processes
+        .iter()
+        .any(|other| name.as_str() == other.name.as_str())
+}
+
+fn processes_differ(processes: &[Process]) -> bool
+    ensures { result ≡ are_apart (λ p q. bytes_eq p.name q.name) processes.now }
+{
+    let Some((first, rest)) = processes.split_first() else {
+        return true;
+    };
+    if has_process(rest, &first.name) {
+        return false;
+    }
+    processes_differ(rest)
+}
+
+fn has_slot(slots: &[Slot], node: u32) -> bool
+    ensures { result ≡ list_any (λ t. node == t.node) slots.now }
+{
+    slots.iter().any(|other| node == other.node)
+}
+
+fn slots_differ(slots: &[Slot]) -> bool
+    ensures { result ≡ are_apart (λ s t. s.node == t.node) slots.now }
+{
+    let Some((first, rest)) = slots.split_first() else {
+        return true;
+    };
+    if has_slot(rest, first.node) {
+        return false;
+    }
+    slots_differ(rest)
+}
+
+/// Whether no two names are equal.
+pub fn are_names_apart(names: &[Name]) -> bool
+    ensures { IsTrue result ↔ AllPairs (λ a b. a ≢ b) names.now }
+{
+    names_differ(names)
+}
+
+/// Whether no two processes have one name.
+pub fn are_processes_apart(processes: &[Process]) -> bool
+    ensures { IsTrue result ↔ AllPairs (λ p q. p.name ≢ q.name) processes.now }
+{
+    processes_differ(processes)
+}
+
+/// Whether no two slots belong to one node.
+pub fn are_slots_apart(slots: &[Slot]) -> bool
+    ensures { IsTrue result ↔ AllPairs (λ s t. s.node ≢ t.node) slots.now }
+{
+    slots_differ(slots)
+}

@@ -1,0 +1,69 @@
+//! Names of nodes and processes.
+ghost use Rattle.std.specs.Prelude.{◌≡◌, ◌↔◌, IfOk, IfSome, IfNone, IsTrue};
+ghost use Rattle.cpg_base.specs.Name.{IsName, is_name_byte};
+
+use crate::OutOfMemory;
+use std::alloc::Global;
+use std::marker::Model;
+
+/// A name of a node or a process, seen as its bytes: 1 to 32 of them, each a letter, a digit, `_`, `-` or `.`.
+#[derive(Drop)]
+pub struct Name {
+    text: String,
+}
+
+impl Model for Name {
+    ghost use Rattle.std.specs.Prelude.{List, ℕ, string_bytes};
+
+    ghost Value = { List ℕ };
+
+    ghost use Rattle.cpg_base.specs.Name.{IsName};
+
+    ghost view = { λ n. string_bytes n.text };
+
+    ghost invariant = { λ n. IsName (string_bytes n.text) };
+}
+
+fn is_name_byte(byte: u8) -> bool
+    ensures { result ≡ is_name_byte byte }
+{
+    matches!(byte, b'A'..=b'Z' | b'a'..=b'z' | b'0'..=b'9' | b'_' | b'-' | b'.')
+}
+
+fn is_name(text: &[u8]) -> bool
+    ensures { IsTrue result ↔ IsName text.now }
+{
+    1 <= text.len() && text.len() <= 32 && text.iter().all(|byte| is_name_byte(*byte))
+}
+
+impl Name {
+    /// The name that a text spells, and `None` exactly where the text is no name.
+    pub fn new(alloc: Global, text: &str) -> Result<Option<Name>, OutOfMemory>
+        ensures name { IfOk result (λ r. IfSome r (λ name. name ≡ text.now)) }
+        ensures taken { IfOk result (λ r. IfSome r (λ _. IsName text.now)) }
+        ensures refused { IfOk result (λ r. IfNone r (¬ IsName text.now)) }
+    {
+        if !is_name(text.as_bytes()) {
+            return Ok(None);
+        }
+        let text = String::from_str(alloc, text)?;
+        Ok(Some(Name { text }))
+    }
+
+    /// The text of the name.
+    pub fn as_str(&self) -> &str
+        ensures text { result.now ≡ self.now }
+        ensures name { IsName self.now }
+    {
+        self.text.as_str()
+    }
+
+    /// An equal name.
+    pub fn copy(&self) -> Result<Name, OutOfMemory>
+        ensures { IfOk result (λ name. name ≡ self.now) }
+    {
+        Ok(Name {
+            text: self.text.clone()?,
+        })
+    }
+}

@@ -1,0 +1,276 @@
+//! A graph within its limits.
+ghost use Rattle.std.specs.Prelude.{◌≡◌, ◌<◌, ◌≤◌, ◌↔◌, IsTrue, IfOk, IfSome, IfNone, Some, sum_by, ◌^◌};
+ghost use Rattle.cpg_base.specs.Graph.{process_count, condition_count, condition_of, process_of, process_at};
+ghost use Rattle.cpg_base.specs.Bus.{round};
+ghost use Rattle.cpg_base.specs.Duration.{duration, due};
+ghost use Rattle.cpg_base.specs.Limits.{IsWithinLimits};
+
+use crate::conditions::{Conditions, MOST_PROCESSES};
+use crate::limits::{
+    are_edges_within, are_names_apart, are_processes_apart, are_processes_within, are_slots_apart,
+    are_slots_within,
+};
+use crate::{Edge, Name, OutOfMemory, Process, Slot};
+use std::marker::Model;
+
+/// How many faults a cycle has at most.
+const MOST_FAULTS: u8 = 8;
+/// How many nodes and slots a graph has at most.
+const MOST_NODES: usize = 16;
+/// How many edges a graph has at most.
+const MOST_EDGES: usize = 256;
+/// The latest deadline, in time units of the graph file.
+const LATEST: u64 = 1_000_000_000;
+
+/// A conditional process graph within the limits of a graph file (docs/FORMATS.md), seen as its fault number, its
+/// deadline, its nodes' names, its slots in the order of the round, its processes and its edges.
+#[derive(Drop)]
+pub struct Problem {
+    faults: u8,
+    deadline: u64,
+    nodes: Vec<Name>,
+    slots: Vec<Slot>,
+    processes: Vec<Process>,
+    edges: Vec<Edge>,
+    conditions: Conditions,
+}
+
+impl Model for Problem {
+    ghost use Rattle.std.specs.Prelude.{◌≡◌};
+    ghost use Rattle.cpg_base.specs.Graph.{Graph, disjunctions};
+    ghost use Rattle.cpg_base.specs.Limits.{IsWithinLimits};
+
+    ghost Value = { Graph };
+
+    ghost view = { λ p. record { faults = p.faults; deadline = p.deadline; nodes = p.nodes.items; slots = p.slots.items; processes = p.processes.items; edges = p.edges.items } };
+
+    ghost invariant = { λ p. let g : Graph = record { faults = p.faults; deadline = p.deadline; nodes = p.nodes.items; slots = p.slots.items; processes = p.processes.items; edges = p.edges.items } in IsWithinLimits g × (p.conditions ≡ disjunctions g) };
+}
+
+/// Whether there are few enough of each, and the single numbers are in range.
+fn are_counts_within(
+    faults: u8,
+    deadline: u64,
+    nodes: usize,
+    slots: usize,
+    processes: usize,
+    edges: usize,
+) -> bool
+    ensures { IsTrue result ↔ ((faults ≤ 8) × (deadline ≤ 1000000000) × (nodes ≤ 16) × (slots ≤ 16) × (processes ≤ 128) × (edges ≤ 256)) }
+{
+    if faults > MOST_FAULTS || deadline > LATEST || nodes > MOST_NODES || slots > MOST_NODES {
+        return false;
+    }
+    processes <= MOST_PROCESSES && edges <= MOST_EDGES
+}
+
+/// The length of a round of these slots.
+fn round_of(slots: &[Slot]) -> u64
+    requires { sum_by (λ s. s.length) slots.now < 2 ^ 64 }
+    ensures { result ≡ sum_by (λ s. s.length) slots.now }
+{
+    slots.iter().map(|slot| slot.length).sum()
+}
+
+fn copy_names(names: &Vec<Name>) -> Result<Vec<Name>, OutOfMemory>
+    ensures { IfOk result (λ copy. copy.items ≡ names.now.items) }
+{
+    let mut copy = Vec::new(*names.allocator());
+    copy.reserve(names.len())?;
+    for name in names.as_slice() {
+        copy.push(name.copy()?)?;
+    }
+    Ok(copy)
+}
+
+fn copy_processes(processes: &Vec<Process>) -> Result<Vec<Process>, OutOfMemory>
+    ensures { IfOk result (λ copy. copy.items ≡ processes.now.items) }
+{
+    let mut copy = Vec::new(*processes.allocator());
+    copy.reserve(processes.len())?;
+    for process in processes.as_slice() {
+        copy.push(process.copy()?)?;
+    }
+    Ok(copy)
+}
+
+impl Problem {
+    /// The graph of these parts, and `None` exactly where one of the limits is broken.
+    pub fn new(
+        faults: u8,
+        deadline: u64,
+        nodes: Vec<Name>,
+        slots: Vec<Slot>,
+        processes: Vec<Process>,
+        edges: Vec<Edge>,
+    ) -> Option<Problem>
+        ensures problem { IfSome result (λ g. g ≡ record { faults = faults; deadline = deadline; nodes = nodes.items; slots = slots.items; processes = processes.items; edges = edges.items }) }
+        ensures within { IfSome result IsWithinLimits }
+        ensures refused { IfNone result (¬ IsWithinLimits (record { faults = faults; deadline = deadline; nodes = nodes.items; slots = slots.items; processes = processes.items; edges = edges.items })) }
+    {
+        if !are_counts_within(
+            faults,
+            deadline,
+            nodes.len(),
+            slots.len(),
+            processes.len(),
+            edges.len(),
+        ) {
+            return None;
+        }
+        if !are_processes_within(processes.as_slice(), nodes.len()) {
+            return None;
+        }
+        if !are_slots_within(slots.as_slice(), nodes.len()) {
+            return None;
+        }
+        if !are_edges_within(edges.as_slice(), processes.len()) {
+            return None;
+        }
+        if !are_names_apart(nodes.as_slice()) {
+            return None;
+        }
+        if !are_processes_apart(processes.as_slice()) {
+            return None;
+        }
+        if !are_slots_apart(slots.as_slice()) {
+            return None;
+        }
+        let Some(conditions) = Conditions::of(processes.len(), edges.as_slice()) else {
+            return None;
+        };
+        Some(Problem {
+            faults,
+            deadline,
+            nodes,
+            slots,
+            processes,
+            edges,
+            conditions,
+        })
+    }
+
+    /// The greatest number of faults in a cycle.
+    pub fn faults(&self) -> u8
+        ensures faults { result ≡ self.now.faults }
+        ensures within { IsWithinLimits self.now }
+    {
+        self.faults
+    }
+
+    /// The deadline of the whole graph, in time units.
+    pub fn deadline(&self) -> u64
+        ensures deadline { result ≡ self.now.deadline }
+        ensures within { IsWithinLimits self.now }
+    {
+        self.deadline
+    }
+
+    /// The names of the nodes.
+    pub fn nodes(&self) -> &[Name]
+        ensures nodes { result.now ≡ self.now.nodes }
+        ensures within { IsWithinLimits self.now }
+    {
+        self.nodes.as_slice()
+    }
+
+    /// The slots, in their order in the round.
+    pub fn slots(&self) -> &[Slot]
+        ensures slots { result.now ≡ self.now.slots }
+        ensures within { IsWithinLimits self.now }
+    {
+        self.slots.as_slice()
+    }
+
+    /// The processes.
+    pub fn processes(&self) -> &[Process]
+        ensures processes { result.now ≡ self.now.processes }
+        ensures within { IsWithinLimits self.now }
+    {
+        self.processes.as_slice()
+    }
+
+    /// The edges.
+    pub fn edges(&self) -> &[Edge]
+        ensures edges { result.now ≡ self.now.edges }
+        ensures within { IsWithinLimits self.now }
+    {
+        self.edges.as_slice()
+    }
+
+    /// The length of a round of the bus, in time units.
+    pub fn round(&self) -> u64
+        ensures { result ≡ round self.now }
+    {
+        round_of(self.slots.as_slice())
+    }
+
+    /// How many conditions there are.
+    pub fn conditions(&self) -> u32
+        ensures count { result ≡ condition_count self.now }
+        ensures few { result ≤ 32 }
+    {
+        self.conditions.count() as u32
+    }
+
+    /// The condition of a process, and `None` exactly where it has none.
+    pub fn condition_of(&self, process: u32) -> Option<u32>
+        requires { process < process_count self.now }
+        ensures { result ≡ condition_of self.now process }
+    {
+        self.conditions.of_process(process)
+    }
+
+    /// The process of a condition.
+    pub fn process_of(&self, condition: u32) -> u32
+        requires { condition < condition_count self.now }
+        ensures process { result ≡ process_of self.now condition }
+        ensures back { condition_of self.now result ≡ Some condition }
+    {
+        self.conditions.processes()[condition as usize]
+    }
+
+    /// The longest time of an execution with so many faults: its work, then for each part a detection and a checkpoint,
+    /// and for each fault a recovery and one part with its detection once more.
+    pub fn duration(&self, process: u32, faults: u8) -> u64
+        requires process { process < process_count self.now }
+        requires faults { faults ≤ self.now.faults }
+        ensures { result ≡ duration self.now process faults }
+    {
+        self.processes[process as usize].duration(faults)
+    }
+
+    /// The time before which a process doesn't start.
+    pub fn release(&self, process: u32) -> u64
+        requires { process < process_count self.now }
+        ensures { result ≡ (process_at self.now process).release }
+    {
+        self.processes[process as usize].release
+    }
+
+    /// When a process has to have ended: the lesser of the graph's deadline and its own, if it has one.
+    pub fn due(&self, process: u32) -> u64
+        requires { process < process_count self.now }
+        ensures { result ≡ due self.now process }
+    {
+        match self.processes[process as usize].deadline {
+            Some(own) => own.min(self.deadline),
+            None => self.deadline,
+        }
+    }
+
+    /// An equal problem.
+    pub fn copy(&self) -> Result<Problem, OutOfMemory>
+        ensures { IfOk result (λ problem. problem ≡ self.now) }
+    {
+        Ok(Problem {
+            faults: self.faults,
+            deadline: self.deadline,
+            nodes: copy_names(&self.nodes)?,
+            slots: self.slots.clone()?,
+            processes: copy_processes(&self.processes)?,
+            edges: self.edges.clone()?,
+            conditions: self.conditions.copy(),
+        })
+    }
+}

@@ -1,0 +1,92 @@
+//! The parts of a graph: processes, edges and slots.
+
+ghost use Rattle.std.specs.Prelude.{◌≡◌, ◌≤◌, ℕ, IfOk};
+ghost use Rattle.cpg_base.specs.Duration.{duration_of};
+ghost use Rattle.cpg_base.specs.Limits.{IsProcessWithin};
+
+use crate::{Name, OutOfMemory};
+
+/// A process, with the node that it runs on. Times are in the time units of the graph file.
+#[derive(Drop)]
+pub struct Process {
+    /// What the process is called.
+    pub name: Name,
+    /// The number of its node.
+    pub node: u32,
+    /// The worst-case time of an execution without checks and faults, at least 1.
+    pub wcet: u64,
+    /// The number of parts of an execution, with a checkpoint after each, at least 1.
+    pub parts: u32,
+    /// The time to detect a fault, in each part.
+    pub alpha: u64,
+    /// The time to save a checkpoint, in each part.
+    pub chi: u64,
+    /// The time to recover from a fault.
+    pub mu: u64,
+    /// Whether it is a conjunction process, which one live input is enough to start.
+    pub join: bool,
+    /// Whether it starts at one time in all scenarios in which it is active.
+    pub frozen: bool,
+    /// The time before which it doesn't start.
+    pub release: u64,
+    /// Its own deadline, if it has one beside the graph's.
+    pub deadline: Option<u64>,
+}
+
+/// An edge between two processes. It is a message where they are on two nodes.
+#[derive(Clone, Copy, Debug, PartialEq, Eq)]
+pub struct Edge {
+    /// The number of the process that it leads away from.
+    pub from: u32,
+    /// The number of the process that it leads to.
+    pub to: u32,
+    /// The size of its message in bytes, at least 1.
+    pub size: u32,
+    /// The value of the source's condition with which it is taken; `None` where it always is.
+    pub when: Option<bool>,
+    /// Whether its message is sent at one time in all scenarios in which it is sent.
+    pub frozen: bool,
+}
+
+/// A node's slot in the round of the bus.
+#[derive(Clone, Copy, Debug, PartialEq, Eq)]
+pub struct Slot {
+    /// The number of the node that sends in it.
+    pub node: u32,
+    /// Its length in time units, at least 1.
+    pub length: u64,
+    /// How many bytes a frame in it holds, at least 1.
+    pub bytes: u32,
+}
+
+impl Process {
+    /// The longest time of an execution with so many faults.
+    pub fn duration(&self, faults: u8) -> u64
+        requires within { (nodes : ℕ) × IsProcessWithin nodes self.now }
+        requires faults { faults ≤ 8 }
+        ensures { result ≡ duration_of self.now faults }
+    {
+        let checked = u64::from(self.parts) * (self.alpha + self.chi);
+        let again = self.mu + self.wcet.div_ceil(u64::from(self.parts)) + self.alpha;
+        self.wcet + checked + u64::from(faults) * again
+    }
+
+    /// An equal process.
+    pub fn copy(&self) -> Result<Process, OutOfMemory>
+        ensures { IfOk result (λ process. process ≡ self.now) }
+    {
+        Ok(Process {
+            name: self.name.copy()?,
+            node: self.node,
+            wcet: self.wcet,
+            parts: self.parts,
+            alpha: self.alpha,
+            chi: self.chi,
+            mu: self.mu,
+            join: self.join,
+            frozen: self.frozen,
+            release: self.release,
+            deadline: self.deadline,
+        })
+    }
+}
