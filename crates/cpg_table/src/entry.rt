@@ -1,0 +1,26 @@
+//! A time with the scenarios that it is for.
+ghost use Rattle.std.specs.Prelude.{◌≡◌, IfOk};
+
+use cpg_base::OutOfMemory;
+use cpg_cube::Cube;
+
+/// A column of a row.
+#[derive(Drop)]
+pub struct Entry {
+    /// When it is, in time units of the graph file.
+    pub time: u64,
+    /// The scenarios that it is for.
+    pub cube: Cube,
+}
+
+impl Entry {
+    /// An equal entry.
+    pub fn copy(&self) -> Result<Entry, OutOfMemory>
+        ensures { IfOk result (λ entry. entry ≡ self.now) }
+    {
+        Ok(Entry {
+            time: self.time,
+            cube: self.cube.copy()?,
+        })
+    }
+}

@@ -1,0 +1,41 @@
+//! The parts of a pack's head.
+ghost use Rattle.std.specs.Prelude.{◌≡◌, IfOk};
+
+use crate::Durations;
+use cpg_base::{Name, OutOfMemory};
+
+/// What a head says of a process.
+#[derive(Drop)]
+pub struct HeadProcess {
+    /// What the process is called.
+    pub name: Name,
+    /// The number of its node.
+    pub node: u32,
+    /// Whether it has a condition.
+    pub condition: bool,
+    /// How long its executions take.
+    pub times: Durations,
+}
+
+/// What a head of version 2 says of a process beside. Times are in time units of the graph file.
+#[derive(Clone, Copy, Debug, PartialEq, Eq)]
+pub struct Extra {
+    /// The time before which it doesn't start, at most 10^9.
+    pub release: u64,
+    /// Its own deadline, if it has one, at most 10^9.
+    pub deadline: Option<u64>,
+}
+
+impl HeadProcess {
+    /// An equal value.
+    pub fn copy(&self) -> Result<HeadProcess, OutOfMemory>
+        ensures { IfOk result (λ process. process ≡ self.now) }
+    {
+        Ok(HeadProcess {
+            name: self.name.copy()?,
+            node: self.node,
+            condition: self.condition,
+            times: self.times.copy()?,
+        })
+    }
+}
