@@ -1,5 +1,6 @@
 //! A shelf over the runtime's files.
-ghost use Rattle.std.specs.Prelude.{◌≡◌, None, ⊤};
+ghost use Rattle.std.specs.Prelude.{◌≡◌, ◌≤◌, None, ⊤};
+ghost use Rattle.cpg_io.specs.Causes.{counted};
 
 use crate::{Failed, Shelf};
 use std::fs;
@@ -36,6 +37,15 @@ impl<R: Files> FileShelf<R> {
             faults: 0,
         }
     }
+
+    /// Counts a fault.
+    fn count_fault(&mut self) -> Failed
+        ensures same { self.new ≡ record self.old { faults = counted self.old.faults 1 } }
+        ensures later { self.old.faults ≤ self.new.faults }
+    {
+        self.faults = self.faults.saturating_add(1);
+        Failed
+    }
 }
 
 impl<R: Files> Shelf for FileShelf<R> {
@@ -58,10 +68,7 @@ impl<R: Files> Shelf for FileShelf<R> {
                 self.file = Some(file);
                 Ok(())
             }
-            Err(_) => {
-                self.faults = self.faults.saturating_add(1);
-                Err(Failed)
-            }
+            Err(_) => Err(self.count_fault()),
         }
     }
 
@@ -76,10 +83,7 @@ impl<R: Files> Shelf for FileShelf<R> {
                 self.given = self.given.saturating_add(count as u64);
                 Ok(count)
             }
-            Err(_) => {
-                self.faults = self.faults.saturating_add(1);
-                Err(Failed)
-            }
+            Err(_) => Err(self.count_fault()),
         }
     }
 }

@@ -14,6 +14,8 @@ mod reading;
 mod shelf;
 mod sink;
 mod streams;
+#[cfg(test)]
+mod tests;
 mod writing;
 
 pub use failed::Failed;
