@@ -72,7 +72,7 @@ impl<R: Files> Shelf for FileShelf<R> {
         }
     }
 
-    /// Reads once. An error is a fault; with no file open this is the end.
+    /// Reads once, so that a large buffer is one large block. An error is a fault; with no file open this is the end.
     fn read(&mut self, buf: &mut [u8]) -> Result<usize, Failed> {
         let read = match &mut self.file {
             Some(file) => file.read(buf),

@@ -1,11 +1,11 @@
 //! A shelf in memory.
-ghost use Rattle.std.specs.Prelude.{◌≡◌, ◌+◌, ◌-◌, ◌^◌, ◌<◌, ◌≤◌, ◌↔◌, ◌⊎◌, [], ◌∷◌, ◌++◌, ℕ, List, Some, None, ⊤, Contains, IsTrue, IsErr, MatchBool, IfOk, OnOk, OnErr, MatchResult, drop, take, length, min, position};
+ghost use Rattle.std.specs.Prelude.{◌≡◌, ◌+◌, ◌^◌, ◌<◌, ◌≤◌, ◌↔◌, ◌⊎◌, [], ◌∷◌, ◌++◌, Some, None, ⊤, Contains, IsTrue, IsErr, MatchBool, IfOk, OnOk, OnErr, MatchResult, drop, take, length, min, position};
 ghost use Rattle.std.specs.Bool.{OnFalse};
 ghost use Rattle.std.specs.Io.{ReadsAtMost};
 ghost use Rattle.std.specs.Io.KnownBytes.{IsAtEnd, ReadConsumes};
 ghost use Rattle.cpg_io.specs.Causes.{HasCause, counted};
 ghost use Rattle.cpg_io.specs.Shelf.{StartsAt, SameNames, SameLeave};
-ghost use Rattle.cpg_io.specs.MemoryShelf.{File, PutsUnder, stands_in, is_named, bytes_at, GivesWithin};
+ghost use Rattle.cpg_io.specs.MemoryShelf.{PutsUnder, stands_in, is_named};
 
 use crate::{Failed, Shelf};
 use cpg_base::OutOfMemory;

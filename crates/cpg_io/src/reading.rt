@@ -1,6 +1,6 @@
 //! Reading all of a name's bytes.
-ghost use Rattle.std.specs.Prelude.{◌≡◌, ◌+◌, ◌^◌, ◌<◌, ◌≤◌, ◌↔◌, Err, IfOk, IfErr, IfSome, length, vec_len};
-ghost use Rattle.cpg_io.specs.Causes.{Rose, counted};
+ghost use Rattle.std.specs.Prelude.{◌≡◌, ◌+◌, ◌^◌, ◌<◌, ◌≤◌, ◌↔◌, Err, IfOk, IfSome, length, vec_len};
+ghost use Rattle.cpg_io.specs.Causes.{Rose};
 ghost use Rattle.cpg_io.specs.Shelf.{SameNames, SameLeave};
 ghost use Rattle.cpg_io.specs.Reading.{ReadsOn};
 
@@ -11,10 +11,13 @@ use thiserror::Error;
 /// Why not all bytes were read.
 #[derive(Clone, Copy, Debug, PartialEq, Eq, Error)]
 pub enum ReadAll {
+    /// The shelf met a fault, and its count of faults rose.
     #[error("the shelf met a fault")]
     Failed,
+    /// There are more bytes than the limit.
     #[error("there are more bytes than the limit")]
     TooLong,
+    /// Want of memory.
     #[error("out of memory")]
     OutOfMemory,
 }
@@ -77,10 +80,10 @@ fn read_piece<S: Shelf>(
     Ok(count)
 }
 
-/// Reads all bytes that stand under a name, where there are at most `limit` of them.
+/// Reads all bytes that stand under a name, where there are at most `limit` of them, in large pieces.
 ///
 /// `Failed` only where the shelf's count of faults rose. `TooLong` exactly where the shelf has then given more than
-/// `limit` bytes since the fetch; it is asked for no more than `limit` plus one.
+/// `limit` bytes since the fetch; it is asked for no more than `limit` plus one. `limit` is below 2^32.
 pub fn read_all<S: Shelf>(
     alloc: Global,
     shelf: &mut S,
