@@ -1,0 +1,40 @@
+-- A shelf in memory.
+use Rattle.std.specs.Prelude.{ℕ, ◌≡◌, ◌≢◌, ◌<◌, ◌≤◌, Bool, List, [], ◌∷◌, Option, Some, None, IfSome, length, slice_index_or, if◌then◌else◌}
+use Rattle.std.specs.Str.{bytes_eq}
+
+-- bytes and the name that they stand under
+pub record File : Type 0 where
+  pub name : List ℕ
+  pub bytes : List ℕ
+
+-- the files, what is left of the fetched one, how many bytes were given since the last fetch, how many faults there
+-- were, the number of the next call, and the numbers of the calls that fail
+pub record MemoryShelfState : Type 0 where
+  pub files : List File
+  pub left : List ℕ
+  pub given : ℕ
+  pub faults : ℕ
+  pub calls : ℕ
+  pub failing : List ℕ
+
+abbrev pub is_named : List ℕ → File → Bool
+is_named name file = bytes_eq file.name name
+
+-- the bytes that stand under a name, or None where it isn't there
+abbrev pub stands_in : List File → List ℕ → Option (List ℕ)
+stands_in [] name = None
+stands_in (file ∷ files) name = if is_named name file then Some file.bytes else stands_in files name
+
+-- the bytes stand under the name, and under every other name what stood there
+pub record PutsUnder (old new : List File) (name bytes : List ℕ) : Type 0 where
+  pub there : stands_in new name ≡ Some bytes
+  pub others : (other : List ℕ) → other ≢ name → stands_in new other ≡ stands_in old other
+
+-- the bytes of the file at a place, where there is a place
+abbrev pub bytes_at : List File → Option ℕ → List ℕ
+bytes_at files None = []
+bytes_at files (Some place) = (slice_index_or files place (record { name = []; bytes = [] })).bytes
+
+-- no more bytes were given than the fetched file has
+abbrev pub GivesWithin : List File → Option ℕ → ℕ → Type 0
+GivesWithin files fetched given = IfSome fetched (λ place. (place < length files) × (given ≤ length (bytes_at files (Some place))))

@@ -1,0 +1,29 @@
+//! Where bytes come from and where they go: a [`Shelf`] gives the bytes that stand under a name, a [`Sink`] takes
+//! bytes, and both count their faults.
+//!
+//! A call answers [`Failed`] only where that count rose in it. What a shelf or a sink knows of its bytes it tells to
+//! contracts by ghost members: [`MemoryShelf`] and [`MemorySink`] tell all, [`FileShelf`] and [`StreamSink`] only
+//! counts.
+#![tactic(auto)]
+
+mod failed;
+mod files;
+mod memory_shelf;
+mod memory_sink;
+mod reading;
+mod shelf;
+mod sink;
+mod streams;
+#[cfg(test)]
+mod tests;
+mod writing;
+
+pub use failed::Failed;
+pub use files::FileShelf;
+pub use memory_shelf::MemoryShelf;
+pub use memory_sink::MemorySink;
+pub use reading::{ReadAll, read_all};
+pub use shelf::Shelf;
+pub use sink::Sink;
+pub use streams::StreamSink;
+pub use writing::write_all;

@@ -1,0 +1,260 @@
+//! A shelf in memory.
+ghost use Rattle.std.specs.Prelude.{◌≡◌, ◌+◌, ◌^◌, ◌<◌, ◌≤◌, ◌↔◌, ◌⊎◌, [], ◌∷◌, ◌++◌, Some, None, ⊤, Contains, IsTrue, IsErr, MatchBool, IfOk, OnOk, OnErr, MatchResult, drop, take, length, min, position};
+ghost use Rattle.std.specs.Bool.{OnFalse};
+ghost use Rattle.std.specs.Io.{ReadsAtMost};
+ghost use Rattle.std.specs.Io.KnownBytes.{IsAtEnd, ReadConsumes};
+ghost use Rattle.cpg_io.specs.Causes.{HasCause, counted};
+ghost use Rattle.cpg_io.specs.Shelf.{StartsAt, SameNames, SameLeave};
+ghost use Rattle.cpg_io.specs.MemoryShelf.{PutsUnder, stands_in, is_named};
+
+use crate::{Failed, Shelf};
+use cpg_base::OutOfMemory;
+use std::alloc::Global;
+use std::marker::Model;
+
+/// Bytes and the name that they stand under.
+#[derive(Drop)]
+struct MemoryFile {
+    name: String,
+    bytes: Vec<u8>,
+}
+
+impl Model for MemoryFile {
+    ghost use Rattle.std.specs.Prelude.{string_bytes};
+    ghost use Rattle.cpg_io.specs.MemoryShelf.{File};
+
+    ghost Value = { File };
+
+    ghost view = { λ f. record { name = string_bytes f.name; bytes = f.bytes.items } };
+}
+
+impl MemoryFile {
+    fn is_named(&self, name: &str) -> bool
+        ensures { result ≡ is_named name.now self.now }
+    {
+        self.name.as_str() == name
+    }
+
+    fn bytes(&self) -> &[u8]
+        ensures { result.now ≡ self.now.bytes }
+    {
+        self.bytes.as_slice()
+    }
+
+    fn set_bytes(&mut self, bytes: Vec<u8>)
+        ensures { self.new ≡ record { name = self.old.name; bytes = bytes.items } }
+    {
+        self.bytes = bytes;
+    }
+}
+
+/// The place of the first file with the name.
+fn place_of(files: &[MemoryFile], name: &str) -> Option<usize>
+    ensures { result ≡ position (is_named name.now) files.now }
+{
+    files.iter().position(|file| file.is_named(name))
+}
+
+/// Replaces the bytes of the file with the name, or adds such a file.
+fn store(files: &mut Vec<MemoryFile>, name: &str, bytes: &[u8]) -> Result<(), OutOfMemory>
+    ensures put { OnOk result (PutsUnder files.old.items files.new.items name.now bytes.now) }
+    ensures err { OnErr result (files.new.items ≡ files.old.items) }
+{
+    let alloc = *files.allocator();
+    let bytes = Vec::from_slice(alloc, bytes)?;
+    match place_of(files.as_slice(), name) {
+        Some(place) => files[place].set_bytes(bytes),
+        None => {
+            let name = String::from_str(alloc, name)?;
+            files.push(MemoryFile { name, bytes })?;
+        }
+    }
+    Ok(())
+}
+
+/// A shelf over bytes in memory, whose calls can be made to fail.
+///
+/// It counts its calls of `fetch` and `read` together from 0 up to 2^64 - 1, where the number stays. A call fails
+/// exactly where its number is listed by `fail_call`, or where it fetches a name that isn't there. Every name may be
+/// fetched.
+#[derive(Drop)]
+pub struct MemoryShelf {
+    files: Vec<MemoryFile>,
+    fetched: Option<usize>,
+    given: usize,
+    faults: u64,
+    calls: u64,
+    failing: Vec<u64>,
+}
+
+impl Model for MemoryShelf {
+    ghost use Rattle.std.specs.Prelude.{drop};
+    ghost use Rattle.cpg_io.specs.MemoryShelf.{MemoryShelfState, bytes_at, GivesWithin};
+
+    ghost Value = { MemoryShelfState };
+
+    ghost view = { λ s. record {
+      files = s.files.items;
+      left = drop s.given (bytes_at s.files.items s.fetched);
+      given = s.given;
+      faults = s.faults;
+      calls = s.calls;
+      failing = s.failing.items;
+    } };
+
+    ghost invariant = { λ s. GivesWithin s.files.items s.fetched s.given };
+}
+
+impl MemoryShelf {
+    /// A shelf with no files, of which no call fails by its number.
+    pub fn new(alloc: Global) -> Result<MemoryShelf, OutOfMemory>
+        ensures { IfOk result (λ s. s ≡ record { files = []; left = []; given = 0; faults = 0; calls = 0; failing = [] }) }
+    {
+        Ok(MemoryShelf {
+            files: Vec::new(alloc),
+            fetched: None,
+            given: 0,
+            faults: 0,
+            calls: 0,
+            failing: Vec::new(alloc),
+        })
+    }
+
+    /// Makes the bytes stand under the name, in place of what stood there. Nothing is then left to read before the
+    /// next fetch. Out of memory changes nothing.
+    pub fn put(&mut self, name: &str, bytes: &[u8]) -> Result<(), OutOfMemory>
+        ensures put { OnOk result (PutsUnder self.old.files self.new.files name.now bytes.now) }
+        ensures same { OnOk result (self.new ≡ record self.old { files = self.new.files; left = [] }) }
+        ensures err { OnErr result (self.new ≡ self.old) }
+    {
+        store(&mut self.files, name, bytes)?;
+        self.fetched = None;
+        Ok(())
+    }
+
+    /// Lists a number, from 0, of a call that fails. Out of memory changes nothing.
+    pub fn fail_call(&mut self, call: u64) -> Result<(), OutOfMemory>
+        ensures listed { OnOk result (self.new ≡ record self.old { failing = self.old.failing ++ call ∷ [] }) }
+        ensures err { OnErr result (self.new ≡ self.old) }
+    {
+        self.failing.push(call)?;
+        Ok(())
+    }
+
+    /// Counts a call, and says whether it fails by its number.
+    fn count_call(&mut self) -> bool
+        ensures listed { IsTrue result ↔ Contains self.old.failing self.old.calls }
+        ensures same { self.new ≡ record self.old { calls = counted self.old.calls 1 } }
+    {
+        let is_listed = self.failing.contains(&self.calls);
+        self.calls = self.calls.saturating_add(1);
+        is_listed
+    }
+
+    /// Counts a fault.
+    fn count_fault(&mut self) -> Failed
+        ensures same { self.new ≡ record self.old { faults = counted self.old.faults 1 } }
+        ensures later { self.old.faults ≤ self.new.faults }
+    {
+        self.faults = self.faults.saturating_add(1);
+        Failed
+    }
+
+    /// Leaves nothing to read.
+    fn close(&mut self)
+        ensures { self.new ≡ record self.old { left = []; given = 0 } }
+    {
+        self.fetched = None;
+        self.given = 0;
+    }
+
+    /// Makes the file with the name the one that is read, from its start, and says whether there is one.
+    fn open(&mut self, name: &str) -> bool
+        ensures found { MatchBool result (stands_in self.old.files name.now ≡ Some self.new.left) (stands_in self.old.files name.now ≡ None) }
+        ensures none { OnFalse result (self.new.left ≡ []) }
+        ensures same { self.new ≡ record self.old { left = self.new.left; given = 0 } }
+    {
+        self.given = 0;
+        self.fetched = place_of(self.files.as_slice(), name);
+        self.fetched.is_some()
+    }
+
+    /// What is left of the fetched file.
+    fn left(&self) -> &[u8]
+        ensures left { result.now ≡ self.now.left }
+        ensures fits { self.now.given + length self.now.left < 2 ^ 64 }
+    {
+        let given = self.given;
+        match self.fetched {
+            Some(place) => &self.files[place].bytes()[given..],
+            None => &[],
+        }
+    }
+
+    /// Gives the next bytes, as many as there are and fit, and says how many.
+    fn give(&mut self, buf: &mut [u8]) -> usize
+        ensures fits { result ≡ min (length self.old.left) (length buf.old) }
+        ensures given { take result buf.new ≡ take result self.old.left }
+        ensures same { self.new ≡ record self.old { left = drop result self.old.left; given = counted self.old.given result } }
+    {
+        let left = self.left();
+        let count = left.len().min(buf.len());
+        buf[..count].copy_from_slice(&left[..count]);
+        self.given += count;
+        count
+    }
+}
+
+impl Shelf for MemoryShelf {
+    ghost stands = { λ s name. stands_in s.files name };
+
+    ghost left = { λ s. Some s.left };
+
+    ghost given = { λ s. s.given };
+
+    ghost faults = { λ s. s.faults };
+
+    ghost may_fetch = { λ _ _. ⊤ };
+
+    /// `Failed` exactly where the call's number is listed, or the name isn't there.
+    fn fetch(&mut self, name: &str) -> Result<(), Failed>
+        ensures names { SameNames (stands_in self.old.files) (stands_in self.new.files) }
+        ensures leave { SameLeave (λ _. ⊤) (λ _. ⊤) }
+        ensures started { OnOk result (StartsAt (stands_in self.old.files name.now) (Some self.new.left)) }
+        ensures spent { OnErr result (IsAtEnd (Some self.new.left)) }
+        ensures count { self.new.given ≡ 0 }
+        ensures cause { HasCause self.old.faults self.new.faults result }
+        ensures fails { IsErr result ↔ (Contains self.old.failing self.old.calls ⊎ stands_in self.old.files name.now ≡ None) }
+        ensures same { self.new ≡ record self.old { left = self.new.left; given = 0; faults = self.new.faults; calls = counted self.old.calls 1 } }
+        ensures faults { MatchResult result (λ _. self.new.faults ≡ self.old.faults) (λ _. self.new.faults ≡ counted self.old.faults 1) }
+    {
+        self.close();
+        if self.count_call() {
+            return Err(self.count_fault());
+        }
+        if !self.open(name) {
+            return Err(self.count_fault());
+        }
+        Ok(())
+    }
+
+    /// `Failed` exactly where the call's number is listed.
+    fn read(&mut self, buf: &mut [u8]) -> Result<usize, Failed>
+        requires { 0 < length buf.old }
+        ensures names { SameNames (stands_in self.old.files) (stands_in self.new.files) }
+        ensures leave { SameLeave (λ _. ⊤) (λ _. ⊤) }
+        ensures bound { ReadsAtMost result buf.new }
+        ensures bytes { ReadConsumes (Some self.old.left) (Some self.new.left) result buf.new }
+        ensures count { MatchResult result (λ n. self.new.given ≡ counted self.old.given n) (λ _. self.new.given ≡ self.old.given) }
+        ensures cause { HasCause self.old.faults self.new.faults result }
+        ensures fails { IsErr result ↔ Contains self.old.failing self.old.calls }
+        ensures fits { IfOk result (λ n. n ≡ min (length self.old.left) (length buf.old)) }
+        ensures same { self.new ≡ record self.old { left = self.new.left; given = self.new.given; faults = self.new.faults; calls = counted self.old.calls 1 } }
+        ensures faults { MatchResult result (λ _. self.new.faults ≡ self.old.faults) (λ _. self.new.faults ≡ counted self.old.faults 1) }
+    {
+        if self.count_call() {
+            return Err(self.count_fault());
+        }
+        Ok(self.give(buf))
+    }
+}

@@ -1,0 +1,110 @@
+//! Reading all of a name's bytes.
+ghost use Rattle.std.specs.Prelude.{◌≡◌, ◌+◌, ◌^◌, ◌<◌, ◌≤◌, ◌↔◌, Err, IfOk, IfSome, length, vec_len};
+ghost use Rattle.cpg_io.specs.Causes.{Rose};
+ghost use Rattle.cpg_io.specs.Shelf.{SameNames, SameLeave};
+ghost use Rattle.cpg_io.specs.Reading.{ReadsOn};
+
+use crate::{Failed, Shelf};
+use std::alloc::{AllocError, Global};
+use thiserror::Error;
+
+/// Why not all bytes were read.
+#[derive(Clone, Copy, Debug, PartialEq, Eq, Error)]
+pub enum ReadAll {
+    /// The shelf met a fault, and its count of faults rose.
+    #[error("the shelf met a fault")]
+    Failed,
+    /// There are more bytes than the limit.
+    #[error("there are more bytes than the limit")]
+    TooLong,
+    /// Want of memory.
+    #[error("out of memory")]
+    OutOfMemory,
+}
+
+impl From<Failed> for ReadAll {
+    ghost use Rattle.std.specs.Prelude.{◌≡◌};
+    ghost use Rattle.cpg_io.specs.declared.reading.ReadAll.{ReadAll};
+
+    ghost from_gives = { λ _ e. e ≡ ReadAll.Failed };
+
+    fn from(_: Failed) -> ReadAll {
+        ReadAll::Failed
+    }
+}
+
+impl From<AllocError> for ReadAll {
+    ghost use Rattle.std.specs.Prelude.{◌≡◌};
+    ghost use Rattle.cpg_io.specs.declared.reading.ReadAll.{ReadAll};
+
+    ghost from_gives = { λ _ e. e ≡ ReadAll.OutOfMemory };
+
+    fn from(_: AllocError) -> ReadAll {
+        ReadAll::OutOfMemory
+    }
+}
+
+/// How many bytes are asked of the shelf at once.
+const PIECE: usize = 65_536;
+
+/// Reads one piece to the end of `bytes`, into `buffer` first, and says how many bytes came; 0 means the end.
+fn read_piece<S: Shelf>(
+    shelf: &mut S,
+    buffer: &mut [u8],
+    bytes: &mut Vec<u8>,
+    limit: usize,
+) -> Result<usize, ReadAll>
+    requires buffer { 0 < length buffer.old }
+    requires room { vec_len bytes.old ≤ limit }
+    requires small { limit < 2 ^ 32 }
+    requires given { S.given shelf.old ≡ vec_len bytes.old }
+    ensures names { SameNames (S.stands shelf.old) (S.stands shelf.new) }
+    ensures leave { SameLeave (S.may_fetch shelf.old) (S.may_fetch shelf.new) }
+    ensures piece { IfOk result (λ n. ReadsOn (S.left shelf.old) (S.left shelf.new) bytes.old.items bytes.new.items n) }
+    ensures count { IfOk result (λ _. S.given shelf.new ≡ vec_len bytes.new) }
+    ensures within { IfOk result (λ _. vec_len bytes.new ≤ limit) }
+    ensures long { result ≡ Err ReadAll.TooLong ↔ limit < S.given shelf.new }
+    ensures told { result ≡ Err ReadAll.TooLong → IfSome (S.left shelf.old) (λ left. limit < vec_len bytes.old + length left) }
+    ensures most { S.given shelf.new ≤ limit + 1 }
+    ensures failed { result ≡ Err ReadAll.Failed → Rose (S.faults shelf.old) (S.faults shelf.new) }
+    ensures later { S.faults shelf.old ≤ S.faults shelf.new }
+{
+    let room = limit - bytes.len();
+    let most = buffer.len().min(room + 1);
+    let piece = &mut buffer[..most];
+    let count = shelf.read(piece)?;
+    if count > room {
+        return Err(ReadAll::TooLong);
+    }
+    bytes.extend_from_slice(&piece[..count])?;
+    Ok(count)
+}
+
+/// Reads all bytes that stand under a name, where there are at most `limit` of them, in large pieces.
+///
+/// `Failed` only where the shelf's count of faults rose. `TooLong` exactly where the shelf has then given more than
+/// `limit` bytes since the fetch; it is asked for no more than `limit` plus one. `limit` is below 2^32.
+pub fn read_all<S: Shelf>(
+    alloc: Global,
+    shelf: &mut S,
+    name: &str,
+    limit: usize,
+) -> Result<Vec<u8>, ReadAll>
+    requires may { S.may_fetch shelf.old name.now }
+    requires small { limit < 2 ^ 32 }
+    ensures names { SameNames (S.stands shelf.old) (S.stands shelf.new) }
+    ensures leave { SameLeave (S.may_fetch shelf.old) (S.may_fetch shelf.new) }
+    ensures whole { IfOk result (λ v. IfSome (S.stands shelf.old name.now) (λ bytes. v.items ≡ bytes)) }
+    ensures count { IfOk result (λ v. S.given shelf.new ≡ vec_len v) }
+    ensures long { result ≡ Err ReadAll.TooLong ↔ limit < S.given shelf.new }
+    ensures told { result ≡ Err ReadAll.TooLong → IfSome (S.stands shelf.old name.now) (λ bytes. limit < length bytes) }
+    ensures most { S.given shelf.new ≤ limit + 1 }
+    ensures failed { result ≡ Err ReadAll.Failed → Rose (S.faults shelf.old) (S.faults shelf.new) }
+    ensures later { S.faults shelf.old ≤ S.faults shelf.new }
+{
+    shelf.fetch(name)?;
+    let mut buffer = [0; PIECE];
+    let mut bytes = Vec::new(alloc);
+    while read_piece(shelf, &mut buffer, &mut bytes, limit)? > 0 {}
+    Ok(bytes)
+}

@@ -1,0 +1,46 @@
+//! A sink over a writer of std.
+ghost use Rattle.std.specs.Prelude.{◌≡◌, None};
+
+use crate::{Failed, Sink};
+use std::io::Write;
+use std::marker::Model;
+
+/// A sink over a writer of std, which it flushes after each write. It tells no bytes.
+#[derive(Drop)]
+pub struct StreamSink<W> {
+    writer: W,
+    faults: u64,
+}
+
+impl<W> Model for StreamSink<W> {
+    ghost use Rattle.cpg_io.specs.Adapters.{StreamSinkState};
+
+    ghost Value = { StreamSinkState };
+
+    ghost view = { λ s. record { faults = s.faults } };
+}
+
+impl<W> StreamSink<W> {
+    /// A sink over the writer, which met no fault so far.
+    pub fn new(writer: W) -> StreamSink<W>
+        ensures { result.faults ≡ 0 }
+    {
+        StreamSink { writer, faults: 0 }
+    }
+}
+
+impl<W: Write> Sink for StreamSink<W> {
+    ghost taken = { λ _. None };
+
+    ghost faults = { λ s. s.faults };
+
+    /// Writes and flushes once. An error of either, or a write of nothing, is a fault.
+    fn write(&mut self, piece: &[u8]) -> Result<usize, Failed> {
+        let count = self.writer.write(piece).unwrap_or(0);
+        if count == 0 || self.writer.flush().is_err() {
+            self.faults = self.faults.saturating_add(1);
+            return Err(Failed);
+        }
+        Ok(count)
+    }
+}

@@ -1,0 +1,22 @@
+//! Writing a whole piece.
+ghost use Rattle.std.specs.Prelude.{OnOk, OnErr};
+ghost use Rattle.std.specs.Io.KnownBytes.{Appends};
+ghost use Rattle.cpg_io.specs.Causes.{HasCause};
+ghost use Rattle.cpg_io.specs.Sink.{TookPrefix};
+
+use crate::{Failed, Sink};
+
+/// Writes all of the bytes, in as many pieces as the sink takes them in.
+///
+/// `Failed` only where the sink's count of faults rose. The sink has taken a proper prefix of the bytes then.
+pub fn write_all<O: Sink>(sink: &mut O, bytes: &[u8]) -> Result<(), Failed>
+    ensures whole { OnOk result (Appends (O.taken sink.old) (O.taken sink.new) bytes.now) }
+    ensures part { OnErr result (TookPrefix (O.taken sink.old) (O.taken sink.new) bytes.now) }
+    ensures cause { HasCause (O.faults sink.old) (O.faults sink.new) result }
+{
+    let mut at = 0;
+    while at < bytes.len() {
+        at += sink.write(&bytes[at..])?;
+    }
+    Ok(())
+}
