@@ -1,0 +1,9 @@
+pub mod Asks
+pub mod FileWords
+pub mod Looks
+pub mod Numbers
+pub mod Pairing
+pub mod Rows
+pub mod Splitting
+pub mod Walking
+pub mod WholeLine

@@ -1,0 +1,214 @@
+-- How `clap`'s walk goes over the words of a command.
+use Rattle.std.proofs.Common.{◌≡◌, ℕ, Bool, true, false, List, [], ◌∷◌, Option, Some, None, codes, refl, ap, ap₂, fold}
+use Rattle.std.specs.Prelude.{slice_get}
+use Rattle.std.specs.Str.{bytes_eq, chars}
+use Rattle.clap.specs.Lexer.{long_of, short_of}
+use Rattle.clap.specs.Kinds.{Kinds, or_else}
+use Rattle.clap.specs.Simple.{Shape}
+use Rattle.clap.specs.Walk.{Held, Row, Rule, Waiting, Walk, walked, settled, with_values, idle, option, positional}
+use Rattle.clap.specs.Faults.{walk_fault, turn_fault, settle_fault, flags_fault}
+use Rattle.clap.specs.declared.parser.matches.ValueSource.TheVariants.{CommandLine}
+use Rattle.clap.specs.Values.{reading_of}
+use Rattle.clap.specs.Simple.{built_leaf, inherited, with_leaf_noted, marked_built}
+use Rattle.clap.specs.declared.builder.value_parser.ValueParser.TheVariants as vp
+use Rattle.cpg_words.specs.Parts.{Text}
+use Rattle.cpg_words.specs.Line.{sub_app, top_app}
+
+-- a command's own level, as built
+abbrev pub level : Text → Shape
+level name = built_leaf (inherited (with_leaf_noted (marked_built top_app.top)) (sub_app name).top)
+
+abbrev pub level_rules : List Rule
+level_rules = (level []).rules
+
+-- what was read last, and is not yet among the rows
+pub data Last : Type 0 where
+  clear : Last
+  after_word : Text → Last
+  after_turn : Text → Last
+
+abbrev pub add : Text → Text → List Row → List Row
+add id v = with_values id (reading_of vp.String) CommandLine (v ∷ [])
+
+abbrev pub rows_with : Last → List Row → List Row
+rows_with clear rows = rows
+rows_with (after_word w) rows = add (codes "words") w rows
+rows_with (after_turn v) rows = add (codes "turns") v rows
+
+abbrev pub pending_of : Last → Option (Text × List Text)
+pending_of clear = None
+pending_of (after_word w) = Some (codes "words", w ∷ [])
+pending_of (after_turn v) = Some (codes "turns", v ∷ [])
+
+abbrev pub waiting_of : Last → Waiting
+waiting_of clear = idle
+waiting_of (after_word w) = positional
+waiting_of (after_turn v) = idle
+
+abbrev pub held_of : Last → List Row → Held
+held_of last rows = record { rows = rows; pending = pending_of last; skip = 0 }
+
+-- between two words, before `--` or after it
+abbrev pub at : Bool → Last → List Row → Walk
+at trailing last rows = record { held = held_of last rows; waiting = waiting_of last; position = 1; is_trailing = trailing; stopped = None }
+
+-- after `--turns`
+abbrev pub awaiting : List Row → Walk
+awaiting rows = record { held = record { rows = rows; pending = Some (codes "turns", []); skip = 0 }; waiting = option (codes "turns"); position = 1; is_trailing = false; stopped = None }
+
+abbrev pub step_of : Walk → Text → Walk
+step_of w word = walked level_rules [] w word
+
+abbrev pub fault_at : Walk → Text → Kinds
+fault_at w word = turn_fault (level []) [] w word
+
+-- the kinds of a failed parse
+abbrev pub Fails : Kinds → Type 0
+Fails [] = ⊥
+Fails (k ∷ ks) = Unit {0}
+
+pub settles : (last : Last) (rows : List Row) → settle_fault level_rules false (held_of last rows) ≡ []
+settles clear rows = refl
+settles (after_word w) rows = refl
+settles (after_turn v) rows = refl
+
+pub settled_is : (last : Last) (rows : List Row) → (settled level_rules (held_of last rows)).rows ≡ rows_with last rows
+settled_is clear rows = refl
+settled_is (after_word w) rows = refl
+settled_is (after_turn v) rows = refl
+
+-- after `--`
+pub trailing_passes : (last : Last) (rows : List Row) (w : Text) → fault_at (at true last rows) w ≡ []
+trailing_passes clear rows w = refl
+trailing_passes (after_word v) rows w = refl
+trailing_passes (after_turn v) rows w = refl
+
+pub trailing_step : (last : Last) (rows : List Row) (w : Text) → step_of (at true last rows) w ≡ at true (after_word w) (rows_with last rows)
+unfolding walked
+trailing_step clear rows w = refl
+trailing_step (after_word v) rows w = refl
+trailing_step (after_turn v) rows w = refl
+
+-- a word that is no option
+pub plain_passes : (last : Last) (rows : List Row) (w : Text) → bytes_eq w (codes "--") ≡ false → long_of w ≡ None → short_of w ≡ None
+    → fault_at (at false last rows) w ≡ []
+plain_passes clear rows w d l s = rw (d, l, s) refl
+plain_passes (after_word v) rows w d l s = rw (d, l, s) refl
+plain_passes (after_turn v) rows w d l s = rw (d, l, s) refl
+
+pub plain_step : (last : Last) (rows : List Row) (w : Text) → bytes_eq w (codes "--") ≡ false → long_of w ≡ None → short_of w ≡ None
+    → step_of (at false last rows) w ≡ at false (after_word w) (rows_with last rows)
+unfolding walked
+plain_step clear rows w d l s = rw (d, l, s) refl
+plain_step (after_word v) rows w d l s = rw (d, l, s) refl
+plain_step (after_turn v) rows w d l s = rw (d, l, s) refl
+
+-- `--`
+pub dashes_passes : (last : Last) (rows : List Row) (w : Text) → bytes_eq w (codes "--") ≡ true → fault_at (at false last rows) w ≡ []
+dashes_passes clear rows w d = rw d refl
+dashes_passes (after_word v) rows w d = rw d refl
+dashes_passes (after_turn v) rows w d = rw d refl
+
+pub dashes_step : (last : Last) (rows : List Row) (w : Text) → bytes_eq w (codes "--") ≡ true → step_of (at false last rows) w ≡ at true last rows
+unfolding walked
+dashes_step clear rows w d = rw d refl
+dashes_step (after_word v) rows w d = rw d refl
+dashes_step (after_turn v) rows w d = rw d refl
+
+-- `--turns=VALUE`
+pub value_passes : (last : Last) (rows : List Row) (w name v : Text) → bytes_eq w (codes "--") ≡ false → long_of w ≡ Some (name, Some v)
+    → bytes_eq (codes "turns") name ≡ true → fault_at (at false last rows) w ≡ []
+value_passes clear rows w name v d l n = rw (d, l, n) refl
+value_passes (after_word x) rows w name v d l n = rw (d, l, n) refl
+value_passes (after_turn x) rows w name v d l n = rw (d, l, n) refl
+
+pub value_step : (last : Last) (rows : List Row) (w name v : Text) → bytes_eq w (codes "--") ≡ false → long_of w ≡ Some (name, Some v)
+    → bytes_eq (codes "turns") name ≡ true → step_of (at false last rows) w ≡ at false clear (add (codes "turns") v (rows_with last rows))
+unfolding walked
+value_step clear rows w name v d l n = rw (d, l, n) refl
+value_step (after_word x) rows w name v d l n = rw (d, l, n) refl
+value_step (after_turn x) rows w name v d l n = rw (d, l, n) refl
+
+-- `--turns`
+pub turns_passes : (last : Last) (rows : List Row) (w name : Text) → bytes_eq w (codes "--") ≡ false → long_of w ≡ Some (name, None)
+    → bytes_eq (codes "turns") name ≡ true → fault_at (at false last rows) w ≡ []
+turns_passes clear rows w name d l n = rw (d, l, n) refl
+turns_passes (after_word x) rows w name d l n = rw (d, l, n) refl
+turns_passes (after_turn x) rows w name d l n = rw (d, l, n) refl
+
+pub turns_step : (last : Last) (rows : List Row) (w name : Text) → bytes_eq w (codes "--") ≡ false → long_of w ≡ Some (name, None)
+    → bytes_eq (codes "turns") name ≡ true → step_of (at false last rows) w ≡ awaiting (rows_with last rows)
+unfolding walked
+turns_step clear rows w name d l n = rw (d, l, n) refl
+turns_step (after_word x) rows w name d l n = rw (d, l, n) refl
+turns_step (after_turn x) rows w name d l n = rw (d, l, n) refl
+
+-- another option
+pub strange_fails : (last : Last) (rows : List Row) (w name : Text) (v : Option Text) → bytes_eq w (codes "--") ≡ false
+    → long_of w ≡ Some (name, v) → bytes_eq (codes "turns") name ≡ false → Fails (fault_at (at false last rows) w)
+strange_fails clear rows w name v d l n = rw (d, l, n) tt
+strange_fails (after_word x) rows w name v d l n = rw (d, l, n) tt
+strange_fails (after_turn x) rows w name v d l n = rw (d, l, n) tt
+
+pub short_fails : (last : Last) (rows : List Row) (w flags : Text) (c : ℕ) → bytes_eq w (codes "--") ≡ false → long_of w ≡ None
+    → short_of w ≡ Some flags → slice_get (chars flags) 0 ≡ Some c → Fails (fault_at (at false last rows) w)
+unfolding flags_fault chars
+short_fails last rows w [] c d l s f = cc
+short_fails clear rows w (y ∷ ys) c d l s f = rw (d, l, s, f) tt
+short_fails (after_word x) rows w (y ∷ ys) c d l s f = rw (d, l, s, f) tt
+short_fails (after_turn x) rows w (y ∷ ys) c d l s f = rw (d, l, s, f) tt
+
+-- the value of `--turns`
+pub turn_passes : (rows : List Row) (w : Text) → bytes_eq w (codes "--") ≡ false → long_of w ≡ None → short_of w ≡ None → fault_at (awaiting rows) w ≡ []
+turn_passes rows w d l s = rw (d, l, s) refl
+
+pub turn_step : (rows : List Row) (w : Text) → bytes_eq w (codes "--") ≡ false → long_of w ≡ None → short_of w ≡ None
+    → step_of (awaiting rows) w ≡ at false (after_turn w) rows
+unfolding walked
+turn_step rows w d l s = rw (d, l, s) refl
+
+pub awaiting_turns : (rows : List Row) (w name : Text) (v : Option Text) → bytes_eq w (codes "--") ≡ false → long_of w ≡ Some (name, v)
+    → bytes_eq (codes "turns") name ≡ true → Fails (fault_at (awaiting rows) w)
+awaiting_turns rows w name (Some v) d l n = rw (d, l, n) tt
+awaiting_turns rows w name None d l n = rw (d, l, n) tt
+
+pub awaiting_strange : (rows : List Row) (w name : Text) (v : Option Text) → bytes_eq w (codes "--") ≡ false → long_of w ≡ Some (name, v)
+    → bytes_eq (codes "turns") name ≡ false → Fails (fault_at (awaiting rows) w)
+awaiting_strange rows w name v d l n = rw (d, l, n) tt
+
+pub awaiting_short : (rows : List Row) (w flags : Text) (c : ℕ) → bytes_eq w (codes "--") ≡ false → long_of w ≡ None
+    → short_of w ≡ Some flags → slice_get (chars flags) 0 ≡ Some c → Fails (fault_at (awaiting rows) w)
+unfolding flags_fault chars
+awaiting_short rows w [] c d l s f = cc
+awaiting_short rows w (y ∷ ys) c d l s f = rw (d, l, s, f) tt
+
+-- ---- the walk over all words
+
+-- the fault of the walk and of what is pending at its end
+abbrev pub fault_from : Walk → List Text → Kinds
+fault_from w ws = or_else (walk_fault (level []) [] w ws) (settle_fault level_rules false (fold step_of w ws).held)
+
+-- the rows at its end
+abbrev pub rows_from : Walk → List Text → List Row
+rows_from w ws = (settled level_rules (fold step_of w ws).held).rows
+
+pub fault_steps : (w after : Walk) (x : Text) (xs : List Text) → fault_at w x ≡ [] → step_of w x ≡ after → fault_from w (x ∷ xs) ≡ fault_from after xs
+unfolding walk_fault
+fault_steps w after x xs f s = ap₂ (λ (k : Kinds) (v : Walk). or_else (or_else k (walk_fault (level []) [] v xs)) (settle_fault level_rules false (fold step_of v xs).held)) f s
+
+pub rows_step : (w after : Walk) (x : Text) (xs : List Text) → step_of w x ≡ after → rows_from w (x ∷ xs) ≡ rows_from after xs
+rows_step w after x xs s = ap (λ (v : Walk). rows_from v xs) s
+
+pub or_else_fails : (a b : Kinds) → Fails a → Fails (or_else a b)
+or_else_fails [] b f = absurd f
+or_else_fails (k ∷ ks) b f = tt
+
+pub fault_stops : (w : Walk) (x : Text) (xs : List Text) → Fails (fault_at w x) → Fails (fault_from w (x ∷ xs))
+unfolding walk_fault
+fault_stops w x xs f = or_else_fails _ _ (or_else_fails _ (walk_fault (level []) [] (step_of w x) xs) f)
+
+-- `--` in place of the value of `--turns`
+pub awaiting_dashes : (rows : List Row) (w : Text) (xs : List Text) → bytes_eq w (codes "--") ≡ true → Fails (fault_from (awaiting rows) (w ∷ xs))
+unfolding walk_fault walked
+awaiting_dashes rows w [] d = rw d tt
+awaiting_dashes rows w (x ∷ xs) d = rw d tt

@@ -1,0 +1,11 @@
+use Rattle.std.proofs.Common.{◌∙◌, sym, ℕ, Ok, Err}
+use Rattle.cpg_words.proofs.Numbers.{digits_all, number_parsed}
+use Rattle.cpg_words.proofs.number.number.Goals as goal
+
+pub returns-in-Ok : goal.returns-in-Ok
+returns-in-Ok c = number_parsed {E = ℕ} c.args.text.now (Ok c.in-Ok.number) c.in-Ok.ensures.value.0
+    (sym (digits_all c.args.text.now) ∙ sym c.is_digits.ensures ∙ c.if-not-is_digits.false) c.if-text-gt-LONGEST.false
+
+pub returns-in-Err : goal.returns-in-Err
+returns-in-Err c = number_parsed {E = ℕ} c.args.text.now (Err 0) c.in-Err.ensures.value.0
+    (sym (digits_all c.args.text.now) ∙ sym c.is_digits.ensures ∙ c.if-not-is_digits.false) c.if-text-gt-LONGEST.false

@@ -1,0 +1,7 @@
+pub mod Answers
+pub mod FileWords
+pub mod Forms
+pub mod Line
+pub mod Matches
+pub mod Number
+pub mod Parts

@@ -1,0 +1,12 @@
+-- A number as a word writes it.
+use Rattle.std.specs.Prelude.{ℕ, ◌&&◌, ◌^◌, Bool, List, length, Option, Some, None, if◌then◌else◌, nat_le, nat_lt}
+use Rattle.std.specs.Str.{all_ascii_digits}
+use Rattle.std.specs.Str.Parse.{digits_value}
+
+-- 1 to 20 decimal digits, and nothing else.
+abbrev pub is_numeral : List ℕ → Bool
+is_numeral w = all_ascii_digits w && (nat_lt 0 (length w) && nat_le (length w) 20)
+
+-- The number that a numeral writes in base ten, where it is below 2^64.
+abbrev pub number : List ℕ → Option ℕ
+number w = if is_numeral w && nat_lt (digits_value 10 w) (2 ^ 64) then Some (digits_value 10 w) else None

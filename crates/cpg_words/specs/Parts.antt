@@ -1,0 +1,64 @@
+-- The words after a command's name, split into positionals and values of `--turns`.
+use Rattle.std.specs.Prelude.{ℕ, ◌==◌, Bool, true, false, List, [], ◌∷◌, codes, map, Option, Some, None, option_map, if◌then◌else◌}
+use Rattle.std.specs.List.{list_any, before_first, after_first}
+use Rattle.std.specs.Borrow.{Bor}
+use Rattle.std.specs.Str.{bytes_eq}
+
+-- The bytes of one word.
+abbrev pub Text : Type 0
+Text = List ℕ
+
+-- Borrowed words as texts.
+abbrev pub texts : List (Bor Text) → List Text
+texts = map (λ w. w.now)
+
+-- The positionals, and the values of `--turns`, in the order in which they stand.
+pub record Parts : Type 0 where
+  pub positionals : List Text
+  pub turns : List Text
+
+abbrev pub with_positional : Text → Option Parts → Option Parts
+with_positional w = option_map (λ p. record { positionals = w ∷ p.positionals; turns = p.turns })
+
+abbrev pub with_turns : Text → Option Parts → Option Parts
+with_turns v = option_map (λ p. record { positionals = p.positionals; turns = v ∷ p.turns })
+
+-- The byte `=`.
+abbrev pub is_equals : ℕ → Bool
+is_equals b = b == 61
+
+-- A word longer than one byte that begins with `-`.
+abbrev pub is_option : Text → Bool
+is_option [] = false
+is_option (b ∷ []) = false
+is_option (b ∷ c ∷ rest) = b == 45
+
+-- The word `--turns`, or one that begins with `--turns=`.
+abbrev pub is_turns : Text → Bool
+is_turns w = bytes_eq (codes "--turns") (before_first is_equals w)
+
+-- What follows the first `=` of a word.
+abbrev pub value_in : Text → Option Text
+value_in w = if list_any is_equals w then Some (after_first is_equals w) else None
+
+-- An option and the words after it. `--turns` is the only option. Its value follows `=`, and the words after it are
+-- then read by themselves (`others`); without a `=` its value is the next word (`value_first`).
+abbrev pub with_option : Text → Option Parts → Option Parts → Option Parts
+with_option w others value_first =
+    if is_turns w then (elim (value_in w) [ Some v ↦ with_turns v others | None ↦ value_first ]) else None
+
+-- The parts of a list of words; None where an option is not `--turns`, or `--turns` lacks its value. The flag is true
+-- where `--turns` stands right before the list, so that the first word is its value, whatever it is. The first `--`
+-- that is no value ends the options: each word after it is a positional.
+abbrev pub parts_from : Bool → List Text → Option Parts
+parts_from true [] = None
+parts_from false [] = Some (record { positionals = []; turns = [] })
+parts_from true (v ∷ rest) = with_turns v (parts_from false rest)
+parts_from false (w ∷ rest) =
+    if bytes_eq w (codes "--") then Some (record { positionals = rest; turns = [] })
+    else (if is_option w then with_option w (parts_from false rest) (parts_from true rest)
+    else with_positional w (parts_from false rest))
+
+-- The parts of the words after a command's name.
+abbrev pub parts_of : List Text → Option Parts
+parts_of words = parts_from false words
