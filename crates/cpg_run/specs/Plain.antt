@@ -1,10 +1,11 @@
 -- Plain graphs: at most one node, nothing sent, no frozen process, and every process may run at any time.
-use Rattle.std.specs.Prelude.{ℕ, ◌+◌, ◌≡◌, ◌≤◌, false, List, [], Option, Some, None, length, map, sum_by, replicate, All}
+use Rattle.std.specs.Prelude.{ℕ, ◌+◌, ◌-◌, ◌≡◌, ◌≤◌, ◌<◌, ◌++◌, ◌∷◌, false, List, [], Option, Some, None, length, map, sum_by, replicate, slice_set, All, Contains}
 use Rattle.cpg_base.specs.Numbers.{numbers_below}
 use Rattle.cpg_base.specs.Graph.{Graph, process_count, item_count}
 use Rattle.cpg_base.specs.declared.process.Process.{Process}
 use Rattle.cpg_base.specs.Duration.{duration}
-use Rattle.cpg_order.specs.Urgency.{before}
+use Rattle.cpg_base.specs.Scenario.{zero_scenario}
+use Rattle.cpg_order.specs.Urgency.{place, before}
 use Rattle.cpg_order.specs.Scenario.{Scenario, fault_of, scenarios}
 use Rattle.cpg_run.specs.Run.{Times}
 
@@ -41,3 +42,21 @@ times_in_turn g order s = record {
 -- no time for any item
 abbrev pub nothing_frozen : Graph → List (Option ℕ)
 nothing_frozen g = replicate (item_count g) None
+
+-- what one fault adds to an execution
+abbrev pub cost_of_fault : Graph → ℕ → ℕ
+cost_of_fault g p = duration g p 1 - duration g p 0
+
+-- the last process of the order of those to which a fault costs most
+pub record IsCostliest (g : Graph) (order : List ℕ) (p : ℕ) : Type 0 where
+  pub stands : Contains order p
+  pub most : (q : ℕ) → Contains order q → cost_of_fault g q ≤ cost_of_fault g p
+  pub last : (q : ℕ) → Contains order q → place order p < place order q → cost_of_fault g q < cost_of_fault g p
+
+-- all faults at one process
+abbrev pub all_faults_at : Graph → ℕ → Scenario
+all_faults_at g p = record (zero_scenario g) { faults = slice_set (zero_scenario g).faults p g.faults }
+
+-- the last process of an order
+abbrev pub IsLastOf : List ℕ → ℕ → Type 0
+IsLastOf order p = (rest : List ℕ) × (order ≡ rest ++ p ∷ [])
