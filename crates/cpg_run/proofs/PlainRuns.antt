@@ -119,7 +119,7 @@ module _ (g : Graph) (plain : IsPlain g) where
             let here : end_in_turn g order s (get_or order i 0) ≡ sum_by work (take i order) + work (get_or order i 0) = ap (λ ps. sum_by work ps + work (get_or order i 0)) (before_at i h) in
             let so_far = ends_so_far i (omega arith) in
             let first : greatest (map (end_in_turn g order s) (take (suc i) order)) ≡ max (greatest (map (end_in_turn g order s) (take i order))) (end_in_turn g order s (get_or order i 0)) =
-                ap (λ ps. greatest (map (end_in_turn g order s) ps)) (take-suc order i 0 h) ∙ ap greatest (map-append (end_in_turn g order s) (take i order) (get_or order i 0 ∷ [])) ∙ greatest_push (map (end_in_turn g order s) (take i order)) (end_in_turn g order s (get_or order i 0)) in
+            ap (λ ps. greatest (map (end_in_turn g order s) ps)) (take-suc order i 0 h) ∙ ap greatest (map-append (end_in_turn g order s) (take i order) (get_or order i 0 ∷ [])) ∙ greatest_push (map (end_in_turn g order s) (take i order)) (end_in_turn g order s (get_or order i 0)) in
             let second : sum_by work (take (suc i) order) ≡ sum_by work (take i order) + work (get_or order i 0) = ap (sum_by work) (take-suc order i 0 h) ∙ sum_push work (take i order) (get_or order i 0) in
             omega (arith, first, second, here, so_far)
 
@@ -144,7 +144,7 @@ module _ (g : Graph) (plain : IsPlain g) where
         bounds_are p l =
             let free : IsFree (process_at g p) = plain.free p _ l in
             let bounds : start_bounds g order s turns p ≡ 0 ∷ map (end_in_turn g order s) (before order p) = ap₂ (λ r rest. r ∷ rest) free.release
-                (ap₂ (λ a c. a ++ c) (ap₂ (λ a b. a ++ b) (no_inputs_wait p) (processor_waits p l)) (nothing_heard p) ∙ append-nil (map (end_in_turn g order s) (before order p))) in
+            (ap₂ (λ a c. a ++ c) (ap₂ (λ a b. a ++ b) (no_inputs_wait p) (processor_waits p l)) (nothing_heard p) ∙ append-nil (map (end_in_turn g order s) (before order p))) in
             let place_within : place order p < length order = place-lt order p (Contains-order (process_count g) order all p l) in
             let so_far : greatest (map (end_in_turn g order s) (before order p)) ≡ start_in_turn g order s p = ends_so_far (place order p) (omega arith) in
             ap greatest bounds ∙ greatest-cons 0 (map (end_in_turn g order s) (before order p)) ∙ omega arith
@@ -176,7 +176,7 @@ module _ (g : Graph) (plain : IsPlain g) where
             ends = same_map (λ p. Some (end_in_turn g order s p)) (end_by g s turns) (numbers_below (process_count g)) (λ p c. sym (end_is_end p (numbers-Contains (process_count g) p c)));
             finish = sym (ap greatest (somes (end_in_turn g order s) (numbers_below (process_count g))) ∙ greatest_along
                 ∙ ap (λ ps. greatest (map (end_in_turn g order s) ps)) (sym (take_all (length order) order (omega arith))) ∙ ends_so_far (length order) (omega arith)
-                ∙ ap (sum_by work) (take_all (length order) order (omega arith)))
+                ∙ ap (sum_by work) (take_all (length order) order (omega arith)));
           }
 
         -- and that is the run, whatever has no frozen time
@@ -200,5 +200,5 @@ module _ (g : Graph) (plain : IsPlain g) where
       frozen_times = record {
         count = length-replicate (item_count g) None;
         each = λ x l e. absurd (true≢false (sym e ∙ never_frozen x l));
-        others = λ x e. none_frozen x
+        others = λ x e. none_frozen x;
       }

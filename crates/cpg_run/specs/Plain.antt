@@ -36,7 +36,7 @@ abbrev pub times_in_turn : Graph → List ℕ → Scenario → Times
 times_in_turn g order s = record {
   times = map (λ p. Some (start_in_turn g order s p)) (numbers_below (process_count g));
   ends = map (λ p. Some (end_in_turn g order s p)) (numbers_below (process_count g));
-  finish = sum_by (λ q. duration g q (fault_of s q)) order
+  finish = sum_by (λ q. duration g q (fault_of s q)) order;
 }
 
 -- no time for any item
