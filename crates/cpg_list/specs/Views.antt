@@ -1,0 +1,35 @@
+-- The views of a process of a plain graph: the ways in which the processes before it may have failed.
+use Rattle.std.specs.Prelude.{ℕ, ◌+◌, ◌-◌, ◌==◌, if◌then◌else◌, List, [], ◌∷◌, map, fold}
+use Rattle.std.specs.List.{flat_map}
+use Rattle.cpg_base.specs.Numbers.{numbers_below}
+use Rattle.cpg_base.specs.Graph.{Graph}
+use Rattle.cpg_base.specs.Duration.{duration}
+use Rattle.cpg_base.specs.Scenario.{Scenario, fault_of}
+use Rattle.cpg_cube.specs.declared.literal.Literal.{Literal}
+use Rattle.cpg_cube.specs.Cover.{narrowed_by}
+use Rattle.cpg_table.specs.Heard.{exactly}
+use Rattle.cpg_list.specs.declared.view.View.{View}
+
+-- before the first process
+abbrev pub whole_view : Graph → View
+whole_view g = record { time = 0; spare = g.faults; cube = [] }
+
+-- a cube that tells how often one process more has failed; where there are no faults there is nothing to tell
+abbrev pub told : Graph → ℕ → ℕ → List Literal → List Literal
+told g p f cube = if g.faults == 0 then cube else narrowed_by (exactly p f) cube
+
+-- after one process more, with so many faults
+abbrev pub extended : Graph → ℕ → View → ℕ → View
+extended g p v f = record { time = v.time + duration g p f; spare = v.spare - f; cube = told g p f v.cube }
+
+-- with each number of faults that it may have
+abbrev pub extensions : Graph → ℕ → View → List View
+extensions g p v = map (extended g p v) (numbers_below (v.spare + 1))
+
+-- the views after some processes, one after another
+abbrev pub views_along : Graph → List ℕ → List View
+views_along g ps = fold (λ vs p. flat_map (extensions g p) vs) (whole_view g ∷ []) ps
+
+-- the view of a scenario
+abbrev pub view_of : Graph → List ℕ → Scenario → View
+view_of g ps s = fold (λ v p. extended g p v (fault_of s p)) (whole_view g) ps

@@ -1,0 +1,4 @@
+//! Tables of plain graphs, made view by view.
+#![tactic(auto)]
+
+mod view;
