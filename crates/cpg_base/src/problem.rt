@@ -235,7 +235,8 @@ impl Problem {
     pub fn duration(&self, process: u32, faults: u8) -> u64
         requires process { process < process_count self.now }
         requires faults { faults ≤ self.now.faults }
-        ensures { result ≡ duration self.now process faults }
+        ensures duration { result ≡ duration self.now process faults }
+        ensures short { result < 2 ^ 40 }
     {
         self.processes[process as usize].duration(faults)
     }

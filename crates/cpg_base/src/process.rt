@@ -1,6 +1,6 @@
 //! The parts of a graph: processes, edges and slots.
 
-ghost use Rattle.std.specs.Prelude.{◌≡◌, ◌≤◌, ℕ, IfOk};
+ghost use Rattle.std.specs.Prelude.{◌≡◌, ◌<◌, ◌≤◌, ◌^◌, ℕ, IfOk};
 ghost use Rattle.cpg_base.specs.Duration.{duration_of};
 ghost use Rattle.cpg_base.specs.Limits.{IsProcessWithin};
 
@@ -64,7 +64,8 @@ impl Process {
     pub fn duration(&self, faults: u8) -> u64
         requires within { (nodes : ℕ) × IsProcessWithin nodes self.now }
         requires faults { faults ≤ 8 }
-        ensures { result ≡ duration_of self.now faults }
+        ensures duration { result ≡ duration_of self.now faults }
+        ensures short { result < 2 ^ 40 }
     {
         let checked = u64::from(self.parts) * (self.alpha + self.chi);
         let again = self.mu + self.wcet.div_ceil(u64::from(self.parts)) + self.alpha;

@@ -1,5 +1,5 @@
 -- The views of a process of a plain graph: the ways in which the processes before it may have failed.
-use Rattle.std.specs.Prelude.{ℕ, ◌+◌, ◌-◌, ◌==◌, if◌then◌else◌, List, [], ◌∷◌, map, fold}
+use Rattle.std.specs.Prelude.{ℕ, ◌+◌, ◌-◌, ◌^◌, ◌≢◌, ◌≤◌, ◌<◌, ◌==◌, if◌then◌else◌, List, [], ◌∷◌, map, fold, All}
 use Rattle.std.specs.List.{flat_map}
 use Rattle.cpg_base.specs.Numbers.{numbers_below}
 use Rattle.cpg_base.specs.Graph.{Graph}
@@ -33,3 +33,10 @@ views_along g ps = fold (λ vs p. flat_map (extensions g p) vs) (whole_view g �
 -- the view of a scenario
 abbrev pub view_of : Graph → List ℕ → Scenario → View
 view_of g ps s = fold (λ v p. extended g p v (fault_of s p)) (whole_view g) ps
+
+-- a view of the processes before one: it has faults to spare within the budget, and tells nothing of that process
+pub record MayExtend (g : Graph) (p : ℕ) (v : View) : Type 0 where
+  pub spare : v.spare ≤ g.faults
+  pub few : v.spare ≤ 8
+  pub time : v.time < 2 ^ 60
+  pub fresh : All (λ l. l.variable ≢ p) v.cube
