@@ -1,15 +1,17 @@
 -- A plain graph finishes last where all faults strike the costliest process that stands last in the order.
-use Rattle.std.proofs.Common.{◌≡◌, ◌==◌, position, None, ℕ, zero, suc, ◌+◌, ◌-◌, ◌*◌, ◌<◌, ◌≤◌, ◌≢◌, Bool, true, false, List, [], ◌∷◌, ◌++◌, length, get_or, take, map, sum, sum_by, replicate, slice_set, Contains, IsPermutation, refl, sym, ap, ap₂, ◌∙◌, subst, arith, inl, inr, ⊎_elim, mul-le-mul_right, mul-le-mul_left, add-mul, ext_get_or}
+use Rattle.std.proofs.Common.{◌≡◌, ◌==◌, position, None, ℕ, zero, suc, ◌+◌, ◌-◌, ◌*◌, ◌<◌, ◌≤◌, ◌≢◌, Bool, true, false, List, [], ◌∷◌, ◌++◌, length, get_or, take, map, sum, sum_by, replicate, slice_set, Contains, IsPermutation, refl, sym, ap, ap₂, ◌∙◌, subst, arith, inl, inr, ⊎_elim, mul-le-mul_right, mul-le-mul_left, add-mul, ext_get_or, length-append, Some}
 use Rattle.std.specs.List.{AllPairs}
 use Rattle.std.specs.Int.{div_ceil}
 use Rattle.std.proofs.lemmas.Bool.{cases_lt, cases_eq}
 use Rattle.std.proofs.lemmas.Grind.{div_ceil_times}
-use Rattle.std.proofs.lemmas.List.{get_or-replicate, get_or_past, get_or-set_same, get_or-set_other, length-set, length-replicate}
+use Rattle.std.proofs.lemmas.List.{get_or-replicate, get_or_past, get_or-set_same, get_or-set_other, length-set, length-replicate, take-append-le, get_or_append_left}
+use Rattle.std.proofs.lemmas.Option.{same_Some}
+use Rattle.std.proofs.Math.Seq.{get_or-append_seam, take-append_seam}
 use Rattle.std.proofs.lemmas.List.Elements.{Contains-append_left, Contains-append_right, Contains-get_or}
 use Rattle.std.proofs.lemmas.List.Folds.{sum_by-replicate}
 use Rattle.std.proofs.lemmas.List.FromFn.{length-map-range_with_len}
 use Rattle.std.proofs.lemmas.List.Sorted.{sum_by-IsPermutation}
-use Rattle.std.proofs.lemmas.List.Sums.{sum_by-cons, sum_by-set, sum-map}
+use Rattle.std.proofs.lemmas.List.Sums.{sum_by-cons, sum_by-set, sum-map, sum_by_push, sum_by_more_le}
 use Rattle.cpg_base.specs.Numbers.{numbers_below, is_below}
 use Rattle.cpg_base.specs.declared.process.Process.{Process}
 use Rattle.cpg_base.specs.Graph.{Graph, process_count, process_at, condition_count, condition_of}
@@ -20,11 +22,13 @@ use Rattle.cpg_base.proofs.Lists.{Contains-first, Contains-rest, Contains-cases,
 use Rattle.cpg_base.proofs.Sums.{same_sum_by, sum_by-add, le-sum_by}
 use Rattle.cpg_base.proofs.Pairs.{AllPairs-rest, AllPairs-first, split_at, order_apart}
 use Rattle.cpg_base.proofs.Below.{not_below-cons, below-cons_less, below_one_way}
-use Rattle.cpg_order.specs.Urgency.{place}
-use Rattle.cpg_order.specs.Scenario.{Scenario, IsScenario, fault_of, key, value_in_key}
-use Rattle.cpg_order.proofs.Places.{places_rise, from_order}
-use Rattle.cpg_run.specs.Plain.{IsPlain, times_in_turn, cost_of_fault, all_faults_at, IsCostliest}
-use Rattle.cpg_run.proofs.PlainRuns.{no_conditions}
+use Rattle.cpg_order.specs.Urgency.{place, before}
+use Rattle.cpg_order.specs.Scenario.{Scenario, IsScenario, IsLeast, fault_of, key, value_in_key, is_before}
+use Rattle.cpg_order.proofs.Places.{places_rise, from_order, place-lt, get_or-place, same_place, Contains-order}
+use Rattle.cpg_run.specs.Run.{Times, IsRun}
+use Rattle.cpg_run.specs.Finish.{Finishes, IsLeastEnding, IsWorst}
+use Rattle.cpg_run.specs.Plain.{IsPlain, end_in_turn, times_in_turn, nothing_frozen, cost_of_fault, all_faults_at, IsCostliest, IsLastOf}
+use Rattle.cpg_run.proofs.PlainRuns.{no_conditions, place_is, runs_in_turn, the_run, none_frozen}
 
 -- ---- what faults cost, over plain lists
 
@@ -186,3 +190,161 @@ module _ (g : Graph) where
     where
       no_condition : (p : ℕ) → condition_of g p ≡ None
       no_condition p = ap (position (λ q. q == p)) (no_conditions g plain)
+
+-- ---- the greatest finish
+
+module _ (g : Graph) (plain : IsPlain g) (within : IsWithinLimits g) (order : List ℕ) (all : IsPermutation (numbers_below (process_count g)) order) where
+  abbrev turns : Scenario → Times
+  turns s = times_in_turn g order s
+
+  abbrev finish_of : Scenario → ℕ
+  finish_of s = (turns s).finish
+
+  abbrev base : ℕ
+  base = sum_by (λ q. duration g q 0) order
+
+  run_is : (s : Scenario) (t : Times) → IsRun g order (nothing_frozen g) s t → t ≡ turns s
+  run_is s t r = the_run g plain within order all s (nothing_frozen g) (none_frozen g plain within order all) t r
+
+  runs : (s : Scenario) → IsRun g order (nothing_frozen g) s (turns s)
+  runs s = runs_in_turn g plain within order all s (nothing_frozen g) (none_frozen g plain within order all)
+
+  finish_from : (s : Scenario) (n : ℕ) → Finishes g order (nothing_frozen g) n s → finish_of s ≡ n
+  finish_from s n f = sym (ap (λ u. u.finish) (run_is s f.0 f.1)) ∙ f.2
+
+  finish_is : (s : Scenario) → finish_of s ≡ base + total (cost_of_fault g) (fault_of s) order
+  finish_is s = same_sum_by (λ q. duration g q (fault_of s q)) (λ q. duration g q 0 + fault_of s q * cost_of_fault g q) order (λ q c. duration_is g q (fault_of s q))
+      ∙ sum_by-add (λ q. duration g q 0) (λ q. fault_of s q * cost_of_fault g q) order
+
+  few_faults : (s : Scenario) → IsScenario g s → sum_by (fault_of s) order ≤ g.faults
+  few_faults s i =
+      let by_number : sum_by (fault_of s) (numbers_below (process_count g)) ≡ sum s.faults = ap (λ n. sum_by (fault_of s) (numbers_below n)) (sym i.faults) ∙ sum_of_numbers s.faults in
+      omega (arith, sum_by-IsPermutation (fault_of s) (numbers_below (process_count g)) order all, by_number, i.budget)
+
+  -- ---- the ends
+
+  ends_are : (s : Scenario) (q : ℕ) → q < process_count g → get_or (turns s).ends q None ≡ Some (end_in_turn g order s q)
+  ends_are s q l = get_or-map-below (λ r. Some (end_in_turn g order s r)) (process_count g) q None l
+
+  end_within : (s : Scenario) (q : ℕ) → q < process_count g → end_in_turn g order s q ≤ finish_of s
+  end_within s q l =
+      let c = Contains-order (process_count g) order all q l in
+      omega (arith, sum_by_more_le (λ r. duration g r (fault_of s r)) order (place order q) 0 (place-lt order q c), ap (λ r. duration g r (fault_of s r)) (get_or-place order q 0 c))
+
+  module _ (last : ℕ) (stands : IsLastOf order last) where
+    last_stands : Contains order last
+    last_stands = subst (λ ps. Contains ps last) (sym stands.1) (Contains-append_right stands.0 (last ∷ []) last (Contains-first last []))
+
+    last_below : last < process_count g
+    last_below = from_order (process_count g) order all last last_stands
+
+    length_is : length order ≡ suc (length stands.0)
+    length_is = ap length stands.1 ∙ omega (arith, length-append stands.0 (last ∷ []))
+
+    last_place : place order last ≡ length stands.0
+    last_place =
+        let at : get_or order (length stands.0) 0 ≡ last = ap (λ ps. get_or ps (length stands.0) 0) stands.1 ∙ get_or-append_seam stands.0 last [] 0 in
+        sym (ap (place order) at) ∙ place_is g plain within order all (length stands.0) (omega (arith, length_is))
+
+    before_last : before order last ≡ stands.0
+    before_last = ap₂ (λ n ps. take n ps) last_place stands.1 ∙ take-append_seam stands.0 (last ∷ [])
+
+    -- the last process ends at the finish
+    end_of_last : (s : Scenario) → end_in_turn g order s last ≡ finish_of s
+    end_of_last s = ap (λ ps. sum_by (λ q. duration g q (fault_of s q)) ps + duration g last (fault_of s last)) before_last
+        ∙ sym (ap (sum_by (λ q. duration g q (fault_of s q))) stands.1 ∙ sum_by_push (λ q. duration g q (fault_of s q)) stands.0 last)
+
+    -- and each other one before it
+    end_before : (s : Scenario) (q : ℕ) → q < process_count g → q ≢ last → end_in_turn g order s q < finish_of s
+    end_before s q l ne =
+        let c = Contains-order (process_count g) order all q l in
+        let apart : place order q ≢ place order last = λ e. ne (same_place order q last c last_stands e) in
+        let early : place order q < length stands.0 = omega (arith, place-lt order q c, length_is, last_place, apart) in
+        let so_far : before order q ≡ take (place order q) stands.0 = ap (take (place order q)) stands.1 ∙ take-append-le (place order q) stands.0 (last ∷ []) (omega arith) in
+        let at : get_or stands.0 (place order q) 0 ≡ q = sym (ap (λ ps. get_or ps (place order q) 0) stands.1 ∙ get_or_append_left stands.0 (last ∷ []) 0 (place order q) early) ∙ get_or-place order q 0 c in
+        omega (
+          arith,
+          sum_by_more_le (λ r. duration g r (fault_of s r)) stands.0 (place order q) 0 early,
+          ap (λ r. duration g r (fault_of s r)) at,
+          ap (sum_by (λ r. duration g r (fault_of s r))) so_far,
+          end_of_last s,
+          ap (sum_by (λ r. duration g r (fault_of s r))) before_last,
+          lasts g within last (fault_of s last) last_below
+        )
+
+  -- ---- all faults at the costliest
+
+  module _ (p : ℕ) (costliest : IsCostliest g order p) where
+    abbrev worst : ℕ
+    worst = finish_of (all_faults_at g p)
+
+    costliest_below : p < process_count g
+    costliest_below = from_order (process_count g) order all p costliest.stands
+
+    finish_at_most : (s : Scenario) → IsScenario g s → finish_of s ≤ base + g.faults * cost_of_fault g p
+    finish_at_most s i = omega (
+      arith,
+      finish_is s,
+      total_le (cost_of_fault g) (fault_of s) (cost_of_fault g p) order costliest.most,
+      mul-le-mul_right (cost_of_fault g p) (few_faults s i)
+    )
+
+    worst_at_least : base + g.faults * cost_of_fault g p ≤ worst
+    worst_at_least = omega (
+      arith,
+      finish_is (all_faults_at g p),
+      le-sum_by (λ q. fault_of (all_faults_at g p) q * cost_of_fault g q) order p costliest.stands,
+      ap (λ n. n * cost_of_fault g p) (faults_at g p costliest_below)
+    )
+
+    pub none_later : (s : Scenario) → IsScenario g s → finish_of s ≤ worst
+    none_later s i = omega (arith, finish_at_most s i, worst_at_least)
+
+    -- no scenario that finishes then comes before it
+    none_before : (s : Scenario) → IsScenario g s → finish_of s ≡ worst → is_before g order s (all_faults_at g p) ≡ false
+    none_before s i e =
+        let r = split_at order p costliest.stands in
+        let apart : AllPairs (λ x y. x ≢ y) order = order_apart (process_count g) order all in
+        let split : AllPairs (λ x y. x ≢ y) (r.0 ++ p ∷ r.1) = subst (AllPairs (λ x y. x ≢ y)) r.2 apart in
+        let rises : AllPairs (λ x y. place order x < place order y) (r.0 ++ p ∷ r.1) = subst (AllPairs (λ x y. place order x < place order y)) r.2 (places_rise order apart) in
+        let less : (q : ℕ) → Contains r.1 q → cost_of_fault g q < cost_of_fault g p = λ q c. costliest.last q
+              (subst (λ ps. Contains ps q) (sym r.2) (Contains-append_right r.0 (p ∷ r.1) q (Contains-rest p r.1 q c)))
+              (AllPairs-first (λ x y. place order x < place order y) p r.1 (AllPairs-later (λ x y. place order x < place order y) r.0 (p ∷ r.1) rises) q c) in
+        let later : (q : ℕ) → Contains r.1 q → fault_of (all_faults_at g p) q ≡ 0 = λ q c. faults_elsewhere g p q
+              (λ same. AllPairs-first (λ x y. x ≢ y) p r.1 (AllPairs-later (λ x y. x ≢ y) r.0 (p ∷ r.1) split) q c (sym same)) in
+        let earlier : (q : ℕ) → Contains r.0 q → fault_of (all_faults_at g p) q ≡ 0 = λ q c. faults_elsewhere g p q
+              (AllPairs-across (λ x y. x ≢ y) r.0 (p ∷ r.1) split q p c (Contains-first p r.1)) in
+        let few : sum_by (fault_of s) order ≤ g.faults = few_faults s i in
+        let much : g.faults * cost_of_fault g p ≤ total (cost_of_fault g) (fault_of s) order = omega (arith, finish_is s, e, worst_at_least) in
+        let keys : is_below (map (fault_of s) (r.0 ++ p ∷ r.1)) (map (fault_of (all_faults_at g p)) (r.0 ++ p ∷ r.1)) ≡ false =
+            not_below_all (cost_of_fault g) (fault_of s) (fault_of (all_faults_at g p)) g.faults p r.1 (costs g within p costliest_below) less (faults_at g p costliest_below) later r.0 earlier
+            (subst (λ ps. sum_by (fault_of s) ps ≤ g.faults) r.2 few)
+            (subst (λ ps. g.faults * cost_of_fault g p ≤ total (cost_of_fault g) (fault_of s) ps) r.2 much) in
+        ap₂ is_below (key_is g plain order s) (key_is g plain order (all_faults_at g p))
+        ∙ subst (λ ps. is_below (map (fault_of s) ps) (map (fault_of (all_faults_at g p)) ps) ≡ false) (sym r.2) keys
+
+    worst_least : IsLeast g order (Finishes g order (nothing_frozen g) worst) (all_faults_at g p)
+    worst_least = record {
+      lawful = all_faults_lawful g p costliest_below;
+      holds = (turns (all_faults_at g p), runs (all_faults_at g p), refl);
+      least = λ s i f. none_before s i (finish_from s worst f)
+    }
+
+    module _ (last : ℕ) (stands : IsLastOf order last) where
+      -- the last process ends then
+      pub shown_end : get_or (turns (all_faults_at g p)).ends last None ≡ Some worst
+      shown_end = ends_are (all_faults_at g p) last (last_below last stands) ∙ ap Some (end_of_last last stands (all_faults_at g p))
+
+      -- and none before it does
+      others_end : (q : ℕ) → q < last → get_or (turns (all_faults_at g p)).ends q None ≢ Some worst
+      others_end q l e =
+          let below : q < process_count g = omega (arith, last_below last stands) in
+          let same : end_in_turn g order (all_faults_at g p) q ≡ worst = same_Some (end_in_turn g order (all_faults_at g p) q) worst (sym (ends_are (all_faults_at g p) q below) ∙ e) in
+          omega (arith, same, end_before last stands (all_faults_at g p) q below (λ is. omega arith))
+
+      pub worst_is : IsWorst g order order (nothing_frozen g) worst (all_faults_at g p) (Some last)
+      worst_is = record {
+        greatest = λ s t i r. subst (λ u. u.finish ≤ worst) (sym (run_is s t r)) (none_later s i);
+        least = worst_least;
+        by = λ t r. subst (λ u. IsLeastEnding g u worst (Some last)) (sym (run_is (all_faults_at g p) t r)) (shown_end, others_end)
+      }
