@@ -1,10 +1,10 @@
 -- A plain graph finishes last where all faults strike the costliest process that stands last in the order.
-use Rattle.std.proofs.Common.{◌≡◌, ◌==◌, position, None, ℕ, zero, suc, ◌+◌, ◌-◌, ◌*◌, ◌<◌, ◌≤◌, ◌≢◌, Bool, true, false, List, [], ◌∷◌, ◌++◌, length, get_or, take, map, sum, sum_by, replicate, slice_set, Contains, IsPermutation, refl, sym, ap, ap₂, ◌∙◌, subst, arith, inl, inr, ⊎_elim, mul-le-mul_right, mul-le-mul_left, add-mul, ext_get_or, length-append, Some}
+use Rattle.std.proofs.Common.{◌≡◌, ◌==◌, position, None, ℕ, zero, suc, ◌+◌, ◌-◌, ◌*◌, ◌<◌, ◌≤◌, ◌≢◌, Bool, true, false, List, [], ◌∷◌, ◌++◌, length, get_or, take, map, sum, sum_by, replicate, slice_set, Contains, IsPermutation, refl, sym, ap, ap₂, ◌∙◌, subst, arith, inl, inr, ⊎_elim, mul-le-mul_right, mul-le-mul_left, add-mul, ext_get_or, length-append, Some, unwrap_or}
 use Rattle.std.specs.List.{AllPairs}
 use Rattle.std.specs.Int.{div_ceil}
 use Rattle.std.proofs.lemmas.Bool.{cases_lt, cases_eq}
 use Rattle.std.proofs.lemmas.Grind.{div_ceil_times}
-use Rattle.std.proofs.lemmas.List.{get_or-replicate, get_or_past, get_or-set_same, get_or-set_other, length-set, length-replicate, take-append-le, get_or_append_left}
+use Rattle.std.proofs.lemmas.List.{get_or-replicate, get_or_past, get_or-set_same, get_or-set_other, length-set, length-replicate, take-append-le, get_or_append_left, nil_from_length}
 use Rattle.std.proofs.lemmas.Option.{same_Some}
 use Rattle.std.proofs.Math.Seq.{get_or-append_seam, take-append_seam}
 use Rattle.std.proofs.lemmas.List.Elements.{Contains-append_left, Contains-append_right, Contains-get_or}
@@ -15,19 +15,19 @@ use Rattle.std.proofs.lemmas.List.Sums.{sum_by-cons, sum_by-set, sum-map, sum_by
 use Rattle.cpg_base.specs.Numbers.{numbers_below, is_below}
 use Rattle.cpg_base.specs.declared.process.Process.{Process}
 use Rattle.cpg_base.specs.Graph.{Graph, process_count, process_at, condition_count, condition_of}
-use Rattle.cpg_base.specs.Duration.{duration, duration_of}
+use Rattle.cpg_base.specs.Duration.{duration, duration_of, lesser_due}
 use Rattle.cpg_base.specs.Limits.{IsWithinLimits, IsProcessWithin}
 use Rattle.cpg_base.specs.Scenario.{zero_scenario}
-use Rattle.cpg_base.proofs.Lists.{Contains-first, Contains-rest, Contains-cases, get_or-map-below}
+use Rattle.cpg_base.proofs.Lists.{Contains-first, Contains-rest, Contains-cases, Contains-map, Contains-map_parts, Contains-numbers, numbers-Contains, get_or-map-below, greatest_above, greatest-le}
 use Rattle.cpg_base.proofs.Sums.{same_sum_by, sum_by-add, le-sum_by}
 use Rattle.cpg_base.proofs.Pairs.{AllPairs-rest, AllPairs-first, split_at, order_apart}
 use Rattle.cpg_base.proofs.Below.{not_below-cons, below-cons_less, below_one_way}
 use Rattle.cpg_order.specs.Urgency.{place, before}
 use Rattle.cpg_order.specs.Scenario.{Scenario, IsScenario, IsLeast, fault_of, key, value_in_key, is_before}
-use Rattle.cpg_order.proofs.Places.{places_rise, from_order, place-lt, get_or-place, same_place, Contains-order}
+use Rattle.cpg_order.proofs.Places.{places_rise, from_order, place-lt, get_or-place, same_place, Contains-order, length_order}
 use Rattle.cpg_run.specs.Run.{Times, IsRun}
-use Rattle.cpg_run.specs.Finish.{Finishes, IsLeastEnding, IsWorst}
-use Rattle.cpg_run.specs.Plain.{IsPlain, end_in_turn, times_in_turn, nothing_frozen, cost_of_fault, all_faults_at, IsCostliest, IsLastOf}
+use Rattle.cpg_run.specs.Finish.{Finishes, IsLeastEnding, IsWorst, excess_of, excess_in_run, Exceeds, IsLeastExceeding, IsExcess}
+use Rattle.cpg_run.specs.Plain.{IsPlain, IsFree, end_in_turn, times_in_turn, nothing_frozen, cost_of_fault, all_faults_at, IsCostliest, IsLastOf}
 use Rattle.cpg_run.proofs.PlainRuns.{no_conditions, place_is, runs_in_turn, the_run, none_frozen}
 
 -- ---- what faults cost, over plain lists
@@ -117,6 +117,7 @@ zeros n i = elim (cases_lt i n) [
 
 sum_of_zeros : (n : ℕ) → sum (replicate n 0) ≡ 0
 sum_of_zeros n = sum_by-replicate (λ (x : ℕ). x) n 0 ∙ omega arith
+
 
 -- ---- what a fault costs
 
@@ -220,6 +221,11 @@ module _ (g : Graph) (plain : IsPlain g) (within : IsWithinLimits g) (order : Li
   few_faults s i =
       let by_number : sum_by (fault_of s) (numbers_below (process_count g)) ≡ sum s.faults = ap (λ n. sum_by (fault_of s) (numbers_below n)) (sym i.faults) ∙ sum_of_numbers s.faults in
       omega (arith, sum_by-IsPermutation (fault_of s) (numbers_below (process_count g)) order all, by_number, i.budget)
+
+  -- no scenario comes before the one without faults
+  zero_first : (s : Scenario) → is_before g order s (zero_scenario g) ≡ false
+  zero_first s = ap₂ is_below (key_is g plain order s) (key_is g plain order (zero_scenario g))
+      ∙ not_below_zeros (fault_of s) (fault_of (zero_scenario g)) order (λ q c. zeros (process_count g) q)
 
   -- ---- the ends
 
@@ -347,4 +353,89 @@ module _ (g : Graph) (plain : IsPlain g) (within : IsWithinLimits g) (order : Li
         greatest = λ s t i r. subst (λ u. u.finish ≤ worst) (sym (run_is s t r)) (none_later s i);
         least = worst_least;
         by = λ t r. subst (λ u. IsLeastEnding g u worst (Some last)) (sym (run_is (all_faults_at g p) t r)) (shown_end, others_end)
+      }
+
+  -- ---- no process
+
+  module _ (none : process_count g ≡ 0) where
+    order_of_none : order ≡ []
+    order_of_none = nil_from_length order (length_order (process_count g) order all ∙ none)
+
+    finish_of_none : (s : Scenario) → finish_of s ≡ 0
+    finish_of_none s = ap (sum_by (λ q. duration g q (fault_of s q))) order_of_none
+
+    pub worst_of_none : IsWorst g order order (nothing_frozen g) 0 (zero_scenario g) None
+    worst_of_none = record {
+      greatest = λ s t i r. omega (arith, ap (λ u. u.finish) (run_is s t r), finish_of_none s);
+      least = record {
+        lawful = zero_lawful g;
+        holds = (turns (zero_scenario g), runs (zero_scenario g), finish_of_none (zero_scenario g));
+        least = λ s i f. zero_first s
+      };
+      by = λ t r. none
+    }
+
+  -- ---- how far an end is past the deadline
+
+  excess_is_late : (s : Scenario) (q : ℕ) → q < process_count g → excess_of g (turns s) q ≡ end_in_turn g order s q - g.deadline
+  excess_is_late s q l =
+      let free : IsFree (process_at g q) = plain.free q _ l in
+      ap₂ ◌-◌ (ap (λ o. unwrap_or o 0) (ends_are s q l)) (ap (lesser_due g.deadline) free.deadline)
+
+  excess_at_most : (s : Scenario) → excess_in_run g (turns s) ≤ finish_of s - g.deadline
+  excess_at_most s = greatest-le (map (excess_of g (turns s)) (numbers_below (process_count g))) (finish_of s - g.deadline) (λ x c.
+      let r = Contains-map_parts (excess_of g (turns s)) (numbers_below (process_count g)) x c in
+      let below : r.0 < process_count g = numbers-Contains (process_count g) r.0 r.1 in
+      omega (arith, r.2, excess_is_late s r.0 below, end_within s r.0 below))
+
+  -- where every scenario finishes in time nothing exceeds
+  all_in_time : ((s : Scenario) → IsScenario g s → finish_of s ≤ g.deadline) → IsExcess g order order (nothing_frozen g) 0 (zero_scenario g) None
+  all_in_time early = record {
+    greatest = λ s t i r. subst (λ u. excess_in_run g u ≤ 0) (sym (run_is s t r)) (omega (arith, excess_at_most s, early s i));
+    least = record {
+      lawful = zero_lawful g;
+      holds = (turns (zero_scenario g), runs (zero_scenario g), omega (arith, excess_at_most (zero_scenario g), early (zero_scenario g) (zero_lawful g)));
+      least = λ s i f. zero_first s
+    };
+    by = λ t r. refl
+  }
+
+  pub no_excess_of_none : process_count g ≡ 0 → IsExcess g order order (nothing_frozen g) 0 (zero_scenario g) None
+  no_excess_of_none none = all_in_time (λ s i. omega (arith, finish_of_none none s))
+
+  module _ (p : ℕ) (costliest : IsCostliest g order p) where
+    pub no_excess : worst p costliest ≤ g.deadline → IsExcess g order order (nothing_frozen g) 0 (zero_scenario g) None
+    no_excess early = all_in_time (λ s i. omega (arith, none_later p costliest s i, early))
+
+    module _ (last : ℕ) (stands : IsLastOf order last) (late : g.deadline < worst p costliest) where
+      excess_is_last : (s : Scenario) → excess_in_run g (turns s) ≡ finish_of s - g.deadline
+      excess_is_last s =
+          let below = last_below last stands in
+          let above = greatest_above (map (excess_of g (turns s)) (numbers_below (process_count g))) (excess_of g (turns s) last) (Contains-map (excess_of g (turns s)) (numbers_below (process_count g)) last (Contains-numbers (process_count g) last below)) in
+          omega (arith, excess_at_most s, above, excess_is_late s last below, end_of_last last stands s)
+
+      excess_from : (s : Scenario) → Exceeds g order (nothing_frozen g) (worst p costliest - g.deadline) s → finish_of s ≡ worst p costliest
+      excess_from s f =
+          let same : excess_in_run g (turns s) ≡ worst p costliest - g.deadline = sym (ap (excess_in_run g) (run_is s f.0 f.1)) ∙ f.2 in
+          omega (arith, excess_is_last s, same, late)
+
+      -- the last process exceeds most, and no process before it does as much
+      last_exceeds : IsLeastExceeding g (turns (all_faults_at g p)) (worst p costliest - g.deadline) (Some last)
+      last_exceeds = (
+        omega (arith, late),
+        excess_is_late (all_faults_at g p) last (last_below last stands) ∙ ap (λ n. n - g.deadline) (end_of_last last stands (all_faults_at g p)),
+        λ q l e.
+            let below : q < process_count g = omega (arith, last_below last stands) in
+            omega (arith, late, e, excess_is_late (all_faults_at g p) q below, end_before last stands (all_faults_at g p) q below (λ is. omega arith)),
+      )
+
+      pub excess_is : IsExcess g order order (nothing_frozen g) (worst p costliest - g.deadline) (all_faults_at g p) (Some last)
+      excess_is = record {
+        greatest = λ s t i r. subst (λ u. excess_in_run g u ≤ worst p costliest - g.deadline) (sym (run_is s t r)) (omega (arith, excess_is_last s, none_later p costliest s i));
+        least = record {
+          lawful = all_faults_lawful g p (costliest_below p costliest);
+          holds = (turns (all_faults_at g p), runs (all_faults_at g p), excess_is_last (all_faults_at g p));
+          least = λ s i f. none_before p costliest s i (excess_from s f)
+        };
+        by = λ t r. subst (λ u. IsLeastExceeding g u (worst p costliest - g.deadline) (Some last)) (sym (run_is (all_faults_at g p) t r)) last_exceeds
       }
