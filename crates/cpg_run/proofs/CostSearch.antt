@@ -1,11 +1,7 @@
 -- The search along an order for the costliest process.
-use Rattle.std.proofs.Common.{◌≡◌, ◌∙◌, ℕ, ◌+◌, ◌-◌, ◌<◌, ◌≤◌, List, length, get_or, Option, Some, None, IfSome, IfNone, arith, refl, sym, ap, inl, inr, subst, rules}
+use Rattle.std.proofs.Common.{◌≡◌, ℕ, ◌+◌, ◌<◌, ◌≤◌, List, length, get_or, Option, Some, None, IfSome, IfNone, arith, refl, ap, inl, inr, rules}
 use Rattle.std.proofs.lemmas.Bool.{cases_eq}
-use Rattle.std.proofs.lemmas.List.{get_or_default}
-use Rattle.std.proofs.lemmas.List.Elements.{Contains-get_or}
-use Rattle.cpg_base.specs.declared.process.Process.{Process}
-use Rattle.cpg_base.specs.Duration.{duration_of}
-use Rattle.cpg_base.specs.Graph.{Graph, process_count, process_at}
+use Rattle.cpg_base.specs.Graph.{Graph}
 use Rattle.cpg_order.specs.Urgency.{place}
 use Rattle.cpg_order.specs.Order.{IsOrder}
 use Rattle.cpg_order.proofs.Places.{place-lt, get_or-place, Contains-order}
@@ -25,9 +21,6 @@ pub record HasSearched (g : Graph) (order : List ℕ) (k most : ℕ) (found : Op
   pub some : IfSome found (IsFound g order k most)
   pub none : IfNone found ((k ≡ 0) × (most ≡ 0))
 
-pub not_searched : (g : Graph) (order : List ℕ) → HasSearched g order 0 0 None
-not_searched g order = record { greatest = λ j l. absurd (omega arith); some = search rules; none = search rules }
-
 module _ (g : Graph) (order : List ℕ) (lawful : IsOrder order) (k most : ℕ) (within : k < length order) where
   -- the process at k costs as much
   pub takes_it : (found : Option ℕ) → HasSearched g order k most found → most ≤ cost_of_fault g (get_or order k 0)
@@ -41,9 +34,9 @@ module _ (g : Graph) (order : List ℕ) (lawful : IsOrder order) (k most : ℕ) 
       there = process_within order lawful k within;
       early = omega (arith, place_at order lawful k within);
       cost = refl;
-      last = λ j l m. absurd (omega (arith, place_at order lawful k within))
+      last = λ j l m. absurd (omega (arith, place_at order lawful k within));
     };
-    none = search rules
+    none = search rules;
   }
 
   -- it costs less
@@ -61,9 +54,9 @@ module _ (g : Graph) (order : List ℕ) (lawful : IsOrder order) (k most : ℕ) 
       last = λ j l m. elim (cases_eq j k) [
         | inl e ↦ omega (arith, ap (λ i. cost_of_fault g (get_or order i 0)) e)
         | inr n ↦ s.some.last j l (omega arith)
-      ]
+      ];
     };
-    none = search rules
+    none = search rules;
   }
 
 -- the search is at its end
@@ -72,5 +65,5 @@ all_searched g order lawful k most e None s = search rules
 all_searched g order lawful k most e (Some p) s = record {
   stands = Contains-order (length order) order lawful.all p s.some.there;
   most = λ q c. omega (arith, s.greatest (place order q) (omega (arith, place-lt order q c)), ap (cost_of_fault g) (get_or-place order q 0 c), s.some.cost);
-  last = λ q c l. omega (arith, s.some.last (place order q) l (omega (arith, place-lt order q c)), ap (cost_of_fault g) (get_or-place order q 0 c), s.some.cost)
+  last = λ q c l. omega (arith, s.some.last (place order q) l (omega (arith, place-lt order q c)), ap (cost_of_fault g) (get_or-place order q 0 c), s.some.cost);
 }

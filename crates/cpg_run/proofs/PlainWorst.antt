@@ -1,13 +1,13 @@
 -- A plain graph finishes last where all faults strike the costliest process that stands last in the order.
-use Rattle.std.proofs.Common.{◌≡◌, ◌==◌, position, None, ℕ, zero, suc, ◌+◌, ◌-◌, ◌*◌, ◌<◌, ◌≤◌, ◌≢◌, Bool, true, false, List, [], ◌∷◌, ◌++◌, length, get_or, take, map, sum, sum_by, replicate, slice_set, Contains, IsPermutation, refl, sym, ap, ap₂, ◌∙◌, subst, arith, inl, inr, ⊎_elim, mul-le-mul_right, mul-le-mul_left, add-mul, ext_get_or, length-append, Some, unwrap_or}
+use Rattle.std.proofs.Common.{◌≡◌, ◌==◌, position, None, ℕ, suc, ◌+◌, ◌-◌, ◌*◌, ◌<◌, ◌≤◌, ◌≢◌, false, List, [], ◌∷◌, ◌++◌, length, get_or, take, map, sum, sum_by, replicate, Contains, IsPermutation, refl, sym, ap, ap₂, ◌∙◌, subst, arith, inl, inr, ⊎_elim, mul-le-mul_right, mul-le-mul_left, add-mul, ext_get_or, length-append, Some, unwrap_or}
 use Rattle.std.specs.List.{AllPairs}
 use Rattle.std.specs.Int.{div_ceil}
-use Rattle.std.proofs.lemmas.Bool.{cases_lt, cases_eq}
+use Rattle.std.proofs.lemmas.Bool.{cases_lt}
 use Rattle.std.proofs.lemmas.Grind.{div_ceil_times}
-use Rattle.std.proofs.lemmas.List.{get_or-replicate, get_or_past, get_or-set_same, get_or-set_other, length-set, length-replicate, take-append-le, get_or_append_left, nil_from_length}
+use Rattle.std.proofs.lemmas.List.{get_or-replicate, get_or_past, get_or-set_same, get_or-set_other, length-set, length-replicate, take-append-le, get_or_append_left, nil_from_length, take_all}
 use Rattle.std.proofs.lemmas.Option.{same_Some}
-use Rattle.std.proofs.Math.Seq.{get_or-append_seam, take-append_seam}
-use Rattle.std.proofs.lemmas.List.Elements.{Contains-append_left, Contains-append_right, Contains-get_or}
+use Rattle.std.proofs.Math.Seq.{get_or-append_seam, take-append_seam, take-suc}
+use Rattle.std.proofs.lemmas.List.Elements.{Contains-append_right}
 use Rattle.std.proofs.lemmas.List.Folds.{sum_by-replicate}
 use Rattle.std.proofs.lemmas.List.FromFn.{length-map-range_with_len}
 use Rattle.std.proofs.lemmas.List.Sorted.{sum_by-IsPermutation}
@@ -15,7 +15,7 @@ use Rattle.std.proofs.lemmas.List.Sums.{sum_by-cons, sum_by-set, sum-map, sum_by
 use Rattle.cpg_base.specs.Numbers.{numbers_below, is_below}
 use Rattle.cpg_base.specs.declared.process.Process.{Process}
 use Rattle.cpg_base.specs.Graph.{Graph, process_count, process_at, condition_count, condition_of}
-use Rattle.cpg_base.specs.Duration.{duration, duration_of, lesser_due}
+use Rattle.cpg_base.specs.Duration.{duration, lesser_due}
 use Rattle.cpg_base.specs.Limits.{IsWithinLimits, IsProcessWithin}
 use Rattle.cpg_base.specs.Scenario.{zero_scenario}
 use Rattle.cpg_base.proofs.Lists.{Contains-first, Contains-rest, Contains-cases, Contains-map, Contains-map_parts, Contains-numbers, numbers-Contains, get_or-map-below, greatest_above, greatest-le}
@@ -32,6 +32,7 @@ use Rattle.cpg_run.proofs.PlainRuns.{no_conditions, place_is, runs_in_turn, the_
 
 -- ---- what faults cost, over plain lists
 
+-- what the faults cost together
 abbrev total : (ℕ → ℕ) → (ℕ → ℕ) → List ℕ → ℕ
 total cost f xs = sum_by (λ q. f q * cost q) xs
 
@@ -62,6 +63,7 @@ all_at_first k f most others later some few much less =
       | inr l ↦ l
     ]
 
+-- nothing comes before what is 0 everywhere
 not_below_zeros : (f w : ℕ → ℕ) (xs : List ℕ) → ((q : ℕ) → Contains xs q → w q ≡ 0) → is_below (map f xs) (map w xs) ≡ false
 not_below_zeros f w [] h = refl
 not_below_zeros f w (x ∷ xs) h = not_below-cons (f x) (w x) (map f xs) (map w xs) (omega (arith, h x (Contains-first x xs))) (not_below_zeros f w xs (λ q c. h q (Contains-rest x xs q c)))
@@ -71,7 +73,7 @@ module _ (cost f w : ℕ → ℕ) (k p : ℕ) (vs : List ℕ) (some : 0 < cost p
   not_below_all : (us : List ℕ) → ((q : ℕ) → Contains us q → w q ≡ 0) → sum_by f (us ++ p ∷ vs) ≤ k → k * cost p ≤ total cost f (us ++ p ∷ vs) → is_below (map f (us ++ p ∷ vs)) (map w (us ++ p ∷ vs)) ≡ false
   not_below_all [] earlier few much =
       let first : k ≤ f p = all_at_first k (f p) (cost p) (total cost f vs) (sum_by f vs) some
-        (omega (arith, sum_by-cons f p vs)) (omega (arith, sum_by-cons (λ q. f q * cost q) p vs)) (total_less cost f (cost p) vs less) in
+      (omega (arith, sum_by-cons f p vs)) (omega (arith, sum_by-cons (λ q. f q * cost q) p vs)) (total_less cost f (cost p) vs less) in
       not_below-cons (f p) (w p) (map f vs) (map w vs) (omega arith) (not_below_zeros f w vs later)
   not_below_all (u ∷ us) earlier few much =
       let none = earlier u (Contains-first u us) in
@@ -80,18 +82,20 @@ module _ (cost f w : ℕ → ℕ) (k p : ℕ) (vs : List ℕ) (some : 0 < cost p
       elim (cases_lt 0 (f u)) [
         | inl l ↦ below_one_way (map w (u ∷ us ++ p ∷ vs)) (map f (u ∷ us ++ p ∷ vs)) (below-cons_less (w u) (f u) (map w (us ++ p ∷ vs)) (map f (us ++ p ∷ vs)) (omega arith))
         | inr l ↦
-          let free : f u * cost u ≡ 0 = omega (arith, ap (λ n. n * cost u) (let z : f u ≡ 0 = omega arith in z)) in
-          not_below-cons (f u) (w u) (map f (us ++ p ∷ vs)) (map w (us ++ p ∷ vs)) (omega arith)
-          (not_below_all us (λ q c. earlier q (Contains-rest u us q c)) (omega arith) (omega arith))
+            let free : f u * cost u ≡ 0 = omega (arith, ap (λ n. n * cost u) (let z : f u ≡ 0 = omega arith in z)) in
+            not_below-cons (f u) (w u) (map f (us ++ p ∷ vs)) (map w (us ++ p ∷ vs)) (omega arith)
+            (not_below_all us (λ q c. earlier q (Contains-rest u us q c)) (omega arith) (omega arith))
       ]
 
 -- ---- lists whose elements are related in pairs
 
 module _ {X : Type 0} (R : X → X → Type 0) where
+  -- the elements of a later part
   AllPairs-later : (us ys : List X) → AllPairs R (us ++ ys) → AllPairs R ys
   AllPairs-later [] ys p = p
   AllPairs-later (u ∷ us) ys p = AllPairs-later us ys (AllPairs-rest R u (us ++ ys) p)
 
+  -- an element of an earlier part and one of a later part
   AllPairs-across : (us ys : List X) → AllPairs R (us ++ ys) → (x y : X) → Contains us x → Contains ys y → R x y
   AllPairs-across [] ys p x y c d = absurd (omega arith)
   AllPairs-across (u ∷ us) ys p x y c d = ⊎_elim
@@ -117,7 +121,6 @@ zeros n i = elim (cases_lt i n) [
 
 sum_of_zeros : (n : ℕ) → sum (replicate n 0) ≡ 0
 sum_of_zeros n = sum_by-replicate (λ (x : ℕ). x) n 0 ∙ omega arith
-
 
 -- ---- what a fault costs
 
@@ -145,6 +148,7 @@ module _ (g : Graph) where
   duration_is p f = each_costs (base_of (process_at g p)) (again_of (process_at g p)) f
 
   module _ (within : IsWithinLimits g) where
+    -- a fault costs something, and an execution takes time
     costs : (p : ℕ) → p < process_count g → 0 < cost_of_fault g p
     costs p l =
         let limits : IsProcessWithin (length g.nodes) (process_at g p) = within.processes p _ l in
@@ -163,7 +167,7 @@ module _ (g : Graph) where
   zero_lawful = record {
     values = length-replicate (condition_count g) false;
     faults = length-replicate (process_count g) 0;
-    budget = omega (arith, sum_of_zeros (process_count g))
+    budget = omega (arith, sum_of_zeros (process_count g));
   }
 
   faults_at : (p : ℕ) → p < process_count g → fault_of (all_faults_at g p) p ≡ g.faults
@@ -179,8 +183,8 @@ module _ (g : Graph) where
     budget = omega (
       arith,
       sum_by-set (λ (x : ℕ). x) (replicate (process_count g) 0) p g.faults 0 (let h : p < length (replicate (process_count g) 0) = omega (arith, length-replicate {A = ℕ} (process_count g) 0) in h),
-      sum_of_zeros (process_count g)
-    )
+      sum_of_zeros (process_count g),
+    );
   }
 
   -- ---- the key of a scenario
@@ -195,12 +199,14 @@ module _ (g : Graph) where
 -- ---- the greatest finish
 
 module _ (g : Graph) (plain : IsPlain g) (within : IsWithinLimits g) (order : List ℕ) (all : IsPermutation (numbers_below (process_count g)) order) where
+  -- the run of a scenario, and when it finishes
   abbrev turns : Scenario → Times
   turns s = times_in_turn g order s
 
   abbrev finish_of : Scenario → ℕ
   finish_of s = (turns s).finish
 
+  -- the finish without faults
   abbrev base : ℕ
   base = sum_by (λ q. duration g q 0) order
 
@@ -275,8 +281,12 @@ module _ (g : Graph) (plain : IsPlain g) (within : IsWithinLimits g) (order : Li
           ap (sum_by (λ r. duration g r (fault_of s r))) so_far,
           end_of_last s,
           ap (sum_by (λ r. duration g r (fault_of s r))) before_last,
-          lasts g within last (fault_of s last) last_below
+          lasts g within last (fault_of s last) last_below,
         )
+
+  -- the process at the last place is the last one
+  pub last_is_last : (k : ℕ) → length order ≡ suc k → IsLastOf order (get_or order k 0)
+  last_is_last k e = (take k order, sym (take_all (suc k) order (omega (arith, e))) ∙ take-suc order k 0 (omega (arith, e)))
 
   -- ---- all faults at the costliest
 
@@ -292,7 +302,7 @@ module _ (g : Graph) (plain : IsPlain g) (within : IsWithinLimits g) (order : Li
       arith,
       finish_is s,
       total_le (cost_of_fault g) (fault_of s) (cost_of_fault g p) order costliest.most,
-      mul-le-mul_right (cost_of_fault g p) (few_faults s i)
+      mul-le-mul_right (cost_of_fault g p) (few_faults s i),
     )
 
     worst_at_least : base + g.faults * cost_of_fault g p ≤ worst
@@ -300,9 +310,10 @@ module _ (g : Graph) (plain : IsPlain g) (within : IsWithinLimits g) (order : Li
       arith,
       finish_is (all_faults_at g p),
       le-sum_by (λ q. fault_of (all_faults_at g p) q * cost_of_fault g q) order p costliest.stands,
-      ap (λ n. n * cost_of_fault g p) (faults_at g p costliest_below)
+      ap (λ n. n * cost_of_fault g p) (faults_at g p costliest_below),
     )
 
+    -- no scenario finishes later
     pub none_later : (s : Scenario) → IsScenario g s → finish_of s ≤ worst
     none_later s i = omega (arith, finish_at_most s i, worst_at_least)
 
@@ -314,18 +325,18 @@ module _ (g : Graph) (plain : IsPlain g) (within : IsWithinLimits g) (order : Li
         let split : AllPairs (λ x y. x ≢ y) (r.0 ++ p ∷ r.1) = subst (AllPairs (λ x y. x ≢ y)) r.2 apart in
         let rises : AllPairs (λ x y. place order x < place order y) (r.0 ++ p ∷ r.1) = subst (AllPairs (λ x y. place order x < place order y)) r.2 (places_rise order apart) in
         let less : (q : ℕ) → Contains r.1 q → cost_of_fault g q < cost_of_fault g p = λ q c. costliest.last q
-              (subst (λ ps. Contains ps q) (sym r.2) (Contains-append_right r.0 (p ∷ r.1) q (Contains-rest p r.1 q c)))
-              (AllPairs-first (λ x y. place order x < place order y) p r.1 (AllPairs-later (λ x y. place order x < place order y) r.0 (p ∷ r.1) rises) q c) in
+        (subst (λ ps. Contains ps q) (sym r.2) (Contains-append_right r.0 (p ∷ r.1) q (Contains-rest p r.1 q c)))
+        (AllPairs-first (λ x y. place order x < place order y) p r.1 (AllPairs-later (λ x y. place order x < place order y) r.0 (p ∷ r.1) rises) q c) in
         let later : (q : ℕ) → Contains r.1 q → fault_of (all_faults_at g p) q ≡ 0 = λ q c. faults_elsewhere g p q
-              (λ same. AllPairs-first (λ x y. x ≢ y) p r.1 (AllPairs-later (λ x y. x ≢ y) r.0 (p ∷ r.1) split) q c (sym same)) in
+        (λ same. AllPairs-first (λ x y. x ≢ y) p r.1 (AllPairs-later (λ x y. x ≢ y) r.0 (p ∷ r.1) split) q c (sym same)) in
         let earlier : (q : ℕ) → Contains r.0 q → fault_of (all_faults_at g p) q ≡ 0 = λ q c. faults_elsewhere g p q
-              (AllPairs-across (λ x y. x ≢ y) r.0 (p ∷ r.1) split q p c (Contains-first p r.1)) in
+        (AllPairs-across (λ x y. x ≢ y) r.0 (p ∷ r.1) split q p c (Contains-first p r.1)) in
         let few : sum_by (fault_of s) order ≤ g.faults = few_faults s i in
         let much : g.faults * cost_of_fault g p ≤ total (cost_of_fault g) (fault_of s) order = omega (arith, finish_is s, e, worst_at_least) in
         let keys : is_below (map (fault_of s) (r.0 ++ p ∷ r.1)) (map (fault_of (all_faults_at g p)) (r.0 ++ p ∷ r.1)) ≡ false =
-            not_below_all (cost_of_fault g) (fault_of s) (fault_of (all_faults_at g p)) g.faults p r.1 (costs g within p costliest_below) less (faults_at g p costliest_below) later r.0 earlier
-            (subst (λ ps. sum_by (fault_of s) ps ≤ g.faults) r.2 few)
-            (subst (λ ps. g.faults * cost_of_fault g p ≤ total (cost_of_fault g) (fault_of s) ps) r.2 much) in
+        not_below_all (cost_of_fault g) (fault_of s) (fault_of (all_faults_at g p)) g.faults p r.1 (costs g within p costliest_below) less (faults_at g p costliest_below) later r.0 earlier
+        (subst (λ ps. sum_by (fault_of s) ps ≤ g.faults) r.2 few)
+        (subst (λ ps. g.faults * cost_of_fault g p ≤ total (cost_of_fault g) (fault_of s) ps) r.2 much) in
         ap₂ is_below (key_is g plain order s) (key_is g plain order (all_faults_at g p))
         ∙ subst (λ ps. is_below (map (fault_of s) ps) (map (fault_of (all_faults_at g p)) ps) ≡ false) (sym r.2) keys
 
@@ -333,7 +344,7 @@ module _ (g : Graph) (plain : IsPlain g) (within : IsWithinLimits g) (order : Li
     worst_least = record {
       lawful = all_faults_lawful g p costliest_below;
       holds = (turns (all_faults_at g p), runs (all_faults_at g p), refl);
-      least = λ s i f. none_before s i (finish_from s worst f)
+      least = λ s i f. none_before s i (finish_from s worst f);
     }
 
     module _ (last : ℕ) (stands : IsLastOf order last) where
@@ -352,7 +363,7 @@ module _ (g : Graph) (plain : IsPlain g) (within : IsWithinLimits g) (order : Li
       worst_is = record {
         greatest = λ s t i r. subst (λ u. u.finish ≤ worst) (sym (run_is s t r)) (none_later s i);
         least = worst_least;
-        by = λ t r. subst (λ u. IsLeastEnding g u worst (Some last)) (sym (run_is (all_faults_at g p) t r)) (shown_end, others_end)
+        by = λ t r. subst (λ u. IsLeastEnding g u worst (Some last)) (sym (run_is (all_faults_at g p) t r)) (shown_end, others_end);
       }
 
   -- ---- no process
@@ -370,9 +381,9 @@ module _ (g : Graph) (plain : IsPlain g) (within : IsWithinLimits g) (order : Li
       least = record {
         lawful = zero_lawful g;
         holds = (turns (zero_scenario g), runs (zero_scenario g), finish_of_none (zero_scenario g));
-        least = λ s i f. zero_first s
+        least = λ s i f. zero_first s;
       };
-      by = λ t r. none
+      by = λ t r. none;
     }
 
   -- ---- how far an end is past the deadline
@@ -395,9 +406,9 @@ module _ (g : Graph) (plain : IsPlain g) (within : IsWithinLimits g) (order : Li
     least = record {
       lawful = zero_lawful g;
       holds = (turns (zero_scenario g), runs (zero_scenario g), omega (arith, excess_at_most (zero_scenario g), early (zero_scenario g) (zero_lawful g)));
-      least = λ s i f. zero_first s
+      least = λ s i f. zero_first s;
     };
-    by = λ t r. refl
+    by = λ t r. refl;
   }
 
   pub no_excess_of_none : process_count g ≡ 0 → IsExcess g order order (nothing_frozen g) 0 (zero_scenario g) None
@@ -435,7 +446,7 @@ module _ (g : Graph) (plain : IsPlain g) (within : IsWithinLimits g) (order : Li
         least = record {
           lawful = all_faults_lawful g p (costliest_below p costliest);
           holds = (turns (all_faults_at g p), runs (all_faults_at g p), excess_is_last (all_faults_at g p));
-          least = λ s i f. none_before p costliest s i (excess_from s f)
+          least = λ s i f. none_before p costliest s i (excess_from s f);
         };
-        by = λ t r. subst (λ u. IsLeastExceeding g u (worst p costliest - g.deadline) (Some last)) (sym (run_is (all_faults_at g p) t r)) last_exceeds
+        by = λ t r. subst (λ u. IsLeastExceeding g u (worst p costliest - g.deadline) (Some last)) (sym (run_is (all_faults_at g p) t r)) last_exceeds;
       }

@@ -14,7 +14,7 @@ cost_of_fault-cost-requires c =
       arith,
       process_within c.processes-process-items.result.now lawful c.loop-process.process-index c.loop-process-test.true,
       ap length c.processes-process-items.ensures.processes,
-      c.requires
+      c.requires,
     )
 
 -- src/costs.rt:26:5
