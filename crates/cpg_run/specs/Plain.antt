@@ -1,5 +1,5 @@
 -- Plain graphs: at most one node, nothing sent, no frozen process, and every process may run at any time.
-use Rattle.std.specs.Prelude.{ℕ, ◌+◌, ◌-◌, ◌≡◌, ◌≤◌, ◌<◌, ◌++◌, ◌∷◌, false, List, [], Option, Some, None, length, map, sum_by, replicate, slice_set, All, Contains}
+use Rattle.std.specs.Prelude.{ℕ, ◌+◌, ◌-◌, ◌≡◌, ◌≤◌, ◌<◌, ◌++◌, ◌∷◌, false, List, [], Option, Some, None, length, map, take, sum_by, replicate, slice_set, All, Contains}
 use Rattle.cpg_base.specs.Numbers.{numbers_below}
 use Rattle.cpg_base.specs.Graph.{Graph, process_count, item_count}
 use Rattle.cpg_base.specs.declared.process.Process.{Process}
@@ -60,3 +60,7 @@ all_faults_at g p = record (zero_scenario g) { faults = slice_set (zero_scenario
 -- the last process of an order
 abbrev pub IsLastOf : List ℕ → ℕ → Type 0
 IsLastOf order p = (rest : List ℕ) × (order ≡ rest ++ p ∷ [])
+
+-- when the processes of an order have started, and last when all have ended
+abbrev pub clocks_of : Graph → List ℕ → Scenario → List ℕ
+clocks_of g order s = map (λ i. sum_by (λ q. duration g q (fault_of s q)) (take i order)) (numbers_below (process_count g + 1))
