@@ -1,9 +1,12 @@
 //! The head of a pack.
 ghost use Rattle.std.specs.Prelude.{◌≡◌, ◌↔◌, ◌≤◌, ◌<◌, ◌^◌, IsTrue, IfOk, IfSome, IfNone, All, None, Some, count_by, length, option_map};
+ghost use Rattle.cpg_table.specs.GraphHead.{head_of};
 ghost use Rattle.cpg_table.specs.Head.{IsHead, IsHeadProcess, IsHeadEdge, IsExtra, AreExtras, version_of, extra_at};
 
-use crate::{Durations, Extra, HeadProcess};
-use cpg_base::{Name, OutOfMemory};
+use crate::graph_head::{head_edges, head_extras, head_nodes, head_processes};
+use crate::{Extra, HeadProcess};
+use cpg_base::{Name, OutOfMemory, Problem};
+use std::alloc::Global;
 use std::marker::Model;
 
 /// How many faults a pack is made for at most.
@@ -264,4 +267,18 @@ impl Head {
             extras: copy_extras(&self.extras)?,
         })
     }
+}
+
+/// The head of tables for a graph. It is of version 1 exactly where no process has a release above 0 or a deadline of
+/// its own.
+pub fn head_of(alloc: Global, problem: &Problem) -> Result<Head, OutOfMemory>
+    ensures { IfOk result (λ head. head ≡ head_of problem.now) }
+{
+    Ok(Head {
+        faults: problem.faults(),
+        nodes: head_nodes(alloc, problem.nodes())?,
+        processes: head_processes(alloc, problem)?,
+        edges: head_edges(alloc, problem.edges())?,
+        extras: head_extras(alloc, problem)?,
+    })
 }
