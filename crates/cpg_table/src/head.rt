@@ -20,7 +20,7 @@ const MOST_CONDITIONS: usize = 32;
 /// How many edges a head has at most.
 const MOST_EDGES: usize = 256;
 /// Durations are below this, in time units of the graph file.
-const TIME_END: u64 = 1 << 60;
+pub const TIME_END: u64 = 1 << 60;
 /// The latest release and deadline, in time units of the graph file.
 const LATEST: u64 = 1_000_000_000;
 
@@ -57,7 +57,7 @@ fn are_counts_within(faults: u8, nodes: usize, processes: usize, edges: usize) -
 }
 
 /// How many processes have a condition.
-fn condition_count(processes: &[HeadProcess]) -> usize
+pub fn condition_count(processes: &[HeadProcess]) -> usize
     ensures { result ≡ count_by (λ p. p.condition) processes.now }
 {
     processes.iter().filter(|process| process.condition).count()
