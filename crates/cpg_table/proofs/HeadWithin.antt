@@ -44,8 +44,8 @@ module _ (g : Graph) where
   pub has_condition : (p : ℕ) → p < process_count g → is_some (condition_of g p) ≡ is_disjunction g p
   has_condition p l = same_truth (is_some (condition_of g p)) (is_disjunction g p)
       (λ e. let c = some_of (condition_of g p) e in
-        subst (λ q. is_disjunction g q ≡ true) (process_of_condition_of g p c.0 c.1)
-        (Contains-filter_parts (is_disjunction g) (numbers_below (process_count g)) (process_of g c.0) (Contains-disjunctions g c.0 (condition_of_below g p c.0 c.1))).1)
+      subst (λ q. is_disjunction g q ≡ true) (process_of_condition_of g p c.0 c.1)
+      (Contains-filter_parts (is_disjunction g) (numbers_below (process_count g)) (process_of g c.0) (Contains-disjunctions g c.0 (condition_of_below g p c.0 c.1))).1)
       (λ e. let c = condition_there g p l e in ap is_some (ap (condition_of g) (sym c.2) ∙ condition_of_process_of g c.0 c.1))
 
   pub conditions_counted : count_by (λ p. p.condition) (head_of g).processes ≡ condition_count g

@@ -47,12 +47,14 @@ abbrev pub hears_of : Head → ℕ → List ℕ
 hears_of h node = numbers_where (enters h node) (first_message h) h.edges
     ++ numbers_where (λ p. not (p.node == node)) (first_broadcast h) (conditioned h)
 
+-- a process, where it is on the node, with the number of its condition
+abbrev pub own_front : ℕ → ℕ → ℕ → HeadProcess → List Own
+own_front node p c q = if q.node == node then record { process = p; condition = if q.condition then Some c else None; times = q.times } ∷ [] else []
+
 -- the processes of a node, from process p and condition c on
 abbrev pub own_from : ℕ → ℕ → ℕ → List HeadProcess → List Own
 own_from node p c [] = []
-own_from node p c (q ∷ qs) =
-    (if q.node == node then record { process = p; condition = if q.condition then Some c else None; times = q.times } ∷ [] else [])
-    ++ own_from node (p + 1) (if q.condition then c + 1 else c) qs
+own_from node p c (q ∷ qs) = own_front node p c q ++ own_from node (p + 1) (if q.condition then c + 1 else c) qs
 
 -- what a node needs to know of its own processes
 abbrev pub own_of : Head → ℕ → List Own

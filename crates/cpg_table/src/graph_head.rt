@@ -11,11 +11,7 @@ use cpg_base::{Edge, Name, OutOfMemory, Problem, Process};
 use std::alloc::Global;
 
 /// How long the executions of a process take.
-fn durations_of(
-    alloc: Global,
-    problem: &Problem,
-    process: u32,
-) -> Result<Durations, OutOfMemory>
+fn durations_of(alloc: Global, problem: &Problem, process: u32) -> Result<Durations, OutOfMemory>
     requires { process < process_count problem.now }
     ensures { IfOk result (λ times. times ≡ map (duration problem.now process) (numbers_below (problem.now.faults + 1))) }
 {
@@ -29,11 +25,7 @@ fn durations_of(
 }
 
 /// What a head says of a process.
-fn head_process(
-    alloc: Global,
-    problem: &Problem,
-    process: u32,
-) -> Result<HeadProcess, OutOfMemory>
+fn head_process(alloc: Global, problem: &Problem, process: u32) -> Result<HeadProcess, OutOfMemory>
     requires { process < process_count problem.now }
     ensures { IfOk result (λ p. p ≡ head_process problem.now process) }
 {
@@ -87,9 +79,7 @@ pub fn head_edges(alloc: Global, edges: &[Edge]) -> Result<Vec<(u32, u32)>, OutO
 fn are_plain(processes: &[Process]) -> bool
     ensures { result ≡ list_all is_plain processes.now }
 {
-    processes
-        .iter()
-        .all(|process| process.release == 0 && process.deadline.is_none())
+    processes.iter().all(|process| process.release == 0 && process.deadline.is_none())
 }
 
 fn extras_of(alloc: Global, processes: &[Process]) -> Result<Vec<Extra>, OutOfMemory>

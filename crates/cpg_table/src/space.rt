@@ -3,7 +3,7 @@ ghost use Rattle.std.specs.Prelude.{◌≡◌, ◌↔◌, ◌≤◌, ◌<◌, Is
 ghost use Rattle.cpg_cube.specs.Cube.{IsRising};
 ghost use Rattle.cpg_table.specs.Lawful.{space_of, IsCountLiteral, IsValueLiteral, IsLawfulLiteral, IsLawfulColumn, IsLawfulRow};
 
-use crate::head::{condition_count, TIME_END};
+use crate::head::{TIME_END, condition_count};
 use crate::{Entry, Head, Row};
 use cpg_cube::Literal;
 
