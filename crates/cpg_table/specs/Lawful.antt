@@ -2,7 +2,7 @@
 use Rattle.std.specs.Prelude.{ℕ, ◌≡◌, ◌+◌, ◌^◌, ◌≤◌, ◌<◌, ◌⊎◌, List, ◌++◌, length, count_by, sum_by, All}
 use Rattle.cpg_cube.specs.Cube.{IsRising}
 use Rattle.cpg_cube.specs.declared.literal.Literal.{Literal}
-use Rattle.cpg_table.specs.Head.{Head}
+use Rattle.cpg_table.specs.Head.{Head, IsHead}
 use Rattle.cpg_table.specs.Table.{Column, Row, NodeTable, table_at}
 use Rattle.cpg_table.specs.Shape.{items_of}
 use Rattle.cpg_table.specs.Items.{first_broadcast, starts_of, sends_of, hears_of, own_of}
@@ -59,6 +59,13 @@ pub record IsTableOf (h : Head) (node : ℕ) (t : NodeTable) : Type 0 where
   pub sends : items_of t.sends ≡ sends_of h node
   pub hears : items_of t.hears ≡ hears_of h node
   pub lawful : All (IsLawfulRow (space_of h)) (rows_of t)
+
+-- a table that some head has for some node
+pub record IsTable (t : NodeTable) : Type 0 where
+  pub head : Head
+  pub node : ℕ
+  pub lawful : IsHead head
+  pub of : IsTableOf head node t
 
 -- how many columns rows have
 abbrev pub column_count : List Row → ℕ

@@ -2,7 +2,7 @@
 ghost use Rattle.std.specs.Prelude.{◌≡◌, ◌↔◌, ◌++◌, ◌<◌, IsTrue, IfOk, IfSome, IfNone, length, All};
 ghost use Rattle.cpg_table.specs.Shape.{items_of};
 ghost use Rattle.cpg_table.specs.Items.{first_broadcast, own_of, starts_of, sends_of, hears_of};
-ghost use Rattle.cpg_table.specs.Lawful.{IsTableOf, AreRowsOf, IsLawfulRow, rows_of, space_of};
+ghost use Rattle.cpg_table.specs.Lawful.{IsTable, IsTableOf, AreRowsOf, IsLawfulRow, rows_of, space_of};
 
 use crate::counts::{counts_of, have_hears, have_sends, have_starts};
 use crate::items::first_broadcast;
@@ -28,10 +28,13 @@ pub struct NodeTable {
 
 impl Model for NodeTable {
     ghost use Rattle.cpg_table.specs.Table.{NodeTable};
+    ghost use Rattle.cpg_table.specs.Lawful.{IsTable};
 
     ghost Value = { NodeTable };
 
     ghost view = { λ t. record { faults = t.faults; first_broadcast = t.first_broadcast; own = t.own.items; starts = t.starts.items; sends = t.sends.items; hears = t.hears.items } };
+
+    ghost invariant = { λ t. IsTable (record { faults = t.faults; first_broadcast = t.first_broadcast; own = t.own.items; starts = t.starts.items; sends = t.sends.items; hears = t.hears.items }) };
 }
 
 fn copy_own(own: &Vec<Own>) -> Result<Vec<Own>, OutOfMemory>
@@ -91,42 +94,48 @@ impl NodeTable {
 
     /// How many faults the table bears.
     pub fn faults(&self) -> u8
-        ensures { result ≡ self.now.faults }
+        ensures faults { result ≡ self.now.faults }
+        ensures made { IsTable self.now }
     {
         self.faults
     }
 
     /// The item of the first broadcast.
     pub fn first_broadcast(&self) -> u32
-        ensures { result ≡ self.now.first_broadcast }
+        ensures first_broadcast { result ≡ self.now.first_broadcast }
+        ensures made { IsTable self.now }
     {
         self.first_broadcast
     }
 
     /// The node's own processes, by number.
     pub fn own(&self) -> &[Own]
-        ensures { result.now ≡ self.now.own }
+        ensures own { result.now ≡ self.now.own }
+        ensures made { IsTable self.now }
     {
         self.own.as_slice()
     }
 
     /// What the node starts: its own processes, by number.
     pub fn starts(&self) -> &[Row]
-        ensures { result.now ≡ self.now.starts }
+        ensures starts { result.now ≡ self.now.starts }
+        ensures made { IsTable self.now }
     {
         self.starts.as_slice()
     }
 
     /// What the node sends, by number.
     pub fn sends(&self) -> &[Row]
-        ensures { result.now ≡ self.now.sends }
+        ensures sends { result.now ≡ self.now.sends }
+        ensures made { IsTable self.now }
     {
         self.sends.as_slice()
     }
 
     /// What the node hears, by number.
     pub fn hears(&self) -> &[Row]
-        ensures { result.now ≡ self.now.hears }
+        ensures hears { result.now ≡ self.now.hears }
+        ensures made { IsTable self.now }
     {
         self.hears.as_slice()
     }

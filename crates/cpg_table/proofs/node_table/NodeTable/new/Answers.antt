@@ -33,3 +33,6 @@ returns-clause-table c =
       lawful = subst (λ s. All (IsLawfulRow s) (c.split_off.new.self.items ++ (c.split_off-2.new.self.items ++ c.in_ok-hears.hears.items))) c.space_of.ensures
           (subst (All (IsLawfulRow c.space_of.result)) (sym all) lawful);
     }
+
+pub invariant_of-result : goal.invariant_of-result
+invariant_of-result c = record { head = c.args.head.now; node = c.args.node; lawful = c.faults.ensures.within; of = returns-clause-table c }
