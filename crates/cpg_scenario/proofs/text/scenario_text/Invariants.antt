@@ -1,0 +1,8 @@
+use Rattle.std.proofs.Common.{◌≡◌, [], flat_map, string_bytes}
+use Rattle.cpg_base.specs.Numbers.{numbers_below}
+use Rattle.cpg_scenario.specs.Pieces.{with_pieces}
+use Rattle.cpg_scenario.specs.Text.{pieces_of}
+use Rattle.cpg_scenario.proofs.text.scenario_text.Given as goal
+
+abbrev pub invariant-loop-process : goal.invariant-loop-process
+invariant-loop-process l = string_bytes l.out ≡ with_pieces [] (flat_map (pieces_of l.problem l.scenario) (numbers_below l.process))

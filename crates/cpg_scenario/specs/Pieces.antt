@@ -1,0 +1,17 @@
+-- The text of pieces, written one after the other.
+use Rattle.std.specs.Prelude.{ℕ, List, [], ◌∷◌, ◌++◌, codes}
+
+-- what a piece is written after
+abbrev pub led : List ℕ → List ℕ
+led [] = []
+led (c ∷ cs) = (c ∷ cs) ++ codes ", "
+
+-- the text with more pieces
+abbrev pub with_pieces : List ℕ → List (List ℕ) → List ℕ
+with_pieces text [] = text
+with_pieces text (p ∷ ps) = with_pieces (led text ++ p) ps
+
+-- the text, and `none` of none
+abbrev pub or_none : List ℕ → List ℕ
+or_none [] = codes "none"
+or_none (c ∷ cs) = c ∷ cs
