@@ -1,0 +1,43 @@
+//! Why a graph has no order.
+ghost use Rattle.std.specs.Prelude.{◌≡◌};
+
+use std::marker::Model;
+
+/// Different processes in the order in which edges lead through them, seen as their numbers.
+#[derive(Drop)]
+pub struct Walk {
+    processes: Vec<u32>,
+}
+
+impl Model for Walk {
+    ghost use Rattle.std.specs.Prelude.{List, ℕ};
+
+    ghost Value = { List ℕ };
+
+    ghost view = { λ w. w.processes.items };
+}
+
+impl Walk {
+    /// A walk through these processes.
+    pub(crate) fn through(processes: Vec<u32>) -> Walk
+        ensures { result ≡ processes.items }
+    {
+        Walk { processes }
+    }
+
+    /// The numbers of the processes.
+    pub fn processes(&self) -> &[u32]
+        ensures { result.now ≡ self.now }
+    {
+        self.processes.as_slice()
+    }
+}
+
+/// Why there is no urgency order.
+#[derive(Drop)]
+pub enum OrderFault {
+    /// The edges lead around in a cycle: this one, the least process first.
+    Cycle(Walk),
+    /// Want of memory.
+    OutOfMemory,
+}
