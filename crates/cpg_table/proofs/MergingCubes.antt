@@ -1,9 +1,10 @@
 -- Ranges of cubes when literals are left out or one is raised, and two cubes that touch made one.
-use Rattle.std.proofs.Common.{ℕ, ◌+◌, ◌<◌, ◌≤◌, ◌≡◌, ◌≢◌, ◌⊎◌, Bool, true, false, not, cond, ◌&&◌, ◌==◌, List, [], ◌∷◌, map, filter, Contains, All, AllPairs, get_or, arith, refl, sym, ap, ap₂, ◌∙◌, subst, ⊎_elim, inl, inr, leb-true, eq-eqb, ne_eqb, eqb-true}
+use Rattle.std.proofs.Common.{ℕ, ◌+◌, ◌<◌, ◌≤◌, ◌≡◌, ◌≢◌, ◌⊎◌, Bool, true, false, not, cond, ◌&&◌, ◌==◌, List, [], ◌∷◌, length, take, map, filter, Contains, All, AllPairs, get_or, arith, refl, sym, ap, ap₂, ◌∙◌, subst, ⊎_elim, inl, inr, leb-true, eq-eqb, ne_eqb, eqb-true}
 use Rattle.std.specs.Prelude.{nat_le}
 use Rattle.std.specs.List.{list_all}
 use Rattle.std.proofs.lemmas.Bool.{cases_Bool, cases_eq, cases_lt, cond-true, cond-false, and_parts, not-true, eqb-false}
-use Rattle.std.proofs.lemmas.List.Elements.{All-contains, All-map, All-weaker, Contains-get_or}
+use Rattle.std.proofs.lemmas.List.{get_or-take, get_or_default, length-take-le}
+use Rattle.std.proofs.lemmas.List.Elements.{All-contains, All-same, All-filter, All-map, All-weaker, Contains-get_or}
 use Rattle.std.proofs.lemmas.List.Kept.{AllPairs-filter}
 use Rattle.cpg_base.specs.Graph.{Graph, process_count, IsVariable}
 use Rattle.cpg_base.proofs.Lists.{Contains-first, Contains-rest, Contains-cases, Contains-nil, from_all, all_from, Contains-filter, Contains-filter_parts}
@@ -210,3 +211,18 @@ same_cube k a b ra rb na nb ls hs = same_sorted (λ l m. l.variable < m.variable
 -- what each element has
 pub All-from_each : {X : Type 0} {P : X → Type 0} (xs : List X) → ((x : X) → Contains xs x → P x) → All P xs
 All-from_each xs h = λ k d l. h (get_or xs k d) (Contains-get_or xs k d l)
+
+-- ---- the literals before one of a rising cube have lower variables
+
+before_next : (cube : List Literal) (i : ℕ) (d : Literal) → IsRising cube → i < length cube → All (λ l. l.variable < (get_or cube i d).variable) (take i cube)
+before_next cube i d r h = λ k e l.
+    let n = length-take-le i cube (omega arith) in
+    subst (λ (x : Literal). x.variable < (get_or cube i d).variable) (get_or_default cube k d e (omega arith) ∙ sym (get_or-take i cube k e (omega arith))) (r k i d (omega arith) h)
+
+pub shorn_before : (k : ℕ) (cube : List Literal) (i : ℕ) (d : Literal) (front : List Literal) → IsRising cube → i < length cube → front ≡ shorn k (take i cube) → All (λ l. l.variable < (get_or cube i d).variable) front
+shorn_before k cube i d front r h e = All-same (λ (l : Literal). l.variable < (get_or cube i d).variable) front (shorn k (take i cube)) e
+    (All-filter (λ l. not (is_whole k l)) (λ (l : Literal). l.variable < (get_or cube i d).variable) (take i cube) (before_next cube i d r h))
+
+pub raised_before : (v high : ℕ) (cube : List Literal) (i : ℕ) (d : Literal) (front : List Literal) → IsRising cube → i < length cube → front ≡ raised v high (take i cube) → All (λ l. l.variable < (get_or cube i d).variable) front
+raised_before v high cube i d front r h e = All-same (λ (l : Literal). l.variable < (get_or cube i d).variable) front (raised v high (take i cube)) e
+    (raised-all v high (λ u. u < (get_or cube i d).variable) (take i cube) (before_next cube i d r h))

@@ -115,11 +115,19 @@ module _ (g : Graph) (few : process_count g ≤ 128) (v : ℕ) (known : IsVariab
           ∙ ap (λ ts. cond (matches c.cube s) (c.time ∷ ts) ts) (sym (times_first d ds s))
           ∙ sym (times_first c (d ∷ ds) s);
       held = λ e m. ⊎_elim
-          (λ (x : c ≡ e). (joined g.faults v c d, Contains-first (joined g.faults v c d) ds, ap (λ (z : Column). z.time) x,
-          subst (λ (z : Column). IsWider g.faults (joined g.faults v c d).cube z.cube) x (wider_first g few v c.cube d.cube good_c good_d touch)))
+          (λ (x : c ≡ e). (
+            joined g.faults v c d,
+            Contains-first (joined g.faults v c d) ds,
+            ap (λ (z : Column). z.time) x,
+            subst (λ (z : Column). IsWider g.faults (joined g.faults v c d).cube z.cube) x (wider_first g few v c.cube d.cube good_c good_d touch),
+          ))
           (λ (n : Contains (d ∷ ds) e). ⊎_elim
-          (λ (x : d ≡ e). (joined g.faults v c d, Contains-first (joined g.faults v c d) ds, time_of g.faults v c d h ∙ ap (λ (z : Column). z.time) x,
-          subst (λ (z : Column). IsWider g.faults (joined g.faults v c d).cube z.cube) x (wider_second g few v c.cube d.cube good_c good_d touch)))
+          (λ (x : d ≡ e). (
+            joined g.faults v c d,
+            Contains-first (joined g.faults v c d) ds,
+            time_of g.faults v c d h ∙ ap (λ (z : Column). z.time) x,
+            subst (λ (z : Column). IsWider g.faults (joined g.faults v c d).cube z.cube) x (wider_second g few v c.cube d.cube good_c good_d touch),
+          ))
           (λ (x : Contains ds e). (e, Contains-rest (joined g.faults v c d) ds e x, refl, wider_itself g.faults e.cube))
           (Contains-cases d ds e n))
           (Contains-cases c (d ∷ ds) e m);

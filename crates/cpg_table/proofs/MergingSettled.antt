@@ -54,8 +54,7 @@ module _ (g : Graph) (few : process_count g ≤ 128) where
       let s = lows g b in
       let i = lows-lawful g few b good_b.cube good_b.met in
       let t = lows-match g few b good_b.cube good_b.met in
-      let n : number_of s v ≡ low_in b v = made_number g few (low_in b) v known (let o = low-le-high g.faults b good_b.met v in let w = high_in-top g.faults b (λ k d m. (good_b.narrow k d m).1) v in omega arith) in
-      (
+      let n : number_of s v ≡ low_in b v = made_number g few (low_in b) v known (let o = low-le-high g.faults b good_b.met v in let w = high_in-top g.faults b (λ k d m. (good_b.narrow k d m).1) v in omega arith) in (
         s,
         i,
         matches_in_ranges g few a s good_a.cube.rising (λ m c. ⊎_elim
@@ -171,8 +170,7 @@ module _ (g : Graph) (few : process_count g ≤ 128) where
             let i = ih_joined (good_joined g few v known c d good_c good_d e) n in
             ⊎_elim
             (λ (f : joined g.faults v c d ≡ i.0).
-            let b : BeginsAs r (joined g.faults v c d) = subst (BeginsAs r) (sym f) i.2 in
-            (
+            let b : BeginsAs r (joined g.faults v c d) = subst (BeginsAs r) (sym f) i.2 in (
               c,
               Contains-first c (d ∷ ds),
               ((beside_total v).congr c (joined g.faults v c d) r (joined_beside c d good_c good_d e) ∙ b.0, b.1 ∙ joined_low c d good_c good_d e),

@@ -47,6 +47,15 @@ abbrev pub walked : ℕ → ℕ → Column → List Column → List Column
 walked k v c [] = c ∷ []
 walked k v c (d ∷ ds) = if is_followed k v c d then walked k v (joined k v c d) ds else c ∷ walked k v d ds
 
+-- the same of all columns
+abbrev pub walked_over : ℕ → ℕ → List Column → List Column
+walked_over k v [] = []
+walked_over k v (c ∷ cs) = walked k v c cs
+
+-- columns without the literals of the whole range
+abbrev pub all_shorn : ℕ → List Column → List Column
+all_shorn k columns = map (λ c. record { time = c.time; cube = shorn k c.cube }) columns
+
 -- columns of which none has a literal of the whole range
 pub record IsShorn (g : Graph) (columns : List Column) : Type 0 where
   pub good : AreMergeable g columns
