@@ -89,7 +89,7 @@ times_of_one t rest false true m n e x y = ap (λ z. cond z (t ∷ rest) rest) (
 times_of_one t rest false false true n e x y = ⊎_elim (λ (h : false ≡ true). cc) (λ (h : false ≡ true). cc) (e refl)
 times_of_one t rest false false false n e x y = refl
 
-times_first : (c : Column) (ds : List Column) (s : Scenario) → times_in (c ∷ ds) s ≡ cond (matches c.cube s) (c.time ∷ times_in ds s) (times_in ds s)
+pub times_first : (c : Column) (ds : List Column) (s : Scenario) → times_in (c ∷ ds) s ≡ cond (matches c.cube s) (c.time ∷ times_in ds s) (times_in ds s)
 times_first c ds s = go (matches c.cube s)
   where
     go : (m : Bool) → map (λ (x : Column). x.time) (cond m (c ∷ filter (λ x. matches x.cube s) ds) (filter (λ x. matches x.cube s) ds)) ≡ cond m (c.time ∷ times_in ds s) (times_in ds s)

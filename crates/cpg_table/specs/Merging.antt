@@ -1,9 +1,9 @@
 -- How rows are merged: columns are sorted so that those which differ in one variable alone stand side by side, and neighbours that touch are made one, variable by variable.
-use Rattle.std.specs.Prelude.{ℕ, ◌+◌, ◌≡◌, ◌≢◌, ◌<◌, ◌⊎◌, Bool, not, ◌&&◌, ◌==◌, if◌then◌else◌, List, [], ◌∷◌, map, filter, length, All, Contains, IsPermutation}
+use Rattle.std.specs.Prelude.{ℕ, ◌+◌, ◌≡◌, ◌≢◌, ◌<◌, ◌≤◌, ◌⊎◌, Bool, not, ◌&&◌, ◌==◌, if◌then◌else◌, List, [], ◌∷◌, map, filter, length, All, Contains, IsPermutation}
 use Rattle.std.specs.declared.cmp.Ordering.{Ordering}
 use Rattle.std.specs.Ordering.{nat_cmp, ordering_then, is_eq}
 use Rattle.std.specs.Cmp.Lexicographic.{slice_cmp}
-use Rattle.cpg_base.specs.Graph.{Graph}
+use Rattle.cpg_base.specs.Graph.{Graph, IsVariable}
 use Rattle.cpg_order.specs.Scenario.{Scenario, IsScenario}
 use Rattle.cpg_cube.specs.declared.literal.Literal.{Literal}
 use Rattle.cpg_cube.specs.Cube.{low_in, high_in, is_whole}
@@ -80,3 +80,13 @@ pub record IsPassed (g : Graph) (over : ℕ → Type 0) (before after : List Col
   pub joins : IsJoinOf g before after
   pub good : IsShorn g after
   pub fewer : (length after < length before) ⊎ (IsPermutation before after × ((v : ℕ) → over v → IsSettledOn g.faults v after))
+
+-- a number from the first on, below the end
+abbrev pub IsBetween : ℕ → ℕ → ℕ → Type 0
+IsBetween first end v = (first ≤ v) × (v < end)
+
+-- joined until no two of one time touch at any variable
+pub record AreSettled (g : Graph) (before after : List Column) : Type 0 where
+  pub joins : IsJoinOf g before after
+  pub good : IsShorn g after
+  pub settled : (v : ℕ) → IsVariable g v → IsSettledOn g.faults v after

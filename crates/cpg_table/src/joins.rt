@@ -12,7 +12,7 @@ use std::cmp::Ordering;
 use std::mem;
 
 /// The variables from this one on are values of conditions.
-const FIRST_VALUE: u8 = 128;
+pub(crate) const FIRST_VALUE: u8 = 128;
 
 /// The greatest number of a variable: of a count the fault number, of a value 1.
 pub(crate) fn top_of(faults: u8, variable: u8) -> u8
