@@ -48,17 +48,17 @@ pairs_apart g columns h = λ i j d l k s is. apart_pairs (λ (c : Column). match
 
 module _ (g : Graph) (few : process_count g ≤ 128) where
   -- where the other ranges are equal, and the second's low is within the first's range, both match some scenario
-  pub share : (v : ℕ) (a b : List Literal) → IsGood g a → IsGood g b → IsVariable g v → ((u : ℕ) → u ≢ v → (low_in a u ≡ low_in b u) × (high_in g.faults a u ≡ high_in g.faults b u)) →
+  pub share : (v : ℕ) (a b : List Literal) → IsGood g a → IsGood g b → ((u : ℕ) → u ≢ v → (low_in a u ≡ low_in b u) × (high_in g.faults a u ≡ high_in g.faults b u)) →
       low_in a v ≤ low_in b v → low_in b v ≤ high_in g.faults a v → (s : Scenario) × IsScenario g s × (matches a s ≡ true) × (matches b s ≡ true)
-  share v a b good_a good_b known others l h =
+  share v a b good_a good_b others l h =
       let s = lows g b in
       let i = lows-lawful g few b good_b.cube good_b.met in
       let t = lows-match g few b good_b.cube good_b.met in
-      let n : number_of s v ≡ low_in b v = made_number g few (low_in b) v known (let o = low-le-high g.faults b good_b.met v in let w = high_in-top g.faults b (λ k d m. (good_b.narrow k d m).1) v in omega arith) in (
+      let n : IsVariable g v → number_of s v ≡ low_in b v = λ known. made_number g few (low_in b) v known (let o = low-le-high g.faults b good_b.met v in let w = high_in-top g.faults b (λ k d m. (good_b.narrow k d m).1) v in omega arith) in (
         s,
         i,
         matches_in_ranges g few a s good_a.cube.rising (λ m c. ⊎_elim
-            (λ (e : m.variable ≡ v). subst (λ w. (low_in a w ≤ number_of s w) × (number_of s w ≤ high_in g.faults a w)) (sym e) (omega arith, omega arith))
+            (λ (e : m.variable ≡ v). let i = n (subst (IsVariable g) e (All-contains (λ (x : Literal). IsVariable g x.variable) a m good_a.cube.known c)) in subst (λ w. (low_in a w ≤ number_of s w) × (number_of s w ≤ high_in g.faults a w)) (sym e) (omega arith, omega arith))
             (λ (z : m.variable ≢ v). let r = ranges_of_match g few b s i t m.variable (All-contains (λ (x : Literal). IsVariable g x.variable) a m good_a.cube.known c) in let o = others m.variable z in (omega arith, omega arith))
             (cases_eq m.variable v)),
         t,
@@ -87,7 +87,7 @@ module _ (g : Graph) (few : process_count g ≤ 128) where
               ⊎_elim
               (λ (x : high_in g.faults c.cube v < low_in d.cube v). x)
               (λ (x : low_in d.cube v ≤ high_in g.faults c.cube v).
-              let r = share v c.cube d.cube good_c good_d known (ranges_beside g.faults v c.cube d.cube same.1) l x in
+              let r = share v c.cube d.cube good_c good_d (ranges_beside g.faults v c.cube d.cube same.1) l x in
               absurd (away r.0 r.1 r.2 r.3))
               (cases_lt (high_in g.faults c.cube v) (low_in d.cube v));
         }

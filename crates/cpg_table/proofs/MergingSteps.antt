@@ -152,7 +152,6 @@ module _ (g : Graph) (few : process_count g ≤ 128) where
 -- ---- steps one after another
 
 module _ (g : Graph) where
-
   settled_permuted : (v : ℕ) (xs ys : List Column) → IsPermutation xs ys → IsSettledOn g.faults v xs → IsSettledOn g.faults v ys
   settled_permuted v xs ys p h = λ c d m n. h c d (Contains-permutation ys xs c (IsPermutation-sym xs ys p) m) (Contains-permutation ys xs d (IsPermutation-sym xs ys p) n)
 
