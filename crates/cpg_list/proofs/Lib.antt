@@ -1,3 +1,4 @@
 pub mod Views
 pub mod Good
 pub mod Told
+pub mod Exactly

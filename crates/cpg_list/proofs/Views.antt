@@ -29,7 +29,7 @@ filter-map_by : {X Y : Type 0} (p : Y → Bool) (f : X → Y) (x : X) (xs : List
 filter-map_by p f x xs true e h = cond-true (p (f x)) _ _ e ∙ ap (λ ys. f x ∷ ys) h ∙ ap (map f) (sym (cond-true (p (f x)) (x ∷ filter (λ z. p (f z)) xs) _ e))
 filter-map_by p f x xs false e h = cond-false (p (f x)) _ _ e ∙ h ∙ ap (map f) (sym (cond-false (p (f x)) (x ∷ filter (λ z. p (f z)) xs) _ e))
 
-filter-map : {X Y : Type 0} (p : Y → Bool) (f : X → Y) (xs : List X) → filter p (map f xs) ≡ map f (filter (λ x. p (f x)) xs)
+pub filter-map : {X Y : Type 0} (p : Y → Bool) (f : X → Y) (xs : List X) → filter p (map f xs) ≡ map f (filter (λ x. p (f x)) xs)
 filter-map p f [] = refl
 filter-map p f (x ∷ xs) = filter-map_by p f x xs (p (f x)) refl (filter-map p f xs)
 

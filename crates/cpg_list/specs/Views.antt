@@ -1,12 +1,16 @@
 -- The views of a process of a plain graph: the ways in which the processes before it may have failed.
-use Rattle.std.specs.Prelude.{ℕ, ◌+◌, ◌-◌, ◌^◌, ◌≢◌, ◌≤◌, ◌<◌, ◌==◌, if◌then◌else◌, List, [], ◌∷◌, map, fold, All}
+use Rattle.std.specs.Prelude.{ℕ, ◌+◌, ◌-◌, ◌^◌, ◌≢◌, ◌≤◌, ◌<◌, ◌≡◌, ◌==◌, if◌then◌else◌, List, [], ◌∷◌, map, fold, All}
 use Rattle.std.specs.List.{flat_map}
 use Rattle.cpg_base.specs.Numbers.{numbers_below}
-use Rattle.cpg_base.specs.Graph.{Graph}
+use Rattle.cpg_base.specs.Graph.{Graph, process_count}
 use Rattle.cpg_base.specs.Duration.{duration}
 use Rattle.cpg_base.specs.Scenario.{Scenario, fault_of}
 use Rattle.cpg_cube.specs.declared.literal.Literal.{Literal}
 use Rattle.cpg_cube.specs.Cover.{narrowed_by}
+use Rattle.cpg_order.specs.Urgency.{before}
+use Rattle.cpg_table.specs.declared.entry.Entry.{Entry}
+use Rattle.cpg_table.specs.Table.{NodeTable, columns_of}
+use Rattle.cpg_table.specs.Merged.{IsMergeOf}
 use Rattle.cpg_table.specs.Heard.{exactly}
 use Rattle.cpg_list.specs.declared.view.View.{View}
 
@@ -40,3 +44,16 @@ pub record MayExtend (g : Graph) (p : ℕ) (v : View) : Type 0 where
   pub few : v.spare ≤ 8
   pub time : v.time < 2 ^ 60
   pub fresh : All (λ l. l.variable ≢ p) v.cube
+
+-- a view as a column
+abbrev pub entry_of : View → Entry
+entry_of v = record { time = v.time; cube = v.cube }
+
+-- the columns of a start, one for each view, before they are merged
+abbrev pub entries_after : Graph → List ℕ → List Entry
+entries_after g ps = map entry_of (views_along g ps)
+
+-- tables in which each process of a plain graph has its views, merged, and nothing else has a row
+pub record AreOfViews (g : Graph) (order : List ℕ) (tables : List NodeTable) : Type 0 where
+  pub rows : (p : ℕ) → p < process_count g → IsMergeOf g order (entries_after g (before order p)) (columns_of tables p)
+  pub others : (x : ℕ) → process_count g ≤ x → columns_of tables x ≡ []

@@ -38,7 +38,7 @@ greatest_over : (f : ℕ → ℕ) (xs ys : List ℕ) → ((x : ℕ) → Contains
 greatest_over f xs ys h = greatest-le (map f xs) (greatest (map f ys))
     (λ v c. let r = Contains-map_parts f xs v c in subst (λ n. n ≤ greatest (map f ys)) r.2 (greatest_above (map f ys) (f r.0) (Contains-map f ys r.0 (h r.0 r.1))))
 
-flat_map_none : {X Y : Type 0} (f : X → List Y) (xs : List X) → ((x : X) → f x ≡ []) → flat_map f xs ≡ []
+pub flat_map_none : {X Y : Type 0} (f : X → List Y) (xs : List X) → ((x : X) → f x ≡ []) → flat_map f xs ≡ []
 flat_map_none f [] h = refl
 flat_map_none f (x ∷ xs) h = ap₂ (λ a b. a ++ b) (h x) (flat_map_none f xs h)
 
