@@ -1,0 +1,29 @@
+-- What a builder of tables answers: exact tables, and the greatest finish and excess of their runs.
+use Rattle.std.specs.Prelude.{ℕ, ◌≡◌, ◌≢◌, ◌≤◌, ◌<◌, List, Some, length, slice_get}
+use Rattle.cpg_base.specs.Graph.{Graph, item_count}
+use Rattle.cpg_order.specs.Reach.{Reach, IsReach, reach_of, views}
+use Rattle.cpg_table.specs.Table.{NodeTable, columns_of}
+use Rattle.cpg_table.specs.Shape.{HasShape}
+use Rattle.cpg_table.specs.Valid.{hear_rows}
+use Rattle.cpg_table.specs.GraphHead.{head_of}
+use Rattle.cpg_run.specs.declared.built.Built.{Built}
+use Rattle.cpg_run.specs.Frozen.{AreFrozenTimes}
+use Rattle.cpg_run.specs.Finish.{IsWorst, IsExcess}
+use Rattle.cpg_run.specs.Exact.{IsExact}
+use Rattle.cpg_run.specs.Laws.{Keeps}
+
+-- the times of the runs in merged rows of at most as many columns as the item has views, under the graph's head; every
+-- rule is kept, but for the one on dues where an end is past its due; scenarios are compared by the urgency order
+pub record IsBuiltFor (g : Graph) (urgency order : List ℕ) (b : Built) : Type 0 where
+  pub head : b.tables.head ≡ head_of g
+  pub shape : HasShape g b.tables.nodes
+  pub frozen : AreFrozenTimes g order b.frozen
+  pub reach : Reach
+  pub reached : IsReach g order reach
+  pub exact : IsExact g urgency order b.frozen reach b.tables.nodes
+  pub views : (x : ℕ) → x < item_count g → length (columns_of b.tables.nodes x) ≤ views g (reach_of reach x)
+  pub worst : IsWorst g urgency order b.frozen b.worst b.worst_in b.worst_by
+  pub excess : IsExcess g urgency order b.frozen b.excess b.excess_in b.excess_by
+  pub rules : (rule : ℕ) → rule ≢ 9 → Keeps rule g b.tables.nodes
+  pub due : b.excess ≡ 0 → Keeps 9 g b.tables.nodes
+  pub hears : (node : ℕ) (t : NodeTable) → slice_get b.tables.nodes node ≡ Some t → t.hears ≡ hear_rows g b.tables.nodes node
