@@ -36,7 +36,7 @@ entry_times : (vs : List View) → map (λ (c : Entry). c.time) (map entry_of vs
 entry_times [] = refl
 entry_times (v ∷ vs) = ap (λ ts. v.time ∷ ts) (entry_times vs)
 
-times_of_entries : (g : Graph) (ps : List ℕ) (s : Scenario) → times_in (entries_after g ps) s ≡ map (λ (v : View). v.time) (filter (λ (v : View). matches v.cube s) (views_along g ps))
+pub times_of_entries : (g : Graph) (ps : List ℕ) (s : Scenario) → times_in (entries_after g ps) s ≡ map (λ (v : View). v.time) (filter (λ (v : View). matches v.cube s) (views_along g ps))
 times_of_entries g ps s = ap (map (λ (c : Entry). c.time)) (filter-map (λ (c : Entry). matches c.cube s) entry_of (views_along g ps)) ∙ entry_times (filter (λ (v : View). matches v.cube s) (views_along g ps))
 
 module _ (g : Graph) (plain : IsPlain g) (within : IsWithinLimits g) (order : List ℕ) (all : IsPermutation (numbers_below (process_count g)) order) (tables : List NodeTable) (of : AreOfViews g order tables) where
@@ -53,6 +53,7 @@ module _ (g : Graph) (plain : IsPlain g) (within : IsWithinLimits g) (order : Li
     where
       is : t ≡ times_in_turn g order s
       is = the_run g plain within order all s (nothing_frozen g) (none_frozen g plain within order all) t run
+
       count : length (times_in_turn g order s).times ≡ process_count g
       count = length-map (numbers_below (process_count g)) (λ p. Some (start_in_turn g order s p)) ∙ length-range_with_len 0 (process_count g)
 
@@ -74,13 +75,13 @@ module _ (g : Graph) (plain : IsPlain g) (within : IsWithinLimits g) (order : Li
       let q : l.variable < process_count g = in_before g plain within order all x l.variable stands in
       let there = one_matches l.variable q s lawful in
       let known_here : Contains (known_at_start g order tables s x) (exactly l.variable (number_of s l.variable)) =
-          known_end g order tables s x l.variable (exactly l.variable (number_of s l.variable)) (subst (λ qs. Contains qs l.variable) (sym (same_node g plain within order all x p)) stands) (told_count g order tables s l.variable there.0 there.1) in
+      known_end g order tables s x l.variable (exactly l.variable (number_of s l.variable)) (subst (λ qs. Contains qs l.variable) (sym (same_node g plain within order all x p)) stands) (told_count g order tables s l.variable there.0 there.1) in
       let known_is : known g order tables s x ≡ known_at_start g order tables s x = ap (known_by_item g order tables s) (item_at-start g x p) in
       let holds_here = from_all (holds s) c.cube l m.1 k in
       let kept = kept_exactly g.faults (known_at_start g order tables s x) l.variable (number_of s l.variable) known_here in
       subst (λ ms. is_supported g.faults ms l ≡ true) (sym known_is)
-          (and_from _ _ (list_any_true (λ m. m.variable == l.variable) (known_at_start g order tables s x) _ known_here (eq-eqb l.variable l.variable refl))
-          (heard_from g.faults (known_at_start g order tables s x) l (omega (arith, kept.0, holds-low s l holds_here)) (omega (arith, kept.1, holds-high s l holds_here))))
+      (and_from _ _ (list_any_true (λ m. m.variable == l.variable) (known_at_start g order tables s x) _ known_here (eq-eqb l.variable l.variable refl))
+      (heard_from g.faults (known_at_start g order tables s x) l (omega (arith, kept.0, holds-low s l holds_here)) (omega (arith, kept.1, holds-high s l holds_here))))
     where
       one_matches : (q : ℕ) → q < process_count g → (s : Scenario) → IsScenario g s → (d : Entry) × Contains (matching tables s q) d
       one_matches q h s lawful =

@@ -120,7 +120,7 @@ module _ (g : Graph) (few : process_count g ≤ 128) where
     ]
 
   module _ (order : List ℕ) (all : IsPermutation (numbers_below (process_count g)) order) where
-    not_yet : (i : ℕ) → i < length order → Contains (take i order) (get_or order i 0) → ⊥
+    pub not_yet : (i : ℕ) → i < length order → Contains (take i order) (get_or order i 0) → ⊥
     not_yet i l c =
         let x : ℕ = get_or order i 0 in
         let long = length-take i order in

@@ -2,3 +2,4 @@ pub mod Views
 pub mod Good
 pub mod Told
 pub mod Exactly
+pub mod Stepping

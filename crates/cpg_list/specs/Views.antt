@@ -1,5 +1,5 @@
 -- The views of a process of a plain graph: the ways in which the processes before it may have failed.
-use Rattle.std.specs.Prelude.{ℕ, ◌+◌, ◌-◌, ◌^◌, ◌≢◌, ◌≤◌, ◌<◌, ◌≡◌, ◌==◌, if◌then◌else◌, List, [], ◌∷◌, map, fold, All}
+use Rattle.std.specs.Prelude.{ℕ, ◌+◌, ◌-◌, ◌^◌, ◌≢◌, ◌≤◌, ◌<◌, ◌≡◌, ◌==◌, if◌then◌else◌, List, [], ◌∷◌, length, get_or, map, fold, All}
 use Rattle.std.specs.List.{flat_map}
 use Rattle.cpg_base.specs.Numbers.{numbers_below}
 use Rattle.cpg_base.specs.Graph.{Graph, process_count}
@@ -9,7 +9,7 @@ use Rattle.cpg_cube.specs.declared.literal.Literal.{Literal}
 use Rattle.cpg_cube.specs.Cover.{narrowed_by}
 use Rattle.cpg_order.specs.Urgency.{before}
 use Rattle.cpg_table.specs.declared.entry.Entry.{Entry}
-use Rattle.cpg_table.specs.Table.{NodeTable, columns_of}
+use Rattle.cpg_table.specs.Table.{Row, NodeTable, columns_of}
 use Rattle.cpg_table.specs.Merged.{IsMergeOf}
 use Rattle.cpg_table.specs.Heard.{exactly}
 use Rattle.cpg_list.specs.declared.view.View.{View}
@@ -57,3 +57,18 @@ entries_after g ps = map entry_of (views_along g ps)
 pub record AreOfViews (g : Graph) (order : List ℕ) (tables : List NodeTable) : Type 0 where
   pub rows : (p : ℕ) → p < process_count g → IsMergeOf g order (entries_after g (before order p)) (columns_of tables p)
   pub others : (x : ℕ) → process_count g ≤ x → columns_of tables x ≡ []
+
+-- the row of a process: its views, merged
+pub record IsRowOf (g : Graph) (order : List ℕ) (p : ℕ) (row : Row) : Type 0 where
+  pub item : row.item ≡ p
+  pub merge : IsMergeOf g order (entries_after g (before order p)) row.columns
+
+-- the rows of the processes at the first places of an order
+pub record AreRowsAlong (g : Graph) (order : List ℕ) (count : ℕ) (rows : List Row) : Type 0 where
+  pub long : length rows ≡ count
+  pub each : (i : ℕ) (d : Row) → i < count → IsRowOf g order (get_or order i 0) (get_or rows i d)
+
+-- the rows of the first processes by number
+pub record AreRowsByNumber (g : Graph) (order : List ℕ) (count : ℕ) (rows : List Row) : Type 0 where
+  pub long : length rows ≡ count
+  pub each : (p : ℕ) (d : Row) → p < count → IsRowOf g order p (get_or rows p d)
