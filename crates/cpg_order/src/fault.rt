@@ -1,6 +1,7 @@
 //! Why a graph has no order.
 ghost use Rattle.std.specs.Prelude.{◌≡◌};
 
+use cpg_base::OutOfMemory;
 use std::marker::Model;
 
 /// Different processes in the order in which edges lead through them, seen as their numbers.
@@ -40,4 +41,15 @@ pub enum OrderFault {
     Cycle(Walk),
     /// Want of memory.
     OutOfMemory,
+}
+
+impl From<OutOfMemory> for OrderFault {
+    ghost use Rattle.std.specs.Prelude.{◌≡◌};
+    ghost use Rattle.cpg_order.specs.declared.fault.OrderFault.TheVariants.{OutOfMemory};
+
+    ghost from_gives = { λ _ e. e ≡ OutOfMemory };
+
+    fn from(_: OutOfMemory) -> Self {
+        OrderFault::OutOfMemory
+    }
 }
