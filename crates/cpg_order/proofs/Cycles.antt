@@ -1,5 +1,5 @@
 -- Cycles: found by a walk against the edges, turned into the direction of the edges, and not there under a topological order.
-use Rattle.std.proofs.Common.{ℕ, zero, suc, ◌+◌, ◌-◌, ◌<◌, ◌≤◌, ◌≡◌, ◌≢◌, ◌⊎◌, inl, inr, Bool, true, false, ◌&&◌, ◌==◌, nat_le, if◌then◌else◌, List, [], ◌∷◌, ◌++◌, length, get_or, drop, map, Contains, arith, refl, sym, ap, ap₂, ◌∙◌, subst, length-append, length-drop, eqb-true, eq-eqb, rules}
+use Rattle.std.proofs.Common.{ℕ, zero, suc, ◌+◌, ◌-◌, ◌<◌, ◌≤◌, ◌≡◌, ◌≢◌, ◌⊎◌, inl, inr, true, false, ◌&&◌, ◌==◌, nat_le, if◌then◌else◌, List, [], ◌∷◌, ◌++◌, length, get_or, drop, map, Contains, arith, refl, sym, ap, ap₂, ◌∙◌, subst, length-append, length-drop, eqb-true, eq-eqb}
 use Rattle.std.specs.List.{AllPairs}
 use Rattle.std.proofs.lemmas.Bool.{cases_lt, cases_order, and_parts, and_from, both_ways, lt-leb}
 use Rattle.std.proofs.lemmas.List.{get_or-drop, get_or_append_left, get_or_default}

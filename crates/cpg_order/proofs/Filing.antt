@@ -17,7 +17,7 @@ module _ (key : ℕ → ℕ) where
       elim (cases_eq i (key n)) [
         | inl e ↦ subst (λ j. get_or (set lists (key n) (with_key n (key n) ++ n ∷ [])) j [] ≡ with_key (n + 1) j) (sym e)
             (get_or-set_same lists (key n) (with_key n (key n) ++ n ∷ []) [] (omega arith)
-                ∙ filter_below_takes (λ x. key x == key n) (with_key n (key n)) (with_key n (key n) ++ n ∷ []) n refl (eq-eqb (key n) (key n) refl) refl)
+            ∙ filter_below_takes (λ x. key x == key n) (with_key n (key n)) (with_key n (key n) ++ n ∷ []) n refl (eq-eqb (key n) (key n) refl) refl)
         | inr other ↦ get_or-set_other lists (key n) i (with_key n (key n) ++ n ∷ []) [] other
             ∙ ap (λ xs. get_or xs i []) is ∙ get_or-map-below (with_key n) k i [] l
             ∙ filter_below_skips (λ x. key x == i) (with_key n i) n refl (ne_eqb (key n) i (λ e. other (sym e)))

@@ -1,19 +1,18 @@
 -- The lengths of the longest ways, found from the last process of a topological order to the first.
-use Rattle.std.proofs.Common.{ℕ, ◌+◌, ◌-◌, ◌*◌, ◌<◌, ◌≤◌, ◌≡◌, inl, inr, Bool, true, false, if◌then◌else◌, List, length, get_or, set, map, Contains, IsPermutation, arith, refl, sym, ap, ap₂, ◌∙◌, subst, length-set, get_or-set_other, get_or-set_same}
+use Rattle.std.proofs.Common.{ℕ, ◌+◌, ◌*◌, ◌<◌, ◌≤◌, ◌≡◌, inl, inr, Bool, true, false, if◌then◌else◌, List, length, get_or, set, map, arith, sym, ap, ◌∙◌, subst, length-set, get_or-set_other, get_or-set_same}
 use Rattle.std.proofs.lemmas.Bool.{cases_eq, cases_lt}
-use Rattle.std.proofs.lemmas.List.{ext_get_or, get_or_past, get_or_default}
+use Rattle.std.proofs.lemmas.List.{ext_get_or, get_or_past}
 use Rattle.std.proofs.lemmas.List.FromFn.{length-map-range_with_len}
 use Rattle.cpg_base.specs.Numbers.{numbers_below, greatest}
-use Rattle.cpg_base.specs.Graph.{Graph, process_count, edge_count, source, target, outputs, is_message}
+use Rattle.cpg_base.specs.Graph.{Graph, process_count, target, outputs, is_message}
 use Rattle.cpg_base.specs.Duration.{duration}
 use Rattle.cpg_base.specs.Bus.{round}
 use Rattle.cpg_base.specs.Limits.{IsWithinLimits}
 use Rattle.cpg_base.proofs.Lists.{same_map, Contains-map_parts, greatest-le, get_or-map-below}
 use Rattle.cpg_base.proofs.Inputs.{outputs_parts}
-use Rattle.cpg_base.proofs.Pairs.{one_place}
 use Rattle.cpg_base.proofs.Bounds.{round-le, duration-le}
 use Rattle.cpg_order.specs.Urgency.{tail, place, IsTopological}
-use Rattle.cpg_order.proofs.Places.{length_order, place-lt, get_or-place, Contains-order, from_order}
+use Rattle.cpg_order.proofs.Places.{length_order, place-lt, get_or-place, Contains-order}
 use Rattle.cpg_order.proofs.Acyclic.{output_goes_up, tail_is}
 
 -- the longest way over an edge from a process, given how long the ways from other processes are
@@ -74,7 +73,7 @@ module _ (g : Graph) (within : IsWithinLimits g) (order : List ℕ) (topological
       low = λ q. elim (cases_eq q p) [
         | inl e ↦
             let same : get_or (set tails p (duration g p 0 + longest_from g tails p)) q 0 ≡ duration g p 0 + longest_from g tails p =
-                ap (λ x. get_or (set tails p (duration g p 0 + longest_from g tails p)) x 0) e ∙ get_or-set_same tails p (duration g p 0 + longest_from g tails p) 0 (omega (arith, are.long)) in
+            ap (λ x. get_or (set tails p (duration g p 0 + longest_from g tails p)) x 0) e ∙ get_or-set_same tails p (duration g p 0 + longest_from g tails p) 0 (omega (arith, are.long)) in
             omega (arith, longest_from-le, duration-le g p 0 within inside (omega arith))
         | inr n ↦ omega (arith, get_or-set_other tails p q (duration g p 0 + longest_from g tails p) 0 n, are.low q)
       ];

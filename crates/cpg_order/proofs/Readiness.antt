@@ -1,5 +1,5 @@
 -- Processes that are put in order one after another: what each waits for, and what there is at the end.
-use Rattle.std.proofs.Common.{ℕ, zero, suc, ◌+◌, ◌-◌, ◌<◌, ◌≤◌, ◌≡◌, ◌≢◌, ◌⊎◌, inl, inr, Bool, true, false, not, cond, ◌==◌, nat_lt, List, [], ◌∷◌, ◌++◌, length, get_or, set, take, filter, Contains, IsPermutation, arith, refl, sym, ap, ◌∙◌, subst, ⊎_elim, true≢false, length-append, length-take, drop, length-set, get_or-set_other, get_or-set_same, eqb-true, eq-eqb, ltb-true, lt-ltb}
+use Rattle.std.proofs.Common.{ℕ, ◌+◌, ◌-◌, ◌<◌, ◌≤◌, ◌≡◌, ◌≢◌, ◌⊎◌, inl, inr, Bool, true, false, not, cond, ◌==◌, List, [], ◌∷◌, ◌++◌, length, get_or, set, take, filter, Contains, IsPermutation, arith, refl, sym, ap, ◌∙◌, subst, true≢false, length-append, length-take, drop, length-set, get_or-set_other, get_or-set_same, eqb-true, eq-eqb}
 use Rattle.std.specs.List.{AllPairs}
 use Rattle.std.proofs.lemmas.Bool.{cases_Bool, cases_eq, cases_lt, both_ways, ne_eqb}
 use Rattle.std.proofs.lemmas.List.{get_or-take, get_or_append_left, get_or_default, take-append-le, take_more, take_all, take-append-drop, get_or_past}
@@ -10,12 +10,12 @@ use Rattle.std.proofs.lemmas.List.Filters.{length-filter_more}
 use Rattle.std.proofs.lemmas.List.Sums.{length-filter, count_by-le-length}
 use Rattle.cpg_base.specs.Numbers.{numbers_below}
 use Rattle.cpg_base.specs.Graph.{Graph, process_count, edge_count, source, target, inputs, outputs}
-use Rattle.cpg_base.proofs.Lists.{Contains-first, Contains-rest, Contains-cases, Contains-nil, Contains-filter, Contains-filter_parts, Contains-numbers, numbers-Contains, any_below}
+use Rattle.cpg_base.proofs.Lists.{Contains-first, Contains-cases, Contains-nil, Contains-filter, Contains-filter_parts, Contains-numbers, numbers-Contains, any_below}
 use Rattle.cpg_base.proofs.Pairs.{AllPairs-append, AllPairs-nil, AllPairs-cons_by, numbers_apart, length-le_of_apart, permutation_of_same}
 use Rattle.cpg_base.proofs.Inputs.{inputs_parts, outputs_parts}
 use Rattle.cpg_order.specs.Reach.{is_in}
 use Rattle.cpg_order.specs.Urgency.{place, IsTopological}
-use Rattle.cpg_order.specs.Settling.{waits, AreReady, StandAfterSources, AreSettled, AreStuck}
+use Rattle.cpg_order.specs.Settling.{waits, AreReady, AreSettled, AreStuck}
 use Rattle.cpg_order.proofs.Along.{is_in_from, from_is_in}
 use Rattle.cpg_order.proofs.Places.{place-lt, get_or-place, comes_before_from}
 
@@ -196,7 +196,7 @@ Contains-take xs i j x l c =
     let b = length-take j xs in
     (c.0, omega (arith, c.1), get_or-take j xs c.0 x (omega (arith, c.1)) ∙ sym (get_or-take i xs c.0 x (omega (arith, c.1))) ∙ c.2)
 
-apart_before : (xs : List ℕ) (d : ℕ) → Apart xs → d < length xs → is_in (take d xs) (get_or xs d 0) ≡ false
+pub apart_before : (xs : List ℕ) (d : ℕ) → Apart xs → d < length xs → is_in (take d xs) (get_or xs d 0) ≡ false
 apart_before xs d apart l = elim (cases_Bool (is_in (take d xs) (get_or xs d 0))) [
   | inl t ↦
       let c = from_is_in (take d xs) (get_or xs d 0) t in
@@ -255,7 +255,7 @@ module _ (g : Graph) (waiting : List ℕ) where
                 let r = listed.free (get_or new k 0) (Contains-get_or new k 0 l) in
                 let none : waits g (take (d + 1) ready) (get_or new k 0) ≡ 0 = sym (counts (get_or new k 0) (subst (λ n. get_or new k 0 < n) (long ∙ are.long) r.0)) ∙ r.1 in
                 Contains-take new (d + 1) k (source g e) (omega arith)
-                    (subst (λ xs. Contains xs (source g e)) (sym (prefix (d + 1) (omega arith))) (sources_settled g (take (d + 1) ready) (get_or new k 0) none e c))
+                (subst (λ xs. Contains xs (source g e)) (sym (prefix (d + 1) (omega arith))) (sources_settled g (take (d + 1) ready) (get_or new k 0) none e c))
           ];
         }
 
@@ -277,7 +277,7 @@ module _ (g : Graph) (waiting ready : List ℕ) (are : AreSettled g (length read
         let t = has_all (process_count g) ready are.listed.apart ready_below long (target g e) (ends e l) in
         let at = get_or-place ready (target g e) 0 t in
         comes_before_from ready (source g e) (target g e) (are.after (place ready (target g e)) (place-lt ready (target g e) t) e
-            (subst (λ q. Contains (inputs g q) e) (sym at) (Contains-filter (λ f. target g f == target g e) (numbers_below (edge_count g)) e (eq-eqb (target g e) (target g e) refl) c)));
+        (subst (λ q. Contains (inputs g q) e) (sym at) (Contains-filter (λ f. target g f == target g e) (numbers_below (edge_count g)) e (eq-eqb (target g e) (target g e) refl) c)));
   }
 
   waits_for : (p : ℕ) → p < process_count g → get_or waiting p 0 ≡ waits g ready p

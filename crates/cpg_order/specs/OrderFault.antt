@@ -1,5 +1,5 @@
 -- What a fault of `urgency` tells.
-use Rattle.std.specs.Prelude.{ℕ, List, ⊤}
+use Rattle.std.specs.Prelude.{⊤}
 use Rattle.cpg_base.specs.Graph.{Graph}
 use Rattle.cpg_order.specs.declared.fault.OrderFault.{OrderFault}
 use Rattle.cpg_order.specs.declared.fault.OrderFault.TheVariants.{Cycle, OutOfMemory}

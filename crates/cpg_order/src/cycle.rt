@@ -105,7 +105,11 @@ fn forwards(alloc: Global, back: &[u32]) -> Result<Vec<u32>, OutOfMemory>
     let mut place = least_place(back);
     for _ in 0..back.len() {
         walk.push(back[place])?;
-        place = if place == 0 { back.len() - 1 } else { place - 1 };
+        place = if place == 0 {
+            back.len() - 1
+        } else {
+            place - 1
+        };
     }
     Ok(walk)
 }

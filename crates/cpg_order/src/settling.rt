@@ -49,11 +49,7 @@ fn ready(alloc: Global, waiting: &[u32]) -> Result<Vec<u32>, OutOfMemory>
 }
 
 /// Takes one input of a process as settled: with the last one the process is ready.
-fn release(
-    process: u32,
-    waiting: &mut Vec<u32>,
-    ready: &mut Vec<u32>,
-) -> Result<(), OutOfMemory>
+fn release(process: u32, waiting: &mut Vec<u32>, ready: &mut Vec<u32>) -> Result<(), OutOfMemory>
     requires waits { 0 < get_or waiting.old.items process 0 }
     requires ready { AreReady waiting.old.items ready.old.items }
     ensures ready { OnOk result (AreReady waiting.new.items ready.new.items) }

@@ -1,6 +1,7 @@
 //! The urgency order of a graph, or a cycle in it.
 ghost use Rattle.std.specs.Prelude.{◌≡◌, ◌≤◌, ℕ, List, IfOk, IfErr, length, map};
 ghost use Rattle.cpg_base.specs.Numbers.{numbers_below};
+ghost use Rattle.cpg_base.specs.Limits.{IsWithinLimits};
 ghost use Rattle.cpg_order.specs.Urgency.{IsUrgencyOrder, IsTopological};
 ghost use Rattle.cpg_order.specs.Cycle.{HasCycle};
 ghost use Rattle.cpg_order.specs.OrderFault.{ShowsCycle};
@@ -56,17 +57,20 @@ fn ranked(alloc: Global, tails: &[u64]) -> Result<Vec<u32>, OutOfMemory>
 {
     let mut ranks = ranks(alloc, tails)?;
     ranks.sort_unstable();
-    processes(alloc, ranks.as_slice())
+    let order = processes(alloc, ranks.as_slice())?;
+    Ok(order)
 }
 
 /// Some topological order of the graph.
 fn topological(alloc: Global, problem: &Problem, links: &Links) -> Result<Order, OrderFault>
     requires { links.now ≡ links_of problem.now }
+    ensures within { IsWithinLimits problem.now }
     ensures order { IfOk result (IsTopological problem.now) }
     ensures cycle { IfErr result (ShowsCycle problem.now) }
 {
+    let count = problem.processes().len();
     let settled = settle(alloc, problem, links)?;
-    if settled.ready.len() < problem.processes().len() {
+    if settled.ready.len() < count {
         let walk = cycle(alloc, problem, links, settled.waiting.as_slice())?;
         return Err(OrderFault::Cycle(Walk::through(walk)));
     }

@@ -1,5 +1,4 @@
-use Rattle.std.proofs.Common.{ℕ, ◌+◌, ◌-◌, ◌<◌, ◌≡◌, ◌⊎◌, inl, inr, ◌∙◌, refl, sym, ap, get_or, length, map, arith}
-use Rattle.std.proofs.lemmas.List.{get_or_default}
+use Rattle.std.proofs.Common.{ℕ, ◌+◌, ◌-◌, ◌<◌, ◌≡◌, inl, inr, ◌∙◌, sym, ap, get_or, length, map, arith}
 use Rattle.cpg_base.specs.Numbers.{numbers_below}
 use Rattle.cpg_base.proofs.Lists.{map_below_push}
 use Rattle.cpg_order.proofs.Cycles.{place_down, down_next, cycle_from_back}
@@ -33,5 +32,5 @@ pub returns : goal.returns
 returns c g is =
     let all : c.loop.counter ≡ length c.args.back.now = omega arith in
     cycle_from_back g c.args.back.now is c.least_place-place.result c.least_place-place.ensures.within c.loop.walk.items
-        (c.loop.invariant.walk ∙ ap (λ n. map (λ k. get_or c.args.back.now (place_down c.least_place-place.result (length c.args.back.now) k) 0) (numbers_below n)) all)
-        c.least_place-place.ensures.least
+    (c.loop.invariant.walk ∙ ap (λ n. map (λ k. get_or c.args.back.now (place_down c.least_place-place.result (length c.args.back.now) k) 0) (numbers_below n)) all)
+    c.least_place-place.ensures.least

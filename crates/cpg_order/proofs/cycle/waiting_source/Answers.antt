@@ -1,4 +1,4 @@
-use Rattle.std.proofs.Common.{◌+◌, ◌<◌, ◌≡◌, ◌∙◌, sym, ap, subst, get_or, length, Contains, true, arith}
+use Rattle.std.proofs.Common.{◌<◌, ◌≡◌, ◌∙◌, sym, ap, subst, get_or, length, Contains, true, arith}
 use Rattle.std.proofs.lemmas.List.{get_or_default}
 use Rattle.std.proofs.lemmas.List.Elements.{Contains-get_or}
 use Rattle.cpg_base.specs.Graph.{source, inputs}
@@ -11,14 +11,14 @@ pub source-source-requires : goal.source-source-requires
 source-source-requires c =
     let is = c.inputs-edge-items.ensures.of_graph c.args.problem.now c.requires.links in
     (inputs_parts c.args.problem.now c.args.process (get_or c.inputs-edge-items.result.now c.loop-edge.edge-index 0)
-        (subst (λ xs. Contains xs (get_or c.inputs-edge-items.result.now c.loop-edge.edge-index 0)) is (Contains-get_or c.inputs-edge-items.result.now c.loop-edge.edge-index 0 c.loop-edge-test.true))).0
+    (subst (λ xs. Contains xs (get_or c.inputs-edge-items.result.now c.loop-edge.edge-index 0)) is (Contains-get_or c.inputs-edge-items.result.now c.loop-edge.edge-index 0 c.loop-edge-test.true))).0
 
 pub returns-then-waiting-source-gt0-clause-edge : goal.returns-then-waiting-source-gt0-clause-edge
 returns-then-waiting-source-gt0-clause-edge c =
     let is = c.inputs-edge-items.ensures.of_graph c.args.problem.now c.requires.links in
     subst (λ p. has_edge c.args.problem.now p c.args.process ≡ true) (sym c.source-source.ensures.source)
-        (has_edge_of_input c.args.problem.now c.args.process (get_or c.inputs-edge-items.result.now c.loop-edge.edge-index 0)
-            (subst (λ xs. Contains xs (get_or c.inputs-edge-items.result.now c.loop-edge.edge-index 0)) is (Contains-get_or c.inputs-edge-items.result.now c.loop-edge.edge-index 0 c.loop-edge-test.true)))
+    (has_edge_of_input c.args.problem.now c.args.process (get_or c.inputs-edge-items.result.now c.loop-edge.edge-index 0)
+    (subst (λ xs. Contains xs (get_or c.inputs-edge-items.result.now c.loop-edge.edge-index 0)) is (Contains-get_or c.inputs-edge-items.result.now c.loop-edge.edge-index 0 c.loop-edge-test.true)))
 
 pub unreachable-requires : goal.unreachable-requires
 unreachable-requires c =

@@ -1,4 +1,4 @@
-use Rattle.std.proofs.Common.{ℕ, List, Option, ◌<◌, ◌≡◌, ◌∙◌, ◌==◌, refl, sym, ap, subst, get_or, length, false, Some, None, position, arith, eqb-true, length-append, ◌∷◌, []}
+use Rattle.std.proofs.Common.{ℕ, List, Option, ◌≡◌, ◌∙◌, ◌==◌, sym, ap, length, false, Some, position, arith, eqb-true, length-append, ◌∷◌, []}
 use Rattle.std.proofs.lemmas.Bool.{false_from_ne_true}
 use Rattle.std.proofs.lemmas.List.Quantifiers.{position-Some}
 use Rattle.cpg_base.specs.Graph.{process_count}

@@ -7,7 +7,7 @@ abbrev pub invariant-loop-from : goal.invariant-loop-from
 invariant-loop-from l = record {
   walk : IsWalkBack l.problem l.walk.items l.process;
   within : l.process < process_count l.problem;
-  waits : 0 < get_or l.waiting l.process 0
+  waits : 0 < get_or l.waiting l.process 0;
 }
 
 abbrev pub decreases-loop-from : goal.decreases-loop-from

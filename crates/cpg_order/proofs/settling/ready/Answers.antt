@@ -1,4 +1,4 @@
-use Rattle.std.proofs.Common.{◌≡◌, ◌∙◌, ◌==◌, ap, filter, get_or, length, arith, eq-eqb, subst}
+use Rattle.std.proofs.Common.{◌≡◌, ◌∙◌, ◌==◌, ap, filter, get_or, length, arith, eq-eqb}
 use Rattle.std.proofs.lemmas.Bool.{ne_eqb}
 use Rattle.cpg_base.specs.Numbers.{numbers_below}
 use Rattle.cpg_base.proofs.Lists.{filter_below_takes, filter_below_skips}
@@ -18,4 +18,4 @@ pub returns : goal.returns
 returns c =
     let at : c.loop-process.process ≡ length c.args.waiting.now = omega arith in
     ready_first c.args.waiting.now c.loop-process.ready.items
-        (c.loop-process.invariant ∙ ap (λ n. filter (λ p. get_or c.args.waiting.now p 0 == 0) (numbers_below n)) at)
+    (c.loop-process.invariant ∙ ap (λ n. filter (λ p. get_or c.args.waiting.now p 0 == 0) (numbers_below n)) at)

@@ -1,4 +1,4 @@
-use Rattle.std.proofs.Common.{ℕ, List, ◌+◌, ◌<◌, ◌≤◌, ◌≡◌, ◌==◌, ◌∙◌, ◌++◌, refl, sym, ap, length, get_or, take, filter, true, arith, eq-eqb, append_assoc, length-set}
+use Rattle.std.proofs.Common.{ℕ, List, ◌+◌, ◌<◌, ◌≤◌, ◌≡◌, ◌==◌, ◌∙◌, ◌++◌, sym, ap, length, get_or, take, arith, eq-eqb, append_assoc, length-set}
 use Rattle.std.proofs.lemmas.List.{take_all}
 use Rattle.std.proofs.lemmas.List.Elements.{Contains-get_or}
 use Rattle.cpg_base.specs.Graph.{target}
@@ -21,7 +21,7 @@ release-requires-clause-waits c = next_waits c.args.edges.now c.loop-edge.waitin
 pub loop-edge-preserved : goal.loop-edge-preserved
 loop-edge-preserved c =
     let some = next_waits c.args.edges.now c.loop-edge.waiting.items (target c.args.problem.now) c.loop-edge.edge-index c.target.result (get_or c.args.waiting.now.items c.target.result 0)
-        c.loop-edge-test.true c.target.ensures.target (c.requires.wait c.target.result) (c.loop-edge.invariant.left c.target.result) in
+    c.loop-edge-test.true c.target.ensures.target (c.requires.wait c.target.result) (c.loop-edge.invariant.left c.target.result) in
     record {
       ready = c.in_ok-release.ensures.ready;
       long = ap length c.in_ok-release.ensures.waiting ∙ length-set c.loop-edge.waiting.items c.target.result _ ∙ c.loop-edge.invariant.long;

@@ -1,7 +1,6 @@
-use Rattle.std.proofs.Common.{ℕ, ◌+◌, ◌-◌, ◌<◌, ◌≤◌, ◌≡◌, ◌==◌, ◌∙◌, ◌++◌, refl, sym, ap, subst, length, get_or, Contains, arith}
-use Rattle.std.proofs.lemmas.List.{take_all, get_or_default}
+use Rattle.std.proofs.Common.{ℕ, ◌+◌, ◌<◌, ◌≤◌, ◌==◌, ◌∙◌, sym, ap, subst, length, get_or, Contains, arith}
+use Rattle.std.proofs.lemmas.List.{get_or_default}
 use Rattle.std.proofs.lemmas.List.FromFn.{length-map-range_with_len}
-use Rattle.std.proofs.lemmas.List.Elements.{Contains-get_or}
 use Rattle.cpg_base.specs.Graph.{process_count, inputs, outputs, target}
 use Rattle.cpg_base.proofs.Lists.{get_or-map-below}
 use Rattle.cpg_base.proofs.Inputs.{outputs_parts}
@@ -19,9 +18,9 @@ pub loop-settled-init : goal.loop-settled-init
 loop-settled-init c =
     let count : ℕ → ℕ = λ p. length (inputs c.args.problem.now p) in
     settled_first c.args.problem.now c.in_ok-waiting.waiting.items c.in_ok-ready.ready.items
-        (ap length c.in_ok-waiting.ensures.counts ∙ length-map-range_with_len count 0 (process_count c.args.problem.now))
-        (λ p l. ap (λ xs. get_or xs p 0) c.in_ok-waiting.ensures.counts ∙ get_or-map-below count (process_count c.args.problem.now) p 0 l)
-        (subst (λ xs. AreReady xs c.in_ok-ready.ready.items) c.as_slice.ensures.value c.in_ok-ready.ensures)
+    (ap length c.in_ok-waiting.ensures.counts ∙ length-map-range_with_len count 0 (process_count c.args.problem.now))
+    (λ p l. ap (λ xs. get_or xs p 0) c.in_ok-waiting.ensures.counts ∙ get_or-map-below count (process_count c.args.problem.now) p 0 l)
+    (subst (λ xs. AreReady xs c.in_ok-ready.ready.items) c.as_slice.ensures.value c.in_ok-ready.ensures)
 
 -- the next process, and the edges that lead away from it
 pub outputs-requires : goal.outputs-requires
@@ -41,8 +40,8 @@ release_all-requires-clause-wait c p =
     let at = c.index-process.ensures ∙ get_or_default c.loop-settled.ready.items c.loop-settled.settled c.index-process.result.now 0 l in
     rw (c.outputs.ensures.of_graph c.args.problem.now c.requires)
     (subst (λ q. passing (λ e. target c.args.problem.now e == p) (outputs c.args.problem.now q) ≤ get_or c.loop-settled.waiting.items p 0) (sym at)
-        (enough c.args.problem.now c.loop-settled.waiting.items c.loop-settled.settled c.loop-settled.ready.items c.loop-settled.invariant l
-            (λ e k. (c.in_ok-waiting.ensures.within.edges e _ k).to) p))
+    (enough c.args.problem.now c.loop-settled.waiting.items c.loop-settled.settled c.loop-settled.ready.items c.loop-settled.invariant l
+    (λ e k. (c.in_ok-waiting.ensures.within.edges e _ k).to) p))
 
 pub loop-settled-smaller : goal.loop-settled-smaller
 loop-settled-smaller c =
@@ -54,6 +53,6 @@ loop-settled-preserved c =
     let l : c.loop-settled.settled < length c.loop-settled.ready.items = omega arith in
     let at = c.index-process.ensures ∙ get_or_default c.loop-settled.ready.items c.loop-settled.settled c.index-process.result.now 0 l in
     settled_more c.args.problem.now c.loop-settled.waiting.items c.loop-settled.settled c.loop-settled.ready.items c.loop-settled.invariant l
-        c.release_all.new.waiting.items c.release_all.new.ready.items c.in_ok-release_all.ensures.longer.0 c.in_ok-release_all.ensures.longer.1 c.in_ok-release_all.ensures.long c.in_ok-release_all.ensures.ready
-        (λ q. ap (λ xs. get_or c.release_all.new.waiting.items q 0 + passing (λ e. target c.args.problem.now e == q) xs)
-            (sym (c.outputs.ensures.of_graph c.args.problem.now c.requires ∙ ap (outputs c.args.problem.now) at)) ∙ c.in_ok-release_all.ensures.waiting q)
+    c.release_all.new.waiting.items c.release_all.new.ready.items c.in_ok-release_all.ensures.longer.0 c.in_ok-release_all.ensures.longer.1 c.in_ok-release_all.ensures.long c.in_ok-release_all.ensures.ready
+    (λ q. ap (λ xs. get_or c.release_all.new.waiting.items q 0 + passing (λ e. target c.args.problem.now e == q) xs)
+    (sym (c.outputs.ensures.of_graph c.args.problem.now c.requires ∙ ap (outputs c.args.problem.now) at)) ∙ c.in_ok-release_all.ensures.waiting q)

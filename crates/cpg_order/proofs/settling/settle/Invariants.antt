@@ -1,4 +1,4 @@
-use Rattle.std.proofs.Common.{◌-◌, length}
+use Rattle.std.proofs.Common.{◌-◌}
 use Rattle.cpg_base.specs.Graph.{process_count}
 use Rattle.cpg_order.specs.Settling.{AreSettled}
 use Rattle.cpg_order.proofs.settling.settle.Given as goal

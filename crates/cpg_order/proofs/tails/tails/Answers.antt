@@ -1,14 +1,11 @@
-use Rattle.std.proofs.Common.{ℕ, ◌+◌, ◌-◌, ◌*◌, ◌<◌, ◌≤◌, ◌≡◌, ◌∙◌, refl, sym, ap, ap₂, subst, get_or, length, Contains, set, arith, replicate, rules}
+use Rattle.std.proofs.Common.{◌+◌, ◌<◌, ◌≡◌, ◌∙◌, sym, ap, ap₂, subst, get_or, length, Contains, set, arith, replicate, rules}
 use Rattle.std.proofs.lemmas.List.{get_or-replicate, length-replicate}
-use Rattle.cpg_base.specs.Numbers.{greatest}
-use Rattle.cpg_base.specs.Graph.{process_count, target, is_message, outputs}
-use Rattle.cpg_base.specs.Duration.{duration}
-use Rattle.cpg_base.specs.Bus.{round}
+use Rattle.cpg_base.specs.Graph.{process_count}
 use Rattle.cpg_base.proofs.Bounds.{round-le, duration-le}
 use Rattle.cpg_base.proofs.Inputs.{outputs_parts}
 use Rattle.cpg_order.specs.Urgency.{place}
 use Rattle.cpg_order.proofs.Places.{length_order}
-use Rattle.cpg_order.proofs.LongestWays.{AreFound, longest_from, longest_from-le, way_is, none_found, found_more, all_found}
+use Rattle.cpg_order.proofs.LongestWays.{AreFound, longest_from-le, way_is, none_found, found_more, all_found}
 use Rattle.cpg_order.proofs.tails.tails.Goals as goal
 
 pub loop-done-init : goal.loop-done-init
@@ -16,8 +13,8 @@ loop-done-init c =
     let count = ap length c.processes-count.ensures.processes in
     let zeros : c.in_ok-tails.tails.items ≡ replicate (length c.processes-count.result.now) 0 = search rules in
     none_found c.args.problem.now c.processes-count.ensures.within c.args.order.now c.requires.order c.in_ok-tails.tails.items
-        (ap length zeros ∙ length-replicate (length c.processes-count.result.now) 0 ∙ count)
-        (λ p l. ap (λ xs. get_or xs p 0) zeros ∙ get_or-replicate (length c.processes-count.result.now) p 0 0 (omega arith))
+    (ap length zeros ∙ length-replicate (length c.processes-count.result.now) 0 ∙ count)
+    (λ p l. ap (λ xs. get_or xs p 0) zeros ∙ get_or-replicate (length c.processes-count.result.now) p 0 0 (omega arith))
 
 pub at-process-requires : goal.at-process-requires
 at-process-requires c = omega (arith, ap length c.processes-count.ensures.processes, length_order (process_count c.args.problem.now) c.args.order.now c.requires.order.all)
@@ -47,9 +44,14 @@ overflow_add-duration c =
     let inside : c.at-process.result < process_count c.args.problem.now = omega (arith, length_order (process_count c.args.problem.now) c.args.order.now c.requires.order.all) in
     let at : place c.args.order.now c.at-process.result + c.loop-done.done + 1 ≡ process_count c.args.problem.now = omega (arith, c.at-process.ensures.back, ap length c.processes-count.ensures.processes) in
     let way = c.longest-way.ensures ∙ way_is c.args.problem.now c.round-turn.result c.at-process.result c.outputs.result.now c.as_slice.result.now c.loop-done.tails.items
-        c.round-turn.ensures c.as_slice.ensures.value (c.outputs.ensures.of_graph c.args.problem.now c.requires.links) in
-    omega (arith, c.duration.ensures, duration-le c.args.problem.now c.at-process.result 0 c.processes-count.ensures.within inside (omega arith), c.processes-count.ensures.within.few_processes,
-        longest_from-le c.args.problem.now c.processes-count.ensures.within c.args.order.now c.requires.order c.loop-done.tails.items c.loop-done.done c.at-process.result c.loop-done.invariant inside at)
+    c.round-turn.ensures c.as_slice.ensures.value (c.outputs.ensures.of_graph c.args.problem.now c.requires.links) in
+    omega (
+      arith,
+      c.duration.ensures,
+      duration-le c.args.problem.now c.at-process.result 0 c.processes-count.ensures.within inside (omega arith),
+      c.processes-count.ensures.within.few_processes,
+      longest_from-le c.args.problem.now c.processes-count.ensures.within c.args.order.now c.requires.order c.loop-done.tails.items c.loop-done.done c.at-process.result c.loop-done.invariant inside at,
+    )
 
 pub index_mut-requires : goal.index_mut-requires
 index_mut-requires c = omega (arith, c.loop-done.invariant.long, length_order (process_count c.args.problem.now) c.args.order.now c.requires.order.all)
@@ -59,12 +61,12 @@ loop-done-preserved c =
     let inside : c.at-process.result < process_count c.args.problem.now = omega (arith, length_order (process_count c.args.problem.now) c.args.order.now c.requires.order.all) in
     let at : place c.args.order.now c.at-process.result + c.loop-done.done + 1 ≡ process_count c.args.problem.now = omega (arith, c.at-process.ensures.back, ap length c.processes-count.ensures.processes) in
     let way = c.longest-way.ensures ∙ way_is c.args.problem.now c.round-turn.result c.at-process.result c.outputs.result.now c.as_slice.result.now c.loop-done.tails.items
-        c.round-turn.ensures c.as_slice.ensures.value (c.outputs.ensures.of_graph c.args.problem.now c.requires.links) in
+    c.round-turn.ensures c.as_slice.ensures.value (c.outputs.ensures.of_graph c.args.problem.now c.requires.links) in
     subst (λ x. AreFound c.args.problem.now c.args.order.now (set c.loop-done.tails.items c.at-process.result x) (c.loop-done.done + 1)) (sym (ap₂ ◌+◌ c.duration.ensures way))
-        (found_more c.args.problem.now c.processes-count.ensures.within c.args.order.now c.requires.order c.loop-done.tails.items c.loop-done.done c.at-process.result c.loop-done.invariant inside at)
+    (found_more c.args.problem.now c.processes-count.ensures.within c.args.order.now c.requires.order c.loop-done.tails.items c.loop-done.done c.at-process.result c.loop-done.invariant inside at)
 
 pub returns : goal.returns
 returns c =
     let count = ap length c.processes-count.ensures.processes in
     all_found c.args.problem.now c.processes-count.ensures.within c.args.order.now c.requires.order c.loop-done.tails.items
-        (let e : c.loop-done.done ≡ process_count c.args.problem.now = omega arith in subst (AreFound c.args.problem.now c.args.order.now c.loop-done.tails.items) e c.loop-done.invariant)
+    (let e : c.loop-done.done ≡ process_count c.args.problem.now = omega arith in subst (AreFound c.args.problem.now c.args.order.now c.loop-done.tails.items) e c.loop-done.invariant)

@@ -1,4 +1,4 @@
-use Rattle.std.proofs.Common.{ℕ, List, ◌≡◌, ◌<◌, ◌+◌, ◌∙◌, refl, sym, ap, ap₂, subst, get_or, length, map, arith, None, false}
+use Rattle.std.proofs.Common.{ℕ, List, ◌≡◌, ◌∙◌, refl, ap, length, map, arith, None, false}
 use Rattle.cpg_base.specs.Numbers.{numbers_below}
 use Rattle.cpg_base.specs.Graph.{process_count, edge_count, inputs, outputs, source, target}
 use Rattle.cpg_order.specs.Links.{EdgeLists}
@@ -34,7 +34,7 @@ pub returns : goal.returns
 returns c =
     let all : c.loop-e.e ≡ edge_count c.args.problem.now = omega (arith, ap length c.edges-edge-items.ensures.edges) in
     same_lists (length c.loop-e.inputs.items) (process_count c.args.problem.now) c.loop-e.inputs.items (map (inputs c.args.problem.now) (numbers_below (process_count c.args.problem.now)))
-        c.loop-e.outputs.items (map (outputs c.args.problem.now) (numbers_below (process_count c.args.problem.now)))
-        (length_filed (target c.args.problem.now) c.loop-e.e (process_count c.args.problem.now) c.loop-e.inputs.items c.loop-e.invariant.inputs)
-        (c.loop-e.invariant.inputs ∙ ap (λ e. map (with_key (target c.args.problem.now) e) (numbers_below (process_count c.args.problem.now))) all)
-        (c.loop-e.invariant.outputs ∙ ap (λ e. map (with_key (source c.args.problem.now) e) (numbers_below (process_count c.args.problem.now))) all)
+    c.loop-e.outputs.items (map (outputs c.args.problem.now) (numbers_below (process_count c.args.problem.now)))
+    (length_filed (target c.args.problem.now) c.loop-e.e (process_count c.args.problem.now) c.loop-e.inputs.items c.loop-e.invariant.inputs)
+    (c.loop-e.invariant.inputs ∙ ap (λ e. map (with_key (target c.args.problem.now) e) (numbers_below (process_count c.args.problem.now))) all)
+    (c.loop-e.invariant.outputs ∙ ap (λ e. map (with_key (source c.args.problem.now) e) (numbers_below (process_count c.args.problem.now))) all)

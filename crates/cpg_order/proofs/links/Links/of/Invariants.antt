@@ -7,5 +7,5 @@ use Rattle.cpg_order.proofs.links.Links.of.Given as goal
 abbrev pub invariant-loop-e : goal.invariant-loop-e
 invariant-loop-e l = record {
   inputs : l.inputs.items ≡ map (with_key (target l.problem) l.e) (numbers_below (process_count l.problem));
-  outputs : l.outputs.items ≡ map (with_key (source l.problem) l.e) (numbers_below (process_count l.problem))
+  outputs : l.outputs.items ≡ map (with_key (source l.problem) l.e) (numbers_below (process_count l.problem));
 }
