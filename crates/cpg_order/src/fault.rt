@@ -5,7 +5,7 @@ use cpg_base::OutOfMemory;
 use std::marker::Model;
 
 /// Different processes in the order in which edges lead through them, seen as their numbers.
-#[derive(Drop)]
+#[derive(Debug, Drop)]
 pub struct Walk {
     processes: Vec<u32>,
 }
@@ -35,7 +35,7 @@ impl Walk {
 }
 
 /// Why there is no urgency order.
-#[derive(Drop)]
+#[derive(Debug, Drop)]
 pub enum OrderFault {
     /// The edges lead around in a cycle: this one, the least process first.
     Cycle(Walk),
