@@ -1,6 +1,9 @@
 //! Each call once, on small graphs worked by hand.
 
-use crate::{Links, Order, OrderFault, ordered, tail, urgency};
+ghost use Rattle.std.specs.Prelude.{◌≡◌, IfOk};
+ghost use Rattle.cpg_base.specs.Graph.{process_count};
+
+use crate::{Links, OrderFault, Walk, ordered, tail, urgency};
 use cpg_base::{Edge, Name, OutOfMemory, Problem, Process, Slot};
 use std::alloc::Global;
 use std::test::Fail;
@@ -47,7 +50,9 @@ fn slot(node: u32) -> Slot {
 }
 
 /// Four processes on two nodes: A decides between B, on the other node, and C, and J joins both.
-fn choice(alloc: Global, last: Edge) -> Result<Problem, Fail> {
+fn choice(alloc: Global, last: Edge) -> Result<Problem, Fail>
+    ensures { IfOk result (λ g. process_count g ≡ 4) }
+{
     let mut nodes = Vec::new(alloc);
     nodes.push(name(alloc, "N1")?)?;
     nodes.push(name(alloc, "N2")?)?;
@@ -78,25 +83,28 @@ fn orders_by_urgency(rt: HostRuntime) -> Result<(), Fail> {
     assert_eq!(rt; order.copy()?.len(), 4);
     assert_eq!(rt; order.place(1), 2);
     assert_eq!(rt; order.at(2), 1);
-    for (process, length) in [(0, 80), (1, 25), (2, 45), (3, 10)] {
-        assert_eq!(rt; tail(alloc, &problem, &order, process)?, length);
-    }
+    assert_eq!(rt; tail(alloc, &problem, &order, 0)?, 80);
+    assert_eq!(rt; tail(alloc, &problem, &order, 1)?, 25);
+    assert_eq!(rt; tail(alloc, &problem, &order, 2)?, 45);
+    assert_eq!(rt; tail(alloc, &problem, &order, 3)?, 10);
     Ok(())
+}
+
+fn cycle(alloc: Global, problem: &Problem) -> Result<Walk, Fail> {
+    match urgency(alloc, problem) {
+        Err(OrderFault::Cycle(walk)) => Ok(walk),
+        Err(OrderFault::OutOfMemory) => Err(Fail::from(OutOfMemory)),
+        Ok(_order) => Err(Fail::from(OutOfMemory)),
+    }
 }
 
 #[test]
 fn shows_a_cycle(rt: HostRuntime) -> Result<(), Fail> {
     let alloc = rt.alloc();
-    let problem = choice(alloc, edge(3, 1, None))?;
-    match urgency(alloc, &problem) {
-        Err(OrderFault::Cycle(walk)) => assert_eq!(rt; walk.processes(), [1, 3].as_slice()),
-        _ => assert!(rt; false),
-    }
-    let problem = choice(alloc, edge(2, 2, None))?;
-    match urgency(alloc, &problem) {
-        Err(OrderFault::Cycle(walk)) => assert_eq!(rt; walk.processes(), [2].as_slice()),
-        _ => assert!(rt; false),
-    }
+    let walk = cycle(alloc, &choice(alloc, edge(3, 1, None))?)?;
+    assert_eq!(rt; walk.processes(), [1, 3].as_slice());
+    let walk = cycle(alloc, &choice(alloc, edge(2, 2, None))?)?;
+    assert_eq!(rt; walk.processes(), [2].as_slice());
     Ok(())
 }
 
