@@ -1,11 +1,14 @@
 -- Where processes stand in an order: each at one place, and one at each place.
-use Rattle.std.proofs.Common.{ℕ, ◌+◌, ◌<◌, ◌≡◌, List, length, get_or, set, arith, sym, ap, ◌∙◌, subst, get_or-set_other, get_or-set_same, length-set, inl, inr}
+use Rattle.std.proofs.Common.{ℕ, ◌+◌, ◌<◌, ◌≡◌, List, length, get_or, set, IsPermutation, arith, sym, ap, ◌∙◌, subst, get_or-set_other, get_or-set_same, length-set, inl, inr}
 use Rattle.std.proofs.lemmas.List.Elements.{Contains-get_or}
 use Rattle.std.proofs.lemmas.Bool.{cases_eq}
+use Rattle.cpg_base.specs.Numbers.{numbers_below}
+use Rattle.cpg_base.specs.Graph.{Graph, process_count}
+use Rattle.cpg_base.specs.Limits.{IsWithinLimits}
 use Rattle.cpg_base.proofs.Pairs.{one_place}
 use Rattle.cpg_order.specs.Urgency.{place}
 use Rattle.cpg_order.specs.Order.{IsOrder, ArePlaces}
-use Rattle.cpg_order.proofs.Places.{get_or-place, place-lt, Contains-order, from_order}
+use Rattle.cpg_order.proofs.Places.{get_or-place, place-lt, length_order, Contains-order, from_order}
 
 -- the places of the processes before the place k are written down
 pub record AreWritten (order places : List ℕ) (k : ℕ) : Type 0 where
@@ -45,3 +48,9 @@ module _ (order : List ℕ) (lawful : IsOrder order) where
     long = w.long;
     there = λ p h. sym (ap (λ q. get_or places q 0) (at_place p h)) ∙ w.there (place order p) (place_within p h);
   }
+
+-- all processes of a graph are an order
+pub order_of_all : (g : Graph) → IsWithinLimits g → (order : List ℕ) → IsPermutation (numbers_below (process_count g)) order → IsOrder order
+order_of_all g within order all =
+    let long = length_order (process_count g) order all in
+    record { few = omega (arith, within.few_processes); all = subst (λ n. IsPermutation (numbers_below n) order) (sym long) all }

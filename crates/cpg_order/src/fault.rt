@@ -1,10 +1,11 @@
 //! Why a graph has no order.
 ghost use Rattle.std.specs.Prelude.{◌≡◌};
 
+use cpg_base::OutOfMemory;
 use std::marker::Model;
 
 /// Different processes in the order in which edges lead through them, seen as their numbers.
-#[derive(Drop)]
+#[derive(Debug, Drop)]
 pub struct Walk {
     processes: Vec<u32>,
 }
@@ -34,10 +35,21 @@ impl Walk {
 }
 
 /// Why there is no urgency order.
-#[derive(Drop)]
+#[derive(Debug, Drop)]
 pub enum OrderFault {
     /// The edges lead around in a cycle: this one, the least process first.
     Cycle(Walk),
     /// Want of memory.
     OutOfMemory,
+}
+
+impl From<OutOfMemory> for OrderFault {
+    ghost use Rattle.std.specs.Prelude.{◌≡◌};
+    ghost use Rattle.cpg_order.specs.declared.fault.OrderFault.TheVariants.{OutOfMemory};
+
+    ghost from_gives = { λ _ e. e ≡ OutOfMemory };
+
+    fn from(_: OutOfMemory) -> Self {
+        OrderFault::OutOfMemory
+    }
 }

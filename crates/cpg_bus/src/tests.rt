@@ -1,0 +1,53 @@
+//! Each call once, on small rounds worked by hand and on the longest one.
+ghost use Rattle.std.specs.Prelude.{◌≡◌, IfOk, ◌∷◌, []};
+
+use crate::{Share, arrival, first_from, next_slot, occurrence};
+use cpg_base::{Name, OutOfMemory, Problem, Slot};
+use std::alloc::Global;
+use std::test::Fail;
+
+fn node(alloc: Global, text: &str) -> Result<Name, Fail> {
+    match Name::new(alloc, text)? {
+        Some(name) => Ok(name),
+        None => Err(Fail::from(OutOfMemory)),
+    }
+}
+
+fn slot(node: u32, length: u64) -> Slot
+    ensures { result ≡ record { node = node; length = length; bytes = 8 } }
+{
+    Slot {
+        node,
+        length,
+        bytes: 8,
+    }
+}
+
+/// Two nodes; the second one sends first.
+fn two_nodes(alloc: Global) -> Result<Problem, Fail>
+    ensures { IfOk result (λ g. g.slots ≡ record { node = 1; length = 10; bytes = 8 } ∷ record { node = 0; length = 1000000000; bytes = 8 } ∷ []) }
+{
+    let mut nodes = Vec::new(alloc);
+    nodes.push(node(alloc, "N1")?)?;
+    nodes.push(node(alloc, "N2")?)?;
+    let slots = vec![in alloc; slot(1, 10), slot(0, 1_000_000_000)]?;
+    match Problem::new(0, 0, nodes, slots, Vec::new(alloc), Vec::new(alloc)) {
+        Some(problem) => Ok(problem),
+        None => Err(Fail::from(OutOfMemory)),
+    }
+}
+
+#[test]
+fn finds_slots(rt: HostRuntime) -> Result<(), Fail> {
+    let problem = two_nodes(rt.alloc())?;
+    assert_eq!(rt; occurrence(&problem, 0, 0), 10);
+    assert_eq!(rt; occurrence(&problem, 0, 2), 2_000_000_030);
+    assert_eq!(rt; arrival(&problem, 1, 1), 1_000_000_020);
+    assert_eq!(rt; first_from(&problem, 0, 0), 0);
+    assert_eq!(rt; first_from(&problem, 0, 10), 0);
+    assert_eq!(rt; first_from(&problem, 0, 11), 1);
+    assert_eq!(rt; next_slot(&problem, 1, 10), 1_000_000_010);
+    assert_eq!(rt; Share::of(&problem, 1).length(), 10);
+    assert_eq!(rt; Share::of(&problem, 1).round(), 1_000_000_010);
+    Ok(())
+}
