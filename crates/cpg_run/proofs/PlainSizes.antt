@@ -4,6 +4,7 @@ use Rattle.std.specs.Prelude.{nat_lt}
 use Rattle.std.specs.List.{list_all}
 use Rattle.std.proofs.Math.Bool.{and-true}
 use Rattle.std.proofs.lemmas.Bool.{cases_lt, lt-ltb, le-ltb, ltb-true}
+use Rattle.std.proofs.lemmas.Nat.{mul-le}
 use Rattle.std.proofs.lemmas.List.Sums.{sum_by-append}
 use Rattle.std.proofs.lemmas.List.Sorted.{sum_by-IsPermutation}
 use Rattle.cpg_base.specs.Numbers.{numbers_below}
@@ -19,6 +20,7 @@ use Rattle.cpg_order.specs.Counting.{ways, is_value_free, is_count_free, free_co
 use Rattle.cpg_order.proofs.Along.{is_in_from, from_is_in}
 use Rattle.cpg_order.proofs.Places.{length_order, place_in_order, Contains-order, from_before, Contains-before}
 use Rattle.cpg_order.proofs.ScenariosApart.{length-scenarios}
+use Rattle.cpg_order.proofs.Ways.{ways_of_none, ways_step, ways_more, ways_times, ways_at_most}
 use Rattle.cpg_order.proofs.Views.{views-sum}
 use Rattle.cpg_order.proofs.ViewsGrow.{views_le_scenarios}
 use Rattle.cpg_run.specs.Plain.{IsPlain}
@@ -39,6 +41,50 @@ count_below k (suc n) = ap (λ m. count_by (λ i. nat_lt i k) (numbers_below m))
         (λ (l : n < k). ap (λ b. min n k + cond b 1 0) (lt-ltb n k l) ∙ omega arith)
         (λ (l : k ≤ n). ap (λ b. min n k + cond b 1 0) (le-ltb n k l) ∙ omega arith)
         (cases_lt n k)
+
+-- ---- sums of ways
+
+-- of all numbers of counts up to one
+ways_along : (k m : ℕ) → sum_by (λ i. ways i k) (numbers_below (m + 1)) ≡ ways m (k + 1)
+ways_along k zero = let a = ways_of_none k in let b = ways_of_none (k + 1) in omega arith
+ways_along k (suc m) = ap (λ n. sum_by (λ i. ways i k) (numbers_below (n + 1))) (sym (add-one m)) ∙ sum_below_push (λ i. ways i k) (m + 1)
+    ∙ ap (λ s. s + ways (m + 1) k) (ways_along k m) ∙ (let e = ways_more m k in omega arith) ∙ ap (λ n. ways n (k + 1)) (add-one m)
+
+-- of fewer counts there are no more ways
+ways_of_fewer : (m k : ℕ) → ways m k ≤ ways (m + 1) k
+ways_of_fewer m zero = omega arith
+ways_of_fewer m (suc k) = let e = ap (λ n. ways n (suc k)) (add-one m) in let s = ways_step m k in omega arith
+
+-- few ways are few with one more to add up to
+few_more_ways : (m k : ℕ) → m ≤ 127 → ways m k ≤ 16384 → ways m (k + 1) ≤ 524288
+few_more_ways m zero l few = ways_at_most m 0 128 1 524288 (omega arith) (omega arith) (omega arith)
+few_more_ways m (suc zero) l few = ways_at_most m 1 129 128 524288 (omega arith) (ways_at_most m 0 128 1 128 (omega arith) (omega arith) (omega arith)) (omega arith)
+few_more_ways m (suc (suc zero)) l few = ways_at_most m 2 130 8256 524288 (omega arith)
+    (ways_at_most m 1 129 128 8256 (omega arith) (ways_at_most m 0 128 1 128 (omega arith) (omega arith) (omega arith)) (omega arith)) (omega arith)
+few_more_ways m (suc (suc (suc zero))) l few = ⊎_elim
+    (λ (s : m < 125). ways_at_most m 3 128 16384 524288 (omega arith) few (omega arith))
+    (λ (s : 125 ≤ m).
+    let a : 1 * ways m 1 ≡ (m + 0 + 1) * 1 = ways_times m 0 in
+    let b : 2 * ways m 2 ≡ (m + 1 + 1) * ways m 1 = ways_times m 1 in
+    let c : 3 * ways m 3 ≡ (m + 2 + 1) * ways m 2 = ways_times m 2 in
+    let x = mul-le 127 126 (m + 1 + 1) (ways m 1) (omega arith) (omega arith) in
+    let y = mul-le 128 8001 (m + 2 + 1) (ways m 2) (omega arith) (omega arith) in
+    let z : ways m 3 ≤ 16384 = few in
+    absurd (omega arith))
+    (cases_lt m 125)
+few_more_ways m (suc (suc (suc (suc k)))) l few = ways_at_most m (suc (suc (suc (suc k)))) (132 + k) 16384 524288 (omega arith) few (omega arith)
+
+few_ways_along : (n k : ℕ) → n ≤ 128 → ways n k ≤ 16384 → sum_by (λ i. ways i k) (numbers_below n) ≤ 524288
+few_ways_along zero k l few = omega arith
+few_ways_along (suc m) k l few =
+    let e = ap (λ n. sum_by (λ i. ways i k) (numbers_below n)) (add-one m) in
+    let f = ap (λ n. ways n k) (add-one m) in
+    let s = ways_along k m in
+    let w = ways_of_fewer m k in
+    let b = few_more_ways m k (omega arith) (omega arith) in
+    omega arith
+
+-- ---- the views of plain graphs
 
 -- no more than there are scenarios
 pub few_views : (g : Graph) → IsPlain g → (reached : List ℕ) → views g reached ≤ 16384
@@ -71,3 +117,11 @@ module _ (g : Graph) (plain : IsPlain g) (within : IsWithinLimits g) (order : Li
       ∙ ap (λ n. sum_by (views_of_outcome g (before order p)) (filter (λ o. list_all (λ c. not (get_or o c false) || is_value_free g (before order p) o c) (numbers_below n)) (outcomes n))) (no_condition_count g plain)
       ∙ (let e : sum_by (views_of_outcome g (before order p)) ([] ∷ []) ≡ ways (free_counts g (before order p) []) g.faults = omega arith in e)
       ∙ ap (λ m. ways m g.faults) (counts_before p l)
+
+  pub few_columns : sum_by (λ p. views g (before order p)) (numbers_below (process_count g)) ≤ 524288
+  few_columns =
+      let e = same_sum_by (λ p. views g (before order p)) (λ p. ways (place order p) g.faults) (numbers_below (process_count g)) (λ p c. views_before p (numbers-Contains (process_count g) p c)) in
+      let s = sum_of_places (λ i. ways i g.faults) in
+      let one : 2 ^ condition_count g * ways (process_count g) g.faults ≡ ways (process_count g) g.faults = ap (λ n. 2 ^ n * ways (process_count g) g.faults) (no_condition_count g plain) ∙ omega arith in
+      let b = few_ways_along (process_count g) g.faults within.few_processes (omega (arith, length-scenarios g, plain.few, one)) in
+      omega arith
