@@ -1,21 +1,22 @@
 -- In a plain graph the views before a process are the ways of the counts before it, and in all few.
-use Rattle.std.proofs.Common.{◌≡◌, ℕ, zero, suc, ◌+◌, ◌*◌, ◌^◌, ◌<◌, ◌≤◌, min, Bool, true, false, cond, not, ◌&&◌, ◌||◌, List, [], ◌∷◌, length, get_or, filter, sum_by, count_by, Contains, IsPermutation, refl, sym, ap, ◌∙◌, arith, add-one, ⊎_elim}
+use Rattle.std.proofs.Common.{◌≡◌, ℕ, zero, suc, ◌+◌, ◌-◌, ◌*◌, ◌^◌, ◌<◌, ◌≤◌, min, Bool, true, false, cond, not, ◌&&◌, ◌||◌, List, [], ◌∷◌, length, get_or, filter, sum_by, count_by, Contains, IsPermutation, refl, sym, ap, ap₂, ◌∙◌, arith, add-one, ⊎_elim}
 use Rattle.std.specs.Prelude.{nat_lt}
 use Rattle.std.specs.List.{list_all}
 use Rattle.std.proofs.Math.Bool.{and-true}
-use Rattle.std.proofs.lemmas.Bool.{cases_lt, lt-ltb, le-ltb, ltb-true}
+use Rattle.std.proofs.lemmas.Bool.{and_right, cases_lt, lt-ltb, le-ltb, ltb-true}
 use Rattle.std.proofs.lemmas.Nat.{mul-le}
 use Rattle.std.proofs.lemmas.List.Sums.{sum_by-append}
 use Rattle.std.proofs.lemmas.List.Sorted.{sum_by-IsPermutation}
 use Rattle.cpg_base.specs.Numbers.{numbers_below}
-use Rattle.cpg_base.specs.Graph.{Graph, process_count, condition_count}
+use Rattle.cpg_base.specs.Graph.{Graph, process_count, condition_count, item_count, item_at}
 use Rattle.cpg_base.specs.Activity.{active}
 use Rattle.cpg_base.specs.Limits.{IsWithinLimits}
 use Rattle.cpg_base.proofs.Lists.{below_push, numbers-Contains, same_truth}
+use Rattle.cpg_base.proofs.Items.{item_at-start}
 use Rattle.cpg_base.proofs.Sums.{same_sum_by, sum_by-map}
 use Rattle.cpg_order.specs.Urgency.{place, before}
 use Rattle.cpg_order.specs.Deciding.{outcomes}
-use Rattle.cpg_order.specs.Reach.{is_in, views}
+use Rattle.cpg_order.specs.Reach.{is_in, views, reach_of, rows_of_item, load, most_views, most_loads, is_too_wide}
 use Rattle.cpg_order.specs.Counting.{ways, is_value_free, is_count_free, free_counts, views_of_outcome}
 use Rattle.cpg_order.proofs.Along.{is_in_from, from_is_in}
 use Rattle.cpg_order.proofs.Places.{length_order, place_in_order, Contains-order, from_before, Contains-before}
@@ -24,11 +25,20 @@ use Rattle.cpg_order.proofs.Ways.{ways_of_none, ways_step, ways_more, ways_times
 use Rattle.cpg_order.proofs.Views.{views-sum}
 use Rattle.cpg_order.proofs.ViewsGrow.{views_le_scenarios}
 use Rattle.cpg_run.specs.Plain.{IsPlain}
-use Rattle.cpg_run.proofs.PlainRuns.{no_condition_count, always_active, place_is}
+use Rattle.cpg_run.proofs.PlainRuns.{items_are_processes, no_condition_count, always_active, place_is}
+use Rattle.cpg_run.proofs.PlainReach.{reach_before, reach_at}
 use Rattle.cpg_run.proofs.PlainWorst.{numbers_of}
 
 sum_below_push : (f : ℕ → ℕ) (n : ℕ) → sum_by f (numbers_below (n + 1)) ≡ sum_by f (numbers_below n) + f n
 sum_below_push f n = ap (sum_by f) (below_push n) ∙ sum_by-append f (numbers_below n) (n ∷ []) ∙ omega arith
+
+sum_below_grows : (f : ℕ → ℕ) (n j : ℕ) → sum_by f (numbers_below n) ≤ sum_by f (numbers_below (n + j))
+sum_below_grows f n zero = let e = ap (λ m. sum_by f (numbers_below m)) (let h : n + 0 ≡ n = omega arith in h) in omega arith
+sum_below_grows f n (suc j) =
+    let rest = sum_below_grows f n j in
+    let more = sum_below_push f (n + j) in
+    let e = ap (λ m. sum_by f (numbers_below m)) (let h : n + suc j ≡ n + j + 1 = omega arith in h) in
+    omega arith
 
 -- the numbers below two numbers
 count_below : (k n : ℕ) → count_by (λ i. nat_lt i k) (numbers_below n) ≡ min n k
@@ -125,3 +135,19 @@ module _ (g : Graph) (plain : IsPlain g) (within : IsWithinLimits g) (order : Li
       let one : 2 ^ condition_count g * ways (process_count g) g.faults ≡ ways (process_count g) g.faults = ap (λ n. 2 ^ n * ways (process_count g) g.faults) (no_condition_count g plain) ∙ omega arith in
       let b = few_ways_along (process_count g) g.faults within.few_processes (omega (arith, length-scenarios g, plain.few, one)) in
       omega arith
+
+  load_is : (x : ℕ) → x < process_count g → load g (reach_before g order) x ≡ views g (before order x)
+  load_is x l = ap₂ (λ vs i. views g vs * rows_of_item g i) (reach_at g plain within order all x l) (item_at-start g x l) ∙ omega arith
+
+  few_loads : (x : ℕ) → x < process_count g → sum_by (load g (reach_before g order)) (numbers_below (x + 1)) ≤ 524288
+  few_loads x l =
+      let e = same_sum_by (load g (reach_before g order)) (λ p. views g (before order p)) (numbers_below (x + 1)) (λ p c. load_is p (let h = numbers-Contains (x + 1) p c in omega arith)) in
+      let more = sum_below_grows (λ p. views g (before order p)) (x + 1) (process_count g - (x + 1)) in
+      let all_of = ap (λ n. sum_by (λ p. views g (before order p)) (numbers_below n)) (let h : x + 1 + (process_count g - (x + 1)) ≡ process_count g = omega arith in h) in
+      let few = few_columns in
+      omega arith
+
+  pub never_wide : (x : ℕ) → x < item_count g → is_too_wide g (reach_before g order) x ≡ false
+  never_wide x h = and_right (nat_lt 0 (rows_of_item g (item_at g x))) _ (ap₂ ◌||◌
+      (le-ltb most_views (views g (reach_of (reach_before g order) x)) (few_views g plain (reach_of (reach_before g order) x)))
+      (le-ltb most_loads (sum_by (load g (reach_before g order)) (numbers_below (x + 1))) (few_loads x (omega (arith, items_are_processes g plain)))))
