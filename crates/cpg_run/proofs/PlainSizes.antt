@@ -1,5 +1,5 @@
 -- In a plain graph the views before a process are the ways of the counts before it, and in all few.
-use Rattle.std.proofs.Common.{◌≡◌, ℕ, zero, suc, ◌+◌, ◌-◌, ◌*◌, ◌^◌, ◌<◌, ◌≤◌, min, Bool, true, false, cond, not, ◌&&◌, ◌||◌, List, [], ◌∷◌, length, get_or, filter, sum_by, count_by, Contains, IsPermutation, refl, sym, ap, ap₂, ◌∙◌, arith, add-one, ⊎_elim}
+use Rattle.std.proofs.Common.{◌≡◌, ℕ, zero, suc, ◌+◌, ◌-◌, ◌*◌, ◌^◌, ◌<◌, ◌≤◌, min, false, cond, not, ◌&&◌, ◌||◌, List, [], ◌∷◌, length, get_or, filter, sum_by, count_by, IsPermutation, sym, ap, ap₂, ◌∙◌, arith, add-one, ⊎_elim}
 use Rattle.std.specs.Prelude.{nat_lt}
 use Rattle.std.specs.List.{list_all}
 use Rattle.std.proofs.Math.Bool.{and-true}
@@ -9,7 +9,6 @@ use Rattle.std.proofs.lemmas.List.Sums.{sum_by-append}
 use Rattle.std.proofs.lemmas.List.Sorted.{sum_by-IsPermutation}
 use Rattle.cpg_base.specs.Numbers.{numbers_below}
 use Rattle.cpg_base.specs.Graph.{Graph, process_count, condition_count, item_count, item_at}
-use Rattle.cpg_base.specs.Activity.{active}
 use Rattle.cpg_base.specs.Limits.{IsWithinLimits}
 use Rattle.cpg_base.proofs.Lists.{below_push, numbers-Contains, same_truth}
 use Rattle.cpg_base.proofs.Items.{item_at-start}
@@ -112,12 +111,12 @@ module _ (g : Graph) (plain : IsPlain g) (within : IsWithinLimits g) (order : Li
   free_by_place : (p q : ℕ) → q < process_count g → is_count_free g (before order p) [] q ≡ nat_lt (place order q) (place order p)
   free_by_place p q l = ap (λ b. is_in (before order p) q && b) (always_active g plain [] q l) ∙ and-true (is_in (before order p) q)
       ∙ same_truth (is_in (before order p) q) (nat_lt (place order q) (place order p))
-          (λ t. lt-ltb (place order q) (place order p) (from_before order q p (from_is_in (before order p) q t)).1)
-          (λ t. is_in_from (before order p) q (Contains-before order q p (Contains-order (process_count g) order all q l) (ltb-true (place order q) (place order p) t)))
+      (λ t. lt-ltb (place order q) (place order p) (from_before order q p (from_is_in (before order p) q t)).1)
+      (λ t. is_in_from (before order p) q (Contains-before order q p (Contains-order (process_count g) order all q l) (ltb-true (place order q) (place order p) t)))
 
   counts_before : (p : ℕ) → p < process_count g → free_counts g (before order p) [] ≡ place order p
   counts_before p l = same_sum_by (λ q. cond (is_count_free g (before order p) [] q) 1 0) (λ q. cond (nat_lt (place order q) (place order p)) 1 0) (numbers_below (process_count g))
-          (λ q c. ap (λ b. cond b 1 0) (free_by_place p q (numbers-Contains (process_count g) q c)))
+      (λ q c. ap (λ b. cond b 1 0) (free_by_place p q (numbers-Contains (process_count g) q c)))
       ∙ sum_of_places (λ i. cond (nat_lt i (place order p)) 1 0)
       ∙ count_below (place order p) (process_count g)
       ∙ (let h = place_in_order (process_count g) order all p (omega arith) in omega arith)
