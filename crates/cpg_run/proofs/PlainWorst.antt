@@ -105,7 +105,7 @@ module _ {X : Type 0} (R : X → X → Type 0) where
 
 -- ---- the numbers of a list
 
-numbers_of : (xs : List ℕ) → map (λ i. get_or xs i 0) (numbers_below (length xs)) ≡ xs
+pub numbers_of : (xs : List ℕ) → map (λ i. get_or xs i 0) (numbers_below (length xs)) ≡ xs
 numbers_of xs =
     let l = length-map-range_with_len (λ i. get_or xs i 0) 0 (length xs) in
     ext_get_or 0 (map (λ i. get_or xs i 0) (numbers_below (length xs))) xs l (λ i h. get_or-map-below (λ i. get_or xs i 0) (length xs) i 0 (omega arith))
