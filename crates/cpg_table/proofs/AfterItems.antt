@@ -1,5 +1,5 @@
 -- What stands after rows of some items.
-use Rattle.std.proofs.Common.{◌≡◌, ◌≢◌, ◌↔◌, IsTrue, true≢false, ℕ, suc, ◌+◌, ◌==◌, Bool, true, false, cond, List, [], ◌∷◌, ◌++◌, Option, Some, None, length, refl, sym, ap, ap₂, ◌∙◌, arith, eqb-true, eq-eqb, append-nil}
+use Rattle.std.proofs.Common.{◌≡◌, ◌≢◌, ◌↔◌, IsTrue, true≢false, ℕ, suc, ◌+◌, ◌==◌, Bool, true, false, cond, List, [], ◌∷◌, ◌++◌, Some, None, length, refl, sym, ap, ap₂, ◌∙◌, arith, eqb-true, eq-eqb, append-nil}
 use Rattle.std.proofs.lemmas.Bool.{cond-true}
 use Rattle.cpg_table.specs.Table.{Row}
 use Rattle.cpg_table.specs.Shape.{items_of}

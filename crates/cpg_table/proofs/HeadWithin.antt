@@ -1,5 +1,5 @@
 -- The head for a graph within its limits keeps those of a head.
-use Rattle.std.proofs.Common.{◌≡◌, ◌≤◌, ◌<◌, ◌+◌, ◌*◌, ◌^◌, ◌==◌, IfSome, ℕ, List, [], ◌∷◌, Bool, true, false, Option, Some, None, is_some, All, Contains, cond, length, map, filter, count_by, get_or, refl, sym, subst, ap, ◌∙◌, arith, rules, true≢false}
+use Rattle.std.proofs.Common.{◌≡◌, ◌≤◌, ◌<◌, ◌+◌, ◌*◌, ◌^◌, IfSome, ℕ, List, [], ◌∷◌, Bool, true, false, Option, Some, None, is_some, All, Contains, cond, length, map, count_by, refl, sym, subst, ap, ◌∙◌, arith, true≢false}
 use Rattle.std.specs.Int.{div_ceil}
 use Rattle.std.specs.List.{list_all}
 use Rattle.std.proofs.Math.Nat.{mul-le-mul, div-le_self}
@@ -8,15 +8,15 @@ use Rattle.std.proofs.lemmas.List.FromFn.{length-map-range_with_len}
 use Rattle.std.proofs.lemmas.List.Elements.{All-map, All-weaker, All-contains_itself, All-get_or}
 use Rattle.std.proofs.lemmas.List.Sums.{length-filter, sum_by-cons}
 use Rattle.cpg_base.specs.Numbers.{numbers_below}
-use Rattle.cpg_base.specs.Graph.{Graph, process_count, process_at, node_of, condition_of, process_of, is_disjunction, disjunctions, condition_count}
+use Rattle.cpg_base.specs.Graph.{Graph, process_count, process_at, condition_of, process_of, is_disjunction, condition_count}
 use Rattle.cpg_base.specs.declared.process.Process.{Process}
 use Rattle.cpg_base.specs.Duration.{duration, duration_of}
 use Rattle.cpg_base.specs.Limits.{IsWithinLimits, IsProcessWithin, IsEdgeWithin}
 use Rattle.cpg_base.proofs.Lists.{same_truth, same_filter, numbers-Contains, Contains-filter_parts}
 use Rattle.cpg_order.proofs.Along.{condition_of_below}
 use Rattle.cpg_order.proofs.Conditions.{Contains-disjunctions, condition_there, condition_of_process_of, process_of_condition_of}
-use Rattle.cpg_table.specs.Head.{HeadProcess, Extra, IsHead, IsHeadProcess, IsHeadEdge, IsExtra, AreExtras}
-use Rattle.cpg_table.specs.GraphHead.{head_process, extra_of, extras_of, is_plain, head_of}
+use Rattle.cpg_table.specs.Head.{HeadProcess, IsHead, IsHeadProcess, IsHeadEdge, IsExtra, AreExtras}
+use Rattle.cpg_table.specs.GraphHead.{head_process, extra_of, is_plain, head_of}
 
 -- an execution is short
 short : (n : ℕ) (p : Process) (f : ℕ) → IsProcessWithin n p → f ≤ 8 → duration_of p f < 2 ^ 60

@@ -6,6 +6,7 @@ use Rattle.cpg_base.specs.Graph.{Graph, process_count, process_at, node_of, cond
 use Rattle.cpg_base.specs.declared.process.Process.{Process}
 use Rattle.cpg_base.specs.Duration.{duration}
 use Rattle.cpg_table.specs.Head.{Head, HeadProcess, Extra}
+use Rattle.cpg_table.specs.declared.own.Own.{Own}
 
 -- what a head says of a process
 abbrev pub head_process : Graph → ℕ → HeadProcess
@@ -31,3 +32,7 @@ head_of g = record {
   edges = map (λ e. (e.from, e.to)) g.edges;
   extras = extras_of g;
 }
+
+-- what a node needs to know of a process of its own
+abbrev pub own_process : Graph → ℕ → Own
+own_process g p = record { process = p; condition = condition_of g p; times = map (duration g p) (numbers_below (g.faults + 1)) }

@@ -1,5 +1,5 @@
 -- Which items a node starts, sends and hears by a head, and what it needs to know of its own processes.
-use Rattle.std.specs.Prelude.{ℕ, ◌+◌, Bool, false, not, ◌&&◌, ◌==◌, nat_lt, if◌then◌else◌, List, [], ◌∷◌, ◌++◌, Option, Some, None, length, map, filter, get_or}
+use Rattle.std.specs.Prelude.{ℕ, ◌+◌, Bool, false, not, ◌&&◌, ◌==◌, nat_lt, if◌then◌else◌, List, [], ◌∷◌, ◌++◌, Option, Some, None, length, filter, get_or}
 use Rattle.cpg_table.specs.Head.{Head, HeadProcess}
 use Rattle.cpg_table.specs.Table.{Row}
 use Rattle.cpg_table.specs.declared.own.Own.{Own}

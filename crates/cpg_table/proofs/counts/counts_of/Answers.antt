@@ -1,5 +1,5 @@
-use Rattle.std.proofs.Common.{◌≡◌, ◌≤◌, ◌+◌, ◌++◌, [], Some, None, length, sym, ◌∙◌, ap, arith, true≢false}
-use Rattle.cpg_table.specs.Items.{starts_of, sends_of, hears_of, after_items}
+use Rattle.std.proofs.Common.{◌++◌, sym, ◌∙◌, arith, true≢false}
+use Rattle.cpg_table.specs.Items.{starts_of, sends_of, hears_of}
 use Rattle.cpg_table.proofs.AfterItems.{after_both, after_neither, after_parts, after_three, not_these, these_where_nothing}
 use Rattle.cpg_table.proofs.counts.counts_of.Goals as goal
 

@@ -2,7 +2,7 @@ use Rattle.std.proofs.Common.{◌≡◌, ◌∙◌, ◌++◌, All, List, take, d
 use Rattle.cpg_table.specs.Table.{Row}
 use Rattle.cpg_table.specs.Shape.{items_of}
 use Rattle.cpg_table.specs.Items.{starts_of, sends_of, hears_of}
-use Rattle.cpg_table.specs.Lawful.{IsLawfulRow, space_of}
+use Rattle.cpg_table.specs.Lawful.{IsLawfulRow}
 use Rattle.std.proofs.lemmas.List.{take-append-drop}
 use Rattle.cpg_table.proofs.TableRows.{first_items, second_items, third_items}
 use Rattle.cpg_table.proofs.node_table.NodeTable.new.Goals as goal
