@@ -5,3 +5,4 @@ pub mod Steps
 pub mod Limits
 pub mod Numbering
 pub mod Within
+pub mod DocumentLaws

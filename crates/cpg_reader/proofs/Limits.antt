@@ -104,3 +104,6 @@ pub all_at : {X : Type 0} (P : X → Type 0) (xs ys : List X) (i : ℕ) (x : X) 
 all_at P xs ys i x h e l is =
     let there : get_or xs i x ≡ x = sym (is ∙ ap (λ zs. get_or zs i x) e) in
     subst P there (h i x (subst (λ zs. i < length zs) e l))
+
+pub small_faults : (g : RawGraph) → limits g ≡ Ok tt → natural g.faults ≤ 8
+small_faults g h = (are_limits g h).top_range.1

@@ -32,13 +32,12 @@ module _ {T U : Type 0} (step : ℕ → T → Reading U) where
       ap length is ∙ ap suc (each-length (i + 1) xs zs rest)
 
   -- each element gives the one at its place
-  pub each-at : (i : ℕ) (xs : List T) (ys : List U) → each step i xs ≡ Ok ys → (k : ℕ) (d : T) (e : U) → k < length xs → step (i + k) (get_or xs k d) ≡ Ok (get_or ys k e)
-  each-at i [] ys h k d e l = absurd (omega arith)
-  each-at i (x ∷ xs) ys h zero d e l =
+  pub each-at : (i : ℕ) (xs : List T) (ys : List U) → each step i xs ≡ Ok ys → (k j : ℕ) (d : T) (e : U) → i + k ≡ j → k < length xs → step j (get_or xs k d) ≡ Ok (get_or ys k e)
+  each-at i [] ys h k j d e at l = absurd (omega arith)
+  each-at i (x ∷ xs) ys h zero j d e at l =
       let (y, zs, is, first, rest) = each-parts i x xs ys h in
-      let z : i + 0 ≡ i = omega arith in
-      rw (is, z) first
-  each-at i (x ∷ xs) ys h (suc k) d e l =
+      let here : j ≡ i = omega arith in
+      rw (is, here) first
+  each-at i (x ∷ xs) ys h (suc k) j d e at l =
       let (y, zs, is, first, rest) = each-parts i x xs ys h in
-      let there : i + 1 + k ≡ i + suc k = omega arith in
-      rw (is, ← there) (each-at (i + 1) xs zs rest k d e (omega arith))
+      rw is (each-at (i + 1) xs zs rest k j d e (omega arith) (omega arith))

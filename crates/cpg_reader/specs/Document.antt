@@ -18,10 +18,13 @@ members_if (Some ms) = pure ms
 unfoldable pub document_of : List ℕ → Reading Members
 document_of bytes = members_if (if is_utf8 bytes then parse_document bytes else None)
 
--- the graph, or the first refusal
-unfoldable pub problem_of : List ℕ → Reading Graph
-problem_of bytes = do
-  ms ← document_of bytes
+-- the graph of a table: its keys and types are looked at first, then its limits, then its names
+unfoldable pub problem_at : Members → Reading Graph
+problem_at ms = do
   g ← raw_graph_at ms
   limits g
   graph_of g
+
+-- the graph that the bytes of a file say, or the first refusal
+unfoldable pub problem_of : List ℕ → Reading Graph
+problem_of bytes = document_of bytes >>= problem_at

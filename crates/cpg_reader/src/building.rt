@@ -217,18 +217,28 @@ fn parts_of(alloc: Global, raw: &RawProblem) -> Result<Parts, ReadFault>
     Ok(parts)
 }
 
+fn faults_of(raw: &RawProblem) -> u8
+    requires { limits (raw_view raw.now) ≡ Ok tt }
+    ensures { result ≡ natural raw.now.faults }
+{
+    natural(raw.faults) as u8
+}
+
 /// The graph of a document that is within the limits.
 pub fn problem_of(alloc: Global, raw: RawProblem) -> Result<Problem, ReadFault>
     requires { limits (raw_view raw) ≡ Ok tt }
     ensures { Gives (λ p. p) result (graph_of (raw_view raw)) }
 {
-    let Parts {
-        slots,
-        processes,
-        edges,
-    } = parts_of(alloc, &raw)?;
-    let faults = natural(raw.faults) as u8;
+    let parts = parts_of(alloc, &raw)?;
+    let faults = faults_of(&raw);
     let deadline = natural(raw.deadline);
-    let problem = Problem::new(faults, deadline, raw.nodes, slots, processes, edges);
+    let problem = Problem::new(
+        faults,
+        deadline,
+        raw.nodes,
+        parts.slots,
+        parts.processes,
+        parts.edges,
+    );
     Ok(problem.unwrap())
 }
