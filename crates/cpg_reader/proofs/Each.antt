@@ -1,5 +1,5 @@
 -- A step for each element, as a loop takes them one after another.
-use Rattle.std.proofs.Common.{◌≡◌, ℕ, ◌+◌, ◌<◌, ◌≤◌, List, [], ◌∷◌, ◌++◌, length, drop, get_or, map, Result, Ok, Err, refl, sym, ap, ◌∙◌, append_assoc, append-nil}
+use Rattle.std.proofs.Common.{◌≡◌, ℕ, ◌+◌, ◌<◌, ◌≤◌, List, [], ◌∷◌, ◌++◌, length, drop, get_or, map, Result, Ok, Err, refl, sym, ap, ◌∙◌, append-nil}
 use Rattle.std.proofs.Math.ListN.{drop_of_length-le}
 use Rattle.std.proofs.lemmas.List.{drop_more}
 use Rattle.cpg_reader.specs.declared.place.ReadFault.{ReadFault}
@@ -19,14 +19,6 @@ Refuses-along OutOfMemory a b h r = tt
 abbrev pub after : {U : Type 0} → List U → Reading (List U) → Reading (List U)
 after ys rest = rest >>= (λ zs. pure (ys ++ zs))
 
-pub after-nothing : {U : Type 0} (rest : Reading (List U)) → after [] rest ≡ rest
-after-nothing (Ok zs) = refl
-after-nothing (Err fault) = refl
-
-after-cons : {U : Type 0} (ys : List U) (y : U) (rest : Reading (List U)) → after ys (rest >>= (λ zs. pure (y ∷ zs))) ≡ after (ys ++ y ∷ []) rest
-after-cons ys y (Ok zs) = ap (λ l. Ok l) (sym (append_assoc ys (y ∷ []) zs))
-after-cons ys y (Err fault) = refl
-
 pub each-map : {S T U : Type 0} (f : S → T) (step : ℕ → T → Reading U) (i : ℕ) (xs : List S) → each step i (map f xs) ≡ each (λ i x. step i (f x)) i xs
 each-map f step i [] = refl
 each-map f step i (x ∷ xs) = rw (each-map f step (i + 1) xs) refl
@@ -36,14 +28,6 @@ pub drop-here : {T : Type 0} (xs : List T) (i : ℕ) (x : T) → i < length xs �
 drop-here xs i x h is = drop_more xs i x h ∙ ap (λ y. y ∷ drop (i + 1) xs) (sym is)
 
 module _ {T U : Type 0} (step : ℕ → T → Reading U) where
-  each-cons : (ys : List U) (i : ℕ) (x : T) (xs : List T) (y : U) → step i x ≡ Ok y → after ys (each step i (x ∷ xs)) ≡ after (ys ++ y ∷ []) (each step (i + 1) xs)
-  each-cons ys i x xs y e = rw e (after-cons ys y (each step (i + 1) xs))
-
-  -- one more element is read
-  pub goes_on : (xs : List T) (i : ℕ) (x : T) (ys : List U) (y : U) (whole : Reading (List U)) → i < length xs → x ≡ get_or xs i x → step i x ≡ Ok y
-      → after ys (each step i (drop i xs)) ≡ whole → after (ys ++ y ∷ []) (each step (i + 1) (drop (i + 1) xs)) ≡ whole
-  goes_on xs i x ys y whole h is e so_far = sym (each-cons ys i x (drop (i + 1) xs) y e) ∙ (rw (drop-here xs i x h is) at so_far)
-
   -- an element is refused
   pub refused : (xs : List T) (i : ℕ) (x : T) (ys : List U) (fault : ReadFault) (whole : Reading (List U)) → i < length xs → x ≡ get_or xs i x → Refuses fault (step i x)
       → after ys (each step i (drop i xs)) ≡ whole → Refuses fault whole

@@ -6,3 +6,4 @@ pub mod Limits
 pub mod Numbering
 pub mod Within
 pub mod DocumentLaws
+pub mod Examples

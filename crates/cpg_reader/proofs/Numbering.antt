@@ -61,9 +61,9 @@ different-Contains seen [] x h = ⊎_elim (λ (c : Contains seen x). c) (λ (c :
 different-Contains seen (name ∷ names) x h =
     let next = cond (list_any (bytes_eq name) seen) seen (seen ++ name ∷ []) in
     different-Contains next names x (⊎_elim
-      (λ (c : Contains seen x). inl (kept_if seen name x (list_any (bytes_eq name) seen) c))
-      (λ (c : Contains (name ∷ names) x). ⊎_elim
-        (λ (e : name ≡ x). inl (subst (Contains next) e (noted_if seen name (list_any (bytes_eq name) seen) refl)))
-        (λ (d : Contains names x). inr d)
-        (Contains-cases name names x c))
-      h)
+    (λ (c : Contains seen x). inl (kept_if seen name x (list_any (bytes_eq name) seen) c))
+    (λ (c : Contains (name ∷ names) x). ⊎_elim
+    (λ (e : name ≡ x). inl (subst (Contains next) e (noted_if seen name (list_any (bytes_eq name) seen) refl)))
+    (λ (d : Contains names x). inr d)
+    (Contains-cases name names x c))
+    h)

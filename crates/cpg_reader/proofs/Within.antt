@@ -218,13 +218,13 @@ module _ (g : RawGraph) (ss : List Slot) (ps : List Process) (es : List Edge) (l
       let source : name_of p ≡ raw.from = ap name_of (sym (ap (λ (x : Edge). x.from) here ∙ eqb-true e.from p from)) ∙ (number-is (process_names g.processes) _ _ _ shown.from []).1 in
       subst (Contains (sources g.edges)) (sym source)
       (Contains-map (λ (r : RawEdge). r.from) (filter (λ (r : RawEdge). is_some r.when) g.edges) raw
-        (Contains-filter (λ (r : RawEdge). is_some r.when) g.edges raw (ap is_some when ∙ taken) (Contains-get_or g.edges k some_edge (omega (arith, l, edge_count)))))
+      (Contains-filter (λ (r : RawEdge). is_some r.when) g.edges raw (ap is_some when ∙ taken) (Contains-get_or g.edges k some_edge (omega (arith, l, edge_count)))))
 
   few_conditional : length conditional ≤ 32
   few_conditional =
       let all = length-le_of_apart (map name_of conditional) (different [] (sources g.edges)) conditional_names_differ
-          (λ name c. let (p, there, is) = Contains-map_parts name_of conditional name c in
-            different-Contains [] (sources g.edges) name (inr (subst (Contains (sources g.edges)) is (conditional_named p there)))) in
+      (λ name c. let (p, there, is) = Contains-map_parts name_of conditional name c in
+      different-Contains [] (sources g.edges) name (inr (subst (Contains (sources g.edges)) is (conditional_named p there)))) in
       omega (arith, all, limited.conditions, length-map conditional name_of)
 
   conditions_within : condition_count (graph_with g ss ps es) ≤ 32

@@ -106,11 +106,7 @@ fn edge_of(raw: &RawEdge, index: u64, processes: &Names<'_>) -> Result<Edge, Rea
     })
 }
 
-fn slots_of(
-    alloc: Global,
-    raw: &RawProblem,
-    nodes: &Names<'_>,
-) -> Result<Vec<Slot>, ReadFault>
+fn slots_of(alloc: Global, raw: &RawProblem, nodes: &Names<'_>) -> Result<Vec<Slot>, ReadFault>
     requires limits { limits (raw_view raw.now) ≡ Ok tt }
     requires nodes { nodes.now ≡ (raw_view raw.now).nodes }
     ensures { Gives (λ v. v.items) result (each (slot_of nodes.now) 0 (raw_view raw.now).slots) }
@@ -138,11 +134,7 @@ fn processes_of(
     Ok(processes)
 }
 
-fn edges_of(
-    alloc: Global,
-    raw: &RawProblem,
-    processes: &Names<'_>,
-) -> Result<Vec<Edge>, ReadFault>
+fn edges_of(alloc: Global, raw: &RawProblem, processes: &Names<'_>) -> Result<Vec<Edge>, ReadFault>
     requires limits { limits (raw_view raw.now) ≡ Ok tt }
     requires processes { processes.now ≡ process_names (raw_view raw.now).processes }
     ensures { Gives (λ v. v.items) result (each (edge_of processes.now) 0 (raw_view raw.now).edges) }

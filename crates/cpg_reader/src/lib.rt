@@ -4,10 +4,13 @@
 mod building;
 mod names;
 mod place;
+mod ranges;
 mod reading;
 mod row;
-mod ranges;
 mod shape;
 
 pub use place::{Key, Place, ReadFault, Table, What};
 pub use reading::read_problem;
+
+#[cfg(test)]
+mod tests;

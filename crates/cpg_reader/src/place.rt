@@ -42,7 +42,7 @@ pub enum Key {
     Unknown,
 }
 
-/// A key of an element of a list, which counts from 0, or of the top with index 0.
+/// A key of an element of a list, which counts from 0, or a key of the top, with index 0.
 #[derive(Clone, Copy, Debug, PartialEq, Eq)]
 pub struct Place {
     pub table: Table,
@@ -50,7 +50,8 @@ pub struct Place {
     pub key: Key,
 }
 
-/// What is beyond its limit: how many there are of something, or a number.
+/// What is beyond its limit: how many there are of something, or a number at a place. A condition is a process with a
+/// conditional edge.
 #[derive(Clone, Copy, Debug, PartialEq, Eq)]
 pub enum What {
     Nodes,
@@ -61,18 +62,19 @@ pub enum What {
     Conditions,
 }
 
-/// Why a graph file is refused. The first three and the last but one are shown at their first place.
+/// Why a graph file is refused. A place or a number is always the first one.
 #[derive(Clone, Copy, Debug, PartialEq, Eq)]
 pub enum ReadFault {
-    /// The bytes aren't UTF-8 or no TOML document.
+    /// The bytes aren't UTF-8, or they are no TOML document.
     NotToml,
-    /// A required key is missing, a value has another type, a name isn't a name, or a key is unknown.
+    /// A required key is missing, a value has another type, a text isn't a name, or a key isn't of this table. The first
+    /// place counts by table, then by element, then by the key's place in the format, where an unknown key comes last.
     BadField(Place),
-    /// A name stands earlier in its kind.
+    /// A name of a node or a process, or the node of a slot, stands earlier in its kind.
     DoubleName(Place),
-    /// A name names nothing.
+    /// A name of a node or a process names nothing.
     UnknownName(Place),
-    /// There is too much of something, or a number is outside its range.
+    /// There is more of something than its limit, or a number is outside its range.
     OverLimit(What),
     /// Memory ran out.
     OutOfMemory,

@@ -118,7 +118,11 @@ impl Numbered for RawEdge {
     ghost numbers = { edge_numbers };
 
     fn in_range(&self, table: Table, index: u64) -> Result<(), ReadFault> {
-        in_range(table, index, &[Bounded::new(Key::Bytes, self.bytes, 1, LARGEST)])
+        in_range(
+            table,
+            index,
+            &[Bounded::new(Key::Bytes, self.bytes, 1, LARGEST)],
+        )
     }
 }
 

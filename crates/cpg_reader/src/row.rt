@@ -160,7 +160,10 @@ fn as_name(alloc: Global, value: &Value) -> Result<Option<Name>, OutOfMemory>
     }
 }
 
-fn as_tables<'a>(alloc: Global, value: &'a Value) -> Result<Option<Vec<&'a toml::Table>>, AllocError>
+fn as_tables<'a>(
+    alloc: Global,
+    value: &'a Value,
+) -> Result<Option<Vec<&'a toml::Table>>, AllocError>
     ensures { IfOk result (λ tables. option_map (λ v. map (λ t. table_view t.now) v.items) tables ≡ as_tables (view value.now)) }
 {
     match value.as_array() {
@@ -170,7 +173,10 @@ fn as_tables<'a>(alloc: Global, value: &'a Value) -> Result<Option<Vec<&'a toml:
 }
 
 /// The elements of an array, and `None` where one isn't a table.
-fn tables_in<'a>(alloc: Global, array: &'a Array) -> Result<Option<Vec<&'a toml::Table>>, AllocError>
+fn tables_in<'a>(
+    alloc: Global,
+    array: &'a Array,
+) -> Result<Option<Vec<&'a toml::Table>>, AllocError>
     ensures { IfOk result (λ tables. option_map (λ v. map (λ t. table_view t.now) v.items) tables ≡ tables_in (array_view array.now)) }
 {
     let mut tables = Vec::with_capacity(alloc, array.len())?;

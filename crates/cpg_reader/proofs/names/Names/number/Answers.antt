@@ -6,10 +6,14 @@ use Rattle.cpg_reader.proofs.names.Names.number.Goals as goal
 
 pub returns-in-Some : goal.returns-in-Some
 unfolding number_of
-returns-in-Some c = record { number =
-  ap (known c.args.place) (ap (position (bytes_eq c.args.name.now)) (sym c.self.view_is) ∙ sym (position-texts c.args.name.now c.self.inside.names.keys) ∙ sym c.get_index_of.ensures.index ∙ c.in-Some.is) }
+returns-in-Some c = record {
+  number =
+      ap (known c.args.place) (ap (position (bytes_eq c.args.name.now)) (sym c.self.view_is) ∙ sym (position-texts c.args.name.now c.self.inside.names.keys) ∙ sym c.get_index_of.ensures.index ∙ c.in-Some.is);
+}
 
 pub returns-in-None : goal.returns-in-None
 unfolding number_of
-returns-in-None c = record { number =
-  ap (known c.args.place) (ap (position (bytes_eq c.args.name.now)) (sym c.self.view_is) ∙ sym (position-texts c.args.name.now c.self.inside.names.keys) ∙ sym c.get_index_of.ensures.index ∙ c.in-None.is) }
+returns-in-None c = record {
+  number =
+      ap (known c.args.place) (ap (position (bytes_eq c.args.name.now)) (sym c.self.view_is) ∙ sym (position-texts c.args.name.now c.self.inside.names.keys) ∙ sym c.get_index_of.ensures.index ∙ c.in-None.is);
+}
