@@ -1,14 +1,12 @@
 -- When bytes are a document, and what is read of them then.
-use Rattle.std.proofs.Common.{◌≡◌, ◌≢◌, ℕ, List, Bool, true, false, Option, Some, None, Result, Ok, Err, cond, refl, sym, ap, ◌∙◌}
+use Rattle.std.proofs.Common.{◌≡◌, ◌≢◌, ℕ, List, Bool, true, false, Option, Some, None, Ok, Err, cond, refl, sym}
 use Rattle.std.specs.Str.{IsUtf8, is_utf8}
 use Rattle.std.proofs.lemmas.Str.{IsUtf8-from_is_utf8, is_utf8-from_IsUtf8}
 use Rattle.toml.specs.Data.{Members}
 use Rattle.toml.specs.Parse.{parse_document}
-use Rattle.cpg_base.specs.Graph.{Graph}
-use Rattle.cpg_reader.specs.declared.place.ReadFault.{ReadFault}
 use Rattle.cpg_reader.specs.declared.place.ReadFault.TheVariants.{NotToml, BadField, DoubleName, UnknownName, OverLimit, OutOfMemory}
-use Rattle.cpg_reader.specs.Reading.{Reading, ◌>>=◌, Gives}
-use Rattle.cpg_reader.specs.Document.{members_if, document_of, problem_at, problem_of}
+use Rattle.cpg_reader.specs.Reading.{Reading, Gives}
+use Rattle.cpg_reader.specs.Document.{document_of, problem_at, problem_of}
 
 pub problem_of-read : (bytes : List ℕ) (ms : Members) → IsUtf8 bytes → parse_document bytes ≡ Some ms → problem_of bytes ≡ problem_at ms
 unfolding problem_of document_of

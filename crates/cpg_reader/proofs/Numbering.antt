@@ -1,5 +1,5 @@
 -- What is known of names that differ, of the number of a name, and of the different ones among names.
-use Rattle.std.proofs.Common.{◌≡◌, ◌≢◌, ◌⊎◌, inl, inr, ⊎_elim, ℕ, ◌+◌, ◌<◌, Bool, true, false, List, [], ◌∷◌, ◌++◌, length, get_or, Option, Some, None, Result, Ok, Err, AllPairs, Contains, refl, sym, ◌∙◌, subst, cond, arith, append_assoc, append-nil, true≢false}
+use Rattle.std.proofs.Common.{◌≡◌, ◌≢◌, ◌⊎◌, inl, inr, ⊎_elim, ℕ, ◌+◌, ◌<◌, Bool, true, false, List, [], ◌∷◌, ◌++◌, length, get_or, Option, Some, None, Ok, Err, AllPairs, Contains, refl, sym, ◌∙◌, subst, cond, arith, append_assoc, append-nil, true≢false}
 use Rattle.std.specs.Prelude.{bytes_eq, position}
 use Rattle.std.specs.List.{list_any}
 use Rattle.std.proofs.lemmas.Slice.Eq.{bytes_eq-Decides}
@@ -10,7 +10,7 @@ use Rattle.cpg_reader.specs.declared.place.Table.{Table}
 use Rattle.cpg_reader.specs.declared.place.Key.{Key}
 use Rattle.cpg_reader.specs.declared.place.Place.{Place}
 use Rattle.cpg_reader.specs.declared.place.ReadFault.{ReadFault}
-use Rattle.cpg_reader.specs.Reading.{Reading, done}
+use Rattle.cpg_reader.specs.Reading.{Reading}
 use Rattle.cpg_reader.specs.Ranges.{different}
 use Rattle.cpg_reader.specs.Names.{apart_from, apart, known, number_of}
 

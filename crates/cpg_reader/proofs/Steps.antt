@@ -1,5 +1,5 @@
 -- What is known of the steps where all of them gave something.
-use Rattle.std.proofs.Common.{◌≡◌, ℕ, zero, suc, ◌+◌, ◌<◌, List, [], ◌∷◌, length, get_or, Result, Ok, Err, refl, sym, ap, ◌∙◌, subst, arith, add-one}
+use Rattle.std.proofs.Common.{◌≡◌, ℕ, zero, suc, ◌+◌, ◌<◌, List, [], ◌∷◌, length, get_or, Ok, Err, refl, sym, ap, ◌∙◌, arith}
 use Rattle.cpg_reader.specs.Reading.{Reading, pure, ◌>>=◌, ◌>>◌, each}
 
 pub then-parts : {T U : Type 0} (a : Reading T) (b : Reading U) (y : U) → (a >> b) ≡ Ok y → (x : T) × (a ≡ Ok x) × (b ≡ Ok y)

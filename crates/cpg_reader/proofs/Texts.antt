@@ -1,6 +1,6 @@
 -- Borrowed texts, as a set keeps them.
-use Rattle.std.proofs.Common.{◌≡◌, ℕ, ◌+◌, ◌<◌, Bool, true, false, not, List, [], ◌∷◌, ◌++◌, length, drop, take, get_or, map, Option, Some, None, Result, Ok, Err, Bor, refl, ap, ◌∙◌, sym, cond}
-use Rattle.std.specs.Prelude.{bytes_eq, position, filter, is_some}
+use Rattle.std.proofs.Common.{◌≡◌, ℕ, ◌+◌, ◌<◌, Bool, true, false, not, List, [], ◌∷◌, ◌++◌, length, drop, take, get_or, map, Err, Bor, refl, ap, ◌∙◌, sym, cond}
+use Rattle.std.specs.Prelude.{bytes_eq, position, is_some}
 use Rattle.std.specs.List.{list_any, position_or_len}
 use Rattle.std.proofs.lemmas.List.{length-map, map_push, take_more}
 use Rattle.indexmap.specs.IndexSet.{insert_key}

@@ -1,5 +1,5 @@
 -- The graph of a document that is within the limits is within the limits.
-use Rattle.std.proofs.Common.{◌≡◌, ◌≢◌, ℕ, zero, ◌+◌, ◌<◌, ◌≤◌, Bool, true, false, List, [], ◌∷◌, length, get_or, map, filter, Option, Some, None, Result, Ok, Err, AllPairs, Contains, refl, sym, ap, ◌∙◌, subst, inl, inr, arith, ℤ, pos, eqb-true, zero-add}
+use Rattle.std.proofs.Common.{◌≡◌, ◌≢◌, ℕ, ◌<◌, ◌≤◌, false, List, [], length, get_or, map, filter, Option, Some, None, Ok, AllPairs, Contains, sym, ap, ◌∙◌, subst, inr, arith, ℤ, pos, eqb-true, zero-add}
 use Rattle.std.specs.Prelude.{All, IfSome, unwrap_or, option_map, is_some, ◌==◌}
 use Rattle.std.proofs.lemmas.Bool.{and_parts}
 use Rattle.std.proofs.lemmas.List.{length-map, get_or-map}
@@ -9,7 +9,7 @@ use Rattle.cpg_base.specs.declared.process.Process.{Process}
 use Rattle.cpg_base.specs.declared.process.Edge.{Edge}
 use Rattle.cpg_base.specs.declared.process.Slot.{Slot}
 use Rattle.cpg_base.specs.Numbers.{numbers_below}
-use Rattle.cpg_base.specs.Graph.{Graph, disjunctions, condition_count}
+use Rattle.cpg_base.specs.Graph.{Graph, condition_count}
 use Rattle.cpg_base.specs.Conditions.{is_conditional_output, has_conditional_output}
 use Rattle.cpg_base.specs.Limits.{IsProcessWithin, IsSlotWithin, IsEdgeWithin, IsWithinLimits}
 use Rattle.cpg_base.proofs.Lists.{Contains-map, Contains-map_parts, Contains-filter, Contains-filter_parts, numbers-Contains, numbers_rise, list_any_parts}
@@ -20,12 +20,12 @@ use Rattle.cpg_reader.specs.declared.shape.RawProcess.{RawProcess}
 use Rattle.cpg_reader.specs.declared.shape.RawEdge.{RawEdge}
 use Rattle.cpg_reader.specs.declared.place.Table.TheVariants as tables
 use Rattle.cpg_reader.specs.declared.place.Key.TheVariants.{Name, Node, From, To}
-use Rattle.cpg_reader.specs.Reading.{Reading, each}
+use Rattle.cpg_reader.specs.Reading.{each}
 use Rattle.cpg_reader.specs.Shape.{RawGraph}
-use Rattle.cpg_reader.specs.Ranges.{slot_numbers, process_numbers, edge_numbers, sources, different, limits}
+use Rattle.cpg_reader.specs.Ranges.{sources, different, limits}
 use Rattle.cpg_reader.specs.Names.{place, natural, number_of, slot_of, process_of, edge_of, slot_names, process_names, graph_with, resolved, graph_of}
 use Rattle.cpg_reader.proofs.Steps.{then-parts, bind-parts, same_ok, each-length, each-at}
-use Rattle.cpg_reader.proofs.Limits.{AreIn, AreLimits, are_limits}
+use Rattle.cpg_reader.proofs.Limits.{AreLimits, are_limits}
 use Rattle.cpg_reader.proofs.Numbering.{number-is, apart-pairs, different-Contains}
 
 -- what a document says and what its graph has of it

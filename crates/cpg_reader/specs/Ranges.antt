@@ -1,5 +1,5 @@
 -- How much of each there may be, and in which range each number lies: the refusals of what is beyond its limit.
-use Rattle.std.specs.Prelude.{ℕ, ◌+◌, ℤ, pos, negsuc, ◌&&◌, Bool, false, List, [], ◌∷◌, ◌++◌, Option, is_some, unwrap_or, Err, length, map, filter, nat_le, bytes_eq, if◌then◌else◌}
+use Rattle.std.specs.Prelude.{ℕ, ◌+◌, ℤ, pos, negsuc, ◌&&◌, Bool, false, List, [], ◌∷◌, ◌++◌, is_some, unwrap_or, Err, length, map, filter, nat_le, bytes_eq, if◌then◌else◌}
 use Rattle.std.specs.List.{list_any}
 use Rattle.cpg_reader.specs.declared.place.Table.{Table}
 use Rattle.cpg_reader.specs.declared.place.Table.TheVariants as tables
@@ -11,7 +11,7 @@ use Rattle.cpg_reader.specs.declared.shape.RawSlot.{RawSlot}
 use Rattle.cpg_reader.specs.declared.shape.RawProcess.{RawProcess}
 use Rattle.cpg_reader.specs.declared.shape.RawEdge.{RawEdge}
 use Rattle.cpg_reader.specs.declared.ranges.Bounded.{Bounded}
-use Rattle.cpg_reader.specs.Reading.{Reading, done, ◌>>=◌, ◌>>◌}
+use Rattle.cpg_reader.specs.Reading.{Reading, done, ◌>>◌}
 use Rattle.cpg_reader.specs.Shape.{RawGraph}
 
 -- the number of a key, and the least and the greatest that it may be

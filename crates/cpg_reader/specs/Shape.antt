@@ -1,5 +1,5 @@
 -- What a document says, as far as its keys and types go: the refusals of a bad field.
-use Rattle.std.specs.Prelude.{ℕ, ℤ, pos, false, List, [], ◌∷◌, map, option_and_then}
+use Rattle.std.specs.Prelude.{ℕ, ℤ, pos, false, List, [], ◌∷◌}
 use Rattle.toml.specs.Data.{Members, as_integer, as_bool}
 use Rattle.cpg_reader.specs.declared.place.Table.{Table}
 use Rattle.cpg_reader.specs.declared.place.Table.TheVariants as tables
