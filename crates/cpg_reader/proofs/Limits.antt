@@ -1,0 +1,109 @@
+-- What is known of a document that is within the limits.
+use Rattle.std.proofs.Common.{◌≡◌, ℕ, zero, suc, ◌+◌, ◌<◌, ◌≤◌, Bool, true, false, List, [], ◌∷◌, length, get_or, Ok, Err, refl, sym, ap, ◌∙◌, subst, arith, ℤ, pos, negsuc, cond}
+use Rattle.std.specs.Prelude.{nat_le, All}
+use Rattle.std.proofs.lemmas.Bool.{and_parts, leb-true, false≢true}
+use Rattle.std.proofs.lemmas.List.{length-map}
+use Rattle.cpg_reader.specs.declared.place.Table.{Table}
+use Rattle.cpg_reader.specs.declared.place.Table.TheVariants as tables
+use Rattle.cpg_reader.specs.declared.place.What.{What}
+use Rattle.cpg_reader.specs.declared.place.What.TheVariants.{Nodes, Slots, Processes, Edges, Conditions}
+use Rattle.cpg_reader.specs.declared.place.ReadFault.{ReadFault}
+use Rattle.cpg_reader.specs.declared.ranges.Bounded.{Bounded}
+use Rattle.cpg_reader.specs.Reading.{Reading, done}
+use Rattle.cpg_reader.specs.Shape.{RawGraph}
+use Rattle.cpg_reader.specs.Ranges.{top_numbers, slot_numbers, process_numbers, edge_numbers, is_within, in_range, all_in_range, at_most, sources, different, limits}
+use Rattle.cpg_reader.specs.Names.{natural, process_names}
+use Rattle.cpg_reader.proofs.Steps.{then-parts}
+
+-- numbers in their ranges
+abbrev pub AreIn : List Bounded → Type 0
+AreIn [] = Unit {0}
+AreIn (n ∷ ns) = (n.low ≤ natural n.value) × (natural n.value ≤ n.high) × AreIn ns
+
+pub record AreLimits (g : RawGraph) : Type 0 where
+  pub nodes : length g.nodes ≤ 16
+  pub slots : length g.slots ≤ 16
+  pub processes : length g.processes ≤ 128
+  pub edges : length g.edges ≤ 256
+  pub top_range : AreIn (top_numbers g)
+  pub slot_ranges : All (λ s. AreIn (slot_numbers s)) g.slots
+  pub process_ranges : All (λ p. AreIn (process_numbers p)) g.processes
+  pub edge_ranges : All (λ e. AreIn (edge_numbers e)) g.edges
+  pub conditions : length (different [] (sources g.edges)) ≤ 32
+
+passes : {T : Type 0} (b : Bool) (next : Reading T) (fault : ReadFault) (x : T) → cond b next (Err fault) ≡ Ok x → (b ≡ true) × (next ≡ Ok x)
+passes true next fault x h = (refl, h)
+passes false next fault x h = cc
+
+at_most-le : {T : Type 0} (limit : ℕ) (what : What) (xs : List T) (x : Unit {0}) → at_most limit what xs ≡ Ok x → length xs ≤ limit
+at_most-le limit what xs x h = leb-true (length xs) limit (passes (nat_le (length xs) limit) done _ x h).0
+
+natural-within : (low high : ℕ) (value : ℤ) → is_within low high value ≡ true → (low ≤ natural value) × (natural value ≤ high)
+natural-within low high (pos n) h =
+    let (above, below) = and_parts (nat_le low n) (nat_le n high) h in
+    (leb-true low n above, leb-true n high below)
+natural-within low high (negsuc n) h = absurd (false≢true h)
+
+AreIn-from_in_range : (table : Table) (i : ℕ) (ns : List Bounded) (x : Unit {0}) → in_range table i ns ≡ Ok x → AreIn ns
+AreIn-from_in_range table i [] x h = tt
+AreIn-from_in_range table i (n ∷ ns) x h =
+    let (here, rest) = passes (is_within n.low n.high n.value) (in_range table i ns) _ x h in
+    let (low, high) = natural-within n.low n.high n.value here in
+    (low, high, AreIn-from_in_range table i ns x rest)
+
+all_in_range-at : {T : Type 0} (table : Table) (numbers_of : T → List Bounded) (i : ℕ) (xs : List T) (x : Unit {0}) → all_in_range table numbers_of i xs ≡ Ok x → All (λ y. AreIn (numbers_of y)) xs
+all_in_range-at table numbers_of i [] x h k d l = absurd (omega arith)
+all_in_range-at table numbers_of i (y ∷ ys) x h zero d l =
+    let (_, here, rest) = then-parts (in_range table i (numbers_of y)) (all_in_range table numbers_of (i + 1) ys) x h in
+    AreIn-from_in_range table i (numbers_of y) _ here
+all_in_range-at table numbers_of i (y ∷ ys) x h (suc k) d l =
+    let (_, here, rest) = then-parts (in_range table i (numbers_of y)) (all_in_range table numbers_of (i + 1) ys) x h in
+    all_in_range-at table numbers_of (i + 1) ys x rest k d (omega arith)
+
+pub are_limits : (g : RawGraph) → limits g ≡ Ok tt → AreLimits g
+unfolding limits
+are_limits g h =
+    let (_, nodes, h1) = then-parts _ _ tt h in
+    let (_, slots, h2) = then-parts _ _ tt h1 in
+    let (_, processes, h3) = then-parts _ _ tt h2 in
+    let (_, edges, h4) = then-parts _ _ tt h3 in
+    let (_, top_range, h5) = then-parts _ _ tt h4 in
+    let (_, slot_ranges, h6) = then-parts _ _ tt h5 in
+    let (_, process_ranges, h7) = then-parts _ _ tt h6 in
+    let (_, edge_ranges, conditions) = then-parts _ _ tt h7 in
+    record {
+      nodes = at_most-le 16 Nodes g.nodes _ nodes;
+      slots = at_most-le 16 Slots g.slots _ slots;
+      processes = at_most-le 128 Processes g.processes _ processes;
+      edges = at_most-le 256 Edges g.edges _ edges;
+      top_range = AreIn-from_in_range tables.Top 0 (top_numbers g) _ top_range;
+      slot_ranges = all_in_range-at tables.Slot slot_numbers 0 g.slots _ slot_ranges;
+      process_ranges = all_in_range-at tables.Process process_numbers 0 g.processes _ process_ranges;
+      edge_ranges = all_in_range-at tables.Edge edge_numbers 0 g.edges _ edge_ranges;
+      conditions = at_most-le 32 Conditions (different [] (sources g.edges)) _ conditions;
+    }
+
+-- the numbers that code narrows are small
+pub small_slots : (g : RawGraph) → limits g ≡ Ok tt → All (λ s. natural s.bytes ≤ 65535) g.slots
+small_slots g h k d l = ((are_limits g h).slot_ranges k d l).2.1
+
+pub small_processes : (g : RawGraph) → limits g ≡ Ok tt → All (λ p. natural p.parts ≤ 65535) g.processes
+small_processes g h k d l = omega (arith, ((are_limits g h).process_ranges k d l).2.1)
+
+pub small_edges : (g : RawGraph) → limits g ≡ Ok tt → All (λ e. natural e.bytes ≤ 65535) g.edges
+small_edges g h k d l = ((are_limits g h).edge_ranges k d l).1
+
+pub few_nodes : (g : RawGraph) (names : List (List ℕ)) → limits g ≡ Ok tt → names ≡ g.nodes → length names ≤ 128
+few_nodes g names h e = omega (arith, (are_limits g h).nodes, ap length e)
+
+pub few_processes : (g : RawGraph) (names : List (List ℕ)) → limits g ≡ Ok tt → names ≡ process_names g.processes → length names ≤ 128
+few_processes g names h e = omega (arith, (are_limits g h).processes, ap length e, length-map g.processes (λ p. p.name))
+
+-- what holds of all holds of the one at a place
+pub all_at : {X : Type 0} (P : X → Type 0) (xs ys : List X) (i : ℕ) (x : X) → All P xs → ys ≡ xs → i < length ys → x ≡ get_or ys i x → P x
+all_at P xs ys i x h e l is =
+    let there : get_or xs i x ≡ x = sym (is ∙ ap (λ zs. get_or zs i x) e) in
+    subst P there (h i x (subst (λ zs. i < length zs) e l))
+
+pub small_faults : (g : RawGraph) → limits g ≡ Ok tt → natural g.faults ≤ 8
+small_faults g h = (are_limits g h).top_range.1

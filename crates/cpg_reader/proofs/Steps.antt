@@ -1,0 +1,43 @@
+-- What is known of the steps where all of them gave something.
+use Rattle.std.proofs.Common.{◌≡◌, ℕ, zero, suc, ◌+◌, ◌<◌, List, [], ◌∷◌, length, get_or, Ok, Err, refl, sym, ap, ◌∙◌, arith}
+use Rattle.cpg_reader.specs.Reading.{Reading, pure, ◌>>=◌, ◌>>◌, each}
+
+pub then-parts : {T U : Type 0} (a : Reading T) (b : Reading U) (y : U) → (a >> b) ≡ Ok y → (x : T) × (a ≡ Ok x) × (b ≡ Ok y)
+then-parts (Ok x) b y h = (x, refl, h)
+then-parts (Err fault) b y h = cc
+
+pub bind-parts : {T U : Type 0} (a : Reading T) (next : T → Reading U) (y : U) → (a >>= next) ≡ Ok y → (x : T) × (a ≡ Ok x) × (next x ≡ Ok y)
+bind-parts (Ok x) next y h = (x, refl, h)
+bind-parts (Err fault) next y h = cc
+
+ok_value : {T : Type 0} → T → Reading T → T
+ok_value d (Ok x) = x
+ok_value d (Err fault) = d
+
+pub same_ok : {T : Type 0} (x y : T) → pure x ≡ pure y → x ≡ y
+unfolding ok_value
+same_ok x y h = ap (ok_value x) h
+
+module _ {T U : Type 0} (step : ℕ → T → Reading U) where
+  pub each-parts : (i : ℕ) (x : T) (xs : List T) (ys : List U) → each step i (x ∷ xs) ≡ Ok ys → (y : U) × (zs : List U) × (ys ≡ y ∷ zs) × (step i x ≡ Ok y) × (each step (i + 1) xs ≡ Ok zs)
+  each-parts i x xs ys h =
+      let (y, first, more) = bind-parts (step i x) (λ y. each step (i + 1) xs >>= (λ ys. pure (y ∷ ys))) ys h in
+      let (zs, rest, last) = bind-parts (each step (i + 1) xs) (λ ys. pure (y ∷ ys)) ys more in
+      (y, zs, sym (same_ok (y ∷ zs) ys last), first, rest)
+
+  pub each-length : (i : ℕ) (xs : List T) (ys : List U) → each step i xs ≡ Ok ys → length ys ≡ length xs
+  each-length i [] ys h = sym (ap length (same_ok [] ys h))
+  each-length i (x ∷ xs) ys h =
+      let (y, zs, is, first, rest) = each-parts i x xs ys h in
+      ap length is ∙ ap suc (each-length (i + 1) xs zs rest)
+
+  -- each element gives the one at its place
+  pub each-at : (i : ℕ) (xs : List T) (ys : List U) → each step i xs ≡ Ok ys → (k j : ℕ) (d : T) (e : U) → i + k ≡ j → k < length xs → step j (get_or xs k d) ≡ Ok (get_or ys k e)
+  each-at i [] ys h k j d e at l = absurd (omega arith)
+  each-at i (x ∷ xs) ys h zero j d e at l =
+      let (y, zs, is, first, rest) = each-parts i x xs ys h in
+      let here : j ≡ i = omega arith in
+      rw (is, here) first
+  each-at i (x ∷ xs) ys h (suc k) j d e at l =
+      let (y, zs, is, first, rest) = each-parts i x xs ys h in
+      rw is (each-at (i + 1) xs zs rest k j d e (omega arith) (omega arith))

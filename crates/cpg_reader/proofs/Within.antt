@@ -1,0 +1,268 @@
+-- The graph of a document that is within the limits is within the limits.
+use Rattle.std.proofs.Common.{◌≡◌, ◌≢◌, ℕ, ◌<◌, ◌≤◌, false, List, [], length, get_or, map, filter, Option, Some, None, Ok, AllPairs, Contains, sym, ap, ◌∙◌, subst, inr, arith, ℤ, pos, eqb-true, zero-add}
+use Rattle.std.specs.Prelude.{All, IfSome, unwrap_or, option_map, is_some, ◌==◌}
+use Rattle.std.proofs.lemmas.Bool.{and_parts}
+use Rattle.std.proofs.lemmas.List.{length-map, get_or-map}
+use Rattle.std.proofs.lemmas.List.Elements.{Contains-get_or}
+use Rattle.std.proofs.lemmas.List.Kept.{AllPairs-from_increasing, AllPairs-filter}
+use Rattle.cpg_base.specs.declared.process.Process.{Process}
+use Rattle.cpg_base.specs.declared.process.Edge.{Edge}
+use Rattle.cpg_base.specs.declared.process.Slot.{Slot}
+use Rattle.cpg_base.specs.Numbers.{numbers_below}
+use Rattle.cpg_base.specs.Graph.{Graph, condition_count}
+use Rattle.cpg_base.specs.Conditions.{is_conditional_output, has_conditional_output}
+use Rattle.cpg_base.specs.Limits.{IsProcessWithin, IsSlotWithin, IsEdgeWithin, IsWithinLimits}
+use Rattle.cpg_base.proofs.Lists.{Contains-map, Contains-map_parts, Contains-filter, Contains-filter_parts, numbers-Contains, numbers_rise, list_any_parts}
+use Rattle.cpg_base.proofs.Pairs.{length-le_of_apart}
+use Rattle.cpg_base.proofs.Found.{conditions_found}
+use Rattle.cpg_reader.specs.declared.shape.RawSlot.{RawSlot}
+use Rattle.cpg_reader.specs.declared.shape.RawProcess.{RawProcess}
+use Rattle.cpg_reader.specs.declared.shape.RawEdge.{RawEdge}
+use Rattle.cpg_reader.specs.declared.place.Table.TheVariants as tables
+use Rattle.cpg_reader.specs.declared.place.Key.TheVariants.{Name, Node, From, To}
+use Rattle.cpg_reader.specs.Reading.{each}
+use Rattle.cpg_reader.specs.Shape.{RawGraph}
+use Rattle.cpg_reader.specs.Ranges.{sources, different, limits}
+use Rattle.cpg_reader.specs.Names.{place, natural, number_of, slot_of, process_of, edge_of, slot_names, process_names, graph_with, resolved, graph_of}
+use Rattle.cpg_reader.proofs.Steps.{then-parts, bind-parts, same_ok, each-length, each-at}
+use Rattle.cpg_reader.proofs.Limits.{AreLimits, are_limits}
+use Rattle.cpg_reader.proofs.Numbering.{number-is, apart-pairs, different-Contains}
+
+-- what a document says and what its graph has of it
+record ShowsSlot (nodes : List (List ℕ)) (i : ℕ) (raw : RawSlot) (s : Slot) : Type 0 where
+  pub node : number_of nodes (place tables.Slot i Node) raw.node ≡ Ok s.node
+  pub length : natural raw.length ≡ s.length
+  pub bytes : natural raw.bytes ≡ s.bytes
+
+shows_slot : (nodes : List (List ℕ)) (i : ℕ) (raw : RawSlot) (s : Slot) → slot_of nodes i raw ≡ Ok s → ShowsSlot nodes i raw s
+unfolding slot_of
+shows_slot nodes i raw s h =
+    let (node, found, rest) = bind-parts (number_of nodes (place tables.Slot i Node) raw.node) _ s h in
+    let is = same_ok _ s rest in
+    record { node = found ∙ ap (λ (x : Slot). Ok x.node) is; length = ap (λ (x : Slot). x.length) is; bytes = ap (λ (x : Slot). x.bytes) is }
+
+record ShowsProcess (nodes : List (List ℕ)) (i : ℕ) (raw : RawProcess) (p : Process) : Type 0 where
+  pub name : raw.name ≡ p.name
+  pub node : number_of nodes (place tables.Process i Node) raw.node ≡ Ok p.node
+  pub wcet : natural raw.wcet ≡ p.wcet
+  pub parts : natural raw.parts ≡ p.parts
+  pub alpha : natural raw.alpha ≡ p.alpha
+  pub chi : natural raw.chi ≡ p.chi
+  pub mu : natural raw.mu ≡ p.mu
+  pub release : natural raw.release ≡ p.release
+  pub deadline : option_map natural raw.deadline ≡ p.deadline
+
+shows_process : (nodes : List (List ℕ)) (i : ℕ) (raw : RawProcess) (p : Process) → process_of nodes i raw ≡ Ok p → ShowsProcess nodes i raw p
+unfolding process_of
+shows_process nodes i raw p h =
+    let (node, found, rest) = bind-parts (number_of nodes (place tables.Process i Node) raw.node) _ p h in
+    let is = same_ok _ p rest in
+    record {
+      name = ap (λ (x : Process). x.name) is;
+      node = found ∙ ap (λ (x : Process). Ok x.node) is;
+      wcet = ap (λ (x : Process). x.wcet) is;
+      parts = ap (λ (x : Process). x.parts) is;
+      alpha = ap (λ (x : Process). x.alpha) is;
+      chi = ap (λ (x : Process). x.chi) is;
+      mu = ap (λ (x : Process). x.mu) is;
+      release = ap (λ (x : Process). x.release) is;
+      deadline = ap (λ (x : Process). x.deadline) is;
+    }
+
+record ShowsEdge (processes : List (List ℕ)) (i : ℕ) (raw : RawEdge) (e : Edge) : Type 0 where
+  pub from : number_of processes (place tables.Edge i From) raw.from ≡ Ok e.from
+  pub to : number_of processes (place tables.Edge i To) raw.to ≡ Ok e.to
+  pub size : natural raw.bytes ≡ e.size
+  pub when : raw.when ≡ e.when
+
+shows_edge : (processes : List (List ℕ)) (i : ℕ) (raw : RawEdge) (e : Edge) → edge_of processes i raw ≡ Ok e → ShowsEdge processes i raw e
+unfolding edge_of
+shows_edge processes i raw e h =
+    let (from, found, next) = bind-parts (number_of processes (place tables.Edge i From) raw.from) _ e h in
+    let (to, met, rest) = bind-parts (number_of processes (place tables.Edge i To) raw.to) _ e next in
+    let is = same_ok _ e rest in
+    record { from = found ∙ ap (λ (x : Edge). Ok x.from) is; to = met ∙ ap (λ (x : Edge). Ok x.to) is; size = ap (λ (x : Edge). x.size) is; when = ap (λ (x : Edge). x.when) is }
+
+-- the parts of the graph of a document
+record AreParts (g : RawGraph) (ss : List Slot) (ps : List Process) (es : List Edge) : Type 0 where
+  pub nodes_apart : AllPairs (λ a b. a ≢ b) g.nodes
+  pub slots_apart : AllPairs (λ a b. a ≢ b) (slot_names g.slots)
+  pub processes_apart : AllPairs (λ a b. a ≢ b) (process_names g.processes)
+  pub slots : each (slot_of g.nodes) 0 g.slots ≡ Ok ss
+  pub processes : each (process_of g.nodes) 0 g.processes ≡ Ok ps
+  pub edges : each (edge_of (process_names g.processes)) 0 g.edges ≡ Ok es
+
+deadline_within : (own : Option ℤ) (most : ℕ) → natural (unwrap_or own (pos 0)) ≤ most → IfSome (option_map natural own) (λ d. d ≤ most)
+deadline_within (Some d) most h = h
+deadline_within None most h = tt
+
+some_slot : RawSlot
+some_slot = record { node = []; length = pos 0; bytes = pos 0 }
+
+some_process : RawProcess
+some_process = record { name = []; node = []; wcet = pos 0; parts = pos 0; alpha = pos 0; chi = pos 0; mu = pos 0; join = false; frozen = false; release = pos 0; deadline = None }
+
+some_edge : RawEdge
+some_edge = record { from = []; to = []; bytes = pos 0; when = None; frozen = false }
+
+module _ (g : RawGraph) (ss : List Slot) (ps : List Process) (es : List Edge) (limited : AreLimits g) (parts : AreParts g ss ps es) where
+  slot_count : length ss ≡ length g.slots
+  slot_count = each-length (slot_of g.nodes) 0 g.slots ss parts.slots
+
+  process_count : length ps ≡ length g.processes
+  process_count = each-length (process_of g.nodes) 0 g.processes ps parts.processes
+
+  edge_count : length es ≡ length g.edges
+  edge_count = each-length (edge_of (process_names g.processes)) 0 g.edges es parts.edges
+
+  name_count : length (process_names g.processes) ≡ length ps
+  name_count = length-map g.processes (λ p. p.name) ∙ sym process_count
+
+  slot_there : (k : ℕ) (d : Slot) → k < length ss → ShowsSlot g.nodes k (get_or g.slots k some_slot) (get_or ss k d)
+  slot_there k d l = shows_slot g.nodes k _ _ (each-at (slot_of g.nodes) 0 g.slots ss parts.slots k k some_slot d (zero-add k) (omega (arith, l, slot_count)))
+
+  process_there : (k : ℕ) (d : Process) → k < length ps → ShowsProcess g.nodes k (get_or g.processes k some_process) (get_or ps k d)
+  process_there k d l = shows_process g.nodes k _ _ (each-at (process_of g.nodes) 0 g.processes ps parts.processes k k some_process d (zero-add k) (omega (arith, l, process_count)))
+
+  edge_there : (k : ℕ) (d : Edge) → k < length es → ShowsEdge (process_names g.processes) k (get_or g.edges k some_edge) (get_or es k d)
+  edge_there k d l = shows_edge (process_names g.processes) k _ _ (each-at (edge_of (process_names g.processes)) 0 g.edges es parts.edges k k some_edge d (zero-add k) (omega (arith, l, edge_count)))
+
+  slots_within : All (IsSlotWithin (length g.nodes)) ss
+  slots_within k d l =
+      let shown = slot_there k d l in
+      let ranges = limited.slot_ranges k some_slot (omega (arith, l, slot_count)) in
+      record {
+        node = (number-is g.nodes _ _ _ shown.node []).0;
+        lasts = rw (← shown.length) ranges.0;
+        length = rw (← shown.length) ranges.1;
+        holds = rw (← shown.bytes) ranges.2.0;
+        bytes = rw (← shown.bytes) ranges.2.1;
+      }
+
+  processes_within : All (IsProcessWithin (length g.nodes)) ps
+  processes_within k d l =
+      let shown = process_there k d l in
+      let ranges = limited.process_ranges k some_process (omega (arith, l, process_count)) in
+      record {
+        node = (number-is g.nodes _ _ _ shown.node []).0;
+        works = rw (← shown.wcet) ranges.0;
+        wcet = rw (← shown.wcet) ranges.1;
+        divided = rw (← shown.parts) ranges.2.0;
+        parts = rw (← shown.parts) ranges.2.1;
+        alpha = rw (← shown.alpha) ranges.2.2.1;
+        chi = rw (← shown.chi) ranges.2.2.2.1;
+        mu = rw (← shown.mu) ranges.2.2.2.2.1;
+        release = rw (← shown.release) ranges.2.2.2.2.2.1;
+        deadline = rw (← shown.deadline) (deadline_within (get_or g.processes k some_process).deadline 1000000000 ranges.2.2.2.2.2.2.1);
+      }
+
+  edges_within : All (IsEdgeWithin (length ps)) es
+  edges_within k d l =
+      let shown = edge_there k d l in
+      let ranges = limited.edge_ranges k some_edge (omega (arith, l, edge_count)) in
+      record {
+        from = rw (← name_count) (number-is (process_names g.processes) _ _ _ shown.from []).0;
+        to = rw (← name_count) (number-is (process_names g.processes) _ _ _ shown.to []).0;
+        sized = rw (← shown.size) ranges.0;
+        size = rw (← shown.size) ranges.1;
+      }
+
+  -- the name of a process
+  named : (k : ℕ) (d : Process) → k < length ps → get_or (process_names g.processes) k [] ≡ (get_or ps k d).name
+  named k d l = get_or-map _ g.processes k some_process [] (omega (arith, l, process_count)) ∙ (process_there k d l).name
+
+  names_differ : AllPairs (λ p q. p.name ≢ q.name) ps
+  names_differ i j d lt l e =
+      parts.processes_apart i j [] lt (omega (arith, l, name_count)) (named i d (omega (arith, lt, l)) ∙ e ∙ sym (named j d l))
+
+  slots_differ : AllPairs (λ s t. s.node ≢ t.node) ss
+  slots_differ i j d lt l e =
+      let a = number-is g.nodes _ _ _ (slot_there i d (omega (arith, lt, l))).node [] in
+      let b = number-is g.nodes _ _ _ (slot_there j d l).node [] in
+      let name_i = get_or-map (λ (s : RawSlot). s.node) g.slots i some_slot [] (omega (arith, lt, l, slot_count)) in
+      let name_j = get_or-map (λ (s : RawSlot). s.node) g.slots j some_slot [] (omega (arith, l, slot_count)) in
+      let same = sym a.1 ∙ ap (λ n. get_or g.nodes n []) e ∙ b.1 in
+      parts.slots_apart i j [] lt (omega (arith, l, slot_count, length-map g.slots (λ s. s.node))) (name_i ∙ same ∙ sym name_j)
+
+  -- the processes with a condition, and what they are called
+  conditional : List ℕ
+  conditional = filter (has_conditional_output es) (numbers_below (length ps))
+
+  name_of : ℕ → List ℕ
+  name_of p = get_or (process_names g.processes) p []
+
+  conditional_below : (p : ℕ) → Contains conditional p → p < length ps
+  unfolding conditional
+  conditional_below p c = numbers-Contains (length ps) p (Contains-filter_parts (has_conditional_output es) (numbers_below (length ps)) p c).0
+
+  conditional_names_differ : AllPairs (λ a b. a ≢ b) (map name_of conditional)
+  unfolding conditional name_of
+  conditional_names_differ i j d lt l e =
+      let l' : j < length conditional = omega (arith, l, length-map conditional name_of) in
+      let at_i = get_or-map name_of conditional i 0 d (omega (arith, lt, l')) in
+      let at_j = get_or-map name_of conditional j 0 d l' in
+      let rise = AllPairs-filter (λ x y. x < y) (has_conditional_output es) (numbers_below (length ps)) (AllPairs-from_increasing (numbers_below (length ps)) (numbers_rise (length ps))) i j 0 lt l' in
+      parts.processes_apart (get_or conditional i 0) (get_or conditional j 0) [] rise
+      (omega (arith, name_count, conditional_below (get_or conditional j 0) (Contains-get_or conditional j 0 l')))
+      (sym at_i ∙ e ∙ at_j)
+
+  -- a process with a condition is the source of a conditional edge
+  conditional_named : (p : ℕ) → Contains conditional p → Contains (sources g.edges) (name_of p)
+  unfolding conditional name_of
+  conditional_named p c =
+      let (e, (k, l, here), test) = list_any_parts (is_conditional_output p) es (Contains-filter_parts (has_conditional_output es) (numbers_below (length ps)) p c).1 in
+      let (from, taken) = and_parts (e.from == p) (is_some e.when) test in
+      let shown = edge_there k e l in
+      let raw = get_or g.edges k some_edge in
+      let when : raw.when ≡ e.when = shown.when ∙ ap (λ (x : Edge). x.when) here in
+      let source : name_of p ≡ raw.from = ap name_of (sym (ap (λ (x : Edge). x.from) here ∙ eqb-true e.from p from)) ∙ (number-is (process_names g.processes) _ _ _ shown.from []).1 in
+      subst (Contains (sources g.edges)) (sym source)
+      (Contains-map (λ (r : RawEdge). r.from) (filter (λ (r : RawEdge). is_some r.when) g.edges) raw
+      (Contains-filter (λ (r : RawEdge). is_some r.when) g.edges raw (ap is_some when ∙ taken) (Contains-get_or g.edges k some_edge (omega (arith, l, edge_count)))))
+
+  few_conditional : length conditional ≤ 32
+  few_conditional =
+      let all = length-le_of_apart (map name_of conditional) (different [] (sources g.edges)) conditional_names_differ
+      (λ name c. let (p, there, is) = Contains-map_parts name_of conditional name c in
+      different-Contains [] (sources g.edges) name (inr (subst (Contains (sources g.edges)) is (conditional_named p there)))) in
+      omega (arith, all, limited.conditions, length-map conditional name_of)
+
+  conditions_within : condition_count (graph_with g ss ps es) ≤ 32
+  unfolding conditional
+  conditions_within = subst (λ n. n ≤ 32) (ap length (conditions_found (graph_with g ss ps es))) few_conditional
+
+  all_within : IsWithinLimits (graph_with g ss ps es)
+  all_within = record {
+    faults = limited.top_range.1;
+    deadline = limited.top_range.2.1;
+    few_nodes = limited.nodes;
+    few_slots = omega (arith, slot_count, limited.slots);
+    few_processes = omega (arith, process_count, limited.processes);
+    few_edges = omega (arith, edge_count, limited.edges);
+    few_conditions = conditions_within;
+    slots = slots_within;
+    processes = processes_within;
+    edges = edges_within;
+    node_names = parts.nodes_apart;
+    process_names = names_differ;
+    own_slots = slots_differ;
+  }
+
+pub graph-within : (g : RawGraph) (graph : Graph) → limits g ≡ Ok tt → graph_of g ≡ Ok graph → IsWithinLimits graph
+unfolding graph_of resolved
+graph-within g graph limited h =
+    let (_, nodes, h1) = then-parts _ _ graph h in
+    let (_, own_slots, h2) = then-parts _ _ graph h1 in
+    let (_, names, h3) = then-parts _ _ graph h2 in
+    let (ss, slots, h4) = bind-parts (each (slot_of g.nodes) 0 g.slots) _ graph h3 in
+    let (ps, processes, h5) = bind-parts (each (process_of g.nodes) 0 g.processes) _ graph h4 in
+    let (es, edges, h6) = bind-parts (each (edge_of (process_names g.processes)) 0 g.edges) _ graph h5 in
+    let parts : AreParts g ss ps es = record {
+      nodes_apart = apart-pairs tables.Node Name g.nodes _ nodes;
+      slots_apart = apart-pairs tables.Slot Node (slot_names g.slots) _ own_slots;
+      processes_apart = apart-pairs tables.Process Name (process_names g.processes) _ names;
+      slots = slots;
+      processes = processes;
+      edges = edges;
+    } in
+    subst IsWithinLimits (same_ok (graph_with g ss ps es) graph h6) (all_within g ss ps es (are_limits g limited) parts)

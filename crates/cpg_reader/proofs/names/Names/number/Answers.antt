@@ -1,0 +1,19 @@
+use Rattle.std.proofs.Common.{ap, ◌∙◌, sym}
+use Rattle.std.specs.Prelude.{bytes_eq, position}
+use Rattle.cpg_reader.proofs.Texts.{position-texts}
+use Rattle.cpg_reader.specs.Names.{number_of, known}
+use Rattle.cpg_reader.proofs.names.Names.number.Goals as goal
+
+pub returns-in-Some : goal.returns-in-Some
+unfolding number_of
+returns-in-Some c = record {
+  number =
+      ap (known c.args.place) (ap (position (bytes_eq c.args.name.now)) (sym c.self.view_is) ∙ sym (position-texts c.args.name.now c.self.inside.names.keys) ∙ sym c.get_index_of.ensures.index ∙ c.in-Some.is);
+}
+
+pub returns-in-None : goal.returns-in-None
+unfolding number_of
+returns-in-None c = record {
+  number =
+      ap (known c.args.place) (ap (position (bytes_eq c.args.name.now)) (sym c.self.view_is) ∙ sym (position-texts c.args.name.now c.self.inside.names.keys) ∙ sym c.get_index_of.ensures.index ∙ c.in-None.is);
+}

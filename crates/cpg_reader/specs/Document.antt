@@ -1,0 +1,30 @@
+-- What the bytes of a graph file say.
+use Rattle.std.specs.Prelude.{ℕ, List, Option, Some, None, Err, if◌then◌else◌}
+use Rattle.std.specs.Str.{is_utf8}
+use Rattle.toml.specs.Data.{Members}
+use Rattle.toml.specs.Parse.{parse_document}
+use Rattle.cpg_base.specs.Graph.{Graph}
+use Rattle.cpg_reader.specs.declared.place.ReadFault.TheVariants.{NotToml}
+use Rattle.cpg_reader.specs.Reading.{Reading, pure, ◌>>=◌, ◌>>◌}
+use Rattle.cpg_reader.specs.Shape.{raw_graph_at}
+use Rattle.cpg_reader.specs.Ranges.{limits}
+use Rattle.cpg_reader.specs.Names.{graph_of}
+
+abbrev pub members_if : Option Members → Reading Members
+members_if None = Err NotToml
+members_if (Some ms) = pure ms
+
+-- the table that the bytes are, where they are UTF-8 and a document
+unfoldable pub document_of : List ℕ → Reading Members
+document_of bytes = members_if (if is_utf8 bytes then parse_document bytes else None)
+
+-- the graph of a table: its keys and types are looked at first, then its limits, then its names
+unfoldable pub problem_at : Members → Reading Graph
+problem_at ms = do
+  g ← raw_graph_at ms
+  limits g
+  graph_of g
+
+-- the graph that the bytes of a file say, or the first refusal
+unfoldable pub problem_of : List ℕ → Reading Graph
+problem_of bytes = document_of bytes >>= problem_at

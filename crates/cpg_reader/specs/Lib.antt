@@ -1,0 +1,6 @@
+pub mod Reading
+pub mod Rows
+pub mod Shape
+pub mod Ranges
+pub mod Names
+pub mod Document

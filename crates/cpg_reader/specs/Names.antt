@@ -1,0 +1,85 @@
+-- What names stand for: the refusals of a double name and of an unknown one.
+use Rattle.std.specs.Prelude.{ℕ, ◌+◌, ℤ, pos, negsuc, List, [], ◌∷◌, ◌++◌, Option, Some, None, option_map, Err, map, position, bytes_eq, if◌then◌else◌}
+use Rattle.std.specs.List.{list_any}
+use Rattle.cpg_base.specs.Graph.{Graph}
+use Rattle.cpg_base.specs.declared.process.Process.{Process}
+use Rattle.cpg_base.specs.declared.process.Edge.{Edge}
+use Rattle.cpg_base.specs.declared.process.Slot.{Slot}
+use Rattle.cpg_reader.specs.declared.place.Table.{Table}
+use Rattle.cpg_reader.specs.declared.place.Table.TheVariants as tables
+use Rattle.cpg_reader.specs.declared.place.Key.{Key}
+use Rattle.cpg_reader.specs.declared.place.Key.TheVariants.{Name, Node, From, To}
+use Rattle.cpg_reader.specs.declared.place.Place.{Place}
+use Rattle.cpg_reader.specs.declared.place.ReadFault.TheVariants.{DoubleName, UnknownName}
+use Rattle.cpg_reader.specs.declared.shape.RawSlot.{RawSlot}
+use Rattle.cpg_reader.specs.declared.shape.RawProcess.{RawProcess}
+use Rattle.cpg_reader.specs.declared.shape.RawEdge.{RawEdge}
+use Rattle.cpg_reader.specs.Reading.{Reading, pure, done, ◌>>=◌, ◌>>◌, each}
+use Rattle.cpg_reader.specs.Shape.{RawGraph}
+
+abbrev pub place : Table → ℕ → Key → Place
+place table index key = record { table = table; index = index; key = key }
+
+-- no name stands among those before it
+abbrev pub apart_from : Table → Key → ℕ → List (List ℕ) → List (List ℕ) → Reading (Unit {0})
+apart_from table key i earlier [] = done
+apart_from table key i earlier (name ∷ names) = if list_any (bytes_eq name) earlier
+    then Err (DoubleName (place table i key))
+    else apart_from table key (i + 1) (earlier ++ name ∷ []) names
+
+unfoldable pub apart : Table → Key → List (List ℕ) → Reading (Unit {0})
+apart table key names = apart_from table key 0 [] names
+
+abbrev pub known : Place → Option ℕ → Reading ℕ
+known place (Some number) = pure number
+known place None = Err (UnknownName place)
+
+-- the number of a name among names
+unfoldable pub number_of : List (List ℕ) → Place → List ℕ → Reading ℕ
+number_of names place name = known place (position (bytes_eq name) names)
+
+-- an integer that isn't negative
+abbrev pub natural : ℤ → ℕ
+natural (pos n) = n
+natural (negsuc n) = 0
+
+unfoldable pub slot_of : List (List ℕ) → ℕ → RawSlot → Reading Slot
+slot_of nodes i s = do
+  node ← number_of nodes (place tables.Slot i Node) s.node
+  pure (record { node = node; length = natural s.length; bytes = natural s.bytes })
+
+unfoldable pub process_of : List (List ℕ) → ℕ → RawProcess → Reading Process
+process_of nodes i p = do
+  node ← number_of nodes (place tables.Process i Node) p.node
+  pure (record { name = p.name; node = node; wcet = natural p.wcet; parts = natural p.parts; alpha = natural p.alpha; chi = natural p.chi; mu = natural p.mu; join = p.join; frozen = p.frozen; release = natural p.release; deadline = option_map natural p.deadline })
+
+unfoldable pub edge_of : List (List ℕ) → ℕ → RawEdge → Reading Edge
+edge_of processes i e = do
+  from ← number_of processes (place tables.Edge i From) e.from
+  to ← number_of processes (place tables.Edge i To) e.to
+  pure (record { from = from; to = to; size = natural e.bytes; when = e.when; frozen = e.frozen })
+
+abbrev pub slot_names : List RawSlot → List (List ℕ)
+slot_names slots = map (λ s. s.node) slots
+
+abbrev pub process_names : List RawProcess → List (List ℕ)
+process_names processes = map (λ p. p.name) processes
+
+abbrev pub graph_with : RawGraph → List Slot → List Process → List Edge → Graph
+graph_with g slots processes edges = record { faults = natural g.faults; deadline = natural g.deadline; nodes = g.nodes; slots = slots; processes = processes; edges = edges }
+
+-- the graph of a document in which no name is double: each names something
+unfoldable pub resolved : RawGraph → Reading Graph
+resolved g = do
+  slots ← each (slot_of g.nodes) 0 g.slots
+  processes ← each (process_of g.nodes) 0 g.processes
+  edges ← each (edge_of (process_names g.processes)) 0 g.edges
+  pure (graph_with g slots processes edges)
+
+-- the graph of a document within the limits: first no name of a kind is double, then each names something
+unfoldable pub graph_of : RawGraph → Reading Graph
+graph_of g = do
+  apart tables.Node Name g.nodes
+  apart tables.Slot Node (slot_names g.slots)
+  apart tables.Process Name (process_names g.processes)
+  resolved g

@@ -1,0 +1,87 @@
+-- How much of each there may be, and in which range each number lies: the refusals of what is beyond its limit.
+use Rattle.std.specs.Prelude.{ℕ, ◌+◌, ℤ, pos, negsuc, ◌&&◌, Bool, false, List, [], ◌∷◌, ◌++◌, is_some, unwrap_or, Err, length, map, filter, nat_le, bytes_eq, if◌then◌else◌}
+use Rattle.std.specs.List.{list_any}
+use Rattle.cpg_reader.specs.declared.place.Table.{Table}
+use Rattle.cpg_reader.specs.declared.place.Table.TheVariants as tables
+use Rattle.cpg_reader.specs.declared.place.Key.TheVariants.{Faults, Deadline, Length, Bytes, Wcet, Parts, Alpha, Chi, Mu, Release}
+use Rattle.cpg_reader.specs.declared.place.What.{What}
+use Rattle.cpg_reader.specs.declared.place.What.TheVariants.{Nodes, Slots, Processes, Edges, Number, Conditions}
+use Rattle.cpg_reader.specs.declared.place.ReadFault.TheVariants.{OverLimit}
+use Rattle.cpg_reader.specs.declared.shape.RawSlot.{RawSlot}
+use Rattle.cpg_reader.specs.declared.shape.RawProcess.{RawProcess}
+use Rattle.cpg_reader.specs.declared.shape.RawEdge.{RawEdge}
+use Rattle.cpg_reader.specs.declared.ranges.Bounded.{Bounded}
+use Rattle.cpg_reader.specs.Reading.{Reading, done, ◌>>◌}
+use Rattle.cpg_reader.specs.Shape.{RawGraph}
+
+-- the number of a key, and the least and the greatest that it may be
+abbrev pub top_numbers : RawGraph → List Bounded
+top_numbers g =
+    record { key = Faults; value = g.faults; low = 0; high = 8 }
+    ∷ record { key = Deadline; value = g.deadline; low = 0; high = 1000000000 }
+    ∷ []
+
+abbrev pub slot_numbers : RawSlot → List Bounded
+slot_numbers s =
+    record { key = Length; value = s.length; low = 1; high = 1000000000 }
+    ∷ record { key = Bytes; value = s.bytes; low = 1; high = 65535 }
+    ∷ []
+
+-- a deadline that is absent counts as 0
+abbrev pub process_numbers : RawProcess → List Bounded
+process_numbers p =
+    record { key = Wcet; value = p.wcet; low = 1; high = 1000000000 }
+    ∷ record { key = Parts; value = p.parts; low = 1; high = 255 }
+    ∷ record { key = Alpha; value = p.alpha; low = 0; high = 1000000000 }
+    ∷ record { key = Chi; value = p.chi; low = 0; high = 1000000000 }
+    ∷ record { key = Mu; value = p.mu; low = 0; high = 1000000000 }
+    ∷ record { key = Release; value = p.release; low = 0; high = 1000000000 }
+    ∷ record { key = Deadline; value = unwrap_or p.deadline (pos 0); low = 0; high = 1000000000 }
+    ∷ []
+
+abbrev pub edge_numbers : RawEdge → List Bounded
+edge_numbers e = record { key = Bytes; value = e.bytes; low = 1; high = 65535 } ∷ []
+
+abbrev pub is_within : ℕ → ℕ → ℤ → Bool
+is_within low high (pos n) = nat_le low n && nat_le n high
+is_within low high (negsuc n) = false
+
+-- the numbers of one table of the document are in range
+abbrev pub in_range : Table → ℕ → List Bounded → Reading (Unit {0})
+in_range table i [] = done
+in_range table i (n ∷ ns) = if is_within n.low n.high n.value
+    then in_range table i ns
+    else Err (OverLimit (Number (record { table = table; index = i; key = n.key })))
+
+-- the numbers of all elements of a list are in range
+abbrev pub all_in_range : {T : Type 0} → Table → (T → List Bounded) → ℕ → List T → Reading (Unit {0})
+all_in_range table numbers_of i [] = done
+all_in_range table numbers_of i (x ∷ xs) = do
+  in_range table i (numbers_of x)
+  all_in_range table numbers_of (i + 1) xs
+
+-- there are no more than so many
+abbrev pub at_most : {T : Type 0} → ℕ → What → List T → Reading (Unit {0})
+at_most limit what xs = if nat_le (length xs) limit then done else Err (OverLimit what)
+
+-- the sources of the conditional edges
+abbrev pub sources : List RawEdge → List (List ℕ)
+sources edges = map (λ e. e.from) (filter (λ e. is_some e.when) edges)
+
+-- the names that were seen, and of the others each that is different from all before it
+abbrev pub different : List (List ℕ) → List (List ℕ) → List (List ℕ)
+different seen [] = seen
+different seen (name ∷ names) = different (if list_any (bytes_eq name) seen then seen else seen ++ name ∷ []) names
+
+-- a document within the limits
+unfoldable pub limits : RawGraph → Reading (Unit {0})
+limits g = do
+  at_most 16 Nodes g.nodes
+  at_most 16 Slots g.slots
+  at_most 128 Processes g.processes
+  at_most 256 Edges g.edges
+  in_range tables.Top 0 (top_numbers g)
+  all_in_range tables.Slot slot_numbers 0 g.slots
+  all_in_range tables.Process process_numbers 0 g.processes
+  all_in_range tables.Edge edge_numbers 0 g.edges
+  at_most 32 Conditions (different [] (sources g.edges))

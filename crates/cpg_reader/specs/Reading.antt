@@ -1,0 +1,45 @@
+-- Reading, step by step: each step gives a value or the refusal of the document.
+use Rattle.std.specs.Prelude.{◌≡◌, ℕ, ◌+◌, List, [], ◌∷◌, Result, Ok, Err}
+use Rattle.cpg_reader.specs.declared.place.ReadFault.{ReadFault}
+use Rattle.cpg_reader.specs.declared.place.ReadFault.TheVariants.{NotToml, BadField, DoubleName, UnknownName, OverLimit, OutOfMemory}
+
+abbrev pub Reading : Type 0 → Type 0
+Reading T = Result T ReadFault
+
+abbrev pub pure : {T : Type 0} → T → Reading T
+pure x = Ok x
+
+abbrev pub done : Reading (Unit {0})
+done = Ok tt
+
+-- a step and the next one, which isn't taken where the first refuses
+infixl 10 ◌>>=◌
+abbrev pub ◌>>=◌ : {T U : Type 0} → Reading T → (T → Reading U) → Reading U
+(Ok x >>= next) = next x
+(Err fault >>= next) = Err fault
+
+infixl 10 ◌>>◌
+abbrev pub ◌>>◌ : {T U : Type 0} → Reading T → Reading U → Reading U
+(Ok x >> next) = next
+(Err fault >> next) = Err fault
+
+-- one step for each element, with its index
+abbrev pub each : {T U : Type 0} → (ℕ → T → Reading U) → ℕ → List T → Reading (List U)
+each step i [] = pure []
+each step i (x ∷ xs) = do
+  y ← step i x
+  ys ← each step (i + 1) xs
+  pure (y ∷ ys)
+
+-- what code answers whose only other refusal is want of memory
+abbrev pub Refuses : {T : Type 0} → ReadFault → Reading T → Type 0
+Refuses NotToml reading = reading ≡ Err NotToml
+Refuses (BadField place) reading = reading ≡ Err (BadField place)
+Refuses (DoubleName place) reading = reading ≡ Err (DoubleName place)
+Refuses (UnknownName place) reading = reading ≡ Err (UnknownName place)
+Refuses (OverLimit what) reading = reading ≡ Err (OverLimit what)
+Refuses OutOfMemory reading = Unit {0}
+
+abbrev pub Gives : {S T : Type 0} → (S → T) → Reading S → Reading T → Type 0
+Gives view (Ok x) reading = reading ≡ Ok (view x)
+Gives view (Err fault) reading = Refuses fault reading

@@ -1,0 +1,128 @@
+-- The tables of a document, and what stands at their keys.
+use Rattle.std.specs.Prelude.{ℕ, ℤ, ◌&&◌, Bool, true, List, [], ◌∷◌, Option, Some, None, Err, codes, bytes_eq, nat_le, length, option_and_then, option_map, unwrap_or, if◌then◌else◌}
+use Rattle.std.specs.List.{list_any, list_all}
+use Rattle.toml.specs.Data.{Data, table, Items, no_items, item, Members, no_members, member, get_member, as_str, as_integer, as_bool, as_array}
+use Rattle.toml.specs.View.{table_view}
+use Rattle.cpg_base.specs.Name.{is_name_byte}
+use Rattle.cpg_reader.specs.declared.place.Place.{Place}
+use Rattle.cpg_reader.specs.declared.place.Table.{Table}
+use Rattle.cpg_reader.specs.declared.place.Key.{Key}
+use Rattle.cpg_reader.specs.declared.place.Key.TheVariants.{Faults, Deadline, Node, Slot, Process, Edge, Name, Length, Bytes, Wcet, Parts, Alpha, Chi, Mu, Join, Frozen, Release, From, To, When, Unknown}
+use Rattle.cpg_reader.specs.declared.place.ReadFault.TheVariants.{BadField}
+use Rattle.cpg_reader.specs.declared.row.Row.{Row as RowOfCode}
+use Rattle.cpg_reader.specs.Reading.{Reading, pure, done, ◌>>=◌}
+
+-- a key as it is written
+abbrev pub text_of : Key → List ℕ
+text_of Faults = codes "faults"
+text_of Deadline = codes "deadline"
+text_of Node = codes "node"
+text_of Slot = codes "slot"
+text_of Process = codes "process"
+text_of Edge = codes "edge"
+text_of Name = codes "name"
+text_of Length = codes "length"
+text_of Bytes = codes "bytes"
+text_of Wcet = codes "wcet"
+text_of Parts = codes "parts"
+text_of Alpha = codes "alpha"
+text_of Chi = codes "chi"
+text_of Mu = codes "mu"
+text_of Join = codes "join"
+text_of Frozen = codes "frozen"
+text_of Release = codes "release"
+text_of From = codes "from"
+text_of To = codes "to"
+text_of When = codes "when"
+text_of Unknown = []
+
+-- a table of the document and where it stands
+pub record Row : Type 0 where
+  pub table : Table
+  pub index : ℕ
+  pub members : Members
+
+abbrev pub row_view : RowOfCode → Row
+row_view r = record { table = r.table; index = r.index; members = table_view r.members.now }
+
+-- the place of a key in a table of the document
+abbrev pub place_in : Row → Key → Place
+place_in row key = record { table = row.table; index = row.index; key = key }
+
+-- the refusal of what stands at a key
+abbrev pub bad : {T : Type 0} → Row → Key → Reading T
+bad row key = Err (BadField (place_in row key))
+
+-- what stands at a key
+abbrev pub value_at : Row → Key → Option Data
+value_at row key = get_member (text_of key) row.members
+
+abbrev pub typed_in : {T : Type 0} → Row → Key → Option T → Reading (Option T)
+typed_in row key None = bad row key
+typed_in row key (Some x) = pure (Some x)
+
+-- what stands at a key, as what it has to be, where anything stands there
+abbrev pub optional_in : {T : Type 0} → Row → Key → (Data → Option T) → Option Data → Reading (Option T)
+optional_in row key as_type None = pure None
+optional_in row key as_type (Some d) = typed_in row key (as_type d)
+
+unfoldable pub optional : {T : Type 0} → (Data → Option T) → Row → Key → Reading (Option T)
+optional as_type row key = optional_in row key as_type (value_at row key)
+
+abbrev pub required_in : {T : Type 0} → Row → Key → Option T → Reading T
+required_in row key None = bad row key
+required_in row key (Some x) = pure x
+
+-- the same where something has to stand
+abbrev pub required : {T : Type 0} → (Data → Option T) → Row → Key → Reading T
+required as_type row key = optional as_type row key >>= required_in row key
+
+-- the same with a default
+abbrev pub with_default : {T : Type 0} → T → (Data → Option T) → Row → Key → Reading T
+with_default value as_type row key = do
+  found ← optional as_type row key
+  pure (unwrap_or found value)
+
+-- a text that is a name
+abbrev pub is_name : List ℕ → Bool
+is_name text = nat_le 1 (length text) && nat_le (length text) 32 && list_all is_name_byte text
+
+abbrev pub name_if : List ℕ → Option (List ℕ)
+name_if text = if is_name text then Some text else None
+
+abbrev pub as_name : Data → Option (List ℕ)
+as_name d = option_and_then name_if (as_str d)
+
+-- an array of tables
+abbrev pub tables_in : Items → Option (List Members)
+tables_in no_items = Some []
+tables_in (item (table ms) ds) = option_map (λ rest. ms ∷ rest) (tables_in ds)
+tables_in (item _ ds) = None
+
+abbrev pub as_tables : Data → Option (List Members)
+as_tables d = option_and_then tables_in (as_array d)
+
+-- whether each key of a table is one of these
+abbrev pub are_listed : List Key → Members → Bool
+are_listed keys no_members = true
+are_listed keys (member text d ms) = list_any (λ key. bytes_eq (text_of key) text) keys && are_listed keys ms
+
+-- a table has none but these keys
+unfoldable pub only : List Key → Row → Reading (Unit {0})
+only keys row = if are_listed keys row.members then done else bad row Unknown
+
+-- the fields of a table, by what they are
+unfoldable pub name_at : Row → Key → Reading (List ℕ)
+name_at = required as_name
+
+unfoldable pub integer_at : Row → Key → Reading ℤ
+integer_at = required as_integer
+
+unfoldable pub integer_or : ℤ → Row → Key → Reading ℤ
+integer_or value = with_default value as_integer
+
+unfoldable pub flag_or : Bool → Row → Key → Reading Bool
+flag_or value = with_default value as_bool
+
+unfoldable pub tables_at : Row → Key → Reading (List Members)
+tables_at = with_default [] as_tables

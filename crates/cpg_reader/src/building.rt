@@ -1,0 +1,236 @@
+//! Building of a graph from what a document says.
+ghost use Rattle.std.specs.Prelude.{◌≡◌, ◌≤◌, length, Ok, IfOk, option_map};
+ghost use Rattle.cpg_reader.specs.Reading.{Gives, each};
+ghost use Rattle.cpg_reader.specs.Shape.{raw_view};
+ghost use Rattle.cpg_reader.specs.Ranges.{limits};
+ghost use Rattle.cpg_reader.specs.Names.{natural, slot_of, process_of, edge_of, slot_names, process_names, apart, graph_with, resolved, graph_of};
+
+use crate::names::Names;
+use crate::place::{Key, Place, ReadFault, Table};
+use crate::shape::{RawEdge, RawProblem, RawProcess, RawSlot};
+use cpg_base::{Edge, Problem, Process, Slot};
+use std::alloc::Global;
+
+fn natural(number: i64) -> u64
+    ensures { result ≡ natural number }
+{
+    if number < 0 { 0 } else { number as u64 }
+}
+
+fn small(number: i64) -> u32
+    requires { natural number ≤ 65535 }
+    ensures { result ≡ natural number }
+{
+    natural(number) as u32
+}
+
+fn optional_natural(number: Option<i64>) -> Option<u64>
+    ensures { result ≡ option_map natural number }
+{
+    match number {
+        Some(number) => Some(natural(number)),
+        None => None,
+    }
+}
+
+#[tactic(auto, unfolding(crate::specs::Names::slot_of))]
+fn slot_of(raw: &RawSlot, index: u64, nodes: &Names<'_>) -> Result<Slot, ReadFault>
+    requires few { length nodes.now ≤ 128 }
+    requires bytes { natural raw.now.bytes ≤ 65535 }
+    ensures { Gives (λ s. s) result (slot_of nodes.now index raw.now) }
+{
+    let place = Place {
+        table: Table::Slot,
+        index,
+        key: Key::Node,
+    };
+    let node = nodes.number(place, raw.node.as_str())?;
+    Ok(Slot {
+        node,
+        length: natural(raw.length),
+        bytes: small(raw.bytes),
+    })
+}
+
+#[tactic(auto, unfolding(crate::specs::Names::process_of))]
+fn process_of(raw: &RawProcess, index: u64, nodes: &Names<'_>) -> Result<Process, ReadFault>
+    requires few { length nodes.now ≤ 128 }
+    requires parts { natural raw.now.parts ≤ 65535 }
+    ensures { Gives (λ p. p) result (process_of nodes.now index raw.now) }
+{
+    let place = Place {
+        table: Table::Process,
+        index,
+        key: Key::Node,
+    };
+    let node = nodes.number(place, raw.node.as_str())?;
+    Ok(Process {
+        name: raw.name.copy()?,
+        node,
+        wcet: natural(raw.wcet),
+        parts: small(raw.parts),
+        alpha: natural(raw.alpha),
+        chi: natural(raw.chi),
+        mu: natural(raw.mu),
+        join: raw.join,
+        frozen: raw.frozen,
+        release: natural(raw.release),
+        deadline: optional_natural(raw.deadline),
+    })
+}
+
+#[tactic(auto, unfolding(crate::specs::Names::edge_of))]
+fn edge_of(raw: &RawEdge, index: u64, processes: &Names<'_>) -> Result<Edge, ReadFault>
+    requires few { length processes.now ≤ 128 }
+    requires bytes { natural raw.now.bytes ≤ 65535 }
+    ensures { Gives (λ e. e) result (edge_of processes.now index raw.now) }
+{
+    let place = Place {
+        table: Table::Edge,
+        index,
+        key: Key::From,
+    };
+    let from = processes.number(place, raw.from.as_str())?;
+    let place = Place {
+        table: Table::Edge,
+        index,
+        key: Key::To,
+    };
+    let to = processes.number(place, raw.to.as_str())?;
+    Ok(Edge {
+        from,
+        to,
+        size: small(raw.bytes),
+        when: raw.when,
+        frozen: raw.frozen,
+    })
+}
+
+fn slots_of(alloc: Global, raw: &RawProblem, nodes: &Names<'_>) -> Result<Vec<Slot>, ReadFault>
+    requires limits { limits (raw_view raw.now) ≡ Ok tt }
+    requires nodes { nodes.now ≡ (raw_view raw.now).nodes }
+    ensures { Gives (λ v. v.items) result (each (slot_of nodes.now) 0 (raw_view raw.now).slots) }
+{
+    let mut slots = Vec::with_capacity(alloc, raw.slots.len())?;
+    for (index, slot) in raw.slots.iter().enumerate() {
+        slots.push(slot_of(slot, index as u64, nodes)?)?;
+    }
+    Ok(slots)
+}
+
+fn processes_of(
+    alloc: Global,
+    raw: &RawProblem,
+    nodes: &Names<'_>,
+) -> Result<Vec<Process>, ReadFault>
+    requires limits { limits (raw_view raw.now) ≡ Ok tt }
+    requires nodes { nodes.now ≡ (raw_view raw.now).nodes }
+    ensures { Gives (λ v. v.items) result (each (process_of nodes.now) 0 (raw_view raw.now).processes) }
+{
+    let mut processes = Vec::with_capacity(alloc, raw.processes.len())?;
+    for (index, process) in raw.processes.iter().enumerate() {
+        processes.push(process_of(process, index as u64, nodes)?)?;
+    }
+    Ok(processes)
+}
+
+fn edges_of(alloc: Global, raw: &RawProblem, processes: &Names<'_>) -> Result<Vec<Edge>, ReadFault>
+    requires limits { limits (raw_view raw.now) ≡ Ok tt }
+    requires processes { processes.now ≡ process_names (raw_view raw.now).processes }
+    ensures { Gives (λ v. v.items) result (each (edge_of processes.now) 0 (raw_view raw.now).edges) }
+{
+    let mut edges = Vec::with_capacity(alloc, raw.edges.len())?;
+    for (index, edge) in raw.edges.iter().enumerate() {
+        edges.push(edge_of(edge, index as u64, processes)?)?;
+    }
+    Ok(edges)
+}
+
+/// The parts of a document that hold numbers in place of names.
+#[derive(Drop)]
+struct Parts {
+    slots: Vec<Slot>,
+    processes: Vec<Process>,
+    edges: Vec<Edge>,
+}
+
+#[tactic(auto, unfolding(crate::specs::Names::resolved))]
+fn resolved(
+    alloc: Global,
+    raw: &RawProblem,
+    nodes: &Names<'_>,
+    names: &Names<'_>,
+) -> Result<Parts, ReadFault>
+    requires limits { limits (raw_view raw.now) ≡ Ok tt }
+    requires nodes { nodes.now ≡ (raw_view raw.now).nodes }
+    requires names { names.now ≡ process_names (raw_view raw.now).processes }
+    ensures { Gives (λ p. graph_with (raw_view raw.now) p.slots.items p.processes.items p.edges.items) result (resolved (raw_view raw.now)) }
+{
+    let slots = slots_of(alloc, raw, nodes)?;
+    let processes = processes_of(alloc, raw, nodes)?;
+    let edges = edges_of(alloc, raw, names)?;
+    Ok(Parts {
+        slots,
+        processes,
+        edges,
+    })
+}
+
+fn node_names<'a>(alloc: Global, raw: &'a RawProblem) -> Result<Names<'a>, ReadFault>
+    ensures apart { Gives (λ _. tt) result (apart Table.Node Key.Name (raw_view raw.now).nodes) }
+    ensures names { IfOk result (λ names. names ≡ (raw_view raw.now).nodes) }
+{
+    Names::of(alloc, Table::Node, Key::Name, raw.nodes.as_slice())
+}
+
+fn slots_differ(alloc: Global, raw: &RawProblem) -> Result<(), ReadFault>
+    ensures { Gives (λ _. tt) result (apart Table.Slot Key.Node (slot_names (raw_view raw.now).slots)) }
+{
+    Names::of(alloc, Table::Slot, Key::Node, raw.slots.as_slice())?;
+    Ok(())
+}
+
+fn process_names<'a>(alloc: Global, raw: &'a RawProblem) -> Result<Names<'a>, ReadFault>
+    ensures apart { Gives (λ _. tt) result (apart Table.Process Key.Name (process_names (raw_view raw.now).processes)) }
+    ensures names { IfOk result (λ names. names ≡ process_names (raw_view raw.now).processes) }
+{
+    Names::of(alloc, Table::Process, Key::Name, raw.processes.as_slice())
+}
+
+#[tactic(auto, unfolding(crate::specs::Names::graph_of))]
+fn parts_of(alloc: Global, raw: &RawProblem) -> Result<Parts, ReadFault>
+    requires { limits (raw_view raw.now) ≡ Ok tt }
+    ensures { Gives (λ p. graph_with (raw_view raw.now) p.slots.items p.processes.items p.edges.items) result (graph_of (raw_view raw.now)) }
+{
+    let nodes = node_names(alloc, raw)?;
+    slots_differ(alloc, raw)?;
+    let processes = process_names(alloc, raw)?;
+    let parts = resolved(alloc, raw, &nodes, &processes)?;
+    Ok(parts)
+}
+
+fn faults_of(raw: &RawProblem) -> u8
+    requires { limits (raw_view raw.now) ≡ Ok tt }
+    ensures { result ≡ natural raw.now.faults }
+{
+    natural(raw.faults) as u8
+}
+
+/// The graph of a document that is within the limits.
+pub fn problem_of(alloc: Global, raw: RawProblem) -> Result<Problem, ReadFault>
+    requires { limits (raw_view raw) ≡ Ok tt }
+    ensures { Gives (λ p. p) result (graph_of (raw_view raw)) }
+{
+    let parts = parts_of(alloc, &raw)?;
+    let faults = faults_of(&raw);
+    let deadline = natural(raw.deadline);
+    let problem = Problem::new(
+        faults,
+        deadline,
+        raw.nodes,
+        parts.slots,
+        parts.processes,
+        parts.edges,
+    );
+    Ok(problem.unwrap())
+}

@@ -1,0 +1,95 @@
+//! Names and their numbers.
+ghost use Rattle.std.specs.Prelude.{◌≡◌, ◌≤◌, ◌<◌, ℕ, List, map, length, IfOk, IfSome, position, bytes_eq};
+ghost use Rattle.cpg_reader.specs.Reading.{Gives};
+ghost use Rattle.cpg_reader.specs.Names.{apart, number_of};
+
+use crate::place::{Key, Place, ReadFault, Table};
+use crate::shape::{RawProcess, RawSlot};
+use cpg_base::Name;
+use indexmap::IndexSet;
+use std::alloc::Global;
+use std::marker::Model;
+
+/// An element that has a name, or that stands for one.
+pub trait Named {
+    ghost named: { Self → List ℕ };
+
+    fn name(&self) -> &str
+        ensures { result.now ≡ named self.now };
+}
+
+impl Named for Name {
+    ghost named = { λ name. name };
+
+    fn name(&self) -> &str {
+        self.as_str()
+    }
+}
+
+impl Named for RawSlot {
+    ghost named = { λ slot. slot.node };
+
+    fn name(&self) -> &str {
+        self.node.as_str()
+    }
+}
+
+impl Named for RawProcess {
+    ghost named = { λ process. process.name };
+
+    fn name(&self) -> &str {
+        self.name.as_str()
+    }
+}
+
+/// Names that differ, seen as their list. The number of a name is its place.
+#[derive(Drop)]
+pub struct Names<'a> {
+    names: IndexSet<&'a str>,
+}
+
+impl<'a> Model for Names<'a> {
+    ghost use Rattle.std.specs.Prelude.{List, ℕ, map};
+
+    ghost Value = { List (List ℕ) };
+
+    ghost view = { λ n. map (λ name. name.now) n.names.keys };
+}
+
+impl<'a> Names<'a> {
+    /// The names of elements, where no two are equal.
+    #[tactic(auto, unfolding(crate::specs::Names::apart))]
+    pub fn of<T: Named>(
+        alloc: Global,
+        table: Table,
+        key: Key,
+        elements: &'a [T],
+    ) -> Result<Names<'a>, ReadFault>
+        ensures apart { Gives (λ _. tt) result (apart table key (map T.named elements.now)) }
+        ensures names { IfOk result (λ names. names ≡ map T.named elements.now) }
+    {
+        let mut names = IndexSet::new(alloc);
+        for (index, element) in elements.iter().enumerate() {
+            if !names.insert(element.name())? {
+                return Err(ReadFault::DoubleName(Place {
+                    table,
+                    index: index as u64,
+                    key,
+                }));
+            }
+        }
+        Ok(Names { names })
+    }
+
+    /// The number of a name that stands at a place.
+    #[tactic(auto, unfolding(crate::specs::Names::number_of))]
+    pub fn number(&self, place: Place, name: &str) -> Result<u32, ReadFault>
+        requires few { length self.now ≤ 128 }
+        ensures number { Gives (λ n. n) result (number_of self.now place name.now) }
+    {
+        match self.names.get_index_of(name) {
+            Some(number) => Ok(number as u32),
+            None => Err(ReadFault::UnknownName(place)),
+        }
+    }
+}

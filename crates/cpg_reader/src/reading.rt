@@ -1,0 +1,41 @@
+//! Reading of a graph file.
+ghost use Rattle.std.specs.Prelude.{◌≡◌, ◌≢◌, Err};
+ghost use Rattle.toml.specs.View.{table_view};
+ghost use Rattle.cpg_reader.specs.Reading.{Gives};
+ghost use Rattle.cpg_reader.specs.Document.{problem_at, problem_of};
+
+use crate::building::problem_of;
+use crate::place::ReadFault;
+use crate::ranges::limits;
+use crate::shape::raw_problem;
+use cpg_base::Problem;
+use std::alloc::Global;
+
+#[tactic(auto, unfolding(crate::specs::Document::problem_at))]
+fn problem_at(alloc: Global, members: &toml::Table) -> Result<Problem, ReadFault>
+    ensures { Gives (λ p. p) result (problem_at (table_view members.now)) }
+{
+    let raw = raw_problem(alloc, members)?;
+    limits(alloc, &raw)?;
+    problem_of(alloc, raw)
+}
+
+/// Reads the graph that the bytes of a graph file say. Sizes are in bytes, and times in the time units of the file.
+///
+/// The refusals come in this order, each over the whole document before the next, and each shows its first place: the
+/// bytes aren't UTF-8 or no TOML document, a field is bad, a count or a number is beyond its limit, a name stands twice,
+/// a name names nothing. Want of memory may come before any of these.
+pub fn read_problem(alloc: Global, bytes: &[u8]) -> Result<Problem, ReadFault>
+    ensures { result ≢ Err ReadFault.OutOfMemory → result ≡ problem_of bytes.now }
+{
+    match toml::table_from_slice(alloc, bytes) {
+        Ok(table) => problem_at(alloc, &table),
+        Err(error) => {
+            if error.is_memory() {
+                Err(ReadFault::OutOfMemory)
+            } else {
+                Err(ReadFault::NotToml)
+            }
+        }
+    }
+}

@@ -1,0 +1,190 @@
+//! A table of the document, and readers of its fields.
+ghost use Rattle.std.specs.Prelude.{◌≡◌, map, option_map, bytes_eq, false, IfOk};
+ghost use Rattle.std.specs.List.{list_any};
+ghost use Rattle.toml.specs.Data.{as_integer, as_bool};
+ghost use Rattle.toml.specs.View.{view, array_view, table_view};
+ghost use Rattle.cpg_reader.specs.Reading.{Gives};
+ghost use Rattle.cpg_reader.specs.Rows.{row_view, place_in, value_at, as_name, as_tables, tables_in, are_listed, optional, name_at, integer_at, integer_or, flag_or, tables_at, only, text_of};
+
+use crate::place::{Key, Place, ReadFault, Table};
+use cpg_base::{Name, OutOfMemory};
+use std::alloc::{AllocError, Global};
+use toml::Value;
+use toml::value::Array;
+
+/// A table of the document, and where it stands.
+#[derive(Clone, Copy)]
+pub struct Row<'a> {
+    pub table: Table,
+    pub index: u64,
+    pub members: &'a toml::Table,
+}
+
+impl<'a> Row<'a> {
+    fn bad(&self, key: Key) -> ReadFault
+        ensures { result ≡ ReadFault.BadField (place_in (row_view self.now) key) }
+    {
+        ReadFault::BadField(Place {
+            table: self.table,
+            index: self.index,
+            key,
+        })
+    }
+
+    fn value(&self, key: Key) -> Option<&'a Value>
+        ensures { option_map (λ v. view v.now) result ≡ value_at (row_view self.now) key }
+    {
+        self.members.get(key.text())
+    }
+
+    /// An integer, where anything stands at the key.
+    #[tactic(auto, unfolding(crate::specs::Rows::optional))]
+    pub fn optional_integer(&self, key: Key) -> Result<Option<i64>, ReadFault>
+        ensures { Gives (λ n. n) result (optional as_integer (row_view self.now) key) }
+    {
+        let Some(value) = self.value(key) else {
+            return Ok(None);
+        };
+        match value.as_integer() {
+            Some(number) => Ok(Some(number)),
+            None => Err(self.bad(key)),
+        }
+    }
+
+    /// A boolean, where anything stands at the key.
+    #[tactic(auto, unfolding(crate::specs::Rows::optional))]
+    pub fn optional_flag(&self, key: Key) -> Result<Option<bool>, ReadFault>
+        ensures { Gives (λ b. b) result (optional as_bool (row_view self.now) key) }
+    {
+        let Some(value) = self.value(key) else {
+            return Ok(None);
+        };
+        match value.as_bool() {
+            Some(flag) => Ok(Some(flag)),
+            None => Err(self.bad(key)),
+        }
+    }
+
+    /// A required integer.
+    #[tactic(auto, unfolding(crate::specs::Rows::integer_at))]
+    pub fn integer(&self, key: Key) -> Result<i64, ReadFault>
+        ensures { Gives (λ n. n) result (integer_at (row_view self.now) key) }
+    {
+        match self.optional_integer(key)? {
+            Some(number) => Ok(number),
+            None => Err(self.bad(key)),
+        }
+    }
+
+    /// An integer with a default.
+    #[tactic(auto, unfolding(crate::specs::Rows::integer_or))]
+    pub fn integer_or(&self, key: Key, value: i64) -> Result<i64, ReadFault>
+        ensures { Gives (λ n. n) result (integer_or value (row_view self.now) key) }
+    {
+        let found = self.optional_integer(key)?;
+        Ok(found.unwrap_or(value))
+    }
+
+    /// A boolean that is false by default.
+    #[tactic(auto, unfolding(crate::specs::Rows::flag_or))]
+    pub fn flag(&self, key: Key) -> Result<bool, ReadFault>
+        ensures { Gives (λ b. b) result (flag_or false (row_view self.now) key) }
+    {
+        let found = self.optional_flag(key)?;
+        Ok(found.unwrap_or(false))
+    }
+
+    /// A required name.
+    #[tactic(auto, unfolding(crate::specs::Rows::name_at, crate::specs::Rows::optional))]
+    pub fn name(&self, alloc: Global, key: Key) -> Result<Name, ReadFault>
+        ensures { Gives (λ n. n) result (name_at (row_view self.now) key) }
+    {
+        let Some(value) = self.value(key) else {
+            return Err(self.bad(key));
+        };
+        match as_name(alloc, value)? {
+            Some(name) => Ok(name),
+            None => Err(self.bad(key)),
+        }
+    }
+
+    /// An array of tables, which is empty by default.
+    #[tactic(auto, unfolding(crate::specs::Rows::tables_at, crate::specs::Rows::optional))]
+    pub fn tables(&self, alloc: Global, key: Key) -> Result<Vec<&'a toml::Table>, ReadFault>
+        ensures { Gives (λ v. map (λ t. table_view t.now) v.items) result (tables_at (row_view self.now) key) }
+    {
+        let Some(value) = self.value(key) else {
+            return Ok(Vec::new(alloc));
+        };
+        match as_tables(alloc, value)? {
+            Some(tables) => Ok(tables),
+            None => Err(self.bad(key)),
+        }
+    }
+
+    /// Refuses a key that isn't one of these.
+    #[tactic(auto, unfolding(crate::specs::Rows::only))]
+    pub fn only(&self, keys: &[Key]) -> Result<(), ReadFault>
+        ensures { Gives (λ _. tt) result (only keys.now (row_view self.now)) }
+    {
+        if !are_listed(keys, self.members) {
+            return Err(self.bad(Key::Unknown));
+        }
+        Ok(())
+    }
+}
+
+fn is_listed(keys: &[Key], text: &str) -> bool
+    ensures { result ≡ list_any (λ key. bytes_eq (text_of key) text.now) keys.now }
+{
+    keys.iter().any(|key| key.text() == text)
+}
+
+fn are_listed(keys: &[Key], members: &toml::Table) -> bool
+    ensures { result ≡ are_listed keys.now (table_view members.now) }
+{
+    for (text, _) in members.iter() {
+        if !is_listed(keys, text.as_str()) {
+            return false;
+        }
+    }
+    true
+}
+
+fn as_name(alloc: Global, value: &Value) -> Result<Option<Name>, OutOfMemory>
+    ensures { IfOk result (λ name. name ≡ as_name (view value.now)) }
+{
+    match value.as_str() {
+        Some(text) => Name::new(alloc, text),
+        None => Ok(None),
+    }
+}
+
+fn as_tables<'a>(
+    alloc: Global,
+    value: &'a Value,
+) -> Result<Option<Vec<&'a toml::Table>>, AllocError>
+    ensures { IfOk result (λ tables. option_map (λ v. map (λ t. table_view t.now) v.items) tables ≡ as_tables (view value.now)) }
+{
+    match value.as_array() {
+        Some(array) => tables_in(alloc, array),
+        None => Ok(None),
+    }
+}
+
+/// The elements of an array, and `None` where one isn't a table.
+fn tables_in<'a>(
+    alloc: Global,
+    array: &'a Array,
+) -> Result<Option<Vec<&'a toml::Table>>, AllocError>
+    ensures { IfOk result (λ tables. option_map (λ v. map (λ t. table_view t.now) v.items) tables ≡ tables_in (array_view array.now)) }
+{
+    let mut tables = Vec::with_capacity(alloc, array.len())?;
+    for element in array.iter() {
+        let Some(table) = element.as_table() else {
+            return Ok(None);
+        };
+        tables.push(table)?;
+    }
+    Ok(Some(tables))
+}
