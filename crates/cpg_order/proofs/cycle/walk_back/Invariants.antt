@@ -1,0 +1,14 @@
+use Rattle.std.proofs.Common.{◌+◌, ◌-◌, ◌<◌, get_or, length}
+use Rattle.cpg_base.specs.Graph.{process_count}
+use Rattle.cpg_order.proofs.Cycles.{IsWalkBack}
+use Rattle.cpg_order.proofs.cycle.walk_back.Given as goal
+
+abbrev pub invariant-loop-from : goal.invariant-loop-from
+invariant-loop-from l = record {
+  walk : IsWalkBack l.problem l.walk.items l.process;
+  within : l.process < process_count l.problem;
+  waits : 0 < get_or l.waiting l.process 0;
+}
+
+abbrev pub decreases-loop-from : goal.decreases-loop-from
+decreases-loop-from l = process_count l.problem + 1 - length l.walk.items

@@ -1,0 +1,5 @@
+use Rattle.cpg_order.proofs.Cycles.{no_cycle}
+use Rattle.cpg_order.proofs.laws.order_leaves_no_cycle.Goals as goal
+
+pub returns : goal.returns
+returns c g order topological = no_cycle g order topological

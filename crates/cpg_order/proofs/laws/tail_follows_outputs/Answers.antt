@@ -1,0 +1,5 @@
+use Rattle.cpg_order.proofs.Acyclic.{tail_is}
+use Rattle.cpg_order.proofs.laws.tail_follows_outputs.Goals as goal
+
+pub returns : goal.returns
+returns c g order topological p l = tail_is g order topological p l

@@ -1,0 +1,7 @@
+use Rattle.std.proofs.Common.{◌≡◌, length, map}
+use Rattle.cpg_base.specs.Numbers.{numbers_below}
+use Rattle.cpg_base.specs.Graph.{inputs}
+use Rattle.cpg_order.proofs.settling.input_counts.Given as goal
+
+abbrev pub invariant-loop-process : goal.invariant-loop-process
+invariant-loop-process l = l.counts.items ≡ map (λ p. length (inputs l.problem p)) (numbers_below l.process)

@@ -1,0 +1,21 @@
+use Rattle.std.proofs.Common.{◌≡◌, ◌∙◌, ◌==◌, ap, filter, get_or, length, arith, eq-eqb}
+use Rattle.std.proofs.lemmas.Bool.{ne_eqb}
+use Rattle.cpg_base.specs.Numbers.{numbers_below}
+use Rattle.cpg_base.proofs.Lists.{filter_below_takes, filter_below_skips}
+use Rattle.cpg_order.proofs.Readiness.{ready_first}
+use Rattle.cpg_order.proofs.settling.ready.Goals as goal
+use Rattle.cpg_order.proofs.settling.ready.Goals.{then-left-eq0+in_ok-push, else-left-eq0}
+
+pub loop-process-preserved : goal.loop-process-preserved
+loop-process-preserved c = elim c.if-left-eq0.branch [
+  | then-left-eq0+in_ok-push w ↦ filter_below_takes (λ p. get_or c.args.waiting.now p 0 == 0) c.loop-process.ready.items c.if-left-eq0.ready.items c.loop-process.process c.loop-process.invariant
+      (eq-eqb (get_or c.args.waiting.now c.loop-process.process 0) 0 w.if-left-eq0.true) (ap (λ v. v.items) w.ready-is ∙ w.in_ok-push.ensures.items)
+  | else-left-eq0 w ↦ ap (λ v. v.items) w.ready-is ∙ filter_below_skips (λ p. get_or c.args.waiting.now p 0 == 0) c.loop-process.ready.items c.loop-process.process c.loop-process.invariant
+      (ne_eqb (get_or c.args.waiting.now c.loop-process.process 0) 0 w.if-left-eq0.false)
+]
+
+pub returns : goal.returns
+returns c =
+    let at : c.loop-process.process ≡ length c.args.waiting.now = omega arith in
+    ready_first c.args.waiting.now c.loop-process.ready.items
+    (c.loop-process.invariant ∙ ap (λ n. filter (λ p. get_or c.args.waiting.now p 0 == 0) (numbers_below n)) at)

@@ -1,0 +1,5 @@
+use Rattle.cpg_order.proofs.LongestWays.{AreFound}
+use Rattle.cpg_order.proofs.tails.tails.Given as goal
+
+abbrev pub invariant-loop-done : goal.invariant-loop-done
+invariant-loop-done l = AreFound l.problem l.order l.tails.items l.done

@@ -1,0 +1,20 @@
+-- Cycles of edges.
+use Rattle.std.specs.Prelude.{ℕ, ◌+◌, ◌-◌, ◌≢◌, ◌<◌, ◌≤◌, Bool, ◌&&◌, ◌==◌, List, length, get_or, AllPairs, IsTrue}
+use Rattle.std.specs.List.{list_any}
+use Rattle.cpg_base.specs.Graph.{Graph}
+
+-- whether an edge leads from one process to another
+abbrev pub has_edge : Graph → ℕ → ℕ → Bool
+has_edge g p q = list_any (λ e. (e.from == p) && (e.to == q)) g.edges
+
+-- different processes, the least first, each with an edge to the next and the last with one to the first
+pub record IsCycle (g : Graph) (walk : List ℕ) : Type 0 where
+  pub some : 0 < length walk
+  pub apart : AllPairs (λ p q. p ≢ q) walk
+  pub least : (k : ℕ) → k < length walk → get_or walk 0 0 ≤ get_or walk k 0
+  pub next : (k : ℕ) → k + 1 < length walk → IsTrue (has_edge g (get_or walk k 0) (get_or walk (k + 1) 0))
+  pub back : IsTrue (has_edge g (get_or walk (length walk - 1) 0) (get_or walk 0 0))
+
+-- whether there is one
+abbrev pub HasCycle : Graph → Type 0
+HasCycle g = (walk : List ℕ) × IsCycle g walk

@@ -1,0 +1,11 @@
+-- What a fault of `urgency` tells.
+use Rattle.std.specs.Prelude.{⊤}
+use Rattle.cpg_base.specs.Graph.{Graph}
+use Rattle.cpg_order.specs.declared.fault.OrderFault.{OrderFault}
+use Rattle.cpg_order.specs.declared.fault.OrderFault.TheVariants.{Cycle, OutOfMemory}
+use Rattle.cpg_order.specs.Cycle.{IsCycle}
+
+-- the walk of the fault is a cycle of the graph
+abbrev pub ShowsCycle : Graph → OrderFault → Type 0
+ShowsCycle g (Cycle walk) = IsCycle g walk
+ShowsCycle g OutOfMemory = ⊤

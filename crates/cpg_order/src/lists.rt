@@ -1,0 +1,67 @@
+//! Orders from lists.
+ghost use Rattle.std.specs.Prelude.{◌≡◌, ◌≤◌, ◌↔◌, IfOk, IfSome, IfNone, IsTrue, length, IsPermutation, Contains, ℕ};
+ghost use Rattle.cpg_base.specs.Numbers.{numbers_below};
+ghost use Rattle.cpg_base.specs.Graph.{process_count, edge_count, source, target};
+ghost use Rattle.cpg_order.specs.Urgency.{IsTopological, comes_before};
+
+use crate::Order;
+use cpg_base::{OutOfMemory, Problem};
+use std::alloc::Global;
+
+/// Whether a list has each number below its length once.
+fn has_each(alloc: Global, list: &[u32]) -> Result<bool, OutOfMemory>
+    ensures { IfOk result (λ has. IsTrue has ↔ IsPermutation (numbers_below (length list.now)) list.now) }
+{
+    let mut seen = vec![in alloc; false; list.len()]?;
+    for number in list {
+        let place = *number as usize;
+        if place >= list.len() {
+            return Ok(false);
+        }
+        if seen[place] {
+            return Ok(false);
+        }
+        seen[place] = true;
+    }
+    Ok(true)
+}
+
+/// Whether each edge leads to a later place.
+fn is_forward(problem: &Problem, order: &Order) -> bool
+    requires { length order.now ≡ process_count problem.now }
+    ensures { IsTrue result ↔ ((e : ℕ) → Contains (numbers_below (edge_count problem.now)) e → IsTrue (comes_before order.now (source problem.now e) (target problem.now e))) }
+{
+    for edge in problem.edges() {
+        if order.place(edge.from) >= order.place(edge.to) {
+            return false;
+        }
+    }
+    true
+}
+
+fn copied(alloc: Global, list: &[u32]) -> Result<Vec<u32>, OutOfMemory>
+    ensures { IfOk result (λ copy. copy.items ≡ list.now) }
+{
+    let mut copy = Vec::new(alloc);
+    copy.extend_from_slice(list)?;
+    Ok(copy)
+}
+
+/// The order of a list of process numbers, and `None` exactly where it isn't a topological order of all processes.
+pub fn ordered(alloc: Global, problem: &Problem, list: &[u32]) -> Result<Option<Order>, OutOfMemory>
+    ensures order { IfOk result (λ found. IfSome found (λ order. order ≡ list.now)) }
+    ensures topological { IfOk result (λ found. IfSome found (IsTopological problem.now)) }
+    ensures refused { IfOk result (λ found. IfNone found (IsTopological problem.now list.now → ⊥)) }
+{
+    if list.len() != problem.processes().len() {
+        return Ok(None);
+    }
+    if !has_each(alloc, list)? {
+        return Ok(None);
+    }
+    let order = Order::placed(copied(alloc, list)?)?;
+    if !is_forward(problem, &order) {
+        return Ok(None);
+    }
+    Ok(Some(order))
+}

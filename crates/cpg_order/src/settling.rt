@@ -1,0 +1,106 @@
+//! Processes put in order one after another, each when the sources of all its inputs stand in it.
+ghost use Rattle.std.specs.Prelude.{◌≡◌, ◌<◌, ◌≤◌, ◌+◌, ◌-◌, ◌++◌, ℕ, Contains, List, IfOk, OnOk, length, get_or, map, slice_set, filter, ◌==◌};
+ghost use Rattle.cpg_base.specs.Numbers.{numbers_below};
+ghost use Rattle.cpg_base.specs.Graph.{process_count, edge_count, inputs, outputs, target};
+ghost use Rattle.cpg_base.specs.Limits.{IsWithinLimits};
+ghost use Rattle.cpg_order.specs.Links.{links_of};
+ghost use Rattle.cpg_order.specs.Settling.{AreReady, AreSettled};
+
+use crate::Links;
+use crate::tails::target;
+use cpg_base::{OutOfMemory, Problem};
+use std::alloc::Global;
+
+/// The processes whose inputs' sources all come before them, and how many inputs of each process have other sources.
+#[derive(Drop)]
+pub(crate) struct Settled {
+    pub(crate) ready: Vec<u32>,
+    pub(crate) waiting: Vec<u32>,
+}
+
+/// How many inputs each process has.
+fn input_counts(alloc: Global, problem: &Problem, links: &Links) -> Result<Vec<u32>, OutOfMemory>
+    requires { links.now ≡ links_of problem.now }
+    ensures counts { IfOk result (λ counts. counts.items ≡ map (λ p. length (inputs problem.now p)) (numbers_below (process_count problem.now))) }
+    ensures within { IsWithinLimits problem.now }
+{
+    let count = problem.processes().len();
+    let mut counts = Vec::new(alloc);
+    counts.reserve(count)?;
+    for process in 0..count as u32 {
+        counts.push(links.inputs(process).len() as u32)?;
+    }
+    Ok(counts)
+}
+
+/// The processes that wait for no input.
+fn ready(alloc: Global, waiting: &[u32]) -> Result<Vec<u32>, OutOfMemory>
+    requires { length waiting.now ≤ 128 }
+    ensures { IfOk result (λ ready. AreReady waiting.now ready.items) }
+{
+    let mut ready = Vec::new(alloc);
+    ready.reserve(waiting.len())?;
+    for (process, left) in waiting.iter().enumerate() {
+        if *left == 0 {
+            ready.push(process as u32)?;
+        }
+    }
+    Ok(ready)
+}
+
+/// Takes one input of a process as settled: with the last one the process is ready.
+fn release(process: u32, waiting: &mut Vec<u32>, ready: &mut Vec<u32>) -> Result<(), OutOfMemory>
+    requires waits { 0 < get_or waiting.old.items process 0 }
+    requires ready { AreReady waiting.old.items ready.old.items }
+    ensures ready { OnOk result (AreReady waiting.new.items ready.new.items) }
+    ensures waiting { OnOk result (waiting.new.items ≡ slice_set waiting.old.items process (get_or waiting.old.items process 0 - 1)) }
+    ensures longer { OnOk result ((more : List ℕ) × (ready.new.items ≡ ready.old.items ++ more)) }
+{
+    let left = waiting[process as usize] - 1;
+    waiting[process as usize] = left;
+    if left == 0 {
+        ready.push(process)?;
+    }
+    Ok(())
+}
+
+/// Takes these edges as settled.
+fn release_all(
+    problem: &Problem,
+    edges: &[u32],
+    waiting: &mut Vec<u32>,
+    ready: &mut Vec<u32>,
+) -> Result<(), OutOfMemory>
+    requires edges { (e : ℕ) → Contains edges.now e → e < edge_count problem.now }
+    requires wait { (p : ℕ) → length (filter (λ e. target problem.now e == p) edges.now) ≤ get_or waiting.old.items p 0 }
+    requires ready { AreReady waiting.old.items ready.old.items }
+    ensures ready { OnOk result (AreReady waiting.new.items ready.new.items) }
+    ensures long { OnOk result (length waiting.new.items ≡ length waiting.old.items) }
+    ensures waiting { OnOk result ((p : ℕ) → get_or waiting.new.items p 0 + length (filter (λ e. target problem.now e == p) edges.now) ≡ get_or waiting.old.items p 0) }
+    ensures longer { OnOk result ((more : List ℕ) × (ready.new.items ≡ ready.old.items ++ more)) }
+{
+    for edge in edges {
+        release(target(problem, *edge), waiting, ready)?;
+    }
+    Ok(())
+}
+
+/// Settles as many processes as there are whose inputs' sources can be settled before them.
+pub(crate) fn settle(
+    alloc: Global,
+    problem: &Problem,
+    links: &Links,
+) -> Result<Settled, OutOfMemory>
+    requires { links.now ≡ links_of problem.now }
+    ensures { IfOk result (λ s. AreSettled problem.now (length s.ready.items) s.waiting.items s.ready.items) }
+{
+    let mut waiting = input_counts(alloc, problem, links)?;
+    let mut ready = ready(alloc, waiting.as_slice())?;
+    let mut settled = 0;
+    while settled < ready.len() {
+        let process = ready[settled];
+        release_all(problem, links.outputs(process), &mut waiting, &mut ready)?;
+        settled += 1;
+    }
+    Ok(Settled { ready, waiting })
+}

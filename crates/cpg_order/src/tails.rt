@@ -1,0 +1,96 @@
+//! The length of the longest way from each process to an end.
+ghost use Rattle.std.specs.Prelude.{◌≡◌, ◌<◌, ◌≤◌, ◌+◌, ◌^◌, if◌then◌else◌, ℕ, Contains, IfOk, length, get_or, map};
+ghost use Rattle.cpg_base.specs.Numbers.{greatest, numbers_below};
+ghost use Rattle.cpg_base.specs.Graph.{process_count, edge_count, source, target, is_message};
+ghost use Rattle.cpg_base.specs.Limits.{IsWithinLimits};
+ghost use Rattle.cpg_base.specs.Bus.{round};
+ghost use Rattle.cpg_order.specs.Urgency.{tail, IsTopological};
+ghost use Rattle.cpg_order.specs.Links.{links_of};
+
+use crate::{Links, Order};
+use cpg_base::{OutOfMemory, Problem};
+use std::alloc::Global;
+
+/// The process that an edge leads away from.
+pub(crate) fn source(problem: &Problem, edge: u32) -> u32
+    requires { edge < edge_count problem.now }
+    ensures source { result ≡ source problem.now edge }
+    ensures within { result < process_count problem.now }
+{
+    problem.edges()[edge as usize].from
+}
+
+/// The process that an edge leads to.
+pub(crate) fn target(problem: &Problem, edge: u32) -> u32
+    requires { edge < edge_count problem.now }
+    ensures target { result ≡ target problem.now edge }
+    ensures within { result < process_count problem.now }
+{
+    problem.edges()[edge as usize].to
+}
+
+/// How long an edge takes: a round where it is a message, and no time within a node.
+fn delay(problem: &Problem, edge: u32, turn: u64) -> u64
+    requires { edge < edge_count problem.now }
+    ensures { result ≡ (if is_message problem.now edge then turn else 0) }
+{
+    let processes = problem.processes();
+    let from = processes[source(problem, edge) as usize].node;
+    let to = processes[target(problem, edge) as usize].node;
+    if from == to { 0 } else { turn }
+}
+
+/// The longest way over these edges, given how long the ways from their targets are.
+fn longest(problem: &Problem, turn: u64, outputs: &[u32], tails: &[u64]) -> u64
+    requires outputs { (e : ℕ) → Contains outputs.now e → e < edge_count problem.now }
+    requires turn { turn ≤ 2 ^ 60 }
+    requires long { length tails.now ≡ process_count problem.now }
+    requires low { (p : ℕ) → get_or tails.now p 0 ≤ 2 ^ 60 }
+    ensures { result ≡ greatest (map (λ e. (if is_message problem.now e then turn else 0) + get_or tails.now (target problem.now e) 0) outputs.now) }
+{
+    let mut longest = 0;
+    for edge in outputs {
+        let way = delay(problem, *edge, turn) + tails[target(problem, *edge) as usize];
+        longest = longest.max(way);
+    }
+    longest
+}
+
+/// The length of the longest way from each process to an end.
+pub(crate) fn tails(
+    alloc: Global,
+    problem: &Problem,
+    links: &Links,
+    order: &Order,
+) -> Result<Vec<u64>, OutOfMemory>
+    requires links { links.now ≡ links_of problem.now }
+    requires order { IsTopological problem.now order.now }
+    ensures { IfOk result (λ tails. tails.items ≡ map (tail problem.now) (numbers_below (process_count problem.now))) }
+{
+    let count = problem.processes().len();
+    let turn = problem.round();
+    let mut tails = vec![in alloc; 0u64; count]?;
+    for done in 0..count {
+        let process = order.at((count - 1 - done) as u32);
+        let way = longest(problem, turn, links.outputs(process), tails.as_slice());
+        tails[process as usize] = problem.duration(process, 0) + way;
+    }
+    Ok(tails)
+}
+
+/// The length of the longest way from the start of a process to an end, in time units: executions without faults, and a
+/// round of the bus for each message. The order may be any topological one.
+pub fn tail(
+    alloc: Global,
+    problem: &Problem,
+    order: &Order,
+    process: u32,
+) -> Result<u64, OutOfMemory>
+    requires process { process < process_count problem.now }
+    requires order { IsTopological problem.now order.now }
+    ensures { IfOk result (λ length. length ≡ tail problem.now process) }
+{
+    let links = Links::of(alloc, problem)?;
+    let tails = tails(alloc, problem, &links, order)?;
+    Ok(tails[process as usize])
+}

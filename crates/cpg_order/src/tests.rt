@@ -1,0 +1,124 @@
+//! Each call once, on small graphs worked by hand.
+
+use crate::{Links, Order, OrderFault, ordered, tail, urgency};
+use cpg_base::{Edge, Name, OutOfMemory, Problem, Process, Slot};
+use std::alloc::Global;
+use std::test::Fail;
+
+fn name(alloc: Global, text: &str) -> Result<Name, Fail> {
+    match Name::new(alloc, text)? {
+        Some(name) => Ok(name),
+        None => Err(Fail::from(OutOfMemory)),
+    }
+}
+
+fn process(name: Name, node: u32, wcet: u64, join: bool) -> Process {
+    Process {
+        name,
+        node,
+        wcet,
+        parts: 1,
+        alpha: 2,
+        chi: 3,
+        mu: 5,
+        join,
+        frozen: false,
+        release: 0,
+        deadline: None,
+    }
+}
+
+fn edge(from: u32, to: u32, when: Option<bool>) -> Edge {
+    Edge {
+        from,
+        to,
+        size: 4,
+        when,
+        frozen: false,
+    }
+}
+
+fn slot(node: u32) -> Slot {
+    Slot {
+        node,
+        length: 10,
+        bytes: 8,
+    }
+}
+
+/// Four processes on two nodes: A decides between B, on the other node, and C, and J joins both.
+fn choice(alloc: Global, last: Edge) -> Result<Problem, Fail> {
+    let mut nodes = Vec::new(alloc);
+    nodes.push(name(alloc, "N1")?)?;
+    nodes.push(name(alloc, "N2")?)?;
+    let mut processes = Vec::new(alloc);
+    processes.push(process(name(alloc, "A")?, 0, 30, false))?;
+    processes.push(process(name(alloc, "B")?, 1, 10, false))?;
+    processes.push(process(name(alloc, "C")?, 0, 10, false))?;
+    processes.push(process(name(alloc, "J")?, 1, 5, true))?;
+    let slots = vec![in alloc; slot(0), slot(1)]?;
+    let edges = vec![in alloc;
+        edge(0, 1, Some(true)),
+        edge(0, 2, Some(false)),
+        edge(1, 3, None),
+        last,
+    ]?;
+    match Problem::new(0, 95, nodes, slots, processes, edges) {
+        Some(problem) => Ok(problem),
+        None => Err(Fail::from(OutOfMemory)),
+    }
+}
+
+#[test]
+fn orders_by_urgency(rt: HostRuntime) -> Result<(), Fail> {
+    let alloc = rt.alloc();
+    let problem = choice(alloc, edge(2, 3, None))?;
+    let order = urgency(alloc, &problem)?;
+    assert_eq!(rt; order.processes(), [0, 2, 1, 3].as_slice());
+    assert_eq!(rt; order.copy()?.len(), 4);
+    assert_eq!(rt; order.place(1), 2);
+    assert_eq!(rt; order.at(2), 1);
+    for (process, length) in [(0, 80), (1, 25), (2, 45), (3, 10)] {
+        assert_eq!(rt; tail(alloc, &problem, &order, process)?, length);
+    }
+    Ok(())
+}
+
+#[test]
+fn shows_a_cycle(rt: HostRuntime) -> Result<(), Fail> {
+    let alloc = rt.alloc();
+    let problem = choice(alloc, edge(3, 1, None))?;
+    match urgency(alloc, &problem) {
+        Err(OrderFault::Cycle(walk)) => assert_eq!(rt; walk.processes(), [1, 3].as_slice()),
+        _ => assert!(rt; false),
+    }
+    let problem = choice(alloc, edge(2, 2, None))?;
+    match urgency(alloc, &problem) {
+        Err(OrderFault::Cycle(walk)) => assert_eq!(rt; walk.processes(), [2].as_slice()),
+        _ => assert!(rt; false),
+    }
+    Ok(())
+}
+
+#[test]
+fn takes_topological_lists(rt: HostRuntime) -> Result<(), Fail> {
+    let alloc = rt.alloc();
+    let problem = choice(alloc, edge(2, 3, None))?;
+    let order = ordered(alloc, &problem, &[0, 1, 2, 3])?;
+    assert!(rt; order.is_some());
+    for list in [[0, 1, 3, 2], [0, 1, 1, 3], [0, 1, 2, 4]] {
+        assert!(rt; ordered(alloc, &problem, &list)?.is_none());
+    }
+    assert!(rt; ordered(alloc, &problem, &[0, 1, 2])?.is_none());
+    Ok(())
+}
+
+#[test]
+fn lists_inputs_and_outputs(rt: HostRuntime) -> Result<(), Fail> {
+    let alloc = rt.alloc();
+    let problem = choice(alloc, edge(2, 3, None))?;
+    let links = Links::of(alloc, &problem)?;
+    assert_eq!(rt; links.inputs(3), [2, 3].as_slice());
+    assert_eq!(rt; links.outputs(0), [0, 1].as_slice());
+    Ok(())
+}

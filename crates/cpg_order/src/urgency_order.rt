@@ -1,0 +1,95 @@
+//! The urgency order of a graph, or a cycle in it.
+ghost use Rattle.std.specs.Prelude.{◌≡◌, ◌≤◌, ℕ, List, IfOk, IfErr, length, map};
+ghost use Rattle.cpg_base.specs.Numbers.{numbers_below};
+ghost use Rattle.cpg_base.specs.Limits.{IsWithinLimits};
+ghost use Rattle.cpg_order.specs.Urgency.{IsUrgencyOrder, IsTopological};
+ghost use Rattle.cpg_order.specs.Cycle.{HasCycle};
+ghost use Rattle.cpg_order.specs.OrderFault.{ShowsCycle};
+ghost use Rattle.cpg_order.specs.Links.{links_of};
+ghost use Rattle.cpg_order.specs.Ranking.{AreRanked};
+ghost use Rattle.cpg_order.specs.Ranks.{rank_of};
+
+use crate::cycle::cycle;
+use crate::settling::settle;
+use crate::tails::tails;
+use crate::{Links, Order, OrderFault, Walk};
+use cpg_base::{OutOfMemory, Problem};
+use std::alloc::Global;
+use std::cmp::Reverse;
+
+/// What the processes are sorted by: a longer way first, and of equal ones the lower number.
+#[derive(Clone, Copy, Debug, PartialEq, Eq, PartialOrd, Ord)]
+struct Rank {
+    tail: Reverse<u64>,
+    process: u32,
+}
+
+fn ranks(alloc: Global, tails: &[u64]) -> Result<Vec<Rank>, OutOfMemory>
+    requires { length tails.now ≤ 128 }
+    ensures { IfOk result (λ ranks. ranks.items ≡ map (rank_of tails.now) (numbers_below (length tails.now))) }
+{
+    let mut ranks = Vec::new(alloc);
+    ranks.reserve(tails.len())?;
+    for (process, tail) in tails.iter().enumerate() {
+        ranks.push(Rank {
+            tail: Reverse(*tail),
+            process: process as u32,
+        })?;
+    }
+    Ok(ranks)
+}
+
+fn processes(alloc: Global, ranks: &[Rank]) -> Result<Vec<u32>, OutOfMemory>
+    ensures { IfOk result (λ processes. processes.items ≡ map (λ r. r.process) ranks.now) }
+{
+    let mut processes = Vec::new(alloc);
+    processes.reserve(ranks.len())?;
+    for rank in ranks {
+        processes.push(rank.process)?;
+    }
+    Ok(processes)
+}
+
+/// The processes by falling length of their ways, then by number.
+fn ranked(alloc: Global, tails: &[u64]) -> Result<Vec<u32>, OutOfMemory>
+    requires { length tails.now ≤ 128 }
+    ensures { IfOk result (λ order. AreRanked tails.now order.items) }
+{
+    let mut ranks = ranks(alloc, tails)?;
+    ranks.sort_unstable();
+    let order = processes(alloc, ranks.as_slice())?;
+    Ok(order)
+}
+
+/// Some topological order of the graph.
+fn topological(alloc: Global, problem: &Problem, links: &Links) -> Result<Order, OrderFault>
+    requires { links.now ≡ links_of problem.now }
+    ensures within { IsWithinLimits problem.now }
+    ensures order { IfOk result (IsTopological problem.now) }
+    ensures cycle { IfErr result (ShowsCycle problem.now) }
+{
+    let count = problem.processes().len();
+    let settled = settle(alloc, problem, links)?;
+    if settled.ready.len() < count {
+        let walk = cycle(alloc, problem, links, settled.waiting.as_slice())?;
+        return Err(OrderFault::Cycle(Walk::through(walk)));
+    }
+    Ok(Order::placed(settled.ready)?)
+}
+
+/// The urgency order: by falling length of the longest way to an end, then by number. A way takes the executions without
+/// faults of its processes, and a round of the bus for each of its messages.
+///
+/// `Cycle` comes exactly where the graph has a cycle of edges, and shows one.
+pub fn urgency(alloc: Global, problem: &Problem) -> Result<Order, OrderFault>
+    ensures urgent { IfOk result (IsUrgencyOrder problem.now) }
+    ensures topological { IfOk result (IsTopological problem.now) }
+    ensures acyclic { IfOk result (λ _. HasCycle problem.now → ⊥) }
+    ensures cycle { IfErr result (ShowsCycle problem.now) }
+{
+    let links = Links::of(alloc, problem)?;
+    let order = topological(alloc, problem, &links)?;
+    let tails = tails(alloc, problem, &links, &order)?;
+    let processes = ranked(alloc, tails.as_slice())?;
+    Ok(Order::placed(processes)?)
+}
