@@ -1,0 +1,199 @@
+//! Rows with as few columns as can be.
+ghost use Rattle.std.specs.Prelude.{ℕ, ◌≡◌, ◌<◌, ◌≤◌, ◌++◌, IfOk, OnOk, IsPermutation, All, map};
+ghost use Rattle.cpg_base.specs.Numbers.{numbers_below};
+ghost use Rattle.cpg_base.specs.Graph.{IsVariable, process_count, condition_count};
+ghost use Rattle.cpg_table.specs.Merged.{AreMergeable, IsMergeOf};
+ghost use Rattle.cpg_table.specs.Merging.{IsShorn, IsPassed, IsBetween, AreSettled, lows_of, lows_along, AreByLows};
+
+use crate::Entry;
+use crate::joins::{FIRST_VALUE, compare, does_any_speak, joined_columns, low_of, shorn_columns};
+use cpg_base::{OutOfMemory, Problem};
+use cpg_cube::Literal;
+use cpg_order::Order;
+use std::alloc::Global;
+
+/// Joins columns where they touch at a variable.
+fn joined_on(
+    alloc: Global,
+    problem: &Problem,
+    variable: u8,
+    columns: Vec<Entry>,
+) -> Result<Vec<Entry>, OutOfMemory>
+    requires shorn { IsShorn problem.now columns.items }
+    requires known { IsVariable problem.now variable }
+    ensures { IfOk result (λ r. IsPassed problem.now (λ v. v ≡ variable) columns.items r.items) }
+{
+    if !does_any_speak(variable, columns.as_slice()) {
+        return Ok(columns);
+    }
+    // most columns stand in runs that are sorted already, of which the stable sort makes use
+    let mut columns = columns;
+    columns.sort_by(|a, b| compare(variable, a, b))?;
+    joined_columns(alloc, problem.faults(), variable, columns)
+}
+
+/// Joins columns where they touch at one of the variables from `first` up to `end`, which it leaves out.
+fn joined_over(
+    alloc: Global,
+    problem: &Problem,
+    first: u8,
+    end: u8,
+    columns: Vec<Entry>,
+) -> Result<Vec<Entry>, OutOfMemory>
+    requires shorn { IsShorn problem.now columns.items }
+    requires known { (v : ℕ) → first ≤ v → v < end → IsVariable problem.now v }
+    ensures { IfOk result (λ r. IsPassed problem.now (IsBetween first end) columns.items r.items) }
+{
+    let mut columns = columns;
+    for variable in first..end {
+        columns = joined_on(alloc, problem, variable, columns)?;
+    }
+    Ok(columns)
+}
+
+/// Joins columns where they touch at any variable.
+fn joined_once(
+    alloc: Global,
+    problem: &Problem,
+    columns: Vec<Entry>,
+) -> Result<Vec<Entry>, OutOfMemory>
+    requires { IsShorn problem.now columns.items }
+    ensures { IfOk result (λ r. IsPassed problem.now (IsVariable problem.now) columns.items r.items) }
+{
+    let processes = problem.processes().len() as u8;
+    let columns = joined_over(alloc, problem, 0, processes, columns)?;
+    let end = FIRST_VALUE + problem.conditions() as u8;
+    joined_over(alloc, problem, FIRST_VALUE, end, columns)
+}
+
+/// Joins columns until no two of one time touch at any variable.
+fn settled(alloc: Global, problem: &Problem, columns: Vec<Entry>) -> Result<Vec<Entry>, OutOfMemory>
+    requires { IsShorn problem.now columns.items }
+    ensures { IfOk result (λ r. AreSettled problem.now columns.items r.items) }
+{
+    let mut columns = columns;
+    loop {
+        let before = columns.len();
+        columns = joined_once(alloc, problem, columns)?;
+        if columns.len() == before {
+            return Ok(columns);
+        }
+    }
+}
+
+/// Adds the least count of a process that literals allow and then the least value of its condition, if it has one.
+fn push_lows(
+    problem: &Problem,
+    literals: &[Literal],
+    process: u32,
+    key: &mut Vec<u8>,
+) -> Result<(), OutOfMemory>
+    requires process { process < process_count problem.now }
+    requires processes { process_count problem.now ≤ 128 }
+    requires conditions { condition_count problem.now ≤ 32 }
+    ensures { OnOk result (key.new.items ≡ key.old.items ++ lows_of problem.now literals.now process) }
+{
+    key.push(low_of(literals, process as u8))?;
+    if let Some(condition) = problem.condition_of(process) {
+        key.push(low_of(literals, FIRST_VALUE + condition as u8))?;
+    }
+    Ok(())
+}
+
+/// What a column stands by: along the order, of each process the least count that the column allows and then the least
+/// value of its condition, if it has one.
+fn key_of(
+    alloc: Global,
+    problem: &Problem,
+    order: &[u32],
+    literals: &[Literal],
+) -> Result<Vec<u8>, OutOfMemory>
+    requires { All (λ p. p < process_count problem.now) order.now }
+    ensures { IfOk result (λ key. key.items ≡ lows_along problem.now order.now literals.now) }
+{
+    let mut key = Vec::new(alloc);
+    key.reserve(problem.processes().len() + problem.conditions() as usize)?;
+    for process in order {
+        push_lows(problem, literals, *process, &mut key)?;
+    }
+    Ok(key)
+}
+
+/// A column with what it stands by.
+#[derive(Drop)]
+struct Ranked {
+    key: Vec<u8>,
+    column: Entry,
+}
+
+/// The columns with what they stand by.
+fn with_keys(
+    alloc: Global,
+    problem: &Problem,
+    order: &[u32],
+    columns: &[Entry],
+) -> Result<Vec<Ranked>, OutOfMemory>
+    requires { All (λ p. p < process_count problem.now) order.now }
+    ensures columns { IfOk result (λ r. map (λ x. x.column) r.items ≡ columns.now) }
+    ensures keys { IfOk result (λ r. All (λ x. x.key.items ≡ lows_along problem.now order.now x.column.cube) r.items) }
+{
+    let mut ranked = Vec::new(alloc);
+    ranked.reserve(columns.len())?;
+    for column in columns {
+        ranked.push(Ranked {
+            key: key_of(alloc, problem, order, column.cube.literals())?,
+            column: column.copy()?,
+        })?;
+    }
+    Ok(ranked)
+}
+
+/// The columns without what they stand by.
+fn without_keys(alloc: Global, ranked: &[Ranked]) -> Result<Vec<Entry>, OutOfMemory>
+    ensures { IfOk result (λ r. r.items ≡ map (λ x. x.column) ranked.now) }
+{
+    let mut columns = Vec::new(alloc);
+    columns.reserve(ranked.len())?;
+    for one in ranked {
+        columns.push(one.column.copy()?)?;
+    }
+    Ok(columns)
+}
+
+/// The columns by the least scenario that they match.
+fn ordered(
+    alloc: Global,
+    problem: &Problem,
+    order: &[u32],
+    columns: &[Entry],
+) -> Result<Vec<Entry>, OutOfMemory>
+    requires { All (λ p. p < process_count problem.now) order.now }
+    ensures permutation { IfOk result (λ r. IsPermutation columns.now r.items) }
+    ensures by_lows { IfOk result (λ r. AreByLows problem.now order.now r.items) }
+{
+    let mut ranked = with_keys(alloc, problem, order, columns)?;
+    ranked.sort_unstable_by(|a, b| a.key.as_slice().cmp(&b.key.as_slice()));
+    without_keys(alloc, ranked.as_slice())
+}
+
+/// The columns of a row that have the times of the entries in every scenario of at most as many faults as the problem
+/// has, and are as few as can be: no two of them have one time, equal ranges of all variables but one, and ranges of that
+/// one which touch. Each column's ranges contain those of the entries that match together with it. No literal has the
+/// whole range of its variable, and the columns stand by the least scenario that they match along the order.
+///
+/// Each entry must match some scenario, and no scenario two of them; their literals must be on variables of the problem
+/// and within their ranges. The one error is want of memory.
+pub fn merged(
+    alloc: Global,
+    problem: &Problem,
+    order: &Order,
+    entries: Vec<Entry>,
+) -> Result<Vec<Entry>, OutOfMemory>
+    requires order { IsPermutation (numbers_below (process_count problem.now)) order.now }
+    requires entries { AreMergeable problem.now entries.items }
+    ensures { IfOk result (λ r. IsMergeOf problem.now order.now entries.items r.items) }
+{
+    let columns = shorn_columns(alloc, problem.faults(), entries.as_slice())?;
+    let columns = settled(alloc, problem, columns)?;
+    ordered(alloc, problem, order.processes(), columns.as_slice())
+}
