@@ -1,21 +1,23 @@
 -- The steps of merging columns: their order doesn't matter, a step at one variable, and steps one after another.
-use Rattle.std.proofs.Common.{ℕ, ◌+◌, ◌<◌, ◌≤◌, ◌≡◌, ◌≢◌, ◌⊎◌, Bool, true, false, cond, List, [], ◌∷◌, length, map, filter, get_or, sum_by, Contains, All, IsPermutation, arith, refl, sym, ap, ap₂, ◌∙◌, subst, ⊎_elim, inl, inr}
+use Rattle.std.proofs.Common.{ℕ, ◌+◌, ◌<◌, ◌≤◌, ◌≡◌, ◌≢◌, ◌⊎◌, Bool, true, false, cond, ◌||◌, ◌==◌, List, [], ◌∷◌, length, map, filter, get_or, sum_by, Contains, All, IsPermutation, arith, refl, sym, ap, ap₂, ◌∙◌, subst, ⊎_elim, inl, inr}
 use Rattle.std.specs.Ordering.{is_lt}
 use Rattle.std.specs.List.Sorted.{IsSortedBy}
+use Rattle.std.specs.List.{list_any}
+use Rattle.std.proofs.lemmas.Bool.{eqb-false, cond-false, or_parts}
 use Rattle.std.proofs.lemmas.List.{length-map}
 use Rattle.std.proofs.lemmas.List.Elements.{All-contains, All-head, All-tail, All-map}
 use Rattle.std.proofs.lemmas.List.Sorted.{All-permutation, Contains-permutation, IsPermutation-refl, IsPermutation-sym, IsPermutation-trans, length_permutation, sum_by-IsPermutation}
 use Rattle.std.proofs.lemmas.List.Sums.{length-filter}
 use Rattle.cpg_base.specs.Graph.{Graph, process_count, IsVariable}
-use Rattle.cpg_base.proofs.Lists.{Contains-first, Contains-cases, Contains-nil, Contains-filter, Contains-filter_parts, Contains-map, Contains-map_parts}
+use Rattle.cpg_base.proofs.Lists.{from_any_false, Contains-first, Contains-cases, Contains-nil, Contains-filter, Contains-filter_parts, Contains-map, Contains-map_parts}
 use Rattle.cpg_order.specs.Scenario.{Scenario, IsScenario}
 use Rattle.cpg_cube.specs.declared.literal.Literal.{Literal}
-use Rattle.cpg_cube.specs.Cube.{matches, top, is_whole}
+use Rattle.cpg_cube.specs.Cube.{matches, top, low_in, is_whole}
 use Rattle.cpg_cube.specs.Fit.{IsCube, lows}
-use Rattle.cpg_cube.proofs.CubeLows.{met_by, lows-lawful, lows-match}
+use Rattle.cpg_cube.proofs.CubeLows.{low_in-none, met_by, lows-lawful, lows-match}
 use Rattle.cpg_table.specs.Table.{Column, times_in}
 use Rattle.cpg_table.specs.Merged.{IsWider, AreMergeable}
-use Rattle.cpg_table.specs.Merging.{shorn, column_cmp, walked, walked_over, all_shorn, IsShorn, IsJoinOf, IsSettledOn, IsPassed}
+use Rattle.cpg_table.specs.Merging.{shorn, does_speak, is_followed, is_any_followed_from, is_any_followed, joined, column_cmp, walked, walked_over, all_shorn, IsShorn, IsJoinOf, IsSettledOn, IsPassed}
 use Rattle.cpg_table.proofs.MergingCubes.{All-from_each}
 use Rattle.cpg_table.proofs.MergingPairs.{IsGood, wider_itself, shorn_wider, matches_shorn, good_shorn}
 use Rattle.cpg_table.proofs.MergingLists.{AreGood, times_first, joins_itself, joins_through, walk}
@@ -149,9 +151,37 @@ module _ (g : Graph) (few : process_count g ≤ 128) where
                 w.fewer;
           }
 
+-- ---- steps that leave columns as they are
+
+-- sorted columns of which none follows another stay as they are
+not_walked : (k v : ℕ) (c : Column) (cs : List Column) → is_any_followed_from k v c cs ≡ false → walked k v c cs ≡ c ∷ cs
+not_walked k v c [] h = refl
+not_walked k v c (d ∷ ds) h = cond-false (is_followed k v c d) (walked k v (joined k v c d) ds) (c ∷ walked k v d ds) (or_parts (is_followed k v c d) (is_any_followed_from k v d ds) h).0
+    ∙ ap (λ xs. c ∷ xs) (not_walked k v d ds (or_parts (is_followed k v c d) (is_any_followed_from k v d ds) h).1)
+
+pub not_walked_over : (k v : ℕ) (cs : List Column) → is_any_followed k v cs ≡ false → walked_over k v cs ≡ cs
+not_walked_over k v [] h = refl
+not_walked_over k v (c ∷ cs) h = not_walked k v c cs h
+
 -- ---- steps one after another
 
 module _ (g : Graph) where
+  -- of which no column speaks
+  pub passed_unspoken : (v : ℕ) → (xs : List Column) → IsShorn g xs → list_any (λ c. does_speak v c.cube) xs ≡ false → IsPassed g (λ u. u ≡ v) xs xs
+  passed_unspoken v xs h silent = record {
+    joins = joins_itself g xs;
+    good = h;
+    fewer = inr (
+      IsPermutation-refl xs,
+      λ u e c d m n t k.
+          let none = from_any_false (λ c. does_speak v c.cube) xs d silent n in
+          let low = low_in-none d.cube v (λ l o. eqb-false l.variable v (from_any_false (λ l. l.variable == v) d.cube l none o)) in
+          let next = k.next in
+          let same : low_in d.cube u ≡ low_in d.cube v = ap (low_in d.cube) e in
+          omega arith,
+    );
+  }
+
   settled_permuted : (v : ℕ) (xs ys : List Column) → IsPermutation xs ys → IsSettledOn g.faults v xs → IsSettledOn g.faults v ys
   settled_permuted v xs ys p h = λ c d m n. h c d (Contains-permutation ys xs c (IsPermutation-sym xs ys p) m) (Contains-permutation ys xs d (IsPermutation-sym xs ys p) n)
 

@@ -1,6 +1,6 @@
 -- How rows are merged: columns are sorted so that those which differ in one variable alone stand side by side, and neighbours that touch are made one, variable by variable.
-use Rattle.std.specs.Prelude.{ℕ, ◌+◌, ◌≡◌, ◌≢◌, ◌<◌, ◌≤◌, ◌⊎◌, Bool, false, not, ◌&&◌, ◌==◌, if◌then◌else◌, List, [], ◌∷◌, map, filter, length, Option, Some, None, All, AllPairs, Contains, IsPermutation}
-use Rattle.std.specs.List.{flat_map}
+use Rattle.std.specs.Prelude.{ℕ, ◌+◌, ◌≡◌, ◌≢◌, ◌<◌, ◌≤◌, ◌⊎◌, Bool, false, not, ◌&&◌, ◌||◌, ◌==◌, if◌then◌else◌, List, [], ◌∷◌, map, filter, length, Option, Some, None, All, AllPairs, Contains, IsPermutation}
+use Rattle.std.specs.List.{flat_map, list_any}
 use Rattle.std.specs.declared.cmp.Ordering.{Ordering}
 use Rattle.std.specs.Ordering.{nat_cmp, ordering_then, is_eq}
 use Rattle.std.specs.Cmp.Lexicographic.{slice_cmp}
@@ -53,6 +53,19 @@ walked k v c (d ∷ ds) = if is_followed k v c d then walked k v (joined k v c d
 abbrev pub walked_over : ℕ → ℕ → List Column → List Column
 walked_over k v [] = []
 walked_over k v (c ∷ cs) = walked k v c cs
+
+-- whether some column follows the one before it
+abbrev pub is_any_followed_from : ℕ → ℕ → Column → List Column → Bool
+is_any_followed_from k v c [] = false
+is_any_followed_from k v c (d ∷ ds) = is_followed k v c d || is_any_followed_from k v d ds
+
+abbrev pub is_any_followed : ℕ → ℕ → List Column → Bool
+is_any_followed k v [] = false
+is_any_followed k v (c ∷ cs) = is_any_followed_from k v c cs
+
+-- whether a cube has a literal on the variable
+abbrev pub does_speak : ℕ → List Literal → Bool
+does_speak v cube = list_any (λ l. l.variable == v) cube
 
 -- columns without the literals of the whole range
 abbrev pub all_shorn : ℕ → List Column → List Column

@@ -1,8 +1,9 @@
 //! Columns that differ in one variable alone, and whose ranges of it touch, made one.
 ghost use Rattle.std.specs.Prelude.{◌≡◌, ◌+◌, ◌<◌, IfOk, length};
+ghost use Rattle.std.specs.List.{list_any};
 ghost use Rattle.std.specs.Cmp.Lexicographic.{slice_cmp};
 ghost use Rattle.cpg_cube.specs.Cube.{low_in, high_in, top, is_whole, IsRising};
-ghost use Rattle.cpg_table.specs.Merging.{without, literal_cmp, beside_cmp, column_cmp, is_followed, shorn, raised, joined, walked_over, all_shorn};
+ghost use Rattle.cpg_table.specs.Merging.{without, literal_cmp, beside_cmp, column_cmp, is_followed, is_any_followed, does_speak, shorn, raised, joined, walked_over, all_shorn};
 
 use crate::Entry;
 use cpg_base::OutOfMemory;
@@ -159,8 +160,25 @@ pub(crate) fn shorn_columns(
     Ok(shorn)
 }
 
+/// Whether some column follows the one before it.
+fn is_any_followed(faults: u8, variable: u8, columns: &[Entry]) -> bool
+    ensures { result ≡ is_any_followed faults variable columns.now }
+{
+    let Some((first, rest)) = columns.split_first() else {
+        return false;
+    };
+    let mut last = first;
+    for next in rest {
+        if is_followed(faults, variable, last, next) {
+            return true;
+        }
+        last = next;
+    }
+    false
+}
+
 /// Makes neighbours one where the second follows the first.
-pub(crate) fn join_neighbours(
+fn join_neighbours(
     alloc: Global,
     faults: u8,
     variable: u8,
@@ -183,4 +201,37 @@ pub(crate) fn join_neighbours(
     }
     joined.push(current)?;
     Ok(joined)
+}
+
+/// Makes neighbours one where the second follows the first, and leaves the columns as they are where none does.
+pub(crate) fn joined_columns(
+    alloc: Global,
+    faults: u8,
+    variable: u8,
+    columns: Vec<Entry>,
+) -> Result<Vec<Entry>, OutOfMemory>
+    ensures { IfOk result (λ r. r.items ≡ walked_over faults variable columns.items) }
+{
+    if !is_any_followed(faults, variable, columns.as_slice()) {
+        return Ok(columns);
+    }
+    join_neighbours(alloc, faults, variable, columns.as_slice())
+}
+
+/// Whether the cube has a literal on the variable.
+fn does_speak(variable: u8, cube: &Cube) -> bool
+    ensures { result ≡ does_speak variable cube.now }
+{
+    cube.literals()
+        .iter()
+        .any(|literal| literal.variable == variable)
+}
+
+/// Whether some column's cube has a literal on the variable.
+pub(crate) fn does_any_speak(variable: u8, columns: &[Entry]) -> bool
+    ensures { result ≡ list_any (λ c. does_speak variable c.cube) columns.now }
+{
+    columns
+        .iter()
+        .any(|column| does_speak(variable, &column.cube))
 }

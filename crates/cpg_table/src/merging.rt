@@ -6,7 +6,7 @@ ghost use Rattle.cpg_table.specs.Merged.{AreMergeable, IsMergeOf};
 ghost use Rattle.cpg_table.specs.Merging.{IsShorn, IsPassed, IsBetween, AreSettled, lows_of, lows_along, AreByLows};
 
 use crate::Entry;
-use crate::joins::{FIRST_VALUE, compare, join_neighbours, low_of, shorn_columns};
+use crate::joins::{FIRST_VALUE, compare, does_any_speak, joined_columns, low_of, shorn_columns};
 use cpg_base::{OutOfMemory, Problem};
 use cpg_cube::Literal;
 use cpg_order::Order;
@@ -23,9 +23,13 @@ fn joined_on(
     requires known { IsVariable problem.now variable }
     ensures { IfOk result (λ r. IsPassed problem.now (λ v. v ≡ variable) columns.items r.items) }
 {
+    if !does_any_speak(variable, columns.as_slice()) {
+        return Ok(columns);
+    }
+    // most columns stand in runs that are sorted already, of which the stable sort makes use
     let mut columns = columns;
-    columns.sort_unstable_by(|a, b| compare(variable, a, b));
-    join_neighbours(alloc, problem.faults(), variable, columns.as_slice())
+    columns.sort_by(|a, b| compare(variable, a, b))?;
+    joined_columns(alloc, problem.faults(), variable, columns)
 }
 
 /// Joins columns where they touch at one of the variables from `first` up to `end`, which it leaves out.

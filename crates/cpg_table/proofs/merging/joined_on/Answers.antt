@@ -1,13 +1,14 @@
-use Rattle.std.proofs.Common.{◌≡◌, List, sym, ap, ◌∙◌, subst, rules}
+use Rattle.std.proofs.Common.{◌≡◌, false, List, sym, ap, ◌∙◌, subst, rules}
+use Rattle.std.specs.List.{list_any}
 use Rattle.std.specs.Ordering.{is_lt}
 use Rattle.std.specs.List.Sorted.{IsSortedBy}
 use Rattle.std.proofs.lemmas.Fn.{always_returns_same}
 use Rattle.std.proofs.lemmas.List.Sorted.{ranks_by}
 use Rattle.std.proofs.lemmas.Result.{IfOk-weaker}
 use Rattle.cpg_table.specs.Table.{Column}
-use Rattle.cpg_table.specs.Merging.{column_cmp, walked_over, IsPassed}
+use Rattle.cpg_table.specs.Merging.{does_speak, column_cmp, walked_over, IsPassed}
 use Rattle.cpg_table.proofs.MergingOrder.{column_total}
-use Rattle.cpg_table.proofs.MergingSteps.{passed_on}
+use Rattle.cpg_table.proofs.MergingSteps.{passed_on, passed_unspoken}
 use Rattle.cpg_table.proofs.merging.joined_on.Goals as goal
 
 pub returns : goal.returns
@@ -15,9 +16,14 @@ returns c =
     let g = c.args.problem.now in
     let v = c.args.variable in
     let columns = c.args.columns.items in
-    let sorted = c.sort_unstable_by.new.self.items in
+    let sorted = c.sort_by.new.self.items in
     let up : IsSortedBy (λ (x y : Column). is_lt (column_cmp v x y)) sorted =
-    c.sort_unstable_by.ensures.sorted (λ (x y : Column). is_lt (column_cmp v x y)) (ranks_by (column_total v) (λ (x : Column). x)) (always_returns_same _ _ _ (λ a r f k. search rules)) in
+    c.in_ok-sort_by.ensures.sorted (λ (x y : Column). is_lt (column_cmp v x y)) (ranks_by (column_total v) (λ (x : Column). x)) (always_returns_same _ _ _ (λ a r f k. search rules)) in
     IfOk-weaker _ (λ r. r.items ≡ walked_over g.faults v sorted) (λ r. IsPassed g (λ u. u ≡ v) columns r.items)
-    (λ r e. subst (IsPassed g (λ u. u ≡ v) columns) (sym e) (passed_on g c.faults.ensures.within.few_processes v c.requires.known columns sorted c.requires.shorn c.sort_unstable_by.ensures.permutation up))
+    (λ r e. subst (IsPassed g (λ u. u ≡ v) columns) (sym e) (passed_on g c.faults.ensures.within.few_processes v c.requires.known columns sorted c.requires.shorn c.sort_by.ensures.permutation up))
     (search rules)
+
+pub returns-then-not-does_any_speak : goal.returns-then-not-does_any_speak
+returns-then-not-does_any_speak c =
+    let quiet : list_any (λ (x : Column). does_speak c.args.variable x.cube) c.args.columns.items ≡ false = search rules in
+    passed_unspoken c.args.problem.now c.args.variable c.args.columns.items c.requires.shorn quiet
