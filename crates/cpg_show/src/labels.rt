@@ -1,0 +1,94 @@
+//! What texts call processes, conditions and edges.
+ghost use Rattle.std.specs.Prelude.{◌≡◌, ◌<◌, IfOk, length, get_or, map};
+ghost use Rattle.cpg_base.specs.Graph.{disjunctions, process_at};
+ghost use Rattle.cpg_show.specs.Labels.{condition_name, labels_of, process_name};
+
+use cpg_base::{Edge, OutOfMemory, Problem, Process};
+use std::alloc::Global;
+use std::marker::Model;
+
+/// The names of the processes, the name of the process of each condition, and the ends of the edges, by number.
+#[derive(Drop)]
+pub(crate) struct Labels<'a> {
+    processes: Vec<&'a str>,
+    conditions: Vec<&'a str>,
+    edges: Vec<(u32, u32)>,
+}
+
+impl<'a> Model for Labels<'a> {
+    ghost use Rattle.std.specs.Prelude.{map};
+    ghost use Rattle.cpg_show.specs.Labels.{Labels};
+
+    ghost Value = { Labels };
+
+    ghost view = { λ l. record { processes = map (λ n. n.now) l.processes.items; conditions = map (λ n. n.now) l.conditions.items; edges = l.edges.items } };
+}
+
+fn process_names<'a>(
+    alloc: Global,
+    processes: &'a [Process],
+) -> Result<Vec<&'a str>, OutOfMemory>
+    ensures { IfOk result (λ names. map (λ n. n.now) names.items ≡ map (λ p. p.name) processes.entry.now) }
+{
+    let mut names = Vec::new(alloc);
+    names.reserve(processes.len())?;
+    for process in processes {
+        names.push(process.name.as_str())?;
+    }
+    Ok(names)
+}
+
+fn condition_names<'a>(
+    alloc: Global,
+    problem: &'a Problem,
+) -> Result<Vec<&'a str>, OutOfMemory>
+    ensures { IfOk result (λ names. map (λ n. n.now) names.items ≡ map (λ p. (process_at problem.entry.now p).name) (disjunctions problem.entry.now)) }
+{
+    let mut names = Vec::new(alloc);
+    names.reserve(problem.conditions() as usize)?;
+    for condition in 0..problem.conditions() {
+        let process = problem.process_of(condition);
+        names.push(problem.processes()[process as usize].name.as_str())?;
+    }
+    Ok(names)
+}
+
+fn edge_ends(alloc: Global, edges: &[Edge]) -> Result<Vec<(u32, u32)>, OutOfMemory>
+    ensures { IfOk result (λ ends. ends.items ≡ map (λ e. (e.from, e.to)) edges.now) }
+{
+    let mut ends = Vec::new(alloc);
+    ends.reserve(edges.len())?;
+    for edge in edges {
+        ends.push((edge.from, edge.to))?;
+    }
+    Ok(ends)
+}
+
+impl<'a> Labels<'a> {
+    /// What a graph calls its parts.
+    pub fn of(alloc: Global, problem: &'a Problem) -> Result<Labels<'a>, OutOfMemory>
+        ensures { IfOk result (λ labels. labels ≡ labels_of problem.entry.now) }
+    {
+        Ok(Labels {
+            processes: process_names(alloc, problem.processes())?,
+            conditions: condition_names(alloc, problem)?,
+            edges: edge_ends(alloc, problem.edges())?,
+        })
+    }
+
+    /// What a process is called.
+    pub fn process(&self, process: u32) -> &str
+        requires { process < length self.now.processes }
+        ensures { result.now ≡ process_name self.now process }
+    {
+        self.processes[process as usize]
+    }
+
+    /// What the process of a condition is called.
+    pub fn condition(&self, condition: u32) -> &str
+        requires { condition < length self.now.conditions }
+        ensures { result.now ≡ condition_name self.now condition }
+    {
+        self.conditions[condition as usize]
+    }
+}
