@@ -1,9 +1,12 @@
 //! The head of a pack.
 ghost use Rattle.std.specs.Prelude.{◌≡◌, ◌↔◌, ◌≤◌, ◌<◌, ◌^◌, IsTrue, IfOk, IfSome, IfNone, All, None, Some, count_by, length, option_map};
+ghost use Rattle.cpg_table.specs.GraphHead.{head_of};
 ghost use Rattle.cpg_table.specs.Head.{IsHead, IsHeadProcess, IsHeadEdge, IsExtra, AreExtras, version_of, extra_at};
 
-use crate::{Durations, Extra, HeadProcess};
-use cpg_base::{Name, OutOfMemory};
+use crate::graph_head::{head_edges, head_extras, head_nodes, head_processes};
+use crate::{Extra, HeadProcess};
+use cpg_base::{Name, OutOfMemory, Problem};
+use std::alloc::Global;
 use std::marker::Model;
 
 /// How many faults a pack is made for at most.
@@ -17,7 +20,7 @@ const MOST_CONDITIONS: usize = 32;
 /// How many edges a head has at most.
 const MOST_EDGES: usize = 256;
 /// Durations are below this, in time units of the graph file.
-const TIME_END: u64 = 1 << 60;
+pub const TIME_END: u64 = 1 << 60;
 /// The latest release and deadline, in time units of the graph file.
 const LATEST: u64 = 1_000_000_000;
 
@@ -54,7 +57,7 @@ fn are_counts_within(faults: u8, nodes: usize, processes: usize, edges: usize) -
 }
 
 /// How many processes have a condition.
-fn condition_count(processes: &[HeadProcess]) -> usize
+pub fn condition_count(processes: &[HeadProcess]) -> usize
     ensures { result ≡ count_by (λ p. p.condition) processes.now }
 {
     processes.iter().filter(|process| process.condition).count()
@@ -264,4 +267,18 @@ impl Head {
             extras: copy_extras(&self.extras)?,
         })
     }
+}
+
+/// The head of tables for a graph. It is of version 1 exactly where no process has a release above 0 or a deadline of
+/// its own.
+pub fn head_of(alloc: Global, problem: &Problem) -> Result<Head, OutOfMemory>
+    ensures { IfOk result (λ head. head ≡ head_of problem.now) }
+{
+    Ok(Head {
+        faults: problem.faults(),
+        nodes: head_nodes(alloc, problem.nodes())?,
+        processes: head_processes(alloc, problem)?,
+        edges: head_edges(alloc, problem.edges())?,
+        extras: head_extras(alloc, problem)?,
+    })
 }

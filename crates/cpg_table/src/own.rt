@@ -1,8 +1,12 @@
 //! What a node needs to know of its own processes.
-ghost use Rattle.std.specs.Prelude.{◌≡◌, IfOk};
+ghost use Rattle.std.specs.Prelude.{◌≡◌, ◌≢◌, ◌↔◌, ◌≤◌, ◌++◌, IsTrue, IfOk, IfSome, IfNone, OnOk, List, Some, None, if◌then◌else◌};
+ghost use Rattle.cpg_table.specs.Head.{IsHead};
+ghost use Rattle.cpg_table.specs.Items.{own_front, own_of};
 
-use crate::Durations;
+use crate::items::next_number;
+use crate::{Durations, Head, HeadProcess};
 use cpg_base::OutOfMemory;
+use std::alloc::Global;
 
 /// A process of the node that has the table.
 #[derive(Drop)]
@@ -26,4 +30,115 @@ impl Own {
             times: self.times.copy()?,
         })
     }
+}
+
+fn condition_if(condition: u32, has: bool) -> Option<u32>
+    ensures { result ≡ (if has then Some condition else None) }
+{
+    if has { Some(condition) } else { None }
+}
+
+/// Adds a process where it is on the node.
+fn push_own(
+    own: &mut Vec<Own>,
+    node: u32,
+    number: u32,
+    condition: u32,
+    process: &HeadProcess,
+) -> Result<(), OutOfMemory>
+    ensures { OnOk result (own.new.items ≡ own.old.items ++ own_front node number condition process.now) }
+{
+    if process.node == node {
+        let condition = condition_if(condition, process.condition);
+        let times = process.times.copy()?;
+        own.push(Own {
+            process: number,
+            condition,
+            times,
+        })?;
+    }
+    Ok(())
+}
+
+/// What a node needs to know of its own processes.
+pub fn own_of(alloc: Global, head: &Head, node: u32) -> Result<Vec<Own>, OutOfMemory>
+    ensures { IfOk result (λ own. own.items ≡ own_of head.now node) }
+{
+    let mut own = Vec::new(alloc);
+    let mut number: u32 = 0;
+    let mut condition: u32 = 0;
+    for process in head.processes() {
+        push_own(&mut own, node, number, condition, process)?;
+        number += 1;
+        condition = next_number(condition, process.condition);
+    }
+    Ok(own)
+}
+
+fn are_same_times(times: &[u64], others: &[u64]) -> bool
+    ensures { IsTrue result ↔ (times.now ≡ others.now) }
+{
+    times == others
+}
+
+fn is_same_condition(condition: Option<u32>, other: Option<u32>) -> bool
+    ensures { IsTrue result ↔ (condition ≡ other) }
+{
+    condition == other
+}
+
+/// Whether this is what a node needs to know of a process.
+fn is_own(own: &Own, number: u32, condition: Option<u32>, times: &Durations) -> bool
+    ensures { IsTrue result ↔ (own.now ≡ record { process = number; condition = condition; times = times.now }) }
+{
+    if own.process != number {
+        return false;
+    }
+    if !is_same_condition(own.condition, condition) {
+        return false;
+    }
+    are_same_times(own.times.times(), times.times())
+}
+
+/// What stands after a process where it is on the node, and `None` exactly where it doesn't come first.
+fn after_own<'a>(
+    own: &'a [Own],
+    node: u32,
+    number: u32,
+    condition: u32,
+    process: &HeadProcess,
+) -> Option<&'a [Own]>
+    ensures found { IfSome result (λ rest. own.now ≡ own_front node number condition process.now ++ rest.now) }
+    ensures other { IfNone result ((rest : List Own) → own.now ≢ own_front node number condition process.now ++ rest) }
+{
+    if process.node != node {
+        return Some(own);
+    }
+    let Some((first, rest)) = own.split_first() else {
+        return None;
+    };
+    let condition = condition_if(condition, process.condition);
+    if is_own(first, number, condition, &process.times) {
+        Some(rest)
+    } else {
+        None
+    }
+}
+
+/// Whether this is what a node needs to know of its own processes.
+pub fn is_own_of(head: &Head, node: u32, own: &[Own]) -> bool
+    ensures { IsTrue result ↔ (own.now ≡ own_of head.now node) }
+{
+    let mut rest = own;
+    let mut number: u32 = 0;
+    let mut condition: u32 = 0;
+    for process in head.processes() {
+        let Some(next) = after_own(rest, node, number, condition, process) else {
+            return false;
+        };
+        rest = next;
+        number += 1;
+        condition = next_number(condition, process.condition);
+    }
+    rest.is_empty()
 }

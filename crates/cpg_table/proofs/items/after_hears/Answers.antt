@@ -1,0 +1,12 @@
+use Rattle.std.proofs.Common.{rules, sym, ◌∙◌, ◌==◌, not}
+use Rattle.cpg_table.specs.Items.{numbers_where, enters, first_message, first_broadcast, conditioned}
+use Rattle.cpg_table.proofs.AfterItems.{after_both, after_neither}
+use Rattle.cpg_table.proofs.items.after_hears.Goals as goal
+
+pub returns-in_default : goal.returns-in_default
+returns-in_default c = search (rules, after_neither)
+
+pub returns : goal.returns
+returns c =
+    let h = c.args.head.now in
+    c.after_broadcasts.ensures ∙ sym (after_both (numbers_where (enters h c.args.node) (first_message h) h.edges) (numbers_where (λ p. not (p.node == c.args.node)) (first_broadcast h) (conditioned h)) c.args.rows.now c.in-Some.rest.now c.in-Some.ensures)

@@ -1,0 +1,17 @@
+use Rattle.std.proofs.Common.{rules, sym, ap, ◌∙◌, ◌==◌, ◌<◌, [], length, ltb, cond, lt-ltb, arith}
+use Rattle.std.proofs.lemmas.Bool.{cond-true}
+use Rattle.cpg_table.specs.Items.{numbers_where, leaves, first_message, first_broadcast, conditioned, after_items}
+use Rattle.cpg_table.proofs.AfterItems.{after_both, after_neither}
+use Rattle.cpg_table.proofs.items.after_sends.Goals as goal
+
+pub returns-in_default : goal.returns-in_default
+returns-in_default c = search (rules, after_neither)
+
+pub returns-then-nodes-gt1 : goal.returns-then-nodes-gt1
+returns-then-nodes-gt1 c =
+    let h = c.args.head.now in
+    let broadcasts = numbers_where (λ p. p.node == c.args.node) (first_broadcast h) (conditioned h) in
+    let two : 1 < length h.nodes = omega (arith, ap length c.nodes.ensures.nodes) in
+    c.after_broadcasts.ensures
+    ∙ ap (λ xs. after_items xs c.in-Some.rest.now) (sym (cond-true (ltb 1 (length h.nodes)) broadcasts [] (lt-ltb 1 (length h.nodes) two)))
+    ∙ sym (after_both (numbers_where (leaves h c.args.node) (first_message h) h.edges) (cond (ltb 1 (length h.nodes)) broadcasts []) c.args.rows.now c.in-Some.rest.now c.in-Some.ensures)

@@ -1,0 +1,11 @@
+use Rattle.std.proofs.Common.{◌≡◌, ◌≤◌, drop}
+use Rattle.cpg_table.specs.Items.{own_from, own_of}
+use Rattle.cpg_table.proofs.own.is_own_of.Given as goal
+
+abbrev pub invariant-loop-process : goal.invariant-loop-process
+invariant-loop-process l = record {
+  counted : l.number ≡ l.process-index;
+  few : l.condition ≤ l.process-index;
+  on : l.fn.own ≡ own_of l.head l.node → l.rest ≡ own_from l.node l.number l.condition (drop l.process-index l.process-items);
+  back : l.rest ≡ own_from l.node l.number l.condition (drop l.process-index l.process-items) → l.fn.own ≡ own_of l.head l.node;
+}

@@ -1,0 +1,67 @@
+-- Which items a node starts, sends and hears by a head, and what it needs to know of its own processes.
+use Rattle.std.specs.Prelude.{ℕ, ◌+◌, Bool, false, not, ◌&&◌, ◌==◌, nat_lt, if◌then◌else◌, List, [], ◌∷◌, ◌++◌, Option, Some, None, length, map, filter, get_or}
+use Rattle.cpg_table.specs.Head.{Head, HeadProcess}
+use Rattle.cpg_table.specs.Table.{Row}
+use Rattle.cpg_table.specs.declared.own.Own.{Own}
+
+-- the numbers, from i on, of the elements that pass
+abbrev pub numbers_where : {X : Type 0} → (X → Bool) → ℕ → List X → List ℕ
+numbers_where test i [] = []
+numbers_where test i (x ∷ xs) = if test x then i ∷ numbers_where test (i + 1) xs else numbers_where test (i + 1) xs
+
+-- the node that a process runs on
+abbrev pub head_node_of : Head → ℕ → ℕ
+head_node_of h p = (get_or h.processes p (record { name = []; node = 0; condition = false; times = [] })).node
+
+-- the processes that have a condition, by number of the condition
+abbrev pub conditioned : Head → List HeadProcess
+conditioned h = filter (λ p. p.condition) h.processes
+
+-- whether an edge leads from a node to another
+abbrev pub leaves : Head → ℕ → ℕ × ℕ → Bool
+leaves h node e = (head_node_of h e.0 == node) && not (head_node_of h e.1 == node)
+
+-- whether an edge leads to a node from another
+abbrev pub enters : Head → ℕ → ℕ × ℕ → Bool
+enters h node e = not (head_node_of h e.0 == node) && (head_node_of h e.1 == node)
+
+-- the item of the first edge
+abbrev pub first_message : Head → ℕ
+first_message h = length h.processes
+
+-- the item of the first condition
+abbrev pub first_broadcast : Head → ℕ
+first_broadcast h = length h.processes + length h.edges
+
+-- a node starts its own processes
+abbrev pub starts_of : Head → ℕ → List ℕ
+starts_of h node = numbers_where (λ p. p.node == node) 0 h.processes
+
+-- it sends the messages to other nodes and, where there are some, the broadcasts of its own conditions
+abbrev pub sends_of : Head → ℕ → List ℕ
+sends_of h node = numbers_where (leaves h node) (first_message h) h.edges
+    ++ (if nat_lt 1 (length h.nodes) then numbers_where (λ p. p.node == node) (first_broadcast h) (conditioned h) else [])
+
+-- it hears the messages and broadcasts of others
+abbrev pub hears_of : Head → ℕ → List ℕ
+hears_of h node = numbers_where (enters h node) (first_message h) h.edges
+    ++ numbers_where (λ p. not (p.node == node)) (first_broadcast h) (conditioned h)
+
+-- a process, where it is on the node, with the number of its condition
+abbrev pub own_front : ℕ → ℕ → ℕ → HeadProcess → List Own
+own_front node p c q = if q.node == node then record { process = p; condition = if q.condition then Some c else None; times = q.times } ∷ [] else []
+
+-- the processes of a node, from process p and condition c on
+abbrev pub own_from : ℕ → ℕ → ℕ → List HeadProcess → List Own
+own_from node p c [] = []
+own_from node p c (q ∷ qs) = own_front node p c q ++ own_from node (p + 1) (if q.condition then c + 1 else c) qs
+
+-- what a node needs to know of its own processes
+abbrev pub own_of : Head → ℕ → List Own
+own_of h node = own_from node 0 0 h.processes
+
+-- what stands after rows of these items, if they come first
+abbrev pub after_items : List ℕ → List Row → Option (List Row)
+after_items [] rows = Some rows
+after_items (x ∷ xs) [] = None
+after_items (x ∷ xs) (row ∷ rows) = if row.item == x then after_items xs rows else None

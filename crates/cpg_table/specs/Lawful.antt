@@ -1,0 +1,83 @@
+-- Which rows a table may have under a head.
+use Rattle.std.specs.Prelude.{ℕ, ◌≡◌, ◌+◌, ◌^◌, ◌≤◌, ◌<◌, ◌⊎◌, List, ◌++◌, length, count_by, sum_by, All}
+use Rattle.cpg_cube.specs.Cube.{IsRising}
+use Rattle.cpg_cube.specs.declared.literal.Literal.{Literal}
+use Rattle.cpg_table.specs.Head.{Head, IsHead}
+use Rattle.cpg_table.specs.Table.{Column, Row, NodeTable, table_at}
+use Rattle.cpg_table.specs.Shape.{items_of}
+use Rattle.cpg_table.specs.Items.{first_broadcast, starts_of, sends_of, hears_of, own_of}
+use Rattle.cpg_table.specs.declared.space.Space.{Space}
+
+-- the variables that there are under a head
+abbrev pub space_of : Head → Space
+space_of h = record { faults = h.faults; processes = length h.processes; conditions = count_by (λ p. p.condition) h.processes }
+
+-- a part of the fault counts of a process, and not all of them
+pub record IsCountLiteral (s : Space) (l : Literal) : Type 0 where
+  pub known : l.variable < s.processes
+  pub some : l.low ≤ l.high
+  pub within : l.high ≤ s.faults
+  pub part : l.high ≡ s.faults → 0 < l.low
+
+-- one value of a condition
+pub record IsValueLiteral (s : Space) (l : Literal) : Type 0 where
+  pub value : 128 ≤ l.variable
+  pub known : l.variable < 128 + s.conditions
+  pub one : l.low ≡ l.high
+  pub within : l.high ≤ 1
+
+-- a literal on a variable that there is, with a range that leaves some of its numbers out
+abbrev pub IsLawfulLiteral : Space → Literal → Type 0
+IsLawfulLiteral s l = IsCountLiteral s l ⊎ IsValueLiteral s l
+
+-- a time below 2 to the 60, and a cube of lawful literals
+pub record IsLawfulColumn (s : Space) (c : Column) : Type 0 where
+  pub time : c.time < 2 ^ 60
+  pub literals : All (IsLawfulLiteral s) c.cube
+  pub rising : IsRising c.cube
+
+-- not too many columns, each lawful
+pub record IsLawfulRow (s : Space) (row : Row) : Type 0 where
+  pub few : length row.columns ≤ 16384
+  pub columns : All (IsLawfulColumn s) row.columns
+
+-- the rows of a node: those of what it starts, then of what it sends, then of what it hears
+pub record AreRowsOf (h : Head) (node : ℕ) (rows : List Row) : Type 0 where
+  pub items : items_of rows ≡ starts_of h node ++ (sends_of h node ++ hears_of h node)
+  pub lawful : All (IsLawfulRow (space_of h)) rows
+
+-- all rows of a table
+abbrev pub rows_of : NodeTable → List Row
+rows_of t = t.starts ++ (t.sends ++ t.hears)
+
+-- the table of a node
+pub record IsTableOf (h : Head) (node : ℕ) (t : NodeTable) : Type 0 where
+  pub faults : t.faults ≡ h.faults
+  pub first_broadcast : t.first_broadcast ≡ first_broadcast h
+  pub own : t.own ≡ own_of h node
+  pub starts : items_of t.starts ≡ starts_of h node
+  pub sends : items_of t.sends ≡ sends_of h node
+  pub hears : items_of t.hears ≡ hears_of h node
+  pub lawful : All (IsLawfulRow (space_of h)) (rows_of t)
+
+-- a table that some head has for some node
+pub record IsTable (t : NodeTable) : Type 0 where
+  pub head : Head
+  pub node : ℕ
+  pub lawful : IsHead head
+  pub of : IsTableOf head node t
+
+-- how many columns rows have
+abbrev pub column_count : List Row → ℕ
+column_count rows = sum_by (λ row. length row.columns) rows
+
+-- a table for each node, and not too many columns in all
+pub record AreTablesOf (h : Head) (tables : List NodeTable) : Type 0 where
+  pub count : length tables ≡ length h.nodes
+  pub each : (node : ℕ) → node < length h.nodes → IsTableOf h node (table_at tables node)
+  pub few : sum_by (λ t. column_count (rows_of t)) tables ≤ 524288
+
+-- a head and the tables of its nodes
+pub record Tables : Type 0 where
+  pub head : Head
+  pub nodes : List NodeTable

@@ -1,0 +1,128 @@
+//! Which items a node starts, sends and hears by a head.
+ghost use Rattle.std.specs.Prelude.{◌≡◌, ◌<◌, ◌≤◌, ◌+◌, ◌∷◌, [], ◌==◌, ◌&&◌, not, if◌then◌else◌, length, option_map, option_and_then, ℕ};
+ghost use Rattle.cpg_table.specs.Head.{IsHead};
+ghost use Rattle.cpg_table.specs.Items.{numbers_where, head_node_of, leaves, enters, first_message, first_broadcast, conditioned, starts_of, sends_of, hears_of, after_items};
+
+use crate::{Head, Row};
+
+/// The rows after one of an item where there is to be one, and `None` exactly where it doesn't come first.
+fn after_row(rows: &[Row], item: u32, wanted: bool) -> Option<&[Row]>
+    ensures { option_map (λ r. r.now) result ≡ after_items (if wanted then item ∷ [] else []) rows.now }
+{
+    if !wanted {
+        return Some(rows);
+    }
+    let Some((row, rest)) = rows.split_first() else {
+        return None;
+    };
+    if row.item() == item { Some(rest) } else { None }
+}
+
+/// The rows after those of what a node starts, and `None` exactly where others stand there.
+pub fn after_starts<'a>(head: &Head, node: u32, rows: &'a [Row]) -> Option<&'a [Row]>
+    ensures { option_map (λ r. r.now) result ≡ after_items (starts_of head.now node) rows.now }
+{
+    let mut rest = rows;
+    let mut item: u32 = 0;
+    for process in head.processes() {
+        let Some(next) = after_row(rest, item, process.node == node) else {
+            return None;
+        };
+        rest = next;
+        item += 1;
+    }
+    Some(rest)
+}
+
+/// Whether an edge leads from a node to another, or to it from another.
+fn is_crossing(head: &Head, node: u32, edge: (u32, u32), out: bool) -> bool
+    requires from { edge.0 < length head.now.processes }
+    requires to { edge.1 < length head.now.processes }
+    ensures { result ≡ (if out then leaves head.now node edge else enters head.now node edge) }
+{
+    let from = head.processes()[edge.0 as usize].node;
+    let to = head.processes()[edge.1 as usize].node;
+    if out {
+        from == node && to != node
+    } else {
+        from != node && to == node
+    }
+}
+
+/// The rows after those of the messages from a node to others, or to it from others.
+fn after_messages<'a>(head: &Head, node: u32, out: bool, rows: &'a [Row]) -> Option<&'a [Row]>
+    ensures { option_map (λ r. r.now) result ≡ after_items (numbers_where (λ e. if out then leaves head.now node e else enters head.now node e) (first_message head.now) head.now.edges) rows.now }
+{
+    let mut rest = rows;
+    let mut item = head.processes().len() as u32;
+    for edge in head.edges() {
+        let Some(next) = after_row(rest, item, is_crossing(head, node, *edge, out)) else {
+            return None;
+        };
+        rest = next;
+        item += 1;
+    }
+    Some(rest)
+}
+
+/// The item of the first condition.
+pub fn first_broadcast(head: &Head) -> u32
+    ensures { result ≡ first_broadcast head.now }
+{
+    (head.processes().len() + head.edges().len()) as u32
+}
+
+/// Whether a process is on a node, or on another.
+fn is_chosen(place: u32, node: u32, own: bool) -> bool
+    ensures { result ≡ (if own then place == node else not (place == node)) }
+{
+    if own { place == node } else { place != node }
+}
+
+/// The number of the next condition after a process.
+pub fn next_number(number: u32, condition: bool) -> u32
+    requires { number < 1000 }
+    ensures { result ≡ (if condition then number + 1 else number) }
+{
+    if condition { number + 1 } else { number }
+}
+
+/// The rows after those of the broadcasts of a node's own conditions, or of the other nodes'.
+fn after_broadcasts<'a>(head: &Head, node: u32, own: bool, rows: &'a [Row]) -> Option<&'a [Row]>
+    ensures { option_map (λ r. r.now) result ≡ after_items (numbers_where (λ p. if own then p.node == node else not (p.node == node)) (first_broadcast head.now) (conditioned head.now)) rows.now }
+{
+    let mut rest = rows;
+    let mut item = first_broadcast(head);
+    for process in head.processes() {
+        let wanted = process.condition && is_chosen(process.node, node, own);
+        let Some(next) = after_row(rest, item, wanted) else {
+            return None;
+        };
+        rest = next;
+        item = next_number(item, process.condition);
+    }
+    Some(rest)
+}
+
+/// The rows after those of what a node sends, and `None` exactly where others stand there.
+pub fn after_sends<'a>(head: &Head, node: u32, rows: &'a [Row]) -> Option<&'a [Row]>
+    ensures { option_map (λ r. r.now) result ≡ after_items (sends_of head.now node) rows.now }
+{
+    let Some(rest) = after_messages(head, node, true, rows) else {
+        return None;
+    };
+    if head.nodes().len() > 1 {
+        return after_broadcasts(head, node, true, rest);
+    }
+    Some(rest)
+}
+
+/// The rows after those of what a node hears, and `None` exactly where others stand there.
+pub fn after_hears<'a>(head: &Head, node: u32, rows: &'a [Row]) -> Option<&'a [Row]>
+    ensures { option_map (λ r. r.now) result ≡ after_items (hears_of head.now node) rows.now }
+{
+    let Some(rest) = after_messages(head, node, false, rows) else {
+        return None;
+    };
+    after_broadcasts(head, node, false, rest)
+}

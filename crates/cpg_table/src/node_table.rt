@@ -1,0 +1,208 @@
+//! The table of a node.
+ghost use Rattle.std.specs.Prelude.{◌≡◌, ◌↔◌, ◌++◌, ◌<◌, IsTrue, IfOk, IfSome, IfNone, length, All};
+ghost use Rattle.cpg_table.specs.Shape.{items_of};
+ghost use Rattle.cpg_table.specs.Items.{first_broadcast, own_of, starts_of, sends_of, hears_of};
+ghost use Rattle.cpg_table.specs.Lawful.{IsTable, IsTableOf, AreRowsOf, IsLawfulRow, rows_of, space_of};
+
+use crate::counts::{counts_of, have_hears, have_sends, have_starts};
+use crate::items::first_broadcast;
+use crate::own::{is_own_of, own_of};
+use crate::space::{Space, are_rows, space_of};
+use crate::{Head, Own, Row};
+use cpg_base::OutOfMemory;
+use std::alloc::Global;
+use std::marker::Model;
+
+/// When a node starts, sends and hears its items, with what it needs of the head to act by that: the fault number, the
+/// item of the first broadcast, and its own processes. The times of starts and sends are those of the act, the times of
+/// hears those of the arrival.
+#[derive(Drop)]
+pub struct NodeTable {
+    faults: u8,
+    first_broadcast: u32,
+    own: Vec<Own>,
+    starts: Vec<Row>,
+    sends: Vec<Row>,
+    hears: Vec<Row>,
+}
+
+impl Model for NodeTable {
+    ghost use Rattle.cpg_table.specs.Table.{NodeTable};
+    ghost use Rattle.cpg_table.specs.Lawful.{IsTable};
+
+    ghost Value = { NodeTable };
+
+    ghost view = { λ t. record { faults = t.faults; first_broadcast = t.first_broadcast; own = t.own.items; starts = t.starts.items; sends = t.sends.items; hears = t.hears.items } };
+
+    ghost invariant = { λ t. IsTable (record { faults = t.faults; first_broadcast = t.first_broadcast; own = t.own.items; starts = t.starts.items; sends = t.sends.items; hears = t.hears.items }) };
+}
+
+fn copy_own(own: &Vec<Own>) -> Result<Vec<Own>, OutOfMemory>
+    ensures { IfOk result (λ copy. copy.items ≡ own.now.items) }
+{
+    let mut copy = Vec::new(*own.allocator());
+    copy.reserve(own.len())?;
+    for process in own.as_slice() {
+        copy.push(process.copy()?)?;
+    }
+    Ok(copy)
+}
+
+fn copy_rows(rows: &Vec<Row>) -> Result<Vec<Row>, OutOfMemory>
+    ensures { IfOk result (λ copy. copy.items ≡ rows.now.items) }
+{
+    let mut copy = Vec::new(*rows.allocator());
+    copy.reserve(rows.len())?;
+    for row in rows.as_slice() {
+        copy.push(row.copy()?)?;
+    }
+    Ok(copy)
+}
+
+impl NodeTable {
+    /// The table of a node with these rows: for each item that it starts, then for each that it sends, then for each that
+    /// it hears (docs/FORMATS.md). `None` exactly where the rows aren't those of the node's items, or one isn't lawful.
+    pub fn new(
+        alloc: Global,
+        head: &Head,
+        node: u32,
+        rows: Vec<Row>,
+    ) -> Result<Option<NodeTable>, OutOfMemory>
+        ensures table { IfOk result (λ r. IfSome r (λ t. IsTableOf head.now node t)) }
+        ensures rows { IfOk result (λ r. IfSome r (λ t. rows_of t ≡ rows.items)) }
+        ensures refused { IfOk result (λ r. IfNone r (¬ AreRowsOf head.now node rows.items)) }
+    {
+        if !are_rows(space_of(head), rows.as_slice()) {
+            return Ok(None);
+        }
+        let Some(counts) = counts_of(head, node, rows.as_slice()) else {
+            return Ok(None);
+        };
+        let mut starts = rows;
+        let mut sends = starts.split_off(counts.starts)?;
+        let hears = sends.split_off(counts.sends)?;
+        let own = own_of(alloc, head, node)?;
+        Ok(Some(NodeTable {
+            faults: head.faults(),
+            first_broadcast: first_broadcast(head),
+            own,
+            starts,
+            sends,
+            hears,
+        }))
+    }
+
+    /// How many faults the table bears.
+    pub fn faults(&self) -> u8
+        ensures faults { result ≡ self.now.faults }
+        ensures made { IsTable self.now }
+    {
+        self.faults
+    }
+
+    /// The item of the first broadcast.
+    pub fn first_broadcast(&self) -> u32
+        ensures first_broadcast { result ≡ self.now.first_broadcast }
+        ensures made { IsTable self.now }
+    {
+        self.first_broadcast
+    }
+
+    /// The node's own processes, by number.
+    pub fn own(&self) -> &[Own]
+        ensures own { result.now ≡ self.now.own }
+        ensures made { IsTable self.now }
+    {
+        self.own.as_slice()
+    }
+
+    /// What the node starts: its own processes, by number.
+    pub fn starts(&self) -> &[Row]
+        ensures starts { result.now ≡ self.now.starts }
+        ensures made { IsTable self.now }
+    {
+        self.starts.as_slice()
+    }
+
+    /// What the node sends, by number.
+    pub fn sends(&self) -> &[Row]
+        ensures sends { result.now ≡ self.now.sends }
+        ensures made { IsTable self.now }
+    {
+        self.sends.as_slice()
+    }
+
+    /// What the node hears, by number.
+    pub fn hears(&self) -> &[Row]
+        ensures hears { result.now ≡ self.now.hears }
+        ensures made { IsTable self.now }
+    {
+        self.hears.as_slice()
+    }
+
+    /// An equal table.
+    pub fn copy(&self) -> Result<NodeTable, OutOfMemory>
+        ensures { IfOk result (λ table. table ≡ self.now) }
+    {
+        Ok(NodeTable {
+            faults: self.faults,
+            first_broadcast: self.first_broadcast,
+            own: copy_own(&self.own)?,
+            starts: copy_rows(&self.starts)?,
+            sends: copy_rows(&self.sends)?,
+            hears: copy_rows(&self.hears)?,
+        })
+    }
+}
+
+/// Whether all rows of a table are lawful.
+fn are_table_rows(space: Space, table: &NodeTable) -> bool
+    ensures { IsTrue result ↔ All (IsLawfulRow space) (rows_of table.now) }
+{
+    if !are_rows(space, table.starts()) {
+        return false;
+    }
+    if !are_rows(space, table.sends()) {
+        return false;
+    }
+    are_rows(space, table.hears())
+}
+
+/// Whether the rows of a table are those of a node's items.
+fn has_items(head: &Head, node: u32, table: &NodeTable) -> bool
+    ensures { IsTrue result ↔ ((items_of table.now.starts ≡ starts_of head.now node) × (items_of table.now.sends ≡ sends_of head.now node) × (items_of table.now.hears ≡ hears_of head.now node)) }
+{
+    if !have_starts(head, node, table.starts()) {
+        return false;
+    }
+    if !have_sends(head, node, table.sends()) {
+        return false;
+    }
+    have_hears(head, node, table.hears())
+}
+
+/// Whether a table has what its node needs of the head.
+fn has_numbers(head: &Head, node: u32, table: &NodeTable) -> bool
+    ensures { IsTrue result ↔ ((table.now.faults ≡ head.now.faults) × (table.now.first_broadcast ≡ first_broadcast head.now) × (table.now.own ≡ own_of head.now node)) }
+{
+    if table.faults() != head.faults() {
+        return false;
+    }
+    if table.first_broadcast() != first_broadcast(head) {
+        return false;
+    }
+    is_own_of(head, node, table.own())
+}
+
+/// Whether a table is that of a node under a head.
+pub fn is_table_of(head: &Head, node: u32, table: &NodeTable) -> bool
+    ensures { IsTrue result ↔ IsTableOf head.now node table.now }
+{
+    if !has_numbers(head, node, table) {
+        return false;
+    }
+    if !has_items(head, node, table) {
+        return false;
+    }
+    are_table_rows(space_of(head), table)
+}

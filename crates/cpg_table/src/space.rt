@@ -1,0 +1,97 @@
+//! Which rows a table may have under a head.
+ghost use Rattle.std.specs.Prelude.{◌≡◌, ◌↔◌, ◌≤◌, ◌<◌, IsTrue, All};
+ghost use Rattle.cpg_cube.specs.Cube.{IsRising};
+ghost use Rattle.cpg_table.specs.Lawful.{space_of, IsCountLiteral, IsValueLiteral, IsLawfulLiteral, IsLawfulColumn, IsLawfulRow};
+
+use crate::head::{TIME_END, condition_count};
+use crate::{Entry, Head, Row};
+use cpg_cube::Literal;
+
+/// How many columns a row has at most.
+const MOST_COLUMNS: usize = 16_384;
+/// The variable of the first condition's value.
+const FIRST_VALUE: u32 = 128;
+
+/// The variables that there are under a head.
+#[derive(Clone, Copy, Debug)]
+pub struct Space {
+    /// The greatest fault count.
+    pub faults: u8,
+    /// How many processes there are.
+    pub processes: u32,
+    /// How many conditions there are.
+    pub conditions: u32,
+}
+
+/// The variables that there are under a head.
+pub fn space_of(head: &Head) -> Space
+    ensures { result ≡ space_of head.now }
+{
+    Space {
+        faults: head.faults(),
+        processes: head.processes().len() as u32,
+        conditions: condition_count(head.processes()) as u32,
+    }
+}
+
+/// Whether a literal is a part of the fault counts of a process, and not all of them.
+fn is_count(space: Space, literal: Literal) -> bool
+    ensures { IsTrue result ↔ IsCountLiteral space literal }
+{
+    if u32::from(literal.variable) >= space.processes {
+        return false;
+    }
+    if literal.low > literal.high || literal.high > space.faults {
+        return false;
+    }
+    literal.high < space.faults || literal.low > 0
+}
+
+/// Whether a literal is one value of a condition.
+fn is_value(space: Space, literal: Literal) -> bool
+    ensures { IsTrue result ↔ IsValueLiteral space literal }
+{
+    let variable = u32::from(literal.variable);
+    if variable < FIRST_VALUE || variable - FIRST_VALUE >= space.conditions {
+        return false;
+    }
+    literal.low == literal.high && literal.high <= 1
+}
+
+fn is_literal(space: Space, literal: Literal) -> bool
+    ensures { IsTrue result ↔ IsLawfulLiteral space literal }
+{
+    is_count(space, literal) || is_value(space, literal)
+}
+
+fn are_literals(space: Space, literals: &[Literal]) -> bool
+    ensures { IsTrue result ↔ All (IsLawfulLiteral space) literals.now }
+{
+    literals.iter().all(|literal| is_literal(space, *literal))
+}
+
+fn is_column(space: Space, column: &Entry) -> bool
+    ensures { IsTrue result ↔ IsLawfulColumn space column.now }
+{
+    column.time < TIME_END && are_literals(space, column.cube.literals())
+}
+
+fn are_columns(space: Space, columns: &[Entry]) -> bool
+    ensures { IsTrue result ↔ All (IsLawfulColumn space) columns.now }
+{
+    columns.iter().all(|column| is_column(space, column))
+}
+
+fn is_row(space: Space, row: &Row) -> bool
+    ensures { IsTrue result ↔ IsLawfulRow space row.now }
+{
+    let columns = row.entries();
+    columns.len() <= MOST_COLUMNS && are_columns(space, columns)
+}
+
+/// Whether rows are lawful.
+pub fn are_rows(space: Space, rows: &[Row]) -> bool
+    ensures { IsTrue result ↔ All (IsLawfulRow space) rows.now }
+{
+    rows.iter().all(|row| is_row(space, row))
+}

@@ -1,0 +1,143 @@
+//! The tables of all nodes.
+ghost use Rattle.std.specs.Prelude.{◌≡◌, ◌↔◌, ◌≤◌, ◌<◌, ◌+◌, ℕ, IsTrue, IfOk, IfSome, IfNone, length, sum_by};
+ghost use Rattle.cpg_table.specs.Table.{table_at};
+ghost use Rattle.cpg_table.specs.Lawful.{IsTableOf, AreTablesOf, column_count, rows_of};
+
+use crate::node_table::is_table_of;
+use crate::{Head, NodeTable, Row};
+use cpg_base::OutOfMemory;
+use std::marker::Model;
+
+/// How many columns all tables have together at most.
+const MOST_COLUMNS: usize = 524_288;
+
+/// What a pack holds: a head and the table of each node, seen as both.
+#[derive(Drop)]
+pub struct Tables {
+    head: Head,
+    nodes: Vec<NodeTable>,
+}
+
+impl Model for Tables {
+    ghost use Rattle.cpg_table.specs.Lawful.{Tables, AreTablesOf};
+
+    ghost Value = { Tables };
+
+    ghost view = { λ t. record { head = t.head; nodes = t.nodes.items } };
+
+    ghost invariant = { λ t. AreTablesOf t.head t.nodes.items };
+}
+
+/// Whether each table is that of its node.
+fn are_tables_of(head: &Head, nodes: &[NodeTable]) -> bool
+    requires { length nodes.now ≤ 16 }
+    ensures { IsTrue result ↔ ((node : ℕ) → node < length nodes.now → IsTableOf head.now node (table_at nodes.now node)) }
+{
+    let mut node: u32 = 0;
+    for table in nodes {
+        if !is_table_of(head, node, table) {
+            return false;
+        }
+        node += 1;
+    }
+    true
+}
+
+/// What is left of a number of columns after those of these rows; `None` exactly where these are more.
+fn columns_left(rows: &[Row], most: usize) -> Option<usize>
+    ensures few { IfSome result (λ left. left + column_count rows.now ≡ most) }
+    ensures many { IfNone result (most < column_count rows.now) }
+{
+    let mut left = most;
+    for row in rows {
+        let columns = row.entries().len();
+        if columns > left {
+            return None;
+        }
+        left -= columns;
+    }
+    Some(left)
+}
+
+/// What is left of a number of columns after those of a table; `None` exactly where these are more.
+fn table_left(table: &NodeTable, most: usize) -> Option<usize>
+    ensures few { IfSome result (λ left. left + column_count (rows_of table.now) ≡ most) }
+    ensures many { IfNone result (most < column_count (rows_of table.now)) }
+{
+    let left = columns_left(table.starts(), most)?;
+    let left = columns_left(table.sends(), left)?;
+    columns_left(table.hears(), left)
+}
+
+/// Whether the tables have not too many columns.
+fn are_columns_few(nodes: &[NodeTable]) -> bool
+    ensures { IsTrue result ↔ (sum_by (λ t. column_count (rows_of t)) nodes.now ≤ 524288) }
+{
+    let mut left = MOST_COLUMNS;
+    for table in nodes {
+        let Some(rest) = table_left(table, left) else {
+            return false;
+        };
+        left = rest;
+    }
+    true
+}
+
+impl Tables {
+    /// These tables under this head, and `None` exactly where there isn't one for each node, one isn't that of its node
+    /// under this head, or all together have more than 524,288 columns.
+    pub fn new(head: Head, nodes: Vec<NodeTable>) -> Option<Tables>
+        ensures tables { IfSome result (λ t. t ≡ record { head = head; nodes = nodes.items }) }
+        ensures lawful { IfSome result (λ _. AreTablesOf head nodes.items) }
+        ensures refused { IfNone result (¬ AreTablesOf head nodes.items) }
+    {
+        if nodes.len() != head.nodes().len() {
+            return None;
+        }
+        if !are_tables_of(&head, nodes.as_slice()) {
+            return None;
+        }
+        if !are_columns_few(nodes.as_slice()) {
+            return None;
+        }
+        Some(Tables { head, nodes })
+    }
+
+    /// What the tables are made for.
+    pub fn head(&self) -> &Head
+        ensures head { result.now ≡ self.now.head }
+        ensures lawful { AreTablesOf self.now.head self.now.nodes }
+    {
+        &self.head
+    }
+
+    /// The table of a node.
+    pub fn node(&self, number: u32) -> &NodeTable
+        requires { number < length self.now.head.nodes }
+        ensures table { result.now ≡ table_at self.now.nodes number }
+        ensures lawful { IsTableOf self.now.head number result.now }
+    {
+        &self.nodes[number as usize]
+    }
+
+    /// Equal tables.
+    pub fn copy(&self) -> Result<Tables, OutOfMemory>
+        ensures { IfOk result (λ tables. tables ≡ self.now) }
+    {
+        Ok(Tables {
+            head: self.head.copy()?,
+            nodes: copy_nodes(&self.nodes)?,
+        })
+    }
+}
+
+fn copy_nodes(nodes: &Vec<NodeTable>) -> Result<Vec<NodeTable>, OutOfMemory>
+    ensures { IfOk result (λ copy. copy.items ≡ nodes.now.items) }
+{
+    let mut copy = Vec::new(*nodes.allocator());
+    copy.reserve(nodes.len())?;
+    for table in nodes.as_slice() {
+        copy.push(table.copy()?)?;
+    }
+    Ok(copy)
+}
