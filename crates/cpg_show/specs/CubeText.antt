@@ -1,10 +1,10 @@
 -- The text of columns: a line of each, with its time and its literals.
-use Rattle.std.specs.Prelude.{ℕ, ◌-◌, ◌==◌, nat_lt, if◌then◌else◌, List, [], ◌∷◌, ◌++◌, codes, All}
+use Rattle.std.specs.Prelude.{ℕ, ◌-◌, ◌==◌, nat_lt, if◌then◌else◌, List, [], ◌∷◌, ◌++◌, codes}
 use Rattle.std.specs.List.{flat_map, join_by}
 use Rattle.std.specs.Fmt.{decimal}
 use Rattle.cpg_cube.specs.declared.literal.Literal.{Literal}
 use Rattle.cpg_table.specs.Table.{Column}
-use Rattle.cpg_show.specs.Labels.{Labels, IsLabelled, process_name, condition_name}
+use Rattle.cpg_show.specs.Labels.{Labels, process_name, condition_name}
 
 -- a range of fault counts
 abbrev pub range_text : ℕ → ℕ → List ℕ
@@ -32,11 +32,3 @@ column_line labels c = codes "  " ++ decimal c.time ++ codes ": " ++ cube_text l
 -- the lines of columns
 abbrev pub columns_text : Labels → List Column → List ℕ
 columns_text labels columns = flat_map (column_line labels) columns
-
--- each literal's variable has a name
-abbrev pub IsCubeLabelled : Labels → List Literal → Type 0
-IsCubeLabelled labels cube = All (λ (l : Literal). IsLabelled labels l.variable) cube
-
--- in each column
-abbrev pub AreLabelled : Labels → List Column → Type 0
-AreLabelled labels columns = All (λ (c : Column). IsCubeLabelled labels c.cube) columns

@@ -1,5 +1,5 @@
 -- What texts call processes, conditions and edges.
-use Rattle.std.specs.Prelude.{ℕ, ◌+◌, ◌≤◌, ◌<◌, List, [], length, map, get_or}
+use Rattle.std.specs.Prelude.{ℕ, List, [], map, get_or}
 use Rattle.cpg_base.specs.Graph.{Graph, process_at, disjunctions}
 use Rattle.cpg_base.specs.declared.process.Process.{Process}
 use Rattle.cpg_base.specs.declared.process.Edge.{Edge}
@@ -18,10 +18,9 @@ process_name labels p = get_or labels.processes p []
 abbrev pub condition_name : Labels → ℕ → List ℕ
 condition_name labels c = get_or labels.conditions c []
 
--- a variable has a name: below 128 that of a process, from there on that of a condition
-pub record IsLabelled (labels : Labels) (variable : ℕ) : Type 0 where
-  pub process : variable < 128 → variable < length labels.processes
-  pub condition : 128 ≤ variable → variable < 128 + length labels.conditions
+-- the processes that an edge runs between
+abbrev pub edge_ends : Labels → ℕ → ℕ × ℕ
+edge_ends labels e = get_or labels.edges e (0, 0)
 
 -- what a graph calls its parts
 abbrev pub labels_of : Graph → Labels

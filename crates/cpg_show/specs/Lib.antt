@@ -1,2 +1,5 @@
 pub mod Labels
 pub mod CubeText
+pub mod ItemText
+pub mod TableText
+pub mod Found

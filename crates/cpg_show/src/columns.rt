@@ -1,7 +1,6 @@
 //! The lines of columns.
 ghost use Rattle.std.specs.Prelude.{◌≡◌, ◌++◌, OnOk, codes, flat_map, string_bytes};
-ghost use Rattle.cpg_show.specs.Labels.{IsLabelled};
-ghost use Rattle.cpg_show.specs.CubeText.{AreLabelled, IsCubeLabelled, column_line, columns_text, cube_text, literal_text, range_text, value_text};
+ghost use Rattle.cpg_show.specs.CubeText.{column_line, columns_text, cube_text, literal_text, range_text, value_text};
 
 use crate::labels::Labels;
 use cpg_cube::{Cube, Literal};
@@ -31,7 +30,6 @@ fn write_value(out: &mut String, number: u8) -> Result<(), AllocError>
 }
 
 fn write_literal(out: &mut String, labels: &Labels<'_>, literal: Literal) -> Result<(), AllocError>
-    requires { IsLabelled labels.now literal.variable }
     ensures { OnOk result (string_bytes out.new ≡ string_bytes out.old ++ literal_text labels.now literal) }
 {
     if literal.variable < 128 {
@@ -46,7 +44,6 @@ fn write_literal(out: &mut String, labels: &Labels<'_>, literal: Literal) -> Res
 
 /// The literals after the first one.
 fn write_rest(out: &mut String, labels: &Labels<'_>, literals: &[Literal]) -> Result<(), AllocError>
-    requires { IsCubeLabelled labels.now literals.now }
     ensures { OnOk result (string_bytes out.new ≡ string_bytes out.old ++ flat_map (λ l. codes ", " ++ literal_text labels.now l) literals.now) }
 {
     for literal in literals {
@@ -57,7 +54,6 @@ fn write_rest(out: &mut String, labels: &Labels<'_>, literals: &[Literal]) -> Re
 }
 
 fn write_cube(out: &mut String, labels: &Labels<'_>, cube: &Cube) -> Result<(), AllocError>
-    requires { IsCubeLabelled labels.now cube.now }
     ensures { OnOk result (string_bytes out.new ≡ string_bytes out.old ++ cube_text labels.now cube.now) }
 {
     let Some((first, rest)) = cube.literals().split_first() else {
@@ -68,7 +64,6 @@ fn write_cube(out: &mut String, labels: &Labels<'_>, cube: &Cube) -> Result<(), 
 }
 
 fn write_column(out: &mut String, labels: &Labels<'_>, column: &Entry) -> Result<(), AllocError>
-    requires { IsCubeLabelled labels.now column.now.cube }
     ensures { OnOk result (string_bytes out.new ≡ string_bytes out.old ++ column_line labels.now column.now) }
 {
     let time = column.time;
@@ -83,7 +78,6 @@ pub(crate) fn write_columns(
     labels: &Labels<'_>,
     columns: &[Entry],
 ) -> Result<(), AllocError>
-    requires { AreLabelled labels.now columns.now }
     ensures { OnOk result (string_bytes out.new ≡ string_bytes out.old ++ columns_text labels.now columns.now) }
 {
     for column in columns {

@@ -1,7 +1,7 @@
 //! What texts call processes, conditions and edges.
 ghost use Rattle.std.specs.Prelude.{◌≡◌, ◌<◌, IfOk, length, get_or, map};
 ghost use Rattle.cpg_base.specs.Graph.{disjunctions, process_at};
-ghost use Rattle.cpg_show.specs.Labels.{condition_name, labels_of, process_name};
+ghost use Rattle.cpg_show.specs.Labels.{condition_name, edge_ends, labels_of, process_name};
 
 use cpg_base::{Edge, OutOfMemory, Problem, Process};
 use std::alloc::Global;
@@ -76,19 +76,44 @@ impl<'a> Labels<'a> {
         })
     }
 
-    /// What a process is called.
+    /// What a process is called, and nothing where there is no such process.
     pub fn process(&self, process: u32) -> &str
-        requires { process < length self.now.processes }
         ensures { result.now ≡ process_name self.now process }
     {
-        self.processes[process as usize]
+        match self.processes.get(process as usize) {
+            Some(name) => name,
+            None => "",
+        }
     }
 
-    /// What the process of a condition is called.
+    /// What the process of a condition is called, and nothing where there is no such condition.
     pub fn condition(&self, condition: u32) -> &str
-        requires { condition < length self.now.conditions }
         ensures { result.now ≡ condition_name self.now condition }
     {
-        self.conditions[condition as usize]
+        match self.conditions.get(condition as usize) {
+            Some(name) => name,
+            None => "",
+        }
+    }
+
+    /// The numbers of the processes that an edge runs between, 0 where there is no such edge.
+    pub fn ends(&self, edge: u32) -> (u32, u32)
+        ensures { result ≡ edge_ends self.now edge }
+    {
+        self.edges.get(edge as usize).copied().unwrap_or((0, 0))
+    }
+
+    /// How many processes there are.
+    pub fn processes(&self) -> usize
+        ensures { result ≡ length self.now.processes }
+    {
+        self.processes.len()
+    }
+
+    /// How many edges there are.
+    pub fn edges(&self) -> usize
+        ensures { result ≡ length self.now.edges }
+    {
+        self.edges.len()
     }
 }
