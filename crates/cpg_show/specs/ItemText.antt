@@ -1,4 +1,5 @@
--- What texts call what a node does: it starts a process, sends a message, or tells the value of a condition.
+-- What texts call what a node does and hears: it starts a process, sends a message, tells the value of a condition, or
+-- hears one of the latter two.
 use Rattle.std.specs.Prelude.{ℕ, ◌+◌, ◌-◌, nat_lt, if◌then◌else◌, List, ◌++◌, codes, length}
 use Rattle.std.specs.Fmt.{decimal}
 use Rattle.cpg_show.specs.Labels.{Labels, process_name, condition_name, edge_ends}
@@ -17,3 +18,9 @@ act_text labels x =
     if nat_lt x (length labels.processes) then codes "start " ++ process_name labels x else
     if nat_lt x (first_broadcast labels) then codes "send " ++ edge_text labels (x - length labels.processes) else
     codes "tell " ++ condition_name labels (x - first_broadcast labels)
+
+-- what another node hears of it
+abbrev pub hear_text : Labels → ℕ → List ℕ
+hear_text labels x =
+    if nat_lt (x - length labels.processes) (length labels.edges) then codes "hear " ++ edge_text labels (x - length labels.processes) else
+    codes "hear " ++ condition_name labels (x - first_broadcast labels)

@@ -3,6 +3,9 @@ use Rattle.std.specs.Prelude.{ℕ, List, [], map, get_or}
 use Rattle.cpg_base.specs.Graph.{Graph, process_at, disjunctions}
 use Rattle.cpg_base.specs.declared.process.Process.{Process}
 use Rattle.cpg_base.specs.declared.process.Edge.{Edge}
+use Rattle.cpg_table.specs.Head.{Head}
+use Rattle.cpg_table.specs.declared.head_parts.HeadProcess.{HeadProcess}
+use Rattle.cpg_table.specs.Items.{conditioned}
 
 -- the names of the processes, the name of the process of each condition, and the ends of the edges
 pub record Labels : Type 0 where
@@ -28,4 +31,12 @@ labels_of g = record {
   processes = map (λ (p : Process). p.name) g.processes;
   conditions = map (λ p. (process_at g p).name) (disjunctions g);
   edges = map (λ (e : Edge). (e.from, e.to)) g.edges;
+}
+
+-- what a head calls them
+abbrev pub head_labels : Head → Labels
+head_labels h = record {
+  processes = map (λ (p : HeadProcess). p.name) h.processes;
+  conditions = map (λ (p : HeadProcess). p.name) (conditioned h);
+  edges = h.edges;
 }

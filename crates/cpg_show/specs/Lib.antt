@@ -2,4 +2,5 @@ pub mod Labels
 pub mod CubeText
 pub mod ItemText
 pub mod TableText
+pub mod NodeText
 pub mod Found

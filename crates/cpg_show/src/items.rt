@@ -1,7 +1,7 @@
 //! What is done with an item, and where.
 ghost use Rattle.std.specs.Prelude.{◌≡◌, ◌<◌, ◌++◌, OnOk, length, string_bytes};
 ghost use Rattle.cpg_base.specs.Graph.{item_count, node_of, process_count, producer};
-ghost use Rattle.cpg_show.specs.ItemText.{act_text, edge_text};
+ghost use Rattle.cpg_show.specs.ItemText.{act_text, edge_text, hear_text};
 ghost use Rattle.cpg_show.specs.TableText.{is_shown};
 
 use crate::labels::Labels;
@@ -76,4 +76,21 @@ pub(crate) fn write_act(out: &mut String, labels: &Labels<'_>, item: u32) -> Res
     }
     let name = labels.condition((edge - labels.edges()) as u32);
     write!(out, "tell {name}")
+}
+
+/// What a node hears of an item.
+pub(crate) fn write_heard(
+    out: &mut String,
+    labels: &Labels<'_>,
+    item: u32,
+) -> Result<(), AllocError>
+    ensures { OnOk result (string_bytes out.new ≡ string_bytes out.old ++ hear_text labels.now item) }
+{
+    let edge = (item as usize).saturating_sub(labels.processes());
+    if edge < labels.edges() {
+        out.push_str("hear ")?;
+        return write_edge(out, labels, edge as u32);
+    }
+    let name = labels.condition((edge - labels.edges()) as u32);
+    write!(out, "hear {name}")
 }

@@ -1,9 +1,10 @@
 //! What texts call processes, conditions and edges.
-ghost use Rattle.std.specs.Prelude.{◌≡◌, ◌<◌, IfOk, length, get_or, map};
+ghost use Rattle.std.specs.Prelude.{◌≡◌, ◌<◌, IfOk, filter, length, get_or, map};
 ghost use Rattle.cpg_base.specs.Graph.{disjunctions, process_at};
-ghost use Rattle.cpg_show.specs.Labels.{condition_name, edge_ends, labels_of, process_name};
+ghost use Rattle.cpg_show.specs.Labels.{condition_name, edge_ends, head_labels, labels_of, process_name};
 
 use cpg_base::{Edge, OutOfMemory, Problem, Process};
+use cpg_table::{Head, HeadProcess};
 use std::alloc::Global;
 use std::marker::Model;
 
@@ -64,7 +65,55 @@ fn edge_ends(alloc: Global, edges: &[Edge]) -> Result<Vec<(u32, u32)>, OutOfMemo
     Ok(ends)
 }
 
+fn head_process_names<'a>(
+    alloc: Global,
+    processes: &'a [HeadProcess],
+) -> Result<Vec<&'a str>, OutOfMemory>
+    ensures { IfOk result (λ names. map (λ n. n.now) names.items ≡ map (λ p. p.name) processes.entry.now) }
+{
+    let mut names = Vec::new(alloc);
+    names.reserve(processes.len())?;
+    for process in processes {
+        names.push(process.name.as_str())?;
+    }
+    Ok(names)
+}
+
+fn head_condition_names<'a>(
+    alloc: Global,
+    processes: &'a [HeadProcess],
+) -> Result<Vec<&'a str>, OutOfMemory>
+    ensures { IfOk result (λ names. map (λ n. n.now) names.items ≡ map (λ p. p.name) (filter (λ p. p.condition) processes.entry.now)) }
+{
+    let mut names = Vec::new(alloc);
+    for process in processes {
+        if process.condition {
+            names.push(process.name.as_str())?;
+        }
+    }
+    Ok(names)
+}
+
+fn head_edges(alloc: Global, edges: &[(u32, u32)]) -> Result<Vec<(u32, u32)>, OutOfMemory>
+    ensures { IfOk result (λ ends. ends.items ≡ edges.now) }
+{
+    let mut ends = Vec::new(alloc);
+    ends.extend_from_slice(edges)?;
+    Ok(ends)
+}
+
 impl<'a> Labels<'a> {
+    /// What the head of a pack calls the parts of its graph.
+    pub fn of_head(alloc: Global, head: &'a Head) -> Result<Labels<'a>, OutOfMemory>
+        ensures { IfOk result (λ labels. labels ≡ head_labels head.entry.now) }
+    {
+        Ok(Labels {
+            processes: head_process_names(alloc, head.processes())?,
+            conditions: head_condition_names(alloc, head.processes())?,
+            edges: head_edges(alloc, head.edges())?,
+        })
+    }
+
     /// What a graph calls its parts.
     pub fn of(alloc: Global, problem: &'a Problem) -> Result<Labels<'a>, OutOfMemory>
         ensures { IfOk result (λ labels. labels ≡ labels_of problem.entry.now) }

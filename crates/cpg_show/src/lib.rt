@@ -5,6 +5,8 @@ mod columns;
 mod found;
 mod items;
 mod labels;
+mod node;
 mod table;
 
+pub use node::node_text;
 pub use table::table_text;
