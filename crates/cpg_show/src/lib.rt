@@ -1,13 +1,12 @@
-// A library with one function.
+//! Tables as texts.
 #![tactic(auto)]
 
-ghost use Rattle.std.specs.Prelude.{◌≡◌};
-ghost use Rattle.cpg_show.specs.Echo.{echo_of};
+mod columns;
+mod found;
+mod items;
+mod labels;
+mod node;
+mod table;
 
-// The `ensures` clause is the contract: what `echo` returns is `echo_of` of its argument, a definition
-// in `specs/Echo.antt`, which a caller's clause can cite too.
-pub fn echo(x: usize) -> usize
-    ensures { result ≡ echo_of x }
-{
-    x
-}
+pub use node::node_text;
+pub use table::table_text;

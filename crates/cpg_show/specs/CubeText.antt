@@ -1,0 +1,34 @@
+-- The text of columns: a line of each, with its time and its literals.
+use Rattle.std.specs.Prelude.{ℕ, ◌-◌, ◌==◌, nat_lt, if◌then◌else◌, List, [], ◌∷◌, ◌++◌, codes}
+use Rattle.std.specs.List.{flat_map, join_by}
+use Rattle.std.specs.Fmt.{decimal}
+use Rattle.cpg_cube.specs.declared.literal.Literal.{Literal}
+use Rattle.cpg_table.specs.Table.{Column}
+use Rattle.cpg_show.specs.Labels.{Labels, process_name, condition_name}
+
+-- a range of fault counts
+abbrev pub range_text : ℕ → ℕ → List ℕ
+range_text low high = if low == high then decimal low else decimal low ++ codes ".." ++ decimal high
+
+-- a value, by its number
+abbrev pub value_text : ℕ → List ℕ
+value_text number = if number == 0 then codes "false" else codes "true"
+
+-- a literal on a fault count or on a value
+abbrev pub literal_text : Labels → Literal → List ℕ
+literal_text labels l =
+    if nat_lt l.variable 128 then process_name labels l.variable ++ codes " faults " ++ range_text l.low l.high
+    else condition_name labels (l.variable - 128) ++ codes " " ++ value_text l.low
+
+-- the literals with a comma and a space between each two, and `always` of none
+abbrev pub cube_text : Labels → List Literal → List ℕ
+cube_text labels [] = codes "always"
+cube_text labels (l ∷ ls) = join_by (literal_text labels) (codes ", ") (l ∷ ls)
+
+-- the line of a column
+abbrev pub column_line : Labels → Column → List ℕ
+column_line labels c = codes "  " ++ decimal c.time ++ codes ": " ++ cube_text labels c.cube ++ codes "\n"
+
+-- the lines of columns
+abbrev pub columns_text : Labels → List Column → List ℕ
+columns_text labels columns = flat_map (column_line labels) columns

@@ -1,0 +1,6 @@
+pub mod Labels
+pub mod CubeText
+pub mod ItemText
+pub mod TableText
+pub mod NodeText
+pub mod Found

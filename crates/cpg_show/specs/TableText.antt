@@ -1,0 +1,34 @@
+-- The text of tables: the order, the greatest finish, and the lines of each item.
+use Rattle.std.specs.Prelude.{ℕ, ◌||◌, Bool, nat_lt, if◌then◌else◌, List, [], ◌++◌, codes, get_or}
+use Rattle.std.specs.List.{flat_map}
+use Rattle.std.specs.Fmt.{decimal}
+use Rattle.cpg_base.specs.Numbers.{numbers_below}
+use Rattle.cpg_base.specs.Graph.{Graph, process_count, item_count, home, is_sent}
+use Rattle.cpg_table.specs.Table.{NodeTable, columns_of}
+use Rattle.cpg_show.specs.Labels.{labels_of, process_name}
+use Rattle.cpg_show.specs.CubeText.{columns_text}
+use Rattle.cpg_show.specs.ItemText.{act_text}
+
+-- whether an item has lines: a message within a node has none, nor has a broadcast where there is one node
+abbrev pub is_shown : Graph → ℕ → Bool
+is_shown g x = nat_lt x (process_count g) || is_sent g x
+
+-- what is done, and on which node
+abbrev pub head_line : Graph → ℕ → List ℕ
+head_line g x = act_text (labels_of g) x ++ codes " on " ++ get_or g.nodes (home g x) [] ++ codes "\n"
+
+-- the lines of an item
+abbrev pub item_text : Graph → List NodeTable → ℕ → List ℕ
+item_text g tables x = if is_shown g x then head_line g x ++ columns_text (labels_of g) (columns_of tables x) else []
+
+-- the names of the processes in their order
+abbrev pub order_line : Graph → List ℕ → List ℕ
+order_line g order = codes "order" ++ flat_map (λ p. codes " " ++ process_name (labels_of g) p) order ++ codes "\n"
+
+-- the greatest finish
+abbrev pub worst_line : ℕ → List ℕ
+worst_line worst = codes "worst " ++ decimal worst ++ codes "\n"
+
+-- by item number
+abbrev pub table_text : Graph → List ℕ → List NodeTable → ℕ → List ℕ
+table_text g order tables worst = order_line g order ++ worst_line worst ++ flat_map (item_text g tables) (numbers_below (item_count g))

@@ -1,0 +1,87 @@
+//! The lines of columns.
+ghost use Rattle.std.specs.Prelude.{◌≡◌, ◌++◌, OnOk, codes, flat_map, string_bytes};
+ghost use Rattle.cpg_show.specs.CubeText.{column_line, columns_text, cube_text, literal_text, range_text, value_text};
+
+use crate::labels::Labels;
+use cpg_cube::{Cube, Literal};
+use cpg_table::Entry;
+use std::alloc::AllocError;
+
+/// A range of fault counts.
+fn write_range(out: &mut String, low: u8, high: u8) -> Result<(), AllocError>
+    ensures { OnOk result (string_bytes out.new ≡ string_bytes out.old ++ range_text low high) }
+{
+    if low == high {
+        write!(out, "{low}")
+    } else {
+        write!(out, "{low}..{high}")
+    }
+}
+
+/// A value, by its number.
+fn write_value(out: &mut String, number: u8) -> Result<(), AllocError>
+    ensures { OnOk result (string_bytes out.new ≡ string_bytes out.old ++ value_text number) }
+{
+    if number == 0 {
+        out.push_str("false")
+    } else {
+        out.push_str("true")
+    }
+}
+
+fn write_literal(out: &mut String, labels: &Labels<'_>, literal: Literal) -> Result<(), AllocError>
+    ensures { OnOk result (string_bytes out.new ≡ string_bytes out.old ++ literal_text labels.now literal) }
+{
+    if literal.variable < 128 {
+        let name = labels.process(u32::from(literal.variable));
+        write!(out, "{name} faults ")?;
+        return write_range(out, literal.low, literal.high);
+    }
+    let name = labels.condition(u32::from(literal.variable - 128));
+    write!(out, "{name} ")?;
+    write_value(out, literal.low)
+}
+
+/// The literals after the first one.
+fn write_rest(out: &mut String, labels: &Labels<'_>, literals: &[Literal]) -> Result<(), AllocError>
+    ensures { OnOk result (string_bytes out.new ≡ string_bytes out.old ++ flat_map (λ l. codes ", " ++ literal_text labels.now l) literals.now) }
+{
+    for literal in literals {
+        out.push_str(", ")?;
+        write_literal(out, labels, *literal)?;
+    }
+    Ok(())
+}
+
+fn write_cube(out: &mut String, labels: &Labels<'_>, cube: &Cube) -> Result<(), AllocError>
+    ensures { OnOk result (string_bytes out.new ≡ string_bytes out.old ++ cube_text labels.now cube.now) }
+{
+    let Some((first, rest)) = cube.literals().split_first() else {
+        return out.push_str("always");
+    };
+    write_literal(out, labels, *first)?;
+    write_rest(out, labels, rest)
+}
+
+fn write_column(out: &mut String, labels: &Labels<'_>, column: &Entry) -> Result<(), AllocError>
+    ensures { OnOk result (string_bytes out.new ≡ string_bytes out.old ++ column_line labels.now column.now) }
+{
+    let time = column.time;
+    write!(out, "  {time}: ")?;
+    write_cube(out, labels, &column.cube)?;
+    out.push_str("\n")
+}
+
+/// A line of each column.
+pub(crate) fn write_columns(
+    out: &mut String,
+    labels: &Labels<'_>,
+    columns: &[Entry],
+) -> Result<(), AllocError>
+    ensures { OnOk result (string_bytes out.new ≡ string_bytes out.old ++ columns_text labels.now columns.now) }
+{
+    for column in columns {
+        write_column(out, labels, column)?;
+    }
+    Ok(())
+}

@@ -1,0 +1,120 @@
+//! The text of tables.
+ghost use Rattle.std.specs.Prelude.{◌≡◌, ◌<◌, ◌++◌, IfOk, OnOk, codes, flat_map, string_bytes};
+ghost use Rattle.cpg_base.specs.Graph.{item_count};
+ghost use Rattle.cpg_base.specs.Numbers.{numbers_below};
+ghost use Rattle.cpg_table.specs.Table.{columns_of};
+ghost use Rattle.cpg_show.specs.CubeText.{columns_text};
+ghost use Rattle.cpg_show.specs.Labels.{labels_of, process_name};
+ghost use Rattle.cpg_show.specs.TableText.{head_line, item_text, table_text};
+
+use crate::columns::write_columns;
+use crate::found::find_columns;
+use crate::items::{is_shown, node_of, producer, write_act};
+use crate::labels::Labels;
+use cpg_base::{OutOfMemory, Problem};
+use cpg_order::Order;
+use cpg_table::Tables;
+use std::alloc::{AllocError, Global};
+
+fn write_names(out: &mut String, labels: &Labels<'_>, order: &[u32]) -> Result<(), AllocError>
+    ensures { OnOk result (string_bytes out.new ≡ string_bytes out.old ++ flat_map (λ p. codes " " ++ process_name labels.now p) order.now) }
+{
+    for process in order {
+        let name = labels.process(*process);
+        write!(out, " {name}")?;
+    }
+    Ok(())
+}
+
+fn write_order(out: &mut String, labels: &Labels<'_>, order: &[u32]) -> Result<(), AllocError>
+    ensures { OnOk result (string_bytes out.new ≡ string_bytes out.old ++ (codes "order" ++ flat_map (λ p. codes " " ++ process_name labels.now p) order.now ++ codes "\n")) }
+{
+    out.push_str("order")?;
+    write_names(out, labels, order)?;
+    out.push_str("\n")
+}
+
+fn write_head_line(
+    out: &mut String,
+    problem: &Problem,
+    labels: &Labels<'_>,
+    item: u32,
+) -> Result<(), AllocError>
+    requires item { item < item_count problem.now }
+    requires labels { labels.now ≡ labels_of problem.now }
+    ensures { OnOk result (string_bytes out.new ≡ string_bytes out.old ++ head_line problem.now item) }
+{
+    write_act(out, labels, item)?;
+    let node = node_of(problem, producer(problem, item));
+    let name = problem.nodes()[node as usize].as_str();
+    write!(out, " on {name}\n")
+}
+
+/// The columns of an item.
+fn write_rows(
+    out: &mut String,
+    labels: &Labels<'_>,
+    tables: &Tables,
+    item: u32,
+) -> Result<(), AllocError>
+    ensures { OnOk result (string_bytes out.new ≡ string_bytes out.old ++ columns_text labels.now (columns_of tables.now.nodes item)) }
+{
+    if let Some(columns) = find_columns(tables, item) {
+        write_columns(out, labels, columns)?;
+    }
+    Ok(())
+}
+
+fn write_item(
+    out: &mut String,
+    problem: &Problem,
+    labels: &Labels<'_>,
+    tables: &Tables,
+    item: u32,
+) -> Result<(), AllocError>
+    requires item { item < item_count problem.now }
+    requires labels { labels.now ≡ labels_of problem.now }
+    ensures { OnOk result (string_bytes out.new ≡ string_bytes out.old ++ item_text problem.now tables.now.nodes item) }
+{
+    if !is_shown(problem, item) {
+        return Ok(());
+    }
+    write_head_line(out, problem, labels, item)?;
+    write_rows(out, labels, tables, item)
+}
+
+fn write_items(
+    out: &mut String,
+    problem: &Problem,
+    labels: &Labels<'_>,
+    tables: &Tables,
+) -> Result<(), AllocError>
+    requires { labels.now ≡ labels_of problem.now }
+    ensures { OnOk result (string_bytes out.new ≡ string_bytes out.old ++ flat_map (item_text problem.now tables.now.nodes) (numbers_below (item_count problem.now))) }
+{
+    let messages = problem.processes().len() as u32;
+    let broadcasts = messages + problem.edges().len() as u32;
+    for item in 0..broadcasts + problem.conditions() {
+        write_item(out, problem, labels, tables, item)?;
+    }
+    Ok(())
+}
+
+/// The order, the greatest finish in time units, and the rows of what is started and sent, by number of the item. Of
+/// tables that weren't made for the graph it shows the rows of its items, and leaves out names that it doesn't have.
+pub fn table_text(
+    alloc: Global,
+    problem: &Problem,
+    tables: &Tables,
+    worst: u64,
+    order: &Order,
+) -> Result<String, OutOfMemory>
+    ensures { IfOk result (λ text. string_bytes text ≡ table_text problem.now order.now tables.now.nodes worst) }
+{
+    let labels = Labels::of(alloc, problem)?;
+    let mut out = String::new(alloc);
+    write_order(&mut out, &labels, order.processes())?;
+    write!(out, "worst {worst}\n")?;
+    write_items(&mut out, problem, &labels, tables)?;
+    Ok(out)
+}
