@@ -1,7 +1,7 @@
 //! Scenarios, and how long executions take in them.
 ghost use Rattle.std.specs.Prelude.{◌≡◌, ◌<◌, ◌≤◌, IfOk, length, sum, slice_get, slice_index, slice_set, Some, false, get_or};
 ghost use Rattle.cpg_base.specs.Graph.{process_count, condition_count};
-ghost use Rattle.cpg_base.specs.Scenario.{IsScenario, zero_scenario, full_lengths, fault_of};
+ghost use Rattle.cpg_base.specs.Scenario.{IsScenario, zero_scenario, full_lengths, fault_of, number_of};
 
 use crate::{OutOfMemory, Problem};
 use std::alloc::Global;
@@ -56,6 +56,18 @@ impl Scenario {
         ensures { result ≡ fault_of self.now process }
     {
         self.faults[process as usize]
+    }
+
+    /// The number of a variable: the fault count of the process of that number, or from 128 on the value of a
+    /// condition, 0 or 1. It is 0 where the scenario has no such variable.
+    pub fn number(&self, variable: u8) -> u8
+        ensures { result ≡ number_of self.now variable }
+    {
+        if variable < 128 {
+            return self.faults.get(variable as usize).copied().unwrap_or(0);
+        }
+        let condition = (variable - 128) as usize;
+        u8::from(self.values.get(condition).copied().unwrap_or(false))
     }
 
     /// Gives a condition another value.

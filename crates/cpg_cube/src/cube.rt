@@ -1,10 +1,12 @@
 //! Cubes.
-ghost use Rattle.std.specs.Prelude.{◌≡◌, ◌<◌, ◌++◌, ◌∷◌, [], All, IfOk, IfErr, IfSome, IfNone};
-ghost use Rattle.cpg_cube.specs.Cube.{IsRising};
+ghost use Rattle.std.specs.Prelude.{◌≡◌, ◌<◌, ◌++◌, ◌∷◌, [], All, IfOk, IfErr, IfSome, IfNone, ◌&&◌, false, length, nat_le, position};
+ghost use Rattle.cpg_cube.specs.Cube.{IsRising, holds, matches};
+ghost use Rattle.cpg_cube.specs.Cover.{narrowed_by, range_left, with_literal};
+ghost use Rattle.cpg_base.specs.Scenario.{Scenario};
 ghost use Rattle.cpg_cube.specs.Rising.{rises_from};
 
 use crate::Literal;
-use cpg_base::OutOfMemory;
+use cpg_base::{OutOfMemory, Scenario};
 use smallvec::SmallVec;
 use std::alloc::Global;
 use std::marker::Model;
@@ -42,6 +44,33 @@ fn do_variables_rise(literals: &[Literal]) -> bool
         least = u32::from(literal.variable) + 1;
     }
     true
+}
+
+/// The place of the first literal on this variable or on one above.
+fn place_of(literals: &[Literal], variable: u8) -> Option<usize>
+    ensures place { result ≡ position (λ l. nat_le variable l.variable) literals.now }
+    ensures within { IfSome result (λ place. place < length literals.now) }
+{
+    literals
+        .iter()
+        .position(|literal| variable <= literal.variable)
+}
+
+/// Puts a literal in its place, or meets the one on its variable with it.
+fn narrow(literals: &mut SmallVec<Literal, FEW>, literal: Literal) -> Result<(), OutOfMemory>
+    ensures { IfOk result (λ _. literals.new.items ≡ narrowed_by literal literals.old.items) }
+{
+    let Some(place) = place_of(literals.as_slice(), literal.variable) else {
+        literals.push(literal)?;
+        return Ok(());
+    };
+    let other = literals.as_slice()[place];
+    if other.variable == literal.variable {
+        literals.as_mut_slice()[place] = literal.met(other);
+        return Ok(());
+    }
+    literals.insert(place, literal)?;
+    Ok(())
 }
 
 impl Cube {
@@ -91,5 +120,50 @@ impl Cube {
     {
         let literals = SmallVec::from_slice(*self.literals.allocator(), self.literals.as_slice())?;
         Ok(Cube { literals })
+    }
+
+    /// Whether each literal holds in a scenario.
+    pub fn matches(&self, scenario: &Scenario) -> bool
+        ensures { result ≡ matches self.now scenario.now }
+    {
+        self.literals()
+            .iter()
+            .all(|literal| literal.holds(scenario))
+    }
+
+    /// The range of a literal's variable that is left where both match.
+    fn range_left(&self, literal: Literal) -> Literal
+        ensures { result ≡ range_left literal self.now }
+    {
+        for other in self.literals() {
+            if other.variable == literal.variable {
+                return literal.met(*other);
+            }
+        }
+        literal
+    }
+
+    /// The cube with a literal more, met with the one on its variable.
+    fn narrowed(&self, literal: Literal) -> Result<Cube, OutOfMemory>
+        ensures { IfOk result (λ cube. cube ≡ narrowed_by literal self.now) }
+    {
+        let mut literals = SmallVec::from_slice(*self.literals.allocator(), self.literals())?;
+        narrow(&mut literals, literal)?;
+        Ok(Cube { literals })
+    }
+
+    /// The cube that matches where this one does and the literal holds, and `None` exactly where that leaves the
+    /// variable an empty range.
+    pub fn with(&self, literal: Literal) -> Result<Option<Cube>, OutOfMemory>
+        ensures cube { IfOk result (λ r. r ≡ with_literal literal self.now) }
+        ensures both { IfOk result (λ r. IfSome r (λ cube. (s : Scenario) → matches cube s ≡ (holds s literal && matches self.now s))) }
+        ensures none { IfOk result (λ r. IfNone r ((s : Scenario) → (holds s literal && matches self.now s) ≡ false)) }
+    {
+        let left = self.range_left(literal);
+        if left.low > left.high {
+            return Ok(None);
+        }
+        let cube = self.narrowed(literal)?;
+        Ok(Some(cube))
     }
 }

@@ -1,4 +1,9 @@
 //! Ranges of variables.
+ghost use Rattle.std.specs.Prelude.{◌≡◌};
+ghost use Rattle.cpg_cube.specs.Cube.{holds};
+ghost use Rattle.cpg_cube.specs.Cover.{meet_literal};
+
+use cpg_base::Scenario;
 
 /// A variable with the range that its number is in, ends included. The order is by variable, then low, then high.
 #[derive(Clone, Copy, Debug, Default, PartialEq, Eq, PartialOrd, Ord, Hash)]
@@ -9,4 +14,25 @@ pub struct Literal {
     pub low: u8,
     /// The greatest number that is in range.
     pub high: u8,
+}
+
+impl Literal {
+    /// Whether the variable is in range in a scenario.
+    pub fn holds(&self, scenario: &Scenario) -> bool
+        ensures { result ≡ holds scenario.now self.now }
+    {
+        let number = scenario.number(self.variable);
+        self.low <= number && number <= self.high
+    }
+
+    /// What this range and that of another literal on the variable have in common.
+    pub(crate) fn met(&self, other: Literal) -> Literal
+        ensures { result ≡ meet_literal self.now other }
+    {
+        Literal {
+            variable: other.variable,
+            low: self.low.max(other.low),
+            high: self.high.min(other.high),
+        }
+    }
 }

@@ -1,0 +1,6 @@
+use Rattle.std.proofs.Common.{◌≡◌, drop}
+use Rattle.cpg_cube.specs.Cover.{range_left}
+use Rattle.cpg_cube.proofs.cube.Cube.range_left.Given as goal
+
+abbrev pub invariant-loop-other : goal.invariant-loop-other
+invariant-loop-other l = range_left l.literal l.other-items ≡ range_left l.literal (drop l.other-index l.other-items)

@@ -1,0 +1,12 @@
+use Rattle.std.proofs.Common.{rules, ◌≡◌, None}
+use Rattle.cpg_cube.specs.Cover.{with_literal}
+use Rattle.cpg_cube.proofs.Narrow.{with-none, matches-narrowed}
+use Rattle.cpg_cube.proofs.cube.Cube.with.Goals as goal
+
+pub returns-then-left-clause-none : goal.returns-then-left-clause-none
+returns-then-left-clause-none c s =
+    let e : with_literal c.args.literal c.args.self.now ≡ None = search rules in
+    with-none s c.args.literal c.args.self.now e
+
+pub returns-clause-both : goal.returns-clause-both
+returns-clause-both c s = rw c.in_ok-cube.ensures (matches-narrowed s c.args.literal c.args.self.now)
