@@ -1,10 +1,10 @@
 -- The answers that the bounds of a cube give, for graphs within their limits.
-use Rattle.std.proofs.Common.{ℕ, ◌+◌, ◌<◌, ◌≡◌, max, true, false, not, ◌&&◌, List, get_or, sum_by, None, Some, arith, sym, ap, ap₂, ◌∙◌, le-leb, leb-true}
+use Rattle.std.proofs.Common.{ℕ, ◌+◌, ◌<◌, ◌≤◌, ◌≡◌, max, true, false, not, ◌&&◌, List, get_or, sum_by, None, Some, arith, sym, ap, ap₂, ◌∙◌, le-leb, leb-true, ⊎_elim}
 use Rattle.std.specs.Prelude.{nat_lt, nat_le, is_some}
 use Rattle.std.specs.List.{list_all}
 use Rattle.std.proofs.lemmas.Bool.{and_parts, and_from, or_left, both_ways, false_from_ne_true, not_from_false}
 use Rattle.cpg_base.specs.Numbers.{numbers_below}
-use Rattle.cpg_base.specs.Graph.{Graph, process_count, condition_count, value_variable}
+use Rattle.cpg_base.specs.Graph.{Graph, process_count, condition_count, value_variable, IsVariable}
 use Rattle.cpg_base.specs.Limits.{IsWithinLimits}
 use Rattle.cpg_base.proofs.Lists.{same_map, numbers-Contains, from_all, all_from}
 use Rattle.cpg_base.proofs.Sums.{sum_by-le_each}
@@ -29,6 +29,14 @@ met_from_some k left cube e = sym (met_is k cube) ∙ ap is_some e
 
 rest_from_some : (k left : ℕ) (cube : List Literal) → budget_left (is_open k) asked_of_literal k cube ≡ Some left → left + asked_faults cube ≡ k
 rest_from_some k left cube e = (budget_some (is_open k) asked_of_literal k left cube e).1
+
+-- ---- variables
+
+pub small_variable : (g : Graph) → IsWithinLimits g → (v : ℕ) → IsVariable g v → v < 256
+small_variable g limits v h =
+    let a = limits.few_processes in
+    let b = limits.few_conditions in
+    ⊎_elim (λ (k : v < process_count g). omega arith) (λ (k : (128 ≤ v) × (v < 128 + condition_count g)). omega (arith, k.1)) h
 
 -- ---- scenarios of lows
 

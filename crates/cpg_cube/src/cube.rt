@@ -182,7 +182,7 @@ impl Cube {
     }
 
     /// The scenario in which each variable is the least number of its range.
-    fn lows(&self, alloc: Global, problem: &Problem) -> Result<Scenario, OutOfMemory>
+    pub(crate) fn lows(&self, alloc: Global, problem: &Problem) -> Result<Scenario, OutOfMemory>
         ensures { IfOk result (λ s. s ≡ lows problem.now self.now) }
     {
         let mut least = Scenario::zero(alloc, problem)?;
