@@ -128,6 +128,17 @@ impl Cube {
         Ok(Cube { literals })
     }
 
+    /// Whether each variable is one of the problem's, as calls with a problem ask.
+    pub fn is_known(&self, problem: &Problem) -> bool
+        ensures { IsTrue result ↔ IsKnown problem.now self.now }
+    {
+        let processes = problem.processes().len();
+        let conditions = problem.conditions();
+        self.literals()
+            .iter()
+            .all(|literal| literal.is_known(processes, conditions))
+    }
+
     /// Whether each literal holds in a scenario.
     pub fn matches(&self, scenario: &Scenario) -> bool
         ensures { result ≡ matches self.now scenario.now }

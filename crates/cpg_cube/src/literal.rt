@@ -1,5 +1,5 @@
 //! Ranges of variables.
-ghost use Rattle.std.specs.Prelude.{◌≡◌};
+ghost use Rattle.std.specs.Prelude.{◌≡◌, ◌<◌, ◌≤◌, ◌+◌, ◌↔◌, ◌⊎◌, IsTrue};
 ghost use Rattle.cpg_cube.specs.Cube.{holds, top};
 ghost use Rattle.cpg_cube.specs.Fit.{asked_of_literal, is_open};
 ghost use Rattle.cpg_cube.specs.Cover.{meet_literal};
@@ -34,6 +34,16 @@ impl Literal {
     {
         let number = scenario.number(self.variable);
         self.low <= number && number <= self.high
+    }
+
+    /// Whether the variable is one of a graph with so many processes and conditions.
+    pub(crate) fn is_known(&self, processes: usize, conditions: u32) -> bool
+        ensures { IsTrue result ↔ (self.now.variable < processes) ⊎ ((128 ≤ self.now.variable) × (self.now.variable < 128 + conditions)) }
+    {
+        if (self.variable as usize) < processes {
+            return true;
+        }
+        self.variable >= FIRST_VALUE && u32::from(self.variable - FIRST_VALUE) < conditions
     }
 
     /// Whether the range has a number that the variable may be in scenarios of at most `k` faults.
