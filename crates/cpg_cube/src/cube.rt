@@ -1,12 +1,18 @@
 //! Cubes.
-ghost use Rattle.std.specs.Prelude.{◌≡◌, ◌<◌, ◌++◌, ◌∷◌, [], All, IfOk, IfErr, IfSome, IfNone, ◌&&◌, false, length, nat_le, position};
+ghost use Rattle.std.specs.Prelude.{◌≡◌, ◌<◌, ◌↔◌, ◌++◌, ◌∷◌, [], ◌&&◌, if◌then◌else◌, ℕ, List, None, Some, All, IfErr, IfNone, IfOk, IfSome, IsTrue, false, true, get_or, length, nat_le, position};
+ghost use Rattle.std.specs.Bool.{OnFalse, OnTrue};
+ghost use Rattle.cpg_base.specs.Graph.{condition_count, process_count};
+ghost use Rattle.cpg_base.specs.Limits.{IsWithinLimits};
+ghost use Rattle.cpg_order.specs.First.{IsFirst};
+ghost use Rattle.cpg_order.specs.Scenario.{Scenario, IsLeast, IsScenario};
 ghost use Rattle.cpg_cube.specs.Cube.{IsRising, holds, matches};
-ghost use Rattle.cpg_cube.specs.Cover.{narrowed_by, range_left, with_literal};
-ghost use Rattle.cpg_base.specs.Scenario.{Scenario};
 ghost use Rattle.cpg_cube.specs.Rising.{rises_from};
+ghost use Rattle.cpg_cube.specs.Fit.{IsCube, IsKnown, is_met, lows, do_meet, both_lows, is_within, scenario_of};
+ghost use Rattle.cpg_cube.specs.Cover.{narrowed_by, range_left, with_literal};
 
 use crate::Literal;
-use cpg_base::{OutOfMemory, Scenario};
+use crate::bounds::{Bounds, budget_left};
+use cpg_base::{OutOfMemory, Problem, Scenario};
 use smallvec::SmallVec;
 use std::alloc::Global;
 use std::marker::Model;
@@ -122,6 +128,17 @@ impl Cube {
         Ok(Cube { literals })
     }
 
+    /// Whether each variable is one of the problem's, as calls with a problem ask.
+    pub fn is_known(&self, problem: &Problem) -> bool
+        ensures { IsTrue result ↔ IsKnown problem.now self.now }
+    {
+        let processes = problem.processes().len();
+        let conditions = problem.conditions();
+        self.literals()
+            .iter()
+            .all(|literal| literal.is_known(processes, conditions))
+    }
+
     /// Whether each literal holds in a scenario.
     pub fn matches(&self, scenario: &Scenario) -> bool
         ensures { result ≡ matches self.now scenario.now }
@@ -165,5 +182,103 @@ impl Cube {
         }
         let cube = self.narrowed(literal)?;
         Ok(Some(cube))
+    }
+
+    /// Whether the cube matches some scenario of at most `k` faults.
+    pub fn is_met(&self, k: u8) -> bool
+        ensures met { result ≡ is_met k self.now }
+        ensures rising { IsRising self.now }
+    {
+        budget_left(k, self.literals()).is_some()
+    }
+
+    /// The scenario in which each variable is the least number of its range.
+    pub(crate) fn lows(&self, alloc: Global, problem: &Problem) -> Result<Scenario, OutOfMemory>
+        ensures { IfOk result (λ s. s ≡ lows problem.now self.now) }
+    {
+        let mut least = Scenario::zero(alloc, problem)?;
+        Bounds::of(self.literals()).write_lows(problem, &mut least);
+        Ok(least)
+    }
+
+    /// The least scenario that the cube matches, which is the least in every order of the processes; `None` exactly
+    /// where it matches none.
+    pub fn least(&self, alloc: Global, problem: &Problem) -> Result<Option<Scenario>, OutOfMemory>
+        requires known { IsKnown problem.now self.now }
+        ensures exact { IfOk result (λ r. r ≡ (if is_met problem.now.faults self.now then Some (lows problem.now self.now) else None)) }
+        ensures first { IfOk result (λ r. (order : List ℕ) → IsFirst problem.now order (matches self.now) r) }
+    {
+        if !self.is_met(problem.faults()) {
+            return Ok(None);
+        }
+        let least = self.lows(alloc, problem)?;
+        Ok(Some(least))
+    }
+
+    /// The bounds of this cube, the lows raised to those of another; `None` exactly where no scenario matches both.
+    fn bounds_of_both(&self, other: &Cube, problem: &Problem) -> Option<Bounds>
+        requires first { IsKnown problem.now self.now }
+        requires second { IsKnown problem.now other.now }
+        ensures none { IfNone result (do_meet problem.now self.now other.now ≡ false) }
+        ensures some { IfSome result (λ _. do_meet problem.now self.now other.now ≡ true) }
+        ensures lows { IfSome result (λ b. scenario_of problem.now (λ v. get_or b.low v 0) ≡ both_lows problem.now self.now other.now) }
+        ensures cubes { IsCube problem.now self.now × IsCube problem.now other.now }
+        ensures within { IsWithinLimits problem.now }
+    {
+        let k = problem.faults();
+        let literals = other.literals();
+        let Some(left) = budget_left(k, self.literals()) else {
+            return None;
+        };
+        let mut bounds = Bounds::of(self.literals());
+        if !bounds.fits(k, left, literals) {
+            return None;
+        }
+        bounds.raise(literals);
+        Some(bounds)
+    }
+
+    /// Whether a scenario within the problem's faults matches this cube and another. Then the least of them, which is
+    /// the least in every order of the processes, is written to `least`, which else stays as it was.
+    pub fn meets(&self, other: &Cube, problem: &Problem, least: &mut Scenario) -> bool
+        requires first { IsKnown problem.now self.now }
+        requires second { IsKnown problem.now other.now }
+        requires values { length least.old.values ≡ condition_count problem.now }
+        requires faults { length least.old.faults ≡ process_count problem.now }
+        ensures exact { result ≡ do_meet problem.now self.now other.now }
+        ensures least { OnTrue result ((order : List ℕ) → IsLeast problem.now order (λ s. IsTrue (matches self.now s && matches other.now s)) least.new) }
+        ensures apart { OnFalse result ((s : Scenario) → IsScenario problem.now s → (matches self.now s && matches other.now s) ≡ false) }
+        ensures same { OnFalse result (least.new ≡ least.old) }
+    {
+        let Some(bounds) = self.bounds_of_both(other, problem) else {
+            return false;
+        };
+        bounds.write_lows(problem, least);
+        true
+    }
+
+    /// Whether each scenario within the problem's faults that matches this cube matches another.
+    pub fn within(&self, other: &Cube, problem: &Problem) -> bool
+        requires first { IsKnown problem.now self.now }
+        requires second { IsKnown problem.now other.now }
+        ensures exact { result ≡ is_within problem.now.faults self.now other.now }
+        ensures all { IsTrue result ↔ ((s : Scenario) → IsScenario problem.now s → matches self.now s ≡ true → matches other.now s ≡ true) }
+    {
+        self.is_within(other, problem)
+    }
+
+    fn is_within(&self, other: &Cube, problem: &Problem) -> bool
+        requires first { IsKnown problem.now self.now }
+        requires second { IsKnown problem.now other.now }
+        ensures exact { result ≡ is_within problem.now.faults self.now other.now }
+        ensures cubes { IsCube problem.now self.now × IsCube problem.now other.now }
+        ensures within { IsWithinLimits problem.now }
+    {
+        let literals = other.literals();
+        let Some(left) = budget_left(problem.faults(), self.literals()) else {
+            return true;
+        };
+        let bounds = Bounds::of(self.literals());
+        bounds.span_all(left, literals)
     }
 }

@@ -1,6 +1,7 @@
 //! Ranges of variables.
-ghost use Rattle.std.specs.Prelude.{◌≡◌};
-ghost use Rattle.cpg_cube.specs.Cube.{holds};
+ghost use Rattle.std.specs.Prelude.{◌≡◌, ◌<◌, ◌≤◌, ◌+◌, ◌↔◌, ◌⊎◌, IsTrue};
+ghost use Rattle.cpg_cube.specs.Cube.{holds, top};
+ghost use Rattle.cpg_cube.specs.Fit.{asked_of_literal, is_open};
 ghost use Rattle.cpg_cube.specs.Cover.{meet_literal};
 
 use cpg_base::Scenario;
@@ -16,6 +17,16 @@ pub struct Literal {
     pub high: u8,
 }
 
+/// The variable of the first condition.
+const FIRST_VALUE: u8 = 128;
+
+/// The greatest number of a variable in scenarios of at most `k` faults.
+pub(crate) fn top(k: u8, variable: u8) -> u8
+    ensures { result ≡ top k variable }
+{
+    if variable < FIRST_VALUE { k } else { 1 }
+}
+
 impl Literal {
     /// Whether the variable is in range in a scenario.
     pub fn holds(&self, scenario: &Scenario) -> bool
@@ -23,6 +34,34 @@ impl Literal {
     {
         let number = scenario.number(self.variable);
         self.low <= number && number <= self.high
+    }
+
+    /// Whether the variable is one of a graph with so many processes and conditions.
+    pub(crate) fn is_known(&self, processes: usize, conditions: u32) -> bool
+        ensures { IsTrue result ↔ (self.now.variable < processes) ⊎ ((128 ≤ self.now.variable) × (self.now.variable < 128 + conditions)) }
+    {
+        if (self.variable as usize) < processes {
+            return true;
+        }
+        self.variable >= FIRST_VALUE && u32::from(self.variable - FIRST_VALUE) < conditions
+    }
+
+    /// Whether the range has a number that the variable may be in scenarios of at most `k` faults.
+    pub(crate) fn is_open(&self, k: u8) -> bool
+        ensures { result ≡ is_open k self.now }
+    {
+        self.low <= self.high && self.low <= top(k, self.variable)
+    }
+
+    /// How many faults a scenario needs to be in range.
+    pub(crate) fn asked(&self) -> u8
+        ensures { result ≡ asked_of_literal self.now }
+    {
+        if self.variable < FIRST_VALUE {
+            self.low
+        } else {
+            0
+        }
     }
 
     /// What this range and that of another literal on the variable have in common.

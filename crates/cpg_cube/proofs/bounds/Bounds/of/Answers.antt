@@ -1,0 +1,15 @@
+use Rattle.std.proofs.Common.{rules, arith}
+use Rattle.cpg_cube.proofs.BoundSteps.{bounds_whole, bounds_push}
+use Rattle.cpg_cube.proofs.bounds.Bounds.of.Goals as goal
+
+pub loop-literal-init : goal.loop-literal-init
+loop-literal-init c = record { bounds = bounds_whole; lows = search rules; highs = search rules }
+
+pub loop-literal-preserved : goal.loop-literal-preserved
+loop-literal-preserved c =
+    let i = c.loop-literal.invariant in
+    record {
+      bounds = bounds_push c.args.literals.now c.loop-literal.literal-index _ c.requires (omega arith) c.loop-literal.low c.loop-literal.high i.lows i.highs (search rules) i.bounds;
+      lows = search rules;
+      highs = search rules;
+    }

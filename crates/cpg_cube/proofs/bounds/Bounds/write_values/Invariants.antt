@@ -1,0 +1,11 @@
+use Rattle.std.proofs.Common.{◌≡◌, ◌<◌, ℕ, get_or, length, false}
+use Rattle.std.specs.Prelude.{nat_lt}
+use Rattle.cpg_base.specs.Graph.{value_variable}
+use Rattle.cpg_cube.proofs.bounds.Bounds.write_values.Given as goal
+
+abbrev pub invariant-loop-condition : goal.invariant-loop-condition
+invariant-loop-condition l = record {
+  faults : l.least.faults ≡ l.fn.least.faults;
+  long : length l.least.values ≡ l.conditions;
+  written : (c : ℕ) → c < l.condition → get_or l.least.values c false ≡ nat_lt 0 (get_or l.self.low (value_variable c) 0);
+}

@@ -1,0 +1,25 @@
+use Rattle.std.proofs.Common.{rules, ◌≡◌, ◌∙◌, sym, None, Some}
+use Rattle.cpg_cube.specs.Fit.{IsCube, asked_of_literal, is_open}
+use Rattle.cpg_cube.specs.Bounds.{AreBounds, budget_left}
+use Rattle.cpg_cube.proofs.Meeting.{met_from_none, within_where_unmet, within_from_span}
+use Rattle.cpg_cube.proofs.cube.Cube.is_within.Goals as goal
+
+pub returns-in_default-clause-exact : goal.returns-in_default-clause-exact
+returns-in_default-clause-exact c =
+    let g = c.args.problem.now in
+    let a = c.args.self.now in
+    let is_a : IsCube g a = record { rising = c.literals.ensures.rising; known = c.requires.first } in
+    let none : budget_left (is_open g.faults) asked_of_literal g.faults a ≡ None = search rules in
+    sym (within_where_unmet g c.faults.ensures.within a is_a c.args.other.now (met_from_none g.faults a none))
+
+pub returns-clause-exact : goal.returns-clause-exact
+returns-clause-exact c =
+    let g = c.args.problem.now in
+    let a = c.args.self.now in
+    let b = c.args.other.now in
+    let is_a : IsCube g a = record { rising = c.literals.ensures.rising; known = c.requires.first } in
+    let is_b : IsCube g b = record { rising = c.literals-literals.ensures.rising; known = c.requires.second } in
+    let some : budget_left (is_open g.faults) asked_of_literal g.faults a ≡ Some c.in-Some.left = search rules in
+    let are : AreBounds a c.of-bounds.result.low c.of-bounds.result.high = search rules in
+    (rw c.literals-literals.ensures.literals at c.span_all.ensures)
+    ∙ within_from_span g c.faults.ensures.within a is_a b is_b c.of-bounds.result.low c.of-bounds.result.high are c.in-Some.left some

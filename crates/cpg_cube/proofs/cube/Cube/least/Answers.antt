@@ -1,0 +1,19 @@
+use Rattle.std.proofs.Common.{rules, ◌≡◌, true, false}
+use Rattle.cpg_cube.specs.Fit.{IsCube, is_met}
+use Rattle.cpg_cube.proofs.CubeLows.{lows-least}
+use Rattle.cpg_cube.proofs.Meeting.{unmatched}
+use Rattle.cpg_cube.proofs.cube.Cube.least.Goals as goal
+
+pub returns-then-not-is_met-clause-first : goal.returns-then-not-is_met-clause-first
+returns-then-not-is_met-clause-first c order =
+    let g = c.args.problem.now in
+    let is : IsCube g c.args.self.now = record { rising = c.is_met.ensures.rising; known = c.requires.known } in
+    let met : is_met g.faults c.args.self.now ≡ false = search rules in
+    unmatched g c.faults.ensures.within c.args.self.now is met
+
+pub returns-clause-first : goal.returns-clause-first
+returns-clause-first c order =
+    let g = c.args.problem.now in
+    let is : IsCube g c.args.self.now = record { rising = c.is_met.ensures.rising; known = c.requires.known } in
+    let met : is_met g.faults c.args.self.now ≡ true = search rules in
+    rw c.in_ok-least.ensures (lows-least g c.faults.ensures.within.few_processes c.args.self.now is met order)

@@ -1,0 +1,259 @@
+//! What a list of cubes leaves of a cube.
+ghost use Rattle.std.specs.Prelude.{◌≡◌, ◌≤◌, ◌<◌, ◌↔◌, ◌&&◌, Bool, ℕ, All, IfNone, IfOk, IfSome, IsNone, IsPermutation, IsTrue, None, Some, false, length, map, not, true, vec_len};
+ghost use Rattle.std.specs.List.{list_any};
+ghost use Rattle.cpg_base.specs.Graph.{IsVariable, process_count};
+ghost use Rattle.cpg_order.specs.First.{IsFirst, earlier};
+ghost use Rattle.cpg_order.specs.Scenario.{Scenario, IsLeast, IsScenario};
+ghost use Rattle.cpg_cube.specs.Cube.{Literal, matches};
+ghost use Rattle.cpg_cube.specs.Fit.{IsKnown};
+ghost use Rattle.cpg_cube.specs.Cover.{is_left, narrowed_by};
+ghost use Rattle.cpg_cube.specs.Parts.{range_below, range_above};
+
+use crate::bounds::{Bounds, budget_left};
+use crate::frequency::by_frequency;
+use crate::literal::top;
+use crate::{Cube, Literal};
+use cpg_base::{OutOfMemory, Problem, Scenario};
+use cpg_order::{Order, is_before};
+use std::alloc::Global;
+
+/// The earlier of two scenarios, where there are two.
+fn earlier(
+    problem: &Problem,
+    order: &Order,
+    first: Option<Scenario>,
+    second: Option<Scenario>,
+) -> Option<Scenario>
+    requires order { length order.now ≡ process_count problem.now }
+    requires first { IfSome first (IsScenario problem.now) }
+    requires second { IfSome second (IsScenario problem.now) }
+    ensures { result ≡ earlier problem.now order.now first second }
+{
+    let Some(first) = first else {
+        return second;
+    };
+    let Some(second) = second else {
+        return Some(first);
+    };
+    if is_before(problem, order, &second, &first) {
+        Some(second)
+    } else {
+        Some(first)
+    }
+}
+
+/// The place of a cube that matches a scenario.
+fn place_of_match(by: &[&Cube], scenario: &Scenario) -> Option<usize>
+    ensures none { IfNone result (list_any (λ b. matches b.now scenario.now) by.now ≡ false) }
+    ensures within { IfSome result (λ place. place < length by.now) }
+{
+    for (place, cube) in by.iter().enumerate() {
+        if cube.matches(scenario) {
+            return Some(place);
+        }
+    }
+    None
+}
+
+/// The cubes of a list that match some scenario together with a cube: they leave the same of it as the whole list.
+fn meeting<'a>(
+    alloc: Global,
+    problem: &Problem,
+    cube: &Cube,
+    by: &[&'a Cube],
+) -> Result<Vec<&'a Cube>, OutOfMemory>
+    requires cube { IsKnown problem.now cube.now }
+    requires list { All (λ b. IsKnown problem.now b.now) by.now }
+    ensures same { IfOk result (λ kept. (s : Scenario) → IsScenario problem.now s → is_left (map (λ b. b.now) kept.items) cube.now s ≡ is_left (map (λ b. b.now) by.now) cube.now s) }
+    ensures known { IfOk result (λ kept. All (λ b. IsKnown problem.now b.now) kept.items) }
+    ensures few { IfOk result (λ kept. vec_len kept ≤ length by.now) }
+{
+    let mut kept = Vec::new(alloc);
+    let k = problem.faults();
+    let Some(left) = budget_left(k, cube.literals()) else {
+        return Ok(kept);
+    };
+    let bounds = Bounds::of(cube.literals());
+    for other in by {
+        let literals = other.literals();
+        if bounds.fits(k, left, literals) {
+            kept.push(*other)?;
+        }
+    }
+    Ok(kept)
+}
+
+/// The literal of the range below a literal's, if there is one.
+fn below(literal: &Literal) -> Option<Literal>
+    ensures { result ≡ range_below literal.now }
+{
+    if literal.low == 0 {
+        return None;
+    }
+    Some(Literal {
+        variable: literal.variable,
+        low: 0,
+        high: literal.low - 1,
+    })
+}
+
+/// The literal of the range above a literal's, if there is one.
+fn above(k: u8, literal: &Literal) -> Option<Literal>
+    ensures { result ≡ range_above k literal.now }
+{
+    let top = top(k, literal.variable);
+    if literal.high >= top {
+        return None;
+    }
+    Some(Literal {
+        variable: literal.variable,
+        low: literal.high + 1,
+        high: top,
+    })
+}
+
+/// The least scenario that a list leaves of a cube narrowed by a literal, if there is one.
+#[cycle(cover)]
+fn left_of_part(
+    alloc: Global,
+    problem: &Problem,
+    order: &Order,
+    cube: &Cube,
+    literal: Option<Literal>,
+    by: &[&Cube],
+) -> Result<Option<Scenario>, OutOfMemory>
+    requires order { length order.now ≡ process_count problem.now }
+    requires cube { IsKnown problem.now cube.now }
+    requires literal { IfSome literal (λ l. IsVariable problem.now l.variable) }
+    requires list { All (λ b. IsKnown problem.now b.now) by.now }
+    ensures part { IfOk result (λ r. IfSome literal (λ l. IsFirst problem.now order.now (is_left (map (λ b. b.now) by.now) (narrowed_by l cube.now)) r)) }
+    ensures none { IfOk result (λ r. IfNone literal (r ≡ None)) }
+{
+    let Some(literal) = literal else {
+        return Ok(None);
+    };
+    let Some(part) = cube.with(literal)? else {
+        return Ok(None);
+    };
+    let kept = meeting(alloc, problem, &part, by)?;
+    let found = left_of(alloc, problem, order, &part, kept)?;
+    Ok(found)
+}
+
+/// The least scenario that the cube matches, the literals don't and none of the list does, if there is one.
+#[cycle(cover)]
+fn left_outside(
+    alloc: Global,
+    problem: &Problem,
+    order: &Order,
+    cube: &Cube,
+    literals: &[Literal],
+    by: &[&Cube],
+) -> Result<Option<Scenario>, OutOfMemory>
+    requires order { length order.now ≡ process_count problem.now }
+    requires cube { IsKnown problem.now cube.now }
+    requires literals { IsKnown problem.now literals.now }
+    requires short { length literals.now ≤ 256 }
+    requires list { All (λ b. IsKnown problem.now b.now) by.now }
+    ensures { IfOk result (λ r. IsFirst problem.now order.now (λ s. is_left (map (λ b. b.now) by.now) cube.now s && not (matches literals.now s)) r) }
+{
+    let Some((literal, rest)) = literals.split_first() else {
+        return Ok(None);
+    };
+    let k = problem.faults();
+    let low = left_of_part(alloc, problem, order, cube, below(literal), by)?;
+    let high = left_of_part(alloc, problem, order, cube, above(k, literal), by)?;
+    let beside = earlier(problem, order, low, high);
+    let Some(within) = cube.with(*literal)? else {
+        return Ok(beside);
+    };
+    let kept = meeting(alloc, problem, &within, by)?;
+    let found = left_outside(alloc, problem, order, &within, rest, kept.as_slice())?;
+    Ok(earlier(problem, order, beside, found))
+}
+
+/// The least scenario that a list leaves of a cube, if there is one.
+#[cycle(cover)]
+fn left_of(
+    alloc: Global,
+    problem: &Problem,
+    order: &Order,
+    cube: &Cube,
+    by: Vec<&Cube>,
+) -> Result<Option<Scenario>, OutOfMemory>
+    requires order { length order.now ≡ process_count problem.now }
+    requires cube { IsKnown problem.now cube.now }
+    requires list { All (λ b. IsKnown problem.now b.now) by.items }
+    ensures { IfOk result (λ r. IsFirst problem.now order.now (is_left (map (λ b. b.now) by.entry.items) cube.now) r) }
+{
+    if !cube.is_met(problem.faults()) {
+        return Ok(None);
+    }
+    let least = cube.lows(alloc, problem)?;
+    let Some(place) = place_of_match(by.as_slice(), &least) else {
+        return Ok(Some(least));
+    };
+    let mut others = by;
+    let first = others.remove(place);
+    let literals = by_frequency(alloc, first, others.as_slice())?;
+    let found = left_outside(
+        alloc,
+        problem,
+        order,
+        cube,
+        literals.as_slice(),
+        others.as_slice(),
+    )?;
+    Ok(found)
+}
+
+/// The least scenario along an order that a cube matches and no cube of a list does; `None` exactly where every
+/// scenario within the problem's faults that matches the cube matches one of the list.
+pub fn uncovered(
+    alloc: Global,
+    problem: &Problem,
+    order: &Order,
+    cube: &Cube,
+    by: &[&Cube],
+) -> Result<Option<Scenario>, OutOfMemory>
+    requires order { length order.now ≡ process_count problem.now }
+    requires cube { IsKnown problem.now cube.now }
+    requires list { All (λ b. IsKnown problem.now b.now) by.now }
+    ensures first { IfOk result (λ r. IsFirst problem.now order.now (is_left (map (λ b. b.now) by.now) cube.now) r) }
+{
+    let kept = meeting(alloc, problem, cube, by)?;
+    let found = left_of(alloc, problem, order, cube, kept)?;
+    Ok(found)
+}
+
+/// A reference to each cube.
+fn lent<'a>(alloc: Global, by: &'a [Cube]) -> Result<Vec<&'a Cube>, OutOfMemory>
+    ensures { IfOk result (λ cubes. map (λ b. b.now) cubes.items ≡ by.now) }
+{
+    let mut cubes = Vec::new(alloc);
+    cubes.reserve(by.len())?;
+    for cube in by {
+        cubes.push(cube)?;
+    }
+    Ok(cubes)
+}
+
+/// Whether a list covers a cube: `None` exactly where every scenario within the problem's faults that matches the cube
+/// matches one of the list, and else the least along the order that doesn't.
+pub fn covers(
+    alloc: Global,
+    problem: &Problem,
+    order: &Order,
+    cube: &Cube,
+    by: &[Cube],
+) -> Result<Option<Scenario>, OutOfMemory>
+    requires order { length order.now ≡ process_count problem.now }
+    requires cube { IsKnown problem.now cube.now }
+    requires list { All (IsKnown problem.now) by.now }
+    ensures covered { IfOk result (λ r. IfNone r ((s : Scenario) → IsScenario problem.now s → matches cube.now s ≡ true → list_any (λ b. matches b s) by.now ≡ true)) }
+    ensures least { IfOk result (λ r. IfSome r (IsLeast problem.now order.now (λ s. IsTrue (matches cube.now s && not (list_any (λ b. matches b s) by.now))))) }
+{
+    let cubes = lent(alloc, by)?;
+    let found = uncovered(alloc, problem, order, cube, cubes.as_slice())?;
+    Ok(found)
+}
