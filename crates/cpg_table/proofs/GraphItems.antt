@@ -131,9 +131,9 @@ module _ (g : Graph) (w : IsWithinLimits g) where
     sent_messages = messages_are (leaves (head_of g) node)
         ∙ same_filter (λ x. leaves (head_of g) node (source g (x - process_count g), target g (x - process_count g))) (λ x. is_sent g x && (home g x == node)) (range_with_len (process_count g) (edge_count g))
         (λ x c. let at = at_message x c in let e = edge_within (x - process_count g) at.0 in
-          ap₂ (λ a b. (a == node) && not (b == node)) (node_there (source g (x - process_count g)) e.from) (node_there (target g (x - process_count g)) e.to)
-          ∙ sym (leaves_is (node_of g (source g (x - process_count g))) (node_of g (target g (x - process_count g))) node)
-          ∙ ap (λ i. is_sent_item g i && (node_of g (producer_of_item g i) == node)) (sym at.1))
+        ap₂ (λ a b. (a == node) && not (b == node)) (node_there (source g (x - process_count g)) e.from) (node_there (target g (x - process_count g)) e.to)
+        ∙ sym (leaves_is (node_of g (source g (x - process_count g))) (node_of g (target g (x - process_count g))) node)
+        ∙ ap (λ i. is_sent_item g i && (node_of g (producer_of_item g i) == node)) (sym at.1))
 
     sent_broadcasts : cond (ltb 1 (length g.nodes)) (numbers_where (λ p. p.node == node) (first_broadcast (head_of g)) (conditioned (head_of g))) []
         ≡ filter (λ x. is_sent g x && (home g x == node)) (range_with_len (process_count g + edge_count g) (condition_count g))
@@ -148,15 +148,15 @@ module _ (g : Graph) (w : IsWithinLimits g) where
     sends_are =
         ap₂ (λ xs ys. xs ++ ys) sent_messages sent_broadcasts
         ∙ sym (parts_are (λ x. is_sent g x && (home g x == node)) ∙ ap (λ xs. xs ++ (filter (λ x. is_sent g x && (home g x == node)) (range_with_len (process_count g) (edge_count g)) ++ filter (λ x. is_sent g x && (home g x == node)) (range_with_len (process_count g + edge_count g) (condition_count g))))
-          (filter_none (λ x. is_sent g x && (home g x == node)) (numbers_below (process_count g)) (λ x c. ap (λ b. b && (home g x == node)) (start_not_sent g x (numbers-Contains (process_count g) x c)))))
+        (filter_none (λ x. is_sent g x && (home g x == node)) (numbers_below (process_count g)) (λ x c. ap (λ b. b && (home g x == node)) (start_not_sent g x (numbers-Contains (process_count g) x c)))))
 
     heard_messages : numbers_where (enters (head_of g) node) (first_message (head_of g)) (head_of g).edges ≡ filter (λ x. is_heard_by g node (item_at g x)) (range_with_len (process_count g) (edge_count g))
     heard_messages = messages_are (enters (head_of g) node)
         ∙ same_filter (λ x. enters (head_of g) node (source g (x - process_count g), target g (x - process_count g))) (λ x. is_heard_by g node (item_at g x)) (range_with_len (process_count g) (edge_count g))
         (λ x c. let at = at_message x c in let e = edge_within (x - process_count g) at.0 in
-          ap₂ (λ a b. not (a == node) && (b == node)) (node_there (source g (x - process_count g)) e.from) (node_there (target g (x - process_count g)) e.to)
-          ∙ sym (enters_is (node_of g (source g (x - process_count g))) (node_of g (target g (x - process_count g))) node)
-          ∙ ap (is_heard_by g node) (sym at.1))
+        ap₂ (λ a b. not (a == node) && (b == node)) (node_there (source g (x - process_count g)) e.from) (node_there (target g (x - process_count g)) e.to)
+        ∙ sym (enters_is (node_of g (source g (x - process_count g))) (node_of g (target g (x - process_count g))) node)
+        ∙ ap (is_heard_by g node) (sym at.1))
 
     -- in a graph of one node there is no other that one could hear
     others_need_two : (p : ℕ) → p < process_count g → node < length g.nodes → not (node_of g p == node) ≡ (ltb 1 (length g.nodes) && not (node_of g p == node))
@@ -166,9 +166,9 @@ module _ (g : Graph) (w : IsWithinLimits g) where
     hears_are inside =
         let base : ℕ = process_count g + edge_count g in
         let broadcasts : numbers_where (λ p. not (p.node == node)) (first_broadcast (head_of g)) (conditioned (head_of g)) ≡ filter (λ x. is_heard_by g node (item_at g x)) (range_with_len base (condition_count g)) =
-            broadcasts_are (λ (p : HeadProcess). not (p.node == node))
-            ∙ same_filter (λ x. not (node_of g (process_of g (x - base)) == node)) (λ x. is_heard_by g node (item_at g x)) (range_with_len base (condition_count g))
-            (λ x c. let at = at_broadcast x c in others_need_two (process_of g (x - base)) (process_of_below g (x - base) at.0) inside ∙ ap (is_heard_by g node) (sym at.1)) in
+        broadcasts_are (λ (p : HeadProcess). not (p.node == node))
+        ∙ same_filter (λ x. not (node_of g (process_of g (x - base)) == node)) (λ x. is_heard_by g node (item_at g x)) (range_with_len base (condition_count g))
+        (λ x c. let at = at_broadcast x c in others_need_two (process_of g (x - base)) (process_of_below g (x - base) at.0) inside ∙ ap (is_heard_by g node) (sym at.1)) in
         ap₂ (λ xs ys. xs ++ ys) heard_messages broadcasts
         ∙ sym (parts_are (λ x. is_heard_by g node (item_at g x)) ∙ ap (λ xs. xs ++ (filter (λ x. is_heard_by g node (item_at g x)) (range_with_len (process_count g) (edge_count g)) ++ filter (λ x. is_heard_by g node (item_at g x)) (range_with_len base (condition_count g))))
-          (filter_none (λ x. is_heard_by g node (item_at g x)) (numbers_below (process_count g)) (λ x c. ap (is_heard_by g node) (item_at-start g x (numbers-Contains (process_count g) x c)))))
+        (filter_none (λ x. is_heard_by g node (item_at g x)) (numbers_below (process_count g)) (λ x c. ap (is_heard_by g node) (item_at-start g x (numbers-Contains (process_count g) x c)))))

@@ -31,7 +31,7 @@ module _ (g : Graph) (w : IsWithinLimits g) where
   pub speak_of : (rows : List Row) → All (IsLawfulRow (space_of (head_of g))) rows → SpeakOf g rows
   speak_of rows h = All-weaker (IsLawfulRow (space_of (head_of g))) (λ (row : Row). All (λ (c : Column). All (λ (l : Literal). IsVariable g l.variable) c.cube) row.columns)
       (λ row r. All-weaker (IsLawfulColumn (space_of (head_of g))) (λ (c : Column). All (λ (l : Literal). IsVariable g l.variable) c.cube)
-        (λ c k. All-weaker (IsLawfulLiteral (space_of (head_of g))) (λ (l : Literal). IsVariable g l.variable) variable_there c.cube k.literals) row.columns r.columns) rows h
+      (λ c k. All-weaker (IsLawfulLiteral (space_of (head_of g))) (λ (l : Literal). IsVariable g l.variable) variable_there c.cube k.literals) row.columns r.columns) rows h
 
   pub has_shape : (tables : List NodeTable) → AreTablesOf (head_of g) tables → HasShape g tables
   has_shape tables t = record {
@@ -49,11 +49,11 @@ module _ (g : Graph) (w : IsWithinLimits g) where
       let c : ℕ = length (filter (is_disjunction g) (numbers_below p)) in
       let rest : List ℕ = filter (is_disjunction g) (range_with_len (p + 1) (process_count g - p - 1)) in
       let all : disjunctions g ≡ filter (is_disjunction g) (numbers_below p) ++ p ∷ rest =
-          ap (λ n. filter (is_disjunction g) (numbers_below n)) (let e : process_count g ≡ p + suc (process_count g - p - 1) = omega arith in e)
-          ∙ ap (filter (is_disjunction g)) (range-append 0 p (suc (process_count g - p - 1)))
-          ∙ filter-append (is_disjunction g) (numbers_below p) (range_with_len (0 + p) (suc (process_count g - p - 1)))
-          ∙ ap (λ a. filter (is_disjunction g) (numbers_below p) ++ filter (is_disjunction g) (range_with_len a (suc (process_count g - p - 1)))) (let e : 0 + p ≡ p = omega arith in e)
-          ∙ ap (λ b. filter (is_disjunction g) (numbers_below p) ++ cond b (p ∷ rest) rest) t in
+      ap (λ n. filter (is_disjunction g) (numbers_below n)) (let e : process_count g ≡ p + suc (process_count g - p - 1) = omega arith in e)
+      ∙ ap (filter (is_disjunction g)) (range-append 0 p (suc (process_count g - p - 1)))
+      ∙ filter-append (is_disjunction g) (numbers_below p) (range_with_len (0 + p) (suc (process_count g - p - 1)))
+      ∙ ap (λ a. filter (is_disjunction g) (numbers_below p) ++ filter (is_disjunction g) (range_with_len a (suc (process_count g - p - 1)))) (let e : 0 + p ≡ p = omega arith in e)
+      ∙ ap (λ b. filter (is_disjunction g) (numbers_below p) ++ cond b (p ∷ rest) rest) t in
       let here : process_of g c ≡ p = ap (λ ds. get_or ds c 0) all ∙ get_or-append_seam (filter (is_disjunction g) (numbers_below p)) p rest 0 in
       let within : c < condition_count g = omega (arith, ap length all, length-append (filter (is_disjunction g) (numbers_below p)) (p ∷ rest)) in
       ap (condition_of g) (sym here) ∙ condition_of_process_of g c within
@@ -85,9 +85,9 @@ module _ (g : Graph) (w : IsWithinLimits g) where
       let l : p < process_count g = omega (arith, s) in
       let flag : (head_process g p).condition ≡ is_disjunction g p = has_condition g p l in
       let next : cond (head_process g p).condition (c + 1) c ≡ length (filter (is_disjunction g) (numbers_below (p + 1))) =
-          ap₂ (λ b k. cond b (k + 1) k) flag e ∙ count_next p in
+      ap₂ (λ b k. cond b (k + 1) k) flag e ∙ count_next p in
       let is : cond (head_process g p).condition (Some c) None ≡ condition_of g p =
-          ap (λ b. cond b (Some c) None) flag ∙ flag_if p l c e (is_disjunction g p) refl in
+      ap (λ b. cond b (Some c) None) flag ∙ flag_if p l c e (is_disjunction g p) refl in
       let rest = own_are_from node (p + 1) n (cond (head_process g p).condition (c + 1) c) (omega (arith, s)) next in
       ap₂ (λ o os. cond (node_of g p == node) (record { process = p; condition = o; times = (head_process g p).times } ∷ []) [] ++ os) is rest
       ∙ step (node_of g p == node)
