@@ -25,10 +25,7 @@ impl<'a> Model for Labels<'a> {
     ghost view = { λ l. record { processes = map (λ n. n.now) l.processes.items; conditions = map (λ n. n.now) l.conditions.items; edges = l.edges.items } };
 }
 
-fn process_names<'a>(
-    alloc: Global,
-    processes: &'a [Process],
-) -> Result<Vec<&'a str>, OutOfMemory>
+fn process_names<'a>(alloc: Global, processes: &'a [Process]) -> Result<Vec<&'a str>, OutOfMemory>
     ensures { IfOk result (λ names. map (λ n. n.now) names.items ≡ map (λ p. p.name) processes.entry.now) }
 {
     let mut names = Vec::new(alloc);
@@ -39,10 +36,7 @@ fn process_names<'a>(
     Ok(names)
 }
 
-fn condition_names<'a>(
-    alloc: Global,
-    problem: &'a Problem,
-) -> Result<Vec<&'a str>, OutOfMemory>
+fn condition_names<'a>(alloc: Global, problem: &'a Problem) -> Result<Vec<&'a str>, OutOfMemory>
     ensures { IfOk result (λ names. map (λ n. n.now) names.items ≡ map (λ p. (process_at problem.entry.now p).name) (disjunctions problem.entry.now)) }
 {
     let mut names = Vec::new(alloc);

@@ -7,6 +7,8 @@ mod items;
 mod labels;
 mod node;
 mod table;
+#[cfg(test)]
+mod tests;
 
 pub use node::node_text;
 pub use table::table_text;
