@@ -1,0 +1,5 @@
+pub mod Trees
+pub mod TreeCode
+pub mod TreeView
+pub mod TreeFalls
+pub mod TreeTop

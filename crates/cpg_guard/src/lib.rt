@@ -1,0 +1,6 @@
+//! For each process a tree of tests that tells by which input, or whether, it is active.
+#![tactic(auto)]
+
+mod tree;
+
+pub use tree::{GuardTop, GuardTree};
