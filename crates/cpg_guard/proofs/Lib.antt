@@ -1,0 +1,4 @@
+pub mod Collect
+pub mod Inputs
+pub mod Merging
+pub mod Standings

@@ -3,3 +3,6 @@ pub mod TreeCode
 pub mod TreeView
 pub mod TreeFalls
 pub mod TreeTop
+pub mod Steps
+pub mod Growing
+pub mod Way
