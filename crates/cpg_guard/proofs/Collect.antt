@@ -1,5 +1,5 @@
 -- Lists that a loop over numbers collects.
-use Rattle.std.proofs.Common.{ℕ, ◌+◌, ◌≡◌, ◌<◌, Bool, true, false, List, [], ◌∷◌, ◌++◌, map, filter, length, drop, get_or, ap, ◌∙◌, sym, refl}
+use Rattle.std.proofs.Common.{ℕ, ◌+◌, ◌≡◌, Bool, true, false, List, [], ◌∷◌, ◌++◌, map, filter, ap, ◌∙◌, sym, refl}
 use Rattle.std.proofs.lemmas.List.{map-append}
 use Rattle.cpg_base.specs.Numbers.{numbers_below}
 use Rattle.cpg_base.proofs.Lists.{filter_below_takes, filter_below_skips}

@@ -1,11 +1,10 @@
 -- The standings after a step are right, and what is read off them is the activation.
-use Rattle.std.proofs.Common.{ℕ, ◌+◌, ◌<◌, ◌≤◌, ◌≡◌, ◌≢◌, Bool, true, false, ◌&&◌, if◌then◌else◌, List, [], ◌∷◌, length, get_or, set, map, filter, Contains, Option, Some, None, is_some, arith, refl, sym, ap, ◌∙◌, subst, inl, inr, get_or-set_other, get_or-set_same, length-set}
-use Rattle.std.specs.List.{list_all}
-use Rattle.std.proofs.lemmas.Bool.{cases_eq, cases_Bool}
+use Rattle.std.proofs.Common.{ℕ, ◌+◌, ◌<◌, ◌≤◌, ◌≡◌, ◌≢◌, Bool, true, false, ◌&&◌, if◌then◌else◌, List, [], ◌∷◌, get_or, map, filter, Contains, Option, Some, None, is_some, arith, refl, sym, ap, ◌∙◌, subst, inl, inr, get_or-set_other, get_or-set_same, length-set}
+use Rattle.std.proofs.lemmas.Bool.{cases_eq}
 use Rattle.std.proofs.lemmas.List.Folds.{list_all-map}
 use Rattle.cpg_base.specs.declared.activation.Activation.{Activation}
 use Rattle.cpg_base.specs.declared.activation.Activation.TheVariants.{Inactive, Plain, By}
-use Rattle.cpg_base.specs.Graph.{Graph, process_count, condition_count, process_at, edge_at, edge_count, source, inputs, process_of, condition_of}
+use Rattle.cpg_base.specs.Graph.{Graph, process_count, condition_count, process_at, edge_at, edge_count, source, inputs, process_of}
 use Rattle.cpg_base.specs.Activity.{is_active, takes, value_of, by_first, activation_by, activation, active, live}
 use Rattle.cpg_base.proofs.Inputs.{inputs_parts, same_activation_by}
 use Rattle.cpg_base.proofs.Items.{process_of_below}
@@ -13,8 +12,7 @@ use Rattle.cpg_order.specs.Urgency.{place, IsTopological}
 use Rattle.cpg_order.proofs.Places.{same_place, Contains-order}
 use Rattle.cpg_order.proofs.Acyclic.{input_goes_up, source_in_order, activation_is}
 use Rattle.cpg_order.proofs.Conditions.{condition_of_edge, value_of_process}
-use Rattle.cpg_guard.specs.declared.steps.Input.{Input}
-use Rattle.cpg_guard.specs.Steps.{Step, input_of, step_of}
+use Rattle.cpg_guard.specs.Steps.{input_of, step_of}
 use Rattle.cpg_guard.specs.Growing.{is_taken, is_live_in, first_live, activation_from, activation_in, standing, settled}
 use Rattle.cpg_guard.specs.Way.{Follows, AreSettled}
 

@@ -1,7 +1,6 @@
 -- How the trees are grown: along the order, and both ways where a process that has a condition is active.
-use Rattle.std.specs.Prelude.{ℕ, ◌+◌, ◌<◌, ◌≡◌, Bool, true, false, if◌then◌else◌, List, [], ◌∷◌, Option, Some, None, IfSome, All, get_or, slice_set, map, replicate}
+use Rattle.std.specs.Prelude.{ℕ, ◌+◌, Bool, true, false, if◌then◌else◌, List, [], ◌∷◌, Option, Some, None, get_or, slice_set, map, replicate}
 use Rattle.std.specs.List.{list_all, zip}
-use Rattle.cpg_base.specs.Graph.{Graph, process_at, edge_at, source, inputs, condition_of}
 use Rattle.cpg_base.specs.declared.activation.Activation.{Activation}
 use Rattle.cpg_base.specs.declared.activation.Activation.TheVariants.{Inactive, Plain, By}
 use Rattle.cpg_base.specs.Activity.{is_active, takes}

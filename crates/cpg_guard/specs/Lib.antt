@@ -6,3 +6,5 @@ pub mod TreeTop
 pub mod Steps
 pub mod Growing
 pub mod Way
+pub mod Guards
+pub mod Laws

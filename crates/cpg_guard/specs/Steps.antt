@@ -1,5 +1,5 @@
 -- The processes along an order, each with what its activation rests on.
-use Rattle.std.specs.Prelude.{ℕ, ◌<◌, ◌≤◌, Bool, List, Option, IfSome, All, map}
+use Rattle.std.specs.Prelude.{ℕ, ◌<◌, Bool, List, Option, All, map}
 use Rattle.cpg_base.specs.Graph.{Graph, process_at, edge_at, source, inputs, condition_of}
 use Rattle.cpg_guard.specs.declared.steps.Input.{Input}
 

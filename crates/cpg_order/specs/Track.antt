@@ -13,3 +13,7 @@ is_track g o = list_all (λ c. not (get_or o c false) || active g o (process_of 
 -- how many tracks a graph has
 abbrev pub track_count : Graph → ℕ
 track_count g = length (filter (is_track g) (outcomes (condition_count g)))
+
+-- the most tracks of a graph that is taken
+abbrev pub most_tracks : ℕ
+most_tracks = 16384

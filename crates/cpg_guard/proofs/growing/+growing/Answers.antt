@@ -1,6 +1,6 @@
-use Rattle.std.proofs.Common.{ℕ, ◌≡◌, ◌<◌, ◌≤◌, ◌∙◌, sym, ap, arith, length, List, ◌∷◌, [], All, subst, true, false}
-use Rattle.cpg_guard.specs.Steps.{Step, IsStepBelow}
-use Rattle.cpg_guard.specs.Growing.{activation_in, settled, choice, branched, grown}
+use Rattle.std.proofs.Common.{ap, arith, length, true, false}
+use Rattle.cpg_guard.specs.Steps.{IsStepBelow}
+use Rattle.cpg_guard.specs.Growing.{settled, choice, grown}
 use Rattle.cpg_guard.proofs.Merging.{length-grown, length-branched, all_parts}
 use Rattle.cpg_guard.proofs.growing.+growing.Goals as goal
 

@@ -1,4 +1,4 @@
-use Rattle.std.proofs.Common.{ℕ, ◌+◌, ◌*◌, length}
+use Rattle.std.proofs.Common.{◌+◌, ◌*◌, length}
 use Rattle.cpg_guard.proofs.growing.+growing.Given as goal
 
 abbrev pub decreases-branched : goal.decreases-branched

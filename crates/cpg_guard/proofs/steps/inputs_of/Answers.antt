@@ -1,5 +1,3 @@
-use Rattle.std.proofs.Common.{◌∙◌, ap}
-use Rattle.cpg_guard.specs.declared.steps.Input.{Input}
 use Rattle.cpg_guard.proofs.Inputs.{one_more, none_more}
 use Rattle.cpg_guard.proofs.steps.inputs_of.Goals as goal
 use Rattle.cpg_guard.proofs.steps.inputs_of.Goals.{then-ends-process+in_ok-push, else-ends-process}
