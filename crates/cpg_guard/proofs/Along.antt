@@ -1,7 +1,7 @@
 -- Going along an order: what is left of it from a place on.
-use Rattle.std.proofs.Common.{ℕ, suc, ◌+◌, ◌<◌, ◌≡◌, List, [], ◌∷◌, length, get_or, drop, Contains, arith, sym, ap, ◌∙◌, subst, length-drop, add-one, add-zero}
+use Rattle.std.proofs.Common.{ℕ, suc, ◌+◌, ◌<◌, ◌≡◌, List, [], ◌∷◌, length, get_or, take, drop, Contains, arith, sym, ap, ◌∙◌, subst, length-drop, add-one, add-zero}
 use Rattle.std.proofs.Math.Seq.{drop-cons}
-use Rattle.std.proofs.lemmas.List.{get_or-drop}
+use Rattle.std.proofs.lemmas.List.{get_or-drop, get_or-take, get_or_default, length-take}
 use Rattle.std.proofs.lemmas.List.Elements.{Contains-get_or}
 use Rattle.cpg_base.proofs.Pairs.{one_place}
 use Rattle.cpg_base.specs.Graph.{Graph, process_count}
@@ -36,3 +36,12 @@ module _ (g : Graph) (order : List ℕ) (topological : IsTopological g order) wh
   rest_none k e p h =
       let l = place-lt order p (Contains-order (process_count g) order topological.all p h) in
       omega (arith, ap length e, length-drop k order)
+
+  -- what is before a place
+  pub in_take : (k r : ℕ) → Contains (take k order) r → (r < process_count g) × (place order r < k)
+  in_take k r c =
+      let l : c.0 < length (take k order) = c.1 in
+      let short = length-take k order in
+      let is : get_or order c.0 0 ≡ r = get_or_default order c.0 0 r (omega arith) ∙ sym (get_or-take k order c.0 r (omega arith)) ∙ c.2 in
+      let r' = at_index c.0 (omega arith) in
+      (subst (λ q. q < process_count g) is r'.0, subst (λ q. place order q < k) is (omega arith))

@@ -16,7 +16,7 @@ use Rattle.cpg_guard.specs.Trees.{same_guard, tested}
 use Rattle.cpg_guard.specs.Steps.{step_of}
 use Rattle.cpg_guard.specs.Growing.{activation_in, settled, choice, merged, branched, grown}
 use Rattle.cpg_guard.specs.Way.{Follows, AreSettled, AreRightFrom}
-use Rattle.cpg_guard.proofs.Standings.{activation_here, follows_on, settled_next, place_differs}
+use Rattle.cpg_guard.proofs.Standings.{activation_here, follows_one_way, follows_value, its_condition, settled_next, place_differs}
 use Rattle.cpg_guard.proofs.Merging.{length-grown, length-branched}
 use Rattle.cpg_guard.proofs.Along.{rest_first, rest_more, rest_none}
 
@@ -103,15 +103,10 @@ module _ (g : Graph) (order : List ℕ) (topological : IsTopological g order) (f
     -- where only one way is taken
     one_way : choice here (condition_of g p) ≡ None → (q : ℕ) → q < process_count g → k ≤ place order q → q ≢ p → IsRight q (get_or off q (Leaf Inactive))
     one_way none q l m n = record {
-      is = λ o f. right_off.is q l (later q l m n) o (follows_on g order topological k s are p h few at false o f (λ c i j active. absurd (no_condition here (condition_of g p) c none active (subst (λ x. condition_of g x ≡ Some c) j (condition_of_process_of g c i)))));
+      is = λ o f. right_off.is q l (later q l m n) o (follows_one_way g order topological k s are p h few at false none o f);
       ordered = ordered_from g order k (k + 1) (get_or off q (Leaf Inactive)) (omega arith) (right_off.ordered q l (later q l m n));
       reduced = right_off.reduced q l (later q l m n);
     }
-      where
-        no_condition : (a : Activation) (x : Option ℕ) (c : ℕ) → choice a x ≡ None → is_active a ≡ true → x ≡ Some c → ⊥
-        no_condition Inactive x c e f i = cc
-        no_condition Plain x c e f i = cc
-        no_condition (By j) x c e f i = cc
 
     -- where both are
     both : (c : ℕ) → choice here (condition_of g p) ≡ Some c → (q : ℕ) → q < process_count g → k ≤ place order q → q ≢ p → IsRight q (tested c (get_or off q (Leaf Inactive)) (get_or on q (Leaf Inactive)))
@@ -121,13 +116,8 @@ module _ (g : Graph) (order : List ℕ) (topological : IsTopological g order) (f
       reduced = tested_reduced g order k c within there (get_or off q (Leaf Inactive)) (get_or on q (Leaf Inactive)) (right_off.reduced q l (later q l m n)) (right_on.reduced q l (later q l m n));
     }
       where
-        chosen : (a : Activation) (x : Option ℕ) → choice a x ≡ Some c → x ≡ Some c
-        chosen Inactive x e = cc
-        chosen Plain x e = e
-        chosen (By j) x e = e
-
         its : condition_of g p ≡ Some c
-        its = chosen here (condition_of g p) some
+        its = its_condition g order topological k s are p h few at true c some
 
         within : c < condition_count g
         within = condition_of_below g p c its
@@ -135,14 +125,11 @@ module _ (g : Graph) (order : List ℕ) (topological : IsTopological g order) (f
         there : place order (process_of g c) ≡ k
         there = ap (place order) (process_of_condition_of g p c its) ∙ at
 
-        own : (o : List Bool) (v : Bool) → get_or o c false ≡ v → (d : ℕ) → d < condition_count g → process_of g d ≡ p → is_active here ≡ true → get_or o d false ≡ v
-        own o v e d i j active = ap (λ x. get_or o x false) (same_condition g d c i within (j ∙ sym (process_of_condition_of g p c its))) ∙ e
-
         at_value : (o : List Bool) → Follows g order k s o → (v : Bool) → get_or o c false ≡ v → outcome_at (tested c (get_or off q (Leaf Inactive)) (get_or on q (Leaf Inactive))) o ≡ activation g o q
         at_value o f false e = tested_at g order k c within there (get_or off q (Leaf Inactive)) (get_or on q (Leaf Inactive)) o false e
-            ∙ right_off.is q l (later q l m n) o (follows_on g order topological k s are p h few at false o f (own o false e))
+            ∙ right_off.is q l (later q l m n) o (follows_value g order topological k s are p h few at false c some o e f)
         at_value o f true e = tested_at g order k c within there (get_or off q (Leaf Inactive)) (get_or on q (Leaf Inactive)) o true e
-            ∙ right_on.is q l (later q l m n) o (follows_on g order topological k s are p h few at true o f (own o true e))
+            ∙ right_on.is q l (later q l m n) o (follows_value g order topological k s are p h few at true c some o e f)
 
     either : (q : ℕ) → q < process_count g → k ≤ place order q → q ≢ p → IsRight q (get_or (branched (choice here (condition_of g p)) off on) q (Leaf Inactive))
     either q l m n = go (choice here (condition_of g p)) refl

@@ -9,3 +9,5 @@ pub mod Ways
 pub mod EdgeGuards
 pub mod Below
 pub mod Made
+pub mod Searched
+pub mod Outcome

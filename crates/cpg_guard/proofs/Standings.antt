@@ -4,16 +4,17 @@ use Rattle.std.proofs.lemmas.Bool.{cases_eq}
 use Rattle.std.proofs.lemmas.List.Folds.{list_all-map}
 use Rattle.cpg_base.specs.declared.activation.Activation.{Activation}
 use Rattle.cpg_base.specs.declared.activation.Activation.TheVariants.{Inactive, Plain, By}
-use Rattle.cpg_base.specs.Graph.{Graph, process_count, condition_count, process_at, edge_at, edge_count, source, inputs, process_of}
+use Rattle.cpg_base.specs.Graph.{Graph, process_count, condition_count, process_at, edge_at, edge_count, source, inputs, process_of, condition_of}
 use Rattle.cpg_base.specs.Activity.{is_active, takes, value_of, by_first, activation_by, activation, active, live}
 use Rattle.cpg_base.proofs.Inputs.{inputs_parts, same_activation_by}
-use Rattle.cpg_base.proofs.Items.{process_of_below}
+use Rattle.cpg_base.proofs.Items.{process_of_below, same_condition}
 use Rattle.cpg_order.specs.Urgency.{place, IsTopological}
 use Rattle.cpg_order.proofs.Places.{same_place, Contains-order}
 use Rattle.cpg_order.proofs.Acyclic.{input_goes_up, source_in_order, activation_is}
-use Rattle.cpg_order.proofs.Conditions.{condition_of_edge, value_of_process}
+use Rattle.cpg_order.proofs.Conditions.{condition_of_edge, value_of_process, condition_of_process_of, process_of_condition_of}
+use Rattle.cpg_order.proofs.Along.{condition_of_below}
 use Rattle.cpg_guard.specs.Steps.{input_of, step_of}
-use Rattle.cpg_guard.specs.Growing.{is_taken, is_live_in, first_live, activation_from, activation_in, standing, settled}
+use Rattle.cpg_guard.specs.Growing.{is_taken, is_live_in, first_live, activation_from, activation_in, standing, choice, settled}
 use Rattle.cpg_guard.specs.Way.{Follows, AreSettled}
 
 -- ---- the activation of a step is that of its inputs' edges
@@ -114,6 +115,30 @@ module _ (g : Graph) (order : List ℕ) (topological : IsTopological g order) wh
           | inr n ↦ f.takes c l (let d = place_differs (process_of g c) p (process_of_below g c l) h n in omega arith) value (sym (next_before (process_of g c) n) ∙ is)
         ];
       }
+
+      no_condition : (a : Activation) (x : Option ℕ) (c : ℕ) → choice a x ≡ None → is_active a ≡ true → x ≡ Some c → ⊥
+      no_condition Inactive x c e f i = cc
+      no_condition Plain x c e f i = cc
+      no_condition (By j) x c e f i = cc
+
+      -- where one way alone is taken, all outcomes take it
+      pub follows_one_way : choice (activation_in s (step_of g p)) (condition_of g p) ≡ None → (o : List Bool) → Follows g order k s o → Follows g order (k + 1) next o
+      follows_one_way none o f = follows_on o f (λ c i j active. absurd (no_condition (activation_in s (step_of g p)) (condition_of g p) c none active (subst (λ x. condition_of g x ≡ Some c) j (condition_of_process_of g c i))))
+
+      chosen : (a : Activation) (x : Option ℕ) (c : ℕ) → choice a x ≡ Some c → x ≡ Some c
+      chosen Inactive x c e = cc
+      chosen Plain x c e = e
+      chosen (By j) x c e = e
+
+      -- where both are, it is the condition of the process that tells
+      pub its_condition : (c : ℕ) → choice (activation_in s (step_of g p)) (condition_of g p) ≡ Some c → condition_of g p ≡ Some c
+      its_condition c e = chosen (activation_in s (step_of g p)) (condition_of g p) c e
+
+      -- and an outcome takes the way of its value
+      pub follows_value : (c : ℕ) → choice (activation_in s (step_of g p)) (condition_of g p) ≡ Some c → (o : List Bool) → get_or o c false ≡ v → Follows g order k s o → Follows g order (k + 1) next o
+      follows_value c some o value f =
+          let its = its_condition c some in
+          follows_on o f (λ d i j active. ap (λ x. get_or o x false) (same_condition g d c i (condition_of_below g p c its) (j ∙ sym (process_of_condition_of g p c its))) ∙ value)
 
       is_some-standing : (a : Activation) → is_some (standing a v) ≡ is_active a
       is_some-standing Inactive = refl

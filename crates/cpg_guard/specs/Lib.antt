@@ -8,3 +8,4 @@ pub mod Growing
 pub mod Way
 pub mod Guards
 pub mod Laws
+pub mod Alternatives

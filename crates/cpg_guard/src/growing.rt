@@ -23,7 +23,7 @@ fn standing(activation: Activation, value: bool) -> Option<bool>
 }
 
 /// The condition that goes both ways, if there is one.
-fn choice(activation: Activation, condition: Option<u32>) -> Option<u32>
+pub fn choice(activation: Activation, condition: Option<u32>) -> Option<u32>
     ensures { result ≡ choice activation condition }
 {
     if activation.is_active() {
@@ -63,7 +63,7 @@ fn merged(
 }
 
 /// The standings after a step, where the condition of its process has the value.
-fn settled(standings: Standings, step: &Step, activation: Activation, value: bool) -> Standings
+pub fn settled(standings: Standings, step: &Step, activation: Activation, value: bool) -> Standings
     requires process { step.now.process < 128 }
     requires activation { activation ≡ activation_in standings step.now }
     ensures { result ≡ settled standings step.now value }

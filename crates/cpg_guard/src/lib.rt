@@ -3,11 +3,13 @@
 
 mod edges;
 mod growing;
+mod joins;
 mod laws;
 mod steps;
 mod tree;
 mod trees;
 
+pub use joins::{Alternatives, two_alternatives};
 pub use laws::ways_are_deciding;
 pub use tree::{GuardTop, GuardTree};
 pub use trees::{GuardFault, GuardTrees, guards};

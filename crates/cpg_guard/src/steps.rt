@@ -1,9 +1,10 @@
 //! The processes along an order, each with what its activation rests on.
-ghost use Rattle.std.specs.Prelude.{◌≡◌, ◌<◌, ◌≤◌, ◌≢◌, IfOk, All, length, map, get_or, None};
+ghost use Rattle.std.specs.Prelude.{◌≡◌, ◌<◌, ◌≤◌, ◌≢◌, IfOk, All, length, map, get_or, None, Some, if◌then◌else◌};
 ghost use Rattle.std.specs.List.{list_all};
 ghost use Rattle.cpg_base.specs.Graph.{process_count, edge_count, inputs};
 ghost use Rattle.cpg_order.specs.Urgency.{IsTopological};
 ghost use Rattle.cpg_guard.specs.Growing.{is_live_in, first_live, activation_in};
+ghost use Rattle.cpg_guard.specs.Alternatives.{are_two_live};
 ghost use Rattle.cpg_guard.specs.Steps.{Step, step_of, input_of};
 
 use cpg_base::{Activation, OutOfMemory, Problem};
@@ -97,6 +98,18 @@ impl Step {
         self.condition
     }
 
+    /// The standings, where two of the inputs are live by them.
+    pub fn two_live(&self, standings: Standings) -> Option<Standings>
+        requires { All (λ input. input.source < 128) self.now.inputs }
+        ensures { result ≡ (if are_two_live standings self.now.inputs then Some standings else None) }
+    {
+        if are_two_live(self.inputs.as_slice(), &standings) {
+            Some(standings)
+        } else {
+            None
+        }
+    }
+
     /// How the process is active.
     pub fn activation(&self, standings: &[Option<bool>]) -> Activation
         requires { All (λ input. input.source < length standings.now) self.now.inputs }
@@ -115,6 +128,18 @@ impl Step {
             Activation::Inactive
         }
     }
+}
+
+/// Whether two inputs or more are live.
+fn are_two_live(inputs: &[Input], standings: &[Option<bool>]) -> bool
+    requires { All (λ input. input.source < length standings.now) inputs.now }
+    ensures { result ≡ are_two_live standings.now inputs.now }
+{
+    inputs
+        .iter()
+        .filter(|input| input.is_live(standings))
+        .count()
+        > 1
 }
 
 /// The inputs of a process, by edge number.
