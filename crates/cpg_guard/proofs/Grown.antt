@@ -3,14 +3,13 @@ use Rattle.std.proofs.Common.{ℕ, zero, suc, ◌+◌, ◌<◌, ◌≤◌, ◌�
 use Rattle.std.proofs.lemmas.Bool.{cases_eq, both_ways, and_parts, and_from}
 use Rattle.std.proofs.lemmas.List.{length-replicate}
 use Rattle.cpg_base.specs.declared.activation.Activation.{Activation}
-use Rattle.cpg_base.specs.declared.activation.Activation.TheVariants.{Inactive, Plain, By}
+use Rattle.cpg_base.specs.declared.activation.Activation.TheVariants.{Inactive}
 use Rattle.cpg_base.specs.Graph.{Graph, process_count, condition_count, process_of, condition_of}
-use Rattle.cpg_base.specs.Activity.{is_active, activation}
-use Rattle.cpg_base.proofs.Items.{same_condition}
+use Rattle.cpg_base.specs.Activity.{activation}
 use Rattle.cpg_order.specs.Urgency.{place, IsTopological}
 use Rattle.cpg_order.specs.Guard.{Guard, Leaf, Test, outcome_at, IsOrderedFrom, IsReduced, IsGuardOf}
 use Rattle.cpg_order.proofs.Outcomes.{same_activation_is, same_activation_refl}
-use Rattle.cpg_order.proofs.Conditions.{condition_of_process_of, process_of_condition_of}
+use Rattle.cpg_order.proofs.Conditions.{process_of_condition_of}
 use Rattle.cpg_order.proofs.Along.{condition_of_below}
 use Rattle.cpg_guard.specs.Trees.{same_guard, tested}
 use Rattle.cpg_guard.specs.Steps.{step_of}

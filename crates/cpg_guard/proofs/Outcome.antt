@@ -1,16 +1,16 @@
 -- The scenario of standings, set value by value; and what the search says of joins.
-use Rattle.std.proofs.Common.{ℕ, ◌+◌, ◌<◌, ◌≤◌, ◌≡◌, Bool, true, false, List, [], ◌∷◌, length, get_or, map, filter, replicate, Option, Some, None, IsTrue, arith, refl, sym, ap, ap₂, ◌∙◌, subst}
+use Rattle.std.proofs.Common.{ℕ, ◌<◌, ◌≤◌, ◌≡◌, Bool, false, List, length, get_or, map, filter, replicate, Option, None, arith, sym, ap₂, ◌∙◌}
 use Rattle.std.specs.Bool.{nat_lt}
 use Rattle.std.proofs.lemmas.List.{ext_get_or, length-map}
 use Rattle.std.proofs.lemmas.List.FromFn.{length-range_with_len}
-use Rattle.std.proofs.lemmas.Bool.{both_ways, ltb-false}
+use Rattle.std.proofs.lemmas.Bool.{ltb-false}
 use Rattle.cpg_base.specs.Numbers.{numbers_below}
-use Rattle.cpg_base.specs.Graph.{Graph, process_count, condition_count, process_at, process_of, inputs}
+use Rattle.cpg_base.specs.Graph.{Graph, process_count, condition_count, process_of, inputs}
 use Rattle.cpg_base.specs.Activity.{live}
 use Rattle.cpg_base.specs.Scenario.{Scenario}
 use Rattle.cpg_base.specs.WellFormed.{HasSingleJoins}
 use Rattle.cpg_base.proofs.Lists.{get_or-map-below}
-use Rattle.cpg_guard.specs.Alternatives.{IsSingleJoin, has_two_live, is_set, scenario_of}
+use Rattle.cpg_guard.specs.Alternatives.{IsSingleJoin, is_set, scenario_of}
 
 pub scenario_given : (g : Graph) (s : List (Option Bool)) (t : Scenario) → length t.values ≡ condition_count g → t.faults ≡ replicate (process_count g) 0
     → ((c : ℕ) → c < condition_count g → get_or t.values c false ≡ is_set (get_or s (process_of g c) None)) → t ≡ scenario_of g s

@@ -1,7 +1,7 @@
 -- The search along an order finds the least scenario in which two inputs of a process are live, or there is none.
-use Rattle.std.proofs.Common.{ℕ, zero, suc, ◌+◌, ◌<◌, ◌≤◌, ◌≡◌, ◌≢◌, Bool, true, false, ◌==◌, if◌then◌else◌, List, [], ◌∷◌, ◌++◌, length, get_or, set, map, filter, drop, take, replicate, sum, Option, Some, None, IsTrue, Contains, arith, refl, sym, ap, ap₂, ◌∙◌, subst, inl, inr, ◌⊎◌, eqb-true, eq-eqb, get_or-set_other, get_or-set_same}
+use Rattle.std.proofs.Common.{ℕ, ◌+◌, ◌<◌, ◌≤◌, ◌≡◌, ◌≢◌, Bool, true, false, ◌==◌, if◌then◌else◌, List, [], ◌∷◌, ◌++◌, length, get_or, map, filter, drop, take, replicate, sum, Option, Some, None, Contains, arith, refl, sym, ap, ◌∙◌, subst, inl, inr, ◌⊎◌, eqb-true, get_or-set_other, get_or-set_same}
 use Rattle.std.specs.Bool.{nat_lt}
-use Rattle.std.proofs.lemmas.Bool.{cases_eq, cases_lt, cases_Bool, both_ways, eqb-false}
+use Rattle.std.proofs.lemmas.Bool.{cases_lt, both_ways, eqb-false}
 use Rattle.std.proofs.lemmas.List.{get_or-replicate, get_or_past, length-replicate, length-map, take-append-drop}
 use Rattle.std.proofs.lemmas.List.Folds.{sum_by-replicate}
 use Rattle.std.proofs.lemmas.List.Sums.{length-filter}
@@ -10,19 +10,18 @@ use Rattle.cpg_base.specs.declared.activation.Activation.{Activation}
 use Rattle.cpg_base.specs.declared.activation.Activation.TheVariants.{Inactive, Plain, By}
 use Rattle.cpg_base.specs.Numbers.{numbers_below, is_below}
 use Rattle.cpg_base.specs.Graph.{Graph, process_count, condition_count, process_of, condition_of, inputs}
-use Rattle.cpg_base.specs.Activity.{is_active, live, active}
+use Rattle.cpg_base.specs.Activity.{is_active, live}
 use Rattle.cpg_base.specs.Scenario.{Scenario, IsScenario, fault_of, number_of_value}
 use Rattle.cpg_base.proofs.Below.{not_below-cons, below-cons_less, below_one_way}
-use Rattle.cpg_base.proofs.Items.{same_condition, process_of_below}
+use Rattle.cpg_base.proofs.Items.{process_of_below}
 use Rattle.cpg_base.proofs.Lists.{same_filter, get_or-map-below, Contains-first, Contains-rest}
 use Rattle.cpg_base.proofs.Sums.{filter-map}
 use Rattle.cpg_order.specs.Urgency.{place, IsTopological}
 use Rattle.cpg_order.specs.Scenario.{IsLeast, value_in_key, key, is_before}
-use Rattle.cpg_order.proofs.Conditions.{condition_of_process_of, process_of_condition_of}
+use Rattle.cpg_order.proofs.Conditions.{process_of_condition_of}
 use Rattle.cpg_order.proofs.Along.{condition_of_below}
 use Rattle.cpg_order.proofs.ScenarioOrder.{not_before_by_parts}
-use Rattle.cpg_guard.specs.declared.steps.Input.{Input}
-use Rattle.cpg_guard.specs.Steps.{Step, input_of, step_of}
+use Rattle.cpg_guard.specs.Steps.{input_of, step_of}
 use Rattle.cpg_guard.specs.Growing.{is_live_in, activation_in, settled, choice, standing}
 use Rattle.cpg_guard.specs.Way.{Follows, AreSettled}
 use Rattle.cpg_guard.specs.Alternatives.{has_two_live, are_two_live, first_some, if_other, found_from, is_set, scenario_of}

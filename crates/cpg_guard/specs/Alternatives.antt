@@ -1,6 +1,6 @@
 -- Outcomes that make two inputs of a process live, and how the first is found along an order.
-use Rattle.std.specs.Prelude.{ℕ, ◌≡◌, ◌<◌, ◌≤◌, Bool, true, false, ◌==◌, nat_lt, if◌then◌else◌, List, [], ◌∷◌, Option, Some, None, IfSome, IfNone, IsTrue, get_or, map, length, filter, count_by, replicate}
-use Rattle.cpg_base.specs.Numbers.{numbers_below, same_bool}
+use Rattle.std.specs.Prelude.{ℕ, ◌≡◌, ◌<◌, Bool, true, false, ◌==◌, nat_lt, if◌then◌else◌, List, [], ◌∷◌, Option, Some, None, IsTrue, get_or, map, length, filter, count_by, replicate}
+use Rattle.cpg_base.specs.Numbers.{numbers_below}
 use Rattle.cpg_base.specs.Graph.{Graph, process_count, condition_count, process_at, process_of, inputs}
 use Rattle.cpg_base.specs.Activity.{live}
 use Rattle.cpg_base.specs.Scenario.{Scenario}

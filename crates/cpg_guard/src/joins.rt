@@ -86,7 +86,6 @@ fn least_of(
     ensures join { IfOk result (λ found. IfSome found (λ _. IsTrue (process_at problem.now process).join)) }
     ensures some { IfOk result (λ found. IfSome found (IsLeast problem.now order.now (λ s. has_two_live problem.now s.values process ≡ true))) }
 {
-    let _ = order;
     if !problem.processes()[process as usize].join {
         return Ok(None);
     }

@@ -1,7 +1,5 @@
-use Rattle.std.proofs.Common.{◌≡◌, ◌∙◌, sym, ap, subst, List, Bool, Option, Some, None, true, map, replicate}
-use Rattle.cpg_base.specs.Graph.{process_count}
+use Rattle.std.proofs.Common.{◌≡◌, ◌∙◌, sym, ap, subst, None, true, replicate}
 use Rattle.cpg_order.specs.Scenario.{IsLeast}
-use Rattle.cpg_guard.specs.Steps.{step_of}
 use Rattle.cpg_guard.specs.Alternatives.{found_from, has_two_live}
 use Rattle.cpg_guard.proofs.Below.{steps_below}
 use Rattle.cpg_guard.proofs.Searched.{search_none, search_some}

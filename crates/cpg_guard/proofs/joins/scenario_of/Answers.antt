@@ -1,5 +1,4 @@
-use Rattle.std.proofs.Common.{◌≡◌, ◌∙◌, ◌<◌, ℕ, arith, subst, Bool, false, true, get_or}
-use Rattle.cpg_base.specs.Graph.{condition_count}
+use Rattle.std.proofs.Common.{arith}
 use Rattle.cpg_base.proofs.Items.{process_of_below}
 use Rattle.cpg_guard.proofs.Outcome.{scenario_given}
 use Rattle.cpg_guard.proofs.joins.scenario_of.Goals as goal
