@@ -1,4 +1,4 @@
-use Rattle.std.proofs.Common.{ℕ, ◌≡◌, ◌<◌, ◌==◌, false, drop}
+use Rattle.std.proofs.Common.{ℕ, ◌≡◌, ◌<◌, false}
 use Rattle.cpg_rules.specs.Rules.{is_too_big}
 use Rattle.cpg_rules.proofs.slots.above_slot.Given as goal
 

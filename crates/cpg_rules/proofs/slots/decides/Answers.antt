@@ -1,4 +1,4 @@
-use Rattle.std.proofs.Common.{◌≡◌, ◌∙◌, ◌==◌, sym, ap, arith, eq-eqb}
+use Rattle.std.proofs.Common.{◌∙◌, ◌==◌, sym, ap, arith, eq-eqb}
 use Rattle.cpg_base.specs.Graph.{condition_count, node_of, process_of}
 use Rattle.cpg_base.proofs.Items.{process_of_below}
 use Rattle.cpg_rules.proofs.Senders.{any_there, any_nowhere}

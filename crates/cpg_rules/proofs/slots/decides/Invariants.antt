@@ -1,4 +1,4 @@
-use Rattle.std.proofs.Common.{ℕ, ◌≡◌, ◌<◌, ◌==◌, false, drop}
+use Rattle.std.proofs.Common.{ℕ, ◌≡◌, ◌<◌, ◌==◌, false}
 use Rattle.cpg_base.specs.Graph.{node_of, process_of}
 use Rattle.cpg_rules.proofs.slots.decides.Given as goal
 

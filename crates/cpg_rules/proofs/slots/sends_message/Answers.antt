@@ -1,4 +1,4 @@
-use Rattle.std.proofs.Common.{◌≡◌, ◌∙◌, sym, ap, length, arith}
+use Rattle.std.proofs.Common.{sym, ap, length, arith}
 use Rattle.cpg_base.specs.Graph.{edge_count}
 use Rattle.cpg_rules.specs.Rules.{is_message_of}
 use Rattle.cpg_rules.proofs.Senders.{any_there, any_nowhere}

@@ -1,4 +1,4 @@
-use Rattle.std.proofs.Common.{ℕ, ◌≡◌, ◌<◌, ◌==◌, false, drop}
+use Rattle.std.proofs.Common.{◌≡◌, drop}
 use Rattle.cpg_rules.specs.Rules.{bytes_in}
 use Rattle.cpg_rules.proofs.slots.slot_bytes.Given as goal
 

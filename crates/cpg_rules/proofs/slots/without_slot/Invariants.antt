@@ -1,4 +1,4 @@
-use Rattle.std.proofs.Common.{ℕ, ◌≡◌, ◌<◌, ◌==◌, false, drop}
+use Rattle.std.proofs.Common.{ℕ, ◌≡◌, ◌<◌, false}
 use Rattle.cpg_rules.specs.Rules.{lacks_slot}
 use Rattle.cpg_rules.proofs.slots.without_slot.Given as goal
 
