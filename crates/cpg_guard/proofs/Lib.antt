@@ -1,0 +1,13 @@
+pub mod Collect
+pub mod Inputs
+pub mod Merging
+pub mod Along
+pub mod Standings
+pub mod Grown
+pub mod Counted
+pub mod Ways
+pub mod EdgeGuards
+pub mod Below
+pub mod Made
+pub mod Searched
+pub mod Outcome

@@ -1,0 +1,19 @@
+-- Tracks: the ways through the conditions, each told by one outcome.
+use Rattle.std.specs.Prelude.{ℕ, Bool, false, not, ◌||◌, List, filter, get_or, length}
+use Rattle.std.specs.List.{list_all}
+use Rattle.cpg_base.specs.Numbers.{numbers_below}
+use Rattle.cpg_base.specs.Graph.{Graph, condition_count, process_of}
+use Rattle.cpg_base.specs.Activity.{active}
+use Rattle.cpg_order.specs.Deciding.{outcomes}
+
+-- an outcome whose inactive conditions are false
+abbrev pub is_track : Graph → List Bool → Bool
+is_track g o = list_all (λ c. not (get_or o c false) || active g o (process_of g c)) (numbers_below (condition_count g))
+
+-- how many tracks a graph has
+abbrev pub track_count : Graph → ℕ
+track_count g = length (filter (is_track g) (outcomes (condition_count g)))
+
+-- the most tracks of a graph that is taken
+abbrev pub most_tracks : ℕ
+most_tracks = 16384

@@ -1,0 +1,40 @@
+-- What each refusal tells: its own cause, and that no earlier one is there.
+use Rattle.std.specs.Prelude.{ℕ, ◌<◌, ◌≤◌, List, ⊤}
+use Rattle.cpg_base.specs.Graph.{Graph}
+use Rattle.cpg_base.specs.WellFormed.{HasSingleJoins, HasSenderSlots}
+use Rattle.cpg_order.specs.Urgency.{IsUrgencyOrder, IsTopological}
+use Rattle.cpg_order.specs.Track.{track_count, most_tracks}
+use Rattle.cpg_order.specs.Cycle.{IsCycle}
+use Rattle.cpg_guard.specs.Alternatives.{AreAlternatives}
+use Rattle.cpg_rules.specs.declared.admission.RuleFault.{RuleFault}
+use Rattle.cpg_rules.specs.declared.admission.RuleFault.TheVariants.{Cycle, TooManyTracks, TwoAlternatives, NoSlot, TooBig, OutOfMemory}
+use Rattle.cpg_rules.specs.Rules.{LacksSlot, IsAboveSlot}
+
+-- the graph has no cycle: this is its urgency order
+pub record IsOrdered (g : Graph) (order : List ℕ) : Type 0 where
+  pub urgency : IsUrgencyOrder g order
+  pub topological : IsTopological g order
+
+-- and it has few tracks
+pub record HasFewTracks (g : Graph) (order : List ℕ) : Type 0 where
+  pub ordered : IsOrdered g order
+  pub few : track_count g ≤ most_tracks
+
+-- and no join has two live inputs
+pub record HasFewInputs (g : Graph) (order : List ℕ) : Type 0 where
+  pub tracks : HasFewTracks g order
+  pub joins : HasSingleJoins g
+
+-- and each node that sends has a slot
+pub record HasSlots (g : Graph) (order : List ℕ) : Type 0 where
+  pub inputs : HasFewInputs g order
+  pub slots : HasSenderSlots g
+
+-- what a refusal shows
+abbrev pub ShowsFault : Graph → RuleFault → Type 0
+ShowsFault g (Cycle walk) = IsCycle g walk
+ShowsFault g TooManyTracks = (order : List ℕ) × IsOrdered g order × (most_tracks < track_count g)
+ShowsFault g (TwoAlternatives p least) = (order : List ℕ) × HasFewTracks g order × AreAlternatives g order p least
+ShowsFault g (NoSlot node) = (order : List ℕ) × HasFewInputs g order × LacksSlot g node
+ShowsFault g (TooBig e) = (order : List ℕ) × HasSlots g order × IsAboveSlot g e
+ShowsFault g OutOfMemory = ⊤

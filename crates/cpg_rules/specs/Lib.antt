@@ -1,0 +1,3 @@
+pub mod Rules
+pub mod Admission
+pub mod Faults

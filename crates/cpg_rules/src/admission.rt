@@ -1,0 +1,185 @@
+//! The admission of a graph.
+ghost use Rattle.std.specs.Prelude.{◌≡◌, List, ℕ, IfOk, IfErr};
+ghost use Rattle.cpg_base.specs.Limits.{IsWithinLimits};
+ghost use Rattle.cpg_base.specs.WellFormed.{HasSenderSlots};
+ghost use Rattle.cpg_order.specs.Urgency.{IsTopological};
+ghost use Rattle.cpg_guard.specs.Guards.{AreGuardsOf};
+ghost use Rattle.cpg_rules.specs.Rules.{AllFit};
+ghost use Rattle.cpg_rules.specs.Admission.{IsAdmitted};
+ghost use Rattle.cpg_rules.specs.Faults.{IsOrdered, HasFewTracks, HasFewInputs, ShowsFault};
+
+use crate::slots::{above_slot, without_slot};
+use cpg_base::{Problem, Scenario};
+use cpg_guard::{GuardFault, GuardTrees, guards, two_alternatives};
+use cpg_order::{Order, OrderFault, Walk, urgency};
+use std::alloc::Global;
+use std::marker::Model;
+
+/// A graph that keeps all rules, with its urgency order and its guards.
+#[derive(Drop)]
+pub struct Admitted {
+    problem: Problem,
+    order: Order,
+    guards: GuardTrees,
+}
+
+impl Model for Admitted {
+    ghost use Rattle.std.specs.Coded.{codes};
+    ghost use Rattle.cpg_guard.specs.TreeCode.{tree_code};
+    ghost use Rattle.cpg_rules.specs.Admission.{Admission, IsAdmitted};
+
+    ghost Value = { Admission };
+
+    ghost coded = { Prim.hlevel (codes, tree_code) };
+
+    ghost view = { λ a. record { graph = a.problem; order = a.order; guards = a.guards } };
+
+    ghost invariant = { λ a. IsAdmitted a.problem a.order a.guards };
+}
+
+/// Why a graph isn't admitted. The first of these that is there is told.
+#[derive(Drop)]
+pub enum RuleFault {
+    /// The edges lead around in a cycle: this one, the least process first.
+    Cycle(Walk),
+    /// There are more than 16,384 tracks.
+    TooManyTracks,
+    /// Some outcome gives a join two live inputs.
+    TwoAlternatives {
+        /// The number of the least such join.
+        process: u32,
+        /// The least scenario in which two of its inputs are live, which has no faults.
+        least: Scenario,
+    },
+    /// A node sends and has no slot: the least such node.
+    NoSlot(u32),
+    /// A message has a size above its sender's slot: the least such edge.
+    TooBig(u32),
+    /// Want of memory.
+    OutOfMemory,
+}
+
+/// A graph that isn't admitted, as it was, and why.
+#[derive(Drop)]
+pub struct Refused {
+    /// The graph.
+    pub problem: Problem,
+    /// Why it isn't admitted.
+    pub fault: RuleFault,
+}
+
+/// The urgency order.
+fn ordered(alloc: Global, problem: &Problem) -> Result<Order, RuleFault>
+    ensures order { IfOk result (IsOrdered problem.now) }
+    ensures fault { IfErr result (ShowsFault problem.now) }
+{
+    match urgency(alloc, problem) {
+        Ok(order) => Ok(order),
+        Err(OrderFault::Cycle(walk)) => Err(RuleFault::Cycle(walk)),
+        Err(OrderFault::OutOfMemory) => Err(RuleFault::OutOfMemory),
+    }
+}
+
+/// The guards.
+fn guarded(alloc: Global, problem: &Problem, order: &Order) -> Result<GuardTrees, RuleFault>
+    requires { IsOrdered problem.now order.now }
+    ensures guards { IfOk result (AreGuardsOf problem.now order.now) }
+    ensures tracks { IfOk result (λ _. HasFewTracks problem.now order.now) }
+    ensures fault { IfErr result (ShowsFault problem.now) }
+{
+    match guards(alloc, problem, order) {
+        Ok(guards) => Ok(guards),
+        Err(GuardFault::TooManyTracks) => Err(RuleFault::TooManyTracks),
+        Err(GuardFault::OutOfMemory) => Err(RuleFault::OutOfMemory),
+    }
+}
+
+/// That no outcome gives a join two live inputs.
+fn joined(alloc: Global, problem: &Problem, order: &Order) -> Result<(), RuleFault>
+    requires { HasFewTracks problem.now order.now }
+    ensures joins { IfOk result (λ _. HasFewInputs problem.now order.now) }
+    ensures fault { IfErr result (ShowsFault problem.now) }
+{
+    match two_alternatives(alloc, problem, order) {
+        Ok(None) => Ok(()),
+        Ok(Some(found)) => Err(RuleFault::TwoAlternatives {
+            process: found.process,
+            least: found.least,
+        }),
+        Err(_) => Err(RuleFault::OutOfMemory),
+    }
+}
+
+/// That each node that sends has a slot, and no message is above it.
+fn slotted(problem: &Problem) -> Result<(), RuleFault>
+    requires { (order : List ℕ) × HasFewInputs problem.now order }
+    ensures slots { IfOk result (λ _. HasSenderSlots problem.now) }
+    ensures sizes { IfOk result (λ _. AllFit problem.now) }
+    ensures limits { IfOk result (λ _. IsWithinLimits problem.now) }
+    ensures fault { IfErr result (ShowsFault problem.now) }
+{
+    if let Some(node) = without_slot(problem) {
+        return Err(RuleFault::NoSlot(node));
+    }
+    if let Some(edge) = above_slot(problem) {
+        return Err(RuleFault::TooBig(edge));
+    }
+    Ok(())
+}
+
+/// The order and the guards of a graph that keeps all rules.
+fn judged(alloc: Global, problem: &Problem) -> Result<(Order, GuardTrees), RuleFault>
+    ensures admitted { IfOk result (λ parts. IsAdmitted problem.now parts.0 parts.1) }
+    ensures fault { IfErr result (ShowsFault problem.now) }
+{
+    let order = ordered(alloc, problem)?;
+    let guards = guarded(alloc, problem, &order)?;
+    joined(alloc, problem, &order)?;
+    slotted(problem)?;
+    Ok((order, guards))
+}
+
+/// Admits a graph that keeps all rules: it has no cycle, at most 16,384 tracks, no join with two live inputs, a slot for
+/// each node that sends, and no message above its sender's slot. A refusal tells the first of these that is broken, and
+/// hands the graph back as it was.
+pub fn admit(alloc: Global, problem: Problem) -> Result<Admitted, Refused>
+    ensures problem { IfOk result (λ admitted. admitted.graph ≡ problem) }
+    ensures admitted { IfOk result (λ admitted. IsAdmitted admitted.graph admitted.order admitted.guards) }
+    ensures back { IfErr result (λ refused. refused.problem ≡ problem) }
+    ensures fault { IfErr result (λ refused. ShowsFault problem refused.fault) }
+{
+    match judged(alloc, &problem) {
+        Ok((order, guards)) => Ok(Admitted {
+            problem,
+            order,
+            guards,
+        }),
+        Err(fault) => Err(Refused { problem, fault }),
+    }
+}
+
+impl Admitted {
+    /// The graph.
+    pub fn problem(&self) -> &Problem
+        ensures problem { result.now ≡ self.now.graph }
+        ensures admitted { IsAdmitted self.now.graph self.now.order self.now.guards }
+    {
+        &self.problem
+    }
+
+    /// Its urgency order.
+    pub fn order(&self) -> &Order
+        ensures order { result.now ≡ self.now.order }
+        ensures admitted { IsAdmitted self.now.graph self.now.order self.now.guards }
+    {
+        &self.order
+    }
+
+    /// Its guards.
+    pub fn guards(&self) -> &GuardTrees
+        ensures guards { result.now ≡ self.now.guards }
+        ensures admitted { IsAdmitted self.now.graph self.now.order self.now.guards }
+    {
+        &self.guards
+    }
+}

@@ -1,0 +1,135 @@
+//! The rules on slots.
+ghost use Rattle.std.specs.Prelude.{◌≡◌, ◌<◌, IfSome, IfNone, ℕ, false, length};
+ghost use Rattle.cpg_base.specs.Graph.{process_count, edge_count, node_of, is_message};
+ghost use Rattle.cpg_base.specs.Limits.{IsWithinLimits};
+ghost use Rattle.cpg_base.specs.WellFormed.{HasSenderSlots};
+ghost use Rattle.cpg_rules.specs.Rules.{is_message_of, sends_message, decides, is_sender, has_slot, lacks_slot, bytes_in, is_too_big, AllFit, LacksSlot, IsAboveSlot};
+
+use cpg_base::{Problem, Slot};
+
+/// The node of a process.
+fn node_of(problem: &Problem, process: u32) -> u32
+    requires { process < process_count problem.now }
+    ensures { result ≡ node_of problem.now process }
+{
+    problem.processes()[process as usize].node
+}
+
+/// Whether an edge is a message of this node.
+fn is_message_of(problem: &Problem, edge: u32, node: u32) -> bool
+    requires { edge < edge_count problem.now }
+    ensures { result ≡ is_message_of problem.now edge node }
+{
+    let ends = problem.edges()[edge as usize];
+    let sender = node_of(problem, ends.from);
+    if sender == node_of(problem, ends.to) {
+        return false;
+    }
+    sender == node
+}
+
+/// Whether a node is the source of a message.
+fn sends_message(problem: &Problem, node: u32) -> bool
+    ensures { result ≡ sends_message problem.now node }
+{
+    for edge in 0..problem.edges().len() as u32 {
+        if is_message_of(problem, edge, node) {
+            return true;
+        }
+    }
+    false
+}
+
+/// Whether a process of the node has a condition.
+fn decides(problem: &Problem, node: u32) -> bool
+    ensures { result ≡ decides problem.now node }
+{
+    for condition in 0..problem.conditions() {
+        if node_of(problem, problem.process_of(condition)) == node {
+            return true;
+        }
+    }
+    false
+}
+
+/// Whether a node sends messages, or broadcasts where there are two nodes or more.
+fn is_sender(problem: &Problem, node: u32) -> bool
+    ensures { result ≡ is_sender problem.now node }
+{
+    if sends_message(problem, node) {
+        return true;
+    }
+    if problem.nodes().len() <= 1 {
+        return false;
+    }
+    decides(problem, node)
+}
+
+/// Whether a node has a slot.
+fn has_slot(problem: &Problem, node: u32) -> bool
+    ensures { result ≡ has_slot problem.now node }
+{
+    problem.slots().iter().any(|slot| slot.node == node)
+}
+
+/// Whether a node sends and has no slot.
+fn lacks_slot(problem: &Problem, node: u32) -> bool
+    ensures { result ≡ lacks_slot problem.now node }
+{
+    if !is_sender(problem, node) {
+        return false;
+    }
+    !has_slot(problem, node)
+}
+
+/// The least node that sends and has no slot.
+pub fn without_slot(problem: &Problem) -> Option<u32>
+    ensures none { IfNone result (HasSenderSlots problem.now) }
+    ensures within { IsWithinLimits problem.now }
+    ensures some { IfSome result (LacksSlot problem.now) }
+{
+    for node in 0..problem.nodes().len() as u32 {
+        if lacks_slot(problem, node) {
+            return Some(node);
+        }
+    }
+    None
+}
+
+/// How many bytes a frame in the first slot of a node holds, or 0 where it has none.
+fn slot_bytes(slots: &[Slot], node: u32) -> u32
+    ensures { result ≡ bytes_in slots.now node }
+{
+    for slot in slots {
+        if slot.node == node {
+            return slot.bytes;
+        }
+    }
+    0
+}
+
+/// Whether an edge is a message whose size is above its sender's slot.
+fn is_too_big(problem: &Problem, edge: u32) -> bool
+    requires { edge < edge_count problem.now }
+    ensures { result ≡ is_too_big problem.now edge }
+{
+    let ends = problem.edges()[edge as usize];
+    let sender = node_of(problem, ends.from);
+    if sender == node_of(problem, ends.to) {
+        return false;
+    }
+    ends.size > slot_bytes(problem.slots(), sender)
+}
+
+/// The least message whose size is above its sender's slot.
+pub fn above_slot(problem: &Problem) -> Option<u32>
+    ensures none { IfNone result (AllFit problem.now) }
+    ensures some { IfSome result (IsAboveSlot problem.now) }
+{
+    for edge in 0..problem.edges().len() as u32 {
+        if is_too_big(problem, edge) {
+            return Some(edge);
+        }
+    }
+    None
+}
