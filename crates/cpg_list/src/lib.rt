@@ -1,8 +1,7 @@
-//! Tables of plain graphs, made view by view.
+//! Tables of plain graphs, made view by view: graphs of one node at most on which nothing is sent or frozen.
 #![tactic(auto)]
 
-mod building;
 mod rows;
 mod view;
 
-pub use building::list;
+pub use rows::rows_by_number;

@@ -47,7 +47,7 @@ overflow_add-duration c =
     c.round-turn.ensures c.as_slice.ensures.value (c.outputs.ensures.of_graph c.args.problem.now c.requires.links) in
     omega (
       arith,
-      c.duration.ensures,
+      c.duration.ensures.duration,
       duration-le c.args.problem.now c.at-process.result 0 c.processes-count.ensures.within inside (omega arith),
       c.processes-count.ensures.within.few_processes,
       longest_from-le c.args.problem.now c.processes-count.ensures.within c.args.order.now c.requires.order c.loop-done.tails.items c.loop-done.done c.at-process.result c.loop-done.invariant inside at,
@@ -62,7 +62,7 @@ loop-done-preserved c =
     let at : place c.args.order.now c.at-process.result + c.loop-done.done + 1 ≡ process_count c.args.problem.now = omega (arith, c.at-process.ensures.back, ap length c.processes-count.ensures.processes) in
     let way = c.longest-way.ensures ∙ way_is c.args.problem.now c.round-turn.result c.at-process.result c.outputs.result.now c.as_slice.result.now c.loop-done.tails.items
     c.round-turn.ensures c.as_slice.ensures.value (c.outputs.ensures.of_graph c.args.problem.now c.requires.links) in
-    subst (λ x. AreFound c.args.problem.now c.args.order.now (set c.loop-done.tails.items c.at-process.result x) (c.loop-done.done + 1)) (sym (ap₂ ◌+◌ c.duration.ensures way))
+    subst (λ x. AreFound c.args.problem.now c.args.order.now (set c.loop-done.tails.items c.at-process.result x) (c.loop-done.done + 1)) (sym (ap₂ ◌+◌ c.duration.ensures.duration way))
     (found_more c.args.problem.now c.processes-count.ensures.within c.args.order.now c.requires.order c.loop-done.tails.items c.loop-done.done c.at-process.result c.loop-done.invariant inside at)
 
 pub returns : goal.returns
