@@ -1,25 +1,16 @@
 -- Ranges of cubes when literals are left out or one is raised, and two cubes that touch made one.
-use Rattle.std.proofs.Common.{ℕ, ◌+◌, ◌<◌, ◌≤◌, ◌≡◌, ◌≢◌, ◌⊎◌, Bool, true, false, not, cond, ◌&&◌, ◌==◌, List, [], ◌∷◌, length, take, map, filter, Contains, All, AllPairs, get_or, arith, refl, sym, ap, ap₂, ◌∙◌, subst, ⊎_elim, inl, inr, leb-true, eq-eqb, ne_eqb, eqb-true}
-use Rattle.std.specs.Prelude.{nat_le}
-use Rattle.std.specs.List.{list_all}
-use Rattle.std.proofs.lemmas.Bool.{cases_Bool, cases_eq, cases_lt, cond-true, cond-false, and_parts, not-true, eqb-false}
+use Rattle.std.proofs.Common.{ℕ, ◌<◌, ◌≤◌, ◌≡◌, ◌≢◌, ◌⊎◌, Bool, true, false, not, cond, ◌==◌, List, [], ◌∷◌, length, take, Contains, All, get_or, arith, refl, sym, ap, ap₂, ◌∙◌, subst, ⊎_elim, eq-eqb, ne_eqb, eqb-true}
+use Rattle.std.proofs.lemmas.Bool.{cases_eq, cond-true, cond-false, and_parts, not-true, eqb-false}
 use Rattle.std.proofs.lemmas.List.{get_or-take, get_or_default, length-take-le}
 use Rattle.std.proofs.lemmas.List.Elements.{All-contains, All-same, All-filter, All-map, All-weaker, Contains-get_or}
-use Rattle.std.proofs.lemmas.List.Kept.{AllPairs-filter}
-use Rattle.cpg_base.specs.Graph.{Graph, process_count, IsVariable}
-use Rattle.cpg_base.proofs.Lists.{Contains-first, Contains-rest, Contains-cases, Contains-nil, from_all, all_from, Contains-filter, Contains-filter_parts}
+use Rattle.cpg_base.proofs.Lists.{Contains-first, Contains-rest, Contains-filter_parts}
 use Rattle.cpg_base.proofs.Pairs.{AllPairs-map}
 use Rattle.cpg_base.proofs.Sorted.{same_sorted}
-use Rattle.cpg_order.specs.Scenario.{Scenario, IsScenario, number_of}
 use Rattle.cpg_cube.specs.declared.literal.Literal.{Literal}
-use Rattle.cpg_cube.specs.Cube.{IsRising, matches, holds, top, low_in, high_in, is_whole}
-use Rattle.cpg_cube.specs.Fit.{IsCube, is_open, is_met, asked_faults, lows}
+use Rattle.cpg_cube.specs.Cube.{IsRising, top, low_in, high_in, is_whole}
 use Rattle.cpg_cube.proofs.Ranges.{IsNarrow, rising_rest, rising_first, range_of_literal, narrow}
-use Rattle.cpg_cube.proofs.Boxes.{number_within}
-use Rattle.cpg_cube.proofs.CubeLows.{holds-from, low_in-le, low_in-later, low_in-none, met_by, lows-lawful, lows-match}
-use Rattle.cpg_cube.proofs.Within.{high_in-ge, low_in-high}
-use Rattle.cpg_table.specs.Merged.{IsWider}
-use Rattle.cpg_table.specs.Merging.{shorn, without, raised, TouchAt}
+use Rattle.cpg_cube.proofs.CubeLows.{low_in-later, low_in-none}
+use Rattle.cpg_table.specs.Merging.{shorn, without, raised}
 
 -- ---- the high of a variable
 

@@ -1,28 +1,28 @@
 -- From settled columns in order to what merging columns gives.
-use Rattle.std.proofs.Common.{ℕ, ◌+◌, ◌<◌, ◌≤◌, ◌≡◌, ◌≢◌, ◌⊎◌, Bool, true, false, List, [], ◌∷◌, length, map, filter, get_or, slice_get, Option, Some, None, Contains, All, AllPairs, IsPermutation, flat_map, arith, refl, sym, ap, ap₂, ◌∙◌, subst, subst₂, ⊎_elim, inl, inr}
-use Rattle.std.specs.Prelude.{IsTrue, nat_lt}
-use Rattle.std.proofs.lemmas.Bool.{cases_Bool, cases_eq, cases_lt, cond-true, cond-false}
+use Rattle.std.proofs.Common.{ℕ, ◌<◌, ◌≤◌, ◌≡◌, ◌≢◌, ◌⊎◌, true, false, List, [], ◌∷◌, length, filter, get_or, Option, Some, None, Contains, IsPermutation, arith, refl, sym, ap, ap₂, ◌∙◌, subst, subst₂, ⊎_elim, inl, inr}
+use Rattle.std.specs.Prelude.{IsTrue}
+use Rattle.std.proofs.lemmas.Bool.{cases_Bool, cases_eq, cases_lt}
 use Rattle.std.proofs.lemmas.List.{length-map}
-use Rattle.std.proofs.lemmas.List.Elements.{All-contains, All-head, All-tail}
+use Rattle.std.proofs.lemmas.List.Elements.{All-contains}
 use Rattle.std.proofs.lemmas.Option.{slice_get_within}
 use Rattle.cpg_base.specs.Numbers.{numbers_below, is_below}
-use Rattle.cpg_base.specs.Graph.{Graph, process_count, condition_count, condition_of, value_variable, IsVariable}
+use Rattle.cpg_base.specs.Graph.{Graph, process_count, condition_of, value_variable, IsVariable}
 use Rattle.cpg_base.proofs.Lists.{Contains-first, Contains-rest, Contains-cases, Contains-nil, Contains-filter, Contains-filter_parts, Contains-map, Contains-map_parts, Contains-slice_get, same_flat_map, numbers-Contains}
 use Rattle.std.proofs.lemmas.List.Sorted.{IsPermutation-sym, Contains-permutation}
-use Rattle.cpg_order.specs.Scenario.{Scenario, IsScenario, IsLeast, is_before, key, fault_of, number_of, number_of_value, value_in_key}
+use Rattle.cpg_order.specs.Scenario.{Scenario, IsScenario, is_before, key, fault_of, number_of, value_in_key}
 use Rattle.cpg_order.proofs.Scenarios.{number_of-fault, number_of-value}
 use Rattle.cpg_order.proofs.ScenarioOrder.{before_total}
 use Rattle.cpg_order.proofs.Along.{condition_of_below}
 use Rattle.cpg_cube.specs.declared.literal.Literal.{Literal}
-use Rattle.cpg_cube.specs.Cube.{matches, top, low_in, high_in, is_whole, DifferAt}
+use Rattle.cpg_cube.specs.Cube.{matches, top, low_in, high_in, is_whole}
 use Rattle.cpg_cube.specs.Fit.{IsCube, lows}
 use Rattle.cpg_cube.proofs.Ranges.{range_of_literal, narrow}
 use Rattle.cpg_cube.proofs.Boxes.{made_number}
-use Rattle.cpg_cube.proofs.CubeLows.{low_in-later, low_in-none, lows-lawful, lows-match, lows-least}
+use Rattle.cpg_cube.proofs.CubeLows.{low_in-later, lows-lawful, lows-match, lows-least}
 use Rattle.cpg_cube.proofs.CubeLaws.{least_match}
 use Rattle.cpg_table.specs.Table.{Column, times_in}
-use Rattle.cpg_table.specs.Merged.{IsLeastMatch, IsColumn, AreMet, AreOrdered, IsMerged, IsWider, AreMergeable, IsMergeOf}
-use Rattle.cpg_table.specs.Merging.{all_shorn, IsShorn, IsJoinOf, TouchAt, AreSettled, low_of_value, lows_along, AreByLows}
+use Rattle.cpg_table.specs.Merged.{IsColumn, AreMet, AreOrdered, IsMerged, IsWider, AreMergeable, IsMergeOf}
+use Rattle.cpg_table.specs.Merging.{all_shorn, IsJoinOf, TouchAt, AreSettled, low_of_value, lows_along, AreByLows}
 use Rattle.cpg_table.proofs.MergingCubes.{high_in-later}
 use Rattle.cpg_table.proofs.MergingPairs.{IsGood, matches_wider, low-le-high, high_in-top}
 use Rattle.cpg_table.proofs.MergingLists.{AreGood, joins_through}

@@ -1,5 +1,5 @@
 -- Columns with keys, sorted by these, and the columns alone.
-use Rattle.std.proofs.Common.{ℕ, ◌≡◌, Bool, false, List, map, get_or, All, AllPairs, IsPermutation, arith, sym, ap₂, ◌∙◌, subst}
+use Rattle.std.proofs.Common.{ℕ, ◌≡◌, Bool, false, List, map, get_or, All, IsPermutation, arith, sym, ap₂, ◌∙◌}
 use Rattle.std.specs.Ordering.{nat_cmp, is_lt}
 use Rattle.std.specs.Cmp.{IsStrictWeakOrder}
 use Rattle.std.specs.Cmp.Lexicographic.{slice_cmp}

@@ -1,25 +1,19 @@
 -- What joins do to lists of columns, and what is left of sorted columns when neighbours that touch are made one.
-use Rattle.std.proofs.Common.{ℕ, ◌+◌, ◌<◌, ◌≤◌, ◌≡◌, ◌≢◌, ◌⊎◌, Bool, true, false, cond, ◌&&◌, ◌==◌, List, [], ◌∷◌, ◌++◌, length, map, filter, get_or, Contains, All, AllPairs, IsPermutation, Equal, arith, refl, sym, ap, ap₂, ◌∙◌, subst, ⊎_elim, inl, inr, eqb-true, eq-eqb}
-use Rattle.std.specs.Ordering.{is_lt, is_eq, nat_cmp}
-use Rattle.std.proofs.lemmas.Bool.{cases_Bool, cases_eq, cases_lt, cond-true, cond-false, and_parts, and_from, both_ways, false_from_ne_true}
-use Rattle.std.proofs.lemmas.List.{length-map}
-use Rattle.std.proofs.lemmas.List.Elements.{All-contains, All-cons, All-head, All-tail, All-nil}
-use Rattle.std.proofs.lemmas.List.Kept.{AllPairs-cons}
+use Rattle.std.proofs.Common.{ℕ, ◌+◌, ◌<◌, ◌≤◌, ◌≡◌, ◌≢◌, ◌⊎◌, Bool, true, false, cond, ◌==◌, List, [], ◌∷◌, length, map, filter, Contains, All, Equal, arith, refl, sym, ap, ◌∙◌, subst, ⊎_elim, inl, inr, eqb-true}
+use Rattle.std.specs.Ordering.{is_eq}
+use Rattle.std.proofs.lemmas.Bool.{and_parts}
+use Rattle.std.proofs.lemmas.List.Elements.{All-cons, All-head, All-tail}
 use Rattle.cpg_base.specs.Graph.{Graph, process_count, IsVariable}
-use Rattle.cpg_base.proofs.Lists.{Contains-first, Contains-rest, Contains-cases, Contains-nil, Contains-filter}
-use Rattle.cpg_base.proofs.Pairs.{AllPairs-nil, AllPairs-first, AllPairs-rest, AllPairs-cons_by}
-use Rattle.cpg_order.specs.Scenario.{Scenario, IsScenario, number_of}
+use Rattle.cpg_base.proofs.Lists.{Contains-first, Contains-rest, Contains-cases}
+use Rattle.cpg_order.specs.Scenario.{Scenario}
 use Rattle.cpg_cube.specs.declared.literal.Literal.{Literal}
-use Rattle.cpg_cube.specs.Cube.{matches, low_in, high_in, top}
-use Rattle.cpg_cube.specs.Fit.{lows}
-use Rattle.cpg_cube.proofs.Boxes.{made_number}
-use Rattle.cpg_cube.proofs.CubeLows.{lows-lawful, lows-match}
+use Rattle.cpg_cube.specs.Cube.{matches, low_in, high_in}
 use Rattle.cpg_table.specs.Table.{Column, times_in}
 use Rattle.cpg_table.specs.Merged.{IsWider}
-use Rattle.cpg_table.specs.Merging.{without, raised, shorn, beside_cmp, column_cmp, is_followed, joined, walked, IsJoinOf, TouchAt}
-use Rattle.cpg_table.proofs.MergingCubes.{without-low, without-high, All-from_each}
-use Rattle.cpg_table.proofs.MergingPairs.{IsGood, wider_itself, wider_through, both, wider_first, wider_second, apart, either, matches_first, matches_second, good_both, low-le-high, both-low, both-high_here, matches_in_ranges, ranges_of_match, high_in-top}
-use Rattle.cpg_table.proofs.MergingOrder.{beside_equal, beside_from, between, equal_from, then_not_less, then_next, not_less-le}
+use Rattle.cpg_table.specs.Merging.{without, beside_cmp, is_followed, joined, walked, IsJoinOf, TouchAt}
+use Rattle.cpg_table.proofs.MergingCubes.{without-low, without-high}
+use Rattle.cpg_table.proofs.MergingPairs.{IsGood, wider_itself, wider_through, wider_first, wider_second, apart, either, matches_first, matches_second, good_both}
+use Rattle.cpg_table.proofs.MergingOrder.{beside_equal, equal_from}
 
 -- all columns are good
 abbrev pub AreGood : Graph → List Column → Type 0

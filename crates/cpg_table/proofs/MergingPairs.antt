@@ -1,8 +1,8 @@
 -- Two cubes that touch at a variable made one: it matches what either matches, and nothing matches both.
-use Rattle.std.proofs.Common.{ℕ, ◌+◌, ◌<◌, ◌≤◌, ◌≡◌, ◌≢◌, ◌⊎◌, Bool, true, false, not, ◌&&◌, ◌||◌, List, [], ◌∷◌, Contains, All, arith, refl, sym, ap, ◌∙◌, subst, ⊎_elim, inl, inr, leb-true}
+use Rattle.std.proofs.Common.{ℕ, ◌<◌, ◌≤◌, ◌≡◌, ◌≢◌, ◌⊎◌, true, false, not, List, [], ◌∷◌, Contains, All, arith, refl, sym, ◌∙◌, subst, ⊎_elim, inl, inr, leb-true}
 use Rattle.std.specs.Prelude.{nat_le}
 use Rattle.std.specs.List.{list_all}
-use Rattle.std.proofs.lemmas.Bool.{cases_eq, cases_lt, and_parts, or_from, or_left, or_right, or_cases, false_from_ne_true, not-true}
+use Rattle.std.proofs.lemmas.Bool.{cases_eq, cases_lt, and_parts, not-true}
 use Rattle.std.proofs.lemmas.List.Elements.{All-contains, All-filter, All-tail, All-head}
 use Rattle.std.proofs.lemmas.List.Kept.{AllPairs-filter}
 use Rattle.cpg_base.specs.Graph.{Graph, process_count, IsVariable}

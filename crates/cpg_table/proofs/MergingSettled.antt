@@ -1,8 +1,8 @@
 -- When sorted columns have been walked over at a variable no two of them touch there any more.
-use Rattle.std.proofs.Common.{ℕ, ◌+◌, ◌<◌, ◌≤◌, ◌≡◌, ◌≢◌, ◌⊎◌, Bool, true, false, not, cond, ◌==◌, List, [], ◌∷◌, ◌++◌, length, filter, get_or, Contains, All, AllPairs, Equal, arith, refl, sym, ap, ◌∙◌, subst, subst₂, ⊎_elim, inl, inr, eq-eqb}
+use Rattle.std.proofs.Common.{ℕ, ◌+◌, ◌<◌, ◌≤◌, ◌≡◌, ◌≢◌, ◌⊎◌, Bool, true, false, not, cond, ◌==◌, List, [], ◌∷◌, length, filter, get_or, Contains, AllPairs, Equal, arith, refl, sym, ap, ◌∙◌, subst, subst₂, ⊎_elim, eq-eqb}
 use Rattle.std.specs.Ordering.{is_lt, is_eq, nat_cmp}
 use Rattle.std.specs.List.Sorted.{IsSortedBy}
-use Rattle.std.proofs.lemmas.Bool.{cases_Bool, cases_eq, cases_lt, cases_order, and_from, both_ways}
+use Rattle.std.proofs.lemmas.Bool.{cases_eq, cases_lt, cases_order, and_from, both_ways}
 use Rattle.std.proofs.lemmas.Cmp.{tied_itself, tied_back, alike_right}
 use Rattle.std.proofs.lemmas.List.{length-map, get_or_default}
 use Rattle.std.proofs.lemmas.List.Elements.{All-contains, All-cons, All-head, All-tail, All-filter, Contains-get_or}
@@ -18,7 +18,7 @@ use Rattle.cpg_cube.specs.Fit.{lows}
 use Rattle.cpg_cube.proofs.Boxes.{made_number}
 use Rattle.cpg_cube.proofs.CubeLows.{lows-lawful, lows-match}
 use Rattle.cpg_table.specs.Table.{Column, times_in}
-use Rattle.cpg_table.specs.Merging.{without, beside_cmp, column_cmp, is_followed, joined, walked, TouchAt, IsSettledOn}
+use Rattle.cpg_table.specs.Merging.{without, beside_cmp, column_cmp, is_followed, joined, walked, IsSettledOn}
 use Rattle.cpg_table.proofs.MergingCubes.{without-low, without-high, without-low_here, without-high_here, same_cube}
 use Rattle.cpg_table.proofs.MergingPairs.{IsGood, low-le-high, both-low, both-high, both-high_here, matches_in_ranges, ranges_of_match, high_in-top}
 use Rattle.cpg_table.proofs.MergingOrder.{beside_total, beside_equal, beside_from, between, then_not_less, then_next, not_less-le, sorted_pairs}

@@ -1,5 +1,5 @@
 -- The steps of merging columns: their order doesn't matter, a step at one variable, and steps one after another.
-use Rattle.std.proofs.Common.{ℕ, ◌+◌, ◌<◌, ◌≤◌, ◌≡◌, ◌≢◌, ◌⊎◌, Bool, true, false, cond, ◌||◌, ◌==◌, List, [], ◌∷◌, length, map, filter, get_or, sum_by, Contains, All, IsPermutation, arith, refl, sym, ap, ap₂, ◌∙◌, subst, ⊎_elim, inl, inr}
+use Rattle.std.proofs.Common.{ℕ, ◌<◌, ◌≤◌, ◌≡◌, ◌≢◌, ◌⊎◌, true, false, cond, ◌==◌, List, [], ◌∷◌, length, filter, get_or, sum_by, Contains, All, IsPermutation, arith, refl, sym, ap, ap₂, ◌∙◌, subst, ⊎_elim, inl, inr}
 use Rattle.std.specs.Ordering.{is_lt}
 use Rattle.std.specs.List.Sorted.{IsSortedBy}
 use Rattle.std.specs.List.{list_any}
@@ -11,12 +11,11 @@ use Rattle.std.proofs.lemmas.List.Sums.{length-filter}
 use Rattle.cpg_base.specs.Graph.{Graph, process_count, IsVariable}
 use Rattle.cpg_base.proofs.Lists.{from_any_false, Contains-first, Contains-cases, Contains-nil, Contains-filter, Contains-filter_parts, Contains-map, Contains-map_parts}
 use Rattle.cpg_order.specs.Scenario.{Scenario, IsScenario}
-use Rattle.cpg_cube.specs.declared.literal.Literal.{Literal}
 use Rattle.cpg_cube.specs.Cube.{matches, top, low_in, is_whole}
 use Rattle.cpg_cube.specs.Fit.{IsCube, lows}
 use Rattle.cpg_cube.proofs.CubeLows.{low_in-none, met_by, lows-lawful, lows-match}
 use Rattle.cpg_table.specs.Table.{Column, times_in}
-use Rattle.cpg_table.specs.Merged.{IsWider, AreMergeable}
+use Rattle.cpg_table.specs.Merged.{AreMergeable}
 use Rattle.cpg_table.specs.Merging.{shorn, does_speak, is_followed, is_any_followed_from, is_any_followed, joined, column_cmp, walked, walked_over, all_shorn, IsShorn, IsJoinOf, IsSettledOn, IsPassed}
 use Rattle.cpg_table.proofs.MergingCubes.{All-from_each}
 use Rattle.cpg_table.proofs.MergingPairs.{IsGood, wider_itself, shorn_wider, matches_shorn, good_shorn}

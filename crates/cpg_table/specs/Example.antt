@@ -1,5 +1,5 @@
 -- A small row of columns.
-use Rattle.std.specs.Prelude.{ℕ, List, [], ◌∷◌}
+use Rattle.std.specs.Prelude.{ℕ, [], ◌∷◌}
 use Rattle.cpg_table.specs.Table.{Column}
 
 -- a time for a number of faults of process 0

@@ -1,4 +1,4 @@
-use Rattle.std.proofs.Common.{◌≡◌, ◌+◌, ◌<◌, ◌≤◌, ◌⊎◌, ℕ, length, ⊎_elim, inl, inr, ap, arith, rules}
+use Rattle.std.proofs.Common.{◌+◌, ◌<◌, ◌≤◌, length, ⊎_elim, inl, inr, ap, arith, rules}
 use Rattle.std.proofs.lemmas.Result.{IfOk-weaker}
 use Rattle.cpg_base.specs.Graph.{IsVariable, process_count, condition_count, value_variable}
 use Rattle.cpg_table.specs.Merging.{IsBetween, IsPassed}

@@ -1,4 +1,3 @@
-use Rattle.std.proofs.Common.{◌≡◌}
 use Rattle.cpg_table.specs.Merging.{IsPassed, IsBetween}
 use Rattle.cpg_table.proofs.merging.joined_over.Given as goal
 

@@ -1,4 +1,4 @@
-use Rattle.std.proofs.Common.{◌≡◌, ◌<◌, ℕ, List, All, IsPermutation, Result, Ok, Err, sym, ap, ap₂, ◌∙◌, subst}
+use Rattle.std.proofs.Common.{◌<◌, ℕ, List, All, IsPermutation, Result, Ok, Err, sym, ap₂, ◌∙◌, subst}
 use Rattle.std.specs.Result.{IfOk}
 use Rattle.std.proofs.lemmas.List.Sorted.{All-permutation}
 use Rattle.cpg_base.specs.Graph.{process_count}

@@ -1,5 +1,5 @@
-use Rattle.std.proofs.Common.{◌≡◌, ◌<◌, Some, arith, sym, rules}
-use Rattle.cpg_base.specs.Graph.{condition_count, condition_of}
+use Rattle.std.proofs.Common.{◌<◌, arith, rules}
+use Rattle.cpg_base.specs.Graph.{condition_count}
 use Rattle.cpg_order.proofs.Along.{condition_of_below}
 use Rattle.cpg_table.proofs.merging.push_lows.Goals as goal
 

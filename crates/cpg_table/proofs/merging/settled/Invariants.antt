@@ -1,4 +1,4 @@
-use Rattle.std.proofs.Common.{◌≡◌, vec_len}
+use Rattle.std.proofs.Common.{vec_len}
 use Rattle.cpg_table.specs.Merging.{IsShorn, IsJoinOf}
 use Rattle.cpg_table.proofs.merging.settled.Given as goal
 

@@ -1,6 +1,5 @@
-use Rattle.std.proofs.Common.{◌≡◌, List, [], ◌∷◌, sym, subst, rules}
+use Rattle.std.proofs.Common.{◌≡◌, [], ◌∷◌, sym, subst, rules}
 use Rattle.cpg_base.specs.Graph.{process_count}
-use Rattle.cpg_table.specs.Table.{Column}
 use Rattle.cpg_table.specs.Merged.{AreMergeable}
 use Rattle.cpg_table.specs.Example.{at_count}
 use Rattle.cpg_table.proofs.MergingExample.{example_mergeable}
