@@ -68,7 +68,7 @@ module _ (g : Graph) (plain : IsPlain g) (within : IsWithinLimits g) (order : Li
         let l : x < process_count g = omega (arith, items_are_processes g plain) in
         ap (λ vs. is_in vs v) (reach_at x l)
         ∙ same_truth (is_in (before order x) v) (is_in (flat_map (end_reach r) (before order x)) v)
-            (λ t. in_from_Contains _ v (forward x v (Contains-from_in (before order x) v t)))
-            (λ t. in_from_Contains _ v (backward x v l (Contains-from_in _ v t)))
-        ∙ ap (λ vs. is_in vs v) (sym (start_is x l))
+        (λ t. in_from_Contains _ v (forward x v (Contains-from_in (before order x) v t)))
+        (λ t. in_from_Contains _ v (backward x v l (Contains-from_in _ v t)))
+        ∙ ap (λ vs. is_in vs v) (sym (start_is x l));
   }

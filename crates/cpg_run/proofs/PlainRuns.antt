@@ -9,7 +9,8 @@ use Rattle.std.proofs.lemmas.List.Elements.{Contains-get_or, Contains-append_lef
 use Rattle.std.proofs.lemmas.List.Sums.{sum_by-append}
 use Rattle.cpg_base.specs.Numbers.{numbers_below, greatest}
 use Rattle.cpg_base.specs.Graph.{Graph, process_count, edge_count, condition_count, item_count, process_at, edge_at, node_of, source, target, inputs, outputs, is_disjunction, disjunctions, item_at, is_frozen, is_frozen_item}
-use Rattle.cpg_base.specs.Activity.{Plain, activation_within, activation_by, active, is_active, item_active, live, takes, value_of}
+use Rattle.cpg_base.specs.Activity.{activation_within, activation_by, active, is_active, item_active, live, takes, value_of}
+use Rattle.cpg_base.specs.declared.activation.Activation.TheVariants.{Plain}
 use Rattle.cpg_base.specs.Duration.{duration}
 use Rattle.cpg_base.specs.Limits.{IsWithinLimits}
 use Rattle.cpg_base.proofs.Lists.{filter_none, same_map, numbers-Contains, Contains-numbers, get_or-map-below, greatest_push, greatest-cons, greatest-le, greatest_above, Contains-map, Contains-map_parts, Contains-first, Contains-rest}
