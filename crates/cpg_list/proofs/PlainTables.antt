@@ -1,12 +1,12 @@
 -- The tables of a plain graph: on its one node each process starts, and nothing is sent or heard.
-use Rattle.std.proofs.Common.{◌≡◌, ◌≢◌, ℕ, zero, suc, ◌+◌, ◌<◌, ◌≤◌, Bool, true, ◌&&◌, ◌==◌, List, [], ◌∷◌, ◌++◌, All, Some, length, get_or, map, filter, sum_by, slice_get, IsPermutation, refl, sym, ap, ap₂, ◌∙◌, subst, arith, inl, inr, append-nil, eq-eqb, ne_eqb}
+use Rattle.std.proofs.Common.{◌≡◌, ◌≢◌, ℕ, zero, suc, ◌+◌, ◌<◌, ◌≤◌, true, ◌&&◌, ◌==◌, List, [], ◌∷◌, ◌++◌, All, Some, length, get_or, map, filter, sum_by, slice_get, IsPermutation, refl, sym, ap, ap₂, ◌∙◌, subst, arith, inl, inr, append-nil, eq-eqb, ne_eqb}
 use Rattle.std.specs.List.{flat_map}
 use Rattle.std.proofs.lemmas.Bool.{cases_lt, cond-true, cond-false}
-use Rattle.std.proofs.lemmas.List.{length-map, get_or-map}
+use Rattle.std.proofs.lemmas.List.{length-map, get_or-map, map-id}
 use Rattle.std.proofs.lemmas.List.FromFn.{fill_by_all}
 use Rattle.std.proofs.lemmas.List.Sums.{sum_by-cons}
 use Rattle.cpg_base.specs.Numbers.{numbers_below}
-use Rattle.cpg_base.specs.Graph.{Graph, Start, process_count, item_count, node_of, home, item_at, is_sent, is_heard_by}
+use Rattle.cpg_base.specs.Graph.{Graph, process_count, item_count, node_of, home, item_at, is_sent, is_heard_by}
 use Rattle.cpg_base.specs.Limits.{IsWithinLimits}
 use Rattle.cpg_base.proofs.Lists.{filter_none, same_filter, numbers-Contains, Contains-slice_get, Contains-cases, Contains-nil}
 use Rattle.cpg_base.proofs.Items.{item_at-start, start_not_sent}
@@ -14,7 +14,7 @@ use Rattle.cpg_base.proofs.Sums.{sum_by-map, sum_by-le_each}
 use Rattle.cpg_order.specs.Urgency.{before}
 use Rattle.cpg_order.specs.Reach.{views}
 use Rattle.cpg_table.specs.Table.{Row, NodeTable, table_at, columns_in, columns_of}
-use Rattle.cpg_table.specs.Shape.{items_of, processes_on, sent_from, heard_by}
+use Rattle.cpg_table.specs.Shape.{items_of, sent_from, heard_by}
 use Rattle.cpg_table.specs.Items.{starts_of, sends_of, hears_of}
 use Rattle.cpg_table.specs.GraphHead.{head_of}
 use Rattle.cpg_table.specs.Lawful.{IsLawfulRow, space_of, AreRowsOf, rows_of, IsTableOf, column_count, AreTablesOf}
@@ -30,10 +30,6 @@ use Rattle.cpg_list.specs.Views.{AreRowsByNumber, AreOfViews, entries_after}
 
 abbrev no_row : Row
 no_row = record { item = 0; columns = [] }
-
-map_same : (xs : List ℕ) → map (λ x. x) xs ≡ xs
-map_same [] = refl
-map_same (x ∷ xs) = ap (λ ys. x ∷ ys) (map_same xs)
 
 filter_true : (xs : List ℕ) → filter (λ x. true) xs ≡ xs
 filter_true [] = refl
@@ -103,7 +99,7 @@ module _ (g : Graph) (plain : IsPlain g) (within : IsWithinLimits g) where
     pub items : items_of rows ≡ numbers_below (process_count g)
     items = fill_by_all (λ k. k) (items_of rows) (process_count g) 0 (length-map rows (λ (row : Row). row.item) ∙ by.long)
         (λ k l. get_or-map (λ (row : Row). row.item) rows k no_row 0 (omega (arith, by.long)) ∙ (by.each k no_row l).item)
-        ∙ map_same (numbers_below (process_count g))
+        ∙ map-id (numbers_below (process_count g))
 
     pub node_items : length g.nodes ≡ 1 → items_of rows ≡ starts_of (head_of g) 0 ++ (sends_of (head_of g) 0 ++ hears_of (head_of g) 0)
     node_items one = items ∙ sym (ap₂ (λ xs ys. xs ++ ys) all_start (ap₂ (λ xs ys. xs ++ ys) (none_sends 0) (none_hears 0 (omega arith))) ∙ append-nil (numbers_below (process_count g)))
