@@ -3,3 +3,4 @@ pub mod Good
 pub mod Told
 pub mod Exactly
 pub mod Stepping
+pub mod LawfulRows

@@ -58,7 +58,7 @@ module _ (g : Graph) (few : process_count g ≤ 128) (order : List ℕ) (all : I
 
   module _ (within : IsWithinLimits g) where
     -- how late the processes so far may end
-    views_short : (i : ℕ) → i ≤ length order → (v : View) → Contains (views_along g (take i order)) v → v.time ≤ i * 2 ^ 40
+    pub views_short : (i : ℕ) → i ≤ length order → (v : View) → Contains (views_along g (take i order)) v → v.time ≤ i * 2 ^ 40
     views_short zero l v c = elim (Contains-cases (whole_view g) [] v c) [ inl e ↦ subst (λ (w : View). w.time ≤ 0 * 2 ^ 40) e (omega arith) | inr n ↦ absurd (Contains-nil v n) ]
     views_short (suc i) l v c =
         let h : i < length order = omega arith in
