@@ -1,17 +1,16 @@
 -- Tables of views have the times of the runs, and their cubes are supported.
-use Rattle.std.proofs.Common.{◌≡◌, ℕ, ◌+◌, ◌<◌, ◌≤◌, Bool, true, false, List, [], ◌∷◌, ◌++◌, length, get_or, take, map, filter, flat_map, Option, Some, None, option_to_list, sum_by, All, Contains, IsTrue, IsPermutation, ◌==◌, eq-eqb, refl, sym, ap, ap₂, ◌∙◌, subst, arith, inl, inr}
+use Rattle.std.proofs.Common.{◌≡◌, ℕ, ◌<◌, ◌≤◌, true, List, [], ◌∷◌, length, get_or, map, filter, Some, None, option_to_list, Contains, IsPermutation, ◌==◌, eq-eqb, refl, sym, ap, ◌∙◌, subst, arith, inl, inr}
 use Rattle.std.proofs.Math.ListN.{get_or-eq_default}
 use Rattle.std.proofs.lemmas.Bool.{cases_lt, and_from}
 use Rattle.std.proofs.lemmas.List.{length-map}
 use Rattle.std.proofs.lemmas.List.FromFn.{length-range_with_len}
 use Rattle.cpg_base.specs.Numbers.{numbers_below}
-use Rattle.cpg_base.specs.Graph.{Graph, process_count, item_count, item_at}
-use Rattle.cpg_base.specs.Duration.{duration}
+use Rattle.cpg_base.specs.Graph.{Graph, process_count}
 use Rattle.cpg_base.specs.Limits.{IsWithinLimits}
-use Rattle.cpg_base.specs.Scenario.{Scenario, IsScenario, fault_of, number_of}
+use Rattle.cpg_base.specs.Scenario.{Scenario, IsScenario, number_of}
 use Rattle.cpg_base.proofs.Lists.{get_or-map-below, Contains-map_parts, Contains-filter_parts, list_any_true, from_all, Contains-first}
 use Rattle.cpg_order.specs.Urgency.{place, before}
-use Rattle.cpg_order.proofs.Places.{place-lt, Contains-order, from_order, length_order}
+use Rattle.cpg_order.proofs.Places.{place-lt, Contains-order}
 use Rattle.cpg_cube.specs.Cube.{matches, holds}
 use Rattle.cpg_cube.proofs.CubeLows.{holds-low, holds-high}
 use Rattle.cpg_table.specs.Heard.{exactly, matching}
@@ -21,9 +20,9 @@ use Rattle.cpg_run.proofs.Hearing.{kept_exactly, heard_from}
 use Rattle.cpg_base.proofs.Items.{item_at-start}
 use Rattle.cpg_cube.specs.declared.literal.Literal.{Literal}
 use Rattle.cpg_table.specs.declared.entry.Entry.{Entry}
-use Rattle.cpg_table.specs.Table.{NodeTable, columns_of, times_in, at}
+use Rattle.cpg_table.specs.Table.{NodeTable, columns_of, times_in}
 use Rattle.cpg_table.specs.Merged.{IsMergeOf}
-use Rattle.cpg_run.specs.Run.{Times, IsRun}
+use Rattle.cpg_run.specs.Run.{Times}
 use Rattle.cpg_run.specs.Exact.{HasRunTimes}
 use Rattle.cpg_run.specs.Plain.{IsPlain, start_in_turn, times_in_turn, nothing_frozen}
 use Rattle.cpg_run.proofs.PlainRuns.{the_run, none_frozen, runs_in_turn, items_are_processes, in_before, same_node}
