@@ -4,3 +4,5 @@ pub mod Told
 pub mod Exactly
 pub mod Stepping
 pub mod PlainTables
+pub mod LawfulRows
+pub mod Assembled

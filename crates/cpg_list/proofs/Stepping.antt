@@ -1,9 +1,9 @@
 -- Steps of the loops over the places of an order.
-use Rattle.std.proofs.Common.{◌≡◌, ◌≢◌, ℕ, zero, suc, ◌+◌, ◌*◌, ◌^◌, ◌<◌, ◌≤◌, true, List, [], ◌∷◌, ◌++◌, length, get_or, take, drop, map, filter, fold, All, Contains, IsPermutation, refl, sym, ap, ap₂, ◌∙◌, subst, arith, inl, inr, length-append}
+use Rattle.std.proofs.Common.{◌≡◌, ℕ, zero, suc, ◌+◌, ◌*◌, ◌^◌, ◌<◌, ◌≤◌, true, List, [], ◌∷◌, ◌++◌, length, get_or, take, drop, All, Contains, IsPermutation, sym, ap, ap₂, ◌∙◌, subst, arith, inl, inr}
 use Rattle.std.specs.List.{flat_map}
 use Rattle.std.proofs.Math.Seq.{take-suc, get_or-append_seam}
 use Rattle.std.proofs.lemmas.Bool.{cases_lt}
-use Rattle.std.proofs.lemmas.List.{length-map, get_or_append_left, take-append-drop}
+use Rattle.std.proofs.lemmas.List.{get_or_append_left, take-append-drop}
 use Rattle.std.proofs.lemmas.List.Sums.{fold_push}
 use Rattle.std.proofs.lemmas.List.Elements.{Contains-get_or, Contains-append_left}
 use Rattle.cpg_base.specs.Numbers.{numbers_below}
@@ -11,17 +11,16 @@ use Rattle.cpg_base.specs.Graph.{Graph, process_count}
 use Rattle.cpg_base.specs.Limits.{IsWithinLimits}
 use Rattle.cpg_base.proofs.Durations.{duration_short}
 use Rattle.cpg_base.proofs.Lists.{numbers-Contains, Contains-cases, Contains-nil, Contains-flat_map_parts, Contains-map_parts}
-use Rattle.cpg_order.specs.Urgency.{place, before}
 use Rattle.cpg_order.proofs.Places.{from_order, length_order}
-use Rattle.cpg_order.specs.Scenario.{Scenario, IsScenario}
+use Rattle.cpg_order.specs.Scenario.{IsScenario}
 use Rattle.cpg_cube.specs.Fit.{IsCube, lows}
 use Rattle.cpg_cube.specs.Cube.{top, matches}
 use Rattle.cpg_cube.proofs.CubeLows.{lows-lawful, lows-match}
 use Rattle.cpg_table.specs.declared.entry.Entry.{Entry}
-use Rattle.cpg_table.specs.Table.{Row, times_in}
+use Rattle.cpg_table.specs.Table.{Row}
 use Rattle.cpg_table.specs.Merged.{AreMergeable}
 use Rattle.cpg_list.specs.declared.view.View.{View}
-use Rattle.cpg_list.specs.Views.{whole_view, extended, extensions, views_along, entry_of, entries_after, MayExtend, IsRowOf, AreRowsAlong, AreRowsByNumber}
+use Rattle.cpg_list.specs.Views.{whole_view, extended, extensions, views_along, entry_of, entries_after, MayExtend}
 use Rattle.cpg_list.proofs.Views.{times_here}
 use Rattle.cpg_list.proofs.Good.{IsView, views_are, view_ranges, view_met, not_yet}
 use Rattle.cpg_list.proofs.Exactly.{times_of_entries}
@@ -58,7 +57,7 @@ module _ (g : Graph) (few : process_count g ≤ 128) (order : List ℕ) (all : I
 
   module _ (within : IsWithinLimits g) where
     -- how late the processes so far may end
-    views_short : (i : ℕ) → i ≤ length order → (v : View) → Contains (views_along g (take i order)) v → v.time ≤ i * 2 ^ 40
+    pub views_short : (i : ℕ) → i ≤ length order → (v : View) → Contains (views_along g (take i order)) v → v.time ≤ i * 2 ^ 40
     views_short zero l v c = elim (Contains-cases (whole_view g) [] v c) [ inl e ↦ subst (λ (w : View). w.time ≤ 0 * 2 ^ 40) e (omega arith) | inr n ↦ absurd (Contains-nil v n) ]
     views_short (suc i) l v c =
         let h : i < length order = omega arith in
