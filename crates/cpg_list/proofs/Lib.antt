@@ -4,3 +4,4 @@ pub mod Told
 pub mod Exactly
 pub mod Stepping
 pub mod LawfulRows
+pub mod Greatest
