@@ -1,4 +1,4 @@
-use Rattle.std.proofs.Common.{◌≡◌, sym, subst}
+use Rattle.std.proofs.Common.{sym, subst}
 use Rattle.cpg_base.specs.Graph.{process_count}
 use Rattle.cpg_order.proofs.Places.{length_order}
 use Rattle.cpg_run.proofs.PlainWorst.{worst_of_none, no_excess_of_none}

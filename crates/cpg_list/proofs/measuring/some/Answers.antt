@@ -1,6 +1,6 @@
-use Rattle.std.proofs.Common.{◌≡◌, ◌≤◌, ◌<◌, ◌-◌, ◌∙◌, sym, ap, subst, Some, length, get_or, arith}
+use Rattle.std.proofs.Common.{◌≡◌, ◌-◌, ◌∙◌, sym, ap, subst, Some, arith}
 use Rattle.cpg_base.specs.Graph.{process_count}
-use Rattle.cpg_base.specs.Scenario.{IsScenario, zero_scenario}
+use Rattle.cpg_base.specs.Scenario.{IsScenario}
 use Rattle.cpg_order.proofs.Places.{from_order}
 use Rattle.cpg_run.specs.Finish.{IsExcess}
 use Rattle.cpg_run.specs.Plain.{IsLastOf, nothing_frozen, times_in_turn}
