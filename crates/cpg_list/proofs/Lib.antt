@@ -6,3 +6,4 @@ pub mod Stepping
 pub mod PlainTables
 pub mod LawfulRows
 pub mod Assembled
+pub mod Greatest
