@@ -4,6 +4,7 @@ pub mod Told
 pub mod Exactly
 pub mod Stepping
 pub mod PlainTables
+pub mod PlainNodes
 pub mod LawfulRows
 pub mod Assembled
 pub mod Greatest

@@ -1,5 +1,5 @@
 -- The views of a process of a plain graph: the ways in which the processes before it may have failed.
-use Rattle.std.specs.Prelude.{ℕ, ◌+◌, ◌-◌, ◌^◌, ◌≢◌, ◌≤◌, ◌<◌, ◌≡◌, ◌==◌, if◌then◌else◌, List, [], ◌∷◌, length, get_or, map, fold, All}
+use Rattle.std.specs.Prelude.{ℕ, ◌+◌, ◌-◌, ◌^◌, ◌≢◌, ◌≤◌, ◌<◌, ◌≡◌, ◌==◌, if◌then◌else◌, List, [], ◌∷◌, Some, length, slice_get, get_or, map, fold, All}
 use Rattle.std.specs.List.{flat_map}
 use Rattle.cpg_base.specs.Numbers.{numbers_below}
 use Rattle.cpg_base.specs.Graph.{Graph, process_count}
@@ -10,6 +10,9 @@ use Rattle.cpg_cube.specs.Cover.{narrowed_by}
 use Rattle.cpg_order.specs.Urgency.{before}
 use Rattle.cpg_table.specs.declared.entry.Entry.{Entry}
 use Rattle.cpg_table.specs.Table.{Row, NodeTable, columns_of}
+use Rattle.cpg_table.specs.GraphHead.{head_of}
+use Rattle.cpg_table.specs.Lawful.{Tables, AreTablesOf}
+use Rattle.cpg_table.specs.Valid.{hear_rows}
 use Rattle.cpg_table.specs.Merged.{IsMergeOf}
 use Rattle.cpg_table.specs.Heard.{exactly}
 use Rattle.cpg_list.specs.declared.view.View.{View}
@@ -72,3 +75,10 @@ pub record AreRowsAlong (g : Graph) (order : List ℕ) (count : ℕ) (rows : Lis
 pub record AreRowsByNumber (g : Graph) (order : List ℕ) (count : ℕ) (rows : List Row) : Type 0 where
   pub long : length rows ≡ count
   pub each : (p : ℕ) (d : Row) → p < count → IsRowOf g order p (get_or rows p d)
+
+-- tables of views under the graph's head; nothing is heard
+pub record ArePlainTables (g : Graph) (order : List ℕ) (t : Tables) : Type 0 where
+  pub head : t.head ≡ head_of g
+  pub lawful : AreTablesOf (head_of g) t.nodes
+  pub views : AreOfViews g order t.nodes
+  pub hears : (node : ℕ) (u : NodeTable) → slice_get t.nodes node ≡ Some u → u.hears ≡ hear_rows g t.nodes node
