@@ -1,37 +1,30 @@
 -- Tables of views, with the closed forms of the greatest finish and excess, are what a builder answers.
-use Rattle.std.proofs.Common.{◌≡◌, ◌≢◌, ℕ, ◌≤◌, ◌<◌, Bool, true, false, ◌&&◌, ◌==◌, List, [], ◌∷◌, length, get_or, take, drop, Option, Some, None, slice_get, IsTrue, IsPermutation, refl, sym, ap, ◌∙◌, subst, arith, inl, inr, ◌⊎◌, ne_eqb}
-use Rattle.std.specs.List.{list_any}
+use Rattle.std.proofs.Common.{◌≡◌, ◌≢◌, ℕ, ◌≤◌, ◌<◌, Bool, true, false, ◌&&◌, ◌==◌, List, length, take, drop, Option, Some, None, refl, sym, ap, ◌∙◌, subst, arith, inl, inr, ne_eqb}
 use Rattle.std.proofs.lemmas.Bool.{cond-false, true≢false, cases_eq}
-use Rattle.cpg_base.specs.Graph.{Graph, process_count, item_count, item_at, is_sent, home}
+use Rattle.cpg_base.specs.Graph.{Graph, process_count, item_count}
 use Rattle.cpg_base.specs.Limits.{IsWithinLimits}
-use Rattle.cpg_base.specs.WellFormed.{WellFormed, HasSenderSlots}
+use Rattle.cpg_base.specs.WellFormed.{HasSenderSlots}
 use Rattle.cpg_base.proofs.Items.{start_not_sent}
 use Rattle.cpg_base.proofs.Lists.{list_any_false}
 use Rattle.cpg_base.proofs.Within.{well_formed}
-use Rattle.cpg_order.specs.Urgency.{IsTopological, before}
+use Rattle.cpg_order.specs.Urgency.{IsTopological}
 use Rattle.cpg_order.specs.Reach.{reach_of, views}
-use Rattle.cpg_order.specs.Scenario.{Scenario, IsScenario}
+use Rattle.cpg_order.specs.Scenario.{Scenario}
 use Rattle.cpg_cube.specs.Cube.{matches}
 use Rattle.cpg_table.specs.declared.entry.Entry.{Entry}
-use Rattle.cpg_table.specs.Table.{Row, NodeTable, columns_of}
-use Rattle.cpg_table.specs.Valid.{breaks, breaks_at, breaks_rule, breaks_present, hear_rows}
-use Rattle.cpg_table.specs.GraphHead.{head_of}
-use Rattle.cpg_table.specs.Lawful.{AreTablesOf}
-use Rattle.cpg_table.specs.Laws.{TablesHaveShape}
-use Rattle.cpg_run.specs.declared.built.Built.{Built}
-use Rattle.cpg_run.specs.Built.{IsBuiltFor}
+use Rattle.cpg_table.specs.Table.{NodeTable, columns_of}
+use Rattle.cpg_table.specs.Valid.{breaks_at, breaks_rule, breaks_present}
 use Rattle.cpg_run.specs.Exact.{IsFormed, IsExact}
-use Rattle.cpg_run.specs.Finish.{IsWorst, IsExcess, excess_in_run}
-use Rattle.cpg_run.specs.Laws.{Given, Keeps, KeepsRules, NothingIsLate}
+use Rattle.cpg_run.specs.Finish.{IsExcess}
+use Rattle.cpg_run.specs.Laws.{Given, Keeps, KeepsRules}
 use Rattle.cpg_run.specs.Supported.{Supported}
-use Rattle.cpg_run.specs.Run.{Times, IsRun}
 use Rattle.cpg_run.specs.Plain.{IsPlain, nothing_frozen}
 use Rattle.cpg_run.proofs.PlainRuns.{items_are_processes, frozen_times}
-use Rattle.cpg_run.proofs.PlainReach.{reach_before, reach_at, reached_before}
+use Rattle.cpg_run.proofs.PlainReach.{reach_before, reach_at}
 use Rattle.cpg_run.proofs.Rules.{run_tables_keep_rules}
 use Rattle.cpg_run.proofs.Rule1.{keeps-1}
 use Rattle.cpg_run.proofs.Rule4.{keeps-4}
-use Rattle.cpg_list.specs.Views.{entries_after, AreOfViews, IsRowOf}
+use Rattle.cpg_list.specs.Views.{AreOfViews, IsRowOf}
 use Rattle.cpg_list.proofs.Exactly.{have_times, supported}
 use Rattle.cpg_list.proofs.LawfulRows.{columns_formed, columns_by_views}
 
@@ -56,7 +49,7 @@ module _ (g : Graph) (plain : IsPlain g) (within : IsWithinLimits g) (order : Li
     formed = well_formed g within no_senders;
     topological = topological;
     frozen_times = frozen_times g plain within order topological.all;
-    times = have_times g plain within order topological.all tables of
+    times = have_times g plain within order topological.all tables of;
   }
 
   row_of : (p : ℕ) → p < process_count g → IsRowOf g order p (record { item = p; columns = columns_of tables p })
@@ -70,7 +63,7 @@ module _ (g : Graph) (plain : IsPlain g) (within : IsWithinLimits g) (order : Li
     times = have_times g plain within order topological.all tables of;
     formed = λ x h. subst (λ vs. IsFormed g order vs (columns_of tables x)) (sym (reach_at g plain within order topological.all x (is_process x h)))
         (columns_formed g plain within order topological.all x (is_process x h) (record { item = x; columns = columns_of tables x }) (row_of x (is_process x h)));
-    merged = λ p l. (of.rows p l).merged
+    merged = λ p l. (of.rows p l).merged;
   }
 
   pub within_views : (x : ℕ) → x < item_count g → length (columns_of tables x) ≤ views g (reach_of (reach_before g order) x)
@@ -92,21 +85,28 @@ module _ (g : Graph) (plain : IsPlain g) (within : IsWithinLimits g) (order : Li
   rules_kept rule not_due = elim (cases_eq rule 1) [
     | inl e ↦ subst (λ r. Keeps r g tables) (sym e) (keeps-1 g order (nothing_frozen g) tables given sup)
     | inr a ↦ elim (cases_eq rule 2) [
-    | inl e ↦ subst (λ r. Keeps r g tables) (sym e) kept.single
-    | inr b ↦ elim (cases_eq rule 3) [
-    | inl e ↦ subst (λ r. Keeps r g tables) (sym e) kept.present
-    | inr d ↦ elim (cases_eq rule 4) [
-    | inl e ↦ subst (λ r. Keeps r g tables) (sym e) (keeps-4 g order (nothing_frozen g) tables given sup)
-    | inr f ↦ elim (cases_eq rule 5) [
-    | inl e ↦ subst (λ r. Keeps r g tables) (sym e) kept.inputs
-    | inr h ↦ elim (cases_eq rule 6) [
-    | inl e ↦ subst (λ r. Keeps r g tables) (sym e) kept.processor
-    | inr i ↦ elim (cases_eq rule 7) [
-    | inl e ↦ subst (λ r. Keeps r g tables) (sym e) kept.slot
-    | inr j ↦ elim (cases_eq rule 8) [
-    | inl e ↦ subst (λ r. Keeps r g tables) (sym e) kept.frozen_once
-    | inr k ↦ other rule a b d f h i j k not_due
-    ] ] ] ] ] ] ] ]
+      | inl e ↦ subst (λ r. Keeps r g tables) (sym e) kept.single
+      | inr b ↦ elim (cases_eq rule 3) [
+        | inl e ↦ subst (λ r. Keeps r g tables) (sym e) kept.present
+        | inr d ↦ elim (cases_eq rule 4) [
+          | inl e ↦ subst (λ r. Keeps r g tables) (sym e) (keeps-4 g order (nothing_frozen g) tables given sup)
+          | inr f ↦ elim (cases_eq rule 5) [
+            | inl e ↦ subst (λ r. Keeps r g tables) (sym e) kept.inputs
+            | inr h ↦ elim (cases_eq rule 6) [
+              | inl e ↦ subst (λ r. Keeps r g tables) (sym e) kept.processor
+              | inr i ↦ elim (cases_eq rule 7) [
+                | inl e ↦ subst (λ r. Keeps r g tables) (sym e) kept.slot
+                | inr j ↦ elim (cases_eq rule 8) [
+                  | inl e ↦ subst (λ r. Keeps r g tables) (sym e) kept.frozen_once
+                  | inr k ↦ other rule a b d f h i j k not_due
+                ]
+              ]
+            ]
+          ]
+        ]
+      ]
+    ]
+  ]
 
   pub due_kept : (excess : ℕ) (excess_in : Scenario) (excess_by : Option ℕ) → IsExcess g order order (nothing_frozen g) excess excess_in excess_by → excess ≡ 0 → Keeps 9 g tables
   due_kept excess excess_in excess_by is none = kept.due (λ s t lawful run. let most = is.greatest s t lawful run in omega (arith, most))

@@ -1,5 +1,5 @@
 -- A count of which a cube tells nothing can always be told.
-use Rattle.std.proofs.Common.{◌≡◌, ◌≢◌, ℕ, ◌≤◌, false, ◌==◌, List, [], ◌∷◌, All, Some, None, Contains, nat_le, refl, sym, ap, ◌∙◌, arith, eqb-true, le-leb, suc, ◌+◌, ◌++◌, map, append_assoc}
+use Rattle.std.proofs.Common.{◌≡◌, ◌≢◌, ℕ, ◌==◌, List, [], ◌∷◌, All, Some, nat_le, refl, sym, ap, ◌∙◌, arith, eqb-true, le-leb, suc, ◌+◌, ◌++◌, map, append_assoc}
 use Rattle.std.proofs.lemmas.Bool.{cond-true, cond-false, false_from_ne_true}
 use Rattle.cpg_base.specs.Numbers.{numbers_below}
 use Rattle.cpg_base.proofs.Lists.{map_below_push}

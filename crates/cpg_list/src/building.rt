@@ -14,7 +14,12 @@ use cpg_table::{Head, NodeTable, Tables, head_of};
 use std::alloc::Global;
 
 /// The table of the one node.
-fn node_table(alloc: Global, problem: &Problem, order: &Order, head: &Head) -> Result<NodeTable, OutOfMemory>
+fn node_table(
+    alloc: Global,
+    problem: &Problem,
+    order: &Order,
+    head: &Head,
+) -> Result<NodeTable, OutOfMemory>
     requires plain { IsPlain problem.now }
     requires topological { IsTopological problem.now order.now }
     requires one { length problem.now.nodes ≡ 1 }

@@ -2,9 +2,9 @@
 #![tactic(auto)]
 
 mod building;
+mod listing;
 mod measuring;
 mod rows;
 mod view;
 
-pub use building::tables_of;
-pub use measuring::{Measure, measured};
+pub use listing::list;

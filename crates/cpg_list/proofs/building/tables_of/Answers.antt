@@ -1,5 +1,4 @@
-use Rattle.std.proofs.Common.{◌≡◌, ◌∙◌, List, length, Vec, Global, None, Some, sym, ap, subst, arith}
-use Rattle.std.specs.Option.{IfNone, IfSome}
+use Rattle.std.proofs.Common.{◌≡◌, ◌∙◌, length, Vec, Global, sym, ap, subst, arith}
 use Rattle.cpg_table.specs.Table.{NodeTable}
 use Rattle.cpg_table.specs.Lawful.{IsTableOf, AreTablesOf}
 use Rattle.cpg_list.proofs.PlainNodes.{ArePlainNodes, no_node, pushed_table}

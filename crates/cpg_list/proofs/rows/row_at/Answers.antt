@@ -1,4 +1,4 @@
-use Rattle.std.proofs.Common.{◌≡◌, ◌∙◌, sym, ap, subst, map, length, IsPermutation, arith}
+use Rattle.std.proofs.Common.{◌∙◌, sym, ap, subst, map, IsPermutation, arith}
 use Rattle.cpg_base.specs.Numbers.{numbers_below}
 use Rattle.cpg_base.specs.Graph.{process_count}
 use Rattle.cpg_table.specs.Merged.{AreMergeable}

@@ -1,4 +1,4 @@
-use Rattle.std.proofs.Common.{◌≡◌, ◌≤◌, ◌*◌, ◌^◌, All, take}
+use Rattle.std.proofs.Common.{◌≡◌, take}
 use Rattle.cpg_list.specs.Views.{views_along, AreRowsAlong}
 use Rattle.cpg_list.proofs.rows.rows_along.Given as goal
 

@@ -1,4 +1,4 @@
-use Rattle.std.proofs.Common.{◌≡◌, ◌<◌, ◌∙◌, ◌∷◌, [], sym, ap, subst, length, get_or, arith, length-append}
+use Rattle.std.proofs.Common.{◌∙◌, ◌∷◌, [], sym, ap, subst, length, get_or, arith, length-append}
 use Rattle.cpg_list.specs.Views.{IsRowOf}
 use Rattle.cpg_list.proofs.Stepping.{pushed}
 use Rattle.cpg_list.proofs.rows.rows_by_number.Goals as goal
