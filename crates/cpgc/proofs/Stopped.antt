@@ -1,6 +1,6 @@
 -- What each status says of the words and of the shelf.
-use Rattle.std.proofs.Common.{arith, refl, subst, ℕ, ◌≡◌, ◌∙◌, List, Option, Some, None, sym, inl, inr}
-use Rattle.std.specs.Prelude.{◌≢◌, ◌⊎◌}
+use Rattle.std.proofs.Common.{arith, refl, subst, ℕ, ◌≡◌, ◌∙◌, Option, Some, None, sym, inl, inr}
+use Rattle.std.specs.Prelude.{◌⊎◌}
 use Rattle.cpg_io.specs.Causes.{Rose}
 use Rattle.cpg_words.specs.Parts.{Text}
 use Rattle.cpg_words.specs.declared.command.Command.{Command}

@@ -1,5 +1,5 @@
 -- When a run stops for a reason: what is then true of the words and of the shelf.
-use Rattle.std.specs.Prelude.{ℕ, ◌≡◌, ◌<◌, List, Option, Some, None, IfSome, Result, Ok, Err, IsOk, length, ⊤}
+use Rattle.std.specs.Prelude.{ℕ, ◌≡◌, ◌<◌, List, Option, Some, None, IfSome, Err, IsOk, length, ⊤}
 use Rattle.cpg_io.specs.Causes.{Rose}
 use Rattle.cpg_words.specs.Parts.{Text}
 use Rattle.cpg_words.specs.Forms.{command_of}
