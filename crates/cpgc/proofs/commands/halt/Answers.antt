@@ -1,0 +1,10 @@
+use Rattle.std.proofs.Common.{All, ap, map, string_bytes, subst}
+use Rattle.cpg_words.specs.FileWords.{file_words_if}
+use Rattle.cpgc.proofs.Memory.{memory_stops}
+use Rattle.cpgc.proofs.commands.halt.Goals as goal
+
+pub command_halt-requires : goal.command_halt-requires
+command_halt-requires g c = subst (All (λ w. g.S.Shelf.may_fetch c.args.shelf.now w)) (ap file_words_if c.in-Ok.ensures.command) c.requires
+
+pub returns-in-Err-OutOfMemory : goal.returns-in-Err-OutOfMemory
+returns-in-Err-OutOfMemory g c = memory_stops (record { stands = g.S.Shelf.stands c.args.shelf.now; given = g.S.Shelf.given c.args.shelf.now; before = g.S.Shelf.faults c.args.shelf.now; now = g.S.Shelf.faults c.args.shelf.now }) (map string_bytes c.args.words.now)
