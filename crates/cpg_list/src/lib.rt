@@ -4,7 +4,9 @@
 mod building;
 mod listing;
 mod measuring;
+mod plain;
 mod rows;
 mod view;
 
 pub use listing::list;
+pub use plain::is_plain;

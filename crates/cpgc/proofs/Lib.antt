@@ -1,2 +1,4 @@
-pub mod Memory
-pub mod Stopped
+pub mod Named
+pub mod Statuses
+pub mod Excluded
+pub mod Shown

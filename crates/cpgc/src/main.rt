@@ -5,7 +5,10 @@ mod answer;
 mod commands;
 mod halt;
 mod lines;
+mod refusals;
 mod run;
+#[cfg(test)]
+mod tests;
 
 use crate::halt::Halt;
 use cpg_io::{FileShelf, StreamSink};
@@ -35,7 +38,7 @@ fn status(rt: &HostRuntime) -> u8 {
             let mut shelf = FileShelf::new(rt);
             run::run(rt.alloc(), words.as_slice(), &mut shelf, &mut out, &mut err)
         }
-        Err(halt) => answer::stop(rt.alloc(), halt, &mut err),
+        Err(halt) => answer::stop(rt.alloc(), &halt, &mut err),
     }
 }
 
