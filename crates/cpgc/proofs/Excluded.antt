@@ -86,7 +86,7 @@ module _ (g : Graph) (order : List ℕ) (top : IsTopological g order) where
 
 module _ (seen : Seen) (told : Option Text) (bytes : Text) (a : Admission) (tells : told ≡ Some bytes) (listable : AreListable bytes a) (still : Rose seen.before seen.now → ⊥) where
   faulty_left : (h : Halt) (fault : ReadFault) → h ≡ halt_of_reading fault → (fault ≢ ReadFault.OutOfMemory → ⊥) → status_of h ≡ 8
-  faulty_left h fault e no = ap status_of e ∙ go fault no
+  faulty_left h fault e never = ap status_of e ∙ go fault never
     where
       is_memory : ReadFault → Bool
       is_memory ReadFault.OutOfMemory = true

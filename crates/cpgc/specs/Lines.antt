@@ -58,13 +58,17 @@ name_of g p = (process_at g p).name
 abbrev pub node_name : Graph → ℕ → List ℕ
 node_name g node = get_or g.nodes node []
 
+-- a process and a scenario
+abbrev pub case_text : Graph → ℕ → Scenario → List ℕ
+case_text g p s = name_of g p ++ codes " in " ++ scenario_text g s
+
 -- the processes around a cycle
 abbrev pub cycle_text : Graph → List ℕ → List ℕ
 cycle_text g walk = codes "6 cycle" ++ flat_map (λ p. codes " " ++ name_of g p) walk
 
 -- a join with two live inputs
 abbrev pub alternatives_text : Graph → ℕ → Scenario → List ℕ
-alternatives_text g p s = codes "7 alternatives " ++ name_of g p ++ codes " in " ++ scenario_text g s
+alternatives_text g p s = codes "7 alternatives " ++ case_text g p s
 
 -- a refusal: its number, its kind, and where it is
 abbrev pub refusal_text : Refusal → List ℕ
@@ -86,7 +90,7 @@ refused_text refusal = codes "refused " ++ refusal_text refusal
 
 -- an end past its due
 abbrev pub late_text : Graph → Scenario → ℕ → ℕ → List ℕ
-late_text g s p time = codes "late " ++ decimal time ++ codes " by " ++ name_of g p ++ codes " in " ++ scenario_text g s
+late_text g s p time = codes "late " ++ decimal time ++ codes " by " ++ case_text g p s
 
 -- an item: what starts, is sent or is told
 abbrev pub item_text : Graph → ℕ → List ℕ

@@ -1,7 +1,7 @@
 //! The line of a run that stops without an output.
 ghost use Rattle.std.specs.Prelude.{◌≡◌, ◌<◌, ◌++◌, OnOk, IfOk, codes, string_bytes};
 ghost use Rattle.cpg_base.specs.Graph.{item_count};
-ghost use Rattle.cpgc.specs.Lines.{item_text, late_text, line_of, name_of, reason_text, IsNamed, HasLengths};
+ghost use Rattle.cpgc.specs.Lines.{case_text, item_text, late_text, line_of, name_of, reason_text, IsNamed, HasLengths};
 
 use crate::halt::Halt;
 use crate::refusals::write_refused;
@@ -19,6 +19,22 @@ pub fn name_of(problem: &Problem, process: u32) -> &str
     }
 }
 
+/// A process and a scenario.
+pub fn write_case(
+    out: &mut String,
+    problem: &Problem,
+    process: u32,
+    scenario: &Scenario,
+) -> Result<(), OutOfMemory>
+    requires { HasLengths problem.now scenario.now }
+    ensures { OnOk result (string_bytes out.new ≡ string_bytes out.old ++ case_text problem.now process scenario.now) }
+{
+    let name = name_of(problem, process);
+    let text = scenario_text(*out.allocator(), problem, scenario)?;
+    write!(out, "{name} in {text}")?;
+    Ok(())
+}
+
 /// A process's end past its due.
 fn write_late(
     out: &mut String,
@@ -30,10 +46,8 @@ fn write_late(
     requires { HasLengths problem.now scenario.now }
     ensures { OnOk result (string_bytes out.new ≡ string_bytes out.old ++ late_text problem.now scenario.now process finish) }
 {
-    let name = name_of(problem, process);
-    let text = scenario_text(*out.allocator(), problem, scenario)?;
-    write!(out, "late {finish} by {name} in {text}")?;
-    Ok(())
+    write!(out, "late {finish} by ")?;
+    write_case(out, problem, process, scenario)
 }
 
 /// An item: what starts, is sent or is told.

@@ -1,6 +1,9 @@
 //! `cpgc`, a design-time scheduler for time-triggered controllers.
 #![tactic(auto)]
 
+ghost use Rattle.std.specs.Prelude.{IfErr};
+ghost use Rattle.cpgc.specs.Lines.{IsNamed};
+
 mod answer;
 mod commands;
 mod halt;
@@ -16,7 +19,9 @@ use std::io::ErrorKind;
 use std::process::ExitCode;
 
 /// The words after the program's name, or why there are none: one isn't UTF-8, or memory ran out.
-fn words(rt: &HostRuntime) -> Result<Vec<String>, Halt> {
+fn words(rt: &HostRuntime) -> Result<Vec<String>, Halt>
+    ensures { IfErr result IsNamed }
+{
     let args = match std::env::args(rt) {
         Ok(args) => args,
         Err(error) => {

@@ -3,10 +3,9 @@ ghost use Rattle.std.specs.Prelude.{◌≡◌, ◌++◌, OnOk, codes, flat_map, 
 ghost use Rattle.cpgc.specs.Lines.{alternatives_text, cycle_text, key_text, name_of, node_name, place_text, refusal_text, refused_text, table_text, what_text, HasLengths, IsNamedRefusal};
 
 use crate::halt::Refusal;
-use crate::lines::name_of;
+use crate::lines::{name_of, write_case};
 use cpg_base::{OutOfMemory, Problem, Scenario};
 use cpg_reader::{Key, Place, Table, What};
-use cpg_scenario::scenario_text;
 use std::alloc::AllocError;
 
 fn key_text(key: Key) -> &'static str
@@ -92,9 +91,8 @@ fn write_alternatives(
     requires { HasLengths problem.now scenario.now }
     ensures { OnOk result (string_bytes out.new ≡ string_bytes out.old ++ alternatives_text problem.now process scenario.now) }
 {
-    let name = name_of(problem, process);
-    let text = scenario_text(*out.allocator(), problem, scenario)?;
-    write!(out, "7 alternatives {name} in {text}")?;
+    out.push_str("7 alternatives ")?;
+    write_case(out, problem, process, scenario)?;
     Ok(())
 }
 
