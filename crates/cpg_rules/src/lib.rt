@@ -3,5 +3,7 @@
 
 mod admission;
 mod slots;
+#[cfg(test)]
+mod tests;
 
 pub use admission::{Admitted, Refused, RuleFault, admit};
