@@ -5,6 +5,8 @@ mod building;
 mod listing;
 mod measuring;
 mod rows;
+#[cfg(test)]
+mod tests;
 mod view;
 
 pub use listing::list;
