@@ -8,4 +8,4 @@ pub mod PlainNodes
 pub mod LawfulRows
 pub mod Assembled
 pub mod Greatest
-mod Few
+mod Pair

@@ -6,6 +6,8 @@ mod listing;
 mod measuring;
 mod plain;
 mod rows;
+#[cfg(test)]
+mod tests;
 mod view;
 
 pub use listing::list;
