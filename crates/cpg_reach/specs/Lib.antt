@@ -1,0 +1,5 @@
+pub mod Variables
+pub mod Tested
+pub mod WaysTable
+pub mod Counter
+pub mod Walked

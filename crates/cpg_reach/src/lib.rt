@@ -1,0 +1,10 @@
+//! How many columns the rows of an item need: the variables that its time may depend on, and the ways that these have.
+#![tactic(auto)]
+
+mod conditions;
+mod counting;
+mod reaches;
+mod sending;
+mod starting;
+mod variables;
+mod ways;
