@@ -54,10 +54,11 @@ fn is_count_free(
     requires values { length scenario.now.values ≡ condition_count admitted.now.graph }
     ensures { result ≡ is_count_free admitted.now.graph reached.now scenario.now.values process }
 {
+    let guards = admitted.guards();
     if !reached.has(process) {
         return false;
     }
-    admitted.guards().active(process, scenario)
+    guards.active(process, scenario)
 }
 
 /// Whether a condition may be true: its value is among the variables, and its process is active.
@@ -71,11 +72,12 @@ fn is_value_free(
     requires values { length scenario.now.values ≡ condition_count admitted.now.graph }
     ensures { result ≡ is_value_free admitted.now.graph reached.now scenario.now.values condition }
 {
+    let guards = admitted.guards();
     if !reached.has(FIRST_VALUE + condition) {
         return false;
     }
     let process = admitted.problem().process_of(condition);
-    admitted.guards().active(process, scenario)
+    guards.active(process, scenario)
 }
 
 /// How many processes may have faults.
@@ -84,8 +86,9 @@ fn free_counts(admitted: &Admitted, reached: &Variables, scenario: &Scenario) ->
     ensures counts { result ≡ free_counts admitted.now.graph reached.now scenario.now.values }
     ensures few { result ≤ 128 }
 {
+    let count = admitted.problem().processes().len() as u32;
     let mut counts = 0;
-    for process in 0..admitted.problem().processes().len() as u32 {
+    for process in 0..count {
         if is_count_free(admitted, reached, process, scenario) {
             counts += 1;
         }

@@ -16,6 +16,7 @@ pub fn node_of(problem: &Problem, process: u32) -> u32
     requires { process < process_count problem.now }
     ensures node { result ≡ node_of problem.now process }
     ensures within { result < length problem.now.nodes }
+    ensures few { process < 128 }
 {
     problem.processes()[process as usize].node
 }
