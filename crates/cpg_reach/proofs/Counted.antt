@@ -83,3 +83,7 @@ along_within g order cs is = subst (All (λ c. c < condition_count g)) (sym is) 
 
 pub all_views : (g : Graph) (order : List ℕ) → IsTopological g order → process_count g ≤ 128 → (reached cs : List ℕ) (o : List Bool) → cs ≡ conditions_along g order → o ≡ all_false g → views_with g reached cs o ≡ views g reached
 all_views g order top few reached cs o is none = ap₂ (views_with g reached) is none ∙ sym (views_chosen g order top reached few)
+
+pub none_if : (o : Option ℕ) → ((x : ℕ) → o ≡ Some x → ⊥) → o ≡ None
+none_if None h = refl
+none_if (Some x) h = absurd (h x refl)

@@ -5,3 +5,5 @@ pub mod Adding
 pub mod Counted
 pub mod Sends
 pub mod Starts
+pub mod Settling
+pub mod Steps
