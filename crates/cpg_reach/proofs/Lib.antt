@@ -7,3 +7,5 @@ pub mod Sends
 pub mod Starts
 pub mod Settling
 pub mod Steps
+pub mod Empty
+pub mod Walks

@@ -20,6 +20,7 @@ use Rattle.cpg_order.proofs.Places.{same_place, Contains-order, comes_before_fro
 use Rattle.cpg_order.proofs.Moments.{phase, phases, moment, moment_of_item, message_sooner, broadcast_sooner, end_sooner, moment_of_start, producer_in_range, phase_below, phase_is_rank, queued_sooner, sooner}
 use Rattle.cpg_order.proofs.Acyclic.{input_goes_up, source_in_order}
 use Rattle.cpg_order.proofs.DecidingLaws.{decides_earlier}
+use Rattle.cpg_order.proofs.ReachExists.{some_reach}
 use Rattle.cpg_reach.specs.Variables.{Adds, HasSame}
 use Rattle.cpg_reach.specs.Walked.{heard_by, start_by, send_by, known_after, on_node, sent_before, AgreesUntil, AreEmpty}
 use Rattle.cpg_reach.proofs.Adding.{in_append}
@@ -30,7 +31,8 @@ start_parts : (a e b i : Bool) → (((a || e) || b) || i) ≡ (((a || b) || e) |
 start_parts true e b i = refl
 start_parts false true true i = refl
 start_parts false true false i = refl
-start_parts false false b i = refl
+start_parts false false true i = refl
+start_parts false false false i = refl
 
 -- and the parts of what is known after it
 known_parts : (a e b s p : Bool) → ((((a || e) || b) || s) || p) ≡ ((a || b) || (e || (s || p)))
@@ -248,3 +250,8 @@ walk_begins g order r rs known sent a b c = record {
   where
     none : (node : ℕ) → sent_before g order 0 node ≡ []
     none node = filter_none (λ y. is_sent g y && (home g y == node) && nat_lt (moment g order y) 0) (numbers_below (item_count g)) (λ y k. and_right (is_sent g y && (home g y == node)) (nat_lt (moment g order y) 0) (le-ltb (moment g order y) 0 (omega arith)))
+
+-- what every walk keeps, whatever the reach
+pub walked_some : (g : Graph) (order : List ℕ) (top : IsTopological g order) (k m : ℕ) (rs known sent : List (List ℕ)) → ((r : Reach) → IsReach g order r → AgreesUntil g order r k m rs known sent)
+    → (length rs ≡ item_count g) × (length known ≡ length g.nodes) × (length sent ≡ length g.nodes)
+walked_some g order top k m rs known sent h = let s = some_reach g order top in let a = h s.0 s.1 in (a.items, a.known_nodes, a.sent_nodes)

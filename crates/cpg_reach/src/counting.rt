@@ -144,6 +144,7 @@ impl Counter {
     /// How many ways a set of variables has; `most` where there are more.
     pub fn views(&mut self, admitted: &Admitted, order: &Order, reached: &Variables, most: u64) -> u64
         requires order { IsTopological admitted.now.graph order.now }
+        requires few { process_count admitted.now.graph ≤ 128 }
         requires counter { IsCounterFor admitted.now.graph order.now self.old }
         ensures views { result ≡ min most (views admitted.now.graph reached.now) }
         ensures counter { IsCounterFor admitted.now.graph order.now self.new }
