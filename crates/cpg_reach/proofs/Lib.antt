@@ -9,3 +9,4 @@ pub mod Settling
 pub mod Steps
 pub mod Empty
 pub mod Walks
+pub mod Widths

@@ -8,10 +8,12 @@ use Rattle.cpg_order.specs.Reach.{Reach, IsReach, reach_of, send_reach, reach_by
 use Rattle.cpg_order.proofs.Conditions.{condition_of_process_of, process_of_condition_of}
 use Rattle.cpg_order.proofs.Along.{condition_of_below}
 use Rattle.cpg_order.proofs.Moments.{phases, moment, moment_of_item, moment_before_last}
+use Rattle.cpg_order.specs.Order.{IsOrder}
+use Rattle.cpg_order.proofs.Standing.{place_at}
 use Rattle.cpg_reach.specs.Variables.{Adds, HasSame}
-use Rattle.cpg_reach.specs.Walked.{heard_by, start_by, send_by, AgreesUntil, AreEmpty}
+use Rattle.cpg_reach.specs.Walked.{heard_by, start_by, send_by, AgreesUntil, AreEmpty, AreReaches}
 use Rattle.cpg_reach.proofs.Settling.{skipped, settled, broadcast_at, message_at}
-use Rattle.cpg_reach.proofs.Steps.{start_right, started_next, send_right, unsent_empty}
+use Rattle.cpg_reach.proofs.Steps.{start_right, started_next, send_right, unsent_empty, walk_begins, walked_some}
 
 -- whatever the reach, it agrees so far
 abbrev pub Agrees : Graph → List ℕ → ℕ → ℕ → (rs known sent : List (List ℕ)) → Type 0
@@ -82,6 +84,24 @@ module _ (g : Graph) (order : List ℕ) (top : IsTopological g order) where
       agrees_as g order r (place order p + 1) (place order p * phases g + 3 + e + 1) (place order p * phases g + 3 + (e + 1)) rs rs known known sent sent (omega arith) refl refl refl
       (skipped g order top r (place order p + 1) (place order p * phases g + 3 + e) rs known sent (walked r is) (λ y i h. other (message_at g order top p e y within l i (h ∙ (let x : place order p * phases g + 3 + e ≡ place order p * phases g + (e + 3) = omega arith in x)))))
 
+  pub walk_starts : (items nodes : ℕ) (rs known sent : List (List ℕ)) → items ≡ item_count g → nodes ≡ length g.nodes → AreEmpty items rs → AreEmpty nodes known → AreEmpty nodes sent → Agrees g order 0 (0 * phases g) rs known sent
+  walk_starts items nodes rs known sent i n a b c r is = agrees_as g order r 0 0 (0 * phases g) rs rs known known sent sent (omega arith) refl refl refl
+      (walk_begins g order r rs known sent (subst (λ m. AreEmpty m rs) i a) (subst (λ m. AreEmpty m known) n b) (subst (λ m. AreEmpty m sent) n c))
+
+  -- the process at a place
+  module _ (h : Graph) (same : h ≡ g) (lawful : IsOrder order) (k p : ℕ) (within : k < length order) (at : p ≡ get_or order k 0) (rs known sent : List (List ℕ)) where
+    stands : place order p ≡ k
+    stands = ap (place order) at ∙ place_at order lawful k within
+
+    pub step_in : Agrees g order k (k * phases g) rs known sent → Agrees h order (place order p) (place order p * phases h) rs known sent
+    step_in walked = subst (λ n. Agrees h order n (n * phases h) rs known sent) (sym stands) (subst (λ (x : Graph). Agrees x order k (k * phases x) rs known sent) (sym same) walked)
+
+    pub step_out : Agrees h order (place order p + 1) ((place order p + 1) * phases h) rs known sent → Agrees g order (k + 1) ((k + 1) * phases g) rs known sent
+    step_out walked = subst (λ (x : Graph). Agrees x order (k + 1) ((k + 1) * phases x) rs known sent) same (subst (λ n. Agrees h order (n + 1) ((n + 1) * phases h) rs known sent) stands walked)
+
   -- at the end every item has been reached
-  pub all_reached : (k : ℕ) (rs known sent : List (List ℕ)) → process_count g ≤ k → Agrees g order k (k * phases g) rs known sent → (r : Reach) → IsReach g order r → (x : ℕ) → x < item_count g → HasSame (reach_of rs x) (reach_of r x)
-  all_reached k rs known sent l walked r is x within = (walked r is).reached x within (let b = moment_before_last g order top x within in let c = mul-le-mul_right (phases g) l in omega arith)
+  pub all_reached : (k : ℕ) (rs known sent : List (List ℕ)) → process_count g ≤ k → Agrees g order k (k * phases g) rs known sent → AreReaches g order rs
+  all_reached k rs known sent l walked = record {
+    count = (walked_some g order top k (k * phases g) rs known sent walked).0;
+    each = λ r is x within. (walked r is).reached x within (let b = moment_before_last g order top x within in let c = mul-le-mul_right (phases g) l in omega arith);
+  }

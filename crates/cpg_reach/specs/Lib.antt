@@ -3,3 +3,4 @@ pub mod Tested
 pub mod WaysTable
 pub mod Counter
 pub mod Walked
+pub mod Wide

@@ -52,8 +52,9 @@ abbrev pub IsWalkedTo : Graph → List ℕ → ℕ → ℕ → Walk → Type 0
 IsWalkedTo g order k m w = (r : Reach) → IsReach g order r → AgreesUntil g order r k m w.reaches.items w.known.items w.sent.items
 
 -- these are the reaches of all items
-abbrev pub AreReaches : Graph → List ℕ → Reach → Type 0
-AreReaches g order reaches = (r : Reach) → IsReach g order r → (x : ℕ) → x < item_count g → HasSame (reach_of reaches x) (reach_of r x)
+pub record AreReaches (g : Graph) (order : List ℕ) (reaches : Reach) : Type 0 where
+  pub count : length reaches ≡ item_count g
+  pub each : (r : Reach) → IsReach g order r → (x : ℕ) → x < item_count g → HasSame (reach_of reaches x) (reach_of r x)
 
 -- as many sets, and nothing in any
 pub record AreEmpty (n : ℕ) (sets : List (List ℕ)) : Type 0 where

@@ -8,3 +8,6 @@ mod sending;
 mod starting;
 mod variables;
 mod ways;
+mod width;
+
+pub use width::{too_wide, views};
