@@ -1,5 +1,5 @@
 -- Counting views: free counts, the conditions along an order, and one condition after another.
-use Rattle.std.proofs.Common.{ℕ, suc, ◌+◌, ◌-◌, ◌<◌, ◌≤◌, ◌≡◌, ◌≢◌, min, Bool, true, false, cond, if◌then◌else◌, List, [], ◌∷◌, ◌++◌, length, get_or, set, take, sum_by, count_by, All, Contains, option_to_list, Option, Some, None, refl, sym, ap, ap₂, ◌∙◌, subst, arith}
+use Rattle.std.proofs.Common.{ℕ, suc, ◌+◌, ◌<◌, ◌≤◌, ◌≡◌, Bool, false, cond, List, [], ◌∷◌, ◌++◌, length, get_or, set, take, sum_by, count_by, All, option_to_list, Option, Some, None, refl, sym, ap, ap₂, ◌∙◌, subst, arith}
 use Rattle.std.proofs.lemmas.List.{take_more, append-nil, set-set, set-get_or}
 use Rattle.std.proofs.lemmas.List.Sums.{sum_by-append, sum_by-cons, count_by-le-length}
 use Rattle.std.proofs.lemmas.List.FromFn.{length-range_with_len}
@@ -8,14 +8,12 @@ use Rattle.cpg_base.specs.Numbers.{numbers_below}
 use Rattle.cpg_base.specs.Graph.{Graph, process_count, condition_count, condition_of}
 use Rattle.cpg_base.proofs.Lists.{below_push}
 use Rattle.cpg_base.specs.Scenario.{Scenario}
-use Rattle.cpg_order.specs.Counting.{ways, conditions_along, all_false, chosen, free_counts, is_count_free, is_value_free, views_of_outcome}
-use Rattle.cpg_order.proofs.QuietOutcomes.{sum_chosen}
+use Rattle.cpg_order.specs.Counting.{conditions_along, all_false, chosen, views_of_outcome}
 use Rattle.std.proofs.lemmas.List.Elements.{Contains-get_or}
 use Rattle.cpg_order.specs.Urgency.{IsTopological}
 use Rattle.cpg_order.specs.Reach.{views}
 use Rattle.cpg_order.proofs.Along.{from_along}
 use Rattle.cpg_order.proofs.Chosen.{views_chosen}
-use Rattle.cpg_reach.specs.WaysTable.{AreWays}
 
 -- ---- how many numbers below n pass a test
 
@@ -44,23 +42,6 @@ module _ (g : Graph) (reached : List ℕ) where
   -- the views with these conditions to choose
   abbrev pub views_with : List ℕ → List Bool → ℕ
   views_with cs o = sum_by (views_of_outcome g reached) (chosen g reached cs o)
-
-  pub views_last : (table : List ℕ) (o : List Bool) (n most : ℕ) → AreWays g.faults table → n ≡ free_counts g reached o → n ≤ 128 → min (get_or table n 0) most ≡ min most (views_with [] o)
-  views_last table o n most are is few =
-      let a = are.each n few in
-      let b = ap (λ m. ways m g.faults) is in
-      let c = sum_by-cons (views_of_outcome g reached) o [] in
-      omega arith
-
-  module _ (c : ℕ) (cs : List ℕ) (o : List Bool) (most first : ℕ) (is : first ≡ min most (views_with cs o)) where
-    pub views_full : first ≡ most → first ≡ min most (views_with (c ∷ cs) o)
-    views_full e = let s = sum_chosen g reached (views_of_outcome g reached) c cs o in omega arith
-
-    pub views_bound : is_value_free g reached o c ≡ false → first ≡ min most (views_with (c ∷ cs) o)
-    views_bound t = let s = sum_chosen g reached (views_of_outcome g reached) c cs o ∙ ap (λ b. views_with cs o + cond b (views_with cs (set o c true)) 0) t in omega arith
-
-    pub views_both : (second : ℕ) → is_value_free g reached o c ≡ true → first ≢ most → second ≡ min (most - first) (views_with cs (set o c true)) → first + second ≡ min most (views_with (c ∷ cs) o)
-    views_both second t under k = let s = sum_chosen g reached (views_of_outcome g reached) c cs o ∙ ap (λ b. views_with cs o + cond b (views_with cs (set o c true)) 0) t in omega arith
 
 -- a value that is set and then as it was
 pub set_back : (o : List Bool) (c : ℕ) (a b : Bool) → b ≡ get_or o c false → set (set o c a) c b ≡ o

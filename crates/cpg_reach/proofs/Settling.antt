@@ -1,29 +1,19 @@
 -- The walk along an order: at each moment the reach of at most one item is found, and it is right.
-use Rattle.std.proofs.Common.{ℕ, zero, suc, ◌+◌, ◌*◌, ◌<◌, ◌≤◌, ◌≡◌, ◌≢◌, ◌==◌, ◌⊎◌, Bool, true, false, not, cond, ◌&&◌, ◌||◌, List, [], ◌∷◌, ◌++◌, length, get_or, set, take, map, filter, flat_map, Contains, Option, Some, None, refl, sym, ap, ap₂, ◌∙◌, subst, ⊎_elim, inl, inr, arith, ltb, lt-ltb, le-ltb, eq-eqb, eqb-true, ltb-true, length-append}
+use Rattle.std.proofs.Common.{ℕ, ◌+◌, ◌*◌, ◌<◌, ◌≤◌, ◌≡◌, ◌==◌, Bool, true, false, cond, ◌&&◌, ◌||◌, List, [], ◌∷◌, ◌++◌, length, get_or, set, flat_map, Contains, refl, sym, ap, ap₂, ◌∙◌, subst, ⊎_elim, inl, inr, arith, lt-ltb, le-ltb, eq-eqb, eqb-true, ltb-true}
 use Rattle.std.specs.Prelude.{nat_lt}
-use Rattle.std.specs.List.{list_any}
-use Rattle.std.proofs.lemmas.Bool.{cases_Bool, cases_lt, cases_eq, cases_order, and_parts, and_from, both_ways, or_left, or_right, ne_eqb}
-use Rattle.std.proofs.lemmas.Bool.Decides.{eqb_tells}
-use Rattle.std.proofs.lemmas.List.{length-set, get_or-set_same, get_or-set_other, take_more, append-nil, get_or_default, get_or_append_left}
-use Rattle.std.proofs.Math.Seq.{get_or-append_seam}
-use Rattle.std.proofs.lemmas.List.Folds.{list_any-append}
-use Rattle.std.proofs.lemmas.Grind.{flat_map-append}
+use Rattle.std.proofs.lemmas.Bool.{cases_Bool, cases_lt, cases_eq, cases_order, and_parts, and_from, both_ways, or_left, or_right}
+use Rattle.std.proofs.lemmas.List.{length-set, get_or-set_same, get_or-set_other}
 use Rattle.cpg_base.specs.Numbers.{numbers_below}
-use Rattle.cpg_base.specs.Graph.{Graph, Item, Start, Message, Broadcast, process_count, edge_count, condition_count, item_count, item_at, message_item, broadcast_item, process_at, node_of, source, inputs, is_message, is_sent, is_sent_item, is_frozen, is_frozen_item, producer, producer_of_item, home, process_of, condition_of, value_variable}
-use Rattle.cpg_base.proofs.Lists.{Contains-first, Contains-rest, Contains-cases, Contains-nil, Contains-filter, Contains-filter_parts, Contains-flat_map, Contains-flat_map_parts, Contains-numbers, numbers-Contains, list_any_parts, list_any_true, same_truth, same_filter}
-use Rattle.cpg_base.proofs.Inputs.{inputs_parts}
-use Rattle.cpg_base.proofs.Items.{item_cases, item_at-start, item_at-message, item_at-broadcast, same_condition, process_of_below, start_not_sent}
-use Rattle.cpg_order.specs.Urgency.{IsTopological, before_on_node, before, place, comes_before}
-use Rattle.cpg_order.specs.Deciding.{decides, conditions_of, outcomes}
-use Rattle.cpg_order.specs.Queue.{queued_before, is_queued_before, rank_of_item}
-use Rattle.cpg_order.specs.Reach.{Reach, IsReach, is_in, reach_of, end_reach, hearing_reach, source_value, input_reach, start_reach, sent_value, send_reach, reach_by_item}
+use Rattle.cpg_base.specs.Graph.{Graph, process_count, edge_count, condition_count, item_count, item_at, broadcast_item, source, is_sent, producer, producer_of_item, home, process_of}
+use Rattle.cpg_base.proofs.Lists.{Contains-first, Contains-rest, Contains-filter, Contains-filter_parts, Contains-flat_map, Contains-flat_map_parts, Contains-numbers, numbers-Contains, same_truth, same_filter}
+use Rattle.cpg_base.proofs.Items.{item_cases, same_condition}
+use Rattle.cpg_order.specs.Urgency.{IsTopological, place}
+use Rattle.cpg_order.specs.Reach.{Reach, is_in, reach_of}
 use Rattle.cpg_order.proofs.Along.{is_in_from, from_is_in}
-use Rattle.cpg_order.proofs.Places.{from_before, from_order, same_place, Contains-order, comes_before_from_places}
-use Rattle.cpg_order.proofs.Moments.{phase, phases, last, moment, moment_of_item, moment_before_last, message_sooner, broadcast_sooner, end_sooner, moment_of_start, producer_in_range, phase_below, phase_is_rank, queued_sooner, sooner}
-use Rattle.cpg_order.proofs.Acyclic.{input_goes_up, source_in_order}
-use Rattle.cpg_order.proofs.DecidingLaws.{decides_earlier}
+use Rattle.cpg_order.proofs.Places.{same_place, Contains-order}
+use Rattle.cpg_order.proofs.Moments.{phase, phases, moment, producer_in_range, phase_below, sooner}
 use Rattle.cpg_reach.specs.Variables.{Adds, HasSame}
-use Rattle.cpg_reach.specs.Walked.{heard_by, start_by, send_by, known_after, on_node, sent_before, AgreesUntil, AreEmpty}
+use Rattle.cpg_reach.specs.Walked.{sent_before, AgreesUntil}
 use Rattle.cpg_reach.proofs.Adding.{in_append}
 
 -- ---- lists with the same in them

@@ -1,23 +1,23 @@
 -- The steps of the walk along an order: a start, and what may be sent after an end.
-use Rattle.std.proofs.Common.{ℕ, zero, suc, ◌+◌, ◌*◌, ◌<◌, ◌≤◌, ◌≡◌, ◌≢◌, ◌==◌, ◌⊎◌, Bool, true, false, not, cond, ◌&&◌, ◌||◌, List, [], ◌∷◌, ◌++◌, length, get_or, set, take, map, filter, flat_map, Contains, refl, sym, ap, ap₂, ◌∙◌, subst, ⊎_elim, inl, inr, arith, ltb, lt-ltb, le-ltb, eq-eqb, eqb-true, ltb-true}
+use Rattle.std.proofs.Common.{ℕ, ◌+◌, ◌*◌, ◌<◌, ◌≤◌, ◌≡◌, ◌==◌, Bool, true, false, cond, ◌&&◌, ◌||◌, List, [], ◌∷◌, ◌++◌, length, get_or, set, take, map, filter, flat_map, Contains, refl, sym, ap, ap₂, ◌∙◌, subst, ⊎_elim, inl, inr, arith, lt-ltb, le-ltb, eq-eqb, ltb-true}
 use Rattle.std.specs.Prelude.{nat_lt}
 use Rattle.std.specs.List.{list_any}
-use Rattle.std.proofs.lemmas.Bool.{cases_Bool, cases_lt, cases_eq, cases_order, and_parts, and_from, both_ways, or_left, or_right, ne_eqb, and_right}
+use Rattle.std.proofs.lemmas.Bool.{cases_lt, cases_eq, cases_order, and_parts, and_from, both_ways, or_left, or_right, and_right}
 use Rattle.std.proofs.lemmas.Bool.Decides.{eqb_tells}
-use Rattle.std.proofs.lemmas.List.{length-set, get_or-set_same, get_or-set_other, take_more, append-nil, get_or_default}
-use Rattle.std.proofs.lemmas.List.Elements.{filter-append, Contains-append_cases}
+use Rattle.std.proofs.lemmas.List.{length-set, get_or-set_same, get_or-set_other, take_more, append-nil}
+use Rattle.std.proofs.lemmas.List.Elements.{filter-append}
 use Rattle.std.proofs.lemmas.Grind.{flat_map-append}
 use Rattle.cpg_base.specs.Numbers.{numbers_below}
-use Rattle.cpg_base.specs.Graph.{Graph, Item, Start, Message, Broadcast, process_count, edge_count, condition_count, item_count, item_at, message_item, broadcast_item, process_at, node_of, source, inputs, is_message, is_sent, is_sent_item, is_frozen, is_frozen_item, producer, producer_of_item, home, process_of, value_variable}
-use Rattle.cpg_base.proofs.Lists.{Contains-cases, Contains-nil, Contains-filter_parts, Contains-flat_map_parts, numbers-Contains, list_any_parts, same_truth, same_filter, filter_none}
+use Rattle.cpg_base.specs.Graph.{Graph, Item, process_count, edge_count, condition_count, item_count, item_at, message_item, broadcast_item, process_at, node_of, source, inputs, is_message, is_sent, is_sent_item, is_frozen, producer, home, process_of, value_variable}
+use Rattle.cpg_base.proofs.Lists.{Contains-filter_parts, numbers-Contains, list_any_parts, same_truth, same_filter, filter_none}
 use Rattle.cpg_base.proofs.Inputs.{inputs_parts}
 use Rattle.cpg_base.proofs.Items.{item_at-start, process_of_below, start_not_sent}
-use Rattle.cpg_order.specs.Urgency.{IsTopological, before_on_node, before, place, comes_before}
+use Rattle.cpg_order.specs.Urgency.{IsTopological, before_on_node, place}
 use Rattle.cpg_order.specs.Deciding.{decides, conditions_of, outcomes}
-use Rattle.cpg_order.specs.Queue.{queued_before, is_queued_before, rank_of_item}
+use Rattle.cpg_order.specs.Queue.{queued_before, is_queued_before}
 use Rattle.cpg_order.specs.Reach.{Reach, IsReach, is_in, reach_of, end_reach, hearing_reach, source_value, input_reach, start_reach, sent_value, send_reach, reach_by_item}
 use Rattle.cpg_order.proofs.Places.{same_place, Contains-order, comes_before_from_places, place-lt, get_or-place}
-use Rattle.cpg_order.proofs.Moments.{phase, phases, moment, moment_of_item, message_sooner, broadcast_sooner, end_sooner, moment_of_start, producer_in_range, phase_below, phase_is_rank, queued_sooner, sooner}
+use Rattle.cpg_order.proofs.Moments.{phase, phases, moment, message_sooner, broadcast_sooner, end_sooner, moment_of_start, producer_in_range, phase_below, phase_is_rank, queued_sooner, sooner}
 use Rattle.cpg_order.proofs.Acyclic.{input_goes_up, source_in_order}
 use Rattle.cpg_order.proofs.DecidingLaws.{decides_earlier}
 use Rattle.cpg_order.proofs.ReachExists.{some_reach}

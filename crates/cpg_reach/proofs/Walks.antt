@@ -1,10 +1,10 @@
 -- The walk along an order, as the code takes its steps.
-use Rattle.std.proofs.Common.{ℕ, ◌+◌, ◌*◌, ◌<◌, ◌≤◌, ◌≡◌, ◌==◌, ◌⊎◌, Bool, true, false, cond, List, [], ◌∷◌, ◌++◌, length, get_or, set, Contains, Option, Some, None, refl, sym, ap, ap₂, ◌∙◌, subst, arith, mul-le-mul_right}
-use Rattle.cpg_base.specs.Graph.{Graph, Item, Message, Broadcast, process_count, edge_count, condition_count, item_count, item_at, message_item, broadcast_item, node_of, source, is_sent_item, producer, producer_of_item, home, process_of, condition_of}
+use Rattle.std.proofs.Common.{ℕ, ◌+◌, ◌*◌, ◌<◌, ◌≤◌, ◌≡◌, cond, List, [], ◌∷◌, length, get_or, set, Some, None, refl, sym, ap, ◌∙◌, subst, arith, mul-le-mul_right}
+use Rattle.cpg_base.specs.Graph.{Graph, Item, Message, Broadcast, process_count, edge_count, item_count, item_at, message_item, broadcast_item, node_of, source, is_sent_item, producer_of_item, home, condition_of}
 use Rattle.cpg_base.proofs.Items.{item_at-message, item_at-broadcast}
 use Rattle.cpg_order.specs.Urgency.{IsTopological, place}
 use Rattle.cpg_order.specs.Deciding.{conditions_of}
-use Rattle.cpg_order.specs.Reach.{Reach, IsReach, reach_of, send_reach, reach_by_item}
+use Rattle.cpg_order.specs.Reach.{Reach, IsReach, send_reach, reach_by_item}
 use Rattle.cpg_order.proofs.Conditions.{condition_of_process_of, process_of_condition_of}
 use Rattle.cpg_order.proofs.Along.{condition_of_below}
 use Rattle.cpg_order.proofs.Moments.{phases, moment, moment_of_item, moment_before_last}

@@ -1,10 +1,10 @@
 -- Items that are too wide: the loads of one item after another, and views by sets with the same in them.
-use Rattle.std.proofs.Common.{ℕ, ◌+◌, ◌-◌, ◌*◌, ◌^◌, ◌<◌, ◌≤◌, ◌≡◌, ◌≢◌, ◌⊎◌, min, Bool, true, false, ◌&&◌, ◌||◌, ltb, List, [], ◌∷◌, length, get_or, sum_by, IsTrue, refl, sym, ap, ap₂, ◌∙◌, subst, ⊎_elim, inl, inr, arith, lt-ltb, le-ltb}
+use Rattle.std.proofs.Common.{ℕ, ◌+◌, ◌*◌, ◌<◌, ◌≤◌, ◌≡◌, min, true, false, ◌&&◌, ◌||◌, List, [], ◌∷◌, get_or, sum_by, refl, sym, ap, ap₂, ◌∙◌, ⊎_elim, arith}
 use Rattle.std.specs.Prelude.{nat_lt}
 use Rattle.std.proofs.lemmas.Bool.{cases_lt, both_ways}
 use Rattle.std.proofs.lemmas.List.Sums.{sum_by-append, sum_by-cons}
 use Rattle.cpg_base.specs.Numbers.{numbers_below}
-use Rattle.cpg_base.specs.Graph.{Graph, process_count, item_count, item_at}
+use Rattle.cpg_base.specs.Graph.{Graph, item_count, item_at}
 use Rattle.cpg_base.proofs.Lists.{below_push}
 use Rattle.cpg_order.specs.Urgency.{IsTopological}
 use Rattle.cpg_order.specs.Reach.{Reach, IsReach, reach_of, is_in, views, rows_of_item, load, is_too_wide, most_views, most_loads}
@@ -16,7 +16,7 @@ use Rattle.cpg_guard.specs.Guards.{Guards}
 use Rattle.cpg_rules.specs.Admission.{IsAdmitted}
 use Rattle.cpg_reach.specs.Variables.{HasSame}
 use Rattle.cpg_reach.specs.Walked.{AreReaches}
-use Rattle.cpg_reach.specs.Wide.{HasViews, IsWide, IsLeastWide, IsNarrow, load_by, is_wide_by, HasLoads}
+use Rattle.cpg_reach.specs.Wide.{HasViews, IsLeastWide, IsNarrow, is_wide_by, HasLoads}
 use Rattle.cpg_reach.proofs.Adding.{set_at}
 
 pub same_views : (g : Graph) (xs ys : List ℕ) → HasSame xs ys → views g xs ≡ views g ys
@@ -82,46 +82,3 @@ module _ (g : Graph) (order : List ℕ) (top : IsTopological g order) (rs : Reac
 
 pub none_wide : (g : Graph) (order : List ℕ) (x loads : ℕ) → item_count g ≤ x → AreLoads g order x loads → IsNarrow g order
 none_wide g order x loads l h = λ y w. both_ways _ (h.narrow w.reach w.reached y (let i = w.within in omega arith)) w.wide
-
--- ---- one item
-
-module _ (g : Graph) (reached : List ℕ) (x loads : ℕ) where
-  by_numbers : ℕ → ℕ → Bool
-  by_numbers rows n = nat_lt 0 rows && (nat_lt most_views n || nat_lt most_loads (loads + n * rows))
-
-  pub no_rows : loads ≤ 524288 → rows_of_item g (item_at g x) ≡ 0 → HasLoads g reached x loads loads
-  no_rows few e = record {
-    narrow = ap (λ r. nat_lt 0 r && (nat_lt most_views (views g reached) || nat_lt most_loads (loads + load_by g reached x))) e;
-    sum = let z = ap (λ r. views g reached * r) e in omega arith;
-    few = few;
-  }
-
-  pub many_views : (views' : ℕ) → 0 < rows_of_item g (item_at g x) → views' ≡ min 16385 (views g reached) → 16384 < views' → is_wide_by g reached x loads ≡ true
-  many_views n rows is over = ap₂ (λ a b. a && (b || nat_lt most_loads (loads + load_by g reached x))) (lt-ltb 0 (rows_of_item g (item_at g x)) rows) (lt-ltb most_views (views g reached) (omega arith))
-
-  module _ (n rows : ℕ) (is : n ≡ min 16385 (views g reached)) (few : n ≤ 16384) (are : rows ≡ rows_of_item g (item_at g x)) where
-    whole : n ≡ views g reached
-    whole = omega arith
-
-    sum_is : loads + n * rows ≡ loads + load_by g reached x
-    sum_is = ap₂ (λ a b. loads + a * b) whole are
-
-    or_true : (a : Bool) → (a || true) ≡ true
-    or_true true = refl
-    or_true false = refl
-
-    pub many_loads : 0 < rows → 524288 < loads + n * rows → is_wide_by g reached x loads ≡ true
-    many_loads some over = ap₂ (λ a b. a && (nat_lt most_views (views g reached) || b)) (lt-ltb 0 (rows_of_item g (item_at g x)) (omega arith)) (lt-ltb most_loads (loads + load_by g reached x) (let e = sum_is in omega arith))
-        ∙ or_true (nat_lt most_views (views g reached))
-
-    pub few_loads : loads + n * rows ≤ 524288 → HasLoads g reached x loads (loads + n * rows)
-    few_loads under = record {
-      narrow = ap₂ (λ a b. nat_lt 0 (rows_of_item g (item_at g x)) && (a || b)) (le-ltb most_views (views g reached) (let w = whole in omega arith)) (le-ltb most_loads (loads + load_by g reached x) (let e = sum_is in omega arith))
-          ∙ and_none (nat_lt 0 (rows_of_item g (item_at g x)));
-      sum = sum_is;
-      few = under;
-    }
-      where
-        and_none : (a : Bool) → (a && (false || false)) ≡ false
-        and_none true = refl
-        and_none false = refl

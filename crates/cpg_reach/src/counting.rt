@@ -142,7 +142,13 @@ impl Counter {
     }
 
     /// How many ways a set of variables has; `most` where there are more.
-    pub fn views(&mut self, admitted: &Admitted, order: &Order, reached: &Variables, most: u64) -> u64
+    pub fn views(
+        &mut self,
+        admitted: &Admitted,
+        order: &Order,
+        reached: &Variables,
+        most: u64,
+    ) -> u64
         requires order { IsTopological admitted.now.graph order.now }
         requires few { process_count admitted.now.graph ≤ 128 }
         requires counter { IsCounterFor admitted.now.graph order.now self.old }

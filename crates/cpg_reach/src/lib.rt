@@ -6,6 +6,8 @@ mod counting;
 mod reaches;
 mod sending;
 mod starting;
+#[cfg(test)]
+mod tests;
 mod variables;
 mod ways;
 mod width;

@@ -1,4 +1,4 @@
-use Rattle.std.proofs.Common.{◌≡◌, ◌∙◌, sym, ap, length, get_or, arith, true, false}
+use Rattle.std.proofs.Common.{◌∙◌, sym, ap, length, get_or, arith}
 use Rattle.cpg_base.specs.Graph.{condition_of}
 use Rattle.cpg_order.proofs.Standing.{process_within}
 use Rattle.cpg_reach.proofs.Counted.{along_takes, along_skips, none_if}

@@ -1,5 +1,4 @@
-use Rattle.std.proofs.Common.{◌≡◌, ◌∙◌, sym, ap, length, arith, true, false}
-use Rattle.cpg_base.specs.Graph.{process_count}
+use Rattle.std.proofs.Common.{sym, ap, length, arith, true, false}
 use Rattle.cpg_order.specs.Counting.{is_count_free}
 use Rattle.cpg_reach.proofs.Counted.{count_next, count-le}
 use Rattle.cpg_reach.proofs.counting.free_counts.Goals as goal

@@ -1,4 +1,4 @@
-use Rattle.std.proofs.Common.{◌≡◌, ◌∙◌, ◌&&◌, sym, ap, subst, length, arith, true, false}
+use Rattle.std.proofs.Common.{◌∙◌, ◌&&◌, sym, ap, subst, length, arith}
 use Rattle.cpg_base.proofs.Items.{process_of_below}
 use Rattle.cpg_base.specs.Graph.{process_of}
 use Rattle.cpg_base.specs.Activity.{active}

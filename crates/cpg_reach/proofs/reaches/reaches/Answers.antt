@@ -1,4 +1,4 @@
-use Rattle.std.proofs.Common.{◌+◌, ◌≡◌, ◌<◌, ◌∙◌, sym, ap, ap₂, get_or, length, arith}
+use Rattle.std.proofs.Common.{◌+◌, ap, ap₂, get_or, length, arith}
 use Rattle.cpg_base.specs.Graph.{process_count, item_count}
 use Rattle.cpg_order.proofs.Places.{length_order}
 use Rattle.cpg_order.proofs.Standing.{process_within}

@@ -1,4 +1,4 @@
-use Rattle.std.proofs.Common.{◌+◌, ◌*◌, ◌∙◌, ap, length, arith}
+use Rattle.std.proofs.Common.{◌*◌, ◌∙◌, ap, length, arith}
 use Rattle.cpg_order.specs.Urgency.{place}
 use Rattle.cpg_order.proofs.Moments.{phases}
 use Rattle.cpg_reach.proofs.Adding.{set_at}

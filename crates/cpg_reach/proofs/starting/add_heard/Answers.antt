@@ -1,4 +1,4 @@
-use Rattle.std.proofs.Common.{ℕ, ◌≡◌, ◌∷◌, ◌∙◌, [], sym, ap, subst, filter, get_or, arith}
+use Rattle.std.proofs.Common.{◌≡◌, ◌∷◌, ◌∙◌, [], sym, ap, subst, filter, get_or, arith}
 use Rattle.cpg_base.specs.Numbers.{numbers_below}
 use Rattle.cpg_base.specs.Graph.{condition_count, value_variable}
 use Rattle.cpg_order.specs.Reach.{is_in, hearing_reach}

@@ -1,4 +1,4 @@
-use Rattle.std.proofs.Common.{[], ◌∙◌, ap, true, false, arith}
+use Rattle.std.proofs.Common.{◌∙◌, ap, true, false, arith}
 use Rattle.cpg_order.specs.Reach.{is_in}
 use Rattle.cpg_reach.proofs.Adding.{set_at}
 use Rattle.cpg_reach.proofs.Starts.{frozen_at, start_frozen, start_plain}

@@ -1,5 +1,5 @@
-use Rattle.std.proofs.Common.{arith, subst, sym}
-use Rattle.cpg_reach.proofs.Members.{United, united_first, united_set, united_kept, united_all}
+use Rattle.std.proofs.Common.{arith}
+use Rattle.cpg_reach.proofs.Members.{united_first, united_set, united_kept, united_all}
 use Rattle.cpg_reach.proofs.variables.unite.Goals as goal
 use Rattle.cpg_reach.proofs.variables.unite.Goals.{then-others-variable, else-others-variable}
 

@@ -1,4 +1,4 @@
-use Rattle.std.proofs.Common.{◌∙◌, sym, ap, length, arith}
+use Rattle.std.proofs.Common.{◌∙◌, sym, ap, arith}
 use Rattle.cpg_base.specs.Graph.{process_count}
 use Rattle.cpg_order.proofs.Places.{length_order}
 use Rattle.cpg_reach.proofs.Widths.{loads_next, least_wide}
