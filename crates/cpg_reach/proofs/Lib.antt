@@ -1,0 +1,12 @@
+pub mod Members
+pub mod Raising
+pub mod Testing
+pub mod Adding
+pub mod Counted
+pub mod Sends
+pub mod Starts
+pub mod Settling
+pub mod Steps
+pub mod Empty
+pub mod Walks
+pub mod Widths

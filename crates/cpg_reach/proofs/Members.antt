@@ -1,0 +1,85 @@
+-- Sets of variables by their marks.
+use Rattle.std.proofs.Common.{ℕ, ◌+◌, ◌<◌, ◌≤◌, ◌≡◌, ◌⊎◌, ◌==◌, Bool, true, false, ◌||◌, List, [], ◌∷◌, length, get_or, set, refl, sym, ap, ap₂, ◌∙◌, ⊎_elim, inl, inr, arith}
+use Rattle.std.proofs.lemmas.Bool.{cases_lt, both_ways, or_right}
+use Rattle.std.proofs.lemmas.Bool.Decides.{eqb_tells}
+use Rattle.std.proofs.lemmas.List.{get_or-set_same, get_or-set_other, get_or_past}
+use Rattle.cpg_base.specs.Numbers.{numbers_below}
+use Rattle.cpg_base.proofs.Lists.{Contains-filter, Contains-filter_parts, Contains-numbers, same_truth}
+use Rattle.cpg_order.specs.Reach.{is_in}
+use Rattle.cpg_order.proofs.Along.{is_in_from, from_is_in}
+use Rattle.cpg_reach.specs.Variables.{members, Adds}
+
+-- only what is there is marked
+marked_within : (marks : List Bool) (v : ℕ) → get_or marks v false ≡ true → v < length marks
+marked_within marks v t = ⊎_elim
+    (λ (l : v < length marks). l)
+    (λ (l : length marks ≤ v). absurd (both_ways _ (get_or_past marks v false l) t))
+    (cases_lt v (length marks))
+
+pub is_in_members : (marks : List Bool) (v : ℕ) → is_in (members marks) v ≡ get_or marks v false
+is_in_members marks v = same_truth (is_in (members marks) v) (get_or marks v false)
+    (λ t. (Contains-filter_parts (λ u. get_or marks u false) (numbers_below (length marks)) v (from_is_in (members marks) v t)).1)
+    (λ t. is_in_from (members marks) v (Contains-filter (λ u. get_or marks u false) (numbers_below (length marks)) v t (Contains-numbers (length marks) v (marked_within marks v t))))
+
+or_of_false : (a : Bool) → a ≡ (a || (false || false))
+or_of_false true = refl
+or_of_false false = refl
+
+or_of_true : (a : Bool) → true ≡ (a || (true || false))
+or_of_true true = refl
+or_of_true false = refl
+
+set_marks : (marks : List Bool) (v u : ℕ) → v < length marks → get_or (set marks v true) u false ≡ (get_or marks u false || ((v == u) || false))
+set_marks marks v u l = elim (eqb_tells v u) [
+  | inl same ↦ ap (λ w. get_or (set marks v true) w false) (sym same.1) ∙ get_or-set_same marks v true false l
+      ∙ or_of_true (get_or marks u false) ∙ ap (λ b. get_or marks u false || (b || false)) (sym same.0)
+  | inr other ↦ get_or-set_other marks v u true false (λ e. other.1 (sym e))
+      ∙ or_of_false (get_or marks u false) ∙ ap (λ b. get_or marks u false || (b || false)) (sym other.0)
+]
+
+pub set_adds : (marks : List Bool) (v : ℕ) → v < length marks → Adds (members marks) (v ∷ []) (members (set marks v true))
+set_adds marks v l u = is_in_members (set marks v true) u ∙ set_marks marks v u l ∙ ap (λ b. b || ((v == u) || false)) (sym (is_in_members marks u))
+
+pub unite_adds : (old others new : List Bool) → ((v : ℕ) → get_or new v false ≡ (get_or old v false || get_or others v false)) → Adds (members old) (members others) (members new)
+unite_adds old others new h v = is_in_members new v ∙ h v ∙ ap₂ ◌||◌ (sym (is_in_members old v)) (sym (is_in_members others v))
+
+-- ---- the loop that unites
+
+-- below v the marks of both, and from v on the old ones
+pub record United (old others marks : List Bool) (v : ℕ) : Type 0 where
+  pub done : (u : ℕ) → u < v → get_or marks u false ≡ (get_or old u false || get_or others u false)
+  pub left : (u : ℕ) → v ≤ u → get_or marks u false ≡ get_or old u false
+
+pub united_first : (old others : List Bool) → United old others old 0
+united_first old others = record { done = λ u l. absurd (omega arith); left = λ u l. refl }
+
+below_next : (v u : ℕ) → u < v + 1 → (u < v) ⊎ (u ≡ v)
+below_next v u l = ⊎_elim (λ (k : u < v). inl k) (λ (k : v ≤ u). inr (omega arith)) (cases_lt u v)
+
+pub united_set : (old others marks : List Bool) (v : ℕ) → v < length marks → get_or others v false ≡ true → United old others marks v → United old others (set marks v true) (v + 1)
+united_set old others marks v l t h = record {
+  done = λ u k. ⊎_elim
+      (λ (m : u < v). get_or-set_other marks v u true false (λ e. omega arith) ∙ h.done u m)
+      (λ (e : u ≡ v). ap (λ w. get_or (set marks v true) w false) e ∙ get_or-set_same marks v true false l ∙ sym (or_right (get_or old u false) (get_or others u false) (ap (λ w. get_or others w false) e ∙ t)))
+      (below_next v u k);
+  left = λ u k. get_or-set_other marks v u true false (λ e. omega arith) ∙ h.left u (omega arith);
+}
+
+or_nothing : (a b : Bool) → b ≡ false → (a || b) ≡ a
+or_nothing true b e = refl
+or_nothing false b e = e
+
+pub united_kept : (old others marks : List Bool) (v : ℕ) → get_or others v false ≡ false → United old others marks v → United old others marks (v + 1)
+united_kept old others marks v t h = record {
+  done = λ u k. ⊎_elim
+      (λ (m : u < v). h.done u m)
+      (λ (e : u ≡ v). h.left u (omega arith) ∙ sym (or_nothing (get_or old u false) (get_or others u false) (ap (λ w. get_or others w false) e ∙ t)))
+      (below_next v u k);
+  left = λ u k. h.left u (omega arith);
+}
+
+pub united_all : (old others marks : List Bool) (v : ℕ) → length others ≤ v → United old others marks v → (u : ℕ) → get_or marks u false ≡ (get_or old u false || get_or others u false)
+united_all old others marks v l h u = ⊎_elim
+    (λ (k : u < v). h.done u k)
+    (λ (k : v ≤ u). h.left u k ∙ sym (or_nothing (get_or old u false) (get_or others u false) (get_or_past others u false (omega arith))))
+    (cases_lt u v)

@@ -1,0 +1,5 @@
+use Rattle.cpg_guard.specs.Trees.{size_of}
+use Rattle.cpg_reach.proofs.conditions.+add_tested.Given as goal
+
+abbrev pub decreases-add_tested : goal.decreases-add_tested
+decreases-add_tested l = size_of l.tree.now

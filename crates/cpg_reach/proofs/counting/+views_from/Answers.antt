@@ -1,0 +1,23 @@
+use Rattle.std.proofs.Common.{◌∙◌, ◌<◌, ap, length, length-set, arith, true}
+use Rattle.cpg_base.specs.Graph.{condition_count}
+use Rattle.cpg_reach.proofs.Counted.{all_parts, scenario_back}
+use Rattle.cpg_reach.proofs.counting.+views_from.Goals as goal
+
+pub views_from-second-requires : goal.views_from-second-requires
+views_from-second-requires t c =
+    let below = all_parts (λ d. d < condition_count c.args.admitted.now.graph) c.in-Some.condition.now c.args.conditions.now c.in-Some.left.now c.in-Some.ensures.cases.0 c.requires.conditions in
+    let shorter = c.in-Some.ensures.cases.1 in
+    let at = c.decreases in (
+      omega arith,
+      (
+        c.requires.ways,
+        (
+          below.1,
+          ap (λ s. length s.values) c.set_value.ensures ∙ length-set c.views_from-first.new.scenario.values _ true ∙ ap (λ s. length s.values) c.views_from-first.ensures.same ∙ c.requires.values,
+        ),
+      ),
+    )
+
+pub returns-clause-same : goal.returns-clause-same
+returns-clause-same t c = scenario_back c.args.scenario.now c.views_from-first.new.scenario c.set_value.new.self c.views_from-second.new.scenario c.set_value-2.new.self c.in-Some.condition.now true c.value-was.result
+    c.views_from-first.ensures.same c.set_value.ensures c.views_from-second.ensures.same c.value-was.ensures c.set_value-2.ensures

@@ -1,0 +1,5 @@
+use Rattle.cpg_reach.specs.Walked.{AreEmpty}
+use Rattle.cpg_reach.proofs.reaches.empty_sets.Given as goal
+
+abbrev pub invariant-loop : goal.invariant-loop
+invariant-loop l = AreEmpty l.counter l.sets.items

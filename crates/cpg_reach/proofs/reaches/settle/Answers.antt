@@ -1,0 +1,12 @@
+use Rattle.std.proofs.Common.{◌||◌, ◌∙◌, refl, ap}
+use Rattle.cpg_order.specs.Reach.{is_in}
+use Rattle.cpg_reach.proofs.Adding.{set_at}
+use Rattle.cpg_reach.proofs.reaches.settle.Goals as goal
+
+pub returns-clause-sent : goal.returns-clause-sent
+returns-clause-sent c = (
+  c.add.new.self,
+  refl,
+  λ v. c.add.ensures v
+      ∙ ap (λ xs. is_in xs v || is_in c.args.reach v) (c.copy-sent.ensures ∙ set_at c.args.walk.now.sent.items c.args.node c.index.result.now c.requires.node c.index.ensures),
+)

@@ -1,0 +1,8 @@
+use Rattle.std.proofs.Common.{◌+◌, ◌*◌}
+use Rattle.cpg_order.specs.Urgency.{place}
+use Rattle.cpg_order.proofs.Moments.{phases}
+use Rattle.cpg_reach.specs.Walked.{IsWalkedTo}
+use Rattle.cpg_reach.proofs.reaches.settle_process.Given as goal
+
+abbrev pub invariant-loop-edge : goal.invariant-loop-edge
+invariant-loop-edge l = IsWalkedTo l.problem l.order (place l.order l.process + 1) (place l.order l.process * phases l.problem + 3 + l.edge) l.walk

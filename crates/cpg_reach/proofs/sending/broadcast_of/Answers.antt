@@ -1,0 +1,23 @@
+use Rattle.std.proofs.Common.{ap, length, arith}
+use Rattle.cpg_base.specs.Graph.{Broadcast}
+use Rattle.cpg_base.proofs.Items.{process_of_below}
+use Rattle.cpg_reach.specs.Walked.{send_by}
+use Rattle.cpg_reach.proofs.Sends.{nothing_sent, one_node, broadcast_sent}
+use Rattle.cpg_reach.proofs.sending.broadcast_of.Goals as goal
+
+pub returns-then-nodes-le1 : goal.returns-then-nodes-le1
+returns-then-nodes-le1 c = nothing_sent c.args.problem.now c.args.reaches.now c.args.sent.now c.none.result (send_by c.args.problem.now c.args.reaches.now c.args.sent.now (Broadcast c.args.condition)) c.none.ensures
+    (one_node c.args.problem.now c.args.reaches.now c.args.sent.now c.args.condition (let l = c.if-nodes-le1.true in omega (arith, ap length c.nodes.ensures.nodes)))
+
+pub node_of-node-requires : goal.node_of-node-requires
+node_of-node-requires c = omega (arith, process_of_below c.args.problem.now c.args.condition c.requires.condition, c.process_of-process.ensures.process)
+
+pub after_end-requires-clause-process : goal.after_end-requires-clause-process
+after_end-requires-clause-process c = omega (arith, process_of_below c.args.problem.now c.args.condition c.requires.condition, c.process_of-process.ensures.process, c.requires.items)
+
+pub after_end-requires-clause-variable : goal.after_end-requires-clause-variable
+after_end-requires-clause-variable c = c.node_of-node.ensures.few
+
+pub returns : goal.returns
+returns c = broadcast_sent c.args.problem.now c.args.reaches.now c.args.sent.now c.args.condition c.process_of-process.result c.node_of-node.result c.after_end.result
+    (let l = c.if-nodes-le1.false in omega (arith, ap length c.nodes.ensures.nodes)) c.process_of-process.ensures.process c.node_of-node.ensures.node c.after_end.ensures

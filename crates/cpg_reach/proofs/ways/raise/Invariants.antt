@@ -1,0 +1,5 @@
+use Rattle.cpg_reach.proofs.Raising.{Raised}
+use Rattle.cpg_reach.proofs.ways.raise.Given as goal
+
+abbrev pub invariant-loop-counts : goal.invariant-loop-counts
+invariant-loop-counts l = Raised l.faults l.table l.counts

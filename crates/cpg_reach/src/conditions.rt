@@ -1,0 +1,49 @@
+//! The conditions that decide each process in some scenario.
+ghost use Rattle.std.specs.Prelude.{◌≡◌, ◌<◌, ◌≤◌, IfOk, length, get_or, []};
+ghost use Rattle.cpg_guard.specs.Trees.{TestsBelow};
+ghost use Rattle.cpg_reach.specs.Variables.{Adds};
+ghost use Rattle.cpg_reach.specs.Tested.{tested_values, AreDecidingValues};
+
+use crate::variables::{FIRST_VALUE, Variables};
+use cpg_base::OutOfMemory;
+use cpg_guard::{GuardTop, GuardTree};
+use cpg_rules::Admitted;
+use std::alloc::Global;
+
+/// Adds the values of all conditions that a tree tests.
+fn add_tested(tree: &GuardTree, values: &mut Variables)
+    requires { TestsBelow 32 tree.now }
+    ensures { Adds values.old (tested_values tree.now) values.new }
+{
+    match tree.top() {
+        GuardTop::Leaf(_) => {}
+        GuardTop::Test { condition, no, yes } => {
+            values.insert(FIRST_VALUE + condition);
+            add_tested(no, values);
+            add_tested(yes, values);
+        }
+    }
+}
+
+/// The values of all conditions that a tree tests.
+fn tested(tree: &GuardTree) -> Variables
+    requires { TestsBelow 32 tree.now }
+    ensures { Adds [] (tested_values tree.now) result }
+{
+    let mut values = Variables::none();
+    add_tested(tree, &mut values);
+    values
+}
+
+/// For each process the values of the conditions that decide it in some scenario.
+pub fn deciding_values(alloc: Global, admitted: &Admitted) -> Result<Vec<Variables>, OutOfMemory>
+    ensures { IfOk result (λ values. AreDecidingValues admitted.now.graph values.items) }
+{
+    let count = admitted.problem().processes().len() as u32;
+    let mut values = Vec::new(alloc);
+    values.reserve(count as usize)?;
+    for process in 0..count {
+        values.push(tested(admitted.guards().guard_of(process)))?;
+    }
+    Ok(values)
+}

@@ -1,0 +1,15 @@
+//! How many columns the rows of an item need: the variables that its time may depend on, and the ways that these have.
+#![tactic(auto)]
+
+mod conditions;
+mod counting;
+mod reaches;
+mod sending;
+mod starting;
+#[cfg(test)]
+mod tests;
+mod variables;
+mod ways;
+mod width;
+
+pub use width::{too_wide, views};

@@ -1,0 +1,186 @@
+//! The reach of each item, along an order.
+ghost use Rattle.std.specs.Prelude.{◌≡◌, ◌<◌, ◌+◌, ◌*◌, List, ℕ, [], IfOk, length, get_or, slice_set};
+ghost use Rattle.cpg_base.specs.Graph.{process_count, edge_count};
+ghost use Rattle.cpg_order.specs.Urgency.{IsTopological, place};
+ghost use Rattle.cpg_order.proofs.Moments.{phases};
+ghost use Rattle.cpg_reach.specs.Variables.{Adds};
+ghost use Rattle.cpg_reach.specs.Tested.{AreDecidingValues};
+ghost use Rattle.cpg_reach.specs.Walked.{AreEmpty, AreReaches, IsWalkedTo};
+
+use crate::conditions::deciding_values;
+use crate::sending::{broadcast_of, message_of};
+use crate::starting::{add_heard, node_of, start_of};
+use crate::variables::Variables;
+use cpg_base::{OutOfMemory, Problem};
+use cpg_order::Order;
+use cpg_rules::Admitted;
+use std::alloc::Global;
+
+/// How far a walk along an order has come.
+#[derive(Drop)]
+pub struct Walk {
+    /// By item, what its time depends on, as far as it has been found.
+    reaches: Vec<Variables>,
+    /// By node, what its processes so far make later ones wait for.
+    known: Vec<Variables>,
+    /// By node, what it has sent so far depends on.
+    sent: Vec<Variables>,
+}
+
+/// So many sets with nothing in them.
+fn empty_sets(alloc: Global, count: usize) -> Result<Vec<Variables>, OutOfMemory>
+    ensures { IfOk result (λ sets. AreEmpty count sets.items) }
+{
+    let mut sets = Vec::new(alloc);
+    sets.reserve(count)?;
+    for _ in 0..count {
+        sets.push(Variables::none())?;
+    }
+    Ok(sets)
+}
+
+/// Finds the reach of the start of a process.
+fn settle_start(
+    problem: &Problem,
+    order: &Order,
+    deciding: &[Variables],
+    process: u32,
+    walk: &mut Walk,
+)
+    requires order { IsTopological problem.now order.now }
+    requires process { process < process_count problem.now }
+    requires deciding { AreDecidingValues problem.now deciding.now }
+    requires walked { IsWalkedTo problem.now order.now (place order.now process) (place order.now process * phases problem.now) walk.old }
+    ensures { IsWalkedTo problem.now order.now (place order.now process + 1) (place order.now process * phases problem.now + 2) walk.new }
+{
+    let node = node_of(problem, process);
+    let reach = start_of(
+        problem,
+        deciding,
+        walk.reaches.as_slice(),
+        walk.known.as_slice(),
+        process,
+    );
+    let mut known = walk.known[node as usize].copy();
+    add_heard(
+        problem,
+        deciding,
+        walk.reaches.as_slice(),
+        node,
+        process,
+        &mut known,
+    );
+    known.add(&reach);
+    known.insert(process);
+    walk.known[node as usize] = known;
+    walk.reaches[process as usize] = reach;
+}
+
+/// Takes the reach of what a node may send.
+fn settle(item: usize, node: u32, reach: Variables, walk: &mut Walk)
+    requires item { item < length walk.old.reaches.items }
+    requires node { node < length walk.old.sent.items }
+    ensures reaches { walk.new.reaches.items ≡ slice_set walk.old.reaches.items item reach }
+    ensures known { walk.new.known.items ≡ walk.old.known.items }
+    ensures sent { (sent : List ℕ) × (walk.new.sent.items ≡ slice_set walk.old.sent.items node sent) × Adds (get_or walk.old.sent.items node []) reach sent }
+{
+    let mut sent = walk.sent[node as usize].copy();
+    sent.add(&reach);
+    walk.sent[node as usize] = sent;
+    walk.reaches[item] = reach;
+}
+
+/// Finds the reach of the broadcast of a process's condition, if it has one.
+fn settle_broadcast(problem: &Problem, order: &Order, process: u32, walk: &mut Walk)
+    requires order { IsTopological problem.now order.now }
+    requires process { process < process_count problem.now }
+    requires walked { IsWalkedTo problem.now order.now (place order.now process + 1) (place order.now process * phases problem.now + 2) walk.old }
+    ensures { IsWalkedTo problem.now order.now (place order.now process + 1) (place order.now process * phases problem.now + 3) walk.new }
+{
+    let Some(condition) = problem.condition_of(process) else {
+        return;
+    };
+    let reach = broadcast_of(
+        problem,
+        walk.reaches.as_slice(),
+        walk.sent.as_slice(),
+        condition,
+    );
+    let item = problem.processes().len() + problem.edges().len() + condition as usize;
+    settle(item, node_of(problem, process), reach, walk);
+}
+
+/// Finds the reach of the message of an edge, if the edge comes from the process.
+fn settle_message(
+    problem: &Problem,
+    order: &Order,
+    deciding: &[Variables],
+    process: u32,
+    edge: u32,
+    walk: &mut Walk,
+)
+    requires order { IsTopological problem.now order.now }
+    requires process { process < process_count problem.now }
+    requires edge { edge < edge_count problem.now }
+    requires deciding { AreDecidingValues problem.now deciding.now }
+    requires walked { IsWalkedTo problem.now order.now (place order.now process + 1) (place order.now process * phases problem.now + 3 + edge) walk.old }
+    ensures { IsWalkedTo problem.now order.now (place order.now process + 1) (place order.now process * phases problem.now + 3 + (edge + 1)) walk.new }
+{
+    if problem.edges()[edge as usize].from != process {
+        return;
+    }
+    let reach = message_of(
+        problem,
+        deciding,
+        walk.reaches.as_slice(),
+        walk.sent.as_slice(),
+        edge,
+    );
+    let item = problem.processes().len() + edge as usize;
+    settle(item, node_of(problem, process), reach, walk);
+}
+
+/// Finds the reaches of the start of a process and of all that may be sent after its end.
+fn settle_process(
+    problem: &Problem,
+    order: &Order,
+    deciding: &[Variables],
+    process: u32,
+    walk: &mut Walk,
+)
+    requires order { IsTopological problem.now order.now }
+    requires process { process < process_count problem.now }
+    requires deciding { AreDecidingValues problem.now deciding.now }
+    requires walked { IsWalkedTo problem.now order.now (place order.now process) (place order.now process * phases problem.now) walk.old }
+    ensures { IsWalkedTo problem.now order.now (place order.now process + 1) ((place order.now process + 1) * phases problem.now) walk.new }
+{
+    settle_start(problem, order, deciding, process, walk);
+    settle_broadcast(problem, order, process, walk);
+    for edge in 0..problem.edges().len() as u32 {
+        settle_message(problem, order, deciding, process, edge, walk);
+    }
+}
+
+/// What the time of each item may depend on under an order, by item.
+pub fn reaches(
+    alloc: Global,
+    admitted: &Admitted,
+    order: &Order,
+) -> Result<Vec<Variables>, OutOfMemory>
+    requires { IsTopological admitted.now.graph order.now }
+    ensures { IfOk result (λ reaches. AreReaches admitted.now.graph order.now reaches.items) }
+{
+    let problem = admitted.problem();
+    let deciding = deciding_values(alloc, admitted)?;
+    let items = problem.processes().len() + problem.edges().len() + problem.conditions() as usize;
+    let nodes = problem.nodes().len();
+    let mut walk = Walk {
+        reaches: empty_sets(alloc, items)?,
+        known: empty_sets(alloc, nodes)?,
+        sent: empty_sets(alloc, nodes)?,
+    };
+    for process in order.processes() {
+        settle_process(problem, order, deciding.as_slice(), *process, &mut walk);
+    }
+    Ok(walk.reaches)
+}

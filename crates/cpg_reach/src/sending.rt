@@ -1,0 +1,73 @@
+//! What the send of a message or broadcast may depend on.
+ghost use Rattle.std.specs.Prelude.{◌≡◌, ◌<◌, ◌++◌, [], length, get_or};
+ghost use Rattle.cpg_base.specs.Graph.{Message, Broadcast, edge_count, condition_count, item_count};
+ghost use Rattle.cpg_order.specs.Reach.{end_reach};
+ghost use Rattle.cpg_reach.specs.Variables.{HasSame};
+ghost use Rattle.cpg_reach.specs.Tested.{AreDecidingValues};
+ghost use Rattle.cpg_reach.specs.Walked.{send_by};
+
+use crate::starting::{add_end, add_source_value, node_of};
+use crate::variables::Variables;
+use cpg_base::Problem;
+
+/// What the send of a message depends on, where it is known what its node has sent before it; nothing for an edge within a
+/// node.
+pub fn message_of(
+    problem: &Problem,
+    deciding: &[Variables],
+    reaches: &[Variables],
+    sent: &[Variables],
+    edge: u32,
+) -> Variables
+    requires edge { edge < edge_count problem.now }
+    requires deciding { AreDecidingValues problem.now deciding.now }
+    requires items { length reaches.now ≡ item_count problem.now }
+    requires nodes { length sent.now ≡ length problem.now.nodes }
+    ensures { HasSame result (send_by problem.now reaches.now sent.now (Message edge)) }
+{
+    let ends = problem.edges()[edge as usize];
+    let node = node_of(problem, ends.from);
+    if node == node_of(problem, ends.to) {
+        return Variables::none();
+    }
+    let mut reach = if ends.frozen {
+        deciding[ends.from as usize].copy()
+    } else {
+        after_end(reaches, sent, ends.from, node)
+    };
+    add_source_value(problem, edge, &mut reach);
+    reach
+}
+
+/// What an end and what a node has sent depend on.
+fn after_end(reaches: &[Variables], sent: &[Variables], process: u32, node: u32) -> Variables
+    requires process { process < length reaches.now }
+    requires variable { process < 128 }
+    requires node { node < length sent.now }
+    ensures { HasSame result (end_reach reaches.now process ++ get_or sent.now node []) }
+{
+    let mut reach = sent[node as usize].copy();
+    add_end(reaches, process, &mut reach);
+    reach
+}
+
+/// What the send of a broadcast depends on, where it is known what its node has sent before it; nothing where there is one
+/// node.
+pub fn broadcast_of(
+    problem: &Problem,
+    reaches: &[Variables],
+    sent: &[Variables],
+    condition: u32,
+) -> Variables
+    requires condition { condition < condition_count problem.now }
+    requires items { length reaches.now ≡ item_count problem.now }
+    requires nodes { length sent.now ≡ length problem.now.nodes }
+    ensures { HasSame result (send_by problem.now reaches.now sent.now (Broadcast condition)) }
+{
+    if problem.nodes().len() <= 1 {
+        return Variables::none();
+    }
+    let process = problem.process_of(condition);
+    let node = node_of(problem, process);
+    after_end(reaches, sent, process, node)
+}

@@ -1,0 +1,141 @@
+//! What the start of a process may depend on.
+ghost use Rattle.std.specs.Prelude.{◌≡◌, ◌<◌, ◌≤◌, ◌++◌, length};
+ghost use Rattle.std.specs.List.{flat_map};
+ghost use Rattle.cpg_base.specs.Graph.{process_count, edge_count, condition_count, item_count, node_of, inputs};
+ghost use Rattle.cpg_order.specs.Deciding.{conditions_of};
+ghost use Rattle.cpg_order.specs.Reach.{end_reach, hearing_reach, input_reach, source_value};
+ghost use Rattle.cpg_reach.specs.Variables.{Adds, HasSame};
+ghost use Rattle.cpg_reach.specs.Tested.{AreDecidingValues};
+ghost use Rattle.cpg_reach.specs.Walked.{heard_by, start_by};
+
+use crate::variables::{FIRST_VALUE, Variables};
+use cpg_base::Problem;
+
+/// The node of a process.
+pub fn node_of(problem: &Problem, process: u32) -> u32
+    requires { process < process_count problem.now }
+    ensures node { result ≡ node_of problem.now process }
+    ensures within { result < length problem.now.nodes }
+    ensures few { process < 128 }
+{
+    problem.processes()[process as usize].node
+}
+
+/// Adds what an end depends on: its start, and its faults.
+pub fn add_end(reaches: &[Variables], process: u32, reach: &mut Variables)
+    requires process { process < length reaches.now }
+    requires variable { process < 128 }
+    ensures { Adds reach.old (end_reach reaches.now process) reach.new }
+{
+    reach.add(&reaches[process as usize]);
+    reach.insert(process);
+}
+
+/// Adds the value of an edge's source, where the edge is conditional.
+pub fn add_source_value(problem: &Problem, edge: u32, reach: &mut Variables)
+    requires { edge < edge_count problem.now }
+    ensures { Adds reach.old (source_value problem.now edge) reach.new }
+{
+    let ends = problem.edges()[edge as usize];
+    if ends.when.is_none() {
+        return;
+    }
+    if let Some(condition) = problem.condition_of(ends.from) {
+        reach.insert(FIRST_VALUE + condition);
+    }
+}
+
+/// Adds what the moment of hearing a condition on a node depends on.
+fn add_hearing(
+    problem: &Problem,
+    reaches: &[Variables],
+    node: u32,
+    condition: u32,
+    reach: &mut Variables,
+)
+    requires condition { condition < condition_count problem.now }
+    requires items { length reaches.now ≡ item_count problem.now }
+    ensures { Adds reach.old (hearing_reach problem.now reaches.now node condition) reach.new }
+{
+    let process = problem.process_of(condition);
+    if node_of(problem, process) == node {
+        add_end(reaches, process, reach);
+    } else {
+        let broadcast = problem.processes().len() + problem.edges().len() + condition as usize;
+        reach.add(&reaches[broadcast]);
+    }
+}
+
+/// Adds the values that decide a process, and what the moments of hearing them on a node depend on.
+pub fn add_heard(
+    problem: &Problem,
+    deciding: &[Variables],
+    reaches: &[Variables],
+    node: u32,
+    process: u32,
+    reach: &mut Variables,
+)
+    requires process { process < process_count problem.now }
+    requires deciding { AreDecidingValues problem.now deciding.now }
+    requires items { length reaches.now ≡ item_count problem.now }
+    ensures { Adds reach.old (heard_by problem.now reaches.now node (conditions_of problem.now process)) reach.new }
+{
+    for condition in 0..problem.conditions() {
+        if deciding[process as usize].has(FIRST_VALUE + condition) {
+            reach.insert(FIRST_VALUE + condition);
+            add_hearing(problem, reaches, node, condition, reach);
+        }
+    }
+}
+
+/// Adds what the moment at which an input is there depends on.
+fn add_input(problem: &Problem, reaches: &[Variables], edge: u32, reach: &mut Variables)
+    requires edge { edge < edge_count problem.now }
+    requires items { length reaches.now ≡ item_count problem.now }
+    ensures { Adds reach.old (input_reach problem.now reaches.now edge) reach.new }
+{
+    let ends = problem.edges()[edge as usize];
+    if node_of(problem, ends.from) == node_of(problem, ends.to) {
+        add_end(reaches, ends.from, reach);
+    } else {
+        let message = problem.processes().len() + edge as usize;
+        reach.add(&reaches[message]);
+    }
+    add_source_value(problem, edge, reach);
+}
+
+/// Adds what the moments at which the inputs of a process are there depend on.
+fn add_inputs(problem: &Problem, reaches: &[Variables], process: u32, reach: &mut Variables)
+    requires { length reaches.now ≡ item_count problem.now }
+    ensures { Adds reach.old (flat_map (input_reach problem.now reaches.now) (inputs problem.now process)) reach.new }
+{
+    for edge in 0..problem.edges().len() as u32 {
+        if problem.edges()[edge as usize].to == process {
+            add_input(problem, reaches, edge, reach);
+        }
+    }
+}
+
+/// What the start of a process depends on, where it is known what those before it on its node made it wait for.
+pub fn start_of(
+    problem: &Problem,
+    deciding: &[Variables],
+    reaches: &[Variables],
+    known: &[Variables],
+    process: u32,
+) -> Variables
+    requires process { process < process_count problem.now }
+    requires deciding { AreDecidingValues problem.now deciding.now }
+    requires items { length reaches.now ≡ item_count problem.now }
+    requires nodes { length known.now ≡ length problem.now.nodes }
+    ensures { HasSame result (start_by problem.now reaches.now known.now process) }
+{
+    if problem.processes()[process as usize].frozen {
+        return deciding[process as usize].copy();
+    }
+    let node = node_of(problem, process);
+    let mut reach = known[node as usize].copy();
+    add_heard(problem, deciding, reaches, node, process, &mut reach);
+    add_inputs(problem, reaches, process, &mut reach);
+    reach
+}

@@ -1,0 +1,79 @@
+//! Sets of variables.
+ghost use Rattle.std.specs.Prelude.{◌≡◌, ◌<◌, ◌≤◌, ◌∷◌, [], ◌||◌, ℕ, false, length, get_or};
+ghost use Rattle.cpg_order.specs.Reach.{is_in};
+ghost use Rattle.cpg_reach.specs.Variables.{Adds, HasSame};
+
+use std::marker::Model;
+
+/// How many variables there are: the fault counts of 128 processes, and then the values of 32 conditions.
+const MOST_VARIABLES: usize = 160;
+/// The variable of the value of condition 0.
+pub const FIRST_VALUE: u32 = 128;
+
+/// A set of variables, seen as the list of their numbers.
+#[derive(Drop)]
+pub struct Variables {
+    marks: [bool; MOST_VARIABLES],
+}
+
+impl Model for Variables {
+    ghost use Rattle.std.specs.Prelude.{List, ℕ};
+    ghost use Rattle.cpg_reach.specs.Variables.{members};
+
+    ghost Value = { List ℕ };
+
+    ghost view = { λ s. members s.marks };
+}
+
+/// Marks all that the others mark.
+fn unite(marks: &mut [bool], others: &[bool])
+    requires { length marks.old ≡ length others.now }
+    ensures { (v : ℕ) → get_or marks.new v false ≡ (get_or marks.old v false || get_or others.now v false) }
+{
+    for variable in 0..marks.len() {
+        if others[variable] {
+            marks[variable] = true;
+        }
+    }
+}
+
+impl Variables {
+    /// No variables.
+    pub fn none() -> Variables
+        ensures { (v : ℕ) → is_in result v ≡ false }
+    {
+        Variables {
+            marks: [false; MOST_VARIABLES],
+        }
+    }
+
+    /// Whether a variable is there.
+    pub fn has(&self, variable: u32) -> bool
+        requires { variable < 160 }
+        ensures { result ≡ is_in self.now variable }
+    {
+        self.marks[variable as usize]
+    }
+
+    /// Adds a variable.
+    pub fn insert(&mut self, variable: u32)
+        requires { variable < 160 }
+        ensures { Adds self.old (variable ∷ []) self.new }
+    {
+        self.marks[variable as usize] = true;
+    }
+
+    /// Adds all variables of another set.
+    pub fn add(&mut self, others: &Variables)
+        ensures { Adds self.old others.now self.new }
+    {
+        unite(&mut self.marks, &others.marks);
+    }
+
+    /// An equal set.
+    pub fn copy(&self) -> Variables
+        ensures { result ≡ self.now }
+    {
+        Variables { marks: self.marks }
+    }
+}

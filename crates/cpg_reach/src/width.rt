@@ -1,0 +1,116 @@
+//! Views of items, and items that are too wide.
+ghost use Rattle.std.specs.Prelude.{◌≡◌, ◌<◌, ◌≤◌, IfOk, IfSome, IfNone, true};
+ghost use Rattle.cpg_base.specs.Graph.{item_count, item_at, process_count};
+ghost use Rattle.cpg_order.specs.Urgency.{IsTopological};
+ghost use Rattle.cpg_order.specs.Reach.{rows_of_item};
+ghost use Rattle.cpg_reach.specs.Counter.{IsCounterFor};
+ghost use Rattle.cpg_reach.specs.Wide.{HasViews, HasLoads, is_wide_by, IsLeastWide, IsNarrow};
+
+use crate::counting::Counter;
+use crate::reaches::reaches;
+use crate::starting::node_of;
+use crate::variables::Variables;
+use cpg_base::{OutOfMemory, Problem};
+use cpg_order::Order;
+use cpg_rules::Admitted;
+use std::alloc::Global;
+
+/// How many views an item has at most.
+const MOST_VIEWS: u64 = 16_384;
+/// How many columns the rows have together at most.
+const MOST_LOADS: u64 = 524_288;
+
+/// In how many rows an item stands: a start in one, and what is sent in one at its sender and one at each receiver.
+fn rows_of_item(problem: &Problem, item: u32) -> u64
+    requires { item < item_count problem.now }
+    ensures rows { result ≡ rows_of_item problem.now (item_at problem.now item) }
+    ensures few { result ≤ 16 }
+{
+    let processes = problem.processes().len() as u32;
+    if item < processes {
+        return 1;
+    }
+    let edge = (item - processes) as usize;
+    if edge < problem.edges().len() {
+        let ends = problem.edges()[edge];
+        if node_of(problem, ends.from) == node_of(problem, ends.to) {
+            return 0;
+        }
+        return 2;
+    }
+    let nodes = problem.nodes().len() as u64;
+    if nodes > 1 { nodes } else { 0 }
+}
+
+/// The loads with that of one more item; `None` where it has too many views, or the loads are then too many.
+fn loads_with(
+    admitted: &Admitted,
+    order: &Order,
+    counter: &mut Counter,
+    reached: &Variables,
+    item: u32,
+    loads: u64,
+) -> Option<u64>
+    requires order { IsTopological admitted.now.graph order.now }
+    requires counter { IsCounterFor admitted.now.graph order.now counter.old }
+    requires item { item < item_count admitted.now.graph }
+    requires loads { loads ≤ 524288 }
+    ensures some { IfSome result (HasLoads admitted.now.graph reached.now item loads) }
+    ensures none { IfNone result (is_wide_by admitted.now.graph reached.now item loads ≡ true) }
+    ensures counter { IsCounterFor admitted.now.graph order.now counter.new }
+{
+    let rows = rows_of_item(admitted.problem(), item);
+    if rows == 0 {
+        return Some(loads);
+    }
+    let views = counter.views(admitted, order, reached, MOST_VIEWS + 1);
+    if views > MOST_VIEWS {
+        return None;
+    }
+    let sum = loads + views * rows;
+    if sum > MOST_LOADS { None } else { Some(sum) }
+}
+
+/// How many views an item has under an order: the scenarios in which each value that the item's time doesn't depend on, and
+/// each value of an inactive process, is false, and each such fault count is 0.
+pub fn views(
+    alloc: Global,
+    admitted: &Admitted,
+    order: &Order,
+    item: u32,
+) -> Result<u64, OutOfMemory>
+    requires order { IsTopological admitted.now.graph order.now }
+    requires item { item < item_count admitted.now.graph }
+    ensures { IfOk result (HasViews admitted.now.graph order.now item) }
+{
+    let problem = admitted.problem();
+    let reaches = reaches(alloc, admitted, order)?;
+    let mut counter = Counter::of(alloc, problem, order)?;
+    let views = counter.views(admitted, order, &reaches[item as usize], u64::MAX);
+    Ok(views)
+}
+
+/// The least item that is too wide under an order, and `None` exactly where there is none: its views are more than 16,384,
+/// or the loads of the items up to it are together more than 524,288. The load of an item is its views in each of its rows.
+pub fn too_wide(
+    alloc: Global,
+    admitted: &Admitted,
+    order: &Order,
+) -> Result<Option<u32>, OutOfMemory>
+    requires { IsTopological admitted.now.graph order.now }
+    ensures some { IfOk result (λ found. IfSome found (IsLeastWide admitted.now.graph order.now)) }
+    ensures none { IfOk result (λ found. IfNone found (IsNarrow admitted.now.graph order.now)) }
+{
+    let problem = admitted.problem();
+    let reaches = reaches(alloc, admitted, order)?;
+    let mut counter = Counter::of(alloc, problem, order)?;
+    let mut loads = 0;
+    for item in 0..reaches.len() as u32 {
+        let reached = &reaches[item as usize];
+        match loads_with(admitted, order, &mut counter, reached, item, loads) {
+            Some(sum) => loads = sum,
+            None => return Ok(Some(item)),
+        }
+    }
+    Ok(None)
+}
