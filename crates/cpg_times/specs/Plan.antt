@@ -1,0 +1,22 @@
+-- What is found once for a graph: the edges of each process, and what a process sends, in the order of its node's queue.
+use Rattle.std.specs.Prelude.{ℕ, if◌then◌else◌, nat_lt, List, [], ◌∷◌, ◌++◌, Option, Some, None, map, filter, length}
+use Rattle.cpg_base.specs.Numbers.{numbers_below}
+use Rattle.cpg_base.specs.Graph.{Graph, process_count, outputs, condition_of, is_message, message_item, broadcast_item}
+use Rattle.cpg_order.specs.Links.{EdgeLists, links_of}
+
+-- the broadcast of a condition, where there are two nodes or more
+abbrev pub broadcasts_of : Graph → Option ℕ → List ℕ
+broadcasts_of g None = []
+broadcasts_of g (Some c) = if nat_lt 1 (length g.nodes) then broadcast_item g c ∷ [] else []
+
+-- what a process sends: its broadcast, then its messages by number
+abbrev pub queue_of : Graph → ℕ → List ℕ
+queue_of g p = broadcasts_of g (condition_of g p) ++ map (message_item g) (filter (is_message g) (outputs g p))
+
+pub record PlanState : Type 0 where
+  pub links : EdgeLists
+  pub queues : List (List ℕ)
+
+-- that of a graph
+abbrev pub plan_of : Graph → PlanState
+plan_of g = record { links = links_of g; queues = map (queue_of g) (numbers_below (process_count g)) }
