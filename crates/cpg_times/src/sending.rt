@@ -18,19 +18,28 @@ use crate::items::node_of;
 use crate::known::Known;
 use crate::waiting::frozen_time;
 use cpg_base::{Problem, Scenario};
-use cpg_bus::Share;
 use cpg_guard::GuardTrees;
 use cpg_order::Order;
 use cpg_run::Frozen;
 
 /// When an active item is sent: in a slot that is free, at the end of its producer or later.
-fn send_time(problem: &Problem, frozen: &Frozen, node: u32, item: u32, end: u64, free: u64) -> u64
+fn send_time(
+    problem: &Problem,
+    plan: &Plan,
+    frozen: &Frozen,
+    node: u32,
+    item: u32,
+    end: u64,
+    free: u64,
+) -> u64
+    requires plan { plan.now ≡ plan_of problem.now }
+    requires node { node < length problem.now.nodes }
     requires slot { HasSlot problem.now node }
     requires frozen { item < length frozen.now }
     requires early { end < 2 ^ 59 }
     ensures { result ≡ max (max (next_slot problem.now node end) free) (frozen_in frozen.now item) }
 {
-    let next = Share::of(problem, node).next_slot(end);
+    let next = plan.share(problem, node).next_slot(end);
     next.max(free).max(frozen_time(frozen, item))
 }
 
@@ -62,11 +71,11 @@ pub(crate) fn send(
 {
     let node = node_of(problem, process);
     let end = known.end(process);
-    let round = problem.round();
+    let round = plan.round(problem);
     let mut free = free;
     for item in plan.queue(problem, process) {
         if is_item_active(problem, guards, scenario, process, *item) {
-            let time = send_time(problem, frozen, node, *item, end, free);
+            let time = send_time(problem, plan, frozen, node, *item, end, free);
             known.set_time(*item, time);
             free = time + round;
         }

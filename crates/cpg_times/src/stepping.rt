@@ -73,7 +73,15 @@ pub(crate) fn step(
 {
     let process = order.at(place);
     let node = node_of(problem, process) as usize;
-    let heard = decided_there(alloc, problem, guards, &progress.known, scenario, process)?;
+    let heard = decided_there(
+        alloc,
+        problem,
+        guards,
+        plan,
+        &progress.known,
+        scenario,
+        process,
+    )?;
     let ready = progress.ready[node].max(heard);
     if !is_active(problem, guards, scenario, process) {
         progress.ready[node] = ready;

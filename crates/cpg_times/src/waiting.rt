@@ -18,23 +18,25 @@ use crate::activity::{deciding, is_live};
 use crate::items::{broadcast_item, is_message, message_item, node_of, source};
 use crate::known::Known;
 use cpg_base::{OutOfMemory, Problem, Scenario};
-use cpg_bus::Share;
 use cpg_guard::GuardTrees;
 use cpg_run::Frozen;
 use std::alloc::Global;
 
 /// When a frame of a node is there.
-fn frame_there(problem: &Problem, known: &Known, node: u32, item: u32) -> u64
+fn frame_there(problem: &Problem, plan: &Plan, known: &Known, node: u32, item: u32) -> u64
+    requires plan { plan.now ≡ plan_of problem.now }
+    requires node { node < length problem.now.nodes }
     requires slot { HasSlot problem.now node }
     requires home { home problem.now item ≡ node }
     requires small { AreSmall known.now }
     ensures { result ≡ frame_there problem.now known.now item }
 {
-    known.time(item) + Share::of(problem, node).length()
+    known.time(item) + plan.share(problem, node).length()
 }
 
 /// When an input is there.
-fn input_there(problem: &Problem, known: &Known, edge: u32) -> u64
+fn input_there(problem: &Problem, plan: &Plan, known: &Known, edge: u32) -> u64
+    requires plan { plan.now ≡ plan_of problem.now }
     requires slots { HasSenderSlots problem.now }
     requires edge { edge < edge_count problem.now }
     requires small { AreSmall known.now }
@@ -44,6 +46,7 @@ fn input_there(problem: &Problem, known: &Known, edge: u32) -> u64
     if is_message(problem, edge) {
         frame_there(
             problem,
+            plan,
             known,
             node_of(problem, sender),
             message_item(problem, edge),
@@ -54,7 +57,8 @@ fn input_there(problem: &Problem, known: &Known, edge: u32) -> u64
 }
 
 /// When a node has heard a condition.
-fn heard_there(problem: &Problem, known: &Known, node: u32, condition: u32) -> u64
+fn heard_there(problem: &Problem, plan: &Plan, known: &Known, node: u32, condition: u32) -> u64
+    requires plan { plan.now ≡ plan_of problem.now }
     requires slots { HasSenderSlots problem.now }
     requires node { node < length problem.now.nodes }
     requires condition { condition < condition_count problem.now }
@@ -66,7 +70,13 @@ fn heard_there(problem: &Problem, known: &Known, node: u32, condition: u32) -> u
     if sender == node {
         known.end(process)
     } else {
-        frame_there(problem, known, sender, broadcast_item(problem, condition))
+        frame_there(
+            problem,
+            plan,
+            known,
+            sender,
+            broadcast_item(problem, condition),
+        )
     }
 }
 
@@ -74,18 +84,20 @@ fn heard_there(problem: &Problem, known: &Known, node: u32, condition: u32) -> u
 fn live_there(
     problem: &Problem,
     guards: &GuardTrees,
+    plan: &Plan,
     known: &Known,
     scenario: &Scenario,
     edge: u32,
 ) -> u64
     requires admitted { AreAdmitted problem.now guards.now }
+    requires plan { plan.now ≡ plan_of problem.now }
     requires scenario { IsScenario problem.now scenario.now }
     requires edge { edge < edge_count problem.now }
     requires small { AreSmall known.now }
     ensures { result ≡ (if live problem.now scenario.now.values edge then input_there problem.now known.now edge else 0) }
 {
     if is_live(problem, guards, scenario, edge) {
-        input_there(problem, known, edge)
+        input_there(problem, plan, known, edge)
     } else {
         0
     }
@@ -95,11 +107,13 @@ fn live_there(
 fn latest_there(
     problem: &Problem,
     guards: &GuardTrees,
+    plan: &Plan,
     known: &Known,
     scenario: &Scenario,
     edges: &[u32],
 ) -> u64
     requires admitted { AreAdmitted problem.now guards.now }
+    requires plan { plan.now ≡ plan_of problem.now }
     requires scenario { IsScenario problem.now scenario.now }
     requires edges { (e : ℕ) → Contains edges.now e → e < edge_count problem.now }
     requires small { AreSmall known.now }
@@ -107,7 +121,7 @@ fn latest_there(
 {
     let mut latest = 0;
     for edge in edges {
-        latest = latest.max(live_there(problem, guards, known, scenario, *edge));
+        latest = latest.max(live_there(problem, guards, plan, known, scenario, *edge));
     }
     latest
 }
@@ -131,6 +145,7 @@ fn inputs_there(
     latest_there(
         problem,
         guards,
+        plan,
         known,
         scenario,
         plan.inputs(problem, process),
@@ -138,7 +153,8 @@ fn inputs_there(
 }
 
 /// When a node has heard each of these conditions.
-fn latest_heard(problem: &Problem, known: &Known, node: u32, conditions: &[u32]) -> u64
+fn latest_heard(problem: &Problem, plan: &Plan, known: &Known, node: u32, conditions: &[u32]) -> u64
+    requires plan { plan.now ≡ plan_of problem.now }
     requires slots { HasSenderSlots problem.now }
     requires node { node < length problem.now.nodes }
     requires conditions { (c : ℕ) → Contains conditions.now c → c < condition_count problem.now }
@@ -147,7 +163,7 @@ fn latest_heard(problem: &Problem, known: &Known, node: u32, conditions: &[u32])
 {
     let mut latest = 0;
     for condition in conditions {
-        latest = latest.max(heard_there(problem, known, node, *condition));
+        latest = latest.max(heard_there(problem, plan, known, node, *condition));
     }
     latest
 }
@@ -157,11 +173,13 @@ pub(crate) fn decided_there(
     alloc: Global,
     problem: &Problem,
     guards: &GuardTrees,
+    plan: &Plan,
     known: &Known,
     scenario: &Scenario,
     process: u32,
 ) -> Result<u64, OutOfMemory>
     requires admitted { AreAdmitted problem.now guards.now }
+    requires plan { plan.now ≡ plan_of problem.now }
     requires scenario { IsScenario problem.now scenario.now }
     requires process { process < process_count problem.now }
     requires small { AreSmall known.now }
@@ -170,6 +188,7 @@ pub(crate) fn decided_there(
     let conditions = deciding(alloc, problem, guards, scenario, process)?;
     let heard = latest_heard(
         problem,
+        plan,
         known,
         node_of(problem, process),
         conditions.as_slice(),
