@@ -8,3 +8,4 @@ pub mod Steps
 pub mod Along
 pub mod Senders
 pub mod Places
+pub mod Unfrozen
