@@ -1,5 +1,5 @@
 //! What is active in a scenario, by the guards of an admitted graph.
-ghost use Rattle.std.specs.Prelude.{◌≡◌, ◌<◌, ◌≤◌, IfOk, true, ℕ, List, Contains, length};
+ghost use Rattle.std.specs.Prelude.{◌≡◌, ◌<◌, IfOk, true, ℕ, List, Contains};
 ghost use Rattle.cpg_base.specs.Graph.{process_count, edge_count, item_at};
 ghost use Rattle.cpg_base.specs.Activity.{active, live, item_active};
 ghost use Rattle.cpg_base.specs.Scenario.{IsScenario};

@@ -1,10 +1,10 @@
 //! What is found once for a graph.
-ghost use Rattle.std.specs.Prelude.{◌≡◌, ◌<◌, ◌==◌, ◌++◌, ◌∷◌, [], IfOk, ℕ, get_or, length, map, filter};
+ghost use Rattle.std.specs.Prelude.{◌≡◌, ◌<◌, ◌==◌, IfOk, ℕ, length, map};
 ghost use Rattle.std.specs.List.{list_any};
 ghost use Rattle.cpg_base.specs.Bus.{round};
 ghost use Rattle.cpg_bus.specs.Share.{HasSlot, share_of};
 ghost use Rattle.cpg_base.specs.Numbers.{numbers_below};
-ghost use Rattle.cpg_base.specs.Graph.{Graph, process_count, inputs, outputs, condition_of, is_message, message_item};
+ghost use Rattle.cpg_base.specs.Graph.{process_count, inputs, condition_of};
 ghost use Rattle.cpg_order.specs.Links.{links_of};
 ghost use Rattle.cpg_times.specs.Plan.{broadcasts_of, queue_of, share_if, plan_of};
 

@@ -1,6 +1,6 @@
 //! What a process sends.
-ghost use Rattle.std.specs.Prelude.{◌≡◌, ◌<◌, ◌^◌, max, true, ℕ, Contains, length};
-ghost use Rattle.cpg_base.specs.Graph.{process_count, item_count, node_of};
+ghost use Rattle.std.specs.Prelude.{◌≡◌, ◌<◌, ◌^◌, max, true, length};
+ghost use Rattle.cpg_base.specs.Graph.{process_count, item_count};
 ghost use Rattle.cpg_base.specs.Activity.{active};
 ghost use Rattle.cpg_base.specs.Bus.{next_slot};
 ghost use Rattle.cpg_base.specs.Scenario.{IsScenario};

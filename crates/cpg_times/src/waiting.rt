@@ -1,7 +1,7 @@
 //! What a start waits for.
-ghost use Rattle.std.specs.Prelude.{◌≡◌, ◌<◌, ◌≤◌, max, IfOk, if◌then◌else◌, true, ℕ, Contains, length, map};
+ghost use Rattle.std.specs.Prelude.{◌≡◌, ◌<◌, max, IfOk, if◌then◌else◌, true, ℕ, Contains, length, map};
 ghost use Rattle.cpg_base.specs.Numbers.{greatest};
-ghost use Rattle.cpg_base.specs.Graph.{process_count, edge_count, condition_count, process_at, node_of, home, inputs};
+ghost use Rattle.cpg_base.specs.Graph.{process_count, edge_count, condition_count, process_at, node_of, home};
 ghost use Rattle.cpg_base.specs.Activity.{live};
 ghost use Rattle.cpg_base.specs.Scenario.{IsScenario};
 ghost use Rattle.cpg_base.specs.WellFormed.{HasSenderSlots};
