@@ -8,6 +8,8 @@ mod plan;
 mod running;
 mod sending;
 mod stepping;
+#[cfg(test)]
+mod tests;
 mod waiting;
 
 pub use plan::Plan;
