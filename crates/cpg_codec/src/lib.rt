@@ -1,0 +1,16 @@
+//! Packs: the tables of all nodes with their head, in one file of bytes.
+//!
+//! [`write_pack`] writes the one spelling of tables, and [`read_pack`] reads it; docs/FORMATS.md says what it is.
+#![tactic(auto)]
+
+ghost use Rattle.cpg_codec.specs.Packs.{OneValue, NoProperPrefix};
+
+/// A pack is the spelling of one value: tables with equal spellings are equal.
+pub fn packs_have_one_value()
+    ensures { OneValue }
+{}
+
+/// No pack is a proper prefix of another.
+pub fn packs_have_no_proper_prefix()
+    ensures { NoProperPrefix }
+{}
