@@ -2,3 +2,5 @@ pub mod Reading
 pub mod Spelling
 pub mod Grammar
 pub mod Packs
+pub mod Fields
+pub mod Writing
