@@ -12,7 +12,7 @@ use Rattle.cpg_table.specs.Table.{Column}
 use Rattle.cpg_table.specs.Lawful.{IsLawfulLiteral, IsLawfulColumn}
 use Rattle.cpg_table.specs.declared.space.Space.{Space}
 use Rattle.cpg_codec.specs.Reading.{down}
-use Rattle.cpg_codec.specs.Spelling.{byte, literal, column}
+use Rattle.cpg_codec.specs.Spelling.{byte, literal_bytes, column_bytes}
 use Rattle.cpg_codec.specs.Grammar.{limit, fault_end, is_variable, room, variable_may, low_end, high_end, literal_at, literals_at, column_at}
 use Rattle.cpg_codec.proofs.Laws.{Reads, pure_reads, seq, adapt, byte_reads}
 use Rattle.cpg_codec.proofs.Numbers.{small_reads}
@@ -85,7 +85,7 @@ room_some s least few some = elim (cases_lt least (fault_end s)) [
   | inr h ↦ (max 128 least, omega arith, is_value_variable s (max 128 least) (omega arith) (some_there (fault_end s) s.conditions least h some), some_value (fault_end s) s.conditions least few h)
 ]
 
-literals_room : (s : Space) (least : ℕ) (ls : List Literal) → fault_end s ≤ 128 → AreLiterals s least ls → length ls ≤ room s least
+pub literals_room : (s : Space) (least : ℕ) (ls : List Literal) → fault_end s ≤ 128 → AreLiterals s least ls → length ls ≤ room s least
 literals_room s least [] few h = omega arith
 literals_room s least (l ∷ ls) few h =
     let a = literals_room s (suc l.variable) ls few h.2 in
@@ -150,7 +150,7 @@ may_to s least left v h =
     let q = and_parts (leb least v) (is_variable s v) p.0 in
     (leb-true least v q.0, q.1, leb-true left (room s (suc v)) p.1)
 
-pub literal_reads : (s : Space) (left least : ℕ) → IsSpace s → left < room s least → Reads (FitsLiteral s left least) literal (literal_at s left least)
+pub literal_reads : (s : Space) (left least : ℕ) → IsSpace s → left < room s least → Reads (FitsLiteral s left least) literal_bytes (literal_at s left least)
 unfolding literal_at
 literal_reads s left least i there =
     let v0 = room_some s least (few_fault s i) (omega arith) in
@@ -181,12 +181,12 @@ pub record LiteralsFor (s : Space) (count least : ℕ) (ls : List Literal) : Typ
   pub count_is : length ls ≡ count
   pub lawful : AreLiterals s least ls
 
-pub literals_reads : (s : Space) (count : ℕ) → IsSpace s → count ≤ room s 0 → Reads (LiteralsFor s count 0) (flat_map literal) (literals_at s count)
+pub literals_reads : (s : Space) (count : ℕ) → IsSpace s → count ≤ room s 0 → Reads (LiteralsFor s count 0) (flat_map literal_bytes) (literals_at s count)
 unfolding literals_at
 literals_reads s count i le =
     adapt
     (each_reads (λ (least : ℕ) (l : Literal). suc l.variable) (literal_at s)
-    (λ ls least. (ls ≡ down (length ls)) × (length ls ≤ room s least)) (λ l ls least. FitsLiteral s l least) literal (λ ls least xs. LiteralsFor s (length ls) least xs)
+    (λ ls least. (ls ≡ down (length ls)) × (length ls ≤ room s least)) (λ l ls least. FitsLiteral s l least) literal_bytes (λ ls least xs. LiteralsFor s (length ls) least xs)
     (λ l ls least inv. let d = down_head l ls inv.0 in literal_reads s l least i (omega (arith, d.0, inv.1)))
     (λ l ls least x inv f. let d = down_head l ls inv.0 in (d.1, omega (arith, d.0, f.leaves)))
     (λ least inv. record { count_is = refl; lawful = tt })
@@ -249,13 +249,13 @@ literals_from s least (l ∷ ls) i h r =
     let e : l.variable + 1 ≡ suc l.variable = omega arith in
     (leb-true least l.variable p.0, literal_from s l i h.0, literals_from s (suc l.variable) ls i h.1 (subst (λ (n : ℕ). rises_from n ls ≡ true) e p.1))
 
-column_literals : (s : Space) (c : Column) → IsSpace s → IsLawfulColumn s c → AreLiterals s 0 c.cube
+pub column_literals : (s : Space) (c : Column) → IsSpace s → IsLawfulColumn s c → AreLiterals s 0 c.cube
 column_literals s c i h = literals_from s 0 c.cube i (recursion_from_All (IsLawfulLiteral s) c.cube h.literals) (rises_by 0 c.cube h.rising (λ l q. omega arith))
 
 regroup_3 : (a b c : List ℕ) → a ++ (b ++ (c ++ [])) ≡ a ++ b ++ c
 regroup_3 a b c = simp (append_assoc, append-nil)
 
-pub column_reads : (s : Space) → IsSpace s → Reads (IsLawfulColumn s) column (column_at s)
+pub column_reads : (s : Space) → IsSpace s → Reads (IsLawfulColumn s) column_bytes (column_at s)
 unfolding column_at
 column_reads s i =
     adapt
@@ -268,6 +268,6 @@ column_reads s i =
     (λ t c ft h. ap (λ (q : Column). q.time) h.1.1))
     (λ c h. let l = literals_to s 0 c.cube i h.1.1.0.lawful in record { time = h.0; literals = All-from_recursion (IsLawfulLiteral s) c.cube l.0; rising = rising_from 0 c.cube l.1 })
     (λ c h. let l = column_literals s c i h in (h.time, ((omega arith, literals_room s 0 c.cube (few_fault s i) l), (record { count_is = refl; lawful = l }, refl))))
-    (λ c h. regroup_3 (to_be_bytes w64 c.time) (byte (length c.cube)) (flat_map literal c.cube)) where
+    (λ c h. regroup_3 (to_be_bytes w64 c.time) (byte (length c.cube)) (flat_map literal_bytes c.cube)) where
       room_small : (e c : ℕ) → e ≤ 128 → c ≤ 32 → (e - 0) + ((128 + c) - max 128 0) < 256
       room_small e c a b = omega arith

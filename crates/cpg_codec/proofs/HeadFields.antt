@@ -10,7 +10,7 @@ use Rattle.cpg_base.specs.Name.{IsName, is_name_byte}
 use Rattle.cpg_table.specs.Head.{Head, IsHeadEdge, version_of}
 use Rattle.cpg_table.specs.declared.head_parts.Extra.{Extra}
 use Rattle.cpg_codec.specs.Reading.{byte_by, within, down}
-use Rattle.cpg_codec.specs.Spelling.{Written, written, magic, bit, byte, name, own_number, extra, process, edge, head}
+use Rattle.cpg_codec.specs.Spelling.{Written, written, magic, bit, byte, name_bytes, own_number, extra_bytes, process_bytes, edge_bytes, head_bytes}
 use Rattle.cpg_codec.specs.Grammar.{name_at, time_at, own_may, own_at, extra_at, process_at, processes_at, edge_at, limit, head_from, head_at}
 use Rattle.cpg_codec.specs.Packs.{IsPackHead}
 use Rattle.cpg_codec.proofs.Laws.{Reads, pure_reads, seq, adapt, byte_reads}
@@ -24,7 +24,7 @@ singles : (bs : List ℕ) → flat_map (λ (b : ℕ). b ∷ []) bs ≡ bs
 singles [] = refl
 singles (b ∷ bs) = ap (λ (t : List ℕ). b ∷ t) (singles bs)
 
-pub name_reads : Reads IsName name name_at
+pub name_reads : Reads IsName name_bytes name_at
 unfolding name_at
 name_reads =
     adapt
@@ -117,14 +117,14 @@ extra_some_from : (x : Option Extra) → IsExtraOf 2 x → ((0 ≤ release_of x)
 extra_some_from None h = absurd (omega (arith, h))
 extra_some_from (Some e) h = ((omega arith, h.1.release), (h.1.deadline, refl))
 
-extra_some_spell : (x : Option Extra) → IsExtraOf 2 x → to_be_bytes w64 (release_of x) ++ (to_be_bytes w64 (own_number (deadline_of x)) ++ []) ≡ extra x
+extra_some_spell : (x : Option Extra) → IsExtraOf 2 x → to_be_bytes w64 (release_of x) ++ (to_be_bytes w64 (own_number (deadline_of x)) ++ []) ≡ extra_bytes x
 extra_some_spell None h = absurd (omega (arith, h))
 extra_some_spell (Some e) h = ap (λ (t : List ℕ). to_be_bytes w64 e.release ++ t) (append-nil (to_be_bytes w64 (own_number e.deadline)))
 
 extra_none_to : (x : Option Extra) → x ≡ None → IsExtraOf 1 x
 extra_none_to x e = rw e refl
 
-extra_two : Reads (IsExtraOf 2) extra (extra_at 2)
+extra_two : Reads (IsExtraOf 2) extra_bytes (extra_at 2)
 unfolding extra_at
 extra_two =
     adapt
@@ -133,11 +133,11 @@ extra_two =
     (λ r x fr h. ap release_of h.1))
     extra_some_to extra_some_from extra_some_spell
 
-extra_one : Reads (IsExtraOf 1) extra (extra_at 1)
+extra_one : Reads (IsExtraOf 1) extra_bytes (extra_at 1)
 unfolding extra_at
-extra_one = adapt (pure_reads None) extra_none_to none_of (λ x h. ap extra (sym (none_of x h)))
+extra_one = adapt (pure_reads None) extra_none_to none_of (λ x h. ap extra_bytes (sym (none_of x h)))
 
-pub extra_reads : (version : ℕ) → 1 ≤ version → version ≤ 2 → Reads (IsExtraOf version) extra (extra_at version)
+pub extra_reads : (version : ℕ) → 1 ≤ version → version ≤ 2 → Reads (IsExtraOf version) extra_bytes (extra_at version)
 extra_reads zero a b = absurd (omega arith)
 extra_reads (suc zero) a b = extra_one
 extra_reads (suc (suc zero)) a b = extra_two
@@ -192,7 +192,7 @@ same_process w = ap (λ (c : Bool). record { process = record { name = w.process
 abbrev pub FitsBehind : ℕ → ℕ → ℕ → ℕ → Written → Type 0
 FitsBehind version faults nodes ones w = IsWritten version faults nodes w × (ones + bit w.process.condition ≤ 32)
 
-pub process_reads : (version faults nodes ones : ℕ) → 1 ≤ version → version ≤ 2 → 0 < nodes → nodes ≤ 16 → ones ≤ 32 → Reads (FitsBehind version faults nodes ones) process (process_at version faults nodes ones)
+pub process_reads : (version faults nodes ones : ℕ) → 1 ≤ version → version ≤ 2 → 0 < nodes → nodes ≤ 16 → ones ≤ 32 → Reads (FitsBehind version faults nodes ones) process_bytes (process_at version faults nodes ones)
 unfolding process_at
 process_reads version faults nodes ones v1 v2 some few le =
     adapt
@@ -209,14 +209,14 @@ process_reads version faults nodes ones v1 v2 some few le =
     (λ n w fn h. ap (λ (q : Written). q.process.name) h.1.1.1.1))
     (λ w h. (record { process = record { node = omega (arith, h.1.0.1); count = h.1.1.1.0.0; times = All-from_recursion (λ (t : ℕ). t < 2 ^ 60) w.process.times h.1.1.1.0.1 }; name = h.0; extra = h.1.1.1.1.0 }, (flag_limit ones w.process.condition le).0 h.1.1.0.1))
     (λ w h. (h.0.name, ((omega arith, omega (arith, h.0.process.node)), ((omega arith, (flag_limit ones w.process.condition le).1 h.1), ((h.0.process.count, recursion_from_All (λ (t : ℕ). t < 2 ^ 60) w.process.times h.0.process.times), (h.0.extra, same_process w))))))
-    (λ w h. regroup_5 (name w.process.name) (byte w.process.node) (byte (bit w.process.condition)) (flat_map (to_be_bytes w64) w.process.times) (extra w.extra))
+    (λ w h. regroup_5 (name_bytes w.process.name) (byte w.process.node) (byte (bit w.process.condition)) (flat_map (to_be_bytes w64) w.process.times) (extra_bytes w.extra))
 
-pub processes_reads : (version faults nodes count : ℕ) → 1 ≤ version → version ≤ 2 → nodes ≤ 16 → count ≤ limit nodes 128 → Reads (AreProcesses version faults nodes count 0) (flat_map process) (processes_at version faults nodes count)
+pub processes_reads : (version faults nodes count : ℕ) → 1 ≤ version → version ≤ 2 → nodes ≤ 16 → count ≤ limit nodes 128 → Reads (AreProcesses version faults nodes count 0) (flat_map process_bytes) (processes_at version faults nodes count)
 unfolding processes_at
 processes_reads version faults nodes count v1 v2 few le =
     adapt
     (each_reads (λ (ones : ℕ) (w : Written). ones + bit w.process.condition) (λ (left : ℕ) ones. process_at version faults nodes ones)
-    (λ ls ones. (ones ≤ 32) × (0 < length ls → 0 < nodes)) (λ l ls ones. FitsBehind version faults nodes ones) process (λ ls ones ws. AreProcesses version faults nodes (length ls) ones ws)
+    (λ ls ones. (ones ≤ 32) × (0 < length ls → 0 < nodes)) (λ l ls ones. FitsBehind version faults nodes ones) process_bytes (λ ls ones ws. AreProcesses version faults nodes (length ls) ones ws)
     (λ l ls ones i. process_reads version faults nodes ones v1 v2 (i.1 (omega arith)) few i.0)
     (λ l ls ones w i f. (f.1, λ h. i.1 (omega arith)))
     (λ ones i. record { count_is = refl; each = tt; conditions = omega (arith, i.0) })
@@ -231,7 +231,7 @@ processes_reads version faults nodes count v1 v2 few le =
 
 -- ---- edges
 
-pub edge_reads : (processes : ℕ) → 0 < processes → processes ≤ 128 → Reads (IsHeadEdge processes) edge (edge_at processes)
+pub edge_reads : (processes : ℕ) → 0 < processes → processes ≤ 128 → Reads (IsHeadEdge processes) edge_bytes (edge_at processes)
 unfolding edge_at
 edge_reads processes some few =
     adapt
@@ -246,8 +246,8 @@ edge_reads processes some few =
 
 -- ---- the head
 
-head_spell : (h : Head) → to_be_bytes w32 magic ++ (byte (version_of h) ++ (byte h.faults ++ (byte (length h.nodes) ++ (flat_map name h.nodes ++ (byte (length h.processes) ++ (flat_map process (written h) ++ (to_be_bytes w16 (length h.edges) ++ (flat_map edge h.edges ++ [])))))))) ≡ head h
-head_spell h = regroup_9 (to_be_bytes w32 magic) (byte (version_of h)) (byte h.faults) (byte (length h.nodes)) (flat_map name h.nodes) (byte (length h.processes)) (flat_map process (written h)) (to_be_bytes w16 (length h.edges)) (flat_map edge h.edges)
+head_spell : (h : Head) → to_be_bytes w32 magic ++ (byte (version_of h) ++ (byte h.faults ++ (byte (length h.nodes) ++ (flat_map name_bytes h.nodes ++ (byte (length h.processes) ++ (flat_map process_bytes (written h) ++ (to_be_bytes w16 (length h.edges) ++ (flat_map edge_bytes h.edges ++ [])))))))) ≡ head_bytes h
+head_spell h = regroup_9 (to_be_bytes w32 magic) (byte (version_of h)) (byte h.faults) (byte (length h.nodes)) (flat_map name_bytes h.nodes) (byte (length h.processes)) (flat_map process_bytes (written h)) (to_be_bytes w16 (length h.edges)) (flat_map edge_bytes h.edges)
 
 written_is : (h : Head) → length (written h) ≡ length h.processes
 written_is h = written_count h.processes (unwrap_or h.extras [])
@@ -286,7 +286,7 @@ parts_of h q = record {
   same = head_again h q.within;
 }
 
-pub head_reads : Reads IsPackHead head head_at
+pub head_reads : Reads IsPackHead head_bytes head_at
 unfolding head_at
 head_reads =
     adapt
@@ -294,11 +294,11 @@ head_reads =
     (λ m fm. seq version_of (small_reads 1 2 (omega arith) (omega arith))
     (λ v fv. seq (λ (h : Head). h.faults) (small_reads 0 8 (omega arith) (omega arith))
     (λ k fk. seq (λ (h : Head). length h.nodes) (small_reads 0 16 (omega arith) (omega arith))
-    (λ n fn. seq (λ (h : Head). h.nodes) (times_reads IsName name name_at n (λ _. name_reads))
+    (λ n fn. seq (λ (h : Head). h.nodes) (times_reads IsName name_bytes name_at n (λ _. name_reads))
     (λ ns fns. seq (λ (h : Head). length h.processes) (small_reads 0 (limit n 128) (omega arith) (omega (arith, limit_most n 128)))
     (λ c fc. seq written (processes_reads v k n c fv.0 fv.1 fn.1 fc.1)
     (λ ws fws. seq (λ (h : Head). length h.edges) (field_reads 2 0 (limit c 256) (omega arith) (omega (arith, limit_most c 256)))
-    (λ e fe. seq (λ (h : Head). h.edges) (times_reads (IsHeadEdge c) edge (edge_at c) e (λ some. edge_reads c (limit_some c 256 e fe.1 some) (omega (arith, fc.1, limit_most n 128))))
+    (λ e fe. seq (λ (h : Head). h.edges) (times_reads (IsHeadEdge c) edge_bytes (edge_at c) e (λ some. edge_reads c (limit_some c 256 e fe.1 some) (omega (arith, fc.1, limit_most n 128))))
     (λ es fes. pure_reads (head_from v k ns ws es))
     (λ es h fes q. ap (λ (x : Head). x.edges) q))
     (λ e h fe q. q.0.0))

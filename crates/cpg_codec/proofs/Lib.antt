@@ -6,3 +6,6 @@ pub mod HeadFields
 pub mod ColumnFields
 pub mod TableFields
 pub mod Theorems
+pub mod Puts
+pub mod Short
+pub mod HeadParts

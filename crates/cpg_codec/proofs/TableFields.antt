@@ -14,7 +14,7 @@ use Rattle.cpg_table.specs.Shape.{items_of}
 use Rattle.cpg_table.specs.Items.{starts_of, sends_of, hears_of}
 use Rattle.cpg_table.specs.Lawful.{Tables, space_of, IsLawfulColumn, IsLawfulRow, IsTableOf, AreTablesOf, rows_of, column_count}
 use Rattle.cpg_table.specs.declared.space.Space.{Space}
-use Rattle.cpg_codec.specs.Spelling.{column, row, table, head, spelling}
+use Rattle.cpg_codec.specs.Spelling.{column_bytes, row_bytes, table_bytes, head_bytes, spelling}
 use Rattle.cpg_codec.specs.Grammar.{column_at, most, row_at, rows_at, items_of_node, table_from, node_table_at, numbers_from, nodes_at, tables_at}
 use Rattle.cpg_codec.specs.Packs.{AreLawful}
 use Rattle.cpg_codec.proofs.Laws.{Reads, pure_reads, seq, adapt}
@@ -33,18 +33,18 @@ pub record FitsRow (s : Space) (item before : ℕ) (r : Row) : Type 0 where
   pub lawful : IsLawfulRow s r
   pub room : before + length r.columns ≤ most
 
-pub row_reads : (s : Space) (item before : ℕ) → IsSpace s → before ≤ most → Reads (FitsRow s item before) row (row_at s item before)
+pub row_reads : (s : Space) (item before : ℕ) → IsSpace s → before ≤ most → Reads (FitsRow s item before) row_bytes (row_at s item before)
 unfolding row_at
 row_reads s item before i le =
     adapt
     (seq (λ (r : Row). length r.columns) (field_reads 2 0 (min 16384 (most - before)) (omega arith) (omega arith))
-    (λ n fn. seq (λ (r : Row). r.columns) (times_reads (IsLawfulColumn s) column (column_at s) n (λ _. column_reads s i))
+    (λ n fn. seq (λ (r : Row). r.columns) (times_reads (IsLawfulColumn s) column_bytes (column_at s) n (λ _. column_reads s i))
     (λ cs fcs. pure_reads (record { item = item; columns = cs }))
     (λ cs r fcs h. ap (λ (q : Row). q.columns) h))
     (λ n r fn h. h.0.0))
     (λ r h. record { item_is = ap (λ (q : Row). q.item) h.1.1; lawful = record { few = omega (arith, h.0.1); columns = All-from_recursion (IsLawfulColumn s) r.columns h.1.0.1 }; room = omega (arith, h.0.1) })
     (λ r h. ((omega arith, omega (arith, h.lawful.few, h.room)), ((refl, recursion_from_All (IsLawfulColumn s) r.columns h.lawful.columns), ap (λ (n : ℕ). record r { item = n }) h.item_is)))
-    (λ r h. regroup_2 (to_be_bytes w16 (length r.columns)) (flat_map column r.columns))
+    (λ r h. regroup_2 (to_be_bytes w16 (length r.columns)) (flat_map column_bytes r.columns))
 
 pub record FitRows (s : Space) (items : List ℕ) (before : ℕ) (rs : List Row) : Type 0 where
   pub items_are : items_of rs ≡ items
@@ -63,11 +63,11 @@ none_first a xs e = cc
 none_last : (a : ℕ) (xs : List ℕ) → [] ≡ a ∷ xs → ⊥
 none_last a xs e = cc
 
-pub rows_reads : (s : Space) (items : List ℕ) (before : ℕ) → IsSpace s → before ≤ most → Reads (FitRows s items before) (flat_map row) (rows_at s items before)
+pub rows_reads : (s : Space) (items : List ℕ) (before : ℕ) → IsSpace s → before ≤ most → Reads (FitRows s items before) (flat_map row_bytes) (rows_at s items before)
 unfolding rows_at
 rows_reads s items before i le =
     each_reads (λ (c : ℕ) (r : Row). c + length r.columns) (row_at s)
-    (λ ls c. c ≤ most) (λ l ls c. FitsRow s l c) row (λ ls c rs. FitRows s ls c rs)
+    (λ ls c. c ≤ most) (λ l ls c. FitsRow s l c) row_bytes (λ ls c rs. FitRows s ls c rs)
     (λ l ls c inv. row_reads s l c i inv)
     (λ l ls c r inv f. f.room)
     (λ c inv. record { items_are = refl; lawful = tt; room = omega arith })
@@ -153,7 +153,7 @@ pub record FitsTable (h : Head) (a before : ℕ) (t : NodeTable) : Type 0 where
   pub lawful : IsTableOf h a t
   pub room : before + column_count (rows_of t) ≤ most
 
-pub table_reads : (h : Head) (a before : ℕ) → IsSpace (space_of h) → before ≤ most → Reads (FitsTable h a before) table (node_table_at h a before)
+pub table_reads : (h : Head) (a before : ℕ) → IsSpace (space_of h) → before ≤ most → Reads (FitsTable h a before) table_bytes (node_table_at h a before)
 unfolding node_table_at
 table_reads h a before i le =
     adapt
@@ -162,7 +162,7 @@ table_reads h a before i le =
     (λ rs t frs q. ap rows_of q ∙ rows_again h a rs))
     (λ t q. record { lawful = subst (IsTableOf h a) (sym q.1) (made_table h a (rows_of t) q.0.items_are (All-from_recursion (IsLawfulRow (space_of h)) (rows_of t) q.0.lawful)); room = q.0.room })
     (λ t q. (record { items_are = table_items h a t q.lawful; lawful = recursion_from_All (IsLawfulRow (space_of h)) (rows_of t) q.lawful.lawful; room = q.room }, table_again h a t q.lawful))
-    (λ t q. append-nil (flat_map row (rows_of t)))
+    (λ t q. append-nil (flat_map row_bytes (rows_of t)))
 
 -- ---- all nodes
 
@@ -180,11 +180,11 @@ pub record FitNodes (h : Head) (labels : List ℕ) (before : ℕ) (ts : List Nod
   pub lawful : AreFor (IsTableOf h) labels ts
   pub room : before + sum_by columns_of ts ≤ most
 
-pub nodes_reads : (h : Head) → IsSpace (space_of h) → Reads (FitNodes h (numbers_from 0 (length h.nodes)) 0) (flat_map table) (nodes_at h)
+pub nodes_reads : (h : Head) → IsSpace (space_of h) → Reads (FitNodes h (numbers_from 0 (length h.nodes)) 0) (flat_map table_bytes) (nodes_at h)
 unfolding nodes_at
 nodes_reads h i =
     each_reads (λ (c : ℕ) (t : NodeTable). c + column_count (rows_of t)) (node_table_at h)
-    (λ ls c. c ≤ most) (λ l ls c. FitsTable h l c) table (λ ls c ts. FitNodes h ls c ts)
+    (λ ls c. c ≤ most) (λ l ls c. FitsTable h l c) table_bytes (λ ls c ts. FitNodes h ls c ts)
     (λ l ls c inv. table_reads h l c i inv)
     (λ l ls c t inv f. f.room)
     (λ c inv. record { lawful = tt; room = omega arith })
@@ -244,4 +244,4 @@ tables_reads =
     (λ h t fh q. ap (λ (x : Tables). x.head) q.1))
     (λ t q. record { head = q.0; nodes = nodes_to t.head t.nodes q.1.0 })
     (λ t q. (q.head, (nodes_from t.head t.nodes q.nodes, refl)))
-    (λ t q. regroup_2 (head t.head) (flat_map table t.nodes))
+    (λ t q. regroup_2 (head_bytes t.head) (flat_map table_bytes t.nodes))

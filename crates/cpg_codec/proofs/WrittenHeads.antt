@@ -1,12 +1,12 @@
 -- A head as its parts, and the processes with what version 2 says of them.
-use Rattle.std.proofs.Common.{◌≡◌, ℕ, zero, suc, ◌+◌, ◌<◌, ◌≤◌, Bool, true, false, cond, List, [], ◌∷◌, ◌++◌, length, map, Option, Some, None, refl, sym, ap, ap₂, subst, ◌∙◌, arith}
-use Rattle.std.specs.Prelude.{All, IfSome, is_some, unwrap_or, count_by}
+use Rattle.std.proofs.Common.{◌≡◌, ℕ, zero, suc, ◌+◌, ◌<◌, ◌≤◌, Bool, true, false, cond, List, [], ◌∷◌, ◌++◌, length, get_or, map, Option, Some, None, refl, sym, ap, ap₂, subst, ◌∙◌, arith}
+use Rattle.std.specs.Prelude.{All, IfSome, is_some, unwrap_or, count_by, slice_get, option_and_then}
 use Rattle.std.specs.List.{flat_map, AllByRecursion}
 use Rattle.std.proofs.lemmas.List.{length-map}
 use Rattle.std.proofs.lemmas.List.Sums.{sum_by-cons}
 use Rattle.std.proofs.lemmas.List.Elements.{All-from_recursion, recursion_from_All}
 use Rattle.cpg_base.specs.Name.{IsName}
-use Rattle.cpg_table.specs.Head.{Head, IsHead, IsHeadProcess, IsHeadEdge, IsExtra, AreExtras, version_of}
+use Rattle.cpg_table.specs.Head.{Head, IsHead, IsHeadProcess, IsHeadEdge, IsExtra, AreExtras, version_of, extra_at}
 use Rattle.cpg_table.specs.declared.head_parts.HeadProcess.{HeadProcess}
 use Rattle.cpg_table.specs.declared.head_parts.Extra.{Extra}
 use Rattle.cpg_codec.specs.Spelling.{Written, written_by, written, bit}
@@ -205,3 +205,28 @@ some_process n (e ∷ es) h lt = omega (arith, h.0.from)
 
 pub edges_limit : (h : Head) → IsHead h → length h.edges ≤ limit (length h.processes) 256
 edges_limit h q = limit_from (length h.processes) 256 (length h.edges) q.few_edges (some_process (length h.processes) h.edges (recursion_from_All (IsHeadEdge (length h.processes)) h.edges q.edges))
+
+-- ---- one process after another
+
+at_none : (ps : List HeadProcess) (i : ℕ) (p : HeadProcess) (d : Written) → i < length ps → p ≡ get_or ps i p → record { process = p; extra = None } ≡ get_or (written_by ps []) i d
+at_none [] i p d lt e = absurd (omega arith)
+at_none (q ∷ ps) zero p d lt e = ap (λ (r : HeadProcess). record { process = r; extra = None }) e
+at_none (q ∷ ps) (suc i) p d lt e = at_none ps i p d (omega arith) e
+
+at_some : (ps : List HeadProcess) (es : List Extra) (i : ℕ) (p : HeadProcess) (o : Option Extra) (d : Written) → length es ≡ length ps → i < length ps → p ≡ get_or ps i p → o ≡ slice_get es i
+    → record { process = p; extra = o } ≡ get_or (written_by ps es) i d
+at_some [] es i p o d n lt e f = absurd (omega arith)
+at_some (q ∷ ps) [] i p o d n lt e f = absurd (omega (arith, n))
+at_some (q ∷ ps) (x ∷ es) zero p o d n lt e f = ap₂ (λ (r : HeadProcess) (s : Option Extra). record { process = r; extra = s }) e f
+at_some (q ∷ ps) (x ∷ es) (suc i) p o d n lt e f = at_some ps es i p o d (omega (arith, n)) (omega arith) e f
+
+at_either : (ps : List HeadProcess) (xs : Option (List Extra)) (i : ℕ) (p : HeadProcess) (o : Option Extra) (d : Written) → IfSome xs (AreExtras (length ps)) → i < length ps → p ≡ get_or ps i p → o ≡ option_and_then (λ es. slice_get es i) xs
+    → record { process = p; extra = o } ≡ get_or (written_by ps (unwrap_or xs [])) i d
+at_either ps None i p o d q lt e f = ap (λ (s : Option Extra). record { process = p; extra = s }) f ∙ at_none ps i p d lt e
+at_either ps (Some es) i p o d q lt e f = at_some ps es i p o d q.count lt e f
+
+pub written_at : (h : Head) (i : ℕ) (p : HeadProcess) (o : Option Extra) → IsHead h → i < length h.processes → p ≡ get_or h.processes i p → o ≡ extra_at h i → record { process = p; extra = o } ≡ get_or (written h) i (record { process = p; extra = o })
+written_at h i p o q lt e f = at_either h.processes h.extras i p o (record { process = p; extra = o }) q.extras lt e f
+
+pub written_length : (h : Head) → length (written h) ≡ length h.processes
+written_length h = written_count h.processes (unwrap_or h.extras [])

@@ -19,17 +19,17 @@ byte n = n ∷ []
 abbrev pub bit : Bool → ℕ
 bit b = if b then 1 else 0
 
-abbrev pub name : List ℕ → List ℕ
-name text = byte (length text) ++ text
+abbrev pub name_bytes : List ℕ → List ℕ
+name_bytes text = byte (length text) ++ text
 
 -- no own deadline is eight bytes ff
 abbrev pub own_number : Option ℕ → ℕ
 own_number None = 18446744073709551615
 own_number (Some d) = d
 
-abbrev pub extra : Option Extra → List ℕ
-extra None = []
-extra (Some e) = to_be_bytes w64 e.release ++ to_be_bytes w64 (own_number e.deadline)
+abbrev pub extra_bytes : Option Extra → List ℕ
+extra_bytes None = []
+extra_bytes (Some e) = to_be_bytes w64 e.release ++ to_be_bytes w64 (own_number e.deadline)
 
 -- a process with what version 2 says of it
 pub record Written : Type 0 where
@@ -46,31 +46,31 @@ written_by (p ∷ ps) (e ∷ es) = record { process = p; extra = Some e } ∷ wr
 abbrev pub written : Head → List Written
 written h = written_by h.processes (unwrap_or h.extras [])
 
-abbrev pub process : Written → List ℕ
-process w = name w.process.name ++ byte w.process.node ++ byte (bit w.process.condition) ++ flat_map (to_be_bytes w64) w.process.times ++ extra w.extra
+abbrev pub process_bytes : Written → List ℕ
+process_bytes w = name_bytes w.process.name ++ byte w.process.node ++ byte (bit w.process.condition) ++ flat_map (to_be_bytes w64) w.process.times ++ extra_bytes w.extra
 
-abbrev pub edge : ℕ × ℕ → List ℕ
-edge e = byte e.0 ++ byte e.1
+abbrev pub edge_bytes : ℕ × ℕ → List ℕ
+edge_bytes e = byte e.0 ++ byte e.1
 
-abbrev pub head : Head → List ℕ
-head h =
+abbrev pub head_bytes : Head → List ℕ
+head_bytes h =
     to_be_bytes w32 magic ++ byte (version_of h) ++ byte h.faults
-    ++ byte (length h.nodes) ++ flat_map name h.nodes
-    ++ byte (length h.processes) ++ flat_map process (written h)
-    ++ to_be_bytes w16 (length h.edges) ++ flat_map edge h.edges
+    ++ byte (length h.nodes) ++ flat_map name_bytes h.nodes
+    ++ byte (length h.processes) ++ flat_map process_bytes (written h)
+    ++ to_be_bytes w16 (length h.edges) ++ flat_map edge_bytes h.edges
 
-abbrev pub literal : Literal → List ℕ
-literal l = byte l.variable ++ byte l.low ++ byte l.high
+abbrev pub literal_bytes : Literal → List ℕ
+literal_bytes l = byte l.variable ++ byte l.low ++ byte l.high
 
-abbrev pub column : Column → List ℕ
-column c = to_be_bytes w64 c.time ++ byte (length c.cube) ++ flat_map literal c.cube
+abbrev pub column_bytes : Column → List ℕ
+column_bytes c = to_be_bytes w64 c.time ++ byte (length c.cube) ++ flat_map literal_bytes c.cube
 
-abbrev pub row : Row → List ℕ
-row r = to_be_bytes w16 (length r.columns) ++ flat_map column r.columns
+abbrev pub row_bytes : Row → List ℕ
+row_bytes r = to_be_bytes w16 (length r.columns) ++ flat_map column_bytes r.columns
 
 -- the rows of what a node starts, then of what it sends, then of what it hears
-abbrev pub table : NodeTable → List ℕ
-table t = flat_map row (rows_of t)
+abbrev pub table_bytes : NodeTable → List ℕ
+table_bytes t = flat_map row_bytes (rows_of t)
 
 abbrev pub spelling : Tables → List ℕ
-spelling t = head t.head ++ flat_map table t.nodes
+spelling t = head_bytes t.head ++ flat_map table_bytes t.nodes

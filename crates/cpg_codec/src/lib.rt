@@ -8,12 +8,16 @@ ghost use Rattle.cpg_codec.specs.Packs.{OneValue, NoProperPrefix};
 mod buffer;
 mod fault;
 mod fixed;
+mod head_writing;
+mod row_writing;
+mod writing;
 
 pub use fault::{PackFault, WriteFault};
 pub use fixed::{
     Fixed, column_literals, column_time, edge_from, edge_to, literal_high, literal_low,
     literal_variable, long_number, process_flag, process_node,
 };
+pub use writing::write_pack;
 
 /// A pack is the spelling of one value: tables with equal spellings are equal.
 pub fn packs_have_one_value()
