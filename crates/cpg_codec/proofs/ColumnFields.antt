@@ -1,11 +1,12 @@
 -- The fields of the rows.
-use Rattle.std.proofs.Common.{◌≡◌, ℕ, zero, suc, ◌+◌, ◌-◌, ◌<◌, ◌≤◌, max, Bool, true, false, cond, eqb, ltb, leb, ◌&&◌, List, [], ◌∷◌, ◌++◌, length, refl, sym, ap, subst, ◌∙◌, append_assoc, arith, inl, inr, ◌⊎◌}
+use Rattle.std.proofs.Common.{◌≡◌, ℕ, zero, suc, ◌+◌, ◌-◌, ◌<◌, ◌≤◌, max, Bool, true, false, cond, eqb, ltb, leb, ◌&&◌, List, [], ◌∷◌, ◌++◌, length, Ok, refl, sym, ap, subst, ◌∙◌, append_assoc, arith, inl, inr, ◌⊎◌}
 use Rattle.std.specs.List.{flat_map, AllByRecursion}
 use Rattle.std.specs.Int.{w64, to_be_bytes}
 use Rattle.std.proofs.lemmas.Bool.{ne_eqb, ltb-true, leb-true, lt-ltb, le-leb, le-ltb, cases_lt, or_cases, or_left, or_right, and_parts, and_from}
 use Rattle.std.proofs.lemmas.List.{append-nil}
 use Rattle.std.proofs.lemmas.List.Elements.{All-from_recursion, recursion_from_All}
 use Rattle.cpg_cube.specs.declared.literal.Literal.{Literal}
+use Rattle.cpg_cube.specs.Cube.{IsRising}
 use Rattle.cpg_cube.specs.Rising.{rises_from}
 use Rattle.cpg_cube.proofs.Rising.{rising_from, rises_by}
 use Rattle.cpg_table.specs.Table.{Column}
@@ -13,7 +14,7 @@ use Rattle.cpg_table.specs.Lawful.{IsLawfulLiteral, IsLawfulColumn}
 use Rattle.cpg_table.specs.declared.space.Space.{Space}
 use Rattle.cpg_codec.specs.Reading.{down}
 use Rattle.cpg_codec.specs.Spelling.{byte, literal_bytes, column_bytes}
-use Rattle.cpg_codec.specs.Grammar.{limit, fault_end, is_variable, room, variable_may, low_end, high_end, literal_at, literals_at, column_at}
+use Rattle.cpg_codec.specs.Grammar.{IsSpace, limit, fault_end, is_variable, room, variable_may, low_end, high_end, literal_at, literals_at, column_at}
 use Rattle.cpg_codec.proofs.Laws.{Reads, pure_reads, seq, adapt, byte_reads}
 use Rattle.cpg_codec.proofs.Numbers.{small_reads}
 use Rattle.cpg_codec.proofs.Lists.{each_reads, down_is}
@@ -33,11 +34,6 @@ pub record IsLiteral (s : Space) (l : Literal) : Type 0 where
 abbrev pub AreLiterals : Space → ℕ → List Literal → Type 0
 AreLiterals s least [] = Unit {0}
 AreLiterals s least (l ∷ ls) = (least ≤ l.variable) × IsLiteral s l × AreLiterals s (suc l.variable) ls
-
-pub record IsSpace (s : Space) : Type 0 where
-  pub faults : s.faults ≤ 8
-  pub processes : s.processes ≤ 128
-  pub conditions : s.conditions ≤ 32
 
 pub few_fault : (s : Space) → IsSpace s → fault_end s ≤ 128
 few_fault s i = let a = limit_most s.faults s.processes in omega (arith, a, i.processes)
@@ -271,3 +267,9 @@ column_reads s i =
     (λ c h. regroup_3 (to_be_bytes w64 c.time) (byte (length c.cube)) (flat_map literal_bytes c.cube)) where
       room_small : (e c : ℕ) → e ≤ 128 → c ≤ 32 → (e - 0) + ((128 + c) - max 128 0) < 256
       room_small e c a b = omega arith
+
+-- literals that were read rise
+pub literals_rise : (s : Space) (count : ℕ) (bytes : List ℕ) (ls : List Literal) (rest : List ℕ) → IsSpace s → count ≤ room s 0 → literals_at s count bytes ≡ Ok (ls, rest) → IsRising ls
+literals_rise s count bytes ls rest i le e =
+    let k = (literals_reads s count i le).takes bytes ls rest e in
+    rising_from 0 ls (literals_to s 0 ls i k.0.lawful).1

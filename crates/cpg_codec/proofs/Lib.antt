@@ -9,3 +9,10 @@ pub mod Theorems
 pub mod Puts
 pub mod Short
 pub mod HeadParts
+pub mod Steps
+pub mod Digits
+pub mod Own
+pub mod Loop
+pub mod NameBytes
+pub mod Broadcasts
+pub mod WholePack

@@ -8,10 +8,10 @@ use Rattle.cpg_table.specs.Head.{Head, IsHead, IsHeadEdge}
 use Rattle.cpg_table.specs.Table.{Column, Row, NodeTable}
 use Rattle.cpg_table.specs.Lawful.{IsLawfulColumn, IsLawfulRow, IsTable, rows_of, space_of}
 use Rattle.cpg_table.specs.declared.space.Space.{Space}
-use Rattle.cpg_codec.specs.Grammar.{fault_end}
+use Rattle.cpg_codec.specs.Grammar.{IsSpace, fault_end}
 use Rattle.cpg_codec.specs.Spelling.{row_bytes, table_bytes}
 use Rattle.cpg_codec.specs.Writing.{IsShortRow, IsShortEdge}
-use Rattle.cpg_codec.proofs.ColumnFields.{IsSpace, few_fault, literals_room, column_literals}
+use Rattle.cpg_codec.proofs.ColumnFields.{few_fault, literals_room, column_literals}
 use Rattle.cpg_codec.proofs.TableFields.{head_space}
 
 short_column : (s : Space) (c : Column) → IsSpace s → IsLawfulColumn s c → length c.cube ≤ 255

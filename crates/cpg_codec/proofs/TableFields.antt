@@ -1,5 +1,5 @@
 -- The rows of the nodes, and the whole.
-use Rattle.std.proofs.Common.{◌≡◌, ℕ, zero, suc, ◌+◌, ◌-◌, ◌<◌, ◌≤◌, min, List, [], ◌∷◌, ◌++◌, length, take, drop, get_or, refl, sym, ap, ap₂, subst, ◌∙◌, arith, take-append-drop}
+use Rattle.std.proofs.Common.{◌≡◌, ℕ, zero, suc, ◌+◌, ◌-◌, ◌<◌, ◌≤◌, min, List, [], ◌∷◌, ◌++◌, length, take, drop, get_or, Ok, refl, sym, ap, ap₂, subst, ◌∙◌, arith, take-append-drop}
 use Rattle.std.specs.Prelude.{All, sum_by}
 use Rattle.std.specs.List.{flat_map, AllByRecursion}
 use Rattle.std.specs.Int.{w16, to_be_bytes}
@@ -12,16 +12,16 @@ use Rattle.cpg_table.specs.Table.{Row, NodeTable, empty_table}
 use Rattle.cpg_table.specs.declared.own.Own.{Own}
 use Rattle.cpg_table.specs.Shape.{items_of}
 use Rattle.cpg_table.specs.Items.{starts_of, sends_of, hears_of}
-use Rattle.cpg_table.specs.Lawful.{Tables, space_of, IsLawfulColumn, IsLawfulRow, IsTableOf, AreTablesOf, rows_of, column_count}
+use Rattle.cpg_table.specs.Lawful.{Tables, space_of, IsLawfulColumn, IsLawfulRow, IsTableOf, AreRowsOf, AreTablesOf, rows_of, column_count}
 use Rattle.cpg_table.specs.declared.space.Space.{Space}
 use Rattle.cpg_codec.specs.Spelling.{column_bytes, row_bytes, table_bytes, head_bytes, spelling}
-use Rattle.cpg_codec.specs.Grammar.{column_at, most, row_at, rows_at, items_of_node, table_from, node_table_at, numbers_from, nodes_at, tables_at}
+use Rattle.cpg_codec.specs.Grammar.{IsSpace, column_at, most, row_at, rows_at, items_of_node, table_from, node_table_at, numbers_from, nodes_at, tables_at}
 use Rattle.cpg_codec.specs.Packs.{AreLawful}
 use Rattle.cpg_codec.proofs.Laws.{Reads, pure_reads, seq, adapt}
 use Rattle.cpg_codec.proofs.Numbers.{field_reads}
 use Rattle.cpg_codec.proofs.Lists.{each_reads, times_reads}
 use Rattle.cpg_codec.proofs.HeadFields.{head_reads}
-use Rattle.cpg_codec.proofs.ColumnFields.{IsSpace, column_reads}
+use Rattle.cpg_codec.proofs.ColumnFields.{column_reads}
 
 regroup_2 : (a b : List ℕ) → a ++ (b ++ []) ≡ a ++ b
 regroup_2 a b = simp append-nil
@@ -245,3 +245,27 @@ tables_reads =
     (λ t q. record { head = q.0; nodes = nodes_to t.head t.nodes q.1.0 })
     (λ t q. (q.head, (nodes_from t.head t.nodes q.nodes, refl)))
     (λ t q. regroup_2 (head_bytes t.head) (flat_map table_bytes t.nodes))
+
+-- rows that were read are those of their node
+pub rows_are_of : (h : Head) (a : ℕ) (s : Space) (items : List ℕ) (before : ℕ) (bytes : List ℕ) (rs : List Row) (rest : List ℕ) → IsSpace s → before ≤ most → s ≡ space_of h → items ≡ items_of_node h a → rows_at s items before bytes ≡ Ok (rs, rest) → AreRowsOf h a rs
+rows_are_of h a s items before bytes rs rest i le f g e =
+    let k = (rows_reads s items before i le).takes bytes rs rest e in
+    record { items = k.0.items_are ∙ g; lawful = subst (λ (t : Space). All (IsLawfulRow t) rs) f (All-from_recursion (IsLawfulRow s) rs k.0.lawful) }
+
+pub table_is : (h : Head) (a : ℕ) (t : NodeTable) (rs : List Row) → IsTableOf h a t → rows_of t ≡ rs → table_from h a rs ≡ t
+table_is h a t rs q e = ap (table_from h a) (sym e) ∙ sym (table_again h a t q)
+
+-- tables that were read are those of their head
+pub tables_are_of : (h : Head) (s : Space) (bytes : List ℕ) (ts : List NodeTable) (rest : List ℕ) → IsSpace s → s ≡ space_of h → nodes_at h bytes ≡ Ok (ts, rest) → AreTablesOf h ts
+tables_are_of h s bytes ts rest i e r = nodes_to h ts ((nodes_reads h (subst IsSpace e i)).takes bytes ts rest r).0
+
+pub numbers_more : (i n : ℕ) → i < n → numbers_from i (n - i) ≡ i ∷ numbers_from (i + 1) (n - (i + 1))
+unfolding numbers_from
+numbers_more i n lt =
+    let k : n - i ≡ suc (n - (i + 1)) = omega arith in
+    let m : suc i ≡ i + 1 = omega arith in
+    ap (numbers_from i) k ∙ ap (λ (j : ℕ). i ∷ numbers_from j (n - (i + 1))) m
+
+pub numbers_none : (i n : ℕ) → n ≤ i → numbers_from i (n - i) ≡ []
+unfolding numbers_from
+numbers_none i n le = let k : n - i ≡ 0 = omega arith in ap (numbers_from i) k

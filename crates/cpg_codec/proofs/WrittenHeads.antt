@@ -1,15 +1,16 @@
 -- A head as its parts, and the processes with what version 2 says of them.
-use Rattle.std.proofs.Common.{◌≡◌, ℕ, zero, suc, ◌+◌, ◌<◌, ◌≤◌, Bool, true, false, cond, List, [], ◌∷◌, ◌++◌, length, get_or, map, Option, Some, None, refl, sym, ap, ap₂, subst, ◌∙◌, arith}
+use Rattle.std.proofs.Common.{◌≡◌, ℕ, zero, suc, ◌+◌, ◌<◌, ◌≤◌, Bool, true, false, cond, eqb, List, [], ◌∷◌, ◌++◌, length, get_or, map, Option, Some, None, refl, sym, ap, ap₂, subst, ◌∙◌, arith}
 use Rattle.std.specs.Prelude.{All, IfSome, is_some, unwrap_or, count_by, slice_get, option_and_then}
 use Rattle.std.specs.List.{flat_map, AllByRecursion}
-use Rattle.std.proofs.lemmas.List.{length-map}
+use Rattle.std.proofs.lemmas.List.{length-map, length-append}
+use Rattle.std.proofs.lemmas.Bool.{ne_eqb}
 use Rattle.std.proofs.lemmas.List.Sums.{sum_by-cons}
 use Rattle.std.proofs.lemmas.List.Elements.{All-from_recursion, recursion_from_All}
 use Rattle.cpg_base.specs.Name.{IsName}
 use Rattle.cpg_table.specs.Head.{Head, IsHead, IsHeadProcess, IsHeadEdge, IsExtra, AreExtras, version_of, extra_at}
 use Rattle.cpg_table.specs.declared.head_parts.HeadProcess.{HeadProcess}
 use Rattle.cpg_table.specs.declared.head_parts.Extra.{Extra}
-use Rattle.cpg_codec.specs.Spelling.{Written, written_by, written, bit}
+use Rattle.cpg_codec.specs.Spelling.{Written, written_by, written_with, written, bit}
 use Rattle.cpg_codec.specs.Grammar.{limit, listed, head_from}
 use Rattle.cpg_codec.specs.Packs.{IsPackHead}
 
@@ -230,3 +231,67 @@ written_at h i p o q lt e f = at_either h.processes h.extras i p o (record { pro
 
 pub written_length : (h : Head) → length (written h) ≡ length h.processes
 written_length h = written_count h.processes (unwrap_or h.extras [])
+
+-- ---- processes and extras as they are read
+
+push_none : (ps : List HeadProcess) (p : HeadProcess) → written_by (ps ++ p ∷ []) [] ≡ written_by ps [] ++ written_with p None ∷ []
+push_none [] p = refl
+push_none (q ∷ ps) p = ap (λ (ws : List Written). written_with q None ∷ ws) (push_none ps p)
+
+push_some : (ps : List HeadProcess) (es : List Extra) (p : HeadProcess) (e : Extra) → length es ≡ length ps → written_by (ps ++ p ∷ []) (es ++ e ∷ []) ≡ written_by ps es ++ written_with p (Some e) ∷ []
+push_some [] [] p e n = refl
+push_some [] (x ∷ es) p e n = absurd (omega (arith, n))
+push_some (q ∷ ps) [] p e n = absurd (omega (arith, n))
+push_some (q ∷ ps) (x ∷ es) p e n = ap (λ (ws : List Written). written_with q (Some x) ∷ ws) (push_some ps es p e (omega (arith, n)))
+
+pub written_push : (b : Bool) (ps : List HeadProcess) (es : List Extra) (p : HeadProcess) (o : Option Extra) → is_some o ≡ b → length es ≡ cond b (length ps) 0 → written_by (ps ++ p ∷ []) (es ++ listed o) ≡ written_by ps es ++ written_with p o ∷ []
+written_push true ps es p (Some e) k n = push_some ps es p e n
+written_push true ps es p None k n = absurd cc
+written_push false ps es p (Some e) k n = absurd cc
+written_push false ps [] p None k n = push_none ps p
+written_push false ps (x ∷ es) p None k n = absurd (omega (arith, n))
+
+pub kept_push : (b : Bool) (ps : List HeadProcess) (es : List Extra) (p : HeadProcess) (o : Option Extra) → is_some o ≡ b → length es ≡ cond b (length ps) 0 → length (es ++ listed o) ≡ cond b (length (ps ++ p ∷ [])) 0
+kept_push true ps es p (Some e) k n = let a = length-append es (e ∷ []) in let b = length-append ps (p ∷ []) in omega (arith, a, b, n)
+kept_push true ps es p None k n = absurd cc
+kept_push false ps es p (Some e) k n = absurd cc
+kept_push false ps es p None k n = let a = length-append es (listed None) in omega (arith, a, n)
+
+-- ---- a head from its parts
+
+pub plain_head : (v k : ℕ) (ns : List (List ℕ)) (ps : List HeadProcess) (xs : List Extra) (es : List (ℕ × ℕ)) → IsPackHead (head_from v k ns (written_by ps xs) es) → IsHead (record { faults = k; nodes = ns; processes = ps; edges = es; extras = None })
+plain_head v k ns ps xs es q =
+    subst (λ (qs : List HeadProcess). IsHead (record { faults = k; nodes = ns; processes = qs; edges = es; extras = None })) (written_back ps xs)
+    (record {
+      faults = q.within.faults;
+      few_nodes = q.within.few_nodes;
+      few_processes = q.within.few_processes;
+      few_conditions = q.within.few_conditions;
+      few_edges = q.within.few_edges;
+      processes = q.within.processes;
+      edges = q.within.edges;
+      extras = tt;
+    })
+
+two_extras : (k : ℕ) (ns : List (List ℕ)) (ps : List HeadProcess) (xs : List Extra) (es : List (ℕ × ℕ)) → length xs ≡ length ps → IsPackHead (head_from 2 k ns (written_by ps xs) es) → AreExtras (length ps) xs
+two_extras k ns ps xs es n q =
+    let e : AreExtras (length (map process_of (written_by ps xs))) (flat_map listed_of (written_by ps xs)) = q.within.extras in
+    subst (λ (ys : List Extra). AreExtras (length ps) ys) (extras_back ps xs n) (subst (λ (qs : List HeadProcess). AreExtras (length qs) (flat_map listed_of (written_by ps xs))) (written_back ps xs) e)
+
+pub made_extras : (v k : ℕ) (ns : List (List ℕ)) (ps : List HeadProcess) (xs : List Extra) (es : List (ℕ × ℕ)) → v ≡ 2 → length xs ≡ cond (eqb v 2) (length ps) 0 → IsPackHead (head_from v k ns (written_by ps xs) es) → AreExtras (length ps) xs
+made_extras v k ns ps xs es e n q =
+    two_extras k ns ps xs es (subst (λ (u : ℕ). length xs ≡ cond (eqb u 2) (length ps) 0) e n) (subst (λ (u : ℕ). IsPackHead (head_from u k ns (written_by ps xs) es)) e q)
+
+pub joined_one : (v k : ℕ) (ns : List (List ℕ)) (ps : List HeadProcess) (xs : List Extra) (es : List (ℕ × ℕ)) → (v ≡ 2 → ⊥) → record { faults = k; nodes = ns; processes = ps; edges = es; extras = None } ≡ head_from v k ns (written_by ps xs) es
+joined_one v k ns ps xs es e =
+    let f : eqb v 2 ≡ false = ne_eqb v 2 e in
+    ap₂ (λ (qs : List HeadProcess) (b : Bool). record { faults = k; nodes = ns; processes = qs; edges = es; extras = cond b (Some (flat_map listed_of (written_by ps xs))) None }) (sym (written_back ps xs)) (sym f)
+
+joined_some : (k : ℕ) (ns : List (List ℕ)) (ps : List HeadProcess) (xs : List Extra) (es : List (ℕ × ℕ)) → length xs ≡ length ps → record { faults = k; nodes = ns; processes = ps; edges = es; extras = Some xs } ≡ head_from 2 k ns (written_by ps xs) es
+joined_some k ns ps xs es n =
+    ap₂ (λ (qs : List HeadProcess) (ys : List Extra). record { faults = k; nodes = ns; processes = qs; edges = es; extras = Some ys }) (sym (written_back ps xs)) (sym (extras_back ps xs n))
+
+pub joined_two : (v k : ℕ) (ns : List (List ℕ)) (ps : List HeadProcess) (xs : List Extra) (es : List (ℕ × ℕ)) → v ≡ 2 → length xs ≡ cond (eqb v 2) (length ps) 0
+    → record { faults = k; nodes = ns; processes = ps; edges = es; extras = Some xs } ≡ head_from v k ns (written_by ps xs) es
+joined_two v k ns ps xs es e n =
+    joined_some k ns ps xs es (subst (λ (u : ℕ). length xs ≡ cond (eqb u 2) (length ps) 0) e n) ∙ ap (λ (u : ℕ). head_from u k ns (written_by ps xs) es) (sym e)

@@ -1,5 +1,5 @@
 -- The fields of a pack, each with the bytes that may stand there.
-use Rattle.std.specs.Prelude.{ℕ, zero, suc, ◌+◌, ◌-◌, min, max, List, [], ◌∷◌, ◌++◌, length, map, take, drop, Bool, ◌&&◌, ◌||◌, Option, Some, None, Result, Ok, Err, nat_lt, nat_le, ◌==◌, if◌then◌else◌}
+use Rattle.std.specs.Prelude.{ℕ, zero, suc, ◌≤◌, ◌+◌, ◌-◌, min, max, List, [], ◌∷◌, ◌++◌, length, map, take, drop, Bool, ◌&&◌, ◌||◌, Option, Some, None, Result, Ok, Err, nat_lt, nat_le, ◌==◌, if◌then◌else◌}
 use Rattle.std.specs.List.{flat_map}
 use Rattle.cpg_base.specs.Name.{is_name_byte}
 use Rattle.cpg_cube.specs.declared.literal.Literal.{Literal}
@@ -94,6 +94,12 @@ head_at = do
   ends ← number_at 2 (within 0 (limit count 256))
   edges ← times_at (edge_at count) ends
   pure (head_from version faults names processes edges)
+
+-- a space as heads have it
+pub record IsSpace (s : Space) : Type 0 where
+  pub faults : s.faults ≤ 8
+  pub processes : s.processes ≤ 128
+  pub conditions : s.conditions ≤ 32
 
 -- the fault variables are 0 up to here
 abbrev pub fault_end : Space → ℕ

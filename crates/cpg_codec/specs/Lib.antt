@@ -4,3 +4,5 @@ pub mod Grammar
 pub mod Packs
 pub mod Fields
 pub mod Writing
+pub mod Gives
+pub mod Parts

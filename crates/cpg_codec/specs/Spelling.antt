@@ -36,6 +36,9 @@ pub record Written : Type 0 where
   pub process : HeadProcess
   pub extra : Option Extra
 
+abbrev pub written_with : HeadProcess → Option Extra → Written
+written_with p o = record { process = p; extra = o }
+
 -- processes, each with its part of a list that may be too short
 abbrev pub written_by : List HeadProcess → List Extra → List Written
 written_by [] es = []

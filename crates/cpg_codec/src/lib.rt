@@ -7,9 +7,15 @@ ghost use Rattle.cpg_codec.specs.Packs.{OneValue, NoProperPrefix};
 
 mod buffer;
 mod fault;
+mod field_reading;
 mod fixed;
+mod head_reading;
 mod head_writing;
+mod items;
+mod reading;
+mod row_reading;
 mod row_writing;
+mod space;
 mod writing;
 
 pub use fault::{PackFault, WriteFault};
@@ -17,6 +23,7 @@ pub use fixed::{
     Fixed, column_literals, column_time, edge_from, edge_to, literal_high, literal_low,
     literal_variable, long_number, process_flag, process_node,
 };
+pub use reading::read_pack;
 pub use writing::write_pack;
 
 /// A pack is the spelling of one value: tables with equal spellings are equal.
