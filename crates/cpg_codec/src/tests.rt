@@ -1,5 +1,7 @@
 //! Packs written out by hand, read and written, and what is refused.
 
+ghost use Rattle.std.specs.Prelude.{◌<◌};
+
 use crate::{
     Fixed, PackFault, WriteFault, column_literals, column_time, edge_from, edge_to, literal_high,
     literal_low, literal_variable, long_number, process_flag, process_node, read_pack, write_pack,
