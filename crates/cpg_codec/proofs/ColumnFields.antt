@@ -1,5 +1,5 @@
 -- The fields of the rows.
-use Rattle.std.proofs.Common.{◌≡◌, ℕ, zero, suc, ◌+◌, ◌-◌, ◌<◌, ◌≤◌, max, Bool, true, false, cond, eqb, ltb, leb, ◌&&◌, List, [], ◌∷◌, ◌++◌, length, Ok, refl, sym, ap, subst, ◌∙◌, append_assoc, arith, inl, inr, ◌⊎◌}
+use Rattle.std.proofs.Common.{◌≡◌, ℕ, zero, suc, ◌+◌, ◌-◌, ◌^◌, ◌<◌, ◌≤◌, max, Bool, true, false, cond, eqb, ltb, leb, ◌&&◌, List, [], ◌∷◌, ◌++◌, length, Ok, refl, sym, ap, ap₂, subst, ◌∙◌, append_assoc, arith, inl, inr, ◌⊎◌}
 use Rattle.std.specs.List.{flat_map, AllByRecursion}
 use Rattle.std.specs.Int.{w64, to_be_bytes}
 use Rattle.std.proofs.lemmas.Bool.{ne_eqb, ltb-true, leb-true, lt-ltb, le-leb, le-ltb, cases_lt, or_cases, or_left, or_right, and_parts, and_from}
@@ -14,7 +14,7 @@ use Rattle.cpg_table.specs.Lawful.{IsLawfulLiteral, IsLawfulColumn}
 use Rattle.cpg_table.specs.declared.space.Space.{Space}
 use Rattle.cpg_codec.specs.Reading.{down}
 use Rattle.cpg_codec.specs.Spelling.{byte, literal_bytes, column_bytes}
-use Rattle.cpg_codec.specs.Grammar.{IsSpace, limit, fault_end, is_variable, room, variable_may, low_end, high_end, literal_at, literals_at, column_at}
+use Rattle.cpg_codec.specs.Grammar.{IsSpace, limit, fault_end, is_variable, room, variable_may, low_end, high_end, literal_at, literals_at, front_at, column_at}
 use Rattle.cpg_codec.proofs.Laws.{Reads, pure_reads, seq, adapt, byte_reads}
 use Rattle.cpg_codec.proofs.Numbers.{small_reads}
 use Rattle.cpg_codec.proofs.Lists.{each_reads, down_is}
@@ -59,7 +59,7 @@ step_value : (e c least v : ℕ) → e ≤ 128 → least ≤ v → 128 ≤ v →
 step_value e c least v few le a b = omega arith
 
 -- each allowed variable takes room
-room_step : (s : Space) (least v : ℕ) → fault_end s ≤ 128 → least ≤ v → is_variable s v ≡ true → suc (room s (suc v)) ≤ room s least
+pub room_step : (s : Space) (least v : ℕ) → fault_end s ≤ 128 → least ≤ v → is_variable s v ≡ true → suc (room s (suc v)) ≤ room s least
 room_step s least v few le h = elim (is_variable_cases s v h) [
   | inl a ↦ step_fault (fault_end s) s.conditions least v few le a
   | inr a ↦ step_value (fault_end s) s.conditions least v few le a.0 a.1
@@ -90,7 +90,7 @@ literals_room s least (l ∷ ls) few h =
 
 -- ---- literals
 
-fault_some : (s : Space) (v : ℕ) → is_variable s v ≡ true → ltb v 128 ≡ true → 0 < s.faults
+pub fault_some : (s : Space) (v : ℕ) → is_variable s v ≡ true → ltb v 128 ≡ true → 0 < s.faults
 fault_some s v h lt = elim (is_variable_cases s v h) [
   | inl a ↦ limit_some s.faults s.processes (suc v) a (omega arith)
   | inr a ↦ absurd (let b : v < 128 = ltb-true v 128 lt in omega (arith, a.0))
@@ -119,7 +119,7 @@ high_small true k zero le h = omega arith
 high_small true k (suc low) le h = rw top_suc (omega arith)
 high_small false k low le h = omega arith
 
-range_to : (t : Bool) (s : Space) (low high : ℕ) → (t ≡ true → 0 < s.faults) → low ≤ low_top t s.faults → low ≤ high → high ≤ high_top t s.faults low → IsRange t s low high
+pub range_to : (t : Bool) (s : Space) (low high : ℕ) → (t ≡ true → 0 < s.faults) → low ≤ low_top t s.faults → low ≤ high → high ≤ high_top t s.faults low → IsRange t s low high
 range_to true s zero high some a b c = let k = some refl in (b, omega arith, λ e. omega arith)
 range_to true s (suc low) high some a b c = (b, subst (λ (x : ℕ). high ≤ x) (top_suc s.faults low) c, λ e. omega arith)
 range_to false s low high some a b c = (omega arith, omega arith)
@@ -140,7 +140,7 @@ pub record FitsLiteral (s : Space) (left least : ℕ) (l : Literal) : Type 0 whe
 may_from : (s : Space) (least left v : ℕ) → least ≤ v → is_variable s v ≡ true → left ≤ room s (suc v) → variable_may s least left v ≡ true
 may_from s least left v a b c = and_from (leb least v && is_variable s v) (leb left (room s (suc v))) (and_from (leb least v) (is_variable s v) (le-leb least v a) b) (le-leb left (room s (suc v)) c)
 
-may_to : (s : Space) (least left v : ℕ) → variable_may s least left v ≡ true → (least ≤ v) × (is_variable s v ≡ true) × (left ≤ room s (suc v))
+pub may_to : (s : Space) (least left v : ℕ) → variable_may s least left v ≡ true → (least ≤ v) × (is_variable s v ≡ true) × (left ≤ room s (suc v))
 may_to s least left v h =
     let p = and_parts (leb least v && is_variable s v) (leb left (room s (suc v))) h in
     let q = and_parts (leb least v) (is_variable s v) p.0 in
@@ -251,22 +251,34 @@ column_literals s c i h = literals_from s 0 c.cube i (recursion_from_All (IsLawf
 regroup_3 : (a b c : List ℕ) → a ++ (b ++ (c ++ [])) ≡ a ++ b ++ c
 regroup_3 a b c = simp (append_assoc, append-nil)
 
+room_small : (e c : ℕ) → e ≤ 128 → c ≤ 32 → (e - 0) + ((128 + c) - max 128 0) < 256
+room_small e c a b = omega arith
+
+pub front_reads : (s : Space) → IsSpace s → Reads (λ (f : ℕ × ℕ). (f.0 < 2 ^ 60) × (f.1 ≤ room s 0)) (λ (f : ℕ × ℕ). to_be_bytes w64 f.0 ++ byte f.1) (front_at s)
+unfolding front_at
+front_reads s i =
+    adapt
+    (seq (λ (f : ℕ × ℕ). f.0) time_reads
+    (λ t ft. seq (λ (f : ℕ × ℕ). f.1) (small_reads 0 (room s 0) (omega arith) (room_small (fault_end s) s.conditions (few_fault s i) i.conditions))
+    (λ n fn. pure_reads (t, n))
+    (λ n f fn h. ap (λ (q : ℕ × ℕ). q.1) h))
+    (λ t f ft h. ap (λ (q : ℕ × ℕ). q.0) h.1))
+    (λ f h. (h.0, h.1.0.1))
+    (λ f h. (h.0, ((omega arith, h.1), refl)))
+    (λ f h. refl)
+
 pub column_reads : (s : Space) → IsSpace s → Reads (IsLawfulColumn s) column_bytes (column_at s)
 unfolding column_at
 column_reads s i =
     adapt
-    (seq (λ (c : Column). c.time) time_reads
-    (λ t ft. seq (λ (c : Column). length c.cube) (small_reads 0 (room s 0) (omega arith) (room_small (fault_end s) s.conditions (few_fault s i) i.conditions))
-    (λ n fn. seq (λ (c : Column). c.cube) (literals_reads s n i fn.1)
-    (λ ls fls. pure_reads (record { time = t; cube = ls }))
+    (seq (λ (c : Column). (c.time, length c.cube)) (front_reads s i)
+    (λ f ff. seq (λ (c : Column). c.cube) (literals_reads s f.1 i ff.1)
+    (λ ls fls. pure_reads (record { time = f.0; cube = ls }))
     (λ ls c fls h. ap (λ (q : Column). q.cube) h))
-    (λ n c fn h. h.0.count_is))
-    (λ t c ft h. ap (λ (q : Column). q.time) h.1.1))
-    (λ c h. let l = literals_to s 0 c.cube i h.1.1.0.lawful in record { time = h.0; literals = All-from_recursion (IsLawfulLiteral s) c.cube l.0; rising = rising_from 0 c.cube l.1 })
-    (λ c h. let l = column_literals s c i h in (h.time, ((omega arith, literals_room s 0 c.cube (few_fault s i) l), (record { count_is = refl; lawful = l }, refl))))
-    (λ c h. regroup_3 (to_be_bytes w64 c.time) (byte (length c.cube)) (flat_map literal_bytes c.cube)) where
-      room_small : (e c : ℕ) → e ≤ 128 → c ≤ 32 → (e - 0) + ((128 + c) - max 128 0) < 256
-      room_small e c a b = omega arith
+    (λ f c ff h. ap₂ (λ (t : ℕ) (n : ℕ). (t, n)) (ap (λ (q : Column). q.time) h.1) h.0.count_is))
+    (λ c h. let l = literals_to s 0 c.cube i h.1.0.lawful in record { time = h.0.0; literals = All-from_recursion (IsLawfulLiteral s) c.cube l.0; rising = rising_from 0 c.cube l.1 })
+    (λ c h. let l = column_literals s c i h in ((h.time, literals_room s 0 c.cube (few_fault s i) l), (record { count_is = refl; lawful = l }, refl)))
+    (λ c h. regroup_3 (to_be_bytes w64 c.time) (byte (length c.cube)) (flat_map literal_bytes c.cube))
 
 -- literals that were read rise
 pub literals_rise : (s : Space) (count : ℕ) (bytes : List ℕ) (ls : List Literal) (rest : List ℕ) → IsSpace s → count ≤ room s 0 → literals_at s count bytes ≡ Ok (ls, rest) → IsRising ls

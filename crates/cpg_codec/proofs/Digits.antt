@@ -1,9 +1,9 @@
 -- A number byte by byte, for loops in code.
-use Rattle.std.proofs.Common.{◌≡◌, ℕ, zero, suc, ◌+◌, ◌*◌, ◌-◌, ◌/◌, ◌^◌, ◌<◌, ◌≤◌, true, false, ltb, leb, List, [], ◌∷◌, ◌++◌, length, get_or, take, drop, Result, Ok, Err, refl, sym, ap, subst, ◌∙◌, arith}
+use Rattle.std.proofs.Common.{◌≡◌, ℕ, zero, suc, ◌+◌, ◌*◌, ◌-◌, ◌/◌, ◌^◌, ◌<◌, ◌≤◌, true, false, ltb, leb, List, [], ◌∷◌, ◌++◌, length, get_or, take, drop, Ok, Err, refl, sym, ap, subst, ◌∙◌, arith}
 use Rattle.std.specs.Int.{w64, from_be_bytes, to_be_bytes}
 use Rattle.std.proofs.lemmas.Bool.{lt-ltb, le-ltb, le-leb, lt-leb, and_from, and_left, and_right}
 use Rattle.std.proofs.lemmas.List.{length-drop}
-use Rattle.std.proofs.lemmas.Nat.{be_bytes_8, from_be_bytes-to_be_bytes_8, mul-le, pow-add}
+use Rattle.std.proofs.lemmas.Nat.{be_bytes_8, mul-le, pow-add}
 use Rattle.std.proofs.Math.Nat.{one-le-pow, div-mul-le_self, lt-div-mul-add, pow-suc}
 use Rattle.std.proofs.Math.Seq.{take-length}
 use Rattle.cpg_codec.specs.Reading.{digit_may, digits_at, number_at, within}
@@ -118,7 +118,7 @@ eight (a ∷ b ∷ c ∷ d ∷ e ∷ []) le = absurd (omega arith)
 eight (a ∷ b ∷ c ∷ d ∷ e ∷ f ∷ []) le = absurd (omega arith)
 eight (a ∷ b ∷ c ∷ d ∷ e ∷ f ∷ g ∷ []) le = absurd (omega arith)
 
-first_fits : (bytes : List ℕ) → IsBytes bytes → IsBytes (first_8 bytes)
+pub first_fits : (bytes : List ℕ) → IsBytes bytes → IsBytes (first_8 bytes)
 first_fits bytes fits zero = fits 0
 first_fits bytes fits (suc zero) = fits 1
 first_fits bytes fits (suc (suc zero)) = fits 2

@@ -11,7 +11,7 @@ use Rattle.cpg_table.specs.Head.{Head, IsHeadEdge, version_of}
 use Rattle.cpg_table.specs.declared.head_parts.Extra.{Extra}
 use Rattle.cpg_codec.specs.Reading.{byte_by, within, down}
 use Rattle.cpg_codec.specs.Spelling.{Written, written, magic, bit, byte, name_bytes, own_number, extra_bytes, process_bytes, edge_bytes, head_bytes}
-use Rattle.cpg_codec.specs.Grammar.{name_at, time_at, own_may, own_at, extra_at, process_at, processes_at, edge_at, limit, head_from, head_at}
+use Rattle.cpg_codec.specs.Grammar.{name_at, time_at, own_may, own_at, extra_at, place_at, process_at, processes_at, edge_at, limit, head_from, head_at}
 use Rattle.cpg_codec.specs.Packs.{IsPackHead}
 use Rattle.cpg_codec.proofs.Laws.{Reads, pure_reads, seq, adapt, byte_reads}
 use Rattle.cpg_codec.proofs.Numbers.{IsChoice, within_chooses, number_reads, field_reads, small_reads}
@@ -192,23 +192,34 @@ same_process w = ap (λ (c : Bool). record { process = record { name = w.process
 abbrev pub FitsBehind : ℕ → ℕ → ℕ → ℕ → Written → Type 0
 FitsBehind version faults nodes ones w = IsWritten version faults nodes w × (ones + bit w.process.condition ≤ 32)
 
+pub place_reads : (nodes ones : ℕ) → 0 < nodes → nodes ≤ 256 → Reads (λ (p : ℕ × ℕ). (p.0 ≤ nodes - 1) × (p.1 ≤ cond (ltb ones 32) 1 0)) (λ (p : ℕ × ℕ). byte p.0 ++ byte p.1) (place_at nodes ones)
+unfolding place_at
+place_reads nodes ones some few =
+    adapt
+    (seq (λ (p : ℕ × ℕ). p.0) (small_reads 0 (nodes - 1) (omega arith) (omega arith))
+    (λ a fa. seq (λ (p : ℕ × ℕ). p.1) (small_reads 0 (cond (ltb ones 32) 1 0) (omega arith) (flag_end ones))
+    (λ c fc. pure_reads (a, c))
+    (λ c p fc h. ap (λ (q : ℕ × ℕ). q.1) h))
+    (λ a p fa h. ap (λ (q : ℕ × ℕ). q.0) h.1))
+    (λ p h. (h.0.1, h.1.0.1))
+    (λ p h. ((omega arith, h.0), ((omega arith, h.1), refl)))
+    (λ p h. refl)
+
 pub process_reads : (version faults nodes ones : ℕ) → 1 ≤ version → version ≤ 2 → 0 < nodes → nodes ≤ 16 → ones ≤ 32 → Reads (FitsBehind version faults nodes ones) process_bytes (process_at version faults nodes ones)
 unfolding process_at
 process_reads version faults nodes ones v1 v2 some few le =
     adapt
     (seq (λ (w : Written). w.process.name) name_reads
-    (λ n fn. seq (λ (w : Written). w.process.node) (small_reads 0 (nodes - 1) (omega arith) (omega arith))
-    (λ a fa. seq (λ (w : Written). bit w.process.condition) (small_reads 0 (cond (ltb ones 32) 1 0) (omega arith) (flag_end ones))
-    (λ c fc. seq (λ (w : Written). w.process.times) (times_reads (λ t. t < 2 ^ 60) (to_be_bytes w64) time_at (faults + 1) (λ _. time_reads))
+    (λ n fn. seq (λ (w : Written). (w.process.node, bit w.process.condition)) (place_reads nodes ones some (omega arith))
+    (λ a fa. seq (λ (w : Written). w.process.times) (times_reads (λ t. t < 2 ^ 60) (to_be_bytes w64) time_at (faults + 1) (λ _. time_reads))
     (λ ts fts. seq (λ (w : Written). w.extra) (extra_reads version v1 v2)
-    (λ e fe. pure_reads (make_process n a c ts e))
+    (λ e fe. pure_reads (make_process n a.0 a.1 ts e))
     (λ e w fe h. ap (λ (q : Written). q.extra) h))
     (λ ts w fts h. ap (λ (q : Written). q.process.times) h.1))
-    (λ c w fc h. ap (λ (q : Written). bit q.process.condition) h.1.1 ∙ flag_back c ones fc.1))
-    (λ a w fa h. ap (λ (q : Written). q.process.node) h.1.1.1))
-    (λ n w fn h. ap (λ (q : Written). q.process.name) h.1.1.1.1))
-    (λ w h. (record { process = record { node = omega (arith, h.1.0.1); count = h.1.1.1.0.0; times = All-from_recursion (λ (t : ℕ). t < 2 ^ 60) w.process.times h.1.1.1.0.1 }; name = h.0; extra = h.1.1.1.1.0 }, (flag_limit ones w.process.condition le).0 h.1.1.0.1))
-    (λ w h. (h.0.name, ((omega arith, omega (arith, h.0.process.node)), ((omega arith, (flag_limit ones w.process.condition le).1 h.1), ((h.0.process.count, recursion_from_All (λ (t : ℕ). t < 2 ^ 60) w.process.times h.0.process.times), (h.0.extra, same_process w))))))
+    (λ a w fa h. ap (λ (q : Written). (q.process.node, bit q.process.condition)) h.1.1 ∙ ap (λ (c : ℕ). (a.0, c)) (flag_back a.1 ones fa.1)))
+    (λ n w fn h. ap (λ (q : Written). q.process.name) h.1.1.1))
+    (λ w h. (record { process = record { node = omega (arith, h.1.0.0); count = h.1.1.0.0; times = All-from_recursion (λ (t : ℕ). t < 2 ^ 60) w.process.times h.1.1.0.1 }; name = h.0; extra = h.1.1.1.0 }, (flag_limit ones w.process.condition le).0 h.1.0.1))
+    (λ w h. (h.0.name, ((omega (arith, h.0.process.node), (flag_limit ones w.process.condition le).1 h.1), ((h.0.process.count, recursion_from_All (λ (t : ℕ). t < 2 ^ 60) w.process.times h.0.process.times), (h.0.extra, same_process w)))))
     (λ w h. regroup_5 (name_bytes w.process.name) (byte w.process.node) (byte (bit w.process.condition)) (flat_map (to_be_bytes w64) w.process.times) (extra_bytes w.extra))
 
 pub processes_reads : (version faults nodes count : ℕ) → 1 ≤ version → version ≤ 2 → nodes ≤ 16 → count ≤ limit nodes 128 → Reads (AreProcesses version faults nodes count 0) (flat_map process_bytes) (processes_at version faults nodes count)
@@ -231,7 +242,7 @@ processes_reads version faults nodes count v1 v2 few le =
 
 -- ---- edges
 
-pub edge_reads : (processes : ℕ) → 0 < processes → processes ≤ 128 → Reads (IsHeadEdge processes) edge_bytes (edge_at processes)
+pub edge_reads : (processes : ℕ) → 0 < processes → processes ≤ 256 → Reads (IsHeadEdge processes) edge_bytes (edge_at processes)
 unfolding edge_at
 edge_reads processes some few =
     adapt

@@ -16,3 +16,4 @@ pub mod Loop
 pub mod NameBytes
 pub mod Broadcasts
 pub mod WholePack
+pub mod Records

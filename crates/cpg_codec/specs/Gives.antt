@@ -1,7 +1,6 @@
 -- What a reader in code says: it gives what the grammar gives, but for want of memory.
-use Rattle.std.specs.Prelude.{◌≡◌, ℕ, List, Result, Ok, Err}
+use Rattle.std.specs.Prelude.{◌≡◌, ℕ, Result, Ok, Err}
 use Rattle.cpg_table.specs.Lawful.{Tables}
-use Rattle.cpg_codec.specs.Packs.{AreLawful, IsBadPack}
 use Rattle.cpg_codec.specs.declared.fault.PackFault.{PackFault}
 use Rattle.cpg_codec.specs.declared.fault.PackFault.TheVariants as faults
 use Rattle.cpg_codec.specs.declared.fault.ReadError.{ReadError}

@@ -42,15 +42,20 @@ extra_at version = if version == 2
       pure (Some (record { release = release; deadline = deadline })))
     else pure None
 
--- `ones` processes before have a condition
+-- the node of a process, and 1 where it has a condition; `ones` processes before have one
+unfoldable pub place_at : ℕ → ℕ → Reader (ℕ × ℕ)
+place_at nodes ones = do
+  node ← small_at 0 (nodes - 1)
+  flag ← small_at 0 (if nat_lt ones 32 then 1 else 0)
+  pure (node, flag)
+
 unfoldable pub process_at : ℕ → ℕ → ℕ → ℕ → Reader Written
 process_at version faults nodes ones = do
   name ← name_at
-  node ← small_at 0 (nodes - 1)
-  flag ← small_at 0 (if nat_lt ones 32 then 1 else 0)
+  place ← place_at nodes ones
   times ← times_at time_at (faults + 1)
   extra ← extra_at version
-  pure (record { process = record { name = name; node = node; condition = flag == 1; times = times }; extra = extra })
+  pure (record { process = record { name = name; node = place.0; condition = place.1 == 1; times = times }; extra = extra })
 
 unfoldable pub processes_at : ℕ → ℕ → ℕ → ℕ → Reader (List Written)
 processes_at version faults nodes count =
@@ -135,12 +140,18 @@ literal_at s left least = do
 unfoldable pub literals_at : Space → ℕ → Reader (List Literal)
 literals_at s count = each_at (λ (least : ℕ) (l : Literal). suc l.variable) (literal_at s) (down count) 0
 
-unfoldable pub column_at : Space → Reader Column
-column_at s = do
+-- the time of a column, and how many literals it has
+unfoldable pub front_at : Space → Reader (ℕ × ℕ)
+front_at s = do
   time ← time_at
   count ← small_at 0 (room s 0)
-  literals ← literals_at s count
-  pure (record { time = time; cube = literals })
+  pure (time, count)
+
+unfoldable pub column_at : Space → Reader Column
+column_at s = do
+  front ← front_at s
+  literals ← literals_at s front.1
+  pure (record { time = front.0; cube = literals })
 
 -- all columns of a pack
 abbrev pub most : ℕ

@@ -1,15 +1,16 @@
 //! The head of a pack, read.
-ghost use Rattle.std.specs.Prelude.{◌≡◌, ◌≤◌, ◌<◌, ◌+◌, ◌*◌, ◌^◌, ◌==◌, is_some, IfSome, ℕ, List, length, Ok, Err, IfOk, OnOk, ◌++◌, nat_lt, if◌then◌else◌};
+ghost use Rattle.std.specs.Prelude.{◌≡◌, ◌≤◌, ◌<◌, ◌+◌, ◌*◌, ◌^◌, ◌==◌, is_some, IfSome, ℕ, List, length, Ok, Err, IfOk, OnOk, IsTrue, ◌↔◌, ◌++◌, nat_lt, if◌then◌else◌};
 ghost use Rattle.cpg_table.specs.Head.{IsHead};
 ghost use Rattle.cpg_codec.specs.Reading.{number_at, within, times_at};
 ghost use Rattle.cpg_codec.specs.Spelling.{magic, bit, written_by, written_with};
-ghost use Rattle.cpg_codec.specs.Grammar.{process_at, processes_at, edge_at, limit, listed, name_at, head_at};
+ghost use Rattle.cpg_codec.specs.Grammar.{place_at, process_at, processes_at, edge_at, limit, listed, name_at, head_at};
 ghost use Rattle.cpg_codec.specs.Gives.{Gives};
 ghost use Rattle.cpg_codec.specs.Packs.{IsPackHead};
 ghost use Rattle.cpg_codec.specs.Parts.{head_of_parts};
 
 use crate::fault::ReadError;
 use crate::field_reading::{extra_of, name_of, number_of, small_of, times_of};
+use crate::fixed::{Fixed, edge_from, edge_to, process_flag, process_node};
 use cpg_base::{Name, OutOfMemory};
 use cpg_table::{Durations, Extra, Head, HeadProcess};
 use std::alloc::{AllocError, Global};
@@ -24,6 +25,39 @@ fn flag_end(ones: u32) -> u8
     ensures { result ≡ (if nat_lt ones 32 then 1 else 0) }
 {
     if ones < MOST_CONDITIONS { 1 } else { 0 }
+}
+
+/// The node of a process, and its condition flag, where `ones` processes before have a condition; field by field.
+#[tactic(auto, unfolding(crate::specs::Grammar::place_at))]
+fn place_by_fields(bytes: &[u8], nodes: u8, ones: u32) -> Result<(u8, u8, &[u8]), ReadError>
+    requires { 0 < nodes }
+    ensures { Gives (λ x. ((x.0, x.1), x.2.now)) result (place_at nodes ones bytes.now) }
+{
+    let (node, rest) = small_of(bytes, 0, nodes - 1)?;
+    let (flag, rest) = small_of(rest, 0, flag_end(ones))?;
+    Ok((node, flag, rest))
+}
+
+fn are_within(node: u8, flag: u8, nodes: u8, ones: u32) -> bool
+    ensures { IsTrue result ↔ (node < nodes) × (flag ≤ (if nat_lt ones 32 then 1 else 0)) }
+{
+    node < nodes && flag <= flag_end(ones)
+}
+
+/// The node of a process, and its condition flag, where `ones` processes before have a condition.
+fn place_of(bytes: &[u8], nodes: u8, ones: u32) -> Result<(u8, u8, &[u8]), ReadError>
+    requires { 0 < nodes }
+    ensures { Gives (λ x. ((x.0, x.1), x.2.now)) result (place_at nodes ones bytes.now) }
+{
+    if let [a, b, rest @ ..] = bytes {
+        let place = Fixed::new([*a, *b]);
+        let node = process_node(&place);
+        let flag = process_flag(&place);
+        if are_within(node, flag, nodes, ones) {
+            return Ok((node, flag, rest));
+        }
+    }
+    place_by_fields(bytes, nodes, ones)
 }
 
 /// A process behind `ones` with a condition, and what version 2 says of it.
@@ -41,8 +75,7 @@ fn process_of(
     ensures kind { IfOk result (λ x. is_some x.1 ≡ (version == 2)) }
 {
     let (name, rest) = name_of(alloc, bytes)?;
-    let (node, rest) = small_of(rest, 0, nodes - 1)?;
-    let (flag, rest) = small_of(rest, 0, flag_end(ones))?;
+    let (node, flag, rest) = place_of(rest, nodes, ones)?;
     let (times, rest) = times_of(alloc, rest, faults as u32 + 1)?;
     let (extra, rest) = extra_of(rest, version)?;
     Ok((
@@ -113,15 +146,37 @@ fn names_of(alloc: Global, bytes: &[u8], count: u8) -> Result<(Vec<Name>, &[u8])
     Ok((names, rest))
 }
 
-/// An edge between two of so many processes.
+/// An edge between two of so many processes, field by field.
 #[tactic(auto, unfolding(crate::specs::Grammar::edge_at))]
-fn edge_of(bytes: &[u8], processes: u8) -> Result<((u32, u32), &[u8]), ReadError>
+fn edge_by_fields(bytes: &[u8], processes: u8) -> Result<((u32, u32), &[u8]), ReadError>
     requires { 0 < processes }
     ensures { Gives (λ x. (x.0, x.1.now)) result (edge_at processes bytes.now) }
 {
     let (from, rest) = small_of(bytes, 0, processes - 1)?;
     let (to, rest) = small_of(rest, 0, processes - 1)?;
     Ok(((from as u32, to as u32), rest))
+}
+
+fn are_ends(from: u8, to: u8, processes: u8) -> bool
+    ensures { IsTrue result ↔ (from < processes) × (to < processes) }
+{
+    from < processes && to < processes
+}
+
+/// An edge between two of so many processes.
+fn edge_of(bytes: &[u8], processes: u8) -> Result<((u32, u32), &[u8]), ReadError>
+    requires { 0 < processes }
+    ensures { Gives (λ x. (x.0, x.1.now)) result (edge_at processes bytes.now) }
+{
+    if let [a, b, rest @ ..] = bytes {
+        let edge = Fixed::new([*a, *b]);
+        let from = edge_from(&edge);
+        let to = edge_to(&edge);
+        if are_ends(from, to, processes) {
+            return Ok(((from as u32, to as u32), rest));
+        }
+    }
+    edge_by_fields(bytes, processes)
 }
 
 /// So many edges.

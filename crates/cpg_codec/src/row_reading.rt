@@ -1,14 +1,17 @@
 //! Rows and their columns, read.
-ghost use Rattle.std.specs.Prelude.{◌≡◌, ◌≤◌, ◌<◌, ◌+◌, ◌-◌, ◌*◌, ◌^◌, ℕ, suc, List, length, Ok, Err, IfOk, if◌then◌else◌, nat_lt};
+ghost use Rattle.std.specs.Prelude.{◌≡◌, ◌≤◌, ◌<◌, ◌+◌, ◌-◌, ◌*◌, ◌^◌, IsTrue, true, ℕ, suc, List, length, Ok, Err, IfOk, if◌then◌else◌, nat_lt};
 ghost use Rattle.cpg_cube.specs.declared.literal.Literal.{Literal};
 ghost use Rattle.cpg_cube.specs.Cube.{IsRising};
 ghost use Rattle.cpg_table.specs.Lawful.{space_of, column_count, rows_of};
 ghost use Rattle.cpg_codec.specs.Reading.{number_at, within, times_at, byte_by, each_at, down};
-ghost use Rattle.cpg_codec.specs.Grammar.{IsSpace, room, variable_may, low_end, high_end, literal_at, literals_at, column_at, row_at, rows_at, items_of_node, node_table_at};
+ghost use Rattle.cpg_codec.specs.Grammar.{IsSpace, room, variable_may, low_end, high_end, literal_at, literals_at, front_at, column_at, row_at, rows_at, items_of_node, node_table_at};
 ghost use Rattle.cpg_codec.specs.Gives.{Gives};
 
 use crate::fault::ReadError;
 use crate::field_reading::{number_of, small_of, time_of};
+use crate::fixed::{
+    Fixed, column_literals, column_time, literal_high, literal_low, literal_variable,
+};
 use crate::space::Space;
 use cpg_base::OutOfMemory;
 use cpg_cube::{Cube, Literal};
@@ -17,6 +20,8 @@ use std::alloc::Global;
 
 /// The variable of the first condition's value.
 const FIRST_VALUE: u8 = 128;
+/// Times are below this, in time units of the graph file.
+const TIME_END: u64 = 1 << 60;
 /// How many columns a row has at most.
 const MOST_IN_ROW: u64 = 16_384;
 /// How many columns all rows have together at most.
@@ -77,9 +82,9 @@ fn high_end(space: &Space, variable: u8, low: u8) -> u8
     }
 }
 
-/// A literal with `left` more behind it.
+/// A literal with `left` more behind it, field by field.
 #[tactic(auto, unfolding(crate::specs::Grammar::literal_at))]
-fn literal_of<'a>(
+fn literal_by_fields<'a>(
     bytes: &'a [u8],
     space: &Space,
     left: u32,
@@ -99,6 +104,44 @@ fn literal_of<'a>(
         },
         rest,
     ))
+}
+
+/// Whether a literal may stand here, with `left` more behind it.
+fn is_next(space: &Space, left: u32, least: u32, literal: Literal) -> bool
+    requires { IsSpace space.now }
+    ensures { IsTrue result → (variable_may space.now least left literal.variable ≡ true) × (literal.low ≤ low_end space.now literal.variable) × (literal.low ≤ literal.high) × (literal.high ≤ high_end space.now literal.variable literal.low) }
+{
+    if !variable_may(space, least, left, literal.variable) {
+        return false;
+    }
+    if literal.low > low_end(space, literal.variable) {
+        return false;
+    }
+    literal.low <= literal.high && literal.high <= high_end(space, literal.variable, literal.low)
+}
+
+/// A literal with `left` more behind it.
+fn literal_of<'a>(
+    bytes: &'a [u8],
+    space: &Space,
+    left: u32,
+    least: u32,
+) -> Result<(Literal, &'a [u8]), ReadError>
+    requires { IsSpace space.now }
+    ensures { Gives (λ x. (x.0, x.1.now)) result (literal_at space.now left least bytes.now) }
+{
+    if let [a, b, c, rest @ ..] = bytes {
+        let fields = Fixed::new([*a, *b, *c]);
+        let literal = Literal {
+            variable: literal_variable(&fields),
+            low: literal_low(&fields),
+            high: literal_high(&fields),
+        };
+        if is_next(space, left, least, literal) {
+            return Ok((literal, rest));
+        }
+    }
+    literal_by_fields(bytes, space, left, least)
 }
 
 /// So many literals.
@@ -135,6 +178,40 @@ fn cube_of(alloc: Global, literals: &[Literal]) -> Result<Cube, OutOfMemory>
     }
 }
 
+/// The time of a column, and how many literals it has; field by field.
+#[tactic(auto, unfolding(crate::specs::Grammar::front_at))]
+fn front_by_fields<'a>(bytes: &'a [u8], space: &Space) -> Result<(u64, u8, &'a [u8]), ReadError>
+    requires { IsSpace space.now }
+    ensures { Gives (λ x. ((x.0, x.1), x.2.now)) result (front_at space.now bytes.now) }
+{
+    let (time, rest) = time_of(bytes)?;
+    let (count, rest) = small_of(rest, 0, space.room(0) as u8)?;
+    Ok((time, count, rest))
+}
+
+fn is_front(space: &Space, time: u64, count: u8) -> bool
+    requires { IsSpace space.now }
+    ensures { IsTrue result → (time < 2 ^ 60) × (count ≤ room space.now 0) }
+{
+    time < TIME_END && u32::from(count) <= space.room(0)
+}
+
+/// The time of a column, and how many literals it has.
+fn front_of<'a>(bytes: &'a [u8], space: &Space) -> Result<(u64, u8, &'a [u8]), ReadError>
+    requires { IsSpace space.now }
+    ensures { Gives (λ x. ((x.0, x.1), x.2.now)) result (front_at space.now bytes.now) }
+{
+    if let [a, b, c, d, e, f, g, h, i, rest @ ..] = bytes {
+        let front = Fixed::new([*a, *b, *c, *d, *e, *f, *g, *h, *i]);
+        let time = column_time(&front);
+        let count = column_literals(&front);
+        if is_front(space, time, count) {
+            return Ok((time, count, rest));
+        }
+    }
+    front_by_fields(bytes, space)
+}
+
 /// A column.
 #[tactic(auto, unfolding(crate::specs::Grammar::column_at))]
 fn column_of<'a>(
@@ -145,8 +222,7 @@ fn column_of<'a>(
     requires { IsSpace space.now }
     ensures { Gives (λ x. (x.0, x.1.now)) result (column_at space.now bytes.now) }
 {
-    let (time, rest) = time_of(bytes)?;
-    let (count, rest) = small_of(rest, 0, space.room(0) as u8)?;
+    let (time, count, rest) = front_of(bytes, space)?;
     let (literals, rest) = literals_of(alloc, rest, space, count)?;
     let cube = cube_of(alloc, literals.as_slice())?;
     Ok((Entry { time, cube }, rest))

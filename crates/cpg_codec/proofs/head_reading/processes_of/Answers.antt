@@ -1,6 +1,5 @@
-use Rattle.std.proofs.Common.{◌≡◌, ◌+◌, ◌-◌, ◌==◌, ℕ, arith, rules, ◌≤◌, Bool, true, false, cond, refl}
+use Rattle.std.proofs.Common.{◌≡◌, ◌+◌, ◌-◌, ◌==◌, ℕ, arith, ◌≤◌, Bool, true, false, cond, refl}
 use Rattle.std.proofs.lemmas.Result.{err_from_is_err_and}
-use Rattle.std.proofs.lemmas.Grind.{common_steps}
 use Rattle.cpg_codec.specs.Reading.{down}
 use Rattle.cpg_codec.specs.Spelling.{Written, bit, written_by, written_with}
 use Rattle.cpg_codec.specs.Grammar.{process_at, processes_at}

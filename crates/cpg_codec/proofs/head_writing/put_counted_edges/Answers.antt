@@ -1,9 +1,9 @@
-use Rattle.std.proofs.Common.{◌++◌, length}
+use Rattle.std.proofs.Common.{length}
 use Rattle.std.specs.List.{flat_map}
 use Rattle.std.proofs.lemmas.Result.{err_from_is_err_and}
 use Rattle.cpg_codec.specs.Spelling.{edge_bytes}
 use Rattle.std.specs.Int.{w16, to_be_bytes}
-use Rattle.cpg_codec.proofs.Puts.{IsPut-then, Puts-then, Puts-first, Puts-failed, fails_second, fails_first}
+use Rattle.cpg_codec.proofs.Puts.{Puts-then, Puts-first}
 use Rattle.cpg_codec.proofs.head_writing.put_counted_edges.Goals as goal
 
 pub returns-in_err-put_short-clause-put : goal.returns-in_err-put_short-clause-put

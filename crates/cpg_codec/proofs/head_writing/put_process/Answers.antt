@@ -1,4 +1,4 @@
-use Rattle.std.proofs.Common.{◌++◌, length}
+use Rattle.std.proofs.Common.{◌++◌}
 use Rattle.std.specs.List.{flat_map}
 use Rattle.std.proofs.lemmas.Result.{err_from_is_err_and}
 use Rattle.cpg_codec.specs.Spelling.{byte, bit, name_bytes, extra_bytes}

@@ -1,6 +1,5 @@
-use Rattle.std.proofs.Common.{arith, ap, length, List}
+use Rattle.std.proofs.Common.{arith}
 use Rattle.std.proofs.lemmas.Result.{err_from_is_err_and}
-use Rattle.cpg_table.specs.declared.head_parts.HeadProcess.{HeadProcess}
 use Rattle.cpg_codec.specs.Spelling.{written, process_bytes}
 use Rattle.cpg_codec.proofs.WrittenHeads.{written_at, written_length}
 use Rattle.cpg_codec.proofs.Puts.{item_more, item_fails, puts_all, Puts-failed}

@@ -1,6 +1,6 @@
-use Rattle.std.proofs.Common.{◌==◌, not, if◌then◌else◌, ◌++◌}
+use Rattle.std.proofs.Common.{◌==◌, not, if◌then◌else◌}
 use Rattle.cpg_table.specs.declared.head_parts.HeadProcess.{HeadProcess}
-use Rattle.cpg_table.specs.Items.{numbers_where, first_broadcast, conditioned}
+use Rattle.cpg_table.specs.Items.{first_broadcast}
 use Rattle.cpg_codec.proofs.Broadcasts.{few_on, broadcasts_on}
 use Rattle.cpg_codec.proofs.items.push_broadcasts.Goals as goal
 

@@ -1,8 +1,7 @@
-use Rattle.std.proofs.Common.{◌++◌, length}
 use Rattle.std.specs.List.{flat_map}
 use Rattle.std.proofs.lemmas.Result.{err_from_is_err_and}
 use Rattle.cpg_codec.specs.Spelling.{head_bytes, table_bytes}
-use Rattle.cpg_codec.proofs.Puts.{IsPut-then, Puts-then, Puts-first, Puts-failed, fails_second, fails_first}
+use Rattle.cpg_codec.proofs.Puts.{Puts-then, Puts-first}
 use Rattle.cpg_codec.proofs.writing.put_tables.Goals as goal
 
 pub returns-in_err-put_head-clause-put : goal.returns-in_err-put_head-clause-put
