@@ -20,7 +20,7 @@ use Rattle.cpg_core.proofs.BuiltExists.{wide_by}
 pub plain_narrow : (g : Graph) → IsPlain g → IsWithinLimits g → WellFormed g → (order : List ℕ) → IsTopological g order → IsNarrow g order
 plain_narrow g plain within formed order top x wide =
     both_ways (is_too_wide g (reach_before g order) x) (never_wide g plain within order top.all x wide.within)
-        (wide_by g formed order top (reach_before g order) (reached_before g plain within order top.all) x wide)
+    (wide_by g formed order top (reach_before g order) (reached_before g plain within order top.all) x wide)
 
 -- tables that a builder answers are valid where nothing is late
 pub built_valid : (g : Graph) (urgency order : List ℕ) (b : Built) → IsBuiltFor g urgency order b → b.excess ≡ 0 → IsValid g b.tables.nodes

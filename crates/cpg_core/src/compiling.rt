@@ -24,13 +24,7 @@ pub struct Compiled {
 }
 
 /// That a process ends past its due, with its end in the scenario of the greatest excess.
-fn late(
-    alloc: Global,
-    problem: &Problem,
-    order: &Order,
-    built: Built,
-    process: u32,
-) -> CompileFault
+fn late(alloc: Global, problem: &Problem, order: &Order, built: Built, process: u32) -> CompileFault
     requires plain { IsPlain problem.now }
     requires formed { WellFormed problem.now }
     requires topological { IsTopological problem.now order.now }
@@ -40,7 +34,9 @@ fn late(
 {
     let _nodes = problem.nodes();
     let Built {
-        frozen, excess_in, ..
+        frozen,
+        excess_in,
+        ..
     } = built;
     let Ok(times) = run(alloc, problem, order, &frozen, &excess_in) else {
         return CompileFault::OutOfMemory;

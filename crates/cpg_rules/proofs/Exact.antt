@@ -33,11 +33,11 @@ module _ (g : Graph) (senders : HasSenderSlots g) (node : ℕ) where
   slot_of_sender : is_sender g node ≡ true → has_slot g node ≡ true
   slot_of_sender sends = elim (or_cases (sends_message g node) (nat_lt 1 (length g.nodes) && decides g node) sends) [
     | inl m ↦ (let r = list_any_parts (λ e. is_message_of g e node) (numbers_below (edge_count g)) m in
-      let p = and_parts (is_message g r.0) (node_of g (source g r.0) == node) r.2 in
-      slot_of_message r.0 (numbers-Contains (edge_count g) r.0 r.1) p.0 (eqb-true (node_of g (source g r.0)) node p.1))
+        let p = and_parts (is_message g r.0) (node_of g (source g r.0) == node) r.2 in
+        slot_of_message r.0 (numbers-Contains (edge_count g) r.0 r.1) p.0 (eqb-true (node_of g (source g r.0)) node p.1))
     | inr b ↦ (let q = and_parts (nat_lt 1 (length g.nodes)) (decides g node) b in
-      let r = list_any_parts (λ c. node_of g (process_of g c) == node) (numbers_below (condition_count g)) q.1 in
-      slot_of_broadcast r.0 (numbers-Contains (condition_count g) r.0 r.1) q.0 (eqb-true (node_of g (process_of g r.0)) node r.2))
+        let r = list_any_parts (λ c. node_of g (process_of g c) == node) (numbers_below (condition_count g)) q.1 in
+        slot_of_broadcast r.0 (numbers-Contains (condition_count g) r.0 r.1) q.0 (eqb-true (node_of g (process_of g r.0)) node r.2))
   ]
 
   pub no_lack : lacks_slot g node ≡ true → ⊥

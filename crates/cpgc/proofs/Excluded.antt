@@ -77,7 +77,7 @@ module _ (g : Graph) (order : List ℕ) (top : IsTopological g order) where
       let m : IsMeasured g order order late.0 late.1 = late.2 in
       let same : c.built.frozen ≡ m.frozen = frozen_unique g order top c.built.frozen m.frozen is.built.frozen m.frozen_times in
       let one = one_excess g order top.all order top m.frozen late.0 c.built.excess m.excess_in c.built.excess_in m.excess_by c.built.excess_by m.is_excess
-          (subst (λ f. IsExcess g order order f c.built.excess c.built.excess_in c.built.excess_by) same is.built.excess) in
+      (subst (λ f. IsExcess g order order f c.built.excess c.built.excess_in c.built.excess_by) same is.built.excess) in
       let above : 0 < late.0 = late.3 in
       let none = is.in_time in
       omega (arith, one.0)
@@ -91,8 +91,10 @@ module _ (seen : Seen) (told : Option Text) (bytes : Text) (a : Admission) (tell
       is_memory : ReadFault → Bool
       is_memory ReadFault.OutOfMemory = true
       is_memory _ = false
+
       apart : (f : ReadFault) → is_memory f ≡ false → f ≢ ReadFault.OutOfMemory
       apart f off e = both_ways _ off (ap is_memory e)
+
       go : (f : ReadFault) → (f ≢ ReadFault.OutOfMemory → ⊥) → status_of (halt_of_reading f) ≡ 8
       go ReadFault.NotToml k = absurd (k (apart ReadFault.NotToml refl))
       go (ReadFault.BadField place) k = absurd (k (apart (ReadFault.BadField place) refl))
@@ -147,4 +149,4 @@ module _ (seen : Seen) (told : Option Text) (bytes : Text) (a : Admission) (tell
       let b = shown.0 in
       let same : b.graph ≡ a.graph = same_graph bytes b.graph a.graph (says_of told bytes b.graph tells shown.1.says) listable.says in
       late_not_built a.graph a.order listable.admitted.topological shown.2.compiled
-          (moved a b listable.admitted shown.1.admitted same (λ g o. IsCompilation g o shown.2.compiled) shown.2.compilation) late
+      (moved a b listable.admitted shown.1.admitted same (λ g o. IsCompilation g o shown.2.compiled) shown.2.compilation) late

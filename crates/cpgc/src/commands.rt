@@ -110,11 +110,7 @@ fn admit_only<S: Shelf>(alloc: Global, shelf: &mut S, name: &str) -> Halt
 }
 
 /// The output of a command, or why it stops.
-fn command_output<S: Shelf>(
-    alloc: Global,
-    shelf: &mut S,
-    command: &Command,
-) -> Result<String, Halt>
+fn command_output<S: Shelf>(alloc: Global, shelf: &mut S, command: &Command) -> Result<String, Halt>
     requires { All (λ w. S.may_fetch shelf.old w) (file_words command.now) }
     ensures text { IfOk result (λ text. PrintsCommand (record { stands = S.stands shelf.old; given = S.given shelf.new; before = S.faults shelf.old; now = S.faults shelf.new }) command.now (string_bytes text)) }
     ensures halt { IfErr result (StopsCommand (record { stands = S.stands shelf.old; given = S.given shelf.new; before = S.faults shelf.old; now = S.faults shelf.new }) command.now) }

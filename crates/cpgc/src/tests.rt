@@ -7,9 +7,12 @@ use std::test::Fail;
 
 /// A process of 30 time units, and one of 10.
 const A: &str = "{ name = \"A\", node = \"N1\", wcet = 30, alpha = 2, chi = 3, mu = 5 }";
+
 const A_IN_PARTS: &str =
     "{ name = \"A\", node = \"N1\", wcet = 30, parts = 3, alpha = 2, chi = 3, mu = 5 }";
-const A_AND_B: &str = "{ name = \"A\", node = \"N1\", wcet = 30, alpha = 2, chi = 3, mu = 5 }, { name = \"B\", node = \"N1\", wcet = 10, alpha = 2, chi = 3, mu = 5 }";
+
+const A_AND_B: &str =
+    "{ name = \"A\", node = \"N1\", wcet = 30, alpha = 2, chi = 3, mu = 5 }, { name = \"B\", node = \"N1\", wcet = 10, alpha = 2, chi = 3, mu = 5 }";
 
 /// What a run did.
 struct Outcome {
@@ -54,12 +57,40 @@ fn one_node(alloc: Global, faults: u8, deadline: u64, processes: &str) -> Result
 fn one_node_graphs(rt: HostRuntime) -> Result<(), Fail> {
     let alloc = rt.alloc();
     for (faults, deadline, processes, status, out, err) in [
-        (0, 35, A, 0, "order A\nworst 35\nstart A on N1\n  0: always\n", ""),
+        (
+            0,
+            35,
+            A,
+            0,
+            "order A\nworst 35\nstart A on N1\n  0: always\n",
+            "",
+        ),
         (0, 34, A, 5, "", "cpgc: late 35 by A in none\n"),
-        (1, 72, A, 0, "order A\nworst 72\nstart A on N1\n  0: always\n", ""),
+        (
+            1,
+            72,
+            A,
+            0,
+            "order A\nworst 72\nstart A on N1\n  0: always\n",
+            "",
+        ),
         (1, 71, A, 5, "", "cpgc: late 72 by A in A faults 1\n"),
-        (1, 62, A_IN_PARTS, 0, "order A\nworst 62\nstart A on N1\n  0: always\n", ""),
-        (8, 331, A, 0, "order A\nworst 331\nstart A on N1\n  0: always\n", ""),
+        (
+            1,
+            62,
+            A_IN_PARTS,
+            0,
+            "order A\nworst 62\nstart A on N1\n  0: always\n",
+            "",
+        ),
+        (
+            8,
+            331,
+            A,
+            0,
+            "order A\nworst 331\nstart A on N1\n  0: always\n",
+            "",
+        ),
         (
             1,
             87,
@@ -144,7 +175,12 @@ fn long_files(rt: HostRuntime) -> Result<(), Fail> {
 fn words_without_a_form(rt: HostRuntime) -> Result<(), Fail> {
     let alloc = rt.alloc();
     let mut shelf = MemoryShelf::new(alloc)?;
-    for list in [[].as_slice(), &["show"], &["play", "g", "p", "s"], &["shew", "g"]] {
+    for list in [
+        [].as_slice(),
+        &["show"],
+        &["play", "g", "p", "s"],
+        &["shew", "g"],
+    ] {
         let got = outcome(alloc, &mut shelf, list, 100, 100)?;
         assert_eq!(rt; got.err.taken(), b"cpgc: words\n".as_slice());
         assert_eq!(rt; (got.status, got.out.taken().len()), (1, 0));

@@ -10,7 +10,7 @@ returns-clause-compiled c =
     let b = c.in_ok-built.built in
     let is = c.problem-problem.ensures.admitted in
     let built : IsBuiltFor g order order b =
-        subst (λ o. IsBuiltFor g o o b) c.order-order.ensures.order (subst (λ h. IsBuiltFor h c.order-order.result.now c.order-order.result.now b) c.problem-problem.ensures.problem c.in_ok-built.ensures) in
+    subst (λ o. IsBuiltFor g o o b) c.order-order.ensures.order (subst (λ h. IsBuiltFor h c.order-order.result.now c.order-order.result.now b) c.problem-problem.ensures.problem c.in_ok-built.ensures) in
     let none = nothing_late g order order b.frozen b built.excess (none_of b.excess_by c.in_default.not-Some) in
     record {
       order = c.in_ok-copy.ensures ∙ c.order-order.ensures.order;

@@ -7,8 +7,7 @@ pub returns : goal.returns
 returns c =
     let g = c.args.problem.now in
     let order = c.args.order.now in
-    let built = c.args.built in
-    (
+    let built = c.args.built in (
       plain_narrow g c.requires.plain c.nodes-nodes.ensures.within c.requires.formed order c.requires.topological,
       record {
         frozen = built.frozen;

@@ -10,8 +10,7 @@ use Rattle.cpg_list.proofs.plain.is_plain.Goals as goal
 pub returns : goal.returns
 returns c =
     let g = c.args.problem.now in
-    let same : c.ways.result ≡ ways (process_count g) g.faults = c.ways.ensures ∙ ap₂ ways (ap length c.processes-2.ensures.processes) c.faults.ensures.faults in
-    (
+    let same : c.ways.result ≡ ways (process_count g) g.faults = c.ways.ensures ∙ ap₂ ways (ap length c.processes-2.ensures.processes) c.faults.ensures.faults in (
       λ few. plain_of g
           (omega (arith, c.if-nodes-gt1.false, ap length c.nodes.ensures.nodes))
           (sym c.slots.ensures.slots ∙ nothing_there c.slots.result.now c.is_empty.result c.is_empty.ensures c.if-not-is_empty.false)

@@ -12,7 +12,7 @@ use Rattle.cpgc.proofs.run.run.Goals as goal
 pub stop-requires : goal.stop-requires
 stop-requires g c =
     stops_named (record { stands = g.S.Shelf.stands c.args.shelf.now; given = g.S.Shelf.given c.output.new.shelf; before = g.S.Shelf.faults c.args.shelf.now; now = g.S.Shelf.faults c.output.new.shelf })
-        (map string_bytes c.args.words.now) c.in-Err.halt c.in-Err.ensures.halt
+    (map string_bytes c.args.words.now) c.in-Err.halt c.in-Err.ensures.halt
 
 pub returns-in-Ok : goal.returns-in-Ok
 returns-in-Ok g c =
