@@ -26,8 +26,8 @@ use Rattle.cpg_core.proofs.Compilations.{plain_narrow}
 use Rattle.cpgc.specs.declared.halt.Halt.{Halt}
 use Rattle.cpgc.specs.Halts.{halt_of_reading, halt_of_rules, halt_of_compile}
 use Rattle.cpgc.specs.Lines.{status_of}
-use Rattle.cpgc.specs.Causes.{Seen, Says, Admits, StopsReading, BreaksRule, IsUncompiled, StopsGraph, StopsShow, graph_limit}
-use Rattle.cpgc.specs.Outputs.{IsTableText, IsShown}
+use Rattle.cpgc.specs.Causes.{Seen, Says, Admits, StopsReading, BreaksRule, IsUncompiled, StopsGraph, StopsCompile, graph_limit}
+use Rattle.cpgc.specs.Outputs.{IsMade}
 use Rattle.cpgc.specs.Lawful.{AreListable}
 
 -- ---- what bytes say is one thing
@@ -132,21 +132,21 @@ module _ (seen : Seen) (told : Option Text) (bytes : Text) (a : Admission) (tell
       inr (ap status_of e, (s, p, time, moved a b listable.admitted admits.admitted same (λ g o. IsShownLate g o s p time) shows.1))
   compile_left b admits h CompileFault.OutOfMemory e shows = inl (ap status_of e)
 
-  show_left : (h : Halt) (b : Admission) → Admits told b → StopsShow b h → Left h
-  show_left h b admits (inl unbuilt) =
+  made_left : (h : Halt) (b : Admission) → Admits told b → StopsCompile b h → Left h
+  made_left h b admits (inl unbuilt) =
       let same : b.graph ≡ a.graph = same_graph bytes b.graph a.graph (says_of told bytes b.graph tells admits.says) listable.says in
       absurd (unbuilt.1 (subst IsPlain (sym same) listable.plain))
-  show_left h b admits (inr wrong) = compile_left b admits h wrong.fault wrong.halt_is wrong.shows
+  made_left h b admits (inr wrong) = compile_left b admits h wrong.fault wrong.halt_is wrong.shows
 
-  pub graph_left : (h : Halt) → StopsGraph seen told StopsShow h → Left h
+  pub graph_left : (h : Halt) → StopsGraph seen told StopsCompile h → Left h
   graph_left h (inl read) = inl (reading_left h read)
   graph_left h (inr (inl breaks)) = inl (rules_left h breaks.0 breaks.1 breaks.2)
-  graph_left h (inr (inr worked)) = show_left h worked.0 worked.1 worked.2
+  graph_left h (inr (inr worked)) = made_left h worked.0 worked.1 worked.2
 
-  -- what is shown isn't late
-  pub shown_not_late : (text : Text) → IsShown told text → IsLateUnder a.graph a.order a.order → ⊥
-  shown_not_late text shown late =
-      let b = shown.0 in
-      let same : b.graph ≡ a.graph = same_graph bytes b.graph a.graph (says_of told bytes b.graph tells shown.1.says) listable.says in
-      late_not_built a.graph a.order listable.admitted.topological shown.2.compiled
-      (moved a b listable.admitted shown.1.admitted same (λ g o. IsCompilation g o shown.2.compiled) shown.2.compilation) late
+  -- what is made isn't late
+  pub made_not_late : (spell : Graph → Compiled → Text) (text : Text) → IsMade told spell text → IsLateUnder a.graph a.order a.order → ⊥
+  made_not_late spell text made late =
+      let b = made.0 in
+      let same : b.graph ≡ a.graph = same_graph bytes b.graph a.graph (says_of told bytes b.graph tells made.1.says) listable.says in
+      late_not_built a.graph a.order listable.admitted.topological made.2.compiled
+          (moved a b listable.admitted made.1.admitted same (λ g o. IsCompilation g o made.2.compiled) made.2.compilation) late

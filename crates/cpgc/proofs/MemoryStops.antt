@@ -6,19 +6,20 @@ use Rattle.cpg_words.specs.declared.command.Command.{Command}
 use Rattle.cpg_words.specs.declared.command.Command.TheVariants.{Show, Compile, Check, Play, Node, Trial, Live, Hyper, Tune, Audit}
 use Rattle.cpg_reader.specs.declared.place.ReadFault.TheVariants.{OutOfMemory}
 use Rattle.cpg_rules.specs.Admission.{Admission}
+use Rattle.cpg_codec.specs.declared.fault.PackFault.{PackFault}
 use Rattle.cpgc.specs.declared.halt.Halt.{Halt}
 use Rattle.cpgc.specs.declared.halt.Halt.TheVariants.{Memory}
-use Rattle.cpgc.specs.Causes.{Seen, IsUnbuilt, StopsGraph, StopsShow, Stops, StopsAsked, StopsCommand}
+use Rattle.cpgc.specs.Causes.{Seen, IsUnbuilt, StopsGraph, StopsCompile, Stops, StopsAsked, StopsCommand}
 
 memory_graph : (seen : Seen) (told : Option Text) (work : Admission → Halt → Type 0) → StopsGraph seen told work Memory
 memory_graph seen told work = inl (inr (inr (record { fault = OutOfMemory; halt_is = refl; first = λ other. absurd (other refl) })))
 
 memory_command : (seen : Seen) (c : Command) → StopsCommand seen c Memory
-memory_command seen (Show graph) = memory_graph seen (seen.stands graph) StopsShow
-memory_command seen (Compile graph) = memory_graph seen (seen.stands graph) (λ _. IsUnbuilt)
+memory_command seen (Show graph) = memory_graph seen (seen.stands graph) StopsCompile
+memory_command seen (Compile graph) = memory_graph seen (seen.stands graph) StopsCompile
 memory_command seen (Check graph pack) = inr refl
 memory_command seen (Play graph pack scenario turns) = inr refl
-memory_command seen (Node pack name) = inr refl
+memory_command seen (Node pack name) = inl (inr (inr (record { fault = PackFault.OutOfMemory; halt_is = refl; shows = tt })))
 memory_command seen (Trial number) = inr refl
 memory_command seen (Live pack name stream) = inr refl
 memory_command seen (Hyper parts) = inr refl

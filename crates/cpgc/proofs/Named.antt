@@ -8,6 +8,8 @@ use Rattle.cpg_words.specs.Forms.{command_of}
 use Rattle.cpg_words.specs.declared.command.Command.{Command}
 use Rattle.cpg_words.specs.declared.command.Command.TheVariants.{Show, Compile, Check, Play, Node, Trial, Live, Hyper, Tune, Audit}
 use Rattle.cpg_reader.specs.declared.place.ReadFault.{ReadFault}
+use Rattle.cpg_table.specs.Lawful.{Tables}
+use Rattle.cpg_codec.specs.declared.fault.PackFault.{PackFault}
 use Rattle.cpg_rules.specs.Admission.{Admission}
 use Rattle.cpg_rules.specs.declared.admission.RuleFault.{RuleFault}
 use Rattle.cpg_rules.specs.Faults.{ShowsFault}
@@ -16,9 +18,9 @@ use Rattle.cpg_core.specs.Compilation.{ShowsCompileFault}
 use Rattle.cpgc.specs.declared.halt.Refusal.TheVariants.{NotBuilt}
 use Rattle.cpgc.specs.declared.halt.Halt.{Halt}
 use Rattle.cpgc.specs.declared.halt.Halt.TheVariants.{Words, Read, Refused, Memory}
-use Rattle.cpgc.specs.Halts.{halt_of_reading, halt_of_rules, halt_of_compile}
+use Rattle.cpgc.specs.Halts.{halt_of_reading, halt_of_pack, halt_of_rules, halt_of_compile}
 use Rattle.cpgc.specs.Lines.{HasLengths, IsNamed}
-use Rattle.cpgc.specs.Causes.{Seen, StopsReading, BreaksRule, IsUncompiled, IsUnbuiltCommand, StopsGraph, StopsShow, StopsCommand, StopsAsked, Stops}
+use Rattle.cpgc.specs.Causes.{Seen, StopsReading, BreaksRule, IsUncompiled, IsUnbuiltCommand, StopsGraph, StopsCompile, StopsNaming, StopsNode, StopsCommand, StopsAsked, Stops}
 
 lengths_of : (g : Graph) (s : Scenario) → IsScenario g s → HasLengths g s
 lengths_of g s is = record { values = is.values; faults = is.faults }
@@ -64,16 +66,30 @@ unbuilt_command_named : (h : Halt) → IsUnbuiltCommand h → IsNamed h
 unbuilt_command_named h (inl e) = unbuilt_named h e
 unbuilt_command_named h (inr e) = named_as h Memory e tt
 
-show_named : (a : Admission) (h : Halt) → StopsShow a h → IsNamed h
-show_named a h (inl unbuilt) = unbuilt_named h unbuilt.0
-show_named a h (inr wrong) = named_as h _ wrong.halt_is (of_compile a wrong.fault wrong.shows)
+compile_named : (a : Admission) (h : Halt) → StopsCompile a h → IsNamed h
+compile_named a h (inl unbuilt) = unbuilt_named h unbuilt.0
+compile_named a h (inr wrong) = named_as h _ wrong.halt_is (of_compile a wrong.fault wrong.shows)
+
+of_pack : (fault : PackFault) → IsNamed (halt_of_pack fault)
+of_pack (PackFault.BadPack n) = tt
+of_pack PackFault.OutOfMemory = tt
+
+naming_named : (t : Tables) (name : Text) (h : Halt) → StopsNaming t name h → IsNamed h
+naming_named t name h (inl unknown) = named_as h _ unknown.0 tt
+naming_named t name h (inr memory) = named_as h Memory memory tt
+
+node_named : (seen : Seen) (told : Option Text) (name : Text) (h : Halt) → StopsNode seen told name h → IsNamed h
+node_named seen told name h (inl (inl unread)) = named_as h Read unread.halt_is tt
+node_named seen told name h (inl (inr (inl long))) = named_as h _ long.halt_is tt
+node_named seen told name h (inl (inr (inr none))) = named_as h _ none.halt_is (of_pack none.fault)
+node_named seen told name h (inr naming) = naming_named naming.0 name h naming.2
 
 command_named : (seen : Seen) (c : Command) (h : Halt) → StopsCommand seen c h → IsNamed h
-command_named seen (Show graph) h so = graph_named seen (seen.stands graph) StopsShow show_named h so
-command_named seen (Compile graph) h so = graph_named seen (seen.stands graph) (λ _ k. k ≡ Refused NotBuilt) (λ a. unbuilt_named) h so
+command_named seen (Show graph) h so = graph_named seen (seen.stands graph) StopsCompile compile_named h so
+command_named seen (Compile graph) h so = graph_named seen (seen.stands graph) StopsCompile compile_named h so
 command_named seen (Check graph pack) h so = unbuilt_command_named h so
 command_named seen (Play graph pack scenario turns) h so = unbuilt_command_named h so
-command_named seen (Node pack name) h so = unbuilt_command_named h so
+command_named seen (Node pack name) h so = node_named seen (seen.stands pack) name h so
 command_named seen (Trial number) h so = unbuilt_command_named h so
 command_named seen (Live pack name stream) h so = unbuilt_command_named h so
 command_named seen (Hyper parts) h so = unbuilt_command_named h so

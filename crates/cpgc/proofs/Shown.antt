@@ -6,7 +6,9 @@ use Rattle.cpg_io.specs.Causes.{Rose}
 use Rattle.cpg_words.specs.Parts.{Text}
 use Rattle.cpg_words.specs.Forms.{command_of}
 use Rattle.cpg_words.specs.declared.command.Command.{Command}
-use Rattle.cpg_words.specs.declared.command.Command.TheVariants.{Show}
+use Rattle.cpg_words.specs.declared.command.Command.TheVariants.{Show, Compile}
+use Rattle.cpg_base.specs.Graph.{Graph}
+use Rattle.cpg_core.specs.declared.compiling.Compiled.{Compiled}
 use Rattle.cpg_order.specs.Scenario.{Scenario}
 use Rattle.cpg_rules.specs.Admission.{Admission}
 use Rattle.cpg_core.specs.Compiled.{IsInTimeUnder, IsLateUnder, IsShownLate}
@@ -14,18 +16,28 @@ use Rattle.cpgc.specs.declared.halt.Refusal.{Refusal}
 use Rattle.cpgc.specs.declared.halt.Halt.{Halt}
 use Rattle.cpgc.specs.declared.halt.Halt.TheVariants.{Refused}
 use Rattle.cpgc.specs.Lines.{status_of}
-use Rattle.cpgc.specs.Causes.{Seen, Stops, StopsAsked, StopsGraph, StopsShow}
-use Rattle.cpgc.specs.Outputs.{Prints, PrintsAsked, IsShown}
+use Rattle.cpgc.specs.Causes.{Seen, Stops, StopsAsked, StopsGraph, StopsCompile}
+use Rattle.cpgc.specs.Outputs.{Prints, PrintsAsked, IsMade, shown, packed}
 use Rattle.cpgc.specs.Told.{Untouched, Part}
 use Rattle.cpgc.specs.Endings.{Ran, IsPrinted, IsCut, IsTold, IsMuted, EndsWith, EndsBy, Ends}
-use Rattle.cpgc.specs.Lawful.{IsFaultless, AreListable, Shows, IsLawful}
+use Rattle.cpgc.specs.Lawful.{IsFaultless, AreListable, AsksFor, Asks, IsLawful}
 use Rattle.cpgc.proofs.Statuses.{of_words, of_read, of_formless, refused_of, not_three, not_zero}
-use Rattle.cpgc.proofs.Excluded.{in_time_not_shown, Left, graph_left, shown_not_late}
+use Rattle.cpgc.proofs.Excluded.{in_time_not_shown, Left, graph_left, made_not_late}
 
 -- words without a form print nothing
 prints_form : (seen : Seen) (asked : Option Command) (text : Text) → PrintsAsked seen asked text → asked ≡ None → ⊥
 prints_form seen None text so none = so
 prints_form seen (Some c) text so none = none-some c (sym none)
+
+-- what is put out for a graph file is made of it
+made_of : (seen : Seen) (graph : Text) (asked : Option Command) (bytes : Text) → AsksFor graph asked → PrintsAsked seen asked bytes → (spell : Graph → Compiled → Text) × IsMade (seen.stands graph) spell bytes
+made_of seen graph asked bytes (inl show) prints = (shown, subst (λ c. PrintsAsked seen c bytes) show prints)
+made_of seen graph asked bytes (inr compile) prints = (packed, subst (λ c. PrintsAsked seen c bytes) compile prints)
+
+-- and a run stops for it as its compile does
+stopped_of : (seen : Seen) (graph : Text) (asked : Option Command) (halt : Halt) → AsksFor graph asked → StopsAsked seen asked halt → StopsGraph seen (seen.stands graph) StopsCompile halt
+stopped_of seen graph asked halt (inl show) stops = subst (λ c. StopsAsked seen c halt) show stops
+stopped_of seen graph asked halt (inr compile) stops = subst (λ c. StopsAsked seen c halt) compile stops
 
 module _ (r : Ran) where
   -- ---- with an output
@@ -46,14 +58,11 @@ module _ (r : Ran) where
     with_no_form : command_of r.words ≡ None → ⊥
     with_no_form none = prints_form r.shelf (command_of r.words) text with.prints none
 
-    shown_of : (graph : Text) → command_of r.words ≡ Some (Show graph) → IsShown (r.shelf.stands graph) text
-    shown_of graph asks = subst (λ c. PrintsAsked r.shelf c text) asks with.prints
+    with_made : (a : Admission) → Asks r a → (r.status ≡ 0) ⊎ (r.status ≡ 8)
+    with_made a asks = elim with.ending [ inl p ↦ inl p.status | inr c ↦ absurd (asks.faultless.out c.out.rose) ]
 
-    with_shown : (a : Admission) → Shows r a → (r.status ≡ 0) ⊎ (r.status ≡ 8)
-    with_shown a shows = elim with.ending [ inl p ↦ inl p.status | inr c ↦ absurd (shows.faultless.out c.out.rose) ]
-
-    with_late : (a : Admission) → Shows r a → IsLateUnder a.graph a.order a.order → (r.status ≡ 5) ⊎ (r.status ≡ 8)
-    with_late a shows late = absurd (shown_not_late r.shelf (r.shelf.stands shows.graph) shows.bytes a shows.told shows.listable shows.faultless.shelf text (shown_of shows.graph shows.words) late)
+    with_late : (a : Admission) → Asks r a → IsLateUnder a.graph a.order a.order → (r.status ≡ 5) ⊎ (r.status ≡ 8)
+    with_late a asks late = absurd (made_not_late r.shelf (r.shelf.stands asks.graph) asks.bytes a asks.told asks.listable asks.faultless.shelf (made_of r.shelf asks.graph (command_of r.words) text asks.words with.prints).0 text (made_of r.shelf asks.graph (command_of r.words) text asks.words with.prints).1 late)
 
     pub lawful_with : IsLawful r
     lawful_with = record {
@@ -66,7 +75,7 @@ module _ (r : Ran) where
       refused = λ four. absurd (other_status 4 four (λ e. omega arith) (λ e. omega arith));
       compiled = λ either. absurd (elim either [ inl five ↦ other_status 5 five (λ e. omega arith) (λ e. omega arith) | inr six ↦ other_status 6 six (λ e. omega arith) (λ e. omega arith) ]);
       silent = λ zero three. absurd (elim with_status [ inl z ↦ zero z | inr t ↦ three t ]);
-      shown = λ a shows in_time. with_shown a shows;
+      made = λ a asks in_time. with_made a asks;
       late = with_late;
     }
 
@@ -97,20 +106,20 @@ module _ (r : Ran) where
     by_silent : Untouched r.out
     by_silent = elim by.ending [ inl t ↦ t.out | inr m ↦ m.out ]
 
-    module _ (a : Admission) (shows : Shows r a) where
-      stops_of : StopsGraph r.shelf (r.shelf.stands shows.graph) StopsShow halt
-      stops_of = subst (λ c. StopsAsked r.shelf c halt) shows.words by.stops
+    module _ (a : Admission) (asks : Asks r a) where
+      stops_of : StopsGraph r.shelf (r.shelf.stands asks.graph) StopsCompile halt
+      stops_of = stopped_of r.shelf asks.graph (command_of r.words) halt asks.words by.stops
 
       told_here : r.status ≡ status_of halt
-      told_here = elim by.ending [ inl t ↦ t.status | inr m ↦ absurd (shows.faultless.err m.err.rose) ]
+      told_here = elim by.ending [ inl t ↦ t.status | inr m ↦ absurd (asks.faultless.err m.err.rose) ]
 
       left : (status_of halt ≡ 8) ⊎ ((status_of halt ≡ 5) × ((s : Scenario) × (p time : ℕ) × IsShownLate a.graph a.order s p time))
-      left = graph_left r.shelf (r.shelf.stands shows.graph) shows.bytes a shows.told shows.listable shows.faultless.shelf halt stops_of
+      left = graph_left r.shelf (r.shelf.stands asks.graph) asks.bytes a asks.told asks.listable asks.faultless.shelf halt stops_of
 
-      by_shown : IsInTimeUnder a.graph a.order a.order → (r.status ≡ 0) ⊎ (r.status ≡ 8)
-      by_shown in_time = elim left [
+      by_made : IsInTimeUnder a.graph a.order a.order → (r.status ≡ 0) ⊎ (r.status ≡ 8)
+      by_made in_time = elim left [
         | inl e ↦ inr (told_here ∙ e)
-        | inr late ↦ absurd (in_time_not_shown a.graph a.order shows.listable.admitted.topological late.1.0 late.1.1 late.1.2 in_time late.1.3)
+        | inr late ↦ absurd (in_time_not_shown a.graph a.order asks.listable.admitted.topological late.1.0 late.1.1 late.1.2 in_time late.1.3)
       ]
 
       by_late : (r.status ≡ 5) ⊎ (r.status ≡ 8)
@@ -127,6 +136,6 @@ module _ (r : Ran) where
       refused = by_refused;
       compiled = λ either. (halt, by.stops, elim either [ inl five ↦ told_at 5 five (λ e. omega arith) | inr six ↦ told_at 6 six (λ e. omega arith) ]);
       silent = λ zero three. by_silent;
-      shown = λ a shows in_time. by_shown a shows in_time;
-      late = λ a shows late. by_late a shows;
+      made = λ a asks in_time. by_made a asks in_time;
+      late = λ a asks late. by_late a asks;
     }

@@ -9,6 +9,8 @@ use Rattle.cpg_words.specs.Forms.{command_of}
 use Rattle.cpg_words.specs.declared.command.Command.{Command}
 use Rattle.cpg_words.specs.declared.command.Command.TheVariants.{Show, Compile, Check, Play, Node, Trial, Live, Hyper, Tune, Audit}
 use Rattle.cpg_reader.specs.declared.place.ReadFault.{ReadFault}
+use Rattle.cpg_table.specs.Lawful.{Tables}
+use Rattle.cpg_codec.specs.declared.fault.PackFault.{PackFault}
 use Rattle.cpg_rules.specs.Admission.{Admission}
 use Rattle.cpg_rules.specs.declared.admission.RuleFault.{RuleFault}
 use Rattle.cpg_core.specs.declared.fault.CompileFault.{CompileFault}
@@ -16,9 +18,9 @@ use Rattle.cpgc.specs.declared.halt.Refusal.{Refusal}
 use Rattle.cpgc.specs.declared.halt.Refusal.TheVariants.{NotBuilt}
 use Rattle.cpgc.specs.declared.halt.Halt.{Halt}
 use Rattle.cpgc.specs.declared.halt.Halt.TheVariants.{Words, Read, Refused, Late, TooWide, Memory}
-use Rattle.cpgc.specs.Halts.{halt_of_reading, halt_of_rules, halt_of_compile}
+use Rattle.cpgc.specs.Halts.{halt_of_reading, halt_of_pack, halt_of_rules, halt_of_compile}
 use Rattle.cpgc.specs.Lines.{status_of}
-use Rattle.cpgc.specs.Causes.{Seen, StopsReading, BreaksRule, IsUnbuiltCommand, StopsGraph, StopsShow, StopsCommand, StopsAsked, Stops}
+use Rattle.cpgc.specs.Causes.{Seen, StopsReading, BreaksRule, IsUnbuiltCommand, StopsGraph, StopsCompile, StopsNaming, StopsNode, StopsCommand, StopsAsked, Stops}
 
 -- a halt of a command isn't one of its words, and is one of the shelf where its faults rose
 record IsOfCommand (seen : Seen) (h : Halt) : Type 0 where
@@ -66,16 +68,30 @@ unbuilt_command : (seen : Seen) (h : Halt) → IsUnbuiltCommand h → IsOfComman
 unbuilt_command seen h (inl e) = unbuilt seen h e
 unbuilt_command seen h (inr e) = later seen h _ e (omega arith)
 
-of_show : (seen : Seen) (a : Admission) (h : Halt) → StopsShow a h → IsOfCommand seen h
-of_show seen a h (inl off) = unbuilt seen h off.0
-of_show seen a h (inr wrong) = later seen h _ wrong.halt_is (of_compile a wrong.fault)
+of_made : (seen : Seen) (a : Admission) (h : Halt) → StopsCompile a h → IsOfCommand seen h
+of_made seen a h (inl off) = unbuilt seen h off.0
+of_made seen a h (inr wrong) = later seen h _ wrong.halt_is (of_compile a wrong.fault)
+
+of_pack : (fault : PackFault) → 4 ≤ status_of (halt_of_pack fault)
+of_pack (PackFault.BadPack n) = omega arith
+of_pack PackFault.OutOfMemory = omega arith
+
+of_naming : (seen : Seen) (t : Tables) (name : Text) (h : Halt) → StopsNaming t name h → IsOfCommand seen h
+of_naming seen t name h (inl unknown) = later seen h _ unknown.0 (omega arith)
+of_naming seen t name h (inr memory) = later seen h _ memory (omega arith)
+
+of_node : (seen : Seen) (told : Option Text) (name : Text) (h : Halt) → StopsNode seen told name h → IsOfCommand seen h
+of_node seen told name h (inl (inl unread)) = let same = ap status_of unread.halt_is in record { not_words = λ one. omega arith; read = λ two. unread.rose }
+of_node seen told name h (inl (inr (inl long))) = later seen h _ long.halt_is (omega arith)
+of_node seen told name h (inl (inr (inr none))) = later seen h _ none.halt_is (of_pack none.fault)
+of_node seen told name h (inr naming) = of_naming seen naming.0 name h naming.2
 
 of_command : (seen : Seen) (c : Command) (h : Halt) → StopsCommand seen c h → IsOfCommand seen h
-of_command seen (Show graph) h so = of_graph seen (seen.stands graph) StopsShow (of_show seen) h so
-of_command seen (Compile graph) h so = of_graph seen (seen.stands graph) (λ _ k. k ≡ Refused NotBuilt) (λ a. unbuilt seen) h so
+of_command seen (Show graph) h so = of_graph seen (seen.stands graph) StopsCompile (of_made seen) h so
+of_command seen (Compile graph) h so = of_graph seen (seen.stands graph) StopsCompile (of_made seen) h so
 of_command seen (Check graph pack) h so = unbuilt_command seen h so
 of_command seen (Play graph pack scenario turns) h so = unbuilt_command seen h so
-of_command seen (Node pack name) h so = unbuilt_command seen h so
+of_command seen (Node pack name) h so = of_node seen (seen.stands pack) name h so
 of_command seen (Trial number) h so = unbuilt_command seen h so
 of_command seen (Live pack name stream) h so = unbuilt_command seen h so
 of_command seen (Hyper parts) h so = unbuilt_command seen h so

@@ -1,5 +1,6 @@
 -- When a run stops for a reason: what is then true of the words and of the shelf.
-use Rattle.std.specs.Prelude.{ℕ, ◌≡◌, ◌≢◌, ◌<◌, ◌⊎◌, List, Option, Some, None, IfSome, Ok, Err, length}
+use Rattle.std.specs.Prelude.{ℕ, ◌≡◌, ◌≢◌, ◌<◌, ◌⊎◌, List, Option, Some, None, IfSome, Ok, Err, length, position, ⊤}
+use Rattle.std.specs.Str.{bytes_eq}
 use Rattle.cpg_base.specs.Graph.{Graph}
 use Rattle.cpg_io.specs.Causes.{Rose}
 use Rattle.cpg_words.specs.Parts.{Text}
@@ -11,14 +12,19 @@ use Rattle.cpg_reader.specs.Document.{problem_of}
 use Rattle.cpg_rules.specs.Admission.{Admission, IsAdmitted}
 use Rattle.cpg_rules.specs.declared.admission.RuleFault.{RuleFault}
 use Rattle.cpg_rules.specs.Faults.{ShowsFault}
+use Rattle.cpg_table.specs.Head.{Head}
+use Rattle.cpg_table.specs.Lawful.{Tables}
+use Rattle.cpg_codec.specs.declared.fault.PackFault.{PackFault}
+use Rattle.cpg_codec.specs.Packs.{AreLawful, IsBadPack}
+use Rattle.cpg_codec.specs.Spelling.{spelling}
 use Rattle.cpg_run.specs.Plain.{IsPlain}
 use Rattle.cpg_core.specs.declared.fault.CompileFault.{CompileFault}
 use Rattle.cpg_core.specs.Compilation.{ShowsCompileFault}
 use Rattle.cpgc.specs.declared.halt.Refusal.{Refusal}
-use Rattle.cpgc.specs.declared.halt.Refusal.TheVariants.{LongGraph, NotBuilt}
+use Rattle.cpgc.specs.declared.halt.Refusal.TheVariants.{LongGraph, LongPack, UnknownNode, NotBuilt}
 use Rattle.cpgc.specs.declared.halt.Halt.{Halt}
 use Rattle.cpgc.specs.declared.halt.Halt.TheVariants.{Words, Read, Refused, Memory}
-use Rattle.cpgc.specs.Halts.{halt_of_reading, halt_of_rules, halt_of_compile}
+use Rattle.cpgc.specs.Halts.{halt_of_reading, halt_of_pack, halt_of_rules, halt_of_compile}
 
 -- what a run sees of its shelf: what stands under each name, how many bytes the last fetched name gave, and the count
 -- of faults before and after
@@ -28,9 +34,12 @@ pub record Seen : Type 0 where
   pub before : ℕ
   pub now : ℕ
 
--- the most bytes of a graph file
+-- the most bytes of a graph file, and of a pack
 abbrev pub graph_limit : ℕ
 graph_limit = 16777216
+
+abbrev pub pack_limit : ℕ
+pack_limit = 268435456
 
 -- the bytes of a graph file, where the shelf tells them, are those of a graph
 abbrev pub Says : Option Text → Graph → Type 0
@@ -46,11 +55,11 @@ pub record IsUnread (seen : Seen) (halt : Halt) : Type 0 where
   pub halt_is : halt ≡ Read
   pub rose : Rose seen.before seen.now
 
--- a graph file gave more bytes than the limit
-pub record IsLong (seen : Seen) (told : Option Text) (halt : Halt) : Type 0 where
-  pub halt_is : halt ≡ Refused LongGraph
-  pub given : graph_limit < seen.given
-  pub long : IfSome told (λ bytes. graph_limit < length bytes)
+-- a file gave more bytes than the limit
+pub record IsLong (limit : ℕ) (refusal : Refusal) (seen : Seen) (told : Option Text) (halt : Halt) : Type 0 where
+  pub halt_is : halt ≡ Refused refusal
+  pub given : limit < seen.given
+  pub long : IfSome told (λ bytes. limit < length bytes)
 
 -- its bytes are those of no graph, and this is the first refusal of them
 pub record IsFaulty (told : Option Text) (halt : Halt) : Type 0 where
@@ -75,26 +84,56 @@ abbrev pub IsUnbuilt : Halt → Type 0
 IsUnbuilt halt = halt ≡ Refused NotBuilt
 
 abbrev pub StopsReading : Seen → Option Text → Halt → Type 0
-StopsReading seen told halt = IsUnread seen halt ⊎ (IsLong seen told halt ⊎ IsFaulty told halt)
+StopsReading seen told halt = IsUnread seen halt ⊎ (IsLong graph_limit LongGraph seen told halt ⊎ IsFaulty told halt)
 
 -- a graph file stops a run: as it is read, by a rule, or by what the command does with the admitted graph
 abbrev pub StopsGraph : Seen → Option Text → (Admission → Halt → Type 0) → Halt → Type 0
 StopsGraph seen told work halt = StopsReading seen told halt ⊎ (((g : Graph) × Says told g × BreaksRule g halt) ⊎ ((a : Admission) × Admits told a × work a halt))
 
--- to show a graph
-abbrev pub StopsShow : Admission → Halt → Type 0
-StopsShow a halt = (IsUnbuilt halt × (IsPlain a.graph → ⊥)) ⊎ IsUncompiled a halt
+-- to make the tables of a graph
+abbrev pub StopsCompile : Admission → Halt → Type 0
+StopsCompile a halt = (IsUnbuilt halt × (IsPlain a.graph → ⊥)) ⊎ IsUncompiled a halt
+
+-- the bytes of a pack, where the shelf tells them, spell tables
+pub record Spells (told : Option Text) (t : Tables) : Type 0 where
+  pub lawful : AreLawful t
+  pub spelled : IfSome told (λ bytes. bytes ≡ spelling t)
+
+-- they spell none
+abbrev pub ShowsPackFault : Option Text → PackFault → Type 0
+ShowsPackFault told (PackFault.BadPack n) = IfSome told (λ bytes. IsBadPack bytes n)
+ShowsPackFault told PackFault.OutOfMemory = ⊤
+
+pub record IsNoPack (told : Option Text) (halt : Halt) : Type 0 where
+  pub fault : PackFault
+  pub halt_is : halt ≡ halt_of_pack fault
+  pub shows : ShowsPackFault told fault
+
+abbrev pub StopsPack : Seen → Option Text → Halt → Type 0
+StopsPack seen told halt = IsUnread seen halt ⊎ (IsLong pack_limit LongPack seen told halt ⊎ IsNoPack told halt)
+
+-- the number of the first node of a name
+abbrev pub first_named : Head → Text → Option ℕ
+first_named h name = position (λ node. bytes_eq node name) h.nodes
+
+-- no node has the name
+abbrev pub StopsNaming : Tables → Text → Halt → Type 0
+StopsNaming t name halt = ((halt ≡ Refused UnknownNode) × (first_named t.head name ≡ None)) ⊎ (halt ≡ Memory)
+
+-- to print a node's table from a pack
+abbrev pub StopsNode : Seen → Option Text → Text → Halt → Type 0
+StopsNode seen told name halt = StopsPack seen told halt ⊎ ((t : Tables) × Spells told t × StopsNaming t name halt)
 
 -- a command stops as one that isn't built, or for want of memory
 abbrev pub IsUnbuiltCommand : Halt → Type 0
 IsUnbuiltCommand halt = IsUnbuilt halt ⊎ (halt ≡ Memory)
 
 abbrev pub StopsCommand : Seen → Command → Halt → Type 0
-StopsCommand seen (Show graph) halt = StopsGraph seen (seen.stands graph) StopsShow halt
-StopsCommand seen (Compile graph) halt = StopsGraph seen (seen.stands graph) (λ _. IsUnbuilt) halt
+StopsCommand seen (Show graph) halt = StopsGraph seen (seen.stands graph) StopsCompile halt
+StopsCommand seen (Compile graph) halt = StopsGraph seen (seen.stands graph) StopsCompile halt
 StopsCommand seen (Check graph pack) halt = IsUnbuiltCommand halt
 StopsCommand seen (Play graph pack scenario turns) halt = IsUnbuiltCommand halt
-StopsCommand seen (Node pack name) halt = IsUnbuiltCommand halt
+StopsCommand seen (Node pack name) halt = StopsNode seen (seen.stands pack) name halt
 StopsCommand seen (Trial number) halt = IsUnbuiltCommand halt
 StopsCommand seen (Live pack name stream) halt = IsUnbuiltCommand halt
 StopsCommand seen (Hyper parts) halt = IsUnbuiltCommand halt

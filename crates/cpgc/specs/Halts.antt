@@ -2,11 +2,12 @@
 use Rattle.std.specs.Prelude.{ℕ}
 use Rattle.cpg_base.specs.Graph.{Graph}
 use Rattle.cpg_reader.specs.declared.place.ReadFault.{ReadFault}
+use Rattle.cpg_codec.specs.declared.fault.PackFault.{PackFault}
 use Rattle.cpg_rules.specs.Admission.{Admission}
 use Rattle.cpg_rules.specs.declared.admission.RuleFault.{RuleFault}
 use Rattle.cpg_core.specs.declared.fault.CompileFault.{CompileFault}
 use Rattle.cpgc.specs.declared.halt.Refusal.{Refusal}
-use Rattle.cpgc.specs.declared.halt.Refusal.TheVariants.{NotToml, BadField, DoubleName, UnknownName, OverLimit, Cycle, TwoAlternatives, NoSlot, TooBig, TooManyTracks}
+use Rattle.cpgc.specs.declared.halt.Refusal.TheVariants.{NotToml, BadField, DoubleName, UnknownName, OverLimit, Cycle, TwoAlternatives, NoSlot, TooBig, BadPack, TooManyTracks}
 use Rattle.cpgc.specs.declared.halt.Halt.{Halt}
 use Rattle.cpgc.specs.declared.halt.Halt.TheVariants.{Refused, Late, TooWide, Memory}
 
@@ -18,6 +19,11 @@ halt_of_reading (ReadFault.DoubleName place) = Refused (DoubleName place)
 halt_of_reading (ReadFault.UnknownName place) = Refused (UnknownName place)
 halt_of_reading (ReadFault.OverLimit what) = Refused (OverLimit what)
 halt_of_reading ReadFault.OutOfMemory = Memory
+
+-- of the reading of a pack
+abbrev pub halt_of_pack : PackFault → Halt
+halt_of_pack (PackFault.BadPack length) = Refused (BadPack length)
+halt_of_pack PackFault.OutOfMemory = Memory
 
 -- of the admission of a graph
 abbrev pub halt_of_rules : Graph → RuleFault → Halt

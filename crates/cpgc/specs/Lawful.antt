@@ -1,10 +1,11 @@
 -- What each exit status of a run says.
-use Rattle.std.specs.Prelude.{ℕ, ◌≡◌, ◌≢◌, ◌≤◌, ◌⊎◌, List, Some, None, Ok, length}
+use Rattle.std.specs.Prelude.{ℕ, ◌≡◌, ◌≢◌, ◌≤◌, ◌⊎◌, List, Option, Some, None, Ok, length}
 use Rattle.cpg_base.specs.Graph.{Graph}
 use Rattle.cpg_io.specs.Causes.{Rose}
 use Rattle.cpg_words.specs.Parts.{Text}
 use Rattle.cpg_words.specs.Forms.{command_of}
-use Rattle.cpg_words.specs.declared.command.Command.TheVariants.{Show}
+use Rattle.cpg_words.specs.declared.command.Command.{Command}
+use Rattle.cpg_words.specs.declared.command.Command.TheVariants.{Show, Compile}
 use Rattle.cpg_reader.specs.Document.{problem_of}
 use Rattle.cpg_rules.specs.Admission.{Admission, IsAdmitted}
 use Rattle.cpg_run.specs.Plain.{IsPlain}
@@ -30,11 +31,15 @@ pub record AreListable (bytes : Text) (a : Admission) : Type 0 where
   pub admitted : IsAdmitted a.graph a.order a.guards
   pub plain : IsPlain a.graph
 
--- the words ask to show a graph file, the shelf tells its bytes, tables are made of them, and nothing failed
-pub record Shows (r : Ran) (a : Admission) : Type 0 where
+-- the words ask to show or to pack the tables of a graph file
+abbrev pub AsksFor : Text → Option Command → Type 0
+AsksFor graph asked = (asked ≡ Some (Show graph)) ⊎ (asked ≡ Some (Compile graph))
+
+-- they do, the shelf tells its bytes, tables are made of them, and nothing failed
+pub record Asks (r : Ran) (a : Admission) : Type 0 where
   pub graph : Text
   pub bytes : Text
-  pub words : command_of r.words ≡ Some (Show graph)
+  pub words : AsksFor graph (command_of r.words)
   pub told : r.shelf.stands graph ≡ Some bytes
   pub listable : AreListable bytes a
   pub faultless : IsFaultless r
@@ -58,7 +63,7 @@ pub record IsLawful (r : Ran) : Type 0 where
   pub compiled : (r.status ≡ 5) ⊎ (r.status ≡ 6) → (halt : Halt) × Stops r.shelf r.words halt × IsTold r halt
   -- but under 0 and 3, nothing was written to `out`
   pub silent : r.status ≢ 0 → r.status ≢ 3 → Untouched r.out
-  -- a graph of a form that is built is shown where every process ends by its due in every scenario, and refused as late
-  -- where some process doesn't, but for want of memory
-  pub shown : (a : Admission) → Shows r a → IsInTimeUnder a.graph a.order a.order → (r.status ≡ 0) ⊎ (r.status ≡ 8)
-  pub late : (a : Admission) → Shows r a → IsLateUnder a.graph a.order a.order → (r.status ≡ 5) ⊎ (r.status ≡ 8)
+  -- a graph of a form that is built is shown or packed where every process ends by its due in every scenario, and
+  -- refused as late where some process doesn't, but for want of memory
+  pub made : (a : Admission) → Asks r a → IsInTimeUnder a.graph a.order a.order → (r.status ≡ 0) ⊎ (r.status ≡ 8)
+  pub late : (a : Admission) → Asks r a → IsLateUnder a.graph a.order a.order → (r.status ≡ 5) ⊎ (r.status ≡ 8)

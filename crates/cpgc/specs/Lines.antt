@@ -14,7 +14,7 @@ use Rattle.cpg_reader.specs.declared.place.What.{What}
 use Rattle.cpg_reader.specs.declared.place.What.TheVariants.{Nodes, Slots, Processes, Edges, Number, Conditions}
 use Rattle.cpg_reader.specs.Rows.{text_of}
 use Rattle.cpgc.specs.declared.halt.Refusal.{Refusal}
-use Rattle.cpgc.specs.declared.halt.Refusal.TheVariants.{NotToml, BadField, DoubleName, UnknownName, OverLimit, Cycle, TwoAlternatives, NoSlot, TooBig, LongGraph, TooManyTracks, NotBuilt}
+use Rattle.cpgc.specs.declared.halt.Refusal.TheVariants.{NotToml, BadField, DoubleName, UnknownName, OverLimit, Cycle, TwoAlternatives, NoSlot, TooBig, BadPack, LongGraph, LongPack, TooManyTracks, UnknownNode, NotBuilt}
 use Rattle.cpgc.specs.declared.halt.Halt.{Halt}
 use Rattle.cpgc.specs.declared.halt.Halt.TheVariants.{Words, Read, Refused, Late, TooWide, Memory}
 
@@ -81,8 +81,11 @@ refusal_text (Cycle g walk) = cycle_text g walk
 refusal_text (TwoAlternatives g p s) = alternatives_text g p s
 refusal_text (NoSlot g node) = codes "8 slot " ++ node_name g node
 refusal_text (TooBig e) = codes "9 big e" ++ decimal e
+refusal_text (BadPack length) = codes "10 pack " ++ decimal length
 refusal_text LongGraph = codes "16 long graph"
+refusal_text LongPack = codes "16 long pack"
 refusal_text TooManyTracks = codes "18 tracks"
+refusal_text UnknownNode = codes "19 node"
 refusal_text NotBuilt = codes "20 not built"
 
 abbrev pub refused_text : Refusal → List ℕ

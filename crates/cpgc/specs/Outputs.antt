@@ -1,5 +1,5 @@
 -- What a command puts out.
-use Rattle.std.specs.Prelude.{ℕ, ◌≡◌, List, Option, Some, None}
+use Rattle.std.specs.Prelude.{ℕ, ◌≡◌, List, Option, Some, None, string_bytes}
 use Rattle.cpg_base.specs.Graph.{Graph}
 use Rattle.cpg_words.specs.Parts.{Text}
 use Rattle.cpg_words.specs.Forms.{command_of}
@@ -12,7 +12,12 @@ use Rattle.cpg_core.specs.declared.compiling.Compiled.{Compiled}
 use Rattle.cpg_core.specs.Compilation.{IsCompilation}
 use Rattle.cpg_cluster.specs.Correct.{IsCorrect, IsLively, IsSteady, EndsAsPlanned}
 use Rattle.cpg_show.specs.TableText.{table_text}
-use Rattle.cpgc.specs.Causes.{Seen, Admits}
+use Rattle.cpg_show.specs.NodeText.{node_text}
+use Rattle.cpg_table.specs.Lawful.{Tables}
+use Rattle.cpg_codec.specs.Spelling.{spelling}
+use Rattle.cpgc.specs.declared.output.Output.{Output}
+use Rattle.cpgc.specs.declared.output.Output.TheVariants.{Lines, Pack}
+use Rattle.cpgc.specs.Causes.{Seen, Admits, Spells, first_named}
 
 -- Tables that keep the ten rules, and what follows for the nodes that have them: in every scenario, with all lengths of
 -- executions and in every order of turns, each node starts and sends just what is due, in order and in time, can always go
@@ -24,24 +29,47 @@ pub record AreSafe (g : Graph) (tables : List NodeTable) : Type 0 where
   pub steady : IsSteady g tables
   pub planned : EndsAsPlanned g tables
 
--- the text is that of the safe tables that a compile makes of an admitted graph
-pub record IsTableText (a : Admission) (text : Text) : Type 0 where
+-- the bytes are spelled from the safe tables that a compile makes of an admitted graph
+pub record IsMadeOf (a : Admission) (spell : Graph → Compiled → Text) (bytes : Text) : Type 0 where
   pub compiled : Compiled
   pub compilation : IsCompilation a.graph a.order compiled
   pub safe : AreSafe a.graph compiled.built.tables.nodes
-  pub spelled : text ≡ table_text a.graph compiled.order compiled.built.tables.nodes compiled.built.worst
+  pub spelled : bytes ≡ spell a.graph compiled
 
 -- the graph is that of the file
-abbrev pub IsShown : Option Text → Text → Type 0
-IsShown told text = (a : Admission) × Admits told a × IsTableText a text
+abbrev pub IsMade : Option Text → (Graph → Compiled → Text) → Text → Type 0
+IsMade told spell bytes = (a : Admission) × Admits told a × IsMadeOf a spell bytes
+
+-- the text of tables
+abbrev pub shown : Graph → Compiled → Text
+shown g c = table_text g c.order c.built.tables.nodes c.built.worst
+
+-- their pack
+abbrev pub packed : Graph → Compiled → Text
+packed g c = spelling c.built.tables
+
+-- the bytes of an output
+abbrev pub bytes_of : Output → Text
+bytes_of (Lines text) = string_bytes text
+bytes_of (Pack tables) = spelling tables
+
+-- the text is that of the table of the first node of a name
+pub record IsNodeText (t : Tables) (name text : Text) : Type 0 where
+  pub node : ℕ
+  pub named : first_named t.head name ≡ Some node
+  pub spelled : text ≡ node_text t node
+
+-- in the tables that the bytes of a pack spell
+abbrev pub IsNodeOf : Option Text → Text → Text → Type 0
+IsNodeOf told name text = (t : Tables) × Spells told t × IsNodeText t name text
 
 -- a command's output
 abbrev pub PrintsCommand : Seen → Command → Text → Type 0
-PrintsCommand seen (Show graph) text = IsShown (seen.stands graph) text
-PrintsCommand seen (Compile graph) text = ⊥
+PrintsCommand seen (Show graph) text = IsMade (seen.stands graph) shown text
+PrintsCommand seen (Compile graph) text = IsMade (seen.stands graph) packed text
 PrintsCommand seen (Check graph pack) text = ⊥
 PrintsCommand seen (Play graph pack scenario turns) text = ⊥
-PrintsCommand seen (Node pack name) text = ⊥
+PrintsCommand seen (Node pack name) text = IsNodeOf (seen.stands pack) name text
 PrintsCommand seen (Trial number) text = ⊥
 PrintsCommand seen (Live pack name stream) text = ⊥
 PrintsCommand seen (Hyper parts) text = ⊥

@@ -1,8 +1,9 @@
 -- What was written to a sink.
-use Rattle.std.specs.Prelude.{ℕ, ◌≡◌, ◌≢◌, List, Option}
+use Rattle.std.specs.Prelude.{ℕ, ◌≡◌, ◌≢◌, List, Option, Result, Ok, Err}
 use Rattle.std.specs.Io.KnownBytes.{Appends, Keeps}
 use Rattle.cpg_io.specs.Causes.{Rose}
 use Rattle.cpg_io.specs.Sink.{TookPrefix}
+use Rattle.cpg_codec.specs.declared.fault.WriteFault.{WriteFault}
 
 -- what a run sees of a sink: its count of faults and its bytes, before and after
 pub record SinkSeen : Type 0 where
@@ -28,3 +29,9 @@ pub record Part (sink : SinkSeen) (bytes : List ℕ) : Type 0 where
 pub record Sent (sink : SinkSeen) (status wanted : ℕ) (bytes : List ℕ) : Type 0 where
   pub whole : status ≢ 3 → (status ≡ wanted) × Whole sink bytes
   pub part : status ≡ 3 → Part sink bytes
+
+-- An output was written: whole at Ok, and nothing of it for want of memory.
+abbrev pub IsWritten : SinkSeen → Result Unit WriteFault → List ℕ → Type 0
+IsWritten sink (Ok done) bytes = Whole sink bytes
+IsWritten sink (Err WriteFault.Failed) bytes = Part sink bytes
+IsWritten sink (Err WriteFault.OutOfMemory) bytes = Untouched sink

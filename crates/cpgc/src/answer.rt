@@ -1,10 +1,13 @@
 //! The writing at the end of a run.
-ghost use Rattle.std.specs.Prelude.{◌≡◌, ◌≢◌, ◌⊎◌};
+ghost use Rattle.std.specs.Prelude.{◌≡◌, ◌≢◌, ◌⊎◌, Err, OnOk};
 ghost use Rattle.cpgc.specs.Lines.{line_of, status_of, write_fault_line, IsNamed};
-ghost use Rattle.cpgc.specs.Told.{Sent, Whole, Part, Untouched};
+ghost use Rattle.cpgc.specs.Outputs.{bytes_of};
+ghost use Rattle.cpgc.specs.Told.{IsWritten, Part, Sent, Untouched, Whole};
 
 use crate::halt::Halt;
 use crate::lines::line;
+use crate::output::Output;
+use cpg_codec::{WriteFault, write_pack};
 use cpg_io::{Failed, Sink, write_all};
 use std::alloc::Global;
 
@@ -29,17 +32,26 @@ fn tell_fault<E: Sink>(err: &mut E)
     let _tried = write_all(err, b"cpgc: write fault\n");
 }
 
-/// Writes the output of a run. Where `out` meets a fault, tries once to write the line of that.
-pub fn print<O: Sink, E: Sink>(text: &str, out: &mut O, err: &mut E) -> u8
-    ensures out { Sent (record { before = O.faults out.old; now = O.faults out.new; old = O.taken out.old; new = O.taken out.new }) result 0 text.now }
-    ensures quiet { result ≢ WRITE_FAULT → Untouched (record { before = E.faults err.old; now = E.faults err.new; old = E.taken err.old; new = E.taken err.new }) }
-    ensures told { result ≡ WRITE_FAULT → Whole (record { before = E.faults err.old; now = E.faults err.new; old = E.taken err.old; new = E.taken err.new }) write_fault_line ⊎ Part (record { before = E.faults err.old; now = E.faults err.new; old = E.taken err.old; new = E.taken err.new }) write_fault_line }
+/// Writes an output.
+pub fn put<O: Sink>(alloc: Global, output: &Output, out: &mut O) -> Result<(), WriteFault>
+    ensures { IsWritten (record { before = O.faults out.old; now = O.faults out.new; old = O.taken out.old; new = O.taken out.new }) result (bytes_of output.now) }
 {
-    let status = send(0, text.as_bytes(), out);
-    if status == WRITE_FAULT {
-        tell_fault(err);
+    match output {
+        Output::Lines(text) => match write_all(out, text.as_bytes()) {
+            Ok(()) => Ok(()),
+            Err(Failed) => Err(WriteFault::Failed),
+        },
+        Output::Pack(tables) => write_pack(alloc, tables, out),
     }
-    status
+}
+
+/// Ends a run whose output met a fault: tries once to write the line of that.
+pub fn cut<E: Sink>(err: &mut E) -> u8
+    ensures status { result ≡ WRITE_FAULT }
+    ensures told { Whole (record { before = E.faults err.old; now = E.faults err.new; old = E.taken err.old; new = E.taken err.new }) write_fault_line ⊎ Part (record { before = E.faults err.old; now = E.faults err.new; old = E.taken err.old; new = E.taken err.new }) write_fault_line }
+{
+    tell_fault(err);
+    WRITE_FAULT
 }
 
 /// Writes the line of a run that stops, or that of want of memory where there is none for the line.

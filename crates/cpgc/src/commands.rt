@@ -1,95 +1,121 @@
 //! What each command does before anything is written.
-ghost use Rattle.std.specs.Prelude.{◌≡◌, All, IfOk, IfErr, map, string_bytes};
+ghost use Rattle.std.specs.Prelude.{◌≡◌, ◌<◌, All, IfOk, IfErr, IfSome, length, map, string_bytes};
+ghost use Rattle.std.specs.Str.{bytes_eq};
 ghost use Rattle.cpg_words.specs.FileWords.{file_words, file_words_of};
-ghost use Rattle.cpg_rules.specs.Admission.{IsAdmitted};
-ghost use Rattle.cpgc.specs.Causes.{Admits, BreaksRule, IsUnbuilt, Says, Stops, StopsCommand, StopsGraph, StopsReading, StopsShow};
-ghost use Rattle.cpgc.specs.Outputs.{IsShown, IsTableText, Prints, PrintsCommand};
+ghost use Rattle.cpg_core.specs.Compilation.{IsCompilation};
+ghost use Rattle.cpgc.specs.Causes.{Admits, first_named, IsUnbuilt, Stops, StopsCommand, StopsCompile, StopsGraph, StopsNaming, StopsNode};
+ghost use Rattle.cpgc.specs.Outputs.{bytes_of, packed, shown, AreSafe, IsMade, IsMadeOf, IsNodeOf, IsNodeText, Prints, PrintsCommand};
 
 use crate::halt::{Halt, Refusal};
-use cpg_base::Problem;
-use cpg_core::compile;
-use cpg_io::{ReadAll, Shelf, read_all};
+use crate::output::Output;
+use crate::reading::{admit_graph, read_graph, read_tables};
+use cpg_base::Name;
+use cpg_core::{Compiled, compile};
+use cpg_io::Shelf;
 use cpg_list::is_plain;
-use cpg_reader::read_problem;
-use cpg_rules::{Admitted, admit};
-use cpg_show::table_text;
+use cpg_rules::Admitted;
+use cpg_run::Built;
+use cpg_show::{node_text, table_text};
+use cpg_table::{Head, Tables};
 use cpg_words::{Command, WordsFault, read_words};
 use std::alloc::Global;
 
-/// The most bytes of a graph file.
-const GRAPH_LIMIT: usize = 16_777_216;
-
-/// Reads a graph file whole, and the graph that it says.
-fn read_graph<S: Shelf>(alloc: Global, shelf: &mut S, name: &str) -> Result<Problem, Halt>
-    requires { S.may_fetch shelf.old name.now }
-    ensures graph { IfOk result (Says (S.stands shelf.old name.now)) }
-    ensures halt { IfErr result (StopsReading (record { stands = S.stands shelf.old; given = S.given shelf.new; before = S.faults shelf.old; now = S.faults shelf.new }) (S.stands shelf.old name.now)) }
-{
-    let bytes = match read_all(alloc, shelf, name, GRAPH_LIMIT) {
-        Ok(bytes) => bytes,
-        Err(ReadAll::Failed) => return Err(Halt::Read),
-        Err(ReadAll::TooLong) => return Err(Halt::Refused(Refusal::LongGraph)),
-        Err(ReadAll::OutOfMemory) => return Err(Halt::Memory),
-    };
-    match read_problem(alloc, bytes.as_slice()) {
-        Ok(problem) => Ok(problem),
-        Err(fault) => Err(Halt::of_reading(fault)),
-    }
+/// An admitted graph, and what its compile answers.
+#[derive(Drop)]
+struct Made {
+    admitted: Admitted,
+    compiled: Compiled,
 }
 
-/// Admits a graph.
-fn admit_graph(alloc: Global, graph: Problem) -> Result<Admitted, Halt>
-    ensures graph { IfOk result (λ a. a.graph ≡ graph) }
-    ensures admitted { IfOk result (λ a. IsAdmitted a.graph a.order a.guards) }
-    ensures halt { IfErr result (BreaksRule graph) }
-{
-    match admit(alloc, graph) {
-        Ok(admitted) => Ok(admitted),
-        Err(refused) => Err(Halt::of_rules(refused)),
-    }
-}
-
-/// The table text of an admitted graph.
-fn text_of(alloc: Global, admitted: Admitted) -> Result<String, Halt>
-    ensures text { IfOk result (λ text. IsTableText admitted (string_bytes text)) }
-    ensures halt { IfErr result (StopsShow admitted) }
+/// Compiles an admitted graph.
+fn compile_graph(alloc: Global, admitted: Admitted) -> Result<Made, Halt>
+    ensures same { IfOk result (λ made. made.admitted ≡ admitted) }
+    ensures compiled { IfOk result (λ made. IsCompilation admitted.graph admitted.order made.compiled) }
+    ensures safe { IfOk result (λ made. AreSafe admitted.graph made.compiled.built.tables.nodes) }
+    ensures halt { IfErr result (StopsCompile admitted) }
 {
     if !is_plain(admitted.problem()) {
         return Err(Halt::Refused(Refusal::NotBuilt));
     }
-    let compiled = match compile(alloc, &admitted) {
-        Ok(compiled) => compiled,
-        Err(fault) => return Err(Halt::of_compile(admitted, fault)),
+    match compile(alloc, &admitted) {
+        Ok(compiled) => Ok(Made { admitted, compiled }),
+        Err(fault) => Err(Halt::of_compile(admitted, fault)),
+    }
+}
+
+/// The table text of an admitted graph.
+fn text_of(alloc: Global, admitted: Admitted) -> Result<Output, Halt>
+    ensures text { IfOk result (λ o. IsMadeOf admitted shown (bytes_of o)) }
+    ensures halt { IfErr result (StopsCompile admitted) }
+{
+    let made = match compile_graph(alloc, admitted) {
+        Ok(made) => made,
+        Err(halt) => return Err(halt),
     };
-    let built = &compiled.built;
+    let built = &made.compiled.built;
     match table_text(
         alloc,
-        admitted.problem(),
+        made.admitted.problem(),
         &built.tables,
         built.worst,
-        &compiled.order,
+        &made.compiled.order,
     ) {
-        Ok(text) => Ok(text),
+        Ok(text) => Ok(Output::Lines(text)),
         Err(_) => Err(Halt::Memory),
     }
 }
 
-/// Shows the tables of a graph file.
-fn show<S: Shelf>(alloc: Global, shelf: &mut S, name: &str) -> Result<String, Halt>
+/// The pack of an admitted graph.
+fn pack_of(alloc: Global, admitted: Admitted) -> Result<Output, Halt>
+    ensures pack { IfOk result (λ o. IsMadeOf admitted packed (bytes_of o)) }
+    ensures halt { IfErr result (StopsCompile admitted) }
+{
+    let made = match compile_graph(alloc, admitted) {
+        Ok(made) => made,
+        Err(halt) => return Err(halt),
+    };
+    let Made { compiled, .. } = made;
+    let Compiled { built, .. } = compiled;
+    let Built { tables, .. } = built;
+    Ok(Output::Pack(tables))
+}
+
+/// Reads and admits a graph file.
+fn admitted_file<S: Shelf>(alloc: Global, shelf: &mut S, name: &str) -> Result<Admitted, Halt>
     requires { S.may_fetch shelf.old name.now }
-    ensures text { IfOk result (λ text. IsShown (S.stands shelf.old name.now) (string_bytes text)) }
-    ensures halt { IfErr result (StopsGraph (record { stands = S.stands shelf.old; given = S.given shelf.new; before = S.faults shelf.old; now = S.faults shelf.new }) (S.stands shelf.old name.now) StopsShow) }
+    ensures graph { IfOk result (Admits (S.stands shelf.old name.now)) }
+    ensures halt { IfErr result (StopsGraph (record { stands = S.stands shelf.old; given = S.given shelf.new; before = S.faults shelf.old; now = S.faults shelf.new }) (S.stands shelf.old name.now) StopsCompile) }
 {
     let graph = match read_graph(alloc, shelf, name) {
         Ok(graph) => graph,
         Err(halt) => return Err(halt),
     };
-    let admitted = match admit_graph(alloc, graph) {
-        Ok(admitted) => admitted,
-        Err(halt) => return Err(halt),
-    };
-    match text_of(alloc, admitted) {
-        Ok(text) => Ok(text),
+    match admit_graph(alloc, graph) {
+        Ok(admitted) => Ok(admitted),
+        Err(halt) => Err(halt),
+    }
+}
+
+/// Shows the tables of a graph file.
+fn show<S: Shelf>(alloc: Global, shelf: &mut S, name: &str) -> Result<Output, Halt>
+    requires { S.may_fetch shelf.old name.now }
+    ensures text { IfOk result (λ o. IsMade (S.stands shelf.old name.now) shown (bytes_of o)) }
+    ensures halt { IfErr result (StopsGraph (record { stands = S.stands shelf.old; given = S.given shelf.new; before = S.faults shelf.old; now = S.faults shelf.new }) (S.stands shelf.old name.now) StopsCompile) }
+{
+    match admitted_file(alloc, shelf, name) {
+        Ok(admitted) => text_of(alloc, admitted),
+        Err(halt) => Err(halt),
+    }
+}
+
+/// Packs the tables of a graph file.
+fn pack<S: Shelf>(alloc: Global, shelf: &mut S, name: &str) -> Result<Output, Halt>
+    requires { S.may_fetch shelf.old name.now }
+    ensures pack { IfOk result (λ o. IsMade (S.stands shelf.old name.now) packed (bytes_of o)) }
+    ensures halt { IfErr result (StopsGraph (record { stands = S.stands shelf.old; given = S.given shelf.new; before = S.faults shelf.old; now = S.faults shelf.new }) (S.stands shelf.old name.now) StopsCompile) }
+{
+    match admitted_file(alloc, shelf, name) {
+        Ok(admitted) => pack_of(alloc, admitted),
         Err(halt) => Err(halt),
     }
 }
@@ -109,25 +135,71 @@ fn admit_only<S: Shelf>(alloc: Global, shelf: &mut S, name: &str) -> Halt
     }
 }
 
+/// Whether a node has a name.
+fn is_named(node: &Name, name: &str) -> bool
+    ensures { result ≡ bytes_eq node.now name.now }
+{
+    node.as_str() == name
+}
+
+/// The number of the first node of a name.
+fn first_named(head: &Head, name: &str) -> Option<usize>
+    ensures first { result ≡ first_named head.now name.now }
+    ensures within { IfSome result (λ node. node < length head.now.nodes) }
+    ensures few { IfSome result (λ node. node < 16) }
+{
+    head.nodes().iter().position(|node| is_named(node, name))
+}
+
+/// The text of the table of the first node of a name.
+fn node_lines(alloc: Global, tables: &Tables, name: &str) -> Result<Output, Halt>
+    ensures text { IfOk result (λ o. IsNodeText tables.now name.now (bytes_of o)) }
+    ensures halt { IfErr result (StopsNaming tables.now name.now) }
+{
+    let Some(node) = first_named(tables.head(), name) else {
+        return Err(Halt::Refused(Refusal::UnknownNode));
+    };
+    match node_text(alloc, tables, node as u32) {
+        Ok(text) => Ok(Output::Lines(text)),
+        Err(_) => Err(Halt::Memory),
+    }
+}
+
+/// Prints the table of the first node of a name in a pack.
+fn node<S: Shelf>(alloc: Global, shelf: &mut S, pack: &str, name: &str) -> Result<Output, Halt>
+    requires { S.may_fetch shelf.old pack.now }
+    ensures text { IfOk result (λ o. IsNodeOf (S.stands shelf.old pack.now) name.now (bytes_of o)) }
+    ensures halt { IfErr result (StopsNode (record { stands = S.stands shelf.old; given = S.given shelf.new; before = S.faults shelf.old; now = S.faults shelf.new }) (S.stands shelf.old pack.now) name.now) }
+{
+    match read_tables(alloc, shelf, pack) {
+        Ok(tables) => node_lines(alloc, &tables, name),
+        Err(halt) => Err(halt),
+    }
+}
+
 /// The output of a command, or why it stops.
-fn command_output<S: Shelf>(alloc: Global, shelf: &mut S, command: &Command) -> Result<String, Halt>
+fn command_output<S: Shelf>(
+    alloc: Global,
+    shelf: &mut S,
+    command: &Command,
+) -> Result<Output, Halt>
     requires { All (λ w. S.may_fetch shelf.old w) (file_words command.now) }
-    ensures text { IfOk result (λ text. PrintsCommand (record { stands = S.stands shelf.old; given = S.given shelf.new; before = S.faults shelf.old; now = S.faults shelf.new }) command.now (string_bytes text)) }
+    ensures text { IfOk result (λ o. PrintsCommand (record { stands = S.stands shelf.old; given = S.given shelf.new; before = S.faults shelf.old; now = S.faults shelf.new }) command.now (bytes_of o)) }
     ensures halt { IfErr result (StopsCommand (record { stands = S.stands shelf.old; given = S.given shelf.new; before = S.faults shelf.old; now = S.faults shelf.new }) command.now) }
 {
     match command {
         Command::Show { graph } => show(alloc, shelf, graph.as_str()),
-        Command::Compile { graph } | Command::Tune { graph } => {
-            Err(admit_only(alloc, shelf, graph.as_str()))
-        }
+        Command::Compile { graph } => pack(alloc, shelf, graph.as_str()),
+        Command::Node { pack, name } => node(alloc, shelf, pack.as_str(), name.as_str()),
+        Command::Tune { graph } => Err(admit_only(alloc, shelf, graph.as_str())),
         _ => Err(Halt::Refused(Refusal::NotBuilt)),
     }
 }
 
 /// The output of a run of the words, or why it stops.
-pub fn output<S: Shelf>(alloc: Global, words: &[String], shelf: &mut S) -> Result<String, Halt>
+pub fn outcome<S: Shelf>(alloc: Global, words: &[String], shelf: &mut S) -> Result<Output, Halt>
     requires { All (λ w. S.may_fetch shelf.old w) (file_words_of (map string_bytes words.now)) }
-    ensures text { IfOk result (λ text. Prints (record { stands = S.stands shelf.old; given = S.given shelf.new; before = S.faults shelf.old; now = S.faults shelf.new }) (map string_bytes words.now) (string_bytes text)) }
+    ensures text { IfOk result (λ o. Prints (record { stands = S.stands shelf.old; given = S.given shelf.new; before = S.faults shelf.old; now = S.faults shelf.new }) (map string_bytes words.now) (bytes_of o)) }
     ensures halt { IfErr result (Stops (record { stands = S.stands shelf.old; given = S.given shelf.new; before = S.faults shelf.old; now = S.faults shelf.new }) (map string_bytes words.now)) }
 {
     match read_words(alloc, words) {

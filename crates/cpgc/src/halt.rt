@@ -1,9 +1,10 @@
 //! Why a run stops without an output.
 ghost use Rattle.std.specs.Prelude.{◌≡◌, IfErr};
 ghost use Rattle.cpgc.specs.Lines.{status_of};
-ghost use Rattle.cpgc.specs.Halts.{halt_of_reading, halt_of_rules, halt_of_compile};
+ghost use Rattle.cpgc.specs.Halts.{halt_of_reading, halt_of_pack, halt_of_rules, halt_of_compile};
 
 use cpg_base::{Problem, Scenario};
+use cpg_codec::PackFault;
 use cpg_core::CompileFault;
 use cpg_order::Walk;
 use cpg_reader::{Place, ReadFault, What};
@@ -47,10 +48,16 @@ pub enum Refusal {
     },
     /// A message has a size above its sender's slot: the least such edge.
     TooBig(u32),
+    /// The bytes are no pack. The number is the length of the longest prefix of them that is a prefix of some pack.
+    BadPack(u64),
     /// The graph file gave more than 16,777,216 bytes.
     LongGraph,
+    /// The pack gave more than 268,435,456 bytes.
+    LongPack,
     /// The graph has more than 16,384 tracks.
     TooManyTracks,
+    /// No node of the pack has the name.
+    UnknownNode,
     /// The command, or this form of graph, isn't built yet.
     NotBuilt,
 }
@@ -112,6 +119,16 @@ impl Halt {
             ReadFault::UnknownName(place) => Halt::Refused(Refusal::UnknownName(place)),
             ReadFault::OverLimit(what) => Halt::Refused(Refusal::OverLimit(what)),
             ReadFault::OutOfMemory => Halt::Memory,
+        }
+    }
+
+    /// What a refused reading of a pack stops a run with.
+    pub fn of_pack(fault: PackFault) -> Halt
+        ensures { result ≡ halt_of_pack fault }
+    {
+        match fault {
+            PackFault::BadPack(length) => Halt::Refused(Refusal::BadPack(length)),
+            PackFault::OutOfMemory => Halt::Memory,
         }
     }
 

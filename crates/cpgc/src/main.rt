@@ -8,6 +8,8 @@ mod answer;
 mod commands;
 mod halt;
 mod lines;
+mod output;
+mod reading;
 mod refusals;
 mod run;
 #[cfg(test)]

@@ -131,8 +131,11 @@ fn write_refusal(out: &mut String, refusal: &Refusal) -> Result<(), OutOfMemory>
         } => write_alternatives(out, graph, *process, scenario)?,
         Refusal::NoSlot { graph, node } => write_slot(out, graph, *node)?,
         Refusal::TooBig(edge) => write!(out, "9 big e{edge}")?,
+        Refusal::BadPack(length) => write!(out, "10 pack {length}")?,
         Refusal::LongGraph => out.push_str("16 long graph")?,
+        Refusal::LongPack => out.push_str("16 long pack")?,
         Refusal::TooManyTracks => out.push_str("18 tracks")?,
+        Refusal::UnknownNode => out.push_str("19 node")?,
         Refusal::NotBuilt => out.push_str("20 not built")?,
     }
     Ok(())

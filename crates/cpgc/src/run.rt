@@ -6,8 +6,10 @@ ghost use Rattle.cpgc.specs.Endings.{EndsBy, EndsWith};
 ghost use Rattle.cpgc.specs.Lawful.{IsLawful};
 ghost use Rattle.cpgc.specs.Outputs.{Prints};
 
-use crate::answer::{print, stop};
-use crate::commands::output;
+use crate::answer::{cut, put, stop};
+use crate::commands::outcome;
+use crate::halt::Halt;
+use cpg_codec::WriteFault;
 use cpg_io::{Shelf, Sink};
 use std::alloc::Global;
 
@@ -24,8 +26,12 @@ pub fn run<S: Shelf, O: Sink, E: Sink>(
     requires { All (λ w. S.may_fetch shelf.old w) (file_words_of (map string_bytes words.now)) }
     ensures { IsLawful (record { words = map string_bytes words.now; shelf = record { stands = S.stands shelf.old; given = S.given shelf.new; before = S.faults shelf.old; now = S.faults shelf.new }; out = record { before = O.faults out.old; now = O.faults out.new; old = O.taken out.old; new = O.taken out.new }; err = record { before = E.faults err.old; now = E.faults err.new; old = E.taken err.old; new = E.taken err.new }; status = result }) }
 {
-    match output(alloc, words, shelf) {
-        Ok(text) => print(text.as_str(), out, err),
+    match outcome(alloc, words, shelf) {
+        Ok(output) => match put(alloc, &output, out) {
+            Ok(()) => 0,
+            Err(WriteFault::Failed) => cut(err),
+            Err(WriteFault::OutOfMemory) => stop(alloc, &Halt::Memory, err),
+        },
         Err(halt) => stop(alloc, &halt, err),
     }
 }

@@ -1,7 +1,7 @@
 use Rattle.std.proofs.Common.{All, ap, map, string_bytes, subst}
 use Rattle.cpg_words.specs.FileWords.{file_words_if}
 use Rattle.cpgc.proofs.MemoryStops.{memory_stops}
-use Rattle.cpgc.proofs.commands.output.Goals as goal
+use Rattle.cpgc.proofs.commands.outcome.Goals as goal
 
 pub command_output-requires : goal.command_output-requires
 command_output-requires g c = subst (All (λ w. g.S.Shelf.may_fetch c.args.shelf.now w)) (ap file_words_if c.in-Ok.ensures.command) c.requires
