@@ -4,8 +4,8 @@ use Rattle.std.proofs.Math.Nat.{mul-le-mul, mul-le-mul_left, mul-le-mul_right}
 use Rattle.std.proofs.lemmas.Grind.{div_ceil_times}
 use Rattle.std.proofs.lemmas.Bool.{cases_lt}
 use Rattle.std.specs.Int.{div_ceil}
-use Rattle.cpg_base.specs.Graph.{Graph, Process, process_count, process_at}
-use Rattle.cpg_base.specs.Duration.{duration, duration_of}
+use Rattle.cpg_base.specs.Graph.{Graph, process_count, process_at}
+use Rattle.cpg_base.specs.Duration.{duration}
 use Rattle.cpg_base.specs.Limits.{IsProcessWithin, IsWithinLimits}
 
 product_within : (a b m n : ℕ) → a ≤ m → b ≤ n → a * b ≤ m * n

@@ -23,14 +23,14 @@ fn slot(node: u32, length: u64) -> Slot
     }
 }
 
-/// Two nodes; the second one sends first.
-fn two_nodes(alloc: Global) -> Result<Problem, Fail>
-    ensures { IfOk result (λ g. g.slots ≡ record { node = 1; length = 10; bytes = 8 } ∷ record { node = 0; length = 1000000000; bytes = 8 } ∷ []) }
+/// Two nodes; the second one sends first, and the first one for so long.
+fn two_nodes(alloc: Global, length: u64) -> Result<Problem, Fail>
+    ensures { IfOk result (λ g. g.slots ≡ record { node = 1; length = 10; bytes = 8 } ∷ record { node = 0; length = length; bytes = 8 } ∷ []) }
 {
     let mut nodes = Vec::new(alloc);
     nodes.push(node(alloc, "N1")?)?;
     nodes.push(node(alloc, "N2")?)?;
-    let slots = vec![in alloc; slot(1, 10), slot(0, 1_000_000_000)]?;
+    let slots = vec![in alloc; slot(1, 10), slot(0, length)]?;
     match Problem::new(0, 0, nodes, slots, Vec::new(alloc), Vec::new(alloc)) {
         Some(problem) => Ok(problem),
         None => Err(Fail::from(OutOfMemory)),
@@ -39,7 +39,7 @@ fn two_nodes(alloc: Global) -> Result<Problem, Fail>
 
 #[test]
 fn finds_slots(rt: HostRuntime) -> Result<(), Fail> {
-    let problem = two_nodes(rt.alloc())?;
+    let problem = two_nodes(rt.alloc(), 1_000_000_000)?;
     assert_eq!(rt; occurrence(&problem, 0, 0), 10);
     assert_eq!(rt; occurrence(&problem, 0, 2), 2_000_000_030);
     assert_eq!(rt; arrival(&problem, 1, 1), 1_000_000_020);
@@ -49,5 +49,14 @@ fn finds_slots(rt: HostRuntime) -> Result<(), Fail> {
     assert_eq!(rt; next_slot(&problem, 1, 10), 1_000_000_010);
     assert_eq!(rt; Share::of(&problem, 1).length(), 10);
     assert_eq!(rt; Share::of(&problem, 1).round(), 1_000_000_010);
+    Ok(())
+}
+
+#[test]
+fn finds_a_start_at_the_time_itself(rt: HostRuntime) -> Result<(), Fail> {
+    let problem = two_nodes(rt.alloc(), 10)?;
+    assert_eq!(rt; first_from(&problem, 1, 40), 2);
+    assert_eq!(rt; first_from(&problem, 1, 41), 3);
+    assert_eq!(rt; next_slot(&problem, 1, 41), 60);
     Ok(())
 }

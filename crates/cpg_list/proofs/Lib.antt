@@ -8,3 +8,5 @@ pub mod PlainNodes
 pub mod LawfulRows
 pub mod Assembled
 pub mod Greatest
+mod Few
+mod Pair

@@ -4,7 +4,11 @@
 mod building;
 mod listing;
 mod measuring;
+mod plain;
 mod rows;
+#[cfg(test)]
+mod tests;
 mod view;
 
 pub use listing::list;
+pub use plain::is_plain;

@@ -3,8 +3,8 @@
 ghost use Rattle.std.specs.Prelude.{◌≡◌, IfOk};
 ghost use Rattle.cpg_base.specs.Graph.{process_count};
 
-use crate::{Links, OrderFault, Walk, ordered, tail, urgency};
-use cpg_base::{Edge, Name, OutOfMemory, Problem, Process, Slot};
+use crate::{Links, OrderFault, Walk, is_before, ordered, tail, urgency};
+use cpg_base::{Edge, Name, OutOfMemory, Problem, Process, Scenario, Slot};
 use std::alloc::Global;
 use std::test::Fail;
 
@@ -49,8 +49,8 @@ fn slot(node: u32) -> Slot {
     }
 }
 
-/// Four processes on two nodes: A decides between B, on the other node, and C, and J joins both.
-fn choice(alloc: Global, last: Edge) -> Result<Problem, Fail>
+/// Four processes on two nodes.
+fn graph(alloc: Global, edges: Vec<Edge>) -> Result<Problem, Fail>
     ensures { IfOk result (λ g. process_count g ≡ 4) }
 {
     let mut nodes = Vec::new(alloc);
@@ -62,16 +62,24 @@ fn choice(alloc: Global, last: Edge) -> Result<Problem, Fail>
     processes.push(process(name(alloc, "C")?, 0, 10, false))?;
     processes.push(process(name(alloc, "J")?, 1, 5, true))?;
     let slots = vec![in alloc; slot(0), slot(1)]?;
+    match Problem::new(0, 95, nodes, slots, processes, edges) {
+        Some(problem) => Ok(problem),
+        None => Err(Fail::from(OutOfMemory)),
+    }
+}
+
+/// A decides between B, on the other node, and C, and J joins both.
+fn choice(alloc: Global, last: Edge) -> Result<Problem, Fail>
+    ensures { IfOk result (λ g. process_count g ≡ 4) }
+{
     let edges = vec![in alloc;
         edge(0, 1, Some(true)),
         edge(0, 2, Some(false)),
         edge(1, 3, None),
         last,
     ]?;
-    match Problem::new(0, 95, nodes, slots, processes, edges) {
-        Some(problem) => Ok(problem),
-        None => Err(Fail::from(OutOfMemory)),
-    }
+    let problem = graph(alloc, edges)?;
+    Ok(problem)
 }
 
 #[test]
@@ -105,6 +113,18 @@ fn shows_a_cycle(rt: HostRuntime) -> Result<(), Fail> {
     assert_eq!(rt; walk.processes(), [1, 3].as_slice());
     let walk = cycle(alloc, &choice(alloc, edge(2, 2, None))?)?;
     assert_eq!(rt; walk.processes(), [2].as_slice());
+    let into = vec![in alloc;
+        edge(2, 0, None),
+        edge(1, 3, None),
+        edge(3, 2, None),
+        edge(2, 1, None),
+    ]?;
+    let walk = cycle(alloc, &graph(alloc, into)?)?;
+    assert_eq!(rt;
+        walk.processes(),
+        [1, 3, 2].as_slice(),
+        "A follows the cycle"
+    );
     Ok(())
 }
 
@@ -128,5 +148,20 @@ fn lists_inputs_and_outputs(rt: HostRuntime) -> Result<(), Fail> {
     let links = Links::of(alloc, &problem)?;
     assert_eq!(rt; links.inputs(3), [2, 3].as_slice());
     assert_eq!(rt; links.outputs(0), [0, 1].as_slice());
+    Ok(())
+}
+
+#[test]
+fn orders_scenarios(rt: HostRuntime) -> Result<(), Fail> {
+    let alloc = rt.alloc();
+    let problem = choice(alloc, edge(2, 3, None))?;
+    assert_eq!(rt; problem.conditions(), 1);
+    let order = urgency(alloc, &problem)?;
+    assert_eq!(rt; order.len(), problem.processes().len());
+    let first = Scenario::zero(alloc, &problem)?;
+    let mut second = first.copy()?;
+    second.set_value(0, true);
+    assert!(rt; is_before(&problem, &order, &first, &second));
+    assert!(rt; !is_before(&problem, &order, &second, &first));
     Ok(())
 }

@@ -1,14 +1,16 @@
 -- What each refusal tells: its own cause, and that no earlier one is there.
-use Rattle.std.specs.Prelude.{ℕ, ◌<◌, ◌≤◌, List, ⊤}
+use Rattle.std.specs.Prelude.{ℕ, ◌≡◌, ◌<◌, ◌≤◌, List, ⊤}
 use Rattle.cpg_base.specs.Graph.{Graph}
 use Rattle.cpg_base.specs.WellFormed.{HasSingleJoins, HasSenderSlots}
 use Rattle.cpg_order.specs.Urgency.{IsUrgencyOrder, IsTopological}
 use Rattle.cpg_order.specs.Track.{track_count, most_tracks}
 use Rattle.cpg_order.specs.Cycle.{IsCycle}
 use Rattle.cpg_guard.specs.Alternatives.{AreAlternatives}
+use Rattle.cpg_guard.specs.Guards.{Guards}
 use Rattle.cpg_rules.specs.declared.admission.RuleFault.{RuleFault}
 use Rattle.cpg_rules.specs.declared.admission.RuleFault.TheVariants.{Cycle, TooManyTracks, TwoAlternatives, NoSlot, TooBig, OutOfMemory}
 use Rattle.cpg_rules.specs.Rules.{LacksSlot, IsAboveSlot}
+use Rattle.cpg_rules.specs.Admission.{IsAdmitted}
 
 -- the graph has no cycle: this is its urgency order
 pub record IsOrdered (g : Graph) (order : List ℕ) : Type 0 where
@@ -38,3 +40,7 @@ ShowsFault g (TwoAlternatives p least) = (order : List ℕ) × HasFewTracks g or
 ShowsFault g (NoSlot node) = (order : List ℕ) × HasFewInputs g order × LacksSlot g node
 ShowsFault g (TooBig e) = (order : List ℕ) × HasSlots g order × IsAboveSlot g e
 ShowsFault g OutOfMemory = ⊤
+
+-- an admitted graph shows no fault but want of memory, so `admit` refuses exactly the others
+abbrev pub AdmittedShowNoFault : Type 0
+AdmittedShowNoFault = (g : Graph) (order : List ℕ) (trees : Guards) → IsAdmitted g order trees → (fault : RuleFault) → ShowsFault g fault → fault ≡ OutOfMemory

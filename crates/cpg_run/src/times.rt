@@ -22,7 +22,7 @@ impl Model for RunTimes {
 
 impl RunTimes {
     /// The times of these lists.
-    pub(crate) fn new(times: Vec<Option<u64>>, ends: Vec<Option<u64>>, finish: u64) -> RunTimes
+    pub fn new(times: Vec<Option<u64>>, ends: Vec<Option<u64>>, finish: u64) -> RunTimes
         ensures { result ≡ record { times = times.items; ends = ends.items; finish = finish } }
     {
         RunTimes {

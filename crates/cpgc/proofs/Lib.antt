@@ -1,2 +1,7 @@
-pub mod Memory
-pub mod Stopped
+pub mod Named
+pub mod Statuses
+pub mod Excluded
+pub mod Shown
+pub mod Safe
+pub mod MemoryStops
+pub mod Written

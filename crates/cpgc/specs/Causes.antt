@@ -1,5 +1,6 @@
 -- When a run stops for a reason: what is then true of the words and of the shelf.
-use Rattle.std.specs.Prelude.{ℕ, ◌≡◌, ◌<◌, List, Option, Some, None, IfSome, Err, IsOk, length, ⊤}
+use Rattle.std.specs.Prelude.{ℕ, ◌≡◌, ◌≢◌, ◌<◌, ◌⊎◌, List, Option, Some, None, IfSome, Ok, Err, length}
+use Rattle.cpg_base.specs.Graph.{Graph}
 use Rattle.cpg_io.specs.Causes.{Rose}
 use Rattle.cpg_words.specs.Parts.{Text}
 use Rattle.cpg_words.specs.Forms.{command_of}
@@ -7,50 +8,17 @@ use Rattle.cpg_words.specs.declared.command.Command.{Command}
 use Rattle.cpg_words.specs.declared.command.Command.TheVariants.{Show, Compile, Check, Play, Node, Trial, Live, Hyper, Tune, Audit}
 use Rattle.cpg_reader.specs.declared.place.ReadFault.{ReadFault}
 use Rattle.cpg_reader.specs.Document.{problem_of}
+use Rattle.cpg_rules.specs.Admission.{Admission, IsAdmitted}
+use Rattle.cpg_rules.specs.declared.admission.RuleFault.{RuleFault}
+use Rattle.cpg_rules.specs.Faults.{ShowsFault}
+use Rattle.cpg_run.specs.Plain.{IsPlain}
+use Rattle.cpg_core.specs.declared.fault.CompileFault.{CompileFault}
+use Rattle.cpg_core.specs.Compilation.{ShowsCompileFault}
 use Rattle.cpgc.specs.declared.halt.Refusal.{Refusal}
-use Rattle.cpgc.specs.declared.halt.Refusal.TheVariants.{NotToml, BadField, DoubleName, UnknownName, OverLimit, LongGraph, NotBuilt}
+use Rattle.cpgc.specs.declared.halt.Refusal.TheVariants.{LongGraph, NotBuilt}
 use Rattle.cpgc.specs.declared.halt.Halt.{Halt}
 use Rattle.cpgc.specs.declared.halt.Halt.TheVariants.{Words, Read, Refused, Memory}
-
--- what a refused reading of a graph file stops a run with
-abbrev pub halt_of : ReadFault → Halt
-halt_of ReadFault.NotToml = Refused NotToml
-halt_of (ReadFault.BadField place) = Refused (BadField place)
-halt_of (ReadFault.DoubleName place) = Refused (DoubleName place)
-halt_of (ReadFault.UnknownName place) = Refused (UnknownName place)
-halt_of (ReadFault.OverLimit what) = Refused (OverLimit what)
-halt_of ReadFault.OutOfMemory = Memory
-
--- the most bytes of a graph file
-abbrev pub graph_limit : ℕ
-graph_limit = 16777216
-
--- the bytes of a graph file are refused by their reader
-abbrev pub Faulty : Option Text → ReadFault → Type 0
-Faulty told fault = IfSome told (λ bytes. problem_of bytes ≡ Err fault)
-
--- A refusal is true of a graph file of which so many bytes were given: of its bytes, where the shelf tells them.
-abbrev pub RefusesGraph : ℕ → Option Text → Refusal → Type 0
-RefusesGraph given told NotToml = Faulty told ReadFault.NotToml
-RefusesGraph given told (BadField place) = Faulty told (ReadFault.BadField place)
-RefusesGraph given told (DoubleName place) = Faulty told (ReadFault.DoubleName place)
-RefusesGraph given told (UnknownName place) = Faulty told (ReadFault.UnknownName place)
-RefusesGraph given told (OverLimit what) = Faulty told (ReadFault.OverLimit what)
-RefusesGraph given told LongGraph = (graph_limit < given) × IfSome told (λ bytes. graph_limit < length bytes)
-RefusesGraph given told NotBuilt = IfSome told (λ bytes. IsOk (problem_of bytes))
-
--- the graph file of a command that is built as far as reading it
-abbrev pub graph_word : Command → Option Text
-graph_word (Show graph) = Some graph
-graph_word (Compile graph) = Some graph
-graph_word (Check graph pack) = None
-graph_word (Play graph pack scenario turns) = None
-graph_word (Node pack name) = None
-graph_word (Trial number) = None
-graph_word (Live pack name stream) = None
-graph_word (Hyper parts) = None
-graph_word (Tune graph) = Some graph
-graph_word (Audit graph pack log) = None
+use Rattle.cpgc.specs.Halts.{halt_of_reading, halt_of_rules, halt_of_compile}
 
 -- what a run sees of its shelf: what stands under each name, how many bytes the last fetched name gave, and the count
 -- of faults before and after
@@ -60,37 +28,82 @@ pub record Seen : Type 0 where
   pub before : ℕ
   pub now : ℕ
 
--- the reading of a graph file stops a run
-abbrev pub StopsGraph : Seen → Text → Halt → Type 0
-StopsGraph seen graph Words = ⊥
-StopsGraph seen graph Read = Rose seen.before seen.now
-StopsGraph seen graph (Refused refusal) = RefusesGraph seen.given (seen.stands graph) refusal
-StopsGraph seen graph Memory = ⊤
+-- the most bytes of a graph file
+abbrev pub graph_limit : ℕ
+graph_limit = 16777216
 
--- a command that isn't built at all stops as such, or for want of memory
-abbrev pub Unbuilt : Halt → Type 0
-Unbuilt Words = ⊥
-Unbuilt Read = ⊥
-Unbuilt (Refused refusal) = refusal ≡ NotBuilt
-Unbuilt Memory = ⊤
+-- the bytes of a graph file, where the shelf tells them, are those of a graph
+abbrev pub Says : Option Text → Graph → Type 0
+Says told g = IfSome told (λ bytes. problem_of bytes ≡ Ok g)
 
--- a command stops by its graph file, or as one that isn't built at all
-abbrev pub StopsAt : Seen → Option Text → Halt → Type 0
-StopsAt seen None halt = Unbuilt halt
-StopsAt seen (Some graph) halt = StopsGraph seen graph halt
+-- and the graph keeps all rules, with its urgency order and its guards
+pub record Admits (told : Option Text) (a : Admission) : Type 0 where
+  pub says : Says told a.graph
+  pub admitted : IsAdmitted a.graph a.order a.guards
+
+-- the shelf met a fault
+pub record IsUnread (seen : Seen) (halt : Halt) : Type 0 where
+  pub halt_is : halt ≡ Read
+  pub rose : Rose seen.before seen.now
+
+-- a graph file gave more bytes than the limit
+pub record IsLong (seen : Seen) (told : Option Text) (halt : Halt) : Type 0 where
+  pub halt_is : halt ≡ Refused LongGraph
+  pub given : graph_limit < seen.given
+  pub long : IfSome told (λ bytes. graph_limit < length bytes)
+
+-- its bytes are those of no graph, and this is the first refusal of them
+pub record IsFaulty (told : Option Text) (halt : Halt) : Type 0 where
+  pub fault : ReadFault
+  pub halt_is : halt ≡ halt_of_reading fault
+  pub first : fault ≢ ReadFault.OutOfMemory → IfSome told (λ bytes. problem_of bytes ≡ Err fault)
+
+-- the graph breaks a rule, the first that it breaks
+pub record BreaksRule (g : Graph) (halt : Halt) : Type 0 where
+  pub fault : RuleFault
+  pub halt_is : halt ≡ halt_of_rules g fault
+  pub shows : ShowsFault g fault
+
+-- it is late or too wide
+pub record IsUncompiled (a : Admission) (halt : Halt) : Type 0 where
+  pub fault : CompileFault
+  pub halt_is : halt ≡ halt_of_compile a fault
+  pub shows : ShowsCompileFault a.graph a.order fault
+
+-- the command, or this form of graph, isn't built
+abbrev pub IsUnbuilt : Halt → Type 0
+IsUnbuilt halt = halt ≡ Refused NotBuilt
+
+abbrev pub StopsReading : Seen → Option Text → Halt → Type 0
+StopsReading seen told halt = IsUnread seen halt ⊎ (IsLong seen told halt ⊎ IsFaulty told halt)
+
+-- a graph file stops a run: as it is read, by a rule, or by what the command does with the admitted graph
+abbrev pub StopsGraph : Seen → Option Text → (Admission → Halt → Type 0) → Halt → Type 0
+StopsGraph seen told work halt = StopsReading seen told halt ⊎ (((g : Graph) × Says told g × BreaksRule g halt) ⊎ ((a : Admission) × Admits told a × work a halt))
+
+-- to show a graph
+abbrev pub StopsShow : Admission → Halt → Type 0
+StopsShow a halt = (IsUnbuilt halt × (IsPlain a.graph → ⊥)) ⊎ IsUncompiled a halt
+
+-- a command stops as one that isn't built, or for want of memory
+abbrev pub IsUnbuiltCommand : Halt → Type 0
+IsUnbuiltCommand halt = IsUnbuilt halt ⊎ (halt ≡ Memory)
 
 abbrev pub StopsCommand : Seen → Command → Halt → Type 0
-StopsCommand seen command halt = StopsAt seen (graph_word command) halt
+StopsCommand seen (Show graph) halt = StopsGraph seen (seen.stands graph) StopsShow halt
+StopsCommand seen (Compile graph) halt = StopsGraph seen (seen.stands graph) (λ _. IsUnbuilt) halt
+StopsCommand seen (Check graph pack) halt = IsUnbuiltCommand halt
+StopsCommand seen (Play graph pack scenario turns) halt = IsUnbuiltCommand halt
+StopsCommand seen (Node pack name) halt = IsUnbuiltCommand halt
+StopsCommand seen (Trial number) halt = IsUnbuiltCommand halt
+StopsCommand seen (Live pack name stream) halt = IsUnbuiltCommand halt
+StopsCommand seen (Hyper parts) halt = IsUnbuiltCommand halt
+StopsCommand seen (Tune graph) halt = StopsGraph seen (seen.stands graph) (λ _. IsUnbuilt) halt
+StopsCommand seen (Audit graph pack log) halt = IsUnbuiltCommand halt
 
 -- words without a form stop a run as such, or for want of memory
-abbrev pub Formless : Halt → Type 0
-Formless Words = ⊤
-Formless Read = ⊥
-Formless (Refused refusal) = ⊥
-Formless Memory = ⊤
-
 abbrev pub StopsAsked : Seen → Option Command → Halt → Type 0
-StopsAsked seen None halt = Formless halt
+StopsAsked seen None halt = (halt ≡ Words) ⊎ (halt ≡ Memory)
 StopsAsked seen (Some command) halt = StopsCommand seen command halt
 
 -- a run of the words stops for a reason

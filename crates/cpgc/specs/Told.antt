@@ -1,10 +1,8 @@
--- The line of a stopped run was written.
+-- What was written to a sink.
 use Rattle.std.specs.Prelude.{ℕ, ◌≡◌, ◌≢◌, List, Option}
-use Rattle.std.specs.Io.KnownBytes.{Appends}
+use Rattle.std.specs.Io.KnownBytes.{Appends, Keeps}
 use Rattle.cpg_io.specs.Causes.{Rose}
 use Rattle.cpg_io.specs.Sink.{TookPrefix}
-use Rattle.cpgc.specs.declared.halt.Halt.{Halt}
-use Rattle.cpgc.specs.Lines.{line_of, status_of}
 
 -- what a run sees of a sink: its count of faults and its bytes, before and after
 pub record SinkSeen : Type 0 where
@@ -17,6 +15,10 @@ pub record SinkSeen : Type 0 where
 abbrev pub Whole : SinkSeen → List ℕ → Type 0
 Whole sink bytes = Appends sink.old sink.new bytes
 
+-- nothing was taken
+abbrev pub Untouched : SinkSeen → Type 0
+Untouched sink = Keeps sink.old sink.new
+
 -- the sink met a fault, and took a proper prefix of the bytes
 pub record Part (sink : SinkSeen) (bytes : List ℕ) : Type 0 where
   pub rose : Rose sink.before sink.now
@@ -26,7 +28,3 @@ pub record Part (sink : SinkSeen) (bytes : List ℕ) : Type 0 where
 pub record Sent (sink : SinkSeen) (status wanted : ℕ) (bytes : List ℕ) : Type 0 where
   pub whole : status ≢ 3 → (status ≡ wanted) × Whole sink bytes
   pub part : status ≡ 3 → Part sink bytes
-
--- the line of a run that stops was sent to `err`, for the status of its reason
-abbrev pub Told : SinkSeen → ℕ → Halt → Type 0
-Told err status halt = Sent err status (status_of halt) (line_of halt)

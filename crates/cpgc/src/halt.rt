@@ -1,12 +1,16 @@
 //! Why a run stops without an output.
-ghost use Rattle.std.specs.Prelude.{◌≡◌};
+ghost use Rattle.std.specs.Prelude.{◌≡◌, IfErr};
 ghost use Rattle.cpgc.specs.Lines.{status_of};
-ghost use Rattle.cpgc.specs.Causes.{halt_of};
+ghost use Rattle.cpgc.specs.Halts.{halt_of_reading, halt_of_rules, halt_of_compile};
 
+use cpg_base::{Problem, Scenario};
+use cpg_core::CompileFault;
+use cpg_order::Walk;
 use cpg_reader::{Place, ReadFault, What};
+use cpg_rules::{Admitted, Refused, RuleFault};
 
 /// Why a file or a command is refused. A place or a number is always the first one.
-#[derive(Clone, Copy, Debug, PartialEq, Eq)]
+#[derive(Drop)]
 pub enum Refusal {
     /// The graph file isn't UTF-8, or it is no TOML document.
     NotToml,
@@ -18,14 +22,41 @@ pub enum Refusal {
     UnknownName(Place),
     /// The graph file has more of something than its limit, or a number outside its range.
     OverLimit(What),
+    /// The edges of the graph lead around in a cycle.
+    Cycle {
+        /// The graph.
+        graph: Problem,
+        /// The processes of the cycle, the least first.
+        walk: Walk,
+    },
+    /// Some outcome gives a join of the graph two live inputs.
+    TwoAlternatives {
+        /// The graph.
+        graph: Problem,
+        /// The least such join.
+        process: u32,
+        /// Its least scenario.
+        scenario: Scenario,
+    },
+    /// A node of the graph sends and has no slot.
+    NoSlot {
+        /// The graph.
+        graph: Problem,
+        /// The least such node.
+        node: u32,
+    },
+    /// A message has a size above its sender's slot: the least such edge.
+    TooBig(u32),
     /// The graph file gave more than 16,777,216 bytes.
     LongGraph,
-    /// The command isn't built yet beyond the reading of its files.
+    /// The graph has more than 16,384 tracks.
+    TooManyTracks,
+    /// The command, or this form of graph, isn't built yet.
     NotBuilt,
 }
 
 /// Why a run stops without an output.
-#[derive(Clone, Copy, Debug, PartialEq, Eq)]
+#[derive(Drop)]
 pub enum Halt {
     /// The words have no form.
     Words,
@@ -33,26 +64,46 @@ pub enum Halt {
     Read,
     /// A file or the command is refused.
     Refused(Refusal),
+    /// A process ends past its due.
+    Late {
+        /// The graph.
+        graph: Admitted,
+        /// The least scenario of the greatest excess.
+        scenario: Scenario,
+        /// The least process that has this excess there.
+        process: u32,
+        /// Its end there, in time units.
+        finish: u64,
+    },
+    /// An item is too wide.
+    TooWide {
+        /// The graph.
+        graph: Admitted,
+        /// The least such item.
+        item: u32,
+    },
     /// Want of memory.
     Memory,
 }
 
 impl Halt {
     /// The exit status.
-    pub fn status(self) -> u8
-        ensures { result ≡ status_of self }
+    pub fn status(&self) -> u8
+        ensures { result ≡ status_of self.now }
     {
         match self {
             Halt::Words => 1,
             Halt::Read => 2,
             Halt::Refused(_) => 4,
+            Halt::Late { .. } => 5,
+            Halt::TooWide { .. } => 6,
             Halt::Memory => 8,
         }
     }
 
     /// What a refused reading of a graph file stops a run with.
-    pub fn of_fault(fault: ReadFault) -> Halt
-        ensures { result ≡ halt_of fault }
+    pub fn of_reading(fault: ReadFault) -> Halt
+        ensures { result ≡ halt_of_reading fault }
     {
         match fault {
             ReadFault::NotToml => Halt::Refused(Refusal::NotToml),
@@ -61,6 +112,50 @@ impl Halt {
             ReadFault::UnknownName(place) => Halt::Refused(Refusal::UnknownName(place)),
             ReadFault::OverLimit(what) => Halt::Refused(Refusal::OverLimit(what)),
             ReadFault::OutOfMemory => Halt::Memory,
+        }
+    }
+
+    /// What a graph that breaks a rule stops a run with.
+    pub fn of_rules(refused: Refused) -> Halt
+        ensures { result ≡ halt_of_rules refused.problem refused.fault }
+    {
+        let Refused {
+            problem: graph,
+            fault,
+        } = refused;
+        match fault {
+            RuleFault::Cycle(walk) => Halt::Refused(Refusal::Cycle { graph, walk }),
+            RuleFault::TooManyTracks => Halt::Refused(Refusal::TooManyTracks),
+            RuleFault::TwoAlternatives { process, least } => {
+                Halt::Refused(Refusal::TwoAlternatives {
+                    graph,
+                    process,
+                    scenario: least,
+                })
+            }
+            RuleFault::NoSlot(node) => Halt::Refused(Refusal::NoSlot { graph, node }),
+            RuleFault::TooBig(edge) => Halt::Refused(Refusal::TooBig(edge)),
+            RuleFault::OutOfMemory => Halt::Memory,
+        }
+    }
+
+    /// What a graph that isn't compiled stops a run with.
+    pub fn of_compile(graph: Admitted, fault: CompileFault) -> Halt
+        ensures { result ≡ halt_of_compile graph fault }
+    {
+        match fault {
+            CompileFault::TooWide(item) => Halt::TooWide { graph, item },
+            CompileFault::Late {
+                scenario,
+                process,
+                finish,
+            } => Halt::Late {
+                graph,
+                scenario,
+                process,
+                finish,
+            },
+            CompileFault::OutOfMemory => Halt::Memory,
         }
     }
 }

@@ -1,100 +1,106 @@
 //! The line of a run that stops without an output.
-ghost use Rattle.std.specs.Prelude.{◌≡◌, ◌++◌, OnOk, IfOk, string_bytes};
-ghost use Rattle.cpgc.specs.Lines.{key_text, line_of, place_text, reason_text, refusal_text, refused_text, table_text, what_text};
+ghost use Rattle.std.specs.Prelude.{◌≡◌, ◌<◌, ◌++◌, OnOk, IfOk, codes, string_bytes};
+ghost use Rattle.cpg_base.specs.Graph.{item_count};
+ghost use Rattle.cpgc.specs.Lines.{case_text, item_text, late_text, line_of, name_of, reason_text, IsNamed, HasLengths};
 
-use crate::halt::{Halt, Refusal};
-use cpg_reader::{Key, Place, Table, What};
+use crate::halt::Halt;
+use crate::refusals::write_refused;
+use cpg_base::{OutOfMemory, Problem, Scenario};
+use cpg_scenario::scenario_text;
 use std::alloc::{AllocError, Global};
 
-fn key_text(key: Key) -> &'static str
-    ensures { result.now ≡ key_text key }
+/// The name of a process, or nothing where there is no such process.
+pub fn name_of(problem: &Problem, process: u32) -> &str
+    ensures { result.now ≡ name_of problem.now process }
 {
-    match key {
-        Key::Unknown => "unknown",
-        _ => key.text(),
+    match problem.processes().get(process as usize) {
+        Some(process) => process.name.as_str(),
+        None => "",
     }
 }
 
-fn write_table(out: &mut String, table: Table, index: u64) -> Result<(), AllocError>
-    ensures { OnOk result (string_bytes out.new ≡ string_bytes out.old ++ table_text table index) }
+/// A process and a scenario.
+pub fn write_case(
+    out: &mut String,
+    problem: &Problem,
+    process: u32,
+    scenario: &Scenario,
+) -> Result<(), OutOfMemory>
+    requires { HasLengths problem.now scenario.now }
+    ensures { OnOk result (string_bytes out.new ≡ string_bytes out.old ++ case_text problem.now process scenario.now) }
 {
-    match table {
-        Table::Top => out.push_str("top"),
-        Table::Node => write!(out, "node {index}"),
-        Table::Slot => write!(out, "slot {index}"),
-        Table::Process => write!(out, "process {index}"),
-        Table::Edge => write!(out, "edge {index}"),
+    let name = name_of(problem, process);
+    let text = scenario_text(*out.allocator(), problem, scenario)?;
+    write!(out, "{name} in {text}")?;
+    Ok(())
+}
+
+/// A process's end past its due.
+fn write_late(
+    out: &mut String,
+    problem: &Problem,
+    scenario: &Scenario,
+    process: u32,
+    finish: u64,
+) -> Result<(), OutOfMemory>
+    requires { HasLengths problem.now scenario.now }
+    ensures { OnOk result (string_bytes out.new ≡ string_bytes out.old ++ late_text problem.now scenario.now process finish) }
+{
+    write!(out, "late {finish} by ")?;
+    write_case(out, problem, process, scenario)
+}
+
+/// An item: what starts, is sent or is told.
+fn write_item(out: &mut String, problem: &Problem, item: u32) -> Result<(), AllocError>
+    requires { item < item_count problem.now }
+    ensures { OnOk result (string_bytes out.new ≡ string_bytes out.old ++ item_text problem.now item) }
+{
+    let messages = problem.processes().len() as u32;
+    let broadcasts = messages + problem.edges().len() as u32;
+    if item < messages {
+        let name = name_of(problem, item);
+        return write!(out, "start {name}");
     }
-}
-
-fn write_place(out: &mut String, place: Place) -> Result<(), AllocError>
-    ensures { OnOk result (string_bytes out.new ≡ string_bytes out.old ++ place_text place) }
-{
-    write_table(out, place.table, place.index)?;
-    let key = key_text(place.key);
-    write!(out, " {key}")
-}
-
-fn write_what(out: &mut String, what: What) -> Result<(), AllocError>
-    ensures { OnOk result (string_bytes out.new ≡ string_bytes out.old ++ what_text what) }
-{
-    match what {
-        What::Nodes => out.push_str("nodes"),
-        What::Slots => out.push_str("slots"),
-        What::Processes => out.push_str("processes"),
-        What::Edges => out.push_str("edges"),
-        What::Number(place) => write_place(out, place),
-        What::Conditions => out.push_str("conditions"),
+    if item < broadcasts {
+        let edge = item - messages;
+        return write!(out, "send e{edge}");
     }
+    let name = name_of(problem, problem.process_of(item - broadcasts));
+    write!(out, "tell {name}")
 }
 
-fn write_refusal(out: &mut String, refusal: Refusal) -> Result<(), AllocError>
-    ensures { OnOk result (string_bytes out.new ≡ string_bytes out.old ++ refusal_text refusal) }
+fn write_wide(out: &mut String, problem: &Problem, item: u32) -> Result<(), AllocError>
+    requires { item < item_count problem.now }
+    ensures { OnOk result (string_bytes out.new ≡ string_bytes out.old ++ (codes "too wide " ++ item_text problem.now item)) }
 {
-    match refusal {
-        Refusal::NotToml => out.push_str("1 not toml"),
-        Refusal::BadField(place) => {
-            out.push_str("2 field ")?;
-            write_place(out, place)
-        }
-        Refusal::DoubleName(place) => {
-            out.push_str("3 double ")?;
-            write_place(out, place)
-        }
-        Refusal::UnknownName(place) => {
-            out.push_str("4 unknown ")?;
-            write_place(out, place)
-        }
-        Refusal::OverLimit(what) => {
-            out.push_str("5 limit ")?;
-            write_what(out, what)
-        }
-        Refusal::LongGraph => out.push_str("16 long graph"),
-        Refusal::NotBuilt => out.push_str("20 not built"),
-    }
+    out.push_str("too wide ")?;
+    write_item(out, problem, item)
 }
 
-fn write_refused(out: &mut String, refusal: Refusal) -> Result<(), AllocError>
-    ensures { OnOk result (string_bytes out.new ≡ string_bytes out.old ++ refused_text refusal) }
-{
-    write!(out, "refused ")?;
-    write_refusal(out, refusal)
-}
-
-fn write_reason(out: &mut String, halt: Halt) -> Result<(), AllocError>
-    ensures { OnOk result (string_bytes out.new ≡ string_bytes out.old ++ reason_text halt) }
+fn write_reason(out: &mut String, halt: &Halt) -> Result<(), OutOfMemory>
+    requires { IsNamed halt.now }
+    ensures { OnOk result (string_bytes out.new ≡ string_bytes out.old ++ reason_text halt.now) }
 {
     match halt {
-        Halt::Words => out.push_str("words"),
-        Halt::Read => out.push_str("read fault"),
-        Halt::Refused(refusal) => write_refused(out, refusal),
-        Halt::Memory => out.push_str("memory"),
+        Halt::Words => out.push_str("words")?,
+        Halt::Read => out.push_str("read fault")?,
+        Halt::Refused(refusal) => write_refused(out, refusal)?,
+        Halt::Late {
+            graph,
+            scenario,
+            process,
+            finish,
+        } => write_late(out, graph.problem(), scenario, *process, *finish)?,
+        Halt::TooWide { graph, item } => write_wide(out, graph.problem(), *item)?,
+        Halt::Memory => out.push_str("memory")?,
     }
+    Ok(())
 }
 
 /// The line, with its line feed.
-pub fn line(alloc: Global, halt: Halt) -> Result<String, AllocError>
-    ensures { IfOk result (λ text. string_bytes text ≡ line_of halt) }
+pub fn line(alloc: Global, halt: &Halt) -> Result<String, OutOfMemory>
+    requires { IsNamed halt.now }
+    ensures { IfOk result (λ text. string_bytes text ≡ line_of halt.now) }
 {
     let mut text = String::new(alloc);
     text.push_str("cpgc: ")?;

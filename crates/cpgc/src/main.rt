@@ -1,11 +1,17 @@
 //! `cpgc`, a design-time scheduler for time-triggered controllers.
 #![tactic(auto)]
 
+ghost use Rattle.std.specs.Prelude.{IfErr};
+ghost use Rattle.cpgc.specs.Lines.{IsNamed};
+
 mod answer;
 mod commands;
 mod halt;
 mod lines;
+mod refusals;
 mod run;
+#[cfg(test)]
+mod tests;
 
 use crate::halt::Halt;
 use cpg_io::{FileShelf, StreamSink};
@@ -13,7 +19,9 @@ use std::io::ErrorKind;
 use std::process::ExitCode;
 
 /// The words after the program's name, or why there are none: one isn't UTF-8, or memory ran out.
-fn words(rt: &HostRuntime) -> Result<Vec<String>, Halt> {
+fn words(rt: &HostRuntime) -> Result<Vec<String>, Halt>
+    ensures { IfErr result IsNamed }
+{
     let args = match std::env::args(rt) {
         Ok(args) => args,
         Err(error) => {
@@ -35,7 +43,7 @@ fn status(rt: &HostRuntime) -> u8 {
             let mut shelf = FileShelf::new(rt);
             run::run(rt.alloc(), words.as_slice(), &mut shelf, &mut out, &mut err)
         }
-        Err(halt) => answer::stop(rt.alloc(), halt, &mut err),
+        Err(halt) => answer::stop(rt.alloc(), &halt, &mut err),
     }
 }
 

@@ -1,27 +1,44 @@
-use Rattle.std.proofs.Common.{inl, inr, map, string_bytes}
+use Rattle.std.proofs.Common.{List, map, string_bytes, subst, inl, inr}
+use Rattle.std.proofs.KnownBytes.{Keeps-refl}
 use Rattle.cpgc.specs.declared.halt.Halt.TheVariants.{Memory}
-use Rattle.cpgc.proofs.Memory.{memory_stops}
-use Rattle.cpgc.proofs.Stopped.{words_told, read_told, refused_told, formless_told, write_told}
-use Rattle.cpg_words.specs.Forms.{command_of}
+use Rattle.cpgc.specs.Endings.{Ran}
+use Rattle.cpgc.specs.Told.{Sent}
+use Rattle.cpgc.proofs.MemoryStops.{memory_stops}
+use Rattle.cpgc.proofs.Named.{stops_named}
+use Rattle.cpgc.proofs.Shown.{lawful_with, lawful_by}
+use Rattle.cpgc.proofs.Written.{printed, stopped}
 use Rattle.cpgc.proofs.run.run.Goals as goal
 
-pub returns-clause-told : goal.returns-clause-told
-returns-clause-told g c = elim c.stop.ensures [
-  | inl t ↦ (c.halt-halt.result, c.halt-halt.ensures, t)
-  | inr t ↦ (Memory, memory_stops (record { stands = g.S.Shelf.stands c.args.shelf.now; given = g.S.Shelf.given c.halt-halt.new.shelf; before = g.S.Shelf.faults c.args.shelf.now; now = g.S.Shelf.faults c.halt-halt.new.shelf }) (map string_bytes c.args.words.now), t)
-]
+pub stop-requires : goal.stop-requires
+stop-requires g c =
+    stops_named (record { stands = g.S.Shelf.stands c.args.shelf.now; given = g.S.Shelf.given c.output.new.shelf; before = g.S.Shelf.faults c.args.shelf.now; now = g.S.Shelf.faults c.output.new.shelf })
+    (map string_bytes c.args.words.now) c.in-Err.halt c.in-Err.ensures.halt
 
-pub returns-clause-words : goal.returns-clause-words
-returns-clause-words g c = words_told (record { stands = g.S.Shelf.stands c.args.shelf.now; given = g.S.Shelf.given c.halt-halt.new.shelf; before = g.S.Shelf.faults c.args.shelf.now; now = g.S.Shelf.faults c.halt-halt.new.shelf }) (command_of (map string_bytes c.args.words.now)) (record { before = g.E.Sink.faults c.args.err.now; now = g.E.Sink.faults c.stop.new.err; old = g.E.Sink.taken c.args.err.now; new = g.E.Sink.taken c.stop.new.err }) c.stop.result (returns-clause-told g c)
+pub returns-in-Ok : goal.returns-in-Ok
+returns-in-Ok g c =
+    let r : Ran = record {
+      words = map string_bytes c.args.words.now;
+      shelf = record { stands = g.S.Shelf.stands c.args.shelf.now; given = g.S.Shelf.given c.output.new.shelf; before = g.S.Shelf.faults c.args.shelf.now; now = g.S.Shelf.faults c.output.new.shelf };
+      out = record { before = g.O.Sink.faults c.args.out.now; now = g.O.Sink.faults c.print.new.out; old = g.O.Sink.taken c.args.out.now; new = g.O.Sink.taken c.print.new.out };
+      err = record { before = g.E.Sink.faults c.args.err.now; now = g.E.Sink.faults c.print.new.err; old = g.E.Sink.taken c.args.err.now; new = g.E.Sink.taken c.print.new.err };
+      status = c.print.result;
+    } in
+    let text = string_bytes c.in-Ok.text in
+    lawful_with r text (record {
+      prints = c.in-Ok.ensures.text;
+      ending = printed r text (subst (Sent r.out r.status 0) c.as_str.ensures.value c.print.ensures.out) c.print.ensures.quiet c.print.ensures.told;
+    })
 
-pub returns-clause-read : goal.returns-clause-read
-returns-clause-read g c = read_told (record { stands = g.S.Shelf.stands c.args.shelf.now; given = g.S.Shelf.given c.halt-halt.new.shelf; before = g.S.Shelf.faults c.args.shelf.now; now = g.S.Shelf.faults c.halt-halt.new.shelf }) (command_of (map string_bytes c.args.words.now)) (record { before = g.E.Sink.faults c.args.err.now; now = g.E.Sink.faults c.stop.new.err; old = g.E.Sink.taken c.args.err.now; new = g.E.Sink.taken c.stop.new.err }) c.stop.result (returns-clause-told g c)
-
-pub returns-clause-refused : goal.returns-clause-refused
-returns-clause-refused g c = refused_told (record { stands = g.S.Shelf.stands c.args.shelf.now; given = g.S.Shelf.given c.halt-halt.new.shelf; before = g.S.Shelf.faults c.args.shelf.now; now = g.S.Shelf.faults c.halt-halt.new.shelf }) (command_of (map string_bytes c.args.words.now)) (record { before = g.E.Sink.faults c.args.err.now; now = g.E.Sink.faults c.stop.new.err; old = g.E.Sink.taken c.args.err.now; new = g.E.Sink.taken c.stop.new.err }) c.stop.result (returns-clause-told g c)
-
-pub returns-clause-formless : goal.returns-clause-formless
-returns-clause-formless g c = formless_told (record { stands = g.S.Shelf.stands c.args.shelf.now; given = g.S.Shelf.given c.halt-halt.new.shelf; before = g.S.Shelf.faults c.args.shelf.now; now = g.S.Shelf.faults c.halt-halt.new.shelf }) (command_of (map string_bytes c.args.words.now)) (record { before = g.E.Sink.faults c.args.err.now; now = g.E.Sink.faults c.stop.new.err; old = g.E.Sink.taken c.args.err.now; new = g.E.Sink.taken c.stop.new.err }) c.stop.result (returns-clause-told g c)
-
-pub returns-clause-write : goal.returns-clause-write
-returns-clause-write g c = write_told (record { stands = g.S.Shelf.stands c.args.shelf.now; given = g.S.Shelf.given c.halt-halt.new.shelf; before = g.S.Shelf.faults c.args.shelf.now; now = g.S.Shelf.faults c.halt-halt.new.shelf }) (command_of (map string_bytes c.args.words.now)) (record { before = g.E.Sink.faults c.args.err.now; now = g.E.Sink.faults c.stop.new.err; old = g.E.Sink.taken c.args.err.now; new = g.E.Sink.taken c.stop.new.err }) c.stop.result (returns-clause-told g c)
+pub returns-in-Err : goal.returns-in-Err
+returns-in-Err g c =
+    let r : Ran = record {
+      words = map string_bytes c.args.words.now;
+      shelf = record { stands = g.S.Shelf.stands c.args.shelf.now; given = g.S.Shelf.given c.output.new.shelf; before = g.S.Shelf.faults c.args.shelf.now; now = g.S.Shelf.faults c.output.new.shelf };
+      out = record { before = g.O.Sink.faults c.args.out.now; now = g.O.Sink.faults c.args.out.now; old = g.O.Sink.taken c.args.out.now; new = g.O.Sink.taken c.args.out.now };
+      err = record { before = g.E.Sink.faults c.args.err.now; now = g.E.Sink.faults c.stop.new.err; old = g.E.Sink.taken c.args.err.now; new = g.E.Sink.taken c.stop.new.err };
+      status = c.stop.result;
+    } in
+    elim c.stop.ensures [
+      | inl sent ↦ lawful_by r c.in-Err.halt (record { stops = c.in-Err.ensures.halt; ending = stopped r c.in-Err.halt (Keeps-refl (g.O.Sink.taken c.args.out.now)) sent })
+      | inr sent ↦ lawful_by r Memory (record { stops = memory_stops r.shelf r.words; ending = stopped r Memory (Keeps-refl (g.O.Sink.taken c.args.out.now)) sent })
+    ]

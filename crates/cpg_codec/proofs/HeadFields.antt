@@ -1,0 +1,353 @@
+-- The fields of a head.
+use Rattle.std.proofs.Common.{◌≡◌, ℕ, zero, suc, ◌+◌, ◌-◌, ◌^◌, ◌<◌, ◌≤◌, Bool, true, false, cond, eqb, ltb, List, [], ◌∷◌, ◌++◌, length, Option, Some, None, refl, sym, ap, subst, ◌∙◌, append_assoc, arith, inl, inr, ◌⊎◌, ◌↔◌}
+use Rattle.std.specs.Prelude.{IfSome, IsTrue, unwrap_or}
+use Rattle.std.specs.List.{flat_map, AllByRecursion}
+use Rattle.std.specs.Int.{w16, w32, w64, to_be_bytes}
+use Rattle.std.proofs.lemmas.Bool.{eqb-true, ne_eqb, ltb-true, ltb-false, cases_Bool, or_cases, or_left, or_right}
+use Rattle.std.proofs.lemmas.List.{append-nil}
+use Rattle.std.proofs.lemmas.List.Elements.{All-from_recursion, recursion_from_All}
+use Rattle.cpg_base.specs.Name.{IsName, is_name_byte}
+use Rattle.cpg_table.specs.Head.{Head, IsHeadEdge, version_of}
+use Rattle.cpg_table.specs.declared.head_parts.Extra.{Extra}
+use Rattle.cpg_codec.specs.Reading.{byte_by, within, down}
+use Rattle.cpg_codec.specs.Spelling.{Written, written, magic, bit, byte, name_bytes, own_number, extra_bytes, process_bytes, edge_bytes, head_bytes}
+use Rattle.cpg_codec.specs.Grammar.{name_at, time_at, own_may, own_at, extra_at, place_at, process_at, processes_at, edge_at, limit, head_from, head_at}
+use Rattle.cpg_codec.specs.Packs.{IsPackHead}
+use Rattle.cpg_codec.proofs.Laws.{Reads, pure_reads, seq, adapt, byte_reads}
+use Rattle.cpg_codec.proofs.Numbers.{IsChoice, within_chooses, number_reads, field_reads, small_reads}
+use Rattle.cpg_codec.proofs.Lists.{each_reads, times_reads, down_is}
+use Rattle.cpg_codec.proofs.WrittenHeads.{IsExtraOf, IsWritten, none_of, AreProcesses, version_made, written_made, made_lawful, written_count, head_again, head_processes, version_within, limit_some, limit_most, processes_limit, edges_limit}
+
+-- ---- names
+
+singles : (bs : List ℕ) → flat_map (λ (b : ℕ). b ∷ []) bs ≡ bs
+singles [] = refl
+singles (b ∷ bs) = ap (λ (t : List ℕ). b ∷ t) (singles bs)
+
+pub name_reads : Reads IsName name_bytes name_at
+unfolding name_at
+name_reads =
+    adapt
+    (seq length (small_reads 1 32 (omega arith) (omega arith))
+    (λ c fc. times_reads (λ b. is_name_byte b ≡ true) (λ b. b ∷ []) (byte_by is_name_byte) c (λ _. byte_reads is_name_byte 65 refl))
+    (λ c x fc fx. fx.0))
+    (λ x h. record { some = h.0.0; short = h.0.1; plain = All-from_recursion (λ (b : ℕ). IsTrue (is_name_byte b)) x h.1.1 })
+    (λ x h. ((h.some, h.short), (refl, recursion_from_All (λ (b : ℕ). IsTrue (is_name_byte b)) x h.plain)))
+    (λ x h. ap (λ (t : List ℕ). length x ∷ t) (singles x))
+
+-- ---- numbers of eight bytes
+
+pub time_reads : Reads (λ t. t < 2 ^ 60) (to_be_bytes w64) time_at
+unfolding time_at
+time_reads = adapt (field_reads 8 0 1152921504606846975 (omega arith) (omega arith)) (λ t h. omega (arith, h.1)) (λ t h. (omega arith, omega arith)) (λ t h. refl)
+
+abbrev pub IsOwn : Option ℕ → Type 0
+IsOwn o = IfSome o (λ (d : ℕ). d ≤ 1000000000)
+
+Owned : ℕ → Type 0
+Owned n = ((0 ≤ n) × (n ≤ 1000000000)) ⊎ ((18446744073709551615 ≤ n) × (n ≤ 18446744073709551615))
+
+own_chooses : IsChoice Owned own_may
+unfolding Owned
+own_chooses = record {
+  found = λ from below lt e. elim (or_cases (within 0 1000000000 from below) (within 18446744073709551615 18446744073709551615 from below) e) [
+    | inl h ↦ let f = (within_chooses 0 1000000000 (omega arith)).found from below lt h in (f.0, f.1, f.2, inl f.3)
+    | inr h ↦ let f = (within_chooses 18446744073709551615 18446744073709551615 (omega arith)).found from below lt h in (f.0, f.1, f.2, inr f.3)
+  ];
+  all = λ from below n a b l. elim l [
+    | inl h ↦ or_left (within 0 1000000000 from below) (within 18446744073709551615 18446744073709551615 from below) ((within_chooses 0 1000000000 (omega arith)).all from below n a b h)
+    | inr h ↦ or_right (within 0 1000000000 from below) (within 18446744073709551615 18446744073709551615 from below) ((within_chooses 18446744073709551615 18446744073709551615 (omega arith)).all from below n a b h)
+  ];
+}
+
+owned_fits : (n : ℕ) → Owned n → n < 256 ^ 8
+unfolding Owned
+owned_fits n (inl h) = omega (arith, h.1)
+owned_fits n (inr h) = omega (arith, h.1)
+
+abbrev chosen : ℕ → Option ℕ
+chosen n = cond (eqb n 18446744073709551615) None (Some n)
+
+chosen_back : (n : ℕ) → own_number (chosen n) ≡ n
+chosen_back n = elim (cases_Bool (eqb n 18446744073709551615)) [
+  | inl h ↦ rw h (sym (eqb-true n 18446744073709551615 h))
+  | inr h ↦ rw h refl
+]
+
+own_to : (o : Option ℕ) → Owned (own_number o) → o ≡ chosen (own_number o) → IsOwn o
+unfolding Owned
+own_to None h e = tt
+own_to (Some d) (inl h) e = h.1
+own_to (Some d) (inr h) e = let k : d ≡ 18446744073709551615 = omega (arith, h.0, h.1) in absurd (let q : Some d ≡ None = e ∙ rw k refl in cc)
+
+own_from : (o : Option ℕ) → IsOwn o → Owned (own_number o) × (o ≡ chosen (own_number o))
+unfolding Owned
+own_from None h = (inr (omega arith, omega arith), refl)
+own_from (Some d) h = (inl (omega arith, h), let k : eqb d 18446744073709551615 ≡ false = ne_eqb d 18446744073709551615 (λ e. omega arith) in rw k refl)
+
+owned_zero : Owned 0
+unfolding Owned
+owned_zero = inl (omega arith, omega arith)
+
+pub own_reads : Reads IsOwn (λ o. to_be_bytes w64 (own_number o)) own_at
+unfolding own_at
+own_reads =
+    adapt
+    (seq own_number (number_reads Owned own_may own_chooses 8 0 owned_zero owned_fits) (λ n fn. pure_reads (chosen n)) (λ n o fn e. ap own_number e ∙ chosen_back n))
+    (λ o h. own_to o h.0 h.1) own_from (λ o h. append-nil (to_be_bytes w64 (own_number o)))
+
+-- ---- what version 2 adds
+
+abbrev release_of : Option Extra → ℕ
+release_of None = 0
+release_of (Some e) = e.release
+
+abbrev deadline_of : Option Extra → Option ℕ
+deadline_of None = None
+deadline_of (Some e) = e.deadline
+
+abbrev make_extra : ℕ → Option ℕ → Option Extra
+make_extra r d = Some (record { release = r; deadline = d })
+
+extra_some_to : (x : Option Extra) → ((0 ≤ release_of x) × (release_of x ≤ 1000000000)) × (IsOwn (deadline_of x) × (x ≡ make_extra (release_of x) (deadline_of x))) → IsExtraOf 2 x
+extra_some_to None h = absurd (let e : None ≡ make_extra 0 None = h.1.1 in cc)
+extra_some_to (Some e) h = (refl, record { release = h.0.1; deadline = h.1.0 })
+
+extra_some_from : (x : Option Extra) → IsExtraOf 2 x → ((0 ≤ release_of x) × (release_of x ≤ 1000000000)) × (IsOwn (deadline_of x) × (x ≡ make_extra (release_of x) (deadline_of x)))
+extra_some_from None h = absurd (omega (arith, h))
+extra_some_from (Some e) h = ((omega arith, h.1.release), (h.1.deadline, refl))
+
+extra_some_spell : (x : Option Extra) → IsExtraOf 2 x → to_be_bytes w64 (release_of x) ++ (to_be_bytes w64 (own_number (deadline_of x)) ++ []) ≡ extra_bytes x
+extra_some_spell None h = absurd (omega (arith, h))
+extra_some_spell (Some e) h = ap (λ (t : List ℕ). to_be_bytes w64 e.release ++ t) (append-nil (to_be_bytes w64 (own_number e.deadline)))
+
+extra_none_to : (x : Option Extra) → x ≡ None → IsExtraOf 1 x
+extra_none_to x e = rw e refl
+
+extra_two : Reads (IsExtraOf 2) extra_bytes (extra_at 2)
+unfolding extra_at
+extra_two =
+    adapt
+    (seq release_of (field_reads 8 0 1000000000 (omega arith) (omega arith))
+    (λ r fr. seq deadline_of own_reads (λ d fd. pure_reads (make_extra r d)) (λ d x fd e. ap deadline_of e))
+    (λ r x fr h. ap release_of h.1))
+    extra_some_to extra_some_from extra_some_spell
+
+extra_one : Reads (IsExtraOf 1) extra_bytes (extra_at 1)
+unfolding extra_at
+extra_one = adapt (pure_reads None) extra_none_to none_of (λ x h. ap extra_bytes (sym (none_of x h)))
+
+pub extra_reads : (version : ℕ) → 1 ≤ version → version ≤ 2 → Reads (IsExtraOf version) extra_bytes (extra_at version)
+extra_reads zero a b = absurd (omega arith)
+extra_reads (suc zero) a b = extra_one
+extra_reads (suc (suc zero)) a b = extra_two
+extra_reads (suc (suc (suc n))) a b = absurd (omega arith)
+
+-- ---- processes
+
+regroup_5 : (a b c d e : List ℕ) → a ++ (b ++ (c ++ (d ++ (e ++ [])))) ≡ a ++ b ++ c ++ d ++ e
+regroup_5 a b c d e = simp (append_assoc, append-nil)
+
+regroup_9 : (a b c d e f g h i : List ℕ) → a ++ (b ++ (c ++ (d ++ (e ++ (f ++ (g ++ (h ++ (i ++ [])))))))) ≡ a ++ b ++ c ++ d ++ e ++ f ++ g ++ h ++ i
+regroup_9 a b c d e f g h i = simp (append_assoc, append-nil)
+
+flag_is : (b : Bool) → eqb (bit b) 1 ≡ b
+flag_is true = refl
+flag_is false = refl
+
+flag_back : (n m : ℕ) → n ≤ cond (ltb m 32) 1 0 → bit (eqb n 1) ≡ n
+flag_back zero m h = refl
+flag_back (suc zero) m h = refl
+flag_back (suc (suc n)) m h = absurd (flag_below (ltb m 32) n h) where
+  flag_below : (t : Bool) (n : ℕ) → suc (suc n) ≤ cond t 1 0 → ⊥
+  flag_below true n h = omega arith
+  flag_below false n h = omega arith
+
+flag_limit : (ones : ℕ) (b : Bool) → ones ≤ 32 → (bit b ≤ cond (ltb ones 32) 1 0) ↔ (ones + bit b ≤ 32)
+flag_limit ones b le = elim (cases_Bool (ltb ones 32)) [
+  | inl h ↦ let k = ltb-true ones 32 h in rw h (λ _. flag_sum b k, λ _. flag_one b)
+  | inr h ↦ let k = ltb-false ones 32 h in rw h (λ z. omega arith, λ z. omega arith)
+] where
+  flag_sum : (b : Bool) → ones < 32 → ones + bit b ≤ 32
+  flag_sum true k = omega arith
+  flag_sum false k = omega arith
+
+  flag_one : (b : Bool) → bit b ≤ 1
+  flag_one true = omega arith
+  flag_one false = omega arith
+
+flag_end : (ones : ℕ) → cond (ltb ones 32) 1 0 < 256
+flag_end ones = elim (cases_Bool (ltb ones 32)) [
+  | inl h ↦ rw h (omega arith)
+  | inr h ↦ rw h (omega arith)
+]
+
+abbrev make_process : List ℕ → ℕ → ℕ → List ℕ → Option Extra → Written
+make_process n a c ts e = record { process = record { name = n; node = a; condition = eqb c 1; times = ts }; extra = e }
+
+same_process : (w : Written) → w ≡ make_process w.process.name w.process.node (bit w.process.condition) w.process.times w.extra
+same_process w = ap (λ (c : Bool). record { process = record { name = w.process.name; node = w.process.node; condition = c; times = w.process.times }; extra = w.extra }) (sym (flag_is w.process.condition))
+
+-- a process behind `ones` processes with a condition
+abbrev pub FitsBehind : ℕ → ℕ → ℕ → ℕ → Written → Type 0
+FitsBehind version faults nodes ones w = IsWritten version faults nodes w × (ones + bit w.process.condition ≤ 32)
+
+pub place_reads : (nodes ones : ℕ) → 0 < nodes → nodes ≤ 256 → Reads (λ (p : ℕ × ℕ). (p.0 ≤ nodes - 1) × (p.1 ≤ cond (ltb ones 32) 1 0)) (λ (p : ℕ × ℕ). byte p.0 ++ byte p.1) (place_at nodes ones)
+unfolding place_at
+place_reads nodes ones some few =
+    adapt
+    (seq (λ (p : ℕ × ℕ). p.0) (small_reads 0 (nodes - 1) (omega arith) (omega arith))
+    (λ a fa. seq (λ (p : ℕ × ℕ). p.1) (small_reads 0 (cond (ltb ones 32) 1 0) (omega arith) (flag_end ones))
+    (λ c fc. pure_reads (a, c))
+    (λ c p fc h. ap (λ (q : ℕ × ℕ). q.1) h))
+    (λ a p fa h. ap (λ (q : ℕ × ℕ). q.0) h.1))
+    (λ p h. (h.0.1, h.1.0.1))
+    (λ p h. ((omega arith, h.0), ((omega arith, h.1), refl)))
+    (λ p h. refl)
+
+pub process_reads : (version faults nodes ones : ℕ) → 1 ≤ version → version ≤ 2 → 0 < nodes → nodes ≤ 16 → ones ≤ 32 → Reads (FitsBehind version faults nodes ones) process_bytes (process_at version faults nodes ones)
+unfolding process_at
+process_reads version faults nodes ones v1 v2 some few le =
+    adapt
+    (seq (λ (w : Written). w.process.name) name_reads
+    (λ n fn. seq (λ (w : Written). (w.process.node, bit w.process.condition)) (place_reads nodes ones some (omega arith))
+    (λ a fa. seq (λ (w : Written). w.process.times) (times_reads (λ t. t < 2 ^ 60) (to_be_bytes w64) time_at (faults + 1) (λ _. time_reads))
+    (λ ts fts. seq (λ (w : Written). w.extra) (extra_reads version v1 v2)
+    (λ e fe. pure_reads (make_process n a.0 a.1 ts e))
+    (λ e w fe h. ap (λ (q : Written). q.extra) h))
+    (λ ts w fts h. ap (λ (q : Written). q.process.times) h.1))
+    (λ a w fa h. ap (λ (q : Written). (q.process.node, bit q.process.condition)) h.1.1 ∙ ap (λ (c : ℕ). (a.0, c)) (flag_back a.1 ones fa.1)))
+    (λ n w fn h. ap (λ (q : Written). q.process.name) h.1.1.1))
+    (λ w h. (record { process = record { node = omega (arith, h.1.0.0); count = h.1.1.0.0; times = All-from_recursion (λ (t : ℕ). t < 2 ^ 60) w.process.times h.1.1.0.1 }; name = h.0; extra = h.1.1.1.0 }, (flag_limit ones w.process.condition le).0 h.1.0.1))
+    (λ w h. (h.0.name, ((omega (arith, h.0.process.node), (flag_limit ones w.process.condition le).1 h.1), ((h.0.process.count, recursion_from_All (λ (t : ℕ). t < 2 ^ 60) w.process.times h.0.process.times), (h.0.extra, same_process w)))))
+    (λ w h. regroup_5 (name_bytes w.process.name) (byte w.process.node) (byte (bit w.process.condition)) (flat_map (to_be_bytes w64) w.process.times) (extra_bytes w.extra))
+
+pub processes_reads : (version faults nodes count : ℕ) → 1 ≤ version → version ≤ 2 → nodes ≤ 16 → count ≤ limit nodes 128 → Reads (AreProcesses version faults nodes count 0) (flat_map process_bytes) (processes_at version faults nodes count)
+unfolding processes_at
+processes_reads version faults nodes count v1 v2 few le =
+    adapt
+    (each_reads (λ (ones : ℕ) (w : Written). ones + bit w.process.condition) (λ (left : ℕ) ones. process_at version faults nodes ones)
+    (λ ls ones. (ones ≤ 32) × (0 < length ls → 0 < nodes)) (λ l ls ones. FitsBehind version faults nodes ones) process_bytes (λ ls ones ws. AreProcesses version faults nodes (length ls) ones ws)
+    (λ l ls ones i. process_reads version faults nodes ones v1 v2 (i.1 (omega arith)) few i.0)
+    (λ l ls ones w i f. (f.1, λ h. i.1 (omega arith)))
+    (λ ones i. record { count_is = refl; each = tt; conditions = omega (arith, i.0) })
+    (λ ones w ws g. absurd (let h : suc (length ws) ≡ 0 = g.count_is in omega arith))
+    (λ l ls ones g. absurd (let h : 0 ≡ suc (length ls) = g.count_is in omega arith))
+    (λ l ls ones w ws i f g. record { count_is = ap suc g.count_is; each = (f.0, g.each); conditions = omega (arith, g.conditions) })
+    (λ l ls ones w ws i g. let h : suc (length ws) ≡ suc (length ls) = g.count_is in ((g.each.0, omega (arith, g.conditions)), record { count_is = omega arith; each = g.each.1; conditions = omega (arith, g.conditions) }))
+    (down count) 0 (omega arith, λ h. limit_some nodes 128 count le (omega (arith, down_is count))))
+    (λ ws g. record { count_is = g.count_is ∙ down_is count; each = g.each; conditions = g.conditions })
+    (λ ws g. record { count_is = g.count_is ∙ sym (down_is count); each = g.each; conditions = g.conditions })
+    (λ ws g. refl)
+
+-- ---- edges
+
+pub edge_reads : (processes : ℕ) → 0 < processes → processes ≤ 256 → Reads (IsHeadEdge processes) edge_bytes (edge_at processes)
+unfolding edge_at
+edge_reads processes some few =
+    adapt
+    (seq (λ (e : ℕ × ℕ). e.0) (small_reads 0 (processes - 1) (omega arith) (omega arith))
+    (λ f ff. seq (λ (e : ℕ × ℕ). e.1) (small_reads 0 (processes - 1) (omega arith) (omega arith))
+    (λ t ft. pure_reads (f, t))
+    (λ t e ft h. ap (λ (q : ℕ × ℕ). q.1) h))
+    (λ f e ff h. ap (λ (q : ℕ × ℕ). q.0) h.1))
+    (λ e h. record { from = omega (arith, h.0.1); to = omega (arith, h.1.0.1) })
+    (λ e h. ((omega arith, omega (arith, h.from)), ((omega arith, omega (arith, h.to)), refl)))
+    (λ e h. refl)
+
+-- ---- the head
+
+head_spell : (h : Head) → to_be_bytes w32 magic ++ (byte (version_of h) ++ (byte h.faults ++ (byte (length h.nodes) ++ (flat_map name_bytes h.nodes ++ (byte (length h.processes) ++ (flat_map process_bytes (written h) ++ (to_be_bytes w16 (length h.edges) ++ (flat_map edge_bytes h.edges ++ [])))))))) ≡ head_bytes h
+head_spell h = regroup_9 (to_be_bytes w32 magic) (byte (version_of h)) (byte h.faults) (byte (length h.nodes)) (flat_map name_bytes h.nodes) (byte (length h.processes)) (flat_map process_bytes (written h)) (to_be_bytes w16 (length h.edges)) (flat_map edge_bytes h.edges)
+
+written_is : (h : Head) → length (written h) ≡ length h.processes
+written_is h = written_count h.processes (unwrap_or h.extras [])
+
+-- the fields in their order, as they stand in a head
+record Parts (h : Head) : Type 0 where
+  version : (1 ≤ version_of h) × (version_of h ≤ 2)
+  faults : h.faults ≤ 8
+  few_nodes : length h.nodes ≤ 16
+  nodes : AllByRecursion IsName h.nodes
+  few : length h.processes ≤ limit (length h.nodes) 128
+  processes : AreProcesses (version_of h) h.faults (length h.nodes) (length h.processes) 0 (written h)
+  few_edges : length h.edges ≤ limit (length h.processes) 256
+  edges : AllByRecursion (IsHeadEdge (length h.processes)) h.edges
+  same : h ≡ head_from (version_of h) h.faults h.nodes (written h) h.edges
+
+from_parts : (h : Head) → Parts h → IsPackHead h
+from_parts h p =
+    let n = written_is h in
+    subst IsPackHead (sym p.same)
+    (made_lawful (version_of h) h.faults h.nodes (written h) h.edges p.version.1 p.faults p.few_nodes p.nodes (omega (arith, n, p.few, limit_most (length h.nodes) 128))
+    (subst (λ (c : ℕ). AreProcesses (version_of h) h.faults (length h.nodes) c 0 (written h)) (sym n) p.processes)
+    (omega (arith, p.few_edges, limit_most (length h.processes) 256))
+    (subst (λ (c : ℕ). AllByRecursion (IsHeadEdge c) h.edges) (sym n) p.edges))
+
+parts_of : (h : Head) → IsPackHead h → Parts h
+parts_of h q = record {
+  version = version_within h;
+  faults = q.within.faults;
+  few_nodes = q.within.few_nodes;
+  nodes = recursion_from_All IsName h.nodes q.nodes;
+  few = processes_limit h q.within;
+  processes = head_processes h q;
+  few_edges = edges_limit h q.within;
+  edges = recursion_from_All (IsHeadEdge (length h.processes)) h.edges q.within.edges;
+  same = head_again h q.within;
+}
+
+pub head_reads : Reads IsPackHead head_bytes head_at
+unfolding head_at
+head_reads =
+    adapt
+    (seq (λ (h : Head). magic) (field_reads 4 magic magic (omega arith) (omega arith))
+    (λ m fm. seq version_of (small_reads 1 2 (omega arith) (omega arith))
+    (λ v fv. seq (λ (h : Head). h.faults) (small_reads 0 8 (omega arith) (omega arith))
+    (λ k fk. seq (λ (h : Head). length h.nodes) (small_reads 0 16 (omega arith) (omega arith))
+    (λ n fn. seq (λ (h : Head). h.nodes) (times_reads IsName name_bytes name_at n (λ _. name_reads))
+    (λ ns fns. seq (λ (h : Head). length h.processes) (small_reads 0 (limit n 128) (omega arith) (omega (arith, limit_most n 128)))
+    (λ c fc. seq written (processes_reads v k n c fv.0 fv.1 fn.1 fc.1)
+    (λ ws fws. seq (λ (h : Head). length h.edges) (field_reads 2 0 (limit c 256) (omega arith) (omega (arith, limit_most c 256)))
+    (λ e fe. seq (λ (h : Head). h.edges) (times_reads (IsHeadEdge c) edge_bytes (edge_at c) e (λ some. edge_reads c (limit_some c 256 e fe.1 some) (omega (arith, fc.1, limit_most n 128))))
+    (λ es fes. pure_reads (head_from v k ns ws es))
+    (λ es h fes q. ap (λ (x : Head). x.edges) q))
+    (λ e h fe q. q.0.0))
+    (λ ws h fws q. ap written q.1.1 ∙ written_made v k n ns ws h.edges fv.0 fv.1 fws.each))
+    (λ c h fc q. sym (written_is h) ∙ q.0.count_is))
+    (λ ns h fns q. ap (λ (x : Head). x.nodes) q.1.1.1.1))
+    (λ n h fn q. q.0.0))
+    (λ k h fk q. ap (λ (x : Head). x.faults) q.1.1.1.1.1.1))
+    (λ v h fv q. ap version_of q.1.1.1.1.1.1.1 ∙ version_made v h.faults h.nodes (written h) h.edges fv.0 fv.1))
+    (λ m h fm q. omega (arith, fm.0, fm.1)))
+    (λ h q. from_parts h (record {
+      version = q.1.0;
+      faults = q.1.1.0.1;
+      few_nodes = q.1.1.1.0.1;
+      nodes = q.1.1.1.1.0.1;
+      few = q.1.1.1.1.1.0.1;
+      processes = q.1.1.1.1.1.1.0;
+      few_edges = q.1.1.1.1.1.1.1.0.1;
+      edges = q.1.1.1.1.1.1.1.1.0.1;
+      same = q.1.1.1.1.1.1.1.1.1;
+    }))
+    (λ h l. let p = parts_of h l in (
+      (omega arith, omega arith),
+      (
+        p.version,
+        (
+          (omega arith, p.faults),
+          (
+            (omega arith, p.few_nodes),
+            (
+              (refl, p.nodes),
+              (
+                (omega arith, p.few),
+                (p.processes, ((omega arith, p.few_edges), ((refl, p.edges), p.same))),
+              ),
+            ),
+          ),
+        ),
+      ),
+    ))
+    (λ h q. head_spell h)

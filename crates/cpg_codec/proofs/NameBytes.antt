@@ -1,0 +1,24 @@
+-- Names are ASCII.
+use Rattle.std.proofs.Common.{◌≡◌, ℕ, zero, suc, refl, [], ◌∷◌, ◌<◌, ◌≤◌, true, List, length, get_or, arith, subst, sym, inl, inr}
+use Rattle.std.specs.Str.{IsUtf8, IsAscii}
+use Rattle.std.proofs.lemmas.Bool.{cases_lt}
+use Rattle.std.proofs.lemmas.Bool.Decides.{nat_tests}
+use Rattle.std.proofs.lemmas.Str.{IsUtf8-from_ascii}
+use Rattle.cpg_base.specs.Name.{IsName, is_name_byte}
+
+letter_is_ascii : (b : ℕ) → is_name_byte b ≡ true → b < 128
+letter_is_ascii b h = grind (arith, nat_tests)
+
+get_or_past : (xs : List ℕ) (i : ℕ) → length xs ≤ i → get_or xs i 0 ≡ 0
+get_or_past [] i le = refl
+get_or_past (x ∷ xs) zero le = absurd (omega arith)
+get_or_past (x ∷ xs) (suc i) le = get_or_past xs i (omega arith)
+
+name_is_ascii : (text : List ℕ) → IsName text → IsAscii text
+name_is_ascii text h i = elim (cases_lt i (length text)) [
+  | inl lt ↦ letter_is_ascii (get_or text i 0) (h.plain i 0 lt)
+  | inr le ↦ subst (λ (b : ℕ). b < 128) (sym (get_or_past text i le)) (omega arith)
+]
+
+pub name_is_utf8 : (text : List ℕ) → IsName text → IsUtf8 text
+name_is_utf8 text h = IsUtf8-from_ascii text (name_is_ascii text h)

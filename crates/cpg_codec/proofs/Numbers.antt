@@ -1,0 +1,138 @@
+-- Big-endian numbers, digit by digit.
+use Rattle.std.proofs.Common.{◌≡◌, ℕ, zero, suc, ◌+◌, ◌*◌, ◌-◌, ◌/◌, ◌%◌, ◌^◌, ◌<◌, ◌≤◌, Bool, true, ltb, leb, [], ◌∷◌, refl, sym, ap, subst, ◌∙◌, arith}
+use Rattle.std.specs.Int.{byte_at, bytes_high_first}
+use Rattle.std.proofs.lemmas.Bool.{ltb-true, lt-ltb, leb-true, le-leb, and_parts, and_from}
+use Rattle.std.proofs.lemmas.Nat.{le-div, div_below, mul-le}
+use Rattle.std.proofs.Math.Nat.{pow-suc, one-le-pow, div-mul-le_self, lt-div-mul-add}
+use Rattle.cpg_codec.specs.Reading.{byte_by, digit_may, digits_at, number_at, within}
+use Rattle.cpg_codec.proofs.Laws.{Reads, pure_reads, then_reads, adapt, byte_reads}
+
+-- `may` tells whether a lawful number stands between two
+pub record IsChoice (lawful : ℕ → Type 0) (may : ℕ → ℕ → Bool) : Type 0 where
+  pub found : (from below : ℕ) → from < below → may from below ≡ true → (n : ℕ) × (from ≤ n) × (n < below) × lawful n
+  pub all : (from below n : ℕ) → from ≤ n → n < below → lawful n → may from below ≡ true
+
+pub within_chooses : (low high : ℕ) → low ≤ high → IsChoice (λ n. (low ≤ n) × (n ≤ high)) (within low high)
+within_chooses low high h = record {
+  found = λ from below lt e. let p = and_parts (ltb low below) (leb from high) e in
+      within_found from below lt (ltb-true low below p.0) (leb-true from high p.1);
+  all = λ from below n a b l. and_from (ltb low below) (leb from high) (lt-ltb low below (omega arith)) (le-leb from high (omega arith));
+} where
+  within_found : (from below : ℕ) → from < below → low < below → from ≤ high → (n : ℕ) × (from ≤ n) × (n < below) × ((low ≤ n) × (n ≤ high))
+  within_found from below lt a b = (from + (low - from), omega arith, omega arith, (omega arith, omega arith))
+
+spread : (n t : ℕ) → n * (256 * t) ≡ n * 256 * t
+spread n t = omega arith
+
+power : (w : ℕ) → 256 ^ suc w ≡ 256 * 256 ^ w
+power w = omega (arith, pow-suc 256 w)
+
+digit_span : (w n : ℕ) → n * 256 ^ suc w < (n + 1) * 256 ^ suc w
+digit_span w n = let h : 1 ≤ 256 ^ suc w = one-le-pow (suc w) 256 (omega arith) in omega arith
+
+-- the digit of m after n
+digit_of : (T t m n : ℕ) → T ≡ 256 * t → 0 < t → n * T ≤ m → m < (n + 1) * T → (b : ℕ) × (b < 256) × ((n * 256 + b) * t ≤ m) × (m < (n * 256 + b + 1) * t)
+digit_of T t m n e pos lo hi =
+    let low : n * 256 * t ≤ m = subst (λ (x : ℕ). x ≤ m) (ap (λ (x : ℕ). n * x) e ∙ spread n t) lo in
+    let high : m < (n + 1) * 256 * t = subst (λ (x : ℕ). m < x) (ap (λ (x : ℕ). (n + 1) * x) e ∙ spread (n + 1) t) hi in
+    let a : n * 256 ≤ m / t = le-div (n * 256) m t pos low in
+    let b : m / t < (n + 1) * 256 = div_below m t ((n + 1) * 256) pos high in
+    let c : n * 256 + (m / t - n * 256) ≡ m / t = omega arith in
+    let d : m / t * t ≤ m = div-mul-le_self m t in
+    let e : m < m / t * t + t = lt-div-mul-add pos in
+    (m / t - n * 256, omega arith, rw c d, rw c (omega (arith, e)))
+
+quotient_is : (t m q : ℕ) → 0 < t → q * t ≤ m → m < (q + 1) * t → m / t ≡ q
+quotient_is t m q pos lo hi =
+    let a : q ≤ m / t = le-div q m t pos lo in
+    let b : m / t < q + 1 = div_below m t (q + 1) pos hi in
+    omega arith
+
+digit_is : (w m n b : ℕ) → b < 256 → (n * 256 + b) * 256 ^ w ≤ m → m < (n * 256 + b + 1) * 256 ^ w → byte_at w m ≡ b
+digit_is zero m n b lt lo hi = omega arith
+digit_is (suc w) m n b lt lo hi =
+    let q : m / 256 ^ suc w ≡ n * 256 + b = quotient_is (256 ^ suc w) m (n * 256 + b) (one-le-pow (suc w) 256 (omega arith)) lo hi in
+    rw q (omega arith)
+
+digit_low : (T t m n b : ℕ) → T ≡ 256 * t → (n * 256 + b) * t ≤ m → n * T ≤ m
+digit_low T t m n b e lo = subst (λ (x : ℕ). n * x ≤ m) (sym e) (omega arith)
+
+digit_high : (T t m n b : ℕ) → T ≡ 256 * t → b < 256 → m < (n * 256 + b + 1) * t → m < (n + 1) * T
+digit_high T t m n b e lt hi =
+    let k : (b + 1) * t ≤ 256 * t = mul-le (b + 1) t 256 t (omega arith) (omega arith) in
+    subst (λ (x : ℕ). m < (n + 1) * x) (sym e) (omega arith)
+
+module _ (Lawful : ℕ → Type 0) (may : ℕ → ℕ → Bool) (choice : IsChoice Lawful may) where
+  -- m begins with the digits n and has w more
+  pub record Continues (w n m : ℕ) : Type 0 where
+    pub lawful : Lawful m
+    pub low : n * 256 ^ w ≤ m
+    pub high : m < (n + 1) * 256 ^ w
+
+  digit_some : (w n : ℕ) → may (n * 256 ^ suc w) ((n + 1) * 256 ^ suc w) ≡ true → (b : ℕ) × (digit_may may w n b ≡ true)
+  digit_some w n h =
+      let f = choice.found (n * 256 ^ suc w) ((n + 1) * 256 ^ suc w) (digit_span w n) h in
+      let d = digit_of (256 ^ suc w) (256 ^ w) f.0 n (power w) (one-le-pow w 256 (omega arith)) f.1 f.2 in
+      (d.0, and_from (ltb d.0 256) (may ((n * 256 + d.0) * 256 ^ w) ((n * 256 + d.0 + 1) * 256 ^ w)) (lt-ltb d.0 256 d.1) (choice.all _ _ f.0 d.2 d.3 f.3))
+
+  digit_fits : (w n m : ℕ) → Continues (suc w) n m → (digit_may may w n (byte_at w m) ≡ true) × Continues w (n * 256 + byte_at w m) m
+  digit_fits w n m c =
+      let d = digit_of (256 ^ suc w) (256 ^ w) m n (power w) (one-le-pow w 256 (omega arith)) c.low c.high in
+      let e = digit_is w m n d.0 d.1 d.2 d.3 in
+      subst (λ (b : ℕ). (digit_may may w n b ≡ true) × Continues w (n * 256 + b) m) (sym e)
+      (and_from (ltb d.0 256) (may ((n * 256 + d.0) * 256 ^ w) ((n * 256 + d.0 + 1) * 256 ^ w)) (lt-ltb d.0 256 d.1) (choice.all _ _ m d.2 d.3 c.lawful), record { lawful = c.lawful; low = d.2; high = d.3 })
+
+  below_256 : (w n b : ℕ) → digit_may may w n b ≡ true → b < 256
+  below_256 w n b h = ltb-true b 256 (and_parts (ltb b 256) (may ((n * 256 + b) * 256 ^ w) ((n * 256 + b + 1) * 256 ^ w)) h).0
+
+  may_go_on : (w n b : ℕ) → digit_may may w n b ≡ true → may ((n * 256 + b) * 256 ^ w) ((n * 256 + b + 1) * 256 ^ w) ≡ true
+  may_go_on w n b h = (and_parts (ltb b 256) (may ((n * 256 + b) * 256 ^ w) ((n * 256 + b + 1) * 256 ^ w)) h).1
+
+  continues_back : (w n m b : ℕ) → b < 256 → Continues w (n * 256 + b) m → Continues (suc w) n m
+  continues_back w n m b lt c = record {
+    lawful = c.lawful;
+    low = digit_low (256 ^ suc w) (256 ^ w) m n b (power w) c.low;
+    high = digit_high (256 ^ suc w) (256 ^ w) m n b (power w) lt c.high;
+  }
+
+  last_is : (n m : ℕ) → m ≡ n → may (n * 256 ^ 0) ((n + 1) * 256 ^ 0) ≡ true → Continues 0 n m
+  last_is n m e h =
+      let f = choice.found (n * 256 ^ 0) ((n + 1) * 256 ^ 0) (omega arith) h in
+      let k : f.0 ≡ m = omega (arith, f.1, f.2) in
+      record { lawful = subst Lawful k f.3; low = omega arith; high = omega arith }
+
+  last_back : (n m : ℕ) → Continues 0 n m → m ≡ n
+  last_back n m c = omega (arith, c.low, c.high)
+
+  pub digits_reads : (w n : ℕ) → may (n * 256 ^ w) ((n + 1) * 256 ^ w) ≡ true → Reads (Continues w n) (bytes_high_first w) (digits_at may w n)
+  unfolding digits_at
+  digits_reads zero n h = adapt (pure_reads n) (λ m e. last_is n m e h) (λ m c. last_back n m c) (λ m c. refl)
+  digits_reads (suc w) n h =
+      let some = digit_some w n h in
+      adapt
+      (then_reads (λ b. digit_may may w n b ≡ true) (λ b. b ∷ []) (byte_by (digit_may may w n))
+      (λ b m. Continues w (n * 256 + b) m) (λ b m. bytes_high_first w m) (λ b. digits_at may w (n * 256 + b)) (byte_at w)
+      (byte_reads (digit_may may w n) some.0 some.1)
+      (λ b fb. digits_reads w (n * 256 + b) (may_go_on w n b fb))
+      (λ b m fb c. digit_is w m n b (below_256 w n b fb) c.low c.high))
+      (λ m p. continues_back w n m (byte_at w m) (below_256 w n (byte_at w m) p.0) p.1)
+      (λ m c. digit_fits w n m c)
+      (λ m c. refl)
+
+  -- a number of w bytes, where each lawful one has so many and one is there
+  pub number_reads : (w some : ℕ) → Lawful some → ((m : ℕ) → Lawful m → m < 256 ^ w) → Reads Lawful (bytes_high_first w) (number_at w may)
+  number_reads w some lawful fit =
+      adapt (digits_reads w 0 (choice.all (0 * 256 ^ w) ((0 + 1) * 256 ^ w) some (omega arith) (omega (arith, fit some lawful)) lawful))
+      (λ m c. c.lawful) (λ m l. record { lawful = l; low = omega arith; high = omega (arith, fit m l) }) (λ m l. refl)
+
+-- a number of w bytes from low to high
+pub field_reads : (w low high : ℕ) → low ≤ high → high < 256 ^ w → Reads (λ n. (low ≤ n) × (n ≤ high)) (bytes_high_first w) (number_at w (within low high))
+field_reads w low high le fit =
+    number_reads (λ n. (low ≤ n) × (n ≤ high)) (within low high) (within_chooses low high le) w low (omega arith, le) (λ m l. omega (arith, l.1, fit))
+
+-- a byte from low to high
+pub small_reads : (low high : ℕ) → low ≤ high → high < 256 → Reads (λ n. (low ≤ n) × (n ≤ high)) (λ n. n ∷ []) (number_at 1 (within low high))
+small_reads low high le fit =
+    adapt (field_reads 1 low high le (omega arith)) (λ n l. l) (λ n l. l) (λ n l. ap (λ (b : ℕ). b ∷ []) (small_is n (omega (arith, l.1, fit)))) where
+      small_is : (n : ℕ) → n < 256 → n % 256 ≡ n
+      small_is n lt = omega arith

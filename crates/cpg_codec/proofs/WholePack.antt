@@ -1,0 +1,31 @@
+-- From what reading answers to what a pack is.
+use Rattle.std.proofs.Common.{◌≡◌, ℕ, List, Result, Ok, Err, ap, ◌∙◌}
+use Rattle.std.specs.Prelude.{IfOk}
+use Rattle.cpg_table.specs.Lawful.{Tables}
+use Rattle.cpg_codec.specs.Spelling.{spelling}
+use Rattle.cpg_codec.specs.Grammar.{read}
+use Rattle.cpg_codec.specs.Packs.{AreLawful, IsBadPack}
+use Rattle.cpg_codec.specs.Gives.{Answers, OnBadPack, UnlessMemory}
+use Rattle.cpg_codec.specs.declared.fault.PackFault.{PackFault}
+use Rattle.cpg_codec.specs.declared.fault.PackFault.TheVariants as faults
+use Rattle.cpg_codec.proofs.Theorems.{read_is_spelled, spelled_is_read, refused_is_bad}
+
+pub found : (bytes : List ℕ) (r : Result Tables PackFault) → Answers r (read bytes) → IfOk r (λ t. AreLawful t × (bytes ≡ spelling t))
+found bytes (Ok t) a = read_is_spelled bytes t a
+found bytes (Err e) a = tt
+
+same : (t u : Tables) (r : Result Tables ℕ) → r ≡ Ok u → r ≡ Ok t → u ≡ t
+same t u r e f = cc
+
+not_both : (t : Tables) (n : ℕ) (r : Result Tables ℕ) → r ≡ Err n → r ≡ Ok t → ⊥
+not_both t n r e f = cc
+
+pub only : (bytes : List ℕ) (r : Result Tables PackFault) → Answers r (read bytes) → (t : Tables) → AreLawful t → bytes ≡ spelling t → UnlessMemory r (λ u. u ≡ t)
+only bytes (Ok u) a t h e = same t u (read bytes) a (ap read e ∙ spelled_is_read t h)
+only bytes (Err (faults.BadPack n)) a t h e = not_both t n (read bytes) a (ap read e ∙ spelled_is_read t h)
+only bytes (Err faults.OutOfMemory) a t h e = tt
+
+pub bad : (bytes : List ℕ) (r : Result Tables PackFault) → Answers r (read bytes) → OnBadPack r (IsBadPack bytes)
+bad bytes (Ok t) a = tt
+bad bytes (Err (faults.BadPack n)) a = refused_is_bad bytes n a
+bad bytes (Err faults.OutOfMemory) a = tt

@@ -1,0 +1,11 @@
+use Rattle.std.proofs.Common.{◌≤◌, take}
+use Rattle.std.specs.List.{flat_map}
+use Rattle.cpg_codec.specs.Spelling.{edge_bytes}
+use Rattle.cpg_codec.specs.Writing.{IsPut}
+use Rattle.cpg_codec.proofs.head_writing.put_edges.Given as goal
+
+abbrev pub invariant-loop-from : goal.invariant-loop-from
+invariant-loop-from g l = record {
+  put : IsPut (g.O.Sink.taken l.fn.sink) (g.O.Sink.taken l.sink) l.fn.buffer l.buffer (flat_map edge_bytes (take l.from-index l.fn.edges));
+  later : g.O.Sink.faults l.fn.sink ≤ g.O.Sink.faults l.sink;
+}

@@ -1,0 +1,11 @@
+use Rattle.std.proofs.Common.{◌≤◌, take}
+use Rattle.std.specs.List.{flat_map}
+use Rattle.cpg_codec.specs.Spelling.{name_bytes}
+use Rattle.cpg_codec.specs.Writing.{IsPut}
+use Rattle.cpg_codec.proofs.head_writing.put_names.Given as goal
+
+abbrev pub invariant-loop-name : goal.invariant-loop-name
+invariant-loop-name g l = record {
+  put : IsPut (g.O.Sink.taken l.fn.sink) (g.O.Sink.taken l.sink) l.fn.buffer l.buffer (flat_map name_bytes (take l.name-index l.fn.names));
+  later : g.O.Sink.faults l.fn.sink ≤ g.O.Sink.faults l.sink;
+}

@@ -1,0 +1,11 @@
+use Rattle.std.proofs.Common.{◌≤◌, take}
+use Rattle.std.specs.List.{flat_map}
+use Rattle.cpg_codec.specs.Spelling.{written, process_bytes}
+use Rattle.cpg_codec.specs.Writing.{IsPut}
+use Rattle.cpg_codec.proofs.head_writing.put_processes.Given as goal
+
+abbrev pub invariant-loop-number : goal.invariant-loop-number
+invariant-loop-number g l = record {
+  put : IsPut (g.O.Sink.taken l.fn.sink) (g.O.Sink.taken l.sink) l.fn.buffer l.buffer (flat_map process_bytes (take l.number (written l.fn.head)));
+  later : g.O.Sink.faults l.fn.sink ≤ g.O.Sink.faults l.sink;
+}

@@ -1,0 +1,9 @@
+use Rattle.std.proofs.Common.{◌≡◌, ◌==◌, ◌++◌, drop}
+use Rattle.cpg_table.specs.Items.{numbers_where, starts_of}
+use Rattle.cpg_codec.proofs.items.push_starts.Given as goal
+
+abbrev pub invariant-loop-process : goal.invariant-loop-process
+invariant-loop-process l = record {
+  counted : l.item ≡ l.process-index;
+  same : l.items.items ++ numbers_where (λ p. p.node == l.node) l.item (drop l.process-index l.process-items) ≡ l.fn.items.items ++ starts_of l.head l.node;
+}

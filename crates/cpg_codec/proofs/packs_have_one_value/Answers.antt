@@ -1,0 +1,5 @@
+use Rattle.cpg_codec.proofs.Theorems.{one_value}
+use Rattle.cpg_codec.proofs.packs_have_one_value.Goals as goal
+
+pub returns : goal.returns
+returns c = one_value

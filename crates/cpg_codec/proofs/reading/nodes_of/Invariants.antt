@@ -1,0 +1,14 @@
+use Rattle.std.proofs.Common.{◌≡◌, ◌+◌, ◌-◌, ◌≤◌, ℕ, length}
+use Rattle.cpg_table.specs.Table.{NodeTable}
+use Rattle.cpg_table.specs.Lawful.{column_count, rows_of}
+use Rattle.cpg_codec.specs.Reading.{each_at}
+use Rattle.cpg_codec.specs.Grammar.{node_table_at, numbers_from, nodes_at}
+use Rattle.cpg_codec.proofs.Loop.{with_front}
+use Rattle.cpg_codec.proofs.reading.nodes_of.Given as goal
+
+abbrev pub invariant-loop-node : goal.invariant-loop-node
+invariant-loop-node l = record {
+  so_far : with_front l.nodes.items (each_at (λ (c : ℕ) (t : NodeTable). c + column_count (rows_of t)) (node_table_at l.fn.head) (numbers_from l.node (length l.fn.head.nodes - l.node)) l.total l.rest)
+      ≡ nodes_at l.fn.head l.fn.bytes;
+  few : l.total ≤ 524288;
+}

@@ -1,0 +1,32 @@
+use Rattle.std.proofs.Common.{◌≡◌, ◌++◌, ◌∷◌, [], ◌+◌, ◌<◌, ℕ, List, length, get_or, drop, arith, refl, add-one, drop-cons}
+use Rattle.std.proofs.lemmas.List.Sums.{sum_by_push}
+use Rattle.cpg_table.specs.Table.{Row}
+use Rattle.cpg_table.specs.Lawful.{column_count}
+use Rattle.cpg_codec.specs.Grammar.{row_at, rows_at}
+use Rattle.cpg_codec.proofs.Loop.{goes_on, nothing_in_front}
+use Rattle.cpg_codec.proofs.row_reading.rows_of.Goals as goal
+
+abbrev step : ℕ → Row → ℕ
+step c r = c + length r.columns
+
+drop_more : (xs : List ℕ) (i : ℕ) → i < length xs → drop i xs ≡ get_or xs i 0 ∷ drop (i + 1) xs
+drop_more xs i h = rw (add-one, drop-cons xs i 0) refl
+
+columns_push : (rs : List Row) (r : Row) → column_count (rs ++ r ∷ []) ≡ column_count rs + length r.columns
+columns_push rs r = sum_by_push (λ (q : Row). length q.columns) rs r
+
+pub loop-item-init : goal.loop-item-init
+unfolding rows_at
+loop-item-init c = record { so_far = rw c.in_ok-rows.ensures.items (nothing_in_front _); total = rw c.in_ok-rows.ensures.items (omega arith); few = c.requires.before }
+
+pub loop-item-preserved : goal.loop-item-preserved
+loop-item-preserved c =
+    let q = c.in_ok-row.row in
+    let g = goes_on step (row_at c.args.space.now) c.loop-item.rows.items
+    (drop c.loop-item.item-index c.args.items.now) (get_or c.args.items.now c.loop-item.item-index 0) (drop (c.loop-item.item-index + 1) c.args.items.now) c.loop-item.total c.loop-item.rest.now q c.in_ok-row.after.now
+    (rows_at c.args.space.now c.args.items.now c.args.before c.args.bytes.now) (drop_more c.args.items.now c.loop-item.item-index c.loop-item-test.true) c.in_ok-row.ensures.gives c.loop-item.invariant.so_far in
+    record {
+      so_far = rw (c.in_ok-push.ensures.items, c.in_ok-row.ensures.total.0) g;
+      total = rw (c.in_ok-push.ensures.items, columns_push c.loop-item.rows.items q) (omega (arith, c.in_ok-row.ensures.total.0, c.loop-item.invariant.total));
+      few = c.in_ok-row.ensures.total.1;
+    }

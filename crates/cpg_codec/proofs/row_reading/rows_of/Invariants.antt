@@ -1,0 +1,15 @@
+use Rattle.std.proofs.Common.{◌≡◌, ◌+◌, ◌≤◌, ℕ, length, drop}
+use Rattle.cpg_table.specs.Table.{Row}
+use Rattle.cpg_table.specs.Lawful.{column_count}
+use Rattle.cpg_codec.specs.Reading.{each_at}
+use Rattle.cpg_codec.specs.Grammar.{row_at, rows_at}
+use Rattle.cpg_codec.proofs.Loop.{with_front}
+use Rattle.cpg_codec.proofs.row_reading.rows_of.Given as goal
+
+abbrev pub invariant-loop-item : goal.invariant-loop-item
+invariant-loop-item l = record {
+  so_far : with_front l.rows.items (each_at (λ (c : ℕ) (r : Row). c + length r.columns) (row_at l.fn.space) (drop l.item-index l.fn.items) l.total l.rest)
+      ≡ rows_at l.fn.space l.fn.items l.fn.before l.fn.bytes;
+  total : l.total ≡ l.fn.before + column_count l.rows.items;
+  few : l.total ≤ 524288;
+}

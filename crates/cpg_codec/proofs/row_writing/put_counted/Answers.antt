@@ -1,0 +1,14 @@
+use Rattle.std.proofs.Common.{length}
+use Rattle.std.specs.List.{flat_map}
+use Rattle.std.proofs.lemmas.Result.{err_from_is_err_and}
+use Rattle.cpg_codec.specs.Spelling.{byte, literal_bytes}
+use Rattle.cpg_codec.proofs.Puts.{Puts-then, Puts-first}
+use Rattle.cpg_codec.proofs.row_writing.put_counted.Goals as goal
+
+pub returns-in_err-put-clause-put : goal.returns-in_err-put-clause-put
+returns-in_err-put-clause-put g c =
+    let p = err_from_is_err_and c.from_residual.result c.from_residual.ensures.1 in
+    Puts-first _ _ _ _ (byte (length c.args.literals.now)) (flat_map literal_bytes c.args.literals.now) c.from_residual.result p.0 p.1 c.in_err-put.ensures.put
+
+pub returns-clause-put : goal.returns-clause-put
+returns-clause-put g c = Puts-then _ _ _ _ _ _ (byte (length c.args.literals.now)) (flat_map literal_bytes c.args.literals.now) c.put_literals.result c.in_ok-put.ensures.put c.put_literals.ensures.put

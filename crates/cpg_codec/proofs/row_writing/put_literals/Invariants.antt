@@ -1,0 +1,11 @@
+use Rattle.std.proofs.Common.{◌≤◌, take}
+use Rattle.std.specs.List.{flat_map}
+use Rattle.cpg_codec.specs.Spelling.{literal_bytes}
+use Rattle.cpg_codec.specs.Writing.{IsPut}
+use Rattle.cpg_codec.proofs.row_writing.put_literals.Given as goal
+
+abbrev pub invariant-loop-literal : goal.invariant-loop-literal
+invariant-loop-literal g l = record {
+  put : IsPut (g.O.Sink.taken l.fn.sink) (g.O.Sink.taken l.sink) l.fn.buffer l.buffer (flat_map literal_bytes (take l.literal-index l.fn.literals));
+  later : g.O.Sink.faults l.fn.sink ≤ g.O.Sink.faults l.sink;
+}

@@ -1,0 +1,33 @@
+-- What a reader in code says: it gives what the grammar gives, but for want of memory.
+use Rattle.std.specs.Prelude.{◌≡◌, ℕ, Result, Ok, Err}
+use Rattle.cpg_table.specs.Lawful.{Tables}
+use Rattle.cpg_codec.specs.declared.fault.PackFault.{PackFault}
+use Rattle.cpg_codec.specs.declared.fault.PackFault.TheVariants as faults
+use Rattle.cpg_codec.specs.declared.fault.ReadError.{ReadError}
+use Rattle.cpg_codec.specs.declared.fault.ReadError.TheVariants as errors
+
+abbrev pub Fails : {Y : Type 0} → ReadError → Result Y ℕ → Type 0
+Fails errors.Memory read = Unit {0}
+Fails (errors.Left n) read = read ≡ Err n
+
+abbrev pub Gives : {X Y : Type 0} → (X → Y) → Result X ReadError → Result Y ℕ → Type 0
+Gives view (Ok x) read = read ≡ Ok (view x)
+Gives view (Err e) read = Fails e read
+
+-- the same of a whole pack
+abbrev pub Answers : Result Tables PackFault → Result Tables ℕ → Type 0
+Answers (Ok t) read = read ≡ Ok t
+Answers (Err (faults.BadPack n)) read = read ≡ Err n
+Answers (Err faults.OutOfMemory) read = Unit {0}
+
+-- of the number of a refusal
+abbrev pub OnBadPack : {X : Type 0} → Result X PackFault → (ℕ → Type 0) → Type 0
+OnBadPack (Ok x) P = Unit {0}
+OnBadPack (Err (faults.BadPack n)) P = P n
+OnBadPack (Err faults.OutOfMemory) P = Unit {0}
+
+-- of what was read, where memory was enough
+abbrev pub UnlessMemory : {X : Type 0} → Result X PackFault → (X → Type 0) → Type 0
+UnlessMemory (Ok x) P = P x
+UnlessMemory (Err (faults.BadPack n)) P = ⊥
+UnlessMemory (Err faults.OutOfMemory) P = Unit {0}

@@ -1,0 +1,211 @@
+-- The fields of a pack, each with the bytes that may stand there.
+use Rattle.std.specs.Prelude.{ℕ, zero, suc, ◌≤◌, ◌+◌, ◌-◌, min, max, List, [], ◌∷◌, ◌++◌, length, map, take, drop, Bool, ◌&&◌, ◌||◌, Option, Some, None, Result, Ok, Err, nat_lt, nat_le, ◌==◌, if◌then◌else◌}
+use Rattle.std.specs.List.{flat_map}
+use Rattle.cpg_base.specs.Name.{is_name_byte}
+use Rattle.cpg_cube.specs.declared.literal.Literal.{Literal}
+use Rattle.cpg_table.specs.Head.{Head}
+use Rattle.cpg_table.specs.declared.head_parts.Extra.{Extra}
+use Rattle.cpg_table.specs.Table.{Column, Row, NodeTable}
+use Rattle.cpg_table.specs.Items.{first_broadcast, own_of, starts_of, sends_of, hears_of}
+use Rattle.cpg_table.specs.Lawful.{Tables, space_of, column_count, rows_of}
+use Rattle.cpg_table.specs.declared.space.Space.{Space}
+use Rattle.cpg_codec.specs.Reading.{Reader, pure, ◌>>=◌, byte_by, number_at, within, each_at, down, times_at}
+use Rattle.cpg_codec.specs.Spelling.{Written, magic, bit}
+
+-- a byte from low to high
+abbrev pub small_at : ℕ → ℕ → Reader ℕ
+small_at low high = number_at 1 (within low high)
+
+unfoldable pub name_at : Reader (List ℕ)
+name_at = do
+  count ← small_at 1 32
+  times_at (byte_by is_name_byte) count
+
+unfoldable pub time_at : Reader ℕ
+time_at = number_at 8 (within 0 1152921504606846975)
+
+-- an own deadline, or eight bytes ff
+abbrev pub own_may : ℕ → ℕ → Bool
+own_may low below = within 0 1000000000 low below || within 18446744073709551615 18446744073709551615 low below
+
+unfoldable pub own_at : Reader (Option ℕ)
+own_at = do
+  number ← number_at 8 own_may
+  pure (if number == 18446744073709551615 then None else Some number)
+
+-- version 2 alone has it
+unfoldable pub extra_at : ℕ → Reader (Option Extra)
+extra_at version = if version == 2
+    then (do
+      release ← number_at 8 (within 0 1000000000)
+      deadline ← own_at
+      pure (Some (record { release = release; deadline = deadline })))
+    else pure None
+
+-- the node of a process, and 1 where it has a condition; `ones` processes before have one
+unfoldable pub place_at : ℕ → ℕ → Reader (ℕ × ℕ)
+place_at nodes ones = do
+  node ← small_at 0 (nodes - 1)
+  flag ← small_at 0 (if nat_lt ones 32 then 1 else 0)
+  pure (node, flag)
+
+unfoldable pub process_at : ℕ → ℕ → ℕ → ℕ → Reader Written
+process_at version faults nodes ones = do
+  name ← name_at
+  place ← place_at nodes ones
+  times ← times_at time_at (faults + 1)
+  extra ← extra_at version
+  pure (record { process = record { name = name; node = place.0; condition = place.1 == 1; times = times }; extra = extra })
+
+unfoldable pub processes_at : ℕ → ℕ → ℕ → ℕ → Reader (List Written)
+processes_at version faults nodes count =
+    each_at (λ (ones : ℕ) (w : Written). ones + bit w.process.condition) (λ (left : ℕ) ones. process_at version faults nodes ones) (down count) 0
+
+unfoldable pub edge_at : ℕ → Reader (ℕ × ℕ)
+edge_at processes = do
+  from ← small_at 0 (processes - 1)
+  to ← small_at 0 (processes - 1)
+  pure (from, to)
+
+-- none where there is none below
+abbrev pub limit : ℕ → ℕ → ℕ
+limit zero most = 0
+limit (suc below) most = most
+
+-- what version 2 says of a process, as a list
+abbrev pub listed : Option Extra → List Extra
+listed None = []
+listed (Some e) = e ∷ []
+
+-- the head of these parts
+abbrev pub head_from : ℕ → ℕ → List (List ℕ) → List Written → List (ℕ × ℕ) → Head
+head_from version faults nodes ws edges = record {
+  faults = faults;
+  nodes = nodes;
+  processes = map (λ (w : Written). w.process) ws;
+  edges = edges;
+  extras = if version == 2 then Some (flat_map (λ (w : Written). listed w.extra) ws) else None;
+}
+
+unfoldable pub head_at : Reader Head
+head_at = do
+  text ← number_at 4 (within magic magic)
+  version ← small_at 1 2
+  faults ← small_at 0 8
+  nodes ← small_at 0 16
+  names ← times_at name_at nodes
+  count ← small_at 0 (limit nodes 128)
+  processes ← processes_at version faults nodes count
+  ends ← number_at 2 (within 0 (limit count 256))
+  edges ← times_at (edge_at count) ends
+  pure (head_from version faults names processes edges)
+
+-- a space as heads have it
+pub record IsSpace (s : Space) : Type 0 where
+  pub faults : s.faults ≤ 8
+  pub processes : s.processes ≤ 128
+  pub conditions : s.conditions ≤ 32
+
+-- the fault variables are 0 up to here
+abbrev pub fault_end : Space → ℕ
+fault_end s = limit s.faults s.processes
+
+abbrev pub is_variable : Space → ℕ → Bool
+is_variable s v = nat_lt v (fault_end s) || (nat_le 128 v && nat_lt v (128 + s.conditions))
+
+-- how many allowed variables there are from v on
+abbrev pub room : Space → ℕ → ℕ
+room s v = (fault_end s - v) + ((128 + s.conditions) - max 128 v)
+
+-- an allowed variable from `least` on, with room for `left` more above it
+abbrev pub variable_may : Space → ℕ → ℕ → ℕ → Bool
+variable_may s least left v = (nat_le least v && is_variable s v) && nat_le left (room s (suc v))
+
+-- the greatest low
+abbrev pub low_end : Space → ℕ → ℕ
+low_end s v = if nat_lt v 128 then s.faults else 1
+
+-- the greatest high above this low
+abbrev pub high_end : Space → ℕ → ℕ → ℕ
+high_end s v low = if nat_lt v 128 then (if low == 0 then s.faults - 1 else s.faults) else low
+
+unfoldable pub literal_at : Space → ℕ → ℕ → Reader Literal
+literal_at s left least = do
+  variable ← byte_by (variable_may s least left)
+  low ← small_at 0 (low_end s variable)
+  high ← small_at low (high_end s variable low)
+  pure (record { variable = variable; low = low; high = high })
+
+-- so many literals, the variables rising
+unfoldable pub literals_at : Space → ℕ → Reader (List Literal)
+literals_at s count = each_at (λ (least : ℕ) (l : Literal). suc l.variable) (literal_at s) (down count) 0
+
+-- the time of a column, and how many literals it has
+unfoldable pub front_at : Space → Reader (ℕ × ℕ)
+front_at s = do
+  time ← time_at
+  count ← small_at 0 (room s 0)
+  pure (time, count)
+
+unfoldable pub column_at : Space → Reader Column
+column_at s = do
+  front ← front_at s
+  literals ← literals_at s front.1
+  pure (record { time = front.0; cube = literals })
+
+-- all columns of a pack
+abbrev pub most : ℕ
+most = 524288
+
+-- `before` columns have been read
+unfoldable pub row_at : Space → ℕ → ℕ → Reader Row
+row_at s item before = do
+  count ← number_at 2 (within 0 (min 16384 (most - before)))
+  columns ← times_at (column_at s) count
+  pure (record { item = item; columns = columns })
+
+unfoldable pub rows_at : Space → List ℕ → ℕ → Reader (List Row)
+rows_at s items before = each_at (λ (c : ℕ) (r : Row). c + length r.columns) (row_at s) items before
+
+-- the items of a node's rows
+abbrev pub items_of_node : Head → ℕ → List ℕ
+items_of_node h node = starts_of h node ++ (sends_of h node ++ hears_of h node)
+
+-- the table of a node with these rows
+abbrev pub table_from : Head → ℕ → List Row → NodeTable
+table_from h node rows = record {
+  faults = h.faults;
+  first_broadcast = first_broadcast h;
+  own = own_of h node;
+  starts = take (length (starts_of h node)) rows;
+  sends = take (length (sends_of h node)) (drop (length (starts_of h node)) rows);
+  hears = drop (length (sends_of h node)) (drop (length (starts_of h node)) rows);
+}
+
+unfoldable pub node_table_at : Head → ℕ → ℕ → Reader NodeTable
+node_table_at h node before = do
+  rows ← rows_at (space_of h) (items_of_node h node) before
+  pure (table_from h node rows)
+
+-- i, i + 1 .., n of them
+unfoldable pub numbers_from : ℕ → ℕ → List ℕ
+numbers_from i zero = []
+numbers_from i (suc n) = i ∷ numbers_from (suc i) n
+
+unfoldable pub nodes_at : Head → Reader (List NodeTable)
+nodes_at h = each_at (λ (c : ℕ) (t : NodeTable). c + column_count (rows_of t)) (node_table_at h) (numbers_from 0 (length h.nodes)) 0
+
+unfoldable pub tables_at : Reader Tables
+tables_at = do
+  head ← head_at
+  nodes ← nodes_at head
+  pure (record { head = head; nodes = nodes })
+
+-- all of the bytes: the tables, or the place of the first byte that no pack can have after those before it
+abbrev pub whole : ℕ → Result (Tables × List ℕ) ℕ → Result Tables ℕ
+whole size (Ok (tables, [])) = Ok tables
+whole size (Ok (tables, b ∷ rest)) = Err (size - suc (length rest))
+whole size (Err left) = Err (size - left)
+
+unfoldable pub read : List ℕ → Result Tables ℕ
+read bytes = whole (length bytes) (tables_at bytes)

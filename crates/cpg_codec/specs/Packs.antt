@@ -1,0 +1,37 @@
+-- Packs: the spellings of lawful tables, and what holds of them.
+use Rattle.std.specs.Prelude.{◌≡◌, ℕ, ◌+◌, ◌<◌, ◌≤◌, List, [], ◌++◌, length, take, All}
+use Rattle.cpg_base.specs.Name.{IsName}
+use Rattle.cpg_table.specs.Head.{Head, IsHead}
+use Rattle.cpg_table.specs.Lawful.{Tables, AreTablesOf}
+use Rattle.cpg_codec.specs.Spelling.{spelling}
+
+-- a head within its limits, whose names are names
+pub record IsPackHead (h : Head) : Type 0 where
+  pub within : IsHead h
+  pub nodes : All IsName h.nodes
+  pub processes : All (λ p. IsName p.name) h.processes
+
+-- such a head, with the tables of its nodes
+pub record AreLawful (t : Tables) : Type 0 where
+  pub head : IsPackHead t.head
+  pub nodes : AreTablesOf t.head t.nodes
+
+-- some pack begins with these bytes
+abbrev pub BeginsPack : List ℕ → Type 0
+BeginsPack front = (t : Tables) × (rest : List ℕ) × AreLawful t × (spelling t ≡ front ++ rest)
+
+-- the bytes are no pack, and the first n of them are the longest front that some pack begins with
+pub record IsBadPack (bytes : List ℕ) (n : ℕ) : Type 0 where
+  pub place : n ≤ length bytes
+  pub goes_on : BeginsPack (take n bytes)
+  pub no_further : n < length bytes → BeginsPack (take (n + 1) bytes) → ⊥
+  pub longest : (m : ℕ) → m ≤ length bytes → BeginsPack (take m bytes) → m ≤ n
+  pub no_pack : (t : Tables) → AreLawful t → bytes ≡ spelling t → ⊥
+
+-- A spelling has one value.
+abbrev pub OneValue : Type 0
+OneValue = (t u : Tables) → AreLawful t → AreLawful u → spelling t ≡ spelling u → t ≡ u
+
+-- No spelling is a proper prefix of another.
+abbrev pub NoProperPrefix : Type 0
+NoProperPrefix = (t u : Tables) (rest : List ℕ) → AreLawful t → AreLawful u → spelling t ≡ spelling u ++ rest → rest ≡ []

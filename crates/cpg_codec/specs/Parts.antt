@@ -1,0 +1,8 @@
+-- The head that parts in code make.
+use Rattle.cpg_table.specs.Head.{Head}
+use Rattle.cpg_codec.specs.Spelling.{written_by}
+use Rattle.cpg_codec.specs.Grammar.{head_from}
+use Rattle.cpg_codec.specs.declared.head_reading.HeadParts.{HeadParts}
+
+abbrev pub head_of_parts : HeadParts → Head
+head_of_parts p = head_from p.version p.faults p.nodes.items (written_by p.processes.items p.extras.items) p.edges.items

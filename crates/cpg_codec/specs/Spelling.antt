@@ -1,0 +1,79 @@
+-- The one spelling of tables.
+use Rattle.std.specs.Prelude.{ℕ, Bool, List, [], ◌∷◌, ◌++◌, length, Option, Some, None, unwrap_or, if◌then◌else◌}
+use Rattle.std.specs.List.{flat_map}
+use Rattle.std.specs.Int.{w16, w32, w64, to_be_bytes}
+use Rattle.cpg_cube.specs.declared.literal.Literal.{Literal}
+use Rattle.cpg_table.specs.Head.{Head, version_of}
+use Rattle.cpg_table.specs.declared.head_parts.HeadProcess.{HeadProcess}
+use Rattle.cpg_table.specs.declared.head_parts.Extra.{Extra}
+use Rattle.cpg_table.specs.Table.{Column, Row, NodeTable}
+use Rattle.cpg_table.specs.Lawful.{Tables, rows_of}
+
+-- the text CPGT
+abbrev pub magic : ℕ
+magic = 0x43504754
+
+abbrev pub byte : ℕ → List ℕ
+byte n = n ∷ []
+
+abbrev pub bit : Bool → ℕ
+bit b = if b then 1 else 0
+
+abbrev pub name_bytes : List ℕ → List ℕ
+name_bytes text = byte (length text) ++ text
+
+-- no own deadline is eight bytes ff
+abbrev pub own_number : Option ℕ → ℕ
+own_number None = 18446744073709551615
+own_number (Some d) = d
+
+abbrev pub extra_bytes : Option Extra → List ℕ
+extra_bytes None = []
+extra_bytes (Some e) = to_be_bytes w64 e.release ++ to_be_bytes w64 (own_number e.deadline)
+
+-- a process with what version 2 says of it
+pub record Written : Type 0 where
+  pub process : HeadProcess
+  pub extra : Option Extra
+
+abbrev pub written_with : HeadProcess → Option Extra → Written
+written_with p o = record { process = p; extra = o }
+
+-- processes, each with its part of a list that may be too short
+abbrev pub written_by : List HeadProcess → List Extra → List Written
+written_by [] es = []
+written_by (p ∷ ps) [] = record { process = p; extra = None } ∷ written_by ps []
+written_by (p ∷ ps) (e ∷ es) = record { process = p; extra = Some e } ∷ written_by ps es
+
+-- the processes of a head
+abbrev pub written : Head → List Written
+written h = written_by h.processes (unwrap_or h.extras [])
+
+abbrev pub process_bytes : Written → List ℕ
+process_bytes w = name_bytes w.process.name ++ byte w.process.node ++ byte (bit w.process.condition) ++ flat_map (to_be_bytes w64) w.process.times ++ extra_bytes w.extra
+
+abbrev pub edge_bytes : ℕ × ℕ → List ℕ
+edge_bytes e = byte e.0 ++ byte e.1
+
+abbrev pub head_bytes : Head → List ℕ
+head_bytes h =
+    to_be_bytes w32 magic ++ byte (version_of h) ++ byte h.faults
+    ++ byte (length h.nodes) ++ flat_map name_bytes h.nodes
+    ++ byte (length h.processes) ++ flat_map process_bytes (written h)
+    ++ to_be_bytes w16 (length h.edges) ++ flat_map edge_bytes h.edges
+
+abbrev pub literal_bytes : Literal → List ℕ
+literal_bytes l = byte l.variable ++ byte l.low ++ byte l.high
+
+abbrev pub column_bytes : Column → List ℕ
+column_bytes c = to_be_bytes w64 c.time ++ byte (length c.cube) ++ flat_map literal_bytes c.cube
+
+abbrev pub row_bytes : Row → List ℕ
+row_bytes r = to_be_bytes w16 (length r.columns) ++ flat_map column_bytes r.columns
+
+-- the rows of what a node starts, then of what it sends, then of what it hears
+abbrev pub table_bytes : NodeTable → List ℕ
+table_bytes t = flat_map row_bytes (rows_of t)
+
+abbrev pub spelling : Tables → List ℕ
+spelling t = head_bytes t.head ++ flat_map table_bytes t.nodes

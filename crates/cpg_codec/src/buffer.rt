@@ -1,0 +1,79 @@
+//! A buffer in front of a sink.
+ghost use Rattle.std.specs.Prelude.{◌≡◌, ◌≤◌, ◌+◌, ◌++◌, [], IfOk, OnOk, OnErr, length};
+ghost use Rattle.std.specs.Io.KnownBytes.{Appends};
+ghost use Rattle.cpg_io.specs.Causes.{HasCause};
+ghost use Rattle.cpg_io.specs.Sink.{TookPrefix};
+ghost use Rattle.cpg_codec.specs.Writing.{Puts};
+
+use cpg_io::{Failed, Sink, write_all};
+use std::alloc::{AllocError, Global};
+use std::marker::Model;
+
+/// How many bytes are gathered before they are written.
+const SIZE: usize = 65_536;
+
+/// Bytes on their way to a sink, seen as their list.
+#[derive(Drop)]
+pub struct Buffer {
+    bytes: Vec<u8>,
+}
+
+impl Model for Buffer {
+    ghost use Rattle.std.specs.Prelude.{List, ℕ, ◌≤◌, vec_len, vec_capacity};
+
+    ghost Value = { List ℕ };
+
+    ghost view = { λ b. b.bytes.items };
+
+    ghost invariant = { λ b. (vec_len b.bytes ≤ 65536) × (65536 ≤ vec_capacity b.bytes) };
+}
+
+impl Buffer {
+    /// An empty buffer, which reserves all that it ever needs.
+    pub fn new(alloc: Global) -> Result<Buffer, AllocError>
+        ensures { IfOk result (λ b. b ≡ []) }
+    {
+        let bytes = Vec::with_capacity(alloc, SIZE)?;
+        Ok(Buffer { bytes })
+    }
+
+    /// Adds bytes for which there is room.
+    fn hold(&mut self, piece: &[u8])
+        requires { length self.old + length piece.now ≤ 65536 }
+        ensures { self.new ≡ self.old ++ piece.now }
+    {
+        if self.bytes.extend_from_slice(piece).is_err() {
+            unreachable!()
+        }
+    }
+
+    /// Writes all that is held.
+    pub fn write<O: Sink>(&mut self, sink: &mut O) -> Result<(), Failed>
+        ensures whole { OnOk result (Appends (O.taken sink.old) (O.taken sink.new) self.old) }
+        ensures part { OnErr result (TookPrefix (O.taken sink.old) (O.taken sink.new) self.old) }
+        ensures empty { OnOk result (self.new ≡ []) }
+        ensures cause { HasCause (O.faults sink.old) (O.faults sink.new) result }
+    {
+        write_all(sink, self.bytes.as_slice())?;
+        self.bytes.clear();
+        Ok(())
+    }
+
+    /// Adds a piece, and writes the buffer whole where that makes it full.
+    pub fn put<O: Sink>(&mut self, sink: &mut O, piece: &[u8]) -> Result<(), Failed>
+        requires { length piece.now ≤ 65536 }
+        ensures put { Puts (O.taken sink.old) (O.taken sink.new) self.old self.new result piece.now }
+        ensures cause { HasCause (O.faults sink.old) (O.faults sink.new) result }
+    {
+        let free = SIZE - self.bytes.len();
+        if piece.len() < free {
+            self.hold(piece);
+            return Ok(());
+        }
+        let (front, rest) = piece.split_at(free);
+        self.hold(front);
+        self.write(sink)?;
+        self.hold(rest);
+        Ok(())
+    }
+}

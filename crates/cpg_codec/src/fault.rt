@@ -1,0 +1,92 @@
+//! Why tables weren't written or read.
+
+use cpg_base::OutOfMemory as NoMemory;
+use cpg_io::Failed;
+use std::alloc::{AllocError, AllocFailed};
+use thiserror::Error;
+
+/// Why a pack wasn't written.
+#[derive(Clone, Copy, Debug, PartialEq, Eq, Error)]
+pub enum WriteFault {
+    /// The sink met a fault, and its count of faults rose.
+    #[error("the sink met a fault")]
+    Failed,
+    /// Want of memory.
+    #[error("out of memory")]
+    OutOfMemory,
+}
+
+impl From<Failed> for WriteFault {
+    ghost use Rattle.std.specs.Prelude.{◌≡◌};
+    ghost use Rattle.cpg_codec.specs.declared.fault.WriteFault.{WriteFault};
+
+    ghost from_gives = { λ _ e. e ≡ WriteFault.Failed };
+
+    fn from(_: Failed) -> WriteFault {
+        WriteFault::Failed
+    }
+}
+
+impl From<AllocError> for WriteFault {
+    ghost use Rattle.std.specs.Prelude.{◌≡◌};
+    ghost use Rattle.cpg_codec.specs.declared.fault.WriteFault.{WriteFault};
+
+    ghost from_gives = { λ _ e. e ≡ WriteFault.OutOfMemory };
+
+    fn from(_: AllocError) -> WriteFault {
+        WriteFault::OutOfMemory
+    }
+}
+
+/// Why no tables came of bytes.
+#[derive(Clone, Copy, Debug, PartialEq, Eq, Error)]
+pub enum PackFault {
+    /// They are no pack. The number is the length of the longest prefix of them that is a prefix of some pack, in bytes.
+    #[error("the first {0} bytes can begin a pack, no more")]
+    BadPack(u64),
+    /// Want of memory.
+    #[error("out of memory")]
+    OutOfMemory,
+}
+
+/// Why a field couldn't be read.
+#[derive(Clone, Copy, Debug)]
+pub enum ReadError {
+    /// How many bytes are left from the first bad one on.
+    Left(usize),
+    /// Want of memory.
+    Memory,
+}
+
+impl From<NoMemory> for ReadError {
+    ghost use Rattle.std.specs.Prelude.{◌≡◌};
+    ghost use Rattle.cpg_codec.specs.declared.fault.ReadError.{ReadError};
+
+    ghost from_gives = { λ _ e. e ≡ ReadError.Memory };
+
+    fn from(_: NoMemory) -> ReadError {
+        ReadError::Memory
+    }
+}
+
+impl From<AllocError> for ReadError {
+    ghost use Rattle.std.specs.Prelude.{◌≡◌};
+    ghost use Rattle.cpg_codec.specs.declared.fault.ReadError.{ReadError};
+
+    ghost from_gives = { λ _ e. e ≡ ReadError.Memory };
+
+    fn from(_: AllocError) -> ReadError {
+        ReadError::Memory
+    }
+}
+
+impl<T: Drop> From<AllocFailed<T>> for ReadError {
+    ghost use Rattle.std.specs.Prelude.{◌≡◌};
+    ghost use Rattle.cpg_codec.specs.declared.fault.ReadError.{ReadError};
+
+    ghost from_gives = { λ _ e. e ≡ ReadError.Memory };
+
+    fn from(_: AllocFailed<T>) -> ReadError {
+        ReadError::Memory
+    }
+}

@@ -1,0 +1,214 @@
+//! Fields, read.
+ghost use Rattle.std.specs.Prelude.{◌≡◌, ◌≤◌, ◌<◌, ◌+◌, ℕ, List, length, Ok, Err, IfOk, ◌^◌, IsTrue, slice_index_or, ◌↔◌, ◌==◌, is_some};
+ghost use Rattle.cpg_base.specs.Name.{IsName, is_name_byte};
+ghost use Rattle.cpg_codec.specs.Reading.{number_at, within, times_at, byte_by};
+ghost use Rattle.cpg_codec.specs.Grammar.{small_at, time_at, name_at, own_may, own_at, extra_at};
+ghost use Rattle.cpg_codec.specs.Gives.{Gives};
+
+use crate::fault::ReadError;
+use crate::fixed::{Fixed, long_number};
+use cpg_base::{Name, OutOfMemory};
+use cpg_table::Extra;
+use std::alloc::Global;
+
+/// A byte from low to high, and the bytes after it.
+pub fn small_of(bytes: &[u8], low: u8, high: u8) -> Result<(u8, &[u8]), ReadError>
+    ensures gives { Gives (λ x. (x.0, x.1.now)) result (small_at low high bytes.now) }
+    ensures range { IfOk result (λ x. (low ≤ x.0) × (x.0 ≤ high)) }
+{
+    match bytes {
+        [] => Err(ReadError::Left(0)),
+        [byte, rest @ ..] => {
+            if *byte < low {
+                return Err(ReadError::Left(bytes.len()));
+            }
+            if high < *byte {
+                return Err(ReadError::Left(bytes.len()));
+            }
+            Ok((*byte, rest))
+        }
+    }
+}
+
+/// A number of so many bytes from low to high.
+pub fn number_of(bytes: &[u8], width: u32, low: u64, high: u64) -> Result<(u64, &[u8]), ReadError>
+    requires narrow { width ≤ 8 }
+    requires some { low ≤ high }
+    requires fits { high < 256 ^ width }
+    ensures gives { Gives (λ x. (x.0, x.1.now)) result (number_at width (within low high) bytes.now) }
+    ensures range { IfOk result (λ x. (low ≤ x.0) × (x.0 ≤ high)) }
+{
+    let mut number: u64 = 0;
+    let mut rest = bytes;
+    for done in 0..width {
+        let after = width - 1 - done;
+        match rest {
+            [] => return Err(ReadError::Left(0)),
+            [byte, behind @ ..] => {
+                let next = number * 256 + *byte as u64;
+                if next < low >> (8 * after) {
+                    return Err(ReadError::Left(rest.len()));
+                }
+                if high >> (8 * after) < next {
+                    return Err(ReadError::Left(rest.len()));
+                }
+                number = next;
+                rest = behind;
+            }
+        }
+    }
+    Ok((number, rest))
+}
+
+fn is_within(number: u64, low: u64, high: u64) -> bool
+    ensures { IsTrue result ↔ (low ≤ number) × (number ≤ high) }
+{
+    low <= number && number <= high
+}
+
+/// A number of eight bytes from low to high.
+pub fn long_of(bytes: &[u8], low: u64, high: u64) -> Result<(u64, &[u8]), ReadError>
+    requires { low ≤ high }
+    ensures { Gives (λ x. (x.0, x.1.now)) result (number_at 8 (within low high) bytes.now) }
+{
+    if let [a, b, c, d, e, f, g, h, rest @ ..] = bytes {
+        let number = long_number(&Fixed::new([*a, *b, *c, *d, *e, *f, *g, *h]));
+        if is_within(number, low, high) {
+            return Ok((number, rest));
+        }
+    }
+    number_of(bytes, 8, low, high)
+}
+
+/// A time below 2^60.
+#[tactic(auto, unfolding(crate::specs::Grammar::time_at))]
+pub fn time_of(bytes: &[u8]) -> Result<(u64, &[u8]), ReadError>
+    ensures { Gives (λ x. (x.0, x.1.now)) result (time_at bytes.now) }
+{
+    long_of(bytes, 0, 1152921504606846975)
+}
+
+/// So many times.
+pub fn times_of(alloc: Global, bytes: &[u8], count: u32) -> Result<(Vec<u64>, &[u8]), ReadError>
+    ensures { Gives (λ x. (x.0.items, x.1.now)) result (times_at time_at count bytes.now) }
+{
+    let mut times = Vec::new(alloc);
+    let mut rest = bytes;
+    for _ in 0..count {
+        let (time, after) = time_of(rest)?;
+        times.push(time)?;
+        rest = after;
+    }
+    Ok((times, rest))
+}
+
+/// The bytes of a name.
+#[tactic(auto, unfolding(crate::specs::Grammar::name_at))]
+fn text_of(alloc: Global, bytes: &[u8]) -> Result<(Vec<u8>, &[u8]), ReadError>
+    ensures { Gives (λ x. (x.0.items, x.1.now)) result (name_at bytes.now) }
+{
+    let (count, rest) = small_of(bytes, 1, 32)?;
+    letters_of(alloc, rest, count as u32)
+}
+
+/// The name that these bytes spell.
+fn named(alloc: Global, text: &[u8]) -> Result<Name, OutOfMemory>
+    requires { IsName text.now }
+    ensures { IfOk result (λ name. name ≡ text.now) }
+{
+    let Ok(text) = str::from_utf8(text) else {
+        unreachable!()
+    };
+    match Name::new(alloc, text)? {
+        Some(name) => Ok(name),
+        None => unreachable!(),
+    }
+}
+
+/// A name.
+pub fn name_of(alloc: Global, bytes: &[u8]) -> Result<(Name, &[u8]), ReadError>
+    ensures { Gives (λ x. (x.0, x.1.now)) result (name_at bytes.now) }
+{
+    let (text, rest) = text_of(alloc, bytes)?;
+    let name = named(alloc, text.as_slice())?;
+    Ok((name, rest))
+}
+
+/// So many letters of a name.
+fn letters_of(alloc: Global, bytes: &[u8], count: u32) -> Result<(Vec<u8>, &[u8]), ReadError>
+    ensures { Gives (λ x. (x.0.items, x.1.now)) result (times_at (byte_by is_name_byte) count bytes.now) }
+{
+    let mut letters = Vec::new(alloc);
+    let mut rest = bytes;
+    for _ in 0..count {
+        let (letter, after) = letter_of(rest)?;
+        letters.push(letter)?;
+        rest = after;
+    }
+    Ok((letters, rest))
+}
+
+fn is_letter(byte: u8) -> bool
+    ensures { result ≡ is_name_byte byte }
+{
+    match byte {
+        b'A'..=b'Z' | b'a'..=b'z' | b'0'..=b'9' | b'_' | b'-' | b'.' => true,
+        _ => false,
+    }
+}
+
+fn letter_of(bytes: &[u8]) -> Result<(u8, &[u8]), ReadError>
+    ensures { Gives (λ x. (x.0, x.1.now)) result (byte_by is_name_byte bytes.now) }
+{
+    match bytes {
+        [] => Err(ReadError::Left(0)),
+        [byte, rest @ ..] => {
+            if !is_letter(*byte) {
+                return Err(ReadError::Left(bytes.len()));
+            }
+            Ok((*byte, rest))
+        }
+    }
+}
+
+fn begins_none(bytes: &[u8]) -> bool
+    ensures { IsTrue result ↔ (slice_index_or bytes.now 0 0 ≡ 255) }
+{
+    !bytes.is_empty() && bytes[0] == 255
+}
+
+fn own_number_of(bytes: &[u8]) -> Result<(u64, &[u8]), ReadError>
+    ensures { Gives (λ x. (x.0, x.1.now)) result (number_at 8 own_may bytes.now) }
+{
+    if begins_none(bytes) {
+        long_of(bytes, u64::MAX, u64::MAX)
+    } else {
+        long_of(bytes, 0, 1_000_000_000)
+    }
+}
+
+/// An own deadline, or none.
+#[tactic(auto, unfolding(crate::specs::Grammar::own_at))]
+pub fn own_of(bytes: &[u8]) -> Result<(Option<u64>, &[u8]), ReadError>
+    ensures { Gives (λ x. (x.0, x.1.now)) result (own_at bytes.now) }
+{
+    let (number, rest) = own_number_of(bytes)?;
+    if number == u64::MAX {
+        return Ok((None, rest));
+    }
+    Ok((Some(number), rest))
+}
+
+/// What version 2 adds.
+#[tactic(auto, unfolding(crate::specs::Grammar::extra_at))]
+pub fn extra_of(bytes: &[u8], version: u8) -> Result<(Option<Extra>, &[u8]), ReadError>
+    ensures gives { Gives (λ x. (x.0, x.1.now)) result (extra_at version bytes.now) }
+    ensures kind { IfOk result (λ x. is_some x.0 ≡ (version == 2)) }
+{
+    if version != 2 {
+        return Ok((None, bytes));
+    }
+    let (release, rest) = long_of(bytes, 0, 1_000_000_000)?;
+    let (deadline, rest) = own_of(rest)?;
+    Ok((Some(Extra { release, deadline }), rest))
+}

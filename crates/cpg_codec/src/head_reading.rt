@@ -1,0 +1,270 @@
+//! The head of a pack, read.
+ghost use Rattle.std.specs.Prelude.{◌≡◌, ◌≤◌, ◌<◌, ◌+◌, ◌*◌, ◌^◌, ◌==◌, is_some, IfSome, ℕ, List, length, Ok, Err, IfOk, OnOk, IsTrue, ◌↔◌, ◌++◌, nat_lt, if◌then◌else◌};
+ghost use Rattle.cpg_table.specs.Head.{IsHead};
+ghost use Rattle.cpg_codec.specs.Reading.{number_at, within, times_at};
+ghost use Rattle.cpg_codec.specs.Spelling.{magic, bit, written_by, written_with};
+ghost use Rattle.cpg_codec.specs.Grammar.{place_at, process_at, processes_at, edge_at, limit, listed, name_at, head_at};
+ghost use Rattle.cpg_codec.specs.Gives.{Gives};
+ghost use Rattle.cpg_codec.specs.Packs.{IsPackHead};
+ghost use Rattle.cpg_codec.specs.Parts.{head_of_parts};
+
+use crate::fault::ReadError;
+use crate::field_reading::{extra_of, name_of, number_of, small_of, times_of};
+use crate::fixed::{Fixed, edge_from, edge_to, process_flag, process_node};
+use cpg_base::{Name, OutOfMemory};
+use cpg_table::{Durations, Extra, Head, HeadProcess};
+use std::alloc::{AllocError, Global};
+
+/// The text CPGT.
+const MAGIC: u64 = 0x43504754;
+/// How many conditions there are at most.
+const MOST_CONDITIONS: u32 = 32;
+
+/// The greatest condition flag behind so many processes with a condition.
+fn flag_end(ones: u32) -> u8
+    ensures { result ≡ (if nat_lt ones 32 then 1 else 0) }
+{
+    if ones < MOST_CONDITIONS { 1 } else { 0 }
+}
+
+/// The node of a process, and its condition flag, where `ones` processes before have a condition; field by field.
+#[tactic(auto, unfolding(crate::specs::Grammar::place_at))]
+fn place_by_fields(bytes: &[u8], nodes: u8, ones: u32) -> Result<(u8, u8, &[u8]), ReadError>
+    requires { 0 < nodes }
+    ensures { Gives (λ x. ((x.0, x.1), x.2.now)) result (place_at nodes ones bytes.now) }
+{
+    let (node, rest) = small_of(bytes, 0, nodes - 1)?;
+    let (flag, rest) = small_of(rest, 0, flag_end(ones))?;
+    Ok((node, flag, rest))
+}
+
+fn are_within(node: u8, flag: u8, nodes: u8, ones: u32) -> bool
+    ensures { IsTrue result ↔ (node < nodes) × (flag ≤ (if nat_lt ones 32 then 1 else 0)) }
+{
+    node < nodes && flag <= flag_end(ones)
+}
+
+/// The node of a process, and its condition flag, where `ones` processes before have a condition.
+fn place_of(bytes: &[u8], nodes: u8, ones: u32) -> Result<(u8, u8, &[u8]), ReadError>
+    requires { 0 < nodes }
+    ensures { Gives (λ x. ((x.0, x.1), x.2.now)) result (place_at nodes ones bytes.now) }
+{
+    if let [a, b, rest @ ..] = bytes {
+        let place = Fixed::new([*a, *b]);
+        let node = process_node(&place);
+        let flag = process_flag(&place);
+        if are_within(node, flag, nodes, ones) {
+            return Ok((node, flag, rest));
+        }
+    }
+    place_by_fields(bytes, nodes, ones)
+}
+
+/// A process behind `ones` with a condition, and what version 2 says of it.
+#[tactic(auto, unfolding(crate::specs::Grammar::process_at))]
+fn process_of(
+    alloc: Global,
+    bytes: &[u8],
+    version: u8,
+    faults: u8,
+    nodes: u8,
+    ones: u32,
+) -> Result<(HeadProcess, Option<Extra>, &[u8]), ReadError>
+    requires { 0 < nodes }
+    ensures gives { Gives (λ x. (written_with x.0 x.1, x.2.now)) result (process_at version faults nodes ones bytes.now) }
+    ensures kind { IfOk result (λ x. is_some x.1 ≡ (version == 2)) }
+{
+    let (name, rest) = name_of(alloc, bytes)?;
+    let (node, flag, rest) = place_of(rest, nodes, ones)?;
+    let (times, rest) = times_of(alloc, rest, faults as u32 + 1)?;
+    let (extra, rest) = extra_of(rest, version)?;
+    Ok((
+        HeadProcess {
+            name,
+            node: node as u32,
+            condition: flag == 1,
+            times: Durations::new(times),
+        },
+        extra,
+        rest,
+    ))
+}
+
+fn bit_of(condition: bool) -> u32
+    ensures { result ≡ bit condition }
+{
+    if condition { 1 } else { 0 }
+}
+
+fn push_extra(extras: &mut Vec<Extra>, extra: Option<Extra>) -> Result<(), AllocError>
+    ensures { OnOk result (extras.new.items ≡ extras.old.items ++ listed extra) }
+{
+    if let Some(extra) = extra {
+        extras.push(extra)?;
+    }
+    Ok(())
+}
+
+/// So many processes, and what version 2 says of them.
+fn processes_of(
+    alloc: Global,
+    bytes: &[u8],
+    version: u8,
+    faults: u8,
+    nodes: u8,
+    count: u8,
+) -> Result<(Vec<HeadProcess>, Vec<Extra>, &[u8]), ReadError>
+    requires { 0 < count → 0 < nodes }
+    ensures gives { Gives (λ x. (written_by x.0.items x.1.items, x.2.now)) result (processes_at version faults nodes count bytes.now) }
+    ensures kept { IfOk result (λ x. length x.1.items ≡ (if version == 2 then length x.0.items else 0)) }
+{
+    let mut processes = Vec::with_capacity(alloc, count as usize)?;
+    let mut extras = Vec::new(alloc);
+    let mut rest = bytes;
+    let mut ones: u32 = 0;
+    for _ in 0..count {
+        let (process, extra, after) = process_of(alloc, rest, version, faults, nodes, ones)?;
+        ones += bit_of(process.condition);
+        processes.push(process)?;
+        push_extra(&mut extras, extra)?;
+        rest = after;
+    }
+    Ok((processes, extras, rest))
+}
+
+/// So many names.
+fn names_of(alloc: Global, bytes: &[u8], count: u8) -> Result<(Vec<Name>, &[u8]), ReadError>
+    ensures { Gives (λ x. (x.0.items, x.1.now)) result (times_at name_at count bytes.now) }
+{
+    let mut names = Vec::with_capacity(alloc, count as usize)?;
+    let mut rest = bytes;
+    for _ in 0..count {
+        let (name, after) = name_of(alloc, rest)?;
+        names.push(name)?;
+        rest = after;
+    }
+    Ok((names, rest))
+}
+
+/// An edge between two of so many processes, field by field.
+#[tactic(auto, unfolding(crate::specs::Grammar::edge_at))]
+fn edge_by_fields(bytes: &[u8], processes: u8) -> Result<((u32, u32), &[u8]), ReadError>
+    requires { 0 < processes }
+    ensures { Gives (λ x. (x.0, x.1.now)) result (edge_at processes bytes.now) }
+{
+    let (from, rest) = small_of(bytes, 0, processes - 1)?;
+    let (to, rest) = small_of(rest, 0, processes - 1)?;
+    Ok(((from as u32, to as u32), rest))
+}
+
+fn are_ends(from: u8, to: u8, processes: u8) -> bool
+    ensures { IsTrue result ↔ (from < processes) × (to < processes) }
+{
+    from < processes && to < processes
+}
+
+/// An edge between two of so many processes.
+fn edge_of(bytes: &[u8], processes: u8) -> Result<((u32, u32), &[u8]), ReadError>
+    requires { 0 < processes }
+    ensures { Gives (λ x. (x.0, x.1.now)) result (edge_at processes bytes.now) }
+{
+    if let [a, b, rest @ ..] = bytes {
+        let edge = Fixed::new([*a, *b]);
+        let from = edge_from(&edge);
+        let to = edge_to(&edge);
+        if are_ends(from, to, processes) {
+            return Ok(((from as u32, to as u32), rest));
+        }
+    }
+    edge_by_fields(bytes, processes)
+}
+
+/// So many edges.
+fn edges_of(
+    alloc: Global,
+    bytes: &[u8],
+    count: u16,
+    processes: u8,
+) -> Result<(Vec<(u32, u32)>, &[u8]), ReadError>
+    requires { 0 < count → 0 < processes }
+    ensures { Gives (λ x. (x.0.items, x.1.now)) result (times_at (edge_at processes) count bytes.now) }
+{
+    let mut edges = Vec::with_capacity(alloc, count as usize)?;
+    let mut rest = bytes;
+    for _ in 0..count {
+        let (edge, after) = edge_of(rest, processes)?;
+        edges.push(edge)?;
+        rest = after;
+    }
+    Ok((edges, rest))
+}
+
+fn limit_of(below: u8, most: u64) -> u64
+    ensures { result ≡ limit below most }
+{
+    if below == 0 { 0 } else { most }
+}
+
+/// The parts of a head.
+#[derive(Drop)]
+pub struct HeadParts {
+    version: u8,
+    faults: u8,
+    nodes: Vec<Name>,
+    processes: Vec<HeadProcess>,
+    extras: Vec<Extra>,
+    edges: Vec<(u32, u32)>,
+}
+
+#[tactic(auto, unfolding(crate::specs::Grammar::head_at))]
+fn parts_of(alloc: Global, bytes: &[u8]) -> Result<(HeadParts, &[u8]), ReadError>
+    ensures gives { Gives (λ x. (head_of_parts x.0, x.1.now)) result (head_at bytes.now) }
+    ensures kept { IfOk result (λ x. length x.0.extras.items ≡ (if x.0.version == 2 then length x.0.processes.items else 0)) }
+{
+    let (_text, rest) = number_of(bytes, 4, MAGIC, MAGIC)?;
+    let (version, rest) = small_of(rest, 1, 2)?;
+    let (faults, rest) = small_of(rest, 0, 8)?;
+    let (names, rest) = small_of(rest, 0, 16)?;
+    let (nodes, rest) = names_of(alloc, rest, names)?;
+    let (count, rest) = small_of(rest, 0, limit_of(names, 128) as u8)?;
+    let (processes, extras, rest) = processes_of(alloc, rest, version, faults, names, count)?;
+    let (ends, rest) = number_of(rest, 2, 0, limit_of(count, 256))?;
+    let (edges, rest) = edges_of(alloc, rest, ends as u16, count)?;
+    Ok((
+        HeadParts {
+            version,
+            faults,
+            nodes,
+            processes,
+            extras,
+            edges,
+        },
+        rest,
+    ))
+}
+
+/// The head of lawful parts.
+fn joined(parts: HeadParts) -> Head
+    requires lawful { IsPackHead (head_of_parts parts) }
+    requires kept { length parts.extras.items ≡ (if parts.version == 2 then length parts.processes.items else 0) }
+    ensures { result ≡ head_of_parts parts }
+{
+    let Some(head) = Head::new(parts.faults, parts.nodes, parts.processes, parts.edges) else {
+        unreachable!()
+    };
+    if parts.version != 2 {
+        return head;
+    }
+    match head.with_extras(parts.extras) {
+        Some(head) => head,
+        None => unreachable!(),
+    }
+}
+
+/// A head.
+pub fn head_of(alloc: Global, bytes: &[u8]) -> Result<(Head, &[u8]), ReadError>
+    ensures { Gives (λ x. (x.0, x.1.now)) result (head_at bytes.now) }
+{
+    let (parts, rest) = parts_of(alloc, bytes)?;
+    Ok((joined(parts), rest))
+}

@@ -1,0 +1,180 @@
+//! The head of a pack, written.
+ghost use Rattle.std.specs.Prelude.{◌≡◌, ◌<◌, ◌≤◌, ◌++◌, All, length};
+ghost use Rattle.std.specs.List.{flat_map};
+ghost use Rattle.std.specs.Int.{w16, w64, to_be_bytes};
+ghost use Rattle.cpg_io.specs.Causes.{HasCause};
+ghost use Rattle.cpg_table.specs.Head.{extra_at};
+ghost use Rattle.cpg_codec.specs.Spelling.{byte, bit, name_bytes, own_number, extra_bytes, written, process_bytes, edge_bytes, head_bytes};
+ghost use Rattle.cpg_codec.specs.Writing.{Puts, IsShortEdge};
+
+use crate::buffer::Buffer;
+use crate::row_writing::{put_long, put_short};
+use cpg_base::Name;
+use cpg_io::{Failed, Sink};
+use cpg_table::{Extra, Head, HeadProcess};
+
+fn put_text<O: Sink>(buffer: &mut Buffer, sink: &mut O, text: &[u8]) -> Result<(), Failed>
+    requires { length text.now ≤ 32 }
+    ensures put { Puts (O.taken sink.old) (O.taken sink.new) buffer.old buffer.new result (name_bytes text.now) }
+    ensures cause { HasCause (O.faults sink.old) (O.faults sink.new) result }
+{
+    buffer.put(sink, &[text.len() as u8])?;
+    buffer.put(sink, text)
+}
+
+fn put_name<O: Sink>(buffer: &mut Buffer, sink: &mut O, name: &Name) -> Result<(), Failed>
+    ensures put { Puts (O.taken sink.old) (O.taken sink.new) buffer.old buffer.new result (name_bytes name.now) }
+    ensures cause { HasCause (O.faults sink.old) (O.faults sink.new) result }
+{
+    put_text(buffer, sink, name.as_str().as_bytes())
+}
+
+fn put_names<O: Sink>(buffer: &mut Buffer, sink: &mut O, names: &[Name]) -> Result<(), Failed>
+    ensures put { Puts (O.taken sink.old) (O.taken sink.new) buffer.old buffer.new result (flat_map name_bytes names.now) }
+    ensures cause { HasCause (O.faults sink.old) (O.faults sink.new) result }
+{
+    for name in names {
+        put_name(buffer, sink, name)?;
+    }
+    Ok(())
+}
+
+fn put_times<O: Sink>(buffer: &mut Buffer, sink: &mut O, times: &[u64]) -> Result<(), Failed>
+    ensures put { Puts (O.taken sink.old) (O.taken sink.new) buffer.old buffer.new result (flat_map (to_be_bytes w64) times.now) }
+    ensures cause { HasCause (O.faults sink.old) (O.faults sink.new) result }
+{
+    for time in times {
+        put_long(buffer, sink, *time)?;
+    }
+    Ok(())
+}
+
+fn own_number(deadline: Option<u64>) -> u64
+    ensures { result ≡ own_number deadline }
+{
+    match deadline {
+        Some(deadline) => deadline,
+        None => u64::MAX,
+    }
+}
+
+fn put_extra<O: Sink>(buffer: &mut Buffer, sink: &mut O, extra: Option<Extra>) -> Result<(), Failed>
+    ensures put { Puts (O.taken sink.old) (O.taken sink.new) buffer.old buffer.new result (extra_bytes extra) }
+    ensures cause { HasCause (O.faults sink.old) (O.faults sink.new) result }
+{
+    let Some(extra) = extra else {
+        return Ok(());
+    };
+    put_long(buffer, sink, extra.release)?;
+    put_long(buffer, sink, own_number(extra.deadline))
+}
+
+fn bit_of(condition: bool) -> u8
+    ensures { result ≡ bit condition }
+{
+    if condition { 1 } else { 0 }
+}
+
+/// How long the executions take, and what version 2 says beside.
+fn put_timing<O: Sink>(
+    buffer: &mut Buffer,
+    sink: &mut O,
+    times: &[u64],
+    extra: Option<Extra>,
+) -> Result<(), Failed>
+    ensures put { Puts (O.taken sink.old) (O.taken sink.new) buffer.old buffer.new result (flat_map (to_be_bytes w64) times.now ++ extra_bytes extra) }
+    ensures cause { HasCause (O.faults sink.old) (O.faults sink.new) result }
+{
+    put_times(buffer, sink, times)?;
+    put_extra(buffer, sink, extra)
+}
+
+fn put_process<O: Sink>(
+    buffer: &mut Buffer,
+    sink: &mut O,
+    process: &HeadProcess,
+    extra: Option<Extra>,
+) -> Result<(), Failed>
+    requires { process.now.node < 256 }
+    ensures put { Puts (O.taken sink.old) (O.taken sink.new) buffer.old buffer.new result (process_bytes (record { process = process.now; extra = extra })) }
+    ensures cause { HasCause (O.faults sink.old) (O.faults sink.new) result }
+{
+    put_name(buffer, sink, &process.name)?;
+    buffer.put(sink, &[process.node as u8, bit_of(process.condition)])?;
+    put_timing(buffer, sink, process.times.times(), extra)
+}
+
+/// What version 2 says of a process.
+fn extra_of(head: &Head, process: u32) -> Option<Extra>
+    requires { process < length head.now.processes }
+    ensures { result ≡ extra_at head.now process }
+{
+    match head.extra(process) {
+        Some(extra) => Some(*extra),
+        None => None,
+    }
+}
+
+fn put_processes<O: Sink>(buffer: &mut Buffer, sink: &mut O, head: &Head) -> Result<(), Failed>
+    ensures put { Puts (O.taken sink.old) (O.taken sink.new) buffer.old buffer.new result (flat_map process_bytes (written head.now)) }
+    ensures cause { HasCause (O.faults sink.old) (O.faults sink.new) result }
+{
+    let processes = head.processes();
+    let count = processes.len() as u32;
+    for number in 0..count {
+        let extra = extra_of(head, number);
+        put_process(buffer, sink, &processes[number as usize], extra)?;
+    }
+    Ok(())
+}
+
+fn put_edges<O: Sink>(buffer: &mut Buffer, sink: &mut O, edges: &[(u32, u32)]) -> Result<(), Failed>
+    requires { All IsShortEdge edges.now }
+    ensures put { Puts (O.taken sink.old) (O.taken sink.new) buffer.old buffer.new result (flat_map edge_bytes edges.now) }
+    ensures cause { HasCause (O.faults sink.old) (O.faults sink.new) result }
+{
+    for (from, to) in edges {
+        buffer.put(sink, &[*from as u8, *to as u8])?;
+    }
+    Ok(())
+}
+
+/// How many edges there are, and these.
+fn put_counted_edges<O: Sink>(
+    buffer: &mut Buffer,
+    sink: &mut O,
+    edges: &[(u32, u32)],
+) -> Result<(), Failed>
+    requires few { length edges.now ≤ 256 }
+    requires short { All IsShortEdge edges.now }
+    ensures put { Puts (O.taken sink.old) (O.taken sink.new) buffer.old buffer.new result (to_be_bytes w16 (length edges.now) ++ flat_map edge_bytes edges.now) }
+    ensures cause { HasCause (O.faults sink.old) (O.faults sink.new) result }
+{
+    put_short(buffer, sink, edges.len() as u16)?;
+    put_edges(buffer, sink, edges)
+}
+
+/// The processes and the edges.
+fn put_graph<O: Sink>(buffer: &mut Buffer, sink: &mut O, head: &Head) -> Result<(), Failed>
+    ensures put { Puts (O.taken sink.old) (O.taken sink.new) buffer.old buffer.new result (byte (length head.now.processes) ++ (flat_map process_bytes (written head.now) ++ (to_be_bytes w16 (length head.now.edges) ++ flat_map edge_bytes head.now.edges))) }
+    ensures cause { HasCause (O.faults sink.old) (O.faults sink.new) result }
+{
+    buffer.put(sink, &[head.processes().len() as u8])?;
+    put_processes(buffer, sink, head)?;
+    put_counted_edges(buffer, sink, head.edges())
+}
+
+/// The head.
+pub fn put_head<O: Sink>(buffer: &mut Buffer, sink: &mut O, head: &Head) -> Result<(), Failed>
+    ensures put { Puts (O.taken sink.old) (O.taken sink.new) buffer.old buffer.new result (head_bytes head.now) }
+    ensures cause { HasCause (O.faults sink.old) (O.faults sink.new) result }
+{
+    let nodes = head.nodes();
+    let count = nodes.len() as u8;
+    buffer.put(
+        sink,
+        &[b'C', b'P', b'G', b'T', head.version(), head.faults(), count],
+    )?;
+    put_names(buffer, sink, nodes)?;
+    put_graph(buffer, sink, head)
+}

@@ -1,0 +1,39 @@
+//! Packs: the tables of all nodes with their head, in one file of bytes.
+//!
+//! [`write_pack`] writes the one spelling of tables, and [`read_pack`] reads it; docs/FORMATS.md says what it is.
+#![tactic(auto)]
+
+ghost use Rattle.cpg_codec.specs.Packs.{OneValue, NoProperPrefix};
+
+mod buffer;
+mod fault;
+mod field_reading;
+mod fixed;
+mod head_reading;
+mod head_writing;
+mod items;
+mod reading;
+mod row_reading;
+mod row_writing;
+mod space;
+#[cfg(test)]
+mod tests;
+mod writing;
+
+pub use fault::{PackFault, WriteFault};
+pub use fixed::{
+    Fixed, column_literals, column_time, edge_from, edge_to, literal_high, literal_low,
+    literal_variable, long_number, process_flag, process_node,
+};
+pub use reading::read_pack;
+pub use writing::write_pack;
+
+/// A pack is the spelling of one value: tables with equal spellings are equal.
+pub fn packs_have_one_value()
+    ensures { OneValue }
+{}
+
+/// No pack is a proper prefix of another.
+pub fn packs_have_no_proper_prefix()
+    ensures { NoProperPrefix }
+{}

@@ -1,0 +1,322 @@
+//! Rows and their columns, read.
+ghost use Rattle.std.specs.Prelude.{◌≡◌, ◌≤◌, ◌<◌, ◌+◌, ◌-◌, ◌*◌, ◌^◌, IsTrue, true, ℕ, suc, List, length, Ok, Err, IfOk, if◌then◌else◌, nat_lt};
+ghost use Rattle.cpg_cube.specs.declared.literal.Literal.{Literal};
+ghost use Rattle.cpg_cube.specs.Cube.{IsRising};
+ghost use Rattle.cpg_table.specs.Lawful.{space_of, column_count, rows_of};
+ghost use Rattle.cpg_codec.specs.Reading.{number_at, within, times_at, byte_by, each_at, down};
+ghost use Rattle.cpg_codec.specs.Grammar.{IsSpace, room, variable_may, low_end, high_end, literal_at, literals_at, front_at, column_at, row_at, rows_at, items_of_node, node_table_at};
+ghost use Rattle.cpg_codec.specs.Gives.{Gives};
+
+use crate::fault::ReadError;
+use crate::field_reading::{number_of, small_of, time_of};
+use crate::fixed::{
+    Fixed, column_literals, column_time, literal_high, literal_low, literal_variable,
+};
+use crate::space::Space;
+use cpg_base::OutOfMemory;
+use cpg_cube::{Cube, Literal};
+use cpg_table::{Entry, Head, NodeTable, Row};
+use std::alloc::Global;
+
+/// The variable of the first condition's value.
+const FIRST_VALUE: u8 = 128;
+/// Times are below this, in time units of the graph file.
+const TIME_END: u64 = 1 << 60;
+/// How many columns a row has at most.
+const MOST_IN_ROW: u64 = 16_384;
+/// How many columns all rows have together at most.
+const MOST_COLUMNS: u64 = 524_288;
+
+/// Whether a literal may be on a variable, after those below `least` and with `left` more after it.
+fn variable_may(space: &Space, least: u32, left: u32, variable: u8) -> bool
+    requires { IsSpace space.now }
+    ensures { result ≡ variable_may space.now least left variable }
+{
+    let variable = variable as u32;
+    (least <= variable && space.has(variable)) && left <= space.room(variable + 1)
+}
+
+fn variable_of<'a>(
+    bytes: &'a [u8],
+    space: &Space,
+    least: u32,
+    left: u32,
+) -> Result<(u8, &'a [u8]), ReadError>
+    requires { IsSpace space.now }
+    ensures { Gives (λ x. (x.0, x.1.now)) result (byte_by (variable_may space.now least left) bytes.now) }
+{
+    match bytes {
+        [] => Err(ReadError::Left(0)),
+        [byte, rest @ ..] => {
+            if !variable_may(space, least, left, *byte) {
+                return Err(ReadError::Left(bytes.len()));
+            }
+            Ok((*byte, rest))
+        }
+    }
+}
+
+/// The greatest low of a literal on this variable.
+fn low_end(space: &Space, variable: u8) -> u8
+    ensures { result ≡ low_end space.now variable }
+{
+    if variable < FIRST_VALUE {
+        space.faults
+    } else {
+        1
+    }
+}
+
+/// The greatest high of a literal on this variable with this low.
+fn high_end(space: &Space, variable: u8, low: u8) -> u8
+    ensures { result ≡ high_end space.now variable low }
+{
+    if variable < FIRST_VALUE {
+        if low == 0 {
+            space.faults.saturating_sub(1)
+        } else {
+            space.faults
+        }
+    } else {
+        low
+    }
+}
+
+/// A literal with `left` more behind it, field by field.
+#[tactic(auto, unfolding(crate::specs::Grammar::literal_at))]
+fn literal_by_fields<'a>(
+    bytes: &'a [u8],
+    space: &Space,
+    left: u32,
+    least: u32,
+) -> Result<(Literal, &'a [u8]), ReadError>
+    requires { IsSpace space.now }
+    ensures { Gives (λ x. (x.0, x.1.now)) result (literal_at space.now left least bytes.now) }
+{
+    let (variable, rest) = variable_of(bytes, space, least, left)?;
+    let (low, rest) = small_of(rest, 0, low_end(space, variable))?;
+    let (high, rest) = small_of(rest, low, high_end(space, variable, low))?;
+    Ok((
+        Literal {
+            variable,
+            low,
+            high,
+        },
+        rest,
+    ))
+}
+
+/// Whether a literal may stand here, with `left` more behind it.
+fn is_next(space: &Space, left: u32, least: u32, literal: Literal) -> bool
+    requires { IsSpace space.now }
+    ensures { IsTrue result → (variable_may space.now least left literal.variable ≡ true) × (literal.low ≤ low_end space.now literal.variable) × (literal.low ≤ literal.high) × (literal.high ≤ high_end space.now literal.variable literal.low) }
+{
+    if !variable_may(space, least, left, literal.variable) {
+        return false;
+    }
+    if literal.low > low_end(space, literal.variable) {
+        return false;
+    }
+    literal.low <= literal.high && literal.high <= high_end(space, literal.variable, literal.low)
+}
+
+/// A literal with `left` more behind it.
+fn literal_of<'a>(
+    bytes: &'a [u8],
+    space: &Space,
+    left: u32,
+    least: u32,
+) -> Result<(Literal, &'a [u8]), ReadError>
+    requires { IsSpace space.now }
+    ensures { Gives (λ x. (x.0, x.1.now)) result (literal_at space.now left least bytes.now) }
+{
+    if let [a, b, c, rest @ ..] = bytes {
+        let fields = Fixed::new([*a, *b, *c]);
+        let literal = Literal {
+            variable: literal_variable(&fields),
+            low: literal_low(&fields),
+            high: literal_high(&fields),
+        };
+        if is_next(space, left, least, literal) {
+            return Ok((literal, rest));
+        }
+    }
+    literal_by_fields(bytes, space, left, least)
+}
+
+/// So many literals.
+fn literals_of<'a>(
+    alloc: Global,
+    bytes: &'a [u8],
+    space: &Space,
+    count: u8,
+) -> Result<(Vec<Literal>, &'a [u8]), ReadError>
+    requires { IsSpace space.now }
+    ensures { Gives (λ x. (x.0.items, x.1.now)) result (literals_at space.now count bytes.now) }
+{
+    let mut literals = Vec::with_capacity(alloc, count as usize)?;
+    let mut rest = bytes;
+    let mut least: u32 = 0;
+    for done in 0..count {
+        let left = count - (done + 1);
+        let (literal, after) = literal_of(rest, space, left as u32, least)?;
+        least = literal.variable as u32 + 1;
+        literals.push(literal)?;
+        rest = after;
+    }
+    Ok((literals, rest))
+}
+
+/// The cube of literals that rise.
+fn cube_of(alloc: Global, literals: &[Literal]) -> Result<Cube, OutOfMemory>
+    requires { IsRising literals.now }
+    ensures { IfOk result (λ cube. cube ≡ literals.now) }
+{
+    match Cube::new(alloc, literals)? {
+        Some(cube) => Ok(cube),
+        None => unreachable!(),
+    }
+}
+
+/// The time of a column, and how many literals it has; field by field.
+#[tactic(auto, unfolding(crate::specs::Grammar::front_at))]
+fn front_by_fields<'a>(bytes: &'a [u8], space: &Space) -> Result<(u64, u8, &'a [u8]), ReadError>
+    requires { IsSpace space.now }
+    ensures { Gives (λ x. ((x.0, x.1), x.2.now)) result (front_at space.now bytes.now) }
+{
+    let (time, rest) = time_of(bytes)?;
+    let (count, rest) = small_of(rest, 0, space.room(0) as u8)?;
+    Ok((time, count, rest))
+}
+
+fn is_front(space: &Space, time: u64, count: u8) -> bool
+    requires { IsSpace space.now }
+    ensures { IsTrue result → (time < 2 ^ 60) × (count ≤ room space.now 0) }
+{
+    time < TIME_END && u32::from(count) <= space.room(0)
+}
+
+/// The time of a column, and how many literals it has.
+fn front_of<'a>(bytes: &'a [u8], space: &Space) -> Result<(u64, u8, &'a [u8]), ReadError>
+    requires { IsSpace space.now }
+    ensures { Gives (λ x. ((x.0, x.1), x.2.now)) result (front_at space.now bytes.now) }
+{
+    if let [a, b, c, d, e, f, g, h, i, rest @ ..] = bytes {
+        let front = Fixed::new([*a, *b, *c, *d, *e, *f, *g, *h, *i]);
+        let time = column_time(&front);
+        let count = column_literals(&front);
+        if is_front(space, time, count) {
+            return Ok((time, count, rest));
+        }
+    }
+    front_by_fields(bytes, space)
+}
+
+/// A column.
+#[tactic(auto, unfolding(crate::specs::Grammar::column_at))]
+fn column_of<'a>(
+    alloc: Global,
+    bytes: &'a [u8],
+    space: &Space,
+) -> Result<(Entry, &'a [u8]), ReadError>
+    requires { IsSpace space.now }
+    ensures { Gives (λ x. (x.0, x.1.now)) result (column_at space.now bytes.now) }
+{
+    let (time, count, rest) = front_of(bytes, space)?;
+    let (literals, rest) = literals_of(alloc, rest, space, count)?;
+    let cube = cube_of(alloc, literals.as_slice())?;
+    Ok((Entry { time, cube }, rest))
+}
+
+/// So many columns.
+fn columns_of<'a>(
+    alloc: Global,
+    bytes: &'a [u8],
+    space: &Space,
+    count: u16,
+) -> Result<(Vec<Entry>, &'a [u8]), ReadError>
+    requires { IsSpace space.now }
+    ensures gives { Gives (λ x. (x.0.items, x.1.now)) result (times_at (column_at space.now) count bytes.now) }
+    ensures count { IfOk result (λ x. length x.0.items ≡ count) }
+{
+    let mut columns = Vec::with_capacity(alloc, count as usize)?;
+    let mut rest = bytes;
+    for _ in 0..count {
+        let (column, after) = column_of(alloc, rest, space)?;
+        columns.push(column)?;
+        rest = after;
+    }
+    Ok((columns, rest))
+}
+
+/// A row, where `before` columns were read before, and how many were read up to its end.
+#[tactic(auto, unfolding(crate::specs::Grammar::row_at))]
+fn row_of<'a>(
+    alloc: Global,
+    bytes: &'a [u8],
+    space: &Space,
+    item: u32,
+    before: u64,
+) -> Result<(Row, u64, &'a [u8]), ReadError>
+    requires space { IsSpace space.now }
+    requires before { before ≤ 524288 }
+    ensures gives { Gives (λ x. (x.0, x.2.now)) result (row_at space.now item before bytes.now) }
+    ensures total { IfOk result (λ x. (x.1 ≡ before + length x.0.columns) × (x.1 ≤ 524288)) }
+{
+    let most = MOST_COLUMNS.saturating_sub(before).min(MOST_IN_ROW);
+    let (count, rest) = number_of(bytes, 2, 0, most)?;
+    let (columns, rest) = columns_of(alloc, rest, space, count as u16)?;
+    Ok((Row::new(item, columns), before + count, rest))
+}
+
+/// The rows of these items, where `before` columns were read before, and how many were read up to their end.
+fn rows_of<'a>(
+    alloc: Global,
+    bytes: &'a [u8],
+    space: &Space,
+    items: &[u32],
+    before: u64,
+) -> Result<(Vec<Row>, u64, &'a [u8]), ReadError>
+    requires space { IsSpace space.now }
+    requires before { before ≤ 524288 }
+    ensures gives { Gives (λ x. (x.0.items, x.2.now)) result (rows_at space.now items.now before bytes.now) }
+    ensures total { IfOk result (λ x. (x.1 ≡ before + column_count x.0.items) × (x.1 ≤ 524288)) }
+{
+    let mut rows = Vec::with_capacity(alloc, items.len())?;
+    let mut rest = bytes;
+    let mut total = before;
+    for item in items {
+        let (row, now, after) = row_of(alloc, rest, space, *item, total)?;
+        total = now;
+        rows.push(row)?;
+        rest = after;
+    }
+    Ok((rows, total, rest))
+}
+
+/// The table of a node, where `before` columns were read before, and how many were read up to its end. `items` are
+/// those of its rows.
+#[tactic(auto, unfolding(crate::specs::Grammar::node_table_at))]
+pub fn table_of<'a>(
+    alloc: Global,
+    bytes: &'a [u8],
+    head: &Head,
+    space: &Space,
+    node: u32,
+    items: &[u32],
+    before: u64,
+) -> Result<(NodeTable, u64, &'a [u8]), ReadError>
+    requires space { space.now ≡ space_of head.now }
+    requires within { IsSpace space.now }
+    requires before { before ≤ 524288 }
+    requires items { items.now ≡ items_of_node head.now node }
+    ensures gives { Gives (λ x. (x.0, x.2.now)) result (node_table_at head.now node before bytes.now) }
+    ensures total { IfOk result (λ x. (x.1 ≡ before + column_count (rows_of x.0)) × (x.1 ≤ 524288)) }
+{
+    let (rows, total, rest) = rows_of(alloc, bytes, space, items, before)?;
+    let table = NodeTable::new(alloc, head, node, rows)?;
+    match table {
+        Some(table) => Ok((table, total, rest)),
+        None => unreachable!(),
+    }
+}

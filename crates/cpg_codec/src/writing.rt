@@ -1,0 +1,62 @@
+//! Tables, written.
+ghost use Rattle.std.specs.Prelude.{◌≡◌, ◌≤◌, [], Err, OnOk, OnErr};
+ghost use Rattle.std.specs.List.{flat_map};
+ghost use Rattle.std.specs.Io.KnownBytes.{Appends, Keeps};
+ghost use Rattle.cpg_io.specs.Causes.{HasCause, Rose};
+ghost use Rattle.cpg_io.specs.Sink.{TookPrefix};
+ghost use Rattle.cpg_codec.specs.Spelling.{table_bytes, spelling};
+ghost use Rattle.cpg_codec.specs.Writing.{Puts};
+
+use crate::WriteFault;
+use crate::buffer::Buffer;
+use crate::head_writing::put_head;
+use crate::row_writing::put_table;
+use cpg_io::{Failed, Sink};
+use cpg_table::Tables;
+use std::alloc::Global;
+
+fn put_nodes<O: Sink>(buffer: &mut Buffer, sink: &mut O, tables: &Tables) -> Result<(), Failed>
+    ensures put { Puts (O.taken sink.old) (O.taken sink.new) buffer.old buffer.new result (flat_map table_bytes tables.now.nodes) }
+    ensures cause { HasCause (O.faults sink.old) (O.faults sink.new) result }
+{
+    let count = tables.head().nodes().len() as u32;
+    for node in 0..count {
+        put_table(buffer, sink, tables.node(node))?;
+    }
+    Ok(())
+}
+
+fn put_tables<O: Sink>(buffer: &mut Buffer, sink: &mut O, tables: &Tables) -> Result<(), Failed>
+    ensures put { Puts (O.taken sink.old) (O.taken sink.new) buffer.old buffer.new result (spelling tables.now) }
+    ensures cause { HasCause (O.faults sink.old) (O.faults sink.new) result }
+{
+    put_head(buffer, sink, tables.head())?;
+    put_nodes(buffer, sink, tables)
+}
+
+/// Writes tables through an empty buffer.
+fn write_through<O: Sink>(buffer: &mut Buffer, sink: &mut O, tables: &Tables) -> Result<(), Failed>
+    requires { buffer.old ≡ [] }
+    ensures whole { OnOk result (Appends (O.taken sink.old) (O.taken sink.new) (spelling tables.now)) }
+    ensures part { OnErr result (TookPrefix (O.taken sink.old) (O.taken sink.new) (spelling tables.now)) }
+    ensures cause { HasCause (O.faults sink.old) (O.faults sink.new) result }
+{
+    put_tables(buffer, sink, tables)?;
+    buffer.write(sink)
+}
+
+/// Writes the spelling of tables, in pieces of 65,536 bytes and a rest.
+///
+/// `Failed` only where the sink's count of faults rose. The sink has taken a proper prefix of the spelling then. The
+/// buffer is taken before the first write, so on `OutOfMemory` nothing was written.
+pub fn write_pack<O: Sink>(alloc: Global, tables: &Tables, sink: &mut O) -> Result<(), WriteFault>
+    ensures whole { OnOk result (Appends (O.taken sink.old) (O.taken sink.new) (spelling tables.now)) }
+    ensures part { result ≡ Err WriteFault.Failed → TookPrefix (O.taken sink.old) (O.taken sink.new) (spelling tables.now) }
+    ensures cause { result ≡ Err WriteFault.Failed → Rose (O.faults sink.old) (O.faults sink.new) }
+    ensures none { result ≡ Err WriteFault.OutOfMemory → Keeps (O.taken sink.old) (O.taken sink.new) }
+    ensures later { O.faults sink.old ≤ O.faults sink.new }
+{
+    let mut buffer = Buffer::new(alloc)?;
+    write_through(&mut buffer, sink, tables)?;
+    Ok(())
+}

@@ -1,0 +1,5 @@
+use Rattle.cpg_rules.proofs.Exact.{no_fault}
+use Rattle.cpg_rules.proofs.admitted_show_no_fault.Goals as goal
+
+pub returns : goal.returns
+returns c = no_fault

@@ -1,0 +1,11 @@
+pub mod Bounded
+pub mod Small
+pub mod Mosts
+pub mod Queued
+pub mod Starts
+pub mod Sends
+pub mod Steps
+pub mod Along
+pub mod Senders
+pub mod Places
+pub mod Unfrozen

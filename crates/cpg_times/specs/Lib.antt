@@ -1,0 +1,5 @@
+pub mod Plan
+pub mod Most
+pub mod Known
+pub mod Admitted
+pub mod Progress

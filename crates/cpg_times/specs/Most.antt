@@ -1,0 +1,6 @@
+-- The least number that no number of a kind is above.
+use Rattle.std.specs.Prelude.{ℕ, ◌≤◌}
+
+pub record IsMost (P : ℕ → Type 0) (f : ℕ → ℕ) (v : ℕ) : Type 0 where
+  pub above : (y : ℕ) → P y → f y ≤ v
+  pub least : (b : ℕ) → ((y : ℕ) → P y → f y ≤ b) → v ≤ b

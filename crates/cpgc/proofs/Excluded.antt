@@ -1,0 +1,152 @@
+-- Of an admitted graph of a form that is built, a run stops only as it must.
+use Rattle.std.proofs.Common.{ℕ, ◌≡◌, ◌≢◌, ◌<◌, ◌≤◌, ◌∙◌, Bool, true, false, List, Option, Some, None, length, refl, sym, ap, subst, arith, inl, inr}
+use Rattle.std.specs.Prelude.{◌⊎◌, Result, Ok, Err, IfSome}
+use Rattle.std.proofs.lemmas.Bool.{both_ways}
+use Rattle.cpg_base.specs.Graph.{Graph}
+use Rattle.cpg_io.specs.Causes.{Rose}
+use Rattle.cpg_words.specs.Parts.{Text}
+use Rattle.cpg_order.specs.Urgency.{IsTopological, IsUrgencyOrder}
+use Rattle.cpg_order.specs.Scenario.{Scenario}
+use Rattle.cpg_order.proofs.Urgent.{one_urgency_order}
+use Rattle.cpg_reader.specs.declared.place.ReadFault.{ReadFault}
+use Rattle.cpg_reader.specs.Document.{problem_of}
+use Rattle.cpg_rules.specs.Admission.{Admission, IsAdmitted}
+use Rattle.cpg_rules.specs.declared.admission.RuleFault.{RuleFault}
+use Rattle.cpg_rules.specs.Faults.{ShowsFault}
+use Rattle.cpg_rules.proofs.Exact.{no_fault}
+use Rattle.cpg_run.specs.Finish.{IsExcess}
+use Rattle.cpg_run.specs.Plain.{IsPlain}
+use Rattle.cpg_run.proofs.FrozenUnique.{frozen_unique}
+use Rattle.cpg_core.specs.declared.fault.CompileFault.{CompileFault}
+use Rattle.cpg_core.specs.declared.compiling.Compiled.{Compiled}
+use Rattle.cpg_core.specs.Compiled.{IsWide, IsNarrow, IsInTimeUnder, IsLateUnder, IsMeasured, IsShownLate}
+use Rattle.cpg_core.specs.Compilation.{IsCompilation, ShowsCompileFault}
+use Rattle.cpg_core.proofs.BuiltUnique.{one_excess}
+use Rattle.cpg_core.proofs.Compilations.{plain_narrow}
+use Rattle.cpgc.specs.declared.halt.Halt.{Halt}
+use Rattle.cpgc.specs.Halts.{halt_of_reading, halt_of_rules, halt_of_compile}
+use Rattle.cpgc.specs.Lines.{status_of}
+use Rattle.cpgc.specs.Causes.{Seen, Says, Admits, StopsReading, BreaksRule, IsUncompiled, StopsGraph, StopsShow, graph_limit}
+use Rattle.cpgc.specs.Outputs.{IsTableText, IsShown}
+use Rattle.cpgc.specs.Lawful.{AreListable}
+
+-- ---- what bytes say is one thing
+
+same_graph : (bytes : Text) (g h : Graph) → problem_of bytes ≡ Ok g → problem_of bytes ≡ Ok h → g ≡ h
+same_graph bytes g h a b = ap (value_or g) (sym a ∙ b)
+  where
+    value_or : Graph → Result Graph ReadFault → Graph
+    value_or d (Ok x) = x
+    value_or d (Err e) = d
+
+not_faulty : (bytes : Text) (g : Graph) (fault : ReadFault) → problem_of bytes ≡ Ok g → problem_of bytes ≡ Err fault → ⊥
+not_faulty bytes g fault a b = both_ways _ refl (ap is_err (sym a ∙ b) ∙ refl)
+  where
+    is_err : Result Graph ReadFault → Bool
+    is_err (Ok x) = false
+    is_err (Err e) = true
+
+says_of : (told : Option Text) (bytes : Text) (g : Graph) → told ≡ Some bytes → Says told g → problem_of bytes ≡ Ok g
+says_of told bytes g e says = subst (λ t. Says t g) e says
+
+-- ---- one order of one graph
+
+module _ (a b : Admission) (x : IsAdmitted a.graph a.order a.guards) (y : IsAdmitted b.graph b.order b.guards) (same : b.graph ≡ a.graph) where
+  same_order : b.order ≡ a.order
+  same_order = one_urgency_order a.graph b.order a.order (subst (λ g. IsUrgencyOrder g b.order) same y.urgency) x.urgency
+
+  moved : (P : Graph → List ℕ → Type 0) → P b.graph b.order → P a.graph a.order
+  moved P p = subst (P a.graph) same_order (subst (λ g. P g b.order) same p)
+
+-- ---- excesses
+
+module _ (g : Graph) (order : List ℕ) (top : IsTopological g order) where
+  shown_is_above : (s : Scenario) (p time : ℕ) → (late : IsShownLate g order s p time) → 0 < late.excess
+  shown_is_above s p time late = (late.is_excess.by late.times late.run).0
+
+  pub in_time_not_shown : (s : Scenario) (p time : ℕ) → IsInTimeUnder g order order → IsShownLate g order s p time → ⊥
+  in_time_not_shown s p time now late =
+      let m : IsMeasured g order order 0 now.0 = now.1 in
+      let same : late.frozen ≡ m.frozen = frozen_unique g order top late.frozen m.frozen late.frozen_times m.frozen_times in
+      let one = one_excess g order top.all order top m.frozen 0 late.excess m.excess_in s m.excess_by (Some p) m.is_excess (subst (λ f. IsExcess g order order f late.excess s (Some p)) same late.is_excess) in
+      let above = shown_is_above s p time late in
+      omega (arith, one.0)
+
+  pub late_not_built : (c : Compiled) → IsCompilation g order c → IsLateUnder g order order → ⊥
+  late_not_built c is late =
+      let m : IsMeasured g order order late.0 late.1 = late.2 in
+      let same : c.built.frozen ≡ m.frozen = frozen_unique g order top c.built.frozen m.frozen is.built.frozen m.frozen_times in
+      let one = one_excess g order top.all order top m.frozen late.0 c.built.excess m.excess_in c.built.excess_in m.excess_by c.built.excess_by m.is_excess
+      (subst (λ f. IsExcess g order order f c.built.excess c.built.excess_in c.built.excess_by) same is.built.excess) in
+      let above : 0 < late.0 = late.3 in
+      let none = is.in_time in
+      omega (arith, one.0)
+
+-- ---- the halts that are left
+
+module _ (seen : Seen) (told : Option Text) (bytes : Text) (a : Admission) (tells : told ≡ Some bytes) (listable : AreListable bytes a) (still : Rose seen.before seen.now → ⊥) where
+  faulty_left : (h : Halt) (fault : ReadFault) → h ≡ halt_of_reading fault → (fault ≢ ReadFault.OutOfMemory → ⊥) → status_of h ≡ 8
+  faulty_left h fault e never = ap status_of e ∙ go fault never
+    where
+      is_memory : ReadFault → Bool
+      is_memory ReadFault.OutOfMemory = true
+      is_memory _ = false
+
+      apart : (f : ReadFault) → is_memory f ≡ false → f ≢ ReadFault.OutOfMemory
+      apart f off e = both_ways _ off (ap is_memory e)
+
+      go : (f : ReadFault) → (f ≢ ReadFault.OutOfMemory → ⊥) → status_of (halt_of_reading f) ≡ 8
+      go ReadFault.NotToml k = absurd (k (apart ReadFault.NotToml refl))
+      go (ReadFault.BadField place) k = absurd (k (apart (ReadFault.BadField place) refl))
+      go (ReadFault.DoubleName place) k = absurd (k (apart (ReadFault.DoubleName place) refl))
+      go (ReadFault.UnknownName place) k = absurd (k (apart (ReadFault.UnknownName place) refl))
+      go (ReadFault.OverLimit what) k = absurd (k (apart (ReadFault.OverLimit what) refl))
+      go ReadFault.OutOfMemory k = refl
+
+  reading_left : (h : Halt) → StopsReading seen told h → status_of h ≡ 8
+  reading_left h (inl unread) = absurd (still unread.rose)
+  reading_left h (inr (inl long)) = absurd (
+      let l : graph_limit < length bytes = subst (λ t. IfSome t (λ b. graph_limit < length b)) tells long.long in
+      let s = listable.short in
+      omega arith)
+  reading_left h (inr (inr faulty)) = faulty_left h faulty.fault faulty.halt_is
+      (λ other. not_faulty bytes a.graph faulty.fault listable.says (subst (λ t. IfSome t (λ b. problem_of b ≡ Err faulty.fault)) tells (faulty.first other)))
+
+  rules_left : (h : Halt) (g : Graph) → Says told g → BreaksRule g h → status_of h ≡ 8
+  rules_left h g says breaks =
+      let same : g ≡ a.graph = same_graph bytes g a.graph (says_of told bytes g tells says) listable.says in
+      let memory = no_fault a.graph a.order a.guards listable.admitted breaks.fault (subst (λ x. ShowsFault x breaks.fault) same breaks.shows) in
+      ap status_of (breaks.halt_is ∙ ap (halt_of_rules g) memory)
+
+  -- late as shown, or want of memory
+  abbrev pub Left : Halt → Type 0
+  Left h = (status_of h ≡ 8) ⊎ ((status_of h ≡ 5) × ((s : Scenario) × (p time : ℕ) × IsShownLate a.graph a.order s p time))
+
+  compile_left : (b : Admission) → Admits told b → (h : Halt) (fault : CompileFault) → h ≡ halt_of_compile b fault → ShowsCompileFault b.graph b.order fault → Left h
+  compile_left b admits h (CompileFault.TooWide x) e shows =
+      let same : b.graph ≡ a.graph = same_graph bytes b.graph a.graph (says_of told bytes b.graph tells admits.says) listable.says in
+      let y = listable.admitted in
+      absurd (plain_narrow a.graph listable.plain y.limits y.well_formed a.order y.topological x (moved a b y admits.admitted same (λ g o. IsWide g o x) shows.wide))
+  compile_left b admits h (CompileFault.Late s p time) e shows =
+      let same : b.graph ≡ a.graph = same_graph bytes b.graph a.graph (says_of told bytes b.graph tells admits.says) listable.says in
+      inr (ap status_of e, (s, p, time, moved a b listable.admitted admits.admitted same (λ g o. IsShownLate g o s p time) shows.1))
+  compile_left b admits h CompileFault.OutOfMemory e shows = inl (ap status_of e)
+
+  show_left : (h : Halt) (b : Admission) → Admits told b → StopsShow b h → Left h
+  show_left h b admits (inl unbuilt) =
+      let same : b.graph ≡ a.graph = same_graph bytes b.graph a.graph (says_of told bytes b.graph tells admits.says) listable.says in
+      absurd (unbuilt.1 (subst IsPlain (sym same) listable.plain))
+  show_left h b admits (inr wrong) = compile_left b admits h wrong.fault wrong.halt_is wrong.shows
+
+  pub graph_left : (h : Halt) → StopsGraph seen told StopsShow h → Left h
+  graph_left h (inl read) = inl (reading_left h read)
+  graph_left h (inr (inl breaks)) = inl (rules_left h breaks.0 breaks.1 breaks.2)
+  graph_left h (inr (inr worked)) = show_left h worked.0 worked.1 worked.2
+
+  -- what is shown isn't late
+  pub shown_not_late : (text : Text) → IsShown told text → IsLateUnder a.graph a.order a.order → ⊥
+  shown_not_late text shown late =
+      let b = shown.0 in
+      let same : b.graph ≡ a.graph = same_graph bytes b.graph a.graph (says_of told bytes b.graph tells shown.1.says) listable.says in
+      late_not_built a.graph a.order listable.admitted.topological shown.2.compiled
+      (moved a b listable.admitted shown.1.admitted same (λ g o. IsCompilation g o shown.2.compiled) shown.2.compilation) late

@@ -1,0 +1,130 @@
+-- What the status of a halt says of the words and of the shelf.
+use Rattle.std.proofs.Common.{ℕ, ◌≡◌, ◌≤◌, ◌∙◌, List, Option, Some, None, refl, sym, ap, arith, inl, inr}
+use Rattle.std.specs.Prelude.{◌⊎◌}
+use Rattle.std.proofs.lemmas.Option.{none-some}
+use Rattle.cpg_base.specs.Graph.{Graph}
+use Rattle.cpg_io.specs.Causes.{Rose}
+use Rattle.cpg_words.specs.Parts.{Text}
+use Rattle.cpg_words.specs.Forms.{command_of}
+use Rattle.cpg_words.specs.declared.command.Command.{Command}
+use Rattle.cpg_words.specs.declared.command.Command.TheVariants.{Show, Compile, Check, Play, Node, Trial, Live, Hyper, Tune, Audit}
+use Rattle.cpg_reader.specs.declared.place.ReadFault.{ReadFault}
+use Rattle.cpg_rules.specs.Admission.{Admission}
+use Rattle.cpg_rules.specs.declared.admission.RuleFault.{RuleFault}
+use Rattle.cpg_core.specs.declared.fault.CompileFault.{CompileFault}
+use Rattle.cpgc.specs.declared.halt.Refusal.{Refusal}
+use Rattle.cpgc.specs.declared.halt.Refusal.TheVariants.{NotBuilt}
+use Rattle.cpgc.specs.declared.halt.Halt.{Halt}
+use Rattle.cpgc.specs.declared.halt.Halt.TheVariants.{Words, Read, Refused, Late, TooWide, Memory}
+use Rattle.cpgc.specs.Halts.{halt_of_reading, halt_of_rules, halt_of_compile}
+use Rattle.cpgc.specs.Lines.{status_of}
+use Rattle.cpgc.specs.Causes.{Seen, StopsReading, BreaksRule, IsUnbuiltCommand, StopsGraph, StopsShow, StopsCommand, StopsAsked, Stops}
+
+-- a halt of a command isn't one of its words, and is one of the shelf where its faults rose
+record IsOfCommand (seen : Seen) (h : Halt) : Type 0 where
+  not_words : status_of h ≡ 1 → ⊥
+  read : status_of h ≡ 2 → Rose seen.before seen.now
+
+later : (seen : Seen) (h k : Halt) → h ≡ k → 4 ≤ status_of k → IsOfCommand seen h
+later seen h k e l = let same = ap status_of e in record { not_words = λ one. omega arith; read = λ two. absurd (omega arith) }
+
+of_reading : (fault : ReadFault) → 4 ≤ status_of (halt_of_reading fault)
+of_reading ReadFault.NotToml = omega arith
+of_reading (ReadFault.BadField place) = omega arith
+of_reading (ReadFault.DoubleName place) = omega arith
+of_reading (ReadFault.UnknownName place) = omega arith
+of_reading (ReadFault.OverLimit what) = omega arith
+of_reading ReadFault.OutOfMemory = omega arith
+
+of_rules : (g : Graph) (fault : RuleFault) → 4 ≤ status_of (halt_of_rules g fault)
+of_rules g (RuleFault.Cycle walk) = omega arith
+of_rules g RuleFault.TooManyTracks = omega arith
+of_rules g (RuleFault.TwoAlternatives p s) = omega arith
+of_rules g (RuleFault.NoSlot node) = omega arith
+of_rules g (RuleFault.TooBig e) = omega arith
+of_rules g RuleFault.OutOfMemory = omega arith
+
+of_compile : (a : Admission) (fault : CompileFault) → 4 ≤ status_of (halt_of_compile a fault)
+of_compile a (CompileFault.TooWide x) = omega arith
+of_compile a (CompileFault.Late s p time) = omega arith
+of_compile a CompileFault.OutOfMemory = omega arith
+
+reading : (seen : Seen) (told : Option Text) (h : Halt) → StopsReading seen told h → IsOfCommand seen h
+reading seen told h (inl unread) = let same = ap status_of unread.halt_is in record { not_words = λ one. omega arith; read = λ two. unread.rose }
+reading seen told h (inr (inl long)) = later seen h _ long.halt_is (omega arith)
+reading seen told h (inr (inr faulty)) = later seen h _ faulty.halt_is (of_reading faulty.fault)
+
+of_graph : (seen : Seen) (told : Option Text) (work : Admission → Halt → Type 0) → ((a : Admission) (h : Halt) → work a h → IsOfCommand seen h) → (h : Halt) → StopsGraph seen told work h → IsOfCommand seen h
+of_graph seen told work works h (inl read) = reading seen told h read
+of_graph seen told work works h (inr (inl breaks)) = let b : BreaksRule breaks.0 h = breaks.2 in later seen h _ b.halt_is (of_rules breaks.0 b.fault)
+of_graph seen told work works h (inr (inr worked)) = works worked.0 h worked.2
+
+unbuilt : (seen : Seen) (h : Halt) → h ≡ Refused NotBuilt → IsOfCommand seen h
+unbuilt seen h e = later seen h _ e (omega arith)
+
+unbuilt_command : (seen : Seen) (h : Halt) → IsUnbuiltCommand h → IsOfCommand seen h
+unbuilt_command seen h (inl e) = unbuilt seen h e
+unbuilt_command seen h (inr e) = later seen h _ e (omega arith)
+
+of_show : (seen : Seen) (a : Admission) (h : Halt) → StopsShow a h → IsOfCommand seen h
+of_show seen a h (inl off) = unbuilt seen h off.0
+of_show seen a h (inr wrong) = later seen h _ wrong.halt_is (of_compile a wrong.fault)
+
+of_command : (seen : Seen) (c : Command) (h : Halt) → StopsCommand seen c h → IsOfCommand seen h
+of_command seen (Show graph) h so = of_graph seen (seen.stands graph) StopsShow (of_show seen) h so
+of_command seen (Compile graph) h so = of_graph seen (seen.stands graph) (λ _ k. k ≡ Refused NotBuilt) (λ a. unbuilt seen) h so
+of_command seen (Check graph pack) h so = unbuilt_command seen h so
+of_command seen (Play graph pack scenario turns) h so = unbuilt_command seen h so
+of_command seen (Node pack name) h so = unbuilt_command seen h so
+of_command seen (Trial number) h so = unbuilt_command seen h so
+of_command seen (Live pack name stream) h so = unbuilt_command seen h so
+of_command seen (Hyper parts) h so = unbuilt_command seen h so
+of_command seen (Tune graph) h so = of_graph seen (seen.stands graph) (λ _ k. k ≡ Refused NotBuilt) (λ a. unbuilt seen) h so
+of_command seen (Audit graph pack log) h so = unbuilt_command seen h so
+
+words_asked : (seen : Seen) (asked : Option Command) (h : Halt) → StopsAsked seen asked h → status_of h ≡ 1 → asked ≡ None
+words_asked seen None h so one = refl
+words_asked seen (Some c) h so one = absurd ((of_command seen c h so).not_words one)
+
+read_asked : (seen : Seen) (asked : Option Command) (h : Halt) → StopsAsked seen asked h → status_of h ≡ 2 → Rose seen.before seen.now
+read_asked seen None h (inl e) two = absurd (let same = ap status_of e in omega arith)
+read_asked seen None h (inr e) two = absurd (let same = ap status_of e in omega arith)
+read_asked seen (Some c) h so two = (of_command seen c h so).read two
+
+formless_asked : (seen : Seen) (asked : Option Command) (h : Halt) → StopsAsked seen asked h → asked ≡ None → (status_of h ≡ 1) ⊎ (status_of h ≡ 8)
+formless_asked seen None h (inl e) none = inl (ap status_of e)
+formless_asked seen None h (inr e) none = inr (ap status_of e)
+formless_asked seen (Some c) h so none = absurd (none-some c (sym none))
+
+pub of_words : (seen : Seen) (words : List Text) (h : Halt) → Stops seen words h → status_of h ≡ 1 → command_of words ≡ None
+of_words seen words h so one = words_asked seen (command_of words) h so one
+
+pub of_read : (seen : Seen) (words : List Text) (h : Halt) → Stops seen words h → status_of h ≡ 2 → Rose seen.before seen.now
+of_read seen words h so two = read_asked seen (command_of words) h so two
+
+pub of_formless : (seen : Seen) (words : List Text) (h : Halt) → Stops seen words h → command_of words ≡ None → (status_of h ≡ 1) ⊎ (status_of h ≡ 8)
+of_formless seen words h so none = formless_asked seen (command_of words) h so none
+
+pub refused_of : (h : Halt) → status_of h ≡ 4 → (r : Refusal) × (h ≡ Refused r)
+refused_of Words four = absurd (omega arith)
+refused_of Read four = absurd (omega arith)
+refused_of (Refused r) four = (r, refl)
+refused_of (Late a s p time) four = absurd (omega arith)
+refused_of (TooWide a x) four = absurd (omega arith)
+refused_of Memory four = absurd (omega arith)
+
+pub not_three : (h : Halt) → status_of h ≡ 3 → ⊥
+not_three Words e = omega arith
+not_three Read e = omega arith
+not_three (Refused r) e = omega arith
+not_three (Late a s p time) e = omega arith
+not_three (TooWide a x) e = omega arith
+not_three Memory e = omega arith
+
+pub not_zero : (h : Halt) → status_of h ≡ 0 → ⊥
+not_zero Words e = omega arith
+not_zero Read e = omega arith
+not_zero (Refused r) e = omega arith
+not_zero (Late a s p time) e = omega arith
+not_zero (TooWide a x) e = omega arith
+not_zero Memory e = omega arith

@@ -1,0 +1,35 @@
+-- What a refusal of a layer stops a run with.
+use Rattle.std.specs.Prelude.{ℕ}
+use Rattle.cpg_base.specs.Graph.{Graph}
+use Rattle.cpg_reader.specs.declared.place.ReadFault.{ReadFault}
+use Rattle.cpg_rules.specs.Admission.{Admission}
+use Rattle.cpg_rules.specs.declared.admission.RuleFault.{RuleFault}
+use Rattle.cpg_core.specs.declared.fault.CompileFault.{CompileFault}
+use Rattle.cpgc.specs.declared.halt.Refusal.{Refusal}
+use Rattle.cpgc.specs.declared.halt.Refusal.TheVariants.{NotToml, BadField, DoubleName, UnknownName, OverLimit, Cycle, TwoAlternatives, NoSlot, TooBig, TooManyTracks}
+use Rattle.cpgc.specs.declared.halt.Halt.{Halt}
+use Rattle.cpgc.specs.declared.halt.Halt.TheVariants.{Refused, Late, TooWide, Memory}
+
+-- of the reading of a graph file
+abbrev pub halt_of_reading : ReadFault → Halt
+halt_of_reading ReadFault.NotToml = Refused NotToml
+halt_of_reading (ReadFault.BadField place) = Refused (BadField place)
+halt_of_reading (ReadFault.DoubleName place) = Refused (DoubleName place)
+halt_of_reading (ReadFault.UnknownName place) = Refused (UnknownName place)
+halt_of_reading (ReadFault.OverLimit what) = Refused (OverLimit what)
+halt_of_reading ReadFault.OutOfMemory = Memory
+
+-- of the admission of a graph
+abbrev pub halt_of_rules : Graph → RuleFault → Halt
+halt_of_rules g (RuleFault.Cycle walk) = Refused (Cycle g walk)
+halt_of_rules g RuleFault.TooManyTracks = Refused TooManyTracks
+halt_of_rules g (RuleFault.TwoAlternatives p s) = Refused (TwoAlternatives g p s)
+halt_of_rules g (RuleFault.NoSlot node) = Refused (NoSlot g node)
+halt_of_rules g (RuleFault.TooBig e) = Refused (TooBig e)
+halt_of_rules g RuleFault.OutOfMemory = Memory
+
+-- of the compile of a graph
+abbrev pub halt_of_compile : Admission → CompileFault → Halt
+halt_of_compile a (CompileFault.TooWide x) = TooWide a x
+halt_of_compile a (CompileFault.Late s p time) = Late a s p time
+halt_of_compile a CompileFault.OutOfMemory = Memory

@@ -1,0 +1,64 @@
+-- What each exit status of a run says.
+use Rattle.std.specs.Prelude.{ℕ, ◌≡◌, ◌≢◌, ◌≤◌, ◌⊎◌, List, Some, None, Ok, length}
+use Rattle.cpg_base.specs.Graph.{Graph}
+use Rattle.cpg_io.specs.Causes.{Rose}
+use Rattle.cpg_words.specs.Parts.{Text}
+use Rattle.cpg_words.specs.Forms.{command_of}
+use Rattle.cpg_words.specs.declared.command.Command.TheVariants.{Show}
+use Rattle.cpg_reader.specs.Document.{problem_of}
+use Rattle.cpg_rules.specs.Admission.{Admission, IsAdmitted}
+use Rattle.cpg_run.specs.Plain.{IsPlain}
+use Rattle.cpg_core.specs.Compiled.{IsInTimeUnder, IsLateUnder}
+use Rattle.cpgc.specs.declared.halt.Refusal.{Refusal}
+use Rattle.cpgc.specs.declared.halt.Halt.{Halt}
+use Rattle.cpgc.specs.declared.halt.Halt.TheVariants.{Refused}
+use Rattle.cpgc.specs.Causes.{Stops, graph_limit}
+use Rattle.cpgc.specs.Endings.{Ran, Ends, EndsWith, EndsBy, IsPrinted, IsTold}
+use Rattle.cpgc.specs.Outputs.{Prints}
+use Rattle.cpgc.specs.Told.{Untouched}
+
+-- no count of faults rose
+pub record IsFaultless (r : Ran) : Type 0 where
+  pub shelf : Rose r.shelf.before r.shelf.now → ⊥
+  pub out : Rose r.out.before r.out.now → ⊥
+  pub err : Rose r.err.before r.err.now → ⊥
+
+-- the bytes of a graph file of which tables are made: at most 16 MiB, and an admitted graph of a form that is built
+pub record AreListable (bytes : Text) (a : Admission) : Type 0 where
+  pub short : length bytes ≤ graph_limit
+  pub says : problem_of bytes ≡ Ok a.graph
+  pub admitted : IsAdmitted a.graph a.order a.guards
+  pub plain : IsPlain a.graph
+
+-- the words ask to show a graph file, the shelf tells its bytes, tables are made of them, and nothing failed
+pub record Shows (r : Ran) (a : Admission) : Type 0 where
+  pub graph : Text
+  pub bytes : Text
+  pub words : command_of r.words ≡ Some (Show graph)
+  pub told : r.shelf.stands graph ≡ Some bytes
+  pub listable : AreListable bytes a
+  pub faultless : IsFaultless r
+
+-- what each exit status says
+pub record IsLawful (r : Ran) : Type 0 where
+  -- the run has an output or a reason to stop, and all of it was written but where a sink met a fault
+  pub ends : Ends r
+  -- 0: the output was written whole
+  pub done : r.status ≡ 0 → (text : Text) × Prints r.shelf r.words text × IsPrinted r text
+  -- 1 exactly where the words have no form, but for a fault of `err` and want of memory
+  pub words : r.status ≡ 1 → command_of r.words ≡ None
+  pub formless : command_of r.words ≡ None → r.status ≢ 3 → (r.status ≡ 1) ⊎ (r.status ≡ 8)
+  -- 2: the shelf met a fault
+  pub read : r.status ≡ 2 → Rose r.shelf.before r.shelf.now
+  -- 3: a sink met a fault
+  pub write : r.status ≡ 3 → Rose r.out.before r.out.now ⊎ Rose r.err.before r.err.now
+  -- 4: a refusal whose cause is true, and whose line was written whole
+  pub refused : r.status ≡ 4 → (refusal : Refusal) × Stops r.shelf r.words (Refused refusal) × IsTold r (Refused refusal)
+  -- 5 and 6: late or too wide, as the line says
+  pub compiled : (r.status ≡ 5) ⊎ (r.status ≡ 6) → (halt : Halt) × Stops r.shelf r.words halt × IsTold r halt
+  -- but under 0 and 3, nothing was written to `out`
+  pub silent : r.status ≢ 0 → r.status ≢ 3 → Untouched r.out
+  -- a graph of a form that is built is shown where every process ends by its due in every scenario, and refused as late
+  -- where some process doesn't, but for want of memory
+  pub shown : (a : Admission) → Shows r a → IsInTimeUnder a.graph a.order a.order → (r.status ≡ 0) ⊎ (r.status ≡ 8)
+  pub late : (a : Admission) → Shows r a → IsLateUnder a.graph a.order a.order → (r.status ≡ 5) ⊎ (r.status ≡ 8)

@@ -1,0 +1,214 @@
+//! Worked graphs: what a run writes, and its exit status.
+
+use crate::run::run;
+use cpg_io::{MemoryShelf, MemorySink};
+use std::alloc::Global;
+use std::test::Fail;
+
+/// A process of 30 time units, and one of 10.
+const A: &str = "{ name = \"A\", node = \"N1\", wcet = 30, alpha = 2, chi = 3, mu = 5 }";
+
+const A_IN_PARTS: &str =
+    "{ name = \"A\", node = \"N1\", wcet = 30, parts = 3, alpha = 2, chi = 3, mu = 5 }";
+
+const A_AND_B: &str =
+    "{ name = \"A\", node = \"N1\", wcet = 30, alpha = 2, chi = 3, mu = 5 }, { name = \"B\", node = \"N1\", wcet = 10, alpha = 2, chi = 3, mu = 5 }";
+
+/// What a run did.
+struct Outcome {
+    status: u8,
+    out: MemorySink,
+    err: MemorySink,
+}
+
+/// Runs words over a shelf and sinks of some room, in bytes.
+fn outcome(
+    alloc: Global,
+    shelf: &mut MemoryShelf,
+    list: &[&str],
+    out_room: usize,
+    err_room: usize,
+) -> Result<Outcome, Fail> {
+    let mut words = Vec::new(alloc);
+    for word in list {
+        words.push(String::from_str(alloc, word)?)?;
+    }
+    let mut out = MemorySink::new(alloc, out_room)?;
+    let mut err = MemorySink::new(alloc, err_room)?;
+    let status = run(alloc, words.as_slice(), shelf, &mut out, &mut err);
+    Ok(Outcome { status, out, err })
+}
+
+/// Shows a graph file.
+fn shown(alloc: Global, graph: &[u8]) -> Result<Outcome, Fail> {
+    let mut shelf = MemoryShelf::new(alloc)?;
+    shelf.put("g", graph)?;
+    outcome(alloc, &mut shelf, &["show", "g"], 1000, 1000)
+}
+
+/// A graph file of one node.
+fn one_node(alloc: Global, faults: u8, deadline: u64, processes: &str) -> Result<String, Fail> {
+    Ok(format!(in alloc;
+        "faults = {faults}\ndeadline = {deadline}\nnode = [{{ name = \"N1\" }}]\nprocess = [{processes}]\n"
+    )?)
+}
+
+#[test]
+fn one_node_graphs(rt: HostRuntime) -> Result<(), Fail> {
+    let alloc = rt.alloc();
+    for (faults, deadline, processes, status, out, err) in [
+        (
+            0,
+            35,
+            A,
+            0,
+            "order A\nworst 35\nstart A on N1\n  0: always\n",
+            "",
+        ),
+        (0, 34, A, 5, "", "cpgc: late 35 by A in none\n"),
+        (
+            1,
+            72,
+            A,
+            0,
+            "order A\nworst 72\nstart A on N1\n  0: always\n",
+            "",
+        ),
+        (1, 71, A, 5, "", "cpgc: late 72 by A in A faults 1\n"),
+        (
+            1,
+            62,
+            A_IN_PARTS,
+            0,
+            "order A\nworst 62\nstart A on N1\n  0: always\n",
+            "",
+        ),
+        (
+            8,
+            331,
+            A,
+            0,
+            "order A\nworst 331\nstart A on N1\n  0: always\n",
+            "",
+        ),
+        (
+            1,
+            87,
+            A_AND_B,
+            0,
+            "order A B\nworst 87\nstart A on N1\n  0: always\nstart B on N1\n  35: A faults 0\n  72: A faults 1\n",
+            "",
+        ),
+        (1, 86, A_AND_B, 5, "", "cpgc: late 87 by B in A faults 1\n"),
+    ] {
+        let graph = one_node(alloc, faults, deadline, processes)?;
+        let got = shown(alloc, graph.as_bytes())?;
+        assert_eq!(rt; got.out.taken(), out.as_bytes());
+        assert_eq!(rt; got.err.taken(), err.as_bytes());
+        assert_eq!(rt; got.status, status);
+    }
+    Ok(())
+}
+
+#[test]
+fn refusals(rt: HostRuntime) -> Result<(), Fail> {
+    let alloc = rt.alloc();
+    for (graph, err) in [
+        ("[", "cpgc: refused 1 not toml\n"),
+        ("faults = 1\n", "cpgc: refused 2 field top deadline\n"),
+        (
+            "faults = 0\ndeadline = 1\nnode = 3\n",
+            "cpgc: refused 2 field top node\n",
+        ),
+        (
+            "faults = 0\ndeadline = 9\nnode = [{ name = \"N1\" }, { name = \"N1\" }]\n",
+            "cpgc: refused 3 double node 1 name\n",
+        ),
+        (
+            "faults = 0\ndeadline = 9\nprocess = [{ name = \"A\", node = \"N2\", wcet = 1 }]\n",
+            "cpgc: refused 4 unknown process 0 node\n",
+        ),
+        (
+            "faults = 0\ndeadline = 1000000001\n",
+            "cpgc: refused 5 limit top deadline\n",
+        ),
+        (
+            "faults = 0\ndeadline = 9\nnode = [{ name = \"N\" }]\nprocess = [{ name = \"A\", node = \"N\", wcet = 1 }, { name = \"B\", node = \"N\", wcet = 1 }]\nedge = [{ from = \"A\", to = \"B\" }, { from = \"B\", to = \"A\" }]\n",
+            "cpgc: refused 6 cycle A B\n",
+        ),
+        (
+            "faults = 0\ndeadline = 9\nnode = [{ name = \"N\" }]\nprocess = [{ name = \"X\", node = \"N\", wcet = 1 }, { name = \"Y\", node = \"N\", wcet = 1 }, { name = \"J\", node = \"N\", wcet = 1, join = true }]\nedge = [{ from = \"X\", to = \"J\" }, { from = \"Y\", to = \"J\" }]\n",
+            "cpgc: refused 7 alternatives J in none\n",
+        ),
+        (
+            "faults = 0\ndeadline = 9\nnode = [{ name = \"M\" }, { name = \"N\" }]\nprocess = [{ name = \"A\", node = \"M\", wcet = 1 }, { name = \"B\", node = \"N\", wcet = 1 }]\nedge = [{ from = \"A\", to = \"B\" }]\n",
+            "cpgc: refused 8 slot M\n",
+        ),
+        (
+            "faults = 0\ndeadline = 9\nnode = [{ name = \"M\" }, { name = \"N\" }]\nslot = [{ node = \"M\", length = 1, bytes = 1 }]\nprocess = [{ name = \"A\", node = \"M\", wcet = 1 }, { name = \"B\", node = \"N\", wcet = 1 }]\nedge = [{ from = \"A\", to = \"B\", bytes = 2 }]\n",
+            "cpgc: refused 9 big e0\n",
+        ),
+    ] {
+        let got = shown(alloc, graph.as_bytes())?;
+        assert_eq!(rt; got.err.taken(), err.as_bytes());
+        assert_eq!(rt; (got.status, got.out.taken().len()), (4, 0));
+    }
+    Ok(())
+}
+
+#[test]
+fn long_files(rt: HostRuntime) -> Result<(), Fail> {
+    let alloc = rt.alloc();
+    for (length, err) in [
+        (16_777_217, "cpgc: refused 16 long graph\n"),
+        (16_777_216, "cpgc: refused 2 field top faults\n"),
+    ] {
+        let graph = vec![in alloc; b'\n'; length]?;
+        let got = shown(alloc, graph.as_slice())?;
+        assert_eq!(rt; got.err.taken(), err.as_bytes());
+        assert_eq!(rt; (got.status, got.out.taken().len()), (4, 0));
+    }
+    Ok(())
+}
+
+#[test]
+fn words_without_a_form(rt: HostRuntime) -> Result<(), Fail> {
+    let alloc = rt.alloc();
+    let mut shelf = MemoryShelf::new(alloc)?;
+    for list in [
+        [].as_slice(),
+        &["show"],
+        &["play", "g", "p", "s"],
+        &["shew", "g"],
+    ] {
+        let got = outcome(alloc, &mut shelf, list, 100, 100)?;
+        assert_eq!(rt; got.err.taken(), b"cpgc: words\n".as_slice());
+        assert_eq!(rt; (got.status, got.out.taken().len()), (1, 0));
+    }
+    Ok(())
+}
+
+#[test]
+fn faults(rt: HostRuntime) -> Result<(), Fail> {
+    let alloc = rt.alloc();
+    let graph = one_node(alloc, 1, 72, A)?;
+    let mut shelf = MemoryShelf::new(alloc)?;
+    let missing = outcome(alloc, &mut shelf, &["show", "g"], 100, 100)?;
+    assert_eq!(rt; missing.err.taken(), b"cpgc: read fault\n".as_slice());
+    assert_eq!(rt; (missing.status, missing.out.taken().len()), (2, 0));
+    shelf.put("g", graph.as_bytes())?;
+    shelf.fail_call(2)?;
+    let unread = outcome(alloc, &mut shelf, &["show", "g"], 100, 100)?;
+    assert_eq!(rt; unread.err.taken(), b"cpgc: read fault\n".as_slice());
+    assert_eq!(rt; (unread.status, unread.out.taken().len()), (2, 0));
+    let cut = outcome(alloc, &mut shelf, &["show", "g"], 10, 100)?;
+    assert_eq!(rt; cut.out.taken(), b"order A\nwo".as_slice());
+    assert_eq!(rt; cut.err.taken(), b"cpgc: write fault\n".as_slice());
+    assert_eq!(rt; cut.status, 3);
+    let late = one_node(alloc, 1, 71, A)?;
+    shelf.put("g", late.as_bytes())?;
+    let muted = outcome(alloc, &mut shelf, &["show", "g"], 100, 4)?;
+    assert_eq!(rt; muted.err.taken(), b"cpgc".as_slice());
+    assert_eq!(rt; (muted.status, muted.out.taken().len()), (3, 0));
+    Ok(())
+}
