@@ -1,5 +1,5 @@
 -- What the steps and the end of reading a scenario's counts, values and lengths show.
-use Rattle.std.proofs.Common.{ℕ, ℤ, pos, ◌+◌, ◌<◌, ◌≤◌, ◌≡◌, ◌⊎◌, Bool, true, false, ◌&&◌, List, length, get_or, map, sum, sum_by, refl, sym, ap, ap₂, ◌∙◌, subst, ⊎_elim, arith}
+use Rattle.std.proofs.Common.{ℕ, ℤ, ◌+◌, ◌<◌, ◌≤◌, ◌≡◌, ◌⊎◌, Bool, true, false, List, map, sum_by, sym, ap, ap₂, ◌∙◌, ⊎_elim, arith}
 use Rattle.std.specs.Prelude.{nat_le}
 use Rattle.std.specs.List.{list_all}
 use Rattle.std.proofs.lemmas.Bool.{and_parts, and_from, and_left, and_right, leb-true, le-leb}
@@ -8,7 +8,7 @@ use Rattle.std.proofs.lemmas.List.FromFn.{length-range_with_len}
 use Rattle.std.proofs.lemmas.List.Sums.{sum-map}
 use Rattle.toml.specs.Data.{Members}
 use Rattle.cpg_base.specs.Numbers.{numbers_below}
-use Rattle.cpg_base.specs.Graph.{Graph, process_count, condition_count, process_of}
+use Rattle.cpg_base.specs.Graph.{Graph, process_count, condition_count}
 use Rattle.cpg_base.specs.Duration.{duration}
 use Rattle.cpg_base.specs.Scenario.{Scenario, IsScenario, fault_of, full_lengths}
 use Rattle.cpg_base.proofs.Lists.{same_map, numbers-Contains, get_or-map-below}
@@ -35,7 +35,7 @@ module _ (g : Graph) (ms : Members) where
   is_scenario kept = record {
     values = length-map _ _ ∙ length-range_with_len 0 (condition_count g);
     faults = length-map _ _ ∙ length-range_with_len 0 (process_count g);
-    budget = let within : sum_by (count_of g ms) (numbers_below (process_count g)) ≤ g.faults = leb-true _ _ (and_parts _ _ kept).1 in let total = sum-map (count_of g ms) (numbers_below (process_count g)) in omega arith;
+    budget = let within : sum_by (count_of g ms) (numbers_below (process_count g)) ≤ g.faults = leb-true _ _ (and_parts (list_all (λ p. is_natural (count_given g ms p)) (numbers_below (process_count g))) (nat_le (sum_by (count_of g ms) (numbers_below (process_count g))) g.faults) kept).1 in let total = sum-map (count_of g ms) (numbers_below (process_count g)) in omega arith;
   }
 
   pub full_are : full_lengths g (scenario_of g ms) ≡ map (λ p. duration g p (count_of g ms p)) (numbers_below (process_count g))

@@ -2,12 +2,12 @@
 use Rattle.std.specs.Prelude.{ℕ, ℤ, pos, negsuc, Bool, true, false, not, ◌&&◌, ◌||◌, nat_le, if◌then◌else◌, List, [], ◌∷◌, Option, Some, None, Result, Ok, Err, is_some, unwrap_or, option_and_then, map, sum_by, codes, bytes_eq}
 use Rattle.std.specs.List.{list_any, list_all}
 use Rattle.std.specs.Str.{is_utf8}
-use Rattle.toml.specs.Data.{Data, table, Members, no_members, member, get_member, as_integer, as_bool, as_table}
+use Rattle.toml.specs.Data.{Data, Members, no_members, member, get_member, as_integer, as_bool, as_table}
 use Rattle.toml.specs.Parse.{parse_document}
 use Rattle.cpg_base.specs.Numbers.{numbers_below}
 use Rattle.cpg_base.specs.Graph.{Graph, process_count, condition_count, process_at, condition_of, process_of}
 use Rattle.cpg_base.specs.Duration.{duration}
-use Rattle.cpg_base.specs.Scenario.{Scenario, fault_of}
+use Rattle.cpg_base.specs.Scenario.{Scenario}
 use Rattle.cpg_scenario.specs.declared.fault.Cause.TheVariants.{Toml, Field, Unknown, Condition, Budget, Length}
 use Rattle.cpg_scenario.specs.declared.fault.ScenarioFault.{ScenarioFault}
 use Rattle.cpg_scenario.specs.declared.fault.ScenarioFault.TheVariants.{Bad}

@@ -1,8 +1,7 @@
-use Rattle.std.proofs.Common.{ℕ, ◌+◌, ◌≡◌, true, List, length, get_or, map, set, sym, ap, ap₂, subst, ◌∙◌, arith}
+use Rattle.std.proofs.Common.{ℕ, ◌+◌, ◌≡◌, true, List, length, get_or, sym, ap, ap₂, subst, ◌∙◌, arith}
 use Rattle.std.proofs.lemmas.List.{length-map, get_or-set_other}
 use Rattle.std.proofs.lemmas.List.FromFn.{length-range_with_len}
 use Rattle.toml.specs.View.{table_view}
-use Rattle.cpg_base.specs.Numbers.{numbers_below}
 use Rattle.cpg_base.specs.Graph.{process_count}
 use Rattle.cpg_base.specs.Duration.{duration}
 use Rattle.cpg_base.proofs.Lists.{get_or-map-below}
@@ -26,11 +25,11 @@ returns-in_default-clause-kept c =
     let longest = λ (q : ℕ). duration c.args.problem.now q (count_of c.args.problem.now (table_view c.args.document.now) q) in
     let given = length_given c.args.problem.now (table_view c.args.document.now) in
     sym (one_fails (λ q. is_length_if (longest q) (given q)) (process_count c.args.problem.now) c.loop-process.process
-        (omega (arith, ap length c.processes.ensures.processes))
-        (ap₂ is_length_if
-            (sym (c.of-longest.ensures ∙ c.loop-process.invariant.full c.loop-process.process (omega arith) (omega (arith, ap length c.processes.ensures.processes))))
-            (sym c.length_given.ensures)
-        ∙ c.in_default.ensures.none))
+    (omega (arith, ap length c.processes.ensures.processes))
+    (ap₂ is_length_if
+    (sym (c.of-longest.ensures ∙ c.loop-process.invariant.full c.loop-process.process (omega arith) (omega (arith, ap length c.processes.ensures.processes))))
+    (sym c.length_given.ensures)
+    ∙ c.in_default.ensures.none))
 
 pub loop-process-preserved : goal.loop-process-preserved
 loop-process-preserved c =
@@ -44,9 +43,9 @@ loop-process-preserved c =
       filled = subst (λ (xs : List ℕ). FilledTo (λ q. length_or (longest q) (given q)) (process_count c.args.problem.now) 0 (c.loop-process.process + 1) xs)
           (sym c.set.ensures)
           (filled_next (λ q. length_or (longest q) (given q)) (process_count c.args.problem.now) 0 c.loop-process.process c.loop-process.lengths c.in-Some.length
-              (omega (arith, ap length c.processes.ensures.processes))
-              (c.in-Some.ensures.some.0 ∙ ap₂ length_or is c.length_given.ensures)
-              c.loop-process.invariant.filled);
+          (omega (arith, ap length c.processes.ensures.processes))
+          (c.in-Some.ensures.some.0 ∙ ap₂ length_or is c.length_given.ensures)
+          c.loop-process.invariant.filled);
       full = λ q k l. ap (λ (xs : List ℕ). get_or xs q 0) c.set.ensures
           ∙ get_or-set_other c.loop-process.lengths c.loop-process.process q c.in-Some.length 0 (λ e. omega arith)
           ∙ c.loop-process.invariant.full q (omega arith) l;
@@ -56,10 +55,10 @@ pub returns-clause-kept : goal.returns-clause-kept
 returns-clause-kept c =
     let done = c.loop-process-test.false in
     sym (all_pass (λ q. is_length_if (duration c.args.problem.now q (count_of c.args.problem.now (table_view c.args.document.now) q)) (length_given c.args.problem.now (table_view c.args.document.now) q)) (process_count c.args.problem.now)
-        (λ q l. c.loop-process.invariant.kept q (omega (arith, ap length c.processes.ensures.processes))))
+    (λ q l. c.loop-process.invariant.kept q (omega (arith, ap length c.processes.ensures.processes))))
 
 pub returns-clause-lengths : goal.returns-clause-lengths
 returns-clause-lengths c =
     let done = c.loop-process-test.false in
     filled_all (λ q. length_or (duration c.args.problem.now q (count_of c.args.problem.now (table_view c.args.document.now) q)) (length_given c.args.problem.now (table_view c.args.document.now) q)) (process_count c.args.problem.now) 0 c.loop-process.process c.loop-process.lengths
-        (omega (arith, ap length c.processes.ensures.processes)) c.loop-process.invariant.filled
+    (omega (arith, ap length c.processes.ensures.processes)) c.loop-process.invariant.filled

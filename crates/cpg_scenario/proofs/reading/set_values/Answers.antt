@@ -1,6 +1,6 @@
-use Rattle.std.proofs.Common.{ℕ, Bool, false, List, unwrap_or, set, sym, ap, ap₂, subst, ◌∙◌, ◌+◌, arith}
+use Rattle.std.proofs.Common.{ℕ, Bool, false, List, unwrap_or, sym, ap, subst, ◌∙◌, ◌+◌, arith}
 use Rattle.toml.specs.View.{table_view}
-use Rattle.cpg_base.specs.Graph.{process_count, condition_count, process_of}
+use Rattle.cpg_base.specs.Graph.{condition_count, process_of}
 use Rattle.cpg_base.specs.Scenario.{Scenario}
 use Rattle.cpg_base.proofs.Items.{process_of_below}
 use Rattle.cpg_scenario.specs.File.{value_given, values_of}
@@ -22,9 +22,9 @@ loop-condition-preserved c =
       filled = subst (λ (xs : List Bool). FilledTo value (condition_count c.args.problem.now) false (c.loop-condition.condition + 1) xs)
           (sym (ap (λ (s : Scenario). s.values) c.set_value.ensures))
           (filled_next value (condition_count c.args.problem.now) false c.loop-condition.condition c.loop-condition.scenario.values c.unwrap_or.result
-              (omega (arith, c.conditions-condition-end.ensures.count))
-              (c.unwrap_or.ensures ∙ ap (λ o. unwrap_or o false) (c.value_given-given.ensures ∙ ap (value_given c.args.problem.now (table_view c.args.document.now)) c.process_of.ensures.process))
-              c.loop-condition.invariant.filled);
+          (omega (arith, c.conditions-condition-end.ensures.count))
+          (c.unwrap_or.ensures ∙ ap (λ o. unwrap_or o false) (c.value_given-given.ensures ∙ ap (value_given c.args.problem.now (table_view c.args.document.now)) c.process_of.ensures.process))
+          c.loop-condition.invariant.filled);
       faults = ap (λ (s : Scenario). s.faults) c.set_value.ensures ∙ c.loop-condition.invariant.faults;
     }
 
@@ -32,6 +32,6 @@ pub returns : goal.returns
 returns c =
     let done = c.loop-condition-test.false in
     scenario_is c.loop-condition.scenario (values_of c.args.problem.now (table_view c.args.document.now)) c.args.scenario.now.faults
-        (filled_all (λ d. unwrap_or (value_given c.args.problem.now (table_view c.args.document.now) (process_of c.args.problem.now d)) false) (condition_count c.args.problem.now) false c.loop-condition.condition c.loop-condition.scenario.values
-            (omega (arith, c.conditions-condition-end.ensures.count)) c.loop-condition.invariant.filled)
-        c.loop-condition.invariant.faults
+    (filled_all (λ d. unwrap_or (value_given c.args.problem.now (table_view c.args.document.now) (process_of c.args.problem.now d)) false) (condition_count c.args.problem.now) false c.loop-condition.condition c.loop-condition.scenario.values
+    (omega (arith, c.conditions-condition-end.ensures.count)) c.loop-condition.invariant.filled)
+    c.loop-condition.invariant.faults
