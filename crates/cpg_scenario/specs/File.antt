@@ -1,5 +1,5 @@
 -- What the bytes of a scenario file say of a graph: a scenario and the lengths of its executions, or the first refusal.
-use Rattle.std.specs.Prelude.{ℕ, ℤ, pos, negsuc, Bool, true, false, not, ◌&&◌, ◌||◌, nat_le, if◌then◌else◌, List, [], ◌∷◌, Option, Some, None, Result, Ok, Err, is_some, unwrap_or, option_and_then, map, sum_by, codes, bytes_eq}
+use Rattle.std.specs.Prelude.{ℕ, ℤ, pos, negsuc, Bool, true, false, not, ◌&&◌, ◌||◌, nat_le, if◌then◌else◌, List, [], ◌∷◌, Option, Some, None, Result, Ok, Err, is_some, unwrap_or, option_and_then, map, sum_by, codes, bytes_eq, ◌≡◌, ◌<◌, ◌≤◌, length, get_or}
 use Rattle.std.specs.List.{list_any, list_all}
 use Rattle.std.specs.Str.{is_utf8}
 use Rattle.toml.specs.Data.{Data, Members, no_members, member, get_member, as_integer, as_bool, as_table}
@@ -7,7 +7,7 @@ use Rattle.toml.specs.Parse.{parse_document}
 use Rattle.cpg_base.specs.Numbers.{numbers_below}
 use Rattle.cpg_base.specs.Graph.{Graph, process_count, condition_count, process_at, condition_of, process_of}
 use Rattle.cpg_base.specs.Duration.{duration}
-use Rattle.cpg_base.specs.Scenario.{Scenario}
+use Rattle.cpg_base.specs.Scenario.{Scenario, IsScenario, fault_of}
 use Rattle.cpg_scenario.specs.declared.fault.Cause.TheVariants.{Toml, Field, Unknown, Condition, Budget, Length}
 use Rattle.cpg_scenario.specs.declared.fault.ScenarioFault.{ScenarioFault}
 use Rattle.cpg_scenario.specs.declared.fault.ScenarioFault.TheVariants.{Bad}
@@ -153,3 +153,9 @@ played_if g (Some ms) = played_of g ms
 -- the scenario and the lengths that the bytes say, or the first cause
 unfoldable pub file_of : Graph → List ℕ → Reading
 file_of g bytes = played_if g (if is_utf8 bytes then parse_document bytes else None)
+
+-- a scenario of the graph, and for each process a length from 1 to its duration with its faults
+pub record IsPlayed (g : Graph) (p : Played) : Type 0 where
+  pub scenario : IsScenario g p.scenario
+  pub count : length p.lengths ≡ process_count g
+  pub lengths : (q : ℕ) → q < process_count g → (1 ≤ get_or p.lengths q 0) × (get_or p.lengths q 0 ≤ duration g q (fault_of p.scenario q))

@@ -1,11 +1,12 @@
 //! Reading of a scenario file.
-ghost use Rattle.std.specs.Prelude.{◌≡◌, ◌≢◌, ◌<◌, ◌≤◌, ◌⊎◌, Err, IfSome, IfNone, length, map, true, false, pos};
+ghost use Rattle.std.specs.Prelude.{◌≡◌, ◌≢◌, ◌<◌, ◌≤◌, ◌⊎◌, Err, IfOk, IfSome, IfNone, length, map, true, false, pos};
 ghost use Rattle.std.specs.Bool.{OnTrue};
 ghost use Rattle.toml.specs.View.{table_view};
 ghost use Rattle.cpg_base.specs.Numbers.{numbers_below};
 ghost use Rattle.cpg_base.specs.Graph.{process_count, condition_count};
 ghost use Rattle.cpg_base.specs.Duration.{duration};
-ghost use Rattle.cpg_scenario.specs.File.{value_given, may_have_value, has_conditions, values_of, count_given, count_of, natural, is_natural, keeps_budget, length_given, length_or, is_length_if, keeps_lengths, lengths_of, played_of, file_of};
+ghost use Rattle.cpg_base.specs.Limits.{IsWithinLimits};
+ghost use Rattle.cpg_scenario.specs.File.{value_given, may_have_value, has_conditions, values_of, count_given, count_of, natural, is_natural, keeps_budget, length_given, length_or, is_length_if, keeps_lengths, lengths_of, played_of, file_of, IsPlayed};
 
 use crate::entries::{flag_at, has_fields, has_names, integer_at};
 use crate::fault::{Cause, ScenarioFault};
@@ -137,6 +138,7 @@ fn length_given(problem: &Problem, document: &Table, process: u32) -> Option<i64
 fn set_lengths(problem: &Problem, document: &Table, lengths: &mut Lengths) -> bool
     requires { lengths.old ≡ map (λ p. duration problem.now p (count_of problem.now (table_view document.now) p)) (numbers_below (process_count problem.now)) }
     ensures kept { result ≡ keeps_lengths problem.now (table_view document.now) }
+    ensures within { IsWithinLimits problem.now }
     ensures lengths { OnTrue result (lengths.new ≡ lengths_of problem.now (table_view document.now)) }
 {
     for process in 0..problem.processes().len() as u32 {
@@ -151,7 +153,8 @@ fn set_lengths(problem: &Problem, document: &Table, lengths: &mut Lengths) -> bo
 
 /// The scenario and the lengths of a document.
 fn read_played(alloc: Global, problem: &Problem, document: &Table) -> Result<Played, ScenarioFault>
-    ensures { result ≢ Err ScenarioFault.OutOfMemory → result ≡ played_of problem.now (table_view document.now) }
+    ensures document { result ≢ Err ScenarioFault.OutOfMemory → result ≡ played_of problem.now (table_view document.now) }
+    ensures played { IfOk result (λ p. IsPlayed problem.now p) }
 {
     if !has_fields(document) {
         return Err(ScenarioFault::Bad(Cause::Field));
@@ -182,7 +185,8 @@ pub fn read_scenario(
     problem: &Problem,
     bytes: &[u8],
 ) -> Result<Played, ScenarioFault>
-    ensures { result ≢ Err ScenarioFault.OutOfMemory → result ≡ file_of problem.now bytes.now }
+    ensures file { result ≢ Err ScenarioFault.OutOfMemory → result ≡ file_of problem.now bytes.now }
+    ensures played { IfOk result (λ p. IsPlayed problem.now p) }
 {
     match toml::table_from_slice(alloc, bytes) {
         Ok(document) => read_played(alloc, problem, &document),
