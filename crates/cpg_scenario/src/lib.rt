@@ -1,8 +1,13 @@
-//! Scenarios as texts.
+//! Scenario files and scenarios as texts.
 #![tactic(auto)]
 
+mod entries;
+mod fault;
+mod reading;
 #[cfg(test)]
 mod tests;
 mod text;
 
+pub use fault::{Cause, ScenarioFault};
+pub use reading::{Played, read_scenario};
 pub use text::scenario_text;

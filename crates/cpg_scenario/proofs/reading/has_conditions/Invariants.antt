@@ -1,0 +1,7 @@
+use Rattle.std.proofs.Common.{ℕ, ◌<◌, ◌≡◌, true}
+use Rattle.toml.specs.View.{table_view}
+use Rattle.cpg_scenario.specs.File.{may_have_value}
+use Rattle.cpg_scenario.proofs.reading.has_conditions.Given as goal
+
+abbrev pub invariant-loop-process : goal.invariant-loop-process
+invariant-loop-process l = (q : ℕ) → q < l.process → may_have_value l.problem (table_view l.document) q ≡ true

@@ -1,0 +1,201 @@
+//! Reading of a scenario file.
+ghost use Rattle.std.specs.Prelude.{◌≡◌, ◌≢◌, ◌<◌, ◌≤◌, ◌⊎◌, Err, IfOk, IfSome, IfNone, length, map, true, false, pos};
+ghost use Rattle.std.specs.Bool.{OnTrue};
+ghost use Rattle.toml.specs.View.{table_view};
+ghost use Rattle.cpg_base.specs.Numbers.{numbers_below};
+ghost use Rattle.cpg_base.specs.Graph.{process_count, condition_count};
+ghost use Rattle.cpg_base.specs.Duration.{duration};
+ghost use Rattle.cpg_base.specs.Limits.{IsWithinLimits};
+ghost use Rattle.cpg_scenario.specs.File.{value_given, may_have_value, has_conditions, values_of, count_given, count_of, natural, is_natural, keeps_budget, length_given, length_or, is_length_if, keeps_lengths, lengths_of, played_of, file_of, IsPlayed};
+
+use crate::entries::{flag_at, has_fields, has_names, integer_at};
+use crate::fault::{Cause, ScenarioFault};
+use cpg_base::{Lengths, OutOfMemory, Problem, Scenario};
+use std::alloc::Global;
+use toml::Table;
+
+/// A scenario to play, and how long each execution takes in it.
+#[derive(Drop)]
+pub struct Played {
+    /// The values and the faults.
+    pub scenario: Scenario,
+    /// The lengths, in time units.
+    pub lengths: Lengths,
+}
+
+/// The value that a process is given, if any.
+fn value_given(problem: &Problem, document: &Table, process: u32) -> Option<bool>
+    requires { process < process_count problem.now }
+    ensures { result ≡ value_given problem.now (table_view document.now) process }
+{
+    let name = problem.processes()[process as usize].name.as_str();
+    flag_at(document, "values", name)
+}
+
+/// Whether a process has a condition, where it is given a value.
+fn may_have_value(problem: &Problem, document: &Table, process: u32) -> bool
+    requires { process < process_count problem.now }
+    ensures { result ≡ may_have_value problem.now (table_view document.now) process }
+{
+    if value_given(problem, document, process).is_none() {
+        return true;
+    }
+    problem.condition_of(process).is_some()
+}
+
+/// Whether each process that is given a value has a condition.
+fn has_conditions(problem: &Problem, document: &Table) -> bool
+    ensures { result ≡ has_conditions problem.now (table_view document.now) }
+{
+    for process in 0..problem.processes().len() as u32 {
+        if !may_have_value(problem, document, process) {
+            return false;
+        }
+    }
+    true
+}
+
+/// Gives each condition its value.
+fn set_values(problem: &Problem, document: &Table, scenario: &mut Scenario)
+    requires { length scenario.old.values ≡ condition_count problem.now }
+    ensures { scenario.new ≡ record scenario.old { values = values_of problem.now (table_view document.now) } }
+{
+    for condition in 0..problem.conditions() {
+        let given = value_given(problem, document, problem.process_of(condition));
+        scenario.set_value(condition, given.unwrap_or(false));
+    }
+}
+
+/// The fault count that a process is given, and else 0.
+fn count_given(problem: &Problem, document: &Table, process: u32) -> i64
+    requires { process < process_count problem.now }
+    ensures { result ≡ count_given problem.now (table_view document.now) process }
+{
+    let name = problem.processes()[process as usize].name.as_str();
+    integer_at(document, "faults", name).unwrap_or(0)
+}
+
+/// A count within what is left of the fault number.
+fn count_within(count: i64, left: u8) -> Option<u8>
+    requires { left ≤ 8 }
+    ensures some { IfSome result (λ n. (count ≡ pos n) × (n ≤ left)) }
+    ensures none { IfNone result ((is_natural count ≡ false) ⊎ (left < natural count)) }
+{
+    if count < 0 {
+        return None;
+    }
+    if count > i64::from(left) {
+        return None;
+    }
+    Some(count as u8)
+}
+
+/// Gives each process its fault count; false exactly where a count is below 0, or they are more than the fault number.
+fn set_faults(problem: &Problem, document: &Table, scenario: &mut Scenario) -> bool
+    requires { length scenario.old.faults ≡ process_count problem.now }
+    ensures kept { result ≡ keeps_budget problem.now (table_view document.now) }
+    ensures faults { OnTrue result (scenario.new ≡ record scenario.old { faults = map (count_of problem.now (table_view document.now)) (numbers_below (process_count problem.now)) }) }
+{
+    let mut left = problem.faults();
+    for process in 0..problem.processes().len() as u32 {
+        let Some(count) = count_within(count_given(problem, document, process), left) else {
+            return false;
+        };
+        left -= count;
+        scenario.set_fault(process, count);
+    }
+    true
+}
+
+/// The length that is given, where it is one of an execution that takes at most the longest, and the longest where none is.
+fn length_within(given: Option<i64>, longest: u64) -> Option<u64>
+    ensures some { IfSome result (λ n. (n ≡ length_or longest given) × (is_length_if longest given ≡ true)) }
+    ensures none { IfNone result (is_length_if longest given ≡ false) }
+{
+    let Some(given) = given else {
+        return Some(longest);
+    };
+    if given < 1 {
+        return None;
+    }
+    let length = given as u64;
+    if length > longest {
+        return None;
+    }
+    Some(length)
+}
+
+/// The length that the execution of a process is given, if any.
+fn length_given(problem: &Problem, document: &Table, process: u32) -> Option<i64>
+    requires { process < process_count problem.now }
+    ensures { result ≡ length_given problem.now (table_view document.now) process }
+{
+    let name = problem.processes()[process as usize].name.as_str();
+    integer_at(document, "lengths", name)
+}
+
+/// Gives each execution its length, where all are full; false exactly where one is below 1 or above the full one.
+fn set_lengths(problem: &Problem, document: &Table, lengths: &mut Lengths) -> bool
+    requires { lengths.old ≡ map (λ p. duration problem.now p (count_of problem.now (table_view document.now) p)) (numbers_below (process_count problem.now)) }
+    ensures kept { result ≡ keeps_lengths problem.now (table_view document.now) }
+    ensures within { IsWithinLimits problem.now }
+    ensures lengths { OnTrue result (lengths.new ≡ lengths_of problem.now (table_view document.now)) }
+{
+    for process in 0..problem.processes().len() as u32 {
+        let longest = lengths.of(process);
+        let Some(length) = length_within(length_given(problem, document, process), longest) else {
+            return false;
+        };
+        lengths.set(process, length);
+    }
+    true
+}
+
+/// The scenario and the lengths of a document.
+fn read_played(alloc: Global, problem: &Problem, document: &Table) -> Result<Played, ScenarioFault>
+    ensures document { result ≢ Err ScenarioFault.OutOfMemory → result ≡ played_of problem.now (table_view document.now) }
+    ensures played { IfOk result (λ p. IsPlayed problem.now p) }
+{
+    if !has_fields(document) {
+        return Err(ScenarioFault::Bad(Cause::Field));
+    }
+    if !has_names(problem, document) {
+        return Err(ScenarioFault::Bad(Cause::Unknown));
+    }
+    if !has_conditions(problem, document) {
+        return Err(ScenarioFault::Bad(Cause::Condition));
+    }
+    let mut scenario = Scenario::zero(alloc, problem)?;
+    if !set_faults(problem, document, &mut scenario) {
+        return Err(ScenarioFault::Bad(Cause::Budget));
+    }
+    set_values(problem, document, &mut scenario);
+    let mut lengths = Lengths::full(alloc, problem, &scenario)?;
+    if !set_lengths(problem, document, &mut lengths) {
+        return Err(ScenarioFault::Bad(Cause::Length));
+    }
+    Ok(Played { scenario, lengths })
+}
+
+/// Reads what the bytes of a scenario file say of a graph: its faults and values, and the lengths of its executions. What
+/// isn't named has no faults, is false, and takes its longest time. A refusal tells the first cause that is there, each
+/// looked for in the whole file before the next.
+pub fn read_scenario(
+    alloc: Global,
+    problem: &Problem,
+    bytes: &[u8],
+) -> Result<Played, ScenarioFault>
+    ensures file { result ≢ Err ScenarioFault.OutOfMemory → result ≡ file_of problem.now bytes.now }
+    ensures played { IfOk result (λ p. IsPlayed problem.now p) }
+{
+    match toml::table_from_slice(alloc, bytes) {
+        Ok(document) => read_played(alloc, problem, &document),
+        Err(error) => {
+            if error.is_memory() {
+                Err(ScenarioFault::OutOfMemory)
+            } else {
+                Err(ScenarioFault::Bad(Cause::Toml))
+            }
+        }
+    }
+}
