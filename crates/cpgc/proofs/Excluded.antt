@@ -149,4 +149,4 @@ module _ (seen : Seen) (told : Option Text) (bytes : Text) (a : Admission) (tell
       let b = made.0 in
       let same : b.graph ≡ a.graph = same_graph bytes b.graph a.graph (says_of told bytes b.graph tells made.1.says) listable.says in
       late_not_built a.graph a.order listable.admitted.topological made.2.compiled
-          (moved a b listable.admitted made.1.admitted same (λ g o. IsCompilation g o made.2.compiled) made.2.compilation) late
+      (moved a b listable.admitted made.1.admitted same (λ g o. IsCompilation g o made.2.compiled) made.2.compilation) late

@@ -178,11 +178,7 @@ fn node<S: Shelf>(alloc: Global, shelf: &mut S, pack: &str, name: &str) -> Resul
 }
 
 /// The output of a command, or why it stops.
-fn command_output<S: Shelf>(
-    alloc: Global,
-    shelf: &mut S,
-    command: &Command,
-) -> Result<Output, Halt>
+fn command_output<S: Shelf>(alloc: Global, shelf: &mut S, command: &Command) -> Result<Output, Halt>
     requires { All (λ w. S.may_fetch shelf.old w) (file_words command.now) }
     ensures text { IfOk result (λ o. PrintsCommand (record { stands = S.stands shelf.old; given = S.given shelf.new; before = S.faults shelf.old; now = S.faults shelf.new }) command.now (bytes_of o)) }
     ensures halt { IfErr result (StopsCommand (record { stands = S.stands shelf.old; given = S.given shelf.new; before = S.faults shelf.old; now = S.faults shelf.new }) command.now) }

@@ -212,3 +212,50 @@ fn faults(rt: HostRuntime) -> Result<(), Fail> {
     assert_eq!(rt; (muted.status, muted.out.taken().len()), (3, 0));
     Ok(())
 }
+
+/// The pack of one process A with one fault, on one node.
+const SINGLE_PACK: [u8; 44] = [
+    0x43, 0x50, 0x47, 0x54, 1, 1, 1, 2, 0x4e, 0x31, 1, 1, 0x41, 0, 0, 0, 0, 0, 0, 0, 0, 0, 0x23, 0,
+    0, 0, 0, 0, 0, 0, 0x48, 0, 0, 0, 1, 0, 0, 0, 0, 0, 0, 0, 0, 0,
+];
+
+#[test]
+fn packs(rt: HostRuntime) -> Result<(), Fail> {
+    let alloc = rt.alloc();
+    let graph = one_node(alloc, 1, 72, A)?;
+    let mut shelf = MemoryShelf::new(alloc)?;
+    shelf.put("g", graph.as_bytes())?;
+    shelf.put("empty", b"faults = 0\ndeadline = 0\n")?;
+    for (graph, pack) in [
+        ("g", SINGLE_PACK.as_slice()),
+        ("empty", &[0x43, 0x50, 0x47, 0x54, 1, 0, 0, 0, 0, 0]),
+    ] {
+        let got = outcome(alloc, &mut shelf, &["compile", graph], 100, 100)?;
+        assert_eq!(rt; got.out.taken(), pack);
+        assert_eq!(rt; (got.status, got.err.taken().len()), (0, 0));
+    }
+    Ok(())
+}
+
+#[test]
+fn nodes(rt: HostRuntime) -> Result<(), Fail> {
+    let alloc = rt.alloc();
+    let mut longer = Vec::from_slice(alloc, SINGLE_PACK.as_slice())?;
+    longer.push(0)?;
+    let mut shelf = MemoryShelf::new(alloc)?;
+    shelf.put("p", SINGLE_PACK.as_slice())?;
+    shelf.put("longer", longer.as_slice())?;
+    shelf.put("shorter", &SINGLE_PACK[..43])?;
+    for (pack, name, status, out, err) in [
+        ("p", "N1", 0, "node N1\nstart A\n  0: always\n", ""),
+        ("p", "N2", 4, "", "cpgc: refused 19 node\n"),
+        ("longer", "N1", 4, "", "cpgc: refused 10 pack 44\n"),
+        ("shorter", "N1", 4, "", "cpgc: refused 10 pack 43\n"),
+    ] {
+        let got = outcome(alloc, &mut shelf, &["node", pack, name], 100, 100)?;
+        assert_eq!(rt; got.out.taken(), out.as_bytes());
+        assert_eq!(rt; got.err.taken(), err.as_bytes());
+        assert_eq!(rt; got.status, status);
+    }
+    Ok(())
+}

@@ -12,7 +12,7 @@ use Rattle.cpgc.proofs.run.run.Goals as goal
 pub stop-requires-in-Err : goal.stop-requires-in-Err
 stop-requires-in-Err g c =
     stops_named (record { stands = g.S.Shelf.stands c.args.shelf.now; given = g.S.Shelf.given c.outcome.new.shelf; before = g.S.Shelf.faults c.args.shelf.now; now = g.S.Shelf.faults c.outcome.new.shelf })
-        (map string_bytes c.args.words.now) c.in-Err.halt c.in-Err.ensures.halt
+    (map string_bytes c.args.words.now) c.in-Err.halt c.in-Err.ensures.halt
 
 pub returns-in-Ok-put : goal.returns-in-Ok-put
 returns-in-Ok-put g c =
