@@ -40,70 +40,70 @@ macro_rules! number {
 
 /// The node of a process, by number.
 pub fn process_node(record: &Fixed<2>) -> u8
-    ensures { result ≡ field 0 1 record.now }
+    ensures { result ≡ field 0 1 «record».now }
 {
     number!(record, 0)
 }
 
 /// 1 where a process has a condition, and 0 where it has none.
 pub fn process_flag(record: &Fixed<2>) -> u8
-    ensures { result ≡ field 1 1 record.now }
+    ensures { result ≡ field 1 1 «record».now }
 {
     number!(record, 1)
 }
 
 /// The process that an edge leads from, by number.
 pub fn edge_from(record: &Fixed<2>) -> u8
-    ensures { result ≡ field 0 1 record.now }
+    ensures { result ≡ field 0 1 «record».now }
 {
     number!(record, 0)
 }
 
 /// The process that an edge leads to, by number.
 pub fn edge_to(record: &Fixed<2>) -> u8
-    ensures { result ≡ field 1 1 record.now }
+    ensures { result ≡ field 1 1 «record».now }
 {
     number!(record, 1)
 }
 
 /// The variable of a literal.
 pub fn literal_variable(record: &Fixed<3>) -> u8
-    ensures { result ≡ field 0 1 record.now }
+    ensures { result ≡ field 0 1 «record».now }
 {
     number!(record, 0)
 }
 
 /// The least number that is in the range of a literal.
 pub fn literal_low(record: &Fixed<3>) -> u8
-    ensures { result ≡ field 1 1 record.now }
+    ensures { result ≡ field 1 1 «record».now }
 {
     number!(record, 1)
 }
 
 /// The greatest number that is in the range of a literal.
 pub fn literal_high(record: &Fixed<3>) -> u8
-    ensures { result ≡ field 2 1 record.now }
+    ensures { result ≡ field 2 1 «record».now }
 {
     number!(record, 2)
 }
 
 /// A number of eight bytes: a duration, a release or a deadline, in time units of the graph file.
 pub fn long_number(record: &Fixed<8>) -> u64
-    ensures { result ≡ field 0 8 record.now }
+    ensures { result ≡ field 0 8 «record».now }
 {
     number!(record, first 8)
 }
 
 /// The time of a column, in time units of the graph file.
 pub fn column_time(record: &Fixed<9>) -> u64
-    ensures { result ≡ field 0 8 record.now }
+    ensures { result ≡ field 0 8 «record».now }
 {
     number!(record, first 8)
 }
 
 /// How many literals a column has.
 pub fn column_literals(record: &Fixed<9>) -> u8
-    ensures { result ≡ field 8 1 record.now }
+    ensures { result ≡ field 8 1 «record».now }
 {
     number!(record, 8)
 }
