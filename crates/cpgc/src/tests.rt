@@ -259,3 +259,30 @@ fn nodes(rt: HostRuntime) -> Result<(), Fail> {
     }
     Ok(())
 }
+
+/// Its pack of version 2, for a release at 10.
+const RELEASED_PACK: [u8; 60] = [
+    0x43, 0x50, 0x47, 0x54, 2, 1, 1, 2, 0x4e, 0x31, 1, 1, 0x41, 0, 0, 0, 0, 0, 0, 0, 0, 0, 0x23, 0,
+    0, 0, 0, 0, 0, 0, 0x48, 0, 0, 0, 0, 0, 0, 0, 0x0a, 0xff, 0xff, 0xff, 0xff, 0xff, 0xff, 0xff,
+    0xff, 0, 0, 0, 1, 0, 0, 0, 0, 0, 0, 0, 0x0a, 0,
+];
+
+#[test]
+fn cut_packs(rt: HostRuntime) -> Result<(), Fail> {
+    let alloc = rt.alloc();
+    let mut shelf = MemoryShelf::new(alloc)?;
+    shelf.put("p", RELEASED_PACK.as_slice())?;
+    let whole = outcome(alloc, &mut shelf, &["node", "p", "N1"], 100, 100)?;
+    assert_eq!(rt;
+        whole.out.taken(),
+        b"node N1\nstart A\n  10: always\n".as_slice()
+    );
+    for length in 0..60usize {
+        shelf.put("p", &RELEASED_PACK[..length])?;
+        let got = outcome(alloc, &mut shelf, &["node", "p", "N1"], 100, 100)?;
+        let err = format!(in alloc; "cpgc: refused 10 pack {length}\n")?;
+        assert_eq!(rt; got.err.taken(), err.as_bytes());
+        assert_eq!(rt; got.status, 4);
+    }
+    Ok(())
+}
