@@ -2,6 +2,8 @@
 
 use crate::run::run;
 use cpg_io::{MemoryShelf, MemorySink};
+use cpg_reader::read_problem;
+use cpg_run::Frozen;
 use std::alloc::Global;
 use std::test::Fail;
 
@@ -15,6 +17,7 @@ const A_AND_B: &str =
     "{ name = \"A\", node = \"N1\", wcet = 30, alpha = 2, chi = 3, mu = 5 }, { name = \"B\", node = \"N1\", wcet = 10, alpha = 2, chi = 3, mu = 5 }";
 
 /// What a run did.
+#[derive(Drop)]
 struct Outcome {
     status: u8,
     out: MemorySink,
@@ -22,7 +25,7 @@ struct Outcome {
 }
 
 /// Runs words over a shelf and sinks of some room, in bytes.
-fn outcome(
+fn run_over(
     alloc: Global,
     shelf: &mut MemoryShelf,
     list: &[&str],
@@ -43,7 +46,7 @@ fn outcome(
 fn shown(alloc: Global, graph: &[u8]) -> Result<Outcome, Fail> {
     let mut shelf = MemoryShelf::new(alloc)?;
     shelf.put("g", graph)?;
-    outcome(alloc, &mut shelf, &["show", "g"], 1000, 1000)
+    run_over(alloc, &mut shelf, &["show", "g"], 1000, 1000)
 }
 
 /// A graph file of one node.
@@ -181,7 +184,7 @@ fn words_without_a_form(rt: HostRuntime) -> Result<(), Fail> {
         &["play", "g", "p", "s"],
         &["shew", "g"],
     ] {
-        let got = outcome(alloc, &mut shelf, list, 100, 100)?;
+        let got = run_over(alloc, &mut shelf, list, 100, 100)?;
         assert_eq!(rt; got.err.taken(), b"cpgc: words\n".as_slice());
         assert_eq!(rt; (got.status, got.out.taken().len()), (1, 0));
     }
@@ -193,21 +196,21 @@ fn faults(rt: HostRuntime) -> Result<(), Fail> {
     let alloc = rt.alloc();
     let graph = one_node(alloc, 1, 72, A)?;
     let mut shelf = MemoryShelf::new(alloc)?;
-    let missing = outcome(alloc, &mut shelf, &["show", "g"], 100, 100)?;
+    let missing = run_over(alloc, &mut shelf, &["show", "g"], 100, 100)?;
     assert_eq!(rt; missing.err.taken(), b"cpgc: read fault\n".as_slice());
     assert_eq!(rt; (missing.status, missing.out.taken().len()), (2, 0));
     shelf.put("g", graph.as_bytes())?;
     shelf.fail_call(2)?;
-    let unread = outcome(alloc, &mut shelf, &["show", "g"], 100, 100)?;
+    let unread = run_over(alloc, &mut shelf, &["show", "g"], 100, 100)?;
     assert_eq!(rt; unread.err.taken(), b"cpgc: read fault\n".as_slice());
     assert_eq!(rt; (unread.status, unread.out.taken().len()), (2, 0));
-    let cut = outcome(alloc, &mut shelf, &["show", "g"], 10, 100)?;
+    let cut = run_over(alloc, &mut shelf, &["show", "g"], 10, 100)?;
     assert_eq!(rt; cut.out.taken(), b"order A\nwo".as_slice());
     assert_eq!(rt; cut.err.taken(), b"cpgc: write fault\n".as_slice());
     assert_eq!(rt; cut.status, 3);
     let late = one_node(alloc, 1, 71, A)?;
     shelf.put("g", late.as_bytes())?;
-    let muted = outcome(alloc, &mut shelf, &["show", "g"], 100, 4)?;
+    let muted = run_over(alloc, &mut shelf, &["show", "g"], 100, 4)?;
     assert_eq!(rt; muted.err.taken(), b"cpgc".as_slice());
     assert_eq!(rt; (muted.status, muted.out.taken().len()), (3, 0));
     Ok(())
@@ -230,7 +233,7 @@ fn packs(rt: HostRuntime) -> Result<(), Fail> {
         ("g", SINGLE_PACK.as_slice()),
         ("empty", &[0x43, 0x50, 0x47, 0x54, 1, 0, 0, 0, 0, 0]),
     ] {
-        let got = outcome(alloc, &mut shelf, &["compile", graph], 100, 100)?;
+        let got = run_over(alloc, &mut shelf, &["compile", graph], 100, 100)?;
         assert_eq!(rt; got.out.taken(), pack);
         assert_eq!(rt; (got.status, got.err.taken().len()), (0, 0));
     }
@@ -252,7 +255,7 @@ fn nodes(rt: HostRuntime) -> Result<(), Fail> {
         ("longer", "N1", 4, "", "cpgc: refused 10 pack 44\n"),
         ("shorter", "N1", 4, "", "cpgc: refused 10 pack 43\n"),
     ] {
-        let got = outcome(alloc, &mut shelf, &["node", pack, name], 100, 100)?;
+        let got = run_over(alloc, &mut shelf, &["node", pack, name], 100, 100)?;
         assert_eq!(rt; got.out.taken(), out.as_bytes());
         assert_eq!(rt; got.err.taken(), err.as_bytes());
         assert_eq!(rt; got.status, status);
@@ -272,17 +275,30 @@ fn cut_packs(rt: HostRuntime) -> Result<(), Fail> {
     let alloc = rt.alloc();
     let mut shelf = MemoryShelf::new(alloc)?;
     shelf.put("p", RELEASED_PACK.as_slice())?;
-    let whole = outcome(alloc, &mut shelf, &["node", "p", "N1"], 100, 100)?;
+    let whole = run_over(alloc, &mut shelf, &["node", "p", "N1"], 100, 100)?;
     assert_eq!(rt;
         whole.out.taken(),
         b"node N1\nstart A\n  10: always\n".as_slice()
     );
     for length in 0..60usize {
         shelf.put("p", &RELEASED_PACK[..length])?;
-        let got = outcome(alloc, &mut shelf, &["node", "p", "N1"], 100, 100)?;
+        let got = run_over(alloc, &mut shelf, &["node", "p", "N1"], 100, 100)?;
         let err = format!(in alloc; "cpgc: refused 10 pack {length}\n")?;
         assert_eq!(rt; got.err.taken(), err.as_bytes());
         assert_eq!(rt; got.status, 4);
     }
+    Ok(())
+}
+
+#[test]
+fn frozen_times(rt: HostRuntime) -> Result<(), Fail> {
+    let alloc = rt.alloc();
+    let graph = one_node(alloc, 1, 87, A_AND_B)?;
+    let problem = read_problem(alloc, graph.as_bytes()).map_err(|_| "refused")?;
+    assert_eq!(rt; problem.processes().len(), 2);
+    let mut frozen = Frozen::none(alloc, &problem)?;
+    frozen.set(1, 72);
+    let copy = frozen.copy()?;
+    assert_eq!(rt; (copy.of(0), copy.of(1)), (None, Some(72)));
     Ok(())
 }
