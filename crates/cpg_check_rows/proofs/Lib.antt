@@ -1,3 +1,5 @@
 pub mod RowColumns
 pub mod Doubles
 pub mod Violations
+pub mod Differences
+pub mod HearLaws

@@ -1,3 +1,4 @@
 pub mod Columns
 pub mod Violation
 pub mod Single
+pub mod Hears

@@ -2,6 +2,8 @@
 #![tactic(auto)]
 
 mod columns;
+mod hears;
 mod single;
 
+pub use hears::check_hears;
 pub use single::check_single;
