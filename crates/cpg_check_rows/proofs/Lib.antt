@@ -3,3 +3,5 @@ pub mod Doubles
 pub mod Violations
 pub mod Differences
 pub mod HearLaws
+pub mod ActiveWhere
+pub mod PresentLaws

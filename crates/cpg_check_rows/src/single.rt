@@ -1,7 +1,7 @@
 //! V2: no two columns of a row match in one scenario.
 ghost use Rattle.std.specs.Prelude.{◌≡◌, ◌≤◌, ◌&&◌, ℕ, All, IfNone, IfOk, IfSome, List, false, length};
 ghost use Rattle.cpg_base.specs.Graph.{process_count};
-ghost use Rattle.cpg_order.specs.First.{IsFirst, earlier};
+ghost use Rattle.cpg_order.specs.First.{IsFirst};
 ghost use Rattle.cpg_order.specs.Scenario.{Scenario, IsScenario};
 ghost use Rattle.cpg_cube.specs.Cube.{matches};
 ghost use Rattle.cpg_cube.specs.Fit.{IsKnown};
@@ -11,37 +11,13 @@ ghost use Rattle.cpg_check_rows.specs.Violation.{Holds, IsFirstColumn, IsFirstVi
 ghost use Rattle.cpg_check_rows.specs.Single.{is_double, HasRoom};
 
 use crate::columns::{columns_of, item_count};
+use crate::earliest::earlier;
 use cpg_base::{OutOfMemory, Problem, Scenario};
 use cpg_cube::Cube;
-use cpg_order::{Order, is_before};
+use cpg_order::Order;
 use cpg_rules::Admitted;
 use cpg_table::{Entry, Fault, Tables};
 use std::alloc::Global;
-
-/// The earlier of two scenarios, where there are two.
-fn earlier(
-    problem: &Problem,
-    order: &Order,
-    first: Option<Scenario>,
-    second: Option<Scenario>,
-) -> Option<Scenario>
-    requires order { length order.now ≡ process_count problem.now }
-    requires first { IfSome first (IsScenario problem.now) }
-    requires second { IfSome second (IsScenario problem.now) }
-    ensures { result ≡ earlier problem.now order.now first second }
-{
-    let Some(first) = first else {
-        return second;
-    };
-    let Some(second) = second else {
-        return Some(first);
-    };
-    if is_before(problem, order, &second, &first) {
-        Some(second)
-    } else {
-        Some(first)
-    }
-}
 
 /// The least scenario that two cubes match, if there is one. It is first written to `room`.
 fn met(
