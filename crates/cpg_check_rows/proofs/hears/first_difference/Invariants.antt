@@ -1,0 +1,6 @@
+use Rattle.std.proofs.Common.{◌≡◌, take, map}
+use Rattle.cpg_table.specs.Valid.{later_by}
+use Rattle.cpg_check_rows.proofs.hears.first_difference.Given as goal
+
+abbrev pub invariant-loop-place : goal.invariant-loop-place
+invariant-loop-place l = take l.place l.heard ≡ take l.place (map (later_by l.delay) l.sent)

@@ -1,0 +1,21 @@
+use Rattle.std.proofs.Common.{◌≡◌, false}
+use Rattle.cpg_order.specs.Scenario.{Scenario, IsScenario}
+use Rattle.cpg_table.specs.GraphHead.{head_of}
+use Rattle.cpg_table.specs.Lawful.{AreTablesOf}
+use Rattle.cpg_table.specs.Table.{columns_of}
+use Rattle.cpg_check_rows.specs.Present.{is_absent}
+use Rattle.cpg_check_rows.proofs.Violations.{columns_known}
+use Rattle.cpg_check_rows.proofs.PresentLaws.{present_more}
+use Rattle.cpg_check_rows.proofs.present.check_present.Goals as goal
+
+pub least_absent-requires-clause-columns : goal.least_absent-requires-clause-columns
+least_absent-requires-clause-columns c =
+    let are : AreTablesOf (head_of c.args.admitted.now.graph) c.args.tables.now.nodes = rw (← c.requires) c.columns_of-columns.ensures.lawful in
+    rw c.columns_of-columns.ensures.columns (columns_known c.problem-problem.ensures.admitted c.args.tables.now.nodes are c.loop-item.item)
+
+pub loop-item-preserved : goal.loop-item-preserved
+loop-item-preserved c =
+    let g = c.args.admitted.now.graph in
+    let none : (s : Scenario) → IsScenario g s → is_absent g (columns_of c.args.tables.now.nodes c.loop-item.item) c.loop-item.item s ≡ false =
+    rw (← c.columns_of-columns.ensures.columns) (rw c.in_default.is at c.in_ok-absent.ensures) in
+    present_more g c.args.tables.now.nodes c.loop-item.item c.loop-item.invariant none

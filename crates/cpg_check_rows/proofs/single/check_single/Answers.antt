@@ -1,0 +1,37 @@
+use Rattle.std.proofs.Common.{◌≡◌, ap, false, ℕ, arith}
+use Rattle.cpg_base.specs.Graph.{item_count}
+use Rattle.cpg_order.specs.Scenario.{Scenario, IsScenario}
+use Rattle.cpg_check_rows.specs.Violation.{IsFirstColumn}
+use Rattle.cpg_check_rows.specs.Single.{is_double}
+use Rattle.cpg_table.specs.GraphHead.{head_of}
+use Rattle.cpg_table.specs.Lawful.{AreTablesOf}
+use Rattle.cpg_table.specs.Table.{columns_of}
+use Rattle.cpg_check_rows.proofs.RowColumns.{columns_few}
+use Rattle.cpg_check_rows.proofs.Violations.{long_order, columns_known, none_more, first_violation}
+use Rattle.cpg_check_rows.proofs.single.check_single.Goals as goal
+
+pub first_double-requires-clause-order : goal.first_double-requires-clause-order
+first_double-requires-clause-order c = rw (c.order-order.ensures.order, c.problem-problem.ensures.problem) (long_order c.order-order.ensures.admitted)
+
+pub first_double-requires-clause-columns : goal.first_double-requires-clause-columns
+first_double-requires-clause-columns c =
+    let are : AreTablesOf (head_of c.args.admitted.now.graph) c.args.tables.now.nodes = rw (← c.requires) c.columns_of-columns.ensures.lawful in
+    rw (c.problem-problem.ensures.problem, c.columns_of-columns.ensures.columns) (columns_known c.order-order.ensures.admitted c.args.tables.now.nodes are c.loop-item.item)
+
+pub first_double-requires-clause-few : goal.first_double-requires-clause-few
+first_double-requires-clause-few c = rw c.columns_of-columns.ensures.columns (columns_few c.args.tables.now.head c.args.tables.now.nodes c.columns_of-columns.ensures.lawful c.loop-item.item)
+
+pub returns-in-Some-clause-first : goal.returns-in-Some-clause-first
+returns-in-Some-clause-first c =
+    let g = c.args.admitted.now.graph in
+    let first : IsFirstColumn g c.args.admitted.now.order (is_double (columns_of c.args.tables.now.nodes c.loop-item.item)) (c.in-Some.column, c.in-Some.scenario) =
+    rw (← c.problem-problem.ensures.problem, ← c.order-order.ensures.order, ← c.columns_of-columns.ensures.columns) (rw c.in-Some.is at c.in_ok-double.ensures.first) in
+    first_violation g c.args.tables.now.nodes c.loop-item.item c.args.admitted.now.order c.in-Some.column c.in-Some.scenario
+    (omega (arith, c.loop-item-test.true, c.item_count-item-end.ensures, ap item_count c.problem-problem.ensures.problem)) c.loop-item.invariant first
+
+pub loop-item-preserved : goal.loop-item-preserved
+loop-item-preserved c =
+    let g = c.args.admitted.now.graph in
+    let none : (i : ℕ) (s : Scenario) → IsScenario g s → is_double (columns_of c.args.tables.now.nodes c.loop-item.item) i s ≡ false =
+    rw (← c.problem-problem.ensures.problem, ← c.columns_of-columns.ensures.columns) (rw c.in_default.is at c.in_ok-double.ensures.none) in
+    none_more g c.args.tables.now.nodes c.loop-item.item c.loop-item.invariant none

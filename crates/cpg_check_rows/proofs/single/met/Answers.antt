@@ -1,0 +1,16 @@
+use Rattle.std.proofs.Common.{[]}
+use Rattle.cpg_order.specs.Scenario.{IsScenario}
+use Rattle.cpg_check_rows.proofs.single.met.Goals as goal
+
+pub returns-in_err-least-clause-room : goal.returns-in_err-least-clause-room
+returns-in_err-least-clause-room c =
+    let lawful : IsScenario c.args.problem.now c.meets.new.least = (c.if-not-meets.ensures.least []).lawful in
+    record { values = lawful.values; faults = lawful.faults }
+
+pub returns-clause-room : goal.returns-clause-room
+returns-clause-room c =
+    let lawful : IsScenario c.args.problem.now c.meets.new.least = (c.if-not-meets.ensures.least []).lawful in
+    record { values = lawful.values; faults = lawful.faults }
+
+pub returns-clause-first : goal.returns-clause-first
+returns-clause-first c = rw c.in_ok-least.ensures c.if-not-meets.ensures.least

@@ -1,0 +1,7 @@
+-- The columns of the first row of an item, where there is a row.
+use Rattle.std.specs.Prelude.{ℕ, ◌==◌, if◌then◌else◌, List, [], ◌∷◌, Option, Some, None}
+use Rattle.cpg_table.specs.Table.{Column, Row}
+
+abbrev pub row_columns : List Row → ℕ → Option (List Column)
+row_columns [] x = None
+row_columns (row ∷ rows) x = if row.item == x then Some row.columns else row_columns rows x

@@ -1,0 +1,93 @@
+//! The least scenario in which a process is active, or isn't, of those that a cube matches and others don't.
+ghost use Rattle.std.specs.Prelude.{◌≡◌, ◌<◌, ◌≤◌, ◌&&◌, All, IfOk, length, map};
+ghost use Rattle.cpg_base.specs.Graph.{IsVariable, condition_count, process_count};
+ghost use Rattle.cpg_guard.specs.Trees.{TestsBelow};
+ghost use Rattle.cpg_order.specs.First.{IsFirst};
+ghost use Rattle.cpg_cube.specs.Cube.{holds};
+ghost use Rattle.cpg_cube.specs.Cover.{is_left};
+ghost use Rattle.cpg_cube.specs.Fit.{IsKnown};
+ghost use Rattle.cpg_check_rows.specs.Activity.{comes_to, value_literal};
+
+use crate::earliest::earlier;
+use cpg_base::{OutOfMemory, Problem, Scenario};
+use cpg_cube::{Cube, Literal, uncovered};
+use cpg_guard::{GuardTop, GuardTree};
+use cpg_order::Order;
+use std::alloc::Global;
+
+/// The literal that a condition has a value.
+pub fn value_literal(condition: u32, value: bool) -> Literal
+    requires { condition < 32 }
+    ensures { result ≡ value_literal condition value }
+{
+    let number = u8::from(value);
+    Literal {
+        variable: 128 + condition as u8,
+        low: number,
+        high: number,
+    }
+}
+
+/// The same where a literal holds too.
+#[cycle(activity)]
+fn least_where(
+    alloc: Global,
+    problem: &Problem,
+    order: &Order,
+    tree: &GuardTree,
+    wanted: bool,
+    cube: &Cube,
+    literal: Literal,
+    by: &[&Cube],
+) -> Result<Option<Scenario>, OutOfMemory>
+    requires order { length order.now ≡ process_count problem.now }
+    requires conditions { condition_count problem.now ≤ 32 }
+    requires tree { TestsBelow (condition_count problem.now) tree.now }
+    requires cube { IsKnown problem.now cube.now }
+    requires literal { IsVariable problem.now literal.variable }
+    requires list { All (λ b. IsKnown problem.now b.now) by.now }
+    ensures { IfOk result (IsFirst problem.now order.now (λ s. holds s literal && (is_left (map (λ b. b.now) by.now) cube.now s && comes_to tree.now wanted s))) }
+{
+    let Some(part) = cube.with(literal)? else {
+        return Ok(None);
+    };
+    let found = least_at(alloc, problem, order, tree, wanted, &part, by)?;
+    Ok(found)
+}
+
+/// The least scenario that a cube matches, none of a list does, and in which a tree comes to an activation, or else to
+/// none, as wanted; if there is one.
+#[cycle(activity)]
+pub fn least_at(
+    alloc: Global,
+    problem: &Problem,
+    order: &Order,
+    tree: &GuardTree,
+    wanted: bool,
+    cube: &Cube,
+    by: &[&Cube],
+) -> Result<Option<Scenario>, OutOfMemory>
+    requires order { length order.now ≡ process_count problem.now }
+    requires conditions { condition_count problem.now ≤ 32 }
+    requires tree { TestsBelow (condition_count problem.now) tree.now }
+    requires cube { IsKnown problem.now cube.now }
+    requires list { All (λ b. IsKnown problem.now b.now) by.now }
+    ensures { IfOk result (IsFirst problem.now order.now (λ s. is_left (map (λ b. b.now) by.now) cube.now s && comes_to tree.now wanted s)) }
+{
+    match tree.top() {
+        GuardTop::Leaf(activation) => {
+            if activation.is_active() != wanted {
+                return Ok(None);
+            }
+            let found = uncovered(alloc, problem, order, cube, by)?;
+            Ok(found)
+        }
+        GuardTop::Test { condition, no, yes } => {
+            let off = value_literal(condition, false);
+            let on = value_literal(condition, true);
+            let first = least_where(alloc, problem, order, no, wanted, cube, off, by)?;
+            let second = least_where(alloc, problem, order, yes, wanted, cube, on, by)?;
+            Ok(earlier(problem, order, first, second))
+        }
+    }
+}

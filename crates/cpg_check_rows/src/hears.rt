@@ -1,0 +1,173 @@
+//! V10: a hear row has the sender's columns, each later by the sender's slot.
+ghost use Rattle.std.specs.Prelude.{◌≡◌, ◌≤◌, ◌<◌, ◌↔◌, ◌==◌, ℕ, IfNone, IfOk, IfSome, IsSomeAnd, IsTrue, length, map, position};
+ghost use Rattle.cpg_base.specs.Bus.{slot_length};
+ghost use Rattle.cpg_base.specs.Graph.{home, item_count, producer};
+ghost use Rattle.cpg_base.specs.WellFormed.{WellFormed};
+ghost use Rattle.cpg_table.specs.GraphHead.{head_of};
+ghost use Rattle.cpg_table.specs.Table.{table_at};
+ghost use Rattle.cpg_table.specs.Valid.{later_by};
+ghost use Rattle.cpg_check_rows.specs.Columns.{row_columns};
+ghost use Rattle.cpg_check_rows.specs.Hears.{DifferFirstAt, HearsAt, HearsHold, IsFirstHear, IsFirstHearFault};
+
+use crate::columns::{columns_of, item_count, row_columns};
+use cpg_base::{OutOfMemory, Problem, Scenario, Slot};
+use cpg_cube::Literal;
+use cpg_rules::Admitted;
+use cpg_table::{Entry, Fault, Tables};
+use std::alloc::Global;
+
+/// The place of a node's slot in the round.
+fn slot_place(slots: &[Slot], node: u32) -> Option<usize>
+    ensures { result ≡ position (λ s. s.node == node) slots.now }
+{
+    slots.iter().position(|slot| slot.node == node)
+}
+
+/// How long a node's slot lasts.
+fn slot_length(problem: &Problem, node: u32) -> u64
+    ensures { result ≡ slot_length problem.now node }
+{
+    let slots = problem.slots();
+    let place = slot_place(slots, node).unwrap_or(0);
+    match slots.get(place) {
+        Some(slot) => slot.length,
+        None => 0,
+    }
+}
+
+/// The process that an item comes from.
+fn producer(problem: &Problem, item: u32) -> u32
+    requires { item < item_count problem.now }
+    ensures { result ≡ producer problem.now item }
+{
+    let processes = problem.processes().len() as u32;
+    if item < processes {
+        return item;
+    }
+    let edges = problem.edges();
+    let edge = (item - processes) as usize;
+    if edge < edges.len() {
+        return edges[edge].from;
+    }
+    problem.process_of((edge - edges.len()) as u32)
+}
+
+/// The node that starts or sends an item.
+fn home(problem: &Problem, item: u32) -> u32
+    requires item { item < item_count problem.now }
+    requires formed { WellFormed problem.now }
+    ensures { result ≡ home problem.now item }
+{
+    let process = producer(problem, item);
+    problem.processes()[process as usize].node
+}
+
+fn is_same(literal: &Literal, other: &Literal) -> bool
+    ensures { IsTrue result ↔ (literal.now ≡ other.now) }
+{
+    literal.variable == other.variable && literal.low == other.low && literal.high == other.high
+}
+
+fn are_same(literals: &[Literal], others: &[Literal]) -> bool
+    ensures { IsTrue result ↔ (literals.now ≡ others.now) }
+{
+    if literals.len() != others.len() {
+        return false;
+    }
+    for place in 0..literals.len() {
+        if !is_same(&literals[place], &others[place]) {
+            return false;
+        }
+    }
+    true
+}
+
+/// Whether a column is another, later by a delay.
+fn is_later(heard: &Entry, sent: &Entry, delay: u64) -> bool
+    ensures { IsTrue result ↔ (heard.now ≡ later_by delay sent.now) }
+{
+    if heard.time < delay {
+        return false;
+    }
+    if heard.time - delay != sent.time {
+        return false;
+    }
+    are_same(heard.cube.literals(), sent.cube.literals())
+}
+
+/// The first column that isn't the sender's, later by the delay: the shorter length where all before it are.
+fn first_difference(heard: &[Entry], sent: &[Entry], delay: u64) -> Option<u32>
+    requires { length sent.now ≤ 524288 }
+    ensures same { IfNone result (heard.now ≡ map (later_by delay) sent.now) }
+    ensures differ { IfSome result (DifferFirstAt heard.now (map (later_by delay) sent.now)) }
+{
+    let common = heard.len().min(sent.len());
+    for place in 0..common {
+        if !is_later(&heard[place], &sent[place], delay) {
+            return Some(place as u32);
+        }
+    }
+    if heard.len() == sent.len() {
+        return None;
+    }
+    Some(common as u32)
+}
+
+/// The first column of an item's hear row at a node that isn't the sender's, later by the delay.
+fn difference_at(tables: &Tables, node: u32, item: u32, sent: &[Entry], delay: u64) -> Option<u32>
+    requires node { node < length tables.now.head.nodes }
+    requires few { length sent.now ≤ 524288 }
+    ensures same { IfNone result (HearsAt tables.now.nodes item (map (later_by delay) sent.now) node) }
+    ensures differ { IfSome result (λ place. IsSomeAnd (row_columns (table_at tables.now.nodes node).hears item) (λ cs. DifferFirstAt cs (map (later_by delay) sent.now) place)) }
+{
+    let table = tables.node(node);
+    let Some(heard) = row_columns(table.hears(), item) else {
+        return None;
+    };
+    first_difference(heard, sent, delay)
+}
+
+/// The first column that differs at the least node that hears the item otherwise.
+fn first_hear(tables: &Tables, nodes: u32, item: u32, sent: &[Entry], delay: u64) -> Option<u32>
+    requires nodes { nodes ≡ length tables.now.head.nodes }
+    requires few { length sent.now ≤ 524288 }
+    ensures same { IfNone result ((node : ℕ) → node < length tables.now.head.nodes → HearsAt tables.now.nodes item (map (later_by delay) sent.now) node) }
+    ensures differ { IfSome result (IsFirstHear tables.now.nodes (length tables.now.head.nodes) item (map (later_by delay) sent.now)) }
+{
+    for node in 0..nodes {
+        if let Some(place) = difference_at(tables, node, item, sent, delay) {
+            return Some(place);
+        }
+    }
+    None
+}
+
+/// The first violation of V10: the least item that some node hears at other columns than the sender's, each later by the
+/// sender's slot, with the first column that differs at the least such node, in the scenario without faults in which
+/// every value is false. `None` exactly where the rule holds.
+pub fn check_hears(
+    alloc: Global,
+    admitted: &Admitted,
+    tables: &Tables,
+) -> Result<Option<Fault>, OutOfMemory>
+    requires { tables.now.head ≡ head_of admitted.now.graph }
+    ensures none { IfOk result (λ r. IfNone r (HearsHold admitted.now.graph tables.now.nodes)) }
+    ensures first { IfOk result (λ r. IfSome r (IsFirstHearFault admitted.now.graph tables.now.nodes)) }
+{
+    let problem = admitted.problem();
+    let nodes = tables.head().nodes().len() as u32;
+    for item in 0..item_count(problem) {
+        let sent = columns_of(tables, item);
+        let delay = slot_length(problem, home(problem, item));
+        if let Some(place) = first_hear(tables, nodes, item, sent, delay) {
+            let scenario = Scenario::zero(alloc, problem)?;
+            return Ok(Some(Fault {
+                rule: 10,
+                item,
+                column: Some(place),
+                scenario,
+            }));
+        }
+    }
+    Ok(None)
+}

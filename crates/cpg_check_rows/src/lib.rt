@@ -1,0 +1,13 @@
+//! The rules of valid tables on the rows of each item.
+#![tactic(auto)]
+
+mod activity;
+mod columns;
+mod earliest;
+mod hears;
+mod present;
+mod single;
+
+pub use hears::check_hears;
+pub use present::check_present;
+pub use single::check_single;

@@ -1,0 +1,112 @@
+//! V2: no two columns of a row match in one scenario.
+ghost use Rattle.std.specs.Prelude.{◌≡◌, ◌≤◌, ◌&&◌, ℕ, All, IfNone, IfOk, IfSome, List, false, length};
+ghost use Rattle.cpg_base.specs.Graph.{process_count};
+ghost use Rattle.cpg_order.specs.First.{IsFirst};
+ghost use Rattle.cpg_order.specs.Scenario.{Scenario, IsScenario};
+ghost use Rattle.cpg_cube.specs.Cube.{matches};
+ghost use Rattle.cpg_cube.specs.Fit.{IsKnown};
+ghost use Rattle.cpg_table.specs.GraphHead.{head_of};
+ghost use Rattle.cpg_table.specs.Valid.{breaks_single};
+ghost use Rattle.cpg_check_rows.specs.Violation.{Holds, IsFirstColumn, IsFirstViolation};
+ghost use Rattle.cpg_check_rows.specs.Single.{is_double, HasRoom};
+
+use crate::columns::{columns_of, item_count};
+use crate::earliest::earlier;
+use cpg_base::{OutOfMemory, Problem, Scenario};
+use cpg_cube::Cube;
+use cpg_order::Order;
+use cpg_rules::Admitted;
+use cpg_table::{Entry, Fault, Tables};
+use std::alloc::Global;
+
+/// The least scenario that two cubes match, if there is one. It is first written to `room`.
+fn met(
+    problem: &Problem,
+    cube: &Cube,
+    other: &Cube,
+    room: &mut Scenario,
+) -> Result<Option<Scenario>, OutOfMemory>
+    requires first { IsKnown problem.now cube.now }
+    requires second { IsKnown problem.now other.now }
+    requires room { HasRoom problem.now room.old }
+    ensures room { HasRoom problem.now room.new }
+    ensures first { IfOk result (λ r. (order : List ℕ) → IsFirst problem.now order (λ s. matches cube.now s && matches other.now s) r) }
+{
+    if !cube.meets(other, problem, room) {
+        return Ok(None);
+    }
+    let least = room.copy()?;
+    Ok(Some(least))
+}
+
+/// The least scenario that a column matches together with an earlier one, if there is one.
+fn shared(
+    alloc: Global,
+    problem: &Problem,
+    order: &Order,
+    cube: &Cube,
+    others: &[Entry],
+) -> Result<Option<Scenario>, OutOfMemory>
+    requires order { length order.now ≡ process_count problem.now }
+    requires cube { IsKnown problem.now cube.now }
+    requires list { All (λ d. IsKnown problem.now d.cube) others.now }
+    ensures { IfOk result (IsFirst problem.now order.now (λ s. matches cube.now s && breaks_single s others.now)) }
+{
+    let mut room = Scenario::zero(alloc, problem)?;
+    let mut found: Option<Scenario> = None;
+    for other in others {
+        let next = met(problem, cube, &other.cube, &mut room)?;
+        found = earlier(problem, order, found, next);
+    }
+    Ok(found)
+}
+
+/// The first column of a row that matches together with an earlier one, and the least scenario in which it does.
+fn first_double(
+    alloc: Global,
+    problem: &Problem,
+    order: &Order,
+    columns: &[Entry],
+) -> Result<Option<(u32, Scenario)>, OutOfMemory>
+    requires order { length order.now ≡ process_count problem.now }
+    requires columns { All (λ c. IsKnown problem.now c.cube) columns.now }
+    requires few { length columns.now ≤ 524288 }
+    ensures none { IfOk result (λ r. IfNone r ((i : ℕ) (s : Scenario) → IsScenario problem.now s → is_double columns.now i s ≡ false)) }
+    ensures first { IfOk result (λ r. IfSome r (IsFirstColumn problem.now order.now (is_double columns.now))) }
+{
+    for (column, entry) in columns.iter().enumerate() {
+        let met = shared(alloc, problem, order, &entry.cube, &columns[..column])?;
+        if let Some(scenario) = met {
+            return Ok(Some((column as u32, scenario)));
+        }
+    }
+    Ok(None)
+}
+
+/// The first violation of V2, by item and column, with the least scenario in the urgency order in which it stands:
+/// the column and an earlier one of its row match. `None` exactly where the rule holds.
+pub fn check_single(
+    alloc: Global,
+    admitted: &Admitted,
+    tables: &Tables,
+) -> Result<Option<Fault>, OutOfMemory>
+    requires { tables.now.head ≡ head_of admitted.now.graph }
+    ensures none { IfOk result (λ r. IfNone r (Holds admitted.now.graph tables.now.nodes 2)) }
+    ensures first { IfOk result (λ r. IfSome r (IsFirstViolation admitted.now.graph admitted.now.order tables.now.nodes 2)) }
+{
+    let problem = admitted.problem();
+    let order = admitted.order();
+    for item in 0..item_count(problem) {
+        let columns = columns_of(tables, item);
+        let double = first_double(alloc, problem, order, columns)?;
+        if let Some((column, scenario)) = double {
+            return Ok(Some(Fault {
+                rule: 2,
+                item,
+                column: Some(column),
+                scenario,
+            }));
+        }
+    }
+    Ok(None)
+}
