@@ -1,0 +1,8 @@
+//! The numbers of a graph by going over all of its scenarios.
+#![tactic(auto)]
+
+mod few;
+mod listing;
+
+pub use few::has_few_scenarios;
+pub use listing::scenarios;
