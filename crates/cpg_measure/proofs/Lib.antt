@@ -1,2 +1,4 @@
-mod Listed
-mod FewWays
+pub mod Listed
+pub mod FewWays
+pub mod Firsts
+pub mod Ends

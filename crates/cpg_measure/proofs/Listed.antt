@@ -1,5 +1,5 @@
 -- Which scenarios the lists have.
-use Rattle.std.proofs.Common.{◌≡◌, ◌∙◌, ℕ, zero, suc, ◌+◌, ◌-◌, ◌<◌, ◌≤◌, Bool, true, false, List, [], ◌∷◌, ◌++◌, map, get_or, set, sum, replicate, All, Contains, arith, refl, sym, ap, ap₂, subst, inl, inr, length-set, add-one}
+use Rattle.std.proofs.Common.{length, ◌≡◌, ◌∙◌, ℕ, zero, suc, ◌+◌, ◌-◌, ◌<◌, ◌≤◌, Bool, true, false, List, [], ◌∷◌, ◌++◌, map, get_or, set, sum, replicate, All, Contains, arith, refl, sym, ap, ap₂, subst, inl, inr, length-set, add-one}
 use Rattle.std.proofs.lemmas.Bool.{cases_eq, cases_lt, cases_Bool}
 use Rattle.std.proofs.lemmas.List.{append_assoc, get_or-replicate, length-replicate, get_or_past, get_or-set_same, get_or-set_other, set-get_or, ext_get_or, map-append}
 use Rattle.std.proofs.lemmas.List.Elements.{Contains-get_or}
@@ -30,7 +30,7 @@ same : (s t : Scenario) → s.values ≡ t.values → s.faults ≡ t.faults → 
 same s t e f = ap₂ (λ vs fs. let r : Scenario = record { values = vs; faults = fs } in r) e f
 
 module _ (g : Graph) where
-  zero_lawful : IsScenario g (zero_scenario g)
+  pub zero_lawful : IsScenario g (zero_scenario g)
   zero_lawful = record {
     values = length-replicate (condition_count g) false;
     faults = length-replicate {A = ℕ} (process_count g) 0;
@@ -183,3 +183,7 @@ module _ (g : Graph) where
   pub values_first : with_faults_below g (process_count g) ≡ with_values_below g 0
   unfolding with_values_below
   values_first = refl
+
+  -- there is a scenario
+  pub some_listed : (list : List Scenario) → AreScenarios g list → 0 < length list
+  some_listed list all = let c = all.all (zero_scenario g) zero_lawful in let l = c.1 in omega arith

@@ -3,6 +3,9 @@
 
 mod few;
 mod listing;
+mod peaks;
+mod search;
 
 pub use few::has_few_scenarios;
 pub use listing::scenarios;
+pub use peaks::{Peak, worst};
