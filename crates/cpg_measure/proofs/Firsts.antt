@@ -1,8 +1,13 @@
 -- The search for the first scenario of the greatest number, and numbers one more.
-use Rattle.std.proofs.Common.{◌≡◌, ◌∙◌, ℕ, ◌+◌, ◌≤◌, true, false, List, [], ◌∷◌, ◌++◌, length, get_or, arith, sym, ap, ap₂, subst, inl, inr, length-append}
+use Rattle.std.proofs.Common.{◌≡◌, ◌∙◌, ℕ, ◌+◌, ◌≤◌, true, false, List, [], ◌∷◌, ◌++◌, length, get_or, map, max, arith, sym, ap, ap₂, subst, inl, inr, length-append}
 use Rattle.std.proofs.lemmas.Bool.{cases_eq, cases_lt}
 use Rattle.std.proofs.lemmas.List.{get_or_append_left}
 use Rattle.std.proofs.Math.Seq.{get_or-append_seam}
+use Rattle.std.specs.Ordering.{ord_max, nat_cmp}
+use Rattle.std.proofs.lemmas.Grind.{common_steps}
+use Rattle.std.proofs.lemmas.List.{map_push}
+use Rattle.cpg_base.specs.Numbers.{greatest, numbers_below}
+use Rattle.cpg_base.proofs.Lists.{below_push, greatest_push}
 use Rattle.cpg_base.specs.Graph.{Graph}
 use Rattle.cpg_order.specs.Scenario.{Scenario, is_before}
 use Rattle.cpg_order.proofs.ScenarioOrder.{before_irreflexive, before_one_way, not_before_transitive}
@@ -60,3 +65,10 @@ starts_it g urgency list numbers = record {
   most = λ i l. omega (arith, ap (λ j. get_or numbers j 0) (let e : i ≡ 0 = omega arith in e));
   first = λ i d l e. ap (λ j. is_before g urgency (get_or list j d) (get_or list 0 d)) (let z : i ≡ 0 = omega arith in z) ∙ before_irreflexive g urgency (get_or list 0 d);
 }
+
+-- the greatest of one number more
+pub greatest_more : (f : ℕ → ℕ) (n : ℕ) → greatest (map f (numbers_below (n + 1))) ≡ max (greatest (map f (numbers_below n))) (f n)
+greatest_more f n = ap (λ xs. greatest (map f xs)) (below_push n) ∙ ap greatest (map_push f (numbers_below n) n) ∙ greatest_push (map f (numbers_below n)) (f n)
+
+pub the_max : (a b : ℕ) → ord_max nat_cmp a b ≡ max a b
+the_max a b = grind (arith, common_steps)

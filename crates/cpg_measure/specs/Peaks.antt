@@ -3,7 +3,7 @@ use Rattle.std.specs.Prelude.{ℕ, ◌≡◌, ◌≢◌, ◌≤◌, ◌<◌, fal
 use Rattle.cpg_base.specs.Graph.{Graph}
 use Rattle.cpg_order.specs.Scenario.{Scenario, is_before}
 use Rattle.cpg_run.specs.Run.{Times, IsRun}
-use Rattle.cpg_run.specs.Finish.{IsLeastEnding}
+use Rattle.cpg_run.specs.Finish.{IsLeastEnding, excess_of, excess_in_run, IsLeastExceeding}
 
 -- each of the first n scenarios has the fact with the number at its place
 pub record AreMeasured (fact : ℕ → Scenario → Type 0) (n : ℕ) (list : List Scenario) (numbers : List ℕ) : Type 0 where
@@ -26,3 +26,14 @@ pub record EndsLast (g : Graph) (order : List ℕ) (frozen : List (Option ℕ)) 
   pub times : Times
   pub run : IsRun g order frozen s times
   pub least : IsLeastEnding g times times.finish by
+
+-- the process has the excess, and none before it has
+pub record IsFirstExceeding (g : Graph) (t : Times) (excess p : ℕ) : Type 0 where
+  pub has : excess_of g t p ≡ excess
+  pub first : (q : ℕ) → q < p → excess_of g t q ≢ excess
+
+-- the first process with the greatest excess of the scenario's run, and None exactly where nothing exceeds
+pub record ExceedsMost (g : Graph) (order : List ℕ) (frozen : List (Option ℕ)) (s : Scenario) (by : Option ℕ) : Type 0 where
+  pub times : Times
+  pub run : IsRun g order frozen s times
+  pub least : IsLeastExceeding g times (excess_in_run g times) by

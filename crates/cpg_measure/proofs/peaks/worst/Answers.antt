@@ -28,6 +28,6 @@ returns c =
     (subst (λ u. IsFirstGreatest g u (length list) list c.as_slice.result.now at) c.order.ensures.order
     (subst (λ h. IsFirstGreatest h c.order.result.now (length list) list c.as_slice.result.now at) c.problem.ensures.problem c.first_greatest-at.ensures)) in
     subst (λ n. IsWorst g urgency c.args.order.now c.args.frozen.now n c.in_ok-copy.field-0 c.in_ok-process.process) (sym (c.index.ensures ∙ get_or_default numbers at c.index.result.now 0 (omega (arith, first.there, c.in_ok-numbers.ensures.long))))
-    (is_worst g c.args.order.now c.requires.topological urgency c.args.frozen.now list c.requires.scenarios numbers c.in_ok-numbers.ensures at first
+    (is_worst g c.args.order.now c.requires.topological urgency c.args.frozen.now list c.requires.scenarios numbers at first c.in_ok-numbers.ensures
     c.in_ok-copy.field-0 c.in_ok-process.process c.index-scenarios-at.result (c.in_ok-copy.ensures ∙ c.index-scenarios-at.is)
     (subst (λ s. EndsLast g c.args.order.now c.args.frozen.now s c.in_ok-process.process) (sym c.in_ok-copy.ensures) c.in_ok-process.ensures))
