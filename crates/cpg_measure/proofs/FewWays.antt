@@ -1,0 +1,38 @@
+-- How many scenarios there are, and the ways of counts with one fault more.
+use Rattle.std.proofs.Common.{◌≡◌, ℕ, ◌+◌, ◌*◌, ◌/◌, ◌^◌, ◌<◌, ◌≤◌, length, arith, ap, ◌∙◌}
+use Rattle.std.proofs.Math.Nat.{mul-div_cancel_left, pow-le-pow_right}
+use Rattle.std.proofs.lemmas.Nat.{mul-le}
+use Rattle.cpg_base.specs.Graph.{Graph, process_count, condition_count}
+use Rattle.cpg_order.specs.Counting.{ways}
+use Rattle.cpg_order.specs.Scenario.{scenarios}
+use Rattle.cpg_order.proofs.Ways.{ways_small, ways_times, ways_some}
+use Rattle.cpg_order.proofs.ScenariosApart.{length-scenarios}
+
+pub product_fits : (m k : ℕ) → m ≤ 128 → k ≤ 7 → ways m k * (m + k + 1) < 2 ^ 64
+product_fits m k few l =
+    let a = ways_small m few k (omega arith) in
+    let b = mul-le (ways m k) (m + k + 1) (2 ^ 42) 136 (omega arith) (omega arith) in
+    omega arith
+
+pub next_ways : (m k : ℕ) → ways m k * (m + k + 1) / (k + 1) ≡ ways m (k + 1)
+next_ways m k =
+    let e : ways m k * (m + k + 1) ≡ (k + 1) * ways m (k + 1) = let a = ways_times m k in omega arith in
+    ap (λ n. n / (k + 1)) e ∙ mul-div_cancel_left (ways m (k + 1)) (omega arith)
+
+pub power_small : (c : ℕ) → c ≤ 14 → 2 ^ c ≤ 16384
+power_small c l = let h = pow-le-pow_right {n = 2} (let p : 0 < 2 = omega arith in p) l in omega arith
+
+pub all_fit : (c m k : ℕ) → c ≤ 14 → m ≤ 128 → k ≤ 8 → 2 ^ c * ways m k < 2 ^ 64
+all_fit c m k l few h =
+    let a = ways_small m few k h in
+    let b = mul-le (2 ^ c) (ways m k) 16384 (2 ^ 42) (power_small c l) (omega arith) in
+    omega arith
+
+pub too_many : (g : Graph) → 14 < condition_count g → length (scenarios g) ≤ 16384 → ⊥
+too_many g l few =
+    let e = length-scenarios g in
+    let l15 : 15 ≤ condition_count g = omega arith in
+    let p = pow-le-pow_right {n = 2} (let p : 0 < 2 = omega arith in p) l15 in
+    let w = ways_some (process_count g) g.faults in
+    let b = mul-le 32768 1 (2 ^ condition_count g) (ways (process_count g) g.faults) (omega arith) w in
+    omega arith

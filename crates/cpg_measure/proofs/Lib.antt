@@ -1,0 +1,5 @@
+pub mod Listed
+pub mod FewWays
+pub mod Firsts
+pub mod Ends
+pub mod Latests

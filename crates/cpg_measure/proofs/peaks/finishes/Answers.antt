@@ -1,0 +1,12 @@
+use Rattle.std.proofs.Common.{◌∙◌, subst}
+use Rattle.std.proofs.lemmas.List.{get_or_default}
+use Rattle.cpg_run.specs.Finish.{Finishes}
+use Rattle.cpg_measure.proofs.Firsts.{measured_more}
+use Rattle.cpg_measure.proofs.peaks.finishes.Goals as goal
+
+pub loop-at-preserved : goal.loop-at-preserved
+loop-at-preserved c =
+    let has = Finishes c.args.admitted.now.graph c.args.order.now c.args.frozen.now in
+    measured_more has c.loop-at.at c.args.scenarios.now c.loop-at.numbers.items c.push.new.self.items c.in_ok-finish.finish c.loop-at.invariant
+    (λ d. subst (has c.in_ok-finish.finish) (c.index-scenarios-at.is ∙ get_or_default c.args.scenarios.now c.loop-at.at c.index-scenarios-at.result d c.loop-at-test.true) c.in_ok-finish.ensures)
+    c.in_ok-push.ensures.items

@@ -1,0 +1,6 @@
+use Rattle.cpg_run.specs.Finish.{Finishes}
+use Rattle.cpg_measure.specs.Peaks.{AreMeasured}
+use Rattle.cpg_measure.proofs.peaks.finishes.Given as goal
+
+abbrev pub invariant-loop-at : goal.invariant-loop-at
+invariant-loop-at l = AreMeasured (Finishes l.admitted.graph l.order l.frozen) l.at l.scenarios l.numbers.items

@@ -1,0 +1,41 @@
+-- All scenarios of a graph as a list.
+use Rattle.std.specs.Prelude.{ℕ, zero, suc, ◌+◌, ◌-◌, ◌<◌, true, List, [], ◌∷◌, map, length, sum, slice_set, Contains}
+use Rattle.std.specs.List.{flat_map}
+use Rattle.cpg_base.specs.Numbers.{numbers_below}
+use Rattle.cpg_base.specs.Graph.{Graph, process_count}
+use Rattle.cpg_base.specs.Scenario.{Scenario, IsScenario, zero_scenario}
+
+-- the list has each scenario of the graph, and no other
+pub record AreScenarios (g : Graph) (list : List Scenario) : Type 0 where
+  pub lawful : (s : Scenario) → Contains list s → IsScenario g s
+  pub all : (s : Scenario) → IsScenario g s → Contains list s
+
+-- whether a scenario has a value of the condition
+abbrev pub HasValue : ℕ → Scenario → Type 0
+HasValue c s = c < length s.values
+
+-- with another count of a process
+abbrev pub with_fault : ℕ → Scenario → ℕ → Scenario
+with_fault p s f = record s { faults = slice_set s.faults p f }
+
+-- with each count that the graph allows beside the others
+abbrev pub with_each_fault : Graph → ℕ → Scenario → List Scenario
+with_each_fault g p s = map (with_fault p s) (numbers_below (g.faults - sum s.faults + 1))
+
+-- with the condition true
+abbrev pub with_true : ℕ → Scenario → Scenario
+with_true c s = record s { values = slice_set s.values c true }
+
+-- with a condition as it is, and with true
+abbrev pub with_both : ℕ → Scenario → List Scenario
+with_both c s = s ∷ with_true c s ∷ []
+
+-- every value false, and faults only of the processes below p
+unfoldable pub with_faults_below : Graph → ℕ → List Scenario
+with_faults_below g zero = zero_scenario g ∷ []
+with_faults_below g (suc p) = flat_map (with_each_fault g p) (with_faults_below g p)
+
+-- every value false but those of the conditions below c
+unfoldable pub with_values_below : Graph → ℕ → List Scenario
+with_values_below g zero = with_faults_below g (process_count g)
+with_values_below g (suc c) = flat_map (with_both c) (with_values_below g c)

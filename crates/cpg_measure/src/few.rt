@@ -1,0 +1,38 @@
+//! How many scenarios a graph has.
+ghost use Rattle.std.specs.Prelude.{◌≡◌, ◌≤◌, ◌↔◌, IsTrue, length};
+ghost use Rattle.cpg_order.specs.Counting.{ways};
+ghost use Rattle.cpg_order.specs.Scenario.{scenarios};
+
+use cpg_base::Problem;
+
+/// The most scenarios of a graph that are gone over one by one.
+const MOST_SCENARIOS: u64 = 16_384;
+
+/// Each condition doubles the scenarios, so more conditions make too many.
+const MOST_CONDITIONS: u32 = 14;
+
+/// In how many ways counts of faults add up to at most so many faults: the binomial coefficient of both together over
+/// the faults.
+fn ways(counts: u64, faults: u8) -> u64
+    requires counts { counts ≤ 128 }
+    requires faults { faults ≤ 8 }
+    ensures { result ≡ ways counts faults }
+{
+    let mut ways = 1u64;
+    for placed in 0..u64::from(faults) {
+        ways = ways * (counts + placed + 1) / (placed + 1);
+    }
+    ways
+}
+
+/// Whether a graph has at most 16,384 scenarios.
+pub fn has_few_scenarios(problem: &Problem) -> bool
+    ensures { IsTrue result ↔ (length (scenarios problem.now) ≤ 16384) }
+{
+    let conditions = problem.conditions();
+    if conditions > MOST_CONDITIONS {
+        return false;
+    }
+    let ways = ways(problem.processes().len() as u64, problem.faults());
+    2u64.pow(conditions) * ways <= MOST_SCENARIOS
+}
