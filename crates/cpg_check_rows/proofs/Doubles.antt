@@ -44,8 +44,3 @@ module _ (g : Graph) (order : List ℕ) (columns : List Column) (i : ℕ) (d : C
   -- the answer for a column is that for its place
   pub at_place : (o : Option Scenario) → IsFirst g order (λ s. matches (get_or columns i d).cube s && breaks_single s (take i columns)) o → IsFirst g order (is_double columns i) o
   at_place o f = first_same g order (λ s. matches (get_or columns i d).cube s && breaks_single s (take i columns)) (is_double columns i) o (λ s _. double_at columns i d s h) f
-
--- a first scenario is one of the graph's
-pub first_lawful : (g : Graph) (order : List ℕ) (test : Scenario → Bool) (o : Option Scenario) → IsFirst g order test o → IfSome o (IsScenario g)
-first_lawful g order test None f = tt
-first_lawful g order test (Some s) f = f.lawful

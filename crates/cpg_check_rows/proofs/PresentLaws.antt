@@ -21,9 +21,9 @@ use Rattle.cpg_cube.proofs.Kept.{any_map}
 use Rattle.cpg_rules.specs.Admission.{IsAdmitted}
 use Rattle.cpg_table.specs.Table.{Column, NodeTable, columns_of}
 use Rattle.cpg_table.specs.Valid.{breaks, breaks_at}
-use Rattle.cpg_check_rows.specs.Violation.{IsFirstViolation}
+use Rattle.cpg_violation.specs.Violation.{IsFirstViolation}
 use Rattle.cpg_check_rows.specs.Present.{is_absent}
-use Rattle.cpg_check_rows.specs.Activity.{comes_to}
+use Rattle.cpg_violation.specs.Activity.{comes_to}
 
 turned : (a m n : Bool) → ((m && n) && a) ≡ ((a && m) && n)
 turned true true true = refl

@@ -5,7 +5,7 @@ use Rattle.cpg_base.specs.Scenario.{zero_scenario}
 use Rattle.cpg_table.specs.Table.{Column, NodeTable, table_at}
 use Rattle.cpg_table.specs.Valid.{hear_row, hear_rows}
 use Rattle.cpg_table.specs.declared.fault.Fault.{Fault}
-use Rattle.cpg_check_rows.specs.Columns.{row_columns}
+use Rattle.cpg_violation.specs.Columns.{row_columns}
 
 -- the first place at which two lists differ: the length of the shorter one where it begins the other
 pub record DifferFirstAt (xs ys : List Column) (i : ℕ) : Type 0 where

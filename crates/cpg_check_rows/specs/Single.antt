@@ -1,7 +1,6 @@
 -- Columns that match together with an earlier column of their row.
-use Rattle.std.specs.Prelude.{ℕ, ◌≡◌, Bool, ◌&&◌, List, length, take, drop}
+use Rattle.std.specs.Prelude.{ℕ, Bool, ◌&&◌, List, take, drop}
 use Rattle.std.specs.List.{list_any}
-use Rattle.cpg_base.specs.Graph.{Graph, process_count, condition_count}
 use Rattle.cpg_order.specs.Scenario.{Scenario}
 use Rattle.cpg_cube.specs.Cube.{matches}
 use Rattle.cpg_table.specs.Table.{Column}
@@ -10,8 +9,3 @@ use Rattle.cpg_table.specs.Valid.{breaks_single}
 -- whether the column at a place of a row matches in a scenario together with an earlier one
 abbrev pub is_double : List Column → ℕ → Scenario → Bool
 is_double columns i s = list_any (λ c. matches c.cube s && breaks_single s (take i columns)) (take 1 (drop i columns))
-
--- a scenario that another can be written to: as long as the graph's are
-pub record HasRoom (g : Graph) (s : Scenario) : Type 0 where
-  pub values : length s.values ≡ condition_count g
-  pub faults : length s.faults ≡ process_count g

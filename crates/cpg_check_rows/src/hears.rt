@@ -6,61 +6,15 @@ ghost use Rattle.cpg_base.specs.WellFormed.{WellFormed};
 ghost use Rattle.cpg_table.specs.GraphHead.{head_of};
 ghost use Rattle.cpg_table.specs.Table.{table_at};
 ghost use Rattle.cpg_table.specs.Valid.{later_by};
-ghost use Rattle.cpg_check_rows.specs.Columns.{row_columns};
+ghost use Rattle.cpg_violation.specs.Columns.{row_columns};
 ghost use Rattle.cpg_check_rows.specs.Hears.{DifferFirstAt, HearsAt, HearsHold, IsFirstHear, IsFirstHearFault};
 
-use crate::columns::{columns_of, item_count, row_columns};
-use cpg_base::{OutOfMemory, Problem, Scenario, Slot};
+use cpg_base::{OutOfMemory, Scenario};
 use cpg_cube::Literal;
 use cpg_rules::Admitted;
 use cpg_table::{Entry, Fault, Tables};
+use cpg_violation::{columns_of, home, item_count, row_columns, slot_length};
 use std::alloc::Global;
-
-/// The place of a node's slot in the round.
-fn slot_place(slots: &[Slot], node: u32) -> Option<usize>
-    ensures { result ≡ position (λ s. s.node == node) slots.now }
-{
-    slots.iter().position(|slot| slot.node == node)
-}
-
-/// How long a node's slot lasts.
-fn slot_length(problem: &Problem, node: u32) -> u64
-    ensures { result ≡ slot_length problem.now node }
-{
-    let slots = problem.slots();
-    let place = slot_place(slots, node).unwrap_or(0);
-    match slots.get(place) {
-        Some(slot) => slot.length,
-        None => 0,
-    }
-}
-
-/// The process that an item comes from.
-fn producer(problem: &Problem, item: u32) -> u32
-    requires { item < item_count problem.now }
-    ensures { result ≡ producer problem.now item }
-{
-    let processes = problem.processes().len() as u32;
-    if item < processes {
-        return item;
-    }
-    let edges = problem.edges();
-    let edge = (item - processes) as usize;
-    if edge < edges.len() {
-        return edges[edge].from;
-    }
-    problem.process_of((edge - edges.len()) as u32)
-}
-
-/// The node that starts or sends an item.
-fn home(problem: &Problem, item: u32) -> u32
-    requires item { item < item_count problem.now }
-    requires formed { WellFormed problem.now }
-    ensures { result ≡ home problem.now item }
-{
-    let process = producer(problem, item);
-    problem.processes()[process as usize].node
-}
 
 fn is_same(literal: &Literal, other: &Literal) -> bool
     ensures { IsTrue result ↔ (literal.now ≡ other.now) }

@@ -1,9 +1,6 @@
 //! The rules of valid tables on the rows of each item.
 #![tactic(auto)]
 
-mod activity;
-mod columns;
-mod earliest;
 mod hears;
 mod present;
 mod single;

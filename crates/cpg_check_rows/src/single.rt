@@ -7,37 +7,16 @@ ghost use Rattle.cpg_cube.specs.Cube.{matches};
 ghost use Rattle.cpg_cube.specs.Fit.{IsKnown};
 ghost use Rattle.cpg_table.specs.GraphHead.{head_of};
 ghost use Rattle.cpg_table.specs.Valid.{breaks_single};
-ghost use Rattle.cpg_check_rows.specs.Violation.{Holds, IsFirstColumn, IsFirstViolation};
-ghost use Rattle.cpg_check_rows.specs.Single.{is_double, HasRoom};
+ghost use Rattle.cpg_violation.specs.Violation.{Holds, IsFirstColumn, IsFirstViolation};
+ghost use Rattle.cpg_check_rows.specs.Single.{is_double};
 
-use crate::columns::{columns_of, item_count};
-use crate::earliest::earlier;
 use cpg_base::{OutOfMemory, Problem, Scenario};
 use cpg_cube::Cube;
 use cpg_order::Order;
 use cpg_rules::Admitted;
 use cpg_table::{Entry, Fault, Tables};
+use cpg_violation::{columns_of, earlier, item_count, met};
 use std::alloc::Global;
-
-/// The least scenario that two cubes match, if there is one. It is first written to `room`.
-fn met(
-    problem: &Problem,
-    cube: &Cube,
-    other: &Cube,
-    room: &mut Scenario,
-) -> Result<Option<Scenario>, OutOfMemory>
-    requires first { IsKnown problem.now cube.now }
-    requires second { IsKnown problem.now other.now }
-    requires room { HasRoom problem.now room.old }
-    ensures room { HasRoom problem.now room.new }
-    ensures first { IfOk result (λ r. (order : List ℕ) → IsFirst problem.now order (λ s. matches cube.now s && matches other.now s) r) }
-{
-    if !cube.meets(other, problem, room) {
-        return Ok(None);
-    }
-    let least = room.copy()?;
-    Ok(Some(least))
-}
 
 /// The least scenario that a column matches together with an earlier one, if there is one.
 fn shared(

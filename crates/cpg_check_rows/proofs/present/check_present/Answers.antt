@@ -4,7 +4,7 @@ use Rattle.cpg_table.specs.GraphHead.{head_of}
 use Rattle.cpg_table.specs.Lawful.{AreTablesOf}
 use Rattle.cpg_table.specs.Table.{columns_of}
 use Rattle.cpg_check_rows.specs.Present.{is_absent}
-use Rattle.cpg_check_rows.proofs.Violations.{columns_known}
+use Rattle.cpg_violation.proofs.Violations.{columns_known}
 use Rattle.cpg_check_rows.proofs.PresentLaws.{present_more}
 use Rattle.cpg_check_rows.proofs.present.check_present.Goals as goal
 

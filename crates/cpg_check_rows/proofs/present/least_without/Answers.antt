@@ -6,8 +6,8 @@ use Rattle.cpg_cube.specs.Cover.{is_left}
 use Rattle.cpg_cube.proofs.Kept.{all_unmapped}
 use Rattle.cpg_guard.specs.Guards.{tree_of}
 use Rattle.cpg_table.specs.Table.{Column}
-use Rattle.cpg_check_rows.specs.Activity.{comes_to}
-use Rattle.cpg_check_rows.proofs.Violations.{long_order}
+use Rattle.cpg_violation.specs.Activity.{comes_to}
+use Rattle.cpg_violation.proofs.Violations.{long_order}
 use Rattle.cpg_check_rows.proofs.PresentLaws.{all_mapped, active_found}
 use Rattle.cpg_check_rows.proofs.present.least_without.Goals as goal
 

@@ -1,6 +1,7 @@
 use Rattle.std.proofs.Common.{arith, ◌&&◌}
 use Rattle.cpg_cube.specs.Cube.{matches}
-use Rattle.cpg_check_rows.proofs.Doubles.{first_lawful, shared_more}
+use Rattle.cpg_violation.proofs.Violations.{first_lawful}
+use Rattle.cpg_check_rows.proofs.Doubles.{shared_more}
 use Rattle.cpg_check_rows.proofs.single.shared.Goals as goal
 
 pub earlier-found-requires-clause-second : goal.earlier-found-requires-clause-second

@@ -2,7 +2,7 @@ use Rattle.std.proofs.Common.{◌&&◌, take}
 use Rattle.cpg_order.specs.First.{IsFirst}
 use Rattle.cpg_cube.specs.Cube.{matches}
 use Rattle.cpg_table.specs.Valid.{breaks_single}
-use Rattle.cpg_check_rows.specs.Single.{HasRoom}
+use Rattle.cpg_violation.specs.Room.{HasRoom}
 use Rattle.cpg_check_rows.proofs.single.shared.Given as goal
 
 abbrev pub invariant-loop-other : goal.invariant-loop-other

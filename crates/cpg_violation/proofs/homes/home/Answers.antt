@@ -3,7 +3,7 @@ use Rattle.std.proofs.lemmas.List.{get_or_default}
 use Rattle.cpg_base.specs.Graph.{producer}
 use Rattle.cpg_base.specs.declared.process.Process.{Process}
 use Rattle.cpg_base.proofs.Items.{producer_within}
-use Rattle.cpg_check_rows.proofs.hears.home.Goals as goal
+use Rattle.cpg_violation.proofs.homes.home.Goals as goal
 
 pub bounds-processes-process : goal.bounds-processes-process
 bounds-processes-process c = omega (arith, producer_within c.args.problem.now c.requires.formed c.args.item c.requires.item, c.producer-process.ensures, ap length c.processes.ensures.processes)

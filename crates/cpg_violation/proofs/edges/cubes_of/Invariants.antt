@@ -1,5 +1,5 @@
 use Rattle.std.proofs.Common.{◌≡◌, take, map}
-use Rattle.cpg_check_rows.proofs.present.cubes_of.Given as goal
+use Rattle.cpg_violation.proofs.edges.cubes_of.Given as goal
 
 abbrev pub invariant-loop-column : goal.invariant-loop-column
 invariant-loop-column l = map (λ b. b.now) l.cubes.items ≡ map (λ c. c.cube) (take l.column-index l.columns)

@@ -1,6 +1,6 @@
 use Rattle.std.proofs.Common.{[]}
 use Rattle.cpg_order.specs.Scenario.{IsScenario}
-use Rattle.cpg_check_rows.proofs.single.met.Goals as goal
+use Rattle.cpg_violation.proofs.meeting.met.Goals as goal
 
 pub returns-in_err-least-clause-room : goal.returns-in_err-least-clause-room
 returns-in_err-least-clause-room c =

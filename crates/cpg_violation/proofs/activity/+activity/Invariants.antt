@@ -1,6 +1,6 @@
 use Rattle.std.proofs.Common.{◌+◌, ◌*◌}
 use Rattle.cpg_guard.specs.Trees.{size_of}
-use Rattle.cpg_check_rows.proofs.activity.+activity.Given as goal
+use Rattle.cpg_violation.proofs.activity.+activity.Given as goal
 
 abbrev pub decreases-least_at : goal.decreases-least_at
 decreases-least_at l = size_of l.tree.now * 2

@@ -15,7 +15,7 @@ use Rattle.cpg_order.proofs.First.{first_same, first_or}
 use Rattle.cpg_cube.specs.Cube.{matches, holds}
 use Rattle.cpg_cube.specs.declared.literal.Literal.{Literal}
 use Rattle.cpg_cube.specs.Cover.{is_left}
-use Rattle.cpg_check_rows.specs.Activity.{comes_to, value_literal}
+use Rattle.cpg_violation.specs.Activity.{comes_to, value_literal}
 
 -- ---- a value's literal
 

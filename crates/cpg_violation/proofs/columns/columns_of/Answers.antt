@@ -1,8 +1,8 @@
 use Rattle.std.proofs.Common.{rules, ◌≡◌, Some, None, ◌∙◌, ap, arith, ℕ, ◌<◌, length}
 use Rattle.cpg_table.specs.Table.{table_at}
-use Rattle.cpg_check_rows.specs.Columns.{row_columns}
-use Rattle.cpg_check_rows.proofs.RowColumns.{found_start, found_send, found_none}
-use Rattle.cpg_check_rows.proofs.columns.columns_of.Goals as goal
+use Rattle.cpg_violation.specs.Columns.{row_columns}
+use Rattle.cpg_violation.proofs.RowColumns.{found_start, found_send, found_none}
+use Rattle.cpg_violation.proofs.columns.columns_of.Goals as goal
 
 within : {n i k m : ℕ} → n ≡ k → m ≡ k → i < m → i < n
 within e f l = omega arith

@@ -1,9 +1,10 @@
 -- Going over the items: what is known of the columns of each, and where the first violation is.
-use Rattle.std.proofs.Common.{ℕ, ◌+◌, ◌<◌, ◌≡◌, false, List, Option, Some, None, Contains, All, length, arith, refl, subst, inl, inr}
+use Rattle.std.proofs.Common.{ℕ, ◌+◌, ◌<◌, ◌≡◌, Bool, false, List, Option, Some, None, Contains, All, IfSome, length, arith, refl, subst, inl, inr, tt}
 use Rattle.std.proofs.lemmas.Bool.{cases_lt}
 use Rattle.std.proofs.lemmas.List.Elements.{All-weaker, All-contains_itself}
 use Rattle.cpg_base.specs.Graph.{Graph, process_count, item_count, IsVariable}
 use Rattle.cpg_order.proofs.Places.{length_order}
+use Rattle.cpg_order.specs.First.{IsFirst}
 use Rattle.cpg_order.specs.Scenario.{Scenario, IsScenario}
 use Rattle.cpg_cube.specs.declared.literal.Literal.{Literal}
 use Rattle.cpg_cube.specs.Fit.{IsKnown}
@@ -15,8 +16,7 @@ use Rattle.cpg_table.specs.Lawful.{AreTablesOf}
 use Rattle.cpg_table.specs.Valid.{breaks}
 use Rattle.cpg_table.proofs.GraphTables.{has_shape}
 use Rattle.cpg_table.proofs.Rows.{variables_exist}
-use Rattle.cpg_check_rows.specs.Violation.{IsFirstColumn, IsFirstViolation}
-use Rattle.cpg_check_rows.specs.Single.{is_double}
+use Rattle.cpg_violation.specs.Violation.{IsFirstColumn, IsFirstViolation}
 
 module _ {g : Graph} {order : List ℕ} {guards : Guards} (admitted : IsAdmitted g order guards) where
   pub long_order : length order ≡ process_count g
@@ -29,21 +29,28 @@ module _ {g : Graph} {order : List ℕ} {guards : Guards} (admitted : IsAdmitted
       (λ l m. variables_exist admitted.well_formed (has_shape g admitted.limits tables are) x c l k m) c.cube (All-contains_itself c.cube))
       (columns_of tables x) (All-contains_itself (columns_of tables x))
 
-module _ (g : Graph) (tables : List NodeTable) (x : ℕ) where
-  -- one item more without such a column
-  pub none_more : ((y : ℕ) (column : Option ℕ) (s : Scenario) → y < x → IsScenario g s → breaks 2 g tables s y column ≡ false)
-      → ((i : ℕ) (s : Scenario) → IsScenario g s → is_double (columns_of tables x) i s ≡ false)
-      → (y : ℕ) (column : Option ℕ) (s : Scenario) → y < x + 1 → IsScenario g s → breaks 2 g tables s y column ≡ false
-  none_more before here y None s l i = refl
+-- a scenario that is found is one of the graph's
+pub first_lawful : (g : Graph) (order : List ℕ) (test : Scenario → Bool) (o : Option Scenario) → IsFirst g order test o → IfSome o (IsScenario g)
+first_lawful g order test None f = tt
+first_lawful g order test (Some s) f = f.lawful
+
+-- a rule that speaks of columns alone
+module _ (rule : ℕ) (g : Graph) (tables : List NodeTable) (x : ℕ) (never : (y : ℕ) (s : Scenario) → breaks rule g tables s y None ≡ false) where
+  -- one item more whose columns keep it
+  pub none_more : ((y : ℕ) (column : Option ℕ) (s : Scenario) → y < x → IsScenario g s → breaks rule g tables s y column ≡ false)
+      → ((i : ℕ) (s : Scenario) → IsScenario g s → breaks rule g tables s x (Some i) ≡ false)
+      → (y : ℕ) (column : Option ℕ) (s : Scenario) → y < x + 1 → IsScenario g s → breaks rule g tables s y column ≡ false
+  none_more before here y None s l i = never y s
   none_more before here y (Some c) s l i = elim (cases_lt y x) [
     | inl lt ↦ before y (Some c) s lt i
-    | inr ge ↦ let same : x ≡ y = omega arith in subst (λ z. breaks 2 g tables s z (Some c) ≡ false) same (here c s i)
+    | inr ge ↦ let same : x ≡ y = omega arith in subst (λ z. breaks rule g tables s z (Some c) ≡ false) same (here c s i)
   ]
 
+  -- the first of its columns that breaks it, after items that keep it
   pub first_violation : (order : List ℕ) (j : ℕ) (s : Scenario) → x < item_count g
-      → ((y : ℕ) (column : Option ℕ) (s : Scenario) → y < x → IsScenario g s → breaks 2 g tables s y column ≡ false)
-      → IsFirstColumn g order (is_double (columns_of tables x)) (j, s)
-      → IsFirstViolation g order tables 2 (record { rule = 2; item = x; column = Some j; scenario = s })
+      → ((y : ℕ) (column : Option ℕ) (s : Scenario) → y < x → IsScenario g s → breaks rule g tables s y column ≡ false)
+      → IsFirstColumn g order (λ i t. breaks rule g tables t x (Some i)) (j, s)
+      → IsFirstViolation g order tables rule (record { rule = rule; item = x; column = Some j; scenario = s })
   first_violation order j s l before first = record {
     rule = refl;
     item = l;

@@ -4,8 +4,8 @@ use Rattle.cpg_cube.specs.Fit.{IsKnown}
 use Rattle.cpg_cube.specs.Cover.{with_literal}
 use Rattle.cpg_cube.proofs.CubeLaws.{with-is}
 use Rattle.cpg_cube.proofs.Narrow.{known-narrowed}
-use Rattle.cpg_check_rows.proofs.ActiveWhere.{at_test, where_holds}
-use Rattle.cpg_check_rows.proofs.activity.+activity.Goals as goal
+use Rattle.cpg_violation.proofs.ActiveWhere.{at_test, where_holds}
+use Rattle.cpg_violation.proofs.activity.+activity.Goals as goal
 
 -- what the list's references point to
 abbrev seen : Bor (List Literal) → List Literal

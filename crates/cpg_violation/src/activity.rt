@@ -6,7 +6,7 @@ ghost use Rattle.cpg_order.specs.First.{IsFirst};
 ghost use Rattle.cpg_cube.specs.Cube.{holds};
 ghost use Rattle.cpg_cube.specs.Cover.{is_left};
 ghost use Rattle.cpg_cube.specs.Fit.{IsKnown};
-ghost use Rattle.cpg_check_rows.specs.Activity.{comes_to, value_literal};
+ghost use Rattle.cpg_violation.specs.Activity.{comes_to, value_literal};
 
 use crate::earliest::earlier;
 use cpg_base::{OutOfMemory, Problem, Scenario};

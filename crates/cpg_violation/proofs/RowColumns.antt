@@ -7,7 +7,7 @@ use Rattle.std.proofs.lemmas.List.Sums.{sum_by-append, sum_by-cons}
 use Rattle.cpg_table.specs.Table.{Column, Row, NodeTable, empty_table, table_at, columns_in, columns_of}
 use Rattle.cpg_table.specs.Lawful.{column_count, rows_of, AreTablesOf}
 use Rattle.cpg_table.specs.Head.{Head}
-use Rattle.cpg_check_rows.specs.Columns.{row_columns}
+use Rattle.cpg_violation.specs.Columns.{row_columns}
 
 module _ (x : ℕ) where
   -- the row is among the first of two lists, or else among the second

@@ -3,7 +3,7 @@ ghost use Rattle.std.specs.Prelude.{◌≡◌, option_map};
 ghost use Rattle.cpg_base.specs.Graph.{item_count};
 ghost use Rattle.cpg_table.specs.Lawful.{AreTablesOf};
 ghost use Rattle.cpg_table.specs.Table.{columns_of};
-ghost use Rattle.cpg_check_rows.specs.Columns.{row_columns};
+ghost use Rattle.cpg_violation.specs.Columns.{row_columns};
 
 use cpg_base::Problem;
 use cpg_table::{Entry, Row, Tables};

@@ -1,0 +1,3 @@
+pub mod RowColumns
+pub mod Violations
+pub mod ActiveWhere

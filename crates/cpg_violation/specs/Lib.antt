@@ -1,0 +1,4 @@
+pub mod Columns
+pub mod Violation
+pub mod Activity
+pub mod Room

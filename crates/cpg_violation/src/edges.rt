@@ -1,0 +1,72 @@
+//! Edges: their ends, whether they are messages, and the scenarios that let them be live.
+ghost use Rattle.std.specs.Prelude.{◌≡◌, ◌<◌, IfOk, map};
+ghost use Rattle.cpg_base.specs.Graph.{condition_of, edge_at, edge_count, is_message, node_of, process_count, source, target};
+ghost use Rattle.cpg_guard.specs.Guards.{is_passed, test_of};
+ghost use Rattle.cpg_order.specs.Scenario.{Scenario};
+ghost use Rattle.cpg_cube.specs.Cube.{matches};
+ghost use Rattle.cpg_cube.specs.Fit.{IsKnown};
+
+use crate::activity::value_literal;
+use cpg_base::{OutOfMemory, Problem};
+use cpg_cube::Cube;
+use cpg_table::Entry;
+use std::alloc::Global;
+
+/// A reference to the cube of each column.
+pub fn cubes_of<'a>(alloc: Global, columns: &'a [Entry]) -> Result<Vec<&'a Cube>, OutOfMemory>
+    ensures { IfOk result (λ cubes. map (λ b. b.now) cubes.items ≡ map (λ c. c.cube) columns.now) }
+{
+    let mut cubes = Vec::new(alloc);
+    cubes.reserve(columns.len())?;
+    for column in columns {
+        cubes.push(&column.cube)?;
+    }
+    Ok(cubes)
+}
+
+/// The cube of the scenarios in which the source of an edge has the value that the edge asks for.
+pub fn edge_cube(alloc: Global, problem: &Problem, edge: u32) -> Result<Cube, OutOfMemory>
+    requires edge { edge < edge_count problem.now }
+    requires source { source problem.now edge < process_count problem.now }
+    ensures known { IfOk result (IsKnown problem.now) }
+    ensures passed { IfOk result (λ cube. (s : Scenario) → matches cube s ≡ is_passed (test_of (condition_of problem.now (source problem.now edge)) (edge_at problem.now edge).when) s.values) }
+{
+    let edge = problem.edges()[edge as usize];
+    let mut cube = Cube::whole(alloc);
+    let Some(condition) = problem.condition_of(edge.from) else {
+        return Ok(cube);
+    };
+    let Some(value) = edge.when else {
+        return Ok(cube);
+    };
+    cube.push(value_literal(condition, value))?;
+    Ok(cube)
+}
+
+/// The node that a process runs on.
+pub fn node_of(problem: &Problem, process: u32) -> u32
+    requires { process < process_count problem.now }
+    ensures { result ≡ node_of problem.now process }
+{
+    problem.processes()[process as usize].node
+}
+
+/// The process that an edge leads away from.
+pub fn source(problem: &Problem, edge: u32) -> u32
+    requires { edge < edge_count problem.now }
+    ensures { result ≡ source problem.now edge }
+{
+    problem.edges()[edge as usize].from
+}
+
+/// Whether an edge is a message: its ends lie on two nodes.
+pub fn is_message(problem: &Problem, edge: u32) -> bool
+    requires edge { edge < edge_count problem.now }
+    requires from { source problem.now edge < process_count problem.now }
+    requires to { target problem.now edge < process_count problem.now }
+    ensures { result ≡ is_message problem.now edge }
+{
+    let from = source(problem, edge);
+    let to = problem.edges()[edge as usize].to;
+    node_of(problem, from) != node_of(problem, to)
+}
