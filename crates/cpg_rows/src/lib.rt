@@ -1,0 +1,2 @@
+//! The rows of items, over all scenarios of a graph: beside each time the literals from which it was computed.
+#![tactic(auto)]
