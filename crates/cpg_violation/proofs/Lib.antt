@@ -1,3 +1,4 @@
 pub mod RowColumns
 pub mod Violations
 pub mod ActiveWhere
+pub mod HeadLaws

@@ -2,3 +2,4 @@ pub mod Columns
 pub mod Violation
 pub mod Activity
 pub mod Room
+pub mod Heads

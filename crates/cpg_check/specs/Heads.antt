@@ -1,0 +1,36 @@
+-- The first part in which the head of a pack differs from a graph's.
+use Rattle.std.specs.Prelude.{◌≡◌, ◌≢◌, ⊥}
+use Rattle.cpg_base.specs.Graph.{Graph}
+use Rattle.cpg_table.specs.GraphHead.{head_of}
+use Rattle.cpg_table.specs.Head.{Head}
+use Rattle.cpg_violation.specs.Heads.{AreProcessesOf}
+use Rattle.cpg_check.specs.declared.heads.HeadPart.{HeadPart}
+use Rattle.cpg_check.specs.declared.heads.HeadPart.TheVariants.{Faults, Nodes, Processes, Edges}
+
+-- another number of faults
+abbrev pub HasOtherFaults : Graph → Head → Type 0
+HasOtherFaults g h = h.faults ≢ g.faults
+
+-- other names of nodes, where that is the same
+pub record HasOtherNodes (g : Graph) (h : Head) : Type 0 where
+  pub faults : h.faults ≡ g.faults
+  pub nodes : h.nodes ≢ g.nodes
+
+-- other processes, where those are the same
+pub record HasOtherProcesses (g : Graph) (h : Head) : Type 0 where
+  pub faults : h.faults ≡ g.faults
+  pub nodes : h.nodes ≡ g.nodes
+  pub processes : AreProcessesOf g h → ⊥
+
+-- other edges, where all of that is the same
+pub record HasOtherEdges (g : Graph) (h : Head) : Type 0 where
+  pub faults : h.faults ≡ g.faults
+  pub nodes : h.nodes ≡ g.nodes
+  pub processes : AreProcessesOf g h
+  pub edges : h.edges ≢ (head_of g).edges
+
+abbrev pub IsFirstDifference : Graph → Head → HeadPart → Type 0
+IsFirstDifference g h Faults = HasOtherFaults g h
+IsFirstDifference g h Nodes = HasOtherNodes g h
+IsFirstDifference g h Processes = HasOtherProcesses g h
+IsFirstDifference g h Edges = HasOtherEdges g h

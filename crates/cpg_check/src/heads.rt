@@ -1,0 +1,131 @@
+//! The first part in which the head of a pack differs from a graph's.
+ghost use Rattle.std.specs.Prelude.{◌≡◌, ◌<◌, ◌↔◌, IfNone, IfOk, IfSome, IsTrue, length, map};
+ghost use Rattle.cpg_base.specs.Graph.{process_count};
+ghost use Rattle.cpg_table.specs.GraphHead.{extra_of, head_of};
+ghost use Rattle.cpg_violation.specs.Heads.{AreProcessesOf, IsHeadFor};
+ghost use Rattle.cpg_check.specs.Heads.{IsFirstDifference};
+
+use cpg_base::{Name, OutOfMemory, Problem, Process};
+use cpg_table::{Extra, Head, HeadProcess, head_of};
+use std::alloc::Global;
+
+/// A part of a pack's head. The first that differs from the graph's is told.
+#[derive(Clone, Copy, Debug, PartialEq, Eq)]
+pub enum HeadPart {
+    /// The number of faults.
+    Faults,
+    /// The names of the nodes.
+    Nodes,
+    /// The processes: names, nodes, whether they have conditions, durations and, in version 2, releases and own deadlines.
+    Processes,
+    /// The ends of the edges.
+    Edges,
+}
+
+fn is_same_name(name: &Name, other: &Name) -> bool
+    ensures { IsTrue result ↔ (name.now ≡ other.now) }
+{
+    name.as_str() == other.as_str()
+}
+
+fn are_same_names(names: &[Name], others: &[Name]) -> bool
+    ensures { IsTrue result ↔ (names.now ≡ others.now) }
+{
+    if names.len() != others.len() {
+        return false;
+    }
+    for place in 0..names.len() {
+        if !is_same_name(&names[place], &others[place]) {
+            return false;
+        }
+    }
+    true
+}
+
+fn is_same_process(process: &HeadProcess, other: &HeadProcess) -> bool
+    ensures { IsTrue result ↔ (process.now ≡ other.now) }
+{
+    if !is_same_name(&process.name, &other.name) {
+        return false;
+    }
+    if process.node != other.node {
+        return false;
+    }
+    if process.condition != other.condition {
+        return false;
+    }
+    process.times.times() == other.times.times()
+}
+
+fn are_same_processes(processes: &[HeadProcess], others: &[HeadProcess]) -> bool
+    ensures { IsTrue result ↔ (processes.now ≡ others.now) }
+{
+    if processes.len() != others.len() {
+        return false;
+    }
+    for place in 0..processes.len() {
+        if !is_same_process(&processes[place], &others[place]) {
+            return false;
+        }
+    }
+    true
+}
+
+fn is_same_extra(extra: &Extra, process: &Process) -> bool
+    ensures { IsTrue result ↔ (extra.now ≡ extra_of process.now) }
+{
+    extra.release == process.release && extra.deadline == process.deadline
+}
+
+/// Whether what version 2 says of the processes, if the head says it, is so.
+fn are_same_extras(problem: &Problem, head: &Head) -> bool
+    requires { length head.now.processes ≡ process_count problem.now }
+    ensures { IsTrue result ↔ IfSome head.now.extras (λ extras. extras ≡ map extra_of problem.now.processes) }
+{
+    let processes = problem.processes();
+    for process in 0..processes.len() {
+        let Some(extra) = head.extra(process as u32) else {
+            return true;
+        };
+        if !is_same_extra(extra, &processes[process]) {
+            return false;
+        }
+    }
+    true
+}
+
+/// Whether the processes are the graph's.
+fn are_processes_of(problem: &Problem, own: &Head, head: &Head) -> bool
+    requires { own.now ≡ head_of problem.now }
+    ensures { IsTrue result ↔ AreProcessesOf problem.now head.now }
+{
+    if !are_same_processes(head.processes(), own.processes()) {
+        return false;
+    }
+    are_same_extras(problem, head)
+}
+
+/// The first part in which a head differs from the graph's, and `None` exactly where it is the graph's.
+pub fn first_difference(
+    alloc: Global,
+    problem: &Problem,
+    head: &Head,
+) -> Result<Option<HeadPart>, OutOfMemory>
+    ensures none { IfOk result (λ r. IfNone r (IsHeadFor problem.now head.now)) }
+    ensures first { IfOk result (λ r. IfSome r (IsFirstDifference problem.now head.now)) }
+{
+    let own = head_of(alloc, problem)?;
+    if head.faults() != own.faults() {
+        return Ok(Some(HeadPart::Faults));
+    }
+    if !are_same_names(head.nodes(), own.nodes()) {
+        return Ok(Some(HeadPart::Nodes));
+    }
+    if !are_processes_of(problem, &own, head) {
+        return Ok(Some(HeadPart::Processes));
+    }
+    if head.edges() != own.edges() {
+        return Ok(Some(HeadPart::Edges));
+    }
+    Ok(None)
+}

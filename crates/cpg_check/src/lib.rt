@@ -1,0 +1,6 @@
+//! Whether tables are valid for a graph.
+#![tactic(auto)]
+
+mod heads;
+
+pub use heads::{HeadPart, first_difference};
