@@ -1,5 +1,5 @@
 -- The first part in which the head of a pack differs from a graph's.
-use Rattle.std.specs.Prelude.{◌≡◌, ◌≢◌, ⊥}
+use Rattle.std.specs.Prelude.{◌≡◌, ◌≢◌}
 use Rattle.cpg_base.specs.Graph.{Graph}
 use Rattle.cpg_table.specs.GraphHead.{head_of}
 use Rattle.cpg_table.specs.Head.{Head}

@@ -71,6 +71,26 @@ fn are_same_processes(processes: &[HeadProcess], others: &[HeadProcess]) -> bool
     true
 }
 
+fn is_same_edge(edge: (u32, u32), other: (u32, u32)) -> bool
+    ensures { IsTrue result ↔ (edge ≡ other) }
+{
+    edge.0 == other.0 && edge.1 == other.1
+}
+
+fn are_same_edges(edges: &[(u32, u32)], others: &[(u32, u32)]) -> bool
+    ensures { IsTrue result ↔ (edges.now ≡ others.now) }
+{
+    if edges.len() != others.len() {
+        return false;
+    }
+    for place in 0..edges.len() {
+        if !is_same_edge(edges[place], others[place]) {
+            return false;
+        }
+    }
+    true
+}
+
 fn is_same_extra(extra: &Extra, process: &Process) -> bool
     ensures { IsTrue result ↔ (extra.now ≡ extra_of process.now) }
 {
@@ -83,6 +103,7 @@ fn are_same_extras(problem: &Problem, head: &Head) -> bool
     ensures { IsTrue result ↔ IfSome head.now.extras (λ extras. extras ≡ map extra_of problem.now.processes) }
 {
     let processes = problem.processes();
+    let _described = head.processes();
     for process in 0..processes.len() {
         let Some(extra) = head.extra(process as u32) else {
             return true;
@@ -124,7 +145,7 @@ pub fn first_difference(
     if !are_processes_of(problem, &own, head) {
         return Ok(Some(HeadPart::Processes));
     }
-    if head.edges() != own.edges() {
+    if !are_same_edges(head.edges(), own.edges()) {
         return Ok(Some(HeadPart::Edges));
     }
     Ok(None)
