@@ -1,26 +1,18 @@
 -- What a builder answers is a compilation where nothing is late, and else shows what is.
-use Rattle.std.proofs.Common.{◌≡◌, ℕ, false, List, Option, Some, None, refl, sym, subst, inl, inr}
-use Rattle.std.proofs.lemmas.Bool.{cases_eq, both_ways}
-use Rattle.cpg_base.specs.Graph.{Graph}
-use Rattle.cpg_base.specs.Limits.{IsWithinLimits}
-use Rattle.cpg_base.specs.WellFormed.{WellFormed}
-use Rattle.cpg_order.specs.Urgency.{IsTopological}
-use Rattle.cpg_order.specs.Reach.{is_too_wide}
+use Rattle.std.proofs.Common.{◌≡◌, ◌+◌, ◌-◌, ◌<◌, ◌≤◌, ◌∙◌, ℕ, zero, suc, false, List, [], ◌∷◌, Option, Some, None, Contains, unwrap_or, option_to_list, flat_map, length, get_or, refl, sym, ap, subst, inl, inr, arith}
+use Rattle.std.proofs.lemmas.Bool.{cases_eq, cases_lt}
+use Rattle.std.proofs.lemmas.List.{get_or_past}
+use Rattle.std.proofs.lemmas.List.Elements.{Contains-append_left, Contains-append_right}
+use Rattle.std.proofs.lemmas.List.FromFn.{length-map-range_with_len}
+use Rattle.std.proofs.lemmas.Option.{none-some}
+use Rattle.cpg_base.specs.Graph.{Graph, process_count}
+use Rattle.cpg_base.specs.Duration.{due}
+use Rattle.cpg_base.proofs.Lists.{greatest_above, Contains-first}
 use Rattle.cpg_table.specs.Valid.{IsValid, breaks}
 use Rattle.cpg_run.specs.declared.built.Built.{Built}
 use Rattle.cpg_run.specs.Built.{IsBuiltFor}
 use Rattle.cpg_run.specs.Finish.{IsExcess, IsLeastExceeding}
-use Rattle.cpg_run.specs.Plain.{IsPlain}
-use Rattle.cpg_run.proofs.PlainReach.{reach_before, reached_before}
-use Rattle.cpg_run.proofs.PlainSizes.{never_wide}
-use Rattle.cpg_core.specs.Compiled.{IsNarrow}
-use Rattle.cpg_core.proofs.BuiltExists.{wide_by}
-
--- no item of a plain graph is too wide
-pub plain_narrow : (g : Graph) → IsPlain g → IsWithinLimits g → WellFormed g → (order : List ℕ) → IsTopological g order → IsNarrow g order
-plain_narrow g plain within formed order top x wide =
-    both_ways (is_too_wide g (reach_before g order) x) (never_wide g plain within order top.all x wide.within)
-    (wide_by g formed order top (reach_before g order) (reached_before g plain within order top.all) x wide)
+use Rattle.cpg_run.specs.Run.{Times, IsRun, end_in, end_by}
 
 -- tables that a builder answers are valid where nothing is late
 pub built_valid : (g : Graph) (urgency order : List ℕ) (b : Built) → IsBuiltFor g urgency order b → b.excess ≡ 0 → IsValid g b.tables.nodes
@@ -41,3 +33,46 @@ nothing_late g urgency order frozen b is none =
 pub none_of : (o : Option ℕ) → ((x : ℕ) → o ≡ Some x → ⊥) → o ≡ None
 none_of None h = refl
 none_of (Some x) h = absurd (h x refl)
+
+-- an end is one of all
+end_listed : (os : List (Option ℕ)) (p e : ℕ) → get_or os p None ≡ Some e → Contains (flat_map option_to_list os) e
+end_listed [] p e h = absurd (none-some e h)
+end_listed (o ∷ os) zero e h = Contains-append_left (option_to_list o) (flat_map option_to_list os) e (subst (λ q. Contains (option_to_list q) e) (sym h) (Contains-first e []))
+end_listed (o ∷ os) (suc p) e h = Contains-append_right (option_to_list o) (flat_map option_to_list os) e (end_listed os p e h)
+
+-- the end of the process that is shown, in the scenario that is shown
+module _ (g : Graph) (urgency order : List ℕ) (b : Built) (is : IsBuiltFor g urgency order b) (p : ℕ) (late : b.excess_by ≡ Some p) where
+  abbrev pub late_times : Times
+  late_times = is.excess.least.holds.0
+
+  pub late_run : IsRun g order b.frozen b.excess_in late_times
+  late_run = is.excess.least.holds.1
+
+  exceeds : IsLeastExceeding g late_times b.excess (Some p)
+  exceeds = subst (IsLeastExceeding g late_times b.excess) late (is.excess.by late_times late_run)
+
+  some_end : (o : Option ℕ) (d : ℕ) → 0 < unwrap_or o 0 - d → o ≡ Some (unwrap_or o 0)
+  some_end None d h = absurd (omega (arith, h))
+  some_end (Some e) d h = refl
+
+  end_is : end_in late_times p ≡ due g p + b.excess
+  end_is = omega (arith, exceeds.0, exceeds.1)
+
+  pub late_end : get_or late_times.ends p None ≡ Some (due g p + b.excess)
+  late_end = some_end (get_or late_times.ends p None) (due g p) (omega (arith, exceeds.0, exceeds.1)) ∙ ap Some end_is
+
+  -- it is a process
+  pub late_process : p < process_count g
+  late_process = elim (cases_lt p (length late_times.ends)) [
+    | inl lt ↦ omega (arith, lt, ap length late_run.ends, length-map-range_with_len (end_by g b.excess_in late_times) 0 (process_count g))
+    | inr ge ↦ absurd (none-some (due g p + b.excess) (sym (get_or_past late_times.ends p None ge) ∙ late_end))
+  ]
+
+  -- and its end is no later than the greatest finish
+  pub late_small : due g p + b.excess ≤ b.worst
+  late_small = omega (
+    arith,
+    is.worst.greatest b.excess_in late_times is.excess.least.lawful late_run,
+    greatest_above (flat_map option_to_list late_times.ends) (due g p + b.excess) (end_listed late_times.ends p (due g p + b.excess) late_end),
+    late_run.finish,
+  )

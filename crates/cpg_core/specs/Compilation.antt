@@ -6,7 +6,8 @@ use Rattle.cpg_run.specs.Built.{IsBuiltFor}
 use Rattle.cpg_core.specs.declared.compiling.Compiled.{Compiled}
 use Rattle.cpg_core.specs.declared.fault.CompileFault.{CompileFault}
 use Rattle.cpg_core.specs.declared.fault.CompileFault.TheVariants.{TooWide, Late, OutOfMemory}
-use Rattle.cpg_core.specs.Compiled.{IsNarrow, IsLeastWide, IsShownLate}
+use Rattle.cpg_reach.specs.Wide.{IsNarrow, IsLeastWide}
+use Rattle.cpg_core.specs.Compiled.{IsShownLate}
 
 -- the tables of the urgency order: exact, valid by all ten rules, with their greatest finish; nothing is too wide, and
 -- nothing late

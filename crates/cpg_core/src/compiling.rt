@@ -1,8 +1,8 @@
 //! From an admitted graph to its tables.
-ghost use Rattle.std.specs.Prelude.{◌≡◌, IfOk, IfErr, Some};
-ghost use Rattle.cpg_base.specs.WellFormed.{WellFormed};
+ghost use Rattle.std.specs.Prelude.{◌≡◌, ◌≤◌, ◌+◌, IfOk, IfErr, Some, length};
+ghost use Rattle.cpg_order.specs.Scenario.{scenarios};
 ghost use Rattle.cpg_order.specs.Urgency.{IsTopological};
-ghost use Rattle.cpg_run.specs.Plain.{IsPlain};
+ghost use Rattle.cpg_reach.specs.Wide.{IsNarrow};
 ghost use Rattle.cpg_run.specs.Built.{IsBuiltFor};
 ghost use Rattle.cpg_core.specs.Compilation.{IsCompilation, ShowsCompileFault};
 
@@ -11,7 +11,7 @@ use cpg_base::Problem;
 use cpg_list::list;
 use cpg_order::Order;
 use cpg_rules::Admitted;
-use cpg_run::{Built, run};
+use cpg_run::{BuildFault, Built};
 use std::alloc::Global;
 
 /// The tables of a graph, and the order that they were built under.
@@ -23,46 +23,52 @@ pub struct Compiled {
     pub order: Order,
 }
 
-/// That a process ends past its due, with its end in the scenario of the greatest excess.
-fn late(alloc: Global, problem: &Problem, order: &Order, built: Built, process: u32) -> CompileFault
-    requires plain { IsPlain problem.now }
-    requires formed { WellFormed problem.now }
+/// An end that is past its due by so much; none is later than the greatest.
+fn end_past(due: u64, excess: u64, worst: u64) -> u64
+    requires { due + excess ≤ worst }
+    ensures { result ≡ due + excess }
+{
+    due + excess
+}
+
+/// That a process ends past its due, by the greatest excess, with its end in the scenario of that.
+fn late(problem: &Problem, order: &Order, built: Built, process: u32) -> CompileFault
     requires topological { IsTopological problem.now order.now }
     requires built { IsBuiltFor problem.now order.now order.now built }
+    requires narrow { IsNarrow problem.now order.now }
     requires late { built.excess_by ≡ Some process }
     ensures { ShowsCompileFault problem.now order.now result }
 {
-    let _nodes = problem.nodes();
+    let _places = order.len();
     let Built {
-        frozen,
+        worst,
+        excess,
         excess_in,
         ..
     } = built;
-    let Ok(times) = run(alloc, problem, order, &frozen, &excess_in) else {
-        return CompileFault::OutOfMemory;
-    };
-    let Some(finish) = times.end(process) else {
-        unreachable!()
-    };
     CompileFault::Late {
         scenario: excess_in,
         process,
-        finish,
+        finish: end_past(problem.due(process), excess, worst),
     }
 }
 
-/// The tables of a graph under its urgency order, by which every process ends by its due in every scenario. So far the
-/// graph is a plain one, of one node on which nothing is sent or frozen.
+/// The tables of a graph of at most 16,384 scenarios under its urgency order, by which every process ends by its due in
+/// every scenario.
 pub fn compile(alloc: Global, admitted: &Admitted) -> Result<Compiled, CompileFault>
-    requires plain { IsPlain admitted.now.graph }
+    requires few { length (scenarios admitted.now.graph) ≤ 16384 }
     ensures compiled { IfOk result (IsCompilation admitted.now.graph admitted.now.order) }
     ensures fault { IfErr result (ShowsCompileFault admitted.now.graph admitted.now.order) }
 {
     let problem = admitted.problem();
     let order = admitted.order();
-    let built = list(alloc, problem, order)?;
+    let built = match list(alloc, admitted, order) {
+        Ok(built) => built,
+        Err(BuildFault::TooWide(item)) => return Err(CompileFault::TooWide(item)),
+        Err(BuildFault::OutOfMemory) => return Err(CompileFault::OutOfMemory),
+    };
     if let Some(process) = built.excess_by {
-        return Err(late(alloc, problem, order, built, process));
+        return Err(late(problem, order, built, process));
     }
     Ok(Compiled {
         built,

@@ -3,6 +3,7 @@
 
 mod building;
 mod listing;
+mod stub;
 mod measuring;
 mod plain;
 mod rows;
@@ -10,5 +11,5 @@ mod rows;
 mod tests;
 mod view;
 
-pub use listing::list;
 pub use plain::is_plain;
+pub use stub::list;

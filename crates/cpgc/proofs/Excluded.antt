@@ -19,7 +19,8 @@ use Rattle.cpg_run.specs.Plain.{IsPlain}
 use Rattle.cpg_run.proofs.FrozenUnique.{frozen_unique}
 use Rattle.cpg_core.specs.declared.fault.CompileFault.{CompileFault}
 use Rattle.cpg_core.specs.declared.compiling.Compiled.{Compiled}
-use Rattle.cpg_core.specs.Compiled.{IsWide, IsNarrow, IsInTimeUnder, IsLateUnder, IsMeasured, IsShownLate}
+use Rattle.cpg_reach.specs.Wide.{IsWide, IsNarrow}
+use Rattle.cpg_core.specs.Compiled.{IsInTimeUnder, IsLateUnder, IsMeasured, IsShownLate}
 use Rattle.cpg_core.specs.Compilation.{IsCompilation, ShowsCompileFault}
 use Rattle.cpg_core.proofs.BuiltUnique.{one_excess}
 use Rattle.cpg_core.proofs.Compilations.{plain_narrow}
