@@ -6,7 +6,7 @@ use Rattle.cpg_base.specs.Graph.{Graph}
 use Rattle.cpg_io.specs.Causes.{Rose}
 use Rattle.cpg_words.specs.Parts.{Text}
 use Rattle.cpg_order.specs.Urgency.{IsTopological, IsUrgencyOrder}
-use Rattle.cpg_order.specs.Scenario.{Scenario}
+use Rattle.cpg_order.specs.Scenario.{Scenario, scenarios}
 use Rattle.cpg_order.proofs.Urgent.{one_urgency_order}
 use Rattle.cpg_reader.specs.declared.place.ReadFault.{ReadFault}
 use Rattle.cpg_reader.specs.Document.{problem_of}
@@ -15,7 +15,6 @@ use Rattle.cpg_rules.specs.declared.admission.RuleFault.{RuleFault}
 use Rattle.cpg_rules.specs.Faults.{ShowsFault}
 use Rattle.cpg_rules.proofs.Exact.{no_fault}
 use Rattle.cpg_run.specs.Finish.{IsExcess}
-use Rattle.cpg_run.specs.Plain.{IsPlain}
 use Rattle.cpg_run.proofs.FrozenUnique.{frozen_unique}
 use Rattle.cpg_core.specs.declared.fault.CompileFault.{CompileFault}
 use Rattle.cpg_core.specs.declared.compiling.Compiled.{Compiled}
@@ -23,11 +22,10 @@ use Rattle.cpg_reach.specs.Wide.{IsWide, IsNarrow}
 use Rattle.cpg_core.specs.Compiled.{IsInTimeUnder, IsLateUnder, IsMeasured, IsShownLate}
 use Rattle.cpg_core.specs.Compilation.{IsCompilation, ShowsCompileFault}
 use Rattle.cpg_core.proofs.BuiltUnique.{one_excess}
-use Rattle.cpg_core.proofs.Compilations.{plain_narrow}
 use Rattle.cpgc.specs.declared.halt.Halt.{Halt}
 use Rattle.cpgc.specs.Halts.{halt_of_reading, halt_of_rules, halt_of_compile}
 use Rattle.cpgc.specs.Lines.{status_of}
-use Rattle.cpgc.specs.Causes.{Seen, Says, Admits, StopsReading, BreaksRule, IsUncompiled, StopsGraph, StopsCompile, graph_limit}
+use Rattle.cpgc.specs.Causes.{Seen, Says, Admits, StopsReading, BreaksRule, IsUncompiled, StopsGraph, StopsCompile, HasManyScenarios, graph_limit}
 use Rattle.cpgc.specs.Outputs.{IsMade}
 use Rattle.cpgc.specs.Lawful.{AreListable}
 
@@ -119,24 +117,27 @@ module _ (seen : Seen) (told : Option Text) (bytes : Text) (a : Admission) (tell
       let memory = no_fault a.graph a.order a.guards listable.admitted breaks.fault (subst (λ x. ShowsFault x breaks.fault) same breaks.shows) in
       ap status_of (breaks.halt_is ∙ ap (halt_of_rules g) memory)
 
-  -- late as shown, or want of memory
+  -- it is late as shown, and nothing is too wide
+  abbrev pub LeftLate : Type 0
+  LeftLate = IsNarrow a.graph a.order × ((s : Scenario) × (p time : ℕ) × IsShownLate a.graph a.order s p time)
+
+  -- too wide, late, or want of memory
   abbrev pub Left : Halt → Type 0
-  Left h = (status_of h ≡ 8) ⊎ ((status_of h ≡ 5) × ((s : Scenario) × (p time : ℕ) × IsShownLate a.graph a.order s p time))
+  Left h = (status_of h ≡ 8) ⊎ (((status_of h ≡ 5) × LeftLate) ⊎ ((status_of h ≡ 6) × ((x : ℕ) × IsWide a.graph a.order x)))
 
   compile_left : (b : Admission) → Admits told b → (h : Halt) (fault : CompileFault) → h ≡ halt_of_compile b fault → ShowsCompileFault b.graph b.order fault → Left h
   compile_left b admits h (CompileFault.TooWide x) e shows =
       let same : b.graph ≡ a.graph = same_graph bytes b.graph a.graph (says_of told bytes b.graph tells admits.says) listable.says in
-      let y = listable.admitted in
-      absurd (plain_narrow a.graph listable.plain y.limits y.well_formed a.order y.topological x (moved a b y admits.admitted same (λ g o. IsWide g o x) shows.wide))
+      inr (inr (ap status_of e, (x, moved a b listable.admitted admits.admitted same (λ g o. IsWide g o x) shows.wide)))
   compile_left b admits h (CompileFault.Late s p time) e shows =
       let same : b.graph ≡ a.graph = same_graph bytes b.graph a.graph (says_of told bytes b.graph tells admits.says) listable.says in
-      inr (ap status_of e, (s, p, time, moved a b listable.admitted admits.admitted same (λ g o. IsShownLate g o s p time) shows.1))
+      inr (inl (ap status_of e, (moved a b listable.admitted admits.admitted same IsNarrow shows.0, (s, p, time, moved a b listable.admitted admits.admitted same (λ g o. IsShownLate g o s p time) shows.1))))
   compile_left b admits h CompileFault.OutOfMemory e shows = inl (ap status_of e)
 
   made_left : (h : Halt) (b : Admission) → Admits told b → StopsCompile b h → Left h
   made_left h b admits (inl unbuilt) =
       let same : b.graph ≡ a.graph = same_graph bytes b.graph a.graph (says_of told bytes b.graph tells admits.says) listable.says in
-      absurd (unbuilt.1 (subst IsPlain (sym same) listable.plain))
+      absurd (let many : 16384 < length (scenarios a.graph) = subst HasManyScenarios same unbuilt.1 in omega (arith, listable.few))
   made_left h b admits (inr wrong) = compile_left b admits h wrong.fault wrong.halt_is wrong.shows
 
   pub graph_left : (h : Halt) → StopsGraph seen told StopsCompile h → Left h
@@ -144,7 +145,14 @@ module _ (seen : Seen) (told : Option Text) (bytes : Text) (a : Admission) (tell
   graph_left h (inr (inl breaks)) = inl (rules_left h breaks.0 breaks.1 breaks.2)
   graph_left h (inr (inr worked)) = made_left h worked.0 worked.1 worked.2
 
-  -- what is made isn't late
+  -- what is made isn't too wide
+  pub made_not_wide : (spell : Graph → Compiled → Text) (text : Text) → IsMade told spell text → IsNarrow a.graph a.order
+  made_not_wide spell text made =
+      let b = made.0 in
+      let same : b.graph ≡ a.graph = same_graph bytes b.graph a.graph (says_of told bytes b.graph tells made.1.says) listable.says in
+      moved a b listable.admitted made.1.admitted same IsNarrow made.2.compilation.narrow
+
+  -- and isn't late
   pub made_not_late : (spell : Graph → Compiled → Text) (text : Text) → IsMade told spell text → IsLateUnder a.graph a.order a.order → ⊥
   made_not_late spell text made late =
       let b = made.0 in

@@ -11,6 +11,7 @@ use Rattle.cpg_base.specs.Graph.{Graph}
 use Rattle.cpg_core.specs.declared.compiling.Compiled.{Compiled}
 use Rattle.cpg_order.specs.Scenario.{Scenario}
 use Rattle.cpg_rules.specs.Admission.{Admission}
+use Rattle.cpg_reach.specs.Wide.{IsNarrow, IsWide}
 use Rattle.cpg_core.specs.Compiled.{IsInTimeUnder, IsLateUnder, IsShownLate}
 use Rattle.cpgc.specs.declared.halt.Refusal.{Refusal}
 use Rattle.cpgc.specs.declared.halt.Halt.{Halt}
@@ -22,7 +23,7 @@ use Rattle.cpgc.specs.Told.{Untouched, Part}
 use Rattle.cpgc.specs.Endings.{Ran, IsPrinted, IsCut, IsTold, IsMuted, EndsWith, EndsBy, Ends}
 use Rattle.cpgc.specs.Lawful.{IsFaultless, AreListable, AsksFor, Asks, IsLawful}
 use Rattle.cpgc.proofs.Statuses.{of_words, of_read, of_formless, refused_of, not_three, not_zero}
-use Rattle.cpgc.proofs.Excluded.{in_time_not_shown, Left, graph_left, made_not_late}
+use Rattle.cpgc.proofs.Excluded.{in_time_not_shown, Left, graph_left, made_not_wide, made_not_late}
 
 -- words without a form print nothing
 prints_form : (seen : Seen) (asked : Option Command) (text : Text) → PrintsAsked seen asked text → asked ≡ None → ⊥
@@ -61,8 +62,15 @@ module _ (r : Ran) where
     with_made : (a : Admission) → Asks r a → (r.status ≡ 0) ⊎ (r.status ≡ 8)
     with_made a asks = elim with.ending [ inl p ↦ inl p.status | inr c ↦ absurd (asks.faultless.out c.out.rose) ]
 
-    with_late : (a : Admission) → Asks r a → IsLateUnder a.graph a.order a.order → (r.status ≡ 5) ⊎ (r.status ≡ 8)
-    with_late a asks late = absurd (made_not_late r.shelf (r.shelf.stands asks.graph) asks.bytes a asks.told asks.listable asks.faultless.shelf (made_of r.shelf asks.graph (command_of r.words) text asks.words with.prints).0 text (made_of r.shelf asks.graph (command_of r.words) text asks.words with.prints).1 late)
+    module _ (a : Admission) (asks : Asks r a) where
+      made_here : (spell : Graph → Compiled → Text) × IsMade (r.shelf.stands asks.graph) spell text
+      made_here = made_of r.shelf asks.graph (command_of r.words) text asks.words with.prints
+
+      with_wide : (x : ℕ) → IsWide a.graph a.order x → (r.status ≡ 6) ⊎ (r.status ≡ 8)
+      with_wide x wide = absurd (made_not_wide r.shelf (r.shelf.stands asks.graph) asks.bytes a asks.told asks.listable asks.faultless.shelf made_here.0 text made_here.1 x wide)
+
+      with_late : IsLateUnder a.graph a.order a.order → (r.status ≡ 5) ⊎ (r.status ≡ 8)
+      with_late late = absurd (made_not_late r.shelf (r.shelf.stands asks.graph) asks.bytes a asks.told asks.listable asks.faultless.shelf made_here.0 text made_here.1 late)
 
     pub lawful_with : IsLawful r
     lawful_with = record {
@@ -75,8 +83,9 @@ module _ (r : Ran) where
       refused = λ four. absurd (other_status 4 four (λ e. omega arith) (λ e. omega arith));
       compiled = λ either. absurd (elim either [ inl five ↦ other_status 5 five (λ e. omega arith) (λ e. omega arith) | inr six ↦ other_status 6 six (λ e. omega arith) (λ e. omega arith) ]);
       silent = λ zero three. absurd (elim with_status [ inl z ↦ zero z | inr t ↦ three t ]);
-      made = λ a asks in_time. with_made a asks;
-      late = with_late;
+      wide = λ a x asks. with_wide a asks x;
+      made = λ a asks narrow in_time. with_made a asks;
+      late = λ a asks narrow. with_late a asks;
     }
 
   -- ---- without
@@ -113,17 +122,29 @@ module _ (r : Ran) where
       told_here : r.status ≡ status_of halt
       told_here = elim by.ending [ inl t ↦ t.status | inr m ↦ absurd (asks.faultless.err m.err.rose) ]
 
-      left : (status_of halt ≡ 8) ⊎ ((status_of halt ≡ 5) × ((s : Scenario) × (p time : ℕ) × IsShownLate a.graph a.order s p time))
+      left : Left r.shelf (r.shelf.stands asks.graph) asks.bytes a asks.told asks.listable asks.faultless.shelf halt
       left = graph_left r.shelf (r.shelf.stands asks.graph) asks.bytes a asks.told asks.listable asks.faultless.shelf halt stops_of
 
-      by_made : IsInTimeUnder a.graph a.order a.order → (r.status ≡ 0) ⊎ (r.status ≡ 8)
-      by_made in_time = elim left [
+      by_wide : (x : ℕ) → IsWide a.graph a.order x → (r.status ≡ 6) ⊎ (r.status ≡ 8)
+      by_wide x wide = elim left [
         | inl e ↦ inr (told_here ∙ e)
-        | inr late ↦ absurd (in_time_not_shown a.graph a.order asks.listable.admitted.topological late.1.0 late.1.1 late.1.2 in_time late.1.3)
+        | inr (inl late) ↦ absurd (late.1.0 x wide)
+        | inr (inr shown) ↦ inl (told_here ∙ shown.0)
       ]
 
-      by_late : (r.status ≡ 5) ⊎ (r.status ≡ 8)
-      by_late = elim left [ inl e ↦ inr (told_here ∙ e) | inr late ↦ inl (told_here ∙ late.0) ]
+      by_made : IsNarrow a.graph a.order → IsInTimeUnder a.graph a.order a.order → (r.status ≡ 0) ⊎ (r.status ≡ 8)
+      by_made narrow in_time = elim left [
+        | inl e ↦ inr (told_here ∙ e)
+        | inr (inl late) ↦ absurd (let shown = late.1.1 in in_time_not_shown a.graph a.order asks.listable.admitted.topological shown.0 shown.1 shown.2 in_time shown.3)
+        | inr (inr wide) ↦ absurd (narrow wide.1.0 wide.1.1)
+      ]
+
+      by_late : IsNarrow a.graph a.order → (r.status ≡ 5) ⊎ (r.status ≡ 8)
+      by_late narrow = elim left [
+        | inl e ↦ inr (told_here ∙ e)
+        | inr (inl late) ↦ inl (told_here ∙ late.0)
+        | inr (inr wide) ↦ absurd (narrow wide.1.0 wide.1.1)
+      ]
 
     pub lawful_by : IsLawful r
     lawful_by = record {
@@ -136,6 +157,7 @@ module _ (r : Ran) where
       refused = by_refused;
       compiled = λ either. (halt, by.stops, elim either [ inl five ↦ told_at 5 five (λ e. omega arith) | inr six ↦ told_at 6 six (λ e. omega arith) ]);
       silent = λ zero three. by_silent;
-      made = λ a asks in_time. by_made a asks in_time;
-      late = λ a asks late. by_late a asks;
+      wide = λ a x asks wide. by_wide a asks x wide;
+      made = λ a asks narrow in_time. by_made a asks narrow in_time;
+      late = λ a asks narrow late. by_late a asks narrow;
     }

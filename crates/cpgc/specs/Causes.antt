@@ -17,7 +17,7 @@ use Rattle.cpg_table.specs.Lawful.{Tables}
 use Rattle.cpg_codec.specs.declared.fault.PackFault.{PackFault}
 use Rattle.cpg_codec.specs.Packs.{AreLawful, IsBadPack}
 use Rattle.cpg_codec.specs.Spelling.{spelling}
-use Rattle.cpg_run.specs.Plain.{IsPlain}
+use Rattle.cpg_order.specs.Scenario.{scenarios}
 use Rattle.cpg_core.specs.declared.fault.CompileFault.{CompileFault}
 use Rattle.cpg_core.specs.Compilation.{ShowsCompileFault}
 use Rattle.cpgc.specs.declared.halt.Refusal.{Refusal}
@@ -90,9 +90,13 @@ StopsReading seen told halt = IsUnread seen halt ⊎ (IsLong graph_limit LongGra
 abbrev pub StopsGraph : Seen → Option Text → (Admission → Halt → Type 0) → Halt → Type 0
 StopsGraph seen told work halt = StopsReading seen told halt ⊎ (((g : Graph) × Says told g × BreaksRule g halt) ⊎ ((a : Admission) × Admits told a × work a halt))
 
+-- a graph has more scenarios than are gone over one by one
+abbrev pub HasManyScenarios : Graph → Type 0
+HasManyScenarios g = 16384 < length (scenarios g)
+
 -- to make the tables of a graph
 abbrev pub StopsCompile : Admission → Halt → Type 0
-StopsCompile a halt = (IsUnbuilt halt × (IsPlain a.graph → ⊥)) ⊎ IsUncompiled a halt
+StopsCompile a halt = (IsUnbuilt halt × HasManyScenarios a.graph) ⊎ IsUncompiled a halt
 
 -- the bytes of a pack, where the shelf tells them, spell tables
 pub record Spells (told : Option Text) (t : Tables) : Type 0 where

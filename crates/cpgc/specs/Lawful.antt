@@ -8,7 +8,8 @@ use Rattle.cpg_words.specs.declared.command.Command.{Command}
 use Rattle.cpg_words.specs.declared.command.Command.TheVariants.{Show, Compile}
 use Rattle.cpg_reader.specs.Document.{problem_of}
 use Rattle.cpg_rules.specs.Admission.{Admission, IsAdmitted}
-use Rattle.cpg_run.specs.Plain.{IsPlain}
+use Rattle.cpg_order.specs.Scenario.{scenarios}
+use Rattle.cpg_reach.specs.Wide.{IsNarrow, IsWide}
 use Rattle.cpg_core.specs.Compiled.{IsInTimeUnder, IsLateUnder}
 use Rattle.cpgc.specs.declared.halt.Refusal.{Refusal}
 use Rattle.cpgc.specs.declared.halt.Halt.{Halt}
@@ -24,12 +25,12 @@ pub record IsFaultless (r : Ran) : Type 0 where
   pub out : Rose r.out.before r.out.now → ⊥
   pub err : Rose r.err.before r.err.now → ⊥
 
--- the bytes of a graph file of which tables are made: at most 16 MiB, and an admitted graph of a form that is built
+-- the bytes of a graph file of which tables are made: at most 16 MiB, and an admitted graph of at most 16,384 scenarios
 pub record AreListable (bytes : Text) (a : Admission) : Type 0 where
   pub short : length bytes ≤ graph_limit
   pub says : problem_of bytes ≡ Ok a.graph
   pub admitted : IsAdmitted a.graph a.order a.guards
-  pub plain : IsPlain a.graph
+  pub few : length (scenarios a.graph) ≤ 16384
 
 -- the words ask to show or to pack the tables of a graph file
 abbrev pub AsksFor : Text → Option Command → Type 0
@@ -63,7 +64,8 @@ pub record IsLawful (r : Ran) : Type 0 where
   pub compiled : (r.status ≡ 5) ⊎ (r.status ≡ 6) → (halt : Halt) × Stops r.shelf r.words halt × IsTold r halt
   -- but under 0 and 3, nothing was written to `out`
   pub silent : r.status ≢ 0 → r.status ≢ 3 → Untouched r.out
-  -- a graph of a form that is built is shown or packed where every process ends by its due in every scenario, and
-  -- refused as late where some process doesn't, but for want of memory
-  pub made : (a : Admission) → Asks r a → IsInTimeUnder a.graph a.order a.order → (r.status ≡ 0) ⊎ (r.status ≡ 8)
-  pub late : (a : Admission) → Asks r a → IsLateUnder a.graph a.order a.order → (r.status ≡ 5) ⊎ (r.status ≡ 8)
+  -- such a graph is refused as too wide where some item is, and else shown or packed where every process ends by its due
+  -- in every scenario, and refused as late where some process doesn't, but for want of memory
+  pub wide : (a : Admission) (x : ℕ) → Asks r a → IsWide a.graph a.order x → (r.status ≡ 6) ⊎ (r.status ≡ 8)
+  pub made : (a : Admission) → Asks r a → IsNarrow a.graph a.order → IsInTimeUnder a.graph a.order a.order → (r.status ≡ 0) ⊎ (r.status ≡ 8)
+  pub late : (a : Admission) → Asks r a → IsNarrow a.graph a.order → IsLateUnder a.graph a.order a.order → (r.status ≡ 5) ⊎ (r.status ≡ 8)

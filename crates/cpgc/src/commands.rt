@@ -12,7 +12,7 @@ use crate::reading::{admit_graph, read_graph, read_tables};
 use cpg_base::Name;
 use cpg_core::{Compiled, compile};
 use cpg_io::Shelf;
-use cpg_list::is_plain;
+use cpg_measure::has_few_scenarios;
 use cpg_rules::Admitted;
 use cpg_run::Built;
 use cpg_show::{node_text, table_text};
@@ -34,7 +34,7 @@ fn compile_graph(alloc: Global, admitted: Admitted) -> Result<Made, Halt>
     ensures safe { IfOk result (λ made. AreSafe admitted.graph made.compiled.built.tables.nodes) }
     ensures halt { IfErr result (StopsCompile admitted) }
 {
-    if !is_plain(admitted.problem()) {
+    if !has_few_scenarios(admitted.problem()) {
         return Err(Halt::Refused(Refusal::NotBuilt));
     }
     match compile(alloc, &admitted) {
