@@ -1,3 +1,6 @@
 pub mod RowColumns
 pub mod Violations
 pub mod ActiveWhere
+pub mod Columnwise
+pub mod Variables
+pub mod SieveLaws

@@ -2,3 +2,9 @@ pub mod Columns
 pub mod Violation
 pub mod Activity
 pub mod Room
+pub mod Broken
+pub mod Parted
+pub mod PartedCode
+pub mod PartedView
+pub mod PartedFalls
+pub mod Sieves
