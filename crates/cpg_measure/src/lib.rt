@@ -9,6 +9,8 @@ mod listing;
 mod peaks;
 mod running;
 mod search;
+#[cfg(test)]
+mod tests;
 
 pub use exceeding::excess;
 pub use few::has_few_scenarios;
