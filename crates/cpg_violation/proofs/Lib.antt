@@ -2,3 +2,6 @@ pub mod RowColumns
 pub mod Violations
 pub mod ActiveWhere
 pub mod HeadLaws
+pub mod Columnwise
+pub mod Variables
+pub mod SieveLaws

@@ -3,3 +3,9 @@ pub mod Violation
 pub mod Activity
 pub mod Room
 pub mod Heads
+pub mod Broken
+pub mod Parted
+pub mod PartedCode
+pub mod PartedView
+pub mod PartedFalls
+pub mod Sieves

@@ -1,5 +1,5 @@
 -- The first violation of a rule of valid tables.
-use Rattle.std.specs.Prelude.{ℕ, ◌≡◌, ◌<◌, Bool, false, IsTrue, IfSome, List, Option, Some}
+use Rattle.std.specs.Prelude.{ℕ, ◌≡◌, ◌<◌, ◌≤◌, Bool, false, IsTrue, IfSome, List, Option, Some}
 use Rattle.cpg_base.specs.Graph.{Graph, item_count}
 use Rattle.cpg_order.specs.Scenario.{Scenario, IsScenario, IsLeast}
 use Rattle.cpg_table.specs.Table.{NodeTable}
@@ -23,3 +23,14 @@ pub record IsFirstViolation (g : Graph) (order : List ℕ) (tables : List NodeTa
   pub least : IsLeast g order (λ s. IsTrue (breaks number g tables s f.item f.column)) f.scenario
   pub items : (x : ℕ) (column : Option ℕ) (s : Scenario) → x < f.item → IsScenario g s → breaks number g tables s x column ≡ false
   pub columns : IfSome f.column (λ j. (i : ℕ) (s : Scenario) → i < j → IsScenario g s → breaks number g tables s f.item (Some i) ≡ false)
+
+-- the rules from one number to another hold
+abbrev pub HoldFrom : Graph → List NodeTable → ℕ → ℕ → Type 0
+HoldFrom g tables from to = (rule : ℕ) → from ≤ rule → rule ≤ to → Holds g tables rule
+
+-- the first violation of the first broken rule of those from one number to another
+pub record IsFirstOf (g : Graph) (order : List ℕ) (tables : List NodeTable) (from to : ℕ) (f : Fault) : Type 0 where
+  pub above : from ≤ f.rule
+  pub below : f.rule ≤ to
+  pub before : (rule : ℕ) → from ≤ rule → rule < f.rule → Holds g tables rule
+  pub first : IsFirstViolation g order tables f.rule f

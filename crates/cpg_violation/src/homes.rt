@@ -1,7 +1,7 @@
 //! Where items come from.
 ghost use Rattle.std.specs.Prelude.{◌≡◌, ◌<◌, ◌==◌, position};
 ghost use Rattle.cpg_base.specs.Bus.{slot_length};
-ghost use Rattle.cpg_base.specs.Graph.{home, item_count, producer};
+ghost use Rattle.cpg_base.specs.Graph.{IsVariable, home, item_count, process_count, process_of_variable, producer};
 ghost use Rattle.cpg_base.specs.WellFormed.{WellFormed};
 
 use cpg_base::{Problem, Slot};
@@ -50,4 +50,17 @@ pub fn home(problem: &Problem, item: u32) -> u32
 {
     let process = producer(problem, item);
     problem.processes()[process as usize].node
+}
+
+/// The process that a variable belongs to.
+pub fn process_of_variable(problem: &Problem, variable: u8) -> u32
+    requires { IsVariable problem.now variable }
+    ensures process { result ≡ process_of_variable problem.now variable }
+    ensures within { result < process_count problem.now }
+{
+    let number = u32::from(variable);
+    if number < problem.processes().len() as u32 {
+        return number;
+    }
+    problem.process_of(number - 128)
 }

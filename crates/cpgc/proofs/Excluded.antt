@@ -141,9 +141,9 @@ module _ (seen : Seen) (told : Option Text) (bytes : Text) (a : Admission) (tell
   made_left h b admits (inr wrong) = compile_left b admits h wrong.fault wrong.halt_is wrong.shows
 
   pub graph_left : (h : Halt) → StopsGraph seen told StopsCompile h → Left h
-  graph_left h (inl read) = inl (reading_left h read)
-  graph_left h (inr (inl breaks)) = inl (rules_left h breaks.0 breaks.1 breaks.2)
-  graph_left h (inr (inr worked)) = made_left h worked.0 worked.1 worked.2
+  graph_left h (inl (inl read)) = inl (reading_left h read)
+  graph_left h (inl (inr breaks)) = inl (rules_left h breaks.0 breaks.1 breaks.2)
+  graph_left h (inr worked) = made_left h worked.0 worked.1 worked.2
 
   -- what is made isn't too wide
   pub made_not_wide : (spell : Graph → Compiled → Text) (text : Text) → IsMade told spell text → IsNarrow a.graph a.order

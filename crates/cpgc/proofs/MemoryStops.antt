@@ -12,7 +12,7 @@ use Rattle.cpgc.specs.declared.halt.Halt.TheVariants.{Memory}
 use Rattle.cpgc.specs.Causes.{Seen, IsUnbuilt, StopsGraph, StopsCompile, Stops, StopsAsked, StopsCommand}
 
 memory_graph : (seen : Seen) (told : Option Text) (work : Admission → Halt → Type 0) → StopsGraph seen told work Memory
-memory_graph seen told work = inl (inr (inr (record { fault = OutOfMemory; halt_is = refl; first = λ other. absurd (other refl) })))
+memory_graph seen told work = inl (inl (inr (inr (record { fault = OutOfMemory; halt_is = refl; first = λ other. absurd (other refl) }))))
 
 memory_command : (seen : Seen) (c : Command) → StopsCommand seen c Memory
 memory_command seen (Show graph) = memory_graph seen (seen.stands graph) StopsCompile

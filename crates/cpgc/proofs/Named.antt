@@ -55,9 +55,9 @@ reading_named seen told h (inr (inl long)) = named_as h _ long.halt_is tt
 reading_named seen told h (inr (inr faulty)) = named_as h _ faulty.halt_is (of_reading faulty.fault)
 
 graph_named : (seen : Seen) (told : Option Text) (work : Admission → Halt → Type 0) → ((a : Admission) (h : Halt) → work a h → IsNamed h) → (h : Halt) → StopsGraph seen told work h → IsNamed h
-graph_named seen told work works h (inl read) = reading_named seen told h read
-graph_named seen told work works h (inr (inl breaks)) = let b : BreaksRule breaks.0 h = breaks.2 in named_as h _ b.halt_is (of_rules breaks.0 b.fault b.shows)
-graph_named seen told work works h (inr (inr worked)) = works worked.0 h worked.2
+graph_named seen told work works h (inl (inl read)) = reading_named seen told h read
+graph_named seen told work works h (inl (inr breaks)) = let b : BreaksRule breaks.0 h = breaks.2 in named_as h _ b.halt_is (of_rules breaks.0 b.fault b.shows)
+graph_named seen told work works h (inr worked) = works worked.0 h worked.2
 
 pub unbuilt_named : (h : Halt) → h ≡ Refused NotBuilt → IsNamed h
 unbuilt_named h e = named_as h _ e tt

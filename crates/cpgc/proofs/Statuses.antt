@@ -57,9 +57,9 @@ reading seen told h (inr (inl long)) = later seen h _ long.halt_is (omega arith)
 reading seen told h (inr (inr faulty)) = later seen h _ faulty.halt_is (of_reading faulty.fault)
 
 of_graph : (seen : Seen) (told : Option Text) (work : Admission → Halt → Type 0) → ((a : Admission) (h : Halt) → work a h → IsOfCommand seen h) → (h : Halt) → StopsGraph seen told work h → IsOfCommand seen h
-of_graph seen told work works h (inl read) = reading seen told h read
-of_graph seen told work works h (inr (inl breaks)) = let b : BreaksRule breaks.0 h = breaks.2 in later seen h _ b.halt_is (of_rules breaks.0 b.fault)
-of_graph seen told work works h (inr (inr worked)) = works worked.0 h worked.2
+of_graph seen told work works h (inl (inl read)) = reading seen told h read
+of_graph seen told work works h (inl (inr breaks)) = let b : BreaksRule breaks.0 h = breaks.2 in later seen h _ b.halt_is (of_rules breaks.0 b.fault)
+of_graph seen told work works h (inr worked) = works worked.0 h worked.2
 
 unbuilt : (seen : Seen) (h : Halt) → h ≡ Refused NotBuilt → IsOfCommand seen h
 unbuilt seen h e = later seen h _ e (omega arith)

@@ -86,9 +86,13 @@ IsUnbuilt halt = halt ≡ Refused NotBuilt
 abbrev pub StopsReading : Seen → Option Text → Halt → Type 0
 StopsReading seen told halt = IsUnread seen halt ⊎ (IsLong graph_limit LongGraph seen told halt ⊎ IsFaulty told halt)
 
--- a graph file stops a run: as it is read, by a rule, or by what the command does with the admitted graph
+-- a graph file isn't admitted: as it is read, or by a rule
+abbrev pub StopsAdmission : Seen → Option Text → Halt → Type 0
+StopsAdmission seen told halt = StopsReading seen told halt ⊎ ((g : Graph) × Says told g × BreaksRule g halt)
+
+-- a graph file stops a run: it isn't admitted, or what the command does with the admitted graph stops it
 abbrev pub StopsGraph : Seen → Option Text → (Admission → Halt → Type 0) → Halt → Type 0
-StopsGraph seen told work halt = StopsReading seen told halt ⊎ (((g : Graph) × Says told g × BreaksRule g halt) ⊎ ((a : Admission) × Admits told a × work a halt))
+StopsGraph seen told work halt = StopsAdmission seen told halt ⊎ ((a : Admission) × Admits told a × work a halt)
 
 -- a graph has more scenarios than are gone over one by one
 abbrev pub HasManyScenarios : Graph → Type 0

@@ -3,7 +3,7 @@ ghost use Rattle.std.specs.Prelude.{◌≡◌, ◌<◌, All, IfOk, IfErr, IfSome
 ghost use Rattle.std.specs.Str.{bytes_eq};
 ghost use Rattle.cpg_words.specs.FileWords.{file_words, file_words_of};
 ghost use Rattle.cpg_core.specs.Compilation.{IsCompilation};
-ghost use Rattle.cpgc.specs.Causes.{Admits, first_named, IsUnbuilt, Stops, StopsCommand, StopsCompile, StopsGraph, StopsNaming, StopsNode};
+ghost use Rattle.cpgc.specs.Causes.{Admits, first_named, IsUnbuilt, Stops, StopsAdmission, StopsCommand, StopsCompile, StopsGraph, StopsNaming, StopsNode};
 ghost use Rattle.cpgc.specs.Outputs.{bytes_of, packed, shown, AreSafe, IsMade, IsMadeOf, IsNodeOf, IsNodeText, Prints, PrintsCommand};
 
 use crate::halt::{Halt, Refusal};
@@ -48,10 +48,7 @@ fn text_of(alloc: Global, admitted: Admitted) -> Result<Output, Halt>
     ensures text { IfOk result (λ o. IsMadeOf admitted shown (bytes_of o)) }
     ensures halt { IfErr result (StopsCompile admitted) }
 {
-    let made = match compile_graph(alloc, admitted) {
-        Ok(made) => made,
-        Err(halt) => return Err(halt),
-    };
+    let made = compile_graph(alloc, admitted)?;
     let built = &made.compiled.built;
     match table_text(
         alloc,
@@ -70,10 +67,7 @@ fn pack_of(alloc: Global, admitted: Admitted) -> Result<Output, Halt>
     ensures pack { IfOk result (λ o. IsMadeOf admitted packed (bytes_of o)) }
     ensures halt { IfErr result (StopsCompile admitted) }
 {
-    let made = match compile_graph(alloc, admitted) {
-        Ok(made) => made,
-        Err(halt) => return Err(halt),
-    };
+    let made = compile_graph(alloc, admitted)?;
     let Made { compiled, .. } = made;
     let Compiled { built, .. } = compiled;
     let Built { tables, .. } = built;
@@ -84,16 +78,11 @@ fn pack_of(alloc: Global, admitted: Admitted) -> Result<Output, Halt>
 fn admitted_file<S: Shelf>(alloc: Global, shelf: &mut S, name: &str) -> Result<Admitted, Halt>
     requires { S.may_fetch shelf.old name.now }
     ensures graph { IfOk result (Admits (S.stands shelf.old name.now)) }
-    ensures halt { IfErr result (StopsGraph (record { stands = S.stands shelf.old; given = S.given shelf.new; before = S.faults shelf.old; now = S.faults shelf.new }) (S.stands shelf.old name.now) StopsCompile) }
+    ensures halt { IfErr result (StopsAdmission (record { stands = S.stands shelf.old; given = S.given shelf.new; before = S.faults shelf.old; now = S.faults shelf.new }) (S.stands shelf.old name.now)) }
 {
-    let graph = match read_graph(alloc, shelf, name) {
-        Ok(graph) => graph,
-        Err(halt) => return Err(halt),
-    };
-    match admit_graph(alloc, graph) {
-        Ok(admitted) => Ok(admitted),
-        Err(halt) => Err(halt),
-    }
+    let graph = read_graph(alloc, shelf, name)?;
+    let admitted = admit_graph(alloc, graph)?;
+    Ok(admitted)
 }
 
 /// Shows the tables of a graph file.
@@ -102,10 +91,9 @@ fn show<S: Shelf>(alloc: Global, shelf: &mut S, name: &str) -> Result<Output, Ha
     ensures text { IfOk result (λ o. IsMade (S.stands shelf.old name.now) shown (bytes_of o)) }
     ensures halt { IfErr result (StopsGraph (record { stands = S.stands shelf.old; given = S.given shelf.new; before = S.faults shelf.old; now = S.faults shelf.new }) (S.stands shelf.old name.now) StopsCompile) }
 {
-    match admitted_file(alloc, shelf, name) {
-        Ok(admitted) => text_of(alloc, admitted),
-        Err(halt) => Err(halt),
-    }
+    let admitted = admitted_file(alloc, shelf, name)?;
+    let text = text_of(alloc, admitted)?;
+    Ok(text)
 }
 
 /// Packs the tables of a graph file.
@@ -114,10 +102,9 @@ fn pack<S: Shelf>(alloc: Global, shelf: &mut S, name: &str) -> Result<Output, Ha
     ensures pack { IfOk result (λ o. IsMade (S.stands shelf.old name.now) packed (bytes_of o)) }
     ensures halt { IfErr result (StopsGraph (record { stands = S.stands shelf.old; given = S.given shelf.new; before = S.faults shelf.old; now = S.faults shelf.new }) (S.stands shelf.old name.now) StopsCompile) }
 {
-    match admitted_file(alloc, shelf, name) {
-        Ok(admitted) => pack_of(alloc, admitted),
-        Err(halt) => Err(halt),
-    }
+    let admitted = admitted_file(alloc, shelf, name)?;
+    let pack = pack_of(alloc, admitted)?;
+    Ok(pack)
 }
 
 /// Why a command stops that isn't built beyond the admission of its graph.
@@ -125,11 +112,7 @@ fn admit_only<S: Shelf>(alloc: Global, shelf: &mut S, name: &str) -> Halt
     requires { S.may_fetch shelf.old name.now }
     ensures { StopsGraph (record { stands = S.stands shelf.old; given = S.given shelf.new; before = S.faults shelf.old; now = S.faults shelf.new }) (S.stands shelf.old name.now) (λ _. IsUnbuilt) result }
 {
-    let graph = match read_graph(alloc, shelf, name) {
-        Ok(graph) => graph,
-        Err(halt) => return halt,
-    };
-    match admit_graph(alloc, graph) {
+    match admitted_file(alloc, shelf, name) {
         Ok(_) => Halt::Refused(Refusal::NotBuilt),
         Err(halt) => halt,
     }
@@ -171,10 +154,9 @@ fn node<S: Shelf>(alloc: Global, shelf: &mut S, pack: &str, name: &str) -> Resul
     ensures text { IfOk result (λ o. IsNodeOf (S.stands shelf.old pack.now) name.now (bytes_of o)) }
     ensures halt { IfErr result (StopsNode (record { stands = S.stands shelf.old; given = S.given shelf.new; before = S.faults shelf.old; now = S.faults shelf.new }) (S.stands shelf.old pack.now) name.now) }
 {
-    match read_tables(alloc, shelf, pack) {
-        Ok(tables) => node_lines(alloc, &tables, name),
-        Err(halt) => Err(halt),
-    }
+    let tables = read_tables(alloc, shelf, pack)?;
+    let lines = node_lines(alloc, &tables, name)?;
+    Ok(lines)
 }
 
 /// The output of a command, or why it stops.

@@ -4,8 +4,8 @@ use Rattle.cpgc.proofs.commands.pack_of.Goals as goal
 pub returns-clause-pack : goal.returns-clause-pack
 returns-clause-pack c =
     record {
-      compiled = c.in-Ok.made.compiled;
-      compilation = c.in-Ok.ensures.compiled;
-      safe = c.in-Ok.ensures.safe;
+      compiled = c.in_ok-made.made.compiled;
+      compilation = c.in_ok-made.ensures.compiled;
+      safe = c.in_ok-made.ensures.safe;
       spelled = refl;
     }

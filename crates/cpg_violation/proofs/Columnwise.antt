@@ -1,0 +1,50 @@
+-- Going over the elements of a list, and over the columns of a row, by the least scenario that breaks each.
+use Rattle.std.proofs.Common.{ℕ, ◌+◌, ◌<◌, ◌≤◌, ◌≡◌, Bool, true, false, ◌&&◌, ◌||◌, List, [], ◌∷◌, length, get_or, take, Option, refl, sym, ap, ◌∙◌}
+use Rattle.std.specs.List.{list_any}
+use Rattle.std.proofs.Math.Bool.{or-false}
+use Rattle.std.proofs.lemmas.List.{take_more, drop_more, drop_all}
+use Rattle.std.proofs.lemmas.List.Folds.{list_any-append}
+use Rattle.cpg_base.specs.Graph.{Graph}
+use Rattle.cpg_order.specs.Scenario.{Scenario}
+use Rattle.cpg_order.specs.First.{IsFirst, earlier}
+use Rattle.cpg_order.proofs.First.{first_same, first_or}
+use Rattle.cpg_cube.specs.Cube.{matches}
+use Rattle.cpg_table.specs.Table.{Column}
+use Rattle.cpg_violation.specs.Broken.{is_broken}
+
+both_or : (m a b : Bool) → ((m && a) || (m && b)) ≡ (m && (a || b))
+both_or true a b = refl
+both_or false a b = refl
+
+any_more : {X : Type 0} (test : X → Bool) (xs : List X) (i : ℕ) (d : X) → i < length xs → (list_any test (take i xs) || test (get_or xs i d)) ≡ list_any test (take (i + 1) xs)
+any_more test xs i d h = ap (λ b. list_any test (take i xs) || b) (sym (or-false (test (get_or xs i d)))) ∙ sym (list_any-append test (take i xs) (get_or xs i d ∷ [])) ∙ sym (ap (list_any test) (take_more xs i d h))
+
+module _ {X : Type 0} (g : Graph) (order : List ℕ) (fact : Scenario → Bool) (test : Scenario → X → Bool) (xs : List X) where
+  -- one element more that may fail
+  pub first_any_more : (i : ℕ) (d : X) → i < length xs → (a b : Option Scenario) → IsFirst g order (λ s. fact s && list_any (test s) (take i xs)) a
+      → IsFirst g order (λ s. fact s && test s (get_or xs i d)) b → IsFirst g order (λ s. fact s && list_any (test s) (take (i + 1) xs)) (earlier g order a b)
+  first_any_more i d h a b f k = first_same g order
+      (λ s. (fact s && list_any (test s) (take i xs)) || (fact s && test s (get_or xs i d))) (λ s. fact s && list_any (test s) (take (i + 1) xs)) (earlier g order a b)
+      (λ s _. both_or (fact s) (list_any (test s) (take i xs)) (test s (get_or xs i d)) ∙ ap (λ m. fact s && m) (any_more (test s) xs i d h))
+      (first_or g order (λ s. fact s && list_any (test s) (take i xs)) (λ s. fact s && test s (get_or xs i d)) a b f k)
+
+-- either of two failures
+pub first_either : (g : Graph) (order : List ℕ) (fact p q : Scenario → Bool) (a b : Option Scenario) → IsFirst g order (λ s. fact s && p s) a → IsFirst g order (λ s. fact s && q s) b
+    → IsFirst g order (λ s. fact s && (p s || q s)) (earlier g order a b)
+first_either g order fact p q a b f h = first_same g order (λ s. (fact s && p s) || (fact s && q s)) (λ s. fact s && (p s || q s)) (earlier g order a b)
+    (λ s _. both_or (fact s) (p s) (q s)) (first_or g order (λ s. fact s && p s) (λ s. fact s && q s) a b f h)
+
+module _ (test : Scenario → Column → Bool) (columns : List Column) (i : ℕ) where
+  -- the column at a place
+  pub broken_at : (d : Column) (s : Scenario) → i < length columns → (matches (get_or columns i d).cube s && test s (get_or columns i d)) ≡ is_broken test columns i s
+  broken_at d s h = sym (or-false (matches (get_or columns i d).cube s && test s (get_or columns i d)))
+      ∙ sym (ap (λ l. list_any (λ (c : Column). matches c.cube s && test s c) (take 1 l)) (drop_more columns i d h))
+
+  -- there is no column past the last
+  pub broken_past : (s : Scenario) → length columns ≤ i → is_broken test columns i s ≡ false
+  broken_past s h = ap (λ l. list_any (λ (c : Column). matches c.cube s && test s c) (take 1 l)) (drop_all i columns h)
+
+  -- the answer for a column is that for its place
+  pub broken_place : (g : Graph) (order : List ℕ) (d : Column) → i < length columns → (o : Option Scenario)
+      → IsFirst g order (λ s. matches (get_or columns i d).cube s && test s (get_or columns i d)) o → IsFirst g order (is_broken test columns i) o
+  broken_place g order d h o f = first_same g order (λ s. matches (get_or columns i d).cube s && test s (get_or columns i d)) (is_broken test columns i) o (λ s _. broken_at d s h) f

@@ -1,0 +1,58 @@
+-- Which places a cut parts where.
+use Rattle.std.proofs.Common.{ℕ, ◌+◌, ◌<◌, ◌≤◌, ◌≡◌, Bool, true, false, not, cond, List, [], ◌∷◌, ◌++◌, length, get_or, take, Contains, refl, sym, subst, ⊎_elim, true≢false}
+use Rattle.std.specs.Prelude.{nat_le}
+use Rattle.std.proofs.lemmas.List.{take_more, take_all}
+use Rattle.std.proofs.lemmas.List.Elements.{Contains-push_cases, Contains-append_left, Contains-push}
+use Rattle.cpg_order.specs.Scenario.{Scenario, number_of}
+use Rattle.cpg_cube.specs.Cube.{matches}
+use Rattle.cpg_table.specs.Table.{Column}
+use Rattle.cpg_violation.specs.Parted.{Parted, Cut}
+use Rattle.cpg_violation.specs.Sieves.{column_at, places_in, Sifts}
+
+pub not_itself : (b x : Bool) → x ≡ b → x ≡ not b → ⊥
+not_itself true true e f = true≢false f
+not_itself true false e f = true≢false (sym e)
+not_itself false true e f = true≢false e
+not_itself false false e f = true≢false (sym f)
+
+-- the side of a cut to which a scenario comes
+pub side_of : (b : Bool) (below above found : List ℕ) (i : ℕ) → (b ≡ true → Contains below i → Contains found i) → (b ≡ false → Contains above i → Contains found i) → Contains (cond b below above) i → Contains found i
+side_of true below above found i h k c = h refl c
+side_of false below above found i h k c = k refl c
+
+-- and what is found there
+pub side_found : (b : Bool) (below above : List ℕ) (i : ℕ) → (b ≡ true → Contains below i) → (b ≡ false → Contains above i) → Contains (cond b below above) i
+side_found true below above i h k = h refl
+side_found false below above i h k = k refl
+
+module _ (columns : List Column) (v most : ℕ) (below : Bool) (places kept : List ℕ) (k : ℕ) where
+  -- the places so far go to this side
+  abbrev pub KeepsFirst : ℕ → List ℕ → Type 0
+  KeepsFirst n kept = (s : Scenario) (i : ℕ) → Contains (take n places) i → i < length columns → matches (column_at columns i).cube s ≡ true → nat_le (number_of s v) most ≡ below → Contains kept i
+
+  pub keeps_all : length places ≤ k → KeepsFirst k kept
+      → (s : Scenario) (i : ℕ) → Contains places i → i < length columns → matches (column_at columns i).cube s ≡ true → nat_le (number_of s v) most ≡ below → Contains kept i
+  keeps_all past h s i c l m e = h s i (subst (λ xs. Contains xs i) (sym (take_all k places past)) c) l m e
+
+module _ (columns : List Column) (v most : ℕ) (below : Bool) (places kept : List ℕ) (k d : ℕ) (within : k < length places) where
+  pub keeps_push : KeepsFirst columns v most below places kept k k kept → KeepsFirst columns v most below places kept k (k + 1) (kept ++ get_or places k d ∷ [])
+  keeps_push h s i c l m e = ⊎_elim
+      (λ (b : Contains (take k places) i). Contains-append_left kept (get_or places k d ∷ []) i (h s i b l m e))
+      (λ (q : get_or places k d ≡ i). subst (λ j. Contains (kept ++ get_or places k d ∷ []) j) q (Contains-push kept (get_or places k d)))
+      (Contains-push_cases (take k places) (get_or places k d) i (subst (λ xs. Contains xs i) (take_more places k d within) c))
+
+  pub keeps_skip : ((s : Scenario) → get_or places k d < length columns → matches (column_at columns (get_or places k d)).cube s ≡ true → nat_le (number_of s v) most ≡ not below)
+      → KeepsFirst columns v most below places kept k k kept → KeepsFirst columns v most below places kept k (k + 1) kept
+  keeps_skip off h s i c l m e = ⊎_elim
+      (λ (b : Contains (take k places) i). h s i b l m e)
+      (λ (q : get_or places k d ≡ i). absurd (not_itself below (nat_le (number_of s v) most) e (off s (subst (λ j. j < length columns) (sym q) l) (subst (λ j. matches (column_at columns j).cube s ≡ true) (sym q) m))))
+      (Contains-push_cases (take k places) (get_or places k d) i (subst (λ xs. Contains xs i) (take_more places k d within) c))
+
+-- what a cut's sides find, the cut finds
+pub sifts_cut : (columns : List Column) (v most : ℕ) (places low high : List ℕ) (below above : Parted)
+    → ((s : Scenario) (i : ℕ) → Contains places i → i < length columns → matches (column_at columns i).cube s ≡ true → nat_le (number_of s v) most ≡ true → Contains low i)
+    → ((s : Scenario) (i : ℕ) → Contains places i → i < length columns → matches (column_at columns i).cube s ≡ true → nat_le (number_of s v) most ≡ false → Contains high i)
+    → Sifts columns low below → Sifts columns high above → Sifts columns places (Cut v most below above)
+sifts_cut columns v most places low high below above h k f g = record {
+  found = λ s i c l m. side_found (nat_le (number_of s v) most) (places_in below s) (places_in above s) i (λ e. f.found s i (h s i c l m e) l m) (λ e. g.found s i (k s i c l m e) l m);
+}

@@ -1,0 +1,8 @@
+use Rattle.std.proofs.Common.{◌≡◌, ◌<◌, ℕ, Contains, length, nat_le, true, take}
+use Rattle.cpg_order.specs.Scenario.{Scenario, number_of}
+use Rattle.cpg_cube.specs.Cube.{matches}
+use Rattle.cpg_violation.specs.Sieves.{column_at}
+use Rattle.cpg_violation.proofs.sieve.part.Given as goal
+
+abbrev pub invariant-loop-place : goal.invariant-loop-place
+invariant-loop-place l = (s : Scenario) (i : ℕ) → Contains (take l.place-index l.places) i → i < length l.columns → matches (column_at l.columns i).cube s ≡ true → nat_le (number_of s l.cut.variable) l.cut.most ≡ l.below → Contains l.kept.items i

@@ -1,0 +1,23 @@
+-- Sieves: parted places of columns, among which each column is found by each scenario that it matches.
+use Rattle.std.specs.Prelude.{ℕ, ◌≡◌, ◌<◌, true, nat_le, if◌then◌else◌, List, [], Contains, length, get_or}
+use Rattle.cpg_order.specs.Scenario.{Scenario, number_of}
+use Rattle.cpg_cube.specs.Cube.{matches}
+use Rattle.cpg_table.specs.Table.{Column}
+use Rattle.cpg_violation.specs.Parted.{Parted, Leaf, Cut}
+
+-- the places to which a scenario comes
+abbrev pub places_in : Parted → Scenario → List ℕ
+places_in (Leaf places) s = places
+places_in (Cut v most below above) s = if nat_le (number_of s v) most then places_in below s else places_in above s
+
+-- the column at a place
+abbrev pub column_at : List Column → ℕ → Column
+column_at columns i = get_or columns i (record { time = 0; cube = [] })
+
+-- a scenario that a column matches comes to its place, where that is one of these
+pub record Sifts (columns : List Column) (places : List ℕ) (parted : Parted) : Type 0 where
+  pub found : (s : Scenario) (i : ℕ) → Contains places i → i < length columns → matches (column_at columns i).cube s ≡ true → Contains (places_in parted s) i
+
+-- and so it does for each column
+pub record IsSieveOf (columns : List Column) (parted : Parted) : Type 0 where
+  pub found : (s : Scenario) (i : ℕ) → i < length columns → matches (column_at columns i).cube s ≡ true → Contains (places_in parted s) i

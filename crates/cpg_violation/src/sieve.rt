@@ -1,0 +1,305 @@
+//! Columns sorted by the ranges of their literals, so that those that may match together with a cube are found without a
+//! look at each.
+ghost use Rattle.std.specs.Prelude.{◌≡◌, ◌≤◌, ◌<◌, ℕ, Bool, IfOk, Contains, false, length, nat_le, not, true};
+ghost use Rattle.std.specs.Bool.{OnFalse};
+ghost use Rattle.cpg_order.specs.Scenario.{Scenario, number_of};
+ghost use Rattle.cpg_cube.specs.Cube.{holds, matches};
+ghost use Rattle.cpg_violation.specs.Sieves.{IsSieveOf, Sifts, column_at, places_in};
+
+use cpg_base::OutOfMemory;
+use cpg_cube::{Cube, Literal};
+use cpg_table::Entry;
+use std::alloc::Global;
+use std::marker::Model;
+
+/// How many times places are parted at most.
+const DEPTH: u32 = 24;
+/// So many places aren't parted.
+const FEW: usize = 12;
+/// How many places are looked at to choose a cut.
+const SAMPLE: usize = 64;
+
+/// The places of the columns of a row, parted by whether a variable may be at most a number: seen as a tree of such cuts.
+/// A place stands on both sides where its column may match on both.
+#[cycle(sieve)]
+#[derive(Drop)]
+pub struct Sieve {
+    node: Node,
+}
+
+#[cycle(sieve)]
+#[derive(Drop)]
+enum Node {
+    Leaf(Vec<u32>),
+    Cut {
+        variable: u8,
+        most: u8,
+        below: Box<Sieve>,
+        above: Box<Sieve>,
+    },
+}
+
+impl Model for Sieve {
+    ghost use Rattle.cpg_violation.specs.Parted.{Parted, size_of};
+    ghost use Rattle.cpg_violation.specs.PartedCode.{parted_code};
+
+    ghost Value = { Parted };
+
+    ghost coded = { parted_code };
+
+    ghost use Rattle.cpg_violation.specs.PartedView.{parted_of};
+
+    ghost view = { λ s. parted_of s.node };
+
+    ghost size = { size_of };
+
+    ghost use Rattle.cpg_violation.specs.PartedFalls.{deep_le-size};
+
+    ghost size_decreases = { λ a h. deep_le-size a.node };
+}
+
+/// Whether a literal lets a variable be at most a number, or else above it.
+fn lets(literal: &Literal, variable: u8, most: u8, below: bool) -> bool
+    ensures { OnFalse result ((s : Scenario) → holds s literal.now ≡ true → nat_le (number_of s variable) most ≡ not below) }
+{
+    if literal.variable != variable {
+        return true;
+    }
+    if below {
+        return literal.low <= most;
+    }
+    most < literal.high
+}
+
+/// Whether a cube lets a variable be at most a number, or else above it.
+fn goes(cube: &Cube, variable: u8, most: u8, below: bool) -> bool
+    ensures { OnFalse result ((s : Scenario) → matches cube.now s ≡ true → nat_le (number_of s variable) most ≡ not below) }
+{
+    for literal in cube.literals() {
+        if !lets(literal, variable, most, below) {
+            return false;
+        }
+    }
+    true
+}
+
+/// Whether the column at a place lets a variable be at most a number, or else above it; not where there is no column.
+fn column_goes(columns: &[Entry], place: u32, variable: u8, most: u8, below: bool) -> bool
+    ensures { OnFalse result ((s : Scenario) → place < length columns.now → matches (column_at columns.now place).cube s ≡ true → nat_le (number_of s variable) most ≡ not below) }
+{
+    let Some(column) = columns.get(place as usize) else {
+        return false;
+    };
+    goes(&column.cube, variable, most, below)
+}
+
+/// How many of these places go to one side of a cut.
+fn going(columns: &[Entry], places: &[u32], variable: u8, most: u8, below: bool) -> usize {
+    let mut count: usize = 0;
+    for place in places {
+        if column_goes(columns, *place, variable, most, below) {
+            count = count.saturating_add(1);
+        }
+    }
+    count
+}
+
+/// How well a cut parts so many places of which so many go below and so many above: 0 where it doesn't, or puts too many
+/// on both sides.
+fn worth(all: usize, below: usize, above: usize) -> usize {
+    if below >= all {
+        return 0;
+    }
+    if above >= all {
+        return 0;
+    }
+    let rest = all - below;
+    if above > rest.saturating_add(all / 8) {
+        return 0;
+    }
+    rest.saturating_mul(all - above)
+}
+
+/// Where to cut.
+#[derive(Clone, Copy)]
+struct Cut {
+    variable: u8,
+    most: u8,
+    worth: usize,
+}
+
+/// The better of two cuts.
+fn better(columns: &[Entry], places: &[u32], cut: Cut, variable: u8, most: u8) -> Cut {
+    let below = going(columns, places, variable, most, true);
+    let above = going(columns, places, variable, most, false);
+    let worth = worth(places.len(), below, above);
+    if worth > cut.worth {
+        return Cut {
+            variable,
+            most,
+            worth,
+        };
+    }
+    cut
+}
+
+/// The best of the cuts at an end of a literal of a column, if one parts the places.
+fn best_cut(columns: &[Entry], places: &[u32], column: &Entry) -> Option<Cut> {
+    let mut cut = Cut {
+        variable: 0,
+        most: 0,
+        worth: 0,
+    };
+    for literal in column.cube.literals() {
+        cut = better(columns, places, cut, literal.variable, literal.high);
+        if literal.low > 0 {
+            cut = better(columns, places, cut, literal.variable, literal.low - 1);
+        }
+    }
+    if cut.worth == 0 {
+        return None;
+    }
+    Some(cut)
+}
+
+/// Where to part these places, if they are many and some cut parts them.
+fn cut_of(columns: &[Entry], places: &[u32]) -> Option<Cut> {
+    if places.len() <= FEW {
+        return None;
+    }
+    let sample = &places[..places.len().min(SAMPLE)];
+    let Some(place) = places.get(places.len() / 2) else {
+        return None;
+    };
+    let Some(column) = columns.get(*place as usize) else {
+        return None;
+    };
+    best_cut(columns, sample, column)
+}
+
+/// The places that go to one side of a cut.
+fn part(
+    alloc: Global,
+    columns: &[Entry],
+    places: &[u32],
+    cut: Cut,
+    below: bool,
+) -> Result<Vec<u32>, OutOfMemory>
+    ensures { IfOk result (λ kept. (s : Scenario) (i : ℕ) → Contains places.now i → i < length columns.now → matches (column_at columns.now i).cube s ≡ true → nat_le (number_of s cut.variable) cut.most ≡ below → Contains kept.items i) }
+{
+    let mut kept = Vec::new(alloc);
+    for place in places {
+        if column_goes(columns, *place, cut.variable, cut.most, below) {
+            kept.push(*place)?;
+        }
+    }
+    Ok(kept)
+}
+
+/// These places, parted so many times at most.
+fn sifted(
+    alloc: Global,
+    columns: &[Entry],
+    places: Vec<u32>,
+    depth: u32,
+) -> Result<Sieve, OutOfMemory>
+    ensures { IfOk result (Sifts columns.now places.items) }
+{
+    if depth == 0 {
+        return Ok(Sieve {
+            node: Node::Leaf(places),
+        });
+    }
+    let Some(cut) = cut_of(columns, places.as_slice()) else {
+        return Ok(Sieve {
+            node: Node::Leaf(places),
+        });
+    };
+    let low = part(alloc, columns, places.as_slice(), cut, true)?;
+    let high = part(alloc, columns, places.as_slice(), cut, false)?;
+    let below = sifted(alloc, columns, low, depth - 1)?;
+    let above = sifted(alloc, columns, high, depth - 1)?;
+    let below = Box::new(alloc, below)?;
+    let above = Box::new(alloc, above)?;
+    Ok(Sieve {
+        node: Node::Cut {
+            variable: cut.variable,
+            most: cut.most,
+            below,
+            above,
+        },
+    })
+}
+
+impl Sieve {
+    /// The columns of a row, by place.
+    pub fn of(alloc: Global, columns: &[Entry]) -> Result<Sieve, OutOfMemory>
+        requires { length columns.now ≤ 524288 }
+        ensures { IfOk result (IsSieveOf columns.now) }
+    {
+        let mut places = Vec::new(alloc);
+        for place in 0..columns.len() as u32 {
+            places.push(place)?;
+        }
+        let sieve = sifted(alloc, columns, places, DEPTH)?;
+        Ok(sieve)
+    }
+
+    /// Adds the places on one side of a cut, if the cube goes there.
+    #[cycle(search)]
+    fn search_side(
+        &self,
+        cube: &Cube,
+        cut: Cut,
+        below: bool,
+        found: &mut Vec<u32>,
+    ) -> Result<(), OutOfMemory>
+        ensures old { IfOk result (λ _. (i : ℕ) → Contains found.old.items i → Contains found.new.items i) }
+        ensures all { IfOk result (λ _. (s : Scenario) (i : ℕ) → matches cube.now s ≡ true → nat_le (number_of s cut.variable) cut.most ≡ below → Contains (places_in self.now s) i → Contains found.new.items i) }
+    {
+        if !goes(cube, cut.variable, cut.most, below) {
+            return Ok(());
+        }
+        self.search(cube, found)?;
+        Ok(())
+    }
+
+    /// Adds the places to which scenarios come that the cube matches.
+    #[cycle(search)]
+    fn search(&self, cube: &Cube, found: &mut Vec<u32>) -> Result<(), OutOfMemory>
+        ensures old { IfOk result (λ _. (i : ℕ) → Contains found.old.items i → Contains found.new.items i) }
+        ensures all { IfOk result (λ _. (s : Scenario) (i : ℕ) → matches cube.now s ≡ true → Contains (places_in self.now s) i → Contains found.new.items i) }
+    {
+        match &self.node {
+            Node::Leaf(places) => {
+                found.extend_from_slice(places.as_slice())?;
+                Ok(())
+            }
+            Node::Cut {
+                variable,
+                most,
+                below,
+                above,
+            } => {
+                let cut = Cut {
+                    variable: *variable,
+                    most: *most,
+                    worth: 0,
+                };
+                below.search_side(cube, cut, true, found)?;
+                above.search_side(cube, cut, false, found)?;
+                Ok(())
+            }
+        }
+    }
+
+    /// The places of columns among which each is that matches some scenario together with a cube. Some may stand there
+    /// that don't, and some twice.
+    pub fn candidates(&self, alloc: Global, cube: &Cube) -> Result<Vec<u32>, OutOfMemory>
+        ensures { IfOk result (λ found. (s : Scenario) (i : ℕ) → matches cube.now s ≡ true → Contains (places_in self.now s) i → Contains found.items i) }
+    {
+        let mut found = Vec::new(alloc);
+        self.search(cube, &mut found)?;
+        Ok(found)
+    }
+}
