@@ -2,5 +2,7 @@
 #![tactic(auto)]
 
 mod heads;
+mod verdict;
 
-pub use heads::{HeadPart, first_difference};
+pub use heads::HeadPart;
+pub use verdict::{Verdict, check};

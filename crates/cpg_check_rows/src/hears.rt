@@ -3,10 +3,10 @@ ghost use Rattle.std.specs.Prelude.{◌≡◌, ◌≤◌, ◌<◌, ◌↔◌, �
 ghost use Rattle.cpg_base.specs.Bus.{slot_length};
 ghost use Rattle.cpg_base.specs.Graph.{home, item_count, producer};
 ghost use Rattle.cpg_base.specs.WellFormed.{WellFormed};
-ghost use Rattle.cpg_table.specs.GraphHead.{head_of};
 ghost use Rattle.cpg_table.specs.Table.{table_at};
 ghost use Rattle.cpg_table.specs.Valid.{later_by};
 ghost use Rattle.cpg_violation.specs.Columns.{row_columns};
+ghost use Rattle.cpg_violation.specs.Heads.{IsHeadFor};
 ghost use Rattle.cpg_check_rows.specs.Hears.{DifferFirstAt, HearsAt, HearsHold, IsFirstHear, IsFirstHearFault};
 
 use cpg_base::{OutOfMemory, Scenario};
@@ -104,7 +104,7 @@ pub fn check_hears(
     admitted: &Admitted,
     tables: &Tables,
 ) -> Result<Option<Fault>, OutOfMemory>
-    requires { tables.now.head ≡ head_of admitted.now.graph }
+    requires { IsHeadFor admitted.now.graph tables.now.head }
     ensures none { IfOk result (λ r. IfNone r (HearsHold admitted.now.graph tables.now.nodes)) }
     ensures first { IfOk result (λ r. IfSome r (IsFirstHearFault admitted.now.graph tables.now.nodes)) }
 {

@@ -4,7 +4,9 @@
 mod hears;
 mod present;
 mod single;
+mod stub;
 
 pub use hears::check_hears;
 pub use present::check_present;
 pub use single::check_single;
+pub use stub::check_rows;

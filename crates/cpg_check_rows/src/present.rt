@@ -7,8 +7,8 @@ ghost use Rattle.cpg_order.specs.Scenario.{Scenario};
 ghost use Rattle.cpg_cube.specs.Cube.{matches};
 ghost use Rattle.cpg_cube.specs.Cover.{is_left};
 ghost use Rattle.cpg_cube.specs.Fit.{IsKnown};
-ghost use Rattle.cpg_table.specs.GraphHead.{head_of};
 ghost use Rattle.cpg_check_rows.specs.Present.{is_absent};
+ghost use Rattle.cpg_violation.specs.Heads.{IsHeadFor};
 ghost use Rattle.cpg_violation.specs.Violation.{Holds, IsFirstViolation};
 
 use cpg_base::{OutOfMemory, Scenario};
@@ -98,7 +98,7 @@ pub fn check_present(
     admitted: &Admitted,
     tables: &Tables,
 ) -> Result<Option<Fault>, OutOfMemory>
-    requires { tables.now.head ≡ head_of admitted.now.graph }
+    requires { IsHeadFor admitted.now.graph tables.now.head }
     ensures none { IfOk result (λ r. IfNone r (Holds admitted.now.graph tables.now.nodes 3)) }
     ensures first { IfOk result (λ r. IfSome r (IsFirstViolation admitted.now.graph admitted.now.order tables.now.nodes 3)) }
 {

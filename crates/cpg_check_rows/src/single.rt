@@ -5,8 +5,8 @@ ghost use Rattle.cpg_order.specs.First.{IsFirst};
 ghost use Rattle.cpg_order.specs.Scenario.{Scenario, IsScenario};
 ghost use Rattle.cpg_cube.specs.Cube.{matches};
 ghost use Rattle.cpg_cube.specs.Fit.{IsKnown};
-ghost use Rattle.cpg_table.specs.GraphHead.{head_of};
 ghost use Rattle.cpg_table.specs.Valid.{breaks_single};
+ghost use Rattle.cpg_violation.specs.Heads.{IsHeadFor};
 ghost use Rattle.cpg_violation.specs.Violation.{Holds, IsFirstColumn, IsFirstViolation};
 ghost use Rattle.cpg_check_rows.specs.Single.{is_double};
 
@@ -69,7 +69,7 @@ pub fn check_single(
     admitted: &Admitted,
     tables: &Tables,
 ) -> Result<Option<Fault>, OutOfMemory>
-    requires { tables.now.head ≡ head_of admitted.now.graph }
+    requires { IsHeadFor admitted.now.graph tables.now.head }
     ensures none { IfOk result (λ r. IfNone r (Holds admitted.now.graph tables.now.nodes 2)) }
     ensures first { IfOk result (λ r. IfSome r (IsFirstViolation admitted.now.graph admitted.now.order tables.now.nodes 2)) }
 {

@@ -2,6 +2,7 @@ use Rattle.std.proofs.Common.{◌≡◌, ◌∙◌, ap, ap₂, subst, refl, map,
 use Rattle.cpg_base.specs.Bus.{slot_length}
 use Rattle.cpg_base.specs.Graph.{home, item_count}
 use Rattle.cpg_table.specs.GraphHead.{head_of}
+use Rattle.cpg_violation.proofs.HeadLaws.{tables_of_graph}
 use Rattle.cpg_table.specs.Lawful.{AreTablesOf}
 use Rattle.cpg_table.specs.Table.{Column}
 use Rattle.cpg_table.specs.Valid.{later_by}
@@ -20,7 +21,7 @@ returns-in-Some-clause-first c =
     c.slot_length-delay.ensures ∙ ap (slot_length c.problem-problem.result.now) c.home.ensures ∙ ap (λ h. slot_length h (home h c.loop-item.item)) c.problem-problem.ensures.problem in
     let due : map (later_by c.slot_length-delay.result) c.columns_of-sent.result.now ≡ due_columns g c.args.tables.now.nodes c.loop-item.item =
     ap₂ (λ d (cs : List Column). map (later_by d) cs) delay c.columns_of-sent.ensures.columns in
-    let nodes : length c.args.tables.now.head.nodes ≡ length g.nodes = ap (λ h. length h.nodes) c.requires in
+    let nodes : length c.args.tables.now.head.nodes ≡ length g.nodes = ap length c.requires.nodes in
     let first : IsFirstHear c.args.tables.now.nodes (length g.nodes) c.loop-item.item (due_columns g c.args.tables.now.nodes c.loop-item.item) c.in-Some.place =
     subst (λ cs. IsFirstHear c.args.tables.now.nodes (length g.nodes) c.loop-item.item cs c.in-Some.place) due
     (subst (λ n. IsFirstHear c.args.tables.now.nodes n c.loop-item.item (map (later_by c.slot_length-delay.result) c.columns_of-sent.result.now) c.in-Some.place) nodes c.in-Some.ensures.differ) in
@@ -39,12 +40,12 @@ loop-item-preserved c =
     c.slot_length-delay.ensures ∙ ap (slot_length c.problem-problem.result.now) c.home.ensures ∙ ap (λ h. slot_length h (home h c.loop-item.item)) c.problem-problem.ensures.problem in
     let due : map (later_by c.slot_length-delay.result) c.columns_of-sent.result.now ≡ due_columns g c.args.tables.now.nodes c.loop-item.item =
     ap₂ (λ d (cs : List Column). map (later_by d) cs) delay c.columns_of-sent.ensures.columns in
-    let nodes : length c.args.tables.now.head.nodes ≡ length g.nodes = ap (λ h. length h.nodes) c.requires in
+    let nodes : length c.args.tables.now.head.nodes ≡ length g.nodes = ap length c.requires.nodes in
     let well : IsHeardWell g c.args.tables.now.nodes c.loop-item.item = rw (← due, ← nodes) c.in_default.ensures.same in
     heard_more g c.args.tables.now.nodes c.loop-item.item c.loop-item.invariant well
 
 pub returns-clause-none : goal.returns-clause-none
 returns-clause-none c =
     let g = c.args.admitted.now.graph in
-    let are : AreTablesOf (head_of g) c.args.tables.now.nodes = rw (← c.requires) c.head.ensures.lawful in
+    let are : AreTablesOf (head_of g) c.args.tables.now.nodes = tables_of_graph g c.args.tables.now.head c.args.tables.now.nodes c.requires c.head.ensures.lawful in
     hears_hold g c.problem-problem.ensures.admitted.limits c.args.tables.now.nodes are (λ x l. c.loop-item.invariant x (omega (arith, l, c.loop-item-test.false, c.item_count-item-end.ensures, ap item_count c.problem-problem.ensures.problem)))

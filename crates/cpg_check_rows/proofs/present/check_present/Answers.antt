@@ -1,6 +1,7 @@
 use Rattle.std.proofs.Common.{◌≡◌, false}
 use Rattle.cpg_order.specs.Scenario.{Scenario, IsScenario}
 use Rattle.cpg_table.specs.GraphHead.{head_of}
+use Rattle.cpg_violation.proofs.HeadLaws.{tables_of_graph}
 use Rattle.cpg_table.specs.Lawful.{AreTablesOf}
 use Rattle.cpg_table.specs.Table.{columns_of}
 use Rattle.cpg_check_rows.specs.Present.{is_absent}
@@ -10,7 +11,7 @@ use Rattle.cpg_check_rows.proofs.present.check_present.Goals as goal
 
 pub least_absent-requires-clause-columns : goal.least_absent-requires-clause-columns
 least_absent-requires-clause-columns c =
-    let are : AreTablesOf (head_of c.args.admitted.now.graph) c.args.tables.now.nodes = rw (← c.requires) c.columns_of-columns.ensures.lawful in
+    let are : AreTablesOf (head_of c.args.admitted.now.graph) c.args.tables.now.nodes = tables_of_graph c.args.admitted.now.graph c.args.tables.now.head c.args.tables.now.nodes c.requires c.columns_of-columns.ensures.lawful in
     rw c.columns_of-columns.ensures.columns (columns_known c.problem-problem.ensures.admitted c.args.tables.now.nodes are c.loop-item.item)
 
 pub loop-item-preserved : goal.loop-item-preserved

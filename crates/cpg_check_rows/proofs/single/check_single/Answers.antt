@@ -4,6 +4,7 @@ use Rattle.cpg_order.specs.Scenario.{Scenario, IsScenario}
 use Rattle.cpg_violation.specs.Violation.{IsFirstColumn}
 use Rattle.cpg_check_rows.specs.Single.{is_double}
 use Rattle.cpg_table.specs.GraphHead.{head_of}
+use Rattle.cpg_violation.proofs.HeadLaws.{tables_of_graph}
 use Rattle.cpg_table.specs.Lawful.{AreTablesOf}
 use Rattle.cpg_table.specs.Table.{columns_of}
 use Rattle.cpg_violation.proofs.RowColumns.{columns_few}
@@ -15,7 +16,7 @@ first_double-requires-clause-order c = rw (c.order-order.ensures.order, c.proble
 
 pub first_double-requires-clause-columns : goal.first_double-requires-clause-columns
 first_double-requires-clause-columns c =
-    let are : AreTablesOf (head_of c.args.admitted.now.graph) c.args.tables.now.nodes = rw (← c.requires) c.columns_of-columns.ensures.lawful in
+    let are : AreTablesOf (head_of c.args.admitted.now.graph) c.args.tables.now.nodes = tables_of_graph c.args.admitted.now.graph c.args.tables.now.head c.args.tables.now.nodes c.requires c.columns_of-columns.ensures.lawful in
     rw (c.problem-problem.ensures.problem, c.columns_of-columns.ensures.columns) (columns_known c.order-order.ensures.admitted c.args.tables.now.nodes are c.loop-item.item)
 
 pub first_double-requires-clause-few : goal.first_double-requires-clause-few

@@ -1,0 +1,28 @@
+-- What a check answers.
+use Rattle.std.specs.Prelude.{ℕ, ◌⊎◌, List, Option, Some, None}
+use Rattle.cpg_base.specs.Graph.{Graph}
+use Rattle.cpg_table.specs.Lawful.{Tables}
+use Rattle.cpg_table.specs.Table.{NodeTable}
+use Rattle.cpg_table.specs.Valid.{IsValid}
+use Rattle.cpg_table.specs.declared.fault.Fault.{Fault}
+use Rattle.cpg_violation.specs.Heads.{IsHeadFor}
+use Rattle.cpg_violation.specs.Violation.{HoldFrom, IsFirstOf}
+use Rattle.cpg_check_rows.specs.Hears.{IsFirstHearFault}
+use Rattle.cpg_check.specs.Heads.{IsFirstDifference}
+use Rattle.cpg_check.specs.declared.verdict.Verdict.{Verdict}
+use Rattle.cpg_check.specs.declared.verdict.Verdict.TheVariants.{Yes, Other, No}
+
+-- the first violation of V1 to V9; or, where these hold, of V10
+abbrev pub IsFirstFault : Graph → List ℕ → List NodeTable → Fault → Type 0
+IsFirstFault g order tables f = IsFirstOf g order tables 1 9 f ⊎ (HoldFrom g tables 1 9 × IsFirstHearFault g tables f)
+
+-- None where the tables are valid
+abbrev pub ShowsFault : Graph → List ℕ → List NodeTable → Option Fault → Type 0
+ShowsFault g order tables None = IsValid g tables
+ShowsFault g order tables (Some f) = IsFirstFault g order tables f
+
+-- the first difference of the heads; or, where there is none, whether the tables are valid
+abbrev pub ShowsVerdict : Graph → List ℕ → Tables → Verdict → Type 0
+ShowsVerdict g order t Yes = IsHeadFor g t.head × IsValid g t.nodes
+ShowsVerdict g order t (Other part) = IsFirstDifference g t.head part
+ShowsVerdict g order t (No f) = IsHeadFor g t.head × IsFirstFault g order t.nodes f
