@@ -5,3 +5,4 @@ pub mod Shown
 pub mod Safe
 pub mod MemoryStops
 pub mod Written
+pub mod Later

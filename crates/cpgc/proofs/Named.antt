@@ -2,7 +2,10 @@
 use Rattle.std.proofs.Common.{ℕ, ◌≡◌, List, Option, Some, None, sym, subst, inl, inr}
 use Rattle.std.specs.Prelude.{◌⊎◌, ⊤}
 use Rattle.cpg_base.specs.Graph.{Graph}
-use Rattle.cpg_base.specs.Scenario.{Scenario, IsScenario}
+use Rattle.cpg_base.specs.Scenario.{Scenario, IsScenario, zero_scenario}
+use Rattle.cpg_table.specs.declared.fault.Fault.{Fault}
+use Rattle.cpg_check.specs.Verdict.{IsFirstFault}
+use Rattle.cpg_measure.proofs.Listed.{zero_lawful}
 use Rattle.cpg_words.specs.Parts.{Text}
 use Rattle.cpg_words.specs.Forms.{command_of}
 use Rattle.cpg_words.specs.declared.command.Command.{Command}
@@ -17,10 +20,10 @@ use Rattle.cpg_core.specs.declared.fault.CompileFault.{CompileFault}
 use Rattle.cpg_core.specs.Compilation.{ShowsCompileFault}
 use Rattle.cpgc.specs.declared.halt.Refusal.TheVariants.{NotBuilt}
 use Rattle.cpgc.specs.declared.halt.Halt.{Halt}
-use Rattle.cpgc.specs.declared.halt.Halt.TheVariants.{Words, Read, Refused, Memory}
+use Rattle.cpgc.specs.declared.halt.Halt.TheVariants.{Words, Read, Refused, Unsafe, Memory}
 use Rattle.cpgc.specs.Halts.{halt_of_reading, halt_of_pack, halt_of_rules, halt_of_compile}
 use Rattle.cpgc.specs.Lines.{HasLengths, IsNamed}
-use Rattle.cpgc.specs.Causes.{Seen, StopsReading, BreaksRule, IsUncompiled, IsUnbuiltCommand, StopsGraph, StopsCompile, StopsNaming, StopsNode, StopsCommand, StopsAsked, Stops}
+use Rattle.cpgc.specs.Causes.{Seen, StopsReading, BreaksRule, IsUncompiled, IsUnbuiltCommand, StopsGraph, StopsCompile, StopsTables, StopsNaming, StopsVerdict, StopsCommand, StopsAsked, Stops}
 
 lengths_of : (g : Graph) (s : Scenario) → IsScenario g s → HasLengths g s
 lengths_of g s is = record { values = is.values; faults = is.faults }
@@ -78,18 +81,27 @@ naming_named : (t : Tables) (name : Text) (h : Halt) → StopsNaming t name h �
 naming_named t name h (inl unknown) = named_as h _ unknown.0 tt
 naming_named t name h (inr memory) = named_as h Memory memory tt
 
-node_named : (seen : Seen) (told : Option Text) (name : Text) (h : Halt) → StopsNode seen told name h → IsNamed h
-node_named seen told name h (inl (inl unread)) = named_as h Read unread.halt_is tt
-node_named seen told name h (inl (inr (inl long))) = named_as h _ long.halt_is tt
-node_named seen told name h (inl (inr (inr none))) = named_as h _ none.halt_is (of_pack none.fault)
-node_named seen told name h (inr naming) = naming_named naming.0 name h naming.2
+tables_named : (seen : Seen) (told : Option Text) (work : Tables → Halt → Type 0) → ((t : Tables) (h : Halt) → work t h → IsNamed h) → (h : Halt) → StopsTables seen told work h → IsNamed h
+tables_named seen told work works h (inl (inl unread)) = named_as h Read unread.halt_is tt
+tables_named seen told work works h (inl (inr (inl long))) = named_as h _ long.halt_is tt
+tables_named seen told work works h (inl (inr (inr none))) = named_as h _ none.halt_is (of_pack none.fault)
+tables_named seen told work works h (inr worked) = works worked.0 h worked.2
+
+fault_named : (a : Admission) (t : Tables) (f : Fault) → IsFirstFault a.graph a.order t.nodes f → IsNamed (Unsafe a f)
+fault_named a t f (inl first) = (first.first.item, lengths_of a.graph f.scenario first.first.least.lawful)
+fault_named a t f (inr heard) = (heard.1.item, subst (HasLengths a.graph) (sym heard.1.scenario) (lengths_of a.graph (zero_scenario a.graph) (zero_lawful a.graph)))
+
+verdict_named : (a : Admission) (t : Tables) (h : Halt) → StopsVerdict a t h → IsNamed h
+verdict_named a t h (inl other) = named_as h _ other.halt_is tt
+verdict_named a t h (inr (inl broken)) = named_as h _ broken.halt_is (fault_named a t broken.fault broken.first)
+verdict_named a t h (inr (inr memory)) = named_as h Memory memory tt
 
 command_named : (seen : Seen) (c : Command) (h : Halt) → StopsCommand seen c h → IsNamed h
 command_named seen (Show graph) h so = graph_named seen (seen.stands graph) StopsCompile compile_named h so
 command_named seen (Compile graph) h so = graph_named seen (seen.stands graph) StopsCompile compile_named h so
-command_named seen (Check graph pack) h so = unbuilt_command_named h so
+command_named seen (Check graph pack) h so = graph_named seen (seen.stands graph) (λ a. StopsTables seen (seen.stands pack) (StopsVerdict a)) (λ a. tables_named seen (seen.stands pack) (StopsVerdict a) (verdict_named a)) h so
 command_named seen (Play graph pack scenario turns) h so = unbuilt_command_named h so
-command_named seen (Node pack name) h so = node_named seen (seen.stands pack) name h so
+command_named seen (Node pack name) h so = tables_named seen (seen.stands pack) (λ t. StopsNaming t name) (λ t. naming_named t name) h so
 command_named seen (Trial number) h so = unbuilt_command_named h so
 command_named seen (Live pack name stream) h so = unbuilt_command_named h so
 command_named seen (Hyper parts) h so = unbuilt_command_named h so

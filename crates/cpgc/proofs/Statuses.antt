@@ -17,10 +17,10 @@ use Rattle.cpg_core.specs.declared.fault.CompileFault.{CompileFault}
 use Rattle.cpgc.specs.declared.halt.Refusal.{Refusal}
 use Rattle.cpgc.specs.declared.halt.Refusal.TheVariants.{NotBuilt}
 use Rattle.cpgc.specs.declared.halt.Halt.{Halt}
-use Rattle.cpgc.specs.declared.halt.Halt.TheVariants.{Words, Read, Refused, Late, TooWide, Memory}
+use Rattle.cpgc.specs.declared.halt.Halt.TheVariants.{Words, Read, Refused, Late, TooWide, Unsafe, Memory}
 use Rattle.cpgc.specs.Halts.{halt_of_reading, halt_of_pack, halt_of_rules, halt_of_compile}
 use Rattle.cpgc.specs.Lines.{status_of}
-use Rattle.cpgc.specs.Causes.{Seen, StopsReading, BreaksRule, IsUnbuiltCommand, StopsGraph, StopsCompile, StopsNaming, StopsNode, StopsCommand, StopsAsked, Stops}
+use Rattle.cpgc.specs.Causes.{Seen, StopsReading, BreaksRule, IsUnbuiltCommand, StopsGraph, StopsCompile, StopsTables, StopsNaming, StopsVerdict, StopsCommand, StopsAsked, Stops}
 
 -- a halt of a command isn't one of its words, and is one of the shelf where its faults rose
 record IsOfCommand (seen : Seen) (h : Halt) : Type 0 where
@@ -80,18 +80,23 @@ of_naming : (seen : Seen) (t : Tables) (name : Text) (h : Halt) → StopsNaming 
 of_naming seen t name h (inl unknown) = later seen h _ unknown.0 (omega arith)
 of_naming seen t name h (inr memory) = later seen h _ memory (omega arith)
 
-of_node : (seen : Seen) (told : Option Text) (name : Text) (h : Halt) → StopsNode seen told name h → IsOfCommand seen h
-of_node seen told name h (inl (inl unread)) = let same = ap status_of unread.halt_is in record { not_words = λ one. omega arith; read = λ two. unread.rose }
-of_node seen told name h (inl (inr (inl long))) = later seen h _ long.halt_is (omega arith)
-of_node seen told name h (inl (inr (inr none))) = later seen h _ none.halt_is (of_pack none.fault)
-of_node seen told name h (inr naming) = of_naming seen naming.0 name h naming.2
+of_tables : (seen : Seen) (told : Option Text) (work : Tables → Halt → Type 0) → ((t : Tables) (h : Halt) → work t h → IsOfCommand seen h) → (h : Halt) → StopsTables seen told work h → IsOfCommand seen h
+of_tables seen told work works h (inl (inl unread)) = let same = ap status_of unread.halt_is in record { not_words = λ one. omega arith; read = λ two. unread.rose }
+of_tables seen told work works h (inl (inr (inl long))) = later seen h _ long.halt_is (omega arith)
+of_tables seen told work works h (inl (inr (inr none))) = later seen h _ none.halt_is (of_pack none.fault)
+of_tables seen told work works h (inr worked) = works worked.0 h worked.2
+
+of_verdict : (seen : Seen) (a : Admission) (t : Tables) (h : Halt) → StopsVerdict a t h → IsOfCommand seen h
+of_verdict seen a t h (inl other) = later seen h _ other.halt_is (omega arith)
+of_verdict seen a t h (inr (inl broken)) = later seen h _ broken.halt_is (omega arith)
+of_verdict seen a t h (inr (inr memory)) = later seen h _ memory (omega arith)
 
 of_command : (seen : Seen) (c : Command) (h : Halt) → StopsCommand seen c h → IsOfCommand seen h
 of_command seen (Show graph) h so = of_graph seen (seen.stands graph) StopsCompile (of_made seen) h so
 of_command seen (Compile graph) h so = of_graph seen (seen.stands graph) StopsCompile (of_made seen) h so
-of_command seen (Check graph pack) h so = unbuilt_command seen h so
+of_command seen (Check graph pack) h so = of_graph seen (seen.stands graph) (λ a. StopsTables seen (seen.stands pack) (StopsVerdict a)) (λ a. of_tables seen (seen.stands pack) (StopsVerdict a) (of_verdict seen a)) h so
 of_command seen (Play graph pack scenario turns) h so = unbuilt_command seen h so
-of_command seen (Node pack name) h so = of_node seen (seen.stands pack) name h so
+of_command seen (Node pack name) h so = of_tables seen (seen.stands pack) (λ t. StopsNaming t name) (λ t. of_naming seen t name) h so
 of_command seen (Trial number) h so = unbuilt_command seen h so
 of_command seen (Live pack name stream) h so = unbuilt_command seen h so
 of_command seen (Hyper parts) h so = unbuilt_command seen h so
@@ -127,6 +132,7 @@ refused_of Read four = absurd (omega arith)
 refused_of (Refused r) four = (r, refl)
 refused_of (Late a s p time) four = absurd (omega arith)
 refused_of (TooWide a x) four = absurd (omega arith)
+refused_of (Unsafe a f) four = absurd (omega arith)
 refused_of Memory four = absurd (omega arith)
 
 pub not_three : (h : Halt) → status_of h ≡ 3 → ⊥
@@ -135,6 +141,7 @@ not_three Read e = omega arith
 not_three (Refused r) e = omega arith
 not_three (Late a s p time) e = omega arith
 not_three (TooWide a x) e = omega arith
+not_three (Unsafe a f) e = omega arith
 not_three Memory e = omega arith
 
 pub not_zero : (h : Halt) → status_of h ≡ 0 → ⊥
@@ -143,4 +150,5 @@ not_zero Read e = omega arith
 not_zero (Refused r) e = omega arith
 not_zero (Late a s p time) e = omega arith
 not_zero (TooWide a x) e = omega arith
+not_zero (Unsafe a f) e = omega arith
 not_zero Memory e = omega arith

@@ -18,12 +18,17 @@ use Rattle.cpg_codec.specs.declared.fault.PackFault.{PackFault}
 use Rattle.cpg_codec.specs.Packs.{AreLawful, IsBadPack}
 use Rattle.cpg_codec.specs.Spelling.{spelling}
 use Rattle.cpg_order.specs.Scenario.{scenarios}
+use Rattle.cpg_table.specs.declared.fault.Fault.{Fault}
+use Rattle.cpg_violation.specs.Heads.{IsHeadFor}
+use Rattle.cpg_check.specs.declared.heads.HeadPart.{HeadPart}
+use Rattle.cpg_check.specs.Heads.{IsFirstDifference}
+use Rattle.cpg_check.specs.Verdict.{IsFirstFault}
 use Rattle.cpg_core.specs.declared.fault.CompileFault.{CompileFault}
 use Rattle.cpg_core.specs.Compilation.{ShowsCompileFault}
 use Rattle.cpgc.specs.declared.halt.Refusal.{Refusal}
-use Rattle.cpgc.specs.declared.halt.Refusal.TheVariants.{LongGraph, LongPack, UnknownNode, NotBuilt}
+use Rattle.cpgc.specs.declared.halt.Refusal.TheVariants.{LongGraph, LongPack, OtherGraph, UnknownNode, NotBuilt}
 use Rattle.cpgc.specs.declared.halt.Halt.{Halt}
-use Rattle.cpgc.specs.declared.halt.Halt.TheVariants.{Words, Read, Refused, Memory}
+use Rattle.cpgc.specs.declared.halt.Halt.TheVariants.{Words, Read, Refused, Unsafe, Memory}
 use Rattle.cpgc.specs.Halts.{halt_of_reading, halt_of_pack, halt_of_rules, halt_of_compile}
 
 -- what a run sees of its shelf: what stands under each name, how many bytes the last fetched name gave, and the count
@@ -120,6 +125,27 @@ pub record IsNoPack (told : Option Text) (halt : Halt) : Type 0 where
 abbrev pub StopsPack : Seen → Option Text → Halt → Type 0
 StopsPack seen told halt = IsUnread seen halt ⊎ (IsLong pack_limit LongPack seen told halt ⊎ IsNoPack told halt)
 
+-- a pack stops a run: its bytes spell no tables, or what the command does with them stops it
+abbrev pub StopsTables : Seen → Option Text → (Tables → Halt → Type 0) → Halt → Type 0
+StopsTables seen told work halt = StopsPack seen told halt ⊎ ((t : Tables) × Spells told t × work t halt)
+
+-- the tables are another graph's: the first part of the head that differs
+pub record IsOtherGraph (a : Admission) (t : Tables) (halt : Halt) : Type 0 where
+  pub part : HeadPart
+  pub halt_is : halt ≡ Refused (OtherGraph part)
+  pub first : IsFirstDifference a.graph t.head part
+
+-- they break a rule: the first violation
+pub record IsUnsafe (a : Admission) (t : Tables) (halt : Halt) : Type 0 where
+  pub fault : Fault
+  pub halt_is : halt ≡ Unsafe a fault
+  pub head : IsHeadFor a.graph t.head
+  pub first : IsFirstFault a.graph a.order t.nodes fault
+
+-- to check tables for a graph
+abbrev pub StopsVerdict : Admission → Tables → Halt → Type 0
+StopsVerdict a t halt = IsOtherGraph a t halt ⊎ (IsUnsafe a t halt ⊎ (halt ≡ Memory))
+
 -- the number of the first node of a name
 abbrev pub first_named : Head → Text → Option ℕ
 first_named h name = position (λ node. bytes_eq node name) h.nodes
@@ -128,10 +154,6 @@ first_named h name = position (λ node. bytes_eq node name) h.nodes
 abbrev pub StopsNaming : Tables → Text → Halt → Type 0
 StopsNaming t name halt = ((halt ≡ Refused UnknownNode) × (first_named t.head name ≡ None)) ⊎ (halt ≡ Memory)
 
--- to print a node's table from a pack
-abbrev pub StopsNode : Seen → Option Text → Text → Halt → Type 0
-StopsNode seen told name halt = StopsPack seen told halt ⊎ ((t : Tables) × Spells told t × StopsNaming t name halt)
-
 -- a command stops as one that isn't built, or for want of memory
 abbrev pub IsUnbuiltCommand : Halt → Type 0
 IsUnbuiltCommand halt = IsUnbuilt halt ⊎ (halt ≡ Memory)
@@ -139,9 +161,9 @@ IsUnbuiltCommand halt = IsUnbuilt halt ⊎ (halt ≡ Memory)
 abbrev pub StopsCommand : Seen → Command → Halt → Type 0
 StopsCommand seen (Show graph) halt = StopsGraph seen (seen.stands graph) StopsCompile halt
 StopsCommand seen (Compile graph) halt = StopsGraph seen (seen.stands graph) StopsCompile halt
-StopsCommand seen (Check graph pack) halt = IsUnbuiltCommand halt
+StopsCommand seen (Check graph pack) halt = StopsGraph seen (seen.stands graph) (λ a. StopsTables seen (seen.stands pack) (StopsVerdict a)) halt
 StopsCommand seen (Play graph pack scenario turns) halt = IsUnbuiltCommand halt
-StopsCommand seen (Node pack name) halt = StopsNode seen (seen.stands pack) name halt
+StopsCommand seen (Node pack name) halt = StopsTables seen (seen.stands pack) (λ t. StopsNaming t name) halt
 StopsCommand seen (Trial number) halt = IsUnbuiltCommand halt
 StopsCommand seen (Live pack name stream) halt = IsUnbuiltCommand halt
 StopsCommand seen (Hyper parts) halt = IsUnbuiltCommand halt

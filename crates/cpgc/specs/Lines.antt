@@ -1,5 +1,5 @@
 -- The exit status of a run that stops without an output, and the line that it writes.
-use Rattle.std.specs.Prelude.{ℕ, ◌+◌, ◌-◌, ◌≡◌, ◌<◌, nat_lt, if◌then◌else◌, List, [], ◌++◌, length, get_or, codes, ⊤}
+use Rattle.std.specs.Prelude.{ℕ, ◌+◌, ◌-◌, ◌≡◌, ◌<◌, nat_lt, if◌then◌else◌, List, [], ◌++◌, Option, Some, None, length, get_or, codes, ⊤}
 use Rattle.std.specs.List.{flat_map}
 use Rattle.std.specs.Fmt.{decimal}
 use Rattle.cpg_base.specs.Graph.{Graph, process_count, edge_count, condition_count, item_count, process_at, process_of}
@@ -13,10 +13,13 @@ use Rattle.cpg_reader.specs.declared.place.Place.{Place}
 use Rattle.cpg_reader.specs.declared.place.What.{What}
 use Rattle.cpg_reader.specs.declared.place.What.TheVariants.{Nodes, Slots, Processes, Edges, Number, Conditions}
 use Rattle.cpg_reader.specs.Rows.{text_of}
+use Rattle.cpg_check.specs.declared.heads.HeadPart.{HeadPart}
+use Rattle.cpg_check.specs.declared.heads.HeadPart.TheVariants.{Faults}
+use Rattle.cpg_table.specs.declared.fault.Fault.{Fault}
 use Rattle.cpgc.specs.declared.halt.Refusal.{Refusal}
-use Rattle.cpgc.specs.declared.halt.Refusal.TheVariants.{NotToml, BadField, DoubleName, UnknownName, OverLimit, Cycle, TwoAlternatives, NoSlot, TooBig, BadPack, LongGraph, LongPack, TooManyTracks, UnknownNode, NotBuilt}
+use Rattle.cpgc.specs.declared.halt.Refusal.TheVariants.{NotToml, BadField, DoubleName, UnknownName, OverLimit, Cycle, TwoAlternatives, NoSlot, TooBig, BadPack, LongGraph, LongPack, OtherGraph, TooManyTracks, UnknownNode, NotBuilt}
 use Rattle.cpgc.specs.declared.halt.Halt.{Halt}
-use Rattle.cpgc.specs.declared.halt.Halt.TheVariants.{Words, Read, Refused, Late, TooWide, Memory}
+use Rattle.cpgc.specs.declared.halt.Halt.TheVariants.{Words, Read, Refused, Late, TooWide, Unsafe, Memory}
 
 abbrev pub status_of : Halt → ℕ
 status_of Words = 1
@@ -24,6 +27,7 @@ status_of Read = 2
 status_of (Refused refusal) = 4
 status_of (Late a s p time) = 5
 status_of (TooWide a x) = 6
+status_of (Unsafe a f) = 7
 status_of Memory = 8
 
 -- a key as it is written in the file, or `unknown`
@@ -70,6 +74,13 @@ cycle_text g walk = codes "6 cycle" ++ flat_map (λ p. codes " " ++ name_of g p)
 abbrev pub alternatives_text : Graph → ℕ → Scenario → List ℕ
 alternatives_text g p s = codes "7 alternatives " ++ case_text g p s
 
+-- a part of a head
+abbrev pub part_text : HeadPart → List ℕ
+part_text Faults = codes "faults"
+part_text HeadPart.Nodes = codes "nodes"
+part_text HeadPart.Processes = codes "processes"
+part_text HeadPart.Edges = codes "edges"
+
 -- a refusal: its number, its kind, and where it is
 abbrev pub refusal_text : Refusal → List ℕ
 refusal_text NotToml = codes "1 not toml"
@@ -84,6 +95,7 @@ refusal_text (TooBig e) = codes "9 big e" ++ decimal e
 refusal_text (BadPack length) = codes "10 pack " ++ decimal length
 refusal_text LongGraph = codes "16 long graph"
 refusal_text LongPack = codes "16 long pack"
+refusal_text (OtherGraph part) = codes "17 other graph " ++ part_text part
 refusal_text TooManyTracks = codes "18 tracks"
 refusal_text UnknownNode = codes "19 node"
 refusal_text NotBuilt = codes "20 not built"
@@ -102,12 +114,22 @@ item_text g x =
     if nat_lt x (process_count g + edge_count g) then codes "send e" ++ decimal (x - process_count g) else
     codes "tell " ++ name_of g (process_of g (x - (process_count g + edge_count g)))
 
+-- the number of a column, or a dash where there is none
+abbrev pub column_text : Option ℕ → List ℕ
+column_text None = codes "-"
+column_text (Some column) = decimal column
+
+-- a violation of a rule: the rule, the item and its column, and the scenario
+abbrev pub unsafe_text : Graph → Fault → List ℕ
+unsafe_text g f = codes "unsafe V" ++ decimal f.rule ++ codes " " ++ item_text g f.item ++ codes " column " ++ column_text f.column ++ codes " in " ++ scenario_text g f.scenario
+
 abbrev pub reason_text : Halt → List ℕ
 reason_text Words = codes "words"
 reason_text Read = codes "read fault"
 reason_text (Refused refusal) = refused_text refusal
 reason_text (Late a s p time) = late_text a.graph s p time
 reason_text (TooWide a x) = codes "too wide " ++ item_text a.graph x
+reason_text (Unsafe a f) = unsafe_text a.graph f
 reason_text Memory = codes "memory"
 
 -- the line on `err`
@@ -132,4 +154,5 @@ abbrev pub IsNamed : Halt → Type 0
 IsNamed (Refused refusal) = IsNamedRefusal refusal
 IsNamed (Late a s p time) = HasLengths a.graph s
 IsNamed (TooWide a x) = x < item_count a.graph
+IsNamed (Unsafe a f) = (f.item < item_count a.graph) × HasLengths a.graph f.scenario
 IsNamed halt = ⊤

@@ -1,5 +1,5 @@
 -- What a command puts out.
-use Rattle.std.specs.Prelude.{ℕ, ◌≡◌, List, Option, Some, None, string_bytes}
+use Rattle.std.specs.Prelude.{ℕ, ◌≡◌, List, Option, Some, None, codes, string_bytes}
 use Rattle.cpg_base.specs.Graph.{Graph}
 use Rattle.cpg_words.specs.Parts.{Text}
 use Rattle.cpg_words.specs.Forms.{command_of}
@@ -8,6 +8,7 @@ use Rattle.cpg_words.specs.declared.command.Command.TheVariants.{Show, Compile, 
 use Rattle.cpg_rules.specs.Admission.{Admission}
 use Rattle.cpg_table.specs.Table.{NodeTable}
 use Rattle.cpg_table.specs.Valid.{IsValid}
+use Rattle.cpg_violation.specs.Heads.{IsHeadFor}
 use Rattle.cpg_core.specs.declared.compiling.Compiled.{Compiled}
 use Rattle.cpg_core.specs.Compilation.{IsCompilation}
 use Rattle.cpg_cluster.specs.Correct.{IsCorrect, IsLively, IsSteady, EndsAsPlanned}
@@ -59,15 +60,28 @@ pub record IsNodeText (t : Tables) (name text : Text) : Type 0 where
   pub named : first_named t.head name ≡ Some node
   pub spelled : text ≡ node_text t node
 
--- in the tables that the bytes of a pack spell
+-- so of the tables that the bytes of a pack spell
+abbrev pub IsSpelled : Option Text → (Tables → Type 0) → Type 0
+IsSpelled told fact = (t : Tables) × Spells told t × fact t
+
 abbrev pub IsNodeOf : Option Text → Text → Text → Type 0
-IsNodeOf told name text = (t : Tables) × Spells told t × IsNodeText t name text
+IsNodeOf told name text = IsSpelled told (λ t. IsNodeText t name text)
+
+-- the tables have the graph's head and are safe, and the text says so
+pub record IsSafeText (a : Admission) (t : Tables) (text : Text) : Type 0 where
+  pub head : IsHeadFor a.graph t.head
+  pub safe : AreSafe a.graph t.nodes
+  pub spelled : text ≡ codes "safe\n"
+
+-- of the graph of a file and the tables of a pack
+abbrev pub IsChecked : Option Text → Option Text → Text → Type 0
+IsChecked graph pack text = (a : Admission) × Admits graph a × IsSpelled pack (λ t. IsSafeText a t text)
 
 -- a command's output
 abbrev pub PrintsCommand : Seen → Command → Text → Type 0
 PrintsCommand seen (Show graph) text = IsMade (seen.stands graph) shown text
 PrintsCommand seen (Compile graph) text = IsMade (seen.stands graph) packed text
-PrintsCommand seen (Check graph pack) text = ⊥
+PrintsCommand seen (Check graph pack) text = IsChecked (seen.stands graph) (seen.stands pack) text
 PrintsCommand seen (Play graph pack scenario turns) text = ⊥
 PrintsCommand seen (Node pack name) text = IsNodeOf (seen.stands pack) name text
 PrintsCommand seen (Trial number) text = ⊥

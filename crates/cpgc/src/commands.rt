@@ -1,15 +1,19 @@
 //! What each command does before anything is written.
-ghost use Rattle.std.specs.Prelude.{◌≡◌, ◌<◌, All, IfOk, IfErr, IfSome, length, map, string_bytes};
+ghost use Rattle.std.specs.Prelude.{◌≡◌, ◌<◌, ◌≤◌, ◌++◌, All, IfOk, IfErr, IfSome, length, map, string_bytes};
+ghost use Rattle.std.specs.Prelude.{codes};
 ghost use Rattle.std.specs.Str.{bytes_eq};
 ghost use Rattle.cpg_words.specs.FileWords.{file_words, file_words_of};
+ghost use Rattle.cpg_io.specs.Shelf.{SameLeave, SameNames};
 ghost use Rattle.cpg_core.specs.Compilation.{IsCompilation};
-ghost use Rattle.cpgc.specs.Causes.{Admits, first_named, IsUnbuilt, Stops, StopsAdmission, StopsCommand, StopsCompile, StopsGraph, StopsNaming, StopsNode};
-ghost use Rattle.cpgc.specs.Outputs.{bytes_of, packed, shown, AreSafe, IsMade, IsMadeOf, IsNodeOf, IsNodeText, Prints, PrintsCommand};
+ghost use Rattle.cpgc.specs.declared.halt.Halt.TheVariants.{Memory};
+ghost use Rattle.cpgc.specs.Causes.{Admits, first_named, IsUnbuilt, Stops, StopsAdmission, StopsCommand, StopsCompile, StopsGraph, StopsNaming, StopsTables, StopsVerdict};
+ghost use Rattle.cpgc.specs.Outputs.{bytes_of, packed, shown, AreSafe, IsMade, IsMadeOf, IsNodeOf, IsNodeText, IsChecked, IsSafeText, IsSpelled, Prints, PrintsCommand};
 
 use crate::halt::{Halt, Refusal};
 use crate::output::Output;
 use crate::reading::{admit_graph, read_graph, read_tables};
 use cpg_base::Name;
+use cpg_check::{Verdict, check};
 use cpg_core::{Compiled, compile};
 use cpg_io::Shelf;
 use cpg_measure::has_few_scenarios;
@@ -77,6 +81,9 @@ fn pack_of(alloc: Global, admitted: Admitted) -> Result<Output, Halt>
 /// Reads and admits a graph file.
 fn admitted_file<S: Shelf>(alloc: Global, shelf: &mut S, name: &str) -> Result<Admitted, Halt>
     requires { S.may_fetch shelf.old name.now }
+    ensures names { SameNames (S.stands shelf.old) (S.stands shelf.new) }
+    ensures leave { SameLeave (S.may_fetch shelf.old) (S.may_fetch shelf.new) }
+    ensures later { S.faults shelf.old ≤ S.faults shelf.new }
     ensures graph { IfOk result (Admits (S.stands shelf.old name.now)) }
     ensures halt { IfErr result (StopsAdmission (record { stands = S.stands shelf.old; given = S.given shelf.new; before = S.faults shelf.old; now = S.faults shelf.new }) (S.stands shelf.old name.now)) }
 {
@@ -118,6 +125,67 @@ fn admit_only<S: Shelf>(alloc: Global, shelf: &mut S, name: &str) -> Halt
     }
 }
 
+/// The output of a check that found no fault.
+fn safe_line(alloc: Global) -> Result<Output, Halt>
+    ensures text { IfOk result (λ o. bytes_of o ≡ codes "safe\n") }
+    ensures halt { IfErr result (λ h. h ≡ Memory) }
+{
+    match String::from_str(alloc, "safe\n") {
+        Ok(text) => Ok(Output::Lines(text)),
+        Err(_) => Err(Halt::Memory),
+    }
+}
+
+/// Whether tables are valid for an admitted graph.
+fn verdict_of(alloc: Global, admitted: Admitted, tables: &Tables) -> Result<Output, Halt>
+    ensures text { IfOk result (λ o. IsSafeText admitted tables.now (bytes_of o)) }
+    ensures halt { IfErr result (StopsVerdict admitted tables.now) }
+{
+    let _graph = admitted.problem();
+    let _head = tables.head();
+    match check(alloc, &admitted, tables) {
+        Ok(Verdict::Yes) => safe_line(alloc),
+        Ok(Verdict::Other(part)) => Err(Halt::Refused(Refusal::OtherGraph(part))),
+        Ok(Verdict::No(fault)) => Err(Halt::Unsafe {
+            graph: admitted,
+            fault,
+        }),
+        Err(_) => Err(Halt::Memory),
+    }
+}
+
+/// Checks a pack for an admitted graph.
+fn check_pack<S: Shelf>(
+    alloc: Global,
+    shelf: &mut S,
+    admitted: Admitted,
+    pack: &str,
+) -> Result<Output, Halt>
+    requires { S.may_fetch shelf.old pack.now }
+    ensures text { IfOk result (λ o. IsSpelled (S.stands shelf.old pack.now) (λ t. IsSafeText admitted t (bytes_of o))) }
+    ensures halt { IfErr result (StopsTables (record { stands = S.stands shelf.old; given = S.given shelf.new; before = S.faults shelf.old; now = S.faults shelf.new }) (S.stands shelf.old pack.now) (StopsVerdict admitted)) }
+{
+    let tables = read_tables(alloc, shelf, pack)?;
+    let output = verdict_of(alloc, admitted, &tables)?;
+    Ok(output)
+}
+
+/// Checks a pack for the graph of a file.
+fn check_files<S: Shelf>(
+    alloc: Global,
+    shelf: &mut S,
+    graph: &str,
+    pack: &str,
+) -> Result<Output, Halt>
+    requires graph { S.may_fetch shelf.old graph.now }
+    requires pack { S.may_fetch shelf.old pack.now }
+    ensures text { IfOk result (λ o. IsChecked (S.stands shelf.old graph.now) (S.stands shelf.old pack.now) (bytes_of o)) }
+    ensures halt { IfErr result (StopsGraph (record { stands = S.stands shelf.old; given = S.given shelf.new; before = S.faults shelf.old; now = S.faults shelf.new }) (S.stands shelf.old graph.now) (λ a. StopsTables (record { stands = S.stands shelf.old; given = S.given shelf.new; before = S.faults shelf.old; now = S.faults shelf.new }) (S.stands shelf.old pack.now) (StopsVerdict a))) }
+{
+    let admitted = admitted_file(alloc, shelf, graph)?;
+    check_pack(alloc, shelf, admitted, pack)
+}
+
 /// Whether a node has a name.
 fn is_named(node: &Name, name: &str) -> bool
     ensures { result ≡ bytes_eq node.now name.now }
@@ -152,7 +220,7 @@ fn node_lines(alloc: Global, tables: &Tables, name: &str) -> Result<Output, Halt
 fn node<S: Shelf>(alloc: Global, shelf: &mut S, pack: &str, name: &str) -> Result<Output, Halt>
     requires { S.may_fetch shelf.old pack.now }
     ensures text { IfOk result (λ o. IsNodeOf (S.stands shelf.old pack.now) name.now (bytes_of o)) }
-    ensures halt { IfErr result (StopsNode (record { stands = S.stands shelf.old; given = S.given shelf.new; before = S.faults shelf.old; now = S.faults shelf.new }) (S.stands shelf.old pack.now) name.now) }
+    ensures halt { IfErr result (StopsTables (record { stands = S.stands shelf.old; given = S.given shelf.new; before = S.faults shelf.old; now = S.faults shelf.new }) (S.stands shelf.old pack.now) (λ t. StopsNaming t name.now)) }
 {
     let tables = read_tables(alloc, shelf, pack)?;
     let lines = node_lines(alloc, &tables, name)?;
@@ -168,6 +236,9 @@ fn command_output<S: Shelf>(alloc: Global, shelf: &mut S, command: &Command) -> 
     match command {
         Command::Show { graph } => show(alloc, shelf, graph.as_str()),
         Command::Compile { graph } => pack(alloc, shelf, graph.as_str()),
+        Command::Check { graph, pack } => {
+            check_files(alloc, shelf, graph.as_str(), pack.as_str())
+        }
         Command::Node { pack, name } => node(alloc, shelf, pack.as_str(), name.as_str()),
         Command::Tune { graph } => Err(admit_only(alloc, shelf, graph.as_str())),
         _ => Err(Halt::Refused(Refusal::NotBuilt)),

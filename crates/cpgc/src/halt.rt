@@ -4,11 +4,13 @@ ghost use Rattle.cpgc.specs.Lines.{status_of};
 ghost use Rattle.cpgc.specs.Halts.{halt_of_reading, halt_of_pack, halt_of_rules, halt_of_compile};
 
 use cpg_base::{Problem, Scenario};
+use cpg_check::HeadPart;
 use cpg_codec::PackFault;
 use cpg_core::CompileFault;
 use cpg_order::Walk;
 use cpg_reader::{Place, ReadFault, What};
 use cpg_rules::{Admitted, Refused, RuleFault};
+use cpg_table::Fault;
 
 /// Why a file or a command is refused. A place or a number is always the first one.
 #[derive(Drop)]
@@ -54,6 +56,8 @@ pub enum Refusal {
     LongGraph,
     /// The pack gave more than 268,435,456 bytes.
     LongPack,
+    /// The pack is another graph's: the first part of its head that differs.
+    OtherGraph(HeadPart),
     /// The graph has more than 16,384 tracks.
     TooManyTracks,
     /// No node of the pack has the name.
@@ -89,6 +93,13 @@ pub enum Halt {
         /// The least such item.
         item: u32,
     },
+    /// The tables of a pack break a rule.
+    Unsafe {
+        /// The graph.
+        graph: Admitted,
+        /// The first violation.
+        fault: Fault,
+    },
     /// Want of memory.
     Memory,
 }
@@ -104,6 +115,7 @@ impl Halt {
             Halt::Refused(_) => 4,
             Halt::Late { .. } => 5,
             Halt::TooWide { .. } => 6,
+            Halt::Unsafe { .. } => 7,
             Halt::Memory => 8,
         }
     }

@@ -1,12 +1,13 @@
 //! The line of a run that stops without an output.
 ghost use Rattle.std.specs.Prelude.{◌≡◌, ◌<◌, ◌++◌, OnOk, IfOk, codes, string_bytes};
 ghost use Rattle.cpg_base.specs.Graph.{item_count};
-ghost use Rattle.cpgc.specs.Lines.{case_text, item_text, late_text, line_of, name_of, reason_text, IsNamed, HasLengths};
+ghost use Rattle.cpgc.specs.Lines.{case_text, column_text, item_text, unsafe_text, late_text, line_of, name_of, reason_text, IsNamed, HasLengths};
 
 use crate::halt::Halt;
 use crate::refusals::write_refused;
 use cpg_base::{OutOfMemory, Problem, Scenario};
 use cpg_scenario::scenario_text;
+use cpg_table::Fault;
 use std::alloc::{AllocError, Global};
 
 /// The name of a process, or nothing where there is no such process.
@@ -77,6 +78,32 @@ fn write_wide(out: &mut String, problem: &Problem, item: u32) -> Result<(), Allo
     write_item(out, problem, item)
 }
 
+/// The number of a column, or a dash where there is none.
+fn write_column(out: &mut String, column: Option<u32>) -> Result<(), AllocError>
+    ensures { OnOk result (string_bytes out.new ≡ string_bytes out.old ++ column_text column) }
+{
+    match column {
+        Some(column) => write!(out, "{column}"),
+        None => out.push_str("-"),
+    }
+}
+
+/// A violation of a rule.
+fn write_unsafe(out: &mut String, problem: &Problem, fault: &Fault) -> Result<(), OutOfMemory>
+    requires item { fault.now.item < item_count problem.now }
+    requires scenario { HasLengths problem.now fault.now.scenario }
+    ensures { OnOk result (string_bytes out.new ≡ string_bytes out.old ++ unsafe_text problem.now fault.now) }
+{
+    let rule = fault.rule;
+    write!(out, "unsafe V{rule} ")?;
+    write_item(out, problem, fault.item)?;
+    out.push_str(" column ")?;
+    write_column(out, fault.column)?;
+    let text = scenario_text(*out.allocator(), problem, &fault.scenario)?;
+    write!(out, " in {text}")?;
+    Ok(())
+}
+
 fn write_reason(out: &mut String, halt: &Halt) -> Result<(), OutOfMemory>
     requires { IsNamed halt.now }
     ensures { OnOk result (string_bytes out.new ≡ string_bytes out.old ++ reason_text halt.now) }
@@ -92,6 +119,7 @@ fn write_reason(out: &mut String, halt: &Halt) -> Result<(), OutOfMemory>
             finish,
         } => write_late(out, graph.problem(), scenario, *process, *finish)?,
         Halt::TooWide { graph, item } => write_wide(out, graph.problem(), *item)?,
+        Halt::Unsafe { graph, fault } => write_unsafe(out, graph.problem(), fault)?,
         Halt::Memory => out.push_str("memory")?,
     }
     Ok(())

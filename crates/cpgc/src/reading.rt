@@ -1,5 +1,6 @@
 //! What the files of a command say.
-ghost use Rattle.std.specs.Prelude.{◌≡◌, IfOk, IfErr};
+ghost use Rattle.std.specs.Prelude.{◌≡◌, ◌≤◌, IfOk, IfErr};
+ghost use Rattle.cpg_io.specs.Shelf.{SameLeave, SameNames};
 ghost use Rattle.cpg_rules.specs.Admission.{IsAdmitted};
 ghost use Rattle.cpgc.specs.Causes.{BreaksRule, Says, Spells, StopsPack, StopsReading};
 
@@ -21,6 +22,9 @@ const PACK_LIMIT: usize = 268_435_456;
 /// Reads a graph file whole, and the graph that it says.
 pub fn read_graph<S: Shelf>(alloc: Global, shelf: &mut S, name: &str) -> Result<Problem, Halt>
     requires { S.may_fetch shelf.old name.now }
+    ensures names { SameNames (S.stands shelf.old) (S.stands shelf.new) }
+    ensures leave { SameLeave (S.may_fetch shelf.old) (S.may_fetch shelf.new) }
+    ensures later { S.faults shelf.old ≤ S.faults shelf.new }
     ensures graph { IfOk result (Says (S.stands shelf.old name.now)) }
     ensures halt { IfErr result (StopsReading (record { stands = S.stands shelf.old; given = S.given shelf.new; before = S.faults shelf.old; now = S.faults shelf.new }) (S.stands shelf.old name.now)) }
 {

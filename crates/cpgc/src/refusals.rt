@@ -1,10 +1,11 @@
 //! The texts of refusals.
 ghost use Rattle.std.specs.Prelude.{◌≡◌, ◌++◌, OnOk, codes, flat_map, string_bytes};
-ghost use Rattle.cpgc.specs.Lines.{alternatives_text, cycle_text, key_text, name_of, node_name, place_text, refusal_text, refused_text, table_text, what_text, HasLengths, IsNamedRefusal};
+ghost use Rattle.cpgc.specs.Lines.{alternatives_text, cycle_text, key_text, name_of, node_name, part_text, place_text, refusal_text, refused_text, table_text, what_text, HasLengths, IsNamedRefusal};
 
 use crate::halt::Refusal;
 use crate::lines::{name_of, write_case};
 use cpg_base::{OutOfMemory, Problem, Scenario};
+use cpg_check::HeadPart;
 use cpg_reader::{Key, Place, Table, What};
 use std::alloc::AllocError;
 
@@ -113,6 +114,24 @@ fn write_slot(out: &mut String, problem: &Problem, node: u32) -> Result<(), Allo
     write!(out, "8 slot {name}")
 }
 
+fn part_text(part: HeadPart) -> &'static str
+    ensures { result.now ≡ part_text part }
+{
+    match part {
+        HeadPart::Faults => "faults",
+        HeadPart::Nodes => "nodes",
+        HeadPart::Processes => "processes",
+        HeadPart::Edges => "edges",
+    }
+}
+
+fn write_other(out: &mut String, part: HeadPart) -> Result<(), AllocError>
+    ensures { OnOk result (string_bytes out.new ≡ string_bytes out.old ++ (codes "17 other graph " ++ part_text part)) }
+{
+    let part = part_text(part);
+    write!(out, "17 other graph {part}")
+}
+
 fn write_refusal(out: &mut String, refusal: &Refusal) -> Result<(), OutOfMemory>
     requires { IsNamedRefusal refusal.now }
     ensures { OnOk result (string_bytes out.new ≡ string_bytes out.old ++ refusal_text refusal.now) }
@@ -134,6 +153,7 @@ fn write_refusal(out: &mut String, refusal: &Refusal) -> Result<(), OutOfMemory>
         Refusal::BadPack(length) => write!(out, "10 pack {length}")?,
         Refusal::LongGraph => out.push_str("16 long graph")?,
         Refusal::LongPack => out.push_str("16 long pack")?,
+        Refusal::OtherGraph(part) => write_other(out, *part)?,
         Refusal::TooManyTracks => out.push_str("18 tracks")?,
         Refusal::UnknownNode => out.push_str("19 node")?,
         Refusal::NotBuilt => out.push_str("20 not built")?,
