@@ -2,11 +2,11 @@
 use Rattle.std.proofs.Common.{ℕ, suc, ltb, ◌<◌, ◌≤◌, ◌≡◌, ◌≢◌, ◌==◌, Bool, true, false, List, [], ◌∷◌, ◌++◌, map, filter, flat_map, Contains, arith, refl, sym, ap, ◌∙◌, subst, inl, inr, eq-eqb, eqb-true, ne_eqb}
 use Rattle.std.specs.List.{list_any}
 use Rattle.std.proofs.lemmas.Bool.{cases_Bool, cond-false, both_ways}
-use Rattle.std.proofs.lemmas.List.Elements.{Contains-append_left, Contains-append_right}
+use Rattle.std.proofs.lemmas.List.Elements.{Contains-append_cases, Contains-append_left, Contains-append_right}
 use Rattle.std.proofs.lemmas.List.Kept.{AllPairs-from_increasing, IsStrictlyIncreasing-filter}
 use Rattle.cpg_base.specs.Numbers.{numbers_below, greatest}
 use Rattle.cpg_base.specs.Graph.{Graph, process_count, condition_count, value_variable}
-use Rattle.cpg_base.proofs.Lists.{Contains-first, Contains-rest, Contains-map, Contains-map_parts, Contains-filter, Contains-filter_parts, Contains-numbers, Contains-flat_map, numbers_rise, all_from, from_all, same_map, list_any_true, list_any_parts, greatest_above}
+use Rattle.cpg_base.proofs.Lists.{Contains-first, Contains-rest, Contains-map, Contains-map_parts, Contains-filter, Contains-filter_parts, Contains-numbers, Contains-flat_map, Contains-flat_map_parts, numbers_rise, all_from, from_all, same_map, list_any_true, list_any_parts, greatest_above}
 use Rattle.cpg_base.proofs.Pairs.{AllPairs-map}
 use Rattle.cpg_order.specs.Scenario.{Scenario, IsScenario, number_of}
 use Rattle.cpg_order.proofs.Variables.{variable_or_not, unknown-zero}
@@ -33,6 +33,12 @@ module _ (u : Scenario) where
 
   pub holds_each : {X : Type 0} (f : X → List Literal) (xs : List X) (x : X) → matches (flat_map f xs) u ≡ true → Contains xs x → matches (f x) u ≡ true
   holds_each f xs x h j = all_from (holds u) (f x) (λ m i. from_all (holds u) (flat_map f xs) m h (Contains-flat_map f xs x m j i))
+
+  pub holds_both : (xs ys : List Literal) → matches xs u ≡ true → matches ys u ≡ true → matches (xs ++ ys) u ≡ true
+  holds_both xs ys h k = all_from (holds u) (xs ++ ys) (λ m j. elim (Contains-append_cases xs ys m j) [ inl i ↦ from_all (holds u) xs m h i | inr i ↦ from_all (holds u) ys m k i ])
+
+  pub holds_all : {X : Type 0} (f : X → List Literal) (xs : List X) → ((x : X) → Contains xs x → matches (f x) u ≡ true) → matches (flat_map f xs) u ≡ true
+  holds_all f xs h = all_from (holds u) (flat_map f xs) (λ m j. let r = Contains-flat_map_parts f xs m j in from_all (holds u) (f r.0) m (h r.0 r.1) r.2)
 
   -- what was known of another scenario is so here
   pub same_number : (s : Scenario) (v : ℕ) → holds u (number_known s v) ≡ true → number_of u v ≡ number_of s v

@@ -1,8 +1,13 @@
 //! The laws of rows.
 
-ghost use Rattle.cpg_rows.specs.RowLaws.{CarriedRestsOnEarlier};
+ghost use Rattle.cpg_rows.specs.RowLaws.{CarriedDecides, CarriedRestsOnEarlier};
 
 /// What is carried beside a time is found in the rows of earlier processes alone.
 pub fn carried_rests_on_earlier()
     ensures { CarriedRestsOnEarlier }
+{}
+
+/// Where it holds in another scenario, the item is active there too, at the same time, and the same is carried.
+pub fn carried_decides()
+    ensures { CarriedDecides }
 {}

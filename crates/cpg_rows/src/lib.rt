@@ -3,4 +3,4 @@
 
 mod laws;
 
-pub use laws::carried_rests_on_earlier;
+pub use laws::{carried_decides, carried_rests_on_earlier};
