@@ -4,3 +4,6 @@ pub mod CubesOf
 pub mod SameInRows
 pub mod SameStarts
 pub mod SameSends
+pub mod CarriedFrom
+pub mod EntriesMerge
+pub mod RowsTimed

@@ -3,4 +3,4 @@
 
 mod laws;
 
-pub use laws::{carried_decides, carried_rests_on_earlier};
+pub use laws::{carried_decides, carried_rests_on_earlier, entries_have_times, rows_have_times};
