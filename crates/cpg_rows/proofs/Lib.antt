@@ -7,3 +7,7 @@ pub mod SameSends
 pub mod CarriedFrom
 pub mod EntriesMerge
 pub mod RowsTimed
+pub mod RowsKnown
+pub mod RowsReach
+pub mod AllRules
+pub mod RowTables
