@@ -6,6 +6,7 @@ pub mod SameStarts
 pub mod SameSends
 pub mod CarriedFrom
 pub mod EntriesMerge
+pub mod EntriesFound
 pub mod RowsTimed
 pub mod RowsKnown
 pub mod RowsReach
