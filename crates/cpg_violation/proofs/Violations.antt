@@ -1,5 +1,5 @@
 -- Going over the items: what is known of the columns of each, and where the first violation is.
-use Rattle.std.proofs.Common.{ℕ, ◌+◌, ◌<◌, ◌≡◌, Bool, false, List, Option, Some, None, Contains, All, IfSome, length, arith, refl, subst, inl, inr, tt}
+use Rattle.std.proofs.Common.{ℕ, ◌+◌, ◌<◌, ◌≡◌, Bool, false, List, Option, Some, None, Contains, All, IfSome, length, arith, refl, subst, inl, inr}
 use Rattle.std.proofs.lemmas.Bool.{cases_lt}
 use Rattle.std.proofs.lemmas.List.Elements.{All-weaker, All-contains_itself}
 use Rattle.cpg_base.specs.Graph.{Graph, process_count, item_count, IsVariable}
