@@ -1,2 +1,4 @@
 pub mod Views
 pub mod Measures
+pub mod Writing
+pub mod NodeItems
