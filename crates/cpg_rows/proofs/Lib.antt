@@ -1,0 +1,9 @@
+pub mod Queued
+pub mod CarriedBefore
+pub mod CubesOf
+pub mod SameInRows
+pub mod SameStarts
+pub mod SameSends
+pub mod CarriedFrom
+pub mod EntriesMerge
+pub mod RowsTimed

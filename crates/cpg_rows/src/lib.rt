@@ -1,2 +1,6 @@
 //! The rows of items, over all scenarios of a graph: beside each time the literals from which it was computed.
 #![tactic(auto)]
+
+mod laws;
+
+pub use laws::{carried_decides, carried_rests_on_earlier, entries_have_times, rows_have_times};

@@ -1,0 +1,23 @@
+//! The laws of rows.
+
+ghost use Rattle.cpg_rows.specs.RowLaws.{CarriedDecides, CarriedRestsOnEarlier, EntriesHaveTimes, RowsHaveTimes};
+
+/// What is carried beside a time is found in the rows of earlier processes alone.
+pub fn carried_rests_on_earlier()
+    ensures { CarriedRestsOnEarlier }
+{}
+
+/// Where it holds in another scenario, the item is active there too, at the same time, and the same is carried.
+pub fn carried_decides()
+    ensures { CarriedDecides }
+{}
+
+/// Entries can be merged, and have the times of the runs.
+pub fn entries_have_times()
+    ensures { EntriesHaveTimes }
+{}
+
+/// So have rows, and an item that is never active has no column.
+pub fn rows_have_times()
+    ensures { RowsHaveTimes }
+{}
