@@ -94,4 +94,4 @@ module _ (g : Graph) (order : List ℕ) (topological : IsTopological g order) wh
         of_item {i} e same = ap (carried_by_item g order rows s x) e ∙ same ∙ sym (ap (carried_by_item g order others s x) e)
 
 pub carried_rests_on_earlier : CarriedRestsOnEarlier
-carried_rests_on_earlier g urgency order rows others s x k l same = carried_same g order k.topological rows others (place order (producer g x)) same s x l (omega arith)
+carried_rests_on_earlier g order rows others s x topological l same = carried_same g order topological rows others (place order (producer g x)) same s x l (omega arith)

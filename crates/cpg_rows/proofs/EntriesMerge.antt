@@ -113,7 +113,7 @@ module _ (g : Graph) (urgency order : List ℕ) (frozen : List (Option ℕ)) (ro
           let r = a_run g order frozen (lows g e.cube) timed.admitted.topological in
           sym ((entry_same u lu h).time r.0 w r.1 other) ∙ (are.each e j).time r.0 r.1
 
-      entry_cube : (u : Scenario) → IsScenario g u → matches e.cube u ≡ true → IsCubeOf g.faults (carried g order rows u x) e.cube
+      pub entry_cube : (u : Scenario) → IsScenario g u → matches e.cube u ≡ true → IsCubeOf g.faults (carried g order rows u x) e.cube
       entry_cube = let a = are.each e j in cube_there_too (lows g e.cube) a.lawful a.active e.cube a.cube
 
     -- no two match

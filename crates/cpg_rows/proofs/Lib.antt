@@ -6,4 +6,9 @@ pub mod SameStarts
 pub mod SameSends
 pub mod CarriedFrom
 pub mod EntriesMerge
+pub mod EntriesFound
 pub mod RowsTimed
+pub mod RowsKnown
+pub mod RowsReach
+pub mod AllRules
+pub mod RowTables

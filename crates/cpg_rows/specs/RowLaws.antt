@@ -2,7 +2,7 @@
 use Rattle.std.specs.Prelude.{ℕ, ◌≡◌, ◌≢◌, ◌<◌, false, List, [], Option, None, get_or, option_to_list, All, IsTrue}
 use Rattle.cpg_base.specs.Graph.{Graph, item_count, item_at, producer}
 use Rattle.cpg_base.specs.Activity.{item_active}
-use Rattle.cpg_order.specs.Urgency.{place}
+use Rattle.cpg_order.specs.Urgency.{place, IsTopological}
 use Rattle.cpg_order.specs.Reach.{Reach, IsReach}
 use Rattle.cpg_order.specs.Scenario.{Scenario, IsScenario}
 use Rattle.cpg_cube.specs.Cube.{matches}
@@ -52,7 +52,7 @@ pub record IsSameIn (g : Graph) (order : List ℕ) (frozen : List (Option ℕ)) 
 
 -- what is carried beside a time is found in the rows of earlier processes alone
 abbrev pub CarriedRestsOnEarlier : Type 0
-CarriedRestsOnEarlier = (g : Graph) (urgency order : List ℕ) (rows others : List (List Column)) (s : Scenario) (x : ℕ) → Admitted g urgency order →
+CarriedRestsOnEarlier = (g : Graph) (order : List ℕ) (rows others : List (List Column)) (s : Scenario) (x : ℕ) → IsTopological g order →
     x < item_count g → SameRowsBefore g order (place order (producer g x)) rows others → carried g order rows s x ≡ carried g order others s x
 
 -- it decides the time: where it holds in another scenario, the item is the same there
@@ -72,7 +72,7 @@ RowsHaveTimes = (g : Graph) (urgency order : List ℕ) (frozen : List (Option �
     HaveTimesOf g order frozen x (row_at rows x)
     × (((s : Scenario) → IsScenario g s → item_active g s.values (item_at g x) ≡ false) → row_at rows x ≡ [])
 
--- tables that have the rows as columns, with a reach
+-- tables that have the rows as their columns
 pub record AreTablesOfRows (g : Graph) (urgency order : List ℕ) (frozen : List (Option ℕ)) (rows : List (List Column)) (tables : List NodeTable) : Type 0 where
   pub timed : IsTimed g urgency order frozen
   pub found : AreRows g urgency order frozen rows

@@ -3,4 +3,7 @@
 
 mod laws;
 
-pub use laws::{carried_decides, carried_rests_on_earlier, entries_have_times, rows_have_times};
+pub use laws::{
+    carried_decides, carried_rests_on_earlier, entries_have_times, row_tables_are_exact,
+    row_tables_are_supported, row_tables_keep_rules, rows_have_times,
+};
