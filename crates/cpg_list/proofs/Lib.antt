@@ -14,3 +14,5 @@ pub mod NodeLists
 pub mod NodeRows
 pub mod Loads
 pub mod TablesWith
+pub mod Written
+pub mod BuiltTables

@@ -15,7 +15,7 @@ use Rattle.cpg_order.specs.Reach.{rows_of_item}
 use Rattle.cpg_table.specs.Lawful.{column_count, rows_of}
 use Rattle.cpg_table.specs.Table.{Row, NodeTable, table_at, empty_table}
 use Rattle.cpg_table.specs.Valid.{later_by}
-use Rattle.cpg_list.specs.Writing.{row_at, heard_row, AreWritable}
+use Rattle.cpg_list.specs.Writing.{row_for, heard_row, AreWritable}
 use Rattle.cpg_list.specs.NodeItems.{ItemLists, is_started_on, is_sent_from, is_heard_at, items_below, rows_of_items, AreNodeTables}
 use Rattle.cpg_list.proofs.NodeLists.{message_started, message_sent, message_heard, broadcast_started, broadcast_sent, broadcast_heard, start_sent, start_heard}
 
@@ -39,7 +39,7 @@ place_le w v n = elim (cases_lt w n) [
 module _ (g : Graph) (rows : List Row) where
   -- how many columns an item has
   abbrev columns : ℕ → ℕ
-  columns x = length (row_at rows x).columns
+  columns x = length (row_for rows x).columns
 
   -- how many of them a node has in its rows
   abbrev at_node : ℕ → ℕ → ℕ
@@ -49,11 +49,11 @@ module _ (g : Graph) (rows : List Row) where
   node_count node =
       let all : List ℕ = numbers_below (item_count g) in
       let items : ItemLists = items_below g (item_count g) node in
-      sum_by-append (λ (r : Row). length r.columns) (map (row_at rows) items.starts) (map (row_at rows) items.sends ++ map (heard_row g rows) items.hears)
-      ∙ ap₂ ◌+◌ (count_rows (row_at rows) columns items.starts (λ x. refl) ∙ sum_by-filter columns (is_started_on g node) all)
-      (sum_by-append (λ (r : Row). length r.columns) (map (row_at rows) items.sends) (map (heard_row g rows) items.hears)
-      ∙ ap₂ ◌+◌ (count_rows (row_at rows) columns items.sends (λ x. refl) ∙ sum_by-filter columns (is_sent_from g node) all)
-      (count_rows (heard_row g rows) columns items.hears (λ x. length-map (row_at rows x).columns (later_by (slot_length g (home g x)))) ∙ sum_by-filter columns (is_heard_at g node) all)
+      sum_by-append (λ (r : Row). length r.columns) (map (row_for rows) items.starts) (map (row_for rows) items.sends ++ map (heard_row g rows) items.hears)
+      ∙ ap₂ ◌+◌ (count_rows (row_for rows) columns items.starts (λ x. refl) ∙ sum_by-filter columns (is_started_on g node) all)
+      (sum_by-append (λ (r : Row). length r.columns) (map (row_for rows) items.sends) (map (heard_row g rows) items.hears)
+      ∙ ap₂ ◌+◌ (count_rows (row_for rows) columns items.sends (λ x. refl) ∙ sum_by-filter columns (is_sent_from g node) all)
+      (count_rows (heard_row g rows) columns items.hears (λ x. length-map (row_for rows x).columns (later_by (slot_length g (home g x)))) ∙ sum_by-filter columns (is_heard_at g node) all)
       ∙ sym (sum_by-add (λ x. cond (is_sent_from g node x) (columns x) 0) (λ x. cond (is_heard_at g node x) (columns x) 0) all))
       ∙ sym (sum_by-add (λ x. cond (is_started_on g node x) (columns x) 0) (λ x. cond (is_sent_from g node x) (columns x) 0 + cond (is_heard_at g node x) (columns x) 0) all)
 

@@ -22,7 +22,7 @@ use Rattle.cpg_table.specs.Valid.{later_by}
 use Rattle.cpg_table.proofs.GraphItems.{starts_are, sends_are, hears_are}
 use Rattle.cpg_table.proofs.HeadWithin.{conditions_counted}
 use Rattle.cpg_times.proofs.Small.{slot_length-le}
-use Rattle.cpg_list.specs.Writing.{row_at, heard_row, IsWritable, AreWritable}
+use Rattle.cpg_list.specs.Writing.{row_for, heard_row, IsWritable, AreWritable}
 use Rattle.cpg_list.specs.NodeItems.{is_started_on, is_sent_from, is_heard_at, items_below, rows_of_items}
 use Rattle.cpg_list.proofs.NodeLists.{starts_whole}
 
@@ -35,13 +35,13 @@ module _ (g : Graph) (rows : List Row) (w : AreWritable g rows) where
   pub long : length rows ≡ item_count g
   long = sym (length-map rows (λ (row : Row). row.item)) ∙ ap length w.items ∙ length-range_with_len 0 (item_count g)
 
-  pub item_is : (x : ℕ) → x < item_count g → (row_at rows x).item ≡ x
+  pub item_is : (x : ℕ) → x < item_count g → (row_for rows x).item ≡ x
   item_is x l = sym (get_or-map (λ (row : Row). row.item) rows x no_row 0 (omega (arith, l, long))) ∙ ap (λ xs. get_or xs x 0) w.items ∙ get_or-range_with_len 0 (item_count g) x 0 l ∙ omega arith
 
-  pub writable : (x : ℕ) → x < item_count g → All (IsWritable g) (row_at rows x).columns
+  pub writable : (x : ℕ) → x < item_count g → All (IsWritable g) (row_for rows x).columns
   writable x l = w.lawful x no_row (omega (arith, l, long))
 
-  pub few_columns : (x : ℕ) → x < item_count g → length (row_at rows x).columns ≤ 16384
+  pub few_columns : (x : ℕ) → x < item_count g → length (row_for rows x).columns ≤ 16384
   few_columns x l = w.few x no_row (omega (arith, l, long))
 
 -- numbers of items
@@ -92,16 +92,16 @@ module _ (g : Graph) (within : IsWithinLimits g) where
   slot_short node = omega (arith, slot_length-le g node, round-le g within)
 
   module _ (rows : List Row) (w : AreWritable g rows) where
-    lawful_row : (x : ℕ) → x < item_count g → IsLawfulRow (space_of (head_of g)) (row_at rows x)
-    lawful_row x l = record { few = few_columns g rows w x l; columns = All-weaker (IsWritable g) (IsLawfulColumn (space_of (head_of g))) lawful_column (row_at rows x).columns (writable g rows w x l) }
+    lawful_row : (x : ℕ) → x < item_count g → IsLawfulRow (space_of (head_of g)) (row_for rows x)
+    lawful_row x l = record { few = few_columns g rows w x l; columns = All-weaker (IsWritable g) (IsLawfulColumn (space_of (head_of g))) lawful_column (row_for rows x).columns (writable g rows w x l) }
 
     lawful_heard : (x : ℕ) → x < item_count g → IsLawfulRow (space_of (head_of g)) (heard_row g rows x)
     lawful_heard x l =
         let delay : ℕ = slot_length g (home g x) in
         record {
-          few = omega (arith, few_columns g rows w x l, length-map (row_at rows x).columns (later_by delay));
-          columns = All-map (IsLawfulColumn (space_of (head_of g))) (later_by delay) (row_at rows x).columns
-              (All-weaker (IsWritable g) (λ c. IsLawfulColumn (space_of (head_of g)) (later_by delay c)) (later_column delay (slot_short (home g x))) (row_at rows x).columns (writable g rows w x l));
+          few = omega (arith, few_columns g rows w x l, length-map (row_for rows x).columns (later_by delay));
+          columns = All-map (IsLawfulColumn (space_of (head_of g))) (later_by delay) (row_for rows x).columns
+              (All-weaker (IsWritable g) (λ c. IsLawfulColumn (space_of (head_of g)) (later_by delay c)) (later_column delay (slot_short (home g x))) (row_for rows x).columns (writable g rows w x l));
         }
 
     all_rows : (row : ℕ → Row) → ((x : ℕ) → x < item_count g → IsLawfulRow (space_of (head_of g)) (row x)) → (p : ℕ → Bool) → All (IsLawfulRow (space_of (head_of g))) (map row (filter p (numbers_below (item_count g))))
@@ -122,27 +122,27 @@ module _ (g : Graph) (within : IsWithinLimits g) where
       abbrev heard : List ℕ
       heard = filter (is_heard_at g node) (numbers_below (item_count g))
 
-      pub start_items : items_of (map (row_at rows) started) ≡ started
-      start_items = items_are (row_at rows) started (λ x c. item_is g rows w x (filter_below g (is_started_on g node) x c))
+      pub start_items : items_of (map (row_for rows) started) ≡ started
+      start_items = items_are (row_for rows) started (λ x c. item_is g rows w x (filter_below g (is_started_on g node) x c))
 
-      pub send_items : items_of (map (row_at rows) sent) ≡ sent
-      send_items = items_are (row_at rows) sent (λ x c. item_is g rows w x (filter_below g (is_sent_from g node) x c))
+      pub send_items : items_of (map (row_for rows) sent) ≡ sent
+      send_items = items_are (row_for rows) sent (λ x c. item_is g rows w x (filter_below g (is_sent_from g node) x c))
 
       pub hear_items : items_of (map (heard_row g rows) heard) ≡ heard
       hear_items = items_are (heard_row g rows) heard (λ x c. refl)
 
       node_items : node < length g.nodes → items_of (rows_of_items g rows (items_below g (item_count g) node)) ≡ starts_of (head_of g) node ++ (sends_of (head_of g) node ++ hears_of (head_of g) node)
       node_items l =
-          map-append (λ (row : Row). row.item) (map (row_at rows) started) (map (row_at rows) sent ++ map (heard_row g rows) heard)
+          map-append (λ (row : Row). row.item) (map (row_for rows) started) (map (row_for rows) sent ++ map (heard_row g rows) heard)
           ∙ ap₂ (λ xs ys. xs ++ ys) (start_items ∙ starts_whole g node ∙ sym (starts_are g within node))
-          (map-append (λ (row : Row). row.item) (map (row_at rows) sent) (map (heard_row g rows) heard)
+          (map-append (λ (row : Row). row.item) (map (row_for rows) sent) (map (heard_row g rows) heard)
           ∙ ap₂ (λ xs ys. xs ++ ys) (send_items ∙ sym (sends_are g within node)) (hear_items ∙ sym (hears_are g within node l)))
 
       pub are_rows : node < length g.nodes → AreRowsOf (head_of g) node (rows_of_items g rows (items_below g (item_count g) node))
       are_rows l = record {
         items = node_items l;
-        lawful = All-append (IsLawfulRow (space_of (head_of g))) (map (row_at rows) started) (map (row_at rows) sent ++ map (heard_row g rows) heard)
-            (all_rows (row_at rows) lawful_row (is_started_on g node))
-            (All-append (IsLawfulRow (space_of (head_of g))) (map (row_at rows) sent) (map (heard_row g rows) heard)
-            (all_rows (row_at rows) lawful_row (is_sent_from g node)) (all_rows (heard_row g rows) lawful_heard (is_heard_at g node)));
+        lawful = All-append (IsLawfulRow (space_of (head_of g))) (map (row_for rows) started) (map (row_for rows) sent ++ map (heard_row g rows) heard)
+            (all_rows (row_for rows) lawful_row (is_started_on g node))
+            (All-append (IsLawfulRow (space_of (head_of g))) (map (row_for rows) sent) (map (heard_row g rows) heard)
+            (all_rows (row_for rows) lawful_row (is_sent_from g node)) (all_rows (heard_row g rows) lawful_heard (is_heard_at g node)));
       }

@@ -5,7 +5,7 @@ use Rattle.cpg_base.specs.Graph.{Graph, process_count, item_count, item_at, node
 use Rattle.cpg_table.specs.GraphHead.{head_of}
 use Rattle.cpg_table.specs.Lawful.{IsTableOf, rows_of}
 use Rattle.cpg_table.specs.Table.{Row, NodeTable, table_at}
-use Rattle.cpg_list.specs.Writing.{row_at, heard_row}
+use Rattle.cpg_list.specs.Writing.{row_for, heard_row}
 
 -- what a node starts, sends and hears, by number
 pub record ItemLists : Type 0 where
@@ -35,7 +35,7 @@ items_below g n node = record {
 
 -- the rows of these items, as they stand in a table
 abbrev pub rows_of_items : Graph → List Row → ItemLists → List Row
-rows_of_items g rows items = map (row_at rows) items.starts ++ (map (row_at rows) items.sends ++ map (heard_row g rows) items.hears)
+rows_of_items g rows items = map (row_for rows) items.starts ++ (map (row_for rows) items.sends ++ map (heard_row g rows) items.hears)
 
 -- the table of a node with its rows of these
 pub record IsTableWith (g : Graph) (rows : List Row) (node : ℕ) (t : NodeTable) : Type 0 where

@@ -13,12 +13,12 @@ use Rattle.cpg_table.specs.Table.{Column, Row, NodeTable, columns_of}
 use Rattle.cpg_table.specs.Valid.{later_by, hear_rows}
 
 -- the row of an item, where each stands at the number of its item
-abbrev pub row_at : List Row → ℕ → Row
-row_at rows x = get_or rows x (record { item = 0; columns = [] })
+abbrev pub row_for : List Row → ℕ → Row
+row_for rows x = get_or rows x (record { item = 0; columns = [] })
 
 -- what is heard of an item: its columns, each later by the sender's slot
 abbrev pub heard_row : Graph → List Row → ℕ → Row
-heard_row g rows x = record { item = x; columns = map (later_by (slot_length g (home g x))) (row_at rows x).columns }
+heard_row g rows x = record { item = x; columns = map (later_by (slot_length g (home g x))) (row_for rows x).columns }
 
 -- a column that a table may have, also where it is later by a slot
 pub record IsWritable (g : Graph) (c : Column) : Type 0 where
@@ -34,12 +34,12 @@ pub record AreWritable (g : Graph) (rows : List Row) : Type 0 where
   pub items : items_of rows ≡ numbers_below (item_count g)
   pub lawful : All (λ row. All (IsWritable g) row.columns) rows
   pub few : All (λ row. length row.columns ≤ 16384) rows
-  pub loads : sum_by (λ x. length (row_at rows x).columns * rows_of_item g (item_at g x)) (numbers_below (item_count g)) ≤ 524288
-  pub unsent : (x : ℕ) → process_count g ≤ x → x < item_count g → is_sent g x ≡ false → (row_at rows x).columns ≡ []
+  pub loads : sum_by (λ x. length (row_for rows x).columns * rows_of_item g (item_at g x)) (numbers_below (item_count g)) ≤ 524288
+  pub unsent : (x : ℕ) → process_count g ≤ x → x < item_count g → is_sent g x ≡ false → (row_for rows x).columns ≡ []
 
 -- tables under the graph's head in which each item has the columns of its row, and each node hears what others send to it
 pub record AreTablesWith (g : Graph) (rows : List Row) (t : Tables) : Type 0 where
   pub head : t.head ≡ head_of g
   pub lawful : AreTablesOf (head_of g) t.nodes
-  pub columns : (x : ℕ) → x < item_count g → columns_of t.nodes x ≡ (row_at rows x).columns
+  pub columns : (x : ℕ) → columns_of t.nodes x ≡ (row_for rows x).columns
   pub hears : (node : ℕ) (u : NodeTable) → slice_get t.nodes node ≡ Some u → u.hears ≡ hear_rows g t.nodes node

@@ -5,7 +5,7 @@ ghost use Rattle.cpg_base.specs.Graph.{item_count};
 ghost use Rattle.cpg_base.specs.WellFormed.{WellFormed};
 ghost use Rattle.cpg_table.specs.GraphHead.{head_of};
 ghost use Rattle.cpg_table.specs.Valid.{later_by};
-ghost use Rattle.cpg_list.specs.Writing.{row_at, heard_row, AreWritable, AreTablesWith};
+ghost use Rattle.cpg_list.specs.Writing.{row_for, heard_row, AreWritable, AreTablesWith};
 ghost use Rattle.cpg_list.specs.NodeItems.{items_below, rows_of_items, IsTableWith, AreNodeTables};
 
 use crate::items::{NodeItems, items_by_node};
@@ -47,7 +47,7 @@ fn heard(alloc: Global, problem: &Problem, rows: &[Row], item: u32) -> Result<Ro
 /// Adds copies of the rows of these items.
 fn add_copies(rows: &[Row], items: &[u32], more: &mut Vec<Row>) -> Result<(), OutOfMemory>
     requires { All (λ x. x < length rows.now) items.now }
-    ensures { IfOk result (λ _. more.new.items ≡ more.old.items ++ map (row_at rows.now) items.now) }
+    ensures { IfOk result (λ _. more.new.items ≡ more.old.items ++ map (row_for rows.now) items.now) }
 {
     for item in items {
         let row = rows[*item as usize].copy()?;
