@@ -1,2 +1,6 @@
 pub mod Views
 pub mod Measures
+pub mod Writing
+pub mod NodeItems
+pub mod Found
+pub mod Refusal
