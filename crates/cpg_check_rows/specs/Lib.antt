@@ -1,3 +1,4 @@
 pub mod Single
 pub mod Hears
 pub mod Present
+pub mod Active

@@ -1,12 +1,14 @@
 //! The rules of valid tables on the rows of each item.
 #![tactic(auto)]
 
+mod activity;
 mod hears;
 mod present;
+mod rows;
 mod single;
-mod stub;
 
+pub use activity::check_activity;
 pub use hears::check_hears;
 pub use present::check_present;
+pub use rows::check_rows;
 pub use single::check_single;
-pub use stub::check_rows;

@@ -1,11 +1,13 @@
 //! V2: no two columns of a row match in one scenario.
-ghost use Rattle.std.specs.Prelude.{◌≡◌, ◌≤◌, ◌&&◌, ℕ, All, IfNone, IfOk, IfSome, List, false, length};
+ghost use Rattle.std.specs.Prelude.{◌≡◌, ◌≤◌, ◌<◌, ◌&&◌, ℕ, All, IfNone, IfOk, IfSome, List, false, length};
+ghost use Rattle.std.specs.List.{list_any};
 ghost use Rattle.cpg_base.specs.Graph.{process_count};
 ghost use Rattle.cpg_order.specs.First.{IsFirst};
 ghost use Rattle.cpg_order.specs.Scenario.{Scenario, IsScenario};
 ghost use Rattle.cpg_cube.specs.Cube.{matches};
 ghost use Rattle.cpg_cube.specs.Fit.{IsKnown};
-ghost use Rattle.cpg_table.specs.Valid.{breaks_single};
+ghost use Rattle.cpg_violation.specs.Room.{HasRoom};
+ghost use Rattle.cpg_violation.specs.Sieves.{IsSieveOf, is_at};
 ghost use Rattle.cpg_violation.specs.Heads.{IsHeadFor};
 ghost use Rattle.cpg_violation.specs.Violation.{Holds, IsFirstColumn, IsFirstViolation};
 ghost use Rattle.cpg_check_rows.specs.Single.{is_double};
@@ -15,28 +17,72 @@ use cpg_cube::Cube;
 use cpg_order::Order;
 use cpg_rules::Admitted;
 use cpg_table::{Entry, Fault, Tables};
-use cpg_violation::{columns_of, earlier, item_count, met};
+use cpg_violation::{Sieve, columns_of, earlier, item_count, met};
 use std::alloc::Global;
 
-/// The least scenario that a column matches together with an earlier one, if there is one.
+/// The least scenario that a cube matches together with the column at a place, if there is one.
+fn met_at(
+    problem: &Problem,
+    cube: &Cube,
+    columns: &[Entry],
+    place: u32,
+    room: &mut Scenario,
+) -> Result<Option<Scenario>, OutOfMemory>
+    requires cube { IsKnown problem.now cube.now }
+    requires columns { All (λ d. IsKnown problem.now d.cube) columns.now }
+    requires room { HasRoom problem.now room.old }
+    ensures room { HasRoom problem.now room.new }
+    ensures first { IfOk result (λ r. (order : List ℕ) → IsFirst problem.now order (λ s. matches cube.now s && is_at columns.now s place) r) }
+{
+    let Some(column) = columns.get(place as usize) else {
+        return Ok(None);
+    };
+    let found = met(problem, cube, &column.cube, room)?;
+    Ok(found)
+}
+
+/// The least scenario that a cube matches together with a column at one of some places, if there is one.
 fn shared(
     alloc: Global,
     problem: &Problem,
     order: &Order,
     cube: &Cube,
-    others: &[Entry],
+    columns: &[Entry],
+    places: &[u32],
 ) -> Result<Option<Scenario>, OutOfMemory>
     requires order { length order.now ≡ process_count problem.now }
     requires cube { IsKnown problem.now cube.now }
-    requires list { All (λ d. IsKnown problem.now d.cube) others.now }
-    ensures { IfOk result (IsFirst problem.now order.now (λ s. matches cube.now s && breaks_single s others.now)) }
+    requires columns { All (λ d. IsKnown problem.now d.cube) columns.now }
+    ensures { IfOk result (IsFirst problem.now order.now (λ s. matches cube.now s && list_any (is_at columns.now s) places.now)) }
 {
     let mut room = Scenario::zero(alloc, problem)?;
     let mut found: Option<Scenario> = None;
-    for other in others {
-        let next = met(problem, cube, &other.cube, &mut room)?;
+    for place in places {
+        let next = met_at(problem, cube, columns, *place, &mut room)?;
         found = earlier(problem, order, found, next);
     }
+    Ok(found)
+}
+
+/// The least scenario that a column matches together with an earlier one, if there is one.
+fn shared_before(
+    alloc: Global,
+    problem: &Problem,
+    order: &Order,
+    sieve: &Sieve,
+    columns: &[Entry],
+    column: usize,
+) -> Result<Option<Scenario>, OutOfMemory>
+    requires order { length order.now ≡ process_count problem.now }
+    requires columns { All (λ d. IsKnown problem.now d.cube) columns.now }
+    requires sieve { IsSieveOf columns.now sieve.now }
+    requires column { column < length columns.now }
+    ensures { IfOk result (IsFirst problem.now order.now (is_double columns.now column)) }
+{
+    let cube = &columns[column].cube;
+    let places = sieve.candidates(alloc, cube)?;
+    let others = &columns[..column];
+    let found = shared(alloc, problem, order, cube, others, places.as_slice())?;
     Ok(found)
 }
 
@@ -53,8 +99,9 @@ fn first_double(
     ensures none { IfOk result (λ r. IfNone r ((i : ℕ) (s : Scenario) → IsScenario problem.now s → is_double columns.now i s ≡ false)) }
     ensures first { IfOk result (λ r. IfSome r (IsFirstColumn problem.now order.now (is_double columns.now))) }
 {
-    for (column, entry) in columns.iter().enumerate() {
-        let met = shared(alloc, problem, order, &entry.cube, &columns[..column])?;
+    let sieve = Sieve::of(alloc, columns)?;
+    for column in 0..columns.len() {
+        let met = shared_before(alloc, problem, order, &sieve, columns, column)?;
         if let Some(scenario) = met {
             return Ok(Some((column as u32, scenario)));
         }

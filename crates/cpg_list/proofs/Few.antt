@@ -1,5 +1,5 @@
 -- The ways of counts, one fault more at a time; the scenarios of a graph without conditions are the ways of its counts.
-use Rattle.std.proofs.Common.{◌≡◌, ◌≢◌, ℕ, ◌+◌, ◌-◌, ◌==◌, Bool, true, ◌∷◌, refl, eqb-true, filter, ◌*◌, ◌/◌, ◌^◌, ◌<◌, ◌≤◌, List, [], length, arith, sym, ap, ◌∙◌}
+use Rattle.std.proofs.Common.{◌≡◌, ℕ, ◌+◌, ◌==◌, Bool, true, ◌∷◌, refl, eqb-true, filter, ◌*◌, ◌/◌, ◌^◌, ◌<◌, ◌≤◌, List, [], length, arith, sym, ap, ◌∙◌}
 use Rattle.std.specs.Prelude.{All}
 use Rattle.std.specs.List.{list_any}
 use Rattle.std.proofs.Math.Nat.{mul-div_cancel_left}
@@ -8,7 +8,6 @@ use Rattle.cpg_base.specs.Graph.{Graph, process_count, condition_count, is_disju
 use Rattle.cpg_base.specs.Numbers.{numbers_below}
 use Rattle.cpg_base.proofs.Lists.{filter_none}
 use Rattle.cpg_order.specs.Counting.{ways}
-use Rattle.cpg_order.specs.Scenario.{scenarios}
 use Rattle.cpg_order.proofs.Ways.{ways_small, ways_times}
 use Rattle.cpg_order.proofs.ScenariosApart.{length-scenarios}
 use Rattle.cpg_run.specs.Plain.{IsPlain, IsFree}

@@ -10,3 +10,9 @@ pub mod Assembled
 pub mod Greatest
 mod Few
 mod Pair
+pub mod NodeLists
+pub mod NodeRows
+pub mod Loads
+pub mod TablesWith
+pub mod Written
+pub mod BuiltTables

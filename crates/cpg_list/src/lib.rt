@@ -1,7 +1,9 @@
 //! Tables of plain graphs, made view by view: graphs of one node at most on which nothing is sent or frozen.
 #![tactic(auto)]
 
+mod assembling;
 mod building;
+mod items;
 mod listing;
 mod stub;
 mod measuring;

@@ -1,13 +1,17 @@
--- Which places a cut parts where.
-use Rattle.std.proofs.Common.{ℕ, ◌+◌, ◌<◌, ◌≤◌, ◌≡◌, Bool, true, false, not, cond, List, [], ◌∷◌, ◌++◌, length, get_or, take, Contains, refl, sym, subst, ⊎_elim, true≢false}
-use Rattle.std.specs.Prelude.{nat_le}
-use Rattle.std.proofs.lemmas.List.{take_more, take_all}
-use Rattle.std.proofs.lemmas.List.Elements.{Contains-push_cases, Contains-append_left, Contains-push}
+-- Which places a cut parts where; and what is found at places among which a column is that passes a test.
+use Rattle.std.proofs.Common.{ℕ, ◌+◌, ◌<◌, ◌≤◌, ◌≡◌, Bool, true, false, not, ◌&&◌, cond, List, [], ◌∷◌, ◌++◌, length, get_or, take, Contains, arith, refl, sym, ap, ◌∙◌, subst, ⊎_elim, true≢false, lt-ltb, ltb-true}
+use Rattle.std.specs.Prelude.{nat_le, nat_lt, slice_get, Some}
+use Rattle.std.specs.List.{list_any}
+use Rattle.std.proofs.lemmas.Bool.{and_from, and_parts}
+use Rattle.std.proofs.lemmas.Option.{slice_get_within, get_or_from_slice_get}
+use Rattle.std.proofs.lemmas.List.{take_more, take_all, get_or_default, get_or-take, length-take}
+use Rattle.std.proofs.lemmas.List.Elements.{Contains-push_cases, Contains-append_left, Contains-push, Contains-get_or}
+use Rattle.cpg_base.proofs.Lists.{list_any_parts, list_any_true}
 use Rattle.cpg_order.specs.Scenario.{Scenario, number_of}
 use Rattle.cpg_cube.specs.Cube.{matches}
 use Rattle.cpg_table.specs.Table.{Column}
 use Rattle.cpg_violation.specs.Parted.{Parted, Cut}
-use Rattle.cpg_violation.specs.Sieves.{column_at, places_in, Sifts}
+use Rattle.cpg_violation.specs.Sieves.{column_at, places_in, Sifts, is_at}
 
 pub not_itself : (b x : Bool) → x ≡ b → x ≡ not b → ⊥
 not_itself true true e f = true≢false f
@@ -56,3 +60,41 @@ pub sifts_cut : (columns : List Column) (v most : ℕ) (places low high : List �
 sifts_cut columns v most places low high below above h k f g = record {
   found = λ s i c l m. side_found (nat_le (number_of s v) most) (places_in below s) (places_in above s) i (λ e. f.found s i (h s i c l m e) l m) (λ e. g.found s i (k s i c l m e) l m);
 }
+
+both_same : (a b : Bool) → (a ≡ true → b ≡ true) → (b ≡ true → a ≡ true) → a ≡ b
+both_same true b h k = sym (h refl)
+both_same false true h k = sym (sym (k refl))
+both_same false false h k = refl
+
+-- a test of some column, by places among which each is that passes
+pub any_at : (test : Column → Bool) (columns : List Column) (places : List ℕ) → ((i : ℕ) → i < length columns → test (column_at columns i) ≡ true → Contains places i)
+    → list_any test columns ≡ list_any (λ i. nat_lt i (length columns) && test (column_at columns i)) places
+any_at test columns places among = both_same (list_any test columns) (list_any (λ i. nat_lt i (length columns) && test (column_at columns i)) places)
+    (λ e. let found = list_any_parts test columns e in
+    let i : ℕ = found.1.0 in
+    let at : column_at columns i ≡ found.0 = get_or_default columns i _ found.0 found.1.1 ∙ found.1.2 in
+    let passes : test (column_at columns i) ≡ true = ap test at ∙ found.2 in
+    list_any_true (λ i. nat_lt i (length columns) && test (column_at columns i)) places i (among i found.1.1 passes) (and_from (nat_lt i (length columns)) (test (column_at columns i)) (lt-ltb i (length columns) found.1.1) passes))
+    (λ e. let found = list_any_parts (λ i. nat_lt i (length columns) && test (column_at columns i)) places e in
+    let parts = and_parts (nat_lt found.0 (length columns)) (test (column_at columns found.0)) found.2 in
+    list_any_true test columns (column_at columns found.0) (Contains-get_or columns found.0 _ (ltb-true _ _ parts.0)) parts.1)
+
+-- where the first test passes, the second ones are equal
+pub same_where : (m a b : Bool) → (m ≡ true → a ≡ b) → (m && a) ≡ (m && b)
+same_where true a b h = h refl
+same_where false a b h = refl
+
+-- the columns before a place that match where a cube does, by the places that a sieve finds
+pub before_at : (columns : List Column) (j : ℕ) (places : List ℕ) (s : Scenario) → j ≤ length columns → ((i : ℕ) → i < length columns → matches (column_at columns i).cube s ≡ true → Contains places i)
+    → list_any (is_at (take j columns) s) places ≡ list_any (λ d. matches d.cube s) (take j columns)
+before_at columns j places s h among = sym (any_at (λ d. matches d.cube s) (take j columns) places
+    (λ i l m. let below : i < j = omega (arith, l, length-take j columns) in
+    let at : column_at (take j columns) i ≡ column_at columns i = get_or-take j columns i _ below in
+    among i (omega arith) (sym (ap (λ (d : Column). matches d.cube s) at) ∙ m)))
+
+-- the column that is found at a place
+pub at_found : (columns : List Column) (i : ℕ) (d : Column) → slice_get columns i ≡ Some d → (s : Scenario) → matches d.cube s ≡ is_at columns s i
+at_found columns i d e s =
+    let within : i < length columns = slice_get_within columns i d e in
+    let at : column_at columns i ≡ d = get_or_from_slice_get columns i d _ e in
+    ap (λ (c : Column). matches c.cube s) (sym at) ∙ ap (λ b. b && matches (column_at columns i).cube s) (sym (lt-ltb i (length columns) within))

@@ -1,5 +1,5 @@
 -- Sieves: parted places of columns, among which each column is found by each scenario that it matches.
-use Rattle.std.specs.Prelude.{ℕ, ◌≡◌, ◌<◌, true, nat_le, if◌then◌else◌, List, [], Contains, length, get_or}
+use Rattle.std.specs.Prelude.{ℕ, ◌≡◌, ◌<◌, Bool, true, ◌&&◌, nat_lt, nat_le, if◌then◌else◌, List, [], Contains, length, get_or}
 use Rattle.cpg_order.specs.Scenario.{Scenario, number_of}
 use Rattle.cpg_cube.specs.Cube.{matches}
 use Rattle.cpg_table.specs.Table.{Column}
@@ -13,6 +13,10 @@ places_in (Cut v most below above) s = if nat_le (number_of s v) most then place
 -- the column at a place
 abbrev pub column_at : List Column → ℕ → Column
 column_at columns i = get_or columns i (record { time = 0; cube = [] })
+
+-- whether there is a column at a place and it matches
+abbrev pub is_at : List Column → Scenario → ℕ → Bool
+is_at columns s i = nat_lt i (length columns) && matches (column_at columns i).cube s
 
 -- a scenario that a column matches comes to its place, where that is one of these
 pub record Sifts (columns : List Column) (places : List ℕ) (parted : Parted) : Type 0 where

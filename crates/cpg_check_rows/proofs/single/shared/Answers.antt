@@ -1,17 +1,16 @@
-use Rattle.std.proofs.Common.{arith, ◌&&◌}
+use Rattle.std.proofs.Common.{get_or, ◌&&◌}
 use Rattle.cpg_cube.specs.Cube.{matches}
+use Rattle.cpg_violation.specs.Sieves.{is_at}
+use Rattle.cpg_violation.proofs.Columnwise.{first_any_more}
 use Rattle.cpg_violation.proofs.Violations.{first_lawful}
-use Rattle.cpg_check_rows.proofs.Doubles.{shared_more}
 use Rattle.cpg_check_rows.proofs.single.shared.Goals as goal
 
 pub earlier-found-requires-clause-second : goal.earlier-found-requires-clause-second
-earlier-found-requires-clause-second c = first_lawful c.args.problem.now c.args.order.now (λ s. matches c.args.cube.now s && matches c.other-item.result.cube s) c.in_ok-next.next (c.in_ok-next.ensures.first c.args.order.now)
+earlier-found-requires-clause-second c = first_lawful c.args.problem.now c.args.order.now (λ s. matches c.args.cube.now s && is_at c.args.columns.now s (get_or c.args.places.now c.loop-place.place-index 0)) c.in_ok-next.next (c.in_ok-next.ensures.first c.args.order.now)
 
-pub loop-other-preserved : goal.loop-other-preserved
-loop-other-preserved c =
-    let first = c.in_ok-next.ensures.first c.args.order.now in
-    record {
-      first = rw c.earlier-found.ensures (shared_more c.args.problem.now c.args.order.now c.args.cube.now c.args.others.now c.loop-other.other-index c.other-item.result (omega arith) c.loop-other.found c.in_ok-next.next
-          c.loop-other.invariant.first (rw (← c.other-item.is) first));
-      room = c.in_ok-next.ensures.room;
-    }
+pub loop-place-preserved : goal.loop-place-preserved
+loop-place-preserved c = record {
+  first = rw c.earlier-found.ensures (first_any_more c.args.problem.now c.args.order.now (matches c.args.cube.now) (is_at c.args.columns.now) c.args.places.now c.loop-place.place-index 0 c.loop-place-test.true
+      c.loop-place.found c.in_ok-next.next c.loop-place.invariant.first (c.in_ok-next.ensures.first c.args.order.now));
+  room = c.in_ok-next.ensures.room;
+}

@@ -1,4 +1,4 @@
-use Rattle.std.proofs.Common.{◌≡◌, ℕ, ◌+◌, ◌*◌, ◌/◌, ◌∙◌, sym, ap, subst, arith}
+use Rattle.std.proofs.Common.{◌+◌, ◌*◌, ◌/◌, ◌∙◌, ap, arith}
 use Rattle.cpg_list.proofs.Few.{product_fits, next_ways}
 use Rattle.cpg_list.proofs.plain.ways.Goals as goal
 

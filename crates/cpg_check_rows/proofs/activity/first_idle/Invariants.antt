@@ -1,0 +1,7 @@
+use Rattle.std.proofs.Common.{ℕ, ◌≡◌, ◌<◌, false}
+use Rattle.cpg_order.specs.Scenario.{Scenario, IsScenario}
+use Rattle.cpg_check_rows.specs.Active.{is_idle}
+use Rattle.cpg_check_rows.proofs.activity.first_idle.Given as goal
+
+abbrev pub invariant-loop-place : goal.invariant-loop-place
+invariant-loop-place l = (i : ℕ) (s : Scenario) → i < l.place → IsScenario l.admitted.graph s → is_idle l.admitted.graph l.item l.columns i s ≡ false

@@ -1,0 +1,19 @@
+use Rattle.std.proofs.Common.{not}
+use Rattle.std.specs.List.{list_any}
+use Rattle.cpg_base.specs.Activity.{active, item_active}
+use Rattle.cpg_base.specs.Graph.{item_at, process_of_variable}
+use Rattle.cpg_cube.specs.Cube.{matches}
+use Rattle.cpg_violation.proofs.Columnwise.{first_either}
+use Rattle.cpg_violation.proofs.Violations.{long_order}
+use Rattle.cpg_check_rows.proofs.activity.least_unlawful.Goals as goal
+
+pub earlier-requires-clause-order : goal.earlier-requires-clause-order
+earlier-requires-clause-order c = rw (c.order.ensures.order, c.problem.ensures.problem) (long_order c.order.ensures.admitted)
+
+pub returns : goal.returns
+returns c =
+    let g = c.args.admitted.now.graph in
+    let cube = c.args.column.now.cube in
+    rw (c.earlier.ensures, c.order.ensures.order, c.problem.ensures.problem)
+    (first_either g c.args.admitted.now.order (matches cube) (λ s. not (item_active g s.values (item_at g c.args.item))) (λ s. list_any (λ l. not (active g s.values (process_of_variable g l.variable))) cube)
+    c.in_ok-inactive.inactive c.in_ok-unrun.unrun c.in_ok-inactive.ensures c.in_ok-unrun.ensures)

@@ -1,0 +1,239 @@
+//! V1: a column that matches has an active item, and the processes of its literals are active.
+ghost use Rattle.std.specs.Prelude.{◌≡◌, ◌≤◌, ◌<◌, ◌&&◌, ℕ, List, All, IfNone, IfOk, IfSome, false, length, not, true};
+ghost use Rattle.std.specs.List.{list_any};
+ghost use Rattle.cpg_base.specs.Activity.{active, item_active, live};
+ghost use Rattle.cpg_base.specs.Graph.{IsVariable, condition_of, edge_at, edge_count, item_at, item_count, message_item, process_count, process_of_variable, source};
+ghost use Rattle.cpg_guard.specs.Guards.{is_passed, test_of};
+ghost use Rattle.cpg_order.specs.First.{IsFirst};
+ghost use Rattle.cpg_order.specs.Scenario.{Scenario, IsScenario};
+ghost use Rattle.cpg_cube.specs.Cube.{holds, matches};
+ghost use Rattle.cpg_cube.specs.Fit.{IsKnown};
+ghost use Rattle.cpg_table.specs.Valid.{breaks_activity};
+ghost use Rattle.cpg_check_rows.specs.Active.{is_idle};
+ghost use Rattle.cpg_violation.specs.Heads.{IsHeadFor};
+ghost use Rattle.cpg_violation.specs.Violation.{Holds, IsFirstColumn, IsFirstViolation};
+
+use cpg_base::{OutOfMemory, Problem, Scenario};
+use cpg_cube::{Cube, Literal};
+use cpg_rules::Admitted;
+use cpg_table::{Entry, Fault, Tables};
+use cpg_violation::{
+    columns_of, earlier, is_message, item_count, least_at, process_of_variable, source,
+    value_literal,
+};
+use std::alloc::Global;
+
+/// The least scenario that a cube matches and in which a process isn't active, if there is one.
+fn least_idle(
+    alloc: Global,
+    admitted: &Admitted,
+    process: u32,
+    cube: &Cube,
+) -> Result<Option<Scenario>, OutOfMemory>
+    requires process { process < process_count admitted.now.graph }
+    requires cube { IsKnown admitted.now.graph cube.now }
+    ensures { IfOk result (IsFirst admitted.now.graph admitted.now.order (λ s. matches cube.now s && not (active admitted.now.graph s.values process))) }
+{
+    let problem = admitted.problem();
+    let order = admitted.order();
+    let tree = admitted.guards().guard_of(process);
+    let found = least_at(alloc, problem, order, tree, false, cube, &[])?;
+    Ok(found)
+}
+
+/// The literal of the value that an edge doesn't ask for, if it asks for one.
+fn other_value(problem: &Problem, edge: u32) -> Option<Literal>
+    requires edge { edge < edge_count problem.now }
+    requires source { source problem.now edge < process_count problem.now }
+    ensures known { IfSome result (λ l. IsVariable problem.now l.variable) }
+    ensures none { IfNone result ((s : Scenario) → is_passed (test_of (condition_of problem.now (source problem.now edge)) (edge_at problem.now edge).when) s.values ≡ true) }
+    ensures some { IfSome result (λ l. (s : Scenario) → holds s l ≡ not (is_passed (test_of (condition_of problem.now (source problem.now edge)) (edge_at problem.now edge).when) s.values)) }
+{
+    let edge = problem.edges()[edge as usize];
+    let Some(condition) = problem.condition_of(edge.from) else {
+        return None;
+    };
+    let Some(value) = edge.when else {
+        return None;
+    };
+    Some(value_literal(condition, !value))
+}
+
+/// The least scenario that a cube matches and in which a literal holds, if there is one.
+fn least_with(
+    alloc: Global,
+    problem: &Problem,
+    cube: &Cube,
+    literal: Literal,
+) -> Result<Option<Scenario>, OutOfMemory>
+    requires cube { IsKnown problem.now cube.now }
+    requires literal { IsVariable problem.now literal.variable }
+    ensures { IfOk result (λ r. (order : List ℕ) → IsFirst problem.now order (λ s. matches cube.now s && holds s literal) r) }
+{
+    let Some(part) = cube.with(literal)? else {
+        return Ok(None);
+    };
+    let found = part.least(alloc, problem)?;
+    Ok(found)
+}
+
+/// The least scenario that a cube matches and in which an edge isn't live, if there is one: its source isn't active, or
+/// has the other value.
+fn least_unlive(
+    alloc: Global,
+    admitted: &Admitted,
+    edge: u32,
+    cube: &Cube,
+) -> Result<Option<Scenario>, OutOfMemory>
+    requires edge { edge < edge_count admitted.now.graph }
+    requires cube { IsKnown admitted.now.graph cube.now }
+    ensures { IfOk result (IsFirst admitted.now.graph admitted.now.order (λ s. matches cube.now s && not (live admitted.now.graph s.values edge))) }
+{
+    let problem = admitted.problem();
+    let order = admitted.order();
+    let process = source(problem, edge);
+    let idle = least_idle(alloc, admitted, process, cube)?;
+    let Some(literal) = other_value(problem, edge) else {
+        return Ok(idle);
+    };
+    let other = least_with(alloc, problem, cube, literal)?;
+    Ok(earlier(problem, order, idle, other))
+}
+
+/// The least scenario that a cube matches and in which an edge's message isn't active, if there is one.
+fn least_unsent(
+    alloc: Global,
+    admitted: &Admitted,
+    edge: u32,
+    cube: &Cube,
+) -> Result<Option<Scenario>, OutOfMemory>
+    requires edge { edge < edge_count admitted.now.graph }
+    requires cube { IsKnown admitted.now.graph cube.now }
+    ensures { IfOk result (IsFirst admitted.now.graph admitted.now.order (λ s. matches cube.now s && not (item_active admitted.now.graph s.values (item_at admitted.now.graph (message_item admitted.now.graph edge))))) }
+{
+    let problem = admitted.problem();
+    if !is_message(problem, edge) {
+        let found = cube.least(alloc, problem)?;
+        return Ok(found);
+    }
+    let found = least_unlive(alloc, admitted, edge, cube)?;
+    Ok(found)
+}
+
+/// The least scenario that a cube matches and in which an item isn't active, if there is one.
+fn least_inactive(
+    alloc: Global,
+    admitted: &Admitted,
+    item: u32,
+    cube: &Cube,
+) -> Result<Option<Scenario>, OutOfMemory>
+    requires item { item < item_count admitted.now.graph }
+    requires cube { IsKnown admitted.now.graph cube.now }
+    ensures { IfOk result (IsFirst admitted.now.graph admitted.now.order (λ s. matches cube.now s && not (item_active admitted.now.graph s.values (item_at admitted.now.graph item)))) }
+{
+    let problem = admitted.problem();
+    let processes = problem.processes().len() as u32;
+    let edges = problem.edges().len() as u32;
+    if item < processes {
+        let found = least_idle(alloc, admitted, item, cube)?;
+        return Ok(found);
+    }
+    if item - processes < edges {
+        let found = least_unsent(alloc, admitted, item - processes, cube)?;
+        return Ok(found);
+    }
+    if problem.nodes().len() < 2 {
+        let found = cube.least(alloc, problem)?;
+        return Ok(found);
+    }
+    let process = problem.process_of(item - processes - edges);
+    let found = least_idle(alloc, admitted, process, cube)?;
+    Ok(found)
+}
+
+/// The least scenario that a cube matches and in which the process of one of its literals isn't active, if there is one.
+fn least_unrun(
+    alloc: Global,
+    admitted: &Admitted,
+    cube: &Cube,
+) -> Result<Option<Scenario>, OutOfMemory>
+    requires { IsKnown admitted.now.graph cube.now }
+    ensures { IfOk result (IsFirst admitted.now.graph admitted.now.order (λ s. matches cube.now s && list_any (λ l. not (active admitted.now.graph s.values (process_of_variable admitted.now.graph l.variable))) cube.now)) }
+{
+    let problem = admitted.problem();
+    let order = admitted.order();
+    let mut found: Option<Scenario> = None;
+    for literal in cube.literals() {
+        let process = process_of_variable(problem, literal.variable);
+        let next = least_idle(alloc, admitted, process, cube)?;
+        found = earlier(problem, order, found, next);
+    }
+    Ok(found)
+}
+
+/// The least scenario that a column matches and in which its item, or the process of one of its literals, isn't active;
+/// if there is one.
+fn least_unlawful(
+    alloc: Global,
+    admitted: &Admitted,
+    item: u32,
+    column: &Entry,
+) -> Result<Option<Scenario>, OutOfMemory>
+    requires item { item < item_count admitted.now.graph }
+    requires cube { IsKnown admitted.now.graph column.now.cube }
+    ensures { IfOk result (IsFirst admitted.now.graph admitted.now.order (λ s. matches column.now.cube s && breaks_activity admitted.now.graph s item column.now)) }
+{
+    let inactive = least_inactive(alloc, admitted, item, &column.cube)?;
+    let unrun = least_unrun(alloc, admitted, &column.cube)?;
+    Ok(earlier(admitted.problem(), admitted.order(), inactive, unrun))
+}
+
+/// The first column of an item's row that matches in a scenario in which the item, or the process of one of its literals,
+/// isn't active; and the least such scenario.
+fn first_idle(
+    alloc: Global,
+    admitted: &Admitted,
+    item: u32,
+    columns: &[Entry],
+) -> Result<Option<(u32, Scenario)>, OutOfMemory>
+    requires item { item < item_count admitted.now.graph }
+    requires columns { All (λ c. IsKnown admitted.now.graph c.cube) columns.now }
+    requires few { length columns.now ≤ 524288 }
+    ensures none { IfOk result (λ r. IfNone r ((i : ℕ) (s : Scenario) → IsScenario admitted.now.graph s → is_idle admitted.now.graph item columns.now i s ≡ false)) }
+    ensures first { IfOk result (λ r. IfSome r (IsFirstColumn admitted.now.graph admitted.now.order (is_idle admitted.now.graph item columns.now))) }
+{
+    for (place, column) in columns.iter().enumerate() {
+        let unlawful = least_unlawful(alloc, admitted, item, column)?;
+        if let Some(scenario) = unlawful {
+            return Ok(Some((place as u32, scenario)));
+        }
+    }
+    Ok(None)
+}
+
+/// The first violation of V1, by item and column, with the least scenario in the urgency order in which it stands: the
+/// column matches, and the item or the process of one of the column's literals isn't active. `None` exactly where the
+/// rule holds.
+pub fn check_activity(
+    alloc: Global,
+    admitted: &Admitted,
+    tables: &Tables,
+) -> Result<Option<Fault>, OutOfMemory>
+    requires { IsHeadFor admitted.now.graph tables.now.head }
+    ensures none { IfOk result (λ r. IfNone r (Holds admitted.now.graph tables.now.nodes 1)) }
+    ensures first { IfOk result (λ r. IfSome r (IsFirstViolation admitted.now.graph admitted.now.order tables.now.nodes 1)) }
+{
+    for item in 0..item_count(admitted.problem()) {
+        let columns = columns_of(tables, item);
+        let idle = first_idle(alloc, admitted, item, columns)?;
+        if let Some((column, scenario)) = idle {
+            return Ok(Some(Fault {
+                rule: 1,
+                item,
+                column: Some(column),
+                scenario,
+            }));
+        }
+    }
+    Ok(None)
+}

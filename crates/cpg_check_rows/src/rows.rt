@@ -1,0 +1,35 @@
+//! The rules V1, V2 and V3, one after the other.
+ghost use Rattle.std.specs.Prelude.{◌≡◌, IfNone, IfOk, IfSome};
+ghost use Rattle.cpg_violation.specs.Heads.{IsHeadFor};
+ghost use Rattle.cpg_violation.specs.Violation.{HoldFrom, IsFirstOf};
+
+use crate::activity::check_activity;
+use crate::present::check_present;
+use crate::single::check_single;
+use cpg_base::OutOfMemory;
+use cpg_rules::Admitted;
+use cpg_table::{Fault, Tables};
+use std::alloc::Global;
+
+/// The first violation of V1, V2 and V3, by rule, item and column, with the least scenario in the urgency order in which
+/// it stands. `None` exactly where the three rules hold.
+pub fn check_rows(
+    alloc: Global,
+    admitted: &Admitted,
+    tables: &Tables,
+) -> Result<Option<Fault>, OutOfMemory>
+    requires { IsHeadFor admitted.now.graph tables.now.head }
+    ensures none { IfOk result (λ r. IfNone r (HoldFrom admitted.now.graph tables.now.nodes 1 3)) }
+    ensures first { IfOk result (λ r. IfSome r (IsFirstOf admitted.now.graph admitted.now.order tables.now.nodes 1 3)) }
+{
+    let idle = check_activity(alloc, admitted, tables)?;
+    if let Some(fault) = idle {
+        return Ok(Some(fault));
+    }
+    let double = check_single(alloc, admitted, tables)?;
+    if let Some(fault) = double {
+        return Ok(Some(fault));
+    }
+    let absent = check_present(alloc, admitted, tables)?;
+    Ok(absent)
+}

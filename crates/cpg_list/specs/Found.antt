@@ -1,0 +1,20 @@
+-- What is found of a graph before its tables are written.
+use Rattle.std.specs.Prelude.{ℕ, ◌≡◌, List, Option, map}
+use Rattle.cpg_base.specs.Numbers.{numbers_below}
+use Rattle.cpg_base.specs.Graph.{Graph, item_count}
+use Rattle.cpg_table.specs.Shape.{items_of}
+use Rattle.cpg_table.specs.Table.{Column, Row}
+use Rattle.cpg_run.specs.Frozen.{AreFrozenTimes}
+use Rattle.cpg_times.specs.Known.{AreEarly}
+use Rattle.cpg_rows.specs.Rows.{AreRows}
+
+-- the columns of rows
+abbrev pub columns_of_rows : List Row → List (List Column)
+columns_of_rows rows = map (λ (row : Row). row.columns) rows
+
+-- the frozen times, and the row of each item by number
+pub record AreRowsFound (g : Graph) (urgency order : List ℕ) (frozen : List (Option ℕ)) (rows : List Row) : Type 0 where
+  pub frozen_times : AreFrozenTimes g order frozen
+  pub early : AreEarly frozen
+  pub items : items_of rows ≡ numbers_below (item_count g)
+  pub found : AreRows g urgency order frozen (columns_of_rows rows)

@@ -1,0 +1,45 @@
+-- Rows of all items, and tables that are written from them.
+use Rattle.std.specs.Prelude.{ℕ, ◌*◌, ◌^◌, ◌≡◌, ◌≤◌, ◌<◌, false, List, [], Some, length, map, get_or, sum_by, slice_get, All}
+use Rattle.cpg_base.specs.Numbers.{numbers_below}
+use Rattle.cpg_base.specs.Graph.{Graph, process_count, item_count, item_at, home, is_sent}
+use Rattle.cpg_base.specs.Bus.{slot_length}
+use Rattle.cpg_cube.specs.Cube.{top, is_whole}
+use Rattle.cpg_cube.specs.Fit.{IsCube}
+use Rattle.cpg_order.specs.Reach.{rows_of_item}
+use Rattle.cpg_table.specs.GraphHead.{head_of}
+use Rattle.cpg_table.specs.Lawful.{Tables, AreTablesOf}
+use Rattle.cpg_table.specs.Shape.{items_of}
+use Rattle.cpg_table.specs.Table.{Column, Row, NodeTable, columns_of}
+use Rattle.cpg_table.specs.Valid.{later_by, hear_rows}
+
+-- the row of an item, where each stands at the number of its item
+abbrev pub row_for : List Row → ℕ → Row
+row_for rows x = get_or rows x (record { item = 0; columns = [] })
+
+-- what is heard of an item: its columns, each later by the sender's slot
+abbrev pub heard_row : Graph → List Row → ℕ → Row
+heard_row g rows x = record { item = x; columns = map (later_by (slot_length g (home g x))) (row_for rows x).columns }
+
+-- a column that a table may have, also where it is later by a slot
+pub record IsWritable (g : Graph) (c : Column) : Type 0 where
+  pub time : c.time < 2 ^ 59
+  pub cube : IsCube g c.cube
+  pub some : All (λ l. l.low ≤ l.high) c.cube
+  pub within : All (λ l. l.high ≤ top g.faults l.variable) c.cube
+  pub not_whole : All (λ l. is_whole g.faults l ≡ false) c.cube
+
+-- a row for each item by number, with columns that tables may have: not too many in a row, nor in all rows of all nodes,
+-- and none where nothing is started or sent
+pub record AreWritable (g : Graph) (rows : List Row) : Type 0 where
+  pub items : items_of rows ≡ numbers_below (item_count g)
+  pub lawful : All (λ row. All (IsWritable g) row.columns) rows
+  pub few : All (λ row. length row.columns ≤ 16384) rows
+  pub loads : sum_by (λ x. length (row_for rows x).columns * rows_of_item g (item_at g x)) (numbers_below (item_count g)) ≤ 524288
+  pub unsent : (x : ℕ) → process_count g ≤ x → x < item_count g → is_sent g x ≡ false → (row_for rows x).columns ≡ []
+
+-- tables under the graph's head in which each item has the columns of its row, and each node hears what others send to it
+pub record AreTablesWith (g : Graph) (rows : List Row) (t : Tables) : Type 0 where
+  pub head : t.head ≡ head_of g
+  pub lawful : AreTablesOf (head_of g) t.nodes
+  pub columns : (x : ℕ) → columns_of t.nodes x ≡ (row_for rows x).columns
+  pub hears : (node : ℕ) (u : NodeTable) → slice_get t.nodes node ≡ Some u → u.hears ≡ hear_rows g t.nodes node

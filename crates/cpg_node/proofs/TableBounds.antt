@@ -1,0 +1,60 @@
+-- What a lawful table says of its times.
+use Rattle.std.proofs.Common.{ℕ, ◌<◌, ◌≤◌, ◌+◌, ◌^◌, Bool, true, false, cond, ◌==◌, List, [], ◌∷◌, ◌++◌, length, map, Contains, Some, None, sym, subst, inl, inr}
+use Rattle.std.specs.Prelude.{All}
+use Rattle.std.proofs.lemmas.List.Elements.{All-cons, All-append, All-head, All-tail, All-nil, All-contains, All-contains_itself, All-weaker, Contains-append_left, Contains-append_right, Contains-append_cases}
+use Rattle.cpg_base.proofs.Lists.{Contains-flat_map_parts, Contains-map_parts}
+use Rattle.cpg_table.specs.Table.{Column, Row, NodeTable}
+use Rattle.cpg_table.specs.declared.head_parts.HeadProcess.{HeadProcess}
+use Rattle.cpg_table.specs.Head.{IsHeadProcess}
+use Rattle.cpg_table.specs.Items.{own_front, own_from}
+use Rattle.cpg_table.specs.Lawful.{IsTable, IsLawfulRow, IsLawfulColumn, rows_of, space_of}
+use Rattle.cpg_node.specs.Dispatcher.{Own, times_in}
+use Rattle.cpg_node.specs.Plan.{Planned, plan_of, SameAtEachTime}
+use Rattle.cpg_node.proofs.Planning.{planned_in, planned_time}
+
+-- the durations of a process
+abbrev pub AreShort : Own → Type 0
+AreShort o = All (λ d. d < 2 ^ 60) o.times
+
+own_short : (k n node p c : ℕ) (qs : List HeadProcess) → All (IsHeadProcess k n) qs → All AreShort (own_from node p c qs)
+own_short k n node p c [] h = All-nil AreShort
+own_short k n node p c (q ∷ qs) h = All-append AreShort (own_front node p c q) (own_from node (p + 1) (cond q.condition (c + 1) c) qs)
+    (front (q.node == node)) (own_short k n node (p + 1) (cond q.condition (c + 1) c) qs (All-tail (IsHeadProcess k n) q qs h))
+  where
+    front : (b : Bool) → All AreShort (cond b (record { process = p; condition = cond q.condition (Some c) None; times = q.times } ∷ []) [])
+    front true = All-cons AreShort (record { process = p; condition = cond q.condition (Some c) None; times = q.times }) [] ((All-head (IsHeadProcess k n) q qs h).times) (All-nil AreShort)
+    front false = All-nil AreShort
+
+-- an execution takes less than 2 to the 60
+pub times_short : (t : NodeTable) → IsTable t → All AreShort t.own
+times_short t h = subst (All AreShort) (sym h.of.own) (own_short h.head.faults (length h.head.nodes) h.node 0 0 h.head.processes h.lawful.processes)
+
+-- rows that are among those of a table have few columns
+rows_few : (t : NodeTable) → IsTable t → (rows : List Row) → ((row : Row) → Contains rows row → Contains (rows_of t) row) → All (λ (row : Row). length row.columns ≤ 16384) rows
+rows_few t h rows in' = All-weaker (Contains rows) (λ (row : Row). length row.columns ≤ 16384)
+    (λ row c. (All-contains (IsLawfulRow (space_of h.head)) (rows_of t) row h.of.lawful (in' row c)).few) rows (All-contains_itself rows)
+
+in_sends : (t : NodeTable) (row : Row) → Contains t.sends row → Contains (rows_of t) row
+in_sends t row c = Contains-append_right t.starts (t.sends ++ t.hears) row (Contains-append_left t.sends t.hears row c)
+
+in_starts : (t : NodeTable) (row : Row) → Contains t.starts row → Contains (rows_of t) row
+in_starts t row c = Contains-append_left t.starts (t.sends ++ t.hears) row c
+
+pub sends_few : (t : NodeTable) → IsTable t → All (λ (row : Row). length row.columns ≤ 16384) t.sends
+sends_few t h = rows_few t h t.sends (in_sends t)
+
+pub starts_few : (t : NodeTable) → IsTable t → All (λ (row : Row). length row.columns ≤ 16384) t.starts
+starts_few t h = rows_few t h t.starts (in_starts t)
+
+time_early : (t : NodeTable) → IsTable t → (rows : List Row) → ((row : Row) → Contains rows row → Contains (rows_of t) row) → (x : ℕ) → Contains (times_in rows) x → x < 2 ^ 60
+time_early t h rows in' x c =
+    let r = Contains-flat_map_parts (λ (row : Row). map (λ (d : Column). d.time) row.columns) rows x c in
+    let d = Contains-map_parts (λ (d : Column). d.time) r.0.columns x r.2 in
+    subst (λ n. n < 2 ^ 60) d.2 ((All-contains (IsLawfulColumn (space_of h.head)) r.0.columns d.0
+    ((All-contains (IsLawfulRow (space_of h.head)) (rows_of t) r.0 h.of.lawful (in' r.0 r.1)).columns) d.1).time)
+
+-- what is planned is before 2 to the 60
+pub plan_early : (t : NodeTable) → IsTable t → (plan : List Planned) → SameAtEachTime plan (plan_of t) → All (λ (p : Planned). p.time < 2 ^ 60) plan
+plan_early t h plan same = All-weaker (Contains plan) (λ (p : Planned). p.time < 2 ^ 60)
+    (λ p c. time_early t h (t.sends ++ t.starts) (λ row d. elim (Contains-append_cases t.sends t.starts row d) [ inl k ↦ in_sends t row k | inr k ↦ in_starts t row k ])
+    p.time (planned_time t p (planned_in plan (plan_of t) same p c))) plan (All-contains_itself plan)

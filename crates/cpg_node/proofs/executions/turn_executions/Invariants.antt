@@ -1,0 +1,7 @@
+use Rattle.std.proofs.Common.{◌≡◌, ◌++◌}
+use Rattle.cpg_node.specs.Dispatcher.{running_after}
+use Rattle.cpg_node.proofs.Places.{zip_front}
+use Rattle.cpg_node.proofs.executions.turn_executions.Given as goal
+
+abbrev pub invariant-loop-place : goal.invariant-loop-place
+invariant-loop-place l = l.running ≡ zip_front (running_after (l.ended ++ l.due) l.acts l.time) l.place l.own l.fn.running

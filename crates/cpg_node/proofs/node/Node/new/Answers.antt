@@ -1,0 +1,22 @@
+use Rattle.std.proofs.Common.{sym, subst, None, refl, rules}
+use Rattle.std.proofs.lemmas.List.Elements.{All-replicate}
+use Rattle.cpg_node.specs.Plan.{Planned}
+use Rattle.cpg_node.specs.State.{IsTimed, AreTimed}
+use Rattle.cpg_node.proofs.Turning.{line_open, next_open}
+use Rattle.cpg_node.proofs.TableBounds.{plan_early}
+use Rattle.cpg_node.proofs.node.Node.new.Goals as goal
+
+pub invariant_of-result : goal.invariant_of-result
+invariant_of-result c = record {
+  count = search rules;
+  mirror = search rules;
+  starts = subst AreTimed (sym (c.in_ok-running.ensures.items_if_clones_equal (search rules))) (All-replicate IsTimed _ None tt);
+  planned = c.in_ok-plan.ensures.same;
+  early = plan_early c.args.table c.own.ensures.made c.in_ok-plan.plan.items c.in_ok-plan.ensures.same;
+  entries = line_open (λ (p : Planned). p.time) c.in_ok-plan.plan.items c.in_ok-plan.ensures.rises;
+  times = c.in_ok-times.ensures.same;
+  instants = line_open (λ t. t) c.in_ok-times.times.items c.in_ok-times.ensures.rises;
+  next = next_open (record { table = c.args.table; heard = c.in_ok-heard.heard.items; running = c.in_ok-running.running.items; last = None }) refl;
+  room = search rules;
+  due_room = search rules;
+}

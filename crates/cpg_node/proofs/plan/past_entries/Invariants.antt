@@ -1,0 +1,13 @@
+use Rattle.std.proofs.Common.{◌≤◌, ◌<◌, ◌-◌, ℕ, length, get_or}
+use Rattle.cpg_node.specs.Plan.{Planned}
+use Rattle.cpg_node.proofs.plan.past_entries.Given as goal
+
+abbrev pub invariant-loop-place : goal.invariant-loop-place
+invariant-loop-place l = record {
+  from : l.from ≤ l.place;
+  within : l.place ≤ length l.plan;
+  before : (i : ℕ) (d : Planned) → l.from ≤ i → i < l.place → (get_or l.plan i d).time ≤ l.time;
+}
+
+abbrev pub decreases-loop-place : goal.decreases-loop-place
+decreases-loop-place l = length l.plan - l.place

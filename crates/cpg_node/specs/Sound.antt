@@ -1,0 +1,29 @@
+-- What a node keeps for its calls.
+use Rattle.std.specs.Prelude.{◌≡◌, ◌≤◌, ◌<◌, ◌^◌, length, All, IsPermutation}
+use Rattle.std.specs.Vec.{vec_capacity}
+use Rattle.cpg_node.specs.declared.node.Node.TheInside.{Inside}
+use Rattle.cpg_node.specs.Dispatcher.{Dispatcher, next}
+use Rattle.cpg_node.specs.Plan.{Planned, plan_of, fixed_times, SameAtEachTime, IsLine}
+use Rattle.cpg_node.specs.State.{NodeState, AreTimed}
+
+-- the dispatcher of a node's fields
+abbrev pub dispatcher_of : Inside → Dispatcher
+dispatcher_of n = record { table = n.table; heard = n.heard.items; running = n.running.items; last = n.last }
+
+-- the state of a node's fields
+abbrev pub state_of : Inside → NodeState
+state_of n = record { dispatcher = dispatcher_of n; acts = n.acts.items }
+
+-- the entries and the times in order, the next instant, and room for a turn
+pub record IsSound (n : Inside) : Type 0 where
+  pub count : length n.running.items ≡ length n.table.own
+  pub mirror : length n.heard.items ≡ length n.before.items
+  pub starts : AreTimed n.running.items
+  pub planned : SameAtEachTime n.plan.items (plan_of n.table)
+  pub early : All (λ (p : Planned). p.time < 2 ^ 60) n.plan.items
+  pub entries : IsLine (λ (p : Planned). p.time) n.last n.plan.items n.plan_place
+  pub times : IsPermutation (fixed_times n.table) n.times.items
+  pub instants : IsLine (λ t. t) n.last n.times.items n.times_place
+  pub next : n.next ≡ next (dispatcher_of n)
+  pub room : length n.plan.items ≤ vec_capacity n.acts
+  pub due_room : length n.table.own ≤ vec_capacity n.due

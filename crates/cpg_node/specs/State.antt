@@ -1,0 +1,83 @@
+-- The state of a node, and what its calls ask for.
+use Rattle.std.specs.Prelude.{ℕ, ◌≡◌, ◌<◌, ◌≤◌, ◌+◌, ◌^◌, min, nat_lt, ◌&&◌, Bool, true, false, ◌==◌, if◌then◌else◌, List, [], ◌∷◌, Option, Some, None, option_map, option_and_then, get_or, length, All, IfSome}
+use Rattle.std.specs.List.{list_any}
+use Rattle.cpg_table.specs.Table.{Row, columns_in}
+use Rattle.cpg_node.specs.Dispatcher.{Dispatcher, Own, OwnTable, Ended, Frame, Act, Running, own_of, is_after, next, no_column}
+
+-- a dispatcher, and what it did in its last turn
+pub record NodeState : Type 0 where
+  pub dispatcher : Dispatcher
+  pub acts : List Act
+
+-- the execution of a process, where it runs, by the processes of the node and what runs
+abbrev pub running_in : List Own → List (Option Running) → ℕ → Option Running
+running_in [] runs p = None
+running_in (o ∷ os) [] p = None
+running_in (o ∷ os) (run ∷ runs) p = if o.process == p then run else running_in os runs p
+
+-- the execution of a process, where it runs on the node
+abbrev pub running_of : Dispatcher → ℕ → Option Running
+running_of d p = running_in d.table.own d.running p
+
+-- when the execution of a process started, where it runs on the node
+abbrev pub start_of : Dispatcher → ℕ → Option ℕ
+start_of d p = option_map (λ (run : Running). run.start) (running_of d p)
+
+-- the kept report of a process that runs on the node
+abbrev pub report_of : Dispatcher → ℕ → Option Ended
+report_of d p = option_and_then (λ (run : Running). run.report) (running_of d p)
+
+-- how long an execution of a process of the node takes with so many faults
+abbrev pub time_of : Dispatcher → ℕ → ℕ → ℕ
+time_of d p faults = get_or (own_of d.table p).times faults 0
+
+-- an execution that hasn't reported, and ends at the time by its faults
+pub record EndsAt (d : Dispatcher) (time : ℕ) (e : Ended) : Type 0 where
+  pub run : Running
+  pub runs : running_of d e.process ≡ Some run
+  pub unreported : run.report ≡ None
+  pub few : e.faults ≤ d.table.faults
+  pub planned : run.start + time_of d e.process e.faults ≡ time
+
+-- a frame of a column that arrives at the time
+pub record ArrivesAt (d : Dispatcher) (time : ℕ) (f : Frame) : Type 0 where
+  pub there : f.column < length (columns_in d.table.hears f.item)
+  pub arrives : (get_or (columns_in d.table.hears f.item) f.column no_column).time ≡ time
+
+-- there is a next instant, at which these executions end and these frames arrive
+pub record MayTurn (d : Dispatcher) (ended : List Ended) (frames : List Frame) : Type 0 where
+  pub time : ℕ
+  pub comes : next d ≡ Some time
+  pub ends : All (EndsAt d time) ended
+  pub arrive : All (ArrivesAt d time) frames
+
+-- an execution that hasn't reported may have ended between the last turn and the next one, not later than planned
+pub record MayFinish (d : Dispatcher) (e : Ended) : Type 0 where
+  pub time : ℕ
+  pub run : Running
+  pub runs : running_of d e.process ≡ Some run
+  pub unreported : run.report ≡ None
+  pub few : e.faults ≤ d.table.faults
+  pub plain : (own_of d.table e.process).condition ≡ None → e.value ≡ false
+  pub started : run.start < time
+  pub in_time : time ≤ run.start + time_of d e.process e.faults
+  pub later : is_after d.last time ≡ true
+  pub before : IfSome (next d) (λ n. time ≤ n)
+
+-- whether a frame's item is in the hear rows, and its column there arrives at the time
+abbrev pub arrives : OwnTable → ℕ → Frame → Bool
+arrives table arrival f = list_any (λ (row : Row). row.item == f.item) table.hears && nat_lt f.column (length (columns_in table.hears f.item))
+    && ((get_or (columns_in table.hears f.item) f.column no_column).time == arrival)
+
+-- the lesser of two times, where there are some
+abbrev pub earlier : Option ℕ → Option ℕ → Option ℕ
+earlier None other = other
+earlier (Some time) None = Some time
+earlier (Some time) (Some other) = Some (min time other)
+
+-- what runs has started at a time that is not too great for a sum
+abbrev pub IsTimed : Option Running → Type 0
+IsTimed running = IfSome running (λ (run : Running). run.start < 2 ^ 60)
+
+abbrev pub AreTimed : List (Option Running) → Type 0
+AreTimed runs = All IsTimed runs

@@ -1,0 +1,212 @@
+//! What runs on a node, by place in its own processes.
+ghost use Rattle.std.specs.Prelude.{◌≡◌, ◌≤◌, ◌<◌, ◌+◌, ◌^◌, ◌++◌, ◌∷◌, [], ◌||◌, ◌==◌, List, All, IfSome, Some, map, filter, length, option_to_list};
+ghost use Rattle.std.specs.List.{flat_map, list_any};
+ghost use Rattle.std.specs.Vec.{vec_len, vec_capacity};
+ghost use Rattle.cpg_node.specs.Dispatcher.{least_of, is_after, possible_ends, zip_with, with_report, due_reports_of, running_after};
+ghost use Rattle.cpg_node.specs.State.{earlier, running_in, IsTimed, AreTimed};
+
+use crate::{Act, Ended, Running};
+use cpg_table::Own;
+
+/// The execution of a process, where it runs here.
+pub fn running_in(own: &[Own], running: &[Option<Running>], process: u32) -> Option<Running>
+    requires { length own.now ≡ length running.now }
+    ensures { result ≡ running_in own.now running.now process }
+{
+    for (place, own) in own.iter().enumerate() {
+        if own.process == process {
+            return running[place];
+        }
+    }
+    None
+}
+
+/// The lesser of two times.
+pub fn earlier(time: Option<u64>, other: Option<u64>) -> Option<u64>
+    ensures { result ≡ earlier time other }
+{
+    let Some(first) = time else {
+        return other;
+    };
+    let Some(second) = other else {
+        return time;
+    };
+    Some(first.min(second))
+}
+
+/// A possible end, where it is after the last turn.
+fn end_after(start: u64, duration: u64, last: u64) -> Option<u64>
+    requires { start + duration < 2 ^ 64 }
+    ensures { result ≡ least_of (filter (is_after (Some last)) ((start + duration) ∷ [])) }
+{
+    let end = start + duration;
+    if end > last { Some(end) } else { None }
+}
+
+/// The first possible end of an execution after the last turn.
+fn first_end(times: &[u64], start: u64, last: u64) -> Option<u64>
+    requires times { All (λ d. d < 2 ^ 60) times.now }
+    requires start { start < 2 ^ 60 }
+    ensures { result ≡ least_of (filter (is_after (Some last)) (map (λ d. start + d) times.now)) }
+{
+    let mut first = None;
+    for duration in times {
+        first = earlier(first, end_after(start, *duration, last));
+    }
+    first
+}
+
+/// The first possible end of a process after the last turn.
+fn first_end_of(own: &Own, running: Option<Running>, last: u64) -> Option<u64>
+    requires times { All (λ d. d < 2 ^ 60) own.now.times }
+    requires start { IsTimed running }
+    ensures { result ≡ least_of (filter (is_after (Some last)) (possible_ends own.now running)) }
+{
+    let Some(running) = running else {
+        return None;
+    };
+    first_end(own.times.times(), running.start, last)
+}
+
+/// The first possible end on the node after the last turn.
+pub fn earliest_end(own: &[Own], running: &[Option<Running>], last: u64) -> Option<u64>
+    requires same { length own.now ≡ length running.now }
+    requires times { All (λ o. All (λ d. d < 2 ^ 60) o.times) own.now }
+    requires starts { AreTimed running.now }
+    ensures { result ≡ least_of (filter (is_after (Some last)) (flat_map (λ ends. ends) (zip_with possible_ends own.now running.now))) }
+{
+    let mut first = None;
+    for (place, own) in own.iter().enumerate() {
+        first = earlier(first, first_end_of(own, running[place], last));
+    }
+    first
+}
+
+/// An execution after a report, which it keeps if it is its own.
+fn with_report(ended: Ended, own: &Own, running: Option<Running>) -> Option<Running>
+    ensures { result ≡ with_report ended own.now running }
+{
+    let running = running?;
+    if own.process != ended.process {
+        return Some(running);
+    }
+    Some(Running {
+        start: running.start,
+        report: Some(ended),
+    })
+}
+
+/// The execution of the report keeps it.
+pub fn note_report(own: &[Own], running: &mut [Option<Running>], ended: Ended)
+    requires { length own.now ≡ length running.old }
+    ensures { running.new ≡ zip_with (with_report ended) own.now running.old }
+{
+    for (place, own) in own.iter().enumerate() {
+        running[place] = with_report(ended, own, running[place]);
+    }
+}
+
+/// The report of an execution, where its planned end is at the time.
+fn due_report(own: &Own, running: Option<Running>, time: u64) -> Option<Ended>
+    requires times { All (λ d. d < 2 ^ 60) own.now.times }
+    requires start { IsTimed running }
+    ensures { option_to_list result ≡ due_reports_of time own.now running }
+{
+    let running = running?;
+    let ended = running.report?;
+    let duration = own
+        .times
+        .times()
+        .get(ended.faults as usize)
+        .copied()
+        .unwrap_or(0);
+    if running.start + duration == time {
+        Some(ended)
+    } else {
+        None
+    }
+}
+
+/// Adds the report of an execution, where its planned end is at the time.
+fn add_due(own: &Own, running: Option<Running>, time: u64, due: &mut Vec<Ended>)
+    requires times { All (λ d. d < 2 ^ 60) own.now.times }
+    requires start { IsTimed running }
+    requires room { vec_len due.old < vec_capacity due.old }
+    ensures added { due.new.items ≡ due.old.items ++ due_reports_of time own.now running }
+    ensures one { vec_len due.new ≤ vec_len due.old + 1 }
+    ensures room { vec_capacity due.new ≡ vec_capacity due.old }
+{
+    if let Some(ended) = due_report(own, running, time) {
+        due.push_reserved(ended);
+    }
+}
+
+/// Gathers the reports whose planned end is at the time.
+pub fn gather_due(own: &[Own], running: &[Option<Running>], time: u64, due: &mut Vec<Ended>)
+    requires same { length own.now ≡ length running.now }
+    requires times { All (λ o. All (λ d. d < 2 ^ 60) o.times) own.now }
+    requires starts { AreTimed running.now }
+    requires room { length own.now ≤ vec_capacity due.old }
+    ensures reports { due.new.items ≡ flat_map (λ es. es) (zip_with (due_reports_of time) own.now running.now) }
+    ensures room { vec_capacity due.new ≡ vec_capacity due.old }
+{
+    due.clear();
+    for (place, own) in own.iter().enumerate() {
+        add_due(own, running[place], time, due);
+    }
+}
+
+fn is_started(acts: &[Act], process: u32) -> bool
+    ensures { result ≡ list_any (λ a. a.item == process) acts.now }
+{
+    acts.iter().any(|act| act.item == process)
+}
+
+fn is_ended(ended: &[Ended], process: u32) -> bool
+    ensures { result ≡ list_any (λ e. e.process == process) ended.now }
+{
+    ended.iter().any(|end| end.process == process)
+}
+
+/// A process runs from its last start, until it ends.
+fn running_after(
+    ended: &[Ended],
+    due: &[Ended],
+    acts: &[Act],
+    time: u64,
+    own: &Own,
+    running: Option<Running>,
+) -> Option<Running>
+    ensures { result ≡ running_after (ended.now ++ due.now) acts.now time own.now running }
+{
+    if is_started(acts, own.process) {
+        return Some(Running {
+            start: time,
+            report: None,
+        });
+    }
+    if is_ended(ended, own.process) {
+        return None;
+    }
+    if is_ended(due, own.process) {
+        return None;
+    }
+    running
+}
+
+/// What runs after a turn.
+pub fn turn_executions(
+    ended: &[Ended],
+    due: &[Ended],
+    acts: &[Act],
+    time: u64,
+    own: &[Own],
+    running: &mut [Option<Running>],
+)
+    requires { length own.now ≡ length running.old }
+    ensures { running.new ≡ zip_with (running_after (ended.now ++ due.now) acts.now time) own.now running.old }
+{
+    for (place, own) in own.iter().enumerate() {
+        running[place] = running_after(ended, due, acts, time, own, running[place]);
+    }
+}

@@ -1,0 +1,226 @@
+//! What a node has heard: the numbers that each variable may still have.
+ghost use Rattle.std.specs.Prelude.{◌≡◌, ◌==◌, IfOk, not, fold, get_or, map, length};
+ghost use Rattle.std.specs.List.{list_all, list_any};
+ghost use Rattle.std.specs.Bool.{OnTrue, OnFalse};
+ghost use Rattle.cpg_base.specs.Numbers.{numbers_below};
+ghost use Rattle.cpg_table.specs.Table.{columns_in};
+ghost use Rattle.cpg_node.specs.Dispatcher.{know, cut, cut_all, has_heard, own_of, hear_end, hear_frame, is_contradicted, no_column, whole_range, variable_count};
+ghost use Rattle.cpg_node.specs.State.{arrives};
+
+use crate::range::Range;
+use crate::{Ended, Frame};
+use cpg_base::OutOfMemory;
+use cpg_cube::Literal;
+use cpg_table::{Entry, NodeTable, Row};
+use std::alloc::Global;
+
+/// The variable of the first condition.
+const FIRST_VALUE: usize = 128;
+/// How many variables there may be.
+const VARIABLES: usize = 160;
+
+/// The range of a variable of which nothing has been heard.
+fn whole_range(faults: u8, variable: usize) -> Range
+    ensures { result ≡ whole_range faults variable }
+{
+    let high = if variable < FIRST_VALUE { faults } else { 1 };
+    Range { low: 0, high }
+}
+
+/// Every variable may have any number that faults allow.
+pub fn whole_ranges(alloc: Global, faults: u8) -> Result<Vec<Range>, OutOfMemory>
+    ensures { IfOk result (λ heard. heard.items ≡ map (whole_range faults) (numbers_below variable_count)) }
+{
+    let mut heard = Vec::new(alloc);
+    heard.reserve(VARIABLES)?;
+    for variable in 0..VARIABLES {
+        heard.push(whole_range(faults, variable))?;
+    }
+    Ok(heard)
+}
+
+/// A variable's number is known.
+fn know(heard: &mut [Range], variable: usize, number: u8)
+    ensures { heard.new ≡ know heard.old variable number }
+{
+    if variable < heard.len() {
+        heard[variable] = Range {
+            low: number,
+            high: number,
+        };
+    }
+}
+
+/// A variable's number is in a range.
+fn cut(heard: &mut [Range], variable: usize, low: u8, high: u8)
+    ensures { heard.new ≡ cut heard.old (record { variable = variable; low = low; high = high }) }
+{
+    if variable < heard.len() {
+        let range = heard[variable];
+        heard[variable] = Range {
+            low: range.low.max(low),
+            high: range.high.min(high),
+        };
+    }
+}
+
+/// Literals hold.
+fn cut_all(heard: &mut [Range], literals: &[Literal])
+    ensures { heard.new ≡ cut_all heard.old literals.now }
+{
+    for literal in literals {
+        cut(heard, literal.variable as usize, literal.low, literal.high);
+    }
+}
+
+/// Whether a literal is known to hold.
+fn has_heard(heard: &[Range], literal: &Literal) -> bool
+    ensures { result ≡ has_heard heard.now literal.now }
+{
+    let unknown = Range { low: 0, high: 0 };
+    let range = heard
+        .get(literal.variable as usize)
+        .copied()
+        .unwrap_or(unknown);
+    literal.low <= range.low && range.high <= literal.high
+}
+
+/// Whether literals are known to hold.
+pub fn have_heard(heard: &[Range], literals: &[Literal]) -> bool
+    ensures { result ≡ list_all (has_heard heard.now) literals.now }
+{
+    literals.iter().all(|literal| has_heard(heard, literal))
+}
+
+/// The condition of a process of the node, if it has one.
+fn condition_of(table: &NodeTable, process: u32) -> Option<u32>
+    ensures { result ≡ (own_of table.now process).condition }
+{
+    for own in table.own() {
+        if own.process == process {
+            return own.condition;
+        }
+    }
+    None
+}
+
+/// An end tells the faults and the value of its process.
+fn hear_end(table: &NodeTable, heard: &mut [Range], ended: &Ended)
+    ensures { heard.new ≡ hear_end table.now heard.old ended.now }
+{
+    know(heard, ended.process as usize, ended.faults);
+    if let Some(condition) = condition_of(table, ended.process) {
+        let number = u8::from(ended.value);
+        know(heard, FIRST_VALUE + condition as usize, number);
+    }
+}
+
+/// Ends are heard, one after another.
+fn hear_ends(table: &NodeTable, heard: &mut [Range], ended: &[Ended])
+    ensures { heard.new ≡ fold (hear_end table.now) heard.old ended.now }
+{
+    for end in ended {
+        hear_end(table, heard, end);
+    }
+}
+
+/// The columns of an item's row, none where it has no row.
+fn columns_in(rows: &[Row], item: u32) -> &[Entry]
+    ensures { result.now ≡ columns_in rows.now item }
+{
+    for row in rows {
+        if row.item() == item {
+            return row.entries();
+        }
+    }
+    &[]
+}
+
+/// The literals of a column hold.
+fn cut_column(heard: &mut [Range], columns: &[Entry], column: u32)
+    ensures { heard.new ≡ cut_all heard.old (get_or columns.now column no_column).cube }
+{
+    if let Some(entry) = columns.get(column as usize) {
+        cut_all(heard, entry.cube.literals());
+    }
+}
+
+/// A frame tells the literals of its column and, for a broadcast, the value.
+fn hear_frame(table: &NodeTable, heard: &mut [Range], frame: &Frame)
+    ensures { heard.new ≡ hear_frame table.now heard.old frame.now }
+{
+    let columns = columns_in(table.hears(), frame.item);
+    cut_column(heard, columns, frame.column);
+    if frame.item >= table.first_broadcast() {
+        let condition = (frame.item - table.first_broadcast()) as usize;
+        let number = u8::from(frame.value);
+        cut(heard, FIRST_VALUE + condition, number, number);
+    }
+}
+
+/// Frames are heard, one after another.
+fn hear_frames(table: &NodeTable, heard: &mut [Range], frames: &[Frame])
+    ensures { heard.new ≡ fold (hear_frame table.now) heard.old frames.now }
+{
+    for frame in frames {
+        hear_frame(table, heard, frame);
+    }
+}
+
+/// What a turn takes is heard: ends, reports and then frames.
+pub fn hear_all(
+    table: &NodeTable,
+    heard: &mut [Range],
+    ended: &[Ended],
+    due: &[Ended],
+    frames: &[Frame],
+)
+    ensures { heard.new ≡ fold (hear_frame table.now) (fold (hear_end table.now) (fold (hear_end table.now) heard.old ended.now) due.now) frames.now }
+{
+    hear_ends(table, heard, ended);
+    hear_ends(table, heard, due);
+    hear_frames(table, heard, frames);
+}
+
+/// Whether some variable has no number left.
+fn are_contradicted(heard: &[Range]) -> bool
+    ensures { result ≡ list_any is_contradicted heard.now }
+{
+    heard.iter().any(|range| range.high < range.low)
+}
+
+/// Whether an item has a row.
+fn has_row(rows: &[Row], item: u32) -> bool
+    ensures { result ≡ list_any (λ row. row.item == item) rows.now }
+{
+    rows.iter().any(|row| row.item() == item)
+}
+
+/// Whether the node hears the item of a frame, and by such a column then.
+pub fn arrives(table: &NodeTable, arrival: u64, frame: &Frame) -> bool
+    ensures { result ≡ arrives table.now arrival frame.now }
+{
+    if !has_row(table.hears(), frame.item) {
+        return false;
+    }
+    match columns_in(table.hears(), frame.item).get(frame.column as usize) {
+        Some(entry) => entry.time == arrival,
+        None => false,
+    }
+}
+
+/// Takes a frame, unless it contradicts what has been heard; then nothing changes.
+pub fn hears(table: &NodeTable, heard: &mut [Range], before: &mut [Range], frame: &Frame) -> bool
+    requires { length heard.old ≡ length before.old }
+    ensures fits { result ≡ not (list_any is_contradicted (hear_frame table.now heard.old frame.now)) }
+    ensures heard { OnTrue result (heard.new ≡ hear_frame table.now heard.old frame.now) }
+    ensures same { OnFalse result (heard.new ≡ heard.old) }
+{
+    before.copy_from_slice(heard);
+    hear_frame(table, heard, frame);
+    if are_contradicted(heard) {
+        heard.copy_from_slice(before);
+        return false;
+    }
+    true
+}

@@ -1,0 +1,201 @@
+//! The dispatcher of one node.
+ghost use Rattle.std.specs.Prelude.{◌≡◌, ◌↔◌, IsTrue, IsErr, IfOk, OnOk, OnErr, IfSome, true, [], map, length};
+ghost use Rattle.cpg_base.specs.Numbers.{numbers_below};
+ghost use Rattle.cpg_node.specs.Dispatcher.{opening, next, turn, acts_of_turn, hear, is_strange, finished, whole_range, variable_count};
+ghost use Rattle.cpg_node.specs.State.{start_of, report_of, MayTurn, MayFinish};
+
+use crate::executions::{
+    earlier, earliest_end, gather_due, note_report, running_in, turn_executions,
+};
+use crate::heard::{arrives, hear_all, hears, whole_ranges};
+use crate::plan::{Planned, gather_acts, past_entries, past_times, plan_of, time_at, times_of};
+use crate::range::Range;
+use crate::{Act, Ended, Frame, Running, StrangeFrame};
+use cpg_base::OutOfMemory;
+use cpg_table::NodeTable;
+use std::alloc::Global;
+use std::marker::Model;
+
+/// A node that acts by its own table and by what it has heard, seen as its dispatcher and the acts of its last turn.
+#[derive(Drop)]
+pub struct Node {
+    table: NodeTable,
+    heard: Vec<Range>,
+    running: Vec<Option<Running>>,
+    last: Option<u64>,
+    acts: Vec<Act>,
+    /// The next instant.
+    next: Option<u64>,
+    /// What the node sends and starts, in order of time, and the place of the first after the last turn.
+    plan: Vec<Planned>,
+    plan_place: usize,
+    /// All times of the table, in order, and the place of the first after the last turn.
+    times: Vec<u64>,
+    times_place: usize,
+    /// Room for the reports that a turn takes.
+    due: Vec<Ended>,
+    /// Room for what has been heard before a frame.
+    before: Vec<Range>,
+}
+
+impl Model for Node {
+    ghost use Rattle.cpg_node.specs.State.{NodeState};
+
+    ghost Value = { NodeState };
+
+    ghost use Rattle.cpg_node.specs.Sound.{state_of, IsSound};
+
+    ghost view = { state_of };
+
+    ghost invariant = { IsSound };
+}
+
+impl Node {
+    /// The node of a table before its first turn. It takes all room that the node will need.
+    pub fn new(alloc: Global, table: NodeTable) -> Result<Node, OutOfMemory>
+        ensures { IfOk result (λ node. node ≡ record { dispatcher = opening table; acts = [] }) }
+    {
+        let heard = whole_ranges(alloc, table.faults())?;
+        let before = heard.clone()?;
+        let running = vec![in alloc; None; table.own().len()]?;
+        let plan = plan_of(alloc, &table)?;
+        let times = times_of(alloc, &table)?;
+        let mut acts = Vec::new(alloc);
+        acts.reserve(plan.len())?;
+        let mut due = Vec::new(alloc);
+        due.reserve(running.len())?;
+        Ok(Node {
+            table,
+            heard,
+            running,
+            last: None,
+            acts,
+            next: Some(0),
+            plan,
+            plan_place: 0,
+            times,
+            times_place: 0,
+            due,
+            before,
+        })
+    }
+
+    /// The table that it acts by.
+    pub fn table(&self) -> &NodeTable
+        ensures { result.now ≡ self.now.dispatcher.table }
+    {
+        &self.table
+    }
+
+    /// When the execution of a process started, in time units of the graph file. `None` exactly where that process
+    /// isn't running on this node.
+    pub fn running(&self, process: u32) -> Option<u64>
+        ensures { result ≡ start_of self.now.dispatcher process }
+    {
+        let running = running_in(self.table.own(), self.running.as_slice(), process)?;
+        Some(running.start)
+    }
+
+    /// What a process that runs on this node has told of its early end, which is kept until the planned end.
+    pub fn reported(&self, process: u32) -> Option<Ended>
+        ensures { result ≡ report_of self.now.dispatcher process }
+    {
+        let running = running_in(self.table.own(), self.running.as_slice(), process)?;
+        running.report
+    }
+
+    /// What runs, by place in the table's own processes.
+    pub fn executions(&self) -> &[Option<Running>]
+        ensures executions { result.now ≡ self.now.dispatcher.running }
+        ensures count { length self.now.dispatcher.running ≡ length self.now.dispatcher.table.own }
+    {
+        self.running.as_slice()
+    }
+
+    /// The next instant at which something may happen, in time units of the graph file. `None` exactly where there is none.
+    pub fn next(&self) -> Option<u64>
+        ensures { result ≡ next self.now.dispatcher }
+    {
+        self.next
+    }
+
+    /// The acts of the last turn: sends by item, then starts.
+    pub fn acts(&self) -> &[Act]
+        ensures { result.now ≡ self.now.acts }
+    {
+        self.acts.as_slice()
+    }
+
+    /// Takes a frame that arrives at a time. It is strange exactly where the node doesn't hear its item, its column isn't
+    /// there or doesn't arrive then, or what it tells contradicts what has been heard; then nothing changes.
+    pub fn hear(&mut self, arrival: u64, frame: &Frame) -> Result<(), StrangeFrame>
+        ensures strange { IsErr result ↔ (is_strange self.old.dispatcher arrival frame.now ≡ true) }
+        ensures heard { OnOk result (self.new ≡ record self.old { dispatcher = hear self.old.dispatcher frame.now }) }
+        ensures same { OnErr result (self.new ≡ self.old) }
+    {
+        if !arrives(&self.table, arrival, frame) {
+            return Err(StrangeFrame);
+        }
+        if hears(
+            &self.table,
+            self.heard.as_mut_slice(),
+            self.before.as_mut_slice(),
+            frame,
+        ) {
+            Ok(())
+        } else {
+            Err(StrangeFrame)
+        }
+    }
+
+    /// Notes an execution that has ended, maybe early. What it tells is kept until its planned end.
+    pub fn finished(&mut self, ended: Ended)
+        requires { MayFinish self.old.dispatcher ended }
+        ensures { self.new ≡ record self.old { dispatcher = finished self.old.dispatcher ended } }
+    {
+        note_report(self.table.own(), self.running.as_mut_slice(), ended);
+    }
+
+    /// Takes the turn of the next instant: first the ends of executions that hasn't been told by `finished`, and the kept
+    /// reports of this instant, then the frames that arrive, and then does all that is planned for it and whose literals
+    /// have been heard.
+    pub fn turn(&mut self, ended: &[Ended], frames: &[Frame])
+        requires { MayTurn self.old.dispatcher ended.now frames.now }
+        ensures turn { IfSome (next self.old.dispatcher) (λ time. self.new.dispatcher ≡ turn self.old.dispatcher time ended.now frames.now) }
+        ensures acts { IfSome (next self.old.dispatcher) (λ time. self.new.acts ≡ acts_of_turn self.old.dispatcher time ended.now frames.now) }
+    {
+        let Some(time) = self.next else {
+            return;
+        };
+        gather_due(
+            self.table.own(),
+            self.running.as_slice(),
+            time,
+            &mut self.due,
+        );
+        hear_all(
+            &self.table,
+            self.heard.as_mut_slice(),
+            ended,
+            self.due.as_slice(),
+            frames,
+        );
+        let plan_end = past_entries(self.plan.as_slice(), self.plan_place, time);
+        let plan = &self.plan[self.plan_place..plan_end];
+        gather_acts(&self.table, self.heard.as_slice(), plan, &mut self.acts);
+        turn_executions(
+            ended,
+            self.due.as_slice(),
+            self.acts.as_slice(),
+            time,
+            self.table.own(),
+            self.running.as_mut_slice(),
+        );
+        self.plan_place = plan_end;
+        self.times_place = past_times(self.times.as_slice(), self.times_place, time);
+        self.last = Some(time);
+        let end = earliest_end(self.table.own(), self.running.as_slice(), time);
+        let time = time_at(self.times.as_slice(), self.times_place);
+        self.next = earlier(time, end);
+    }
+}

@@ -1,0 +1,12 @@
+//! What runs on a node.
+
+use crate::Ended;
+
+/// An execution of a process.
+#[derive(Clone, Copy, Debug, PartialEq, Eq)]
+pub struct Running {
+    /// When it started, in time units of the graph file.
+    pub start: u64,
+    /// What it told where it has ended early.
+    pub report: Option<Ended>,
+}
