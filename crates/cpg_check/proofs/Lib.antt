@@ -1,1 +1,2 @@
 pub mod ExtraLists
+pub mod Verdicts

@@ -1,5 +1,5 @@
 -- Of an admitted graph of a form that is built, a run stops only as it must.
-use Rattle.std.proofs.Common.{ℕ, ◌≡◌, ◌≢◌, ◌<◌, ◌≤◌, ◌∙◌, Bool, true, false, List, Option, Some, None, length, refl, sym, ap, subst, arith, inl, inr}
+use Rattle.std.proofs.Common.{ℕ, ◌≡◌, ◌≢◌, ◌<◌, ◌≤◌, ◌∙◌, Bool, true, false, List, Option, Some, length, refl, sym, ap, subst, arith, inl, inr}
 use Rattle.std.specs.Prelude.{◌⊎◌, Result, Ok, Err, IfSome}
 use Rattle.std.proofs.lemmas.Bool.{both_ways}
 use Rattle.cpg_base.specs.Graph.{Graph}
@@ -11,7 +11,6 @@ use Rattle.cpg_order.proofs.Urgent.{one_urgency_order}
 use Rattle.cpg_reader.specs.declared.place.ReadFault.{ReadFault}
 use Rattle.cpg_reader.specs.Document.{problem_of}
 use Rattle.cpg_rules.specs.Admission.{Admission, IsAdmitted}
-use Rattle.cpg_rules.specs.declared.admission.RuleFault.{RuleFault}
 use Rattle.cpg_rules.specs.Faults.{ShowsFault}
 use Rattle.cpg_rules.proofs.Exact.{no_fault}
 use Rattle.cpg_run.specs.Finish.{IsExcess}
@@ -25,9 +24,9 @@ use Rattle.cpg_core.proofs.BuiltUnique.{one_excess}
 use Rattle.cpgc.specs.declared.halt.Halt.{Halt}
 use Rattle.cpgc.specs.Halts.{halt_of_reading, halt_of_rules, halt_of_compile}
 use Rattle.cpgc.specs.Lines.{status_of}
-use Rattle.cpgc.specs.Causes.{Seen, Says, Admits, StopsReading, BreaksRule, IsUncompiled, StopsGraph, StopsCompile, HasManyScenarios, graph_limit}
+use Rattle.cpgc.specs.Causes.{Seen, Says, Admits, StopsReading, BreaksRule, StopsGraph, StopsCompile, HasManyScenarios, graph_limit}
 use Rattle.cpgc.specs.Outputs.{IsMade}
-use Rattle.cpgc.specs.Lawful.{AreListable}
+use Rattle.cpgc.specs.Lawful.{AreAdmitted}
 
 -- ---- what bytes say is one thing
 
@@ -83,7 +82,7 @@ module _ (g : Graph) (order : List ℕ) (top : IsTopological g order) where
 
 -- ---- the halts that are left
 
-module _ (seen : Seen) (told : Option Text) (bytes : Text) (a : Admission) (tells : told ≡ Some bytes) (listable : AreListable bytes a) (still : Rose seen.before seen.now → ⊥) where
+module _ (seen : Seen) (told : Option Text) (bytes : Text) (a : Admission) (tells : told ≡ Some bytes) (file : AreAdmitted bytes a) (still : Rose seen.before seen.now → ⊥) where
   faulty_left : (h : Halt) (fault : ReadFault) → h ≡ halt_of_reading fault → (fault ≢ ReadFault.OutOfMemory → ⊥) → status_of h ≡ 8
   faulty_left h fault e never = ap status_of e ∙ go fault never
     where
@@ -102,19 +101,19 @@ module _ (seen : Seen) (told : Option Text) (bytes : Text) (a : Admission) (tell
       go (ReadFault.OverLimit what) k = absurd (k (apart (ReadFault.OverLimit what) refl))
       go ReadFault.OutOfMemory k = refl
 
-  reading_left : (h : Halt) → StopsReading seen told h → status_of h ≡ 8
+  pub reading_left : (h : Halt) → StopsReading seen told h → status_of h ≡ 8
   reading_left h (inl unread) = absurd (still unread.rose)
   reading_left h (inr (inl long)) = absurd (
       let l : graph_limit < length bytes = subst (λ t. IfSome t (λ b. graph_limit < length b)) tells long.long in
-      let s = listable.short in
+      let s = file.short in
       omega arith)
   reading_left h (inr (inr faulty)) = faulty_left h faulty.fault faulty.halt_is
-      (λ other. not_faulty bytes a.graph faulty.fault listable.says (subst (λ t. IfSome t (λ b. problem_of b ≡ Err faulty.fault)) tells (faulty.first other)))
+      (λ other. not_faulty bytes a.graph faulty.fault file.says (subst (λ t. IfSome t (λ b. problem_of b ≡ Err faulty.fault)) tells (faulty.first other)))
 
-  rules_left : (h : Halt) (g : Graph) → Says told g → BreaksRule g h → status_of h ≡ 8
+  pub rules_left : (h : Halt) (g : Graph) → Says told g → BreaksRule g h → status_of h ≡ 8
   rules_left h g says breaks =
-      let same : g ≡ a.graph = same_graph bytes g a.graph (says_of told bytes g tells says) listable.says in
-      let memory = no_fault a.graph a.order a.guards listable.admitted breaks.fault (subst (λ x. ShowsFault x breaks.fault) same breaks.shows) in
+      let same : g ≡ a.graph = same_graph bytes g a.graph (says_of told bytes g tells says) file.says in
+      let memory = no_fault a.graph a.order a.guards file.admitted breaks.fault (subst (λ x. ShowsFault x breaks.fault) same breaks.shows) in
       ap status_of (breaks.halt_is ∙ ap (halt_of_rules g) memory)
 
   -- it is late as shown, and nothing is too wide
@@ -127,35 +126,39 @@ module _ (seen : Seen) (told : Option Text) (bytes : Text) (a : Admission) (tell
 
   compile_left : (b : Admission) → Admits told b → (h : Halt) (fault : CompileFault) → h ≡ halt_of_compile b fault → ShowsCompileFault b.graph b.order fault → Left h
   compile_left b admits h (CompileFault.TooWide x) e shows =
-      let same : b.graph ≡ a.graph = same_graph bytes b.graph a.graph (says_of told bytes b.graph tells admits.says) listable.says in
-      inr (inr (ap status_of e, (x, moved a b listable.admitted admits.admitted same (λ g o. IsWide g o x) shows.wide)))
+      let same : b.graph ≡ a.graph = same_graph bytes b.graph a.graph (says_of told bytes b.graph tells admits.says) file.says in
+      inr (inr (ap status_of e, (x, moved a b file.admitted admits.admitted same (λ g o. IsWide g o x) shows.wide)))
   compile_left b admits h (CompileFault.Late s p time) e shows =
-      let same : b.graph ≡ a.graph = same_graph bytes b.graph a.graph (says_of told bytes b.graph tells admits.says) listable.says in
-      inr (inl (ap status_of e, (moved a b listable.admitted admits.admitted same IsNarrow shows.0, (s, p, time, moved a b listable.admitted admits.admitted same (λ g o. IsShownLate g o s p time) shows.1))))
+      let same : b.graph ≡ a.graph = same_graph bytes b.graph a.graph (says_of told bytes b.graph tells admits.says) file.says in
+      inr (inl (ap status_of e, (moved a b file.admitted admits.admitted same IsNarrow shows.0, (s, p, time, moved a b file.admitted admits.admitted same (λ g o. IsShownLate g o s p time) shows.1))))
   compile_left b admits h CompileFault.OutOfMemory e shows = inl (ap status_of e)
 
-  made_left : (h : Halt) (b : Admission) → Admits told b → StopsCompile b h → Left h
-  made_left h b admits (inl unbuilt) =
-      let same : b.graph ≡ a.graph = same_graph bytes b.graph a.graph (says_of told bytes b.graph tells admits.says) listable.says in
-      absurd (let many : 16384 < length (scenarios a.graph) = subst HasManyScenarios same unbuilt.1 in omega (arith, listable.few))
-  made_left h b admits (inr wrong) = compile_left b admits h wrong.fault wrong.halt_is wrong.shows
+  made_left : length (scenarios a.graph) ≤ 16384 → (h : Halt) (b : Admission) → Admits told b → StopsCompile b h → Left h
+  made_left few h b admits (inl unbuilt) =
+      let same : b.graph ≡ a.graph = same_graph bytes b.graph a.graph (says_of told bytes b.graph tells admits.says) file.says in
+      absurd (let many : 16384 < length (scenarios a.graph) = subst HasManyScenarios same unbuilt.1 in omega (arith, few))
+  made_left few h b admits (inr wrong) = compile_left b admits h wrong.fault wrong.halt_is wrong.shows
 
-  pub graph_left : (h : Halt) → StopsGraph seen told StopsCompile h → Left h
-  graph_left h (inl (inl read)) = inl (reading_left h read)
-  graph_left h (inl (inr breaks)) = inl (rules_left h breaks.0 breaks.1 breaks.2)
-  graph_left h (inr worked) = made_left h worked.0 worked.1 worked.2
+  pub graph_left : length (scenarios a.graph) ≤ 16384 → (h : Halt) → StopsGraph seen told StopsCompile h → Left h
+  graph_left few h (inl (inl read)) = inl (reading_left h read)
+  graph_left few h (inl (inr breaks)) = inl (rules_left h breaks.0 breaks.1 breaks.2)
+  graph_left few h (inr worked) = made_left few h worked.0 worked.1 worked.2
+
+  -- an admission that is had is the graph's
+  pub same_admission : (b : Admission) → Admits told b → (P : Graph → List ℕ → Type 0) → P b.graph b.order → P a.graph a.order
+  same_admission b admits P p = moved a b file.admitted admits.admitted (same_graph bytes b.graph a.graph (says_of told bytes b.graph tells admits.says) file.says) P p
 
   -- what is made isn't too wide
   pub made_not_wide : (spell : Graph → Compiled → Text) (text : Text) → IsMade told spell text → IsNarrow a.graph a.order
   made_not_wide spell text made =
       let b = made.0 in
-      let same : b.graph ≡ a.graph = same_graph bytes b.graph a.graph (says_of told bytes b.graph tells made.1.says) listable.says in
-      moved a b listable.admitted made.1.admitted same IsNarrow made.2.compilation.narrow
+      let same : b.graph ≡ a.graph = same_graph bytes b.graph a.graph (says_of told bytes b.graph tells made.1.says) file.says in
+      moved a b file.admitted made.1.admitted same IsNarrow made.2.compilation.narrow
 
   -- and isn't late
   pub made_not_late : (spell : Graph → Compiled → Text) (text : Text) → IsMade told spell text → IsLateUnder a.graph a.order a.order → ⊥
   made_not_late spell text made late =
       let b = made.0 in
-      let same : b.graph ≡ a.graph = same_graph bytes b.graph a.graph (says_of told bytes b.graph tells made.1.says) listable.says in
-      late_not_built a.graph a.order listable.admitted.topological made.2.compiled
-      (moved a b listable.admitted made.1.admitted same (λ g o. IsCompilation g o made.2.compiled) made.2.compilation) late
+      let same : b.graph ≡ a.graph = same_graph bytes b.graph a.graph (says_of told bytes b.graph tells made.1.says) file.says in
+      late_not_built a.graph a.order file.admitted.topological made.2.compiled
+      (moved a b file.admitted made.1.admitted same (λ g o. IsCompilation g o made.2.compiled) made.2.compilation) late

@@ -1,5 +1,5 @@
 -- A file that is read after another: what was seen from the beginning.
-use Rattle.std.proofs.Common.{ℕ, ◌+◌, ◌≤◌, ◌≡◌, List, Option, min, arith, sym, subst, inl, inr}
+use Rattle.std.proofs.Common.{ℕ, ◌≤◌, Option, arith, inl, inr}
 use Rattle.std.specs.Prelude.{Result, Ok, Err, IfOk, IfErr}
 use Rattle.cpg_io.specs.Causes.{Rose}
 use Rattle.cpg_words.specs.Parts.{Text}

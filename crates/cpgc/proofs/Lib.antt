@@ -6,3 +6,4 @@ pub mod Safe
 pub mod MemoryStops
 pub mod Written
 pub mod Later
+pub mod Checked

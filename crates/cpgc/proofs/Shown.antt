@@ -1,28 +1,30 @@
 -- A run that ends by its output or by a reason to stop keeps what each status says.
-use Rattle.std.proofs.Common.{ℕ, ◌≡◌, ◌≢◌, ◌∙◌, List, Option, Some, None, sym, ap, subst, arith, inl, inr}
+use Rattle.std.proofs.Common.{ℕ, ◌≡◌, ◌≢◌, ◌∙◌, Option, Some, None, sym, subst, arith, inl, inr}
 use Rattle.std.specs.Prelude.{◌⊎◌}
 use Rattle.std.proofs.lemmas.Option.{none-some}
 use Rattle.cpg_io.specs.Causes.{Rose}
 use Rattle.cpg_words.specs.Parts.{Text}
 use Rattle.cpg_words.specs.Forms.{command_of}
 use Rattle.cpg_words.specs.declared.command.Command.{Command}
-use Rattle.cpg_words.specs.declared.command.Command.TheVariants.{Show, Compile}
 use Rattle.cpg_base.specs.Graph.{Graph}
 use Rattle.cpg_core.specs.declared.compiling.Compiled.{Compiled}
-use Rattle.cpg_order.specs.Scenario.{Scenario}
 use Rattle.cpg_rules.specs.Admission.{Admission}
 use Rattle.cpg_reach.specs.Wide.{IsNarrow, IsWide}
-use Rattle.cpg_core.specs.Compiled.{IsInTimeUnder, IsLateUnder, IsShownLate}
+use Rattle.cpg_core.specs.Compiled.{IsInTimeUnder, IsLateUnder}
 use Rattle.cpgc.specs.declared.halt.Refusal.{Refusal}
 use Rattle.cpgc.specs.declared.halt.Halt.{Halt}
 use Rattle.cpgc.specs.declared.halt.Halt.TheVariants.{Refused}
 use Rattle.cpgc.specs.Lines.{status_of}
 use Rattle.cpgc.specs.Causes.{Seen, Stops, StopsAsked, StopsGraph, StopsCompile}
 use Rattle.cpgc.specs.Outputs.{Prints, PrintsAsked, IsMade, shown, packed}
-use Rattle.cpgc.specs.Told.{Untouched, Part}
-use Rattle.cpgc.specs.Endings.{Ran, IsPrinted, IsCut, IsTold, IsMuted, EndsWith, EndsBy, Ends}
-use Rattle.cpgc.specs.Lawful.{IsFaultless, AreListable, AsksFor, Asks, IsLawful}
+use Rattle.cpgc.specs.Told.{Untouched}
+use Rattle.cpgc.specs.Endings.{Ran, IsPrinted, IsTold, EndsWith, EndsBy}
+use Rattle.cpgc.specs.Lawful.{IsFaultless, AsksFor, Asks, AsksCheck, IsLawful}
 use Rattle.cpgc.proofs.Statuses.{of_words, of_read, of_formless, refused_of, not_three, not_zero}
+use Rattle.cpg_table.specs.Lawful.{Tables}
+use Rattle.cpg_table.specs.Valid.{IsValid}
+use Rattle.cpg_violation.specs.Heads.{IsHeadFor}
+use Rattle.cpgc.proofs.Checked.{CheckLeft, check_left, checked_is}
 use Rattle.cpgc.proofs.Excluded.{in_time_not_shown, Left, graph_left, made_not_wide, made_not_late}
 
 -- words without a form print nothing
@@ -59,18 +61,22 @@ module _ (r : Ran) where
     with_no_form : command_of r.words ≡ None → ⊥
     with_no_form none = prints_form r.shelf (command_of r.words) text with.prints none
 
-    with_made : (a : Admission) → Asks r a → (r.status ≡ 0) ⊎ (r.status ≡ 8)
-    with_made a asks = elim with.ending [ inl p ↦ inl p.status | inr c ↦ absurd (asks.faultless.out c.out.rose) ]
+    with_safe : IsFaultless r → (r.status ≡ 0) ⊎ (r.status ≡ 8)
+    with_safe faultless = elim with.ending [ inl p ↦ inl p.status | inr c ↦ absurd (faultless.out c.out.rose) ]
+
+    -- what was checked is what was asked for
+    with_check : (a : Admission) (t : Tables) → AsksCheck r a t → IsHeadFor a.graph t.head × IsValid a.graph t.nodes
+    with_check a t asks = checked_is r.shelf a t asks.graph asks.pack asks.bytes asks.told asks.file asks.faultless.shelf asks.spelled asks.lawful text (subst (λ c. PrintsAsked r.shelf c text) asks.words with.prints)
 
     module _ (a : Admission) (asks : Asks r a) where
       made_here : (spell : Graph → Compiled → Text) × IsMade (r.shelf.stands asks.graph) spell text
       made_here = made_of r.shelf asks.graph (command_of r.words) text asks.words with.prints
 
       with_wide : (x : ℕ) → IsWide a.graph a.order x → (r.status ≡ 6) ⊎ (r.status ≡ 8)
-      with_wide x wide = absurd (made_not_wide r.shelf (r.shelf.stands asks.graph) asks.bytes a asks.told asks.listable asks.faultless.shelf made_here.0 text made_here.1 x wide)
+      with_wide x wide = absurd (made_not_wide r.shelf (r.shelf.stands asks.graph) asks.bytes a asks.told asks.listable.file asks.faultless.shelf made_here.0 text made_here.1 x wide)
 
       with_late : IsLateUnder a.graph a.order a.order → (r.status ≡ 5) ⊎ (r.status ≡ 8)
-      with_late late = absurd (made_not_late r.shelf (r.shelf.stands asks.graph) asks.bytes a asks.told asks.listable asks.faultless.shelf made_here.0 text made_here.1 late)
+      with_late late = absurd (made_not_late r.shelf (r.shelf.stands asks.graph) asks.bytes a asks.told asks.listable.file asks.faultless.shelf made_here.0 text made_here.1 late)
 
     pub lawful_with : IsLawful r
     lawful_with = record {
@@ -82,10 +88,14 @@ module _ (r : Ran) where
       write = with_write;
       refused = λ four. absurd (other_status 4 four (λ e. omega arith) (λ e. omega arith));
       compiled = λ either. absurd (elim either [ inl five ↦ other_status 5 five (λ e. omega arith) (λ e. omega arith) | inr six ↦ other_status 6 six (λ e. omega arith) (λ e. omega arith) ]);
+      unsafe = λ seven. absurd (other_status 7 seven (λ e. omega arith) (λ e. omega arith));
       silent = λ zero three. absurd (elim with_status [ inl z ↦ zero z | inr t ↦ three t ]);
       wide = λ a x asks. with_wide a asks x;
-      made = λ a asks narrow in_time. with_made a asks;
+      made = λ a asks narrow in_time. with_safe asks.faultless;
       late = λ a asks narrow. with_late a asks;
+      other = λ a t asks differs. absurd (differs (with_check a t asks).0);
+      safe = λ a t asks head valid. with_safe asks.faultless;
+      broken = λ a t asks head broken. absurd (broken (with_check a t asks).1);
     }
 
   -- ---- without
@@ -122,8 +132,8 @@ module _ (r : Ran) where
       told_here : r.status ≡ status_of halt
       told_here = elim by.ending [ inl t ↦ t.status | inr m ↦ absurd (asks.faultless.err m.err.rose) ]
 
-      left : Left r.shelf (r.shelf.stands asks.graph) asks.bytes a asks.told asks.listable asks.faultless.shelf halt
-      left = graph_left r.shelf (r.shelf.stands asks.graph) asks.bytes a asks.told asks.listable asks.faultless.shelf halt stops_of
+      left : Left r.shelf (r.shelf.stands asks.graph) asks.bytes a asks.told asks.listable.file asks.faultless.shelf halt
+      left = graph_left r.shelf (r.shelf.stands asks.graph) asks.bytes a asks.told asks.listable.file asks.faultless.shelf asks.listable.few halt stops_of
 
       by_wide : (x : ℕ) → IsWide a.graph a.order x → (r.status ≡ 6) ⊎ (r.status ≡ 8)
       by_wide x wide = elim left [
@@ -135,7 +145,7 @@ module _ (r : Ran) where
       by_made : IsNarrow a.graph a.order → IsInTimeUnder a.graph a.order a.order → (r.status ≡ 0) ⊎ (r.status ≡ 8)
       by_made narrow in_time = elim left [
         | inl e ↦ inr (told_here ∙ e)
-        | inr (inl late) ↦ absurd (let shown = late.1.1 in in_time_not_shown a.graph a.order asks.listable.admitted.topological shown.0 shown.1 shown.2 in_time shown.3)
+        | inr (inl late) ↦ absurd (let shown = late.1.1 in in_time_not_shown a.graph a.order asks.listable.file.admitted.topological shown.0 shown.1 shown.2 in_time shown.3)
         | inr (inr wide) ↦ absurd (narrow wide.1.0 wide.1.1)
       ]
 
@@ -144,6 +154,34 @@ module _ (r : Ran) where
         | inl e ↦ inr (told_here ∙ e)
         | inr (inl late) ↦ inl (told_here ∙ late.0)
         | inr (inr wide) ↦ absurd (narrow wide.1.0 wide.1.1)
+      ]
+
+    module _ (a : Admission) (t : Tables) (asks : AsksCheck r a t) where
+      told_check : r.status ≡ status_of halt
+      told_check = elim by.ending [ inl t ↦ t.status | inr m ↦ absurd (asks.faultless.err m.err.rose) ]
+
+      left_check : CheckLeft a t halt
+      left_check = check_left r.shelf a t asks.graph asks.pack asks.bytes asks.told asks.file asks.faultless.shelf asks.spelled asks.lawful asks.few halt (subst (λ c. StopsAsked r.shelf c halt) asks.words by.stops)
+
+      by_other : (IsHeadFor a.graph t.head → ⊥) → (r.status ≡ 4) ⊎ (r.status ≡ 8)
+      by_other differs = elim left_check [
+        | inl e ↦ inr (told_check ∙ e)
+        | inr (inl other) ↦ inl (told_check ∙ other.0)
+        | inr (inr broken) ↦ absurd (differs broken.1)
+      ]
+
+      by_safe : IsHeadFor a.graph t.head → IsValid a.graph t.nodes → (r.status ≡ 0) ⊎ (r.status ≡ 8)
+      by_safe head valid = elim left_check [
+        | inl e ↦ inr (told_check ∙ e)
+        | inr (inl other) ↦ absurd (other.1 head)
+        | inr (inr broken) ↦ absurd (broken.2 valid)
+      ]
+
+      by_broken : IsHeadFor a.graph t.head → (IsValid a.graph t.nodes → ⊥) → (r.status ≡ 7) ⊎ (r.status ≡ 8)
+      by_broken head invalid = elim left_check [
+        | inl e ↦ inr (told_check ∙ e)
+        | inr (inl other) ↦ absurd (other.1 head)
+        | inr (inr broken) ↦ inl (told_check ∙ broken.0)
       ]
 
     pub lawful_by : IsLawful r
@@ -156,8 +194,12 @@ module _ (r : Ran) where
       write = by_write;
       refused = by_refused;
       compiled = λ either. (halt, by.stops, elim either [ inl five ↦ told_at 5 five (λ e. omega arith) | inr six ↦ told_at 6 six (λ e. omega arith) ]);
+      unsafe = λ seven. (halt, by.stops, told_at 7 seven (λ e. omega arith));
       silent = λ zero three. by_silent;
       wide = λ a x asks wide. by_wide a asks x wide;
       made = λ a asks narrow in_time. by_made a asks narrow in_time;
       late = λ a asks narrow late. by_late a asks narrow;
+      other = by_other;
+      safe = by_safe;
+      broken = by_broken;
     }

@@ -1,5 +1,5 @@
 -- What the status of a halt says of the words and of the shelf.
-use Rattle.std.proofs.Common.{ℕ, ◌≡◌, ◌≤◌, ◌∙◌, List, Option, Some, None, refl, sym, ap, arith, inl, inr}
+use Rattle.std.proofs.Common.{◌≡◌, ◌≤◌, List, Option, Some, None, refl, sym, ap, arith, inl, inr}
 use Rattle.std.specs.Prelude.{◌⊎◌}
 use Rattle.std.proofs.lemmas.Option.{none-some}
 use Rattle.cpg_base.specs.Graph.{Graph}

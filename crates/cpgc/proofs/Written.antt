@@ -1,5 +1,5 @@
 -- How a run ends, by what was written.
-use Rattle.std.proofs.Common.{ℕ, List, ◌≡◌, ◌≢◌, subst, inl, inr}
+use Rattle.std.proofs.Common.{ℕ, List, ◌≡◌, subst, inl, inr}
 use Rattle.std.specs.Prelude.{◌⊎◌, Err}
 use Rattle.std.proofs.lemmas.Bool.{cases_eq}
 use Rattle.cpg_codec.specs.declared.fault.WriteFault.{WriteFault}

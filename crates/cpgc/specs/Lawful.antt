@@ -1,11 +1,10 @@
 -- What each exit status of a run says.
-use Rattle.std.specs.Prelude.{ℕ, ◌≡◌, ◌≢◌, ◌≤◌, ◌⊎◌, List, Option, Some, None, Ok, length}
-use Rattle.cpg_base.specs.Graph.{Graph}
+use Rattle.std.specs.Prelude.{ℕ, ◌≡◌, ◌≢◌, ◌≤◌, ◌⊎◌, Option, Some, None, Ok, length}
 use Rattle.cpg_io.specs.Causes.{Rose}
 use Rattle.cpg_words.specs.Parts.{Text}
 use Rattle.cpg_words.specs.Forms.{command_of}
 use Rattle.cpg_words.specs.declared.command.Command.{Command}
-use Rattle.cpg_words.specs.declared.command.Command.TheVariants.{Show, Compile}
+use Rattle.cpg_words.specs.declared.command.Command.TheVariants.{Show, Compile, Check}
 use Rattle.cpg_reader.specs.Document.{problem_of}
 use Rattle.cpg_rules.specs.Admission.{Admission, IsAdmitted}
 use Rattle.cpg_order.specs.Scenario.{scenarios}
@@ -14,8 +13,13 @@ use Rattle.cpg_core.specs.Compiled.{IsInTimeUnder, IsLateUnder}
 use Rattle.cpgc.specs.declared.halt.Refusal.{Refusal}
 use Rattle.cpgc.specs.declared.halt.Halt.{Halt}
 use Rattle.cpgc.specs.declared.halt.Halt.TheVariants.{Refused}
-use Rattle.cpgc.specs.Causes.{Stops, graph_limit}
-use Rattle.cpgc.specs.Endings.{Ran, Ends, EndsWith, EndsBy, IsPrinted, IsTold}
+use Rattle.cpg_table.specs.Lawful.{Tables}
+use Rattle.cpg_table.specs.Valid.{IsValid}
+use Rattle.cpg_codec.specs.Packs.{AreLawful}
+use Rattle.cpg_codec.specs.Spelling.{spelling}
+use Rattle.cpg_violation.specs.Heads.{IsHeadFor}
+use Rattle.cpgc.specs.Causes.{Stops, graph_limit, pack_limit}
+use Rattle.cpgc.specs.Endings.{Ran, Ends, IsPrinted, IsTold}
 use Rattle.cpgc.specs.Outputs.{Prints}
 use Rattle.cpgc.specs.Told.{Untouched}
 
@@ -25,11 +29,15 @@ pub record IsFaultless (r : Ran) : Type 0 where
   pub out : Rose r.out.before r.out.now → ⊥
   pub err : Rose r.err.before r.err.now → ⊥
 
--- the bytes of a graph file of which tables are made: at most 16 MiB, and an admitted graph of at most 16,384 scenarios
-pub record AreListable (bytes : Text) (a : Admission) : Type 0 where
+-- the bytes of a graph file that is admitted: at most 16 MiB
+pub record AreAdmitted (bytes : Text) (a : Admission) : Type 0 where
   pub short : length bytes ≤ graph_limit
   pub says : problem_of bytes ≡ Ok a.graph
   pub admitted : IsAdmitted a.graph a.order a.guards
+
+-- of which tables are made: the graph has at most 16,384 scenarios
+pub record AreListable (bytes : Text) (a : Admission) : Type 0 where
+  pub file : AreAdmitted bytes a
   pub few : length (scenarios a.graph) ≤ 16384
 
 -- the words ask to show or to pack the tables of a graph file
@@ -43,6 +51,19 @@ pub record Asks (r : Ran) (a : Admission) : Type 0 where
   pub words : AsksFor graph (command_of r.words)
   pub told : r.shelf.stands graph ≡ Some bytes
   pub listable : AreListable bytes a
+  pub faultless : IsFaultless r
+
+-- they ask to check a pack, the shelf tells the bytes of an admitted graph and of tables, and nothing failed
+pub record AsksCheck (r : Ran) (a : Admission) (t : Tables) : Type 0 where
+  pub graph : Text
+  pub pack : Text
+  pub words : command_of r.words ≡ Some (Check graph pack)
+  pub bytes : Text
+  pub told : r.shelf.stands graph ≡ Some bytes
+  pub file : AreAdmitted bytes a
+  pub spelled : r.shelf.stands pack ≡ Some (spelling t)
+  pub lawful : AreLawful t
+  pub few : length (spelling t) ≤ pack_limit
   pub faultless : IsFaultless r
 
 -- what each exit status says
@@ -62,6 +83,8 @@ pub record IsLawful (r : Ran) : Type 0 where
   pub refused : r.status ≡ 4 → (refusal : Refusal) × Stops r.shelf r.words (Refused refusal) × IsTold r (Refused refusal)
   -- 5 and 6: late or too wide, as the line says
   pub compiled : (r.status ≡ 5) ⊎ (r.status ≡ 6) → (halt : Halt) × Stops r.shelf r.words halt × IsTold r halt
+  -- 7: the tables of a pack break a rule, as the line says
+  pub unsafe : r.status ≡ 7 → (halt : Halt) × Stops r.shelf r.words halt × IsTold r halt
   -- but under 0 and 3, nothing was written to `out`
   pub silent : r.status ≢ 0 → r.status ≢ 3 → Untouched r.out
   -- such a graph is refused as too wide where some item is, and else shown or packed where every process ends by its due
@@ -69,3 +92,8 @@ pub record IsLawful (r : Ran) : Type 0 where
   pub wide : (a : Admission) (x : ℕ) → Asks r a → IsWide a.graph a.order x → (r.status ≡ 6) ⊎ (r.status ≡ 8)
   pub made : (a : Admission) → Asks r a → IsNarrow a.graph a.order → IsInTimeUnder a.graph a.order a.order → (r.status ≡ 0) ⊎ (r.status ≡ 8)
   pub late : (a : Admission) → Asks r a → IsNarrow a.graph a.order → IsLateUnder a.graph a.order a.order → (r.status ≡ 5) ⊎ (r.status ≡ 8)
+  -- a pack is refused as another graph's where its head is, and else found safe where its tables keep the ten rules, and
+  -- unsafe where they don't, but for want of memory
+  pub other : (a : Admission) (t : Tables) → AsksCheck r a t → (IsHeadFor a.graph t.head → ⊥) → (r.status ≡ 4) ⊎ (r.status ≡ 8)
+  pub safe : (a : Admission) (t : Tables) → AsksCheck r a t → IsHeadFor a.graph t.head → IsValid a.graph t.nodes → (r.status ≡ 0) ⊎ (r.status ≡ 8)
+  pub broken : (a : Admission) (t : Tables) → AsksCheck r a t → IsHeadFor a.graph t.head → (IsValid a.graph t.nodes → ⊥) → (r.status ≡ 7) ⊎ (r.status ≡ 8)

@@ -1,9 +1,7 @@
-use Rattle.std.proofs.Common.{◌≡◌, Option, inr, subst}
+use Rattle.std.proofs.Common.{Option, inr, subst}
 use Rattle.cpg_words.specs.Parts.{Text}
 use Rattle.cpgc.specs.Causes.{Seen, Spells, StopsGraph, StopsTables, StopsVerdict}
 use Rattle.cpgc.specs.Outputs.{bytes_of, IsChecked, IsSafeText, IsSpelled}
-use Rattle.cpgc.specs.declared.halt.Halt.{Halt}
-use Rattle.cpgc.specs.declared.output.Output.{Output}
 use Rattle.cpgc.proofs.Later.{if_ok, if_err, tables_later}
 use Rattle.cpgc.proofs.commands.check_files.Goals as goal
 

@@ -1,4 +1,4 @@
-use Rattle.std.proofs.Common.{List, map, string_bytes, refl, inl, inr}
+use Rattle.std.proofs.Common.{map, string_bytes, refl, inl, inr}
 use Rattle.std.proofs.KnownBytes.{Keeps-refl}
 use Rattle.cpgc.specs.declared.halt.Halt.TheVariants.{Memory}
 use Rattle.cpgc.specs.Endings.{Ran}

@@ -1,0 +1,49 @@
+-- A verdict that shows something shows that the tables are not the graph's, or not valid.
+use Rattle.std.proofs.Common.{ℕ, ◌≡◌, ◌<◌, ◌∙◌, ◌==◌, true, false, List, [], ◌∷◌, Option, Some, None, length, map, refl, sym, ap, subst, inl, inr, arith, eqb-true}
+use Rattle.std.specs.Prelude.{slice_get, IsSomeAnd}
+use Rattle.std.proofs.lemmas.Bool.{both_ways, cases_Bool, cond-true, cond-false}
+use Rattle.std.proofs.lemmas.Option.{slice_get-get_or, none-some, same_Some}
+use Rattle.cpg_base.specs.Graph.{Graph}
+use Rattle.cpg_table.specs.Head.{Head}
+use Rattle.cpg_table.specs.Table.{Column, Row, NodeTable, table_at, empty_table}
+use Rattle.cpg_table.specs.Valid.{IsValid, hear_row}
+use Rattle.cpg_table.specs.declared.fault.Fault.{Fault}
+use Rattle.cpg_violation.specs.Columns.{row_columns}
+use Rattle.cpg_violation.specs.Heads.{IsHeadFor}
+use Rattle.cpg_check_rows.specs.Hears.{DifferFirstAt, IsFirstHear, IsFirstHearFault, due_columns}
+use Rattle.cpg_check.specs.Heads.{IsFirstDifference}
+use Rattle.cpg_check.specs.Verdict.{IsFirstFault}
+use Rattle.cpg_check.specs.declared.heads.HeadPart.{HeadPart}
+
+-- a head with a difference isn't the graph's
+pub other_head : (g : Graph) (h : Head) (part : HeadPart) → IsFirstDifference g h part → IsHeadFor g h → ⊥
+other_head g h HeadPart.Faults d k = d k.faults
+other_head g h HeadPart.Nodes d k = d.nodes k.nodes
+other_head g h HeadPart.Processes d k = d.processes k.processes
+other_head g h HeadPart.Edges d k = d.edges k.edges
+
+module _ (g : Graph) (tables : List NodeTable) where
+  -- a hear row of V10 has the columns that are due
+  heard_due : (x : ℕ) (items : List ℕ) (cs : List Column) → row_columns (map (hear_row g tables) items) x ≡ Some cs → cs ≡ due_columns g tables x
+  heard_due x [] cs e = absurd (none-some cs e)
+  heard_due x (y ∷ items) cs e = elim (cases_Bool (y == x)) [
+    | inl here ↦ sym (same_Some (due_columns g tables y) cs (sym (cond-true (y == x) _ _ here) ∙ e)) ∙ ap (due_columns g tables) (eqb-true y x here)
+    | inr there ↦ heard_due x items cs (sym (cond-false (y == x) _ _ there) ∙ e)
+  ]
+
+  not_heard : IsValid g tables → (x place node : ℕ) → node < length tables → (o : Option (List Column)) → row_columns (table_at tables node).hears x ≡ o → IsSomeAnd o (λ cs. DifferFirstAt cs (due_columns g tables x) place) → ⊥
+  not_heard valid x place node l None e differ = differ
+  not_heard valid x place node l (Some cs) e differ =
+      let hears = valid.hears node (table_at tables node) (slice_get-get_or tables node empty_table l) in
+      differ.here (ap (λ ds. slice_get ds place) (heard_due x _ cs (sym (ap (λ rows. row_columns rows x) hears) ∙ e)))
+
+  first_hear : IsValid g tables → length tables ≡ length g.nodes → (x : ℕ) (o : Option ℕ) → IsSomeAnd o (IsFirstHear tables (length g.nodes) x (due_columns g tables x)) → ⊥
+  first_hear valid count x None shown = shown
+  first_hear valid count x (Some place) shown = not_heard valid x place shown.node (omega (arith, count, shown.within)) (row_columns (table_at tables shown.node).hears x) refl shown.differ
+
+  -- tables with a fault aren't valid
+  pub faulty_tables : (order : List ℕ) (f : Fault) → length tables ≡ length g.nodes → IsFirstFault g order tables f → IsValid g tables → ⊥
+  faulty_tables order f count (inl broken) valid =
+      let first = broken.first in
+      both_ways _ (valid.rules f.rule f.item f.column f.scenario first.least.lawful first.item) first.least.holds
+  faulty_tables order f count (inr heard) valid = first_hear valid count f.item f.column heard.1.column
