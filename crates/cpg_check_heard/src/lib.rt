@@ -1,0 +1,11 @@
+//! V4: each literal of a column that matches is heard at the column's node by its time.
+#![tactic(auto)]
+
+mod bound;
+mod heard;
+mod hearing;
+mod items;
+mod parts;
+mod tellers;
+
+pub use heard::check_heard;
