@@ -1,0 +1,5 @@
+pub mod Columns
+pub mod Lateness
+pub mod Frozen
+pub mod Acts
+pub mod Clashes
