@@ -5,3 +5,4 @@ pub mod FrozenLaws
 pub mod ActLaws
 pub mod Seeking
 pub mod SlotLaws
+pub mod ProcessorLaws

@@ -3,3 +3,4 @@ pub mod Lateness
 pub mod Frozen
 pub mod Acts
 pub mod Clashes
+pub mod Processors

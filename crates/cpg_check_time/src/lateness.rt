@@ -7,10 +7,12 @@ ghost use Rattle.cpg_order.specs.Scenario.{Scenario, IsScenario, fault_of};
 ghost use Rattle.cpg_cube.specs.Cube.{matches};
 ghost use Rattle.cpg_cube.specs.Fit.{IsKnown};
 ghost use Rattle.cpg_violation.specs.Room.{HasRoom};
+ghost use Rattle.cpg_check_time.specs.Columns.{IsColumn};
 ghost use Rattle.cpg_check_time.specs.Lateness.{IsLeastCount, ends_after};
 
 use cpg_base::{OutOfMemory, Problem, Scenario};
 use cpg_cube::{Cube, Literal};
+use cpg_table::Entry;
 use cpg_violation::met;
 
 /// The least count of faults with which an execution that starts at a time ends after another; `None` where even the
@@ -56,4 +58,32 @@ pub(crate) fn late_part(
         high,
     })?;
     Ok(part)
+}
+
+/// The least scenario that a cube and a column match, and in which the execution that the column starts ends after a
+/// time; if there is one.
+pub(crate) fn least_late(
+    problem: &Problem,
+    cube: &Cube,
+    column: &Entry,
+    process: u32,
+    time: u64,
+    room: &mut Scenario,
+) -> Result<Option<Scenario>, OutOfMemory>
+    requires cube { IsKnown problem.now cube.now }
+    requires column { IsColumn problem.now column.now }
+    requires process { process < process_count problem.now }
+    requires room { HasRoom problem.now room.old }
+    ensures room { HasRoom problem.now room.new }
+    ensures first { IfOk result (λ r. (order : List ℕ) → IsFirst problem.now order (λ s. matches cube.now s && (matches column.now.cube s && ends_after problem.now process column.now.time time s)) r) }
+{
+    // most columns never match together, and no part is made of them
+    if !cube.meets(&column.cube, problem, room) {
+        return Ok(None);
+    }
+    let Some(part) = late_part(problem, &column.cube, process, column.time, time)? else {
+        return Ok(None);
+    };
+    let found = met(problem, cube, &part, room)?;
+    Ok(found)
 }

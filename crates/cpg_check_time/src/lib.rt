@@ -6,8 +6,10 @@ mod due;
 mod frozen;
 mod judge;
 mod lateness;
+mod processor;
 mod slots;
 
 pub use due::check_due;
 pub use frozen::check_frozen;
+pub use processor::check_processor;
 pub use slots::check_slot;
