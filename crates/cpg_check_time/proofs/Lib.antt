@@ -6,3 +6,7 @@ pub mod ActLaws
 pub mod Seeking
 pub mod SlotLaws
 pub mod ProcessorLaws
+pub mod Waits
+pub mod DelayLaws
+pub mod InputLaws
+pub mod CommonCubes

@@ -1,5 +1,5 @@
 -- The least scenario of a test on acts: one act more, and all where only some near a time can pass.
-use Rattle.std.proofs.Common.{ℕ, ◌+◌, ◌<◌, ◌≤◌, ◌≡◌, Bool, true, ◌||◌, List, length, get_or, take, map, flat_map, filter, All, Contains, Option, sym, ap, ◌∙◌, subst}
+use Rattle.std.proofs.Common.{ℕ, ◌+◌, ◌<◌, ◌≤◌, ◌≡◌, Bool, true, ◌||◌, List, length, get_or, take, map, flat_map, filter, All, Contains, Option, sym, ◌∙◌, subst}
 use Rattle.std.specs.List.{list_any}
 use Rattle.std.proofs.lemmas.List.Elements.{All-weaker}
 use Rattle.std.proofs.lemmas.List.Folds.{list_any_more}
@@ -39,14 +39,19 @@ module _ (tables : List NodeTable) where
 
 -- ---- the least scenario
 
+-- of one element more
+pub first_more : {X : Type 0} (g : Graph) (order : List ℕ) (test : X → Scenario → Bool) (xs : List X) (i : ℕ) (d : X) → i < length xs → (a b : Option Scenario) → IsFirst g order (λ s. list_any (λ x. test x s) (take i xs)) a → IsFirst g order (test (get_or xs i d)) b
+    → IsFirst g order (λ s. list_any (λ x. test x s) (take (i + 1) xs)) (earlier g order a b)
+first_more g order test xs i d l a b f h = first_same g order (λ s. list_any (λ x. test x s) (take i xs) || test (get_or xs i d) s) (λ s. list_any (λ x. test x s) (take (i + 1) xs)) (earlier g order a b)
+    (λ s _. sym (list_any_more (λ x. test x s) xs i d l)) (first_or g order (λ s. list_any (λ x. test x s) (take i xs)) (test (get_or xs i d)) a b f h)
+
 module _ (g : Graph) (order : List ℕ) (test : ℕ × Column → Scenario → Bool) (acts : List Act) where
   -- one act more
   pub one_more : (i : ℕ) (d : Act) → i < length acts → (a b : Option Scenario) → IsFirst g order (λ s. list_any (λ e. test e s) (map seen (take i acts))) a → IsFirst g order (test (seen (get_or acts i d))) b
       → IsFirst g order (λ s. list_any (λ e. test e s) (map seen (take (i + 1) acts))) (earlier g order a b)
-  one_more i d l a b f h = first_same g order (λ s. list_any (λ e. test e s) (map seen (take i acts)) || test (seen (get_or acts i d)) s) (λ s. list_any (λ e. test e s) (map seen (take (i + 1) acts))) (earlier g order a b)
-      (λ s _. ap (λ b. b || test (seen (get_or acts i d)) s) (any_map (λ e. test e s) seen (take i acts))
-      ∙ sym (any_map (λ e. test e s) seen (take (i + 1) acts) ∙ list_any_more (λ e. test (seen e) s) acts i d l))
-      (first_or g order (λ s. list_any (λ e. test e s) (map seen (take i acts))) (test (seen (get_or acts i d))) a b f h)
+  one_more i d l a b f h = first_same g order (λ s. list_any (λ e. test (seen e) s) (take (i + 1) acts)) (λ s. list_any (λ e. test e s) (map seen (take (i + 1) acts))) (earlier g order a b)
+      (λ s _. sym (any_map (λ e. test e s) seen (take (i + 1) acts)))
+      (first_more g order (λ e. test (seen e)) acts i d l a b (first_same g order (λ s. list_any (λ e. test e s) (map seen (take i acts))) (λ s. list_any (λ e. test (seen e) s) (take i acts)) a (λ s _. any_map (λ e. test e s) seen (take i acts)) f) h)
 
   -- those near a time, of a timetable
   module _ (places : List (ℕ × Column)) (is : IsTimetable places acts) (near : List Act) (from to : ℕ) where

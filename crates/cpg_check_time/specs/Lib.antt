@@ -4,3 +4,6 @@ pub mod Frozen
 pub mod Acts
 pub mod Clashes
 pub mod Processors
+pub mod Delays
+pub mod Inputs
+pub mod Ready
