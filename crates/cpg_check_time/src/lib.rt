@@ -1,0 +1,20 @@
+//! The rules of valid tables on times: V5 to V9.
+#![tactic(auto)]
+
+mod acts;
+mod check;
+mod delays;
+mod due;
+mod frozen;
+mod inputs;
+mod judge;
+mod lateness;
+mod processor;
+mod slots;
+
+pub use check::check_time;
+pub use due::check_due;
+pub use frozen::check_frozen;
+pub use inputs::check_inputs;
+pub use processor::check_processor;
+pub use slots::check_slot;
