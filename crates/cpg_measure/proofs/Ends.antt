@@ -1,4 +1,4 @@
--- Some process ends when a run finishes.
+-- Some process ends when a run finishes, and peaks of numbers that are read off runs.
 use Rattle.std.proofs.Common.{◌≡◌, ◌≢◌, ◌∙◌, ℕ, zero, suc, ◌<◌, ◌≤◌, Bool, true, List, [], ◌∷◌, flat_map, map, length, get_or, Contains, Option, Some, None, option_to_list, IfSome, IfNone, arith, refl, sym, ap, ap₂, subst, inl, inr}
 use Rattle.std.proofs.lemmas.List.{get_or_default}
 use Rattle.std.proofs.lemmas.Option.{none-some}
@@ -13,11 +13,13 @@ use Rattle.cpg_order.specs.Urgency.{IsTopological, place}
 use Rattle.cpg_order.specs.Scenario.{Scenario, IsScenario, IsLeast, is_before}
 use Rattle.cpg_order.proofs.Acyclic.{activation_is, input_goes_up, source_in_order}
 use Rattle.cpg_run.specs.Run.{Times, IsRun, end_by}
-use Rattle.cpg_run.specs.Finish.{Finishes, IsLeastEnding, IsWorst, excess_of, excess_in_run, Exceeds, IsLeastExceeding, IsExcess}
+use Rattle.cpg_run.specs.Finish.{IsLeastEnding, IsWorst, excess_of, excess_in_run, IsLeastExceeding, IsExcess}
 use Rattle.cpg_run.proofs.Runs.{has_end}
 use Rattle.cpg_run.proofs.RunUnique.{run_unique}
 use Rattle.cpg_measure.specs.Listing.{AreScenarios}
-use Rattle.cpg_measure.specs.Peaks.{AreMeasured, IsFirstGreatest, IsFirstEnding, EndsLast, IsFirstExceeding, ExceedsMost}
+use Rattle.cpg_measure.specs.Peaks.{IsFirstGreatest, IsFirstEnding, IsFirstExceeding}
+use Rattle.cpg_measure.specs.Runs.{AreRuns}
+use Rattle.cpg_measure.proofs.Measured.{HasIn, AreMeasured, measured}
 
 -- the number of an option in a list of options
 in_list : (os : List (Option ℕ)) (p n : ℕ) → get_or os p None ≡ Some n → Contains (flat_map option_to_list os) n
@@ -58,30 +60,22 @@ module _ (g : Graph) (order : List ℕ) (top : IsTopological g order) where
         let e = has_end g order frozen s t run a.0 a.1 a.2 in
         let there = greatest_there (flat_map option_to_list t.ends) _ (in_list t.ends a.0 _ e) in
         let r = Contains-flat_map_parts option_to_list t.ends t.finish (subst (Contains (flat_map option_to_list t.ends)) (sym run.finish) there) in
-        let count : length t.ends ≡ process_count g = ap length run.ends ∙ length-map-range_with_len (end_by g s t) 0 (process_count g) in
+        let count : length t.ends ≡ process_count g = omega (arith, ap length run.ends, length-map-range_with_len (end_by g s t) 0 (process_count g)) in
         let is : r.0 ≡ Some t.finish = option_of r.0 t.finish r.2 in
-        (r.1.0, omega (arith, count, r.1.1), get_or_any t.ends r.1.0 r.0 None r.1.1 ∙ r.1.2 ∙ is)
+        (r.1.0, omega (arith, count, r.1.1), there_is t.ends r.1.0 r.0 t.finish r.1.1 r.1.2 is)
       where
-        get_or_any : (os : List (Option ℕ)) (i : ℕ) (c d : Option ℕ) → i < length os → get_or os i d ≡ get_or os i c
-        get_or_any os i c d l = get_or_default os i d c l
+        there_is : (os : List (Option ℕ)) (i : ℕ) (o : Option ℕ) (n : ℕ) → i < length os → get_or os i o ≡ o → o ≡ Some n → get_or os i None ≡ Some n
+        there_is os i o n l at e = get_or_default os i None o l ∙ at ∙ e
 
     -- what the search among the processes finds
-    pub ends_last : (by : Option ℕ) → IfSome by (λ p. IsFirstEnding t t.finish p) → IfNone by ((q : ℕ) → q < process_count g → get_or t.ends q None ≢ Some t.finish) → EndsLast g order frozen s by
-    ends_last None some none = record {
-      times = t;
-      run = run;
-      least = elim (cases_lt 0 (process_count g)) [
-        | inl pos ↦ let r = finish_is_end pos in absurd (none r.0 r.1 r.2)
-        | inr z ↦ omega arith
-      ];
-    }
-    ends_last (Some p) some none = record { times = t; run = run; least = (some.ends, some.first) }
+    pub ends_last : (by : Option ℕ) → IfSome by (λ p. IsFirstEnding t t.finish p) → IfNone by ((q : ℕ) → q < process_count g → get_or t.ends q None ≢ Some t.finish) → IsLeastEnding g t t.finish by
+    ends_last None some none = elim (cases_lt 0 (process_count g)) [
+      | inl pos ↦ let r = finish_is_end pos in absurd (none r.0 r.1 r.2)
+      | inr z ↦ omega arith
+    ]
+    ends_last (Some p) some none = (some.ends, some.first)
 
-  -- some run of the scenario has the number
-  abbrev pub HasIn : (Times → ℕ) → List (Option ℕ) → ℕ → Scenario → Type 0
-  HasIn value frozen n s = (t : Times) × IsRun g order frozen s t × (value t ≡ n)
-
-  module _ (value : Times → ℕ) (urgency : List ℕ) (frozen : List (Option ℕ)) (list : List Scenario) (all : AreScenarios g list) (numbers : List ℕ) (m : AreMeasured (HasIn value frozen) (length list) list numbers)
+  module _ (value : Times → ℕ) (urgency : List ℕ) (frozen : List (Option ℕ)) (list : List Scenario) (all : AreScenarios g list) (numbers : List ℕ) (m : AreMeasured g order frozen value list numbers)
       (at : ℕ) (f : IsFirstGreatest g urgency (length list) list numbers at) where
     -- the number of a lawful scenario
     number_is : (s : Scenario) (t : Times) (c : Contains list s) → IsRun g order frozen s t → get_or numbers c.0 0 ≡ value t
@@ -92,10 +86,10 @@ module _ (g : Graph) (order : List ℕ) (top : IsTopological g order) where
     pub peak_greatest : (s : Scenario) (t : Times) → IsScenario g s → IsRun g order frozen s t → value t ≤ get_or numbers at 0
     peak_greatest s t lawful run = let c = all.all s lawful in omega (arith, f.most c.0 c.1, number_is s t c run)
 
-    pub peak_least : (s d : Scenario) → s ≡ get_or list at d → IsLeast g urgency (HasIn value frozen (get_or numbers at 0)) s
+    pub peak_least : (s d : Scenario) → s ≡ get_or list at d → IsLeast g urgency (HasIn g order frozen value (get_or numbers at 0)) s
     peak_least s d e = record {
       lawful = all.lawful s (at, f.there, get_or_default list at s d f.there ∙ sym e);
-      holds = subst (HasIn value frozen (get_or numbers at 0)) (sym e) (m.each at d f.there);
+      holds = subst (HasIn g order frozen value (get_or numbers at 0)) (sym e) (m.each at d f.there);
       least = λ z lawful has.
           let c = all.all z lawful in
           let b = f.first c.0 z c.1 (number_is z has.0 c has.1 ∙ has.2) in
@@ -103,28 +97,34 @@ module _ (g : Graph) (order : List ℕ) (top : IsTopological g order) where
     }
 
   -- the number of the run of a scenario
-  one_number : (value : Times → ℕ) (frozen : List (Option ℕ)) (n : ℕ) (s : Scenario) (t : Times) → HasIn value frozen n s → IsRun g order frozen s t → value t ≡ n
+  one_number : (value : Times → ℕ) (frozen : List (Option ℕ)) (n : ℕ) (s : Scenario) (t : Times) → HasIn g order frozen value n s → IsRun g order frozen s t → value t ≡ n
   one_number value frozen n s t has run = ap value (run_unique g order top frozen s t has.0 run has.1) ∙ has.2
 
-  module _ (urgency : List ℕ) (frozen : List (Option ℕ)) (list : List Scenario) (all : AreScenarios g list) (numbers : List ℕ) (at : ℕ) (f : IsFirstGreatest g urgency (length list) list numbers at) where
-    pub is_worst : (m : AreMeasured (Finishes g order frozen) (length list) list numbers) (s : Scenario) (by : Option ℕ) (d : Scenario) → s ≡ get_or list at d → EndsLast g order frozen s by → IsWorst g urgency order frozen (get_or numbers at 0) s by
-    is_worst m s by d e ends =
-        let least = peak_least (λ t. t.finish) urgency frozen list all numbers m at f s d e in
+  module _ (urgency : List ℕ) (frozen : List (Option ℕ)) (list : List Scenario) (all : AreScenarios g list) (runs : List Times) (are : AreRuns g order frozen list runs)
+      (numbers : List ℕ) (at : ℕ) (f : IsFirstGreatest g urgency (length list) list numbers at) (s : Scenario) (t : Times) (scenario_at : (d : Scenario) → s ≡ get_or list at d) (run_at : (d : Times) → t ≡ get_or runs at d) (by : Option ℕ) where
+    its_run : IsRun g order frozen s t
+    its_run = subst (λ z. IsRun g order frozen z t) (sym (scenario_at s)) (subst (IsRun g order frozen (get_or list at s)) (sym (run_at t)) (are.each at s t f.there))
+
+    pub is_worst : numbers ≡ map (λ u. u.finish) runs → IfSome by (λ p. IsFirstEnding t t.finish p) → IfNone by ((q : ℕ) → q < process_count g → get_or t.ends q None ≢ Some t.finish) → IsWorst g urgency order frozen (get_or numbers at 0) s by
+    is_worst is some none =
+        let m = measured g order frozen (λ u. u.finish) list runs numbers are is in
+        let least = peak_least (λ u. u.finish) urgency frozen list all numbers m at f s s (scenario_at s) in
         record {
-          greatest = peak_greatest (λ t. t.finish) urgency frozen list all numbers m at f;
+          greatest = peak_greatest (λ u. u.finish) urgency frozen list all numbers m at f;
           least = least;
-          by = λ t run. subst (λ n. IsLeastEnding g t n by) (one_number (λ t. t.finish) frozen (get_or numbers at 0) s t least.holds run)
-              (subst (λ (u : Times). IsLeastEnding g u u.finish by) (run_unique g order top frozen s ends.times t ends.run run) ends.least);
+          by = λ u run. subst (λ n. IsLeastEnding g u n by) (one_number (λ v. v.finish) frozen (get_or numbers at 0) s u least.holds run)
+              (subst (λ (v : Times). IsLeastEnding g v v.finish by) (run_unique g order top frozen s t u its_run run) (ends_last frozen s t its_run by some none));
         }
 
-    pub is_excess : (m : AreMeasured (Exceeds g order frozen) (length list) list numbers) (s : Scenario) (by : Option ℕ) (d : Scenario) → s ≡ get_or list at d → ExceedsMost g order frozen s by → IsExcess g urgency order frozen (get_or numbers at 0) s by
-    is_excess m s by d e exceeds =
-        let least = peak_least (excess_in_run g) urgency frozen list all numbers m at f s d e in
+    pub is_excess : numbers ≡ map (excess_in_run g) runs → IsLeastExceeding g t (excess_in_run g t) by → IsExcess g urgency order frozen (get_or numbers at 0) s by
+    is_excess is exceeds =
+        let m = measured g order frozen (excess_in_run g) list runs numbers are is in
+        let least = peak_least (excess_in_run g) urgency frozen list all numbers m at f s s (scenario_at s) in
         record {
           greatest = peak_greatest (excess_in_run g) urgency frozen list all numbers m at f;
           least = least;
-          by = λ t run. subst (λ n. IsLeastExceeding g t n by) (one_number (excess_in_run g) frozen (get_or numbers at 0) s t least.holds run)
-              (subst (λ (u : Times). IsLeastExceeding g u (excess_in_run g u) by) (run_unique g order top frozen s exceeds.times t exceeds.run run) exceeds.least);
+          by = λ u run. subst (λ n. IsLeastExceeding g u n by) (one_number (excess_in_run g) frozen (get_or numbers at 0) s u least.holds run)
+              (subst (λ (v : Times). IsLeastExceeding g v (excess_in_run g v) by) (run_unique g order top frozen s t u its_run run) exceeds);
         }
 
 -- where something exceeds, some process has the greatest excess

@@ -1,8 +1,6 @@
--- The search for the first scenario of the greatest number, and numbers one more.
-use Rattle.std.proofs.Common.{◌≡◌, ◌∙◌, ℕ, ◌+◌, ◌≤◌, true, false, List, [], ◌∷◌, ◌++◌, length, get_or, map, max, arith, sym, ap, ap₂, subst, inl, inr, length-append}
-use Rattle.std.proofs.lemmas.Bool.{cases_eq, cases_lt}
-use Rattle.std.proofs.lemmas.List.{get_or_append_left}
-use Rattle.std.proofs.Math.Seq.{get_or-append_seam}
+-- The search for the first scenario of the greatest number.
+use Rattle.std.proofs.Common.{◌≡◌, ◌∙◌, ℕ, ◌+◌, ◌≤◌, true, false, List, get_or, map, max, arith, sym, ap, inl, inr}
+use Rattle.std.proofs.lemmas.Bool.{cases_eq}
 use Rattle.std.specs.Ordering.{ord_max, nat_cmp}
 use Rattle.std.proofs.lemmas.Grind.{common_steps}
 use Rattle.std.proofs.lemmas.List.{map_push}
@@ -11,20 +9,7 @@ use Rattle.cpg_base.proofs.Lists.{below_push, greatest_push}
 use Rattle.cpg_base.specs.Graph.{Graph}
 use Rattle.cpg_order.specs.Scenario.{Scenario, is_before}
 use Rattle.cpg_order.proofs.ScenarioOrder.{before_irreflexive, before_one_way, not_before_transitive}
-use Rattle.cpg_measure.specs.Peaks.{AreMeasured, IsFirstGreatest}
-
--- one number more
-pub measured_more : (fact : ℕ → Scenario → Type 0) (n : ℕ) (list : List Scenario) (numbers more : List ℕ) (number : ℕ) → AreMeasured fact n list numbers → ((d : Scenario) → fact number (get_or list n d)) → more ≡ numbers ++ number ∷ [] → AreMeasured fact (n + 1) list more
-measured_more fact n list numbers more number a new is = record {
-  long = ap length is ∙ length-append numbers (number ∷ []) ∙ ap (λ m. m + 1) a.long;
-  each = λ i d l. elim (cases_lt i n) [
-    | inl h ↦ subst (λ m. fact m (get_or list i d)) (sym (ap (λ ms. get_or ms i 0) is ∙ get_or_append_left numbers (number ∷ []) 0 i (omega (arith, a.long)))) (a.each i d h)
-    | inr h ↦
-        let at : i ≡ length numbers = omega (arith, a.long) in
-        let same : n ≡ i = omega arith in
-        subst (λ m. fact m (get_or list i d)) (sym (ap₂ (λ ms j. get_or ms j 0) is at ∙ get_or-append_seam numbers number [] 0)) (subst (λ j. fact number (get_or list j d)) same (new d))
-  ];
-}
+use Rattle.cpg_measure.specs.Peaks.{IsFirstGreatest}
 
 module _ (g : Graph) (urgency : List ℕ) (n : ℕ) (list : List Scenario) (numbers : List ℕ) (at : ℕ) (f : IsFirstGreatest g urgency n list numbers at) where
   -- the one at n is greater, or as great and before it

@@ -1,5 +1,9 @@
 pub mod Listed
 pub mod FewWays
 pub mod Firsts
+pub mod Measured
 pub mod Ends
 pub mod Latests
+pub mod FrozenOrder
+pub mod EarlyTimes
+pub mod Settled

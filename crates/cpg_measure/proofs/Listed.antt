@@ -1,15 +1,16 @@
 -- Which scenarios the lists have.
-use Rattle.std.proofs.Common.{length, ◌≡◌, ◌∙◌, ℕ, zero, suc, ◌+◌, ◌-◌, ◌<◌, ◌≤◌, Bool, true, false, List, [], ◌∷◌, ◌++◌, map, get_or, set, sum, replicate, All, Contains, arith, refl, sym, ap, ap₂, subst, inl, inr, length-set, add-one}
-use Rattle.std.proofs.lemmas.Bool.{cases_eq, cases_lt, cases_Bool}
+use Rattle.std.proofs.Common.{length, ◌≡◌, ◌∙◌, ℕ, zero, suc, ◌+◌, ◌-◌, ◌≢◌, ◌<◌, ◌≤◌, Bool, true, false, List, [], ◌∷◌, ◌++◌, map, get_or, set, sum, replicate, All, Contains, arith, refl, sym, ap, ap₂, subst, inl, inr, length-set, add-one}
+use Rattle.std.proofs.lemmas.Bool.{cases_eq, cases_lt, cases_Bool, both_ways}
 use Rattle.std.proofs.lemmas.List.{append_assoc, get_or-replicate, length-replicate, get_or_past, get_or-set_same, get_or-set_other, set-get_or, ext_get_or, map-append}
 use Rattle.std.proofs.lemmas.List.Elements.{Contains-get_or}
 use Rattle.std.proofs.lemmas.List.Folds.{sum_by-replicate}
 use Rattle.std.proofs.lemmas.List.Sums.{sum_by-set}
-use Rattle.std.specs.List.{flat_map}
+use Rattle.std.specs.List.{flat_map, AllPairs}
 use Rattle.cpg_base.specs.Numbers.{numbers_below}
 use Rattle.cpg_base.specs.Graph.{Graph, process_count, condition_count}
 use Rattle.cpg_base.specs.Scenario.{Scenario, IsScenario, zero_scenario, fault_of}
 use Rattle.cpg_base.proofs.Lists.{Contains-first, Contains-rest, Contains-nil, Contains-cases, Contains-map, Contains-map_parts, Contains-flat_map, Contains-flat_map_parts, Contains-numbers, numbers-Contains, below_push}
+use Rattle.cpg_base.proofs.Pairs.{AllPairs-nil, AllPairs-cons_by, AllPairs-map, AllPairs-flat_map_in, numbers_apart}
 use Rattle.cpg_measure.specs.Listing.{AreScenarios, HasValue, with_fault, with_true, with_each_fault, with_both, with_faults_below, with_values_below}
 
 -- one more, as at a step of a loop
@@ -156,10 +157,65 @@ module _ (g : Graph) where
         | inr off ↦ subst (Contains (with_both c without)) (same without s (ap (set s.values c) (sym off) ∙ set-get_or s.values c false) refl) (Contains-first without (with_true c without ∷ []))
       ])
 
+  -- without the count of a process a scenario is as it was before it was given
+  fault_cleared : (p f : ℕ) (s : Scenario) → fault_of s p ≡ 0 → set (with_fault p s f).faults p 0 ≡ s.faults
+  fault_cleared p f s z = set_twice s.faults p f 0 0 ∙ sym (ap (set s.faults p) z) ∙ set-get_or s.faults p 0
+
+  faults_apart : (p : ℕ) → p ≤ process_count g → AllPairs (λ s t. s ≢ t) (with_faults_below g p)
+  unfolding with_faults_below
+  faults_apart zero within = AllPairs-cons_by (λ s t. s ≢ t) (zero_scenario g) [] (λ s c. absurd (Contains-nil s c)) (AllPairs-nil (λ s t. s ≢ t))
+  faults_apart (suc p) within = AllPairs-flat_map_in (λ s t. s ≢ t) (λ s t. s ≢ t) (with_each_fault g p) (with_faults_below g p)
+      (λ s c.
+      let long = (faults_listed p (omega arith) s c).lawful.faults in
+      AllPairs-map (λ f h. f ≢ h) (λ u v. u ≢ v) (with_fault p s) (numbers_below (g.faults - sum s.faults + 1))
+      (λ f h d e. d (sym (get_or-set_same s.faults p f 0 (omega arith)) ∙ ap (λ u. fault_of u p) e ∙ get_or-set_same s.faults p h 0 (omega arith)))
+      (numbers_apart (g.faults - sum s.faults + 1)))
+      (λ s t u v c k d m n e.
+      let a = faults_listed p (omega arith) s c in
+      let b = faults_listed p (omega arith) t k in
+      let x = Contains-map_parts (with_fault p s) (numbers_below (g.faults - sum s.faults + 1)) u m in
+      let y = Contains-map_parts (with_fault p t) (numbers_below (g.faults - sum t.faults + 1)) v n in
+      d (same s t (a.quiet ∙ sym b.quiet)
+      (sym (fault_cleared p x.0 s (a.later p (omega arith))) ∙ ap (λ z. set z.faults p 0) (x.2 ∙ e ∙ sym y.2) ∙ fault_cleared p y.0 t (b.later p (omega arith)))))
+      (faults_apart p (omega arith))
+
+  -- without the value of a condition too
+  value_cleared : (c : ℕ) (s u : Scenario) → get_or s.values c false ≡ false → Contains (with_both c s) u → (set u.values c false ≡ s.values) × (u.faults ≡ s.faults)
+  value_cleared c s u z k = elim (Contains-cases s (with_true c s ∷ []) u k) [
+    | inl e ↦ (ap (λ v. set v.values c false) (sym e) ∙ unset, ap (λ v. v.faults) (sym e))
+    | inr n ↦ elim (Contains-cases (with_true c s) [] u n) [
+      | inl e ↦ (ap (λ v. set v.values c false) (sym e) ∙ set_twice s.values c true false false ∙ unset, ap (λ v. v.faults) (sym e))
+      | inr none ↦ absurd (Contains-nil u none)
+    ]
+  ]
+    where
+      unset : set s.values c false ≡ s.values
+      unset = sym (ap (set s.values c) z) ∙ set-get_or s.values c false
+
+  values_apart : (c : ℕ) → c ≤ condition_count g → AllPairs (λ s t. s ≢ t) (with_values_below g c)
+  unfolding with_values_below
+  values_apart zero within = faults_apart (process_count g) (omega arith)
+  values_apart (suc c) within = AllPairs-flat_map_in (λ s t. s ≢ t) (λ s t. s ≢ t) (with_both c) (with_values_below g c)
+      (λ s k.
+      let h = values_listed c s k in
+      let long = h.lawful.values in
+      AllPairs-cons_by (λ u v. u ≢ v) s (with_true c s ∷ [])
+      (λ v m e. elim (Contains-cases (with_true c s) [] v m) [
+        | inl is ↦ both_ways (get_or s.values c false) (h.later c (omega arith)) (ap (λ u. get_or u.values c false) (e ∙ sym is) ∙ get_or-set_same s.values c true false (omega arith))
+        | inr none ↦ Contains-nil v none
+      ])
+      (AllPairs-cons_by (λ u v. u ≢ v) (with_true c s) [] (λ v m. absurd (Contains-nil v m)) (AllPairs-nil (λ u v. u ≢ v))))
+      (λ s t u v k m d i j e.
+      let x = value_cleared c s u ((values_listed c s k).later c (omega arith)) i in
+      let y = value_cleared c t v ((values_listed c t m).later c (omega arith)) j in
+      d (same s t (sym x.0 ∙ ap (λ z. set z.values c false) e ∙ y.0) (sym x.1 ∙ ap (λ z. z.faults) e ∙ y.1)))
+      (values_apart c (omega arith))
+
   pub are_scenarios : AreScenarios g (with_values_below g (condition_count g))
   are_scenarios = record {
     lawful = λ s c. (values_listed (condition_count g) s c).lawful;
     all = λ s is. lists_values (condition_count g) (omega arith) s (record { lawful = is; later = λ d l. get_or_past s.values d false (omega (arith, is.values)) });
+    apart = values_apart (condition_count g) (omega arith);
   }
 
   pub all_lawful_faults : (p : ℕ) → p ≤ process_count g → All (IsScenario g) (with_faults_below g p)

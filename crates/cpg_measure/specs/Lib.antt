@@ -1,3 +1,5 @@
 pub mod Listing
-pub mod Peaks
 pub mod Latest
+pub mod FrozenItems
+pub mod Runs
+pub mod Peaks

@@ -1,14 +1,15 @@
 -- All scenarios of a graph as a list.
-use Rattle.std.specs.Prelude.{ℕ, zero, suc, ◌+◌, ◌-◌, ◌<◌, true, List, [], ◌∷◌, map, length, sum, slice_set, Contains}
-use Rattle.std.specs.List.{flat_map}
+use Rattle.std.specs.Prelude.{ℕ, zero, suc, ◌+◌, ◌-◌, ◌≢◌, ◌<◌, true, List, [], ◌∷◌, map, length, sum, slice_set, Contains}
+use Rattle.std.specs.List.{flat_map, AllPairs}
 use Rattle.cpg_base.specs.Numbers.{numbers_below}
 use Rattle.cpg_base.specs.Graph.{Graph, process_count}
 use Rattle.cpg_base.specs.Scenario.{Scenario, IsScenario, zero_scenario}
 
--- the list has each scenario of the graph, and no other
+-- the list has each scenario of the graph once, and no other
 pub record AreScenarios (g : Graph) (list : List Scenario) : Type 0 where
   pub lawful : (s : Scenario) → Contains list s → IsScenario g s
   pub all : (s : Scenario) → IsScenario g s → Contains list s
+  pub apart : AllPairs (λ s t. s ≢ t) list
 
 -- whether a scenario has a value of the condition
 abbrev pub HasValue : ℕ → Scenario → Type 0

@@ -1,20 +1,12 @@
-//! The greatest of a number over all scenarios.
-ghost use Rattle.std.specs.Prelude.{◌≡◌, ◌≢◌, ◌<◌, ◌↔◌, ℕ, All, IfOk, IfSome, IfNone, IsTrue, Some, None, get_or, length};
-ghost use Rattle.cpg_base.specs.Graph.{process_count, item_count};
-ghost use Rattle.cpg_base.specs.Scenario.{IsScenario};
-ghost use Rattle.cpg_order.specs.Urgency.{IsTopological};
-ghost use Rattle.cpg_run.specs.Finish.{Finishes, IsWorst};
-ghost use Rattle.cpg_times.specs.Known.{AreEarly};
-ghost use Rattle.cpg_times.specs.Plan.{plan_of};
+//! The greatest finish over all scenarios.
+ghost use Rattle.std.specs.Prelude.{◌≡◌, ◌≢◌, ◌<◌, ◌↔◌, ℕ, IfOk, IfSome, IfNone, IsTrue, Some, None, get_or, length, map};
 ghost use Rattle.cpg_measure.specs.Listing.{AreScenarios};
-ghost use Rattle.cpg_measure.specs.Peaks.{AreMeasured, EndsLast, IsFirstEnding};
+ghost use Rattle.cpg_measure.specs.Peaks.{IsFirstEnding, IsWorstOfRuns};
 
 use crate::search::first_greatest;
 use cpg_base::{OutOfMemory, Scenario};
-use cpg_order::Order;
 use cpg_rules::Admitted;
-use cpg_run::{Frozen, RunTimes};
-use cpg_times::{Plan, run_by};
+use cpg_run::RunTimes;
 use std::alloc::Global;
 
 /// The greatest of a number of time units over all scenarios, the first scenario that has it, and the first process
@@ -29,47 +21,14 @@ pub struct Peak {
     pub process: Option<u32>,
 }
 
-/// When a scenario's run finishes.
-fn finish_in(
-    alloc: Global,
-    admitted: &Admitted,
-    order: &Order,
-    plan: &Plan,
-    frozen: &Frozen,
-    scenario: &Scenario,
-) -> Result<u64, OutOfMemory>
-    requires topological { IsTopological admitted.now.graph order.now }
-    requires plan { plan.now ≡ plan_of admitted.now.graph }
-    requires frozen { length frozen.now ≡ item_count admitted.now.graph }
-    requires early { AreEarly frozen.now }
-    requires scenario { IsScenario admitted.now.graph scenario.now }
-    ensures { IfOk result (λ finish. Finishes admitted.now.graph order.now frozen.now finish scenario.now) }
-{
-    let times = run_by(alloc, admitted, order, plan, frozen, scenario)?;
-    Ok(times.finish())
-}
-
-/// When each scenario's run finishes.
-fn finishes(
-    alloc: Global,
-    admitted: &Admitted,
-    order: &Order,
-    plan: &Plan,
-    frozen: &Frozen,
-    scenarios: &[Scenario],
-) -> Result<Vec<u64>, OutOfMemory>
-    requires topological { IsTopological admitted.now.graph order.now }
-    requires plan { plan.now ≡ plan_of admitted.now.graph }
-    requires frozen { length frozen.now ≡ item_count admitted.now.graph }
-    requires early { AreEarly frozen.now }
-    requires scenarios { All (IsScenario admitted.now.graph) scenarios.now }
-    ensures { IfOk result (λ numbers. AreMeasured (Finishes admitted.now.graph order.now frozen.now) (length scenarios.now) scenarios.now numbers.items) }
+/// When each run finishes.
+fn finishes(alloc: Global, runs: &[RunTimes]) -> Result<Vec<u64>, OutOfMemory>
+    ensures { IfOk result (λ numbers. numbers.items ≡ map (λ t. t.finish) runs.now) }
 {
     let mut numbers = Vec::new(alloc);
-    numbers.reserve(scenarios.len())?;
-    for at in 0..scenarios.len() {
-        let finish = finish_in(alloc, admitted, order, plan, frozen, &scenarios[at])?;
-        numbers.push(finish)?;
+    numbers.reserve(runs.len())?;
+    for run in runs {
+        numbers.push(run.finish())?;
     }
     Ok(numbers)
 }
@@ -97,57 +56,32 @@ fn first_ending(times: &RunTimes, processes: u32, time: u64) -> Option<u32>
     None
 }
 
-/// The first process that ends when a scenario's run finishes.
-fn last_ending(
-    alloc: Global,
-    admitted: &Admitted,
-    order: &Order,
-    plan: &Plan,
-    frozen: &Frozen,
-    scenario: &Scenario,
-) -> Result<Option<u32>, OutOfMemory>
-    requires topological { IsTopological admitted.now.graph order.now }
-    requires plan { plan.now ≡ plan_of admitted.now.graph }
-    requires frozen { length frozen.now ≡ item_count admitted.now.graph }
-    requires early { AreEarly frozen.now }
-    requires scenario { IsScenario admitted.now.graph scenario.now }
-    ensures { IfOk result (λ by. EndsLast admitted.now.graph order.now frozen.now scenario.now by) }
-{
-    let times = run_by(alloc, admitted, order, plan, frozen, scenario)?;
-    let processes = admitted.problem().processes().len() as u32;
-    let by = first_ending(&times, processes, times.finish());
-    Ok(by)
-}
-
-/// The greatest finish over all scenarios of a graph, given all of them: the first scenario by the urgency order that
-/// has it, and the first process that ends then, or `None` where the graph has no process.
+/// The greatest finish over all scenarios of a graph, given all of them and the run of each: the first scenario by the
+/// urgency order that has it, and the first process that ends then, or `None` where the graph has no process.
 pub fn worst(
     alloc: Global,
     admitted: &Admitted,
-    order: &Order,
-    plan: &Plan,
-    frozen: &Frozen,
     scenarios: &[Scenario],
+    runs: &[RunTimes],
 ) -> Result<Peak, OutOfMemory>
-    requires topological { IsTopological admitted.now.graph order.now }
-    requires plan { plan.now ≡ plan_of admitted.now.graph }
-    requires frozen { length frozen.now ≡ item_count admitted.now.graph }
-    requires early { AreEarly frozen.now }
     requires scenarios { AreScenarios admitted.now.graph scenarios.now }
-    ensures { IfOk result (λ peak. IsWorst admitted.now.graph admitted.now.order order.now frozen.now peak.time peak.scenario peak.process) }
+    requires count { length runs.now ≡ length scenarios.now }
+    ensures { IfOk result (λ peak. IsWorstOfRuns admitted.now.graph admitted.now.order scenarios.now runs.now peak.time peak.scenario peak.process) }
 {
-    let numbers = finishes(alloc, admitted, order, plan, frozen, scenarios)?;
+    let numbers = finishes(alloc, runs)?;
     let at = first_greatest(
         admitted.problem(),
         admitted.order(),
         scenarios,
         numbers.as_slice(),
     );
-    let scenario = &scenarios[at];
-    let process = last_ending(alloc, admitted, order, plan, frozen, scenario)?;
+    let times = &runs[at];
+    let processes = admitted.problem().processes().len() as u32;
+    let process = first_ending(times, processes, times.finish());
+    let scenario = scenarios[at].copy()?;
     Ok(Peak {
         time: numbers[at],
-        scenario: scenario.copy()?,
+        scenario,
         process,
     })
 }

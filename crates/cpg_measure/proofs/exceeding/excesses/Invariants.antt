@@ -1,6 +1,6 @@
-use Rattle.cpg_run.specs.Finish.{Exceeds}
-use Rattle.cpg_measure.specs.Peaks.{AreMeasured}
+use Rattle.std.proofs.Common.{◌≡◌, map, take}
+use Rattle.cpg_run.specs.Finish.{excess_in_run}
 use Rattle.cpg_measure.proofs.exceeding.excesses.Given as goal
 
-abbrev pub invariant-loop-at : goal.invariant-loop-at
-invariant-loop-at l = AreMeasured (Exceeds l.admitted.graph l.order l.frozen) l.at l.scenarios l.numbers.items
+abbrev pub invariant-loop-run : goal.invariant-loop-run
+invariant-loop-run l = l.numbers.items ≡ map (excess_in_run l.problem) (take l.run-index l.runs)

@@ -1,6 +1,5 @@
-use Rattle.cpg_run.specs.Finish.{Finishes}
-use Rattle.cpg_measure.specs.Peaks.{AreMeasured}
+use Rattle.std.proofs.Common.{◌≡◌, map, take}
 use Rattle.cpg_measure.proofs.peaks.finishes.Given as goal
 
-abbrev pub invariant-loop-at : goal.invariant-loop-at
-invariant-loop-at l = AreMeasured (Finishes l.admitted.graph l.order l.frozen) l.at l.scenarios l.numbers.items
+abbrev pub invariant-loop-run : goal.invariant-loop-run
+invariant-loop-run l = l.numbers.items ≡ map (λ t. t.finish) (take l.run-index l.runs)

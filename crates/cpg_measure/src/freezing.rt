@@ -1,0 +1,134 @@
+//! The times of frozen items.
+ghost use Rattle.std.specs.Prelude.{◌≡◌, ◌≢◌, ◌<◌, ◌++◌, ℕ, IfOk, None, get_or, length};
+ghost use Rattle.cpg_base.specs.Graph.{process_count, edge_count, item_count, node_of};
+ghost use Rattle.cpg_order.specs.Links.{links_of};
+ghost use Rattle.cpg_order.specs.Urgency.{IsTopological};
+ghost use Rattle.cpg_run.specs.Frozen.{AreFrozenTimes};
+ghost use Rattle.cpg_times.specs.Known.{AreEarly};
+ghost use Rattle.cpg_times.specs.Plan.{plan_of};
+ghost use Rattle.cpg_measure.specs.FrozenItems.{is_frozen_message, frozen_starts, frozen_messages, frozen_items_of, frozen_along};
+ghost use Rattle.cpg_measure.specs.Latest.{IsUnfrozenTime};
+ghost use Rattle.cpg_measure.specs.Listing.{AreScenarios};
+
+use crate::latest::unfrozen_time;
+use cpg_base::{OutOfMemory, Problem, Scenario};
+use cpg_order::{Links, Order};
+use cpg_rules::Admitted;
+use cpg_run::Frozen;
+use cpg_times::Plan;
+use std::alloc::Global;
+
+/// The node of a process.
+fn node_of(problem: &Problem, process: u32) -> u32
+    requires { process < process_count problem.now }
+    ensures { result ≡ node_of problem.now process }
+{
+    problem.processes()[process as usize].node
+}
+
+/// Whether the message of an edge is frozen: an edge within a node has none.
+fn is_frozen_message(problem: &Problem, edge: u32) -> bool
+    requires { edge < edge_count problem.now }
+    ensures { result ≡ is_frozen_message problem.now edge }
+{
+    let edge = problem.edges()[edge as usize];
+    if node_of(problem, edge.from) == node_of(problem, edge.to) {
+        return false;
+    }
+    edge.frozen
+}
+
+/// Adds the start of a process, if it is frozen.
+fn add_start(problem: &Problem, process: u32, items: &mut Vec<u32>) -> Result<(), OutOfMemory>
+    requires { process < process_count problem.now }
+    ensures { IfOk result (λ _. items.new.items ≡ items.old.items ++ frozen_starts problem.now process) }
+{
+    if problem.processes()[process as usize].frozen {
+        items.push(process)?;
+    }
+    Ok(())
+}
+
+/// Adds the frozen messages of a process, by number.
+fn add_messages(
+    problem: &Problem,
+    links: &Links,
+    process: u32,
+    items: &mut Vec<u32>,
+) -> Result<(), OutOfMemory>
+    requires process { process < process_count problem.now }
+    requires links { links.now ≡ links_of problem.now }
+    ensures { IfOk result (λ _. items.new.items ≡ items.old.items ++ frozen_messages problem.now process) }
+{
+    for edge in links.outputs(process) {
+        if is_frozen_message(problem, *edge) {
+            items.push(problem.processes().len() as u32 + *edge)?;
+        }
+    }
+    Ok(())
+}
+
+/// The frozen items along an order: of each process its start, and then its messages by number.
+fn frozen_items(alloc: Global, problem: &Problem, order: &Order) -> Result<Vec<u32>, OutOfMemory>
+    requires { length order.now ≡ process_count problem.now }
+    ensures { IfOk result (λ items. items.items ≡ frozen_along problem.now order.now) }
+{
+    let links = Links::of(alloc, problem)?;
+    let mut items = Vec::new(alloc);
+    for process in order.processes() {
+        add_start(problem, *process, &mut items)?;
+        add_messages(problem, &links, *process, &mut items)?;
+    }
+    Ok(items)
+}
+
+/// Finds and sets the time of a frozen item, if it is active in some scenario.
+fn settle(
+    alloc: Global,
+    admitted: &Admitted,
+    order: &Order,
+    plan: &Plan,
+    frozen: &mut Frozen,
+    scenarios: &[Scenario],
+    item: u32,
+) -> Result<(), OutOfMemory>
+    requires topological { IsTopological admitted.now.graph order.now }
+    requires plan { plan.now ≡ plan_of admitted.now.graph }
+    requires frozen { length frozen.old ≡ item_count admitted.now.graph }
+    requires early { AreEarly frozen.old }
+    requires scenarios { AreScenarios admitted.now.graph scenarios.now }
+    requires item { item < item_count admitted.now.graph }
+    requires unset { get_or frozen.old item None ≡ None }
+    ensures item { IfOk result (λ _. IsUnfrozenTime admitted.now.graph order.now frozen.old item (get_or frozen.new item None)) }
+    ensures others { IfOk result (λ _. (other : ℕ) → other ≢ item → get_or frozen.new other None ≡ get_or frozen.old other None) }
+    ensures count { IfOk result (λ _. length frozen.new ≡ length frozen.old) }
+{
+    let time = unfrozen_time(alloc, admitted, order, plan, frozen, scenarios, item)?;
+    if let Some(time) = time {
+        frozen.set(item, time);
+    }
+    Ok(())
+}
+
+/// The times of the frozen items under an order, in time units, given all scenarios: of each the greatest time that it
+/// would have in some scenario if it were not frozen, and none where it is never active.
+pub fn frozen_times(
+    alloc: Global,
+    admitted: &Admitted,
+    order: &Order,
+    plan: &Plan,
+    scenarios: &[Scenario],
+) -> Result<Frozen, OutOfMemory>
+    requires topological { IsTopological admitted.now.graph order.now }
+    requires plan { plan.now ≡ plan_of admitted.now.graph }
+    requires scenarios { AreScenarios admitted.now.graph scenarios.now }
+    ensures frozen { IfOk result (λ frozen. AreFrozenTimes admitted.now.graph order.now frozen) }
+    ensures early { IfOk result (λ frozen. AreEarly frozen) }
+{
+    let items = frozen_items(alloc, admitted.problem(), order)?;
+    let mut frozen = Frozen::none(alloc, admitted.problem())?;
+    for item in items.as_slice() {
+        settle(alloc, admitted, order, plan, &mut frozen, scenarios, *item)?;
+    }
+    Ok(frozen)
+}
