@@ -1,0 +1,14 @@
+pub mod Queued
+pub mod CarriedBefore
+pub mod CubesOf
+pub mod SameInRows
+pub mod SameStarts
+pub mod SameSends
+pub mod CarriedFrom
+pub mod EntriesMerge
+pub mod EntriesFound
+pub mod RowsTimed
+pub mod RowsKnown
+pub mod RowsReach
+pub mod AllRules
+pub mod RowTables
