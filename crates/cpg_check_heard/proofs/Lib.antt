@@ -1,0 +1,7 @@
+mod Counts
+mod TellerLists
+mod Sides
+mod PartLaws
+mod Facts
+mod Bounded
+mod Untolds

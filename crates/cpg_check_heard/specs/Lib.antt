@@ -1,0 +1,5 @@
+pub mod Bounds
+pub mod Tellings
+pub mod Untold
+pub mod Unheard
+pub mod Hearings

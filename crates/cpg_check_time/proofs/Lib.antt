@@ -1,0 +1,12 @@
+pub mod Judging
+pub mod Counts
+pub mod DueLaws
+pub mod FrozenLaws
+pub mod ActLaws
+pub mod Seeking
+pub mod SlotLaws
+pub mod ProcessorLaws
+pub mod Waits
+pub mod DelayLaws
+pub mod InputLaws
+pub mod CommonCubes

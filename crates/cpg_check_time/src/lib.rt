@@ -1,25 +1,20 @@
-//! Stub.
+//! The rules of valid tables on times: V5 to V9.
 #![tactic(auto)]
 
-ghost use Rattle.std.specs.Prelude.{◌≡◌, IfNone, IfOk, IfSome};
-ghost use Rattle.cpg_violation.specs.Heads.{IsHeadFor};
-ghost use Rattle.cpg_violation.specs.Violation.{HoldFrom, IsFirstOf};
+mod acts;
+mod check;
+mod delays;
+mod due;
+mod frozen;
+mod inputs;
+mod judge;
+mod lateness;
+mod processor;
+mod slots;
 
-use cpg_base::OutOfMemory;
-use cpg_rules::Admitted;
-use cpg_table::{Fault, Tables};
-use std::alloc::Global;
-
-/// Stub.
-pub fn check_time(
-    _alloc: Global,
-    _admitted: &Admitted,
-    _tables: &Tables,
-) -> Result<Option<Fault>, OutOfMemory>
-    requires head { IsHeadFor _admitted.now.graph _tables.now.head }
-    requires earlier { HoldFrom _admitted.now.graph _tables.now.nodes 1 4 }
-    ensures none { IfOk result (λ r. IfNone r (HoldFrom _admitted.now.graph _tables.now.nodes 5 9)) }
-    ensures first { IfOk result (λ r. IfSome r (IsFirstOf _admitted.now.graph _admitted.now.order _tables.now.nodes 5 9)) }
-{
-    Err(OutOfMemory)
-}
+pub use check::check_time;
+pub use due::check_due;
+pub use frozen::check_frozen;
+pub use inputs::check_inputs;
+pub use processor::check_processor;
+pub use slots::check_slot;

@@ -1,7 +1,14 @@
 //! The rows of items, over all scenarios of a graph: beside each time the literals from which it was computed.
 #![tactic(auto)]
 
+mod cubes;
+mod items;
 mod laws;
+mod learning;
+mod least;
+mod sends;
+mod starts;
+mod state;
 
 pub use laws::{
     carried_decides, carried_rests_on_earlier, entries_have_times, row_tables_are_exact,

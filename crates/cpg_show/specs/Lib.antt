@@ -4,3 +4,5 @@ pub mod ItemText
 pub mod TableText
 pub mod NodeText
 pub mod Found
+pub mod TraceEvents
+pub mod TraceText

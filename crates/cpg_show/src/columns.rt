@@ -19,7 +19,7 @@ fn write_range(out: &mut String, low: u8, high: u8) -> Result<(), AllocError>
 }
 
 /// A value, by its number.
-fn write_value(out: &mut String, number: u8) -> Result<(), AllocError>
+pub(crate) fn write_value(out: &mut String, number: u8) -> Result<(), AllocError>
     ensures { OnOk result (string_bytes out.new ≡ string_bytes out.old ++ value_text number) }
 {
     if number == 0 {

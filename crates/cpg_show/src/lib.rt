@@ -1,7 +1,9 @@
-//! Tables as texts.
+//! Tables and traces as texts.
 #![tactic(auto)]
 
 mod columns;
+mod event;
+mod events;
 mod found;
 mod items;
 mod labels;
@@ -9,6 +11,10 @@ mod node;
 mod table;
 #[cfg(test)]
 mod tests;
+mod trace;
+#[cfg(test)]
+mod trace_tests;
 
 pub use node::node_text;
 pub use table::table_text;
+pub use trace::{NodeTrace, trace_text};

@@ -8,11 +8,17 @@ use cpg_table::{Entry, Head, NodeTable, Row, Tables, head_of};
 use std::alloc::Global;
 use std::test::Fail;
 
-fn name(alloc: Global, text: &str) -> Result<Name, Fail> {
+pub fn name(alloc: Global, text: &str) -> Result<Name, Fail> {
     Ok(Name::new(alloc, text)?.ok_or("name")?)
 }
 
-fn process(alloc: Global, text: &str, node: u32, wcet: u64, join: bool) -> Result<Process, Fail> {
+pub fn process(
+    alloc: Global,
+    text: &str,
+    node: u32,
+    wcet: u64,
+    join: bool,
+) -> Result<Process, Fail> {
     Ok(Process {
         name: name(alloc, text)?,
         node,
@@ -28,7 +34,7 @@ fn process(alloc: Global, text: &str, node: u32, wcet: u64, join: bool) -> Resul
     })
 }
 
-fn edge(from: u32, to: u32, when: Option<bool>) -> Edge {
+pub fn edge(from: u32, to: u32, when: Option<bool>) -> Edge {
     Edge {
         from,
         to,
@@ -38,7 +44,7 @@ fn edge(from: u32, to: u32, when: Option<bool>) -> Edge {
     }
 }
 
-fn problem(alloc: Global) -> Result<Problem, Fail> {
+pub fn problem(alloc: Global) -> Result<Problem, Fail> {
     let mut nodes = Vec::new(alloc);
     nodes.push(name(alloc, "N1")?)?;
     nodes.push(name(alloc, "N2")?)?;

@@ -16,7 +16,8 @@ both_or : (m a b : Bool) → ((m && a) || (m && b)) ≡ (m && (a || b))
 both_or true a b = refl
 both_or false a b = refl
 
-any_more : {X : Type 0} (test : X → Bool) (xs : List X) (i : ℕ) (d : X) → i < length xs → (list_any test (take i xs) || test (get_or xs i d)) ≡ list_any test (take (i + 1) xs)
+-- one element more
+pub any_more : {X : Type 0} (test : X → Bool) (xs : List X) (i : ℕ) (d : X) → i < length xs → (list_any test (take i xs) || test (get_or xs i d)) ≡ list_any test (take (i + 1) xs)
 any_more test xs i d h = ap (λ b. list_any test (take i xs) || b) (sym (or-false (test (get_or xs i d)))) ∙ sym (list_any-append test (take i xs) (get_or xs i d ∷ [])) ∙ sym (ap (list_any test) (take_more xs i d h))
 
 module _ {X : Type 0} (g : Graph) (order : List ℕ) (fact : Scenario → Bool) (test : Scenario → X → Bool) (xs : List X) where

@@ -61,7 +61,8 @@ sifts_cut columns v most places low high below above h k f g = record {
   found = λ s i c l m. side_found (nat_le (number_of s v) most) (places_in below s) (places_in above s) i (λ e. f.found s i (h s i c l m e) l m) (λ e. g.found s i (k s i c l m e) l m);
 }
 
-both_same : (a b : Bool) → (a ≡ true → b ≡ true) → (b ≡ true → a ≡ true) → a ≡ b
+-- two tests of which each passes where the other does
+pub both_same : (a b : Bool) → (a ≡ true → b ≡ true) → (b ≡ true → a ≡ true) → a ≡ b
 both_same true b h k = sym (h refl)
 both_same false true h k = sym (sym (k refl))
 both_same false false h k = refl

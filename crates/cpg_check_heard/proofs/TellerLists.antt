@@ -1,0 +1,35 @@
+-- The rows of all items, one after another.
+use Rattle.std.proofs.Common.{ℕ, zero, suc, ◌+◌, ◌<◌, ◌≡◌, List, [], ◌∷◌, ◌++◌, length, Some, arith, refl, sym, ◌∙◌, subst, inl, inr, length-append}
+use Rattle.std.specs.Prelude.{slice_get}
+use Rattle.std.proofs.lemmas.Bool.{cases_lt}
+use Rattle.std.proofs.lemmas.Option.{same_Some, slice_get_within}
+use Rattle.cpg_base.specs.Graph.{Graph}
+use Rattle.cpg_table.specs.Table.{NodeTable}
+use Rattle.cpg_check_heard.specs.declared.tellers.Teller.{Teller}
+use Rattle.cpg_check_heard.specs.Tellings.{IsTeller, AreTellers}
+
+get_before : {X : Type 0} (xs ys : List X) (i : ℕ) → i < length xs → slice_get (xs ++ ys) i ≡ slice_get xs i
+get_before [] ys i h = absurd (omega arith)
+get_before (x ∷ xs) ys zero h = refl
+get_before (x ∷ xs) ys (suc i) h = get_before xs ys i (omega arith)
+
+get_last : {X : Type 0} (xs : List X) (y : X) → slice_get (xs ++ y ∷ []) (length xs) ≡ Some y
+get_last [] y = refl
+get_last (x ∷ xs) y = get_last xs y
+
+module _ (g : Graph) (tables : List NodeTable) where
+  pub tellers_none : AreTellers g tables 0 []
+  tellers_none = record { count = refl; each = λ x t e. absurd (omega (arith, slice_get_within [] x t e)) }
+
+  pub tellers_push : (items : ℕ) (ts : List Teller) (t : Teller) → AreTellers g tables items ts → IsTeller g tables items t → AreTellers g tables (items + 1) (ts ++ t ∷ [])
+  tellers_push items ts t are is = record {
+    count = omega (arith, are.count, length-append ts (t ∷ []));
+    each = λ x u e. elim (cases_lt x (length ts)) [
+      | inl l ↦ are.each x u (sym (get_before ts (t ∷ []) x l) ∙ e)
+      | inr l ↦
+          let within = slice_get_within (ts ++ t ∷ []) x u e in
+          let last : length ts ≡ x = omega (arith, within, length-append ts (t ∷ [])) in
+          let same : t ≡ u = same_Some t u (sym (get_last ts t) ∙ subst (λ i. slice_get (ts ++ t ∷ []) i ≡ Some u) (sym last) e) in
+          subst (IsTeller g tables x) same (subst (λ y. IsTeller g tables y t) (let n : items ≡ x = omega (arith, are.count, last) in n) is)
+    ];
+  }

@@ -1,0 +1,56 @@
+-- The least scenario in which a bound isn't told, by what is left of a cube.
+use Rattle.std.proofs.Common.{ℕ, ◌≡◌, Bool, true, false, not, ◌&&◌, ◌||◌, List, [], Option, Some, None, refl, sym, ap, ◌∙◌}
+use Rattle.std.specs.Prelude.{IfSome, IfNone, IsTrue}
+use Rattle.std.specs.List.{list_any}
+use Rattle.cpg_base.specs.Graph.{Graph}
+use Rattle.cpg_order.proofs.First.{first_same}
+use Rattle.cpg_order.specs.First.{IsFirst}
+use Rattle.cpg_order.specs.Scenario.{Scenario, IsScenario, IsLeast}
+use Rattle.cpg_cube.specs.Cover.{is_left}
+use Rattle.cpg_cube.specs.Cube.{matches}
+use Rattle.cpg_cube.specs.declared.literal.Literal.{Literal}
+use Rattle.cpg_violation.proofs.SieveLaws.{same_where}
+
+off_where : (m a : Bool) → (m ≡ true → a ≡ false) → (m && a) ≡ false
+off_where true a h = h refl
+off_where false a h = refl
+
+turned_off : (a : Bool) → not a ≡ false → a ≡ true
+turned_off true e = refl
+turned_off false e = sym e
+
+module _ (g : Graph) (order : List ℕ) (cube : List Literal) (told : List (List Literal)) where
+  -- what covers answers is what is left first
+  pub first_left : (o : Option Scenario) → IfNone o ((s : Scenario) → IsScenario g s → matches cube s ≡ true → list_any (λ b. matches b s) told ≡ true)
+      → IfSome o (IsLeast g order (λ s. IsTrue (matches cube s && not (list_any (λ b. matches b s) told)))) → IsFirst g order (is_left told cube) o
+  first_left None none some = λ s i. off_where (matches cube s) (not (list_any (λ b. matches b s) told)) (λ m. ap not (none s i m))
+  first_left (Some s) none some = some
+
+  module _ (facts : Scenario → Bool) where
+    -- what is told is what is not left
+    pub untold_first : (free : Bool) (o : Option Scenario) → free ≡ false → ((s : Scenario) → IsScenario g s → matches cube s ≡ true → list_any (λ b. matches b s) told ≡ facts s)
+        → IsFirst g order (is_left told cube) o → IsFirst g order (λ s. matches cube s && not (free || facts s)) o
+    untold_first free o e is f = first_same g order (is_left told cube) (λ s. matches cube s && not (free || facts s)) o
+        (λ s i. same_where (matches cube s) (not (list_any (λ b. matches b s) told)) (not (free || facts s)) (λ m. ap not (is s i m ∙ sym (ap (λ t. t || facts s) e)))) f
+
+    -- where nothing is left, all is told
+    pub untold_none : (free : Bool) → ((s : Scenario) → IsScenario g s → matches cube s ≡ true → list_any (λ b. matches b s) told ≡ true → facts s ≡ true)
+        → ((s : Scenario) → IsScenario g s → is_left told cube s ≡ false) → (s : Scenario) → IsScenario g s → (matches cube s && not (free || facts s)) ≡ false
+    untold_none free is none s i = off_where (matches cube s) (not (free || facts s))
+        (λ m. ap not (or_true free (facts s) (is s i m (turned_off (list_any (λ b. matches b s) told) (sym (ap (λ t. t && not (list_any (λ b. matches b s) told)) m) ∙ none s i)))))
+      where
+        or_true : (a b : Bool) → b ≡ true → (a || b) ≡ true
+        or_true true b e = refl
+        or_true false b e = e
+
+-- a bound that needs no telling
+pub untold_free : (g : Graph) (cube : List Literal) (facts : Scenario → Bool) (free : Bool) → free ≡ true → (s : Scenario) → IsScenario g s → (matches cube s && not (free || facts s)) ≡ false
+untold_free g cube facts free e s i = off_where (matches cube s) (not (free || facts s)) (λ _. ap (λ t. not (t || facts s)) e)
+
+-- what a node's own ends tell, and then all that it hears, from nothing
+module _ (start : List (List Literal)) (s : Scenario) where
+  pub told_own : (first own heard all : Bool) → start ≡ [] → first ≡ (list_any (λ b. matches b s) start || own) → all ≡ (own || heard) → first ≡ true → all ≡ true
+  told_own first own heard all none e is t = is ∙ ap (λ x. x || heard) (sym (e ∙ ap (λ xs. list_any (λ b. matches b s) xs || own) none) ∙ t)
+
+  pub told_all : (first last own heard all : Bool) → start ≡ [] → first ≡ (list_any (λ b. matches b s) start || own) → last ≡ (first || heard) → all ≡ (own || heard) → last ≡ all
+  told_all first last own heard all none e f is = f ∙ ap (λ x. x || heard) (e ∙ ap (λ xs. list_any (λ b. matches b s) xs || own) none) ∙ sym is

@@ -1,0 +1,40 @@
+use Rattle.cpg_violation.proofs.HeadLaws.{tables_of_graph}
+use Rattle.std.proofs.Common.{◌≡◌, ap, false, ℕ, arith, refl}
+use Rattle.cpg_base.specs.Graph.{item_count}
+use Rattle.cpg_order.specs.Scenario.{Scenario, IsScenario}
+use Rattle.cpg_table.specs.GraphHead.{head_of}
+use Rattle.cpg_table.specs.Lawful.{AreTablesOf}
+use Rattle.cpg_table.specs.Table.{columns_of}
+use Rattle.cpg_violation.specs.Violation.{IsFirstColumn}
+use Rattle.cpg_violation.proofs.RowColumns.{columns_few}
+use Rattle.cpg_violation.proofs.Violations.{columns_known, none_more, first_violation}
+use Rattle.cpg_check_heard.specs.Unheard.{is_unheard}
+use Rattle.cpg_check_heard.proofs.heard.check_heard.Goals as goal
+
+pub first_unheard-requires-clause-hearing : goal.first_unheard-requires-clause-hearing
+first_unheard-requires-clause-hearing c =
+    let are : AreTablesOf (head_of c.args.admitted.now.graph) c.args.tables.now.nodes = tables_of_graph c.args.admitted.now.graph c.args.tables.now.head c.args.tables.now.nodes c.requires c.columns_of-columns.ensures.lawful in
+    record { admitted = c.problem.ensures.admitted; tables = are; tellers = c.in_ok-tellers.ensures }
+
+pub first_unheard-requires-clause-columns : goal.first_unheard-requires-clause-columns
+first_unheard-requires-clause-columns c =
+    let are : AreTablesOf (head_of c.args.admitted.now.graph) c.args.tables.now.nodes = tables_of_graph c.args.admitted.now.graph c.args.tables.now.head c.args.tables.now.nodes c.requires c.columns_of-columns.ensures.lawful in
+    rw c.columns_of-columns.ensures.columns (columns_known c.problem.ensures.admitted c.args.tables.now.nodes are c.loop-item.item)
+
+pub first_unheard-requires-clause-few : goal.first_unheard-requires-clause-few
+first_unheard-requires-clause-few c = rw c.columns_of-columns.ensures.columns (columns_few c.args.tables.now.head c.args.tables.now.nodes c.columns_of-columns.ensures.lawful c.loop-item.item)
+
+pub returns-in-Some-clause-first : goal.returns-in-Some-clause-first
+returns-in-Some-clause-first c =
+    let g = c.args.admitted.now.graph in
+    let first : IsFirstColumn g c.args.admitted.now.order (is_unheard g c.args.tables.now.nodes c.loop-item.item (columns_of c.args.tables.now.nodes c.loop-item.item)) (c.in-Some.column, c.in-Some.scenario) =
+    rw (← c.columns_of-columns.ensures.columns) (rw c.in-Some.is at c.in_ok-unheard.ensures.first) in
+    first_violation 4 g c.args.tables.now.nodes c.loop-item.item (λ y s. refl) c.args.admitted.now.order c.in-Some.column c.in-Some.scenario
+    (omega (arith, c.loop-item-test.true, c.item_count-item-end.ensures, ap item_count c.problem.ensures.problem)) c.loop-item.invariant first
+
+pub loop-item-preserved : goal.loop-item-preserved
+loop-item-preserved c =
+    let g = c.args.admitted.now.graph in
+    let none : (i : ℕ) (s : Scenario) → IsScenario g s → is_unheard g c.args.tables.now.nodes c.loop-item.item (columns_of c.args.tables.now.nodes c.loop-item.item) i s ≡ false =
+    rw (← c.columns_of-columns.ensures.columns) (rw c.in_default.is at c.in_ok-unheard.ensures.none) in
+    none_more 4 g c.args.tables.now.nodes c.loop-item.item (λ y s. refl) c.loop-item.invariant none

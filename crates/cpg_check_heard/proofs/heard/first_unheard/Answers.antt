@@ -1,0 +1,40 @@
+use Rattle.std.proofs.Common.{◌≡◌, ◌&&◌, ◌∙◌, false, Some, None, ap, subst, arith, inl, inr}
+use Rattle.std.proofs.lemmas.Bool.{cases_lt}
+use Rattle.cpg_base.specs.Graph.{home}
+use Rattle.cpg_order.specs.First.{IsFirst}
+use Rattle.cpg_order.specs.Scenario.{Scenario, IsScenario}
+use Rattle.cpg_cube.specs.Cube.{matches}
+use Rattle.cpg_table.specs.Valid.{breaks_heard}
+use Rattle.cpg_violation.proofs.Columnwise.{broken_place}
+use Rattle.cpg_check_heard.specs.Unheard.{is_column_unheard, is_unheard}
+use Rattle.cpg_check_heard.proofs.heard.first_unheard.Goals as goal
+
+pub returns-in-Some-clause-first : goal.returns-in-Some-clause-first
+returns-in-Some-clause-first c =
+    let g = c.args.hearing.now.admitted.now.graph in
+    let order = c.args.hearing.now.admitted.now.order in
+    let tables = c.args.hearing.now.tables.now.nodes in
+    let d = c.index-columns-place.result in
+    let node : c.home-node.result ≡ home g c.args.item = c.home-node.ensures ∙ ap (λ h. home h c.args.item) c.problem-problem.ensures.problem in
+    let found = subst (λ e. IsFirst g order (λ s. matches e.cube s && is_column_unheard g tables (home g c.args.item) s e) (Some c.in-Some.scenario)) c.index-columns-place.is
+    (subst (λ n. IsFirst g order (λ s. matches d.cube s && is_column_unheard g tables n s d) (Some c.in-Some.scenario)) node (rw c.in-Some.is at c.in_ok-unheard.ensures)) in
+    record {
+      least = broken_place (λ s e. breaks_heard g tables s c.args.item e) c.args.columns.now c.loop-place.place g order d c.loop-place-test.true (Some c.in-Some.scenario) found;
+      columns = c.loop-place.invariant;
+    }
+
+pub loop-place-preserved : goal.loop-place-preserved
+loop-place-preserved c =
+    let g = c.args.hearing.now.admitted.now.graph in
+    let order = c.args.hearing.now.admitted.now.order in
+    let tables = c.args.hearing.now.tables.now.nodes in
+    let d = c.index-columns-place.result in
+    let node : c.home-node.result ≡ home g c.args.item = c.home-node.ensures ∙ ap (λ h. home h c.args.item) c.problem-problem.ensures.problem in
+    let found = subst (λ e. IsFirst g order (λ s. matches e.cube s && is_column_unheard g tables (home g c.args.item) s e) None) c.index-columns-place.is
+    (subst (λ n. IsFirst g order (λ s. matches d.cube s && is_column_unheard g tables n s d) None) node (rw c.in_default.is at c.in_ok-unheard.ensures)) in
+    let none : (s : Scenario) → IsScenario g s → is_unheard g tables c.args.item c.args.columns.now c.loop-place.place s ≡ false =
+    broken_place (λ s e. breaks_heard g tables s c.args.item e) c.args.columns.now c.loop-place.place g order d c.loop-place-test.true None found in
+    λ i s l law. elim (cases_lt i c.loop-place.place) [
+      | inl lt ↦ c.loop-place.invariant i s lt law
+      | inr ge ↦ let same : c.loop-place.place ≡ i = omega arith in subst (λ j. is_unheard g tables c.args.item c.args.columns.now j s ≡ false) same (none s law)
+    ]

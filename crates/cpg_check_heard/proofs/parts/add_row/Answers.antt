@@ -1,0 +1,28 @@
+use Rattle.std.proofs.Common.{◌||◌, Contains, get_or, sym, ap, ◌∙◌, subst}
+use Rattle.std.specs.List.{list_any}
+use Rattle.std.proofs.lemmas.List.{take_all}
+use Rattle.cpg_cube.specs.Cube.{matches}
+use Rattle.cpg_check_heard.specs.Tellings.{is_telling_at}
+use Rattle.cpg_check_heard.proofs.PartLaws.{told_add, known_add, row_more, row_all}
+use Rattle.cpg_check_heard.proofs.parts.add_row.Goals as goal
+
+pub loop-place-preserved : goal.loop-place-preserved
+loop-place-preserved c =
+    let g = c.args.problem.now in
+    let places = c.as_slice-place-items.result.now in
+    record {
+      known = rw c.in_ok-add.ensures (known_add g c.loop-place.told.items c.in_ok-part.part c.loop-place.invariant.known c.in_ok-part.ensures.known);
+      told = λ s i. row_more (is_telling_at g c.args.teller.now.telling c.args.time c.args.bound c.args.teller.now.columns.now s) places c.loop-place.place-index 0 c.loop-place-test.true
+          (list_any (λ b. matches b s) c.args.told.now.items) (list_any (λ b. matches b s) c.loop-place.told.items) (list_any (λ b. matches b s) c.add.new.told.items) (c.loop-place.invariant.told s i)
+          (ap (list_any (λ b. matches b s)) c.in_ok-add.ensures
+          ∙ told_add g (λ t. is_telling_at g c.args.teller.now.telling c.args.time c.args.bound c.args.teller.now.columns.now t (get_or places c.loop-place.place-index 0)) c.loop-place.told.items c.in_ok-part.part c.in_ok-part.ensures.part s i);
+    }
+
+pub returns-clause-told : goal.returns-clause-told
+returns-clause-told c = λ s i m.
+    let g = c.args.problem.now in
+    let places = c.as_slice-place-items.result.now in
+    c.loop-place.invariant.told s i ∙ ap (λ t. list_any (λ b. matches b s) c.args.told.now.items || t)
+    (ap (list_any (is_telling_at g c.args.teller.now.telling c.args.time c.args.bound c.args.teller.now.columns.now s)) (take_all c.loop-place.place-index places c.loop-place-test.false)
+    ∙ row_all g c.args.teller.now.telling c.args.time c.args.bound c.args.teller.now.columns.now places s
+    (λ j l t. subst (λ xs. Contains xs j) (sym c.as_slice-place-items.ensures.value) (c.in_ok-places.ensures s j m (c.requires.sieve.found s j l t))))

@@ -1,0 +1,75 @@
+-- What a row tells a node: by the ends of a process of its own, or by frames.
+use Rattle.std.specs.Prelude.{ℕ, ◌+◌, ◌≡◌, ◌<◌, Bool, ◌&&◌, ◌==◌, nat_le, nat_lt, List, ◌∷◌, ◌++◌, Option, None, Some, slice_get, false, length}
+use Rattle.std.specs.List.{list_any}
+use Rattle.cpg_base.specs.Graph.{Graph, Item, Start, Message, Broadcast, process_count, item_at, home, condition_of, process_of_variable, value_variable}
+use Rattle.cpg_base.specs.Duration.{duration}
+use Rattle.cpg_base.specs.Bus.{slot_length}
+use Rattle.cpg_order.specs.Scenario.{Scenario, IsScenario, number_of}
+use Rattle.cpg_cube.specs.Cube.{matches}
+use Rattle.cpg_cube.specs.declared.literal.Literal.{Literal}
+use Rattle.cpg_table.specs.Table.{Column, NodeTable, columns_of}
+use Rattle.cpg_table.specs.Heard.{exactly, value_fact}
+use Rattle.cpg_violation.specs.Sieves.{IsSieveOf, column_at}
+use Rattle.cpg_check_heard.specs.declared.bound.Bound.{Bound}
+use Rattle.cpg_check_heard.specs.declared.tellers.Telling.{Telling}
+use Rattle.cpg_check_heard.specs.declared.tellers.Telling.TheVariants.{End, Frame}
+use Rattle.cpg_check_heard.specs.declared.tellers.Teller.{Teller}
+use Rattle.cpg_check_heard.specs.Bounds.{tells, variable_of}
+
+-- whether an end or a frame by a column has come by a time and tells a bound
+abbrev pub column_tells : Graph → Telling → ℕ → Bound → Scenario → Column → Bool
+column_tells g (End p) time b s c = nat_le (c.time + duration g p (number_of s p)) time && list_any (tells b) (exactly p (number_of s p) ∷ value_fact s (condition_of g p))
+column_tells g (Frame delay condition) time b s c = nat_le (c.time + delay) time && list_any (tells b) (c.cube ++ value_fact s condition)
+
+-- whether a column matches, and its end or frame tells a bound by a time
+abbrev pub is_telling : Graph → Telling → ℕ → Bound → Scenario → Column → Bool
+is_telling g telling time b s c = matches c.cube s && column_tells g telling time b s c
+
+-- the same of the column at a place, if there is one
+abbrev pub is_telling_at : Graph → Telling → ℕ → Bound → List Column → Scenario → ℕ → Bool
+is_telling_at g telling time b columns s i = nat_lt i (length columns) && is_telling g telling time b s (column_at columns i)
+
+-- whether a column of a row does
+abbrev pub row_tells : Graph → Telling → ℕ → Bound → List Column → Scenario → Bool
+row_tells g telling time b columns s = list_any (is_telling g telling time b s) columns
+
+-- an end can only tell of the count and the value of its process
+abbrev pub CanTell : Graph → Bound → Telling → Type 0
+CanTell g b (End p) = (p < process_count g) × (process_of_variable g (variable_of b) ≡ p)
+CanTell g b (Frame delay condition) = Unit {0}
+
+-- the condition whose value a frame carries
+abbrev pub carried : Item → Option ℕ
+carried (Start p) = None
+carried (Message e) = None
+carried (Broadcast c) = Some c
+
+-- whether a variable is a condition's value
+abbrev pub is_value : Option ℕ → ℕ → Bool
+is_value None v = false
+is_value (Some c) v = value_variable c == v
+
+-- how an item tells: a start by ends, a message or broadcast by frames
+abbrev pub item_telling : Graph → ℕ → Item → Telling
+item_telling g x (Start p) = End p
+item_telling g x (Message e) = Frame (slot_length g (home g x)) None
+item_telling g x (Broadcast c) = Frame (slot_length g (home g x)) (Some c)
+
+abbrev pub telling_of : Graph → ℕ → Telling
+telling_of g x = item_telling g x (item_at g x)
+
+-- a cube for the scenarios that pass a test, and none where none passes
+abbrev pub IsPart : Graph → (Scenario → Bool) → Option (List Literal) → Type 0
+IsPart g test None = (s : Scenario) → IsScenario g s → test s ≡ false
+IsPart g test (Some cube) = (s : Scenario) → IsScenario g s → matches cube s ≡ test s
+
+-- the row of an item, and how it tells
+pub record IsTeller (g : Graph) (tables : List NodeTable) (x : ℕ) (t : Teller) : Type 0 where
+  pub columns : t.columns.now ≡ columns_of tables x
+  pub sieve : IsSieveOf (columns_of tables x) t.sieve
+  pub telling : t.telling ≡ telling_of g x
+
+-- the rows of all items, by number
+pub record AreTellers (g : Graph) (tables : List NodeTable) (items : ℕ) (ts : List Teller) : Type 0 where
+  pub count : length ts ≡ items
+  pub each : (x : ℕ) (t : Teller) → slice_get ts x ≡ Some t → IsTeller g tables x t

@@ -1,0 +1,22 @@
+-- Columns with a literal that isn't heard.
+use Rattle.std.specs.Prelude.{ℕ, Bool, not, List}
+use Rattle.std.specs.List.{list_any}
+use Rattle.cpg_base.specs.Graph.{Graph}
+use Rattle.cpg_order.specs.Scenario.{Scenario}
+use Rattle.cpg_cube.specs.declared.literal.Literal.{Literal}
+use Rattle.cpg_table.specs.Table.{Column, NodeTable}
+use Rattle.cpg_table.specs.Heard.{facts, is_heard}
+use Rattle.cpg_table.specs.Valid.{breaks_heard}
+use Rattle.cpg_violation.specs.Broken.{is_broken}
+
+-- whether a node hasn't heard a literal by a time
+abbrev pub is_literal_unheard : Graph → List NodeTable → ℕ → ℕ → Scenario → Literal → Bool
+is_literal_unheard g tables node time s l = not (is_heard g.faults (facts g tables node s time) l)
+
+-- whether a node hasn't heard all literals of a column by its time
+abbrev pub is_column_unheard : Graph → List NodeTable → ℕ → Scenario → Column → Bool
+is_column_unheard g tables node s c = list_any (is_literal_unheard g tables node c.time s) c.cube
+
+-- whether the column at a place of an item's row matches in a scenario in which a literal of it isn't heard
+abbrev pub is_unheard : Graph → List NodeTable → ℕ → List Column → ℕ → Scenario → Bool
+is_unheard g tables x columns i s = is_broken (λ t c. breaks_heard g tables t x c) columns i s

@@ -1,0 +1,110 @@
+//! Ends of literals' ranges.
+ghost use Rattle.std.specs.Prelude.{◌≡◌};
+ghost use Rattle.std.specs.List.{list_any};
+ghost use Rattle.cpg_check_heard.specs.Bounds.{high_of, is_free, low_of, range_of, tells, variable_of};
+
+use cpg_cube::Literal;
+
+/// The variable of the first condition.
+const FIRST_VALUE: u8 = 128;
+
+/// One end of a literal's range.
+#[derive(Clone, Copy)]
+pub(crate) enum Bound {
+    /// The variable is this number at least.
+    Low { variable: u8, least: u8 },
+    /// The variable is this number at most.
+    High { variable: u8, most: u8 },
+}
+
+impl Bound {
+    /// The low of a literal.
+    pub(crate) fn low_of(literal: &Literal) -> Bound
+        ensures { result ≡ low_of literal.now }
+    {
+        Bound::Low {
+            variable: literal.variable,
+            least: literal.low,
+        }
+    }
+
+    /// The high of a literal.
+    pub(crate) fn high_of(literal: &Literal) -> Bound
+        ensures { result ≡ high_of literal.now }
+    {
+        Bound::High {
+            variable: literal.variable,
+            most: literal.high,
+        }
+    }
+
+    /// The variable.
+    pub(crate) fn variable(&self) -> u8
+        ensures { result ≡ variable_of self.now }
+    {
+        match self {
+            Bound::Low { variable, .. } => *variable,
+            Bound::High { variable, .. } => *variable,
+        }
+    }
+
+    /// Whether every number of the variable in scenarios of at most `k` faults is within it.
+    pub(crate) fn is_free(&self, k: u8) -> bool
+        ensures { result ≡ is_free k self.now }
+    {
+        match self {
+            Bound::Low { least, .. } => *least == 0,
+            Bound::High { variable, most } => {
+                if *variable < FIRST_VALUE {
+                    k <= *most
+                } else {
+                    1 <= *most
+                }
+            }
+        }
+    }
+
+    /// Whether a literal that is told bounds the variable at least as closely.
+    pub(crate) fn is_told_by(&self, literal: &Literal) -> bool
+        ensures { result ≡ tells self.now literal.now }
+    {
+        match self {
+            Bound::Low { variable, least } => {
+                literal.variable == *variable && *least <= literal.low
+            }
+            Bound::High { variable, most } => {
+                literal.variable == *variable && literal.high <= *most
+            }
+        }
+    }
+
+    /// Whether one of these literals does.
+    pub(crate) fn is_told_by_any(&self, literals: &[Literal]) -> bool
+        ensures { result ≡ list_any (tells self.now) literals.now }
+    {
+        for literal in literals {
+            if self.is_told_by(literal) {
+                return true;
+            }
+        }
+        false
+    }
+
+    /// The numbers within it in scenarios of at most `k` faults.
+    pub(crate) fn range(&self, k: u8) -> Literal
+        ensures { result ≡ range_of k self.now }
+    {
+        match self {
+            Bound::Low { variable, least } => Literal {
+                variable: *variable,
+                low: *least,
+                high: if *variable < FIRST_VALUE { k } else { 1 },
+            },
+            Bound::High { variable, most } => Literal {
+                variable: *variable,
+                low: 0,
+                high: *most,
+            },
+        }
+    }
+}

@@ -1,0 +1,78 @@
+//! V4.
+ghost use Rattle.std.specs.Prelude.{◌≡◌, ◌≤◌, ◌<◌, ℕ, All, IfNone, IfOk, IfSome, false, length};
+ghost use Rattle.cpg_base.specs.Graph.{item_count};
+ghost use Rattle.cpg_order.specs.Scenario.{Scenario, IsScenario};
+ghost use Rattle.cpg_cube.specs.Fit.{IsKnown};
+ghost use Rattle.cpg_check_heard.specs.Hearings.{IsHearing};
+ghost use Rattle.cpg_check_heard.specs.Unheard.{is_unheard};
+ghost use Rattle.cpg_violation.specs.Heads.{IsHeadFor};
+ghost use Rattle.cpg_violation.specs.Violation.{Holds, IsFirstColumn, IsFirstViolation};
+
+use crate::hearing::Hearing;
+use crate::items::heard_items;
+use crate::tellers::tellers;
+use cpg_base::{OutOfMemory, Scenario};
+use cpg_rules::Admitted;
+use cpg_table::{Entry, Fault, Tables};
+use cpg_violation::{columns_of, home, item_count};
+use std::alloc::Global;
+
+/// The first column of an item's row that matches in a scenario in which the item's node hasn't heard one of its literals
+/// by its time; and the least such scenario.
+fn first_unheard(
+    alloc: Global,
+    hearing: &Hearing<'_>,
+    item: u32,
+    columns: &[Entry],
+) -> Result<Option<(u32, Scenario)>, OutOfMemory>
+    requires hearing { IsHearing hearing.now }
+    requires item { item < item_count hearing.now.admitted.now.graph }
+    requires columns { All (λ c. IsKnown hearing.now.admitted.now.graph c.cube) columns.now }
+    requires few { length columns.now ≤ 524288 }
+    ensures none { IfOk result (λ r. IfNone r ((i : ℕ) (s : Scenario) → IsScenario hearing.now.admitted.now.graph s → is_unheard hearing.now.admitted.now.graph hearing.now.tables.now.nodes item columns.now i s ≡ false)) }
+    ensures first { IfOk result (λ r. IfSome r (IsFirstColumn hearing.now.admitted.now.graph hearing.now.admitted.now.order (is_unheard hearing.now.admitted.now.graph hearing.now.tables.now.nodes item columns.now))) }
+{
+    let problem = hearing.admitted.problem();
+    let node = home(problem, item);
+    let items = heard_items(alloc, problem, node)?;
+    for (place, column) in columns.iter().enumerate() {
+        let unheard = hearing.least_unheard(alloc, node, items.as_slice(), column)?;
+        if let Some(scenario) = unheard {
+            return Ok(Some((place as u32, scenario)));
+        }
+    }
+    Ok(None)
+}
+
+/// The first violation of V4, by item and column, with the least scenario in the urgency order in which it stands: the
+/// column matches, and one of its literals isn't heard at the item's node by the column's time. `None` exactly where the
+/// rule holds.
+pub fn check_heard(
+    alloc: Global,
+    admitted: &Admitted,
+    tables: &Tables,
+) -> Result<Option<Fault>, OutOfMemory>
+    requires { IsHeadFor admitted.now.graph tables.now.head }
+    ensures none { IfOk result (λ r. IfNone r (Holds admitted.now.graph tables.now.nodes 4)) }
+    ensures first { IfOk result (λ r. IfSome r (IsFirstViolation admitted.now.graph admitted.now.order tables.now.nodes 4)) }
+{
+    let tellers = tellers(alloc, admitted, tables)?;
+    let hearing = Hearing {
+        admitted,
+        tables,
+        tellers,
+    };
+    for item in 0..item_count(admitted.problem()) {
+        let columns = columns_of(tables, item);
+        let unheard = first_unheard(alloc, &hearing, item, columns)?;
+        if let Some((column, scenario)) = unheard {
+            return Ok(Some(Fault {
+                rule: 4,
+                item,
+                column: Some(column),
+                scenario,
+            }));
+        }
+    }
+    Ok(None)
+}

@@ -1,0 +1,195 @@
+//! The parts of columns' cubes in which they tell a bound.
+ghost use Rattle.std.specs.Prelude.{◌≡◌, ◌+◌, ◌≤◌, ◌<◌, ◌++◌, ◌&&◌, ◌||◌, ℕ, All, IfOk, IfSome, length, nat_le, nat_lt, option_to_list, true};
+ghost use Rattle.std.specs.List.{list_any};
+ghost use Rattle.cpg_base.specs.Duration.{duration};
+ghost use Rattle.cpg_base.specs.Graph.{IsVariable, process_count, process_of_variable};
+ghost use Rattle.cpg_base.specs.Limits.{IsWithinLimits};
+ghost use Rattle.cpg_order.specs.Scenario.{Scenario, IsScenario};
+ghost use Rattle.cpg_cube.specs.Cube.{matches};
+ghost use Rattle.cpg_cube.specs.Fit.{IsKnown};
+ghost use Rattle.cpg_violation.specs.Sieves.{IsSieveOf};
+ghost use Rattle.cpg_check_heard.specs.Bounds.{variable_of};
+ghost use Rattle.cpg_check_heard.specs.Tellings.{CanTell, IsPart, is_telling, is_telling_at, is_value, row_tells};
+ghost use Rattle.cpg_check_heard.specs.declared.tellers.Telling.TheVariants.{End, Frame};
+
+use crate::bound::Bound;
+use crate::tellers::{Teller, Telling};
+use cpg_base::{OutOfMemory, Problem};
+use cpg_cube::{Cube, Literal};
+use cpg_table::Entry;
+use std::alloc::Global;
+
+/// With how many of the fault counts, from 0 on, an execution that starts at a time has ended by another.
+fn counts_by(problem: &Problem, process: u32, start: u64, time: u64) -> u8
+    requires { process < process_count problem.now }
+    ensures limits { IsWithinLimits problem.now }
+    ensures counts { (n : ℕ) → n ≤ problem.now.faults → nat_le (start + duration problem.now process n) time ≡ nat_lt n result }
+{
+    let all = problem.faults() + 1;
+    if start > time {
+        return 0;
+    }
+    let left = time - start;
+    for count in 0..all {
+        if problem.duration(process, count) > left {
+            return count;
+        }
+    }
+    all
+}
+
+/// The part of a column's cube in which the process has ended by a time, and its count or value is within a bound.
+fn end_part(
+    problem: &Problem,
+    process: u32,
+    column: &Entry,
+    time: u64,
+    bound: Bound,
+) -> Result<Option<Cube>, OutOfMemory>
+    requires can { CanTell problem.now bound (End process) }
+    requires variable { IsVariable problem.now (variable_of bound) }
+    requires cube { IsKnown problem.now column.now.cube }
+    ensures part { IfOk result (IsPart problem.now (λ s. is_telling problem.now (End process) time bound s column.now)) }
+    ensures known { IfOk result (λ r. IfSome r (IsKnown problem.now)) }
+{
+    let counts = counts_by(problem, process, column.time, time);
+    if counts == 0 {
+        return Ok(None);
+    }
+    let come = Literal {
+        variable: process as u8,
+        low: 0,
+        high: counts - 1,
+    };
+    let Some(part) = column.cube.with(come)? else {
+        return Ok(None);
+    };
+    let told = part.with(bound.range(problem.faults()))?;
+    Ok(told)
+}
+
+/// Whether a variable is a condition's value.
+fn is_value(condition: Option<u32>, variable: u8) -> bool
+    ensures { result ≡ is_value condition variable }
+{
+    match condition {
+        Some(condition) => u64::from(condition) + 128 == u64::from(variable),
+        None => false,
+    }
+}
+
+/// The part of a column's cube in which a frame has come that bounds a variable: all of it where the column's literals do,
+/// or else the part in which the value that it carries does.
+fn frame_part(
+    problem: &Problem,
+    delay: u64,
+    condition: Option<u32>,
+    column: &Entry,
+    time: u64,
+    bound: Bound,
+) -> Result<Option<Cube>, OutOfMemory>
+    requires variable { IsVariable problem.now (variable_of bound) }
+    requires cube { IsKnown problem.now column.now.cube }
+    ensures part { IfOk result (IsPart problem.now (λ s. is_telling problem.now (Frame delay condition) time bound s column.now)) }
+    ensures known { IfOk result (λ r. IfSome r (IsKnown problem.now)) }
+{
+    if column.time > time {
+        return Ok(None);
+    }
+    if delay > time - column.time {
+        return Ok(None);
+    }
+    if bound.is_told_by_any(column.cube.literals()) {
+        let cube = column.cube.copy()?;
+        return Ok(Some(cube));
+    }
+    if !is_value(condition, bound.variable()) {
+        return Ok(None);
+    }
+    let told = column.cube.with(bound.range(problem.faults()))?;
+    Ok(told)
+}
+
+/// The part of a column's cube in which it tells a bound by a time, if there is one.
+fn part_of(
+    problem: &Problem,
+    telling: Telling,
+    column: &Entry,
+    time: u64,
+    bound: Bound,
+) -> Result<Option<Cube>, OutOfMemory>
+    requires can { CanTell problem.now bound telling }
+    requires variable { IsVariable problem.now (variable_of bound) }
+    requires cube { IsKnown problem.now column.now.cube }
+    ensures part { IfOk result (IsPart problem.now (λ s. is_telling problem.now telling time bound s column.now)) }
+    ensures known { IfOk result (λ r. IfSome r (IsKnown problem.now)) }
+{
+    match telling {
+        Telling::End { process } => {
+            let part = end_part(problem, process, column, time, bound)?;
+            Ok(part)
+        }
+        Telling::Frame { delay, condition } => {
+            let part = frame_part(problem, delay, condition, column, time, bound)?;
+            Ok(part)
+        }
+    }
+}
+
+/// The same of the column at a place, if there is one.
+fn part_at(
+    problem: &Problem,
+    telling: Telling,
+    columns: &[Entry],
+    place: u32,
+    time: u64,
+    bound: Bound,
+) -> Result<Option<Cube>, OutOfMemory>
+    requires can { CanTell problem.now bound telling }
+    requires variable { IsVariable problem.now (variable_of bound) }
+    requires columns { All (λ c. IsKnown problem.now c.cube) columns.now }
+    ensures part { IfOk result (IsPart problem.now (λ s. is_telling_at problem.now telling time bound columns.now s place)) }
+    ensures known { IfOk result (λ r. IfSome r (IsKnown problem.now)) }
+{
+    let Some(column) = columns.get(place as usize) else {
+        return Ok(None);
+    };
+    let part = part_of(problem, telling, column, time, bound)?;
+    Ok(part)
+}
+
+/// Adds a part, if there is one.
+fn add(told: &mut Vec<Cube>, part: Option<Cube>) -> Result<(), OutOfMemory>
+    ensures { IfOk result (λ _. told.new.items ≡ told.old.items ++ option_to_list part) }
+{
+    if let Some(cube) = part {
+        told.push(cube)?;
+    }
+    Ok(())
+}
+
+/// Adds the parts of a row's cubes in which it tells a bound by a time, as far as they match together with a cube.
+pub(crate) fn add_row(
+    alloc: Global,
+    problem: &Problem,
+    teller: &Teller<'_>,
+    cube: &Cube,
+    time: u64,
+    bound: Bound,
+    told: &mut Vec<Cube>,
+) -> Result<(), OutOfMemory>
+    requires can { CanTell problem.now bound teller.now.telling }
+    requires variable { IsVariable problem.now (variable_of bound) }
+    requires columns { All (λ c. IsKnown problem.now c.cube) teller.now.columns.now }
+    requires sieve { IsSieveOf teller.now.columns.now teller.now.sieve }
+    requires told { All (IsKnown problem.now) told.old.items }
+    ensures known { IfOk result (λ _. All (IsKnown problem.now) told.new.items) }
+    ensures told { IfOk result (λ _. (s : Scenario) → IsScenario problem.now s → matches cube.now s ≡ true → list_any (λ b. matches b s) told.new.items ≡ (list_any (λ b. matches b s) told.old.items || row_tells problem.now teller.now.telling time bound teller.now.columns.now s)) }
+{
+    let places = teller.sieve.candidates(alloc, cube)?;
+    for place in places.as_slice() {
+        let part = part_at(problem, teller.telling, teller.columns, *place, time, bound)?;
+        add(told, part)?;
+    }
+    Ok(())
+}

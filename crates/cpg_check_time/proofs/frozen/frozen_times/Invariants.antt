@@ -1,0 +1,7 @@
+use Rattle.std.proofs.Common.{◌≡◌, map}
+use Rattle.cpg_base.specs.Numbers.{numbers_below}
+use Rattle.cpg_check_time.specs.Frozen.{frozen_time}
+use Rattle.cpg_check_time.proofs.frozen.frozen_times.Given as goal
+
+abbrev pub invariant-loop-item : goal.invariant-loop-item
+invariant-loop-item l = l.times.items ≡ map (frozen_time l.admitted.graph l.tables.nodes) (numbers_below l.item)

@@ -1,0 +1,12 @@
+use Rattle.std.proofs.Common.{ℕ, ◌≡◌, Some, false}
+use Rattle.cpg_order.specs.Scenario.{Scenario, IsScenario}
+use Rattle.cpg_table.specs.Valid.{breaks}
+use Rattle.cpg_violation.proofs.Violations.{none_more}
+use Rattle.cpg_check_time.proofs.Judging.{never_missing}
+use Rattle.cpg_check_time.proofs.judge.first_violation.Goals as goal
+
+pub loop-item-preserved : goal.loop-item-preserved
+loop-item-preserved g c =
+    let none : (i : ℕ) (s : Scenario) → IsScenario c.args.admitted.now.graph s → breaks g.J.Judge.number c.args.admitted.now.graph c.args.tables.now.nodes s c.loop-item.item (Some i) ≡ false = rw c.in_default.is at c.in_ok-found.ensures.none in
+    none_more g.J.Judge.number c.args.admitted.now.graph c.args.tables.now.nodes c.loop-item.item (λ y s. never_missing g.J.Judge.number g.met.J.Judge.late c.args.admitted.now.graph c.args.tables.now.nodes y s)
+    c.loop-item.invariant none

@@ -1,0 +1,29 @@
+use Rattle.std.proofs.Common.{◌≡◌, ◌&&◌, [], ap}
+use Rattle.cpg_order.specs.Scenario.{Scenario, IsScenario}
+use Rattle.cpg_order.proofs.First.{first_same}
+use Rattle.cpg_cube.specs.Cube.{matches}
+use Rattle.cpg_check_time.specs.Lateness.{ends_after}
+use Rattle.cpg_check_time.proofs.lateness.least_late.Goals as goal
+
+pub returns-in_err-part-clause-room : goal.returns-in_err-part-clause-room
+returns-in_err-part-clause-room c =
+    let lawful : IsScenario c.args.problem.now c.meets.new.least = (c.if-not-meets.ensures.least []).lawful in
+    record { values = lawful.values; faults = lawful.faults }
+
+pub returns-in_default-clause-room : goal.returns-in_default-clause-room
+returns-in_default-clause-room c =
+    let lawful : IsScenario c.args.problem.now c.meets.new.least = (c.if-not-meets.ensures.least []).lawful in
+    record { values = lawful.values; faults = lawful.faults }
+
+pub met-requires-clause-room : goal.met-requires-clause-room
+met-requires-clause-room c =
+    let lawful : IsScenario c.args.problem.now c.meets.new.least = (c.if-not-meets.ensures.least []).lawful in
+    record { values = lawful.values; faults = lawful.faults }
+
+pub returns-clause-first : goal.returns-clause-first
+returns-clause-first c =
+    let g = c.args.problem.now in
+    let part : (s : Scenario) → IsScenario g s → matches c.in-Some.part s ≡ (matches c.args.column.now.cube s && ends_after g c.args.process c.args.column.now.time c.args.time s) = rw c.in-Some.is at c.in_ok-part.ensures.part in
+    λ order. first_same g order (λ s. matches c.args.cube.now s && matches c.in-Some.part s)
+    (λ s. matches c.args.cube.now s && (matches c.args.column.now.cube s && ends_after g c.args.process c.args.column.now.time c.args.time s)) c.in_ok-found.found
+    (λ s i. ap (λ b. matches c.args.cube.now s && b) (part s i)) (c.in_ok-found.ensures.first order)

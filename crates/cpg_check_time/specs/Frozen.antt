@@ -1,0 +1,13 @@
+-- The one time of a frozen item.
+use Rattle.std.specs.Prelude.{ℕ, if◌then◌else◌, List, Option, None, find, option_map}
+use Rattle.cpg_base.specs.Graph.{Graph, is_frozen}
+use Rattle.cpg_table.specs.Table.{Column, NodeTable, columns_of}
+use Rattle.cpg_table.specs.Valid.{is_possible}
+
+-- the time of the first column that matches in any scenario, if there is one
+abbrev pub possible_time : Graph → List Column → Option ℕ
+possible_time g columns = option_map (λ c. c.time) (find (is_possible g) columns)
+
+-- that of a frozen item
+abbrev pub frozen_time : Graph → List NodeTable → ℕ → Option ℕ
+frozen_time g tables x = if is_frozen g x then possible_time g (columns_of tables x) else None

@@ -1,0 +1,32 @@
+-- Inputs of a start that aren't there by its time.
+use Rattle.std.specs.Prelude.{ℕ, ◌≡◌, ◌<◌, Bool, ◌&&◌, if◌then◌else◌, List, [], ◌∷◌, length, get_or}
+use Rattle.std.specs.List.{list_any, flat_map}
+use Rattle.cpg_base.specs.Bus.{slot_length}
+use Rattle.cpg_base.specs.Graph.{Graph, condition_of, edge_at, home, is_message, message_item, source}
+use Rattle.cpg_guard.specs.Guards.{is_passed, test_of}
+use Rattle.cpg_order.specs.Scenario.{Scenario}
+use Rattle.cpg_cube.specs.Cube.{matches}
+use Rattle.cpg_table.specs.Table.{Column, NodeTable, columns_of}
+use Rattle.cpg_check_time.specs.Acts.{IsTimetable, acts_of}
+use Rattle.cpg_check_time.specs.Delays.{is_late}
+use Rattle.cpg_check_time.specs.declared.delays.Delay.TheVariants.{Execution, Slot}
+use Rattle.cpg_check_time.specs.declared.delays.Timeline.{Timeline}
+
+-- whether the source of an edge has the value that the edge asks for
+abbrev pub is_asked : Graph → ℕ → Scenario → Bool
+is_asked g e s = is_passed (test_of (condition_of g (source g e)) (edge_at g e).when) s.values
+
+-- whether an input comes after a time: its frame, or the end of a source on the same node that has the edge's value
+abbrev pub is_input_late : Graph → List NodeTable → ℕ → ℕ → Scenario → Bool
+is_input_late g tables time e s = if is_message g e
+    then list_any (λ d. is_late g (Slot (slot_length g (home g (message_item g e)))) time d s) (columns_of tables (message_item g e))
+    else is_asked g e s && list_any (λ d. is_late g (Execution (source g e)) time d s) (columns_of tables (source g e))
+
+-- whether a column matches, and an input comes after its time
+abbrev pub lacks_input : Graph → List NodeTable → Column → ℕ → Scenario → Bool
+lacks_input g tables c e s = matches c.cube s && is_input_late g tables c.time e s
+
+-- the columns of each of the first items, by rising time
+pub record AreTimelines (tables : List NodeTable) (items : ℕ) (lines : List Timeline) : Type 0 where
+  pub count : length lines ≡ items
+  pub each : (x : ℕ) (d : Timeline) → x < items → IsTimetable (flat_map (acts_of tables) (x ∷ [])) (get_or lines x d).acts.items

@@ -1,0 +1,59 @@
+//! V9: every execution ends by its due.
+ghost use Rattle.std.specs.Prelude.{◌≡◌, IfNone, IfOk, IfSome, ⊤};
+ghost use Rattle.std.proofs.Common.{arith};
+ghost use Rattle.cpg_violation.specs.Heads.{IsHeadFor};
+ghost use Rattle.cpg_violation.specs.Violation.{Holds, IsFirstViolation};
+
+use crate::judge::{Judge, first_violation};
+use crate::lateness::late_part;
+use cpg_base::{OutOfMemory, Scenario};
+use cpg_rules::Admitted;
+use cpg_table::{Entry, Fault, Tables};
+use std::alloc::Global;
+
+/// That every execution ends by its due.
+struct Due;
+
+impl Judge for Due {
+    ghost number = { 9 };
+
+    ghost suits = { λ _ _ _. ⊤ };
+
+    fn least(
+        &self,
+        alloc: Global,
+        admitted: &Admitted,
+        tables: &Tables,
+        item: u32,
+        column: &Entry,
+    ) -> Result<Option<Scenario>, OutOfMemory> {
+        let problem = admitted.problem();
+        if item as usize >= problem.processes().len() {
+            return Ok(None);
+        }
+        let due = problem.due(item);
+        let Some(part) = late_part(problem, &column.cube, item, column.time, due)? else {
+            return Ok(None);
+        };
+        let least = part.least(alloc, problem)?;
+        Ok(least)
+    }
+
+    ghost late = { Prim.omega arith };
+}
+
+/// The first violation of V9, by item and column, with the least scenario in the urgency order in which it stands: the
+/// column matches, and the execution that it starts ends after the lesser of the deadline and the process's own. `None`
+/// exactly where the rule holds.
+pub fn check_due(
+    alloc: Global,
+    admitted: &Admitted,
+    tables: &Tables,
+) -> Result<Option<Fault>, OutOfMemory>
+    requires { IsHeadFor admitted.now.graph tables.now.head }
+    ensures none { IfOk result (λ r. IfNone r (Holds admitted.now.graph tables.now.nodes 9)) }
+    ensures first { IfOk result (λ r. IfSome r (IsFirstViolation admitted.now.graph admitted.now.order tables.now.nodes 9)) }
+{
+    let found = first_violation(alloc, admitted, tables, 9, &Due)?;
+    Ok(found)
+}

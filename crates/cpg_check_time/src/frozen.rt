@@ -1,0 +1,131 @@
+//! V8: a frozen item has one time.
+ghost use Rattle.std.specs.Prelude.{◌≡◌, ◌<◌, All, IfNone, IfOk, IfSome, map};
+ghost use Rattle.std.proofs.Common.{arith};
+ghost use Rattle.cpg_base.specs.Graph.{is_frozen, item_count};
+ghost use Rattle.cpg_base.specs.Numbers.{numbers_below};
+ghost use Rattle.cpg_rules.specs.Admission.{IsAdmitted};
+ghost use Rattle.cpg_violation.specs.Heads.{IsHeadFor};
+ghost use Rattle.cpg_violation.specs.Violation.{Holds, IsFirstViolation};
+ghost use Rattle.cpg_check_time.specs.Columns.{IsColumn};
+ghost use Rattle.cpg_check_time.specs.Frozen.{frozen_time, possible_time};
+
+use crate::judge::{Judge, first_violation};
+use cpg_base::{OutOfMemory, Problem, Scenario};
+use cpg_rules::Admitted;
+use cpg_table::{Entry, Fault, Tables};
+use cpg_violation::{columns_of, is_message, item_count};
+use std::alloc::Global;
+
+/// Whether an item has one time in all scenarios: a frozen process, or a frozen edge between nodes.
+fn is_frozen(problem: &Problem, item: u32) -> bool
+    requires { item < item_count problem.now }
+    ensures { result ≡ is_frozen problem.now item }
+{
+    let processes = problem.processes();
+    let edges = problem.edges();
+    let count = processes.len() as u32;
+    if item < count {
+        return processes[item as usize].frozen;
+    }
+    let edge = item - count;
+    if edge as usize >= edges.len() {
+        return false;
+    }
+    if !edges[edge as usize].frozen {
+        return false;
+    }
+    is_message(problem, edge)
+}
+
+/// The time of the first column that matches in any scenario, if there is one.
+fn possible_time(problem: &Problem, columns: &[Entry]) -> Option<u64>
+    requires { All (IsColumn problem.now) columns.now }
+    ensures { result ≡ possible_time problem.now columns.now }
+{
+    for column in columns {
+        if column.cube.is_met(problem.faults()) {
+            return Some(column.time);
+        }
+    }
+    None
+}
+
+/// The time of a frozen item's first column that matches in any scenario, if there is one.
+fn frozen_time(admitted: &Admitted, tables: &Tables, item: u32) -> Option<u64>
+    requires head { IsHeadFor admitted.now.graph tables.now.head }
+    requires item { item < item_count admitted.now.graph }
+    ensures { result ≡ frozen_time admitted.now.graph tables.now.nodes item }
+{
+    let problem = admitted.problem();
+    if !is_frozen(problem, item) {
+        return None;
+    }
+    possible_time(problem, columns_of(tables, item))
+}
+
+/// That a frozen item has one time: for each item, what that time is.
+#[derive(Drop)]
+struct Frozen {
+    times: Vec<Option<u64>>,
+}
+
+/// The times of frozen items.
+fn frozen_times(
+    alloc: Global,
+    admitted: &Admitted,
+    tables: &Tables,
+) -> Result<Vec<Option<u64>>, OutOfMemory>
+    requires { IsHeadFor admitted.now.graph tables.now.head }
+    ensures { IfOk result (λ times. times.items ≡ map (frozen_time admitted.now.graph tables.now.nodes) (numbers_below (item_count admitted.now.graph))) }
+{
+    let count = item_count(admitted.problem());
+    let mut times = Vec::new(alloc);
+    times.reserve(count as usize)?;
+    for item in 0..count {
+        times.push(frozen_time(admitted, tables, item))?;
+    }
+    Ok(times)
+}
+
+impl Judge for Frozen {
+    ghost number = { 8 };
+
+    ghost suits = { λ judge g tables. judge.times.items ≡ map (frozen_time g tables) (numbers_below (item_count g)) };
+
+    fn least(
+        &self,
+        alloc: Global,
+        admitted: &Admitted,
+        tables: &Tables,
+        item: u32,
+        column: &Entry,
+    ) -> Result<Option<Scenario>, OutOfMemory> {
+        let Some(time) = self.times[item as usize] else {
+            return Ok(None);
+        };
+        if time == column.time {
+            return Ok(None);
+        }
+        let least = column.cube.least(alloc, admitted.problem())?;
+        Ok(least)
+    }
+
+    ghost late = { Prim.omega arith };
+}
+
+/// The first violation of V8, by item and column, with the least scenario in the urgency order in which it stands: the
+/// item is frozen, the column matches, and its time is another than that of the row's first column that matches in any
+/// scenario. `None` exactly where the rule holds.
+pub fn check_frozen(
+    alloc: Global,
+    admitted: &Admitted,
+    tables: &Tables,
+) -> Result<Option<Fault>, OutOfMemory>
+    requires { IsHeadFor admitted.now.graph tables.now.head }
+    ensures none { IfOk result (λ r. IfNone r (Holds admitted.now.graph tables.now.nodes 8)) }
+    ensures first { IfOk result (λ r. IfSome r (IsFirstViolation admitted.now.graph admitted.now.order tables.now.nodes 8)) }
+{
+    let times = frozen_times(alloc, admitted, tables)?;
+    let found = first_violation(alloc, admitted, tables, 8, &Frozen { times })?;
+    Ok(found)
+}

@@ -1,0 +1,176 @@
+//! V5: at a start the release has come and the live inputs are there, and at a send the producer has ended.
+ghost use Rattle.std.specs.Prelude.{◌≡◌, ◌≤◌, ◌<◌, ◌&&◌, ℕ, All, IfNone, IfOk, IfSome, false};
+ghost use Rattle.std.specs.List.{list_any};
+ghost use Rattle.std.proofs.Common.{arith};
+ghost use Rattle.cpg_base.specs.Graph.{Graph, edge_count, item_count};
+ghost use Rattle.cpg_cube.specs.Cube.{matches};
+ghost use Rattle.cpg_cube.specs.Fit.{IsKnown};
+ghost use Rattle.cpg_order.specs.First.{IsFirst};
+ghost use Rattle.cpg_order.specs.Scenario.{Scenario};
+ghost use Rattle.cpg_table.specs.GraphHead.{head_of};
+ghost use Rattle.cpg_table.specs.Lawful.{AreTablesOf};
+ghost use Rattle.cpg_violation.specs.Heads.{IsHeadFor};
+ghost use Rattle.cpg_violation.specs.Violation.{HoldFrom, Holds, IsFirstViolation};
+ghost use Rattle.cpg_check_time.specs.Columns.{IsColumn};
+ghost use Rattle.cpg_check_time.specs.Inputs.{AreTimelines, lacks_input};
+ghost use Rattle.cpg_check_time.specs.Ready.{IsReady};
+
+use crate::delays::{Delay, Timeline, least_delay, timelines};
+use crate::judge::{Judge, first_violation};
+use cpg_base::{OutOfMemory, Scenario};
+use cpg_cube::Cube;
+use cpg_order::Links;
+use cpg_rules::Admitted;
+use cpg_table::{Entry, Fault, Tables};
+use cpg_violation::{earlier, edge_cube, home, is_message, producer, slot_length, source};
+use std::alloc::Global;
+
+/// The scenarios that two cubes match; `None` exactly where there are none.
+fn common(cube: &Cube, other: &Cube) -> Result<Option<Cube>, OutOfMemory>
+    ensures both { IfOk result (λ r. IfSome r (λ part. (s : Scenario) → matches part s ≡ (matches cube.now s && matches other.now s))) }
+    ensures known { IfOk result (λ r. IfSome r (λ part. (g : Graph) → IsKnown g cube.now → IsKnown g other.now → IsKnown g part)) }
+    ensures none { IfOk result (λ r. IfNone r ((s : Scenario) → (matches cube.now s && matches other.now s) ≡ false)) }
+{
+    let mut part = cube.copy()?;
+    for literal in other.literals() {
+        let Some(next) = part.with(*literal)? else {
+            return Ok(None);
+        };
+        part = next;
+    }
+    Ok(Some(part))
+}
+
+/// The least scenario in which a column matches and an input is live and not there by its time, if there is one.
+fn least_lacking(
+    alloc: Global,
+    admitted: &Admitted,
+    tables: &Tables,
+    lines: &[Timeline<'_>],
+    edge: u32,
+    column: &Entry,
+) -> Result<Option<Scenario>, OutOfMemory>
+    requires lawful { AreTablesOf (head_of admitted.now.graph) tables.now.nodes }
+    requires lines { AreTimelines tables.now.nodes (item_count admitted.now.graph) lines.now }
+    requires edge { edge < edge_count admitted.now.graph }
+    requires column { IsColumn admitted.now.graph column.now }
+    ensures { IfOk result (IsFirst admitted.now.graph admitted.now.order (lacks_input admitted.now.graph tables.now.nodes column.now edge)) }
+{
+    let problem = admitted.problem();
+    if is_message(problem, edge) {
+        let item = problem.processes().len() as u32 + edge;
+        let slot = Delay::Slot(slot_length(problem, home(problem, item)));
+        let time = column.time;
+        let found = least_delay(
+            alloc,
+            admitted,
+            tables,
+            lines,
+            item,
+            &column.cube,
+            slot,
+            time,
+        )?;
+        return Ok(found);
+    }
+    let process = source(problem, edge);
+    let execution = Delay::Execution(process);
+    let asked = edge_cube(alloc, problem, edge)?;
+    let Some(part) = common(&column.cube, &asked)? else {
+        return Ok(None);
+    };
+    let time = column.time;
+    let found = least_delay(
+        alloc, admitted, tables, lines, process, &part, execution, time,
+    )?;
+    Ok(found)
+}
+
+/// The same for several inputs.
+fn least_of_lacking(
+    alloc: Global,
+    admitted: &Admitted,
+    tables: &Tables,
+    lines: &[Timeline<'_>],
+    edges: &[u32],
+    column: &Entry,
+) -> Result<Option<Scenario>, OutOfMemory>
+    requires lawful { AreTablesOf (head_of admitted.now.graph) tables.now.nodes }
+    requires lines { AreTimelines tables.now.nodes (item_count admitted.now.graph) lines.now }
+    requires edges { All (λ e. e < edge_count admitted.now.graph) edges.now }
+    requires column { IsColumn admitted.now.graph column.now }
+    ensures { IfOk result (IsFirst admitted.now.graph admitted.now.order (λ s. list_any (λ e. lacks_input admitted.now.graph tables.now.nodes column.now e s) edges.now)) }
+{
+    let problem = admitted.problem();
+    let order = admitted.order();
+    let mut found: Option<Scenario> = None;
+    for edge in edges {
+        let next = least_lacking(alloc, admitted, tables, lines, *edge, column)?;
+        found = earlier(problem, order, found, next);
+    }
+    Ok(found)
+}
+
+/// That all that an item waits for is there: the inputs of each process, and the columns of each item by rising time.
+#[derive(Drop)]
+struct Inputs<'a> {
+    links: Links,
+    lines: Vec<Timeline<'a>>,
+}
+
+impl<'a> Judge for Inputs<'a> {
+    ghost number = { 5 };
+
+    ghost suits = { λ judge g tables. IsReady g tables judge };
+
+    fn least(
+        &self,
+        alloc: Global,
+        admitted: &Admitted,
+        tables: &Tables,
+        item: u32,
+        column: &Entry,
+    ) -> Result<Option<Scenario>, OutOfMemory> {
+        let problem = admitted.problem();
+        let lines = self.lines.as_slice();
+        if item as usize >= problem.processes().len() {
+            let process = producer(problem, item);
+            let execution = Delay::Execution(process);
+            let cube = &column.cube;
+            let time = column.time;
+            let least = least_delay(
+                alloc, admitted, tables, lines, process, cube, execution, time,
+            )?;
+            return Ok(least);
+        }
+        if column.time < problem.release(item) {
+            let least = column.cube.least(alloc, problem)?;
+            return Ok(least);
+        }
+        let edges = self.links.inputs(item);
+        let least = least_of_lacking(alloc, admitted, tables, lines, edges, column)?;
+        Ok(least)
+    }
+
+    ghost late = { Prim.omega arith };
+}
+
+/// The first violation of V5, by item and column, with the least scenario in the urgency order in which it stands: the
+/// column matches, and at a start its time is before the release or a live input isn't there by then, at a send the
+/// producer hasn't ended. `None` exactly where the rule holds. V1, V2 and V3 hold.
+pub fn check_inputs(
+    alloc: Global,
+    admitted: &Admitted,
+    tables: &Tables,
+) -> Result<Option<Fault>, OutOfMemory>
+    requires head { IsHeadFor admitted.now.graph tables.now.head }
+    requires rules { HoldFrom admitted.now.graph tables.now.nodes 1 3 }
+    ensures none { IfOk result (λ r. IfNone r (Holds admitted.now.graph tables.now.nodes 5)) }
+    ensures first { IfOk result (λ r. IfSome r (IsFirstViolation admitted.now.graph admitted.now.order tables.now.nodes 5)) }
+{
+    let problem = admitted.problem();
+    let links = Links::of(alloc, problem)?;
+    let lines = timelines(alloc, problem, tables)?;
+    let found = first_violation(alloc, admitted, tables, 5, &Inputs { links, lines })?;
+    Ok(found)
+}

@@ -1,0 +1,98 @@
+//! The first violation of a rule that each column keeps or breaks by itself.
+ghost use Rattle.std.specs.Prelude.{◌≡◌, ◌<◌, ℕ, Contains, IfNone, IfOk, IfSome, List, Some, false};
+ghost use Rattle.cpg_base.specs.Graph.{Graph, item_count};
+ghost use Rattle.cpg_order.specs.First.{IsFirst};
+ghost use Rattle.cpg_order.specs.Scenario.{Scenario, IsScenario};
+ghost use Rattle.cpg_rules.specs.Admission.{IsAdmitted};
+ghost use Rattle.cpg_table.specs.GraphHead.{head_of};
+ghost use Rattle.cpg_table.specs.Lawful.{AreTablesOf};
+ghost use Rattle.cpg_table.specs.Table.{NodeTable, columns_of};
+ghost use Rattle.cpg_table.specs.Valid.{breaks};
+ghost use Rattle.cpg_violation.specs.Heads.{IsHeadFor};
+ghost use Rattle.cpg_violation.specs.Violation.{Holds, IsFirstColumn, IsFirstViolation};
+ghost use Rattle.cpg_check_time.specs.Columns.{IsColumn, breaks_column};
+
+use cpg_base::{OutOfMemory, Scenario};
+use cpg_rules::Admitted;
+use cpg_table::{Entry, Fault, Tables};
+use cpg_violation::{columns_of, item_count};
+use std::alloc::Global;
+
+/// A rule on single columns, with what its questions need to know of the tables.
+pub(crate) trait Judge {
+    ghost number: { ℕ };
+
+    ghost suits: { Self → Graph → List NodeTable → Type 0 };
+
+    /// The least scenario in which a column of an item breaks the rule, if there is one.
+    fn least(
+        &self,
+        alloc: Global,
+        admitted: &Admitted,
+        tables: &Tables,
+        item: u32,
+        column: &Entry,
+    ) -> Result<Option<Scenario>, OutOfMemory>
+        requires suits { suits self.now admitted.now.graph tables.now.nodes }
+        requires lawful { AreTablesOf (head_of admitted.now.graph) tables.now.nodes }
+        requires item { item < item_count admitted.now.graph }
+        requires place { Contains (columns_of tables.now.nodes item) column.now }
+        requires column { IsColumn admitted.now.graph column.now }
+        ensures { IfOk result (IsFirst admitted.now.graph admitted.now.order (breaks_column number admitted.now.graph tables.now.nodes item column.now)) };
+
+    ghost late: { 4 < number };
+}
+
+/// The first column of an item that breaks the rule, and the least scenario in which it does.
+fn first_in_row<J: Judge>(
+    alloc: Global,
+    admitted: &Admitted,
+    tables: &Tables,
+    judge: &J,
+    item: u32,
+) -> Result<Option<(u32, Scenario)>, OutOfMemory>
+    requires head { IsHeadFor admitted.now.graph tables.now.head }
+    requires admitted { IsAdmitted admitted.now.graph admitted.now.order admitted.now.guards }
+    requires suits { J.suits judge.now admitted.now.graph tables.now.nodes }
+    requires item { item < item_count admitted.now.graph }
+    ensures none { IfOk result (λ r. IfNone r ((i : ℕ) (s : Scenario) → IsScenario admitted.now.graph s → breaks J.number admitted.now.graph tables.now.nodes s item (Some i) ≡ false)) }
+    ensures first { IfOk result (λ r. IfSome r (IsFirstColumn admitted.now.graph admitted.now.order (λ i s. breaks J.number admitted.now.graph tables.now.nodes s item (Some i)))) }
+{
+    let columns = columns_of(tables, item);
+    for (column, entry) in columns.iter().enumerate() {
+        let least = judge.least(alloc, admitted, tables, item, entry)?;
+        if let Some(scenario) = least {
+            return Ok(Some((column as u32, scenario)));
+        }
+    }
+    Ok(None)
+}
+
+/// The first violation of the rule, by item and column, with the least scenario in the urgency order in which it
+/// stands. `None` exactly where the rule holds.
+pub(crate) fn first_violation<J: Judge>(
+    alloc: Global,
+    admitted: &Admitted,
+    tables: &Tables,
+    rule: u8,
+    judge: &J,
+) -> Result<Option<Fault>, OutOfMemory>
+    requires rule { rule ≡ J.number }
+    requires head { IsHeadFor admitted.now.graph tables.now.head }
+    requires suits { J.suits judge.now admitted.now.graph tables.now.nodes }
+    ensures none { IfOk result (λ r. IfNone r (Holds admitted.now.graph tables.now.nodes J.number)) }
+    ensures first { IfOk result (λ r. IfSome r (IsFirstViolation admitted.now.graph admitted.now.order tables.now.nodes J.number)) }
+{
+    for item in 0..item_count(admitted.problem()) {
+        let found = first_in_row(alloc, admitted, tables, judge, item)?;
+        if let Some((column, scenario)) = found {
+            return Ok(Some(Fault {
+                rule,
+                item,
+                column: Some(column),
+                scenario,
+            }));
+        }
+    }
+    Ok(None)
+}

@@ -1,0 +1,95 @@
+-- The order of a trace: the derived order keeps it, and where no two events have one key there is one such order.
+use Rattle.std.proofs.Common.{◌≡◌, ◌≢◌, ℕ, ◌+◌, ◌⊎◌, inl, inr, Bool, true, false, not, ◌&&◌, List, [], ◌∷◌, ◌++◌, get_or, flat_map, AllPairs, IsPermutation, Ordering, Less, Equal, Greater, arith, refl, sym, ap, ◌∙◌, true≢false}
+use Rattle.std.specs.Ordering.{nat_cmp, is_lt, ordering_then}
+use Rattle.std.specs.Cmp.{IsStrictWeakOrder}
+use Rattle.std.specs.Cmp.Lexicographic.{slice_cmp}
+use Rattle.std.specs.List.Sorted.{IsSorted}
+use Rattle.std.proofs.lemmas.Cmp.{nat_list_cmp_total}
+use Rattle.std.proofs.lemmas.List.Sorted.{ranks_by, sorted_far}
+use Rattle.std.proofs.lemmas.Map.Keys.{IsDistinct-from_apart, IsDistinct-IsPermutation, apart_from_distinct}
+use Rattle.cpg_base.specs.Graph.{Graph}
+use Rattle.cpg_base.specs.Numbers.{is_below}
+use Rattle.cpg_base.proofs.Below.{below_one_way, below_total}
+use Rattle.cpg_base.proofs.Sorted.{one_order}
+use Rattle.cpg_node.specs.Dispatcher.{Act, Ended}
+use Rattle.cpg_show.specs.contracts.event.DeedOrd.TheImpl as deed_ord
+use Rattle.cpg_show.specs.contracts.event.EventOrd.TheImpl as event_ord
+use Rattle.cpg_show.specs.declared.event.Deed.TheVariants.{End, Send, Start}
+use Rattle.cpg_show.specs.TraceEvents.{Deed, Event, AreToldInOrder, all_events, deed_key, event_key}
+use Rattle.cpg_show.specs.TraceText.{IsTraceText, event_line, finish_line}
+
+-- what is not less stays so when the later part is replaced by one that is not less either
+then_weaker : (o p q : Ordering) → (is_lt p ≡ false → is_lt q ≡ false) → is_lt (ordering_then o p) ≡ false → is_lt (ordering_then o q) ≡ false
+then_weaker Less p q h k = k
+then_weaker Equal p q h k = h k
+then_weaker Greater p q h k = k
+
+then_equal : (o : Ordering) → is_lt o ≡ false → is_lt (ordering_then o Equal) ≡ false
+then_equal Less h = h
+then_equal Equal h = h
+then_equal Greater h = h
+
+-- the derived order goes on to compare what the keys leave out
+deed_order : (d e : Deed) → is_lt ((deed_ord.ghosts).cmp d e) ≡ false → is_below (deed_key d) (deed_key e) ≡ false
+deed_order (End p f v) (End q g w) h = then_weaker (nat_cmp p q) _ Equal (λ _. refl) h
+deed_order (End p f v) (Send y) h = h
+deed_order (End p f v) (Start q) h = h
+deed_order (Send x) (End q g w) h = refl
+deed_order (Send x) (Send y) h = then_equal (nat_cmp x y) h
+deed_order (Send x) (Start q) h = h
+deed_order (Start p) (End q g w) h = refl
+deed_order (Start p) (Send y) h = refl
+deed_order (Start p) (Start q) h = then_equal (nat_cmp p q) h
+
+event_order : (a b : Event) → is_lt ((event_ord.ghosts).cmp a b) ≡ false → is_below (event_key a) (event_key b) ≡ false
+event_order a b h = then_weaker (nat_cmp a.time b.time) _ _ (then_weaker (nat_cmp a.node b.node) ((deed_ord.ghosts).cmp a.deed b.deed) (slice_cmp nat_cmp (deed_key a.deed) (deed_key b.deed)) (deed_order a.deed b.deed)) h
+
+-- one event comes before another
+abbrev is_event_below : Event → Event → Bool
+is_event_below a b = is_below (event_key a) (event_key b)
+
+is_total : IsStrictWeakOrder is_event_below
+is_total = ranks_by nat_list_cmp_total event_key
+
+-- a sort by the derived order gives the order of a trace
+pub in_order : (events : List Event) → IsSorted (event_ord.ghosts).cmp events → AllPairs (λ a b. is_below (event_key b) (event_key a) ≡ false) events
+in_order events up i j d h l = sorted_far is_event_below is_total events (λ k e m n. event_order (get_or events (k + 1) e) (get_or events k e) (up k e m n)) i j d (omega arith) l
+
+-- ---- where no two events have one key there is one order, and one text
+
+-- neither comes before the other
+abbrev is_tied : Event → Event → Bool
+is_tied a b = not (is_event_below a b) && not (is_event_below b a)
+
+and_flips : (x y : Bool) → (not x && not y) ≡ (not y && not x)
+and_flips true true = refl
+and_flips true false = refl
+and_flips false true = refl
+and_flips false false = refl
+
+not_both : (x y : Bool) → (x ≡ false → y ≡ false → ⊥) → (not x && not y) ≡ false
+not_both true y h = refl
+not_both false true h = refl
+not_both false false h = absurd (h refl refl)
+
+before_from : (x y : Bool) → (not x && not y) ≡ false → y ≡ false → x ≡ true
+before_from true y h k = refl
+before_from false true h k = absurd (true≢false k)
+before_from false false h k = absurd (true≢false h)
+
+rises : (xs ys : List Event) → AllPairs (λ a b. event_key a ≢ event_key b) xs → IsPermutation xs ys → AllPairs (λ a b. is_below (event_key b) (event_key a) ≡ false) ys → AllPairs (λ a b. is_event_below a b ≡ true) ys
+rises xs ys apart p up i j d h l = before_from (is_event_below (get_or ys i d) (get_or ys j d)) (is_event_below (get_or ys j d) (get_or ys i d))
+    (apart_from_distinct is_tied ys i j d
+    (IsDistinct-IsPermutation is_tied (λ a b. and_flips (is_event_below a b) (is_event_below b a)) xs ys p
+    (IsDistinct-from_apart is_tied xs (λ m n e k o. not_both (is_event_below (get_or xs m e) (get_or xs n e)) (is_event_below (get_or xs n e) (get_or xs m e))
+    (λ f b. apart m n e k o (below_total (event_key (get_or xs m e)) (event_key (get_or xs n e)) f b)))))
+    h l)
+    (up i j d h l)
+
+one_events : (g : Graph) (acts : List (List Act)) (ends : List (List (ℕ × Ended))) (xs ys : List Event) → AllPairs (λ a b. event_key a ≢ event_key b) (all_events g acts ends) → AreToldInOrder g acts ends xs → AreToldInOrder g acts ends ys → xs ≡ ys
+one_events g acts ends xs ys apart a b = one_order (λ a b. is_event_below a b ≡ true) (λ x y h k. true≢false (sym k ∙ below_one_way (event_key x) (event_key y) h))
+    (all_events g acts ends) xs ys a.all b.all (rises (all_events g acts ends) xs apart a.all a.in_order) (rises (all_events g acts ends) ys apart b.all b.in_order)
+
+pub one_text : (g : Graph) (lengths : List ℕ) (acts : List (List Act)) (ends : List (List (ℕ × Ended))) (text other : List ℕ) → AllPairs (λ a b. event_key a ≢ event_key b) (all_events g acts ends)
+    → IsTraceText g lengths acts ends text → IsTraceText g lengths acts ends other → text ≡ other
+one_text g lengths acts ends text other apart (xs, a, t) (ys, b, u) = t ∙ ap (λ events. flat_map (event_line g lengths) events ++ finish_line ends) (one_events g acts ends xs ys apart a b) ∙ sym u

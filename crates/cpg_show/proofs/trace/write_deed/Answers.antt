@@ -1,0 +1,15 @@
+use Rattle.std.proofs.Common.{subst, arith}
+use Rattle.cpg_show.specs.TraceEvents.{IsDeedWithin}
+use Rattle.cpg_show.proofs.trace.write_deed.Goals as goal
+
+pub write_outcome-requires : goal.write_outcome-requires
+write_outcome-requires c = (subst (IsDeedWithin c.args.problem.now) c.in-End.is c.requires.within).0
+
+pub duration-full-requires-clause-process : goal.duration-full-requires-clause-process
+duration-full-requires-clause-process c = (subst (IsDeedWithin c.args.problem.now) c.in-End.is c.requires.within).0
+
+pub duration-full-requires-clause-faults : goal.duration-full-requires-clause-faults
+duration-full-requires-clause-faults c = (subst (IsDeedWithin c.args.problem.now) c.in-End.is c.requires.within).1
+
+pub bounds-lengths-process : goal.bounds-lengths-process
+bounds-lengths-process c = omega (arith, (subst (IsDeedWithin c.args.problem.now) c.in-End.is c.requires.within).0, c.requires.lengths)

@@ -1,0 +1,59 @@
+-- What the nodes did, as events, and the order in which a trace tells these.
+use Rattle.std.specs.Prelude.{ℕ, ⊤, ◌≡◌, ◌≤◌, ◌<◌, false, nat_lt, if◌then◌else◌, List, [], ◌∷◌, ◌++◌, map, get_or, length, IsPermutation, AllPairs}
+use Rattle.std.specs.List.{flat_map}
+use Rattle.cpg_base.specs.Numbers.{numbers_below, is_below}
+use Rattle.cpg_base.specs.Graph.{Graph, process_count}
+use Rattle.cpg_node.specs.Dispatcher.{Act, Ended}
+use Rattle.cpg_show.specs.declared.event.Deed.{Deed as ToldDeed}
+use Rattle.cpg_show.specs.declared.event.Deed.TheVariants.{End, Send, Start}
+use Rattle.cpg_show.specs.declared.event.Event.{Event as ToldEvent}
+
+-- the end of an execution, a message or broadcast, or the start of a process
+abbrev pub Deed : Type 0
+Deed = ToldDeed
+
+-- what a node did at a time
+abbrev pub Event : Type 0
+Event = ToldEvent
+
+-- a node starts or sends an item
+abbrev pub event_of_act : Graph → ℕ → Act → Event
+event_of_act g node a = record { time = a.time; node = node; deed = if nat_lt a.item (process_count g) then Start a.item else Send a.item }
+
+-- an execution of a node ends
+abbrev pub event_of_end : ℕ → ℕ × Ended → Event
+event_of_end node e = record { time = e.0; node = node; deed = End e.1.process e.1.faults e.1.value }
+
+-- what the node of a number did, of the acts and the ends of all nodes
+abbrev pub node_events : Graph → List (List Act) → List (List (ℕ × Ended)) → ℕ → List Event
+node_events g acts ends node = map (event_of_act g node) (get_or acts node []) ++ map (event_of_end node) (get_or ends node [])
+
+-- what all of them did
+abbrev pub all_events : Graph → List (List Act) → List (List (ℕ × Ended)) → List Event
+all_events g acts ends = flat_map (node_events g acts ends) (numbers_below (length acts))
+
+-- ends come first, then sends and then starts, and of one kind the lower number
+abbrev pub deed_key : Deed → List ℕ
+deed_key (End process faults value) = 0 ∷ process ∷ []
+deed_key (Send item) = 1 ∷ item ∷ []
+deed_key (Start process) = 2 ∷ process ∷ []
+
+-- by time, by number of the node, and then by what it did
+abbrev pub event_key : Event → List ℕ
+event_key e = e.time ∷ e.node ∷ deed_key e.deed
+
+-- all events, in order; where no two of them have one key, there is one such list
+pub record AreToldInOrder (g : Graph) (acts : List (List Act)) (ends : List (List (ℕ × Ended))) (events : List Event) : Type 0 where
+  pub all : IsPermutation (all_events g acts ends) events
+  pub in_order : AllPairs (λ a b. is_below (event_key b) (event_key a) ≡ false) events
+
+-- the end of a process of the graph, with no more faults than there may be
+pub record IsEndWithin (g : Graph) (e : ℕ × Ended) : Type 0 where
+  pub process : e.1.process < process_count g
+  pub faults : e.1.faults ≤ g.faults
+
+-- the same of an event
+abbrev pub IsDeedWithin : Graph → Deed → Type 0
+IsDeedWithin g (End process faults value) = (process < process_count g) × (faults ≤ g.faults)
+IsDeedWithin g (Send item) = ⊤
+IsDeedWithin g (Start process) = ⊤

@@ -1,0 +1,73 @@
+//! What a trace tells.
+ghost use Rattle.std.specs.Prelude.{◌≡◌};
+ghost use Rattle.cpg_show.specs.TraceEvents.{event_of_act, event_of_end};
+
+use cpg_base::Problem;
+use cpg_node::{Act, Ended};
+
+/// What a node did. At one time a trace tells ends before sends, and sends before starts.
+#[derive(Clone, Copy, Debug, PartialEq, Eq, PartialOrd, Ord)]
+pub enum Deed {
+    /// An execution ended.
+    End {
+        /// The number of the process.
+        process: u32,
+        /// How often it failed.
+        faults: u8,
+        /// The value of its condition, and false where it has none.
+        value: bool,
+    },
+    /// A message or a broadcast was sent.
+    Send {
+        /// The number of the item.
+        item: u32,
+    },
+    /// A process was started.
+    Start {
+        /// The number of the process.
+        process: u32,
+    },
+}
+
+/// What a node did at a time. The order is the one that a trace has.
+#[derive(Clone, Copy, Debug, PartialEq, Eq, PartialOrd, Ord)]
+pub struct Event {
+    /// When it was, in time units of the graph file.
+    pub time: u64,
+    /// The number of the node.
+    pub node: usize,
+    /// What it was.
+    pub deed: Deed,
+}
+
+/// A start or a send as an event.
+pub(crate) fn event_of_act(problem: &Problem, node: usize, act: &Act) -> Event
+    ensures { result ≡ event_of_act problem.now node act.now }
+{
+    let deed = if (act.item as usize) < problem.processes().len() {
+        Deed::Start { process: act.item }
+    } else {
+        Deed::Send { item: act.item }
+    };
+    Event {
+        time: act.time,
+        node,
+        deed,
+    }
+}
+
+/// The end of an execution as an event.
+pub(crate) fn event_of_end(node: usize, end: &(u64, Ended)) -> Event
+    ensures { result ≡ event_of_end node end.now }
+{
+    let (time, ended) = *end;
+    Event {
+        time,
+        node,
+        deed: Deed::End {
+            process: ended.process,
+            faults: ended.faults,
+            value: ended.value,
+        },
+    }
+}
