@@ -7,6 +7,9 @@ use Rattle.cpg_check_time.specs.Columns.{breaks_column}
 use Rattle.cpg_check_time.proofs.Judging.{place_there, first_here, none_here, column_is}
 use Rattle.cpg_check_time.proofs.judge.first_in_row.Goals as goal
 
+pub least-requires-clause-lawful : goal.least-requires-clause-lawful
+least-requires-clause-lawful g c = tables_of_graph c.args.admitted.now.graph c.args.tables.now.head c.args.tables.now.nodes c.requires.head c.columns_of-columns.ensures.lawful
+
 pub overflow_cast-result : goal.overflow_cast-result
 overflow_cast-result g c = omega (arith, c.loop-column-test.true, ap length c.columns_of-columns.ensures.columns, columns_few c.args.tables.now.head c.args.tables.now.nodes c.columns_of-columns.ensures.lawful c.args.item)
 
