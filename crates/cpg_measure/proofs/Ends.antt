@@ -60,12 +60,12 @@ module _ (g : Graph) (order : List ℕ) (top : IsTopological g order) where
         let e = has_end g order frozen s t run a.0 a.1 a.2 in
         let there = greatest_there (flat_map option_to_list t.ends) _ (in_list t.ends a.0 _ e) in
         let r = Contains-flat_map_parts option_to_list t.ends t.finish (subst (Contains (flat_map option_to_list t.ends)) (sym run.finish) there) in
-        let count : length t.ends ≡ process_count g = ap length run.ends ∙ length-map-range_with_len (end_by g s t) 0 (process_count g) in
+        let count : length t.ends ≡ process_count g = omega (arith, ap length run.ends, length-map-range_with_len (end_by g s t) 0 (process_count g)) in
         let is : r.0 ≡ Some t.finish = option_of r.0 t.finish r.2 in
-        (r.1.0, omega (arith, count, r.1.1), get_or_any t.ends r.1.0 r.0 None r.1.1 ∙ r.1.2 ∙ is)
+        (r.1.0, omega (arith, count, r.1.1), there_is t.ends r.1.0 r.0 t.finish r.1.1 r.1.2 is)
       where
-        get_or_any : (os : List (Option ℕ)) (i : ℕ) (c d : Option ℕ) → i < length os → get_or os i d ≡ get_or os i c
-        get_or_any os i c d l = get_or_default os i d c l
+        there_is : (os : List (Option ℕ)) (i : ℕ) (o : Option ℕ) (n : ℕ) → i < length os → get_or os i o ≡ o → o ≡ Some n → get_or os i None ≡ Some n
+        there_is os i o n l at e = get_or_default os i None o l ∙ at ∙ e
 
     -- what the search among the processes finds
     pub ends_last : (by : Option ℕ) → IfSome by (λ p. IsFirstEnding t t.finish p) → IfNone by ((q : ℕ) → q < process_count g → get_or t.ends q None ≢ Some t.finish) → IsLeastEnding g t t.finish by

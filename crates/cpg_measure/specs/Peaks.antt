@@ -23,12 +23,12 @@ pub record IsFirstExceeding (g : Graph) (t : Times) (excess p : ℕ) : Type 0 wh
   pub has : excess_of g t p ≡ excess
   pub first : (q : ℕ) → q < p → excess_of g t q ≢ excess
 
--- the greatest finish, whatever the order and the frozen times of the runs are
+-- the greatest finish, under any order and frozen times that give the scenarios these runs
 abbrev pub IsWorstOfRuns : Graph → List ℕ → List Scenario → List Times → ℕ → Scenario → Option ℕ → Type 0
 IsWorstOfRuns g urgency list runs worst worst_in worst_by = (order : List ℕ) (frozen : List (Option ℕ)) → IsTopological g order → AreRuns g order frozen list runs
     → IsWorst g urgency order frozen worst worst_in worst_by
 
--- the greatest excess, whatever the order and the frozen times of the runs are
+-- the greatest excess, under any order and frozen times that give the scenarios these runs
 abbrev pub IsExcessOfRuns : Graph → List ℕ → List Scenario → List Times → ℕ → Scenario → Option ℕ → Type 0
 IsExcessOfRuns g urgency list runs excess excess_in excess_by = (order : List ℕ) (frozen : List (Option ℕ)) → IsTopological g order → AreRuns g order frozen list runs
     → IsExcess g urgency order frozen excess excess_in excess_by
