@@ -12,3 +12,12 @@ pub mod RowsKnown
 pub mod RowsReach
 pub mod AllRules
 pub mod RowTables
+pub mod CodeCubes
+pub mod CodeLeast
+pub mod CodeTold
+pub mod CodeStarts
+pub mod CodeSends
+pub mod CodeSame
+pub mod CodeMade
+pub mod CodeQueue
+pub mod CodeFirst

@@ -1,0 +1,51 @@
+//! What is carried on by nodes, for each scenario.
+ghost use Rattle.std.specs.Prelude.{◌≡◌, [], IfOk, replicate, length};
+
+use cpg_base::{OutOfMemory, Problem};
+use cpg_cube::Cube;
+use std::alloc::Global;
+use std::marker::Model;
+
+/// A cube for each scenario, seen as the list of these.
+#[derive(Drop)]
+pub(crate) struct Cubes {
+    pub(crate) cubes: Vec<Cube>,
+}
+
+impl Model for Cubes {
+    ghost use Rattle.std.specs.Prelude.{List};
+    ghost use Rattle.cpg_cube.specs.declared.literal.Literal.{Literal};
+
+    ghost Value = { List (List Literal) };
+
+    ghost view = { λ c. c.cubes.items };
+}
+
+impl Cubes {
+    /// So many cubes that match all.
+    fn whole(alloc: Global, count: usize) -> Result<Cubes, OutOfMemory>
+        ensures { IfOk result (λ cubes. cubes ≡ replicate count []) }
+    {
+        let mut cubes = Vec::new(alloc);
+        cubes.reserve(count)?;
+        for _ in 0..count {
+            cubes.push(Cube::whole(alloc))?;
+        }
+        Ok(Cubes { cubes })
+    }
+}
+
+/// For each node as many cubes that match all.
+pub(crate) fn whole_by_node(
+    alloc: Global,
+    problem: &Problem,
+    count: usize,
+) -> Result<Vec<Cubes>, OutOfMemory>
+    ensures { IfOk result (λ nodes. nodes.items ≡ replicate (length problem.now.nodes) (replicate count [])) }
+{
+    let mut nodes = Vec::new(alloc);
+    for _ in 0..problem.nodes().len() {
+        nodes.push(Cubes::whole(alloc, count)?)?;
+    }
+    Ok(nodes)
+}
