@@ -1,9 +1,8 @@
-use Rattle.std.proofs.Common.{◌≡◌, ◌∙◌, ℕ, List, Option, All, Contains, sym, ap, subst}
+use Rattle.std.proofs.Common.{List, All, Contains, sym, subst}
 use Rattle.std.proofs.lemmas.List.Elements.{All-weaker, All-contains_itself}
 use Rattle.cpg_base.specs.Graph.{Graph}
 use Rattle.cpg_base.specs.Scenario.{Scenario, IsScenario}
 use Rattle.cpg_table.specs.Table.{Row}
-use Rattle.cpg_run.specs.Alike.{Admitted}
 use Rattle.cpg_measure.specs.Listing.{AreScenarios}
 use Rattle.cpg_measure.specs.Runs.{AreRuns}
 use Rattle.cpg_list.specs.Found.{AreRowsFound}
