@@ -37,7 +37,8 @@ use Rattle.cpg_rows.specs.RowLaws.{IsTimed, HaveTimesOf, AreTablesOfRows}
 use Rattle.cpg_rows.proofs.RowTables.{row_tables_are_exact, row_tables_keep_rules}
 use Rattle.cpg_rows.proofs.RowsTimed.{rows_have_times}
 use Rattle.cpg_list.specs.Writing.{row_for, IsWritable, AreWritable}
-use Rattle.cpg_list.specs.Found.{columns_of_rows, AreRowsFound}
+use Rattle.cpg_rows.specs.Made.{columns_of_rows}
+use Rattle.cpg_list.specs.Found.{AreRowsFound}
 use Rattle.cpg_list.proofs.NodeRows.{no_row}
 
 -- ---- rows as tables

@@ -1,16 +1,13 @@
 -- What is found of a graph before its tables are written.
-use Rattle.std.specs.Prelude.{ℕ, ◌≡◌, List, Option, map}
+use Rattle.std.specs.Prelude.{ℕ, ◌≡◌, List, Option}
 use Rattle.cpg_base.specs.Numbers.{numbers_below}
 use Rattle.cpg_base.specs.Graph.{Graph, item_count}
 use Rattle.cpg_table.specs.Shape.{items_of}
-use Rattle.cpg_table.specs.Table.{Column, Row}
+use Rattle.cpg_table.specs.Table.{Row}
 use Rattle.cpg_run.specs.Frozen.{AreFrozenTimes}
 use Rattle.cpg_times.specs.Known.{AreEarly}
+use Rattle.cpg_rows.specs.Made.{columns_of_rows}
 use Rattle.cpg_rows.specs.Rows.{AreRows}
-
--- the columns of rows
-abbrev pub columns_of_rows : List Row → List (List Column)
-columns_of_rows rows = map (λ (row : Row). row.columns) rows
 
 -- the frozen times, and the row of each item by number
 pub record AreRowsFound (g : Graph) (urgency order : List ℕ) (frozen : List (Option ℕ)) (rows : List Row) : Type 0 where

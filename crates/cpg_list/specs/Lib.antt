@@ -1,6 +1,3 @@
-pub mod Views
-pub mod Measures
-pub mod BuildFaults
 pub mod Writing
 pub mod NodeItems
 pub mod Found

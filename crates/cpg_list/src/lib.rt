@@ -1,17 +1,10 @@
-//! Tables of plain graphs, made view by view: graphs of one node at most on which nothing is sent or frozen.
+//! Tables by going over all scenarios of a graph.
 #![tactic(auto)]
 
 mod assembling;
-mod building;
 mod items;
 mod listing;
-mod stub;
-mod measuring;
-mod plain;
-mod rows;
 #[cfg(test)]
 mod tests;
-mod view;
 
-pub use plain::is_plain;
-pub use stub::list;
+pub use listing::list;

@@ -1,43 +1,65 @@
-//! Plain graphs, from an order to what a builder answers.
-ghost use Rattle.std.specs.Prelude.{◌≡◌, IfOk};
+//! From an order to what a builder answers, by going over all scenarios.
+ghost use Rattle.std.specs.Prelude.{◌≡◌, ◌≤◌, IfOk, IfErr, length};
 ghost use Rattle.cpg_order.specs.Urgency.{IsTopological};
-ghost use Rattle.cpg_run.specs.Plain.{IsPlain};
+ghost use Rattle.cpg_order.specs.Scenario.{scenarios};
+ghost use Rattle.cpg_reach.specs.Wide.{IsNarrow};
 ghost use Rattle.cpg_run.specs.Built.{IsBuiltFor};
+ghost use Rattle.cpg_list.specs.Refusal.{ShowsBuildFault};
 
-use crate::building::tables_of;
-use crate::measuring::{Measure, measured};
-use cpg_base::{OutOfMemory, Problem};
+use crate::assembling::tables_of;
+use cpg_base::OutOfMemory;
+use cpg_measure::{excess, frozen_times, runs, scenarios, worst};
 use cpg_order::Order;
-use cpg_run::{Built, Frozen};
+use cpg_reach::too_wide;
+use cpg_rows::rows;
+use cpg_rules::Admitted;
+use cpg_run::{BuildFault, Built};
+use cpg_times::Plan;
 use std::alloc::Global;
 
-/// The exact tables of a plain graph under a topological order of its processes, with the greatest finish and the
-/// greatest excess of their runs, each with its first scenario by that order. No row is too wide.
-pub fn list(alloc: Global, problem: &Problem, order: &Order) -> Result<Built, OutOfMemory>
-    requires plain { IsPlain problem.now }
-    requires topological { IsTopological problem.now order.now }
-    ensures { IfOk result (λ built. IsBuiltFor problem.now order.now order.now built) }
+/// The tables and measures under an order in which no item is too wide.
+fn build(alloc: Global, admitted: &Admitted, order: &Order) -> Result<Built, OutOfMemory>
+    requires topological { IsTopological admitted.now.graph order.now }
+    requires few { length (scenarios admitted.now.graph) ≤ 16384 }
+    requires narrow { IsNarrow admitted.now.graph order.now }
+    ensures { IfOk result (λ built. IsBuiltFor admitted.now.graph admitted.now.order order.now built) }
 {
-    let _nodes = problem.nodes();
-    let tables = tables_of(alloc, problem, order)?;
-    let frozen = Frozen::none(alloc, problem)?;
-    let measure = measured(alloc, problem, order, &frozen)?;
-    let Measure {
-        worst,
-        worst_in,
-        worst_by,
-        excess,
-        excess_in,
-        excess_by,
-    } = measure;
+    let problem = admitted.problem();
+    let plan = Plan::of(alloc, problem)?;
+    let scenarios = scenarios(alloc, problem)?;
+    let scenarios = scenarios.as_slice();
+    let frozen = frozen_times(alloc, admitted, order, &plan, scenarios)?;
+    let runs = runs(alloc, admitted, order, &plan, &frozen, scenarios)?;
+    let runs = runs.as_slice();
+    let rows = rows(alloc, admitted, order, &plan, &frozen, scenarios, runs)?;
+    let tables = tables_of(alloc, problem, rows.as_slice())?;
+    let worst = worst(alloc, admitted, scenarios, runs)?;
+    let excess = excess(alloc, admitted, scenarios, runs)?;
     Ok(Built {
         tables,
         frozen,
-        worst,
-        worst_in,
-        worst_by,
-        excess,
-        excess_in,
-        excess_by,
+        worst: worst.time,
+        worst_in: worst.scenario,
+        worst_by: worst.process,
+        excess: excess.time,
+        excess_in: excess.scenario,
+        excess_by: excess.process,
     })
+}
+
+/// The exact tables of a graph of at most 16,384 scenarios under an order, with the frozen times and, in time units, the
+/// greatest finish and the greatest excess of all runs, each with its first scenario by the urgency order. `TooWide` shows
+/// the least item whose row would have too many columns, before any scenario is listed.
+pub fn list(alloc: Global, admitted: &Admitted, order: &Order) -> Result<Built, BuildFault>
+    requires topological { IsTopological admitted.now.graph order.now }
+    requires few { length (scenarios admitted.now.graph) ≤ 16384 }
+    ensures built { IfOk result (λ built. IsBuiltFor admitted.now.graph admitted.now.order order.now built) }
+    ensures narrow { IfOk result (λ _. IsNarrow admitted.now.graph order.now) }
+    ensures fault { IfErr result (ShowsBuildFault admitted.now.graph order.now) }
+{
+    if let Some(item) = too_wide(alloc, admitted, order)? {
+        return Err(BuildFault::TooWide(item));
+    }
+    let built = build(alloc, admitted, order)?;
+    Ok(built)
 }

@@ -1,12 +1,10 @@
-//! Two processes on one node, with at most one fault.
-
-ghost use Rattle.std.specs.Prelude.{IfOk};
-ghost use Rattle.cpg_run.specs.Plain.{IsFree, IsPlain};
+//! Two processes on one node and on two, with at most one fault, worked by hand.
 
 use crate::list;
-use cpg_base::{Name, Problem, Process};
+use cpg_base::{Edge, Name, Problem, Process, Slot};
 use cpg_cube::Literal;
-use cpg_order::urgency;
+use cpg_measure::has_few_scenarios;
+use cpg_rules::admit;
 use cpg_run::Built;
 use std::alloc::Global;
 use std::test::Fail;
@@ -15,12 +13,10 @@ fn name(alloc: Global, text: &str) -> Result<Name, Fail> {
     Ok(Name::new(alloc, text)?.ok_or("name")?)
 }
 
-fn process(name: Name, wcet: u64) -> Process
-    ensures { IsFree result }
-{
+fn process(name: Name, node: u32, wcet: u64) -> Process {
     Process {
         name,
-        node: 0,
+        node,
         wcet,
         parts: 1,
         alpha: 2,
@@ -33,27 +29,57 @@ fn process(name: Name, wcet: u64) -> Process
     }
 }
 
-/// A before B.
-fn pair(alloc: Global) -> Result<Problem, Fail>
-    ensures { IfOk result IsPlain }
-{
-    let nodes = vec![in alloc; name(alloc, "N1")?]?;
-    let a = process(name(alloc, "A")?, 30);
-    let b = process(name(alloc, "B")?, 10);
-    let processes = vec![in alloc; a, b]?;
-    let (slots, edges) = (Vec::new(alloc), Vec::new(alloc));
-    match Problem::new(1, 87, nodes, slots, processes, edges) {
-        Some(problem) => Ok(problem),
-        None => Err("problem".into()),
+fn slot(node: u32) -> Slot {
+    Slot {
+        node,
+        length: 10,
+        bytes: 8,
     }
 }
 
-fn built(alloc: Global) -> Result<Built, Fail> {
-    let problem = pair(alloc)?;
-    let Ok(order) = urgency(alloc, &problem) else {
-        return Err("order".into());
+/// What is built of a graph under its urgency order.
+fn built_of(alloc: Global, problem: Option<Problem>) -> Result<Built, Fail> {
+    let Some(problem) = problem else {
+        return Err("problem".into());
     };
-    Ok(list(alloc, &problem, &order)?)
+    let Ok(admitted) = admit(alloc, problem) else {
+        return Err("admitted".into());
+    };
+    if !has_few_scenarios(admitted.problem()) {
+        return Err("scenarios".into());
+    }
+    match list(alloc, &admitted, admitted.order()) {
+        Ok(built) => Ok(built),
+        Err(_) => Err("built".into()),
+    }
+}
+
+/// A before B on one node.
+fn alone(alloc: Global) -> Result<Built, Fail> {
+    let nodes = vec![in alloc; name(alloc, "N1")?]?;
+    let a = process(name(alloc, "A")?, 0, 30);
+    let b = process(name(alloc, "B")?, 0, 10);
+    let processes = vec![in alloc; a, b]?;
+    let (slots, edges) = (Vec::new(alloc), Vec::new(alloc));
+    built_of(alloc, Problem::new(1, 87, nodes, slots, processes, edges))
+}
+
+/// A sends B, on another node, a message, which is item 2.
+fn apart(alloc: Global) -> Result<Built, Fail> {
+    let nodes = vec![in alloc; name(alloc, "N1")?, name(alloc, "N2")?]?;
+    let a = process(name(alloc, "A")?, 0, 30);
+    let b = process(name(alloc, "B")?, 1, 10);
+    let processes = vec![in alloc; a, b]?;
+    let slots = vec![in alloc; slot(0), slot(1)]?;
+    let edge = Edge {
+        from: 0,
+        to: 1,
+        size: 1,
+        when: None,
+        frozen: false,
+    };
+    let edges = vec![in alloc; edge]?;
+    built_of(alloc, Problem::new(1, 100, nodes, slots, processes, edges))
 }
 
 fn faults_of_a(count: u8) -> Literal {
@@ -65,8 +91,8 @@ fn faults_of_a(count: u8) -> Literal {
 }
 
 #[test]
-fn measures(rt: HostRuntime) -> Result<(), Fail> {
-    let built = built(rt.alloc())?;
+fn measures_of_one_node(rt: HostRuntime) -> Result<(), Fail> {
+    let built = alone(rt.alloc())?;
     assert_eq!(rt; (built.worst, built.worst_by), (87, Some(1)));
     assert_eq!(rt; (built.worst_in.number(0), built.worst_in.total()), (1, 1));
     assert_eq!(rt; (built.excess, built.excess_by), (0, None));
@@ -75,8 +101,8 @@ fn measures(rt: HostRuntime) -> Result<(), Fail> {
 }
 
 #[test]
-fn starts(rt: HostRuntime) -> Result<(), Fail> {
-    let built = built(rt.alloc())?;
+fn starts_on_one_node(rt: HostRuntime) -> Result<(), Fail> {
+    let built = alone(rt.alloc())?;
     assert_eq!(rt; built.tables.head().nodes().len(), 1);
     let [first, second] = built.tables.node(0).starts() else {
         return Err("starts".into());
@@ -88,5 +114,33 @@ fn starts(rt: HostRuntime) -> Result<(), Fail> {
     assert!(rt; always.cube.literals().is_empty());
     assert_eq!(rt; early.cube.literals(), [faults_of_a(0)].as_slice());
     assert_eq!(rt; late.cube.literals(), [faults_of_a(1)].as_slice());
+    Ok(())
+}
+
+#[test]
+fn measures_of_two_nodes(rt: HostRuntime) -> Result<(), Fail> {
+    let built = apart(rt.alloc())?;
+    assert_eq!(rt; (built.worst, built.worst_by), (105, Some(1)));
+    assert_eq!(rt; (built.excess, built.excess_by), (5, Some(1)));
+    assert_eq!(rt;
+        (built.excess_in.number(0), built.excess_in.total()),
+        (1, 1)
+    );
+    Ok(())
+}
+
+#[test]
+fn heard_on_another_node(rt: HostRuntime) -> Result<(), Fail> {
+    let built = apart(rt.alloc())?;
+    assert_eq!(rt; built.tables.head().nodes().len(), 2);
+    let ([sent], [heard]) = (built.tables.node(0).sends(), built.tables.node(1).hears()) else {
+        return Err("rows".into());
+    };
+    let ([early, late], [first, second]) = (sent.entries(), heard.entries()) else {
+        return Err("columns".into());
+    };
+    assert_eq!(rt; (sent.item(), early.time, late.time), (2, 40, 80));
+    assert_eq!(rt; (heard.item(), first.time, second.time), (2, 50, 90));
+    assert_eq!(rt; second.cube.literals(), [faults_of_a(1)].as_slice());
     Ok(())
 }

@@ -17,3 +17,7 @@ pub mod CodeLeast
 pub mod CodeTold
 pub mod CodeStarts
 pub mod CodeSends
+pub mod CodeSame
+pub mod CodeMade
+pub mod CodeQueue
+pub mod CodeFirst

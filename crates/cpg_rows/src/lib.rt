@@ -6,6 +6,7 @@ mod items;
 mod laws;
 mod learning;
 mod least;
+mod making;
 mod sends;
 mod starts;
 mod state;
@@ -14,3 +15,4 @@ pub use laws::{
     carried_decides, carried_rests_on_earlier, entries_have_times, row_tables_are_exact,
     row_tables_are_supported, row_tables_keep_rules, rows_have_times,
 };
+pub use making::rows;

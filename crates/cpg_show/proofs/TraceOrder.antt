@@ -1,5 +1,5 @@
 -- The order of a trace: the derived order keeps it, and where no two events have one key there is one such order.
-use Rattle.std.proofs.Common.{◌≡◌, ◌≢◌, ℕ, ◌+◌, ◌⊎◌, inl, inr, Bool, true, false, not, ◌&&◌, List, [], ◌∷◌, ◌++◌, get_or, flat_map, AllPairs, IsPermutation, Ordering, Less, Equal, Greater, arith, refl, sym, ap, ◌∙◌, true≢false}
+use Rattle.std.proofs.Common.{◌≡◌, ◌≢◌, ℕ, ◌+◌, Bool, true, false, not, ◌&&◌, List, ◌++◌, get_or, flat_map, AllPairs, IsPermutation, Ordering, Less, Equal, Greater, arith, refl, sym, ap, ◌∙◌, true≢false}
 use Rattle.std.specs.Ordering.{nat_cmp, is_lt, ordering_then}
 use Rattle.std.specs.Cmp.{IsStrictWeakOrder}
 use Rattle.std.specs.Cmp.Lexicographic.{slice_cmp}

@@ -52,7 +52,7 @@ pub record IsEndWithin (g : Graph) (e : ℕ × Ended) : Type 0 where
   pub process : e.1.process < process_count g
   pub faults : e.1.faults ≤ g.faults
 
--- the same of an event
+-- the same of what a node did
 abbrev pub IsDeedWithin : Graph → Deed → Type 0
 IsDeedWithin g (End process faults value) = (process < process_count g) × (faults ≤ g.faults)
 IsDeedWithin g (Send item) = ⊤
