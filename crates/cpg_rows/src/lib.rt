@@ -10,6 +10,8 @@ mod making;
 mod sends;
 mod starts;
 mod state;
+#[cfg(test)]
+mod tests;
 
 pub use laws::{
     carried_decides, carried_rests_on_earlier, entries_have_times, row_tables_are_exact,
