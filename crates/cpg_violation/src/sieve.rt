@@ -13,11 +13,11 @@ use std::alloc::Global;
 use std::marker::Model;
 
 /// How many times places are parted at most.
-const DEPTH: u32 = 24;
+const DEPTH: u32 = 160;
 /// So many places aren't parted.
 const FEW: usize = 12;
 /// How many places are looked at to choose a cut.
-const SAMPLE: usize = 64;
+const SAMPLE: usize = 32;
 
 /// The places of the columns of a row, parted by whether a variable may be at most a number: seen as a tree of such cuts.
 /// A place stands on both sides where its column may match on both.
@@ -76,6 +76,9 @@ fn goes(cube: &Cube, variable: u8, most: u8, below: bool) -> bool
     ensures { OnFalse result ((s : Scenario) → matches cube.now s ≡ true → nat_le (number_of s variable) most ≡ not below) }
 {
     for literal in cube.literals() {
+        if literal.variable > variable {
+            return true;
+        }
         if !lets(literal, variable, most, below) {
             return false;
         }
@@ -113,11 +116,13 @@ fn worth(all: usize, below: usize, above: usize) -> usize {
     if above >= all {
         return 0;
     }
-    let rest = all - below;
-    if above > rest.saturating_add(all / 8) {
+    let low = all - above;
+    let high = all - below;
+    let both = below.saturating_sub(low);
+    if both > low.min(high) / 2 {
         return 0;
     }
-    rest.saturating_mul(all - above)
+    low.saturating_mul(high)
 }
 
 /// Where to cut.
@@ -162,19 +167,31 @@ fn best_cut(columns: &[Entry], places: &[u32], column: &Entry) -> Option<Cut> {
     Some(cut)
 }
 
-/// Where to part these places, if they are many and some cut parts them.
-fn cut_of(columns: &[Entry], places: &[u32]) -> Option<Cut> {
-    if places.len() <= FEW {
-        return None;
+/// Some of these places, evenly spread.
+fn sample_of(alloc: Global, places: &[u32]) -> Result<Vec<u32>, OutOfMemory> {
+    let mut sample = Vec::new(alloc);
+    let step = places.len() / SAMPLE + 1;
+    for part in 0..SAMPLE {
+        if let Some(place) = places.get(part.saturating_mul(step)) {
+            sample.push(*place)?;
+        }
     }
-    let sample = &places[..places.len().min(SAMPLE)];
+    Ok(sample)
+}
+
+/// Where to part these places, if they are many and some cut parts them.
+fn cut_of(alloc: Global, columns: &[Entry], places: &[u32]) -> Result<Option<Cut>, OutOfMemory> {
+    if places.len() <= FEW {
+        return Ok(None);
+    }
     let Some(place) = places.get(places.len() / 2) else {
-        return None;
+        return Ok(None);
     };
     let Some(column) = columns.get(*place as usize) else {
-        return None;
+        return Ok(None);
     };
-    best_cut(columns, sample, column)
+    let sample = sample_of(alloc, places)?;
+    Ok(best_cut(columns, sample.as_slice(), column))
 }
 
 /// The places that go to one side of a cut.
@@ -210,7 +227,8 @@ fn sifted(
             node: Node::Leaf(places),
         });
     }
-    let Some(cut) = cut_of(columns, places.as_slice()) else {
+    let found = cut_of(alloc, columns, places.as_slice())?;
+    let Some(cut) = found else {
         return Ok(Sieve {
             node: Node::Leaf(places),
         });
