@@ -1,8 +1,10 @@
--- The late columns of an item among its acts, and when they may be.
-use Rattle.std.proofs.Common.{ℕ, ◌+◌, ◌-◌, ◌<◌, ◌≤◌, ◌≡◌, ◌^◌, Bool, true, false, ◌&&◌, ◌||◌, List, [], ◌∷◌, length, flat_map, Option, arith, refl, sym, ap, ◌∙◌, append-nil, inl, inr, lt-ltb}
+-- Delays: how long they take, and the columns that are late by them.
+use Rattle.std.proofs.Common.{ℕ, ◌+◌, ◌<◌, ◌≤◌, ◌≡◌, ◌^◌, Bool, true, false, ◌&&◌, List, length, Option, arith, refl, sym, ap, ◌∙◌, inl, inr, lt-ltb, le-ltb, All}
 use Rattle.std.specs.Prelude.{nat_lt}
 use Rattle.std.specs.List.{list_any}
-use Rattle.std.proofs.lemmas.Bool.{cases_lt, and_parts, ltb-true}
+use Rattle.std.proofs.lemmas.Bool.{cases_lt, and_parts, and_right}
+use Rattle.std.proofs.lemmas.List.Elements.{All-contains}
+use Rattle.cpg_base.proofs.Lists.{list_any_false}
 use Rattle.std.proofs.lemmas.List.{get_or_past}
 use Rattle.cpg_base.specs.Bus.{slot_length, slot_place}
 use Rattle.cpg_base.specs.Duration.{duration}
@@ -14,12 +16,10 @@ use Rattle.cpg_order.specs.First.{IsFirst}
 use Rattle.cpg_order.proofs.First.{first_same}
 use Rattle.cpg_cube.specs.Cube.{matches}
 use Rattle.cpg_cube.specs.declared.literal.Literal.{Literal}
-use Rattle.cpg_cube.proofs.Kept.{any_map}
-use Rattle.cpg_table.specs.Table.{Column, NodeTable, columns_of}
+use Rattle.cpg_table.specs.Table.{Column}
 use Rattle.cpg_check_time.specs.declared.delays.Delay.{Delay}
-use Rattle.cpg_check_time.specs.Acts.{acts_of}
-use Rattle.cpg_check_time.specs.Columns.{IsColumn}
 use Rattle.cpg_check_time.specs.Delays.{IsMost, done_at, is_late, delays}
+use Rattle.cpg_check_time.proofs.Seeking.{both_any}
 use Rattle.cpg_check_time.proofs.Counts.{duration_grows, fault_within}
 
 -- a slot is short
@@ -43,26 +43,22 @@ slot_first g order cube c length time late o f = first_same g order (λ s. match
     with_true true b e = sym e
     with_true false b e = refl
 
-pub both_any : {X : Type 0} (m : Bool) (test : X → Bool) (xs : List X) → list_any (λ x. m && test x) xs ≡ (m && list_any test xs)
-both_any true test [] = refl
-both_any false test [] = refl
-both_any true test (x ∷ xs) = ap (λ b. test x || b) (both_any true test xs)
-both_any false test (x ∷ xs) = both_any false test xs
+module _ (g : Graph) (cube : List Literal) (delay : Delay) (time : ℕ) where
+  -- a column that delays matches together with the cube
+  pub delays_both : (s : Scenario) (d : Column) → delays g cube delay time d s ≡ true → (matches cube s ≡ true) × (matches d.cube s ≡ true)
+  delays_both s d t =
+      let p = and_parts (matches cube s) (is_late g delay time d s) t in
+      (p.0, (and_parts (matches d.cube s) (nat_lt time (done_at g s delay d.time)) p.1).0)
 
-module _ (g : Graph) (tables : List NodeTable) (cube : List Literal) (delay : Delay) (time : ℕ) where
-  -- the acts of an item are its columns
-  acts_are : (x : ℕ) (s : Scenario) → list_any (λ a. delays g cube delay time a s) (flat_map (acts_of tables) (x ∷ [])) ≡ (matches cube s && list_any (λ d. is_late g delay time d s) (columns_of tables x))
-  acts_are x s = ap (list_any (λ a. delays g cube delay time a s)) (append-nil (acts_of tables x))
-      ∙ any_map (λ a. delays g cube delay time a s) (λ (c : Column). (x, c)) (columns_of tables x)
-      ∙ both_any (matches cube s) (λ d. is_late g delay time d s) (columns_of tables x)
+  -- the columns that may delay in place of all
+  pub first_delay : (order : List ℕ) (found columns : List Column) → ((s : Scenario) (test : Column → Bool) → ((d : Column) → test d ≡ true → (matches cube s ≡ true) × (matches d.cube s ≡ true)) → list_any test found ≡ list_any test columns)
+      → (o : Option Scenario) → IsFirst g order (λ s. list_any (λ d. delays g cube delay time d s) found) o → IsFirst g order (λ s. matches cube s && list_any (λ d. is_late g delay time d s) columns) o
+  first_delay order found columns same o f = first_same g order (λ s. list_any (λ d. delays g cube delay time d s) found) (λ s. matches cube s && list_any (λ d. is_late g delay time d s) columns) o
+      (λ s _. same s (λ d. delays g cube delay time d s) (delays_both s) ∙ both_any (matches cube s) (λ d. is_late g delay time d s) columns) f
 
-  pub first_delay : (order : List ℕ) (x : ℕ) (o : Option Scenario) → IsFirst g order (λ s. list_any (λ a. delays g cube delay time a s) (flat_map (acts_of tables) (x ∷ []))) o
-      → IsFirst g order (λ s. matches cube s && list_any (λ d. is_late g delay time d s) (columns_of tables x)) o
-  first_delay order x o f = first_same g order (λ s. list_any (λ a. delays g cube delay time a s) (flat_map (acts_of tables) (x ∷ []))) (λ s. matches cube s && list_any (λ d. is_late g delay time d s) (columns_of tables x)) o (λ s _. acts_are x s) f
-
-  -- one that delays is late enough for it
-  pub delays_near : (most : ℕ) → IsMost g delay most → (a : ℕ × Column) (s : Scenario) → IsColumn g a.1 → IsScenario g s → delays g cube delay time a s ≡ true → (time + 1 - most ≤ a.1.time) × (a.1.time < 2 ^ 60)
-  delays_near most is a s column i t =
-      let late = ltb-true time (done_at g s delay a.1.time) (and_parts (matches a.1.cube s) (nat_lt time (done_at g s delay a.1.time)) (and_parts (matches cube s) (is_late g delay time a.1 s) t).1).1 in
-      let within = is s a.1.time i in
-      (omega arith, column.early)
+  -- where the last is early enough, all are
+  pub never_delays : (most last : ℕ) → IsMost g delay most → (columns : List Column) → All (λ d. d.time ≤ last) columns → last + most ≤ time → (s : Scenario) → IsScenario g s → (matches cube s && list_any (λ d. is_late g delay time d s) columns) ≡ false
+  never_delays most last is columns all early s i = and_right (matches cube s) _ (list_any_false (λ d. is_late g delay time d s) columns (λ d k.
+      let by : d.time ≤ last = All-contains (λ (d : Column). d.time ≤ last) columns d all k in
+      let done = is s d.time i in
+      and_right (matches d.cube s) _ (le-ltb time (done_at g s delay d.time) (omega arith))))

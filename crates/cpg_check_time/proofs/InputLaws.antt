@@ -1,5 +1,5 @@
 -- V5 at one column: the release, an input, or the end of the producer comes after its time.
-use Rattle.std.proofs.Common.{ℕ, ◌+◌, ◌<◌, ◌≤◌, ◌≡◌, Bool, true, false, cond, not, ◌&&◌, ◌||◌, ◌==◌, List, [], ◌∷◌, get_or, filter, Contains, Option, None, refl, sym, ap, ◌∙◌, arith, inl, inr, lt-ltb, le-ltb}
+use Rattle.std.proofs.Common.{ℕ, ◌+◌, ◌<◌, ◌≤◌, ◌≡◌, Bool, true, false, cond, not, ◌&&◌, ◌||◌, ◌==◌, List, get_or, filter, Contains, Option, None, refl, sym, ap, ◌∙◌, arith, inl, inr, lt-ltb, le-ltb}
 use Rattle.std.specs.Prelude.{nat_lt}
 use Rattle.std.specs.List.{list_any}
 use Rattle.std.proofs.Math.Bool.{and_assoc, and_comm}
@@ -27,17 +27,8 @@ use Rattle.cpg_check_time.specs.declared.delays.Delay.TheVariants.{Execution, Sl
 use Rattle.cpg_check_time.specs.Columns.{breaks_column}
 use Rattle.cpg_check_time.specs.Delays.{is_late}
 use Rattle.cpg_check_time.specs.Inputs.{is_asked, is_input_late, lacks_input}
-use Rattle.cpg_check_time.proofs.DelayLaws.{both_any}
+use Rattle.cpg_check_time.proofs.Seeking.{any_filter, both_any}
 use Rattle.cpg_check_time.proofs.Waits.{active_where, late_where}
-
--- a test of what passes another
-any_filter : {X : Type 0} (test keep : X → Bool) (xs : List X) → list_any test (filter keep xs) ≡ list_any (λ x. keep x && test x) xs
-any_filter test keep [] = refl
-any_filter test keep (x ∷ xs) = go (keep x) (any_filter test keep xs)
-  where
-    go : (b : Bool) → list_any test (filter keep xs) ≡ list_any (λ x. keep x && test x) xs → list_any test (cond b (x ∷ filter keep xs) (filter keep xs)) ≡ ((b && test x) || list_any (λ x. keep x && test x) xs)
-    go true ih = ap (λ r. test x || r) ih
-    go false ih = ih
 
 -- ---- live edges
 

@@ -22,7 +22,6 @@ use Rattle.cpg_table.proofs.Rows.{has_row, row_of, row_columns, home_within}
 use Rattle.cpg_violation.specs.Violation.{IsFirstColumn}
 use Rattle.cpg_violation.proofs.Violations.{columns_known}
 use Rattle.cpg_check_time.specs.Columns.{breaks_column, IsColumn}
-use Rattle.cpg_check_time.specs.Clashes.{IsAct}
 
 -- ---- rules that don't ask which columns stand before
 
@@ -99,6 +98,3 @@ module _ {g : Graph} {order : List ℕ} {guards : Guards} (admitted : IsAdmitted
 
   pub columns_are : (x : ℕ) → All (IsColumn g) (columns_of tables x)
   columns_are x = All-weaker (Contains (columns_of tables x)) (IsColumn g) (column_is x) (columns_of tables x) (All-contains_itself (columns_of tables x))
-
-  pub act_is : (x : ℕ) (c : Column) → Contains (columns_of tables x) c → IsAct g (x, c)
-  act_is x c k = record { item = (has_row admitted.well_formed (has_shape g admitted.limits tables are) x c k).within; column = column_is x c k }

@@ -2,7 +2,6 @@ pub mod Judging
 pub mod Counts
 pub mod DueLaws
 pub mod FrozenLaws
-pub mod ActLaws
 pub mod Seeking
 pub mod SlotLaws
 pub mod ProcessorLaws
@@ -10,3 +9,4 @@ pub mod Waits
 pub mod DelayLaws
 pub mod InputLaws
 pub mod CommonCubes
+pub mod LineLaws

@@ -1,132 +1,95 @@
 -- V6 at one column: another execution on the processor overlaps that of the column.
-use Rattle.std.proofs.Common.{ℕ, ◌+◌, ◌-◌, ◌<◌, ◌≤◌, ◌≡◌, Bool, true, false, ◌&&◌, ◌==◌, List, [], ◌∷◌, length, get_or, take, flat_map, filter, Contains, All, Option, subst, arith, refl, sym, ap, ◌∙◌, lt-ltb, ltb}
+use Rattle.std.proofs.Common.{ℕ, ◌+◌, ◌<◌, ◌≤◌, ◌≡◌, Bool, true, false, ◌&&◌, ◌==◌, List, filter, All, Option, arith, refl, sym, ap, ◌∙◌, lt-ltb, le-ltb, ltb, eq-eqb}
 use Rattle.std.specs.List.{list_any}
-use Rattle.std.proofs.lemmas.Bool.{and_parts, and_from, ltb-true}
-use Rattle.std.proofs.lemmas.List.{take_more}
-use Rattle.std.proofs.lemmas.List.Elements.{All-contains, All-weaker, All-contains_itself, All-append, All-cons, All-nil}
+use Rattle.std.proofs.lemmas.Bool.{and_left, and_parts, and_right}
+use Rattle.std.proofs.lemmas.List.Elements.{All-contains}
+use Rattle.std.proofs.Math.Bool.{and_assoc, and_comm}
 use Rattle.cpg_base.specs.Graph.{Graph, process_count, node_of}
 use Rattle.cpg_base.specs.Duration.{duration}
 use Rattle.cpg_base.specs.Limits.{IsWithinLimits}
 use Rattle.cpg_base.specs.Numbers.{numbers_below}
-use Rattle.cpg_base.proofs.Lists.{same_truth, list_any_true, list_any_parts, Contains-numbers, numbers-Contains, Contains-filter, Contains-filter_parts}
+use Rattle.cpg_base.proofs.Lists.{list_any_false, same_any}
 use Rattle.cpg_order.specs.Scenario.{Scenario, IsScenario, fault_of}
 use Rattle.cpg_order.specs.First.{IsFirst}
 use Rattle.cpg_order.proofs.First.{first_same}
 use Rattle.cpg_cube.specs.Cube.{matches}
-use Rattle.cpg_table.specs.Table.{Column, NodeTable, at}
-use Rattle.cpg_table.specs.Shape.{processes_on}
+use Rattle.cpg_table.specs.Table.{Column, NodeTable, columns_of, at}
 use Rattle.cpg_table.specs.Valid.{overlap}
-use Rattle.cpg_check_time.specs.Acts.{acts_of}
 use Rattle.cpg_check_time.specs.Columns.{breaks_column}
-use Rattle.cpg_check_time.specs.Clashes.{overlaps}
+use Rattle.cpg_check_time.specs.Clashes.{overlaps, overlaps_some}
 use Rattle.cpg_check_time.specs.Lateness.{ends_after}
-use Rattle.cpg_check_time.specs.Processors.{IsLongest}
 use Rattle.cpg_check_time.proofs.Counts.{duration_grows, duration_some, fault_within}
-use Rattle.cpg_check_time.proofs.Seeking.{in_acts, acts_parts, in_at, at_parts}
-
--- ---- the processes of a node
-
-pub processes_below : (g : Graph) (node : ℕ) → All (λ p. p < process_count g) (processes_on g node)
-processes_below g node = All-weaker (Contains (processes_on g node)) (λ p. p < process_count g)
-    (λ p k. numbers-Contains (process_count g) p (Contains-filter_parts (λ q. node_of g q == node) (numbers_below (process_count g)) p k).0) (processes_on g node) (All-contains_itself (processes_on g node))
-
--- one process more
-pub longest_more : (g : Graph) (ps : List ℕ) (i d longest more : ℕ) → i < length ps → IsLongest g (take i ps) longest → longest ≤ more → duration g (get_or ps i d) g.faults ≤ more → IsLongest g (take (i + 1) ps) more
-longest_more g ps i d longest more l before h k = subst (λ qs. IsLongest g qs more) (sym (take_more ps i d l)) (All-append (λ p. duration g p g.faults ≤ more) (take i ps) (get_or ps i d ∷ [])
-    (All-weaker (λ p. duration g p g.faults ≤ longest) (λ p. duration g p g.faults ≤ more) (λ p m. omega arith) (take i ps) before)
-    (All-cons (λ p. duration g p g.faults ≤ more) (get_or ps i d) [] k (All-nil (λ p. duration g p g.faults ≤ more))))
+use Rattle.cpg_check_time.proofs.Seeking.{any_filter, any_at, both_any}
 
 -- ---- two columns
 
--- an order of the tests in which one of the times is told
-turn_first : (l m n o w : Bool) → l ≡ true → w ≡ true → (m && (n && o)) ≡ (l && (m && (n && (o && w))))
-turn_first true true true true true e f = refl
-turn_first true true true false w e f = refl
-turn_first true true false o w e f = refl
-turn_first true false n o w e f = refl
-turn_first true true true true false e f = sym f
-turn_first false true true true w e f = sym e
-turn_first false true true false w e f = refl
-turn_first false true false o w e f = refl
-turn_first false false n o w e f = refl
+with_true : (o w : Bool) → w ≡ true → o ≡ (o && w)
+with_true true w e = sym e
+with_true false w e = refl
 
-turn_second : (l m n o w : Bool) → l ≡ true → o ≡ true → (n && (m && w)) ≡ (l && (m && (n && (o && w))))
-turn_second true true true true w e f = refl
-turn_second true true false o w e f = refl
-turn_second true false true o w e f = refl
-turn_second true false false o w e f = refl
-turn_second true true true false true e f = sym f
-turn_second true true true false false e f = refl
-turn_second false true true o true e f = sym e
-turn_second false true true o false e f = refl
-turn_second false true false o w e f = refl
-turn_second false false true o w e f = refl
-turn_second false false false o w e f = refl
+pub and_swap : (a b c : Bool) → (a && (b && c)) ≡ (b && (a && c))
+and_swap a b c = sym (and_assoc a b c) ∙ ap (λ d. d && c) (and_comm a b) ∙ and_assoc b a c
 
-module _ (g : Graph) (within : IsWithinLimits g) (p : ℕ) (l : p < process_count g) (c : Column) (a : ℕ × Column) (below : a.0 < p) where
+module _ (g : Graph) (within : IsWithinLimits g) (p : ℕ) (l : p < process_count g) (c : Column) (q : ℕ) (d : Column) where
   -- the other one starts first
-  pub overlap_after : a.1.time ≤ c.time → (order : List ℕ) (o : Option Scenario) → IsFirst g order (λ s. matches c.cube s && (matches a.1.cube s && ends_after g a.0 a.1.time c.time s)) o → IsFirst g order (overlaps g p c a) o
-  overlap_after first order o f = first_same g order (λ s. matches c.cube s && (matches a.1.cube s && ends_after g a.0 a.1.time c.time s)) (overlaps g p c a) o
-      (λ s _. turn_first (ltb a.0 p) (matches c.cube s) (matches a.1.cube s) (ends_after g a.0 a.1.time c.time s) (ltb a.1.time (c.time + duration g p (fault_of s p)))
-      (lt-ltb a.0 p below) (lt-ltb a.1.time (c.time + duration g p (fault_of s p)) (omega (arith, duration_some g within p (fault_of s p) l)))) f
+  pub overlap_after : d.time ≤ c.time → (order : List ℕ) (o : Option Scenario) → IsFirst g order (λ s. matches c.cube s && (matches d.cube s && ends_after g q d.time c.time s)) o → IsFirst g order (overlaps g p c q d) o
+  overlap_after first order o f = first_same g order (λ s. matches c.cube s && (matches d.cube s && ends_after g q d.time c.time s)) (overlaps g p c q d) o
+      (λ s _. ap (λ b. matches c.cube s && (matches d.cube s && b)) (with_true (ends_after g q d.time c.time s) (ltb d.time (c.time + duration g p (fault_of s p)))
+      (lt-ltb d.time (c.time + duration g p (fault_of s p)) (omega (arith, duration_some g within p (fault_of s p) l))))) f
 
   -- the other one starts later
-  pub overlap_before : c.time < a.1.time → (order : List ℕ) (o : Option Scenario) → IsFirst g order (λ s. matches a.1.cube s && (matches c.cube s && ends_after g p c.time a.1.time s)) o → IsFirst g order (overlaps g p c a) o
-  overlap_before first order o f = first_same g order (λ s. matches a.1.cube s && (matches c.cube s && ends_after g p c.time a.1.time s)) (overlaps g p c a) o
-      (λ s _. turn_second (ltb a.0 p) (matches c.cube s) (matches a.1.cube s) (ltb c.time (a.1.time + duration g a.0 (fault_of s a.0))) (ends_after g p c.time a.1.time s)
-      (lt-ltb a.0 p below) (lt-ltb c.time (a.1.time + duration g a.0 (fault_of s a.0)) (omega arith))) f
+  pub overlap_before : c.time < d.time → (order : List ℕ) (o : Option Scenario) → IsFirst g order (λ s. matches d.cube s && (matches c.cube s && ends_after g p c.time d.time s)) o → IsFirst g order (overlaps g p c q d) o
+  overlap_before first order o f = first_same g order (λ s. matches d.cube s && (matches c.cube s && ends_after g p c.time d.time s)) (overlaps g p c q d) o
+      (λ s _. and_swap (matches d.cube s) (matches c.cube s) (ends_after g p c.time d.time s)
+      ∙ ap (λ b. matches c.cube s && (matches d.cube s && (b && ends_after g p c.time d.time s))) (sym (lt-ltb c.time (d.time + duration g q (fault_of s q)) (omega arith)))) f
 
--- ---- all columns
+  -- they match together
+  pub overlaps_both : (s : Scenario) → overlaps g p c q d s ≡ true → (matches c.cube s ≡ true) × (matches d.cube s ≡ true)
+  overlaps_both s t =
+      let r = and_parts (matches c.cube s) _ t in
+      (r.0, (and_parts (matches d.cube s) _ r.1).0)
 
-module _ (g : Graph) (within : IsWithinLimits g) (order : List ℕ) (tables : List NodeTable) (p : ℕ) (l : p < process_count g) (c : Column) where
-  -- one that overlaps starts near it
-  pub overlap_near : (node longest : ℕ) → IsLongest g (processes_on g node) longest → (a : ℕ × Column) (s : Scenario) → Contains (flat_map (acts_of tables) (processes_on g node)) a → IsScenario g s → overlaps g p c a s ≡ true
-      → (c.time + 1 - longest ≤ a.1.time) × (a.1.time < c.time + duration g p g.faults)
-  overlap_near node longest is a s k i t =
-      let there = acts_parts tables (processes_on g node) a k in
-      let q = and_parts (ltb a.0 p) (matches c.cube s && (matches a.1.cube s && overlap c.time (c.time + duration g p (fault_of s p)) a.1.time (a.1.time + duration g a.0 (fault_of s a.0)))) t in
-      let r = and_parts (matches c.cube s) (matches a.1.cube s && overlap c.time (c.time + duration g p (fault_of s p)) a.1.time (a.1.time + duration g a.0 (fault_of s a.0))) q.1 in
-      let both = and_parts (matches a.1.cube s) (overlap c.time (c.time + duration g p (fault_of s p)) a.1.time (a.1.time + duration g a.0 (fault_of s a.0))) r.1 in
-      let times = and_parts (ltb c.time (a.1.time + duration g a.0 (fault_of s a.0))) (ltb a.1.time (c.time + duration g p (fault_of s p))) both.1 in
-      let first = ltb-true c.time (a.1.time + duration g a.0 (fault_of s a.0)) times.0 in
-      let second = ltb-true a.1.time (c.time + duration g p (fault_of s p)) times.1 in
-      let below = ltb-true a.0 p q.0 in
-      let other : a.0 < process_count g = omega arith in
-      let long : duration g a.0 g.faults ≤ longest = All-contains (λ r. duration g r g.faults ≤ longest) (processes_on g node) a.0 is there.0 in
-      let own = duration_grows g p (fault_of s p) g.faults (fault_within g within.few_processes p l s i) in
-      let its = duration_grows g a.0 (fault_of s a.0) g.faults (fault_within g within.few_processes a.0 other s i) in
-      (omega arith, omega arith)
+-- ---- the columns of another process
 
-  -- the start of a process that overlaps
+module _ (g : Graph) (tables : List NodeTable) (p : ℕ) (c : Column) (q : ℕ) where
+  pub other_node : node_of g q ≡ node_of g p → (order : List ℕ) (found : List Column) → ((s : Scenario) (test : Column → Bool) → ((d : Column) → test d ≡ true → (matches c.cube s ≡ true) × (matches d.cube s ≡ true)) → list_any test found ≡ list_any test (columns_of tables q)) → IsWithinLimits g → p < process_count g
+      → (o : Option Scenario) → IsFirst g order (λ s. list_any (λ d. overlaps g p c q d s) found) o → IsFirst g order (overlaps_some g tables p c q) o
+  other_node same order found all within l o f = first_same g order (λ s. list_any (λ d. overlaps g p c q d s) found) (overlaps_some g tables p c q) o
+      (λ s _. all s (λ d. overlaps g p c q d s) (λ d. overlaps_both g within p l c q d s) ∙ sym (ap (λ b. b && list_any (λ d. overlaps g p c q d s) (columns_of tables q)) (eq-eqb (node_of g q) (node_of g p) same))) f
+
+  module _ (few : process_count g ≤ 128) (s : Scenario) (i : IsScenario g s) where
+    -- all start too late
+    pub starts_late : p < process_count g → (first : ℕ) → All (λ d. first ≤ d.time) (columns_of tables q) → c.time + duration g p g.faults ≤ first → overlaps_some g tables p c q s ≡ false
+    starts_late l first all late = and_right (node_of g q == node_of g p) _ (list_any_false (λ d. overlaps g p c q d s) (columns_of tables q) (λ d k.
+        let from : first ≤ d.time = All-contains (λ (d : Column). first ≤ d.time) (columns_of tables q) d all k in
+        let own = duration_grows g p (fault_of s p) g.faults (fault_within g few p l s i) in
+        and_right (matches c.cube s) _ (and_right (matches d.cube s) _ (and_right (ltb c.time (d.time + duration g q (fault_of s q))) _ (le-ltb d.time (c.time + duration g p (fault_of s p)) (omega arith))))))
+
+    -- all end early enough
+    pub ends_early : q < process_count g → (last : ℕ) → All (λ d. d.time ≤ last) (columns_of tables q) → last + duration g q g.faults ≤ c.time → overlaps_some g tables p c q s ≡ false
+    ends_early l last all early = and_right (node_of g q == node_of g p) _ (list_any_false (λ d. overlaps g p c q d s) (columns_of tables q) (λ d k.
+        let by : d.time ≤ last = All-contains (λ (d : Column). d.time ≤ last) (columns_of tables q) d all k in
+        let its = duration_grows g q (fault_of s q) g.faults (fault_within g few q l s i) in
+        and_right (matches c.cube s) _ (and_right (matches d.cube s) _ (and_left _ _ (le-ltb c.time (d.time + duration g q (fault_of s q)) (omega arith))))))
+
+-- ---- the rule
+
+module _ (g : Graph) (order : List ℕ) (tables : List NodeTable) (p : ℕ) (l : p < process_count g) (c : Column) where
+  -- whether a start of a process overlaps
   abbrev at_start : Scenario → ℕ → ℕ → Bool
   at_start s q start = overlap c.time (c.time + duration g p (fault_of s p)) start (start + duration g q (fault_of s q))
 
-  processor_is : (s : Scenario) → list_any (λ a. overlaps g p c a s) (flat_map (acts_of tables) (processes_on g (node_of g p))) ≡ breaks_column 6 g tables p c s
-  processor_is s = same_truth _ _
-      (λ t.
-      let r = list_any_parts (λ a. overlaps g p c a s) (flat_map (acts_of tables) (processes_on g (node_of g p))) t in
-      let a : ℕ × Column = r.0 in
-      let there = acts_parts tables (processes_on g (node_of g p)) a r.1 in
-      let q = and_parts (ltb a.0 p) (matches c.cube s && (matches a.1.cube s && at_start s a.0 a.1.time)) r.2 in
-      let u = and_parts (matches c.cube s) (matches a.1.cube s && at_start s a.0 a.1.time) q.1 in
-      let v = and_parts (matches a.1.cube s) (at_start s a.0 a.1.time) u.1 in
-      let node = (Contains-filter_parts (λ q. node_of g q == node_of g p) (numbers_below (process_count g)) a.0 there.0).1 in
-      and_from _ _ u.0 (and_from _ _ (lt-ltb p (process_count g) l)
-      (list_any_true (λ q. list_any (at_start s q) (at tables q s)) (filter (λ q. node_of g q == node_of g p) (numbers_below p)) a.0
-      (Contains-filter (λ q. node_of g q == node_of g p) (numbers_below p) a.0 node (Contains-numbers p a.0 (ltb-true a.0 p q.0)))
-      (list_any_true (at_start s a.0) (at tables a.0 s) a.1.time (in_at tables a.0 s a.1 there.1 v.0) v.1))))
-      (λ t.
-      let u = and_parts (matches c.cube s) (ltb p (process_count g) && list_any (λ q. list_any (at_start s q) (at tables q s)) (filter (λ q. node_of g q == node_of g p) (numbers_below p))) t in
-      let v = and_parts (ltb p (process_count g)) (list_any (λ q. list_any (at_start s q) (at tables q s)) (filter (λ q. node_of g q == node_of g p) (numbers_below p))) u.1 in
-      let r = list_any_parts (λ q. list_any (at_start s q) (at tables q s)) (filter (λ q. node_of g q == node_of g p) (numbers_below p)) v.1 in
-      let q : ℕ = r.0 in
-      let among = Contains-filter_parts (λ q. node_of g q == node_of g p) (numbers_below p) q r.1 in
-      let below : q < p = numbers-Contains p q among.0 in
-      let start = list_any_parts (at_start s q) (at tables q s) r.2 in
-      let d = at_parts tables q s start.0 start.1 in
-      let there = in_acts tables (processes_on g (node_of g p)) q d.0 (Contains-filter (λ q. node_of g q == node_of g p) (numbers_below (process_count g)) q among.1 (Contains-numbers (process_count g) q (omega arith))) d.1 in
-      let over : at_start s q d.0.time ≡ true = ap (at_start s q) d.3 ∙ start.2 in
-      list_any_true (λ a. overlaps g p c a s) (flat_map (acts_of tables) (processes_on g (node_of g p))) (q, d.0) there (and_from _ _ (lt-ltb q p below) (and_from _ _ u.0 (and_from _ _ d.2 over))))
+  of_process : (s : Scenario) (q : ℕ) → overlaps_some g tables p c q s ≡ (matches c.cube s && ((node_of g q == node_of g p) && list_any (at_start s q) (at tables q s)))
+  of_process s q =
+      ap (λ b. (node_of g q == node_of g p) && b) (both_any (matches c.cube s) (λ (d : Column). matches d.cube s && at_start s q d.time) (columns_of tables q) ∙ ap (λ b. matches c.cube s && b) (sym (any_at tables q s (at_start s q))))
+      ∙ and_swap (node_of g q == node_of g p) (matches c.cube s) (list_any (at_start s q) (at tables q s))
 
-  pub first_overlap : (o : Option Scenario) → IsFirst g order (λ s. list_any (λ a. overlaps g p c a s) (flat_map (acts_of tables) (processes_on g (node_of g p)))) o → IsFirst g order (breaks_column 6 g tables p c) o
-  first_overlap o f = first_same g order (λ s. list_any (λ a. overlaps g p c a s) (flat_map (acts_of tables) (processes_on g (node_of g p)))) (breaks_column 6 g tables p c) o (λ s _. processor_is s) f
+  processor_is : (s : Scenario) → list_any (λ q. overlaps_some g tables p c q s) (numbers_below p) ≡ breaks_column 6 g tables p c s
+  processor_is s =
+      same_any (λ q. overlaps_some g tables p c q s) (λ q. matches c.cube s && ((node_of g q == node_of g p) && list_any (at_start s q) (at tables q s))) (numbers_below p) (λ q _. of_process s q)
+      ∙ both_any (matches c.cube s) (λ q. (node_of g q == node_of g p) && list_any (at_start s q) (at tables q s)) (numbers_below p)
+      ∙ ap (λ b. matches c.cube s && b) (sym (any_filter (λ q. list_any (at_start s q) (at tables q s)) (λ q. node_of g q == node_of g p) (numbers_below p)))
+      ∙ sym (ap (λ b. matches c.cube s && (b && list_any (λ q. list_any (at_start s q) (at tables q s)) (filter (λ q. node_of g q == node_of g p) (numbers_below p)))) (lt-ltb p (process_count g) l))
+
+  pub first_overlap : (o : Option Scenario) → IsFirst g order (λ s. list_any (λ q. overlaps_some g tables p c q s) (numbers_below p)) o → IsFirst g order (breaks_column 6 g tables p c) o
+  first_overlap o f = first_same g order (λ s. list_any (λ q. overlaps_some g tables p c q s) (numbers_below p)) (breaks_column 6 g tables p c) o (λ s _. processor_is s) f

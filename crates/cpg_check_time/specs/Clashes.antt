@@ -1,28 +1,26 @@
--- What an act has against a column: executions that overlap, and items that share a slot.
-use Rattle.std.specs.Prelude.{ℕ, ◌+◌, ◌<◌, Bool, ◌&&◌, ◌==◌, nat_lt, List, filter}
+-- What columns of other items have against a column: executions that overlap its own, and frames in its slot.
+use Rattle.std.specs.Prelude.{ℕ, ◌+◌, Bool, ◌&&◌, ◌==◌, List}
+use Rattle.std.specs.List.{list_any}
 use Rattle.cpg_base.specs.Duration.{duration}
-use Rattle.cpg_base.specs.Graph.{Graph, home, is_sent, item_count}
-use Rattle.cpg_base.specs.Numbers.{numbers_below}
+use Rattle.cpg_base.specs.Graph.{Graph, home, is_sent, node_of}
 use Rattle.cpg_order.specs.Scenario.{Scenario, fault_of}
 use Rattle.cpg_cube.specs.Cube.{matches}
-use Rattle.cpg_table.specs.Table.{Column}
+use Rattle.cpg_table.specs.Table.{Column, NodeTable, columns_of}
 use Rattle.cpg_table.specs.Valid.{overlap}
-use Rattle.cpg_check_time.specs.Columns.{IsColumn}
 
--- an item that there is, with a column that an item may have
-pub record IsAct (g : Graph) (a : ℕ × Column) : Type 0 where
-  pub item : a.0 < item_count g
-  pub column : IsColumn g a.1
+-- whether a column of a process and one of another match, and the executions that they start overlap
+abbrev pub overlaps : Graph → ℕ → Column → ℕ → Column → Scenario → Bool
+overlaps g p c q d s = matches c.cube s && (matches d.cube s
+    && overlap c.time (c.time + duration g p (fault_of s p)) d.time (d.time + duration g q (fault_of s q)))
 
--- what goes over the bus, by number
-abbrev pub sent_items : Graph → List ℕ
-sent_items g = filter (is_sent g) (numbers_below (item_count g))
+-- whether the other process is on the same node, and one of its columns is so
+abbrev pub overlaps_some : Graph → List NodeTable → ℕ → Column → ℕ → Scenario → Bool
+overlaps_some g tables p c q s = (node_of g q == node_of g p) && list_any (λ d. overlaps g p c q d s) (columns_of tables q)
 
--- whether both match, and the execution of a process with a lower number overlaps that of the column
-abbrev pub overlaps : Graph → ℕ → Column → ℕ × Column → Scenario → Bool
-overlaps g p c a s = nat_lt a.0 p && (matches c.cube s && (matches a.1.cube s
-    && overlap c.time (c.time + duration g p (fault_of s p)) a.1.time (a.1.time + duration g a.0 (fault_of s a.0))))
+-- whether two columns match at one time
+abbrev pub shares : Column → Column → Scenario → Bool
+shares c d s = matches c.cube s && (matches d.cube s && (d.time == c.time))
 
--- whether both match, at one time, and the node of the column sends the other item too, which has a lower number
-abbrev pub shares : Graph → ℕ → Column → ℕ × Column → Scenario → Bool
-shares g x c a s = (nat_lt a.0 x && (home g a.0 == home g x)) && ((a.1.time == c.time) && (matches c.cube s && matches a.1.cube s))
+-- whether the node of an item sends another too, and a column of that is so
+abbrev pub shares_some : Graph → List NodeTable → ℕ → Column → ℕ → Scenario → Bool
+shares_some g tables x c y s = (is_sent g y && (home g y == home g x)) && list_any (λ d. shares c d s) (columns_of tables y)

@@ -27,6 +27,6 @@ IsMost g delay most = (s : Scenario) (time : ℕ) → IsScenario g s → done_at
 abbrev pub is_late : Graph → Delay → ℕ → Column → Scenario → Bool
 is_late g delay time d s = matches d.cube s && nat_lt time (done_at g s delay d.time)
 
--- whether a cube matches, and an act is late
-abbrev pub delays : Graph → List Literal → Delay → ℕ → ℕ × Column → Scenario → Bool
-delays g cube delay time a s = matches cube s && is_late g delay time a.1 s
+-- whether a cube matches, and a column is late
+abbrev pub delays : Graph → List Literal → Delay → ℕ → Column → Scenario → Bool
+delays g cube delay time d s = matches cube s && is_late g delay time d s

@@ -1,16 +1,14 @@
 -- Inputs of a start that aren't there by its time.
-use Rattle.std.specs.Prelude.{ℕ, ◌≡◌, ◌<◌, Bool, ◌&&◌, if◌then◌else◌, List, [], ◌∷◌, length, get_or}
-use Rattle.std.specs.List.{list_any, flat_map}
+use Rattle.std.specs.Prelude.{ℕ, Bool, ◌&&◌, if◌then◌else◌, List}
+use Rattle.std.specs.List.{list_any}
 use Rattle.cpg_base.specs.Bus.{slot_length}
 use Rattle.cpg_base.specs.Graph.{Graph, condition_of, edge_at, home, is_message, message_item, source}
 use Rattle.cpg_guard.specs.Guards.{is_passed, test_of}
 use Rattle.cpg_order.specs.Scenario.{Scenario}
 use Rattle.cpg_cube.specs.Cube.{matches}
 use Rattle.cpg_table.specs.Table.{Column, NodeTable, columns_of}
-use Rattle.cpg_check_time.specs.Acts.{IsTimetable, acts_of}
 use Rattle.cpg_check_time.specs.Delays.{is_late}
 use Rattle.cpg_check_time.specs.declared.delays.Delay.TheVariants.{Execution, Slot}
-use Rattle.cpg_check_time.specs.declared.delays.Timeline.{Timeline}
 
 -- whether the source of an edge has the value that the edge asks for
 abbrev pub is_asked : Graph → ℕ → Scenario → Bool
@@ -25,8 +23,3 @@ is_input_late g tables time e s = if is_message g e
 -- whether a column matches, and an input comes after its time
 abbrev pub lacks_input : Graph → List NodeTable → Column → ℕ → Scenario → Bool
 lacks_input g tables c e s = matches c.cube s && is_input_late g tables c.time e s
-
--- the columns of each of the first items, by rising time
-pub record AreTimelines (tables : List NodeTable) (items : ℕ) (lines : List Timeline) : Type 0 where
-  pub count : length lines ≡ items
-  pub each : (x : ℕ) (d : Timeline) → x < items → IsTimetable (flat_map (acts_of tables) (x ∷ [])) (get_or lines x d).acts.items

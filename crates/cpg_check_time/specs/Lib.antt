@@ -1,9 +1,8 @@
 pub mod Columns
 pub mod Lateness
 pub mod Frozen
-pub mod Acts
 pub mod Clashes
-pub mod Processors
 pub mod Delays
 pub mod Inputs
 pub mod Ready
+pub mod Lines

@@ -4,11 +4,11 @@ use Rattle.cpg_base.specs.Graph.{Graph, item_count}
 use Rattle.cpg_order.specs.Links.{links_of}
 use Rattle.cpg_table.specs.Table.{NodeTable}
 use Rattle.cpg_violation.specs.Violation.{HoldFrom}
-use Rattle.cpg_check_time.specs.Inputs.{AreTimelines}
+use Rattle.cpg_check_time.specs.Lines.{AreLines}
 use Rattle.cpg_check_time.specs.declared.inputs.Inputs.{Inputs}
 
 -- the graph's links and the columns of all items, of tables that keep V1 to V3
 pub record IsReady (g : Graph) (tables : List NodeTable) (judge : Inputs) : Type 0 where
   pub links : judge.links ≡ links_of g
-  pub lines : AreTimelines tables (item_count g) judge.lines.items
+  pub lines : AreLines tables (item_count g) judge.lines.items
   pub rules : HoldFrom g tables 1 3

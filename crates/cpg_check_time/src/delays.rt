@@ -9,19 +9,18 @@ ghost use Rattle.cpg_table.specs.GraphHead.{head_of};
 ghost use Rattle.cpg_table.specs.Lawful.{AreTablesOf};
 ghost use Rattle.cpg_table.specs.Table.{columns_of};
 ghost use Rattle.cpg_violation.specs.Room.{HasRoom};
-ghost use Rattle.cpg_check_time.specs.Acts.{seen};
 ghost use Rattle.cpg_check_time.specs.Columns.{IsColumn};
 ghost use Rattle.cpg_check_time.specs.Delays.{IsDelay, IsMost, delays, is_late};
-ghost use Rattle.cpg_check_time.specs.Inputs.{AreTimelines};
+ghost use Rattle.cpg_check_time.specs.Lines.{AreLines};
 
-use crate::acts::{Act, between, timetable};
 use crate::lateness::least_late;
+use crate::lines::{Line, meeting};
 use cpg_base::{OutOfMemory, Problem, Scenario};
 use cpg_cube::Cube;
 use cpg_order::Order;
 use cpg_rules::Admitted;
 use cpg_table::{Entry, Tables};
-use cpg_violation::{earlier, item_count, met};
+use cpg_violation::{earlier, met};
 use std::alloc::Global;
 
 /// How long it takes from a column's time until what it begins is done.
@@ -31,30 +30,6 @@ pub(crate) enum Delay {
     Execution(u32),
     /// A slot of so many time units.
     Slot(u64),
-}
-
-/// The columns of an item, by rising time.
-#[derive(Drop)]
-pub(crate) struct Timeline<'a> {
-    acts: Vec<Act<'a>>,
-}
-
-/// The columns of each item, by rising time.
-pub(crate) fn timelines<'a>(
-    alloc: Global,
-    problem: &Problem,
-    tables: &'a Tables,
-) -> Result<Vec<Timeline<'a>>, OutOfMemory>
-    ensures { IfOk result (λ lines. AreTimelines tables.now.nodes (item_count problem.now) lines.items) }
-{
-    let count = item_count(problem);
-    let mut lines = Vec::new(alloc);
-    lines.reserve(count as usize)?;
-    for item in 0..count {
-        let acts = timetable(alloc, tables, &[item])?;
-        lines.push(Timeline { acts })?;
-    }
-    Ok(lines)
 }
 
 /// How long a delay takes at most.
@@ -109,37 +84,37 @@ fn least_of_late(
     cube: &Cube,
     delay: Delay,
     time: u64,
-    acts: &[Act<'_>],
+    columns: &[&Entry],
 ) -> Result<Option<Scenario>, OutOfMemory>
     requires order { length order.now ≡ process_count problem.now }
     requires cube { IsKnown problem.now cube.now }
     requires delay { IsDelay problem.now delay }
-    requires acts { All (λ a. IsColumn problem.now a.column.now) acts.now }
-    ensures { IfOk result (IsFirst problem.now order.now (λ s. list_any (λ a. delays problem.now cube.now delay time a s) (map seen acts.now))) }
+    requires columns { All (λ b. IsColumn problem.now b.now) columns.now }
+    ensures { IfOk result (IsFirst problem.now order.now (λ s. list_any (λ d. delays problem.now cube.now delay time d s) (map (λ b. b.now) columns.now))) }
 {
     let mut room = Scenario::zero(alloc, problem)?;
     let mut found: Option<Scenario> = None;
-    for act in acts {
-        let next = least_after(problem, cube, act.column, delay, time, &mut room)?;
+    for column in columns {
+        let next = least_after(problem, cube, column, delay, time, &mut room)?;
         found = earlier(problem, order, found, next);
     }
     Ok(found)
 }
 
 /// The least scenario that a cube matches, and in which what some column of an item begins is done after a time; if there is
-/// one. Only columns late enough for that are looked at.
+/// one. Only columns that may match together with the cube are looked at, and none where even the last is early enough.
 pub(crate) fn least_delay(
     alloc: Global,
     admitted: &Admitted,
     tables: &Tables,
-    lines: &[Timeline<'_>],
+    lines: &[Line<'_>],
     item: u32,
     cube: &Cube,
     delay: Delay,
     time: u64,
 ) -> Result<Option<Scenario>, OutOfMemory>
     requires lawful { AreTablesOf (head_of admitted.now.graph) tables.now.nodes }
-    requires lines { AreTimelines tables.now.nodes (item_count admitted.now.graph) lines.now }
+    requires lines { AreLines tables.now.nodes (item_count admitted.now.graph) lines.now }
     requires item { item < item_count admitted.now.graph }
     requires cube { IsKnown admitted.now.graph cube.now }
     requires delay { IsDelay admitted.now.graph delay }
@@ -147,10 +122,12 @@ pub(crate) fn least_delay(
     ensures { IfOk result (IsFirst admitted.now.graph admitted.now.order (λ s. matches cube.now s && list_any (λ d. is_late admitted.now.graph delay time d s) (columns_of tables.now.nodes item))) }
 {
     let problem = admitted.problem();
-    let order = admitted.order();
     let line = &lines[item as usize];
-    let from = (time + 1).saturating_sub(most(problem, delay));
-    let late = between(line.acts.as_slice(), from, u64::MAX);
-    let found = least_of_late(alloc, problem, order, cube, delay, time, late)?;
+    if line.last.saturating_add(most(problem, delay)) <= time {
+        return Ok(None);
+    }
+    let order = admitted.order();
+    let columns = meeting(alloc, line, cube)?;
+    let found = least_of_late(alloc, problem, order, cube, delay, time, columns.as_slice())?;
     Ok(found)
 }

@@ -12,11 +12,13 @@ ghost use Rattle.cpg_table.specs.Lawful.{AreTablesOf};
 ghost use Rattle.cpg_violation.specs.Heads.{IsHeadFor};
 ghost use Rattle.cpg_violation.specs.Violation.{HoldFrom, Holds, IsFirstViolation};
 ghost use Rattle.cpg_check_time.specs.Columns.{IsColumn};
-ghost use Rattle.cpg_check_time.specs.Inputs.{AreTimelines, lacks_input};
+ghost use Rattle.cpg_check_time.specs.Inputs.{lacks_input};
+ghost use Rattle.cpg_check_time.specs.Lines.{AreLines};
 ghost use Rattle.cpg_check_time.specs.Ready.{IsReady};
 
-use crate::delays::{Delay, Timeline, least_delay, timelines};
+use crate::delays::{Delay, least_delay};
 use crate::judge::{Judge, first_violation};
+use crate::lines::{Line, lines_of};
 use cpg_base::{OutOfMemory, Scenario};
 use cpg_cube::Cube;
 use cpg_order::Links;
@@ -46,12 +48,12 @@ fn least_lacking(
     alloc: Global,
     admitted: &Admitted,
     tables: &Tables,
-    lines: &[Timeline<'_>],
+    lines: &[Line<'_>],
     edge: u32,
     column: &Entry,
 ) -> Result<Option<Scenario>, OutOfMemory>
     requires lawful { AreTablesOf (head_of admitted.now.graph) tables.now.nodes }
-    requires lines { AreTimelines tables.now.nodes (item_count admitted.now.graph) lines.now }
+    requires lines { AreLines tables.now.nodes (item_count admitted.now.graph) lines.now }
     requires edge { edge < edge_count admitted.now.graph }
     requires column { IsColumn admitted.now.graph column.now }
     ensures { IfOk result (IsFirst admitted.now.graph admitted.now.order (lacks_input admitted.now.graph tables.now.nodes column.now edge)) }
@@ -91,12 +93,12 @@ fn least_of_lacking(
     alloc: Global,
     admitted: &Admitted,
     tables: &Tables,
-    lines: &[Timeline<'_>],
+    lines: &[Line<'_>],
     edges: &[u32],
     column: &Entry,
 ) -> Result<Option<Scenario>, OutOfMemory>
     requires lawful { AreTablesOf (head_of admitted.now.graph) tables.now.nodes }
-    requires lines { AreTimelines tables.now.nodes (item_count admitted.now.graph) lines.now }
+    requires lines { AreLines tables.now.nodes (item_count admitted.now.graph) lines.now }
     requires edges { All (λ e. e < edge_count admitted.now.graph) edges.now }
     requires column { IsColumn admitted.now.graph column.now }
     ensures { IfOk result (IsFirst admitted.now.graph admitted.now.order (λ s. list_any (λ e. lacks_input admitted.now.graph tables.now.nodes column.now e s) edges.now)) }
@@ -111,11 +113,11 @@ fn least_of_lacking(
     Ok(found)
 }
 
-/// That all that an item waits for is there: the inputs of each process, and the columns of each item by rising time.
+/// That all that an item waits for is there: the inputs of each process, and the columns of each item.
 #[derive(Drop)]
 struct Inputs<'a> {
     links: Links,
-    lines: Vec<Timeline<'a>>,
+    lines: Vec<Line<'a>>,
 }
 
 impl<'a> Judge for Inputs<'a> {
@@ -135,12 +137,9 @@ impl<'a> Judge for Inputs<'a> {
         let lines = self.lines.as_slice();
         if item as usize >= problem.processes().len() {
             let process = producer(problem, item);
-            let execution = Delay::Execution(process);
-            let cube = &column.cube;
-            let time = column.time;
-            let least = least_delay(
-                alloc, admitted, tables, lines, process, cube, execution, time,
-            )?;
+            let end = Delay::Execution(process);
+            let (cube, time) = (&column.cube, column.time);
+            let least = least_delay(alloc, admitted, tables, lines, process, cube, end, time)?;
             return Ok(least);
         }
         if column.time < problem.release(item) {
@@ -170,7 +169,7 @@ pub fn check_inputs(
 {
     let problem = admitted.problem();
     let links = Links::of(alloc, problem)?;
-    let lines = timelines(alloc, problem, tables)?;
+    let lines = lines_of(alloc, problem, tables)?;
     let found = first_violation(alloc, admitted, tables, 5, &Inputs { links, lines })?;
     Ok(found)
 }

@@ -1,7 +1,6 @@
 //! The rules of valid tables on times: V5 to V9.
 #![tactic(auto)]
 
-mod acts;
 mod check;
 mod delays;
 mod due;
@@ -9,6 +8,7 @@ mod frozen;
 mod inputs;
 mod judge;
 mod lateness;
+mod lines;
 mod processor;
 mod slots;
 

@@ -1,28 +1,30 @@
 //! V7: each send is at the start of an own slot, and no two items of a node share one.
-ghost use Rattle.std.specs.Prelude.{◌≡◌, ◌<◌, ◌==◌, ℕ, All, IfNone, IfOk, IfSome, List, filter, length, map};
-ghost use Rattle.std.specs.List.{flat_map, list_any};
+ghost use Rattle.std.specs.Prelude.{◌≡◌, ◌<◌, ◌==◌, ℕ, All, IfNone, IfOk, IfSome, List, length, map};
+ghost use Rattle.std.specs.List.{list_any};
 ghost use Rattle.std.proofs.Common.{arith};
 ghost use Rattle.cpg_base.specs.Bus.{next_slot};
 ghost use Rattle.cpg_base.specs.Graph.{is_sent, item_count, process_count};
 ghost use Rattle.cpg_base.specs.Numbers.{numbers_below};
-ghost use Rattle.cpg_base.specs.WellFormed.{WellFormed};
 ghost use Rattle.cpg_bus.specs.Share.{HasSlot};
 ghost use Rattle.cpg_cube.specs.Fit.{IsKnown};
 ghost use Rattle.cpg_order.specs.First.{IsFirst};
+ghost use Rattle.cpg_table.specs.GraphHead.{head_of};
+ghost use Rattle.cpg_table.specs.Lawful.{AreTablesOf};
 ghost use Rattle.cpg_violation.specs.Heads.{IsHeadFor};
 ghost use Rattle.cpg_violation.specs.Room.{HasRoom};
 ghost use Rattle.cpg_violation.specs.Violation.{Holds, IsFirstViolation};
-ghost use Rattle.cpg_check_time.specs.Acts.{IsTimetable, acts_of, seen};
-ghost use Rattle.cpg_check_time.specs.Clashes.{IsAct, sent_items, shares};
+ghost use Rattle.cpg_check_time.specs.Clashes.{shares, shares_some};
+ghost use Rattle.cpg_check_time.specs.Columns.{IsColumn};
+ghost use Rattle.cpg_check_time.specs.Lines.{AreLines};
 
-use crate::acts::{Act, between, timetable};
 use crate::judge::{Judge, first_violation};
+use crate::lines::{Line, lines_of, meeting};
 use cpg_base::{OutOfMemory, Problem, Scenario};
 use cpg_bus::Share;
 use cpg_order::Order;
 use cpg_rules::Admitted;
 use cpg_table::{Entry, Fault, Tables};
-use cpg_violation::{earlier, home, is_message, item_count, met};
+use cpg_violation::{earlier, home, is_message, met};
 use std::alloc::Global;
 
 /// Whether an item goes over the bus: a message, or a broadcast where there are two nodes or more.
@@ -41,19 +43,6 @@ fn is_sent(problem: &Problem, item: u32) -> bool
     problem.nodes().len() > 1
 }
 
-/// What goes over the bus, by number.
-fn sent_items(alloc: Global, problem: &Problem) -> Result<Vec<u32>, OutOfMemory>
-    ensures { IfOk result (λ items. items.items ≡ sent_items problem.now) }
-{
-    let mut items = Vec::new(alloc);
-    for item in 0..item_count(problem) {
-        if is_sent(problem, item) {
-            items.push(item)?;
-        }
-    }
-    Ok(items)
-}
-
 /// Whether a node's slot starts at a time.
 fn is_slot_start(problem: &Problem, node: u32, time: u64) -> bool
     requires { HasSlot problem.now node }
@@ -68,71 +57,121 @@ fn is_slot_start(problem: &Problem, node: u32, time: u64) -> bool
     (time - offset) % round == 0
 }
 
-/// The least scenario in which a column matches together with one of an item with a lower number that the same node sends
-/// at that time, if there is one.
+/// The least scenario that both of two columns match, where they have one time; if there is one.
 fn least_shared(
     problem: &Problem,
-    item: u32,
     column: &Entry,
-    act: &Act<'_>,
+    other: &Entry,
     room: &mut Scenario,
 ) -> Result<Option<Scenario>, OutOfMemory>
-    requires formed { WellFormed problem.now }
-    requires item { item < item_count problem.now }
     requires column { IsKnown problem.now column.now.cube }
-    requires act { IsAct problem.now (seen act.now) }
+    requires other { IsKnown problem.now other.now.cube }
     requires room { HasRoom problem.now room.old }
     ensures room { HasRoom problem.now room.new }
-    ensures first { IfOk result (λ r. (order : List ℕ) → IsFirst problem.now order (shares problem.now item column.now (seen act.now)) r) }
+    ensures first { IfOk result (λ r. (order : List ℕ) → IsFirst problem.now order (shares column.now other.now) r) }
 {
-    if act.item >= item {
+    if other.time != column.time {
         return Ok(None);
     }
-    if home(problem, act.item) != home(problem, item) {
-        return Ok(None);
-    }
-    if act.column.time != column.time {
-        return Ok(None);
-    }
-    let found = met(problem, &column.cube, &act.column.cube, room)?;
+    let found = met(problem, &column.cube, &other.cube, room)?;
     Ok(found)
 }
 
-/// The same for several acts.
-fn least_sharing(
+/// The same for several columns.
+fn least_of_shared(
     alloc: Global,
     problem: &Problem,
     order: &Order,
-    item: u32,
     column: &Entry,
-    acts: &[Act<'_>],
+    columns: &[&Entry],
 ) -> Result<Option<Scenario>, OutOfMemory>
-    requires formed { WellFormed problem.now }
     requires order { length order.now ≡ process_count problem.now }
-    requires item { item < item_count problem.now }
     requires column { IsKnown problem.now column.now.cube }
-    requires acts { All (λ a. IsAct problem.now (seen a)) acts.now }
-    ensures { IfOk result (IsFirst problem.now order.now (λ s. list_any (λ a. shares problem.now item column.now a s) (map seen acts.now))) }
+    requires columns { All (λ b. IsKnown problem.now b.now.cube) columns.now }
+    ensures { IfOk result (IsFirst problem.now order.now (λ s. list_any (λ d. shares column.now d s) (map (λ b. b.now) columns.now))) }
 {
     let mut room = Scenario::zero(alloc, problem)?;
     let mut found: Option<Scenario> = None;
-    for act in acts {
-        let next = least_shared(problem, item, column, act, &mut room)?;
+    for other in columns {
+        let next = least_shared(problem, column, other, &mut room)?;
         found = earlier(problem, order, found, next);
     }
     Ok(found)
 }
 
-/// That each send has a slot of its own: all that is sent, by rising time.
+/// The least scenario in which a column matches together with one of another item that the same node sends at that time, if
+/// there is one. Only columns that may match together with this one are looked at, and none where all are earlier or later.
+fn least_with(
+    alloc: Global,
+    admitted: &Admitted,
+    tables: &Tables,
+    lines: &[Line<'_>],
+    item: u32,
+    column: &Entry,
+    other: u32,
+) -> Result<Option<Scenario>, OutOfMemory>
+    requires lawful { AreTablesOf (head_of admitted.now.graph) tables.now.nodes }
+    requires lines { AreLines tables.now.nodes (item_count admitted.now.graph) lines.now }
+    requires item { item < item_count admitted.now.graph }
+    requires column { IsColumn admitted.now.graph column.now }
+    requires other { other < item_count admitted.now.graph }
+    ensures { IfOk result (IsFirst admitted.now.graph admitted.now.order (shares_some admitted.now.graph tables.now.nodes item column.now other)) }
+{
+    let line = &lines[other as usize];
+    if column.time < line.first {
+        return Ok(None);
+    }
+    if line.last < column.time {
+        return Ok(None);
+    }
+    let problem = admitted.problem();
+    if !is_sent(problem, other) {
+        return Ok(None);
+    }
+    if home(problem, other) != home(problem, item) {
+        return Ok(None);
+    }
+    let order = admitted.order();
+    let near = meeting(alloc, line, &column.cube)?;
+    let found = least_of_shared(alloc, problem, order, column, near.as_slice())?;
+    Ok(found)
+}
+
+/// The same for all items with lower numbers.
+fn least_of_lower(
+    alloc: Global,
+    admitted: &Admitted,
+    tables: &Tables,
+    lines: &[Line<'_>],
+    item: u32,
+    column: &Entry,
+) -> Result<Option<Scenario>, OutOfMemory>
+    requires lawful { AreTablesOf (head_of admitted.now.graph) tables.now.nodes }
+    requires lines { AreLines tables.now.nodes (item_count admitted.now.graph) lines.now }
+    requires item { item < item_count admitted.now.graph }
+    requires column { IsColumn admitted.now.graph column.now }
+    ensures { IfOk result (IsFirst admitted.now.graph admitted.now.order (λ s. list_any (λ y. shares_some admitted.now.graph tables.now.nodes item column.now y s) (numbers_below item))) }
+{
+    let problem = admitted.problem();
+    let order = admitted.order();
+    let mut found: Option<Scenario> = None;
+    for other in 0..item {
+        let next = least_with(alloc, admitted, tables, lines, item, column, other)?;
+        found = earlier(problem, order, found, next);
+    }
+    Ok(found)
+}
+
+/// That each send has a slot of its own: the columns of each item.
 #[derive(Drop)]
 struct Slots<'a> {
-    acts: Vec<Act<'a>>,
+    lines: Vec<Line<'a>>,
 }
 
 impl<'a> Judge for Slots<'a> {
     ghost number = { 7 };
 
-    ghost suits = { λ judge g tables. IsTimetable (flat_map (acts_of tables) (sent_items g)) judge.acts.items };
+    ghost suits = { λ judge g tables. AreLines tables (item_count g) judge.lines.items };
 
     fn least(
         &self,
@@ -150,9 +189,8 @@ impl<'a> Judge for Slots<'a> {
             let least = column.cube.least(alloc, problem)?;
             return Ok(least);
         }
-        let order = admitted.order();
-        let here = between(self.acts.as_slice(), column.time, column.time + 1);
-        let least = least_sharing(alloc, problem, order, item, column, here)?;
+        let lines = self.lines.as_slice();
+        let least = least_of_lower(alloc, admitted, tables, lines, item, column)?;
         Ok(least)
     }
 
@@ -171,8 +209,7 @@ pub fn check_slot(
     ensures none { IfOk result (λ r. IfNone r (Holds admitted.now.graph tables.now.nodes 7)) }
     ensures first { IfOk result (λ r. IfSome r (IsFirstViolation admitted.now.graph admitted.now.order tables.now.nodes 7)) }
 {
-    let items = sent_items(alloc, admitted.problem())?;
-    let acts = timetable(alloc, tables, items.as_slice())?;
-    let found = first_violation(alloc, admitted, tables, 7, &Slots { acts })?;
+    let lines = lines_of(alloc, admitted.problem(), tables)?;
+    let found = first_violation(alloc, admitted, tables, 7, &Slots { lines })?;
     Ok(found)
 }

@@ -1,0 +1,62 @@
+-- Columns found by a sieve: all that a scenario matches together with a cube.
+use Rattle.std.proofs.Common.{ℕ, ◌+◌, ◌<◌, ◌≤◌, ◌≡◌, Bool, true, List, [], ◌∷◌, ◌++◌, length, get_or, take, All, Contains, arith, sym, ap, ◌∙◌, subst, inl, inr}
+use Rattle.std.specs.List.{list_any}
+use Rattle.std.proofs.lemmas.Bool.{cases_lt}
+use Rattle.std.proofs.lemmas.List.{take_more, get_or_default}
+use Rattle.std.proofs.lemmas.List.Elements.{All-contains, All-weaker, All-push, All-more, Contains-append_cases, Contains-append_left, Contains-append_right, Contains-get_or}
+use Rattle.cpg_base.proofs.Lists.{same_truth, list_any_true, list_any_parts, Contains-first, Contains-cases, Contains-nil}
+use Rattle.cpg_order.specs.Scenario.{Scenario}
+use Rattle.cpg_cube.specs.Cube.{matches}
+use Rattle.cpg_cube.specs.declared.literal.Literal.{Literal}
+use Rattle.cpg_table.specs.Table.{Column}
+use Rattle.cpg_violation.specs.Parted.{Parted}
+use Rattle.cpg_violation.specs.Sieves.{IsSieveOf, column_at, places_in}
+
+-- the columns at these places are found
+abbrev pub AreFound : List Column → List Column → List ℕ → Type 0
+AreFound columns found places = (i : ℕ) → Contains places i → i < length columns → Contains found (column_at columns i)
+
+module _ (columns : List Column) (places : List ℕ) (k d : ℕ) (l : k < length places) (found more : List Column)
+    (there : get_or places k d < length columns → more ≡ found ++ column_at columns (get_or places k d) ∷ []) (none : length columns ≤ get_or places k d → more ≡ found) where
+  -- one place more
+  pub found_more : AreFound columns found (take k places) → AreFound columns more (take (k + 1) places)
+  found_more before i c m = elim (Contains-append_cases (take k places) (get_or places k d ∷ []) i (subst (λ xs. Contains xs i) (take_more places k d l) c)) [
+    | inl old ↦ elim (cases_lt (get_or places k d) (length columns)) [
+      | inl lt ↦ subst (λ xs. Contains xs (column_at columns i)) (sym (there lt)) (Contains-append_left found (column_at columns (get_or places k d) ∷ []) (column_at columns i) (before i old m))
+      | inr ge ↦ subst (λ xs. Contains xs (column_at columns i)) (sym (none ge)) (before i old m)
+    ]
+    | inr new ↦ elim (Contains-cases (get_or places k d) [] i new) [
+      | inl same ↦
+          let lt : get_or places k d < length columns = omega arith in
+          subst (λ xs. Contains xs (column_at columns i)) (sym (there lt)) (Contains-append_right found (column_at columns (get_or places k d) ∷ []) (column_at columns i)
+          (subst (λ p. Contains (column_at columns (get_or places k d) ∷ []) (column_at columns p)) same (Contains-first (column_at columns (get_or places k d)) [])))
+      | inr nil ↦ absurd (Contains-nil i nil)
+    ]
+  ]
+
+  pub among_more : All (λ c. Contains columns c) found → All (λ c. Contains columns c) more
+  among_more before = elim (cases_lt (get_or places k d) (length columns)) [
+    | inl lt ↦ subst (All (λ c. Contains columns c)) (sym (there lt)) (All-push (λ c. Contains columns c) found (column_at columns (get_or places k d)) before (Contains-get_or columns (get_or places k d) (record { time = 0; cube = [] }) lt))
+    | inr ge ↦ subst (All (λ c. Contains columns c)) (sym (none ge)) before
+  ]
+
+-- a test that only columns pass that match together with the cube
+pub same_found : (columns found : List Column) (places : List ℕ) (cube : List Literal) (parted : Parted) → IsSieveOf columns parted → All (λ c. Contains columns c) found → AreFound columns found places
+    → ((s : Scenario) (i : ℕ) → matches cube s ≡ true → Contains (places_in parted s) i → Contains places i) → (s : Scenario) (test : Column → Bool) → ((c : Column) → test c ≡ true → (matches cube s ≡ true) × (matches c.cube s ≡ true)) → list_any test found ≡ list_any test columns
+same_found columns found places cube parted sieve among all candidates s test both = same_truth _ _
+    (λ t. let r = list_any_parts test found t in list_any_true test columns r.0 (All-contains (λ c. Contains columns c) found r.0 among r.1) r.2)
+    (λ t.
+    let r = list_any_parts test columns t in
+    let c : Column = r.0 in
+    let i : ℕ = r.1.0 in
+    let at : column_at columns i ≡ c = get_or_default columns i (record { time = 0; cube = [] }) c r.1.1 ∙ r.1.2 in
+    let m = both c r.2 in
+    let place = candidates s i m.0 (sieve.found s i r.1.1 (ap (λ (d : Column). matches d.cube s) at ∙ m.1)) in
+    list_any_true test found c (subst (Contains found) at (all i place r.1.1)) r.2)
+
+-- times that none is before or after
+pub not_before_more : (columns : List Column) (k : ℕ) (c : Column) (first less : ℕ) → k < length columns → c ≡ get_or columns k c → All (λ (d : Column). first ≤ d.time) (take k columns) → less ≤ first → less ≤ c.time → All (λ (d : Column). less ≤ d.time) (take (k + 1) columns)
+not_before_more columns k c first less l is before a b = All-more (λ (d : Column). less ≤ d.time) columns k c l (All-weaker (λ (d : Column). first ≤ d.time) (λ (d : Column). less ≤ d.time) (λ d m. omega arith) (take k columns) before) (subst (λ (d : Column). less ≤ d.time) is b)
+
+pub not_after_more : (columns : List Column) (k : ℕ) (c : Column) (last more : ℕ) → k < length columns → c ≡ get_or columns k c → All (λ (d : Column). d.time ≤ last) (take k columns) → last ≤ more → c.time ≤ more → All (λ (d : Column). d.time ≤ more) (take (k + 1) columns)
+not_after_more columns k c last more l is before a b = All-more (λ (d : Column). d.time ≤ more) columns k c l (All-weaker (λ (d : Column). d.time ≤ last) (λ (d : Column). d.time ≤ more) (λ d m. omega arith) (take k columns) before) (subst (λ (d : Column). d.time ≤ more) is b)

@@ -1,0 +1,17 @@
+-- The columns of an item, as they are looked for.
+use Rattle.std.specs.Prelude.{ℕ, ◌≡◌, ◌<◌, ◌≤◌, List, All, length, get_or}
+use Rattle.cpg_table.specs.Table.{Column, NodeTable, columns_of}
+use Rattle.cpg_violation.specs.Sieves.{IsSieveOf}
+use Rattle.cpg_check_time.specs.declared.lines.Line.{Line}
+
+-- these columns, with a sieve of them, and times that none is before or after
+pub record IsLine (columns : List Column) (line : Line) : Type 0 where
+  pub all : line.columns.now ≡ columns
+  pub sieve : IsSieveOf columns line.sieve
+  pub first : All (λ d. line.first ≤ d.time) columns
+  pub last : All (λ d. d.time ≤ line.last) columns
+
+-- the lines of the first items
+pub record AreLines (tables : List NodeTable) (items : ℕ) (lines : List Line) : Type 0 where
+  pub count : length lines ≡ items
+  pub each : (x : ℕ) (d : Line) → x < items → IsLine (columns_of tables x) (get_or lines x d)
