@@ -1,5 +1,5 @@
 -- What a step of a cluster's code asks for and does.
-use Rattle.std.proofs.Common.{◌≡◌, ℕ, ◌+◌, ◌<◌, ◌≤◌, List, [], ◌++◌, length, map, filter, get_or, set, Some, None, refl, sym, ap, ap₂, ◌∙◌, subst, arith, inl, inr}
+use Rattle.std.proofs.Common.{◌^◌, ◌≡◌, ℕ, ◌+◌, ◌<◌, ◌≤◌, List, [], ◌++◌, length, map, filter, get_or, set, Some, None, refl, sym, ap, ap₂, ◌∙◌, subst, arith, inl, inr}
 use Rattle.std.specs.Prelude.{All}
 use Rattle.std.specs.Vec.{vec_capacity}
 use Rattle.std.proofs.lemmas.Bool.{cases_eq}
@@ -10,7 +10,7 @@ use Rattle.cpg_base.specs.Graph.{Graph, home}
 use Rattle.cpg_base.specs.Numbers.{numbers_below}
 use Rattle.cpg_table.specs.Table.{NodeTable, Row, table_at, empty_table}
 use Rattle.cpg_table.specs.Shape.{processes_on}
-use Rattle.cpg_node.specs.Dispatcher.{Dispatcher, Own, OwnTable, Ended, Frame, Act, next, turn, acts_of_turn, due_reports}
+use Rattle.cpg_node.specs.Dispatcher.{opening, Dispatcher, Own, OwnTable, Ended, Frame, Act, next, turn, acts_of_turn, due_reports}
 use Rattle.cpg_node.specs.State.{MayTurn}
 use Rattle.cpg_cluster.specs.Cluster.{World, Cluster, Answer, Took, Waits, Done, dispatcher_at, answer_by, answer_at, answer, own_process, reported, reports_now, frames_now, take_turn, step_by, step, IsPlayed}
 use Rattle.cpg_cluster.specs.Playing.{Playing, IsPlaying, stepped}
@@ -23,6 +23,9 @@ use Rattle.cpg_cluster.proofs.Plays.{played_of}
 use Rattle.cpg_cluster.proofs.Reached.{Reached}
 use Rattle.cpg_cluster.proofs.Passed.{played_step, played_reached}
 use Rattle.cpg_cluster.proofs.Ends.{ended_by}
+use Rattle.cpg_node.proofs.Next.{next_is}
+use Rattle.cpg_cluster.specs.Driving.{remaining}
+use Rattle.cpg_cluster.proofs.Driven.{nearer_set}
 use Rattle.cpg_cluster.proofs.Between.{dispatcher_is, answer_is, frames_are}
 use Rattle.cpg_cluster.proofs.Finishing.{may_finish, next_ready, may_turn, own_known, table_finished}
 use Rattle.cpg_cluster.proofs.Reporting.{reports_hold}
@@ -218,3 +221,10 @@ module _ (g : Graph) (w : World) (ms : List Member) (p : IsPlaying (play_of g w 
           pub heard_then : (most : ℕ) → All (λ (m : Member). length m.node.dispatcher.table.hears ≤ most) ms → All (λ (m : Member). length m.node.dispatcher.table.hears ≤ most) (set ms a n)
           heard_then most h = All-set (λ (m : Member). length m.node.dispatcher.table.hears ≤ most) ms a n
               (omega (arith, ap (λ (t : NodeTable). length t.hears) table_then, subst (λ (m : Member). length m.node.dispatcher.table.hears ≤ most) (sym at) (h a m l))) h
+
+          -- which brings the nodes nearer to the end of time
+          pub nearer_then : time < 2 ^ 61 → remaining (cluster_of (set ms a n)) < remaining (cluster_of ms)
+          nearer_then early = subst (λ (d : Cluster). remaining d < remaining (cluster_of ms)) (sym cluster_then)
+              (nearer_set (cluster_of ms).nodes a time (turn (reported g w (dispatcher_at (cluster_of ms) a) time) time [] (frames_now g w (cluster_of ms) (reported g w (dispatcher_at (cluster_of ms) a) time) time))
+              (opening (record { faults = 0; first_broadcast = 0; own = []; starts = []; sends = []; hears = [] })) (omega (arith, l, length-map ms (λ (m : Member). m.node.dispatcher)))
+              (next_is (dispatcher_at (cluster_of ms) a) time next_at).after early refl)

@@ -1,12 +1,14 @@
 //! All nodes of a graph in one scenario.
-ghost use Rattle.std.specs.Prelude.{◌≡◌, ◌<◌, ◌≤◌, ◌++◌, [], IfOk, All, length, get_or};
-ghost use Rattle.std.specs.List.{flat_map};
+ghost use Rattle.std.specs.Prelude.{ℕ, ◌≡◌, ◌<◌, ◌≤◌, ◌++◌, ◌^◌, ◌-◌, [], IfOk, IsTrue, All, is_some, length, get_or, min};
+ghost use Rattle.std.specs.List.{flat_map, list_any};
+ghost use Rattle.std.specs.Bool.{OnTrue};
 ghost use Rattle.std.specs.Vec.{vec_capacity};
 ghost use Rattle.cpg_base.specs.Scenario.{IsScenario, full_lengths};
 ghost use Rattle.cpg_table.specs.GraphHead.{head_of};
 ghost use Rattle.cpg_table.specs.Valid.{IsValid};
 ghost use Rattle.cpg_node.specs.Dispatcher.{next, zip_with};
-ghost use Rattle.cpg_cluster.specs.Cluster.{answer, dispatcher_at};
+ghost use Rattle.cpg_cluster.specs.Cluster.{Took, answer, dispatcher_at};
+ghost use Rattle.cpg_cluster.specs.Driving.{IsDriven, choose, circle, next_number, remaining};
 ghost use Rattle.cpg_cluster.specs.Correct.{IsWorld};
 ghost use Rattle.cpg_cluster.specs.Keeping.{frames_of_member, frames_by};
 ghost use Rattle.cpg_cluster.specs.Playing.{IsPlaying, opened, stepped, answer_of};
@@ -184,6 +186,7 @@ impl Cluster {
         requires { node < length self.old.graph.nodes }
         ensures answer { answer_of result ≡ answer self.old.graph self.old.cluster node }
         ensures step { self.new ≡ stepped self.old node }
+        ensures nearer { answer self.old.graph self.old.cluster node ≡ Took → remaining self.new.cluster < remaining self.old.cluster }
     {
         let member = &self.members[node as usize];
         let Some(time) = member.node.next() else {
@@ -212,4 +215,60 @@ impl Cluster {
         );
         Step::Took
     }
+
+    /// Asks the nodes from one on, round the circle, until one takes its turn; answers how many of them waited.
+    fn choose(&mut self, first: u32) -> u64
+        requires { first < length self.old.graph.nodes }
+        ensures state { self.new ≡ record self.old { cluster = (choose self.old.graph self.old.world self.old.cluster (circle (length self.old.graph.nodes) first)).cluster } }
+        ensures waits { result ≡ (choose self.old.graph self.old.world self.old.cluster (circle (length self.old.graph.nodes) first)).waits }
+        ensures nearer { IsTrue (choose self.old.graph self.old.world self.old.cluster (circle (length self.old.graph.nodes) first)).took → remaining self.new.cluster < remaining self.old.cluster }
+    {
+        let nodes = self.members.len() as u32;
+        let mut waits: u64 = 0;
+        let mut asked: u32 = 0;
+        while asked < nodes {
+            let node = (first + asked) % nodes;
+            match self.step(node) {
+                Step::Took => return waits,
+                Step::Waits { .. } => waits += 1,
+                Step::Done => {}
+            }
+            asked += 1;
+        }
+        waits
+    }
+
+    /// Asks nodes until every node is done. Each choice begins with a node that comes from the next of the numbers that
+    /// follow this one, and goes on round the circle until one takes its turn. Answers how often a node waited.
+    pub fn drive(&mut self, number: u64) -> u64
+        ensures driven { (waits : ℕ) × IsDriven self.old.graph self.old.world number self.old.cluster self.new.cluster waits × (result ≡ min waits (2 ^ 64 - 1)) }
+        ensures same { self.new ≡ record self.old { cluster = self.new.cluster } }
+    {
+        let nodes = self.members.len() as u64;
+        let mut drawn = number;
+        let mut waits: u64 = 0;
+        while is_any_left(self.members.as_slice()) {
+            drawn = next_number(drawn);
+            let first = (drawn >> 33) % nodes;
+            waits = waits.saturating_add(self.choose(first as u32));
+        }
+        waits
+    }
+}
+
+/// The number that follows one.
+fn next_number(number: u64) -> u64
+    ensures { result ≡ next_number number }
+{
+    number
+        .wrapping_mul(6_364_136_223_846_793_005)
+        .wrapping_add(1_442_695_040_888_963_407)
+}
+
+/// Whether some node isn't done.
+fn is_any_left(members: &[Member]) -> bool
+    ensures left { result ≡ list_any (λ m. is_some (next m.node.dispatcher)) members.now }
+    ensures some { OnTrue result (0 < length members.now) }
+{
+    members.iter().any(|member| member.node.next().is_some())
 }

@@ -1,4 +1,4 @@
-use Rattle.std.proofs.Common.{◌≡◌, ◌<◌, ◌≤◌, arith, sym, ap, ◌∙◌, ℕ, length, filter, get_or, List, Some, subst}
+use Rattle.std.proofs.Common.{set, ◌^◌, ◌≡◌, ◌<◌, ◌≤◌, arith, sym, ap, ◌∙◌, ℕ, length, filter, get_or, List, Some, subst}
 use Rattle.std.specs.Prelude.{All}
 use Rattle.std.specs.Vec.{vec_capacity}
 use Rattle.std.proofs.lemmas.List.{length-map, length-set, get_or_default}
@@ -10,7 +10,9 @@ use Rattle.cpg_cluster.specs.Playing.{Playing, stepped}
 use Rattle.cpg_cluster.specs.Keeping.{answer_if, frames_by, waits_between}
 use Rattle.cpg_cluster.specs.Kept.{cluster_of, playing_of}
 use Rattle.cpg_cluster.specs.declared.member.Member.{Member}
-use Rattle.cpg_cluster.proofs.Stepping.{asked, waits_step, own_all, finish_all, ready_next, frames_fit, turn_may, acts_fit, ends_fit, reports_fit, play_then, playing_then, fits_then, heard_then}
+use Rattle.cpg_cluster.specs.Driving.{remaining}
+use Rattle.cpg_cluster.proofs.Asking.{at_some}
+use Rattle.cpg_cluster.proofs.Stepping.{asked, waits_step, own_all, finish_all, ready_next, frames_fit, turn_may, acts_fit, ends_fit, reports_fit, play_then, playing_then, nearer_then, fits_then, heard_then}
 use Rattle.cpg_cluster.proofs.cluster.Cluster.step.Goals as goal
 
 pub waited_on-requires-clause-few : goal.waited_on-requires-clause-few
@@ -22,7 +24,7 @@ within-w : (c : goal.In-Some-waited_on) → c.args.node < length c.self.inside.m
 within-w c = omega (arith, c.requires, ap (λ (p : Playing). length p.graph.nodes) c.self.view_is, c.self.invariant.playing.shape.count, length-map c.self.inside.members.items (λ (m : Member). m.node.dispatcher.table))
 
 comes-w : (c : goal.In-Some-waited_on) → next c.index-member.result.now.node.dispatcher ≡ Some c.in-Some.time
-comes-w c = sym c.next.ensures ∙ c.in-Some.is
+comes-w c = sym c.next.ensures.next ∙ c.in-Some.is
 
 waits : (c : goal.In-Some-waited_on) → Waits c.in-Some-waited_on.on ≡ answer c.self.inside.problem (cluster_of c.self.inside.members.items) c.args.node
 waits c =
@@ -41,13 +43,16 @@ returns-in-Some-waited_on-clause-step c =
     subst (λ (p : Playing). p ≡ stepped p c.args.node) c.self.view_is (ap (λ (d : Cluster). record (playing_of n) { cluster = d })
     (sym (waits_step n.problem (record { scenario = n.scenario; lengths = n.lengths }) n.members.items v.playing v.members c.args.node c.index-member.result.now c.index-member.ensures (within-w c) c.in-Some.time (comes-w c) c.in-Some-waited_on.on (waits c))))
 
+pub returns-in-Some-waited_on-clause-nearer : goal.returns-in-Some-waited_on-clause-nearer
+returns-in-Some-waited_on-clause-nearer c e = let x : Waits c.in-Some-waited_on.on ≡ Took = waits c ∙ ap (λ (p : Playing). answer p.graph p.cluster c.args.node) c.self.view_is ∙ e in cc
+
 -- A node that takes its turn.
 
 within-f : (c : goal.After-gather_frames-arg-3-1) → c.args.node < length c.self.inside.members.items
 within-f c = omega (arith, c.requires, ap (λ (p : Playing). length p.graph.nodes) c.self.view_is, c.self.invariant.playing.shape.count, length-map c.self.inside.members.items (λ (m : Member). m.node.dispatcher.table))
 
 comes-f : (c : goal.After-gather_frames-arg-3-1) → next c.index-member.result.now.node.dispatcher ≡ Some c.in-Some.time
-comes-f c = sym c.next.ensures ∙ c.in-Some.is
+comes-f c = sym c.next.ensures.next ∙ c.in-Some.is
 
 pub gather_frames-requires-clause-room : goal.gather_frames-requires-clause-room
 gather_frames-requires-clause-room c =
@@ -66,7 +71,7 @@ within-t : (c : goal.After-as_slice-4) → c.args.node < length c.self.inside.me
 within-t c = omega (arith, c.requires, ap (λ (p : Playing). length p.graph.nodes) c.self.view_is, c.self.invariant.playing.shape.count, length-map c.self.inside.members.items (λ (m : Member). m.node.dispatcher.table))
 
 comes-t : (c : goal.After-as_slice-4) → next c.index-member.result.now.node.dispatcher ≡ Some c.in-Some.time
-comes-t c = sym c.next.ensures ∙ c.in-Some.is
+comes-t c = sym c.next.ensures.next ∙ c.in-Some.is
 
 same-t : (c : goal.After-as_slice-4) → c.index_mut-member.result.now ≡ c.index-member.result.now
 same-t c = c.index_mut-member.ensures.value ∙ get_or_default c.self.inside.members.items c.args.node c.index_mut-member.result.now c.index-member.result.now (within-t c) ∙ sym c.index-member.ensures
@@ -137,7 +142,7 @@ within-a : (c : goal.After-self-1) → c.args.node < length c.self.inside.member
 within-a c = omega (arith, c.requires, ap (λ (p : Playing). length p.graph.nodes) c.self.view_is, c.self.invariant.playing.shape.count, length-map c.self.inside.members.items (λ (m : Member). m.node.dispatcher.table))
 
 comes-a : (c : goal.After-self-1) → next c.index-member.result.now.node.dispatcher ≡ Some c.in-Some.time
-comes-a c = sym c.next.ensures ∙ c.in-Some.is
+comes-a c = sym c.next.ensures.next ∙ c.in-Some.is
 
 same-a : (c : goal.After-self-1) → c.index_mut-member.result.now ≡ c.index-member.result.now
 same-a c = c.index_mut-member.ensures.value ∙ get_or_default c.self.inside.members.items c.args.node c.index_mut-member.result.now c.index-member.result.now (within-a c) ∙ sym c.index-member.ensures
@@ -179,3 +184,10 @@ returns-clause-step c =
     let n = c.self.inside in
     let v = c.self.invariant in
     (play_then n.problem (record { scenario = n.scenario; lengths = n.lengths }) n.members.items v.playing v.members c.args.node c.index_mut-member.result.now c.index_mut-member.ensures.value (within-a c) c.in-Some.time (mut-a c) c.as_slice-4.result.now (frames-a c) (took-a c) c.take_turn.new.member c.take_turn.ensures.node c.take_turn.ensures.acts c.take_turn.ensures.ends c.take_turn.ensures.reports c.take_turn.ensures.same c.take_turn.ensures.room) ∙ ap (λ (p : Playing). stepped p c.args.node) c.self.view_is
+
+pub returns-clause-nearer : goal.returns-clause-nearer
+returns-clause-nearer c e =
+    let n = c.self.inside in
+    let v = c.self.invariant in
+    subst (λ (p : Playing). remaining (cluster_of (set n.members.items c.args.node c.take_turn.new.member)) < remaining p.cluster) c.self.view_is
+    (nearer_then n.problem (record { scenario = n.scenario; lengths = n.lengths }) n.members.items v.playing v.members c.args.node c.index_mut-member.result.now c.index_mut-member.ensures.value (within-a c) c.in-Some.time (mut-a c) c.as_slice-4.result.now (frames-a c) (took-a c) c.take_turn.new.member c.take_turn.ensures.node c.take_turn.ensures.acts c.take_turn.ensures.ends c.take_turn.ensures.reports c.take_turn.ensures.same c.take_turn.ensures.room (at_some c.next.result c.in-Some.time (λ t. t < 2 ^ 61) c.in-Some.is c.next.ensures.early))
