@@ -9,7 +9,7 @@ use Rattle.cpg_table.specs.Head.{IsHeadProcess}
 use Rattle.cpg_table.specs.Items.{own_front, own_from}
 use Rattle.cpg_table.specs.Lawful.{IsTable, IsLawfulRow, IsLawfulColumn, rows_of, space_of}
 use Rattle.cpg_node.specs.Dispatcher.{Own, times_in}
-use Rattle.cpg_node.specs.Plan.{Planned, plan_of, SameAtEachTime}
+use Rattle.cpg_node.specs.Plan.{Planned, plan_of, SameAtEachTime, fixed_times}
 use Rattle.cpg_node.proofs.Planning.{planned_in, planned_time}
 
 -- the durations of a process
@@ -58,3 +58,16 @@ pub plan_early : (t : NodeTable) → IsTable t → (plan : List Planned) → Sam
 plan_early t h plan same = All-weaker (Contains plan) (λ (p : Planned). p.time < 2 ^ 60)
     (λ p c. time_early t h (t.sends ++ t.starts) (λ row d. elim (Contains-append_cases t.sends t.starts row d) [ inl k ↦ in_sends t row k | inr k ↦ in_starts t row k ])
     p.time (planned_time t p (planned_in plan (plan_of t) same p c))) plan (All-contains_itself plan)
+
+in_hears : (t : NodeTable) (row : Row) → Contains t.hears row → Contains (rows_of t) row
+in_hears t row c = Contains-append_right t.starts (t.sends ++ t.hears) row (Contains-append_right t.sends t.hears row c)
+
+-- so are all times of the table
+pub fixed_early : (t : NodeTable) → IsTable t → (x : ℕ) → Contains (fixed_times t) x → x < 2 ^ 60
+fixed_early t h x c = elim (Contains-append_cases (times_in t.starts ++ times_in t.sends) (times_in t.hears) x c) [
+  | inr k ↦ time_early t h t.hears (in_hears t) x k
+  | inl k ↦ elim (Contains-append_cases (times_in t.starts) (times_in t.sends) x k) [
+    | inl m ↦ time_early t h t.starts (in_starts t) x m
+    | inr m ↦ time_early t h t.sends (in_sends t) x m
+  ]
+]

@@ -1,21 +1,23 @@
 -- What a node keeps before and after a turn.
-use Rattle.std.proofs.Common.{◌≡◌, ℕ, suc, ◌<◌, ◌≤◌, ◌-◌, ◌^◌, min, Bool, true, false, cond, ◌==◌, List, [], ◌∷◌, ◌++◌, map, filter, fold, length, take, drop, get_or, slice_get, Contains, Option, Some, None, refl, sym, ap, ap₂, ◌∙◌, subst, arith, inl, inr, true≢false, eq-eqb, eqb-true}
+use Rattle.std.proofs.Common.{◌+◌, ◌⊎◌, ◌≡◌, ℕ, suc, ◌<◌, ◌≤◌, ◌-◌, ◌^◌, min, Bool, true, false, cond, ◌==◌, List, [], ◌∷◌, ◌++◌, map, filter, fold, length, take, drop, get_or, slice_get, Contains, Option, Some, None, refl, sym, ap, ap₂, ◌∙◌, subst, arith, inl, inr, true≢false, eq-eqb, eqb-true}
 use Rattle.std.proofs.lemmas.Bool.{cases_lt, false_from_ne_true}
 use Rattle.std.proofs.lemmas.List.Sums.{fold-append}
 use Rattle.std.specs.Prelude.{is_some, All, IfSome, IsPermutation}
 use Rattle.std.specs.List.{flat_map, list_any}
 use Rattle.std.specs.List.Sorted.{IsNonDecreasingBy}
-use Rattle.std.proofs.lemmas.List.Elements.{All-cons, All-head, All-tail, All-nil, Contains-append_left, Contains-append_right, Contains-append_cases, Contains-get_or}
+use Rattle.std.proofs.lemmas.List.Elements.{All-contains, All-cons, All-head, All-tail, All-nil, Contains-append_left, Contains-append_right, Contains-append_cases, Contains-get_or}
 use Rattle.std.proofs.lemmas.Grind.{flat_map-append}
 use Rattle.std.proofs.lemmas.List.Sorted.{Contains-permutation, IsPermutation-sym}
-use Rattle.cpg_base.proofs.Lists.{Contains-filter, Contains-filter_parts}
+use Rattle.cpg_base.proofs.Lists.{Contains-nil, Contains-cases, Contains-map_parts, Contains-filter, Contains-filter_parts}
 use Rattle.cpg_node.specs.Dispatcher.{Dispatcher, times_in, Own, OwnTable, Range, Running, Ended, Frame, Act, zip_with, possible_ends, candidates, is_after, least_of, next, with_report, running_after, due_reports, hear_end, hear_frame, acts_at, heard_after, acts_of_turn, ends_in_turn, turn}
 use Rattle.cpg_table.specs.Table.{Row, Column}
 use Rattle.cpg_node.specs.State.{NodeState, earlier, IsTimed, AreTimed}
 use Rattle.cpg_node.specs.Plan.{Planned, IsLine, fixed_times, SameAtEachTime, plan_of, act_of, takes}
 use Rattle.cpg_node.proofs.Least.{least_passing, least_same}
 use Rattle.cpg_node.proofs.Lines.{first_left, moves_on}
-use Rattle.cpg_node.proofs.Next.{NextIs, next_is, not_by}
+use Rattle.cpg_node.proofs.Next.{NextIs, next_is, not_by, least_of_parts}
+use Rattle.cpg_table.specs.Lawful.{IsTable}
+use Rattle.cpg_node.proofs.TableBounds.{AreShort, times_short, fixed_early}
 use Rattle.cpg_node.proofs.Planning.{filter_run, acts_same, planned_in, planned_time}
 
 -- before the first turn all is left
@@ -203,3 +205,39 @@ pub returned_acts : (now : NodeState) (d : Dispatcher) (acts : List Act) (time :
     after ≡ acts_of_turn d time ended frames → IfSome (next now.dispatcher) (λ t. after ≡ acts_of_turn now.dispatcher t ended frames)
 returned_acts now d acts time after ended frames view comes is =
     subst (λ (s : NodeState). IfSome (next s.dispatcher) (λ t. after ≡ acts_of_turn s.dispatcher t ended frames)) view (subst (λ o. IfSome o (λ t. after ≡ acts_of_turn d t ended frames)) (sym comes) is)
+
+-- Times stay small.
+
+ends_early : (os : List Own) (runs : List (Option Running)) → All AreShort os → AreTimed runs → (t : ℕ) → Contains (flat_map (λ ends. ends) (zip_with possible_ends os runs)) t → t < 2 ^ 61
+ends_early [] runs s h t c = absurd (Contains-nil t c)
+ends_early (o ∷ os) [] s h t c = absurd (Contains-nil t c)
+ends_early (o ∷ os) (r ∷ rs) s h t c = elim (Contains-append_cases (possible_ends o r) (flat_map (λ ends. ends) (zip_with possible_ends os rs)) t c) [
+  | inl k ↦ one r (All-head IsTimed r rs h) k
+  | inr k ↦ ends_early os rs (All-tail AreShort o os s) (All-tail IsTimed r rs h) t k
+]
+  where
+    one : (run : Option Running) → IsTimed run → Contains (possible_ends o run) t → t < 2 ^ 61
+    one None h k = absurd (Contains-nil t k)
+    one (Some x) h k =
+        let q = Contains-map_parts (λ d. x.start + d) o.times t k in
+        let d = All-contains (λ d. d < 2 ^ 60) o.times q.0 (All-head AreShort o os s) q.1 in
+        omega (arith, h, d, q.2)
+
+-- the next instant is before 2 to the 61
+pub next_early : (table : OwnTable) (heard : List Range) (running : List (Option Running)) (last : Option ℕ) (t : ℕ) → IsTable table → AreTimed running →
+    next (record { table = table; heard = heard; running = running; last = last }) ≡ Some t → t < 2 ^ 61
+next_early table heard running last t made h e =
+    elim (first last (Contains-filter_parts (is_after last) (cond (is_some last) all (0 ∷ all)) t (least_of_parts (filter (is_after last) (cond (is_some last) all (0 ∷ all))) t e).0).0) [
+      | inl z ↦ omega (arith, z)
+      | inr c ↦ elim (Contains-append_cases (fixed_times table) (flat_map (λ ends. ends) (zip_with possible_ends table.own running)) t c) [
+        | inl k ↦ let f = fixed_early table made t k in omega (arith, f)
+        | inr k ↦ ends_early table.own running (times_short table made) h t k
+      ]
+    ]
+  where
+    all : List ℕ
+    all = candidates (record { table = table; heard = heard; running = running; last = last })
+
+    first : (o : Option ℕ) → Contains (cond (is_some o) all (0 ∷ all)) t → (t ≡ 0) ⊎ Contains all t
+    first None c = elim (Contains-cases 0 all t c) [ inl z ↦ inl (sym z) | inr k ↦ inr k ]
+    first (Some l) c = inr c

@@ -1,6 +1,7 @@
 -- What a node keeps for its calls.
 use Rattle.std.specs.Prelude.{◌≡◌, ◌≤◌, ◌<◌, ◌^◌, length, All, IsPermutation}
 use Rattle.std.specs.Vec.{vec_capacity}
+use Rattle.cpg_table.specs.Lawful.{IsTable}
 use Rattle.cpg_node.specs.declared.node.Node.TheInside.{Inside}
 use Rattle.cpg_node.specs.Dispatcher.{Dispatcher, next}
 use Rattle.cpg_node.specs.Plan.{Planned, plan_of, fixed_times, SameAtEachTime, IsLine}
@@ -16,6 +17,7 @@ state_of n = record { dispatcher = dispatcher_of n; acts = n.acts.items }
 
 -- the entries and the times in order, the next instant, and room for a turn
 pub record IsSound (n : Inside) : Type 0 where
+  pub made : IsTable n.table
   pub count : length n.running.items ≡ length n.table.own
   pub mirror : length n.heard.items ≡ length n.before.items
   pub starts : AreTimed n.running.items

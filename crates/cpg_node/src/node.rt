@@ -1,5 +1,5 @@
 //! The dispatcher of one node.
-ghost use Rattle.std.specs.Prelude.{◌≡◌, ◌↔◌, IsTrue, IsErr, IfOk, OnOk, OnErr, IfSome, true, [], map, length};
+ghost use Rattle.std.specs.Prelude.{◌<◌, ◌^◌, ◌≡◌, ◌↔◌, IsTrue, IsErr, IfOk, OnOk, OnErr, IfSome, true, [], map, length};
 ghost use Rattle.cpg_base.specs.Numbers.{numbers_below};
 ghost use Rattle.cpg_node.specs.Dispatcher.{opening, next, turn, acts_of_turn, hear, is_strange, finished, whole_range, variable_count};
 ghost use Rattle.cpg_node.specs.State.{start_of, report_of, MayTurn, MayFinish};
@@ -114,7 +114,8 @@ impl Node {
 
     /// The next instant at which something may happen, in time units of the graph file. `None` exactly where there is none.
     pub fn next(&self) -> Option<u64>
-        ensures { result ≡ next self.now.dispatcher }
+        ensures next { result ≡ next self.now.dispatcher }
+        ensures early { IfSome result (λ time. time < 2 ^ 61) }
     {
         self.next
     }

@@ -14,6 +14,7 @@ pub invariant_of-self : goal.invariant_of-self
 invariant_of-self c =
     let n = c.self.inside in
     record {
+      made = c.self.invariant.made;
       count = ap length (runs c) ∙ length_zip (with_report c.args.ended) n.table.own n.running.items c.self.invariant.count;
       mirror = c.self.invariant.mirror;
       starts = subst AreTimed (sym (runs c)) (timed_reported c.args.ended n.table.own n.running.items c.self.invariant.starts);

@@ -8,6 +8,7 @@ use Rattle.cpg_node.proofs.node.Node.new.Goals as goal
 
 pub invariant_of-result : goal.invariant_of-result
 invariant_of-result c = record {
+  made = c.own.ensures.made;
   count = search rules;
   mirror = search rules;
   starts = subst AreTimed (sym (c.in_ok-running.ensures.items_if_clones_equal (search rules))) (All-replicate IsTimed _ None tt);

@@ -57,6 +57,7 @@ invariant_of-self c =
     let n = c.self.inside in
     let v = c.self.invariant in
     record {
+      made = v.made;
       count = ap length (runs c) ∙ length_zip (running_after (c.args.ended.now ++ c.gather_due.new.due.items) c.gather_acts.new.acts.items c.in-Some.time) n.table.own n.running.items v.count;
       mirror = heard_length c ∙ v.mirror;
       starts = subst AreTimed (sym (runs c)) (timed_turn (c.args.ended.now ++ c.gather_due.new.due.items) c.gather_acts.new.acts.items c.in-Some.time

@@ -1,0 +1,122 @@
+-- A cluster before its first turns.
+use Rattle.std.proofs.Common.{◌≡◌, ℕ, ◌+◌, ◌<◌, false, List, [], ◌∷◌, ◌++◌, length, map, filter, get_or, replicate, Contains, None, sym, ap, ◌∙◌, subst, arith, inl, inr}
+use Rattle.std.specs.Prelude.{All}
+use Rattle.std.proofs.lemmas.Bool.{cases_eq}
+use Rattle.std.proofs.lemmas.List.FromFn.{length-range_with_len}
+use Rattle.std.proofs.lemmas.List.{length-append, get_or_append_left, get_or_push, get_or-map, length-map, get_or_default, get_or-replicate, length-replicate, same_lists}
+use Rattle.std.proofs.lemmas.List.Elements.{All-weaker, All-contains_itself}
+use Rattle.std.proofs.lemmas.Option.{slice_get-get_or}
+use Rattle.cpg_base.specs.Graph.{Graph, home, item_count, item_at, process_count, is_heard_by}
+use Rattle.cpg_base.specs.Duration.{duration}
+use Rattle.cpg_base.specs.Limits.{IsWithinLimits}
+use Rattle.cpg_base.specs.Numbers.{numbers_below}
+use Rattle.cpg_base.specs.Scenario.{full_lengths}
+use Rattle.cpg_base.specs.WellFormed.{WellFormed}
+use Rattle.cpg_base.proofs.Lists.{Contains-map_parts, Contains-filter_parts, numbers-Contains, get_or-map-below}
+use Rattle.cpg_order.specs.Scenario.{IsScenario, Scenario, fault_of}
+use Rattle.cpg_table.specs.Table.{NodeTable, Row, table_at, empty_table}
+use Rattle.cpg_table.specs.GraphHead.{head_of}
+use Rattle.cpg_table.specs.Lawful.{AreTablesOf}
+use Rattle.cpg_table.specs.Valid.{IsValid, hear_row, hear_rows}
+use Rattle.cpg_table.proofs.GraphTables.{has_shape, suits_graph}
+use Rattle.cpg_node.specs.Dispatcher.{Dispatcher, opening}
+use Rattle.cpg_node.specs.State.{NodeState}
+use Rattle.cpg_cluster.specs.Cluster.{World, own_table, dispatchers_from, open_cluster}
+use Rattle.cpg_cluster.specs.Correct.{IsWorld}
+use Rattle.cpg_cluster.specs.Playing.{IsPlaying, opened}
+use Rattle.cpg_cluster.specs.Keeping.{IsOpen, AreOpen, HearsItems, AllFit}
+use Rattle.cpg_cluster.specs.Kept.{cluster_of}
+use Rattle.cpg_cluster.specs.declared.member.Member.{Member}
+use Rattle.cpg_cluster.proofs.Passed.{played_open}
+use Rattle.cpg_cluster.proofs.Reached.{dispatchers_at, dispatchers_count}
+use Rattle.cpg_cluster.proofs.Stepping.{tables_of, play_of}
+
+-- some member, where there is one
+get_member : (ms : List Member) (i : ℕ) → i < length ms → Member
+get_member [] i l = absurd (omega arith)
+get_member (m ∷ ms) i l = m
+
+-- one more node is open
+pub open_more : (g : Graph) (tables : List NodeTable) (n : ℕ) (ms : List Member) (m : Member) → AreOpen g tables n ms → IsOpen g n (table_at tables n) m → AreOpen g tables (n + 1) (ms ++ m ∷ [])
+open_more g tables n ms m a o = record {
+  count = omega (arith, length-append ms (m ∷ []), a.count);
+  each = λ i d l. elim (cases_eq i n) [
+    | inl e ↦ subst (λ i. IsOpen g i (table_at tables i) (get_or (ms ++ m ∷ []) i d)) (sym e) (subst (IsOpen g n (table_at tables n)) (sym (get_or_push ms m d n a.count)) o)
+    | inr ne ↦ subst (IsOpen g i (table_at tables i)) (sym (get_or_append_left ms (m ∷ []) d i (omega (arith, a.count)))) (a.each i d (omega arith))
+  ];
+}
+
+-- what a node hears by valid tables
+pub hears_items : (g : Graph) (tables : List NodeTable) → IsValid g tables → (i : ℕ) → i < length tables → HearsItems g (table_at tables i)
+hears_items g tables v i l = subst (All (λ (row : Row). row.item < item_count g)) (sym (v.hears i (table_at tables i) (slice_get-get_or tables i empty_table l)))
+    (All-weaker (Contains (hear_rows g tables i)) (λ (row : Row). row.item < item_count g) (λ row c.
+    let q = Contains-map_parts (hear_row g tables) (filter (λ x. is_heard_by g i (item_at g x)) (numbers_below (item_count g))) row c in
+    let p = Contains-filter_parts (λ x. is_heard_by g i (item_at g x)) (numbers_below (item_count g)) q.0 q.1 in
+    subst (λ (row : Row). row.item < item_count g) q.2 (numbers-Contains (item_count g) q.0 p.0)) (hear_rows g tables i) (All-contains_itself (hear_rows g tables i)))
+
+module _ (g : Graph) (tables : List NodeTable) (w : World) (within : IsWithinLimits g) (of : AreTablesOf (head_of g) tables) (ms : List Member) (open' : AreOpen g tables (length tables) ms) where
+  count : length tables ≡ length g.nodes
+  count = of.count
+
+  table_here : (i : ℕ) (d : Member) → i < length tables → (get_or ms i d).node.dispatcher ≡ opening (table_at tables i)
+  table_here i d l = ap (λ (s : NodeState). s.dispatcher) (open'.each i d l).node
+
+  -- each table says of the graph what its node needs
+  own_is : (i : ℕ) → i < length tables → own_table g i (table_at tables i) ≡ table_at tables i
+  own_is i l = let s = suits_graph g within tables of i (omega (arith, l, count)) in
+      λ j. record { faults = sym s.faults j; first_broadcast = sym s.first_broadcast j; own = sym s.own j; starts = (table_at tables i).starts; sends = (table_at tables i).sends; hears = (table_at tables i).hears }
+
+  pub tables_are : tables_of ms ≡ tables
+  tables_are = same_lists (tables_of ms) tables (length-map ms (λ (m : Member). m.node.dispatcher.table) ∙ open'.count) (λ i t l.
+      let k : i < length ms = omega (arith, l, length-map ms (λ (m : Member). m.node.dispatcher.table)) in
+      get_or-map (λ (m : Member). m.node.dispatcher.table) ms i (get_member ms i k) t k ∙ ap (λ (d : Dispatcher). d.table) (table_here i (get_member ms i k) (omega (arith, k, open'.count)))
+      ∙ get_or_default tables i empty_table t (omega (arith, k, open'.count)))
+
+  nodes_are : (cluster_of ms).nodes ≡ dispatchers_from g 0 tables
+  nodes_are = same_lists (cluster_of ms).nodes (dispatchers_from g 0 tables) (length-map ms (λ (m : Member). m.node.dispatcher) ∙ open'.count ∙ sym (dispatchers_count g 0 tables)) (λ i d l.
+      let k : i < length ms = omega (arith, l, length-map ms (λ (m : Member). m.node.dispatcher)) in
+      let t : i < length tables = omega (arith, k, open'.count) in
+      get_or-map (λ (m : Member). m.node.dispatcher) ms i (get_member ms i k) d k ∙ table_here i (get_member ms i k) t ∙ ap opening (sym (own_is i t)) ∙ sym (dispatchers_at g 0 tables i i d empty_table t (omega arith)))
+
+  -- nothing has been done
+  none_are : {X : Type 0} (f : Member → List X) → ((i : ℕ) (d : Member) → i < length tables → f (get_or ms i d) ≡ []) → map f ms ≡ replicate (length tables) []
+  none_are f h = same_lists (map f ms) (replicate (length tables) []) (length-map ms f ∙ open'.count ∙ sym (length-replicate (length tables) [])) (λ i d l.
+      let k : i < length ms = omega (arith, l, length-map ms f) in
+      let t : i < length tables = omega (arith, k, open'.count) in
+      get_or-map f ms i (get_member ms i k) d k ∙ h i (get_member ms i k) t ∙ sym (get_or-replicate (length tables) i [] d t))
+
+  pub cluster_is : cluster_of ms ≡ open_cluster g tables
+  cluster_is = λ i. record {
+    nodes = nodes_are i;
+    acts = none_are (λ (m : Member). m.acts.items) (λ i d l. (open'.each i d l).acts) i;
+    ends = none_are (λ (m : Member). m.ends.items) (λ i d l. (open'.each i d l).ends) i;
+    reports = none_are (λ (m : Member). m.reports.items) (λ i d l. (open'.each i d l).reports) i;
+  }
+
+  pub play_is : play_of g w ms ≡ opened g tables w
+  play_is = λ i. record { graph = g; tables = tables_are i; world = w; cluster = cluster_is i }
+
+  pub playing_open : WellFormed g → IsValid g tables → IsWorld g w → IsPlaying (play_of g w ms)
+  playing_open f v o = subst IsPlaying (sym play_is) (record { formed = f; shape = has_shape g within tables of; valid = v; world = o; played = played_open g tables w })
+
+  pub fits_open : AllFit g ms
+  fits_open i d l =
+      let o = open'.each i d (omega (arith, l, open'.count)) in
+      let t : (get_or ms i d).node.dispatcher.table ≡ table_at tables i = ap (λ (s : NodeState). s.dispatcher.table) o.node in
+      record {
+        senders = o.senders ∙ ap (λ (t : NodeTable). map (λ (row : Row). home g row.item) t.hears) (sym t);
+        slot = o.slot;
+        acts = omega (arith, o.acts_room, ap (λ (t : NodeTable). length t.sends + length t.starts) t);
+        ends = omega (arith, o.ends_room, ap (λ (t : NodeTable). length t.own) t);
+        reports = omega (arith, o.reports_room, ap (λ (t : NodeTable). length t.own) t);
+      }
+
+-- full lengths are lawful
+pub full_world : (g : Graph) (s : Scenario) → WellFormed g → IsScenario g s → IsWorld g (record { scenario = s; lengths = full_lengths g s })
+full_world g s f is = record {
+  scenario = is;
+  count = length-map (numbers_below (process_count g)) (λ p. duration g p (fault_of s p)) ∙ length-range_with_len 0 (process_count g);
+  lengths = λ p l. let at = get_or-map-below (λ p. duration g p (fault_of s p)) (process_count g) p 0 l in
+      let work = f.works p (record { name = []; node = 0; wcet = 0; parts = 1; alpha = 0; chi = 0; mu = 0; join = false; frozen = false; release = 0; deadline = None }) l in
+      (omega (arith, at, work), omega (arith, at));
+}

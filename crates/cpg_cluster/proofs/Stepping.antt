@@ -1,0 +1,230 @@
+-- What a step of a cluster's code asks for and does.
+use Rattle.std.proofs.Common.{◌^◌, ◌≡◌, ℕ, ◌+◌, ◌<◌, ◌≤◌, List, [], ◌++◌, length, map, filter, get_or, set, Some, None, refl, sym, ap, ap₂, ◌∙◌, subst, arith, inl, inr}
+use Rattle.std.specs.Prelude.{All}
+use Rattle.std.specs.Vec.{vec_capacity}
+use Rattle.std.proofs.lemmas.Bool.{cases_eq}
+use Rattle.std.proofs.Math.Seq.{map-set_same}
+use Rattle.std.proofs.lemmas.List.Elements.{All-set}
+use Rattle.std.proofs.lemmas.List.{map-set, get_or-map, length-map, length-set, get_or_default, get_or-set_same, get_or-set_other}
+use Rattle.cpg_base.specs.Graph.{Graph, home}
+use Rattle.cpg_base.specs.Numbers.{numbers_below}
+use Rattle.cpg_table.specs.Table.{NodeTable, Row, table_at, empty_table}
+use Rattle.cpg_table.specs.Shape.{processes_on}
+use Rattle.cpg_node.specs.Dispatcher.{opening, Dispatcher, Own, OwnTable, Ended, Frame, Act, next, turn, acts_of_turn, due_reports}
+use Rattle.cpg_node.specs.State.{MayTurn}
+use Rattle.cpg_cluster.specs.Cluster.{World, Cluster, Answer, Took, Waits, Done, dispatcher_at, answer_by, answer_at, answer, own_process, reported, reports_now, frames_now, take_turn, step_by, step, IsPlayed}
+use Rattle.cpg_cluster.specs.Playing.{Playing, IsPlaying, stepped}
+use Rattle.cpg_cluster.specs.Taking.{IsOwnOf, AllFinish, reports_of, ends_of, ready}
+use Rattle.cpg_cluster.specs.Keeping.{waits_between, frames_by, Fits, AllFit}
+use Rattle.cpg_cluster.specs.Kept.{cluster_of}
+use Rattle.cpg_cluster.specs.declared.member.Member.{Member}
+use Rattle.cpg_cluster.proofs.Nodes.{Played, own_of_node}
+use Rattle.cpg_cluster.proofs.Plays.{played_of}
+use Rattle.cpg_cluster.proofs.Reached.{Reached}
+use Rattle.cpg_cluster.proofs.Passed.{played_step, played_reached}
+use Rattle.cpg_cluster.proofs.Ends.{ended_by}
+use Rattle.cpg_node.proofs.Next.{next_is}
+use Rattle.cpg_cluster.specs.Driving.{remaining}
+use Rattle.cpg_cluster.proofs.Driven.{nearer_set}
+use Rattle.cpg_cluster.proofs.Between.{dispatcher_is, answer_is, frames_are}
+use Rattle.cpg_cluster.proofs.Finishing.{may_finish, next_ready, may_turn, own_known, table_finished}
+use Rattle.cpg_cluster.proofs.Reporting.{reports_hold}
+use Rattle.cpg_cluster.proofs.Rooms.{acts_few, ends_few, reports_few, frames_few}
+
+-- the tables of members
+abbrev pub tables_of : List Member → List NodeTable
+tables_of ms = map (λ (m : Member). m.node.dispatcher.table) ms
+
+-- the play of members
+abbrev pub play_of : Graph → World → List Member → Playing
+play_of g w ms = record { graph = g; tables = tables_of ms; world = w; cluster = cluster_of ms }
+
+module _ (g : Graph) (w : World) (ms : List Member) (p : IsPlaying (play_of g w ms)) (fits : AllFit g ms) (a : ℕ) (m : Member) (at : m ≡ get_or ms a m) (l : a < length ms) where
+  k : Played g (tables_of ms) w
+  k = played_of g (tables_of ms) p.formed p.shape p.valid w p.world
+
+  c : Cluster
+  c = cluster_of ms
+
+  r : Reached g (tables_of ms) w (cluster_of ms)
+  r = played_reached k (cluster_of ms) p.played
+
+  on : a < length g.nodes
+  on = omega (arith, l, p.shape.count, length-map ms (λ (m : Member). m.node.dispatcher.table))
+
+  here : (d : Member) → get_or ms a d ≡ m
+  here d = get_or_default ms a d m l ∙ sym at
+
+  pub at_is : dispatcher_at (cluster_of ms) a ≡ m.node.dispatcher
+  at_is = dispatcher_is ms a m l ∙ ap (λ (m : Member). m.node.dispatcher) (here m)
+
+  table_is : table_at (tables_of ms) a ≡ m.node.dispatcher.table
+  table_is = get_or-map (λ (m : Member). m.node.dispatcher.table) ms a m empty_table l ∙ ap (λ (m : Member). m.node.dispatcher.table) (here m)
+
+  own_is : m.node.dispatcher.table.own ≡ own_of_node g a
+  own_is = sym (ap (λ (d : Dispatcher). d.table.own) at_is) ∙ ap (λ (d : Dispatcher). d.table.own) (r.holds a on).is
+
+  pub done_answer : next m.node.dispatcher ≡ None → Done ≡ answer g (cluster_of ms) a
+  done_answer e = sym (ap (answer_at g (cluster_of ms) a) (ap next at_is ∙ e))
+
+  pub done_step : next m.node.dispatcher ≡ None → step g w (cluster_of ms) a ≡ cluster_of ms
+  done_step e = (λ i. step_by g w (cluster_of ms) a ((sym (done_answer e)) i) ((ap next at_is ∙ e) i))
+
+  module _ (time : ℕ) (comes : next m.node.dispatcher ≡ Some time) where
+    next_at : next (dispatcher_at (cluster_of ms) a) ≡ Some time
+    next_at = ap next at_is ∙ comes
+
+    pub asked : (ans : Answer) (d : Member) → ans ≡ answer_by (filter (λ b. waits_between time m b (get_or ms b d)) (numbers_below (length ms))) → ans ≡ answer g (cluster_of ms) a
+    asked ans d e = e ∙ answer_is g ms fits a m here l time d ∙ sym (ap (answer_at g (cluster_of ms) a) next_at)
+
+    pub waits_step : (b : ℕ) → Waits b ≡ answer g (cluster_of ms) a → step g w (cluster_of ms) a ≡ cluster_of ms
+    waits_step b e = (λ i. step_by g w (cluster_of ms) a ((sym e) i) (next_at i))
+
+    pub own_all : All (IsOwnOf g) m.node.dispatcher.table.own
+    own_all = subst (λ (d : Dispatcher). All (IsOwnOf g) d.table.own) at_is (own_known k (cluster_of ms) r a on time next_at)
+
+    pub finish_all : AllFinish m.node.dispatcher (reports_of g w.scenario w.lengths time m.node.dispatcher)
+    finish_all = subst (λ (d : Dispatcher). AllFinish d (reports_now g w d time)) at_is (may_finish k (cluster_of ms) r a on time next_at)
+
+    pub ready_next : next (ready g w.scenario w.lengths time m.node.dispatcher) ≡ Some time
+    ready_next = subst (λ (d : Dispatcher). next (reported g w d time) ≡ Some time) at_is (next_ready k (cluster_of ms) r a on time next_at)
+
+    -- the frames, as code gathers them
+    gathered : (fs : List Frame) → fs ≡ frames_by g w.scenario.values ms time m.node.dispatcher.table.hears m.senders.items → fs ≡ frames_now g w (cluster_of ms) (reported g w (dispatcher_at (cluster_of ms) a) time) time
+    gathered fs e = e ∙ frames_are g ms fits a m here l w time (reported g w (dispatcher_at (cluster_of ms) a) time)
+        (table_finished (dispatcher_at (cluster_of ms) a) (map (λ (q : ℕ × Ended). q.1) (reports_now g w (dispatcher_at (cluster_of ms) a) time)) ∙ ap (λ (d : Dispatcher). d.table) at_is)
+
+    pub frames_fit : length (frames_by g w.scenario.values ms time m.node.dispatcher.table.hears m.senders.items) ≤ length m.node.dispatcher.table.hears
+    frames_fit = omega (
+      arith,
+      ap (λ (l : List Frame). length l) (gathered (frames_by g w.scenario.values ms time m.node.dispatcher.table.hears m.senders.items) refl),
+      frames_few k (cluster_of ms) r (reported g w (dispatcher_at (cluster_of ms) a) time) time,
+      ap (λ (t : OwnTable). length t.hears) (table_finished (dispatcher_at (cluster_of ms) a) (map (λ (q : ℕ × Ended). q.1) (reports_now g w (dispatcher_at (cluster_of ms) a) time)) ∙ ap (λ (d : Dispatcher). d.table) at_is),
+    )
+
+    module _ (fs : List Frame) (arrive : fs ≡ frames_by g w.scenario.values ms time m.node.dispatcher.table.hears m.senders.items) where
+      pub turn_may : MayTurn (ready g w.scenario w.lengths time m.node.dispatcher) [] fs
+      turn_may = subst (MayTurn (ready g w.scenario w.lengths time m.node.dispatcher) []) (sym (gathered fs arrive))
+          (subst (λ (d : Dispatcher). MayTurn (reported g w d time) [] (frames_now g w (cluster_of ms) (reported g w (dispatcher_at (cluster_of ms) a) time) time)) at_is (may_turn k (cluster_of ms) r a on time next_at))
+
+      module _ (took : Took ≡ answer g (cluster_of ms) a) where
+        step_is : step g w (cluster_of ms) a ≡ take_turn g w (cluster_of ms) a time
+        step_is = (λ i. step_by g w (cluster_of ms) a ((sym took) i) (next_at i))
+
+        -- the dispatcher before the turn
+        abbrev d : Dispatcher
+        d = ready g w.scenario w.lengths time m.node.dispatcher
+
+        c' : Cluster
+        c' = take_turn g w (cluster_of ms) a time
+
+        played' : IsPlayed g (tables_of ms) w (take_turn g w (cluster_of ms) a time)
+        played' = subst (IsPlayed g (tables_of ms) w) step_is (played_step g (tables_of ms) w (cluster_of ms) a p.played)
+
+        r' : Reached g (tables_of ms) w (take_turn g w (cluster_of ms) a time)
+        r' = played_reached k (take_turn g w (cluster_of ms) a time) played'
+
+        d_is : reported g w (dispatcher_at (cluster_of ms) a) time ≡ ready g w.scenario w.lengths time m.node.dispatcher
+        d_is = ap (λ (d : Dispatcher). reported g w d time) at_is
+
+        fs_is : frames_now g w (cluster_of ms) (reported g w (dispatcher_at (cluster_of ms) a) time) time ≡ fs
+        fs_is = sym (gathered fs arrive)
+
+        fit : Fits g a m
+        fit = subst (Fits g a) (here m) (fits a m l)
+
+        -- what the node has then
+        node_then : turn (reported g w (dispatcher_at (cluster_of ms) a) time) time [] (frames_now g w (cluster_of ms) (reported g w (dispatcher_at (cluster_of ms) a) time) time) ≡ turn (ready g w.scenario w.lengths time m.node.dispatcher) time [] fs
+        node_then = ap₂ (λ (d : Dispatcher) (fs : List Frame). turn d time [] fs) d_is fs_is
+
+        acts_then : get_or (cluster_of ms).acts a [] ++ acts_of_turn (reported g w (dispatcher_at (cluster_of ms) a) time) time [] (frames_now g w (cluster_of ms) (reported g w (dispatcher_at (cluster_of ms) a) time) time)
+            ≡ m.acts.items ++ acts_of_turn (ready g w.scenario w.lengths time m.node.dispatcher) time [] fs
+        acts_then = ap₂ (λ (xs ys : List Act). xs ++ ys) (get_or-map (λ (m : Member). m.acts.items) ms a m [] l ∙ ap (λ (m : Member). m.acts.items) (here m)) (ap₂ (λ (d : Dispatcher) (fs : List Frame). acts_of_turn d time [] fs) d_is fs_is)
+
+        ends_then : get_or (cluster_of ms).ends a [] ++ map {A = Ended} {B = ℕ × Ended} (λ e. (time, e)) (due_reports (reported g w (dispatcher_at (cluster_of ms) a) time) time) ≡ m.ends.items ++ ends_of time (ready g w.scenario w.lengths time m.node.dispatcher)
+        ends_then = ap₂ (λ (xs ys : List (ℕ × Ended)). xs ++ ys) (get_or-map (λ (m : Member). m.ends.items) ms a m [] l ∙ ap (λ (m : Member). m.ends.items) (here m)) (ap (λ (d : Dispatcher). ends_of time d) d_is)
+
+        reports_then : get_or (cluster_of ms).reports a [] ++ reports_now g w (dispatcher_at (cluster_of ms) a) time ≡ m.reports.items ++ reports_of g w.scenario w.lengths time m.node.dispatcher
+        reports_then = ap₂ (λ (xs ys : List (ℕ × Ended)). xs ++ ys) (get_or-map (λ (m : Member). m.reports.items) ms a m [] l ∙ ap (λ (m : Member). m.reports.items) (here m)) (ap (λ (d : Dispatcher). reports_now g w d time) at_is)
+
+        pub acts_fit : length (m.acts.items ++ acts_of_turn (ready g w.scenario w.lengths time m.node.dispatcher) time [] fs) ≤ vec_capacity m.acts
+        acts_fit = omega (
+          arith,
+          fit.acts,
+          ap (λ (t : NodeTable). length t.sends + length t.starts) table_is,
+          acts_few k a on (r'.holds a on).last (get_or (take_turn g w (cluster_of ms) a time).acts a []) (r'.holds a on).done,
+          ap (λ (l : List Act). length l) (get_or-set_same (cluster_of ms).acts a _ [] (omega (arith, l, length-map ms (λ (m : Member). m.acts.items))) ∙ acts_then),
+        )
+
+        own_length : length m.node.dispatcher.table.own ≡ length (processes_on g a)
+        own_length = ap (λ (l : List Own). length l) own_is ∙ length-map (processes_on g a) (own_process g)
+
+        pub ends_fit : length (m.ends.items ++ ends_of time (ready g w.scenario w.lengths time m.node.dispatcher)) ≤ vec_capacity m.ends
+        ends_fit = omega (
+          arith,
+          fit.ends,
+          own_length,
+          ends_few k a on (dispatcher_at (take_turn g w (cluster_of ms) a time) a).last (get_or (take_turn g w (cluster_of ms) a time).ends a []) (ended_by k (take_turn g w (cluster_of ms) a time) played' a on),
+          ap (λ (l : List (ℕ × Ended)). length l) (get_or-set_same (cluster_of ms).ends a _ [] (omega (arith, l, length-map ms (λ (m : Member). m.ends.items))) ∙ ends_then),
+        )
+
+        pub reports_fit : length (m.reports.items ++ reports_of g w.scenario w.lengths time m.node.dispatcher) ≤ vec_capacity m.reports
+        reports_fit = omega (
+          arith,
+          fit.reports,
+          own_length,
+          reports_few k a on (dispatcher_at (take_turn g w (cluster_of ms) a time) a).last (get_or (take_turn g w (cluster_of ms) a time).reports a []) ((reports_hold k (take_turn g w (cluster_of ms) a time) played').each a on),
+          ap (λ (l : List (ℕ × Ended)). length l) (get_or-set_same (cluster_of ms).reports a _ [] (omega (arith, l, length-map ms (λ (m : Member). m.reports.items))) ∙ reports_then),
+        )
+
+        -- the members after the turn
+        module _ (n : Member) (node : n.node.dispatcher ≡ turn (ready g w.scenario w.lengths time m.node.dispatcher) time [] fs)
+            (acts : n.acts.items ≡ m.acts.items ++ acts_of_turn (ready g w.scenario w.lengths time m.node.dispatcher) time [] fs)
+            (ends : n.ends.items ≡ m.ends.items ++ ends_of time (ready g w.scenario w.lengths time m.node.dispatcher))
+            (reports : n.reports.items ≡ m.reports.items ++ reports_of g w.scenario w.lengths time m.node.dispatcher)
+            (kept : (n.senders ≡ m.senders) × (n.slot ≡ m.slot)) (room : (vec_capacity n.acts ≡ vec_capacity m.acts) × (vec_capacity n.ends ≡ vec_capacity m.ends) × (vec_capacity n.reports ≡ vec_capacity m.reports)) where
+          cluster_then : cluster_of (set ms a n) ≡ take_turn g w (cluster_of ms) a time
+          cluster_then = λ i. record {
+            nodes = (map-set (λ (m : Member). m.node.dispatcher) ms a n ∙ ap (set (cluster_of ms).nodes a) (node ∙ sym node_then)) i;
+            acts = (map-set (λ (m : Member). m.acts.items) ms a n ∙ ap (set (cluster_of ms).acts a) (acts ∙ sym acts_then)) i;
+            ends = (map-set (λ (m : Member). m.ends.items) ms a n ∙ ap (set (cluster_of ms).ends a) (ends ∙ sym ends_then)) i;
+            reports = (map-set (λ (m : Member). m.reports.items) ms a n ∙ ap (set (cluster_of ms).reports a) (reports ∙ sym reports_then)) i;
+          }
+
+          table_then : n.node.dispatcher.table ≡ m.node.dispatcher.table
+          table_then = ap (λ (d : Dispatcher). d.table) node ∙ table_finished m.node.dispatcher (map (λ (q : ℕ × Ended). q.1) (reports_of g w.scenario w.lengths time m.node.dispatcher))
+
+          tables_then : tables_of (set ms a n) ≡ tables_of ms
+          tables_then = map-set_same (λ (m : Member). m.node.dispatcher.table) ms a n m (table_then ∙ ap (λ (m : Member). m.node.dispatcher.table) (sym (here m)))
+
+          pub play_then : play_of g w (set ms a n) ≡ stepped (play_of g w ms) a
+          play_then = λ i. record { graph = g; tables = tables_then i; world = w; cluster = (cluster_then ∙ sym step_is) i }
+
+          pub playing_then : IsPlaying (play_of g w (set ms a n))
+          playing_then = subst IsPlaying (sym play_then) (record { formed = p.formed; shape = p.shape; valid = p.valid; world = p.world; played = played_step g (tables_of ms) w (cluster_of ms) a p.played })
+
+          fit_then : Fits g a n
+          fit_then = record {
+            senders = ap (λ v. v.items) kept.0 ∙ fit.senders ∙ ap (λ (t : NodeTable). map (λ (row : Row). home g row.item) t.hears) (sym table_then);
+            slot = kept.1 ∙ fit.slot;
+            acts = omega (arith, fit.acts, room.0, ap (λ (t : NodeTable). length t.sends + length t.starts) table_then);
+            ends = omega (arith, fit.ends, room.1, ap (λ (t : NodeTable). length t.own) table_then);
+            reports = omega (arith, fit.reports, room.2, ap (λ (t : NodeTable). length t.own) table_then);
+          }
+
+          pub fits_then : AllFit g (set ms a n)
+          fits_then i d h = elim (cases_eq i a) [
+            | inl e ↦ subst (λ i. Fits g i (get_or (set ms a n) i d)) (sym e) (subst (Fits g a) (sym (get_or-set_same ms a n d l)) fit_then)
+            | inr ne ↦ subst (Fits g i) (sym (get_or-set_other ms a i n d ne)) (fits i d (omega (arith, h, length-set ms a n)))
+          ]
+
+          pub heard_then : (most : ℕ) → All (λ (m : Member). length m.node.dispatcher.table.hears ≤ most) ms → All (λ (m : Member). length m.node.dispatcher.table.hears ≤ most) (set ms a n)
+          heard_then most h = All-set (λ (m : Member). length m.node.dispatcher.table.hears ≤ most) ms a n
+              (omega (arith, ap (λ (t : NodeTable). length t.hears) table_then, subst (λ (m : Member). length m.node.dispatcher.table.hears ≤ most) (sym at) (h a m l))) h
+
+          -- which brings the nodes nearer to the end of time
+          pub nearer_then : time < 2 ^ 61 → remaining (cluster_of (set ms a n)) < remaining (cluster_of ms)
+          nearer_then early = subst (λ (d : Cluster). remaining d < remaining (cluster_of ms)) (sym cluster_then)
+              (nearer_set (cluster_of ms).nodes a time (turn (reported g w (dispatcher_at (cluster_of ms) a) time) time [] (frames_now g w (cluster_of ms) (reported g w (dispatcher_at (cluster_of ms) a) time) time))
+              (opening (record { faults = 0; first_broadcast = 0; own = []; starts = []; sends = []; hears = [] })) (omega (arith, l, length-map ms (λ (m : Member). m.node.dispatcher)))
+              (next_is (dispatcher_at (cluster_of ms) a) time next_at).after early refl)

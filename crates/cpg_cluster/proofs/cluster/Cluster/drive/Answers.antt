@@ -1,0 +1,54 @@
+use Rattle.std.proofs.Common.{◌/◌, ◌%◌, ◌^◌, ◌≡◌, ◌<◌, ℕ, refl, sym, ap, ◌∙◌, arith, length, subst, List, true, false}
+use Rattle.std.specs.Prelude.{is_some}
+use Rattle.std.specs.List.{list_any}
+use Rattle.std.proofs.Math.Nat.{mod-lt}
+use Rattle.std.proofs.lemmas.List.{length-map}
+use Rattle.cpg_base.specs.Graph.{Graph}
+use Rattle.cpg_node.specs.Dispatcher.{next}
+use Rattle.cpg_cluster.specs.Playing.{Playing}
+use Rattle.cpg_cluster.specs.Driving.{AllDone}
+use Rattle.cpg_cluster.specs.declared.member.Member.{Member}
+use Rattle.cpg_cluster.proofs.Drives.{driving_none, driving_done, takes_at, left_at, done_at, drive_step}
+use Rattle.cpg_cluster.proofs.cluster.Cluster.drive.Goals as goal
+
+pub loop-self-init : goal.loop-self-init
+loop-self-init c = record { same = refl; driving = driving_none c.args.self.now.graph c.args.self.now.world c.args.number c.args.self.now.cluster }
+
+-- some node isn't done
+left : (c : goal.After-saturating_add-waits) → list_any (λ (m : Member). is_some (next m.node.dispatcher)) c.self-in-loop-self.inside.members.items ≡ true
+left c = sym (c.loop-self-test.ensures.left ∙ ap (list_any (λ (m : Member). is_some (next m.node.dispatcher))) c.as_slice.ensures.value)
+
+count : (c : goal.After-saturating_add-waits) → c.len-nodes.result ≡ length c.loop-self.self.graph.nodes
+count c = omega (arith, c.len-nodes.ensures, ap (λ (p : Playing). length p.graph.nodes) c.self.view_is, c.self.invariant.playing.shape.count, length-map c.self.inside.members.items (λ (m : Member). m.node.dispatcher.table), ap (λ (p : Playing). length p.graph.nodes) c.loop-self.invariant.same)
+
+some : (c : goal.After-saturating_add-waits) → 0 < c.len-nodes.result
+some c = omega (
+  arith,
+  count c,
+  c.loop-self-test.ensures.some,
+  ap (λ (l : List Member). length l) c.as_slice.ensures.value,
+  ap (λ (p : Playing). length p.graph.nodes) c.self-in-loop-self.view_is,
+  c.self-in-loop-self.invariant.playing.shape.count,
+  length-map c.self-in-loop-self.inside.members.items (λ (m : Member). m.node.dispatcher.table),
+)
+
+pub loop-self-smaller : goal.loop-self-smaller
+loop-self-smaller c =
+    let n = c.self-in-loop-self.inside in
+    let v = c.self-in-loop-self.invariant in
+    c.choose.ensures.nearer (takes_at n.problem (record { scenario = n.scenario; lengths = n.lengths }) n.members.items c.loop-self.self c.self-in-loop-self.view_is v.playing (left c) _ (subst (λ n. (c.next_number-drawn.result / 2 ^ 33) % c.len-nodes.result < n) (count c) (mod-lt (c.next_number-drawn.result / 2 ^ 33) (some c))))
+
+pub loop-self-preserved : goal.loop-self-preserved
+loop-self-preserved c =
+    let n = c.self-in-loop-self.inside in
+    let v = c.self-in-loop-self.invariant in
+    let r = drive_step c.args.self.now c.loop-self.self c.choose.new.self c.args.number c.loop-self.drawn c.loop-self.waits c.next_number-drawn.result _ c.choose.result c.saturating_add-waits.result c.loop-self.invariant.same c.loop-self.invariant.driving
+    (left_at n.problem (record { scenario = n.scenario; lengths = n.lengths }) n.members.items c.loop-self.self c.self-in-loop-self.view_is v.playing (left c)) c.next_number-drawn.ensures (ap (λ n. (c.next_number-drawn.result / 2 ^ 33) % n) (count c)) c.choose.ensures.state c.choose.ensures.waits c.saturating_add-waits.ensures in
+    record { same = r.0; driving = r.1 }
+
+pub returns-clause-driven : goal.returns-clause-driven
+returns-clause-driven c =
+    let n = c.self-in-loop-self.inside in
+    let v = c.self-in-loop-self.invariant in
+    driving_done c.args.self.now.graph c.args.self.now.world c.args.number c.args.self.now.cluster c.loop-self.self.cluster c.loop-self.drawn c.loop-self.waits c.loop-self.invariant.driving
+    (subst (λ (g : Graph). AllDone g c.loop-self.self.cluster) (ap (λ (p : Playing). p.graph) c.loop-self.invariant.same) (done_at n.problem (record { scenario = n.scenario; lengths = n.lengths }) n.members.items c.loop-self.self c.self-in-loop-self.view_is v.playing (sym (c.loop-self-test.ensures.left ∙ ap (list_any (λ (m : Member). is_some (next m.node.dispatcher))) c.as_slice.ensures.value))))

@@ -1,0 +1,14 @@
+use Rattle.std.proofs.Common.{◌≡◌, length}
+use Rattle.cpg_cluster.specs.Playing.{Playing}
+use Rattle.cpg_cluster.specs.Driving.{remaining}
+use Rattle.cpg_cluster.proofs.Drives.{IsDriving}
+use Rattle.cpg_cluster.proofs.cluster.Cluster.drive.Given as goal
+
+abbrev pub invariant-loop-self : goal.invariant-loop-self
+invariant-loop-self l = record {
+  same : l.self ≡ record l.fn.self { cluster = l.self.cluster };
+  driving : IsDriving l.fn.self.graph l.fn.self.world l.fn.number l.fn.self.cluster l.self.cluster l.drawn l.waits;
+}
+
+abbrev pub decreases-loop-self : goal.decreases-loop-self
+decreases-loop-self l = remaining l.self.cluster

@@ -1,0 +1,12 @@
+use Rattle.std.proofs.Common.{sym, subst, ap, ◌∙◌, List, ℕ}
+use Rattle.cpg_base.specs.Scenario.{full_lengths}
+use Rattle.cpg_cluster.specs.Correct.{IsWorld}
+use Rattle.cpg_cluster.proofs.Opening.{full_world}
+use Rattle.cpg_cluster.proofs.cluster.Cluster.new.Goals as goal
+
+pub with_lengths-requires-clause-world : goal.with_lengths-requires-clause-world
+with_lengths-requires-clause-world c =
+    let g = c.args.admitted.now.graph in
+    let s = c.args.scenario.now in
+    subst (λ (ls : List ℕ). IsWorld g (record { scenario = s; lengths = ls })) (sym (c.in_ok-lengths.ensures ∙ ap (λ g. full_lengths g s) c.problem.ensures.problem))
+    (full_world g s c.problem.ensures.admitted.well_formed c.requires.scenario)

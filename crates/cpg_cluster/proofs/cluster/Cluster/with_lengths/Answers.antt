@@ -1,0 +1,49 @@
+use Rattle.std.proofs.Common.{◌≡◌, ◌≤◌, ◌<◌, arith, sym, ◌∙◌, ℕ, length, List, subst, rules}
+use Rattle.std.specs.Prelude.{All}
+use Rattle.std.specs.Vec.{vec_capacity}
+use Rattle.cpg_base.specs.Graph.{Graph}
+use Rattle.cpg_table.specs.Table.{table_at}
+use Rattle.cpg_table.specs.Head.{Head}
+use Rattle.cpg_table.specs.GraphHead.{head_of}
+use Rattle.cpg_table.specs.Lawful.{AreTablesOf}
+use Rattle.cpg_cluster.specs.Keeping.{HearsItems, AreOpen, AllFit}
+use Rattle.cpg_cluster.specs.Cluster.{World}
+use Rattle.cpg_cluster.specs.Playing.{IsPlaying}
+use Rattle.cpg_cluster.proofs.Stepping.{play_of}
+use Rattle.cpg_cluster.specs.declared.member.Member.{Member}
+use Rattle.cpg_cluster.proofs.Opening.{hears_items, play_is, playing_open, fits_open}
+use Rattle.cpg_cluster.proofs.cluster.Cluster.with_lengths.Goals as goal
+
+pub open_members-requires-clause-items : goal.open_members-requires-clause-items
+open_members-requires-clause-items c = subst (λ (g : Graph). (i : ℕ) → i < length c.args.tables.now.nodes → HearsItems g (table_at c.args.tables.now.nodes i)) (sym c.problem.ensures.problem) (hears_items c.args.admitted.now.graph c.args.tables.now.nodes c.requires.valid)
+
+-- the parts are those of the call
+parts : (c : goal.In_ok-lengths) → play_of c.in_ok-problem.problem (record { scenario = c.in_ok-scenario.scenario; lengths = c.in_ok-lengths.lengths }) c.in_ok-members.members.items
+    ≡ play_of c.args.admitted.now.graph (record { scenario = c.args.scenario.now; lengths = c.args.lengths.now }) c.in_ok-members.members.items
+parts c = λ i. play_of ((c.in_ok-problem.ensures ∙ c.problem-2.ensures.problem) i) (record { scenario = c.in_ok-scenario.ensures i; lengths = c.in_ok-lengths.ensures i }) c.in_ok-members.members.items
+
+open' : (c : goal.In_ok-lengths) → AreOpen c.args.admitted.now.graph c.args.tables.now.nodes (length c.args.tables.now.nodes) c.in_ok-members.members.items
+open' c = subst (λ (g : Graph). AreOpen g c.args.tables.now.nodes (length c.args.tables.now.nodes) c.in_ok-members.members.items) c.problem.ensures.problem c.in_ok-members.ensures.members
+
+of : (c : goal.In_ok-lengths) → AreTablesOf (head_of c.args.admitted.now.graph) c.args.tables.now.nodes
+of c = subst (λ (h : Head). AreTablesOf h c.args.tables.now.nodes) c.requires.head c.in_ok-members.ensures.lawful
+
+pub invariant_of-result : goal.invariant_of-result
+invariant_of-result c =
+    let g = c.args.admitted.now.graph in
+    let tables = c.args.tables.now.nodes in
+    let w : World = record { scenario = c.args.scenario.now; lengths = c.args.lengths.now } in
+    let ms = c.in_ok-members.members.items in
+    let a = c.problem.ensures.admitted in
+    record {
+      playing = subst IsPlaying (sym (parts c)) (playing_open g tables w a.limits (of c) ms (open' c) a.well_formed c.requires.valid c.requires.world);
+      few = omega (arith, (open' c).count, (of c).count, a.limits.few_nodes);
+      members = subst (λ (g : Graph). AllFit g ms) (sym (c.in_ok-problem.ensures ∙ c.problem-2.ensures.problem)) (fits_open g tables w a.limits (of c) ms (open' c));
+      frames = λ i d l.
+          let few = subst (λ (ms : List Member). All (λ (m : Member). length m.node.dispatcher.table.hears ≤ c.most_heard.result) ms) c.as_slice.ensures.value c.most_heard.ensures i d l in
+          let room : c.most_heard.result ≤ vec_capacity c.reserve.new.self = search rules in
+          omega (arith, few, room);
+    }
+
+pub returns : goal.returns
+returns c = parts c ∙ play_is c.args.admitted.now.graph c.args.tables.now.nodes (record { scenario = c.args.scenario.now; lengths = c.args.lengths.now }) c.problem.ensures.admitted.limits (of c) c.in_ok-members.members.items (open' c)

@@ -1,0 +1,10 @@
+use Rattle.std.proofs.Common.{◌≡◌, drop}
+use Rattle.cpg_cluster.specs.Taking.{AllFinish, all_finished}
+use Rattle.cpg_cluster.proofs.told.finish_all.Given as goal
+
+abbrev pub invariant-loop-report : goal.invariant-loop-report
+invariant-loop-report l = record {
+  may : AllFinish l.node.dispatcher (drop l.report-index l.ended);
+  is : all_finished l.node.dispatcher (drop l.report-index l.ended) ≡ all_finished l.fn.node.dispatcher l.ended;
+  acts : l.node.acts ≡ l.fn.node.acts;
+}

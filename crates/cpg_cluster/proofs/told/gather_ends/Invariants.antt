@@ -1,0 +1,10 @@
+use Rattle.std.proofs.Common.{◌≡◌, ◌++◌, drop}
+use Rattle.std.specs.Vec.{vec_capacity}
+use Rattle.cpg_cluster.specs.Taking.{ends_by}
+use Rattle.cpg_cluster.proofs.told.gather_ends.Given as goal
+
+abbrev pub invariant-loop-place : goal.invariant-loop-place
+invariant-loop-place l = record {
+  ends : l.ends.items ++ ends_by l.time (drop l.place l.own) (drop l.place l.running) ≡ l.fn.ends.items ++ ends_by l.time l.own l.running;
+  room : vec_capacity l.ends ≡ vec_capacity l.fn.ends;
+}

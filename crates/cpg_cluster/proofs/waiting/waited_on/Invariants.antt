@@ -1,0 +1,10 @@
+use Rattle.std.proofs.Common.{false, ◌≡◌, ◌<◌, ℕ, get_or}
+use Rattle.cpg_cluster.specs.declared.member.Member.{Member}
+use Rattle.cpg_cluster.specs.Keeping.{waits_between}
+use Rattle.cpg_cluster.proofs.waiting.waited_on.Given as goal
+
+abbrev pub invariant-loop-sender : goal.invariant-loop-sender
+invariant-loop-sender l = record {
+  other : l.other ≡ l.sender-index;
+  none : (j : ℕ) (d : Member) → j < l.sender-index → waits_between l.time l.member j (get_or l.members j d) ≡ false;
+}

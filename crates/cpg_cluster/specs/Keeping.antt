@@ -1,0 +1,74 @@
+-- What a cluster keeps for its calls.
+use Rattle.std.specs.Prelude.{ℕ, ◌≡◌, ◌≤◌, ◌<◌, ◌+◌, ◌&&◌, ◌==◌, Bool, nat_le, List, [], Option, Some, None, option_to_list, slice_get, length, map, get_or, All}
+use Rattle.std.specs.List.{flat_map, list_any}
+use Rattle.std.specs.Option.{option_map_or}
+use Rattle.std.specs.Vec.{vec_capacity}
+use Rattle.cpg_base.specs.Graph.{Graph, home, item_at, item_count}
+use Rattle.cpg_base.specs.Bus.{slot_length}
+use Rattle.cpg_table.specs.Table.{Column, Row, NodeTable, table_at}
+use Rattle.cpg_node.specs.Dispatcher.{Frame, next, opening, zip_with}
+use Rattle.cpg_cluster.specs.Cluster.{Answer, Took, Waits}
+use Rattle.cpg_cluster.specs.Taking.{value_of_item, frames_from}
+use Rattle.cpg_cluster.specs.declared.member.Member.{Member}
+
+-- whether a column is one whose frame a node may still send, by that node's next instant and slot
+abbrev pub waits_for : ℕ → Option ℕ → ℕ → Column → Bool
+waits_for time comes slot col = nat_le col.time time && list_any (λ u. nat_le (u + slot) col.time) (option_to_list comes)
+
+-- whether a row of a sender has such a column
+abbrev pub waits_by : ℕ → ℕ → Option ℕ → ℕ → Row → ℕ → Bool
+waits_by other time comes slot row sender = (sender == other) && list_any (waits_for time comes slot) row.columns
+
+-- whether a node waits on another, by the other's next instant and slot
+abbrev pub waits_between : ℕ → Member → ℕ → Member → Bool
+waits_between time m other o = list_any (λ w. w) (zip_with (waits_by other time (next o.node.dispatcher) o.slot) m.node.dispatcher.table.hears m.senders.items)
+
+-- the frames of the acts of an item of a sender, if there is one
+abbrev pub frames_of_member : List Member → Bool → ℕ → ℕ → ℕ → List Frame
+frames_of_member members value x time sender = option_map_or (λ (m : Member). frames_from value x m.slot time m.acts.items) (slice_get members sender) []
+
+-- the frames of a row
+abbrev pub frames_of_sender : Graph → List Bool → List Member → ℕ → Row → ℕ → List Frame
+frames_of_sender g values members time row sender = frames_of_member members (value_of_item values (item_at g row.item)) row.item time sender
+
+-- the frames that arrive by rows with their senders
+abbrev pub frames_by : Graph → List Bool → List Member → ℕ → List Row → List ℕ → List Frame
+frames_by g values members time rows senders = flat_map (λ fs. fs) (zip_with (frames_of_sender g values members time) rows senders)
+
+-- the answer of a node that waits on another, or on none
+abbrev pub answer_if : Option ℕ → Answer
+answer_if None = Took
+answer_if (Some b) = Waits b
+
+-- what a node keeps of the graph, and room for all that it does in a play
+pub record Fits (g : Graph) (number : ℕ) (m : Member) : Type 0 where
+  pub senders : m.senders.items ≡ map (λ (row : Row). home g row.item) m.node.dispatcher.table.hears
+  pub slot : m.slot ≡ slot_length g number
+  pub acts : length m.node.dispatcher.table.sends + length m.node.dispatcher.table.starts ≤ vec_capacity m.acts
+  pub ends : length m.node.dispatcher.table.own ≤ vec_capacity m.ends
+  pub reports : length m.node.dispatcher.table.own ≤ vec_capacity m.reports
+
+-- so does each node, from a number on
+abbrev pub AllFit : Graph → List Member → Type 0
+AllFit g members = (i : ℕ) (d : Member) → i < length members → Fits g i (get_or members i d)
+
+-- a node before its first turn, with its table
+pub record IsOpen (g : Graph) (number : ℕ) (t : NodeTable) (m : Member) : Type 0 where
+  pub node : m.node ≡ record { dispatcher = opening t; acts = [] }
+  pub senders : m.senders.items ≡ map (λ (row : Row). home g row.item) t.hears
+  pub slot : m.slot ≡ slot_length g number
+  pub acts : m.acts.items ≡ []
+  pub ends : m.ends.items ≡ []
+  pub reports : m.reports.items ≡ []
+  pub acts_room : length t.sends + length t.starts ≤ vec_capacity m.acts
+  pub ends_room : length t.own ≤ vec_capacity m.ends
+  pub reports_room : length t.own ≤ vec_capacity m.reports
+
+-- what a node hears is of items that there are
+abbrev pub HearsItems : Graph → NodeTable → Type 0
+HearsItems g t = All (λ (row : Row). row.item < item_count g) t.hears
+
+-- so are the first nodes, up to a number
+pub record AreOpen (g : Graph) (tables : List NodeTable) (number : ℕ) (members : List Member) : Type 0 where
+  pub count : length members ≡ number
+  pub each : (i : ℕ) (d : Member) → i < number → IsOpen g i (table_at tables i) (get_or members i d)

@@ -1,0 +1,32 @@
+-- The fields of a cluster, as callers see them and as its calls need them.
+use Rattle.std.specs.Prelude.{◌≤◌, List, length, map, All}
+use Rattle.std.specs.Vec.{vec_capacity}
+use Rattle.cpg_cluster.specs.declared.cluster.Cluster.TheInside.{Inside}
+use Rattle.cpg_cluster.specs.declared.member.Member.{Member}
+use Rattle.cpg_cluster.specs.Cluster.{Cluster}
+use Rattle.cpg_cluster.specs.Playing.{Playing, IsPlaying}
+use Rattle.cpg_cluster.specs.Keeping.{AllFit}
+
+-- the state of members
+abbrev pub cluster_of : List Member → Cluster
+cluster_of ms = record {
+  nodes = map (λ (m : Member). m.node.dispatcher) ms;
+  acts = map (λ (m : Member). m.acts.items) ms;
+  ends = map (λ (m : Member). m.ends.items) ms;
+  reports = map (λ (m : Member). m.reports.items) ms;
+}
+
+-- the play of a cluster's fields
+abbrev pub playing_of : Inside → Playing
+playing_of n = record {
+  graph = n.problem;
+  tables = map (λ (m : Member). m.node.dispatcher.table) n.members.items;
+  world = record { scenario = n.scenario; lengths = n.lengths };
+  cluster = cluster_of n.members.items;
+}
+
+pub record IsKept (n : Inside) : Type 0 where
+  pub playing : IsPlaying (playing_of n)
+  pub few : length n.members.items ≤ 16
+  pub members : AllFit n.problem n.members.items
+  pub frames : All (λ (m : Member). length m.node.dispatcher.table.hears ≤ vec_capacity n.frames) n.members.items

@@ -1,0 +1,40 @@
+-- A play under way, as code keeps it.
+use Rattle.std.specs.Prelude.{ℕ, List}
+use Rattle.cpg_base.specs.Graph.{Graph}
+use Rattle.cpg_base.specs.WellFormed.{WellFormed}
+use Rattle.cpg_table.specs.Table.{NodeTable}
+use Rattle.cpg_table.specs.Shape.{HasShape}
+use Rattle.cpg_table.specs.Valid.{IsValid}
+use Rattle.cpg_cluster.specs.Cluster.{World, Cluster, Answer, Took, Waits, Done, open_cluster, step, IsPlayed}
+use Rattle.cpg_cluster.specs.Correct.{IsWorld}
+use Rattle.cpg_cluster.specs.declared.answered.Step.{Step}
+use Rattle.cpg_cluster.specs.declared.answered.Step.TheVariants.{Took as StepTook, Waits as StepWaits, Done as StepDone}
+
+-- the graph, its tables, what happens, and what the nodes have done
+pub record Playing : Type 0 where
+  pub graph : Graph
+  pub tables : List NodeTable
+  pub world : World
+  pub cluster : Cluster
+
+-- before the first turn
+abbrev pub opened : Graph → List NodeTable → World → Playing
+opened g tables w = record { graph = g; tables = tables; world = w; cluster = open_cluster g tables }
+
+-- after a node is asked
+abbrev pub stepped : Playing → ℕ → Playing
+stepped p node = record p { cluster = step p.graph p.world p.cluster node }
+
+-- valid tables of the right shape, a lawful world, and a state that some play reaches
+pub record IsPlaying (p : Playing) : Type 0 where
+  pub formed : WellFormed p.graph
+  pub shape : HasShape p.graph p.tables
+  pub valid : IsValid p.graph p.tables
+  pub world : IsWorld p.graph p.world
+  pub played : IsPlayed p.graph p.tables p.world p.cluster
+
+-- the answer of an ask
+abbrev pub answer_of : Step → Answer
+answer_of StepTook = Took
+answer_of (StepWaits on) = Waits on
+answer_of StepDone = Done

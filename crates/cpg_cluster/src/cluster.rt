@@ -1,0 +1,274 @@
+//! All nodes of a graph in one scenario.
+ghost use Rattle.std.specs.Prelude.{ℕ, ◌≡◌, ◌<◌, ◌≤◌, ◌++◌, ◌^◌, ◌-◌, [], IfOk, IsTrue, All, is_some, length, get_or, min};
+ghost use Rattle.std.specs.List.{flat_map, list_any};
+ghost use Rattle.std.specs.Bool.{OnTrue};
+ghost use Rattle.std.specs.Vec.{vec_capacity};
+ghost use Rattle.cpg_base.specs.Scenario.{IsScenario, full_lengths};
+ghost use Rattle.cpg_table.specs.GraphHead.{head_of};
+ghost use Rattle.cpg_table.specs.Valid.{IsValid};
+ghost use Rattle.cpg_node.specs.Dispatcher.{next, zip_with};
+ghost use Rattle.cpg_cluster.specs.Cluster.{Took, answer, dispatcher_at};
+ghost use Rattle.cpg_cluster.specs.Driving.{IsDriven, choose, circle, next_number, remaining};
+ghost use Rattle.cpg_cluster.specs.Correct.{IsWorld};
+ghost use Rattle.cpg_cluster.specs.Keeping.{frames_of_member, frames_by};
+ghost use Rattle.cpg_cluster.specs.Playing.{IsPlaying, opened, stepped, answer_of};
+
+use crate::Step;
+use crate::member::{Member, most_heard, open_members, take_turn};
+use crate::senders::value_of_item;
+use crate::told::add_frames;
+use crate::waiting::waited_on;
+use cpg_base::{Lengths, OutOfMemory, Problem, Scenario};
+use cpg_node::{Act, Ended, Frame};
+use cpg_rules::Admitted;
+use cpg_table::{Row, Tables};
+use std::alloc::Global;
+use std::marker::Model;
+
+/// All nodes of a graph in one scenario, seen as the graph, its tables, the scenario with the lengths of the executions,
+/// and the state of the nodes with what they have done.
+#[derive(Drop)]
+pub struct Cluster {
+    problem: Problem,
+    scenario: Scenario,
+    lengths: Lengths,
+    members: Vec<Member>,
+    /// Room for the frames of a turn.
+    frames: Vec<Frame>,
+}
+
+impl Model for Cluster {
+    ghost use Rattle.cpg_cluster.specs.Playing.{Playing};
+
+    ghost Value = { Playing };
+
+    ghost use Rattle.cpg_cluster.specs.Kept.{playing_of, IsKept};
+
+    ghost view = { playing_of };
+
+    ghost invariant = { IsKept };
+}
+
+/// Adds the frames of the acts of an item of a sender, if there is one.
+fn add_sender_frames(
+    members: &[Member],
+    sender: u32,
+    value: bool,
+    item: u32,
+    time: u64,
+    frames: &mut Vec<Frame>,
+)
+    requires { length (frames.old.items ++ frames_of_member members.now value item time sender) ≤ vec_capacity frames.old }
+    ensures frames { frames.new.items ≡ frames.old.items ++ frames_of_member members.now value item time sender }
+    ensures room { vec_capacity frames.new ≡ vec_capacity frames.old }
+{
+    if (sender as usize) < members.len() {
+        let member = &members[sender as usize];
+        let acts = member.acts.as_slice();
+        add_frames(value, item, member.slot, time, acts, frames);
+    }
+}
+
+/// Gathers the frames that arrive at the time, row by row.
+fn gather_frames(
+    problem: &Problem,
+    scenario: &Scenario,
+    members: &[Member],
+    rows: &[Row],
+    senders: &[u32],
+    time: u64,
+    frames: &mut Vec<Frame>,
+)
+    requires scenario { IsScenario problem.now scenario.now }
+    requires same { length rows.now ≡ length senders.now }
+    requires room { length (frames_by problem.now scenario.now.values members.now time rows.now senders.now) ≤ vec_capacity frames.old }
+    ensures frames { frames.new.items ≡ frames_by problem.now scenario.now.values members.now time rows.now senders.now }
+    ensures room { vec_capacity frames.new ≡ vec_capacity frames.old }
+{
+    frames.clear();
+    for (place, row) in rows.iter().enumerate() {
+        let item = row.item();
+        let value = value_of_item(problem, scenario, item);
+        add_sender_frames(members, senders[place], value, item, time, frames);
+    }
+}
+
+impl Cluster {
+    /// All nodes before their first turns, each execution as long as planned. It takes all room that a play needs.
+    pub fn new(
+        alloc: Global,
+        admitted: &Admitted,
+        tables: &Tables,
+        scenario: &Scenario,
+    ) -> Result<Cluster, OutOfMemory>
+        requires head { tables.now.head ≡ head_of admitted.now.graph }
+        requires valid { IsValid admitted.now.graph tables.now.nodes }
+        requires scenario { IsScenario admitted.now.graph scenario.now }
+        ensures { IfOk result (λ c. c ≡ opened admitted.now.graph tables.now.nodes (record { scenario = scenario.now; lengths = full_lengths admitted.now.graph scenario.now })) }
+    {
+        let lengths = Lengths::full(alloc, admitted.problem(), scenario)?;
+        let cluster = Cluster::with_lengths(alloc, admitted, tables, scenario, &lengths)?;
+        Ok(cluster)
+    }
+
+    /// All nodes before their first turns, each execution with its length, which is at most the planned one. It takes all
+    /// room that a play needs.
+    pub fn with_lengths(
+        alloc: Global,
+        admitted: &Admitted,
+        tables: &Tables,
+        scenario: &Scenario,
+        lengths: &Lengths,
+    ) -> Result<Cluster, OutOfMemory>
+        requires head { tables.now.head ≡ head_of admitted.now.graph }
+        requires valid { IsValid admitted.now.graph tables.now.nodes }
+        requires world { IsWorld admitted.now.graph (record { scenario = scenario.now; lengths = lengths.now }) }
+        ensures { IfOk result (λ c. c ≡ opened admitted.now.graph tables.now.nodes (record { scenario = scenario.now; lengths = lengths.now })) }
+    {
+        let members = open_members(alloc, admitted.problem(), tables)?;
+        let mut frames = Vec::new(alloc);
+        frames.reserve(most_heard(members.as_slice()))?;
+        let problem = admitted.problem().copy()?;
+        let scenario = scenario.copy()?;
+        let lengths = lengths.copy()?;
+        Ok(Cluster {
+            problem,
+            scenario,
+            lengths,
+            members,
+            frames,
+        })
+    }
+
+    /// The next instant of a node, in time units. `None` exactly where it has none.
+    pub fn next(&self, node: u32) -> Option<u64>
+        requires { node < length self.now.graph.nodes }
+        ensures { result ≡ next (dispatcher_at self.now.cluster node) }
+    {
+        self.members[node as usize].node.next()
+    }
+
+    /// What a node has done so far, by time.
+    pub fn acts(&self, node: u32) -> &[Act]
+        requires { node < length self.now.graph.nodes }
+        ensures { result.now ≡ get_or self.now.cluster.acts node [] }
+    {
+        self.members[node as usize].acts.as_slice()
+    }
+
+    /// The planned ends that a node has reached so far, each with its time, by time and then by process.
+    pub fn ends(&self, node: u32) -> &[(u64, Ended)]
+        requires { node < length self.now.graph.nodes }
+        ensures { result.now ≡ get_or self.now.cluster.ends node [] }
+    {
+        self.members[node as usize].ends.as_slice()
+    }
+
+    /// The actual ends that a node has been told so far, each with its time, in the order of telling.
+    pub fn reports(&self, node: u32) -> &[(u64, Ended)]
+        requires { node < length self.now.graph.nodes }
+        ensures { result.now ≡ get_or self.now.cluster.reports node [] }
+    {
+        self.members[node as usize].reports.as_slice()
+    }
+
+    /// How long the executions really take.
+    pub fn lengths(&self) -> &Lengths
+        ensures lengths { result.now ≡ self.now.world.lengths }
+        ensures playing { IsPlaying self.now }
+    {
+        &self.lengths
+    }
+
+    /// Asks a node. It takes the turn of its next instant, unless that would go past the arrival of a frame that another
+    /// node may still send, or it has none; then nothing changes.
+    pub fn step(&mut self, node: u32) -> Step
+        requires { node < length self.old.graph.nodes }
+        ensures answer { answer_of result ≡ answer self.old.graph self.old.cluster node }
+        ensures step { self.new ≡ stepped self.old node }
+        ensures nearer { answer self.old.graph self.old.cluster node ≡ Took → remaining self.new.cluster < remaining self.old.cluster }
+    {
+        let member = &self.members[node as usize];
+        let Some(time) = member.node.next() else {
+            return Step::Done;
+        };
+        if let Some(on) = waited_on(self.members.as_slice(), member, time) {
+            return Step::Waits { on };
+        }
+        gather_frames(
+            &self.problem,
+            &self.scenario,
+            self.members.as_slice(),
+            member.node.table().hears(),
+            member.senders.as_slice(),
+            time,
+            &mut self.frames,
+        );
+        let member = &mut self.members[node as usize];
+        take_turn(
+            &self.problem,
+            &self.scenario,
+            &self.lengths,
+            time,
+            self.frames.as_slice(),
+            member,
+        );
+        Step::Took
+    }
+
+    /// Asks the nodes from one on, round the circle, until one takes its turn; answers how many of them waited.
+    fn choose(&mut self, first: u32) -> u64
+        requires { first < length self.old.graph.nodes }
+        ensures state { self.new ≡ record self.old { cluster = (choose self.old.graph self.old.world self.old.cluster (circle (length self.old.graph.nodes) first)).cluster } }
+        ensures waits { result ≡ (choose self.old.graph self.old.world self.old.cluster (circle (length self.old.graph.nodes) first)).waits }
+        ensures nearer { IsTrue (choose self.old.graph self.old.world self.old.cluster (circle (length self.old.graph.nodes) first)).took → remaining self.new.cluster < remaining self.old.cluster }
+    {
+        let nodes = self.members.len() as u32;
+        let mut waits: u64 = 0;
+        let mut asked: u32 = 0;
+        while asked < nodes {
+            let node = (first + asked) % nodes;
+            match self.step(node) {
+                Step::Took => return waits,
+                Step::Waits { .. } => waits += 1,
+                Step::Done => {}
+            }
+            asked += 1;
+        }
+        waits
+    }
+
+    /// Asks nodes until every node is done. Each choice begins with a node that comes from the next of the numbers that
+    /// follow this one, and goes on round the circle until one takes its turn. Answers how often a node waited.
+    pub fn drive(&mut self, number: u64) -> u64
+        ensures driven { (waits : ℕ) × IsDriven self.old.graph self.old.world number self.old.cluster self.new.cluster waits × (result ≡ min waits (2 ^ 64 - 1)) }
+        ensures same { self.new ≡ record self.old { cluster = self.new.cluster } }
+    {
+        let nodes = self.members.len() as u64;
+        let mut drawn = number;
+        let mut waits: u64 = 0;
+        while is_any_left(self.members.as_slice()) {
+            drawn = next_number(drawn);
+            let first = (drawn >> 33) % nodes;
+            waits = waits.saturating_add(self.choose(first as u32));
+        }
+        waits
+    }
+}
+
+/// The number that follows one.
+fn next_number(number: u64) -> u64
+    ensures { result ≡ next_number number }
+{
+    number
+        .wrapping_mul(6_364_136_223_846_793_005)
+        .wrapping_add(1_442_695_040_888_963_407)
+}
+
+/// Whether some node isn't done.
+fn is_any_left(members: &[Member]) -> bool
+    ensures left { result ≡ list_any (λ m. is_some (next m.node.dispatcher)) members.now }
+    ensures some { OnTrue result (0 < length members.now) }
+{
+    members.iter().any(|member| member.node.next().is_some())
+}

@@ -1,0 +1,143 @@
+//! A node of a cluster, with what it has done.
+ghost use Rattle.std.specs.Prelude.{ℕ, ◌≡◌, ◌≤◌, ◌<◌, ◌+◌, ◌++◌, [], All, IfOk, Some, length, map};
+ghost use Rattle.std.specs.Vec.{vec_capacity};
+ghost use Rattle.cpg_base.specs.Bus.{slot_length};
+ghost use Rattle.cpg_base.specs.Graph.{home, item_count, process_count};
+ghost use Rattle.cpg_base.specs.Scenario.{IsScenario};
+ghost use Rattle.cpg_base.specs.WellFormed.{WellFormed};
+ghost use Rattle.cpg_node.specs.Dispatcher.{opening, next, turn, acts_of_turn};
+ghost use Rattle.cpg_node.specs.State.{MayTurn};
+ghost use Rattle.cpg_table.specs.Lawful.{AreTablesOf};
+ghost use Rattle.cpg_table.specs.Table.{table_at};
+ghost use Rattle.cpg_cluster.specs.Keeping.{IsOpen, AreOpen, HearsItems};
+ghost use Rattle.cpg_cluster.specs.Taking.{IsOwnOf, AllFinish, reports_of, ends_of, ready};
+
+use crate::senders::{senders_of, slot_length};
+use crate::told::{append_acts, finish_all, gather_ends, gather_reports};
+use cpg_base::{Lengths, OutOfMemory, Problem, Scenario};
+use cpg_node::{Act, Ended, Frame, Node};
+use cpg_table::{NodeTable, Tables};
+use std::alloc::Global;
+
+/// A node of a cluster.
+#[derive(Drop)]
+pub struct Member {
+    /// The dispatcher.
+    pub node: Node,
+    /// Who sends what it hears, by hear row.
+    pub senders: Vec<u32>,
+    /// How long its slot lasts, in time units.
+    pub slot: u64,
+    /// What it has done.
+    pub acts: Vec<Act>,
+    /// The planned ends that it has reached.
+    pub ends: Vec<(u64, Ended)>,
+    /// The actual ends that it has been told.
+    pub reports: Vec<(u64, Ended)>,
+}
+
+/// A node before its first turn, with all room for a play.
+pub fn open_member(
+    alloc: Global,
+    problem: &Problem,
+    number: u32,
+    table: NodeTable,
+) -> Result<Member, OutOfMemory>
+    requires items { HearsItems problem.now table }
+    requires formed { WellFormed problem.now }
+    ensures { IfOk result (λ m. IsOpen problem.now number table m) }
+{
+    let slot = slot_length(problem, number);
+    let senders = senders_of(alloc, problem, table.hears())?;
+    let mut acts = Vec::new(alloc);
+    acts.reserve(table.sends().len() + table.starts().len())?;
+    let mut ends = Vec::new(alloc);
+    ends.reserve(table.own().len())?;
+    let mut reports = Vec::new(alloc);
+    reports.reserve(table.own().len())?;
+    let node = Node::new(alloc, table)?;
+    Ok(Member {
+        node,
+        senders,
+        slot,
+        acts,
+        ends,
+        reports,
+    })
+}
+
+/// A node notes what is over by its next instant, and takes its turn with these frames.
+pub fn take_turn(
+    problem: &Problem,
+    scenario: &Scenario,
+    lengths: &Lengths,
+    time: u64,
+    frames: &[Frame],
+    member: &mut Member,
+)
+    requires own { All (IsOwnOf problem.now) member.old.node.dispatcher.table.own }
+    requires scenario { IsScenario problem.now scenario.now }
+    requires lengths { length lengths.now ≡ process_count problem.now }
+    requires finish { AllFinish member.old.node.dispatcher (reports_of problem.now scenario.now lengths.now time member.old.node.dispatcher) }
+    requires turn { MayTurn (ready problem.now scenario.now lengths.now time member.old.node.dispatcher) [] frames.now }
+    requires next { next (ready problem.now scenario.now lengths.now time member.old.node.dispatcher) ≡ Some time }
+    requires reports_fit { length (member.old.reports.items ++ reports_of problem.now scenario.now lengths.now time member.old.node.dispatcher) ≤ vec_capacity member.old.reports }
+    requires ends_fit { length (member.old.ends.items ++ ends_of time (ready problem.now scenario.now lengths.now time member.old.node.dispatcher)) ≤ vec_capacity member.old.ends }
+    requires acts_fit { length (member.old.acts.items ++ acts_of_turn (ready problem.now scenario.now lengths.now time member.old.node.dispatcher) time [] frames.now) ≤ vec_capacity member.old.acts }
+    ensures node { member.new.node.dispatcher ≡ turn (ready problem.now scenario.now lengths.now time member.old.node.dispatcher) time [] frames.now }
+    ensures acts { member.new.acts.items ≡ member.old.acts.items ++ acts_of_turn (ready problem.now scenario.now lengths.now time member.old.node.dispatcher) time [] frames.now }
+    ensures ends { member.new.ends.items ≡ member.old.ends.items ++ ends_of time (ready problem.now scenario.now lengths.now time member.old.node.dispatcher) }
+    ensures reports { member.new.reports.items ≡ member.old.reports.items ++ reports_of problem.now scenario.now lengths.now time member.old.node.dispatcher }
+    ensures same { (member.new.senders ≡ member.old.senders) × (member.new.slot ≡ member.old.slot) }
+    ensures room { (vec_capacity member.new.acts ≡ vec_capacity member.old.acts) × (vec_capacity member.new.ends ≡ vec_capacity member.old.ends) × (vec_capacity member.new.reports ≡ vec_capacity member.old.reports) }
+{
+    let first = member.reports.len();
+    let own = member.node.table().own();
+    let running = member.node.executions();
+    gather_reports(
+        problem,
+        scenario,
+        lengths,
+        own,
+        running,
+        time,
+        &mut member.reports,
+    );
+    finish_all(&mut member.node, &member.reports[first..]);
+    let own = member.node.table().own();
+    let running = member.node.executions();
+    gather_ends(own, running, time, &mut member.ends);
+    member.node.turn(&[], frames);
+    append_acts(&mut member.acts, member.node.acts());
+}
+
+/// The nodes of tables before their first turns.
+pub fn open_members(
+    alloc: Global,
+    problem: &Problem,
+    tables: &Tables,
+) -> Result<Vec<Member>, OutOfMemory>
+    requires items { (i : ℕ) → i < length tables.now.nodes → HearsItems problem.now (table_at tables.now.nodes i) }
+    requires formed { WellFormed problem.now }
+    ensures members { IfOk result (λ members. AreOpen problem.now tables.now.nodes (length tables.now.nodes) members.items) }
+    ensures lawful { AreTablesOf tables.now.head tables.now.nodes }
+{
+    let count = tables.head().nodes().len() as u32;
+    let mut members = Vec::new(alloc);
+    for number in 0..count {
+        let table = tables.node(number).copy()?;
+        members.push(open_member(alloc, problem, number, table)?)?;
+    }
+    Ok(members)
+}
+
+/// How many rows a node hears at most.
+pub fn most_heard(members: &[Member]) -> usize
+    ensures { All (λ m. length m.node.dispatcher.table.hears ≤ result) members.now }
+{
+    let mut most = 0;
+    for member in members {
+        most = most.max(member.node.table().hears().len());
+    }
+    most
+}

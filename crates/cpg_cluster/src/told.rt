@@ -1,0 +1,209 @@
+//! What a node is told in a turn, and what it tells.
+ghost use Rattle.std.specs.Prelude.{◌≡◌, ◌≤◌, ◌<◌, ◌+◌, ◌++◌, ◌∷◌, [], ◌==◌, ◌&&◌, ℕ, All, nat_le, option_to_list, length, map};
+ghost use Rattle.std.specs.Vec.{vec_len, vec_capacity};
+ghost use Rattle.cpg_base.specs.Scenario.{IsScenario};
+ghost use Rattle.cpg_base.specs.Graph.{process_count};
+ghost use Rattle.cpg_node.specs.Dispatcher.{due_reports_of};
+ghost use Rattle.cpg_cluster.specs.Cluster.{report_of, ended_of};
+ghost use Rattle.cpg_cluster.specs.Taking.{frames_from, IsOwnOf, reports_by, ends_by, AllFinish, all_finished};
+
+use crate::senders::value_of_process;
+use cpg_base::{Lengths, Problem, Scenario};
+use cpg_node::{Act, Ended, Frame, Node, Running};
+use cpg_table::Own;
+
+/// Whether an act of an item arrives at the time.
+fn arrives(act: &Act, item: u32, slot: u64, time: u64) -> bool
+    ensures { result ≡ ((act.now.item == item) && (act.now.time + slot == time)) }
+{
+    if act.item != item {
+        return false;
+    }
+    time >= slot && act.time == time - slot
+}
+
+/// Adds the frame of an act, where it is of the item and arrives at the time.
+fn add_frame(value: bool, item: u32, slot: u64, time: u64, act: &Act, frames: &mut Vec<Frame>)
+    requires { vec_len frames.old + length (frames_from value item slot time (act.now ∷ [])) ≤ vec_capacity frames.old }
+    ensures frames { frames.new.items ≡ frames.old.items ++ frames_from value item slot time (act.now ∷ []) }
+    ensures room { vec_capacity frames.new ≡ vec_capacity frames.old }
+{
+    if arrives(act, item, slot, time) {
+        frames.push_reserved(Frame {
+            item: act.item,
+            column: act.column,
+            value,
+        });
+    }
+}
+
+/// Adds the frames of acts of an item that arrive at the time.
+pub fn add_frames(
+    value: bool,
+    item: u32,
+    slot: u64,
+    time: u64,
+    acts: &[Act],
+    frames: &mut Vec<Frame>,
+)
+    requires { length (frames.old.items ++ frames_from value item slot time acts.now) ≤ vec_capacity frames.old }
+    ensures frames { frames.new.items ≡ frames.old.items ++ frames_from value item slot time acts.now }
+    ensures room { vec_capacity frames.new ≡ vec_capacity frames.old }
+{
+    for act in acts {
+        add_frame(value, item, slot, time, act, frames);
+    }
+}
+
+/// What an execution of a process reports at its end in the scenario.
+fn ended_of(problem: &Problem, scenario: &Scenario, own: &Own) -> Ended
+    requires scenario { IsScenario problem.now scenario.now }
+    requires own { IsOwnOf problem.now own.now }
+    ensures { result ≡ ended_of problem.now (record { scenario = scenario.now; lengths = [] }) own.now }
+{
+    Ended {
+        process: own.process,
+        faults: scenario.fault(own.process),
+        value: value_of_process(problem, scenario, own.condition),
+    }
+}
+
+/// Whether an execution is over by the time.
+fn is_over(start: u64, length: u64, time: u64) -> bool
+    ensures { result ≡ nat_le (start + length) time }
+{
+    time >= start && length <= time - start
+}
+
+/// The report of an execution that is over by the time and hasn't reported, with its end.
+fn report_of(
+    problem: &Problem,
+    scenario: &Scenario,
+    lengths: &Lengths,
+    own: &Own,
+    running: Option<Running>,
+    time: u64,
+) -> Option<(u64, Ended)>
+    requires scenario { IsScenario problem.now scenario.now }
+    requires own { IsOwnOf problem.now own.now }
+    requires lengths { length lengths.now ≡ process_count problem.now }
+    ensures { option_to_list result ≡ report_of problem.now (record { scenario = scenario.now; lengths = lengths.now }) time own.now running }
+{
+    let running = running?;
+    if running.report.is_some() {
+        return None;
+    }
+    let length = lengths.of(own.process);
+    if !is_over(running.start, length, time) {
+        return None;
+    }
+    let ended = ended_of(problem, scenario, own);
+    Some((running.start + length, ended))
+}
+
+/// Adds the report of an execution, if there is one.
+fn add_report(report: Option<(u64, Ended)>, reports: &mut Vec<(u64, Ended)>)
+    requires { vec_len reports.old + length (option_to_list report) ≤ vec_capacity reports.old }
+    ensures reports { reports.new.items ≡ reports.old.items ++ option_to_list report }
+    ensures room { vec_capacity reports.new ≡ vec_capacity reports.old }
+{
+    if let Some(report) = report {
+        reports.push_reserved(report);
+    }
+}
+
+/// Gathers the reports of executions that are over by the time.
+pub fn gather_reports(
+    problem: &Problem,
+    scenario: &Scenario,
+    lengths: &Lengths,
+    own: &[Own],
+    running: &[Option<Running>],
+    time: u64,
+    reports: &mut Vec<(u64, Ended)>,
+)
+    requires scenario { IsScenario problem.now scenario.now }
+    requires own { All (IsOwnOf problem.now) own.now }
+    requires lengths { length lengths.now ≡ process_count problem.now }
+    requires same { length own.now ≡ length running.now }
+    requires room { length (reports.old.items ++ reports_by problem.now (record { scenario = scenario.now; lengths = lengths.now }) time own.now running.now) ≤ vec_capacity reports.old }
+    ensures reports { reports.new.items ≡ reports.old.items ++ reports_by problem.now (record { scenario = scenario.now; lengths = lengths.now }) time own.now running.now }
+    ensures room { vec_capacity reports.new ≡ vec_capacity reports.old }
+{
+    for (place, own) in own.iter().enumerate() {
+        let report = report_of(problem, scenario, lengths, own, running[place], time);
+        add_report(report, reports);
+    }
+}
+
+/// The report of an execution whose planned end is at the time.
+fn planned_end(own: &Own, running: Option<Running>, time: u64) -> Option<Ended>
+    ensures { option_to_list result ≡ due_reports_of time own.now running }
+{
+    let running = running?;
+    let ended = running.report?;
+    let duration = own
+        .times
+        .times()
+        .get(ended.faults as usize)
+        .copied()
+        .unwrap_or(0);
+    if time < running.start {
+        return None;
+    }
+    if duration == time - running.start {
+        Some(ended)
+    } else {
+        None
+    }
+}
+
+/// Gathers the executions whose planned end is at the time.
+pub fn gather_ends(
+    own: &[Own],
+    running: &[Option<Running>],
+    time: u64,
+    ends: &mut Vec<(u64, Ended)>,
+)
+    requires same { length own.now ≡ length running.now }
+    requires room { length (ends.old.items ++ ends_by time own.now running.now) ≤ vec_capacity ends.old }
+    ensures ends { ends.new.items ≡ ends.old.items ++ ends_by time own.now running.now }
+    ensures room { vec_capacity ends.new ≡ vec_capacity ends.old }
+{
+    for (place, own) in own.iter().enumerate() {
+        let end = planned_end(own, running[place], time);
+        add_end(time, end, ends);
+    }
+}
+
+/// Adds an end at the time, if there is one.
+fn add_end(time: u64, end: Option<Ended>, ends: &mut Vec<(u64, Ended)>)
+    requires { vec_len ends.old + length (option_to_list end) ≤ vec_capacity ends.old }
+    ensures ends { ends.new.items ≡ ends.old.items ++ map (λ e. (time, e)) (option_to_list end) }
+    ensures room { vec_capacity ends.new ≡ vec_capacity ends.old }
+{
+    if let Some(ended) = end {
+        ends.push_reserved((time, ended));
+    }
+}
+
+/// The node notes executions that are over, one after another.
+pub fn finish_all(node: &mut Node, ended: &[(u64, Ended)])
+    requires { AllFinish node.old.dispatcher ended.now }
+    ensures { node.new ≡ record node.old { dispatcher = all_finished node.old.dispatcher ended.now } }
+{
+    for report in ended {
+        node.finished(report.1);
+    }
+}
+
+/// Adds acts to those so far.
+pub fn append_acts(acts: &mut Vec<Act>, more: &[Act])
+    requires { length (acts.old.items ++ more.now) ≤ vec_capacity acts.old }
+    ensures acts { acts.new.items ≡ acts.old.items ++ more.now }
+    ensures room { vec_capacity acts.new ≡ vec_capacity acts.old }
+{
+    for act in more {
+        acts.push_reserved(*act);
+    }
+}
