@@ -5,6 +5,7 @@ ghost use Rattle.std.specs.Bool.{OnTrue};
 ghost use Rattle.std.specs.Vec.{vec_capacity};
 ghost use Rattle.cpg_base.specs.Scenario.{IsScenario, full_lengths};
 ghost use Rattle.cpg_table.specs.GraphHead.{head_of};
+ghost use Rattle.cpg_table.specs.Lawful.{AreTablesOf};
 ghost use Rattle.cpg_table.specs.Valid.{IsValid};
 ghost use Rattle.cpg_node.specs.Dispatcher.{next, zip_with};
 ghost use Rattle.cpg_cluster.specs.Cluster.{Took, answer, dispatcher_at};
@@ -101,7 +102,7 @@ impl Cluster {
         tables: &Tables,
         scenario: &Scenario,
     ) -> Result<Cluster, OutOfMemory>
-        requires head { tables.now.head ≡ head_of admitted.now.graph }
+        requires tables { AreTablesOf (head_of admitted.now.graph) tables.now.nodes }
         requires valid { IsValid admitted.now.graph tables.now.nodes }
         requires scenario { IsScenario admitted.now.graph scenario.now }
         ensures { IfOk result (λ c. c ≡ opened admitted.now.graph tables.now.nodes (record { scenario = scenario.now; lengths = full_lengths admitted.now.graph scenario.now })) }
@@ -120,7 +121,7 @@ impl Cluster {
         scenario: &Scenario,
         lengths: &Lengths,
     ) -> Result<Cluster, OutOfMemory>
-        requires head { tables.now.head ≡ head_of admitted.now.graph }
+        requires tables { AreTablesOf (head_of admitted.now.graph) tables.now.nodes }
         requires valid { IsValid admitted.now.graph tables.now.nodes }
         requires world { IsWorld admitted.now.graph (record { scenario = scenario.now; lengths = lengths.now }) }
         ensures { IfOk result (λ c. c ≡ opened admitted.now.graph tables.now.nodes (record { scenario = scenario.now; lengths = lengths.now })) }

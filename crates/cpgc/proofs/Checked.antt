@@ -40,7 +40,7 @@ module _ (seen : Seen) (a : Admission) (t : Tables) (graph pack bytes : Text) (t
       let is = made.2.2 in
       let same = same_tables (seen.stands pack) t u spelled lawful made.2.1 in
       same_admission seen (seen.stands graph) bytes a tells file still b made.1 (λ g o. IsHeadFor g t.head × IsValid g t.nodes)
-      (subst (λ (v : Tables). IsHeadFor b.graph v.head × IsValid b.graph v.nodes) same (is.head, is.safe.valid))
+      (subst (λ (v : Tables). IsHeadFor b.graph v.head × IsValid b.graph v.nodes) same (is.0.head, is.0.safe.valid))
 
   verdict_left : (b : Admission) → Admits (seen.stands graph) b → (u : Tables) → Spells (seen.stands pack) u → (h : Halt) → StopsVerdict b u h → CheckLeft a t h
   verdict_left b admits u spells h (inl other) =

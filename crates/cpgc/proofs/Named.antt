@@ -12,6 +12,7 @@ use Rattle.cpg_words.specs.declared.command.Command.TheVariants.{Show, Compile, 
 use Rattle.cpg_reader.specs.declared.place.ReadFault.{ReadFault}
 use Rattle.cpg_table.specs.Lawful.{Tables}
 use Rattle.cpg_codec.specs.declared.fault.PackFault.{PackFault}
+use Rattle.cpg_scenario.specs.declared.fault.ScenarioFault.{ScenarioFault}
 use Rattle.cpg_rules.specs.Admission.{Admission}
 use Rattle.cpg_rules.specs.declared.admission.RuleFault.{RuleFault}
 use Rattle.cpg_rules.specs.Faults.{ShowsFault}
@@ -20,9 +21,9 @@ use Rattle.cpg_core.specs.Compilation.{ShowsCompileFault}
 use Rattle.cpgc.specs.declared.halt.Refusal.TheVariants.{NotBuilt}
 use Rattle.cpgc.specs.declared.halt.Halt.{Halt}
 use Rattle.cpgc.specs.declared.halt.Halt.TheVariants.{Words, Read, Refused, Unsafe, Memory}
-use Rattle.cpgc.specs.Halts.{halt_of_reading, halt_of_pack, halt_of_rules, halt_of_compile}
+use Rattle.cpgc.specs.Halts.{halt_of_reading, halt_of_pack, halt_of_rules, halt_of_scenario, halt_of_compile}
 use Rattle.cpgc.specs.Lines.{HasLengths, IsNamed}
-use Rattle.cpgc.specs.Causes.{Seen, StopsReading, BreaksRule, IsUnbuiltCommand, StopsGraph, StopsCompile, StopsTables, StopsNaming, StopsVerdict, StopsCommand, StopsAsked, Stops}
+use Rattle.cpgc.specs.Causes.{Seen, StopsReading, BreaksRule, IsUnbuiltCommand, StopsGraph, StopsCompile, StopsTables, StopsNaming, StopsVerdict, StopsPlay, StopsCommand, StopsAsked, Stops}
 
 lengths_of : (g : Graph) (s : Scenario) → IsScenario g s → HasLengths g s
 lengths_of g s is = record { values = is.values; faults = is.faults }
@@ -95,11 +96,21 @@ verdict_named a t h (inl other) = named_as h _ other.halt_is tt
 verdict_named a t h (inr (inl broken)) = named_as h _ broken.halt_is (fault_named a t broken.fault broken.first)
 verdict_named a t h (inr (inr memory)) = named_as h Memory memory tt
 
+of_scenario : (fault : ScenarioFault) → IsNamed (halt_of_scenario fault)
+of_scenario (ScenarioFault.Bad cause) = tt
+of_scenario ScenarioFault.OutOfMemory = tt
+
+play_named : (seen : Seen) (told : Option Text) (a : Admission) (t : Tables) (h : Halt) → StopsPlay seen told a t h → IsNamed h
+play_named seen told a t h (inl (inl unread)) = named_as h Read unread.halt_is tt
+play_named seen told a t h (inl (inr (inl long))) = named_as h _ long.halt_is tt
+play_named seen told a t h (inl (inr (inr none))) = named_as h _ none.halt_is (of_scenario none.fault)
+play_named seen told a t h (inr judged) = verdict_named a t h judged.2
+
 command_named : (seen : Seen) (c : Command) (h : Halt) → StopsCommand seen c h → IsNamed h
 command_named seen (Show graph) h so = graph_named seen (seen.stands graph) StopsCompile compile_named h so
 command_named seen (Compile graph) h so = graph_named seen (seen.stands graph) StopsCompile compile_named h so
 command_named seen (Check graph pack) h so = graph_named seen (seen.stands graph) (λ a. StopsTables seen (seen.stands pack) (StopsVerdict a)) (λ a. tables_named seen (seen.stands pack) (StopsVerdict a) (verdict_named a)) h so
-command_named seen (Play graph pack scenario turns) h so = unbuilt_command_named h so
+command_named seen (Play graph pack scenario turns) h so = graph_named seen (seen.stands graph) (λ a. StopsTables seen (seen.stands pack) (StopsPlay seen (seen.stands scenario) a)) (λ a. tables_named seen (seen.stands pack) (StopsPlay seen (seen.stands scenario) a) (play_named seen (seen.stands scenario) a)) h so
 command_named seen (Node pack name) h so = tables_named seen (seen.stands pack) (λ t. StopsNaming t name) (λ t. naming_named t name) h so
 command_named seen (Trial number) h so = unbuilt_command_named h so
 command_named seen (Live pack name stream) h so = unbuilt_command_named h so

@@ -11,6 +11,7 @@ use Rattle.cpg_words.specs.declared.command.Command.TheVariants.{Show, Compile, 
 use Rattle.cpg_reader.specs.declared.place.ReadFault.{ReadFault}
 use Rattle.cpg_table.specs.Lawful.{Tables}
 use Rattle.cpg_codec.specs.declared.fault.PackFault.{PackFault}
+use Rattle.cpg_scenario.specs.declared.fault.ScenarioFault.{ScenarioFault}
 use Rattle.cpg_rules.specs.Admission.{Admission}
 use Rattle.cpg_rules.specs.declared.admission.RuleFault.{RuleFault}
 use Rattle.cpg_core.specs.declared.fault.CompileFault.{CompileFault}
@@ -18,9 +19,9 @@ use Rattle.cpgc.specs.declared.halt.Refusal.{Refusal}
 use Rattle.cpgc.specs.declared.halt.Refusal.TheVariants.{NotBuilt}
 use Rattle.cpgc.specs.declared.halt.Halt.{Halt}
 use Rattle.cpgc.specs.declared.halt.Halt.TheVariants.{Words, Read, Refused, Late, TooWide, Unsafe, Memory}
-use Rattle.cpgc.specs.Halts.{halt_of_reading, halt_of_pack, halt_of_rules, halt_of_compile}
+use Rattle.cpgc.specs.Halts.{halt_of_reading, halt_of_pack, halt_of_rules, halt_of_scenario, halt_of_compile}
 use Rattle.cpgc.specs.Lines.{status_of}
-use Rattle.cpgc.specs.Causes.{Seen, StopsReading, BreaksRule, IsUnbuiltCommand, StopsGraph, StopsCompile, StopsTables, StopsNaming, StopsVerdict, StopsCommand, StopsAsked, Stops}
+use Rattle.cpgc.specs.Causes.{Seen, StopsReading, BreaksRule, IsUnbuiltCommand, StopsGraph, StopsCompile, StopsTables, StopsNaming, StopsVerdict, StopsPlay, StopsCommand, StopsAsked, Stops}
 
 -- a halt of a command isn't one of its words, and is one of the shelf where its faults rose
 record IsOfCommand (seen : Seen) (h : Halt) : Type 0 where
@@ -91,11 +92,21 @@ of_verdict seen a t h (inl other) = later seen h _ other.halt_is (omega arith)
 of_verdict seen a t h (inr (inl broken)) = later seen h _ broken.halt_is (omega arith)
 of_verdict seen a t h (inr (inr memory)) = later seen h _ memory (omega arith)
 
+of_scenario : (fault : ScenarioFault) → 4 ≤ status_of (halt_of_scenario fault)
+of_scenario (ScenarioFault.Bad cause) = omega arith
+of_scenario ScenarioFault.OutOfMemory = omega arith
+
+of_play : (seen : Seen) (told : Option Text) (a : Admission) (t : Tables) (h : Halt) → StopsPlay seen told a t h → IsOfCommand seen h
+of_play seen told a t h (inl (inl unread)) = let same = ap status_of unread.halt_is in record { not_words = λ one. omega arith; read = λ two. unread.rose }
+of_play seen told a t h (inl (inr (inl long))) = later seen h _ long.halt_is (omega arith)
+of_play seen told a t h (inl (inr (inr none))) = later seen h _ none.halt_is (of_scenario none.fault)
+of_play seen told a t h (inr judged) = of_verdict seen a t h judged.2
+
 of_command : (seen : Seen) (c : Command) (h : Halt) → StopsCommand seen c h → IsOfCommand seen h
 of_command seen (Show graph) h so = of_graph seen (seen.stands graph) StopsCompile (of_made seen) h so
 of_command seen (Compile graph) h so = of_graph seen (seen.stands graph) StopsCompile (of_made seen) h so
 of_command seen (Check graph pack) h so = of_graph seen (seen.stands graph) (λ a. StopsTables seen (seen.stands pack) (StopsVerdict a)) (λ a. of_tables seen (seen.stands pack) (StopsVerdict a) (of_verdict seen a)) h so
-of_command seen (Play graph pack scenario turns) h so = unbuilt_command seen h so
+of_command seen (Play graph pack scenario turns) h so = of_graph seen (seen.stands graph) (λ a. StopsTables seen (seen.stands pack) (StopsPlay seen (seen.stands scenario) a)) (λ a. of_tables seen (seen.stands pack) (StopsPlay seen (seen.stands scenario) a) (of_play seen (seen.stands scenario) a)) h so
 of_command seen (Node pack name) h so = of_tables seen (seen.stands pack) (λ t. StopsNaming t name) (λ t. of_naming seen t name) h so
 of_command seen (Trial number) h so = unbuilt_command seen h so
 of_command seen (Live pack name stream) h so = unbuilt_command seen h so

@@ -19,6 +19,9 @@ use Rattle.cpg_codec.specs.Packs.{AreLawful, IsBadPack}
 use Rattle.cpg_codec.specs.Spelling.{spelling}
 use Rattle.cpg_order.specs.Scenario.{scenarios}
 use Rattle.cpg_table.specs.declared.fault.Fault.{Fault}
+use Rattle.cpg_scenario.specs.File.{file_of}
+use Rattle.cpg_scenario.specs.declared.fault.ScenarioFault.{ScenarioFault}
+use Rattle.cpg_scenario.specs.declared.reading.Played.{Played}
 use Rattle.cpg_violation.specs.Heads.{IsHeadFor}
 use Rattle.cpg_check.specs.declared.heads.HeadPart.{HeadPart}
 use Rattle.cpg_check.specs.Heads.{IsFirstDifference}
@@ -26,10 +29,10 @@ use Rattle.cpg_check.specs.Verdict.{IsFirstFault}
 use Rattle.cpg_core.specs.declared.fault.CompileFault.{CompileFault}
 use Rattle.cpg_core.specs.Compilation.{ShowsCompileFault}
 use Rattle.cpgc.specs.declared.halt.Refusal.{Refusal}
-use Rattle.cpgc.specs.declared.halt.Refusal.TheVariants.{LongGraph, LongPack, OtherGraph, UnknownNode, NotBuilt}
+use Rattle.cpgc.specs.declared.halt.Refusal.TheVariants.{LongGraph, LongPack, LongScenario, OtherGraph, UnknownNode, NotBuilt}
 use Rattle.cpgc.specs.declared.halt.Halt.{Halt}
 use Rattle.cpgc.specs.declared.halt.Halt.TheVariants.{Words, Read, Refused, Unsafe, Memory}
-use Rattle.cpgc.specs.Halts.{halt_of_reading, halt_of_pack, halt_of_rules, halt_of_compile}
+use Rattle.cpgc.specs.Halts.{halt_of_reading, halt_of_pack, halt_of_rules, halt_of_scenario, halt_of_compile}
 
 -- what a run sees of its shelf: what stands under each name, how many bytes the last fetched name gave, and the count
 -- of faults before and after
@@ -39,9 +42,12 @@ pub record Seen : Type 0 where
   pub before : ℕ
   pub now : ℕ
 
--- the most bytes of a graph file, and of a pack
+-- the most bytes of a graph file, of a scenario file, and of a pack
 abbrev pub graph_limit : ℕ
 graph_limit = 16777216
+
+abbrev pub scenario_limit : ℕ
+scenario_limit = 16777216
 
 abbrev pub pack_limit : ℕ
 pack_limit = 268435456
@@ -146,6 +152,23 @@ pub record IsUnsafe (a : Admission) (t : Tables) (halt : Halt) : Type 0 where
 abbrev pub StopsVerdict : Admission → Tables → Halt → Type 0
 StopsVerdict a t halt = IsOtherGraph a t halt ⊎ (IsUnsafe a t halt ⊎ (halt ≡ Memory))
 
+-- the bytes of a scenario file, where the shelf tells them, say a scenario of the graph and lengths
+abbrev pub SaysPlayed : Option Text → Graph → Played → Type 0
+SaysPlayed told g p = IfSome told (λ bytes. file_of g bytes ≡ Ok p)
+
+-- they say none, and this is the first cause
+pub record IsNoScenario (told : Option Text) (g : Graph) (halt : Halt) : Type 0 where
+  pub fault : ScenarioFault
+  pub halt_is : halt ≡ halt_of_scenario fault
+  pub first : fault ≢ ScenarioFault.OutOfMemory → IfSome told (λ bytes. file_of g bytes ≡ Err fault)
+
+abbrev pub StopsPlayed : Seen → Option Text → Graph → Halt → Type 0
+StopsPlayed seen told g halt = IsUnread seen halt ⊎ (IsLong scenario_limit LongScenario seen told halt ⊎ IsNoScenario told g halt)
+
+-- a scenario file stops a run: as it is read, or by the check that comes before its play
+abbrev pub StopsPlay : Seen → Option Text → Admission → Tables → Halt → Type 0
+StopsPlay seen told a t halt = StopsPlayed seen told a.graph halt ⊎ ((p : Played) × SaysPlayed told a.graph p × StopsVerdict a t halt)
+
 -- the number of the first node of a name
 abbrev pub first_named : Head → Text → Option ℕ
 first_named h name = position (λ node. bytes_eq node name) h.nodes
@@ -162,7 +185,7 @@ abbrev pub StopsCommand : Seen → Command → Halt → Type 0
 StopsCommand seen (Show graph) halt = StopsGraph seen (seen.stands graph) StopsCompile halt
 StopsCommand seen (Compile graph) halt = StopsGraph seen (seen.stands graph) StopsCompile halt
 StopsCommand seen (Check graph pack) halt = StopsGraph seen (seen.stands graph) (λ a. StopsTables seen (seen.stands pack) (StopsVerdict a)) halt
-StopsCommand seen (Play graph pack scenario turns) halt = IsUnbuiltCommand halt
+StopsCommand seen (Play graph pack scenario turns) halt = StopsGraph seen (seen.stands graph) (λ a. StopsTables seen (seen.stands pack) (StopsPlay seen (seen.stands scenario) a)) halt
 StopsCommand seen (Node pack name) halt = StopsTables seen (seen.stands pack) (λ t. StopsNaming t name) halt
 StopsCommand seen (Trial number) halt = IsUnbuiltCommand halt
 StopsCommand seen (Live pack name stream) halt = IsUnbuiltCommand halt

@@ -2,10 +2,11 @@
 use Rattle.cpg_base.specs.Graph.{Graph}
 use Rattle.cpg_reader.specs.declared.place.ReadFault.{ReadFault}
 use Rattle.cpg_codec.specs.declared.fault.PackFault.{PackFault}
+use Rattle.cpg_scenario.specs.declared.fault.ScenarioFault.{ScenarioFault}
 use Rattle.cpg_rules.specs.Admission.{Admission}
 use Rattle.cpg_rules.specs.declared.admission.RuleFault.{RuleFault}
 use Rattle.cpg_core.specs.declared.fault.CompileFault.{CompileFault}
-use Rattle.cpgc.specs.declared.halt.Refusal.TheVariants.{NotToml, BadField, DoubleName, UnknownName, OverLimit, Cycle, TwoAlternatives, NoSlot, TooBig, BadPack, TooManyTracks}
+use Rattle.cpgc.specs.declared.halt.Refusal.TheVariants.{NotToml, BadField, DoubleName, UnknownName, OverLimit, Cycle, TwoAlternatives, NoSlot, TooBig, BadPack, BadScenario, TooManyTracks}
 use Rattle.cpgc.specs.declared.halt.Halt.{Halt}
 use Rattle.cpgc.specs.declared.halt.Halt.TheVariants.{Refused, Late, TooWide, Memory}
 
@@ -22,6 +23,11 @@ halt_of_reading ReadFault.OutOfMemory = Memory
 abbrev pub halt_of_pack : PackFault → Halt
 halt_of_pack (PackFault.BadPack length) = Refused (BadPack length)
 halt_of_pack PackFault.OutOfMemory = Memory
+
+-- of the reading of a scenario file
+abbrev pub halt_of_scenario : ScenarioFault → Halt
+halt_of_scenario (ScenarioFault.Bad cause) = Refused (BadScenario cause)
+halt_of_scenario ScenarioFault.OutOfMemory = Memory
 
 -- of the admission of a graph
 abbrev pub halt_of_rules : Graph → RuleFault → Halt

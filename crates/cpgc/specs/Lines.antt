@@ -13,11 +13,12 @@ use Rattle.cpg_reader.specs.declared.place.Place.{Place}
 use Rattle.cpg_reader.specs.declared.place.What.{What}
 use Rattle.cpg_reader.specs.declared.place.What.TheVariants.{Nodes, Slots, Processes, Edges, Number, Conditions}
 use Rattle.cpg_reader.specs.Rows.{text_of}
+use Rattle.cpg_scenario.specs.declared.fault.Cause.{Cause}
 use Rattle.cpg_check.specs.declared.heads.HeadPart.{HeadPart}
 use Rattle.cpg_check.specs.declared.heads.HeadPart.TheVariants.{Faults}
 use Rattle.cpg_table.specs.declared.fault.Fault.{Fault}
 use Rattle.cpgc.specs.declared.halt.Refusal.{Refusal}
-use Rattle.cpgc.specs.declared.halt.Refusal.TheVariants.{NotToml, BadField, DoubleName, UnknownName, OverLimit, Cycle, TwoAlternatives, NoSlot, TooBig, BadPack, LongGraph, LongPack, OtherGraph, TooManyTracks, UnknownNode, NotBuilt}
+use Rattle.cpgc.specs.declared.halt.Refusal.TheVariants.{NotToml, BadField, DoubleName, UnknownName, OverLimit, Cycle, TwoAlternatives, NoSlot, TooBig, BadPack, BadScenario, LongGraph, LongPack, LongScenario, OtherGraph, TooManyTracks, UnknownNode, NotBuilt}
 use Rattle.cpgc.specs.declared.halt.Halt.{Halt}
 use Rattle.cpgc.specs.declared.halt.Halt.TheVariants.{Words, Read, Refused, Late, TooWide, Unsafe, Memory}
 
@@ -74,6 +75,15 @@ cycle_text g walk = codes "6 cycle" ++ flat_map (λ p. codes " " ++ name_of g p)
 abbrev pub alternatives_text : Graph → ℕ → Scenario → List ℕ
 alternatives_text g p s = codes "7 alternatives " ++ case_text g p s
 
+-- what is wrong with a scenario file
+abbrev pub cause_text : Cause → List ℕ
+cause_text Cause.Toml = codes "toml"
+cause_text Cause.Field = codes "field"
+cause_text Cause.Unknown = codes "unknown"
+cause_text Cause.Condition = codes "condition"
+cause_text Cause.Budget = codes "budget"
+cause_text Cause.Length = codes "length"
+
 -- a part of a head
 abbrev pub part_text : HeadPart → List ℕ
 part_text Faults = codes "faults"
@@ -93,8 +103,10 @@ refusal_text (TwoAlternatives g p s) = alternatives_text g p s
 refusal_text (NoSlot g node) = codes "8 slot " ++ node_name g node
 refusal_text (TooBig e) = codes "9 big e" ++ decimal e
 refusal_text (BadPack length) = codes "10 pack " ++ decimal length
+refusal_text (BadScenario cause) = codes "12 scenario " ++ cause_text cause
 refusal_text LongGraph = codes "16 long graph"
 refusal_text LongPack = codes "16 long pack"
+refusal_text LongScenario = codes "16 long scenario"
 refusal_text (OtherGraph part) = codes "17 other graph " ++ part_text part
 refusal_text TooManyTracks = codes "18 tracks"
 refusal_text UnknownNode = codes "19 node"

@@ -18,7 +18,10 @@ use Rattle.cpg_table.specs.Lawful.{Tables}
 use Rattle.cpg_codec.specs.Spelling.{spelling}
 use Rattle.cpgc.specs.declared.output.Output.{Output}
 use Rattle.cpgc.specs.declared.output.Output.TheVariants.{Lines, Pack}
-use Rattle.cpgc.specs.Causes.{Seen, Admits, Spells, first_named}
+use Rattle.cpg_scenario.specs.File.{IsPlayed}
+use Rattle.cpg_scenario.specs.declared.reading.Played.{Played}
+use Rattle.cpgc.specs.Plays.{world_of, IsPlayText}
+use Rattle.cpgc.specs.Causes.{Seen, Admits, SaysPlayed, Spells, first_named}
 
 -- Tables that keep the ten rules, and what follows for the nodes that have them: in every scenario, with all lengths of
 -- executions and in every order of turns, each node starts and sends just what is due, in order and in time, can always go
@@ -67,22 +70,37 @@ IsSpelled told fact = (t : Tables) × Spells told t × fact t
 abbrev pub IsNodeOf : Option Text → Text → Text → Type 0
 IsNodeOf told name text = IsSpelled told (λ t. IsNodeText t name text)
 
--- the tables have the graph's head and are safe, and the text says so
-pub record IsSafeText (a : Admission) (t : Tables) (text : Text) : Type 0 where
+-- the tables have the graph's head and are safe
+pub record AreJudgedSafe (a : Admission) (t : Tables) : Type 0 where
   pub head : IsHeadFor a.graph t.head
   pub safe : AreSafe a.graph t.nodes
-  pub spelled : text ≡ codes "safe\n"
+
+-- and the text says so
+abbrev pub IsSafeText : Admission → Tables → Text → Type 0
+IsSafeText a t text = AreJudgedSafe a t × (text ≡ codes "safe\n")
 
 -- of the graph of a file and the tables of a pack
 abbrev pub IsChecked : Option Text → Option Text → Text → Type 0
 IsChecked graph pack text = (a : Admission) × Admits graph a × IsSpelled pack (λ t. IsSafeText a t text)
+
+-- the text of the play of what a scenario file says
+pub record IsPlayedText (told : Option Text) (a : Admission) (t : Tables) (number : ℕ) (text : Text) : Type 0 where
+  pub judged : AreJudgedSafe a t
+  pub played : Played
+  pub says : SaysPlayed told a.graph played
+  pub lawful : IsPlayed a.graph played
+  pub played_text : IsPlayText a.graph t.nodes (world_of played) number text
+
+-- of the graph of a file and the tables of a pack
+abbrev pub IsPlayOf : Option Text → Option Text → Option Text → ℕ → Text → Type 0
+IsPlayOf graph pack scenario number text = (a : Admission) × Admits graph a × IsSpelled pack (λ t. IsPlayedText scenario a t number text)
 
 -- a command's output
 abbrev pub PrintsCommand : Seen → Command → Text → Type 0
 PrintsCommand seen (Show graph) text = IsMade (seen.stands graph) shown text
 PrintsCommand seen (Compile graph) text = IsMade (seen.stands graph) packed text
 PrintsCommand seen (Check graph pack) text = IsChecked (seen.stands graph) (seen.stands pack) text
-PrintsCommand seen (Play graph pack scenario turns) text = ⊥
+PrintsCommand seen (Play graph pack scenario turns) text = IsPlayOf (seen.stands graph) (seen.stands pack) (seen.stands scenario) turns text
 PrintsCommand seen (Node pack name) text = IsNodeOf (seen.stands pack) name text
 PrintsCommand seen (Trial number) text = ⊥
 PrintsCommand seen (Live pack name stream) text = ⊥

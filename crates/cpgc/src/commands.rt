@@ -1,17 +1,16 @@
 //! What each command does before anything is written.
-ghost use Rattle.std.specs.Prelude.{◌≡◌, ◌<◌, ◌≤◌, ◌++◌, All, IfOk, IfErr, IfSome, length, map, string_bytes};
-ghost use Rattle.std.specs.Prelude.{codes};
+ghost use Rattle.std.specs.Prelude.{◌≡◌, ◌<◌, ◌≤◌, All, IfOk, IfErr, IfSome, length, map, string_bytes};
 ghost use Rattle.std.specs.Str.{bytes_eq};
 ghost use Rattle.cpg_words.specs.FileWords.{file_words, file_words_of};
 ghost use Rattle.cpg_io.specs.Shelf.{SameLeave, SameNames};
 ghost use Rattle.cpg_core.specs.Compilation.{IsCompilation};
-ghost use Rattle.cpgc.specs.declared.halt.Halt.TheVariants.{Memory};
-ghost use Rattle.cpgc.specs.Causes.{Admits, first_named, IsUnbuilt, Stops, StopsAdmission, StopsCommand, StopsCompile, StopsGraph, StopsNaming, StopsTables, StopsVerdict};
-ghost use Rattle.cpgc.specs.Outputs.{bytes_of, packed, shown, AreSafe, IsMade, IsMadeOf, IsNodeOf, IsNodeText, IsChecked, IsSafeText, IsSpelled, Prints, PrintsCommand};
+ghost use Rattle.cpgc.specs.Causes.{Admits, first_named, IsUnbuilt, Stops, StopsAdmission, StopsCommand, StopsCompile, StopsGraph, StopsNaming, StopsPlay, StopsTables, StopsVerdict};
+ghost use Rattle.cpgc.specs.Outputs.{bytes_of, packed, shown, AreJudgedSafe, AreSafe, IsMade, IsMadeOf, IsNodeOf, IsNodeText, IsChecked, IsPlayOf, IsPlayedText, IsSafeText, IsSpelled, Prints, PrintsCommand};
 
 use crate::halt::{Halt, Refusal};
 use crate::output::Output;
-use crate::reading::{admit_graph, read_graph, read_tables};
+use crate::playing::play_text;
+use crate::reading::{admit_graph, read_graph, read_played, read_tables};
 use cpg_base::Name;
 use cpg_check::{Verdict, check};
 use cpg_core::{Compiled, compile};
@@ -125,31 +124,33 @@ fn admit_only<S: Shelf>(alloc: Global, shelf: &mut S, name: &str) -> Halt
     }
 }
 
-/// The output of a check that found no fault.
-fn safe_line(alloc: Global) -> Result<Output, Halt>
-    ensures text { IfOk result (λ o. bytes_of o ≡ codes "safe\n") }
-    ensures halt { IfErr result (λ h. h ≡ Memory) }
-{
-    match String::from_str(alloc, "safe\n") {
-        Ok(text) => Ok(Output::Lines(text)),
-        Err(_) => Err(Halt::Memory),
-    }
-}
-
-/// Whether tables are valid for an admitted graph.
-fn verdict_of(alloc: Global, admitted: Admitted, tables: &Tables) -> Result<Output, Halt>
-    ensures text { IfOk result (λ o. IsSafeText admitted tables.now (bytes_of o)) }
+/// Whether tables are valid for an admitted graph, which comes back where they are.
+fn judged(alloc: Global, admitted: Admitted, tables: &Tables) -> Result<Admitted, Halt>
+    ensures same { IfOk result (λ a. a ≡ admitted) }
+    ensures safe { IfOk result (λ _. AreJudgedSafe admitted tables.now) }
     ensures halt { IfErr result (StopsVerdict admitted tables.now) }
 {
     let _graph = admitted.problem();
     let _head = tables.head();
     match check(alloc, &admitted, tables) {
-        Ok(Verdict::Yes) => safe_line(alloc),
+        Ok(Verdict::Yes) => Ok(admitted),
         Ok(Verdict::Other(part)) => Err(Halt::Refused(Refusal::OtherGraph(part))),
         Ok(Verdict::No(fault)) => Err(Halt::Unsafe {
             graph: admitted,
             fault,
         }),
+        Err(_) => Err(Halt::Memory),
+    }
+}
+
+/// The output of a check of tables for an admitted graph.
+fn verdict_of(alloc: Global, admitted: Admitted, tables: &Tables) -> Result<Output, Halt>
+    ensures text { IfOk result (λ o. IsSafeText admitted tables.now (bytes_of o)) }
+    ensures halt { IfErr result (StopsVerdict admitted tables.now) }
+{
+    let _admitted = judged(alloc, admitted, tables)?;
+    match String::from_str(alloc, "safe\n") {
+        Ok(text) => Ok(Output::Lines(text)),
         Err(_) => Err(Halt::Memory),
     }
 }
@@ -184,6 +185,65 @@ fn check_files<S: Shelf>(
 {
     let admitted = admitted_file(alloc, shelf, graph)?;
     check_pack(alloc, shelf, admitted, pack)
+}
+
+/// Plays tables with what a scenario file says, once they are found valid.
+fn play_scenario<S: Shelf>(
+    alloc: Global,
+    shelf: &mut S,
+    admitted: Admitted,
+    tables: &Tables,
+    scenario: &str,
+    turns: u64,
+) -> Result<Output, Halt>
+    requires { S.may_fetch shelf.old scenario.now }
+    ensures text { IfOk result (λ o. IsPlayedText (S.stands shelf.old scenario.now) admitted tables.now turns (bytes_of o)) }
+    ensures halt { IfErr result (StopsPlay (record { stands = S.stands shelf.old; given = S.given shelf.new; before = S.faults shelf.old; now = S.faults shelf.new }) (S.stands shelf.old scenario.now) admitted tables.now) }
+{
+    let _head = tables.head();
+    let played = read_played(alloc, shelf, scenario, admitted.problem())?;
+    let admitted = judged(alloc, admitted, tables)?;
+    match play_text(alloc, &admitted, tables, &played, turns) {
+        Ok(text) => Ok(Output::Lines(text)),
+        Err(_) => Err(Halt::Memory),
+    }
+}
+
+/// Plays the tables of a pack for an admitted graph.
+fn play_pack<S: Shelf>(
+    alloc: Global,
+    shelf: &mut S,
+    admitted: Admitted,
+    pack: &str,
+    scenario: &str,
+    turns: u64,
+) -> Result<Output, Halt>
+    requires pack { S.may_fetch shelf.old pack.now }
+    requires scenario { S.may_fetch shelf.old scenario.now }
+    ensures text { IfOk result (λ o. IsSpelled (S.stands shelf.old pack.now) (λ t. IsPlayedText (S.stands shelf.old scenario.now) admitted t turns (bytes_of o))) }
+    ensures halt { IfErr result (StopsTables (record { stands = S.stands shelf.old; given = S.given shelf.new; before = S.faults shelf.old; now = S.faults shelf.new }) (S.stands shelf.old pack.now) (StopsPlay (record { stands = S.stands shelf.old; given = S.given shelf.new; before = S.faults shelf.old; now = S.faults shelf.new }) (S.stands shelf.old scenario.now) admitted)) }
+{
+    let tables = read_tables(alloc, shelf, pack)?;
+    play_scenario(alloc, shelf, admitted, &tables, scenario, turns)
+}
+
+/// Plays the tables of a pack for the graph of a file.
+fn play_files<S: Shelf>(
+    alloc: Global,
+    shelf: &mut S,
+    graph: &str,
+    pack: &str,
+    scenario: &str,
+    turns: u64,
+) -> Result<Output, Halt>
+    requires graph { S.may_fetch shelf.old graph.now }
+    requires pack { S.may_fetch shelf.old pack.now }
+    requires scenario { S.may_fetch shelf.old scenario.now }
+    ensures text { IfOk result (λ o. IsPlayOf (S.stands shelf.old graph.now) (S.stands shelf.old pack.now) (S.stands shelf.old scenario.now) turns (bytes_of o)) }
+    ensures halt { IfErr result (StopsGraph (record { stands = S.stands shelf.old; given = S.given shelf.new; before = S.faults shelf.old; now = S.faults shelf.new }) (S.stands shelf.old graph.now) (λ a. StopsTables (record { stands = S.stands shelf.old; given = S.given shelf.new; before = S.faults shelf.old; now = S.faults shelf.new }) (S.stands shelf.old pack.now) (StopsPlay (record { stands = S.stands shelf.old; given = S.given shelf.new; before = S.faults shelf.old; now = S.faults shelf.new }) (S.stands shelf.old scenario.now) a))) }
+{
+    let admitted = admitted_file(alloc, shelf, graph)?;
+    play_pack(alloc, shelf, admitted, pack, scenario, turns)
 }
 
 /// Whether a node has a name.
@@ -239,6 +299,19 @@ fn command_output<S: Shelf>(alloc: Global, shelf: &mut S, command: &Command) -> 
         Command::Check { graph, pack } => {
             check_files(alloc, shelf, graph.as_str(), pack.as_str())
         }
+        Command::Play {
+            graph,
+            pack,
+            scenario,
+            turns,
+        } => play_files(
+            alloc,
+            shelf,
+            graph.as_str(),
+            pack.as_str(),
+            scenario.as_str(),
+            *turns,
+        ),
         Command::Node { pack, name } => node(alloc, shelf, pack.as_str(), name.as_str()),
         Command::Tune { graph } => Err(admit_only(alloc, shelf, graph.as_str())),
         _ => Err(Halt::Refused(Refusal::NotBuilt)),

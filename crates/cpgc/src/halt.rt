@@ -1,7 +1,7 @@
 //! Why a run stops without an output.
 ghost use Rattle.std.specs.Prelude.{◌≡◌, IfErr};
 ghost use Rattle.cpgc.specs.Lines.{status_of};
-ghost use Rattle.cpgc.specs.Halts.{halt_of_reading, halt_of_pack, halt_of_rules, halt_of_compile};
+ghost use Rattle.cpgc.specs.Halts.{halt_of_reading, halt_of_pack, halt_of_rules, halt_of_scenario, halt_of_compile};
 
 use cpg_base::{Problem, Scenario};
 use cpg_check::HeadPart;
@@ -10,6 +10,7 @@ use cpg_core::CompileFault;
 use cpg_order::Walk;
 use cpg_reader::{Place, ReadFault, What};
 use cpg_rules::{Admitted, Refused, RuleFault};
+use cpg_scenario::{Cause, ScenarioFault};
 use cpg_table::Fault;
 
 /// Why a file or a command is refused. A place or a number is always the first one.
@@ -52,10 +53,14 @@ pub enum Refusal {
     TooBig(u32),
     /// The bytes are no pack. The number is the length of the longest prefix of them that is a prefix of some pack.
     BadPack(u64),
+    /// The bytes are no scenario file of the graph.
+    BadScenario(Cause),
     /// The graph file gave more than 16,777,216 bytes.
     LongGraph,
     /// The pack gave more than 268,435,456 bytes.
     LongPack,
+    /// The scenario file gave more than 16,777,216 bytes.
+    LongScenario,
     /// The pack is another graph's: the first part of its head that differs.
     OtherGraph(HeadPart),
     /// The graph has more than 16,384 tracks.
@@ -141,6 +146,16 @@ impl Halt {
         match fault {
             PackFault::BadPack(length) => Halt::Refused(Refusal::BadPack(length)),
             PackFault::OutOfMemory => Halt::Memory,
+        }
+    }
+
+    /// What a refused reading of a scenario file stops a run with.
+    pub fn of_scenario(fault: ScenarioFault) -> Halt
+        ensures { result ≡ halt_of_scenario fault }
+    {
+        match fault {
+            ScenarioFault::Bad(cause) => Halt::Refused(Refusal::BadScenario(cause)),
+            ScenarioFault::OutOfMemory => Halt::Memory,
         }
     }
 

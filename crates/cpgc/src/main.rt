@@ -9,6 +9,7 @@ mod commands;
 mod halt;
 mod lines;
 mod output;
+mod playing;
 mod reading;
 mod refusals;
 mod run;

@@ -2,7 +2,8 @@
 ghost use Rattle.std.specs.Prelude.{◌≡◌, ◌≤◌, IfOk, IfErr};
 ghost use Rattle.cpg_io.specs.Shelf.{SameLeave, SameNames};
 ghost use Rattle.cpg_rules.specs.Admission.{IsAdmitted};
-ghost use Rattle.cpgc.specs.Causes.{BreaksRule, Says, Spells, StopsPack, StopsReading};
+ghost use Rattle.cpgc.specs.Causes.{BreaksRule, Says, SaysPlayed, Spells, StopsPack, StopsPlayed, StopsReading};
+ghost use Rattle.cpg_scenario.specs.File.{IsPlayed};
 
 use crate::halt::{Halt, Refusal};
 use cpg_base::Problem;
@@ -10,11 +11,15 @@ use cpg_codec::read_pack;
 use cpg_io::{ReadAll, Shelf, read_all};
 use cpg_reader::read_problem;
 use cpg_rules::{Admitted, admit};
+use cpg_scenario::{Played, read_scenario};
 use cpg_table::Tables;
 use std::alloc::Global;
 
 /// The most bytes of a graph file.
 const GRAPH_LIMIT: usize = 16_777_216;
+
+/// The most bytes of a scenario file.
+const SCENARIO_LIMIT: usize = 16_777_216;
 
 /// The most bytes of a pack.
 const PACK_LIMIT: usize = 268_435_456;
@@ -55,6 +60,9 @@ pub fn admit_graph(alloc: Global, graph: Problem) -> Result<Admitted, Halt>
 /// Reads a pack whole, and the tables that it spells.
 pub fn read_tables<S: Shelf>(alloc: Global, shelf: &mut S, name: &str) -> Result<Tables, Halt>
     requires { S.may_fetch shelf.old name.now }
+    ensures names { SameNames (S.stands shelf.old) (S.stands shelf.new) }
+    ensures leave { SameLeave (S.may_fetch shelf.old) (S.may_fetch shelf.new) }
+    ensures later { S.faults shelf.old ≤ S.faults shelf.new }
     ensures tables { IfOk result (Spells (S.stands shelf.old name.now)) }
     ensures halt { IfErr result (StopsPack (record { stands = S.stands shelf.old; given = S.given shelf.new; before = S.faults shelf.old; now = S.faults shelf.new }) (S.stands shelf.old name.now)) }
 {
@@ -67,5 +75,29 @@ pub fn read_tables<S: Shelf>(alloc: Global, shelf: &mut S, name: &str) -> Result
     match read_pack(alloc, bytes.as_slice()) {
         Ok(tables) => Ok(tables),
         Err(fault) => Err(Halt::of_pack(fault)),
+    }
+}
+
+/// Reads a scenario file whole, and what it says of a graph.
+pub fn read_played<S: Shelf>(
+    alloc: Global,
+    shelf: &mut S,
+    name: &str,
+    problem: &Problem,
+) -> Result<Played, Halt>
+    requires { S.may_fetch shelf.old name.now }
+    ensures says { IfOk result (SaysPlayed (S.stands shelf.old name.now) problem.now) }
+    ensures played { IfOk result (IsPlayed problem.now) }
+    ensures halt { IfErr result (StopsPlayed (record { stands = S.stands shelf.old; given = S.given shelf.new; before = S.faults shelf.old; now = S.faults shelf.new }) (S.stands shelf.old name.now) problem.now) }
+{
+    let bytes = match read_all(alloc, shelf, name, SCENARIO_LIMIT) {
+        Ok(bytes) => bytes,
+        Err(ReadAll::Failed) => return Err(Halt::Read),
+        Err(ReadAll::TooLong) => return Err(Halt::Refused(Refusal::LongScenario)),
+        Err(ReadAll::OutOfMemory) => return Err(Halt::Memory),
+    };
+    match read_scenario(alloc, problem, bytes.as_slice()) {
+        Ok(played) => Ok(played),
+        Err(fault) => Err(Halt::of_scenario(fault)),
     }
 }

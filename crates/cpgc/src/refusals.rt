@@ -1,12 +1,13 @@
 //! The texts of refusals.
 ghost use Rattle.std.specs.Prelude.{◌≡◌, ◌++◌, OnOk, codes, flat_map, string_bytes};
-ghost use Rattle.cpgc.specs.Lines.{alternatives_text, cycle_text, key_text, name_of, node_name, part_text, place_text, refusal_text, refused_text, table_text, what_text, HasLengths, IsNamedRefusal};
+ghost use Rattle.cpgc.specs.Lines.{alternatives_text, cause_text, cycle_text, key_text, name_of, node_name, part_text, place_text, refusal_text, refused_text, table_text, what_text, HasLengths, IsNamedRefusal};
 
 use crate::halt::Refusal;
 use crate::lines::{name_of, write_case};
 use cpg_base::{OutOfMemory, Problem, Scenario};
 use cpg_check::HeadPart;
 use cpg_reader::{Key, Place, Table, What};
+use cpg_scenario::Cause;
 use std::alloc::AllocError;
 
 fn key_text(key: Key) -> &'static str
@@ -114,6 +115,26 @@ fn write_slot(out: &mut String, problem: &Problem, node: u32) -> Result<(), Allo
     write!(out, "8 slot {name}")
 }
 
+fn cause_text(cause: Cause) -> &'static str
+    ensures { result.now ≡ cause_text cause }
+{
+    match cause {
+        Cause::Toml => "toml",
+        Cause::Field => "field",
+        Cause::Unknown => "unknown",
+        Cause::Condition => "condition",
+        Cause::Budget => "budget",
+        Cause::Length => "length",
+    }
+}
+
+fn write_scenario(out: &mut String, cause: Cause) -> Result<(), AllocError>
+    ensures { OnOk result (string_bytes out.new ≡ string_bytes out.old ++ (codes "12 scenario " ++ cause_text cause)) }
+{
+    let cause = cause_text(cause);
+    write!(out, "12 scenario {cause}")
+}
+
 fn part_text(part: HeadPart) -> &'static str
     ensures { result.now ≡ part_text part }
 {
@@ -151,8 +172,10 @@ fn write_refusal(out: &mut String, refusal: &Refusal) -> Result<(), OutOfMemory>
         Refusal::NoSlot { graph, node } => write_slot(out, graph, *node)?,
         Refusal::TooBig(edge) => write!(out, "9 big e{edge}")?,
         Refusal::BadPack(length) => write!(out, "10 pack {length}")?,
+        Refusal::BadScenario(cause) => write_scenario(out, *cause)?,
         Refusal::LongGraph => out.push_str("16 long graph")?,
         Refusal::LongPack => out.push_str("16 long pack")?,
+        Refusal::LongScenario => out.push_str("16 long scenario")?,
         Refusal::OtherGraph(part) => write_other(out, *part)?,
         Refusal::TooManyTracks => out.push_str("18 tracks")?,
         Refusal::UnknownNode => out.push_str("19 node")?,

@@ -15,7 +15,7 @@ returns-clause-halt g c =
     let graph : Option Text = S.stands c.args.shelf.now c.args.graph.now in
     let pack : Option Text = S.stands c.args.shelf.now c.args.pack.now in
     if_err {P = StopsTables middle (S.stands c.admitted_file.new.shelf c.args.pack.now) (StopsVerdict a)} {Q = StopsGraph seen graph (λ b. StopsTables seen pack (StopsVerdict b))} c.check_pack.result
-    (λ h so. inr (a, read.graph, tables_later seen (S.stands c.admitted_file.new.shelf) (S.faults c.admitted_file.new.shelf) read.later pack (StopsVerdict a) h (subst (λ t. StopsTables middle t (StopsVerdict a) h) (read.names c.args.pack.now) so)))
+    (λ h so. inr (a, read.graph, tables_later seen (S.stands c.admitted_file.new.shelf) (S.faults c.admitted_file.new.shelf) read.later pack (StopsVerdict a) (StopsVerdict a) (λ t k w. w) h (subst (λ t. StopsTables middle t (StopsVerdict a) h) (read.names c.args.pack.now) so)))
     c.check_pack.ensures.halt
 
 pub returns-clause-text : goal.returns-clause-text

@@ -26,7 +26,7 @@ open' : (c : goal.In_ok-lengths) → AreOpen c.args.admitted.now.graph c.args.ta
 open' c = subst (λ (g : Graph). AreOpen g c.args.tables.now.nodes (length c.args.tables.now.nodes) c.in_ok-members.members.items) c.problem.ensures.problem c.in_ok-members.ensures.members
 
 of : (c : goal.In_ok-lengths) → AreTablesOf (head_of c.args.admitted.now.graph) c.args.tables.now.nodes
-of c = subst (λ (h : Head). AreTablesOf h c.args.tables.now.nodes) c.requires.head c.in_ok-members.ensures.lawful
+of c = c.requires.tables
 
 pub invariant_of-result : goal.invariant_of-result
 invariant_of-result c =
