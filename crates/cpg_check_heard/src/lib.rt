@@ -7,5 +7,7 @@ mod hearing;
 mod items;
 mod parts;
 mod tellers;
+#[cfg(test)]
+mod tests;
 
 pub use heard::check_heard;
