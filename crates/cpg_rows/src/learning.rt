@@ -14,14 +14,14 @@ ghost use Rattle.cpg_rows.specs.Made.{columns_of_rows};
 ghost use Rattle.cpg_rows.specs.Narrowing.{IsNarrowed, met, told_in};
 
 use crate::cubes::{narrow, narrow_to_number};
-use crate::items::{broadcast_item, columns_of, is_message, message_item, node_of};
+use crate::items::{broadcast_item, is_message, message_item, node_of, row_of};
 use crate::least::FIRST_VALUE;
+use crate::timed::TimedRow;
 use cpg_base::{OutOfMemory, Problem, Scenario};
 use cpg_cube::Cube;
 use cpg_order::Links;
 use cpg_rules::Admitted;
 use cpg_run::RunTimes;
-use cpg_table::{Entry, Row};
 use std::alloc::Global;
 
 /// The conditions that decide a process.
@@ -100,30 +100,24 @@ pub(crate) fn narrow_by_decided(
     Ok(())
 }
 
-/// The place of the first column of a time that matches.
-fn place_of(columns: &[Entry], time: u64, scenario: &Scenario) -> Option<usize>
-    ensures { result ≡ position (λ c. (c.time == time) && matches c.cube scenario.now) columns.now }
-{
-    columns.iter().position(|column| column.time == time && column.cube.matches(scenario))
-}
-
 /// Narrows a cube by the column that matches, if there is one, at the time of the item.
 fn narrow_by_told(
     alloc: Global,
-    columns: &[Entry],
+    row: &TimedRow,
     time: Option<u64>,
     scenario: &Scenario,
     cube: &mut Cube,
 ) -> Result<(), OutOfMemory>
-    requires { times_in columns.now scenario.now ≡ option_to_list time }
-    ensures { OnOk result (cube.new ≡ met cube.old (told_in columns.now scenario.now)) }
+    requires { times_in row.now.columns scenario.now ≡ option_to_list time }
+    ensures { OnOk result (cube.new ≡ met cube.old (told_in row.now.columns scenario.now)) }
 {
     let Some(time) = time else {
         return Ok(());
     };
-    let Some(place) = place_of(columns, time, scenario) else {
+    let Some(place) = row.find(time, scenario) else {
         return Ok(());
     };
+    let columns = row.columns();
     narrow(alloc, cube, columns[place].cube.literals())?;
     Ok(())
 }
@@ -132,7 +126,7 @@ fn narrow_by_told(
 fn narrow_by_frame(
     alloc: Global,
     problem: &Problem,
-    rows: &[Row],
+    rows: &[TimedRow],
     scenario: &Scenario,
     times: &RunTimes,
     item: u32,
@@ -141,8 +135,8 @@ fn narrow_by_frame(
     requires { IsTold problem.now (columns_of_rows rows.now) scenario.now times.now item }
     ensures { OnOk result (IsNarrowed problem.now.faults (told_by (columns_of_rows rows.now) scenario.now item) cube.old cube.new) }
 {
-    let columns = columns_of(rows, item);
-    narrow_by_told(alloc, columns, times.time(item), scenario, cube)?;
+    let row = row_of(rows, item);
+    narrow_by_told(alloc, row, times.time(item), scenario, cube)?;
     Ok(())
 }
 
@@ -150,7 +144,7 @@ fn narrow_by_frame(
 fn narrow_by_condition(
     alloc: Global,
     problem: &Problem,
-    rows: &[Row],
+    rows: &[TimedRow],
     scenario: &Scenario,
     times: &RunTimes,
     node: u32,
@@ -173,7 +167,7 @@ fn narrow_by_condition(
 fn narrow_by_conditions(
     alloc: Global,
     problem: &Problem,
-    rows: &[Row],
+    rows: &[TimedRow],
     scenario: &Scenario,
     times: &RunTimes,
     node: u32,
@@ -196,7 +190,7 @@ fn narrow_by_conditions(
 pub(crate) fn narrow_by_heard(
     alloc: Global,
     problem: &Problem,
-    rows: &[Row],
+    rows: &[TimedRow],
     scenario: &Scenario,
     times: &RunTimes,
     process: u32,
@@ -219,7 +213,7 @@ pub(crate) fn narrow_by_heard(
 fn narrow_by_input(
     alloc: Global,
     problem: &Problem,
-    rows: &[Row],
+    rows: &[TimedRow],
     scenario: &Scenario,
     times: &RunTimes,
     edge: u32,
@@ -241,7 +235,7 @@ fn narrow_by_input(
 fn narrow_by_inputs(
     alloc: Global,
     problem: &Problem,
-    rows: &[Row],
+    rows: &[TimedRow],
     scenario: &Scenario,
     times: &RunTimes,
     edges: &[u32],
@@ -262,7 +256,7 @@ pub(crate) fn narrow_by_received(
     alloc: Global,
     problem: &Problem,
     links: &Links,
-    rows: &[Row],
+    rows: &[TimedRow],
     scenario: &Scenario,
     times: &RunTimes,
     process: u32,

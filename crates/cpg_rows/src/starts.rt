@@ -19,12 +19,13 @@ use crate::cubes::narrow_to_number;
 use crate::learning::{deciding, narrow_by_decided, narrow_by_heard, narrow_by_received};
 use crate::least::{kept, push_entry};
 use crate::state::Cubes;
+use crate::timed::TimedRow;
 use cpg_base::{OutOfMemory, Problem, Scenario};
 use cpg_cube::Cube;
 use cpg_order::{Links, Order};
 use cpg_rules::Admitted;
 use cpg_run::{Frozen, RunTimes};
-use cpg_table::{Entry, Row};
+use cpg_table::Entry;
 use std::alloc::Global;
 
 /// Whether a process is frozen.
@@ -61,7 +62,7 @@ fn started(
     alloc: Global,
     problem: &Problem,
     links: &Links,
-    rows: &[Row],
+    rows: &[TimedRow],
     scenario: &Scenario,
     times: &RunTimes,
     time: u64,
@@ -92,7 +93,7 @@ fn start_in(
     alloc: Global,
     admitted: &Admitted,
     links: &Links,
-    rows: &[Row],
+    rows: &[TimedRow],
     scenario: &Scenario,
     times: &RunTimes,
     process: u32,
@@ -134,7 +135,7 @@ pub(crate) fn start_entries(
     frozen: &Frozen,
     scenarios: &[Scenario],
     runs: &[RunTimes],
-    rows: &[Row],
+    rows: &[TimedRow],
     process: u32,
     known: &mut Cubes,
 ) -> Result<Vec<Entry>, OutOfMemory>
