@@ -16,7 +16,7 @@ ghost use Rattle.cpg_rows.specs.Narrowing.{IsNarrowed, met, told_in};
 use crate::cubes::{narrow, narrow_to_number};
 use crate::items::{broadcast_item, is_message, message_item, node_of, row_of};
 use crate::least::FIRST_VALUE;
-use crate::timed::TimedRow;
+use crate::timed::{Hints, TimedRow};
 use cpg_base::{OutOfMemory, Problem, Scenario};
 use cpg_cube::Cube;
 use cpg_order::Links;
@@ -104,8 +104,10 @@ pub(crate) fn narrow_by_decided(
 fn narrow_by_told(
     alloc: Global,
     row: &TimedRow,
+    item: u32,
     time: Option<u64>,
     scenario: &Scenario,
+    hints: &mut Hints,
     cube: &mut Cube,
 ) -> Result<(), OutOfMemory>
     requires { times_in row.now.columns scenario.now ≡ option_to_list time }
@@ -114,9 +116,10 @@ fn narrow_by_told(
     let Some(time) = time else {
         return Ok(());
     };
-    let Some(place) = row.find(time, scenario) else {
+    let Some(place) = row.find(time, scenario, hints.last(item)) else {
         return Ok(());
     };
+    hints.note(item, place);
     let columns = row.columns();
     narrow(alloc, cube, columns[place].cube.literals())?;
     Ok(())
@@ -129,6 +132,7 @@ fn narrow_by_frame(
     rows: &[TimedRow],
     scenario: &Scenario,
     times: &RunTimes,
+    hints: &mut Hints,
     item: u32,
     cube: &mut Cube,
 ) -> Result<(), OutOfMemory>
@@ -136,7 +140,7 @@ fn narrow_by_frame(
     ensures { OnOk result (IsNarrowed problem.now.faults (told_by (columns_of_rows rows.now) scenario.now item) cube.old cube.new) }
 {
     let row = row_of(rows, item);
-    narrow_by_told(alloc, row, times.time(item), scenario, cube)?;
+    narrow_by_told(alloc, row, item, times.time(item), scenario, hints, cube)?;
     Ok(())
 }
 
@@ -147,6 +151,7 @@ fn narrow_by_condition(
     rows: &[TimedRow],
     scenario: &Scenario,
     times: &RunTimes,
+    hints: &mut Hints,
     node: u32,
     condition: u32,
     cube: &mut Cube,
@@ -159,7 +164,7 @@ fn narrow_by_condition(
         return Ok(());
     }
     let item = broadcast_item(problem, condition);
-    narrow_by_frame(alloc, problem, rows, scenario, times, item, cube)?;
+    narrow_by_frame(alloc, problem, rows, scenario, times, hints, item, cube)?;
     Ok(())
 }
 
@@ -170,6 +175,7 @@ fn narrow_by_conditions(
     rows: &[TimedRow],
     scenario: &Scenario,
     times: &RunTimes,
+    hints: &mut Hints,
     node: u32,
     conditions: &[u32],
     cube: &mut Cube,
@@ -180,7 +186,7 @@ fn narrow_by_conditions(
 {
     for condition in conditions {
         narrow_by_condition(
-            alloc, problem, rows, scenario, times, node, *condition, cube,
+            alloc, problem, rows, scenario, times, hints, node, *condition, cube,
         )?;
     }
     Ok(())
@@ -193,6 +199,7 @@ pub(crate) fn narrow_by_heard(
     rows: &[TimedRow],
     scenario: &Scenario,
     times: &RunTimes,
+    hints: &mut Hints,
     process: u32,
     conditions: &[u32],
     cube: &mut Cube,
@@ -204,7 +211,7 @@ pub(crate) fn narrow_by_heard(
 {
     let node = node_of(problem, process);
     narrow_by_conditions(
-        alloc, problem, rows, scenario, times, node, conditions, cube,
+        alloc, problem, rows, scenario, times, hints, node, conditions, cube,
     )?;
     Ok(())
 }
@@ -216,6 +223,7 @@ fn narrow_by_input(
     rows: &[TimedRow],
     scenario: &Scenario,
     times: &RunTimes,
+    hints: &mut Hints,
     edge: u32,
     cube: &mut Cube,
 ) -> Result<(), OutOfMemory>
@@ -227,7 +235,7 @@ fn narrow_by_input(
         return Ok(());
     }
     let item = message_item(problem, edge);
-    narrow_by_frame(alloc, problem, rows, scenario, times, item, cube)?;
+    narrow_by_frame(alloc, problem, rows, scenario, times, hints, item, cube)?;
     Ok(())
 }
 
@@ -238,6 +246,7 @@ fn narrow_by_inputs(
     rows: &[TimedRow],
     scenario: &Scenario,
     times: &RunTimes,
+    hints: &mut Hints,
     edges: &[u32],
     cube: &mut Cube,
 ) -> Result<(), OutOfMemory>
@@ -246,7 +255,7 @@ fn narrow_by_inputs(
     ensures { OnOk result (IsNarrowed problem.now.faults (flat_map (received_by problem.now (columns_of_rows rows.now) scenario.now) edges.now) cube.old cube.new) }
 {
     for edge in edges {
-        narrow_by_input(alloc, problem, rows, scenario, times, *edge, cube)?;
+        narrow_by_input(alloc, problem, rows, scenario, times, hints, *edge, cube)?;
     }
     Ok(())
 }
@@ -259,6 +268,7 @@ pub(crate) fn narrow_by_received(
     rows: &[TimedRow],
     scenario: &Scenario,
     times: &RunTimes,
+    hints: &mut Hints,
     process: u32,
     cube: &mut Cube,
 ) -> Result<(), OutOfMemory>
@@ -268,6 +278,6 @@ pub(crate) fn narrow_by_received(
     ensures { OnOk result (IsNarrowed problem.now.faults (received problem.now (columns_of_rows rows.now) scenario.now process) cube.old cube.new) }
 {
     let edges = links.inputs(process);
-    narrow_by_inputs(alloc, problem, rows, scenario, times, edges, cube)?;
+    narrow_by_inputs(alloc, problem, rows, scenario, times, hints, edges, cube)?;
     Ok(())
 }

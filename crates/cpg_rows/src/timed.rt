@@ -1,11 +1,14 @@
 //! Rows that are searched by time.
-ghost use Rattle.std.specs.Prelude.{◌≡◌, ◌<◌, ◌≤◌, ℕ, [], IfOk, get_or, length, map};
+ghost use Rattle.std.specs.Prelude.{◌≡◌, ◌<◌, ◌≤◌, ℕ, [], IfOk, IsTrue, Some, get_or, length, map};
 ghost use Rattle.cpg_rows.specs.TimeOrder.{Timed, IsTimeOrder, StartsAt, FindsHit};
 
 use cpg_base::{OutOfMemory, Scenario};
 use cpg_table::{Entry, Row};
 use std::alloc::Global;
 use std::marker::Model;
+
+/// How many columns are tried before the search by time.
+const NEAR: usize = 4;
 
 /// The time of a column, and its place in the row.
 #[derive(Clone, Copy, Debug, PartialEq, Eq, PartialOrd, Ord)]
@@ -67,6 +70,43 @@ fn ordered_by_time(alloc: Global, columns: &[Entry]) -> Result<Vec<Timed>, OutOf
     Ok(by_time)
 }
 
+/// The places at which the columns of items matched last, which are tried first.
+#[derive(Drop)]
+pub(crate) struct Hints {
+    places: Vec<usize>,
+}
+
+impl Hints {
+    /// A place for each item.
+    pub(crate) fn new(alloc: Global, count: usize) -> Result<Hints, OutOfMemory> {
+        Ok(Hints {
+            places: vec![in alloc; 0usize; count]?,
+        })
+    }
+
+    /// Where the column of an item matched last.
+    pub(crate) fn last(&self, item: u32) -> usize {
+        self.places.get(item as usize).copied().unwrap_or(0)
+    }
+
+    /// Notes where the column of an item matches.
+    pub(crate) fn note(&mut self, item: u32, place: usize) {
+        if (item as usize) < self.places.len() {
+            self.places[item as usize] = place;
+        }
+    }
+}
+
+/// Whether the column at a place has a time and matches, if there is one.
+fn is_hit(columns: &[Entry], place: usize, time: u64, scenario: &Scenario) -> bool
+    ensures { IsTrue result → FindsHit columns.now time scenario.now (Some place) }
+{
+    match columns.get(place) {
+        Some(column) => column.time == time && column.cube.matches(scenario),
+        None => false,
+    }
+}
+
 /// The place of a column of a time that matches.
 fn hit(columns: &[Entry], by_time: &[Timed], time: u64, scenario: &Scenario) -> Option<usize>
     requires { IsTimeOrder columns.now by_time.now }
@@ -121,10 +161,16 @@ impl TimedRow {
         self.columns.as_slice()
     }
 
-    /// The place of a column of a time that matches.
-    pub(crate) fn find(&self, time: u64, scenario: &Scenario) -> Option<usize>
+    /// The place of a column of a time that matches, those next to a likely place tried first: scenarios that follow each
+    /// other mostly match columns that do.
+    pub(crate) fn find(&self, time: u64, scenario: &Scenario, likely: usize) -> Option<usize>
         ensures { FindsHit self.now.columns time scenario.now result }
     {
+        for place in likely..likely.saturating_add(NEAR) {
+            if is_hit(self.columns.as_slice(), place, time, scenario) {
+                return Some(place);
+            }
+        }
         hit(
             self.columns.as_slice(),
             self.by_time.as_slice(),
