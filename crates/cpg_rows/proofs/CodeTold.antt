@@ -1,12 +1,9 @@
 -- What the column that matches tells, and cubes that are narrowed by one list of literals after another.
-use Rattle.std.proofs.Common.{◌≡◌, ◌≢◌, ◌∙◌, ℕ, ◌+◌, ◌<◌, ◌≤◌, Bool, true, false, ◌&&◌, ◌==◌, List, [], ◌∷◌, ◌++◌, length, get_or, take, map, filter, flat_map, position, Contains, Some, None, arith, refl, sym, ap, inl, inr, subst, eq-eqb, ne_eqb, lt-ltb}
-use Rattle.std.specs.List.{position_or_len}
-use Rattle.std.proofs.lemmas.Bool.{cases_lt, and_parts, and_from, both_ways, cond-true, cond-false}
+use Rattle.std.proofs.Common.{◌≡◌, ◌≢◌, ◌∙◌, ℕ, ◌+◌, ◌<◌, ◌≤◌, true, false, List, [], ◌∷◌, ◌++◌, length, get_or, take, map, filter, flat_map, Contains, arith, refl, sym, ap, subst, eq-eqb, ne_eqb}
+use Rattle.std.proofs.lemmas.Bool.{both_ways, cond-true, cond-false}
 use Rattle.std.proofs.lemmas.Grind.{flat_map-append}
 use Rattle.std.proofs.lemmas.List.{append-nil, length-map, map_more, take_more}
 use Rattle.std.proofs.lemmas.List.Elements.{All-contains}
-use Rattle.std.proofs.lemmas.List.Quantifiers.{position-Some}
-use Rattle.std.proofs.lemmas.List.Sums.{fails_before_first}
 use Rattle.cpg_base.specs.Graph.{Graph, node_of, process_of, is_message, message_item, broadcast_item}
 use Rattle.cpg_base.proofs.Lists.{Contains-first, Contains-map, Contains-map_parts, Contains-filter, Contains-filter_parts, Contains-flat_map, Contains-flat_map_parts}
 use Rattle.cpg_order.specs.Scenario.{Scenario}
@@ -24,20 +21,7 @@ no_element : {X : Type 0} (f : X → ℕ) (xs : List X) → map f xs ≡ [] → 
 no_element f [] e = refl
 no_element f (x ∷ xs) e = absurd (omega (arith, ap length e))
 
-some_none : (n : ℕ) → Some n ≡ None → ⊥
-some_none n e = cc
-
--- where no place is found nothing passes
-no_place : {X : Type 0} (p : X → Bool) (xs : List X) → position p xs ≡ None → (x : X) → Contains xs x → p x ≡ true → ⊥
-no_place p xs e x j t = elim (cases_lt j.0 (position_or_len p xs)) [
-  | inl h ↦ both_ways (p x) (subst (λ y. p y ≡ false) j.2 (fails_before_first p xs j.0 x h)) t
-  | inr h ↦ some_none (position_or_len p xs) (sym (cond-true _ _ _ (lt-ltb (position_or_len p xs) (length xs) (omega (arith, h, j.1)))) ∙ e)
-]
-
 -- ---- the column that matches
-
-abbrev IsHit : ℕ → Scenario → Column → Bool
-IsHit time s c = (c.time == time) && matches c.cube s
 
 module _ (columns : List Column) (s : Scenario) where
   pub told_none : times_in columns s ≡ [] → told_in columns s ≡ []
@@ -51,19 +35,18 @@ module _ (columns : List Column) (s : Scenario) where
       (All-contains (λ (c : Column). (i : ℕ) (d : Literal) → i < length c.cube → (get_or c.cube i d).high ≤ top k (get_or c.cube i d).variable) columns r.0 within q.0) r.2
 
   module _ (time : ℕ) (one : times_in columns s ≡ time ∷ []) where
-    pub told_found : (i : ℕ) (c : Column) → position (IsHit time s) columns ≡ Some i → c ≡ get_or columns i c → told_in columns s ≡ c.cube
-    told_found i c at is =
-        let p = position-Some (IsHit time s) columns i c at in
-        let hit : IsHit time s c ≡ true = ap (IsHit time s) is ∙ p.1 in
+    pub told_found : (i : ℕ) (c : Column) → i < length columns → c ≡ get_or columns i c → matches c.cube s ≡ true → told_in columns s ≡ c.cube
+    told_found i c l is hit =
         let f = filter (λ (c : Column). matches c.cube s) columns in
-        let k = Contains-filter (λ (c : Column). matches c.cube s) columns c (and_parts _ _ hit).1 (i, p.0, sym is) in
+        let k = Contains-filter (λ (c : Column). matches c.cube s) columns c hit (i, l, sym is) in
         ap (flat_map (λ (c : Column). c.cube)) (the_one f c (omega (arith, length-map f (λ (c : Column). c.time), ap length one)) k) ∙ append-nil c.cube
 
-    pub told_missing : position (IsHit time s) columns ≡ None → ⊥
+    pub told_missing : ((k : ℕ) (c : Column) → k < length columns → (get_or columns k c).time ≡ time → matches (get_or columns k c).cube s ≡ false) → ⊥
     told_missing none =
         let r = Contains-map_parts (λ (c : Column). c.time) (filter (λ (c : Column). matches c.cube s) columns) time (subst (λ ts. Contains ts time) (sym one) (Contains-first time [])) in
         let q = Contains-filter_parts (λ (c : Column). matches c.cube s) columns r.0 r.1 in
-        no_place (IsHit time s) columns none r.0 q.0 (and_from _ _ (eq-eqb r.0.time time r.2) q.1)
+        let at : get_or columns q.0.0 r.0 ≡ r.0 = q.0.2 in
+        both_ways (matches r.0.cube s) (subst (λ (c : Column). matches c.cube s ≡ false) at (none q.0.0 r.0 q.0.1 (ap (λ (c : Column). c.time) at ∙ r.2))) q.1
 
 -- ---- narrowing by one list after another
 

@@ -21,3 +21,4 @@ pub mod CodeSame
 pub mod CodeMade
 pub mod CodeQueue
 pub mod CodeFirst
+pub mod CodeTimes

@@ -4,3 +4,4 @@ pub mod RowLaws
 pub mod Narrowing
 pub mod Learning
 pub mod Made
+pub mod TimeOrder

@@ -7,9 +7,9 @@ ghost use Rattle.cpg_times.specs.Plan.{broadcasts_of, queue_of};
 ghost use Rattle.cpg_rows.specs.Carried.{row_at};
 ghost use Rattle.cpg_rows.specs.Made.{columns_of_rows};
 
+use crate::timed::TimedRow;
 use cpg_base::{OutOfMemory, Problem};
 use cpg_order::Links;
-use cpg_table::{Entry, Row};
 use std::alloc::Global;
 
 /// The node of a process.
@@ -111,23 +111,24 @@ pub(crate) fn queue(
     Ok(items)
 }
 
-/// The columns of an item.
-pub(crate) fn columns_of(rows: &[Row], item: u32) -> &[Entry]
+/// The row of an item.
+pub(crate) fn row_of(rows: &[TimedRow], item: u32) -> &TimedRow
     requires { item < length rows.now }
-    ensures { result.now ≡ row_at (columns_of_rows rows.now) item }
+    ensures { result.now.columns ≡ row_at (columns_of_rows rows.now) item }
 {
-    rows[item as usize].entries()
+    &rows[item as usize]
 }
 
 /// A row without columns for each item.
-pub(crate) fn empty_rows(alloc: Global, problem: &Problem) -> Result<Vec<Row>, OutOfMemory>
+pub(crate) fn empty_rows(alloc: Global, problem: &Problem) -> Result<Vec<TimedRow>, OutOfMemory>
     ensures { IfOk result (λ rows. rows.items ≡ map (λ x. record { item = x; columns = [] }) (numbers_below (item_count problem.now))) }
 {
     let count = item_count(problem);
     let mut rows = Vec::new(alloc);
     rows.reserve(count as usize)?;
     for item in 0..count {
-        rows.push(Row::new(item, Vec::new(alloc)))?;
+        let row = TimedRow::new(alloc, item, Vec::new(alloc))?;
+        rows.push(row)?;
     }
     Ok(rows)
 }

@@ -14,14 +14,14 @@ ghost use Rattle.cpg_rows.specs.Made.{columns_of_rows};
 ghost use Rattle.cpg_rows.specs.Narrowing.{IsNarrowed, met, told_in};
 
 use crate::cubes::{narrow, narrow_to_number};
-use crate::items::{broadcast_item, columns_of, is_message, message_item, node_of};
+use crate::items::{broadcast_item, is_message, message_item, node_of, row_of};
 use crate::least::FIRST_VALUE;
+use crate::timed::{Hints, TimedRow};
 use cpg_base::{OutOfMemory, Problem, Scenario};
 use cpg_cube::Cube;
 use cpg_order::Links;
 use cpg_rules::Admitted;
 use cpg_run::RunTimes;
-use cpg_table::{Entry, Row};
 use std::alloc::Global;
 
 /// The conditions that decide a process.
@@ -100,30 +100,27 @@ pub(crate) fn narrow_by_decided(
     Ok(())
 }
 
-/// The place of the first column of a time that matches.
-fn place_of(columns: &[Entry], time: u64, scenario: &Scenario) -> Option<usize>
-    ensures { result ≡ position (λ c. (c.time == time) && matches c.cube scenario.now) columns.now }
-{
-    columns.iter().position(|column| column.time == time && column.cube.matches(scenario))
-}
-
 /// Narrows a cube by the column that matches, if there is one, at the time of the item.
 fn narrow_by_told(
     alloc: Global,
-    columns: &[Entry],
+    row: &TimedRow,
+    item: u32,
     time: Option<u64>,
     scenario: &Scenario,
+    hints: &mut Hints,
     cube: &mut Cube,
 ) -> Result<(), OutOfMemory>
-    requires { times_in columns.now scenario.now ≡ option_to_list time }
-    ensures { OnOk result (cube.new ≡ met cube.old (told_in columns.now scenario.now)) }
+    requires { times_in row.now.columns scenario.now ≡ option_to_list time }
+    ensures { OnOk result (cube.new ≡ met cube.old (told_in row.now.columns scenario.now)) }
 {
     let Some(time) = time else {
         return Ok(());
     };
-    let Some(place) = place_of(columns, time, scenario) else {
+    let Some(place) = row.find(time, scenario, hints.last(item)) else {
         return Ok(());
     };
+    hints.note(item, place);
+    let columns = row.columns();
     narrow(alloc, cube, columns[place].cube.literals())?;
     Ok(())
 }
@@ -132,17 +129,18 @@ fn narrow_by_told(
 fn narrow_by_frame(
     alloc: Global,
     problem: &Problem,
-    rows: &[Row],
+    rows: &[TimedRow],
     scenario: &Scenario,
     times: &RunTimes,
+    hints: &mut Hints,
     item: u32,
     cube: &mut Cube,
 ) -> Result<(), OutOfMemory>
     requires { IsTold problem.now (columns_of_rows rows.now) scenario.now times.now item }
     ensures { OnOk result (IsNarrowed problem.now.faults (told_by (columns_of_rows rows.now) scenario.now item) cube.old cube.new) }
 {
-    let columns = columns_of(rows, item);
-    narrow_by_told(alloc, columns, times.time(item), scenario, cube)?;
+    let row = row_of(rows, item);
+    narrow_by_told(alloc, row, item, times.time(item), scenario, hints, cube)?;
     Ok(())
 }
 
@@ -150,9 +148,10 @@ fn narrow_by_frame(
 fn narrow_by_condition(
     alloc: Global,
     problem: &Problem,
-    rows: &[Row],
+    rows: &[TimedRow],
     scenario: &Scenario,
     times: &RunTimes,
+    hints: &mut Hints,
     node: u32,
     condition: u32,
     cube: &mut Cube,
@@ -165,7 +164,7 @@ fn narrow_by_condition(
         return Ok(());
     }
     let item = broadcast_item(problem, condition);
-    narrow_by_frame(alloc, problem, rows, scenario, times, item, cube)?;
+    narrow_by_frame(alloc, problem, rows, scenario, times, hints, item, cube)?;
     Ok(())
 }
 
@@ -173,9 +172,10 @@ fn narrow_by_condition(
 fn narrow_by_conditions(
     alloc: Global,
     problem: &Problem,
-    rows: &[Row],
+    rows: &[TimedRow],
     scenario: &Scenario,
     times: &RunTimes,
+    hints: &mut Hints,
     node: u32,
     conditions: &[u32],
     cube: &mut Cube,
@@ -186,7 +186,7 @@ fn narrow_by_conditions(
 {
     for condition in conditions {
         narrow_by_condition(
-            alloc, problem, rows, scenario, times, node, *condition, cube,
+            alloc, problem, rows, scenario, times, hints, node, *condition, cube,
         )?;
     }
     Ok(())
@@ -196,9 +196,10 @@ fn narrow_by_conditions(
 pub(crate) fn narrow_by_heard(
     alloc: Global,
     problem: &Problem,
-    rows: &[Row],
+    rows: &[TimedRow],
     scenario: &Scenario,
     times: &RunTimes,
+    hints: &mut Hints,
     process: u32,
     conditions: &[u32],
     cube: &mut Cube,
@@ -210,7 +211,7 @@ pub(crate) fn narrow_by_heard(
 {
     let node = node_of(problem, process);
     narrow_by_conditions(
-        alloc, problem, rows, scenario, times, node, conditions, cube,
+        alloc, problem, rows, scenario, times, hints, node, conditions, cube,
     )?;
     Ok(())
 }
@@ -219,9 +220,10 @@ pub(crate) fn narrow_by_heard(
 fn narrow_by_input(
     alloc: Global,
     problem: &Problem,
-    rows: &[Row],
+    rows: &[TimedRow],
     scenario: &Scenario,
     times: &RunTimes,
+    hints: &mut Hints,
     edge: u32,
     cube: &mut Cube,
 ) -> Result<(), OutOfMemory>
@@ -233,7 +235,7 @@ fn narrow_by_input(
         return Ok(());
     }
     let item = message_item(problem, edge);
-    narrow_by_frame(alloc, problem, rows, scenario, times, item, cube)?;
+    narrow_by_frame(alloc, problem, rows, scenario, times, hints, item, cube)?;
     Ok(())
 }
 
@@ -241,9 +243,10 @@ fn narrow_by_input(
 fn narrow_by_inputs(
     alloc: Global,
     problem: &Problem,
-    rows: &[Row],
+    rows: &[TimedRow],
     scenario: &Scenario,
     times: &RunTimes,
+    hints: &mut Hints,
     edges: &[u32],
     cube: &mut Cube,
 ) -> Result<(), OutOfMemory>
@@ -252,7 +255,7 @@ fn narrow_by_inputs(
     ensures { OnOk result (IsNarrowed problem.now.faults (flat_map (received_by problem.now (columns_of_rows rows.now) scenario.now) edges.now) cube.old cube.new) }
 {
     for edge in edges {
-        narrow_by_input(alloc, problem, rows, scenario, times, *edge, cube)?;
+        narrow_by_input(alloc, problem, rows, scenario, times, hints, *edge, cube)?;
     }
     Ok(())
 }
@@ -262,9 +265,10 @@ pub(crate) fn narrow_by_received(
     alloc: Global,
     problem: &Problem,
     links: &Links,
-    rows: &[Row],
+    rows: &[TimedRow],
     scenario: &Scenario,
     times: &RunTimes,
+    hints: &mut Hints,
     process: u32,
     cube: &mut Cube,
 ) -> Result<(), OutOfMemory>
@@ -274,6 +278,6 @@ pub(crate) fn narrow_by_received(
     ensures { OnOk result (IsNarrowed problem.now.faults (received problem.now (columns_of_rows rows.now) scenario.now process) cube.old cube.new) }
 {
     let edges = links.inputs(process);
-    narrow_by_inputs(alloc, problem, rows, scenario, times, edges, cube)?;
+    narrow_by_inputs(alloc, problem, rows, scenario, times, hints, edges, cube)?;
     Ok(())
 }

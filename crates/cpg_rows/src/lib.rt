@@ -12,6 +12,7 @@ mod starts;
 mod state;
 #[cfg(test)]
 mod tests;
+mod timed;
 
 pub use laws::{
     carried_decides, carried_rests_on_earlier, entries_have_times, row_tables_are_exact,

@@ -18,6 +18,7 @@ use crate::items::{empty_rows, node_of, queue};
 use crate::sends::{frozen_ends, send_entries};
 use crate::starts::{is_frozen, start_entries};
 use crate::state::{Cubes, whole_by_node};
+use crate::timed::{TimedRow, to_rows};
 use cpg_base::{OutOfMemory, Scenario};
 use cpg_order::{Links, Order};
 use cpg_rules::Admitted;
@@ -32,14 +33,14 @@ fn set_row(
     admitted: &Admitted,
     item: u32,
     entries: Vec<Entry>,
-    rows: &mut Vec<Row>,
+    rows: &mut Vec<TimedRow>,
 ) -> Result<(), OutOfMemory>
     requires item { item < length rows.old.items }
     requires entries { AreMergeable admitted.now.graph entries.items }
     ensures { OnOk result (IsRowSet admitted.now.graph admitted.now.order item entries.items rows.old.items rows.new.items) }
 {
     let columns = merged(alloc, admitted.problem(), admitted.order(), entries)?;
-    rows[item as usize] = Row::new(item, columns);
+    rows[item as usize] = TimedRow::new(alloc, item, columns)?;
     Ok(())
 }
 
@@ -55,7 +56,7 @@ fn make_sends(
     process: u32,
     ends: &Cubes,
     sent: &mut Cubes,
-    rows: &mut Vec<Row>,
+    rows: &mut Vec<TimedRow>,
 ) -> Result<(), OutOfMemory>
     requires topological { IsTopological admitted.now.graph order.now }
     requires links { links.now ≡ links_of admitted.now.graph }
@@ -102,7 +103,7 @@ fn make_sends_after(
     process: u32,
     known: &Cubes,
     sent: &mut Cubes,
-    rows: &mut Vec<Row>,
+    rows: &mut Vec<TimedRow>,
 ) -> Result<(), OutOfMemory>
     requires topological { IsTopological admitted.now.graph order.now }
     requires links { links.now ≡ links_of admitted.now.graph }
@@ -141,7 +142,7 @@ fn make_start(
     runs: &[RunTimes],
     process: u32,
     known: &mut Cubes,
-    rows: &mut Vec<Row>,
+    rows: &mut Vec<TimedRow>,
 ) -> Result<(), OutOfMemory>
     requires topological { IsTopological admitted.now.graph order.now }
     requires links { links.now ≡ links_of admitted.now.graph }
@@ -184,7 +185,7 @@ fn make(
     place: u32,
     known: &mut Vec<Cubes>,
     sent: &mut Vec<Cubes>,
-    rows: &mut Vec<Row>,
+    rows: &mut Vec<TimedRow>,
 ) -> Result<(), OutOfMemory>
     requires topological { IsTopological admitted.now.graph order.now }
     requires links { links.now ≡ links_of admitted.now.graph }
@@ -258,5 +259,6 @@ pub fn rows(
             &mut rows,
         )?;
     }
+    let rows = to_rows(alloc, rows.as_slice())?;
     Ok(rows)
 }

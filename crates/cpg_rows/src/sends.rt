@@ -19,12 +19,13 @@ use crate::cubes::{narrow_by_cube, narrow_to_number};
 use crate::learning::{deciding, narrow_by_decided, narrow_by_value};
 use crate::least::{kept, push_entry};
 use crate::state::Cubes;
+use crate::timed::TimedRow;
 use cpg_base::{OutOfMemory, Problem, Scenario};
 use cpg_cube::Cube;
 use cpg_order::Order;
 use cpg_rules::Admitted;
 use cpg_run::{Frozen, RunTimes};
-use cpg_table::{Entry, Row};
+use cpg_table::Entry;
 use std::alloc::Global;
 
 /// The edge of an item that a process sends, if it is a message.
@@ -240,7 +241,7 @@ pub(crate) fn send_entries(
     frozen: &Frozen,
     scenarios: &[Scenario],
     runs: &[RunTimes],
-    rows: &[Row],
+    rows: &[TimedRow],
     process: u32,
     item: u32,
     ends: &Cubes,

@@ -19,12 +19,13 @@ use crate::cubes::narrow_to_number;
 use crate::learning::{deciding, narrow_by_decided, narrow_by_heard, narrow_by_received};
 use crate::least::{kept, push_entry};
 use crate::state::Cubes;
+use crate::timed::{Hints, TimedRow};
 use cpg_base::{OutOfMemory, Problem, Scenario};
 use cpg_cube::Cube;
 use cpg_order::{Links, Order};
 use cpg_rules::Admitted;
 use cpg_run::{Frozen, RunTimes};
-use cpg_table::{Entry, Row};
+use cpg_table::Entry;
 use std::alloc::Global;
 
 /// Whether a process is frozen.
@@ -61,9 +62,10 @@ fn started(
     alloc: Global,
     problem: &Problem,
     links: &Links,
-    rows: &[Row],
+    rows: &[TimedRow],
     scenario: &Scenario,
     times: &RunTimes,
+    hints: &mut Hints,
     time: u64,
     process: u32,
     conditions: &[u32],
@@ -81,7 +83,9 @@ fn started(
         let entry = frozen_start(alloc, problem, scenario, time, process, conditions)?;
         return Ok(entry);
     }
-    narrow_by_received(alloc, problem, links, rows, scenario, times, process, cube)?;
+    narrow_by_received(
+        alloc, problem, links, rows, scenario, times, hints, process, cube,
+    )?;
     let entry = kept(problem, scenario, time, cube)?;
     Ok(entry)
 }
@@ -92,9 +96,10 @@ fn start_in(
     alloc: Global,
     admitted: &Admitted,
     links: &Links,
-    rows: &[Row],
+    rows: &[TimedRow],
     scenario: &Scenario,
     times: &RunTimes,
+    hints: &mut Hints,
     process: u32,
     cube: &mut Cube,
 ) -> Result<Option<Entry>, OutOfMemory>
@@ -112,13 +117,13 @@ fn start_in(
     let conditions = conditions.as_slice();
     narrow_by_decided(alloc, problem, scenario, process, conditions, cube)?;
     narrow_by_heard(
-        alloc, problem, rows, scenario, times, process, conditions, cube,
+        alloc, problem, rows, scenario, times, hints, process, conditions, cube,
     )?;
     let Some(time) = times.time(process) else {
         return Ok(None);
     };
     let entry = started(
-        alloc, problem, links, rows, scenario, times, time, process, conditions, cube,
+        alloc, problem, links, rows, scenario, times, hints, time, process, conditions, cube,
     )?;
     narrow_to_number(alloc, problem, scenario, process as u8, cube)?;
     Ok(entry)
@@ -134,7 +139,7 @@ pub(crate) fn start_entries(
     frozen: &Frozen,
     scenarios: &[Scenario],
     runs: &[RunTimes],
-    rows: &[Row],
+    rows: &[TimedRow],
     process: u32,
     known: &mut Cubes,
 ) -> Result<Vec<Entry>, OutOfMemory>
@@ -149,6 +154,7 @@ pub(crate) fn start_entries(
     ensures known { OnOk result (AreCubesOf admitted.now.graph.faults scenarios.now (passed_by admitted.now.graph (columns_of_rows rows.now) (before_on_node admitted.now.graph order.now process ++ process ∷ [])) known.new) }
 {
     let mut entries = Vec::new(alloc);
+    let mut hints = Hints::new(alloc, rows.len())?;
     for at in 0..scenarios.len() {
         let entry = start_in(
             alloc,
@@ -157,6 +163,7 @@ pub(crate) fn start_entries(
             rows,
             &scenarios[at],
             &runs[at],
+            &mut hints,
             process,
             &mut known.cubes[at],
         )?;

@@ -11,5 +11,5 @@ returns c =
     let k = c.args.problem.now.faults in
     let s = c.args.scenario.now in
     let row = row_at (columns_of_rows c.args.rows.now) c.args.item in
-    subst (IsNarrowed k (told_in row s) c.args.cube.now) (sym (c.in_ok-narrow_by_told.ensures ∙ ap (λ cs. met c.args.cube.now (told_in cs s)) c.columns_of-columns.ensures))
+    subst (IsNarrowed k (told_in row s) c.args.cube.now) (sym (c.in_ok-narrow_by_told.ensures ∙ ap (λ cs. met c.args.cube.now (told_in cs s)) c.row_of-row.ensures))
     (met_narrowed k (told_in row s) c.args.cube.now (told_highs row s k c.requires.within))

@@ -1,6 +1,8 @@
-use Rattle.std.proofs.Common.{◌≡◌, ◌∙◌, length, map, replicate, [], ap, subst, arith}
+use Rattle.std.proofs.Common.{◌≡◌, ◌∙◌, length, map, replicate, [], List, sym, ap, subst, arith}
 use Rattle.cpg_base.specs.Graph.{Graph, process_count, item_count}
 use Rattle.cpg_base.specs.Numbers.{numbers_below}
+use Rattle.cpg_table.specs.Table.{Row}
+use Rattle.cpg_rows.specs.Rows.{AreRows}
 use Rattle.cpg_rows.specs.Made.{columns_of_rows, AreMade, IsBefore}
 use Rattle.cpg_rows.proofs.CodeFirst.{blank, none_made, none_carried, all_rows}
 use Rattle.cpg_rows.proofs.making.rows.Goals as goal
@@ -24,5 +26,7 @@ returns-clause-rows c =
     let g = a.graph in
     let order = c.args.order.now in
     let last : c.loop-place.place ≡ process_count g = omega (arith, ap length c.processes.ensures.processes, ap (λ (h : Graph). process_count h) c.problem-problem.ensures.problem, c.loop-place-test.false, c.loop-place.auto.place-end) in
-    all_rows g order c.requires.topological a.order c.args.frozen.now c.loop-place.rows.items
-    (subst (λ i. AreMade g a.order order c.args.frozen.now (IsBefore g order i) c.loop-place.rows.items) last c.loop-place.invariant.made)
+    let same : c.in_ok-rows-2.rows.items ≡ c.loop-place.rows.items = c.in_ok-rows-2.ensures ∙ c.as_slice.ensures.value in
+    subst (λ (rs : List Row). AreRows g a.order order c.args.frozen.now (columns_of_rows rs)) (sym same)
+    (all_rows g order c.requires.topological a.order c.args.frozen.now c.loop-place.rows.items
+    (subst (λ i. AreMade g a.order order c.args.frozen.now (IsBefore g order i) c.loop-place.rows.items) last c.loop-place.invariant.made))
