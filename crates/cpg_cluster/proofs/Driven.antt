@@ -1,8 +1,6 @@
 -- Choices: a node is asked after another until one takes its turn, and choices follow each other until all nodes are done.
-use Rattle.std.proofs.Common.{◌≡◌, ◌≢◌, ℕ, zero, suc, ◌+◌, ◌-◌, ◌*◌, ◌<◌, ◌≤◌, ◌^◌, ◌%◌, Bool, true, false, List, [], ◌∷◌, ◌++◌, length, map, filter, drop, get_or, set, Contains, Option, Some, None, refl, sym, ap, ap₂, ◌∙◌, subst, arith, inl, inr, true≢false, ltb-true, drop-cons, add-one}
-use Rattle.std.specs.Prelude.{sum_by, is_some}
-use Rattle.std.specs.List.{list_any}
-use Rattle.std.proofs.lemmas.Bool.{cases_eq, cases_lt}
+use Rattle.std.proofs.Common.{◌≡◌, ℕ, zero, suc, ◌+◌, ◌<◌, ◌≤◌, ◌^◌, ◌%◌, true, false, List, [], ◌∷◌, length, drop, get_or, set, Option, Some, None, refl, sym, ap, ap₂, ◌∙◌, arith, true≢false, ltb-true, drop-cons, add-one}
+use Rattle.std.specs.Prelude.{sum_by}
 use Rattle.std.proofs.lemmas.List.{length-map}
 use Rattle.std.proofs.lemmas.List.Sums.{sum_by-set}
 use Rattle.std.proofs.lemmas.List.FromFn.{length-range_with_len}
@@ -12,7 +10,7 @@ use Rattle.cpg_base.proofs.Lists.{get_or-map-below}
 use Rattle.cpg_node.specs.Dispatcher.{Dispatcher, is_after, next}
 use Rattle.cpg_cluster.specs.Cluster.{World, Cluster, Answer, Took, Waits, Done, step_by, step, answer, dispatcher_at}
 use Rattle.cpg_cluster.specs.Playing.{Playing, stepped}
-use Rattle.cpg_cluster.specs.Driving.{next_number, circle, Choice, waited, chosen, choose, choice, driven, AllDone, IsDriven, remaining_of, remaining}
+use Rattle.cpg_cluster.specs.Driving.{circle, Choice, chosen, choose, remaining_of}
 
 -- a turn brings a node nearer to the end of time
 pub nearer_last : (last : Option ℕ) (time : ℕ) → is_after last time ≡ true → time < 2 ^ 61 → remaining_of (Some time) < remaining_of last

@@ -1,5 +1,5 @@
 -- A play that is driven: someone takes a turn in each choice while not all are done, and choices follow each other.
-use Rattle.std.proofs.Common.{◌≡◌, ◌≢◌, ℕ, zero, suc, ◌+◌, ◌-◌, ◌*◌, ◌<◌, ◌≤◌, ◌^◌, ◌%◌, min, Bool, true, false, ◌||◌, List, [], ◌∷◌, length, map, get_or, Contains, Option, Some, None, refl, sym, ap, ap₂, ◌∙◌, subst, arith, inl, inr, ◌⊎◌, true≢false}
+use Rattle.std.proofs.Common.{◌≡◌, ℕ, zero, suc, ◌+◌, ◌-◌, ◌<◌, ◌≤◌, ◌^◌, ◌%◌, min, true, false, ◌||◌, List, [], ◌∷◌, length, get_or, Contains, Option, Some, None, refl, sym, ap, ◌∙◌, subst, arith, inl, inr, ◌⊎◌, true≢false}
 use Rattle.std.specs.Prelude.{is_some}
 use Rattle.std.specs.List.{list_any}
 use Rattle.std.proofs.lemmas.Bool.{cases_lt, cases_eq, cases_Bool}
@@ -8,10 +8,10 @@ use Rattle.std.proofs.lemmas.List.{length-map}
 use Rattle.std.proofs.Math.Nat.{add-mod_right, mod-eq_of_lt}
 use Rattle.cpg_base.specs.Graph.{Graph}
 use Rattle.cpg_base.specs.Numbers.{numbers_below}
-use Rattle.cpg_base.proofs.Lists.{Contains-first, Contains-rest, Contains-cases, Contains-nil, Contains-map, Contains-numbers, from_any_false}
+use Rattle.cpg_base.proofs.Lists.{Contains-cases, Contains-nil, Contains-map, Contains-numbers, from_any_false}
 use Rattle.std.proofs.lemmas.List.Elements.{Contains-get_or}
-use Rattle.cpg_node.specs.Dispatcher.{Dispatcher, next}
-use Rattle.cpg_cluster.specs.Cluster.{World, Cluster, Answer, Took, Waits, Done, answer, answer_at, dispatcher_at, step}
+use Rattle.cpg_node.specs.Dispatcher.{next}
+use Rattle.cpg_cluster.specs.Cluster.{World, Cluster, Answer, Took, Waits, Done, answer, answer_at, dispatcher_at}
 use Rattle.cpg_cluster.specs.Playing.{Playing, IsPlaying}
 use Rattle.cpg_cluster.specs.Driving.{next_number, circle, Choice, chosen, choose, choice, driven, AllDone, IsDriven, first_asked}
 use Rattle.cpg_cluster.specs.Kept.{cluster_of}
@@ -20,7 +20,6 @@ use Rattle.cpg_cluster.proofs.Between.{dispatcher_is}
 use Rattle.cpg_cluster.proofs.Lively.{least_took}
 use Rattle.cpg_cluster.proofs.Passed.{played_reached}
 use Rattle.cpg_cluster.proofs.Plays.{played_of, never_done}
-use Rattle.cpg_cluster.proofs.Reached.{Reached}
 use Rattle.cpg_cluster.proofs.Stepping.{play_of}
 
 -- a node with a next instant that no other is before, or there is none

@@ -15,7 +15,7 @@ use Rattle.cpg_node.specs.State.{MayTurn}
 use Rattle.cpg_cluster.specs.Cluster.{World, Cluster, Answer, Took, Waits, Done, dispatcher_at, answer_by, answer_at, answer, own_process, reported, reports_now, frames_now, take_turn, step_by, step, IsPlayed}
 use Rattle.cpg_cluster.specs.Playing.{Playing, IsPlaying, stepped}
 use Rattle.cpg_cluster.specs.Taking.{IsOwnOf, AllFinish, reports_of, ends_of, ready}
-use Rattle.cpg_cluster.specs.Keeping.{waits_between, frames_by, Fits, AllFit}
+use Rattle.cpg_cluster.specs.Keeping.{AreIndexed, waits_between, frames_by, Fits, AllFit}
 use Rattle.cpg_cluster.specs.Kept.{cluster_of}
 use Rattle.cpg_cluster.specs.declared.member.Member.{Member}
 use Rattle.cpg_cluster.proofs.Nodes.{Played, own_of_node}
@@ -63,6 +63,12 @@ module _ (g : Graph) (w : World) (ms : List Member) (p : IsPlaying (play_of g w 
 
   own_is : m.node.dispatcher.table.own ≡ own_of_node g a
   own_is = sym (ap (λ (d : Dispatcher). d.table.own) at_is) ∙ ap (λ (d : Dispatcher). d.table.own) (r.holds a on).is
+
+  -- the arrivals are indexed for each member
+  pub indexed : AreIndexed m.node.dispatcher.table.hears m.senders.items (length ms) m.arrivals.items
+  indexed =
+      let e : length g.nodes ≡ length ms = omega (arith, p.shape.count, length-map ms (λ (m : Member). m.node.dispatcher.table)) in
+      subst (λ n. AreIndexed m.node.dispatcher.table.hears m.senders.items n m.arrivals.items) e (subst (Fits g a) (here m) (fits a m l)).arrivals
 
   pub done_answer : next m.node.dispatcher ≡ None → Done ≡ answer g (cluster_of ms) a
   done_answer e = sym (ap (answer_at g (cluster_of ms) a) (ap next at_is ∙ e))
@@ -182,7 +188,7 @@ module _ (g : Graph) (w : World) (ms : List Member) (p : IsPlaying (play_of g w 
             (acts : n.acts.items ≡ m.acts.items ++ acts_of_turn (ready g w.scenario w.lengths time m.node.dispatcher) time [] fs)
             (ends : n.ends.items ≡ m.ends.items ++ ends_of time (ready g w.scenario w.lengths time m.node.dispatcher))
             (reports : n.reports.items ≡ m.reports.items ++ reports_of g w.scenario w.lengths time m.node.dispatcher)
-            (kept : (n.senders ≡ m.senders) × (n.slot ≡ m.slot)) (room : (vec_capacity n.acts ≡ vec_capacity m.acts) × (vec_capacity n.ends ≡ vec_capacity m.ends) × (vec_capacity n.reports ≡ vec_capacity m.reports)) where
+            (kept : (n.senders ≡ m.senders) × (n.slot ≡ m.slot) × (n.arrivals ≡ m.arrivals)) (room : (vec_capacity n.acts ≡ vec_capacity m.acts) × (vec_capacity n.ends ≡ vec_capacity m.ends) × (vec_capacity n.reports ≡ vec_capacity m.reports)) where
           cluster_then : cluster_of (set ms a n) ≡ take_turn g w (cluster_of ms) a time
           cluster_then = λ i. record {
             nodes = (map-set (λ (m : Member). m.node.dispatcher) ms a n ∙ ap (set (cluster_of ms).nodes a) (node ∙ sym node_then)) i;
@@ -207,6 +213,9 @@ module _ (g : Graph) (w : World) (ms : List Member) (p : IsPlaying (play_of g w 
           fit_then = record {
             senders = ap (λ v. v.items) kept.0 ∙ fit.senders ∙ ap (λ (t : NodeTable). map (λ (row : Row). home g row.item) t.hears) (sym table_then);
             slot = kept.1 ∙ fit.slot;
+            arrivals = subst (λ (t : NodeTable). AreIndexed t.hears n.senders.items (length g.nodes) n.arrivals.items) (sym table_then)
+                (subst (λ ss. AreIndexed m.node.dispatcher.table.hears ss (length g.nodes) n.arrivals.items) (sym (ap (λ v. v.items) kept.0))
+                (subst (λ is'. AreIndexed m.node.dispatcher.table.hears m.senders.items (length g.nodes) is') (sym (ap (λ v. v.items) kept.2)) fit.arrivals));
             acts = omega (arith, fit.acts, room.0, ap (λ (t : NodeTable). length t.sends + length t.starts) table_then);
             ends = omega (arith, fit.ends, room.1, ap (λ (t : NodeTable). length t.own) table_then);
             reports = omega (arith, fit.reports, room.2, ap (λ (t : NodeTable). length t.own) table_then);

@@ -1,7 +1,9 @@
 -- What a cluster keeps for its calls.
-use Rattle.std.specs.Prelude.{ℕ, ◌≡◌, ◌≤◌, ◌<◌, ◌+◌, ◌&&◌, ◌==◌, Bool, nat_le, List, [], Option, Some, None, option_to_list, slice_get, length, map, get_or, All}
+use Rattle.std.specs.Prelude.{ℕ, ◌≡◌, ◌≤◌, ◌<◌, ◌+◌, ◌&&◌, ◌==◌, Bool, cond, IsPermutation, nat_le, List, [], Option, Some, None, option_to_list, slice_get, length, map, get_or, All}
 use Rattle.std.specs.List.{flat_map, list_any}
+use Rattle.std.specs.List.Sorted.{IsNonDecreasingBy}
 use Rattle.std.specs.Option.{option_map_or}
+use Rattle.std.specs.Global.{Vec}
 use Rattle.std.specs.Vec.{vec_capacity}
 use Rattle.cpg_base.specs.Graph.{Graph, home, item_at, item_count}
 use Rattle.cpg_base.specs.Bus.{slot_length}
@@ -11,9 +13,13 @@ use Rattle.cpg_cluster.specs.Cluster.{Answer, Took, Waits}
 use Rattle.cpg_cluster.specs.Taking.{value_of_item, frames_from}
 use Rattle.cpg_cluster.specs.declared.member.Member.{Member}
 
--- whether a column is one whose frame a node may still send, by that node's next instant and slot
+-- whether a time of arrival is one whose frame a node may still send, by that node's next instant and slot
+abbrev pub waits_until : ℕ → Option ℕ → ℕ → ℕ → Bool
+waits_until time comes slot arrival = nat_le arrival time && list_any (λ u. nat_le (u + slot) arrival) (option_to_list comes)
+
+-- whether a column is
 abbrev pub waits_for : ℕ → Option ℕ → ℕ → Column → Bool
-waits_for time comes slot col = nat_le col.time time && list_any (λ u. nat_le (u + slot) col.time) (option_to_list comes)
+waits_for time comes slot col = waits_until time comes slot col.time
 
 -- whether a row of a sender has such a column
 abbrev pub waits_by : ℕ → ℕ → Option ℕ → ℕ → Row → ℕ → Bool
@@ -35,6 +41,23 @@ frames_of_sender g values members time row sender = frames_of_member members (va
 abbrev pub frames_by : Graph → List Bool → List Member → ℕ → List Row → List ℕ → List Frame
 frames_by g values members time rows senders = flat_map (λ fs. fs) (zip_with (frames_of_sender g values members time) rows senders)
 
+-- when columns arrive that a sender sends, row by row
+abbrev pub times_by : ℕ → Row → ℕ → List ℕ
+times_by other row sender = cond (sender == other) (map {A = Column} {B = ℕ} (λ c. c.time) row.columns) []
+
+abbrev pub arrival_times : ℕ → List Row → List ℕ → List ℕ
+arrival_times other rows senders = flat_map (λ ts. ts) (zip_with (times_by other) rows senders)
+
+-- these times, in order
+pub record IsIndex (rows : List Row) (senders : List ℕ) (other : ℕ) (times : List ℕ) : Type 0 where
+  pub same : IsPermutation (arrival_times other rows senders) times
+  pub rises : IsNonDecreasingBy (λ (t : ℕ). t) times
+
+-- so for each of the senders below a number
+pub record AreIndexed (rows : List Row) (senders : List ℕ) (number : ℕ) (index : List (Vec ℕ)) : Type 0 where
+  pub count : length index ≡ number
+  pub each : (b : ℕ) (d : Vec ℕ) → b < number → IsIndex rows senders b (get_or index b d).items
+
 -- the answer of a node that waits on another, or on none
 abbrev pub answer_if : Option ℕ → Answer
 answer_if None = Took
@@ -44,6 +67,7 @@ answer_if (Some b) = Waits b
 pub record Fits (g : Graph) (number : ℕ) (m : Member) : Type 0 where
   pub senders : m.senders.items ≡ map (λ (row : Row). home g row.item) m.node.dispatcher.table.hears
   pub slot : m.slot ≡ slot_length g number
+  pub arrivals : AreIndexed m.node.dispatcher.table.hears m.senders.items (length g.nodes) m.arrivals.items
   pub acts : length m.node.dispatcher.table.sends + length m.node.dispatcher.table.starts ≤ vec_capacity m.acts
   pub ends : length m.node.dispatcher.table.own ≤ vec_capacity m.ends
   pub reports : length m.node.dispatcher.table.own ≤ vec_capacity m.reports
@@ -57,6 +81,7 @@ pub record IsOpen (g : Graph) (number : ℕ) (t : NodeTable) (m : Member) : Type
   pub node : m.node ≡ record { dispatcher = opening t; acts = [] }
   pub senders : m.senders.items ≡ map (λ (row : Row). home g row.item) t.hears
   pub slot : m.slot ≡ slot_length g number
+  pub arrivals : AreIndexed t.hears m.senders.items (length g.nodes) m.arrivals.items
   pub acts : m.acts.items ≡ []
   pub ends : m.ends.items ≡ []
   pub reports : m.reports.items ≡ []

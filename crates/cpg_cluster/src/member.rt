@@ -12,6 +12,7 @@ ghost use Rattle.cpg_table.specs.Table.{table_at};
 ghost use Rattle.cpg_cluster.specs.Keeping.{IsOpen, AreOpen, HearsItems};
 ghost use Rattle.cpg_cluster.specs.Taking.{IsOwnOf, AllFinish, reports_of, ends_of, ready};
 
+use crate::arrivals::arrivals_of;
 use crate::senders::{senders_of, slot_length};
 use crate::told::{append_acts, finish_all, gather_ends, gather_reports};
 use cpg_base::{Lengths, OutOfMemory, Problem, Scenario};
@@ -26,6 +27,8 @@ pub struct Member {
     pub node: Node,
     /// Who sends what it hears, by hear row.
     pub senders: Vec<u32>,
+    /// When frames arrive that it hears, in order, by the node that sends them.
+    pub arrivals: Vec<Vec<u64>>,
     /// How long its slot lasts, in time units.
     pub slot: u64,
     /// What it has done.
@@ -49,6 +52,8 @@ pub fn open_member(
 {
     let slot = slot_length(problem, number);
     let senders = senders_of(alloc, problem, table.hears())?;
+    let count = problem.nodes().len() as u32;
+    let arrivals = arrivals_of(alloc, table.hears(), senders.as_slice(), count)?;
     let mut acts = Vec::new(alloc);
     acts.reserve(table.sends().len() + table.starts().len())?;
     let mut ends = Vec::new(alloc);
@@ -59,6 +64,7 @@ pub fn open_member(
     Ok(Member {
         node,
         senders,
+        arrivals,
         slot,
         acts,
         ends,
@@ -88,7 +94,7 @@ pub fn take_turn(
     ensures acts { member.new.acts.items ≡ member.old.acts.items ++ acts_of_turn (ready problem.now scenario.now lengths.now time member.old.node.dispatcher) time [] frames.now }
     ensures ends { member.new.ends.items ≡ member.old.ends.items ++ ends_of time (ready problem.now scenario.now lengths.now time member.old.node.dispatcher) }
     ensures reports { member.new.reports.items ≡ member.old.reports.items ++ reports_of problem.now scenario.now lengths.now time member.old.node.dispatcher }
-    ensures same { (member.new.senders ≡ member.old.senders) × (member.new.slot ≡ member.old.slot) }
+    ensures same { (member.new.senders ≡ member.old.senders) × (member.new.slot ≡ member.old.slot) × (member.new.arrivals ≡ member.old.arrivals) }
     ensures room { (vec_capacity member.new.acts ≡ vec_capacity member.old.acts) × (vec_capacity member.new.ends ≡ vec_capacity member.old.ends) × (vec_capacity member.new.reports ≡ vec_capacity member.old.reports) }
 {
     let first = member.reports.len();

@@ -2,12 +2,12 @@
 ghost use Rattle.std.specs.Prelude.{◌≡◌, ◌<◌, ◌≤◌, ◌+◌, length, map, filter, get_or, nat_le, option_to_list};
 ghost use Rattle.std.specs.List.{list_any};
 ghost use Rattle.cpg_base.specs.Numbers.{numbers_below};
-ghost use Rattle.cpg_node.specs.Dispatcher.{zip_with};
+ghost use Rattle.std.specs.List.Sorted.{IsNonDecreasingBy};
 ghost use Rattle.cpg_cluster.specs.Cluster.{answer_by};
-ghost use Rattle.cpg_cluster.specs.Keeping.{waits_for, waits_by, waits_between, answer_if};
+ghost use Rattle.cpg_cluster.specs.Keeping.{AreIndexed, waits_until, waits_between, answer_if};
 
+use crate::arrivals::first_after;
 use crate::member::Member;
-use cpg_table::{Entry, Row};
 
 /// Whether a node with this next instant may still send what arrives at a time.
 fn may_still_send(next: Option<u64>, slot: u64, arrival: u64) -> bool
@@ -19,65 +19,32 @@ fn may_still_send(next: Option<u64>, slot: u64, arrival: u64) -> bool
     }
 }
 
-/// Whether a column has arrived by the time, and its frame may still be sent.
-fn waits_for(entry: &Entry, time: u64, next: Option<u64>, slot: u64) -> bool
-    ensures { result ≡ waits_for time next slot entry.now }
+/// Whether a sender may still send what arrives by the time: then so it may what arrives last.
+fn waits_on(times: &[u64], time: u64, next: Option<u64>, slot: u64) -> bool
+    requires { IsNonDecreasingBy (λ t. t) times.now }
+    ensures { result ≡ list_any (waits_until time next slot) times.now }
 {
-    if entry.time > time {
+    let after = first_after(times, time);
+    if after == 0 {
         return false;
     }
-    may_still_send(next, slot, entry.time)
-}
-
-/// Whether a row has such a column.
-fn has_waiting(columns: &[Entry], time: u64, next: Option<u64>, slot: u64) -> bool
-    ensures { result ≡ list_any (waits_for time next slot) columns.now }
-{
-    columns
-        .iter()
-        .any(|entry| waits_for(entry, time, next, slot))
-}
-
-/// Whether a node with these hear rows waits on another before it takes an instant.
-fn waits_on(
-    rows: &[Row],
-    senders: &[u32],
-    other: u32,
-    time: u64,
-    next: Option<u64>,
-    slot: u64,
-) -> bool
-    requires { length rows.now ≡ length senders.now }
-    ensures { result ≡ list_any (λ w. w) (zip_with (waits_by other time next slot) rows.now senders.now) }
-{
-    for (place, row) in rows.iter().enumerate() {
-        if senders[place] == other {
-            if has_waiting(row.entries(), time, next, slot) {
-                return true;
-            }
-        }
-    }
-    false
+    let arrival = times[after - 1];
+    may_still_send(next, slot, arrival)
 }
 
 /// Whether a member waits on another before it takes an instant.
 fn waits_between(member: &Member, time: u64, other: u32, sender: &Member) -> bool
-    requires { length member.now.node.dispatcher.table.hears ≡ length member.now.senders.items }
+    requires indexed { AreIndexed member.now.node.dispatcher.table.hears member.now.senders.items (length member.now.arrivals.items) member.now.arrivals.items }
+    requires other { other < length member.now.arrivals.items }
     ensures { result ≡ waits_between time member.now other sender.now }
 {
-    waits_on(
-        member.node.table().hears(),
-        member.senders.as_slice(),
-        other,
-        time,
-        sender.node.next(),
-        sender.slot,
-    )
+    let times = &member.arrivals[other as usize];
+    waits_on(times.as_slice(), time, sender.node.next(), sender.slot)
 }
 
 /// The least member that a member waits on before it takes an instant.
 pub fn waited_on(members: &[Member], member: &Member, time: u64) -> Option<u32>
-    requires senders { length member.now.node.dispatcher.table.hears ≡ length member.now.senders.items }
+    requires indexed { AreIndexed member.now.node.dispatcher.table.hears member.now.senders.items (length members.now) member.now.arrivals.items }
     requires few { length members.now ≤ 16 }
     ensures { (d : Member) → answer_if result ≡ answer_by (filter (λ b. waits_between time member.now b (get_or members.now b d)) (numbers_below (length members.now))) }
 {

@@ -1,6 +1,7 @@
-use Rattle.std.proofs.Common.{◌∙◌, ap, map, rules}
+use Rattle.std.proofs.Common.{ℕ, List, length, subst, ◌∙◌, ap, map, rules}
 use Rattle.cpg_base.specs.Graph.{home}
 use Rattle.cpg_table.specs.Table.{Row}
+use Rattle.cpg_cluster.specs.Keeping.{AreIndexed}
 use Rattle.cpg_cluster.proofs.member.open_member.Goals as goal
 
 pub returns : goal.returns
@@ -8,6 +9,9 @@ returns c = record {
   node = search rules;
   senders = c.in_ok-senders.ensures ∙ ap (map (λ (row : Row). home c.args.problem.now row.item)) c.hears.ensures.hears;
   slot = search rules;
+  arrivals = subst (λ hs. AreIndexed hs c.in_ok-senders.senders.items (length c.args.problem.now.nodes) c.in_ok-arrivals.arrivals.items) c.hears-2.ensures.hears
+      (subst (λ ss. AreIndexed c.hears-2.result.now ss (length c.args.problem.now.nodes) c.in_ok-arrivals.arrivals.items) c.as_slice.ensures.value
+      (subst (λ (ns : List (List ℕ)). AreIndexed c.hears-2.result.now c.as_slice.result.now (length ns) c.in_ok-arrivals.arrivals.items) c.nodes.ensures.nodes c.in_ok-arrivals.ensures));
   acts = search rules;
   ends = search rules;
   reports = search rules;

@@ -6,7 +6,7 @@ use Rattle.cpg_node.proofs.tests.take_turn.Goals as goal
 pub turn-requires : goal.turn-requires
 turn-requires c = record {
   time = c.in_ok-time.time;
-  comes = sym c.in_ok-time.ensures;
+  comes = sym c.in_ok-time.ensures.next;
   ends = All-nil (EndsAt c.args.node.now.dispatcher c.in_ok-time.time);
   arrive = All-nil (ArrivesAt c.args.node.now.dispatcher c.in_ok-time.time);
 }

@@ -1,4 +1,4 @@
-use Rattle.std.proofs.Common.{◌≡◌, ◌+◌, ℕ, refl, sym, ap, ◌∙◌, arith, length, subst}
+use Rattle.std.proofs.Common.{◌≡◌, ◌+◌, refl, sym, ap, arith, length, subst}
 use Rattle.std.proofs.lemmas.List.{length-map}
 use Rattle.cpg_cluster.specs.Playing.{Playing}
 use Rattle.cpg_cluster.specs.declared.member.Member.{Member}

@@ -1,4 +1,4 @@
-use Rattle.std.proofs.Common.{◌≡◌, ◌-◌, length}
+use Rattle.std.proofs.Common.{◌≡◌, ◌-◌}
 use Rattle.cpg_cluster.proofs.Driven.{IsChoosing}
 use Rattle.cpg_cluster.proofs.cluster.Cluster.choose.Given as goal
 

@@ -1,4 +1,4 @@
-use Rattle.std.proofs.Common.{◌/◌, ◌%◌, ◌^◌, ◌≡◌, ◌<◌, ℕ, refl, sym, ap, ◌∙◌, arith, length, subst, List, true, false}
+use Rattle.std.proofs.Common.{◌/◌, ◌%◌, ◌^◌, ◌≡◌, ◌<◌, refl, sym, ap, ◌∙◌, arith, length, subst, List, true}
 use Rattle.std.specs.Prelude.{is_some}
 use Rattle.std.specs.List.{list_any}
 use Rattle.std.proofs.Math.Nat.{mod-lt}

@@ -1,5 +1,4 @@
-use Rattle.std.proofs.Common.{◌≡◌, length}
-use Rattle.cpg_cluster.specs.Playing.{Playing}
+use Rattle.std.proofs.Common.{◌≡◌}
 use Rattle.cpg_cluster.specs.Driving.{remaining}
 use Rattle.cpg_cluster.proofs.Drives.{IsDriving}
 use Rattle.cpg_cluster.proofs.cluster.Cluster.drive.Given as goal

@@ -7,16 +7,25 @@ use Rattle.cpg_node.specs.Dispatcher.{Frame, next}
 use Rattle.cpg_table.specs.Table.{NodeTable}
 use Rattle.cpg_cluster.specs.Cluster.{Cluster, Took, Waits, answer, answer_by}
 use Rattle.cpg_cluster.specs.Playing.{Playing, stepped}
-use Rattle.cpg_cluster.specs.Keeping.{answer_if, frames_by, waits_between}
+use Rattle.cpg_cluster.specs.Keeping.{AreIndexed, answer_if, frames_by, waits_between}
 use Rattle.cpg_cluster.specs.Kept.{cluster_of, playing_of}
 use Rattle.cpg_cluster.specs.declared.member.Member.{Member}
 use Rattle.cpg_cluster.specs.Driving.{remaining}
 use Rattle.cpg_cluster.proofs.Asking.{at_some}
-use Rattle.cpg_cluster.proofs.Stepping.{asked, waits_step, own_all, finish_all, ready_next, frames_fit, turn_may, acts_fit, ends_fit, reports_fit, play_then, playing_then, nearer_then, fits_then, heard_then}
+use Rattle.cpg_cluster.proofs.Stepping.{indexed, asked, waits_step, own_all, finish_all, ready_next, frames_fit, turn_may, acts_fit, ends_fit, reports_fit, play_then, playing_then, nearer_then, fits_then, heard_then}
 use Rattle.cpg_cluster.proofs.cluster.Cluster.step.Goals as goal
 
 pub waited_on-requires-clause-few : goal.waited_on-requires-clause-few
 waited_on-requires-clause-few c = omega (arith, c.self.invariant.few, ap length c.as_slice.ensures.value)
+
+pub waited_on-requires-clause-indexed : goal.waited_on-requires-clause-indexed
+waited_on-requires-clause-indexed c =
+    let n = c.self.inside in
+    let v = c.self.invariant in
+    let m = c.index-member.result.now in
+    subst (λ (ms : List Member). AreIndexed m.node.dispatcher.table.hears m.senders.items (length ms) m.arrivals.items) (sym c.as_slice.ensures.value)
+    (indexed n.problem (record { scenario = n.scenario; lengths = n.lengths }) n.members.items v.playing v.members c.args.node m c.index-member.ensures
+    (omega (arith, c.requires, ap (λ (p : Playing). length p.graph.nodes) c.self.view_is, v.playing.shape.count, length-map n.members.items (λ (m : Member). m.node.dispatcher.table))))
 
 -- A node that waits.
 

@@ -1,0 +1,5 @@
+use Rattle.cpg_cluster.specs.Keeping.{AreIndexed}
+use Rattle.cpg_cluster.proofs.arrivals.arrivals_of.Given as goal
+
+abbrev pub invariant-loop-other : goal.invariant-loop-other
+invariant-loop-other l = AreIndexed l.rows l.senders l.other l.arrivals.items

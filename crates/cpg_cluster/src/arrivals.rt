@@ -1,0 +1,80 @@
+//! When frames arrive that a node hears, by the node that sends them.
+ghost use Rattle.std.specs.Prelude.{◌≡◌, ◌<◌, ◌≤◌, ◌++◌, IfOk, IsPermutation, OnOk, ℕ, get_or, length, map};
+ghost use Rattle.std.specs.List.Sorted.{IsNonDecreasingBy};
+ghost use Rattle.cpg_cluster.specs.Keeping.{arrival_times, AreIndexed};
+
+use cpg_base::OutOfMemory;
+use cpg_table::{Entry, Row};
+use std::alloc::Global;
+
+/// Adds the times of a row.
+fn add_times(times: &mut Vec<u64>, columns: &[Entry]) -> Result<(), OutOfMemory>
+    ensures { OnOk result (times.new.items ≡ times.old.items ++ map (λ c. c.time) columns.now) }
+{
+    for entry in columns {
+        times.push(entry.time)?;
+    }
+    Ok(())
+}
+
+/// Adds the times of the rows of a sender.
+fn add_times_of(
+    times: &mut Vec<u64>,
+    rows: &[Row],
+    senders: &[u32],
+    other: u32,
+) -> Result<(), OutOfMemory>
+    requires { length rows.now ≡ length senders.now }
+    ensures { OnOk result (times.new.items ≡ times.old.items ++ arrival_times other rows.now senders.now) }
+{
+    for (place, row) in rows.iter().enumerate() {
+        if senders[place] == other {
+            add_times(times, row.entries())?;
+        }
+    }
+    Ok(())
+}
+
+/// When frames arrive from a sender, in order.
+fn arrivals_from(
+    alloc: Global,
+    rows: &[Row],
+    senders: &[u32],
+    other: u32,
+) -> Result<Vec<u64>, OutOfMemory>
+    requires { length rows.now ≡ length senders.now }
+    ensures same { IfOk result (λ times. IsPermutation (arrival_times other rows.now senders.now) times.items) }
+    ensures rises { IfOk result (λ times. IsNonDecreasingBy (λ t. t) times.items) }
+{
+    let mut times = Vec::new(alloc);
+    add_times_of(&mut times, rows, senders, other)?;
+    times.sort_unstable();
+    Ok(times)
+}
+
+/// When frames arrive from each sender, in order.
+pub fn arrivals_of(
+    alloc: Global,
+    rows: &[Row],
+    senders: &[u32],
+    count: u32,
+) -> Result<Vec<Vec<u64>>, OutOfMemory>
+    requires { length rows.now ≡ length senders.now }
+    ensures { IfOk result (λ arrivals. AreIndexed rows.now senders.now count arrivals.items) }
+{
+    let mut arrivals = Vec::new(alloc);
+    for other in 0..count {
+        arrivals.push(arrivals_from(alloc, rows, senders, other)?)?;
+    }
+    Ok(arrivals)
+}
+
+/// The place of the first time that is later than this.
+pub fn first_after(times: &[u64], time: u64) -> usize
+    requires { IsNonDecreasingBy (λ t. t) times.now }
+    ensures within { result ≤ length times.now }
+    ensures before { (i d : ℕ) → i < result → get_or times.now i d ≤ time }
+    ensures past { (i d : ℕ) → result ≤ i → i < length times.now → time < get_or times.now i d }
+{
+    times.partition_point(|&arrival| arrival <= time)
+}
