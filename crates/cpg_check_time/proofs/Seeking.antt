@@ -22,7 +22,7 @@ any_filter test keep (x ∷ xs) = go (keep x) (any_filter test keep xs)
     go true ih = ap (λ r. test x || r) ih
     go false ih = ih
 
--- with a premise
+-- a test with a premise
 pub both_any : {X : Type 0} (m : Bool) (test : X → Bool) (xs : List X) → list_any (λ x. m && test x) xs ≡ (m && list_any test xs)
 both_any true test [] = refl
 both_any false test [] = refl

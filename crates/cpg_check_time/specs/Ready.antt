@@ -10,5 +10,5 @@ use Rattle.cpg_check_time.specs.declared.inputs.Inputs.{Inputs}
 -- the graph's links and the columns of all items, of tables that keep V1 to V3
 pub record IsReady (g : Graph) (tables : List NodeTable) (judge : Inputs) : Type 0 where
   pub links : judge.links ≡ links_of g
-  pub lines : AreLines tables (item_count g) judge.lines.items
+  pub lines : AreLines tables (item_count g) judge.lines.now
   pub rules : HoldFrom g tables 1 3

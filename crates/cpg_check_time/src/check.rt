@@ -1,17 +1,49 @@
 //! V5 to V9, one after another.
 ghost use Rattle.std.specs.Prelude.{◌≡◌, IfNone, IfOk, IfSome};
+ghost use Rattle.cpg_base.specs.Graph.{item_count};
 ghost use Rattle.cpg_violation.specs.Heads.{IsHeadFor};
 ghost use Rattle.cpg_violation.specs.Violation.{HoldFrom, IsFirstOf};
+ghost use Rattle.cpg_check_time.specs.Lines.{AreLines};
 
 use crate::due::check_due;
 use crate::frozen::check_frozen;
-use crate::inputs::check_inputs;
-use crate::processor::check_processor;
-use crate::slots::check_slot;
+use crate::inputs::inputs_by;
+use crate::lines::{Line, lines_of};
+use crate::processor::processors_by;
+use crate::slots::slots_by;
 use cpg_base::OutOfMemory;
 use cpg_rules::Admitted;
 use cpg_table::{Fault, Tables};
 use std::alloc::Global;
+
+/// The first violation of V5 to V9, by the columns of each item.
+fn first_by(
+    alloc: Global,
+    admitted: &Admitted,
+    tables: &Tables,
+    lines: &[Line<'_>],
+) -> Result<Option<Fault>, OutOfMemory>
+    requires head { IsHeadFor admitted.now.graph tables.now.head }
+    requires rules { HoldFrom admitted.now.graph tables.now.nodes 1 4 }
+    requires lines { AreLines tables.now.nodes (item_count admitted.now.graph) lines.now }
+    ensures none { IfOk result (λ r. IfNone r (HoldFrom admitted.now.graph tables.now.nodes 5 9)) }
+    ensures first { IfOk result (λ r. IfSome r (IsFirstOf admitted.now.graph admitted.now.order tables.now.nodes 5 9)) }
+{
+    if let Some(fault) = inputs_by(alloc, admitted, tables, lines)? {
+        return Ok(Some(fault));
+    }
+    if let Some(fault) = processors_by(alloc, admitted, tables, lines)? {
+        return Ok(Some(fault));
+    }
+    if let Some(fault) = slots_by(alloc, admitted, tables, lines)? {
+        return Ok(Some(fault));
+    }
+    if let Some(fault) = check_frozen(alloc, admitted, tables)? {
+        return Ok(Some(fault));
+    }
+    let found = check_due(alloc, admitted, tables)?;
+    Ok(found)
+}
 
 /// The first violation of the first of V5 to V9 that is broken, by item and column, with the least scenario in the urgency
 /// order in which it stands. `None` exactly where all five hold. V1 to V4 hold.
@@ -25,18 +57,7 @@ pub fn check_time(
     ensures none { IfOk result (λ r. IfNone r (HoldFrom admitted.now.graph tables.now.nodes 5 9)) }
     ensures first { IfOk result (λ r. IfSome r (IsFirstOf admitted.now.graph admitted.now.order tables.now.nodes 5 9)) }
 {
-    if let Some(fault) = check_inputs(alloc, admitted, tables)? {
-        return Ok(Some(fault));
-    }
-    if let Some(fault) = check_processor(alloc, admitted, tables)? {
-        return Ok(Some(fault));
-    }
-    if let Some(fault) = check_slot(alloc, admitted, tables)? {
-        return Ok(Some(fault));
-    }
-    if let Some(fault) = check_frozen(alloc, admitted, tables)? {
-        return Ok(Some(fault));
-    }
-    let found = check_due(alloc, admitted, tables)?;
+    let lines = lines_of(alloc, admitted.problem(), tables)?;
+    let found = first_by(alloc, admitted, tables, lines.as_slice())?;
     Ok(found)
 }

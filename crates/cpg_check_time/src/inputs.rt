@@ -117,7 +117,7 @@ fn least_of_lacking(
 #[derive(Drop)]
 struct Inputs<'a> {
     links: Links,
-    lines: Vec<Line<'a>>,
+    lines: &'a [Line<'a>],
 }
 
 impl<'a> Judge for Inputs<'a> {
@@ -134,7 +134,7 @@ impl<'a> Judge for Inputs<'a> {
         column: &Entry,
     ) -> Result<Option<Scenario>, OutOfMemory> {
         let problem = admitted.problem();
-        let lines = self.lines.as_slice();
+        let lines = self.lines;
         if item as usize >= problem.processes().len() {
             let process = producer(problem, item);
             let end = Delay::Execution(process);
@@ -154,6 +154,24 @@ impl<'a> Judge for Inputs<'a> {
     ghost late = { Prim.omega arith };
 }
 
+/// The first violation of V5, by the columns of each item.
+pub(crate) fn inputs_by(
+    alloc: Global,
+    admitted: &Admitted,
+    tables: &Tables,
+    lines: &[Line<'_>],
+) -> Result<Option<Fault>, OutOfMemory>
+    requires head { IsHeadFor admitted.now.graph tables.now.head }
+    requires rules { HoldFrom admitted.now.graph tables.now.nodes 1 3 }
+    requires lines { AreLines tables.now.nodes (item_count admitted.now.graph) lines.now }
+    ensures none { IfOk result (λ r. IfNone r (Holds admitted.now.graph tables.now.nodes 5)) }
+    ensures first { IfOk result (λ r. IfSome r (IsFirstViolation admitted.now.graph admitted.now.order tables.now.nodes 5)) }
+{
+    let links = Links::of(alloc, admitted.problem())?;
+    let found = first_violation(alloc, admitted, tables, 5, &Inputs { links, lines })?;
+    Ok(found)
+}
+
 /// The first violation of V5, by item and column, with the least scenario in the urgency order in which it stands: the
 /// column matches, and at a start its time is before the release or a live input isn't there by then, at a send the
 /// producer hasn't ended. `None` exactly where the rule holds. V1, V2 and V3 hold.
@@ -167,9 +185,7 @@ pub fn check_inputs(
     ensures none { IfOk result (λ r. IfNone r (Holds admitted.now.graph tables.now.nodes 5)) }
     ensures first { IfOk result (λ r. IfSome r (IsFirstViolation admitted.now.graph admitted.now.order tables.now.nodes 5)) }
 {
-    let problem = admitted.problem();
-    let links = Links::of(alloc, problem)?;
-    let lines = lines_of(alloc, problem, tables)?;
-    let found = first_violation(alloc, admitted, tables, 5, &Inputs { links, lines })?;
+    let lines = lines_of(alloc, admitted.problem(), tables)?;
+    let found = inputs_by(alloc, admitted, tables, lines.as_slice())?;
     Ok(found)
 }

@@ -144,13 +144,13 @@ fn least_of_lower(
 /// That no two executions on a processor overlap: the columns of each item.
 #[derive(Drop)]
 struct Processors<'a> {
-    lines: Vec<Line<'a>>,
+    lines: &'a [Line<'a>],
 }
 
 impl<'a> Judge for Processors<'a> {
     ghost number = { 6 };
 
-    ghost suits = { λ judge g tables. AreLines tables (item_count g) judge.lines.items };
+    ghost suits = { λ judge g tables. AreLines tables (item_count g) judge.lines.now };
 
     fn least(
         &self,
@@ -163,12 +163,28 @@ impl<'a> Judge for Processors<'a> {
         if item as usize >= admitted.problem().processes().len() {
             return Ok(None);
         }
-        let lines = self.lines.as_slice();
+        let lines = self.lines;
         let least = least_of_lower(alloc, admitted, tables, lines, item, column)?;
         Ok(least)
     }
 
     ghost late = { Prim.omega arith };
+}
+
+/// The first violation of V6, by the columns of each item.
+pub(crate) fn processors_by(
+    alloc: Global,
+    admitted: &Admitted,
+    tables: &Tables,
+    lines: &[Line<'_>],
+) -> Result<Option<Fault>, OutOfMemory>
+    requires head { IsHeadFor admitted.now.graph tables.now.head }
+    requires lines { AreLines tables.now.nodes (item_count admitted.now.graph) lines.now }
+    ensures none { IfOk result (λ r. IfNone r (Holds admitted.now.graph tables.now.nodes 6)) }
+    ensures first { IfOk result (λ r. IfSome r (IsFirstViolation admitted.now.graph admitted.now.order tables.now.nodes 6)) }
+{
+    let found = first_violation(alloc, admitted, tables, 6, &Processors { lines })?;
+    Ok(found)
 }
 
 /// The first violation of V6, by process and column, with the least scenario in the urgency order in which it stands: the
@@ -184,6 +200,6 @@ pub fn check_processor(
     ensures first { IfOk result (λ r. IfSome r (IsFirstViolation admitted.now.graph admitted.now.order tables.now.nodes 6)) }
 {
     let lines = lines_of(alloc, admitted.problem(), tables)?;
-    let found = first_violation(alloc, admitted, tables, 6, &Processors { lines })?;
+    let found = processors_by(alloc, admitted, tables, lines.as_slice())?;
     Ok(found)
 }

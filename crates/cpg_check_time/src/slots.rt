@@ -165,13 +165,13 @@ fn least_of_lower(
 /// That each send has a slot of its own: the columns of each item.
 #[derive(Drop)]
 struct Slots<'a> {
-    lines: Vec<Line<'a>>,
+    lines: &'a [Line<'a>],
 }
 
 impl<'a> Judge for Slots<'a> {
     ghost number = { 7 };
 
-    ghost suits = { λ judge g tables. AreLines tables (item_count g) judge.lines.items };
+    ghost suits = { λ judge g tables. AreLines tables (item_count g) judge.lines.now };
 
     fn least(
         &self,
@@ -189,12 +189,28 @@ impl<'a> Judge for Slots<'a> {
             let least = column.cube.least(alloc, problem)?;
             return Ok(least);
         }
-        let lines = self.lines.as_slice();
+        let lines = self.lines;
         let least = least_of_lower(alloc, admitted, tables, lines, item, column)?;
         Ok(least)
     }
 
     ghost late = { Prim.omega arith };
+}
+
+/// The first violation of V7, by the columns of each item.
+pub(crate) fn slots_by(
+    alloc: Global,
+    admitted: &Admitted,
+    tables: &Tables,
+    lines: &[Line<'_>],
+) -> Result<Option<Fault>, OutOfMemory>
+    requires head { IsHeadFor admitted.now.graph tables.now.head }
+    requires lines { AreLines tables.now.nodes (item_count admitted.now.graph) lines.now }
+    ensures none { IfOk result (λ r. IfNone r (Holds admitted.now.graph tables.now.nodes 7)) }
+    ensures first { IfOk result (λ r. IfSome r (IsFirstViolation admitted.now.graph admitted.now.order tables.now.nodes 7)) }
+{
+    let found = first_violation(alloc, admitted, tables, 7, &Slots { lines })?;
+    Ok(found)
 }
 
 /// The first violation of V7, by item and column, with the least scenario in the urgency order in which it stands: the
@@ -210,6 +226,6 @@ pub fn check_slot(
     ensures first { IfOk result (λ r. IfSome r (IsFirstViolation admitted.now.graph admitted.now.order tables.now.nodes 7)) }
 {
     let lines = lines_of(alloc, admitted.problem(), tables)?;
-    let found = first_violation(alloc, admitted, tables, 7, &Slots { lines })?;
+    let found = slots_by(alloc, admitted, tables, lines.as_slice())?;
     Ok(found)
 }
