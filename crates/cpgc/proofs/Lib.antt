@@ -7,3 +7,4 @@ pub mod MemoryStops
 pub mod Written
 pub mod Later
 pub mod Checked
+pub mod EndsWithin

@@ -73,6 +73,7 @@ pub fn play_text(
         &played.lengths,
     )?;
     let waits = cluster.drive(number);
+    let _lengths = cluster.lengths();
     let lengths = listed(alloc, &played.lengths, problem.processes().len() as u32)?;
     let nodes = traces(alloc, &cluster, problem.nodes().len() as u32)?;
     let mut text = trace_text(alloc, problem, lengths.as_slice(), nodes.as_slice())?;

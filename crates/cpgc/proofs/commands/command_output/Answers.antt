@@ -1,0 +1,12 @@
+use Rattle.std.proofs.Common.{◌≡◌, sym, subst}
+use Rattle.std.specs.Prelude.{IfErr}
+use Rattle.cpg_words.specs.declared.command.Command.{Command}
+use Rattle.cpgc.specs.Causes.{Seen, StopsCommand}
+use Rattle.cpgc.proofs.commands.command_output.Goals as goal
+
+pub returns-in-Play-clause-halt : goal.returns-in-Play-clause-halt
+returns-in-Play-clause-halt g c =
+    let S = g.S.Shelf in
+    let seen : Seen = record { stands = S.stands c.args.shelf.now; given = S.given c.play_files.new.shelf; before = S.faults c.args.shelf.now; now = S.faults c.play_files.new.shelf } in
+    subst (λ (command : Command). IfErr c.play_files.result (StopsCommand seen command)) (sym c.in-Play.is)
+    (rw (c.as_str-in-Play.ensures, c.as_str-in-Play-2.ensures, c.as_str-in-Play-3.ensures) at c.play_files.ensures.halt)
