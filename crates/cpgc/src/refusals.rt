@@ -128,11 +128,16 @@ fn cause_text(cause: Cause) -> &'static str
     }
 }
 
+fn write_cause(out: &mut String, cause: &str) -> Result<(), AllocError>
+    ensures { OnOk result (string_bytes out.new ≡ string_bytes out.old ++ (codes "12 scenario " ++ cause.now)) }
+{
+    write!(out, "12 scenario {cause}")
+}
+
 fn write_scenario(out: &mut String, cause: Cause) -> Result<(), AllocError>
     ensures { OnOk result (string_bytes out.new ≡ string_bytes out.old ++ (codes "12 scenario " ++ cause_text cause)) }
 {
-    out.push_str("12 scenario ")?;
-    out.push_str(cause_text(cause))
+    write_cause(out, cause_text(cause))
 }
 
 fn part_text(part: HeadPart) -> &'static str
