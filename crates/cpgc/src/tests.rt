@@ -302,3 +302,51 @@ fn frozen_times(rt: HostRuntime) -> Result<(), Fail> {
     assert_eq!(rt; (copy.of(0), copy.of(1)), (None, Some(72)));
     Ok(())
 }
+
+/// A on N1 and B on N2, with a message from A to B.
+const PAIR: &str =
+    "faults = 1\ndeadline = 105\nnode = [{ name = \"N1\" }, { name = \"N2\" }]\nslot = [{ node = \"N1\", length = 10, bytes = 8 }, { node = \"N2\", length = 10, bytes = 8 }]\nprocess = [{ name = \"A\", node = \"N1\", wcet = 30, alpha = 2, chi = 3, mu = 5 }, { name = \"B\", node = \"N2\", wcet = 10, alpha = 2, chi = 3, mu = 5 }]\nedge = [{ from = \"A\", to = \"B\", bytes = 1 }]\n";
+
+/// The same with the message frozen.
+const FROZEN_PAIR: &str =
+    "faults = 1\ndeadline = 122\nnode = [{ name = \"N1\" }, { name = \"N2\" }]\nslot = [{ node = \"N1\", length = 10, bytes = 8 }, { node = \"N2\", length = 10, bytes = 8 }]\nprocess = [{ name = \"A\", node = \"N1\", wcet = 30, alpha = 2, chi = 3, mu = 5 }, { name = \"B\", node = \"N2\", wcet = 10, alpha = 2, chi = 3, mu = 5 }]\nedge = [{ from = \"A\", to = \"B\", bytes = 1, frozen = true }]\n";
+
+#[test]
+fn two_nodes(rt: HostRuntime) -> Result<(), Fail> {
+    let alloc = rt.alloc();
+    for (graph, out) in [
+        (
+            PAIR,
+            "order A B\nworst 105\nstart A on N1\n  0: always\nstart B on N2\n  50: A faults 0\n  90: A faults 1\nsend e0 A>B on N1\n  40: A faults 0\n  80: A faults 1\n",
+        ),
+        (
+            FROZEN_PAIR,
+            "order A B\nworst 122\nstart A on N1\n  0: always\nstart B on N2\n  90: always\nsend e0 A>B on N1\n  80: always\n",
+        ),
+    ] {
+        let got = shown(alloc, graph.as_bytes())?;
+        assert_eq!(rt; got.out.taken(), out.as_bytes());
+        assert_eq!(rt; (got.status, got.err.taken().len()), (0, 0));
+    }
+    Ok(())
+}
+
+#[test]
+fn checks_and_plays(rt: HostRuntime) -> Result<(), Fail> {
+    let alloc = rt.alloc();
+    let mut shelf = MemoryShelf::new(alloc)?;
+    shelf.put("g", PAIR.as_bytes())?;
+    shelf.put("s", b"[faults]\nA = 1\n")?;
+    let made = run_over(alloc, &mut shelf, &["compile", "g"], 1000, 1000)?;
+    assert_eq!(rt; made.status, 0);
+    shelf.put("p", made.out.taken())?;
+    let got = run_over(alloc, &mut shelf, &["check", "g", "p"], 1000, 1000)?;
+    assert_eq!(rt; got.out.taken(), b"safe\n".as_slice());
+    let words = ["play", "g", "p", "s", "--turns", "0"];
+    let got = run_over(alloc, &mut shelf, words.as_slice(), 1000, 1000)?;
+    assert_eq!(rt;
+        got.out.taken(),
+        b"0 N1 start A\n72 N1 end A faults 1\n80 N1 send e0\n90 N2 start B\n105 N2 end B faults 0\nfinish 105\nwaits 2\n".as_slice()
+    );
+    Ok(())
+}
