@@ -350,3 +350,41 @@ fn checks_and_plays(rt: HostRuntime) -> Result<(), Fail> {
     );
     Ok(())
 }
+
+/// A condition on N1 that decides whether B on N2 or C on N1 runs, and a join of both.
+const BRANCHING: &str =
+    "faults = 0\ndeadline = 95\nnode = [{ name = \"N1\" }, { name = \"N2\" }]\nslot = [{ node = \"N1\", length = 10, bytes = 8 }, { node = \"N2\", length = 10, bytes = 8 }]\nprocess = [{ name = \"A\", node = \"N1\", wcet = 30, alpha = 2, chi = 3, mu = 5 }, { name = \"B\", node = \"N2\", wcet = 10, alpha = 2, chi = 3, mu = 5 }, { name = \"C\", node = \"N1\", wcet = 10, alpha = 2, chi = 3, mu = 5 }, { name = \"J\", node = \"N2\", wcet = 5, join = true, alpha = 2, chi = 3, mu = 5 }]\nedge = [{ from = \"A\", to = \"B\", bytes = 1, when = true }, { from = \"A\", to = \"C\", bytes = 1, when = false }, { from = \"B\", to = \"J\", bytes = 1 }, { from = \"C\", to = \"J\", bytes = 1 }]\n";
+
+#[test]
+fn branches(rt: HostRuntime) -> Result<(), Fail> {
+    let alloc = rt.alloc();
+    let got = shown(alloc, BRANCHING.as_bytes())?;
+    assert_eq!(rt;
+        got.out.taken(),
+        b"order A C B J\nworst 95\nstart A on N1\n  0: always\nstart B on N2\n  70: A true\nstart C on N1\n  35: A false\nstart J on N2\n  70: A false\n  85: A true\nsend e0 A>B on N1\n  60: A true\nsend e3 C>J on N1\n  60: A false\ntell A on N1\n  40: always\n".as_slice()
+    );
+    Ok(())
+}
+
+#[test]
+fn ranges(rt: HostRuntime) -> Result<(), Fail> {
+    let alloc = rt.alloc();
+    for (deadline, status, out, err) in [
+        (
+            70,
+            0,
+            "order A B\nworst 70\nstart A on N1\n  0: always\nstart B on N2\n  30: A faults 0\n  50: A faults 1..2\nsend e0 A>B on N1\n  20: A faults 0\n  40: A faults 1..2\n",
+            "",
+        ),
+        (69, 5, "", "cpgc: late 70 by B in A faults 1, B faults 1\n"),
+    ] {
+        let graph = format!(in alloc;
+            "faults = 2\ndeadline = {deadline}\nnode = [{{ name = \"N1\" }}, {{ name = \"N2\" }}]\nslot = [{{ node = \"N1\", length = 10, bytes = 8 }}, {{ node = \"N2\", length = 10, bytes = 8 }}]\nprocess = [{{ name = \"A\", node = \"N1\", wcet = 20, parts = 10 }}, {{ name = \"B\", node = \"N2\", wcet = 10 }}]\nedge = [{{ from = \"A\", to = \"B\", bytes = 1 }}]\n"
+        )?;
+        let got = shown(alloc, graph.as_bytes())?;
+        assert_eq!(rt; got.out.taken(), out.as_bytes());
+        assert_eq!(rt; got.err.taken(), err.as_bytes());
+        assert_eq!(rt; got.status, status);
+    }
+    Ok(())
+}
