@@ -7,7 +7,5 @@ mod hearing;
 mod items;
 mod parts;
 mod tellers;
-#[cfg(test)]
-mod tests;
 
 pub use heard::check_heard;
