@@ -108,7 +108,7 @@ module _ (g : Graph) (within : IsWithinLimits g) (urgency order : List ℕ) (adm
 
   one_has : (x : ℕ) → columns_of (one_table rows) x ≡ (row_for rows x).columns
   one_has x = ap (λ rs. columns_in rs x) all_rows ∙ elim (cases_lt x (item_count g)) [
-    | inl l ↦ ap (columns_in rows) (let e : x ≡ 0 + x = omega arith in e) ∙ columns_there rows 0 x (omega (arith, l, long)) (λ i m. item_is i (omega (arith, m, long)) ∙ omega arith)
+    | inl l ↦ let first : ℕ = 0 in ap (columns_in rows) (let e : x ≡ first + x = omega arith in e) ∙ columns_there rows first x (omega (arith, l, long)) (λ i m. item_is i (omega (arith, m, long)) ∙ omega arith)
     | inr past ↦ columns_nowhere rows x (λ i m e. let own = item_is i (omega (arith, m, long)) in absurd (omega (arith, m, long, own, e, past)))
         ∙ sym (ap (λ (row : Row). row.columns) (get_or_past rows x no_row (omega (arith, past, long))))
   ]
