@@ -225,6 +225,7 @@ impl Problem {
     pub fn process_of(&self, condition: u32) -> u32
         requires { condition < condition_count self.now }
         ensures process { result ≡ process_of self.now condition }
+        ensures within { result < process_count self.now }
         ensures back { condition_of self.now result ≡ Some condition }
     {
         self.conditions.processes()[condition as usize]

@@ -6,7 +6,6 @@ ghost use Rattle.cpg_order.specs.Cycle.{IsCycle, has_edge};
 ghost use Rattle.cpg_order.specs.Settling.{AreStuck, IsCycleBack};
 
 use crate::Links;
-use crate::tails::source;
 use cpg_base::{OutOfMemory, Problem};
 use std::alloc::Global;
 
@@ -35,7 +34,7 @@ fn waiting_source(problem: &Problem, links: &Links, waiting: &[u32], process: u3
     ensures edge { IsTrue (has_edge problem.now result process) }
 {
     for edge in links.inputs(process) {
-        let source = source(problem, *edge);
+        let source = problem.source(*edge);
         if waiting[source as usize] > 0 {
             return source;
         }

@@ -7,7 +7,6 @@ ghost use Rattle.cpg_order.specs.Links.{links_of};
 ghost use Rattle.cpg_order.specs.Settling.{AreReady, AreSettled};
 
 use crate::Links;
-use crate::tails::target;
 use cpg_base::{OutOfMemory, Problem};
 use std::alloc::Global;
 
@@ -80,7 +79,7 @@ fn release_all(
     ensures longer { OnOk result ((more : List ℕ) × (ready.new.items ≡ ready.old.items ++ more)) }
 {
     for edge in edges {
-        release(target(problem, *edge), waiting, ready)?;
+        release(problem.target(*edge), waiting, ready)?;
     }
     Ok(())
 }

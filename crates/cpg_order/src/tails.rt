@@ -11,32 +11,14 @@ use crate::{Links, Order};
 use cpg_base::{OutOfMemory, Problem};
 use std::alloc::Global;
 
-/// The process that an edge leads away from.
-pub(crate) fn source(problem: &Problem, edge: u32) -> u32
-    requires { edge < edge_count problem.now }
-    ensures source { result ≡ source problem.now edge }
-    ensures within { result < process_count problem.now }
-{
-    problem.edges()[edge as usize].from
-}
-
-/// The process that an edge leads to.
-pub(crate) fn target(problem: &Problem, edge: u32) -> u32
-    requires { edge < edge_count problem.now }
-    ensures target { result ≡ target problem.now edge }
-    ensures within { result < process_count problem.now }
-{
-    problem.edges()[edge as usize].to
-}
-
 /// How long an edge takes: a round where it is a message, and no time within a node.
 fn delay(problem: &Problem, edge: u32, turn: u64) -> u64
     requires { edge < edge_count problem.now }
     ensures { result ≡ (if is_message problem.now edge then turn else 0) }
 {
     let processes = problem.processes();
-    let from = processes[source(problem, edge) as usize].node;
-    let to = processes[target(problem, edge) as usize].node;
+    let from = processes[problem.source(edge) as usize].node;
+    let to = processes[problem.target(edge) as usize].node;
     if from == to { 0 } else { turn }
 }
 
@@ -50,7 +32,7 @@ fn longest(problem: &Problem, turn: u64, outputs: &[u32], tails: &[u64]) -> u64
 {
     let mut longest = 0;
     for edge in outputs {
-        let way = delay(problem, *edge, turn) + tails[target(problem, *edge) as usize];
+        let way = delay(problem, *edge, turn) + tails[problem.target(*edge) as usize];
         longest = longest.max(way);
     }
     longest

@@ -9,7 +9,7 @@ ghost use Rattle.cpg_reach.specs.Walked.{AreEmpty, AreReaches, IsWalkedTo};
 
 use crate::conditions::deciding_values;
 use crate::sending::{broadcast_of, message_of};
-use crate::starting::{add_heard, node_of, start_of};
+use crate::starting::{add_heard, start_of};
 use crate::variables::Variables;
 use cpg_base::{OutOfMemory, Problem};
 use cpg_order::Order;
@@ -53,7 +53,8 @@ fn settle_start(
     requires walked { IsWalkedTo problem.now order.now (place order.now process) (place order.now process * phases problem.now) walk.old }
     ensures { IsWalkedTo problem.now order.now (place order.now process + 1) (place order.now process * phases problem.now + 2) walk.new }
 {
-    let node = node_of(problem, process);
+    let _processes = problem.processes();
+    let node = problem.node_of(process);
     let reach = start_of(
         problem,
         deciding,
@@ -107,7 +108,7 @@ fn settle_broadcast(problem: &Problem, order: &Order, process: u32, walk: &mut W
         condition,
     );
     let item = problem.processes().len() + problem.edges().len() + condition as usize;
-    settle(item, node_of(problem, process), reach, walk);
+    settle(item, problem.node_of(process), reach, walk);
 }
 
 /// Finds the reach of the message of an edge, if the edge comes from the process.
@@ -137,7 +138,7 @@ fn settle_message(
         edge,
     );
     let item = problem.processes().len() + edge as usize;
-    settle(item, node_of(problem, process), reach, walk);
+    settle(item, problem.node_of(process), reach, walk);
 }
 
 /// Finds the reaches of the start of a process and of all that may be sent after its end.

@@ -6,7 +6,7 @@ ghost use Rattle.cpg_reach.specs.Variables.{HasSame};
 ghost use Rattle.cpg_reach.specs.Tested.{AreDecidingValues};
 ghost use Rattle.cpg_reach.specs.Walked.{send_by};
 
-use crate::starting::{add_end, add_source_value, node_of};
+use crate::starting::{add_end, add_source_value};
 use crate::variables::Variables;
 use cpg_base::Problem;
 
@@ -26,8 +26,8 @@ pub fn message_of(
     ensures { HasSame result (send_by problem.now reaches.now sent.now (Message edge)) }
 {
     let ends = problem.edges()[edge as usize];
-    let node = node_of(problem, ends.from);
-    if node == node_of(problem, ends.to) {
+    let node = problem.node_of(ends.from);
+    if node == problem.node_of(ends.to) {
         return Variables::none();
     }
     let mut reach = if ends.frozen {
@@ -68,6 +68,6 @@ pub fn broadcast_of(
         return Variables::none();
     }
     let process = problem.process_of(condition);
-    let node = node_of(problem, process);
+    let node = problem.node_of(process);
     after_end(reaches, sent, process, node)
 }

@@ -11,16 +11,6 @@ ghost use Rattle.cpg_reach.specs.Walked.{heard_by, start_by};
 use crate::variables::{FIRST_VALUE, Variables};
 use cpg_base::Problem;
 
-/// The node of a process.
-pub fn node_of(problem: &Problem, process: u32) -> u32
-    requires { process < process_count problem.now }
-    ensures node { result ≡ node_of problem.now process }
-    ensures within { result < length problem.now.nodes }
-    ensures few { process < 128 }
-{
-    problem.processes()[process as usize].node
-}
-
 /// Adds what an end depends on: its start, and its faults.
 pub fn add_end(reaches: &[Variables], process: u32, reach: &mut Variables)
     requires process { process < length reaches.now }
@@ -58,11 +48,11 @@ fn add_hearing(
     ensures { Adds reach.old (hearing_reach problem.now reaches.now node condition) reach.new }
 {
     let process = problem.process_of(condition);
-    if node_of(problem, process) == node {
+    let first_broadcast = problem.processes().len() + problem.edges().len();
+    if problem.node_of(process) == node {
         add_end(reaches, process, reach);
     } else {
-        let broadcast = problem.processes().len() + problem.edges().len() + condition as usize;
-        reach.add(&reaches[broadcast]);
+        reach.add(&reaches[first_broadcast + condition as usize]);
     }
 }
 
@@ -95,7 +85,7 @@ fn add_input(problem: &Problem, reaches: &[Variables], edge: u32, reach: &mut Va
     ensures { Adds reach.old (input_reach problem.now reaches.now edge) reach.new }
 {
     let ends = problem.edges()[edge as usize];
-    if node_of(problem, ends.from) == node_of(problem, ends.to) {
+    if problem.node_of(ends.from) == problem.node_of(ends.to) {
         add_end(reaches, ends.from, reach);
     } else {
         let message = problem.processes().len() + edge as usize;
@@ -133,7 +123,7 @@ pub fn start_of(
     if problem.processes()[process as usize].frozen {
         return deciding[process as usize].copy();
     }
-    let node = node_of(problem, process);
+    let node = problem.node_of(process);
     let mut reach = known[node as usize].copy();
     add_heard(problem, deciding, reaches, node, process, &mut reach);
     add_inputs(problem, reaches, process, &mut reach);

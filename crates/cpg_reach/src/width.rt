@@ -8,7 +8,6 @@ ghost use Rattle.cpg_reach.specs.Wide.{HasViews, HasLoads, is_wide_by, IsLeastWi
 
 use crate::counting::Counter;
 use crate::reaches::reaches;
-use crate::starting::node_of;
 use crate::variables::Variables;
 use cpg_base::{OutOfMemory, Problem};
 use cpg_order::Order;
@@ -33,7 +32,7 @@ fn rows_of_item(problem: &Problem, item: u32) -> u64
     let edge = (item - processes) as usize;
     if edge < problem.edges().len() {
         let ends = problem.edges()[edge];
-        if node_of(problem, ends.from) == node_of(problem, ends.to) {
+        if problem.node_of(ends.from) == problem.node_of(ends.to) {
             return 0;
         }
         return 2;

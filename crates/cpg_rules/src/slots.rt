@@ -7,22 +7,14 @@ ghost use Rattle.cpg_rules.specs.Rules.{is_message_of, sends_message, decides, i
 
 use cpg_base::{Problem, Slot};
 
-/// The node of a process.
-fn node_of(problem: &Problem, process: u32) -> u32
-    requires { process < process_count problem.now }
-    ensures { result ≡ node_of problem.now process }
-{
-    problem.processes()[process as usize].node
-}
-
 /// Whether an edge is a message of this node.
 fn is_message_of(problem: &Problem, edge: u32, node: u32) -> bool
     requires { edge < edge_count problem.now }
     ensures { result ≡ is_message_of problem.now edge node }
 {
     let ends = problem.edges()[edge as usize];
-    let sender = node_of(problem, ends.from);
-    if sender == node_of(problem, ends.to) {
+    let sender = problem.node_of(ends.from);
+    if sender == problem.node_of(ends.to) {
         return false;
     }
     sender == node
@@ -45,7 +37,7 @@ fn decides(problem: &Problem, node: u32) -> bool
     ensures { result ≡ decides problem.now node }
 {
     for condition in 0..problem.conditions() {
-        if node_of(problem, problem.process_of(condition)) == node {
+        if problem.node_of(problem.process_of(condition)) == node {
             return true;
         }
     }
@@ -114,8 +106,8 @@ fn is_too_big(problem: &Problem, edge: u32) -> bool
     ensures { result ≡ is_too_big problem.now edge }
 {
     let ends = problem.edges()[edge as usize];
-    let sender = node_of(problem, ends.from);
-    if sender == node_of(problem, ends.to) {
+    let sender = problem.node_of(ends.from);
+    if sender == problem.node_of(ends.to) {
         return false;
     }
     ends.size > slot_bytes(problem.slots(), sender)

@@ -8,32 +8,6 @@ use crate::labels::Labels;
 use cpg_base::Problem;
 use std::alloc::AllocError;
 
-/// The process that an item comes from.
-pub(crate) fn producer(problem: &Problem, item: u32) -> u32
-    requires { item < item_count problem.now }
-    ensures producer { result ≡ producer problem.now item }
-    ensures within { result < process_count problem.now }
-{
-    let messages = problem.processes().len() as u32;
-    if item < messages {
-        return item;
-    }
-    let broadcasts = messages + problem.edges().len() as u32;
-    if item < broadcasts {
-        return problem.edges()[(item - messages) as usize].from;
-    }
-    problem.process_of(item - broadcasts)
-}
-
-/// The node of a process.
-pub(crate) fn node_of(problem: &Problem, process: u32) -> u32
-    requires { process < process_count problem.now }
-    ensures node { result ≡ node_of problem.now process }
-    ensures within { result < length problem.now.nodes }
-{
-    problem.processes()[process as usize].node
-}
-
 /// Whether an item is started or sent.
 pub(crate) fn is_shown(problem: &Problem, item: u32) -> bool
     requires { item < item_count problem.now }
@@ -47,7 +21,7 @@ pub(crate) fn is_shown(problem: &Problem, item: u32) -> bool
         return problem.nodes().len() > 1;
     }
     let edge = problem.edges()[(item - messages) as usize];
-    node_of(problem, edge.from) != node_of(problem, edge.to)
+    problem.node_of(edge.from) != problem.node_of(edge.to)
 }
 
 fn write_edge(out: &mut String, labels: &Labels<'_>, edge: u32) -> Result<(), AllocError>

@@ -9,7 +9,7 @@ ghost use Rattle.cpg_show.specs.TableText.{head_line, item_text, table_text};
 
 use crate::columns::write_columns;
 use crate::found::find_columns;
-use crate::items::{is_shown, node_of, producer, write_act};
+use crate::items::{is_shown, write_act};
 use crate::labels::Labels;
 use cpg_base::{OutOfMemory, Problem};
 use cpg_order::Order;
@@ -45,7 +45,7 @@ fn write_head_line(
     ensures { OnOk result (string_bytes out.new ≡ string_bytes out.old ++ head_line problem.now item) }
 {
     write_act(out, labels, item)?;
-    let node = node_of(problem, producer(problem, item));
+    let node = problem.node_of(problem.producer(item));
     let name = problem.nodes()[node as usize].as_str();
     write!(out, " on {name}\n")
 }

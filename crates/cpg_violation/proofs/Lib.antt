@@ -3,5 +3,4 @@ pub mod Violations
 pub mod ActiveWhere
 pub mod HeadLaws
 pub mod Columnwise
-pub mod Variables
 pub mod SieveLaws

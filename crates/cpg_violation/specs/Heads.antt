@@ -1,5 +1,5 @@
 -- Whether the head of a pack is that of a graph.
-use Rattle.std.specs.Prelude.{◌≡◌, List, IfSome, map}
+use Rattle.std.specs.Prelude.{◌≡◌, IfSome, map}
 use Rattle.cpg_base.specs.Graph.{Graph}
 use Rattle.cpg_table.specs.GraphHead.{extra_of, head_of}
 use Rattle.cpg_table.specs.Head.{Head}

@@ -8,15 +8,6 @@ ghost use Rattle.cpg_violation.specs.Columns.{row_columns};
 use cpg_base::Problem;
 use cpg_table::{Entry, Row, Tables};
 
-/// How many items there are.
-pub fn item_count(problem: &Problem) -> u32
-    ensures { result ≡ item_count problem.now }
-{
-    let processes = problem.processes().len() as u32;
-    let edges = problem.edges().len() as u32;
-    processes + edges + problem.conditions()
-}
-
 /// The columns of the first row of an item, and `None` exactly where there is no row of it.
 pub fn row_columns(rows: &[Row], item: u32) -> Option<&[Entry]>
     ensures { option_map (λ c. c.now) result ≡ row_columns rows.now item }

@@ -1,6 +1,6 @@
-//! Edges: their ends, whether they are messages, and the scenarios that let them be live.
+//! The cubes of columns, and the scenarios that let edges be live.
 ghost use Rattle.std.specs.Prelude.{◌≡◌, ◌<◌, IfOk, map};
-ghost use Rattle.cpg_base.specs.Graph.{condition_of, edge_at, edge_count, is_message, node_of, process_count, source, target};
+ghost use Rattle.cpg_base.specs.Graph.{condition_of, edge_at, edge_count, process_count, source};
 ghost use Rattle.cpg_guard.specs.Guards.{is_passed, test_of};
 ghost use Rattle.cpg_order.specs.Scenario.{Scenario};
 ghost use Rattle.cpg_cube.specs.Cube.{matches};
@@ -41,32 +41,4 @@ pub fn edge_cube(alloc: Global, problem: &Problem, edge: u32) -> Result<Cube, Ou
     };
     cube.push(value_literal(condition, value))?;
     Ok(cube)
-}
-
-/// The node that a process runs on.
-pub fn node_of(problem: &Problem, process: u32) -> u32
-    requires { process < process_count problem.now }
-    ensures { result ≡ node_of problem.now process }
-{
-    problem.processes()[process as usize].node
-}
-
-/// The process that an edge leads away from.
-pub fn source(problem: &Problem, edge: u32) -> u32
-    requires { edge < edge_count problem.now }
-    ensures { result ≡ source problem.now edge }
-{
-    problem.edges()[edge as usize].from
-}
-
-/// Whether an edge is a message: its ends lie on two nodes.
-pub fn is_message(problem: &Problem, edge: u32) -> bool
-    requires edge { edge < edge_count problem.now }
-    requires from { source problem.now edge < process_count problem.now }
-    requires to { target problem.now edge < process_count problem.now }
-    ensures { result ≡ is_message problem.now edge }
-{
-    let from = source(problem, edge);
-    let to = problem.edges()[edge as usize].to;
-    node_of(problem, from) != node_of(problem, to)
 }

@@ -15,9 +15,9 @@ use std::marker::Model;
 /// How many times places are parted at most.
 const DEPTH: u32 = 160;
 /// So many places aren't parted.
-const FEW: usize = 12;
+const FEW: usize = 24;
 /// How many places are looked at to choose a cut.
-const SAMPLE: usize = 32;
+const SAMPLE: usize = 8;
 
 /// The places of the columns of a row, parted by whether a variable may be at most a number: seen as a tree of such cuts.
 /// A place stands on both sides where its column may match on both.

@@ -41,3 +41,6 @@ returns c =
     c.start_of-reach.result c.copy-known.result c.add_heard.new.reach c.add.new.self c.insert.new.self c.start_of-reach.ensures
     (c.copy-known.ensures ∙ set_at c.args.walk.now.known.items c.node_of-node.result c.index.result.now (omega (arith, w.1, c.node_of-node.ensures.within)) c.index.ensures)
     c.add_heard.ensures c.add.ensures c.insert.ensures
+
+pub insert-requires : goal.insert-requires
+insert-requires c = omega (arith, c.processes-processes.ensures.within.few_processes, c.requires.process)

@@ -16,7 +16,7 @@ pub after_end-requires-clause-process : goal.after_end-requires-clause-process
 after_end-requires-clause-process c = omega (arith, process_of_below c.args.problem.now c.args.condition c.requires.condition, c.process_of-process.ensures.process, c.requires.items)
 
 pub after_end-requires-clause-variable : goal.after_end-requires-clause-variable
-after_end-requires-clause-variable c = c.node_of-node.ensures.few
+after_end-requires-clause-variable c = omega (arith, c.nodes.ensures.within.few_processes, c.process_of-process.ensures.within)
 
 pub returns : goal.returns
 returns c = broadcast_sent c.args.problem.now c.args.reaches.now c.args.sent.now c.args.condition c.process_of-process.result c.node_of-node.result c.after_end.result

@@ -9,4 +9,4 @@ pub add_end-requires-clause-process : goal.add_end-requires-clause-process
 add_end-requires-clause-process c = omega (arith, process_of_below c.args.problem.now c.args.condition c.requires.condition, c.process_of-process.ensures.process, c.requires.items)
 
 pub add_end-requires-clause-variable : goal.add_end-requires-clause-variable
-add_end-requires-clause-variable c = c.node_of.ensures.few
+add_end-requires-clause-variable c = omega (arith, c.processes.ensures.within.few_processes, c.process_of-process.ensures.within)

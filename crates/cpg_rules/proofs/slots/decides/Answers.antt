@@ -16,7 +16,7 @@ returns-then-node_of-node c =
     let count = c.conditions-condition-end.ensures.count in
     sym (any_there (λ d. node_of c.args.problem.now (process_of c.args.problem.now d) == c.args.node) (condition_count c.args.problem.now) c.loop-condition.condition (omega arith)
     (eq-eqb (node_of c.args.problem.now (process_of c.args.problem.now c.loop-condition.condition)) c.args.node
-    (sym (ap (node_of c.args.problem.now) c.process_of.ensures.process) ∙ sym c.node_of.ensures ∙ c.if-node_of-node.true)))
+    (sym (ap (node_of c.args.problem.now) c.process_of.ensures.process) ∙ sym c.node_of.ensures.node ∙ c.if-node_of-node.true)))
 
 pub returns : goal.returns
 returns c =
