@@ -1,6 +1,6 @@
 //! Frozen times.
 ghost use Rattle.std.specs.Prelude.{◌≡◌, ◌<◌, IfOk, None, Some, length, slice_set, get_or};
-ghost use Rattle.cpg_run.specs.Plain.{nothing_frozen};
+ghost use Rattle.cpg_run.specs.Frozen.{nothing_frozen};
 
 use cpg_base::{OutOfMemory, Problem};
 use std::alloc::Global;

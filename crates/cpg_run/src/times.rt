@@ -1,6 +1,7 @@
 //! The times of a run.
-ghost use Rattle.std.specs.Prelude.{◌≡◌, None, get_or};
+ghost use Rattle.std.specs.Prelude.{◌≡◌, IfOk, None, get_or};
 
+use cpg_base::OutOfMemory;
 use std::marker::Model;
 
 /// When each item starts or is sent, when each process ends, and when all have ended, in time units: seen as a list with
@@ -57,5 +58,16 @@ impl RunTimes {
         ensures { result ≡ self.now.finish }
     {
         self.finish
+    }
+
+    /// Equal times.
+    pub fn copy(&self) -> Result<RunTimes, OutOfMemory>
+        ensures { IfOk result (λ copy. copy ≡ self.now) }
+    {
+        Ok(RunTimes {
+            times: self.times.clone()?,
+            ends: self.ends.clone()?,
+            finish: self.finish,
+        })
     }
 }
