@@ -7,3 +7,7 @@ pub mod Latests
 pub mod FrozenOrder
 pub mod EarlyTimes
 pub mod Settled
+pub mod Swept
+pub mod ActiveAlike
+pub mod Placed
+pub mod Showing

@@ -8,8 +8,7 @@ use Rattle.cpg_base.specs.Graph.{Graph, item_count, is_frozen}
 use Rattle.cpg_base.specs.Limits.{IsWithinLimits}
 use Rattle.cpg_order.specs.Urgency.{IsTopological}
 use Rattle.cpg_order.proofs.Moments.{moment}
-use Rattle.cpg_run.specs.Frozen.{WouldHave, IsFrozenTime, AreFrozenTimes}
-use Rattle.cpg_run.specs.Plain.{nothing_frozen}
+use Rattle.cpg_run.specs.Frozen.{WouldHave, IsFrozenTime, AreFrozenTimes, nothing_frozen}
 use Rattle.cpg_run.proofs.RunUnique.{agree_before, unfrozen_same}
 use Rattle.cpg_run.proofs.RunExists.{the_run, run_exists}
 use Rattle.cpg_times.specs.Known.{AreEarly}
@@ -81,7 +80,7 @@ module _ (g : Graph) (order : List ℕ) (topological : IsTopological g order) wh
         none x = ap (λ f. get_or f x None) is ∙ none_frozen h x
 
     module _ (n : ℕ) (frozen : List (Option ℕ)) (a : AreSettled g order items n frozen) where
-      item_frozen : (i : ℕ) → i < length items → (get_or items i 0 < item_count g) × (is_frozen g (get_or items i 0) ≡ true)
+      pub item_frozen : (i : ℕ) → i < length items → (get_or items i 0 < item_count g) × (is_frozen g (get_or items i 0) ≡ true)
       item_frozen i l = frozen_listed g order topological (get_or items i 0) (subst (λ xs. Contains xs (get_or items i 0)) a.all (Contains-get_or items i 0 l))
 
       pub next_within : n < length items → get_or items n 0 < item_count g

@@ -8,23 +8,19 @@ ghost use Rattle.cpg_times.specs.Known.{AreEarly};
 ghost use Rattle.cpg_times.specs.Plan.{plan_of};
 ghost use Rattle.cpg_measure.specs.FrozenItems.{is_frozen_message, frozen_starts, frozen_messages, frozen_items_of, frozen_along};
 ghost use Rattle.cpg_measure.specs.Latest.{IsUnfrozenTime};
+ghost use Rattle.cpg_measure.specs.Active.{AreExamples};
 ghost use Rattle.cpg_measure.specs.Listing.{AreScenarios};
+ghost use Rattle.cpg_measure.specs.Sweep.{AreAlong, place_of};
 
+use crate::examples::examples;
 use crate::latest::unfrozen_time;
+use crate::sweeping::{advance, beginnings};
 use cpg_base::{OutOfMemory, Problem, Scenario};
 use cpg_order::{Links, Order};
 use cpg_rules::Admitted;
 use cpg_run::Frozen;
-use cpg_times::Plan;
+use cpg_times::{Plan, Progress};
 use std::alloc::Global;
-
-/// The node of a process.
-fn node_of(problem: &Problem, process: u32) -> u32
-    requires { process < process_count problem.now }
-    ensures { result ≡ node_of problem.now process }
-{
-    problem.processes()[process as usize].node
-}
 
 /// Whether the message of an edge is frozen: an edge within a node has none.
 fn is_frozen_message(problem: &Problem, edge: u32) -> bool
@@ -32,7 +28,7 @@ fn is_frozen_message(problem: &Problem, edge: u32) -> bool
     ensures { result ≡ is_frozen_message problem.now edge }
 {
     let edge = problem.edges()[edge as usize];
-    if node_of(problem, edge.from) == node_of(problem, edge.to) {
+    if problem.node_of(edge.from) == problem.node_of(edge.to) {
         return false;
     }
     edge.frozen
@@ -82,7 +78,7 @@ fn frozen_items(alloc: Global, problem: &Problem, order: &Order) -> Result<Vec<u
     Ok(items)
 }
 
-/// Finds and sets the time of a frozen item, if it is active in some scenario.
+/// Finds and sets the time of a frozen item of the process at a place, if it is active in some scenario.
 fn settle(
     alloc: Global,
     admitted: &Admitted,
@@ -90,24 +86,72 @@ fn settle(
     plan: &Plan,
     frozen: &mut Frozen,
     scenarios: &[Scenario],
+    found: &[Progress],
+    place: u32,
     item: u32,
 ) -> Result<(), OutOfMemory>
     requires topological { IsTopological admitted.now.graph order.now }
     requires plan { plan.now ≡ plan_of admitted.now.graph }
     requires frozen { length frozen.old ≡ item_count admitted.now.graph }
     requires early { AreEarly frozen.old }
-    requires scenarios { AreScenarios admitted.now.graph scenarios.now }
+    requires scenarios { AreExamples admitted.now.graph scenarios.now }
+    requires place { place < process_count admitted.now.graph }
+    requires along { AreAlong admitted.now.graph order.now frozen.old place scenarios.now found.now }
     requires item { item < item_count admitted.now.graph }
+    requires there { place_of admitted.now.graph order.now item ≡ place }
     requires unset { get_or frozen.old item None ≡ None }
     ensures item { IfOk result (λ _. IsUnfrozenTime admitted.now.graph order.now frozen.old item (get_or frozen.new item None)) }
     ensures others { IfOk result (λ _. (other : ℕ) → other ≢ item → get_or frozen.new other None ≡ get_or frozen.old other None) }
     ensures count { IfOk result (λ _. length frozen.new ≡ length frozen.old) }
 {
-    let time = unfrozen_time(alloc, admitted, order, plan, frozen, scenarios, item)?;
+    let time = unfrozen_time(
+        alloc, admitted, order, plan, frozen, scenarios, found, place, item,
+    )?;
     if let Some(time) = time {
         frozen.set(item, time);
     }
     Ok(())
+}
+
+/// The times of the frozen items, as `frozen_times` has them, given scenarios that show what can be active. These go along the
+/// order together, as far as the last frozen item, and each frozen item is found at its place.
+fn sweep(
+    alloc: Global,
+    admitted: &Admitted,
+    order: &Order,
+    plan: &Plan,
+    scenarios: &[Scenario],
+) -> Result<Frozen, OutOfMemory>
+    requires topological { IsTopological admitted.now.graph order.now }
+    requires plan { plan.now ≡ plan_of admitted.now.graph }
+    requires scenarios { AreExamples admitted.now.graph scenarios.now }
+    ensures frozen { IfOk result (λ frozen. AreFrozenTimes admitted.now.graph order.now frozen) }
+    ensures early { IfOk result (λ frozen. AreEarly frozen) }
+{
+    let problem = admitted.problem();
+    let items = frozen_items(alloc, problem, order)?;
+    let mut frozen = Frozen::none(alloc, problem)?;
+    let mut found = beginnings(alloc, problem, scenarios)?;
+    let mut place = 0;
+    for item in items.as_slice() {
+        let next = order.place(problem.producer(*item));
+        advance(
+            alloc, admitted, order, plan, &frozen, scenarios, &mut found, place, next,
+        )?;
+        settle(
+            alloc,
+            admitted,
+            order,
+            plan,
+            &mut frozen,
+            scenarios,
+            found.as_slice(),
+            next,
+            *item,
+        )?;
+        place = next;
+    }
+    Ok(frozen)
 }
 
 /// The times of the frozen items under an order, in time units, given all scenarios: of each the greatest time that it
@@ -125,10 +169,7 @@ pub fn frozen_times(
     ensures frozen { IfOk result (λ frozen. AreFrozenTimes admitted.now.graph order.now frozen) }
     ensures early { IfOk result (λ frozen. AreEarly frozen) }
 {
-    let items = frozen_items(alloc, admitted.problem(), order)?;
-    let mut frozen = Frozen::none(alloc, admitted.problem())?;
-    for item in items.as_slice() {
-        settle(alloc, admitted, order, plan, &mut frozen, scenarios, *item)?;
-    }
+    let examples = examples(alloc, admitted, scenarios)?;
+    let frozen = sweep(alloc, admitted, order, plan, examples.as_slice())?;
     Ok(frozen)
 }

@@ -6,6 +6,7 @@ pub mod Starts
 pub mod Sends
 pub mod Steps
 pub mod Along
+pub mod Agreeing
 pub mod Senders
 pub mod Places
 pub mod Unfrozen

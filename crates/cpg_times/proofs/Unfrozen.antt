@@ -1,5 +1,5 @@
 -- What a caller has at hand: no frozen times, the urgency order, and scenarios made from the one without faults.
-use Rattle.std.proofs.Common.{◌≡◌, ◌∙◌, ℕ, zero, suc, ◌+◌, ◌<◌, Bool, false, List, length, get_or, set, sum, sum_by, replicate, Option, Some, None, arith, sym, ap, inl, inr, subst, length-set}
+use Rattle.std.proofs.Common.{◌≡◌, ◌∙◌, ℕ, Bool, false, List, length, get_or, set, sum, replicate, Option, None, arith, sym, ap, inl, inr, subst, length-set}
 use Rattle.std.proofs.Math.ListN.{get_or-eq_default}
 use Rattle.std.proofs.lemmas.Bool.{cases_lt}
 use Rattle.std.proofs.lemmas.List.{get_or-replicate, length-replicate}
@@ -10,7 +10,7 @@ use Rattle.cpg_base.specs.Scenario.{Scenario, IsScenario, zero_scenario}
 use Rattle.cpg_guard.specs.Guards.{Guards}
 use Rattle.cpg_order.specs.Urgency.{IsTopological}
 use Rattle.cpg_rules.specs.Admission.{IsAdmitted}
-use Rattle.cpg_run.specs.Plain.{nothing_frozen}
+use Rattle.cpg_run.specs.Frozen.{nothing_frozen}
 use Rattle.cpg_times.specs.Known.{AreEarly}
 
 module _ (g h : Graph) (frozen : List (Option ℕ)) (is : frozen ≡ nothing_frozen h) (same : h ≡ g) where

@@ -1,13 +1,12 @@
 -- How far a run has been found along an order: all that is settled before a place, and what the next processes wait for.
-use Rattle.std.specs.Prelude.{ℕ, ◌+◌, ◌≡◌, ◌<◌, ◌≤◌, ◌⊎◌, true, List, None, Contains, length, get_or, take, replicate}
+use Rattle.std.specs.Prelude.{ℕ, ◌+◌, ◌≡◌, ◌<◌, ◌≤◌, ◌⊎◌, true, List, Option, None, Contains, length, get_or, take}
 use Rattle.cpg_base.specs.Graph.{Graph, process_count, condition_count, item_count, item_at, node_of, is_sent, home, producer}
 use Rattle.cpg_base.specs.Activity.{active, item_active}
 use Rattle.cpg_base.specs.Bus.{round}
 use Rattle.cpg_order.specs.Urgency.{place}
 use Rattle.cpg_order.specs.Deciding.{decides}
 use Rattle.cpg_order.specs.Scenario.{Scenario}
-use Rattle.cpg_run.specs.Run.{Times, time_in, end_in, heard_there}
-use Rattle.cpg_times.specs.Known.{no_times}
+use Rattle.cpg_run.specs.Run.{Times, IsRun, time_in, end_in, heard_there}
 use Rattle.cpg_times.specs.Plan.{queue_of}
 use Rattle.cpg_times.specs.Most.{IsMost}
 
@@ -81,8 +80,14 @@ pub record KeepsEnds (old new : Times) : Type 0 where
   pub times : length new.times ≡ length old.times
   pub ends : new.ends ≡ old.ends
 
--- nothing is known, and each node is ready and free from the beginning
-pub record IsNone (g : Graph) (known : Times) (ready free : List ℕ) : Type 0 where
-  pub known_none : known ≡ no_times g
-  pub ready_none : ready ≡ replicate (length g.nodes) 0
-  pub free_none : free ≡ replicate (length g.nodes) 0
+-- what is found of a run: its times so far, and by node when it is ready for its next process, but for what decides that one,
+-- and from when on its slots are free
+pub record ProgressState : Type 0 where
+  pub known : Times
+  pub ready : List ℕ
+  pub free : List ℕ
+
+-- it is that of a scenario before the place i
+pub record IsAlong (g : Graph) (order : List ℕ) (frozen : List (Option ℕ)) (s : Scenario) (i : ℕ) (p : ProgressState) : Type 0 where
+  pub places : HasPlaces g p.known p.ready p.free
+  pub at : (t : Times) → IsRun g order frozen s t → IsAt g order s t i p.known p.ready p.free

@@ -1,5 +1,5 @@
 //! The times of a run as far as they are known.
-ghost use Rattle.std.specs.Prelude.{◌≡◌, ◌<◌, IfOk, Some, length, slice_set};
+ghost use Rattle.std.specs.Prelude.{◌≡◌, ◌<◌, IfOk, Some, None, get_or, length, slice_set};
 ghost use Rattle.std.specs.List.{flat_map};
 ghost use Rattle.std.specs.Option.{option_to_list};
 ghost use Rattle.cpg_base.specs.Numbers.{greatest};
@@ -52,14 +52,31 @@ impl Known {
         })
     }
 
+    /// Equal times and ends.
+    pub(crate) fn copy(&self) -> Result<Known, OutOfMemory>
+        ensures { IfOk result (λ known. known ≡ self.now) }
+    {
+        Ok(Known {
+            times: self.times.clone()?,
+            ends: self.ends.clone()?,
+        })
+    }
+
+    /// The time of an item, and `None` where none is known.
+    pub(crate) fn time_if(&self, item: u32) -> Option<u64>
+        ensures { result ≡ get_or self.now.times item None }
+    {
+        match self.times.get(item as usize) {
+            Some(time) => *time,
+            None => None,
+        }
+    }
+
     /// The time of an item, or 0 where none is known.
     pub(crate) fn time(&self, item: u32) -> u64
         ensures { result ≡ time_in self.now item }
     {
-        match self.times.get(item as usize) {
-            Some(time) => time.unwrap_or(0),
-            None => 0,
-        }
+        self.time_if(item).unwrap_or(0)
     }
 
     /// The end of a process, or 0 where none is known.

@@ -2,7 +2,6 @@
 #![tactic(auto)]
 
 mod activity;
-mod items;
 mod known;
 mod plan;
 mod running;
@@ -14,3 +13,4 @@ mod waiting;
 
 pub use plan::Plan;
 pub use running::{run, run_by};
+pub use stepping::Progress;

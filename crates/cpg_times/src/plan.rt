@@ -8,7 +8,6 @@ ghost use Rattle.cpg_base.specs.Graph.{process_count, inputs, condition_of};
 ghost use Rattle.cpg_order.specs.Links.{links_of};
 ghost use Rattle.cpg_times.specs.Plan.{broadcasts_of, queue_of, share_if, plan_of};
 
-use crate::items::{broadcast_item, is_message, message_item};
 use cpg_base::{OutOfMemory, Problem};
 use cpg_bus::Share;
 use cpg_order::Links;
@@ -67,7 +66,7 @@ fn broadcasts(alloc: Global, problem: &Problem, process: u32) -> Result<Vec<u32>
     if problem.nodes().len() <= 1 {
         return Ok(items);
     }
-    items.push(broadcast_item(problem, condition))?;
+    items.push(problem.broadcast_item(condition))?;
     Ok(items)
 }
 
@@ -84,8 +83,8 @@ fn queue(
 {
     let mut items = broadcasts(alloc, problem, process)?;
     for edge in links.outputs(process) {
-        if is_message(problem, *edge) {
-            items.push(message_item(problem, *edge))?;
+        if problem.is_message(*edge) {
+            items.push(problem.message_item(*edge))?;
         }
     }
     Ok(ItemList { items })

@@ -14,7 +14,6 @@ ghost use Rattle.cpg_times.specs.Progress.{CanSend, HasSent, KeepsEnds};
 
 use crate::Plan;
 use crate::activity::is_item_active;
-use crate::items::node_of;
 use crate::known::Known;
 use crate::waiting::frozen_time;
 use cpg_base::{Problem, Scenario};
@@ -69,7 +68,7 @@ pub(crate) fn send(
     ensures sent { (t : Times) → IsRun problem.now order.now frozen.now scenario.now t → HasSent problem.now order.now scenario.now t process (length (queue_of problem.now process)) known.old known.new result }
     ensures keeps { KeepsEnds known.old known.new }
 {
-    let node = node_of(problem, process);
+    let node = problem.node_of(process);
     let end = known.end(process);
     let round = plan.round(problem);
     let mut free = free;

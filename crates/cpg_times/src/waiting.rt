@@ -15,7 +15,6 @@ ghost use Rattle.cpg_times.specs.Plan.{plan_of};
 
 use crate::Plan;
 use crate::activity::{deciding, is_live};
-use crate::items::{broadcast_item, is_message, message_item, node_of, source};
 use crate::known::Known;
 use cpg_base::{OutOfMemory, Problem, Scenario};
 use cpg_guard::GuardTrees;
@@ -42,14 +41,14 @@ fn input_there(problem: &Problem, plan: &Plan, known: &Known, edge: u32) -> u64
     requires small { AreSmall known.now }
     ensures { result ≡ input_there problem.now known.now edge }
 {
-    let sender = source(problem, edge);
-    if is_message(problem, edge) {
+    let sender = problem.source(edge);
+    if problem.is_message(edge) {
         frame_there(
             problem,
             plan,
             known,
-            node_of(problem, sender),
-            message_item(problem, edge),
+            problem.node_of(sender),
+            problem.message_item(edge),
         )
     } else {
         known.end(sender)
@@ -66,7 +65,7 @@ fn heard_there(problem: &Problem, plan: &Plan, known: &Known, node: u32, conditi
     ensures { result ≡ heard_there problem.now known.now node condition }
 {
     let process = problem.process_of(condition);
-    let sender = node_of(problem, process);
+    let sender = problem.node_of(process);
     if sender == node {
         known.end(process)
     } else {
@@ -75,7 +74,7 @@ fn heard_there(problem: &Problem, plan: &Plan, known: &Known, node: u32, conditi
             plan,
             known,
             sender,
-            broadcast_item(problem, condition),
+            problem.broadcast_item(condition),
         )
     }
 }
@@ -190,7 +189,7 @@ pub(crate) fn decided_there(
         problem,
         plan,
         known,
-        node_of(problem, process),
+        problem.node_of(process),
         conditions.as_slice(),
     );
     Ok(heard)

@@ -28,7 +28,7 @@ pub decided_there-requires-clause-small : goal.decided_there-requires-clause-sma
 decided_there-requires-clause-small c =
     let a = c.requires.admitted in
     let r = a_run c.args.problem.now c.args.order.now c.args.frozen.now c.args.scenario.now c.requires.topological in
-    known_small c.args.problem.now c.args.order.now r.0 c.args.place c.args.progress.now.known (c.requires.at r.0 r.1).knows c.requires.places.times c.requires.places.ends
+    known_small c.args.problem.now c.args.order.now r.0 c.args.place c.args.known.now (c.requires.at r.0 r.1).knows c.requires.places.times c.requires.places.ends
     (run_small c.args.problem.now c.args.order.now c.args.frozen.now c.args.scenario.now r.0 a.1.limits c.requires.topological c.requires.scenario c.requires.early r.1)
 
 pub is_active-requires-clause-process : goal.is_active-requires-clause-process
@@ -38,11 +38,11 @@ pub returns-then-not-is_active-clause-at : goal.returns-then-not-is_active-claus
 returns-then-not-is_active-clause-at c t run =
     let l : c.at-process.result < process_count c.args.problem.now = omega (arith, c.at-process.ensures.within, length_order (process_count c.args.problem.now) c.args.order.now c.requires.topological.all) in
     let on : node_of c.args.problem.now c.at-process.result < length c.args.problem.now.nodes = omega (arith, c.node_of-node.ensures.node, c.node_of-node.ensures.within) in
-    let is_ready = node_read c.args.progress.now.ready.items c.index.result.now c.node_of-node.result (node_of c.args.problem.now c.at-process.result) c.index.ensures (omega (arith, c.node_of-node.ensures.within, c.requires.places.ready_count)) c.node_of-node.ensures.node in
+    let is_ready = node_read c.args.readies.now.items c.index.result.now c.node_of-node.result (node_of c.args.problem.now c.at-process.result) c.index.ensures (omega (arith, c.node_of-node.ensures.within, c.requires.places.ready_count)) c.node_of-node.ensures.node in
     let ready_at = c.max-ready.ensures ∙ ap (λ n. max n c.in_ok-heard.heard) is_ready in
-    subst (λ n. IsAt c.args.problem.now c.args.order.now c.args.scenario.now t (c.args.place + 1) c.args.progress.now.known (set c.args.progress.now.ready.items n c.max-ready.result) c.args.progress.now.free.items) (sym c.node_of-node.ensures.node)
+    subst (λ n. IsAt c.args.problem.now c.args.order.now c.args.scenario.now t (c.args.place + 1) c.args.known.now (set c.args.readies.now.items n c.max-ready.result) c.args.frees.now.items) (sym c.node_of-node.ensures.node)
     (at_idle c.args.problem.now c.args.order.now c.requires.topological c.args.frozen.now c.args.scenario.now t run c.args.place c.at-process.result l c.at-process.ensures.back on
-    c.args.progress.now.known c.args.progress.now.ready.items c.args.progress.now.free.items (c.requires.at t run) c.requires.places.ready_count c.requires.places.free_count c.in_ok-heard.heard c.in_ok-heard.ensures
+    c.args.known.now c.args.readies.now.items c.args.frees.now.items (c.requires.at t run) c.requires.places.ready_count c.requires.places.free_count c.in_ok-heard.heard c.in_ok-heard.ensures
     c.max-ready.result (sym c.is_active.ensures ∙ c.if-not-is_active.true) ready_at)
 
 pub start-start-requires-clause-frozen : goal.start-start-requires-clause-frozen
@@ -55,7 +55,7 @@ pub start-start-requires-clause-small : goal.start-start-requires-clause-small
 start-start-requires-clause-small c =
     let a = c.requires.admitted in
     let r = a_run c.args.problem.now c.args.order.now c.args.frozen.now c.args.scenario.now c.requires.topological in
-    known_small c.args.problem.now c.args.order.now r.0 c.args.place c.args.progress.now.known (c.requires.at r.0 r.1).knows c.requires.places.times c.requires.places.ends
+    known_small c.args.problem.now c.args.order.now r.0 c.args.place c.args.known.now (c.requires.at r.0 r.1).knows c.requires.places.times c.requires.places.ends
     (run_small c.args.problem.now c.args.order.now c.args.frozen.now c.args.scenario.now r.0 a.1.limits c.requires.topological c.requires.scenario c.requires.early r.1)
 
 pub fault-requires : goal.fault-requires
@@ -73,7 +73,7 @@ overflow_add-end c =
     let small = run_small c.args.problem.now c.args.order.now c.args.frozen.now c.args.scenario.now t admitted.1.limits c.requires.topological c.requires.scenario c.requires.early run in
     let l : c.at-process.result < process_count c.args.problem.now = omega (arith, c.at-process.ensures.within, length_order (process_count c.args.problem.now) c.args.order.now c.requires.topological.all) in
     let on : node_of c.args.problem.now c.at-process.result < length c.args.problem.now.nodes = omega (arith, c.node_of-node.ensures.node, c.node_of-node.ensures.within) in
-    let is_ready = node_read c.args.progress.now.ready.items c.index.result.now c.node_of-node.result (node_of c.args.problem.now c.at-process.result) c.index.ensures (omega (arith, c.node_of-node.ensures.within, c.requires.places.ready_count)) c.node_of-node.ensures.node in
+    let is_ready = node_read c.args.readies.now.items c.index.result.now c.node_of-node.result (node_of c.args.problem.now c.at-process.result) c.index.ensures (omega (arith, c.node_of-node.ensures.within, c.requires.places.ready_count)) c.node_of-node.ensures.node in
     let ready_at = c.max-ready.ensures ∙ ap (λ n. max n c.in_ok-heard.heard) is_ready in
     let acts = sym c.is_active.ensures ∙ c.if-not-is_active.false in
     omega (
@@ -81,7 +81,7 @@ overflow_add-end c =
       c.duration.ensures.short,
       small.times c.at-process.result,
       start_right c.args.problem.now c.args.order.now c.requires.topological c.args.frozen.now c.args.scenario.now t run c.args.place c.at-process.result l c.at-process.ensures.back on
-          c.args.progress.now.known c.args.progress.now.ready.items c.args.progress.now.free.items (c.requires.at t run) c.requires.places.ready_count c.requires.places.free_count c.in_ok-heard.heard c.in_ok-heard.ensures
+          c.args.known.now c.args.readies.now.items c.args.frees.now.items (c.requires.at t run) c.requires.places.ready_count c.requires.places.free_count c.in_ok-heard.heard c.in_ok-heard.ensures
           acts c.max-ready.result c.start-start.result ready_at c.start-start.ensures,
     )
 
@@ -98,15 +98,15 @@ pub send-requires-clause-can : goal.send-requires-clause-can
 send-requires-clause-can c t run =
     let l : c.at-process.result < process_count c.args.problem.now = omega (arith, c.at-process.ensures.within, length_order (process_count c.args.problem.now) c.args.order.now c.requires.topological.all) in
     let on : node_of c.args.problem.now c.at-process.result < length c.args.problem.now.nodes = omega (arith, c.node_of-node.ensures.node, c.node_of-node.ensures.within) in
-    let is_ready = node_read c.args.progress.now.ready.items c.index.result.now c.node_of-node.result (node_of c.args.problem.now c.at-process.result) c.index.ensures (omega (arith, c.node_of-node.ensures.within, c.requires.places.ready_count)) c.node_of-node.ensures.node in
+    let is_ready = node_read c.args.readies.now.items c.index.result.now c.node_of-node.result (node_of c.args.problem.now c.at-process.result) c.index.ensures (omega (arith, c.node_of-node.ensures.within, c.requires.places.ready_count)) c.node_of-node.ensures.node in
     let ready_at = c.max-ready.ensures ∙ ap (λ n. max n c.in_ok-heard.heard) is_ready in
     let acts = sym c.is_active.ensures ∙ c.if-not-is_active.false in
     let ends = ap (λ d. c.start-start.result + d) (c.duration.ensures.duration ∙ ap (duration c.args.problem.now c.at-process.result) c.fault.ensures) in
     let started = ap (λ (k : Times). k.times) c.set_end.ensures ∙ ap (λ (k : Times). k.times) c.set_time.ensures in
     let ended = ap (λ (k : Times). k.ends) c.set_end.ensures ∙ ap (λ (k : Times). set k.ends c.at-process.result (Some (c.start-start.result + c.duration.result))) c.set_time.ensures in
-    let is_free = node_read c.args.progress.now.free.items c.index-2.result.now c.node_of-node.result (node_of c.args.problem.now c.at-process.result) c.index-2.ensures (omega (arith, c.node_of-node.ensures.within, c.requires.places.free_count)) c.node_of-node.ensures.node in
+    let is_free = node_read c.args.frees.now.items c.index-2.result.now c.node_of-node.result (node_of c.args.problem.now c.at-process.result) c.index-2.ensures (omega (arith, c.node_of-node.ensures.within, c.requires.places.free_count)) c.node_of-node.ensures.node in
     can_send c.args.problem.now c.args.order.now c.requires.topological c.args.frozen.now c.args.scenario.now t run c.args.place c.at-process.result l c.at-process.ensures.back on
-    c.args.progress.now.known c.args.progress.now.ready.items c.args.progress.now.free.items (c.requires.at t run) c.requires.places.ready_count c.requires.places.free_count c.in_ok-heard.heard c.in_ok-heard.ensures
+    c.args.known.now c.args.readies.now.items c.args.frees.now.items (c.requires.at t run) c.requires.places.ready_count c.requires.places.free_count c.in_ok-heard.heard c.in_ok-heard.ensures
     acts c.max-ready.result c.start-start.result ready_at c.start-start.ensures (c.start-start.result + c.duration.result) ends
     c.set_end.new.self c.requires.places.times c.requires.places.ends started ended c.index-2.result.now is_free
 
@@ -114,14 +114,14 @@ pub returns-clause-at : goal.returns-clause-at
 returns-clause-at c t run =
     let l : c.at-process.result < process_count c.args.problem.now = omega (arith, c.at-process.ensures.within, length_order (process_count c.args.problem.now) c.args.order.now c.requires.topological.all) in
     let on : node_of c.args.problem.now c.at-process.result < length c.args.problem.now.nodes = omega (arith, c.node_of-node.ensures.node, c.node_of-node.ensures.within) in
-    let is_ready = node_read c.args.progress.now.ready.items c.index.result.now c.node_of-node.result (node_of c.args.problem.now c.at-process.result) c.index.ensures (omega (arith, c.node_of-node.ensures.within, c.requires.places.ready_count)) c.node_of-node.ensures.node in
+    let is_ready = node_read c.args.readies.now.items c.index.result.now c.node_of-node.result (node_of c.args.problem.now c.at-process.result) c.index.ensures (omega (arith, c.node_of-node.ensures.within, c.requires.places.ready_count)) c.node_of-node.ensures.node in
     let ready_at = c.max-ready.ensures ∙ ap (λ n. max n c.in_ok-heard.heard) is_ready in
     let acts = sym c.is_active.ensures ∙ c.if-not-is_active.false in
     let ends = ap (λ d. c.start-start.result + d) (c.duration.ensures.duration ∙ ap (duration c.args.problem.now c.at-process.result) c.fault.ensures) in
     let started = ap (λ (k : Times). k.times) c.set_end.ensures ∙ ap (λ (k : Times). k.times) c.set_time.ensures in
     let ended = ap (λ (k : Times). k.ends) c.set_end.ensures ∙ ap (λ (k : Times). set k.ends c.at-process.result (Some (c.start-start.result + c.duration.result))) c.set_time.ensures in
-    subst (λ n. IsAt c.args.problem.now c.args.order.now c.args.scenario.now t (c.args.place + 1) c.send.new.known (set c.args.progress.now.ready.items n (c.start-start.result + c.duration.result)) (set c.args.progress.now.free.items n c.send.result)) (sym c.node_of-node.ensures.node)
+    subst (λ n. IsAt c.args.problem.now c.args.order.now c.args.scenario.now t (c.args.place + 1) c.send.new.known (set c.args.readies.now.items n (c.start-start.result + c.duration.result)) (set c.args.frees.now.items n c.send.result)) (sym c.node_of-node.ensures.node)
     (at_active c.args.problem.now c.args.order.now c.requires.topological c.args.frozen.now c.args.scenario.now t run c.args.place c.at-process.result l c.at-process.ensures.back on
-    c.args.progress.now.known c.args.progress.now.ready.items c.args.progress.now.free.items (c.requires.at t run) c.requires.places.ready_count c.requires.places.free_count c.in_ok-heard.heard c.in_ok-heard.ensures
+    c.args.known.now c.args.readies.now.items c.args.frees.now.items (c.requires.at t run) c.requires.places.ready_count c.requires.places.free_count c.in_ok-heard.heard c.in_ok-heard.ensures
     acts c.max-ready.result c.start-start.result ready_at c.start-start.ensures (c.start-start.result + c.duration.result) ends
     c.set_end.new.self c.requires.places.times c.requires.places.ends started ended c.send.new.known c.send.result (c.send.ensures.sent t run) c.send.ensures.keeps)

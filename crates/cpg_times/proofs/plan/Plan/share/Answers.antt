@@ -1,4 +1,4 @@
-use Rattle.std.proofs.Common.{◌<◌, ◌≡◌, ◌∙◌, None, sym, ap, length, get_or, arith}
+use Rattle.std.proofs.Common.{◌<◌, ◌∙◌, None, sym, ap, length, get_or, arith}
 use Rattle.std.proofs.lemmas.Bool.{cond-true}
 use Rattle.std.proofs.lemmas.List.{get_or_default}
 use Rattle.std.proofs.lemmas.List.FromFn.{length-map-range_with_len}
