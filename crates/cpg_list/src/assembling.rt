@@ -11,7 +11,6 @@ ghost use Rattle.cpg_list.specs.NodeItems.{items_below, rows_of_items, IsTableWi
 use crate::items::{NodeItems, items_by_node};
 use cpg_base::{OutOfMemory, Problem};
 use cpg_table::{Entry, Head, NodeTable, Row, Tables, head_of};
-use cpg_violation::{home, slot_length};
 use std::alloc::Global;
 
 /// The entries, each later by a delay.
@@ -39,7 +38,7 @@ fn heard(alloc: Global, problem: &Problem, rows: &[Row], item: u32) -> Result<Ro
     ensures { IfOk result (λ row. row ≡ heard_row problem.now rows.now item) }
 {
     let _nodes = problem.nodes();
-    let delay = slot_length(problem, home(problem, item));
+    let delay = problem.slot_length(problem.home(item));
     let entries = later(alloc, rows[item as usize].entries(), delay)?;
     Ok(Row::new(item, entries))
 }

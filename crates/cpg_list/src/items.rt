@@ -94,15 +94,6 @@ impl NodeItems {
     }
 }
 
-/// The node of a process.
-fn node_of(problem: &Problem, process: u32) -> u32
-    requires { process < process_count problem.now }
-    ensures node { result ≡ node_of problem.now process }
-    ensures within { result < length problem.now.nodes }
-{
-    problem.processes()[process as usize].node
-}
-
 /// The node of the process that an edge leads away from.
 fn sender(problem: &Problem, edge: u32) -> u32
     requires { edge < edge_count problem.now }
@@ -110,7 +101,7 @@ fn sender(problem: &Problem, edge: u32) -> u32
     ensures within { result < length problem.now.nodes }
 {
     let from = problem.edges()[edge as usize].from;
-    let node = node_of(problem, from);
+    let node = problem.node_of(from);
     node
 }
 
@@ -121,7 +112,7 @@ fn receiver(problem: &Problem, edge: u32) -> u32
     ensures within { result < length problem.now.nodes }
 {
     let to = problem.edges()[edge as usize].to;
-    let node = node_of(problem, to);
+    let node = problem.node_of(to);
     node
 }
 
@@ -143,7 +134,7 @@ fn add_starts(problem: &Problem, nodes: &mut [NodeItems]) -> Result<(), OutOfMem
     ensures { IfOk result (λ _. nodes.new ≡ map (items_below problem.now (process_count problem.now)) (numbers_below (length problem.now.nodes))) }
 {
     for process in 0..problem.processes().len() as u32 {
-        let node = node_of(problem, process);
+        let node = problem.node_of(process);
         nodes[node as usize].start(process)?;
     }
     Ok(())
@@ -191,7 +182,7 @@ fn add_broadcast(
     let conditions = problem.conditions();
     prove!(condition < conditions);
     let item = (problem.processes().len() + problem.edges().len()) as u32 + condition;
-    let home = node_of(problem, problem.process_of(condition)) as usize;
+    let home = problem.node_of(problem.process_of(condition)) as usize;
     for node in 0..nodes.len() {
         nodes[node].tell(node == home, item)?;
     }

@@ -31,7 +31,7 @@ fn build(alloc: Global, admitted: &Admitted, order: &Order) -> Result<Built, Out
     let frozen = frozen_times(alloc, admitted, order, &plan, scenarios)?;
     let runs = runs(alloc, admitted, order, &plan, &frozen, scenarios)?;
     let runs = runs.as_slice();
-    let rows = rows(alloc, admitted, order, &plan, &frozen, scenarios, runs)?;
+    let rows = rows(alloc, admitted, order, &frozen, scenarios, runs)?;
     let tables = tables_of(alloc, problem, rows.as_slice())?;
     let worst = worst(alloc, admitted, scenarios, runs)?;
     let excess = excess(alloc, admitted, scenarios, runs)?;

@@ -12,69 +12,6 @@ use cpg_base::{OutOfMemory, Problem};
 use cpg_order::Links;
 use std::alloc::Global;
 
-/// The node of a process.
-pub(crate) fn node_of(problem: &Problem, process: u32) -> u32
-    requires { process < process_count problem.now }
-    ensures node { result ≡ node_of problem.now process }
-    ensures within { result < length problem.now.nodes }
-{
-    problem.processes()[process as usize].node
-}
-
-/// The process that an edge leads away from.
-pub(crate) fn source(problem: &Problem, edge: u32) -> u32
-    requires { edge < edge_count problem.now }
-    ensures source { result ≡ source problem.now edge }
-    ensures within { result < process_count problem.now }
-{
-    problem.edges()[edge as usize].from
-}
-
-/// The process that an edge leads to.
-fn target(problem: &Problem, edge: u32) -> u32
-    requires { edge < edge_count problem.now }
-    ensures target { result ≡ target problem.now edge }
-    ensures within { result < process_count problem.now }
-{
-    problem.edges()[edge as usize].to
-}
-
-/// Whether an edge leads to another node.
-pub(crate) fn is_message(problem: &Problem, edge: u32) -> bool
-    requires { edge < edge_count problem.now }
-    ensures { result ≡ is_message problem.now edge }
-{
-    node_of(problem, source(problem, edge)) != node_of(problem, target(problem, edge))
-}
-
-/// The item of an edge.
-pub(crate) fn message_item(problem: &Problem, edge: u32) -> u32
-    requires { edge < edge_count problem.now }
-    ensures item { result ≡ message_item problem.now edge }
-    ensures within { result < item_count problem.now }
-{
-    problem.processes().len() as u32 + edge
-}
-
-/// The item of a condition's broadcast.
-pub(crate) fn broadcast_item(problem: &Problem, condition: u32) -> u32
-    requires { condition < condition_count problem.now }
-    ensures item { result ≡ broadcast_item problem.now condition }
-    ensures within { result < item_count problem.now }
-{
-    let conditions = problem.conditions();
-    prove!(condition < conditions);
-    (problem.processes().len() + problem.edges().len()) as u32 + condition
-}
-
-/// How many items there are.
-pub(crate) fn item_count(problem: &Problem) -> u32
-    ensures { result ≡ item_count problem.now }
-{
-    let conditions = problem.conditions();
-    (problem.processes().len() + problem.edges().len()) as u32 + conditions
-}
-
 /// The broadcast of a process, if it has a condition and there is another node to hear it.
 fn broadcasts(alloc: Global, problem: &Problem, process: u32) -> Result<Vec<u32>, OutOfMemory>
     requires { process < process_count problem.now }
@@ -87,7 +24,7 @@ fn broadcasts(alloc: Global, problem: &Problem, process: u32) -> Result<Vec<u32>
     if problem.nodes().len() <= 1 {
         return Ok(items);
     }
-    items.push(broadcast_item(problem, condition))?;
+    items.push(problem.broadcast_item(condition))?;
     Ok(items)
 }
 
@@ -104,8 +41,8 @@ pub(crate) fn queue(
 {
     let mut items = broadcasts(alloc, problem, process)?;
     for edge in links.outputs(process) {
-        if is_message(problem, *edge) {
-            items.push(message_item(problem, *edge))?;
+        if problem.is_message(*edge) {
+            items.push(problem.message_item(*edge))?;
         }
     }
     Ok(items)
@@ -123,7 +60,7 @@ pub(crate) fn row_of(rows: &[TimedRow], item: u32) -> &TimedRow
 pub(crate) fn empty_rows(alloc: Global, problem: &Problem) -> Result<Vec<TimedRow>, OutOfMemory>
     ensures { IfOk result (λ rows. rows.items ≡ map (λ x. record { item = x; columns = [] }) (numbers_below (item_count problem.now))) }
 {
-    let count = item_count(problem);
+    let count = problem.item_count();
     let mut rows = Vec::new(alloc);
     rows.reserve(count as usize)?;
     for item in 0..count {

@@ -14,7 +14,7 @@ ghost use Rattle.cpg_rows.specs.Made.{columns_of_rows};
 ghost use Rattle.cpg_rows.specs.Narrowing.{IsNarrowed, met, told_in};
 
 use crate::cubes::{narrow, narrow_to_number};
-use crate::items::{broadcast_item, is_message, message_item, node_of, row_of};
+use crate::items::row_of;
 use crate::least::FIRST_VALUE;
 use crate::timed::{Hints, TimedRow};
 use cpg_base::{OutOfMemory, Problem, Scenario};
@@ -160,10 +160,10 @@ fn narrow_by_condition(
     requires told { IsTold problem.now (columns_of_rows rows.now) scenario.now times.now (broadcast_item problem.now condition) }
     ensures { OnOk result (IsNarrowed problem.now.faults (heard_of problem.now (columns_of_rows rows.now) scenario.now node condition) cube.old cube.new) }
 {
-    if node_of(problem, problem.process_of(condition)) == node {
+    if problem.node_of(problem.process_of(condition)) == node {
         return Ok(());
     }
-    let item = broadcast_item(problem, condition);
+    let item = problem.broadcast_item(condition);
     narrow_by_frame(alloc, problem, rows, scenario, times, hints, item, cube)?;
     Ok(())
 }
@@ -209,7 +209,7 @@ pub(crate) fn narrow_by_heard(
     requires told { (c : ℕ) → Contains (deciding problem.now scenario.now.values process) c → IsTold problem.now (columns_of_rows rows.now) scenario.now times.now (broadcast_item problem.now c) }
     ensures { OnOk result (IsNarrowed problem.now.faults (heard problem.now (columns_of_rows rows.now) scenario.now process) cube.old cube.new) }
 {
-    let node = node_of(problem, process);
+    let node = problem.node_of(process);
     narrow_by_conditions(
         alloc, problem, rows, scenario, times, hints, node, conditions, cube,
     )?;
@@ -231,10 +231,10 @@ fn narrow_by_input(
     requires told { IsTold problem.now (columns_of_rows rows.now) scenario.now times.now (message_item problem.now edge) }
     ensures { OnOk result (IsNarrowed problem.now.faults (received_by problem.now (columns_of_rows rows.now) scenario.now edge) cube.old cube.new) }
 {
-    if !is_message(problem, edge) {
+    if !problem.is_message(edge) {
         return Ok(());
     }
-    let item = message_item(problem, edge);
+    let item = problem.message_item(edge);
     narrow_by_frame(alloc, problem, rows, scenario, times, hints, item, cube)?;
     Ok(())
 }

@@ -8,13 +8,12 @@ ghost use Rattle.cpg_order.specs.Urgency.{IsTopological, before_on_node, place};
 ghost use Rattle.cpg_run.specs.Frozen.{AreFrozenTimes};
 ghost use Rattle.cpg_table.specs.Merged.{AreMergeable};
 ghost use Rattle.cpg_table.specs.Shape.{items_of};
-ghost use Rattle.cpg_times.specs.Plan.{plan_of};
 ghost use Rattle.cpg_rows.specs.Made.{columns_of_rows, passed_by, queued_by, sent_before, AreCubesOf, AreEndsOf, AreCarried, AreMade, IsBefore, IsStarted, IsRowSet};
 ghost use Rattle.cpg_rows.specs.RowLaws.{SameRowsBefore};
 ghost use Rattle.cpg_rows.specs.Rows.{AreRows};
 ghost use Rattle.cpg_measure.specs.Runs.{AreRuns};
 
-use crate::items::{empty_rows, node_of, queue};
+use crate::items::{empty_rows, queue};
 use crate::sends::{frozen_ends, send_entries};
 use crate::starts::{is_frozen, start_entries};
 use crate::state::{Cubes, whole_by_node};
@@ -24,7 +23,6 @@ use cpg_order::{Links, Order};
 use cpg_rules::Admitted;
 use cpg_run::{Frozen, RunTimes};
 use cpg_table::{Entry, Row, merged};
-use cpg_times::Plan;
 use std::alloc::Global;
 
 /// Sets the row of an item to its entries, merged.
@@ -199,7 +197,7 @@ fn make(
     ensures made { OnOk result (AreMade admitted.now.graph admitted.now.order order.now frozen.now (IsBefore admitted.now.graph order.now (place + 1)) rows.new.items) }
 {
     let process = order.at(place);
-    let node = node_of(admitted.problem(), process) as usize;
+    let node = admitted.problem().node_of(process) as usize;
     make_start(
         alloc,
         admitted,
@@ -235,13 +233,11 @@ pub fn rows(
     alloc: Global,
     admitted: &Admitted,
     order: &Order,
-    plan: &Plan,
     frozen: &Frozen,
     scenarios: &[Scenario],
     runs: &[RunTimes],
 ) -> Result<Vec<Row>, OutOfMemory>
     requires topological { IsTopological admitted.now.graph order.now }
-    requires plan { plan.now ≡ plan_of admitted.now.graph }
     requires frozen { AreFrozenTimes admitted.now.graph order.now frozen.now }
     requires scenarios { AreScenarios admitted.now.graph scenarios.now }
     requires runs { AreRuns admitted.now.graph order.now frozen.now scenarios.now runs.now }

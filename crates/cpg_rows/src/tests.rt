@@ -131,7 +131,6 @@ fn rows_by(alloc: Global, admitted: &Admitted, scenarios: &[Scenario]) -> Result
         alloc,
         admitted,
         order,
-        &plan,
         &frozen,
         scenarios,
         runs.as_slice(),

@@ -33,4 +33,4 @@ returns c =
     let x = c.args.item in
     let is : c.entries.result.now ≡ (row_for rows x).columns = c.entries.ensures ∙ ap (λ (row : Row). row.columns) (c.index-rows-item.is ∙ get_or_default rows x c.index-rows-item.result no_row (omega (arith, c.requires.item, long g rows c.requires.rows))) in
     c.new.ensures ∙ same_row x c.in_ok-entries.entries.items (map (later_by (slot_length g (home g x))) (row_for rows x).columns)
-    (c.in_ok-entries.ensures ∙ ap₂ (λ d cs. map (later_by d) cs) (c.slot_length-delay.ensures ∙ ap (slot_length g) c.home.ensures) is)
+    (c.in_ok-entries.ensures ∙ ap₂ (λ d cs. map (later_by d) cs) (c.slot_length-delay.ensures ∙ ap (slot_length g) c.home.ensures.home) is)
