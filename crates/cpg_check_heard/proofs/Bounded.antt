@@ -49,3 +49,7 @@ heard_is k known l = ap (λ t. t && nat_le (kept_high k known l.variable) l.high
 pub not_both : (a b : Bool) → (not a || not b) ≡ not (a && b)
 not_both true b = refl
 not_both false b = refl
+
+-- the low and the high of one literal more
+pub literal_more : (none one two old low high both : Bool) → none ≡ old → one ≡ (none || low) → two ≡ (one || high) → (low || high) ≡ both → two ≡ (old || both)
+literal_more none one two old low high both a b c d = c ∙ ap (λ t. t || high) (b ∙ ap (λ t. t || low) a) ∙ or_turned old low high ∙ ap (λ t. old || t) d

@@ -5,3 +5,4 @@ mod PartLaws
 mod Facts
 mod Bounded
 mod Untolds
+mod ArrivalLaws

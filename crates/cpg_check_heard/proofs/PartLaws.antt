@@ -135,8 +135,8 @@ known_add g told (Some cube) h k = All-append (IsKnown g) told (cube ∷ []) h (
     one zero d l = k
     one (suc j) d l = absurd (omega arith)
 
--- one place more of a row
-pub row_more : (test : ℕ → Bool) (places : List ℕ) (i d : ℕ) → i < length places → (a r n : Bool) → r ≡ (a || list_any test (take i places)) → n ≡ (r || test (get_or places i d)) → n ≡ (a || list_any test (take (i + 1) places))
+-- one place more of a row, one item or one column
+pub row_more : {X : Type 0} (test : X → Bool) (places : List X) (i : ℕ) (d : X) → i < length places → (a r n : Bool) → r ≡ (a || list_any test (take i places)) → n ≡ (r || test (get_or places i d)) → n ≡ (a || list_any test (take (i + 1) places))
 row_more test places i d h a r n e f = f ∙ ap (λ t. t || test (get_or places i d)) e ∙ or_turned a (list_any test (take i places)) (test (get_or places i d)) ∙ ap (λ t. a || t) (any_more test places i d h)
   where
     or_turned : (a b c : Bool) → ((a || b) || c) ≡ (a || (b || c))

@@ -1,6 +1,7 @@
 -- The least scenario in which a bound isn't told, by what is left of a cube.
 use Rattle.std.proofs.Common.{ℕ, ◌≡◌, Bool, true, false, not, ◌&&◌, ◌||◌, List, [], Option, Some, None, refl, sym, ap, ◌∙◌}
-use Rattle.std.specs.Prelude.{IfSome, IfNone, IsTrue}
+use Rattle.std.specs.Bool.{OnFalse}
+use Rattle.std.specs.Prelude.{IfSome, IfNone, IsTrue, is_some}
 use Rattle.std.specs.List.{list_any}
 use Rattle.cpg_base.specs.Graph.{Graph}
 use Rattle.cpg_order.proofs.First.{first_same}
@@ -33,24 +34,35 @@ module _ (g : Graph) (order : List ℕ) (cube : List Literal) (told : List (List
     untold_first free o e is f = first_same g order (is_left told cube) (λ s. matches cube s && not (free || facts s)) o
         (λ s i. same_where (matches cube s) (not (list_any (λ b. matches b s) told)) (not (free || facts s)) (λ m. ap not (is s i m ∙ sym (ap (λ t. t || facts s) e)))) f
 
-    -- where nothing is left, all is told
-    pub untold_none : (free : Bool) → ((s : Scenario) → IsScenario g s → matches cube s ≡ true → list_any (λ b. matches b s) told ≡ true → facts s ≡ true)
-        → ((s : Scenario) → IsScenario g s → is_left told cube s ≡ false) → (s : Scenario) → IsScenario g s → (matches cube s && not (free || facts s)) ≡ false
-    untold_none free is none s i = off_where (matches cube s) (not (free || facts s))
-        (λ m. ap not (or_true free (facts s) (is s i m (turned_off (list_any (λ b. matches b s) told) (sym (ap (λ t. t && not (list_any (λ b. matches b s) told)) m) ∙ none s i)))))
-      where
-        or_true : (a b : Bool) → b ≡ true → (a || b) ≡ true
-        or_true true b e = refl
-        or_true false b e = e
-
--- a bound that needs no telling
-pub untold_free : (g : Graph) (cube : List Literal) (facts : Scenario → Bool) (free : Bool) → free ≡ true → (s : Scenario) → IsScenario g s → (matches cube s && not (free || facts s)) ≡ false
-untold_free g cube facts free e s i = off_where (matches cube s) (not (free || facts s)) (λ _. ap (λ t. not (t || facts s)) e)
-
 -- what a node's own ends tell, and then all that it hears, from nothing
 module _ (start : List (List Literal)) (s : Scenario) where
-  pub told_own : (first own heard all : Bool) → start ≡ [] → first ≡ (list_any (λ b. matches b s) start || own) → all ≡ (own || heard) → first ≡ true → all ≡ true
-  told_own first own heard all none e is t = is ∙ ap (λ x. x || heard) (sym (e ∙ ap (λ xs. list_any (λ b. matches b s) xs || own) none) ∙ t)
-
   pub told_all : (first last own heard all : Bool) → start ≡ [] → first ≡ (list_any (λ b. matches b s) start || own) → last ≡ (first || heard) → all ≡ (own || heard) → last ≡ all
   told_all first last own heard all none e f is = f ∙ ap (λ x. x || heard) (e ∙ ap (λ xs. list_any (λ b. matches b s) xs || own) none) ∙ sym is
+
+or_true : (a b : Bool) → b ≡ true → (a || b) ≡ true
+or_true true b e = refl
+or_true false b e = e
+
+-- what is heard is told
+pub told_heard : (own heard all : Bool) → all ≡ (own || heard) → heard ≡ true → all ≡ true
+told_heard own heard all is t = is ∙ or_true own heard t
+
+-- where a bound is told all over a cube, it isn't open there
+pub untold_nowhere : (g : Graph) (cube : List Literal) (facts : Scenario → Bool) (free : Bool) → ((s : Scenario) → IsScenario g s → matches cube s ≡ true → facts s ≡ true) → (s : Scenario) → IsScenario g s → (matches cube s && not (free || facts s)) ≡ false
+untold_nowhere g cube facts free h s i = off_where (matches cube s) (not (free || facts s)) (λ m. ap not (or_true free (facts s) (h s i m)))
+
+-- what a node's own ends tell is told
+pub own_told : (free first own heard all : Bool) → first ≡ own → all ≡ (own || heard) → first ≡ true → (free || all) ≡ true
+own_told free first own heard all f is t = or_true free all (is ∙ ap (λ x. x || heard) (sym f ∙ t))
+
+-- what isn't so where nothing is left follows from what is less
+pub fewer_left : {A B : Type 0} (left : Bool) → (A → B) → OnFalse left A → OnFalse left B
+fewer_left false f a = f a
+fewer_left true f a = tt
+
+-- where nothing is left of a cube, all of it is told
+pub left_nowhere : (g : Graph) (order : List ℕ) (cube : List Literal) (told : List (List Literal)) (o : Option Scenario) (facts : Scenario → Bool)
+    → ((s : Scenario) → IsScenario g s → matches cube s ≡ true → list_any (λ b. matches b s) told ≡ true → facts s ≡ true)
+    → IsFirst g order (is_left told cube) o → OnFalse (is_some o) ((s : Scenario) → IsScenario g s → matches cube s ≡ true → facts s ≡ true)
+left_nowhere g order cube told None facts h f = λ s i m. h s i m (turned_off (list_any (λ b. matches b s) told) (sym (ap (λ t. t && not (list_any (λ b. matches b s) told)) m) ∙ f s i))
+left_nowhere g order cube told (Some least) facts h f = tt

@@ -14,7 +14,7 @@ use crate::tellers::tellers;
 use cpg_base::{OutOfMemory, Scenario};
 use cpg_rules::Admitted;
 use cpg_table::{Entry, Fault, Tables};
-use cpg_violation::{columns_of, home, item_count};
+use cpg_violation::columns_of;
 use std::alloc::Global;
 
 /// The first column of an item's row that matches in a scenario in which the item's node hasn't heard one of its literals
@@ -33,7 +33,7 @@ fn first_unheard(
     ensures first { IfOk result (λ r. IfSome r (IsFirstColumn hearing.now.admitted.now.graph hearing.now.admitted.now.order (is_unheard hearing.now.admitted.now.graph hearing.now.tables.now.nodes item columns.now))) }
 {
     let problem = hearing.admitted.problem();
-    let node = home(problem, item);
+    let node = problem.home(item);
     let items = heard_items(alloc, problem, node)?;
     for (place, column) in columns.iter().enumerate() {
         let unheard = hearing.least_unheard(alloc, node, items.as_slice(), column)?;
@@ -62,7 +62,7 @@ pub fn check_heard(
         tables,
         tellers,
     };
-    for item in 0..item_count(admitted.problem()) {
+    for item in 0..admitted.problem().item_count() {
         let columns = columns_of(tables, item);
         let unheard = first_unheard(alloc, &hearing, item, columns)?;
         if let Some((column, scenario)) = unheard {

@@ -1,5 +1,6 @@
 //! What all rows tell: the least scenario in which a node hasn't heard a literal by a time.
-ghost use Rattle.std.specs.Prelude.{◌≡◌, ◌<◌, ◌&&◌, ◌||◌, ℕ, All, IfOk, not, true};
+ghost use Rattle.std.specs.Prelude.{◌≡◌, ◌<◌, ◌&&◌, ◌||◌, All, IfOk, not, true};
+ghost use Rattle.std.specs.Bool.{OnFalse, OnTrue};
 ghost use Rattle.std.specs.List.{list_any};
 ghost use Rattle.cpg_base.specs.Graph.{IsVariable, item_count};
 ghost use Rattle.cpg_order.specs.First.{IsFirst};
@@ -7,20 +8,22 @@ ghost use Rattle.cpg_order.specs.Scenario.{Scenario, IsScenario};
 ghost use Rattle.cpg_cube.specs.Cover.{is_left};
 ghost use Rattle.cpg_cube.specs.Cube.{matches};
 ghost use Rattle.cpg_cube.specs.Fit.{IsKnown};
+ghost use Rattle.cpg_check_heard.specs.Arrivals.{AreArrivals};
 ghost use Rattle.cpg_check_heard.specs.Bounds.{is_told, variable_of};
 ghost use Rattle.cpg_check_heard.specs.Hearings.{IsHearing};
 ghost use Rattle.cpg_check_heard.specs.Tellings.{CanTell, telling_of};
-ghost use Rattle.cpg_check_heard.specs.Unheard.{is_column_unheard, is_literal_unheard};
-ghost use Rattle.cpg_check_heard.specs.Untold.{are_told_by, item_tells, items_heard, own_tells};
+ghost use Rattle.cpg_check_heard.specs.Unheard.{is_column_unheard, is_one_untold};
+ghost use Rattle.cpg_check_heard.specs.Untold.{item_tells, items_heard, own_tells};
 
+use crate::arrivals::{Arrival, add_told, tells_one_whole};
 use crate::bound::Bound;
 use crate::parts::add_row;
 use crate::tellers::Teller;
-use cpg_base::{OutOfMemory, Scenario};
-use cpg_cube::{Cube, Literal, covers};
+use cpg_base::{OutOfMemory, Problem, Scenario};
+use cpg_cube::{Cube, covers};
 use cpg_rules::Admitted;
 use cpg_table::{Entry, Tables};
-use cpg_violation::{earlier, node_of, process_of_variable};
+use cpg_violation::earlier;
 use std::alloc::Global;
 
 /// The rows of a graph's tables, ready to be asked what they tell.
@@ -46,6 +49,38 @@ fn least_left(
     let order = admitted.order();
     let found = covers(alloc, problem, order, cube, told)?;
     Ok(found)
+}
+
+/// Whether one cube of a list matches wherever a cube does.
+fn is_within_one(problem: &Problem, cube: &Cube, told: &[Cube]) -> bool
+    requires cube { IsKnown problem.now cube.now }
+    requires told { All (IsKnown problem.now) told.now }
+    ensures { OnTrue result ((s : Scenario) → IsScenario problem.now s → matches cube.now s ≡ true → list_any (λ b. matches b s) told.now ≡ true) }
+{
+    for part in told {
+        if cube.within(part, problem) {
+            return true;
+        }
+    }
+    false
+}
+
+/// Whether a list may leave something of a cube. A single cube of it that leaves nothing is the common case, and found first.
+fn may_leave(
+    alloc: Global,
+    admitted: &Admitted,
+    cube: &Cube,
+    told: &[Cube],
+) -> Result<bool, OutOfMemory>
+    requires cube { IsKnown admitted.now.graph cube.now }
+    requires told { All (IsKnown admitted.now.graph) told.now }
+    ensures { IfOk result (λ left. OnFalse left ((s : Scenario) → IsScenario admitted.now.graph s → matches cube.now s ≡ true → list_any (λ b. matches b s) told.now ≡ true)) }
+{
+    if is_within_one(admitted.problem(), cube, told) {
+        return Ok(false);
+    }
+    let left = least_left(alloc, admitted, cube, told)?;
+    Ok(left.is_some())
 }
 
 impl Hearing<'_> {
@@ -91,36 +126,80 @@ impl Hearing<'_> {
         ensures told { IfOk result (λ _. (s : Scenario) → IsScenario self.now.admitted.now.graph s → matches cube.now s ≡ true → list_any (λ b. matches b s) told.new.items ≡ (list_any (λ b. matches b s) told.old.items || own_tells self.now.admitted.now.graph self.now.tables.now.nodes node time bound s)) }
     {
         let problem = self.admitted.problem();
-        let process = process_of_variable(problem, bound.variable());
-        if node_of(problem, process) != node {
+        let process = problem.process_of_variable(bound.variable());
+        if problem.node_of(process) != node {
             return Ok(());
         }
         self.add_item(alloc, process, cube, time, bound, told)?;
         Ok(())
     }
 
-    /// Adds those of the frames that the node hears.
-    fn add_heard(
+    /// Whether a node may not have been told a bound by a time by its own ends alone, somewhere that a cube matches.
+    fn is_open(
         &self,
         alloc: Global,
         node: u32,
-        items: &[u32],
         cube: &Cube,
         time: u64,
         bound: Bound,
-        told: &mut Vec<Cube>,
+    ) -> Result<bool, OutOfMemory>
+        requires hearing { IsHearing self.now }
+        requires variable { IsVariable self.now.admitted.now.graph (variable_of bound) }
+        requires cube { IsKnown self.now.admitted.now.graph cube.now }
+        ensures { IfOk result (λ left. OnFalse left ((s : Scenario) → IsScenario self.now.admitted.now.graph s → matches cube.now s ≡ true → is_told self.now.admitted.now.graph self.now.tables.now.nodes node time bound s ≡ true)) }
+    {
+        if bound.is_free(self.admitted.problem().faults()) {
+            return Ok(false);
+        }
+        let mut told = Vec::new(alloc);
+        self.add_own(alloc, node, cube, time, bound, &mut told)?;
+        if told.is_empty() {
+            return Ok(true);
+        }
+        let left = may_leave(alloc, self.admitted, cube, told.as_slice())?;
+        Ok(left)
+    }
+
+    /// Adds a bound, where the node's own ends may leave it open at a column's time.
+    fn add_open(
+        &self,
+        alloc: Global,
+        node: u32,
+        column: &Entry,
+        bound: Bound,
+        bounds: &mut Vec<Bound>,
     ) -> Result<(), OutOfMemory>
         requires hearing { IsHearing self.now }
-        requires items { items.now ≡ items_heard self.now.admitted.now.graph node }
         requires variable { IsVariable self.now.admitted.now.graph (variable_of bound) }
-        requires told { All (IsKnown self.now.admitted.now.graph) told.old.items }
-        ensures known { IfOk result (λ _. All (IsKnown self.now.admitted.now.graph) told.new.items) }
-        ensures told { IfOk result (λ _. (s : Scenario) → IsScenario self.now.admitted.now.graph s → matches cube.now s ≡ true → list_any (λ b. matches b s) told.new.items ≡ (list_any (λ b. matches b s) told.old.items || are_told_by self.now.admitted.now.graph self.now.tables.now.nodes time bound items.now s)) }
+        requires cube { IsKnown self.now.admitted.now.graph column.now.cube }
+        requires bounds { All (λ b. IsVariable self.now.admitted.now.graph (variable_of b)) bounds.old.items }
+        ensures known { IfOk result (λ _. All (λ b. IsVariable self.now.admitted.now.graph (variable_of b)) bounds.new.items) }
+        ensures untold { IfOk result (λ _. (s : Scenario) → IsScenario self.now.admitted.now.graph s → matches column.now.cube s ≡ true → is_one_untold self.now.admitted.now.graph self.now.tables.now.nodes node column.now.time bounds.new.items s ≡ (is_one_untold self.now.admitted.now.graph self.now.tables.now.nodes node column.now.time bounds.old.items s || not (is_told self.now.admitted.now.graph self.now.tables.now.nodes node column.now.time bound s))) }
     {
-        for item in items {
-            self.add_item(alloc, *item, cube, time, bound, told)?;
+        if self.is_open(alloc, node, &column.cube, column.time, bound)? {
+            bounds.push(bound)?;
         }
         Ok(())
+    }
+
+    /// The bounds of a column's literals that the node's own ends may leave open at its time.
+    fn open_bounds(
+        &self,
+        alloc: Global,
+        node: u32,
+        column: &Entry,
+    ) -> Result<Vec<Bound>, OutOfMemory>
+        requires hearing { IsHearing self.now }
+        requires cube { IsKnown self.now.admitted.now.graph column.now.cube }
+        ensures known { IfOk result (λ bounds. All (λ b. IsVariable self.now.admitted.now.graph (variable_of b)) bounds.items) }
+        ensures untold { IfOk result (λ bounds. (s : Scenario) → IsScenario self.now.admitted.now.graph s → matches column.now.cube s ≡ true → is_one_untold self.now.admitted.now.graph self.now.tables.now.nodes node column.now.time bounds.items s ≡ is_column_unheard self.now.admitted.now.graph self.now.tables.now.nodes node s column.now) }
+    {
+        let mut bounds = Vec::new(alloc);
+        for literal in column.cube.literals() {
+            self.add_open(alloc, node, column, Bound::low_of(literal), &mut bounds)?;
+            self.add_open(alloc, node, column, Bound::high_of(literal), &mut bounds)?;
+        }
+        Ok(bounds)
     }
 
     /// The least scenario that a cube matches and in which a node hasn't been told a bound by a time, if there is one.
@@ -129,49 +208,60 @@ impl Hearing<'_> {
         alloc: Global,
         node: u32,
         items: &[u32],
+        arrivals: &[Arrival<'_>],
         cube: &Cube,
         time: u64,
         bound: Bound,
     ) -> Result<Option<Scenario>, OutOfMemory>
         requires hearing { IsHearing self.now }
         requires items { items.now ≡ items_heard self.now.admitted.now.graph node }
+        requires arrivals { AreArrivals self.now.admitted.now.graph self.now.tables.now.nodes time cube.now items.now arrivals.now }
         requires variable { IsVariable self.now.admitted.now.graph (variable_of bound) }
         requires cube { IsKnown self.now.admitted.now.graph cube.now }
         ensures { IfOk result (IsFirst self.now.admitted.now.graph self.now.admitted.now.order (λ s. matches cube.now s && not (is_told self.now.admitted.now.graph self.now.tables.now.nodes node time bound s))) }
     {
-        if bound.is_free(self.admitted.problem().faults()) {
+        let problem = self.admitted.problem();
+        if bound.is_free(problem.faults()) {
+            return Ok(None);
+        }
+        if tells_one_whole(problem, arrivals, cube, time, bound) {
             return Ok(None);
         }
         let mut told = Vec::new(alloc);
         self.add_own(alloc, node, cube, time, bound, &mut told)?;
-        let left = least_left(alloc, self.admitted, cube, told.as_slice())?;
-        if left.is_none() {
-            return Ok(None);
-        }
-        self.add_heard(alloc, node, items, cube, time, bound, &mut told)?;
+        add_told(problem, arrivals, time, bound, &mut told)?;
         let found = least_left(alloc, self.admitted, cube, told.as_slice())?;
         Ok(found)
     }
 
-    /// The least scenario that a cube matches and in which a node hasn't heard a literal by a time, if there is one.
-    fn least_unheard_literal(
+    /// The least scenario that a column matches and in which a node hasn't been told one of these bounds by its time, if
+    /// there is one.
+    fn least_of_bounds(
         &self,
         alloc: Global,
         node: u32,
         items: &[u32],
-        cube: &Cube,
-        time: u64,
-        literal: &Literal,
+        arrivals: &[Arrival<'_>],
+        column: &Entry,
+        bounds: &[Bound],
     ) -> Result<Option<Scenario>, OutOfMemory>
         requires hearing { IsHearing self.now }
         requires items { items.now ≡ items_heard self.now.admitted.now.graph node }
-        requires variable { IsVariable self.now.admitted.now.graph literal.now.variable }
-        requires cube { IsKnown self.now.admitted.now.graph cube.now }
-        ensures { IfOk result (IsFirst self.now.admitted.now.graph self.now.admitted.now.order (λ s. matches cube.now s && is_literal_unheard self.now.admitted.now.graph self.now.tables.now.nodes node time s literal.now)) }
+        requires arrivals { AreArrivals self.now.admitted.now.graph self.now.tables.now.nodes column.now.time column.now.cube items.now arrivals.now }
+        requires cube { IsKnown self.now.admitted.now.graph column.now.cube }
+        requires bounds { All (λ b. IsVariable self.now.admitted.now.graph (variable_of b)) bounds.now }
+        ensures { IfOk result (IsFirst self.now.admitted.now.graph self.now.admitted.now.order (λ s. matches column.now.cube s && is_one_untold self.now.admitted.now.graph self.now.tables.now.nodes node column.now.time bounds.now s)) }
     {
-        let low = self.least_untold(alloc, node, items, cube, time, Bound::low_of(literal))?;
-        let high = self.least_untold(alloc, node, items, cube, time, Bound::high_of(literal))?;
-        Ok(earlier(self.admitted.problem(), self.admitted.order(), low, high))
+        let problem = self.admitted.problem();
+        let order = self.admitted.order();
+        let cube = &column.cube;
+        let time = column.time;
+        let mut found: Option<Scenario> = None;
+        for bound in bounds {
+            let next = self.least_untold(alloc, node, items, arrivals, cube, time, *bound)?;
+            found = earlier(problem, order, found, next);
+        }
+        Ok(found)
     }
 
     /// The least scenario that a column matches and in which a node hasn't heard one of its literals by its time, if there is
@@ -188,14 +278,13 @@ impl Hearing<'_> {
         requires cube { IsKnown self.now.admitted.now.graph column.now.cube }
         ensures { IfOk result (IsFirst self.now.admitted.now.graph self.now.admitted.now.order (λ s. matches column.now.cube s && is_column_unheard self.now.admitted.now.graph self.now.tables.now.nodes node s column.now)) }
     {
-        let problem = self.admitted.problem();
-        let order = self.admitted.order();
-        let cube = &column.cube;
-        let mut found: Option<Scenario> = None;
-        for literal in cube.literals() {
-            let next = self.least_unheard_literal(alloc, node, items, cube, column.time, literal)?;
-            found = earlier(problem, order, found, next);
+        let bounds = self.open_bounds(alloc, node, column)?;
+        if bounds.is_empty() {
+            return Ok(None);
         }
+        let arrivals = self.arrivals(alloc, node, items, &column.cube, column.time)?;
+        let heard = arrivals.as_slice();
+        let found = self.least_of_bounds(alloc, node, items, heard, column, bounds.as_slice())?;
         Ok(found)
     }
 }

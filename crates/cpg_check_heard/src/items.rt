@@ -4,7 +4,6 @@ ghost use Rattle.cpg_base.specs.Graph.{is_heard_by, item_at, item_count};
 ghost use Rattle.cpg_check_heard.specs.Untold.{items_heard};
 
 use cpg_base::{OutOfMemory, Problem};
-use cpg_violation::{is_message, item_count, node_of};
 use std::alloc::Global;
 
 /// Whether a node hears an item.
@@ -19,15 +18,15 @@ fn is_heard_by(problem: &Problem, node: u32, item: u32) -> bool
     }
     if item - processes < edges {
         let edge = problem.edges()[(item - processes) as usize];
-        if !is_message(problem, item - processes) {
+        if !problem.is_message(item - processes) {
             return false;
         }
-        return node_of(problem, edge.to) == node;
+        return problem.node_of(edge.to) == node;
     }
     if problem.nodes().len() < 2 {
         return false;
     }
-    node_of(problem, problem.process_of(item - processes - edges)) != node
+    problem.node_of(problem.process_of(item - processes - edges)) != node
 }
 
 /// The items that a node hears, by number.
@@ -39,7 +38,7 @@ pub(crate) fn heard_items(
     ensures { IfOk result (λ items. items.items ≡ items_heard problem.now node) }
 {
     let mut items = Vec::new(alloc);
-    for item in 0..item_count(problem) {
+    for item in 0..problem.item_count() {
         if is_heard_by(problem, node, item) {
             items.push(item)?;
         }

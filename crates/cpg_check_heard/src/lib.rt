@@ -1,11 +1,14 @@
 //! V4: each literal of a column that matches is heard at the column's node by its time.
 #![tactic(auto)]
 
+mod arrivals;
 mod bound;
 mod heard;
 mod hearing;
 mod items;
 mod parts;
 mod tellers;
+#[cfg(test)]
+mod tests;
 
 pub use heard::check_heard;

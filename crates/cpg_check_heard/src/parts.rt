@@ -111,7 +111,7 @@ fn frame_part(
 }
 
 /// The part of a column's cube in which it tells a bound by a time, if there is one.
-fn part_of(
+pub(crate) fn part_of(
     problem: &Problem,
     telling: Telling,
     column: &Entry,
@@ -159,7 +159,7 @@ fn part_at(
 }
 
 /// Adds a part, if there is one.
-fn add(told: &mut Vec<Cube>, part: Option<Cube>) -> Result<(), OutOfMemory>
+pub(crate) fn add(told: &mut Vec<Cube>, part: Option<Cube>) -> Result<(), OutOfMemory>
     ensures { IfOk result (λ _. told.new.items ≡ told.old.items ++ option_to_list part) }
 {
     if let Some(cube) = part {

@@ -7,7 +7,7 @@ ghost use Rattle.cpg_check_heard.specs.Tellings.{AreTellers, IsTeller, telling_o
 use cpg_base::{OutOfMemory, Problem};
 use cpg_rules::Admitted;
 use cpg_table::{Entry, Tables};
-use cpg_violation::{Sieve, columns_of, home, item_count, slot_length};
+use cpg_violation::{Sieve, columns_of};
 use std::alloc::Global;
 
 /// How the columns of a row tell.
@@ -38,7 +38,7 @@ fn telling_of(problem: &Problem, item: u32) -> Telling
     if item < processes {
         return Telling::End { process: item };
     }
-    let delay = slot_length(problem, home(problem, item));
+    let delay = problem.slot_length(problem.home(item));
     if item - processes < edges {
         return Telling::Frame {
             delay,
@@ -82,7 +82,7 @@ pub(crate) fn tellers<'a>(
 {
     let problem = admitted.problem();
     let mut tellers = Vec::new(alloc);
-    for item in 0..item_count(problem) {
+    for item in 0..problem.item_count() {
         let teller = teller_of(alloc, problem, tables, item)?;
         tellers.push(teller)?;
     }

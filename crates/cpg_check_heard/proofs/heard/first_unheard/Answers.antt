@@ -15,7 +15,7 @@ returns-in-Some-clause-first c =
     let order = c.args.hearing.now.admitted.now.order in
     let tables = c.args.hearing.now.tables.now.nodes in
     let d = c.index-columns-place.result in
-    let node : c.home-node.result ≡ home g c.args.item = c.home-node.ensures ∙ ap (λ h. home h c.args.item) c.problem-problem.ensures.problem in
+    let node : c.home-node.result ≡ home g c.args.item = c.home-node.ensures.home ∙ ap (λ h. home h c.args.item) c.problem-problem.ensures.problem in
     let found = subst (λ e. IsFirst g order (λ s. matches e.cube s && is_column_unheard g tables (home g c.args.item) s e) (Some c.in-Some.scenario)) c.index-columns-place.is
     (subst (λ n. IsFirst g order (λ s. matches d.cube s && is_column_unheard g tables n s d) (Some c.in-Some.scenario)) node (rw c.in-Some.is at c.in_ok-unheard.ensures)) in
     record {
@@ -29,7 +29,7 @@ loop-place-preserved c =
     let order = c.args.hearing.now.admitted.now.order in
     let tables = c.args.hearing.now.tables.now.nodes in
     let d = c.index-columns-place.result in
-    let node : c.home-node.result ≡ home g c.args.item = c.home-node.ensures ∙ ap (λ h. home h c.args.item) c.problem-problem.ensures.problem in
+    let node : c.home-node.result ≡ home g c.args.item = c.home-node.ensures.home ∙ ap (λ h. home h c.args.item) c.problem-problem.ensures.problem in
     let found = subst (λ e. IsFirst g order (λ s. matches e.cube s && is_column_unheard g tables (home g c.args.item) s e) None) c.index-columns-place.is
     (subst (λ n. IsFirst g order (λ s. matches d.cube s && is_column_unheard g tables n s d) None) node (rw c.in_default.is at c.in_ok-unheard.ensures)) in
     let none : (s : Scenario) → IsScenario g s → is_unheard g tables c.args.item c.args.columns.now c.loop-place.place s ≡ false =

@@ -1,0 +1,180 @@
+//! The columns of the rows that a node hears whose frames may have come by a time. They are found once for a column that
+//! is judged, and then asked for each of its literals.
+ghost use Rattle.std.specs.Prelude.{◌≡◌, ◌≤◌, ◌||◌, All, IfOk, false, true};
+ghost use Rattle.std.specs.Bool.{OnFalse, OnTrue};
+ghost use Rattle.std.specs.List.{list_any};
+ghost use Rattle.cpg_base.specs.Graph.{Graph, IsVariable};
+ghost use Rattle.cpg_order.specs.Scenario.{Scenario, IsScenario};
+ghost use Rattle.cpg_cube.specs.Cube.{matches};
+ghost use Rattle.cpg_cube.specs.Fit.{IsKnown};
+ghost use Rattle.cpg_table.specs.Table.{Column};
+ghost use Rattle.cpg_violation.specs.Sieves.{IsSieveOf};
+ghost use Rattle.cpg_check_heard.specs.Arrivals.{AreArrivals, IsArrival, do_tell};
+ghost use Rattle.cpg_check_heard.specs.Bounds.{variable_of};
+ghost use Rattle.cpg_check_heard.specs.Hearings.{IsHearing};
+ghost use Rattle.cpg_check_heard.specs.Tellings.{CanTell, is_telling, is_telling_at, row_tells};
+ghost use Rattle.cpg_check_heard.specs.Untold.{items_heard};
+ghost use Rattle.cpg_check_heard.specs.declared.bound.Bound.{Bound};
+
+use crate::bound::Bound;
+use crate::hearing::Hearing;
+use crate::parts::{add, part_of};
+use crate::tellers::{Teller, Telling};
+use cpg_base::{OutOfMemory, Problem};
+use cpg_cube::Cube;
+use cpg_table::Entry;
+use std::alloc::Global;
+
+/// A column, and how it tells.
+#[derive(Clone, Copy)]
+pub(crate) struct Arrival<'a> {
+    pub(crate) column: &'a Entry,
+    pub(crate) telling: Telling,
+}
+
+/// Whether the frame of a column may have come by a time; not where that of a column at this start hasn't, and the column
+/// is no earlier.
+fn may_have_come(telling: Telling, start: u64, time: u64) -> bool
+    ensures { OnFalse result ((g : Graph) (b : Bound) (s : Scenario) (c : Column) → start ≤ c.time → is_telling g telling time b s c ≡ false) }
+{
+    let Telling::Frame { delay, .. } = telling else {
+        return true;
+    };
+    if start > time {
+        return false;
+    }
+    delay <= time - start
+}
+
+/// Adds the column at a place, if there is one and its frame may have come by a time.
+fn add_column<'a>(
+    telling: Telling,
+    columns: &'a [Entry],
+    place: u32,
+    time: u64,
+    arrivals: &mut Vec<Arrival<'a>>,
+) -> Result<(), OutOfMemory>
+    ensures each { IfOk result (λ _. (g : Graph) → All (λ c. IsKnown g c.cube) columns.now → ((b : Bound) → CanTell g b telling) → All (IsArrival g) arrivals.old.items → All (IsArrival g) arrivals.new.items) }
+    ensures told { IfOk result (λ _. (g : Graph) (b : Bound) (s : Scenario) → do_tell g time b arrivals.new.items s ≡ (do_tell g time b arrivals.old.items s || is_telling_at g telling time b columns.now s place)) }
+{
+    let Some(column) = columns.get(place as usize) else {
+        return Ok(());
+    };
+    if !may_have_come(telling, column.time, time) {
+        return Ok(());
+    }
+    arrivals.push(Arrival { column, telling })?;
+    Ok(())
+}
+
+/// Adds the columns of a row whose frames may have come by a time, as far as they may match together with a cube.
+fn add_row<'a>(
+    alloc: Global,
+    teller: &Teller<'a>,
+    cube: &Cube,
+    time: u64,
+    arrivals: &mut Vec<Arrival<'a>>,
+) -> Result<(), OutOfMemory>
+    requires { IsSieveOf teller.now.columns.now teller.now.sieve }
+    ensures each { IfOk result (λ _. (g : Graph) → All (λ c. IsKnown g c.cube) teller.now.columns.now → ((b : Bound) → CanTell g b teller.now.telling) → All (IsArrival g) arrivals.old.items → All (IsArrival g) arrivals.new.items) }
+    ensures told { IfOk result (λ _. (g : Graph) (b : Bound) (s : Scenario) → matches cube.now s ≡ true → do_tell g time b arrivals.new.items s ≡ (do_tell g time b arrivals.old.items s || row_tells g teller.now.telling time b teller.now.columns.now s)) }
+{
+    let places = teller.sieve.candidates(alloc, cube)?;
+    for place in places.as_slice() {
+        add_column(teller.telling, teller.columns, *place, time, arrivals)?;
+    }
+    Ok(())
+}
+
+impl<'a> Hearing<'a> {
+    /// The columns of the rows that a node hears whose frames may have come by a time, as far as they may match together
+    /// with a cube.
+    pub(crate) fn arrivals(
+        &self,
+        alloc: Global,
+        node: u32,
+        items: &[u32],
+        cube: &Cube,
+        time: u64,
+    ) -> Result<Vec<Arrival<'a>>, OutOfMemory>
+        requires hearing { IsHearing self.now }
+        requires items { items.now ≡ items_heard self.now.admitted.now.graph node }
+        ensures { IfOk result (λ arrivals. AreArrivals self.now.admitted.now.graph self.now.tables.now.nodes time cube.now items.now arrivals.items) }
+    {
+        let mut arrivals = Vec::new(alloc);
+        for item in items {
+            let teller = &self.tellers[*item as usize];
+            add_row(alloc, teller, cube, time, &mut arrivals)?;
+        }
+        Ok(arrivals)
+    }
+}
+
+/// Whether the frame of a column has come by a time and tells a bound wherever a cube matches.
+fn tells_whole(
+    problem: &Problem,
+    arrival: &Arrival<'_>,
+    cube: &Cube,
+    time: u64,
+    bound: Bound,
+) -> bool
+    requires cube { IsKnown problem.now cube.now }
+    requires column { IsKnown problem.now arrival.now.column.now.cube }
+    ensures { OnTrue result ((s : Scenario) → IsScenario problem.now s → matches cube.now s ≡ true → is_telling problem.now arrival.now.telling time bound s arrival.now.column.now ≡ true) }
+{
+    let Telling::Frame { delay, .. } = arrival.telling else {
+        return false;
+    };
+    let column = arrival.column;
+    if column.time > time {
+        return false;
+    }
+    if delay > time - column.time {
+        return false;
+    }
+    if !bound.is_told_by_any(column.cube.literals()) {
+        return false;
+    }
+    cube.within(&column.cube, problem)
+}
+
+/// Whether one of these columns does.
+pub(crate) fn tells_one_whole(
+    problem: &Problem,
+    arrivals: &[Arrival<'_>],
+    cube: &Cube,
+    time: u64,
+    bound: Bound,
+) -> bool
+    requires cube { IsKnown problem.now cube.now }
+    requires arrivals { All (IsArrival problem.now) arrivals.now }
+    ensures { OnTrue result ((s : Scenario) → IsScenario problem.now s → matches cube.now s ≡ true → do_tell problem.now time bound arrivals.now s ≡ true) }
+{
+    for arrival in arrivals {
+        if tells_whole(problem, arrival, cube, time, bound) {
+            return true;
+        }
+    }
+    false
+}
+
+/// Adds the parts of these columns' cubes in which they tell a bound by a time.
+pub(crate) fn add_told(
+    problem: &Problem,
+    arrivals: &[Arrival<'_>],
+    time: u64,
+    bound: Bound,
+    told: &mut Vec<Cube>,
+) -> Result<(), OutOfMemory>
+    requires variable { IsVariable problem.now (variable_of bound) }
+    requires arrivals { All (IsArrival problem.now) arrivals.now }
+    requires told { All (IsKnown problem.now) told.old.items }
+    ensures known { IfOk result (λ _. All (IsKnown problem.now) told.new.items) }
+    ensures told { IfOk result (λ _. (s : Scenario) → IsScenario problem.now s → list_any (λ b. matches b s) told.new.items ≡ (list_any (λ b. matches b s) told.old.items || do_tell problem.now time bound arrivals.now s)) }
+{
+    for arrival in arrivals {
+        let part = part_of(problem, arrival.telling, arrival.column, time, bound)?;
+        add(told, part)?;
+    }
+    Ok(())
+}
