@@ -17,10 +17,7 @@ use cpg_base::{OutOfMemory, Problem, Scenario};
 use cpg_cube::{Cube, Literal};
 use cpg_rules::Admitted;
 use cpg_table::{Entry, Fault, Tables};
-use cpg_violation::{
-    columns_of, earlier, is_message, item_count, least_at, process_of_variable, source,
-    value_literal,
-};
+use cpg_violation::{columns_of, earlier, least_at, value_literal};
 use std::alloc::Global;
 
 /// The least scenario that a cube matches and in which a process isn't active, if there is one.
@@ -91,7 +88,7 @@ fn least_unlive(
 {
     let problem = admitted.problem();
     let order = admitted.order();
-    let process = source(problem, edge);
+    let process = problem.source(edge);
     let idle = least_idle(alloc, admitted, process, cube)?;
     let Some(literal) = other_value(problem, edge) else {
         return Ok(idle);
@@ -112,7 +109,7 @@ fn least_unsent(
     ensures { IfOk result (IsFirst admitted.now.graph admitted.now.order (λ s. matches cube.now s && not (item_active admitted.now.graph s.values (item_at admitted.now.graph (message_item admitted.now.graph edge))))) }
 {
     let problem = admitted.problem();
-    if !is_message(problem, edge) {
+    if !problem.is_message(edge) {
         let found = cube.least(alloc, problem)?;
         return Ok(found);
     }
@@ -164,7 +161,7 @@ fn least_unrun(
     let order = admitted.order();
     let mut found: Option<Scenario> = None;
     for literal in cube.literals() {
-        let process = process_of_variable(problem, literal.variable);
+        let process = problem.process_of_variable(literal.variable);
         let next = least_idle(alloc, admitted, process, cube)?;
         found = earlier(problem, order, found, next);
     }
@@ -223,7 +220,7 @@ pub fn check_activity(
     ensures none { IfOk result (λ r. IfNone r (Holds admitted.now.graph tables.now.nodes 1)) }
     ensures first { IfOk result (λ r. IfSome r (IsFirstViolation admitted.now.graph admitted.now.order tables.now.nodes 1)) }
 {
-    for item in 0..item_count(admitted.problem()) {
+    for item in 0..admitted.problem().item_count() {
         let columns = columns_of(tables, item);
         let idle = first_idle(alloc, admitted, item, columns)?;
         if let Some((column, scenario)) = idle {

@@ -13,7 +13,7 @@ use cpg_base::{OutOfMemory, Scenario};
 use cpg_cube::Literal;
 use cpg_rules::Admitted;
 use cpg_table::{Entry, Fault, Tables};
-use cpg_violation::{columns_of, home, item_count, row_columns, slot_length};
+use cpg_violation::{columns_of, row_columns};
 use std::alloc::Global;
 
 fn is_same(literal: &Literal, other: &Literal) -> bool
@@ -110,9 +110,9 @@ pub fn check_hears(
 {
     let problem = admitted.problem();
     let nodes = tables.head().nodes().len() as u32;
-    for item in 0..item_count(problem) {
+    for item in 0..problem.item_count() {
         let sent = columns_of(tables, item);
-        let delay = slot_length(problem, home(problem, item));
+        let delay = problem.slot_length(problem.home(item));
         if let Some(place) = first_hear(tables, nodes, item, sent, delay) {
             let scenario = Scenario::zero(alloc, problem)?;
             return Ok(Some(Fault {

@@ -15,7 +15,7 @@ use cpg_base::{OutOfMemory, Scenario};
 use cpg_cube::Cube;
 use cpg_rules::Admitted;
 use cpg_table::{Entry, Fault, Tables};
-use cpg_violation::{columns_of, cubes_of, edge_cube, is_message, item_count, least_at, source};
+use cpg_violation::{columns_of, cubes_of, edge_cube, least_at};
 use std::alloc::Global;
 
 /// The least scenario that a cube matches and no column does, and in which a process is active; if there is one.
@@ -51,11 +51,11 @@ fn least_unsent(
     ensures { IfOk result (IsFirst admitted.now.graph admitted.now.order (is_absent admitted.now.graph columns.now (message_item admitted.now.graph edge))) }
 {
     let problem = admitted.problem();
-    if !is_message(problem, edge) {
+    if !problem.is_message(edge) {
         return Ok(None);
     }
     let cube = edge_cube(alloc, problem, edge)?;
-    let process = source(problem, edge);
+    let process = problem.source(edge);
     let found = least_without(alloc, admitted, process, &cube, columns)?;
     Ok(found)
 }
@@ -103,7 +103,7 @@ pub fn check_present(
     ensures first { IfOk result (λ r. IfSome r (IsFirstViolation admitted.now.graph admitted.now.order tables.now.nodes 3)) }
 {
     let problem = admitted.problem();
-    for item in 0..item_count(problem) {
+    for item in 0..problem.item_count() {
         let columns = columns_of(tables, item);
         let absent = least_absent(alloc, admitted, item, columns)?;
         if let Some(scenario) = absent {

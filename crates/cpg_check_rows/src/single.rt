@@ -17,7 +17,7 @@ use cpg_cube::Cube;
 use cpg_order::Order;
 use cpg_rules::Admitted;
 use cpg_table::{Entry, Fault, Tables};
-use cpg_violation::{Sieve, columns_of, earlier, item_count, met};
+use cpg_violation::{Sieve, columns_of, earlier, met};
 use std::alloc::Global;
 
 /// The least scenario that a cube matches together with the column at a place, if there is one.
@@ -122,7 +122,7 @@ pub fn check_single(
 {
     let problem = admitted.problem();
     let order = admitted.order();
-    for item in 0..item_count(problem) {
+    for item in 0..problem.item_count() {
         let columns = columns_of(tables, item);
         let double = first_double(alloc, problem, order, columns)?;
         if let Some((column, scenario)) = double {

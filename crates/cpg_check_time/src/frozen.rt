@@ -13,7 +13,7 @@ use crate::judge::{Judge, first_violation};
 use cpg_base::{OutOfMemory, Problem, Scenario};
 use cpg_rules::Admitted;
 use cpg_table::{Entry, Fault, Tables};
-use cpg_violation::{columns_of, is_message, item_count};
+use cpg_violation::columns_of;
 use std::alloc::Global;
 
 /// Whether an item has one time in all scenarios: a frozen process, or a frozen edge between nodes.
@@ -34,7 +34,7 @@ fn is_frozen(problem: &Problem, item: u32) -> bool
     if !edges[edge as usize].frozen {
         return false;
     }
-    is_message(problem, edge)
+    problem.is_message(edge)
 }
 
 /// The time of the first column that matches in any scenario, if there is one.
@@ -78,7 +78,7 @@ fn frozen_times(
     requires { IsHeadFor admitted.now.graph tables.now.head }
     ensures { IfOk result (λ times. times.items ≡ map (frozen_time admitted.now.graph tables.now.nodes) (numbers_below (item_count admitted.now.graph))) }
 {
-    let count = item_count(admitted.problem());
+    let count = admitted.problem().item_count();
     let mut times = Vec::new(alloc);
     times.reserve(count as usize)?;
     for item in 0..count {

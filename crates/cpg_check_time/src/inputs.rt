@@ -24,7 +24,7 @@ use cpg_cube::Cube;
 use cpg_order::Links;
 use cpg_rules::Admitted;
 use cpg_table::{Entry, Fault, Tables};
-use cpg_violation::{earlier, edge_cube, home, is_message, producer, slot_length, source};
+use cpg_violation::{earlier, edge_cube};
 use std::alloc::Global;
 
 /// The scenarios that two cubes match; `None` exactly where there are none.
@@ -59,9 +59,9 @@ fn least_lacking(
     ensures { IfOk result (IsFirst admitted.now.graph admitted.now.order (lacks_input admitted.now.graph tables.now.nodes column.now edge)) }
 {
     let problem = admitted.problem();
-    if is_message(problem, edge) {
+    if problem.is_message(edge) {
         let item = problem.processes().len() as u32 + edge;
-        let slot = Delay::Slot(slot_length(problem, home(problem, item)));
+        let slot = Delay::Slot(problem.slot_length(problem.home(item)));
         let time = column.time;
         let found = least_delay(
             alloc,
@@ -75,7 +75,7 @@ fn least_lacking(
         )?;
         return Ok(found);
     }
-    let process = source(problem, edge);
+    let process = problem.source(edge);
     let execution = Delay::Execution(process);
     let asked = edge_cube(alloc, problem, edge)?;
     let Some(part) = common(&column.cube, &asked)? else {
@@ -136,7 +136,7 @@ impl<'a> Judge for Inputs<'a> {
         let problem = admitted.problem();
         let lines = self.lines;
         if item as usize >= problem.processes().len() {
-            let process = producer(problem, item);
+            let process = problem.producer(item);
             let end = Delay::Execution(process);
             let (cube, time) = (&column.cube, column.time);
             let least = least_delay(alloc, admitted, tables, lines, process, cube, end, time)?;

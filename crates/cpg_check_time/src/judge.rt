@@ -15,7 +15,7 @@ ghost use Rattle.cpg_check_time.specs.Columns.{IsColumn, breaks_column};
 use cpg_base::{OutOfMemory, Scenario};
 use cpg_rules::Admitted;
 use cpg_table::{Entry, Fault, Tables};
-use cpg_violation::{columns_of, item_count};
+use cpg_violation::columns_of;
 use std::alloc::Global;
 
 /// A rule on single columns, with what its questions need to know of the tables.
@@ -83,7 +83,7 @@ pub(crate) fn first_violation<J: Judge>(
     ensures none { IfOk result (λ r. IfNone r (Holds admitted.now.graph tables.now.nodes J.number)) }
     ensures first { IfOk result (λ r. IfSome r (IsFirstViolation admitted.now.graph admitted.now.order tables.now.nodes J.number)) }
 {
-    for item in 0..item_count(admitted.problem()) {
+    for item in 0..admitted.problem().item_count() {
         let found = first_in_row(alloc, admitted, tables, judge, item)?;
         if let Some((column, scenario)) = found {
             return Ok(Some(Fault {

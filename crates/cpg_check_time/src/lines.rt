@@ -11,7 +11,7 @@ ghost use Rattle.cpg_check_time.specs.Lines.{AreLines, IsLine};
 use cpg_base::{OutOfMemory, Problem};
 use cpg_cube::Cube;
 use cpg_table::{Entry, Tables};
-use cpg_violation::{Sieve, columns_of, item_count};
+use cpg_violation::{Sieve, columns_of};
 use std::alloc::Global;
 
 /// The columns of an item, with a sieve of them, and the time of the first and of the last.
@@ -69,7 +69,7 @@ pub(crate) fn lines_of<'a>(
 ) -> Result<Vec<Line<'a>>, OutOfMemory>
     ensures { IfOk result (λ lines. AreLines tables.now.nodes (item_count problem.now) lines.items) }
 {
-    let count = item_count(problem);
+    let count = problem.item_count();
     let mut lines = Vec::new(alloc);
     lines.reserve(count as usize)?;
     for item in 0..count {

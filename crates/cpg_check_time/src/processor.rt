@@ -22,7 +22,7 @@ use cpg_base::{OutOfMemory, Problem, Scenario};
 use cpg_order::Order;
 use cpg_rules::Admitted;
 use cpg_table::{Entry, Fault, Tables};
-use cpg_violation::{earlier, node_of};
+use cpg_violation::earlier;
 use std::alloc::Global;
 
 /// The least scenario in which the execution of a process that a column starts overlaps that of another process that its
@@ -99,7 +99,7 @@ fn least_with(
 {
     let problem = admitted.problem();
     let line = &lines[other as usize];
-    if node_of(problem, other) != node_of(problem, process) {
+    if problem.node_of(other) != problem.node_of(process) {
         return Ok(None);
     }
     if line.first >= column.time + problem.duration(process, problem.faults()) {

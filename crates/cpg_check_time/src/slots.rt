@@ -24,7 +24,7 @@ use cpg_bus::Share;
 use cpg_order::Order;
 use cpg_rules::Admitted;
 use cpg_table::{Entry, Fault, Tables};
-use cpg_violation::{earlier, home, is_message, met};
+use cpg_violation::{earlier, met};
 use std::alloc::Global;
 
 /// Whether an item goes over the bus: a message, or a broadcast where there are two nodes or more.
@@ -38,7 +38,7 @@ fn is_sent(problem: &Problem, item: u32) -> bool
         return false;
     }
     if item - processes < edges {
-        return is_message(problem, item - processes);
+        return problem.is_message(item - processes);
     }
     problem.nodes().len() > 1
 }
@@ -128,7 +128,7 @@ fn least_with(
     if !is_sent(problem, other) {
         return Ok(None);
     }
-    if home(problem, other) != home(problem, item) {
+    if problem.home(other) != problem.home(item) {
         return Ok(None);
     }
     let order = admitted.order();
@@ -185,7 +185,7 @@ impl<'a> Judge for Slots<'a> {
         if !is_sent(problem, item) {
             return Ok(None);
         }
-        if !is_slot_start(problem, home(problem, item), column.time) {
+        if !is_slot_start(problem, problem.home(item), column.time) {
             let least = column.cube.least(alloc, problem)?;
             return Ok(least);
         }

@@ -15,7 +15,7 @@ returns-in_default c =
     let order = c.args.admitted.now.order in
     let a = c.problem-problem.ensures.admitted in
     let e = c.args.edge in
-    let is : c.source-process.result ≡ source g e = c.source-process.ensures ∙ ap (λ h. source h e) c.problem-problem.ensures.problem in
+    let is : c.source-process.result ≡ source g e = c.source-process.ensures.source ∙ ap (λ h. source h e) c.problem-problem.ensures.problem in
     let idle = subst (λ p. IsFirst g order (λ s. matches c.args.cube.now s && not (active g s.values p)) c.in_ok-idle.idle) is c.in_ok-idle.ensures in
     let none = rw (c.in_default.is, c.problem-problem.ensures.problem) at c.other_value.ensures.none in
     unlive_idle g order c.args.cube.now (λ s. active g s.values (source g e)) (λ s. is_passed (test_of (condition_of g (source g e)) (edge_at g e).when) s.values) (λ s. live g s.values e) c.in_ok-idle.idle
@@ -33,7 +33,7 @@ returns c =
     let order = c.args.admitted.now.order in
     let a = c.problem-problem.ensures.admitted in
     let e = c.args.edge in
-    let is : c.source-process.result ≡ source g e = c.source-process.ensures ∙ ap (λ h. source h e) c.problem-problem.ensures.problem in
+    let is : c.source-process.result ≡ source g e = c.source-process.ensures.source ∙ ap (λ h. source h e) c.problem-problem.ensures.problem in
     let idle = subst (λ p. IsFirst g order (λ s. matches c.args.cube.now s && not (active g s.values p)) c.in_ok-idle.idle) is c.in_ok-idle.ensures in
     let other = rw c.problem-problem.ensures.problem at (c.in_ok-other.ensures order) in
     let some = rw c.problem-problem.ensures.problem at c.in-Some.ensures.some in

@@ -18,7 +18,7 @@ pub returns-in-Some-clause-first : goal.returns-in-Some-clause-first
 returns-in-Some-clause-first c =
     let g = c.args.admitted.now.graph in
     let delay : c.slot_length-delay.result ≡ slot_length g (home g c.loop-item.item) =
-    c.slot_length-delay.ensures ∙ ap (slot_length c.problem-problem.result.now) c.home.ensures ∙ ap (λ h. slot_length h (home h c.loop-item.item)) c.problem-problem.ensures.problem in
+    c.slot_length-delay.ensures ∙ ap (slot_length c.problem-problem.result.now) c.home.ensures.home ∙ ap (λ h. slot_length h (home h c.loop-item.item)) c.problem-problem.ensures.problem in
     let due : map (later_by c.slot_length-delay.result) c.columns_of-sent.result.now ≡ due_columns g c.args.tables.now.nodes c.loop-item.item =
     ap₂ (λ d (cs : List Column). map (later_by d) cs) delay c.columns_of-sent.ensures.columns in
     let nodes : length c.args.tables.now.head.nodes ≡ length g.nodes = ap length c.requires.nodes in
@@ -37,7 +37,7 @@ pub loop-item-preserved : goal.loop-item-preserved
 loop-item-preserved c =
     let g = c.args.admitted.now.graph in
     let delay : c.slot_length-delay.result ≡ slot_length g (home g c.loop-item.item) =
-    c.slot_length-delay.ensures ∙ ap (slot_length c.problem-problem.result.now) c.home.ensures ∙ ap (λ h. slot_length h (home h c.loop-item.item)) c.problem-problem.ensures.problem in
+    c.slot_length-delay.ensures ∙ ap (slot_length c.problem-problem.result.now) c.home.ensures.home ∙ ap (λ h. slot_length h (home h c.loop-item.item)) c.problem-problem.ensures.problem in
     let due : map (later_by c.slot_length-delay.result) c.columns_of-sent.result.now ≡ due_columns g c.args.tables.now.nodes c.loop-item.item =
     ap₂ (λ d (cs : List Column). map (later_by d) cs) delay c.columns_of-sent.ensures.columns in
     let nodes : length c.args.tables.now.head.nodes ≡ length g.nodes = ap length c.requires.nodes in

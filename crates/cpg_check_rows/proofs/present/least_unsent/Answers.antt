@@ -17,7 +17,7 @@ returns c =
     let given : is_message c.problem-problem.result.now c.args.edge ≡ true = search rules in
     let on : is_message g c.args.edge ≡ true = subst (λ h. is_message h c.args.edge ≡ true) c.problem-problem.ensures.problem given in
     let passed = subst (λ h. (s : Scenario) → matches c.in_ok-cube.cube s ≡ is_passed (test_of (condition_of h (source h c.args.edge)) (edge_at h c.args.edge).when) s.values) c.problem-problem.ensures.problem c.in_ok-cube.ensures.passed in
-    let is : c.source-process.result ≡ source g c.args.edge = c.source-process.ensures ∙ ap (λ h. source h c.args.edge) c.problem-problem.ensures.problem in
+    let is : c.source-process.result ≡ source g c.args.edge = c.source-process.ensures.source ∙ ap (λ h. source h c.args.edge) c.problem-problem.ensures.problem in
     let found = subst (λ p. IsFirst g order (λ s. is_left (map (λ (c : Column). c.cube) c.args.columns.now) c.in_ok-cube.cube s && active g s.values p) c.in_ok-found.found) is c.in_ok-found.ensures in
     absent_from g order c.args.columns.now (message_item g c.args.edge) (source g c.args.edge) c.in_ok-cube.cube
     (λ s i. message_active g s c.problem-problem.ensures.admitted i c.args.edge c.requires.edge on c.in_ok-cube.cube (passed s)) c.in_ok-found.found found

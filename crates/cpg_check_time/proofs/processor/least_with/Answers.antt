@@ -48,7 +48,7 @@ returns c =
     let g = c.args.admitted.now.graph in
     let order = c.args.admitted.now.order in
     let line : IsLine (columns_of c.args.tables.now.nodes c.args.other) c.index-lines-other.result = subst (IsLine (columns_of c.args.tables.now.nodes c.args.other)) (sym c.index-lines-other.is) (c.requires.lines.each c.args.other c.index-lines-other.result (omega (arith, c.requires.other))) in
-    let node : node_of g c.args.other ≡ node_of g c.args.process = rw (← c.problem-problem.ensures.problem) (sym c.node_of.ensures ∙ c.if-node_of.false ∙ c.node_of-2.ensures) in
+    let node : node_of g c.args.other ≡ node_of g c.args.process = rw (← c.problem-problem.ensures.problem) (sym c.node_of.ensures.node ∙ c.if-node_of.false ∙ c.node_of-2.ensures.node) in
     let same = rw line.all at c.in_ok-near.ensures.same in
     let first : IsFirst g order (λ s. list_any (λ d. overlaps g c.args.process c.args.column.now c.args.other d s) (map at c.in_ok-near.near.items)) c.in_ok-found.found =
     rw (← c.problem-problem.ensures.problem, ← c.order-order.ensures.order, ← c.as_slice-beside.ensures.value) c.in_ok-found.ensures in

@@ -44,7 +44,7 @@ returns c =
     let order = c.args.admitted.now.order in
     let line : IsLine (columns_of c.args.tables.now.nodes c.args.other) c.index-lines-other.result = subst (IsLine (columns_of c.args.tables.now.nodes c.args.other)) (sym c.index-lines-other.is) (c.requires.lines.each c.args.other c.index-lines-other.result c.requires.other) in
     let sent : is_sent g c.args.other ≡ true = rw (← c.problem-problem.ensures.problem) (sym c.if-not-is_sent.ensures) in
-    let node : home g c.args.other ≡ home g c.args.item = rw (← c.problem-problem.ensures.problem) (sym c.home.ensures ∙ c.if-home.false ∙ c.home-2.ensures) in
+    let node : home g c.args.other ≡ home g c.args.item = rw (← c.problem-problem.ensures.problem) (sym c.home.ensures.home ∙ c.if-home.false ∙ c.home-2.ensures.home) in
     let same = rw line.all at c.in_ok-near.ensures.same in
     let first : IsFirst g order (λ s. list_any (λ d. shares c.args.column.now d s) (map at c.in_ok-near.near.items)) c.in_ok-found.found =
     rw (← c.problem-problem.ensures.problem, ← c.order-order.ensures.order, ← c.as_slice.ensures.value) c.in_ok-found.ensures in

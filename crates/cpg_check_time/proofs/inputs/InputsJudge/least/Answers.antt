@@ -13,18 +13,18 @@ use Rattle.cpg_check_time.proofs.inputs.InputsJudge.least.Goals as goal
 
 pub least_delay-requires-clause-item : goal.least_delay-requires-clause-item
 least_delay-requires-clause-item c =
-    let is : c.producer-process.result ≡ producer c.args.admitted.now.graph c.args.item = c.producer-process.ensures ∙ ap (λ h. producer h c.args.item) c.problem-problem.ensures.problem in
+    let is : c.producer-process.result ≡ producer c.args.admitted.now.graph c.args.item = c.producer-process.ensures.producer ∙ ap (λ h. producer h c.args.item) c.problem-problem.ensures.problem in
     omega (arith, is, producer_within c.args.admitted.now.graph c.problem-problem.ensures.admitted.well_formed c.args.item c.requires.item)
 
 pub least_delay-requires-clause-delay : goal.least_delay-requires-clause-delay
 least_delay-requires-clause-delay c =
-    let is : c.producer-process.result ≡ producer c.args.admitted.now.graph c.args.item = c.producer-process.ensures ∙ ap (λ h. producer h c.args.item) c.problem-problem.ensures.problem in
+    let is : c.producer-process.result ≡ producer c.args.admitted.now.graph c.args.item = c.producer-process.ensures.producer ∙ ap (λ h. producer h c.args.item) c.problem-problem.ensures.problem in
     omega (arith, is, producer_within c.args.admitted.now.graph c.problem-problem.ensures.admitted.well_formed c.args.item c.requires.item)
 
 pub returns-then-item-processes : goal.returns-then-item-processes
 returns-then-item-processes c =
     let send : process_count c.args.admitted.now.graph ≤ c.args.item = omega (arith, c.if-item-processes.true, ap length c.processes.ensures.processes, ap process_count c.problem-problem.ensures.problem) in
-    let found = rw (c.producer-process.ensures, c.problem-problem.ensures.problem) at c.in_ok-least.ensures in
+    let found = rw (c.producer-process.ensures.producer, c.problem-problem.ensures.problem) at c.in_ok-least.ensures in
     first_send c.problem-problem.ensures.admitted c.args.tables.now.nodes c.requires.suits.rules c.args.item c.args.column.now c.in_ok-least.least c.requires.item send c.requires.place found
 
 pub returns-then-column-release : goal.returns-then-column-release

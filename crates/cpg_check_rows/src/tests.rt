@@ -1,0 +1,171 @@
+//! Each call once, on tables made by hand.
+
+ghost use Rattle.std.specs.Prelude.{IfOk};
+ghost use Rattle.cpg_violation.specs.Heads.{IsHeadFor};
+
+use crate::{check_activity, check_hears, check_present, check_rows, check_single};
+use cpg_base::{Edge, Name, Problem, Process};
+use cpg_cube::{Cube, Literal};
+use cpg_rules::{Admitted, admit};
+use cpg_table::{Entry, NodeTable, Row, Tables, head_of};
+use std::alloc::Global;
+use std::test::Fail;
+
+fn name(alloc: Global, text: &str) -> Result<Name, Fail> {
+    Ok(Name::new(alloc, text)?.ok_or("name")?)
+}
+
+fn process(alloc: Global, text: &str, wcet: u64) -> Result<Process, Fail> {
+    Ok(Process {
+        name: name(alloc, text)?,
+        node: 0,
+        wcet,
+        parts: 1,
+        alpha: 2,
+        chi: 3,
+        mu: 5,
+        join: false,
+        frozen: false,
+        release: 0,
+        deadline: None,
+    })
+}
+
+/// A, B and C on one node, and these edges.
+fn graph(alloc: Global, faults: u8, edges: Vec<Edge>) -> Result<Admitted, Fail> {
+    let a = process(alloc, "A", 30)?;
+    let b = process(alloc, "B", 10)?;
+    let c = process(alloc, "C", 5)?;
+    let processes = vec![in alloc; a, b, c]?;
+    let node = name(alloc, "N1")?;
+    let nodes = vec![in alloc; node]?;
+    let slots = Vec::new(alloc);
+    let problem = Problem::new(faults, 1000, nodes, slots, processes, edges).ok_or("problem")?;
+    match admit(alloc, problem) {
+        Ok(admitted) => Ok(admitted),
+        Err(_refused) => Err("refused".into()),
+    }
+}
+
+/// A variable is this number.
+fn at(variable: u8, number: u8) -> Literal {
+    Literal {
+        variable,
+        low: number,
+        high: number,
+    }
+}
+
+fn column(alloc: Global, time: u64, literals: &[Literal]) -> Result<Entry, Fail> {
+    let cube = Cube::new(alloc, literals)?.ok_or("cube")?;
+    Ok(Entry { time, cube })
+}
+
+/// The tables of the one node with these rows.
+fn tables(alloc: Global, admitted: &Admitted, rows: Vec<Row>) -> Result<Tables, Fail>
+    ensures { IfOk result (λ tables. IsHeadFor admitted.now.graph tables.head) }
+{
+    let head = head_of(alloc, admitted.problem())?;
+    let table = NodeTable::new(alloc, &head, 0, rows)?.ok_or("table")?;
+    let nodes = vec![in alloc; table]?;
+    Ok(Tables::new(head, nodes).ok_or("tables")?)
+}
+
+/// A row of one column.
+fn first(alloc: Global) -> Result<Row, Fail> {
+    let always = column(alloc, 0, &[])?;
+    let columns = vec![in alloc; always]?;
+    Ok(Row::new(0, columns))
+}
+
+/// B with these two columns.
+fn second(alloc: Global, early: Entry, late: Entry) -> Result<Row, Fail> {
+    let columns = vec![in alloc; early, late]?;
+    Ok(Row::new(1, columns))
+}
+
+/// C where it begins with at most one fault.
+fn third(alloc: Global) -> Result<Row, Fail> {
+    let early = column(alloc, 50, &[at(0, 0), at(1, 0)])?;
+    let next = column(alloc, 67, &[at(0, 0), at(1, 1)])?;
+    let late = column(alloc, 87, &[at(0, 1)])?;
+    let columns = vec![in alloc; early, next, late]?;
+    Ok(Row::new(2, columns))
+}
+
+/// The tables with these two columns of B.
+fn with(alloc: Global, admitted: &Admitted, early: Entry, late: Entry) -> Result<Tables, Fail>
+    ensures { IfOk result (λ tables. IsHeadFor admitted.now.graph tables.head) }
+{
+    let a = first(alloc)?;
+    let b = second(alloc, early, late)?;
+    let c = third(alloc)?;
+    let rows = vec![in alloc; a, b, c]?;
+    let tables = tables(alloc, admitted, rows)?;
+    Ok(tables)
+}
+
+/// The tables for at most one fault.
+fn for_one_fault(alloc: Global, admitted: &Admitted) -> Result<Tables, Fail>
+    ensures { IfOk result (λ tables. IsHeadFor admitted.now.graph tables.head) }
+{
+    let early = column(alloc, 35, &[at(0, 0)])?;
+    let late = column(alloc, 72, &[at(0, 1)])?;
+    let tables = with(alloc, admitted, early, late)?;
+    Ok(tables)
+}
+
+#[test]
+fn rows_for_one_fault(rt: HostRuntime) -> Result<(), Fail> {
+    let alloc = rt.alloc();
+    let admitted = graph(alloc, 1, Vec::new(alloc))?;
+    let tables = for_one_fault(alloc, &admitted)?;
+    assert!(rt; check_rows(alloc, &admitted, &tables)?.is_none());
+    assert!(rt; check_hears(alloc, &admitted, &tables)?.is_none());
+    Ok(())
+}
+
+#[test]
+fn a_row_without_a_column(rt: HostRuntime) -> Result<(), Fail> {
+    let alloc = rt.alloc();
+    let admitted = graph(alloc, 2, Vec::new(alloc))?;
+    let tables = for_one_fault(alloc, &admitted)?;
+    let fault = check_present(alloc, &admitted, &tables)?.ok_or("fault")?;
+    assert_eq!(rt; (fault.rule, fault.item, fault.column), (3, 1, None));
+    assert_eq!(rt; fault.scenario.number(0), 2);
+    Ok(())
+}
+
+#[test]
+fn two_columns_in_one_scenario(rt: HostRuntime) -> Result<(), Fail> {
+    let alloc = rt.alloc();
+    let admitted = graph(alloc, 1, Vec::new(alloc))?;
+    let early = column(alloc, 35, &[at(0, 1)])?;
+    let late = column(alloc, 72, &[])?;
+    let tables = with(alloc, &admitted, early, late)?;
+    let fault = check_single(alloc, &admitted, &tables)?.ok_or("fault")?;
+    assert_eq!(rt; (fault.rule, fault.item, fault.column), (2, 1, Some(1)));
+    assert_eq!(rt; fault.scenario.number(0), 1);
+    Ok(())
+}
+
+#[test]
+fn a_column_of_an_inactive_process(rt: HostRuntime) -> Result<(), Fail> {
+    let alloc = rt.alloc();
+    let edge = Edge {
+        from: 0,
+        to: 1,
+        size: 1,
+        when: Some(true),
+        frozen: false,
+    };
+    let edges = vec![in alloc; edge]?;
+    let admitted = graph(alloc, 1, edges)?;
+    let early = column(alloc, 35, &[at(128, 1)])?;
+    let late = column(alloc, 36, &[])?;
+    let tables = with(alloc, &admitted, early, late)?;
+    let fault = check_activity(alloc, &admitted, &tables)?.ok_or("fault")?;
+    assert_eq!(rt; (fault.rule, fault.item, fault.column), (1, 1, Some(1)));
+    assert_eq!(rt; fault.scenario.number(128), 0);
+    Ok(())
+}
