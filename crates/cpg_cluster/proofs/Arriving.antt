@@ -43,6 +43,17 @@ sent_before (Some u) slot a b l h = ap (λ x. x || false) (lt-leb (u + slot) a (
     or_false true = refl
     or_false false = refl
 
+and_false : (b : Bool) → (b && false) ≡ false
+and_false true = refl
+and_false false = refl
+
+-- what may not be sent any more to arrive by the time isn't waited for
+pub none_sent : (time : ℕ) (comes : Option ℕ) (slot : ℕ) (times : List ℕ) → list_any (λ u. nat_le (u + slot) time) (option_to_list comes) ≡ false → false ≡ list_any (waits_until time comes slot) times
+none_sent time comes slot times h = sym (list_any_none (waits_until time comes slot) times (λ i d l. elim (cases_lt time (get_or times i d)) [
+  | inl after ↦ ap (λ b. b && list_any (λ u. nat_le (u + slot) (get_or times i d)) (option_to_list comes)) (lt-leb (get_or times i d) time after)
+  | inr early ↦ ap (λ b. nat_le (get_or times i d) time && b) (sent_before comes slot (get_or times i d) time early h) ∙ and_false (nat_le (get_or times i d) time)
+]))
+
 -- nothing has arrived
 pub none_until : (time : ℕ) (comes : Option ℕ) (slot : ℕ) (times : List ℕ) (past : (i d : ℕ) → i < length times → time < get_or times i d) → false ≡ list_any (waits_until time comes slot) times
 none_until time comes slot times past = sym (list_any_none (waits_until time comes slot) times (λ i d l. ap (λ b. b && list_any (λ u. nat_le (u + slot) (get_or times i d)) (option_to_list comes)) (lt-leb (get_or times i d) time (past i d l))))
@@ -59,10 +70,6 @@ last_until time comes slot times place x rises l before past is = go (list_any (
     here : p (get_or times place x) ≡ list_any (λ u. nat_le (u + slot) x) (option_to_list comes)
     here = ap (λ b. b && list_any (λ u. nat_le (u + slot) (get_or times place x)) (option_to_list comes)) (le-leb (get_or times place x) time (before place x (omega arith)))
         ∙ ap (λ t. list_any (λ u. nat_le (u + slot) t) (option_to_list comes)) (is x)
-
-    and_false : (b : Bool) → (b && false) ≡ false
-    and_false true = refl
-    and_false false = refl
 
     go : (b : Bool) → list_any (λ u. nat_le (u + slot) x) (option_to_list comes) ≡ b → b ≡ list_any p times
     go true e = sym (list_any_at p times place x l (here ∙ e))

@@ -24,7 +24,7 @@ use Rattle.cpg_node.specs.State.{NodeState}
 use Rattle.cpg_cluster.specs.Cluster.{World, own_table, dispatchers_from, open_cluster}
 use Rattle.cpg_cluster.specs.Correct.{IsWorld}
 use Rattle.cpg_cluster.specs.Playing.{IsPlaying, opened}
-use Rattle.cpg_cluster.specs.Keeping.{AreIndexed, IsOpen, AreOpen, HearsItems, AllFit}
+use Rattle.cpg_cluster.specs.Keeping.{AreIndexed, noted_of, IsOpen, AreOpen, HearsItems, AllFit}
 use Rattle.cpg_cluster.specs.Kept.{cluster_of}
 use Rattle.cpg_cluster.specs.declared.member.Member.{Member}
 use Rattle.cpg_cluster.proofs.Passed.{played_open}
@@ -107,6 +107,7 @@ module _ (g : Graph) (tables : List NodeTable) (w : World) (within : IsWithinLim
         senders = o.senders ∙ ap (λ (t : NodeTable). map (λ (row : Row). home g row.item) t.hears) (sym t);
         slot = o.slot;
         arrivals = subst (λ (t : NodeTable). AreIndexed t.hears (get_or ms i d).senders.items (length g.nodes) (get_or ms i d).arrivals.items) (sym t) o.arrivals;
+        noted = o.noted ∙ ap (noted_of (item_count g)) (sym o.acts);
         acts = omega (arith, o.acts_room, ap (λ (t : NodeTable). length t.sends + length t.starts) t);
         ends = omega (arith, o.ends_room, ap (λ (t : NodeTable). length t.own) t);
         reports = omega (arith, o.reports_room, ap (λ (t : NodeTable). length t.own) t);

@@ -1,12 +1,13 @@
 -- What a step of a cluster's code asks for and does.
-use Rattle.std.proofs.Common.{◌^◌, ◌≡◌, ℕ, ◌+◌, ◌<◌, ◌≤◌, List, [], ◌++◌, length, map, filter, get_or, set, Some, None, refl, sym, ap, ap₂, ◌∙◌, subst, arith, inl, inr}
+use Rattle.std.proofs.Common.{◌^◌, ◌≡◌, ℕ, ◌+◌, ◌<◌, ◌≤◌, List, [], ◌++◌, length, map, filter, get_or, set, fold, replicate, Option, Some, None, refl, sym, ap, ap₂, ◌∙◌, subst, arith, inl, inr}
 use Rattle.std.specs.Prelude.{All}
 use Rattle.std.specs.Vec.{vec_capacity}
 use Rattle.std.proofs.lemmas.Bool.{cases_eq}
 use Rattle.std.proofs.Math.Seq.{map-set_same}
 use Rattle.std.proofs.lemmas.List.Elements.{All-set}
+use Rattle.std.proofs.lemmas.List.Sums.{fold-append}
 use Rattle.std.proofs.lemmas.List.{map-set, get_or-map, length-map, length-set, get_or_default, get_or-set_same, get_or-set_other}
-use Rattle.cpg_base.specs.Graph.{Graph, home}
+use Rattle.cpg_base.specs.Graph.{Graph, home, item_count}
 use Rattle.cpg_base.specs.Numbers.{numbers_below}
 use Rattle.cpg_table.specs.Table.{NodeTable, Row, table_at, empty_table}
 use Rattle.cpg_table.specs.Shape.{processes_on}
@@ -15,7 +16,7 @@ use Rattle.cpg_node.specs.State.{MayTurn}
 use Rattle.cpg_cluster.specs.Cluster.{World, Cluster, Answer, Took, Waits, Done, dispatcher_at, answer_by, answer_at, answer, own_process, reported, reports_now, frames_now, take_turn, step_by, step, IsPlayed}
 use Rattle.cpg_cluster.specs.Playing.{Playing, IsPlaying, stepped}
 use Rattle.cpg_cluster.specs.Taking.{IsOwnOf, AllFinish, reports_of, ends_of, ready}
-use Rattle.cpg_cluster.specs.Keeping.{AreIndexed, waits_between, frames_by, Fits, AllFit}
+use Rattle.cpg_cluster.specs.Keeping.{AreIndexed, waits_between, frames_by, note, noted_of, Fits, AllFit}
 use Rattle.cpg_cluster.specs.Kept.{cluster_of}
 use Rattle.cpg_cluster.specs.declared.member.Member.{Member}
 use Rattle.cpg_cluster.proofs.Nodes.{Played, own_of_node}
@@ -186,6 +187,7 @@ module _ (g : Graph) (w : World) (ms : List Member) (p : IsPlaying (play_of g w 
         -- the members after the turn
         module _ (n : Member) (node : n.node.dispatcher ≡ turn (ready g w.scenario w.lengths time m.node.dispatcher) time [] fs)
             (acts : n.acts.items ≡ m.acts.items ++ acts_of_turn (ready g w.scenario w.lengths time m.node.dispatcher) time [] fs)
+            (noted : n.noted.items ≡ fold note m.noted.items (acts_of_turn (ready g w.scenario w.lengths time m.node.dispatcher) time [] fs))
             (ends : n.ends.items ≡ m.ends.items ++ ends_of time (ready g w.scenario w.lengths time m.node.dispatcher))
             (reports : n.reports.items ≡ m.reports.items ++ reports_of g w.scenario w.lengths time m.node.dispatcher)
             (kept : (n.senders ≡ m.senders) × (n.slot ≡ m.slot) × (n.arrivals ≡ m.arrivals)) (room : (vec_capacity n.acts ≡ vec_capacity m.acts) × (vec_capacity n.ends ≡ vec_capacity m.ends) × (vec_capacity n.reports ≡ vec_capacity m.reports)) where
@@ -216,6 +218,8 @@ module _ (g : Graph) (w : World) (ms : List Member) (p : IsPlaying (play_of g w 
             arrivals = subst (λ (t : NodeTable). AreIndexed t.hears n.senders.items (length g.nodes) n.arrivals.items) (sym table_then)
                 (subst (λ ss. AreIndexed m.node.dispatcher.table.hears ss (length g.nodes) n.arrivals.items) (sym (ap (λ v. v.items) kept.0))
                 (subst (λ is'. AreIndexed m.node.dispatcher.table.hears m.senders.items (length g.nodes) is') (sym (ap (λ v. v.items) kept.2)) fit.arrivals));
+            noted = noted ∙ ap (λ (s : List (Option Act)). fold note s (acts_of_turn (ready g w.scenario w.lengths time m.node.dispatcher) time [] fs)) fit.noted
+                ∙ sym (fold-append note (replicate (item_count g) None) m.acts.items (acts_of_turn (ready g w.scenario w.lengths time m.node.dispatcher) time [] fs)) ∙ ap (noted_of (item_count g)) (sym acts);
             acts = omega (arith, fit.acts, room.0, ap (λ (t : NodeTable). length t.sends + length t.starts) table_then);
             ends = omega (arith, fit.ends, room.1, ap (λ (t : NodeTable). length t.own) table_then);
             reports = omega (arith, fit.reports, room.2, ap (λ (t : NodeTable). length t.own) table_then);

@@ -1,5 +1,5 @@
 -- What a cluster keeps for its calls.
-use Rattle.std.specs.Prelude.{ℕ, ◌≡◌, ◌≤◌, ◌<◌, ◌+◌, ◌&&◌, ◌==◌, Bool, cond, IsPermutation, nat_le, List, [], Option, Some, None, option_to_list, slice_get, length, map, get_or, All}
+use Rattle.std.specs.Prelude.{ℕ, ◌≡◌, ◌≤◌, ◌<◌, ◌+◌, ◌&&◌, ◌==◌, Bool, cond, IsPermutation, nat_le, List, [], Option, Some, None, option_to_list, slice_get, slice_set, length, map, filter, fold, replicate, get_or, All}
 use Rattle.std.specs.List.{flat_map, list_any}
 use Rattle.std.specs.List.Sorted.{IsNonDecreasingBy}
 use Rattle.std.specs.Option.{option_map_or}
@@ -8,7 +8,7 @@ use Rattle.std.specs.Vec.{vec_capacity}
 use Rattle.cpg_base.specs.Graph.{Graph, home, item_at, item_count}
 use Rattle.cpg_base.specs.Bus.{slot_length}
 use Rattle.cpg_table.specs.Table.{Column, Row, NodeTable, table_at}
-use Rattle.cpg_node.specs.Dispatcher.{Frame, next, opening, zip_with}
+use Rattle.cpg_node.specs.Dispatcher.{Act, Frame, next, opening, zip_with}
 use Rattle.cpg_cluster.specs.Cluster.{Answer, Took, Waits}
 use Rattle.cpg_cluster.specs.Taking.{value_of_item, frames_from}
 use Rattle.cpg_cluster.specs.declared.member.Member.{Member}
@@ -63,11 +63,24 @@ abbrev pub answer_if : Option ℕ → Answer
 answer_if None = Took
 answer_if (Some b) = Waits b
 
--- what a node keeps of the graph, and room for all that it does in a play
+-- an act is noted at its item
+abbrev pub note : List (Option Act) → Act → List (Option Act)
+note noted act = slice_set noted act.item (Some act)
+
+-- what is noted of acts, by item
+abbrev pub noted_of : ℕ → List Act → List (Option Act)
+noted_of count acts = fold note (replicate count None) acts
+
+-- what a node has noted of an item is what it has done of it
+abbrev pub HasNoted : Member → ℕ → Type 0
+HasNoted m x = filter (λ (act : Act). act.item == x) m.acts.items ≡ option_to_list (get_or m.noted.items x None)
+
+-- what a node keeps of the graph, what it notes of its acts, and room for all that it does in a play
 pub record Fits (g : Graph) (number : ℕ) (m : Member) : Type 0 where
   pub senders : m.senders.items ≡ map (λ (row : Row). home g row.item) m.node.dispatcher.table.hears
   pub slot : m.slot ≡ slot_length g number
   pub arrivals : AreIndexed m.node.dispatcher.table.hears m.senders.items (length g.nodes) m.arrivals.items
+  pub noted : m.noted.items ≡ noted_of (item_count g) m.acts.items
   pub acts : length m.node.dispatcher.table.sends + length m.node.dispatcher.table.starts ≤ vec_capacity m.acts
   pub ends : length m.node.dispatcher.table.own ≤ vec_capacity m.ends
   pub reports : length m.node.dispatcher.table.own ≤ vec_capacity m.reports
@@ -83,6 +96,7 @@ pub record IsOpen (g : Graph) (number : ℕ) (t : NodeTable) (m : Member) : Type
   pub slot : m.slot ≡ slot_length g number
   pub arrivals : AreIndexed t.hears m.senders.items (length g.nodes) m.arrivals.items
   pub acts : m.acts.items ≡ []
+  pub noted : m.noted.items ≡ replicate (item_count g) None
   pub ends : m.ends.items ≡ []
   pub reports : m.reports.items ≡ []
   pub acts_room : length t.sends + length t.starts ≤ vec_capacity m.acts

@@ -3,6 +3,7 @@ ghost use Rattle.std.specs.Prelude.{ℕ, ◌≡◌, ◌<◌, ◌≤◌, ◌++◌
 ghost use Rattle.std.specs.List.{flat_map, list_any};
 ghost use Rattle.std.specs.Bool.{OnTrue};
 ghost use Rattle.std.specs.Vec.{vec_capacity};
+ghost use Rattle.cpg_base.specs.Graph.{item_count};
 ghost use Rattle.cpg_base.specs.Scenario.{IsScenario, full_lengths};
 ghost use Rattle.cpg_table.specs.GraphHead.{head_of};
 ghost use Rattle.cpg_table.specs.Lawful.{AreTablesOf};
@@ -11,13 +12,13 @@ ghost use Rattle.cpg_node.specs.Dispatcher.{next, zip_with};
 ghost use Rattle.cpg_cluster.specs.Cluster.{Took, answer, dispatcher_at};
 ghost use Rattle.cpg_cluster.specs.Driving.{IsDriven, choose, circle, next_number, remaining};
 ghost use Rattle.cpg_cluster.specs.Correct.{IsWorld};
-ghost use Rattle.cpg_cluster.specs.Keeping.{frames_of_member, frames_by};
+ghost use Rattle.cpg_cluster.specs.Keeping.{HasNoted, frames_of_member, frames_by};
 ghost use Rattle.cpg_cluster.specs.Playing.{IsPlaying, opened, stepped, answer_of};
 
 use crate::Step;
 use crate::member::{Member, most_heard, open_members, take_turn};
 use crate::senders::value_of_item;
-use crate::told::add_frames;
+use crate::told::add_noted_frame;
 use crate::waiting::waited_on;
 use cpg_base::{Lengths, OutOfMemory, Problem, Scenario};
 use cpg_node::{Act, Ended, Frame};
@@ -50,7 +51,7 @@ impl Model for Cluster {
     ghost invariant = { IsKept };
 }
 
-/// Adds the frames of the acts of an item of a sender, if there is one.
+/// Adds the frames of the acts of an item of a sender, if there is one. The sender has noted the one act of the item.
 fn add_sender_frames(
     members: &[Member],
     sender: u32,
@@ -59,14 +60,15 @@ fn add_sender_frames(
     time: u64,
     frames: &mut Vec<Frame>,
 )
-    requires { length (frames.old.items ++ frames_of_member members.now value item time sender) ≤ vec_capacity frames.old }
+    requires noted { (d : Member) → sender < length members.now → HasNoted (get_or members.now sender d) item }
+    requires room { length (frames.old.items ++ frames_of_member members.now value item time sender) ≤ vec_capacity frames.old }
     ensures frames { frames.new.items ≡ frames.old.items ++ frames_of_member members.now value item time sender }
     ensures room { vec_capacity frames.new ≡ vec_capacity frames.old }
 {
     if (sender as usize) < members.len() {
         let member = &members[sender as usize];
-        let acts = member.acts.as_slice();
-        add_frames(value, item, member.slot, time, acts, frames);
+        let noted = member.noted.as_slice();
+        add_noted_frame(value, item, member.slot, time, noted, frames);
     }
 }
 
@@ -82,6 +84,8 @@ fn gather_frames(
 )
     requires scenario { IsScenario problem.now scenario.now }
     requires same { length rows.now ≡ length senders.now }
+    requires items { All (λ row. row.item < item_count problem.now) rows.now }
+    requires noted { (i x : ℕ) (d : Member) → i < length members.now → x < item_count problem.now → HasNoted (get_or members.now i d) x }
     requires room { length (frames_by problem.now scenario.now.values members.now time rows.now senders.now) ≤ vec_capacity frames.old }
     ensures frames { frames.new.items ≡ frames_by problem.now scenario.now.values members.now time rows.now senders.now }
     ensures room { vec_capacity frames.new ≡ vec_capacity frames.old }

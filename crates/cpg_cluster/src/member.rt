@@ -1,20 +1,19 @@
 //! A node of a cluster, with what it has done.
-ghost use Rattle.std.specs.Prelude.{ℕ, ◌≡◌, ◌≤◌, ◌<◌, ◌+◌, ◌++◌, [], All, IfOk, Some, length, map};
+ghost use Rattle.std.specs.Prelude.{ℕ, ◌≡◌, ◌≤◌, ◌<◌, ◌+◌, ◌++◌, [], All, IfOk, Some, fold, length, map};
 ghost use Rattle.std.specs.Vec.{vec_capacity};
 ghost use Rattle.cpg_base.specs.Bus.{slot_length};
 ghost use Rattle.cpg_base.specs.Graph.{home, item_count, process_count};
 ghost use Rattle.cpg_base.specs.Scenario.{IsScenario};
-ghost use Rattle.cpg_base.specs.WellFormed.{WellFormed};
 ghost use Rattle.cpg_node.specs.Dispatcher.{opening, next, turn, acts_of_turn};
 ghost use Rattle.cpg_node.specs.State.{MayTurn};
 ghost use Rattle.cpg_table.specs.Lawful.{AreTablesOf};
 ghost use Rattle.cpg_table.specs.Table.{table_at};
-ghost use Rattle.cpg_cluster.specs.Keeping.{IsOpen, AreOpen, HearsItems};
+ghost use Rattle.cpg_cluster.specs.Keeping.{IsOpen, AreOpen, HearsItems, note};
 ghost use Rattle.cpg_cluster.specs.Taking.{IsOwnOf, AllFinish, reports_of, ends_of, ready};
 
 use crate::arrivals::arrivals_of;
-use crate::senders::{senders_of, slot_length};
-use crate::told::{append_acts, finish_all, gather_ends, gather_reports};
+use crate::senders::senders_of;
+use crate::told::{append_acts, finish_all, gather_ends, gather_reports, note_acts};
 use cpg_base::{Lengths, OutOfMemory, Problem, Scenario};
 use cpg_node::{Act, Ended, Frame, Node};
 use cpg_table::{NodeTable, Tables};
@@ -33,6 +32,8 @@ pub struct Member {
     pub slot: u64,
     /// What it has done.
     pub acts: Vec<Act>,
+    /// The act by which it started or sent an item, by item.
+    pub noted: Vec<Option<Act>>,
     /// The planned ends that it has reached.
     pub ends: Vec<(u64, Ended)>,
     /// The actual ends that it has been told.
@@ -46,16 +47,16 @@ pub fn open_member(
     number: u32,
     table: NodeTable,
 ) -> Result<Member, OutOfMemory>
-    requires items { HearsItems problem.now table }
-    requires formed { WellFormed problem.now }
+    requires { HearsItems problem.now table }
     ensures { IfOk result (λ m. IsOpen problem.now number table m) }
 {
-    let slot = slot_length(problem, number);
+    let slot = problem.slot_length(number);
     let senders = senders_of(alloc, problem, table.hears())?;
     let count = problem.nodes().len() as u32;
     let arrivals = arrivals_of(alloc, table.hears(), senders.as_slice(), count)?;
     let mut acts = Vec::new(alloc);
     acts.reserve(table.sends().len() + table.starts().len())?;
+    let noted = vec![in alloc; None; problem.item_count() as usize]?;
     let mut ends = Vec::new(alloc);
     ends.reserve(table.own().len())?;
     let mut reports = Vec::new(alloc);
@@ -67,6 +68,7 @@ pub fn open_member(
         arrivals,
         slot,
         acts,
+        noted,
         ends,
         reports,
     })
@@ -92,6 +94,7 @@ pub fn take_turn(
     requires acts_fit { length (member.old.acts.items ++ acts_of_turn (ready problem.now scenario.now lengths.now time member.old.node.dispatcher) time [] frames.now) ≤ vec_capacity member.old.acts }
     ensures node { member.new.node.dispatcher ≡ turn (ready problem.now scenario.now lengths.now time member.old.node.dispatcher) time [] frames.now }
     ensures acts { member.new.acts.items ≡ member.old.acts.items ++ acts_of_turn (ready problem.now scenario.now lengths.now time member.old.node.dispatcher) time [] frames.now }
+    ensures noted { member.new.noted.items ≡ fold note member.old.noted.items (acts_of_turn (ready problem.now scenario.now lengths.now time member.old.node.dispatcher) time [] frames.now) }
     ensures ends { member.new.ends.items ≡ member.old.ends.items ++ ends_of time (ready problem.now scenario.now lengths.now time member.old.node.dispatcher) }
     ensures reports { member.new.reports.items ≡ member.old.reports.items ++ reports_of problem.now scenario.now lengths.now time member.old.node.dispatcher }
     ensures same { (member.new.senders ≡ member.old.senders) × (member.new.slot ≡ member.old.slot) × (member.new.arrivals ≡ member.old.arrivals) }
@@ -115,6 +118,7 @@ pub fn take_turn(
     gather_ends(own, running, time, &mut member.ends);
     member.node.turn(&[], frames);
     append_acts(&mut member.acts, member.node.acts());
+    note_acts(&mut member.noted, member.node.acts());
 }
 
 /// The nodes of tables before their first turns.
@@ -123,8 +127,7 @@ pub fn open_members(
     problem: &Problem,
     tables: &Tables,
 ) -> Result<Vec<Member>, OutOfMemory>
-    requires items { (i : ℕ) → i < length tables.now.nodes → HearsItems problem.now (table_at tables.now.nodes i) }
-    requires formed { WellFormed problem.now }
+    requires { (i : ℕ) → i < length tables.now.nodes → HearsItems problem.now (table_at tables.now.nodes i) }
     ensures members { IfOk result (λ members. AreOpen problem.now tables.now.nodes (length tables.now.nodes) members.items) }
     ensures lawful { AreTablesOf tables.now.head tables.now.nodes }
 {

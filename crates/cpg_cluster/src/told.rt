@@ -1,10 +1,11 @@
 //! What a node is told in a turn, and what it tells.
-ghost use Rattle.std.specs.Prelude.{◌≡◌, ◌≤◌, ◌<◌, ◌+◌, ◌++◌, ◌∷◌, [], ◌==◌, ◌&&◌, ℕ, All, nat_le, option_to_list, length, map};
+ghost use Rattle.std.specs.Prelude.{◌≡◌, ◌≤◌, ◌<◌, ◌+◌, ◌++◌, ◌∷◌, [], ◌==◌, ◌&&◌, ℕ, All, None, fold, get_or, nat_le, option_to_list, length, map};
 ghost use Rattle.std.specs.Vec.{vec_len, vec_capacity};
 ghost use Rattle.cpg_base.specs.Scenario.{IsScenario};
 ghost use Rattle.cpg_base.specs.Graph.{process_count};
 ghost use Rattle.cpg_node.specs.Dispatcher.{due_reports_of};
 ghost use Rattle.cpg_cluster.specs.Cluster.{report_of, ended_of};
+ghost use Rattle.cpg_cluster.specs.Keeping.{note};
 ghost use Rattle.cpg_cluster.specs.Taking.{frames_from, IsOwnOf, reports_by, ends_by, AllFinish, all_finished};
 
 use crate::senders::value_of_process;
@@ -37,21 +38,31 @@ fn add_frame(value: bool, item: u32, slot: u64, time: u64, act: &Act, frames: &m
     }
 }
 
-/// Adds the frames of acts of an item that arrive at the time.
-pub fn add_frames(
+/// The act of an item, if there is one.
+fn act_of(noted: &[Option<Act>], item: u32) -> Option<Act>
+    ensures { result ≡ get_or noted.now item None }
+{
+    match noted.get(item as usize) {
+        Some(act) => *act,
+        None => None,
+    }
+}
+
+/// Adds the frame of the act of an item, where there is one that arrives at the time.
+pub fn add_noted_frame(
     value: bool,
     item: u32,
     slot: u64,
     time: u64,
-    acts: &[Act],
+    noted: &[Option<Act>],
     frames: &mut Vec<Frame>,
 )
-    requires { length (frames.old.items ++ frames_from value item slot time acts.now) ≤ vec_capacity frames.old }
-    ensures frames { frames.new.items ≡ frames.old.items ++ frames_from value item slot time acts.now }
+    requires { vec_len frames.old + length (frames_from value item slot time (option_to_list (get_or noted.now item None))) ≤ vec_capacity frames.old }
+    ensures frames { frames.new.items ≡ frames.old.items ++ frames_from value item slot time (option_to_list (get_or noted.now item None)) }
     ensures room { vec_capacity frames.new ≡ vec_capacity frames.old }
 {
-    for act in acts {
-        add_frame(value, item, slot, time, act, frames);
+    if let Some(act) = act_of(noted, item) {
+        add_frame(value, item, slot, time, &act, frames);
     }
 }
 
@@ -205,5 +216,24 @@ pub fn append_acts(acts: &mut Vec<Act>, more: &[Act])
 {
     for act in more {
         acts.push_reserved(*act);
+    }
+}
+
+/// Notes an act at its item.
+fn note_act(noted: &mut Vec<Option<Act>>, act: Act)
+    ensures { noted.new.items ≡ note noted.old.items act }
+{
+    let item = act.item as usize;
+    if item < noted.len() {
+        noted[item] = Some(act);
+    }
+}
+
+/// Notes acts at their items.
+pub fn note_acts(noted: &mut Vec<Option<Act>>, acts: &[Act])
+    ensures { noted.new.items ≡ fold note noted.old.items acts.now }
+{
+    for act in acts {
+        note_act(noted, *act);
     }
 }

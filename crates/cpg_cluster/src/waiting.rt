@@ -24,6 +24,9 @@ fn waits_on(times: &[u64], time: u64, next: Option<u64>, slot: u64) -> bool
     requires { IsNonDecreasingBy (λ t. t) times.now }
     ensures { result ≡ list_any (waits_until time next slot) times.now }
 {
+    if !may_still_send(next, slot, time) {
+        return false;
+    }
     let after = first_after(times, time);
     if after == 0 {
         return false;

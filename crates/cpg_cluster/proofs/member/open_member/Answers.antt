@@ -13,6 +13,7 @@ returns c = record {
       (subst (λ ss. AreIndexed c.hears-2.result.now ss (length c.args.problem.now.nodes) c.in_ok-arrivals.arrivals.items) c.as_slice.ensures.value
       (subst (λ (ns : List (List ℕ)). AreIndexed c.hears-2.result.now c.as_slice.result.now (length ns) c.in_ok-arrivals.arrivals.items) c.nodes.ensures.nodes c.in_ok-arrivals.ensures));
   acts = search rules;
+  noted = search rules;
   ends = search rules;
   reports = search rules;
   acts_room = search rules;

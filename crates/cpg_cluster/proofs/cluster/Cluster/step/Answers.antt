@@ -2,16 +2,18 @@ use Rattle.std.proofs.Common.{set, ◌^◌, ◌≡◌, ◌<◌, ◌≤◌, arith
 use Rattle.std.specs.Prelude.{All}
 use Rattle.std.specs.Vec.{vec_capacity}
 use Rattle.std.proofs.lemmas.List.{length-map, length-set, get_or_default}
+use Rattle.cpg_base.specs.Graph.{item_count}
 use Rattle.cpg_base.specs.Numbers.{numbers_below}
 use Rattle.cpg_node.specs.Dispatcher.{Frame, next}
-use Rattle.cpg_table.specs.Table.{NodeTable}
+use Rattle.cpg_table.specs.Table.{NodeTable, Row}
 use Rattle.cpg_cluster.specs.Cluster.{Cluster, Took, Waits, answer, answer_by}
 use Rattle.cpg_cluster.specs.Playing.{Playing, stepped}
-use Rattle.cpg_cluster.specs.Keeping.{AreIndexed, answer_if, frames_by, waits_between}
+use Rattle.cpg_cluster.specs.Keeping.{AreIndexed, HasNoted, answer_if, frames_by, waits_between}
 use Rattle.cpg_cluster.specs.Kept.{cluster_of, playing_of}
 use Rattle.cpg_cluster.specs.declared.member.Member.{Member}
 use Rattle.cpg_cluster.specs.Driving.{remaining}
 use Rattle.cpg_cluster.proofs.Asking.{at_some}
+use Rattle.cpg_cluster.proofs.Noted.{all_noted, hears_there}
 use Rattle.cpg_cluster.proofs.Stepping.{indexed, asked, waits_step, own_all, finish_all, ready_next, frames_fit, turn_may, acts_fit, ends_fit, reports_fit, play_then, playing_then, nearer_then, fits_then, heard_then}
 use Rattle.cpg_cluster.proofs.cluster.Cluster.step.Goals as goal
 
@@ -62,6 +64,20 @@ within-f c = omega (arith, c.requires, ap (λ (p : Playing). length p.graph.node
 
 comes-f : (c : goal.After-gather_frames-arg-3-1) → next c.index-member.result.now.node.dispatcher ≡ Some c.in-Some.time
 comes-f c = sym c.next.ensures.next ∙ c.in-Some.is
+
+pub gather_frames-requires-clause-items : goal.gather_frames-requires-clause-items
+gather_frames-requires-clause-items c =
+    let n = c.self.inside in
+    let v = c.self.invariant in
+    subst (λ (rows : List Row). All (λ (row : Row). row.item < item_count n.problem) rows) (sym (c.hears.ensures.hears ∙ ap (λ (t : NodeTable). t.hears) c.table.ensures))
+    (hears_there n.problem (record { scenario = n.scenario; lengths = n.lengths }) n.members.items v.playing c.args.node c.index-member.result.now c.index-member.ensures (within-f c))
+
+pub gather_frames-requires-clause-noted : goal.gather_frames-requires-clause-noted
+gather_frames-requires-clause-noted c =
+    let n = c.self.inside in
+    let v = c.self.invariant in
+    subst (λ (ms : List Member). (i x : ℕ) (d : Member) → i < length ms → x < item_count n.problem → HasNoted (get_or ms i d) x) (sym c.as_slice-2.ensures.value)
+    (all_noted n.problem (record { scenario = n.scenario; lengths = n.lengths }) n.members.items v.playing v.members)
 
 pub gather_frames-requires-clause-room : goal.gather_frames-requires-clause-room
 gather_frames-requires-clause-room c =
@@ -179,10 +195,10 @@ invariant_of-self c =
     let n = c.self.inside in
     let v = c.self.invariant in
     record {
-      playing = (playing_then n.problem (record { scenario = n.scenario; lengths = n.lengths }) n.members.items v.playing v.members c.args.node c.index_mut-member.result.now c.index_mut-member.ensures.value (within-a c) c.in-Some.time (mut-a c) c.as_slice-4.result.now (frames-a c) (took-a c) c.take_turn.new.member c.take_turn.ensures.node c.take_turn.ensures.acts c.take_turn.ensures.ends c.take_turn.ensures.reports c.take_turn.ensures.same c.take_turn.ensures.room);
+      playing = (playing_then n.problem (record { scenario = n.scenario; lengths = n.lengths }) n.members.items v.playing v.members c.args.node c.index_mut-member.result.now c.index_mut-member.ensures.value (within-a c) c.in-Some.time (mut-a c) c.as_slice-4.result.now (frames-a c) (took-a c) c.take_turn.new.member c.take_turn.ensures.node c.take_turn.ensures.acts c.take_turn.ensures.noted c.take_turn.ensures.ends c.take_turn.ensures.reports c.take_turn.ensures.same c.take_turn.ensures.room);
       few = omega (arith, v.few, length-set n.members.items c.args.node c.take_turn.new.member);
-      members = (fits_then n.problem (record { scenario = n.scenario; lengths = n.lengths }) n.members.items v.playing v.members c.args.node c.index_mut-member.result.now c.index_mut-member.ensures.value (within-a c) c.in-Some.time (mut-a c) c.as_slice-4.result.now (frames-a c) (took-a c) c.take_turn.new.member c.take_turn.ensures.node c.take_turn.ensures.acts c.take_turn.ensures.ends c.take_turn.ensures.reports c.take_turn.ensures.same c.take_turn.ensures.room);
-      frames = (heard_then n.problem (record { scenario = n.scenario; lengths = n.lengths }) n.members.items v.playing v.members c.args.node c.index_mut-member.result.now c.index_mut-member.ensures.value (within-a c) c.in-Some.time (mut-a c) c.as_slice-4.result.now (frames-a c) (took-a c) c.take_turn.new.member c.take_turn.ensures.node c.take_turn.ensures.acts c.take_turn.ensures.ends c.take_turn.ensures.reports c.take_turn.ensures.same c.take_turn.ensures.room _ (subst (λ (most : ℕ). All (λ (m : Member). length m.node.dispatcher.table.hears ≤ most) n.members.items) (sym c.gather_frames.ensures.room) v.frames));
+      members = (fits_then n.problem (record { scenario = n.scenario; lengths = n.lengths }) n.members.items v.playing v.members c.args.node c.index_mut-member.result.now c.index_mut-member.ensures.value (within-a c) c.in-Some.time (mut-a c) c.as_slice-4.result.now (frames-a c) (took-a c) c.take_turn.new.member c.take_turn.ensures.node c.take_turn.ensures.acts c.take_turn.ensures.noted c.take_turn.ensures.ends c.take_turn.ensures.reports c.take_turn.ensures.same c.take_turn.ensures.room);
+      frames = (heard_then n.problem (record { scenario = n.scenario; lengths = n.lengths }) n.members.items v.playing v.members c.args.node c.index_mut-member.result.now c.index_mut-member.ensures.value (within-a c) c.in-Some.time (mut-a c) c.as_slice-4.result.now (frames-a c) (took-a c) c.take_turn.new.member c.take_turn.ensures.node c.take_turn.ensures.acts c.take_turn.ensures.noted c.take_turn.ensures.ends c.take_turn.ensures.reports c.take_turn.ensures.same c.take_turn.ensures.room _ (subst (λ (most : ℕ). All (λ (m : Member). length m.node.dispatcher.table.hears ≤ most) n.members.items) (sym c.gather_frames.ensures.room) v.frames));
     }
 
 pub returns-clause-answer : goal.returns-clause-answer
@@ -192,11 +208,11 @@ pub returns-clause-step : goal.returns-clause-step
 returns-clause-step c =
     let n = c.self.inside in
     let v = c.self.invariant in
-    (play_then n.problem (record { scenario = n.scenario; lengths = n.lengths }) n.members.items v.playing v.members c.args.node c.index_mut-member.result.now c.index_mut-member.ensures.value (within-a c) c.in-Some.time (mut-a c) c.as_slice-4.result.now (frames-a c) (took-a c) c.take_turn.new.member c.take_turn.ensures.node c.take_turn.ensures.acts c.take_turn.ensures.ends c.take_turn.ensures.reports c.take_turn.ensures.same c.take_turn.ensures.room) ∙ ap (λ (p : Playing). stepped p c.args.node) c.self.view_is
+    (play_then n.problem (record { scenario = n.scenario; lengths = n.lengths }) n.members.items v.playing v.members c.args.node c.index_mut-member.result.now c.index_mut-member.ensures.value (within-a c) c.in-Some.time (mut-a c) c.as_slice-4.result.now (frames-a c) (took-a c) c.take_turn.new.member c.take_turn.ensures.node c.take_turn.ensures.acts c.take_turn.ensures.noted c.take_turn.ensures.ends c.take_turn.ensures.reports c.take_turn.ensures.same c.take_turn.ensures.room) ∙ ap (λ (p : Playing). stepped p c.args.node) c.self.view_is
 
 pub returns-clause-nearer : goal.returns-clause-nearer
 returns-clause-nearer c e =
     let n = c.self.inside in
     let v = c.self.invariant in
     subst (λ (p : Playing). remaining (cluster_of (set n.members.items c.args.node c.take_turn.new.member)) < remaining p.cluster) c.self.view_is
-    (nearer_then n.problem (record { scenario = n.scenario; lengths = n.lengths }) n.members.items v.playing v.members c.args.node c.index_mut-member.result.now c.index_mut-member.ensures.value (within-a c) c.in-Some.time (mut-a c) c.as_slice-4.result.now (frames-a c) (took-a c) c.take_turn.new.member c.take_turn.ensures.node c.take_turn.ensures.acts c.take_turn.ensures.ends c.take_turn.ensures.reports c.take_turn.ensures.same c.take_turn.ensures.room (at_some c.next.result c.in-Some.time (λ t. t < 2 ^ 61) c.in-Some.is c.next.ensures.early))
+    (nearer_then n.problem (record { scenario = n.scenario; lengths = n.lengths }) n.members.items v.playing v.members c.args.node c.index_mut-member.result.now c.index_mut-member.ensures.value (within-a c) c.in-Some.time (mut-a c) c.as_slice-4.result.now (frames-a c) (took-a c) c.take_turn.new.member c.take_turn.ensures.node c.take_turn.ensures.acts c.take_turn.ensures.noted c.take_turn.ensures.ends c.take_turn.ensures.reports c.take_turn.ensures.same c.take_turn.ensures.room (at_some c.next.result c.in-Some.time (λ t. t < 2 ^ 61) c.in-Some.is c.next.ensures.early))

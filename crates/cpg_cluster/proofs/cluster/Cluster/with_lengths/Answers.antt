@@ -3,7 +3,6 @@ use Rattle.std.specs.Prelude.{All}
 use Rattle.std.specs.Vec.{vec_capacity}
 use Rattle.cpg_base.specs.Graph.{Graph}
 use Rattle.cpg_table.specs.Table.{table_at}
-use Rattle.cpg_table.specs.Head.{Head}
 use Rattle.cpg_table.specs.GraphHead.{head_of}
 use Rattle.cpg_table.specs.Lawful.{AreTablesOf}
 use Rattle.cpg_cluster.specs.Keeping.{HearsItems, AreOpen, AllFit}
@@ -14,8 +13,8 @@ use Rattle.cpg_cluster.specs.declared.member.Member.{Member}
 use Rattle.cpg_cluster.proofs.Opening.{hears_items, play_is, playing_open, fits_open}
 use Rattle.cpg_cluster.proofs.cluster.Cluster.with_lengths.Goals as goal
 
-pub open_members-requires-clause-items : goal.open_members-requires-clause-items
-open_members-requires-clause-items c = subst (λ (g : Graph). (i : ℕ) → i < length c.args.tables.now.nodes → HearsItems g (table_at c.args.tables.now.nodes i)) (sym c.problem.ensures.problem) (hears_items c.args.admitted.now.graph c.args.tables.now.nodes c.requires.valid)
+pub open_members-requires : goal.open_members-requires
+open_members-requires c = subst (λ (g : Graph). (i : ℕ) → i < length c.args.tables.now.nodes → HearsItems g (table_at c.args.tables.now.nodes i)) (sym c.problem.ensures.problem) (hears_items c.args.admitted.now.graph c.args.tables.now.nodes c.requires.valid)
 
 -- the parts are those of the call
 parts : (c : goal.In_ok-lengths) → play_of c.in_ok-problem.problem (record { scenario = c.in_ok-scenario.scenario; lengths = c.in_ok-lengths.lengths }) c.in_ok-members.members.items
