@@ -1,7 +1,11 @@
 //! Each call once, with the second node of a pair: its process starts at 50 or 90, when it has heard by a message how often
 //! the process on the first node failed.
 
-use crate::{Frame, Node, StrangeFrame};
+ghost use Rattle.std.specs.Prelude.{◌≡◌, IfSome, Some};
+ghost use Rattle.std.specs.Bool.{OnTrue};
+ghost use Rattle.cpg_node.specs.State.{MayFinish, time_of};
+
+use crate::{Ended, Frame, Node, StrangeFrame};
 use cpg_base::Name;
 use cpg_cube::{Cube, Literal};
 use cpg_table::{Durations, Entry, Head, HeadProcess, NodeTable, Row};
@@ -75,7 +79,9 @@ fn a_new_node(rt: HostRuntime) -> Result<(), Fail> {
 }
 
 /// Takes the turn of the next instant, where there is one, and answers that instant.
-fn take_turn(node: &mut Node) -> Option<u64> {
+fn take_turn(node: &mut Node) -> Option<u64>
+    ensures { IfSome result (λ time. node.new.dispatcher.last ≡ Some time) }
+{
     let time = node.next()?;
     node.turn(&[], &[]);
     Some(time)
@@ -124,5 +130,66 @@ fn a_frame_and_a_start(rt: HostRuntime) -> Result<(), Fail> {
     let act = node.acts()[0];
     assert_eq!(rt; (act.time, act.item, act.column), (90, 1, 1));
     assert_eq!(rt; (node.running(1), node.next()), (Some(90), Some(105)));
+    Ok(())
+}
+
+/// How long an execution of a process of the node takes with so many faults.
+fn time_of(node: &Node, process: u32, faults: u8) -> u64
+    ensures { result ≡ time_of node.now.dispatcher process faults }
+{
+    for own in node.table().own() {
+        if own.process == process {
+            let times = own.times.times();
+            return times.get(faults as usize).copied().unwrap_or(0);
+        }
+    }
+    0
+}
+
+/// Whether an execution that started in the last turn may end one time unit later.
+fn may_finish(node: &Node, last: u64, ended: &Ended) -> bool
+    requires { node.now.dispatcher.last ≡ Some last }
+    ensures { OnTrue result (MayFinish node.now.dispatcher ended.now) }
+{
+    let Some(start) = node.running(ended.process) else {
+        return false;
+    };
+    if start != last || node.reported(ended.process).is_some() {
+        return false;
+    }
+    if ended.value || ended.faults > node.table().faults() {
+        return false;
+    }
+    time_of(node, ended.process, ended.faults) > 0
+}
+
+/// Takes the turn of the next instant, after which the execution that it starts ends early, if it may.
+fn start_and_finish(node: &mut Node, ended: Ended) -> bool {
+    let Some(time) = take_turn(node) else {
+        return false;
+    };
+    if !may_finish(node, time, &ended) {
+        return false;
+    }
+    node.finished(ended);
+    true
+}
+
+#[test]
+fn a_kept_report(rt: HostRuntime) -> Result<(), Fail> {
+    let mut node = after_two_turns(rt.alloc())?;
+    assert_eq!(rt; node.hear(90, &frame(2, 1)), Ok(()));
+    let ended = Ended {
+        process: 1,
+        faults: 0,
+        value: false,
+    };
+    assert!(rt; start_and_finish(&mut node, ended));
+    assert_eq!(rt;
+        (node.reported(1), node.running(1)),
+        (Some(ended), Some(90))
+    );
+    assert_eq!(rt; take_turn(&mut node), Some(105));
+    assert_eq!(rt; (node.reported(1), node.running(1)), (None, None));
     Ok(())
 }
