@@ -19,12 +19,12 @@ use Rattle.cpgc.specs.Causes.{Seen, Stops, StopsAsked, StopsGraph, StopsCompile}
 use Rattle.cpgc.specs.Outputs.{Prints, PrintsAsked, IsMade, shown, packed}
 use Rattle.cpgc.specs.Told.{Untouched}
 use Rattle.cpgc.specs.Endings.{Ran, IsPrinted, IsTold, EndsWith, EndsBy}
-use Rattle.cpgc.specs.Lawful.{IsFaultless, AsksFor, Asks, AsksCheck, IsLawful}
+use Rattle.cpgc.specs.Lawful.{IsFaultless, AsksFor, Asks, AsksVerdict, IsLawful}
 use Rattle.cpgc.proofs.Statuses.{of_words, of_read, of_formless, refused_of, not_three, not_zero}
 use Rattle.cpg_table.specs.Lawful.{Tables}
 use Rattle.cpg_table.specs.Valid.{IsValid}
 use Rattle.cpg_violation.specs.Heads.{IsHeadFor}
-use Rattle.cpgc.proofs.Checked.{CheckLeft, check_left, checked_is}
+use Rattle.cpgc.proofs.Checked.{CheckLeft, check_left, checked_is, play_left, played_is}
 use Rattle.cpgc.proofs.Excluded.{in_time_not_shown, Left, graph_left, made_not_wide, made_not_late}
 
 -- words without a form print nothing
@@ -64,9 +64,12 @@ module _ (r : Ran) where
     with_safe : IsFaultless r → (r.status ≡ 0) ⊎ (r.status ≡ 8)
     with_safe faultless = elim with.ending [ inl p ↦ inl p.status | inr c ↦ absurd (faultless.out c.out.rose) ]
 
-    -- what was checked is what was asked for
-    with_check : (a : Admission) (t : Tables) → AsksCheck r a t → IsHeadFor a.graph t.head × IsValid a.graph t.nodes
-    with_check a t asks = checked_is r.shelf a t asks.graph asks.pack asks.bytes asks.told asks.file asks.faultless.shelf asks.spelled asks.lawful text (subst (λ c. PrintsAsked r.shelf c text) asks.words with.prints)
+    -- what was checked, or played, is what was asked for
+    with_check : (a : Admission) (t : Tables) → AsksVerdict r a t → IsHeadFor a.graph t.head × IsValid a.graph t.nodes
+    with_check a t asks = elim asks.words [
+      | inl check ↦ checked_is r.shelf a t asks.graph asks.pack asks.bytes asks.told asks.file asks.faultless.shelf asks.spelled asks.lawful text (subst (λ c. PrintsAsked r.shelf c text) check with.prints)
+      | inr play ↦ played_is r.shelf a t asks.graph asks.pack asks.bytes asks.told asks.file asks.faultless.shelf asks.spelled asks.lawful (r.shelf.stands play.0) play.1 text (subst (λ c. PrintsAsked r.shelf c text) play.2 with.prints)
+    ]
 
     module _ (a : Admission) (asks : Asks r a) where
       made_here : (spell : Graph → Compiled → Text) × IsMade (r.shelf.stands asks.graph) spell text
@@ -156,12 +159,16 @@ module _ (r : Ran) where
         | inr (inr wide) ↦ absurd (narrow wide.1.0 wide.1.1)
       ]
 
-    module _ (a : Admission) (t : Tables) (asks : AsksCheck r a t) where
+    module _ (a : Admission) (t : Tables) (asks : AsksVerdict r a t) where
       told_check : r.status ≡ status_of halt
       told_check = elim by.ending [ inl t ↦ t.status | inr m ↦ absurd (asks.faultless.err m.err.rose) ]
 
       left_check : CheckLeft a t halt
-      left_check = check_left r.shelf a t asks.graph asks.pack asks.bytes asks.told asks.file asks.faultless.shelf asks.spelled asks.lawful asks.few halt (subst (λ c. StopsAsked r.shelf c halt) asks.words by.stops)
+      left_check = elim asks.words [
+        | inl check ↦ check_left r.shelf a t asks.graph asks.pack asks.bytes asks.told asks.file asks.faultless.shelf asks.spelled asks.lawful asks.few halt (subst (λ c. StopsAsked r.shelf c halt) check by.stops)
+        | inr play ↦ let says = play.3 in play_left r.shelf a t asks.graph asks.pack asks.bytes asks.told asks.file asks.faultless.shelf asks.spelled asks.lawful asks.few (r.shelf.stands play.0) says.bytes says.told says.short says.played says.says halt
+            (subst (λ c. StopsAsked r.shelf c halt) play.2 by.stops)
+      ]
 
       by_other : (IsHeadFor a.graph t.head → ⊥) → (r.status ≡ 4) ⊎ (r.status ≡ 8)
       by_other differs = elim left_check [

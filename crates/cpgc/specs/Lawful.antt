@@ -4,7 +4,7 @@ use Rattle.cpg_io.specs.Causes.{Rose}
 use Rattle.cpg_words.specs.Parts.{Text}
 use Rattle.cpg_words.specs.Forms.{command_of}
 use Rattle.cpg_words.specs.declared.command.Command.{Command}
-use Rattle.cpg_words.specs.declared.command.Command.TheVariants.{Show, Compile, Check}
+use Rattle.cpg_words.specs.declared.command.Command.TheVariants.{Show, Compile, Check, Play}
 use Rattle.cpg_reader.specs.Document.{problem_of}
 use Rattle.cpg_rules.specs.Admission.{Admission, IsAdmitted}
 use Rattle.cpg_order.specs.Scenario.{scenarios}
@@ -18,7 +18,9 @@ use Rattle.cpg_table.specs.Valid.{IsValid}
 use Rattle.cpg_codec.specs.Packs.{AreLawful}
 use Rattle.cpg_codec.specs.Spelling.{spelling}
 use Rattle.cpg_violation.specs.Heads.{IsHeadFor}
-use Rattle.cpgc.specs.Causes.{Stops, graph_limit, pack_limit}
+use Rattle.cpg_scenario.specs.File.{file_of}
+use Rattle.cpg_scenario.specs.declared.reading.Played.{Played}
+use Rattle.cpgc.specs.Causes.{Stops, graph_limit, scenario_limit, pack_limit}
 use Rattle.cpgc.specs.Endings.{Ran, Ends, IsPrinted, IsTold}
 use Rattle.cpgc.specs.Outputs.{Prints}
 use Rattle.cpgc.specs.Told.{Untouched}
@@ -53,11 +55,24 @@ pub record Asks (r : Ran) (a : Admission) : Type 0 where
   pub listable : AreListable bytes a
   pub faultless : IsFaultless r
 
--- they ask to check a pack, the shelf tells the bytes of an admitted graph and of tables, and nothing failed
-pub record AsksCheck (r : Ran) (a : Admission) (t : Tables) : Type 0 where
+-- the shelf tells the bytes of a scenario of the graph and lengths of executions, at most 16 MiB
+pub record SaysScenario (r : Ran) (a : Admission) (name : Text) : Type 0 where
+  pub bytes : Text
+  pub told : r.shelf.stands name ≡ Some bytes
+  pub short : length bytes ≤ scenario_limit
+  pub played : Played
+  pub says : file_of a.graph bytes ≡ Ok played
+
+-- the words ask to check a pack, or to play it as such a scenario file says
+abbrev pub AsksToJudge : Ran → Admission → Text → Text → Type 0
+AsksToJudge r a graph pack = (command_of r.words ≡ Some (Check graph pack))
+    ⊎ ((scenario : Text) × (turns : ℕ) × (command_of r.words ≡ Some (Play graph pack scenario turns)) × SaysScenario r a scenario)
+
+-- they do, the shelf tells the bytes of an admitted graph and of tables, and nothing failed
+pub record AsksVerdict (r : Ran) (a : Admission) (t : Tables) : Type 0 where
   pub graph : Text
   pub pack : Text
-  pub words : command_of r.words ≡ Some (Check graph pack)
+  pub words : AsksToJudge r a graph pack
   pub bytes : Text
   pub told : r.shelf.stands graph ≡ Some bytes
   pub file : AreAdmitted bytes a
@@ -92,8 +107,8 @@ pub record IsLawful (r : Ran) : Type 0 where
   pub wide : (a : Admission) (x : ℕ) → Asks r a → IsWide a.graph a.order x → (r.status ≡ 6) ⊎ (r.status ≡ 8)
   pub made : (a : Admission) → Asks r a → IsNarrow a.graph a.order → IsInTimeUnder a.graph a.order a.order → (r.status ≡ 0) ⊎ (r.status ≡ 8)
   pub late : (a : Admission) → Asks r a → IsNarrow a.graph a.order → IsLateUnder a.graph a.order a.order → (r.status ≡ 5) ⊎ (r.status ≡ 8)
-  -- a pack is refused as another graph's where its head is, and else found safe where its tables keep the ten rules, and
-  -- unsafe where they don't, but for want of memory
-  pub other : (a : Admission) (t : Tables) → AsksCheck r a t → (IsHeadFor a.graph t.head → ⊥) → (r.status ≡ 4) ⊎ (r.status ≡ 8)
-  pub safe : (a : Admission) (t : Tables) → AsksCheck r a t → IsHeadFor a.graph t.head → IsValid a.graph t.nodes → (r.status ≡ 0) ⊎ (r.status ≡ 8)
-  pub broken : (a : Admission) (t : Tables) → AsksCheck r a t → IsHeadFor a.graph t.head → (IsValid a.graph t.nodes → ⊥) → (r.status ≡ 7) ⊎ (r.status ≡ 8)
+  -- a pack is refused as another graph's where its head is, and else found safe, or played, where its tables keep the ten
+  -- rules, and found unsafe where they don't, but for want of memory
+  pub other : (a : Admission) (t : Tables) → AsksVerdict r a t → (IsHeadFor a.graph t.head → ⊥) → (r.status ≡ 4) ⊎ (r.status ≡ 8)
+  pub safe : (a : Admission) (t : Tables) → AsksVerdict r a t → IsHeadFor a.graph t.head → IsValid a.graph t.nodes → (r.status ≡ 0) ⊎ (r.status ≡ 8)
+  pub broken : (a : Admission) (t : Tables) → AsksVerdict r a t → IsHeadFor a.graph t.head → (IsValid a.graph t.nodes → ⊥) → (r.status ≡ 7) ⊎ (r.status ≡ 8)
