@@ -127,14 +127,7 @@ fn rows_by(alloc: Global, admitted: &Admitted, scenarios: &[Scenario]) -> Result
     let plan = Plan::of(alloc, admitted.problem())?;
     let frozen = frozen_times(alloc, admitted, order, &plan, scenarios)?;
     let runs = runs(alloc, admitted, order, &plan, &frozen, scenarios)?;
-    let rows = rows(
-        alloc,
-        admitted,
-        order,
-        &frozen,
-        scenarios,
-        runs.as_slice(),
-    )?;
+    let rows = rows(alloc, admitted, order, &frozen, scenarios, runs.as_slice())?;
     Ok(rows)
 }
 

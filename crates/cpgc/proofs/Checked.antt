@@ -95,7 +95,7 @@ module _ (seen : Seen) (a : Admission) (t : Tables) (graph pack bytes : Text) (t
 
     -- the tables of a pack stop a run as its work does
     worked_left : (work : Admission → Tables → Halt → Type 0) → ((b : Admission) → Admits (seen.stands graph) b → (u : Tables) → Spells (seen.stands pack) u → (h : Halt) → work b u h → CheckLeft a t h) →
-      (h : Halt) → StopsGraph seen (seen.stands graph) (λ b. StopsTables seen (seen.stands pack) (work b)) h → CheckLeft a t h
+        (h : Halt) → StopsGraph seen (seen.stands graph) (λ b. StopsTables seen (seen.stands pack) (work b)) h → CheckLeft a t h
     worked_left work then h (inl (inl read)) = inl (reading_left seen (seen.stands graph) bytes a tells file still h read)
     worked_left work then h (inl (inr breaks)) = inl (rules_left seen (seen.stands graph) bytes a tells file still h breaks.0 breaks.1 breaks.2)
     worked_left work then h (inr worked) = elim worked.2 [
@@ -109,10 +109,10 @@ module _ (seen : Seen) (a : Admission) (t : Tables) (graph pack bytes : Text) (t
     -- a scenario of the graph stops nothing
     module _ (told : Option Text) (note : Text) (tells_note : told ≡ Some note) (short : length note ≤ scenario_limit) (played : Played) (says : file_of a.graph note ≡ Ok played) where
       scenario_left : (b : Admission) → Admits (seen.stands graph) b → (h : Halt) (fault : ScenarioFault) → h ≡ halt_of_scenario fault →
-        (fault ≢ ScenarioFault.OutOfMemory → IfSome told (λ n. file_of b.graph n ≡ Err fault)) → status_of h ≡ 8
+          (fault ≢ ScenarioFault.OutOfMemory → IfSome told (λ n. file_of b.graph n ≡ Err fault)) → status_of h ≡ 8
       scenario_left b admits h fault e first = ap status_of e ∙ unsaid fault
           (λ other. said_once (file_of a.graph note) played fault says (same_admission seen (seen.stands graph) bytes a tells file still b admits (λ g o. file_of g note ≡ Err fault)
-              (subst (λ n. IfSome n (λ m. file_of b.graph m ≡ Err fault)) tells_note (first other))))
+          (subst (λ n. IfSome n (λ m. file_of b.graph m ≡ Err fault)) tells_note (first other))))
 
       played_left : (b : Admission) → Admits (seen.stands graph) b → (u : Tables) → Spells (seen.stands pack) u → (h : Halt) → StopsPlay seen told b u h → CheckLeft a t h
       played_left b admits u spells h (inl (inl unread)) = absurd (still unread.rose)
