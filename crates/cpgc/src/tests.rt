@@ -42,7 +42,7 @@ fn run_over(
 
 /// Runs words over a shelf and sinks of much room.
 fn done(alloc: Global, shelf: &mut MemoryShelf, list: &[&str]) -> Result<Outcome, Fail> {
-    run_over(alloc, shelf, list, 8_000_000, 1000)
+    run_over(alloc, shelf, list, 1_000_000, 1000)
 }
 
 /// Shows a graph file.

@@ -5,7 +5,7 @@ use super::graphs::{
     chain, one_node, two_nodes,
 };
 use super::packs::{RELEASED_PACK, SINGLE_PACK};
-use super::{done, shown};
+use super::{done, run_over, shown};
 use cpg_io::MemoryShelf;
 use std::test::Fail;
 
@@ -187,17 +187,19 @@ const CHAIN_LINES: &str =
 #[test]
 fn chain_of_forty(rt: HostRuntime) -> Result<(), Fail> {
     let alloc = rt.alloc();
-    let graph = chain(alloc, 2, 634, "")?;
-    let got = shown(alloc, graph.as_bytes())?;
-    assert!(rt; got.out.taken().starts_with(CHAIN_LINES.as_bytes()));
-    assert_eq!(rt; (got.status, got.err.taken().len()), (0, 0));
-    let graph = chain(alloc, 2, 633, "")?;
-    let got = shown(alloc, graph.as_bytes())?;
-    assert_eq!(rt;
-        got.err.taken(),
-        b"cpgc: late 634 by p40 in p40 faults 2\n".as_slice()
-    );
-    assert_eq!(rt; (got.status, got.out.taken().len()), (5, 0));
+    for (deadline, status, out, err) in [
+        (634, 0, CHAIN_LINES, ""),
+        (633, 5, "", "cpgc: late 634 by p40 in p40 faults 2\n"),
+    ] {
+        let graph = chain(alloc, 2, deadline, "")?;
+        let mut shelf = MemoryShelf::new(alloc)?;
+        shelf.put("g", graph.as_bytes())?;
+        let got = run_over(alloc, &mut shelf, &["show", "g"], 10_000_000, 100)?;
+        assert!(rt; got.out.taken().starts_with(out.as_bytes()));
+        assert_eq!(rt; got.err.taken(), err.as_bytes());
+        assert_eq!(rt; got.out.taken().is_empty(), out.is_empty());
+        assert_eq!(rt; got.status, status);
+    }
     Ok(())
 }
 
