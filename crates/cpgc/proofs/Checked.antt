@@ -90,7 +90,7 @@ module _ (seen : Seen) (a : Admission) (t : Tables) (graph pack bytes : Text) (t
     pack_left h (inr (inr none)) = bad none.fault none.halt_is none.shows
       where
         bad : (fault : PackFault) → h ≡ halt_of_pack fault → ShowsPackFault (seen.stands pack) fault → status_of h ≡ 8
-        bad (PackFault.BadPack n) e shows = absurd (let no : IsBadPack (spelling t) n = subst (λ o. IfSome o (λ b. IsBadPack b n)) spelled shows in no.no_pack t lawful refl)
+        bad (PackFault.BadPack n) e shows = absurd (let no : IsBadPack (spelling t) n = subst (λ o. IfSome o (λ b. IsBadPack b n)) spelled shows.1 in no.no_pack t lawful refl)
         bad PackFault.OutOfMemory e shows = ap status_of e
 
     -- the tables of a pack stop a run as its work does
@@ -117,7 +117,7 @@ module _ (seen : Seen) (a : Admission) (t : Tables) (graph pack bytes : Text) (t
       played_left : (b : Admission) → Admits (seen.stands graph) b → (u : Tables) → Spells (seen.stands pack) u → (h : Halt) → StopsPlay seen told b u h → CheckLeft a t h
       played_left b admits u spells h (inl (inl unread)) = absurd (still unread.rose)
       played_left b admits u spells h (inl (inr (inl long))) = absurd (let l : scenario_limit < length note = subst (λ o. IfSome o (λ n. scenario_limit < length n)) tells_note long.long in omega (arith, short))
-      played_left b admits u spells h (inl (inr (inr none))) = inl (scenario_left b admits h none.fault none.halt_is none.first)
+      played_left b admits u spells h (inl (inr (inr none))) = inl (scenario_left b admits h none.fault none.halt_is (λ other. (none.first other).1))
       played_left b admits u spells h (inr judged) = verdict_left b admits u spells h judged.2
 
       pub play_left : (h : Halt) → StopsGraph seen (seen.stands graph) (λ b. StopsTables seen (seen.stands pack) (StopsPlay seen told b)) h → CheckLeft a t h

@@ -45,7 +45,7 @@ not_faulty bytes g fault a b = both_ways _ refl (ap is_err (sym a ∙ b) ∙ ref
     is_err (Err e) = true
 
 says_of : (told : Option Text) (bytes : Text) (g : Graph) → told ≡ Some bytes → Says told g → problem_of bytes ≡ Ok g
-says_of told bytes g e says = subst (λ t. Says t g) e says
+says_of told bytes g e says = (subst (λ t. Says t g) e says).1
 
 -- ---- one order of one graph
 
@@ -108,7 +108,7 @@ module _ (seen : Seen) (told : Option Text) (bytes : Text) (a : Admission) (tell
       let s = file.short in
       omega arith)
   reading_left h (inr (inr faulty)) = faulty_left h faulty.fault faulty.halt_is
-      (λ other. not_faulty bytes a.graph faulty.fault file.says (subst (λ t. IfSome t (λ b. problem_of b ≡ Err faulty.fault)) tells (faulty.first other)))
+      (λ other. not_faulty bytes a.graph faulty.fault file.says (subst (λ t. IfSome t (λ b. problem_of b ≡ Err faulty.fault)) tells (faulty.first other).1))
 
   pub rules_left : (h : Halt) (g : Graph) → Says told g → BreaksRule g h → status_of h ≡ 8
   rules_left h g says breaks =

@@ -1,5 +1,5 @@
 -- When a run stops for a reason: what is then true of the words and of the shelf.
-use Rattle.std.specs.Prelude.{ℕ, ◌≡◌, ◌≢◌, ◌<◌, ◌⊎◌, List, Option, Some, None, IfSome, Ok, Err, length, position, ⊤}
+use Rattle.std.specs.Prelude.{ℕ, ◌≡◌, ◌≢◌, ◌<◌, ◌≤◌, ◌⊎◌, List, Option, Some, None, IfSome, Ok, Err, length, position, ⊤}
 use Rattle.std.specs.Str.{bytes_eq}
 use Rattle.cpg_base.specs.Graph.{Graph}
 use Rattle.cpg_io.specs.Causes.{Rose}
@@ -52,9 +52,13 @@ scenario_limit = 16777216
 abbrev pub pack_limit : ℕ
 pack_limit = 268435456
 
+-- a file, where the shelf tells its bytes, has so many at most
+abbrev pub IsShort : ℕ → Option Text → Type 0
+IsShort limit told = IfSome told (λ bytes. length bytes ≤ limit)
+
 -- the bytes of a graph file, where the shelf tells them, are those of a graph
 abbrev pub Says : Option Text → Graph → Type 0
-Says told g = IfSome told (λ bytes. problem_of bytes ≡ Ok g)
+Says told g = IsShort graph_limit told × IfSome told (λ bytes. problem_of bytes ≡ Ok g)
 
 -- and the graph keeps all rules, with its urgency order and its guards
 pub record Admits (told : Option Text) (a : Admission) : Type 0 where
@@ -76,7 +80,7 @@ pub record IsLong (limit : ℕ) (refusal : Refusal) (seen : Seen) (told : Option
 pub record IsFaulty (told : Option Text) (halt : Halt) : Type 0 where
   pub fault : ReadFault
   pub halt_is : halt ≡ halt_of_reading fault
-  pub first : fault ≢ ReadFault.OutOfMemory → IfSome told (λ bytes. problem_of bytes ≡ Err fault)
+  pub first : fault ≢ ReadFault.OutOfMemory → IsShort graph_limit told × IfSome told (λ bytes. problem_of bytes ≡ Err fault)
 
 -- the graph breaks a rule, the first that it breaks
 pub record BreaksRule (g : Graph) (halt : Halt) : Type 0 where
@@ -116,11 +120,12 @@ StopsCompile a halt = (IsUnbuilt halt × HasManyScenarios a.graph) ⊎ IsUncompi
 -- the bytes of a pack, where the shelf tells them, spell tables
 pub record Spells (told : Option Text) (t : Tables) : Type 0 where
   pub lawful : AreLawful t
+  pub short : IsShort pack_limit told
   pub spelled : IfSome told (λ bytes. bytes ≡ spelling t)
 
 -- they spell none
 abbrev pub ShowsPackFault : Option Text → PackFault → Type 0
-ShowsPackFault told (PackFault.BadPack n) = IfSome told (λ bytes. IsBadPack bytes n)
+ShowsPackFault told (PackFault.BadPack n) = IsShort pack_limit told × IfSome told (λ bytes. IsBadPack bytes n)
 ShowsPackFault told PackFault.OutOfMemory = ⊤
 
 pub record IsNoPack (told : Option Text) (halt : Halt) : Type 0 where
@@ -154,13 +159,13 @@ StopsVerdict a t halt = IsOtherGraph a t halt ⊎ (IsUnsafe a t halt ⊎ (halt �
 
 -- the bytes of a scenario file, where the shelf tells them, say a scenario of the graph and lengths
 abbrev pub SaysPlayed : Option Text → Graph → Played → Type 0
-SaysPlayed told g p = IfSome told (λ bytes. file_of g bytes ≡ Ok p)
+SaysPlayed told g p = IsShort scenario_limit told × IfSome told (λ bytes. file_of g bytes ≡ Ok p)
 
 -- they say none, and this is the first cause
 pub record IsNoScenario (told : Option Text) (g : Graph) (halt : Halt) : Type 0 where
   pub fault : ScenarioFault
   pub halt_is : halt ≡ halt_of_scenario fault
-  pub first : fault ≢ ScenarioFault.OutOfMemory → IfSome told (λ bytes. file_of g bytes ≡ Err fault)
+  pub first : fault ≢ ScenarioFault.OutOfMemory → IsShort scenario_limit told × IfSome told (λ bytes. file_of g bytes ≡ Err fault)
 
 abbrev pub StopsPlayed : Seen → Option Text → Graph → Halt → Type 0
 StopsPlayed seen told g halt = IsUnread seen halt ⊎ (IsLong scenario_limit LongScenario seen told halt ⊎ IsNoScenario told g halt)
