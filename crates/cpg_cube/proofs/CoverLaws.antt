@@ -34,25 +34,28 @@ module _ (g : Graph) (order : List ℕ) where
   least_if_some test None f = tt
   least_if_some test (Some s) f = f
 
-  -- what is outside one cube of the list, whose literals may stand in another order
-  pub left_by_taken : {X : Type 0} (seen : X → List Literal) (xs : List X) (i : ℕ) (d : X) (literals cube : List Literal) (o : Option Scenario) → i < length xs → IsPermutation (seen (get_or xs i d)) literals
+  -- what is outside one cube of the list, of which some literals tell all where the cube matches
+  pub left_by_taken : {X : Type 0} (seen : X → List Literal) (xs : List X) (i : ℕ) (d : X) (literals cube : List Literal) (o : Option Scenario) → i < length xs
+      → ((s : Scenario) → IsScenario g s → matches cube s ≡ true → matches literals s ≡ matches (seen (get_or xs i d)) s)
       → IsFirst g order (λ s. is_left (map seen (remove xs i)) cube s && not (matches literals s)) o → IsFirst g order (is_left (map seen xs) cube) o
-  left_by_taken seen xs i d literals cube o h p f = first_same g order (λ s. is_left (map seen (remove xs i)) cube s && not (matches literals s)) (is_left (map seen xs) cube) o
+  left_by_taken seen xs i d literals cube o h same f = first_same g order (λ s. is_left (map seen (remove xs i)) cube s && not (matches literals s)) (is_left (map seen xs) cube) o
       (λ s lawful.
-      let one = matches_permutation (seen (get_or xs i d)) literals s p in
       let all = any_map (λ b. matches b s) seen xs ∙ taken_out (λ x. matches (seen x) s) xs i d h in
       let rest = any_map (λ b. matches b s) seen (remove xs i) in
       ap (λ u. (matches cube s && not u) && not (matches literals s)) rest
-      ∙ none_of_either (matches cube s) (list_any (λ x. matches (seen x) s) (remove xs i)) (matches literals s)
-      ∙ sym (ap (λ u. matches cube s && not u) (all ∙ ap (λ m. m || list_any (λ x. matches (seen x) s) (remove xs i)) one)))
+      ∙ none_of_either (matches cube s) (list_any (λ x. matches (seen x) s) (remove xs i)) (matches literals s) (matches (seen (get_or xs i d)) s) (same s lawful)
+      ∙ sym (ap (λ u. matches cube s && not u) all))
       f
     where
-      none_of_either : (x y z : Bool) → ((x && not y) && not z) ≡ (x && not (z || y))
-      none_of_either true true true = refl
-      none_of_either true true false = refl
-      none_of_either true false true = refl
-      none_of_either true false false = refl
-      none_of_either false y z = refl
+      neither : (y z : Bool) → (not y && not z) ≡ not (z || y)
+      neither true true = refl
+      neither true false = refl
+      neither false true = refl
+      neither false false = refl
+
+      none_of_either : (x y z w : Bool) → (x ≡ true → z ≡ w) → ((x && not y) && not z) ≡ (x && not (w || y))
+      none_of_either true y z w e = ap (λ u. not y && not u) (e refl) ∙ neither y w
+      none_of_either false y z w e = refl
 
 module _ (g : Graph) (few : process_count g ≤ 128) (order : List ℕ) (by : List (List Literal)) where
   -- ---- beside a literal

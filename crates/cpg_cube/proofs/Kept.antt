@@ -1,12 +1,12 @@
 -- A list that keeps the cubes that meet a cube leaves the same of it; and taking one cube out of a list.
 use Rattle.std.proofs.Common.{ℕ, zero, suc, ◌+◌, ◌<◌, ◌≤◌, ◌≡◌, Bool, true, false, not, ◌&&◌, ◌||◌, List, [], ◌∷◌, ◌++◌, length, get_or, take, drop, map, arith, refl, sym, ap, ◌∙◌, ⊎_elim}
 use Rattle.std.specs.Prelude.{remove, slice_index_or, All}
-use Rattle.std.specs.List.{list_any}
-use Rattle.std.proofs.Math.Bool.{or-false}
+use Rattle.std.specs.List.{list_all, list_any}
+use Rattle.std.proofs.Math.Bool.{and-true, or-false}
 use Rattle.std.proofs.lemmas.Bool.{cases_Bool}
 use Rattle.std.proofs.lemmas.List.{take_more}
 use Rattle.std.proofs.lemmas.List.Elements.{All-append, All-take, All-drop}
-use Rattle.std.proofs.lemmas.List.Folds.{list_any-append}
+use Rattle.std.proofs.lemmas.List.Folds.{list_all-append, list_any-append}
 use Rattle.cpg_order.specs.Scenario.{Scenario}
 use Rattle.cpg_cube.specs.Cube.{Literal, IsRising, matches}
 use Rattle.cpg_cube.specs.Cover.{is_left}
@@ -30,6 +30,13 @@ module _ {X : Type 0} (test : X → Bool) where
   pub kept_skip : (kept by : List X) (i : ℕ) (d : X) → i < length by → test (get_or by i d) ≡ false → list_any test kept ≡ list_any test (take i by) → list_any test kept ≡ list_any test (take (i + 1) by)
   kept_skip kept by i d h n e = e ∙ sym (or-false (list_any test (take i by))) ∙ ap (λ x. list_any test (take i by) || x) (sym (or-false (test (get_or by i d)) ∙ n))
       ∙ sym (list_any-append test (take i by) (get_or by i d ∷ [])) ∙ sym (ap (list_any test) (take_more by i d h))
+
+  pub all_push : (kept by : List X) (i : ℕ) (d : X) → i < length by → list_all test kept ≡ list_all test (take i by) → list_all test (kept ++ get_or by i d ∷ []) ≡ list_all test (take (i + 1) by)
+  all_push kept by i d h e = list_all-append test kept (get_or by i d ∷ []) ∙ ap (λ x. x && list_all test (get_or by i d ∷ [])) e ∙ sym (list_all-append test (take i by) (get_or by i d ∷ [])) ∙ sym (ap (list_all test) (take_more by i d h))
+
+  pub all_skip : (kept by : List X) (i : ℕ) (d : X) → i < length by → test (get_or by i d) ≡ true → list_all test kept ≡ list_all test (take i by) → list_all test kept ≡ list_all test (take (i + 1) by)
+  all_skip kept by i d h n e = e ∙ sym (and-true (list_all test (take i by))) ∙ ap (λ x. list_all test (take i by) && x) (sym (and-true (test (get_or by i d)) ∙ n))
+      ∙ sym (list_all-append test (take i by) (get_or by i d ∷ [])) ∙ sym (ap (list_all test) (take_more by i d h))
 
   pub taken_out : (xs : List X) (i : ℕ) (d : X) → i < length xs → list_any test xs ≡ (test (get_or xs i d) || list_any test (remove xs i))
   taken_out [] i d h = absurd (omega arith)

@@ -1,7 +1,8 @@
 -- The answers that the bounds of a cube give, for graphs within their limits.
-use Rattle.std.proofs.Common.{ℕ, ◌+◌, ◌<◌, ◌≤◌, ◌≡◌, max, true, false, not, ◌&&◌, List, get_or, sum_by, None, Some, arith, sym, ap, ap₂, ◌∙◌, le-leb, leb-true, ⊎_elim}
+use Rattle.std.proofs.Common.{ℕ, ◌+◌, ◌<◌, ◌≤◌, ◌≡◌, max, true, false, not, ◌&&◌, List, [], ◌∷◌, get_or, sum_by, None, Some, arith, sym, ap, ap₂, ◌∙◌, le-leb, leb-true, ⊎_elim}
 use Rattle.std.specs.Prelude.{nat_lt, nat_le, is_some}
 use Rattle.std.specs.List.{list_all}
+use Rattle.std.proofs.lemmas.List.Elements.{All-cons, All-nil}
 use Rattle.std.proofs.lemmas.Bool.{and_parts, and_from, or_left, both_ways, false_from_ne_true, not_from_false}
 use Rattle.cpg_base.specs.Numbers.{numbers_below}
 use Rattle.cpg_base.specs.Graph.{Graph, process_count, condition_count, value_variable, IsVariable}
@@ -9,11 +10,12 @@ use Rattle.cpg_base.specs.Limits.{IsWithinLimits}
 use Rattle.cpg_base.proofs.Lists.{same_map, numbers-Contains, from_all, all_from}
 use Rattle.cpg_base.proofs.Sums.{sum_by-le_each}
 use Rattle.cpg_order.specs.Scenario.{Scenario, IsScenario}
-use Rattle.cpg_cube.specs.Cube.{Literal, matches, low_in}
+use Rattle.cpg_cube.specs.Cube.{Literal, holds, matches, low_in}
 use Rattle.cpg_cube.specs.Fit.{IsCube, asked_of_literal, asked_faults, is_open, is_met, scenario_of, both_low, reaches, do_meet, both_lows, bounds, is_within}
 use Rattle.cpg_cube.specs.Bounds.{AreBounds, AreRaised, budget_left, touches, more_asked, spans}
 use Rattle.cpg_cube.proofs.CubeLows.{met_by, budget_of_cube}
 use Rattle.cpg_cube.proofs.Budgets.{budget_is, budget_some}
+use Rattle.cpg_cube.proofs.Within.{within_from}
 use Rattle.cpg_cube.proofs.BoundLaws.{fits_is_meet, spans_is_within}
 
 -- ---- what is left of the faults
@@ -81,3 +83,14 @@ module _ (g : Graph) (limits : IsWithinLimits g) (a : List Literal) (is_a : IsCu
 
       pub lows_raised : (later : List ℕ) → AreRaised b lows_of later → scenario_of g (λ v. get_or later v 0) ≡ both_lows g a b
       lows_raised later raised = same_scenario g limits (λ v. get_or later v 0) (both_low a b) (λ v h. raised v h ∙ ap (λ x. max x (low_in b v)) (are.low v h))
+
+  -- a literal that has all numbers of its variable holds wherever the cube matches
+  pub holds_where_spanned : (lows_of highs_of : List ℕ) (are : AreBounds a lows_of highs_of) (left : ℕ) (some : budget_left (is_open g.faults) asked_of_literal g.faults a ≡ Some left)
+      (l : Literal) → IsVariable g l.variable → spans lows_of highs_of left l ≡ true → (s : Scenario) → IsScenario g s → matches a s ≡ true → holds s l ≡ true
+  holds_where_spanned lows_of highs_of are left some l known span s i t =
+      let one : IsCube g (l ∷ []) = record {
+        rising = λ i j d h k. absurd (omega arith);
+        known = All-cons (λ m. IsVariable g m.variable) l [] known (All-nil (λ m. IsVariable g m.variable));
+      } in
+      let within : is_within g.faults a (l ∷ []) ≡ true = sym (within_from_span (l ∷ []) one lows_of highs_of are left some) ∙ ap (λ b. b && true) span in
+      (and_parts (holds s l) true (within_from g limits.few_processes a (l ∷ []) is_a one within s i t)).0

@@ -91,7 +91,7 @@ impl Bounds {
     }
 
     /// Whether a literal's range has all numbers of its variable where so many faults are left.
-    fn spans(&self, left: u8, literal: &Literal) -> bool
+    pub fn spans(&self, left: u8, literal: &Literal) -> bool
         ensures { result ≡ spans self.now.low self.now.high left literal.now }
     {
         let low = self.low[literal.variable as usize];

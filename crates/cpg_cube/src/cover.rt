@@ -83,6 +83,33 @@ fn meeting<'a>(
     Ok(kept)
 }
 
+/// The literals of a list that don't hold wherever a cube matches: where it matches, the others do.
+fn cutting(
+    alloc: Global,
+    problem: &Problem,
+    cube: &Cube,
+    literals: &[Literal],
+) -> Result<Vec<Literal>, OutOfMemory>
+    requires cube { IsKnown problem.now cube.now }
+    requires literals { IsKnown problem.now literals.now }
+    ensures same { IfOk result (λ kept. (s : Scenario) → IsScenario problem.now s → matches cube.now s ≡ true → matches kept.items s ≡ matches literals.now s) }
+    ensures known { IfOk result (λ kept. IsKnown problem.now kept.items) }
+    ensures few { IfOk result (λ kept. length kept.items ≤ length literals.now) }
+{
+    let mut kept = Vec::new(alloc);
+    let k = problem.faults();
+    let Some(left) = budget_left(k, cube.literals()) else {
+        return Ok(kept);
+    };
+    let bounds = Bounds::of(cube.literals());
+    for literal in literals {
+        if !bounds.spans(left, literal) {
+            kept.push(*literal)?;
+        }
+    }
+    Ok(kept)
+}
+
 /// The literal of the range below a literal's, if there is one.
 fn below(literal: &Literal) -> Option<Literal>
     ensures { result ≡ range_below literal.now }
@@ -164,6 +191,9 @@ fn left_outside(
     let low = left_of_part(alloc, problem, order, cube, below(literal), by)?;
     let high = left_of_part(alloc, problem, order, cube, above(k, literal), by)?;
     let beside = earlier(problem, order, low, high);
+    if rest.is_empty() {
+        return Ok(beside);
+    }
     let Some(within) = cube.with(*literal)? else {
         return Ok(beside);
     };
@@ -195,7 +225,8 @@ fn left_of(
     };
     let mut others = by;
     let first = others.remove(place);
-    let literals = by_frequency(alloc, first, others.as_slice())?;
+    let cutting = cutting(alloc, problem, cube, first.literals())?;
+    let literals = by_frequency(alloc, cutting.as_slice(), others.as_slice())?;
     let found = left_outside(
         alloc,
         problem,

@@ -1,6 +1,5 @@
 //! Literals by how often their variables occur.
 ghost use Rattle.std.specs.Prelude.{◌≡◌, IfOk, IsPermutation, map};
-ghost use Rattle.cpg_cube.specs.Cube.{IsRising};
 
 use crate::{Cube, Literal};
 use cpg_base::OutOfMemory;
@@ -51,13 +50,16 @@ fn unranked(alloc: Global, ranks: &[Rank]) -> Result<Vec<Literal>, OutOfMemory>
     Ok(literals)
 }
 
-/// The literals of a cube, first those on variables that most cubes of a list have a literal on.
-pub fn by_frequency(alloc: Global, cube: &Cube, by: &[&Cube]) -> Result<Vec<Literal>, OutOfMemory>
-    ensures all { IfOk result (λ literals. IsPermutation cube.now literals.items) }
-    ensures rising { IsRising cube.now }
+/// The literals of a list, first those on variables that most cubes of another list have a literal on.
+pub fn by_frequency(
+    alloc: Global,
+    literals: &[Literal],
+    by: &[&Cube],
+) -> Result<Vec<Literal>, OutOfMemory>
+    ensures { IfOk result (λ ranked. IsPermutation literals.now ranked.items) }
 {
     let counts = frequencies(by);
-    let mut ranks = ranks(alloc, cube.literals(), &counts)?;
+    let mut ranks = ranks(alloc, literals, &counts)?;
     ranks.sort_unstable();
     let ranked = unranked(alloc, ranks.as_slice())?;
     Ok(ranked)

@@ -1,19 +1,21 @@
-use Rattle.std.proofs.Common.{rules, ◌≡◌, ◌<◌, ◌≤◌, ◌∙◌, ◌∷◌, subst, true, false, Some, None, List, length, get_or, map, Bor, IsPermutation, arith}
+use Rattle.std.proofs.Common.{rules, ◌≡◌, ◌<◌, ◌≤◌, ◌∙◌, [], ◌∷◌, ap, sym, subst, true, false, Some, None, List, length, get_or, map, Bor, IsPermutation, arith}
 use Rattle.std.specs.Prelude.{All}
 use Rattle.std.specs.List.{list_any}
+use Rattle.std.proofs.lemmas.List.{nil_from_length}
 use Rattle.std.proofs.lemmas.List.Elements.{All-head, All-tail}
 use Rattle.std.proofs.lemmas.List.Sorted.{All-permutation, length_permutation}
 use Rattle.cpg_base.specs.Graph.{IsVariable}
 use Rattle.cpg_order.specs.First.{earlier}
+use Rattle.cpg_order.specs.Scenario.{Scenario, IsScenario}
 use Rattle.cpg_cube.specs.Cube.{Literal, matches}
 use Rattle.cpg_cube.specs.Fit.{IsCube, IsKnown, is_met, lows}
-use Rattle.cpg_cube.specs.Cover.{with_literal}
+use Rattle.cpg_cube.specs.Cover.{narrowed_by, with_literal}
 use Rattle.cpg_cube.proofs.CubeLaws.{with-is}
 use Rattle.cpg_cube.proofs.Narrow.{known-narrowed}
 use Rattle.cpg_cube.proofs.CoverSearch.{left_of_none, left_at_once}
 use Rattle.cpg_cube.proofs.Kept.{any_map, all_removed, rising_short}
 use Rattle.cpg_cube.proofs.Meeting.{small_variable}
-use Rattle.cpg_cube.proofs.CoverLaws.{left_by_taken, first_below, first_above, outside_one, part_none, within_none, within_kept, earlier_none}
+use Rattle.cpg_cube.proofs.CoverLaws.{matches_permutation, left_by_taken, outside_none, first_below, first_above, outside_one, part_none, within_none, within_kept, earlier_none}
 use Rattle.cpg_cube.proofs.cover.+cover.Goals as goal
 
 -- what the list's references point to
@@ -45,21 +47,27 @@ left_of-left_outside-requires t c =
     let first = c.remove-first.result.now in
     let first_known : IsKnown g first = rw c.remove-first.ensures.value (c.requires.list c.in-Some.place c.remove-first.result within) in
     let blank : Literal = record { variable = 0; low = 0; high = 0 } in
-    let short : length first ≤ 256 = rising_short first blank c.by_frequency.ensures.rising (λ i h. small_variable g limits (get_or first i blank).variable (first_known i blank h)) in
-    let long = length_permutation first c.in_ok-literals.literals.items c.in_ok-literals.ensures.all in
-    let known : IsKnown g c.as_slice-3.result.now = rw c.as_slice-3.ensures.value (All-permutation (λ (l : Literal). IsVariable g l.variable) first c.in_ok-literals.literals.items c.in_ok-literals.ensures.all first_known) in
-    let literals : length c.as_slice-3.result.now ≤ 256 = rw c.as_slice-3.ensures.value (omega arith) in
-    let list : All (λ (b : Bor (List Literal)). IsKnown g b.now) c.as_slice-4.result.now = rw (c.as_slice-4.ensures.value, c.remove-first.ensures.items) (all_removed (λ (b : Bor (List Literal)). IsKnown g b.now) c.args.by.items c.in-Some.place c.requires.list) in
+    let short : length first ≤ 256 = rising_short first blank c.literals.ensures.rising (λ i h. small_variable g limits (get_or first i blank).variable (first_known i blank h)) in
+    let cutting = c.in_ok-cutting.cutting.items in
+    let few : length cutting ≤ length first = rw c.literals.ensures.literals at c.in_ok-cutting.ensures.few in
+    let ranked : IsPermutation cutting c.in_ok-literals.literals.items = rw c.as_slice-2.ensures.value at c.in_ok-literals.ensures in
+    let long = length_permutation cutting c.in_ok-literals.literals.items ranked in
+    let known : IsKnown g c.as_slice-4.result.now = rw c.as_slice-4.ensures.value (All-permutation (λ (l : Literal). IsVariable g l.variable) cutting c.in_ok-literals.literals.items ranked c.in_ok-cutting.ensures.known) in
+    let literals : length c.as_slice-4.result.now ≤ 256 = rw c.as_slice-4.ensures.value (omega arith) in
+    let list : All (λ (b : Bor (List Literal)). IsKnown g b.now) c.as_slice-5.result.now = rw (c.as_slice-5.ensures.value, c.remove-first.ensures.items) (all_removed (λ (b : Bor (List Literal)). IsKnown g b.now) c.args.by.items c.in-Some.place c.requires.list) in
     (search rules, (c.requires.order, (c.requires.cube, (known, (literals, list)))))
 
 pub left_of-returns : goal.left_of-returns
 left_of-returns t c =
     let g = c.args.problem.now in
     let within : c.in-Some.place < length c.args.by.items = search rules in
-    let all : IsPermutation (seen (get_or c.args.by.items c.in-Some.place c.remove-first.result)) c.in_ok-literals.literals.items =
-    subst (λ (b : Bor (List Literal)). IsPermutation b.now c.in_ok-literals.literals.items) c.remove-first.ensures.value c.in_ok-literals.ensures.all in
-    left_by_taken g c.args.order.now seen c.args.by.items c.in-Some.place c.remove-first.result c.in_ok-literals.literals.items c.args.cube.now c.in_ok-found.found within all
-    (rw (c.as_slice-4.ensures.value, c.remove-first.ensures.items, c.as_slice-3.ensures.value) at c.in_ok-found.ensures)
+    let first = c.remove-first.result.now in
+    let is_first : first ≡ seen (get_or c.args.by.items c.in-Some.place c.remove-first.result) = ap seen c.remove-first.ensures.value in
+    let ranked : IsPermutation c.in_ok-cutting.cutting.items c.in_ok-literals.literals.items = rw c.as_slice-2.ensures.value at c.in_ok-literals.ensures in
+    let cut : (s : Scenario) → IsScenario g s → matches c.args.cube.now s ≡ true → matches c.in_ok-cutting.cutting.items s ≡ matches first s = rw c.literals.ensures.literals at c.in_ok-cutting.ensures.same in
+    left_by_taken g c.args.order.now seen c.args.by.items c.in-Some.place c.remove-first.result c.in_ok-literals.literals.items c.args.cube.now c.in_ok-found.found within
+    (λ s i t. sym (matches_permutation c.in_ok-cutting.cutting.items c.in_ok-literals.literals.items s ranked) ∙ cut s i t ∙ ap (λ b. matches b s) is_first)
+    (rw (c.as_slice-5.ensures.value, c.remove-first.ensures.items, c.as_slice-4.ensures.value) at c.in_ok-found.ensures)
 
 pub left_of_part-returns-in_default-2-clause-part : goal.left_of_part-returns-in_default-2-clause-part
 left_of_part-returns-in_default-2-clause-part t c =
@@ -80,6 +88,23 @@ left_of_part-left_of-requires t c =
     let known : IsVariable g c.in-Some.literal.variable = rw c.in-Some.is at c.requires.literal in
     let part : IsKnown g c.in-Some-2.part = subst (IsKnown g) (with-is c.in-Some.literal c.args.cube.now c.in-Some-2.part some) (known-narrowed g c.in-Some.literal c.args.cube.now known c.requires.cube) in
     (search rules, (c.requires.order, (part, c.in_ok-kept.ensures.known)))
+
+-- of the last literal, nothing is left within it
+pub left_outside-returns-then-is_empty : goal.left_outside-returns-then-is_empty
+left_outside-returns-then-is_empty t c =
+    let g = c.args.problem.now in
+    let few = c.faults-k.ensures.within.few_processes in
+    let order = c.args.order.now in
+    let by = map seen c.args.by.now in
+    let cube = c.args.cube.now in
+    let l = c.in-Some.literal.now in
+    let last : c.in-Some.rest.now ≡ [] = nil_from_length c.in-Some.rest.now (search rules) in
+    let split : c.args.literals.now ≡ l ∷ [] = c.in-Some.ensures.cases.0 ∙ ap (λ ls. l ∷ ls) last in
+    let known : IsVariable g l.variable = All-head (λ (m : Literal). IsVariable g m.variable) l [] (rw split at c.requires.literals) in
+    let below = first_below g few order by l cube c.in_ok-low.low (rw c.below.ensures at c.in_ok-low.ensures.part) (rw c.below.ensures at c.in_ok-low.ensures.none) in
+    let above = first_above g few order by l cube c.in_ok-high.high known (rw (c.above.ensures, c.faults-k.ensures.faults) at c.in_ok-high.ensures.part) (rw (c.above.ensures, c.faults-k.ensures.faults) at c.in_ok-high.ensures.none) in
+    rw (split, c.earlier-beside.ensures, ← earlier_none g order (earlier g order c.in_ok-low.low c.in_ok-high.high))
+    (outside_one g few order by l [] cube c.in_ok-low.low c.in_ok-high.high None below above (outside_none g few order by (narrowed_by l cube)))
 
 -- what is below a literal, above it and within it
 pub left_outside-returns-in_default-2 : goal.left_outside-returns-in_default-2
