@@ -110,7 +110,7 @@ module _ (g : Graph) (few : process_count g ≤ 128) where
     without_rising cube r = AllPairs-filter (λ (l m : Literal). l.variable < m.variable) (λ l. not (l.variable == v)) cube r
 
     -- cubes with the same ranges of other variables have the same literals on these
-    same_without : (a b : List Literal) → IsGood g a → IsGood g b → ((u : ℕ) → u ≢ v → (low_in a u ≡ low_in b u) × (high_in g.faults a u ≡ high_in g.faults b u)) → without v a ≡ without v b
+    pub same_without : (a b : List Literal) → IsGood g a → IsGood g b → ((u : ℕ) → u ≢ v → (low_in a u ≡ low_in b u) × (high_in g.faults a u ≡ high_in g.faults b u)) → without v a ≡ without v b
     same_without a b good_a good_b h = same_cube g.faults (without v a) (without v b)
         (without_rising a good_a.cube.rising) (without_rising b good_b.cube.rising) (without_narrow a good_a.narrow) (without_narrow b good_b.narrow)
         (λ u. ⊎_elim

@@ -181,6 +181,14 @@ module _ (g : Graph) where
     );
   }
 
+  -- of which no two touch
+  pub passed_settled : (v : ℕ) → (xs : List Column) → IsShorn g xs → IsSettledOn g.faults v xs → IsPassed g (λ u. u ≡ v) xs xs
+  passed_settled v xs h apart = record {
+    joins = joins_itself g xs;
+    good = h;
+    fewer = inr (IsPermutation-refl xs, λ u e. subst (λ y. IsSettledOn g.faults y xs) (sym e) apart);
+  }
+
   settled_permuted : (v : ℕ) (xs ys : List Column) → IsPermutation xs ys → IsSettledOn g.faults v xs → IsSettledOn g.faults v ys
   settled_permuted v xs ys p h = λ c d m n. h c d (Contains-permutation ys xs c (IsPermutation-sym xs ys p) m) (Contains-permutation ys xs d (IsPermutation-sym xs ys p) n)
 

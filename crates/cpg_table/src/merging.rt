@@ -6,6 +6,7 @@ ghost use Rattle.cpg_table.specs.Merged.{AreMergeable, IsMergeOf};
 ghost use Rattle.cpg_table.specs.Merging.{IsShorn, IsPassed, IsBetween, AreSettled, lows_of, lows_along, AreByLows};
 
 use crate::Entry;
+use crate::digests::may_touch;
 use crate::joins::{FIRST_VALUE, compare, does_any_speak, joined_columns, low_of, shorn_columns};
 use cpg_base::{OutOfMemory, Problem};
 use cpg_cube::Literal;
@@ -26,10 +27,15 @@ fn joined_on(
     if !does_any_speak(variable, columns.as_slice()) {
         return Ok(columns);
     }
+    let k = problem.faults();
+    let may = may_touch(alloc, variable, columns.as_slice())?;
+    if !may {
+        return Ok(columns);
+    }
     // most columns stand in runs that are sorted already, of which the stable sort makes use
     let mut columns = columns;
     columns.sort_by(|a, b| compare(variable, a, b))?;
-    joined_columns(alloc, problem.faults(), variable, columns)
+    joined_columns(alloc, k, variable, columns)
 }
 
 /// Joins columns where they touch at one of the variables from `first` up to `end`, which it leaves out.
