@@ -1,8 +1,8 @@
 -- The rows of all items, one after another.
-use Rattle.std.proofs.Common.{ℕ, zero, suc, ◌+◌, ◌<◌, ◌≡◌, List, [], ◌∷◌, ◌++◌, length, Some, arith, refl, sym, ◌∙◌, subst, inl, inr, length-append}
+use Rattle.std.proofs.Common.{ℕ, zero, suc, ◌+◌, ◌<◌, ◌≡◌, List, [], ◌∷◌, ◌++◌, get_or, length, Some, arith, refl, sym, ap, ◌∙◌, subst, inl, inr, length-append}
 use Rattle.std.specs.Prelude.{slice_get}
 use Rattle.std.proofs.lemmas.Bool.{cases_lt}
-use Rattle.std.proofs.lemmas.Option.{same_Some, slice_get_within}
+use Rattle.std.proofs.lemmas.Option.{same_Some, slice_get-get_or, slice_get_within}
 use Rattle.cpg_base.specs.Graph.{Graph}
 use Rattle.cpg_table.specs.Table.{NodeTable}
 use Rattle.cpg_check_heard.specs.declared.tellers.Teller.{Teller}
@@ -33,3 +33,6 @@ module _ (g : Graph) (tables : List NodeTable) where
           subst (IsTeller g tables x) same (subst (λ y. IsTeller g tables y t) (let n : items ≡ x = omega (arith, are.count, last) in n) is)
     ];
   }
+
+  pub teller_at : (items : ℕ) (ts : List Teller) (x : ℕ) (t : Teller) → AreTellers g tables items ts → x < items → t ≡ get_or ts x t → IsTeller g tables x t
+  teller_at items ts x t are l is = are.each x t (slice_get-get_or ts x t (omega (arith, l, are.count)) ∙ ap Some (sym is))

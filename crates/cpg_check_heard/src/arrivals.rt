@@ -19,7 +19,7 @@ ghost use Rattle.cpg_check_heard.specs.declared.bound.Bound.{Bound};
 use crate::bound::Bound;
 use crate::hearing::Hearing;
 use crate::parts::{add, part_of};
-use crate::tellers::{Teller, Telling};
+use crate::tellers::{Teller, Telling, has_come};
 use cpg_base::{OutOfMemory, Problem};
 use cpg_cube::Cube;
 use cpg_table::Entry;
@@ -37,13 +37,10 @@ pub(crate) struct Arrival<'a> {
 fn may_have_come(telling: Telling, start: u64, time: u64) -> bool
     ensures { OnFalse result ((g : Graph) (b : Bound) (s : Scenario) (c : Column) → start ≤ c.time → is_telling g telling time b s c ≡ false) }
 {
-    let Telling::Frame { delay, .. } = telling else {
-        return true;
-    };
-    if start > time {
-        return false;
+    match telling {
+        Telling::End { .. } => true,
+        Telling::Frame { delay, .. } => has_come(start, delay, time),
     }
-    delay <= time - start
 }
 
 /// Adds the column at a place, if there is one and its frame may have come by a time.
@@ -126,10 +123,7 @@ fn tells_whole(
         return false;
     };
     let column = arrival.column;
-    if column.time > time {
-        return false;
-    }
-    if delay > time - column.time {
+    if !has_come(column.time, delay, time) {
         return false;
     }
     if !bound.is_told_by_any(column.cube.literals()) {
@@ -150,12 +144,9 @@ pub(crate) fn tells_one_whole(
     requires arrivals { All (IsArrival problem.now) arrivals.now }
     ensures { OnTrue result ((s : Scenario) → IsScenario problem.now s → matches cube.now s ≡ true → do_tell problem.now time bound arrivals.now s ≡ true) }
 {
-    for arrival in arrivals {
-        if tells_whole(problem, arrival, cube, time, bound) {
-            return true;
-        }
-    }
-    false
+    arrivals
+        .iter()
+        .any(|arrival| tells_whole(problem, arrival, cube, time, bound))
 }
 
 /// Adds the parts of these columns' cubes in which they tell a bound by a time.

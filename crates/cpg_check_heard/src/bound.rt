@@ -82,12 +82,7 @@ impl Bound {
     pub(crate) fn is_told_by_any(&self, literals: &[Literal]) -> bool
         ensures { result ≡ list_any (tells self.now) literals.now }
     {
-        for literal in literals {
-            if self.is_told_by(literal) {
-                return true;
-            }
-        }
-        false
+        literals.iter().any(|literal| self.is_told_by(literal))
     }
 
     /// The numbers within it in scenarios of at most `k` faults.

@@ -1,8 +1,8 @@
 //! What all rows tell: the least scenario in which a node hasn't heard a literal by a time.
-ghost use Rattle.std.specs.Prelude.{◌≡◌, ◌<◌, ◌&&◌, ◌||◌, All, IfOk, not, true};
+ghost use Rattle.std.specs.Prelude.{◌≡◌, ◌&&◌, ◌||◌, All, IfOk, not, true};
 ghost use Rattle.std.specs.Bool.{OnFalse, OnTrue};
 ghost use Rattle.std.specs.List.{list_any};
-ghost use Rattle.cpg_base.specs.Graph.{IsVariable, item_count};
+ghost use Rattle.cpg_base.specs.Graph.{IsVariable};
 ghost use Rattle.cpg_order.specs.First.{IsFirst};
 ghost use Rattle.cpg_order.specs.Scenario.{Scenario, IsScenario};
 ghost use Rattle.cpg_cube.specs.Cover.{is_left};
@@ -11,9 +11,8 @@ ghost use Rattle.cpg_cube.specs.Fit.{IsKnown};
 ghost use Rattle.cpg_check_heard.specs.Arrivals.{AreArrivals};
 ghost use Rattle.cpg_check_heard.specs.Bounds.{is_told, variable_of};
 ghost use Rattle.cpg_check_heard.specs.Hearings.{IsHearing};
-ghost use Rattle.cpg_check_heard.specs.Tellings.{CanTell, telling_of};
 ghost use Rattle.cpg_check_heard.specs.Unheard.{is_column_unheard, is_one_untold};
-ghost use Rattle.cpg_check_heard.specs.Untold.{item_tells, items_heard, own_tells};
+ghost use Rattle.cpg_check_heard.specs.Untold.{items_heard, own_tells};
 
 use crate::arrivals::{Arrival, add_told, tells_one_whole};
 use crate::bound::Bound;
@@ -57,12 +56,7 @@ fn is_within_one(problem: &Problem, cube: &Cube, told: &[Cube]) -> bool
     requires told { All (IsKnown problem.now) told.now }
     ensures { OnTrue result ((s : Scenario) → IsScenario problem.now s → matches cube.now s ≡ true → list_any (λ b. matches b s) told.now ≡ true) }
 {
-    for part in told {
-        if cube.within(part, problem) {
-            return true;
-        }
-    }
-    false
+    told.iter().any(|part| cube.within(part, problem))
 }
 
 /// Whether a list may leave something of a cube. A single cube of it that leaves nothing is the common case, and found first.
@@ -84,32 +78,8 @@ fn may_leave(
 }
 
 impl Hearing<'_> {
-    /// Adds the parts of the cubes of an item's row in which it tells a bound by a time, as far as they match together with
-    /// a cube.
-    fn add_item(
-        &self,
-        alloc: Global,
-        item: u32,
-        cube: &Cube,
-        time: u64,
-        bound: Bound,
-        told: &mut Vec<Cube>,
-    ) -> Result<(), OutOfMemory>
-        requires hearing { IsHearing self.now }
-        requires item { item < item_count self.now.admitted.now.graph }
-        requires can { CanTell self.now.admitted.now.graph bound (telling_of self.now.admitted.now.graph item) }
-        requires variable { IsVariable self.now.admitted.now.graph (variable_of bound) }
-        requires told { All (IsKnown self.now.admitted.now.graph) told.old.items }
-        ensures known { IfOk result (λ _. All (IsKnown self.now.admitted.now.graph) told.new.items) }
-        ensures told { IfOk result (λ _. (s : Scenario) → IsScenario self.now.admitted.now.graph s → matches cube.now s ≡ true → list_any (λ b. matches b s) told.new.items ≡ (list_any (λ b. matches b s) told.old.items || item_tells self.now.admitted.now.graph self.now.tables.now.nodes time bound s item)) }
-    {
-        let problem = self.admitted.problem();
-        let teller = &self.tellers[item as usize];
-        add_row(alloc, problem, teller, cube, time, bound, told)?;
-        Ok(())
-    }
-
-    /// Adds those of the node's own ends: of the process of the bound's variable, if that is on the node.
+    /// Adds the parts of cubes in which the node's own ends tell a bound by a time, as far as they match together with a cube:
+    /// those of the row of the process of the bound's variable, if that is on the node.
     fn add_own(
         &self,
         alloc: Global,
@@ -130,7 +100,8 @@ impl Hearing<'_> {
         if problem.node_of(process) != node {
             return Ok(());
         }
-        self.add_item(alloc, process, cube, time, bound, told)?;
+        let teller = &self.tellers[process as usize];
+        add_row(alloc, problem, teller, cube, time, bound, told)?;
         Ok(())
     }
 

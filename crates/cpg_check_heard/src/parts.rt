@@ -1,8 +1,8 @@
 //! The parts of columns' cubes in which they tell a bound.
-ghost use Rattle.std.specs.Prelude.{◌≡◌, ◌+◌, ◌≤◌, ◌<◌, ◌++◌, ◌&&◌, ◌||◌, ℕ, All, IfOk, IfSome, length, nat_le, nat_lt, option_to_list, true};
+ghost use Rattle.std.specs.Prelude.{◌≡◌, ◌+◌, ◌≤◌, ◌<◌, ◌++◌, ◌||◌, ℕ, All, IfOk, IfSome, nat_le, nat_lt, option_to_list, true};
 ghost use Rattle.std.specs.List.{list_any};
 ghost use Rattle.cpg_base.specs.Duration.{duration};
-ghost use Rattle.cpg_base.specs.Graph.{IsVariable, process_count, process_of_variable};
+ghost use Rattle.cpg_base.specs.Graph.{IsVariable, process_count};
 ghost use Rattle.cpg_base.specs.Limits.{IsWithinLimits};
 ghost use Rattle.cpg_order.specs.Scenario.{Scenario, IsScenario};
 ghost use Rattle.cpg_cube.specs.Cube.{matches};
@@ -13,7 +13,7 @@ ghost use Rattle.cpg_check_heard.specs.Tellings.{CanTell, IsPart, is_telling, is
 ghost use Rattle.cpg_check_heard.specs.declared.tellers.Telling.TheVariants.{End, Frame};
 
 use crate::bound::Bound;
-use crate::tellers::{Teller, Telling};
+use crate::tellers::{Teller, Telling, has_come};
 use cpg_base::{OutOfMemory, Problem};
 use cpg_cube::{Cube, Literal};
 use cpg_table::Entry;
@@ -93,10 +93,7 @@ fn frame_part(
     ensures part { IfOk result (IsPart problem.now (λ s. is_telling problem.now (Frame delay condition) time bound s column.now)) }
     ensures known { IfOk result (λ r. IfSome r (IsKnown problem.now)) }
 {
-    if column.time > time {
-        return Ok(None);
-    }
-    if delay > time - column.time {
+    if !has_come(column.time, delay, time) {
         return Ok(None);
     }
     if bound.is_told_by_any(column.cube.literals()) {

@@ -1,6 +1,6 @@
 //! The rows of all items, and how they tell.
-ghost use Rattle.std.specs.Prelude.{◌≡◌, ◌<◌, IfOk};
-ghost use Rattle.cpg_base.specs.Graph.{item_at, item_count};
+ghost use Rattle.std.specs.Prelude.{◌≡◌, ◌+◌, ◌<◌, IfOk, nat_le};
+ghost use Rattle.cpg_base.specs.Graph.{item_count};
 ghost use Rattle.cpg_base.specs.WellFormed.{WellFormed};
 ghost use Rattle.cpg_check_heard.specs.Tellings.{AreTellers, IsTeller, telling_of};
 
@@ -17,6 +17,16 @@ pub(crate) enum Telling {
     End { process: u32 },
     /// By frames that arrive so many time units after the column's time, those of a broadcast with a condition's value.
     Frame { delay: u64, condition: Option<u32> },
+}
+
+/// Whether a frame that arrives so long after a start has come by a time.
+pub(crate) fn has_come(start: u64, delay: u64, time: u64) -> bool
+    ensures { result ≡ nat_le (start + delay) time }
+{
+    if start > time {
+        return false;
+    }
+    delay <= time - start
 }
 
 /// The row of an item, and how it tells.

@@ -1,8 +1,10 @@
-use Rattle.std.proofs.Common.{sym, subst}
-use Rattle.cpg_check_heard.specs.Arrivals.{IsArrival}
+use Rattle.std.proofs.Common.{All}
+use Rattle.std.proofs.iter.Serving.{serving}
+use Rattle.cpg_cube.specs.Fit.{IsKnown}
+use Rattle.cpg_check_heard.specs.declared.arrivals.Arrival.{Arrival}
 use Rattle.cpg_check_heard.proofs.arrivals.tells_one_whole.Goals as goal
 
-pub tells_whole-requires-clause-column : goal.tells_whole-requires-clause-column
-tells_whole-requires-clause-column c =
-    let is = subst (IsArrival c.args.problem.now) (sym c.arrival-item.is) (c.requires.arrivals c.loop-arrival.arrival-index c.arrival-item.result c.loop-arrival-test.true) in
-    is.known
+pub any-requires-clause-callable : goal.any-requires-clause-callable
+any-requires-clause-callable c =
+    let known : All (λ (a : Arrival). IsKnown c.args.problem.now a.column.now.cube) c.args.arrivals.now = λ i d l. (c.requires.arrivals i d l).known in
+    grind (serving, known)

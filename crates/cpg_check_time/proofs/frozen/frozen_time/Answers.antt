@@ -1,6 +1,4 @@
 use Rattle.cpg_violation.proofs.HeadLaws.{tables_of_graph}
-use Rattle.std.proofs.Common.{subst}
-use Rattle.cpg_table.specs.Lawful.{AreTablesOf}
 use Rattle.cpg_check_time.proofs.Judging.{columns_are}
 use Rattle.cpg_check_time.proofs.frozen.frozen_time.Goals as goal
 

@@ -1,6 +1,5 @@
-use Rattle.std.proofs.Common.{ℕ, ◌<◌, ◌∙◌, [], Some, get_or, length, All, Contains, List, arith, ap, sym, subst, false}
+use Rattle.std.proofs.Common.{ℕ, ◌<◌, [], get_or, All, Contains, List, arith, subst, false}
 use Rattle.std.proofs.lemmas.List.Elements.{Contains-get_or}
-use Rattle.std.proofs.lemmas.Option.{slice_get-get_or}
 use Rattle.cpg_base.proofs.Lists.{Contains-filter_parts, numbers-Contains}
 use Rattle.cpg_base.specs.Graph.{is_heard_by, item_at, item_count}
 use Rattle.cpg_base.specs.Numbers.{numbers_below}
@@ -13,6 +12,7 @@ use Rattle.cpg_check_heard.specs.Tellings.{CanTell}
 use Rattle.cpg_check_heard.specs.Untold.{item_tells}
 use Rattle.cpg_check_heard.proofs.Facts.{heard_can}
 use Rattle.cpg_check_heard.proofs.PartLaws.{row_more}
+use Rattle.cpg_check_heard.proofs.TellerLists.{teller_at}
 use Rattle.cpg_check_heard.proofs.hearing.Hearing.arrivals.Goals as goal
 
 pub index-teller-requires : goal.index-teller-requires
@@ -31,10 +31,8 @@ add_row-requires c =
     let parts = Contains-filter_parts (λ x. is_heard_by g c.args.node (item_at g x)) (numbers_below (item_count g)) x
     (subst (λ (xs : List ℕ). Contains xs x) c.requires.items (Contains-get_or c.args.items.now c.loop-item.item-index 0 c.loop-item-test.true)) in
     let below : x < item_count g = numbers-Contains (item_count g) x parts.0 in
-    let ts = c.args.self.now.tellers.items in
     let t = c.index-teller.result.now in
-    let within : x < length ts = omega (arith, below, c.requires.hearing.tellers.count) in
-    let is = c.requires.hearing.tellers.each x t (slice_get-get_or ts x t within ∙ ap Some (sym c.index-teller.ensures)) in
+    let is = teller_at g c.args.self.now.tables.now.nodes (item_count g) c.args.self.now.tellers.items x t c.requires.hearing.tellers below c.index-teller.ensures in
     rw is.columns is.sieve
 
 pub loop-item-preserved : goal.loop-item-preserved
@@ -44,11 +42,9 @@ loop-item-preserved c =
     let parts = Contains-filter_parts (λ x. is_heard_by g c.args.node (item_at g x)) (numbers_below (item_count g)) x
     (subst (λ (xs : List ℕ). Contains xs x) c.requires.items (Contains-get_or c.args.items.now c.loop-item.item-index 0 c.loop-item-test.true)) in
     let below : x < item_count g = numbers-Contains (item_count g) x parts.0 in
-    let ts = c.args.self.now.tellers.items in
-    let t = c.index-teller.result.now in
-    let within : x < length ts = omega (arith, below, c.requires.hearing.tellers.count) in
-    let is = c.requires.hearing.tellers.each x t (slice_get-get_or ts x t within ∙ ap Some (sym c.index-teller.ensures)) in
     let tables = c.args.self.now.tables.now.nodes in
+    let t = c.index-teller.result.now in
+    let is = teller_at g tables (item_count g) c.args.self.now.tellers.items x t c.requires.hearing.tellers below c.index-teller.ensures in
     let known : All (λ (d : Column). IsKnown g d.cube) t.columns.now = rw is.columns (columns_known c.requires.hearing.admitted tables c.requires.hearing.tables x) in
     let can : (b : Bound) → CanTell g b t.telling = λ b. rw is.telling (heard_can g tables c.args.time b (record { values = []; faults = [] }) x c.args.node parts.1) in
     record {

@@ -1,0 +1,61 @@
+use Rattle.std.proofs.Common.{◌≡◌, ◌<◌, ◌==◌, ◌&&◌, ◌||◌, ◌∙◌, [], arith, sym, ap, eq-eqb}
+use Rattle.std.specs.List.{list_any}
+use Rattle.cpg_base.specs.Graph.{item_count, node_of, process_count, process_of_variable}
+use Rattle.cpg_cube.specs.Cube.{matches}
+use Rattle.cpg_violation.proofs.Violations.{columns_known}
+use Rattle.cpg_check_heard.specs.Bounds.{variable_of}
+use Rattle.cpg_check_heard.specs.Untold.{item_tells}
+use Rattle.cpg_check_heard.proofs.Facts.{own_can}
+use Rattle.cpg_check_heard.proofs.TellerLists.{teller_at}
+use Rattle.cpg_check_heard.proofs.hearing.Hearing.add_own.Goals as goal
+
+pub add_row-requires-clause-can : goal.add_row-requires-clause-can
+add_row-requires-clause-can c =
+    let g = c.args.self.now.admitted.now.graph in
+    let tables = c.args.self.now.tables.now.nodes in
+    let p = c.process_of_variable-process.result in
+    let t = c.index-teller.result.now in
+    let own : p < process_count g = rw c.problem-problem.ensures.problem at c.process_of_variable-process.ensures.within in
+    let below : p < item_count g = omega arith in
+    let is = teller_at g tables (item_count g) c.args.self.now.tellers.items p t c.requires.hearing.tellers below c.index-teller.ensures in
+    let here : p ≡ process_of_variable g (variable_of c.args.bound) = rw (← c.problem-problem.ensures.problem, ← c.variable.ensures) c.process_of_variable-process.ensures.process in
+    rw (c.problem-problem.ensures.problem, is.telling) (own_can g tables c.args.time c.args.bound (record { values = []; faults = [] }) p own (sym here))
+
+pub add_row-requires-clause-columns : goal.add_row-requires-clause-columns
+add_row-requires-clause-columns c =
+    let g = c.args.self.now.admitted.now.graph in
+    let tables = c.args.self.now.tables.now.nodes in
+    let p = c.process_of_variable-process.result in
+    let t = c.index-teller.result.now in
+    let own : p < process_count g = rw c.problem-problem.ensures.problem at c.process_of_variable-process.ensures.within in
+    let below : p < item_count g = omega arith in
+    let is = teller_at g tables (item_count g) c.args.self.now.tellers.items p t c.requires.hearing.tellers below c.index-teller.ensures in
+    rw (c.problem-problem.ensures.problem, is.columns) (columns_known c.requires.hearing.admitted tables c.requires.hearing.tables p)
+
+pub add_row-requires-clause-sieve : goal.add_row-requires-clause-sieve
+add_row-requires-clause-sieve c =
+    let g = c.args.self.now.admitted.now.graph in
+    let tables = c.args.self.now.tables.now.nodes in
+    let p = c.process_of_variable-process.result in
+    let t = c.index-teller.result.now in
+    let own : p < process_count g = rw c.problem-problem.ensures.problem at c.process_of_variable-process.ensures.within in
+    let below : p < item_count g = omega arith in
+    let is = teller_at g tables (item_count g) c.args.self.now.tellers.items p t c.requires.hearing.tellers below c.index-teller.ensures in
+    rw is.columns is.sieve
+
+pub returns-clause-told : goal.returns-clause-told
+returns-clause-told c =
+    let g = c.args.self.now.admitted.now.graph in
+    let tables = c.args.self.now.tables.now.nodes in
+    let p = c.process_of_variable-process.result in
+    let t = c.index-teller.result.now in
+    let own : p < process_count g = rw c.problem-problem.ensures.problem at c.process_of_variable-process.ensures.within in
+    let below : p < item_count g = omega arith in
+    let is = teller_at g tables (item_count g) c.args.self.now.tellers.items p t c.requires.hearing.tellers below c.index-teller.ensures in
+    let here : p ≡ process_of_variable g (variable_of c.args.bound) = rw (← c.problem-problem.ensures.problem, ← c.variable.ensures) c.process_of_variable-process.ensures.process in
+    let home : node_of g p ≡ c.args.node = rw c.problem-problem.ensures.problem at (sym c.node_of.ensures.node ∙ c.if-node_of-node.false) in
+    λ s i m.
+    let tells = item_tells g tables c.args.time c.args.bound s in
+    rw (c.problem-problem.ensures.problem, is.telling, is.columns) at c.in_ok-add_row.ensures.told s i m
+    ∙ ap (λ a. list_any (λ b. matches b s) c.args.told.now.items || a)
+    (sym (ap (λ q. (node_of g q == c.args.node) && tells q) (sym here) ∙ ap (λ a. a && tells p) (eq-eqb (node_of g p) c.args.node home)))
