@@ -120,29 +120,35 @@ module _ (seen : Seen) (told : Option Text) (bytes : Text) (a : Admission) (tell
   abbrev pub LeftLate : Type 0
   LeftLate = IsNarrow a.graph a.order × ((s : Scenario) × (p time : ℕ) × IsShownLate a.graph a.order s p time)
 
-  -- too wide, late, or want of memory
+  -- too wide, late, of too many scenarios, or want of memory
+  abbrev pub LeftWide : Halt → Type 0
+  LeftWide h = (status_of h ≡ 6) × ((x : ℕ) × IsWide a.graph a.order x)
+
+  abbrev pub LeftMany : Type 0
+  LeftMany = HasManyScenarios a.graph × IsNarrow a.graph a.order
+
   abbrev pub Left : Halt → Type 0
-  Left h = (status_of h ≡ 8) ⊎ (((status_of h ≡ 5) × LeftLate) ⊎ ((status_of h ≡ 6) × ((x : ℕ) × IsWide a.graph a.order x)))
+  Left h = (status_of h ≡ 8) ⊎ (((status_of h ≡ 5) × LeftLate) ⊎ (LeftWide h ⊎ LeftMany))
 
   compile_left : (b : Admission) → Admits told b → (h : Halt) (fault : CompileFault) → h ≡ halt_of_compile b fault → ShowsCompileFault b.graph b.order fault → Left h
   compile_left b admits h (CompileFault.TooWide x) e shows =
       let same : b.graph ≡ a.graph = same_graph bytes b.graph a.graph (says_of told bytes b.graph tells admits.says) file.says in
-      inr (inr (ap status_of e, (x, moved a b file.admitted admits.admitted same (λ g o. IsWide g o x) shows.wide)))
+      inr (inr (inl (ap status_of e, (x, moved a b file.admitted admits.admitted same (λ g o. IsWide g o x) shows.wide))))
   compile_left b admits h (CompileFault.Late s p time) e shows =
       let same : b.graph ≡ a.graph = same_graph bytes b.graph a.graph (says_of told bytes b.graph tells admits.says) file.says in
       inr (inl (ap status_of e, (moved a b file.admitted admits.admitted same IsNarrow shows.0, (s, p, time, moved a b file.admitted admits.admitted same (λ g o. IsShownLate g o s p time) shows.1))))
   compile_left b admits h CompileFault.OutOfMemory e shows = inl (ap status_of e)
 
-  made_left : length (scenarios a.graph) ≤ 16384 → (h : Halt) (b : Admission) → Admits told b → StopsCompile b h → Left h
-  made_left few h b admits (inl unbuilt) =
+  made_left : (h : Halt) (b : Admission) → Admits told b → StopsCompile b h → Left h
+  made_left h b admits (inl unlisted) =
       let same : b.graph ≡ a.graph = same_graph bytes b.graph a.graph (says_of told bytes b.graph tells admits.says) file.says in
-      absurd (let many : 16384 < length (scenarios a.graph) = subst HasManyScenarios same unbuilt.1 in omega (arith, few))
-  made_left few h b admits (inr wrong) = compile_left b admits h wrong.fault wrong.halt_is wrong.shows
+      inr (inr (inr (subst HasManyScenarios same unlisted.many, moved a b file.admitted admits.admitted same IsNarrow unlisted.narrow)))
+  made_left h b admits (inr wrong) = compile_left b admits h wrong.fault wrong.halt_is wrong.shows
 
-  pub graph_left : length (scenarios a.graph) ≤ 16384 → (h : Halt) → StopsGraph seen told StopsCompile h → Left h
-  graph_left few h (inl (inl read)) = inl (reading_left h read)
-  graph_left few h (inl (inr breaks)) = inl (rules_left h breaks.0 breaks.1 breaks.2)
-  graph_left few h (inr worked) = made_left few h worked.0 worked.1 worked.2
+  pub graph_left : (h : Halt) → StopsGraph seen told StopsCompile h → Left h
+  graph_left h (inl (inl read)) = inl (reading_left h read)
+  graph_left h (inl (inr breaks)) = inl (rules_left h breaks.0 breaks.1 breaks.2)
+  graph_left h (inr worked) = made_left h worked.0 worked.1 worked.2
 
   -- an admission that is had is the graph's
   pub same_admission : (b : Admission) → Admits told b → (P : Graph → List ℕ → Type 0) → P b.graph b.order → P a.graph a.order

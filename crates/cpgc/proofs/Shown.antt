@@ -19,7 +19,7 @@ use Rattle.cpgc.specs.Causes.{Seen, Stops, StopsAsked, StopsGraph, StopsCompile}
 use Rattle.cpgc.specs.Outputs.{Prints, PrintsAsked, IsMade, shown, packed}
 use Rattle.cpgc.specs.Told.{Untouched}
 use Rattle.cpgc.specs.Endings.{Ran, IsPrinted, IsTold, EndsWith, EndsBy}
-use Rattle.cpgc.specs.Lawful.{IsFaultless, AsksFor, Asks, AsksVerdict, IsLawful}
+use Rattle.cpgc.specs.Lawful.{IsFaultless, AsksFor, Asks, IsListable, AsksVerdict, IsLawful}
 use Rattle.cpgc.proofs.Statuses.{of_words, of_read, of_formless, refused_of, not_three, not_zero}
 use Rattle.cpg_table.specs.Lawful.{Tables}
 use Rattle.cpg_table.specs.Valid.{IsValid}
@@ -76,10 +76,10 @@ module _ (r : Ran) where
       made_here = made_of r.shelf asks.graph (command_of r.words) text asks.words with.prints
 
       with_wide : (x : ℕ) → IsWide a.graph a.order x → (r.status ≡ 6) ⊎ (r.status ≡ 8)
-      with_wide x wide = absurd (made_not_wide r.shelf (r.shelf.stands asks.graph) asks.bytes a asks.told asks.listable.file asks.faultless.shelf made_here.0 text made_here.1 x wide)
+      with_wide x wide = absurd (made_not_wide r.shelf (r.shelf.stands asks.graph) asks.bytes a asks.told asks.file asks.faultless.shelf made_here.0 text made_here.1 x wide)
 
       with_late : IsLateUnder a.graph a.order a.order → (r.status ≡ 5) ⊎ (r.status ≡ 8)
-      with_late late = absurd (made_not_late r.shelf (r.shelf.stands asks.graph) asks.bytes a asks.told asks.listable.file asks.faultless.shelf made_here.0 text made_here.1 late)
+      with_late late = absurd (made_not_late r.shelf (r.shelf.stands asks.graph) asks.bytes a asks.told asks.file asks.faultless.shelf made_here.0 text made_here.1 late)
 
     pub lawful_with : IsLawful r
     lawful_with = record {
@@ -94,8 +94,8 @@ module _ (r : Ran) where
       unsafe = λ seven. absurd (other_status 7 seven (λ e. omega arith) (λ e. omega arith));
       silent = λ zero three. absurd (elim with_status [ inl z ↦ zero z | inr t ↦ three t ]);
       wide = λ a x asks. with_wide a asks x;
-      made = λ a asks narrow in_time. with_safe asks.faultless;
-      late = λ a asks narrow. with_late a asks;
+      made = λ a asks listable in_time. with_safe asks.faultless;
+      late = λ a asks listable. with_late a asks;
       other = λ a t asks differs. absurd (differs (with_check a t asks).0);
       safe = λ a t asks head valid. with_safe asks.faultless;
       broken = λ a t asks head broken. absurd (broken (with_check a t asks).1);
@@ -135,28 +135,31 @@ module _ (r : Ran) where
       told_here : r.status ≡ status_of halt
       told_here = elim by.ending [ inl t ↦ t.status | inr m ↦ absurd (asks.faultless.err m.err.rose) ]
 
-      left : Left r.shelf (r.shelf.stands asks.graph) asks.bytes a asks.told asks.listable.file asks.faultless.shelf halt
-      left = graph_left r.shelf (r.shelf.stands asks.graph) asks.bytes a asks.told asks.listable.file asks.faultless.shelf asks.listable.few halt stops_of
+      left : Left r.shelf (r.shelf.stands asks.graph) asks.bytes a asks.told asks.file asks.faultless.shelf halt
+      left = graph_left r.shelf (r.shelf.stands asks.graph) asks.bytes a asks.told asks.file asks.faultless.shelf halt stops_of
 
       by_wide : (x : ℕ) → IsWide a.graph a.order x → (r.status ≡ 6) ⊎ (r.status ≡ 8)
       by_wide x wide = elim left [
         | inl e ↦ inr (told_here ∙ e)
         | inr (inl late) ↦ absurd (late.1.0 x wide)
-        | inr (inr shown) ↦ inl (told_here ∙ shown.0)
+        | inr (inr (inl shown)) ↦ inl (told_here ∙ shown.0)
+        | inr (inr (inr many)) ↦ absurd (many.1 x wide)
       ]
 
-      by_made : IsNarrow a.graph a.order → IsInTimeUnder a.graph a.order a.order → (r.status ≡ 0) ⊎ (r.status ≡ 8)
-      by_made narrow in_time = elim left [
+      by_made : IsListable a → IsInTimeUnder a.graph a.order a.order → (r.status ≡ 0) ⊎ (r.status ≡ 8)
+      by_made listable in_time = elim left [
         | inl e ↦ inr (told_here ∙ e)
-        | inr (inl late) ↦ absurd (let shown = late.1.1 in in_time_not_shown a.graph a.order asks.listable.file.admitted.topological shown.0 shown.1 shown.2 in_time shown.3)
-        | inr (inr wide) ↦ absurd (narrow wide.1.0 wide.1.1)
+        | inr (inl late) ↦ absurd (let shown = late.1.1 in in_time_not_shown a.graph a.order asks.file.admitted.topological shown.0 shown.1 shown.2 in_time shown.3)
+        | inr (inr (inl wide)) ↦ absurd (listable.narrow wide.1.0 wide.1.1)
+        | inr (inr (inr many)) ↦ absurd (let few = listable.few in let more = many.0 in omega arith)
       ]
 
-      by_late : IsNarrow a.graph a.order → (r.status ≡ 5) ⊎ (r.status ≡ 8)
-      by_late narrow = elim left [
+      by_late : IsListable a → (r.status ≡ 5) ⊎ (r.status ≡ 8)
+      by_late listable = elim left [
         | inl e ↦ inr (told_here ∙ e)
         | inr (inl late) ↦ inl (told_here ∙ late.0)
-        | inr (inr wide) ↦ absurd (narrow wide.1.0 wide.1.1)
+        | inr (inr (inl wide)) ↦ absurd (listable.narrow wide.1.0 wide.1.1)
+        | inr (inr (inr many)) ↦ absurd (let few = listable.few in let more = many.0 in omega arith)
       ]
 
     module _ (a : Admission) (t : Tables) (asks : AsksVerdict r a t) where
@@ -204,8 +207,8 @@ module _ (r : Ran) where
       unsafe = λ seven. (halt, by.stops, told_at 7 seven (λ e. omega arith));
       silent = λ zero three. by_silent;
       wide = λ a x asks wide. by_wide a asks x wide;
-      made = λ a asks narrow in_time. by_made a asks narrow in_time;
-      late = λ a asks narrow late. by_late a asks narrow;
+      made = λ a asks listable in_time. by_made a asks listable in_time;
+      late = λ a asks listable late. by_late a asks listable;
       other = by_other;
       safe = by_safe;
       broken = by_broken;

@@ -70,7 +70,7 @@ unbuilt_command seen h (inl e) = unbuilt seen h e
 unbuilt_command seen h (inr e) = later seen h _ e (omega arith)
 
 of_made : (seen : Seen) (a : Admission) (h : Halt) → StopsCompile a h → IsOfCommand seen h
-of_made seen a h (inl off) = unbuilt seen h off.0
+of_made seen a h (inl off) = unbuilt seen h off.unbuilt
 of_made seen a h (inr wrong) = later seen h _ wrong.halt_is (of_compile a wrong.fault)
 
 of_pack : (fault : PackFault) → 4 ≤ status_of (halt_of_pack fault)

@@ -26,6 +26,7 @@ use Rattle.cpg_violation.specs.Heads.{IsHeadFor}
 use Rattle.cpg_check.specs.declared.heads.HeadPart.{HeadPart}
 use Rattle.cpg_check.specs.Heads.{IsFirstDifference}
 use Rattle.cpg_check.specs.Verdict.{IsFirstFault}
+use Rattle.cpg_reach.specs.Wide.{IsNarrow}
 use Rattle.cpg_core.specs.declared.fault.CompileFault.{CompileFault}
 use Rattle.cpg_core.specs.Compilation.{ShowsCompileFault}
 use Rattle.cpgc.specs.declared.halt.Refusal.{Refusal}
@@ -113,9 +114,15 @@ StopsGraph seen told work halt = StopsAdmission seen told halt ⊎ ((a : Admissi
 abbrev pub HasManyScenarios : Graph → Type 0
 HasManyScenarios g = 16384 < length (scenarios g)
 
+-- so that its tables aren't made, though no item is too wide
+pub record IsUnlisted (a : Admission) (halt : Halt) : Type 0 where
+  pub unbuilt : IsUnbuilt halt
+  pub many : HasManyScenarios a.graph
+  pub narrow : IsNarrow a.graph a.order
+
 -- to make the tables of a graph
 abbrev pub StopsCompile : Admission → Halt → Type 0
-StopsCompile a halt = (IsUnbuilt halt × HasManyScenarios a.graph) ⊎ IsUncompiled a halt
+StopsCompile a halt = IsUnlisted a halt ⊎ IsUncompiled a halt
 
 -- the bytes of a pack, where the shelf tells them, spell tables
 pub record Spells (told : Option Text) (t : Tables) : Type 0 where

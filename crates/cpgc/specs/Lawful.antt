@@ -37,23 +37,23 @@ pub record AreAdmitted (bytes : Text) (a : Admission) : Type 0 where
   pub says : problem_of bytes ≡ Ok a.graph
   pub admitted : IsAdmitted a.graph a.order a.guards
 
--- of which tables are made: the graph has at most 16,384 scenarios
-pub record AreListable (bytes : Text) (a : Admission) : Type 0 where
-  pub file : AreAdmitted bytes a
-  pub few : length (scenarios a.graph) ≤ 16384
-
 -- the words ask to show or to pack the tables of a graph file
 abbrev pub AsksFor : Text → Option Command → Type 0
 AsksFor graph asked = (asked ≡ Some (Show graph)) ⊎ (asked ≡ Some (Compile graph))
 
--- they do, the shelf tells its bytes, tables are made of them, and nothing failed
+-- they do, the shelf tells the bytes of an admitted graph, and nothing failed
 pub record Asks (r : Ran) (a : Admission) : Type 0 where
   pub graph : Text
   pub bytes : Text
   pub words : AsksFor graph (command_of r.words)
   pub told : r.shelf.stands graph ≡ Some bytes
-  pub listable : AreListable bytes a
+  pub file : AreAdmitted bytes a
   pub faultless : IsFaultless r
+
+-- it has at most 16,384 scenarios, and nothing is too wide under its urgency order
+pub record IsListable (a : Admission) : Type 0 where
+  pub few : length (scenarios a.graph) ≤ 16384
+  pub narrow : IsNarrow a.graph a.order
 
 -- the shelf tells the bytes of a scenario of the graph and lengths of executions, at most 16 MiB
 pub record SaysScenario (r : Ran) (a : Admission) (name : Text) : Type 0 where
@@ -102,11 +102,12 @@ pub record IsLawful (r : Ran) : Type 0 where
   pub unsafe : r.status ≡ 7 → (halt : Halt) × Stops r.shelf r.words halt × IsTold r halt
   -- but under 0 and 3, nothing was written to `out`
   pub silent : r.status ≢ 0 → r.status ≢ 3 → Untouched r.out
-  -- such a graph is refused as too wide where some item is, and else shown or packed where every process ends by its due
-  -- in every scenario, and refused as late where some process doesn't, but for want of memory
+  -- such a graph is refused as too wide where some item is; else, where it has at most 16,384 scenarios, it is shown or
+  -- packed where every process ends by its due in every scenario, and refused as late where some process doesn't; but for
+  -- want of memory
   pub wide : (a : Admission) (x : ℕ) → Asks r a → IsWide a.graph a.order x → (r.status ≡ 6) ⊎ (r.status ≡ 8)
-  pub made : (a : Admission) → Asks r a → IsNarrow a.graph a.order → IsInTimeUnder a.graph a.order a.order → (r.status ≡ 0) ⊎ (r.status ≡ 8)
-  pub late : (a : Admission) → Asks r a → IsNarrow a.graph a.order → IsLateUnder a.graph a.order a.order → (r.status ≡ 5) ⊎ (r.status ≡ 8)
+  pub made : (a : Admission) → Asks r a → IsListable a → IsInTimeUnder a.graph a.order a.order → (r.status ≡ 0) ⊎ (r.status ≡ 8)
+  pub late : (a : Admission) → Asks r a → IsListable a → IsLateUnder a.graph a.order a.order → (r.status ≡ 5) ⊎ (r.status ≡ 8)
   -- a pack is refused as another graph's where its head is, and else found safe, or played, where its tables keep the ten
   -- rules, and found unsafe where they don't, but for want of memory
   pub other : (a : Admission) (t : Tables) → AsksVerdict r a t → (IsHeadFor a.graph t.head → ⊥) → (r.status ≡ 4) ⊎ (r.status ≡ 8)

@@ -4,7 +4,7 @@ ghost use Rattle.std.specs.Str.{bytes_eq};
 ghost use Rattle.cpg_words.specs.FileWords.{file_words, file_words_of};
 ghost use Rattle.cpg_io.specs.Shelf.{SameLeave, SameNames};
 ghost use Rattle.cpg_core.specs.Compilation.{IsCompilation};
-ghost use Rattle.cpgc.specs.Causes.{Admits, first_named, IsUnbuilt, Stops, StopsAdmission, StopsCommand, StopsCompile, StopsGraph, StopsNaming, StopsPlay, StopsTables, StopsVerdict};
+ghost use Rattle.cpgc.specs.Causes.{Admits, first_named, HasManyScenarios, IsUnbuilt, Stops, StopsAdmission, StopsCommand, StopsCompile, StopsGraph, StopsNaming, StopsPlay, StopsTables, StopsVerdict};
 ghost use Rattle.cpgc.specs.Outputs.{bytes_of, packed, shown, AreJudgedSafe, AreSafe, IsMade, IsMadeOf, IsNodeOf, IsNodeText, IsChecked, IsPlayOf, IsPlayedText, IsSafeText, IsSpelled, Prints, PrintsCommand};
 
 use crate::halt::{Halt, Refusal};
@@ -13,9 +13,10 @@ use crate::playing::play_text;
 use crate::reading::{admit_graph, read_graph, read_played, read_tables};
 use cpg_base::Name;
 use cpg_check::{Verdict, check};
-use cpg_core::{Compiled, compile};
+use cpg_core::{CompileFault, Compiled, compile};
 use cpg_io::Shelf;
 use cpg_measure::has_few_scenarios;
+use cpg_reach::too_wide;
 use cpg_rules::Admitted;
 use cpg_run::Built;
 use cpg_show::{node_text, table_text};
@@ -30,6 +31,19 @@ struct Made {
     compiled: Compiled,
 }
 
+/// Why the tables of a graph of more scenarios than are gone over one by one aren't made: an item is too wide, or such
+/// graphs aren't built yet.
+fn unlisted(alloc: Global, admitted: Admitted) -> Halt
+    requires { HasManyScenarios admitted.graph }
+    ensures { StopsCompile admitted result }
+{
+    match too_wide(alloc, &admitted, admitted.order()) {
+        Ok(Some(item)) => Halt::of_compile(admitted, CompileFault::TooWide(item)),
+        Ok(None) => Halt::Refused(Refusal::NotBuilt),
+        Err(_) => Halt::Memory,
+    }
+}
+
 /// Compiles an admitted graph.
 fn compile_graph(alloc: Global, admitted: Admitted) -> Result<Made, Halt>
     ensures same { IfOk result (λ made. made.admitted ≡ admitted) }
@@ -38,7 +52,7 @@ fn compile_graph(alloc: Global, admitted: Admitted) -> Result<Made, Halt>
     ensures halt { IfErr result (StopsCompile admitted) }
 {
     if !has_few_scenarios(admitted.problem()) {
-        return Err(Halt::Refused(Refusal::NotBuilt));
+        return Err(unlisted(alloc, admitted));
     }
     match compile(alloc, &admitted) {
         Ok(compiled) => Ok(Made { admitted, compiled }),

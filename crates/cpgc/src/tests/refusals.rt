@@ -1,5 +1,6 @@
 //! Refusals of words, of graph files and of graphs.
 
+use super::graphs::chain;
 use super::{run_over, shown};
 use cpg_io::MemoryShelf;
 use std::test::Fail;
@@ -47,6 +48,16 @@ fn refusals(rt: HostRuntime) -> Result<(), Fail> {
         assert_eq!(rt; got.err.taken(), err.as_bytes());
         assert_eq!(rt; (got.status, got.out.taken().len()), (4, 0));
     }
+    Ok(())
+}
+
+#[test]
+fn too_wide(rt: HostRuntime) -> Result<(), Fail> {
+    let alloc = rt.alloc();
+    let graph = chain(alloc, 4, 1_000_000_000, "")?;
+    let got = shown(alloc, graph.as_bytes())?;
+    assert_eq!(rt; got.err.taken(), b"cpgc: too wide start p24\n".as_slice());
+    assert_eq!(rt; (got.status, got.out.taken().len()), (6, 0));
     Ok(())
 }
 
