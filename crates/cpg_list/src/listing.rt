@@ -8,7 +8,7 @@ ghost use Rattle.cpg_list.specs.Refusal.{ShowsBuildFault};
 
 use crate::assembling::tables_of;
 use cpg_base::OutOfMemory;
-use cpg_measure::{excess, frozen_times, runs, scenarios, worst};
+use cpg_measure::{excess, first_alike, frozen_times, runs, scenarios, worst};
 use cpg_order::Order;
 use cpg_reach::too_wide;
 use cpg_rows::rows;
@@ -28,8 +28,10 @@ fn build(alloc: Global, admitted: &Admitted, order: &Order) -> Result<Built, Out
     let plan = Plan::of(alloc, problem)?;
     let scenarios = scenarios(alloc, problem)?;
     let scenarios = scenarios.as_slice();
-    let frozen = frozen_times(alloc, admitted, order, &plan, scenarios)?;
-    let runs = runs(alloc, admitted, order, &plan, &frozen, scenarios)?;
+    let firsts = first_alike(alloc, admitted, scenarios)?;
+    let firsts = firsts.as_slice();
+    let frozen = frozen_times(alloc, admitted, order, &plan, scenarios, firsts)?;
+    let runs = runs(alloc, admitted, order, &plan, &frozen, scenarios, firsts)?;
     let runs = runs.as_slice();
     let rows = rows(alloc, admitted, order, &frozen, scenarios, runs)?;
     let tables = tables_of(alloc, problem, rows.as_slice())?;

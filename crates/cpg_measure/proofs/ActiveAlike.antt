@@ -23,7 +23,7 @@ use Rattle.cpg_order.proofs.SameActivation.{live_same, same_everywhere}
 use Rattle.cpg_order.proofs.Scenarios.{one_value}
 use Rattle.cpg_run.specs.Run.{Times, IsRun, time_in, end_in, input_there, heard_there, start_bounds, send_bounds, bounds_of_item, time_by, end_by}
 use Rattle.cpg_run.proofs.Runs.{time_is}
-use Rattle.cpg_measure.specs.Active.{active_fault, active_value, active_numbers}
+use Rattle.cpg_measure.specs.Active.{active_fault, active_value, active_numbers, HaveSameRuns}
 
 -- two scenarios agree on what is active in the first
 pub record AreActiveAlike (g : Graph) (s u : Scenario) : Type 0 where
@@ -113,3 +113,10 @@ module _ (g : Graph) (urgency : List ℕ) (urgent : IsUrgencyOrder g urgency) (l
         ends = run.ends ∙ same_map (end_by g s t) (end_by g u t) (numbers_below (process_count g)) (λ p c. end_same p (numbers-Contains (process_count g) p c));
         finish = run.finish;
       }
+
+-- so scenarios with the same active numbers have the same runs
+pub same_runs : (g : Graph) (urgency : List ℕ) → IsUrgencyOrder g urgency → IsTopological g urgency → (s u : Scenario) → active_numbers g s ≡ active_numbers g u → HaveSameRuns g s u
+same_runs g urgency urgent lawful s u same = record {
+  onward = λ order frozen t topological run. run_of_alike g urgency urgent lawful s u (alike_from_numbers g s u same) order topological frozen t run;
+  back = λ order frozen t topological run. run_of_alike g urgency urgent lawful u s (alike_from_numbers g u s (sym same)) order topological frozen t run;
+}

@@ -7,14 +7,13 @@ use Rattle.cpg_base.specs.Numbers.{greatest}
 use Rattle.cpg_base.specs.Graph.{Graph, item_count}
 use Rattle.cpg_base.proofs.Lists.{greatest-cons}
 use Rattle.cpg_order.specs.Scenario.{Scenario}
-use Rattle.cpg_order.specs.Urgency.{IsTopological, IsUrgencyOrder}
+use Rattle.cpg_order.specs.Urgency.{IsTopological}
 use Rattle.cpg_run.specs.Run.{Times, IsRun, unfrozen_time}
 use Rattle.cpg_run.specs.Frozen.{WouldHave}
 use Rattle.cpg_run.proofs.Runs.{time_active, time_parts}
 use Rattle.cpg_run.proofs.RunUnique.{run_unique}
 use Rattle.cpg_measure.specs.Active.{AreExamples}
 use Rattle.cpg_measure.specs.Latest.{later, IsUnfrozenTime}
-use Rattle.cpg_measure.proofs.ActiveAlike.{alike_from_numbers, run_of_alike}
 
 -- at or below a time that is there
 pub record IsUpTo (latest : Option ℕ) (time : ℕ) : Type 0 where
@@ -77,7 +76,7 @@ module _ (g : Graph) (order : List ℕ) (top : IsTopological g order) (frozen : 
     ];
   }
 
-  module _ (urgency : List ℕ) (urgent : IsUrgencyOrder g urgency) (lawful : IsTopological g urgency) (all : AreExamples g list) (within : x < item_count g) (unset : get_or frozen x None ≡ None) where
+  module _ (all : AreExamples g list) (within : x < item_count g) (unset : get_or frozen x None ≡ None) where
     -- the time of an active item that is not set
     time_unset : (s : Scenario) (t : Times) (run : IsRun g order frozen s t) → greatest (unfrozen_time g order s t x ∷ option_to_list (get_or frozen x None)) ≡ unfrozen_time g order s t x
     time_unset s t run = ap (λ o. greatest (unfrozen_time g order s t x ∷ option_to_list o)) unset ∙ (let e = greatest-cons (unfrozen_time g order s t x) [] in omega arith)
@@ -98,7 +97,7 @@ module _ (g : Graph) (order : List ℕ) (top : IsTopological g order) (frozen : 
     would_be_up_to n latest time long is w =
         let c = all.all w.scenario w.lawful in
         let u = get_or list c.0 w.scenario in
-        let run = run_of_alike g urgency urgent lawful w.scenario u (alike_from_numbers g w.scenario u (c.2 w.scenario)) order top frozen w.times w.run in
+        let run = (c.2 w.scenario).back order frozen w.times top w.run in
         is.above c.0 u w.times time (omega (arith, c.1)) (get_or_default list c.0 u w.scenario c.1) run
         (time_active g order frozen w.scenario w.times w.run x within w.active ∙ ap (λ k. Some k) (time_unset w.scenario w.times w.run ∙ w.has))
 

@@ -5,4 +5,5 @@ pub mod Runs
 pub mod Sweep
 pub mod Active
 pub mod Placed
+pub mod FirstAlike
 pub mod Peaks

@@ -1,13 +1,21 @@
--- Where scenarios of a list stand, by their active numbers.
-use Rattle.std.specs.Prelude.{ℕ, ◌≡◌, ◌<◌, All, List, get_or}
+-- Places of lists of numbers in a sorted map.
+use Rattle.std.specs.Prelude.{ℕ, ◌≡◌, ◌⊎◌, List, Option, Some, None}
+use Rattle.std.specs.BTreeMap.{is_at, insert_entry}
+use Rattle.std.specs.Cmp.Lexicographic.{slice_cmp}
 use Rattle.std.specs.Global.{Vec}
-use Rattle.cpg_base.specs.Graph.{Graph}
-use Rattle.cpg_base.specs.Scenario.{Scenario}
-use Rattle.cpg_measure.specs.Active.{active_numbers}
+use Rattle.std.specs.Map.{lookup}
+use Rattle.std.specs.Ordering.{nat_cmp}
 
--- the scenario at the place, one of the first n, has the numbers
-abbrev pub IsPlaced : Graph → List Scenario → ℕ → Vec ℕ × ℕ → Type 0
-IsPlaced g list n e = (e.1 < n) × ((s : Scenario) → active_numbers g (get_or list e.1 s) ≡ e.0.items)
+-- the place of a list of numbers, if it has one
+abbrev pub place_in : List (Vec ℕ × ℕ) → List ℕ → Option ℕ
+place_in entries numbers = lookup (is_at (λ k. slice_cmp nat_cmp numbers k.items)) entries
 
-abbrev pub ArePlaced : Graph → List Scenario → ℕ → List (Vec ℕ × ℕ) → Type 0
-ArePlaced g list n entries = All (IsPlaced g list n) entries
+-- with a place for a list of numbers
+abbrev pub with_place : List (Vec ℕ × ℕ) → Vec ℕ → ℕ → List (Vec ℕ × ℕ)
+with_place entries numbers place = insert_entry (λ x y. slice_cmp nat_cmp x.items y.items) entries numbers place
+
+-- a list of numbers keeps the place that it has, and gets the given one where it has none
+abbrev pub GetsPlace : Vec ℕ → ℕ → List (Vec ℕ × ℕ) → List (Vec ℕ × ℕ) → ℕ → Type 0
+GetsPlace numbers at old new place =
+    ((place_in old numbers.items ≡ Some place) × (new ≡ old))
+    ⊎ ((place_in old numbers.items ≡ None) × (place ≡ at) × (new ≡ with_place old numbers at))

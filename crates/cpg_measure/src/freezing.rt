@@ -9,6 +9,7 @@ ghost use Rattle.cpg_times.specs.Plan.{plan_of};
 ghost use Rattle.cpg_measure.specs.FrozenItems.{is_frozen_message, frozen_starts, frozen_messages, frozen_items_of, frozen_along};
 ghost use Rattle.cpg_measure.specs.Latest.{IsUnfrozenTime};
 ghost use Rattle.cpg_measure.specs.Active.{AreExamples};
+ghost use Rattle.cpg_measure.specs.FirstAlike.{AreFirstAlike};
 ghost use Rattle.cpg_measure.specs.Listing.{AreScenarios};
 ghost use Rattle.cpg_measure.specs.Sweep.{AreAlong, place_of};
 
@@ -113,27 +114,29 @@ fn settle(
     Ok(())
 }
 
-/// The times of the frozen items, as `frozen_times` has them, given scenarios that show what can be active. These go along the
-/// order together, as far as the last frozen item, and each frozen item is found at its place.
+/// The times of the frozen items, as `frozen_times` has them, given these items along the order and scenarios that show what
+/// can be active. The scenarios go along the order together, as far as the last frozen item, and each frozen item is found at
+/// its place.
 fn sweep(
     alloc: Global,
     admitted: &Admitted,
     order: &Order,
     plan: &Plan,
     scenarios: &[Scenario],
+    items: &[u32],
 ) -> Result<Frozen, OutOfMemory>
     requires topological { IsTopological admitted.now.graph order.now }
     requires plan { plan.now ≡ plan_of admitted.now.graph }
     requires scenarios { AreExamples admitted.now.graph scenarios.now }
+    requires items { items.now ≡ frozen_along admitted.now.graph order.now }
     ensures frozen { IfOk result (λ frozen. AreFrozenTimes admitted.now.graph order.now frozen) }
     ensures early { IfOk result (λ frozen. AreEarly frozen) }
 {
     let problem = admitted.problem();
-    let items = frozen_items(alloc, problem, order)?;
     let mut frozen = Frozen::none(alloc, problem)?;
     let mut found = beginnings(alloc, problem, scenarios)?;
     let mut place = 0;
-    for item in items.as_slice() {
+    for item in items {
         let next = order.place(problem.producer(*item));
         advance(
             alloc, admitted, order, plan, &frozen, scenarios, &mut found, place, next,
@@ -154,22 +157,38 @@ fn sweep(
     Ok(frozen)
 }
 
-/// The times of the frozen items under an order, in time units, given all scenarios: of each the greatest time that it
-/// would have in some scenario if it were not frozen, and none where it is never active.
+/// The times of the frozen items under an order, in time units, given all scenarios and what `first_alike` answers for them:
+/// of each item the greatest time that it would have in some scenario if it were not frozen, and none where it is never
+/// active. Where nothing is frozen no scenario is gone over.
 pub fn frozen_times(
     alloc: Global,
     admitted: &Admitted,
     order: &Order,
     plan: &Plan,
     scenarios: &[Scenario],
+    firsts: &[usize],
 ) -> Result<Frozen, OutOfMemory>
     requires topological { IsTopological admitted.now.graph order.now }
     requires plan { plan.now ≡ plan_of admitted.now.graph }
     requires scenarios { AreScenarios admitted.now.graph scenarios.now }
+    requires firsts { AreFirstAlike admitted.now.graph scenarios.now firsts.now }
     ensures frozen { IfOk result (λ frozen. AreFrozenTimes admitted.now.graph order.now frozen) }
     ensures early { IfOk result (λ frozen. AreEarly frozen) }
 {
-    let examples = examples(alloc, admitted, scenarios)?;
-    let frozen = sweep(alloc, admitted, order, plan, examples.as_slice())?;
+    let problem = admitted.problem();
+    let items = frozen_items(alloc, problem, order)?;
+    if items.is_empty() {
+        let frozen = Frozen::none(alloc, problem)?;
+        return Ok(frozen);
+    }
+    let examples = examples(alloc, scenarios, firsts)?;
+    let frozen = sweep(
+        alloc,
+        admitted,
+        order,
+        plan,
+        examples.as_slice(),
+        items.as_slice(),
+    )?;
     Ok(frozen)
 }

@@ -85,7 +85,6 @@ pub(crate) fn unfrozen_time(
     requires unset { get_or frozen.now item None ≡ None }
     ensures { IfOk result (IsUnfrozenTime admitted.now.graph order.now frozen.now item) }
 {
-    let _problem = admitted.problem();
     let mut latest = None;
     for at in 0..scenarios.len() {
         let time = time_there(

@@ -5,7 +5,7 @@ ghost use Rattle.cpg_base.specs.Graph.{item_count};
 ghost use Rattle.cpg_times.specs.Known.{AreEarly};
 ghost use Rattle.cpg_measure.specs.Listing.{AreScenarios};
 
-use crate::{excess, frozen_times, has_few_scenarios, runs, scenarios, worst};
+use crate::{excess, first_alike, frozen_times, has_few_scenarios, runs, scenarios, worst};
 use cpg_base::{Edge, Name, OutOfMemory, Problem, Process, Scenario, Slot};
 use cpg_rules::{Admitted, admit};
 use cpg_run::{Frozen, RunTimes};
@@ -91,7 +91,15 @@ fn frozen(alloc: Global, admitted: &Admitted, scenarios: &[Scenario]) -> Result<
     ensures early { IfOk result AreEarly }
 {
     let plan = Plan::of(alloc, admitted.problem())?;
-    let frozen = frozen_times(alloc, admitted, admitted.order(), &plan, scenarios)?;
+    let firsts = first_alike(alloc, admitted, scenarios)?;
+    let frozen = frozen_times(
+        alloc,
+        admitted,
+        admitted.order(),
+        &plan,
+        scenarios,
+        firsts.as_slice(),
+    )?;
     Ok(frozen)
 }
 
@@ -119,7 +127,16 @@ fn run_all(
 {
     let frozen = frozen(alloc, admitted, scenarios)?;
     let plan = Plan::of(alloc, admitted.problem())?;
-    let runs = runs(alloc, admitted, admitted.order(), &plan, &frozen, scenarios)?;
+    let firsts = first_alike(alloc, admitted, scenarios)?;
+    let runs = runs(
+        alloc,
+        admitted,
+        admitted.order(),
+        &plan,
+        &frozen,
+        scenarios,
+        firsts.as_slice(),
+    )?;
     Ok(runs)
 }
 

@@ -7,7 +7,7 @@ ghost use Rattle.cpg_table.specs.Shape.{items_of};
 
 use crate::rows;
 use cpg_base::{Edge, Name, OutOfMemory, Problem, Process, Scenario, Slot};
-use cpg_measure::{frozen_times, has_few_scenarios, runs, scenarios};
+use cpg_measure::{first_alike, frozen_times, has_few_scenarios, runs, scenarios};
 use cpg_rules::{Admitted, admit};
 use cpg_table::Row;
 use cpg_times::Plan;
@@ -125,8 +125,10 @@ fn rows_by(alloc: Global, admitted: &Admitted, scenarios: &[Scenario]) -> Result
 {
     let order = admitted.order();
     let plan = Plan::of(alloc, admitted.problem())?;
-    let frozen = frozen_times(alloc, admitted, order, &plan, scenarios)?;
-    let runs = runs(alloc, admitted, order, &plan, &frozen, scenarios)?;
+    let firsts = first_alike(alloc, admitted, scenarios)?;
+    let firsts = firsts.as_slice();
+    let frozen = frozen_times(alloc, admitted, order, &plan, scenarios, firsts)?;
+    let runs = runs(alloc, admitted, order, &plan, &frozen, scenarios, firsts)?;
     let rows = rows(alloc, admitted, order, &frozen, scenarios, runs.as_slice())?;
     Ok(rows)
 }

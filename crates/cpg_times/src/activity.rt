@@ -12,8 +12,8 @@ use cpg_base::{OutOfMemory, Problem, Scenario};
 use cpg_guard::GuardTrees;
 use std::alloc::Global;
 
-/// Whether a process is active.
-pub(crate) fn is_active(
+/// Whether a process is active in a scenario, by the guards of an admitted graph.
+pub fn is_active(
     problem: &Problem,
     guards: &GuardTrees,
     scenario: &Scenario,

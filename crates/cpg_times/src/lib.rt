@@ -11,6 +11,7 @@ mod stepping;
 mod tests;
 mod waiting;
 
+pub use activity::is_active;
 pub use plan::Plan;
 pub use running::{run, run_by};
 pub use stepping::Progress;

@@ -11,6 +11,13 @@ use Rattle.cpg_list.proofs.Written.{are_writable}
 use Rattle.cpg_list.proofs.BuiltTables.{admitted_under, built_for}
 use Rattle.cpg_list.proofs.listing.build.Goals as goal
 
+pub first_alike-requires : goal.first_alike-requires
+first_alike-requires c =
+    let g = c.args.admitted.now.graph in
+    let list : List Scenario = c.in_ok-scenarios.scenarios.items in
+    let are : AreScenarios g list = subst (λ (h : Graph). AreScenarios h list) c.problem-problem.ensures.problem c.in_ok-scenarios.ensures in
+    subst (All (IsScenario g)) (sym c.as_slice-scenarios.ensures.value) (All-weaker (Contains list) (IsScenario g) are.lawful list (All-contains_itself list))
+
 pub runs-requires-clause-scenarios : goal.runs-requires-clause-scenarios
 runs-requires-clause-scenarios c =
     let g = c.args.admitted.now.graph in

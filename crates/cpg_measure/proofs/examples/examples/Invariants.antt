@@ -1,10 +1,8 @@
-use Rattle.std.proofs.Common.{length}
-use Rattle.cpg_measure.specs.Placed.{ArePlaced}
+use Rattle.cpg_base.specs.Graph.{Graph}
+use Rattle.cpg_measure.specs.FirstAlike.{AreFirstAlike}
+use Rattle.cpg_measure.specs.Listing.{AreScenarios}
 use Rattle.cpg_measure.proofs.Showing.{AreFirstExamples}
 use Rattle.cpg_measure.proofs.examples.examples.Given as goal
 
 abbrev pub invariant-loop-at : goal.invariant-loop-at
-invariant-loop-at l = record {
-  shown : AreFirstExamples l.admitted.graph l.at l.scenarios l.list.items;
-  places : ArePlaced l.admitted.graph l.list.items (length l.list.items) l.places.entries;
-}
+invariant-loop-at l = (g : Graph) → AreScenarios g l.scenarios → AreFirstAlike g l.scenarios l.firsts → AreFirstExamples g l.at l.scenarios l.list.items

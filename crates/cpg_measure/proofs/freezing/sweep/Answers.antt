@@ -4,41 +4,37 @@ use Rattle.cpg_base.specs.Scenario.{IsScenario}
 use Rattle.cpg_base.specs.Graph.{Graph, process_count, item_count, producer}
 use Rattle.cpg_order.specs.Urgency.{place}
 use Rattle.cpg_order.proofs.Places.{length_order}
-use Rattle.cpg_measure.specs.FrozenItems.{frozen_along}
 use Rattle.cpg_measure.specs.Sweep.{AreAlong, place_of}
 use Rattle.cpg_measure.proofs.FrozenOrder.{later_moment}
 use Rattle.cpg_measure.proofs.Settled.{item_frozen, next_within, next_unset, settled_early, settled_first, settled_more, settled_all}
 use Rattle.cpg_measure.proofs.Swept.{along_kept, later_place}
 use Rattle.cpg_measure.proofs.freezing.sweep.Goals as goal
 
-pub frozen_items-requires : goal.frozen_items-requires
-frozen_items-requires c = length_order (process_count c.args.admitted.now.graph) c.args.order.now c.requires.topological.all ∙ sym (ap process_count c.problem-problem.ensures.problem)
-
 pub loop-item-init : goal.loop-item-init
 loop-item-init c = record {
-  settled = settled_first c.args.admitted.now.graph c.args.order.now c.requires.topological c.as_slice-item-items.result.now c.in_ok-frozen.frozen c.problem-problem.result.now
-      (c.as_slice-item-items.ensures.value ∙ c.in_ok-items.ensures ∙ ap (λ h. frozen_along h c.args.order.now) c.problem-problem.ensures.problem) c.in_ok-frozen.ensures c.problem-problem.ensures.problem;
+  settled = settled_first c.args.admitted.now.graph c.args.order.now c.requires.topological c.args.items.now c.in_ok-frozen.frozen c.problem-problem.result.now
+      c.requires.items c.in_ok-frozen.ensures c.problem-problem.ensures.problem;
   along = subst (λ (h : Graph). AreAlong h c.args.order.now c.in_ok-frozen.frozen 0 c.args.scenarios.now c.in_ok-found.found.items) c.problem-problem.ensures.problem (c.in_ok-found.ensures c.args.order.now c.in_ok-frozen.frozen);
   ahead = λ j l k. omega arith;
 }
 
 pub producer-requires : goal.producer-requires
 producer-requires c =
-    subst (λ (h : Graph). get_or c.as_slice-item-items.result.now c.loop-item.item-index 0 < item_count h) (sym c.problem-problem.ensures.problem)
-    (next_within c.args.admitted.now.graph c.args.order.now c.requires.topological c.as_slice-item-items.result.now c.loop-item.item-index c.loop-item.frozen c.loop-item.invariant.settled c.loop-item-test.true)
+    subst (λ (h : Graph). get_or c.args.items.now c.loop-item.item-index 0 < item_count h) (sym c.problem-problem.ensures.problem)
+    (next_within c.args.admitted.now.graph c.args.order.now c.requires.topological c.args.items.now c.loop-item.item-index c.loop-item.frozen c.loop-item.invariant.settled c.loop-item-test.true)
 
 pub place-next-requires : goal.place-next-requires
 place-next-requires c = omega (arith, c.producer.ensures.within, ap process_count c.problem-problem.ensures.problem, length_order (process_count c.args.admitted.now.graph) c.args.order.now c.requires.topological.all)
 
 pub advance-requires-clause-early : goal.advance-requires-clause-early
 advance-requires-clause-early c =
-    settled_early c.args.admitted.now.graph c.args.order.now c.requires.topological c.as_slice-item-items.result.now c.loop-item.item-index c.loop-item.frozen c.loop-item.invariant.settled c.problem-problem.ensures.admitted.limits
+    settled_early c.args.admitted.now.graph c.args.order.now c.requires.topological c.args.items.now c.loop-item.item-index c.loop-item.frozen c.loop-item.invariant.settled c.problem-problem.ensures.admitted.limits
 
 pub advance-requires-clause-ahead : goal.advance-requires-clause-ahead
 advance-requires-clause-ahead c =
     let g = c.args.admitted.now.graph in
     let order = c.args.order.now in
-    let x = get_or c.as_slice-item-items.result.now c.loop-item.item-index 0 in
+    let x = get_or c.args.items.now c.loop-item.item-index 0 in
     let there : c.place-next.result ≡ place_of g order x = c.place-next.ensures.place ∙ ap (place order) (c.producer.ensures.producer ∙ ap (λ (h : Graph). producer h x) c.problem-problem.ensures.problem) in
     omega (arith, there, c.loop-item.invariant.ahead c.loop-item.item-index (omega arith) c.loop-item-test.true)
 
@@ -47,29 +43,29 @@ advance-requires-clause-place c = omega (arith, c.place-next.ensures.within, len
 
 pub settle-requires-clause-early : goal.settle-requires-clause-early
 settle-requires-clause-early c =
-    settled_early c.args.admitted.now.graph c.args.order.now c.requires.topological c.as_slice-item-items.result.now c.loop-item.item-index c.loop-item.frozen c.loop-item.invariant.settled c.problem-problem.ensures.admitted.limits
+    settled_early c.args.admitted.now.graph c.args.order.now c.requires.topological c.args.items.now c.loop-item.item-index c.loop-item.frozen c.loop-item.invariant.settled c.problem-problem.ensures.admitted.limits
 
 pub settle-requires-clause-place : goal.settle-requires-clause-place
 settle-requires-clause-place c = omega (arith, c.place-next.ensures.within, length_order (process_count c.args.admitted.now.graph) c.args.order.now c.requires.topological.all)
 
 pub settle-requires-clause-item : goal.settle-requires-clause-item
 settle-requires-clause-item c =
-    next_within c.args.admitted.now.graph c.args.order.now c.requires.topological c.as_slice-item-items.result.now c.loop-item.item-index c.loop-item.frozen c.loop-item.invariant.settled c.loop-item-test.true
+    next_within c.args.admitted.now.graph c.args.order.now c.requires.topological c.args.items.now c.loop-item.item-index c.loop-item.frozen c.loop-item.invariant.settled c.loop-item-test.true
 
 pub settle-requires-clause-there : goal.settle-requires-clause-there
 settle-requires-clause-there c =
-    let x = get_or c.as_slice-item-items.result.now c.loop-item.item-index 0 in
+    let x = get_or c.args.items.now c.loop-item.item-index 0 in
     sym (c.place-next.ensures.place ∙ ap (place c.args.order.now) (c.producer.ensures.producer ∙ ap (λ (h : Graph). producer h x) c.problem-problem.ensures.problem))
 
 pub settle-requires-clause-unset : goal.settle-requires-clause-unset
 settle-requires-clause-unset c =
-    next_unset c.args.admitted.now.graph c.args.order.now c.requires.topological c.as_slice-item-items.result.now c.loop-item.item-index c.loop-item.frozen c.loop-item.invariant.settled c.loop-item-test.true
+    next_unset c.args.admitted.now.graph c.args.order.now c.requires.topological c.args.items.now c.loop-item.item-index c.loop-item.frozen c.loop-item.invariant.settled c.loop-item-test.true
 
 pub loop-item-preserved : goal.loop-item-preserved
 loop-item-preserved c =
     let g = c.args.admitted.now.graph in
     let order = c.args.order.now in
-    let items = c.as_slice-item-items.result.now in
+    let items = c.args.items.now in
     let n = c.loop-item.item-index in
     let x = get_or items n 0 in
     let there : place_of g order x ≡ c.place-next.result = sym (c.place-next.ensures.place ∙ ap (place order) (c.producer.ensures.producer ∙ ap (λ (h : Graph). producer h x) c.problem-problem.ensures.problem)) in
@@ -85,12 +81,12 @@ loop-item-preserved c =
 
 pub returns-clause-frozen : goal.returns-clause-frozen
 returns-clause-frozen c =
-    settled_all c.args.admitted.now.graph c.args.order.now c.requires.topological c.as_slice-item-items.result.now c.loop-item.item-index c.loop-item.frozen c.loop-item.invariant.settled
+    settled_all c.args.admitted.now.graph c.args.order.now c.requires.topological c.args.items.now c.loop-item.item-index c.loop-item.frozen c.loop-item.invariant.settled
     (omega (arith, c.loop-item-test.false, c.loop-item.auto.item-index-end))
 
 pub returns-clause-early : goal.returns-clause-early
 returns-clause-early c =
-    settled_early c.args.admitted.now.graph c.args.order.now c.requires.topological c.as_slice-item-items.result.now c.loop-item.item-index c.loop-item.frozen c.loop-item.invariant.settled c.problem-problem.ensures.admitted.limits
+    settled_early c.args.admitted.now.graph c.args.order.now c.requires.topological c.args.items.now c.loop-item.item-index c.loop-item.frozen c.loop-item.invariant.settled c.problem-problem.ensures.admitted.limits
 
 pub advance-requires-clause-scenarios : goal.advance-requires-clause-scenarios
 advance-requires-clause-scenarios c =

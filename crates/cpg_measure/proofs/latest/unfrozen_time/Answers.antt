@@ -26,5 +26,5 @@ loop-at-preserved c =
 
 pub returns : goal.returns
 returns c =
-    latest_is c.args.admitted.now.graph c.args.order.now c.requires.topological c.args.frozen.now c.args.item c.args.scenarios.now c.args.admitted.now.order c.problem-problem.ensures.admitted.urgency c.problem-problem.ensures.admitted.topological c.requires.scenarios c.requires.item c.requires.unset
+    latest_is c.args.admitted.now.graph c.args.order.now c.requires.topological c.args.frozen.now c.args.item c.args.scenarios.now c.requires.scenarios c.requires.item c.requires.unset
     c.loop-at.at c.loop-at.latest (omega (arith, c.loop-at-test.false, c.loop-at.auto.at-end)) c.loop-at.invariant
