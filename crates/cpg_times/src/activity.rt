@@ -13,12 +13,7 @@ use cpg_guard::GuardTrees;
 use std::alloc::Global;
 
 /// Whether a process is active in a scenario, by the guards of an admitted graph.
-pub fn is_active(
-    problem: &Problem,
-    guards: &GuardTrees,
-    scenario: &Scenario,
-    process: u32,
-) -> bool
+pub fn is_active(problem: &Problem, guards: &GuardTrees, scenario: &Scenario, process: u32) -> bool
     requires admitted { AreAdmitted problem.now guards.now }
     requires scenario { IsScenario problem.now scenario.now }
     requires process { process < process_count problem.now }
