@@ -2,6 +2,8 @@
 #![tactic(auto)]
 
 mod heads;
+#[cfg(test)]
+mod tests;
 mod verdict;
 
 pub use heads::HeadPart;
