@@ -70,7 +70,7 @@ unbuilt_command_named h (inl e) = unbuilt_named h e
 unbuilt_command_named h (inr e) = named_as h Memory e tt
 
 compile_named : (a : Admission) (h : Halt) → StopsCompile a h → IsNamed h
-compile_named a h (inl unbuilt) = unbuilt_named h unbuilt.0
+compile_named a h (inl unlisted) = unbuilt_named h unlisted.unbuilt
 compile_named a h (inr wrong) = named_as h _ wrong.halt_is (of_compile a wrong.fault wrong.shows)
 
 of_pack : (fault : PackFault) → IsNamed (halt_of_pack fault)
