@@ -183,7 +183,7 @@ pub(crate) fn add_row(
     ensures known { IfOk result (λ _. All (IsKnown problem.now) told.new.items) }
     ensures told { IfOk result (λ _. (s : Scenario) → IsScenario problem.now s → matches cube.now s ≡ true → list_any (λ b. matches b s) told.new.items ≡ (list_any (λ b. matches b s) told.old.items || row_tells problem.now teller.now.telling time bound teller.now.columns.now s)) }
 {
-    let places = teller.sieve.candidates(alloc, cube)?;
+    let places = teller.sieve.candidates(alloc, teller.columns, cube)?;
     for place in places.as_slice() {
         let part = part_at(problem, teller.telling, teller.columns, *place, time, bound)?;
         add(told, part)?;

@@ -80,7 +80,7 @@ fn shared_before(
     ensures { IfOk result (IsFirst problem.now order.now (is_double columns.now column)) }
 {
     let cube = &columns[column].cube;
-    let places = sieve.candidates(alloc, cube)?;
+    let places = sieve.candidates(alloc, columns, cube)?;
     let others = &columns[..column];
     let found = shared(alloc, problem, order, cube, others, places.as_slice())?;
     Ok(found)

@@ -9,8 +9,7 @@ use Rattle.cpg_order.specs.Scenario.{Scenario}
 use Rattle.cpg_cube.specs.Cube.{matches}
 use Rattle.cpg_cube.specs.declared.literal.Literal.{Literal}
 use Rattle.cpg_table.specs.Table.{Column}
-use Rattle.cpg_violation.specs.Parted.{Parted}
-use Rattle.cpg_violation.specs.Sieves.{IsSieveOf, column_at, places_in}
+use Rattle.cpg_violation.specs.Sieves.{column_at}
 
 -- the columns at these places are found
 abbrev pub AreFound : List Column → List Column → List ℕ → Type 0
@@ -41,9 +40,9 @@ module _ (columns : List Column) (places : List ℕ) (k d : ℕ) (l : k < length
   ]
 
 -- a test that only columns pass that match together with the cube
-pub same_found : (columns found : List Column) (places : List ℕ) (cube : List Literal) (parted : Parted) → IsSieveOf columns parted → All (λ c. Contains columns c) found → AreFound columns found places
-    → ((s : Scenario) (i : ℕ) → matches cube s ≡ true → Contains (places_in parted s) i → Contains places i) → (s : Scenario) (test : Column → Bool) → ((c : Column) → test c ≡ true → (matches cube s ≡ true) × (matches c.cube s ≡ true)) → list_any test found ≡ list_any test columns
-same_found columns found places cube parted sieve among all candidates s test both = same_truth _ _
+pub same_found : (columns found : List Column) (places : List ℕ) (cube : List Literal) → All (λ c. Contains columns c) found → AreFound columns found places
+    → ((s : Scenario) (i : ℕ) → i < length columns → matches (column_at columns i).cube s ≡ true → matches cube s ≡ true → Contains places i) → (s : Scenario) (test : Column → Bool) → ((c : Column) → test c ≡ true → (matches cube s ≡ true) × (matches c.cube s ≡ true)) → list_any test found ≡ list_any test columns
+same_found columns found places cube among all candidates s test both = same_truth _ _
     (λ t. let r = list_any_parts test found t in list_any_true test columns r.0 (All-contains (λ c. Contains columns c) found r.0 among r.1) r.2)
     (λ t.
     let r = list_any_parts test columns t in
@@ -51,7 +50,7 @@ same_found columns found places cube parted sieve among all candidates s test bo
     let i : ℕ = r.1.0 in
     let at : column_at columns i ≡ c = get_or_default columns i (record { time = 0; cube = [] }) c r.1.1 ∙ r.1.2 in
     let m = both c r.2 in
-    let place = candidates s i m.0 (sieve.found s i r.1.1 (ap (λ (d : Column). matches d.cube s) at ∙ m.1)) in
+    let place = candidates s i r.1.1 (ap (λ (d : Column). matches d.cube s) at ∙ m.1) m.0 in
     list_any_true test found c (subst (Contains found) at (all i place r.1.1)) r.2)
 
 -- times that none is before or after

@@ -104,7 +104,7 @@ pub(crate) fn meeting<'a>(
     ensures same { IfOk result (λ found. (s : Scenario) (test : Column → Bool) → ((d : Column) → test d ≡ true → (matches cube.now s ≡ true) × (matches d.cube s ≡ true)) → list_any test (map (λ b. b.now) found.items) ≡ list_any test line.now.columns.now) }
     ensures among { IfOk result (λ found. All (λ d. Contains line.now.columns.now d) (map (λ b. b.now) found.items)) }
 {
-    let places = line.sieve.candidates(alloc, cube)?;
+    let places = line.sieve.candidates(alloc, line.columns, cube)?;
     let mut found = Vec::new(alloc);
     found.reserve(places.len())?;
     for place in &places {

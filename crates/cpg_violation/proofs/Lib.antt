@@ -4,3 +4,4 @@ pub mod ActiveWhere
 pub mod HeadLaws
 pub mod Columnwise
 pub mod SieveLaws
+pub mod ApartLaws

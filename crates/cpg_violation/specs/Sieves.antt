@@ -2,8 +2,13 @@
 use Rattle.std.specs.Prelude.{ℕ, ◌≡◌, ◌<◌, Bool, true, ◌&&◌, nat_lt, nat_le, if◌then◌else◌, List, [], Contains, length, get_or}
 use Rattle.cpg_order.specs.Scenario.{Scenario, number_of}
 use Rattle.cpg_cube.specs.Cube.{matches}
+use Rattle.cpg_cube.specs.declared.literal.Literal.{Literal}
 use Rattle.cpg_table.specs.Table.{Column}
 use Rattle.cpg_violation.specs.Parted.{Parted, Leaf, Cut}
+
+-- whether two ranges have a number in common
+abbrev pub touch : Literal → Literal → Bool
+touch l m = nat_le l.low m.high && nat_le m.low l.high
 
 -- the places to which a scenario comes
 abbrev pub places_in : Parted → Scenario → List ℕ

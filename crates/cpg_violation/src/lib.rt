@@ -2,6 +2,7 @@
 #![tactic(auto)]
 
 mod activity;
+mod apart;
 mod columns;
 mod earliest;
 mod edges;

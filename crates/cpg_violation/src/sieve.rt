@@ -1,11 +1,12 @@
 //! Columns sorted by the ranges of their literals, so that those that may match together with a cube are found without a
 //! look at each.
-ghost use Rattle.std.specs.Prelude.{◌≡◌, ◌≤◌, ◌<◌, ℕ, Bool, IfOk, Contains, false, length, nat_le, not, true};
+ghost use Rattle.std.specs.Prelude.{◌≡◌, ◌≤◌, ◌<◌, ◌&&◌, ℕ, Bool, IfOk, Contains, false, length, nat_le, not, true};
 ghost use Rattle.std.specs.Bool.{OnFalse};
 ghost use Rattle.cpg_order.specs.Scenario.{Scenario, number_of};
 ghost use Rattle.cpg_cube.specs.Cube.{holds, matches};
 ghost use Rattle.cpg_violation.specs.Sieves.{IsSieveOf, Sifts, column_at, places_in};
 
+use crate::apart::may_meet;
 use cpg_base::OutOfMemory;
 use cpg_cube::{Cube, Literal};
 use cpg_table::Entry;
@@ -249,6 +250,34 @@ fn sifted(
     })
 }
 
+/// Whether the column at a place may match some scenario together with a cube; not where there is no column.
+fn column_may_meet(columns: &[Entry], place: u32, cube: &Cube) -> bool
+    ensures { OnFalse result ((s : Scenario) → place < length columns.now → (matches cube.now s && matches (column_at columns.now place).cube s) ≡ false) }
+{
+    let Some(column) = columns.get(place as usize) else {
+        return false;
+    };
+    may_meet(cube.literals(), column.cube.literals())
+}
+
+/// Those of these places whose columns may match some scenario together with a cube.
+fn meeting(
+    alloc: Global,
+    columns: &[Entry],
+    places: &[u32],
+    cube: &Cube,
+) -> Result<Vec<u32>, OutOfMemory>
+    ensures { IfOk result (λ kept. (s : Scenario) (i : ℕ) → Contains places.now i → i < length columns.now → matches (column_at columns.now i).cube s ≡ true → matches cube.now s ≡ true → Contains kept.items i) }
+{
+    let mut kept = Vec::new(alloc);
+    for place in places {
+        if column_may_meet(columns, *place, cube) {
+            kept.push(*place)?;
+        }
+    }
+    Ok(kept)
+}
+
 impl Sieve {
     /// The columns of a row, by place.
     pub fn of(alloc: Global, columns: &[Entry]) -> Result<Sieve, OutOfMemory>
@@ -311,13 +340,20 @@ impl Sieve {
         }
     }
 
-    /// The places of columns among which each is that matches some scenario together with a cube. Some may stand there
-    /// that don't, and some twice.
-    pub fn candidates(&self, alloc: Global, cube: &Cube) -> Result<Vec<u32>, OutOfMemory>
-        ensures { IfOk result (λ found. (s : Scenario) (i : ℕ) → matches cube.now s ≡ true → Contains (places_in self.now s) i → Contains found.items i) }
+    /// Of the row's columns the places among which each is that matches some scenario together with a cube. Some may stand
+    /// there that don't, for want of faults, and some twice.
+    pub fn candidates(
+        &self,
+        alloc: Global,
+        columns: &[Entry],
+        cube: &Cube,
+    ) -> Result<Vec<u32>, OutOfMemory>
+        requires { IsSieveOf columns.now self.now }
+        ensures { IfOk result (λ kept. (s : Scenario) (i : ℕ) → i < length columns.now → matches (column_at columns.now i).cube s ≡ true → matches cube.now s ≡ true → Contains kept.items i) }
     {
         let mut found = Vec::new(alloc);
         self.search(cube, &mut found)?;
-        Ok(found)
+        let kept = meeting(alloc, columns, found.as_slice(), cube)?;
+        Ok(kept)
     }
 }

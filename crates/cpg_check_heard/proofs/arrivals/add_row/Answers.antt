@@ -24,4 +24,4 @@ returns-clause-told c = λ g b s m.
     c.loop-place.invariant.told g b s ∙ ap (λ x. do_tell g c.args.time b c.args.arrivals.now.items s || x)
     (ap (list_any (is_telling_at g t.telling c.args.time b t.columns.now s)) (take_all c.loop-place.place-index places c.loop-place-test.false)
     ∙ row_all g t.telling c.args.time b t.columns.now places s
-    (λ j l at. subst (λ xs. Contains xs j) (sym c.as_slice-place-items.ensures.value) (c.in_ok-places.ensures s j m (c.requires.found s j l at))))
+    (λ j l at. subst (λ xs. Contains xs j) (sym c.as_slice-place-items.ensures.value) (c.in_ok-places.ensures s j l at m)))

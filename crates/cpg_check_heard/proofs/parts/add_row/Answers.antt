@@ -25,4 +25,4 @@ returns-clause-told c = λ s i m.
     c.loop-place.invariant.told s i ∙ ap (λ t. list_any (λ b. matches b s) c.args.told.now.items || t)
     (ap (list_any (is_telling_at g c.args.teller.now.telling c.args.time c.args.bound c.args.teller.now.columns.now s)) (take_all c.loop-place.place-index places c.loop-place-test.false)
     ∙ row_all g c.args.teller.now.telling c.args.time c.args.bound c.args.teller.now.columns.now places s
-    (λ j l t. subst (λ xs. Contains xs j) (sym c.as_slice-place-items.ensures.value) (c.in_ok-places.ensures s j m (c.requires.sieve.found s j l t))))
+    (λ j l t. subst (λ xs. Contains xs j) (sym c.as_slice-place-items.ensures.value) (c.in_ok-places.ensures s j l t m)))

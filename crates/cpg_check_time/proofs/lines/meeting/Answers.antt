@@ -1,11 +1,11 @@
-use Rattle.std.proofs.Common.{ℕ, ◌≡◌, ◌≤◌, ◌∙◌, true, length, get_or, map, All, Contains, ap, sym, subst, Bor}
+use Rattle.std.proofs.Common.{ℕ, ◌≡◌, ◌≤◌, ◌<◌, ◌∙◌, true, length, get_or, map, All, Contains, ap, sym, subst, Bor}
 use Rattle.std.proofs.lemmas.List.{take_all}
 use Rattle.std.proofs.lemmas.List.Elements.{All-nil}
 use Rattle.cpg_base.proofs.Lists.{Contains-nil}
 use Rattle.cpg_order.specs.Scenario.{Scenario}
 use Rattle.cpg_cube.specs.Cube.{matches}
 use Rattle.cpg_table.specs.Table.{Column}
-use Rattle.cpg_violation.specs.Sieves.{places_in}
+use Rattle.cpg_violation.specs.Sieves.{column_at}
 use Rattle.cpg_check_time.proofs.LineLaws.{AreFound, found_more, among_more, same_found}
 use Rattle.cpg_check_time.proofs.lines.meeting.Goals as goal
 
@@ -36,5 +36,5 @@ returns-clause-same c =
     let columns = c.args.line.now.columns.now in
     let places = c.deref-place-items.result.now in
     let all : AreFound columns (map at c.loop-place.found.items) places = subst (AreFound columns (map at c.loop-place.found.items)) (take_all c.loop-place.place-index places c.loop-place-test.false) c.loop-place.invariant.all in
-    let candidates : (s : Scenario) (i : ℕ) → matches c.args.cube.now s ≡ true → Contains (places_in c.args.line.now.sieve s) i → Contains places i = rw c.deref-place-items.ensures.value c.in_ok-places.ensures in
-    same_found columns (map at c.loop-place.found.items) places c.args.cube.now c.args.line.now.sieve c.requires.sieve c.loop-place.invariant.among all candidates
+    let candidates : (s : Scenario) (i : ℕ) → i < length columns → matches (column_at columns i).cube s ≡ true → matches c.args.cube.now s ≡ true → Contains places i = rw c.deref-place-items.ensures.value c.in_ok-places.ensures in
+    same_found columns (map at c.loop-place.found.items) places c.args.cube.now c.loop-place.invariant.among all candidates

@@ -1,0 +1,8 @@
+use Rattle.std.proofs.Common.{◌≡◌, ◌<◌, ℕ, Contains, length, true, take}
+use Rattle.cpg_order.specs.Scenario.{Scenario}
+use Rattle.cpg_cube.specs.Cube.{matches}
+use Rattle.cpg_violation.specs.Sieves.{column_at}
+use Rattle.cpg_violation.proofs.sieve.meeting.Given as goal
+
+abbrev pub invariant-loop-place : goal.invariant-loop-place
+invariant-loop-place l = (s : Scenario) (i : ℕ) → Contains (take l.place-index l.places) i → i < length l.columns → matches (column_at l.columns i).cube s ≡ true → matches l.cube s ≡ true → Contains l.kept.items i

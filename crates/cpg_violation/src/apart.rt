@@ -1,0 +1,33 @@
+//! Cubes that no scenario matches together.
+ghost use Rattle.std.specs.Prelude.{◌≡◌, ◌&&◌, false};
+ghost use Rattle.std.specs.Bool.{OnFalse};
+ghost use Rattle.cpg_order.specs.Scenario.{Scenario};
+ghost use Rattle.cpg_cube.specs.Cube.{matches};
+ghost use Rattle.cpg_violation.specs.Sieves.{touch};
+
+use cpg_cube::Literal;
+
+/// Whether two ranges have a number in common.
+fn touch(first: &Literal, second: &Literal) -> bool
+    ensures { result ≡ touch first.now second.now }
+{
+    first.low <= second.high && second.low <= first.high
+}
+
+/// Whether a scenario may match two lists of literals, both by rising variables: not where they ask for other numbers of a
+/// variable.
+pub(crate) fn may_meet(first: &[Literal], second: &[Literal]) -> bool
+    ensures { OnFalse result ((s : Scenario) → (matches first.now s && matches second.now s) ≡ false) }
+{
+    let (Some((one, rest)), Some((other, others))) = (first.split_first(), second.split_first())
+    else {
+        return true;
+    };
+    if one.variable < other.variable {
+        return may_meet(rest, second);
+    }
+    if one.variable > other.variable {
+        return may_meet(first, others);
+    }
+    touch(one, other) && may_meet(rest, others)
+}
