@@ -40,23 +40,23 @@ fn two_nodes(alloc: Global, length: u64) -> Result<Problem, Fail>
 #[test]
 fn finds_slots(rt: HostRuntime) -> Result<(), Fail> {
     let problem = two_nodes(rt.alloc(), 1_000_000_000)?;
-    assert_eq!(rt; occurrence(&problem, 0, 0), 10);
-    assert_eq!(rt; occurrence(&problem, 0, 2), 2_000_000_030);
-    assert_eq!(rt; arrival(&problem, 1, 1), 1_000_000_020);
-    assert_eq!(rt; first_from(&problem, 0, 0), 0);
-    assert_eq!(rt; first_from(&problem, 0, 10), 0);
-    assert_eq!(rt; first_from(&problem, 0, 11), 1);
-    assert_eq!(rt; next_slot(&problem, 1, 10), 1_000_000_010);
-    assert_eq!(rt; Share::of(&problem, 1).length(), 10);
-    assert_eq!(rt; Share::of(&problem, 1).round(), 1_000_000_010);
+    assert!(rt; occurrence(&problem, 0, 0) == 10);
+    assert!(rt; occurrence(&problem, 0, 2) == 2_000_000_030);
+    assert!(rt; arrival(&problem, 1, 1) == 1_000_000_020);
+    assert!(rt; first_from(&problem, 0, 0) == 0);
+    assert!(rt; first_from(&problem, 0, 10) == 0);
+    assert!(rt; first_from(&problem, 0, 11) == 1);
+    assert!(rt; next_slot(&problem, 1, 10) == 1_000_000_010);
+    assert!(rt; Share::of(&problem, 1).length() == 10);
+    assert!(rt; Share::of(&problem, 1).round() == 1_000_000_010);
     Ok(())
 }
 
 #[test]
 fn finds_a_start_at_the_time_itself(rt: HostRuntime) -> Result<(), Fail> {
     let problem = two_nodes(rt.alloc(), 10)?;
-    assert_eq!(rt; first_from(&problem, 1, 40), 2);
-    assert_eq!(rt; first_from(&problem, 1, 41), 3);
-    assert_eq!(rt; next_slot(&problem, 1, 41), 60);
+    assert!(rt; first_from(&problem, 1, 40) == 2);
+    assert!(rt; first_from(&problem, 1, 41) == 3);
+    assert!(rt; next_slot(&problem, 1, 41) == 60);
     Ok(())
 }

@@ -7,7 +7,7 @@ use crate::{check_activity, check_hears, check_present, check_rows, check_single
 use cpg_base::{Edge, Name, Problem, Process};
 use cpg_cube::{Cube, Literal};
 use cpg_rules::{Admitted, admit};
-use cpg_table::{Entry, NodeTable, Row, Tables, head_of};
+use cpg_table::{Entry, Fault, NodeTable, Row, Tables, head_of};
 use std::alloc::Global;
 use std::test::Fail;
 
@@ -115,43 +115,54 @@ fn for_one_fault(alloc: Global, admitted: &Admitted) -> Result<Tables, Fail>
     Ok(tables)
 }
 
-#[test]
-fn rows_for_one_fault(rt: HostRuntime) -> Result<(), Fail> {
-    let alloc = rt.alloc();
+/// Where a fault stands, and the number of a variable in its scenario.
+#[derive(Clone, Copy, PartialEq)]
+struct Place {
+    rule: u8,
+    item: u32,
+    column: Option<u32>,
+    number: u8,
+}
+
+/// The place of a fault, if there is one.
+fn place_of(fault: Option<Fault>, variable: u8) -> Option<Place> {
+    let fault = fault?;
+    Some(Place {
+        rule: fault.rule,
+        item: fault.item,
+        column: fault.column,
+        number: fault.scenario.number(variable),
+    })
+}
+
+/// Whether the tables for one fault have rows as they are to be, and all that they hear.
+fn is_sound(alloc: Global) -> Result<bool, Fail> {
     let admitted = graph(alloc, 1, Vec::new(alloc))?;
     let tables = for_one_fault(alloc, &admitted)?;
-    assert!(rt; check_rows(alloc, &admitted, &tables)?.is_none());
-    assert!(rt; check_hears(alloc, &admitted, &tables)?.is_none());
-    Ok(())
+    if check_rows(alloc, &admitted, &tables)?.is_some() {
+        return Ok(false);
+    }
+    Ok(check_hears(alloc, &admitted, &tables)?.is_none())
 }
 
-#[test]
-fn a_row_without_a_column(rt: HostRuntime) -> Result<(), Fail> {
-    let alloc = rt.alloc();
+/// What is found where the tables for one fault are those of a graph with two.
+fn found_absent(alloc: Global) -> Result<Option<Place>, Fail> {
     let admitted = graph(alloc, 2, Vec::new(alloc))?;
     let tables = for_one_fault(alloc, &admitted)?;
-    let fault = check_present(alloc, &admitted, &tables)?.ok_or("fault")?;
-    assert_eq!(rt; (fault.rule, fault.item, fault.column), (3, 1, None));
-    assert_eq!(rt; fault.scenario.number(0), 2);
-    Ok(())
+    Ok(place_of(check_present(alloc, &admitted, &tables)?, 0))
 }
 
-#[test]
-fn two_columns_in_one_scenario(rt: HostRuntime) -> Result<(), Fail> {
-    let alloc = rt.alloc();
+/// What is found where both columns of B match.
+fn found_double(alloc: Global) -> Result<Option<Place>, Fail> {
     let admitted = graph(alloc, 1, Vec::new(alloc))?;
     let early = column(alloc, 35, &[at(0, 1)])?;
     let late = column(alloc, 72, &[])?;
     let tables = with(alloc, &admitted, early, late)?;
-    let fault = check_single(alloc, &admitted, &tables)?.ok_or("fault")?;
-    assert_eq!(rt; (fault.rule, fault.item, fault.column), (2, 1, Some(1)));
-    assert_eq!(rt; fault.scenario.number(0), 1);
-    Ok(())
+    Ok(place_of(check_single(alloc, &admitted, &tables)?, 0))
 }
 
-#[test]
-fn a_column_of_an_inactive_process(rt: HostRuntime) -> Result<(), Fail> {
-    let alloc = rt.alloc();
+/// What is found where B has a column for the scenarios in which it is idle.
+fn found_idle(alloc: Global) -> Result<Option<Place>, Fail> {
     let edge = Edge {
         from: 0,
         to: 1,
@@ -164,8 +175,37 @@ fn a_column_of_an_inactive_process(rt: HostRuntime) -> Result<(), Fail> {
     let early = column(alloc, 35, &[at(128, 1)])?;
     let late = column(alloc, 36, &[])?;
     let tables = with(alloc, &admitted, early, late)?;
-    let fault = check_activity(alloc, &admitted, &tables)?.ok_or("fault")?;
-    assert_eq!(rt; (fault.rule, fault.item, fault.column), (1, 1, Some(1)));
-    assert_eq!(rt; fault.scenario.number(128), 0);
+    Ok(place_of(check_activity(alloc, &admitted, &tables)?, 128))
+}
+
+/// Whether B is found, with this rule, column and number.
+fn is_of_b(found: Option<Place>, rule: u8, column: Option<u32>, number: u8) -> bool {
+    let Some(place) = found else {
+        return false;
+    };
+    place.rule == rule && place.item == 1 && place.column == column && place.number == number
+}
+
+#[test]
+fn rows_for_one_fault(rt: HostRuntime) -> Result<(), Fail> {
+    assert!(rt; is_sound(rt.alloc())?);
+    Ok(())
+}
+
+#[test]
+fn a_row_without_a_column(rt: HostRuntime) -> Result<(), Fail> {
+    assert!(rt; is_of_b(found_absent(rt.alloc())?, 3, None, 2));
+    Ok(())
+}
+
+#[test]
+fn two_columns_in_one_scenario(rt: HostRuntime) -> Result<(), Fail> {
+    assert!(rt; is_of_b(found_double(rt.alloc())?, 2, Some(1), 1));
+    Ok(())
+}
+
+#[test]
+fn a_column_of_an_inactive_process(rt: HostRuntime) -> Result<(), Fail> {
+    assert!(rt; is_of_b(found_idle(rt.alloc())?, 1, Some(1), 0));
     Ok(())
 }

@@ -105,12 +105,13 @@ fn two_executions_overlap(rt: HostRuntime) -> Result<(), Fail> {
     let alloc = rt.alloc();
     let (admitted, tables) = three(alloc)?;
     let fault = check_processor(alloc, &admitted, &tables)?.ok_or("fault")?;
-    assert_eq!(rt; (fault.rule, fault.item, fault.column), (6, 2, Some(3)));
+    assert!(rt; fault.rule == 6);
+    assert!(rt; fault.item == 2);
+    assert!(rt; fault.column == Some(3));
     let least = &fault.scenario;
-    assert_eq!(rt;
-        (least.number(0), least.number(1), least.total()),
-        (1, 1, 2)
-    );
+    assert!(rt; least.number(0) == 1);
+    assert!(rt; least.number(1) == 1);
+    assert!(rt; least.total() == 2);
     Ok(())
 }
 
@@ -130,8 +131,10 @@ fn an_end_after_the_deadline(rt: HostRuntime) -> Result<(), Fail> {
     let alloc = rt.alloc();
     let (admitted, tables) = one(alloc, 71, 0)?;
     let fault = check_due(alloc, &admitted, &tables)?.ok_or("fault")?;
-    assert_eq!(rt; (fault.rule, fault.item, fault.column), (9, 0, Some(1)));
-    assert_eq!(rt; fault.scenario.number(0), 1);
+    assert!(rt; fault.rule == 9);
+    assert!(rt; fault.item == 0);
+    assert!(rt; fault.column == Some(1));
+    assert!(rt; fault.scenario.number(0) == 1);
     Ok(())
 }
 
@@ -149,7 +152,9 @@ fn a_frozen_process_with_two_times(rt: HostRuntime) -> Result<(), Fail> {
     let alloc = rt.alloc();
     let (admitted, tables) = one(alloc, 1000, 4)?;
     let fault = check_frozen(alloc, &admitted, &tables)?.ok_or("fault")?;
-    assert_eq!(rt; (fault.rule, fault.item, fault.column), (8, 0, Some(1)));
-    assert_eq!(rt; fault.scenario.number(0), 1);
+    assert!(rt; fault.rule == 8);
+    assert!(rt; fault.item == 0);
+    assert!(rt; fault.column == Some(1));
+    assert!(rt; fault.scenario.number(0) == 1);
     Ok(())
 }

@@ -72,15 +72,15 @@ fn bad_after(alloc: Global, place: usize, byte: u8) -> Option<u64>
 #[test]
 fn finds_damage(rt: HostRuntime) -> Result<(), Fail> {
     let alloc = rt.alloc();
-    assert_eq!(rt; bad_after(alloc, 0, 0), Some(0));
-    assert_eq!(rt; bad_after(alloc, 4, 3), Some(4));
-    assert_eq!(rt; bad_after(alloc, 7, 0x21), Some(7));
-    assert_eq!(rt; bad_after(alloc, 14, 2), Some(14));
-    assert_eq!(rt; bad_after(alloc, 31, 1), Some(34));
-    assert_eq!(rt; bad_after(alloc, 33, 0x40), Some(34));
-    assert_eq!(rt; bad_after(alloc, 34, 2), Some(44));
-    assert_eq!(rt; bad_after(alloc, 43, 1), Some(44));
-    assert_eq!(rt; bad_after(alloc, 43, 2), Some(43));
+    assert!(rt; bad_after(alloc, 0, 0) == Some(0));
+    assert!(rt; bad_after(alloc, 4, 3) == Some(4));
+    assert!(rt; bad_after(alloc, 7, 0x21) == Some(7));
+    assert!(rt; bad_after(alloc, 14, 2) == Some(14));
+    assert!(rt; bad_after(alloc, 31, 1) == Some(34));
+    assert!(rt; bad_after(alloc, 33, 0x40) == Some(34));
+    assert!(rt; bad_after(alloc, 34, 2) == Some(44));
+    assert!(rt; bad_after(alloc, 43, 1) == Some(44));
+    assert!(rt; bad_after(alloc, 43, 2) == Some(43));
     Ok(())
 }
 
@@ -88,12 +88,12 @@ fn finds_damage(rt: HostRuntime) -> Result<(), Fail> {
 fn finds_the_end(rt: HostRuntime) -> Result<(), Fail> {
     let alloc = rt.alloc();
     for end in 0..44 {
-        assert_eq!(rt; bad_place(alloc, &ONE_PROCESS[..end]), Some(end as u64));
+        assert!(rt; bad_place(alloc, &ONE_PROCESS[..end]) == Some(end as u64));
     }
     let mut longer = Vec::with_capacity(alloc, 45)?;
     longer.extend_from_slice(&ONE_PROCESS)?;
     longer.push(0)?;
-    assert_eq!(rt; bad_place(alloc, longer.as_slice()), Some(44));
+    assert!(rt; bad_place(alloc, longer.as_slice()) == Some(44));
     Ok(())
 }
 
@@ -104,10 +104,10 @@ fn finds_damage_in_version_2(rt: HostRuntime) -> Result<(), Fail> {
     for (place, byte) in [0, 0, 0, 0, 0x3b, 0x9a, 0xca, 1].iter().enumerate() {
         late[39 + place] = *byte;
     }
-    assert_eq!(rt; bad_place(alloc, &late), Some(46));
+    assert!(rt; bad_place(alloc, &late) == Some(46));
     let mut mixed = RELEASED;
     mixed[40] = 0;
-    assert_eq!(rt; bad_place(alloc, &mixed), Some(40));
+    assert!(rt; bad_place(alloc, &mixed) == Some(40));
     Ok(())
 }
 
@@ -118,25 +118,26 @@ fn stops_where_the_sink_does(rt: HostRuntime) -> Result<(), Fail> {
         return Ok(());
     };
     let mut sink = MemorySink::new(alloc, 20)?;
-    assert_eq!(rt;
-        write_pack(alloc, &tables, &mut sink).err(),
-        Some(WriteFault::Failed)
-    );
-    assert_eq!(rt; sink.taken(), &ONE_PROCESS[..20]);
+    assert!(rt; write_pack(alloc, &tables, &mut sink).err() == Some(WriteFault::Failed));
+    assert!(rt; sink.taken() == &ONE_PROCESS[..20]);
     Ok(())
 }
 
 #[test]
 fn reads_fields(rt: HostRuntime) -> Result<(), Fail> {
     let process = Fixed::new([3, 1]);
-    assert_eq!(rt; (process_node(&process), process_flag(&process)), (3, 1));
+    assert!(rt; process_node(&process) == 3);
+    assert!(rt; process_flag(&process) == 1);
     let edge = Fixed::new([4, 5]);
-    assert_eq!(rt; (edge_from(&edge), edge_to(&edge)), (4, 5));
+    assert!(rt; edge_from(&edge) == 4);
+    assert!(rt; edge_to(&edge) == 5);
     let literal = Fixed::new([128, 0, 1]);
-    assert_eq!(rt; literal_variable(&literal), 128);
-    assert_eq!(rt; (literal_low(&literal), literal_high(&literal)), (0, 1));
-    assert_eq!(rt; long_number(&Fixed::new([0, 0, 0, 0, 0, 0, 1, 2])), 258);
+    assert!(rt; literal_variable(&literal) == 128);
+    assert!(rt; literal_low(&literal) == 0);
+    assert!(rt; literal_high(&literal) == 1);
+    assert!(rt; long_number(&Fixed::new([0, 0, 0, 0, 0, 0, 1, 2])) == 258);
     let column = Fixed::new([0, 0, 0, 0, 0, 0, 2, 1, 7]);
-    assert_eq!(rt; (column_time(&column), column_literals(&column)), (513, 7));
+    assert!(rt; column_time(&column) == 513);
+    assert!(rt; column_literals(&column) == 7);
     Ok(())
 }

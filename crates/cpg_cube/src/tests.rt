@@ -66,7 +66,7 @@ fn left(rt: &impl Abort, alloc: Global, cubes: &[Cube]) -> Result<Option<[u8; 3]
     let Ok(order) = urgency(alloc, &problem) else {
         return Err("order".into());
     };
-    assert_eq!(rt; order.len(), problem.processes().len());
+    assert!(rt; order.len() == problem.processes().len());
     assert!(rt; are_known(&problem, cubes));
     let whole = Cube::whole(alloc);
     let Some(least) = covers(alloc, &problem, &order, &whole, cubes)? else {
@@ -79,9 +79,9 @@ fn left(rt: &impl Abort, alloc: Global, cubes: &[Cube]) -> Result<Option<[u8; 3]
 fn covers_by_counts(rt: HostRuntime) -> Result<(), Fail> {
     let alloc = rt.alloc();
     let two = vec![in alloc; of_a(alloc, 0)?, of_a(alloc, 1)?]?;
-    assert_eq!(rt; left(&rt, alloc, two.as_slice())?, Some([2, 0, 0]));
+    assert!(rt; left(&rt, alloc, two.as_slice())? == Some([2, 0, 0]));
     let three = vec![in alloc; of_a(alloc, 1)?, of_a(alloc, 2)?, of_a(alloc, 0)?]?;
-    assert_eq!(rt; left(&rt, alloc, three.as_slice())?, None);
+    assert!(rt; left(&rt, alloc, three.as_slice())?.is_none());
     Ok(())
 }
 
@@ -90,7 +90,7 @@ fn leaves_the_least(rt: HostRuntime) -> Result<(), Fail> {
     let alloc = rt.alloc();
     let first = of_both(alloc, 0, 0)?;
     let some = vec![in alloc; first, of_both(alloc, 0, 1)?, of_a(alloc, 1)?]?;
-    assert_eq!(rt; left(&rt, alloc, some.as_slice())?, Some([0, 2, 0]));
+    assert!(rt; left(&rt, alloc, some.as_slice())? == Some([0, 2, 0]));
     Ok(())
 }
 
@@ -100,7 +100,7 @@ fn narrows(rt: HostRuntime) -> Result<(), Fail> {
     let mut low = Cube::whole(alloc);
     low.push(range(0, 0, 1))?;
     let high = low.with(range(0, 1, 2))?.ok_or("with")?.copy()?;
-    assert_eq!(rt; high.literals(), [range(0, 1, 1)].as_slice());
+    assert!(rt; high.literals() == [range(0, 1, 1)].as_slice());
     assert!(rt; low.with(range(0, 2, 2))?.is_none());
     assert!(rt; Cube::new(alloc, &[range(1, 0, 0), range(0, 0, 0)])?.is_none());
     Ok(())
@@ -124,10 +124,9 @@ fn meets_at_the_least(rt: HostRuntime) -> Result<(), Fail> {
     assert!(rt; two.is_known(&problem));
     let mut least = Scenario::zero(alloc, &problem)?;
     assert!(rt; one.meets(&two, &problem, &mut least));
-    assert_eq!(rt;
-        (least.number(0), least.number(1), least.total()),
-        (1, 1, 2)
-    );
+    assert!(rt; least.number(0) == 1);
+    assert!(rt; least.number(1) == 1);
+    assert!(rt; least.total() == 2);
     Ok(())
 }
 
@@ -150,7 +149,8 @@ fn matches_its_least(rt: HostRuntime) -> Result<(), Fail> {
     let cube = of_a(alloc, 1)?;
     assert!(rt; cube.is_known(&problem));
     let least = cube.least(alloc, &problem)?.ok_or("least")?;
-    assert_eq!(rt; (least.number(0), least.total()), (1, 1));
+    assert!(rt; least.number(0) == 1);
+    assert!(rt; least.total() == 1);
     assert!(rt; cube.matches(&least));
     assert!(rt; !range(0, 2, 2).holds(&least));
     Ok(())
@@ -163,7 +163,7 @@ fn leaves_of_lent_cubes(rt: HostRuntime) -> Result<(), Fail> {
     let Ok(order) = urgency(alloc, &problem) else {
         return Err("order".into());
     };
-    assert_eq!(rt; order.len(), problem.processes().len());
+    assert!(rt; order.len() == problem.processes().len());
     let cube = of_a(alloc, 1)?;
     assert!(rt; cube.is_known(&problem));
     assert!(rt; uncovered(alloc, &problem, &order, &cube, &[])?.is_some());

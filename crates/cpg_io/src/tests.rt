@@ -45,17 +45,11 @@ fn reads_from_memory(rt: HostRuntime) -> Result<(), Fail> {
     shelf.put("pack", b"CPGP")?;
     shelf.put("graph", b"faults = 1\n")?;
     let graph = read_all(alloc, &mut shelf, "graph", 11)?;
-    assert_eq!(rt; graph.as_slice(), b"faults = 1\n".as_slice());
+    assert!(rt; graph.as_slice() == b"faults = 1\n".as_slice());
     let pack = read_all(alloc, &mut shelf, "pack", 100)?;
-    assert_eq!(rt; pack.as_slice(), b"CPGP".as_slice());
-    assert_eq!(rt;
-        read_all(alloc, &mut shelf, "graph", 10).err(),
-        Some(ReadAll::TooLong)
-    );
-    assert_eq!(rt;
-        read_all(alloc, &mut shelf, "log", 10).err(),
-        Some(ReadAll::Failed)
-    );
+    assert!(rt; pack.as_slice() == b"CPGP".as_slice());
+    assert!(rt; read_all(alloc, &mut shelf, "graph", 10).err() == Some(ReadAll::TooLong));
+    assert!(rt; read_all(alloc, &mut shelf, "log", 10).err() == Some(ReadAll::Failed));
     Ok(())
 }
 
@@ -67,21 +61,21 @@ fn fails_at_listed_calls(rt: HostRuntime) -> Result<(), Fail> {
     shelf.fail_call(1)?;
     shelf.fail_call(3)?;
     let mut piece = [0; 2];
-    assert_eq!(rt; shelf.fetch("graph"), Ok(()));
-    assert_eq!(rt; shelf.read(&mut piece), Err(Failed));
-    assert_eq!(rt; shelf.read(&mut piece), Ok(2));
-    assert_eq!(rt; piece, [b'a', b'b']);
-    assert_eq!(rt; shelf.fetch("graph"), Err(Failed));
-    assert_eq!(rt; shelf.read(&mut piece), Ok(0));
+    assert!(rt; shelf.fetch("graph") == Ok(()));
+    assert!(rt; shelf.read(&mut piece) == Err(Failed));
+    assert!(rt; shelf.read(&mut piece) == Ok(2));
+    assert!(rt; piece == [b'a', b'b']);
+    assert!(rt; shelf.fetch("graph") == Err(Failed));
+    assert!(rt; shelf.read(&mut piece) == Ok(0));
     Ok(())
 }
 
 #[test]
 fn takes_up_to_its_room(rt: HostRuntime) -> Result<(), Fail> {
     let mut sink = MemorySink::new(rt.alloc(), 10)?;
-    assert_eq!(rt; write_all(&mut sink, b"order A"), Ok(()));
-    assert_eq!(rt; write_all(&mut sink, b"\nworst"), Err(Failed));
-    assert_eq!(rt; sink.taken(), b"order A\nwo".as_slice());
+    assert!(rt; write_all(&mut sink, b"order A") == Ok(()));
+    assert!(rt; write_all(&mut sink, b"\nworst") == Err(Failed));
+    assert!(rt; sink.taken() == b"order A\nwo".as_slice());
     Ok(())
 }
 
@@ -95,14 +89,14 @@ fn writes_and_flushes_a_stream(rt: HostRuntime) -> Result<(), Fail> {
         can_flush: true,
     };
     let mut sink = StreamSink::new(&mut stream);
-    assert_eq!(rt; write_all(&mut sink, b"order A\n"), Ok(()));
-    assert_eq!(rt; write_all(&mut sink, b"worst"), Err(Failed));
-    assert_eq!(rt; stream.bytes.as_slice(), b"order A\nwors".as_slice());
-    assert_eq!(rt; stream.flushes, 3);
+    assert!(rt; write_all(&mut sink, b"order A\n") == Ok(()));
+    assert!(rt; write_all(&mut sink, b"worst") == Err(Failed));
+    assert!(rt; stream.bytes.as_slice() == b"order A\nwors".as_slice());
+    assert!(rt; stream.flushes == 3);
     stream.end = 20;
     stream.can_flush = false;
     let mut sink = StreamSink::new(&mut stream);
-    assert_eq!(rt; sink.write(b"t"), Err(Failed));
+    assert!(rt; sink.write(b"t") == Err(Failed));
     Ok(())
 }
 
@@ -115,18 +109,9 @@ fn reads_a_file(rt: HostRuntime) -> Result<(), Fail> {
     let mut shelf = FileShelf::new(&rt);
     let read = read_all(alloc, &mut shelf, path, 200_000)?;
     assert!(rt; read == bytes);
-    assert_eq!(rt;
-        read_all(alloc, &mut shelf, path, 199_999).err(),
-        Some(ReadAll::TooLong)
-    );
+    assert!(rt; read_all(alloc, &mut shelf, path, 199_999).err() == Some(ReadAll::TooLong));
     fs::remove_file(&rt, path)?;
-    assert_eq!(rt;
-        read_all(alloc, &mut shelf, path, 10).err(),
-        Some(ReadAll::Failed)
-    );
-    assert_eq!(rt;
-        read_all(alloc, &mut shelf, "/", 10).err(),
-        Some(ReadAll::Failed)
-    );
+    assert!(rt; read_all(alloc, &mut shelf, path, 10).err() == Some(ReadAll::Failed));
+    assert!(rt; read_all(alloc, &mut shelf, "/", 10).err() == Some(ReadAll::Failed));
     Ok(())
 }

@@ -145,7 +145,7 @@ fn lists_three_scenarios(rt: HostRuntime) -> Result<(), Fail> {
     let admitted = pair(rt.alloc())?;
     assert!(rt; has_few_scenarios(admitted.problem()));
     let scenarios = listed(rt.alloc(), &admitted)?;
-    assert_eq!(rt; scenarios.len(), 3);
+    assert!(rt; scenarios.len() == 3);
     Ok(())
 }
 
@@ -154,8 +154,8 @@ fn sends_at_the_frozen_time(rt: HostRuntime) -> Result<(), Fail> {
     let admitted = pair(rt.alloc())?;
     let scenarios = listed(rt.alloc(), &admitted)?;
     let frozen = frozen(rt.alloc(), &admitted, scenarios.as_slice())?;
-    assert_eq!(rt; frozen_at(&admitted, &frozen, 0), None);
-    assert_eq!(rt; frozen_at(&admitted, &frozen, 2), Some(80));
+    assert!(rt; frozen_at(&admitted, &frozen, 0).is_none());
+    assert!(rt; frozen_at(&admitted, &frozen, 2) == Some(80));
     Ok(())
 }
 
@@ -165,9 +165,9 @@ fn measures_all_scenarios(rt: HostRuntime) -> Result<(), Fail> {
     let scenarios = listed(rt.alloc(), &admitted)?;
     let runs = run_all(rt.alloc(), &admitted, scenarios.as_slice())?;
     let worst = worst(rt.alloc(), &admitted, scenarios.as_slice(), runs.as_slice())?;
-    assert_eq!(rt; worst.time, 122);
-    assert_eq!(rt; worst.scenario.number(1), 1);
-    assert_eq!(rt; worst.process, Some(1));
+    assert!(rt; worst.time == 122);
+    assert!(rt; worst.scenario.number(1) == 1);
+    assert!(rt; worst.process == Some(1));
     Ok(())
 }
 
@@ -177,8 +177,8 @@ fn exceeds_nothing(rt: HostRuntime) -> Result<(), Fail> {
     let scenarios = listed(rt.alloc(), &admitted)?;
     let runs = run_all(rt.alloc(), &admitted, scenarios.as_slice())?;
     let excess = excess(rt.alloc(), &admitted, scenarios.as_slice(), runs.as_slice())?;
-    assert_eq!(rt; excess.time, 0);
-    assert_eq!(rt; excess.scenario.total(), 0);
-    assert_eq!(rt; excess.process, None);
+    assert!(rt; excess.time == 0);
+    assert!(rt; excess.scenario.total() == 0);
+    assert!(rt; excess.process.is_none());
     Ok(())
 }

@@ -70,11 +70,12 @@ fn second_node(alloc: Global) -> Result<Node, Fail> {
 #[test]
 fn a_new_node(rt: HostRuntime) -> Result<(), Fail> {
     let node = second_node(rt.alloc())?;
-    assert_eq!(rt; node.next(), Some(0));
-    assert_eq!(rt; node.acts().len(), 0);
-    assert_eq!(rt; node.table().own().len(), 1);
-    assert_eq!(rt; (node.running(1), node.reported(1)), (None, None));
-    assert_eq!(rt; node.executions().len(), 1);
+    assert!(rt; node.next() == Some(0));
+    assert!(rt; node.acts().len() == 0);
+    assert!(rt; node.table().own().len() == 1);
+    assert!(rt; node.running(1).is_none());
+    assert!(rt; node.reported(1).is_none());
+    assert!(rt; node.executions().len() == 1);
     Ok(())
 }
 
@@ -90,9 +91,10 @@ fn take_turn(node: &mut Node) -> Option<u64>
 #[test]
 fn turns_without_frames(rt: HostRuntime) -> Result<(), Fail> {
     let mut node = second_node(rt.alloc())?;
-    assert_eq!(rt; take_turn(&mut node), Some(0));
-    assert_eq!(rt; take_turn(&mut node), Some(50));
-    assert_eq!(rt; (node.acts().len(), node.next()), (0, Some(90)));
+    assert!(rt; take_turn(&mut node) == Some(0));
+    assert!(rt; take_turn(&mut node) == Some(50));
+    assert!(rt; node.acts().len() == 0);
+    assert!(rt; node.next() == Some(90));
     Ok(())
 }
 
@@ -115,21 +117,24 @@ fn frame(item: u32, column: u32) -> Frame {
 #[test]
 fn strange_frames(rt: HostRuntime) -> Result<(), Fail> {
     let mut node = after_two_turns(rt.alloc())?;
-    assert_eq!(rt; node.hear(90, &frame(2, 0)), Err(StrangeFrame));
-    assert_eq!(rt; node.hear(90, &frame(2, 2)), Err(StrangeFrame));
-    assert_eq!(rt; node.hear(90, &frame(1, 1)), Err(StrangeFrame));
+    assert!(rt; node.hear(90, &frame(2, 0)) == Err(StrangeFrame));
+    assert!(rt; node.hear(90, &frame(2, 2)) == Err(StrangeFrame));
+    assert!(rt; node.hear(90, &frame(1, 1)) == Err(StrangeFrame));
     Ok(())
 }
 
 #[test]
 fn a_frame_and_a_start(rt: HostRuntime) -> Result<(), Fail> {
     let mut node = after_two_turns(rt.alloc())?;
-    assert_eq!(rt; node.hear(90, &frame(2, 1)), Ok(()));
-    assert_eq!(rt; take_turn(&mut node), Some(90));
-    assert_eq!(rt; node.acts().len(), 1);
+    assert!(rt; node.hear(90, &frame(2, 1)) == Ok(()));
+    assert!(rt; take_turn(&mut node) == Some(90));
+    assert!(rt; node.acts().len() == 1);
     let act = node.acts()[0];
-    assert_eq!(rt; (act.time, act.item, act.column), (90, 1, 1));
-    assert_eq!(rt; (node.running(1), node.next()), (Some(90), Some(105)));
+    assert!(rt; act.time == 90);
+    assert!(rt; act.item == 1);
+    assert!(rt; act.column == 1);
+    assert!(rt; node.running(1) == Some(90));
+    assert!(rt; node.next() == Some(105));
     Ok(())
 }
 
@@ -178,18 +183,17 @@ fn start_and_finish(node: &mut Node, ended: Ended) -> bool {
 #[test]
 fn a_kept_report(rt: HostRuntime) -> Result<(), Fail> {
     let mut node = after_two_turns(rt.alloc())?;
-    assert_eq!(rt; node.hear(90, &frame(2, 1)), Ok(()));
+    assert!(rt; node.hear(90, &frame(2, 1)) == Ok(()));
     let ended = Ended {
         process: 1,
         faults: 0,
         value: false,
     };
     assert!(rt; start_and_finish(&mut node, ended));
-    assert_eq!(rt;
-        (node.reported(1), node.running(1)),
-        (Some(ended), Some(90))
-    );
-    assert_eq!(rt; take_turn(&mut node), Some(105));
-    assert_eq!(rt; (node.reported(1), node.running(1)), (None, None));
+    assert!(rt; node.reported(1) == Some(ended));
+    assert!(rt; node.running(1) == Some(90));
+    assert!(rt; take_turn(&mut node) == Some(105));
+    assert!(rt; node.reported(1).is_none());
+    assert!(rt; node.running(1).is_none());
     Ok(())
 }

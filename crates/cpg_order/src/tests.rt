@@ -87,14 +87,14 @@ fn orders_by_urgency(rt: HostRuntime) -> Result<(), Fail> {
     let alloc = rt.alloc();
     let problem = choice(alloc, edge(2, 3, None))?;
     let order = urgency(alloc, &problem)?;
-    assert_eq!(rt; order.processes(), [0, 2, 1, 3].as_slice());
-    assert_eq!(rt; order.copy()?.len(), 4);
-    assert_eq!(rt; order.place(1), 2);
-    assert_eq!(rt; order.at(2), 1);
-    assert_eq!(rt; tail(alloc, &problem, &order, 0)?, 80);
-    assert_eq!(rt; tail(alloc, &problem, &order, 1)?, 25);
-    assert_eq!(rt; tail(alloc, &problem, &order, 2)?, 45);
-    assert_eq!(rt; tail(alloc, &problem, &order, 3)?, 10);
+    assert!(rt; order.processes() == [0, 2, 1, 3].as_slice());
+    assert!(rt; order.copy()?.len() == 4);
+    assert!(rt; order.place(1) == 2);
+    assert!(rt; order.at(2) == 1);
+    assert!(rt; tail(alloc, &problem, &order, 0)? == 80);
+    assert!(rt; tail(alloc, &problem, &order, 1)? == 25);
+    assert!(rt; tail(alloc, &problem, &order, 2)? == 45);
+    assert!(rt; tail(alloc, &problem, &order, 3)? == 10);
     Ok(())
 }
 
@@ -110,9 +110,9 @@ fn cycle(alloc: Global, problem: &Problem) -> Result<Walk, Fail> {
 fn shows_a_cycle(rt: HostRuntime) -> Result<(), Fail> {
     let alloc = rt.alloc();
     let walk = cycle(alloc, &choice(alloc, edge(3, 1, None))?)?;
-    assert_eq!(rt; walk.processes(), [1, 3].as_slice());
+    assert!(rt; walk.processes() == [1, 3].as_slice());
     let walk = cycle(alloc, &choice(alloc, edge(2, 2, None))?)?;
-    assert_eq!(rt; walk.processes(), [2].as_slice());
+    assert!(rt; walk.processes() == [2].as_slice());
     let into = vec![in alloc;
         edge(2, 0, None),
         edge(1, 3, None),
@@ -120,9 +120,8 @@ fn shows_a_cycle(rt: HostRuntime) -> Result<(), Fail> {
         edge(2, 1, None),
     ]?;
     let walk = cycle(alloc, &graph(alloc, into)?)?;
-    assert_eq!(rt;
-        walk.processes(),
-        [1, 3, 2].as_slice(),
+    assert!(rt;
+        walk.processes() == [1, 3, 2].as_slice(),
         "A follows the cycle"
     );
     Ok(())
@@ -146,8 +145,8 @@ fn lists_inputs_and_outputs(rt: HostRuntime) -> Result<(), Fail> {
     let alloc = rt.alloc();
     let problem = choice(alloc, edge(2, 3, None))?;
     let links = Links::of(alloc, &problem)?;
-    assert_eq!(rt; links.inputs(3), [2, 3].as_slice());
-    assert_eq!(rt; links.outputs(0), [0, 1].as_slice());
+    assert!(rt; links.inputs(3) == [2, 3].as_slice());
+    assert!(rt; links.outputs(0) == [0, 1].as_slice());
     Ok(())
 }
 
@@ -155,9 +154,9 @@ fn lists_inputs_and_outputs(rt: HostRuntime) -> Result<(), Fail> {
 fn orders_scenarios(rt: HostRuntime) -> Result<(), Fail> {
     let alloc = rt.alloc();
     let problem = choice(alloc, edge(2, 3, None))?;
-    assert_eq!(rt; problem.conditions(), 1);
+    assert!(rt; problem.conditions() == 1);
     let order = urgency(alloc, &problem)?;
-    assert_eq!(rt; order.len(), problem.processes().len());
+    assert!(rt; order.len() == problem.processes().len());
     let first = Scenario::zero(alloc, &problem)?;
     let mut second = first.copy()?;
     second.set_value(0, true);

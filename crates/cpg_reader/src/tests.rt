@@ -19,35 +19,46 @@ process = [
 edge = [{ from = \"A\", to = \"B\", bytes = 4, when = false }, { from = \"A\", to = \"B\", frozen = true }]
 ";
     let problem = read_problem(rt.alloc(), text.as_bytes()).map_err(|_| "refused")?;
-    assert_eq!(rt;
-        (problem.faults(), problem.deadline(), problem.nodes().len()),
-        (1, 105, 2)
-    );
+    assert!(rt; problem.faults() == 1);
+    assert!(rt; problem.deadline() == 105);
+    assert!(rt; problem.nodes().len() == 2);
     let [slot] = problem.slots() else {
         return Err("slots".into());
     };
-    assert_eq!(rt; (slot.node, slot.length, slot.bytes), (1, 10, 8));
+    assert!(rt; slot.node == 1);
+    assert!(rt; slot.length == 10);
+    assert!(rt; slot.bytes == 8);
     let [a, b] = problem.processes() else {
         return Err("processes".into());
     };
-    assert_eq!(rt; (a.name.as_str(), a.node, a.wcet, a.parts), ("A", 1, 30, 1));
-    assert_eq!(rt;
-        (a.alpha, a.chi, a.mu, a.join, a.frozen),
-        (2, 3, 5, false, true)
-    );
-    assert_eq!(rt; (a.release, a.deadline), (0, Some(104)));
-    assert_eq!(rt;
-        (b.node, b.parts, b.alpha, b.join, b.release, b.deadline),
-        (0, 2, 0, true, 60, None)
-    );
+    assert!(rt; a.name.as_str() == "A");
+    assert!(rt; a.node == 1);
+    assert!(rt; a.wcet == 30);
+    assert!(rt; a.parts == 1);
+    assert!(rt; a.alpha == 2);
+    assert!(rt; a.chi == 3);
+    assert!(rt; a.mu == 5);
+    assert!(rt; !a.join);
+    assert!(rt; a.frozen);
+    assert!(rt; a.release == 0);
+    assert!(rt; a.deadline == Some(104));
+    assert!(rt; b.node == 0);
+    assert!(rt; b.parts == 2);
+    assert!(rt; b.alpha == 0);
+    assert!(rt; b.join);
+    assert!(rt; b.release == 60);
+    assert!(rt; b.deadline.is_none());
     let [first, second] = problem.edges() else {
         return Err("edges".into());
     };
-    assert_eq!(rt;
-        (first.from, first.to, first.size, first.when, first.frozen),
-        (0, 1, 4, Some(false), false)
-    );
-    assert_eq!(rt; (second.size, second.when, second.frozen), (1, None, true));
+    assert!(rt; first.from == 0);
+    assert!(rt; first.to == 1);
+    assert!(rt; first.size == 4);
+    assert!(rt; first.when == Some(false));
+    assert!(rt; !first.frozen);
+    assert!(rt; second.size == 1);
+    assert!(rt; second.when.is_none());
+    assert!(rt; second.frozen);
     Ok(())
 }
 
@@ -88,19 +99,15 @@ fn first_places(rt: HostRuntime) {
         let mut text = String::new(rt.alloc());
         let written = text.push_str(head).is_ok() && text.push_str(lines).is_ok();
         assert!(rt; written);
-        assert_eq!(rt;
-            read_problem(rt.alloc(), text.as_bytes()).err(),
-            Some(want),
+        assert!(rt;
+            read_problem(rt.alloc(), text.as_bytes()).err() == Some(want),
             "at {lines}"
         );
     }
-    assert_eq!(rt;
-        read_problem(rt.alloc(), b"\xff").err(),
-        Some(ReadFault::NotToml)
-    );
-    assert_eq!(rt;
-        read_problem(rt.alloc(), b"\n\n").err(),
-        Some(ReadFault::BadField(place(Table::Top, 0, Key::Faults)))
+    assert!(rt; read_problem(rt.alloc(), b"\xff").err() == Some(ReadFault::NotToml));
+    assert!(rt;
+        read_problem(rt.alloc(), b"\n\n").err()
+            == Some(ReadFault::BadField(place(Table::Top, 0, Key::Faults)))
     );
 }
 
@@ -119,7 +126,7 @@ fn conditions(rt: HostRuntime) -> Result<(), Fail> {
             )
             .map_err(|_| "memory")?;
         }
-        assert_eq!(rt; read_problem(rt.alloc(), text.as_bytes()).err(), Some(want));
+        assert!(rt; read_problem(rt.alloc(), text.as_bytes()).err() == Some(want));
     }
     Ok(())
 }

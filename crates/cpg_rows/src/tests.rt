@@ -153,9 +153,9 @@ fn entry(rows: &[Row], item: usize, place: usize) -> Option<(u64, u8, u8)> {
 fn sends_after_each_count(rt: HostRuntime) -> Result<(), Fail> {
     let rows = rows_of(rt.alloc(), &pair(rt.alloc())?)?;
     let rows = rows.as_slice();
-    assert_eq!(rt; entry(rows, 2, 0), Some((40, 0, 0)));
-    assert_eq!(rt; entry(rows, 2, 1), Some((80, 1, 1)));
-    assert_eq!(rt; entry(rows, 2, 2), None);
+    assert!(rt; entry(rows, 2, 0) == Some((40, 0, 0)));
+    assert!(rt; entry(rows, 2, 1) == Some((80, 1, 1)));
+    assert!(rt; entry(rows, 2, 2).is_none());
     Ok(())
 }
 
@@ -163,11 +163,11 @@ fn sends_after_each_count(rt: HostRuntime) -> Result<(), Fail> {
 fn starts_after_each_count(rt: HostRuntime) -> Result<(), Fail> {
     let rows = rows_of(rt.alloc(), &pair(rt.alloc())?)?;
     let rows = rows.as_slice();
-    assert_eq!(rt; entry(rows, 1, 0), Some((50, 0, 0)));
-    assert_eq!(rt; entry(rows, 1, 1), Some((90, 1, 1)));
-    assert_eq!(rt; entry(rows, 1, 2), None);
-    assert_eq!(rt; entry(rows, 0, 0), Some((0, 9, 9)));
-    assert_eq!(rt; entry(rows, 0, 1), None);
+    assert!(rt; entry(rows, 1, 0) == Some((50, 0, 0)));
+    assert!(rt; entry(rows, 1, 1) == Some((90, 1, 1)));
+    assert!(rt; entry(rows, 1, 2).is_none());
+    assert!(rt; entry(rows, 0, 0) == Some((0, 9, 9)));
+    assert!(rt; entry(rows, 0, 1).is_none());
     Ok(())
 }
 
@@ -175,9 +175,9 @@ fn starts_after_each_count(rt: HostRuntime) -> Result<(), Fail> {
 fn joins_both_outcomes(rt: HostRuntime) -> Result<(), Fail> {
     let rows = rows_of(rt.alloc(), &choice(rt.alloc())?)?;
     let rows = rows.as_slice();
-    assert_eq!(rt; entry(rows, 3, 0), Some((70, 0, 0)));
-    assert_eq!(rt; entry(rows, 3, 1), Some((85, 1, 1)));
-    assert_eq!(rt; entry(rows, 3, 2), None);
+    assert!(rt; entry(rows, 3, 0) == Some((70, 0, 0)));
+    assert!(rt; entry(rows, 3, 1) == Some((85, 1, 1)));
+    assert!(rt; entry(rows, 3, 2).is_none());
     Ok(())
 }
 
@@ -185,10 +185,10 @@ fn joins_both_outcomes(rt: HostRuntime) -> Result<(), Fail> {
 fn sends_one_of_two(rt: HostRuntime) -> Result<(), Fail> {
     let rows = rows_of(rt.alloc(), &choice(rt.alloc())?)?;
     let rows = rows.as_slice();
-    assert_eq!(rt; entry(rows, 4, 0), Some((60, 1, 1)));
-    assert_eq!(rt; entry(rows, 7, 0), Some((60, 0, 0)));
-    assert_eq!(rt; entry(rows, 5, 0), None);
-    assert_eq!(rt; entry(rows, 8, 0), Some((40, 9, 9)));
-    assert_eq!(rt; entry(rows, 8, 1), None);
+    assert!(rt; entry(rows, 4, 0) == Some((60, 1, 1)));
+    assert!(rt; entry(rows, 7, 0) == Some((60, 0, 0)));
+    assert!(rt; entry(rows, 5, 0).is_none());
+    assert!(rt; entry(rows, 8, 0) == Some((40, 9, 9)));
+    assert!(rt; entry(rows, 8, 1).is_none());
     Ok(())
 }

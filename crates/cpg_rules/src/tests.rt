@@ -86,8 +86,8 @@ fn admits(rt: HostRuntime) -> Result<(), Fail> {
     let Ok(admitted) = admit(alloc, problem(alloc, [0, 1, 1], edges, &[0, 1])?) else {
         return Err("refused".into());
     };
-    assert_eq!(rt; admitted.problem().processes().len(), 3);
-    assert_eq!(rt; admitted.order().processes(), [0, 1, 2].as_slice());
+    assert!(rt; admitted.problem().processes().len() == 3);
+    assert!(rt; admitted.order().processes() == [0, 1, 2].as_slice());
     let zero = Scenario::zero(alloc, admitted.problem())?;
     assert!(rt; admitted.guards().active(2, &zero));
     Ok(())
@@ -98,22 +98,22 @@ fn refuses(rt: HostRuntime) -> Result<(), Fail> {
     let alloc = rt.alloc();
     let edges = vec![in alloc; edge(0, 1, 9), edge(1, 0, 1)]?;
     let text = refusal(alloc, problem(alloc, [0, 1, 0], edges, &[])?)?;
-    assert_eq!(rt; text.as_str(), "cycle true of 3");
+    assert!(rt; text.as_str() == "cycle true of 3");
     let edges = vec![in alloc; edge(0, 2, 9), edge(1, 2, 1)]?;
     let text = refusal(alloc, problem(alloc, [0, 0, 1], edges, &[])?)?;
-    assert_eq!(rt; text.as_str(), "alternatives 2 0 of 3");
+    assert!(rt; text.as_str() == "alternatives 2 0 of 3");
     let edges = vec![in alloc; edge(0, 1, 9)]?;
     let text = refusal(alloc, problem(alloc, [0, 1, 0], edges, &[1])?)?;
-    assert_eq!(rt; text.as_str(), "slot 0 of 3");
+    assert!(rt; text.as_str() == "slot 0 of 3");
     let edges = vec![in alloc; edge(0, 1, 9)]?;
     let text = refusal(alloc, problem(alloc, [0, 1, 0], edges, &[0, 1])?)?;
-    assert_eq!(rt; text.as_str(), "big 0 of 3");
+    assert!(rt; text.as_str() == "big 0 of 3");
     let edges = vec![in alloc; edge(0, 1, 8)]?;
     let text = refusal(alloc, problem(alloc, [0, 1, 0], edges, &[1])?)?;
-    assert_eq!(rt; text.as_str(), "slot 0 of 3");
+    assert!(rt; text.as_str() == "slot 0 of 3");
     // a node that only hears needs no slot
     let edges = vec![in alloc; edge(1, 0, 8)]?;
     let text = refusal(alloc, problem(alloc, [0, 1, 0], edges, &[1])?)?;
-    assert_eq!(rt; text.as_str(), "admitted");
+    assert!(rt; text.as_str() == "admitted");
     Ok(())
 }

@@ -45,24 +45,24 @@ fn problem(alloc: Global) -> Result<Problem, Fail> {
 #[test]
 fn scenarios(rt: HostRuntime) -> Result<(), Fail> {
     let problem = problem(rt.alloc())?;
-    assert_eq!(rt; problem.processes().len(), 2);
-    assert_eq!(rt; problem.conditions(), 1);
+    assert!(rt; problem.processes().len() == 2);
+    assert!(rt; problem.conditions() == 1);
     let mut scenario = Scenario::zero(rt.alloc(), &problem)?;
     let text = scenario_text(rt.alloc(), &problem, &scenario)?;
-    assert_eq!(rt; text.as_str(), "none");
+    assert!(rt; text.as_str() == "none");
     scenario.set_fault(0, 1);
     let text = scenario_text(rt.alloc(), &problem, &scenario)?;
-    assert_eq!(rt; text.as_str(), "A faults 1");
+    assert!(rt; text.as_str() == "A faults 1");
     scenario.set_value(0, true);
     let text = scenario_text(rt.alloc(), &problem, &scenario)?;
-    assert_eq!(rt; text.as_str(), "A faults 1, A true");
+    assert!(rt; text.as_str() == "A faults 1, A true");
     Ok(())
 }
 
 #[test]
 fn files(rt: HostRuntime) -> Result<(), Fail> {
     let problem = problem(rt.alloc())?;
-    assert_eq!(rt; problem.processes().len(), 2);
+    assert!(rt; problem.processes().len() == 2);
     for (text, want, lengths) in [
         ("", "none", (35, 35)),
         (
@@ -81,8 +81,8 @@ fn files(rt: HostRuntime) -> Result<(), Fail> {
             return Err("refused".into());
         };
         let written = scenario_text(rt.alloc(), &problem, &played.scenario)?;
-        assert_eq!(rt; written.as_str(), want);
-        assert_eq!(rt; (played.lengths.of(0), played.lengths.of(1)), lengths);
+        assert!(rt; written.as_str() == want);
+        assert!(rt; (played.lengths.of(0), played.lengths.of(1)) == lengths);
     }
     Ok(())
 }
@@ -111,9 +111,9 @@ fn causes(rt: HostRuntime) -> Result<(), Fail> {
         ("faults.A = 1\nlengths.A = 73\n", Cause::Length),
     ] {
         let fault = read_scenario(rt.alloc(), &problem, text.as_bytes()).err();
-        assert_eq!(rt; fault, Some(ScenarioFault::Bad(want)), "at {text}");
+        assert!(rt; fault == Some(ScenarioFault::Bad(want)), "at {text}");
     }
     let fault = read_scenario(rt.alloc(), &problem, b"\xff").err();
-    assert_eq!(rt; fault, Some(ScenarioFault::Bad(Cause::Toml)));
+    assert!(rt; fault == Some(ScenarioFault::Bad(Cause::Toml)));
     Ok(())
 }

@@ -116,14 +116,14 @@ fn run_where(alloc: Global, admitted: &Admitted, value: bool) -> Result<RunTimes
 fn runs_where_it_is_false(rt: HostRuntime) -> Result<(), Fail> {
     let admitted = choice(rt.alloc())?;
     let times = run_where(rt.alloc(), &admitted, false)?;
-    assert_eq!(rt; times.time(0), Some(0));
-    assert_eq!(rt; times.time(1), None);
-    assert_eq!(rt; times.time(2), Some(35));
-    assert_eq!(rt; times.time(3), Some(70));
-    assert_eq!(rt; times.time(4), None);
-    assert_eq!(rt; times.time(7), Some(60));
-    assert_eq!(rt; times.time(8), Some(40));
-    assert_eq!(rt; times.finish(), 80);
+    assert!(rt; times.time(0) == Some(0));
+    assert!(rt; times.time(1).is_none());
+    assert!(rt; times.time(2) == Some(35));
+    assert!(rt; times.time(3) == Some(70));
+    assert!(rt; times.time(4).is_none());
+    assert!(rt; times.time(7) == Some(60));
+    assert!(rt; times.time(8) == Some(40));
+    assert!(rt; times.finish() == 80);
     Ok(())
 }
 
@@ -131,13 +131,13 @@ fn runs_where_it_is_false(rt: HostRuntime) -> Result<(), Fail> {
 fn runs_where_it_is_true(rt: HostRuntime) -> Result<(), Fail> {
     let admitted = choice(rt.alloc())?;
     let times = run_where(rt.alloc(), &admitted, true)?;
-    assert_eq!(rt; times.time(0), Some(0));
-    assert_eq!(rt; times.time(1), Some(70));
-    assert_eq!(rt; times.time(2), None);
-    assert_eq!(rt; times.time(3), Some(85));
-    assert_eq!(rt; times.time(4), Some(60));
-    assert_eq!(rt; times.time(7), None);
-    assert_eq!(rt; times.time(8), Some(40));
-    assert_eq!(rt; times.finish(), 95);
+    assert!(rt; times.time(0) == Some(0));
+    assert!(rt; times.time(1) == Some(70));
+    assert!(rt; times.time(2).is_none());
+    assert!(rt; times.time(3) == Some(85));
+    assert!(rt; times.time(4) == Some(60));
+    assert!(rt; times.time(7).is_none());
+    assert!(rt; times.time(8) == Some(40));
+    assert!(rt; times.finish() == 95);
     Ok(())
 }

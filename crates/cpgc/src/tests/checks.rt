@@ -27,8 +27,9 @@ fn pair_is_safe(rt: HostRuntime) -> Result<(), Fail> {
     let graph = pair(alloc)?;
     let pack = whole_pair_pack(alloc)?;
     let got = checked(alloc, graph.as_str(), pack.as_slice())?;
-    assert_eq!(rt; got.out.taken(), b"safe\n".as_slice());
-    assert_eq!(rt; (got.status, got.err.taken().len()), (0, 0));
+    assert!(rt; got.out.taken() == b"safe\n".as_slice());
+    assert!(rt; got.status == 0);
+    assert!(rt; got.err.taken().len() == 0);
     Ok(())
 }
 
@@ -61,8 +62,9 @@ fn broken_packs_of_the_pair(rt: HostRuntime) -> Result<(), Fail> {
     ] {
         let pack = pair_pack(alloc, starts_of_a, starts_of_b, arrivals)?;
         let got = checked(alloc, graph.as_str(), pack.as_slice())?;
-        assert_eq!(rt; got.err.taken(), err.as_bytes());
-        assert_eq!(rt; (got.status, got.out.taken().len()), (7, 0));
+        assert!(rt; got.err.taken() == err.as_bytes());
+        assert!(rt; got.status == 7);
+        assert!(rt; got.out.taken().len() == 0);
     }
     Ok(())
 }
@@ -78,8 +80,9 @@ fn column_that_never_matches_is_safe(rt: HostRuntime) -> Result<(), Fail> {
     ];
     let pack = pair_pack(alloc, &STARTS_OF_A, &starts, &STARTS_OF_B)?;
     let got = checked(alloc, graph.as_str(), pack.as_slice())?;
-    assert_eq!(rt; got.out.taken(), b"safe\n".as_slice());
-    assert_eq!(rt; (got.status, got.err.taken().len()), (0, 0));
+    assert!(rt; got.out.taken() == b"safe\n".as_slice());
+    assert!(rt; got.status == 0);
+    assert!(rt; got.err.taken().len() == 0);
     Ok(())
 }
 
@@ -126,9 +129,9 @@ fn tables_made_by_hand(rt: HostRuntime) -> Result<(), Fail> {
         let graph = one_node(alloc, faults, 1000, A_B_AND_C)?;
         let pack = three_pack(alloc, faults, starts_of_b, starts_of_c)?;
         let got = checked(alloc, graph.as_str(), pack.as_slice())?;
-        assert_eq!(rt; got.err.taken(), err.as_bytes());
-        assert_eq!(rt; got.out.taken(), out.as_bytes());
-        assert_eq!(rt; got.status, status);
+        assert!(rt; got.err.taken() == err.as_bytes());
+        assert!(rt; got.out.taken() == out.as_bytes());
+        assert!(rt; got.status == status);
     }
     Ok(())
 }
@@ -174,9 +177,9 @@ fn packs_of_one_process(rt: HostRuntime) -> Result<(), Fail> {
     ] {
         let graph = one_node(alloc, faults, 82, processes)?;
         let got = checked(alloc, graph.as_str(), pack)?;
-        assert_eq!(rt; got.err.taken(), err.as_bytes());
-        assert_eq!(rt; got.out.taken(), out.as_bytes());
-        assert_eq!(rt; got.status, status);
+        assert!(rt; got.err.taken() == err.as_bytes());
+        assert!(rt; got.out.taken() == out.as_bytes());
+        assert!(rt; got.status == status);
     }
     Ok(())
 }
@@ -212,8 +215,9 @@ fn packs_of_other_two_node_graphs(rt: HostRuntime) -> Result<(), Fail> {
         (single.as_str(), 4, "cpgc: refused 17 other graph nodes\n"),
     ] {
         let got = checked(alloc, graph, pack.as_slice())?;
-        assert_eq!(rt; got.err.taken(), err.as_bytes());
-        assert_eq!(rt; (got.status, got.out.taken().len()), (status, 0));
+        assert!(rt; got.err.taken() == err.as_bytes());
+        assert!(rt; got.status == status);
+        assert!(rt; got.out.taken().len() == 0);
     }
     Ok(())
 }
@@ -224,8 +228,9 @@ fn frozen_chain_is_safe(rt: HostRuntime) -> Result<(), Fail> {
     let graph = chain(alloc, 8, 6040, ", frozen = true")?;
     let pack = frozen_chain_pack(alloc)?;
     let got = checked(alloc, graph.as_str(), pack.as_slice())?;
-    assert_eq!(rt; got.out.taken(), b"safe\n".as_slice());
-    assert_eq!(rt; (got.status, got.err.taken().len()), (0, 0));
+    assert!(rt; got.out.taken() == b"safe\n".as_slice());
+    assert!(rt; got.status == 0);
+    assert!(rt; got.err.taken().len() == 0);
     Ok(())
 }
 
@@ -235,7 +240,8 @@ fn sixteen_nodes_are_safe(rt: HostRuntime) -> Result<(), Fail> {
     let graph = sixteen_nodes(alloc)?;
     let pack = sixteen_nodes_pack(alloc)?;
     let got = checked(alloc, graph.as_str(), pack.as_slice())?;
-    assert_eq!(rt; got.out.taken(), b"safe\n".as_slice());
-    assert_eq!(rt; (got.status, got.err.taken().len()), (0, 0));
+    assert!(rt; got.out.taken() == b"safe\n".as_slice());
+    assert!(rt; got.status == 0);
+    assert!(rt; got.err.taken().len() == 0);
     Ok(())
 }

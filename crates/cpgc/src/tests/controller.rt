@@ -26,8 +26,9 @@ fn controller_is_compiled_and_checked(rt: HostRuntime) -> Result<(), Fail> {
     let alloc = rt.alloc();
     let mut shelf = controller_shelf(alloc)?;
     let got = done(alloc, &mut shelf, &["check", "g", "p"])?;
-    assert_eq!(rt; got.out.taken(), b"safe\n".as_slice());
-    assert_eq!(rt; (got.status, got.err.taken().len()), (0, 0));
+    assert!(rt; got.out.taken() == b"safe\n".as_slice());
+    assert!(rt; got.status == 0);
+    assert!(rt; got.err.taken().len() == 0);
     Ok(())
 }
 
@@ -41,8 +42,9 @@ fn cut_pack_of_the_controller(rt: HostRuntime) -> Result<(), Fail> {
     let got = done(alloc, &mut shelf, &["check", "g", "p"])?;
     let length = cut.len();
     let err = format!(in alloc; "cpgc: refused 10 pack {length}\n")?;
-    assert_eq!(rt; got.err.taken(), err.as_bytes());
-    assert_eq!(rt; (got.status, got.out.taken().len()), (4, 0));
+    assert!(rt; got.err.taken() == err.as_bytes());
+    assert!(rt; got.status == 4);
+    assert!(rt; got.out.taken().len() == 0);
     Ok(())
 }
 
@@ -61,6 +63,7 @@ fn controller_is_played(rt: HostRuntime) -> Result<(), Fail> {
     let trace = String::from_utf8(Vec::from_slice(alloc, got.out.taken())?)?;
     assert!(rt; trace.starts_with(begin));
     assert!(rt; trace.contains("\nfinish ") && trace.contains("\nwaits "));
-    assert_eq!(rt; (got.status, got.err.taken().len()), (0, 0));
+    assert!(rt; got.status == 0);
+    assert!(rt; got.err.taken().len() == 0);
     Ok(())
 }

@@ -46,8 +46,9 @@ fn pair_is_played(rt: HostRuntime) -> Result<(), Fail> {
         ),
     ] {
         let got = played(alloc, &mut shelf, scenario)?;
-        assert_eq!(rt; got.out.taken(), out.as_bytes());
-        assert_eq!(rt; (got.status, got.err.taken().len()), (0, 0));
+        assert!(rt; got.out.taken() == out.as_bytes());
+        assert!(rt; got.status == 0);
+        assert!(rt; got.err.taken().len() == 0);
     }
     Ok(())
 }
@@ -64,7 +65,8 @@ fn turns_do_not_change_what_happens(rt: HostRuntime) -> Result<(), Fail> {
     ] {
         let got = done(alloc, &mut shelf, words)?;
         assert!(rt; got.out.taken().starts_with(PAIR_TRACE.as_bytes()));
-        assert_eq!(rt; (got.status, got.err.taken().len()), (0, 0));
+        assert!(rt; got.status == 0);
+        assert!(rt; got.err.taken().len() == 0);
     }
     Ok(())
 }
@@ -82,8 +84,9 @@ fn scenarios_of_the_pair_that_are_refused(rt: HostRuntime) -> Result<(), Fail> {
         ("[lengths]\nB = 0\n", "cpgc: refused 12 scenario length\n"),
     ] {
         let got = played(alloc, &mut shelf, scenario)?;
-        assert_eq!(rt; got.err.taken(), err.as_bytes());
-        assert_eq!(rt; (got.status, got.out.taken().len()), (4, 0));
+        assert!(rt; got.err.taken() == err.as_bytes());
+        assert!(rt; got.status == 4);
+        assert!(rt; got.out.taken().len() == 0);
     }
     Ok(())
 }
@@ -106,7 +109,8 @@ fn branch_is_played(rt: HostRuntime) -> Result<(), Fail> {
     let trace =
         "0 N1 start A\n35 N1 end A faults 0 value true\n40 N1 tell A\n60 N1 send e0\n70 N2 start B\n85 N2 end B faults 0\n85 N2 start J\n95 N2 end J faults 0\nfinish 95\nwaits ";
     assert!(rt; got.out.taken().starts_with(trace.as_bytes()));
-    assert_eq!(rt; (got.status, got.err.taken().len()), (0, 0));
+    assert!(rt; got.status == 0);
+    assert!(rt; got.err.taken().len() == 0);
     Ok(())
 }
 
@@ -125,8 +129,9 @@ fn causes_of_scenarios(rt: HostRuntime) -> Result<(), Fail> {
         ("[faults]\nA = 1\n", "cpgc: refused 12 scenario budget\n"),
     ] {
         let got = played(alloc, &mut shelf, scenario)?;
-        assert_eq!(rt; got.err.taken(), err.as_bytes());
-        assert_eq!(rt; (got.status, got.out.taken().len()), (4, 0));
+        assert!(rt; got.err.taken() == err.as_bytes());
+        assert!(rt; got.status == 4);
+        assert!(rt; got.out.taken().len() == 0);
     }
     Ok(())
 }
@@ -141,11 +146,9 @@ fn unsafe_pack_is_not_played(rt: HostRuntime) -> Result<(), Fail> {
     shelf.put("g", graph.as_bytes())?;
     shelf.put("p", pack.as_slice())?;
     let got = played(alloc, &mut shelf, "")?;
-    assert_eq!(rt;
-        got.err.taken(),
-        b"cpgc: unsafe V4 start B column 0 in none\n".as_slice()
-    );
-    assert_eq!(rt; (got.status, got.out.taken().len()), (7, 0));
+    assert!(rt; got.err.taken() == b"cpgc: unsafe V4 start B column 0 in none\n".as_slice());
+    assert!(rt; got.status == 7);
+    assert!(rt; got.out.taken().len() == 0);
     Ok(())
 }
 
@@ -167,9 +170,9 @@ fn long_scenarios(rt: HostRuntime) -> Result<(), Fail> {
         let words = ["play", "g", "p", "s", "--turns", "0"];
         let got = done(alloc, &mut shelf, words.as_slice())?;
         assert!(rt; got.out.taken().starts_with(out.as_bytes()));
-        assert_eq!(rt; got.out.taken().is_empty(), out.is_empty());
-        assert_eq!(rt; got.err.taken(), err.as_bytes());
-        assert_eq!(rt; got.status, status);
+        assert!(rt; got.out.taken().is_empty() == out.is_empty());
+        assert!(rt; got.err.taken() == err.as_bytes());
+        assert!(rt; got.status == status);
     }
     Ok(())
 }

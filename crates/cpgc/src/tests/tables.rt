@@ -42,8 +42,9 @@ fn one_node_graphs(rt: HostRuntime) -> Result<(), Fail> {
     ] {
         let graph = one_node(alloc, faults, deadline, processes)?;
         let got = shown(alloc, graph.as_bytes())?;
-        assert_eq!(rt; got.out.taken(), out.as_bytes());
-        assert_eq!(rt; (got.status, got.err.taken().len()), (0, 0));
+        assert!(rt; got.out.taken() == out.as_bytes());
+        assert!(rt; got.status == 0);
+        assert!(rt; got.err.taken().len() == 0);
     }
     Ok(())
 }
@@ -65,8 +66,9 @@ fn late_graphs(rt: HostRuntime) -> Result<(), Fail> {
     ] {
         let graph = one_node(alloc, faults, deadline, processes)?;
         let got = shown(alloc, graph.as_bytes())?;
-        assert_eq!(rt; got.err.taken(), err.as_bytes());
-        assert_eq!(rt; (got.status, got.out.taken().len()), (5, 0));
+        assert!(rt; got.err.taken() == err.as_bytes());
+        assert!(rt; got.status == 5);
+        assert!(rt; got.out.taken().len() == 0);
     }
     Ok(())
 }
@@ -112,8 +114,9 @@ fn two_node_graphs(rt: HostRuntime) -> Result<(), Fail> {
     ] {
         let graph = two_nodes(alloc, faults, deadline, fields)?;
         let got = shown(alloc, graph.as_bytes())?;
-        assert_eq!(rt; got.out.taken(), out.as_bytes());
-        assert_eq!(rt; (got.status, got.err.taken().len()), (0, 0));
+        assert!(rt; got.out.taken() == out.as_bytes());
+        assert!(rt; got.status == 0);
+        assert!(rt; got.err.taken().len() == 0);
     }
     Ok(())
 }
@@ -133,8 +136,9 @@ fn slot_is_met_or_missed(rt: HostRuntime) -> Result<(), Fail> {
     ] {
         let graph = two_nodes(alloc, 0, 1000, (a, OF_10, ""))?;
         let got = shown(alloc, graph.as_bytes())?;
-        assert_eq!(rt; got.out.taken(), out.as_bytes());
-        assert_eq!(rt; (got.status, got.err.taken().len()), (0, 0));
+        assert!(rt; got.out.taken() == out.as_bytes());
+        assert!(rt; got.status == 0);
+        assert!(rt; got.err.taken().len() == 0);
     }
     Ok(())
 }
@@ -162,8 +166,9 @@ fn late_on_two_nodes(rt: HostRuntime) -> Result<(), Fail> {
     ] {
         let graph = two_nodes(alloc, faults, deadline, fields)?;
         let got = shown(alloc, graph.as_bytes())?;
-        assert_eq!(rt; got.err.taken(), err.as_bytes());
-        assert_eq!(rt; (got.status, got.out.taken().len()), (5, 0));
+        assert!(rt; got.err.taken() == err.as_bytes());
+        assert!(rt; got.status == 5);
+        assert!(rt; got.out.taken().len() == 0);
     }
     Ok(())
 }
@@ -172,11 +177,12 @@ fn late_on_two_nodes(rt: HostRuntime) -> Result<(), Fail> {
 fn branches(rt: HostRuntime) -> Result<(), Fail> {
     let alloc = rt.alloc();
     let got = shown(alloc, BRANCHING.as_bytes())?;
-    assert_eq!(rt;
-        got.out.taken(),
-        b"order A C B J\nworst 95\nstart A on N1\n  0: always\nstart B on N2\n  70: A true\nstart C on N1\n  35: A false\nstart J on N2\n  70: A false\n  85: A true\nsend e0 A>B on N1\n  60: A true\nsend e3 C>J on N1\n  60: A false\ntell A on N1\n  40: always\n".as_slice()
+    assert!(rt;
+        got.out.taken()
+            == b"order A C B J\nworst 95\nstart A on N1\n 0: always\nstart B on N2\n 70: A true\nstart C on N1\n 35: A false\nstart J on N2\n 70: A false\n 85: A true\nsend e0 A>B on N1\n 60: A true\nsend e3 C>J on N1\n 60: A false\ntell A on N1\n 40: always\n".as_slice()
     );
-    assert_eq!(rt; (got.status, got.err.taken().len()), (0, 0));
+    assert!(rt; got.status == 0);
+    assert!(rt; got.err.taken().len() == 0);
     Ok(())
 }
 
@@ -196,9 +202,9 @@ fn chain_of_forty(rt: HostRuntime) -> Result<(), Fail> {
         shelf.put("g", graph.as_bytes())?;
         let got = run_over(alloc, &mut shelf, &["show", "g"], 10_000_000, 100)?;
         assert!(rt; got.out.taken().starts_with(out.as_bytes()));
-        assert_eq!(rt; got.err.taken(), err.as_bytes());
-        assert_eq!(rt; got.out.taken().is_empty(), out.is_empty());
-        assert_eq!(rt; got.status, status);
+        assert!(rt; got.err.taken() == err.as_bytes());
+        assert!(rt; got.out.taken().is_empty() == out.is_empty());
+        assert!(rt; got.status == status);
     }
     Ok(())
 }
@@ -219,8 +225,9 @@ fn packed_tables(rt: HostRuntime) -> Result<(), Fail> {
         let mut shelf = MemoryShelf::new(alloc)?;
         shelf.put("g", graph.as_bytes())?;
         let got = done(alloc, &mut shelf, &["compile", "g"])?;
-        assert_eq!(rt; got.out.taken(), pack);
-        assert_eq!(rt; (got.status, got.err.taken().len()), (0, 0));
+        assert!(rt; got.out.taken() == pack);
+        assert!(rt; got.status == 0);
+        assert!(rt; got.err.taken().len() == 0);
     }
     Ok(())
 }
@@ -229,7 +236,8 @@ fn packed_tables(rt: HostRuntime) -> Result<(), Fail> {
 fn graph_of_nothing(rt: HostRuntime) -> Result<(), Fail> {
     let alloc = rt.alloc();
     let got = shown(alloc, b"faults = 0\ndeadline = 0\n")?;
-    assert_eq!(rt; got.out.taken(), b"order\nworst 0\n".as_slice());
-    assert_eq!(rt; (got.status, got.err.taken().len()), (0, 0));
+    assert!(rt; got.out.taken() == b"order\nworst 0\n".as_slice());
+    assert!(rt; got.status == 0);
+    assert!(rt; got.err.taken().len() == 0);
     Ok(())
 }
