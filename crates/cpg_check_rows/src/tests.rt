@@ -31,16 +31,26 @@ fn process(alloc: Global, text: &str, wcet: u64) -> Result<Process, Fail> {
     })
 }
 
+/// A, B and C.
+fn processes(alloc: Global) -> Result<Vec<Process>, Fail> {
+    let mut made = Vec::new(alloc);
+    for (text, wcet) in [("A", 30), ("B", 10), ("C", 5)] {
+        made.push(process(alloc, text, wcet)?)?;
+    }
+    Ok(made)
+}
+
 /// A, B and C on one node, and these edges.
-fn graph(alloc: Global, faults: u8, edges: Vec<Edge>) -> Result<Admitted, Fail> {
-    let a = process(alloc, "A", 30)?;
-    let b = process(alloc, "B", 10)?;
-    let c = process(alloc, "C", 5)?;
-    let processes = vec![in alloc; a, b, c]?;
-    let node = name(alloc, "N1")?;
-    let nodes = vec![in alloc; node]?;
+fn problem(alloc: Global, faults: u8, edges: Vec<Edge>) -> Result<Problem, Fail> {
+    let nodes = vec![in alloc; name(alloc, "N1")?]?;
+    let processes = processes(alloc)?;
     let slots = Vec::new(alloc);
-    let problem = Problem::new(faults, 1000, nodes, slots, processes, edges).ok_or("problem")?;
+    Ok(Problem::new(faults, 1000, nodes, slots, processes, edges).ok_or("problem")?)
+}
+
+/// The same, admitted.
+fn graph(alloc: Global, faults: u8, edges: Vec<Edge>) -> Result<Admitted, Fail> {
+    let problem = problem(alloc, faults, edges)?;
     match admit(alloc, problem) {
         Ok(admitted) => Ok(admitted),
         Err(_refused) => Err("refused".into()),
@@ -135,34 +145,66 @@ fn place_of(fault: Option<Fault>, variable: u8) -> Option<Place> {
     })
 }
 
-/// Whether the tables for one fault have rows as they are to be, and all that they hear.
-fn is_sound(alloc: Global) -> Result<bool, Fail> {
-    let admitted = graph(alloc, 1, Vec::new(alloc))?;
-    let tables = for_one_fault(alloc, &admitted)?;
-    if check_rows(alloc, &admitted, &tables)?.is_some() {
-        return Ok(false);
+/// Whether rows are as they are to be, and all that they hear.
+fn is_sound(alloc: Global, admitted: &Admitted, tables: &Tables) -> bool
+    requires { IsHeadFor admitted.now.graph tables.now.head }
+{
+    let Ok(None) = check_rows(alloc, admitted, tables) else {
+        return false;
+    };
+    matches!(check_hears(alloc, admitted, tables), Ok(None))
+}
+
+/// Whether the tables for one fault are sound.
+fn is_sound_for_one(alloc: Global, admitted: &Admitted) -> Result<bool, Fail> {
+    let tables = for_one_fault(alloc, admitted)?;
+    Ok(is_sound(alloc, admitted, &tables))
+}
+
+/// Where an item lacks a column.
+fn absent(alloc: Global, admitted: &Admitted, tables: &Tables) -> Option<Place>
+    requires { IsHeadFor admitted.now.graph tables.now.head }
+{
+    match check_present(alloc, admitted, tables) {
+        Ok(fault) => place_of(fault, 0),
+        Err(_) => None,
     }
-    Ok(check_hears(alloc, &admitted, &tables)?.is_none())
 }
 
-/// What is found where the tables for one fault are those of a graph with two.
-fn found_absent(alloc: Global) -> Result<Option<Place>, Fail> {
-    let admitted = graph(alloc, 2, Vec::new(alloc))?;
-    let tables = for_one_fault(alloc, &admitted)?;
-    Ok(place_of(check_present(alloc, &admitted, &tables)?, 0))
+/// Where the tables for one fault lack a column.
+fn absent_for_one(alloc: Global, admitted: &Admitted) -> Result<Option<Place>, Fail> {
+    let tables = for_one_fault(alloc, admitted)?;
+    Ok(absent(alloc, admitted, &tables))
 }
 
-/// What is found where both columns of B match.
-fn found_double(alloc: Global) -> Result<Option<Place>, Fail> {
-    let admitted = graph(alloc, 1, Vec::new(alloc))?;
+/// Where two columns match.
+fn double(alloc: Global, admitted: &Admitted, tables: &Tables) -> Option<Place>
+    requires { IsHeadFor admitted.now.graph tables.now.head }
+{
+    match check_single(alloc, admitted, tables) {
+        Ok(fault) => place_of(fault, 0),
+        Err(_) => None,
+    }
+}
+
+/// Tables in which both columns of B match.
+fn double_tables(alloc: Global, admitted: &Admitted) -> Result<Tables, Fail>
+    ensures { IfOk result (λ tables. IsHeadFor admitted.now.graph tables.head) }
+{
     let early = column(alloc, 35, &[at(0, 1)])?;
     let late = column(alloc, 72, &[])?;
-    let tables = with(alloc, &admitted, early, late)?;
-    Ok(place_of(check_single(alloc, &admitted, &tables)?, 0))
+    let tables = with(alloc, admitted, early, late)?;
+    Ok(tables)
 }
 
-/// What is found where B has a column for the scenarios in which it is idle.
-fn found_idle(alloc: Global) -> Result<Option<Place>, Fail> {
+/// What is found in those.
+fn double_for_one(alloc: Global, admitted: &Admitted) -> Result<Option<Place>, Fail> {
+    let tables = double_tables(alloc, admitted)?;
+    Ok(double(alloc, admitted, &tables))
+}
+
+/// A to B if A is true.
+fn if_true(alloc: Global) -> Result<Vec<Edge>, Fail> {
     let edge = Edge {
         from: 0,
         to: 1,
@@ -170,12 +212,33 @@ fn found_idle(alloc: Global) -> Result<Option<Place>, Fail> {
         when: Some(true),
         frozen: false,
     };
-    let edges = vec![in alloc; edge]?;
-    let admitted = graph(alloc, 1, edges)?;
+    Ok(vec![in alloc; edge]?)
+}
+
+/// Where an idle process has a column, with the value of the first condition.
+fn idle(alloc: Global, admitted: &Admitted, tables: &Tables) -> Option<Place>
+    requires { IsHeadFor admitted.now.graph tables.now.head }
+{
+    match check_activity(alloc, admitted, tables) {
+        Ok(fault) => place_of(fault, 128),
+        Err(_) => None,
+    }
+}
+
+/// Tables in which B has a column where A is false.
+fn idle_tables(alloc: Global, admitted: &Admitted) -> Result<Tables, Fail>
+    ensures { IfOk result (λ tables. IsHeadFor admitted.now.graph tables.head) }
+{
     let early = column(alloc, 35, &[at(128, 1)])?;
     let late = column(alloc, 36, &[])?;
-    let tables = with(alloc, &admitted, early, late)?;
-    Ok(place_of(check_activity(alloc, &admitted, &tables)?, 128))
+    let tables = with(alloc, admitted, early, late)?;
+    Ok(tables)
+}
+
+/// What is found in those.
+fn idle_if_true(alloc: Global, admitted: &Admitted) -> Result<Option<Place>, Fail> {
+    let tables = idle_tables(alloc, admitted)?;
+    Ok(idle(alloc, admitted, &tables))
 }
 
 /// Whether B is found, with this rule, column and number.
@@ -188,24 +251,32 @@ fn is_of_b(found: Option<Place>, rule: u8, column: Option<u32>, number: u8) -> b
 
 #[test]
 fn rows_for_one_fault(rt: HostRuntime) -> Result<(), Fail> {
-    assert!(rt; is_sound(rt.alloc())?);
+    let admitted = graph(rt.alloc(), 1, Vec::new(rt.alloc()))?;
+    assert!(rt; is_sound_for_one(rt.alloc(), &admitted)?);
     Ok(())
 }
 
 #[test]
 fn a_row_without_a_column(rt: HostRuntime) -> Result<(), Fail> {
-    assert!(rt; is_of_b(found_absent(rt.alloc())?, 3, None, 2));
+    let admitted = graph(rt.alloc(), 2, Vec::new(rt.alloc()))?;
+    let found = absent_for_one(rt.alloc(), &admitted)?;
+    assert!(rt; is_of_b(found, 3, None, 2));
     Ok(())
 }
 
 #[test]
 fn two_columns_in_one_scenario(rt: HostRuntime) -> Result<(), Fail> {
-    assert!(rt; is_of_b(found_double(rt.alloc())?, 2, Some(1), 1));
+    let admitted = graph(rt.alloc(), 1, Vec::new(rt.alloc()))?;
+    let found = double_for_one(rt.alloc(), &admitted)?;
+    assert!(rt; is_of_b(found, 2, Some(1), 1));
     Ok(())
 }
 
 #[test]
 fn a_column_of_an_inactive_process(rt: HostRuntime) -> Result<(), Fail> {
-    assert!(rt; is_of_b(found_idle(rt.alloc())?, 1, Some(1), 0));
+    let edges = if_true(rt.alloc())?;
+    let admitted = graph(rt.alloc(), 1, edges)?;
+    let found = idle_if_true(rt.alloc(), &admitted)?;
+    assert!(rt; is_of_b(found, 1, Some(1), 0));
     Ok(())
 }
