@@ -3,8 +3,6 @@
 
 mod bus;
 mod share;
-#[cfg(test)]
-mod tests;
 
 pub use bus::{arrival, first_from, next_slot, occurrence};
 pub use share::Share;

@@ -6,8 +6,6 @@ mod growing;
 mod joins;
 mod laws;
 mod steps;
-#[cfg(test)]
-mod tests;
 mod tree;
 mod trees;
 

@@ -5,8 +5,6 @@ ghost use Rattle.cpg_rules.specs.Faults.{AdmittedShowNoFault};
 
 mod admission;
 mod slots;
-#[cfg(test)]
-mod tests;
 
 pub use admission::{Admitted, Refused, RuleFault, admit};
 

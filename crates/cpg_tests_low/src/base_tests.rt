@@ -1,6 +1,6 @@
 //! Each call once, with its value.
 
-use crate::{Activation, Edge, Lengths, Name, Problem, Process, Scenario, Slot};
+use cpg_base::{Activation, Edge, Lengths, Name, Problem, Process, Scenario, Slot};
 use std::alloc::Global;
 use std::test::Fail;
 

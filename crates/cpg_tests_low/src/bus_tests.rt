@@ -1,8 +1,8 @@
 //! Each call once, on small rounds worked by hand and on the longest one.
 ghost use Rattle.std.specs.Prelude.{◌≡◌, IfOk, ◌∷◌, []};
 
-use crate::{Share, arrival, first_from, next_slot, occurrence};
 use cpg_base::{Name, OutOfMemory, Problem, Slot};
+use cpg_bus::{Share, arrival, first_from, next_slot, occurrence};
 use std::alloc::Global;
 use std::test::Fail;
 

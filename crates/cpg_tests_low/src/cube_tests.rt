@@ -3,8 +3,8 @@
 ghost use Rattle.std.specs.Prelude.{◌↔◌, All, IsTrue};
 ghost use Rattle.cpg_cube.specs.Fit.{IsKnown};
 
-use crate::{Cube, Literal, covers, uncovered};
 use cpg_base::{Name, Problem, Process, Scenario};
+use cpg_cube::{Cube, Literal, covers, uncovered};
 use cpg_order::urgency;
 use std::alloc::Global;
 use std::process::Abort;

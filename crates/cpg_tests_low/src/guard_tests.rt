@@ -1,7 +1,7 @@
 //! The trees of a graph with a choice, and the limit on tracks.
 
-use crate::{GuardFault, GuardTop, GuardTree, guards, two_alternatives};
 use cpg_base::{Activation, Edge, Name, Problem, Process, Scenario};
+use cpg_guard::{GuardFault, GuardTop, GuardTree, guards, two_alternatives};
 use cpg_order::urgency;
 use std::alloc::Global;
 use std::test::Fail;

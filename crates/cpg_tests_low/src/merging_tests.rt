@@ -4,10 +4,10 @@ ghost use Rattle.std.specs.Prelude.{◌≡◌, ◌∷◌, [], IfOk, IfSome};
 ghost use Rattle.cpg_base.specs.Graph.{process_count};
 ghost use Rattle.cpg_table.specs.Example.{at_count};
 
-use crate::{Entry, merged};
 use cpg_base::{Name, OutOfMemory, Problem, Process};
 use cpg_cube::{Cube, Literal};
 use cpg_order::urgency;
+use cpg_table::{Entry, merged};
 use std::alloc::Global;
 use std::test::Fail;
 

@@ -3,8 +3,8 @@
 ghost use Rattle.std.specs.Prelude.{◌≡◌, IfOk};
 ghost use Rattle.cpg_base.specs.Graph.{process_count};
 
-use crate::{Links, OrderFault, Walk, is_before, ordered, tail, urgency};
 use cpg_base::{Edge, Name, OutOfMemory, Problem, Process, Scenario, Slot};
+use cpg_order::{Links, OrderFault, Walk, is_before, ordered, tail, urgency};
 use std::alloc::Global;
 use std::test::Fail;
 

@@ -1,7 +1,7 @@
 //! Graphs that are admitted and refused.
 
-use crate::{Refused, RuleFault, admit};
 use cpg_base::{Edge, Name, Problem, Process, Scenario, Slot};
+use cpg_rules::{Refused, RuleFault, admit};
 use std::alloc::Global;
 use std::test::Fail;
 

@@ -1,8 +1,8 @@
 //! Each call once, with the tables of one process on one node.
 
-use crate::{Durations, Entry, Extra, Head, HeadProcess, NodeTable, Row, Tables, head_of};
 use cpg_base::{Name, Problem, Process};
 use cpg_cube::Cube;
+use cpg_table::{Durations, Entry, Extra, Head, HeadProcess, NodeTable, Row, Tables, head_of};
 use std::alloc::Global;
 use std::test::Fail;
 

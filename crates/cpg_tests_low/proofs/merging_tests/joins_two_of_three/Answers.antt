@@ -3,7 +3,7 @@ use Rattle.cpg_base.specs.Graph.{process_count}
 use Rattle.cpg_table.specs.Merged.{AreMergeable}
 use Rattle.cpg_table.specs.Example.{at_count}
 use Rattle.cpg_table.proofs.MergingExample.{example_mergeable}
-use Rattle.cpg_table.proofs.merging_tests.joins_two_of_three.Goals as goal
+use Rattle.cpg_tests_low.proofs.merging_tests.joins_two_of_three.Goals as goal
 
 pub merged-requires-clause-entries : goal.merged-requires-clause-entries
 merged-requires-clause-entries g c =
