@@ -94,16 +94,41 @@ fn leaves_the_least(rt: HostRuntime) -> Result<(), Fail> {
     Ok(())
 }
 
+/// At most one fault of A.
+fn at_most_one(alloc: Global) -> Result<Cube, Fail> {
+    let mut cube = Cube::whole(alloc);
+    cube.push(range(0, 0, 1))?;
+    Ok(cube)
+}
+
+/// Whether this literal is all of a cube, and of its copy.
+fn is_of(cube: &Cube, literal: Literal) -> bool {
+    let Ok(copy) = cube.copy() else {
+        return false;
+    };
+    cube.literals() == [literal].as_slice() && copy.literals() == [literal].as_slice()
+}
+
+/// Whether a cube narrows to this literal.
+fn narrows_to(cube: &Cube, by: Literal, to: Literal) -> bool {
+    match cube.with(by) {
+        Ok(Some(narrow)) => is_of(&narrow, to),
+        _ => false,
+    }
+}
+
 #[test]
 fn narrows(rt: HostRuntime) -> Result<(), Fail> {
-    let alloc = rt.alloc();
-    let mut low = Cube::whole(alloc);
-    low.push(range(0, 0, 1))?;
-    let high = low.with(range(0, 1, 2))?.ok_or("with")?.copy()?;
-    assert!(rt; high.literals() == [range(0, 1, 1)].as_slice());
-    assert!(rt; low.with(range(0, 2, 2))?.is_none());
-    assert!(rt; Cube::new(alloc, &[range(1, 0, 0), range(0, 0, 0)])?.is_none());
+    let low = at_most_one(rt.alloc())?;
+    assert!(rt; narrows_to(&low, range(0, 1, 2), range(0, 1, 1)));
+    assert!(rt; matches!(low.with(range(0, 2, 2)), Ok(None)));
     Ok(())
+}
+
+#[test]
+fn refuses_variables_that_fall(rt: HostRuntime) {
+    let literals = [range(1, 0, 0), range(0, 0, 0)];
+    assert!(rt; matches!(Cube::new(rt.alloc(), &literals), Ok(None)));
 }
 
 #[test]
@@ -115,18 +140,26 @@ fn keeps_the_budget(rt: HostRuntime) -> Result<(), Fail> {
     Ok(())
 }
 
+/// Whether the least scenario that two cubes meet in has one fault of A and one of B.
+fn do_meet_at_one(alloc: Global, problem: &Problem, one: &Cube, two: &Cube) -> bool {
+    if !one.is_known(problem) || !two.is_known(problem) {
+        return false;
+    }
+    let Ok(mut least) = Scenario::zero(alloc, problem) else {
+        return false;
+    };
+    one.meets(two, problem, &mut least)
+        && least.number(0) == 1
+        && least.number(1) == 1
+        && least.total() == 2
+}
+
 #[test]
 fn meets_at_the_least(rt: HostRuntime) -> Result<(), Fail> {
-    let alloc = rt.alloc();
-    let problem = problem(alloc)?;
-    let (one, two) = (of_a(alloc, 1)?, of_both(alloc, 1, 1)?);
-    assert!(rt; one.is_known(&problem));
-    assert!(rt; two.is_known(&problem));
-    let mut least = Scenario::zero(alloc, &problem)?;
-    assert!(rt; one.meets(&two, &problem, &mut least));
-    assert!(rt; least.number(0) == 1);
-    assert!(rt; least.number(1) == 1);
-    assert!(rt; least.total() == 2);
+    let problem = problem(rt.alloc())?;
+    let one = of_a(rt.alloc(), 1)?;
+    let two = of_both(rt.alloc(), 1, 1)?;
+    assert!(rt; do_meet_at_one(rt.alloc(), &problem, &one, &two));
     Ok(())
 }
 
