@@ -178,15 +178,30 @@ fn pair(alloc: Global) -> Result<Admitted, Fail>
     Ok(admit(alloc, problem).ok().ok_or("graph")?)
 }
 
+/// The rows of A's node.
+fn sending_rows(alloc: Global) -> Result<Vec<Row>, Fail> {
+    let mut rows = Vec::new(alloc);
+    rows.push(row(alloc, 0, 0, &[(0, None)])?)?;
+    rows.push(row(alloc, 2, 0, &[(40, Some(0)), (80, Some(1))])?)?;
+    Ok(rows)
+}
+
+/// The rows of B's node.
+fn hearing_rows(alloc: Global) -> Result<Vec<Row>, Fail> {
+    let mut rows = Vec::new(alloc);
+    for item in [1, 2] {
+        rows.push(row(alloc, item, 0, &[(50, Some(0)), (90, Some(1))])?)?;
+    }
+    Ok(rows)
+}
+
 /// A is sent at 40 or 80 and arrives 10 later, by how often it failed.
 fn pair_tables(alloc: Global, admitted: &Admitted) -> Result<Tables, Fail>
     ensures tables { IfOk result (λ t. AreTablesOf (head_of admitted.now.graph) t.nodes) }
     ensures valid { IfOk result (λ t. IsValid admitted.now.graph t.nodes) }
 {
-    let arrivals = [(50, Some(0)), (90, Some(1))];
-    let sent = row(alloc, 2, 0, &[(40, Some(0)), (80, Some(1))])?;
-    let first = vec![in alloc; row(alloc, 0, 0, &[(0, None)])?, sent]?;
-    let second = vec![in alloc; row(alloc, 1, 0, &arrivals)?, row(alloc, 2, 0, &arrivals)?]?;
+    let first = sending_rows(alloc)?;
+    let second = hearing_rows(alloc)?;
     let tables = valid_tables(alloc, admitted, first, second)?;
     Ok(tables)
 }
@@ -226,12 +241,9 @@ fn branching(alloc: Global) -> Result<Admitted, Fail>
     Ok(admit(alloc, problem).ok().ok_or("graph")?)
 }
 
-/// The branching graph with A true.
-fn branching_cluster(alloc: Global) -> Result<Cluster, Fail>
-    ensures { IfOk result (λ c. length c.graph.nodes ≡ 2) }
-{
-    let admitted = branching(alloc)?;
-    let mut first = Vec::new(alloc);
+/// The rows of the first node of the branching graph.
+fn first_rows(alloc: Global) -> Result<Vec<Row>, Fail> {
+    let mut rows = Vec::new(alloc);
     for (item, time, value) in [
         (0, 0, None),
         (2, 35, Some(0)),
@@ -239,17 +251,58 @@ fn branching_cluster(alloc: Global) -> Result<Cluster, Fail>
         (7, 60, Some(0)),
         (8, 40, None),
     ] {
-        first.push(row(alloc, item, VALUE, &[(time, value)])?)?;
+        rows.push(row(alloc, item, VALUE, &[(time, value)])?)?;
     }
-    let mut second = Vec::new(alloc);
-    second.push(row(alloc, 1, VALUE, &[(70, Some(1))])?)?;
-    second.push(row(alloc, 3, VALUE, &[(70, Some(0)), (85, Some(1))])?)?;
+    Ok(rows)
+}
+
+/// The starts of the second node.
+fn second_starts(alloc: Global) -> Result<Vec<Row>, Fail> {
+    let mut rows = Vec::new(alloc);
+    rows.push(row(alloc, 1, VALUE, &[(70, Some(1))])?)?;
+    rows.push(row(alloc, 3, VALUE, &[(70, Some(0)), (85, Some(1))])?)?;
+    Ok(rows)
+}
+
+/// The rows of the second node.
+fn second_rows(alloc: Global) -> Result<Vec<Row>, Fail> {
+    let mut rows = second_starts(alloc)?;
     for (item, time, value) in [(4, 70, Some(1)), (7, 70, Some(0)), (8, 50, None)] {
-        second.push(row(alloc, item, VALUE, &[(time, value)])?)?;
+        rows.push(row(alloc, item, VALUE, &[(time, value)])?)?;
     }
-    let tables = valid_tables(alloc, &admitted, first, second)?;
+    Ok(rows)
+}
+
+/// The tables of the branching graph.
+fn branching_tables(alloc: Global, admitted: &Admitted) -> Result<Tables, Fail>
+    ensures tables { IfOk result (λ t. AreTablesOf (head_of admitted.now.graph) t.nodes) }
+    ensures valid { IfOk result (λ t. IsValid admitted.now.graph t.nodes) }
+{
+    let first = first_rows(alloc)?;
+    let second = second_rows(alloc)?;
+    let tables = valid_tables(alloc, admitted, first, second)?;
+    Ok(tables)
+}
+
+/// Opens tables in the scenario in which the first condition is true.
+fn opened_true(alloc: Global, admitted: &Admitted, tables: &Tables) -> Result<Cluster, Fail>
+    requires nodes { length admitted.now.graph.nodes ≡ 2 }
+    requires tables { AreTablesOf (head_of admitted.now.graph) tables.now.nodes }
+    requires valid { IsValid admitted.now.graph tables.now.nodes }
+    ensures { IfOk result (λ c. length c.graph.nodes ≡ 2) }
+{
     let scenario = true_one(alloc, admitted.problem())?;
-    Ok(Cluster::new(alloc, &admitted, &tables, &scenario)?)
+    Ok(Cluster::new(alloc, admitted, tables, &scenario)?)
+}
+
+/// The branching graph with A true.
+fn branching_cluster(alloc: Global) -> Result<Cluster, Fail>
+    ensures { IfOk result (λ c. length c.graph.nodes ≡ 2) }
+{
+    let admitted = branching(alloc)?;
+    let tables = branching_tables(alloc, &admitted)?;
+    let cluster = opened_true(alloc, &admitted, &tables)?;
+    Ok(cluster)
 }
 
 /// How often a node waits in the play of a number, which is taken to its end.
