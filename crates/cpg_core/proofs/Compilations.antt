@@ -1,4 +1,4 @@
--- What a builder answers is a compilation where nothing is late, and else shows what is.
+-- What builders answer under both orders is a compilation where nothing is late, and else shows what is.
 use Rattle.std.proofs.Common.{◌≡◌, ◌+◌, ◌-◌, ◌<◌, ◌≤◌, ◌∙◌, ℕ, zero, suc, false, List, [], ◌∷◌, Option, Some, None, Contains, unwrap_or, option_to_list, flat_map, length, get_or, refl, sym, ap, subst, inl, inr, arith}
 use Rattle.std.proofs.lemmas.Bool.{cases_eq, cases_lt}
 use Rattle.std.proofs.lemmas.List.{get_or_past}
@@ -9,6 +9,13 @@ use Rattle.cpg_base.specs.Graph.{Graph, process_count}
 use Rattle.cpg_base.specs.Duration.{due}
 use Rattle.cpg_base.proofs.Lists.{greatest_above, Contains-first}
 use Rattle.cpg_table.specs.Valid.{IsValid, breaks}
+use Rattle.cpg_base.specs.WellFormed.{WellFormed}
+use Rattle.cpg_order.specs.Urgency.{IsTopological}
+use Rattle.cpg_reach.specs.Wide.{IsNarrow}
+use Rattle.cpg_core.specs.declared.compiling.Compiled.{Compiled}
+use Rattle.cpg_core.specs.Compiled.{IsMeasured, IsLateUnder, IsInTimeUnder, IsBetter, IsHelpless}
+use Rattle.cpg_core.specs.Compilation.{IsCompilation, IsTracked, HasNoTables, IsPreferredTo, HasNoBetter}
+use Rattle.cpg_core.proofs.CompiledLaws.{not_preferred_many, not_preferred_wide, not_preferred_worse, preferred}
 use Rattle.cpg_run.specs.declared.built.Built.{Built}
 use Rattle.cpg_run.specs.Built.{IsBuiltFor}
 use Rattle.cpg_run.specs.Finish.{IsExcess, IsLeastExceeding}
@@ -76,3 +83,86 @@ module _ (g : Graph) (urgency order : List ℕ) (b : Built) (is : IsBuiltFor g u
     greatest_above (flat_map option_to_list late_times.ends) (due g p + b.excess) (end_listed late_times.ends p (due g p + b.excess) late_end),
     late_run.finish,
   )
+
+-- ---- both orders
+
+-- what a builder answers measures the order
+pub measured : (g : Graph) (urgency order : List ℕ) (b : Built) → IsBuiltFor g urgency order b → IsMeasured g urgency order b.excess b.worst
+measured g urgency order b is = record {
+  frozen = b.frozen;
+  frozen_times = is.frozen;
+  excess_in = b.excess_in;
+  excess_by = b.excess_by;
+  is_excess = is.excess;
+  worst_in = b.worst_in;
+  worst_by = b.worst_by;
+  is_worst = is.worst;
+}
+
+pub late_under : (g : Graph) (urgency order : List ℕ) (b : Built) → IsBuiltFor g urgency order b → 0 < b.excess → IsLateUnder g urgency order
+late_under g urgency order b is l = (b.excess, b.worst, measured g urgency order b is, l)
+
+pub in_time_under : (g : Graph) (urgency order : List ℕ) (b : Built) → IsBuiltFor g urgency order b → b.excess ≡ 0 → IsInTimeUnder g urgency order
+in_time_under g urgency order b is e = (b.worst, subst (λ n. IsMeasured g urgency order n b.worst) e (measured g urgency order b is))
+
+-- some process is shown where the excess is above 0
+pub some_shown : (g : Graph) (urgency order : List ℕ) (b : Built) → IsBuiltFor g urgency order b → 0 < b.excess → b.excess_by ≡ None → ⊥
+some_shown g urgency order b is l e = omega (arith, nothing_late g urgency order b.frozen b is.excess e)
+
+module _ (g : Graph) (w : WellFormed g) (urgency : List ℕ) (top : IsTopological g urgency) (narrow : IsNarrow g urgency) (urgent : Built) (is : IsBuiltFor g urgency urgency urgent) where
+  -- without tables of the track order none is better
+  pub no_tables : HasNoTables g → HasNoBetter g urgency urgent
+  no_tables h = elim h [
+    | inl many ↦ record {
+      none = not_preferred_many g w urgency top narrow urgent.excess urgent.worst (measured g urgency urgency urgent is) many;
+      late = inl (inl many);
+    }
+    | inr x ↦ record {
+      none = not_preferred_wide g w urgency top narrow urgent.excess urgent.worst (measured g urgency urgency urgent is) x.0 x.1 x.2 x.3;
+      late = inl (inr (x.0, x.1, inl (x.2, x.3)));
+    }
+  ]
+
+  -- nor where they are no better
+  pub no_better : (c : Compiled) → IsTracked g urgency c → (IsBetter c.built.excess c.built.worst urgent.excess urgent.worst → ⊥) → HasNoBetter g urgency urgent
+  no_better c h worse = record {
+    none = not_preferred_worse g w urgency top narrow urgent.excess urgent.worst (measured g urgency urgency urgent is) c.order h.track h.narrow c.built.excess c.built.worst (measured g urgency c.order c.built h.built) worse;
+    late = elim (cases_eq urgent.excess 0) [
+      | inl e ↦ inr e
+      | inr some ↦ inl (inr (
+        c.order,
+        h.track,
+        inr (late_under g urgency c.order c.built h.built (elim (cases_lt c.built.excess urgent.excess) [
+          | inl less ↦ absurd (worse (inl less))
+          | inr more ↦ omega (arith, some)
+        ])),
+      ))
+    ];
+  }
+
+  -- where the better ones are late, so are the others, and nothing helps
+  pub late_too : (c : Compiled) → IsPreferredTo g urgency urgent c → 0 < c.built.excess → (0 < urgent.excess) × IsHelpless g urgency
+  late_too c h l = (
+    elim h.better [ inl less ↦ omega arith | inr same ↦ omega (arith, same.0) ],
+    inr (c.order, h.tracked.track, inr (late_under g urgency c.order c.built h.tracked.built l)),
+  )
+
+  pub compiled_by_tracks : (c : Compiled) → IsPreferredTo g urgency urgent c → c.built.excess ≡ 0 → IsCompilation g urgency c
+  compiled_by_tracks c h e = record {
+    compiled = record {
+      narrow = narrow;
+      taken = inl (preferred g w urgency top narrow urgent.excess urgent.worst (measured g urgency urgency urgent is) c.order h.tracked.track h.tracked.narrow c.built.excess c.built.worst (measured g urgency c.order c.built h.tracked.built) h.better);
+      in_time = in_time_under g urgency c.order c.built h.tracked.built e;
+    };
+    built = h.tracked.built;
+    in_time = e;
+    valid = built_valid g urgency c.order c.built h.tracked.built e;
+  }
+
+  pub compiled_by_urgency : HasNoBetter g urgency urgent → urgent.excess ≡ 0 → (order : List ℕ) → order ≡ urgency → IsCompilation g urgency (record { built = urgent; order = order })
+  compiled_by_urgency h e order same = subst (λ o. IsCompilation g urgency (record { built = urgent; order = o })) (sym same) (record {
+    compiled = record { narrow = narrow; taken = inr (refl, h.none); in_time = in_time_under g urgency urgency urgent is e };
+    built = is;
+    in_time = e;
+    valid = built_valid g urgency urgency urgent is e;
+  })

@@ -1,26 +1,49 @@
--- What a compile answers while it takes the urgency order alone.
-use Rattle.std.specs.Prelude.{ℕ, ◌≡◌, List, ⊤}
+-- What a compile answers: tables of the compile's order, or why there are none.
+use Rattle.std.specs.Prelude.{ℕ, ◌≡◌, ◌⊎◌, List, ⊤}
 use Rattle.cpg_base.specs.Graph.{Graph}
 use Rattle.cpg_table.specs.Valid.{IsValid}
+use Rattle.cpg_run.specs.declared.built.Built.{Built}
 use Rattle.cpg_run.specs.Built.{IsBuiltFor}
 use Rattle.cpg_core.specs.declared.compiling.Compiled.{Compiled}
 use Rattle.cpg_core.specs.declared.fault.CompileFault.{CompileFault}
 use Rattle.cpg_core.specs.declared.fault.CompileFault.TheVariants.{TooWide, Late, OutOfMemory}
-use Rattle.cpg_reach.specs.Wide.{IsNarrow, IsLeastWide}
-use Rattle.cpg_core.specs.Compiled.{IsShownLate}
+use Rattle.cpg_reach.specs.Wide.{IsWide, IsNarrow, IsLeastWide}
+use Rattle.cpg_tracks.specs.Tracks.{HasTrackOrder, HasManyTracks}
+use Rattle.cpg_core.specs.Compiled.{IsCompiled, IsLate, IsShownLate, IsBetter, IsPreferred, IsHelpless}
 
--- the tables of the urgency order: exact, valid by all ten rules, with their greatest finish; nothing is too wide, and
--- nothing late
+-- the tables of the compile's order: exact, valid by all ten rules, with their greatest finish; nothing is too wide under
+-- the urgency order, and nothing late
 pub record IsCompilation (g : Graph) (urgency : List ℕ) (c : Compiled) : Type 0 where
-  pub order : c.order ≡ urgency
-  pub built : IsBuiltFor g urgency urgency c.built
-  pub narrow : IsNarrow g urgency
+  pub compiled : IsCompiled g urgency c.order
+  pub built : IsBuiltFor g urgency c.order c.built
   pub in_time : c.built.excess ≡ 0
   pub valid : IsValid g c.built.tables.nodes
 
--- what a fault shows: the first item that is too wide; or that none is, and the scenario, the process and its end of the
--- greatest excess
+-- what a fault shows: the first item that is too wide under the urgency order; or that the graph is late, and the scenario,
+-- the process and its end of the greatest excess under that order
 abbrev pub ShowsCompileFault : Graph → List ℕ → CompileFault → Type 0
 ShowsCompileFault g urgency (TooWide x) = IsLeastWide g urgency x
-ShowsCompileFault g urgency (Late scenario process finish) = IsNarrow g urgency × IsShownLate g urgency scenario process finish
+ShowsCompileFault g urgency (Late scenario process finish) = IsLate g urgency × IsShownLate g urgency scenario process finish
 ShowsCompileFault g urgency OutOfMemory = ⊤
+
+-- ---- on the way
+
+-- the tables of the track order, under which nothing is too wide
+pub record IsTracked (g : Graph) (urgency : List ℕ) (c : Compiled) : Type 0 where
+  pub track : HasTrackOrder g c.order
+  pub narrow : IsNarrow g c.order
+  pub built : IsBuiltFor g urgency c.order c.built
+
+-- there is no track order, or an item is too wide under it
+abbrev pub HasNoTables : Graph → Type 0
+HasNoTables g = HasManyTracks g ⊎ ((order : List ℕ) × HasTrackOrder g order × (x : ℕ) × IsWide g order x)
+
+-- they are better than those of the urgency order
+pub record IsPreferredTo (g : Graph) (urgency : List ℕ) (urgent : Built) (c : Compiled) : Type 0 where
+  pub tracked : IsTracked g urgency c
+  pub better : IsBetter c.built.excess c.built.worst urgent.excess urgent.worst
+
+-- no order is better than the urgency order, and none helps where that is late
+pub record HasNoBetter (g : Graph) (urgency : List ℕ) (urgent : Built) : Type 0 where
+  pub none : (other : List ℕ) → IsPreferred g urgency other → ⊥
+  pub late : IsHelpless g urgency ⊎ (urgent.excess ≡ 0)

@@ -1,14 +1,16 @@
 //! From an admitted graph to its tables.
-ghost use Rattle.std.specs.Prelude.{◌≡◌, ◌≤◌, ◌+◌, IfOk, IfErr, Some, length};
+ghost use Rattle.std.specs.Prelude.{◌≡◌, ◌≤◌, ◌<◌, ◌+◌, ◌↔◌, IfOk, IfErr, IfSome, IfNone, IsTrue, Some, length};
 ghost use Rattle.cpg_order.specs.Scenario.{scenarios};
 ghost use Rattle.cpg_order.specs.Urgency.{IsTopological};
 ghost use Rattle.cpg_reach.specs.Wide.{IsNarrow};
 ghost use Rattle.cpg_run.specs.Built.{IsBuiltFor};
-ghost use Rattle.cpg_core.specs.Compilation.{IsCompilation, ShowsCompileFault};
+ghost use Rattle.cpg_core.specs.Compiled.{IsBetter, IsHelpless};
+ghost use Rattle.cpg_core.specs.Compilation.{IsCompilation, IsTracked, HasNoTables, IsPreferredTo, HasNoBetter, ShowsCompileFault};
 
 use crate::CompileFault;
-use cpg_base::Problem;
-use cpg_list::list;
+use cpg_base::{OutOfMemory, Problem};
+use cpg_list::list as build;
+use cpg_merge::merged_order;
 use cpg_order::Order;
 use cpg_rules::Admitted;
 use cpg_run::{BuildFault, Built};
@@ -31,12 +33,13 @@ fn end_past(due: u64, excess: u64, worst: u64) -> u64
     due + excess
 }
 
-/// That a process ends past its due, by the greatest excess, with its end in the scenario of that.
-fn late(problem: &Problem, order: &Order, built: Built, process: u32) -> CompileFault
+/// That a process ends past its due under the urgency order, by the greatest excess, with its end in the scenario of that.
+fn late(problem: &Problem, order: &Order, built: Built) -> CompileFault
     requires topological { IsTopological problem.now order.now }
     requires built { IsBuiltFor problem.now order.now order.now built }
     requires narrow { IsNarrow problem.now order.now }
-    requires late { built.excess_by ≡ Some process }
+    requires late { 0 < built.excess }
+    requires helpless { IsHelpless problem.now order.now }
     ensures { ShowsCompileFault problem.now order.now result }
 {
     let _places = order.len();
@@ -44,8 +47,12 @@ fn late(problem: &Problem, order: &Order, built: Built, process: u32) -> Compile
         worst,
         excess,
         excess_in,
+        excess_by,
         ..
     } = built;
+    let Some(process) = excess_by else {
+        unreachable!()
+    };
     CompileFault::Late {
         scenario: excess_in,
         process,
@@ -53,8 +60,57 @@ fn late(problem: &Problem, order: &Order, built: Built, process: u32) -> Compile
     }
 }
 
-/// The tables of a graph of at most 16,384 scenarios under its urgency order, by which every process ends by its due in
-/// every scenario.
+/// The tables of the track order; `None` exactly where there is no track order, or an item is too wide under it.
+fn tracked(alloc: Global, admitted: &Admitted) -> Result<Option<Compiled>, OutOfMemory>
+    requires few { length (scenarios admitted.now.graph) ≤ 16384 }
+    ensures tables { IfOk result (λ found. IfSome found (IsTracked admitted.now.graph admitted.now.order)) }
+    ensures none { IfOk result (λ found. IfNone found (HasNoTables admitted.now.graph)) }
+{
+    let Some(order) = merged_order(alloc, admitted)? else {
+        return Ok(None);
+    };
+    match build(alloc, admitted, &order) {
+        Ok(built) => Ok(Some(Compiled { built, order })),
+        Err(BuildFault::TooWide(_)) => Ok(None),
+        Err(BuildFault::OutOfMemory) => Err(OutOfMemory),
+    }
+}
+
+/// Whether tables have a lesser greatest excess than others, or an equal one and a strictly lesser greatest finish.
+fn is_better(built: &Built, other: &Built) -> bool
+    ensures { IsTrue result ↔ IsBetter built.now.excess built.now.worst other.now.excess other.now.worst }
+{
+    if built.excess == other.excess {
+        return built.worst < other.worst;
+    }
+    built.excess < other.excess
+}
+
+/// The tables of the track order, where they are better than those of the urgency order.
+fn preferred(
+    alloc: Global,
+    admitted: &Admitted,
+    urgent: &Built,
+) -> Result<Option<Compiled>, OutOfMemory>
+    requires few { length (scenarios admitted.now.graph) ≤ 16384 }
+    requires built { IsBuiltFor admitted.now.graph admitted.now.order admitted.now.order urgent.now }
+    requires narrow { IsNarrow admitted.now.graph admitted.now.order }
+    ensures tables { IfOk result (λ found. IfSome found (IsPreferredTo admitted.now.graph admitted.now.order urgent.now)) }
+    ensures none { IfOk result (λ found. IfNone found (HasNoBetter admitted.now.graph admitted.now.order urgent.now)) }
+{
+    let _order = admitted.order();
+    let Some(tracked) = tracked(alloc, admitted)? else {
+        return Ok(None);
+    };
+    if !is_better(&tracked.built, urgent) {
+        return Ok(None);
+    }
+    Ok(Some(tracked))
+}
+
+/// The tables of a graph of at most 16,384 scenarios under the order that compiles it: the track order where it gives a
+/// lesser greatest excess than the urgency order, or an equal one and an earlier greatest finish, and else the urgency order.
+/// Under it every process ends by its due in every scenario.
 pub fn compile(alloc: Global, admitted: &Admitted) -> Result<Compiled, CompileFault>
     requires few { length (scenarios admitted.now.graph) ≤ 16384 }
     ensures compiled { IfOk result (IsCompilation admitted.now.graph admitted.now.order) }
@@ -62,16 +118,22 @@ pub fn compile(alloc: Global, admitted: &Admitted) -> Result<Compiled, CompileFa
 {
     let problem = admitted.problem();
     let order = admitted.order();
-    let built = match list(alloc, admitted, order) {
+    let urgent = match build(alloc, admitted, order) {
         Ok(built) => built,
         Err(BuildFault::TooWide(item)) => return Err(CompileFault::TooWide(item)),
         Err(BuildFault::OutOfMemory) => return Err(CompileFault::OutOfMemory),
     };
-    if let Some(process) = built.excess_by {
-        return Err(late(problem, order, built, process));
+    if let Some(tracked) = preferred(alloc, admitted, &urgent)? {
+        if tracked.built.excess > 0 {
+            return Err(late(problem, order, urgent));
+        }
+        return Ok(tracked);
+    }
+    if urgent.excess > 0 {
+        return Err(late(problem, order, urgent));
     }
     Ok(Compiled {
-        built,
+        built: urgent,
         order: order.copy()?,
     })
 }

@@ -5,22 +5,20 @@ use Rattle.std.proofs.lemmas.Bool.{both_ways}
 use Rattle.cpg_base.specs.Graph.{Graph}
 use Rattle.cpg_io.specs.Causes.{Rose}
 use Rattle.cpg_words.specs.Parts.{Text}
-use Rattle.cpg_order.specs.Urgency.{IsTopological, IsUrgencyOrder}
-use Rattle.cpg_order.specs.Scenario.{Scenario, scenarios}
+use Rattle.cpg_order.specs.Urgency.{IsUrgencyOrder}
+use Rattle.cpg_order.specs.Scenario.{scenarios}
 use Rattle.cpg_order.proofs.Urgent.{one_urgency_order}
 use Rattle.cpg_reader.specs.declared.place.ReadFault.{ReadFault}
 use Rattle.cpg_reader.specs.Document.{problem_of}
 use Rattle.cpg_rules.specs.Admission.{Admission, IsAdmitted}
 use Rattle.cpg_rules.specs.Faults.{ShowsFault}
 use Rattle.cpg_rules.proofs.Exact.{no_fault}
-use Rattle.cpg_run.specs.Finish.{IsExcess}
-use Rattle.cpg_run.proofs.FrozenUnique.{frozen_unique}
 use Rattle.cpg_core.specs.declared.fault.CompileFault.{CompileFault}
 use Rattle.cpg_core.specs.declared.compiling.Compiled.{Compiled}
 use Rattle.cpg_reach.specs.Wide.{IsWide, IsNarrow}
-use Rattle.cpg_core.specs.Compiled.{IsInTimeUnder, IsLateUnder, IsMeasured, IsShownLate}
-use Rattle.cpg_core.specs.Compilation.{IsCompilation, ShowsCompileFault}
-use Rattle.cpg_core.proofs.BuiltUnique.{one_excess}
+use Rattle.cpg_core.specs.Compiled.{IsCompiled, IsLate}
+use Rattle.cpg_core.specs.Compilation.{ShowsCompileFault}
+use Rattle.cpg_core.proofs.CompiledLaws.{not_late_and_compiled}
 use Rattle.cpgc.specs.declared.halt.Halt.{Halt}
 use Rattle.cpgc.specs.Halts.{halt_of_reading, halt_of_rules, halt_of_compile}
 use Rattle.cpgc.specs.Lines.{status_of}
@@ -55,30 +53,6 @@ module _ (a b : Admission) (x : IsAdmitted a.graph a.order a.guards) (y : IsAdmi
 
   moved : (P : Graph → List ℕ → Type 0) → P b.graph b.order → P a.graph a.order
   moved P p = subst (P a.graph) same_order (subst (λ g. P g b.order) same p)
-
--- ---- excesses
-
-module _ (g : Graph) (order : List ℕ) (top : IsTopological g order) where
-  shown_is_above : (s : Scenario) (p time : ℕ) → (late : IsShownLate g order s p time) → 0 < late.excess
-  shown_is_above s p time late = (late.is_excess.by late.times late.run).0
-
-  pub in_time_not_shown : (s : Scenario) (p time : ℕ) → IsInTimeUnder g order order → IsShownLate g order s p time → ⊥
-  in_time_not_shown s p time now late =
-      let m : IsMeasured g order order 0 now.0 = now.1 in
-      let same : late.frozen ≡ m.frozen = frozen_unique g order top late.frozen m.frozen late.frozen_times m.frozen_times in
-      let one = one_excess g order top.all order top m.frozen 0 late.excess m.excess_in s m.excess_by (Some p) m.is_excess (subst (λ f. IsExcess g order order f late.excess s (Some p)) same late.is_excess) in
-      let above = shown_is_above s p time late in
-      omega (arith, one.0)
-
-  pub late_not_built : (c : Compiled) → IsCompilation g order c → IsLateUnder g order order → ⊥
-  late_not_built c is late =
-      let m : IsMeasured g order order late.0 late.1 = late.2 in
-      let same : c.built.frozen ≡ m.frozen = frozen_unique g order top c.built.frozen m.frozen is.built.frozen m.frozen_times in
-      let one = one_excess g order top.all order top m.frozen late.0 c.built.excess m.excess_in c.built.excess_in m.excess_by c.built.excess_by m.is_excess
-      (subst (λ f. IsExcess g order order f c.built.excess c.built.excess_in c.built.excess_by) same is.built.excess) in
-      let above : 0 < late.0 = late.3 in
-      let none = is.in_time in
-      omega (arith, one.0)
 
 -- ---- the halts that are left
 
@@ -116,9 +90,9 @@ module _ (seen : Seen) (told : Option Text) (bytes : Text) (a : Admission) (tell
       let memory = no_fault a.graph a.order a.guards file.admitted breaks.fault (subst (λ x. ShowsFault x breaks.fault) same breaks.shows) in
       ap status_of (breaks.halt_is ∙ ap (halt_of_rules g) memory)
 
-  -- it is late as shown, and nothing is too wide
+  -- it is late
   abbrev pub LeftLate : Type 0
-  LeftLate = IsNarrow a.graph a.order × ((s : Scenario) × (p time : ℕ) × IsShownLate a.graph a.order s p time)
+  LeftLate = IsLate a.graph a.order
 
   -- too wide, late, of too many scenarios, or want of memory
   abbrev pub LeftWide : Halt → Type 0
@@ -136,7 +110,7 @@ module _ (seen : Seen) (told : Option Text) (bytes : Text) (a : Admission) (tell
       inr (inr (inl (ap status_of e, (x, moved a b file.admitted admits.admitted same (λ g o. IsWide g o x) shows.wide))))
   compile_left b admits h (CompileFault.Late s p time) e shows =
       let same : b.graph ≡ a.graph = same_graph bytes b.graph a.graph (says_of told bytes b.graph tells admits.says) file.says in
-      inr (inl (ap status_of e, (moved a b file.admitted admits.admitted same IsNarrow shows.0, (s, p, time, moved a b file.admitted admits.admitted same (λ g o. IsShownLate g o s p time) shows.1))))
+      inr (inl (ap status_of e, moved a b file.admitted admits.admitted same IsLate shows.0))
   compile_left b admits h CompileFault.OutOfMemory e shows = inl (ap status_of e)
 
   made_left : (h : Halt) (b : Admission) → Admits told b → StopsCompile b h → Left h
@@ -159,12 +133,12 @@ module _ (seen : Seen) (told : Option Text) (bytes : Text) (a : Admission) (tell
   made_not_wide spell text made =
       let b = made.0 in
       let same : b.graph ≡ a.graph = same_graph bytes b.graph a.graph (says_of told bytes b.graph tells made.1.says) file.says in
-      moved a b file.admitted made.1.admitted same IsNarrow made.2.compilation.narrow
+      moved a b file.admitted made.1.admitted same IsNarrow made.2.compilation.compiled.narrow
 
   -- and isn't late
-  pub made_not_late : (spell : Graph → Compiled → Text) (text : Text) → IsMade told spell text → IsLateUnder a.graph a.order a.order → ⊥
+  pub made_not_late : (spell : Graph → Compiled → Text) (text : Text) → IsMade told spell text → IsLate a.graph a.order → ⊥
   made_not_late spell text made late =
       let b = made.0 in
       let same : b.graph ≡ a.graph = same_graph bytes b.graph a.graph (says_of told bytes b.graph tells made.1.says) file.says in
-      late_not_built a.graph a.order file.admitted.topological made.2.compiled
-      (moved a b file.admitted made.1.admitted same (λ g o. IsCompilation g o made.2.compiled) made.2.compilation) late
+      not_late_and_compiled a.graph file.admitted.well_formed a.order file.admitted.topological made.2.compiled.order late
+      (moved a b file.admitted made.1.admitted same (λ g o. IsCompiled g o made.2.compiled.order) made.2.compilation.compiled)

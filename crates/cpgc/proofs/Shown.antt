@@ -10,7 +10,8 @@ use Rattle.cpg_base.specs.Graph.{Graph}
 use Rattle.cpg_core.specs.declared.compiling.Compiled.{Compiled}
 use Rattle.cpg_rules.specs.Admission.{Admission}
 use Rattle.cpg_reach.specs.Wide.{IsNarrow, IsWide}
-use Rattle.cpg_core.specs.Compiled.{IsInTimeUnder, IsLateUnder}
+use Rattle.cpg_core.specs.Compiled.{IsTimely, IsLate}
+use Rattle.cpg_core.proofs.CompiledLaws.{not_timely_and_late}
 use Rattle.cpgc.specs.declared.halt.Refusal.{Refusal}
 use Rattle.cpgc.specs.declared.halt.Halt.{Halt}
 use Rattle.cpgc.specs.declared.halt.Halt.TheVariants.{Refused}
@@ -25,7 +26,7 @@ use Rattle.cpg_table.specs.Lawful.{Tables}
 use Rattle.cpg_table.specs.Valid.{IsValid}
 use Rattle.cpg_violation.specs.Heads.{IsHeadFor}
 use Rattle.cpgc.proofs.Checked.{CheckLeft, check_left, checked_is, play_left, played_is}
-use Rattle.cpgc.proofs.Excluded.{in_time_not_shown, Left, graph_left, made_not_wide, made_not_late}
+use Rattle.cpgc.proofs.Excluded.{Left, graph_left, made_not_wide, made_not_late}
 
 -- words without a form print nothing
 prints_form : (seen : Seen) (asked : Option Command) (text : Text) → PrintsAsked seen asked text → asked ≡ None → ⊥
@@ -78,7 +79,7 @@ module _ (r : Ran) where
       with_wide : (x : ℕ) → IsWide a.graph a.order x → (r.status ≡ 6) ⊎ (r.status ≡ 8)
       with_wide x wide = absurd (made_not_wide r.shelf (r.shelf.stands asks.graph) asks.bytes a asks.told asks.file asks.faultless.shelf made_here.0 text made_here.1 x wide)
 
-      with_late : IsLateUnder a.graph a.order a.order → (r.status ≡ 5) ⊎ (r.status ≡ 8)
+      with_late : IsLate a.graph a.order → (r.status ≡ 5) ⊎ (r.status ≡ 8)
       with_late late = absurd (made_not_late r.shelf (r.shelf.stands asks.graph) asks.bytes a asks.told asks.file asks.faultless.shelf made_here.0 text made_here.1 late)
 
     pub lawful_with : IsLawful r
@@ -94,7 +95,7 @@ module _ (r : Ran) where
       unsafe = λ seven. absurd (other_status 7 seven (λ e. omega arith) (λ e. omega arith));
       silent = λ zero three. absurd (elim with_status [ inl z ↦ zero z | inr t ↦ three t ]);
       wide = λ a x asks. with_wide a asks x;
-      made = λ a asks listable in_time. with_safe asks.faultless;
+      made = λ a asks listable timely. with_safe asks.faultless;
       late = λ a asks listable. with_late a asks;
       other = λ a t asks differs. absurd (differs (with_check a t asks).0);
       safe = λ a t asks head valid. with_safe asks.faultless;
@@ -141,15 +142,15 @@ module _ (r : Ran) where
       by_wide : (x : ℕ) → IsWide a.graph a.order x → (r.status ≡ 6) ⊎ (r.status ≡ 8)
       by_wide x wide = elim left [
         | inl e ↦ inr (told_here ∙ e)
-        | inr (inl late) ↦ absurd (late.1.0 x wide)
+        | inr (inl late) ↦ absurd (late.1.narrow x wide)
         | inr (inr (inl shown)) ↦ inl (told_here ∙ shown.0)
         | inr (inr (inr many)) ↦ absurd (many.1 x wide)
       ]
 
-      by_made : IsListable a → IsInTimeUnder a.graph a.order a.order → (r.status ≡ 0) ⊎ (r.status ≡ 8)
-      by_made listable in_time = elim left [
+      by_made : IsListable a → IsTimely a.graph a.order → (r.status ≡ 0) ⊎ (r.status ≡ 8)
+      by_made listable timely = elim left [
         | inl e ↦ inr (told_here ∙ e)
-        | inr (inl late) ↦ absurd (let shown = late.1.1 in in_time_not_shown a.graph a.order asks.file.admitted.topological shown.0 shown.1 shown.2 in_time shown.3)
+        | inr (inl late) ↦ absurd (not_timely_and_late a.graph asks.file.admitted.well_formed a.order asks.file.admitted.topological timely late.1)
         | inr (inr (inl wide)) ↦ absurd (listable.narrow wide.1.0 wide.1.1)
         | inr (inr (inr many)) ↦ absurd (let few = listable.few in let more = many.0 in omega arith)
       ]

@@ -7,6 +7,7 @@ use super::graphs::{
 use super::packs::{RELEASED_PACK, SINGLE_PACK};
 use super::{done, run_over, shown};
 use cpg_io::MemoryShelf;
+use std::alloc::Global;
 use std::test::Fail;
 
 #[test]
@@ -239,5 +240,27 @@ fn graph_of_nothing(rt: HostRuntime) -> Result<(), Fail> {
     assert!(rt; got.out.taken() == b"order\nworst 0\n".as_slice());
     assert!(rt; got.status == 0);
     assert!(rt; got.err.taken().len() == 0);
+    Ok(())
+}
+
+/// The graph file of X on N1, which sends to Y on N2, and of Z on N2, which waits for nothing.
+fn waiting(alloc: Global, deadline: u64) -> Result<String, Fail> {
+    Ok(format!(in alloc;
+        "faults = 0\ndeadline = {deadline}\nnode = [{{ name = \"N1\" }}, {{ name = \"N2\" }}]\nslot = [{{ node = \"N1\", length = 10, bytes = 8 }}, {{ node = \"N2\", length = 10, bytes = 8 }}]\nprocess = [{{ name = \"X\", node = \"N1\", wcet = 5, alpha = 2, chi = 3, mu = 5 }}, {{ name = \"Y\", node = \"N2\", wcet = 25, alpha = 2, chi = 3, mu = 5 }}, {{ name = \"Z\", node = \"N2\", wcet = 15, alpha = 2, chi = 3, mu = 5 }}]\nedge = [{{ from = \"X\", to = \"Y\" }}]\n"
+    )?)
+}
+
+/// Under the urgency order X Y Z the finish is 80.
+#[test]
+fn order_from_tracks(rt: HostRuntime) -> Result<(), Fail> {
+    let alloc = rt.alloc();
+    let got = shown(alloc, waiting(alloc, 60)?.as_bytes())?;
+    let out =
+        "order X Z Y\nworst 60\nstart X on N1\n  0: always\nstart Y on N2\n  30: always\nstart Z on N2\n  0: always\nsend e0 X>Y on N1\n  20: always\n";
+    assert_eq!(rt; got.out.taken(), out.as_bytes());
+    assert_eq!(rt; (got.status, got.err.taken().len()), (0, 0));
+    let late = shown(alloc, waiting(alloc, 59)?.as_bytes())?;
+    assert_eq!(rt; late.err.taken(), "cpgc: late 80 by Z in none\n".as_bytes());
+    assert_eq!(rt; (late.status, late.out.taken().len()), (5, 0));
     Ok(())
 }

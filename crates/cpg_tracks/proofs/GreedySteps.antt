@@ -1,0 +1,339 @@
+-- Steps of the loops that place the processes of a track.
+use Rattle.std.proofs.Common.{◌≡◌, ◌≢◌, ℕ, suc, ◌+◌, ◌*◌, ◌^◌, ◌<◌, ◌≤◌, Bool, true, false, cond, List, [], ◌∷◌, ◌++◌, length, get_or, set, replicate, map, filter, take, max, Contains, Option, Some, None, is_some, unwrap_or, IfSome, IfNone, refl, sym, ap, ◌∙◌, subst, arith, inl, inr, true≢false}
+use Rattle.std.specs.Option.{option_map}
+use Rattle.std.proofs.lemmas.List.{take_more, map-append, get_or_default, get_or-set_same, get_or-set_other, length-set, length-replicate, get_or-replicate, ext_get_or}
+use Rattle.std.proofs.lemmas.List.FromFn.{length-map-range_with_len}
+use Rattle.std.proofs.lemmas.List.Elements.{filter-append, Contains-append_cases, Contains-get_or}
+use Rattle.std.proofs.lemmas.Bool.{cases_eq}
+use Rattle.cpg_base.specs.Numbers.{numbers_below, greatest}
+use Rattle.cpg_base.specs.Graph.{Graph, process_count, edge_count, node_of, source, inputs, is_message, process_at}
+use Rattle.cpg_base.specs.Limits.{IsProcessWithin, IsWithinLimits}
+use Rattle.cpg_base.specs.WellFormed.{WellFormed}
+use Rattle.cpg_base.specs.Activity.{active, live}
+use Rattle.cpg_base.specs.Duration.{duration}
+use Rattle.cpg_base.specs.Bus.{round}
+use Rattle.cpg_base.proofs.Bounds.{round-le, duration-le}
+use Rattle.cpg_base.proofs.Lists.{Contains-cases, Contains-nil, Contains-map_parts, Contains-filter, Contains-filter_parts, Contains-numbers, numbers-Contains, get_or-map-below, greatest_push, greatest-le}
+use Rattle.cpg_order.specs.Urgency.{IsUrgencyOrder, IsTopological}
+use Rattle.cpg_order.proofs.Urgent.{urgent_total}
+use Rattle.cpg_order.proofs.UrgencyIsTopological.{urgent_first}
+use Rattle.cpg_tracks.specs.Tracks.{IsGreedy, start_in, longest_end, input_ready, ready_at}
+use Rattle.cpg_tracks.specs.Placing.{has_start, free_at, would_start, IsFed, IsSooner, IsNext, IsPlacing, IsDone}
+use Rattle.cpg_tracks.specs.Track.{Track, IsTrackOf, AreBy}
+use Rattle.cpg_tracks.specs.declared.timing.Timing.{Timing}
+use Rattle.cpg_tracks.specs.declared.schedule.Candidate.{Candidate}
+use Rattle.cpg_tracks.specs.Timing.{outcome_of, IsTiming, IsOpen, AreFree, IsCandidate, IsBestOf, ComesFirst, IsBetterOf}
+use Rattle.cpg_tracks.proofs.GreedyUnique.{live_source}
+use Rattle.cpg_tracks.proofs.Placing.{free_cases, free_here, free_elsewhere, place_next}
+use Rattle.cpg_tracks.proofs.GreedyExists.{unplaced_count, fewer, none_left, at_first, nothing_there, none_placed, place_none, sooner_chain, greedy_from_placing}
+
+-- ---- what is found once
+
+module _ (g : Graph) (t : Timing) (is : IsTiming g t) where
+  pub duration_at : (p d : ℕ) → p < process_count g → get_or t.durations.items p d ≡ duration g p g.faults
+  duration_at p d l = ap (λ xs. get_or xs p d) is.durations ∙ get_or-map-below (λ p. duration g p g.faults) (process_count g) p d l
+
+  pub live_at : (e : ℕ) (d : Bool) → e < edge_count g → get_or t.live.items e d ≡ live g (outcome_of t) e
+  live_at e d l = ap (λ xs. get_or xs e d) is.live ∙ get_or-map-below (live g (outcome_of t)) (edge_count g) e d l
+
+  pub durations_long : length t.durations.items ≡ process_count g
+  durations_long = ap length is.durations ∙ length-map-range_with_len (λ p. duration g p g.faults) 0 (process_count g)
+
+  pub live_long : length t.live.items ≡ edge_count g
+  live_long = ap length is.live ∙ length-map-range_with_len (live g (outcome_of t)) 0 (edge_count g)
+
+-- ---- cases of options
+
+pub some_at : {X : Type 0} (P : X → Type 0) (o : Option X) → IfSome o P → (x : X) → o ≡ Some x → P x
+some_at P o h x e = subst (λ z. IfSome z P) e h
+
+pub none_at : {X : Type 0} (P : Type 0) (o : Option X) → IfNone o P → o ≡ None → P
+none_at P o h e = subst (λ z. IfNone z P) e h
+
+-- ---- when an input is there
+
+pub start_there : (starts : List (Option ℕ)) (p s : ℕ) (d : Option ℕ) → p < length starts → get_or starts p d ≡ Some s → get_or starts p None ≡ Some s
+start_there starts p s d l e = get_or_default starts p None d l ∙ e
+
+pub start_early : (starts : List (Option ℕ)) (p s b : ℕ) → AreBy b starts → get_or starts p None ≡ Some s → s ≤ b
+start_early starts p s b h e = omega (arith, h p, ap (λ o. unwrap_or o 0) e)
+
+pub input_there : (g : Graph) (starts : List (Option ℕ)) (e s : ℕ) (b : Bool) → get_or starts (source g e) None ≡ Some s → is_message g e ≡ b →
+    Some (s + duration g (source g e) g.faults + cond b (round g) 0) ≡ option_map (λ _. input_ready g starts e) (get_or starts (source g e) None)
+input_there g starts e s b there is =
+    ap Some (ap (λ c. s + duration g (source g e) g.faults + cond c (round g) 0) (sym is) ∙ ap (λ o. unwrap_or o 0 + duration g (source g e) g.faults + cond (is_message g e) (round g) 0) (sym there))
+    ∙ ap (option_map (λ _. input_ready g starts e)) (sym there)
+
+pub input_missing : {X Y : Type 0} (f : X → Y) (o : Option X) → option_map f o ≡ None → is_some o ≡ false
+input_missing f None h = refl
+input_missing f (Some x) h = absurd (true≢false (ap is_some h))
+
+pub input_given : {X Y : Type 0} (y : Y) (o : Option X) (r : Y) → option_map (λ _. y) o ≡ Some r → (is_some o ≡ true) × (r ≡ y)
+input_given y None r h = absurd (true≢false (sym (ap is_some h)))
+input_given y (Some x) r h = (refl, sym (ap (λ o. unwrap_or o y) h))
+
+-- ---- when a process is ready
+
+module _ (g : Graph) (o : List Bool) (starts : List (Option ℕ)) (p : ℕ) where
+  -- the live ones of the first inputs
+  abbrev live_of : ℕ → List ℕ
+  live_of i = filter (live g o) (take i (inputs g p))
+
+  next_live : (i d : ℕ) → i < length (inputs g p) → live_of (i + 1) ≡ live_of i ++ filter (live g o) (get_or (inputs g p) i d ∷ [])
+  next_live i d l = ap (filter (live g o)) (take_more (inputs g p) i d l) ∙ filter-append (live g o) (take i (inputs g p)) (get_or (inputs g p) i d ∷ [])
+
+  -- when the first inputs are there
+  abbrev ready_by : ℕ → ℕ
+  ready_by i = greatest ((process_at g p).release ∷ map (input_ready g starts) (live_of i))
+
+  -- the sources of the first inputs are placed
+  abbrev FedBy : ℕ → Type 0
+  FedBy i = (e : ℕ) → Contains (live_of i) e → has_start starts (source g e) ≡ true
+
+  module _ (i e d : ℕ) (l : i < length (inputs g p)) (at : get_or (inputs g p) i d ≡ e) where
+    more_by : (b : Bool) → live g o e ≡ b → live_of (i + 1) ≡ live_of i ++ cond b (e ∷ []) []
+    more_by b is = next_live i d l ∙ ap (λ x. live_of i ++ filter (live g o) (x ∷ [])) at ∙ ap (λ c. live_of i ++ cond c (e ∷ []) []) is
+
+    pub ready_takes : live g o e ≡ true → (ready : ℕ) → ready ≡ ready_by i → max ready (input_ready g starts e) ≡ ready_by (i + 1)
+    ready_takes is ready h = ap (λ n. max n (input_ready g starts e)) h
+        ∙ sym (greatest_push ((process_at g p).release ∷ map (input_ready g starts) (live_of i)) (input_ready g starts e))
+        ∙ ap (λ xs. greatest ((process_at g p).release ∷ xs)) (sym (map-append (input_ready g starts) (live_of i) (e ∷ [])))
+        ∙ ap (λ xs. greatest ((process_at g p).release ∷ map (input_ready g starts) xs)) (sym (more_by true is))
+
+    pub fed_takes : live g o e ≡ true → has_start starts (source g e) ≡ true → FedBy i → FedBy (i + 1)
+    fed_takes is there h f k = elim (Contains-append_cases (live_of i) (e ∷ []) f (subst (λ xs. Contains xs f) (more_by true is) k)) [
+      | inl m ↦ h f m
+      | inr m ↦ elim (Contains-cases e [] f m) [ inl same ↦ ap (λ x. has_start starts (source g x)) (sym same) ∙ there | inr none ↦ absurd (Contains-nil f none) ]
+    ]
+
+    skipped : live g o e ≡ false → live_of (i + 1) ≡ live_of i
+    skipped is = more_by false is ∙ append_none (live_of i)
+      where
+        append_none : (xs : List ℕ) → xs ++ [] ≡ xs
+        append_none [] = refl
+        append_none (x ∷ xs) = ap (λ ys. x ∷ ys) (append_none xs)
+
+    pub ready_skips : live g o e ≡ false → (ready : ℕ) → ready ≡ ready_by i → ready ≡ ready_by (i + 1)
+    ready_skips is ready h = h ∙ ap (λ xs. greatest ((process_at g p).release ∷ map (input_ready g starts) xs)) (sym (skipped is))
+
+    pub fed_skips : live g o e ≡ false → FedBy i → FedBy (i + 1)
+    fed_skips is h f k = h f (subst (λ xs. Contains xs f) (skipped is) k)
+
+    pub not_fed : live g o e ≡ true → has_start starts (source g e) ≡ false → IsFed g o starts p → ⊥
+    not_fed is there h = true≢false (sym (h.inputs e (Contains-filter (live g o) (inputs g p) e is (subst (Contains (inputs g p)) at (contains_at (inputs g p) i d l)))) ∙ there)
+      where
+        contains_at : (xs : List ℕ) (i d : ℕ) → i < length xs → Contains xs (get_or xs i d)
+        contains_at xs i d l = Contains-get_or xs i d l
+
+-- ---- no start is late
+
+module _ (g : Graph) (within : IsWithinLimits g) (w : WellFormed g) (o : List Bool) (starts : List (Option ℕ)) (b : ℕ) (early : AreBy b starts) (some : 1000000000 ≤ b) where
+  end_by : (p : ℕ) → p < process_count g → longest_end g starts p ≤ b + 600000000000
+  end_by p l = omega (arith, early p, duration-le g p g.faults within l within.faults)
+
+  input_by : (p e : ℕ) → Contains (filter (live g o) (inputs g p)) e → input_ready g starts e ≤ b + 616000000000
+  input_by p e k = go (is_message g e)
+    where
+      go : (m : Bool) → longest_end g starts (source g e) + cond m (round g) 0 ≤ b + 616000000000
+      go true = omega (arith, end_by (source g e) (live_source g w o p e k).0, round-le g within)
+      go false = omega (arith, end_by (source g e) (live_source g w o p e k).0)
+
+  ready_at_by : (p : ℕ) → p < process_count g → ready_at g o starts p ≤ b + 616000000000
+  ready_at_by p l = let at : IsProcessWithin (length g.nodes) (process_at g p) = within.processes p _ l in greatest-le ((process_at g p).release ∷ map (input_ready g starts) (filter (live g o) (inputs g p))) (b + 616000000000) (λ x k.
+      elim (Contains-cases (process_at g p).release (map (input_ready g starts) (filter (live g o) (inputs g p))) x k) [
+        | inl is ↦ omega (arith, at.release)
+        | inr m ↦ let r = Contains-map_parts (input_ready g starts) (filter (live g o) (inputs g p)) x m in omega (arith, input_by p r.0 r.1, r.2)
+      ])
+
+  free_by : (node : ℕ) → free_at g starts node ≤ b + 600000000000
+  free_by node = elim (free_cases g starts node) [ inl e ↦ omega (arith, e) | inr r ↦ omega (arith, r.3, end_by r.0 (r.1).within) ]
+
+  pub would_start_by : (p : ℕ) → p < process_count g → would_start g o starts p ≤ b + 616000000000
+  would_start_by p l = omega (arith, ready_at_by p l, free_by (node_of g p))
+
+-- ---- the best candidate
+
+module _ (g : Graph) (o : List Bool) (starts : List (Option ℕ)) (order : List ℕ) (urgency : IsUrgencyOrder g order) where
+  -- what comes first is sooner
+  sooner_of : (a b : Candidate) → IsCandidate g o starts a → IsCandidate g o starts b → ComesFirst order a b → a.process ≢ b.process → IsSooner g o starts a.process b.process
+  sooner_of a b h k c ne = elim c [
+    | inl l ↦ inl (omega (arith, h.start, k.start))
+    | inr r ↦ elim (urgent_total g a.process b.process ne) [
+      | inl m ↦ inr (sym h.start ∙ r.0 ∙ k.start, m)
+      | inr m ↦
+          let l = urgent_first g order urgency b.process a.process k.fed.within h.fed.within m in
+          absurd (omega (arith, r.1))
+    ]
+  ]
+
+  pub best_more : (qs : List ℕ) (p : ℕ) (best other better : Option Candidate) → IsBestOf g o starts qs best → IsBetterOf order best other better →
+      (other ≡ None → IsFed g o starts p → ⊥) → ((c : Candidate) → other ≡ Some c → (c.process ≡ p) × IsCandidate g o starts c) → IsBestOf g o starts (qs ++ p ∷ []) better
+  best_more qs p None None better h r none some = subst (IsBestOf g o starts (qs ++ p ∷ [])) (sym r) (λ q k f. elim (Contains-append_cases qs (p ∷ []) q k) [
+    | inl m ↦ h q m f
+    | inr m ↦ elim (Contains-cases p [] q m) [ inl is ↦ none refl (subst (IsFed g o starts) (sym is) f) | inr n ↦ Contains-nil q n ]
+  ])
+  best_more qs p None (Some c) better h r none some = subst (IsBestOf g o starts (qs ++ p ∷ [])) (sym r) (record {
+    candidate = (some c refl).1;
+    best = λ q k f ne. elim (Contains-append_cases qs (p ∷ []) q k) [
+      | inl m ↦ absurd (h q m f)
+      | inr m ↦ elim (Contains-cases p [] q m) [ inl is ↦ absurd (ne ((some c refl).0 ∙ is)) | inr n ↦ absurd (Contains-nil q n) ]
+    ];
+  })
+  best_more qs p (Some b) None better h r none some = subst (IsBestOf g o starts (qs ++ p ∷ [])) (sym r) (record {
+    candidate = h.candidate;
+    best = λ q k f ne. elim (Contains-append_cases qs (p ∷ []) q k) [
+      | inl m ↦ h.best q m f ne
+      | inr m ↦ elim (Contains-cases p [] q m) [ inl is ↦ absurd (none refl (subst (IsFed g o starts) (sym is) f)) | inr n ↦ absurd (Contains-nil q n) ]
+    ];
+  })
+  best_more qs p (Some b) (Some c) better h r none some = elim r [
+    | inl x ↦ subst (IsBestOf g o starts (qs ++ p ∷ [])) (sym x.0) (record {
+      candidate = h.candidate;
+      best = λ q k f ne. elim (Contains-append_cases qs (p ∷ []) q k) [
+        | inl m ↦ h.best q m f ne
+        | inr m ↦ elim (Contains-cases p [] q m) [
+          | inl is ↦ let same : c.process ≡ q = (some c refl).0 ∙ is in
+              subst (IsSooner g o starts b.process) same (sooner_of b c h.candidate (some c refl).1 x.1 (λ e. ne (e ∙ same)))
+          | inr n ↦ absurd (Contains-nil q n)
+        ]
+      ];
+    })
+    | inr x ↦ subst (IsBestOf g o starts (qs ++ p ∷ [])) (sym x.0) (record {
+      candidate = (some c refl).1;
+      best = λ q k f ne. elim (Contains-append_cases qs (p ∷ []) q k) [
+        | inr m ↦ elim (Contains-cases p [] q m) [ inl is ↦ absurd (ne ((some c refl).0 ∙ is)) | inr n ↦ absurd (Contains-nil q n) ]
+        | inl m ↦ elim (cases_eq b.process q) [
+          | inl same ↦ subst (IsSooner g o starts c.process) same (sooner_of c b (some c refl).1 h.candidate x.1 (λ e. ne (e ∙ same)))
+          | inr other ↦ elim (cases_eq c.process b.process) [
+            | inl e ↦ subst (λ z. IsSooner g o starts z q) (sym e) (h.best q m f other)
+            | inr differ ↦ sooner_chain g o starts c.process b.process q (sooner_of c b (some c refl).1 h.candidate x.1 differ) (h.best q m f other)
+          ]
+        ]
+      ];
+    })
+  ]
+
+pub best_within : (g : Graph) (o : List Bool) (starts : List (Option ℕ)) (n : ℕ) → n ≡ process_count g → (qs : List ℕ) (best : Option Candidate) → IsBestOf g o starts qs best → IfSome best (λ c. c.process < n)
+best_within g o starts n e qs None h = _
+best_within g o starts n e qs (Some c) h = omega (arith, h.candidate.fed.within)
+
+pub candidate_within : (g : Graph) (o : List Bool) (starts : List (Option ℕ)) (n : ℕ) → n ≡ process_count g → (other : Option Candidate) → IfSome other (IsCandidate g o starts) → IfSome other (λ c. c.process < n)
+candidate_within g o starts n e None h = _
+candidate_within g o starts n e (Some c) h = omega (arith, h.fed.within)
+
+pub active_at : (g : Graph) (t : Track) → IsTrackOf g t → (i d : ℕ) → i < length t.active → (get_or t.active i d < process_count g) × (active g t.outcome (get_or t.active i d) ≡ true)
+active_at g t track i d l =
+    let r = Contains-filter_parts (active g t.outcome) (numbers_below (process_count g)) (get_or t.active i d) (subst (λ xs. Contains xs (get_or t.active i d)) track.active (Contains-get_or t.active i d l)) in
+    (numbers-Contains (process_count g) (get_or t.active i d) r.0, r.1)
+
+-- the best of the active processes is the next
+module _ (g : Graph) (o : List Bool) (starts : List (Option ℕ)) (t : Track) (track : IsTrackOf g t) (same : t.outcome ≡ o) where
+  in_active : (q : ℕ) → IsFed g o starts q → Contains t.active q
+  in_active q f = subst (λ xs. Contains xs q) (sym track.active) (Contains-filter (active g t.outcome) (numbers_below (process_count g)) q (ap (λ x. active g x q) same ∙ f.active) (Contains-numbers (process_count g) q f.within))
+
+  pub done_none : (best : Option Candidate) → IsBestOf g o starts t.active best → IfNone best (IsDone g o starts)
+  done_none None h = λ q f. h q (in_active q f) f
+  done_none (Some c) h = _
+
+  pub done_some : (best : Option Candidate) → IsBestOf g o starts t.active best → IfSome best (λ c. IsNext g o starts c.process)
+  done_some None h = _
+  done_some (Some c) h = record { fed = h.candidate.fed; best = λ q f ne. h.best q (in_active q f) f ne }
+
+pub done_start : (g : Graph) (o : List Bool) (starts : List (Option ℕ)) (qs : List ℕ) (best : Option Candidate) → IsBestOf g o starts qs best → IfSome best (λ c. c.start ≡ would_start g o starts c.process)
+done_start g o starts qs None h = _
+done_start g o starts qs (Some c) h = h.candidate.start
+
+-- ---- one process is placed
+
+module _ (g : Graph) (within : IsWithinLimits g) (w : WellFormed g) (o : List Bool) (s : List (Option ℕ)) (h : IsPlacing g o s) (p : ℕ) (n : IsNext g o s p) where
+  pub free_more : (free : List ℕ) → AreFree g s free → AreFree g (set s p (Some (would_start g o s p))) (set free (node_of g p) (would_start g o s p + duration g p g.faults))
+  free_more free k = ext_get_or 0 (set free (node_of g p) end) (map (free_at g next) (numbers_below (length g.nodes)))
+      (length-set free (node_of g p) end ∙ long ∙ sym (length-map-range_with_len (free_at g next) 0 (length g.nodes)))
+      (λ node l. let m : node < length g.nodes = omega (arith, length-set free (node_of g p) end, long) in elim (cases_eq node (node_of g p)) [
+        | inl e ↦ ap (λ x. get_or (set free (node_of g p) end) x 0) e ∙ get_or-set_same free (node_of g p) end 0 (omega (arith, long, w.nodes p n.fed.within))
+            ∙ sym (free_here g w o s h p n) ∙ ap (free_at g next) (sym e) ∙ sym (get_or-map-below (free_at g next) (length g.nodes) node 0 m)
+        | inr ne ↦ get_or-set_other free (node_of g p) node end 0 ne ∙ ap (λ xs. get_or xs node 0) k ∙ get_or-map-below (free_at g s) (length g.nodes) node 0 m
+            ∙ sym (free_elsewhere g w o s h p n node ne) ∙ sym (get_or-map-below (free_at g next) (length g.nodes) node 0 m)
+      ])
+    where
+      next : List (Option ℕ)
+      next = set s p (Some (would_start g o s p))
+
+      end : ℕ
+      end = would_start g o s p + duration g p g.faults
+
+      long : length free ≡ length g.nodes
+      long = ap length k ∙ length-map-range_with_len (free_at g s) 0 (length g.nodes)
+
+  pub early_more : (b : ℕ) → 1000000000 ≤ b → AreBy b s → AreBy (b + 616000000000) (set s p (Some (would_start g o s p)))
+  early_more b some early q = elim (cases_eq q p) [
+    | inl e ↦ omega (
+      arith,
+      ap (λ x. start_in (set s p (Some (would_start g o s p))) x) e,
+      ap (λ x. unwrap_or x 0) (get_or-set_same s p (Some (would_start g o s p)) None (omega (arith, h.count, n.fed.within))),
+      would_start_by g within w o s b early some p n.fed.within,
+    )
+    | inr ne ↦ omega (arith, ap (λ x. unwrap_or x 0) (get_or-set_other s p q (Some (would_start g o s p)) None ne), early q)
+  ]
+
+  pub fewer_left : suc (unplaced_count (set s p (Some (would_start g o s p)))) ≡ unplaced_count s
+  fewer_left = fewer s p (would_start g o s p) (omega (arith, h.count, n.fed.within)) n.fed.unplaced
+
+-- nothing is placed at first
+module _ (g : Graph) (o : List Bool) where
+  pub free_first : AreFree g (replicate (process_count g) None) (replicate (length g.nodes) 0)
+  free_first = ext_get_or 0 (replicate (length g.nodes) 0) (map (free_at g (replicate (process_count g) None)) (numbers_below (length g.nodes)))
+      (length-replicate {A = ℕ} (length g.nodes) 0 ∙ sym (length-map-range_with_len (free_at g (replicate (process_count g) None)) 0 (length g.nodes)))
+      (λ node l. let m : node < length g.nodes = omega (arith, length-replicate {A = ℕ} (length g.nodes) 0) in
+      get_or-replicate (length g.nodes) node 0 0 m ∙ sym (get_or-map-below (free_at g (replicate (process_count g) None)) (length g.nodes) node 0 m ∙ none node))
+    where
+      none : (node : ℕ) → free_at g (replicate (process_count g) None) node ≡ 0
+      none node = elim (free_cases g (replicate (process_count g) None) node) [ inl e ↦ e | inr r ↦ absurd (none_placed g o r.0 r.1) ]
+
+  pub early_first : (b : ℕ) → AreBy b (replicate (process_count g) None)
+  early_first b p = omega (arith, ap (λ x. unwrap_or x 0) (nothing_there g o p))
+
+  pub left_first : unplaced_count (replicate (process_count g) None) + 0 ≤ process_count g
+  left_first = omega (arith, at_first (process_count g))
+
+  -- and all at last
+  pub none_unplaced : (s : List (Option ℕ)) → IsPlacing g o s → unplaced_count s ≡ 0 → IsDone g o s
+  none_unplaced s h e p f = let l = none_left s p (omega (arith, h.count, f.within)) f.unplaced in omega arith
+
+-- ---- after so many processes
+
+pub record HavePlaced (g : Graph) (o : List Bool) (starts : List (Option ℕ)) (times : List ℕ) (n : ℕ) : Type 0 where
+  pub placing : IsPlacing g o starts
+  pub left : unplaced_count starts + n ≤ process_count g
+  pub free : AreFree g starts times
+  pub early : AreBy (1000000000 + n * 616000000000) starts
+
+pub placed_first : (g : Graph) (o : List Bool) → HavePlaced g o (replicate (process_count g) None) (replicate (length g.nodes) 0) 0
+placed_first g o = record { placing = place_none g o; left = left_first g o; free = free_first g o; early = early_first g o (1000000000 + 0 * 616000000000) }
+
+module _ (g : Graph) (within : IsWithinLimits g) (w : WellFormed g) (o : List Bool) (starts : List (Option ℕ)) (free : List ℕ) (n : ℕ) (h : HavePlaced g o starts free n) where
+  pub placed_open : n < process_count g → IsOpen g starts
+  placed_open l = record { count = h.placing.count; early = λ p. omega (arith, h.early p, within.few_processes) }
+
+  pub placed_early : n ≤ process_count g → AreBy (2 ^ 60) starts
+  placed_early l p = omega (arith, h.early p, within.few_processes)
+
+  pub placed_late : (p : ℕ) → n < process_count g → IsNext g o starts p → would_start g o starts p ≤ 2 ^ 60
+  placed_late p l next = omega (arith, would_start_by g within w o starts (1000000000 + n * 616000000000) h.early (omega arith) p next.fed.within, within.few_processes)
+
+  pub placed_more : (p start node time : ℕ) → IsNext g o starts p → start ≡ would_start g o starts p → node ≡ node_of g p → time ≡ duration g p g.faults →
+      HavePlaced g o (set starts p (Some start)) (set free node (start + time)) (n + 1)
+  placed_more p start node time next a b c = subst (λ t. HavePlaced g o (set starts p (Some start)) (set free node (start + t)) (n + 1)) (sym c)
+      (subst (λ m. HavePlaced g o (set starts p (Some start)) (set free m (start + duration g p g.faults)) (n + 1)) (sym b)
+      (subst (λ s. HavePlaced g o (set starts p (Some s)) (set free (node_of g p) (s + duration g p g.faults)) (n + 1)) (sym a) (record {
+        placing = place_next g w o starts h.placing p next;
+        left = omega (arith, fewer_left g within w o starts h.placing p next, h.left);
+        free = free_more g within w o starts h.placing p next free h.free;
+        early = λ q. omega (arith, early_more g within w o starts h.placing p next (1000000000 + n * 616000000000) (omega arith) h.early q);
+      })))
+
+  pub placed_whole : process_count g ≤ n → IsDone g o starts
+  placed_whole l = none_unplaced g o starts h.placing (omega (arith, h.left))
+
+  pub placed_greedy : (order : List ℕ) → IsTopological g order → IsDone g o starts → IsGreedy g o starts
+  placed_greedy order top done = greedy_from_placing g o w order top starts h.placing done

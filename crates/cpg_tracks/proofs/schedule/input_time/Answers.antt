@@ -1,0 +1,50 @@
+use Rattle.std.proofs.Common.{◌≡◌, ◌+◌, ◌∙◌, Some, None, get_or, sym, ap, ap₂, arith, true, false}
+use Rattle.cpg_base.proofs.Bounds.{round-le, duration-le}
+use Rattle.cpg_base.specs.Graph.{source}
+use Rattle.cpg_base.specs.Duration.{duration}
+use Rattle.cpg_tracks.proofs.GreedySteps.{duration_at, durations_long, start_early, input_there}
+use Rattle.cpg_tracks.proofs.schedule.input_time.Goals as goal
+
+pub index-requires : goal.index-requires
+index-requires c = omega (arith, c.source-source.ensures.within, durations_long c.args.problem.now c.args.timing.now c.requires.timing)
+
+pub overflow_add-end : goal.overflow_add-end
+overflow_add-end c =
+    let g = c.args.problem.now in
+    let p = c.source-source.result in
+    omega (
+      arith,
+      c.index.ensures ∙ duration_at g c.args.timing.now c.requires.timing p c.index.result.now c.source-source.ensures.within,
+      duration-le g p g.faults c.requires.timing.limits c.source-source.ensures.within c.requires.timing.limits.faults,
+      start_early c.args.starts.now p c.in-Some.start _ c.requires.starts.early c.in-Some.is,
+    )
+
+pub overflow_add-result : goal.overflow_add-result
+overflow_add-result c =
+    let g = c.args.problem.now in
+    let p = c.source-source.result in
+    omega (
+      arith,
+      c.index.ensures ∙ duration_at g c.args.timing.now c.requires.timing p c.index.result.now c.source-source.ensures.within,
+      duration-le g p g.faults c.requires.timing.limits c.source-source.ensures.within c.requires.timing.limits.faults,
+      start_early c.args.starts.now p c.in-Some.start _ c.requires.starts.early c.in-Some.is,
+      c.requires.timing.round,
+      round-le g c.requires.timing.limits,
+    )
+
+pub returns-then-is_message : goal.returns-then-is_message
+returns-then-is_message c =
+    let g = c.args.problem.now in
+    let from = c.source-source.ensures.source in
+    let time = c.index.ensures ∙ duration_at g c.args.timing.now c.requires.timing c.source-source.result c.index.result.now c.source-source.ensures.within ∙ ap (λ p. duration g p g.faults) from in
+    ap₂ (λ d r. Some (c.in-Some.start + d + r)) time c.requires.timing.round
+    ∙ input_there g c.args.starts.now c.args.edge c.in-Some.start true (ap (λ p. get_or c.args.starts.now p None) (sym from) ∙ c.in-Some.is) (sym c.is_message.ensures ∙ c.if-is_message.true)
+
+pub returns : goal.returns
+returns c =
+    let g = c.args.problem.now in
+    let from = c.source-source.ensures.source in
+    let time = c.index.ensures ∙ duration_at g c.args.timing.now c.requires.timing c.source-source.result c.index.result.now c.source-source.ensures.within ∙ ap (λ p. duration g p g.faults) from in
+    ap (λ d. Some (c.in-Some.start + d)) time
+    ∙ ap Some (let z : c.in-Some.start + duration g (source g c.args.edge) g.faults ≡ c.in-Some.start + duration g (source g c.args.edge) g.faults + 0 = omega arith in z)
+    ∙ input_there g c.args.starts.now c.args.edge c.in-Some.start false (ap (λ p. get_or c.args.starts.now p None) (sym from) ∙ c.in-Some.is) (sym c.is_message.ensures ∙ c.if-is_message.false)

@@ -1,0 +1,5 @@
+use Rattle.cpg_tracks.proofs.GreedySteps.{HavePlaced}
+use Rattle.cpg_tracks.proofs.schedule.place_all.Given as goal
+
+abbrev pub invariant-loop-placed : goal.invariant-loop-placed
+invariant-loop-placed l = HavePlaced l.problem l.track.outcome l.starts.items l.free.items l._placed

@@ -1,0 +1,7 @@
+use Rattle.std.proofs.Common.{◌≡◌, map}
+use Rattle.cpg_base.specs.Numbers.{numbers_below}
+use Rattle.cpg_base.specs.Duration.{duration}
+use Rattle.cpg_tracks.proofs.timing.durations.Given as goal
+
+abbrev pub invariant-loop-process : goal.invariant-loop-process
+invariant-loop-process l = l.found.items ≡ map (λ p. duration l.problem p l.problem.faults) (numbers_below l.process)

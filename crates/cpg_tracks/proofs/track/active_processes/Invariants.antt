@@ -1,0 +1,7 @@
+use Rattle.std.proofs.Common.{◌≡◌, filter}
+use Rattle.cpg_base.specs.Numbers.{numbers_below}
+use Rattle.cpg_base.specs.Activity.{active}
+use Rattle.cpg_tracks.proofs.track.active_processes.Given as goal
+
+abbrev pub invariant-loop-process : goal.invariant-loop-process
+invariant-loop-process l = l.found.items ≡ filter (active l.problem l.scenario.values) (numbers_below l.process)

@@ -1,0 +1,9 @@
+use Rattle.std.proofs.Common.{◌≡◌, All, map, take}
+use Rattle.cpg_tracks.specs.Track.{IsTrackOf, outcomes_of}
+use Rattle.cpg_tracks.proofs.track.tracks_of.Given as goal
+
+abbrev pub invariant-loop-scenario : goal.invariant-loop-scenario
+invariant-loop-scenario l = record {
+  outcomes : map (λ t. t.outcome) l.tracks.items ≡ outcomes_of (take l.scenario-index l.scenarios);
+  each : All (IsTrackOf l.problem) l.tracks.items;
+}

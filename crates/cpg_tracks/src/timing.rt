@@ -1,0 +1,87 @@
+//! What placing the processes of a track rests on.
+ghost use Rattle.std.specs.Prelude.{◌≡◌, ◌<◌, ◌≤◌, IfOk, map};
+ghost use Rattle.cpg_base.specs.Numbers.{numbers_below};
+ghost use Rattle.cpg_base.specs.Graph.{process_count, edge_count};
+ghost use Rattle.cpg_base.specs.Activity.{live};
+ghost use Rattle.cpg_base.specs.Duration.{duration};
+ghost use Rattle.cpg_tracks.specs.Track.{HasValues, IsTrackOf, AreAdmitted};
+ghost use Rattle.cpg_tracks.specs.Timing.{IsTiming};
+
+use crate::Track;
+use cpg_base::{OutOfMemory, Problem, Scenario};
+use cpg_guard::GuardTrees;
+use cpg_order::Links;
+use std::alloc::Global;
+
+/// What placing the processes of a track rests on, found once.
+#[derive(Drop)]
+pub(crate) struct Timing<'a> {
+    /// The track.
+    pub(crate) track: &'a Track,
+    /// The edges of each process.
+    pub(crate) links: Links,
+    /// By edge, whether it is live.
+    pub(crate) live: Vec<bool>,
+    /// By process, how long an execution with all the faults takes, in time units.
+    pub(crate) durations: Vec<u64>,
+    /// How long a message takes: one round of the bus, in time units.
+    pub(crate) round: u64,
+}
+
+/// By edge, whether it is live.
+fn live_edges(
+    alloc: Global,
+    problem: &Problem,
+    guards: &GuardTrees,
+    scenario: &Scenario,
+) -> Result<Vec<bool>, OutOfMemory>
+    requires admitted { AreAdmitted problem.now guards.now }
+    requires values { HasValues problem.now scenario.now }
+    ensures { IfOk result (λ found. found.items ≡ map (live problem.now scenario.now.values) (numbers_below (edge_count problem.now))) }
+{
+    let count = problem.edges().len();
+    let mut found = Vec::new(alloc);
+    found.reserve(count)?;
+    for edge in 0..count as u32 {
+        found.push(guards.live(edge, scenario))?;
+    }
+    Ok(found)
+}
+
+/// By process, how long an execution with all the faults takes.
+fn durations(alloc: Global, problem: &Problem) -> Result<Vec<u64>, OutOfMemory>
+    ensures { IfOk result (λ found. found.items ≡ map (λ p. duration problem.now p problem.now.faults) (numbers_below (process_count problem.now))) }
+{
+    let faults = problem.faults();
+    let count = problem.processes().len();
+    let mut found = Vec::new(alloc);
+    found.reserve(count)?;
+    for process in 0..count as u32 {
+        found.push(problem.duration(process, faults))?;
+    }
+    Ok(found)
+}
+
+impl<'a> Timing<'a> {
+    /// What placing the processes of a track rests on.
+    pub(crate) fn of(
+        alloc: Global,
+        problem: &Problem,
+        guards: &GuardTrees,
+        track: &'a Track,
+    ) -> Result<Timing<'a>, OutOfMemory>
+        requires admitted { AreAdmitted problem.now guards.now }
+        requires track { IsTrackOf problem.now track.now }
+        ensures timing { IfOk result (IsTiming problem.now) }
+        ensures track { IfOk result (λ timing. timing.track.now ≡ track.now) }
+    {
+        let scenario = track.scenario();
+        Ok(Timing {
+            track,
+            links: Links::of(alloc, problem)?,
+            live: live_edges(alloc, problem, guards, scenario)?,
+            durations: durations(alloc, problem)?,
+            round: problem.round(),
+        })
+    }
+}
