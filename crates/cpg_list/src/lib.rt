@@ -7,4 +7,5 @@ mod listing;
 #[cfg(test)]
 mod tests;
 
+pub use assembling::tables_of;
 pub use listing::list;

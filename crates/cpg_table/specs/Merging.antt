@@ -1,5 +1,5 @@
 -- How rows are merged: columns are sorted so that those which differ in one variable alone stand side by side, and neighbours that touch are made one, variable by variable.
-use Rattle.std.specs.Prelude.{ℕ, ◌+◌, ◌≡◌, ◌≢◌, ◌<◌, ◌≤◌, ◌⊎◌, Bool, false, not, ◌&&◌, ◌||◌, ◌==◌, if◌then◌else◌, List, [], ◌∷◌, map, filter, length, Option, Some, None, AllPairs, Contains, IsPermutation}
+use Rattle.std.specs.Prelude.{ℕ, ◌+◌, ◌≡◌, ◌≢◌, ◌<◌, ◌≤◌, ◌⊎◌, Bool, false, not, ◌&&◌, ◌||◌, ◌==◌, if◌then◌else◌, List, [], ◌∷◌, get_or, map, filter, length, Option, Some, None, AllPairs, Contains, IsPermutation}
 use Rattle.std.specs.List.{flat_map, list_any}
 use Rattle.std.specs.declared.cmp.Ordering.{Ordering}
 use Rattle.std.specs.Ordering.{nat_cmp, ordering_then, is_eq}
@@ -118,6 +118,10 @@ lows_of g cube p = low_in cube p ∷ low_of_value cube (condition_of g p)
 -- what columns stand by: these lows along an order
 abbrev pub lows_along : Graph → List ℕ → List Literal → List ℕ
 lows_along g order cube = flat_map (lows_of g cube) order
+
+-- the list has the low of each variable
+abbrev pub HasLows : List Literal → List ℕ → Type 0
+HasLows cube lows = (v : ℕ) → v < 256 → get_or lows v 0 ≡ low_in cube v
 
 -- no column has its lows before those of an earlier one
 abbrev pub AreByLows : Graph → List ℕ → List Column → Type 0

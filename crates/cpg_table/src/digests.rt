@@ -13,14 +13,14 @@ use std::alloc::Global;
 const MULTIPLIER: u64 = 6_364_136_223_846_793_005;
 
 /// A digest with one number more.
-fn mixed(digest: u64, number: u64) -> u64
+pub(crate) fn mixed(digest: u64, number: u64) -> u64
     ensures { result ≡ mixed digest number }
 {
     digest.wrapping_add(number).wrapping_mul(MULTIPLIER)
 }
 
 /// A number for a literal, another for each.
-fn number_of(literal: Literal) -> u64
+pub(crate) fn number_of(literal: Literal) -> u64
     ensures { result ≡ number_of literal }
 {
     let variable = u64::from(literal.variable);

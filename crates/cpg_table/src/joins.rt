@@ -23,7 +23,7 @@ pub(crate) fn top_of(faults: u8, variable: u8) -> u8
 }
 
 /// The least number of a variable that literals allow.
-pub(crate) fn low_of(literals: &[Literal], variable: u8) -> u8
+fn low_of(literals: &[Literal], variable: u8) -> u8
     ensures { result ≡ low_in literals.now variable }
 {
     for literal in literals {

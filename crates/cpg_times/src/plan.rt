@@ -149,7 +149,7 @@ impl Plan {
     }
 
     /// The edges that lead to a process.
-    pub(crate) fn inputs(&self, problem: &Problem, process: u32) -> &[u32]
+    pub fn inputs(&self, problem: &Problem, process: u32) -> &[u32]
         requires plan { self.now ≡ plan_of problem.now }
         requires process { process < process_count problem.now }
         ensures { result.now ≡ inputs problem.now process }
@@ -159,7 +159,7 @@ impl Plan {
     }
 
     /// The items that a process sends.
-    pub(crate) fn queue(&self, problem: &Problem, process: u32) -> &[u32]
+    pub fn queue(&self, problem: &Problem, process: u32) -> &[u32]
         requires plan { self.now ≡ plan_of problem.now }
         requires process { process < process_count problem.now }
         ensures { result.now ≡ queue_of problem.now process }
@@ -169,7 +169,7 @@ impl Plan {
     }
 
     /// The share of a node that has a slot.
-    pub(crate) fn share(&self, problem: &Problem, node: u32) -> Share
+    pub fn share(&self, problem: &Problem, node: u32) -> Share
         requires plan { self.now ≡ plan_of problem.now }
         requires node { node < length problem.now.nodes }
         requires slot { HasSlot problem.now node }
@@ -182,7 +182,7 @@ impl Plan {
     }
 
     /// The length of the round.
-    pub(crate) fn round(&self, problem: &Problem) -> u64
+    pub fn round(&self, problem: &Problem) -> u64
         requires { self.now ≡ plan_of problem.now }
         ensures { result ≡ round problem.now }
     {

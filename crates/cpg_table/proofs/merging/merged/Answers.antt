@@ -35,7 +35,7 @@ returns c =
     let columns = c.in_ok-columns-2.columns.items in
     let settled : AreSettled g (all_shorn g.faults entries) columns =
     subst (λ before. AreSettled g before columns) (c.in_ok-columns.ensures ∙ ap₂ all_shorn c.faults.ensures.faults c.as_slice.ensures.value) c.in_ok-columns-2.ensures in
-    if_ok_both c.ordered.result (λ r. IsPermutation c.as_slice-2.result.now r.items) (λ r. AreByLows g c.processes.result.now r.items) (λ r. IsMergeOf g order entries r.items)
+    if_ok_both c.ordered.result (λ r. IsPermutation columns r.items) (λ r. AreByLows g c.processes.result.now r.items) (λ r. IsMergeOf g order entries r.items)
     (λ r p up. merge_of g c.faults.ensures.within.few_processes order c.requires.order entries columns r.items c.requires.entries settled
-    (subst (λ before. IsPermutation before r.items) c.as_slice-2.ensures.value p) (subst (λ o. AreByLows g o r.items) c.processes.ensures.processes up))
+    p (subst (λ o. AreByLows g o r.items) c.processes.ensures.processes up))
     c.ordered.ensures.permutation c.ordered.ensures.by_lows

@@ -13,7 +13,7 @@ pub returns-clause-permutation : goal.returns-clause-permutation
 returns-clause-permutation c =
     let before = c.in_ok-ranked.ranked.items in
     let after = c.sort_unstable_by.new.self.items in
-    let columns = c.args.columns.now in
+    let columns = c.args.columns.items in
     IfOk-weaker _ (λ r. r.items ≡ map (λ (x : Ranked). x.column) after) (λ r. IsPermutation columns r.items)
     (λ r e. subst (IsPermutation columns) (sym e) (subst (λ (xs : List Column). IsPermutation xs (map (λ (x : Ranked). x.column) after)) c.in_ok-ranked.ensures.columns (IsPermutation-map (λ (x : Ranked). x.column) before after c.sort_unstable_by.ensures.permutation)))
     (search rules)

@@ -1,8 +1,10 @@
-use Rattle.std.proofs.Common.{◌≡◌, ◌<◌, length, arith, rules}
+use Rattle.std.proofs.Common.{◌≡◌, ◌<◌, length, arith, rules, subst}
 use Rattle.std.specs.Vec.{vec_len}
 use Rattle.cpg_base.specs.Graph.{IsVariable}
 use Rattle.cpg_table.proofs.MergingLists.{joins_through}
-use Rattle.cpg_table.proofs.MergingSteps.{settled_same, fewer_else}
+use Rattle.cpg_table.specs.Totals.{HaveNoPartners}
+use Rattle.cpg_table.proofs.MergingSteps.{settled_same, fewer_else, good_of}
+use Rattle.cpg_table.proofs.MergingTotals.{settled_partners, from_off}
 use Rattle.cpg_table.proofs.merging.settled.Goals as goal
 
 pub returns-then-len-before : goal.returns-then-len-before
@@ -16,6 +18,18 @@ returns-then-len-before c =
       joins = joins_through g c.args.columns.items old.items new.items c.loop-columns.invariant.joins (c.in_ok-columns.ensures).joins;
       good = (c.in_ok-columns.ensures).good;
       settled = settled_same g (IsVariable g) old.items new.items c.in_ok-columns.ensures (omega arith);
+    }
+
+pub returns-then-not-may : goal.returns-then-not-may
+returns-then-not-may c =
+    let g = c.args.problem.now in
+    let columns = c.loop-columns.columns.items in
+    let few = c.processes-processes.ensures.within.few_processes in
+    let none : HaveNoPartners columns = subst HaveNoPartners c.as_slice.ensures.value (from_off c.in_ok-may.may c.if-not-may.true c.in_ok-may.ensures) in
+    record {
+      joins = c.loop-columns.invariant.joins;
+      good = c.loop-columns.invariant.good;
+      settled = λ v known. settled_partners g few v known columns (good_of g few columns c.loop-columns.invariant.good) none;
     }
 
 pub loop-columns-smaller : goal.loop-columns-smaller

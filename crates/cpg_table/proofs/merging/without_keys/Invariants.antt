@@ -1,5 +1,5 @@
-use Rattle.std.proofs.Common.{◌≡◌, take, map}
+use Rattle.std.proofs.Common.{◌≡◌, ◌++◌, map}
 use Rattle.cpg_table.proofs.merging.without_keys.Given as goal
 
 abbrev pub invariant-loop-one : goal.invariant-loop-one
-invariant-loop-one l = l.columns.items ≡ map (λ x. x.column) (take l.one-index l.ranked)
+invariant-loop-one l = map (λ x. x.column) l.fn.ranked.items ≡ l.columns.items ++ map (λ x. x.column) l.one-iterator.rest.items

@@ -1,0 +1,41 @@
+-- Numbers of columns, each a sum over its literals, by which it is found whether any two of a row touch: where two do, the later one's sum with one literal changed is the sum of the other.
+use Rattle.std.specs.Prelude.{ℕ, ◌+◌, ◌-◌, ◌*◌, ◌^◌, ◌%◌, ◌<◌, ◌≤◌, ◌≡◌, List, length, get_or, map, sum_by, Contains}
+use Rattle.cpg_cube.specs.declared.literal.Literal.{Literal}
+use Rattle.cpg_table.specs.Table.{Column}
+use Rattle.cpg_table.specs.Digests.{mixed, number_of}
+
+abbrev pub squared : ℕ → ℕ
+squared n = n * n % 2 ^ 64
+
+-- a number for a literal's number, with no line through several
+abbrev pub spread_first : ℕ → ℕ
+spread_first n = mixed 1 n
+
+abbrev pub spread_second : ℕ → ℕ
+spread_second n = mixed (squared (spread_first n)) n
+
+abbrev pub spread : ℕ → ℕ
+spread n = squared (mixed (squared (spread_second n)) (spread_first n))
+
+abbrev pub hash_of : Literal → ℕ
+hash_of l = spread (number_of l)
+
+-- the sum of a column's time and literals
+abbrev pub total_of : Column → ℕ
+total_of c = (mixed 0 c.time + sum_by hash_of c.cube) % 2 ^ 64
+
+-- a literal that ends where another begins
+abbrev pub ended : Literal → ℕ → Literal
+ended l low = record { variable = l.variable; low = low; high = l.low - 1 }
+
+-- none of the sums is that of a column with the literal changed so
+abbrev pub HasNoPartner : List ℕ → ℕ → Literal → Type 0
+HasNoPartner totals total l = (low rest : ℕ) → low < l.low → (rest + hash_of l) % 2 ^ 64 ≡ total → Contains totals ((rest + hash_of (ended l low)) % 2 ^ 64) → ⊥
+
+-- nor of any column
+abbrev pub HaveNoPartners : List Column → Type 0
+HaveNoPartners columns = (d : Column) (l : Literal) → Contains columns d → Contains d.cube l → HasNoPartner (map total_of columns) (total_of d) l
+
+-- numbers that don't fall
+abbrev pub DoNotFall : List ℕ → Type 0
+DoNotFall ns = (i j : ℕ) → i ≤ j → j < length ns → get_or ns i 0 ≤ get_or ns j 0

@@ -1,0 +1,244 @@
+-- What a scenario finds at a fork, and what is made of its two sides.
+use Rattle.std.proofs.Common.{ℕ, ◌+◌, ◌<◌, ◌≤◌, ◌≡◌, ◌≢◌, max, min, ◌==◌, Bool, true, false, arith, refl, sym, ap, ◌∙◌, subst, inl, inr, ◌⊎◌, eq-eqb, ne_eqb, Box, Global, Result, Ok, Err}
+use Rattle.std.specs.Prelude.{nat_le, IfOk}
+use Rattle.std.specs.Bool.{OnFalse, OnTrue}
+use Rattle.std.proofs.lemmas.Bool.{cases_lt, cases_eq, cond-true, cond-false, le-leb, lt-leb}
+use Rattle.cpg_order.specs.Scenario.{Scenario, number_of}
+use Rattle.cpg_tree.specs.declared.node.Node.{Node, Leaf, Fork'}
+use Rattle.cpg_tree.specs.Decision.{value_at, low_at, high_at, DoForksPass}
+use Rattle.cpg_tree.specs.Results.{IsForkOf, IsMade}
+
+-- ---- what a scenario finds
+
+module _ {T : Type 0} (v cut : ℕ) (p : Box (Unit {0}) Global) (below : Node T) (q : Box (Unit {0}) Global) (above : Node T) (s : Scenario) where
+  module _ (h : number_of s v ≤ cut) where
+    goes_below : nat_le (number_of s v) cut ≡ true
+    goes_below = le-leb (number_of s v) cut h
+
+    pub value_below : value_at (Fork' v cut p below q above) s ≡ value_at below s
+    value_below = cond-true (nat_le (number_of s v) cut) _ _ goes_below
+
+    pub low_below : (u : ℕ) → low_at (Fork' v cut p below q above) s u ≡ low_at below s u
+    low_below u = cond-true (nat_le (number_of s v) cut) _ _ goes_below
+
+    pub high_below : (k u : ℕ) → u ≢ v → high_at k (Fork' v cut p below q above) s u ≡ high_at k below s u
+    high_below k u n = cond-true (nat_le (number_of s v) cut) _ _ goes_below ∙ cond-false (v == u) _ _ (ne_eqb v u (λ e. n (sym e)))
+
+    pub high_here : (k : ℕ) → high_at k (Fork' v cut p below q above) s v ≡ min cut (high_at k below s v)
+    high_here k = cond-true (nat_le (number_of s v) cut) _ _ goes_below ∙ cond-true (v == v) _ _ (eq-eqb v v refl)
+
+  module _ (h : cut < number_of s v) where
+    goes_above : nat_le (number_of s v) cut ≡ false
+    goes_above = lt-leb (number_of s v) cut h
+
+    pub value_above : value_at (Fork' v cut p below q above) s ≡ value_at above s
+    value_above = cond-false (nat_le (number_of s v) cut) _ _ goes_above
+
+    pub low_above : (u : ℕ) → u ≢ v → low_at (Fork' v cut p below q above) s u ≡ low_at above s u
+    low_above u n = cond-false (nat_le (number_of s v) cut) _ _ goes_above ∙ cond-false (v == u) _ _ (ne_eqb v u (λ e. n (sym e)))
+
+    pub low_here : low_at (Fork' v cut p below q above) s v ≡ max (cut + 1) (low_at above s v)
+    low_here = cond-false (nat_le (number_of s v) cut) _ _ goes_above ∙ cond-true (v == v) _ _ (eq-eqb v v refl)
+
+    pub high_above : (k u : ℕ) → high_at k (Fork' v cut p below q above) s u ≡ high_at k above s u
+    high_above k u = cond-false (nat_le (number_of s v) cut) _ _ goes_above
+
+-- ---- made of two sides
+
+module _ {T : Type 0} (domain : Scenario → Type 0) (fact : Scenario → T → Type 0) (low : Scenario → ℕ → ℕ) (high : ℕ → Scenario → ℕ → ℕ) (v cut : ℕ) where
+  -- what a scenario that goes to a side is told there
+  pub record Side (inner : Scenario → Type 0) (inner_fact : Scenario → T → Type 0) (inner_low : Scenario → ℕ → ℕ) (inner_high : ℕ → Scenario → ℕ → ℕ) (s : Scenario) : Type 0 where
+    pub lies : inner s
+    pub tells : (z : T) → inner_fact s z → fact s z
+    pub lows : (u : ℕ) → u ≢ v → inner_low s u ≤ low s u
+    pub highs : (k u : ℕ) → u ≢ v → high k s u ≤ inner_high k s u
+
+  module _ (one : Scenario → Type 0) (one_fact : Scenario → T → Type 0) (one_low : Scenario → ℕ → ℕ) (one_high : ℕ → Scenario → ℕ → ℕ)
+      (two : Scenario → Type 0) (two_fact : Scenario → T → Type 0) (two_low : Scenario → ℕ → ℕ) (two_high : ℕ → Scenario → ℕ → ℕ) (lo hi r : Node T)
+      (fork : IsForkOf v cut lo hi r) (of_lo : IsMade one one_fact one_low one_high lo) (of_hi : IsMade two two_fact two_low two_high hi)
+      (first : (s : Scenario) → domain s → number_of s v ≤ cut → Side one one_fact one_low one_high s)
+      (first_low : (s : Scenario) → domain s → number_of s v ≤ cut → one_low s v ≤ low s v)
+      (first_high : (k : ℕ) (s : Scenario) → domain s → number_of s v ≤ cut → high k s v ≤ min cut (one_high k s v))
+      (second : (s : Scenario) → domain s → cut < number_of s v → Side two two_fact two_low two_high s)
+      (second_low : (s : Scenario) → domain s → cut < number_of s v → max (cut + 1) (two_low s v) ≤ low s v)
+      (second_high : (k : ℕ) (s : Scenario) → domain s → cut < number_of s v → high k s v ≤ two_high k s v) where
+    value_is : (s : Scenario) → domain s → (cut < number_of s v) ⊎ (number_of s v ≤ cut) → fact s (value_at r s)
+    value_is s d (inr h) = let side = first s d h in subst (fact s) (sym (fork.value_below s h)) (side.tells (value_at lo s) (of_lo.value s side.lies))
+    value_is s d (inl h) = let side = second s d h in subst (fact s) (sym (fork.value_above s h)) (side.tells (value_at hi s) (of_hi.value s side.lies))
+
+    low_is : (s : Scenario) (u : ℕ) → domain s → (cut < number_of s v) ⊎ (number_of s v ≤ cut) → (u ≡ v) ⊎ (u ≢ v) → low_at r s u ≤ low s u
+    low_is s u d (inr h) (inl e) = let side = first s d h in subst (λ w. low_at r s w ≤ low s w) (sym e) (omega (arith, fork.low_below s v h, of_lo.lows s v side.lies, first_low s d h))
+    low_is s u d (inr h) (inr n) = let side = first s d h in omega (arith, fork.low_below s u h, of_lo.lows s u side.lies, side.lows u n)
+    low_is s u d (inl h) (inl e) = let side = second s d h in subst (λ w. low_at r s w ≤ low s w) (sym e) (omega (arith, fork.low_here s h, of_hi.lows s v side.lies, second_low s d h))
+    low_is s u d (inl h) (inr n) = let side = second s d h in omega (arith, fork.low_above s u h n, of_hi.lows s u side.lies, side.lows u n)
+
+    high_is : (k : ℕ) (s : Scenario) (u : ℕ) → domain s → (cut < number_of s v) ⊎ (number_of s v ≤ cut) → (u ≡ v) ⊎ (u ≢ v) → high k s u ≤ high_at k r s u
+    high_is k s u d (inr h) (inl e) = let side = first s d h in subst (λ w. high k s w ≤ high_at k r s w) (sym e) (omega (arith, fork.high_here k s h, of_lo.highs k s v side.lies, first_high k s d h))
+    high_is k s u d (inr h) (inr n) = let side = first s d h in omega (arith, fork.high_below k s u h n, of_lo.highs k s u side.lies, side.highs k u n)
+    high_is k s u d (inl h) (inl e) = let side = second s d h in subst (λ w. high k s w ≤ high_at k r s w) (sym e) (omega (arith, fork.high_above k s v h, of_hi.highs k s v side.lies, second_high k s d h))
+    high_is k s u d (inl h) (inr n) = let side = second s d h in omega (arith, fork.high_above k s u h, of_hi.highs k s u side.lies, side.highs k u n)
+
+    pub made_of_sides : IsMade domain fact low high r
+    made_of_sides = record {
+      value = λ s d. value_is s d (cases_lt cut (number_of s v));
+      lows = λ s u d. low_is s u d (cases_lt cut (number_of s v)) (cases_eq u v);
+      highs = λ k s u d. high_is k s u d (cases_lt cut (number_of s v)) (cases_eq u v);
+    }
+
+-- what tells more is made too
+pub made_weaker : {T : Type 0} (domain : Scenario → Type 0) (fact other_fact : Scenario → T → Type 0) (low other_low : Scenario → ℕ → ℕ) (high other_high : ℕ → Scenario → ℕ → ℕ) (r : Node T) → IsMade domain fact low high r →
+    ((s : Scenario) (z : T) → domain s → fact s z → other_fact s z) → ((s : Scenario) (u : ℕ) → domain s → low s u ≤ other_low s u) → ((k : ℕ) (s : Scenario) (u : ℕ) → domain s → other_high k s u ≤ high k s u) →
+    IsMade domain other_fact other_low other_high r
+made_weaker domain fact other_fact low other_low high other_high r made tells lows highs = record {
+  value = λ s d. tells s (value_at r s) d (made.value s d);
+  lows = λ s u d. omega (arith, made.lows s u d, lows s u d);
+  highs = λ k s u d. omega (arith, made.highs k s u d, highs k s u d);
+}
+
+-- ---- of one tree
+
+module _ {T U : Type 0} (fact : Scenario → T → U → Type 0) where
+  abbrev pub IsOne : (Scenario → Type 0) → Node T → Node U → Type 0
+  IsOne domain a r = IsMade domain (λ s z. fact s (value_at a s) z) (low_at a) (λ k. high_at k a) r
+
+  module _ (domain : Scenario → Type 0) (v cut : ℕ) (p : Box (Unit {0}) Global) (below : Node T) (q : Box (Unit {0}) Global) (above : Node T) (r : Node U) where
+    abbrev whole : Node T
+    whole = Fork' v cut p below q above
+
+    pub one_below : IsOne domain below r → ((s : Scenario) → domain s → number_of s v ≤ cut) → IsOne domain (Fork' v cut p below q above) r
+    one_below made only = made_weaker domain _ _ _ _ _ _ r made
+        (λ s z d t. subst (λ x. fact s x z) (sym (value_below v cut p below q above s (only s d))) t)
+        (λ s u d. omega (arith, low_below v cut p below q above s (only s d) u))
+        (λ k s u d. elim (cases_eq u v) [
+          | inl e ↦ subst (λ w. high_at k whole s w ≤ high_at k below s w) (sym e) (omega (arith, high_here v cut p below q above s (only s d) k))
+          | inr n ↦ omega (arith, high_below v cut p below q above s (only s d) k u n)
+        ])
+
+    pub one_above : IsOne domain above r → ((s : Scenario) → domain s → cut < number_of s v) → IsOne domain (Fork' v cut p below q above) r
+    one_above made only = made_weaker domain _ _ _ _ _ _ r made
+        (λ s z d t. subst (λ x. fact s x z) (sym (value_above v cut p below q above s (only s d))) t)
+        (λ s u d. elim (cases_eq u v) [
+          | inl e ↦ subst (λ w. low_at above s w ≤ low_at whole s w) (sym e) (omega (arith, low_here v cut p below q above s (only s d)))
+          | inr n ↦ omega (arith, low_above v cut p below q above s (only s d) u n)
+        ])
+        (λ k s u d. omega (arith, high_above v cut p below q above s (only s d) k u))
+
+    pub one_fork : (one two : Scenario → Type 0) (lo hi : Node U) → IsOne one below lo → IsOne two above hi → IsForkOf v cut lo hi r →
+        ((s : Scenario) → domain s → number_of s v ≤ cut → one s) → ((s : Scenario) → domain s → cut < number_of s v → two s) → IsOne domain (Fork' v cut p below q above) r
+    one_fork one two lo hi of_lo of_hi fork goes_one goes_two = made_of_sides domain (λ s z. fact s (value_at whole s) z) (low_at whole) (λ k. high_at k whole) v cut
+        one _ _ _ two _ _ _ lo hi r fork of_lo of_hi
+        (λ s d h. record {
+          lies = goes_one s d h;
+          tells = λ z t. subst (λ x. fact s x z) (sym (value_below v cut p below q above s h)) t;
+          lows = λ u n. omega (arith, low_below v cut p below q above s h u);
+          highs = λ k u n. omega (arith, high_below v cut p below q above s h k u n);
+        })
+        (λ s d h. omega (arith, low_below v cut p below q above s h v))
+        (λ k s d h. omega (arith, high_here v cut p below q above s h k))
+        (λ s d h. record {
+          lies = goes_two s d h;
+          tells = λ z t. subst (λ x. fact s x z) (sym (value_above v cut p below q above s h)) t;
+          lows = λ u n. omega (arith, low_above v cut p below q above s h u n);
+          highs = λ k u n. omega (arith, high_above v cut p below q above s h k u);
+        })
+        (λ s d h. omega (arith, low_here v cut p below q above s h))
+        (λ k s d h. omega (arith, high_above v cut p below q above s h k v))
+
+-- ---- of a tree and more
+
+module _ {T U : Type 0} (fact : Scenario → T → U → Type 0) (more_low : Scenario → T → ℕ → ℕ) (more_high : ℕ → Scenario → T → ℕ → ℕ) where
+  abbrev pub IsTwo : (Scenario → Type 0) → Node T → Node U → Type 0
+  IsTwo domain a r = IsMade domain (λ s z. fact s (value_at a s) z) (λ s u. max (low_at a s u) (more_low s (value_at a s) u)) (λ k s u. min (high_at k a s u) (more_high k s (value_at a s) u)) r
+
+  module _ (domain : Scenario → Type 0) (v cut : ℕ) (p : Box (Unit {0}) Global) (below : Node T) (q : Box (Unit {0}) Global) (above : Node T) (r : Node U) where
+    abbrev both : Node T
+    both = Fork' v cut p below q above
+
+    pub two_below : IsTwo domain below r → ((s : Scenario) → domain s → number_of s v ≤ cut) → IsTwo domain (Fork' v cut p below q above) r
+    two_below made only = made_weaker domain _ _ _ _ _ _ r made
+        (λ s z d t. subst (λ x. fact s x z) (sym (value_below v cut p below q above s (only s d))) t)
+        (λ s u d. omega (arith, low_below v cut p below q above s (only s d) u, ap (λ x. more_low s x u) (value_below v cut p below q above s (only s d))))
+        (λ k s u d. elim (cases_eq u v) [
+          | inl e ↦ subst (λ w. min (high_at k both s w) (more_high k s (value_at both s) w) ≤ min (high_at k below s w) (more_high k s (value_at below s) w)) (sym e)
+              (omega (arith, high_here v cut p below q above s (only s d) k, ap (λ x. more_high k s x v) (value_below v cut p below q above s (only s d))))
+          | inr n ↦ omega (arith, high_below v cut p below q above s (only s d) k u n, ap (λ x. more_high k s x u) (value_below v cut p below q above s (only s d)))
+        ])
+
+    pub two_above : IsTwo domain above r → ((s : Scenario) → domain s → cut < number_of s v) → IsTwo domain (Fork' v cut p below q above) r
+    two_above made only = made_weaker domain _ _ _ _ _ _ r made
+        (λ s z d t. subst (λ x. fact s x z) (sym (value_above v cut p below q above s (only s d))) t)
+        (λ s u d. elim (cases_eq u v) [
+          | inl e ↦ subst (λ w. max (low_at above s w) (more_low s (value_at above s) w) ≤ max (low_at both s w) (more_low s (value_at both s) w)) (sym e)
+              (omega (arith, low_here v cut p below q above s (only s d), ap (λ x. more_low s x v) (value_above v cut p below q above s (only s d))))
+          | inr n ↦ omega (arith, low_above v cut p below q above s (only s d) u n, ap (λ x. more_low s x u) (value_above v cut p below q above s (only s d)))
+        ])
+        (λ k s u d. omega (arith, high_above v cut p below q above s (only s d) k u, ap (λ x. more_high k s x u) (value_above v cut p below q above s (only s d))))
+
+    pub two_fork : (one two : Scenario → Type 0) (lo hi : Node U) → IsTwo one below lo → IsTwo two above hi → IsForkOf v cut lo hi r →
+        ((s : Scenario) → domain s → number_of s v ≤ cut → one s) → ((s : Scenario) → domain s → cut < number_of s v → two s) → IsTwo domain (Fork' v cut p below q above) r
+    two_fork one two lo hi of_lo of_hi fork goes_one goes_two = made_of_sides domain _ _ _ v cut
+        one _ _ _ two _ _ _ lo hi r fork of_lo of_hi
+        (λ s d h. record {
+          lies = goes_one s d h;
+          tells = λ z t. subst (λ x. fact s x z) (sym (value_below v cut p below q above s h)) t;
+          lows = λ u n. omega (arith, low_below v cut p below q above s h u, ap (λ x. more_low s x u) (value_below v cut p below q above s h));
+          highs = λ k u n. omega (arith, high_below v cut p below q above s h k u n, ap (λ x. more_high k s x u) (value_below v cut p below q above s h));
+        })
+        (λ s d h. omega (arith, low_below v cut p below q above s h v, ap (λ x. more_low s x v) (value_below v cut p below q above s h)))
+        (λ k s d h. omega (arith, high_here v cut p below q above s h k, ap (λ x. more_high k s x v) (value_below v cut p below q above s h)))
+        (λ s d h. record {
+          lies = goes_two s d h;
+          tells = λ z t. subst (λ x. fact s x z) (sym (value_above v cut p below q above s h)) t;
+          lows = λ u n. omega (arith, low_above v cut p below q above s h u n, ap (λ x. more_low s x u) (value_above v cut p below q above s h));
+          highs = λ k u n. omega (arith, high_above v cut p below q above s h k u, ap (λ x. more_high k s x u) (value_above v cut p below q above s h));
+        })
+        (λ s d h. omega (arith, low_here v cut p below q above s h, ap (λ x. more_low s x v) (value_above v cut p below q above s h)))
+        (λ k s d h. omega (arith, high_above v cut p below q above s h k v, ap (λ x. more_high k s x v) (value_above v cut p below q above s h)))
+
+-- what follows of an answer holds of it too
+pub of_answer : {T E : Type 0} (r : Result T E) (P Q : T → Type 0) → IfOk r P → ((x : T) → P x → Q x) → IfOk r Q
+of_answer (Ok x) P Q h f = f x h
+of_answer (Err e) P Q h f = h
+
+-- what a test that failed tells
+pub from_false : {P : Type 0} (b : Bool) → b ≡ false → OnFalse b P → P
+from_false true e h = cc
+from_false false e h = h
+
+pub from_true : {P : Type 0} (b : Bool) → b ≡ true → OnTrue b P → P
+from_true true e h = h
+from_true false e h = cc
+
+-- the same of a tree that is a fork
+module _ {T U : Type 0} (fact : Scenario → T → U → Type 0) (domain : Scenario → Type 0) (v cut : ℕ) (below above n : Node T) {p q : Box (Unit {0}) Global} (is : n ≡ Fork' v cut p below q above) (r : Node U) where
+  pub one_below_of : IsOne fact domain below r → ((s : Scenario) → domain s → number_of s v ≤ cut) → IsOne fact domain n r
+  one_below_of made only = subst (λ (m : Node T). IsOne fact domain m r) (sym is) (one_below fact domain v cut p below q above r made only)
+
+  pub one_above_of : IsOne fact domain above r → ((s : Scenario) → domain s → cut < number_of s v) → IsOne fact domain n r
+  one_above_of made only = subst (λ (m : Node T). IsOne fact domain m r) (sym is) (one_above fact domain v cut p below q above r made only)
+
+  pub one_fork_of : (one two : Scenario → Type 0) (lo hi : Node U) → IsOne fact one below lo → IsOne fact two above hi → IsForkOf v cut lo hi r →
+      ((s : Scenario) → domain s → number_of s v ≤ cut → one s) → ((s : Scenario) → domain s → cut < number_of s v → two s) → IsOne fact domain n r
+  one_fork_of one two lo hi of_lo of_hi fork goes_one goes_two = subst (λ (m : Node T). IsOne fact domain m r) (sym is) (one_fork fact domain v cut p below q above r one two lo hi of_lo of_hi fork goes_one goes_two)
+
+-- the same of a tree that is a fork
+module _ {T U : Type 0} (fact : Scenario → T → U → Type 0) (more_low : Scenario → T → ℕ → ℕ) (more_high : ℕ → Scenario → T → ℕ → ℕ) (domain : Scenario → Type 0) (v cut : ℕ) (below above n : Node T) {p q : Box (Unit {0}) Global} (is : n ≡ Fork' v cut p below q above) (r : Node U) where
+  pub two_below_of : IsTwo fact more_low more_high domain below r → ((s : Scenario) → domain s → number_of s v ≤ cut) → IsTwo fact more_low more_high domain n r
+  two_below_of made only = subst (λ (m : Node T). IsTwo fact more_low more_high domain m r) (sym is) (two_below fact more_low more_high domain v cut p below q above r made only)
+
+  pub two_above_of : IsTwo fact more_low more_high domain above r → ((s : Scenario) → domain s → cut < number_of s v) → IsTwo fact more_low more_high domain n r
+  two_above_of made only = subst (λ (m : Node T). IsTwo fact more_low more_high domain m r) (sym is) (two_above fact more_low more_high domain v cut p below q above r made only)
+
+  pub two_fork_of : (one two : Scenario → Type 0) (lo hi : Node U) → IsTwo fact more_low more_high one below lo → IsTwo fact more_low more_high two above hi → IsForkOf v cut lo hi r →
+      ((s : Scenario) → domain s → number_of s v ≤ cut → one s) → ((s : Scenario) → domain s → cut < number_of s v → two s) → IsTwo fact more_low more_high domain n r
+  two_fork_of one two lo hi of_lo of_hi fork goes_one goes_two = subst (λ (m : Node T). IsTwo fact more_low more_high domain m r) (sym is) (two_fork fact more_low more_high domain v cut p below q above r one two lo hi of_lo of_hi fork goes_one goes_two)
+
+-- and of one value
+module _ {T U : Type 0} (fact : Scenario → T → U → Type 0) (more_low : Scenario → T → ℕ → ℕ) (more_high : ℕ → Scenario → T → ℕ → ℕ) (domain : Scenario → Type 0) (x : T) (n : Node T) (is : n ≡ Leaf x) (r : Node U) where
+  pub two_leaf_of : IsMade domain (λ s z. fact s x z) (λ s u. more_low s x u) (λ k s u. more_high k s x u) r → IsTwo fact more_low more_high domain n r
+  two_leaf_of made = subst (λ (m : Node T). IsTwo fact more_low more_high domain m r) (sym is)
+      (made_weaker domain _ _ _ _ _ _ r made (λ s z d t. t) (λ s u d. omega arith) (λ k s u d. omega arith))
+
+-- where the forks of a tree that is a fork pass a test, so do those of its sides
+pub passes_parts : {T : Type 0} (test : ℕ → Bool) (v cut : ℕ) (below above n : Node T) {p q : Box (Unit {0}) Global} → n ≡ Fork' v cut p below q above → DoForksPass test n → (test v ≡ true) × DoForksPass test below × DoForksPass test above
+passes_parts test v cut below above n is pass = subst (DoForksPass test) is pass

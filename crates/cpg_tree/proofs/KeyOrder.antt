@@ -1,0 +1,159 @@
+-- Columns with keys, sorted by these, and the columns alone.
+use Rattle.std.proofs.lemmas.List.Elements.{Contains-get_or}
+use Rattle.cpg_base.proofs.Lists.{numbers-Contains}
+use Rattle.std.proofs.Common.{Ordering, Less, Equal, Greater, ℕ, suc, ◌+◌, ◌-◌, ◌*◌, ◌<◌, ◌≤◌, ◌≡◌, ◌≢◌, ◌==◌, Bool, true, false, List, [], ◌∷◌, ◌++◌, length, take, drop, subst, append_assoc, map, get_or, All, Option, None, Some, IsPermutation, nat_lt, arith, refl, sym, ap, ap₂, ◌∙◌, inl, inr, eq-eqb, ne_eqb, lt-ltb, le-ltb, length-append}
+use Rattle.std.proofs.lemmas.Bool.{cases_eq, cases_order, cond-true, cond-false, both_ways, false_from_ne_true}
+use Rattle.std.specs.Ordering.{nat_cmp, is_lt, ordering_then}
+use Rattle.std.specs.Cmp.{IsStrictWeakOrder}
+use Rattle.std.specs.Cmp.Lexicographic.{slice_cmp}
+use Rattle.std.specs.List.Sorted.{IsSortedBy}
+use Rattle.std.proofs.lemmas.Cmp.{nat_list_cmp_total}
+use Rattle.std.proofs.lemmas.List.Sorted.{ranks_by, sorted_far, All-permutation}
+use Rattle.std.specs.Prelude.{slice_set, slice_index_or}
+use Rattle.std.proofs.lemmas.List.{get_or-set_same, get_or-set_other, take_more, drop_more}
+use Rattle.cpg_cube.specs.Cube.{IsRising, low_in}
+use Rattle.cpg_cube.proofs.BoundSteps.{low_in-last, low_in-before, lower_before}
+use Rattle.cpg_base.specs.Graph.{Graph, condition_of}
+use Rattle.cpg_base.specs.Numbers.{is_below, numbers_below}
+use Rattle.cpg_base.proofs.Pairs.{AllPairs-map}
+use Rattle.cpg_cube.specs.declared.literal.Literal.{Literal}
+use Rattle.cpg_tree.specs.Keys.{low_of_value, lows_of, lows_along, AreByLows, asked_from, key_along, HasLows}
+use Rattle.cpg_tree.specs.Ranks.{ranked_column}
+use Rattle.cpg_tree.specs.declared.columns.Ranked.{Ranked}
+
+-- one key comes before another
+abbrev pub is_key_below : Ranked → Ranked → Bool
+is_key_below a b = is_lt (slice_cmp nat_cmp a.key.items b.key.items)
+
+pub is_total : IsStrictWeakOrder is_key_below
+is_total = ranks_by nat_list_cmp_total (λ (r : Ranked). r.key.items)
+
+-- ---- keys tell the order of the lows that they are made of
+
+cmp_less : (x y : ℕ) → x < y → nat_cmp x y ≡ Less
+cmp_less x y l = cond-true (nat_lt x y) Less _ (lt-ltb x y l)
+
+cmp_same : (x : ℕ) → nat_cmp x x ≡ Equal
+cmp_same x = cond-false (nat_lt x x) Less _ (le-ltb x x (omega arith)) ∙ cond-true (x == x) Equal Greater (eq-eqb x x refl)
+
+cmp_more : (x y : ℕ) → y < x → nat_cmp x y ≡ Greater
+cmp_more x y l = cond-false (nat_lt x y) Less _ (le-ltb x y (omega (arith, l))) ∙ cond-false (x == y) Equal Greater (ne_eqb x y (λ e. omega (arith, e, l)))
+
+asked_zero : (left x : ℕ) (xs : List ℕ) → x ≡ 0 → asked_from left (x ∷ xs) ≡ asked_from (left - 1) xs
+asked_zero left x xs e = cond-true (x == 0) _ _ (eq-eqb x 0 e)
+
+asked_some : (left x : ℕ) (xs : List ℕ) → x ≢ 0 → asked_from left (x ∷ xs) ≡ left ∷ x ∷ asked_from (left - 1) xs
+asked_some left x xs n = cond-false (x == 0) _ _ (ne_eqb x 0 n)
+
+-- the first of two equal ones tell nothing
+same_first : (x : ℕ) (xs ys : List ℕ) → is_below (x ∷ xs) (x ∷ ys) ≡ is_below xs ys
+same_first x xs ys = ap (λ (o : Ordering). is_lt (ordering_then o (slice_cmp nat_cmp xs ys))) (cmp_same x)
+
+less_first : (x y : ℕ) (xs ys : List ℕ) → x < y → is_below (x ∷ xs) (y ∷ ys) ≡ true
+less_first x y xs ys l = ap (λ (o : Ordering). is_lt (ordering_then o (slice_cmp nat_cmp xs ys))) (cmp_less x y l)
+
+more_first : (x y : ℕ) (xs ys : List ℕ) → y < x → is_below (x ∷ xs) (y ∷ ys) ≡ false
+more_first x y xs ys l = ap (λ (o : Ordering). is_lt (ordering_then o (slice_cmp nat_cmp xs ys))) (cmp_more x y l)
+
+-- what is asked with fewer places left comes before
+later_below : (left : ℕ) (xs : List ℕ) (first : ℕ) (rest : List ℕ) → left < first → is_below (asked_from left xs) (first ∷ rest) ≡ true
+later_below left [] first rest l = refl
+later_below left (x ∷ xs) first rest l = elim (cases_eq x 0) [
+  | inl e ↦ ap (λ (k : List ℕ). is_below k (first ∷ rest)) (asked_zero left x xs e) ∙ later_below (left - 1) xs first rest (omega (arith, l))
+  | inr n ↦ ap (λ (k : List ℕ). is_below k (first ∷ rest)) (asked_some left x xs n) ∙ less_first left first (x ∷ asked_from (left - 1) xs) rest l
+]
+
+asked_below : (left : ℕ) (xs ys : List ℕ) → length xs ≡ length ys → length xs ≤ left → is_below xs ys ≡ true → is_below (asked_from left xs) (asked_from left ys) ≡ true
+asked_below left [] [] long few h = h
+asked_below left [] (y ∷ ys) long few h = absurd (omega (arith, long))
+asked_below left (x ∷ xs) [] long few h = absurd (omega (arith, long))
+asked_below left (x ∷ xs) (y ∷ ys) long few h = elim (cases_order x y) [
+  | inl e ↦
+      let inner : is_below (asked_from (left - 1) xs) (asked_from (left - 1) ys) ≡ true =
+      asked_below (left - 1) xs ys (omega (arith, long)) (omega (arith, few)) (sym (same_first x xs ys) ∙ ap (λ w. is_below (x ∷ xs) (w ∷ ys)) e ∙ h) in
+      elim (cases_eq x 0) [
+        | inl z ↦ ap₂ is_below (asked_zero left x xs z) (asked_zero left y ys (sym e ∙ z)) ∙ inner
+        | inr n ↦ ap₂ is_below (asked_some left x xs n) (asked_some left y ys (λ z. n (e ∙ z)) ∙ ap (λ w. left ∷ w ∷ asked_from (left - 1) ys) (sym e))
+            ∙ same_first left (x ∷ asked_from (left - 1) xs) (x ∷ asked_from (left - 1) ys) ∙ same_first x (asked_from (left - 1) xs) (asked_from (left - 1) ys) ∙ inner
+      ]
+  | inr (inl l) ↦
+      let there : asked_from left (y ∷ ys) ≡ left ∷ y ∷ asked_from (left - 1) ys = asked_some left y ys (λ z. omega (arith, l, z)) in
+      elim (cases_eq x 0) [
+        | inl z ↦ ap₂ is_below (asked_zero left x xs z) there ∙ later_below (left - 1) xs left (y ∷ asked_from (left - 1) ys) (omega (arith, few))
+        | inr n ↦ ap₂ is_below (asked_some left x xs n) there ∙ same_first left (x ∷ asked_from (left - 1) xs) (y ∷ asked_from (left - 1) ys) ∙ less_first x y (asked_from (left - 1) xs) (asked_from (left - 1) ys) l
+      ]
+  | inr (inr l) ↦ absurd (both_ways (is_below (x ∷ xs) (y ∷ ys)) (more_first x y xs ys l) h)
+]
+
+-- ---- all keys along one order are of as many lows
+
+same_value : (c d : List Literal) (o : Option ℕ) → length (low_of_value c o) ≡ length (low_of_value d o)
+same_value c d None = refl
+same_value c d (Some v) = refl
+
+same_long : (g : Graph) (order : List ℕ) (c d : List Literal) → length (lows_along g order c) ≡ length (lows_along g order d)
+same_long g [] c d = refl
+same_long g (p ∷ ps) c d = length-append (lows_of g c p) (lows_along g ps c) ∙ ap₂ ◌+◌ (ap suc (same_value c d (condition_of g p))) (same_long g ps c d) ∙ sym (length-append (lows_of g d p) (lows_along g ps d))
+
+one_or_two : (c : List Literal) (o : Option ℕ) → length (low_of_value c o) ≤ 1
+one_or_two c None = omega arith
+one_or_two c (Some v) = omega arith
+
+pub few_lows : (g : Graph) (cube : List Literal) (p : ℕ) → length (lows_of g cube p) ≤ 2
+few_lows g cube p = omega (arith, one_or_two cube (condition_of g p))
+
+twice_long : (g : Graph) (order : List ℕ) (c : List Literal) → length (lows_along g order c) ≤ length order * 2
+twice_long g [] c = omega arith
+twice_long g (p ∷ ps) c = omega (arith, length-append (lows_of g c p) (lows_along g ps c), few_lows g c p, twice_long g ps c)
+
+-- ---- a key part by part
+
+pub asked_append : (left : ℕ) (xs ys : List ℕ) → asked_from left (xs ++ ys) ≡ asked_from left xs ++ asked_from (left - length xs) ys
+asked_append left [] ys = ap (λ n. asked_from n ys) (let e : left ≡ left - 0 = omega arith in e)
+asked_append left (x ∷ xs) ys =
+    let rest : asked_from (left - 1) (xs ++ ys) ≡ asked_from (left - 1) xs ++ asked_from (left - length (x ∷ xs)) ys =
+    asked_append (left - 1) xs ys ∙ ap (λ n. asked_from (left - 1) xs ++ asked_from n ys) (let e : left - 1 - length xs ≡ left - suc (length xs) = omega arith in e) in
+    elim (cases_eq x 0) [
+      | inl z ↦ asked_zero left x (xs ++ ys) z ∙ rest ∙ ap (λ k. k ++ asked_from (left - length (x ∷ xs)) ys) (sym (asked_zero left x xs z))
+      | inr n ↦ asked_some left x (xs ++ ys) n ∙ ap (λ k. left ∷ x ∷ k) rest ∙ ap (λ k. k ++ asked_from (left - length (x ∷ xs)) ys) (sym (asked_some left x xs n))
+    ]
+
+-- with the lows of one process more
+pub key_step : (g : Graph) (order : List ℕ) (cube : List Literal) (i p : ℕ) → i < length order → p ≡ get_or order i p → (key new : List ℕ) (left next : ℕ) → key_along g order cube ≡ key ++ asked_from left (lows_along g (drop i order) cube) →
+    new ≡ key ++ asked_from left (lows_of g cube p) → next ≡ left - length (lows_of g cube p) → key_along g order cube ≡ new ++ asked_from next (lows_along g (drop (i + 1) order) cube)
+key_step g order cube i p within is key new left next before more fewer =
+    let split : drop i order ≡ p ∷ drop (i + 1) order = drop_more order i p within ∙ ap (λ q. q ∷ drop (i + 1) order) (sym is) in
+    before ∙ ap (λ ps. key ++ asked_from left (lows_along g ps cube)) split
+    ∙ ap (λ k. key ++ k) (asked_append left (lows_of g cube p) (lows_along g (drop (i + 1) order) cube))
+    ∙ sym (append_assoc key (asked_from left (lows_of g cube p)) (asked_from (left - length (lows_of g cube p)) (lows_along g (drop (i + 1) order) cube)))
+    ∙ ap₂ (λ k n. k ++ asked_from n (lows_along g (drop (i + 1) order) cube)) (sym more) (sym fewer)
+
+-- ---- so columns that stand by keys stand by lows
+
+pub by_lows : (g : Graph) (order : List ℕ) → length order ≤ 128 → (before after : List Ranked) → All (λ r. r.key.items ≡ key_along g order r.cube) before → IsPermutation before after → IsSortedBy is_key_below after →
+    AreByLows g order (map ranked_column after)
+by_lows g order few before after keys p up = AllPairs-map (λ (a b : Ranked). is_below (lows_along g order b.cube) (lows_along g order a.cube) ≡ false) (λ (c d : ℕ × List Literal). is_below (lows_along g order d.1) (lows_along g order c.1) ≡ false)
+    ranked_column after (λ a b h. h)
+    (λ i j d l k.
+    let a = get_or after i d in
+    let b = get_or after j d in
+    let all = All-permutation (λ (r : Ranked). r.key.items ≡ key_along g order r.cube) before after p keys in
+    let sorted : is_below (key_along g order b.cube) (key_along g order a.cube) ≡ false =
+    ap₂ is_below (sym (all j d k)) (sym (all i d (omega arith))) ∙ sorted_far is_key_below is_total after up i j d (omega arith) k in
+    false_from_ne_true _ (λ below. both_ways _ sorted (asked_below 256 (lows_along g order b.cube) (lows_along g order a.cube) (same_long g order b.cube a.cube) (omega (arith, twice_long g order b.cube, few)) below)))
+
+-- each process of an order is below how many there are
+pub within_order : (n : ℕ) (order : List ℕ) → IsPermutation (numbers_below n) order → All (λ p. p < n) order
+within_order n order p = All-permutation (λ p. p < n) (numbers_below n) order p (λ k d l. numbers-Contains n (get_or (numbers_below n) k d) (Contains-get_or (numbers_below n) k d l))
+
+-- ---- the lows as the code keeps them, with one literal more
+
+pub lows_push : (ls : List Literal) (i : ℕ) (d : Literal) → IsRising ls → i < length ls → (lows : List ℕ) → length lows ≡ 256 → (slice_index_or ls i d).variable < 256 → HasLows (take i ls) lows →
+    HasLows (take (i + 1) ls) (slice_set lows (slice_index_or ls i d).variable (slice_index_or ls i d).low)
+lows_push ls i d rising within lows long small has =
+    let l = slice_index_or ls i d in
+    subst (λ c. HasLows c (slice_set lows l.variable l.low)) (sym (take_more ls i d within)) (λ v h. elim (cases_eq l.variable v) [
+      | inl e ↦ subst (λ w. get_or (slice_set lows l.variable l.low) w 0 ≡ low_in (take i ls ++ l ∷ []) w) e
+          (get_or-set_same lows l.variable l.low 0 (omega (arith, long, small)) ∙ sym (low_in-last (take i ls) l (λ k c. lower_before ls i d rising within k c)))
+      | inr n ↦ get_or-set_other lows l.variable v l.low 0 (λ e. n (sym e)) ∙ has v h ∙ sym (low_in-before (take i ls) l v n)
+    ])

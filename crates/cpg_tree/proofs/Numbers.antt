@@ -1,0 +1,121 @@
+-- Trees of the number of one variable.
+use Rattle.std.proofs.Common.{ℕ, ◌+◌, ◌-◌, ◌<◌, ◌≤◌, ◌≡◌, Bool, true, false, nat_lt, get_or, arith, refl, ap, ◌∙◌, inl, inr, lt-ltb, le-ltb, cond, map, replicate, rules}
+use Rattle.std.specs.Prelude.{nat_le}
+use Rattle.std.proofs.lemmas.Bool.{cases_lt, cond-true, cond-false, le-leb, and_from, or_left, or_right}
+use Rattle.std.proofs.lemmas.List.{get_or-set_same, get_or-replicate}
+use Rattle.std.proofs.lemmas.List.FromFn.{length-map-range_with_len}
+use Rattle.cpg_base.specs.Scenario.{number_of_value}
+use Rattle.cpg_base.specs.Numbers.{numbers_below}
+use Rattle.cpg_base.proofs.Lists.{get_or-map-below}
+use Rattle.cpg_order.specs.Scenario.{Scenario, number_of}
+use Rattle.cpg_tree.specs.declared.node.Node.{Node, Leaf}
+use Rattle.cpg_tree.specs.Space.{Space, HasFew, IsWhole, is_open_below, is_open_above, above_cut}
+use Rattle.cpg_tree.specs.Decision.{value_at, IsGood}
+use Rattle.cpg_tree.specs.Results.{IsForkOf}
+use Rattle.cpg_tree.specs.Tree.{IsNumber}
+use Rattle.cpg_tree.specs.Variables.{ForksOnly, AreCountsFrom, LeavesCounts, IsValueNode}
+use Rattle.cpg_tree.proofs.PathLaws.{found}
+use Rattle.cpg_tree.proofs.Publics.{state}
+use Rattle.cpg_tree.proofs.Spaces.{number_le_top}
+
+pub leaf_only : {T : Type 0} (v : ℕ) (x : T) → ForksOnly v (Leaf x)
+leaf_only v x = record { low = λ s u n. omega arith; high = λ k s u n. omega arith }
+
+fork_only : {T : Type 0} (v cut : ℕ) (below above r : Node T) → ForksOnly v below → ForksOnly v above → IsForkOf v cut below above r → ForksOnly v r
+fork_only v cut below above r one two fork = record {
+  low = λ s u n. elim (cases_lt cut (number_of s v)) [
+    | inl gt ↦ omega (arith, fork.low_above s u gt n, two.low s u n)
+    | inr le ↦ omega (arith, fork.low_below s u le, one.low s u n)
+  ];
+  high = λ k s u n. elim (cases_lt cut (number_of s v)) [
+    | inl gt ↦ omega (arith, fork.high_above k s u gt, two.high k s u n)
+    | inr le ↦ omega (arith, fork.high_below k s u le n, one.high k s u n)
+  ];
+}
+
+pub last_count : (p k : ℕ) → AreCountsFrom p k k (Leaf k)
+last_count p k = record { value = λ s low high. omega (arith, low, high); only = leaf_only p k }
+
+pub more_counts : (p first k : ℕ) (above r : Node ℕ) → AreCountsFrom p (first + 1) k above → IsForkOf p first (Leaf first) above r → AreCountsFrom p first k r
+more_counts p first k above r rest fork = record {
+  value = λ s low high. elim (cases_lt first (number_of s p)) [
+    | inl gt ↦ fork.value_above s gt ∙ rest.value s (omega (arith, gt)) high
+    | inr le ↦ fork.value_below s le ∙ omega (arith, low, le)
+  ];
+  only = fork_only p first (Leaf first) above r (leaf_only p first) rest.only fork;
+}
+
+module _ (room : Space) (p first k : ℕ) (count : p < 128) (leaves : LeavesCounts room p first k) (less : first < k) where
+  pub counts_open_below : is_open_below room p first ≡ true
+  counts_open_below = le-leb (get_or room.low p 0) first (omega (arith, leaves.low))
+
+  pub counts_open_above : is_open_above room p first ≡ true
+  counts_open_above = and_from _ _ (lt-ltb first (get_or room.high p 0) (omega (arith, leaves.high, less)))
+      (or_right (nat_le 128 p) _ (lt-ltb first (get_or room.low p 0 + room.left) (omega (arith, leaves.low, leaves.left, less))))
+
+  pub counts_above : LeavesCounts (above_cut room p first) p (first + 1) k
+  counts_above = record {
+    long = search rules;
+    low = get_or-set_same room.low p (first + 1) 0 (omega (arith, leaves.long, count));
+    high = leaves.high;
+    left = omega (arith, leaves.left, less, leaves.low, cond-true (nat_lt p 128) (first + 1 - get_or room.low p 0) 0 (lt-ltb p 128 count));
+  }
+
+pub whole_counts : (k : ℕ) (room : Space) (p : ℕ) → p < 128 → IsWhole k room → LeavesCounts room p 0 k
+whole_counts k room p count whole = record { long = whole.long; low = whole.lows p (omega (arith, count)); high = whole.counts p count; left = omega (arith, whole.left) }
+
+-- ---- values
+
+one_value : (n : ℕ) → n ≤ 1 → 0 < n → 1 ≡ n
+one_value n h l = omega arith
+
+pub value_is : (v : ℕ) (r : Node Bool) → IsForkOf v 0 (Leaf false) (Leaf true) r → IsValueNode v r
+value_is v r fork = record {
+  value = λ s few. elim (cases_lt 0 (number_of s v)) [
+    | inl gt ↦ ap number_of_value (fork.value_above s gt) ∙ one_value (number_of s v) few gt
+    | inr le ↦ ap number_of_value (fork.value_below s le) ∙ omega (arith, le)
+  ];
+  only = fork_only v 0 (Leaf false) (Leaf true) r (leaf_only v false) (leaf_only v true) fork;
+}
+
+module _ (k : ℕ) (room : Space) (whole : IsWhole k room) (v : ℕ) (value : 128 ≤ v) (there : v < 256) where
+  pub value_open_below : is_open_below room v 0 ≡ true
+  value_open_below = le-leb (get_or room.low v 0) 0 (omega (arith, whole.lows v there))
+
+  pub value_open_above : is_open_above room v 0 ≡ true
+  value_open_above = and_from _ _ (lt-ltb 0 (get_or room.high v 0) (omega (arith, whole.values v value there))) (or_left (nat_le 128 v) _ (le-leb 128 v value))
+
+-- ---- said of paths
+
+pub number_paths : {T : Type 0} (v k : ℕ) (number : T → ℕ) (node : Node T) → IsGood k node → ((s : Scenario) → HasFew k s → number (value_at node s) ≡ number_of s v) → ForksOnly v node → IsNumber v k number (state k node)
+number_paths v k number node good value only = record {
+  faults = refl;
+  value = λ s x few on. ap number (found k node good s x on).value ∙ value s few;
+  low = λ s x u few on n. omega (arith, (found k node good s x on).low u, only.low s u n);
+  high = λ s x u few on n. omega (arith, (found k node good s x on).high u, only.high k s u n);
+}
+
+-- ---- there is a space of all scenarios
+
+pub some_whole : (k : ℕ) → (room : Space) × IsWhole k room
+some_whole k = (
+  record { low = replicate 256 0; high = map tops (numbers_below 256); left = k },
+  record {
+    long = search rules;
+    longer = length-map-range_with_len tops 0 256;
+    lows = λ v l. get_or-replicate 256 v 0 0 l;
+    counts = λ v l. get_or-map-below tops 256 v 0 (omega (arith, l)) ∙ cond-true (nat_lt v 128) k 1 (lt-ltb v 128 l);
+    values = λ v h l. get_or-map-below tops 256 v 0 l ∙ cond-false (nat_lt v 128) k 1 (le-ltb v 128 h);
+    left = refl;
+  },
+)
+  where
+    tops : ℕ → ℕ
+    tops v = cond (nat_lt v 128) k 1
+
+module _ (k : ℕ) (s : Scenario) (few : HasFew k s) (v : ℕ) where
+  pub count_at_most : v < 128 → number_of s v ≤ k
+  count_at_most l = omega (arith, number_le_top k s few v, cond-true (nat_lt v 128) k 1 (lt-ltb v 128 l))
+
+  pub value_at_most : 128 ≤ v → number_of s v ≤ 1
+  value_at_most l = omega (arith, number_le_top k s few v, cond-false (nat_lt v 128) k 1 (le-ltb v 128 l))

@@ -1,0 +1,188 @@
+-- The paths of a tree: each scenario is on one, which has the value and the ranges that it finds on its way down.
+use Rattle.std.proofs.Common.{ℕ, ◌+◌, ◌<◌, ◌≤◌, ◌≡◌, ◌≢◌, max, min, true, false, List, [], ◌∷◌, length, filter, get_or, Contains, arith, refl, sym, ap, ap₂, ◌∙◌, subst, inl, inr, ◌⊎◌, length-append, lt-ltb, le-ltb, rules, Box, Global}
+use Rattle.std.specs.Prelude.{nat_lt, slice_set}
+use Rattle.std.proofs.lemmas.Bool.{cases_lt, cases_eq, cond-true, cond-false, and_parts, and_from, both_ways, false_from_ne_true, ltb-true}
+use Rattle.std.proofs.lemmas.List.{get_or-set_same, get_or-set_other, get_or_past}
+use Rattle.std.proofs.lemmas.List.Elements.{Contains-append_cases, filter-append}
+use Rattle.cpg_base.proofs.Lists.{Contains-cases, Contains-nil, filter_none}
+use Rattle.cpg_order.specs.Scenario.{Scenario, number_of}
+use Rattle.cpg_cube.specs.declared.literal.Literal.{Literal}
+use Rattle.cpg_cube.specs.Cube.{IsRising, holds, matches, top, low_in, high_in}
+use Rattle.cpg_cube.specs.Cover.{narrowed_by}
+use Rattle.cpg_cube.proofs.CubeLows.{holds-low, holds-high, holds-from}
+use Rattle.cpg_cube.proofs.Narrow.{matches-narrowed, rising-narrowed}
+use Rattle.cpg_tree.specs.declared.node.Node.{Node, Leaf, Fork'}
+use Rattle.cpg_tree.specs.Space.{Space, HasFew, IsWhole, below_cut, above_cut}
+use Rattle.cpg_tree.specs.Decision.{value_at, low_at, high_at, IsFit, IsGood, HasCuts}
+use Rattle.cpg_tree.specs.Paths.{up_to, above, paths_from, paths_of}
+use Rattle.cpg_tree.specs.Tree.{Path, is_on, IsOn}
+use Rattle.cpg_tree.proofs.Forks.{value_below, value_above, low_below, low_above, low_here, high_below, high_above, high_here}
+use Rattle.cpg_tree.proofs.Narrowed.{low-other, low-same, high-other, high-same}
+use Rattle.cpg_tree.proofs.Spaces.{number_le_top}
+
+-- no high of the space is above the whole range
+Reaches : ℕ → Space → Type 0
+Reaches k room = (v : ℕ) → v < 256 → get_or room.high v 0 ≤ top k v
+
+reaches_below : (k : ℕ) (room : Space) (v cut : ℕ) → cut < top k v → Reaches k room → Reaches k (below_cut room v cut)
+unfolding Reaches
+reaches_below k room v cut less h u l = by_place (cases_eq u v)
+  where
+    at_cut : (v < length room.high) ⊎ (length room.high ≤ v) → get_or (slice_set room.high v cut) v 0 ≤ top k v
+    at_cut (inl m) = omega (arith, get_or-set_same room.high v cut 0 m, less)
+    at_cut (inr past) = omega (arith, less, grown past)
+      where
+        grown : length room.high ≤ v → get_or (slice_set room.high v cut) v 0 ≡ 0
+        grown past = get_or_past (slice_set room.high v cut) v 0 (omega (arith, past, long_set room.high v cut))
+          where
+            long_set : (xs : List ℕ) (i y : ℕ) → length (slice_set xs i y) ≡ length xs
+            long_set xs i y = search rules
+
+    by_place : (u ≡ v) ⊎ (u ≢ v) → get_or (slice_set room.high v cut) u 0 ≤ top k u
+    by_place (inr n) = omega (arith, get_or-set_other room.high v u cut 0 n, h u l)
+    by_place (inl e) = subst (λ w. get_or (slice_set room.high v cut) w 0 ≤ top k w) (sym e) (at_cut (cases_lt v (length room.high)))
+
+fits_cuts : {T : Type 0} (k : ℕ) (node : Node T) (room : Space) → Reaches k room → IsFit room node → HasCuts k node
+unfolding Reaches
+fits_cuts k (Leaf x) room h fit = tt
+fits_cuts k (Fork' v cut p below q above) room h fit =
+    let less : cut < top k v = omega (arith, ltb-true cut (get_or room.high v 0) (and_parts (nat_lt cut (get_or room.high v 0)) _ fit.2).0, h v fit.0) in
+    (fit.0, less, fits_cuts k below (below_cut room v cut) (reaches_below k room v cut less h) fit.3, fits_cuts k above (above_cut room v cut) h fit.4)
+
+whole_reaches : (k : ℕ) (room : Space) → IsWhole k room → Reaches k room
+unfolding Reaches
+whole_reaches k room whole v l = elim (cases_lt v 128) [
+  | inl m ↦ omega (arith, whole.counts v m, cond-true (nat_lt v 128) k 1 (lt-ltb v 128 m))
+  | inr m ↦ omega (arith, whole.values v m l, cond-false (nat_lt v 128) k 1 (le-ltb v 128 m))
+]
+
+pub good_cuts : {T : Type 0} (k : ℕ) (node : Node T) → IsGood k node → HasCuts k node
+good_cuts k node good = fits_cuts k node good.0 (whole_reaches k good.0 good.1) good.2
+
+-- ---- what a path says
+
+-- a cube of rising variables within their whole ranges
+pub record IsTidy (k : ℕ) (cube : List Literal) : Type 0 where
+  pub rising : IsRising cube
+  pub within : (v : ℕ) → high_in k cube v ≤ top k v
+
+module _ (k : ℕ) (cube : List Literal) (tidy : IsTidy k cube) (v cut : ℕ) (less : cut < top k v) where
+  tidy_below : IsTidy k (narrowed_by (up_to v cut) cube)
+  tidy_below = record {
+    rising = rising-narrowed (up_to v cut) cube tidy.rising;
+    within = λ u. elim (cases_eq v u) [
+      | inl e ↦ subst (λ w. high_in k (narrowed_by (up_to v cut) cube) w ≤ top k w) e (omega (arith, high-same k (up_to v cut) cube tidy.rising (omega (arith, less)), less))
+      | inr n ↦ omega (arith, high-other k (up_to v cut) cube u n, tidy.within u)
+    ];
+  }
+
+  tidy_above : IsTidy k (narrowed_by (above k v cut) cube)
+  tidy_above = record {
+    rising = rising-narrowed (above k v cut) cube tidy.rising;
+    within = λ u. elim (cases_eq v u) [
+      | inl e ↦ subst (λ w. high_in k (narrowed_by (above k v cut) cube) w ≤ top k w) e (omega (arith, high-same k (above k v cut) cube tidy.rising (omega arith)))
+      | inr n ↦ omega (arith, high-other k (above k v cut) cube u n, tidy.within u)
+    ];
+  }
+
+module _ {T : Type 0} (k : ℕ) (s : Scenario) where
+  -- the path on from a cube tells what the scenario finds
+  pub record Tells (cube : List Literal) (node : Node T) (x : Path T) : Type 0 where
+    pub came : matches cube s ≡ true
+    pub value : x.1 ≡ value_at node s
+    pub low : (v : ℕ) → low_in x.0 v ≡ max (low_in cube v) (low_at node s v)
+    pub high : (v : ℕ) → high_in k x.0 v ≡ min (high_in k cube v) (high_at k node s v)
+
+  tells_below : (cube : List Literal) → IsTidy k cube → (v cut : ℕ) (p : Box (Unit {0}) Global) (below : Node T) (q : Box (Unit {0}) Global) (upper : Node T) → cut < top k v → (x : Path T) →
+      Tells (narrowed_by (up_to v cut) cube) below x → Tells cube (Fork' v cut p below q upper) x
+  tells_below cube tidy v cut p below q upper less x t =
+      let both = and_parts (holds s (up_to v cut)) (matches cube s) (sym (matches-narrowed s (up_to v cut) cube) ∙ t.came) in
+      let le : number_of s v ≤ cut = holds-high s (up_to v cut) both.0 in
+      record {
+        came = both.1;
+        value = t.value ∙ sym (value_below v cut p below q upper s le);
+        low = λ u. elim (cases_eq v u) [
+          | inl e ↦ subst (λ w. low_in x.0 w ≡ max (low_in cube w) (low_at (Fork' v cut p below q upper) s w)) e (omega (arith, t.low v, low-same k (up_to v cut) cube tidy.rising, low_below v cut p below q upper s le v))
+          | inr n ↦ omega (arith, t.low u, low-other k (up_to v cut) cube u n, low_below v cut p below q upper s le u)
+        ];
+        high = λ u. elim (cases_eq v u) [
+          | inl e ↦ subst (λ w. high_in k x.0 w ≡ min (high_in k cube w) (high_at k (Fork' v cut p below q upper) s w)) e
+              (omega (arith, t.high v, high-same k (up_to v cut) cube tidy.rising (omega (arith, less)), high_here v cut p below q upper s le k))
+          | inr n ↦ omega (arith, t.high u, high-other k (up_to v cut) cube u n, high_below v cut p below q upper s le k u (λ i. n (sym i)))
+        ];
+      }
+
+  tells_above : (cube : List Literal) → IsTidy k cube → (v cut : ℕ) (p : Box (Unit {0}) Global) (below : Node T) (q : Box (Unit {0}) Global) (upper : Node T) → cut < top k v → (x : Path T) →
+      Tells (narrowed_by (above k v cut) cube) upper x → Tells cube (Fork' v cut p below q upper) x
+  tells_above cube tidy v cut p below q upper less x t =
+      let both = and_parts (holds s (above k v cut)) (matches cube s) (sym (matches-narrowed s (above k v cut) cube) ∙ t.came) in
+      let gt : cut < number_of s v = let l = holds-low s (above k v cut) both.0 in omega (arith, l) in
+      record {
+        came = both.1;
+        value = t.value ∙ sym (value_above v cut p below q upper s gt);
+        low = λ u. elim (cases_eq v u) [
+          | inl e ↦ subst (λ w. low_in x.0 w ≡ max (low_in cube w) (low_at (Fork' v cut p below q upper) s w)) e (omega (arith, t.low v, low-same k (above k v cut) cube tidy.rising, low_here v cut p below q upper s gt))
+          | inr n ↦ omega (arith, t.low u, low-other k (above k v cut) cube u n, low_above v cut p below q upper s gt u (λ i. n (sym i)))
+        ];
+        high = λ u. elim (cases_eq v u) [
+          | inl e ↦ subst (λ w. high_in k x.0 w ≡ min (high_in k cube w) (high_at k (Fork' v cut p below q upper) s w)) e
+              (omega (arith, t.high v, high-same k (above k v cut) cube tidy.rising (omega arith), high_above v cut p below q upper s gt k v, tidy.within v))
+          | inr n ↦ omega (arith, t.high u, high-other k (above k v cut) cube u n, high_above v cut p below q upper s gt k u)
+        ];
+      }
+
+  pub tells : (node : Node T) (cube : List Literal) → IsTidy k cube → HasCuts k node → (x : Path T) → Contains (paths_from k cube node) x → matches x.0 s ≡ true → Tells cube node x
+  tells (Leaf y) cube tidy cuts x c m = only (Contains-cases (cube, y) [] x c)
+    where
+      only : ((cube, y) ≡ x) ⊎ Contains [] x → Tells cube (Leaf y) x
+      only (inl e) = subst (λ (z : Path T). Tells cube (Leaf y) z) e (record {
+        came = subst (λ (z : Path T). matches z.0 s ≡ true) (sym e) m;
+        value = refl;
+        low = λ v. omega arith;
+        high = λ v. omega (arith, tidy.within v);
+      })
+      only (inr none) = absurd (Contains-nil x none)
+  tells (Fork' v cut p below q upper) cube tidy cuts x c m = elim (Contains-append_cases (paths_from k (narrowed_by (up_to v cut) cube) below) (paths_from k (narrowed_by (above k v cut) cube) upper) x c) [
+    | inl i ↦ tells_below cube tidy v cut p below q upper cuts.1 x (tells below (narrowed_by (up_to v cut) cube) (tidy_below k cube tidy v cut cuts.1) cuts.2 x i m)
+    | inr i ↦ tells_above cube tidy v cut p below q upper cuts.1 x (tells upper (narrowed_by (above k v cut) cube) (tidy_above k cube tidy v cut cuts.1) cuts.3 x i m)
+  ]
+
+  -- a scenario that the cube doesn't match is on no path
+  none_from : (node : Node T) (cube : List Literal) → IsTidy k cube → HasCuts k node → matches cube s ≡ false → length (filter (is_on s) (paths_from k cube node)) ≡ 0
+  none_from node cube tidy cuts off = ap length (filter_none (is_on s) (paths_from k cube node) (λ x c. false_from_ne_true (matches x.0 s) (λ m. both_ways (matches cube s) off (tells node cube tidy cuts x c m).came)))
+
+  -- one that it matches is on one
+  pub one_from : HasFew k s → (node : Node T) (cube : List Literal) → IsTidy k cube → HasCuts k node → matches cube s ≡ true → length (filter (is_on s) (paths_from k cube node)) ≡ 1
+  one_from few (Leaf y) cube tidy cuts on = ap length (cond-true (matches cube s) ((cube, y) ∷ []) [] on)
+  one_from few (Fork' v cut p below q upper) cube tidy cuts on =
+      ap length (filter-append (is_on s) (paths_from k (narrowed_by (up_to v cut) cube) below) (paths_from k (narrowed_by (above k v cut) cube) upper))
+      ∙ length-append (filter (is_on s) (paths_from k (narrowed_by (up_to v cut) cube) below)) (filter (is_on s) (paths_from k (narrowed_by (above k v cut) cube) upper))
+      ∙ elim (cases_lt cut (number_of s v)) [
+        | inr le ↦ ap₂ ◌+◌
+            (one_from few below (narrowed_by (up_to v cut) cube) (tidy_below k cube tidy v cut cuts.1) cuts.2 (matches-narrowed s (up_to v cut) cube ∙ and_from _ _ (holds-from s (up_to v cut) (omega arith) le) on))
+            (none_from upper (narrowed_by (above k v cut) cube) (tidy_above k cube tidy v cut cuts.1) cuts.3
+            (false_from_ne_true _ (λ m. let l = holds-low s (above k v cut) (and_parts (holds s (above k v cut)) (matches cube s) (sym (matches-narrowed s (above k v cut) cube) ∙ m)).0 in absurd (omega (arith, l, le)))))
+        | inl gt ↦ ap₂ ◌+◌
+            (none_from below (narrowed_by (up_to v cut) cube) (tidy_below k cube tidy v cut cuts.1) cuts.2
+            (false_from_ne_true _ (λ m. let l = holds-high s (up_to v cut) (and_parts (holds s (up_to v cut)) (matches cube s) (sym (matches-narrowed s (up_to v cut) cube) ∙ m)).0 in absurd (omega (arith, l, gt)))))
+            (one_from few upper (narrowed_by (above k v cut) cube) (tidy_above k cube tidy v cut cuts.1) cuts.3 (matches-narrowed s (above k v cut) cube ∙ and_from _ _ (holds-from s (above k v cut) (omega (arith, gt)) (number_le_top k s few v)) on))
+      ]
+
+-- ---- of a whole tree
+
+no_literals : (k : ℕ) → IsTidy k []
+no_literals k = record { rising = λ i j d l m. absurd (omega (arith, m)); within = λ v. omega arith }
+
+module _ {T : Type 0} (k : ℕ) (node : Node T) (good : IsGood k node) (s : Scenario) where
+  pub one_path : HasFew k s → length (filter (is_on s) (paths_of k node)) ≡ 1
+  one_path few = one_from k s few node [] (no_literals k) (good_cuts k node good) refl
+
+  -- the path of a scenario has the value and the ranges that it finds
+  pub record Found (x : Path T) : Type 0 where
+    pub value : x.1 ≡ value_at node s
+    pub low : (v : ℕ) → low_in x.0 v ≡ low_at node s v
+    pub high : (v : ℕ) → high_in k x.0 v ≡ min (top k v) (high_at k node s v)
+
+  pub found : (x : Path T) → IsOn (paths_of k node) s x → Found x
+  found x on = let t = tells k s node [] (no_literals k) (good_cuts k node good) x on.stands on.matched in
+      record { value = t.value; low = λ v. omega (arith, t.low v); high = λ v. t.high v }

@@ -1,0 +1,123 @@
+-- Which scenarios lie in a space, and on which side of a cut.
+use Rattle.std.proofs.Common.{rules, ℕ, ◌+◌, ◌-◌, ◌<◌, ◌≤◌, ◌≡◌, ◌≢◌, Bool, true, false, ◌||◌, nat_lt, List, get_or, sum_by, length, arith, refl, sym, ap, ◌∙◌, subst, inl, inr, lt-ltb, le-ltb}
+use Rattle.std.specs.Prelude.{nat_le, slice_set}
+use Rattle.std.specs.Bool.{OnFalse}
+use Rattle.std.proofs.lemmas.Bool.{cases_lt, cases_eq, or_parts, cond-true, cond-false, leb-true, le-leb, both_ways}
+use Rattle.std.proofs.lemmas.List.{get_or-set_same, get_or-set_other}
+use Rattle.cpg_base.specs.Numbers.{numbers_below}
+use Rattle.cpg_base.specs.Scenario.{number_of_value}
+use Rattle.cpg_base.proofs.Lists.{numbers-Contains, Contains-numbers}
+use Rattle.cpg_base.proofs.Sums.{le-sum_by, sum_changed, same_sum_by}
+use Rattle.cpg_order.specs.Scenario.{Scenario, number_of, fault_of}
+use Rattle.cpg_cube.specs.Cube.{top}
+use Rattle.cpg_tree.specs.Space.{Space, Lies, HasFew, beyond, is_open_below, below_cut, above_cut}
+
+-- what is not less is at most
+not_less : (a b : ℕ) → nat_lt a b ≡ false → b ≤ a
+not_less a b h = elim (cases_lt a b) [ inl l ↦ absurd (both_ways (nat_lt a b) h (lt-ltb a b l)) | inr l ↦ l ]
+
+count_is : (s : Scenario) (v : ℕ) → v < 128 → number_of s v ≡ fault_of s v
+count_is s v l = cond-true (nat_lt v 128) (fault_of s v) _ (lt-ltb v 128 l)
+
+module _ (room : Space) (s : Scenario) (lies : Lies room s) (v cut : ℕ) (there : v < 256) where
+  -- a count goes no further beyond its low than faults are left
+  count_le : v < 128 → number_of s v ≤ get_or room.low v 0 + room.left
+  count_le l =
+      let one = le-sum_by (beyond room s) (numbers_below 128) v (Contains-numbers 128 v l) in
+      omega (arith, one, lies.left, count_is s v l)
+
+  pub none_below : is_open_below room v cut ≡ false → cut < number_of s v
+  none_below h = let l = lies.low v there in elim (cases_lt cut (get_or room.low v 0)) [
+    | inl m ↦ omega (arith, l, m)
+    | inr m ↦ absurd (both_ways (is_open_below room v cut) h (le-leb (get_or room.low v 0) cut m))
+  ]
+
+  pub none_by_range : nat_lt cut (get_or room.high v 0) ≡ false → number_of s v ≤ cut
+  none_by_range h = omega (arith, lies.high v there, not_less cut (get_or room.high v 0) h)
+
+  pub none_by_faults : (nat_le 128 v || nat_lt cut (get_or room.low v 0 + room.left)) ≡ false → number_of s v ≤ cut
+  none_by_faults h =
+      let parts = or_parts (nat_le 128 v) (nat_lt cut (get_or room.low v 0 + room.left)) h in
+      elim (cases_lt v 128) [
+        | inl l ↦ omega (arith, count_le l, not_less cut (get_or room.low v 0 + room.left) parts.1)
+        | inr l ↦ absurd (both_ways (nat_le 128 v) parts.0 (le-leb 128 v l))
+      ]
+
+-- ---- a list with one number changed
+
+-- with a higher low of one count there are as many fewer faults beyond the lows
+fewer_left : (new old low cut faults left : ℕ) → new + (faults - low) ≡ old + (faults - (cut + 1)) → old ≤ left → low ≤ cut → cut < faults → new ≤ left - (cut + 1 - low)
+fewer_left new old low cut faults left changed most below above = omega arith
+
+module _ (xs : List ℕ) (v y u : ℕ) where
+  set_other : u ≢ v → get_or (slice_set xs v y) u 0 ≡ get_or xs u 0
+  set_other n = get_or-set_other xs v u y 0 n
+
+  set_same : v < length xs → u ≡ v → get_or (slice_set xs v y) u 0 ≡ y
+  set_same l e = subst (λ w. get_or (slice_set xs v y) w 0 ≡ y) (sym e) (get_or-set_same xs v y 0 l)
+
+none_less : (n left : ℕ) → n ≤ left → n ≤ left - 0
+none_less n left l = omega arith
+
+module _ (room : Space) (s : Scenario) (lies : Lies room s) (v cut : ℕ) (there : v < 256) where
+  pub lies_below : length room.high ≡ 256 → number_of s v ≤ cut → Lies (below_cut room v cut) s
+  lies_below long h = record {
+    low = lies.low;
+    high = λ u l. elim (cases_eq u v) [
+      | inl e ↦ omega (arith, set_same room.high v cut u (omega (arith, long, there)) e, h, ap (number_of s) e)
+      | inr n ↦ omega (arith, set_other room.high v cut u n, lies.high u l)
+    ];
+    left = lies.left;
+  }
+
+  pub lies_above : length room.low ≡ 256 → is_open_below room v cut ≡ true → cut < number_of s v → Lies (above_cut room v cut) s
+  lies_above long under h = record {
+    low = λ u l. elim (cases_eq u v) [
+      | inl e ↦ omega (arith, set_same room.low v (cut + 1) u (omega (arith, long, there)) e, h, ap (number_of s) e)
+      | inr n ↦ omega (arith, set_other room.low v (cut + 1) u n, lies.low u l)
+    ];
+    high = lies.high;
+    left = elim (cases_lt v 128) [
+      | inl l ↦
+          let changed = sum_changed (beyond (above_cut room v cut) s) (beyond room s) 128 v l (λ u n. ap (λ m. fault_of s u - m) (set_other room.low v (cut + 1) u n)) in
+          let here = ap (λ m. sum_by (beyond room s) (numbers_below 128) + (fault_of s v - m)) (set_same room.low v (cut + 1) v (omega (arith, long, there)) refl) in
+          subst (λ n. sum_by (beyond (above_cut room v cut) s) (numbers_below 128) ≤ room.left - n) (sym (cond-true (nat_lt v 128) (cut + 1 - get_or room.low v 0) 0 (lt-ltb v 128 l)))
+          (fewer_left _ _ (get_or room.low v 0) cut (fault_of s v) room.left (changed ∙ here) lies.left (leb-true (get_or room.low v 0) cut under) (subst (λ n. cut < n) (count_is s v l) h))
+      | inr l ↦
+          let same = same_sum_by (beyond (above_cut room v cut) s) (beyond room s) (numbers_below 128) (λ u c. ap (λ m. fault_of s u - m) (set_other room.low v (cut + 1) u (λ e. omega (arith, numbers-Contains 128 u c, e, l)))) in
+          subst (λ n. sum_by (beyond (above_cut room v cut) s) (numbers_below 128) ≤ room.left - n) (sym (cond-false (nat_lt v 128) (cut + 1 - get_or room.low v 0) 0 (le-ltb v 128 l)))
+          (subst (λ n. n ≤ room.left - 0) (sym same) (none_less _ room.left lies.left))
+    ];
+  }
+
+-- ---- all scenarios of at most k faults
+
+pub value_le : (b : Bool) → number_of_value b ≤ 1
+value_le true = omega arith
+value_le false = omega arith
+
+module _ (k : ℕ) (s : Scenario) (few : HasFew k s) where
+  count_few : (p : ℕ) → p < 128 → fault_of s p ≤ k
+  count_few p l = omega (arith, le-sum_by (fault_of s) (numbers_below 128) p (Contains-numbers 128 p l), few)
+
+  -- no number is above the greatest of its variable
+  pub number_le_top : (v : ℕ) → number_of s v ≤ top k v
+  number_le_top v = elim (cases_lt v 128) [
+    | inl l ↦ omega (arith, count_is s v l, count_few v l, cond-true (nat_lt v 128) k 1 (lt-ltb v 128 l))
+    | inr l ↦ omega (arith, cond-false (nat_lt v 128) (fault_of s v) (number_of_value (get_or s.values (v - 128) false)) (le-ltb v 128 l), value_le (get_or s.values (v - 128) false), cond-false (nat_lt v 128) k 1 (le-ltb v 128 l))
+  ]
+
+  pub lies_whole : (room : Space) → ((v : ℕ) → v < 256 → get_or room.low v 0 ≡ 0) → ((v : ℕ) → v < 128 → get_or room.high v 0 ≡ k) → ((v : ℕ) → 128 ≤ v → v < 256 → get_or room.high v 0 ≡ 1) → room.left ≡ k → Lies room s
+  lies_whole room lows counts values left = record {
+    low = λ v l. omega (arith, lows v l);
+    high = λ v l. elim (cases_lt v 128) [
+      | inl m ↦ omega (arith, counts v m, count_is s v m, count_few v m)
+      | inr m ↦ omega (arith, values v m l, cond-false (nat_lt v 128) (fault_of s v) (number_of_value (get_or s.values (v - 128) false)) (le-ltb v 128 m), value_le (get_or s.values (v - 128) false))
+    ];
+    left = omega (arith, same_sum_by (beyond room s) (fault_of s) (numbers_below 128) (λ p c. omega (arith, lows p (omega (arith, numbers-Contains 128 p c)))), few, left);
+  }
+
+-- what holds where a test fails
+pub on_false : {P : Type 0} (b : Bool) → (b ≡ false → P) → OnFalse b P
+on_false true h = search rules
+on_false false h = h refl

@@ -1,0 +1,58 @@
+use Rattle.std.proofs.Common.{ap, ◌∙◌, ◌≡◌, sym, subst}
+use Rattle.std.specs.Prelude.{IfOk, Bool, true, false}
+use Rattle.cpg_tree.specs.declared.node.Node.{Node, Leaf}
+use Rattle.cpg_tree.specs.Space.{Space, Lies}
+use Rattle.cpg_tree.specs.Decision.{value_at, low_at, high_at}
+use Rattle.cpg_tree.specs.Results.{IsPickOf, picked, IsWithin, IsForkOf}
+use Rattle.cpg_tree.proofs.Forks.{two_below_of, two_above_of, two_fork_of, two_leaf_of, of_answer, from_false}
+use Rattle.cpg_tree.specs.Decision.{DoForksPass}
+use Rattle.cpg_tree.proofs.Forks.{passes_parts}
+use Rattle.cpg_tree.proofs.node.Node+bool.+pick.Goals as goal
+
+pub returns-then-not-is_open_below-clause-made : goal.returns-then-not-is_open_below-clause-made
+returns-then-not-is_open_below-clause-made g t c =
+    let room : Space = c.args.space.now in
+    of_answer c.pick.result (IsPickOf room c.in-Fork.above.value c.args.on.now c.args.off.now) (IsPickOf room c.args.self.now c.args.on.now c.args.off.now)
+    (subst (λ (n : Node Bool). IfOk c.pick.result (IsPickOf room n c.args.on.now c.args.off.now)) c.deref.ensures c.pick.ensures.made)
+    (λ r made. two_above_of (λ s b z. z ≡ value_at (picked b c.args.on.now c.args.off.now) s) (λ s b v. low_at (picked b c.args.on.now c.args.off.now) s v) (λ k s b v. high_at k (picked b c.args.on.now c.args.off.now) s v) (Lies room) c.in-Fork.variable c.in-Fork.cut c.in-Fork.below.value c.in-Fork.above.value c.args.self.now c.in-Fork.is r made
+    (from_false c.is_open_below.result c.if-not-is_open_below.true c.is_open_below.ensures.none))
+
+pub returns-then-not-is_open_above-clause-made : goal.returns-then-not-is_open_above-clause-made
+returns-then-not-is_open_above-clause-made g t c =
+    let room : Space = c.args.space.now in
+    of_answer c.pick-then-not-is_open_above.result (IsPickOf room c.in-Fork.below.value c.args.on.now c.args.off.now) (IsPickOf room c.args.self.now c.args.on.now c.args.off.now)
+    (subst (λ (n : Node Bool). IfOk c.pick-then-not-is_open_above.result (IsPickOf room n c.args.on.now c.args.off.now)) c.deref-then-not-is_open_above.ensures c.pick-then-not-is_open_above.ensures.made)
+    (λ r made. two_below_of (λ s b z. z ≡ value_at (picked b c.args.on.now c.args.off.now) s) (λ s b v. low_at (picked b c.args.on.now c.args.off.now) s v) (λ k s b v. high_at k (picked b c.args.on.now c.args.off.now) s v) (Lies room) c.in-Fork.variable c.in-Fork.cut c.in-Fork.below.value c.in-Fork.above.value c.args.self.now c.in-Fork.is r made
+    (from_false c.is_open_above.result c.if-not-is_open_above.true c.is_open_above.ensures.none))
+
+pub returns-in_ok-high-in-Fork-clause-made : goal.returns-in_ok-high-in-Fork-clause-made
+returns-in_ok-high-in-Fork-clause-made g t c =
+    let room : Space = c.args.space.now in
+    of_answer c.fork.result (IsForkOf c.in-Fork.variable c.in-Fork.cut c.in_ok-low-in-Fork.low c.in_ok-high-in-Fork.high) (IsPickOf room c.args.self.now c.args.on.now c.args.off.now) c.fork.ensures.made
+    (λ r fork. two_fork_of (λ s b z. z ≡ value_at (picked b c.args.on.now c.args.off.now) s) (λ s b v. low_at (picked b c.args.on.now c.args.off.now) s v) (λ k s b v. high_at k (picked b c.args.on.now c.args.off.now) s v) (Lies room) c.in-Fork.variable c.in-Fork.cut c.in-Fork.below.value c.in-Fork.above.value c.args.self.now c.in-Fork.is r (Lies c.below.result) (Lies c.above.result) c.in_ok-low-in-Fork.low c.in_ok-high-in-Fork.high
+    (subst (λ (n : Node Bool). IsPickOf c.below.result n c.args.on.now c.args.off.now c.in_ok-low-in-Fork.low) c.deref-in-Fork.ensures c.in_ok-low-in-Fork.ensures.made)
+    (subst (λ (n : Node Bool). IsPickOf c.above.result n c.args.on.now c.args.off.now c.in_ok-high-in-Fork.high) c.deref-in-Fork-2.ensures c.in_ok-high-in-Fork.ensures.made)
+    fork c.below.ensures.lies c.above.ensures.lies)
+
+pub returns-then-is_on-clause-made : goal.returns-then-is_on-clause-made
+returns-then-is_on-clause-made g t c =
+    let room : Space = c.args.space.now in
+    of_answer c.within.result (IsWithin room c.args.on.now) (IsPickOf room c.args.self.now c.args.on.now c.args.off.now) c.within.ensures.made
+    (λ r made. two_leaf_of (λ s b z. z ≡ value_at (picked b c.args.on.now c.args.off.now) s) (λ s b v. low_at (picked b c.args.on.now c.args.off.now) s v) (λ k s b v. high_at k (picked b c.args.on.now c.args.off.now) s v)
+    (Lies room) true c.args.self.now (c.in-Leaf.is ∙ ap Leaf c.if-is_on.true) r made)
+
+pub returns-else-is_on-clause-made : goal.returns-else-is_on-clause-made
+returns-else-is_on-clause-made g t c =
+    let room : Space = c.args.space.now in
+    of_answer c.within-else-is_on.result (IsWithin room c.args.off.now) (IsPickOf room c.args.self.now c.args.on.now c.args.off.now) c.within-else-is_on.ensures.made
+    (λ r made. two_leaf_of (λ s b z. z ≡ value_at (picked b c.args.on.now c.args.off.now) s) (λ s b v. low_at (picked b c.args.on.now c.args.off.now) s v) (λ k s b v. high_at k (picked b c.args.on.now c.args.off.now) s v)
+    (Lies room) false c.args.self.now (c.in-Leaf.is ∙ ap Leaf c.if-is_on.false) r made)
+
+pub returns-in_ok-high-in-Fork-clause-pass : goal.returns-in_ok-high-in-Fork-clause-pass
+returns-in_ok-high-in-Fork-clause-pass g t c =
+    of_answer c.fork.result _ _ c.fork.ensures.pass
+    (λ r fork test pass on_pass off_pass.
+    let parts = passes_parts test c.in-Fork.variable c.in-Fork.cut c.in-Fork.below.value c.in-Fork.above.value c.args.self.now c.in-Fork.is pass in
+    fork test parts.0
+    (c.in_ok-low-in-Fork.ensures.pass test (subst (λ (n : Node Bool). DoForksPass test n) (sym c.deref-in-Fork.ensures) parts.1) on_pass off_pass)
+    (c.in_ok-high-in-Fork.ensures.pass test (subst (λ (n : Node Bool). DoForksPass test n) (sym c.deref-in-Fork-2.ensures) parts.2) on_pass off_pass))

@@ -1,0 +1,51 @@
+use Rattle.std.proofs.Common.{sym, subst}
+use Rattle.std.specs.Prelude.{IfOk}
+use Rattle.cpg_tree.specs.declared.node.Node.{Node}
+use Rattle.cpg_tree.specs.Space.{Space, Lies}
+use Rattle.cpg_tree.specs.Decision.{value_at, low_at, high_at}
+use Rattle.cpg_tree.specs.Results.{IsJoinOf, IsFillOf, IsForkOf}
+use Rattle.cpg_tree.proofs.Forks.{two_below_of, two_above_of, two_fork_of, two_leaf_of, of_answer, from_false}
+use Rattle.cpg_tree.specs.Decision.{DoForksPass}
+use Rattle.cpg_tree.proofs.Forks.{passes_parts}
+use Rattle.cpg_tree.proofs.node.Node.+join.Goals as goal
+
+pub returns-then-not-is_open_below-clause-made : goal.returns-then-not-is_open_below-clause-made
+returns-then-not-is_open_below-clause-made g t c =
+    let room : Space = c.args.space.now in
+    of_answer c.join.result (IsJoinOf (λ (x : g.row.T.Denot) (y : g.row.U.Denot) (z : g.row.V.Denot). g.F.Fn.post c.args.f.now (x, (y, tt)) z) room c.in-Fork.above.value c.args.other.now) (IsJoinOf (λ (x : g.row.T.Denot) (y : g.row.U.Denot) (z : g.row.V.Denot). g.F.Fn.post c.args.f.now (x, (y, tt)) z) room c.args.self.now c.args.other.now)
+    (subst (λ (n : Node g.row.T.Denot). IfOk c.join.result (IsJoinOf (λ (x : g.row.T.Denot) (y : g.row.U.Denot) (z : g.row.V.Denot). g.F.Fn.post c.args.f.now (x, (y, tt)) z) room n c.args.other.now)) c.deref.ensures c.join.ensures.made)
+    (λ r made. two_above_of (λ s x z. (λ (x : g.row.T.Denot) (y : g.row.U.Denot) (z : g.row.V.Denot). g.F.Fn.post c.args.f.now (x, (y, tt)) z) x (value_at c.args.other.now s) z) (λ s x v. low_at c.args.other.now s v) (λ k s x v. high_at k c.args.other.now s v) (Lies room) c.in-Fork.variable c.in-Fork.cut c.in-Fork.below.value c.in-Fork.above.value c.args.self.now c.in-Fork.is r made
+    (from_false c.is_open_below.result c.if-not-is_open_below.true c.is_open_below.ensures.none))
+
+pub returns-then-not-is_open_above-clause-made : goal.returns-then-not-is_open_above-clause-made
+returns-then-not-is_open_above-clause-made g t c =
+    let room : Space = c.args.space.now in
+    of_answer c.join-then-not-is_open_above.result (IsJoinOf (λ (x : g.row.T.Denot) (y : g.row.U.Denot) (z : g.row.V.Denot). g.F.Fn.post c.args.f.now (x, (y, tt)) z) room c.in-Fork.below.value c.args.other.now) (IsJoinOf (λ (x : g.row.T.Denot) (y : g.row.U.Denot) (z : g.row.V.Denot). g.F.Fn.post c.args.f.now (x, (y, tt)) z) room c.args.self.now c.args.other.now)
+    (subst (λ (n : Node g.row.T.Denot). IfOk c.join-then-not-is_open_above.result (IsJoinOf (λ (x : g.row.T.Denot) (y : g.row.U.Denot) (z : g.row.V.Denot). g.F.Fn.post c.args.f.now (x, (y, tt)) z) room n c.args.other.now)) c.deref-then-not-is_open_above.ensures c.join-then-not-is_open_above.ensures.made)
+    (λ r made. two_below_of (λ s x z. (λ (x : g.row.T.Denot) (y : g.row.U.Denot) (z : g.row.V.Denot). g.F.Fn.post c.args.f.now (x, (y, tt)) z) x (value_at c.args.other.now s) z) (λ s x v. low_at c.args.other.now s v) (λ k s x v. high_at k c.args.other.now s v) (Lies room) c.in-Fork.variable c.in-Fork.cut c.in-Fork.below.value c.in-Fork.above.value c.args.self.now c.in-Fork.is r made
+    (from_false c.is_open_above.result c.if-not-is_open_above.true c.is_open_above.ensures.none))
+
+pub returns-in_ok-high-in-Fork-clause-made : goal.returns-in_ok-high-in-Fork-clause-made
+returns-in_ok-high-in-Fork-clause-made g t c =
+    let room : Space = c.args.space.now in
+    of_answer c.fork.result (IsForkOf c.in-Fork.variable c.in-Fork.cut c.in_ok-low-in-Fork.low c.in_ok-high-in-Fork.high) (IsJoinOf (λ (x : g.row.T.Denot) (y : g.row.U.Denot) (z : g.row.V.Denot). g.F.Fn.post c.args.f.now (x, (y, tt)) z) room c.args.self.now c.args.other.now) c.fork.ensures.made
+    (λ r fork. two_fork_of (λ s x z. (λ (x : g.row.T.Denot) (y : g.row.U.Denot) (z : g.row.V.Denot). g.F.Fn.post c.args.f.now (x, (y, tt)) z) x (value_at c.args.other.now s) z) (λ s x v. low_at c.args.other.now s v) (λ k s x v. high_at k c.args.other.now s v) (Lies room) c.in-Fork.variable c.in-Fork.cut c.in-Fork.below.value c.in-Fork.above.value c.args.self.now c.in-Fork.is r (Lies c.below.result) (Lies c.above.result) c.in_ok-low-in-Fork.low c.in_ok-high-in-Fork.high
+    (subst (λ (n : Node g.row.T.Denot). IsJoinOf (λ (x : g.row.T.Denot) (y : g.row.U.Denot) (z : g.row.V.Denot). g.F.Fn.post c.args.f.now (x, (y, tt)) z) c.below.result n c.args.other.now c.in_ok-low-in-Fork.low) c.deref-in-Fork.ensures c.in_ok-low-in-Fork.ensures.made)
+    (subst (λ (n : Node g.row.T.Denot). IsJoinOf (λ (x : g.row.T.Denot) (y : g.row.U.Denot) (z : g.row.V.Denot). g.F.Fn.post c.args.f.now (x, (y, tt)) z) c.above.result n c.args.other.now c.in_ok-high-in-Fork.high) c.deref-in-Fork-2.ensures c.in_ok-high-in-Fork.ensures.made)
+    fork c.below.ensures.lies c.above.ensures.lies)
+
+pub returns-in-Leaf-clause-made : goal.returns-in-Leaf-clause-made
+returns-in-Leaf-clause-made g t c =
+    let room : Space = c.args.space.now in
+    of_answer c.fill.result (IsFillOf (λ (x : g.row.T.Denot) (y : g.row.U.Denot) (z : g.row.V.Denot). g.F.Fn.post c.args.f.now (x, (y, tt)) z) room c.in-Leaf.value c.args.other.now) (IsJoinOf (λ (x : g.row.T.Denot) (y : g.row.U.Denot) (z : g.row.V.Denot). g.F.Fn.post c.args.f.now (x, (y, tt)) z) room c.args.self.now c.args.other.now) c.fill.ensures.made
+    (λ r made. two_leaf_of (λ s x z. (λ (x : g.row.T.Denot) (y : g.row.U.Denot) (z : g.row.V.Denot). g.F.Fn.post c.args.f.now (x, (y, tt)) z) x (value_at c.args.other.now s) z) (λ s x v. low_at c.args.other.now s v) (λ k s x v. high_at k c.args.other.now s v)
+    (Lies room) c.in-Leaf.value c.args.self.now c.in-Leaf.is r made)
+
+pub returns-in_ok-high-in-Fork-clause-pass : goal.returns-in_ok-high-in-Fork-clause-pass
+returns-in_ok-high-in-Fork-clause-pass g t c =
+    of_answer c.fork.result _ _ c.fork.ensures.pass
+    (λ r fork test pass others.
+    let parts = passes_parts test c.in-Fork.variable c.in-Fork.cut c.in-Fork.below.value c.in-Fork.above.value c.args.self.now c.in-Fork.is pass in
+    fork test parts.0
+    (c.in_ok-low-in-Fork.ensures.pass test (subst (λ (n : Node g.row.T.Denot). DoForksPass test n) (sym c.deref-in-Fork.ensures) parts.1) others)
+    (c.in_ok-high-in-Fork.ensures.pass test (subst (λ (n : Node g.row.T.Denot). DoForksPass test n) (sym c.deref-in-Fork-2.ensures) parts.2) others))

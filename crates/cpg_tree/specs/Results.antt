@@ -1,0 +1,56 @@
+-- What the operations on decision trees make of these.
+use Rattle.std.specs.Prelude.{⊤, ℕ, ◌+◌, ◌≡◌, ◌≢◌, ◌≤◌, ◌<◌, max, min, Bool, if◌then◌else◌}
+use Rattle.cpg_order.specs.Scenario.{Scenario, number_of}
+use Rattle.cpg_tree.specs.declared.node.Node.{Node}
+use Rattle.cpg_tree.specs.Space.{Space, Lies}
+use Rattle.cpg_tree.specs.Decision.{value_at, low_at, high_at}
+
+-- equal values and ranges everywhere
+pub record AreSame {T : Type 0} (a b : Node T) : Type 0 where
+  pub value : (s : Scenario) → value_at a s ≡ value_at b s
+  pub low : (s : Scenario) (v : ℕ) → low_at a s v ≡ low_at b s v
+  pub high : (k : ℕ) (s : Scenario) (v : ℕ) → high_at k a s v ≡ high_at k b s v
+
+-- the values of one tree up to a cut and of another above it, by ranges that are as wide as those of a fork at least
+pub record IsForkOf {T : Type 0} (v cut : ℕ) (below above r : Node T) : Type 0 where
+  pub value_below : (s : Scenario) → number_of s v ≤ cut → value_at r s ≡ value_at below s
+  pub value_above : (s : Scenario) → cut < number_of s v → value_at r s ≡ value_at above s
+  pub low_below : (s : Scenario) (u : ℕ) → number_of s v ≤ cut → low_at r s u ≤ low_at below s u
+  pub low_above : (s : Scenario) (u : ℕ) → cut < number_of s v → u ≢ v → low_at r s u ≤ low_at above s u
+  pub low_here : (s : Scenario) → cut < number_of s v → low_at r s v ≤ max (cut + 1) (low_at above s v)
+  pub high_below : (k : ℕ) (s : Scenario) (u : ℕ) → number_of s v ≤ cut → u ≢ v → high_at k below s u ≤ high_at k r s u
+  pub high_here : (k : ℕ) (s : Scenario) → number_of s v ≤ cut → min cut (high_at k below s v) ≤ high_at k r s v
+  pub high_above : (k : ℕ) (s : Scenario) (u : ℕ) → cut < number_of s v → high_at k above s u ≤ high_at k r s u
+
+-- in the scenarios of a domain the tree's value has a fact, and its range of each variable contains a given one
+pub record IsMade {T : Type 0} (domain : Scenario → Type 0) (fact : Scenario → T → Type 0) (low : Scenario → ℕ → ℕ) (high : ℕ → Scenario → ℕ → ℕ) (r : Node T) : Type 0 where
+  pub value : (s : Scenario) → domain s → fact s (value_at r s)
+  pub lows : (s : Scenario) (v : ℕ) → domain s → low_at r s v ≤ low s v
+  pub highs : (k : ℕ) (s : Scenario) (v : ℕ) → domain s → high k s v ≤ high_at k r s v
+
+-- a tree of a function's answers
+abbrev pub IsMapOf : {T U : Type 0} → (T → U → Type 0) → Node T → Node U → Type 0
+IsMapOf answers a r = IsMade (λ s. ⊤) (λ s z. answers (value_at a s) z) (low_at a) (λ k. high_at k a) r
+
+-- the same tree for the scenarios of a space
+abbrev pub IsWithin : {T : Type 0} → Space → Node T → Node T → Type 0
+IsWithin room a r = IsMade (Lies room) (λ s z. z ≡ value_at a s) (low_at a) (λ k. high_at k a) r
+
+-- a tree of a function's answers to a value and the values of a tree
+abbrev pub IsFillOf : {T U V : Type 0} → (T → U → V → Type 0) → Space → T → Node U → Node V → Type 0
+IsFillOf answers room x b r = IsMade (Lies room) (λ s z. answers x (value_at b s) z) (low_at b) (λ k. high_at k b) r
+
+-- a tree of a function's answers to the values of two
+abbrev pub IsJoinOf : {T U V : Type 0} → (T → U → V → Type 0) → Space → Node T → Node U → Node V → Type 0
+IsJoinOf answers room a b r = IsMade (Lies room) (λ s z. answers (value_at a s) (value_at b s) z)
+    (λ s v. max (low_at a s v) (low_at b s v)) (λ k s v. min (high_at k a s v) (high_at k b s v)) r
+
+-- the tree that a chooser picks
+abbrev pub picked : {T : Type 0} → Bool → Node T → Node T → Node T
+picked b on off = if b then on else off
+
+-- the values of the tree that a chooser picks in each scenario
+abbrev pub IsPickOf : {T : Type 0} → Space → Node Bool → Node T → Node T → Node T → Type 0
+IsPickOf room chooser on off r = IsMade (Lies room) (λ s z. z ≡ value_at (picked (value_at chooser s) on off) s)
+    (λ s v. max (low_at chooser s v) (low_at (picked (value_at chooser s) on off) s v))
+    (λ k s v. min (high_at k chooser s v) (high_at k (picked (value_at chooser s) on off) s v)) r

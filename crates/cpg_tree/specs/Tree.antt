@@ -1,0 +1,75 @@
+-- What callers see of a tree: its paths, each a cube and a value; and what the operations answer.
+use Rattle.std.specs.Prelude.{ℕ, ◌≡◌, ◌≢◌, ◌≤◌, max, min, Bool, true, List, [], ◌∷◌, All, length, filter, IsTrue, Contains, if◌then◌else◌}
+use Rattle.cpg_order.specs.Scenario.{Scenario, number_of}
+use Rattle.cpg_cube.specs.declared.literal.Literal.{Literal}
+use Rattle.cpg_cube.specs.Cube.{matches, low_in, high_in, top}
+use Rattle.cpg_tree.specs.Space.{HasFew}
+
+-- a cube and the value in the scenarios that it matches
+abbrev pub Path : Type 0 → Type 0
+Path T = List Literal × T
+
+-- the fault number and the paths
+pub record TreeState (T : Type 0) : Type 0 where
+  pub faults : ℕ
+  pub paths : List (Path T)
+
+-- whether a path is a scenario's
+abbrev pub is_on : {T : Type 0} → Scenario → Path T → Bool
+is_on s path = matches path.0 s
+
+-- the path of a scenario
+pub record IsOn {T : Type 0} (paths : List (Path T)) (s : Scenario) (path : Path T) : Type 0 where
+  pub stands : Contains paths path
+  pub matched : IsTrue (is_on s path)
+
+-- one path for each scenario of at most k faults
+abbrev pub HasOnePathEach : {T : Type 0} → ℕ → List (Path T) → Type 0
+HasOnePathEach k paths = (s : Scenario) → HasFew k s → length (filter (is_on s) paths) ≡ 1
+
+-- each variable of a path passes a test
+abbrev pub DoPathsPass : {T : Type 0} → (ℕ → Bool) → List (Path T) → Type 0
+DoPathsPass {T} test paths = All (λ (p : Path T). All (λ (l : Literal). test l.variable ≡ true) p.0) paths
+
+-- the first cube's range of each variable contains the second's
+pub record IsAsWide (k : ℕ) (wide : List Literal) (a : List Literal) : Type 0 where
+  pub low : (v : ℕ) → low_in wide v ≤ low_in a v
+  pub high : (v : ℕ) → high_in k a v ≤ high_in k wide v
+
+-- it contains what the ranges of two cubes have in common
+pub record IsAsWideAsBoth (k : ℕ) (wide : List Literal) (a b : List Literal) : Type 0 where
+  pub low : (v : ℕ) → low_in wide v ≤ max (low_in a v) (low_in b v)
+  pub high : (v : ℕ) → min (high_in k a v) (high_in k b v) ≤ high_in k wide v
+
+-- the value of the path of a scenario
+pub record IsValueAt {T : Type 0} (t : TreeState T) (s : Scenario) (x : T) : Type 0 where
+  pub of_path : (path : Path T) → IsOn t.paths s path → x ≡ path.1
+
+-- one path
+abbrev pub IsConstant : {T : Type 0} → T → ℕ → TreeState T → Type 0
+IsConstant x k r = r ≡ record { faults = k; paths = ([], x) ∷ [] }
+
+-- in each scenario an answer of the function to the value there
+pub record IsMap {T U : Type 0} (answers : T → U → Type 0) (a : TreeState T) (r : TreeState U) : Type 0 where
+  pub faults : r.faults ≡ a.faults
+  pub value : (s : Scenario) (x : Path T) (z : Path U) → HasFew a.faults s → IsOn a.paths s x → IsOn r.paths s z → answers x.1 z.1
+  pub ranges : (s : Scenario) (x : Path T) (z : Path U) → HasFew a.faults s → IsOn a.paths s x → IsOn r.paths s z → IsAsWide a.faults z.0 x.0
+
+-- in each scenario an answer of the function to the values there
+pub record IsJoin {T U V : Type 0} (answers : T → U → V → Type 0) (a : TreeState T) (b : TreeState U) (r : TreeState V) : Type 0 where
+  pub faults : r.faults ≡ a.faults
+  pub value : (s : Scenario) (x : Path T) (y : Path U) (z : Path V) → HasFew a.faults s → IsOn a.paths s x → IsOn b.paths s y → IsOn r.paths s z → answers x.1 y.1 z.1
+  pub ranges : (s : Scenario) (x : Path T) (y : Path U) (z : Path V) → HasFew a.faults s → IsOn a.paths s x → IsOn b.paths s y → IsOn r.paths s z → IsAsWideAsBoth a.faults z.0 x.0 y.0
+
+-- in each scenario the value of the tree that the chooser picks there
+pub record IsPick {T : Type 0} (chooser : TreeState Bool) (on off r : TreeState T) : Type 0 where
+  pub faults : r.faults ≡ chooser.faults
+  pub value : (s : Scenario) (c : Path Bool) (x z : Path T) → HasFew chooser.faults s → IsOn chooser.paths s c → IsOn (if c.1 then on.paths else off.paths) s x → IsOn r.paths s z → z.1 ≡ x.1
+  pub ranges : (s : Scenario) (c : Path Bool) (x z : Path T) → HasFew chooser.faults s → IsOn chooser.paths s c → IsOn (if c.1 then on.paths else off.paths) s x → IsOn r.paths s z → IsAsWideAsBoth chooser.faults z.0 c.0 x.0
+
+-- in each scenario the number of a variable, by forks on that variable alone
+pub record IsNumber {T : Type 0} (v k : ℕ) (number : T → ℕ) (t : TreeState T) : Type 0 where
+  pub faults : t.faults ≡ k
+  pub value : (s : Scenario) (x : Path T) → HasFew k s → IsOn t.paths s x → number x.1 ≡ number_of s v
+  pub low : (s : Scenario) (x : Path T) (u : ℕ) → HasFew k s → IsOn t.paths s x → u ≢ v → low_in x.0 u ≡ 0
+  pub high : (s : Scenario) (x : Path T) (u : ℕ) → HasFew k s → IsOn t.paths s x → u ≢ v → high_in k x.0 u ≡ top k u

@@ -1,0 +1,35 @@
+-- Trees of the number of one variable, as they are made.
+use Rattle.std.specs.Prelude.{ℕ, ◌+◌, ◌≡◌, ◌≢◌, ◌≤◌, Bool, ◌&&◌, ◌||◌, nat_lt, nat_le, length, get_or}
+use Rattle.cpg_base.specs.Graph.{Graph, process_count, condition_count, value_variable}
+use Rattle.cpg_base.specs.Scenario.{number_of_value}
+use Rattle.cpg_order.specs.Scenario.{Scenario, number_of}
+use Rattle.cpg_cube.specs.Cube.{top}
+use Rattle.cpg_tree.specs.declared.node.Node.{Node}
+use Rattle.cpg_tree.specs.Space.{Space}
+use Rattle.cpg_tree.specs.Decision.{value_at, low_at, high_at}
+
+-- no forks on other variables
+pub record ForksOnly {T : Type 0} (v : ℕ) (node : Node T) : Type 0 where
+  pub low : (s : Scenario) (u : ℕ) → u ≢ v → low_at node s u ≤ 0
+  pub high : (k : ℕ) (s : Scenario) (u : ℕ) → u ≢ v → top k u ≤ high_at k node s u
+
+-- the count of a process where it is the first or more
+pub record AreCountsFrom (p first k : ℕ) (node : Node ℕ) : Type 0 where
+  pub value : (s : Scenario) → first ≤ number_of s p → number_of s p ≤ k → value_at node s ≡ number_of s p
+  pub only : ForksOnly p node
+
+-- all these counts, and no lower one, are left in a space
+pub record LeavesCounts (room : Space) (p first k : ℕ) : Type 0 where
+  pub long : length room.low ≡ 256
+  pub low : get_or room.low p 0 ≡ first
+  pub high : get_or room.high p 0 ≡ k
+  pub left : first + room.left ≡ k
+
+-- the value of a condition
+pub record IsValueNode (v : ℕ) (node : Node Bool) : Type 0 where
+  pub value : (s : Scenario) → number_of s v ≤ 1 → number_of_value (value_at node s) ≡ number_of s v
+  pub only : ForksOnly v node
+
+-- whether a number is a variable of the graph
+abbrev pub is_variable : Graph → ℕ → Bool
+is_variable g v = nat_lt v (process_count g) || (nat_le 128 v && nat_lt v (value_variable (condition_count g)))

@@ -1,0 +1,14 @@
+//! Trees of values by scenarios.
+#![tactic(auto)]
+
+mod columns;
+mod greatest;
+mod node;
+mod space;
+#[cfg(test)]
+mod tests;
+mod tree;
+mod variables;
+
+pub use tree::Tree;
+pub use variables::{fault, value};

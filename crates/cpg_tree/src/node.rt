@@ -1,0 +1,331 @@
+//! Decision trees.
+ghost use Rattle.std.specs.Prelude.{◌≡◌, ◌<◌, ℕ, Bool, IfOk, true};
+ghost use Rattle.std.specs.Bool.{OnTrue};
+ghost use Rattle.cpg_tree.specs.Results.{AreSame, IsForkOf, IsWithin, IsMapOf, IsFillOf, IsJoinOf, IsPickOf};
+ghost use Rattle.cpg_tree.specs.Decision.{value_at, DoForksPass, IsFit};
+ghost use Rattle.cpg_tree.specs.Space.{Space, is_open_below, is_open_above, below_cut, above_cut};
+
+use crate::space::Space;
+use cpg_base::{OutOfMemory, Scenario};
+use std::alloc::Global;
+
+/// A value, or a fork by the number of a variable.
+#[cycle(node)]
+#[derive(Drop)]
+pub(crate) enum Node<T> {
+    Leaf(T),
+    Fork {
+        variable: u8,
+        cut: u8,
+        below: Box<Node<T>>,
+        above: Box<Node<T>>,
+    },
+}
+
+impl<T: Copy> Node<T> {
+    /// The value that a scenario comes to.
+    pub(crate) fn at(&self, scenario: &Scenario) -> T
+        ensures { result ≡ value_at self.now scenario.now }
+    {
+        match self {
+            Node::Leaf(value) => *value,
+            Node::Fork {
+                variable,
+                cut,
+                below,
+                above,
+            } => {
+                if scenario.number(*variable) <= *cut {
+                    below.at(scenario)
+                } else {
+                    above.at(scenario)
+                }
+            }
+        }
+    }
+}
+
+impl<T: Copy + Eq> Node<T> {
+    /// Whether two trees are equal.
+    fn is_same(&self, other: &Node<T>) -> bool
+        requires { (x y : T) → T.eq x y ≡ true → x ≡ y }
+        ensures { OnTrue result (AreSame self.now other.now) }
+    {
+        match self {
+            Node::Leaf(value) => match other {
+                Node::Leaf(other) => *value == *other,
+                Node::Fork { .. } => false,
+            },
+            Node::Fork {
+                variable,
+                cut,
+                below,
+                above,
+            } => match other {
+                Node::Leaf(_) => false,
+                Node::Fork {
+                    variable: other_variable,
+                    cut: other_cut,
+                    below: other_below,
+                    above: other_above,
+                } => {
+                    *variable == *other_variable
+                        && *cut == *other_cut
+                        && below.is_same(other_below)
+                        && above.is_same(other_above)
+                }
+            },
+        }
+    }
+
+    /// Whether a fork farther up on a variable has this tree below it.
+    fn meets(
+        &self,
+        variable: u8,
+        cut: u8,
+        other_variable: u8,
+        other_cut: u8,
+        other_below: &Node<T>,
+    ) -> bool
+        requires { (x y : T) → T.eq x y ≡ true → x ≡ y }
+        ensures { OnTrue result ((other_variable ≡ variable) × (cut < other_cut) × AreSame self.now other_below.now) }
+    {
+        other_variable == variable && cut < other_cut && self.is_same(other_below)
+    }
+
+    /// A fork.
+    fn fork_of(
+        alloc: Global,
+        variable: u8,
+        cut: u8,
+        below: Node<T>,
+        above: Node<T>,
+    ) -> Result<Node<T>, OutOfMemory>
+        ensures made { IfOk result (IsForkOf variable cut below above) }
+        ensures fit { IfOk result (λ r. (room : Space) → variable < 256 → is_open_below room variable cut ≡ true → is_open_above room variable cut ≡ true → IsFit (below_cut room variable cut) below → IsFit (above_cut room variable cut) above → IsFit room r) }
+        ensures pass { IfOk result (λ r. (test : ℕ → Bool) → test variable ≡ true → DoForksPass test below → DoForksPass test above → DoForksPass test r) }
+    {
+        let below = Box::new(alloc, below)?;
+        let above = Box::new(alloc, above)?;
+        Ok(Node::Fork {
+            variable,
+            cut,
+            below,
+            above,
+        })
+    }
+
+    /// A fork, or one tree where both sides are equal. Where the side above is a fork on the same variable with an equal
+    /// side below, the first cut is left out.
+    pub(crate) fn fork(
+        alloc: Global,
+        variable: u8,
+        cut: u8,
+        below: Node<T>,
+        above: Node<T>,
+    ) -> Result<Node<T>, OutOfMemory>
+        requires { (x y : T) → T.eq x y ≡ true → x ≡ y }
+        ensures made { IfOk result (IsForkOf variable cut below above) }
+        ensures fit { IfOk result (λ r. (room : Space) → is_open_below room variable cut ≡ true → is_open_above room variable cut ≡ true → IsFit (below_cut room variable cut) below → IsFit (above_cut room variable cut) above → IsFit room r) }
+        ensures pass { IfOk result (λ r. (test : ℕ → Bool) → test variable ≡ true → DoForksPass test below → DoForksPass test above → DoForksPass test r) }
+    {
+        if below.is_same(&above) {
+            return Ok(below);
+        }
+        match above {
+            Node::Leaf(value) => Node::fork_of(alloc, variable, cut, below, Node::Leaf(value)),
+            Node::Fork {
+                variable: next,
+                cut: farther,
+                below: near,
+                above: far,
+            } => {
+                if below.meets(variable, cut, next, farther, &near) {
+                    let below = Box::new(alloc, below)?;
+                    return Ok(Node::Fork {
+                        variable,
+                        cut: farther,
+                        below,
+                        above: far,
+                    });
+                }
+                let above = Node::Fork {
+                    variable: next,
+                    cut: farther,
+                    below: near,
+                    above: far,
+                };
+                Node::fork_of(alloc, variable, cut, below, above)
+            }
+        }
+    }
+
+    /// The same tree for the scenarios of a space.
+    pub(crate) fn within(&self, alloc: Global, space: &Space) -> Result<Node<T>, OutOfMemory>
+        requires { (x y : T) → T.eq x y ≡ true → x ≡ y }
+        ensures made { IfOk result (IsWithin space.now self.now) }
+        ensures fit { IfOk result (IsFit space.now) }
+        ensures pass { IfOk result (λ r. (test : ℕ → Bool) → DoForksPass test self.now → DoForksPass test r) }
+    {
+        match self {
+            Node::Leaf(value) => Ok(Node::Leaf(*value)),
+            Node::Fork {
+                variable,
+                cut,
+                below,
+                above,
+            } => {
+                if !space.is_open_below(*variable, *cut) {
+                    return above.within(alloc, space);
+                }
+                if !space.is_open_above(*variable, *cut) {
+                    return below.within(alloc, space);
+                }
+                let low = below.within(alloc, &space.below(*variable, *cut))?;
+                let high = above.within(alloc, &space.above(*variable, *cut))?;
+                Node::fork(alloc, *variable, *cut, low, high)
+            }
+        }
+    }
+}
+
+impl<T: Copy> Node<T> {
+    /// The answers of a function to the values.
+    pub(crate) fn map<U: Copy + Eq, F: Fn(T) -> U>(
+        &self,
+        alloc: Global,
+        f: &F,
+    ) -> Result<Node<U>, OutOfMemory>
+        requires callable { F.IsAlwaysCallable f.now }
+        requires equal { (x y : U) → U.eq x y ≡ true → x ≡ y }
+        ensures made { IfOk result (IsMapOf (F.post f.now) self.now) }
+        ensures fit { IfOk result (λ r. (room : Space) → IsFit room self.now → IsFit room r) }
+        ensures pass { IfOk result (λ r. (test : ℕ → Bool) → DoForksPass test self.now → DoForksPass test r) }
+    {
+        match self {
+            Node::Leaf(value) => Ok(Node::Leaf(f(*value))),
+            Node::Fork {
+                variable,
+                cut,
+                below,
+                above,
+            } => {
+                let low = below.map(alloc, f)?;
+                let high = above.map(alloc, f)?;
+                Node::fork(alloc, *variable, *cut, low, high)
+            }
+        }
+    }
+
+    /// The answers of a function to a value and the values, for the scenarios of a space.
+    fn fill<U: Copy, V: Copy + Eq, F: Fn(U, T) -> V>(
+        &self,
+        alloc: Global,
+        space: &Space,
+        value: U,
+        f: &F,
+    ) -> Result<Node<V>, OutOfMemory>
+        requires callable { F.IsAlwaysCallable f.now }
+        requires equal { (x y : V) → V.eq x y ≡ true → x ≡ y }
+        ensures made { IfOk result (IsFillOf (F.post f.now) space.now value self.now) }
+        ensures fit { IfOk result (IsFit space.now) }
+        ensures pass { IfOk result (λ r. (test : ℕ → Bool) → DoForksPass test self.now → DoForksPass test r) }
+    {
+        match self {
+            Node::Leaf(other) => Ok(Node::Leaf(f(value, *other))),
+            Node::Fork {
+                variable,
+                cut,
+                below,
+                above,
+            } => {
+                if !space.is_open_below(*variable, *cut) {
+                    return above.fill(alloc, space, value, f);
+                }
+                if !space.is_open_above(*variable, *cut) {
+                    return below.fill(alloc, space, value, f);
+                }
+                let low = below.fill(alloc, &space.below(*variable, *cut), value, f)?;
+                let high = above.fill(alloc, &space.above(*variable, *cut), value, f)?;
+                Node::fork(alloc, *variable, *cut, low, high)
+            }
+        }
+    }
+
+    /// The answers of a function to the values and those of another tree, for the scenarios of a space.
+    pub(crate) fn join<U: Copy, V: Copy + Eq, F: Fn(T, U) -> V>(
+        &self,
+        alloc: Global,
+        space: &Space,
+        other: &Node<U>,
+        f: &F,
+    ) -> Result<Node<V>, OutOfMemory>
+        requires callable { F.IsAlwaysCallable f.now }
+        requires equal { (x y : V) → V.eq x y ≡ true → x ≡ y }
+        ensures made { IfOk result (IsJoinOf (F.post f.now) space.now self.now other.now) }
+        ensures fit { IfOk result (IsFit space.now) }
+        ensures pass { IfOk result (λ r. (test : ℕ → Bool) → DoForksPass test self.now → DoForksPass test other.now → DoForksPass test r) }
+    {
+        match self {
+            Node::Leaf(value) => other.fill(alloc, space, *value, f),
+            Node::Fork {
+                variable,
+                cut,
+                below,
+                above,
+            } => {
+                if !space.is_open_below(*variable, *cut) {
+                    return above.join(alloc, space, other, f);
+                }
+                if !space.is_open_above(*variable, *cut) {
+                    return below.join(alloc, space, other, f);
+                }
+                let low = below.join(alloc, &space.below(*variable, *cut), other, f)?;
+                let high = above.join(alloc, &space.above(*variable, *cut), other, f)?;
+                Node::fork(alloc, *variable, *cut, low, high)
+            }
+        }
+    }
+}
+
+impl Node<bool> {
+    /// The values of the tree that these pick, for the scenarios of a space.
+    pub(crate) fn pick<T: Copy + Eq>(
+        &self,
+        alloc: Global,
+        space: &Space,
+        on: &Node<T>,
+        off: &Node<T>,
+    ) -> Result<Node<T>, OutOfMemory>
+        requires { (x y : T) → T.eq x y ≡ true → x ≡ y }
+        ensures made { IfOk result (IsPickOf space.now self.now on.now off.now) }
+        ensures fit { IfOk result (IsFit space.now) }
+        ensures pass { IfOk result (λ r. (test : ℕ → Bool) → DoForksPass test self.now → DoForksPass test on.now → DoForksPass test off.now → DoForksPass test r) }
+    {
+        match self {
+            Node::Leaf(is_on) => {
+                if *is_on {
+                    on.within(alloc, space)
+                } else {
+                    off.within(alloc, space)
+                }
+            }
+            Node::Fork {
+                variable,
+                cut,
+                below,
+                above,
+            } => {
+                if !space.is_open_below(*variable, *cut) {
+                    return above.pick(alloc, space, on, off);
+                }
+                if !space.is_open_above(*variable, *cut) {
+                    return below.pick(alloc, space, on, off);
+                }
+                let low = below.pick(alloc, &space.below(*variable, *cut), on, off)?;
+                let high = above.pick(alloc, &space.above(*variable, *cut), on, off)?;
+                Node::fork(alloc, *variable, *cut, low, high)
+            }
+        }
+    }
+}

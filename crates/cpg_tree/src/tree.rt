@@ -1,0 +1,154 @@
+//! Trees of values by scenarios.
+ghost use Rattle.std.specs.Prelude.{◌≡◌, ◌≤◌, ◌<◌, max, ℕ, Bool, List, IfOk, IfSome, length, true};
+ghost use Rattle.cpg_cube.specs.declared.literal.Literal.{Literal};
+ghost use Rattle.cpg_tree.specs.Decision.{IsGood};
+ghost use Rattle.cpg_tree.specs.Paths.{paths_from, paths_of};
+ghost use Rattle.cpg_tree.specs.Tree.{HasOnePathEach, DoPathsPass, IsConstant, IsMap, IsJoin, IsPick, IsValueAt};
+
+use crate::node::Node;
+use crate::space::Space;
+use cpg_base::{OutOfMemory, Scenario};
+use std::alloc::Global;
+use std::marker::Model;
+
+/// A value for each scenario of at most `k` faults: seen as its paths, each a cube and the value in the scenarios that
+/// the cube matches.
+#[derive(Drop)]
+pub struct Tree<T> {
+    pub(crate) alloc: Global,
+    pub(crate) faults: u8,
+    leaves: u64,
+    pub(crate) root: Node<T>,
+}
+
+impl<T> Model for Tree<T> {
+    ghost use Rattle.std.specs.Prelude.{◌≡◌, length};
+    ghost use Rattle.cpg_tree.specs.Decision.{IsGood};
+    ghost use Rattle.cpg_tree.specs.Paths.{paths_of};
+    ghost use Rattle.cpg_tree.specs.Tree.{TreeState};
+
+    ghost Value = { TreeState T };
+
+    ghost view = { λ t. record { faults = t.faults; paths = paths_of t.faults t.root } };
+
+    ghost invariant = { λ t. IsGood t.faults t.root × (t.leaves ≡ length (paths_of t.faults t.root)) };
+}
+
+impl<T> Node<T> {
+    /// How many leaves there are.
+    fn count(&self) -> Option<u64>
+        ensures { IfSome result (λ n. (k : ℕ) (cube : List Literal) → n ≡ length (paths_from k cube self.now)) }
+    {
+        match self {
+            Node::Leaf(_) => Some(1),
+            Node::Fork { below, above, .. } => {
+                let low = below.count()?;
+                let high = above.count()?;
+                low.checked_add(high)
+            }
+        }
+    }
+}
+
+impl<T: Copy> Tree<T> {
+    /// The tree of a root.
+    pub(crate) fn of(alloc: Global, faults: u8, root: Node<T>) -> Result<Tree<T>, OutOfMemory>
+        requires { IsGood faults root }
+        ensures is { IfOk result (λ t. t ≡ record { faults = faults; paths = paths_of faults root }) }
+        ensures each { IfOk result (λ t. HasOnePathEach t.faults t.paths) }
+    {
+        let Some(leaves) = root.count() else {
+            return Err(OutOfMemory);
+        };
+        Ok(Tree {
+            alloc,
+            faults,
+            leaves,
+            root,
+        })
+    }
+
+    /// One value for all scenarios of at most `k` faults.
+    pub fn constant(alloc: Global, value: T, k: u8) -> Result<Tree<T>, OutOfMemory>
+        requires { k ≤ 8 }
+        ensures is { IfOk result (IsConstant value k) }
+        ensures each { IfOk result (λ t. HasOnePathEach t.faults t.paths) }
+        ensures pass { IfOk result (λ t. (test : ℕ → Bool) → DoPathsPass test t.paths) }
+    {
+        Tree::of(alloc, k, Node::Leaf(value))
+    }
+
+    /// The value of the path that matches a scenario.
+    pub fn at(&self, scenario: &Scenario) -> T
+        ensures { IsValueAt self.now scenario.now result }
+    {
+        self.root.at(scenario)
+    }
+
+    /// How many paths there are.
+    pub fn leaves(&self) -> u64
+        ensures { result ≡ length self.now.paths }
+    {
+        self.leaves
+    }
+
+    /// The answers of a function to the values of two trees.
+    pub fn join_with<U: Copy, V: Copy + Eq, F: Fn(T, U) -> V>(
+        &self,
+        other: &Tree<U>,
+        f: &F,
+    ) -> Result<Tree<V>, OutOfMemory>
+        requires callable { F.IsAlwaysCallable f.now }
+        requires equal { (x y : V) → V.eq x y ≡ true → x ≡ y }
+        requires same { self.now.faults ≡ other.now.faults }
+        ensures is { IfOk result (IsJoin (F.post f.now) self.now other.now) }
+        ensures each { IfOk result (λ t. HasOnePathEach t.faults t.paths) }
+        ensures pass { IfOk result (λ t. (test : ℕ → Bool) → DoPathsPass test self.now.paths → DoPathsPass test other.now.paths → DoPathsPass test t.paths) }
+    {
+        let space = Space::whole(self.faults);
+        let root = self.root.join(self.alloc, &space, &other.root, f)?;
+        Tree::of(self.alloc, self.faults, root)
+    }
+
+    /// The answers of a function to the values.
+    pub fn map<U: Copy + Eq, F: Fn(T) -> U>(&self, f: &F) -> Result<Tree<U>, OutOfMemory>
+        requires callable { F.IsAlwaysCallable f.now }
+        requires equal { (x y : U) → U.eq x y ≡ true → x ≡ y }
+        ensures is { IfOk result (IsMap (F.post f.now) self.now) }
+        ensures each { IfOk result (λ t. HasOnePathEach t.faults t.paths) }
+        ensures pass { IfOk result (λ t. (test : ℕ → Bool) → DoPathsPass test self.now.paths → DoPathsPass test t.paths) }
+    {
+        let root = self.root.map(self.alloc, f)?;
+        Tree::of(self.alloc, self.faults, root)
+    }
+}
+
+impl<T: Copy + Eq> Tree<T> {
+    /// In each scenario the value of one of two trees: of the first where the chooser's value is true.
+    pub fn pick(chooser: &Tree<bool>, yes: &Tree<T>, no: &Tree<T>) -> Result<Tree<T>, OutOfMemory>
+        requires equal { (x y : T) → T.eq x y ≡ true → x ≡ y }
+        requires first { chooser.now.faults ≡ yes.now.faults }
+        requires second { chooser.now.faults ≡ no.now.faults }
+        ensures is { IfOk result (IsPick chooser.now yes.now no.now) }
+        ensures each { IfOk result (λ t. HasOnePathEach t.faults t.paths) }
+        ensures pass { IfOk result (λ t. (test : ℕ → Bool) → DoPathsPass test chooser.now.paths → DoPathsPass test yes.now.paths → DoPathsPass test no.now.paths → DoPathsPass test t.paths) }
+    {
+        let space = Space::whole(chooser.faults);
+        let root = chooser
+            .root
+            .pick(chooser.alloc, &space, &yes.root, &no.root)?;
+        Tree::of(chooser.alloc, chooser.faults, root)
+    }
+}
+
+impl Tree<u64> {
+    /// In each scenario the greater value of two trees.
+    pub fn max(&self, other: &Tree<u64>) -> Result<Tree<u64>, OutOfMemory>
+        requires same { self.now.faults ≡ other.now.faults }
+        ensures is { IfOk result (IsJoin (λ x y z. z ≡ max x y) self.now other.now) }
+        ensures each { IfOk result (λ t. HasOnePathEach t.faults t.paths) }
+        ensures pass { IfOk result (λ t. (test : ℕ → Bool) → DoPathsPass test self.now.paths → DoPathsPass test other.now.paths → DoPathsPass test t.paths) }
+    {
+        self.join_with(other, &|first: u64, second: u64| first.max(second))
+    }
+}
