@@ -1,12 +1,10 @@
 //! Where edges lead, and where items come from.
 ghost use Rattle.std.specs.Prelude.{◌≡◌, ◌<◌, ◌==◌, length, position};
 ghost use Rattle.cpg_base.specs.Bus.{slot_length};
-ghost use Rattle.cpg_base.specs.Graph.{IsVariable, broadcast_item, condition_count, edge_count, home, is_message, item_count, message_item, node_of, process_count, process_of_variable, producer, source, target};
+ghost use Rattle.cpg_base.specs.Variable.{variable_at};
+ghost use Rattle.cpg_base.specs.Graph.{IsItem, IsVariable, IsVariableOf, broadcast_item, condition_count, edge_count, home, is_frozen, is_heard_by, is_message, is_sent, item_at, item_count, message_item, node_of, number_of_item, process_at, process_count, process_of_variable, producer, source, target};
 
-use crate::{Problem, Slot};
-
-/// The number of the first variable that is a condition's value; those below are counts of faults.
-const FIRST_VALUE: u32 = 128;
+use crate::{Item, Problem, Slot, Variable};
 
 /// The place of a node's slot in the round.
 fn slot_place(slots: &[Slot], node: u32) -> Option<usize>
@@ -79,21 +77,77 @@ impl Problem {
         (self.processes().len() + self.edges().len()) as u32 + condition
     }
 
+    /// The item of a number.
+    pub fn item(&self, number: u32) -> Item
+        requires { number < item_count self.now }
+        ensures item { result ≡ item_at self.now number }
+        ensures within { IsItem self.now result }
+        ensures number { number ≡ number_of_item self.now result }
+    {
+        let messages = self.processes().len() as u32;
+        if number < messages {
+            return Item::Start(number);
+        }
+        let broadcasts = messages + self.edges().len() as u32;
+        if number < broadcasts {
+            return Item::Message(number - messages);
+        }
+        let conditions = self.conditions();
+        prove!(number - broadcasts < conditions);
+        Item::Broadcast(number - broadcasts)
+    }
+
     /// The process that an item comes from.
     pub fn producer(&self, item: u32) -> u32
         requires { item < item_count self.now }
         ensures producer { result ≡ producer self.now item }
         ensures within { result < process_count self.now }
     {
-        let messages = self.processes().len() as u32;
-        if item < messages {
-            return item;
+        match self.item(item) {
+            Item::Start(process) => process,
+            Item::Message(edge) => self.source(edge),
+            Item::Broadcast(condition) => self.process_of(condition),
         }
-        let broadcasts = messages + self.edges().len() as u32;
-        if item < broadcasts {
-            return self.source(item - messages);
+    }
+
+    /// Whether an item goes over the bus: a message does, and a broadcast where there are two nodes or more.
+    pub fn is_sent(&self, item: u32) -> bool
+        requires { item < item_count self.now }
+        ensures { result ≡ is_sent self.now item }
+    {
+        match self.item(item) {
+            Item::Start(_) => false,
+            Item::Message(edge) => self.is_message(edge),
+            Item::Broadcast(_) => self.nodes().len() > 1,
         }
-        self.process_of(item - broadcasts)
+    }
+
+    /// Whether a node hears an item: a message at its target, a broadcast at every node but the sender.
+    pub fn is_heard_by(&self, node: u32, item: u32) -> bool
+        requires { item < item_count self.now }
+        ensures { result ≡ is_heard_by self.now node (item_at self.now item) }
+    {
+        match self.item(item) {
+            Item::Start(_) => false,
+            Item::Message(edge) => {
+                self.is_message(edge) && self.node_of(self.target(edge)) == node
+            }
+            Item::Broadcast(condition) => {
+                self.nodes().len() > 1 && self.node_of(self.process_of(condition)) != node
+            }
+        }
+    }
+
+    /// Whether an item has one time in all scenarios. An edge within a node is no item, whatever its `frozen` says.
+    pub fn is_frozen(&self, item: u32) -> bool
+        requires { item < item_count self.now }
+        ensures { result ≡ is_frozen self.now item }
+    {
+        match self.item(item) {
+            Item::Start(process) => self.processes()[process as usize].frozen,
+            Item::Message(edge) => self.is_message(edge) && self.edges()[edge as usize].frozen,
+            Item::Broadcast(_) => false,
+        }
     }
 
     /// The node that starts or sends an item.
@@ -117,16 +171,26 @@ impl Problem {
         }
     }
 
+    /// The variable of a number.
+    pub fn variable(&self, number: u8) -> Variable
+        requires { IsVariable self.now number }
+        ensures variable { result ≡ variable_at number }
+        ensures within { IsVariableOf self.now result }
+    {
+        let processes = self.processes();
+        prove!(processes.len() <= 128);
+        Variable::of(number)
+    }
+
     /// The process that a variable belongs to.
     pub fn process_of_variable(&self, variable: u8) -> u32
         requires { IsVariable self.now variable }
         ensures process { result ≡ process_of_variable self.now variable }
         ensures within { result < process_count self.now }
     {
-        let number = u32::from(variable);
-        if number < self.processes().len() as u32 {
-            return number;
+        match self.variable(variable) {
+            Variable::Count(process) => process,
+            Variable::Value(condition) => self.process_of(condition),
         }
-        self.process_of(number - FIRST_VALUE)
     }
 }

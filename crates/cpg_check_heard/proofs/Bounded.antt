@@ -4,7 +4,7 @@ use Rattle.std.specs.Prelude.{nat_le}
 use Rattle.std.specs.List.{list_any}
 use Rattle.std.proofs.lemmas.Bool.Decides.{nat_tests}
 use Rattle.std.proofs.Math.Bool.{or-false}
-use Rattle.cpg_cube.specs.Cube.{top}
+use Rattle.cpg_base.specs.Variable.{top}
 use Rattle.cpg_cube.specs.declared.literal.Literal.{Literal}
 use Rattle.cpg_table.specs.Heard.{kept_high, is_heard}
 use Rattle.cpg_check_heard.specs.Bounds.{tells, is_free, low_of, high_of}

@@ -8,7 +8,9 @@ use Rattle.cpg_base.proofs.Lists.{Contains-first, Contains-rest, list_any_false,
 use Rattle.cpg_base.proofs.Items.{item_at-start}
 use Rattle.cpg_base.specs.Bus.{slot_length}
 use Rattle.cpg_base.specs.Duration.{duration}
-use Rattle.cpg_base.specs.Graph.{Graph, Item, Start, Message, Broadcast, process_count, item_count, item_at, condition_of, process_of, process_of_variable, value_variable, node_of, home, is_heard_by}
+use Rattle.cpg_base.specs.Graph.{Graph, process_count, item_count, item_at, condition_of, process_of, process_of_variable, value_variable, node_of, home, is_heard_by}
+use Rattle.cpg_base.specs.declared.item.Item.{Item}
+use Rattle.cpg_base.specs.declared.item.Item.TheVariants.{Start, Message, Broadcast}
 use Rattle.cpg_base.specs.Numbers.{numbers_below}
 use Rattle.cpg_order.proofs.Conditions.{process_of_condition_of}
 use Rattle.cpg_order.specs.Scenario.{Scenario, number_of}

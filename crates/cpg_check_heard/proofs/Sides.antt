@@ -8,7 +8,8 @@ use Rattle.cpg_base.specs.Graph.{Graph, IsVariable, process_count, condition_cou
 use Rattle.cpg_base.proofs.Items.{process_of_below}
 use Rattle.cpg_order.proofs.Conditions.{condition_of_process_of}
 use Rattle.cpg_order.specs.Scenario.{Scenario, IsScenario, number_of}
-use Rattle.cpg_cube.specs.Cube.{holds, top}
+use Rattle.cpg_cube.specs.Cube.{holds}
+use Rattle.cpg_base.specs.Variable.{top}
 use Rattle.cpg_cube.proofs.Boxes.{number_within, top_of_count}
 use Rattle.cpg_table.specs.Heard.{exactly, value_fact}
 use Rattle.cpg_violation.proofs.SieveLaws.{same_where}

@@ -1,7 +1,9 @@
 -- What a row tells a node: by the ends of a process of its own, or by frames.
 use Rattle.std.specs.Prelude.{ℕ, ◌+◌, ◌≡◌, ◌<◌, Bool, ◌&&◌, ◌==◌, nat_le, nat_lt, List, ◌∷◌, ◌++◌, Option, None, Some, slice_get, false, length}
 use Rattle.std.specs.List.{list_any}
-use Rattle.cpg_base.specs.Graph.{Graph, Item, Start, Message, Broadcast, process_count, item_at, home, condition_of, process_of_variable, value_variable}
+use Rattle.cpg_base.specs.Graph.{Graph, process_count, item_at, home, condition_of, process_of_variable, value_variable}
+use Rattle.cpg_base.specs.declared.item.Item.{Item}
+use Rattle.cpg_base.specs.declared.item.Item.TheVariants.{Start, Message, Broadcast}
 use Rattle.cpg_base.specs.Duration.{duration}
 use Rattle.cpg_base.specs.Bus.{slot_length}
 use Rattle.cpg_order.specs.Scenario.{Scenario, IsScenario, number_of}

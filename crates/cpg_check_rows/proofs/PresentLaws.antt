@@ -3,7 +3,8 @@ use Rattle.std.proofs.Common.{ℕ, zero, suc, ◌∷◌, All, ◌+◌, ◌<◌, 
 use Rattle.std.specs.Prelude.{nat_lt, take, drop, IsTrue}
 use Rattle.std.specs.List.{list_any}
 use Rattle.std.proofs.lemmas.Bool.{cases_lt}
-use Rattle.cpg_base.specs.Graph.{Graph, Broadcast, process_count, edge_count, condition_count, item_count, item_at, message_item, broadcast_item, is_message, source, edge_at, condition_of, process_of}
+use Rattle.cpg_base.specs.Graph.{Graph, process_count, edge_count, condition_count, item_count, item_at, message_item, broadcast_item, is_message, source, edge_at, condition_of, process_of}
+use Rattle.cpg_base.specs.declared.item.Item.TheVariants.{Broadcast}
 use Rattle.cpg_base.specs.Activity.{active, is_active, live, item_active}
 use Rattle.cpg_base.proofs.Lists.{list_any_false, get_or-map-below}
 use Rattle.cpg_base.proofs.Items.{item_at-start, item_at-message, item_at-broadcast}

@@ -7,7 +7,8 @@ use Rattle.std.proofs.lemmas.Bool.{and_parts}
 use Rattle.cpg_base.specs.Activity.{active, live, item_active}
 use Rattle.cpg_base.specs.Bus.{slot_length}
 use Rattle.cpg_base.specs.Duration.{duration}
-use Rattle.cpg_base.specs.Graph.{Graph, Message, Broadcast, process_count, edge_count, item_count, item_at, message_item, producer, producer_of_item, home, inputs, is_message, is_sent_item, process_at, source, target}
+use Rattle.cpg_base.specs.Graph.{Graph, process_count, edge_count, item_count, item_at, message_item, producer, producer_of_item, home, inputs, is_message, is_sent_item, process_at, source, target}
+use Rattle.cpg_base.specs.declared.item.Item.TheVariants.{Message, Broadcast}
 use Rattle.cpg_base.specs.Numbers.{numbers_below}
 use Rattle.cpg_base.proofs.Items.{item_at-start, item_at-message, item_cases, producer_within}
 use Rattle.cpg_base.proofs.Lists.{same_any, Contains-filter_parts, numbers-Contains, get_or-map-below}

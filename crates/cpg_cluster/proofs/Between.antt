@@ -7,7 +7,9 @@ use Rattle.std.proofs.lemmas.Bool.{cases_lt}
 use Rattle.std.proofs.lemmas.List.{get_or-map, length-map, get_or_past}
 use Rattle.std.proofs.lemmas.Option.{slice_get-get_or, slice_get_past}
 use Rattle.cpg_base.specs.Numbers.{numbers_below}
-use Rattle.cpg_base.specs.Graph.{Graph, Item, Start, Message, Broadcast, home, item_at}
+use Rattle.cpg_base.specs.Graph.{Graph, home, item_at}
+use Rattle.cpg_base.specs.declared.item.Item.{Item}
+use Rattle.cpg_base.specs.declared.item.Item.TheVariants.{Start, Message, Broadcast}
 use Rattle.cpg_base.specs.Bus.{slot_length}
 use Rattle.cpg_base.proofs.Lists.{same_filter, same_flat_map, numbers-Contains}
 use Rattle.cpg_table.specs.Table.{Column, Row}

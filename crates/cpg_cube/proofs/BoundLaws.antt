@@ -9,7 +9,8 @@ use Rattle.cpg_base.specs.Graph.{Graph, process_count, condition_count, IsVariab
 use Rattle.cpg_base.proofs.Lists.{Contains-first, Contains-rest, Contains-cases, Contains-nil, from_all, all_from, same_truth, same_all}
 use Rattle.cpg_base.proofs.Pairs.{AllPairs-map}
 use Rattle.cpg_base.proofs.Sums.{same_sum_by, sum_by-add, sum_by-map}
-use Rattle.cpg_cube.specs.Cube.{Literal, IsRising, top, low_in, high_in}
+use Rattle.cpg_cube.specs.Cube.{Literal, IsRising, low_in, high_in}
+use Rattle.cpg_base.specs.Variable.{top}
 use Rattle.cpg_cube.specs.Fit.{IsCube, asked_of_literal, asked_faults, is_open, is_met, both_low, reaches, do_meet, most_in, bounds, is_within}
 use Rattle.cpg_cube.specs.Bounds.{bound_in, AreBounds, budget_left, touches, more_asked, spans}
 use Rattle.cpg_cube.proofs.Ranges.{rising_rest, rising_first, range_of_literal}

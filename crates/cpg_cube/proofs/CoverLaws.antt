@@ -9,7 +9,8 @@ use Rattle.cpg_base.proofs.Lists.{from_all, all_from, same_truth}
 use Rattle.cpg_order.specs.Scenario.{Scenario, IsScenario, IsLeast}
 use Rattle.cpg_order.specs.First.{IsFirst, earlier}
 use Rattle.cpg_order.proofs.First.{first_same, first_or}
-use Rattle.cpg_cube.specs.Cube.{Literal, holds, matches, top}
+use Rattle.cpg_cube.specs.Cube.{Literal, holds, matches}
+use Rattle.cpg_base.specs.Variable.{top}
 use Rattle.cpg_cube.specs.Cover.{is_left, narrowed_by, with_literal}
 use Rattle.cpg_cube.specs.Parts.{range_below, range_above}
 use Rattle.cpg_cube.proofs.Narrow.{matches-narrowed, with-none}

@@ -1,6 +1,7 @@
 -- The ranges beside a literal's: together with it they have all numbers of its variable.
 use Rattle.std.specs.Prelude.{ℕ, ◌+◌, ◌-◌, if◌then◌else◌, nat_lt, Option, None, Some}
-use Rattle.cpg_cube.specs.Cube.{Literal, top}
+use Rattle.cpg_cube.specs.Cube.{Literal}
+use Rattle.cpg_base.specs.Variable.{top}
 
 -- the range below a literal's, if there is one
 abbrev pub range_below : Literal → Option Literal

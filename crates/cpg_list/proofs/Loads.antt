@@ -6,7 +6,8 @@ use Rattle.std.proofs.lemmas.List.FromFn.{fill_by_all, length-range_with_len}
 use Rattle.std.proofs.lemmas.List.Sums.{sum_by-cons, sum_by-append}
 use Rattle.std.proofs.Math.Nat.{mul_comm}
 use Rattle.cpg_base.specs.Numbers.{numbers_below}
-use Rattle.cpg_base.specs.Graph.{Graph, Message, Broadcast, process_count, edge_count, item_count, item_at, node_of, source, target, process_of, home, is_message, message_item, broadcast_item}
+use Rattle.cpg_base.specs.Graph.{Graph, process_count, edge_count, item_count, item_at, node_of, source, target, process_of, home, is_message, message_item, broadcast_item}
+use Rattle.cpg_base.specs.declared.item.Item.TheVariants.{Message, Broadcast}
 use Rattle.cpg_base.specs.Bus.{slot_length}
 use Rattle.cpg_base.proofs.Items.{item_cases, ItemCases}
 use Rattle.cpg_base.proofs.Lists.{numbers-Contains}

@@ -10,7 +10,8 @@ use Rattle.cpg_base.specs.Bus.{slot_length}
 use Rattle.cpg_base.specs.Limits.{IsWithinLimits}
 use Rattle.cpg_base.proofs.Bounds.{round-le}
 use Rattle.cpg_base.proofs.Lists.{numbers-Contains, Contains-filter_parts, Contains-first, Contains-rest}
-use Rattle.cpg_cube.specs.Cube.{top, is_whole}
+use Rattle.cpg_cube.specs.Cube.{is_whole}
+use Rattle.cpg_base.specs.Variable.{top}
 use Rattle.cpg_cube.specs.declared.literal.Literal.{Literal}
 use Rattle.cpg_cube.proofs.Boxes.{top_of_count, top_of_value}
 use Rattle.cpg_table.specs.GraphHead.{head_of, head_process}

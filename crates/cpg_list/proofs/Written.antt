@@ -4,7 +4,8 @@ use Rattle.std.proofs.lemmas.Bool.{cases_lt, cond-true, cond-false, and_from, or
 use Rattle.std.proofs.lemmas.List.{length-map, get_or-map, get_or_past}
 use Rattle.std.proofs.lemmas.List.Elements.{All-contains, All-from_get_or, Contains-get_or}
 use Rattle.cpg_base.specs.Numbers.{numbers_below}
-use Rattle.cpg_base.specs.Graph.{Graph, Message, process_count, item_count, item_at, is_sent, is_sent_item, process_of}
+use Rattle.cpg_base.specs.Graph.{Graph, process_count, item_count, item_at, is_sent, is_sent_item, process_of}
+use Rattle.cpg_base.specs.declared.item.Item.TheVariants.{Message}
 use Rattle.cpg_base.specs.Activity.{item_active, live, active}
 use Rattle.cpg_base.specs.Limits.{IsWithinLimits}
 use Rattle.cpg_base.proofs.Items.{item_cases, ItemCases}
@@ -13,7 +14,8 @@ use Rattle.cpg_base.proofs.Sums.{sum_by-le_each}
 use Rattle.std.proofs.lemmas.List.FromFn.{length-range_with_len, get_or-range_with_len}
 use Rattle.std.proofs.lemmas.List.Sums.{sum_by_push}
 use Rattle.std.proofs.Math.Nat.{mul-le-mul}
-use Rattle.cpg_cube.specs.Cube.{matches, holds, top, is_whole}
+use Rattle.cpg_cube.specs.Cube.{matches, holds, is_whole}
+use Rattle.cpg_base.specs.Variable.{top}
 use Rattle.cpg_cube.specs.declared.literal.Literal.{Literal}
 use Rattle.cpg_cube.specs.Fit.{IsCube}
 use Rattle.cpg_cube.proofs.CubeLows.{holds-low, holds-high}

@@ -3,7 +3,8 @@ use Rattle.std.specs.Prelude.{ℕ, ◌*◌, ◌^◌, ◌≡◌, ◌≤◌, ◌<�
 use Rattle.cpg_base.specs.Numbers.{numbers_below}
 use Rattle.cpg_base.specs.Graph.{Graph, process_count, item_count, item_at, home, is_sent}
 use Rattle.cpg_base.specs.Bus.{slot_length}
-use Rattle.cpg_cube.specs.Cube.{top, is_whole}
+use Rattle.cpg_cube.specs.Cube.{is_whole}
+use Rattle.cpg_base.specs.Variable.{top}
 use Rattle.cpg_cube.specs.Fit.{IsCube}
 use Rattle.cpg_order.specs.Reach.{rows_of_item}
 use Rattle.cpg_table.specs.GraphHead.{head_of}

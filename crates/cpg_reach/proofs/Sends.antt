@@ -2,7 +2,8 @@
 use Rattle.std.proofs.Common.{ℕ, ◌<◌, ◌≤◌, ◌≡◌, Bool, true, false, not, cond, ◌&&◌, List, [], ◌++◌, length, get_or, map, None, sym, ap, ◌∙◌, lt-ltb, le-ltb, eq-eqb}
 use Rattle.std.proofs.lemmas.List.{append-nil}
 use Rattle.std.proofs.lemmas.Bool.{ne_eqb}
-use Rattle.cpg_base.specs.Graph.{Graph, Message, Broadcast, edge_at, source, target, node_of, process_of, value_variable}
+use Rattle.cpg_base.specs.Graph.{Graph, edge_at, source, target, node_of, process_of, value_variable}
+use Rattle.cpg_base.specs.declared.item.Item.TheVariants.{Message, Broadcast}
 use Rattle.cpg_base.specs.declared.process.Edge.{Edge}
 use Rattle.cpg_order.specs.Deciding.{conditions_of}
 use Rattle.cpg_order.specs.Reach.{Reach, is_in, end_reach, source_value}

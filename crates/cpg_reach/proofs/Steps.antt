@@ -8,7 +8,8 @@ use Rattle.std.proofs.lemmas.List.{length-set, get_or-set_same, get_or-set_other
 use Rattle.std.proofs.lemmas.List.Elements.{filter-append}
 use Rattle.std.proofs.lemmas.Grind.{flat_map-append}
 use Rattle.cpg_base.specs.Numbers.{numbers_below}
-use Rattle.cpg_base.specs.Graph.{Graph, Item, process_count, edge_count, condition_count, item_count, item_at, message_item, broadcast_item, process_at, node_of, source, inputs, is_message, is_sent, is_sent_item, is_frozen, producer, home, process_of, value_variable}
+use Rattle.cpg_base.specs.Graph.{Graph, process_count, edge_count, condition_count, item_count, item_at, message_item, broadcast_item, process_at, node_of, source, inputs, is_message, is_sent, is_sent_item, is_frozen, producer, home, process_of, value_variable}
+use Rattle.cpg_base.specs.declared.item.Item.{Item}
 use Rattle.cpg_base.proofs.Lists.{Contains-filter_parts, numbers-Contains, list_any_parts, same_truth, same_filter, filter_none}
 use Rattle.cpg_base.proofs.Inputs.{inputs_parts}
 use Rattle.cpg_base.proofs.Items.{item_at-start, process_of_below, start_not_sent}

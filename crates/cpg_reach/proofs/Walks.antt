@@ -1,6 +1,8 @@
 -- The walk along an order, as the code takes its steps.
 use Rattle.std.proofs.Common.{ℕ, ◌+◌, ◌*◌, ◌<◌, ◌≤◌, ◌≡◌, cond, List, [], ◌∷◌, length, get_or, set, Some, None, refl, sym, ap, ◌∙◌, subst, arith, mul-le-mul_right}
-use Rattle.cpg_base.specs.Graph.{Graph, Item, Message, Broadcast, process_count, edge_count, item_count, item_at, message_item, broadcast_item, node_of, source, is_sent_item, producer_of_item, home, condition_of}
+use Rattle.cpg_base.specs.Graph.{Graph, process_count, edge_count, item_count, item_at, message_item, broadcast_item, node_of, source, is_sent_item, producer_of_item, home, condition_of}
+use Rattle.cpg_base.specs.declared.item.Item.{Item}
+use Rattle.cpg_base.specs.declared.item.Item.TheVariants.{Message, Broadcast}
 use Rattle.cpg_base.proofs.Items.{item_at-message, item_at-broadcast}
 use Rattle.cpg_order.specs.Urgency.{IsTopological, place}
 use Rattle.cpg_order.specs.Deciding.{conditions_of}

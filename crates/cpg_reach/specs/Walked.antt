@@ -2,7 +2,8 @@
 use Rattle.std.specs.Prelude.{ℕ, ◌≡◌, ◌<◌, ◌&&◌, ◌==◌, nat_lt, if◌then◌else◌, List, [], ◌∷◌, ◌++◌, filter, get_or, length, map, take}
 use Rattle.std.specs.List.{flat_map}
 use Rattle.cpg_base.specs.Numbers.{numbers_below}
-use Rattle.cpg_base.specs.Graph.{Graph, Item, item_count, home, is_sent, is_sent_item, is_frozen_item, process_at, node_of, inputs, producer_of_item, value_variable}
+use Rattle.cpg_base.specs.Graph.{Graph, item_count, home, is_sent, is_sent_item, is_frozen_item, process_at, node_of, inputs, producer_of_item, value_variable}
+use Rattle.cpg_base.specs.declared.item.Item.{Item}
 use Rattle.cpg_order.specs.Deciding.{conditions_of}
 use Rattle.cpg_order.specs.Reach.{Reach, IsReach, reach_of, end_reach, hearing_reach, input_reach, sent_value}
 use Rattle.cpg_order.proofs.Moments.{moment}

@@ -1,6 +1,7 @@
 //! What the send of a message or broadcast may depend on.
 ghost use Rattle.std.specs.Prelude.{◌≡◌, ◌<◌, ◌++◌, [], length, get_or};
-ghost use Rattle.cpg_base.specs.Graph.{Message, Broadcast, edge_count, condition_count, item_count};
+ghost use Rattle.cpg_base.specs.Graph.{edge_count, condition_count, item_count};
+ghost use Rattle.cpg_base.specs.declared.item.Item.TheVariants.{Message, Broadcast};
 ghost use Rattle.cpg_order.specs.Reach.{end_reach};
 ghost use Rattle.cpg_reach.specs.Variables.{HasSame};
 ghost use Rattle.cpg_reach.specs.Tested.{AreDecidingValues};

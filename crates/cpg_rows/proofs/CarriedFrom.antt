@@ -4,7 +4,9 @@ use Rattle.std.proofs.lemmas.Bool.{cases_Bool, cond-true, cond-false, and_parts,
 use Rattle.std.proofs.lemmas.List.Elements.{All-contains, Contains-append_cases}
 use Rattle.std.proofs.lemmas.List.Quantifiers.{position-Some}
 use Rattle.cpg_base.specs.Numbers.{numbers_below}
-use Rattle.cpg_base.specs.Graph.{Graph, Item, Start, Message, Broadcast, process_count, condition_count, item_count, item_at, edge_at, process_at, node_of, source, inputs, is_message, is_frozen, message_item, broadcast_item, producer, producer_of_item, process_of, condition_of, disjunctions, value_variable, IsVariable}
+use Rattle.cpg_base.specs.Graph.{Graph, process_count, condition_count, item_count, item_at, edge_at, process_at, node_of, source, inputs, is_message, is_frozen, message_item, broadcast_item, producer, producer_of_item, process_of, condition_of, disjunctions, value_variable, IsVariable}
+use Rattle.cpg_base.specs.declared.item.Item.{Item}
+use Rattle.cpg_base.specs.declared.item.Item.TheVariants.{Start, Message, Broadcast}
 use Rattle.cpg_base.specs.Activity.{active, item_active}
 use Rattle.cpg_base.proofs.Lists.{Contains-cases, Contains-nil, Contains-map_parts, Contains-filter_parts, Contains-flat_map_parts, numbers-Contains, from_all, all_from, in_option}
 use Rattle.cpg_base.proofs.Items.{item_cases}

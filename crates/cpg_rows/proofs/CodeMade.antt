@@ -6,7 +6,9 @@ use Rattle.std.proofs.lemmas.List.{get_or-map, map-set, length-map}
 use Rattle.std.proofs.Math.Seq.{map-set_same}
 use Rattle.std.proofs.lemmas.List.FromFn.{get_or-range_with_len, length-range_with_len}
 use Rattle.cpg_base.specs.Numbers.{numbers_below}
-use Rattle.cpg_base.specs.Graph.{Graph, Item, Message, Broadcast, process_count, item_count, item_at, is_sent, is_sent_item, producer}
+use Rattle.cpg_base.specs.Graph.{Graph, process_count, item_count, item_at, is_sent, is_sent_item, producer}
+use Rattle.cpg_base.specs.declared.item.Item.{Item}
+use Rattle.cpg_base.specs.declared.item.Item.TheVariants.{Message, Broadcast}
 use Rattle.cpg_base.specs.Activity.{item_active}
 use Rattle.cpg_base.proofs.Items.{item_cases}
 use Rattle.cpg_base.proofs.Lists.{Contains-nil}

@@ -3,7 +3,8 @@ use Rattle.std.proofs.Common.{◌≡◌, ◌∙◌, ℕ, ◌+◌, ◌-◌, ◌<�
 use Rattle.std.proofs.lemmas.Bool.{cases_Bool, cond-true, cond-false}
 use Rattle.std.proofs.lemmas.List.{append-nil, get_or_default}
 use Rattle.std.proofs.lemmas.List.Elements.{Contains-append_left, Contains-append_right, Contains-append_cases}
-use Rattle.cpg_base.specs.Graph.{Graph, Message, process_count, edge_count, item_count, edge_at, item_at, source, is_message, is_frozen, is_frozen_item, is_sent_item, condition_of, producer, producer_of_item, process_at, value_variable}
+use Rattle.cpg_base.specs.Graph.{Graph, process_count, edge_count, item_count, edge_at, item_at, source, is_message, is_frozen, is_frozen_item, is_sent_item, condition_of, producer, producer_of_item, process_at, value_variable}
+use Rattle.cpg_base.specs.declared.item.Item.TheVariants.{Message}
 use Rattle.cpg_base.specs.Activity.{active, item_active}
 use Rattle.cpg_base.proofs.Items.{item_cases}
 use Rattle.cpg_order.specs.Reach.{sent_value}

@@ -11,7 +11,8 @@ use Rattle.cpg_base.proofs.Pairs.{AllPairs-map}
 use Rattle.cpg_order.specs.Scenario.{Scenario, IsScenario, number_of}
 use Rattle.cpg_order.proofs.Variables.{variable_or_not, unknown-zero}
 use Rattle.cpg_cube.specs.declared.literal.Literal.{Literal}
-use Rattle.cpg_cube.specs.Cube.{IsRising, holds, matches, top, low_in, high_in}
+use Rattle.cpg_cube.specs.Cube.{IsRising, holds, matches, low_in, high_in}
+use Rattle.cpg_base.specs.Variable.{top}
 use Rattle.cpg_cube.specs.Fit.{lows}
 use Rattle.cpg_cube.proofs.Boxes.{number_within}
 use Rattle.cpg_cube.proofs.CubeLows.{holds-low, holds-high, holds-from, low_in-le, low_in-none}

@@ -9,7 +9,8 @@ use Rattle.cpg_base.specs.Activity.{item_active}
 use Rattle.cpg_base.proofs.Lists.{Contains-first, Contains-rest, Contains-cases, Contains-nil, Contains-map, Contains-map_parts, Contains-filter, Contains-filter_parts, filter_none}
 use Rattle.cpg_order.specs.Scenario.{Scenario, IsScenario}
 use Rattle.cpg_cube.specs.declared.literal.Literal.{Literal}
-use Rattle.cpg_cube.specs.Cube.{matches, top}
+use Rattle.cpg_cube.specs.Cube.{matches}
+use Rattle.cpg_base.specs.Variable.{top}
 use Rattle.cpg_cube.specs.Fit.{IsCube, is_met, lows}
 use Rattle.cpg_cube.proofs.CubeLows.{met_by, lows-lawful, lows-match}
 use Rattle.cpg_table.specs.Merged.{AreMergeable}

@@ -2,7 +2,8 @@
 use Rattle.std.proofs.Common.{ℕ, ◌<◌, ◌≤◌, ◌≡◌, ◌==◌, true, false, List, length, filter, Contains, All, Option, arith, refl, sym, ap, ◌∙◌, subst, inl, inr, lt-ltb}
 use Rattle.std.proofs.lemmas.Bool.{and_parts, and_from, not_from_false, eqb-false}
 use Rattle.std.proofs.lemmas.List.Elements.{All-contains, Contains-append_left}
-use Rattle.cpg_base.specs.Graph.{Graph, Message, Broadcast, process_count, condition_count, item_count, item_at, node_of, is_sent, is_sent_item, is_heard_by, message_item, broadcast_item, producer, process_of, value_variable}
+use Rattle.cpg_base.specs.Graph.{Graph, process_count, condition_count, item_count, item_at, node_of, is_sent, is_sent_item, is_heard_by, message_item, broadcast_item, producer, process_of, value_variable}
+use Rattle.cpg_base.specs.declared.item.Item.TheVariants.{Message, Broadcast}
 use Rattle.cpg_base.specs.Activity.{active, live, item_active}
 use Rattle.cpg_base.specs.Numbers.{numbers_below}
 use Rattle.cpg_base.proofs.Lists.{Contains-map, Contains-map_parts, Contains-filter, Contains-filter_parts, numbers-Contains}
@@ -12,7 +13,8 @@ use Rattle.cpg_order.specs.Scenario.{Scenario, IsScenario, number_of}
 use Rattle.cpg_order.specs.Urgency.{place}
 use Rattle.cpg_order.proofs.Queues.{queued_parts}
 use Rattle.cpg_cube.specs.declared.literal.Literal.{Literal}
-use Rattle.cpg_cube.specs.Cube.{matches, is_whole, low_in, high_in, top}
+use Rattle.cpg_cube.specs.Cube.{matches, is_whole, low_in, high_in}
+use Rattle.cpg_base.specs.Variable.{top}
 use Rattle.cpg_cube.specs.Fit.{IsCube}
 use Rattle.cpg_table.specs.Heard.{exactly, matching, kept_low, kept_high}
 use Rattle.cpg_table.specs.Table.{Column, NodeTable, columns_of, times_in}

@@ -3,7 +3,9 @@ use Rattle.std.proofs.Common.{ℕ, zero, suc, ◌<◌, ◌≤◌, ◌≡◌, ◌
 use Rattle.std.proofs.lemmas.Bool.{cases_Bool, cond-true, cond-false, and_parts}
 use Rattle.std.proofs.lemmas.List.Elements.{Contains-append_left, Contains-append_right}
 use Rattle.cpg_base.specs.Numbers.{numbers_below}
-use Rattle.cpg_base.specs.Graph.{Graph, Item, Start, Message, Broadcast, process_count, condition_count, item_count, item_at, process_at, node_of, source, inputs, is_message, is_sent, is_sent_item, is_frozen, message_item, broadcast_item, producer, producer_of_item, process_of, value_variable}
+use Rattle.cpg_base.specs.Graph.{Graph, process_count, condition_count, item_count, item_at, process_at, node_of, source, inputs, is_message, is_sent, is_sent_item, is_frozen, message_item, broadcast_item, producer, producer_of_item, process_of, value_variable}
+use Rattle.cpg_base.specs.declared.item.Item.{Item}
+use Rattle.cpg_base.specs.declared.item.Item.TheVariants.{Start, Message, Broadcast}
 use Rattle.cpg_base.specs.Activity.{active, live, item_active}
 use Rattle.cpg_base.proofs.Lists.{Contains-first, Contains-rest, Contains-map, Contains-filter_parts, Contains-flat_map, numbers-Contains, list_any_true, list_any_parts}
 use Rattle.cpg_base.proofs.Items.{item_cases, item_at-start}

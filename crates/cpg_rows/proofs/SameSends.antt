@@ -2,7 +2,9 @@
 use Rattle.std.proofs.Common.{ℕ, zero, suc, ◌+◌, ◌<◌, ◌≤◌, ◌≡◌, ◌&&◌, Bool, true, false, not, if◌then◌else◌, List, [], ◌∷◌, ◌++◌, map, filter, flat_map, get_or, Contains, Option, Some, None, is_some, option_to_list, unwrap_or, arith, refl, sym, ap, ap₂, ◌∙◌, subst, inl, inr}
 use Rattle.std.proofs.lemmas.Bool.{cases_Bool, cond-true, cond-false, and_parts, and_from, not_from_false, not-true}
 use Rattle.cpg_base.specs.Numbers.{greatest}
-use Rattle.cpg_base.specs.Graph.{Graph, Item, Start, Message, Broadcast, process_count, edge_count, condition_count, item_count, item_at, edge_at, source, is_sent, is_sent_item, is_frozen, home, producer, producer_of_item, process_of, condition_of, value_variable}
+use Rattle.cpg_base.specs.Graph.{Graph, process_count, edge_count, condition_count, item_count, item_at, edge_at, source, is_sent, is_sent_item, is_frozen, home, producer, producer_of_item, process_of, condition_of, value_variable}
+use Rattle.cpg_base.specs.declared.item.Item.{Item}
+use Rattle.cpg_base.specs.declared.item.Item.TheVariants.{Start, Message, Broadcast}
 use Rattle.cpg_base.specs.Activity.{active, live, takes, value_of, item_active}
 use Rattle.cpg_base.specs.Bus.{round, next_slot}
 use Rattle.cpg_base.proofs.Lists.{Contains-first, Contains-filter_parts, from_all, same_map, same_filter, same_flat_map}

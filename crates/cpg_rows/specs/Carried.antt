@@ -1,7 +1,9 @@
 -- The literals that are carried beside the time of an item in a scenario: those of the numbers from which it was computed.
 use Rattle.std.specs.Prelude.{ℕ, ◌&&◌, ◌==◌, not, if◌then◌else◌, List, [], ◌∷◌, ◌++◌, map, filter, get_or}
 use Rattle.std.specs.List.{flat_map}
-use Rattle.cpg_base.specs.Graph.{Graph, Item, Start, Message, Broadcast, process_at, node_of, inputs, is_message, message_item, broadcast_item, item_at, is_frozen, producer, process_of, value_variable}
+use Rattle.cpg_base.specs.Graph.{Graph, process_at, node_of, inputs, is_message, message_item, broadcast_item, item_at, is_frozen, producer, process_of, value_variable}
+use Rattle.cpg_base.specs.declared.item.Item.{Item}
+use Rattle.cpg_base.specs.declared.item.Item.TheVariants.{Start, Message, Broadcast}
 use Rattle.cpg_base.specs.Activity.{active, item_active}
 use Rattle.cpg_order.specs.Urgency.{before_on_node}
 use Rattle.cpg_order.specs.Deciding.{deciding}

@@ -1,7 +1,8 @@
 -- What a cube is narrowed by in a scenario: what frames tell, and what decides a process.
 use Rattle.std.specs.Prelude.{ℕ, ◌≡◌, ◌<◌, ◌==◌, ◌&&◌, ◌++◌, not, false, true, is_some, if◌then◌else◌, List, [], ◌∷◌, Option, None, Some, length, get_or, Contains}
 use Rattle.std.specs.Option.{option_to_list}
-use Rattle.cpg_base.specs.Graph.{Graph, Message, source, edge_count, condition_count, value_variable, item_count, item_at, node_of, producer, process_at, process_of, is_frozen, is_message, message_item, broadcast_item}
+use Rattle.cpg_base.specs.Graph.{Graph, source, edge_count, condition_count, value_variable, item_count, item_at, node_of, producer, process_at, process_of, is_frozen, is_message, message_item, broadcast_item}
+use Rattle.cpg_base.specs.declared.item.Item.TheVariants.{Message}
 use Rattle.cpg_base.specs.Activity.{active, item_active}
 use Rattle.cpg_order.specs.Deciding.{deciding}
 use Rattle.cpg_order.specs.Reach.{sent_value}

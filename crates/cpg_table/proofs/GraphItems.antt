@@ -6,7 +6,8 @@ use Rattle.std.proofs.lemmas.List.{length-map}
 use Rattle.std.proofs.lemmas.List.FromFn.{fill_by_all, length-map-range_with_len}
 use Rattle.std.proofs.lemmas.List.Elements.{filter-append, All-get_or}
 use Rattle.cpg_base.specs.Numbers.{numbers_below}
-use Rattle.cpg_base.specs.Graph.{Graph, Message, Broadcast, process_count, edge_count, condition_count, item_count, edge_at, node_of, source, target, is_disjunction, disjunctions, condition_of, process_of, item_at, producer_of_item, home, is_sent, is_sent_item, is_heard_by, message_item, broadcast_item}
+use Rattle.cpg_base.specs.Graph.{Graph, process_count, edge_count, condition_count, item_count, edge_at, node_of, source, target, is_disjunction, disjunctions, condition_of, process_of, item_at, producer_of_item, home, is_sent, is_sent_item, is_heard_by, message_item, broadcast_item}
+use Rattle.cpg_base.specs.declared.item.Item.TheVariants.{Message, Broadcast}
 use Rattle.cpg_base.specs.declared.process.Edge.{Edge}
 use Rattle.cpg_base.specs.Limits.{IsWithinLimits, IsProcessWithin, IsEdgeWithin}
 use Rattle.cpg_base.proofs.Lists.{same_filter, filter_none, from_range, numbers-Contains, get_or-map-below}

@@ -7,7 +7,8 @@ use Rattle.cpg_base.proofs.Lists.{Contains-first, Contains-rest, Contains-filter
 use Rattle.cpg_base.proofs.Pairs.{AllPairs-map}
 use Rattle.cpg_base.proofs.Sorted.{same_sorted}
 use Rattle.cpg_cube.specs.declared.literal.Literal.{Literal}
-use Rattle.cpg_cube.specs.Cube.{IsRising, top, low_in, high_in, is_whole}
+use Rattle.cpg_cube.specs.Cube.{IsRising, low_in, high_in, is_whole}
+use Rattle.cpg_base.specs.Variable.{top}
 use Rattle.cpg_cube.proofs.Ranges.{IsNarrow, rising_rest, rising_first, range_of_literal, narrow}
 use Rattle.cpg_cube.proofs.CubeLows.{low_in-later, low_in-none}
 use Rattle.cpg_table.specs.Merging.{shorn, without, raised}

@@ -14,7 +14,8 @@ use Rattle.cpg_order.proofs.Scenarios.{number_of-fault, number_of-value}
 use Rattle.cpg_order.proofs.ScenarioOrder.{before_total}
 use Rattle.cpg_order.proofs.Along.{condition_of_below}
 use Rattle.cpg_cube.specs.declared.literal.Literal.{Literal}
-use Rattle.cpg_cube.specs.Cube.{matches, top, low_in, high_in, is_whole}
+use Rattle.cpg_cube.specs.Cube.{matches, low_in, high_in, is_whole}
+use Rattle.cpg_base.specs.Variable.{top}
 use Rattle.cpg_cube.specs.Fit.{IsCube, lows}
 use Rattle.cpg_cube.proofs.Ranges.{range_of_literal, narrow}
 use Rattle.cpg_cube.proofs.Boxes.{made_number}

@@ -6,7 +6,8 @@ use Rattle.std.proofs.lemmas.Bool.{and_parts}
 use Rattle.cpg_base.specs.Graph.{Graph, process_count, IsVariable}
 use Rattle.cpg_order.specs.Scenario.{Scenario, IsScenario, number_of}
 use Rattle.cpg_cube.specs.declared.literal.Literal.{Literal}
-use Rattle.cpg_cube.specs.Cube.{matches, holds, top}
+use Rattle.cpg_cube.specs.Cube.{matches, holds}
+use Rattle.cpg_base.specs.Variable.{top}
 use Rattle.cpg_cube.specs.Fit.{IsCube, is_met, lows}
 use Rattle.cpg_cube.proofs.CubeLows.{holds-low, holds-high, lows-lawful, lows-match}
 use Rattle.cpg_table.specs.Table.{Column}

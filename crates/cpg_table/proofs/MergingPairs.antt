@@ -10,7 +10,8 @@ use Rattle.cpg_base.proofs.Lists.{from_all, all_from, same_truth, Contains-filte
 use Rattle.cpg_table.proofs.MergingCubes.{All-from_each}
 use Rattle.cpg_order.specs.Scenario.{Scenario, IsScenario, number_of}
 use Rattle.cpg_cube.specs.declared.literal.Literal.{Literal}
-use Rattle.cpg_cube.specs.Cube.{IsRising, matches, holds, top, low_in, high_in, is_whole}
+use Rattle.cpg_cube.specs.Cube.{IsRising, matches, holds, low_in, high_in, is_whole}
+use Rattle.cpg_base.specs.Variable.{top}
 use Rattle.cpg_cube.specs.Fit.{IsCube, is_open, is_met, asked_faults, lows}
 use Rattle.cpg_cube.proofs.Ranges.{IsNarrow, range_of_literal}
 use Rattle.cpg_cube.proofs.Boxes.{number_within}

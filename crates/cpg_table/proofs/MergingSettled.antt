@@ -12,7 +12,8 @@ use Rattle.cpg_base.proofs.Lists.{Contains-first, Contains-rest, Contains-cases,
 use Rattle.cpg_base.proofs.Pairs.{AllPairs-nil, AllPairs-first, AllPairs-rest, AllPairs-cons_by}
 use Rattle.cpg_order.specs.Scenario.{Scenario, IsScenario, number_of}
 use Rattle.cpg_cube.specs.declared.literal.Literal.{Literal}
-use Rattle.cpg_cube.specs.Cube.{IsRising, matches, low_in, high_in, top, is_whole}
+use Rattle.cpg_cube.specs.Cube.{IsRising, matches, low_in, high_in, is_whole}
+use Rattle.cpg_base.specs.Variable.{top}
 use Rattle.cpg_cube.proofs.Ranges.{IsNarrow}
 use Rattle.cpg_cube.specs.Fit.{lows}
 use Rattle.cpg_cube.proofs.Boxes.{made_number}

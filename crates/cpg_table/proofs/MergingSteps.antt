@@ -11,7 +11,8 @@ use Rattle.std.proofs.lemmas.List.Sums.{length-filter}
 use Rattle.cpg_base.specs.Graph.{Graph, process_count, IsVariable}
 use Rattle.cpg_base.proofs.Lists.{from_any_false, Contains-first, Contains-cases, Contains-nil, Contains-filter, Contains-filter_parts, Contains-map, Contains-map_parts}
 use Rattle.cpg_order.specs.Scenario.{Scenario, IsScenario}
-use Rattle.cpg_cube.specs.Cube.{matches, top, low_in, is_whole}
+use Rattle.cpg_cube.specs.Cube.{matches, low_in, is_whole}
+use Rattle.cpg_base.specs.Variable.{top}
 use Rattle.cpg_cube.specs.Fit.{IsCube, lows}
 use Rattle.cpg_cube.proofs.CubeLows.{low_in-none, met_by, lows-lawful, lows-match}
 use Rattle.cpg_table.specs.Table.{Column, times_in}

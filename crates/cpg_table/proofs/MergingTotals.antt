@@ -9,7 +9,8 @@ use Rattle.std.proofs.lemmas.List.Sums.{sum_by-cons}
 use Rattle.cpg_base.specs.Graph.{Graph, process_count, IsVariable}
 use Rattle.cpg_base.proofs.Lists.{Contains-first, Contains-rest, Contains-cases, Contains-nil, Contains-map}
 use Rattle.cpg_cube.specs.declared.literal.Literal.{Literal}
-use Rattle.cpg_cube.specs.Cube.{IsRising, top, low_in, high_in}
+use Rattle.cpg_cube.specs.Cube.{IsRising, low_in, high_in}
+use Rattle.cpg_base.specs.Variable.{top}
 use Rattle.cpg_cube.proofs.Ranges.{rising_rest, rising_first}
 use Rattle.cpg_table.specs.Table.{Column}
 use Rattle.cpg_table.specs.Digests.{mixed}

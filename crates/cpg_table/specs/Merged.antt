@@ -3,7 +3,8 @@ use Rattle.std.specs.Prelude.{ℕ, ◌≡◌, ◌<◌, ◌≤◌, false, List, l
 use Rattle.cpg_base.specs.Graph.{Graph}
 use Rattle.cpg_order.specs.Scenario.{Scenario, IsScenario, IsLeast, is_before}
 use Rattle.cpg_cube.specs.declared.literal.Literal.{Literal}
-use Rattle.cpg_cube.specs.Cube.{matches, top, low_in, high_in, is_whole, DifferAt}
+use Rattle.cpg_cube.specs.Cube.{matches, low_in, high_in, is_whole, DifferAt}
+use Rattle.cpg_base.specs.Variable.{top}
 use Rattle.cpg_cube.specs.Fit.{IsCube}
 use Rattle.cpg_table.specs.Table.{Column, times_in}
 

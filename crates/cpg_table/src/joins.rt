@@ -2,7 +2,8 @@
 ghost use Rattle.std.specs.Prelude.{◌≡◌, ◌+◌, ◌<◌, IfOk, length};
 ghost use Rattle.std.specs.List.{list_any};
 ghost use Rattle.std.specs.Cmp.Lexicographic.{slice_cmp};
-ghost use Rattle.cpg_cube.specs.Cube.{low_in, high_in, top, is_whole, IsRising};
+ghost use Rattle.cpg_cube.specs.Cube.{low_in, high_in, is_whole, IsRising};
+ghost use Rattle.cpg_base.specs.Variable.{top};
 ghost use Rattle.cpg_table.specs.Merging.{without, literal_cmp, beside_cmp, column_cmp, is_followed, is_any_followed, does_speak, shorn, raised, joined, walked_over, all_shorn};
 
 use crate::Entry;

@@ -2,7 +2,9 @@
 use Rattle.std.proofs.Common.{◌≡◌, ◌≢◌, ◌∙◌, ℕ, ◌+◌, ◌<◌, ◌≤◌, max, Bool, true, false, ◌&&◌, List, length, get_or, set, take, Contains, Option, Some, None, option_map, arith, refl, sym, ap, inl, inr, ◌⊎◌, subst, true≢false, get_or-set_same, get_or-set_other}
 use Rattle.std.proofs.lemmas.Bool.{cases_lt, cases_eq, cases_Bool, cond-false}
 use Rattle.std.proofs.lemmas.List.{take_all}
-use Rattle.cpg_base.specs.Graph.{Graph, Item, Start, Message, Broadcast, process_count, condition_count, item_count, item_at, edge_at, producer, producer_of_item, node_of, source, process_of, is_sent, is_sent_item}
+use Rattle.cpg_base.specs.Graph.{Graph, process_count, condition_count, item_count, item_at, edge_at, producer, producer_of_item, node_of, source, process_of, is_sent, is_sent_item}
+use Rattle.cpg_base.specs.declared.item.Item.{Item}
+use Rattle.cpg_base.specs.declared.item.Item.TheVariants.{Start, Message, Broadcast}
 use Rattle.cpg_base.specs.Activity.{active, live, takes, value_of, item_active}
 use Rattle.cpg_base.specs.Duration.{duration}
 use Rattle.cpg_base.proofs.Items.{item_at-start, item_cases}

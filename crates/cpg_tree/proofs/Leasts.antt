@@ -14,7 +14,8 @@ use Rattle.cpg_order.proofs.Scenarios.{number_of-fault, number_of-value}
 use Rattle.cpg_order.proofs.ScenarioOrder.{not_before_transitive}
 use Rattle.cpg_order.proofs.Along.{condition_of_below}
 use Rattle.cpg_cube.specs.declared.literal.Literal.{Literal}
-use Rattle.cpg_cube.specs.Cube.{matches, top, low_in}
+use Rattle.cpg_cube.specs.Cube.{matches, low_in}
+use Rattle.cpg_base.specs.Variable.{top}
 use Rattle.cpg_cube.specs.Fit.{lows, is_met, is_open, asked_faults}
 use Rattle.cpg_cube.proofs.Boxes.{made_number}
 use Rattle.cpg_cube.proofs.CubeLows.{low_in-top, lows-least}

@@ -2,7 +2,8 @@
 use Rattle.std.proofs.Common.{◌≡◌, ◌≢◌, ◌∙◌, ℕ, ◌<◌, ◌≤◌, max, min, ◌==◌, List, [], ◌∷◌, Contains, arith, refl, sym, ap, inl, inr, eq-eqb, ne_eqb}
 use Rattle.std.proofs.lemmas.Bool.{cases_eq, cases_order, cond-true, cond-false}
 use Rattle.cpg_base.proofs.Lists.{Contains-first, Contains-rest, Contains-cases}
-use Rattle.cpg_cube.specs.Cube.{IsRising, top, low_in, high_in}
+use Rattle.cpg_cube.specs.Cube.{IsRising, low_in, high_in}
+use Rattle.cpg_base.specs.Variable.{top}
 use Rattle.cpg_cube.specs.Cover.{meet_literal, narrowed_by}
 use Rattle.cpg_cube.specs.declared.literal.Literal.{Literal}
 use Rattle.cpg_cube.proofs.CubeLows.{low_in-later, low_in-none}

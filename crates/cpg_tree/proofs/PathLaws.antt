@@ -7,7 +7,8 @@ use Rattle.std.proofs.lemmas.List.Elements.{Contains-append_cases, filter-append
 use Rattle.cpg_base.proofs.Lists.{Contains-cases, Contains-nil, filter_none}
 use Rattle.cpg_order.specs.Scenario.{Scenario, number_of}
 use Rattle.cpg_cube.specs.declared.literal.Literal.{Literal}
-use Rattle.cpg_cube.specs.Cube.{IsRising, holds, matches, top, low_in, high_in}
+use Rattle.cpg_cube.specs.Cube.{IsRising, holds, matches, low_in, high_in}
+use Rattle.cpg_base.specs.Variable.{top}
 use Rattle.cpg_cube.specs.Cover.{narrowed_by}
 use Rattle.cpg_cube.proofs.CubeLows.{holds-low, holds-high, holds-from}
 use Rattle.cpg_cube.proofs.Narrow.{matches-narrowed, rising-narrowed}

@@ -9,7 +9,8 @@ use Rattle.cpg_base.specs.Numbers.{numbers_below}
 use Rattle.cpg_base.proofs.Lists.{numbers-Contains}
 use Rattle.cpg_base.proofs.Sums.{sum_changed, same_sum_by, sum_by_zeros}
 use Rattle.cpg_cube.specs.declared.literal.Literal.{Literal}
-use Rattle.cpg_cube.specs.Cube.{IsRising, top, low_in, high_in}
+use Rattle.cpg_cube.specs.Cube.{IsRising, low_in, high_in}
+use Rattle.cpg_base.specs.Variable.{top}
 use Rattle.cpg_cube.specs.Cover.{narrowed_by, meet_literal, range_left, with_literal}
 use Rattle.cpg_cube.proofs.Narrow.{rising-narrowed}
 use Rattle.cpg_tree.specs.declared.node.Node.{Node, Leaf, Fork'}

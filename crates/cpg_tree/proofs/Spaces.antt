@@ -9,7 +9,7 @@ use Rattle.cpg_base.specs.Scenario.{number_of_value}
 use Rattle.cpg_base.proofs.Lists.{numbers-Contains, Contains-numbers}
 use Rattle.cpg_base.proofs.Sums.{le-sum_by, sum_changed, same_sum_by}
 use Rattle.cpg_order.specs.Scenario.{Scenario, number_of, fault_of}
-use Rattle.cpg_cube.specs.Cube.{top}
+use Rattle.cpg_base.specs.Variable.{top}
 use Rattle.cpg_tree.specs.Space.{Space, Lies, HasFew, beyond, is_open_below, below_cut, above_cut}
 
 -- what is not less is at most

@@ -10,7 +10,8 @@ use Rattle.cpg_base.specs.Numbers.{numbers_below}
 use Rattle.cpg_base.proofs.Lists.{Contains-first, Contains-rest, Contains-cases, Contains-nil, all_from, numbers-Contains, below_push, Contains-flat_map_parts}
 use Rattle.cpg_base.proofs.Sums.{sum_by-le_each}
 use Rattle.cpg_cube.specs.declared.literal.Literal.{Literal}
-use Rattle.cpg_cube.specs.Cube.{top, low_in, high_in, is_whole}
+use Rattle.cpg_cube.specs.Cube.{low_in, high_in, is_whole}
+use Rattle.cpg_base.specs.Variable.{top}
 use Rattle.cpg_cube.specs.Fit.{IsCube, IsKnown, is_open, is_met, asked_faults}
 use Rattle.cpg_cube.specs.Cover.{narrowed_by, meet_literal}
 use Rattle.cpg_cube.proofs.Narrow.{narrowed-before, narrowed-here, narrowed-after}

@@ -4,7 +4,8 @@ use Rattle.std.specs.List.{flat_map}
 use Rattle.std.specs.Option.{option_map_or}
 use Rattle.cpg_cube.specs.declared.literal.Literal.{Literal}
 use Rattle.cpg_base.specs.Graph.{Graph}
-use Rattle.cpg_cube.specs.Cube.{top, is_whole}
+use Rattle.cpg_cube.specs.Cube.{is_whole}
+use Rattle.cpg_base.specs.Variable.{top}
 use Rattle.cpg_cube.specs.Fit.{IsCube, is_met}
 use Rattle.cpg_cube.specs.Cover.{with_literal}
 use Rattle.cpg_tree.specs.declared.node.Node.{Node, Leaf, Fork'}

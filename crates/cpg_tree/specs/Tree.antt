@@ -2,7 +2,8 @@
 use Rattle.std.specs.Prelude.{ℕ, ◌≡◌, ◌≢◌, ◌≤◌, max, min, Bool, true, List, [], ◌∷◌, All, length, filter, IsTrue, Contains, if◌then◌else◌}
 use Rattle.cpg_order.specs.Scenario.{Scenario, number_of}
 use Rattle.cpg_cube.specs.declared.literal.Literal.{Literal}
-use Rattle.cpg_cube.specs.Cube.{matches, low_in, high_in, top}
+use Rattle.cpg_cube.specs.Cube.{matches, low_in, high_in}
+use Rattle.cpg_base.specs.Variable.{top}
 use Rattle.cpg_tree.specs.Space.{HasFew}
 
 -- a cube and the value in the scenarios that it matches

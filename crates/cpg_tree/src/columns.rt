@@ -5,7 +5,8 @@ ghost use Rattle.cpg_base.specs.Numbers.{numbers_below};
 ghost use Rattle.cpg_cube.specs.Fit.{IsKnown};
 ghost use Rattle.cpg_tree.specs.Columns.{columns_from, columns_of_paths, IsTidyColumn};
 ghost use Rattle.cpg_tree.specs.Decision.{HasCuts};
-ghost use Rattle.cpg_cube.specs.Cube.{top, IsRising};
+ghost use Rattle.cpg_cube.specs.Cube.{IsRising};
+ghost use Rattle.cpg_base.specs.Variable.{top};
 ghost use Rattle.cpg_tree.specs.Keys.{lows_of, AreByLows, HasLows, asked_from, key_along};
 ghost use Rattle.cpg_tree.specs.Ranks.{ranked_column};
 

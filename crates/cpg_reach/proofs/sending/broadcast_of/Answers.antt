@@ -1,5 +1,5 @@
 use Rattle.std.proofs.Common.{ap, length, arith}
-use Rattle.cpg_base.specs.Graph.{Broadcast}
+use Rattle.cpg_base.specs.declared.item.Item.TheVariants.{Broadcast}
 use Rattle.cpg_base.proofs.Items.{process_of_below}
 use Rattle.cpg_reach.specs.Walked.{send_by}
 use Rattle.cpg_reach.proofs.Sends.{nothing_sent, one_node, broadcast_sent}

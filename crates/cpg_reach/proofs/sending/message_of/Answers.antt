@@ -1,5 +1,6 @@
 use Rattle.std.proofs.Common.{◌≡◌, ◌<◌, ◌++◌, [], sym, ap, ◌∙◌, get_or, arith, true, false}
-use Rattle.cpg_base.specs.Graph.{Message, process_count, edge_at, node_of, source, target}
+use Rattle.cpg_base.specs.Graph.{process_count, edge_at, node_of, source, target}
+use Rattle.cpg_base.specs.declared.item.Item.TheVariants.{Message}
 use Rattle.cpg_order.specs.Reach.{is_in, end_reach}
 use Rattle.cpg_reach.specs.Walked.{send_by}
 use Rattle.cpg_reach.proofs.Adding.{set_at}

@@ -1,5 +1,5 @@
 use Rattle.std.proofs.Common.{◌≡◌, ◌∙◌, ◌≤◌, ◌∷◌, [], sym, ap, subst}
-use Rattle.cpg_cube.specs.Cube.{top}
+use Rattle.cpg_base.specs.Variable.{top}
 use Rattle.cpg_cube.specs.declared.literal.Literal.{Literal}
 use Rattle.cpg_rows.specs.Carried.{number_known}
 use Rattle.cpg_rows.specs.Narrowing.{met, IsNarrowed}
