@@ -1,15 +1,24 @@
 -- How long executions and rounds can be in a graph within the limits.
-use Rattle.std.proofs.Common.{ℕ, ◌+◌, ◌*◌, ◌<◌, ◌≤◌, length, arith}
+use Rattle.std.proofs.Common.{ℕ, ◌+◌, ◌*◌, ◌<◌, ◌≤◌, ◌≡◌, length, arith, ap, inl, inr}
+use Rattle.std.proofs.lemmas.Bool.{cases_lt}
+use Rattle.std.proofs.lemmas.List.{get_or_past}
 use Rattle.std.specs.Int.{div_ceil}
 use Rattle.std.proofs.lemmas.Grind.{common_steps}
-use Rattle.std.proofs.lemmas.List.Sums.{sum_by-le}
+use Rattle.std.proofs.lemmas.List.Sums.{sum_by-le, get_or-le-sum_by}
 use Rattle.cpg_base.specs.Graph.{Graph, Process, Slot, process_count, process_at}
-use Rattle.cpg_base.specs.Bus.{round}
+use Rattle.cpg_base.specs.Bus.{round, slot_place, slot_length}
 use Rattle.cpg_base.specs.Duration.{duration_of, duration}
 use Rattle.cpg_base.specs.Limits.{IsProcessWithin, IsWithinLimits}
 
 pub round-le : (g : Graph) → IsWithinLimits g → round g ≤ 16000000000
 round-le g within = omega (arith, sum_by-le (λ (s : Slot). s.length) 1000000000 g.slots (λ k d l. (within.slots k d l).length), within.few_slots)
+
+-- a slot is no longer than the round
+pub slot_length-le : (g : Graph) (node : ℕ) → slot_length g node ≤ round g
+slot_length-le g node = elim (cases_lt (slot_place g node) (length g.slots)) [
+  | inl l ↦ get_or-le-sum_by (λ (s : Slot). s.length) g.slots (slot_place g node) _ l
+  | inr l ↦ let e : slot_length g node ≡ 0 = ap (λ (s : Slot). s.length) (get_or_past g.slots (slot_place g node) _ l) in omega arith
+]
 
 product-le : (a b c d : ℕ) → a ≤ c → b ≤ d → a * b ≤ c * d
 product-le a b c d h k = grind (arith, common_steps)

@@ -4,12 +4,8 @@ ghost use Rattle.cpg_base.specs.Conditions.{has_conditional_output};
 ghost use Rattle.cpg_base.specs.Numbers.{numbers_below};
 
 use crate::Edge;
+use crate::limits::{MOST_CONDITIONS, MOST_PROCESSES};
 use std::marker::Model;
-
-/// How many processes a graph has at most.
-pub const MOST_PROCESSES: usize = 128;
-/// How many conditions a graph has at most.
-pub const MOST_CONDITIONS: usize = 32;
 
 /// The processes that have a condition, by number, seen as their list.
 #[derive(Drop)]

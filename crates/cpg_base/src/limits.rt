@@ -1,4 +1,4 @@
-//! Tests of the limits of a graph file.
+//! The limits of a graph file, and tests of them.
 ghost use Rattle.std.specs.Prelude.{◌≡◌, ◌≢◌, ◌↔◌, ◌≤◌, ◌==◌, IsTrue, IfSome, All, AllPairs};
 ghost use Rattle.std.specs.List.{list_any};
 ghost use Rattle.std.specs.Str.{bytes_eq};
@@ -7,19 +7,37 @@ ghost use Rattle.cpg_base.specs.Limits.{IsProcessWithin, IsSlotWithin, IsEdgeWit
 
 use crate::{Edge, Name, Process, Slot};
 
-/// The greatest time, in time units of the graph file.
-const LONGEST: u64 = 1_000_000_000;
+/// How many faults a cycle has at most.
+pub const MOST_FAULTS: u8 = 8;
+/// How many nodes, and how many slots, a graph has at most.
+pub const MOST_NODES: usize = 16;
+/// How many processes a graph has at most.
+pub const MOST_PROCESSES: usize = 128;
+/// How many edges a graph has at most.
+pub const MOST_EDGES: usize = 256;
+/// How many conditions a graph has at most.
+pub const MOST_CONDITIONS: usize = 32;
+/// In how many parts an execution is divided at most.
+pub const MOST_PARTS: u32 = 255;
+/// How many tracks a graph has at most: partial assignments of values to the conditions that come to be decided.
+pub const MOST_TRACKS: u64 = 16_384;
+/// How many columns a row has at most.
+pub const MOST_COLUMNS: u64 = 16_384;
+/// How many columns the rows of a node have at most, all together.
+pub const MOST_LOAD: u64 = 524_288;
+/// The greatest time in a graph file, in its time units: a deadline, a release, a cost or the length of a slot.
+pub const LONGEST: u64 = 1_000_000_000;
 /// The greatest size of a message or a slot, in bytes.
-const LARGEST: u32 = 65_535;
+pub const LARGEST: u32 = 65_535;
 
 fn are_costs_within(process: &Process) -> bool
-    ensures { IsTrue result ↔ ((process.now.alpha ≤ 1000000000) × (process.now.chi ≤ 1000000000) × (process.now.mu ≤ 1000000000)) }
+    ensures { IsTrue result ↔ ((process.now.alpha ≤ LONGEST) × (process.now.chi ≤ LONGEST) × (process.now.mu ≤ LONGEST)) }
 {
     process.alpha <= LONGEST && process.chi <= LONGEST && process.mu <= LONGEST
 }
 
 fn is_window_within(process: &Process) -> bool
-    ensures { IsTrue result ↔ ((process.now.release ≤ 1000000000) × IfSome process.now.deadline (λ d. d ≤ 1000000000)) }
+    ensures { IsTrue result ↔ ((process.now.release ≤ LONGEST) × IfSome process.now.deadline (λ d. d ≤ LONGEST)) }
 {
     let due = match process.deadline {
         Some(deadline) => deadline <= LONGEST,
@@ -35,7 +53,7 @@ fn is_process_within(process: &Process, nodes: usize) -> bool
     if process.node as usize >= nodes || process.wcet == 0 || process.wcet > LONGEST {
         return false;
     }
-    if process.parts == 0 || process.parts > 255 {
+    if process.parts == 0 || process.parts > MOST_PARTS {
         return false;
     }
     are_costs_within(process) && is_window_within(process)

@@ -5,22 +5,13 @@ ghost use Rattle.cpg_base.specs.Bus.{round};
 ghost use Rattle.cpg_base.specs.Duration.{duration, due};
 ghost use Rattle.cpg_base.specs.Limits.{IsWithinLimits};
 
-use crate::conditions::{Conditions, MOST_PROCESSES};
+use crate::conditions::Conditions;
 use crate::limits::{
-    are_edges_within, are_names_apart, are_processes_apart, are_processes_within, are_slots_apart,
-    are_slots_within,
+    LONGEST, MOST_EDGES, MOST_FAULTS, MOST_NODES, MOST_PROCESSES, are_edges_within,
+    are_names_apart, are_processes_apart, are_processes_within, are_slots_apart, are_slots_within,
 };
 use crate::{Edge, Name, OutOfMemory, Process, Slot};
 use std::marker::Model;
-
-/// How many faults a cycle has at most.
-const MOST_FAULTS: u8 = 8;
-/// How many nodes and slots a graph has at most.
-const MOST_NODES: usize = 16;
-/// How many edges a graph has at most.
-const MOST_EDGES: usize = 256;
-/// The latest deadline, in time units of the graph file.
-const LATEST: u64 = 1_000_000_000;
 
 /// A conditional process graph within the limits of a graph file (docs/FORMATS.md), seen as its fault number, its
 /// deadline, its nodes' names, its slots in the order of the round, its processes and its edges.
@@ -56,9 +47,9 @@ fn are_counts_within(
     processes: usize,
     edges: usize,
 ) -> bool
-    ensures { IsTrue result ↔ ((faults ≤ 8) × (deadline ≤ 1000000000) × (nodes ≤ 16) × (slots ≤ 16) × (processes ≤ 128) × (edges ≤ 256)) }
+    ensures { IsTrue result ↔ ((faults ≤ MOST_FAULTS) × (deadline ≤ LONGEST) × (nodes ≤ MOST_NODES) × (slots ≤ MOST_NODES) × (processes ≤ MOST_PROCESSES) × (edges ≤ MOST_EDGES)) }
 {
-    if faults > MOST_FAULTS || deadline > LATEST || nodes > MOST_NODES || slots > MOST_NODES {
+    if faults > MOST_FAULTS || deadline > LONGEST || nodes > MOST_NODES || slots > MOST_NODES {
         return false;
     }
     processes <= MOST_PROCESSES && edges <= MOST_EDGES

@@ -1,8 +1,11 @@
-//! When the slots of the bus start and end. Times are in the time units of the graph file; no call takes memory.
+//! When the slots of the bus start and end, and what a process sends, in its order. Times are in the time units of the graph
+//! file; only a plan takes memory.
 #![tactic(auto)]
 
 mod bus;
+mod plan;
 mod share;
 
 pub use bus::{arrival, first_from, next_slot, occurrence};
+pub use plan::Plan;
 pub use share::Share;

@@ -14,7 +14,7 @@ use Rattle.cpg_run.specs.declared.built.Built.{Built}
 use Rattle.cpg_run.specs.Finish.{IsWorst, IsExcess}
 use Rattle.cpg_run.specs.Laws.{NothingIsLate}
 use Rattle.cpg_list.specs.Found.{AreRowsFound}
-use Rattle.cpg_list.specs.Writing.{AreTablesWith}
+use Rattle.cpg_table.specs.Writing.{AreTablesWith}
 use Rattle.cpg_list.proofs.Written.{exact, rules, dues, within_views}
 
 -- under any topological order

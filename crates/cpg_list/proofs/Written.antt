@@ -31,17 +31,17 @@ use Rattle.cpg_run.specs.Laws.{Keeps, NothingIsLate}
 use Rattle.cpg_run.proofs.RunExists.{a_run}
 use Rattle.cpg_run.proofs.RowLaw.{columns_within_views}
 use Rattle.cpg_run.proofs.RowRules.{row_keeps}
-use Rattle.cpg_times.specs.Known.{AreSmall}
-use Rattle.cpg_times.proofs.Small.{run_small}
-use Rattle.cpg_rows.specs.Carried.{row_at}
-use Rattle.cpg_rows.specs.Rows.{IsRowOf}
-use Rattle.cpg_rows.specs.RowLaws.{IsTimed, HaveTimesOf, AreTablesOfRows}
-use Rattle.cpg_rows.proofs.RowTables.{row_tables_are_exact, row_tables_keep_rules}
-use Rattle.cpg_rows.proofs.RowsTimed.{rows_have_times}
-use Rattle.cpg_list.specs.Writing.{row_for, IsWritable, AreWritable}
-use Rattle.cpg_rows.specs.Made.{columns_of_rows}
+use Rattle.cpg_run.specs.Known.{AreSmall}
+use Rattle.cpg_run.proofs.Small.{run_small}
+use Rattle.cpg_run.specs.Carried.{row_at}
+use Rattle.cpg_run.specs.Rows.{IsRowOf}
+use Rattle.cpg_run.specs.RowLaws.{IsTimed, HaveTimesOf, AreTablesOfRows}
+use Rattle.cpg_run.proofs.RowTables.{row_tables_are_exact, row_tables_keep_rules}
+use Rattle.cpg_run.proofs.RowsTimed.{rows_have_times}
+use Rattle.cpg_table.specs.Writing.{row_for, IsWritable, AreWritable}
+use Rattle.cpg_list.specs.Made.{columns_of_rows}
 use Rattle.cpg_list.specs.Found.{AreRowsFound}
-use Rattle.cpg_list.proofs.NodeRows.{no_row}
+use Rattle.cpg_table.proofs.NodeRows.{no_row}
 
 -- ---- rows as tables
 

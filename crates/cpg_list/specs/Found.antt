@@ -5,9 +5,9 @@ use Rattle.cpg_base.specs.Graph.{Graph, item_count}
 use Rattle.cpg_table.specs.Shape.{items_of}
 use Rattle.cpg_table.specs.Table.{Row}
 use Rattle.cpg_run.specs.Frozen.{AreFrozenTimes}
-use Rattle.cpg_times.specs.Known.{AreEarly}
-use Rattle.cpg_rows.specs.Made.{columns_of_rows}
-use Rattle.cpg_rows.specs.Rows.{AreRows}
+use Rattle.cpg_run.specs.Known.{AreEarly}
+use Rattle.cpg_list.specs.Made.{columns_of_rows}
+use Rattle.cpg_run.specs.Rows.{AreRows}
 
 -- the frozen times, and the row of each item by number
 pub record AreRowsFound (g : Graph) (urgency order : List ℕ) (frozen : List (Option ℕ)) (rows : List Row) : Type 0 where

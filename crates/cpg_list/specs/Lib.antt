@@ -1,4 +1,13 @@
-pub mod Writing
-pub mod NodeItems
 pub mod Found
 pub mod Refusal
+pub mod Active
+pub mod FirstAlike
+pub mod Listing
+pub mod Peaks
+pub mod Placed
+pub mod Runs
+pub mod Sweep
+pub mod Learning
+pub mod Made
+pub mod Narrowing
+pub mod TimeOrder

@@ -1,11 +1,29 @@
-//! Tables by going over all scenarios of a graph.
+//! Tables by going over all scenarios of a graph: the run of each, the greatest times over all of them, and the rows of all
+//! items, where beside each time stand the literals from which it was computed.
 #![tactic(auto)]
 
-mod assembling;
+mod active;
+mod cubes;
+mod examples;
+mod exceeding;
+mod few;
+mod freezing;
 mod items;
+mod latest;
+mod learning;
+mod least;
 mod listing;
-#[cfg(test)]
-mod tests;
+mod making;
+mod peaks;
+mod placing;
+mod running;
+mod scenarios;
+mod search;
+mod sends;
+mod starts;
+mod state;
+mod sweeping;
+mod timed;
 
-pub use assembling::tables_of;
+pub use few::has_few_scenarios;
 pub use listing::list;

@@ -10,8 +10,8 @@ use Rattle.cpg_order.specs.Urgency.{IsTopological}
 use Rattle.cpg_order.specs.Reach.{Reach, IsReach, reach_of, is_in, views, rows_of_item, load, is_too_wide, most_views, most_loads}
 use Rattle.cpg_order.proofs.ViewsGrow.{views_grow}
 use Rattle.cpg_order.proofs.ReachExists.{some_reach}
-use Rattle.cpg_tracks.proofs.TrackLists.{tracks_exist, count_of_tracks}
-use Rattle.cpg_tracks.proofs.TrackViews.{views_fit}
+use Rattle.cpg_order.proofs.TrackLists.{tracks_exist, count_of_tracks}
+use Rattle.cpg_order.proofs.TrackViews.{views_fit}
 use Rattle.cpg_guard.specs.Guards.{Guards}
 use Rattle.cpg_rules.specs.Admission.{IsAdmitted}
 use Rattle.cpg_reach.specs.Variables.{HasSame}

@@ -6,7 +6,8 @@ use Rattle.cpg_base.specs.Scenario.{Scenario}
 use Rattle.cpg_base.specs.Activity.{active}
 use Rattle.cpg_guard.specs.Guards.{Guards}
 use Rattle.cpg_rules.specs.Admission.{IsAdmitted}
-use Rattle.cpg_tracks.specs.Tracks.{AreTracks, start_in, most_scheduled_tracks}
+use Rattle.cpg_tracks.specs.Tracks.{start_in, most_scheduled_tracks}
+use Rattle.cpg_order.specs.Track.{AreTracks}
 
 -- an outcome, and the processes that are active in it
 pub record Track : Type 0 where

@@ -5,7 +5,8 @@ ghost use Rattle.cpg_base.specs.Numbers.{numbers_below};
 ghost use Rattle.cpg_base.specs.Graph.{process_count, condition_count};
 ghost use Rattle.cpg_base.specs.Activity.{active};
 ghost use Rattle.cpg_rules.specs.Admission.{IsAdmitted};
-ghost use Rattle.cpg_tracks.specs.Tracks.{AreTracks, HasManyTracks, most_scheduled_tracks};
+ghost use Rattle.cpg_tracks.specs.Tracks.{HasManyTracks, most_scheduled_tracks};
+ghost use Rattle.cpg_order.specs.Track.{AreTracks};
 ghost use Rattle.cpg_tracks.specs.Walks.{both_ways_at};
 ghost use Rattle.cpg_tracks.specs.Track.{IsTrackOf, AreAllTracks, outcomes_of, HasValues, AreAdmitted};
 

@@ -15,7 +15,7 @@ use cpg_base::Name;
 use cpg_check::{Verdict, check};
 use cpg_core::{CompileFault, Compiled, compile};
 use cpg_io::Shelf;
-use cpg_measure::has_few_scenarios;
+use cpg_list::has_few_scenarios;
 use cpg_reach::too_wide;
 use cpg_rules::Admitted;
 use cpg_run::Built;

@@ -3,10 +3,10 @@ use Rattle.std.proofs.lemmas.List.Elements.{All-weaker, All-contains_itself}
 use Rattle.cpg_base.specs.Graph.{Graph}
 use Rattle.cpg_base.specs.Scenario.{Scenario, IsScenario}
 use Rattle.cpg_table.specs.Table.{Row}
-use Rattle.cpg_measure.specs.Listing.{AreScenarios}
-use Rattle.cpg_measure.specs.Runs.{AreRuns}
+use Rattle.cpg_list.specs.Listing.{AreScenarios}
+use Rattle.cpg_list.specs.Runs.{AreRuns}
 use Rattle.cpg_list.specs.Found.{AreRowsFound}
-use Rattle.cpg_list.specs.Writing.{AreWritable, AreTablesWith}
+use Rattle.cpg_table.specs.Writing.{AreWritable, AreTablesWith}
 use Rattle.cpg_list.proofs.Written.{are_writable}
 use Rattle.cpg_list.proofs.BuiltTables.{admitted_under, built_for}
 use Rattle.cpg_list.proofs.listing.build.Goals as goal

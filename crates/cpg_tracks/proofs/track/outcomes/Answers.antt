@@ -5,7 +5,7 @@ use Rattle.cpg_base.specs.Scenario.{Scenario}
 use Rattle.cpg_order.specs.Counting.{conditions_along, all_false}
 use Rattle.cpg_order.proofs.Standing.{process_within}
 use Rattle.cpg_order.proofs.Places.{length_order}
-use Rattle.cpg_tracks.specs.Tracks.{AreTracks}
+use Rattle.cpg_order.specs.Track.{AreTracks}
 use Rattle.cpg_tracks.specs.Track.{outcomes_of, HasValues}
 use Rattle.cpg_tracks.specs.Walks.{tracks_over}
 use Rattle.cpg_tracks.proofs.TracksFound.{walk_finds_tracks}

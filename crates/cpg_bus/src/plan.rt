@@ -1,0 +1,192 @@
+//! What is found once for a graph: the edges of each process, what it sends, and the shares of the nodes.
+ghost use Rattle.std.specs.Prelude.{◌≡◌, ◌<◌, ◌==◌, IfOk, ℕ, length, map};
+ghost use Rattle.std.specs.List.{list_any};
+ghost use Rattle.cpg_base.specs.Bus.{round};
+ghost use Rattle.cpg_bus.specs.Share.{HasSlot, share_of};
+ghost use Rattle.cpg_base.specs.Numbers.{numbers_below};
+ghost use Rattle.cpg_base.specs.Graph.{process_count, inputs, condition_of};
+ghost use Rattle.cpg_order.specs.Links.{links_of};
+ghost use Rattle.cpg_bus.specs.Plan.{broadcasts_of, queue_of, share_if, plan_of};
+
+use crate::Share;
+use cpg_base::{OutOfMemory, Problem};
+use cpg_order::Links;
+use std::alloc::Global;
+use std::marker::Model;
+
+/// The items that a process sends, in their order.
+#[derive(Drop)]
+struct ItemList {
+    items: Vec<u32>,
+}
+
+impl Model for ItemList {
+    ghost use Rattle.std.specs.Prelude.{List, ℕ};
+
+    ghost Value = { List ℕ };
+
+    ghost view = { λ q. q.items.items };
+}
+
+impl ItemList {
+    fn as_slice(&self) -> &[u32]
+        ensures { result.now ≡ self.now }
+    {
+        self.items.as_slice()
+    }
+}
+
+/// The edges of each process, the items that it sends in their order, and the nodes' shares of the bus, found once for many
+/// scenarios.
+#[derive(Drop)]
+pub struct Plan {
+    links: Links,
+    queues: Vec<ItemList>,
+    shares: Vec<Option<Share>>,
+    round: u64,
+}
+
+impl Model for Plan {
+    ghost use Rattle.cpg_bus.specs.Plan.{PlanState};
+
+    ghost Value = { PlanState };
+
+    ghost view = { λ p. record { links = p.links; queues = p.queues.items; shares = p.shares.items; turn = p.round } };
+}
+
+/// The broadcast of a process, if it has a condition and there is another node to hear it.
+fn broadcasts(alloc: Global, problem: &Problem, process: u32) -> Result<Vec<u32>, OutOfMemory>
+    requires { process < process_count problem.now }
+    ensures { IfOk result (λ items. items.items ≡ broadcasts_of problem.now (condition_of problem.now process)) }
+{
+    let mut items = Vec::new(alloc);
+    let Some(condition) = problem.condition_of(process) else {
+        return Ok(items);
+    };
+    if problem.nodes().len() <= 1 {
+        return Ok(items);
+    }
+    items.push(problem.broadcast_item(condition))?;
+    Ok(items)
+}
+
+/// The items that a process sends.
+fn queue(
+    alloc: Global,
+    problem: &Problem,
+    links: &Links,
+    process: u32,
+) -> Result<ItemList, OutOfMemory>
+    requires process { process < process_count problem.now }
+    requires links { links.now ≡ links_of problem.now }
+    ensures { IfOk result (λ queue. queue ≡ queue_of problem.now process) }
+{
+    let mut items = broadcasts(alloc, problem, process)?;
+    for edge in links.outputs(process) {
+        if problem.is_message(*edge) {
+            items.push(problem.message_item(*edge))?;
+        }
+    }
+    Ok(ItemList { items })
+}
+
+/// The items that each process sends.
+fn queues(alloc: Global, problem: &Problem, links: &Links) -> Result<Vec<ItemList>, OutOfMemory>
+    requires { links.now ≡ links_of problem.now }
+    ensures { IfOk result (λ queues. queues.items ≡ map (queue_of problem.now) (numbers_below (process_count problem.now))) }
+{
+    let mut queues = Vec::new(alloc);
+    queues.reserve(problem.processes().len())?;
+    for process in 0..problem.processes().len() as u32 {
+        queues.push(queue(alloc, problem, links, process)?)?;
+    }
+    Ok(queues)
+}
+
+/// Whether a node has a slot.
+fn has_slot(problem: &Problem, node: u32) -> bool
+    ensures { result ≡ list_any (λ s. s.node == node) problem.now.slots }
+{
+    problem.slots().iter().any(|slot| slot.node == node)
+}
+
+/// The share of a node, if it has a slot.
+fn share_if(problem: &Problem, node: u32) -> Option<Share>
+    ensures { result ≡ share_if problem.now node }
+{
+    if has_slot(problem, node) {
+        Some(Share::of(problem, node))
+    } else {
+        None
+    }
+}
+
+/// The shares of the nodes.
+fn shares(alloc: Global, problem: &Problem) -> Result<Vec<Option<Share>>, OutOfMemory>
+    ensures { IfOk result (λ shares. shares.items ≡ map (share_if problem.now) (numbers_below (length problem.now.nodes))) }
+{
+    let mut shares = Vec::new(alloc);
+    shares.reserve(problem.nodes().len())?;
+    for node in 0..problem.nodes().len() as u32 {
+        shares.push(share_if(problem, node))?;
+    }
+    Ok(shares)
+}
+
+impl Plan {
+    /// The plan of a graph.
+    pub fn of(alloc: Global, problem: &Problem) -> Result<Plan, OutOfMemory>
+        ensures { IfOk result (λ plan. plan ≡ plan_of problem.now) }
+    {
+        let links = Links::of(alloc, problem)?;
+        let queues = queues(alloc, problem, &links)?;
+        Ok(Plan {
+            links,
+            queues,
+            shares: shares(alloc, problem)?,
+            round: problem.round(),
+        })
+    }
+
+    /// The edges that lead to a process.
+    pub fn inputs(&self, problem: &Problem, process: u32) -> &[u32]
+        requires plan { self.now ≡ plan_of problem.now }
+        requires process { process < process_count problem.now }
+        ensures { result.now ≡ inputs problem.now process }
+    {
+        let inputs = self.links.inputs(process);
+        inputs
+    }
+
+    /// The items that a process sends.
+    pub fn queue(&self, problem: &Problem, process: u32) -> &[u32]
+        requires plan { self.now ≡ plan_of problem.now }
+        requires process { process < process_count problem.now }
+        ensures { result.now ≡ queue_of problem.now process }
+    {
+        let queue = &self.queues[process as usize];
+        queue.as_slice()
+    }
+
+    /// The share of a node that has a slot.
+    pub fn share(&self, problem: &Problem, node: u32) -> Share
+        requires plan { self.now ≡ plan_of problem.now }
+        requires node { node < length problem.now.nodes }
+        requires slot { HasSlot problem.now node }
+        ensures { result ≡ share_of problem.now node }
+    {
+        match self.shares[node as usize] {
+            Some(share) => share,
+            None => Share::of(problem, node),
+        }
+    }
+
+    /// The length of the round.
+    pub fn round(&self, problem: &Problem) -> u64
+        requires { self.now ≡ plan_of problem.now }
+        ensures { result ≡ round problem.now }
+    {
+        let _slots = problem.slots();
+        self.round
+    }
+}

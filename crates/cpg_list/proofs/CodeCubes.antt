@@ -1,0 +1,334 @@
+-- Cubes that are narrowed by literals: they are cubes of what was known and of these, in whatever order.
+use Rattle.std.proofs.Common.{◌≡◌, ◌≢◌, ◌∙◌, ℕ, ◌<◌, ◌≤◌, max, min, ◌==◌, List, [], ◌∷◌, ◌++◌, get_or, Contains, All, arith, refl, sym, ap, ap₂, inl, inr, subst, eq-eqb, ne_eqb, append_assoc}
+use Rattle.std.proofs.lemmas.Bool.{cases_eq, cases_order, cond-true, cond-false}
+use Rattle.std.proofs.lemmas.List.{append-nil}
+use Rattle.std.proofs.lemmas.List.Elements.{Contains-append_left, Contains-append_right, Contains-append_cases, Contains-get_or}
+use Rattle.cpg_base.proofs.Lists.{Contains-first, Contains-rest, Contains-cases, Contains-nil}
+use Rattle.cpg_base.proofs.Pairs.{AllPairs-nil}
+use Rattle.cpg_cube.specs.Cube.{IsRising, low_in, high_in}
+use Rattle.cpg_base.specs.Variable.{top}
+use Rattle.cpg_cube.specs.Cover.{meet_literal, narrowed_by}
+use Rattle.cpg_cube.specs.declared.literal.Literal.{Literal}
+use Rattle.cpg_cube.proofs.CubeLows.{low_in-later, low_in-none}
+use Rattle.cpg_cube.proofs.Narrow.{narrowed-before, narrowed-here, narrowed-after, rising-narrowed}
+use Rattle.cpg_cube.proofs.Ranges.{rising_rest, rising_first, range_of_literal}
+use Rattle.cpg_run.proofs.Hearing.{low_kept, high_kept, high_kept_top, kept_low_below, kept_high_above, kept_grows}
+use Rattle.cpg_table.specs.Heard.{kept_low, kept_high}
+use Rattle.cpg_list.specs.Learning.{Within}
+use Rattle.cpg_list.specs.Narrowing.{met, IsNarrowed}
+use Rattle.cpg_run.specs.Rows.{IsCubeOf}
+
+-- ---- the range of a variable
+
+low_in-here : (l : Literal) (ls : List Literal) (v : ℕ) → l.variable ≡ v → low_in (l ∷ ls) v ≡ l.low
+low_in-here l ls v e = cond-true (l.variable == v) l.low (low_in ls v) (eq-eqb l.variable v e)
+
+high_in-here : (k : ℕ) (l : Literal) (ls : List Literal) (v : ℕ) → l.variable ≡ v → high_in k (l ∷ ls) v ≡ l.high
+high_in-here k l ls v e = cond-true (l.variable == v) l.high (high_in k ls v) (eq-eqb l.variable v e)
+
+high_in-later : (k : ℕ) (l : Literal) (ls : List Literal) (v : ℕ) → l.variable ≢ v → high_in k (l ∷ ls) v ≡ high_in k ls v
+high_in-later k l ls v n = cond-false (l.variable == v) l.high (high_in k ls v) (ne_eqb l.variable v n)
+
+high_in-none : (k : ℕ) (ls : List Literal) (v : ℕ) → ((l : Literal) → Contains ls l → l.variable ≢ v) → high_in k ls v ≡ top k v
+high_in-none k [] v h = refl
+high_in-none k (l ∷ ls) v h = high_in-later k l ls v (h l (Contains-first l ls)) ∙ high_in-none k ls v (λ m c. h m (Contains-rest l ls m c))
+
+-- the variables of a rising cube are above one that its first is above
+above_first : (v : ℕ) (m : Literal) (ms : List Literal) → IsRising (m ∷ ms) → v < m.variable → (x : Literal) → Contains (m ∷ ms) x → x.variable ≢ v
+above_first v m ms r h x c e = elim (Contains-cases m ms x c) [
+  | inl s ↦ absurd (omega (arith, ap (λ (y : Literal). y.variable) s))
+  | inr d ↦ absurd (omega (arith, rising_first m x ms r d))
+]
+
+-- ---- the ranges of a cube narrowed by one literal
+
+module _ (k : ℕ) (l : Literal) where
+  low-other : (cube : List Literal) (v : ℕ) → l.variable ≢ v → low_in (narrowed_by l cube) v ≡ low_in cube v
+  low-other [] v n = low_in-later l [] v n
+  low-other (m ∷ ms) v n = elim (cases_order l.variable m.variable) [
+    | inl e ↦ let o : m.variable ≢ v = λ s. n (omega (arith, e, s)) in
+        ap (λ c. low_in c v) (narrowed-here l m ms e) ∙ low_in-later (meet_literal l m) ms v o ∙ sym (low_in-later m ms v o)
+    | inr (inl h) ↦ ap (λ c. low_in c v) (narrowed-before l m ms h) ∙ low_in-later l (m ∷ ms) v n
+    | inr (inr h) ↦ ap (λ c. low_in c v) (narrowed-after l m ms h) ∙ elim (cases_eq m.variable v) [
+      | inl e ↦ low_in-here m (narrowed_by l ms) v e ∙ sym (low_in-here m ms v e)
+      | inr o ↦ low_in-later m (narrowed_by l ms) v o ∙ low-other ms v n ∙ sym (low_in-later m ms v o)
+    ]
+  ]
+
+  high-other : (cube : List Literal) (v : ℕ) → l.variable ≢ v → high_in k (narrowed_by l cube) v ≡ high_in k cube v
+  high-other [] v n = high_in-later k l [] v n
+  high-other (m ∷ ms) v n = elim (cases_order l.variable m.variable) [
+    | inl e ↦ let o : m.variable ≢ v = λ s. n (omega (arith, e, s)) in
+        ap (λ c. high_in k c v) (narrowed-here l m ms e) ∙ high_in-later k (meet_literal l m) ms v o ∙ sym (high_in-later k m ms v o)
+    | inr (inl h) ↦ ap (λ c. high_in k c v) (narrowed-before l m ms h) ∙ high_in-later k l (m ∷ ms) v n
+    | inr (inr h) ↦ ap (λ c. high_in k c v) (narrowed-after l m ms h) ∙ elim (cases_eq m.variable v) [
+      | inl e ↦ high_in-here k m (narrowed_by l ms) v e ∙ sym (high_in-here k m ms v e)
+      | inr o ↦ high_in-later k m (narrowed_by l ms) v o ∙ high-other ms v n ∙ sym (high_in-later k m ms v o)
+    ]
+  ]
+
+  low-same : (cube : List Literal) → IsRising cube → low_in (narrowed_by l cube) l.variable ≡ max l.low (low_in cube l.variable)
+  low-same [] r = low_in-here l [] l.variable refl ∙ omega arith
+  low-same (m ∷ ms) r = elim (cases_order l.variable m.variable) [
+    | inl e ↦ ap (λ c. low_in c l.variable) (narrowed-here l m ms e) ∙ low_in-here (meet_literal l m) ms l.variable (sym e) ∙ sym (ap (max l.low) (low_in-here m ms l.variable (sym e)))
+    | inr (inl h) ↦
+        let z : low_in (m ∷ ms) l.variable ≡ 0 = low_in-none (m ∷ ms) l.variable (above_first l.variable m ms r h) in
+        ap (λ c. low_in c l.variable) (narrowed-before l m ms h) ∙ low_in-here l (m ∷ ms) l.variable refl ∙ omega (arith, z)
+    | inr (inr h) ↦ let o : m.variable ≢ l.variable = λ s. omega (arith, h, s) in
+        ap (λ c. low_in c l.variable) (narrowed-after l m ms h) ∙ low_in-later m (narrowed_by l ms) l.variable o ∙ low-same ms (rising_rest m ms r)
+        ∙ ap (max l.low) (sym (low_in-later m ms l.variable o))
+  ]
+
+  high-same : (cube : List Literal) → IsRising cube → l.high ≤ top k l.variable → high_in k (narrowed_by l cube) l.variable ≡ min l.high (high_in k cube l.variable)
+  high-same [] r w = high_in-here k l [] l.variable refl ∙ omega arith
+  high-same (m ∷ ms) r w = elim (cases_order l.variable m.variable) [
+    | inl e ↦ ap (λ c. high_in k c l.variable) (narrowed-here l m ms e) ∙ high_in-here k (meet_literal l m) ms l.variable (sym e) ∙ sym (ap (min l.high) (high_in-here k m ms l.variable (sym e)))
+    | inr (inl h) ↦
+        let z : high_in k (m ∷ ms) l.variable ≡ top k l.variable = high_in-none k (m ∷ ms) l.variable (above_first l.variable m ms r h) in
+        ap (λ c. high_in k c l.variable) (narrowed-before l m ms h) ∙ high_in-here k l (m ∷ ms) l.variable refl ∙ omega (arith, z)
+    | inr (inr h) ↦ let o : m.variable ≢ l.variable = λ s. omega (arith, h, s) in
+        ap (λ c. high_in k c l.variable) (narrowed-after l m ms h) ∙ high_in-later k m (narrowed_by l ms) l.variable o ∙ high-same ms (rising_rest m ms r) w
+        ∙ ap (min l.high) (sym (high_in-later k m ms l.variable o))
+  ]
+
+-- ---- what is kept of literals and more
+
+module _ (xs ys : List Literal) (v : ℕ) where
+  kept_low-append : kept_low (xs ++ ys) v ≡ max (kept_low xs v) (kept_low ys v)
+  kept_low-append = omega (
+    arith,
+    kept_low_below (xs ++ ys) v (max (kept_low xs v) (kept_low ys v)) (λ m j e. elim (Contains-append_cases xs ys m j) [
+      | inl i ↦ omega (arith, low_kept xs v m i e)
+      | inr i ↦ omega (arith, low_kept ys v m i e)
+    ]),
+    kept_low_below xs v (kept_low (xs ++ ys) v) (λ m j e. low_kept (xs ++ ys) v m (Contains-append_left xs ys m j) e),
+    kept_low_below ys v (kept_low (xs ++ ys) v) (λ m j e. low_kept (xs ++ ys) v m (Contains-append_right xs ys m j) e),
+  )
+
+  kept_high-append : (k : ℕ) → kept_high k (xs ++ ys) v ≡ min (kept_high k xs v) (kept_high k ys v)
+  kept_high-append k = omega (
+    arith,
+    kept_high_above (xs ++ ys) v k (min (kept_high k xs v) (kept_high k ys v)) (omega (arith, high_kept_top xs v k)) (λ m j e. elim (Contains-append_cases xs ys m j) [
+      | inl i ↦ omega (arith, high_kept xs v k m i e)
+      | inr i ↦ omega (arith, high_kept ys v k m i e)
+    ]),
+    kept_high_above xs v k (kept_high k (xs ++ ys) v) (high_kept_top (xs ++ ys) v k) (λ m j e. high_kept (xs ++ ys) v k m (Contains-append_left xs ys m j) e),
+    kept_high_above ys v k (kept_high k (xs ++ ys) v) (high_kept_top (xs ++ ys) v k) (λ m j e. high_kept (xs ++ ys) v k m (Contains-append_right xs ys m j) e),
+  )
+
+only : (l m : Literal) → Contains (l ∷ []) m → l ≡ m
+only l m j = elim (Contains-cases l [] m j) [ inl e ↦ e | inr n ↦ absurd (Contains-nil m n) ]
+
+module _ (k : ℕ) (l : Literal) where
+  one_low : kept_low (l ∷ []) l.variable ≡ l.low
+  one_low = omega (
+    arith,
+    low_kept (l ∷ []) l.variable l (Contains-first l []) refl,
+    kept_low_below (l ∷ []) l.variable l.low (λ m j e. omega (arith, ap (λ (x : Literal). x.low) (only l m j))),
+  )
+
+  one_high : l.high ≤ top k l.variable → kept_high k (l ∷ []) l.variable ≡ l.high
+  one_high w = omega (
+    arith,
+    high_kept (l ∷ []) l.variable k l (Contains-first l []) refl,
+    kept_high_above (l ∷ []) l.variable k l.high w (λ m j e. omega (arith, ap (λ (x : Literal). x.high) (only l m j))),
+  )
+
+  none_low : (v : ℕ) → l.variable ≢ v → kept_low (l ∷ []) v ≡ 0
+  none_low v n = omega (arith, kept_low_below (l ∷ []) v 0 (λ m j e. absurd (n (ap (λ (x : Literal). x.variable) (only l m j) ∙ e))))
+
+  none_high : (v : ℕ) → l.variable ≢ v → kept_high k (l ∷ []) v ≡ top k v
+  none_high v n = omega (
+    arith,
+    high_kept_top (l ∷ []) v k,
+    kept_high_above (l ∷ []) v k (top k v) (omega arith) (λ m j e. absurd (n (ap (λ (x : Literal). x.variable) (only l m j) ∙ e))),
+  )
+
+-- the variables of a narrowed cube are those of the cube and the literal's
+spoken_narrowed : (l : Literal) (cube : List Literal) (x : Literal) → Contains (narrowed_by l cube) x → (y : Literal) × Contains (cube ++ l ∷ []) y × (y.variable ≡ x.variable)
+spoken_narrowed l [] x j = (l, Contains-first l [], ap (λ (y : Literal). y.variable) (only l x j))
+spoken_narrowed l (m ∷ ms) x j = elim (cases_order l.variable m.variable) [
+  | inl e ↦ elim (Contains-cases (meet_literal l m) ms x (subst (λ c. Contains c x) (narrowed-here l m ms e) j)) [
+    | inl s ↦ (m, Contains-first m (ms ++ l ∷ []), ap (λ (y : Literal). y.variable) s)
+    | inr d ↦ (x, Contains-rest m (ms ++ l ∷ []) x (Contains-append_left ms (l ∷ []) x d), refl)
+  ]
+  | inr (inl h) ↦ elim (Contains-cases l (m ∷ ms) x (subst (λ c. Contains c x) (narrowed-before l m ms h) j)) [
+    | inl s ↦ (l, Contains-append_right (m ∷ ms) (l ∷ []) l (Contains-first l []), ap (λ (y : Literal). y.variable) s)
+    | inr d ↦ (x, Contains-append_left (m ∷ ms) (l ∷ []) x d, refl)
+  ]
+  | inr (inr h) ↦ elim (Contains-cases m (narrowed_by l ms) x (subst (λ c. Contains c x) (narrowed-after l m ms h) j)) [
+    | inl s ↦ (m, Contains-first m (ms ++ l ∷ []), ap (λ (y : Literal). y.variable) s)
+    | inr d ↦ let r = spoken_narrowed l ms x d in (r.0, Contains-rest m (ms ++ l ∷ []) r.0 r.1, r.2)
+  ]
+]
+
+-- ---- cubes of literals
+
+module _ (k : ℕ) where
+  pub whole_cube : IsCubeOf k [] []
+  whole_cube = record {
+    rising = AllPairs-nil (λ (l m : Literal). l.variable < m.variable);
+    spoken = λ l j. absurd (Contains-nil l j);
+    low = λ v. refl;
+    high = λ v. refl;
+  }
+
+  narrowed_cube : (known cube : List Literal) (l : Literal) → l.high ≤ top k l.variable → IsCubeOf k known cube → IsCubeOf k (known ++ l ∷ []) (narrowed_by l cube)
+  narrowed_cube known cube l w is = record {
+    rising = rising-narrowed l cube is.rising;
+    spoken = λ x j.
+        let r = spoken_narrowed l cube x j in
+        elim (Contains-append_cases cube (l ∷ []) r.0 r.1) [
+          | inl i ↦ let s = is.spoken r.0 i in (s.0, Contains-append_left known (l ∷ []) s.0 s.1, s.2 ∙ r.2)
+          | inr i ↦ (r.0, Contains-append_right known (l ∷ []) r.0 i, r.2)
+        ];
+    low = λ v. elim (cases_eq l.variable v) [
+      | inl e ↦ subst (λ u. low_in (narrowed_by l cube) u ≡ kept_low (known ++ l ∷ []) u) e
+          (omega (arith, low-same k l cube is.rising, is.low l.variable, kept_low-append known (l ∷ []) l.variable, one_low k l))
+      | inr n ↦ omega (arith, low-other k l cube v n, is.low v, kept_low-append known (l ∷ []) v, none_low k l v n)
+    ];
+    high = λ v. elim (cases_eq l.variable v) [
+      | inl e ↦ subst (λ u. high_in k (narrowed_by l cube) u ≡ kept_high k (known ++ l ∷ []) u) e
+          (omega (arith, high-same k l cube is.rising w, is.high l.variable, kept_high-append known (l ∷ []) l.variable k, one_high k l w))
+      | inr n ↦ omega (arith, high-other k l cube v n, is.high v, kept_high-append known (l ∷ []) v k, none_high k l v n, high_kept_top known v k)
+    ];
+  }
+
+  met_cube : (known cube literals : List Literal) → ((l : Literal) → Contains literals l → l.high ≤ top k l.variable) → IsCubeOf k known cube → IsCubeOf k (known ++ literals) (met cube literals)
+  met_cube known cube [] w is = subst (λ xs. IsCubeOf k xs cube) (sym (append-nil known)) is
+  met_cube known cube (l ∷ ls) w is = subst (λ xs. IsCubeOf k xs (met (narrowed_by l cube) ls)) (append_assoc known (l ∷ []) ls)
+      (met_cube (known ++ l ∷ []) (narrowed_by l cube) ls (λ m j. w m (Contains-rest l ls m j)) (narrowed_cube known cube l (w l (Contains-first l ls)) is))
+
+  pub met_narrowed : (literals cube : List Literal) → ((l : Literal) → Contains literals l → l.high ≤ top k l.variable) → IsNarrowed k literals cube (met cube literals)
+  met_narrowed literals cube w = record { by = λ known is. met_cube known cube literals w is }
+
+  -- the order of the literals, and how often they come, makes no difference
+  pub same_literals : (xs ys cube : List Literal) → Within xs ys → Within ys xs → IsCubeOf k xs cube → IsCubeOf k ys cube
+  same_literals xs ys cube to from is = record {
+    rising = is.rising;
+    spoken = λ l j. let r = is.spoken l j in (r.0, to r.0 r.1, r.2);
+    low = λ v. omega (arith, is.low v, (kept_grows k xs ys to v).0, (kept_grows k ys xs from v).0);
+    high = λ v. omega (arith, is.high v, (kept_grows k xs ys to v).1, (kept_grows k ys xs from v).1);
+  }
+
+  pub narrowed_none : (cube : List Literal) → IsNarrowed k [] cube cube
+  narrowed_none cube = record { by = λ known is. met_cube known cube [] (λ l j. absurd (Contains-nil l j)) is }
+
+  pub narrowed_then : (xs ys a b c : List Literal) → IsNarrowed k xs a b → IsNarrowed k ys b c → IsNarrowed k (xs ++ ys) a c
+  narrowed_then xs ys a b c first second = record { by = λ known is. subst (λ ls. IsCubeOf k ls c) (append_assoc known xs ys) (second.by (known ++ xs) (first.by known is)) }
+
+  pub narrowed_same : (xs ys a b : List Literal) → Within xs ys → Within ys xs → IsNarrowed k xs a b → IsNarrowed k ys a b
+  narrowed_same xs ys a b to from n = record {
+    by = λ known is. same_literals (known ++ xs) (known ++ ys) b
+        (λ l j. elim (Contains-append_cases known xs l j) [ inl i ↦ Contains-append_left known ys l i | inr i ↦ Contains-append_right known ys l (to l i) ])
+        (λ l j. elim (Contains-append_cases known ys l j) [ inl i ↦ Contains-append_left known xs l i | inr i ↦ Contains-append_right known xs l (from l i) ])
+        (n.by known is);
+  }
+
+-- ---- two rising cubes met are walked through together
+
+pub rising_met : (a b : List Literal) → IsRising a → IsRising (met a b)
+rising_met a [] r = r
+rising_met a (m ∷ ms) r = rising_met (narrowed_by m a) ms (rising-narrowed m a r)
+
+met-first : (l : Literal) (ls b : List Literal) → ((m : Literal) → Contains b m → l.variable < m.variable) → met (l ∷ ls) b ≡ l ∷ met ls b
+met-first l ls [] h = refl
+met-first l ls (m ∷ ms) h = ap (λ c. met c ms) (narrowed-after m l ls (h m (Contains-first m ms))) ∙ met-first l (narrowed_by m ls) ms (λ x j. h x (Contains-rest m ms x j))
+
+pub met-nil : (b : List Literal) → IsRising b → met [] b ≡ b
+met-nil [] r = refl
+met-nil (m ∷ ms) r = met-first m [] ms (λ x j. rising_first m x ms r j) ∙ ap (λ c. m ∷ c) (met-nil ms (rising_rest m ms r))
+
+module _ (l : Literal) (ls : List Literal) (m : Literal) (ms : List Literal) (r : IsRising (m ∷ ms)) where
+  pub met-before : l.variable < m.variable → met (l ∷ ls) (m ∷ ms) ≡ l ∷ met ls (m ∷ ms)
+  met-before h = met-first l ls (m ∷ ms) (λ x j. elim (Contains-cases m ms x j) [
+    | inl s ↦ omega (arith, h, ap (λ (y : Literal). y.variable) s)
+    | inr d ↦ omega (arith, h, rising_first m x ms r d)
+  ])
+
+  pub met-here : l.variable ≡ m.variable → met (l ∷ ls) (m ∷ ms) ≡ meet_literal m l ∷ met ls ms
+  met-here e = ap (λ c. met c ms) (narrowed-here m l ls (sym e)) ∙ met-first (meet_literal m l) ls ms (λ x j. omega (arith, e, rising_first m x ms r j))
+
+  pub met-after : m.variable < l.variable → met (l ∷ ls) (m ∷ ms) ≡ m ∷ met (l ∷ ls) ms
+  met-after h = ap (λ c. met c ms) (narrowed-before m l ls h) ∙ met-first m (l ∷ ls) ms (λ x j. rising_first m x ms r j)
+
+-- ---- a cube met with one of some literals
+
+pub rising_cube : (k : ℕ) (b : List Literal) → IsRising b → ((l : Literal) → Contains b l → l.high ≤ top k l.variable) → IsCubeOf k b b
+rising_cube k b r w = subst (IsCubeOf k b) (met-nil b r) ((met_narrowed k b [] w).by [] (whole_cube k))
+
+pub cube_highs : (k : ℕ) (literals cube : List Literal) → IsCubeOf k literals cube → (l : Literal) → Contains cube l → l.high ≤ top k l.variable
+cube_highs k literals cube is l j = omega (arith, (range_of_literal k cube l is.rising j).1, is.high l.variable, high_kept_top literals l.variable k)
+
+pub cube_narrowed : (k : ℕ) (literals b cube : List Literal) → IsCubeOf k literals b → IsNarrowed k literals cube (met cube b)
+cube_narrowed k literals b cube is =
+    let highs = cube_highs k literals b is in
+    let own = rising_cube k b is.rising highs in
+    record {
+      by = λ known was.
+          let n = (met_narrowed k b cube highs).by known was in
+          record {
+            rising = n.rising;
+            spoken = λ l j.
+                let r = n.spoken l j in
+                elim (Contains-append_cases known b r.0 r.1) [
+                  | inl i ↦ (r.0, Contains-append_left known literals r.0 i, r.2)
+                  | inr i ↦ let s = is.spoken r.0 i in (s.0, Contains-append_right known literals s.0 s.1, s.2 ∙ r.2)
+                ];
+            low = λ v. omega (arith, n.low v, kept_low-append known b v, own.low v, is.low v, kept_low-append known literals v);
+            high = λ v. omega (arith, n.high v, kept_high-append known b v k, own.high v, is.high v, kept_high-append known literals v k);
+          };
+    }
+
+-- ---- a literal that can be pushed
+
+front_lower : (xs : List Literal) (l : Literal) (rest : List Literal) → IsRising (xs ++ l ∷ rest) → (m : Literal) → Contains xs m → m.variable < l.variable
+front_lower [] l rest r m j = absurd (Contains-nil m j)
+front_lower (x ∷ xs) l rest r m j = elim (Contains-cases x xs m j) [
+  | inl e ↦ subst (λ (y : Literal). y.variable < l.variable) e (rising_first x l (xs ++ l ∷ rest) r (Contains-append_right xs (l ∷ rest) l (Contains-first l rest)))
+  | inr i ↦ front_lower xs l rest (rising_rest x (xs ++ l ∷ rest) r) m i
+]
+
+pub all_lower : (xs : List Literal) (l : Literal) (rest : List Literal) → IsRising (xs ++ l ∷ rest) → All (λ m. m.variable < l.variable) xs
+all_lower xs l rest r = λ k d h. front_lower xs l rest r (get_or xs k d) (Contains-get_or xs k d h)
+
+-- ---- on the way through two cubes, up to the literal l of the one and m of the other
+
+module _ (start cube first second ones others : List Literal) (l : Literal) (ls : List Literal) (m : Literal) (ms : List Literal)
+    (rises : IsRising (start ++ met first second)) (rest : IsRising others) (all : start ++ met first second ≡ cube ++ met ones others)
+    (one : ones ≡ l ∷ ls) (other : others ≡ m ∷ ms) where
+  rest_rises : IsRising (m ∷ ms)
+  rest_rises = subst IsRising other rest
+
+  here : start ++ met first second ≡ cube ++ met (l ∷ ls) (m ∷ ms)
+  here = all ∙ ap₂ (λ a b. cube ++ met a b) one other
+
+  push : (x : Literal) (new left : List Literal) → met (l ∷ ls) (m ∷ ms) ≡ x ∷ left → new ≡ cube ++ x ∷ [] → start ++ met first second ≡ new ++ left
+  push x new left e is = here ∙ ap (λ c. cube ++ c) e ∙ sym (append_assoc cube (x ∷ []) left) ∙ ap (λ c. c ++ left) (sym is)
+
+  lower : (x : Literal) (left : List Literal) → met (l ∷ ls) (m ∷ ms) ≡ x ∷ left → All (λ y. y.variable < x.variable) cube
+  lower x left e = all_lower cube x left (subst IsRising (here ∙ ap (λ c. cube ++ c) e) rises)
+
+  pub lower_before : l.variable < m.variable → All (λ y. y.variable < l.variable) cube
+  lower_before h = lower l (met ls (m ∷ ms)) (met-before l ls m ms rest_rises h)
+
+  pub lower_after : m.variable < l.variable → All (λ y. y.variable < m.variable) cube
+  lower_after h = lower m (met (l ∷ ls) ms) (met-after l ls m ms rest_rises h)
+
+  pub lower_here : l.variable ≡ m.variable → All (λ y. y.variable < l.variable) cube
+  lower_here e = lower (meet_literal m l) (met ls ms) (met-here l ls m ms rest_rises e)
+
+  pub push_before : (new : List Literal) → l.variable < m.variable → new ≡ cube ++ l ∷ [] → start ++ met first second ≡ new ++ met ls others
+  push_before new h is = push l new (met ls (m ∷ ms)) (met-before l ls m ms rest_rises h) is ∙ ap (λ b. new ++ met ls b) (sym other)
+
+  pub push_after : (new : List Literal) → m.variable < l.variable → new ≡ cube ++ m ∷ [] → start ++ met first second ≡ new ++ met ones ms
+  push_after new h is = push m new (met (l ∷ ls) ms) (met-after l ls m ms rest_rises h) is ∙ ap (λ a. new ++ met a ms) (sym one)
+
+  pub push_here : (new : List Literal) → l.variable ≡ m.variable → new ≡ cube ++ meet_literal m l ∷ [] → start ++ met first second ≡ new ++ met ls ms
+  push_here new e is = push (meet_literal m l) new (met ls ms) (met-here l ls m ms rest_rises e) is
+
+pub rising_left : (ls : List Literal) (l : Literal) (left : List Literal) → IsRising ls → ls ≡ l ∷ left → IsRising left
+rising_left ls l left r e = rising_rest l left (subst IsRising e r)
+
+pub nothing_left : (ls : List Literal) → IsRising ls → (none : List Literal) → none ≡ [] → met none ls ≡ ls
+nothing_left ls r none e = ap (λ a. met a ls) e ∙ met-nil ls r

@@ -1,5 +1,0 @@
-use Rattle.cpg_list.specs.NodeItems.{AreNodeTables}
-use Rattle.cpg_list.proofs.assembling.node_tables.Given as goal
-
-abbrev pub invariant-loop-node : goal.invariant-loop-node
-invariant-loop-node l = AreNodeTables l.problem l.rows l.node l.tables.items

@@ -1,0 +1,18 @@
+use Rattle.std.proofs.Common.{◌≡◌, ◌∙◌, ◌≤◌, ◌∷◌, [], sym, ap, subst}
+use Rattle.cpg_base.specs.Variable.{top}
+use Rattle.cpg_cube.specs.declared.literal.Literal.{Literal}
+use Rattle.cpg_run.specs.Carried.{number_known}
+use Rattle.cpg_list.specs.Narrowing.{met, IsNarrowed}
+use Rattle.cpg_list.proofs.CodeCubes.{met_narrowed}
+use Rattle.cpg_run.proofs.CubesOf.{number_at_most}
+use Rattle.cpg_run.proofs.SameInRows.{only_one}
+use Rattle.cpg_list.proofs.cubes.narrow_to_number.Goals as goal
+
+pub returns : goal.returns
+returns c =
+    let g = c.args.problem.now in
+    let l : Literal = number_known c.args.scenario.now c.args.variable in
+    let made : c.as_slice.result.now ≡ l ∷ [] = c.as_slice.ensures ∙ ap (λ n. let x : Literal = record { variable = c.args.variable; low = n; high = n } in x ∷ []) c.number-number.ensures in
+    let high = number_at_most g c.processes-processes.ensures.within.few_processes c.args.scenario.now c.requires c.args.variable in
+    subst (IsNarrowed g.faults (l ∷ []) c.args.cube.now) (sym (c.in_ok-narrow.ensures ∙ ap (met c.args.cube.now) made))
+    (met_narrowed g.faults (l ∷ []) c.args.cube.now (λ m j. subst (λ (x : Literal). x.high ≤ top g.faults x.variable) (only_one l m j) high))

@@ -1,0 +1,17 @@
+use Rattle.std.proofs.Common.{◌≡◌, ◌∙◌, ◌++◌, ◌∷◌, take, drop, get_or, suc, sym, ap, subst, append_assoc, drop-cons}
+use Rattle.std.proofs.lemmas.List.{take-append-drop}
+use Rattle.cpg_cube.specs.Cube.{IsRising}
+use Rattle.cpg_cube.specs.declared.literal.Literal.{Literal}
+use Rattle.cpg_list.proofs.CodeCubes.{all_lower}
+use Rattle.cpg_list.proofs.cubes.push_all.Goals as goal
+
+pub push-requires : goal.push-requires
+push-requires c =
+    let none : Literal = record { variable = 0; low = 0; high = 0 } in
+    let i = c.loop-literal.literal-index in
+    let ls = c.args.literals.now in
+    let split : c.args.cube.now ++ ls ≡ c.loop-literal.cube ++ get_or ls i none ∷ drop (suc i) ls =
+    ap (λ xs. c.args.cube.now ++ xs) (sym (take-append-drop i ls) ∙ ap (λ xs. take i ls ++ xs) (drop-cons ls i none c.loop-literal-test.true))
+    ∙ sym (append_assoc c.args.cube.now (take i ls) (get_or ls i none ∷ drop (suc i) ls))
+    ∙ ap (λ xs. xs ++ get_or ls i none ∷ drop (suc i) ls) (sym c.loop-literal.invariant) in
+    record { last = all_lower c.loop-literal.cube (get_or ls i none) (drop (suc i) ls) (subst IsRising split c.requires) }

@@ -1,0 +1,14 @@
+use Rattle.std.proofs.Common.{◌≡◌, ◌++◌, ◌+◌, length}
+use Rattle.cpg_cube.specs.Cube.{IsRising}
+use Rattle.cpg_list.specs.Narrowing.{met}
+use Rattle.cpg_list.proofs.cubes.push_met.Given as goal
+
+abbrev pub invariant-loop-one : goal.invariant-loop-one
+invariant-loop-one l = record {
+  first : IsRising l.ones;
+  second : IsRising l.others;
+  all : l.fn.cube ++ met l.first l.second ≡ l.cube ++ met l.ones l.others;
+}
+
+abbrev pub decreases-loop-one : goal.decreases-loop-one
+decreases-loop-one l = length l.ones + length l.others

@@ -1,0 +1,31 @@
+use Rattle.std.proofs.Common.{flat_map, subst}
+use Rattle.cpg_base.specs.Graph.{condition_count}
+use Rattle.cpg_base.specs.Numbers.{numbers_below}
+use Rattle.cpg_base.proofs.Lists.{Contains-filter_parts, numbers-Contains}
+use Rattle.cpg_order.specs.Deciding.{decides, deciding}
+use Rattle.cpg_list.specs.Learning.{heard_of}
+use Rattle.cpg_list.specs.Made.{columns_of_rows}
+use Rattle.cpg_list.specs.Narrowing.{IsNarrowed}
+use Rattle.cpg_list.proofs.CodeCubes.{narrowed_same}
+use Rattle.cpg_list.proofs.CodeTold.{within_flat_map}
+use Rattle.cpg_list.proofs.learning.narrow_by_heard.Goals as goal
+
+pub narrow_by_conditions-requires-clause-conditions : goal.narrow_by_conditions-requires-clause-conditions
+narrow_by_conditions-requires-clause-conditions c d j =
+    let g = c.args.problem.now in
+    numbers-Contains (condition_count g) d (Contains-filter_parts (decides g c.args.scenario.now.values c.args.process) (numbers_below (condition_count g)) d (c.requires.conditions.each d j)).0
+
+pub narrow_by_conditions-requires-clause-told : goal.narrow_by_conditions-requires-clause-told
+narrow_by_conditions-requires-clause-told c d j = c.requires.told d (c.requires.conditions.each d j)
+
+pub returns : goal.returns
+returns c =
+    let g = c.args.problem.now in
+    let s = c.args.scenario.now in
+    let rows = columns_of_rows c.args.rows.now in
+    let node = c.node_of-node.result in
+    let all = deciding g s.values c.args.process in
+    let f = heard_of g rows s node in
+    subst (λ n. IsNarrowed g.faults (flat_map (heard_of g rows s n) all) c.args.cube.now c.narrow_by_conditions.new.cube) c.node_of-node.ensures.node
+    (narrowed_same g.faults (flat_map f c.args.conditions.now) (flat_map f all) c.args.cube.now c.narrow_by_conditions.new.cube
+    (within_flat_map c.args.conditions.now all c.requires.conditions.each f) (within_flat_map all c.args.conditions.now c.requires.conditions.all f) c.in_ok-narrow_by_conditions.ensures)

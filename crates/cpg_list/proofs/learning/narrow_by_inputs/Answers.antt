@@ -1,0 +1,20 @@
+use Rattle.std.proofs.Common.{get_or}
+use Rattle.std.proofs.lemmas.List.Elements.{Contains-get_or}
+use Rattle.cpg_list.specs.Learning.{received_by}
+use Rattle.cpg_list.specs.Made.{columns_of_rows}
+use Rattle.cpg_list.proofs.CodeCubes.{narrowed_none}
+use Rattle.cpg_list.proofs.CodeTold.{narrowed_flat_map}
+use Rattle.cpg_list.proofs.learning.narrow_by_inputs.Goals as goal
+
+pub loop-edge-init : goal.loop-edge-init
+loop-edge-init c = narrowed_none c.args.problem.now.faults c.args.cube.now
+
+pub narrow_by_input-requires-clause-edge : goal.narrow_by_input-requires-clause-edge
+narrow_by_input-requires-clause-edge c = c.requires.edges (get_or c.args.edges.now c.loop-edge.edge-index 0) (Contains-get_or c.args.edges.now c.loop-edge.edge-index 0 c.loop-edge-test.true)
+
+pub narrow_by_input-requires-clause-told : goal.narrow_by_input-requires-clause-told
+narrow_by_input-requires-clause-told c = c.requires.told (get_or c.args.edges.now c.loop-edge.edge-index 0) (Contains-get_or c.args.edges.now c.loop-edge.edge-index 0 c.loop-edge-test.true)
+
+pub loop-edge-preserved : goal.loop-edge-preserved
+loop-edge-preserved c = narrowed_flat_map c.args.problem.now.faults c.args.cube.now c.loop-edge.cube c.narrow_by_input.new.cube
+    (received_by c.args.problem.now (columns_of_rows c.args.rows.now) c.args.scenario.now) c.args.edges.now c.loop-edge.edge-index 0 c.loop-edge-test.true c.loop-edge.invariant c.in_ok-narrow_by_input.ensures

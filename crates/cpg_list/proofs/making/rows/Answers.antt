@@ -1,0 +1,32 @@
+use Rattle.std.proofs.Common.{◌≡◌, ◌∙◌, length, map, replicate, [], List, sym, ap, subst, arith}
+use Rattle.cpg_base.specs.Graph.{Graph, process_count, item_count}
+use Rattle.cpg_base.specs.Numbers.{numbers_below}
+use Rattle.cpg_table.specs.Table.{Row}
+use Rattle.cpg_run.specs.Rows.{AreRows}
+use Rattle.cpg_list.specs.Made.{columns_of_rows, AreMade, IsBefore}
+use Rattle.cpg_list.proofs.CodeFirst.{blank, none_made, none_carried, all_rows}
+use Rattle.cpg_list.proofs.making.rows.Goals as goal
+
+pub loop-place-init : goal.loop-place-init
+loop-place-init c =
+    let a = c.args.admitted.now in
+    let g = a.graph in
+    let order = c.args.order.now in
+    let n = length c.args.scenarios.now in
+    let e = c.problem-problem.ensures.problem in
+    record {
+      carried = none_carried g order (columns_of_rows c.in_ok-rows.rows.items) c.args.scenarios.now c.in_ok-known.known.items c.in_ok-sent.sent.items
+          (c.in_ok-known.ensures ∙ ap (λ (h : Graph). replicate (length h.nodes) (replicate n [])) e) (c.in_ok-sent.ensures ∙ ap (λ (h : Graph). replicate (length h.nodes) (replicate n [])) e);
+      made = none_made g order a.order c.args.frozen.now c.in_ok-rows.rows.items (c.in_ok-rows.ensures ∙ ap (λ (h : Graph). map blank (numbers_below (item_count h))) e);
+    }
+
+pub returns-clause-rows : goal.returns-clause-rows
+returns-clause-rows c =
+    let a = c.args.admitted.now in
+    let g = a.graph in
+    let order = c.args.order.now in
+    let last : c.loop-place.place ≡ process_count g = omega (arith, ap length c.processes.ensures.processes, ap (λ (h : Graph). process_count h) c.problem-problem.ensures.problem, c.loop-place-test.false, c.loop-place.auto.place-end) in
+    let same : c.in_ok-rows-2.rows.items ≡ c.loop-place.rows.items = c.in_ok-rows-2.ensures ∙ c.as_slice.ensures.value in
+    subst (λ (rs : List Row). AreRows g a.order order c.args.frozen.now (columns_of_rows rs)) (sym same)
+    (all_rows g order c.requires.topological a.order c.args.frozen.now c.loop-place.rows.items
+    (subst (λ i. AreMade g a.order order c.args.frozen.now (IsBefore g order i) c.loop-place.rows.items) last c.loop-place.invariant.made))

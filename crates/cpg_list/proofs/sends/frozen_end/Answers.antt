@@ -1,0 +1,17 @@
+use Rattle.std.proofs.Common.{◌∷◌, [], ◌++◌, subst}
+use Rattle.cpg_base.specs.Graph.{Graph}
+use Rattle.cpg_run.specs.Carried.{decided, number_known}
+use Rattle.cpg_list.specs.Narrowing.{IsNarrowed}
+use Rattle.cpg_list.proofs.CodeCubes.{narrowed_then}
+use Rattle.cpg_list.proofs.CodeStarts.{from_whole}
+use Rattle.cpg_list.proofs.sends.frozen_end.Goals as goal
+
+pub returns : goal.returns
+returns c =
+    let g = c.args.admitted.now.graph in
+    let s = c.args.scenario.now in
+    let p = c.args.process in
+    let first = subst (λ (h : Graph). IsNarrowed h.faults (decided h s p) c.whole-cube.result c.narrow_by_decided.new.cube) c.problem-problem.ensures.problem c.in_ok-narrow_by_decided.ensures in
+    let second = subst (λ (h : Graph). IsNarrowed h.faults (number_known s p ∷ []) c.narrow_by_decided.new.cube c.narrow_to_number.new.cube) c.problem-problem.ensures.problem c.in_ok-narrow_to_number.ensures in
+    from_whole g.faults (decided g s p ++ number_known s p ∷ []) c.whole-cube.result c.narrow_to_number.new.cube c.whole-cube.ensures
+    (narrowed_then g.faults (decided g s p) (number_known s p ∷ []) c.whole-cube.result c.narrow_by_decided.new.cube c.narrow_to_number.new.cube first second)

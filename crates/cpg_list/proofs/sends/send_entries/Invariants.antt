@@ -1,0 +1,12 @@
+use Rattle.std.proofs.Common.{◌++◌, ◌∷◌, [], take}
+use Rattle.cpg_order.specs.Queue.{queued_before}
+use Rattle.cpg_list.specs.Made.{columns_of_rows, queued_by, AreCubesUpTo}
+use Rattle.cpg_run.proofs.EntriesFound.{AreEntriesAmong}
+use Rattle.cpg_list.proofs.sends.send_entries.Given as goal
+
+abbrev pub invariant-loop-at : goal.invariant-loop-at
+invariant-loop-at l = record {
+  found : AreEntriesAmong l.admitted.graph l.order l.frozen (columns_of_rows l.rows) l.item (take l.at l.scenarios) l.entries.items;
+  carried : AreCubesUpTo l.admitted.graph.faults l.scenarios (queued_by l.admitted.graph l.order (columns_of_rows l.rows) (queued_before l.admitted.graph l.order l.item))
+      (queued_by l.admitted.graph l.order (columns_of_rows l.rows) (queued_before l.admitted.graph l.order l.item ++ l.item ∷ [])) l.at l.sent-inside.cubes.items;
+}

@@ -1,0 +1,45 @@
+use Rattle.std.proofs.Common.{◌≡◌, ◌∙◌, Contains, true, is_some, sym, ap, subst}
+use Rattle.cpg_base.specs.Graph.{Graph, item_at}
+use Rattle.cpg_base.specs.Activity.{active, item_active}
+use Rattle.cpg_bus.specs.Plan.{queue_of}
+use Rattle.cpg_run.specs.Carried.{decided}
+use Rattle.cpg_list.specs.Learning.{Within, send_after, queued_after}
+use Rattle.cpg_list.specs.Narrowing.{IsNarrowed, IsKeptOf, IsKeptAt}
+use Rattle.cpg_run.specs.Rows.{IsCubeOf}
+use Rattle.cpg_list.proofs.CodeSends.{queue_by}
+use Rattle.cpg_run.proofs.SameSends.{producer_active}
+use Rattle.cpg_list.proofs.sends.send_in.Goals as goal
+
+pub is_frozen-requires-clause-item : goal.is_frozen-requires-clause-item
+is_frozen-requires-clause-item c = subst (λ (h : Graph). Contains (queue_of h c.args.process) c.args.item) (sym c.problem-problem.ensures.problem) c.requires.item
+
+pub send_plain-requires-clause-item : goal.send_plain-requires-clause-item
+send_plain-requires-clause-item c = subst (λ (h : Graph). Contains (queue_of h c.args.process) c.args.item) (sym c.problem-problem.ensures.problem) c.requires.item
+
+pub returns-then-is_frozen-clause-entry : goal.returns-then-is_frozen-clause-entry
+returns-then-is_frozen-clause-entry c queue ends is_queue is_end =
+    let g = c.args.admitted.now.graph in
+    let s = c.args.scenario.now in
+    subst (λ o. IsKeptAt g s o (send_after g s c.args.item queue ends) c.in_ok-entry.entry) (sym c.in-Some.is ∙ c.time.ensures) (c.in_ok-entry.ensures.entry queue ends)
+
+pub returns-clause-entry : goal.returns-clause-entry
+returns-clause-entry c queue ends is_queue is_end =
+    let g = c.args.admitted.now.graph in
+    let s = c.args.scenario.now in
+    let x = c.args.item in
+    let p = c.args.process in
+    let acts : item_active g s.values (item_at g x) ≡ true = sym c.requires.item_active ∙ ap is_some (sym c.time.ensures ∙ c.in-Some.is) in
+    let on : active g s.values p ≡ true = ap (active g s.values) (sym (queue_by g p x c.requires.item)) ∙ producer_active g s.values (item_at g x) acts in
+    let found = subst (λ (h : Graph). IsCubeOf h.faults queue c.args.sent.now → IsCubeOf h.faults ends c.args.end.now → IsKeptOf h s c.in-Some.time (send_after h s x queue ends) c.in_ok-entry-2.entry) c.problem-problem.ensures.problem (c.in_ok-entry-2.ensures.entry queue ends) in
+    subst (λ o. IsKeptAt g s o (send_after g s x queue ends) c.in_ok-entry-2.entry) (sym c.in-Some.is ∙ c.time.ensures) (found is_queue (is_end.cube on))
+
+pub returns-clause-sent : goal.returns-clause-sent
+returns-clause-sent c ends is_end =
+    let g = c.args.admitted.now.graph in
+    let s = c.args.scenario.now in
+    let x = c.args.item in
+    let p = c.args.process in
+    let acts : item_active g s.values (item_at g x) ≡ true = sym c.requires.item_active ∙ ap is_some (sym c.time.ensures ∙ c.in-Some.is) in
+    let on : active g s.values p ≡ true = ap (active g s.values) (sym (queue_by g p x c.requires.item)) ∙ producer_active g s.values (item_at g x) acts in
+    let found = subst (λ (h : Graph). IsCubeOf h.faults ends c.args.end.now → Within (decided h s p) ends → IsNarrowed h.faults (queued_after h s x ends) c.args.sent.now c.send_plain.new.sent) c.problem-problem.ensures.problem (c.in_ok-entry-2.ensures.sent ends) in
+    found (is_end.cube on) is_end.decided

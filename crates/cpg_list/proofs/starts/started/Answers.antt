@@ -1,0 +1,18 @@
+use Rattle.std.proofs.Common.{◌≡◌, ◌∙◌, ◌++◌, false, sym, subst}
+use Rattle.cpg_base.specs.Graph.{process_at}
+use Rattle.cpg_run.specs.Carried.{decided, heard, received}
+use Rattle.cpg_list.specs.Made.{columns_of_rows}
+use Rattle.cpg_list.specs.Narrowing.{IsKeptOf}
+use Rattle.cpg_list.proofs.CodeStarts.{kept_of, start_plain}
+use Rattle.cpg_list.proofs.starts.started.Goals as goal
+
+pub returns-clause-entry : goal.returns-clause-entry
+returns-clause-entry c earlier is =
+    let g = c.args.problem.now in
+    let s = c.args.scenario.now in
+    let p = c.args.process in
+    let rows = columns_of_rows c.args.rows.now in
+    let before = earlier ++ decided g s p ++ heard g rows s p in
+    let plain : (process_at g p).frozen ≡ false = sym c.is_frozen.ensures ∙ c.if-is_frozen.false in
+    subst (λ ls. IsKeptOf g s c.args.time ls c.in_ok-entry-2.entry) (sym (start_plain g rows s p earlier plain))
+    (kept_of g s c.args.time (before ++ received g rows s p) c.narrow_by_received.new.cube (c.in_ok-narrow_by_received.ensures.by before is) c.in_ok-entry-2.entry c.in_ok-entry-2.ensures)

@@ -1,0 +1,5 @@
+use Rattle.std.proofs.Common.{◌≡◌, [], replicate}
+use Rattle.cpg_list.proofs.state.Cubes.whole.Given as goal
+
+abbrev pub invariant-loop : goal.invariant-loop
+invariant-loop l = l.cubes.items ≡ replicate l.counter []

@@ -1,0 +1,5 @@
+use Rattle.cpg_list.proofs.CodeTimes.{AreTimes}
+use Rattle.cpg_list.proofs.timed.ordered_by_time.Given as goal
+
+abbrev pub invariant-loop-place : goal.invariant-loop-place
+invariant-loop-place l = AreTimes l.columns l.place l.by_time.items

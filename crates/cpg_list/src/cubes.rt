@@ -1,0 +1,115 @@
+//! Cubes narrowed by literals.
+ghost use Rattle.std.specs.Prelude.{◌≡◌, ◌++◌, ◌∷◌, [], ℕ, List, OnOk};
+ghost use Rattle.cpg_base.specs.Scenario.{IsScenario};
+ghost use Rattle.cpg_cube.specs.Cube.{IsRising};
+ghost use Rattle.cpg_cube.specs.Cover.{meet_literal};
+ghost use Rattle.cpg_run.specs.Carried.{number_known};
+ghost use Rattle.cpg_list.specs.Narrowing.{met, IsNarrowed};
+ghost use Rattle.cpg_run.specs.Rows.{IsCubeOf};
+
+use cpg_base::{OutOfMemory, Problem, Scenario};
+use cpg_cube::{Cube, Literal};
+use std::alloc::Global;
+
+/// What the ranges of two literals on one variable have in common.
+fn both(literal: Literal, other: Literal) -> Literal
+    ensures { result ≡ meet_literal literal other }
+{
+    Literal {
+        variable: other.variable,
+        low: literal.low.max(other.low),
+        high: literal.high.min(other.high),
+    }
+}
+
+/// Adds literals on variables above all others.
+fn push_all(cube: &mut Cube, literals: &[Literal]) -> Result<(), OutOfMemory>
+    requires { IsRising (cube.old ++ literals.now) }
+    ensures { OnOk result (cube.new ≡ cube.old ++ literals.now) }
+{
+    for literal in literals {
+        cube.push(*literal)?;
+    }
+    Ok(())
+}
+
+/// Adds the literals of two cubes, those on one variable met.
+fn push_met(cube: &mut Cube, first: &[Literal], second: &[Literal]) -> Result<(), OutOfMemory>
+    requires first { IsRising first.now }
+    requires second { IsRising second.now }
+    requires both { IsRising (cube.old ++ met first.now second.now) }
+    ensures { OnOk result (cube.new ≡ cube.old ++ met first.now second.now) }
+{
+    let mut ones = first;
+    let mut others = second;
+    loop {
+        let Some((one, ones_left)) = ones.split_first() else {
+            push_all(cube, others)?;
+            return Ok(());
+        };
+        let Some((other, others_left)) = others.split_first() else {
+            push_all(cube, ones)?;
+            return Ok(());
+        };
+        if one.variable < other.variable {
+            cube.push(*one)?;
+            ones = ones_left;
+        } else if other.variable < one.variable {
+            cube.push(*other)?;
+            others = others_left;
+        } else {
+            cube.push(both(*other, *one))?;
+            ones = ones_left;
+            others = others_left;
+        }
+    }
+}
+
+/// Narrows a cube by the literals of another.
+pub(crate) fn narrow(
+    alloc: Global,
+    cube: &mut Cube,
+    literals: &[Literal],
+) -> Result<(), OutOfMemory>
+    requires { IsRising literals.now }
+    ensures { OnOk result (cube.new ≡ met cube.old literals.now) }
+{
+    let mut narrowed = Cube::whole(alloc);
+    push_met(&mut narrowed, cube.literals(), literals)?;
+    *cube = narrowed;
+    Ok(())
+}
+
+/// Narrows a cube to the number that a variable has in a scenario.
+pub(crate) fn narrow_to_number(
+    alloc: Global,
+    problem: &Problem,
+    scenario: &Scenario,
+    variable: u8,
+    cube: &mut Cube,
+) -> Result<(), OutOfMemory>
+    requires { IsScenario problem.now scenario.now }
+    ensures { OnOk result (IsNarrowed problem.now.faults (number_known scenario.now variable ∷ []) cube.old cube.new) }
+{
+    let _processes = problem.processes();
+    let number = scenario.number(variable);
+    let literal = Literal {
+        variable,
+        low: number,
+        high: number,
+    };
+    narrow(alloc, cube, [literal].as_slice())?;
+    Ok(())
+}
+
+/// Narrows a cube by another that is one of some literals.
+pub(crate) fn narrow_by_cube(
+    alloc: Global,
+    other: &Cube,
+    cube: &mut Cube,
+) -> Result<(), OutOfMemory>
+    ensures { OnOk result ((k : ℕ) (literals : List Literal) → IsCubeOf k literals other.now → IsNarrowed k literals cube.old cube.new) }
+{
+    narrow(alloc, cube, other.literals())?;
+    Ok(())
+}

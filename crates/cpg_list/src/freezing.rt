@@ -1,0 +1,195 @@
+//! The times of frozen items.
+ghost use Rattle.std.specs.Prelude.{◌≡◌, ◌≢◌, ◌<◌, ◌++◌, ℕ, IfOk, None, get_or, length};
+ghost use Rattle.cpg_base.specs.Graph.{process_count, edge_count, item_count, node_of};
+ghost use Rattle.cpg_order.specs.Links.{links_of};
+ghost use Rattle.cpg_order.specs.Urgency.{IsTopological};
+ghost use Rattle.cpg_run.specs.Frozen.{AreFrozenTimes};
+ghost use Rattle.cpg_run.specs.Known.{AreEarly};
+ghost use Rattle.cpg_bus.specs.Plan.{plan_of};
+ghost use Rattle.cpg_run.specs.FrozenItems.{is_frozen_message, frozen_starts, frozen_messages, frozen_items_of, frozen_along};
+ghost use Rattle.cpg_run.specs.Latest.{IsUnfrozenTime};
+ghost use Rattle.cpg_list.specs.Active.{AreExamples};
+ghost use Rattle.cpg_list.specs.FirstAlike.{AreFirstAlike};
+ghost use Rattle.cpg_list.specs.Listing.{AreScenarios};
+ghost use Rattle.cpg_list.specs.Sweep.{AreAlong, place_of};
+
+use crate::examples::examples;
+use crate::latest::unfrozen_time;
+use crate::sweeping::{advance, beginnings};
+use cpg_base::{OutOfMemory, Problem, Scenario};
+use cpg_order::{Links, Order};
+use cpg_rules::Admitted;
+use cpg_run::Frozen;
+use cpg_bus::Plan;
+use cpg_run::Progress;
+use std::alloc::Global;
+
+/// Whether the message of an edge is frozen: an edge within a node has none.
+fn is_frozen_message(problem: &Problem, edge: u32) -> bool
+    requires { edge < edge_count problem.now }
+    ensures { result ≡ is_frozen_message problem.now edge }
+{
+    let edge = problem.edges()[edge as usize];
+    if problem.node_of(edge.from) == problem.node_of(edge.to) {
+        return false;
+    }
+    edge.frozen
+}
+
+/// Adds the start of a process, if it is frozen.
+fn add_start(problem: &Problem, process: u32, items: &mut Vec<u32>) -> Result<(), OutOfMemory>
+    requires { process < process_count problem.now }
+    ensures { IfOk result (λ _. items.new.items ≡ items.old.items ++ frozen_starts problem.now process) }
+{
+    if problem.processes()[process as usize].frozen {
+        items.push(process)?;
+    }
+    Ok(())
+}
+
+/// Adds the frozen messages of a process, by number.
+fn add_messages(
+    problem: &Problem,
+    links: &Links,
+    process: u32,
+    items: &mut Vec<u32>,
+) -> Result<(), OutOfMemory>
+    requires process { process < process_count problem.now }
+    requires links { links.now ≡ links_of problem.now }
+    ensures { IfOk result (λ _. items.new.items ≡ items.old.items ++ frozen_messages problem.now process) }
+{
+    for edge in links.outputs(process) {
+        if is_frozen_message(problem, *edge) {
+            items.push(problem.processes().len() as u32 + *edge)?;
+        }
+    }
+    Ok(())
+}
+
+/// The frozen items along an order: of each process its start, and then its messages by number.
+fn frozen_items(alloc: Global, problem: &Problem, order: &Order) -> Result<Vec<u32>, OutOfMemory>
+    requires { length order.now ≡ process_count problem.now }
+    ensures { IfOk result (λ items. items.items ≡ frozen_along problem.now order.now) }
+{
+    let links = Links::of(alloc, problem)?;
+    let mut items = Vec::new(alloc);
+    for process in order.processes() {
+        add_start(problem, *process, &mut items)?;
+        add_messages(problem, &links, *process, &mut items)?;
+    }
+    Ok(items)
+}
+
+/// Finds and sets the time of a frozen item of the process at a place, if it is active in some scenario.
+fn settle(
+    alloc: Global,
+    admitted: &Admitted,
+    order: &Order,
+    plan: &Plan,
+    frozen: &mut Frozen,
+    scenarios: &[Scenario],
+    found: &[Progress],
+    place: u32,
+    item: u32,
+) -> Result<(), OutOfMemory>
+    requires topological { IsTopological admitted.now.graph order.now }
+    requires plan { plan.now ≡ plan_of admitted.now.graph }
+    requires frozen { length frozen.old ≡ item_count admitted.now.graph }
+    requires early { AreEarly frozen.old }
+    requires scenarios { AreExamples admitted.now.graph scenarios.now }
+    requires place { place < process_count admitted.now.graph }
+    requires along { AreAlong admitted.now.graph order.now frozen.old place scenarios.now found.now }
+    requires item { item < item_count admitted.now.graph }
+    requires there { place_of admitted.now.graph order.now item ≡ place }
+    requires unset { get_or frozen.old item None ≡ None }
+    ensures item { IfOk result (λ _. IsUnfrozenTime admitted.now.graph order.now frozen.old item (get_or frozen.new item None)) }
+    ensures others { IfOk result (λ _. (other : ℕ) → other ≢ item → get_or frozen.new other None ≡ get_or frozen.old other None) }
+    ensures count { IfOk result (λ _. length frozen.new ≡ length frozen.old) }
+{
+    let time = unfrozen_time(
+        alloc, admitted, order, plan, frozen, scenarios, found, place, item,
+    )?;
+    if let Some(time) = time {
+        frozen.set(item, time);
+    }
+    Ok(())
+}
+
+/// The times of the frozen items, as `frozen_times` has them, given these items along the order and scenarios that show what
+/// can be active. The scenarios go along the order together, as far as the last frozen item, and each frozen item is found at
+/// its place.
+fn sweep(
+    alloc: Global,
+    admitted: &Admitted,
+    order: &Order,
+    plan: &Plan,
+    scenarios: &[Scenario],
+    items: &[u32],
+) -> Result<Frozen, OutOfMemory>
+    requires topological { IsTopological admitted.now.graph order.now }
+    requires plan { plan.now ≡ plan_of admitted.now.graph }
+    requires scenarios { AreExamples admitted.now.graph scenarios.now }
+    requires items { items.now ≡ frozen_along admitted.now.graph order.now }
+    ensures frozen { IfOk result (λ frozen. AreFrozenTimes admitted.now.graph order.now frozen) }
+    ensures early { IfOk result (λ frozen. AreEarly frozen) }
+{
+    let problem = admitted.problem();
+    let mut frozen = Frozen::none(alloc, problem)?;
+    let mut found = beginnings(alloc, problem, scenarios)?;
+    let mut place = 0;
+    for item in items {
+        let next = order.place(problem.producer(*item));
+        advance(
+            alloc, admitted, order, plan, &frozen, scenarios, &mut found, place, next,
+        )?;
+        settle(
+            alloc,
+            admitted,
+            order,
+            plan,
+            &mut frozen,
+            scenarios,
+            found.as_slice(),
+            next,
+            *item,
+        )?;
+        place = next;
+    }
+    Ok(frozen)
+}
+
+/// The times of the frozen items under an order, in time units, given all scenarios and what `first_alike` answers for them:
+/// of each item the greatest time that it would have in some scenario if it were not frozen, and none where it is never
+/// active. Where nothing is frozen no scenario is gone over.
+pub fn frozen_times(
+    alloc: Global,
+    admitted: &Admitted,
+    order: &Order,
+    plan: &Plan,
+    scenarios: &[Scenario],
+    firsts: &[usize],
+) -> Result<Frozen, OutOfMemory>
+    requires topological { IsTopological admitted.now.graph order.now }
+    requires plan { plan.now ≡ plan_of admitted.now.graph }
+    requires scenarios { AreScenarios admitted.now.graph scenarios.now }
+    requires firsts { AreFirstAlike admitted.now.graph scenarios.now firsts.now }
+    ensures frozen { IfOk result (λ frozen. AreFrozenTimes admitted.now.graph order.now frozen) }
+    ensures early { IfOk result (λ frozen. AreEarly frozen) }
+{
+    let problem = admitted.problem();
+    let items = frozen_items(alloc, problem, order)?;
+    if items.is_empty() {
+        let frozen = Frozen::none(alloc, problem)?;
+        return Ok(frozen);
+    }
+    let examples = examples(alloc, scenarios, firsts)?;
+    let frozen = sweep(
+        alloc,
+        admitted,
+        order,
+        plan,
+        examples.as_slice(),
+        items.as_slice(),
+    )?;
+    Ok(frozen)
+}

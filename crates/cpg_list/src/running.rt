@@ -1,0 +1,88 @@
+//! The runs of all scenarios of a graph.
+ghost use Rattle.std.specs.Prelude.{◌≡◌, ◌<◌, All, IfOk, get_or, length};
+ghost use Rattle.cpg_base.specs.Graph.{item_count};
+ghost use Rattle.cpg_base.specs.Scenario.{Scenario, IsScenario};
+ghost use Rattle.cpg_order.specs.Urgency.{IsTopological};
+ghost use Rattle.cpg_run.specs.Known.{AreEarly};
+ghost use Rattle.cpg_bus.specs.Plan.{plan_of};
+ghost use Rattle.cpg_run.specs.Run.{IsRun};
+ghost use Rattle.cpg_list.specs.Active.{HaveSameRuns};
+ghost use Rattle.cpg_list.specs.FirstAlike.{scenario_at, AreFirstAlike};
+ghost use Rattle.cpg_list.specs.Runs.{AreFirstRuns, AreRuns};
+
+use cpg_base::{OutOfMemory, Scenario};
+use cpg_order::Order;
+use cpg_rules::Admitted;
+use cpg_run::{Frozen, RunTimes};
+use cpg_bus::Plan;
+use cpg_run::run_by;
+use std::alloc::Global;
+
+/// The run of the scenario at a place of a list, given the place of one that has the same runs: if that stands before it,
+/// its run is known.
+fn run_at(
+    alloc: Global,
+    admitted: &Admitted,
+    order: &Order,
+    plan: &Plan,
+    frozen: &Frozen,
+    scenarios: &[Scenario],
+    runs: &[RunTimes],
+    first: usize,
+    at: usize,
+) -> Result<RunTimes, OutOfMemory>
+    requires topological { IsTopological admitted.now.graph order.now }
+    requires plan { plan.now ≡ plan_of admitted.now.graph }
+    requires frozen { length frozen.now ≡ item_count admitted.now.graph }
+    requires early { AreEarly frozen.now }
+    requires scenarios { All (IsScenario admitted.now.graph) scenarios.now }
+    requires at { at < length scenarios.now }
+    requires runs { AreFirstRuns admitted.now.graph order.now frozen.now at scenarios.now runs.now }
+    requires first { HaveSameRuns admitted.now.graph (scenario_at admitted.now.graph scenarios.now first) (scenario_at admitted.now.graph scenarios.now at) }
+    ensures { IfOk result (λ times. (s : Scenario) → IsRun admitted.now.graph order.now frozen.now (get_or scenarios.now at s) times) }
+{
+    if first < at {
+        let run = runs[first].copy()?;
+        return Ok(run);
+    }
+    let run = run_by(alloc, admitted, order, plan, frozen, &scenarios[at])?;
+    Ok(run)
+}
+
+/// The run of each scenario of a list, in its order, given what `first_alike` answers for the list. Scenarios with the same
+/// active numbers have one run, which is found once.
+pub fn runs(
+    alloc: Global,
+    admitted: &Admitted,
+    order: &Order,
+    plan: &Plan,
+    frozen: &Frozen,
+    scenarios: &[Scenario],
+    firsts: &[usize],
+) -> Result<Vec<RunTimes>, OutOfMemory>
+    requires topological { IsTopological admitted.now.graph order.now }
+    requires plan { plan.now ≡ plan_of admitted.now.graph }
+    requires frozen { length frozen.now ≡ item_count admitted.now.graph }
+    requires early { AreEarly frozen.now }
+    requires scenarios { All (IsScenario admitted.now.graph) scenarios.now }
+    requires firsts { AreFirstAlike admitted.now.graph scenarios.now firsts.now }
+    ensures { IfOk result (λ runs. AreRuns admitted.now.graph order.now frozen.now scenarios.now runs.items) }
+{
+    let mut runs = Vec::new(alloc);
+    runs.reserve(scenarios.len())?;
+    for at in 0..scenarios.len() {
+        let times = run_at(
+            alloc,
+            admitted,
+            order,
+            plan,
+            frozen,
+            scenarios,
+            runs.as_slice(),
+            firsts[at],
+            at,
+        )?;
+        runs.push(times)?;
+    }
+    Ok(runs)
+}

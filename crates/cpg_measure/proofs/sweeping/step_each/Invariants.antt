@@ -1,5 +1,0 @@
-use Rattle.cpg_measure.proofs.Swept.{AreStepped}
-use Rattle.cpg_measure.proofs.sweeping.step_each.Given as goal
-
-abbrev pub invariant-loop-at : goal.invariant-loop-at
-invariant-loop-at l = AreStepped l.admitted.graph l.order l.frozen l.place l.at l.scenarios l.found.items

@@ -1,9 +1,0 @@
-pub mod Listing
-pub mod Latest
-pub mod FrozenItems
-pub mod Runs
-pub mod Sweep
-pub mod Active
-pub mod Placed
-pub mod FirstAlike
-pub mod Peaks

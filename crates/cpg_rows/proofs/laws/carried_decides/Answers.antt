@@ -1,6 +1,0 @@
--- What is carried decides the time.
-use Rattle.cpg_rows.proofs.laws.carried_decides.Goals as goal
-use Rattle.cpg_rows.proofs.SameSends.{carried_decides as law}
-
-pub returns : goal.returns
-returns c = law

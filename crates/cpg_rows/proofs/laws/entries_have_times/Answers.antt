@@ -1,6 +1,0 @@
--- Entries have the times of the runs.
-use Rattle.cpg_rows.proofs.laws.entries_have_times.Goals as goal
-use Rattle.cpg_rows.proofs.EntriesMerge.{entries_have_times as law}
-
-pub returns : goal.returns
-returns c = law

@@ -1,6 +1,0 @@
--- Rows have the times of the runs.
-use Rattle.cpg_rows.proofs.laws.rows_have_times.Goals as goal
-use Rattle.cpg_rows.proofs.RowsTimed.{rows_have_times as law}
-
-pub returns : goal.returns
-returns c = law

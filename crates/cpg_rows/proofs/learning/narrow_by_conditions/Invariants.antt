@@ -1,8 +1,0 @@
-use Rattle.std.proofs.Common.{flat_map, take}
-use Rattle.cpg_rows.specs.Learning.{heard_of}
-use Rattle.cpg_rows.specs.Made.{columns_of_rows}
-use Rattle.cpg_rows.specs.Narrowing.{IsNarrowed}
-use Rattle.cpg_rows.proofs.learning.narrow_by_conditions.Given as goal
-
-abbrev pub invariant-loop-condition : goal.invariant-loop-condition
-invariant-loop-condition l = IsNarrowed l.problem.faults (flat_map (heard_of l.problem (columns_of_rows l.rows) l.scenario l.node) (take l.condition-index l.conditions)) l.fn.cube l.cube

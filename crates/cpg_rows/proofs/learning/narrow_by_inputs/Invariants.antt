@@ -1,8 +1,0 @@
-use Rattle.std.proofs.Common.{flat_map, take}
-use Rattle.cpg_rows.specs.Learning.{received_by}
-use Rattle.cpg_rows.specs.Made.{columns_of_rows}
-use Rattle.cpg_rows.specs.Narrowing.{IsNarrowed}
-use Rattle.cpg_rows.proofs.learning.narrow_by_inputs.Given as goal
-
-abbrev pub invariant-loop-edge : goal.invariant-loop-edge
-invariant-loop-edge l = IsNarrowed l.problem.faults (flat_map (received_by l.problem (columns_of_rows l.rows) l.scenario) (take l.edge-index l.edges)) l.fn.cube l.cube

@@ -1,5 +1,0 @@
-use Rattle.std.proofs.Common.{length}
-use Rattle.cpg_rows.proofs.least.+from_variable.Given as goal
-
-abbrev pub decreases-from_variable : goal.decreases-from_variable
-decreases-from_variable l = length l.literals.now

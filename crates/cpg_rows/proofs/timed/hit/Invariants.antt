@@ -1,5 +1,0 @@
-use Rattle.cpg_rows.proofs.CodeTimes.{ArePassed}
-use Rattle.cpg_rows.proofs.timed.hit.Given as goal
-
-abbrev pub invariant-loop-at : goal.invariant-loop-at
-invariant-loop-at l = ArePassed l.columns l.by_time l.time l.scenario l.first l.at

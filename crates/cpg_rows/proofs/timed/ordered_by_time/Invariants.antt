@@ -1,5 +1,0 @@
-use Rattle.cpg_rows.proofs.CodeTimes.{AreTimes}
-use Rattle.cpg_rows.proofs.timed.ordered_by_time.Given as goal
-
-abbrev pub invariant-loop-place : goal.invariant-loop-place
-invariant-loop-place l = AreTimes l.columns l.place l.by_time.items

@@ -1,0 +1,83 @@
+-- What is found before a place rests only on the frozen times of items of earlier places.
+use Rattle.std.proofs.Common.{◌≡◌, ◌∙◌, ℕ, ◌+◌, ◌*◌, ◌<◌, ◌≤◌, ◌==◌, true, if◌then◌else◌, List, get_or, Option, None, unwrap_or, arith, sym, ap, ap₂, inl, inr, subst, mul-le-mul_right}
+use Rattle.std.proofs.lemmas.Bool.{cases_lt}
+use Rattle.cpg_base.specs.Graph.{Graph, process_count, condition_count, item_count, item_at, broadcast_item, producer, process_of, node_of, home}
+use Rattle.cpg_base.specs.Bus.{round, slot_length}
+use Rattle.cpg_base.proofs.Items.{process_of_below, item_at-broadcast}
+use Rattle.cpg_order.specs.Urgency.{IsTopological, place}
+use Rattle.cpg_order.specs.Scenario.{Scenario}
+use Rattle.cpg_order.specs.Deciding.{decides}
+use Rattle.cpg_order.proofs.DecidingLaws.{decides_earlier}
+use Rattle.cpg_order.proofs.Moments.{phase, phases, phase_below, moment, moment_of_item, moment_of_end, sooner}
+use Rattle.cpg_run.specs.Run.{Times, end_in, heard_there}
+use Rattle.cpg_run.proofs.RunExists.{a_run}
+use Rattle.cpg_run.proofs.RunUnique.{AgreeBefore, agree_before}
+use Rattle.cpg_run.specs.Progress.{IsSentBefore, IsFree, IsReady, Knows, IsAt, ProgressState, IsAlong, free_after}
+
+-- over plain numbers: what is before the beginning of a place is at an earlier one
+earlier_place : (a i f m : ℕ) → a * m + f < i * m → a < i
+earlier_place a i f m h = elim (cases_lt a i) [ inl l ↦ l | inr l ↦ absurd (let k = mul-le-mul_right m l in omega arith) ]
+
+module _ (g : Graph) (order : List ℕ) (topological : IsTopological g order) where
+  -- two runs of a scenario that agree before a place
+  module _ (s : Scenario) (t u : Times) (i : ℕ) (a : AgreeBefore g order t u (i * phases g)) where
+    item_before : (x : ℕ) → x < item_count g → place order (producer g x) < i → moment g order x < i * phases g
+    item_before x h l = sooner (place order (producer g x)) i (phase (item_at g x)) (phases g) l (phase_below g x h)
+
+    end_before : (p : ℕ) → place order p < i → moment_of_end g order p < i * phases g
+    end_before p l = sooner (place order p) i 1 (phases g) l (omega arith)
+
+    broadcast_before : (c : ℕ) → place order (process_of g c) < i → moment g order (broadcast_item g c) < i * phases g
+    broadcast_before c l = subst (λ x. moment_of_item g order x < i * phases g) (sym (item_at-broadcast g c)) (sooner (place order (process_of g c)) i 2 (phases g) l (omega arith))
+
+    end_same : (p : ℕ) → p < process_count g → place order p < i → end_in t p ≡ end_in u p
+    end_same p h l = ap (λ o. unwrap_or o 0) (a.ends p h (end_before p l))
+
+    heard_same : (node q c : ℕ) → place order q < i → c < condition_count g → decides g s.values q c ≡ true → heard_there g t node c ≡ heard_there g u node c
+    heard_same node q c l k d =
+        let up : place order (process_of g c) < i = omega (arith, decides_earlier g order topological s.values q c k d) in
+        ap₂ (λ v w. if node_of g (process_of g c) == node then v else w)
+        (end_same (process_of g c) (process_of_below g c k) up)
+        (ap (λ o. unwrap_or o 0 + slot_length g (home g (broadcast_item g c))) (a.items (broadcast_item g c) (omega arith) (broadcast_before c up)))
+
+    after_same : (node y : ℕ) → IsSentBefore g order s node i y → free_after g t y ≡ free_after g u y
+    after_same node y b = ap (λ o. unwrap_or o 0 + round g) (a.items y b.0.within (item_before y b.0.within b.1))
+
+    knows_same : (known : Times) → Knows g order t i known → Knows g order u i known
+    knows_same known k = record {
+      times = λ x h l. k.times x h l ∙ a.items x h (item_before x h l);
+      later = k.later;
+      ends = λ p h l. k.ends p h l ∙ a.ends p h (end_before p l);
+      no_ends = k.no_ends;
+    }
+
+    ready_same : (node v : ℕ) → IsReady g order s t i node v → IsReady g order s u i node v
+    ready_same node v r = record {
+      ends = λ q h l on acts. subst (λ n. n ≤ v) (end_same q h l) (r.ends q h l on acts);
+      heard = λ q c h l on k d. subst (λ n. n ≤ v) (heard_same node q c l k d) (r.heard q c h l on k d);
+      least = λ b x y. r.least b (λ q h l on acts. subst (λ n. n ≤ b) (sym (end_same q h l)) (x q h l on acts)) (λ q c h l on k d. subst (λ n. n ≤ b) (sym (heard_same node q c l k d)) (y q c h l on k d));
+    }
+
+    free_same : (node v : ℕ) → IsFree g order s t i node v → IsFree g order s u i node v
+    free_same node v f = record {
+      above = λ y b. subst (λ n. n ≤ v) (after_same node y b) (f.above y b);
+      least = λ b h. f.least b (λ y k. subst (λ n. n ≤ b) (sym (after_same node y k)) (h y k));
+    }
+
+    at_same : (known : Times) (ready free : List ℕ) → IsAt g order s t i known ready free → IsAt g order s u i known ready free
+    at_same known ready free at = record {
+      knows = knows_same known at.knows;
+      nodes_ready = λ node l. ready_same node (get_or ready node 0) (at.nodes_ready node l);
+      slots_free = λ node l. free_same node (get_or free node 0) (at.slots_free node l);
+    }
+
+  pub along_same : (frozen others : List (Option ℕ)) (s : Scenario) (i : ℕ) (p : ProgressState)
+      → ((x : ℕ) → x < item_count g → place order (producer g x) < i → get_or frozen x None ≡ get_or others x None) → IsAlong g order frozen s i p → IsAlong g order others s i p
+  along_same frozen others s i p same along = record {
+    places = along.places;
+    at = λ u run.
+        let r = a_run g order frozen s topological in
+        at_same s r.0 u i (agree_before g order topological s r.0 u frozen others r.1 run (i * phases g)
+        (λ x h l. same x h (earlier_place (place order (producer g x)) i (phase (item_at g x)) (phases g) l)))
+        p.known p.ready p.free (along.at r.0 r.1);
+  }

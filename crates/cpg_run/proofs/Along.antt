@@ -1,0 +1,35 @@
+-- After the last place all is known.
+use Rattle.std.proofs.Common.{◌≡◌, ◌∙◌, ℕ, List, length, flat_map, Option, None, option_to_list, arith, sym, ap, subst}
+use Rattle.std.proofs.lemmas.List.{ext_get_or}
+use Rattle.std.proofs.lemmas.List.FromFn.{length-map-range_with_len}
+use Rattle.cpg_base.specs.Numbers.{greatest}
+use Rattle.cpg_base.specs.Graph.{Graph, process_count, item_count, producer}
+use Rattle.cpg_order.specs.Urgency.{IsTopological}
+use Rattle.cpg_order.specs.Scenario.{Scenario}
+use Rattle.cpg_order.proofs.Moments.{producer_in_range}
+use Rattle.cpg_order.proofs.Places.{place_in_order}
+use Rattle.cpg_run.specs.Run.{Times, IsRun, time_by, end_by}
+use Rattle.cpg_run.proofs.RunExists.{a_run}
+use Rattle.cpg_run.specs.Progress.{Knows}
+
+module _ (g : Graph) (order : List ℕ) where
+  module _ (topological : IsTopological g order) (frozen : List (Option ℕ)) (s : Scenario) where
+    same_times : (known t : Times) (finish : ℕ) → known.times ≡ t.times → known.ends ≡ t.ends → finish ≡ t.finish → t ≡ record known { finish = finish }
+    same_times known t finish times ends same = λ j. record { times = sym times j; ends = sym ends j; finish = sym same j }
+
+    -- a list with the time of each item and the end of each process is the run
+    pub at_last : (known : Times) → length known.times ≡ item_count g → length known.ends ≡ process_count g
+        → ((t : Times) → IsRun g order frozen s t → Knows g order t (process_count g) known)
+        → IsRun g order frozen s (record known { finish = greatest (flat_map option_to_list known.ends) })
+    at_last known items processes knows =
+        let r = a_run g order frozen s topological in
+        let t = r.0 in
+        let run : IsRun g order frozen s t = r.1 in
+        let k = knows t run in
+        let times : known.times ≡ t.times = ext_get_or None known.times t.times
+        (items ∙ sym (ap length run.times ∙ length-map-range_with_len (time_by g order frozen s t) 0 (item_count g)))
+        (λ x l. k.times x (omega arith) (place_in_order (process_count g) order topological.all (producer g x) (let b = producer_in_range g order topological x (omega arith) in omega arith))) in
+        let ends : known.ends ≡ t.ends = ext_get_or None known.ends t.ends
+        (processes ∙ sym (ap length run.ends ∙ length-map-range_with_len (end_by g s t) 0 (process_count g)))
+        (λ p l. k.ends p (omega arith) (place_in_order (process_count g) order topological.all p (omega arith))) in
+        subst (IsRun g order frozen s) (same_times known t (greatest (flat_map option_to_list known.ends)) times ends (ap (λ es. greatest (flat_map option_to_list es)) ends ∙ sym run.finish)) run

@@ -1,0 +1,133 @@
+-- How frozen times are found one after another along an order.
+use Rattle.std.proofs.Common.{◌≡◌, ◌≢◌, ◌∙◌, ℕ, ◌+◌, ◌<◌, ◌≤◌, true, List, length, get_or, Contains, Option, None, arith, sym, ap, subst, inl, inr}
+use Rattle.std.proofs.lemmas.Bool.{cases_eq, cases_lt, both_ways}
+use Rattle.std.proofs.lemmas.List.{get_or-replicate, length-replicate, get_or_past, get_or_default}
+use Rattle.std.proofs.lemmas.List.Elements.{Contains-get_or}
+use Rattle.std.proofs.lemmas.Option.{none-some}
+use Rattle.cpg_base.specs.Graph.{Graph, item_count, is_frozen}
+use Rattle.cpg_base.specs.Limits.{IsWithinLimits}
+use Rattle.cpg_order.specs.Urgency.{IsTopological}
+use Rattle.cpg_order.proofs.Moments.{moment}
+use Rattle.cpg_run.specs.Frozen.{WouldHave, IsFrozenTime, AreFrozenTimes, nothing_frozen}
+use Rattle.cpg_run.proofs.RunUnique.{agree_before, unfrozen_same}
+use Rattle.cpg_run.proofs.RunExists.{the_run, run_exists}
+use Rattle.cpg_run.specs.Known.{AreEarly}
+use Rattle.cpg_run.specs.FrozenItems.{frozen_along}
+use Rattle.cpg_run.specs.Latest.{IsUnfrozenTime}
+use Rattle.cpg_run.proofs.EarlyTimes.{bound, AreLow, unfrozen_low, early_from_low}
+use Rattle.cpg_run.proofs.FrozenOrder.{later_moment, frozen_listed, lists_frozen}
+
+none_frozen : (g : Graph) (x : ℕ) → get_or (nothing_frozen g) x None ≡ None
+none_frozen g x = elim (cases_lt x (item_count g)) [
+  | inl l ↦ get_or-replicate (item_count g) x None None l
+  | inr l ↦ get_or_past (nothing_frozen g) x None (omega (arith, length-replicate {A = Option ℕ} (item_count g) None))
+]
+
+-- of the frozen items along an order the first n have their times, and no other item has one
+pub record AreSettled (g : Graph) (order items : List ℕ) (n : ℕ) (frozen : List (Option ℕ)) : Type 0 where
+  pub all : items ≡ frozen_along g order
+  pub count : length frozen ≡ item_count g
+  pub each : (i : ℕ) → i < n → IsFrozenTime g order frozen (get_or items i 0)
+  pub others : (x : ℕ) → ((i : ℕ) → i < n → get_or items i 0 ≢ x) → get_or frozen x None ≡ None
+  pub low : AreLow g order frozen
+
+module _ (g : Graph) (order : List ℕ) (topological : IsTopological g order) where
+  -- two lists of frozen times agree before an item
+  abbrev SameBefore : List (Option ℕ) → List (Option ℕ) → ℕ → Type 0
+  SameBefore frozen others x = (y : ℕ) → y < item_count g → moment g order y < moment g order x → get_or frozen y None ≡ get_or others y None
+
+  -- what an item would have rests on the frozen times before it
+  would_have_same : (frozen others : List (Option ℕ)) (x time : ℕ) → x < item_count g → SameBefore frozen others x → WouldHave g order frozen x time → WouldHave g order others x time
+  would_have_same frozen others x time h same w =
+      let other = the_run g order others w.scenario topological in
+      let run = run_exists g order others w.scenario topological in
+      record {
+        scenario = w.scenario;
+        lawful = w.lawful;
+        times = other;
+        run = run;
+        active = w.active;
+        has = sym (unfrozen_same g order topological w.scenario w.times other x (agree_before g order topological w.scenario w.times other frozen others w.run run (moment g order x) same) h) ∙ w.has;
+      }
+
+  -- so a frozen time stays one when what is set is not before it
+  frozen_time_kept : (frozen others : List (Option ℕ)) (x : ℕ) → x < item_count g → SameBefore frozen others x → get_or frozen x None ≡ get_or others x None → IsFrozenTime g order frozen x → IsFrozenTime g order others x
+  frozen_time_kept frozen others x h same here f = record {
+    reached = λ time e. would_have_same frozen others x time h same (f.reached time (here ∙ e));
+    greatest = λ time other e w. f.greatest time other (here ∙ e) (would_have_same others frozen x other h (λ y i l. sym (same y i l)) w);
+    none = λ e time w. f.none (here ∙ e) time (would_have_same others frozen x time h (λ y i l. sym (same y i l)) w);
+  }
+
+  -- and what an item would have is its frozen time once it is set
+  frozen_time_set : (frozen others : List (Option ℕ)) (x : ℕ) → x < item_count g → SameBefore frozen others x → IsUnfrozenTime g order frozen x (get_or others x None) → IsFrozenTime g order others x
+  frozen_time_set frozen others x h same f = record {
+    reached = λ time e. would_have_same frozen others x time h same (f.reached time e);
+    greatest = λ time other e w. f.greatest time other e (would_have_same others frozen x other h (λ y i l. sym (same y i l)) w);
+    none = λ e time w. f.none e time (would_have_same others frozen x time h (λ y i l. sym (same y i l)) w);
+  }
+
+  module _ (items : List ℕ) where
+    pub settled_first : (frozen : List (Option ℕ)) (h : Graph) → items ≡ frozen_along g order → frozen ≡ nothing_frozen h → h ≡ g → AreSettled g order items 0 frozen
+    settled_first frozen h all is same = record {
+      all = all;
+      count = ap length is ∙ length-replicate {A = Option ℕ} (item_count h) None ∙ ap item_count same;
+      each = λ i l. absurd (omega arith);
+      others = λ x no. none x;
+      low = record { low = λ x time l e. absurd (none-some time (sym (none x) ∙ e)) };
+    }
+      where
+        none : (x : ℕ) → get_or frozen x None ≡ None
+        none x = ap (λ f. get_or f x None) is ∙ none_frozen h x
+
+    module _ (n : ℕ) (frozen : List (Option ℕ)) (a : AreSettled g order items n frozen) where
+      pub item_frozen : (i : ℕ) → i < length items → (get_or items i 0 < item_count g) × (is_frozen g (get_or items i 0) ≡ true)
+      item_frozen i l = frozen_listed g order topological (get_or items i 0) (subst (λ xs. Contains xs (get_or items i 0)) a.all (Contains-get_or items i 0 l))
+
+      pub next_within : n < length items → get_or items n 0 < item_count g
+      next_within l = (item_frozen n l).0
+
+      -- the next item has no time yet
+      pub next_unset : n < length items → get_or frozen (get_or items n 0) None ≡ None
+      next_unset l = a.others (get_or items n 0) (λ i k e. omega (arith, ap (moment g order) e, later_moment g order topological items a.all i n k l))
+
+      pub settled_early : IsWithinLimits g → AreEarly frozen
+      settled_early within = early_from_low g order frozen within topological a.count a.low
+
+      pub settled_more : IsWithinLimits g → n < length items → (more : List (Option ℕ)) → IsUnfrozenTime g order frozen (get_or items n 0) (get_or more (get_or items n 0) None)
+          → ((y : ℕ) → y ≢ get_or items n 0 → get_or more y None ≡ get_or frozen y None) → length more ≡ length frozen → AreSettled g order items (n + 1) more
+      settled_more within l more is same count =
+          let x = get_or items n 0 in
+          let h = next_within l in
+          record {
+            all = a.all;
+            count = count ∙ a.count;
+            each = λ i k. elim (cases_eq i n) [
+              | inl at ↦ subst (λ j. IsFrozenTime g order more (get_or items j 0)) (sym at)
+                  (frozen_time_set frozen more x h (λ y w m. sym (same y (λ e. omega (arith, ap (moment g order) e)))) is)
+              | inr apart ↦
+                  let sooner = later_moment g order topological items a.all i n (omega arith) l in
+                  frozen_time_kept frozen more (get_or items i 0) (item_frozen i (omega arith)).0
+                  (λ y w m. sym (same y (λ e. omega (arith, ap (moment g order) e))))
+                  (sym (same (get_or items i 0) (λ e. omega (arith, ap (moment g order) e))))
+                  (a.each i (omega arith))
+            ];
+            others = λ y no. same y (λ e. no n (omega arith) (sym e)) ∙ a.others y (λ i k. no i (omega arith));
+            low = record {
+              low = λ y time w e. elim (cases_eq y x) [
+                | inl at ↦
+                    let r = is.reached time (ap (λ z. get_or more z None) (sym at) ∙ e) in
+                    subst (λ z. time ≤ bound (moment g order z) + 32000000000) (sym at)
+                    (omega (arith, r.has, unfrozen_low g order frozen r.scenario r.times within topological r.lawful a.low r.run x h))
+                | inr apart ↦ a.low.low y time w (sym (same y apart) ∙ e)
+              ];
+            };
+          }
+
+      pub settled_all : n ≡ length items → AreFrozenTimes g order frozen
+      settled_all e = record {
+        count = a.count;
+        each = λ x h f.
+            let c = subst (λ xs. Contains xs x) (sym a.all) (lists_frozen g order topological x h f) in
+            subst (IsFrozenTime g order frozen) (get_or_default items c.0 0 x c.1 ∙ c.2) (a.each c.0 (omega (arith, c.1)));
+        others = λ x f. a.others x (λ i k is. both_ways (is_frozen g x) f (ap (is_frozen g) (sym is) ∙ (item_frozen i (omega arith)).1));
+      }

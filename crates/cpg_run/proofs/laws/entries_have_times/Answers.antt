@@ -1,0 +1,6 @@
+-- Entries have the times of the runs.
+use Rattle.cpg_run.proofs.laws.entries_have_times.Goals as goal
+use Rattle.cpg_run.proofs.EntriesMerge.{entries_have_times as law}
+
+pub returns : goal.returns
+returns c = law

@@ -1,0 +1,95 @@
+-- The laws of rows: what is carried beside a time decides it, so entries, their rows and tables of these have the times of the runs.
+use Rattle.std.specs.Prelude.{ℕ, ◌≡◌, ◌≢◌, ◌<◌, false, List, [], Option, None, get_or, option_to_list, All, IsTrue}
+use Rattle.cpg_base.specs.Graph.{Graph, item_count, item_at, producer}
+use Rattle.cpg_base.specs.Activity.{item_active}
+use Rattle.cpg_order.specs.Urgency.{place, IsTopological}
+use Rattle.cpg_order.specs.Reach.{Reach, IsReach}
+use Rattle.cpg_order.specs.Scenario.{Scenario, IsScenario}
+use Rattle.cpg_cube.specs.Cube.{matches}
+use Rattle.cpg_cube.specs.Fit.{IsCube}
+use Rattle.cpg_table.specs.Merged.{AreMergeable}
+use Rattle.cpg_table.specs.Table.{Column, NodeTable, columns_of, times_in}
+use Rattle.cpg_run.specs.Alike.{Admitted}
+use Rattle.cpg_run.specs.Exact.{IsExact}
+use Rattle.cpg_run.specs.Frozen.{AreFrozenTimes}
+use Rattle.cpg_run.specs.Laws.{Keeps, NothingIsLate}
+use Rattle.cpg_run.specs.Run.{Times, IsRun}
+use Rattle.cpg_run.specs.Supported.{Supported}
+use Rattle.cpg_run.specs.Carried.{row_at, carried}
+use Rattle.cpg_run.specs.Rows.{AreEntriesOf, AreRows}
+
+-- an admitted graph, its urgency order, an order of its processes, and its frozen times
+pub record IsTimed (g : Graph) (urgency order : List ℕ) (frozen : List (Option ℕ)) : Type 0 where
+  pub admitted : Admitted g urgency order
+  pub frozen_times : AreFrozenTimes g order frozen
+
+-- in every scenario the columns have the one time of an item in the run, and none where it is inactive
+abbrev pub HaveTimesOf : Graph → List ℕ → List (Option ℕ) → ℕ → List Column → Type 0
+HaveTimesOf g order frozen x columns = (s : Scenario) (t : Times) → IsScenario g s → IsRun g order frozen s t → times_in columns s ≡ option_to_list (get_or t.times x None)
+
+-- an item from a process that has an earlier place than this
+abbrev pub IsEarlier : Graph → List ℕ → ℕ → ℕ → Type 0
+IsEarlier g order bound y = (y < item_count g) × (place order (producer g y) < bound)
+
+-- two lists of rows have the same rows of the items from processes at earlier places
+abbrev pub SameRowsBefore : Graph → List ℕ → ℕ → List (List Column) → List (List Column) → Type 0
+SameRowsBefore g order bound rows others = (y : ℕ) → IsEarlier g order bound y → row_at rows y ≡ row_at others y
+
+-- the rows of those items have cubes of the graph, and the times of the runs
+pub record AreRowsBefore (g : Graph) (order : List ℕ) (frozen : List (Option ℕ)) (bound : ℕ) (rows : List (List Column)) : Type 0 where
+  pub cubes : (y : ℕ) → IsEarlier g order bound y → All (λ c. IsCube g c.cube) (row_at rows y)
+  pub times : (y : ℕ) → IsEarlier g order bound y → HaveTimesOf g order frozen y (row_at rows y)
+
+-- the rows of the items from processes before an item's
+abbrev pub AreRowsFor : Graph → List ℕ → List (Option ℕ) → ℕ → List (List Column) → Type 0
+AreRowsFor g order frozen x rows = AreRowsBefore g order frozen (place order (producer g x)) rows
+
+-- an item is active in another scenario too, with the same time, and the same is carried there
+pub record IsSameIn (g : Graph) (order : List ℕ) (frozen : List (Option ℕ)) (rows : List (List Column)) (x : ℕ) (s u : Scenario) : Type 0 where
+  pub active : IsTrue (item_active g u.values (item_at g x))
+  pub time : (t w : Times) → IsRun g order frozen s t → IsRun g order frozen u w → get_or t.times x None ≡ get_or w.times x None
+  pub carried : carried g order rows u x ≡ carried g order rows s x
+
+-- what is carried beside a time is found in the rows of earlier processes alone
+abbrev pub CarriedRestsOnEarlier : Type 0
+CarriedRestsOnEarlier = (g : Graph) (order : List ℕ) (rows others : List (List Column)) (s : Scenario) (x : ℕ) → IsTopological g order →
+    x < item_count g → SameRowsBefore g order (place order (producer g x)) rows others → carried g order rows s x ≡ carried g order others s x
+
+-- it decides the time: where it holds in another scenario, the item is the same there
+abbrev pub CarriedDecides : Type 0
+CarriedDecides = (g : Graph) (urgency order : List ℕ) (frozen : List (Option ℕ)) (rows : List (List Column)) (s u : Scenario) (x : ℕ) → IsTimed g urgency order frozen →
+    x < item_count g → AreRowsFor g order frozen x rows → IsScenario g s → IsScenario g u →
+    IsTrue (item_active g s.values (item_at g x)) → IsTrue (matches (carried g order rows s x) u) → IsSameIn g order frozen rows x s u
+
+-- entries can be merged, and have the times of the runs
+abbrev pub EntriesHaveTimes : Type 0
+EntriesHaveTimes = (g : Graph) (urgency order : List ℕ) (frozen : List (Option ℕ)) (rows : List (List Column)) (x : ℕ) (entries : List Column) → IsTimed g urgency order frozen →
+    x < item_count g → AreRowsFor g order frozen x rows → AreEntriesOf g order frozen rows x entries → AreMergeable g entries × HaveTimesOf g order frozen x entries
+
+-- rows have the times of the runs, and an item that is never active has no column
+abbrev pub RowsHaveTimes : Type 0
+RowsHaveTimes = (g : Graph) (urgency order : List ℕ) (frozen : List (Option ℕ)) (rows : List (List Column)) → IsTimed g urgency order frozen → AreRows g urgency order frozen rows → (x : ℕ) →
+    HaveTimesOf g order frozen x (row_at rows x)
+    × (((s : Scenario) → IsScenario g s → item_active g s.values (item_at g x) ≡ false) → row_at rows x ≡ [])
+
+-- tables that have the rows as their columns
+pub record AreTablesOfRows (g : Graph) (urgency order : List ℕ) (frozen : List (Option ℕ)) (rows : List (List Column)) (tables : List NodeTable) : Type 0 where
+  pub timed : IsTimed g urgency order frozen
+  pub found : AreRows g urgency order frozen rows
+  pub columns : (x : ℕ) → columns_of tables x ≡ row_at rows x
+
+-- such tables are supported
+abbrev pub RowTablesAreSupported : Type 0
+RowTablesAreSupported = (g : Graph) (urgency order : List ℕ) (frozen : List (Option ℕ)) (rows : List (List Column)) (tables : List NodeTable) →
+    AreTablesOfRows g urgency order frozen rows tables → Supported g order tables
+
+-- they are exact
+abbrev pub RowTablesAreExact : Type 0
+RowTablesAreExact = (g : Graph) (urgency order : List ℕ) (frozen : List (Option ℕ)) (rows : List (List Column)) (tables : List NodeTable) (r : Reach) →
+    AreTablesOfRows g urgency order frozen rows tables → IsReach g order r → IsExact g urgency order frozen r tables
+
+-- and keep every rule, but for the one on dues where an end is past its due
+abbrev pub RowTablesKeepRules : Type 0
+RowTablesKeepRules = (g : Graph) (urgency order : List ℕ) (frozen : List (Option ℕ)) (rows : List (List Column)) (tables : List NodeTable) →
+    AreTablesOfRows g urgency order frozen rows tables →
+    ((rule : ℕ) → rule ≢ 9 → Keeps rule g tables) × (NothingIsLate g order frozen → Keeps 9 g tables)

@@ -1,0 +1,60 @@
+//! The run of one scenario.
+ghost use Rattle.std.specs.Prelude.{◌≡◌, IfOk, length};
+ghost use Rattle.cpg_base.specs.Graph.{item_count};
+ghost use Rattle.cpg_base.specs.Scenario.{IsScenario};
+ghost use Rattle.cpg_order.specs.Urgency.{IsTopological};
+ghost use Rattle.cpg_run.specs.Run.{IsRun};
+ghost use Rattle.cpg_run.specs.Known.{AreEarly};
+ghost use Rattle.cpg_bus.specs.Plan.{plan_of};
+
+use crate::Progress;
+use cpg_bus::Plan;
+use cpg_base::{OutOfMemory, Scenario};
+use cpg_order::Order;
+use cpg_rules::Admitted;
+use crate::{Frozen, RunTimes};
+use std::alloc::Global;
+
+/// The run of a scenario, with a plan that is made once for many: the start of each active process, the start of the slot
+/// of each active message and broadcast, and the ends, in time units.
+pub fn run_by(
+    alloc: Global,
+    admitted: &Admitted,
+    order: &Order,
+    plan: &Plan,
+    frozen: &Frozen,
+    scenario: &Scenario,
+) -> Result<RunTimes, OutOfMemory>
+    requires topological { IsTopological admitted.now.graph order.now }
+    requires plan { plan.now ≡ plan_of admitted.now.graph }
+    requires frozen { length frozen.now ≡ item_count admitted.now.graph }
+    requires early { AreEarly frozen.now }
+    requires scenario { IsScenario admitted.now.graph scenario.now }
+    ensures { IfOk result (IsRun admitted.now.graph order.now frozen.now scenario.now) }
+{
+    let mut progress = Progress::none(alloc, admitted.problem())?;
+    for place in 0..admitted.problem().processes().len() as u32 {
+        progress.step(alloc, admitted, order, plan, frozen, scenario, place)?;
+    }
+    Ok(progress.finished())
+}
+
+/// The run of a scenario: the start of each active process, the start of the slot of each active message and broadcast,
+/// and the ends, in time units.
+pub fn run(
+    alloc: Global,
+    admitted: &Admitted,
+    order: &Order,
+    frozen: &Frozen,
+    scenario: &Scenario,
+) -> Result<RunTimes, OutOfMemory>
+    requires topological { IsTopological admitted.now.graph order.now }
+    requires frozen { length frozen.now ≡ item_count admitted.now.graph }
+    requires early { AreEarly frozen.now }
+    requires scenario { IsScenario admitted.now.graph scenario.now }
+    ensures { IfOk result (IsRun admitted.now.graph order.now frozen.now scenario.now) }
+{
+    let plan = Plan::of(alloc, admitted.problem())?;
+    let times = run_by(alloc, admitted, order, &plan, frozen, scenario)?;
+    Ok(times)
+}

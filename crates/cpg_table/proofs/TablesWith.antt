@@ -1,0 +1,144 @@
+-- The tables of all nodes with given rows.
+use Rattle.std.proofs.Common.{◌≡◌, ℕ, ◌+◌, ◌<◌, ◌≤◌, Bool, true, false, List, [], ◌∷◌, ◌++◌, Some, length, take, drop, map, filter, slice_get, Contains, refl, sym, ap, ap₂, ◌∙◌, subst, arith, inl, inr, ◌⊎◌, true≢false, length-append}
+use Rattle.std.proofs.Math.Seq.{take-append_seam, drop-append_seam, get_or-append_seam}
+use Rattle.std.proofs.lemmas.Bool.{cases_lt, cases_Bool}
+use Rattle.std.proofs.lemmas.List.{length-map, get_or_append_left, get_or_past}
+use Rattle.std.proofs.lemmas.List.Elements.{Contains-append_cases}
+use Rattle.std.proofs.lemmas.Option.{get_or_from_slice_get, slice_get_within}
+use Rattle.cpg_base.specs.Numbers.{numbers_below}
+use Rattle.cpg_base.specs.Graph.{Graph, process_count, item_count, home, is_sent}
+use Rattle.cpg_base.specs.Bus.{slot_length}
+use Rattle.cpg_base.specs.Limits.{IsWithinLimits}
+use Rattle.cpg_base.specs.WellFormed.{WellFormed}
+use Rattle.cpg_base.proofs.Lists.{Contains-map_parts, Contains-first, same_map}
+use Rattle.cpg_table.specs.GraphHead.{head_of}
+use Rattle.cpg_table.specs.Lawful.{Tables, AreTablesOf}
+use Rattle.cpg_table.specs.Shape.{HasShape, items_of}
+use Rattle.cpg_table.specs.Table.{Column, Row, NodeTable, table_at, empty_table, columns_of}
+use Rattle.cpg_table.specs.Valid.{later_by, hear_row, hear_rows}
+use Rattle.cpg_table.proofs.GraphItems.{starts_are, sends_are}
+use Rattle.cpg_table.proofs.GraphTables.{has_shape}
+use Rattle.cpg_table.proofs.Rows.{HasRow, rows_at, row_of, row_columns, has_row, home_within}
+use Rattle.cpg_table.specs.Writing.{row_for, heard_row, AreWritable, AreTablesWith}
+use Rattle.cpg_table.specs.NodeItems.{ItemLists, is_started_on, is_sent_from, items_below, IsTableWith, AreNodeTables}
+use Rattle.cpg_table.proofs.NodeLists.{starts_whole}
+use Rattle.cpg_table.proofs.NodeRows.{no_row, long, item_is, filter_below}
+use Rattle.cpg_table.proofs.Loads.{tables_le}
+
+-- three lists of given lengths, one after another
+module _ {X : Type 0} (a b d x y z : List X) (is : a ++ (b ++ d) ≡ x ++ (y ++ z)) (p : length a ≡ length x) where
+  first_of : a ≡ x
+  first_of = sym (take-append_seam a (b ++ d)) ∙ ap₂ take p is ∙ take-append_seam x (y ++ z)
+
+  rest_of : b ++ d ≡ y ++ z
+  rest_of = sym (drop-append_seam a (b ++ d)) ∙ ap₂ drop p is ∙ drop-append_seam x (y ++ z)
+
+  module _ (q : length b ≡ length y) where
+    second_of : b ≡ y
+    second_of = sym (take-append_seam b d) ∙ ap₂ take q rest_of ∙ take-append_seam y z
+
+    third_of : d ≡ z
+    third_of = sym (drop-append_seam b d) ∙ ap₂ drop q rest_of ∙ drop-append_seam y z
+
+nothing : (cs : List Column) → ((c : Column) → Contains cs c → ⊥) → cs ≡ []
+nothing [] h = refl
+nothing (c ∷ cs) h = absurd (h c (Contains-first c cs))
+
+module _ (g : Graph) (within : IsWithinLimits g) (formed : WellFormed g) (rows : List Row) (w : AreWritable g rows) (tables : List NodeTable) (are : AreNodeTables g rows (length g.nodes) tables) where
+  pub lawful : AreTablesOf (head_of g) tables
+  lawful = record { count = are.long; each = λ node l. (are.each node l).table; few = tables_le g rows tables are w }
+
+  shape : HasShape g tables
+  shape = has_shape g within tables lawful
+
+  abbrev items : ℕ → ItemLists
+  items node = items_below g (item_count g) node
+
+  module _ (node : ℕ) (l : node < length g.nodes) where
+    count_by_items : (row : ℕ → Row) (rs : List Row) (xs : List ℕ) → items_of rs ≡ xs → length rs ≡ length (map row xs)
+    count_by_items row rs xs e = sym (length-map rs (λ (r : Row). r.item)) ∙ ap length e ∙ sym (length-map xs row)
+
+    start_count : length (table_at tables node).starts ≡ length (map (row_for rows) (items node).starts)
+    start_count = count_by_items (row_for rows) (table_at tables node).starts (items node).starts ((are.each node l).table.starts ∙ starts_are g within node ∙ sym (starts_whole g node))
+
+    send_count : length (table_at tables node).sends ≡ length (map (row_for rows) (items node).sends)
+    send_count = count_by_items (row_for rows) (table_at tables node).sends (items node).sends ((are.each node l).table.sends ∙ sends_are g within node)
+
+    pub starts : (table_at tables node).starts ≡ map (row_for rows) (items node).starts
+    starts = first_of (table_at tables node).starts (table_at tables node).sends (table_at tables node).hears (map (row_for rows) (items node).starts) (map (row_for rows) (items node).sends) (map (heard_row g rows) (items node).hears) (are.each node l).stands start_count
+
+    pub sends : (table_at tables node).sends ≡ map (row_for rows) (items node).sends
+    sends = second_of (table_at tables node).starts (table_at tables node).sends (table_at tables node).hears (map (row_for rows) (items node).starts) (map (row_for rows) (items node).sends) (map (heard_row g rows) (items node).hears) (are.each node l).stands start_count send_count
+
+    pub hears : (table_at tables node).hears ≡ map (heard_row g rows) (items node).hears
+    hears = third_of (table_at tables node).starts (table_at tables node).sends (table_at tables node).hears (map (row_for rows) (items node).starts) (map (row_for rows) (items node).sends) (map (heard_row g rows) (items node).hears) (are.each node l).stands start_count send_count
+
+    -- a row of the table is that of its item
+    from_rows : (p : ℕ → Bool) (rs : List Row) (row : Row) → rs ≡ map (row_for rows) (filter p (numbers_below (item_count g))) → Contains rs row → row.columns ≡ (row_for rows row.item).columns
+    from_rows p rs row e k =
+        let m = Contains-map_parts (row_for rows) (filter p (numbers_below (item_count g))) row (subst (λ qs. Contains qs row) e k) in
+        let same : row.item ≡ m.0 = ap (λ (r : Row). r.item) (sym m.2) ∙ item_is g rows w m.0 (filter_below g p m.0 m.1) in
+        ap (λ (r : Row). r.columns) (sym m.2) ∙ ap (λ x. (row_for rows x).columns) (sym same)
+
+    row_is : (row : Row) → Contains (rows_at tables node) row → row.columns ≡ (row_for rows row.item).columns
+    row_is row k = elim (Contains-append_cases (table_at tables node).starts (table_at tables node).sends row k) [
+      | inl m ↦ from_rows (is_started_on g node) (table_at tables node).starts row starts m
+      | inr m ↦ from_rows (is_sent_from g node) (table_at tables node).sends row sends m
+    ]
+
+  neither : (x : ℕ) → process_count g ≤ x → is_sent g x ≡ false → (x < process_count g) ⊎ (is_sent g x ≡ true) → ⊥
+  neither x later unsent (inl start) = absurd (omega arith)
+  neither x later unsent (inr sent) = true≢false (sym sent ∙ unsent)
+
+  stands : (x : ℕ) → HasRow g (home g x) x → columns_of tables x ≡ (row_for rows x).columns
+  stands x has =
+      let l : home g x < length g.nodes = home_within formed shape x has.within in
+      let r = row_of formed shape (home g x) x l has in
+      subst (λ y. columns_of tables y ≡ (row_for rows y).columns) r.2 (row_columns formed shape (home g x) l r.0 r.1 ∙ row_is (home g x) l r.0 r.1)
+
+  within_count : (x : ℕ) → x < item_count g → columns_of tables x ≡ (row_for rows x).columns
+  within_count x l = elim (cases_lt x (process_count g)) [
+    | inl start ↦ stands x (record { within = l; home = refl; kind = inl start })
+    | inr later ↦ elim (cases_Bool (is_sent g x)) [
+      | inl sent ↦ stands x (record { within = l; home = refl; kind = inr sent })
+      | inr unsent ↦ nothing (columns_of tables x) (λ c k. neither x later unsent (has_row formed shape x c k).kind) ∙ sym (w.unsent x later l unsent)
+    ]
+  ]
+
+  pub columns : (x : ℕ) → columns_of tables x ≡ (row_for rows x).columns
+  columns x = elim (cases_lt x (item_count g)) [
+    | inl l ↦ within_count x l
+    | inr past ↦ nothing (columns_of tables x) (λ c k. let l = (has_row formed shape x c k).within in absurd (omega arith))
+        ∙ sym (ap (λ (row : Row). row.columns) (get_or_past rows x no_row (omega (arith, past, long g rows w))))
+  ]
+
+  pub heard_rows : (node : ℕ) (u : NodeTable) → slice_get tables node ≡ Some u → u.hears ≡ hear_rows g tables node
+  heard_rows node u e =
+      let l : node < length g.nodes = omega (arith, slice_get_within tables node u e, are.long) in
+      ap (λ (t : NodeTable). t.hears) (sym (get_or_from_slice_get tables node u empty_table e)) ∙ hears node l
+      ∙ same_map (heard_row g rows) (hear_row g tables) (items node).hears
+      (λ x c. same_row x _ _ (ap (map (later_by (slot_length g (home g x)))) (sym (columns x))))
+    where
+      same_row : (x : ℕ) (a b : List Column) → a ≡ b → (let row : Row = record { item = x; columns = a } in row) ≡ record { item = x; columns = b }
+      same_row x a b e = cc
+
+  pub tables_with : (t : Tables) → t.head ≡ head_of g → t.nodes ≡ tables → AreTablesWith g rows t
+  tables_with t head is = record {
+    head = head;
+    lawful = subst (AreTablesOf (head_of g)) (sym is) lawful;
+    columns = subst (λ ts. (x : ℕ) → columns_of ts x ≡ (row_for rows x).columns) (sym is) columns;
+    hears = subst (λ ts. (node : ℕ) (u : NodeTable) → slice_get ts node ≡ Some u → u.hears ≡ hear_rows g ts node) (sym is) heard_rows;
+  }
+
+-- one table more
+pub table_pushed : (g : Graph) (rows : List Row) (n : ℕ) (tables more : List NodeTable) (t : NodeTable) → AreNodeTables g rows n tables → IsTableWith g rows n t → more ≡ tables ++ t ∷ [] → AreNodeTables g rows (n + 1) more
+table_pushed g rows n tables more t were new is = record {
+  long = omega (arith, ap length is, length-append tables (t ∷ []), were.long);
+  each = λ node l. elim (cases_lt node n) [
+    | inl h ↦ subst (IsTableWith g rows node) (sym (ap (λ ts. table_at ts node) is ∙ get_or_append_left tables (t ∷ []) empty_table node (omega (arith, h, were.long)))) (were.each node h)
+    | inr h ↦
+        let at : node ≡ length tables = omega (arith, l, h, were.long) in
+        let here : table_at more node ≡ t = ap₂ table_at is at ∙ get_or-append_seam tables t [] empty_table in
+        subst (IsTableWith g rows node) (sym here) (subst (λ j. IsTableWith g rows j t) (let e : n ≡ node = omega (arith, l, h) in e) new)
+  ];
+}

@@ -1,6 +1,0 @@
-use Rattle.std.proofs.Common.{◌≡◌, take, flat_map, option_to_list}
-use Rattle.cpg_base.specs.Numbers.{greatest}
-use Rattle.cpg_times.proofs.known.greatest_end.Given as goal
-
-abbrev pub invariant-loop-end : goal.invariant-loop-end
-invariant-loop-end l = l.latest ≡ greatest (flat_map option_to_list (take l.end-index l.ends))

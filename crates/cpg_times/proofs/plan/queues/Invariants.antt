@@ -1,7 +1,0 @@
-use Rattle.std.proofs.Common.{◌≡◌, map}
-use Rattle.cpg_base.specs.Numbers.{numbers_below}
-use Rattle.cpg_times.specs.Plan.{queue_of}
-use Rattle.cpg_times.proofs.plan.queues.Given as goal
-
-abbrev pub invariant-loop-process : goal.invariant-loop-process
-invariant-loop-process l = l.queues.items ≡ map (queue_of l.problem) (numbers_below l.process)

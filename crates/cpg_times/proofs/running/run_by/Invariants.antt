@@ -1,5 +1,0 @@
-use Rattle.cpg_times.specs.Progress.{IsAlong}
-use Rattle.cpg_times.proofs.running.run_by.Given as goal
-
-abbrev pub invariant-loop-place : goal.invariant-loop-place
-invariant-loop-place l = IsAlong l.admitted.graph l.order l.frozen l.scenario l.place l.progress

@@ -1,9 +1,0 @@
-use Rattle.cpg_run.specs.Run.{Times, IsRun}
-use Rattle.cpg_times.specs.Progress.{HasSent, KeepsEnds}
-use Rattle.cpg_times.proofs.sending.send.Given as goal
-
-abbrev pub invariant-loop-item : goal.invariant-loop-item
-invariant-loop-item l = record {
-  sent : (t : Times) → IsRun l.problem l.order l.frozen l.scenario t → HasSent l.problem l.order l.scenario t l.process l.item-index l.fn.known l.known l.free;
-  keeps : KeepsEnds l.fn.known l.known;
-}

@@ -1,6 +1,0 @@
-use Rattle.std.proofs.Common.{get_or}
-use Rattle.std.proofs.lemmas.List.Elements.{Contains-get_or}
-use Rattle.cpg_times.proofs.waiting.latest_there.Goals as goal
-
-pub live_there-requires-clause-edge : goal.live_there-requires-clause-edge
-live_there-requires-clause-edge c = c.requires.edges (get_or c.args.edges.now c.loop-edge.edge-index 0) (Contains-get_or c.args.edges.now c.loop-edge.edge-index 0 c.loop-edge-test.true)
