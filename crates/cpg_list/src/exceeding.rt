@@ -5,7 +5,7 @@ ghost use Rattle.cpg_run.specs.Finish.{excess_of, excess_in_run, IsLeastExceedin
 ghost use Rattle.cpg_list.specs.Listing.{AreScenarios};
 ghost use Rattle.cpg_list.specs.Peaks.{IsFirstExceeding, IsExcessOfRuns};
 
-use crate::Peak;
+use crate::peaks::Peak;
 use crate::search::first_greatest;
 use cpg_base::{OutOfMemory, Problem, Scenario};
 use cpg_rules::Admitted;

@@ -17,11 +17,10 @@ use crate::examples::examples;
 use crate::latest::unfrozen_time;
 use crate::sweeping::{advance, beginnings};
 use cpg_base::{OutOfMemory, Problem, Scenario};
+use cpg_bus::Plan;
 use cpg_order::{Links, Order};
 use cpg_rules::Admitted;
-use cpg_run::Frozen;
-use cpg_bus::Plan;
-use cpg_run::Progress;
+use cpg_run::{Frozen, Progress};
 use std::alloc::Global;
 
 /// Whether the message of an edge is frozen: an edge within a node has none.

@@ -12,11 +12,10 @@ ghost use Rattle.cpg_run.specs.Latest.{later, IsUnfrozenTime};
 ghost use Rattle.cpg_list.specs.Sweep.{AreAlong, place_of};
 
 use cpg_base::{OutOfMemory, Scenario};
+use cpg_bus::Plan;
 use cpg_order::Order;
 use cpg_rules::Admitted;
-use cpg_run::Frozen;
-use cpg_bus::Plan;
-use cpg_run::Progress;
+use cpg_run::{Frozen, Progress};
 use std::alloc::Global;
 
 /// The later of two times that may be missing.

@@ -4,6 +4,7 @@
 
 mod active;
 mod cubes;
+mod enumeration;
 mod examples;
 mod exceeding;
 mod few;
@@ -17,7 +18,6 @@ mod making;
 mod peaks;
 mod placing;
 mod running;
-mod scenarios;
 mod search;
 mod sends;
 mod starts;
@@ -25,5 +25,12 @@ mod state;
 mod sweeping;
 mod timed;
 
+pub use enumeration::scenarios;
+pub use exceeding::excess;
 pub use few::has_few_scenarios;
+pub use freezing::frozen_times;
 pub use listing::list;
+pub use making::rows;
+pub use peaks::{Peak, worst};
+pub use placing::first_alike;
+pub use running::runs;

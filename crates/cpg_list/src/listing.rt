@@ -6,20 +6,20 @@ ghost use Rattle.cpg_reach.specs.Wide.{IsNarrow};
 ghost use Rattle.cpg_run.specs.Built.{IsBuiltFor};
 ghost use Rattle.cpg_list.specs.Refusal.{ShowsBuildFault};
 
+use crate::enumeration::scenarios;
 use crate::exceeding::excess;
 use crate::freezing::frozen_times;
 use crate::making::rows;
 use crate::peaks::worst;
 use crate::placing::first_alike;
 use crate::running::runs;
-use crate::scenarios::scenarios;
 use cpg_base::OutOfMemory;
+use cpg_bus::Plan;
 use cpg_order::Order;
 use cpg_reach::too_wide;
 use cpg_rules::Admitted;
 use cpg_run::{BuildFault, Built};
 use cpg_table::tables_of;
-use cpg_bus::Plan;
 use std::alloc::Global;
 
 /// The tables and measures under an order in which no item is too wide.

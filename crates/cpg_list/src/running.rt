@@ -11,11 +11,10 @@ ghost use Rattle.cpg_list.specs.FirstAlike.{scenario_at, AreFirstAlike};
 ghost use Rattle.cpg_list.specs.Runs.{AreFirstRuns, AreRuns};
 
 use cpg_base::{OutOfMemory, Scenario};
+use cpg_bus::Plan;
 use cpg_order::Order;
 use cpg_rules::Admitted;
-use cpg_run::{Frozen, RunTimes};
-use cpg_bus::Plan;
-use cpg_run::run_by;
+use cpg_run::{Frozen, RunTimes, run_by};
 use std::alloc::Global;
 
 /// The run of the scenario at a place of a list, given the place of one that has the same runs: if that stands before it,

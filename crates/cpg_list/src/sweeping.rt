@@ -8,11 +8,10 @@ ghost use Rattle.cpg_bus.specs.Plan.{plan_of};
 ghost use Rattle.cpg_list.specs.Sweep.{AreAlong};
 
 use cpg_base::{OutOfMemory, Problem, Scenario};
+use cpg_bus::Plan;
 use cpg_order::Order;
 use cpg_rules::Admitted;
-use cpg_run::Frozen;
-use cpg_bus::Plan;
-use cpg_run::Progress;
+use cpg_run::{Frozen, Progress};
 use std::alloc::Global;
 
 /// Nothing is known of the run of any of these scenarios.

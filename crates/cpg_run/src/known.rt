@@ -6,8 +6,8 @@ ghost use Rattle.cpg_base.specs.Numbers.{greatest};
 ghost use Rattle.cpg_run.specs.Run.{time_in, end_in};
 ghost use Rattle.cpg_run.specs.Known.{no_times};
 
-use cpg_base::{OutOfMemory, Problem};
 use crate::RunTimes;
+use cpg_base::{OutOfMemory, Problem};
 use std::alloc::Global;
 use std::marker::Model;
 

@@ -7,12 +7,11 @@ ghost use Rattle.cpg_run.specs.Run.{IsRun};
 ghost use Rattle.cpg_run.specs.Known.{AreEarly};
 ghost use Rattle.cpg_bus.specs.Plan.{plan_of};
 
-use crate::Progress;
-use cpg_bus::Plan;
+use crate::{Frozen, Progress, RunTimes};
 use cpg_base::{OutOfMemory, Scenario};
+use cpg_bus::Plan;
 use cpg_order::Order;
 use cpg_rules::Admitted;
-use crate::{Frozen, RunTimes};
 use std::alloc::Global;
 
 /// The run of a scenario, with a plan that is made once for many: the start of each active process, the start of the slot

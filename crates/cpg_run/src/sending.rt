@@ -12,14 +12,14 @@ ghost use Rattle.cpg_run.specs.Known.{AreEarly, frozen_in};
 ghost use Rattle.cpg_bus.specs.Plan.{plan_of, queue_of};
 ghost use Rattle.cpg_run.specs.Progress.{CanSend, HasSent, KeepsEnds};
 
-use cpg_bus::Plan;
+use crate::Frozen;
 use crate::activity::is_item_active;
 use crate::known::Known;
 use crate::waiting::frozen_time;
 use cpg_base::{Problem, Scenario};
+use cpg_bus::Plan;
 use cpg_guard::GuardTrees;
 use cpg_order::Order;
-use crate::Frozen;
 
 /// When an active item is sent: in a slot that is free, at the end of its producer or later.
 fn send_time(

@@ -12,16 +12,16 @@ ghost use Rattle.cpg_run.specs.Known.{AreEarly};
 ghost use Rattle.cpg_bus.specs.Plan.{plan_of};
 ghost use Rattle.cpg_run.specs.Progress.{HasPlaces, IsAt, IsAlong};
 
-use cpg_bus::Plan;
 use crate::activity::is_active;
 use crate::known::Known;
 use crate::sending::send;
 use crate::waiting::{decided_there, start};
+use crate::{Frozen, RunTimes};
 use cpg_base::{OutOfMemory, Problem, Scenario};
+use cpg_bus::Plan;
 use cpg_guard::GuardTrees;
 use cpg_order::Order;
 use cpg_rules::Admitted;
-use crate::{Frozen, RunTimes};
 use std::alloc::Global;
 use std::marker::Model;
 

@@ -13,12 +13,12 @@ ghost use Rattle.cpg_run.specs.Known.{AreSmall, frozen_in};
 ghost use Rattle.cpg_run.specs.Most.{IsMost};
 ghost use Rattle.cpg_bus.specs.Plan.{plan_of};
 
-use cpg_bus::Plan;
+use crate::Frozen;
 use crate::activity::{deciding, is_live};
 use crate::known::Known;
 use cpg_base::{OutOfMemory, Problem, Scenario};
+use cpg_bus::Plan;
 use cpg_guard::GuardTrees;
-use crate::Frozen;
 use std::alloc::Global;
 
 /// When a frame of a node is there.
