@@ -1,10 +1,11 @@
 -- Tracks: the ways through the conditions, each told by one outcome.
-use Rattle.std.specs.Prelude.{ℕ, Bool, false, not, ◌||◌, List, filter, get_or, length}
-use Rattle.std.specs.List.{list_all}
+use Rattle.std.specs.Prelude.{ℕ, Bool, false, not, ◌||◌, ◌&&◌, List, filter, get_or, length, IsTrue, IsPermutation, AllPairs}
+use Rattle.std.specs.List.{list_all, list_any}
 use Rattle.cpg_base.specs.Numbers.{numbers_below}
 use Rattle.cpg_base.specs.Graph.{Graph, condition_count, process_of}
+use Rattle.cpg_base.specs.declared.limits.TheConstants.{MOST_TRACKS}
 use Rattle.cpg_base.specs.Activity.{active}
-use Rattle.cpg_order.specs.Deciding.{outcomes}
+use Rattle.cpg_order.specs.Deciding.{outcomes, agree_on, earlier_conditions}
 
 -- an outcome whose inactive conditions are false
 abbrev pub is_track : Graph → List Bool → Bool
@@ -16,7 +17,7 @@ track_count g = length (filter (is_track g) (outcomes (condition_count g)))
 
 -- the most tracks of a graph that is taken
 abbrev pub most_tracks : ℕ
-most_tracks = 16384
+most_tracks = MOST_TRACKS
 
 -- at the first condition in urgency order at which they differ, the first outcome is false
 abbrev pub is_outcome_before : Graph → List Bool → List Bool → Bool

@@ -2,21 +2,9 @@
 #![tactic(auto)]
 
 ghost use Rattle.std.specs.Prelude.{IfErr};
-ghost use Rattle.cpgc.specs.Lines.{IsNamed};
+ghost use Rattle.cpg_app.specs.Lines.{IsNamed};
 
-mod answer;
-mod commands;
-mod halt;
-mod lines;
-mod output;
-mod playing;
-mod reading;
-mod refusals;
-mod run;
-#[cfg(test)]
-mod tests;
-
-use crate::halt::Halt;
+use cpg_app::{Halt, run, stop};
 use cpg_io::{FileShelf, StreamSink};
 use std::io::ErrorKind;
 use std::process::ExitCode;
@@ -44,9 +32,9 @@ fn status(rt: &HostRuntime) -> u8 {
     match words(rt) {
         Ok(words) => {
             let mut shelf = FileShelf::new(rt);
-            run::run(rt.alloc(), words.as_slice(), &mut shelf, &mut out, &mut err)
+            run(rt.alloc(), words.as_slice(), &mut shelf, &mut out, &mut err)
         }
-        Err(halt) => answer::stop(rt.alloc(), &halt, &mut err),
+        Err(halt) => stop(rt.alloc(), &halt, &mut err),
     }
 }
 

@@ -1,0 +1,127 @@
+-- What a halt of a run names is there.
+use Rattle.std.proofs.Common.{◌≡◌, List, Option, Some, None, sym, subst, inl, inr}
+use Rattle.cpg_base.specs.Graph.{Graph}
+use Rattle.cpg_base.specs.Scenario.{Scenario, IsScenario, zero_scenario}
+use Rattle.cpg_table.specs.declared.fault.Fault.{Fault}
+use Rattle.cpg_check.specs.Verdict.{IsFirstFault}
+use Rattle.cpg_list.proofs.Listed.{zero_lawful}
+use Rattle.cpg_words.specs.Parts.{Text}
+use Rattle.cpg_words.specs.Forms.{command_of}
+use Rattle.cpg_words.specs.declared.command.Command.{Command}
+use Rattle.cpg_words.specs.declared.command.Command.TheVariants.{Show, Compile, Check, Play, Node, Trial, Live, Hyper, Tune, Audit}
+use Rattle.cpg_reader.specs.declared.place.ReadFault.{ReadFault}
+use Rattle.cpg_table.specs.Lawful.{Tables}
+use Rattle.cpg_codec.specs.declared.fault.PackFault.{PackFault}
+use Rattle.cpg_scenario.specs.declared.fault.ScenarioFault.{ScenarioFault}
+use Rattle.cpg_rules.specs.Admission.{Admission}
+use Rattle.cpg_rules.specs.declared.admission.RuleFault.{RuleFault}
+use Rattle.cpg_rules.specs.Faults.{ShowsFault}
+use Rattle.cpg_core.specs.declared.fault.CompileFault.{CompileFault}
+use Rattle.cpg_core.specs.Compilation.{ShowsCompileFault}
+use Rattle.cpg_app.specs.declared.halt.Refusal.TheVariants.{NotBuilt}
+use Rattle.cpg_app.specs.declared.halt.Halt.{Halt}
+use Rattle.cpg_app.specs.declared.halt.Halt.TheVariants.{Words, Read, Refused, Unsafe, Memory}
+use Rattle.cpg_app.specs.Halts.{halt_of_reading, halt_of_pack, halt_of_rules, halt_of_scenario, halt_of_compile}
+use Rattle.cpg_app.specs.Lines.{HasLengths, IsNamed}
+use Rattle.cpg_app.specs.Causes.{Seen, StopsReading, BreaksRule, IsUnbuiltCommand, StopsGraph, StopsCompile, StopsTables, StopsNaming, StopsVerdict, StopsPlay, StopsCommand, StopsAsked, Stops}
+
+lengths_of : (g : Graph) (s : Scenario) → IsScenario g s → HasLengths g s
+lengths_of g s is = record { values = is.values; faults = is.faults }
+
+of_reading : (fault : ReadFault) → IsNamed (halt_of_reading fault)
+of_reading ReadFault.NotToml = tt
+of_reading (ReadFault.BadField place) = tt
+of_reading (ReadFault.DoubleName place) = tt
+of_reading (ReadFault.UnknownName place) = tt
+of_reading (ReadFault.OverLimit what) = tt
+of_reading ReadFault.OutOfMemory = tt
+
+of_rules : (g : Graph) (fault : RuleFault) → ShowsFault g fault → IsNamed (halt_of_rules g fault)
+of_rules g (RuleFault.Cycle walk) shows = tt
+of_rules g RuleFault.TooManyTracks shows = tt
+of_rules g (RuleFault.TwoAlternatives p s) shows = lengths_of g s shows.2.least.lawful
+of_rules g (RuleFault.NoSlot node) shows = tt
+of_rules g (RuleFault.TooBig e) shows = tt
+of_rules g RuleFault.OutOfMemory shows = tt
+
+of_compile : (a : Admission) (fault : CompileFault) → ShowsCompileFault a.graph a.order fault → IsNamed (halt_of_compile a fault)
+of_compile a (CompileFault.TooWide x) shows = shows.wide.within
+of_compile a (CompileFault.Late s p time) shows = lengths_of a.graph s shows.1.is_excess.least.lawful
+of_compile a CompileFault.OutOfMemory shows = tt
+
+named_as : (h k : Halt) → h ≡ k → IsNamed k → IsNamed h
+named_as h k e n = subst IsNamed (sym e) n
+
+reading_named : (seen : Seen) (told : Option Text) (h : Halt) → StopsReading seen told h → IsNamed h
+reading_named seen told h (inl unread) = named_as h Read unread.halt_is tt
+reading_named seen told h (inr (inl long)) = named_as h _ long.halt_is tt
+reading_named seen told h (inr (inr faulty)) = named_as h _ faulty.halt_is (of_reading faulty.fault)
+
+graph_named : (seen : Seen) (told : Option Text) (work : Admission → Halt → Type 0) → ((a : Admission) (h : Halt) → work a h → IsNamed h) → (h : Halt) → StopsGraph seen told work h → IsNamed h
+graph_named seen told work works h (inl (inl read)) = reading_named seen told h read
+graph_named seen told work works h (inl (inr breaks)) = let b : BreaksRule breaks.0 h = breaks.2 in named_as h _ b.halt_is (of_rules breaks.0 b.fault b.shows)
+graph_named seen told work works h (inr worked) = works worked.0 h worked.2
+
+pub unbuilt_named : (h : Halt) → h ≡ Refused NotBuilt → IsNamed h
+unbuilt_named h e = named_as h _ e tt
+
+unbuilt_command_named : (h : Halt) → IsUnbuiltCommand h → IsNamed h
+unbuilt_command_named h (inl e) = unbuilt_named h e
+unbuilt_command_named h (inr e) = named_as h Memory e tt
+
+compile_named : (a : Admission) (h : Halt) → StopsCompile a h → IsNamed h
+compile_named a h (inl unlisted) = unbuilt_named h unlisted.unbuilt
+compile_named a h (inr wrong) = named_as h _ wrong.halt_is (of_compile a wrong.fault wrong.shows)
+
+of_pack : (fault : PackFault) → IsNamed (halt_of_pack fault)
+of_pack (PackFault.BadPack n) = tt
+of_pack PackFault.OutOfMemory = tt
+
+naming_named : (t : Tables) (name : Text) (h : Halt) → StopsNaming t name h → IsNamed h
+naming_named t name h (inl unknown) = named_as h _ unknown.0 tt
+naming_named t name h (inr memory) = named_as h Memory memory tt
+
+tables_named : (seen : Seen) (told : Option Text) (work : Tables → Halt → Type 0) → ((t : Tables) (h : Halt) → work t h → IsNamed h) → (h : Halt) → StopsTables seen told work h → IsNamed h
+tables_named seen told work works h (inl (inl unread)) = named_as h Read unread.halt_is tt
+tables_named seen told work works h (inl (inr (inl long))) = named_as h _ long.halt_is tt
+tables_named seen told work works h (inl (inr (inr none))) = named_as h _ none.halt_is (of_pack none.fault)
+tables_named seen told work works h (inr worked) = works worked.0 h worked.2
+
+fault_named : (a : Admission) (t : Tables) (f : Fault) → IsFirstFault a.graph a.order t.nodes f → IsNamed (Unsafe a f)
+fault_named a t f (inl first) = (first.first.item, lengths_of a.graph f.scenario first.first.least.lawful)
+fault_named a t f (inr heard) = (heard.1.item, subst (HasLengths a.graph) (sym heard.1.scenario) (lengths_of a.graph (zero_scenario a.graph) (zero_lawful a.graph)))
+
+verdict_named : (a : Admission) (t : Tables) (h : Halt) → StopsVerdict a t h → IsNamed h
+verdict_named a t h (inl other) = named_as h _ other.halt_is tt
+verdict_named a t h (inr (inl broken)) = named_as h _ broken.halt_is (fault_named a t broken.fault broken.first)
+verdict_named a t h (inr (inr memory)) = named_as h Memory memory tt
+
+of_scenario : (fault : ScenarioFault) → IsNamed (halt_of_scenario fault)
+of_scenario (ScenarioFault.Bad cause) = tt
+of_scenario ScenarioFault.OutOfMemory = tt
+
+play_named : (seen : Seen) (told : Option Text) (a : Admission) (t : Tables) (h : Halt) → StopsPlay seen told a t h → IsNamed h
+play_named seen told a t h (inl (inl unread)) = named_as h Read unread.halt_is tt
+play_named seen told a t h (inl (inr (inl long))) = named_as h _ long.halt_is tt
+play_named seen told a t h (inl (inr (inr none))) = named_as h _ none.halt_is (of_scenario none.fault)
+play_named seen told a t h (inr judged) = verdict_named a t h judged.2
+
+command_named : (seen : Seen) (c : Command) (h : Halt) → StopsCommand seen c h → IsNamed h
+command_named seen (Show graph) h so = graph_named seen (seen.stands graph) StopsCompile compile_named h so
+command_named seen (Compile graph) h so = graph_named seen (seen.stands graph) StopsCompile compile_named h so
+command_named seen (Check graph pack) h so = graph_named seen (seen.stands graph) (λ a. StopsTables seen (seen.stands pack) (StopsVerdict a)) (λ a. tables_named seen (seen.stands pack) (StopsVerdict a) (verdict_named a)) h so
+command_named seen (Play graph pack scenario turns) h so = graph_named seen (seen.stands graph) (λ a. StopsTables seen (seen.stands pack) (StopsPlay seen (seen.stands scenario) a)) (λ a. tables_named seen (seen.stands pack) (StopsPlay seen (seen.stands scenario) a) (play_named seen (seen.stands scenario) a)) h so
+command_named seen (Node pack name) h so = tables_named seen (seen.stands pack) (λ t. StopsNaming t name) (λ t. naming_named t name) h so
+command_named seen (Trial number) h so = unbuilt_command_named h so
+command_named seen (Live pack name stream) h so = unbuilt_command_named h so
+command_named seen (Hyper parts) h so = unbuilt_command_named h so
+command_named seen (Tune graph) h so = graph_named seen (seen.stands graph) (λ _ k. k ≡ Refused NotBuilt) (λ a. unbuilt_named) h so
+command_named seen (Audit graph pack log) h so = unbuilt_command_named h so
+
+asked_named : (seen : Seen) (asked : Option Command) (h : Halt) → StopsAsked seen asked h → IsNamed h
+asked_named seen None h (inl e) = named_as h Words e tt
+asked_named seen None h (inr e) = named_as h Memory e tt
+asked_named seen (Some c) h so = command_named seen c h so
+
+pub stops_named : (seen : Seen) (words : List Text) (h : Halt) → Stops seen words h → IsNamed h
+stops_named seen words h so = asked_named seen (command_of words) h so

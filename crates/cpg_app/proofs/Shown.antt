@@ -1,0 +1,216 @@
+-- A run that ends by its output or by a reason to stop keeps what each status says.
+use Rattle.std.proofs.Common.{ℕ, ◌≡◌, ◌≢◌, ◌∙◌, Option, Some, None, sym, subst, arith, inl, inr}
+use Rattle.std.specs.Prelude.{◌⊎◌}
+use Rattle.std.proofs.lemmas.Option.{none-some}
+use Rattle.cpg_io.specs.Causes.{Rose}
+use Rattle.cpg_words.specs.Parts.{Text}
+use Rattle.cpg_words.specs.Forms.{command_of}
+use Rattle.cpg_words.specs.declared.command.Command.{Command}
+use Rattle.cpg_base.specs.Graph.{Graph}
+use Rattle.cpg_core.specs.declared.compiling.Compiled.{Compiled}
+use Rattle.cpg_rules.specs.Admission.{Admission}
+use Rattle.cpg_reach.specs.Wide.{IsNarrow, IsWide}
+use Rattle.cpg_core.specs.Compiled.{IsTimely, IsLate}
+use Rattle.cpg_core.proofs.CompiledLaws.{not_timely_and_late}
+use Rattle.cpg_app.specs.declared.halt.Refusal.{Refusal}
+use Rattle.cpg_app.specs.declared.halt.Halt.{Halt}
+use Rattle.cpg_app.specs.declared.halt.Halt.TheVariants.{Refused}
+use Rattle.cpg_app.specs.Lines.{status_of}
+use Rattle.cpg_app.specs.Causes.{Seen, Stops, StopsAsked, StopsGraph, StopsCompile}
+use Rattle.cpg_app.specs.Outputs.{Prints, PrintsAsked, IsMade, shown, packed}
+use Rattle.cpg_app.specs.Told.{Untouched}
+use Rattle.cpg_app.specs.Endings.{Ran, IsPrinted, IsTold, EndsWith, EndsBy}
+use Rattle.cpg_app.specs.Lawful.{IsFaultless, AsksFor, Asks, IsListable, AsksVerdict, IsLawful}
+use Rattle.cpg_app.proofs.Statuses.{of_words, of_read, of_formless, refused_of, not_three, not_zero}
+use Rattle.cpg_table.specs.Lawful.{Tables}
+use Rattle.cpg_table.specs.Valid.{IsValid}
+use Rattle.cpg_violation.specs.Heads.{IsHeadFor}
+use Rattle.cpg_app.proofs.Checked.{CheckLeft, check_left, checked_is, play_left, played_is}
+use Rattle.cpg_app.proofs.Excluded.{Left, graph_left, made_not_wide, made_not_late}
+
+-- words without a form print nothing
+prints_form : (seen : Seen) (asked : Option Command) (text : Text) → PrintsAsked seen asked text → asked ≡ None → ⊥
+prints_form seen None text so none = so
+prints_form seen (Some c) text so none = none-some c (sym none)
+
+-- what is put out for a graph file is made of it
+made_of : (seen : Seen) (graph : Text) (asked : Option Command) (bytes : Text) → AsksFor graph asked → PrintsAsked seen asked bytes → (spell : Graph → Compiled → Text) × IsMade (seen.stands graph) spell bytes
+made_of seen graph asked bytes (inl show) prints = (shown, subst (λ c. PrintsAsked seen c bytes) show prints)
+made_of seen graph asked bytes (inr compile) prints = (packed, subst (λ c. PrintsAsked seen c bytes) compile prints)
+
+-- and a run stops for it as its compile does
+stopped_of : (seen : Seen) (graph : Text) (asked : Option Command) (halt : Halt) → AsksFor graph asked → StopsAsked seen asked halt → StopsGraph seen (seen.stands graph) StopsCompile halt
+stopped_of seen graph asked halt (inl show) stops = subst (λ c. StopsAsked seen c halt) show stops
+stopped_of seen graph asked halt (inr compile) stops = subst (λ c. StopsAsked seen c halt) compile stops
+
+module _ (r : Ran) where
+  -- ---- with an output
+
+  module _ (text : Text) (with : EndsWith r text) where
+    with_status : (r.status ≡ 0) ⊎ (r.status ≡ 3)
+    with_status = elim with.ending [ inl p ↦ inl p.status | inr c ↦ inr c.status ]
+
+    other_status : (n : ℕ) → r.status ≡ n → n ≢ 0 → n ≢ 3 → ⊥
+    other_status n e a b = elim with_status [ inl z ↦ a (sym e ∙ z) | inr t ↦ b (sym e ∙ t) ]
+
+    with_done : r.status ≡ 0 → (t : Text) × Prints r.shelf r.words t × IsPrinted r t
+    with_done zero = elim with.ending [ inl p ↦ (text, with.prints, p) | inr c ↦ absurd (let e = c.status in omega arith) ]
+
+    with_write : r.status ≡ 3 → Rose r.out.before r.out.now ⊎ Rose r.err.before r.err.now
+    with_write three = elim with.ending [ inl p ↦ absurd (let e = p.status in omega arith) | inr c ↦ inl c.out.rose ]
+
+    with_no_form : command_of r.words ≡ None → ⊥
+    with_no_form none = prints_form r.shelf (command_of r.words) text with.prints none
+
+    with_safe : IsFaultless r → (r.status ≡ 0) ⊎ (r.status ≡ 8)
+    with_safe faultless = elim with.ending [ inl p ↦ inl p.status | inr c ↦ absurd (faultless.out c.out.rose) ]
+
+    -- what was checked, or played, is what was asked for
+    with_check : (a : Admission) (t : Tables) → AsksVerdict r a t → IsHeadFor a.graph t.head × IsValid a.graph t.nodes
+    with_check a t asks = elim asks.words [
+      | inl check ↦ checked_is r.shelf a t asks.graph asks.pack asks.bytes asks.told asks.file asks.faultless.shelf asks.spelled asks.lawful text (subst (λ c. PrintsAsked r.shelf c text) check with.prints)
+      | inr play ↦ played_is r.shelf a t asks.graph asks.pack asks.bytes asks.told asks.file asks.faultless.shelf asks.spelled asks.lawful (r.shelf.stands play.0) play.1 text (subst (λ c. PrintsAsked r.shelf c text) play.2 with.prints)
+    ]
+
+    module _ (a : Admission) (asks : Asks r a) where
+      made_here : (spell : Graph → Compiled → Text) × IsMade (r.shelf.stands asks.graph) spell text
+      made_here = made_of r.shelf asks.graph (command_of r.words) text asks.words with.prints
+
+      with_wide : (x : ℕ) → IsWide a.graph a.order x → (r.status ≡ 6) ⊎ (r.status ≡ 8)
+      with_wide x wide = absurd (made_not_wide r.shelf (r.shelf.stands asks.graph) asks.bytes a asks.told asks.file asks.faultless.shelf made_here.0 text made_here.1 x wide)
+
+      with_late : IsLate a.graph a.order → (r.status ≡ 5) ⊎ (r.status ≡ 8)
+      with_late late = absurd (made_not_late r.shelf (r.shelf.stands asks.graph) asks.bytes a asks.told asks.file asks.faultless.shelf made_here.0 text made_here.1 late)
+
+    pub lawful_with : IsLawful r
+    lawful_with = record {
+      ends = inl (text, with);
+      done = with_done;
+      words = λ one. absurd (other_status 1 one (λ e. omega arith) (λ e. omega arith));
+      formless = λ none other. absurd (with_no_form none);
+      read = λ two. absurd (other_status 2 two (λ e. omega arith) (λ e. omega arith));
+      write = with_write;
+      refused = λ four. absurd (other_status 4 four (λ e. omega arith) (λ e. omega arith));
+      compiled = λ either. absurd (elim either [ inl five ↦ other_status 5 five (λ e. omega arith) (λ e. omega arith) | inr six ↦ other_status 6 six (λ e. omega arith) (λ e. omega arith) ]);
+      unsafe = λ seven. absurd (other_status 7 seven (λ e. omega arith) (λ e. omega arith));
+      silent = λ zero three. absurd (elim with_status [ inl z ↦ zero z | inr t ↦ three t ]);
+      wide = λ a x asks. with_wide a asks x;
+      made = λ a asks listable timely. with_safe asks.faultless;
+      late = λ a asks listable. with_late a asks;
+      other = λ a t asks differs. absurd (differs (with_check a t asks).0);
+      safe = λ a t asks head valid. with_safe asks.faultless;
+      broken = λ a t asks head broken. absurd (broken (with_check a t asks).1);
+    }
+
+  -- ---- without
+
+  module _ (halt : Halt) (by : EndsBy r halt) where
+    -- under another status than 3 the line of the halt was written
+    told_of : r.status ≢ 3 → IsTold r halt
+    told_of other = elim by.ending [ inl t ↦ t | inr m ↦ absurd (other m.status) ]
+
+    told_at : (n : ℕ) → r.status ≡ n → n ≢ 3 → IsTold r halt
+    told_at n e other = told_of (λ three. other (sym e ∙ three))
+
+    status_at : (n : ℕ) → r.status ≡ n → n ≢ 3 → status_of halt ≡ n
+    status_at n e other = sym (told_at n e other).status ∙ e
+
+    by_formless : command_of r.words ≡ None → r.status ≢ 3 → (r.status ≡ 1) ⊎ (r.status ≡ 8)
+    by_formless none other = let t = (told_of other).status in elim (of_formless r.shelf r.words halt by.stops none) [ inl e ↦ inl (t ∙ e) | inr e ↦ inr (t ∙ e) ]
+
+    by_write : r.status ≡ 3 → Rose r.out.before r.out.now ⊎ Rose r.err.before r.err.now
+    by_write three = elim by.ending [ inl t ↦ absurd (not_three halt (sym t.status ∙ three)) | inr m ↦ inr m.err.rose ]
+
+    by_refused : r.status ≡ 4 → (refusal : Refusal) × Stops r.shelf r.words (Refused refusal) × IsTold r (Refused refusal)
+    by_refused four =
+        let is = refused_of halt (status_at 4 four (λ e. omega arith)) in
+        (is.0, subst (Stops r.shelf r.words) is.1 by.stops, subst (IsTold r) is.1 (told_at 4 four (λ e. omega arith)))
+
+    by_silent : Untouched r.out
+    by_silent = elim by.ending [ inl t ↦ t.out | inr m ↦ m.out ]
+
+    module _ (a : Admission) (asks : Asks r a) where
+      stops_of : StopsGraph r.shelf (r.shelf.stands asks.graph) StopsCompile halt
+      stops_of = stopped_of r.shelf asks.graph (command_of r.words) halt asks.words by.stops
+
+      told_here : r.status ≡ status_of halt
+      told_here = elim by.ending [ inl t ↦ t.status | inr m ↦ absurd (asks.faultless.err m.err.rose) ]
+
+      left : Left r.shelf (r.shelf.stands asks.graph) asks.bytes a asks.told asks.file asks.faultless.shelf halt
+      left = graph_left r.shelf (r.shelf.stands asks.graph) asks.bytes a asks.told asks.file asks.faultless.shelf halt stops_of
+
+      by_wide : (x : ℕ) → IsWide a.graph a.order x → (r.status ≡ 6) ⊎ (r.status ≡ 8)
+      by_wide x wide = elim left [
+        | inl e ↦ inr (told_here ∙ e)
+        | inr (inl late) ↦ absurd (late.1.narrow x wide)
+        | inr (inr (inl shown)) ↦ inl (told_here ∙ shown.0)
+        | inr (inr (inr many)) ↦ absurd (many.1 x wide)
+      ]
+
+      by_made : IsListable a → IsTimely a.graph a.order → (r.status ≡ 0) ⊎ (r.status ≡ 8)
+      by_made listable timely = elim left [
+        | inl e ↦ inr (told_here ∙ e)
+        | inr (inl late) ↦ absurd (not_timely_and_late a.graph asks.file.admitted.well_formed a.order asks.file.admitted.topological timely late.1)
+        | inr (inr (inl wide)) ↦ absurd (listable.narrow wide.1.0 wide.1.1)
+        | inr (inr (inr many)) ↦ absurd (let few = listable.few in let more = many.0 in omega arith)
+      ]
+
+      by_late : IsListable a → (r.status ≡ 5) ⊎ (r.status ≡ 8)
+      by_late listable = elim left [
+        | inl e ↦ inr (told_here ∙ e)
+        | inr (inl late) ↦ inl (told_here ∙ late.0)
+        | inr (inr (inl wide)) ↦ absurd (listable.narrow wide.1.0 wide.1.1)
+        | inr (inr (inr many)) ↦ absurd (let few = listable.few in let more = many.0 in omega arith)
+      ]
+
+    module _ (a : Admission) (t : Tables) (asks : AsksVerdict r a t) where
+      told_check : r.status ≡ status_of halt
+      told_check = elim by.ending [ inl t ↦ t.status | inr m ↦ absurd (asks.faultless.err m.err.rose) ]
+
+      left_check : CheckLeft a t halt
+      left_check = elim asks.words [
+        | inl check ↦ check_left r.shelf a t asks.graph asks.pack asks.bytes asks.told asks.file asks.faultless.shelf asks.spelled asks.lawful asks.few halt (subst (λ c. StopsAsked r.shelf c halt) check by.stops)
+        | inr play ↦ let says = play.3 in play_left r.shelf a t asks.graph asks.pack asks.bytes asks.told asks.file asks.faultless.shelf asks.spelled asks.lawful asks.few (r.shelf.stands play.0) says.bytes says.told says.short says.played says.says halt
+            (subst (λ c. StopsAsked r.shelf c halt) play.2 by.stops)
+      ]
+
+      by_other : (IsHeadFor a.graph t.head → ⊥) → (r.status ≡ 4) ⊎ (r.status ≡ 8)
+      by_other differs = elim left_check [
+        | inl e ↦ inr (told_check ∙ e)
+        | inr (inl other) ↦ inl (told_check ∙ other.0)
+        | inr (inr broken) ↦ absurd (differs broken.1)
+      ]
+
+      by_safe : IsHeadFor a.graph t.head → IsValid a.graph t.nodes → (r.status ≡ 0) ⊎ (r.status ≡ 8)
+      by_safe head valid = elim left_check [
+        | inl e ↦ inr (told_check ∙ e)
+        | inr (inl other) ↦ absurd (other.1 head)
+        | inr (inr broken) ↦ absurd (broken.2 valid)
+      ]
+
+      by_broken : IsHeadFor a.graph t.head → (IsValid a.graph t.nodes → ⊥) → (r.status ≡ 7) ⊎ (r.status ≡ 8)
+      by_broken head invalid = elim left_check [
+        | inl e ↦ inr (told_check ∙ e)
+        | inr (inl other) ↦ absurd (other.1 head)
+        | inr (inr broken) ↦ inl (told_check ∙ broken.0)
+      ]
+
+    pub lawful_by : IsLawful r
+    lawful_by = record {
+      ends = inr (halt, by);
+      done = λ zero. absurd (not_zero halt (status_at 0 zero (λ e. omega arith)));
+      words = λ one. of_words r.shelf r.words halt by.stops (status_at 1 one (λ e. omega arith));
+      formless = by_formless;
+      read = λ two. of_read r.shelf r.words halt by.stops (status_at 2 two (λ e. omega arith));
+      write = by_write;
+      refused = by_refused;
+      compiled = λ either. (halt, by.stops, elim either [ inl five ↦ told_at 5 five (λ e. omega arith) | inr six ↦ told_at 6 six (λ e. omega arith) ]);
+      unsafe = λ seven. (halt, by.stops, told_at 7 seven (λ e. omega arith));
+      silent = λ zero three. by_silent;
+      wide = λ a x asks wide. by_wide a asks x wide;
+      made = λ a asks listable in_time. by_made a asks listable in_time;
+      late = λ a asks listable late. by_late a asks listable;
+      other = by_other;
+      safe = by_safe;
+      broken = by_broken;
+    }

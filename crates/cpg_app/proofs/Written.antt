@@ -1,0 +1,21 @@
+-- How a run ends, by what was written.
+use Rattle.std.proofs.Common.{ℕ, List, ◌≡◌, subst, inl, inr}
+use Rattle.std.specs.Prelude.{◌⊎◌, Err}
+use Rattle.std.proofs.lemmas.Bool.{cases_eq}
+use Rattle.cpg_codec.specs.declared.fault.WriteFault.{WriteFault}
+use Rattle.cpg_app.specs.declared.halt.Halt.{Halt}
+use Rattle.cpg_app.specs.Lines.{line_of, status_of}
+use Rattle.cpg_app.specs.Told.{SinkSeen, Sent, Part, Untouched, IsWritten}
+use Rattle.cpg_app.specs.Endings.{Ran, IsTold, IsMuted}
+
+pub stopped : (r : Ran) (h : Halt) → Untouched r.out → Sent r.err r.status (status_of h) (line_of h) → IsTold r h ⊎ IsMuted r h
+stopped r h silent sent = elim (cases_eq r.status 3) [
+  | inl three ↦ inr (record { status = three; out = silent; err = sent.part three })
+  | inr other ↦ inl (record { status = (sent.whole other).0; out = silent; err = (sent.whole other).1 })
+]
+
+pub cut_of : (sink : SinkSeen) (bytes : List ℕ) (fault : WriteFault) → fault ≡ WriteFault.Failed → IsWritten sink (Err fault) bytes → Part sink bytes
+cut_of sink bytes fault is written = subst (λ f. IsWritten sink (Err f) bytes) is written
+
+pub none_of : (sink : SinkSeen) (bytes : List ℕ) (fault : WriteFault) → fault ≡ WriteFault.OutOfMemory → IsWritten sink (Err fault) bytes → Untouched sink
+none_of sink bytes fault is written = subst (λ f. IsWritten sink (Err f) bytes) is written

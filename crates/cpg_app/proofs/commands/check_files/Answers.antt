@@ -1,0 +1,28 @@
+use Rattle.std.proofs.Common.{Option, inr, subst}
+use Rattle.cpg_words.specs.Parts.{Text}
+use Rattle.cpg_app.specs.Causes.{Seen, Spells, StopsGraph, StopsTables, StopsVerdict}
+use Rattle.cpg_app.specs.Outputs.{bytes_of, IsChecked, IsSafeText, IsSpelled}
+use Rattle.cpg_app.proofs.Later.{if_ok, if_err, tables_later}
+use Rattle.cpg_app.proofs.commands.check_files.Goals as goal
+
+pub returns-clause-halt : goal.returns-clause-halt
+returns-clause-halt g c =
+    let S = g.S.Shelf in
+    let a = c.in_ok-admitted.admitted in
+    let read = c.in_ok-admitted.ensures in
+    let seen : Seen = record { stands = S.stands c.args.shelf.now; given = S.given c.check_pack.new.shelf; before = S.faults c.args.shelf.now; now = S.faults c.check_pack.new.shelf } in
+    let middle : Seen = record { stands = S.stands c.admitted_file.new.shelf; given = S.given c.check_pack.new.shelf; before = S.faults c.admitted_file.new.shelf; now = S.faults c.check_pack.new.shelf } in
+    let graph : Option Text = S.stands c.args.shelf.now c.args.graph.now in
+    let pack : Option Text = S.stands c.args.shelf.now c.args.pack.now in
+    if_err {P = StopsTables middle (S.stands c.admitted_file.new.shelf c.args.pack.now) (StopsVerdict a)} {Q = StopsGraph seen graph (λ b. StopsTables seen pack (StopsVerdict b))} c.check_pack.result
+    (λ h so. inr (a, read.graph, tables_later seen (S.stands c.admitted_file.new.shelf) (S.faults c.admitted_file.new.shelf) read.later pack (StopsVerdict a) (StopsVerdict a) (λ t k w. w) h (subst (λ t. StopsTables middle t (StopsVerdict a) h) (read.names c.args.pack.now) so)))
+    c.check_pack.ensures.halt
+
+pub returns-clause-text : goal.returns-clause-text
+returns-clause-text g c =
+    let S = g.S.Shelf in
+    let a = c.in_ok-admitted.admitted in
+    let read = c.in_ok-admitted.ensures in
+    if_ok {P = λ o. IsSpelled (S.stands c.admitted_file.new.shelf c.args.pack.now) (λ t. IsSafeText a t (bytes_of o))} {Q = λ o. IsChecked (S.stands c.args.shelf.now c.args.graph.now) (S.stands c.args.shelf.now c.args.pack.now) (bytes_of o)} c.check_pack.result
+    (λ o so. (a, read.graph, (so.0, subst (λ t. Spells t so.0) (read.names c.args.pack.now) so.1, so.2)))
+    c.check_pack.ensures.text

@@ -1,0 +1,27 @@
+use Rattle.std.proofs.Common.{◌≡◌, sym, subst}
+use Rattle.std.specs.Prelude.{IfOk, IfErr}
+use Rattle.cpg_words.specs.declared.command.Command.{Command}
+use Rattle.cpg_app.specs.Causes.{Seen, StopsCommand}
+use Rattle.cpg_app.specs.Outputs.{PrintsCommand, bytes_of}
+use Rattle.cpg_app.proofs.commands.command_output.Goals as goal
+
+pub returns-in-Play-clause-halt : goal.returns-in-Play-clause-halt
+returns-in-Play-clause-halt g c =
+    let S = g.S.Shelf in
+    let seen : Seen = record { stands = S.stands c.args.shelf.now; given = S.given c.play_files.new.shelf; before = S.faults c.args.shelf.now; now = S.faults c.play_files.new.shelf } in
+    subst (λ (command : Command). IfErr c.play_files.result (StopsCommand seen command)) (sym c.in-Play.is)
+    (rw (c.as_str-in-Play.ensures, c.as_str-in-Play-2.ensures, c.as_str-in-Play-3.ensures) at c.play_files.ensures.halt)
+
+pub returns-in-Show-clause-text : goal.returns-in-Show-clause-text
+returns-in-Show-clause-text g c =
+    let S = g.S.Shelf in
+    let seen : Seen = record { stands = S.stands c.args.shelf.now; given = S.given c.show.new.shelf; before = S.faults c.args.shelf.now; now = S.faults c.show.new.shelf } in
+    subst (λ (command : Command). IfOk c.show.result (λ o. PrintsCommand seen command (bytes_of o))) (sym c.in-Show.is)
+    (rw c.as_str.ensures at c.show.ensures.text)
+
+pub returns-in-Compile-clause-text : goal.returns-in-Compile-clause-text
+returns-in-Compile-clause-text g c =
+    let S = g.S.Shelf in
+    let seen : Seen = record { stands = S.stands c.args.shelf.now; given = S.given c.pack.new.shelf; before = S.faults c.args.shelf.now; now = S.faults c.pack.new.shelf } in
+    subst (λ (command : Command). IfOk c.pack.result (λ o. PrintsCommand seen command (bytes_of o))) (sym c.in-Compile.is)
+    (rw c.as_str-in-Compile.ensures at c.pack.ensures.pack)

@@ -1,0 +1,215 @@
+-- When a run stops for a reason: what is then true of the words and of the shelf.
+use Rattle.std.specs.Prelude.{ℕ, ◌≡◌, ◌≢◌, ◌<◌, ◌≤◌, ◌⊎◌, List, Option, Some, None, IfSome, Ok, Err, length, position, ⊤}
+use Rattle.std.specs.Str.{bytes_eq}
+use Rattle.cpg_base.specs.Graph.{Graph}
+use Rattle.cpg_io.specs.Causes.{Rose}
+use Rattle.cpg_words.specs.Parts.{Text}
+use Rattle.cpg_words.specs.Forms.{command_of}
+use Rattle.cpg_words.specs.declared.command.Command.{Command}
+use Rattle.cpg_words.specs.declared.command.Command.TheVariants.{Show, Compile, Check, Play, Node, Trial, Live, Hyper, Tune, Audit}
+use Rattle.cpg_reader.specs.declared.place.ReadFault.{ReadFault}
+use Rattle.cpg_reader.specs.Document.{problem_of}
+use Rattle.cpg_rules.specs.Admission.{Admission, IsAdmitted}
+use Rattle.cpg_rules.specs.declared.admission.RuleFault.{RuleFault}
+use Rattle.cpg_rules.specs.Faults.{ShowsFault}
+use Rattle.cpg_table.specs.Head.{Head}
+use Rattle.cpg_table.specs.Lawful.{Tables}
+use Rattle.cpg_codec.specs.declared.fault.PackFault.{PackFault}
+use Rattle.cpg_codec.specs.Packs.{AreLawful, IsBadPack}
+use Rattle.cpg_codec.specs.Spelling.{spelling}
+use Rattle.cpg_order.specs.Scenario.{scenarios}
+use Rattle.cpg_table.specs.declared.fault.Fault.{Fault}
+use Rattle.cpg_scenario.specs.File.{file_of}
+use Rattle.cpg_scenario.specs.declared.fault.ScenarioFault.{ScenarioFault}
+use Rattle.cpg_scenario.specs.declared.reading.Played.{Played}
+use Rattle.cpg_violation.specs.Heads.{IsHeadFor}
+use Rattle.cpg_check.specs.declared.heads.HeadPart.{HeadPart}
+use Rattle.cpg_check.specs.Heads.{IsFirstDifference}
+use Rattle.cpg_check.specs.Verdict.{IsFirstFault}
+use Rattle.cpg_reach.specs.Wide.{IsNarrow}
+use Rattle.cpg_core.specs.declared.fault.CompileFault.{CompileFault}
+use Rattle.cpg_core.specs.Compilation.{ShowsCompileFault}
+use Rattle.cpg_app.specs.declared.halt.Refusal.{Refusal}
+use Rattle.cpg_app.specs.declared.halt.Refusal.TheVariants.{LongGraph, LongPack, LongScenario, OtherGraph, UnknownNode, NotBuilt}
+use Rattle.cpg_app.specs.declared.halt.Halt.{Halt}
+use Rattle.cpg_app.specs.declared.halt.Halt.TheVariants.{Words, Read, Refused, Unsafe, Memory}
+use Rattle.cpg_app.specs.Halts.{halt_of_reading, halt_of_pack, halt_of_rules, halt_of_scenario, halt_of_compile}
+
+-- what a run sees of its shelf: what stands under each name, how many bytes the last fetched name gave, and the count
+-- of faults before and after
+pub record Seen : Type 0 where
+  pub stands : Text → Option Text
+  pub given : ℕ
+  pub before : ℕ
+  pub now : ℕ
+
+-- the most bytes of a graph file, of a scenario file, and of a pack
+abbrev pub graph_limit : ℕ
+graph_limit = 16777216
+
+abbrev pub scenario_limit : ℕ
+scenario_limit = 16777216
+
+abbrev pub pack_limit : ℕ
+pack_limit = 268435456
+
+-- a file, where the shelf tells its bytes, has so many at most
+abbrev pub IsShort : ℕ → Option Text → Type 0
+IsShort limit told = IfSome told (λ bytes. length bytes ≤ limit)
+
+-- the bytes of a graph file, where the shelf tells them, are those of a graph
+abbrev pub Says : Option Text → Graph → Type 0
+Says told g = IsShort graph_limit told × IfSome told (λ bytes. problem_of bytes ≡ Ok g)
+
+-- and the graph keeps all rules, with its urgency order and its guards
+pub record Admits (told : Option Text) (a : Admission) : Type 0 where
+  pub says : Says told a.graph
+  pub admitted : IsAdmitted a.graph a.order a.guards
+
+-- the shelf met a fault
+pub record IsUnread (seen : Seen) (halt : Halt) : Type 0 where
+  pub halt_is : halt ≡ Read
+  pub rose : Rose seen.before seen.now
+
+-- a file gave more bytes than the limit
+pub record IsLong (limit : ℕ) (refusal : Refusal) (seen : Seen) (told : Option Text) (halt : Halt) : Type 0 where
+  pub halt_is : halt ≡ Refused refusal
+  pub given : limit < seen.given
+  pub long : IfSome told (λ bytes. limit < length bytes)
+
+-- its bytes are those of no graph, and this is the first refusal of them
+pub record IsFaulty (told : Option Text) (halt : Halt) : Type 0 where
+  pub fault : ReadFault
+  pub halt_is : halt ≡ halt_of_reading fault
+  pub first : fault ≢ ReadFault.OutOfMemory → IsShort graph_limit told × IfSome told (λ bytes. problem_of bytes ≡ Err fault)
+
+-- the graph breaks a rule, the first that it breaks
+pub record BreaksRule (g : Graph) (halt : Halt) : Type 0 where
+  pub fault : RuleFault
+  pub halt_is : halt ≡ halt_of_rules g fault
+  pub shows : ShowsFault g fault
+
+-- it is late or too wide
+pub record IsUncompiled (a : Admission) (halt : Halt) : Type 0 where
+  pub fault : CompileFault
+  pub halt_is : halt ≡ halt_of_compile a fault
+  pub shows : ShowsCompileFault a.graph a.order fault
+
+-- the command, or this form of graph, isn't built
+abbrev pub IsUnbuilt : Halt → Type 0
+IsUnbuilt halt = halt ≡ Refused NotBuilt
+
+abbrev pub StopsReading : Seen → Option Text → Halt → Type 0
+StopsReading seen told halt = IsUnread seen halt ⊎ (IsLong graph_limit LongGraph seen told halt ⊎ IsFaulty told halt)
+
+-- a graph file isn't admitted: as it is read, or by a rule
+abbrev pub StopsAdmission : Seen → Option Text → Halt → Type 0
+StopsAdmission seen told halt = StopsReading seen told halt ⊎ ((g : Graph) × Says told g × BreaksRule g halt)
+
+-- a graph file stops a run: it isn't admitted, or what the command does with the admitted graph stops it
+abbrev pub StopsGraph : Seen → Option Text → (Admission → Halt → Type 0) → Halt → Type 0
+StopsGraph seen told work halt = StopsAdmission seen told halt ⊎ ((a : Admission) × Admits told a × work a halt)
+
+-- a graph has more scenarios than are gone over one by one
+abbrev pub HasManyScenarios : Graph → Type 0
+HasManyScenarios g = 16384 < length (scenarios g)
+
+-- so that its tables aren't made, though no item is too wide
+pub record IsUnlisted (a : Admission) (halt : Halt) : Type 0 where
+  pub unbuilt : IsUnbuilt halt
+  pub many : HasManyScenarios a.graph
+  pub narrow : IsNarrow a.graph a.order
+
+-- to make the tables of a graph
+abbrev pub StopsCompile : Admission → Halt → Type 0
+StopsCompile a halt = IsUnlisted a halt ⊎ IsUncompiled a halt
+
+-- the bytes of a pack, where the shelf tells them, spell tables
+pub record Spells (told : Option Text) (t : Tables) : Type 0 where
+  pub lawful : AreLawful t
+  pub short : IsShort pack_limit told
+  pub spelled : IfSome told (λ bytes. bytes ≡ spelling t)
+
+-- they spell none
+abbrev pub ShowsPackFault : Option Text → PackFault → Type 0
+ShowsPackFault told (PackFault.BadPack n) = IsShort pack_limit told × IfSome told (λ bytes. IsBadPack bytes n)
+ShowsPackFault told PackFault.OutOfMemory = ⊤
+
+pub record IsNoPack (told : Option Text) (halt : Halt) : Type 0 where
+  pub fault : PackFault
+  pub halt_is : halt ≡ halt_of_pack fault
+  pub shows : ShowsPackFault told fault
+
+abbrev pub StopsPack : Seen → Option Text → Halt → Type 0
+StopsPack seen told halt = IsUnread seen halt ⊎ (IsLong pack_limit LongPack seen told halt ⊎ IsNoPack told halt)
+
+-- a pack stops a run: its bytes spell no tables, or what the command does with them stops it
+abbrev pub StopsTables : Seen → Option Text → (Tables → Halt → Type 0) → Halt → Type 0
+StopsTables seen told work halt = StopsPack seen told halt ⊎ ((t : Tables) × Spells told t × work t halt)
+
+-- the tables are another graph's: the first part of the head that differs
+pub record IsOtherGraph (a : Admission) (t : Tables) (halt : Halt) : Type 0 where
+  pub part : HeadPart
+  pub halt_is : halt ≡ Refused (OtherGraph part)
+  pub first : IsFirstDifference a.graph t.head part
+
+-- they break a rule: the first violation
+pub record IsUnsafe (a : Admission) (t : Tables) (halt : Halt) : Type 0 where
+  pub fault : Fault
+  pub halt_is : halt ≡ Unsafe a fault
+  pub head : IsHeadFor a.graph t.head
+  pub first : IsFirstFault a.graph a.order t.nodes fault
+
+-- to check tables for a graph
+abbrev pub StopsVerdict : Admission → Tables → Halt → Type 0
+StopsVerdict a t halt = IsOtherGraph a t halt ⊎ (IsUnsafe a t halt ⊎ (halt ≡ Memory))
+
+-- the bytes of a scenario file, where the shelf tells them, say a scenario of the graph and lengths
+abbrev pub SaysPlayed : Option Text → Graph → Played → Type 0
+SaysPlayed told g p = IsShort scenario_limit told × IfSome told (λ bytes. file_of g bytes ≡ Ok p)
+
+-- they say none, and this is the first cause
+pub record IsNoScenario (told : Option Text) (g : Graph) (halt : Halt) : Type 0 where
+  pub fault : ScenarioFault
+  pub halt_is : halt ≡ halt_of_scenario fault
+  pub first : fault ≢ ScenarioFault.OutOfMemory → IsShort scenario_limit told × IfSome told (λ bytes. file_of g bytes ≡ Err fault)
+
+abbrev pub StopsPlayed : Seen → Option Text → Graph → Halt → Type 0
+StopsPlayed seen told g halt = IsUnread seen halt ⊎ (IsLong scenario_limit LongScenario seen told halt ⊎ IsNoScenario told g halt)
+
+-- a scenario file stops a run: as it is read, or by the check that comes before its play
+abbrev pub StopsPlay : Seen → Option Text → Admission → Tables → Halt → Type 0
+StopsPlay seen told a t halt = StopsPlayed seen told a.graph halt ⊎ ((p : Played) × SaysPlayed told a.graph p × StopsVerdict a t halt)
+
+-- the number of the first node of a name
+abbrev pub first_named : Head → Text → Option ℕ
+first_named h name = position (λ node. bytes_eq node name) h.nodes
+
+-- no node has the name
+abbrev pub StopsNaming : Tables → Text → Halt → Type 0
+StopsNaming t name halt = ((halt ≡ Refused UnknownNode) × (first_named t.head name ≡ None)) ⊎ (halt ≡ Memory)
+
+-- a command stops as one that isn't built, or for want of memory
+abbrev pub IsUnbuiltCommand : Halt → Type 0
+IsUnbuiltCommand halt = IsUnbuilt halt ⊎ (halt ≡ Memory)
+
+abbrev pub StopsCommand : Seen → Command → Halt → Type 0
+StopsCommand seen (Show graph) halt = StopsGraph seen (seen.stands graph) StopsCompile halt
+StopsCommand seen (Compile graph) halt = StopsGraph seen (seen.stands graph) StopsCompile halt
+StopsCommand seen (Check graph pack) halt = StopsGraph seen (seen.stands graph) (λ a. StopsTables seen (seen.stands pack) (StopsVerdict a)) halt
+StopsCommand seen (Play graph pack scenario turns) halt = StopsGraph seen (seen.stands graph) (λ a. StopsTables seen (seen.stands pack) (StopsPlay seen (seen.stands scenario) a)) halt
+StopsCommand seen (Node pack name) halt = StopsTables seen (seen.stands pack) (λ t. StopsNaming t name) halt
+StopsCommand seen (Trial number) halt = IsUnbuiltCommand halt
+StopsCommand seen (Live pack name stream) halt = IsUnbuiltCommand halt
+StopsCommand seen (Hyper parts) halt = IsUnbuiltCommand halt
+StopsCommand seen (Tune graph) halt = StopsGraph seen (seen.stands graph) (λ _. IsUnbuilt) halt
+StopsCommand seen (Audit graph pack log) halt = IsUnbuiltCommand halt
+
+-- words without a form stop a run as such, or for want of memory
+abbrev pub StopsAsked : Seen → Option Command → Halt → Type 0
+StopsAsked seen None halt = (halt ≡ Words) ⊎ (halt ≡ Memory)
+StopsAsked seen (Some command) halt = StopsCommand seen command halt
+
+-- a run of the words stops for a reason
+abbrev pub Stops : Seen → List Text → Halt → Type 0
+Stops seen words halt = StopsAsked seen (command_of words) halt

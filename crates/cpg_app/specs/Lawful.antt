@@ -1,0 +1,115 @@
+-- What each exit status of a run says.
+use Rattle.std.specs.Prelude.{ℕ, ◌≡◌, ◌≢◌, ◌≤◌, ◌⊎◌, Option, Some, None, Ok, length}
+use Rattle.cpg_io.specs.Causes.{Rose}
+use Rattle.cpg_words.specs.Parts.{Text}
+use Rattle.cpg_words.specs.Forms.{command_of}
+use Rattle.cpg_words.specs.declared.command.Command.{Command}
+use Rattle.cpg_words.specs.declared.command.Command.TheVariants.{Show, Compile, Check, Play}
+use Rattle.cpg_reader.specs.Document.{problem_of}
+use Rattle.cpg_rules.specs.Admission.{Admission, IsAdmitted}
+use Rattle.cpg_order.specs.Scenario.{scenarios}
+use Rattle.cpg_reach.specs.Wide.{IsNarrow, IsWide}
+use Rattle.cpg_core.specs.Compiled.{IsTimely, IsLate}
+use Rattle.cpg_app.specs.declared.halt.Refusal.{Refusal}
+use Rattle.cpg_app.specs.declared.halt.Halt.{Halt}
+use Rattle.cpg_app.specs.declared.halt.Halt.TheVariants.{Refused}
+use Rattle.cpg_table.specs.Lawful.{Tables}
+use Rattle.cpg_table.specs.Valid.{IsValid}
+use Rattle.cpg_codec.specs.Packs.{AreLawful}
+use Rattle.cpg_codec.specs.Spelling.{spelling}
+use Rattle.cpg_violation.specs.Heads.{IsHeadFor}
+use Rattle.cpg_scenario.specs.File.{file_of}
+use Rattle.cpg_scenario.specs.declared.reading.Played.{Played}
+use Rattle.cpg_app.specs.Causes.{Stops, graph_limit, scenario_limit, pack_limit}
+use Rattle.cpg_app.specs.Endings.{Ran, Ends, IsPrinted, IsTold}
+use Rattle.cpg_app.specs.Outputs.{Prints}
+use Rattle.cpg_app.specs.Told.{Untouched}
+
+-- no count of faults rose
+pub record IsFaultless (r : Ran) : Type 0 where
+  pub shelf : Rose r.shelf.before r.shelf.now → ⊥
+  pub out : Rose r.out.before r.out.now → ⊥
+  pub err : Rose r.err.before r.err.now → ⊥
+
+-- the bytes of a graph file that is admitted: at most 16 MiB
+pub record AreAdmitted (bytes : Text) (a : Admission) : Type 0 where
+  pub short : length bytes ≤ graph_limit
+  pub says : problem_of bytes ≡ Ok a.graph
+  pub admitted : IsAdmitted a.graph a.order a.guards
+
+-- the words ask to show or to pack the tables of a graph file
+abbrev pub AsksFor : Text → Option Command → Type 0
+AsksFor graph asked = (asked ≡ Some (Show graph)) ⊎ (asked ≡ Some (Compile graph))
+
+-- they do, the shelf tells the bytes of an admitted graph, and nothing failed
+pub record Asks (r : Ran) (a : Admission) : Type 0 where
+  pub graph : Text
+  pub bytes : Text
+  pub words : AsksFor graph (command_of r.words)
+  pub told : r.shelf.stands graph ≡ Some bytes
+  pub file : AreAdmitted bytes a
+  pub faultless : IsFaultless r
+
+-- it has at most 16,384 scenarios, and nothing is too wide under its urgency order
+pub record IsListable (a : Admission) : Type 0 where
+  pub few : length (scenarios a.graph) ≤ 16384
+  pub narrow : IsNarrow a.graph a.order
+
+-- the shelf tells the bytes of a scenario of the graph and lengths of executions, at most 16 MiB
+pub record SaysScenario (r : Ran) (a : Admission) (name : Text) : Type 0 where
+  pub bytes : Text
+  pub told : r.shelf.stands name ≡ Some bytes
+  pub short : length bytes ≤ scenario_limit
+  pub played : Played
+  pub says : file_of a.graph bytes ≡ Ok played
+
+-- the words ask to check a pack, or to play it as such a scenario file says
+abbrev pub AsksToJudge : Ran → Admission → Text → Text → Type 0
+AsksToJudge r a graph pack = (command_of r.words ≡ Some (Check graph pack))
+    ⊎ ((scenario : Text) × (turns : ℕ) × (command_of r.words ≡ Some (Play graph pack scenario turns)) × SaysScenario r a scenario)
+
+-- they do, the shelf tells the bytes of an admitted graph and of tables, and nothing failed
+pub record AsksVerdict (r : Ran) (a : Admission) (t : Tables) : Type 0 where
+  pub graph : Text
+  pub pack : Text
+  pub words : AsksToJudge r a graph pack
+  pub bytes : Text
+  pub told : r.shelf.stands graph ≡ Some bytes
+  pub file : AreAdmitted bytes a
+  pub spelled : r.shelf.stands pack ≡ Some (spelling t)
+  pub lawful : AreLawful t
+  pub few : length (spelling t) ≤ pack_limit
+  pub faultless : IsFaultless r
+
+-- what each exit status says
+pub record IsLawful (r : Ran) : Type 0 where
+  -- the run has an output or a reason to stop, and all of it was written but where a sink met a fault
+  pub ends : Ends r
+  -- 0: the output was written whole
+  pub done : r.status ≡ 0 → (text : Text) × Prints r.shelf r.words text × IsPrinted r text
+  -- 1 exactly where the words have no form, but for a fault of `err` and want of memory
+  pub words : r.status ≡ 1 → command_of r.words ≡ None
+  pub formless : command_of r.words ≡ None → r.status ≢ 3 → (r.status ≡ 1) ⊎ (r.status ≡ 8)
+  -- 2: the shelf met a fault
+  pub read : r.status ≡ 2 → Rose r.shelf.before r.shelf.now
+  -- 3: a sink met a fault
+  pub write : r.status ≡ 3 → Rose r.out.before r.out.now ⊎ Rose r.err.before r.err.now
+  -- 4: a refusal whose cause is true, and whose line was written whole
+  pub refused : r.status ≡ 4 → (refusal : Refusal) × Stops r.shelf r.words (Refused refusal) × IsTold r (Refused refusal)
+  -- 5 and 6: late or too wide, as the line says
+  pub compiled : (r.status ≡ 5) ⊎ (r.status ≡ 6) → (halt : Halt) × Stops r.shelf r.words halt × IsTold r halt
+  -- 7: the tables of a pack break a rule, as the line says
+  pub unsafe : r.status ≡ 7 → (halt : Halt) × Stops r.shelf r.words halt × IsTold r halt
+  -- but under 0 and 3, nothing was written to `out`
+  pub silent : r.status ≢ 0 → r.status ≢ 3 → Untouched r.out
+  -- such a graph is refused as too wide where some item is under its urgency order; else, where it has at most 16,384
+  -- scenarios, it is shown or packed where every process ends by its due in every scenario, under that order or under the
+  -- track order, and refused as late where some process doesn't under either; but for want of memory
+  pub wide : (a : Admission) (x : ℕ) → Asks r a → IsWide a.graph a.order x → (r.status ≡ 6) ⊎ (r.status ≡ 8)
+  pub made : (a : Admission) → Asks r a → IsListable a → IsTimely a.graph a.order → (r.status ≡ 0) ⊎ (r.status ≡ 8)
+  pub late : (a : Admission) → Asks r a → IsListable a → IsLate a.graph a.order → (r.status ≡ 5) ⊎ (r.status ≡ 8)
+  -- a pack is refused as another graph's where its head is, and else found safe, or played, where its tables keep the ten
+  -- rules, and found unsafe where they don't, but for want of memory
+  pub other : (a : Admission) (t : Tables) → AsksVerdict r a t → (IsHeadFor a.graph t.head → ⊥) → (r.status ≡ 4) ⊎ (r.status ≡ 8)
+  pub safe : (a : Admission) (t : Tables) → AsksVerdict r a t → IsHeadFor a.graph t.head → IsValid a.graph t.nodes → (r.status ≡ 0) ⊎ (r.status ≡ 8)
+  pub broken : (a : Admission) (t : Tables) → AsksVerdict r a t → IsHeadFor a.graph t.head → (IsValid a.graph t.nodes → ⊥) → (r.status ≡ 7) ⊎ (r.status ≡ 8)

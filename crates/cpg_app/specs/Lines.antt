@@ -1,0 +1,170 @@
+-- The exit status of a run that stops without an output, and the line that it writes.
+use Rattle.std.specs.Prelude.{ℕ, ◌+◌, ◌-◌, ◌≡◌, ◌<◌, nat_lt, if◌then◌else◌, List, [], ◌++◌, Option, Some, None, length, get_or, codes, ⊤}
+use Rattle.std.specs.List.{flat_map}
+use Rattle.std.specs.Fmt.{decimal}
+use Rattle.cpg_base.specs.Graph.{Graph, process_count, edge_count, condition_count, item_count, process_at, process_of}
+use Rattle.cpg_base.specs.Scenario.{Scenario}
+use Rattle.cpg_scenario.specs.Text.{scenario_text}
+use Rattle.cpg_reader.specs.declared.place.Table.{Table}
+use Rattle.cpg_reader.specs.declared.place.Table.TheVariants.{Top, Node, Slot, Process, Edge}
+use Rattle.cpg_reader.specs.declared.place.Key.{Key}
+use Rattle.cpg_reader.specs.declared.place.Key.TheVariants.{Unknown}
+use Rattle.cpg_reader.specs.declared.place.Place.{Place}
+use Rattle.cpg_reader.specs.declared.place.What.{What}
+use Rattle.cpg_reader.specs.declared.place.What.TheVariants.{Nodes, Slots, Processes, Edges, Number, Conditions}
+use Rattle.cpg_reader.specs.Rows.{text_of}
+use Rattle.cpg_scenario.specs.declared.fault.Cause.{Cause}
+use Rattle.cpg_check.specs.declared.heads.HeadPart.{HeadPart}
+use Rattle.cpg_check.specs.declared.heads.HeadPart.TheVariants.{Faults}
+use Rattle.cpg_table.specs.declared.fault.Fault.{Fault}
+use Rattle.cpg_app.specs.declared.halt.Refusal.{Refusal}
+use Rattle.cpg_app.specs.declared.halt.Refusal.TheVariants.{NotToml, BadField, DoubleName, UnknownName, OverLimit, Cycle, TwoAlternatives, NoSlot, TooBig, BadPack, BadScenario, LongGraph, LongPack, LongScenario, OtherGraph, TooManyTracks, UnknownNode, NotBuilt}
+use Rattle.cpg_app.specs.declared.halt.Halt.{Halt}
+use Rattle.cpg_app.specs.declared.halt.Halt.TheVariants.{Words, Read, Refused, Late, TooWide, Unsafe, Memory}
+
+abbrev pub status_of : Halt → ℕ
+status_of Words = 1
+status_of Read = 2
+status_of (Refused refusal) = 4
+status_of (Late a s p time) = 5
+status_of (TooWide a x) = 6
+status_of (Unsafe a f) = 7
+status_of Memory = 8
+
+-- a key as it is written in the file, or `unknown`
+abbrev pub key_text : Key → List ℕ
+key_text Unknown = codes "unknown"
+key_text key = text_of key
+
+-- a table that is a list, and the index of one of its elements; the top has no index
+abbrev pub table_text : Table → ℕ → List ℕ
+table_text Top index = codes "top"
+table_text Node index = codes "node " ++ decimal index
+table_text Slot index = codes "slot " ++ decimal index
+table_text Process index = codes "process " ++ decimal index
+table_text Edge index = codes "edge " ++ decimal index
+
+abbrev pub place_text : Place → List ℕ
+place_text place = table_text place.table place.index ++ codes " " ++ key_text place.key
+
+abbrev pub what_text : What → List ℕ
+what_text Nodes = codes "nodes"
+what_text Slots = codes "slots"
+what_text Processes = codes "processes"
+what_text Edges = codes "edges"
+what_text (Number place) = place_text place
+what_text Conditions = codes "conditions"
+
+-- what a process is called
+abbrev pub name_of : Graph → ℕ → List ℕ
+name_of g p = (process_at g p).name
+
+-- what a node is called
+abbrev pub node_name : Graph → ℕ → List ℕ
+node_name g node = get_or g.nodes node []
+
+-- a process and a scenario
+abbrev pub case_text : Graph → ℕ → Scenario → List ℕ
+case_text g p s = name_of g p ++ codes " in " ++ scenario_text g s
+
+-- the processes around a cycle
+abbrev pub cycle_text : Graph → List ℕ → List ℕ
+cycle_text g walk = codes "6 cycle" ++ flat_map (λ p. codes " " ++ name_of g p) walk
+
+-- a join with two live inputs
+abbrev pub alternatives_text : Graph → ℕ → Scenario → List ℕ
+alternatives_text g p s = codes "7 alternatives " ++ case_text g p s
+
+-- what is wrong with a scenario file
+abbrev pub cause_text : Cause → List ℕ
+cause_text Cause.Toml = codes "toml"
+cause_text Cause.Field = codes "field"
+cause_text Cause.Unknown = codes "unknown"
+cause_text Cause.Condition = codes "condition"
+cause_text Cause.Budget = codes "budget"
+cause_text Cause.Length = codes "length"
+
+-- a part of a head
+abbrev pub part_text : HeadPart → List ℕ
+part_text Faults = codes "faults"
+part_text HeadPart.Nodes = codes "nodes"
+part_text HeadPart.Processes = codes "processes"
+part_text HeadPart.Edges = codes "edges"
+
+-- a refusal: its number, its kind, and where it is
+abbrev pub refusal_text : Refusal → List ℕ
+refusal_text NotToml = codes "1 not toml"
+refusal_text (BadField place) = codes "2 field " ++ place_text place
+refusal_text (DoubleName place) = codes "3 double " ++ place_text place
+refusal_text (UnknownName place) = codes "4 unknown " ++ place_text place
+refusal_text (OverLimit what) = codes "5 limit " ++ what_text what
+refusal_text (Cycle g walk) = cycle_text g walk
+refusal_text (TwoAlternatives g p s) = alternatives_text g p s
+refusal_text (NoSlot g node) = codes "8 slot " ++ node_name g node
+refusal_text (TooBig e) = codes "9 big e" ++ decimal e
+refusal_text (BadPack length) = codes "10 pack " ++ decimal length
+refusal_text (BadScenario cause) = codes "12 scenario " ++ cause_text cause
+refusal_text LongGraph = codes "16 long graph"
+refusal_text LongPack = codes "16 long pack"
+refusal_text LongScenario = codes "16 long scenario"
+refusal_text (OtherGraph part) = codes "17 other graph " ++ part_text part
+refusal_text TooManyTracks = codes "18 tracks"
+refusal_text UnknownNode = codes "19 node"
+refusal_text NotBuilt = codes "20 not built"
+
+abbrev pub refused_text : Refusal → List ℕ
+refused_text refusal = codes "refused " ++ refusal_text refusal
+
+-- an end past its due
+abbrev pub late_text : Graph → Scenario → ℕ → ℕ → List ℕ
+late_text g s p time = codes "late " ++ decimal time ++ codes " by " ++ case_text g p s
+
+-- an item: what starts, is sent or is told
+abbrev pub item_text : Graph → ℕ → List ℕ
+item_text g x =
+    if nat_lt x (process_count g) then codes "start " ++ name_of g x else
+    if nat_lt x (process_count g + edge_count g) then codes "send e" ++ decimal (x - process_count g) else
+    codes "tell " ++ name_of g (process_of g (x - (process_count g + edge_count g)))
+
+-- the number of a column, or a dash where there is none
+abbrev pub column_text : Option ℕ → List ℕ
+column_text None = codes "-"
+column_text (Some column) = decimal column
+
+-- a violation of a rule: the rule, the item and its column, and the scenario
+abbrev pub unsafe_text : Graph → Fault → List ℕ
+unsafe_text g f = codes "unsafe V" ++ decimal f.rule ++ codes " " ++ item_text g f.item ++ codes " column " ++ column_text f.column ++ codes " in " ++ scenario_text g f.scenario
+
+abbrev pub reason_text : Halt → List ℕ
+reason_text Words = codes "words"
+reason_text Read = codes "read fault"
+reason_text (Refused refusal) = refused_text refusal
+reason_text (Late a s p time) = late_text a.graph s p time
+reason_text (TooWide a x) = codes "too wide " ++ item_text a.graph x
+reason_text (Unsafe a f) = unsafe_text a.graph f
+reason_text Memory = codes "memory"
+
+-- the line on `err`
+abbrev pub line_of : Halt → List ℕ
+line_of halt = codes "cpgc: " ++ reason_text halt ++ codes "\n"
+
+-- the line on `err` where `out` met a fault
+abbrev pub write_fault_line : List ℕ
+write_fault_line = codes "cpgc: write fault\n"
+
+-- What a line names is there: a scenario has the graph's lengths, and an item is one of its items.
+
+pub record HasLengths (g : Graph) (s : Scenario) : Type 0 where
+  pub values : length s.values ≡ condition_count g
+  pub faults : length s.faults ≡ process_count g
+
+abbrev pub IsNamedRefusal : Refusal → Type 0
+IsNamedRefusal (TwoAlternatives g p s) = HasLengths g s
+IsNamedRefusal refusal = ⊤
+
+abbrev pub IsNamed : Halt → Type 0
+IsNamed (Refused refusal) = IsNamedRefusal refusal
+IsNamed (Late a s p time) = HasLengths a.graph s
+IsNamed (TooWide a x) = x < item_count a.graph
+IsNamed (Unsafe a f) = (f.item < item_count a.graph) × HasLengths a.graph f.scenario
+IsNamed halt = ⊤

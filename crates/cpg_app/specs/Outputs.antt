@@ -1,0 +1,118 @@
+-- What a command puts out.
+use Rattle.std.specs.Prelude.{ℕ, ◌≡◌, List, Option, Some, None, codes, string_bytes}
+use Rattle.cpg_base.specs.Graph.{Graph}
+use Rattle.cpg_words.specs.Parts.{Text}
+use Rattle.cpg_words.specs.Forms.{command_of}
+use Rattle.cpg_words.specs.declared.command.Command.{Command}
+use Rattle.cpg_words.specs.declared.command.Command.TheVariants.{Show, Compile, Check, Play, Node, Trial, Live, Hyper, Tune, Audit}
+use Rattle.cpg_rules.specs.Admission.{Admission}
+use Rattle.cpg_table.specs.Table.{NodeTable}
+use Rattle.cpg_table.specs.Valid.{IsValid}
+use Rattle.cpg_violation.specs.Heads.{IsHeadFor}
+use Rattle.cpg_core.specs.declared.compiling.Compiled.{Compiled}
+use Rattle.cpg_core.specs.Compilation.{IsCompilation}
+use Rattle.cpg_cluster.specs.Correct.{IsCorrect, IsLively, IsSteady, EndsAsPlanned}
+use Rattle.cpg_show.specs.TableText.{table_text}
+use Rattle.cpg_show.specs.NodeText.{node_text}
+use Rattle.cpg_table.specs.Lawful.{Tables}
+use Rattle.cpg_codec.specs.Spelling.{spelling}
+use Rattle.cpg_app.specs.declared.output.Output.{Output}
+use Rattle.cpg_app.specs.declared.output.Output.TheVariants.{Lines, Pack}
+use Rattle.cpg_scenario.specs.File.{IsPlayed}
+use Rattle.cpg_scenario.specs.declared.reading.Played.{Played}
+use Rattle.cpg_app.specs.Plays.{world_of, IsPlayText}
+use Rattle.cpg_app.specs.Causes.{Seen, Admits, SaysPlayed, Spells, first_named}
+
+-- Tables that keep the ten rules, and what follows for the nodes that have them: in every scenario, with all lengths of
+-- executions and in every order of turns, each node starts and sends just what is due, in order and in time, can always go
+-- on, and takes no notice of how early an execution ends.
+pub record AreSafe (g : Graph) (tables : List NodeTable) : Type 0 where
+  pub valid : IsValid g tables
+  pub correct : IsCorrect g tables
+  pub lively : IsLively g tables
+  pub steady : IsSteady g tables
+  pub planned : EndsAsPlanned g tables
+
+-- the bytes are spelled from the safe tables that a compile makes of an admitted graph
+pub record IsMadeOf (a : Admission) (spell : Graph → Compiled → Text) (bytes : Text) : Type 0 where
+  pub compiled : Compiled
+  pub compilation : IsCompilation a.graph a.order compiled
+  pub safe : AreSafe a.graph compiled.built.tables.nodes
+  pub spelled : bytes ≡ spell a.graph compiled
+
+-- the graph is that of the file
+abbrev pub IsMade : Option Text → (Graph → Compiled → Text) → Text → Type 0
+IsMade told spell bytes = (a : Admission) × Admits told a × IsMadeOf a spell bytes
+
+-- the text of tables
+abbrev pub shown : Graph → Compiled → Text
+shown g c = table_text g c.order c.built.tables.nodes c.built.worst
+
+-- their pack
+abbrev pub packed : Graph → Compiled → Text
+packed g c = spelling c.built.tables
+
+-- the bytes of an output
+abbrev pub bytes_of : Output → Text
+bytes_of (Lines text) = string_bytes text
+bytes_of (Pack tables) = spelling tables
+
+-- the text is that of the table of the first node of a name
+pub record IsNodeText (t : Tables) (name text : Text) : Type 0 where
+  pub node : ℕ
+  pub named : first_named t.head name ≡ Some node
+  pub spelled : text ≡ node_text t node
+
+-- so of the tables that the bytes of a pack spell
+abbrev pub IsSpelled : Option Text → (Tables → Type 0) → Type 0
+IsSpelled told fact = (t : Tables) × Spells told t × fact t
+
+abbrev pub IsNodeOf : Option Text → Text → Text → Type 0
+IsNodeOf told name text = IsSpelled told (λ t. IsNodeText t name text)
+
+-- the tables have the graph's head and are safe
+pub record AreJudgedSafe (a : Admission) (t : Tables) : Type 0 where
+  pub head : IsHeadFor a.graph t.head
+  pub safe : AreSafe a.graph t.nodes
+
+-- and the text says so
+abbrev pub IsSafeText : Admission → Tables → Text → Type 0
+IsSafeText a t text = AreJudgedSafe a t × (text ≡ codes "safe\n")
+
+-- of the graph of a file and the tables of a pack
+abbrev pub IsChecked : Option Text → Option Text → Text → Type 0
+IsChecked graph pack text = (a : Admission) × Admits graph a × IsSpelled pack (λ t. IsSafeText a t text)
+
+-- the text of the play of what a scenario file says
+pub record IsPlayedText (told : Option Text) (a : Admission) (t : Tables) (number : ℕ) (text : Text) : Type 0 where
+  pub judged : AreJudgedSafe a t
+  pub played : Played
+  pub says : SaysPlayed told a.graph played
+  pub lawful : IsPlayed a.graph played
+  pub played_text : IsPlayText a.graph t.nodes (world_of played) number text
+
+-- of the graph of a file and the tables of a pack
+abbrev pub IsPlayOf : Option Text → Option Text → Option Text → ℕ → Text → Type 0
+IsPlayOf graph pack scenario number text = (a : Admission) × Admits graph a × IsSpelled pack (λ t. IsPlayedText scenario a t number text)
+
+-- a command's output
+abbrev pub PrintsCommand : Seen → Command → Text → Type 0
+PrintsCommand seen (Show graph) text = IsMade (seen.stands graph) shown text
+PrintsCommand seen (Compile graph) text = IsMade (seen.stands graph) packed text
+PrintsCommand seen (Check graph pack) text = IsChecked (seen.stands graph) (seen.stands pack) text
+PrintsCommand seen (Play graph pack scenario turns) text = IsPlayOf (seen.stands graph) (seen.stands pack) (seen.stands scenario) turns text
+PrintsCommand seen (Node pack name) text = IsNodeOf (seen.stands pack) name text
+PrintsCommand seen (Trial number) text = ⊥
+PrintsCommand seen (Live pack name stream) text = ⊥
+PrintsCommand seen (Hyper parts) text = ⊥
+PrintsCommand seen (Tune graph) text = ⊥
+PrintsCommand seen (Audit graph pack log) text = ⊥
+
+-- words without a form have none
+abbrev pub PrintsAsked : Seen → Option Command → Text → Type 0
+PrintsAsked seen None text = ⊥
+PrintsAsked seen (Some command) text = PrintsCommand seen command text
+
+-- a run of the words puts out the text
+abbrev pub Prints : Seen → List Text → Text → Type 0
+Prints seen words text = PrintsAsked seen (command_of words) text

@@ -1,0 +1,346 @@
+//! What each command does before anything is written.
+ghost use Rattle.std.specs.Prelude.{◌≡◌, ◌<◌, ◌≤◌, All, IfOk, IfErr, IfSome, length, map, string_bytes};
+ghost use Rattle.std.specs.Str.{bytes_eq};
+ghost use Rattle.cpg_words.specs.FileWords.{file_words, file_words_of};
+ghost use Rattle.cpg_io.specs.Shelf.{SameLeave, SameNames};
+ghost use Rattle.cpg_core.specs.Compilation.{IsCompilation};
+ghost use Rattle.cpg_app.specs.Causes.{Admits, first_named, HasManyScenarios, IsUnbuilt, Stops, StopsAdmission, StopsCommand, StopsCompile, StopsGraph, StopsNaming, StopsPlay, StopsTables, StopsVerdict};
+ghost use Rattle.cpg_app.specs.Outputs.{bytes_of, packed, shown, AreJudgedSafe, AreSafe, IsMade, IsMadeOf, IsNodeOf, IsNodeText, IsChecked, IsPlayOf, IsPlayedText, IsSafeText, IsSpelled, Prints, PrintsCommand};
+
+use crate::halt::{Halt, Refusal};
+use crate::output::Output;
+use crate::playing::play_text;
+use crate::reading::{admit_graph, read_graph, read_played, read_tables};
+use cpg_base::Name;
+use cpg_check::{Verdict, check};
+use cpg_core::{CompileFault, Compiled, compile};
+use cpg_io::Shelf;
+use cpg_list::has_few_scenarios;
+use cpg_reach::too_wide;
+use cpg_rules::Admitted;
+use cpg_run::Built;
+use cpg_show::{node_text, table_text};
+use cpg_table::{Head, Tables};
+use cpg_words::{Command, WordsFault, read_words};
+use std::alloc::Global;
+
+/// An admitted graph, and what its compile answers.
+#[derive(Drop)]
+struct Made {
+    admitted: Admitted,
+    compiled: Compiled,
+}
+
+/// Why the tables of a graph of more scenarios than are gone over one by one aren't made: an item is too wide, or such
+/// graphs aren't built yet.
+fn unlisted(alloc: Global, admitted: Admitted) -> Halt
+    requires { HasManyScenarios admitted.graph }
+    ensures { StopsCompile admitted result }
+{
+    match too_wide(alloc, &admitted, admitted.order()) {
+        Ok(Some(item)) => Halt::of_compile(admitted, CompileFault::TooWide(item)),
+        Ok(None) => Halt::Refused(Refusal::NotBuilt),
+        Err(_) => Halt::Memory,
+    }
+}
+
+/// Compiles an admitted graph.
+fn compile_graph(alloc: Global, admitted: Admitted) -> Result<Made, Halt>
+    ensures same { IfOk result (λ made. made.admitted ≡ admitted) }
+    ensures compiled { IfOk result (λ made. IsCompilation admitted.graph admitted.order made.compiled) }
+    ensures safe { IfOk result (λ made. AreSafe admitted.graph made.compiled.built.tables.nodes) }
+    ensures halt { IfErr result (StopsCompile admitted) }
+{
+    if !has_few_scenarios(admitted.problem()) {
+        return Err(unlisted(alloc, admitted));
+    }
+    match compile(alloc, &admitted) {
+        Ok(compiled) => Ok(Made { admitted, compiled }),
+        Err(fault) => Err(Halt::of_compile(admitted, fault)),
+    }
+}
+
+/// The table text of an admitted graph.
+fn text_of(alloc: Global, admitted: Admitted) -> Result<Output, Halt>
+    ensures text { IfOk result (λ o. IsMadeOf admitted shown (bytes_of o)) }
+    ensures halt { IfErr result (StopsCompile admitted) }
+{
+    let made = compile_graph(alloc, admitted)?;
+    let built = &made.compiled.built;
+    match table_text(
+        alloc,
+        made.admitted.problem(),
+        &built.tables,
+        built.worst,
+        &made.compiled.order,
+    ) {
+        Ok(text) => Ok(Output::Lines(text)),
+        Err(_) => Err(Halt::Memory),
+    }
+}
+
+/// The pack of an admitted graph.
+fn pack_of(alloc: Global, admitted: Admitted) -> Result<Output, Halt>
+    ensures pack { IfOk result (λ o. IsMadeOf admitted packed (bytes_of o)) }
+    ensures halt { IfErr result (StopsCompile admitted) }
+{
+    let made = compile_graph(alloc, admitted)?;
+    let Made { compiled, .. } = made;
+    let Compiled { built, .. } = compiled;
+    let Built { tables, .. } = built;
+    Ok(Output::Pack(tables))
+}
+
+/// Reads and admits a graph file.
+fn admitted_file<S: Shelf>(alloc: Global, shelf: &mut S, name: &str) -> Result<Admitted, Halt>
+    requires { S.may_fetch shelf.old name.now }
+    ensures names { SameNames (S.stands shelf.old) (S.stands shelf.new) }
+    ensures leave { SameLeave (S.may_fetch shelf.old) (S.may_fetch shelf.new) }
+    ensures later { S.faults shelf.old ≤ S.faults shelf.new }
+    ensures graph { IfOk result (Admits (S.stands shelf.old name.now)) }
+    ensures halt { IfErr result (StopsAdmission (record { stands = S.stands shelf.old; given = S.given shelf.new; before = S.faults shelf.old; now = S.faults shelf.new }) (S.stands shelf.old name.now)) }
+{
+    let graph = read_graph(alloc, shelf, name)?;
+    let admitted = admit_graph(alloc, graph)?;
+    Ok(admitted)
+}
+
+/// Shows the tables of a graph file.
+fn show<S: Shelf>(alloc: Global, shelf: &mut S, name: &str) -> Result<Output, Halt>
+    requires { S.may_fetch shelf.old name.now }
+    ensures text { IfOk result (λ o. IsMade (S.stands shelf.old name.now) shown (bytes_of o)) }
+    ensures halt { IfErr result (StopsGraph (record { stands = S.stands shelf.old; given = S.given shelf.new; before = S.faults shelf.old; now = S.faults shelf.new }) (S.stands shelf.old name.now) StopsCompile) }
+{
+    let admitted = admitted_file(alloc, shelf, name)?;
+    let text = text_of(alloc, admitted)?;
+    Ok(text)
+}
+
+/// Packs the tables of a graph file.
+fn pack<S: Shelf>(alloc: Global, shelf: &mut S, name: &str) -> Result<Output, Halt>
+    requires { S.may_fetch shelf.old name.now }
+    ensures pack { IfOk result (λ o. IsMade (S.stands shelf.old name.now) packed (bytes_of o)) }
+    ensures halt { IfErr result (StopsGraph (record { stands = S.stands shelf.old; given = S.given shelf.new; before = S.faults shelf.old; now = S.faults shelf.new }) (S.stands shelf.old name.now) StopsCompile) }
+{
+    let admitted = admitted_file(alloc, shelf, name)?;
+    let pack = pack_of(alloc, admitted)?;
+    Ok(pack)
+}
+
+/// Why a command stops that isn't built beyond the admission of its graph.
+fn admit_only<S: Shelf>(alloc: Global, shelf: &mut S, name: &str) -> Halt
+    requires { S.may_fetch shelf.old name.now }
+    ensures { StopsGraph (record { stands = S.stands shelf.old; given = S.given shelf.new; before = S.faults shelf.old; now = S.faults shelf.new }) (S.stands shelf.old name.now) (λ _. IsUnbuilt) result }
+{
+    match admitted_file(alloc, shelf, name) {
+        Ok(_) => Halt::Refused(Refusal::NotBuilt),
+        Err(halt) => halt,
+    }
+}
+
+/// Whether tables are valid for an admitted graph, which comes back where they are.
+fn judged(alloc: Global, admitted: Admitted, tables: &Tables) -> Result<Admitted, Halt>
+    ensures same { IfOk result (λ a. a ≡ admitted) }
+    ensures safe { IfOk result (λ _. AreJudgedSafe admitted tables.now) }
+    ensures halt { IfErr result (StopsVerdict admitted tables.now) }
+{
+    let _graph = admitted.problem();
+    let _head = tables.head();
+    match check(alloc, &admitted, tables) {
+        Ok(Verdict::Yes) => Ok(admitted),
+        Ok(Verdict::Other(part)) => Err(Halt::Refused(Refusal::OtherGraph(part))),
+        Ok(Verdict::No(fault)) => Err(Halt::Unsafe {
+            graph: admitted,
+            fault,
+        }),
+        Err(_) => Err(Halt::Memory),
+    }
+}
+
+/// The output of a check of tables for an admitted graph.
+fn verdict_of(alloc: Global, admitted: Admitted, tables: &Tables) -> Result<Output, Halt>
+    ensures text { IfOk result (λ o. IsSafeText admitted tables.now (bytes_of o)) }
+    ensures halt { IfErr result (StopsVerdict admitted tables.now) }
+{
+    let _admitted = judged(alloc, admitted, tables)?;
+    match String::from_str(alloc, "safe\n") {
+        Ok(text) => Ok(Output::Lines(text)),
+        Err(_) => Err(Halt::Memory),
+    }
+}
+
+/// Checks a pack for an admitted graph.
+fn check_pack<S: Shelf>(
+    alloc: Global,
+    shelf: &mut S,
+    admitted: Admitted,
+    pack: &str,
+) -> Result<Output, Halt>
+    requires { S.may_fetch shelf.old pack.now }
+    ensures text { IfOk result (λ o. IsSpelled (S.stands shelf.old pack.now) (λ t. IsSafeText admitted t (bytes_of o))) }
+    ensures halt { IfErr result (StopsTables (record { stands = S.stands shelf.old; given = S.given shelf.new; before = S.faults shelf.old; now = S.faults shelf.new }) (S.stands shelf.old pack.now) (StopsVerdict admitted)) }
+{
+    let tables = read_tables(alloc, shelf, pack)?;
+    let output = verdict_of(alloc, admitted, &tables)?;
+    Ok(output)
+}
+
+/// Checks a pack for the graph of a file.
+fn check_files<S: Shelf>(
+    alloc: Global,
+    shelf: &mut S,
+    graph: &str,
+    pack: &str,
+) -> Result<Output, Halt>
+    requires graph { S.may_fetch shelf.old graph.now }
+    requires pack { S.may_fetch shelf.old pack.now }
+    ensures text { IfOk result (λ o. IsChecked (S.stands shelf.old graph.now) (S.stands shelf.old pack.now) (bytes_of o)) }
+    ensures halt { IfErr result (StopsGraph (record { stands = S.stands shelf.old; given = S.given shelf.new; before = S.faults shelf.old; now = S.faults shelf.new }) (S.stands shelf.old graph.now) (λ a. StopsTables (record { stands = S.stands shelf.old; given = S.given shelf.new; before = S.faults shelf.old; now = S.faults shelf.new }) (S.stands shelf.old pack.now) (StopsVerdict a))) }
+{
+    let admitted = admitted_file(alloc, shelf, graph)?;
+    check_pack(alloc, shelf, admitted, pack)
+}
+
+/// Plays tables with what a scenario file says, once they are found valid.
+fn play_scenario<S: Shelf>(
+    alloc: Global,
+    shelf: &mut S,
+    admitted: Admitted,
+    tables: &Tables,
+    scenario: &str,
+    turns: u64,
+) -> Result<Output, Halt>
+    requires { S.may_fetch shelf.old scenario.now }
+    ensures text { IfOk result (λ o. IsPlayedText (S.stands shelf.old scenario.now) admitted tables.now turns (bytes_of o)) }
+    ensures halt { IfErr result (StopsPlay (record { stands = S.stands shelf.old; given = S.given shelf.new; before = S.faults shelf.old; now = S.faults shelf.new }) (S.stands shelf.old scenario.now) admitted tables.now) }
+{
+    let _head = tables.head();
+    let played = read_played(alloc, shelf, scenario, admitted.problem())?;
+    let admitted = judged(alloc, admitted, tables)?;
+    match play_text(alloc, &admitted, tables, &played, turns) {
+        Ok(text) => Ok(Output::Lines(text)),
+        Err(_) => Err(Halt::Memory),
+    }
+}
+
+/// Plays the tables of a pack for an admitted graph.
+fn play_pack<S: Shelf>(
+    alloc: Global,
+    shelf: &mut S,
+    admitted: Admitted,
+    pack: &str,
+    scenario: &str,
+    turns: u64,
+) -> Result<Output, Halt>
+    requires pack { S.may_fetch shelf.old pack.now }
+    requires scenario { S.may_fetch shelf.old scenario.now }
+    ensures text { IfOk result (λ o. IsSpelled (S.stands shelf.old pack.now) (λ t. IsPlayedText (S.stands shelf.old scenario.now) admitted t turns (bytes_of o))) }
+    ensures halt { IfErr result (StopsTables (record { stands = S.stands shelf.old; given = S.given shelf.new; before = S.faults shelf.old; now = S.faults shelf.new }) (S.stands shelf.old pack.now) (StopsPlay (record { stands = S.stands shelf.old; given = S.given shelf.new; before = S.faults shelf.old; now = S.faults shelf.new }) (S.stands shelf.old scenario.now) admitted)) }
+{
+    let tables = read_tables(alloc, shelf, pack)?;
+    play_scenario(alloc, shelf, admitted, &tables, scenario, turns)
+}
+
+/// Plays the tables of a pack for the graph of a file.
+fn play_files<S: Shelf>(
+    alloc: Global,
+    shelf: &mut S,
+    graph: &str,
+    pack: &str,
+    scenario: &str,
+    turns: u64,
+) -> Result<Output, Halt>
+    requires graph { S.may_fetch shelf.old graph.now }
+    requires pack { S.may_fetch shelf.old pack.now }
+    requires scenario { S.may_fetch shelf.old scenario.now }
+    ensures text { IfOk result (λ o. IsPlayOf (S.stands shelf.old graph.now) (S.stands shelf.old pack.now) (S.stands shelf.old scenario.now) turns (bytes_of o)) }
+    ensures halt { IfErr result (StopsGraph (record { stands = S.stands shelf.old; given = S.given shelf.new; before = S.faults shelf.old; now = S.faults shelf.new }) (S.stands shelf.old graph.now) (λ a. StopsTables (record { stands = S.stands shelf.old; given = S.given shelf.new; before = S.faults shelf.old; now = S.faults shelf.new }) (S.stands shelf.old pack.now) (StopsPlay (record { stands = S.stands shelf.old; given = S.given shelf.new; before = S.faults shelf.old; now = S.faults shelf.new }) (S.stands shelf.old scenario.now) a))) }
+{
+    let admitted = admitted_file(alloc, shelf, graph)?;
+    play_pack(alloc, shelf, admitted, pack, scenario, turns)
+}
+
+/// Whether a node has a name.
+fn is_named(node: &Name, name: &str) -> bool
+    ensures { result ≡ bytes_eq node.now name.now }
+{
+    node.as_str() == name
+}
+
+/// The number of the first node of a name.
+fn first_named(head: &Head, name: &str) -> Option<usize>
+    ensures first { result ≡ first_named head.now name.now }
+    ensures within { IfSome result (λ node. node < length head.now.nodes) }
+    ensures few { IfSome result (λ node. node < 16) }
+{
+    head.nodes().iter().position(|node| is_named(node, name))
+}
+
+/// The text of the table of the first node of a name.
+fn node_lines(alloc: Global, tables: &Tables, name: &str) -> Result<Output, Halt>
+    ensures text { IfOk result (λ o. IsNodeText tables.now name.now (bytes_of o)) }
+    ensures halt { IfErr result (StopsNaming tables.now name.now) }
+{
+    let Some(node) = first_named(tables.head(), name) else {
+        return Err(Halt::Refused(Refusal::UnknownNode));
+    };
+    match node_text(alloc, tables, node as u32) {
+        Ok(text) => Ok(Output::Lines(text)),
+        Err(_) => Err(Halt::Memory),
+    }
+}
+
+/// Prints the table of the first node of a name in a pack.
+fn node<S: Shelf>(alloc: Global, shelf: &mut S, pack: &str, name: &str) -> Result<Output, Halt>
+    requires { S.may_fetch shelf.old pack.now }
+    ensures text { IfOk result (λ o. IsNodeOf (S.stands shelf.old pack.now) name.now (bytes_of o)) }
+    ensures halt { IfErr result (StopsTables (record { stands = S.stands shelf.old; given = S.given shelf.new; before = S.faults shelf.old; now = S.faults shelf.new }) (S.stands shelf.old pack.now) (λ t. StopsNaming t name.now)) }
+{
+    let tables = read_tables(alloc, shelf, pack)?;
+    let lines = node_lines(alloc, &tables, name)?;
+    Ok(lines)
+}
+
+/// The output of a command, or why it stops.
+fn command_output<S: Shelf>(alloc: Global, shelf: &mut S, command: &Command) -> Result<Output, Halt>
+    requires { All (λ w. S.may_fetch shelf.old w) (file_words command.now) }
+    ensures text { IfOk result (λ o. PrintsCommand (record { stands = S.stands shelf.old; given = S.given shelf.new; before = S.faults shelf.old; now = S.faults shelf.new }) command.now (bytes_of o)) }
+    ensures halt { IfErr result (StopsCommand (record { stands = S.stands shelf.old; given = S.given shelf.new; before = S.faults shelf.old; now = S.faults shelf.new }) command.now) }
+{
+    match command {
+        Command::Show { graph } => show(alloc, shelf, graph.as_str()),
+        Command::Compile { graph } => pack(alloc, shelf, graph.as_str()),
+        Command::Check { graph, pack } => {
+            check_files(alloc, shelf, graph.as_str(), pack.as_str())
+        }
+        Command::Play {
+            graph,
+            pack,
+            scenario,
+            turns,
+        } => play_files(
+            alloc,
+            shelf,
+            graph.as_str(),
+            pack.as_str(),
+            scenario.as_str(),
+            *turns,
+        ),
+        Command::Node { pack, name } => node(alloc, shelf, pack.as_str(), name.as_str()),
+        Command::Tune { graph } => Err(admit_only(alloc, shelf, graph.as_str())),
+        _ => Err(Halt::Refused(Refusal::NotBuilt)),
+    }
+}
+
+/// The output of a run of the words, or why it stops.
+pub fn outcome<S: Shelf>(alloc: Global, words: &[String], shelf: &mut S) -> Result<Output, Halt>
+    requires { All (λ w. S.may_fetch shelf.old w) (file_words_of (map string_bytes words.now)) }
+    ensures text { IfOk result (λ o. Prints (record { stands = S.stands shelf.old; given = S.given shelf.new; before = S.faults shelf.old; now = S.faults shelf.new }) (map string_bytes words.now) (bytes_of o)) }
+    ensures halt { IfErr result (Stops (record { stands = S.stands shelf.old; given = S.given shelf.new; before = S.faults shelf.old; now = S.faults shelf.new }) (map string_bytes words.now)) }
+{
+    match read_words(alloc, words) {
+        Ok(command) => command_output(alloc, shelf, &command),
+        Err(WordsFault::Bad) => Err(Halt::Words),
+        Err(WordsFault::OutOfMemory) => Err(Halt::Memory),
+    }
+}

@@ -1,0 +1,16 @@
+//! The top call: from command words over a shelf and two sinks to an exit status.
+#![tactic(auto)]
+
+mod answer;
+mod commands;
+mod halt;
+mod lines;
+mod output;
+mod playing;
+mod reading;
+mod refusals;
+mod top;
+
+pub use answer::stop;
+pub use halt::Halt;
+pub use top::run;

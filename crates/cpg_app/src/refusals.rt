@@ -1,0 +1,199 @@
+//! The texts of refusals.
+ghost use Rattle.std.specs.Prelude.{◌≡◌, ◌++◌, OnOk, codes, flat_map, string_bytes};
+ghost use Rattle.cpg_app.specs.Lines.{alternatives_text, cause_text, cycle_text, key_text, name_of, node_name, part_text, place_text, refusal_text, refused_text, table_text, what_text, HasLengths, IsNamedRefusal};
+
+use crate::halt::Refusal;
+use crate::lines::{name_of, write_case};
+use cpg_base::{OutOfMemory, Problem, Scenario};
+use cpg_check::HeadPart;
+use cpg_reader::{Key, Place, Table, What};
+use cpg_scenario::Cause;
+use std::alloc::AllocError;
+
+fn key_text(key: Key) -> &'static str
+    ensures { result.now ≡ key_text key }
+{
+    match key {
+        Key::Unknown => "unknown",
+        _ => key.text(),
+    }
+}
+
+fn write_table(out: &mut String, table: Table, index: u64) -> Result<(), AllocError>
+    ensures { OnOk result (string_bytes out.new ≡ string_bytes out.old ++ table_text table index) }
+{
+    match table {
+        Table::Top => out.push_str("top"),
+        Table::Node => write!(out, "node {index}"),
+        Table::Slot => write!(out, "slot {index}"),
+        Table::Process => write!(out, "process {index}"),
+        Table::Edge => write!(out, "edge {index}"),
+    }
+}
+
+fn write_place(out: &mut String, place: Place) -> Result<(), AllocError>
+    ensures { OnOk result (string_bytes out.new ≡ string_bytes out.old ++ place_text place) }
+{
+    write_table(out, place.table, place.index)?;
+    let key = key_text(place.key);
+    write!(out, " {key}")
+}
+
+fn write_what(out: &mut String, what: What) -> Result<(), AllocError>
+    ensures { OnOk result (string_bytes out.new ≡ string_bytes out.old ++ what_text what) }
+{
+    match what {
+        What::Nodes => out.push_str("nodes"),
+        What::Slots => out.push_str("slots"),
+        What::Processes => out.push_str("processes"),
+        What::Edges => out.push_str("edges"),
+        What::Number(place) => write_place(out, place),
+        What::Conditions => out.push_str("conditions"),
+    }
+}
+
+/// A kind of refusal, and its place.
+fn write_placed(out: &mut String, kind: &str, place: Place) -> Result<(), AllocError>
+    ensures { OnOk result (string_bytes out.new ≡ string_bytes out.old ++ (kind.now ++ place_text place)) }
+{
+    out.push_str(kind)?;
+    write_place(out, place)
+}
+
+fn write_limit(out: &mut String, what: What) -> Result<(), AllocError>
+    ensures { OnOk result (string_bytes out.new ≡ string_bytes out.old ++ (codes "5 limit " ++ what_text what)) }
+{
+    out.push_str("5 limit ")?;
+    write_what(out, what)
+}
+
+fn write_names(out: &mut String, problem: &Problem, walk: &[u32]) -> Result<(), AllocError>
+    ensures { OnOk result (string_bytes out.new ≡ string_bytes out.old ++ flat_map (λ p. codes " " ++ name_of problem.now p) walk.now) }
+{
+    for process in walk {
+        let name = name_of(problem, *process);
+        write!(out, " {name}")?;
+    }
+    Ok(())
+}
+
+fn write_cycle(out: &mut String, problem: &Problem, walk: &[u32]) -> Result<(), AllocError>
+    ensures { OnOk result (string_bytes out.new ≡ string_bytes out.old ++ cycle_text problem.now walk.now) }
+{
+    out.push_str("6 cycle")?;
+    write_names(out, problem, walk)
+}
+
+fn write_alternatives(
+    out: &mut String,
+    problem: &Problem,
+    process: u32,
+    scenario: &Scenario,
+) -> Result<(), OutOfMemory>
+    requires { HasLengths problem.now scenario.now }
+    ensures { OnOk result (string_bytes out.new ≡ string_bytes out.old ++ alternatives_text problem.now process scenario.now) }
+{
+    out.push_str("7 alternatives ")?;
+    write_case(out, problem, process, scenario)?;
+    Ok(())
+}
+
+/// The name of a node, or nothing where there is no such node.
+fn node_name(problem: &Problem, node: u32) -> &str
+    ensures { result.now ≡ node_name problem.now node }
+{
+    match problem.nodes().get(node as usize) {
+        Some(name) => name.as_str(),
+        None => "",
+    }
+}
+
+fn write_slot(out: &mut String, problem: &Problem, node: u32) -> Result<(), AllocError>
+    ensures { OnOk result (string_bytes out.new ≡ string_bytes out.old ++ (codes "8 slot " ++ node_name problem.now node)) }
+{
+    let name = node_name(problem, node);
+    write!(out, "8 slot {name}")
+}
+
+fn cause_text(cause: Cause) -> &'static str
+    ensures { result.now ≡ cause_text cause }
+{
+    match cause {
+        Cause::Toml => "toml",
+        Cause::Field => "field",
+        Cause::Unknown => "unknown",
+        Cause::Condition => "condition",
+        Cause::Budget => "budget",
+        Cause::Length => "length",
+    }
+}
+
+fn write_cause(out: &mut String, cause: &str) -> Result<(), AllocError>
+    ensures { OnOk result (string_bytes out.new ≡ string_bytes out.old ++ (codes "12 scenario " ++ cause.now)) }
+{
+    write!(out, "12 scenario {cause}")
+}
+
+fn write_scenario(out: &mut String, cause: Cause) -> Result<(), AllocError>
+    ensures { OnOk result (string_bytes out.new ≡ string_bytes out.old ++ (codes "12 scenario " ++ cause_text cause)) }
+{
+    write_cause(out, cause_text(cause))
+}
+
+fn part_text(part: HeadPart) -> &'static str
+    ensures { result.now ≡ part_text part }
+{
+    match part {
+        HeadPart::Faults => "faults",
+        HeadPart::Nodes => "nodes",
+        HeadPart::Processes => "processes",
+        HeadPart::Edges => "edges",
+    }
+}
+
+fn write_other(out: &mut String, part: HeadPart) -> Result<(), AllocError>
+    ensures { OnOk result (string_bytes out.new ≡ string_bytes out.old ++ (codes "17 other graph " ++ part_text part)) }
+{
+    let part = part_text(part);
+    write!(out, "17 other graph {part}")
+}
+
+fn write_refusal(out: &mut String, refusal: &Refusal) -> Result<(), OutOfMemory>
+    requires { IsNamedRefusal refusal.now }
+    ensures { OnOk result (string_bytes out.new ≡ string_bytes out.old ++ refusal_text refusal.now) }
+{
+    match refusal {
+        Refusal::NotToml => out.push_str("1 not toml")?,
+        Refusal::BadField(place) => write_placed(out, "2 field ", *place)?,
+        Refusal::DoubleName(place) => write_placed(out, "3 double ", *place)?,
+        Refusal::UnknownName(place) => write_placed(out, "4 unknown ", *place)?,
+        Refusal::OverLimit(what) => write_limit(out, *what)?,
+        Refusal::Cycle { graph, walk } => write_cycle(out, graph, walk.processes())?,
+        Refusal::TwoAlternatives {
+            graph,
+            process,
+            scenario,
+        } => write_alternatives(out, graph, *process, scenario)?,
+        Refusal::NoSlot { graph, node } => write_slot(out, graph, *node)?,
+        Refusal::TooBig(edge) => write!(out, "9 big e{edge}")?,
+        Refusal::BadPack(length) => write!(out, "10 pack {length}")?,
+        Refusal::BadScenario(cause) => write_scenario(out, *cause)?,
+        Refusal::LongGraph => out.push_str("16 long graph")?,
+        Refusal::LongPack => out.push_str("16 long pack")?,
+        Refusal::LongScenario => out.push_str("16 long scenario")?,
+        Refusal::OtherGraph(part) => write_other(out, *part)?,
+        Refusal::TooManyTracks => out.push_str("18 tracks")?,
+        Refusal::UnknownNode => out.push_str("19 node")?,
+        Refusal::NotBuilt => out.push_str("20 not built")?,
+    }
+    Ok(())
+}
+
+/// What a refusal is called, and its text.
+pub fn write_refused(out: &mut String, refusal: &Refusal) -> Result<(), OutOfMemory>
+    requires { IsNamedRefusal refusal.now }
+    ensures { OnOk result (string_bytes out.new ≡ string_bytes out.old ++ refused_text refusal.now) }
+{
+    out.push_str("refused ")?;
+    write_refusal(out, refusal)
+}

@@ -1,0 +1,37 @@
+//! The top call.
+ghost use Rattle.std.specs.Prelude.{◌≡◌, All, map, string_bytes};
+ghost use Rattle.cpg_words.specs.FileWords.{file_words_of};
+ghost use Rattle.cpg_app.specs.Causes.{Stops};
+ghost use Rattle.cpg_app.specs.Endings.{EndsBy, EndsWith};
+ghost use Rattle.cpg_app.specs.Lawful.{IsLawful};
+ghost use Rattle.cpg_app.specs.Outputs.{Prints};
+
+use crate::answer::{cut, put, stop};
+use crate::commands::outcome;
+use crate::halt::Halt;
+use cpg_codec::WriteFault;
+use cpg_io::{Shelf, Sink};
+use std::alloc::Global;
+
+/// All that the program does, by the words after its name: it reads the files that they name from the shelf, writes the
+/// command's output to `out` or one line to `err`, and answers the exit status. What each status says is in
+/// `specs/Lawful.antt`.
+pub fn run<S: Shelf, O: Sink, E: Sink>(
+    alloc: Global,
+    words: &[String],
+    shelf: &mut S,
+    out: &mut O,
+    err: &mut E,
+) -> u8
+    requires { All (λ w. S.may_fetch shelf.old w) (file_words_of (map string_bytes words.now)) }
+    ensures { IsLawful (record { words = map string_bytes words.now; shelf = record { stands = S.stands shelf.old; given = S.given shelf.new; before = S.faults shelf.old; now = S.faults shelf.new }; out = record { before = O.faults out.old; now = O.faults out.new; old = O.taken out.old; new = O.taken out.new }; err = record { before = E.faults err.old; now = E.faults err.new; old = E.taken err.old; new = E.taken err.new }; status = result }) }
+{
+    match outcome(alloc, words, shelf) {
+        Ok(output) => match put(alloc, &output, out) {
+            Ok(()) => 0,
+            Err(WriteFault::Failed) => cut(err),
+            Err(WriteFault::OutOfMemory) => stop(alloc, &Halt::Memory, err),
+        },
+        Err(halt) => stop(alloc, &halt, err),
+    }
+}
