@@ -2,8 +2,6 @@
 #![tactic(auto)]
 
 mod heads;
-#[cfg(test)]
-mod tests;
 mod verdict;
 
 pub use heads::HeadPart;

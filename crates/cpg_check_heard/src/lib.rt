@@ -8,7 +8,5 @@ mod hearing;
 mod items;
 mod parts;
 mod tellers;
-#[cfg(test)]
-mod tests;
 
 pub use heard::check_heard;

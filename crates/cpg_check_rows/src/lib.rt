@@ -6,8 +6,6 @@ mod hears;
 mod present;
 mod rows;
 mod single;
-#[cfg(test)]
-mod tests;
 
 pub use activity::check_activity;
 pub use hears::check_hears;

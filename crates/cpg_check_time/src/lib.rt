@@ -11,8 +11,6 @@ mod lateness;
 mod lines;
 mod processor;
 mod slots;
-#[cfg(test)]
-mod tests;
 
 pub use check::check_time;
 pub use due::check_due;

@@ -16,8 +16,6 @@ mod reading;
 mod row_reading;
 mod row_writing;
 mod space;
-#[cfg(test)]
-mod tests;
 mod writing;
 
 pub use fault::{PackFault, WriteFault};

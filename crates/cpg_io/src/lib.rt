@@ -14,8 +14,6 @@ mod reading;
 mod shelf;
 mod sink;
 mod streams;
-#[cfg(test)]
-mod tests;
 mod writing;
 
 pub use failed::Failed;

@@ -4,7 +4,5 @@
 mod keys;
 mod order;
 mod schedules;
-#[cfg(test)]
-mod tests;
 
 pub use order::merged_order;

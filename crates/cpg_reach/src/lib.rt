@@ -6,8 +6,6 @@ mod counting;
 mod reaches;
 mod sending;
 mod starting;
-#[cfg(test)]
-mod tests;
 mod variables;
 mod ways;
 mod width;

@@ -12,5 +12,3 @@ mod shape;
 pub use place::{Key, Place, ReadFault, Table, What};
 pub use reading::read_problem;
 
-#[cfg(test)]
-mod tests;

@@ -4,8 +4,6 @@
 mod entries;
 mod fault;
 mod reading;
-#[cfg(test)]
-mod tests;
 mod text;
 
 pub use fault::{Cause, ScenarioFault};

@@ -9,11 +9,7 @@ mod items;
 mod labels;
 mod node;
 mod table;
-#[cfg(test)]
-mod tests;
 mod trace;
-#[cfg(test)]
-mod trace_tests;
 
 pub use node::node_text;
 pub use table::table_text;

@@ -5,8 +5,6 @@ mod columns;
 mod greatest;
 mod node;
 mod space;
-#[cfg(test)]
-mod tests;
 mod tree;
 mod variables;
 

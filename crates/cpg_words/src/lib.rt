@@ -33,8 +33,6 @@ mod forms;
 mod line;
 mod number;
 mod reading;
-#[cfg(test)]
-mod tests;
 mod word;
 
 pub use command::{Command, Pair, Pairs};
