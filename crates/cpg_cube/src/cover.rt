@@ -11,9 +11,8 @@ ghost use Rattle.cpg_cube.specs.Parts.{range_below, range_above};
 
 use crate::bounds::{Bounds, budget_left};
 use crate::frequency::by_frequency;
-use crate::literal::top;
 use crate::{Cube, Literal};
-use cpg_base::{OutOfMemory, Problem, Scenario};
+use cpg_base::{OutOfMemory, Problem, Scenario, top};
 use cpg_order::{Order, is_before};
 use std::alloc::Global;
 

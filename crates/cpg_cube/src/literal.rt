@@ -5,7 +5,7 @@ ghost use Rattle.cpg_base.specs.Variable.{top};
 ghost use Rattle.cpg_cube.specs.Fit.{asked_of_literal, is_open};
 ghost use Rattle.cpg_cube.specs.Cover.{meet_literal};
 
-use cpg_base::Scenario;
+use cpg_base::{FIRST_VALUE, Scenario, top};
 
 /// A variable with the range that its number is in, ends included. The order is by variable, then low, then high.
 #[derive(Clone, Copy, Debug, Default, PartialEq, Eq, PartialOrd, Ord, Hash)]
@@ -16,16 +16,6 @@ pub struct Literal {
     pub low: u8,
     /// The greatest number that is in range.
     pub high: u8,
-}
-
-/// The variable of the first condition.
-const FIRST_VALUE: u8 = 128;
-
-/// The greatest number of a variable in scenarios of at most `k` faults.
-pub(crate) fn top(k: u8, variable: u8) -> u8
-    ensures { result ≡ top k variable }
-{
-    if variable < FIRST_VALUE { k } else { 1 }
 }
 
 impl Literal {

@@ -9,6 +9,7 @@ mod steps;
 mod tree;
 mod trees;
 
+pub use cpg_base::Activation;
 pub use joins::{Alternatives, two_alternatives};
 pub use laws::ways_are_deciding;
 pub use tree::{GuardTop, GuardTree};

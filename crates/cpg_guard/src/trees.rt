@@ -18,7 +18,7 @@ use std::alloc::{AllocError, AllocFailed, Global};
 use std::marker::Model;
 
 /// How many tracks a graph has at most.
-const MOST_TRACKS: u32 = 16_384;
+const MOST_TRACKS: u32 = cpg_base::MOST_TRACKS as u32;
 
 /// How each process comes to be active, and when each edge is live: seen as the number of conditions, a tree for each
 /// process, and a guard for each edge.

@@ -3,6 +3,7 @@ use Rattle.std.proofs.Common.{ℕ, ◌+◌, ◌*◌, ◌<◌, ◌≤◌, ◌≡�
 use Rattle.std.specs.Prelude.{nat_lt}
 use Rattle.std.proofs.lemmas.Bool.{cases_lt, both_ways}
 use Rattle.std.proofs.lemmas.List.Sums.{sum_by-append, sum_by-cons}
+use Rattle.cpg_base.specs.declared.limits.TheConstants.{MOST_LOAD}
 use Rattle.cpg_base.specs.Numbers.{numbers_below}
 use Rattle.cpg_base.specs.Graph.{Graph, item_count, item_at}
 use Rattle.cpg_base.proofs.Lists.{below_push}
@@ -46,7 +47,7 @@ has_views g order top guards urgency admitted rs are x n xs l at is = record {
 
 -- by whatever reach, these are the loads of the items before one, and none of them is too wide
 pub record AreLoads (g : Graph) (order : List ℕ) (x loads : ℕ) : Type 0 where
-  pub few : loads ≤ 524288
+  pub few : loads ≤ MOST_LOAD
   pub sum : (r : Reach) → IsReach g order r → loads ≡ sum_by (load g r) (numbers_below x)
   pub narrow : (r : Reach) → IsReach g order r → (y : ℕ) → y < x → is_too_wide g r y ≡ false
 

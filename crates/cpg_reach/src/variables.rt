@@ -3,12 +3,13 @@ ghost use Rattle.std.specs.Prelude.{◌≡◌, ◌<◌, ◌≤◌, ◌∷◌, []
 ghost use Rattle.cpg_order.specs.Reach.{is_in};
 ghost use Rattle.cpg_reach.specs.Variables.{Adds, HasSame};
 
+use cpg_base::{MOST_CONDITIONS, MOST_PROCESSES};
 use std::marker::Model;
 
 /// How many variables there are: the fault counts of 128 processes, and then the values of 32 conditions.
-const MOST_VARIABLES: usize = 160;
+const MOST_VARIABLES: usize = MOST_PROCESSES + MOST_CONDITIONS;
 /// The variable of the value of condition 0.
-pub const FIRST_VALUE: u32 = 128;
+pub const FIRST_VALUE: u32 = cpg_base::FIRST_VALUE as u32;
 
 /// A set of variables, seen as the list of their numbers.
 #[derive(Drop)]

@@ -9,15 +9,10 @@ ghost use Rattle.cpg_reach.specs.Wide.{HasViews, HasLoads, is_wide_by, IsLeastWi
 use crate::counting::Counter;
 use crate::reaches::reaches;
 use crate::variables::Variables;
-use cpg_base::{OutOfMemory, Problem};
+use cpg_base::{Item, MOST_COLUMNS, MOST_LOAD, OutOfMemory, Problem};
 use cpg_order::Order;
 use cpg_rules::Admitted;
 use std::alloc::Global;
-
-/// How many views an item has at most.
-const MOST_VIEWS: u64 = 16_384;
-/// How many columns the rows have together at most.
-const MOST_LOADS: u64 = 524_288;
 
 /// In how many rows an item stands: a start in one, and what is sent in one at its sender and one at each receiver.
 fn rows_of_item(problem: &Problem, item: u32) -> u64
@@ -25,20 +20,14 @@ fn rows_of_item(problem: &Problem, item: u32) -> u64
     ensures rows { result ≡ rows_of_item problem.now (item_at problem.now item) }
     ensures few { result ≤ 16 }
 {
-    let processes = problem.processes().len() as u32;
-    if item < processes {
-        return 1;
-    }
-    let edge = (item - processes) as usize;
-    if edge < problem.edges().len() {
-        let ends = problem.edges()[edge];
-        if problem.node_of(ends.from) == problem.node_of(ends.to) {
-            return 0;
+    match problem.item(item) {
+        Item::Start(_) => 1,
+        Item::Message(edge) => { if problem.is_message(edge) { 2 } else { 0 } }
+        Item::Broadcast(_) => {
+            let nodes = problem.nodes().len() as u64;
+            if nodes > 1 { nodes } else { 0 }
         }
-        return 2;
     }
-    let nodes = problem.nodes().len() as u64;
-    if nodes > 1 { nodes } else { 0 }
 }
 
 /// The loads with that of one more item; `None` where it has too many views, or the loads are then too many.
@@ -53,7 +42,7 @@ fn loads_with(
     requires order { IsTopological admitted.now.graph order.now }
     requires counter { IsCounterFor admitted.now.graph order.now counter.old }
     requires item { item < item_count admitted.now.graph }
-    requires loads { loads ≤ 524288 }
+    requires loads { loads ≤ MOST_LOAD }
     ensures some { IfSome result (HasLoads admitted.now.graph reached.now item loads) }
     ensures none { IfNone result (is_wide_by admitted.now.graph reached.now item loads ≡ true) }
     ensures counter { IsCounterFor admitted.now.graph order.now counter.new }
@@ -62,12 +51,12 @@ fn loads_with(
     if rows == 0 {
         return Some(loads);
     }
-    let views = counter.views(admitted, order, reached, MOST_VIEWS + 1);
-    if views > MOST_VIEWS {
+    let views = counter.views(admitted, order, reached, MOST_COLUMNS + 1);
+    if views > MOST_COLUMNS {
         return None;
     }
     let sum = loads + views * rows;
-    if sum > MOST_LOADS { None } else { Some(sum) }
+    if sum > MOST_LOAD { None } else { Some(sum) }
 }
 
 /// How many views an item has under an order: the scenarios in which each value that the item's time doesn't depend on, and
