@@ -1,6 +1,7 @@
 -- How much of each there may be, and in which range each number lies: the refusals of what is beyond its limit.
 use Rattle.std.specs.Prelude.{ℕ, ◌+◌, ℤ, pos, negsuc, ◌&&◌, Bool, false, List, [], ◌∷◌, ◌++◌, is_some, unwrap_or, Err, length, map, filter, nat_le, bytes_eq, if◌then◌else◌}
 use Rattle.std.specs.List.{list_any}
+use Rattle.cpg_base.specs.declared.limits.TheConstants.{MOST_FAULTS, MOST_NODES, MOST_PROCESSES, MOST_EDGES, MOST_CONDITIONS, MOST_PARTS, LONGEST, LARGEST}
 use Rattle.cpg_reader.specs.declared.place.Table.{Table}
 use Rattle.cpg_reader.specs.declared.place.Table.TheVariants as tables
 use Rattle.cpg_reader.specs.declared.place.Key.TheVariants.{Faults, Deadline, Length, Bytes, Wcet, Parts, Alpha, Chi, Mu, Release}
@@ -17,30 +18,30 @@ use Rattle.cpg_reader.specs.Shape.{RawGraph}
 -- the number of a key, and the least and the greatest that it may be
 abbrev pub top_numbers : RawGraph → List Bounded
 top_numbers g =
-    record { key = Faults; value = g.faults; low = 0; high = 8 }
-    ∷ record { key = Deadline; value = g.deadline; low = 0; high = 1000000000 }
+    record { key = Faults; value = g.faults; low = 0; high = MOST_FAULTS }
+    ∷ record { key = Deadline; value = g.deadline; low = 0; high = LONGEST }
     ∷ []
 
 abbrev pub slot_numbers : RawSlot → List Bounded
 slot_numbers s =
-    record { key = Length; value = s.length; low = 1; high = 1000000000 }
-    ∷ record { key = Bytes; value = s.bytes; low = 1; high = 65535 }
+    record { key = Length; value = s.length; low = 1; high = LONGEST }
+    ∷ record { key = Bytes; value = s.bytes; low = 1; high = LARGEST }
     ∷ []
 
 -- a deadline that is absent counts as 0
 abbrev pub process_numbers : RawProcess → List Bounded
 process_numbers p =
-    record { key = Wcet; value = p.wcet; low = 1; high = 1000000000 }
-    ∷ record { key = Parts; value = p.parts; low = 1; high = 255 }
-    ∷ record { key = Alpha; value = p.alpha; low = 0; high = 1000000000 }
-    ∷ record { key = Chi; value = p.chi; low = 0; high = 1000000000 }
-    ∷ record { key = Mu; value = p.mu; low = 0; high = 1000000000 }
-    ∷ record { key = Release; value = p.release; low = 0; high = 1000000000 }
-    ∷ record { key = Deadline; value = unwrap_or p.deadline (pos 0); low = 0; high = 1000000000 }
+    record { key = Wcet; value = p.wcet; low = 1; high = LONGEST }
+    ∷ record { key = Parts; value = p.parts; low = 1; high = MOST_PARTS }
+    ∷ record { key = Alpha; value = p.alpha; low = 0; high = LONGEST }
+    ∷ record { key = Chi; value = p.chi; low = 0; high = LONGEST }
+    ∷ record { key = Mu; value = p.mu; low = 0; high = LONGEST }
+    ∷ record { key = Release; value = p.release; low = 0; high = LONGEST }
+    ∷ record { key = Deadline; value = unwrap_or p.deadline (pos 0); low = 0; high = LONGEST }
     ∷ []
 
 abbrev pub edge_numbers : RawEdge → List Bounded
-edge_numbers e = record { key = Bytes; value = e.bytes; low = 1; high = 65535 } ∷ []
+edge_numbers e = record { key = Bytes; value = e.bytes; low = 1; high = LARGEST } ∷ []
 
 abbrev pub is_within : ℕ → ℕ → ℤ → Bool
 is_within low high (pos n) = nat_le low n && nat_le n high
@@ -76,12 +77,12 @@ different seen (name ∷ names) = different (if list_any (bytes_eq name) seen th
 -- a document within the limits
 unfoldable pub limits : RawGraph → Reading (Unit {0})
 limits g = do
-  at_most 16 Nodes g.nodes
-  at_most 16 Slots g.slots
-  at_most 128 Processes g.processes
-  at_most 256 Edges g.edges
+  at_most MOST_NODES Nodes g.nodes
+  at_most MOST_NODES Slots g.slots
+  at_most MOST_PROCESSES Processes g.processes
+  at_most MOST_EDGES Edges g.edges
   in_range tables.Top 0 (top_numbers g)
   all_in_range tables.Slot slot_numbers 0 g.slots
   all_in_range tables.Process process_numbers 0 g.processes
   all_in_range tables.Edge edge_numbers 0 g.edges
-  at_most 32 Conditions (different [] (sources g.edges))
+  at_most MOST_CONDITIONS Conditions (different [] (sources g.edges))

@@ -11,4 +11,3 @@ mod shape;
 
 pub use place::{Key, Place, ReadFault, Table, What};
 pub use reading::read_problem;
-

@@ -6,25 +6,16 @@ ghost use Rattle.cpg_reader.specs.Ranges.{top_numbers, slot_numbers, process_num
 
 use crate::place::{Key, Place, ReadFault, Table, What};
 use crate::shape::{RawEdge, RawProblem, RawProcess, RawSlot};
+use cpg_base::{LONGEST, MOST_CONDITIONS, MOST_EDGES, MOST_NODES, MOST_PROCESSES};
 use indexmap::IndexSet;
 use std::alloc::{AllocError, Global};
 
-/// How many nodes and slots there are at most.
-const MOST_NODES: usize = 16;
-/// How many processes there are at most.
-const MOST_PROCESSES: usize = 128;
-/// How many edges there are at most.
-const MOST_EDGES: usize = 256;
-/// How many conditions there are at most.
-const MOST_CONDITIONS: usize = 32;
 /// How many faults there are at most in a cycle.
-const MOST_FAULTS: u64 = 8;
-/// The greatest time, in time units of the graph file.
-const LONGEST: u64 = 1_000_000_000;
+const MOST_FAULTS: u64 = cpg_base::MOST_FAULTS as u64;
 /// How many parts an execution has at most.
-const MOST_PARTS: u64 = 255;
+const MOST_PARTS: u64 = cpg_base::MOST_PARTS as u64;
 /// The greatest size of a message or a slot, in bytes.
-const LARGEST: u64 = 65_535;
+const LARGEST: u64 = cpg_base::LARGEST as u64;
 
 /// The number of a key, and the least and the greatest that it may be.
 #[derive(Clone, Copy)]

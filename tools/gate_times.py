@@ -1,0 +1,65 @@
+#!/usr/bin/env python3
+"""Runs the gate and says what it costs: processor seconds by crate and step, as a table for docs/CONTRIBUTING.md.
+
+    tools/gate_times.py [WORDS OF rt ci ..]     at the top of the repository; with no words --anew, which proves and tries all
+
+The steps are a crate's proof, its tests (proved with them once more), the seed (the proof that its wrong bodies are tried over), and the
+wrong bodies. Each rattle process is looked at twice a second, so that up to half a second of each is missed; the sum at the end is exact.
+"""
+import os, resource, subprocess, sys, time
+
+TICK = os.sysconf("SC_CLK_TCK")
+
+
+def words_of(pid):
+    with open(f"/proc/{pid}/cmdline", "rb") as it:
+        return it.read().decode(errors="replace").split("\0")
+
+
+def seconds_of(pid):
+    with open(f"/proc/{pid}/stat") as it:
+        fields = it.read().rpartition(")")[2].split()
+    return (int(fields[11]) + int(fields[12])) / TICK
+
+
+def step_of(words):
+    if "--test" in words:
+        return "tests"
+    if "--incremental" in words:
+        return "seed" if words[words.index("--incremental") + 1].endswith("/seed") else "edits"
+    return "proof"
+
+
+def look(found):
+    for pid in filter(str.isdigit, os.listdir("/proc")):
+        try:
+            words = words_of(pid)
+            if not words[0].endswith("/rattle") or "--crate-name" not in words:
+                continue
+            key = (words[words.index("--crate-name") + 1], step_of(words))
+            found[pid, key] = seconds_of(pid)
+        except (OSError, IndexError, ValueError):
+            continue
+
+
+def main():
+    gate = subprocess.Popen(["rt", "ci", *(sys.argv[1:] or ["--anew"])])
+    begun, found = time.time(), {}
+    while gate.poll() is None:
+        look(found)
+        time.sleep(0.5)
+    steps = ["proof", "tests", "seed", "edits"]
+    crates = {}
+    for (_, (crate, step)), seconds in found.items():
+        crates.setdefault(crate, dict.fromkeys(steps, 0))[step] += seconds
+    print("| crate | " + ", s | ".join(steps) + ", s |\n|---|---|---|---|---|")
+    for crate, row in sorted(crates.items()):
+        print(f"| `{crate}` | " + " | ".join(f"{row[step]:.0f}" for step in steps) + " |")
+    print("| all | " + " | ".join(f"{sum(row[step] for row in crates.values()):.0f}" for step in steps) + " |")
+    used = resource.getrusage(resource.RUSAGE_CHILDREN)
+    print(f"{(used.ru_utime + used.ru_stime) / 60:.0f} processor minutes, {(time.time() - begun) / 60:.0f} minutes, load {os.getloadavg()[2]:.1f}")
+    return gate.returncode
+
+
+if __name__ == "__main__":
+    sys.exit(main())
