@@ -1,0 +1,39 @@
+//! V4, on tables of A on N1 that sends a message to B on N2.
+
+use crate::fixtures::{Place, edge, on_two_nodes, place_in, sending};
+use cpg_check_heard::check_heard;
+use cpg_rules::Admitted;
+use std::alloc::Global;
+use std::test::Fail;
+
+fn graph(alloc: Global) -> Result<Admitted, Fail> {
+    on_two_nodes(alloc, vec![in alloc; edge(None)]?)
+}
+
+/// Whether all is heard where B starts as the message comes.
+fn is_heard(alloc: Global, admitted: &Admitted) -> Result<bool, Fail> {
+    let tables = sending(alloc, admitted, [40, 80], [50, 90], [50, 90])?;
+    Ok(matches!(check_heard(alloc, admitted, &tables), Ok(None)))
+}
+
+#[test]
+fn all_is_heard(rt: HostRuntime) -> Result<(), Fail> {
+    let admitted = graph(rt.alloc())?;
+    assert!(rt; is_heard(rt.alloc(), &admitted)?);
+    Ok(())
+}
+
+/// What isn't heard where B starts before the message comes.
+fn unheard(alloc: Global, admitted: &Admitted) -> Result<Place, Fail> {
+    let tables = sending(alloc, admitted, [40, 80], [50, 90], [49, 90])?;
+    place_in(check_heard(alloc, admitted, &tables))
+}
+
+#[test]
+fn a_frame_comes_too_late(rt: HostRuntime) -> Result<(), Fail> {
+    let admitted = graph(rt.alloc())?;
+    let found = unheard(rt.alloc(), &admitted)?;
+    assert!(rt; found.is_of(4, 1, Some(0)));
+    assert!(rt; found.is_in(0, 0));
+    Ok(())
+}
