@@ -1,5 +1,5 @@
 -- The state of a node, and what its calls ask for.
-use Rattle.std.specs.Prelude.{ℕ, ◌≡◌, ◌<◌, ◌≤◌, ◌+◌, ◌^◌, min, nat_lt, ◌&&◌, Bool, true, false, ◌==◌, if◌then◌else◌, List, [], ◌∷◌, Option, Some, None, option_map, option_and_then, get_or, length, All, IfSome}
+use Rattle.std.specs.Prelude.{ℕ, ◌≡◌, ◌<◌, ◌≤◌, ◌+◌, ◌^◌, min, nat_lt, ◌&&◌, Bool, true, false, ◌==◌, if◌then◌else◌, List, [], ◌∷◌, Option, Some, None, option_map, option_and_then, is_some, get_or, length, All, IfSome}
 use Rattle.std.specs.List.{list_any}
 use Rattle.cpg_table.specs.Table.{Row, columns_in}
 use Rattle.cpg_node.specs.Dispatcher.{Dispatcher, Own, OwnTable, Ended, Frame, Act, Running, own_of, is_after, next, no_column}
@@ -27,6 +27,10 @@ start_of d p = option_map (λ (run : Running). run.start) (running_of d p)
 abbrev pub report_of : Dispatcher → ℕ → Option Ended
 report_of d p = option_and_then (λ (run : Running). run.report) (running_of d p)
 
+-- whether a process runs on the node with a kept report
+abbrev pub has_reported : Dispatcher → ℕ → Bool
+has_reported d p = is_some (report_of d p)
+
 -- how long an execution of a process of the node takes with so many faults
 abbrev pub time_of : Dispatcher → ℕ → ℕ → ℕ
 time_of d p faults = get_or (own_of d.table p).times faults 0
@@ -51,9 +55,9 @@ pub record MayTurn (d : Dispatcher) (ended : List Ended) (frames : List Frame) :
   pub ends : All (EndsAt d time) ended
   pub arrive : All (ArrivesAt d time) frames
 
--- an execution that hasn't reported may have ended between the last turn and the next one, not later than planned
-pub record MayFinish (d : Dispatcher) (e : Ended) : Type 0 where
-  pub time : ℕ
+-- an execution that hasn't reported may have ended at the time: after its start and not later than planned, after the last
+-- turn and not later than the next instant
+pub record MayFinish (d : Dispatcher) (time : ℕ) (e : Ended) : Type 0 where
   pub run : Running
   pub runs : running_of d e.process ≡ Some run
   pub unreported : run.report ≡ None

@@ -2,6 +2,7 @@
 ghost use Rattle.std.specs.Prelude.{◌≡◌, ◌==◌, IfOk, not, fold, get_or, map, length};
 ghost use Rattle.std.specs.List.{list_all, list_any};
 ghost use Rattle.std.specs.Bool.{OnTrue, OnFalse};
+ghost use Rattle.cpg_base.specs.Graph.{value_variable};
 ghost use Rattle.cpg_base.specs.Numbers.{numbers_below};
 ghost use Rattle.cpg_table.specs.Table.{columns_in};
 ghost use Rattle.cpg_node.specs.Dispatcher.{know, cut, cut_all, has_heard, own_of, hear_end, hear_frame, is_contradicted, no_column, whole_range, variable_count};
@@ -9,21 +10,19 @@ ghost use Rattle.cpg_node.specs.State.{arrives};
 
 use crate::range::Range;
 use crate::{Ended, Frame};
-use cpg_base::OutOfMemory;
+use cpg_base::{FIRST_VALUE, MOST_CONDITIONS, OutOfMemory, top};
 use cpg_cube::Literal;
 use cpg_table::{Entry, NodeTable, Row};
 use std::alloc::Global;
 
-/// The variable of the first condition.
-const FIRST_VALUE: usize = 128;
 /// How many variables there may be.
-const VARIABLES: usize = 160;
+const VARIABLES: u8 = FIRST_VALUE + MOST_CONDITIONS as u8;
 
 /// The range of a variable of which nothing has been heard.
-fn whole_range(faults: u8, variable: usize) -> Range
+fn whole_range(faults: u8, variable: u8) -> Range
     ensures { result ≡ whole_range faults variable }
 {
-    let high = if variable < FIRST_VALUE { faults } else { 1 };
+    let high = top(faults, variable);
     Range { low: 0, high }
 }
 
@@ -32,7 +31,7 @@ pub fn whole_ranges(alloc: Global, faults: u8) -> Result<Vec<Range>, OutOfMemory
     ensures { IfOk result (λ heard. heard.items ≡ map (whole_range faults) (numbers_below variable_count)) }
 {
     let mut heard = Vec::new(alloc);
-    heard.reserve(VARIABLES)?;
+    heard.reserve(usize::from(VARIABLES))?;
     for variable in 0..VARIABLES {
         heard.push(whole_range(faults, variable))?;
     }
@@ -104,6 +103,13 @@ fn condition_of(table: &NodeTable, process: u32) -> Option<u32>
     None
 }
 
+/// Where the range of a condition's value stands.
+fn value_place(condition: u32) -> usize
+    ensures { result ≡ value_variable condition }
+{
+    usize::from(FIRST_VALUE) + condition as usize
+}
+
 /// An end tells the faults and the value of its process.
 fn hear_end(table: &NodeTable, heard: &mut [Range], ended: &Ended)
     ensures { heard.new ≡ hear_end table.now heard.old ended.now }
@@ -111,7 +117,7 @@ fn hear_end(table: &NodeTable, heard: &mut [Range], ended: &Ended)
     know(heard, ended.process as usize, ended.faults);
     if let Some(condition) = condition_of(table, ended.process) {
         let number = u8::from(ended.value);
-        know(heard, FIRST_VALUE + condition as usize, number);
+        know(heard, value_place(condition), number);
     }
 }
 
@@ -152,9 +158,9 @@ fn hear_frame(table: &NodeTable, heard: &mut [Range], frame: &Frame)
     let columns = columns_in(table.hears(), frame.item);
     cut_column(heard, columns, frame.column);
     if frame.item >= table.first_broadcast() {
-        let condition = (frame.item - table.first_broadcast()) as usize;
+        let condition = frame.item - table.first_broadcast();
         let number = u8::from(frame.value);
-        cut(heard, FIRST_VALUE + condition, number, number);
+        cut(heard, value_place(condition), number, number);
     }
 }
 

@@ -2,7 +2,7 @@
 ghost use Rattle.std.specs.Prelude.{◌<◌, ◌^◌, ◌≡◌, ◌↔◌, IsTrue, IsErr, IfOk, OnOk, OnErr, IfSome, true, [], map, length};
 ghost use Rattle.cpg_base.specs.Numbers.{numbers_below};
 ghost use Rattle.cpg_node.specs.Dispatcher.{opening, next, turn, acts_of_turn, hear, is_strange, finished, whole_range, variable_count};
-ghost use Rattle.cpg_node.specs.State.{start_of, report_of, MayTurn, MayFinish};
+ghost use Rattle.cpg_node.specs.State.{start_of, report_of, has_reported, MayTurn, MayFinish};
 
 use crate::executions::{
     earlier, earliest_end, gather_due, note_report, running_in, turn_executions,
@@ -96,8 +96,16 @@ impl Node {
         Some(running.start)
     }
 
-    /// What a process that runs on this node has told of its early end, which is kept until the planned end.
-    pub fn reported(&self, process: u32) -> Option<Ended>
+    /// Whether a process runs on this node and has told of its end, which is kept until the planned end. Any number is
+    /// taken.
+    pub fn reported(&self, process: u32) -> bool
+        ensures { result ≡ has_reported self.now.dispatcher process }
+    {
+        self.report(process).is_some()
+    }
+
+    /// What a process that runs on this node has told of its end. `None` exactly where it hasn't `reported`.
+    pub fn report(&self, process: u32) -> Option<Ended>
         ensures { result ≡ report_of self.now.dispatcher process }
     {
         let running = running_in(self.table.own(), self.running.as_slice(), process)?;
@@ -129,19 +137,19 @@ impl Node {
 
     /// Takes a frame that arrives at a time. It is strange exactly where the node doesn't hear its item, its column isn't
     /// there or doesn't arrive then, or what it tells contradicts what has been heard; then nothing changes.
-    pub fn hear(&mut self, arrival: u64, frame: &Frame) -> Result<(), StrangeFrame>
-        ensures strange { IsErr result ↔ (is_strange self.old.dispatcher arrival frame.now ≡ true) }
-        ensures heard { OnOk result (self.new ≡ record self.old { dispatcher = hear self.old.dispatcher frame.now }) }
+    pub fn hear(&mut self, arrival: u64, frame: Frame) -> Result<(), StrangeFrame>
+        ensures strange { IsErr result ↔ (is_strange self.old.dispatcher arrival frame ≡ true) }
+        ensures heard { OnOk result (self.new ≡ record self.old { dispatcher = hear self.old.dispatcher frame }) }
         ensures same { OnErr result (self.new ≡ self.old) }
     {
-        if !arrives(&self.table, arrival, frame) {
+        if !arrives(&self.table, arrival, &frame) {
             return Err(StrangeFrame);
         }
         if hears(
             &self.table,
             self.heard.as_mut_slice(),
             self.before.as_mut_slice(),
-            frame,
+            &frame,
         ) {
             Ok(())
         } else {
@@ -149,15 +157,15 @@ impl Node {
         }
     }
 
-    /// Notes an execution that has ended, maybe early. What it tells is kept until its planned end.
-    pub fn finished(&mut self, ended: Ended)
-        requires { MayFinish self.old.dispatcher ended }
+    /// Notes an execution that ended at a time, maybe early. What it tells is kept until its planned end.
+    pub fn finished(&mut self, time: u64, ended: Ended)
+        requires { MayFinish self.old.dispatcher time ended }
         ensures { self.new ≡ record self.old { dispatcher = finished self.old.dispatcher ended } }
     {
         note_report(self.table.own(), self.running.as_mut_slice(), ended);
     }
 
-    /// Takes the turn of the next instant: first the ends of executions that hasn't been told by `finished`, and the kept
+    /// Takes the turn of the next instant: first the ends of executions that haven't been told by `finished`, and the kept
     /// reports of this instant, then the frames that arrive, and then does all that is planned for it and whose literals
     /// have been heard.
     pub fn turn(&mut self, ended: &[Ended], frames: &[Frame])
