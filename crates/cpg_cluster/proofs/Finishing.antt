@@ -59,7 +59,7 @@ module _ {g : Graph} {tables : List NodeTable} {w : World} (k : Played g tables 
 
   -- a report of an execution that is over by the time
   may : (h : Own → Option Running) → next (state h) ≡ Some time → (p : ℕ) → Contains (processes_on g node) p → (run : Running) → h (own_process g p) ≡ Some run → planned g tables w last (own_process g p) ≡ Some run →
-      run.report ≡ None → run.start + get_or w.lengths p 0 ≤ time → MayFinish (state h) (ended_of g w (own_process g p))
+      run.report ≡ None → run.start + get_or w.lengths p 0 ≤ time → MayFinish (state h) (run.start + get_or w.lengths p 0) (ended_of g w (own_process g p))
   may h n p on run is plan none over =
       let m = (on_node k node l heard last time (next_is (node_state g tables w node heard last) time comes) p on).0 in
       let few = few_faults k node l heard last time (next_is (node_state g tables w node heard last) time comes) p m in
@@ -68,7 +68,6 @@ module _ {g : Graph} {tables : List NodeTable} {w : World} (k : Played g tables 
       let span : time_of (state h) p (fault_of w.scenario p) ≡ duration g p (fault_of w.scenario p) =
       ap (λ (o : Own). get_or o.times (fault_of w.scenario p) 0) own ∙ get_or-map-below (duration g p) (g.faults + 1) (fault_of w.scenario p) 0 (omega (arith, few)) in
       record {
-        time = run.start + get_or w.lengths p 0;
         run = run;
         runs = running_found g h (processes_on g node) processes_rise p on ∙ is;
         unreported = none;

@@ -22,12 +22,13 @@ use Rattle.cpg_table.proofs.GraphTables.{has_shape, suits_graph}
 use Rattle.cpg_node.specs.Dispatcher.{Dispatcher, opening}
 use Rattle.cpg_node.specs.State.{NodeState}
 use Rattle.cpg_cluster.specs.Cluster.{World, own_table, dispatchers_from, open_cluster}
-use Rattle.cpg_cluster.specs.Correct.{IsWorld}
+use Rattle.cpg_cluster.specs.Correct.{IsWorld, IsCorrect}
 use Rattle.cpg_cluster.specs.Playing.{IsPlaying, opened}
 use Rattle.cpg_cluster.specs.Keeping.{AreIndexed, noted_of, IsOpen, AreOpen, HearsItems, AllFit}
 use Rattle.cpg_cluster.specs.Kept.{cluster_of}
 use Rattle.cpg_cluster.specs.declared.member.Member.{Member}
 use Rattle.cpg_cluster.proofs.Passed.{played_open}
+use Rattle.cpg_cluster.proofs.Plays.{valid_tables_are_correct}
 use Rattle.cpg_cluster.proofs.Reached.{dispatchers_at, dispatchers_count}
 use Rattle.cpg_cluster.proofs.Stepping.{tables_of, play_of}
 
@@ -112,6 +113,10 @@ module _ (g : Graph) (tables : List NodeTable) (w : World) (within : IsWithinLim
         ends = omega (arith, o.ends_room, ap (λ (t : NodeTable). length t.own) t);
         reports = omega (arith, o.reports_room, ap (λ (t : NodeTable). length t.own) t);
       }
+
+-- and they play correctly
+pub correct_open : (g : Graph) (tables : List NodeTable) → IsWithinLimits g → AreTablesOf (head_of g) tables → WellFormed g → IsValid g tables → IsCorrect g tables
+correct_open g tables within of f v = valid_tables_are_correct g tables f (has_shape g within tables of) v
 
 -- full lengths are lawful
 pub full_world : (g : Graph) (s : Scenario) → WellFormed g → IsScenario g s → IsWorld g (record { scenario = s; lengths = full_lengths g s })

@@ -1,12 +1,13 @@
 -- A play under way, as code keeps it.
-use Rattle.std.specs.Prelude.{ℕ, List}
+use Rattle.std.specs.Prelude.{ℕ, ◌≡◌, ◌≤◌, ◌<◌, List, [], Some, get_or, length}
 use Rattle.cpg_base.specs.Graph.{Graph}
 use Rattle.cpg_base.specs.WellFormed.{WellFormed}
 use Rattle.cpg_table.specs.Table.{NodeTable}
 use Rattle.cpg_table.specs.Shape.{HasShape}
 use Rattle.cpg_table.specs.Valid.{IsValid}
-use Rattle.cpg_cluster.specs.Cluster.{World, Cluster, Answer, Took, Waits, Done, open_cluster, step, IsPlayed}
-use Rattle.cpg_cluster.specs.Correct.{IsWorld}
+use Rattle.cpg_node.specs.Dispatcher.{Act, next}
+use Rattle.cpg_cluster.specs.Cluster.{World, Cluster, Answer, Took, Waits, Done, open_cluster, dispatcher_at, step, IsPlayed}
+use Rattle.cpg_cluster.specs.Correct.{IsWorld, IsDue}
 use Rattle.cpg_cluster.specs.declared.answered.Step.{Step}
 use Rattle.cpg_cluster.specs.declared.answered.Step.TheVariants.{Took as StepTook, Waits as StepWaits, Done as StepDone}
 
@@ -32,6 +33,16 @@ pub record IsPlaying (p : Playing) : Type 0 where
   pub valid : IsValid p.graph p.tables
   pub world : IsWorld p.graph p.world
   pub played : IsPlayed p.graph p.tables p.world p.cluster
+
+-- a node has a next instant, and none has an earlier one
+pub record HasLeastInstant (p : Playing) (node : ℕ) : Type 0 where
+  pub time : ℕ
+  pub comes : next (dispatcher_at p.cluster node) ≡ Some time
+  pub least : (other moment : ℕ) → other < length p.graph.nodes → next (dispatcher_at p.cluster other) ≡ Some moment → time ≤ moment
+
+-- a node has done all that is due on it
+abbrev pub HasDoneAll : Playing → ℕ → Type 0
+HasDoneAll p node = (acts : List Act) → IsDue p.graph p.tables p.world.scenario node acts → get_or p.cluster.acts node [] ≡ acts
 
 -- the answer of an ask
 abbrev pub answer_of : Step → Answer

@@ -33,10 +33,10 @@ reports_by g w time own runs = flat_map (λ rs. rs) (zip_with (report_of g w tim
 abbrev pub ends_by : ℕ → List Own → List (Option Running) → List (ℕ × Ended)
 ends_by time own runs = map {A = Ended} {B = ℕ × Ended} (λ e. (time, e)) (flat_map (λ es. es) (zip_with (due_reports_of time) own runs))
 
--- executions may finish, one after another
+-- executions may finish at their times, one after another
 abbrev pub AllFinish : Dispatcher → List (ℕ × Ended) → Type 0
 AllFinish d [] = Unit {0}
-AllFinish d (e ∷ es) = MayFinish d e.1 × AllFinish (finished d e.1) es
+AllFinish d (e ∷ es) = MayFinish d e.0 e.1 × AllFinish (finished d e.1) es
 
 -- the dispatcher after them
 abbrev pub all_finished : Dispatcher → List (ℕ × Ended) → Dispatcher

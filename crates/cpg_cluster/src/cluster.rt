@@ -9,11 +9,11 @@ ghost use Rattle.cpg_table.specs.GraphHead.{head_of};
 ghost use Rattle.cpg_table.specs.Lawful.{AreTablesOf};
 ghost use Rattle.cpg_table.specs.Valid.{IsValid};
 ghost use Rattle.cpg_node.specs.Dispatcher.{next, zip_with};
-ghost use Rattle.cpg_cluster.specs.Cluster.{Took, answer, dispatcher_at};
+ghost use Rattle.cpg_cluster.specs.Cluster.{Took, Done, answer, dispatcher_at};
 ghost use Rattle.cpg_cluster.specs.Driving.{IsDriven, choose, circle, next_number, remaining};
-ghost use Rattle.cpg_cluster.specs.Correct.{IsWorld};
+ghost use Rattle.cpg_cluster.specs.Correct.{IsWorld, IsCorrect};
 ghost use Rattle.cpg_cluster.specs.Keeping.{HasNoted, frames_of_member, frames_by};
-ghost use Rattle.cpg_cluster.specs.Playing.{IsPlaying, opened, stepped, answer_of};
+ghost use Rattle.cpg_cluster.specs.Playing.{IsPlaying, HasLeastInstant, HasDoneAll, opened, stepped, answer_of};
 
 use crate::Step;
 use crate::member::{Member, most_heard, open_members, take_turn};
@@ -109,7 +109,8 @@ impl Cluster {
         requires tables { AreTablesOf (head_of admitted.now.graph) tables.now.nodes }
         requires valid { IsValid admitted.now.graph tables.now.nodes }
         requires scenario { IsScenario admitted.now.graph scenario.now }
-        ensures { IfOk result (λ c. c ≡ opened admitted.now.graph tables.now.nodes (record { scenario = scenario.now; lengths = full_lengths admitted.now.graph scenario.now })) }
+        ensures opened { IfOk result (λ c. c ≡ opened admitted.now.graph tables.now.nodes (record { scenario = scenario.now; lengths = full_lengths admitted.now.graph scenario.now })) }
+        ensures correct { IfOk result (λ _. IsCorrect admitted.now.graph tables.now.nodes) }
     {
         let lengths = Lengths::full(alloc, admitted.problem(), scenario)?;
         let cluster = Cluster::with_lengths(alloc, admitted, tables, scenario, &lengths)?;
@@ -128,7 +129,8 @@ impl Cluster {
         requires tables { AreTablesOf (head_of admitted.now.graph) tables.now.nodes }
         requires valid { IsValid admitted.now.graph tables.now.nodes }
         requires world { IsWorld admitted.now.graph (record { scenario = scenario.now; lengths = lengths.now }) }
-        ensures { IfOk result (λ c. c ≡ opened admitted.now.graph tables.now.nodes (record { scenario = scenario.now; lengths = lengths.now })) }
+        ensures opened { IfOk result (λ c. c ≡ opened admitted.now.graph tables.now.nodes (record { scenario = scenario.now; lengths = lengths.now })) }
+        ensures correct { IfOk result (λ _. IsCorrect admitted.now.graph tables.now.nodes) }
     {
         let members = open_members(alloc, admitted.problem(), tables)?;
         let mut frames = Vec::new(alloc);
@@ -191,6 +193,8 @@ impl Cluster {
         requires { node < length self.old.graph.nodes }
         ensures answer { answer_of result ≡ answer self.old.graph self.old.cluster node }
         ensures step { self.new ≡ stepped self.old node }
+        ensures least { HasLeastInstant self.old node → answer_of result ≡ Took }
+        ensures whole { answer_of result ≡ Done → HasDoneAll self.old node }
         ensures nearer { answer self.old.graph self.old.cluster node ≡ Took → remaining self.new.cluster < remaining self.old.cluster }
     {
         let member = &self.members[node as usize];

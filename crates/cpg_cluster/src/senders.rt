@@ -4,7 +4,7 @@ ghost use Rattle.cpg_base.specs.Graph.{home, item_at, item_count};
 ghost use Rattle.cpg_base.specs.Scenario.{IsScenario};
 ghost use Rattle.cpg_cluster.specs.Taking.{value_of_item};
 
-use cpg_base::{OutOfMemory, Problem, Scenario};
+use cpg_base::{Item, OutOfMemory, Problem, Scenario};
 use cpg_table::Row;
 use std::alloc::Global;
 
@@ -34,14 +34,14 @@ fn value_of(problem: &Problem, scenario: &Scenario, condition: u32) -> bool
 
 /// The value that a frame of an item carries: that of its condition for a broadcast, and else false.
 pub fn value_of_item(problem: &Problem, scenario: &Scenario, item: u32) -> bool
-    requires { IsScenario problem.now scenario.now }
+    requires scenario { IsScenario problem.now scenario.now }
+    requires item { item < item_count problem.now }
     ensures { result ≡ value_of_item scenario.now.values (item_at problem.now item) }
 {
-    let first = problem.processes().len() + problem.edges().len();
-    if (item as usize) < first {
-        return false;
+    match problem.item(item) {
+        Item::Broadcast(condition) => scenario.value(condition),
+        Item::Start(_) | Item::Message(_) => false,
     }
-    value_of(problem, scenario, (item as usize - first) as u32)
 }
 
 /// The value of the condition of a process in a scenario, and false where it has none.

@@ -204,7 +204,8 @@ pub fn finish_all(node: &mut Node, ended: &[(u64, Ended)])
     ensures { node.new ≡ record node.old { dispatcher = all_finished node.old.dispatcher ended.now } }
 {
     for report in ended {
-        node.finished(report.1);
+        let (time, ended) = *report;
+        node.finished(time, ended);
     }
 }
 

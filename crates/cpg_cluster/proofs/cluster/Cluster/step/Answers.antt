@@ -6,13 +6,15 @@ use Rattle.cpg_base.specs.Graph.{item_count}
 use Rattle.cpg_base.specs.Numbers.{numbers_below}
 use Rattle.cpg_node.specs.Dispatcher.{Frame, next}
 use Rattle.cpg_table.specs.Table.{NodeTable, Row}
-use Rattle.cpg_cluster.specs.Cluster.{Cluster, Took, Waits, answer, answer_by}
+use Rattle.cpg_cluster.specs.Cluster.{Cluster, Took, Waits, Done, answer, answer_at, answer_by}
 use Rattle.cpg_cluster.specs.Playing.{Playing, stepped}
 use Rattle.cpg_cluster.specs.Keeping.{AreIndexed, HasNoted, answer_if, frames_by, waits_between}
 use Rattle.cpg_cluster.specs.Kept.{cluster_of, playing_of}
 use Rattle.cpg_cluster.specs.declared.member.Member.{Member}
 use Rattle.cpg_cluster.specs.Driving.{remaining}
+use Rattle.cpg_cluster.proofs.Answering.{takes_at, all_at}
 use Rattle.cpg_cluster.proofs.Asking.{at_some}
+use Rattle.cpg_cluster.proofs.Between.{dispatcher_is}
 use Rattle.cpg_cluster.proofs.Noted.{all_noted, hears_there}
 use Rattle.cpg_cluster.proofs.Stepping.{indexed, asked, waits_step, own_all, finish_all, ready_next, frames_fit, turn_may, acts_fit, ends_fit, reports_fit, play_then, playing_then, nearer_then, fits_then, heard_then}
 use Rattle.cpg_cluster.proofs.cluster.Cluster.step.Goals as goal
@@ -216,3 +218,19 @@ returns-clause-nearer c e =
     let v = c.self.invariant in
     subst (λ (p : Playing). remaining (cluster_of (set n.members.items c.args.node c.take_turn.new.member)) < remaining p.cluster) c.self.view_is
     (nearer_then n.problem (record { scenario = n.scenario; lengths = n.lengths }) n.members.items v.playing v.members c.args.node c.index_mut-member.result.now c.index_mut-member.ensures.value (within-a c) c.in-Some.time (mut-a c) c.as_slice-4.result.now (frames-a c) (took-a c) c.take_turn.new.member c.take_turn.ensures.node c.take_turn.ensures.acts c.take_turn.ensures.noted c.take_turn.ensures.ends c.take_turn.ensures.reports c.take_turn.ensures.same c.take_turn.ensures.room (at_some c.next.result c.in-Some.time (λ t. t < 2 ^ 61) c.in-Some.is c.next.ensures.early))
+
+-- What the answers tell.
+
+pub returns-in-Some-waited_on-clause-least : goal.returns-in-Some-waited_on-clause-least
+returns-in-Some-waited_on-clause-least c h = waits c ∙ ap (λ (p : Playing). answer p.graph p.cluster c.args.node) c.self.view_is ∙ takes_at (playing_of c.self.inside) c.args.self.now c.self.view_is c.self.invariant.playing c.args.node c.requires h
+
+pub returns-in_default-clause-whole : goal.returns-in_default-clause-whole
+returns-in_default-clause-whole c _ =
+    let n = c.self.inside in
+    let within : c.args.node < length n.members.items = omega (arith, c.requires, ap (λ (p : Playing). length p.graph.nodes) c.self.view_is, c.self.invariant.playing.shape.count, length-map n.members.items (λ (m : Member). m.node.dispatcher.table)) in
+    let none = ap next (dispatcher_is n.members.items c.args.node c.index-member.result.now within ∙ ap (λ (m : Member). m.node.dispatcher) (sym c.index-member.ensures)) ∙ sym c.next.ensures.next ∙ c.in_default.is in
+    all_at (playing_of n) c.args.self.now c.self.view_is c.self.invariant.playing c.args.node c.requires
+    (ap (λ (p : Playing). answer p.graph p.cluster c.args.node) (sym c.self.view_is) ∙ ap (answer_at n.problem (cluster_of n.members.items) c.args.node) none)
+
+pub returns-clause-whole : goal.returns-clause-whole
+returns-clause-whole c e = let x : Took ≡ Done = e in cc

@@ -10,7 +10,7 @@ use Rattle.cpg_cluster.specs.Cluster.{World}
 use Rattle.cpg_cluster.specs.Playing.{IsPlaying}
 use Rattle.cpg_cluster.proofs.Stepping.{play_of}
 use Rattle.cpg_cluster.specs.declared.member.Member.{Member}
-use Rattle.cpg_cluster.proofs.Opening.{hears_items, play_is, playing_open, fits_open}
+use Rattle.cpg_cluster.proofs.Opening.{hears_items, play_is, playing_open, fits_open, correct_open}
 use Rattle.cpg_cluster.proofs.cluster.Cluster.with_lengths.Goals as goal
 
 pub open_members-requires : goal.open_members-requires
@@ -44,5 +44,8 @@ invariant_of-result c =
           omega (arith, few, room);
     }
 
-pub returns : goal.returns
-returns c = parts c ∙ play_is c.args.admitted.now.graph c.args.tables.now.nodes (record { scenario = c.args.scenario.now; lengths = c.args.lengths.now }) c.problem.ensures.admitted.limits (of c) c.in_ok-members.members.items (open' c)
+pub returns-clause-opened : goal.returns-clause-opened
+returns-clause-opened c = parts c ∙ play_is c.args.admitted.now.graph c.args.tables.now.nodes (record { scenario = c.args.scenario.now; lengths = c.args.lengths.now }) c.problem.ensures.admitted.limits (of c) c.in_ok-members.members.items (open' c)
+
+pub returns-clause-correct : goal.returns-clause-correct
+returns-clause-correct c = correct_open c.args.admitted.now.graph c.args.tables.now.nodes c.problem.ensures.admitted.limits (of c) c.problem.ensures.admitted.well_formed c.requires.valid
