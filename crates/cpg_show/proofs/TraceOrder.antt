@@ -92,4 +92,4 @@ one_events g acts ends xs ys apart a b = one_order (λ a b. is_event_below a b �
 
 pub one_text : (g : Graph) (lengths : List ℕ) (acts : List (List Act)) (ends : List (List (ℕ × Ended))) (text other : List ℕ) → AllPairs (λ a b. event_key a ≢ event_key b) (all_events g acts ends)
     → IsTraceText g lengths acts ends text → IsTraceText g lengths acts ends other → text ≡ other
-one_text g lengths acts ends text other apart (xs, a, t) (ys, b, u) = t ∙ ap (λ events. flat_map (event_line g lengths) events ++ finish_line ends) (one_events g acts ends xs ys apart a b) ∙ sym u
+one_text g lengths acts ends text other apart (xs, a, t) (ys, b, u) = t ∙ ap (λ events. flat_map (event_line g lengths) events ++ finish_line g ends) (one_events g acts ends xs ys apart a b) ∙ sym u

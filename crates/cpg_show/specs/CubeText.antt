@@ -1,7 +1,10 @@
 -- The text of columns: a line of each, with its time and its literals.
-use Rattle.std.specs.Prelude.{ℕ, ◌-◌, ◌==◌, nat_lt, if◌then◌else◌, List, [], ◌∷◌, ◌++◌, codes}
+use Rattle.std.specs.Prelude.{ℕ, ◌==◌, if◌then◌else◌, List, [], ◌∷◌, ◌++◌, codes}
 use Rattle.std.specs.List.{flat_map, join_by}
 use Rattle.std.specs.Fmt.{decimal}
+use Rattle.cpg_base.specs.Variable.{variable_at}
+use Rattle.cpg_base.specs.declared.variable.Variable.{Variable}
+use Rattle.cpg_base.specs.declared.variable.Variable.TheVariants.{Count, Value}
 use Rattle.cpg_cube.specs.declared.literal.Literal.{Literal}
 use Rattle.cpg_table.specs.Table.{Column}
 use Rattle.cpg_show.specs.Labels.{Labels, process_name, condition_name}
@@ -14,11 +17,14 @@ range_text low high = if low == high then decimal low else decimal low ++ codes 
 abbrev pub value_text : ℕ → List ℕ
 value_text number = if number == 0 then codes "false" else codes "true"
 
--- a literal on a fault count or on a value
+-- a range of a fault count or of a value
+abbrev pub known_text : Labels → Variable → ℕ → ℕ → List ℕ
+known_text labels (Count p) low high = process_name labels p ++ codes " faults " ++ range_text low high
+known_text labels (Value c) low high = condition_name labels c ++ codes " " ++ value_text low
+
+-- a literal
 abbrev pub literal_text : Labels → Literal → List ℕ
-literal_text labels l =
-    if nat_lt l.variable 128 then process_name labels l.variable ++ codes " faults " ++ range_text l.low l.high
-    else condition_name labels (l.variable - 128) ++ codes " " ++ value_text l.low
+literal_text labels l = known_text labels (variable_at l.variable) l.low l.high
 
 -- the literals with a comma and a space between each two, and `always` of none
 abbrev pub cube_text : Labels → List Literal → List ℕ

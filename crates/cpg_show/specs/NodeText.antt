@@ -6,15 +6,15 @@ use Rattle.cpg_table.specs.Table.{Row, NodeTable, table_at}
 use Rattle.cpg_table.specs.Lawful.{Tables}
 use Rattle.cpg_show.specs.Labels.{Labels, head_labels}
 use Rattle.cpg_show.specs.CubeText.{columns_text}
-use Rattle.cpg_show.specs.ItemText.{act_text, hear_text}
+use Rattle.cpg_show.specs.ItemText.{item_of, act_text, hear_text}
 
 -- a row of what the node starts or sends
 abbrev pub act_row : Labels → Row → List ℕ
-act_row labels row = act_text labels row.item ++ codes "\n" ++ columns_text labels row.columns
+act_row labels row = act_text labels (item_of labels row.item) ++ codes "\n" ++ columns_text labels row.columns
 
 -- a row of what it hears
 abbrev pub hear_row : Labels → Row → List ℕ
-hear_row labels row = hear_text labels row.item ++ codes "\n" ++ columns_text labels row.columns
+hear_row labels row = hear_text labels (item_of labels row.item) ++ codes "\n" ++ columns_text labels row.columns
 
 -- the rows of a table
 abbrev pub rows_text : Labels → NodeTable → List ℕ

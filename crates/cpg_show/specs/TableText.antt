@@ -1,21 +1,29 @@
 -- The text of tables: the order, the greatest finish, and the lines of each item.
-use Rattle.std.specs.Prelude.{ℕ, ◌||◌, Bool, nat_lt, if◌then◌else◌, List, [], ◌++◌, codes, get_or}
+use Rattle.std.specs.Prelude.{ℕ, Bool, true, if◌then◌else◌, List, [], ◌++◌, codes, get_or}
 use Rattle.std.specs.List.{flat_map}
 use Rattle.std.specs.Fmt.{decimal}
 use Rattle.cpg_base.specs.Numbers.{numbers_below}
-use Rattle.cpg_base.specs.Graph.{Graph, process_count, item_count, home, is_sent}
+use Rattle.cpg_base.specs.Graph.{Graph, item_at, item_count, home, is_sent_item}
+use Rattle.cpg_base.specs.declared.item.Item.{Item}
+use Rattle.cpg_base.specs.declared.item.Item.TheVariants.{Start, Message, Broadcast}
 use Rattle.cpg_table.specs.Table.{NodeTable, columns_of}
 use Rattle.cpg_show.specs.Labels.{labels_of, process_name}
 use Rattle.cpg_show.specs.CubeText.{columns_text}
 use Rattle.cpg_show.specs.ItemText.{act_text}
 
--- whether an item has lines: a message within a node has none, nor has a broadcast where there is one node
+-- whether an item has lines: an edge within a node has none, nor has a broadcast where there is one node
+abbrev pub is_shown_item : Graph → Item → Bool
+is_shown_item g (Start p) = true
+is_shown_item g (Message e) = is_sent_item g (Message e)
+is_shown_item g (Broadcast c) = is_sent_item g (Broadcast c)
+
+-- so of the item of a number
 abbrev pub is_shown : Graph → ℕ → Bool
-is_shown g x = nat_lt x (process_count g) || is_sent g x
+is_shown g x = is_shown_item g (item_at g x)
 
 -- what is done, and on which node
 abbrev pub head_line : Graph → ℕ → List ℕ
-head_line g x = act_text (labels_of g) x ++ codes " on " ++ get_or g.nodes (home g x) [] ++ codes "\n"
+head_line g x = act_text (labels_of g) (item_at g x) ++ codes " on " ++ get_or g.nodes (home g x) [] ++ codes "\n"
 
 -- the lines of an item
 abbrev pub item_text : Graph → List NodeTable → ℕ → List ℕ

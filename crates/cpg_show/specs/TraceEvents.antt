@@ -1,8 +1,10 @@
 -- What the nodes did, as events, and the order in which a trace tells these.
-use Rattle.std.specs.Prelude.{ℕ, ⊤, ◌≡◌, ◌≤◌, ◌<◌, false, nat_lt, if◌then◌else◌, List, [], ◌∷◌, ◌++◌, map, get_or, length, IsPermutation, AllPairs}
+use Rattle.std.specs.Prelude.{ℕ, ⊤, ◌≡◌, ◌≤◌, ◌<◌, false, List, [], ◌∷◌, ◌++◌, map, get_or, length, IsPermutation, AllPairs}
 use Rattle.std.specs.List.{flat_map}
 use Rattle.cpg_base.specs.Numbers.{numbers_below, is_below}
-use Rattle.cpg_base.specs.Graph.{Graph, process_count}
+use Rattle.cpg_base.specs.Graph.{Graph, item_at, item_count, process_count}
+use Rattle.cpg_base.specs.declared.item.Item.{Item}
+use Rattle.cpg_base.specs.declared.item.Item.TheVariants.{Start as StartItem, Message, Broadcast}
 use Rattle.cpg_node.specs.Dispatcher.{Act, Ended}
 use Rattle.cpg_show.specs.declared.event.Deed.{Deed as ToldDeed}
 use Rattle.cpg_show.specs.declared.event.Deed.TheVariants.{End, Send, Start}
@@ -16,9 +18,15 @@ Deed = ToldDeed
 abbrev pub Event : Type 0
 Event = ToldEvent
 
--- a node starts or sends an item
+-- a node starts a process, or sends an item of this number
+abbrev pub deed_of : Item → ℕ → Deed
+deed_of (StartItem p) x = Start p
+deed_of (Message e) x = Send x
+deed_of (Broadcast c) x = Send x
+
+-- what an act is
 abbrev pub event_of_act : Graph → ℕ → Act → Event
-event_of_act g node a = record { time = a.time; node = node; deed = if nat_lt a.item (process_count g) then Start a.item else Send a.item }
+event_of_act g node a = record { time = a.time; node = node; deed = deed_of (item_at g a.item) a.item }
 
 -- an execution of a node ends
 abbrev pub event_of_end : ℕ → ℕ × Ended → Event
@@ -30,7 +38,7 @@ node_events g acts ends node = map (event_of_act g node) (get_or acts node []) +
 
 -- what all of them did
 abbrev pub all_events : Graph → List (List Act) → List (List (ℕ × Ended)) → List Event
-all_events g acts ends = flat_map (node_events g acts ends) (numbers_below (length acts))
+all_events g acts ends = flat_map (node_events g acts ends) (numbers_below (length g.nodes))
 
 -- ends come first, then sends and then starts, and of one kind the lower number
 abbrev pub deed_key : Deed → List ℕ
@@ -52,8 +60,12 @@ pub record IsEndWithin (g : Graph) (e : ℕ × Ended) : Type 0 where
   pub process : e.1.process < process_count g
   pub faults : e.1.faults ≤ g.faults
 
+-- a start or a send of an item of the graph
+abbrev pub IsActWithin : Graph → Act → Type 0
+IsActWithin g a = a.item < item_count g
+
 -- the same of what a node did
 abbrev pub IsDeedWithin : Graph → Deed → Type 0
 IsDeedWithin g (End process faults value) = (process < process_count g) × (faults ≤ g.faults)
-IsDeedWithin g (Send item) = ⊤
+IsDeedWithin g (Send item) = item < item_count g
 IsDeedWithin g (Start process) = ⊤

@@ -1,23 +1,24 @@
 -- The text of a trace: a line of each event, in order, and the greatest end.
-use Rattle.std.specs.Prelude.{ℕ, ◌-◌, ◌≡◌, Bool, nat_lt, if◌then◌else◌, List, [], ◌++◌, codes, is_some, map, get_or, length}
+use Rattle.std.specs.Prelude.{ℕ, ◌≡◌, Bool, nat_lt, if◌then◌else◌, List, [], ◌++◌, codes, is_some, map, get_or, length}
 use Rattle.std.specs.List.{flat_map}
 use Rattle.std.specs.Fmt.{decimal}
-use Rattle.cpg_base.specs.Numbers.{greatest}
-use Rattle.cpg_base.specs.Graph.{Graph, condition_of}
+use Rattle.cpg_base.specs.Numbers.{numbers_below, greatest}
+use Rattle.cpg_base.specs.Graph.{Graph, item_at, condition_of}
+use Rattle.cpg_base.specs.declared.item.Item.{Item}
+use Rattle.cpg_base.specs.declared.item.Item.TheVariants.{Start as StartItem, Message, Broadcast}
 use Rattle.cpg_base.specs.Duration.{duration}
 use Rattle.cpg_base.specs.Scenario.{number_of_value}
 use Rattle.cpg_node.specs.Dispatcher.{Act, Ended}
 use Rattle.cpg_show.specs.declared.event.Deed.TheVariants.{End, Send, Start}
 use Rattle.cpg_show.specs.CubeText.{value_text}
-use Rattle.cpg_show.specs.ItemText.{first_broadcast}
 use Rattle.cpg_show.specs.Labels.{Labels, labels_of, process_name, condition_name}
 use Rattle.cpg_show.specs.TraceEvents.{Deed, Event, AreToldInOrder}
 
--- a message, by the number of its edge, or a broadcast, by the process of its condition
-abbrev pub send_text : Labels → ℕ → List ℕ
-send_text labels x =
-    if nat_lt (x - length labels.processes) (length labels.edges) then codes "send e" ++ decimal (x - length labels.processes)
-    else codes "tell " ++ condition_name labels (x - first_broadcast labels)
+-- a start, a message, by the number of its edge, or a broadcast, by the process of its condition
+abbrev pub done_text : Labels → Item → List ℕ
+done_text labels (StartItem p) = codes "start " ++ process_name labels p
+done_text labels (Message e) = codes "send e" ++ decimal e
+done_text labels (Broadcast c) = codes "tell " ++ condition_name labels c
 
 -- the value of a process's condition, and nothing where it has none
 abbrev pub outcome_text : Graph → ℕ → Bool → List ℕ
@@ -35,21 +36,25 @@ end_text g lengths process faults value = codes "end " ++ process_name (labels_o
 -- what a node did
 abbrev pub deed_text : Graph → List ℕ → Deed → List ℕ
 deed_text g lengths (End process faults value) = end_text g lengths process faults value
-deed_text g lengths (Send item) = send_text (labels_of g) item
-deed_text g lengths (Start process) = codes "start " ++ process_name (labels_of g) process
+deed_text g lengths (Send item) = done_text (labels_of g) (item_at g item)
+deed_text g lengths (Start process) = done_text (labels_of g) (StartItem process)
 
 -- when it was, on which node, and what
 abbrev pub event_line : Graph → List ℕ → Event → List ℕ
 event_line g lengths e = decimal e.time ++ codes " " ++ get_or g.nodes e.node [] ++ codes " " ++ deed_text g lengths e.deed ++ codes "\n"
 
+-- when executions of a node ended
+abbrev pub end_times : List (List (ℕ × Ended)) → ℕ → List ℕ
+end_times ends node = map {A = ℕ × Ended} {B = ℕ} (λ e. e.0) (get_or ends node [])
+
 -- the greatest end of all nodes, and 0 where there is none
-abbrev pub finish_of : List (List (ℕ × Ended)) → ℕ
-finish_of ends = greatest (flat_map (map (λ e. e.0)) ends)
+abbrev pub finish_of : Graph → List (List (ℕ × Ended)) → ℕ
+finish_of g ends = greatest (flat_map (end_times ends) (numbers_below (length g.nodes)))
 
 -- the line of the greatest end
-abbrev pub finish_line : List (List (ℕ × Ended)) → List ℕ
-finish_line ends = codes "finish " ++ decimal (finish_of ends) ++ codes "\n"
+abbrev pub finish_line : Graph → List (List (ℕ × Ended)) → List ℕ
+finish_line g ends = codes "finish " ++ decimal (finish_of g ends) ++ codes "\n"
 
 -- the text of what the nodes did, of executions with these lengths by process
 abbrev pub IsTraceText : Graph → List ℕ → List (List Act) → List (List (ℕ × Ended)) → List ℕ → Type 0
-IsTraceText g lengths acts ends text = (events : List Event) × AreToldInOrder g acts ends events × (text ≡ flat_map (event_line g lengths) events ++ finish_line ends)
+IsTraceText g lengths acts ends text = (events : List Event) × AreToldInOrder g acts ends events × (text ≡ flat_map (event_line g lengths) events ++ finish_line g ends)

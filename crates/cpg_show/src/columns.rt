@@ -3,6 +3,7 @@ ghost use Rattle.std.specs.Prelude.{◌≡◌, ◌++◌, OnOk, codes, flat_map, 
 ghost use Rattle.cpg_show.specs.CubeText.{column_line, columns_text, cube_text, literal_text, range_text, value_text};
 
 use crate::labels::Labels;
+use cpg_base::Variable;
 use cpg_cube::{Cube, Literal};
 use cpg_table::Entry;
 use std::alloc::AllocError;
@@ -32,14 +33,18 @@ pub(crate) fn write_value(out: &mut String, number: u8) -> Result<(), AllocError
 fn write_literal(out: &mut String, labels: &Labels<'_>, literal: Literal) -> Result<(), AllocError>
     ensures { OnOk result (string_bytes out.new ≡ string_bytes out.old ++ literal_text labels.now literal) }
 {
-    if literal.variable < 128 {
-        let name = labels.process(u32::from(literal.variable));
-        write!(out, "{name} faults ")?;
-        return write_range(out, literal.low, literal.high);
+    match Variable::of(literal.variable) {
+        Variable::Count(process) => {
+            let name = labels.process(process);
+            write!(out, "{name} faults ")?;
+            write_range(out, literal.low, literal.high)
+        }
+        Variable::Value(condition) => {
+            let name = labels.condition(condition);
+            write!(out, "{name} ")?;
+            write_value(out, literal.low)
+        }
     }
-    let name = labels.condition(u32::from(literal.variable - 128));
-    write!(out, "{name} ")?;
-    write_value(out, literal.low)
 }
 
 /// The literals after the first one.

@@ -1,8 +1,8 @@
 //! What a trace tells.
 ghost use Rattle.std.specs.Prelude.{◌≡◌};
-ghost use Rattle.cpg_show.specs.TraceEvents.{event_of_act, event_of_end};
+ghost use Rattle.cpg_show.specs.TraceEvents.{IsActWithin, event_of_act, event_of_end};
 
-use cpg_base::Problem;
+use cpg_base::{Item, Problem};
 use cpg_node::{Act, Ended};
 
 /// What a node did. At one time a trace tells ends before sends, and sends before starts.
@@ -35,19 +35,19 @@ pub struct Event {
     /// When it was, in time units of the graph file.
     pub time: u64,
     /// The number of the node.
-    pub node: usize,
+    pub node: u32,
     /// What it was.
     pub deed: Deed,
 }
 
 /// A start or a send as an event.
-pub(crate) fn event_of_act(problem: &Problem, node: usize, act: &Act) -> Event
+pub(crate) fn event_of_act(problem: &Problem, node: u32, act: &Act) -> Event
+    requires { IsActWithin problem.now act.now }
     ensures { result ≡ event_of_act problem.now node act.now }
 {
-    let deed = if (act.item as usize) < problem.processes().len() {
-        Deed::Start { process: act.item }
-    } else {
-        Deed::Send { item: act.item }
+    let deed = match problem.item(act.item) {
+        Item::Start(process) => Deed::Start { process },
+        Item::Message(_) | Item::Broadcast(_) => Deed::Send { item: act.item },
     };
     Event {
         time: act.time,
@@ -57,7 +57,7 @@ pub(crate) fn event_of_act(problem: &Problem, node: usize, act: &Act) -> Event
 }
 
 /// The end of an execution as an event.
-pub(crate) fn event_of_end(node: usize, end: &(u64, Ended)) -> Event
+pub(crate) fn event_of_end(node: u32, end: &(u64, Ended)) -> Event
     ensures { result ≡ event_of_end node end.now }
 {
     let (time, ended) = *end;

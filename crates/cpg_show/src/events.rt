@@ -1,10 +1,11 @@
 //! All events of a trace, in order.
-ghost use Rattle.std.specs.Prelude.{◌≡◌, ◌++◌, IfOk, OnOk, map};
-ghost use Rattle.cpg_show.specs.TraceEvents.{AreToldInOrder, all_events, event_of_act, event_of_end};
+ghost use Rattle.std.specs.Prelude.{◌≡◌, ◌++◌, All, IfOk, OnOk, map};
+ghost use Rattle.cpg_cluster.specs.Playing.{IsPlaying};
+ghost use Rattle.cpg_show.specs.TraceEvents.{AreToldInOrder, IsActWithin, all_events, event_of_act, event_of_end};
 
-use crate::NodeTrace;
 use crate::event::{Event, event_of_act, event_of_end};
 use cpg_base::{OutOfMemory, Problem};
+use cpg_cluster::Cluster;
 use cpg_node::{Act, Ended};
 use std::alloc::Global;
 
@@ -12,9 +13,10 @@ use std::alloc::Global;
 fn add_acts(
     events: &mut Vec<Event>,
     problem: &Problem,
-    node: usize,
+    node: u32,
     acts: &[Act],
 ) -> Result<(), OutOfMemory>
+    requires { All (IsActWithin problem.now) acts.now }
     ensures { OnOk result (events.new.items ≡ events.old.items ++ map (event_of_act problem.now node) acts.now) }
 {
     for act in acts {
@@ -24,7 +26,7 @@ fn add_acts(
 }
 
 /// Adds the ends of a node.
-fn add_ends(events: &mut Vec<Event>, node: usize, ends: &[(u64, Ended)]) -> Result<(), OutOfMemory>
+fn add_ends(events: &mut Vec<Event>, node: u32, ends: &[(u64, Ended)]) -> Result<(), OutOfMemory>
     ensures { OnOk result (events.new.items ≡ events.old.items ++ map (event_of_end node) ends.now) }
 {
     for end in ends {
@@ -33,30 +35,16 @@ fn add_ends(events: &mut Vec<Event>, node: usize, ends: &[(u64, Ended)]) -> Resu
     Ok(())
 }
 
-/// How many events there are.
-fn event_count(nodes: &[NodeTrace<'_>]) -> usize {
-    let mut count: usize = 0;
-    for node in nodes {
-        count = count
-            .saturating_add(node.acts.len())
-            .saturating_add(node.ends.len());
-    }
-    count
-}
-
 /// All events, node by node.
-fn gathered(
-    alloc: Global,
-    problem: &Problem,
-    nodes: &[NodeTrace<'_>],
-) -> Result<Vec<Event>, OutOfMemory>
-    ensures { IfOk result (λ events. events.items ≡ all_events problem.now (map (λ n. n.acts.now) nodes.now) (map (λ n. n.ends.now) nodes.now)) }
+fn gathered(alloc: Global, problem: &Problem, cluster: &Cluster) -> Result<Vec<Event>, OutOfMemory>
+    requires same { cluster.now.graph ≡ problem.now }
+    requires playing { IsPlaying cluster.now }
+    ensures { IfOk result (λ events. events.items ≡ all_events problem.now cluster.now.cluster.acts cluster.now.cluster.ends) }
 {
     let mut events = Vec::new(alloc);
-    events.reserve(event_count(nodes))?;
-    for (node, trace) in nodes.iter().enumerate() {
-        add_acts(&mut events, problem, node, trace.acts)?;
-        add_ends(&mut events, node, trace.ends)?;
+    for node in 0..problem.nodes().len() as u32 {
+        add_acts(&mut events, problem, node, cluster.acts(node))?;
+        add_ends(&mut events, node, cluster.ends(node))?;
     }
     Ok(events)
 }
@@ -65,11 +53,13 @@ fn gathered(
 pub(crate) fn events_in_order(
     alloc: Global,
     problem: &Problem,
-    nodes: &[NodeTrace<'_>],
+    cluster: &Cluster,
 ) -> Result<Vec<Event>, OutOfMemory>
-    ensures { IfOk result (λ events. AreToldInOrder problem.now (map (λ n. n.acts.now) nodes.now) (map (λ n. n.ends.now) nodes.now) events.items) }
+    requires same { cluster.now.graph ≡ problem.now }
+    requires playing { IsPlaying cluster.now }
+    ensures { IfOk result (λ events. AreToldInOrder problem.now cluster.now.cluster.acts cluster.now.cluster.ends events.items) }
 {
-    let mut events = gathered(alloc, problem, nodes)?;
+    let mut events = gathered(alloc, problem, cluster)?;
     events.sort_unstable();
     Ok(events)
 }

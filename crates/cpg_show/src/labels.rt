@@ -1,9 +1,10 @@
 //! What texts call processes, conditions and edges.
-ghost use Rattle.std.specs.Prelude.{◌≡◌, ◌<◌, IfOk, filter, length, get_or, map};
+ghost use Rattle.std.specs.Prelude.{◌≡◌, IfOk, filter, map};
 ghost use Rattle.cpg_base.specs.Graph.{disjunctions, process_at};
+ghost use Rattle.cpg_show.specs.ItemText.{item_of};
 ghost use Rattle.cpg_show.specs.Labels.{condition_name, edge_ends, head_labels, labels_of, process_name};
 
-use cpg_base::{Edge, OutOfMemory, Problem, Process};
+use cpg_base::{Edge, Item, OutOfMemory, Problem, Process};
 use cpg_table::{Head, HeadProcess};
 use std::alloc::Global;
 use std::marker::Model;
@@ -146,17 +147,19 @@ impl<'a> Labels<'a> {
         self.edges.get(edge as usize).copied().unwrap_or((0, 0))
     }
 
-    /// How many processes there are.
-    pub fn processes(&self) -> usize
-        ensures { result ≡ length self.now.processes }
+    /// The item of a number, for the texts of a pack, which comes without its graph.
+    pub fn item(&self, number: u32) -> Item
+        ensures { result ≡ item_of self.now number }
     {
-        self.processes.len()
-    }
-
-    /// How many edges there are.
-    pub fn edges(&self) -> usize
-        ensures { result ≡ length self.now.edges }
-    {
-        self.edges.len()
+        let messages = self.processes.len();
+        let place = number as usize;
+        if place < messages {
+            return Item::Start(number);
+        }
+        let edge = place - messages;
+        if edge < self.edges.len() {
+            return Item::Message(edge as u32);
+        }
+        Item::Broadcast((edge - self.edges.len()) as u32)
     }
 }

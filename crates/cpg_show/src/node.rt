@@ -12,7 +12,7 @@ use std::alloc::{AllocError, Global};
 fn write_act_row(out: &mut String, labels: &Labels<'_>, row: &Row) -> Result<(), AllocError>
     ensures { OnOk result (string_bytes out.new ≡ string_bytes out.old ++ act_row labels.now row.now) }
 {
-    write_act(out, labels, row.item())?;
+    write_act(out, labels, labels.item(row.item()))?;
     out.push_str("\n")?;
     write_columns(out, labels, row.entries())
 }
@@ -29,7 +29,7 @@ fn write_act_rows(out: &mut String, labels: &Labels<'_>, rows: &[Row]) -> Result
 fn write_hear_row(out: &mut String, labels: &Labels<'_>, row: &Row) -> Result<(), AllocError>
     ensures { OnOk result (string_bytes out.new ≡ string_bytes out.old ++ hear_row labels.now row.now) }
 {
-    write_heard(out, labels, row.item())?;
+    write_heard(out, labels, labels.item(row.item()))?;
     out.push_str("\n")?;
     write_columns(out, labels, row.entries())
 }

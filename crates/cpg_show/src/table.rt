@@ -13,6 +13,8 @@ use crate::items::{is_shown, write_act};
 use crate::labels::Labels;
 use cpg_base::{OutOfMemory, Problem};
 use cpg_order::Order;
+use cpg_rules::Admitted;
+use cpg_run::Built;
 use cpg_table::Tables;
 use std::alloc::{AllocError, Global};
 
@@ -44,8 +46,8 @@ fn write_head_line(
     requires labels { labels.now ≡ labels_of problem.now }
     ensures { OnOk result (string_bytes out.new ≡ string_bytes out.old ++ head_line problem.now item) }
 {
-    write_act(out, labels, item)?;
-    let node = problem.node_of(problem.producer(item));
+    write_act(out, labels, problem.item(item))?;
+    let node = problem.home(item);
     let name = problem.nodes()[node as usize].as_str();
     write!(out, " on {name}\n")
 }
@@ -92,29 +94,29 @@ fn write_items(
     requires { labels.now ≡ labels_of problem.now }
     ensures { OnOk result (string_bytes out.new ≡ string_bytes out.old ++ flat_map (item_text problem.now tables.now.nodes) (numbers_below (item_count problem.now))) }
 {
-    let messages = problem.processes().len() as u32;
-    let broadcasts = messages + problem.edges().len() as u32;
-    for item in 0..broadcasts + problem.conditions() {
+    for item in 0..problem.item_count() {
         write_item(out, problem, labels, tables, item)?;
     }
     Ok(())
 }
 
 /// The order, the greatest finish in time units, and the rows of what is started and sent, by number of the item. Of
-/// tables that weren't made for the graph it shows the rows of its items, and leaves out names that it doesn't have.
+/// tables that weren't made for the graph it shows the rows of its items, and leaves out names that it doesn't have. The
+/// one error is want of memory.
 pub fn table_text(
     alloc: Global,
-    problem: &Problem,
-    tables: &Tables,
-    worst: u64,
+    admitted: &Admitted,
+    built: &Built,
     order: &Order,
 ) -> Result<String, OutOfMemory>
-    ensures { IfOk result (λ text. string_bytes text ≡ table_text problem.now order.now tables.now.nodes worst) }
+    ensures { IfOk result (λ text. string_bytes text ≡ table_text admitted.now.graph order.now built.now.tables.nodes built.now.worst) }
 {
+    let problem = admitted.problem();
     let labels = Labels::of(alloc, problem)?;
     let mut out = String::new(alloc);
     write_order(&mut out, &labels, order.processes())?;
+    let worst = built.worst;
     write!(out, "worst {worst}\n")?;
-    write_items(&mut out, problem, &labels, tables)?;
+    write_items(&mut out, problem, &labels, &built.tables)?;
     Ok(out)
 }

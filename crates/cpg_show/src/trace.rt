@@ -1,45 +1,35 @@
 //! The text of a trace.
-ghost use Rattle.std.specs.Prelude.{◌≡◌, ◌<◌, ◌≤◌, ◌++◌, [], All, IfOk, OnOk, codes, flat_map, fold, get_or, length, map, max, string_bytes};
-ghost use Rattle.cpg_base.specs.Duration.{duration};
+ghost use Rattle.std.specs.Prelude.{◌≡◌, ◌<◌, ◌++◌, [], All, IfOk, OnOk, codes, flat_map, fold, get_or, length, map, max, string_bytes};
 ghost use Rattle.cpg_base.specs.Graph.{process_count};
-ghost use Rattle.cpg_show.specs.Labels.{labels_of, process_name};
-ghost use Rattle.cpg_show.specs.TraceEvents.{IsDeedWithin, IsEndWithin};
-ghost use Rattle.cpg_show.specs.TraceText.{IsTraceText, deed_text, end_text, event_line, finish_line, finish_of, outcome_text, ran_text, send_text};
+ghost use Rattle.cpg_show.specs.Labels.{labels_of};
+ghost use Rattle.cpg_show.specs.TraceEvents.{IsDeedWithin};
+ghost use Rattle.cpg_show.specs.TraceText.{IsTraceText, deed_text, done_text, event_line, finish_of, outcome_text, ran_text};
 
 use crate::columns::write_value;
 use crate::event::{Deed, Event};
 use crate::events::events_in_order;
 use crate::labels::Labels;
-use cpg_base::{OutOfMemory, Problem};
-use cpg_node::{Act, Ended};
+use cpg_base::{Item, Lengths, OutOfMemory, Problem};
+use cpg_cluster::Cluster;
+use cpg_node::Ended;
+use cpg_rules::Admitted;
 use std::alloc::{AllocError, Global};
 
-/// What one node did.
-#[derive(Clone, Copy, Debug)]
-pub struct NodeTrace<'a> {
-    /// Its starts and sends.
-    pub acts: &'a [Act],
-    /// The ends of its executions, with the times of them in time units of the graph file, as if each took its full
-    /// duration.
-    pub ends: &'a [(u64, Ended)],
-}
-
-fn write_start(out: &mut String, labels: &Labels<'_>, process: u32) -> Result<(), AllocError>
-    ensures { OnOk result (string_bytes out.new ≡ string_bytes out.old ++ (codes "start " ++ process_name labels.now process)) }
+/// What a node did with an item.
+fn write_done(out: &mut String, labels: &Labels<'_>, item: Item) -> Result<(), AllocError>
+    ensures { OnOk result (string_bytes out.new ≡ string_bytes out.old ++ done_text labels.now item) }
 {
-    let name = labels.process(process);
-    write!(out, "start {name}")
-}
-
-fn write_send(out: &mut String, labels: &Labels<'_>, item: u32) -> Result<(), AllocError>
-    ensures { OnOk result (string_bytes out.new ≡ string_bytes out.old ++ send_text labels.now item) }
-{
-    let edge = (item as usize).saturating_sub(labels.processes());
-    if edge < labels.edges() {
-        return write!(out, "send e{edge}");
+    match item {
+        Item::Start(process) => {
+            let name = labels.process(process);
+            write!(out, "start {name}")
+        }
+        Item::Message(edge) => write!(out, "send e{edge}"),
+        Item::Broadcast(condition) => {
+            let name = labels.condition(condition);
+            write!(out, "tell {name}")
+        }
     }
-    let name = labels.condition((edge - labels.edges()) as u32);
-    write!(out, "tell {name}")
 }
 
 /// The value of a process's condition, if it has one.
@@ -73,7 +63,7 @@ fn write_deed(
     out: &mut String,
     problem: &Problem,
     labels: &Labels<'_>,
-    lengths: &[u64],
+    lengths: &Lengths,
     deed: Deed,
 ) -> Result<(), AllocError>
     requires labels { labels.now ≡ labels_of problem.now }
@@ -82,8 +72,8 @@ fn write_deed(
     ensures { OnOk result (string_bytes out.new ≡ string_bytes out.old ++ deed_text problem.now lengths.now deed) }
 {
     match deed {
-        Deed::Start { process } => write_start(out, labels, process),
-        Deed::Send { item } => write_send(out, labels, item),
+        Deed::Start { process } => write_done(out, labels, Item::Start(process)),
+        Deed::Send { item } => write_done(out, labels, problem.item(item)),
         Deed::End {
             process,
             faults,
@@ -93,16 +83,16 @@ fn write_deed(
             write!(out, "end {name} faults {faults}")?;
             write_outcome(out, problem, process, value)?;
             let full = problem.duration(process, faults);
-            write_ran(out, lengths[process as usize], full)
+            write_ran(out, lengths.of(process), full)
         }
     }
 }
 
 /// What a node is called, and nothing where there is no such node.
-fn node_name(problem: &Problem, node: usize) -> &str
+fn node_name(problem: &Problem, node: u32) -> &str
     ensures { result.now ≡ get_or problem.now.nodes node [] }
 {
-    match problem.nodes().get(node) {
+    match problem.nodes().get(node as usize) {
         Some(name) => name.as_str(),
         None => "",
     }
@@ -112,7 +102,7 @@ fn write_event(
     out: &mut String,
     problem: &Problem,
     labels: &Labels<'_>,
-    lengths: &[u64],
+    lengths: &Lengths,
     event: &Event,
 ) -> Result<(), AllocError>
     requires labels { labels.now ≡ labels_of problem.now }
@@ -131,7 +121,7 @@ fn write_events(
     out: &mut String,
     problem: &Problem,
     labels: &Labels<'_>,
-    lengths: &[u64],
+    lengths: &Lengths,
     events: &[Event],
 ) -> Result<(), AllocError>
     requires labels { labels.now ≡ labels_of problem.now }
@@ -157,37 +147,36 @@ fn last_of(time: u64, ends: &[(u64, Ended)]) -> u64
 }
 
 /// The greatest end, and 0 where there is none.
-fn finish(nodes: &[NodeTrace<'_>]) -> u64
-    ensures { result ≡ finish_of (map (λ n. n.ends.now) nodes.now) }
+fn finish(problem: &Problem, cluster: &Cluster) -> u64
+    requires { cluster.now.graph ≡ problem.now }
+    ensures { result ≡ finish_of problem.now cluster.now.cluster.ends }
 {
     let mut last = 0;
-    for node in nodes {
-        last = last_of(last, node.ends);
+    for node in 0..problem.nodes().len() as u32 {
+        last = last_of(last, cluster.ends(node));
     }
     last
 }
 
-/// A line for each start, each message or broadcast and each end, then the greatest end in time units, 0 where there is
-/// none. Lines go by time, then by number of the node; then ends come first, sends next and starts last, each by number of
-/// the item. `lengths` has the length of each process's execution in time units: an end line tells it where it is less
-/// than the full duration for the count of faults. The nodes stand by number.
-///
-/// Of acts and nodes that the graph doesn't have it leaves out the names. The one error is want of memory.
+/// A line for each start, each message or broadcast and each end that the nodes have come to, then the greatest end in
+/// time units, 0 where there is none. Lines go by time, then by number of the node; then ends come first, sends next and
+/// starts last, each by number of the item. The time of an end is the planned one; where the execution took less, its line
+/// tells the length. The one error is want of memory.
 pub fn trace_text(
     alloc: Global,
-    problem: &Problem,
-    lengths: &[u64],
-    nodes: &[NodeTrace<'_>],
+    admitted: &Admitted,
+    cluster: &Cluster,
 ) -> Result<String, OutOfMemory>
-    requires lengths { length lengths.now ≡ process_count problem.now }
-    requires ends { All (λ n. All (IsEndWithin problem.now) n.ends.now) nodes.now }
-    ensures { IfOk result (λ text. IsTraceText problem.now lengths.now (map (λ n. n.acts.now) nodes.now) (map (λ n. n.ends.now) nodes.now) (string_bytes text)) }
+    requires { cluster.now.graph ≡ admitted.now.graph }
+    ensures { IfOk result (λ text. IsTraceText cluster.now.graph cluster.now.world.lengths cluster.now.cluster.acts cluster.now.cluster.ends (string_bytes text)) }
 {
+    let problem = admitted.problem();
+    let lengths = cluster.lengths();
     let labels = Labels::of(alloc, problem)?;
-    let events = events_in_order(alloc, problem, nodes)?;
+    let events = events_in_order(alloc, problem, cluster)?;
     let mut out = String::new(alloc);
     write_events(&mut out, problem, &labels, lengths, events.as_slice())?;
-    let finish = finish(nodes);
+    let finish = finish(problem, cluster);
     write!(out, "finish {finish}\n")?;
     Ok(out)
 }

@@ -1,6 +1,7 @@
-use Rattle.std.proofs.Common.{◌≡◌, drop, flat_map, fold, map, max}
-use Rattle.cpg_show.specs.TraceText.{finish_of}
+use Rattle.std.proofs.Common.{◌≡◌, flat_map}
+use Rattle.cpg_base.specs.Numbers.{greatest, numbers_below}
+use Rattle.cpg_show.specs.TraceText.{end_times}
 use Rattle.cpg_show.proofs.trace.finish.Given as goal
 
 abbrev pub invariant-loop-node : goal.invariant-loop-node
-invariant-loop-node l = fold max l.last (flat_map (map (λ e. e.0)) (map (λ n. n.ends.now) (drop l.node-index l.nodes))) ≡ finish_of (map (λ n. n.ends.now) l.nodes)
+invariant-loop-node l = l.last ≡ greatest (flat_map (end_times l.cluster.cluster.ends) (numbers_below l.node))

@@ -11,5 +11,8 @@ duration-full-requires-clause-process c = (subst (IsDeedWithin c.args.problem.no
 pub duration-full-requires-clause-faults : goal.duration-full-requires-clause-faults
 duration-full-requires-clause-faults c = (subst (IsDeedWithin c.args.problem.now) c.in-End.is c.requires.within).1
 
-pub bounds-lengths-process : goal.bounds-lengths-process
-bounds-lengths-process c = omega (arith, (subst (IsDeedWithin c.args.problem.now) c.in-End.is c.requires.within).0, c.requires.lengths)
+pub of-requires : goal.of-requires
+of-requires c = omega (arith, (subst (IsDeedWithin c.args.problem.now) c.in-End.is c.requires.within).0, c.requires.lengths)
+
+pub item-requires : goal.item-requires
+item-requires c = subst (IsDeedWithin c.args.problem.now) c.in-Send.is c.requires.within

@@ -1,0 +1,54 @@
+-- What nodes have done in a play is of items and processes of the graph, with faults within its number.
+use Rattle.std.proofs.Common.{ℕ, ◌≡◌, ◌<◌, ◌≤◌, ◌==◌, List, [], All, Contains, length, get_or, ap, subst, arith, inl, inr}
+use Rattle.std.proofs.lemmas.Bool.{cases_lt}
+use Rattle.std.proofs.lemmas.List.{get_or_past}
+use Rattle.std.proofs.lemmas.List.Elements.{All-weaker, All-contains_itself}
+use Rattle.std.proofs.lemmas.List.Sums.{get_or-le-sum_by}
+use Rattle.cpg_base.specs.Graph.{Graph, node_of, process_count}
+use Rattle.cpg_base.specs.Numbers.{numbers_below}
+use Rattle.cpg_base.specs.Scenario.{Scenario, IsScenario, fault_of}
+use Rattle.cpg_base.proofs.Lists.{Contains-filter_parts, numbers-Contains}
+use Rattle.cpg_node.specs.Dispatcher.{Act, Ended}
+use Rattle.cpg_cluster.specs.Playing.{Playing, IsPlaying}
+use Rattle.cpg_cluster.proofs.Ends.{ended_by}
+use Rattle.cpg_cluster.proofs.Nodes.{Played}
+use Rattle.cpg_cluster.proofs.Passed.{played_reached}
+use Rattle.cpg_cluster.proofs.Plays.{played_of}
+use Rattle.cpg_show.specs.TraceEvents.{IsActWithin, IsEndWithin}
+
+-- a process fails no more often than there may be faults
+fault_within : (g : Graph) (s : Scenario) → IsScenario g s → (p : ℕ) → fault_of s p ≤ g.faults
+fault_within g s law p = elim (cases_lt p (length s.faults)) [
+  | inl l ↦ omega (arith, get_or-le-sum_by (λ x. x) s.faults p 0 l, law.budget)
+  | inr past ↦ omega (arith, get_or_past s.faults p 0 past)
+]
+
+module _ (p : Playing) (is : IsPlaying p) where
+  k : Played p.graph p.tables p.world
+  k = played_of p.graph p.tables is.formed is.shape is.valid p.world is.world
+
+  acts_within : (node : ℕ) → node < length p.graph.nodes → All (IsActWithin p.graph) (get_or p.cluster.acts node [])
+  acts_within node l =
+      let acts : List Act = get_or p.cluster.acts node [] in
+      let done = ((played_reached k p.cluster is.played).holds node l).done in
+      All-weaker (Contains acts) (IsActWithin p.graph) (λ a h. (done.only a h).0.row.within) acts (All-contains_itself acts)
+
+  ends_within : (node : ℕ) → node < length p.graph.nodes → All (IsEndWithin p.graph) (get_or p.cluster.ends node [])
+  ends_within node l =
+      let g = p.graph in
+      let ends : List (ℕ × Ended) = get_or p.cluster.ends node [] in
+      let h = ended_by k p.cluster is.played node l in
+      All-weaker (Contains ends) (IsEndWithin g) (λ q m.
+      let planned = (h.only q m).0 in
+      let here = numbers-Contains (process_count g) planned.process (Contains-filter_parts (λ r. node_of g r == node) (numbers_below (process_count g)) planned.process planned.on).0 in
+      let same : planned.process ≡ q.1.process = ap (λ (e : Ended). e.process) planned.is in
+      let faults : fault_of p.world.scenario planned.process ≡ q.1.faults = ap (λ (e : Ended). e.faults) planned.is in
+      record { process = omega (arith, here, same); faults = omega (arith, faults, fault_within g p.world.scenario is.world.scenario planned.process) }) ends (All-contains_itself ends)
+
+-- The same of the graph as code sees it.
+
+pub acts_at : (p : Playing) → IsPlaying p → (g : Graph) → p.graph ≡ g → (node : ℕ) → node < length g.nodes → All (IsActWithin g) (get_or p.cluster.acts node [])
+acts_at p is g same = subst (λ (g : Graph). (node : ℕ) → node < length g.nodes → All (IsActWithin g) (get_or p.cluster.acts node [])) same (acts_within p is)
+
+pub ends_at : (p : Playing) → IsPlaying p → (g : Graph) → p.graph ≡ g → (node : ℕ) → node < length g.nodes → All (IsEndWithin g) (get_or p.cluster.ends node [])
+ends_at p is g same = subst (λ (g : Graph). (node : ℕ) → node < length g.nodes → All (IsEndWithin g) (get_or p.cluster.ends node [])) same (ends_within p is)
