@@ -16,13 +16,14 @@ use Rattle.cpg_order.proofs.Conditions.{process_of_condition_of}
 use Rattle.cpg_order.specs.Scenario.{Scenario, number_of}
 use Rattle.cpg_cube.specs.Cube.{matches}
 use Rattle.cpg_table.specs.Table.{Column, NodeTable, columns_of}
+use Rattle.cpg_table.specs.Shape.{heard_by}
 use Rattle.cpg_table.specs.Heard.{exactly, value_fact, matching, facts_of_end, frame_value, facts_of_frame, facts}
 use Rattle.cpg_violation.proofs.SieveLaws.{both_same}
 use Rattle.cpg_check_heard.specs.declared.bound.Bound.{Bound}
 use Rattle.cpg_check_heard.specs.declared.tellers.Telling.TheVariants.{End, Frame}
 use Rattle.cpg_check_heard.specs.Bounds.{tells, variable_of}
 use Rattle.cpg_check_heard.specs.Tellings.{column_tells, is_telling, row_tells, telling_of, item_telling, carried, is_value, CanTell}
-use Rattle.cpg_check_heard.specs.Untold.{item_tells, items_heard, are_told_by, own_tells}
+use Rattle.cpg_check_heard.specs.Untold.{item_tells, are_told_by, own_tells}
 use Rattle.cpg_check_heard.proofs.Sides.{off_last, side, tells_exactly, value_side}
 
 -- ---- tests of lists that are made of others
@@ -124,18 +125,18 @@ module _ (g : Graph) (tables : List NodeTable) (time : ℕ) (b : Bound) (s : Sce
   -- ---- altogether
 
   pub facts_told : process_count g ≤ 128 → process_of_variable g (variable_of b) < process_count g → (node : ℕ)
-      → list_any (tells b) (facts g tables node s time) ≡ (own_tells g tables node time b s || are_told_by g tables time b (items_heard g node) s)
+      → list_any (tells b) (facts g tables node s time) ≡ (own_tells g tables node time b s || are_told_by g tables time b (heard_by g node) s)
   facts_told few within node =
       let one : ℕ = process_of_variable g (variable_of b) in
       let own : List ℕ = filter (λ p. node_of g p == node) (numbers_below (process_count g)) in
-      list_any-append (tells b) (flat_map (facts_of_end g tables s time) own) (flat_map (facts_of_frame g tables s time) (items_heard g node))
-      ∙ ap (λ t. t || list_any (tells b) (flat_map (facts_of_frame g tables s time) (items_heard g node)))
+      list_any-append (tells b) (flat_map (facts_of_end g tables s time) own) (flat_map (facts_of_frame g tables s time) (heard_by g node))
+      ∙ ap (λ t. t || list_any (tells b) (flat_map (facts_of_frame g tables s time) (heard_by g node)))
       (any_flat_map (tells b) (facts_of_end g tables s time) own
       ∙ any_one (λ p. list_any (tells b) (facts_of_end g tables s time p)) (λ p. node_of g p == node) (process_count g) one within (λ q l n. other_row few q l n)
       ∙ ap (λ t. (node_of g one == node) && t) (start_row one within))
       ∙ ap (λ t. own_tells g tables node time b s || t)
-      (any_flat_map (tells b) (facts_of_frame g tables s time) (items_heard g node)
-      ∙ any_within (λ x. list_any (tells b) (facts_of_frame g tables s time x)) (item_tells g tables time b s) (items_heard g node)
+      (any_flat_map (tells b) (facts_of_frame g tables s time) (heard_by g node)
+      ∙ any_within (λ x. list_any (tells b) (facts_of_frame g tables s time x)) (item_tells g tables time b s) (heard_by g node)
       (λ x c. frame_row x node (Contains-filter_parts (λ x. is_heard_by g node (item_at g x)) (numbers_below (item_count g)) x c).1))
 
   -- what is heard can tell

@@ -1,8 +1,7 @@
 -- What the rows of a node tell together.
-use Rattle.std.specs.Prelude.{ℕ, Bool, ◌&&◌, ◌==◌, List, filter}
+use Rattle.std.specs.Prelude.{ℕ, Bool, ◌&&◌, ◌==◌, List}
 use Rattle.std.specs.List.{list_any}
-use Rattle.cpg_base.specs.Numbers.{numbers_below}
-use Rattle.cpg_base.specs.Graph.{Graph, is_heard_by, item_at, item_count, node_of, process_of_variable}
+use Rattle.cpg_base.specs.Graph.{Graph, node_of, process_of_variable}
 use Rattle.cpg_order.specs.Scenario.{Scenario}
 use Rattle.cpg_table.specs.Table.{NodeTable, columns_of}
 use Rattle.cpg_check_heard.specs.declared.bound.Bound.{Bound}
@@ -12,10 +11,6 @@ use Rattle.cpg_check_heard.specs.Tellings.{row_tells, telling_of}
 -- whether the row of an item tells a bound
 abbrev pub item_tells : Graph → List NodeTable → ℕ → Bound → Scenario → ℕ → Bool
 item_tells g tables time b s x = row_tells g (telling_of g x) time b (columns_of tables x) s
-
--- the items that a node hears, by number
-abbrev pub items_heard : Graph → ℕ → List ℕ
-items_heard g node = filter (λ x. is_heard_by g node (item_at g x)) (numbers_below (item_count g))
 
 -- whether the rows of some items do
 abbrev pub are_told_by : Graph → List NodeTable → ℕ → Bound → List ℕ → Scenario → Bool

@@ -7,13 +7,13 @@ ghost use Rattle.cpg_base.specs.Graph.{Graph, IsVariable};
 ghost use Rattle.cpg_order.specs.Scenario.{Scenario, IsScenario};
 ghost use Rattle.cpg_cube.specs.Cube.{matches};
 ghost use Rattle.cpg_cube.specs.Fit.{IsKnown};
+ghost use Rattle.cpg_table.specs.Shape.{heard_by};
 ghost use Rattle.cpg_table.specs.Table.{Column};
 ghost use Rattle.cpg_violation.specs.Sieves.{IsSieveOf};
 ghost use Rattle.cpg_check_heard.specs.Arrivals.{AreArrivals, IsArrival, do_tell};
 ghost use Rattle.cpg_check_heard.specs.Bounds.{variable_of};
 ghost use Rattle.cpg_check_heard.specs.Hearings.{IsHearing};
 ghost use Rattle.cpg_check_heard.specs.Tellings.{CanTell, is_telling, is_telling_at, row_tells};
-ghost use Rattle.cpg_check_heard.specs.Untold.{items_heard};
 ghost use Rattle.cpg_check_heard.specs.declared.bound.Bound.{Bound};
 
 use crate::bound::Bound;
@@ -95,7 +95,7 @@ impl<'a> Hearing<'a> {
         time: u64,
     ) -> Result<Vec<Arrival<'a>>, OutOfMemory>
         requires hearing { IsHearing self.now }
-        requires items { items.now ≡ items_heard self.now.admitted.now.graph node }
+        requires items { items.now ≡ heard_by self.now.admitted.now.graph node }
         ensures { IfOk result (λ arrivals. AreArrivals self.now.admitted.now.graph self.now.tables.now.nodes time cube.now items.now arrivals.items) }
     {
         let mut arrivals = Vec::new(alloc);

@@ -9,11 +9,10 @@ ghost use Rattle.cpg_violation.specs.Heads.{IsHeadFor};
 ghost use Rattle.cpg_violation.specs.Violation.{Holds, IsFirstColumn, IsFirstViolation};
 
 use crate::hearing::Hearing;
-use crate::items::heard_items;
 use crate::tellers::tellers;
 use cpg_base::{OutOfMemory, Scenario};
 use cpg_rules::Admitted;
-use cpg_table::{Entry, Fault, Tables};
+use cpg_table::{Entry, Fault, NodeItems, Tables};
 use cpg_violation::columns_of;
 use std::alloc::Global;
 
@@ -34,9 +33,9 @@ fn first_unheard(
 {
     let problem = hearing.admitted.problem();
     let node = problem.home(item);
-    let items = heard_items(alloc, problem, node)?;
+    let items = NodeItems::of(alloc, hearing.tables.head(), node)?;
     for (place, column) in columns.iter().enumerate() {
-        let unheard = hearing.least_unheard(alloc, node, items.as_slice(), column)?;
+        let unheard = hearing.least_unheard(alloc, node, items.hears(), column)?;
         if let Some(scenario) = unheard {
             return Ok(Some((place as u32, scenario)));
         }

@@ -8,11 +8,12 @@ ghost use Rattle.cpg_order.specs.Scenario.{Scenario, IsScenario};
 ghost use Rattle.cpg_cube.specs.Cover.{is_left};
 ghost use Rattle.cpg_cube.specs.Cube.{matches};
 ghost use Rattle.cpg_cube.specs.Fit.{IsKnown};
+ghost use Rattle.cpg_table.specs.Shape.{heard_by};
 ghost use Rattle.cpg_check_heard.specs.Arrivals.{AreArrivals};
 ghost use Rattle.cpg_check_heard.specs.Bounds.{is_told, variable_of};
 ghost use Rattle.cpg_check_heard.specs.Hearings.{IsHearing};
 ghost use Rattle.cpg_check_heard.specs.Unheard.{is_column_unheard, is_one_untold};
-ghost use Rattle.cpg_check_heard.specs.Untold.{items_heard, own_tells};
+ghost use Rattle.cpg_check_heard.specs.Untold.{own_tells};
 
 use crate::arrivals::{Arrival, add_told, tells_one_whole};
 use crate::bound::Bound;
@@ -185,7 +186,7 @@ impl Hearing<'_> {
         bound: Bound,
     ) -> Result<Option<Scenario>, OutOfMemory>
         requires hearing { IsHearing self.now }
-        requires items { items.now ≡ items_heard self.now.admitted.now.graph node }
+        requires items { items.now ≡ heard_by self.now.admitted.now.graph node }
         requires arrivals { AreArrivals self.now.admitted.now.graph self.now.tables.now.nodes time cube.now items.now arrivals.now }
         requires variable { IsVariable self.now.admitted.now.graph (variable_of bound) }
         requires cube { IsKnown self.now.admitted.now.graph cube.now }
@@ -217,7 +218,7 @@ impl Hearing<'_> {
         bounds: &[Bound],
     ) -> Result<Option<Scenario>, OutOfMemory>
         requires hearing { IsHearing self.now }
-        requires items { items.now ≡ items_heard self.now.admitted.now.graph node }
+        requires items { items.now ≡ heard_by self.now.admitted.now.graph node }
         requires arrivals { AreArrivals self.now.admitted.now.graph self.now.tables.now.nodes column.now.time column.now.cube items.now arrivals.now }
         requires cube { IsKnown self.now.admitted.now.graph column.now.cube }
         requires bounds { All (λ b. IsVariable self.now.admitted.now.graph (variable_of b)) bounds.now }
@@ -245,7 +246,7 @@ impl Hearing<'_> {
         column: &Entry,
     ) -> Result<Option<Scenario>, OutOfMemory>
         requires hearing { IsHearing self.now }
-        requires items { items.now ≡ items_heard self.now.admitted.now.graph node }
+        requires items { items.now ≡ heard_by self.now.admitted.now.graph node }
         requires cube { IsKnown self.now.admitted.now.graph column.now.cube }
         ensures { IfOk result (IsFirst self.now.admitted.now.graph self.now.admitted.now.order (λ s. matches column.now.cube s && is_column_unheard self.now.admitted.now.graph self.now.tables.now.nodes node s column.now)) }
     {

@@ -5,7 +5,6 @@ mod arrivals;
 mod bound;
 mod heard;
 mod hearing;
-mod items;
 mod parts;
 mod tellers;
 

@@ -14,6 +14,5 @@ pub mod Digits
 pub mod Own
 pub mod Loop
 pub mod NameBytes
-pub mod Broadcasts
 pub mod WholePack
 pub mod Records

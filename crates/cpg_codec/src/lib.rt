@@ -11,7 +11,6 @@ mod field_reading;
 mod fixed;
 mod head_reading;
 mod head_writing;
-mod items;
 mod reading;
 mod row_reading;
 mod row_writing;

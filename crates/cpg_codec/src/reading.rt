@@ -9,10 +9,9 @@ ghost use Rattle.cpg_codec.specs.Gives.{Gives, Answers, OnBadPack, UnlessMemory}
 use crate::PackFault;
 use crate::fault::ReadError;
 use crate::head_reading::head_of;
-use crate::items::items_of;
 use crate::row_reading::table_of;
 use crate::space::Space;
-use cpg_table::{Head, NodeTable, Tables};
+use cpg_table::{Head, NodeItems, NodeTable, Tables};
 use std::alloc::Global;
 
 /// The tables of all nodes.
@@ -31,16 +30,8 @@ fn nodes_of<'a>(
     let mut total: u64 = 0;
     let count = head.nodes().len() as u32;
     for node in 0..count {
-        let items = items_of(alloc, head, node)?;
-        let (table, now, after) = table_of(
-            alloc,
-            rest,
-            head,
-            space,
-            node,
-            items.as_slice(),
-            total,
-        )?;
+        let items = NodeItems::of(alloc, head, node)?;
+        let (table, now, after) = table_of(alloc, rest, head, space, node, items.all(), total)?;
         nodes.push(table)?;
         rest = after;
         total = now;

@@ -1,24 +1,81 @@
 -- How many columns the rows of all nodes have: no more than the loads of the items.
-use Rattle.std.proofs.Common.{◌≡◌, ℕ, ◌+◌, ◌*◌, ◌<◌, ◌≤◌, Bool, true, false, not, ◌&&◌, ◌==◌, nat_lt, cond, List, [], ◌∷◌, ◌++◌, length, map, sum_by, refl, sym, ap, ap₂, ◌∙◌, subst, arith, inl, inr, lt-ltb}
+use Rattle.std.proofs.Common.{◌≡◌, ℕ, ◌+◌, ◌*◌, ◌<◌, ◌≤◌, Bool, true, false, not, ◌&&◌, ◌==◌, nat_lt, cond, List, [], ◌∷◌, ◌++◌, length, map, filter, sum_by, refl, sym, ap, ap₂, ◌∙◌, subst, arith, inl, inr, lt-ltb, le-ltb, append-nil}
+use Rattle.std.specs.List.{range_with_len}
 use Rattle.std.proofs.lemmas.Bool.{cases_lt}
 use Rattle.std.proofs.lemmas.List.{length-map}
+use Rattle.std.proofs.lemmas.List.Elements.{filter-append}
 use Rattle.std.proofs.lemmas.List.FromFn.{fill_by_all, length-range_with_len}
 use Rattle.std.proofs.lemmas.List.Sums.{sum_by-cons, sum_by-append}
 use Rattle.std.proofs.Math.Nat.{mul_comm}
 use Rattle.cpg_base.specs.Numbers.{numbers_below}
-use Rattle.cpg_base.specs.Graph.{Graph, process_count, edge_count, item_count, item_at, node_of, source, target, process_of, home, is_message, message_item, broadcast_item}
+use Rattle.cpg_base.specs.Graph.{Graph, process_count, edge_count, condition_count, item_count, item_at, node_of, source, target, process_of, producer_of_item, home, is_sent, is_sent_item, is_heard_by, is_message, message_item, broadcast_item}
+use Rattle.cpg_base.specs.Limits.{IsWithinLimits}
 use Rattle.cpg_base.specs.declared.item.Item.TheVariants.{Message, Broadcast}
 use Rattle.cpg_base.specs.Bus.{slot_length}
-use Rattle.cpg_base.proofs.Items.{item_cases, ItemCases}
-use Rattle.cpg_base.proofs.Lists.{numbers-Contains}
+use Rattle.cpg_base.proofs.Items.{item_cases, ItemCases, item_at-start, item_at-message, item_at-broadcast, start_not_sent}
+use Rattle.cpg_base.proofs.Lists.{numbers-Contains, same_filter, filter_none, from_range}
 use Rattle.cpg_base.proofs.Sums.{sum_by-map, same_sum_by, sum_by_zeros, sum_by-le_each, sum_by-add, sum_by_constant, sum_by-filter, at_place, at_place-other, sum_of_place}
 use Rattle.cpg_order.specs.Reach.{rows_of_item}
 use Rattle.cpg_table.specs.Lawful.{column_count, rows_of}
+use Rattle.cpg_table.specs.Shape.{processes_on}
 use Rattle.cpg_table.specs.Table.{Row, NodeTable, table_at, empty_table}
 use Rattle.cpg_table.specs.Valid.{later_by}
-use Rattle.cpg_table.specs.Writing.{row_for, heard_row, AreWritable}
-use Rattle.cpg_table.specs.NodeItems.{ItemLists, is_started_on, is_sent_from, is_heard_at, items_below, rows_of_items, AreNodeTables}
-use Rattle.cpg_table.proofs.NodeLists.{message_started, message_sent, message_heard, broadcast_started, broadcast_sent, broadcast_heard, start_sent, start_heard}
+use Rattle.cpg_table.specs.GraphHead.{head_of}
+use Rattle.cpg_table.specs.Items.{ItemLists, starts_of, sends_of, hears_of, lists_of}
+use Rattle.cpg_table.specs.Writing.{row_for, heard_row, rows_of_items, AreWritable, AreNodeTables}
+use Rattle.cpg_table.proofs.GraphItems.{range-append, starts_are, sends_are, hears_are}
+
+-- ---- what a node has of each item
+
+-- whether it starts the item
+abbrev is_started_on : Graph → ℕ → ℕ → Bool
+is_started_on g node x = nat_lt x (process_count g) && (node_of g x == node)
+
+-- whether it sends it
+abbrev is_sent_from : Graph → ℕ → ℕ → Bool
+is_sent_from g node x = is_sent g x && (home g x == node)
+
+-- whether it hears it
+abbrev is_heard_at : Graph → ℕ → ℕ → Bool
+is_heard_at g node x = is_heard_by g node (item_at g x)
+
+module _ (g : Graph) (node : ℕ) where
+  start_sent : (p : ℕ) → p < process_count g → is_sent_from g node p ≡ false
+  start_sent p l = ap (λ b. b && (home g p == node)) (start_not_sent g p l)
+
+  start_heard : (p : ℕ) → p < process_count g → is_heard_at g node p ≡ false
+  start_heard p l = ap (is_heard_by g node) (item_at-start g p l)
+
+  late_start : (x : ℕ) → process_count g ≤ x → is_started_on g node x ≡ false
+  late_start x l = ap (λ b. b && (node_of g x == node)) (le-ltb x (process_count g) l)
+
+  message_started : (e : ℕ) → is_started_on g node (message_item g e) ≡ false
+  message_started e = late_start (message_item g e) (omega arith)
+
+  message_sent : (e : ℕ) → e < edge_count g → is_sent_from g node (message_item g e) ≡ (is_message g e && (node_of g (source g e) == node))
+  message_sent e l = ap (λ i. is_sent_item g i && (node_of g (producer_of_item g i) == node)) (item_at-message g e l)
+
+  message_heard : (e : ℕ) → e < edge_count g → is_heard_at g node (message_item g e) ≡ (is_message g e && (node_of g (target g e) == node))
+  message_heard e l = ap (is_heard_by g node) (item_at-message g e l)
+
+  broadcast_started : (c : ℕ) → is_started_on g node (broadcast_item g c) ≡ false
+  broadcast_started c = late_start (broadcast_item g c) (omega arith)
+
+  broadcast_sent : (c : ℕ) → is_sent_from g node (broadcast_item g c) ≡ (nat_lt 1 (length g.nodes) && (node_of g (process_of g c) == node))
+  broadcast_sent c = ap (λ i. is_sent_item g i && (node_of g (producer_of_item g i) == node)) (item_at-broadcast g c)
+
+  broadcast_heard : (c : ℕ) → is_heard_at g node (broadcast_item g c) ≡ (nat_lt 1 (length g.nodes) && not (node_of g (process_of g c) == node))
+  broadcast_heard c = ap (is_heard_by g node) (item_at-broadcast g c)
+
+  -- what it starts are the processes on it
+  starts_whole : filter (is_started_on g node) (numbers_below (item_count g)) ≡ processes_on g node
+  starts_whole =
+      ap (filter (is_started_on g node)) (ap numbers_below (let e : item_count g ≡ process_count g + (edge_count g + condition_count g) = omega arith in e) ∙ range-append 0 (process_count g) (edge_count g + condition_count g))
+      ∙ filter-append (is_started_on g node) (numbers_below (process_count g)) (range_with_len (0 + process_count g) (edge_count g + condition_count g))
+      ∙ ap₂ (λ xs ys. xs ++ ys)
+      (same_filter (is_started_on g node) (λ p. node_of g p == node) (numbers_below (process_count g)) (λ p c. ap (λ b. b && (node_of g p == node)) (lt-ltb p (process_count g) (numbers-Contains (process_count g) p c))))
+      (filter_none (is_started_on g node) (range_with_len (0 + process_count g) (edge_count g + condition_count g)) (λ x c. late_start x (omega (arith, (from_range (0 + process_count g) (edge_count g + condition_count g) x c).0))))
+      ∙ append-nil (processes_on g node)
 
 -- sums of sums may be taken the other way
 swapped : {X Y : Type 0} (f : X → Y → ℕ) (xs : List X) (ys : List Y) → sum_by (λ x. sum_by (f x) ys) xs ≡ sum_by (λ y. sum_by (λ x. f x y) xs) ys
@@ -37,7 +94,7 @@ place_le w v n = elim (cases_lt w n) [
   | inr l ↦ omega (arith, sum_by_zeros (at_place w v) (numbers_below n) (λ node c. at_place-other w v node (let k = numbers-Contains n node c in λ e. omega (arith, k, l, e))))
 ]
 
-module _ (g : Graph) (rows : List Row) where
+module _ (g : Graph) (within : IsWithinLimits g) (rows : List Row) where
   -- how many columns an item has
   abbrev columns : ℕ → ℕ
   columns x = length (row_for rows x).columns
@@ -46,15 +103,18 @@ module _ (g : Graph) (rows : List Row) where
   abbrev at_node : ℕ → ℕ → ℕ
   at_node node x = cond (is_started_on g node x) (columns x) 0 + (cond (is_sent_from g node x) (columns x) 0 + cond (is_heard_at g node x) (columns x) 0)
 
-  node_count : (node : ℕ) → column_count (rows_of_items g rows (items_below g (item_count g) node)) ≡ sum_by (at_node node) (numbers_below (item_count g))
-  node_count node =
+  node_count : (node : ℕ) → node < length g.nodes → column_count (rows_of_items g rows (lists_of (head_of g) node)) ≡ sum_by (at_node node) (numbers_below (item_count g))
+  node_count node l =
       let all : List ℕ = numbers_below (item_count g) in
-      let items : ItemLists = items_below g (item_count g) node in
+      let items : ItemLists = lists_of (head_of g) node in
+      let started : starts_of (head_of g) node ≡ filter (is_started_on g node) all = starts_are g within node ∙ sym (starts_whole g node) in
+      let sent : sends_of (head_of g) node ≡ filter (is_sent_from g node) all = sends_are g within node in
+      let heard : hears_of (head_of g) node ≡ filter (is_heard_at g node) all = hears_are g within node l in
       sum_by-append (λ (r : Row). length r.columns) (map (row_for rows) items.starts) (map (row_for rows) items.sends ++ map (heard_row g rows) items.hears)
-      ∙ ap₂ ◌+◌ (count_rows (row_for rows) columns items.starts (λ x. refl) ∙ sum_by-filter columns (is_started_on g node) all)
+      ∙ ap₂ ◌+◌ (count_rows (row_for rows) columns items.starts (λ x. refl) ∙ ap (sum_by columns) started ∙ sum_by-filter columns (is_started_on g node) all)
       (sum_by-append (λ (r : Row). length r.columns) (map (row_for rows) items.sends) (map (heard_row g rows) items.hears)
-      ∙ ap₂ ◌+◌ (count_rows (row_for rows) columns items.sends (λ x. refl) ∙ sum_by-filter columns (is_sent_from g node) all)
-      (count_rows (heard_row g rows) columns items.hears (λ x. length-map (row_for rows x).columns (later_by (slot_length g (home g x)))) ∙ sum_by-filter columns (is_heard_at g node) all)
+      ∙ ap₂ ◌+◌ (count_rows (row_for rows) columns items.sends (λ x. refl) ∙ ap (sum_by columns) sent ∙ sum_by-filter columns (is_sent_from g node) all)
+      (count_rows (heard_row g rows) columns items.hears (λ x. length-map (row_for rows x).columns (later_by (slot_length g (home g x)))) ∙ ap (sum_by columns) heard ∙ sum_by-filter columns (is_heard_at g node) all)
       ∙ sym (sum_by-add (λ x. cond (is_sent_from g node x) (columns x) 0) (λ x. cond (is_heard_at g node x) (columns x) 0) all))
       ∙ sym (sum_by-add (λ x. cond (is_started_on g node x) (columns x) 0) (λ x. cond (is_sent_from g node x) (columns x) 0 + cond (is_heard_at g node x) (columns x) 0) all)
 
@@ -72,7 +132,7 @@ module _ (g : Graph) (rows : List Row) where
     place_le (node_of g p) (columns p) (length g.nodes),
     same_sum_by (λ node. at_node node p) (λ node. cond (node_of g p == node) (columns p) 0) nodes
         (λ node c. three (is_started_on g node p) (is_sent_from g node p) (is_heard_at g node p) (node_of g p == node) false false (columns p)
-        (ap (λ b. b && (node_of g p == node)) (lt-ltb p (process_count g) l)) (start_sent g p l node) (start_heard g p l node) ∙ omega arith),
+        (ap (λ b. b && (node_of g p == node)) (lt-ltb p (process_count g) l)) (start_sent g node p l) (start_heard g node p l) ∙ omega arith),
   )
 
   message_by : (e : ℕ) → e < edge_count g → (b : Bool) → is_message g e ≡ b → sum_by (λ node. at_node node (message_item g e)) nodes ≤ columns (message_item g e) * cond b 2 0
@@ -85,7 +145,7 @@ module _ (g : Graph) (rows : List Row) where
         sum_by-add (λ node. cond (node_of g (source g e) == node) (columns x) 0) (λ node. cond (node_of g (target g e) == node) (columns x) 0) nodes,
         same_sum_by (λ node. at_node node x) (λ node. cond (node_of g (source g e) == node) (columns x) 0 + cond (node_of g (target g e) == node) (columns x) 0) nodes
             (λ node c. three (is_started_on g node x) (is_sent_from g node x) (is_heard_at g node x) false (node_of g (source g e) == node) (node_of g (target g e) == node) (columns x)
-            (message_started g e l node) (message_sent g e l node ∙ ap (λ b. b && (node_of g (source g e) == node)) m) (message_heard g e l node ∙ ap (λ b. b && (node_of g (target g e) == node)) m) ∙ omega arith),
+            (message_started g node e) (message_sent g node e l ∙ ap (λ b. b && (node_of g (source g e) == node)) m) (message_heard g node e l ∙ ap (λ b. b && (node_of g (target g e) == node)) m) ∙ omega arith),
       )
   message_by e l false m =
       let x : ℕ = message_item g e in
@@ -93,7 +153,7 @@ module _ (g : Graph) (rows : List Row) where
         arith,
         sum_by_zeros (λ node. at_node node x) nodes
             (λ node c. three (is_started_on g node x) (is_sent_from g node x) (is_heard_at g node x) false false false (columns x)
-            (message_started g e l node) (message_sent g e l node ∙ ap (λ b. b && (node_of g (source g e) == node)) m) (message_heard g e l node ∙ ap (λ b. b && (node_of g (target g e) == node)) m)),
+            (message_started g node e) (message_sent g node e l ∙ ap (λ b. b && (node_of g (source g e) == node)) m) (message_heard g node e l ∙ ap (λ b. b && (node_of g (target g e) == node)) m)),
       )
 
   either : (b : Bool) (n : ℕ) → 0 + (cond b n 0 + cond (not b) n 0) ≡ n
@@ -106,7 +166,7 @@ module _ (g : Graph) (rows : List Row) where
       let each : sum_by (λ node. at_node node x) nodes ≡ sum_by (λ node. columns x) nodes =
       same_sum_by (λ node. at_node node x) (λ node. columns x) nodes
       (λ node c. three (is_started_on g node x) (is_sent_from g node x) (is_heard_at g node x) false (node_of g (process_of g k) == node) (not (node_of g (process_of g k) == node)) (columns x)
-      (broadcast_started g k node) (broadcast_sent g k node ∙ ap (λ b. b && (node_of g (process_of g k) == node)) m) (broadcast_heard g k node ∙ ap (λ b. b && not (node_of g (process_of g k) == node)) m)
+      (broadcast_started g node k) (broadcast_sent g node k ∙ ap (λ b. b && (node_of g (process_of g k) == node)) m) (broadcast_heard g node k ∙ ap (λ b. b && not (node_of g (process_of g k) == node)) m)
       ∙ either (node_of g (process_of g k) == node) (columns x)) in
       let all : sum_by (λ node. columns x) nodes ≡ length g.nodes * columns x = sum_by_constant (columns x) nodes ∙ ap (λ n. n * columns x) (length-range_with_len 0 (length g.nodes)) in
       let product : length g.nodes * columns x ≡ columns x * length g.nodes = mul_comm (length g.nodes) (columns x) in
@@ -117,7 +177,7 @@ module _ (g : Graph) (rows : List Row) where
         arith,
         sum_by_zeros (λ node. at_node node x) nodes
             (λ node c. three (is_started_on g node x) (is_sent_from g node x) (is_heard_at g node x) false false false (columns x)
-            (broadcast_started g k node) (broadcast_sent g k node ∙ ap (λ b. b && (node_of g (process_of g k) == node)) m) (broadcast_heard g k node ∙ ap (λ b. b && not (node_of g (process_of g k) == node)) m)),
+            (broadcast_started g node k) (broadcast_sent g node k ∙ ap (λ b. b && (node_of g (process_of g k) == node)) m) (broadcast_heard g node k ∙ ap (λ b. b && not (node_of g (process_of g k) == node)) m)),
       )
 
   item_le : (x : ℕ) → x < item_count g → ItemCases g x → sum_by (λ node. at_node node x) nodes ≤ columns x * rows_of_item g (item_at g x)
@@ -128,10 +188,10 @@ module _ (g : Graph) (rows : List Row) where
       (subst (λ y. sum_by (λ node. at_node node y) nodes ≤ columns y * rows_of_item g (Broadcast c.0)) (sym c.2) (broadcast_by c.0 (nat_lt 1 (length g.nodes)) refl))
 
   -- all rows of all nodes
-  pub rows_le : sum_by (λ node. column_count (rows_of_items g rows (items_below g (item_count g) node))) nodes ≤ sum_by (λ x. columns x * rows_of_item g (item_at g x)) (numbers_below (item_count g))
+  pub rows_le : sum_by (λ node. column_count (rows_of_items g rows (lists_of (head_of g) node))) nodes ≤ sum_by (λ x. columns x * rows_of_item g (item_at g x)) (numbers_below (item_count g))
   rows_le = omega (
     arith,
-    same_sum_by (λ node. column_count (rows_of_items g rows (items_below g (item_count g) node))) (λ node. sum_by (at_node node) (numbers_below (item_count g))) nodes (λ node c. node_count node),
+    same_sum_by (λ node. column_count (rows_of_items g rows (lists_of (head_of g) node))) (λ node. sum_by (at_node node) (numbers_below (item_count g))) nodes (λ node c. node_count node (numbers-Contains (length g.nodes) node c)),
     swapped at_node nodes (numbers_below (item_count g)),
     sum_by-le_each (λ x. sum_by (λ node. at_node node x) nodes) (λ x. columns x * rows_of_item g (item_at g x)) (numbers_below (item_count g)) (λ x c. let l = numbers-Contains (item_count g) x c in item_le x l (item_cases g x l)),
   )
@@ -141,7 +201,7 @@ module _ (g : Graph) (rows : List Row) where
     arith,
     ap (sum_by (λ t. column_count (rows_of t))) (fill_by_all (table_at tables) tables (length g.nodes) empty_table are.long (λ k l. refl)),
     sum_by-map (λ t. column_count (rows_of t)) (table_at tables) nodes,
-    same_sum_by (λ node. column_count (rows_of (table_at tables node))) (λ node. column_count (rows_of_items g rows (items_below g (item_count g) node))) nodes
+    same_sum_by (λ node. column_count (rows_of (table_at tables node))) (λ node. column_count (rows_of_items g rows (lists_of (head_of g) node))) nodes
         (λ node c. ap column_count (are.each node (numbers-Contains (length g.nodes) node c)).stands),
     rows_le,
     w.loads,

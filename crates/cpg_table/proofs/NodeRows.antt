@@ -1,11 +1,11 @@
 -- The rows of a node are those that its table may have.
-use Rattle.std.proofs.Common.{◌≡◌, ℕ, ◌^◌, ◌<◌, ◌≤◌, Bool, false, ◌==◌, List, [], ◌∷◌, ◌++◌, length, get_or, map, filter, All, Contains, refl, sym, ap, ap₂, ◌∙◌, arith, inl, inr, eq-eqb}
+use Rattle.std.proofs.Common.{◌≡◌, ℕ, ◌^◌, ◌<◌, ◌≤◌, Bool, false, ◌==◌, ◌&&◌, List, [], ◌∷◌, ◌++◌, length, get_or, map, filter, All, Contains, refl, sym, ap, ap₂, ◌∙◌, subst, arith, inl, inr, eq-eqb}
 use Rattle.std.proofs.lemmas.Bool.{cases_eq, cases_lt, and_from, both_ways}
 use Rattle.std.proofs.lemmas.List.{length-map, get_or-map, map-append}
 use Rattle.std.proofs.lemmas.List.Elements.{All-contains_itself, All-weaker, All-append, All-map}
 use Rattle.std.proofs.lemmas.List.FromFn.{length-map-range_with_len, length-range_with_len, get_or-range_with_len}
 use Rattle.cpg_base.specs.Numbers.{numbers_below}
-use Rattle.cpg_base.specs.Graph.{Graph, process_count, item_count, home, IsVariable}
+use Rattle.cpg_base.specs.Graph.{Graph, process_count, item_count, item_at, node_of, home, is_sent, is_heard_by, IsVariable}
 use Rattle.cpg_base.specs.Bus.{slot_length}
 use Rattle.cpg_base.specs.Limits.{IsWithinLimits}
 use Rattle.cpg_base.proofs.Bounds.{round-le}
@@ -15,7 +15,7 @@ use Rattle.cpg_base.specs.Variable.{top}
 use Rattle.cpg_cube.specs.declared.literal.Literal.{Literal}
 use Rattle.cpg_cube.proofs.Boxes.{top_of_count, top_of_value}
 use Rattle.cpg_table.specs.GraphHead.{head_of, head_process}
-use Rattle.cpg_table.specs.Items.{starts_of, sends_of, hears_of}
+use Rattle.cpg_table.specs.Items.{starts_of, sends_of, hears_of, lists_of}
 use Rattle.cpg_table.specs.Lawful.{IsLawfulLiteral, IsLawfulColumn, IsLawfulRow, AreRowsOf, space_of}
 use Rattle.cpg_table.specs.Shape.{items_of}
 use Rattle.cpg_table.specs.Table.{Column, Row}
@@ -23,9 +23,7 @@ use Rattle.cpg_table.specs.Valid.{later_by}
 use Rattle.cpg_table.proofs.GraphItems.{starts_are, sends_are, hears_are}
 use Rattle.cpg_table.proofs.HeadWithin.{conditions_counted}
 use Rattle.cpg_base.proofs.Bounds.{slot_length-le}
-use Rattle.cpg_table.specs.Writing.{row_for, heard_row, IsWritable, AreWritable}
-use Rattle.cpg_table.specs.NodeItems.{is_started_on, is_sent_from, is_heard_at, items_below, rows_of_items}
-use Rattle.cpg_table.proofs.NodeLists.{starts_whole}
+use Rattle.cpg_table.specs.Writing.{row_for, heard_row, rows_of_items, IsWritable, AreWritable}
 
 abbrev pub no_row : Row
 no_row = record { item = 0; columns = [] }
@@ -46,11 +44,25 @@ module _ (g : Graph) (rows : List Row) (w : AreWritable g rows) where
   few_columns x l = w.few x no_row (omega (arith, l, long))
 
 -- numbers of items
-pub filter_below : (g : Graph) (p : ℕ → Bool) (x : ℕ) → Contains (filter p (numbers_below (item_count g))) x → x < item_count g
+
+filter_below : (g : Graph) (p : ℕ → Bool) (x : ℕ) → Contains (filter p (numbers_below (item_count g))) x → x < item_count g
 filter_below g p x c = numbers-Contains (item_count g) x (Contains-filter_parts p (numbers_below (item_count g)) x c).0
 
-pub all_below : (g : Graph) (p : ℕ → Bool) → All (λ x. x < item_count g) (filter p (numbers_below (item_count g)))
-all_below g p = All-weaker (Contains (filter p (numbers_below (item_count g)))) (λ x. x < item_count g) (filter_below g p) (filter p (numbers_below (item_count g))) (All-contains_itself (filter p (numbers_below (item_count g))))
+module _ (g : Graph) (within : IsWithinLimits g) (node : ℕ) where
+  pub start_below : (x : ℕ) → Contains (starts_of (head_of g) node) x → x < item_count g
+  start_below x c =
+      let there = subst (λ xs. Contains xs x) (starts_are g within node) c in
+      omega (arith, numbers-Contains (process_count g) x (Contains-filter_parts (λ p. node_of g p == node) (numbers_below (process_count g)) x there).0)
+
+  pub send_below : (x : ℕ) → Contains (sends_of (head_of g) node) x → x < item_count g
+  send_below x c = filter_below g (λ y. is_sent g y && (home g y == node)) x (subst (λ xs. Contains xs x) (sends_are g within node) c)
+
+  pub hear_below : node < length g.nodes → (x : ℕ) → Contains (hears_of (head_of g) node) x → x < item_count g
+  hear_below l x c = filter_below g (λ y. is_heard_by g node (item_at g y)) x (subst (λ xs. Contains xs x) (hears_are g within node l) c)
+
+-- a list of such numbers
+pub all_below : (n m : ℕ) (xs ys : List ℕ) → n ≡ m → xs ≡ ys → ((x : ℕ) → Contains ys x → x < m) → All (λ x. x < n) xs
+all_below n m xs ys e is each = rw (e, is) (All-weaker (Contains ys) (λ x. x < m) each ys (All-contains_itself ys))
 
 -- ---- columns
 
@@ -105,45 +117,36 @@ module _ (g : Graph) (within : IsWithinLimits g) where
               (All-weaker (IsWritable g) (λ c. IsLawfulColumn (space_of (head_of g)) (later_by delay c)) (later_column delay (slot_short (home g x))) (row_for rows x).columns (writable g rows w x l));
         }
 
-    all_rows : (row : ℕ → Row) → ((x : ℕ) → x < item_count g → IsLawfulRow (space_of (head_of g)) (row x)) → (p : ℕ → Bool) → All (IsLawfulRow (space_of (head_of g))) (map row (filter p (numbers_below (item_count g))))
-    all_rows row each p = All-map (IsLawfulRow (space_of (head_of g))) row (filter p (numbers_below (item_count g)))
-        (All-weaker (Contains (filter p (numbers_below (item_count g)))) (λ x. IsLawfulRow (space_of (head_of g)) (row x)) (λ x c. each x (filter_below g p x c)) (filter p (numbers_below (item_count g))) (All-contains_itself (filter p (numbers_below (item_count g)))))
+    all_rows : (row : ℕ → Row) → ((x : ℕ) → x < item_count g → IsLawfulRow (space_of (head_of g)) (row x)) → (xs : List ℕ) → ((x : ℕ) → Contains xs x → x < item_count g) → All (IsLawfulRow (space_of (head_of g))) (map row xs)
+    all_rows row each xs below = All-map (IsLawfulRow (space_of (head_of g))) row xs
+        (All-weaker (Contains xs) (λ x. IsLawfulRow (space_of (head_of g)) (row x)) (λ x c. each x (below x c)) xs (All-contains_itself xs))
 
-    pub items_are : (row : ℕ → Row) → (xs : List ℕ) → ((x : ℕ) → Contains xs x → (row x).item ≡ x) → items_of (map row xs) ≡ xs
+    items_are : (row : ℕ → Row) → (xs : List ℕ) → ((x : ℕ) → Contains xs x → (row x).item ≡ x) → items_of (map row xs) ≡ xs
     items_are row [] each = refl
     items_are row (x ∷ xs) each = ap₂ (λ y ys. y ∷ ys) (each x (Contains-first x xs)) (items_are row xs (λ y c. each y (Contains-rest x xs y c)))
 
-    module _ (node : ℕ) where
+    module _ (node : ℕ) (l : node < length g.nodes) where
       abbrev started : List ℕ
-      started = filter (is_started_on g node) (numbers_below (item_count g))
+      started = starts_of (head_of g) node
 
       abbrev sent : List ℕ
-      sent = filter (is_sent_from g node) (numbers_below (item_count g))
+      sent = sends_of (head_of g) node
 
       abbrev heard : List ℕ
-      heard = filter (is_heard_at g node) (numbers_below (item_count g))
+      heard = hears_of (head_of g) node
 
-      pub start_items : items_of (map (row_for rows) started) ≡ started
-      start_items = items_are (row_for rows) started (λ x c. item_is g rows w x (filter_below g (is_started_on g node) x c))
-
-      pub send_items : items_of (map (row_for rows) sent) ≡ sent
-      send_items = items_are (row_for rows) sent (λ x c. item_is g rows w x (filter_below g (is_sent_from g node) x c))
-
-      pub hear_items : items_of (map (heard_row g rows) heard) ≡ heard
-      hear_items = items_are (heard_row g rows) heard (λ x c. refl)
-
-      node_items : node < length g.nodes → items_of (rows_of_items g rows (items_below g (item_count g) node)) ≡ starts_of (head_of g) node ++ (sends_of (head_of g) node ++ hears_of (head_of g) node)
-      node_items l =
+      node_items : items_of (rows_of_items g rows (lists_of (head_of g) node)) ≡ started ++ (sent ++ heard)
+      node_items =
           map-append (λ (row : Row). row.item) (map (row_for rows) started) (map (row_for rows) sent ++ map (heard_row g rows) heard)
-          ∙ ap₂ (λ xs ys. xs ++ ys) (start_items ∙ starts_whole g node ∙ sym (starts_are g within node))
+          ∙ ap₂ (λ xs ys. xs ++ ys) (items_are (row_for rows) started (λ x c. item_is g rows w x (start_below g within node x c)))
           (map-append (λ (row : Row). row.item) (map (row_for rows) sent) (map (heard_row g rows) heard)
-          ∙ ap₂ (λ xs ys. xs ++ ys) (send_items ∙ sym (sends_are g within node)) (hear_items ∙ sym (hears_are g within node l)))
+          ∙ ap₂ (λ xs ys. xs ++ ys) (items_are (row_for rows) sent (λ x c. item_is g rows w x (send_below g within node x c))) (items_are (heard_row g rows) heard (λ x c. refl)))
 
-      pub are_rows : node < length g.nodes → AreRowsOf (head_of g) node (rows_of_items g rows (items_below g (item_count g) node))
-      are_rows l = record {
-        items = node_items l;
+      pub are_rows : AreRowsOf (head_of g) node (rows_of_items g rows (lists_of (head_of g) node))
+      are_rows = record {
+        items = node_items;
         lawful = All-append (IsLawfulRow (space_of (head_of g))) (map (row_for rows) started) (map (row_for rows) sent ++ map (heard_row g rows) heard)
-            (all_rows (row_for rows) lawful_row (is_started_on g node))
+            (all_rows (row_for rows) lawful_row started (start_below g within node))
             (All-append (IsLawfulRow (space_of (head_of g))) (map (row_for rows) sent) (map (heard_row g rows) heard)
-            (all_rows (row_for rows) lawful_row (is_sent_from g node)) (all_rows (heard_row g rows) lawful_heard (is_heard_at g node)));
+            (all_rows (row_for rows) lawful_row sent (send_below g within node)) (all_rows (heard_row g rows) lawful_heard heard (hear_below g within node l)));
       }

@@ -1,11 +1,10 @@
 -- The tables of all nodes with given rows.
-use Rattle.std.proofs.Common.{◌≡◌, ℕ, ◌+◌, ◌<◌, ◌≤◌, Bool, true, false, List, [], ◌∷◌, ◌++◌, Some, length, take, drop, map, filter, slice_get, Contains, refl, sym, ap, ap₂, ◌∙◌, subst, arith, inl, inr, ◌⊎◌, true≢false, length-append}
+use Rattle.std.proofs.Common.{◌≡◌, ℕ, ◌+◌, ◌<◌, ◌≤◌, true, false, List, [], ◌∷◌, ◌++◌, Some, length, take, drop, map, slice_get, Contains, refl, sym, ap, ap₂, ◌∙◌, subst, arith, inl, inr, ◌⊎◌, true≢false, length-append}
 use Rattle.std.proofs.Math.Seq.{take-append_seam, drop-append_seam, get_or-append_seam}
 use Rattle.std.proofs.lemmas.Bool.{cases_lt, cases_Bool}
 use Rattle.std.proofs.lemmas.List.{length-map, get_or_append_left, get_or_past}
 use Rattle.std.proofs.lemmas.List.Elements.{Contains-append_cases}
 use Rattle.std.proofs.lemmas.Option.{get_or_from_slice_get, slice_get_within}
-use Rattle.cpg_base.specs.Numbers.{numbers_below}
 use Rattle.cpg_base.specs.Graph.{Graph, process_count, item_count, home, is_sent}
 use Rattle.cpg_base.specs.Bus.{slot_length}
 use Rattle.cpg_base.specs.Limits.{IsWithinLimits}
@@ -13,16 +12,15 @@ use Rattle.cpg_base.specs.WellFormed.{WellFormed}
 use Rattle.cpg_base.proofs.Lists.{Contains-map_parts, Contains-first, same_map}
 use Rattle.cpg_table.specs.GraphHead.{head_of}
 use Rattle.cpg_table.specs.Lawful.{Tables, AreTablesOf}
-use Rattle.cpg_table.specs.Shape.{HasShape, items_of}
+use Rattle.cpg_table.specs.Shape.{HasShape, items_of, heard_by}
 use Rattle.cpg_table.specs.Table.{Column, Row, NodeTable, table_at, empty_table, columns_of}
 use Rattle.cpg_table.specs.Valid.{later_by, hear_row, hear_rows}
-use Rattle.cpg_table.proofs.GraphItems.{starts_are, sends_are}
+use Rattle.cpg_table.proofs.GraphItems.{hears_are}
 use Rattle.cpg_table.proofs.GraphTables.{has_shape}
 use Rattle.cpg_table.proofs.Rows.{HasRow, rows_at, row_of, row_columns, has_row, home_within}
-use Rattle.cpg_table.specs.Writing.{row_for, heard_row, AreWritable, AreTablesWith}
-use Rattle.cpg_table.specs.NodeItems.{ItemLists, is_started_on, is_sent_from, items_below, IsTableWith, AreNodeTables}
-use Rattle.cpg_table.proofs.NodeLists.{starts_whole}
-use Rattle.cpg_table.proofs.NodeRows.{no_row, long, item_is, filter_below}
+use Rattle.cpg_table.specs.Items.{ItemLists, lists_of}
+use Rattle.cpg_table.specs.Writing.{row_for, heard_row, AreWritable, IsTableWith, AreNodeTables, AreTablesWith}
+use Rattle.cpg_table.proofs.NodeRows.{no_row, long, item_is, start_below, send_below}
 use Rattle.cpg_table.proofs.Loads.{tables_le}
 
 -- three lists of given lengths, one after another
@@ -46,23 +44,23 @@ nothing (c ∷ cs) h = absurd (h c (Contains-first c cs))
 
 module _ (g : Graph) (within : IsWithinLimits g) (formed : WellFormed g) (rows : List Row) (w : AreWritable g rows) (tables : List NodeTable) (are : AreNodeTables g rows (length g.nodes) tables) where
   pub lawful : AreTablesOf (head_of g) tables
-  lawful = record { count = are.long; each = λ node l. (are.each node l).table; few = tables_le g rows tables are w }
+  lawful = record { count = are.long; each = λ node l. (are.each node l).table; few = tables_le g within rows tables are w }
 
   shape : HasShape g tables
   shape = has_shape g within tables lawful
 
   abbrev items : ℕ → ItemLists
-  items node = items_below g (item_count g) node
+  items node = lists_of (head_of g) node
 
   module _ (node : ℕ) (l : node < length g.nodes) where
     count_by_items : (row : ℕ → Row) (rs : List Row) (xs : List ℕ) → items_of rs ≡ xs → length rs ≡ length (map row xs)
     count_by_items row rs xs e = sym (length-map rs (λ (r : Row). r.item)) ∙ ap length e ∙ sym (length-map xs row)
 
     start_count : length (table_at tables node).starts ≡ length (map (row_for rows) (items node).starts)
-    start_count = count_by_items (row_for rows) (table_at tables node).starts (items node).starts ((are.each node l).table.starts ∙ starts_are g within node ∙ sym (starts_whole g node))
+    start_count = count_by_items (row_for rows) (table_at tables node).starts (items node).starts (are.each node l).table.starts
 
     send_count : length (table_at tables node).sends ≡ length (map (row_for rows) (items node).sends)
-    send_count = count_by_items (row_for rows) (table_at tables node).sends (items node).sends ((are.each node l).table.sends ∙ sends_are g within node)
+    send_count = count_by_items (row_for rows) (table_at tables node).sends (items node).sends (are.each node l).table.sends
 
     pub starts : (table_at tables node).starts ≡ map (row_for rows) (items node).starts
     starts = first_of (table_at tables node).starts (table_at tables node).sends (table_at tables node).hears (map (row_for rows) (items node).starts) (map (row_for rows) (items node).sends) (map (heard_row g rows) (items node).hears) (are.each node l).stands start_count
@@ -74,16 +72,16 @@ module _ (g : Graph) (within : IsWithinLimits g) (formed : WellFormed g) (rows :
     hears = third_of (table_at tables node).starts (table_at tables node).sends (table_at tables node).hears (map (row_for rows) (items node).starts) (map (row_for rows) (items node).sends) (map (heard_row g rows) (items node).hears) (are.each node l).stands start_count send_count
 
     -- a row of the table is that of its item
-    from_rows : (p : ℕ → Bool) (rs : List Row) (row : Row) → rs ≡ map (row_for rows) (filter p (numbers_below (item_count g))) → Contains rs row → row.columns ≡ (row_for rows row.item).columns
-    from_rows p rs row e k =
-        let m = Contains-map_parts (row_for rows) (filter p (numbers_below (item_count g))) row (subst (λ qs. Contains qs row) e k) in
-        let same : row.item ≡ m.0 = ap (λ (r : Row). r.item) (sym m.2) ∙ item_is g rows w m.0 (filter_below g p m.0 m.1) in
+    from_rows : (xs : List ℕ) → ((x : ℕ) → Contains xs x → x < item_count g) → (rs : List Row) (row : Row) → rs ≡ map (row_for rows) xs → Contains rs row → row.columns ≡ (row_for rows row.item).columns
+    from_rows xs below rs row e k =
+        let m = Contains-map_parts (row_for rows) xs row (subst (λ qs. Contains qs row) e k) in
+        let same : row.item ≡ m.0 = ap (λ (r : Row). r.item) (sym m.2) ∙ item_is g rows w m.0 (below m.0 m.1) in
         ap (λ (r : Row). r.columns) (sym m.2) ∙ ap (λ x. (row_for rows x).columns) (sym same)
 
     row_is : (row : Row) → Contains (rows_at tables node) row → row.columns ≡ (row_for rows row.item).columns
     row_is row k = elim (Contains-append_cases (table_at tables node).starts (table_at tables node).sends row k) [
-      | inl m ↦ from_rows (is_started_on g node) (table_at tables node).starts row starts m
-      | inr m ↦ from_rows (is_sent_from g node) (table_at tables node).sends row sends m
+      | inl m ↦ from_rows (items node).starts (start_below g within node) (table_at tables node).starts row starts m
+      | inr m ↦ from_rows (items node).sends (send_below g within node) (table_at tables node).sends row sends m
     ]
 
   neither : (x : ℕ) → process_count g ≤ x → is_sent g x ≡ false → (x < process_count g) ⊎ (is_sent g x ≡ true) → ⊥
@@ -116,7 +114,8 @@ module _ (g : Graph) (within : IsWithinLimits g) (formed : WellFormed g) (rows :
   heard_rows node u e =
       let l : node < length g.nodes = omega (arith, slice_get_within tables node u e, are.long) in
       ap (λ (t : NodeTable). t.hears) (sym (get_or_from_slice_get tables node u empty_table e)) ∙ hears node l
-      ∙ same_map (heard_row g rows) (hear_row g tables) (items node).hears
+      ∙ ap (map (heard_row g rows)) (hears_are g within node l)
+      ∙ same_map (heard_row g rows) (hear_row g tables) (heard_by g node)
       (λ x c. same_row x _ _ (ap (map (later_by (slot_length g (home g x)))) (sym (columns x))))
     where
       same_row : (x : ℕ) (a b : List Column) → a ≡ b → (let row : Row = record { item = x; columns = a } in row) ≡ record { item = x; columns = b }

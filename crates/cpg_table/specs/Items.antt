@@ -47,6 +47,16 @@ abbrev pub hears_of : Head → ℕ → List ℕ
 hears_of h node = numbers_where (enters h node) (first_message h) h.edges
     ++ numbers_where (λ p. not (p.node == node)) (first_broadcast h) (conditioned h)
 
+-- what a node starts, sends and hears, by number
+pub record ItemLists : Type 0 where
+  pub starts : List ℕ
+  pub sends : List ℕ
+  pub hears : List ℕ
+
+-- by a head
+abbrev pub lists_of : Head → ℕ → ItemLists
+lists_of h node = record { starts = starts_of h node; sends = sends_of h node; hears = hears_of h node }
+
 -- a process, where it is on the node, with the number of its condition
 abbrev pub own_front : ℕ → ℕ → ℕ → HeadProcess → List Own
 own_front node p c q = if q.node == node then record { process = p; condition = if q.condition then Some c else None; times = q.times } ∷ [] else []

@@ -1,5 +1,5 @@
 -- Rows of all items, and tables that are written from them.
-use Rattle.std.specs.Prelude.{ℕ, ◌*◌, ◌^◌, ◌≡◌, ◌≤◌, ◌<◌, false, List, [], Some, length, map, get_or, sum_by, slice_get, All}
+use Rattle.std.specs.Prelude.{ℕ, ◌*◌, ◌^◌, ◌≡◌, ◌≤◌, ◌<◌, false, List, [], ◌++◌, Some, length, map, get_or, sum_by, slice_get, All}
 use Rattle.cpg_base.specs.Numbers.{numbers_below}
 use Rattle.cpg_base.specs.Graph.{Graph, process_count, item_count, item_at, home, is_sent}
 use Rattle.cpg_base.specs.Bus.{slot_length}
@@ -8,9 +8,10 @@ use Rattle.cpg_base.specs.Variable.{top}
 use Rattle.cpg_cube.specs.Fit.{IsCube}
 use Rattle.cpg_order.specs.Reach.{rows_of_item}
 use Rattle.cpg_table.specs.GraphHead.{head_of}
-use Rattle.cpg_table.specs.Lawful.{Tables, AreTablesOf}
+use Rattle.cpg_table.specs.Items.{ItemLists, lists_of}
+use Rattle.cpg_table.specs.Lawful.{Tables, IsTableOf, AreTablesOf, rows_of}
 use Rattle.cpg_table.specs.Shape.{items_of}
-use Rattle.cpg_table.specs.Table.{Column, Row, NodeTable, columns_of}
+use Rattle.cpg_table.specs.Table.{Column, Row, NodeTable, table_at, columns_of}
 use Rattle.cpg_table.specs.Valid.{later_by, hear_rows}
 
 -- the row of an item, where each stands at the number of its item
@@ -37,6 +38,20 @@ pub record AreWritable (g : Graph) (rows : List Row) : Type 0 where
   pub few : All (λ row. length row.columns ≤ 16384) rows
   pub loads : sum_by (λ x. length (row_for rows x).columns * rows_of_item g (item_at g x)) (numbers_below (item_count g)) ≤ 524288
   pub unsent : (x : ℕ) → process_count g ≤ x → x < item_count g → is_sent g x ≡ false → (row_for rows x).columns ≡ []
+
+-- the rows of a node's items, as they stand in its table
+abbrev pub rows_of_items : Graph → List Row → ItemLists → List Row
+rows_of_items g rows items = map (row_for rows) items.starts ++ (map (row_for rows) items.sends ++ map (heard_row g rows) items.hears)
+
+-- the table of a node with its rows of these
+pub record IsTableWith (g : Graph) (rows : List Row) (node : ℕ) (t : NodeTable) : Type 0 where
+  pub table : IsTableOf (head_of g) node t
+  pub stands : rows_of t ≡ rows_of_items g rows (lists_of (head_of g) node)
+
+-- the tables of the first nodes
+pub record AreNodeTables (g : Graph) (rows : List Row) (count : ℕ) (tables : List NodeTable) : Type 0 where
+  pub long : length tables ≡ count
+  pub each : (node : ℕ) → node < count → IsTableWith g rows node (table_at tables node)
 
 -- tables under the graph's head in which each item has the columns of its row, and each node hears what others send to it
 pub record AreTablesWith (g : Graph) (rows : List Row) (t : Tables) : Type 0 where

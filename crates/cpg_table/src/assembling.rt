@@ -1,15 +1,13 @@
 //! Tables of given rows.
 ghost use Rattle.std.specs.Prelude.{◌≡◌, ◌<◌, ◌^◌, ◌++◌, All, IfOk, length, map};
-ghost use Rattle.cpg_base.specs.Numbers.{numbers_below};
 ghost use Rattle.cpg_base.specs.Graph.{item_count};
 ghost use Rattle.cpg_base.specs.WellFormed.{WellFormed};
 ghost use Rattle.cpg_table.specs.GraphHead.{head_of};
 ghost use Rattle.cpg_table.specs.Valid.{later_by};
-ghost use Rattle.cpg_table.specs.Writing.{row_for, heard_row, AreWritable, AreTablesWith};
-ghost use Rattle.cpg_table.specs.NodeItems.{items_below, rows_of_items, IsTableWith, AreNodeTables};
+ghost use Rattle.cpg_table.specs.Items.{lists_of};
+ghost use Rattle.cpg_table.specs.Writing.{row_for, heard_row, rows_of_items, AreWritable, IsTableWith, AreNodeTables, AreTablesWith};
 
-use crate::node_items::{NodeItems, items_by_node};
-use crate::{Entry, Head, NodeTable, Row, Tables, head_of};
+use crate::{Entry, Head, NodeItems, NodeTable, Row, Tables, head_of};
 use cpg_base::{OutOfMemory, Problem};
 use std::alloc::Global;
 
@@ -79,21 +77,23 @@ fn add_heard(
 fn node_rows(
     alloc: Global,
     problem: &Problem,
+    head: &Head,
     rows: &[Row],
     node: u32,
-    items: &NodeItems,
 ) -> Result<Vec<Row>, OutOfMemory>
     requires formed { WellFormed problem.now }
+    requires head { head.now ≡ head_of problem.now }
     requires rows { AreWritable problem.now rows.now }
-    requires items { items.now ≡ items_below problem.now (item_count problem.now) node }
-    ensures { IfOk result (λ all. all.items ≡ rows_of_items problem.now rows.now (items_below problem.now (item_count problem.now) node)) }
+    requires node { node < length problem.now.nodes }
+    ensures { IfOk result (λ all. all.items ≡ rows_of_items problem.now rows.now (lists_of (head_of problem.now) node)) }
 {
-    let (starts, sends, hears) = (items.starts(), items.sends(), items.hears());
+    let _nodes = problem.nodes();
+    let items = NodeItems::of(alloc, head, node)?;
     let mut all = Vec::new(alloc);
-    all.reserve(starts.len() + sends.len() + hears.len())?;
-    add_copies(rows, starts, &mut all)?;
-    add_copies(rows, sends, &mut all)?;
-    add_heard(alloc, problem, rows, hears, &mut all)?;
+    all.reserve(items.all().len())?;
+    add_copies(rows, items.starts(), &mut all)?;
+    add_copies(rows, items.sends(), &mut all)?;
+    add_heard(alloc, problem, rows, items.hears(), &mut all)?;
     Ok(all)
 }
 
@@ -104,17 +104,15 @@ fn node_table(
     head: &Head,
     rows: &[Row],
     node: u32,
-    items: &NodeItems,
 ) -> Result<NodeTable, OutOfMemory>
     requires formed { WellFormed problem.now }
     requires head { head.now ≡ head_of problem.now }
     requires rows { AreWritable problem.now rows.now }
     requires node { node < length problem.now.nodes }
-    requires items { items.now ≡ items_below problem.now (item_count problem.now) node }
     ensures { IfOk result (IsTableWith problem.now rows.now node) }
 {
     let _nodes = problem.nodes();
-    let all = node_rows(alloc, problem, rows, node, items)?;
+    let all = node_rows(alloc, problem, head, rows, node)?;
     match NodeTable::new(alloc, head, node, all)? {
         Some(table) => Ok(table),
         None => unreachable!(),
@@ -127,19 +125,17 @@ fn node_tables(
     problem: &Problem,
     head: &Head,
     rows: &[Row],
-    items: &[NodeItems],
 ) -> Result<Vec<NodeTable>, OutOfMemory>
     requires formed { WellFormed problem.now }
     requires head { head.now ≡ head_of problem.now }
     requires rows { AreWritable problem.now rows.now }
-    requires items { items.now ≡ map (items_below problem.now (item_count problem.now)) (numbers_below (length problem.now.nodes)) }
     ensures { IfOk result (λ tables. AreNodeTables problem.now rows.now (length problem.now.nodes) tables.items) }
 {
     let count = problem.nodes().len();
     let mut tables = Vec::new(alloc);
     tables.reserve(count)?;
     for node in 0..count as u32 {
-        let table = node_table(alloc, problem, head, rows, node, &items[node as usize])?;
+        let table = node_table(alloc, problem, head, rows, node)?;
         tables.push(table)?;
     }
     Ok(tables)
@@ -154,8 +150,7 @@ pub fn tables_of(alloc: Global, problem: &Problem, rows: &[Row]) -> Result<Table
 {
     let _nodes = problem.nodes();
     let head = head_of(alloc, problem)?;
-    let items = items_by_node(alloc, problem)?;
-    let nodes = node_tables(alloc, problem, &head, rows, items.as_slice())?;
+    let nodes = node_tables(alloc, problem, &head, rows)?;
     match Tables::new(head, nodes) {
         Some(tables) => Ok(tables),
         None => unreachable!(),

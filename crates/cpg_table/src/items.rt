@@ -3,7 +3,7 @@ ghost use Rattle.std.specs.Prelude.{◌≡◌, ◌<◌, ◌≤◌, ◌+◌, ◌�
 ghost use Rattle.cpg_table.specs.Head.{IsHead};
 ghost use Rattle.cpg_table.specs.Items.{numbers_where, head_node_of, leaves, enters, first_message, first_broadcast, conditioned, starts_of, sends_of, hears_of, after_items};
 
-use crate::{Head, Row};
+use crate::{Head, HeadProcess, Row};
 
 /// The rows after one of an item where there is to be one, and `None` exactly where it doesn't come first.
 fn after_row(rows: &[Row], item: u32, wanted: bool) -> Option<&[Row]>
@@ -35,7 +35,7 @@ pub fn after_starts<'a>(head: &Head, node: u32, rows: &'a [Row]) -> Option<&'a [
 }
 
 /// Whether an edge leads from a node to another, or to it from another.
-fn is_crossing(head: &Head, node: u32, edge: (u32, u32), out: bool) -> bool
+pub fn is_crossing(head: &Head, node: u32, edge: (u32, u32), out: bool) -> bool
     requires from { edge.0 < length head.now.processes }
     requires to { edge.1 < length head.now.processes }
     ensures { result ≡ (if out then leaves head.now node edge else enters head.now node edge) }
@@ -79,6 +79,13 @@ fn is_chosen(place: u32, node: u32, own: bool) -> bool
     if own { place == node } else { place != node }
 }
 
+/// Whether a process has a condition, and is on a node or on another.
+pub fn is_wanted(process: &HeadProcess, node: u32, own: bool) -> bool
+    ensures { result ≡ (process.now.condition && (if own then process.now.node == node else not (process.now.node == node))) }
+{
+    process.condition && is_chosen(process.node, node, own)
+}
+
 /// The number of the next condition after a process.
 pub fn next_number(number: u32, condition: bool) -> u32
     requires { number < 1000 }
@@ -94,8 +101,7 @@ fn after_broadcasts<'a>(head: &Head, node: u32, own: bool, rows: &'a [Row]) -> O
     let mut rest = rows;
     let mut item = first_broadcast(head);
     for process in head.processes() {
-        let wanted = process.condition && is_chosen(process.node, node, own);
-        let Some(next) = after_row(rest, item, wanted) else {
+        let Some(next) = after_row(rest, item, is_wanted(process, node, own)) else {
             return None;
         };
         rest = next;

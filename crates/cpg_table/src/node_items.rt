@@ -1,215 +1,149 @@
-//! The items of each node.
-ghost use Rattle.std.specs.Prelude.{◌≡◌, ◌<◌, ◌≤◌, ◌+◌, ◌++◌, ◌∷◌, [], IfOk, OnOk, length, map};
-ghost use Rattle.cpg_base.specs.Numbers.{numbers_below};
-ghost use Rattle.cpg_base.specs.Graph.{process_count, edge_count, condition_count, item_count, node_of, source, target, message_item, broadcast_item};
-ghost use Rattle.cpg_table.specs.NodeItems.{items_below, IsTold};
+//! What a node starts, sends and hears, by number.
+ghost use Rattle.std.specs.Prelude.{◌≡◌, ◌==◌, not, ◌++◌, ◌∷◌, [], IfOk, OnOk, if◌then◌else◌};
+ghost use Rattle.cpg_table.specs.Items.{numbers_where, leaves, enters, first_message, first_broadcast, conditioned, starts_of, sends_of, hears_of, lists_of};
 
-use cpg_base::{OutOfMemory, Problem};
+use crate::Head;
+use crate::items::{first_broadcast, is_crossing, is_wanted, next_number};
+use cpg_base::OutOfMemory;
 use std::alloc::Global;
 use std::marker::Model;
 
-/// The numbers of the items that a node starts, sends and hears, each the lowest first.
+/// The numbers of the items that a node starts, then of those that it sends, then of those that it hears; of each kind the
+/// lowest first.
 #[derive(Drop)]
 pub struct NodeItems {
-    starts: Vec<u32>,
-    sends: Vec<u32>,
-    hears: Vec<u32>,
+    items: Vec<u32>,
+    starts: usize,
+    sends: usize,
 }
 
 impl Model for NodeItems {
-    ghost use Rattle.cpg_table.specs.NodeItems.{ItemLists};
+    ghost use Rattle.std.specs.Prelude.{◌+◌, ◌≤◌, length, take, drop};
+    ghost use Rattle.cpg_table.specs.Items.{ItemLists};
 
     ghost Value = { ItemLists };
 
-    ghost view = { λ n. record { starts = n.starts.items; sends = n.sends.items; hears = n.hears.items } };
+    ghost view = { λ n. record { starts = take n.starts n.items.items; sends = take n.sends (drop n.starts n.items.items); hears = drop n.sends (drop n.starts n.items.items) } };
+
+    ghost invariant = { λ n. n.starts + n.sends ≤ length n.items.items };
+}
+
+/// Adds an item where it is wanted.
+fn push_if(items: &mut Vec<u32>, item: u32, wanted: bool) -> Result<(), OutOfMemory>
+    ensures { OnOk result (items.new.items ≡ items.old.items ++ (if wanted then item ∷ [] else [])) }
+{
+    if wanted {
+        items.push(item)?;
+    }
+    Ok(())
+}
+
+/// Adds the processes of a node.
+fn push_starts(items: &mut Vec<u32>, head: &Head, node: u32) -> Result<(), OutOfMemory>
+    ensures { OnOk result (items.new.items ≡ items.old.items ++ starts_of head.now node) }
+{
+    let mut item: u32 = 0;
+    for process in head.processes() {
+        push_if(items, item, process.node == node)?;
+        item += 1;
+    }
+    Ok(())
+}
+
+/// Adds the messages from a node to others, or to it from others.
+fn push_messages(items: &mut Vec<u32>, head: &Head, node: u32, out: bool) -> Result<(), OutOfMemory>
+    ensures { OnOk result (items.new.items ≡ items.old.items ++ numbers_where (λ e. if out then leaves head.now node e else enters head.now node e) (first_message head.now) head.now.edges) }
+{
+    let mut item = head.processes().len() as u32;
+    for edge in head.edges() {
+        push_if(items, item, is_crossing(head, node, *edge, out))?;
+        item += 1;
+    }
+    Ok(())
+}
+
+/// Adds the broadcasts of a node's own conditions, or of the other nodes'.
+fn push_broadcasts(
+    items: &mut Vec<u32>,
+    head: &Head,
+    node: u32,
+    own: bool,
+) -> Result<(), OutOfMemory>
+    ensures { OnOk result (items.new.items ≡ items.old.items ++ numbers_where (λ p. if own then p.node == node else not (p.node == node)) (first_broadcast head.now) (conditioned head.now)) }
+{
+    let mut item = first_broadcast(head);
+    for process in head.processes() {
+        push_if(items, item, is_wanted(process, node, own))?;
+        item = next_number(item, process.condition);
+    }
+    Ok(())
+}
+
+/// Adds what a node sends: no broadcasts where it is alone.
+fn push_sends(items: &mut Vec<u32>, head: &Head, node: u32) -> Result<(), OutOfMemory>
+    ensures { OnOk result (items.new.items ≡ items.old.items ++ sends_of head.now node) }
+{
+    push_messages(items, head, node, true)?;
+    if head.nodes().len() > 1 {
+        push_broadcasts(items, head, node, true)?;
+    }
+    Ok(())
+}
+
+/// Adds what it hears.
+fn push_hears(items: &mut Vec<u32>, head: &Head, node: u32) -> Result<(), OutOfMemory>
+    ensures { OnOk result (items.new.items ≡ items.old.items ++ hears_of head.now node) }
+{
+    push_messages(items, head, node, false)?;
+    push_broadcasts(items, head, node, false)?;
+    Ok(())
 }
 
 impl NodeItems {
-    /// Nothing.
-    fn none(alloc: Global) -> NodeItems
-        ensures { result ≡ record { starts = []; sends = []; hears = [] } }
+    /// The items of a node under a head.
+    pub fn of(alloc: Global, head: &Head, node: u32) -> Result<NodeItems, OutOfMemory>
+        ensures { IfOk result (λ items. items ≡ lists_of head.now node) }
     {
-        NodeItems {
-            starts: Vec::new(alloc),
-            sends: Vec::new(alloc),
-            hears: Vec::new(alloc),
-        }
+        let mut items = Vec::new(alloc);
+        push_starts(&mut items, head, node)?;
+        let starts = items.len();
+        push_sends(&mut items, head, node)?;
+        let sends = items.len() - starts;
+        push_hears(&mut items, head, node)?;
+        Ok(NodeItems {
+            items,
+            starts,
+            sends,
+        })
     }
 
-    /// One more that the node starts.
-    fn start(&mut self, item: u32) -> Result<(), OutOfMemory>
-        ensures { OnOk result (self.new ≡ record self.old { starts = self.old.starts ++ item ∷ [] }) }
+    /// All of them.
+    pub fn all(&self) -> &[u32]
+        ensures { result.now ≡ self.now.starts ++ (self.now.sends ++ self.now.hears) }
     {
-        self.starts.push(item)?;
-        Ok(())
-    }
-
-    /// One more that it sends.
-    fn send(&mut self, item: u32) -> Result<(), OutOfMemory>
-        ensures { OnOk result (self.new ≡ record self.old { sends = self.old.sends ++ item ∷ [] }) }
-    {
-        self.sends.push(item)?;
-        Ok(())
-    }
-
-    /// One more that it hears.
-    fn hear(&mut self, item: u32) -> Result<(), OutOfMemory>
-        ensures { OnOk result (self.new ≡ record self.old { hears = self.old.hears ++ item ∷ [] }) }
-    {
-        self.hears.push(item)?;
-        Ok(())
-    }
-
-    /// One more that goes to all nodes: its sender sends it, and the others hear it.
-    fn tell(&mut self, is_sender: bool, item: u32) -> Result<(), OutOfMemory>
-        ensures { OnOk result (IsTold is_sender item self.old self.new) }
-    {
-        if is_sender {
-            self.send(item)?;
-            return Ok(());
-        }
-        self.hear(item)?;
-        Ok(())
+        self.items.as_slice()
     }
 
     /// What the node starts.
     pub fn starts(&self) -> &[u32]
         ensures { result.now ≡ self.now.starts }
     {
-        self.starts.as_slice()
+        self.items.as_slice().split_at(self.starts).0
     }
 
     /// What it sends.
     pub fn sends(&self) -> &[u32]
         ensures { result.now ≡ self.now.sends }
     {
-        self.sends.as_slice()
+        let (_, rest) = self.items.as_slice().split_at(self.starts);
+        rest.split_at(self.sends).0
     }
 
     /// What it hears.
     pub fn hears(&self) -> &[u32]
         ensures { result.now ≡ self.now.hears }
     {
-        self.hears.as_slice()
+        let (_, rest) = self.items.as_slice().split_at(self.starts);
+        rest.split_at(self.sends).1
     }
-}
-
-/// The node of the process that an edge leads away from.
-fn sender(problem: &Problem, edge: u32) -> u32
-    requires { edge < edge_count problem.now }
-    ensures node { result ≡ node_of problem.now (source problem.now edge) }
-    ensures within { result < length problem.now.nodes }
-{
-    let from = problem.edges()[edge as usize].from;
-    let node = problem.node_of(from);
-    node
-}
-
-/// The node of the process that an edge leads to.
-fn receiver(problem: &Problem, edge: u32) -> u32
-    requires { edge < edge_count problem.now }
-    ensures node { result ≡ node_of problem.now (target problem.now edge) }
-    ensures within { result < length problem.now.nodes }
-{
-    let to = problem.edges()[edge as usize].to;
-    let node = problem.node_of(to);
-    node
-}
-
-/// Nothing for each node.
-fn no_items(alloc: Global, count: usize) -> Result<Vec<NodeItems>, OutOfMemory>
-    ensures { IfOk result (λ nodes. nodes.items ≡ map (λ _. record { starts = []; sends = []; hears = [] }) (numbers_below count)) }
-{
-    let mut nodes = Vec::new(alloc);
-    nodes.reserve(count)?;
-    for _ in 0..count {
-        nodes.push(NodeItems::none(alloc))?;
-    }
-    Ok(nodes)
-}
-
-/// Adds the starts of the processes.
-fn add_starts(problem: &Problem, nodes: &mut [NodeItems]) -> Result<(), OutOfMemory>
-    requires { nodes.old ≡ map (items_below problem.now 0) (numbers_below (length problem.now.nodes)) }
-    ensures { IfOk result (λ _. nodes.new ≡ map (items_below problem.now (process_count problem.now)) (numbers_below (length problem.now.nodes))) }
-{
-    for process in 0..problem.processes().len() as u32 {
-        let node = problem.node_of(process);
-        nodes[node as usize].start(process)?;
-    }
-    Ok(())
-}
-
-/// Adds the message of an edge, if it is one: at the node of its source, and at that of its target.
-fn add_message(problem: &Problem, edge: u32, nodes: &mut [NodeItems]) -> Result<(), OutOfMemory>
-    requires edge { edge < edge_count problem.now }
-    requires nodes { nodes.old ≡ map (items_below problem.now (message_item problem.now edge)) (numbers_below (length problem.now.nodes)) }
-    ensures { IfOk result (λ _. nodes.new ≡ map (items_below problem.now (message_item problem.now edge + 1)) (numbers_below (length problem.now.nodes))) }
-{
-    let item = problem.processes().len() as u32 + edge;
-    let from = sender(problem, edge);
-    let to = receiver(problem, edge);
-    if from == to {
-        return Ok(());
-    }
-    nodes[from as usize].send(item)?;
-    nodes[to as usize].hear(item)?;
-    Ok(())
-}
-
-/// Adds the messages.
-fn add_messages(problem: &Problem, nodes: &mut [NodeItems]) -> Result<(), OutOfMemory>
-    requires { nodes.old ≡ map (items_below problem.now (message_item problem.now 0)) (numbers_below (length problem.now.nodes)) }
-    ensures { IfOk result (λ _. nodes.new ≡ map (items_below problem.now (message_item problem.now (edge_count problem.now))) (numbers_below (length problem.now.nodes))) }
-{
-    for edge in 0..problem.edges().len() as u32 {
-        add_message(problem, edge, nodes)?;
-    }
-    Ok(())
-}
-
-/// Adds the broadcast of a condition at every node.
-fn add_broadcast(
-    problem: &Problem,
-    condition: u32,
-    nodes: &mut [NodeItems],
-) -> Result<(), OutOfMemory>
-    requires condition { condition < condition_count problem.now }
-    requires two { 1 < length problem.now.nodes }
-    requires nodes { nodes.old ≡ map (items_below problem.now (broadcast_item problem.now condition)) (numbers_below (length problem.now.nodes)) }
-    ensures { IfOk result (λ _. nodes.new ≡ map (items_below problem.now (broadcast_item problem.now condition + 1)) (numbers_below (length problem.now.nodes))) }
-{
-    let conditions = problem.conditions();
-    prove!(condition < conditions);
-    let item = (problem.processes().len() + problem.edges().len()) as u32 + condition;
-    let home = problem.node_of(problem.process_of(condition)) as usize;
-    for node in 0..nodes.len() {
-        nodes[node].tell(node == home, item)?;
-    }
-    Ok(())
-}
-
-/// Adds the broadcasts, where there are two nodes or more.
-fn add_broadcasts(problem: &Problem, nodes: &mut [NodeItems]) -> Result<(), OutOfMemory>
-    requires { nodes.old ≡ map (items_below problem.now (broadcast_item problem.now 0)) (numbers_below (length problem.now.nodes)) }
-    ensures { IfOk result (λ _. nodes.new ≡ map (items_below problem.now (item_count problem.now)) (numbers_below (length problem.now.nodes))) }
-{
-    if problem.nodes().len() <= 1 {
-        return Ok(());
-    }
-    for condition in 0..problem.conditions() {
-        add_broadcast(problem, condition, nodes)?;
-    }
-    Ok(())
-}
-
-/// What each node starts, sends and hears: found by going over the items once.
-pub fn items_by_node(alloc: Global, problem: &Problem) -> Result<Vec<NodeItems>, OutOfMemory>
-    ensures { IfOk result (λ nodes. nodes.items ≡ map (items_below problem.now (item_count problem.now)) (numbers_below (length problem.now.nodes))) }
-{
-    let mut nodes = no_items(alloc, problem.nodes().len())?;
-    add_starts(problem, nodes.as_mut_slice())?;
-    add_messages(problem, nodes.as_mut_slice())?;
-    add_broadcasts(problem, nodes.as_mut_slice())?;
-    Ok(nodes)
 }

@@ -1,11 +1,15 @@
 -- Heads that are a graph's.
-use Rattle.std.proofs.Common.{◌≡◌, Bool, true, false, cond, map, subst, refl}
+use Rattle.std.proofs.Common.{◌≡◌, ◌<◌, ◌∙◌, ℕ, Bool, true, false, cond, length, map, ap, subst, refl}
 use Rattle.cpg_base.specs.Graph.{Graph}
+use Rattle.cpg_base.specs.Limits.{IsWithinLimits}
 use Rattle.cpg_base.specs.declared.process.Process.{Process}
 use Rattle.cpg_table.specs.GraphHead.{extra_of, extras_of, head_of, is_plain}
 use Rattle.cpg_table.specs.Head.{Head}
+use Rattle.cpg_table.specs.Items.{hears_of}
 use Rattle.cpg_table.specs.Lawful.{AreTablesOf}
+use Rattle.cpg_table.specs.Shape.{heard_by}
 use Rattle.cpg_table.specs.Table.{NodeTable}
+use Rattle.cpg_table.proofs.GraphItems.{hears_are}
 use Rattle.cpg_violation.specs.Heads.{IsHeadFor}
 use Rattle.std.specs.List.{list_all}
 use Rattle.std.specs.Prelude.{IfSome, List, None, Some}
@@ -18,6 +22,10 @@ same_but_extras g h k = rw (k.faults, k.nodes, k.processes.processes, k.edges) r
 pub tables_of_graph : (g : Graph) (h : Head) (tables : List NodeTable) → IsHeadFor g h → AreTablesOf h tables → AreTablesOf (head_of g) tables
 tables_of_graph g h tables k are = subst (λ (head : Head). AreTablesOf head tables) (same_but_extras g h k)
     (record { count = are.count; each = λ node l. let t = are.each node l in record { faults = t.faults; first_broadcast = t.first_broadcast; own = t.own; starts = t.starts; sends = t.sends; hears = t.hears; lawful = t.lawful }; few = are.few })
+
+-- and a node hears by it what it hears in the graph
+pub hears_of_graph : (g : Graph) (h : Head) → IsHeadFor g h → IsWithinLimits g → (node : ℕ) → node < length g.nodes → hears_of h node ≡ heard_by g node
+hears_of_graph g h k within node l = ap (λ (head : Head). hears_of head node) (same_but_extras g h k) ∙ hears_are g within node l
 
 own_extras : (ps : List Process) (plain : Bool) → IfSome (cond plain None (Some (map extra_of ps))) (λ extras. extras ≡ map extra_of ps)
 own_extras ps true = tt

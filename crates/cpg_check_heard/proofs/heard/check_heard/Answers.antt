@@ -14,7 +14,7 @@ use Rattle.cpg_check_heard.proofs.heard.check_heard.Goals as goal
 pub first_unheard-requires-clause-hearing : goal.first_unheard-requires-clause-hearing
 first_unheard-requires-clause-hearing c =
     let are : AreTablesOf (head_of c.args.admitted.now.graph) c.args.tables.now.nodes = tables_of_graph c.args.admitted.now.graph c.args.tables.now.head c.args.tables.now.nodes c.requires c.columns_of-columns.ensures.lawful in
-    record { admitted = c.problem.ensures.admitted; tables = are; tellers = c.in_ok-tellers.ensures }
+    record { admitted = c.problem.ensures.admitted; head = c.requires; tables = are; tellers = c.in_ok-tellers.ensures }
 
 pub first_unheard-requires-clause-columns : goal.first_unheard-requires-clause-columns
 first_unheard-requires-clause-columns c =

@@ -1,13 +1,22 @@
-use Rattle.std.proofs.Common.{◌≡◌, ◌&&◌, ◌∙◌, false, Some, None, ap, subst, arith, inl, inr}
+use Rattle.std.proofs.Common.{◌≡◌, ◌<◌, ◌&&◌, ◌∙◌, false, Some, None, length, ap, subst, arith, inl, inr}
 use Rattle.std.proofs.lemmas.Bool.{cases_lt}
 use Rattle.cpg_base.specs.Graph.{home}
 use Rattle.cpg_order.specs.First.{IsFirst}
 use Rattle.cpg_order.specs.Scenario.{Scenario, IsScenario}
 use Rattle.cpg_cube.specs.Cube.{matches}
+use Rattle.cpg_table.specs.Items.{ItemLists, hears_of}
 use Rattle.cpg_table.specs.Valid.{breaks_heard}
+use Rattle.cpg_violation.proofs.HeadLaws.{hears_of_graph}
 use Rattle.cpg_violation.proofs.Columnwise.{broken_place}
 use Rattle.cpg_check_heard.specs.Unheard.{is_column_unheard, is_unheard}
 use Rattle.cpg_check_heard.proofs.heard.first_unheard.Goals as goal
+
+pub least_unheard-requires-clause-items : goal.least_unheard-requires-clause-items
+least_unheard-requires-clause-items c =
+    let g = c.args.hearing.now.admitted.now.graph in
+    let inside : c.home-node.result < length g.nodes = rw c.problem-problem.ensures.problem at c.home-node.ensures.within in
+    c.hears.ensures ∙ ap (λ (i : ItemLists). i.hears) c.in_ok-items.ensures ∙ ap (λ h. hears_of h c.home-node.result) c.head.ensures.head
+    ∙ hears_of_graph g c.args.hearing.now.tables.now.head c.requires.hearing.head c.requires.hearing.admitted.limits c.home-node.result inside
 
 pub returns-in-Some-clause-first : goal.returns-in-Some-clause-first
 returns-in-Some-clause-first c =

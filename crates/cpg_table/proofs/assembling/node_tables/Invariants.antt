@@ -1,4 +1,4 @@
-use Rattle.cpg_table.specs.NodeItems.{AreNodeTables}
+use Rattle.cpg_table.specs.Writing.{AreNodeTables}
 use Rattle.cpg_table.proofs.assembling.node_tables.Given as goal
 
 abbrev pub invariant-loop-node : goal.invariant-loop-node

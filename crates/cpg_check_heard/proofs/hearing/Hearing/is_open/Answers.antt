@@ -2,9 +2,10 @@ use Rattle.std.proofs.Common.{◌<◌, ◌||◌, ◌∙◌, ap}
 use Rattle.std.specs.List.{list_any}
 use Rattle.cpg_base.specs.Graph.{process_count, process_of_variable}
 use Rattle.cpg_cube.specs.Cube.{matches}
+use Rattle.cpg_table.specs.Shape.{heard_by}
 use Rattle.cpg_table.specs.Heard.{facts}
 use Rattle.cpg_check_heard.specs.Bounds.{is_free, tells, variable_of}
-use Rattle.cpg_check_heard.specs.Untold.{are_told_by, items_heard, own_tells}
+use Rattle.cpg_check_heard.specs.Untold.{are_told_by, own_tells}
 use Rattle.cpg_check_heard.proofs.Facts.{facts_told}
 use Rattle.cpg_check_heard.proofs.Sides.{variable_within}
 use Rattle.cpg_check_heard.proofs.Untolds.{fewer_left, own_told}
@@ -19,7 +20,7 @@ returns c =
     let few = c.requires.hearing.admitted.well_formed.few_processes in
     let within : process_of_variable g (variable_of b) < process_count g = variable_within g (variable_of b) few c.requires.variable in
     fewer_left c.in_ok-left.left
-    (λ closed s i m. own_told (is_free g.faults b) (list_any (λ d. matches d s) told) (own_tells g tables c.args.node c.args.time b s) (are_told_by g tables c.args.time b (items_heard g c.args.node) s) (list_any (tells b) (facts g tables c.args.node s c.args.time))
+    (λ closed s i m. own_told (is_free g.faults b) (list_any (λ d. matches d s) told) (own_tells g tables c.args.node c.args.time b s) (are_told_by g tables c.args.time b (heard_by g c.args.node) s) (list_any (tells b) (facts g tables c.args.node s c.args.time))
     (c.in_ok-add_own.ensures.told s i m ∙ ap (λ xs. list_any (λ d. matches d s) xs || own_tells g tables c.args.node c.args.time b s) c.new-told.ensures.items)
     (facts_told g tables c.args.time b s few within c.args.node) (closed s i m))
     (rw c.as_slice.ensures.value at c.in_ok-left.ensures)

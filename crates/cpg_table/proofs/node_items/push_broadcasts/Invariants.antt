@@ -1,6 +1,6 @@
 use Rattle.std.proofs.Common.{◌≡◌, ◌≤◌, ◌+◌, ◌++◌, ◌==◌, not, if◌then◌else◌, drop, filter}
 use Rattle.cpg_table.specs.Items.{numbers_where, first_broadcast, conditioned}
-use Rattle.cpg_codec.proofs.items.push_broadcasts.Given as goal
+use Rattle.cpg_table.proofs.node_items.push_broadcasts.Given as goal
 
 abbrev pub invariant-loop-process : goal.invariant-loop-process
 invariant-loop-process l = record {

@@ -1,6 +1,6 @@
 use Rattle.std.proofs.Common.{◌≡◌, ◌==◌, ◌++◌, drop}
 use Rattle.cpg_table.specs.Items.{numbers_where, starts_of}
-use Rattle.cpg_codec.proofs.items.push_starts.Given as goal
+use Rattle.cpg_table.proofs.node_items.push_starts.Given as goal
 
 abbrev pub invariant-loop-process : goal.invariant-loop-process
 invariant-loop-process l = record {

@@ -1,6 +1,6 @@
 use Rattle.std.proofs.Common.{◌≡◌, ◌+◌, ◌++◌, if◌then◌else◌, drop}
 use Rattle.cpg_table.specs.Items.{numbers_where, leaves, enters, first_message}
-use Rattle.cpg_codec.proofs.items.push_messages.Given as goal
+use Rattle.cpg_table.proofs.node_items.push_messages.Given as goal
 
 abbrev pub invariant-loop-edge : goal.invariant-loop-edge
 invariant-loop-edge l = record {
