@@ -9,10 +9,10 @@ ghost use Rattle.cpg_cube.specs.Fit.{asked_of_literal, is_open, scenario_of};
 ghost use Rattle.cpg_cube.specs.Bounds.{AreBounds, AreRaised, budget_left, touches, more_asked, spans};
 
 use crate::Literal;
-use cpg_base::{Problem, Scenario};
+use cpg_base::{FIRST_VALUE, Problem, Scenario};
 
 /// How many variables there may be.
-const VARIABLES: usize = 256;
+pub const VARIABLES: usize = 256;
 
 /// The least and the greatest number of each variable in a cube, 0 and 255 where it has no literal on the variable.
 #[derive(Drop)]
@@ -96,7 +96,7 @@ impl Bounds {
     {
         let low = self.low[literal.variable as usize];
         let high = self.high[literal.variable as usize];
-        let most = if literal.variable < 128 {
+        let most = if literal.variable < FIRST_VALUE {
             low.saturating_add(left)
         } else {
             1
@@ -138,7 +138,8 @@ impl Bounds {
         ensures { least.new ≡ record least.old { values = map (λ c. nat_lt 0 (get_or self.now.low (value_variable c) 0)) (numbers_below conditions) } }
     {
         for condition in 0..conditions {
-            least.set_value(condition, self.low[128 + condition as usize] > 0);
+            let variable = FIRST_VALUE as usize + condition as usize;
+            least.set_value(condition, self.low[variable] > 0);
         }
     }
 

@@ -1,7 +1,6 @@
 //! Ranges of variables.
 ghost use Rattle.std.specs.Prelude.{◌≡◌, ◌<◌, ◌≤◌, ◌+◌, ◌↔◌, ◌⊎◌, IsTrue};
 ghost use Rattle.cpg_cube.specs.Cube.{holds};
-ghost use Rattle.cpg_base.specs.Variable.{top};
 ghost use Rattle.cpg_cube.specs.Fit.{asked_of_literal, is_open};
 ghost use Rattle.cpg_cube.specs.Cover.{meet_literal};
 

@@ -1,52 +1,26 @@
 -- The first of the greatest times of columns in order is at the least scenario that has it.
 use Rattle.std.proofs.Common.{ℕ, ◌<◌, ◌≤◌, ◌≡◌, ◌⊎◌, true, false, List, [], ◌∷◌, length, get_or, Option, Some, None, All, Contains, IsPermutation, arith, refl, sym, ap, ap₂, ◌∙◌, subst, inl, inr}
-use Rattle.std.proofs.lemmas.Bool.{cases_order, and_parts, leb-true}
-use Rattle.std.specs.Prelude.{nat_le}
-use Rattle.std.specs.List.{list_all}
+use Rattle.std.proofs.lemmas.Bool.{cases_order}
 use Rattle.std.proofs.lemmas.List.{get_or_default}
 use Rattle.std.proofs.lemmas.List.Elements.{All-contains, Contains-get_or}
 use Rattle.std.proofs.lemmas.List.Sorted.{IsPermutation-sym, Contains-permutation}
 use Rattle.cpg_base.specs.Numbers.{numbers_below, is_below}
-use Rattle.cpg_base.specs.Graph.{Graph, process_count, condition_of, value_variable, IsVariable}
-use Rattle.cpg_base.proofs.Lists.{Contains-first, Contains-cases, Contains-nil, Contains-flat_map, Contains-flat_map_parts, same_flat_map, numbers-Contains, from_all}
-use Rattle.cpg_order.specs.Scenario.{Scenario, IsScenario, IsLeast, is_before, key, fault_of, number_of, value_in_key}
-use Rattle.cpg_order.proofs.Scenarios.{number_of-fault, number_of-value}
+use Rattle.cpg_base.specs.Graph.{Graph, process_count}
+use Rattle.cpg_base.proofs.Lists.{Contains-first, Contains-cases, Contains-nil, Contains-flat_map, Contains-flat_map_parts}
+use Rattle.cpg_order.specs.Scenario.{Scenario, IsScenario, IsLeast, is_before}
 use Rattle.cpg_order.proofs.ScenarioOrder.{not_before_transitive}
-use Rattle.cpg_order.proofs.Along.{condition_of_below}
 use Rattle.cpg_cube.specs.declared.literal.Literal.{Literal}
 use Rattle.cpg_cube.specs.Cube.{matches, low_in}
-use Rattle.cpg_base.specs.Variable.{top}
-use Rattle.cpg_cube.specs.Fit.{lows, is_met, is_open, asked_faults}
-use Rattle.cpg_cube.proofs.Boxes.{made_number}
-use Rattle.cpg_cube.proofs.CubeLows.{low_in-top, lows-least}
+use Rattle.cpg_cube.specs.Fit.{lows, is_met}
+use Rattle.cpg_cube.specs.Keys.{lows_along, AreByLows}
+use Rattle.cpg_cube.proofs.CubeLows.{lows-least}
+use Rattle.cpg_cube.proofs.KeyLows.{lows_are_key}
 use Rattle.cpg_tree.specs.Columns.{column_of, columns_of_paths, IsTidyColumn}
-use Rattle.cpg_tree.specs.Keys.{low_of_value, lows_of, lows_along, AreByLows}
 use Rattle.cpg_tree.specs.Tree.{Path}
 use Rattle.cpg_tree.specs.Greatest.{IsGreatestOf, IsFirstGreatest}
 
-module _ (g : Graph) (few : process_count g ≤ 128) (c : ℕ × List Literal) (tidy : IsTidyColumn g c) where
-  low_le_top : (l : Literal) → Contains c.1 l → l.low ≤ top g.faults l.variable
-  low_le_top l j =
-      let open_all = (and_parts (list_all (is_open g.faults) c.1) (nat_le (asked_faults c.1) g.faults) tidy.met).0 in
-      leb-true l.low (top g.faults l.variable) (and_parts (nat_le l.low l.high) (nat_le l.low (top g.faults l.variable)) (from_all (is_open g.faults) c.1 l open_all j)).1
-
-  number_is : (v : ℕ) → IsVariable g v → number_of (lows g c.1) v ≡ low_in c.1 v
-  number_is v known = made_number g few (low_in c.1) v known (low_in-top g.faults c.1 low_le_top v)
-
-  value_is : (p : ℕ) (o : Option ℕ) → condition_of g p ≡ o → low_of_value c.1 o ≡ value_in_key (lows g c.1).values o
-  value_is p None e = refl
-  value_is p (Some d) e = ap (λ (n : ℕ). n ∷ []) (
-      let l = condition_of_below g p d e in
-      sym (number_is (value_variable d) (inr (omega arith, omega (arith, l)))) ∙ number_of-value (lows g c.1) d)
-
-  -- what the column stands by is the key of its least scenario
-  pub lows_are_key : (order : List ℕ) → IsPermutation (numbers_below (process_count g)) order → lows_along g order c.1 ≡ key g order (lows g c.1)
-  lows_are_key order all = same_flat_map (lows_of g c.1) (λ p. fault_of (lows g c.1) p ∷ value_in_key (lows g c.1).values (condition_of g p)) order (λ p m.
-      let l = numbers-Contains (process_count g) p (Contains-permutation order (numbers_below (process_count g)) p (IsPermutation-sym (numbers_below (process_count g)) order all) m) in
-      ap₂ ◌∷◌ (sym (number_is p (inl l)) ∙ number_of-fault (lows g c.1) p (omega (arith, l, few))) (value_is p (condition_of g p) refl))
-
-  pub least_of_column : (order : List ℕ) → IsLeast g order (λ s. matches c.1 s ≡ true) (lows g c.1)
-  least_of_column order = lows-least g few c.1 tidy.cube tidy.met order
+least_of_column : (g : Graph) → process_count g ≤ 128 → (c : ℕ × List Literal) → IsTidyColumn g c → (order : List ℕ) → IsLeast g order (λ s. matches c.1 s ≡ true) (lows g c.1)
+least_of_column g few c tidy order = lows-least g few c.1 tidy.cube tidy.met order
 
 -- ---- paths and columns
 
@@ -79,7 +53,7 @@ module _ (paths : List (Path (Option ℕ))) (columns : List (ℕ × List Literal
       by_value None e = refl
       by_value (Some t) e = absurd (Contains-nil (t, x.0) (subst (λ (cs : List (ℕ × List Literal)). Contains cs (t, x.0)) none (column_there x t j e)))
 
-  module _ (g : Graph) (few : process_count g ≤ 128) (order : List ℕ) (all : IsPermutation (numbers_below (process_count g)) order) (tidy : All (IsTidyColumn g) columns) (sorted : AreByLows g order columns)
+  module _ (g : Graph) (few : process_count g ≤ 128) (order : List ℕ) (all : IsPermutation (numbers_below (process_count g)) order) (tidy : All (IsTidyColumn g) columns) (sorted : AreByLows (λ (c : ℕ × List Literal). c.1) g order columns)
       (at : ℕ) (greatest : IsFirstGreatest (length columns) columns at) (c : ℕ × List Literal) (is : get_or columns at c ≡ c) where
     here : Contains columns c
     here = subst (Contains columns) is (Contains-get_or columns at c greatest.there)
@@ -109,11 +83,11 @@ module _ (paths : List (Path (Option ℕ))) (columns : List (ℕ × List Literal
     not_earlier u law d k same m (inr (inl earlier)) =
         absurd (omega (arith, greatest.first k.0 d earlier, ap (λ (b : ℕ × List Literal). b.0) k.2, same, ap (λ (b : ℕ × List Literal). b.0) (get_or_default columns at d c greatest.there ∙ is)))
     not_earlier u law d k same m (inr (inr later)) =
-        let below : is_below (lows_along g order d.1) (lows_along g order c.1) ≡ false =
-        subst (λ (b : ℕ × List Literal). is_below (lows_along g order b.1) (lows_along g order c.1) ≡ false) k.2
-        (subst (λ (b : ℕ × List Literal). is_below (lows_along g order (get_or columns k.0 d).1) (lows_along g order b.1) ≡ false) (get_or_default columns at d c greatest.there ∙ is) (sorted at k.0 d later k.1)) in
+        let below : is_below (lows_along g order (low_in d.1)) (lows_along g order (low_in c.1)) ≡ false =
+        subst (λ (b : ℕ × List Literal). is_below (lows_along g order (low_in b.1)) (lows_along g order (low_in c.1)) ≡ false) k.2
+        (subst (λ (b : ℕ × List Literal). is_below (lows_along g order (low_in (get_or columns k.0 d).1)) (lows_along g order (low_in b.1)) ≡ false) (get_or_default columns at d c greatest.there ∙ is) (sorted at k.0 d later k.1)) in
         let order_of : is_before g order (lows g d.1) (lows g c.1) ≡ false =
-        ap₂ is_below (sym (lows_are_key g few d (tidy_at d k) order all)) (sym (lows_are_key g few c (tidy_at c here) order all)) ∙ below in
+        ap₂ is_below (sym (lows_are_key g few d.1 (tidy_at d k).met order all)) (sym (lows_are_key g few c.1 (tidy_at c here).met order all)) ∙ below in
         not_before_transitive g order (lows g c.1) (lows g d.1) u order_of ((least_of_column g few d (tidy_at d k) order).least u law m)
 
     pub greatest_of_columns : IsGreatestOf g order paths c.0 (lows g c.1)

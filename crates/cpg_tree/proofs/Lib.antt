@@ -1,12 +1,10 @@
 pub mod Spaces
 pub mod Forks
 pub mod Fits
-pub mod Narrowed
 pub mod PathLaws
 pub mod Publics
 pub mod Numbers
 pub mod Rooms
-pub mod KeyOrder
 pub mod Tidy
 pub mod Leasts
 pub mod Passing

@@ -14,7 +14,7 @@ use Rattle.cpg_tree.specs.Decision.{DoForksPass}
 use Rattle.cpg_tree.specs.Paths.{up_to, above, paths_from, paths_of}
 use Rattle.cpg_tree.specs.Tree.{Path, DoPathsPass}
 use Rattle.cpg_tree.specs.Variables.{is_variable}
-use Rattle.cpg_tree.proofs.Tidy.{variable_of}
+use Rattle.cpg_cube.proofs.Narrow.{variables_of_narrowed}
 
 -- ---- a narrowed cube speaks of the variables of the cube, and of the literal's
 
@@ -75,7 +75,7 @@ module _ (test : ℕ → Bool) where
   -- ---- each variable of a path is a fork's
 
   passes_narrowed : (l : Literal) (cube : List Literal) → test l.variable ≡ true → Passes cube → Passes (narrowed_by l cube)
-  passes_narrowed l cube on old x c = elim (variable_of l cube x c) [
+  passes_narrowed l cube on old x c = elim (variables_of_narrowed l cube x c) [
     | inl e ↦ subst (λ (v : ℕ). test v ≡ true) e on
     | inr r ↦ subst (λ (v : ℕ). test v ≡ true) r.2 (old r.0 r.1)
   ]

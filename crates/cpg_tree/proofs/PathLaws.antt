@@ -18,7 +18,7 @@ use Rattle.cpg_tree.specs.Decision.{value_at, low_at, high_at, IsFit, IsGood, Ha
 use Rattle.cpg_tree.specs.Paths.{up_to, above, paths_from, paths_of}
 use Rattle.cpg_tree.specs.Tree.{Path, is_on, IsOn}
 use Rattle.cpg_tree.proofs.Forks.{value_below, value_above, low_below, low_above, low_here, high_below, high_above, high_here}
-use Rattle.cpg_tree.proofs.Narrowed.{low-other, low-same, high-other, high-same}
+use Rattle.cpg_cube.proofs.Narrowed.{low-other, low-same, high-other, high-same}
 use Rattle.cpg_tree.proofs.Spaces.{number_le_top}
 
 -- no high of the space is above the whole range

@@ -19,7 +19,7 @@ use Rattle.cpg_tree.specs.Decision.{IsFit, IsGood}
 use Rattle.cpg_tree.specs.Paths.{up_to, above, paths_from}
 use Rattle.cpg_tree.specs.Tree.{Path}
 use Rattle.cpg_tree.specs.Columns.{column_of, columns_of_paths, columns_from}
-use Rattle.cpg_tree.proofs.Narrowed.{low-other, low-same, high-other, high-same}
+use Rattle.cpg_cube.proofs.Narrowed.{low-other, low-same, high-other, high-same}
 
 -- each range has a number, and the lows are no more faults than there may be
 pub record IsRoom (k : ℕ) (room : Space) : Type 0 where

@@ -14,7 +14,7 @@ use Rattle.cpg_cube.specs.Cube.{low_in, high_in, is_whole}
 use Rattle.cpg_base.specs.Variable.{top}
 use Rattle.cpg_cube.specs.Fit.{IsCube, IsKnown, is_open, is_met, asked_faults}
 use Rattle.cpg_cube.specs.Cover.{narrowed_by, meet_literal}
-use Rattle.cpg_cube.proofs.Narrow.{narrowed-before, narrowed-here, narrowed-after}
+use Rattle.cpg_cube.proofs.Narrow.{variables_of_narrowed}
 use Rattle.cpg_cube.proofs.Ranges.{range_of_literal}
 use Rattle.cpg_cube.proofs.CubeLows.{budget_of_cube}
 use Rattle.cpg_tree.specs.declared.node.Node.{Node, Leaf, Fork'}
@@ -23,32 +23,8 @@ use Rattle.cpg_tree.specs.Decision.{IsFit, IsGood}
 use Rattle.cpg_tree.specs.Paths.{up_to, above, paths_from, paths_of}
 use Rattle.cpg_tree.specs.Tree.{Path}
 use Rattle.cpg_tree.specs.Columns.{column_of, columns_of_paths, IsTidyColumn}
-use Rattle.cpg_tree.proofs.Narrowed.{low-other, low-same, high-other, high-same}
+use Rattle.cpg_cube.proofs.Narrowed.{low-other, low-same, high-other, high-same}
 use Rattle.cpg_tree.proofs.Rooms.{IsRoom, IsTold, room_below, room_above, told_below, told_above, room_whole, told_whole, cut_under}
-
--- a literal of a narrowed cube is on the variable of the literal or of one of the cube's
-pub variable_of : (l : Literal) (cube : List Literal) (x : Literal) → Contains (narrowed_by l cube) x → (l.variable ≡ x.variable) ⊎ ((y : Literal) × Contains cube y × (y.variable ≡ x.variable))
-variable_of l [] x c = elim (Contains-cases l [] x c) [
-  | inl e ↦ inl (ap (λ (z : Literal). z.variable) e)
-  | inr n ↦ absurd (Contains-nil x n)
-]
-variable_of l (m ∷ ms) x c = elim (cases_order l.variable m.variable) [
-  | inl e ↦ elim (Contains-cases (meet_literal l m) ms x (subst (λ c. Contains c x) (narrowed-here l m ms e) c)) [
-    | inl h ↦ inl (e ∙ ap (λ (z : Literal). z.variable) h)
-    | inr d ↦ inr (x, Contains-rest m ms x d, refl)
-  ]
-  | inr (inl h) ↦ elim (Contains-cases l (m ∷ ms) x (subst (λ c. Contains c x) (narrowed-before l m ms h) c)) [
-    | inl e ↦ inl (ap (λ (z : Literal). z.variable) e)
-    | inr d ↦ inr (x, d, refl)
-  ]
-  | inr (inr h) ↦ elim (Contains-cases m (narrowed_by l ms) x (subst (λ c. Contains c x) (narrowed-after l m ms h) c)) [
-    | inl e ↦ inr (m, Contains-first m ms, ap (λ (z : Literal). z.variable) e)
-    | inr d ↦ elim (variable_of l ms x d) [
-      | inl e ↦ inl e
-      | inr r ↦ inr (r.0, Contains-rest m ms r.0 r.1, r.2)
-    ]
-  ]
-]
 
 -- each literal's range is a part of the whole one
 abbrev IsPart : ℕ → List Literal → Type 0
@@ -61,7 +37,7 @@ Says k cube v = (0 < low_in cube v) ⊎ (high_in k cube v < top k v)
 part_narrowed : (k : ℕ) (l : Literal) (cube : List Literal) → l.variable < 256 → Says k (narrowed_by l cube) l.variable → IsPart k cube → IsPart k (narrowed_by l cube)
 part_narrowed k l cube there says part x c = elim (cases_eq l.variable x.variable) [
   | inl e ↦ (omega (arith, e, there), subst (Says k (narrowed_by l cube)) e says)
-  | inr n ↦ elim (variable_of l cube x c) [
+  | inr n ↦ elim (variables_of_narrowed l cube x c) [
     | inl e ↦ absurd (n e)
     | inr r ↦
         let old = part r.0 r.1 in

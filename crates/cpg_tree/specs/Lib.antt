@@ -5,6 +5,4 @@ pub mod Paths
 pub mod Tree
 pub mod Variables
 pub mod Columns
-pub mod Keys
-pub mod Ranks
 pub mod Greatest

@@ -4,11 +4,10 @@ ghost use Rattle.std.specs.Bool.{OnFalse};
 ghost use Rattle.cpg_order.specs.Scenario.{Scenario, number_of};
 ghost use Rattle.cpg_tree.specs.Space.{Lies, IsWhole, HasFew, is_open_below, is_open_above, below_cut, above_cut, faults_of};
 
+use cpg_base::FIRST_VALUE;
+
 /// How many variables there may be.
 const VARIABLES: usize = 256;
-
-/// The variable of the first condition.
-const FIRST_VALUE: u8 = 128;
 
 /// How many faults a count of a variable is: a value is none.
 fn faults_of(variable: u8, count: u8) -> u8

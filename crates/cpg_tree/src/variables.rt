@@ -9,11 +9,8 @@ ghost use Rattle.cpg_tree.specs.Variables.{AreCountsFrom, LeavesCounts, IsValueN
 use crate::Tree;
 use crate::node::Node;
 use crate::space::Space;
-use cpg_base::OutOfMemory;
+use cpg_base::{FIRST_VALUE, OutOfMemory};
 use std::alloc::Global;
-
-/// The variable of the first condition.
-const FIRST_VALUE: u8 = 128;
 
 /// The count of a process, where it is `first` or more.
 fn counts_from(alloc: Global, process: u8, first: u8, k: u8) -> Result<Node<u8>, OutOfMemory>

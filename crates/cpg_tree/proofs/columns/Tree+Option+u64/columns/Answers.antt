@@ -1,5 +1,4 @@
-use Rattle.std.proofs.Common.{ℕ, ◌≤◌, length, arith, ◌<◌, ◌≡◌, ◌∙◌, ◌++◌, List, Option, All, IsPermutation, sym, ap, ap₂, subst}
-use Rattle.cpg_base.specs.Graph.{process_count}
+use Rattle.std.proofs.Common.{ℕ, ◌≡◌, ◌∙◌, ◌++◌, List, Option, All, IsPermutation, sym, ap, ap₂, subst}
 use Rattle.cpg_cube.specs.declared.literal.Literal.{Literal}
 use Rattle.cpg_tree.specs.declared.node.Node.{Node}
 use Rattle.cpg_tree.specs.Columns.{columns_from, columns_of_paths, IsTidyColumn}
@@ -8,8 +7,6 @@ use Rattle.cpg_tree.specs.Decision.{IsGood}
 use Rattle.cpg_tree.specs.Paths.{paths_of}
 use Rattle.cpg_tree.specs.Tree.{Path, TreeState}
 use Rattle.cpg_tree.proofs.Forks.{of_answer}
-use Rattle.cpg_tree.proofs.KeyOrder.{within_order}
-use Rattle.cpg_order.proofs.Places.{length_order}
 use Rattle.cpg_tree.proofs.PathLaws.{good_cuts}
 use Rattle.cpg_tree.proofs.Rooms.{all_columns}
 use Rattle.cpg_tree.proofs.Tidy.{tidy_columns}
@@ -18,12 +15,6 @@ use Rattle.cpg_tree.proofs.columns.Tree+Option+u64.columns.Goals as goal
 pub push_columns-requires : goal.push_columns-requires
 push_columns-requires c = good_cuts c.self.inside.faults c.self.inside.root c.self.invariant.0
 
-pub ordered-requires-clause-few : goal.ordered-requires-clause-few
-ordered-requires-clause-few c = subst (λ (ps : List ℕ). length ps ≤ 128) (sym c.processes.ensures.processes) (omega (arith, length_order (process_count c.args.problem.now) c.args.order.now c.requires.order, c.processes-processes.ensures.within.few_processes))
-
-pub ordered-requires-clause-order : goal.ordered-requires-clause-order
-ordered-requires-clause-order c = subst (All (λ p. p < process_count c.args.problem.now)) (sym c.processes.ensures.processes) (within_order (process_count c.args.problem.now) c.args.order.now c.requires.order)
-
 pub returns-clause-all : goal.returns-clause-all
 returns-clause-all c =
     let k : ℕ = c.self.inside.faults in
@@ -31,7 +22,7 @@ returns-clause-all c =
     let is : c.push_columns.new.columns.items ≡ columns_of_paths c.args.self.now.paths =
     c.in_ok-push_columns.ensures ∙ ap₂ ◌++◌ c.new-columns.ensures.items (ap (λ (cube : List Literal). columns_from k cube root) c.whole-whole.ensures)
     ∙ all_columns k root c.self.invariant.0 ∙ ap (λ (t : TreeState (Option ℕ)). columns_of_paths t.paths) c.self.view_is in
-    of_answer c.ordered.result (λ r. IsPermutation c.push_columns.new.columns.items r.items) (λ r. IsPermutation (columns_of_paths c.args.self.now.paths) r.items) c.ordered.ensures.permutation
+    of_answer c.by_least_scenario.result (λ r. IsPermutation c.push_columns.new.columns.items r.items) (λ r. IsPermutation (columns_of_paths c.args.self.now.paths) r.items) c.by_least_scenario.ensures.permutation
     (λ r p. subst (λ (xs : List (ℕ × List Literal)). IsPermutation xs r.items) is p)
 
 pub returns-clause-tidy : goal.returns-clause-tidy
@@ -44,6 +35,6 @@ returns-clause-tidy c =
     let is : c.push_columns.new.columns.items ≡ columns_of_paths (paths_of g.faults root) =
     c.in_ok-push_columns.ensures ∙ ap₂ ◌++◌ c.new-columns.ensures.items (ap (λ (cube : List Literal). columns_from k cube root) c.whole-whole.ensures)
     ∙ all_columns k root c.self.invariant.0 ∙ ap (λ (m : ℕ). columns_of_paths (paths_of m root)) same in
-    of_answer c.ordered.result (λ r. IsPermutation c.push_columns.new.columns.items r.items) (λ r. All (IsTidyColumn g) r.items) c.ordered.ensures.permutation
+    of_answer c.by_least_scenario.result (λ r. IsPermutation c.push_columns.new.columns.items r.items) (λ r. All (IsTidyColumn g) r.items) c.by_least_scenario.ensures.permutation
     (λ r p. tidy_columns g c.processes-processes.ensures.within.few_processes root (subst (λ (m : ℕ). IsGood m root) same c.self.invariant.0)
     (subst (All (λ (p : Path (Option ℕ)). IsKnown g p.0)) paths c.requires.known) r.items (subst (λ (xs : List (ℕ × List Literal)). IsPermutation xs r.items) is p))

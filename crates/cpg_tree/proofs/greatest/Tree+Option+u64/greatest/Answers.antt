@@ -6,7 +6,7 @@ use Rattle.cpg_cube.specs.declared.literal.Literal.{Literal}
 use Rattle.cpg_order.specs.Scenario.{Scenario}
 use Rattle.cpg_cube.specs.Fit.{is_met, lows}
 use Rattle.cpg_tree.specs.Columns.{columns_of_paths, IsTidyColumn}
-use Rattle.cpg_tree.specs.Keys.{AreByLows}
+use Rattle.cpg_cube.specs.Keys.{AreByLows}
 use Rattle.cpg_tree.specs.Greatest.{IsFirstGreatest, IsGreatestOf}
 use Rattle.cpg_tree.specs.Tree.{Path}
 use Rattle.cpg_tree.proofs.Leasts.{no_numbers, column_met, greatest_of_columns}
@@ -29,7 +29,7 @@ returns-clause-some c =
     let few = c.processes-processes.ensures.within.few_processes in
     let all : IsPermutation (columns_of_paths paths) columns = subst (IsPermutation (columns_of_paths paths)) same c.in_ok-columns.ensures.all in
     let tidy : All (IsTidyColumn g) columns = subst (All (IsTidyColumn g)) same c.in_ok-columns.ensures.tidy in
-    let sorted : AreByLows g order columns = subst (AreByLows g order) same c.in_ok-columns.ensures.by_lows in
+    let sorted : AreByLows (λ (c : ℕ × List Literal). c.1) g order columns = subst (AreByLows (λ (c : ℕ × List Literal). c.1) g order) same c.in_ok-columns.ensures.by_lows in
     let is : get_or columns at column ≡ column = get_or_default columns at column c.index-columns-place.result greatest.there in
     let least : Some c.in-Some-2.least ≡ Some (lows g column.1) = sym c.in-Some-2.is ∙ c.in_ok-least.ensures.exact
     ∙ ap (λ (d : ℕ × List Literal). cond (is_met g.faults d.1) (Some (lows g d.1)) None) (get_or_default columns at c.index-columns-place-2.result c.index-columns-place.result greatest.there)

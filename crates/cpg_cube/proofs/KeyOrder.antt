@@ -1,7 +1,7 @@
 -- Columns with keys, sorted by these, and the columns alone.
 use Rattle.std.proofs.lemmas.List.Elements.{Contains-get_or}
 use Rattle.cpg_base.proofs.Lists.{numbers-Contains}
-use Rattle.std.proofs.Common.{Ordering, Less, Equal, Greater, ℕ, suc, ◌+◌, ◌-◌, ◌*◌, ◌<◌, ◌≤◌, ◌≡◌, ◌≢◌, ◌==◌, Bool, true, false, List, [], ◌∷◌, ◌++◌, length, take, drop, subst, append_assoc, map, get_or, All, Option, None, Some, IsPermutation, nat_lt, arith, refl, sym, ap, ap₂, ◌∙◌, inl, inr, eq-eqb, ne_eqb, lt-ltb, le-ltb, length-append}
+use Rattle.std.proofs.Common.{Ordering, Less, Equal, Greater, ℕ, suc, ◌+◌, ◌-◌, ◌*◌, ◌<◌, ◌≤◌, ◌≡◌, ◌≢◌, ◌==◌, Bool, true, false, List, [], ◌∷◌, ◌++◌, length, drop, append_assoc, map, get_or, All, Option, None, Some, IsPermutation, nat_lt, arith, refl, sym, ap, ap₂, ◌∙◌, inl, inr, eq-eqb, ne_eqb, lt-ltb, le-ltb, length-append}
 use Rattle.std.proofs.lemmas.Bool.{cases_eq, cases_order, cond-true, cond-false, both_ways, false_from_ne_true}
 use Rattle.std.specs.Ordering.{nat_cmp, is_lt, ordering_then}
 use Rattle.std.specs.Cmp.{IsStrictWeakOrder}
@@ -9,24 +9,20 @@ use Rattle.std.specs.Cmp.Lexicographic.{slice_cmp}
 use Rattle.std.specs.List.Sorted.{IsSortedBy}
 use Rattle.std.proofs.lemmas.Cmp.{nat_list_cmp_total}
 use Rattle.std.proofs.lemmas.List.Sorted.{ranks_by, sorted_far, All-permutation}
-use Rattle.std.specs.Prelude.{slice_set, slice_index_or}
-use Rattle.std.proofs.lemmas.List.{get_or-set_same, get_or-set_other, take_more, drop_more}
-use Rattle.cpg_cube.specs.Cube.{IsRising, low_in}
-use Rattle.cpg_cube.proofs.BoundSteps.{low_in-last, low_in-before, lower_before}
+use Rattle.std.proofs.lemmas.List.{append-nil, drop_all, drop_more}
+use Rattle.cpg_cube.specs.Cube.{Literal, low_in}
 use Rattle.cpg_base.specs.Graph.{Graph, condition_of}
 use Rattle.cpg_base.specs.Numbers.{is_below, numbers_below}
 use Rattle.cpg_base.proofs.Pairs.{AllPairs-map}
-use Rattle.cpg_cube.specs.declared.literal.Literal.{Literal}
-use Rattle.cpg_tree.specs.Keys.{low_of_value, lows_of, lows_along, AreByLows, asked_from, key_along, HasLows}
-use Rattle.cpg_tree.specs.Ranks.{ranked_column}
-use Rattle.cpg_tree.specs.declared.columns.Ranked.{Ranked}
+use Rattle.cpg_cube.specs.Keys.{low_of_value, lows_of, lows_along, AreByLows, asked_from, key_along}
+use Rattle.cpg_cube.specs.declared.sorting.Ranked.{Ranked}
 
 -- one key comes before another
-abbrev pub is_key_below : Ranked → Ranked → Bool
+abbrev pub is_key_below : {T : Type 0} → Ranked T → Ranked T → Bool
 is_key_below a b = is_lt (slice_cmp nat_cmp a.key.items b.key.items)
 
-pub is_total : IsStrictWeakOrder is_key_below
-is_total = ranks_by nat_list_cmp_total (λ (r : Ranked). r.key.items)
+pub is_total : {T : Type 0} → IsStrictWeakOrder (is_key_below {T = T})
+is_total {T} = ranks_by nat_list_cmp_total (λ (r : Ranked T). r.key.items)
 
 -- ---- keys tell the order of the lows that they are made of
 
@@ -87,24 +83,24 @@ asked_below left (x ∷ xs) (y ∷ ys) long few h = elim (cases_order x y) [
 
 -- ---- all keys along one order are of as many lows
 
-same_value : (c d : List Literal) (o : Option ℕ) → length (low_of_value c o) ≡ length (low_of_value d o)
-same_value c d None = refl
-same_value c d (Some v) = refl
+same_value : (low high : ℕ → ℕ) (o : Option ℕ) → length (low_of_value low o) ≡ length (low_of_value high o)
+same_value low high None = refl
+same_value low high (Some v) = refl
 
-same_long : (g : Graph) (order : List ℕ) (c d : List Literal) → length (lows_along g order c) ≡ length (lows_along g order d)
-same_long g [] c d = refl
-same_long g (p ∷ ps) c d = length-append (lows_of g c p) (lows_along g ps c) ∙ ap₂ ◌+◌ (ap suc (same_value c d (condition_of g p))) (same_long g ps c d) ∙ sym (length-append (lows_of g d p) (lows_along g ps d))
+same_long : (g : Graph) (order : List ℕ) (low high : ℕ → ℕ) → length (lows_along g order low) ≡ length (lows_along g order high)
+same_long g [] low high = refl
+same_long g (p ∷ ps) low high = length-append (lows_of g low p) (lows_along g ps low) ∙ ap₂ ◌+◌ (ap suc (same_value low high (condition_of g p))) (same_long g ps low high) ∙ sym (length-append (lows_of g high p) (lows_along g ps high))
 
-one_or_two : (c : List Literal) (o : Option ℕ) → length (low_of_value c o) ≤ 1
-one_or_two c None = omega arith
-one_or_two c (Some v) = omega arith
+one_or_two : (low : ℕ → ℕ) (o : Option ℕ) → length (low_of_value low o) ≤ 1
+one_or_two low None = omega arith
+one_or_two low (Some v) = omega arith
 
-pub few_lows : (g : Graph) (cube : List Literal) (p : ℕ) → length (lows_of g cube p) ≤ 2
-few_lows g cube p = omega (arith, one_or_two cube (condition_of g p))
+pub few_lows : (g : Graph) (low : ℕ → ℕ) (p : ℕ) → length (lows_of g low p) ≤ 2
+few_lows g low p = omega (arith, one_or_two low (condition_of g p))
 
-twice_long : (g : Graph) (order : List ℕ) (c : List Literal) → length (lows_along g order c) ≤ length order * 2
-twice_long g [] c = omega arith
-twice_long g (p ∷ ps) c = omega (arith, length-append (lows_of g c p) (lows_along g ps c), few_lows g c p, twice_long g ps c)
+twice_long : (g : Graph) (order : List ℕ) (low : ℕ → ℕ) → length (lows_along g order low) ≤ length order * 2
+twice_long g [] low = omega arith
+twice_long g (p ∷ ps) low = omega (arith, length-append (lows_of g low p) (lows_along g ps low), few_lows g low p, twice_long g ps low)
 
 -- ---- a key part by part
 
@@ -119,41 +115,34 @@ asked_append left (x ∷ xs) ys =
     ]
 
 -- with the lows of one process more
-pub key_step : (g : Graph) (order : List ℕ) (cube : List Literal) (i p : ℕ) → i < length order → p ≡ get_or order i p → (key new : List ℕ) (left next : ℕ) → key_along g order cube ≡ key ++ asked_from left (lows_along g (drop i order) cube) →
-    new ≡ key ++ asked_from left (lows_of g cube p) → next ≡ left - length (lows_of g cube p) → key_along g order cube ≡ new ++ asked_from next (lows_along g (drop (i + 1) order) cube)
-key_step g order cube i p within is key new left next before more fewer =
+pub key_step : (g : Graph) (order : List ℕ) (low : ℕ → ℕ) (i p : ℕ) → i < length order → p ≡ get_or order i p → (key new : List ℕ) (left next : ℕ) → key_along g order low ≡ key ++ asked_from left (lows_along g (drop i order) low) →
+    new ≡ key ++ asked_from left (lows_of g low p) → next ≡ left - length (lows_of g low p) → key_along g order low ≡ new ++ asked_from next (lows_along g (drop (i + 1) order) low)
+key_step g order low i p within is key new left next before more fewer =
     let split : drop i order ≡ p ∷ drop (i + 1) order = drop_more order i p within ∙ ap (λ q. q ∷ drop (i + 1) order) (sym is) in
-    before ∙ ap (λ ps. key ++ asked_from left (lows_along g ps cube)) split
-    ∙ ap (λ k. key ++ k) (asked_append left (lows_of g cube p) (lows_along g (drop (i + 1) order) cube))
-    ∙ sym (append_assoc key (asked_from left (lows_of g cube p)) (asked_from (left - length (lows_of g cube p)) (lows_along g (drop (i + 1) order) cube)))
-    ∙ ap₂ (λ k n. k ++ asked_from n (lows_along g (drop (i + 1) order) cube)) (sym more) (sym fewer)
+    before ∙ ap (λ ps. key ++ asked_from left (lows_along g ps low)) split
+    ∙ ap (λ k. key ++ k) (asked_append left (lows_of g low p) (lows_along g (drop (i + 1) order) low))
+    ∙ sym (append_assoc key (asked_from left (lows_of g low p)) (asked_from (left - length (lows_of g low p)) (lows_along g (drop (i + 1) order) low)))
+    ∙ ap₂ (λ k n. k ++ asked_from n (lows_along g (drop (i + 1) order) low)) (sym more) (sym fewer)
+
+-- with the lows of all
+pub key_done : (g : Graph) (order : List ℕ) (low : ℕ → ℕ) (i : ℕ) → length order ≤ i → (key : List ℕ) (left : ℕ) → key_along g order low ≡ key ++ asked_from left (lows_along g (drop i order) low) → key ≡ key_along g order low
+key_done g order low i past key left is = sym (is ∙ ap (λ ps. key ++ asked_from left (lows_along g ps low)) (drop_all i order past) ∙ append-nil key)
 
 -- ---- so columns that stand by keys stand by lows
 
-pub by_lows : (g : Graph) (order : List ℕ) → length order ≤ 128 → (before after : List Ranked) → All (λ r. r.key.items ≡ key_along g order r.cube) before → IsPermutation before after → IsSortedBy is_key_below after →
-    AreByLows g order (map ranked_column after)
-by_lows g order few before after keys p up = AllPairs-map (λ (a b : Ranked). is_below (lows_along g order b.cube) (lows_along g order a.cube) ≡ false) (λ (c d : ℕ × List Literal). is_below (lows_along g order d.1) (lows_along g order c.1) ≡ false)
-    ranked_column after (λ a b h. h)
+pub by_lows : {T : Type 0} (cube : T → List Literal) (g : Graph) (order : List ℕ) → length order ≤ 128 → (before after : List (Ranked T)) → All (λ r. r.key.items ≡ key_along g order (low_in (cube r.column))) before →
+    IsPermutation before after → IsSortedBy is_key_below after → AreByLows cube g order (map (λ r. r.column) after)
+by_lows {T} cube g order few before after keys p up = AllPairs-map (λ (a b : Ranked T). is_below (lows_along g order (low_in (cube b.column))) (lows_along g order (low_in (cube a.column))) ≡ false)
+    (λ (c d : T). is_below (lows_along g order (low_in (cube d))) (lows_along g order (low_in (cube c))) ≡ false)
+    (λ (r : Ranked T). r.column) after (λ a b h. h)
     (λ i j d l k.
-    let a = get_or after i d in
-    let b = get_or after j d in
-    let all = All-permutation (λ (r : Ranked). r.key.items ≡ key_along g order r.cube) before after p keys in
-    let sorted : is_below (key_along g order b.cube) (key_along g order a.cube) ≡ false =
+    let a = low_in (cube (get_or after i d).column) in
+    let b = low_in (cube (get_or after j d).column) in
+    let all = All-permutation (λ (r : Ranked T). r.key.items ≡ key_along g order (low_in (cube r.column))) before after p keys in
+    let sorted : is_below (key_along g order b) (key_along g order a) ≡ false =
     ap₂ is_below (sym (all j d k)) (sym (all i d (omega arith))) ∙ sorted_far is_key_below is_total after up i j d (omega arith) k in
-    false_from_ne_true _ (λ below. both_ways _ sorted (asked_below 256 (lows_along g order b.cube) (lows_along g order a.cube) (same_long g order b.cube a.cube) (omega (arith, twice_long g order b.cube, few)) below)))
+    false_from_ne_true _ (λ below. both_ways _ sorted (asked_below 256 (lows_along g order b) (lows_along g order a) (same_long g order b a) (omega (arith, twice_long g order b, few)) below)))
 
 -- each process of an order is below how many there are
 pub within_order : (n : ℕ) (order : List ℕ) → IsPermutation (numbers_below n) order → All (λ p. p < n) order
 within_order n order p = All-permutation (λ p. p < n) (numbers_below n) order p (λ k d l. numbers-Contains n (get_or (numbers_below n) k d) (Contains-get_or (numbers_below n) k d l))
-
--- ---- the lows as the code keeps them, with one literal more
-
-pub lows_push : (ls : List Literal) (i : ℕ) (d : Literal) → IsRising ls → i < length ls → (lows : List ℕ) → length lows ≡ 256 → (slice_index_or ls i d).variable < 256 → HasLows (take i ls) lows →
-    HasLows (take (i + 1) ls) (slice_set lows (slice_index_or ls i d).variable (slice_index_or ls i d).low)
-lows_push ls i d rising within lows long small has =
-    let l = slice_index_or ls i d in
-    subst (λ c. HasLows c (slice_set lows l.variable l.low)) (sym (take_more ls i d within)) (λ v h. elim (cases_eq l.variable v) [
-      | inl e ↦ subst (λ w. get_or (slice_set lows l.variable l.low) w 0 ≡ low_in (take i ls ++ l ∷ []) w) e
-          (get_or-set_same lows l.variable l.low 0 (omega (arith, long, small)) ∙ sym (low_in-last (take i ls) l (λ k c. lower_before ls i d rising within k c)))
-      | inr n ↦ get_or-set_other lows l.variable v l.low 0 (λ e. n (sym e)) ∙ has v h ∙ sym (low_in-before (take i ls) l v n)
-    ])

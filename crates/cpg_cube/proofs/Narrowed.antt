@@ -1,29 +1,13 @@
 -- The ranges of a cube that is narrowed by one literal.
-use Rattle.std.proofs.Common.{◌≡◌, ◌≢◌, ◌∙◌, ℕ, ◌<◌, ◌≤◌, max, min, ◌==◌, List, [], ◌∷◌, Contains, arith, refl, sym, ap, inl, inr, eq-eqb, ne_eqb}
-use Rattle.std.proofs.lemmas.Bool.{cases_eq, cases_order, cond-true, cond-false}
-use Rattle.cpg_base.proofs.Lists.{Contains-first, Contains-rest, Contains-cases}
-use Rattle.cpg_cube.specs.Cube.{IsRising, low_in, high_in}
+use Rattle.std.proofs.Common.{◌≡◌, ◌≢◌, ◌∙◌, ℕ, ◌<◌, ◌≤◌, max, min, List, [], ◌∷◌, Contains, arith, refl, sym, ap, inl, inr}
+use Rattle.std.proofs.lemmas.Bool.{cases_eq, cases_order}
+use Rattle.cpg_base.proofs.Lists.{Contains-cases}
+use Rattle.cpg_cube.specs.Cube.{Literal, IsRising, low_in, high_in}
 use Rattle.cpg_base.specs.Variable.{top}
 use Rattle.cpg_cube.specs.Cover.{meet_literal, narrowed_by}
-use Rattle.cpg_cube.specs.declared.literal.Literal.{Literal}
 use Rattle.cpg_cube.proofs.CubeLows.{low_in-later, low_in-none}
 use Rattle.cpg_cube.proofs.Narrow.{narrowed-before, narrowed-here, narrowed-after}
-use Rattle.cpg_cube.proofs.Ranges.{rising_rest, rising_first}
-
--- ---- the range of a variable
-
-low_in-here : (l : Literal) (ls : List Literal) (v : ℕ) → l.variable ≡ v → low_in (l ∷ ls) v ≡ l.low
-low_in-here l ls v e = cond-true (l.variable == v) l.low (low_in ls v) (eq-eqb l.variable v e)
-
-high_in-here : (k : ℕ) (l : Literal) (ls : List Literal) (v : ℕ) → l.variable ≡ v → high_in k (l ∷ ls) v ≡ l.high
-high_in-here k l ls v e = cond-true (l.variable == v) l.high (high_in k ls v) (eq-eqb l.variable v e)
-
-high_in-later : (k : ℕ) (l : Literal) (ls : List Literal) (v : ℕ) → l.variable ≢ v → high_in k (l ∷ ls) v ≡ high_in k ls v
-high_in-later k l ls v n = cond-false (l.variable == v) l.high (high_in k ls v) (ne_eqb l.variable v n)
-
-high_in-none : (k : ℕ) (ls : List Literal) (v : ℕ) → ((l : Literal) → Contains ls l → l.variable ≢ v) → high_in k ls v ≡ top k v
-high_in-none k [] v h = refl
-high_in-none k (l ∷ ls) v h = high_in-later k l ls v (h l (Contains-first l ls)) ∙ high_in-none k ls v (λ m c. h m (Contains-rest l ls m c))
+use Rattle.cpg_cube.proofs.Ranges.{rising_rest, rising_first, low_in-here, high_in-here, high_in-later, high_in-none}
 
 -- the variables of a rising cube are above one that its first is above
 above_first : (v : ℕ) (m : Literal) (ms : List Literal) → IsRising (m ∷ ms) → v < m.variable → (x : Literal) → Contains (m ∷ ms) x → x.variable ≢ v

@@ -1,0 +1,42 @@
+use Rattle.std.proofs.Common.{ℕ, ◌<◌, ◌≤◌, ◌≡◌, List, All, length, map, IsPermutation, arith, sym, subst, rules}
+use Rattle.std.specs.List.Sorted.{IsSortedBy}
+use Rattle.std.proofs.lemmas.Fn.{always_returns_same}
+use Rattle.std.proofs.lemmas.List.Sorted.{IsPermutation-map}
+use Rattle.std.proofs.lemmas.Result.{IfOk-weaker}
+use Rattle.cpg_base.specs.Graph.{process_count}
+use Rattle.cpg_order.proofs.Places.{length_order}
+use Rattle.cpg_cube.specs.Cube.{low_in}
+use Rattle.cpg_cube.specs.Keys.{AreByLows, key_along}
+use Rattle.cpg_cube.specs.declared.sorting.Ranked.{Ranked}
+use Rattle.cpg_cube.proofs.KeyOrder.{is_key_below, is_total, by_lows, within_order}
+use Rattle.cpg_cube.proofs.sorting.by_least_scenario.Goals as goal
+
+pub with_keys-requires-clause-order : goal.with_keys-requires-clause-order
+with_keys-requires-clause-order g c = let n = process_count c.args.problem.now in subst (All (λ p. p < n)) (sym c.processes.ensures.processes) (within_order n c.args.order.now c.requires)
+
+pub with_keys-requires-clause-few : goal.with_keys-requires-clause-few
+with_keys-requires-clause-few g c = subst (λ (ps : List ℕ). length ps ≤ 128) (sym c.processes.ensures.processes) (omega (arith, length_order (process_count c.args.problem.now) c.args.order.now c.requires, c.processes-processes.ensures.within.few_processes))
+
+pub returns-clause-permutation : goal.returns-clause-permutation
+returns-clause-permutation g c =
+    let column = λ (x : Ranked g.row.T.Denot). x.column in
+    let before = c.in_ok-ranked.ranked.items in
+    let after = c.sort_unstable_by.new.self.items in
+    let columns = c.args.columns.items in
+    IfOk-weaker _ (λ r. r.items ≡ map column after) (λ r. IsPermutation columns r.items)
+    (λ r e. subst (IsPermutation columns) (sym e) (subst (λ (xs : List g.row.T.Denot). IsPermutation xs (map column after)) c.in_ok-ranked.ensures.columns (IsPermutation-map column before after c.sort_unstable_by.ensures.permutation)))
+    (search rules)
+
+pub returns-clause-by_lows : goal.returns-clause-by_lows
+returns-clause-by_lows g c =
+    let column = λ (x : Ranked g.row.T.Denot). x.column in
+    let before = c.in_ok-ranked.ranked.items in
+    let after = c.sort_unstable_by.new.self.items in
+    let problem = c.args.problem.now in
+    let order = c.args.order.now in
+    let few : length order ≤ 128 = omega (arith, length_order (process_count problem) order c.requires, c.processes-processes.ensures.within.few_processes) in
+    let up : IsSortedBy is_key_below after = c.sort_unstable_by.ensures.sorted is_key_below is_total (always_returns_same _ _ _ (λ a r f k. search rules)) in
+    IfOk-weaker _ (λ r. r.items ≡ map column after) (λ r. AreByLows g.T.Cubed.cubed problem order r.items)
+    (λ r e. subst (AreByLows g.T.Cubed.cubed problem order) (sym e) (by_lows g.T.Cubed.cubed problem order few before after
+    (subst (λ (ps : List ℕ). All (λ (x : Ranked g.row.T.Denot). x.key.items ≡ key_along problem ps (low_in (g.T.Cubed.cubed x.column))) before) c.processes.ensures.processes c.in_ok-ranked.ensures.keys) c.sort_unstable_by.ensures.permutation up))
+    (search rules)
