@@ -1,5 +1,5 @@
 -- The lows of a cube along an order are the key of its least scenario, and so they are by its bounds.
-use Rattle.std.proofs.Common.{ℕ, ◌+◌, ◌<◌, ◌≤◌, ◌≡◌, true, List, [], ◌∷◌, Option, Some, None, All, Contains, IsPermutation, arith, refl, sym, ap, ap₂, ◌∙◌, inl, inr}
+use Rattle.std.proofs.Common.{ℕ, ◌<◌, ◌≤◌, ◌≡◌, true, List, [], ◌∷◌, Option, Some, None, All, Contains, IsPermutation, arith, refl, sym, ap, ap₂, ◌∙◌, inl, inr}
 use Rattle.std.specs.Prelude.{nat_le}
 use Rattle.std.specs.List.{list_all}
 use Rattle.std.proofs.lemmas.Bool.{and_parts, leb-true}
@@ -7,7 +7,7 @@ use Rattle.std.proofs.lemmas.List.Elements.{All-contains}
 use Rattle.cpg_base.specs.Numbers.{numbers_below}
 use Rattle.cpg_base.specs.Graph.{Graph, process_count, condition_count, condition_of, value_variable, IsVariable}
 use Rattle.cpg_base.specs.Variable.{top}
-use Rattle.cpg_base.proofs.Lists.{from_all, same_flat_map, numbers-Contains}
+use Rattle.cpg_base.proofs.Lists.{from_all, same_flat_map}
 use Rattle.cpg_order.specs.Scenario.{key, fault_of, number_of, value_in_key}
 use Rattle.cpg_order.proofs.Scenarios.{number_of-fault, number_of-value}
 use Rattle.cpg_order.proofs.Along.{condition_of_below}

@@ -1,6 +1,6 @@
 -- Ranges of cubes when literals are left out or one is raised, and two cubes that touch made one.
-use Rattle.std.proofs.Common.{ℕ, ◌<◌, ◌≤◌, ◌≡◌, ◌≢◌, ◌⊎◌, Bool, true, false, not, cond, ◌==◌, List, [], ◌∷◌, length, take, Contains, All, get_or, arith, refl, sym, ap, ap₂, ◌∙◌, subst, ⊎_elim, eq-eqb, ne_eqb, eqb-true}
-use Rattle.std.proofs.lemmas.Bool.{cases_eq, cond-true, cond-false, and_parts, not-true, eqb-false}
+use Rattle.std.proofs.Common.{ℕ, ◌<◌, ◌≤◌, ◌≡◌, ◌≢◌, ◌⊎◌, Bool, true, false, not, cond, ◌==◌, List, [], ◌∷◌, length, take, Contains, All, get_or, arith, refl, sym, ap, ap₂, ◌∙◌, subst, ⊎_elim, eqb-true}
+use Rattle.std.proofs.lemmas.Bool.{cases_eq, and_parts, not-true, eqb-false}
 use Rattle.std.proofs.lemmas.List.{get_or-take, get_or_default, length-take-le}
 use Rattle.std.proofs.lemmas.List.Elements.{All-contains, All-same, All-filter, All-map, All-weaker, Contains-get_or}
 use Rattle.cpg_base.proofs.Lists.{Contains-first, Contains-rest, Contains-filter_parts}
@@ -9,26 +9,9 @@ use Rattle.cpg_base.proofs.Sorted.{same_sorted}
 use Rattle.cpg_cube.specs.declared.literal.Literal.{Literal}
 use Rattle.cpg_cube.specs.Cube.{IsRising, low_in, high_in, is_whole}
 use Rattle.cpg_base.specs.Variable.{top}
-use Rattle.cpg_cube.proofs.Ranges.{IsNarrow, rising_rest, rising_first, range_of_literal, narrow}
+use Rattle.cpg_cube.proofs.Ranges.{IsNarrow, rising_rest, rising_first, low_in-here, high_in-here, high_in-later, high_in-none, range_of_literal, narrow}
 use Rattle.cpg_cube.proofs.CubeLows.{low_in-later, low_in-none}
 use Rattle.cpg_table.specs.Merging.{shorn, without, raised}
-
--- ---- the high of a variable
-
-module _ (k : ℕ) where
-  pub high_in-later : (l : Literal) (ls : List Literal) (v : ℕ) → l.variable ≢ v → high_in k (l ∷ ls) v ≡ high_in k ls v
-  high_in-later l ls v n = cond-false (l.variable == v) l.high (high_in k ls v) (ne_eqb l.variable v n)
-
-  pub high_in-none : (ls : List Literal) (v : ℕ) → ((l : Literal) → Contains ls l → l.variable ≢ v) → high_in k ls v ≡ top k v
-  high_in-none [] v h = refl
-  high_in-none (l ∷ ls) v h = high_in-later l ls v (h l (Contains-first l ls)) ∙ high_in-none ls v (λ m c. h m (Contains-rest l ls m c))
-
--- the range of the first literal is found at its variable
-pub low_in-here : (l : Literal) (ls : List Literal) (v : ℕ) → l.variable ≡ v → low_in (l ∷ ls) v ≡ l.low
-low_in-here l ls v e = cond-true (l.variable == v) l.low (low_in ls v) (eq-eqb l.variable v e)
-
-pub high_in-here : (k : ℕ) (l : Literal) (ls : List Literal) (v : ℕ) → l.variable ≡ v → high_in k (l ∷ ls) v ≡ l.high
-high_in-here k l ls v e = cond-true (l.variable == v) l.high (high_in k ls v) (eq-eqb l.variable v e)
 
 -- where one literal leads two lists with the same ranges, the lists have the same ranges
 same_low : (l : Literal) (xs ys : List Literal) (v : ℕ) → low_in xs v ≡ low_in ys v → low_in (l ∷ xs) v ≡ low_in (l ∷ ys) v

@@ -1,52 +1,32 @@
 -- From settled columns in order to what merging columns gives.
-use Rattle.std.proofs.Common.{ℕ, ◌<◌, ◌≤◌, ◌≡◌, ◌≢◌, ◌⊎◌, true, false, List, [], ◌∷◌, length, filter, get_or, Option, Some, None, Contains, IsPermutation, arith, refl, sym, ap, ap₂, ◌∙◌, subst, subst₂, ⊎_elim, inl, inr}
+use Rattle.std.proofs.Common.{ℕ, ◌<◌, ◌≤◌, ◌≡◌, ◌≢◌, ◌⊎◌, true, false, List, [], ◌∷◌, length, filter, get_or, Contains, IsPermutation, arith, refl, sym, ap, ap₂, ◌∙◌, subst, subst₂, ⊎_elim, inl, inr}
 use Rattle.std.specs.Prelude.{IsTrue}
 use Rattle.std.proofs.lemmas.Bool.{cases_Bool, cases_eq, cases_lt}
 use Rattle.std.proofs.lemmas.List.{length-map}
 use Rattle.std.proofs.lemmas.List.Elements.{All-contains}
 use Rattle.std.proofs.lemmas.Option.{slice_get_within}
 use Rattle.cpg_base.specs.Numbers.{numbers_below, is_below}
-use Rattle.cpg_base.specs.Graph.{Graph, process_count, condition_of, value_variable, IsVariable}
-use Rattle.cpg_base.proofs.Lists.{Contains-first, Contains-rest, Contains-cases, Contains-nil, Contains-filter, Contains-filter_parts, Contains-map, Contains-map_parts, Contains-slice_get, same_flat_map, numbers-Contains}
+use Rattle.cpg_base.specs.Graph.{Graph, process_count, IsVariable}
+use Rattle.cpg_base.proofs.Lists.{Contains-first, Contains-rest, Contains-cases, Contains-nil, Contains-filter, Contains-filter_parts, Contains-map, Contains-map_parts, Contains-slice_get}
 use Rattle.std.proofs.lemmas.List.Sorted.{IsPermutation-sym, Contains-permutation}
-use Rattle.cpg_order.specs.Scenario.{Scenario, IsScenario, is_before, key, fault_of, number_of, value_in_key}
-use Rattle.cpg_order.proofs.Scenarios.{number_of-fault, number_of-value}
+use Rattle.cpg_order.specs.Scenario.{Scenario, IsScenario, is_before, key}
 use Rattle.cpg_order.proofs.ScenarioOrder.{before_total}
-use Rattle.cpg_order.proofs.Along.{condition_of_below}
 use Rattle.cpg_cube.specs.declared.literal.Literal.{Literal}
 use Rattle.cpg_cube.specs.Cube.{matches, low_in, high_in, is_whole}
 use Rattle.cpg_base.specs.Variable.{top}
 use Rattle.cpg_cube.specs.Fit.{IsCube, lows}
-use Rattle.cpg_cube.proofs.Ranges.{range_of_literal, narrow}
-use Rattle.cpg_cube.proofs.Boxes.{made_number}
+use Rattle.cpg_cube.proofs.Ranges.{high_in-later, range_of_literal, narrow}
+use Rattle.cpg_cube.specs.Keys.{lows_along, AreByLows}
+use Rattle.cpg_cube.proofs.KeyLows.{lows_are_key}
 use Rattle.cpg_cube.proofs.CubeLows.{low_in-later, lows-lawful, lows-match, lows-least}
 use Rattle.cpg_cube.proofs.CubeLaws.{least_match}
 use Rattle.cpg_table.specs.Table.{Column, times_in}
 use Rattle.cpg_table.specs.Merged.{IsColumn, AreMet, AreOrdered, IsMerged, IsWider, AreMergeable, IsMergeOf}
-use Rattle.cpg_table.specs.Merging.{all_shorn, IsJoinOf, TouchAt, AreSettled, low_of_value, lows_along, AreByLows}
-use Rattle.cpg_table.proofs.MergingCubes.{high_in-later}
-use Rattle.cpg_table.proofs.MergingPairs.{IsGood, matches_wider, low-le-high, high_in-top}
+use Rattle.cpg_table.specs.Merging.{all_shorn, IsJoinOf, TouchAt, AreSettled}
+use Rattle.cpg_table.proofs.MergingPairs.{IsGood, matches_wider}
 use Rattle.cpg_table.proofs.MergingLists.{AreGood, joins_through}
 use Rattle.cpg_table.proofs.MergingSettled.{pairs_apart, share}
 use Rattle.cpg_table.proofs.MergingSteps.{AreSingle, good_of, good_permuted, single_permuted, joins_permuted, joins_shorn}
-
--- ---- the lows along an order are the key of the least scenario
-
-module _ (g : Graph) (few : process_count g ≤ 128) (cube : List Literal) (good : IsGood g cube) where
-  number_is : (v : ℕ) → IsVariable g v → number_of (lows g cube) v ≡ low_in cube v
-  number_is v known = made_number g few (low_in cube) v known
-      (let o = low-le-high g.faults cube good.met v in let w = high_in-top g.faults cube (λ k d m. (good.narrow k d m).1) v in omega arith)
-
-  value_is : (p : ℕ) (o : Option ℕ) → condition_of g p ≡ o → low_of_value cube o ≡ value_in_key (lows g cube).values o
-  value_is p None e = refl
-  value_is p (Some c) e = ap (λ n. n ∷ []) (
-      let l = condition_of_below g p c e in
-      sym (number_is (value_variable c) (inr (omega arith, omega arith))) ∙ number_of-value (lows g cube) c)
-
-  pub lows_are_key : (order : List ℕ) → IsPermutation (numbers_below (process_count g)) order → lows_along g order cube ≡ key g order (lows g cube)
-  lows_are_key order all = same_flat_map (λ p. low_in cube p ∷ low_of_value cube (condition_of g p)) (λ p. fault_of (lows g cube) p ∷ value_in_key (lows g cube).values (condition_of g p)) order (λ p m.
-      let l = numbers-Contains (process_count g) p (Contains-permutation order (numbers_below (process_count g)) p (IsPermutation-sym (numbers_below (process_count g)) order all) m) in
-      ap₂ ◌∷◌ (sym (number_is p (inl l)) ∙ number_of-fault (lows g cube) p (omega arith)) (value_is p (condition_of g p) refl))
 
 -- ---- literals
 
@@ -115,7 +95,7 @@ module _ (g : Graph) (few : process_count g ≤ 128) (order : List ℕ) (all : I
   pub are_met : AreMet g order columns
   are_met = λ k d l. let x = good k d l in (lows g (get_or columns k d).cube, lows-least g few (get_or columns k d).cube x.cube x.met order)
 
-  pub are_ordered : AreByLows g order columns → AreOrdered g order columns
+  pub are_ordered : AreByLows (λ (c : Column). c.cube) g order columns → AreOrdered g order columns
   are_ordered up = λ i j c d s t l x y p q.
       let m = Contains-slice_get columns i c x in
       let n = Contains-slice_get columns j d y in
@@ -123,10 +103,10 @@ module _ (g : Graph) (few : process_count g ≤ 128) (order : List ℕ) (all : I
       let good_d = good_at d n in
       let e = least_match g few order c.cube s all good_c.cube p in
       let f = least_match g few order d.cube t all good_d.cube q in
-      let h : is_below (lows_along g order d.cube) (lows_along g order c.cube) ≡ false =
-      subst₂ (λ (a b : Column). is_below (lows_along g order b.cube) (lows_along g order a.cube) ≡ false) (at_number columns i c c x) (at_number columns j d c y) (up i j c l (slice_get_within columns j d y)) in
+      let h : is_below (lows_along g order (low_in d.cube)) (lows_along g order (low_in c.cube)) ≡ false =
+      subst₂ (λ (a b : Column). is_below (lows_along g order (low_in b.cube)) (lows_along g order (low_in a.cube)) ≡ false) (at_number columns i c c x) (at_number columns j d c y) (up i j c l (slice_get_within columns j d y)) in
       let back : is_before g order t s ≡ false =
-      ap₂ is_below (ap (key g order) f ∙ sym (lows_are_key g few d.cube good_d order all)) (ap (key g order) e ∙ sym (lows_are_key g few c.cube good_c order all)) ∙ h in
+      ap₂ is_below (ap (key g order) f ∙ sym (lows_are_key g few d.cube good_d.met order all)) (ap (key g order) e ∙ sym (lows_are_key g few c.cube good_c.met order all)) ∙ h in
       ⊎_elim
       (λ (b : is_before g order s t ≡ true). b)
       (λ (b : is_before g order s t ≡ false).
@@ -186,7 +166,7 @@ module _ (g : Graph) (few : process_count g ≤ 128) (order : List ℕ) (all : I
 
 -- entries without their whole literals, joined, and put in order
 pub merge_of : (g : Graph) → process_count g ≤ 128 → (order : List ℕ) → IsPermutation (numbers_below (process_count g)) order → (entries columns ordered : List Column) → AreMergeable g entries →
-    AreSettled g (all_shorn g.faults entries) columns → IsPermutation columns ordered → AreByLows g order ordered → IsMergeOf g order entries ordered
+    AreSettled g (all_shorn g.faults entries) columns → IsPermutation columns ordered → AreByLows (λ (c : Column). c.cube) g order ordered → IsMergeOf g order entries ordered
 merge_of g few order all entries columns ordered mergeable settled p up =
     let good = good_permuted g few columns ordered p (good_of g few columns settled.good) in
     let single = single_permuted g few columns ordered p settled.good.good.apart in

@@ -13,13 +13,13 @@ use Rattle.cpg_cube.specs.declared.literal.Literal.{Literal}
 use Rattle.cpg_cube.specs.Cube.{IsRising, matches, holds, low_in, high_in, is_whole}
 use Rattle.cpg_base.specs.Variable.{top}
 use Rattle.cpg_cube.specs.Fit.{IsCube, is_open, is_met, asked_faults, lows}
-use Rattle.cpg_cube.proofs.Ranges.{IsNarrow, range_of_literal}
+use Rattle.cpg_cube.proofs.Ranges.{IsNarrow, high_in-here, high_in-later, range_of_literal}
 use Rattle.cpg_cube.proofs.Boxes.{number_within}
 use Rattle.cpg_cube.proofs.CubeLows.{holds-from, low_in-le, met_by, lows-lawful, lows-match}
 use Rattle.cpg_cube.proofs.Within.{high_in-ge, low_in-high}
 use Rattle.cpg_table.specs.Merged.{IsWider}
 use Rattle.cpg_table.specs.Merging.{shorn, raised, TouchAt}
-use Rattle.cpg_table.proofs.MergingCubes.{high_in-here, high_in-later, shorn-low, shorn-high, raised-low, raised-high, raised-high_here, raised-rising, raised-all, raised-within}
+use Rattle.cpg_table.proofs.MergingCubes.{shorn-low, shorn-high, raised-low, raised-high, raised-high_here, raised-rising, raised-all, raised-within}
 
 -- a cube of the graph that some scenario matches, and none of whose literals is whole or goes past the whole range
 pub record IsGood (g : Graph) (literals : List Literal) : Type 0 where

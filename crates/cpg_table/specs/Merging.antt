@@ -1,11 +1,10 @@
 -- How rows are merged: columns are sorted so that those which differ in one variable alone stand side by side, and neighbours that touch are made one, variable by variable.
-use Rattle.std.specs.Prelude.{ℕ, ◌+◌, ◌≡◌, ◌≢◌, ◌<◌, ◌≤◌, ◌⊎◌, Bool, false, not, ◌&&◌, ◌||◌, ◌==◌, if◌then◌else◌, List, [], ◌∷◌, get_or, map, filter, length, Option, Some, None, AllPairs, Contains, IsPermutation}
-use Rattle.std.specs.List.{flat_map, list_any}
+use Rattle.std.specs.Prelude.{ℕ, ◌+◌, ◌≡◌, ◌≢◌, ◌<◌, ◌≤◌, ◌⊎◌, Bool, false, not, ◌&&◌, ◌||◌, ◌==◌, if◌then◌else◌, List, [], ◌∷◌, map, filter, length, Contains, IsPermutation}
+use Rattle.std.specs.List.{list_any}
 use Rattle.std.specs.declared.cmp.Ordering.{Ordering}
 use Rattle.std.specs.Ordering.{nat_cmp, ordering_then, is_eq}
 use Rattle.std.specs.Cmp.Lexicographic.{slice_cmp}
-use Rattle.cpg_base.specs.Graph.{Graph, IsVariable, value_variable, condition_of}
-use Rattle.cpg_base.specs.Numbers.{is_below}
+use Rattle.cpg_base.specs.Graph.{Graph, IsVariable}
 use Rattle.cpg_order.specs.Scenario.{Scenario, IsScenario}
 use Rattle.cpg_cube.specs.declared.literal.Literal.{Literal}
 use Rattle.cpg_cube.specs.Cube.{low_in, high_in, is_whole}
@@ -105,24 +104,3 @@ pub record AreSettled (g : Graph) (before after : List Column) : Type 0 where
   pub joins : IsJoinOf g before after
   pub good : IsShorn g after
   pub settled : (v : ℕ) → IsVariable g v → IsSettledOn g.faults v after
-
--- the low of a value, if there is a condition
-abbrev pub low_of_value : List Literal → Option ℕ → List ℕ
-low_of_value cube None = []
-low_of_value cube (Some c) = low_in cube (value_variable c) ∷ []
-
--- the low of a process's count and then the low of its value
-abbrev pub lows_of : Graph → List Literal → ℕ → List ℕ
-lows_of g cube p = low_in cube p ∷ low_of_value cube (condition_of g p)
-
--- what columns stand by: these lows along an order
-abbrev pub lows_along : Graph → List ℕ → List Literal → List ℕ
-lows_along g order cube = flat_map (lows_of g cube) order
-
--- the list has the low of each variable
-abbrev pub HasLows : List Literal → List ℕ → Type 0
-HasLows cube lows = (v : ℕ) → v < 256 → get_or lows v 0 ≡ low_in cube v
-
--- no column has its lows before those of an earlier one
-abbrev pub AreByLows : Graph → List ℕ → List Column → Type 0
-AreByLows g order columns = AllPairs (λ c d. is_below (lows_along g order d.cube) (lows_along g order c.cube) ≡ false) columns

@@ -2,7 +2,7 @@
 ghost use Rattle.std.specs.Prelude.{◌≡◌, IfOk};
 
 use cpg_base::OutOfMemory;
-use cpg_cube::Cube;
+use cpg_cube::{Cube, Cubed};
 
 /// A column of a row.
 #[derive(Drop)]
@@ -22,5 +22,13 @@ impl Entry {
             time: self.time,
             cube: self.cube.copy()?,
         })
+    }
+}
+
+impl Cubed for Entry {
+    ghost cubed = { λ entry. entry.cube };
+
+    fn cube(&self) -> &Cube {
+        &self.cube
     }
 }

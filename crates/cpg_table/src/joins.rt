@@ -3,25 +3,14 @@ ghost use Rattle.std.specs.Prelude.{◌≡◌, ◌+◌, ◌<◌, IfOk, length};
 ghost use Rattle.std.specs.List.{list_any};
 ghost use Rattle.std.specs.Cmp.Lexicographic.{slice_cmp};
 ghost use Rattle.cpg_cube.specs.Cube.{low_in, high_in, is_whole, IsRising};
-ghost use Rattle.cpg_base.specs.Variable.{top};
 ghost use Rattle.cpg_table.specs.Merging.{without, literal_cmp, beside_cmp, column_cmp, is_followed, is_any_followed, does_speak, shorn, raised, joined, walked_over, all_shorn};
 
 use crate::Entry;
-use cpg_base::OutOfMemory;
+use cpg_base::{OutOfMemory, top};
 use cpg_cube::{Cube, Literal};
 use std::alloc::Global;
 use std::cmp::Ordering;
 use std::mem;
-
-/// The variables from this one on are values of conditions.
-pub(crate) const FIRST_VALUE: u8 = 128;
-
-/// The greatest number of a variable: of a count the fault number, of a value 1.
-pub(crate) fn top_of(faults: u8, variable: u8) -> u8
-    ensures { result ≡ top faults variable }
-{
-    if variable < FIRST_VALUE { faults } else { 1 }
-}
 
 /// The least number of a variable that literals allow.
 fn low_of(literals: &[Literal], variable: u8) -> u8
@@ -44,7 +33,7 @@ fn high_of(faults: u8, literals: &[Literal], variable: u8) -> u8
             return literal.high;
         }
     }
-    top_of(faults, variable)
+    top(faults, variable)
 }
 
 /// Compares the literals on other variables.
@@ -98,7 +87,7 @@ fn is_followed(faults: u8, variable: u8, a: &Entry, b: &Entry) -> bool
 fn is_whole(faults: u8, literal: &Literal) -> bool
     ensures { result ≡ is_whole faults literal.now }
 {
-    literal.low == 0 && literal.high == top_of(faults, literal.variable)
+    literal.low == 0 && literal.high == top(faults, literal.variable)
 }
 
 /// The cube without the literals of the whole range.

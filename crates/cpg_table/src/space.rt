@@ -5,12 +5,11 @@ ghost use Rattle.cpg_table.specs.Lawful.{space_of, IsCountLiteral, IsValueLitera
 
 use crate::head::{TIME_END, condition_count};
 use crate::{Entry, Head, Row};
+use cpg_base::Variable;
 use cpg_cube::Literal;
 
 /// How many columns a row has at most.
 const MOST_COLUMNS: usize = 16_384;
-/// The variable of the first condition's value.
-const FIRST_VALUE: u32 = 128;
 
 /// The variables that there are under a head.
 #[derive(Clone, Copy, Debug)]
@@ -51,8 +50,10 @@ fn is_count(space: Space, literal: Literal) -> bool
 fn is_value(space: Space, literal: Literal) -> bool
     ensures { IsTrue result ↔ IsValueLiteral space literal }
 {
-    let variable = u32::from(literal.variable);
-    if variable < FIRST_VALUE || variable - FIRST_VALUE >= space.conditions {
+    let Variable::Value(condition) = Variable::of(literal.variable) else {
+        return false;
+    };
+    if condition >= space.conditions {
         return false;
     }
     literal.low == literal.high && literal.high <= 1

@@ -1,19 +1,19 @@
 -- Each path of a tree that fits is met by a scenario of at most k faults, and has no literal of a whole range.
-use Rattle.std.proofs.Common.{ℕ, zero, suc, Option, None, Some, IsPermutation, ◌+◌, ◌-◌, ◌<◌, ◌≤◌, ◌≡◌, ◌≢◌, ◌==◌, true, false, List, [], ◌∷◌, get_or, sum_by, Contains, arith, refl, ap, ◌∙◌, subst, inl, inr, ◌⊎◌}
+use Rattle.std.proofs.Common.{ℕ, zero, suc, Option, None, Some, IsPermutation, ◌+◌, ◌-◌, ◌<◌, ◌≤◌, ◌≡◌, ◌≢◌, ◌==◌, true, false, List, [], get_or, sum_by, Contains, arith, ap, ◌∙◌, subst, inl, inr, ◌⊎◌}
 use Rattle.std.specs.Prelude.{nat_le, All}
-use Rattle.std.proofs.lemmas.Bool.{cases_eq, cases_order, and_from, le-leb, and_parts, false_from_ne_true, eqb-true}
+use Rattle.std.proofs.lemmas.Bool.{cases_eq, and_from, le-leb, and_parts, false_from_ne_true, eqb-true}
 use Rattle.std.proofs.lemmas.List.Elements.{Contains-append_cases, Contains-get_or, All-contains}
 use Rattle.std.proofs.lemmas.List.Sorted.{All-permutation}
 use Rattle.std.proofs.lemmas.List.Sums.{sum_by_push}
 use Rattle.cpg_base.specs.Graph.{Graph, process_count, IsVariable}
 use Rattle.cpg_base.specs.Numbers.{numbers_below}
-use Rattle.cpg_base.proofs.Lists.{Contains-first, Contains-rest, Contains-cases, Contains-nil, all_from, numbers-Contains, below_push, Contains-flat_map_parts}
+use Rattle.cpg_base.proofs.Lists.{Contains-cases, Contains-nil, all_from, numbers-Contains, below_push, Contains-flat_map_parts}
 use Rattle.cpg_base.proofs.Sums.{sum_by-le_each}
 use Rattle.cpg_cube.specs.declared.literal.Literal.{Literal}
 use Rattle.cpg_cube.specs.Cube.{low_in, high_in, is_whole}
 use Rattle.cpg_base.specs.Variable.{top}
 use Rattle.cpg_cube.specs.Fit.{IsCube, IsKnown, is_open, is_met, asked_faults}
-use Rattle.cpg_cube.specs.Cover.{narrowed_by, meet_literal}
+use Rattle.cpg_cube.specs.Cover.{narrowed_by}
 use Rattle.cpg_cube.proofs.Narrow.{variables_of_narrowed}
 use Rattle.cpg_cube.proofs.Ranges.{range_of_literal}
 use Rattle.cpg_cube.proofs.CubeLows.{budget_of_cube}
