@@ -62,7 +62,7 @@ module _ (g : Graph) (order : List ℕ) (topological : IsTopological g order) wh
     executed_same : (p : ℕ) → place order p ≤ bound → executed g rows s p ≡ executed g others s p
     executed_same p h = ap (λ ls. (if (process_at g p).frozen then [] else ls) ++ number_known s p ∷ []) (received_same p h)
 
-    passed_same : (p : ℕ) → place order p ≤ bound → passed g rows s p ≡ passed g others s p
+    pub passed_same : (p : ℕ) → place order p ≤ bound → passed g rows s p ≡ passed g others s p
     passed_same p h = ap₂ (λ hs es. decided g s p ++ hs ++ (if active g s.values p then es else [])) (heard_same p h) (executed_same p h)
 
     before_same : (p : ℕ) → place order p ≤ bound → flat_map (passed g rows s) (before_on_node g order p) ≡ flat_map (passed g others s) (before_on_node g order p)
@@ -75,7 +75,7 @@ module _ (g : Graph) (order : List ℕ) (topological : IsTopological g order) wh
     pub end_same : (p : ℕ) → place order p ≤ bound → carried_at_end g order rows s p ≡ carried_at_end g order others s p
     end_same p h = ap (λ ls. ls ++ number_known s p ∷ []) (start_same p h)
 
-    queued_same : (y : ℕ) → place order (producer g y) ≤ bound → queued g order rows s y ≡ queued g order others s y
+    pub queued_same : (y : ℕ) → place order (producer g y) ≤ bound → queued g order rows s y ≡ queued g order others s y
     queued_same y h = ap (λ ls. decided g s (producer g y) ++ (if active g s.values (producer g y) then sent_by_value g s y else [])
         ++ (if item_active g s.values (item_at g y) && not (is_frozen g y) then ls else [])) (end_same (producer g y) h)
 

@@ -14,7 +14,8 @@ use Rattle.cpg_run.proofs.RunExists.{the_run, run_exists}
 use Rattle.cpg_run.specs.Known.{AreEarly}
 use Rattle.cpg_run.specs.FrozenItems.{frozen_along}
 use Rattle.cpg_run.specs.Latest.{IsUnfrozenTime}
-use Rattle.cpg_run.proofs.EarlyTimes.{bound, AreLow, unfrozen_low, early_from_low}
+use Rattle.cpg_run.proofs.EarlyTimes.{early_from_low}
+use Rattle.cpg_run.proofs.Rising.{bound, AreLow, unfrozen_low}
 use Rattle.cpg_run.proofs.FrozenOrder.{later_moment, frozen_listed, lists_frozen}
 
 none_frozen : (g : Graph) (x : ℕ) → get_or (nothing_frozen g) x None ≡ None
@@ -29,7 +30,7 @@ pub record AreSettled (g : Graph) (order items : List ℕ) (n : ℕ) (frozen : L
   pub count : length frozen ≡ item_count g
   pub each : (i : ℕ) → i < n → IsFrozenTime g order frozen (get_or items i 0)
   pub others : (x : ℕ) → ((i : ℕ) → i < n → get_or items i 0 ≢ x) → get_or frozen x None ≡ None
-  pub low : AreLow g order frozen
+  pub low : AreLow 0 g order frozen
 
 module _ (g : Graph) (order : List ℕ) (topological : IsTopological g order) where
   -- two lists of frozen times agree before an item
@@ -116,8 +117,8 @@ module _ (g : Graph) (order : List ℕ) (topological : IsTopological g order) wh
               low = λ y time w e. elim (cases_eq y x) [
                 | inl at ↦
                     let r = is.reached time (ap (λ z. get_or more z None) (sym at) ∙ e) in
-                    subst (λ z. time ≤ bound (moment g order z) + 32000000000) (sym at)
-                    (omega (arith, r.has, unfrozen_low g order frozen r.scenario r.times within topological r.lawful a.low r.run x h))
+                    subst (λ z. time ≤ bound 0 (moment g order z) + 32000000000) (sym at)
+                    (omega (arith, r.has, unfrozen_low 0 g order frozen r.scenario r.times within topological r.lawful a.low r.run x h))
                 | inr apart ↦ a.low.low y time w (sym (same y apart) ∙ e)
               ];
             };

@@ -1,160 +1,34 @@
--- The times of a run stay small: with each moment they rise by an execution and two rounds at most above the latest frozen time.
-use Rattle.std.proofs.Common.{◌≡◌, ◌∙◌, ℕ, zero, suc, ◌+◌, ◌-◌, ◌*◌, ◌^◌, ◌<◌, ◌≤◌, ◌==◌, List, [], ◌∷◌, ◌++◌, length, get_or, flat_map, Contains, Option, Some, None, option_to_list, option_map, unwrap_or, arith, refl, sym, ap, inl, inr, subst}
-use Rattle.std.proofs.lemmas.Bool.{cases_Bool, cases_lt, cond-true, cond-false}
-use Rattle.std.proofs.lemmas.Grind.{div_ceil_times}
+-- The times of a run stay small where the frozen times are early.
+use Rattle.std.proofs.Common.{◌≡◌, ◌∙◌, ℕ, ◌^◌, List, length, get_or, Option, None, unwrap_or, arith, ap, inl, inr}
+use Rattle.std.proofs.lemmas.Bool.{cases_lt}
 use Rattle.std.proofs.lemmas.List.{get_or_past}
-use Rattle.std.proofs.lemmas.List.Sums.{get_or-le-sum_by, sum_by-take-le}
-use Rattle.std.proofs.Math.Nat.{mul-le-mul}
 use Rattle.std.proofs.lemmas.List.FromFn.{length-map-range_with_len}
-use Rattle.std.specs.Int.{div_ceil}
-use Rattle.cpg_base.specs.Numbers.{numbers_below, greatest}
-use Rattle.cpg_base.specs.declared.process.Slot.{Slot}
-use Rattle.cpg_base.specs.Graph.{Graph, process_count, condition_count, item_count, message_item, broadcast_item, item_at, producer, process_of, process_at, node_of, home, source, inputs, is_message}
-use Rattle.cpg_base.specs.Activity.{item_active}
-use Rattle.cpg_base.specs.Bus.{round, offset, slot_place, slot_length, next_slot}
-use Rattle.cpg_base.specs.Duration.{duration}
+use Rattle.cpg_base.specs.Graph.{Graph, process_count, item_count}
 use Rattle.cpg_base.specs.Limits.{IsWithinLimits}
 use Rattle.cpg_base.specs.Scenario.{IsScenario}
-use Rattle.cpg_base.proofs.Bounds.{round-le, duration-le, slot_length-le}
-use Rattle.cpg_base.proofs.Inputs.{inputs_parts}
-use Rattle.cpg_base.proofs.Items.{item_cases, ItemCases, process_of_below}
-use Rattle.cpg_base.proofs.Lists.{greatest-cons, Contains-filter_parts, Contains-flat_map_parts, numbers-Contains}
-use Rattle.cpg_order.specs.Urgency.{IsTopological, place, before, before_on_node}
-use Rattle.cpg_order.specs.Deciding.{decides, deciding}
-use Rattle.cpg_order.specs.Queue.{is_queued_before, rank_of_item}
-use Rattle.cpg_order.specs.Scenario.{Scenario, fault_of}
-use Rattle.cpg_order.proofs.Acyclic.{input_goes_up, source_in_order}
-use Rattle.cpg_order.proofs.DecidingLaws.{decides_earlier}
-use Rattle.cpg_order.proofs.Moments.{phase, phases, moment, moment_of_end, moment_of_start, moment_before_last, end_before_last, last, message_sooner, broadcast_sooner, end_sooner, queued_sooner, producer_in_range}
-use Rattle.cpg_order.proofs.Places.{from_order, not_later, on_node_before}
-use Rattle.cpg_run.specs.Run.{Times, IsRun, time_in, end_in, frame_there, input_there, heard_there, bounds_of_item, unfrozen_time, start_bounds, send_bounds, time_by, end_by}
-use Rattle.cpg_run.proofs.Runs.{time_is, time_in_active, end_is}
+use Rattle.cpg_order.specs.Urgency.{IsTopological}
+use Rattle.cpg_order.specs.Scenario.{Scenario}
+use Rattle.cpg_order.proofs.Moments.{moment_before_last, end_before_last, last}
+use Rattle.cpg_run.specs.Run.{Times, IsRun, time_in, end_in, time_by, end_by}
 use Rattle.cpg_run.specs.Known.{AreEarly, AreSmall}
-use Rattle.cpg_run.proofs.Bounded.{start_bounds_le, send_bounds_le}
+use Rattle.cpg_run.proofs.Rising.{AreLow, SmallBefore, small_before, last_le}
 
--- over plain numbers
-times_le : (away turn : ℕ) → div_ceil away turn * turn ≤ away + turn
-times_le away turn = elim (cases_lt 0 turn) [
-  | inl l ↦ let r = (div_ceil_times away turn l).1 in omega arith
-  | inr l ↦ let e : turn ≡ 0 = omega arith in subst (λ n. div_ceil away n * n ≤ away + n) (sym e) (let z : div_ceil away 0 * 0 ≡ 0 = omega arith in omega arith)
-]
+module _ (g : Graph) (order : List ℕ) (frozen : List (Option ℕ)) (s : Scenario) (t : Times) (within : IsWithinLimits g) (topological : IsTopological g order) (lawful : IsScenario g s) (early : AreEarly frozen) (run : IsRun g order frozen s t) where
+  low : AreLow (2 ^ 58) g order frozen
+  low = record { low = λ x time l e. omega (arith, early x time e) }
 
--- the next slot is no more than two rounds away
-pub next_slot-le : (g : Graph) (node time : ℕ) → next_slot g node time ≤ time + 2 * round g
-next_slot-le g node time =
-    let inside : offset g node ≤ round g = sum_by-take-le (λ (s : Slot). s.length) g.slots (slot_place g node) in
-    omega (arith, times_le (time - offset g node) (round g))
+  at_last : SmallBefore (2 ^ 58) g order frozen s t (last g)
+  at_last = small_before (2 ^ 58) g order frozen s t within topological lawful low run (last g)
 
-frozen_le : (o : Option ℕ) → ((time : ℕ) → o ≡ Some time → time < 2 ^ 58) → greatest (option_to_list o) ≤ 2 ^ 58
-frozen_le None h = omega arith
-frozen_le (Some time) h = let l = h time refl in omega (arith, greatest-cons time [])
-
-abbrev bound : ℕ → ℕ
-bound m = 2 ^ 58 + m * 700000000000
-
-module _ (g : Graph) (order : List ℕ) (frozen : List (Option ℕ)) (s : Scenario) (t : Times) where
-  -- what is settled before a moment is small
-  record SmallBefore (m : ℕ) : Type 0 where
-    items : (x : ℕ) → x < item_count g → moment g order x < m → time_in t x ≤ bound m
-    ends : (p : ℕ) → p < process_count g → moment_of_end g order p < m → end_in t p ≤ bound m
-
-  module _ (within : IsWithinLimits g) (topological : IsTopological g order) (lawful : IsScenario g s) (early : AreEarly frozen) (run : IsRun g order frozen s t) where
-    frame_le : (m x : ℕ) → SmallBefore m → x < item_count g → moment g order x < m → frame_there g t x ≤ bound m + 16000000000
-    frame_le m x a l h = omega (arith, a.items x l h, slot_length-le g (home g x), round-le g within)
-
-    module _ (m p : ℕ) (a : SmallBefore m) (at : place order p * phases g ≤ m) where
-      input_le : (e : ℕ) → Contains (inputs g p) e → input_there g t e ≤ bound m + 16000000000
-      input_le e c =
-          let h = (inputs_parts g p e c).0 in
-          let up = input_goes_up g order topological p e c in
-          elim (cases_Bool (is_message g e)) [
-            | inl is ↦ subst (λ n. n ≤ bound m + 16000000000) (sym (cond-true _ _ _ is)) (frame_le m (message_item g e) a (omega arith) (omega (arith, message_sooner g order topological p e h up)))
-            | inr is ↦ subst (λ n. n ≤ bound m + 16000000000) (sym (cond-false _ _ _ is))
-                (omega (arith, a.ends (source g e) (source_in_order g order topological e h) (omega (arith, end_sooner g order topological p (source g e) up))))
-          ]
-
-      ended_le : (q : ℕ) → Contains (before_on_node g order p) q → end_in t q ≤ bound m + 16000000000
-      ended_le q c =
-          let b = on_node_before g order p q c in
-          omega (arith, a.ends q (from_order (process_count g) order topological.all q b.0) (omega (arith, end_sooner g order topological p q b.1)))
-
-      heard_le : (c : ℕ) → Contains (flat_map (deciding g s.values) (before_on_node g order p ++ p ∷ [])) c → heard_there g t (node_of g p) c ≤ bound m + 16000000000
-      heard_le c d =
-          let q = Contains-flat_map_parts (deciding g s.values) (before_on_node g order p ++ p ∷ []) c d in
-          let r = Contains-filter_parts (decides g s.values q.0) (numbers_below (condition_count g)) c q.2 in
-          let h = numbers-Contains (condition_count g) c r.0 in
-          let l = not_later g order p q.0 q.1 in
-          let up : place order (process_of g c) < place order p = omega (arith, decides_earlier g order topological s.values q.0 c h r.1) in
-          elim (cases_Bool (node_of g (process_of g c) == node_of g p)) [
-            | inl is ↦ subst (λ n. n ≤ bound m + 16000000000) (sym (cond-true _ _ _ is))
-                (omega (arith, a.ends (process_of g c) (process_of_below g c h) (omega (arith, end_sooner g order topological p (process_of g c) up))))
-            | inr is ↦ subst (λ n. n ≤ bound m + 16000000000) (sym (cond-false _ _ _ is))
-                (frame_le m (broadcast_item g c) a (omega arith) (omega (arith, broadcast_sooner g order topological p c up)))
-          ]
-
-      start_le : p < process_count g → greatest (start_bounds g order s t p) ≤ bound m + 16000000000
-      start_le l =
-          let release : (process_at g p).release ≤ 1000000000 = (within.processes p _ l).release in
-          start_bounds_le g order s t p (bound m + 16000000000) (omega arith) (λ e c k. input_le e c) (λ q c k. ended_le q c) heard_le
-
-    send_le : (m x : ℕ) → SmallBefore m → moment g order x ≤ m → x < item_count g → phase (item_at g x) ≡ rank_of_item (item_at g x) + 2 → greatest (send_bounds g order s t x) ≤ bound m + 32000000000
-    send_le m x a before l sends = send_bounds_le g order s t x (bound m + 32000000000)
-        (omega (arith, next_slot-le g (home g x) (end_in t (producer g x)), round-le g within, a.ends (producer g x) (producer_in_range g order topological x l) (omega arith)))
-        (λ y c active.
-        let q = Contains-filter_parts (λ (z : ℕ). is_queued_before g order z x) (numbers_below (item_count g)) y c in
-        let k = numbers-Contains (item_count g) y q.0 in
-        omega (arith, round-le g within, a.items y k (omega (arith, queued_sooner g order topological y x k sends q.1))))
-
-    unfrozen_le : (m x : ℕ) → SmallBefore m → moment g order x ≤ m → x < item_count g → ItemCases g x → unfrozen_time g order s t x ≤ bound m + 32000000000
-    unfrozen_le m x a before l (inl c) = subst (λ i. greatest (bounds_of_item g order s t x i) ≤ bound m + 32000000000) (sym c.1)
-        (omega (arith, start_le m x a (omega (arith, moment_of_start g order topological x c.0)) c.0))
-    unfrozen_le m x a before l (inr (inl c)) = subst (λ i. greatest (bounds_of_item g order s t x i) ≤ bound m + 32000000000) (sym c.3)
-        (send_le m x a before l (subst (λ i. phase i ≡ rank_of_item i + 2) (sym c.3) (let r : c.0 + 3 ≡ c.0 + 1 + 2 = omega arith in r)))
-    unfrozen_le m x a before l (inr (inr c)) = subst (λ i. greatest (bounds_of_item g order s t x i) ≤ bound m + 32000000000) (sym c.3)
-        (send_le m x a before l (subst (λ i. phase i ≡ rank_of_item i + 2) (sym c.3) (let r : 2 ≡ 0 + 2 = omega arith in r)))
-
-    time_le : (x b : ℕ) → x < item_count g → unfrozen_time g order s t x ≤ b → 2 ^ 58 ≤ b → time_in t x ≤ b
-    time_le x b l h k = elim (cases_Bool (item_active g s.values (item_at g x))) [
-      | inl a ↦ omega (arith, time_in_active g order frozen s t run x l a, greatest-cons (unfrozen_time g order s t x) (option_to_list (get_or frozen x None)), frozen_le (get_or frozen x None) (early x))
-      | inr a ↦ let e : time_in t x ≡ 0 = ap (λ o. unwrap_or o 0) (time_is g order frozen s t run x l ∙ cond-false _ _ _ a) in omega arith
-    ]
-
-    end_from : (o : Option ℕ) (d b : ℕ) → unwrap_or o 0 ≤ b → unwrap_or (option_map (λ start. start + d) o) 0 ≤ b + d
-    end_from None d b h = omega arith
-    end_from (Some n) d b h = omega arith
-
-    fault_le : (p : ℕ) → p < process_count g → fault_of s p ≤ 8
-    fault_le p l = omega (arith, get_or-le-sum_by (λ (n : ℕ). n) s.faults p 0 (omega (arith, lawful.faults)), lawful.budget, within.faults)
-
-    end_le : (p b : ℕ) → p < process_count g → time_in t p ≤ b → end_in t p ≤ b + 600000000000
-    end_le p b l h =
-        let e : end_in t p ≡ unwrap_or (end_by g s t p) 0 = ap (λ o. unwrap_or o 0) (end_is g order frozen s t run p l) in
-        omega (arith, end_from (get_or t.times p None) (duration g p (fault_of s p)) b h, duration-le g p (fault_of s p) within l (fault_le p l))
-
-    small_before : (m : ℕ) → SmallBefore m
-    small_before zero = record { items = λ x l h. absurd (omega arith); ends = λ p l h. absurd (omega arith) }
-    small_before (suc m) =
-        let a = small_before m in
-        record {
-          items = λ x l h. omega (arith, time_le x (bound m + 32000000000) l (unfrozen_le m x a (omega arith) l (item_cases g x l)) (omega arith));
-          ends = λ p l h. omega (arith, end_le p (bound m) l (a.items p (omega arith) (omega (arith, moment_of_start g order topological p l))));
-        }
-
-    last_le : last g ≤ 128 * 259
-    last_le = product (process_count g) (phases g) within.few_processes (omega (arith, within.few_edges))
-      where
-        product : (a b : ℕ) → a ≤ 128 → b ≤ 259 → a * b ≤ 128 * 259
-        product a b h k = mul-le-mul h k
-
-    -- each time and each end of a run is small
-    pub run_small : AreSmall t
-    run_small = record {
-      times = λ x. elim (cases_lt x (item_count g)) [
-        | inl l ↦ omega (arith, (small_before (last g)).items x l (moment_before_last g order topological x l), last_le)
-        | inr l ↦ let e : time_in t x ≡ 0 = ap (λ o. unwrap_or o 0) (get_or_past t.times x None (omega (arith, ap length run.times, length-map-range_with_len (time_by g order frozen s t) 0 (item_count g)))) in omega arith
-      ];
-      ends = λ p. elim (cases_lt p (process_count g)) [
-        | inl l ↦ omega (arith, (small_before (last g)).ends p l (end_before_last g order topological p l), last_le)
-        | inr l ↦ let e : end_in t p ≡ 0 = ap (λ o. unwrap_or o 0) (get_or_past t.ends p None (omega (arith, ap length run.ends, length-map-range_with_len (end_by g s t) 0 (process_count g)))) in omega arith
-      ];
-    }
+  -- each time and each end of a run is small
+  pub run_small : AreSmall t
+  run_small = record {
+    times = λ x. elim (cases_lt x (item_count g)) [
+      | inl l ↦ omega (arith, at_last.items x l (moment_before_last g order topological x l), last_le g within)
+      | inr l ↦ let e : time_in t x ≡ 0 = ap (λ o. unwrap_or o 0) (get_or_past t.times x None (omega (arith, ap length run.times, length-map-range_with_len (time_by g order frozen s t) 0 (item_count g)))) in omega arith
+    ];
+    ends = λ p. elim (cases_lt p (process_count g)) [
+      | inl l ↦ omega (arith, at_last.ends p l (end_before_last g order topological p l), last_le g within)
+      | inr l ↦ let e : end_in t p ≡ 0 = ap (λ o. unwrap_or o 0) (get_or_past t.ends p None (omega (arith, ap length run.ends, length-map-range_with_len (end_by g s t) 0 (process_count g)))) in omega arith
+    ];
+  }
