@@ -23,57 +23,25 @@ use Rattle.cpg_list.specs.Learning.{IsSentValue, IsEndOf, Within, send_after, qu
 use Rattle.cpg_list.specs.Narrowing.{IsNarrowed}
 use Rattle.cpg_list.proofs.CodeCubes.{narrowed_none, narrowed_same}
 
--- ---- the edge of an item
+-- ---- an item that a process sends
 
 module _ (g : Graph) (p x : ℕ) (queued : Contains (queue_of g p) x) where
-  pub edge_none : process_count g + edge_count g ≤ x → (is_frozen g x ≡ false) × (sent_value g (item_at g x) ≡ [])
-  edge_none late = let q = in_queue g p x queued in elim (item_cases g x q.within) [
-    | inl c ↦ absurd (omega (arith, c.0, q.above))
-    | inr (inl c) ↦ absurd (omega (arith, c.1, c.2))
-    | inr (inr c) ↦ (ap (is_frozen_item g) c.3, ap (sent_value g) c.3)
-  ]
-
-  pub edge_some : x < process_count g + edge_count g → (x - process_count g < edge_count g) × (item_at g x ≡ Message (x - process_count g)) × (source g (x - process_count g) ≡ p) × (is_message g (x - process_count g) ≡ true)
-  edge_some early = let q = in_queue g p x queued in elim (item_cases g x q.within) [
-    | inl c ↦ absurd (omega (arith, c.0, q.above))
-    | inr (inl c) ↦
-        let e : c.0 ≡ x - process_count g = omega (arith, c.2) in
-        (omega (arith, c.1, c.2), c.3 ∙ ap Message e, ap (source g) (sym e) ∙ ap (producer_of_item g) (sym c.3) ∙ q.by, ap (is_message g) (sym e) ∙ ap (is_sent_item g) (sym c.3) ∙ q.sent)
-    | inr (inr c) ↦ absurd (omega (arith, c.2))
-  ]
-
-  pub queue_above : process_count g ≤ x
-  queue_above = (in_queue g p x queued).above
-
   pub queue_within : x < item_count g
   queue_within = (in_queue g p x queued).within
 
   pub queue_by : producer g x ≡ p
   queue_by = (in_queue g p x queued).by
 
-pub frozen_message : (g : Graph) (x e : ℕ) → item_at g x ≡ Message e → is_message g e ≡ true → is_frozen g x ≡ (edge_at g e).frozen
-frozen_message g x e at on = ap (is_frozen_item g) at ∙ ap (λ b. b && (edge_at g e).frozen) on
-
 -- ---- the value that decides whether it is sent
 
-pub value_none : (g : Graph) (x e : ℕ) → item_at g x ≡ Message e → is_some (edge_at g e).when ≡ false → sent_value g (item_at g x) ≡ []
-value_none g x e at off = ap (sent_value g) at ∙ cond-false _ _ _ off
-
-pub value_some : (g : Graph) (x e p : ℕ) → item_at g x ≡ Message e → source g e ≡ p → is_some (edge_at g e).when ≡ true → (o : Option ℕ) → condition_of g p ≡ o → IsSentValue g x o
-value_some g x e p at from on o is =
+pub value_of : (g : Graph) (x e p : ℕ) → item_at g x ≡ Message e → source g e ≡ p → is_some (edge_at g e).when ≡ true → (o : Option ℕ) → condition_of g p ≡ o → IsSentValue g x o
+value_of g x e p at from on o is =
     let v : sent_value g (item_at g x) ≡ map value_variable (option_to_list o) = ap (sent_value g) at ∙ cond-true _ _ _ on ∙ ap (λ q. map value_variable (option_to_list (condition_of g q))) from ∙ ap (λ r. map value_variable (option_to_list r)) is in
     by_option o is v
   where
     by_option : (o : Option ℕ) → condition_of g p ≡ o → sent_value g (item_at g x) ≡ map value_variable (option_to_list o) → IsSentValue g x o
     by_option None is v = v
     by_option (Some c) is v = (condition_of_below g p c is, v)
-
-module _ (k : ℕ) (g : Graph) (s : Scenario) (x : ℕ) (a b : List Literal) where
-  pub sent_none : sent_value g (item_at g x) ≡ [] → IsNarrowed k (sent_by_value g s x) a a
-  sent_none e = subst (λ vs. IsNarrowed k (map (number_known s) vs) a a) (sym e) (narrowed_none k a)
-
-  pub sent_some : (c : ℕ) → sent_value g (item_at g x) ≡ value_variable c ∷ [] → IsNarrowed k (number_known s (value_variable c) ∷ []) a b → IsNarrowed k (sent_by_value g s x) a b
-  sent_some c e is = subst (λ vs. IsNarrowed k (map (number_known s) vs) a b) (sym e) is
 
 -- ---- what it leaves in the queue
 

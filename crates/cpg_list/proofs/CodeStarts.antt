@@ -6,7 +6,7 @@ use Rattle.std.proofs.lemmas.List.{append-nil, take_more, get_or_default}
 use Rattle.std.proofs.Math.ListN.{get_or-append}
 use Rattle.std.proofs.Math.Seq.{get_or-append_seam}
 use Rattle.cpg_base.specs.Numbers.{greatest}
-use Rattle.cpg_base.specs.Graph.{Graph, process_count, item_count, process_at, item_at}
+use Rattle.cpg_base.specs.Graph.{Graph, process_count, item_count, process_at, item_at, is_frozen, is_frozen_item}
 use Rattle.cpg_base.specs.Activity.{active, item_active}
 use Rattle.cpg_base.proofs.Items.{item_at-start}
 use Rattle.cpg_list.specs.Listing.{AreScenarios}
@@ -40,15 +40,12 @@ from_whole k literals whole cube e n = n.by [] (subst (IsCubeOf k []) (sym e) (w
 
 -- ---- one start
 
-module _ (g : Graph) (rows : List (List Column)) (s : Scenario) (p : ℕ) where
-  pub start_frozen : (earlier : List Literal) → (process_at g p).frozen ≡ true → start_after g rows s p earlier ≡ decided g s p
-  start_frozen earlier e = cond-true _ _ _ e
+pub frozen_start : (g : Graph) (p : ℕ) → p < process_count g → is_frozen g p ≡ (process_at g p).frozen
+frozen_start g p l = ap (is_frozen_item g) (item_at-start g p l)
 
+module _ (g : Graph) (rows : List (List Column)) (s : Scenario) (p : ℕ) where
   pub start_plain : (earlier : List Literal) → (process_at g p).frozen ≡ false → start_after g rows s p earlier ≡ earlier ++ decided g s p ++ heard g rows s p ++ received g rows s p
   start_plain earlier e = cond-false _ _ _ e
-
-  pub received_frozen : (process_at g p).frozen ≡ true → received_unless_frozen g rows s p ≡ []
-  received_frozen e = cond-true _ _ _ e
 
   pub received_plain : (process_at g p).frozen ≡ false → received_unless_frozen g rows s p ≡ received g rows s p
   received_plain e = cond-false _ _ _ e

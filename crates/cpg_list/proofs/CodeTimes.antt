@@ -38,15 +38,6 @@ module _ (columns : List Column) (by_time : List Timed) (is : IsTimeOrder column
   missed_time x f l read other = missed (λ i d m n e.
       other (omega (arith, ap (λ (y : Timed). y.time) read, is.rising at i x m n, starts.after at x f l, ap (λ (y : Timed). y.time) (get_or_default by_time i x d n), e)))
 
--- ---- the first place of a time, by halves
-
-module _ (by_time : List Timed) (rising : (i j : ℕ) (d : Timed) → i ≤ j → j < length by_time → (get_or by_time i d).time ≤ (get_or by_time j d).time) (time m : ℕ) (x : Timed) (l : m < length by_time) where
-  pub below_half : (get_or by_time m x).time < time → (i : ℕ) (d : Timed) → i < m + 1 → (get_or by_time i d).time < time
-  below_half h i d k = omega (arith, rising i m d (omega (arith, k)) l, ap (λ (y : Timed). y.time) (get_or_default by_time m x d l), h)
-
-  pub above_half : time ≤ (get_or by_time m x).time → (i : ℕ) (d : Timed) → m ≤ i → i < length by_time → time ≤ (get_or by_time i d).time
-  above_half h i d k n = omega (arith, rising m i d k n, ap (λ (y : Timed). y.time) (get_or_default by_time m x d l), h)
-
 -- ---- the times of columns, sorted
 
 -- each of the first n columns has its time and place

@@ -68,18 +68,3 @@ module _ (xs ys : List ℕ) (to : (x : ℕ) → Contains xs x → Contains ys x)
 
   pub within_flat_map : (f : ℕ → List Literal) → Within (flat_map f xs) (flat_map f ys)
   within_flat_map f l j = let r = Contains-flat_map_parts f xs l j in Contains-flat_map f ys r.0 l (to r.0 r.1) r.2
-
--- ---- what is heard of a condition, and received by an edge
-
-module _ (k : ℕ) (g : Graph) (rows : List (List Column)) (s : Scenario) (a b : List Literal) where
-  pub heard_own : (node c : ℕ) → node_of g (process_of g c) ≡ node → IsNarrowed k (heard_of g rows s node c) a a
-  heard_own node c e = subst (λ ls. IsNarrowed k ls a a) (sym (cond-true _ _ _ (eq-eqb (node_of g (process_of g c)) node e))) (narrowed_none k a)
-
-  pub heard_other : (node c : ℕ) → node_of g (process_of g c) ≢ node → IsNarrowed k (told_by rows s (broadcast_item g c)) a b → IsNarrowed k (heard_of g rows s node c) a b
-  heard_other node c n is = subst (λ ls. IsNarrowed k ls a b) (sym (cond-false _ _ _ (ne_eqb (node_of g (process_of g c)) node n))) is
-
-  pub received_none : (e : ℕ) → is_message g e ≡ false → IsNarrowed k (received_by g rows s e) a a
-  received_none e off = subst (λ ls. IsNarrowed k ls a a) (sym (cond-false _ _ _ off)) (narrowed_none k a)
-
-  pub received_message : (e : ℕ) → is_message g e ≡ true → IsNarrowed k (told_by rows s (message_item g e)) a b → IsNarrowed k (received_by g rows s e) a b
-  received_message e on is = subst (λ ls. IsNarrowed k ls a b) (sym (cond-true _ _ _ on)) is

@@ -4,6 +4,7 @@ use Rattle.std.proofs.lemmas.Bool.{cases_lt, cond-true, cond-false, and_from, or
 use Rattle.std.proofs.lemmas.List.{length-map, get_or-map, get_or_past}
 use Rattle.std.proofs.lemmas.List.Elements.{All-contains, All-from_get_or, Contains-get_or}
 use Rattle.cpg_base.specs.Numbers.{numbers_below}
+use Rattle.cpg_base.specs.declared.limits.TheConstants.{MOST_COLUMNS, MOST_LOAD}
 use Rattle.cpg_base.specs.Graph.{Graph, process_count, item_count, item_at, is_sent, is_sent_item, process_of}
 use Rattle.cpg_base.specs.declared.item.Item.TheVariants.{Message}
 use Rattle.cpg_base.specs.Activity.{item_active, live, active}
@@ -219,7 +220,7 @@ module _ (g : Graph) (within : IsWithinLimits g) (urgency order : List ℕ) (adm
           ]
         ])
 
-    row_few : (x : ℕ) → x < item_count g → length (row_for rows x).columns ≤ 16384
+    row_few : (x : ℕ) → x < item_count g → length (row_for rows x).columns ≤ MOST_COLUMNS
     row_few x l = elim (cases_lt 0 (rows_of_item g (item_at g x))) [
       | inl some ↦ elim (cases_lt most_views (views g (reach_of reach x))) [
         | inl many ↦ absurd (narrow x (wide_by_views x l some many))
@@ -228,7 +229,7 @@ module _ (g : Graph) (within : IsWithinLimits g) (urgency order : List ℕ) (adm
       | inr none ↦ let none_here = rowless x (item_cases g x l) none in omega (arith, ap length (unsent_row x none_here.0 l none_here.1))
     ]
 
-    loads : sum_by (λ x. length (row_for rows x).columns * rows_of_item g (item_at g x)) (numbers_below (item_count g)) ≤ 524288
+    loads : sum_by (λ x. length (row_for rows x).columns * rows_of_item g (item_at g x)) (numbers_below (item_count g)) ≤ MOST_LOAD
     loads = omega (
       arith,
       loads_few (item_count g) (omega arith),
@@ -241,7 +242,7 @@ module _ (g : Graph) (within : IsWithinLimits g) (urgency order : List ℕ) (adm
       items = is.items;
       lawful = All-from_get_or (λ (row : Row). All (IsWritable g) row.columns) rows no_row
           (λ x l d i h. let m : x < item_count g = omega (arith, l, long) in column_writable x m _ (Contains-get_or (row_for rows x).columns _ _ h));
-      few = All-from_get_or (λ (row : Row). length row.columns ≤ 16384) rows no_row (λ x l. row_few x (omega (arith, l, long)));
+      few = All-from_get_or (λ (row : Row). length row.columns ≤ MOST_COLUMNS) rows no_row (λ x l. row_few x (omega (arith, l, long)));
       loads = loads;
       unsent = unsent_row;
     }

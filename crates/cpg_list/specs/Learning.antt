@@ -1,8 +1,7 @@
 -- What a cube is narrowed by in a scenario: what frames tell, and what decides a process.
 use Rattle.std.specs.Prelude.{ℕ, ◌≡◌, ◌<◌, ◌==◌, ◌&&◌, ◌++◌, not, false, true, is_some, if◌then◌else◌, List, [], ◌∷◌, Option, None, Some, length, get_or, Contains}
 use Rattle.std.specs.Option.{option_to_list}
-use Rattle.cpg_base.specs.Graph.{Graph, source, edge_count, condition_count, value_variable, item_count, item_at, node_of, producer, process_at, process_of, is_frozen, is_message, message_item, broadcast_item}
-use Rattle.cpg_base.specs.declared.item.Item.TheVariants.{Message}
+use Rattle.cpg_base.specs.Graph.{Graph, condition_count, value_variable, item_count, item_at, node_of, producer, process_at, process_of, is_frozen, is_message, message_item, broadcast_item}
 use Rattle.cpg_base.specs.Activity.{active, item_active}
 use Rattle.cpg_order.specs.Deciding.{deciding}
 use Rattle.cpg_order.specs.Reach.{sent_value}
@@ -59,11 +58,6 @@ received_unless_frozen g rows s p = if (process_at g p).frozen then [] else rece
 -- an item has a time exactly where it is active
 abbrev pub IsTimedIfActive : Graph → Scenario → Times → ℕ → Type 0
 IsTimedIfActive g s t x = is_some (get_or t.times x None) ≡ item_active g s.values (item_at g x)
-
--- the edge of an item that a process sends, or None for its broadcast
-abbrev pub IsEdgeOf : Graph → ℕ → ℕ → Option ℕ → Type 0
-IsEdgeOf g p x None = (is_frozen g x ≡ false) × (sent_value g (item_at g x) ≡ [])
-IsEdgeOf g p x (Some e) = (e < edge_count g) × (item_at g x ≡ Message e) × (source g e ≡ p) × (is_message g e ≡ true)
 
 -- the condition whose value decides whether an item is sent, if there is one
 abbrev pub IsSentValue : Graph → ℕ → Option ℕ → Type 0

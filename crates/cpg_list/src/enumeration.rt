@@ -6,6 +6,7 @@ ghost use Rattle.cpg_base.specs.Scenario.{IsScenario};
 ghost use Rattle.cpg_order.specs.Scenario.{scenarios};
 ghost use Rattle.cpg_list.specs.Listing.{AreScenarios, HasValue, with_each_fault, with_both, with_faults_below, with_values_below};
 
+use crate::few::MOST_SCENARIOS;
 use cpg_base::{OutOfMemory, Problem, Scenario};
 use std::alloc::Global;
 
@@ -95,7 +96,7 @@ fn faulty(alloc: Global, problem: &Problem) -> Result<Vec<Scenario>, OutOfMemory
 
 /// The scenarios of a graph of at most 16,384, each of them and no other.
 pub fn scenarios(alloc: Global, problem: &Problem) -> Result<Vec<Scenario>, OutOfMemory>
-    requires { length (scenarios problem.now) ≤ 16384 }
+    requires { length (scenarios problem.now) ≤ MOST_SCENARIOS }
     ensures { IfOk result (λ list. AreScenarios problem.now list.items) }
 {
     let mut list = faulty(alloc, problem)?;

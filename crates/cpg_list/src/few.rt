@@ -3,19 +3,19 @@ ghost use Rattle.std.specs.Prelude.{◌≡◌, ◌≤◌, ◌↔◌, IsTrue, len
 ghost use Rattle.cpg_order.specs.Counting.{ways};
 ghost use Rattle.cpg_order.specs.Scenario.{scenarios};
 
-use cpg_base::Problem;
+use cpg_base::{MOST_FAULTS, MOST_PROCESSES, Problem};
 
 /// The most scenarios of a graph that are gone over one by one.
-const MOST_SCENARIOS: u64 = 16_384;
+pub const MOST_SCENARIOS: u64 = 16_384;
 
 /// Each condition doubles the scenarios, so more conditions make too many.
-const MOST_CONDITIONS: u32 = 14;
+const MOST_DOUBLINGS: u32 = 14;
 
 /// In how many ways counts of faults add up to at most so many faults: the binomial coefficient of both together over
 /// the faults.
 fn ways(counts: u64, faults: u8) -> u64
-    requires counts { counts ≤ 128 }
-    requires faults { faults ≤ 8 }
+    requires counts { counts ≤ MOST_PROCESSES }
+    requires faults { faults ≤ MOST_FAULTS }
     ensures { result ≡ ways counts faults }
 {
     let mut ways = 1u64;
@@ -27,10 +27,10 @@ fn ways(counts: u64, faults: u8) -> u64
 
 /// Whether a graph has at most 16,384 scenarios.
 pub fn has_few_scenarios(problem: &Problem) -> bool
-    ensures { IsTrue result ↔ (length (scenarios problem.now) ≤ 16384) }
+    ensures { IsTrue result ↔ (length (scenarios problem.now) ≤ MOST_SCENARIOS) }
 {
     let conditions = problem.conditions();
-    if conditions > MOST_CONDITIONS {
+    if conditions > MOST_DOUBLINGS {
         return false;
     }
     let ways = ways(problem.processes().len() as u64, problem.faults());

@@ -1,12 +1,11 @@
 //! The times of frozen items.
-ghost use Rattle.std.specs.Prelude.{◌≡◌, ◌≢◌, ◌<◌, ◌++◌, ℕ, IfOk, None, get_or, length};
-ghost use Rattle.cpg_base.specs.Graph.{process_count, edge_count, item_count, node_of};
-ghost use Rattle.cpg_order.specs.Links.{links_of};
+ghost use Rattle.std.specs.Prelude.{◌≡◌, ◌≢◌, ◌<◌, ◌++◌, ◌∷◌, [], ℕ, IfOk, None, filter, get_or, length};
+ghost use Rattle.cpg_base.specs.Graph.{process_count, item_count, is_frozen};
 ghost use Rattle.cpg_order.specs.Urgency.{IsTopological};
 ghost use Rattle.cpg_run.specs.Frozen.{AreFrozenTimes};
 ghost use Rattle.cpg_run.specs.Known.{AreEarly};
 ghost use Rattle.cpg_bus.specs.Plan.{plan_of};
-ghost use Rattle.cpg_run.specs.FrozenItems.{is_frozen_message, frozen_starts, frozen_messages, frozen_items_of, frozen_along};
+ghost use Rattle.cpg_run.specs.FrozenItems.{frozen_items_of, frozen_along};
 ghost use Rattle.cpg_run.specs.Latest.{IsUnfrozenTime};
 ghost use Rattle.cpg_list.specs.Active.{AreExamples};
 ghost use Rattle.cpg_list.specs.FirstAlike.{AreFirstAlike};
@@ -18,63 +17,54 @@ use crate::latest::unfrozen_time;
 use crate::sweeping::{advance, beginnings};
 use cpg_base::{OutOfMemory, Problem, Scenario};
 use cpg_bus::Plan;
-use cpg_order::{Links, Order};
+use cpg_order::Order;
 use cpg_rules::Admitted;
 use cpg_run::{Frozen, Progress};
 use std::alloc::Global;
 
-/// Whether the message of an edge is frozen: an edge within a node has none.
-fn is_frozen_message(problem: &Problem, edge: u32) -> bool
-    requires { edge < edge_count problem.now }
-    ensures { result ≡ is_frozen_message problem.now edge }
+/// Adds an item, if it is frozen.
+fn add_if_frozen(problem: &Problem, item: u32, items: &mut Vec<u32>) -> Result<(), OutOfMemory>
+    requires { item < item_count problem.now }
+    ensures { IfOk result (λ _. items.new.items ≡ items.old.items ++ filter (is_frozen problem.now) (item ∷ [])) }
 {
-    let edge = problem.edges()[edge as usize];
-    if problem.node_of(edge.from) == problem.node_of(edge.to) {
-        return false;
-    }
-    edge.frozen
-}
-
-/// Adds the start of a process, if it is frozen.
-fn add_start(problem: &Problem, process: u32, items: &mut Vec<u32>) -> Result<(), OutOfMemory>
-    requires { process < process_count problem.now }
-    ensures { IfOk result (λ _. items.new.items ≡ items.old.items ++ frozen_starts problem.now process) }
-{
-    if problem.processes()[process as usize].frozen {
-        items.push(process)?;
+    if problem.is_frozen(item) {
+        items.push(item)?;
     }
     Ok(())
 }
 
-/// Adds the frozen messages of a process, by number.
-fn add_messages(
+/// Adds the frozen items of a process: its start, and then its messages by number.
+fn add_frozen_of(
     problem: &Problem,
-    links: &Links,
+    plan: &Plan,
     process: u32,
     items: &mut Vec<u32>,
 ) -> Result<(), OutOfMemory>
+    requires plan { plan.now ≡ plan_of problem.now }
     requires process { process < process_count problem.now }
-    requires links { links.now ≡ links_of problem.now }
-    ensures { IfOk result (λ _. items.new.items ≡ items.old.items ++ frozen_messages problem.now process) }
+    ensures { IfOk result (λ _. items.new.items ≡ items.old.items ++ frozen_items_of problem.now process) }
 {
-    for edge in links.outputs(process) {
-        if is_frozen_message(problem, *edge) {
-            items.push(problem.processes().len() as u32 + *edge)?;
-        }
+    add_if_frozen(problem, process, items)?;
+    for item in plan.queue(problem, process) {
+        add_if_frozen(problem, *item, items)?;
     }
     Ok(())
 }
 
-/// The frozen items along an order: of each process its start, and then its messages by number.
-fn frozen_items(alloc: Global, problem: &Problem, order: &Order) -> Result<Vec<u32>, OutOfMemory>
-    requires { length order.now ≡ process_count problem.now }
+/// The frozen items along an order.
+fn frozen_items(
+    alloc: Global,
+    problem: &Problem,
+    order: &Order,
+    plan: &Plan,
+) -> Result<Vec<u32>, OutOfMemory>
+    requires order { length order.now ≡ process_count problem.now }
+    requires plan { plan.now ≡ plan_of problem.now }
     ensures { IfOk result (λ items. items.items ≡ frozen_along problem.now order.now) }
 {
-    let links = Links::of(alloc, problem)?;
     let mut items = Vec::new(alloc);
     for process in order.processes() {
-        add_start(problem, *process, &mut items)?;
-        add_messages(problem, &links, *process, &mut items)?;
+        add_frozen_of(problem, plan, *process, &mut items)?;
     }
     Ok(items)
 }
@@ -176,7 +166,7 @@ pub fn frozen_times(
     ensures early { IfOk result (λ frozen. AreEarly frozen) }
 {
     let problem = admitted.problem();
-    let items = frozen_items(alloc, problem, order)?;
+    let items = frozen_items(alloc, problem, order, plan)?;
     if items.is_empty() {
         let frozen = Frozen::none(alloc, problem)?;
         return Ok(frozen);

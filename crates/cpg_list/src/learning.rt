@@ -4,9 +4,9 @@ ghost use Rattle.std.specs.List.{flat_map};
 ghost use Rattle.std.specs.Option.{option_to_list};
 ghost use Rattle.cpg_base.specs.Graph.{process_count, condition_count, edge_count, value_variable, node_of, inputs, message_item, broadcast_item};
 ghost use Rattle.cpg_base.specs.Scenario.{IsScenario};
+ghost use Rattle.cpg_bus.specs.Plan.{plan_of};
 ghost use Rattle.cpg_cube.specs.Cube.{matches};
 ghost use Rattle.cpg_order.specs.Deciding.{deciding};
-ghost use Rattle.cpg_order.specs.Links.{links_of};
 ghost use Rattle.cpg_table.specs.Table.{times_in};
 ghost use Rattle.cpg_run.specs.Carried.{told_by, number_known, decided, heard, received};
 ghost use Rattle.cpg_list.specs.Learning.{IsTold, AreDeciding, heard_of, received_by};
@@ -15,11 +15,10 @@ ghost use Rattle.cpg_list.specs.Narrowing.{IsNarrowed, met, told_in};
 
 use crate::cubes::{narrow, narrow_to_number};
 use crate::items::row_of;
-use crate::least::FIRST_VALUE;
 use crate::timed::{Hints, TimedRow};
-use cpg_base::{OutOfMemory, Problem, Scenario};
+use cpg_base::{FIRST_VALUE, OutOfMemory, Problem, Scenario};
+use cpg_bus::Plan;
 use cpg_cube::Cube;
-use cpg_order::Links;
 use cpg_rules::Admitted;
 use cpg_run::RunTimes;
 use std::alloc::Global;
@@ -264,7 +263,7 @@ fn narrow_by_inputs(
 pub(crate) fn narrow_by_received(
     alloc: Global,
     problem: &Problem,
-    links: &Links,
+    plan: &Plan,
     rows: &[TimedRow],
     scenario: &Scenario,
     times: &RunTimes,
@@ -272,12 +271,12 @@ pub(crate) fn narrow_by_received(
     process: u32,
     cube: &mut Cube,
 ) -> Result<(), OutOfMemory>
-    requires links { links.now ≡ links_of problem.now }
+    requires plan { plan.now ≡ plan_of problem.now }
     requires process { process < process_count problem.now }
     requires told { (e : ℕ) → Contains (inputs problem.now process) e → IsTold problem.now (columns_of_rows rows.now) scenario.now times.now (message_item problem.now e) }
     ensures { OnOk result (IsNarrowed problem.now.faults (received problem.now (columns_of_rows rows.now) scenario.now process) cube.old cube.new) }
 {
-    let edges = links.inputs(process);
+    let edges = plan.inputs(problem, process);
     narrow_by_inputs(alloc, problem, rows, scenario, times, hints, edges, cube)?;
     Ok(())
 }

@@ -6,12 +6,9 @@ ghost use Rattle.cpg_cube.specs.Cube.{IsRising, low_in};
 ghost use Rattle.cpg_cube.specs.Fit.{lows};
 ghost use Rattle.cpg_list.specs.Narrowing.{from_variable, front_low, as_number, IsKept};
 
-use cpg_base::{OutOfMemory, Problem, Scenario};
+use cpg_base::{FIRST_VALUE, OutOfMemory, Problem, Scenario};
 use cpg_cube::{Cube, Literal};
 use cpg_table::Entry;
-
-/// The variables from this one on are values of conditions.
-pub(crate) const FIRST_VALUE: u8 = 128;
 
 /// The literals on a variable and on those above.
 fn from_variable(variable: u8, literals: &[Literal]) -> &[Literal]

@@ -27,7 +27,7 @@ mod timed;
 
 pub use enumeration::scenarios;
 pub use exceeding::excess;
-pub use few::has_few_scenarios;
+pub use few::{MOST_SCENARIOS, has_few_scenarios};
 pub use freezing::frozen_times;
 pub use listing::list;
 pub use making::rows;

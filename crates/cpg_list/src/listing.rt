@@ -8,6 +8,7 @@ ghost use Rattle.cpg_list.specs.Refusal.{ShowsBuildFault};
 
 use crate::enumeration::scenarios;
 use crate::exceeding::excess;
+use crate::few::MOST_SCENARIOS;
 use crate::freezing::frozen_times;
 use crate::making::rows;
 use crate::peaks::worst;
@@ -25,7 +26,7 @@ use std::alloc::Global;
 /// The tables and measures under an order in which no item is too wide.
 fn build(alloc: Global, admitted: &Admitted, order: &Order) -> Result<Built, OutOfMemory>
     requires topological { IsTopological admitted.now.graph order.now }
-    requires few { length (scenarios admitted.now.graph) ≤ 16384 }
+    requires few { length (scenarios admitted.now.graph) ≤ MOST_SCENARIOS }
     requires narrow { IsNarrow admitted.now.graph order.now }
     ensures { IfOk result (λ built. IsBuiltFor admitted.now.graph admitted.now.order order.now built) }
 {
@@ -38,7 +39,7 @@ fn build(alloc: Global, admitted: &Admitted, order: &Order) -> Result<Built, Out
     let frozen = frozen_times(alloc, admitted, order, &plan, scenarios, firsts)?;
     let runs = runs(alloc, admitted, order, &plan, &frozen, scenarios, firsts)?;
     let runs = runs.as_slice();
-    let rows = rows(alloc, admitted, order, &frozen, scenarios, runs)?;
+    let rows = rows(alloc, admitted, order, &plan, &frozen, scenarios, runs)?;
     let tables = tables_of(alloc, problem, rows.as_slice())?;
     let worst = worst(alloc, admitted, scenarios, runs)?;
     let excess = excess(alloc, admitted, scenarios, runs)?;
@@ -59,7 +60,7 @@ fn build(alloc: Global, admitted: &Admitted, order: &Order) -> Result<Built, Out
 /// the least item whose row would have too many columns, before any scenario is listed.
 pub fn list(alloc: Global, admitted: &Admitted, order: &Order) -> Result<Built, BuildFault>
     requires topological { IsTopological admitted.now.graph order.now }
-    requires few { length (scenarios admitted.now.graph) ≤ 16384 }
+    requires few { length (scenarios admitted.now.graph) ≤ MOST_SCENARIOS }
     ensures built { IfOk result (λ built. IsBuiltFor admitted.now.graph admitted.now.order order.now built) }
     ensures narrow { IfOk result (λ _. IsNarrow admitted.now.graph order.now) }
     ensures fault { IfErr result (ShowsBuildFault admitted.now.graph order.now) }

@@ -2,8 +2,8 @@
 ghost use Rattle.std.specs.Prelude.{◌≡◌, ◌<◌, ◌+◌, ◌++◌, ◌∷◌, [], IfOk, OnOk, length, map};
 ghost use Rattle.cpg_base.specs.Graph.{process_count, item_count, node_of};
 ghost use Rattle.cpg_base.specs.Numbers.{numbers_below};
+ghost use Rattle.cpg_bus.specs.Plan.{plan_of};
 ghost use Rattle.cpg_list.specs.Listing.{AreScenarios};
-ghost use Rattle.cpg_order.specs.Links.{links_of};
 ghost use Rattle.cpg_order.specs.Urgency.{IsTopological, before_on_node, place};
 ghost use Rattle.cpg_run.specs.Frozen.{AreFrozenTimes};
 ghost use Rattle.cpg_table.specs.Merged.{AreMergeable};
@@ -13,13 +13,14 @@ ghost use Rattle.cpg_run.specs.RowLaws.{SameRowsBefore};
 ghost use Rattle.cpg_run.specs.Rows.{AreRows};
 ghost use Rattle.cpg_list.specs.Runs.{AreRuns};
 
-use crate::items::{empty_rows, queue};
+use crate::items::empty_rows;
 use crate::sends::{frozen_ends, send_entries};
-use crate::starts::{is_frozen, start_entries};
+use crate::starts::start_entries;
 use crate::state::{Cubes, whole_by_node};
 use crate::timed::{TimedRow, to_rows};
 use cpg_base::{OutOfMemory, Scenario};
-use cpg_order::{Links, Order};
+use cpg_bus::Plan;
+use cpg_order::Order;
 use cpg_rules::Admitted;
 use cpg_run::{Frozen, RunTimes};
 use cpg_table::{Entry, Row, merged};
@@ -47,7 +48,7 @@ fn make_sends(
     alloc: Global,
     admitted: &Admitted,
     order: &Order,
-    links: &Links,
+    plan: &Plan,
     frozen: &Frozen,
     scenarios: &[Scenario],
     runs: &[RunTimes],
@@ -57,7 +58,7 @@ fn make_sends(
     rows: &mut Vec<TimedRow>,
 ) -> Result<(), OutOfMemory>
     requires topological { IsTopological admitted.now.graph order.now }
-    requires links { links.now ≡ links_of admitted.now.graph }
+    requires plan { plan.now ≡ plan_of admitted.now.graph }
     requires frozen { AreFrozenTimes admitted.now.graph order.now frozen.now }
     requires scenarios { AreScenarios admitted.now.graph scenarios.now }
     requires runs { AreRuns admitted.now.graph order.now frozen.now scenarios.now runs.now }
@@ -69,8 +70,7 @@ fn make_sends(
     ensures made { OnOk result (AreMade admitted.now.graph admitted.now.order order.now frozen.now (IsBefore admitted.now.graph order.now (place order.now process + 1)) rows.new.items) }
     ensures same { OnOk result (SameRowsBefore admitted.now.graph order.now (place order.now process) (columns_of_rows rows.old.items) (columns_of_rows rows.new.items)) }
 {
-    let items = queue(alloc, admitted.problem(), links, process)?;
-    for item in items.as_slice() {
+    for item in plan.queue(admitted.problem(), process) {
         let entries = send_entries(
             alloc,
             admitted,
@@ -94,7 +94,7 @@ fn make_sends_after(
     alloc: Global,
     admitted: &Admitted,
     order: &Order,
-    links: &Links,
+    plan: &Plan,
     frozen: &Frozen,
     scenarios: &[Scenario],
     runs: &[RunTimes],
@@ -104,7 +104,7 @@ fn make_sends_after(
     rows: &mut Vec<TimedRow>,
 ) -> Result<(), OutOfMemory>
     requires topological { IsTopological admitted.now.graph order.now }
-    requires links { links.now ≡ links_of admitted.now.graph }
+    requires plan { plan.now ≡ plan_of admitted.now.graph }
     requires frozen { AreFrozenTimes admitted.now.graph order.now frozen.now }
     requires scenarios { AreScenarios admitted.now.graph scenarios.now }
     requires runs { AreRuns admitted.now.graph order.now frozen.now scenarios.now runs.now }
@@ -116,15 +116,15 @@ fn make_sends_after(
     ensures made { OnOk result (AreMade admitted.now.graph admitted.now.order order.now frozen.now (IsBefore admitted.now.graph order.now (place order.now process + 1)) rows.new.items) }
     ensures same { OnOk result (SameRowsBefore admitted.now.graph order.now (place order.now process) (columns_of_rows rows.old.items) (columns_of_rows rows.new.items)) }
 {
-    if is_frozen(admitted.problem(), process) {
+    if admitted.problem().is_frozen(process) {
         let ends = frozen_ends(alloc, admitted, scenarios, process)?;
         make_sends(
-            alloc, admitted, order, links, frozen, scenarios, runs, process, &ends, sent, rows,
+            alloc, admitted, order, plan, frozen, scenarios, runs, process, &ends, sent, rows,
         )?;
         return Ok(());
     }
     make_sends(
-        alloc, admitted, order, links, frozen, scenarios, runs, process, known, sent, rows,
+        alloc, admitted, order, plan, frozen, scenarios, runs, process, known, sent, rows,
     )?;
     Ok(())
 }
@@ -134,7 +134,7 @@ fn make_start(
     alloc: Global,
     admitted: &Admitted,
     order: &Order,
-    links: &Links,
+    plan: &Plan,
     frozen: &Frozen,
     scenarios: &[Scenario],
     runs: &[RunTimes],
@@ -143,7 +143,7 @@ fn make_start(
     rows: &mut Vec<TimedRow>,
 ) -> Result<(), OutOfMemory>
     requires topological { IsTopological admitted.now.graph order.now }
-    requires links { links.now ≡ links_of admitted.now.graph }
+    requires plan { plan.now ≡ plan_of admitted.now.graph }
     requires frozen { AreFrozenTimes admitted.now.graph order.now frozen.now }
     requires scenarios { AreScenarios admitted.now.graph scenarios.now }
     requires runs { AreRuns admitted.now.graph order.now frozen.now scenarios.now runs.now }
@@ -159,7 +159,7 @@ fn make_start(
         alloc,
         admitted,
         order,
-        links,
+        plan,
         frozen,
         scenarios,
         runs,
@@ -176,7 +176,7 @@ fn make(
     alloc: Global,
     admitted: &Admitted,
     order: &Order,
-    links: &Links,
+    plan: &Plan,
     frozen: &Frozen,
     scenarios: &[Scenario],
     runs: &[RunTimes],
@@ -186,7 +186,7 @@ fn make(
     rows: &mut Vec<TimedRow>,
 ) -> Result<(), OutOfMemory>
     requires topological { IsTopological admitted.now.graph order.now }
-    requires links { links.now ≡ links_of admitted.now.graph }
+    requires plan { plan.now ≡ plan_of admitted.now.graph }
     requires frozen { AreFrozenTimes admitted.now.graph order.now frozen.now }
     requires scenarios { AreScenarios admitted.now.graph scenarios.now }
     requires runs { AreRuns admitted.now.graph order.now frozen.now scenarios.now runs.now }
@@ -202,7 +202,7 @@ fn make(
         alloc,
         admitted,
         order,
-        links,
+        plan,
         frozen,
         scenarios,
         runs,
@@ -214,7 +214,7 @@ fn make(
         alloc,
         admitted,
         order,
-        links,
+        plan,
         frozen,
         scenarios,
         runs,
@@ -233,11 +233,13 @@ pub fn rows(
     alloc: Global,
     admitted: &Admitted,
     order: &Order,
+    plan: &Plan,
     frozen: &Frozen,
     scenarios: &[Scenario],
     runs: &[RunTimes],
 ) -> Result<Vec<Row>, OutOfMemory>
     requires topological { IsTopological admitted.now.graph order.now }
+    requires plan { plan.now ≡ plan_of admitted.now.graph }
     requires frozen { AreFrozenTimes admitted.now.graph order.now frozen.now }
     requires scenarios { AreScenarios admitted.now.graph scenarios.now }
     requires runs { AreRuns admitted.now.graph order.now frozen.now scenarios.now runs.now }
@@ -245,13 +247,12 @@ pub fn rows(
     ensures rows { IfOk result (λ rows. AreRows admitted.now.graph admitted.now.order order.now frozen.now (map (λ r. r.columns) rows.items)) }
 {
     let problem = admitted.problem();
-    let links = Links::of(alloc, problem)?;
     let mut known = whole_by_node(alloc, problem, scenarios.len())?;
     let mut sent = whole_by_node(alloc, problem, scenarios.len())?;
     let mut rows = empty_rows(alloc, problem)?;
     for place in 0..problem.processes().len() as u32 {
         make(
-            alloc, admitted, order, &links, frozen, scenarios, runs, place, &mut known, &mut sent,
+            alloc, admitted, order, plan, frozen, scenarios, runs, place, &mut known, &mut sent,
             &mut rows,
         )?;
     }

@@ -9,7 +9,7 @@ ghost use Rattle.cpg_order.specs.Queue.{queued_before};
 ghost use Rattle.cpg_order.specs.Urgency.{IsTopological};
 ghost use Rattle.cpg_bus.specs.Plan.{queue_of};
 ghost use Rattle.cpg_run.specs.Carried.{decided, number_known, sent_by_value};
-ghost use Rattle.cpg_list.specs.Learning.{IsEndOf, Within, send_after, queued_after, IsTimedIfActive, IsEdgeOf, IsSentValue};
+ghost use Rattle.cpg_list.specs.Learning.{IsEndOf, Within, send_after, queued_after, IsTimedIfActive, IsSentValue};
 ghost use Rattle.cpg_list.specs.Made.{columns_of_rows, queued_by, AreCubesOf, AreEndsOf};
 ghost use Rattle.cpg_list.specs.Narrowing.{IsNarrowed, IsKeptOf, IsKeptAt};
 ghost use Rattle.cpg_run.specs.Rows.{IsCubeOf, AreEntriesOf};
@@ -20,7 +20,7 @@ use crate::learning::{deciding, narrow_by_decided, narrow_by_value};
 use crate::least::{kept, push_entry};
 use crate::state::Cubes;
 use crate::timed::TimedRow;
-use cpg_base::{OutOfMemory, Problem, Scenario};
+use cpg_base::{Item, OutOfMemory, Problem, Scenario};
 use cpg_cube::Cube;
 use cpg_order::Order;
 use cpg_rules::Admitted;
@@ -28,38 +28,13 @@ use cpg_run::{Frozen, RunTimes};
 use cpg_table::Entry;
 use std::alloc::Global;
 
-/// The edge of an item that a process sends, if it is a message.
-fn edge_of(problem: &Problem, process: u32, item: u32) -> Option<u32>
-    requires process { process < process_count problem.now }
-    requires item { Contains (queue_of problem.now process) item }
-    ensures { IsEdgeOf problem.now process item result }
-{
-    let processes = problem.processes().len() as u32;
-    if item >= processes + problem.edges().len() as u32 {
-        return None;
-    }
-    Some(item - processes)
-}
-
-/// Whether an item that a process sends is frozen.
-fn is_frozen(problem: &Problem, process: u32, item: u32) -> bool
-    requires process { process < process_count problem.now }
-    requires item { Contains (queue_of problem.now process) item }
-    ensures { result ≡ is_frozen problem.now item }
-{
-    match edge_of(problem, process, item) {
-        Some(edge) => problem.edges()[edge as usize].frozen,
-        None => false,
-    }
-}
-
 /// The condition whose value decides whether an item that a process sends is sent, if there is one.
 fn deciding_value(problem: &Problem, process: u32, item: u32) -> Option<u32>
     requires process { process < process_count problem.now }
     requires item { Contains (queue_of problem.now process) item }
     ensures { IsSentValue problem.now item result }
 {
-    let Some(edge) = edge_of(problem, process, item) else {
+    let Item::Message(edge) = problem.item(item) else {
         return None;
     };
     if problem.edges()[edge as usize].when.is_none() {
@@ -225,7 +200,7 @@ fn send_in(
         pass_over(alloc, admitted, scenario, times, process, item, sent)?;
         return Ok(None);
     };
-    if is_frozen(problem, process, item) {
+    if problem.is_frozen(item) {
         let entry = send_frozen(alloc, admitted, scenario, time, process, item, sent)?;
         return Ok(entry);
     }

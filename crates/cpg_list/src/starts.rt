@@ -1,11 +1,11 @@
 //! The entries of starts, and what a node carries on from its processes.
 ghost use Rattle.std.specs.Prelude.{◌≡◌, ◌<◌, ◌++◌, ◌∷◌, [], ℕ, List, Contains, IfOk, OnOk, Some, None, get_or, length};
-ghost use Rattle.cpg_base.specs.Graph.{process_count, process_at, inputs, broadcast_item, message_item};
+ghost use Rattle.cpg_base.specs.Graph.{process_count, inputs, broadcast_item, message_item};
 ghost use Rattle.cpg_base.specs.Scenario.{IsScenario};
+ghost use Rattle.cpg_bus.specs.Plan.{plan_of};
 ghost use Rattle.cpg_cube.specs.declared.literal.Literal.{Literal};
 ghost use Rattle.cpg_list.specs.Listing.{AreScenarios};
 ghost use Rattle.cpg_order.specs.Deciding.{deciding};
-ghost use Rattle.cpg_order.specs.Links.{links_of};
 ghost use Rattle.cpg_order.specs.Urgency.{IsTopological, before_on_node};
 ghost use Rattle.cpg_run.specs.Run.{Times, IsRun};
 ghost use Rattle.cpg_run.specs.Carried.{decided, heard, passed};
@@ -21,20 +21,13 @@ use crate::least::{kept, push_entry};
 use crate::state::Cubes;
 use crate::timed::{Hints, TimedRow};
 use cpg_base::{OutOfMemory, Problem, Scenario};
+use cpg_bus::Plan;
 use cpg_cube::Cube;
-use cpg_order::{Links, Order};
+use cpg_order::Order;
 use cpg_rules::Admitted;
 use cpg_run::{Frozen, RunTimes};
 use cpg_table::Entry;
 use std::alloc::Global;
-
-/// Whether a process is frozen.
-pub(crate) fn is_frozen(problem: &Problem, process: u32) -> bool
-    requires { process < process_count problem.now }
-    ensures { result ≡ (process_at problem.now process).frozen }
-{
-    problem.processes()[process as usize].frozen
-}
 
 /// The entry of the start of a frozen process, where the scenario is the least of what decides the process.
 fn frozen_start(
@@ -61,7 +54,7 @@ fn frozen_start(
 fn started(
     alloc: Global,
     problem: &Problem,
-    links: &Links,
+    plan: &Plan,
     rows: &[TimedRow],
     scenario: &Scenario,
     times: &RunTimes,
@@ -71,7 +64,7 @@ fn started(
     conditions: &[u32],
     cube: &mut Cube,
 ) -> Result<Option<Entry>, OutOfMemory>
-    requires links { links.now ≡ links_of problem.now }
+    requires plan { plan.now ≡ plan_of problem.now }
     requires scenario { IsScenario problem.now scenario.now }
     requires process { process < process_count problem.now }
     requires conditions { AreDeciding problem.now scenario.now process conditions.now }
@@ -79,12 +72,12 @@ fn started(
     ensures entry { IfOk result (λ r. (earlier : List Literal) → IsCubeOf problem.now.faults (earlier ++ decided problem.now scenario.now process ++ heard problem.now (columns_of_rows rows.now) scenario.now process) cube.old → IsKeptOf problem.now scenario.now time (start_after problem.now (columns_of_rows rows.now) scenario.now process earlier) r) }
     ensures carried { OnOk result (IsNarrowed problem.now.faults (received_unless_frozen problem.now (columns_of_rows rows.now) scenario.now process) cube.old cube.new) }
 {
-    if is_frozen(problem, process) {
+    if problem.is_frozen(process) {
         let entry = frozen_start(alloc, problem, scenario, time, process, conditions)?;
         return Ok(entry);
     }
     narrow_by_received(
-        alloc, problem, links, rows, scenario, times, hints, process, cube,
+        alloc, problem, plan, rows, scenario, times, hints, process, cube,
     )?;
     let entry = kept(problem, scenario, time, cube)?;
     Ok(entry)
@@ -95,7 +88,7 @@ fn started(
 fn start_in(
     alloc: Global,
     admitted: &Admitted,
-    links: &Links,
+    plan: &Plan,
     rows: &[TimedRow],
     scenario: &Scenario,
     times: &RunTimes,
@@ -103,7 +96,7 @@ fn start_in(
     process: u32,
     cube: &mut Cube,
 ) -> Result<Option<Entry>, OutOfMemory>
-    requires links { links.now ≡ links_of admitted.now.graph }
+    requires plan { plan.now ≡ plan_of admitted.now.graph }
     requires scenario { IsScenario admitted.now.graph scenario.now }
     requires process { process < process_count admitted.now.graph }
     requires active { IsTimedIfActive admitted.now.graph scenario.now times.now process }
@@ -123,7 +116,7 @@ fn start_in(
         return Ok(None);
     };
     let entry = started(
-        alloc, problem, links, rows, scenario, times, hints, time, process, conditions, cube,
+        alloc, problem, plan, rows, scenario, times, hints, time, process, conditions, cube,
     )?;
     narrow_to_number(alloc, problem, scenario, process as u8, cube)?;
     Ok(entry)
@@ -135,7 +128,7 @@ pub(crate) fn start_entries(
     alloc: Global,
     admitted: &Admitted,
     order: &Order,
-    links: &Links,
+    plan: &Plan,
     frozen: &Frozen,
     scenarios: &[Scenario],
     runs: &[RunTimes],
@@ -144,7 +137,7 @@ pub(crate) fn start_entries(
     known: &mut Cubes,
 ) -> Result<Vec<Entry>, OutOfMemory>
     requires topological { IsTopological admitted.now.graph order.now }
-    requires links { links.now ≡ links_of admitted.now.graph }
+    requires plan { plan.now ≡ plan_of admitted.now.graph }
     requires scenarios { AreScenarios admitted.now.graph scenarios.now }
     requires runs { AreRuns admitted.now.graph order.now frozen.now scenarios.now runs.now }
     requires process { process < process_count admitted.now.graph }
@@ -159,7 +152,7 @@ pub(crate) fn start_entries(
         let entry = start_in(
             alloc,
             admitted,
-            links,
+            plan,
             rows,
             &scenarios[at],
             &runs[at],

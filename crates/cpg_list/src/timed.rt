@@ -41,17 +41,7 @@ fn first_at(by_time: &[Timed], time: u64) -> usize
     requires { (i j : ℕ) (d : Timed) → i ≤ j → j < length by_time.now → (get_or by_time.now i d).time ≤ (get_or by_time.now j d).time }
     ensures { StartsAt by_time.now time result }
 {
-    let mut low = 0;
-    let mut high = by_time.len();
-    while low < high {
-        let middle = low + (high - low) / 2;
-        if by_time[middle].time < time {
-            low = middle + 1;
-        } else {
-            high = middle;
-        }
-    }
-    low
+    by_time.partition_point(|timed| timed.time < time)
 }
 
 /// The times and places of columns, by time.

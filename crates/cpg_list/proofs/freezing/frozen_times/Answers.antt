@@ -5,8 +5,8 @@ use Rattle.cpg_run.specs.FrozenItems.{frozen_along}
 use Rattle.cpg_run.proofs.Settled.{settled_first, settled_all}
 use Rattle.cpg_list.proofs.freezing.frozen_times.Goals as goal
 
-pub frozen_items-requires : goal.frozen_items-requires
-frozen_items-requires c = length_order (process_count c.args.admitted.now.graph) c.args.order.now c.requires.topological.all ∙ sym (ap process_count c.problem-problem.ensures.problem)
+pub frozen_items-requires-clause-order : goal.frozen_items-requires-clause-order
+frozen_items-requires-clause-order c = length_order (process_count c.args.admitted.now.graph) c.args.order.now c.requires.topological.all ∙ sym (ap process_count c.problem-problem.ensures.problem)
 
 pub returns-then-is_empty-clause-frozen : goal.returns-then-is_empty-clause-frozen
 returns-then-is_empty-clause-frozen c =

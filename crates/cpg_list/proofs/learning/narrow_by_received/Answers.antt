@@ -3,7 +3,7 @@ use Rattle.cpg_base.proofs.Inputs.{inputs_parts}
 use Rattle.cpg_list.proofs.learning.narrow_by_received.Goals as goal
 
 pub narrow_by_inputs-requires-clause-edges : goal.narrow_by_inputs-requires-clause-edges
-narrow_by_inputs-requires-clause-edges c e j = (inputs_parts c.args.problem.now c.args.process e (subst (λ es. Contains es e) (c.inputs-edges.ensures.of_graph c.args.problem.now c.requires.links) j)).0
+narrow_by_inputs-requires-clause-edges c e j = (inputs_parts c.args.problem.now c.args.process e (subst (λ es. Contains es e) c.inputs-edges.ensures j)).0
 
 pub narrow_by_inputs-requires-clause-told : goal.narrow_by_inputs-requires-clause-told
-narrow_by_inputs-requires-clause-told c e j = c.requires.told e (subst (λ es. Contains es e) (c.inputs-edges.ensures.of_graph c.args.problem.now c.requires.links) j)
+narrow_by_inputs-requires-clause-told c e j = c.requires.told e (subst (λ es. Contains es e) c.inputs-edges.ensures j)

@@ -17,7 +17,7 @@ send_entries-requires-clause-item c =
     let g = c.args.admitted.now.graph in
     let p = c.args.process in
     let m = c.loop-item.item-index in
-    let all : c.as_slice-item-items.result.now ≡ queue_of g p = c.as_slice-item-items.ensures.value ∙ c.in_ok-items.ensures ∙ ap (λ (h : Graph). queue_of h p) c.problem.ensures.problem in
+    let all : c.queue-item-items.result.now ≡ queue_of g p = c.queue-item-items.ensures ∙ ap (λ (h : Graph). queue_of h p) c.problem.ensures.problem in
     let inside : m < length (queue_of g p) = omega (arith, ap length all, c.loop-item-test.true) in
     subst (Contains (queue_of g p)) (ap (λ xs. get_or xs m 0) (sym all)) (nth_queued g c.args.order.now c.requires.topological p c.requires.process m inside)
 
@@ -36,11 +36,11 @@ send_entries-requires-clause-sent c =
     let p = c.args.process in
     let m = c.loop-item.item-index in
     let scenarios = c.args.scenarios.now in
-    let all : c.as_slice-item-items.result.now ≡ queue_of g p = c.as_slice-item-items.ensures.value ∙ c.in_ok-items.ensures ∙ ap (λ (h : Graph). queue_of h p) c.problem.ensures.problem in
+    let all : c.queue-item-items.result.now ≡ queue_of g p = c.queue-item-items.ensures ∙ ap (λ (h : Graph). queue_of h p) c.problem.ensures.problem in
     let inside : m < length (queue_of g p) = omega (arith, ap length all, c.loop-item-test.true) in
     let rows = columns_of_rows c.loop-item.rows.items in
     let nth = get_or (queue_of g p) m 0 in
-    subst (λ (rs : List Row). AreCubesOf g.faults scenarios (queued_by g order (columns_of_rows rs) (queued_before g order (get_or c.as_slice-item-items.result.now m 0))) c.loop-item.sent) (sym c.as_slice.ensures.value)
+    subst (λ (rs : List Row). AreCubesOf g.faults scenarios (queued_by g order (columns_of_rows rs) (queued_before g order (get_or c.queue-item-items.result.now m 0))) c.loop-item.sent) (sym c.as_slice.ensures.value)
     (subst (λ x. AreCubesOf g.faults scenarios (queued_by g order rows (queued_before g order x)) c.loop-item.sent) (ap (λ xs. get_or xs m 0) (sym all))
     (queued_members g.faults g order rows scenarios c.loop-item.sent (sent_before g order (node_of g p) (place order p) ++ take m (queue_of g p)) (queued_before g order nth)
     (before_from g order c.requires.topological p c.requires.process m inside) (before_to g order c.requires.topological p c.requires.process m inside) c.loop-item.invariant.queue))
@@ -50,7 +50,7 @@ set_row-requires-clause-item c =
     let g = c.args.admitted.now.graph in
     let p = c.args.process in
     let m = c.loop-item.item-index in
-    let all : c.as_slice-item-items.result.now ≡ queue_of g p = c.as_slice-item-items.ensures.value ∙ c.in_ok-items.ensures ∙ ap (λ (h : Graph). queue_of h p) c.problem.ensures.problem in
+    let all : c.queue-item-items.result.now ≡ queue_of g p = c.queue-item-items.ensures ∙ ap (λ (h : Graph). queue_of h p) c.problem.ensures.problem in
     let inside : m < length (queue_of g p) = omega (arith, ap length all, c.loop-item-test.true) in
     omega (arith, ap (λ xs. get_or xs m 0) all, nth_within g c.args.order.now c.requires.topological p c.requires.process m inside, count_of c.loop-item.rows.items (item_count g) c.loop-item.invariant.made.items)
 
@@ -63,12 +63,12 @@ set_row-requires-clause-entries c =
     let p = c.args.process in
     let m = c.loop-item.item-index in
     let entries = c.in_ok-entries.entries.items in
-    let all : c.as_slice-item-items.result.now ≡ queue_of g p = c.as_slice-item-items.ensures.value ∙ c.in_ok-items.ensures ∙ ap (λ (h : Graph). queue_of h p) c.problem.ensures.problem in
+    let all : c.queue-item-items.result.now ≡ queue_of g p = c.queue-item-items.ensures ∙ ap (λ (h : Graph). queue_of h p) c.problem.ensures.problem in
     let inside : m < length (queue_of g p) = omega (arith, ap length all, c.loop-item-test.true) in
     let nth = get_or (queue_of g p) m 0 in
     let timed = timed_of g a.order order a.guards frozen c.problem.ensures.admitted c.requires.topological c.requires.frozen in
     let found = subst (λ x. AreEntriesOf g order frozen (columns_of_rows c.loop-item.rows.items) x entries) (ap (λ xs. get_or xs m 0) all)
-    (subst (λ (rs : List Row). AreEntriesOf g order frozen (columns_of_rows rs) (get_or c.as_slice-item-items.result.now m 0) entries) c.as_slice.ensures.value c.in_ok-entries.ensures.entries) in
+    (subst (λ (rs : List Row). AreEntriesOf g order frozen (columns_of_rows rs) (get_or c.queue-item-items.result.now m 0) entries) c.as_slice.ensures.value c.in_ok-entries.ensures.entries) in
     mergeable g a.order order frozen timed (IsSent g order p m) c.loop-item.rows.items c.loop-item.invariant.made nth (nth_within g order c.requires.topological p c.requires.process m inside)
     (nth_earlier g order c.requires.topological p c.requires.process m inside) entries found
 
@@ -86,13 +86,13 @@ loop-item-preserved c =
     let l = c.requires.process in
     let rows = c.loop-item.rows.items in
     let next = c.set_row.new.rows.items in
-    let all : c.as_slice-item-items.result.now ≡ queue_of g p = c.as_slice-item-items.ensures.value ∙ c.in_ok-items.ensures ∙ ap (λ (h : Graph). queue_of h p) c.problem.ensures.problem in
+    let all : c.queue-item-items.result.now ≡ queue_of g p = c.queue-item-items.ensures ∙ ap (λ (h : Graph). queue_of h p) c.problem.ensures.problem in
     let inside : m < length (queue_of g p) = omega (arith, ap length all, c.loop-item-test.true) in
     let nth = get_or (queue_of g p) m 0 in
-    let here : get_or c.as_slice-item-items.result.now m 0 ≡ nth = ap (λ xs. get_or xs m 0) all in
+    let here : get_or c.queue-item-items.result.now m 0 ≡ nth = ap (λ xs. get_or xs m 0) all in
     let timed = timed_of g a.order order a.guards frozen c.problem.ensures.admitted top c.requires.frozen in
     let found = subst (λ x. AreEntriesOf g order frozen (columns_of_rows rows) x entries) here
-    (subst (λ (rs : List Row). AreEntriesOf g order frozen (columns_of_rows rs) (get_or c.as_slice-item-items.result.now m 0) entries) c.as_slice.ensures.value c.in_ok-entries.ensures.entries) in
+    (subst (λ (rs : List Row). AreEntriesOf g order frozen (columns_of_rows rs) (get_or c.queue-item-items.result.now m 0) entries) c.as_slice.ensures.value c.in_ok-entries.ensures.entries) in
     let is = subst (λ x. IsRowSet g a.order x entries rows next) here c.in_ok-set_row.ensures in
     let made = one_made g a.order order frozen timed (IsSent g order p m) rows c.loop-item.invariant.made nth (nth_within g order top p l m inside) (nth_earlier g order top p l m inside) entries found
     (nth_new g order top p l m inside) (nth_late g order top p l m inside) next is in
@@ -101,7 +101,7 @@ loop-item-preserved c =
     let items = queued_before g order nth ++ nth ∷ [] in
     let after = sent_before g order (node_of g p) (place order p) ++ take (m + 1) (queue_of g p) in
     let left = subst (λ x. AreCubesOf g.faults scenarios (queued_by g order (columns_of_rows rows) (queued_before g order x ++ x ∷ [])) c.send_entries.new.sent) here
-    (subst (λ (rs : List Row). AreCubesOf g.faults scenarios (queued_by g order (columns_of_rows rs) (queued_before g order (get_or c.as_slice-item-items.result.now m 0) ++ get_or c.as_slice-item-items.result.now m 0 ∷ [])) c.send_entries.new.sent)
+    (subst (λ (rs : List Row). AreCubesOf g.faults scenarios (queued_by g order (columns_of_rows rs) (queued_before g order (get_or c.queue-item-items.result.now m 0) ++ get_or c.queue-item-items.result.now m 0 ∷ [])) c.send_entries.new.sent)
     c.as_slice.ensures.value c.in_ok-entries.ensures.sent) in
     record {
       made = made_same g a.order order frozen (λ y. IsSent g order p m y ⊎ (y ≡ nth)) (IsSent g order p (m + 1)) next made (sent_back g order top p l m inside) (sent_next g order top p l m inside);
@@ -122,7 +122,7 @@ returns-clause-sent c =
     let l = c.requires.process in
     let rows = columns_of_rows c.loop-item.rows.items in
     let before = sent_before g order (node_of g p) (place order p) in
-    let all : c.as_slice-item-items.result.now ≡ queue_of g p = c.as_slice-item-items.ensures.value ∙ c.in_ok-items.ensures ∙ ap (λ (h : Graph). queue_of h p) c.problem.ensures.problem in
+    let all : c.queue-item-items.result.now ≡ queue_of g p = c.queue-item-items.ensures ∙ ap (λ (h : Graph). queue_of h p) c.problem.ensures.problem in
     let whole : take m (queue_of g p) ≡ queue_of g p = take_all m (queue_of g p) (omega (arith, ap length all, c.loop-item-test.false)) in
     queued_members g.faults g order rows scenarios c.loop-item.sent (before ++ queue_of g p) (sent_before g order (node_of g p) (place order p + 1)) (all_to g order top p l) (all_from g order top p l)
     (subst (λ ys. AreCubesOf g.faults scenarios (queued_by g order rows (before ++ ys)) c.loop-item.sent) whole c.loop-item.invariant.queue)
@@ -133,7 +133,7 @@ returns-clause-made c =
     let g = a.graph in
     let order = c.args.order.now in
     let p = c.args.process in
-    let all : c.as_slice-item-items.result.now ≡ queue_of g p = c.as_slice-item-items.ensures.value ∙ c.in_ok-items.ensures ∙ ap (λ (h : Graph). queue_of h p) c.problem.ensures.problem in
+    let all : c.queue-item-items.result.now ≡ queue_of g p = c.queue-item-items.ensures ∙ ap (λ (h : Graph). queue_of h p) c.problem.ensures.problem in
     let last : c.loop-item.item-index ≡ length (queue_of g p) = omega (arith, ap length all, c.loop-item-test.false, c.loop-item.auto.item-index-end) in
     made_next g order c.requires.topological p c.requires.process a.order c.args.frozen.now c.loop-item.rows.items
     (subst (λ n. AreMade g a.order order c.args.frozen.now (IsSent g order p n) c.loop-item.rows.items) last c.loop-item.invariant.made)

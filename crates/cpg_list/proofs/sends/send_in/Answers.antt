@@ -1,17 +1,17 @@
-use Rattle.std.proofs.Common.{◌≡◌, ◌∙◌, Contains, true, is_some, sym, ap, subst}
-use Rattle.cpg_base.specs.Graph.{Graph, item_at}
+use Rattle.std.proofs.Common.{◌≡◌, ◌∙◌, ◌<◌, Contains, true, is_some, sym, ap, subst}
+use Rattle.cpg_base.specs.Graph.{Graph, item_count, item_at}
 use Rattle.cpg_base.specs.Activity.{active, item_active}
 use Rattle.cpg_bus.specs.Plan.{queue_of}
 use Rattle.cpg_run.specs.Carried.{decided}
 use Rattle.cpg_list.specs.Learning.{Within, send_after, queued_after}
 use Rattle.cpg_list.specs.Narrowing.{IsNarrowed, IsKeptOf, IsKeptAt}
 use Rattle.cpg_run.specs.Rows.{IsCubeOf}
-use Rattle.cpg_list.proofs.CodeSends.{queue_by}
+use Rattle.cpg_list.proofs.CodeSends.{queue_by, queue_within}
 use Rattle.cpg_run.proofs.SameSends.{producer_active}
 use Rattle.cpg_list.proofs.sends.send_in.Goals as goal
 
-pub is_frozen-requires-clause-item : goal.is_frozen-requires-clause-item
-is_frozen-requires-clause-item c = subst (λ (h : Graph). Contains (queue_of h c.args.process) c.args.item) (sym c.problem-problem.ensures.problem) c.requires.item
+pub is_frozen-requires : goal.is_frozen-requires
+is_frozen-requires c = subst (λ (h : Graph). c.args.item < item_count h) (sym c.problem-problem.ensures.problem) (queue_within c.args.admitted.now.graph c.args.process c.args.item c.requires.item)
 
 pub send_plain-requires-clause-item : goal.send_plain-requires-clause-item
 send_plain-requires-clause-item c = subst (λ (h : Graph). Contains (queue_of h c.args.process) c.args.item) (sym c.problem-problem.ensures.problem) c.requires.item

@@ -3,7 +3,7 @@ use Rattle.cpg_base.specs.Graph.{process_at}
 use Rattle.cpg_run.specs.Carried.{decided, heard, received}
 use Rattle.cpg_list.specs.Made.{columns_of_rows}
 use Rattle.cpg_list.specs.Narrowing.{IsKeptOf}
-use Rattle.cpg_list.proofs.CodeStarts.{kept_of, start_plain}
+use Rattle.cpg_list.proofs.CodeStarts.{kept_of, frozen_start, start_plain}
 use Rattle.cpg_list.proofs.starts.started.Goals as goal
 
 pub returns-clause-entry : goal.returns-clause-entry
@@ -13,6 +13,6 @@ returns-clause-entry c earlier is =
     let p = c.args.process in
     let rows = columns_of_rows c.args.rows.now in
     let before = earlier ++ decided g s p ++ heard g rows s p in
-    let plain : (process_at g p).frozen ≡ false = sym c.is_frozen.ensures ∙ c.if-is_frozen.false in
+    let plain : (process_at g p).frozen ≡ false = sym (c.is_frozen.ensures ∙ frozen_start g p c.requires.process) ∙ c.if-is_frozen.false in
     subst (λ ls. IsKeptOf g s c.args.time ls c.in_ok-entry-2.entry) (sym (start_plain g rows s p earlier plain))
     (kept_of g s c.args.time (before ++ received g rows s p) c.narrow_by_received.new.cube (c.in_ok-narrow_by_received.ensures.by before is) c.in_ok-entry-2.entry c.in_ok-entry-2.ensures)

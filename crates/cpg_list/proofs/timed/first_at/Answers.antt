@@ -1,25 +1,15 @@
-use Rattle.std.proofs.Common.{◌+◌, ◌-◌, ◌/◌, ◌<◌, length, arith}
-use Rattle.cpg_list.proofs.CodeTimes.{below_half, above_half}
+use Rattle.std.proofs.Common.{ltb, ltb-true, arith, rules}
+use Rattle.std.proofs.lemmas.Bool.{ltb-false}
+use Rattle.std.proofs.lemmas.List.Sorted.{IsPartitionPoint-from_clause, IsPartitionedBy-ltb}
+use Rattle.cpg_list.specs.TimeOrder.{Timed}
 use Rattle.cpg_list.proofs.timed.first_at.Goals as goal
 
-pub loop-low-preserved-then-by_time-middle : goal.loop-low-preserved-then-by_time-middle
-loop-low-preserved-then-by_time-middle c =
-    let m = c.loop-low.low + (c.loop-low.high - c.loop-low.low) / 2 in
-    let l : m < length c.args.by_time.now = omega (arith, c.loop-low-test.true, c.loop-low.invariant.inside) in
+pub returns : goal.returns
+returns c =
+    let parted = IsPartitionedBy-ltb (λ (t : Timed). t.time) c.args.by_time.now c.args.time c.requires in
+    let point = IsPartitionPoint-from_clause (λ (t : Timed). ltb t.time c.args.time) c.args.by_time.now c.partition_point.result c.partition_point.ensures.partitioned parted (λ a r q k. search rules) in
     record {
-      inside = c.loop-low.invariant.inside;
-      order = omega (arith, c.loop-low-test.true);
-      before = below_half c.args.by_time.now c.requires c.args.time m (record { time = 0; place = 0 }) l c.if-by_time-middle.true;
-      after = c.loop-low.invariant.after;
-    }
-
-pub loop-low-preserved : goal.loop-low-preserved
-loop-low-preserved c =
-    let m = c.loop-low.low + (c.loop-low.high - c.loop-low.low) / 2 in
-    let l : m < length c.args.by_time.now = omega (arith, c.loop-low-test.true, c.loop-low.invariant.inside) in
-    record {
-      inside = omega (arith, l);
-      order = omega (arith, c.loop-low-test.true);
-      before = c.loop-low.invariant.before;
-      after = above_half c.args.by_time.now c.requires c.args.time m (record { time = 0; place = 0 }) l c.if-by_time-middle.false;
+      inside = c.partition_point.ensures.bound;
+      before = λ i d l. ltb-true _ _ (point.0 i d (omega arith) l);
+      after = λ i d l m. ltb-false _ _ (point.1 i d l m);
     }

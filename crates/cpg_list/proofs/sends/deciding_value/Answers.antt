@@ -1,0 +1,18 @@
+use Rattle.std.proofs.Common.{◌≡◌, ◌∙◌, true, is_some, sym, ap, rules}
+use Rattle.cpg_base.specs.Graph.{item_at, edge_at, source, producer_of_item}
+use Rattle.cpg_base.specs.declared.item.Item.TheVariants.{Message}
+use Rattle.cpg_list.proofs.CodeSends.{queue_by, queue_within, value_of}
+use Rattle.cpg_list.proofs.sends.deciding_value.Goals as goal
+
+pub item-requires : goal.item-requires
+item-requires c = queue_within c.args.problem.now c.args.process c.args.item c.requires.item
+
+pub returns : goal.returns
+returns c =
+    let g = c.args.problem.now in
+    let x = c.args.item in
+    let e = c.in-Message.edge in
+    let at : item_at g x ≡ Message e = sym c.item.ensures.item ∙ c.in-Message.is in
+    let from : source g e ≡ c.args.process = ap (producer_of_item g) (sym at) ∙ queue_by g c.args.process x c.requires.item in
+    let on : is_some (edge_at g e).when ≡ true = search rules in
+    value_of g x e c.args.process at from on c.condition_of.result (sym c.condition_of.ensures)

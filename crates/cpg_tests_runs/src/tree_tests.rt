@@ -1,0 +1,99 @@
+//! Trees of values, and of the ends of a chain of processes.
+ghost use Rattle.std.specs.Prelude.{◌≡◌, IfOk};
+
+use cpg_tree::{Tree, fault, value};
+use std::alloc::Global;
+use std::test::Fail;
+
+/// An end after a start, with so many faults.
+fn end(start: u64, faults: u8) -> u64 {
+    start
+        .saturating_add(15)
+        .saturating_add(17 * u64::from(faults))
+}
+
+/// The end of a process that starts so.
+fn ended(alloc: Global, process: u32, start: &Tree<u64>) -> Result<Tree<u64>, Fail>
+    requires process { process < 40 }
+    requires faults { start.now.faults ≡ 2 }
+    ensures { IfOk result (λ end. end.faults ≡ 2) }
+{
+    let faults = fault(alloc, process, 2)?;
+    let end = start.join_with(&faults, &|start: u64, count: u8| end(start, count))?;
+    Ok(end)
+}
+
+/// The end of the last process of a chain of 40 with at most two faults.
+fn chain(alloc: Global) -> Result<Tree<u64>, Fail> {
+    let mut ready = Tree::constant(alloc, 0, 2)?;
+    for process in 0..40 {
+        ready = ended(alloc, process, &ready)?;
+    }
+    Ok(ready)
+}
+
+#[test]
+fn ends_of_a_chain(rt: HostRuntime) -> Result<(), Fail> {
+    let last = chain(rt.alloc())?;
+    assert!(rt; last.leaves() == 861);
+    Ok(())
+}
+
+/// A number in every scenario of at most two faults.
+fn constant(alloc: Global, number: u64) -> Result<Tree<u64>, Fail>
+    ensures { IfOk result (λ tree. tree.faults ≡ 2) }
+{
+    let tree = Tree::constant(alloc, number, 2)?;
+    Ok(tree)
+}
+
+/// One of two trees by the value of a condition.
+fn picked(alloc: Global, on: &Tree<u64>, off: &Tree<u64>) -> Result<u64, Fail>
+    requires on { on.now.faults ≡ 2 }
+    requires off { off.now.faults ≡ 2 }
+{
+    let chooser = value(alloc, 0, 2)?;
+    let picked = Tree::pick(&chooser, on, off)?;
+    Ok(picked.leaves())
+}
+
+/// How many leaves the greater of two trees has, each time known.
+fn greater(on: &Tree<u64>, off: &Tree<u64>) -> Result<u64, Fail>
+    requires { on.now.faults ≡ off.now.faults }
+{
+    let greater = on.max(off)?;
+    let known = greater.map(&|time: u64| Some(time))?;
+    Ok(known.leaves())
+}
+
+#[test]
+fn picks(rt: HostRuntime) -> Result<(), Fail> {
+    let on = constant(rt.alloc(), 5)?;
+    let off = constant(rt.alloc(), 7)?;
+    let leaves = picked(rt.alloc(), &on, &off)?;
+    assert!(rt; leaves == 2);
+    Ok(())
+}
+
+#[test]
+fn the_greater_of_two(rt: HostRuntime) -> Result<(), Fail> {
+    let on = constant(rt.alloc(), 5)?;
+    let off = constant(rt.alloc(), 7)?;
+    let leaves = greater(&on, &off)?;
+    assert!(rt; leaves == 1);
+    Ok(())
+}
+
+/// Half a count, rounded down.
+fn halves(alloc: Global) -> Result<Tree<u8>, Fail> {
+    let faults = fault(alloc, 3, 3)?;
+    let halves = faults.map(&|count: u8| count / 2)?;
+    Ok(halves)
+}
+
+#[test]
+fn joins_neighbouring_arms(rt: HostRuntime) -> Result<(), Fail> {
+    let halves = halves(rt.alloc())?;
+    assert!(rt; halves.leaves() == 2);
+    Ok(())
+}
