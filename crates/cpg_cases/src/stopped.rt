@@ -1,0 +1,47 @@
+//! Why the list isn't gone through to its end.
+
+use cpg_base::OutOfMemory;
+use cpg_io::ReadAll;
+use std::alloc::{AllocError, AllocFailed};
+use std::io;
+use std::num::ParseIntError;
+
+/// A line has no form, a file isn't there, the output can't be written, or memory is wanting.
+#[derive(Clone, Copy)]
+pub struct Stopped;
+
+impl From<AllocError> for Stopped {
+    fn from(_: AllocError) -> Stopped {
+        Stopped
+    }
+}
+
+impl<T: Drop> From<AllocFailed<T>> for Stopped {
+    fn from(_: AllocFailed<T>) -> Stopped {
+        Stopped
+    }
+}
+
+impl From<OutOfMemory> for Stopped {
+    fn from(_: OutOfMemory) -> Stopped {
+        Stopped
+    }
+}
+
+impl From<ReadAll> for Stopped {
+    fn from(_: ReadAll) -> Stopped {
+        Stopped
+    }
+}
+
+impl From<ParseIntError> for Stopped {
+    fn from(_: ParseIntError) -> Stopped {
+        Stopped
+    }
+}
+
+impl From<io::Error> for Stopped {
+    fn from(_: io::Error) -> Stopped {
+        Stopped
+    }
+}
