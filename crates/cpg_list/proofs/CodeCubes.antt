@@ -1,6 +1,6 @@
 -- Cubes that are narrowed by literals: they are cubes of what was known and of these, in whatever order.
-use Rattle.std.proofs.Common.{◌≡◌, ◌≢◌, ◌∙◌, ℕ, ◌<◌, ◌≤◌, max, min, ◌==◌, List, [], ◌∷◌, ◌++◌, get_or, Contains, All, arith, refl, sym, ap, ap₂, inl, inr, subst, eq-eqb, ne_eqb, append_assoc}
-use Rattle.std.proofs.lemmas.Bool.{cases_eq, cases_order, cond-true, cond-false}
+use Rattle.std.proofs.Common.{◌≡◌, ◌≢◌, ◌∙◌, ℕ, ◌<◌, ◌≤◌, max, min, List, [], ◌∷◌, ◌++◌, get_or, Contains, All, arith, refl, sym, ap, ap₂, inl, inr, subst, append_assoc}
+use Rattle.std.proofs.lemmas.Bool.{cases_eq}
 use Rattle.std.proofs.lemmas.List.{append-nil}
 use Rattle.std.proofs.lemmas.List.Elements.{Contains-append_left, Contains-append_right, Contains-append_cases, Contains-get_or}
 use Rattle.cpg_base.proofs.Lists.{Contains-first, Contains-rest, Contains-cases, Contains-nil}
@@ -9,87 +9,14 @@ use Rattle.cpg_cube.specs.Cube.{IsRising, low_in, high_in}
 use Rattle.cpg_base.specs.Variable.{top}
 use Rattle.cpg_cube.specs.Cover.{meet_literal, narrowed_by}
 use Rattle.cpg_cube.specs.declared.literal.Literal.{Literal}
-use Rattle.cpg_cube.proofs.CubeLows.{low_in-later, low_in-none}
-use Rattle.cpg_cube.proofs.Narrow.{narrowed-before, narrowed-here, narrowed-after, rising-narrowed}
+use Rattle.cpg_cube.proofs.Narrowed.{low-other, low-same, high-other, high-same}
+use Rattle.cpg_cube.proofs.Narrow.{narrowed-before, narrowed-here, narrowed-after, rising-narrowed, variables_of_narrowed}
 use Rattle.cpg_cube.proofs.Ranges.{rising_rest, rising_first, range_of_literal}
 use Rattle.cpg_run.proofs.Hearing.{low_kept, high_kept, high_kept_top, kept_low_below, kept_high_above, kept_grows}
 use Rattle.cpg_table.specs.Heard.{kept_low, kept_high}
 use Rattle.cpg_list.specs.Learning.{Within}
 use Rattle.cpg_list.specs.Narrowing.{met, IsNarrowed}
 use Rattle.cpg_run.specs.Rows.{IsCubeOf}
-
--- ---- the range of a variable
-
-low_in-here : (l : Literal) (ls : List Literal) (v : ℕ) → l.variable ≡ v → low_in (l ∷ ls) v ≡ l.low
-low_in-here l ls v e = cond-true (l.variable == v) l.low (low_in ls v) (eq-eqb l.variable v e)
-
-high_in-here : (k : ℕ) (l : Literal) (ls : List Literal) (v : ℕ) → l.variable ≡ v → high_in k (l ∷ ls) v ≡ l.high
-high_in-here k l ls v e = cond-true (l.variable == v) l.high (high_in k ls v) (eq-eqb l.variable v e)
-
-high_in-later : (k : ℕ) (l : Literal) (ls : List Literal) (v : ℕ) → l.variable ≢ v → high_in k (l ∷ ls) v ≡ high_in k ls v
-high_in-later k l ls v n = cond-false (l.variable == v) l.high (high_in k ls v) (ne_eqb l.variable v n)
-
-high_in-none : (k : ℕ) (ls : List Literal) (v : ℕ) → ((l : Literal) → Contains ls l → l.variable ≢ v) → high_in k ls v ≡ top k v
-high_in-none k [] v h = refl
-high_in-none k (l ∷ ls) v h = high_in-later k l ls v (h l (Contains-first l ls)) ∙ high_in-none k ls v (λ m c. h m (Contains-rest l ls m c))
-
--- the variables of a rising cube are above one that its first is above
-above_first : (v : ℕ) (m : Literal) (ms : List Literal) → IsRising (m ∷ ms) → v < m.variable → (x : Literal) → Contains (m ∷ ms) x → x.variable ≢ v
-above_first v m ms r h x c e = elim (Contains-cases m ms x c) [
-  | inl s ↦ absurd (omega (arith, ap (λ (y : Literal). y.variable) s))
-  | inr d ↦ absurd (omega (arith, rising_first m x ms r d))
-]
-
--- ---- the ranges of a cube narrowed by one literal
-
-module _ (k : ℕ) (l : Literal) where
-  low-other : (cube : List Literal) (v : ℕ) → l.variable ≢ v → low_in (narrowed_by l cube) v ≡ low_in cube v
-  low-other [] v n = low_in-later l [] v n
-  low-other (m ∷ ms) v n = elim (cases_order l.variable m.variable) [
-    | inl e ↦ let o : m.variable ≢ v = λ s. n (omega (arith, e, s)) in
-        ap (λ c. low_in c v) (narrowed-here l m ms e) ∙ low_in-later (meet_literal l m) ms v o ∙ sym (low_in-later m ms v o)
-    | inr (inl h) ↦ ap (λ c. low_in c v) (narrowed-before l m ms h) ∙ low_in-later l (m ∷ ms) v n
-    | inr (inr h) ↦ ap (λ c. low_in c v) (narrowed-after l m ms h) ∙ elim (cases_eq m.variable v) [
-      | inl e ↦ low_in-here m (narrowed_by l ms) v e ∙ sym (low_in-here m ms v e)
-      | inr o ↦ low_in-later m (narrowed_by l ms) v o ∙ low-other ms v n ∙ sym (low_in-later m ms v o)
-    ]
-  ]
-
-  high-other : (cube : List Literal) (v : ℕ) → l.variable ≢ v → high_in k (narrowed_by l cube) v ≡ high_in k cube v
-  high-other [] v n = high_in-later k l [] v n
-  high-other (m ∷ ms) v n = elim (cases_order l.variable m.variable) [
-    | inl e ↦ let o : m.variable ≢ v = λ s. n (omega (arith, e, s)) in
-        ap (λ c. high_in k c v) (narrowed-here l m ms e) ∙ high_in-later k (meet_literal l m) ms v o ∙ sym (high_in-later k m ms v o)
-    | inr (inl h) ↦ ap (λ c. high_in k c v) (narrowed-before l m ms h) ∙ high_in-later k l (m ∷ ms) v n
-    | inr (inr h) ↦ ap (λ c. high_in k c v) (narrowed-after l m ms h) ∙ elim (cases_eq m.variable v) [
-      | inl e ↦ high_in-here k m (narrowed_by l ms) v e ∙ sym (high_in-here k m ms v e)
-      | inr o ↦ high_in-later k m (narrowed_by l ms) v o ∙ high-other ms v n ∙ sym (high_in-later k m ms v o)
-    ]
-  ]
-
-  low-same : (cube : List Literal) → IsRising cube → low_in (narrowed_by l cube) l.variable ≡ max l.low (low_in cube l.variable)
-  low-same [] r = low_in-here l [] l.variable refl ∙ omega arith
-  low-same (m ∷ ms) r = elim (cases_order l.variable m.variable) [
-    | inl e ↦ ap (λ c. low_in c l.variable) (narrowed-here l m ms e) ∙ low_in-here (meet_literal l m) ms l.variable (sym e) ∙ sym (ap (max l.low) (low_in-here m ms l.variable (sym e)))
-    | inr (inl h) ↦
-        let z : low_in (m ∷ ms) l.variable ≡ 0 = low_in-none (m ∷ ms) l.variable (above_first l.variable m ms r h) in
-        ap (λ c. low_in c l.variable) (narrowed-before l m ms h) ∙ low_in-here l (m ∷ ms) l.variable refl ∙ omega (arith, z)
-    | inr (inr h) ↦ let o : m.variable ≢ l.variable = λ s. omega (arith, h, s) in
-        ap (λ c. low_in c l.variable) (narrowed-after l m ms h) ∙ low_in-later m (narrowed_by l ms) l.variable o ∙ low-same ms (rising_rest m ms r)
-        ∙ ap (max l.low) (sym (low_in-later m ms l.variable o))
-  ]
-
-  high-same : (cube : List Literal) → IsRising cube → l.high ≤ top k l.variable → high_in k (narrowed_by l cube) l.variable ≡ min l.high (high_in k cube l.variable)
-  high-same [] r w = high_in-here k l [] l.variable refl ∙ omega arith
-  high-same (m ∷ ms) r w = elim (cases_order l.variable m.variable) [
-    | inl e ↦ ap (λ c. high_in k c l.variable) (narrowed-here l m ms e) ∙ high_in-here k (meet_literal l m) ms l.variable (sym e) ∙ sym (ap (min l.high) (high_in-here k m ms l.variable (sym e)))
-    | inr (inl h) ↦
-        let z : high_in k (m ∷ ms) l.variable ≡ top k l.variable = high_in-none k (m ∷ ms) l.variable (above_first l.variable m ms r h) in
-        ap (λ c. high_in k c l.variable) (narrowed-before l m ms h) ∙ high_in-here k l (m ∷ ms) l.variable refl ∙ omega (arith, z)
-    | inr (inr h) ↦ let o : m.variable ≢ l.variable = λ s. omega (arith, h, s) in
-        ap (λ c. high_in k c l.variable) (narrowed-after l m ms h) ∙ high_in-later k m (narrowed_by l ms) l.variable o ∙ high-same ms (rising_rest m ms r) w
-        ∙ ap (min l.high) (sym (high_in-later k m ms l.variable o))
-  ]
 
 -- ---- what is kept of literals and more
 
@@ -146,20 +73,9 @@ module _ (k : ℕ) (l : Literal) where
 
 -- the variables of a narrowed cube are those of the cube and the literal's
 spoken_narrowed : (l : Literal) (cube : List Literal) (x : Literal) → Contains (narrowed_by l cube) x → (y : Literal) × Contains (cube ++ l ∷ []) y × (y.variable ≡ x.variable)
-spoken_narrowed l [] x j = (l, Contains-first l [], ap (λ (y : Literal). y.variable) (only l x j))
-spoken_narrowed l (m ∷ ms) x j = elim (cases_order l.variable m.variable) [
-  | inl e ↦ elim (Contains-cases (meet_literal l m) ms x (subst (λ c. Contains c x) (narrowed-here l m ms e) j)) [
-    | inl s ↦ (m, Contains-first m (ms ++ l ∷ []), ap (λ (y : Literal). y.variable) s)
-    | inr d ↦ (x, Contains-rest m (ms ++ l ∷ []) x (Contains-append_left ms (l ∷ []) x d), refl)
-  ]
-  | inr (inl h) ↦ elim (Contains-cases l (m ∷ ms) x (subst (λ c. Contains c x) (narrowed-before l m ms h) j)) [
-    | inl s ↦ (l, Contains-append_right (m ∷ ms) (l ∷ []) l (Contains-first l []), ap (λ (y : Literal). y.variable) s)
-    | inr d ↦ (x, Contains-append_left (m ∷ ms) (l ∷ []) x d, refl)
-  ]
-  | inr (inr h) ↦ elim (Contains-cases m (narrowed_by l ms) x (subst (λ c. Contains c x) (narrowed-after l m ms h) j)) [
-    | inl s ↦ (m, Contains-first m (ms ++ l ∷ []), ap (λ (y : Literal). y.variable) s)
-    | inr d ↦ let r = spoken_narrowed l ms x d in (r.0, Contains-rest m (ms ++ l ∷ []) r.0 r.1, r.2)
-  ]
+spoken_narrowed l cube x j = elim (variables_of_narrowed l cube x j) [
+  | inl e ↦ (l, Contains-append_right cube (l ∷ []) l (Contains-first l []), e)
+  | inr r ↦ (r.0, Contains-append_left cube (l ∷ []) r.0 r.1, r.2)
 ]
 
 -- ---- cubes of literals
