@@ -1,7 +1,7 @@
 //! Tables, written.
 ghost use Rattle.std.specs.Prelude.{◌≡◌, ◌≤◌, [], Err, OnOk, OnErr};
 ghost use Rattle.std.specs.List.{flat_map};
-ghost use Rattle.std.specs.Io.KnownBytes.{Appends, Keeps};
+ghost use Rattle.std.specs.Io.KnownBytes.{Appends};
 ghost use Rattle.cpg_io.specs.Causes.{HasCause, Rose};
 ghost use Rattle.cpg_io.specs.Sink.{TookPrefix};
 ghost use Rattle.cpg_codec.specs.Spelling.{table_bytes, spelling};
@@ -48,12 +48,12 @@ fn write_through<O: Sink>(buffer: &mut Buffer, sink: &mut O, tables: &Tables) ->
 /// Writes the spelling of tables, in pieces of 65,536 bytes and a rest.
 ///
 /// `Failed` only where the sink's count of faults rose. The sink has taken a proper prefix of the spelling then. The
-/// buffer is taken before the first write, so on `OutOfMemory` nothing was written.
+/// buffer is taken before the first write, so on `OutOfMemory` the sink is as it was.
 pub fn write_pack<O: Sink>(alloc: Global, tables: &Tables, sink: &mut O) -> Result<(), WriteFault>
     ensures whole { OnOk result (Appends (O.taken sink.old) (O.taken sink.new) (spelling tables.now)) }
     ensures part { result ≡ Err WriteFault.Failed → TookPrefix (O.taken sink.old) (O.taken sink.new) (spelling tables.now) }
     ensures cause { result ≡ Err WriteFault.Failed → Rose (O.faults sink.old) (O.faults sink.new) }
-    ensures none { result ≡ Err WriteFault.OutOfMemory → Keeps (O.taken sink.old) (O.taken sink.new) }
+    ensures same { result ≡ Err WriteFault.OutOfMemory → sink.new ≡ sink.old }
     ensures later { O.faults sink.old ≤ O.faults sink.new }
 {
     let mut buffer = Buffer::new(alloc)?;

@@ -1,6 +1,10 @@
 //! A shelf over the runtime's files.
-ghost use Rattle.std.specs.Prelude.{◌≡◌, ◌≤◌, None, ⊤};
-ghost use Rattle.cpg_io.specs.Causes.{counted};
+ghost use Rattle.std.specs.Prelude.{◌≡◌, ◌<◌, ◌≤◌, None, Ok, false, ⊤, is_ok, length, MatchResult, OnErr, OnOk};
+ghost use Rattle.std.specs.Io.{ReadsAtMost};
+ghost use Rattle.std.specs.Io.KnownBytes.{IsAtEnd, ReadConsumes};
+ghost use Rattle.cpg_io.specs.Adapters.{left_of};
+ghost use Rattle.cpg_io.specs.Causes.{HasCause, counted};
+ghost use Rattle.cpg_io.specs.Shelf.{StartsAt, SameNames, SameLeave};
 
 use crate::{Failed, Shelf};
 use std::fs;
@@ -8,7 +12,8 @@ use std::io::Read;
 use std::marker::Model;
 use std::rt::Files;
 
-/// A shelf over the runtime's files, where a name is a path. It tells no bytes, and every name may be fetched.
+/// A shelf over the runtime's files, where a name is a path. It tells no bytes of a file, and that nothing is left where
+/// no file is open. Every name may be fetched.
 #[derive(Drop)]
 pub struct FileShelf<R: Files> {
     rt: R,
@@ -18,17 +23,18 @@ pub struct FileShelf<R: Files> {
 }
 
 impl<R: Files> Model for FileShelf<R> {
+    ghost use Rattle.std.specs.Prelude.{is_some};
     ghost use Rattle.cpg_io.specs.Adapters.{FileShelfState};
 
     ghost Value = { FileShelfState };
 
-    ghost view = { λ s. record { given = s.given; faults = s.faults } };
+    ghost view = { λ s. record { is_open = is_some s.file; given = s.given; faults = s.faults } };
 }
 
 impl<R: Files> FileShelf<R> {
     /// A shelf over the files of `rt`, with no file open.
     pub fn new(rt: R) -> FileShelf<R>
-        ensures { result ≡ record { given = 0; faults = 0 } }
+        ensures { result ≡ record { is_open = false; given = 0; faults = 0 } }
     {
         FileShelf {
             rt,
@@ -51,7 +57,7 @@ impl<R: Files> FileShelf<R> {
 impl<R: Files> Shelf for FileShelf<R> {
     ghost stands = { λ _ _. None };
 
-    ghost left = { λ _. None };
+    ghost left = { λ s. left_of s };
 
     ghost given = { λ s. s.given };
 
@@ -60,7 +66,16 @@ impl<R: Files> Shelf for FileShelf<R> {
     ghost may_fetch = { λ _ _. ⊤ };
 
     /// Opens the file. An error is a fault, and leaves no file open.
-    fn fetch(&mut self, name: &str) -> Result<(), Failed> {
+    fn fetch(&mut self, name: &str) -> Result<(), Failed>
+        ensures names { SameNames (λ _. None) (λ _. None) }
+        ensures leave { SameLeave (λ _. ⊤) (λ _. ⊤) }
+        ensures started { OnOk result (StartsAt None (left_of self.new)) }
+        ensures spent { OnErr result (IsAtEnd (left_of self.new)) }
+        ensures count { self.new.given ≡ 0 }
+        ensures cause { HasCause self.old.faults self.new.faults result }
+        ensures open { self.new.is_open ≡ is_ok result }
+        ensures faults { MatchResult result (λ _. self.new.faults ≡ self.old.faults) (λ _. self.new.faults ≡ counted self.old.faults 1) }
+    {
         self.given = 0;
         self.file = None;
         match fs::open(&self.rt, name) {
@@ -73,7 +88,18 @@ impl<R: Files> Shelf for FileShelf<R> {
     }
 
     /// Reads once, so that a large buffer is one large block. An error is a fault; with no file open this is the end.
-    fn read(&mut self, buf: &mut [u8]) -> Result<usize, Failed> {
+    fn read(&mut self, buf: &mut [u8]) -> Result<usize, Failed>
+        requires { 0 < length buf.old }
+        ensures names { SameNames (λ _. None) (λ _. None) }
+        ensures leave { SameLeave (λ _. ⊤) (λ _. ⊤) }
+        ensures bound { ReadsAtMost result buf.new }
+        ensures bytes { ReadConsumes (left_of self.old) (left_of self.new) result buf.new }
+        ensures count { MatchResult result (λ n. self.new.given ≡ counted self.old.given n) (λ _. self.new.given ≡ self.old.given) }
+        ensures cause { HasCause self.old.faults self.new.faults result }
+        ensures open { self.new.is_open ≡ self.old.is_open }
+        ensures end { self.old.is_open ≡ false → result ≡ Ok 0 }
+        ensures faults { MatchResult result (λ _. self.new.faults ≡ self.old.faults) (λ _. self.new.faults ≡ counted self.old.faults 1) }
+    {
         let read = match &mut self.file {
             Some(file) => file.read(buf),
             None => Ok(0),

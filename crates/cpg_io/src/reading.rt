@@ -1,5 +1,5 @@
 //! Reading all of a name's bytes.
-ghost use Rattle.std.specs.Prelude.{◌≡◌, ◌+◌, ◌^◌, ◌<◌, ◌≤◌, ◌↔◌, Err, IfOk, IfSome, length, vec_len};
+ghost use Rattle.std.specs.Prelude.{◌≡◌, ◌+◌, ◌<◌, ◌≤◌, ◌↔◌, Err, IfOk, IfSome, length, vec_len};
 ghost use Rattle.cpg_io.specs.Causes.{Rose};
 ghost use Rattle.cpg_io.specs.Shelf.{SameNames, SameLeave};
 ghost use Rattle.cpg_io.specs.Reading.{ReadsOn};
@@ -55,8 +55,8 @@ fn read_piece<S: Shelf>(
     limit: usize,
 ) -> Result<usize, ReadAll>
     requires buffer { 0 < length buffer.old }
+    requires piece { length buffer.old ≤ 65536 }
     requires room { vec_len bytes.old ≤ limit }
-    requires small { limit < 2 ^ 32 }
     requires given { S.given shelf.old ≡ vec_len bytes.old }
     ensures names { SameNames (S.stands shelf.old) (S.stands shelf.new) }
     ensures leave { SameLeave (S.may_fetch shelf.old) (S.may_fetch shelf.new) }
@@ -70,7 +70,7 @@ fn read_piece<S: Shelf>(
     ensures later { S.faults shelf.old ≤ S.faults shelf.new }
 {
     let room = limit - bytes.len();
-    let most = buffer.len().min(room + 1);
+    let most = buffer.len().min(room.saturating_add(1));
     let piece = &mut buffer[..most];
     let count = shelf.read(piece)?;
     if count > room {
@@ -83,7 +83,7 @@ fn read_piece<S: Shelf>(
 /// Reads all bytes that stand under a name, where there are at most `limit` of them, in large pieces.
 ///
 /// `Failed` only where the shelf's count of faults rose. `TooLong` exactly where the shelf has then given more than
-/// `limit` bytes since the fetch; it is asked for no more than `limit` plus one. `limit` is below 2^32.
+/// `limit` bytes since the fetch; it is asked for no more than `limit` plus one.
 pub fn read_all<S: Shelf>(
     alloc: Global,
     shelf: &mut S,
@@ -91,7 +91,6 @@ pub fn read_all<S: Shelf>(
     limit: usize,
 ) -> Result<Vec<u8>, ReadAll>
     requires may { S.may_fetch shelf.old name.now }
-    requires small { limit < 2 ^ 32 }
     ensures names { SameNames (S.stands shelf.old) (S.stands shelf.new) }
     ensures leave { SameLeave (S.may_fetch shelf.old) (S.may_fetch shelf.new) }
     ensures whole { IfOk result (λ v. IfSome (S.stands shelf.old name.now) (λ bytes. v.items ≡ bytes)) }

@@ -1,5 +1,7 @@
 //! A sink over a writer of std.
-ghost use Rattle.std.specs.Prelude.{◌≡◌, None};
+ghost use Rattle.std.specs.Prelude.{◌≡◌, ◌<◌, ◌≤◌, None, IfOk, MatchResult, length};
+ghost use Rattle.std.specs.Io.KnownBytes.{WriteAppends};
+ghost use Rattle.cpg_io.specs.Causes.{HasCause, counted};
 
 use crate::{Failed, Sink};
 use std::io::Write;
@@ -35,7 +37,14 @@ impl<W: Write> Sink for StreamSink<W> {
     ghost faults = { λ s. s.faults };
 
     /// Writes and flushes once. An error of either, or a write of nothing, is a fault.
-    fn write(&mut self, piece: &[u8]) -> Result<usize, Failed> {
+    fn write(&mut self, piece: &[u8]) -> Result<usize, Failed>
+        requires { 0 < length piece.now }
+        ensures some { IfOk result (λ n. 0 < n) }
+        ensures bound { IfOk result (λ n. n ≤ length piece.now) }
+        ensures bytes { WriteAppends None None result piece.now }
+        ensures cause { HasCause self.old.faults self.new.faults result }
+        ensures faults { MatchResult result (λ _. self.new.faults ≡ self.old.faults) (λ _. self.new.faults ≡ counted self.old.faults 1) }
+    {
         let count = self.writer.write(piece).unwrap_or(0);
         if count == 0 || self.writer.flush().is_err() {
             self.faults = self.faults.saturating_add(1);

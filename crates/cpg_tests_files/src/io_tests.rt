@@ -1,7 +1,5 @@
 //! Each call once, and each adapter over a real file or a writer that fails.
 
-ghost use Rattle.std.specs.Prelude.{◌<◌, ◌^◌};
-
 use cpg_io::{
     Failed, FileShelf, MemoryShelf, MemorySink, ReadAll, Shelf, Sink, StreamSink, read_all,
     write_all,
@@ -13,8 +11,7 @@ use std::{fs, io};
 
 /// Whether these bytes are all that is read under a name.
 fn reads<S: Shelf>(alloc: Global, shelf: &mut S, name: &str, limit: usize, want: &[u8]) -> bool
-    requires may { S.may_fetch shelf.old name.now }
-    requires small { limit < 2 ^ 32 }
+    requires { S.may_fetch shelf.old name.now }
 {
     match read_all(alloc, shelf, name, limit) {
         Ok(bytes) => bytes.as_slice() == want,
@@ -24,8 +21,7 @@ fn reads<S: Shelf>(alloc: Global, shelf: &mut S, name: &str, limit: usize, want:
 
 /// Why what stands under a name isn't read.
 fn fault<S: Shelf>(alloc: Global, shelf: &mut S, name: &str, limit: usize) -> Option<ReadAll>
-    requires may { S.may_fetch shelf.old name.now }
-    requires small { limit < 2 ^ 32 }
+    requires { S.may_fetch shelf.old name.now }
 {
     read_all(alloc, shelf, name, limit).err()
 }
@@ -49,6 +45,7 @@ fn reads_from_memory(rt: HostRuntime) -> Result<(), Fail> {
     let mut shelf = shelf(alloc)?;
     assert!(rt; reads(alloc, &mut shelf, "graph", 11, b"faults = 1\n"));
     assert!(rt; reads(alloc, &mut shelf, "pack", 100, b"CPGT"));
+    assert!(rt; reads(alloc, &mut shelf, "pack", usize::MAX, b"CPGT"));
     assert!(rt; fault(alloc, &mut shelf, "graph", 10) == Some(ReadAll::TooLong));
     assert!(rt; fault(alloc, &mut shelf, "log", 10) == Some(ReadAll::Failed));
     Ok(())
