@@ -1,5 +1,5 @@
 -- Choices: a node is asked after another until one takes its turn, and choices follow each other until all nodes are done.
-use Rattle.std.proofs.Common.{◌≡◌, ℕ, zero, suc, ◌+◌, ◌<◌, ◌≤◌, ◌^◌, ◌%◌, true, false, List, [], ◌∷◌, length, drop, get_or, set, Option, Some, None, refl, sym, ap, ap₂, ◌∙◌, arith, true≢false, ltb-true, drop-cons, add-one}
+use Rattle.std.proofs.Common.{◌≡◌, ℕ, zero, suc, ◌+◌, ◌<◌, ◌≤◌, ◌%◌, true, false, List, [], ◌∷◌, length, drop, get_or, set, Some, None, refl, sym, ap, ap₂, ◌∙◌, arith, true≢false, drop-cons, add-one}
 use Rattle.std.specs.Prelude.{sum_by}
 use Rattle.std.proofs.lemmas.List.{length-map}
 use Rattle.std.proofs.lemmas.List.Sums.{sum_by-set}
@@ -7,19 +7,14 @@ use Rattle.std.proofs.lemmas.List.FromFn.{length-range_with_len}
 use Rattle.cpg_base.specs.Graph.{Graph}
 use Rattle.cpg_base.specs.Numbers.{numbers_below}
 use Rattle.cpg_base.proofs.Lists.{get_or-map-below}
-use Rattle.cpg_node.specs.Dispatcher.{Dispatcher, is_after, next}
+use Rattle.cpg_node.specs.Dispatcher.{Dispatcher, next}
 use Rattle.cpg_cluster.specs.Cluster.{World, Cluster, Answer, Took, Waits, Done, step_by, step, answer, dispatcher_at}
 use Rattle.cpg_cluster.specs.Playing.{Playing, stepped}
-use Rattle.cpg_cluster.specs.Driving.{circle, Choice, chosen, choose, remaining_of}
+use Rattle.cpg_cluster.specs.Driving.{circle, Choice, chosen, choose, instants_left}
 
--- a turn brings a node nearer to the end of time
-pub nearer_last : (last : Option ℕ) (time : ℕ) → is_after last time ≡ true → time < 2 ^ 61 → remaining_of (Some time) < remaining_of last
-nearer_last None time a l = omega arith
-nearer_last (Some t) time a l = omega (arith, ltb-true t time a)
-
-pub nearer_set : (nodes : List Dispatcher) (a time : ℕ) (d e : Dispatcher) → a < length nodes → is_after (get_or nodes a e).last time ≡ true → time < 2 ^ 61 → d.last ≡ Some time →
-    sum_by (λ (d : Dispatcher). remaining_of d.last) (set nodes a d) < sum_by (λ (d : Dispatcher). remaining_of d.last) nodes
-nearer_set nodes a time d e l after early is = omega (arith, sum_by-set (λ (d : Dispatcher). remaining_of d.last) nodes a d e l, nearer_last (get_or nodes a e).last time after early, ap remaining_of is)
+-- where a turn leaves a node fewer instants, it leaves fewer to all together
+pub nearer_set : (nodes : List Dispatcher) (a : ℕ) (d e : Dispatcher) → a < length nodes → instants_left d < instants_left (get_or nodes a e) → sum_by instants_left (set nodes a d) < sum_by instants_left nodes
+nearer_set nodes a d e l less = omega (arith, sum_by-set instants_left nodes a d e l, less)
 
 -- the node that is asked at a place of the circle
 pub circle_at : (nodes first i : ℕ) → i < nodes → drop i (circle nodes first) ≡ ((first + i) % nodes) ∷ drop (i + 1) (circle nodes first)

@@ -1,6 +1,6 @@
 -- A play that is driven: someone takes a turn in each choice while not all are done, and choices follow each other.
-use Rattle.std.proofs.Common.{◌≡◌, ℕ, zero, suc, ◌+◌, ◌-◌, ◌<◌, ◌≤◌, ◌^◌, ◌%◌, min, true, false, ◌||◌, List, [], ◌∷◌, length, get_or, Contains, Option, Some, None, refl, sym, ap, ◌∙◌, subst, arith, inl, inr, ◌⊎◌, true≢false}
-use Rattle.std.specs.Prelude.{is_some}
+use Rattle.std.proofs.Common.{◌≡◌, ℕ, zero, suc, ◌+◌, ◌-◌, ◌<◌, ◌≤◌, ◌%◌, true, false, ◌||◌, List, [], ◌∷◌, length, map, get_or, Contains, Option, Some, None, refl, sym, ap, ◌∙◌, subst, arith, inl, inr, ◌⊎◌, true≢false}
+use Rattle.std.specs.Prelude.{is_some, sum_by}
 use Rattle.std.specs.List.{list_any}
 use Rattle.std.proofs.lemmas.Bool.{cases_lt, cases_eq, cases_Bool}
 use Rattle.std.proofs.lemmas.Option.{none-some, same_Some}
@@ -10,17 +10,20 @@ use Rattle.cpg_base.specs.Graph.{Graph}
 use Rattle.cpg_base.specs.Numbers.{numbers_below}
 use Rattle.cpg_base.proofs.Lists.{Contains-cases, Contains-nil, Contains-map, Contains-numbers, from_any_false}
 use Rattle.std.proofs.lemmas.List.Elements.{Contains-get_or}
-use Rattle.cpg_node.specs.Dispatcher.{next}
+use Rattle.cpg_table.specs.Lawful.{column_count, rows_of}
+use Rattle.cpg_table.specs.Table.{NodeTable}
+use Rattle.cpg_node.specs.Dispatcher.{Dispatcher, next}
 use Rattle.cpg_cluster.specs.Cluster.{World, Cluster, Answer, Took, Waits, Done, answer, answer_at, dispatcher_at}
 use Rattle.cpg_cluster.specs.Playing.{Playing, IsPlaying}
-use Rattle.cpg_cluster.specs.Driving.{next_number, circle, Choice, chosen, choose, choice, driven, AllDone, IsDriven, first_asked}
+use Rattle.cpg_cluster.specs.Driving.{next_number, circle, Choice, chosen, choose, choice, driven, AllDone, IsDriven, first_asked, remaining}
 use Rattle.cpg_cluster.specs.Kept.{cluster_of}
 use Rattle.cpg_cluster.specs.declared.member.Member.{Member}
 use Rattle.cpg_cluster.proofs.Between.{dispatcher_is}
+use Rattle.cpg_cluster.proofs.Bounded.{most_remaining}
 use Rattle.cpg_cluster.proofs.Lively.{least_took}
 use Rattle.cpg_cluster.proofs.Passed.{played_reached}
 use Rattle.cpg_cluster.proofs.Plays.{played_of, never_done}
-use Rattle.cpg_cluster.proofs.Stepping.{play_of}
+use Rattle.cpg_cluster.proofs.Stepping.{tables_of, play_of}
 
 -- a node with a next instant that no other is before, or there is none
 least_node : (f : ℕ → Option ℕ) (n : ℕ) → ((a : ℕ) × (a < n) × (time : ℕ) × (f a ≡ Some time) × ((other moment : ℕ) → other < n → f other ≡ Some moment → time ≤ moment)) ⊎ ((a : ℕ) → a < n → f a ≡ None)
@@ -138,36 +141,29 @@ driven_more g w (suc n) x c now total e =
 -- a drive on the way: the number is that of the last choice
 pub record IsDriving (g : Graph) (w : World) (x : ℕ) (before now : Cluster) (number waits : ℕ) : Type 0 where
   pub turns : ℕ
-  pub total : ℕ
-  pub is : driven g w turns x before ≡ (now, total)
+  pub is : driven g w turns x before ≡ (now, waits)
   pub number' : number ≡ number_after turns x
   pub needed : (fewer : ℕ) → fewer < turns → AllDone g (driven g w fewer x before).0 → ⊥
-  pub counted : waits ≡ min total (2 ^ 64 - 1)
 
 pub driving_none : (g : Graph) (w : World) (x : ℕ) (c : Cluster) → IsDriving g w x c c x 0
-driving_none g w x c = record { turns = 0; total = 0; is = refl; number' = refl; needed = λ fewer l. absurd (omega arith); counted = refl }
+driving_none g w x c = record { turns = 0; is = refl; number' = refl; needed = λ fewer l. absurd (omega arith) }
 
-pub driving_more : (g : Graph) (w : World) (x : ℕ) (c now new : Cluster) (number waits more next' waits' : ℕ) → IsDriving g w x c now number waits → (AllDone g now → ⊥) → next' ≡ next_number number →
-    new ≡ (choice g w now next').cluster → more ≡ (choice g w now next').waits → waits' ≡ min (waits + more) (2 ^ 64 - 1) → IsDriving g w x c new next' waits'
-driving_more g w x c now new number waits more next' waits' h left n e m s =
+pub driving_more : (g : Graph) (w : World) (x : ℕ) (c now new : Cluster) (number waits more next' : ℕ) → IsDriving g w x c now number waits → (AllDone g now → ⊥) → next' ≡ next_number number →
+    new ≡ (choice g w now next').cluster → more ≡ (choice g w now next').waits → IsDriving g w x c new next' (waits + more)
+driving_more g w x c now new number waits more next' h left n e m =
     let at : next' ≡ next_number (number_after h.turns x) = n ∙ ap next_number h.number' in
     record {
       turns = suc h.turns;
-      total = h.total + (choice g w now next').waits;
-      is = driven_more g w h.turns x c now h.total h.is ∙ (λ i. ((choice g w now (sym at i)).cluster, h.total + (choice g w now (sym at i)).waits)) ∙ ap (λ (d : Cluster). (d, h.total + (choice g w now next').waits)) (sym e);
+      is = driven_more g w h.turns x c now waits h.is ∙ (λ i. ((choice g w now (sym at i)).cluster, waits + (choice g w now (sym at i)).waits)) ∙ (λ i. (sym e i, waits + sym m i));
       number' = at ∙ sym (number_more h.turns x);
       needed = λ fewer l d. elim (cases_eq fewer h.turns) [
         | inl same ↦ left (subst (AllDone g) (ap (λ n. (driven g w n x c).0) same ∙ ap (λ (q : Cluster × ℕ). q.0) h.is) d)
         | inr ne ↦ h.needed fewer (omega arith) d
       ];
-      counted = s ∙ capped h.total waits more (choice g w now next').waits h.counted m;
     }
-  where
-    capped : (total waits more other : ℕ) → waits ≡ min total (2 ^ 64 - 1) → more ≡ other → min (waits + more) (2 ^ 64 - 1) ≡ min (total + other) (2 ^ 64 - 1)
-    capped total waits more other a b = omega arith
 
-pub driving_done : (g : Graph) (w : World) (x : ℕ) (c now : Cluster) (number waits : ℕ) → IsDriving g w x c now number waits → AllDone g now → (total : ℕ) × IsDriven g w x c now total × (waits ≡ min total (2 ^ 64 - 1))
-driving_done g w x c now number waits h d = (h.total, record { turns = h.turns; is = h.is; done = d; needed = h.needed }, h.counted)
+pub driving_done : (g : Graph) (w : World) (x : ℕ) (c now : Cluster) (number waits : ℕ) → IsDriving g w x c now number waits → AllDone g now → IsDriven g w x c now waits
+driving_done g w x c now number waits h d = record { turns = h.turns; is = h.is; done = d; needed = h.needed }
 
 -- The same of the state as code sees it.
 
@@ -181,11 +177,25 @@ left_at g w ms now view p e = subst (λ (now : Playing). AllDone now.graph now.c
 pub done_at : (g : Graph) (w : World) (ms : List Member) (now : Playing) → play_of g w ms ≡ now → IsPlaying (play_of g w ms) → list_any (λ (m : Member). is_some (next m.node.dispatcher)) ms ≡ false → AllDone now.graph now.cluster
 done_at g w ms now view p e = subst (λ (now : Playing). AllDone now.graph now.cluster) view (all_done g w ms p e)
 
-pub drive_step : (old now new : Playing) (x drawn waits drawn' first more waits' : ℕ) → now ≡ record old { cluster = now.cluster } → IsDriving old.graph old.world x old.cluster now.cluster drawn waits → (AllDone now.graph now.cluster → ⊥) →
+-- the nodes come to so many instants at most
+tables_twice : (ms : List Member) → map (λ (d : Dispatcher). d.table) (map (λ (m : Member). m.node.dispatcher) ms) ≡ tables_of ms
+tables_twice [] = refl
+tables_twice (m ∷ ms) = ap (λ (ts : List NodeTable). m.node.dispatcher.table ∷ ts) (tables_twice ms)
+
+pub most_at : (g : Graph) (w : World) (ms : List Member) (now : Playing) → play_of g w ms ≡ now → IsPlaying (play_of g w ms) → length ms ≤ 16 → remaining now.cluster ≤ 604540944
+most_at g w ms now view p few =
+    let k = played_of g (tables_of ms) p.formed p.shape p.valid w p.world in
+    let r = played_reached k (cluster_of ms) p.played in
+    let nodes = length-map ms (λ (m : Member). m.node.dispatcher) in
+    subst (λ (now : Playing). remaining now.cluster ≤ 604540944) view
+    (most_remaining g (cluster_of ms) p.limits (omega (arith, few, nodes)) (λ i l. ap (λ (d : Dispatcher). d.table.own) (r.holds i (omega (arith, l, r.nodes))).is)
+    (omega (arith, p.lawful.few, ap (λ (ts : List NodeTable). sum_by (λ (t : NodeTable). column_count (rows_of t)) ts) (tables_twice ms))))
+
+pub drive_step : (old now new : Playing) (x drawn waits drawn' first more : ℕ) → now ≡ record old { cluster = now.cluster } → IsDriving old.graph old.world x old.cluster now.cluster drawn waits → (AllDone now.graph now.cluster → ⊥) →
     drawn' ≡ next_number drawn → first ≡ first_asked (length now.graph.nodes) drawn' → new ≡ record now { cluster = (choose now.graph now.world now.cluster (circle (length now.graph.nodes) first)).cluster } →
-    more ≡ (choose now.graph now.world now.cluster (circle (length now.graph.nodes) first)).waits → waits' ≡ min (waits + more) (2 ^ 64 - 1) →
-    (new ≡ record old { cluster = new.cluster }) × IsDriving old.graph old.world x old.cluster new.cluster drawn' waits'
-drive_step old now new x drawn waits drawn' first more waits' same h left d f e m s =
+    more ≡ (choose now.graph now.world now.cluster (circle (length now.graph.nodes) first)).waits →
+    (new ≡ record old { cluster = new.cluster }) × IsDriving old.graph old.world x old.cluster new.cluster drawn' (waits + more)
+drive_step old now new x drawn waits drawn' first more same h left d f e m =
     let ge : now.graph ≡ old.graph = ap (λ (p : Playing). p.graph) same in
     let we : now.world ≡ old.world = ap (λ (p : Playing). p.world) same in
     let te : now.tables ≡ old.tables = ap (λ (p : Playing). p.tables) same in
@@ -193,6 +203,6 @@ drive_step old now new x drawn waits drawn' first more waits' same h left d f e 
     ap (λ n. choose now.graph now.world now.cluster (circle (length now.graph.nodes) n)) f ∙ (λ i. choice (ge i) (we i) now.cluster drawn') in
     let kept : new ≡ record old { cluster = new.cluster } = (λ i. record { graph = (ap (λ (p : Playing). p.graph) e ∙ ge) i; tables = (ap (λ (p : Playing). p.tables) e ∙ te) i; world = (ap (λ (p : Playing). p.world) e ∙ we) i; cluster = new.cluster }) in (
       kept,
-      driving_more old.graph old.world x old.cluster now.cluster new.cluster drawn waits more drawn' waits' h (subst (λ (g : Graph). AllDone g now.cluster → ⊥) ge left) d
-          (ap (λ (p : Playing). p.cluster) e ∙ ap (λ (r : Choice). r.cluster) one) (m ∙ ap (λ (r : Choice). r.waits) one) s,
+      driving_more old.graph old.world x old.cluster now.cluster new.cluster drawn waits more drawn' h (subst (λ (g : Graph). AllDone g now.cluster → ⊥) ge left) d
+          (ap (λ (p : Playing). p.cluster) e ∙ ap (λ (r : Choice). r.cluster) one) (m ∙ ap (λ (r : Choice). r.waits) one),
     )

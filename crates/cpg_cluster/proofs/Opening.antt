@@ -98,7 +98,7 @@ module _ (g : Graph) (tables : List NodeTable) (w : World) (within : IsWithinLim
   play_is = λ i. record { graph = g; tables = tables_are i; world = w; cluster = cluster_is i }
 
   pub playing_open : WellFormed g → IsValid g tables → IsWorld g w → IsPlaying (play_of g w ms)
-  playing_open f v o = subst IsPlaying (sym play_is) (record { formed = f; shape = has_shape g within tables of; valid = v; world = o; played = played_open g tables w })
+  playing_open f v o = subst IsPlaying (sym play_is) (record { limits = within; formed = f; lawful = of; shape = has_shape g within tables of; valid = v; world = o; played = played_open g tables w })
 
   pub fits_open : AllFit g ms
   fits_open i d l =

@@ -24,10 +24,10 @@ use Rattle.cpg_cluster.proofs.Plays.{played_of}
 use Rattle.cpg_cluster.proofs.Reached.{Reached}
 use Rattle.cpg_cluster.proofs.Passed.{played_step, played_reached}
 use Rattle.cpg_cluster.proofs.Ends.{ended_by}
-use Rattle.cpg_node.proofs.Next.{next_is}
 use Rattle.cpg_cluster.specs.Driving.{remaining}
 use Rattle.cpg_cluster.proofs.Driven.{nearer_set}
 use Rattle.cpg_cluster.proofs.Between.{dispatcher_is, answer_is, frames_are}
+use Rattle.cpg_cluster.proofs.Bounded.{less_turn}
 use Rattle.cpg_cluster.proofs.Finishing.{may_finish, next_ready, may_turn, own_known, table_finished}
 use Rattle.cpg_cluster.proofs.Reporting.{reports_hold}
 use Rattle.cpg_cluster.proofs.Rooms.{acts_few, ends_few, reports_few, frames_few}
@@ -209,7 +209,7 @@ module _ (g : Graph) (w : World) (ms : List Member) (p : IsPlaying (play_of g w 
           play_then = λ i. record { graph = g; tables = tables_then i; world = w; cluster = (cluster_then ∙ sym step_is) i }
 
           pub playing_then : IsPlaying (play_of g w (set ms a n))
-          playing_then = subst IsPlaying (sym play_then) (record { formed = p.formed; shape = p.shape; valid = p.valid; world = p.world; played = played_step g (tables_of ms) w (cluster_of ms) a p.played })
+          playing_then = subst IsPlaying (sym play_then) (record { limits = p.limits; formed = p.formed; lawful = p.lawful; shape = p.shape; valid = p.valid; world = p.world; played = played_step g (tables_of ms) w (cluster_of ms) a p.played })
 
           fit_then : Fits g a n
           fit_then = record {
@@ -235,9 +235,9 @@ module _ (g : Graph) (w : World) (ms : List Member) (p : IsPlaying (play_of g w 
           heard_then most h = All-set (λ (m : Member). length m.node.dispatcher.table.hears ≤ most) ms a n
               (omega (arith, ap (λ (t : NodeTable). length t.hears) table_then, subst (λ (m : Member). length m.node.dispatcher.table.hears ≤ most) (sym at) (h a m l))) h
 
-          -- which brings the nodes nearer to the end of time
-          pub nearer_then : time < 2 ^ 61 → remaining (cluster_of (set ms a n)) < remaining (cluster_of ms)
-          nearer_then early = subst (λ (d : Cluster). remaining d < remaining (cluster_of ms)) (sym cluster_then)
-              (nearer_set (cluster_of ms).nodes a time (turn (reported g w (dispatcher_at (cluster_of ms) a) time) time [] (frames_now g w (cluster_of ms) (reported g w (dispatcher_at (cluster_of ms) a) time) time))
+          -- which leaves the nodes fewer instants
+          pub nearer_then : remaining (cluster_of (set ms a n)) < remaining (cluster_of ms)
+          nearer_then = subst (λ (d : Cluster). remaining d < remaining (cluster_of ms)) (sym cluster_then)
+              (nearer_set (cluster_of ms).nodes a (turn (reported g w (dispatcher_at (cluster_of ms) a) time) time [] (frames_now g w (cluster_of ms) (reported g w (dispatcher_at (cluster_of ms) a) time) time))
               (opening (record { faults = 0; first_broadcast = 0; own = []; starts = []; sends = []; hears = [] })) (omega (arith, l, length-map ms (λ (m : Member). m.node.dispatcher)))
-              (next_is (dispatcher_at (cluster_of ms) a) time next_at).after early refl)
+              (less_turn g w a (dispatcher_at (cluster_of ms) a) time (frames_now g w (cluster_of ms) (reported g w (dispatcher_at (cluster_of ms) a) time) time) p.limits (ap (λ (d : Dispatcher). d.table.own) (r.holds a on).is) next_at))

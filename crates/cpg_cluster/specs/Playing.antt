@@ -1,7 +1,10 @@
 -- A play under way, as code keeps it.
 use Rattle.std.specs.Prelude.{ℕ, ◌≡◌, ◌≤◌, ◌<◌, List, [], Some, get_or, length}
 use Rattle.cpg_base.specs.Graph.{Graph}
+use Rattle.cpg_base.specs.Limits.{IsWithinLimits}
 use Rattle.cpg_base.specs.WellFormed.{WellFormed}
+use Rattle.cpg_table.specs.GraphHead.{head_of}
+use Rattle.cpg_table.specs.Lawful.{AreTablesOf}
 use Rattle.cpg_table.specs.Table.{NodeTable}
 use Rattle.cpg_table.specs.Shape.{HasShape}
 use Rattle.cpg_table.specs.Valid.{IsValid}
@@ -26,9 +29,11 @@ opened g tables w = record { graph = g; tables = tables; world = w; cluster = op
 abbrev pub stepped : Playing → ℕ → Playing
 stepped p node = record p { cluster = step p.graph p.world p.cluster node }
 
--- valid tables of the right shape, a lawful world, and a state that some play reaches
+-- a graph within the limits, valid tables that are lawful for it, a lawful world, and a state that some play reaches
 pub record IsPlaying (p : Playing) : Type 0 where
+  pub limits : IsWithinLimits p.graph
   pub formed : WellFormed p.graph
+  pub lawful : AreTablesOf (head_of p.graph) p.tables
   pub shape : HasShape p.graph p.tables
   pub valid : IsValid p.graph p.tables
   pub world : IsWorld p.graph p.world

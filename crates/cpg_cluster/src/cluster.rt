@@ -1,5 +1,5 @@
 //! All nodes of a graph in one scenario.
-ghost use Rattle.std.specs.Prelude.{ℕ, ◌≡◌, ◌<◌, ◌≤◌, ◌++◌, ◌^◌, ◌-◌, [], IfOk, IsTrue, All, is_some, length, get_or, min};
+ghost use Rattle.std.specs.Prelude.{ℕ, ◌≡◌, ◌<◌, ◌≤◌, ◌++◌, [], IfOk, IsTrue, All, is_some, length, get_or};
 ghost use Rattle.std.specs.List.{flat_map, list_any};
 ghost use Rattle.std.specs.Bool.{OnTrue};
 ghost use Rattle.std.specs.Vec.{vec_capacity};
@@ -250,7 +250,7 @@ impl Cluster {
     /// Asks nodes until every node is done. Each choice begins with a node that comes from the next of the numbers that
     /// follow this one, and goes on round the circle until one takes its turn. Answers how often a node waited.
     pub fn drive(&mut self, number: u64) -> u64
-        ensures driven { (waits : ℕ) × IsDriven self.old.graph self.old.world number self.old.cluster self.new.cluster waits × (result ≡ min waits (2 ^ 64 - 1)) }
+        ensures driven { IsDriven self.old.graph self.old.world number self.old.cluster self.new.cluster result }
         ensures same { self.new ≡ record self.old { cluster = self.new.cluster } }
     {
         let nodes = self.members.len() as u64;
@@ -259,7 +259,7 @@ impl Cluster {
         while is_any_left(self.members.as_slice()) {
             drawn = next_number(drawn);
             let first = (drawn >> 33) % nodes;
-            waits = waits.saturating_add(self.choose(first as u32));
+            waits += self.choose(first as u32);
         }
         waits
     }

@@ -57,7 +57,7 @@ same_ends e o (Some run) = go (o.process == e.process)
     go true = refl
     go false = refl
 
-ends_reported : (e : Ended) (os : List Own) (runs : List (Option Running)) → zip_with possible_ends os (zip_with (with_report e) os runs) ≡ zip_with possible_ends os runs
+pub ends_reported : (e : Ended) (os : List Own) (runs : List (Option Running)) → zip_with possible_ends os (zip_with (with_report e) os runs) ≡ zip_with possible_ends os runs
 ends_reported e [] runs = refl
 ends_reported e (o ∷ os) [] = refl
 ends_reported e (o ∷ os) (run ∷ runs) = ap₂ ◌∷◌ (same_ends e o run) (ends_reported e os runs)

@@ -1,4 +1,4 @@
-use Rattle.std.proofs.Common.{◌≡◌}
+use Rattle.std.proofs.Common.{◌≡◌, ◌≤◌, ◌+◌, ◌*◌}
 use Rattle.cpg_cluster.specs.Driving.{remaining}
 use Rattle.cpg_cluster.proofs.Drives.{IsDriving}
 use Rattle.cpg_cluster.proofs.cluster.Cluster.drive.Given as goal
@@ -7,6 +7,7 @@ abbrev pub invariant-loop-self : goal.invariant-loop-self
 invariant-loop-self l = record {
   same : l.self ≡ record l.fn.self { cluster = l.self.cluster };
   driving : IsDriving l.fn.self.graph l.fn.self.world l.fn.number l.fn.self.cluster l.self.cluster l.drawn l.waits;
+  spent : l.waits + 16 * remaining l.self.cluster ≤ 16 * remaining l.fn.self.cluster;
 }
 
 abbrev pub decreases-loop-self : goal.decreases-loop-self

@@ -1,4 +1,4 @@
-use Rattle.std.proofs.Common.{set, ◌^◌, ◌≡◌, ◌<◌, ◌≤◌, arith, sym, ap, ◌∙◌, ℕ, length, filter, get_or, List, Some, subst}
+use Rattle.std.proofs.Common.{set, ◌≡◌, ◌<◌, ◌≤◌, arith, sym, ap, ◌∙◌, ℕ, length, filter, get_or, List, Some, subst}
 use Rattle.std.specs.Prelude.{All}
 use Rattle.std.specs.Vec.{vec_capacity}
 use Rattle.std.proofs.lemmas.List.{length-map, length-set, get_or_default}
@@ -13,7 +13,6 @@ use Rattle.cpg_cluster.specs.Kept.{cluster_of, playing_of}
 use Rattle.cpg_cluster.specs.declared.member.Member.{Member}
 use Rattle.cpg_cluster.specs.Driving.{remaining}
 use Rattle.cpg_cluster.proofs.Answering.{takes_at, all_at}
-use Rattle.cpg_cluster.proofs.Asking.{at_some}
 use Rattle.cpg_cluster.proofs.Between.{dispatcher_is}
 use Rattle.cpg_cluster.proofs.Noted.{all_noted, hears_there}
 use Rattle.cpg_cluster.proofs.Stepping.{indexed, asked, waits_step, own_all, finish_all, ready_next, frames_fit, turn_may, acts_fit, ends_fit, reports_fit, play_then, playing_then, nearer_then, fits_then, heard_then}
@@ -217,7 +216,7 @@ returns-clause-nearer c e =
     let n = c.self.inside in
     let v = c.self.invariant in
     subst (λ (p : Playing). remaining (cluster_of (set n.members.items c.args.node c.take_turn.new.member)) < remaining p.cluster) c.self.view_is
-    (nearer_then n.problem (record { scenario = n.scenario; lengths = n.lengths }) n.members.items v.playing v.members c.args.node c.index_mut-member.result.now c.index_mut-member.ensures.value (within-a c) c.in-Some.time (mut-a c) c.as_slice-4.result.now (frames-a c) (took-a c) c.take_turn.new.member c.take_turn.ensures.node c.take_turn.ensures.acts c.take_turn.ensures.noted c.take_turn.ensures.ends c.take_turn.ensures.reports c.take_turn.ensures.same c.take_turn.ensures.room (at_some c.next.result c.in-Some.time (λ t. t < 2 ^ 61) c.in-Some.is c.next.ensures.early))
+    (nearer_then n.problem (record { scenario = n.scenario; lengths = n.lengths }) n.members.items v.playing v.members c.args.node c.index_mut-member.result.now c.index_mut-member.ensures.value (within-a c) c.in-Some.time (mut-a c) c.as_slice-4.result.now (frames-a c) (took-a c) c.take_turn.new.member c.take_turn.ensures.node c.take_turn.ensures.acts c.take_turn.ensures.noted c.take_turn.ensures.ends c.take_turn.ensures.reports c.take_turn.ensures.same c.take_turn.ensures.room)
 
 -- What the answers tell.
 

@@ -1,0 +1,88 @@
+-- How many instants the nodes of a play may come to, and how many asks of a choice wait.
+use Rattle.std.proofs.Common.{◌≡◌, ℕ, ◌+◌, ◌*◌, ◌<◌, ◌≤◌, ◌%◌, ◌==◌, List, [], ◌∷◌, length, map, get_or, Some, sym, ap, ◌∙◌, subst, arith}
+use Rattle.std.specs.Prelude.{All, sum_by}
+use Rattle.std.proofs.lemmas.List.{length-map, get_or_default}
+use Rattle.std.proofs.lemmas.List.Elements.{All-head, All-tail, All-map}
+use Rattle.std.proofs.lemmas.List.FromFn.{length-range_with_len}
+use Rattle.std.proofs.lemmas.List.Sums.{sum_by-cons}
+use Rattle.cpg_base.specs.Graph.{Graph, node_of, process_count}
+use Rattle.cpg_base.specs.Duration.{duration}
+use Rattle.cpg_base.specs.Limits.{IsWithinLimits}
+use Rattle.cpg_base.specs.Numbers.{numbers_below}
+use Rattle.cpg_table.specs.Lawful.{column_count, rows_of}
+use Rattle.cpg_table.specs.Shape.{processes_on}
+use Rattle.cpg_table.specs.Table.{NodeTable}
+use Rattle.cpg_node.specs.Dispatcher.{Dispatcher, Ended, Frame, Own, next, opening, turn}
+use Rattle.cpg_cluster.specs.Cluster.{World, Cluster, Answer, Took, Waits, Done, answer, dispatcher_at, own_process, reported, reports_now}
+use Rattle.cpg_cluster.specs.Driving.{choose, chosen, circle, instants_left, remaining}
+use Rattle.cpg_cluster.proofs.Finishing.{next_finished, table_finished}
+use Rattle.cpg_cluster.proofs.Instants.{HaveFewEnds, all_left, most_instants, reported_left, turn_less}
+use Rattle.cpg_cluster.proofs.Nodes.{own_of_node}
+
+-- a node has at most 128 processes, each of which may end at 9 times
+few_own : (g : Graph) (node : ℕ) → IsWithinLimits g → length (own_of_node g node) ≤ 128
+few_own g node within = omega (
+  arith,
+  length-map (processes_on g node) (own_process g),
+  all_left (λ p. node_of g p == node) (numbers_below (process_count g)),
+  length-range_with_len 0 (process_count g),
+  within.few_processes,
+)
+
+own_few_ends : (g : Graph) (node : ℕ) → IsWithinLimits g → HaveFewEnds (own_of_node g node)
+own_few_ends g node within = All-map (λ (o : Own). length o.times ≤ 9) (own_process g) (processes_on g node) (λ i p l. omega (
+  arith,
+  length-map (numbers_below (g.faults + 1)) (duration g (get_or (processes_on g node) i p)),
+  length-range_with_len 0 (g.faults + 1),
+  within.faults,
+))
+
+-- a turn leaves a node fewer instants
+pub less_turn : (g : Graph) (w : World) (node : ℕ) (d : Dispatcher) (time : ℕ) (frames : List Frame) → IsWithinLimits g → d.table.own ≡ own_of_node g node → next d ≡ Some time →
+    instants_left (turn (reported g w d time) time [] frames) < instants_left d
+less_turn g w node d time frames within own comes =
+    let es : List Ended = map (λ (r : ℕ × Ended). r.1) (reports_now g w d time) in
+    let same : (reported g w d time).table.own ≡ own_of_node g node = ap (λ t. t.own) (table_finished d es) ∙ own in
+    let less = turn_less (reported g w d time) time frames (next_finished d es ∙ comes) (subst (λ (os : List Own). length os ≤ 128) (sym same) (few_own g node within)) (subst HaveFewEnds (sym same) (own_few_ends g node within)) in
+    omega (arith, less, reported_left d es)
+
+-- what a table says of a node's processes
+abbrev HasFew : Dispatcher → Type 0
+HasFew d = (length d.table.own ≤ 128) × HaveFewEnds d.table.own
+
+most_of : (ds : List Dispatcher) → All HasFew ds → sum_by instants_left ds ≤ sum_by (λ (t : NodeTable). column_count (rows_of t)) (map (λ (d : Dispatcher). d.table) ds) * 1153 + length ds * 2305
+most_of [] h = omega arith
+most_of (d ∷ ds) h =
+    let here = All-head HasFew d ds h in
+    omega (
+      arith,
+      sum_by-cons instants_left d ds,
+      sum_by-cons (λ (t : NodeTable). column_count (rows_of t)) d.table (map (λ (d : Dispatcher). d.table) ds),
+      most_instants d here.0 here.1,
+      most_of ds (All-tail HasFew d ds h),
+    )
+
+-- all nodes together have at most so many
+pub most_remaining : (g : Graph) (c : Cluster) → IsWithinLimits g → length c.nodes ≤ 16 → ((i : ℕ) → i < length c.nodes → (dispatcher_at c i).table.own ≡ own_of_node g i) →
+    sum_by (λ (t : NodeTable). column_count (rows_of t)) (map (λ (d : Dispatcher). d.table) c.nodes) ≤ 524288 → remaining c ≤ 604540944
+most_remaining g c within few own columns = omega (
+  arith,
+  few,
+  columns,
+  most_of c.nodes (λ i d l.
+      let same : (get_or c.nodes i d).table.own ≡ own_of_node g i = ap (λ (d : Dispatcher). d.table.own) (get_or_default c.nodes i d (opening (record { faults = 0; first_broadcast = 0; own = []; starts = []; sends = []; hears = [] })) l) ∙ own i l in
+      (subst (λ (os : List Own). length os ≤ 128) (sym same) (few_own g i within), subst HaveFewEnds (sym same) (own_few_ends g i within))),
+)
+
+-- of the nodes that a choice asks no more wait than there are
+pub few_waits : (g : Graph) (w : World) (c : Cluster) (xs : List ℕ) → (choose g w c xs).waits ≤ length xs
+few_waits g w c [] = omega arith
+few_waits g w c (x ∷ xs) = go (answer g c x) (few_waits g w c xs)
+  where
+    go : (a : Answer) → (choose g w c xs).waits ≤ length xs → (chosen g w c x a (choose g w c xs)).waits ≤ length (x ∷ xs)
+    go Took l = omega arith
+    go (Waits b) l = omega arith
+    go Done l = omega arith
+
+pub few_of_circle : (g : Graph) (w : World) (c : Cluster) (nodes first : ℕ) → (choose g w c (circle nodes first)).waits ≤ nodes
+few_of_circle g w c nodes first = omega (arith, few_waits g w c (circle nodes first), length-map (numbers_below nodes) (λ i. (first + i) % nodes), length-range_with_len 0 nodes)
