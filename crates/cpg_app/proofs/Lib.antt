@@ -7,4 +7,3 @@ pub mod MemoryStops
 pub mod Written
 pub mod Later
 pub mod Checked
-pub mod EndsWithin

@@ -1,8 +1,7 @@
 -- The text of a play: what all nodes did in one scenario, with lengths of executions, until each was done.
-use Rattle.std.specs.Prelude.{ℕ, ◌≡◌, ◌-◌, ◌^◌, ◌++◌, min, List, [], codes, get_or, length, map}
+use Rattle.std.specs.Prelude.{ℕ, ◌≡◌, ◌++◌, List, codes}
 use Rattle.std.specs.Fmt.{decimal}
 use Rattle.cpg_base.specs.Graph.{Graph}
-use Rattle.cpg_base.specs.Numbers.{numbers_below}
 use Rattle.cpg_words.specs.Parts.{Text}
 use Rattle.cpg_scenario.specs.declared.reading.Played.{Played}
 use Rattle.cpg_table.specs.Table.{NodeTable}
@@ -14,13 +13,9 @@ use Rattle.cpg_show.specs.TraceText.{IsTraceText}
 abbrev pub world_of : Played → World
 world_of p = record { scenario = p.scenario; lengths = p.lengths }
 
--- the lists of all nodes, by number
-abbrev pub by_node : {X : Type 0} → Graph → List (List X) → List (List X)
-by_node g lists = map (λ node. get_or lists node []) (numbers_below (length g.nodes))
-
--- how often a node that was asked waited; the count stands still at its end
+-- how often a node that was asked waited
 abbrev pub waits_line : ℕ → Text
-waits_line waits = codes "waits " ++ decimal (min waits (2 ^ 64 - 1)) ++ codes "\n"
+waits_line waits = codes "waits " ++ decimal waits ++ codes "\n"
 
 -- the trace of the nodes after a play that a number drives until each is done, and how many asks waited
 pub record IsPlayText (g : Graph) (tables : List NodeTable) (w : World) (number : ℕ) (text : Text) : Type 0 where
@@ -28,5 +23,5 @@ pub record IsPlayText (g : Graph) (tables : List NodeTable) (w : World) (number 
   pub waits : ℕ
   pub driven : IsDriven g w number (open_cluster g tables) cluster waits
   pub trace : Text
-  pub traced : IsTraceText g w.lengths (by_node g cluster.acts) (by_node g cluster.ends) trace
+  pub traced : IsTraceText g w.lengths cluster.acts cluster.ends trace
   pub spelled : text ≡ trace ++ waits_line waits

@@ -67,13 +67,7 @@ fn text_of(alloc: Global, admitted: Admitted) -> Result<Output, Halt>
 {
     let made = compile_graph(alloc, admitted)?;
     let built = &made.compiled.built;
-    match table_text(
-        alloc,
-        made.admitted.problem(),
-        &built.tables,
-        built.worst,
-        &made.compiled.order,
-    ) {
+    match table_text(alloc, &made.admitted, built, &made.compiled.order) {
         Ok(text) => Ok(Output::Lines(text)),
         Err(_) => Err(Halt::Memory),
     }

@@ -9,5 +9,5 @@ returns-in-Ok-clause-text c =
       compiled = made;
       compilation = c.in_ok-made.ensures.compiled;
       safe = c.in_ok-made.ensures.safe;
-      spelled = c.in-Ok.ensures ∙ ap (λ g. table_text g made.order made.built.tables.nodes made.built.worst) (c.problem.ensures.problem ∙ ap (λ x. x.graph) c.in_ok-made.ensures.same);
+      spelled = c.in-Ok.ensures ∙ ap (λ g. table_text g made.order made.built.tables.nodes made.built.worst) (ap (λ x. x.graph) c.in_ok-made.ensures.same);
     }

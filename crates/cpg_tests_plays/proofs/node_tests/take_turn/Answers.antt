@@ -1,0 +1,12 @@
+use Rattle.std.proofs.lemmas.List.Elements.{All-nil}
+use Rattle.std.proofs.Common.{sym}
+use Rattle.cpg_node.specs.State.{EndsAt, ArrivesAt}
+use Rattle.cpg_tests_plays.proofs.node_tests.take_turn.Goals as goal
+
+pub turn-requires : goal.turn-requires
+turn-requires c = record {
+  time = c.in_ok-time.time;
+  comes = sym c.in_ok-time.ensures.next;
+  ends = All-nil (EndsAt c.args.node.now.dispatcher c.in_ok-time.time);
+  arrive = All-nil (ArrivesAt c.args.node.now.dispatcher c.in_ok-time.time);
+}
