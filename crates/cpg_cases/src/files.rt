@@ -29,14 +29,25 @@ pub fn take_files(
     Ok(())
 }
 
-/// Adds the bytes that a line spells, two digits each, up to a `#`.
-fn push_line(bytes: &mut Vec<u8>, line: &str) -> Result<(), Stopped> {
-    let digits = match line.split_once('#') {
-        Some((digits, _)) => digits,
+/// Adds the byte that a word spells.
+fn push_byte(bytes: &mut Vec<u8>, word: &str) -> Result<(), Stopped> {
+    let byte = u8::from_str_radix(word, 16)?;
+    bytes.push(byte)?;
+    Ok(())
+}
+
+/// A line up to a `#`.
+fn uncommented(line: &str) -> &str {
+    match line.split_once('#') {
+        Some((line, _)) => line,
         None => line,
-    };
-    for word in digits.split_whitespace() {
-        bytes.push(u8::from_str_radix(word, 16)?)?;
+    }
+}
+
+/// Adds the bytes that a line spells.
+fn push_line(bytes: &mut Vec<u8>, line: &str) -> Result<(), Stopped> {
+    for word in uncommented(line).split_whitespace() {
+        push_byte(bytes, word)?;
     }
     Ok(())
 }
@@ -117,7 +128,7 @@ fn changed(alloc: Global, bytes: &[u8], place: usize, new: &[u8]) -> Result<Vec<
 fn bytes_by(alloc: Global, words: &[String]) -> Result<Vec<u8>, Stopped> {
     let mut bytes = Vec::new(alloc);
     for word in words {
-        bytes.push(u8::from_str_radix(word.as_str(), 16)?)?;
+        push_byte(&mut bytes, word.as_str())?;
     }
     Ok(bytes)
 }

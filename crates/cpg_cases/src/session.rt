@@ -141,13 +141,14 @@ impl Session {
         }
     }
 
-    /// Takes an item of its name and its words.
-    fn take(&mut self, rt: &HostRuntime, item: &str, words: &[String]) -> Result<(), Stopped> {
+    /// Takes an item that says what the next run has.
+    fn take_setting(
+        &mut self,
+        rt: &HostRuntime,
+        item: &str,
+        words: &[String],
+    ) -> Result<(), Stopped> {
         match item {
-            "file" => files::take_files(rt, &mut self.files, words),
-            "hex" => files::take_packs(rt, &mut self.files, words),
-            "set" => files::set(rt.alloc(), &mut self.files, words),
-            "feeds" => files::feeds(rt.alloc(), &mut self.files, words),
             "keep" => self.keep(words),
             "room" => self.room(words),
             "fail" => self.fail(words),
@@ -156,18 +157,34 @@ impl Session {
         }
     }
 
-    /// Takes a line that isn't empty.
-    pub fn take_line(&mut self, rt: &HostRuntime, line: &str) -> Result<(), Stopped> {
-        if let Some(title) = line.strip_prefix("case ") {
-            return Ok(println!(rt; "\n{title}")?);
+    /// Takes an item of its name and its words.
+    fn take(&mut self, rt: &HostRuntime, item: &str, words: &[String]) -> Result<(), Stopped> {
+        match item {
+            "file" => files::take_files(rt, &mut self.files, words),
+            "hex" => files::take_packs(rt, &mut self.files, words),
+            "set" => files::set(rt.alloc(), &mut self.files, words),
+            "feeds" => files::feeds(rt.alloc(), &mut self.files, words),
+            _ => self.take_setting(rt, item, words),
         }
-        if let Some(rest) = line.strip_prefix("edit ") {
-            return files::edit(rt.alloc(), &mut self.files, rest);
-        }
+    }
+
+    /// Takes a line of words.
+    fn take_words(&mut self, rt: &HostRuntime, line: &str) -> Result<(), Stopped> {
         let words = words_of(rt.alloc(), line)?;
         match words.as_slice() {
             [item, words @ ..] => self.take(rt, item.as_str(), words),
             [] => Ok(()),
+        }
+    }
+
+    /// Takes a line.
+    pub fn take_line(&mut self, rt: &HostRuntime, line: &str) -> Result<(), Stopped> {
+        if let Some(title) = line.strip_prefix("case ") {
+            return Ok(println!(rt; "\n{title}")?);
+        }
+        match line.strip_prefix("edit ") {
+            Some(rest) => files::edit(rt.alloc(), &mut self.files, rest),
+            None => self.take_words(rt, line),
         }
     }
 }

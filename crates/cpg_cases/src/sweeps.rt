@@ -71,15 +71,26 @@ fn run_failing(
     Ok(outcome)
 }
 
-/// Runs words with each call of the shelf failing, until no call fails: each run before is to end by a fault of the shelf.
+/// Whether words end by a fault of the shelf where a call fails, or nothing where they have status 0.
+fn failing(
+    alloc: Global,
+    files: &mut MemoryShelf,
+    words: &[String],
+    call: u64,
+) -> Result<Option<bool>, Stopped> {
+    let got = run_failing(alloc, files, words, call)?;
+    Ok((got.status > 0).then_some(is_unread(&got)))
+}
+
+/// Runs words with each call of the shelf failing, until a run has status 0: each run before is to end by a fault of the
+/// shelf.
 pub fn calls(alloc: Global, files: &mut MemoryShelf, words: &[String]) -> Result<Sweep, Stopped> {
     let mut sweep = Sweep::none();
     for call in 0..1000 {
-        let got = run_failing(alloc, files, words, call)?;
-        if got.status == 0 {
+        let Some(unread) = failing(alloc, files, words, call)? else {
             break;
-        }
-        sweep.count(is_unread(&got));
+        };
+        sweep.count(unread);
     }
     Ok(sweep)
 }
