@@ -19,7 +19,8 @@ use Rattle.cpg_check.proofs.Verdicts.{other_head, faulty_tables}
 use Rattle.cpg_app.specs.declared.halt.Halt.{Halt}
 use Rattle.cpg_app.specs.Halts.{halt_of_pack, halt_of_scenario}
 use Rattle.cpg_app.specs.Lines.{status_of}
-use Rattle.cpg_app.specs.Causes.{Seen, Admits, Spells, StopsPack, StopsGraph, StopsTables, StopsVerdict, StopsPlay, ShowsPackFault, pack_limit, scenario_limit}
+use Rattle.cpg_app.specs.declared.reading.TheConstants.{PACK_LIMIT, SCENARIO_LIMIT}
+use Rattle.cpg_app.specs.Causes.{Seen, Admits, Spells, StopsPack, StopsGraph, StopsTables, StopsVerdict, StopsPlay, ShowsPackFault}
 use Rattle.cpg_app.specs.Outputs.{AreJudgedSafe, IsChecked, IsPlayOf}
 use Rattle.cpg_app.specs.Lawful.{AreAdmitted}
 use Rattle.cpg_app.proofs.Excluded.{reading_left, rules_left, same_admission}
@@ -83,10 +84,10 @@ module _ (seen : Seen) (a : Admission) (t : Tables) (graph pack bytes : Text) (t
       inr (inr (ap status_of broken.halt_is, moved.0, moved.1))
   verdict_left b admits u spells h (inr (inr memory)) = inl (ap status_of memory)
 
-  module _ (few : length (spelling t) ≤ pack_limit) where
+  module _ (few : length (spelling t) ≤ PACK_LIMIT) where
     pack_left : (h : Halt) → StopsPack seen (seen.stands pack) h → status_of h ≡ 8
     pack_left h (inl unread) = absurd (still unread.rose)
-    pack_left h (inr (inl long)) = absurd (let l : pack_limit < length (spelling t) = subst (λ o. IfSome o (λ b. pack_limit < length b)) spelled long.long in omega (arith, few))
+    pack_left h (inr (inl long)) = absurd (let l : PACK_LIMIT < length (spelling t) = subst (λ o. IfSome o (λ b. PACK_LIMIT < length b)) spelled long.long in omega (arith, few))
     pack_left h (inr (inr none)) = bad none.fault none.halt_is none.shows
       where
         bad : (fault : PackFault) → h ≡ halt_of_pack fault → ShowsPackFault (seen.stands pack) fault → status_of h ≡ 8
@@ -107,7 +108,7 @@ module _ (seen : Seen) (a : Admission) (t : Tables) (graph pack bytes : Text) (t
     check_left = worked_left StopsVerdict verdict_left
 
     -- a scenario of the graph stops nothing
-    module _ (told : Option Text) (note : Text) (tells_note : told ≡ Some note) (short : length note ≤ scenario_limit) (played : Played) (says : file_of a.graph note ≡ Ok played) where
+    module _ (told : Option Text) (note : Text) (tells_note : told ≡ Some note) (short : length note ≤ SCENARIO_LIMIT) (played : Played) (says : file_of a.graph note ≡ Ok played) where
       scenario_left : (b : Admission) → Admits (seen.stands graph) b → (h : Halt) (fault : ScenarioFault) → h ≡ halt_of_scenario fault →
           (fault ≢ ScenarioFault.OutOfMemory → IfSome told (λ n. file_of b.graph n ≡ Err fault)) → status_of h ≡ 8
       scenario_left b admits h fault e first = ap status_of e ∙ unsaid fault
@@ -116,7 +117,7 @@ module _ (seen : Seen) (a : Admission) (t : Tables) (graph pack bytes : Text) (t
 
       played_left : (b : Admission) → Admits (seen.stands graph) b → (u : Tables) → Spells (seen.stands pack) u → (h : Halt) → StopsPlay seen told b u h → CheckLeft a t h
       played_left b admits u spells h (inl (inl unread)) = absurd (still unread.rose)
-      played_left b admits u spells h (inl (inr (inl long))) = absurd (let l : scenario_limit < length note = subst (λ o. IfSome o (λ n. scenario_limit < length n)) tells_note long.long in omega (arith, short))
+      played_left b admits u spells h (inl (inr (inl long))) = absurd (let l : SCENARIO_LIMIT < length note = subst (λ o. IfSome o (λ n. SCENARIO_LIMIT < length n)) tells_note long.long in omega (arith, short))
       played_left b admits u spells h (inl (inr (inr none))) = inl (scenario_left b admits h none.fault none.halt_is (λ other. (none.first other).1))
       played_left b admits u spells h (inr judged) = verdict_left b admits u spells h judged.2
 

@@ -22,7 +22,8 @@ use Rattle.cpg_core.proofs.CompiledLaws.{not_late_and_compiled}
 use Rattle.cpg_app.specs.declared.halt.Halt.{Halt}
 use Rattle.cpg_app.specs.Halts.{halt_of_reading, halt_of_rules, halt_of_compile}
 use Rattle.cpg_app.specs.Lines.{status_of}
-use Rattle.cpg_app.specs.Causes.{Seen, Says, Admits, StopsReading, BreaksRule, StopsGraph, StopsCompile, HasManyScenarios, graph_limit}
+use Rattle.cpg_app.specs.declared.reading.TheConstants.{GRAPH_LIMIT}
+use Rattle.cpg_app.specs.Causes.{Seen, Says, Admits, StopsReading, BreaksRule, StopsGraph, StopsCompile, HasManyScenarios}
 use Rattle.cpg_app.specs.Outputs.{IsMade}
 use Rattle.cpg_app.specs.Lawful.{AreAdmitted}
 
@@ -78,7 +79,7 @@ module _ (seen : Seen) (told : Option Text) (bytes : Text) (a : Admission) (tell
   pub reading_left : (h : Halt) → StopsReading seen told h → status_of h ≡ 8
   reading_left h (inl unread) = absurd (still unread.rose)
   reading_left h (inr (inl long)) = absurd (
-      let l : graph_limit < length bytes = subst (λ t. IfSome t (λ b. graph_limit < length b)) tells long.long in
+      let l : GRAPH_LIMIT < length bytes = subst (λ t. IfSome t (λ b. GRAPH_LIMIT < length b)) tells long.long in
       let s = file.short in
       omega arith)
   reading_left h (inr (inr faulty)) = faulty_left h faulty.fault faulty.halt_is

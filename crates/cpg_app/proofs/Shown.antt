@@ -7,6 +7,7 @@ use Rattle.cpg_words.specs.Parts.{Text}
 use Rattle.cpg_words.specs.Forms.{command_of}
 use Rattle.cpg_words.specs.declared.command.Command.{Command}
 use Rattle.cpg_base.specs.Graph.{Graph}
+use Rattle.cpg_base.specs.Scenario.{Scenario}
 use Rattle.cpg_core.specs.declared.compiling.Compiled.{Compiled}
 use Rattle.cpg_rules.specs.Admission.{Admission}
 use Rattle.cpg_reach.specs.Wide.{IsNarrow, IsWide}
@@ -14,14 +15,15 @@ use Rattle.cpg_core.specs.Compiled.{IsTimely, IsLate}
 use Rattle.cpg_core.proofs.CompiledLaws.{not_timely_and_late}
 use Rattle.cpg_app.specs.declared.halt.Refusal.{Refusal}
 use Rattle.cpg_app.specs.declared.halt.Halt.{Halt}
-use Rattle.cpg_app.specs.declared.halt.Halt.TheVariants.{Refused}
+use Rattle.cpg_app.specs.declared.halt.Halt.TheVariants.{Refused, Late, TooWide, Unsafe}
 use Rattle.cpg_app.specs.Lines.{status_of}
 use Rattle.cpg_app.specs.Causes.{Seen, Stops, StopsAsked, StopsGraph, StopsCompile}
 use Rattle.cpg_app.specs.Outputs.{Prints, PrintsAsked, IsMade, shown, packed}
 use Rattle.cpg_app.specs.Told.{Untouched}
 use Rattle.cpg_app.specs.Endings.{Ran, IsPrinted, IsTold, EndsWith, EndsBy}
 use Rattle.cpg_app.specs.Lawful.{IsFaultless, AsksFor, Asks, IsListable, AsksVerdict, IsLawful}
-use Rattle.cpg_app.proofs.Statuses.{of_words, of_read, of_formless, refused_of, not_three, not_zero}
+use Rattle.cpg_app.proofs.Statuses.{of_words, of_read, of_formless, refused_of, late_of, wide_of, unsafe_of, not_three, not_zero}
+use Rattle.cpg_table.specs.declared.fault.Fault.{Fault}
 use Rattle.cpg_table.specs.Lawful.{Tables}
 use Rattle.cpg_table.specs.Valid.{IsValid}
 use Rattle.cpg_violation.specs.Heads.{IsHeadFor}
@@ -91,8 +93,9 @@ module _ (r : Ran) where
       read = λ two. absurd (other_status 2 two (λ e. omega arith) (λ e. omega arith));
       write = with_write;
       refused = λ four. absurd (other_status 4 four (λ e. omega arith) (λ e. omega arith));
-      compiled = λ either. absurd (elim either [ inl five ↦ other_status 5 five (λ e. omega arith) (λ e. omega arith) | inr six ↦ other_status 6 six (λ e. omega arith) (λ e. omega arith) ]);
-      unsafe = λ seven. absurd (other_status 7 seven (λ e. omega arith) (λ e. omega arith));
+      is_late = λ five. absurd (other_status 5 five (λ e. omega arith) (λ e. omega arith));
+      is_wide = λ six. absurd (other_status 6 six (λ e. omega arith) (λ e. omega arith));
+      is_unsafe = λ seven. absurd (other_status 7 seven (λ e. omega arith) (λ e. omega arith));
       silent = λ zero three. absurd (elim with_status [ inl z ↦ zero z | inr t ↦ three t ]);
       wide = λ a x asks. with_wide a asks x;
       made = λ a asks listable timely. with_safe asks.faultless;
@@ -125,6 +128,21 @@ module _ (r : Ran) where
     by_refused four =
         let is = refused_of halt (status_at 4 four (λ e. omega arith)) in
         (is.0, subst (Stops r.shelf r.words) is.1 by.stops, subst (IsTold r) is.1 (told_at 4 four (λ e. omega arith)))
+
+    by_tardy : r.status ≡ 5 → (a : Admission) × (s : Scenario) × (p : ℕ) × (finish : ℕ) × Stops r.shelf r.words (Late a s p finish) × IsTold r (Late a s p finish)
+    by_tardy five =
+        let is = late_of halt (status_at 5 five (λ e. omega arith)) in
+        (is.0, is.1, is.2, is.3, subst (Stops r.shelf r.words) is.4 by.stops, subst (IsTold r) is.4 (told_at 5 five (λ e. omega arith)))
+
+    by_width : r.status ≡ 6 → (a : Admission) × (x : ℕ) × Stops r.shelf r.words (TooWide a x) × IsTold r (TooWide a x)
+    by_width six =
+        let is = wide_of halt (status_at 6 six (λ e. omega arith)) in
+        (is.0, is.1, subst (Stops r.shelf r.words) is.2 by.stops, subst (IsTold r) is.2 (told_at 6 six (λ e. omega arith)))
+
+    by_fault : r.status ≡ 7 → (a : Admission) × (fault : Fault) × Stops r.shelf r.words (Unsafe a fault) × IsTold r (Unsafe a fault)
+    by_fault seven =
+        let is = unsafe_of halt (status_at 7 seven (λ e. omega arith)) in
+        (is.0, is.1, subst (Stops r.shelf r.words) is.2 by.stops, subst (IsTold r) is.2 (told_at 7 seven (λ e. omega arith)))
 
     by_silent : Untouched r.out
     by_silent = elim by.ending [ inl t ↦ t.out | inr m ↦ m.out ]
@@ -204,8 +222,9 @@ module _ (r : Ran) where
       read = λ two. of_read r.shelf r.words halt by.stops (status_at 2 two (λ e. omega arith));
       write = by_write;
       refused = by_refused;
-      compiled = λ either. (halt, by.stops, elim either [ inl five ↦ told_at 5 five (λ e. omega arith) | inr six ↦ told_at 6 six (λ e. omega arith) ]);
-      unsafe = λ seven. (halt, by.stops, told_at 7 seven (λ e. omega arith));
+      is_late = by_tardy;
+      is_wide = by_width;
+      is_unsafe = by_fault;
       silent = λ zero three. by_silent;
       wide = λ a x asks wide. by_wide a asks x wide;
       made = λ a asks listable in_time. by_made a asks listable in_time;

@@ -1,14 +1,16 @@
 -- What the status of a halt says of the words and of the shelf.
-use Rattle.std.proofs.Common.{◌≡◌, ◌≤◌, List, Option, Some, None, refl, sym, ap, arith, inl, inr}
+use Rattle.std.proofs.Common.{ℕ, ◌≡◌, ◌≤◌, List, Option, Some, None, refl, sym, ap, arith, inl, inr}
 use Rattle.std.specs.Prelude.{◌⊎◌}
 use Rattle.std.proofs.lemmas.Option.{none-some}
 use Rattle.cpg_base.specs.Graph.{Graph}
+use Rattle.cpg_base.specs.Scenario.{Scenario}
 use Rattle.cpg_io.specs.Causes.{Rose}
 use Rattle.cpg_words.specs.Parts.{Text}
 use Rattle.cpg_words.specs.Forms.{command_of}
 use Rattle.cpg_words.specs.declared.command.Command.{Command}
 use Rattle.cpg_words.specs.declared.command.Command.TheVariants.{Show, Compile, Check, Play, Node, Trial, Live, Hyper, Tune, Audit}
 use Rattle.cpg_reader.specs.declared.place.ReadFault.{ReadFault}
+use Rattle.cpg_table.specs.declared.fault.Fault.{Fault}
 use Rattle.cpg_table.specs.Lawful.{Tables}
 use Rattle.cpg_codec.specs.declared.fault.PackFault.{PackFault}
 use Rattle.cpg_scenario.specs.declared.fault.ScenarioFault.{ScenarioFault}
@@ -145,6 +147,33 @@ refused_of (Late a s p time) four = absurd (omega arith)
 refused_of (TooWide a x) four = absurd (omega arith)
 refused_of (Unsafe a f) four = absurd (omega arith)
 refused_of Memory four = absurd (omega arith)
+
+pub late_of : (h : Halt) → status_of h ≡ 5 → (a : Admission) × (s : Scenario) × (p : ℕ) × (finish : ℕ) × (h ≡ Late a s p finish)
+late_of Words five = absurd (omega arith)
+late_of Read five = absurd (omega arith)
+late_of (Refused r) five = absurd (omega arith)
+late_of (Late a s p finish) five = (a, s, p, finish, refl)
+late_of (TooWide a x) five = absurd (omega arith)
+late_of (Unsafe a f) five = absurd (omega arith)
+late_of Memory five = absurd (omega arith)
+
+pub wide_of : (h : Halt) → status_of h ≡ 6 → (a : Admission) × (x : ℕ) × (h ≡ TooWide a x)
+wide_of Words six = absurd (omega arith)
+wide_of Read six = absurd (omega arith)
+wide_of (Refused r) six = absurd (omega arith)
+wide_of (Late a s p finish) six = absurd (omega arith)
+wide_of (TooWide a x) six = (a, x, refl)
+wide_of (Unsafe a f) six = absurd (omega arith)
+wide_of Memory six = absurd (omega arith)
+
+pub unsafe_of : (h : Halt) → status_of h ≡ 7 → (a : Admission) × (f : Fault) × (h ≡ Unsafe a f)
+unsafe_of Words seven = absurd (omega arith)
+unsafe_of Read seven = absurd (omega arith)
+unsafe_of (Refused r) seven = absurd (omega arith)
+unsafe_of (Late a s p finish) seven = absurd (omega arith)
+unsafe_of (TooWide a x) seven = absurd (omega arith)
+unsafe_of (Unsafe a f) seven = (a, f, refl)
+unsafe_of Memory seven = absurd (omega arith)
 
 pub not_three : (h : Halt) → status_of h ≡ 3 → ⊥
 not_three Words e = omega arith

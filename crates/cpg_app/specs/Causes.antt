@@ -33,6 +33,7 @@ use Rattle.cpg_app.specs.declared.halt.Refusal.{Refusal}
 use Rattle.cpg_app.specs.declared.halt.Refusal.TheVariants.{LongGraph, LongPack, LongScenario, OtherGraph, UnknownNode, NotBuilt}
 use Rattle.cpg_app.specs.declared.halt.Halt.{Halt}
 use Rattle.cpg_app.specs.declared.halt.Halt.TheVariants.{Words, Read, Refused, Unsafe, Memory}
+use Rattle.cpg_app.specs.declared.reading.TheConstants.{GRAPH_LIMIT, SCENARIO_LIMIT, PACK_LIMIT}
 use Rattle.cpg_app.specs.Halts.{halt_of_reading, halt_of_pack, halt_of_rules, halt_of_scenario, halt_of_compile}
 
 -- what a run sees of its shelf: what stands under each name, how many bytes the last fetched name gave, and the count
@@ -43,23 +44,13 @@ pub record Seen : Type 0 where
   pub before : ℕ
   pub now : ℕ
 
--- the most bytes of a graph file, of a scenario file, and of a pack
-abbrev pub graph_limit : ℕ
-graph_limit = 16777216
-
-abbrev pub scenario_limit : ℕ
-scenario_limit = 16777216
-
-abbrev pub pack_limit : ℕ
-pack_limit = 268435456
-
 -- a file, where the shelf tells its bytes, has so many at most
 abbrev pub IsShort : ℕ → Option Text → Type 0
 IsShort limit told = IfSome told (λ bytes. length bytes ≤ limit)
 
 -- the bytes of a graph file, where the shelf tells them, are those of a graph
 abbrev pub Says : Option Text → Graph → Type 0
-Says told g = IsShort graph_limit told × IfSome told (λ bytes. problem_of bytes ≡ Ok g)
+Says told g = IsShort GRAPH_LIMIT told × IfSome told (λ bytes. problem_of bytes ≡ Ok g)
 
 -- and the graph keeps all rules, with its urgency order and its guards
 pub record Admits (told : Option Text) (a : Admission) : Type 0 where
@@ -81,7 +72,7 @@ pub record IsLong (limit : ℕ) (refusal : Refusal) (seen : Seen) (told : Option
 pub record IsFaulty (told : Option Text) (halt : Halt) : Type 0 where
   pub fault : ReadFault
   pub halt_is : halt ≡ halt_of_reading fault
-  pub first : fault ≢ ReadFault.OutOfMemory → IsShort graph_limit told × IfSome told (λ bytes. problem_of bytes ≡ Err fault)
+  pub first : fault ≢ ReadFault.OutOfMemory → IsShort GRAPH_LIMIT told × IfSome told (λ bytes. problem_of bytes ≡ Err fault)
 
 -- the graph breaks a rule, the first that it breaks
 pub record BreaksRule (g : Graph) (halt : Halt) : Type 0 where
@@ -100,7 +91,7 @@ abbrev pub IsUnbuilt : Halt → Type 0
 IsUnbuilt halt = halt ≡ Refused NotBuilt
 
 abbrev pub StopsReading : Seen → Option Text → Halt → Type 0
-StopsReading seen told halt = IsUnread seen halt ⊎ (IsLong graph_limit LongGraph seen told halt ⊎ IsFaulty told halt)
+StopsReading seen told halt = IsUnread seen halt ⊎ (IsLong GRAPH_LIMIT LongGraph seen told halt ⊎ IsFaulty told halt)
 
 -- a graph file isn't admitted: as it is read, or by a rule
 abbrev pub StopsAdmission : Seen → Option Text → Halt → Type 0
@@ -127,12 +118,12 @@ StopsCompile a halt = IsUnlisted a halt ⊎ IsUncompiled a halt
 -- the bytes of a pack, where the shelf tells them, spell tables
 pub record Spells (told : Option Text) (t : Tables) : Type 0 where
   pub lawful : AreLawful t
-  pub short : IsShort pack_limit told
+  pub short : IsShort PACK_LIMIT told
   pub spelled : IfSome told (λ bytes. bytes ≡ spelling t)
 
 -- they spell none
 abbrev pub ShowsPackFault : Option Text → PackFault → Type 0
-ShowsPackFault told (PackFault.BadPack n) = IsShort pack_limit told × IfSome told (λ bytes. IsBadPack bytes n)
+ShowsPackFault told (PackFault.BadPack n) = IsShort PACK_LIMIT told × IfSome told (λ bytes. IsBadPack bytes n)
 ShowsPackFault told PackFault.OutOfMemory = ⊤
 
 pub record IsNoPack (told : Option Text) (halt : Halt) : Type 0 where
@@ -141,7 +132,7 @@ pub record IsNoPack (told : Option Text) (halt : Halt) : Type 0 where
   pub shows : ShowsPackFault told fault
 
 abbrev pub StopsPack : Seen → Option Text → Halt → Type 0
-StopsPack seen told halt = IsUnread seen halt ⊎ (IsLong pack_limit LongPack seen told halt ⊎ IsNoPack told halt)
+StopsPack seen told halt = IsUnread seen halt ⊎ (IsLong PACK_LIMIT LongPack seen told halt ⊎ IsNoPack told halt)
 
 -- a pack stops a run: its bytes spell no tables, or what the command does with them stops it
 abbrev pub StopsTables : Seen → Option Text → (Tables → Halt → Type 0) → Halt → Type 0
@@ -166,16 +157,16 @@ StopsVerdict a t halt = IsOtherGraph a t halt ⊎ (IsUnsafe a t halt ⊎ (halt �
 
 -- the bytes of a scenario file, where the shelf tells them, say a scenario of the graph and lengths
 abbrev pub SaysPlayed : Option Text → Graph → Played → Type 0
-SaysPlayed told g p = IsShort scenario_limit told × IfSome told (λ bytes. file_of g bytes ≡ Ok p)
+SaysPlayed told g p = IsShort SCENARIO_LIMIT told × IfSome told (λ bytes. file_of g bytes ≡ Ok p)
 
 -- they say none, and this is the first cause
 pub record IsNoScenario (told : Option Text) (g : Graph) (halt : Halt) : Type 0 where
   pub fault : ScenarioFault
   pub halt_is : halt ≡ halt_of_scenario fault
-  pub first : fault ≢ ScenarioFault.OutOfMemory → IsShort scenario_limit told × IfSome told (λ bytes. file_of g bytes ≡ Err fault)
+  pub first : fault ≢ ScenarioFault.OutOfMemory → IsShort SCENARIO_LIMIT told × IfSome told (λ bytes. file_of g bytes ≡ Err fault)
 
 abbrev pub StopsPlayed : Seen → Option Text → Graph → Halt → Type 0
-StopsPlayed seen told g halt = IsUnread seen halt ⊎ (IsLong scenario_limit LongScenario seen told halt ⊎ IsNoScenario told g halt)
+StopsPlayed seen told g halt = IsUnread seen halt ⊎ (IsLong SCENARIO_LIMIT LongScenario seen told halt ⊎ IsNoScenario told g halt)
 
 -- a scenario file stops a run: as it is read, or by the check that comes before its play
 abbrev pub StopsPlay : Seen → Option Text → Admission → Tables → Halt → Type 0

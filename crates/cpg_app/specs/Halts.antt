@@ -1,5 +1,6 @@
 -- What a refusal of a layer stops a run with.
 use Rattle.cpg_base.specs.Graph.{Graph}
+use Rattle.cpg_words.specs.declared.fault.WordsFault.{WordsFault}
 use Rattle.cpg_reader.specs.declared.place.ReadFault.{ReadFault}
 use Rattle.cpg_codec.specs.declared.fault.PackFault.{PackFault}
 use Rattle.cpg_scenario.specs.declared.fault.ScenarioFault.{ScenarioFault}
@@ -8,7 +9,12 @@ use Rattle.cpg_rules.specs.declared.admission.RuleFault.{RuleFault}
 use Rattle.cpg_core.specs.declared.fault.CompileFault.{CompileFault}
 use Rattle.cpg_app.specs.declared.halt.Refusal.TheVariants.{NotToml, BadField, DoubleName, UnknownName, OverLimit, Cycle, TwoAlternatives, NoSlot, TooBig, BadPack, BadScenario, TooManyTracks}
 use Rattle.cpg_app.specs.declared.halt.Halt.{Halt}
-use Rattle.cpg_app.specs.declared.halt.Halt.TheVariants.{Refused, Late, TooWide, Memory}
+use Rattle.cpg_app.specs.declared.halt.Halt.TheVariants.{Words, Refused, Late, TooWide, Memory}
+
+-- of the reading of the words
+abbrev pub halt_of_words : WordsFault → Halt
+halt_of_words WordsFault.Bad = Words
+halt_of_words WordsFault.OutOfMemory = Memory
 
 -- of the reading of a graph file
 abbrev pub halt_of_reading : ReadFault → Halt

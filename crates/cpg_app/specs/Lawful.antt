@@ -7,12 +7,13 @@ use Rattle.cpg_words.specs.declared.command.Command.{Command}
 use Rattle.cpg_words.specs.declared.command.Command.TheVariants.{Show, Compile, Check, Play}
 use Rattle.cpg_reader.specs.Document.{problem_of}
 use Rattle.cpg_rules.specs.Admission.{Admission, IsAdmitted}
+use Rattle.cpg_base.specs.Scenario.{Scenario}
 use Rattle.cpg_order.specs.Scenario.{scenarios}
 use Rattle.cpg_reach.specs.Wide.{IsNarrow, IsWide}
 use Rattle.cpg_core.specs.Compiled.{IsTimely, IsLate}
 use Rattle.cpg_app.specs.declared.halt.Refusal.{Refusal}
-use Rattle.cpg_app.specs.declared.halt.Halt.{Halt}
-use Rattle.cpg_app.specs.declared.halt.Halt.TheVariants.{Refused}
+use Rattle.cpg_app.specs.declared.halt.Halt.TheVariants.{Refused, Late, TooWide, Unsafe}
+use Rattle.cpg_table.specs.declared.fault.Fault.{Fault}
 use Rattle.cpg_table.specs.Lawful.{Tables}
 use Rattle.cpg_table.specs.Valid.{IsValid}
 use Rattle.cpg_codec.specs.Packs.{AreLawful}
@@ -20,7 +21,8 @@ use Rattle.cpg_codec.specs.Spelling.{spelling}
 use Rattle.cpg_violation.specs.Heads.{IsHeadFor}
 use Rattle.cpg_scenario.specs.File.{file_of}
 use Rattle.cpg_scenario.specs.declared.reading.Played.{Played}
-use Rattle.cpg_app.specs.Causes.{Stops, graph_limit, scenario_limit, pack_limit}
+use Rattle.cpg_app.specs.declared.reading.TheConstants.{GRAPH_LIMIT, SCENARIO_LIMIT, PACK_LIMIT}
+use Rattle.cpg_app.specs.Causes.{Stops}
 use Rattle.cpg_app.specs.Endings.{Ran, Ends, IsPrinted, IsTold}
 use Rattle.cpg_app.specs.Outputs.{Prints}
 use Rattle.cpg_app.specs.Told.{Untouched}
@@ -33,7 +35,7 @@ pub record IsFaultless (r : Ran) : Type 0 where
 
 -- the bytes of a graph file that is admitted: at most 16 MiB
 pub record AreAdmitted (bytes : Text) (a : Admission) : Type 0 where
-  pub short : length bytes ≤ graph_limit
+  pub short : length bytes ≤ GRAPH_LIMIT
   pub says : problem_of bytes ≡ Ok a.graph
   pub admitted : IsAdmitted a.graph a.order a.guards
 
@@ -59,7 +61,7 @@ pub record IsListable (a : Admission) : Type 0 where
 pub record SaysScenario (r : Ran) (a : Admission) (name : Text) : Type 0 where
   pub bytes : Text
   pub told : r.shelf.stands name ≡ Some bytes
-  pub short : length bytes ≤ scenario_limit
+  pub short : length bytes ≤ SCENARIO_LIMIT
   pub played : Played
   pub says : file_of a.graph bytes ≡ Ok played
 
@@ -78,7 +80,7 @@ pub record AsksVerdict (r : Ran) (a : Admission) (t : Tables) : Type 0 where
   pub file : AreAdmitted bytes a
   pub spelled : r.shelf.stands pack ≡ Some (spelling t)
   pub lawful : AreLawful t
-  pub few : length (spelling t) ≤ pack_limit
+  pub few : length (spelling t) ≤ PACK_LIMIT
   pub faultless : IsFaultless r
 
 -- what each exit status says
@@ -96,10 +98,12 @@ pub record IsLawful (r : Ran) : Type 0 where
   pub write : r.status ≡ 3 → Rose r.out.before r.out.now ⊎ Rose r.err.before r.err.now
   -- 4: a refusal whose cause is true, and whose line was written whole
   pub refused : r.status ≡ 4 → (refusal : Refusal) × Stops r.shelf r.words (Refused refusal) × IsTold r (Refused refusal)
-  -- 5 and 6: late or too wide, as the line says
-  pub compiled : (r.status ≡ 5) ⊎ (r.status ≡ 6) → (halt : Halt) × Stops r.shelf r.words halt × IsTold r halt
+  -- 5: a process is late, as the line says
+  pub is_late : r.status ≡ 5 → (a : Admission) × (s : Scenario) × (p : ℕ) × (finish : ℕ) × Stops r.shelf r.words (Late a s p finish) × IsTold r (Late a s p finish)
+  -- 6: an item is too wide, as the line says
+  pub is_wide : r.status ≡ 6 → (a : Admission) × (x : ℕ) × Stops r.shelf r.words (TooWide a x) × IsTold r (TooWide a x)
   -- 7: the tables of a pack break a rule, as the line says
-  pub unsafe : r.status ≡ 7 → (halt : Halt) × Stops r.shelf r.words halt × IsTold r halt
+  pub is_unsafe : r.status ≡ 7 → (a : Admission) × (fault : Fault) × Stops r.shelf r.words (Unsafe a fault) × IsTold r (Unsafe a fault)
   -- but under 0 and 3, nothing was written to `out`
   pub silent : r.status ≢ 0 → r.status ≢ 3 → Untouched r.out
   -- such a graph is refused as too wide where some item is under its urgency order; else, where it has at most 16,384

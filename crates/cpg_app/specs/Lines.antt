@@ -2,7 +2,9 @@
 use Rattle.std.specs.Prelude.{ℕ, ◌+◌, ◌-◌, ◌≡◌, ◌<◌, nat_lt, if◌then◌else◌, List, [], ◌++◌, Option, Some, None, length, get_or, codes, ⊤}
 use Rattle.std.specs.List.{flat_map}
 use Rattle.std.specs.Fmt.{decimal}
-use Rattle.cpg_base.specs.Graph.{Graph, process_count, edge_count, condition_count, item_count, process_at, process_of}
+use Rattle.cpg_base.specs.Graph.{Graph, condition_count, process_count, item_at, item_count, process_at, process_of}
+use Rattle.cpg_base.specs.declared.item.Item.{Item}
+use Rattle.cpg_base.specs.declared.item.Item.TheVariants.{Start, Message, Broadcast}
 use Rattle.cpg_base.specs.Scenario.{Scenario}
 use Rattle.cpg_scenario.specs.Text.{scenario_text}
 use Rattle.cpg_reader.specs.declared.place.Table.{Table}
@@ -119,12 +121,15 @@ refused_text refusal = codes "refused " ++ refusal_text refusal
 abbrev pub late_text : Graph → Scenario → ℕ → ℕ → List ℕ
 late_text g s p time = codes "late " ++ decimal time ++ codes " by " ++ case_text g p s
 
--- an item: what starts, is sent or is told
+-- what starts, is sent or is told
+abbrev pub text_of_item : Graph → Item → List ℕ
+text_of_item g (Start p) = codes "start " ++ name_of g p
+text_of_item g (Message e) = codes "send e" ++ decimal e
+text_of_item g (Broadcast c) = codes "tell " ++ name_of g (process_of g c)
+
+-- an item, by its number
 abbrev pub item_text : Graph → ℕ → List ℕ
-item_text g x =
-    if nat_lt x (process_count g) then codes "start " ++ name_of g x else
-    if nat_lt x (process_count g + edge_count g) then codes "send e" ++ decimal (x - process_count g) else
-    codes "tell " ++ name_of g (process_of g (x - (process_count g + edge_count g)))
+item_text g x = text_of_item g (item_at g x)
 
 -- the number of a column, or a dash where there is none
 abbrev pub column_text : Option ℕ → List ℕ

@@ -11,6 +11,4 @@ mod reading;
 mod refusals;
 mod top;
 
-pub use answer::stop;
-pub use halt::Halt;
-pub use top::run;
+pub use top::{run, run_without_words};

@@ -5,7 +5,7 @@ ghost use Rattle.cpg_app.specs.Lines.{case_text, column_text, item_text, unsafe_
 
 use crate::halt::Halt;
 use crate::refusals::write_refused;
-use cpg_base::{OutOfMemory, Problem, Scenario};
+use cpg_base::{Item, OutOfMemory, Problem, Scenario};
 use cpg_scenario::scenario_text;
 use cpg_table::Fault;
 use std::alloc::{AllocError, Global};
@@ -56,18 +56,17 @@ fn write_item(out: &mut String, problem: &Problem, item: u32) -> Result<(), Allo
     requires { item < item_count problem.now }
     ensures { OnOk result (string_bytes out.new ≡ string_bytes out.old ++ item_text problem.now item) }
 {
-    let messages = problem.processes().len() as u32;
-    let broadcasts = messages + problem.edges().len() as u32;
-    if item < messages {
-        let name = name_of(problem, item);
-        return write!(out, "start {name}");
+    match problem.item(item) {
+        Item::Start(process) => {
+            let name = name_of(problem, process);
+            write!(out, "start {name}")
+        }
+        Item::Message(edge) => write!(out, "send e{edge}"),
+        Item::Broadcast(condition) => {
+            let name = name_of(problem, problem.process_of(condition));
+            write!(out, "tell {name}")
+        }
     }
-    if item < broadcasts {
-        let edge = item - messages;
-        return write!(out, "send e{edge}");
-    }
-    let name = name_of(problem, problem.process_of(item - broadcasts));
-    write!(out, "tell {name}")
 }
 
 fn write_wide(out: &mut String, problem: &Problem, item: u32) -> Result<(), AllocError>

@@ -1,16 +1,20 @@
 //! The top call.
-ghost use Rattle.std.specs.Prelude.{◌≡◌, All, map, string_bytes};
+ghost use Rattle.std.specs.Prelude.{◌≡◌, ◌⊎◌, All, map, string_bytes};
 ghost use Rattle.cpg_words.specs.FileWords.{file_words_of};
 ghost use Rattle.cpg_app.specs.Causes.{Stops};
 ghost use Rattle.cpg_app.specs.Endings.{EndsBy, EndsWith};
+ghost use Rattle.cpg_app.specs.Halts.{halt_of_words};
 ghost use Rattle.cpg_app.specs.Lawful.{IsLawful};
+ghost use Rattle.cpg_app.specs.Lines.{line_of, status_of};
 ghost use Rattle.cpg_app.specs.Outputs.{Prints};
+ghost use Rattle.cpg_app.specs.Told.{Sent};
 
 use crate::answer::{cut, put, stop};
 use crate::commands::outcome;
 use crate::halt::Halt;
 use cpg_codec::WriteFault;
 use cpg_io::{Shelf, Sink};
+use cpg_words::WordsFault;
 use std::alloc::Global;
 
 /// All that the program does, by the words after its name: it reads the files that they name from the shelf, writes the
@@ -33,5 +37,16 @@ pub fn run<S: Shelf, O: Sink, E: Sink>(
             Err(WriteFault::OutOfMemory) => stop(alloc, &Halt::Memory, err),
         },
         Err(halt) => stop(alloc, &halt, err),
+    }
+}
+
+/// Ends a run whose words can't be had: one of them is no text, or memory ran out. Writes the line that says so to `err`, or
+/// that of want of memory where there is none for the line, and answers the exit status.
+pub fn run_without_words<E: Sink>(alloc: Global, fault: WordsFault, err: &mut E) -> u8
+    ensures { Sent (record { before = E.faults err.old; now = E.faults err.new; old = E.taken err.old; new = E.taken err.new }) result (status_of (halt_of_words fault)) (line_of (halt_of_words fault)) ⊎ Sent (record { before = E.faults err.old; now = E.faults err.new; old = E.taken err.old; new = E.taken err.new }) result (status_of Halt.Memory) (line_of Halt.Memory) }
+{
+    match fault {
+        WordsFault::Bad => stop(alloc, &Halt::Words, err),
+        WordsFault::OutOfMemory => stop(alloc, &Halt::Memory, err),
     }
 }
