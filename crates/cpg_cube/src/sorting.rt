@@ -123,11 +123,7 @@ fn with_keys<T: Cubed + Drop>(
 fn without_keys<T: Drop>(alloc: Global, ranked: Vec<Ranked<T>>) -> Result<Vec<T>, OutOfMemory>
     ensures { IfOk result (λ r. r.items ≡ map (λ x. x.column) ranked.items) }
 {
-    let mut columns = Vec::new(alloc);
-    columns.reserve(ranked.len())?;
-    for one in ranked {
-        columns.push(one.column)?;
-    }
+    let columns = ranked.into_iter().map(|one| one.column).collect(alloc)?;
     Ok(columns)
 }
 

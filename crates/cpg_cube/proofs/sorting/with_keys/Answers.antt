@@ -1,4 +1,4 @@
-use Rattle.std.proofs.Common.{◌≡◌, ◌∙◌, List, All, arith, sym, ap, subst}
+use Rattle.std.proofs.Common.{◌≡◌, ◌∙◌, List, [], All, arith, rules, sym, ap, subst}
 use Rattle.std.proofs.lemmas.Grind.{common_steps}
 use Rattle.std.proofs.lemmas.List.Elements.{All-push}
 use Rattle.cpg_cube.specs.Cube.{Literal, low_in}
@@ -15,3 +15,17 @@ loop-column-preserved g c =
       keys = subst (All has_key) (sym c.in_ok-push.ensures.items) (All-push has_key c.loop-column.ranked.items _ i.keys
           (c.in_ok-key.ensures ∙ ap (λ (ls : List Literal). key_along c.args.problem.now c.args.order.now (low_in ls)) c.cube.ensures));
     }
+
+pub loop-column-init : goal.loop-column-init
+loop-column-init g c =
+    let none : c.reserve.new.self.items ≡ [] = c.in_ok-reserve.ensures.items ∙ c.new-ranked.ensures.items in
+    record {
+      columns = search rules;
+      keys = subst (All (λ (x : Ranked g.row.T.Denot). x.key.items ≡ key_along c.args.problem.now c.args.order.now (low_in (g.T.Cubed.cubed x.column)))) (sym none) (λ k d l. absurd (omega (arith, l)));
+    }
+
+pub returns-clause-columns : goal.returns-clause-columns
+returns-clause-columns g c = grind (arith, common_steps)
+
+pub returns-clause-keys : goal.returns-clause-keys
+returns-clause-keys g c = c.loop-column.invariant.keys
