@@ -6,7 +6,7 @@ ghost use Rattle.cpg_violation.specs.Heads.{IsHeadFor};
 use cpg_base::{Edge, Name, OutOfMemory, Problem, Process, Slot};
 use cpg_cube::{Cube, Literal};
 use cpg_rules::{Admitted, admit};
-use cpg_table::{Entry, Fault, Head, NodeTable, Row, Tables, head_of};
+use cpg_table::{Entry, Fault, NodeTable, Row, Tables, head_of};
 use std::alloc::Global;
 use std::test::Fail;
 
@@ -106,7 +106,7 @@ fn admitted(alloc: Global, problem: Option<Problem>) -> Result<Admitted, Fail> {
 }
 
 /// A graph on the node N1.
-pub fn on_one_node(
+pub fn graph_on_one(
     alloc: Global,
     faults: u8,
     deadline: u64,
@@ -121,7 +121,7 @@ pub fn on_one_node(
 }
 
 /// A on N1 and B on N2, with at most one fault. Slots of N1 start at 0, 20, 40 and so on, those of N2 at 10, 30, 50.
-pub fn on_two_nodes(alloc: Global, edges: Vec<Edge>) -> Result<Admitted, Fail> {
+pub fn graph_on_two(alloc: Global, edges: Vec<Edge>) -> Result<Admitted, Fail> {
     let nodes = names(alloc, &["N1", "N2"])?;
     let processes = processes(alloc, &[A, Task { node: 1, ..B }])?;
     let slots = vec![in alloc; slot(0), slot(1)]?;
@@ -129,70 +129,113 @@ pub fn on_two_nodes(alloc: Global, edges: Vec<Edge>) -> Result<Admitted, Fail> {
     admitted(alloc, problem)
 }
 
-/// A column: its time and its literals.
-pub type Column<'a> = (u64, &'a [Literal]);
+/// A column of an item, with at most two literals of one number each.
+#[derive(Clone, Copy)]
+pub struct Column {
+    item: u32,
+    time: u64,
+    first: Option<Literal>,
+    second: Option<Literal>,
+}
 
-/// A row: its item and its columns.
-pub type Line<'a> = (u32, &'a [Column<'a>]);
+impl Column {
+    /// The column of an item at a time, in every scenario.
+    pub fn at(item: u32, time: u64) -> Column {
+        Column {
+            item,
+            time,
+            first: None,
+            second: None,
+        }
+    }
 
-/// A variable is this number.
-pub fn at(variable: u8, number: u8) -> Literal {
-    Literal {
-        variable,
-        low: number,
-        high: number,
+    /// The same where a variable is this number besides.
+    pub fn with(self, variable: u8, number: u8) -> Column {
+        let literal = Some(Literal {
+            variable,
+            low: number,
+            high: number,
+        });
+        match self.first {
+            None => Column {
+                first: literal,
+                ..self
+            },
+            Some(_) => Column {
+                second: literal,
+                ..self
+            },
+        }
     }
 }
 
-fn entry(alloc: Global, time: u64, literals: &[Literal]) -> Result<Entry, Fail> {
-    let cube = Cube::new(alloc, literals)?.ok_or("cube")?;
-    Ok(Entry { time, cube })
+fn cube(alloc: Global, column: &Column) -> Result<Option<Cube>, OutOfMemory> {
+    match (column.first, column.second) {
+        (Some(first), Some(second)) => Cube::new(alloc, &[first, second]),
+        (Some(first), None) => Cube::new(alloc, &[first]),
+        _ => Cube::new(alloc, &[]),
+    }
 }
 
-fn row(alloc: Global, item: u32, columns: &[Column<'_>]) -> Result<Row, Fail> {
+fn entry(alloc: Global, column: &Column) -> Result<Entry, Fail> {
+    let cube = cube(alloc, column)?.ok_or("cube")?;
+    Ok(Entry {
+        time: column.time,
+        cube,
+    })
+}
+
+/// The row of an item: those of the columns that are its own.
+fn row(alloc: Global, item: u32, columns: &[Column]) -> Result<Row, Fail> {
     let mut entries = Vec::new(alloc);
-    for (time, literals) in columns {
-        entries.push(entry(alloc, *time, literals)?)?;
+    for column in columns {
+        if column.item == item {
+            entries.push(entry(alloc, column)?)?;
+        }
     }
     Ok(Row::new(item, entries))
 }
 
-fn rows(alloc: Global, lines: &[Line<'_>]) -> Result<Vec<Row>, Fail> {
+fn rows(alloc: Global, items: &[u32], columns: &[Column]) -> Result<Vec<Row>, Fail> {
     let mut made = Vec::new(alloc);
-    for (item, columns) in lines {
+    for item in items {
         made.push(row(alloc, *item, columns)?)?;
     }
     Ok(made)
 }
 
-fn table(alloc: Global, head: &Head, node: u32, lines: &[Line<'_>]) -> Result<NodeTable, Fail> {
-    let rows = rows(alloc, lines)?;
-    Ok(NodeTable::new(alloc, head, node, rows)?.ok_or("table")?)
+/// The table of a node with the rows of these items.
+fn table(
+    alloc: Global,
+    admitted: &Admitted,
+    node: u32,
+    items: &[u32],
+    columns: &[Column],
+) -> Result<NodeTable, Fail> {
+    let rows = rows(alloc, items, columns)?;
+    let head = head_of(alloc, admitted.problem())?;
+    Ok(NodeTable::new(alloc, &head, node, rows)?.ok_or("table")?)
 }
 
-fn node_tables(alloc: Global, head: &Head, nodes: &[&[Line<'_>]]) -> Result<Vec<NodeTable>, Fail> {
-    let mut made = Vec::new(alloc);
-    for (node, lines) in nodes.iter().enumerate() {
-        made.push(table(alloc, head, node as u32, lines)?)?;
-    }
-    Ok(made)
-}
-
-/// The tables of a graph, with the rows of each node.
-pub fn tables(alloc: Global, admitted: &Admitted, nodes: &[&[Line<'_>]]) -> Result<Tables, Fail>
+fn tables(alloc: Global, admitted: &Admitted, nodes: Vec<NodeTable>) -> Result<Tables, Fail>
     ensures { IfOk result (λ tables. IsHeadFor admitted.now.graph tables.head) }
 {
     let head = head_of(alloc, admitted.problem())?;
-    let made = node_tables(alloc, &head, nodes)?;
-    Ok(Tables::new(head, made).ok_or("tables")?)
+    Ok(Tables::new(head, nodes).ok_or("tables")?)
 }
 
-/// The rows in which A starts at 0, whatever happens.
-pub const AT_ONCE: Line<'static> = (0, &[(0, &[])]);
-
-/// A column for no fault of A and one for a fault of it.
-fn by_faults<'a>(times: [u64; 2], none: &'a [Literal], one: &'a [Literal]) -> [Column<'a>; 2] {
-    [(times[0], none), (times[1], one)]
+/// The tables of a graph on one node, with the rows of these items.
+pub fn tables_on_one(
+    alloc: Global,
+    admitted: &Admitted,
+    items: &[u32],
+    columns: &[Column],
+) -> Result<Tables, Fail>
+    ensures { IfOk result (λ tables. IsHeadFor admitted.now.graph tables.head) }
+{
+    let table = table(alloc, admitted, 0, items, columns)?;
+    let nodes = vec![in alloc; table]?;
+    tables(alloc, admitted, nodes)
 }
 
 /// A starts at 0; where it has no fault and where it has one, its message is sent, heard and used by B at these times.
@@ -205,18 +248,24 @@ pub fn sending(
 ) -> Result<Tables, Fail>
     ensures { IfOk result (λ tables. IsHeadFor admitted.now.graph tables.head) }
 {
-    let (none, one) = ([at(0, 0)], [at(0, 1)]);
-    let sent = by_faults(sent, &none, &one);
-    let heard = by_faults(heard, &none, &one);
-    let used = by_faults(used, &none, &one);
-    tables(
-        alloc,
-        admitted,
-        &[&[AT_ONCE, (2, &sent)], &[(1, &used), (2, &heard)]],
-    )
+    let sends = [
+        Column::at(0, 0),
+        Column::at(2, sent[0]).with(0, 0),
+        Column::at(2, sent[1]).with(0, 1),
+    ];
+    let hears = [
+        Column::at(1, used[0]).with(0, 0),
+        Column::at(1, used[1]).with(0, 1),
+        Column::at(2, heard[0]).with(0, 0),
+        Column::at(2, heard[1]).with(0, 1),
+    ];
+    let first = table(alloc, admitted, 0, &[0, 2], &sends)?;
+    let second = table(alloc, admitted, 1, &[1, 2], &hears)?;
+    let nodes = vec![in alloc; first, second]?;
+    tables(alloc, admitted, nodes)
 }
 
-/// The same with a second message at these times, where the first is sent at 40 and 80.
+/// The same with a first message at 40 and 80, and this as the second; B uses both when it hears the second.
 pub fn sending_two(
     alloc: Global,
     admitted: &Admitted,
@@ -225,19 +274,25 @@ pub fn sending_two(
 ) -> Result<Tables, Fail>
     ensures { IfOk result (λ tables. IsHeadFor admitted.now.graph tables.head) }
 {
-    let (none, one) = ([at(0, 0)], [at(0, 1)]);
-    let first_sent = by_faults([40, 80], &none, &one);
-    let first_heard = by_faults([50, 90], &none, &one);
-    let sent = by_faults(sent, &none, &one);
-    let heard = by_faults(heard, &none, &one);
-    tables(
-        alloc,
-        admitted,
-        &[
-            &[AT_ONCE, (2, &first_sent), (3, &sent)],
-            &[(1, &heard), (2, &first_heard), (3, &heard)],
-        ],
-    )
+    let sends = [
+        Column::at(0, 0),
+        Column::at(2, 40).with(0, 0),
+        Column::at(2, 80).with(0, 1),
+        Column::at(3, sent[0]).with(0, 0),
+        Column::at(3, sent[1]).with(0, 1),
+    ];
+    let hears = [
+        Column::at(1, heard[0]).with(0, 0),
+        Column::at(1, heard[1]).with(0, 1),
+        Column::at(2, 50).with(0, 0),
+        Column::at(2, 90).with(0, 1),
+        Column::at(3, heard[0]).with(0, 0),
+        Column::at(3, heard[1]).with(0, 1),
+    ];
+    let first = table(alloc, admitted, 0, &[0, 2, 3], &sends)?;
+    let second = table(alloc, admitted, 1, &[1, 2, 3], &hears)?;
+    let nodes = vec![in alloc; first, second]?;
+    tables(alloc, admitted, nodes)
 }
 
 /// What a fault shows.

@@ -1,13 +1,13 @@
 //! V4, on tables of A on N1 that sends a message to B on N2.
 
-use crate::fixtures::{Place, edge, on_two_nodes, place_in, sending};
+use crate::fixtures::{Place, edge, graph_on_two, place_in, sending};
 use cpg_check_heard::check_heard;
 use cpg_rules::Admitted;
 use std::alloc::Global;
 use std::test::Fail;
 
 fn graph(alloc: Global) -> Result<Admitted, Fail> {
-    on_two_nodes(alloc, vec![in alloc; edge(None)]?)
+    graph_on_two(alloc, vec![in alloc; edge(None)]?)
 }
 
 /// Whether all is heard where B starts as the message comes.

@@ -3,7 +3,7 @@
 ghost use Rattle.std.specs.Prelude.{IfOk};
 ghost use Rattle.cpg_violation.specs.Heads.{IsHeadFor};
 
-use crate::fixtures::{A, AT_ONCE, B, C, Column, Place, at, edge, on_one_node, place_in, tables};
+use crate::fixtures::{A, B, C, Column, Place, edge, graph_on_one, place_in, tables_on_one};
 use cpg_base::Edge;
 use cpg_check_rows::{check_activity, check_hears, check_present, check_rows, check_single};
 use cpg_rules::Admitted;
@@ -13,26 +13,30 @@ use std::test::Fail;
 
 /// A, B and C on one node, with these edges.
 fn graph(alloc: Global, faults: u8, edges: Vec<Edge>) -> Result<Admitted, Fail> {
-    on_one_node(alloc, faults, 1000, &[A, B, C], edges)
+    graph_on_one(alloc, faults, 1000, &[A, B, C], edges)
 }
 
-/// A at 0, B by these columns, and C where it begins with at most one fault.
-fn with(alloc: Global, admitted: &Admitted, second: &[Column<'_>]) -> Result<Tables, Fail>
+/// A at 0, B by these two columns, and C where it begins with at most one fault.
+fn with(alloc: Global, admitted: &Admitted, early: Column, late: Column) -> Result<Tables, Fail>
     ensures { IfOk result (λ tables. IsHeadFor admitted.now.graph tables.head) }
 {
-    let third: [Column<'_>; 3] = [
-        (50, &[at(0, 0), at(1, 0)]),
-        (67, &[at(0, 0), at(1, 1)]),
-        (87, &[at(0, 1)]),
+    let columns = [
+        Column::at(0, 0),
+        early,
+        late,
+        Column::at(2, 50).with(0, 0).with(1, 0),
+        Column::at(2, 67).with(0, 0).with(1, 1),
+        Column::at(2, 87).with(0, 1),
     ];
-    tables(alloc, admitted, &[&[AT_ONCE, (1, second), (2, &third)]])
+    tables_on_one(alloc, admitted, &[0, 1, 2], &columns)
 }
 
 /// The tables for at most one fault.
 fn for_one_fault(alloc: Global, admitted: &Admitted) -> Result<Tables, Fail>
     ensures { IfOk result (λ tables. IsHeadFor admitted.now.graph tables.head) }
 {
-    with(alloc, admitted, &[(35, &[at(0, 0)]), (72, &[at(0, 1)])])
+    let (early, late) = (Column::at(1, 35), Column::at(1, 72));
+    with(alloc, admitted, early.with(0, 0), late.with(0, 1))
 }
 
 /// Whether rows are as they are to be, and all that they hear.
@@ -66,7 +70,8 @@ fn a_row_without_a_column(rt: HostRuntime) -> Result<(), Fail> {
 
 /// What is found where both columns of B match.
 fn double(alloc: Global, admitted: &Admitted) -> Result<Place, Fail> {
-    let tables = with(alloc, admitted, &[(35, &[at(0, 1)]), (72, &[])])?;
+    let early = Column::at(1, 35).with(0, 1);
+    let tables = with(alloc, admitted, early, Column::at(1, 72))?;
     place_in(check_single(alloc, admitted, &tables))
 }
 
@@ -81,7 +86,8 @@ fn two_columns_in_one_scenario(rt: HostRuntime) -> Result<(), Fail> {
 
 /// What is found where B has a column for a false value of A.
 fn idle(alloc: Global, admitted: &Admitted) -> Result<Place, Fail> {
-    let tables = with(alloc, admitted, &[(35, &[at(128, 1)]), (36, &[])])?;
+    let early = Column::at(1, 35).with(128, 1);
+    let tables = with(alloc, admitted, early, Column::at(1, 36))?;
     place_in(check_activity(alloc, admitted, &tables))
 }
 

@@ -4,8 +4,8 @@ ghost use Rattle.std.specs.Prelude.{IfOk};
 ghost use Rattle.cpg_violation.specs.Heads.{IsHeadFor};
 
 use crate::fixtures::{
-    A, AT_ONCE, B, C, Column, Place, Task, at, edge, on_one_node, on_two_nodes, place_in, sending,
-    sending_two, tables,
+    A, B, C, Column, Place, Task, edge, graph_on_one, graph_on_two, place_in, sending, sending_two,
+    tables_on_one,
 };
 use cpg_check_time::{check_due, check_frozen, check_processor, check_slot};
 use cpg_rules::Admitted;
@@ -15,22 +15,25 @@ use std::test::Fail;
 
 /// A, B and C on one node, for two faults.
 fn three(alloc: Global) -> Result<Admitted, Fail> {
-    on_one_node(alloc, 2, 1000, &[A, B, C], Vec::new(alloc))
+    graph_on_one(alloc, 2, 1000, &[A, B, C], Vec::new(alloc))
 }
 
 /// Tables in which C starts while B runs, if A and B have a fault each.
 fn with_overlap(alloc: Global, admitted: &Admitted) -> Result<Tables, Fail>
     ensures { IfOk result (λ tables. IsHeadFor admitted.now.graph tables.head) }
 {
-    let second: [Column<'_>; 3] = [(35, &[at(0, 0)]), (72, &[at(0, 1)]), (109, &[at(0, 2)])];
-    let third: [Column<'_>; 5] = [
-        (50, &[at(0, 0), at(1, 0)]),
-        (67, &[at(0, 0), at(1, 1)]),
-        (84, &[at(0, 0), at(1, 2)]),
-        (87, &[at(0, 1)]),
-        (124, &[at(0, 2)]),
+    let columns = [
+        Column::at(0, 0),
+        Column::at(1, 35).with(0, 0),
+        Column::at(1, 72).with(0, 1),
+        Column::at(1, 109).with(0, 2),
+        Column::at(2, 50).with(0, 0).with(1, 0),
+        Column::at(2, 67).with(0, 0).with(1, 1),
+        Column::at(2, 84).with(0, 0).with(1, 2),
+        Column::at(2, 87).with(0, 1),
+        Column::at(2, 124).with(0, 2),
     ];
-    tables(alloc, admitted, &[&[AT_ONCE, (1, &second), (2, &third)]])
+    tables_on_one(alloc, admitted, &[0, 1, 2], &columns)
 }
 
 /// What is found there.
@@ -50,7 +53,7 @@ fn two_executions_overlap(rt: HostRuntime) -> Result<(), Fail> {
 
 /// A and B on two nodes, with one message.
 fn one_message(alloc: Global) -> Result<Admitted, Fail> {
-    on_two_nodes(alloc, vec![in alloc; edge(None)]?)
+    graph_on_two(alloc, vec![in alloc; edge(None)]?)
 }
 
 /// What is found where a message of N1 is sent at 90 after a fault.
@@ -70,7 +73,7 @@ fn a_send_in_a_slot_of_another_node(rt: HostRuntime) -> Result<(), Fail> {
 
 /// The same with two messages.
 fn two_messages(alloc: Global) -> Result<Admitted, Fail> {
-    on_two_nodes(alloc, vec![in alloc; edge(None), edge(None)]?)
+    graph_on_two(alloc, vec![in alloc; edge(None), edge(None)]?)
 }
 
 /// What is found where both are sent at 80 after a fault.
@@ -104,15 +107,15 @@ fn two_sends_at_one_time_in_different_scenarios(rt: HostRuntime) -> Result<(), F
 /// A alone and frozen, with at most one fault.
 fn alone(alloc: Global, deadline: u64) -> Result<Admitted, Fail> {
     let task = Task { frozen: true, ..A };
-    on_one_node(alloc, 1, deadline, &[task], Vec::new(alloc))
+    graph_on_one(alloc, 1, deadline, &[task], Vec::new(alloc))
 }
 
 /// A at 0 where it has no fault, and then at this time where it has one.
 fn twice(alloc: Global, admitted: &Admitted, second: u64) -> Result<Tables, Fail>
     ensures { IfOk result (λ tables. IsHeadFor admitted.now.graph tables.head) }
 {
-    let columns: [Column<'_>; 2] = [(0, &[at(0, 0)]), (second, &[at(0, 1)])];
-    tables(alloc, admitted, &[&[(0, &columns)]])
+    let (early, late) = (Column::at(0, 0), Column::at(0, second));
+    tables_on_one(alloc, admitted, &[0], &[early.with(0, 0), late.with(0, 1)])
 }
 
 /// What ends after the deadline where A is always at 0.

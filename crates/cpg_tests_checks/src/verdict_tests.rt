@@ -1,8 +1,8 @@
 //! The verdict: of valid tables, of those of another graph, and of those that break a rule.
 
 use crate::fixtures::{
-    A, AT_ONCE, Place, Task, edge, on_one_node, on_two_nodes, place_of, sending, sending_two,
-    tables,
+    A, Column, Place, Task, edge, graph_on_one, graph_on_two, place_of, sending, sending_two,
+    tables_on_one,
 };
 use cpg_base::OutOfMemory;
 use cpg_check::{HeadPart, Verdict, check};
@@ -13,12 +13,12 @@ use std::test::Fail;
 /// A alone, with this worst-case time and at most two faults.
 fn alone(alloc: Global, wcet: u64) -> Result<Admitted, Fail> {
     let task = Task { wcet, ..A };
-    on_one_node(alloc, 2, 500, &[task], Vec::new(alloc))
+    graph_on_one(alloc, 2, 500, &[task], Vec::new(alloc))
 }
 
 /// Whether A may start at 0.
 fn is_valid(alloc: Global, admitted: &Admitted) -> Result<bool, Fail> {
-    let tables = tables(alloc, admitted, &[&[AT_ONCE]])?;
+    let tables = tables_on_one(alloc, admitted, &[0], &[Column::at(0, 0)])?;
     Ok(matches!(check(alloc, admitted, &tables), Ok(Verdict::Yes)))
 }
 
@@ -31,7 +31,7 @@ fn valid_tables(rt: HostRuntime) -> Result<(), Fail> {
 
 /// The part in which the head of the tables of another graph differs.
 fn difference(alloc: Global, admitted: &Admitted, other: &Admitted) -> Result<HeadPart, Fail> {
-    let tables = tables(alloc, other, &[&[AT_ONCE]])?;
+    let tables = tables_on_one(alloc, other, &[0], &[Column::at(0, 0)])?;
     match check(alloc, admitted, &tables) {
         Ok(Verdict::Other(part)) => Ok(part),
         _ => Err("no difference".into()),
@@ -57,7 +57,7 @@ fn violation(found: Result<Verdict, OutOfMemory>) -> Result<Place, Fail> {
 
 /// What is found where A has no column.
 fn unstarted(alloc: Global, admitted: &Admitted) -> Result<Place, Fail> {
-    let tables = tables(alloc, admitted, &[&[(0, &[])]])?;
+    let tables = tables_on_one(alloc, admitted, &[0], &[])?;
     violation(check(alloc, admitted, &tables))
 }
 
@@ -79,7 +79,7 @@ fn foreign(alloc: Global, admitted: &Admitted) -> Result<Place, Fail> {
 #[test]
 fn tables_with_a_slot_of_another_node(rt: HostRuntime) -> Result<(), Fail> {
     let edges = vec![in rt.alloc(); edge(None)]?;
-    let admitted = on_two_nodes(rt.alloc(), edges)?;
+    let admitted = graph_on_two(rt.alloc(), edges)?;
     let found = foreign(rt.alloc(), &admitted)?;
     assert!(rt; found.is_of(7, 2, Some(1)));
     assert!(rt; found.is_in(1, 0));
@@ -95,7 +95,7 @@ fn shared(alloc: Global, admitted: &Admitted) -> Result<Place, Fail> {
 #[test]
 fn tables_with_a_slot_taken_twice(rt: HostRuntime) -> Result<(), Fail> {
     let edges = vec![in rt.alloc(); edge(None), edge(None)]?;
-    let admitted = on_two_nodes(rt.alloc(), edges)?;
+    let admitted = graph_on_two(rt.alloc(), edges)?;
     let found = shared(rt.alloc(), &admitted)?;
     assert!(rt; found.is_of(7, 3, Some(1)));
     assert!(rt; found.is_in(1, 0));
