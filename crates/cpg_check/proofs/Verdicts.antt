@@ -10,6 +10,8 @@ use Rattle.cpg_table.specs.Valid.{IsValid, hear_row}
 use Rattle.cpg_table.specs.declared.fault.Fault.{Fault}
 use Rattle.cpg_violation.specs.Columns.{row_columns}
 use Rattle.cpg_violation.specs.Heads.{IsHeadFor}
+use Rattle.cpg_violation.specs.Violation.{IsFirstViolation, column_rules}
+use Rattle.cpg_violation.proofs.Violations.{first_broken}
 use Rattle.cpg_check_rows.specs.Hears.{DifferFirstAt, IsFirstHear, IsFirstHearFault, due_columns}
 use Rattle.cpg_check.specs.Heads.{IsFirstDifference}
 use Rattle.cpg_check.specs.Verdict.{IsFirstFault}
@@ -44,6 +46,7 @@ module _ (g : Graph) (tables : List NodeTable) where
   -- tables with a fault aren't valid
   pub faulty_tables : (order : List ℕ) (f : Fault) → length tables ≡ length g.nodes → IsFirstFault g order tables f → IsValid g tables → ⊥
   faulty_tables order f count (inl broken) valid =
-      let first = broken.first in
-      both_ways _ (valid.rules f.rule f.item f.column f.scenario first.least.lawful first.item) first.least.holds
+      let shown = first_broken g tables order f column_rules broken in
+      let first : IsFirstViolation g order tables shown.0 f = shown.1 in
+      both_ways _ (valid.rules shown.0 f.item f.column f.scenario first.least.lawful first.item) first.least.holds
   faulty_tables order f count (inr heard) valid = first_hear valid count f.item f.column heard.1.column

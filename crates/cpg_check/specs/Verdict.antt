@@ -6,7 +6,7 @@ use Rattle.cpg_table.specs.Table.{NodeTable}
 use Rattle.cpg_table.specs.Valid.{IsValid}
 use Rattle.cpg_table.specs.declared.fault.Fault.{Fault}
 use Rattle.cpg_violation.specs.Heads.{IsHeadFor}
-use Rattle.cpg_violation.specs.Violation.{HoldFrom, IsFirstOf}
+use Rattle.cpg_violation.specs.Violation.{AllHold, IsFirstOf, column_rules}
 use Rattle.cpg_check_rows.specs.Hears.{IsFirstHearFault}
 use Rattle.cpg_check.specs.Heads.{IsFirstDifference}
 use Rattle.cpg_check.specs.declared.verdict.Verdict.{Verdict}
@@ -14,7 +14,7 @@ use Rattle.cpg_check.specs.declared.verdict.Verdict.TheVariants.{Yes, Other, No}
 
 -- the first violation of V1 to V9; or, where these hold, of V10
 abbrev pub IsFirstFault : Graph → List ℕ → List NodeTable → Fault → Type 0
-IsFirstFault g order tables f = IsFirstOf g order tables 1 9 f ⊎ (HoldFrom g tables 1 9 × IsFirstHearFault g tables f)
+IsFirstFault g order tables f = IsFirstOf g order tables column_rules f ⊎ (AllHold g tables column_rules × IsFirstHearFault g tables f)
 
 -- None where the tables are valid
 abbrev pub ShowsFault : Graph → List ℕ → List NodeTable → Option Fault → Type 0

@@ -5,6 +5,7 @@ ghost use Rattle.cpg_order.specs.Scenario.{Scenario, IsScenario};
 ghost use Rattle.cpg_cube.specs.Fit.{IsKnown};
 ghost use Rattle.cpg_check_heard.specs.Hearings.{IsHearing};
 ghost use Rattle.cpg_check_heard.specs.Unheard.{is_unheard};
+ghost use Rattle.cpg_table.specs.declared.rule.Rule.{Rule};
 ghost use Rattle.cpg_violation.specs.Heads.{IsHeadFor};
 ghost use Rattle.cpg_violation.specs.Violation.{Holds, IsFirstColumn, IsFirstViolation};
 
@@ -12,7 +13,7 @@ use crate::hearing::Hearing;
 use crate::tellers::tellers;
 use cpg_base::{OutOfMemory, Scenario};
 use cpg_rules::Admitted;
-use cpg_table::{Entry, Fault, NodeItems, Tables};
+use cpg_table::{Entry, Fault, NodeItems, Rule, Tables};
 use cpg_violation::columns_of;
 use std::alloc::Global;
 
@@ -52,8 +53,8 @@ pub fn check_heard(
     tables: &Tables,
 ) -> Result<Option<Fault>, OutOfMemory>
     requires { IsHeadFor admitted.now.graph tables.now.head }
-    ensures none { IfOk result (λ r. IfNone r (Holds admitted.now.graph tables.now.nodes 4)) }
-    ensures first { IfOk result (λ r. IfSome r (IsFirstViolation admitted.now.graph admitted.now.order tables.now.nodes 4)) }
+    ensures none { IfOk result (λ r. IfNone r (Holds admitted.now.graph tables.now.nodes Rule.Heard)) }
+    ensures first { IfOk result (λ r. IfSome r (IsFirstViolation admitted.now.graph admitted.now.order tables.now.nodes Rule.Heard)) }
 {
     let tellers = tellers(alloc, admitted, tables)?;
     let hearing = Hearing {
@@ -66,7 +67,7 @@ pub fn check_heard(
         let unheard = first_unheard(alloc, &hearing, item, columns)?;
         if let Some((column, scenario)) = unheard {
             return Ok(Some(Fault {
-                rule: 4,
+                rule: Rule::Heard.number(),
                 item,
                 column: Some(column),
                 scenario,

@@ -22,6 +22,8 @@ use Rattle.cpg_cube.proofs.Kept.{any_map}
 use Rattle.cpg_rules.specs.Admission.{IsAdmitted}
 use Rattle.cpg_table.specs.Table.{Column, NodeTable, columns_of}
 use Rattle.cpg_table.specs.Valid.{breaks, breaks_at}
+use Rattle.cpg_table.specs.Rules.{number_of_rule}
+use Rattle.cpg_table.specs.declared.rule.Rule.{Rule}
 use Rattle.cpg_violation.specs.Violation.{IsFirstViolation}
 use Rattle.cpg_check_rows.specs.Present.{is_absent}
 use Rattle.cpg_violation.specs.Activity.{comes_to}
@@ -92,23 +94,17 @@ module _ (g : Graph) (s : Scenario) where
       ∙ live_tested g order a.topological guards a.guards s.values i.values e l ∙ ap (λ t. active g s.values (source g e) && t) (sym m)
 
 -- no item before, with one more
-pub present_more : (g : Graph) (tables : List NodeTable) (x : ℕ) → ((y : ℕ) (column : Option ℕ) (s : Scenario) → y < x → IsScenario g s → breaks 3 g tables s y column ≡ false)
+pub present_more : (g : Graph) (tables : List NodeTable) (x : ℕ) → ((y : ℕ) (column : Option ℕ) (s : Scenario) → y < x → IsScenario g s → breaks Rule.Present g tables s y column ≡ false)
     → ((s : Scenario) → IsScenario g s → is_absent g (columns_of tables x) x s ≡ false)
-    → (y : ℕ) (column : Option ℕ) (s : Scenario) → y < x + 1 → IsScenario g s → breaks 3 g tables s y column ≡ false
+    → (y : ℕ) (column : Option ℕ) (s : Scenario) → y < x + 1 → IsScenario g s → breaks Rule.Present g tables s y column ≡ false
 present_more g tables x before here y column s l i = elim (cases_lt y x) [
   | inl lt ↦ before y column s lt i
-  | inr ge ↦ let same : x ≡ y = omega arith in subst (λ z. breaks 3 g tables s z column ≡ false) same (at_item column)
+  | inr ge ↦ let same : x ≡ y = omega arith in subst (λ z. breaks Rule.Present g tables s z column ≡ false) same (at_item column)
 ]
   where
-    at_item : (column : Option ℕ) → breaks 3 g tables s x column ≡ false
+    at_item : (column : Option ℕ) → breaks Rule.Present g tables s x column ≡ false
     at_item None = here s i
-    at_item (Some k) = list_any_false (breaks_at 3 g tables s x (take k (columns_of tables x))) (take 1 (drop k (columns_of tables x))) (λ c _. and_last (matches c.cube s))
-
-pub first_absent : (g : Graph) (order : List ℕ) (tables : List NodeTable) (x : ℕ) (s : Scenario) → x < item_count g
-    → ((y : ℕ) (column : Option ℕ) (s : Scenario) → y < x → IsScenario g s → breaks 3 g tables s y column ≡ false)
-    → IsLeast g order (λ t. IsTrue (is_absent g (columns_of tables x) x t)) s
-    → IsFirstViolation g order tables 3 (record { rule = 3; item = x; column = None; scenario = s })
-first_absent g order tables x s l before first = record { rule = refl; item = l; least = first; items = before; columns = tt }
+    at_item (Some k) = list_any_false (breaks_at Rule.Present g tables s x (take k (columns_of tables x))) (take 1 (drop k (columns_of tables x))) (λ c _. and_last (matches c.cube s))
 
 pub all_mapped : {X Y : Type 0} (P : Y → Type 0) (f : X → Y) (xs : List X) → All (λ x. P (f x)) xs → All P (map f xs)
 all_mapped P f [] h k d l = absurd (omega arith)

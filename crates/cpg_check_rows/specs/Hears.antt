@@ -4,7 +4,9 @@ use Rattle.cpg_base.specs.Graph.{Graph, item_count}
 use Rattle.cpg_base.specs.Scenario.{zero_scenario}
 use Rattle.cpg_table.specs.Table.{Column, NodeTable, table_at}
 use Rattle.cpg_table.specs.Valid.{hear_row, hear_rows}
+use Rattle.cpg_table.specs.Rules.{number_of_rule}
 use Rattle.cpg_table.specs.declared.fault.Fault.{Fault}
+use Rattle.cpg_table.specs.declared.rule.Rule.{Rule}
 use Rattle.cpg_violation.specs.Columns.{row_columns}
 
 -- the first place at which two lists differ: the length of the shorter one where it begins the other
@@ -37,7 +39,7 @@ HearsHold g tables = (node : ℕ) (t : NodeTable) → slice_get tables node ≡ 
 
 -- the least item that some node hears at other columns, with the least such node's first column that differs
 pub record IsFirstHearFault (g : Graph) (tables : List NodeTable) (f : Fault) : Type 0 where
-  pub rule : f.rule ≡ 10
+  pub number : f.rule ≡ number_of_rule Rule.Hears
   pub item : f.item < item_count g
   pub scenario : f.scenario ≡ zero_scenario g
   pub items : (x : ℕ) → x < f.item → IsHeardWell g tables x

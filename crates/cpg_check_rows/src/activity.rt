@@ -8,6 +8,7 @@ ghost use Rattle.cpg_order.specs.First.{IsFirst};
 ghost use Rattle.cpg_order.specs.Scenario.{Scenario, IsScenario};
 ghost use Rattle.cpg_cube.specs.Cube.{holds, matches};
 ghost use Rattle.cpg_cube.specs.Fit.{IsKnown};
+ghost use Rattle.cpg_table.specs.declared.rule.Rule.{Rule};
 ghost use Rattle.cpg_table.specs.Valid.{breaks_activity};
 ghost use Rattle.cpg_check_rows.specs.Active.{is_idle};
 ghost use Rattle.cpg_violation.specs.Heads.{IsHeadFor};
@@ -16,7 +17,7 @@ ghost use Rattle.cpg_violation.specs.Violation.{Holds, IsFirstColumn, IsFirstVio
 use cpg_base::{OutOfMemory, Problem, Scenario};
 use cpg_cube::{Cube, Literal};
 use cpg_rules::Admitted;
-use cpg_table::{Entry, Fault, Tables};
+use cpg_table::{Entry, Fault, Rule, Tables};
 use cpg_violation::{columns_of, earlier, least_at, value_literal};
 use std::alloc::Global;
 
@@ -217,15 +218,15 @@ pub fn check_activity(
     tables: &Tables,
 ) -> Result<Option<Fault>, OutOfMemory>
     requires { IsHeadFor admitted.now.graph tables.now.head }
-    ensures none { IfOk result (λ r. IfNone r (Holds admitted.now.graph tables.now.nodes 1)) }
-    ensures first { IfOk result (λ r. IfSome r (IsFirstViolation admitted.now.graph admitted.now.order tables.now.nodes 1)) }
+    ensures none { IfOk result (λ r. IfNone r (Holds admitted.now.graph tables.now.nodes Rule.Activity)) }
+    ensures first { IfOk result (λ r. IfSome r (IsFirstViolation admitted.now.graph admitted.now.order tables.now.nodes Rule.Activity)) }
 {
     for item in 0..admitted.problem().item_count() {
         let columns = columns_of(tables, item);
         let idle = first_idle(alloc, admitted, item, columns)?;
         if let Some((column, scenario)) = idle {
             return Ok(Some(Fault {
-                rule: 1,
+                rule: Rule::Activity.number(),
                 item,
                 column: Some(column),
                 scenario,

@@ -12,7 +12,7 @@ ghost use Rattle.cpg_check_rows.specs.Hears.{DifferFirstAt, HearsAt, HearsHold, 
 use cpg_base::{OutOfMemory, Scenario};
 use cpg_cube::Literal;
 use cpg_rules::Admitted;
-use cpg_table::{Entry, Fault, Tables};
+use cpg_table::{Entry, Fault, Rule, Tables};
 use cpg_violation::{columns_of, row_columns};
 use std::alloc::Global;
 
@@ -116,7 +116,7 @@ pub fn check_hears(
         if let Some(place) = first_hear(tables, nodes, item, sent, delay) {
             let scenario = Scenario::zero(alloc, problem)?;
             return Ok(Some(Fault {
-                rule: 10,
+                rule: Rule::Hears.number(),
                 item,
                 column: Some(place),
                 scenario,

@@ -8,13 +8,14 @@ ghost use Rattle.cpg_cube.specs.Cube.{matches};
 ghost use Rattle.cpg_cube.specs.Cover.{is_left};
 ghost use Rattle.cpg_cube.specs.Fit.{IsKnown};
 ghost use Rattle.cpg_check_rows.specs.Present.{is_absent};
+ghost use Rattle.cpg_table.specs.declared.rule.Rule.{Rule};
 ghost use Rattle.cpg_violation.specs.Heads.{IsHeadFor};
 ghost use Rattle.cpg_violation.specs.Violation.{Holds, IsFirstViolation};
 
 use cpg_base::{OutOfMemory, Scenario};
 use cpg_cube::Cube;
 use cpg_rules::Admitted;
-use cpg_table::{Entry, Fault, Tables};
+use cpg_table::{Entry, Fault, Rule, Tables};
 use cpg_violation::{columns_of, cubes_of, edge_cube, least_at};
 use std::alloc::Global;
 
@@ -99,8 +100,8 @@ pub fn check_present(
     tables: &Tables,
 ) -> Result<Option<Fault>, OutOfMemory>
     requires { IsHeadFor admitted.now.graph tables.now.head }
-    ensures none { IfOk result (λ r. IfNone r (Holds admitted.now.graph tables.now.nodes 3)) }
-    ensures first { IfOk result (λ r. IfSome r (IsFirstViolation admitted.now.graph admitted.now.order tables.now.nodes 3)) }
+    ensures none { IfOk result (λ r. IfNone r (Holds admitted.now.graph tables.now.nodes Rule.Present)) }
+    ensures first { IfOk result (λ r. IfSome r (IsFirstViolation admitted.now.graph admitted.now.order tables.now.nodes Rule.Present)) }
 {
     let problem = admitted.problem();
     for item in 0..problem.item_count() {
@@ -108,7 +109,7 @@ pub fn check_present(
         let absent = least_absent(alloc, admitted, item, columns)?;
         if let Some(scenario) = absent {
             return Ok(Some(Fault {
-                rule: 3,
+                rule: Rule::Present.number(),
                 item,
                 column: None,
                 scenario,

@@ -1,7 +1,7 @@
 //! The rules V1, V2 and V3, one after the other.
 ghost use Rattle.std.specs.Prelude.{◌≡◌, IfNone, IfOk, IfSome};
 ghost use Rattle.cpg_violation.specs.Heads.{IsHeadFor};
-ghost use Rattle.cpg_violation.specs.Violation.{HoldFrom, IsFirstOf};
+ghost use Rattle.cpg_violation.specs.Violation.{AllHold, IsFirstOf, row_rules};
 
 use crate::activity::check_activity;
 use crate::present::check_present;
@@ -19,8 +19,8 @@ pub fn check_rows(
     tables: &Tables,
 ) -> Result<Option<Fault>, OutOfMemory>
     requires { IsHeadFor admitted.now.graph tables.now.head }
-    ensures none { IfOk result (λ r. IfNone r (HoldFrom admitted.now.graph tables.now.nodes 1 3)) }
-    ensures first { IfOk result (λ r. IfSome r (IsFirstOf admitted.now.graph admitted.now.order tables.now.nodes 1 3)) }
+    ensures none { IfOk result (λ r. IfNone r (AllHold admitted.now.graph tables.now.nodes row_rules)) }
+    ensures first { IfOk result (λ r. IfSome r (IsFirstOf admitted.now.graph admitted.now.order tables.now.nodes row_rules)) }
 {
     let idle = check_activity(alloc, admitted, tables)?;
     if let Some(fault) = idle {

@@ -6,6 +6,7 @@ ghost use Rattle.cpg_order.specs.First.{IsFirst};
 ghost use Rattle.cpg_order.specs.Scenario.{Scenario, IsScenario};
 ghost use Rattle.cpg_cube.specs.Cube.{matches};
 ghost use Rattle.cpg_cube.specs.Fit.{IsKnown};
+ghost use Rattle.cpg_table.specs.declared.rule.Rule.{Rule};
 ghost use Rattle.cpg_violation.specs.Room.{HasRoom};
 ghost use Rattle.cpg_violation.specs.Sieves.{IsSieveOf, is_at};
 ghost use Rattle.cpg_violation.specs.Heads.{IsHeadFor};
@@ -16,7 +17,7 @@ use cpg_base::{OutOfMemory, Problem, Scenario};
 use cpg_cube::Cube;
 use cpg_order::Order;
 use cpg_rules::Admitted;
-use cpg_table::{Entry, Fault, Tables};
+use cpg_table::{Entry, Fault, Rule, Tables};
 use cpg_violation::{Sieve, columns_of, earlier, met};
 use std::alloc::Global;
 
@@ -117,8 +118,8 @@ pub fn check_single(
     tables: &Tables,
 ) -> Result<Option<Fault>, OutOfMemory>
     requires { IsHeadFor admitted.now.graph tables.now.head }
-    ensures none { IfOk result (λ r. IfNone r (Holds admitted.now.graph tables.now.nodes 2)) }
-    ensures first { IfOk result (λ r. IfSome r (IsFirstViolation admitted.now.graph admitted.now.order tables.now.nodes 2)) }
+    ensures none { IfOk result (λ r. IfNone r (Holds admitted.now.graph tables.now.nodes Rule.Single)) }
+    ensures first { IfOk result (λ r. IfSome r (IsFirstViolation admitted.now.graph admitted.now.order tables.now.nodes Rule.Single)) }
 {
     let problem = admitted.problem();
     let order = admitted.order();
@@ -127,7 +128,7 @@ pub fn check_single(
         let double = first_double(alloc, problem, order, columns)?;
         if let Some((column, scenario)) = double {
             return Ok(Some(Fault {
-                rule: 2,
+                rule: Rule::Single.number(),
                 item,
                 column: Some(column),
                 scenario,

@@ -14,6 +14,7 @@ use Rattle.cpg_cube.specs.Cube.{matches}
 use Rattle.cpg_cube.specs.Fit.{is_met}
 use Rattle.cpg_table.specs.Table.{Column, NodeTable, columns_of}
 use Rattle.cpg_table.specs.Valid.{is_possible, differs_from}
+use Rattle.cpg_table.specs.declared.rule.Rule.{Rule}
 use Rattle.cpg_table.proofs.Possible.{possible-is_met}
 use Rattle.cpg_check_time.specs.Columns.{breaks_column, IsColumn}
 use Rattle.cpg_check_time.specs.Frozen.{frozen_time, possible_time}
@@ -48,21 +49,21 @@ differs_some time t true (Some d) e = ap (λ u. not (u == time)) (same_Some d.ti
 differs_some time t false o e = absurd (none-some t e)
 
 module _ (g : Graph) (order : List ℕ) (tables : List NodeTable) (x : ℕ) (c : Column) where
-  pub frozen_none : frozen_time g tables x ≡ None → (s : Scenario) → breaks_column 8 g tables x c s ≡ false
+  pub frozen_none : frozen_time g tables x ≡ None → (s : Scenario) → breaks_column Rule.Frozen g tables x c s ≡ false
   frozen_none e s = and_right (matches c.cube s) _ (differs_none c.time (is_frozen g x) (find (is_possible g) (columns_of tables x)) e)
 
-  pub frozen_same : (t : ℕ) → frozen_time g tables x ≡ Some t → t ≡ c.time → (s : Scenario) → breaks_column 8 g tables x c s ≡ false
+  pub frozen_same : (t : ℕ) → frozen_time g tables x ≡ Some t → t ≡ c.time → (s : Scenario) → breaks_column Rule.Frozen g tables x c s ≡ false
   frozen_same t e same s = and_right (matches c.cube s) _ (differs_some c.time t (is_frozen g x) (find (is_possible g) (columns_of tables x)) e ∙ ap not (eq-eqb t c.time same))
 
-  frozen_other : (t : ℕ) → frozen_time g tables x ≡ Some t → t ≢ c.time → (s : Scenario) → matches c.cube s ≡ breaks_column 8 g tables x c s
+  frozen_other : (t : ℕ) → frozen_time g tables x ≡ Some t → t ≢ c.time → (s : Scenario) → matches c.cube s ≡ breaks_column Rule.Frozen g tables x c s
   frozen_other t e other s = with_true (matches c.cube s) _ (differs_some c.time t (is_frozen g x) (find (is_possible g) (columns_of tables x)) e ∙ ap not (ne_eqb t c.time other))
     where
       with_true : (a b : Bool) → b ≡ true → a ≡ (a && b)
       with_true true b e = sym e
       with_true false b e = refl
 
-  pub frozen_first : (t : ℕ) → frozen_time g tables x ≡ Some t → t ≢ c.time → (o : Option Scenario) → IsFirst g order (matches c.cube) o → IsFirst g order (breaks_column 8 g tables x c) o
-  frozen_first t e other o f = first_same g order (matches c.cube) (breaks_column 8 g tables x c) o (λ s _. frozen_other t e other s) f
+  pub frozen_first : (t : ℕ) → frozen_time g tables x ≡ Some t → t ≢ c.time → (o : Option Scenario) → IsFirst g order (matches c.cube) o → IsFirst g order (breaks_column Rule.Frozen g tables x c) o
+  frozen_first t e other o f = first_same g order (matches c.cube) (breaks_column Rule.Frozen g tables x c) o (λ s _. frozen_other t e other s) f
 
 -- the time in the list
 pub time_at : (g : Graph) (tables : List NodeTable) (times : List (Option ℕ)) (x : ℕ) (d : Option ℕ) → times ≡ map (frozen_time g tables) (numbers_below (item_count g)) → x < item_count g → get_or times x d ≡ frozen_time g tables x

@@ -23,7 +23,8 @@ use Rattle.cpg_cube.specs.declared.literal.Literal.{Literal}
 use Rattle.cpg_rules.specs.Admission.{IsAdmitted}
 use Rattle.cpg_table.specs.Table.{Column, NodeTable, columns_of}
 use Rattle.cpg_table.specs.Valid.{ends_of, arrivals_of, is_by, input_is_there, breaks_inputs_of}
-use Rattle.cpg_violation.specs.Violation.{HoldFrom}
+use Rattle.cpg_table.specs.declared.rule.Rule.{Rule}
+use Rattle.cpg_violation.specs.Violation.{AllHold, row_rules}
 use Rattle.cpg_check_time.specs.declared.delays.Delay.TheVariants.{Execution, Slot}
 use Rattle.cpg_check_time.specs.Columns.{breaks_column}
 use Rattle.cpg_check_time.specs.Delays.{is_late}
@@ -43,7 +44,7 @@ live_asked {g} {order} {guards} a s i e l =
     ∙ ap (λ x. active_by guards s.values x.source && is_passed x.test s.values) (guard_at g order guards a.guards e l)
     ∙ ap (λ b. b && is_asked g e s) (active_by-is g order a.topological guards a.guards s.values i.values (source g e) (source_in_order g order a.topological e l))
 
-module _ {g : Graph} {order : List ℕ} {guards : Guards} (admitted : IsAdmitted g order guards) (tables : List NodeTable) (rules : HoldFrom g tables 1 3) (s : Scenario) (law : IsScenario g s) where
+module _ {g : Graph} {order : List ℕ} {guards : Guards} (admitted : IsAdmitted g order guards) (tables : List NodeTable) (rules : AllHold g tables row_rules) (s : Scenario) (law : IsScenario g s) where
   -- where a process is active and hasn't ended by a time, one of its columns is late
   end_late : (p : ℕ) → p < process_count g → (time : ℕ) → (active g s.values p && not (is_by time (ends_of g tables s p))) ≡ list_any (λ d. is_late g (Execution p) time d s) (columns_of tables p)
   end_late p l time =
@@ -68,17 +69,17 @@ module _ {g : Graph} {order : List ℕ} {guards : Guards} (admitted : IsAdmitted
   -- ---- the rule at a start
 
   module _ (p : ℕ) (l : p < process_count g) (c : Column) where
-    at_start : breaks_column 5 g tables p c s ≡ (matches c.cube s && (nat_lt c.time (process_at g p).release || list_any (λ e. not (input_is_there g tables s c.time e)) (filter (live g s.values) (inputs g p))))
+    at_start : breaks_column Rule.Inputs g tables p c s ≡ (matches c.cube s && (nat_lt c.time (process_at g p).release || list_any (λ e. not (input_is_there g tables s c.time e)) (filter (live g s.values) (inputs g p))))
     at_start = ap (λ i. matches c.cube s && breaks_inputs_of g tables s c.time i) (item_at-start g p l)
 
-    too_early : c.time < (process_at g p).release → matches c.cube s ≡ breaks_column 5 g tables p c s
+    too_early : c.time < (process_at g p).release → matches c.cube s ≡ breaks_column Rule.Inputs g tables p c s
     too_early early = with_true (matches c.cube s) ∙ sym (at_start ∙ ap (λ b. matches c.cube s && (b || list_any (λ e. not (input_is_there g tables s c.time e)) (filter (live g s.values) (inputs g p)))) (lt-ltb c.time (process_at g p).release early))
       where
         with_true : (a : Bool) → a ≡ (a && true)
         with_true true = refl
         with_true false = refl
 
-    inputs_only : (process_at g p).release ≤ c.time → list_any (λ e. lacks_input g tables c e s) (inputs g p) ≡ breaks_column 5 g tables p c s
+    inputs_only : (process_at g p).release ≤ c.time → list_any (λ e. lacks_input g tables c e s) (inputs g p) ≡ breaks_column Rule.Inputs g tables p c s
     inputs_only released =
         both_any (matches c.cube s) (λ e. is_input_late g tables c.time e s) (inputs g p)
         ∙ ap (λ b. matches c.cube s && b) (sym (any_filter (λ e. not (input_is_there g tables s c.time e)) (live g s.values) (inputs g p)
@@ -105,7 +106,7 @@ module _ {g : Graph} {order : List ℕ} {guards : Guards} (admitted : IsAdmitted
           ∙ (and_parts (is_sent_item g (Broadcast b.0)) _ (sym (ap (item_active g s.values) b.3) ∙ a)).1
     ]
 
-    at_send : (matches c.cube s && list_any (λ d. is_late g (Execution (producer g x)) c.time d s) (columns_of tables (producer g x))) ≡ breaks_column 5 g tables x c s
+    at_send : (matches c.cube s && list_any (λ d. is_late g (Execution (producer g x)) c.time d s) (columns_of tables (producer g x))) ≡ breaks_column Rule.Inputs g tables x c s
     at_send =
         when (matches c.cube s) (list_any (λ d. is_late g (Execution (producer g x)) c.time d s) (columns_of tables (producer g x))) (not (is_by c.time (ends_of g tables s (producer g x))))
         (λ m. sym (end_late (producer g x) (producer_within g admitted.well_formed x l) c.time)
@@ -137,12 +138,12 @@ module _ (g : Graph) (order : List ℕ) (tables : List NodeTable) (c : Column) (
 
 -- ---- the least scenario
 
-module _ {g : Graph} {order : List ℕ} {guards : Guards} (admitted : IsAdmitted g order guards) (tables : List NodeTable) (rules : HoldFrom g tables 1 3) (x : ℕ) (c : Column) (o : Option Scenario) where
-  pub first_released : x < process_count g → c.time < (process_at g x).release → IsFirst g order (matches c.cube) o → IsFirst g order (breaks_column 5 g tables x c) o
-  first_released l early f = first_same g order (matches c.cube) (breaks_column 5 g tables x c) o (λ s i. too_early admitted tables rules s i x l c early) f
+module _ {g : Graph} {order : List ℕ} {guards : Guards} (admitted : IsAdmitted g order guards) (tables : List NodeTable) (rules : AllHold g tables row_rules) (x : ℕ) (c : Column) (o : Option Scenario) where
+  pub first_released : x < process_count g → c.time < (process_at g x).release → IsFirst g order (matches c.cube) o → IsFirst g order (breaks_column Rule.Inputs g tables x c) o
+  first_released l early f = first_same g order (matches c.cube) (breaks_column Rule.Inputs g tables x c) o (λ s i. too_early admitted tables rules s i x l c early) f
 
-  pub first_input : x < process_count g → (process_at g x).release ≤ c.time → IsFirst g order (λ s. list_any (λ e. lacks_input g tables c e s) (inputs g x)) o → IsFirst g order (breaks_column 5 g tables x c) o
-  first_input l released f = first_same g order (λ s. list_any (λ e. lacks_input g tables c e s) (inputs g x)) (breaks_column 5 g tables x c) o (λ s i. inputs_only admitted tables rules s i x l c released) f
+  pub first_input : x < process_count g → (process_at g x).release ≤ c.time → IsFirst g order (λ s. list_any (λ e. lacks_input g tables c e s) (inputs g x)) o → IsFirst g order (breaks_column Rule.Inputs g tables x c) o
+  first_input l released f = first_same g order (λ s. list_any (λ e. lacks_input g tables c e s) (inputs g x)) (breaks_column Rule.Inputs g tables x c) o (λ s i. inputs_only admitted tables rules s i x l c released) f
 
-  pub first_send : x < item_count g → process_count g ≤ x → Contains (columns_of tables x) c → IsFirst g order (λ s. matches c.cube s && list_any (λ d. is_late g (Execution (producer g x)) c.time d s) (columns_of tables (producer g x))) o → IsFirst g order (breaks_column 5 g tables x c) o
-  first_send l send k f = first_same g order (λ s. matches c.cube s && list_any (λ d. is_late g (Execution (producer g x)) c.time d s) (columns_of tables (producer g x))) (breaks_column 5 g tables x c) o (λ s i. at_send admitted tables rules s i x l send c k) f
+  pub first_send : x < item_count g → process_count g ≤ x → Contains (columns_of tables x) c → IsFirst g order (λ s. matches c.cube s && list_any (λ d. is_late g (Execution (producer g x)) c.time d s) (columns_of tables (producer g x))) o → IsFirst g order (breaks_column Rule.Inputs g tables x c) o
+  first_send l send k f = first_same g order (λ s. matches c.cube s && list_any (λ d. is_late g (Execution (producer g x)) c.time d s) (columns_of tables (producer g x))) (breaks_column Rule.Inputs g tables x c) o (λ s i. at_send admitted tables rules s i x l send c k) f

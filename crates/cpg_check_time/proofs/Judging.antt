@@ -1,5 +1,5 @@
 -- A rule that each column keeps or breaks by itself: column by column, and what is known of each column.
-use Rattle.std.proofs.Common.{ℕ, ◌+◌, ◌<◌, ◌≤◌, ◌≡◌, Bool, false, cond, ◌&&◌, ◌==◌, List, [], ◌++◌, length, get_or, take, Some, None, Contains, All, arith, sym, ap, ◌∙◌, subst, inl, inr, ne_eqb}
+use Rattle.std.proofs.Common.{ℕ, ◌+◌, ◌<◌, ◌≤◌, ◌≡◌, Bool, true, false, ◌&&◌, ◌==◌, List, [], ◌++◌, length, get_or, take, Some, None, Contains, All, arith, sym, ap, ◌∙◌, subst, inl, inr, refl, true≢false}
 use Rattle.std.specs.List.{list_any}
 use Rattle.std.proofs.Math.Bool.{or-false}
 use Rattle.std.proofs.lemmas.Bool.{cases_lt}
@@ -16,25 +16,31 @@ use Rattle.cpg_guard.specs.Guards.{Guards}
 use Rattle.cpg_table.specs.Table.{Column, Row, NodeTable, columns_of, table_at}
 use Rattle.cpg_table.specs.GraphHead.{head_of}
 use Rattle.cpg_table.specs.Lawful.{AreTablesOf, IsLawfulRow, IsLawfulColumn, rows_of, space_of}
-use Rattle.cpg_table.specs.Valid.{breaks, breaks_at, breaks_activity, breaks_single, breaks_present}
+use Rattle.cpg_table.specs.Valid.{breaks, breaks_at, breaks_rule, breaks_present, asks_for_one}
+use Rattle.cpg_table.specs.declared.rule.Rule.{Rule}
+use Rattle.cpg_table.specs.declared.rule.Rule.TheVariants.{Single, Present}
 use Rattle.cpg_table.proofs.GraphTables.{has_shape}
 use Rattle.cpg_table.proofs.Rows.{has_row, row_of, row_columns, home_within}
 use Rattle.cpg_violation.specs.Violation.{IsFirstColumn}
 use Rattle.cpg_violation.proofs.Violations.{columns_known}
-use Rattle.cpg_check_time.specs.Columns.{breaks_column, IsColumn}
+use Rattle.cpg_check_time.specs.Columns.{breaks_column, is_alone, IsColumn}
 
 -- ---- rules that don't ask which columns stand before
 
-not_two : (b : Bool) (a x y r : Bool) (two : Bool) → two ≡ false → cond b a (cond two x r) ≡ cond b a (cond two y r)
-not_two b a x y r two e = ap (λ t. cond b a (cond t x r)) e ∙ sym (ap (λ t. cond b a (cond t y r)) e)
+never_asks : (rule : Rule) → is_alone rule ≡ true → asks_for_one rule ≡ false
+never_asks Present e = absurd (true≢false (sym e))
+never_asks rule e = refl
 
-module _ (rule : ℕ) (late : 4 < rule) (g : Graph) (tables : List NodeTable) (x : ℕ) where
+same_rule : (rule : Rule) → is_alone rule ≡ true → (g : Graph) (tables : List NodeTable) (s : Scenario) (x : ℕ) (earlier : List Column) (c : Column) → breaks_rule rule g tables s x earlier c ≡ breaks_rule rule g tables s x [] c
+same_rule Single e g tables s x earlier c = absurd (true≢false (sym e))
+same_rule rule e g tables s x earlier c = refl
+
+module _ (rule : Rule) (alone : is_alone rule ≡ true) (g : Graph) (tables : List NodeTable) (x : ℕ) where
   pub same_earlier : (earlier : List Column) (c : Column) (s : Scenario) → breaks_at rule g tables s x earlier c ≡ breaks_column rule g tables x c s
-  same_earlier earlier c s = ap (λ b. matches c.cube s && b)
-      (not_two (rule == 1) (breaks_activity g s x c) (breaks_single s earlier) (breaks_single s []) _ (rule == 2) (ne_eqb rule 2 (omega (arith, late))))
+  same_earlier earlier c s = ap (λ b. matches c.cube s && b) (same_rule rule alone g tables s x earlier c)
 
   pub never_missing : (s : Scenario) → breaks rule g tables s x None ≡ false
-  never_missing s = ap (λ b. b && breaks_present g tables s x) (ne_eqb rule 3 (omega (arith, late)))
+  never_missing s = ap (λ b. b && breaks_present g tables s x) (never_asks rule alone)
 
   -- the column at a place
   pub breaks_here : (i : ℕ) (d : Column) (s : Scenario) → i < length (columns_of tables x) → breaks_column rule g tables x (get_or (columns_of tables x) i d) s ≡ breaks rule g tables s x (Some i)

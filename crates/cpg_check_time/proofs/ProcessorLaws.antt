@@ -15,6 +15,7 @@ use Rattle.cpg_order.proofs.First.{first_same}
 use Rattle.cpg_cube.specs.Cube.{matches}
 use Rattle.cpg_table.specs.Table.{Column, NodeTable, columns_of, at}
 use Rattle.cpg_table.specs.Valid.{overlap}
+use Rattle.cpg_table.specs.declared.rule.Rule.{Rule}
 use Rattle.cpg_check_time.specs.Columns.{breaks_column}
 use Rattle.cpg_check_time.specs.Clashes.{overlaps, overlaps_some}
 use Rattle.cpg_check_time.specs.Lateness.{ends_after}
@@ -84,12 +85,12 @@ module _ (g : Graph) (order : List ℕ) (tables : List NodeTable) (p : ℕ) (l :
       ap (λ b. (node_of g q == node_of g p) && b) (both_any (matches c.cube s) (λ (d : Column). matches d.cube s && at_start s q d.time) (columns_of tables q) ∙ ap (λ b. matches c.cube s && b) (sym (any_at tables q s (at_start s q))))
       ∙ and_swap (node_of g q == node_of g p) (matches c.cube s) (list_any (at_start s q) (at tables q s))
 
-  processor_is : (s : Scenario) → list_any (λ q. overlaps_some g tables p c q s) (numbers_below p) ≡ breaks_column 6 g tables p c s
+  processor_is : (s : Scenario) → list_any (λ q. overlaps_some g tables p c q s) (numbers_below p) ≡ breaks_column Rule.Processor g tables p c s
   processor_is s =
       same_any (λ q. overlaps_some g tables p c q s) (λ q. matches c.cube s && ((node_of g q == node_of g p) && list_any (at_start s q) (at tables q s))) (numbers_below p) (λ q _. of_process s q)
       ∙ both_any (matches c.cube s) (λ q. (node_of g q == node_of g p) && list_any (at_start s q) (at tables q s)) (numbers_below p)
       ∙ ap (λ b. matches c.cube s && b) (sym (any_filter (λ q. list_any (at_start s q) (at tables q s)) (λ q. node_of g q == node_of g p) (numbers_below p)))
       ∙ sym (ap (λ b. matches c.cube s && (b && list_any (λ q. list_any (at_start s q) (at tables q s)) (filter (λ q. node_of g q == node_of g p) (numbers_below p)))) (lt-ltb p (process_count g) l))
 
-  pub first_overlap : (o : Option Scenario) → IsFirst g order (λ s. list_any (λ q. overlaps_some g tables p c q s) (numbers_below p)) o → IsFirst g order (breaks_column 6 g tables p c) o
-  first_overlap o f = first_same g order (λ s. list_any (λ q. overlaps_some g tables p c q s) (numbers_below p)) (breaks_column 6 g tables p c) o (λ s _. processor_is s) f
+  pub first_overlap : (o : Option Scenario) → IsFirst g order (λ s. list_any (λ q. overlaps_some g tables p c q s) (numbers_below p)) o → IsFirst g order (breaks_column Rule.Processor g tables p c) o
+  first_overlap o f = first_same g order (λ s. list_any (λ q. overlaps_some g tables p c q s) (numbers_below p)) (breaks_column Rule.Processor g tables p c) o (λ s _. processor_is s) f

@@ -12,6 +12,7 @@ use Rattle.cpg_order.specs.First.{IsFirst}
 use Rattle.cpg_order.proofs.First.{first_same}
 use Rattle.cpg_cube.specs.Cube.{matches}
 use Rattle.cpg_table.specs.Table.{Column, NodeTable, columns_of, at}
+use Rattle.cpg_table.specs.declared.rule.Rule.{Rule}
 use Rattle.cpg_check_time.specs.Columns.{breaks_column}
 use Rattle.cpg_check_time.specs.Clashes.{shares, shares_some}
 use Rattle.cpg_check_time.proofs.ProcessorLaws.{and_swap}
@@ -58,11 +59,11 @@ module _ (g : Graph) (order : List ℕ) (tables : List NodeTable) (x : ℕ) (c :
   abbrev other_at : Scenario → ℕ → Bool
   other_at s y = (is_sent g y && (home g y == home g x)) && list_any (λ t. t == c.time) (at tables y s)
 
-  pub not_sent : is_sent g x ≡ false → (s : Scenario) → breaks_column 7 g tables x c s ≡ false
+  pub not_sent : is_sent g x ≡ false → (s : Scenario) → breaks_column Rule.Slot g tables x c s ≡ false
   not_sent e s = and_right (matches c.cube s) _ (ap (λ b. b && (not (next_slot g (home g x) c.time == c.time) || list_any (other_at s) (numbers_below x))) e)
 
   module _ (sent : is_sent g x ≡ true) where
-    no_start : next_slot g (home g x) c.time ≢ c.time → (s : Scenario) → matches c.cube s ≡ breaks_column 7 g tables x c s
+    no_start : next_slot g (home g x) c.time ≢ c.time → (s : Scenario) → matches c.cube s ≡ breaks_column Rule.Slot g tables x c s
     no_start n s =
         let starts : (next_slot g (home g x) c.time == c.time) ≡ false = ne_eqb (next_slot g (home g x) c.time) c.time n in
         with_true (matches c.cube s) _ (ap (λ b. b && (not (next_slot g (home g x) c.time == c.time) || list_any (other_at s) (numbers_below x))) sent ∙ ap (λ b. not b || list_any (other_at s) (numbers_below x)) starts)
@@ -71,11 +72,11 @@ module _ (g : Graph) (order : List ℕ) (tables : List NodeTable) (x : ℕ) (c :
         with_true true b e = sym e
         with_true false b e = refl
 
-    pub first_no_start : next_slot g (home g x) c.time ≢ c.time → (o : Option Scenario) → IsFirst g order (matches c.cube) o → IsFirst g order (breaks_column 7 g tables x c) o
-    first_no_start n o f = first_same g order (matches c.cube) (breaks_column 7 g tables x c) o (λ s _. no_start n s) f
+    pub first_no_start : next_slot g (home g x) c.time ≢ c.time → (o : Option Scenario) → IsFirst g order (matches c.cube) o → IsFirst g order (breaks_column Rule.Slot g tables x c) o
+    first_no_start n o f = first_same g order (matches c.cube) (breaks_column Rule.Slot g tables x c) o (λ s _. no_start n s) f
 
     module _ (start : next_slot g (home g x) c.time ≡ c.time) where
-      others_only : (s : Scenario) → breaks_column 7 g tables x c s ≡ (matches c.cube s && list_any (other_at s) (numbers_below x))
+      others_only : (s : Scenario) → breaks_column Rule.Slot g tables x c s ≡ (matches c.cube s && list_any (other_at s) (numbers_below x))
       others_only s = ap (λ b. matches c.cube s && (b && (not (next_slot g (home g x) c.time == c.time) || list_any (other_at s) (numbers_below x)))) sent
           ∙ ap (λ b. matches c.cube s && (not b || list_any (other_at s) (numbers_below x))) (eq-eqb (next_slot g (home g x) c.time) c.time start)
 
@@ -84,6 +85,6 @@ module _ (g : Graph) (order : List ℕ) (tables : List NodeTable) (x : ℕ) (c :
           ap (λ b. (is_sent g y && (home g y == home g x)) && b) (both_any (matches c.cube s) (λ (d : Column). matches d.cube s && (d.time == c.time)) (columns_of tables y) ∙ ap (λ b. matches c.cube s && b) (sym (any_at tables y s (λ t. t == c.time))))
           ∙ and_swap (is_sent g y && (home g y == home g x)) (matches c.cube s) (list_any (λ t. t == c.time) (at tables y s))
 
-      pub first_shared : (o : Option Scenario) → IsFirst g order (λ s. list_any (λ y. shares_some g tables x c y s) (numbers_below x)) o → IsFirst g order (breaks_column 7 g tables x c) o
-      first_shared o f = first_same g order (λ s. list_any (λ y. shares_some g tables x c y s) (numbers_below x)) (breaks_column 7 g tables x c) o
+      pub first_shared : (o : Option Scenario) → IsFirst g order (λ s. list_any (λ y. shares_some g tables x c y s) (numbers_below x)) o → IsFirst g order (breaks_column Rule.Slot g tables x c) o
+      first_shared o f = first_same g order (λ s. list_any (λ y. shares_some g tables x c y s) (numbers_below x)) (breaks_column Rule.Slot g tables x c) o
           (λ s _. same_any (λ y. shares_some g tables x c y s) (λ y. matches c.cube s && other_at s y) (numbers_below x) (λ y _. of_item s y) ∙ both_any (matches c.cube s) (other_at s) (numbers_below x) ∙ sym (others_only s)) f

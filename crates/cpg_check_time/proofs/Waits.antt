@@ -11,7 +11,8 @@ use Rattle.cpg_order.specs.Scenario.{Scenario, IsScenario}
 use Rattle.cpg_cube.specs.Cube.{matches}
 use Rattle.cpg_table.specs.Table.{Column, NodeTable, columns_of, at}
 use Rattle.cpg_table.specs.Valid.{breaks_at, breaks_rule, is_by}
-use Rattle.cpg_violation.specs.Violation.{HoldFrom, Holds}
+use Rattle.cpg_table.specs.declared.rule.Rule.{Rule}
+use Rattle.cpg_violation.specs.Violation.{AllHold, Holds, row_rules}
 use Rattle.cpg_check_time.proofs.Seeking.{in_at, at_parts}
 
 second_false : (x y : Bool) → x ≡ true → (x && y) ≡ false → y ≡ false
@@ -20,25 +21,25 @@ second_false false y e h = absurd (true≢false (sym e))
 
 module _ (g : Graph) (tables : List NodeTable) (s : Scenario) (law : IsScenario g s) (x : ℕ) (l : x < item_count g) where
   -- a rule that holds, at a column that matches
-  at_rule : (rule : ℕ) → Holds g tables rule → (i : ℕ) (d : Column) → i < length (columns_of tables x) → matches (get_or (columns_of tables x) i d).cube s ≡ true
+  at_rule : (rule : Rule) → Holds g tables rule → (i : ℕ) (d : Column) → i < length (columns_of tables x) → matches (get_or (columns_of tables x) i d).cube s ≡ true
       → breaks_rule rule g tables s x (take i (columns_of tables x)) (get_or (columns_of tables x) i d) ≡ false
   at_rule rule holds i d h m =
       let here : (breaks_at rule g tables s x (take i (columns_of tables x)) (get_or (columns_of tables x) i d) || false) ≡ false =
       sym (ap (λ l. list_any (breaks_at rule g tables s x (take i (columns_of tables x))) (take 1 l)) (drop_more (columns_of tables x) i d h)) ∙ holds x (Some i) s law l in
       second_false _ _ m (or_parts _ _ here).0
 
-  module _ (rules : HoldFrom g tables 1 3) where
+  module _ (rules : AllHold g tables row_rules) where
     -- its item is active
     pub active_where : (d : Column) → Contains (columns_of tables x) d → matches d.cube s ≡ true → item_active g s.values (item_at g x) ≡ true
-    active_where d k m = not-false _ (or_parts _ _ (at_rule 1 (rules 1 (omega arith) (omega arith)) k.0 d k.1 (ap (λ (c : Column). matches c.cube s) k.2 ∙ m))).0
+    active_where d k m = not-false _ (or_parts _ _ (at_rule Rule.Activity rules.0 k.0 d k.1 (ap (λ (c : Column). matches c.cube s) k.2 ∙ m))).0
 
     -- an active item has one
     pub match_where : item_active g s.values (item_at g x) ≡ true → (d : Column) × Contains (columns_of tables x) d × (matches d.cube s ≡ true)
-    match_where a = list_any_parts (λ (d : Column). matches d.cube s) (columns_of tables x) (not-false _ (second_false _ _ a (rules 3 (omega arith) (omega arith) x None s law l)))
+    match_where a = list_any_parts (λ (d : Column). matches d.cube s) (columns_of tables x) (not-false _ (second_false _ _ a (rules.1.1.0 x None s law l)))
 
     not_after : (c d : Column) (i j : ℕ) → i < length (columns_of tables x) → j < i → get_or (columns_of tables x) i c ≡ c → get_or (columns_of tables x) j d ≡ d → matches c.cube s ≡ true → matches d.cube s ≡ true → ⊥
     not_after c d i j h k e f m n =
-        let none = at_rule 2 (rules 2 (omega arith) (omega arith)) i c h (ap (λ (c : Column). matches c.cube s) e ∙ m) in
+        let none = at_rule Rule.Single rules.1.0 i c h (ap (λ (c : Column). matches c.cube s) e ∙ m) in
         let there : Contains (take i (columns_of tables x)) d = (j, omega (arith, length-take i (columns_of tables x)), get_or-take i (columns_of tables x) j d k ∙ f) in
         both_ways _ none (list_any_true (λ (q : Column). matches q.cube s) (take i (columns_of tables x)) d there n)
 

@@ -1,13 +1,21 @@
 -- A rule on one column.
-use Rattle.std.specs.Prelude.{ℕ, ◌<◌, ◌^◌, Bool, List, []}
+use Rattle.std.specs.Prelude.{ℕ, ◌<◌, ◌^◌, Bool, true, false, List, []}
 use Rattle.cpg_base.specs.Graph.{Graph}
 use Rattle.cpg_order.specs.Scenario.{Scenario}
 use Rattle.cpg_cube.specs.Fit.{IsCube}
 use Rattle.cpg_table.specs.Table.{Column, NodeTable}
 use Rattle.cpg_table.specs.Valid.{breaks_at}
+use Rattle.cpg_table.specs.declared.rule.Rule.{Rule}
+use Rattle.cpg_table.specs.declared.rule.Rule.TheVariants.{Single, Present}
 
--- whether a column of an item breaks a rule in a scenario, where the rule doesn't ask which columns stand before it
-abbrev pub breaks_column : ℕ → Graph → List NodeTable → ℕ → Column → Scenario → Bool
+-- whether a rule asks neither which columns stand before one, nor that there is one
+abbrev pub is_alone : Rule → Bool
+is_alone Single = false
+is_alone Present = false
+is_alone rule = true
+
+-- whether a column of an item breaks such a rule in a scenario
+abbrev pub breaks_column : Rule → Graph → List NodeTable → ℕ → Column → Scenario → Bool
 breaks_column rule g tables x c s = breaks_at rule g tables s x [] c
 
 -- a column on the graph's variables, at a time that leaves room for an execution

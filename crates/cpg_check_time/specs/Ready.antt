@@ -3,7 +3,7 @@ use Rattle.std.specs.Prelude.{◌≡◌, List}
 use Rattle.cpg_base.specs.Graph.{Graph, item_count}
 use Rattle.cpg_order.specs.Links.{links_of}
 use Rattle.cpg_table.specs.Table.{NodeTable}
-use Rattle.cpg_violation.specs.Violation.{HoldFrom}
+use Rattle.cpg_violation.specs.Violation.{AllHold, row_rules}
 use Rattle.cpg_check_time.specs.Lines.{AreLines}
 use Rattle.cpg_check_time.specs.declared.inputs.Inputs.{Inputs}
 
@@ -11,4 +11,4 @@ use Rattle.cpg_check_time.specs.declared.inputs.Inputs.{Inputs}
 pub record IsReady (g : Graph) (tables : List NodeTable) (judge : Inputs) : Type 0 where
   pub links : judge.links ≡ links_of g
   pub lines : AreLines tables (item_count g) judge.lines.now
-  pub rules : HoldFrom g tables 1 3
+  pub rules : AllHold g tables row_rules

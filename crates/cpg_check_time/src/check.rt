@@ -1,8 +1,9 @@
 //! V5 to V9, one after another.
-ghost use Rattle.std.specs.Prelude.{◌≡◌, IfNone, IfOk, IfSome};
+ghost use Rattle.std.specs.Prelude.{◌≡◌, ◌++◌, ◌∷◌, [], IfNone, IfOk, IfSome};
 ghost use Rattle.cpg_base.specs.Graph.{item_count};
+ghost use Rattle.cpg_table.specs.declared.rule.Rule.{Rule};
 ghost use Rattle.cpg_violation.specs.Heads.{IsHeadFor};
-ghost use Rattle.cpg_violation.specs.Violation.{HoldFrom, IsFirstOf};
+ghost use Rattle.cpg_violation.specs.Violation.{AllHold, IsFirstOf, row_rules, time_rules};
 ghost use Rattle.cpg_check_time.specs.Lines.{AreLines};
 
 use crate::due::check_due;
@@ -24,10 +25,10 @@ fn first_by(
     lines: &[Line<'_>],
 ) -> Result<Option<Fault>, OutOfMemory>
     requires head { IsHeadFor admitted.now.graph tables.now.head }
-    requires rules { HoldFrom admitted.now.graph tables.now.nodes 1 4 }
+    requires rules { AllHold admitted.now.graph tables.now.nodes (row_rules ++ Rule.Heard ∷ []) }
     requires lines { AreLines tables.now.nodes (item_count admitted.now.graph) lines.now }
-    ensures none { IfOk result (λ r. IfNone r (HoldFrom admitted.now.graph tables.now.nodes 5 9)) }
-    ensures first { IfOk result (λ r. IfSome r (IsFirstOf admitted.now.graph admitted.now.order tables.now.nodes 5 9)) }
+    ensures none { IfOk result (λ r. IfNone r (AllHold admitted.now.graph tables.now.nodes time_rules)) }
+    ensures first { IfOk result (λ r. IfSome r (IsFirstOf admitted.now.graph admitted.now.order tables.now.nodes time_rules)) }
 {
     if let Some(fault) = inputs_by(alloc, admitted, tables, lines)? {
         return Ok(Some(fault));
@@ -53,9 +54,9 @@ pub fn check_time(
     tables: &Tables,
 ) -> Result<Option<Fault>, OutOfMemory>
     requires head { IsHeadFor admitted.now.graph tables.now.head }
-    requires rules { HoldFrom admitted.now.graph tables.now.nodes 1 4 }
-    ensures none { IfOk result (λ r. IfNone r (HoldFrom admitted.now.graph tables.now.nodes 5 9)) }
-    ensures first { IfOk result (λ r. IfSome r (IsFirstOf admitted.now.graph admitted.now.order tables.now.nodes 5 9)) }
+    requires rules { AllHold admitted.now.graph tables.now.nodes (row_rules ++ Rule.Heard ∷ []) }
+    ensures none { IfOk result (λ r. IfNone r (AllHold admitted.now.graph tables.now.nodes time_rules)) }
+    ensures first { IfOk result (λ r. IfSome r (IsFirstOf admitted.now.graph admitted.now.order tables.now.nodes time_rules)) }
 {
     let lines = lines_of(alloc, admitted.problem(), tables)?;
     let found = first_by(alloc, admitted, tables, lines.as_slice())?;

@@ -1,6 +1,7 @@
 //! V9: every execution ends by its due.
 ghost use Rattle.std.specs.Prelude.{◌≡◌, IfNone, IfOk, IfSome, ⊤};
-ghost use Rattle.std.proofs.Common.{arith};
+ghost use Rattle.std.proofs.Common.{refl};
+ghost use Rattle.cpg_table.specs.declared.rule.Rule.{Rule};
 ghost use Rattle.cpg_violation.specs.Heads.{IsHeadFor};
 ghost use Rattle.cpg_violation.specs.Violation.{Holds, IsFirstViolation};
 
@@ -8,14 +9,14 @@ use crate::judge::{Judge, first_violation};
 use crate::lateness::late_part;
 use cpg_base::{OutOfMemory, Scenario};
 use cpg_rules::Admitted;
-use cpg_table::{Entry, Fault, Tables};
+use cpg_table::{Entry, Fault, Rule, Tables};
 use std::alloc::Global;
 
 /// That every execution ends by its due.
 struct Due;
 
 impl Judge for Due {
-    ghost number = { 9 };
+    ghost rule = { Rule.Due };
 
     ghost suits = { λ _ _ _. ⊤ };
 
@@ -39,7 +40,7 @@ impl Judge for Due {
         Ok(least)
     }
 
-    ghost late = { Prim.omega arith };
+    ghost alone = { refl };
 }
 
 /// The first violation of V9, by item and column, with the least scenario in the urgency order in which it stands: the
@@ -51,9 +52,9 @@ pub fn check_due(
     tables: &Tables,
 ) -> Result<Option<Fault>, OutOfMemory>
     requires { IsHeadFor admitted.now.graph tables.now.head }
-    ensures none { IfOk result (λ r. IfNone r (Holds admitted.now.graph tables.now.nodes 9)) }
-    ensures first { IfOk result (λ r. IfSome r (IsFirstViolation admitted.now.graph admitted.now.order tables.now.nodes 9)) }
+    ensures none { IfOk result (λ r. IfNone r (Holds admitted.now.graph tables.now.nodes Rule.Due)) }
+    ensures first { IfOk result (λ r. IfSome r (IsFirstViolation admitted.now.graph admitted.now.order tables.now.nodes Rule.Due)) }
 {
-    let found = first_violation(alloc, admitted, tables, 9, &Due)?;
+    let found = first_violation(alloc, admitted, tables, Rule::Due, &Due)?;
     Ok(found)
 }

@@ -1,9 +1,10 @@
 //! V8: a frozen item has one time.
 ghost use Rattle.std.specs.Prelude.{◌≡◌, ◌<◌, All, IfNone, IfOk, IfSome, map};
-ghost use Rattle.std.proofs.Common.{arith};
+ghost use Rattle.std.proofs.Common.{refl};
 ghost use Rattle.cpg_base.specs.Graph.{is_frozen, item_count};
 ghost use Rattle.cpg_base.specs.Numbers.{numbers_below};
 ghost use Rattle.cpg_rules.specs.Admission.{IsAdmitted};
+ghost use Rattle.cpg_table.specs.declared.rule.Rule.{Rule};
 ghost use Rattle.cpg_violation.specs.Heads.{IsHeadFor};
 ghost use Rattle.cpg_violation.specs.Violation.{Holds, IsFirstViolation};
 ghost use Rattle.cpg_check_time.specs.Columns.{IsColumn};
@@ -12,7 +13,7 @@ ghost use Rattle.cpg_check_time.specs.Frozen.{frozen_time, possible_time};
 use crate::judge::{Judge, first_violation};
 use cpg_base::{OutOfMemory, Problem, Scenario};
 use cpg_rules::Admitted;
-use cpg_table::{Entry, Fault, Tables};
+use cpg_table::{Entry, Fault, Rule, Tables};
 use cpg_violation::columns_of;
 use std::alloc::Global;
 
@@ -88,7 +89,7 @@ fn frozen_times(
 }
 
 impl Judge for Frozen {
-    ghost number = { 8 };
+    ghost rule = { Rule.Frozen };
 
     ghost suits = { λ judge g tables. judge.times.items ≡ map (frozen_time g tables) (numbers_below (item_count g)) };
 
@@ -110,7 +111,7 @@ impl Judge for Frozen {
         Ok(least)
     }
 
-    ghost late = { Prim.omega arith };
+    ghost alone = { refl };
 }
 
 /// The first violation of V8, by item and column, with the least scenario in the urgency order in which it stands: the
@@ -122,10 +123,10 @@ pub fn check_frozen(
     tables: &Tables,
 ) -> Result<Option<Fault>, OutOfMemory>
     requires { IsHeadFor admitted.now.graph tables.now.head }
-    ensures none { IfOk result (λ r. IfNone r (Holds admitted.now.graph tables.now.nodes 8)) }
-    ensures first { IfOk result (λ r. IfSome r (IsFirstViolation admitted.now.graph admitted.now.order tables.now.nodes 8)) }
+    ensures none { IfOk result (λ r. IfNone r (Holds admitted.now.graph tables.now.nodes Rule.Frozen)) }
+    ensures first { IfOk result (λ r. IfSome r (IsFirstViolation admitted.now.graph admitted.now.order tables.now.nodes Rule.Frozen)) }
 {
     let times = frozen_times(alloc, admitted, tables)?;
-    let found = first_violation(alloc, admitted, tables, 8, &Frozen { times })?;
+    let found = first_violation(alloc, admitted, tables, Rule::Frozen, &Frozen { times })?;
     Ok(found)
 }

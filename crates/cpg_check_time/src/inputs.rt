@@ -1,16 +1,17 @@
 //! V5: at a start the release has come and the live inputs are there, and at a send the producer has ended.
 ghost use Rattle.std.specs.Prelude.{◌≡◌, ◌≤◌, ◌<◌, ◌&&◌, ℕ, All, IfNone, IfOk, IfSome, false};
 ghost use Rattle.std.specs.List.{list_any};
-ghost use Rattle.std.proofs.Common.{arith};
+ghost use Rattle.std.proofs.Common.{refl};
 ghost use Rattle.cpg_base.specs.Graph.{Graph, edge_count, item_count};
 ghost use Rattle.cpg_cube.specs.Cube.{matches};
 ghost use Rattle.cpg_cube.specs.Fit.{IsKnown};
 ghost use Rattle.cpg_order.specs.First.{IsFirst};
 ghost use Rattle.cpg_order.specs.Scenario.{Scenario};
+ghost use Rattle.cpg_table.specs.declared.rule.Rule.{Rule};
 ghost use Rattle.cpg_table.specs.GraphHead.{head_of};
 ghost use Rattle.cpg_table.specs.Lawful.{AreTablesOf};
 ghost use Rattle.cpg_violation.specs.Heads.{IsHeadFor};
-ghost use Rattle.cpg_violation.specs.Violation.{HoldFrom, Holds, IsFirstViolation};
+ghost use Rattle.cpg_violation.specs.Violation.{AllHold, Holds, IsFirstViolation, row_rules};
 ghost use Rattle.cpg_check_time.specs.Columns.{IsColumn};
 ghost use Rattle.cpg_check_time.specs.Inputs.{lacks_input};
 ghost use Rattle.cpg_check_time.specs.Lines.{AreLines};
@@ -23,7 +24,7 @@ use cpg_base::{OutOfMemory, Scenario};
 use cpg_cube::Cube;
 use cpg_order::Links;
 use cpg_rules::Admitted;
-use cpg_table::{Entry, Fault, Tables};
+use cpg_table::{Entry, Fault, Rule, Tables};
 use cpg_violation::{earlier, edge_cube};
 use std::alloc::Global;
 
@@ -121,7 +122,7 @@ struct Inputs<'a> {
 }
 
 impl<'a> Judge for Inputs<'a> {
-    ghost number = { 5 };
+    ghost rule = { Rule.Inputs };
 
     ghost suits = { λ judge g tables. IsReady g tables judge };
 
@@ -151,7 +152,7 @@ impl<'a> Judge for Inputs<'a> {
         Ok(least)
     }
 
-    ghost late = { Prim.omega arith };
+    ghost alone = { refl };
 }
 
 /// The first violation of V5, by the columns of each item.
@@ -162,13 +163,13 @@ pub(crate) fn inputs_by(
     lines: &[Line<'_>],
 ) -> Result<Option<Fault>, OutOfMemory>
     requires head { IsHeadFor admitted.now.graph tables.now.head }
-    requires rules { HoldFrom admitted.now.graph tables.now.nodes 1 3 }
+    requires rules { AllHold admitted.now.graph tables.now.nodes row_rules }
     requires lines { AreLines tables.now.nodes (item_count admitted.now.graph) lines.now }
-    ensures none { IfOk result (λ r. IfNone r (Holds admitted.now.graph tables.now.nodes 5)) }
-    ensures first { IfOk result (λ r. IfSome r (IsFirstViolation admitted.now.graph admitted.now.order tables.now.nodes 5)) }
+    ensures none { IfOk result (λ r. IfNone r (Holds admitted.now.graph tables.now.nodes Rule.Inputs)) }
+    ensures first { IfOk result (λ r. IfSome r (IsFirstViolation admitted.now.graph admitted.now.order tables.now.nodes Rule.Inputs)) }
 {
     let links = Links::of(alloc, admitted.problem())?;
-    let found = first_violation(alloc, admitted, tables, 5, &Inputs { links, lines })?;
+    let found = first_violation(alloc, admitted, tables, Rule::Inputs, &Inputs { links, lines })?;
     Ok(found)
 }
 
@@ -181,9 +182,9 @@ pub fn check_inputs(
     tables: &Tables,
 ) -> Result<Option<Fault>, OutOfMemory>
     requires head { IsHeadFor admitted.now.graph tables.now.head }
-    requires rules { HoldFrom admitted.now.graph tables.now.nodes 1 3 }
-    ensures none { IfOk result (λ r. IfNone r (Holds admitted.now.graph tables.now.nodes 5)) }
-    ensures first { IfOk result (λ r. IfSome r (IsFirstViolation admitted.now.graph admitted.now.order tables.now.nodes 5)) }
+    requires rules { AllHold admitted.now.graph tables.now.nodes row_rules }
+    ensures none { IfOk result (λ r. IfNone r (Holds admitted.now.graph tables.now.nodes Rule.Inputs)) }
+    ensures first { IfOk result (λ r. IfSome r (IsFirstViolation admitted.now.graph admitted.now.order tables.now.nodes Rule.Inputs)) }
 {
     let lines = lines_of(alloc, admitted.problem(), tables)?;
     let found = inputs_by(alloc, admitted, tables, lines.as_slice())?;

@@ -1,5 +1,5 @@
 //! The first violation of a rule that each column keeps or breaks by itself.
-ghost use Rattle.std.specs.Prelude.{◌≡◌, ◌<◌, ℕ, Contains, IfNone, IfOk, IfSome, List, Some, false};
+ghost use Rattle.std.specs.Prelude.{◌≡◌, ◌<◌, ℕ, Contains, IfNone, IfOk, IfSome, List, Some, false, true};
 ghost use Rattle.cpg_base.specs.Graph.{Graph, item_count};
 ghost use Rattle.cpg_order.specs.First.{IsFirst};
 ghost use Rattle.cpg_order.specs.Scenario.{Scenario, IsScenario};
@@ -8,19 +8,20 @@ ghost use Rattle.cpg_table.specs.GraphHead.{head_of};
 ghost use Rattle.cpg_table.specs.Lawful.{AreTablesOf};
 ghost use Rattle.cpg_table.specs.Table.{NodeTable, columns_of};
 ghost use Rattle.cpg_table.specs.Valid.{breaks};
+ghost use Rattle.cpg_table.specs.declared.rule.Rule.{Rule};
 ghost use Rattle.cpg_violation.specs.Heads.{IsHeadFor};
 ghost use Rattle.cpg_violation.specs.Violation.{Holds, IsFirstColumn, IsFirstViolation};
-ghost use Rattle.cpg_check_time.specs.Columns.{IsColumn, breaks_column};
+ghost use Rattle.cpg_check_time.specs.Columns.{IsColumn, breaks_column, is_alone};
 
 use cpg_base::{OutOfMemory, Scenario};
 use cpg_rules::Admitted;
-use cpg_table::{Entry, Fault, Tables};
+use cpg_table::{Entry, Fault, Rule, Tables};
 use cpg_violation::columns_of;
 use std::alloc::Global;
 
 /// A rule on single columns, with what its questions need to know of the tables.
 pub(crate) trait Judge {
-    ghost number: { ℕ };
+    ghost rule: { Rule };
 
     ghost suits: { Self → Graph → List NodeTable → Type 0 };
 
@@ -38,9 +39,9 @@ pub(crate) trait Judge {
         requires item { item < item_count admitted.now.graph }
         requires place { Contains (columns_of tables.now.nodes item) column.now }
         requires column { IsColumn admitted.now.graph column.now }
-        ensures { IfOk result (IsFirst admitted.now.graph admitted.now.order (breaks_column number admitted.now.graph tables.now.nodes item column.now)) };
+        ensures { IfOk result (IsFirst admitted.now.graph admitted.now.order (breaks_column rule admitted.now.graph tables.now.nodes item column.now)) };
 
-    ghost late: { 4 < number };
+    ghost alone: { is_alone rule ≡ true };
 }
 
 /// The first column of an item that breaks the rule, and the least scenario in which it does.
@@ -55,8 +56,8 @@ fn first_in_row<J: Judge>(
     requires admitted { IsAdmitted admitted.now.graph admitted.now.order admitted.now.guards }
     requires suits { J.suits judge.now admitted.now.graph tables.now.nodes }
     requires item { item < item_count admitted.now.graph }
-    ensures none { IfOk result (λ r. IfNone r ((i : ℕ) (s : Scenario) → IsScenario admitted.now.graph s → breaks J.number admitted.now.graph tables.now.nodes s item (Some i) ≡ false)) }
-    ensures first { IfOk result (λ r. IfSome r (IsFirstColumn admitted.now.graph admitted.now.order (λ i s. breaks J.number admitted.now.graph tables.now.nodes s item (Some i)))) }
+    ensures none { IfOk result (λ r. IfNone r ((i : ℕ) (s : Scenario) → IsScenario admitted.now.graph s → breaks J.rule admitted.now.graph tables.now.nodes s item (Some i) ≡ false)) }
+    ensures first { IfOk result (λ r. IfSome r (IsFirstColumn admitted.now.graph admitted.now.order (λ i s. breaks J.rule admitted.now.graph tables.now.nodes s item (Some i)))) }
 {
     let columns = columns_of(tables, item);
     for (column, entry) in columns.iter().enumerate() {
@@ -74,20 +75,20 @@ pub(crate) fn first_violation<J: Judge>(
     alloc: Global,
     admitted: &Admitted,
     tables: &Tables,
-    rule: u8,
+    rule: Rule,
     judge: &J,
 ) -> Result<Option<Fault>, OutOfMemory>
-    requires rule { rule ≡ J.number }
+    requires rule { rule ≡ J.rule }
     requires head { IsHeadFor admitted.now.graph tables.now.head }
     requires suits { J.suits judge.now admitted.now.graph tables.now.nodes }
-    ensures none { IfOk result (λ r. IfNone r (Holds admitted.now.graph tables.now.nodes J.number)) }
-    ensures first { IfOk result (λ r. IfSome r (IsFirstViolation admitted.now.graph admitted.now.order tables.now.nodes J.number)) }
+    ensures none { IfOk result (λ r. IfNone r (Holds admitted.now.graph tables.now.nodes J.rule)) }
+    ensures first { IfOk result (λ r. IfSome r (IsFirstViolation admitted.now.graph admitted.now.order tables.now.nodes J.rule)) }
 {
     for item in 0..admitted.problem().item_count() {
         let found = first_in_row(alloc, admitted, tables, judge, item)?;
         if let Some((column, scenario)) = found {
             return Ok(Some(Fault {
-                rule,
+                rule: rule.number(),
                 item,
                 column: Some(column),
                 scenario,

@@ -1,11 +1,12 @@
 //! V6: no two executions on a processor overlap.
 ghost use Rattle.std.specs.Prelude.{◌≡◌, ◌<◌, ℕ, All, IfNone, IfOk, IfSome, List, length, map};
 ghost use Rattle.std.specs.List.{list_any};
-ghost use Rattle.std.proofs.Common.{arith};
+ghost use Rattle.std.proofs.Common.{refl};
 ghost use Rattle.cpg_base.specs.Graph.{item_count, process_count};
 ghost use Rattle.cpg_base.specs.Limits.{IsWithinLimits};
 ghost use Rattle.cpg_base.specs.Numbers.{numbers_below};
 ghost use Rattle.cpg_order.specs.First.{IsFirst};
+ghost use Rattle.cpg_table.specs.declared.rule.Rule.{Rule};
 ghost use Rattle.cpg_table.specs.GraphHead.{head_of};
 ghost use Rattle.cpg_table.specs.Lawful.{AreTablesOf};
 ghost use Rattle.cpg_violation.specs.Heads.{IsHeadFor};
@@ -21,7 +22,7 @@ use crate::lines::{Line, lines_of, meeting};
 use cpg_base::{OutOfMemory, Problem, Scenario};
 use cpg_order::Order;
 use cpg_rules::Admitted;
-use cpg_table::{Entry, Fault, Tables};
+use cpg_table::{Entry, Fault, Rule, Tables};
 use cpg_violation::earlier;
 use std::alloc::Global;
 
@@ -148,7 +149,7 @@ struct Processors<'a> {
 }
 
 impl<'a> Judge for Processors<'a> {
-    ghost number = { 6 };
+    ghost rule = { Rule.Processor };
 
     ghost suits = { λ judge g tables. AreLines tables (item_count g) judge.lines.now };
 
@@ -168,7 +169,7 @@ impl<'a> Judge for Processors<'a> {
         Ok(least)
     }
 
-    ghost late = { Prim.omega arith };
+    ghost alone = { refl };
 }
 
 /// The first violation of V6, by the columns of each item.
@@ -180,10 +181,10 @@ pub(crate) fn processors_by(
 ) -> Result<Option<Fault>, OutOfMemory>
     requires head { IsHeadFor admitted.now.graph tables.now.head }
     requires lines { AreLines tables.now.nodes (item_count admitted.now.graph) lines.now }
-    ensures none { IfOk result (λ r. IfNone r (Holds admitted.now.graph tables.now.nodes 6)) }
-    ensures first { IfOk result (λ r. IfSome r (IsFirstViolation admitted.now.graph admitted.now.order tables.now.nodes 6)) }
+    ensures none { IfOk result (λ r. IfNone r (Holds admitted.now.graph tables.now.nodes Rule.Processor)) }
+    ensures first { IfOk result (λ r. IfSome r (IsFirstViolation admitted.now.graph admitted.now.order tables.now.nodes Rule.Processor)) }
 {
-    let found = first_violation(alloc, admitted, tables, 6, &Processors { lines })?;
+    let found = first_violation(alloc, admitted, tables, Rule::Processor, &Processors { lines })?;
     Ok(found)
 }
 
@@ -196,8 +197,8 @@ pub fn check_processor(
     tables: &Tables,
 ) -> Result<Option<Fault>, OutOfMemory>
     requires { IsHeadFor admitted.now.graph tables.now.head }
-    ensures none { IfOk result (λ r. IfNone r (Holds admitted.now.graph tables.now.nodes 6)) }
-    ensures first { IfOk result (λ r. IfSome r (IsFirstViolation admitted.now.graph admitted.now.order tables.now.nodes 6)) }
+    ensures none { IfOk result (λ r. IfNone r (Holds admitted.now.graph tables.now.nodes Rule.Processor)) }
+    ensures first { IfOk result (λ r. IfSome r (IsFirstViolation admitted.now.graph admitted.now.order tables.now.nodes Rule.Processor)) }
 {
     let lines = lines_of(alloc, admitted.problem(), tables)?;
     let found = processors_by(alloc, admitted, tables, lines.as_slice())?;

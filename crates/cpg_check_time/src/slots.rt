@@ -1,13 +1,14 @@
 //! V7: each send is at the start of an own slot, and no two items of a node share one.
 ghost use Rattle.std.specs.Prelude.{◌≡◌, ◌<◌, ◌==◌, ℕ, All, IfNone, IfOk, IfSome, List, length, map};
 ghost use Rattle.std.specs.List.{list_any};
-ghost use Rattle.std.proofs.Common.{arith};
+ghost use Rattle.std.proofs.Common.{refl};
 ghost use Rattle.cpg_base.specs.Bus.{next_slot};
 ghost use Rattle.cpg_base.specs.Graph.{is_sent, item_count, process_count};
 ghost use Rattle.cpg_base.specs.Numbers.{numbers_below};
 ghost use Rattle.cpg_bus.specs.Share.{HasSlot};
 ghost use Rattle.cpg_cube.specs.Fit.{IsKnown};
 ghost use Rattle.cpg_order.specs.First.{IsFirst};
+ghost use Rattle.cpg_table.specs.declared.rule.Rule.{Rule};
 ghost use Rattle.cpg_table.specs.GraphHead.{head_of};
 ghost use Rattle.cpg_table.specs.Lawful.{AreTablesOf};
 ghost use Rattle.cpg_violation.specs.Heads.{IsHeadFor};
@@ -23,7 +24,7 @@ use cpg_base::{OutOfMemory, Problem, Scenario};
 use cpg_bus::Share;
 use cpg_order::Order;
 use cpg_rules::Admitted;
-use cpg_table::{Entry, Fault, Tables};
+use cpg_table::{Entry, Fault, Rule, Tables};
 use cpg_violation::{earlier, met};
 use std::alloc::Global;
 
@@ -169,7 +170,7 @@ struct Slots<'a> {
 }
 
 impl<'a> Judge for Slots<'a> {
-    ghost number = { 7 };
+    ghost rule = { Rule.Slot };
 
     ghost suits = { λ judge g tables. AreLines tables (item_count g) judge.lines.now };
 
@@ -194,7 +195,7 @@ impl<'a> Judge for Slots<'a> {
         Ok(least)
     }
 
-    ghost late = { Prim.omega arith };
+    ghost alone = { refl };
 }
 
 /// The first violation of V7, by the columns of each item.
@@ -206,10 +207,10 @@ pub(crate) fn slots_by(
 ) -> Result<Option<Fault>, OutOfMemory>
     requires head { IsHeadFor admitted.now.graph tables.now.head }
     requires lines { AreLines tables.now.nodes (item_count admitted.now.graph) lines.now }
-    ensures none { IfOk result (λ r. IfNone r (Holds admitted.now.graph tables.now.nodes 7)) }
-    ensures first { IfOk result (λ r. IfSome r (IsFirstViolation admitted.now.graph admitted.now.order tables.now.nodes 7)) }
+    ensures none { IfOk result (λ r. IfNone r (Holds admitted.now.graph tables.now.nodes Rule.Slot)) }
+    ensures first { IfOk result (λ r. IfSome r (IsFirstViolation admitted.now.graph admitted.now.order tables.now.nodes Rule.Slot)) }
 {
-    let found = first_violation(alloc, admitted, tables, 7, &Slots { lines })?;
+    let found = first_violation(alloc, admitted, tables, Rule::Slot, &Slots { lines })?;
     Ok(found)
 }
 
@@ -222,8 +223,8 @@ pub fn check_slot(
     tables: &Tables,
 ) -> Result<Option<Fault>, OutOfMemory>
     requires { IsHeadFor admitted.now.graph tables.now.head }
-    ensures none { IfOk result (λ r. IfNone r (Holds admitted.now.graph tables.now.nodes 7)) }
-    ensures first { IfOk result (λ r. IfSome r (IsFirstViolation admitted.now.graph admitted.now.order tables.now.nodes 7)) }
+    ensures none { IfOk result (λ r. IfNone r (Holds admitted.now.graph tables.now.nodes Rule.Slot)) }
+    ensures first { IfOk result (λ r. IfSome r (IsFirstViolation admitted.now.graph admitted.now.order tables.now.nodes Rule.Slot)) }
 {
     let lines = lines_of(alloc, admitted.problem(), tables)?;
     let found = slots_by(alloc, admitted, tables, lines.as_slice())?;

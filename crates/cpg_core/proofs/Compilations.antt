@@ -8,7 +8,8 @@ use Rattle.std.proofs.lemmas.Option.{none-some}
 use Rattle.cpg_base.specs.Graph.{Graph, process_count}
 use Rattle.cpg_base.specs.Duration.{due}
 use Rattle.cpg_base.proofs.Lists.{greatest_above, Contains-first}
-use Rattle.cpg_table.specs.Valid.{IsValid, breaks}
+use Rattle.cpg_table.specs.Valid.{IsValid}
+use Rattle.cpg_table.specs.declared.rule.Rule.{Rule}
 use Rattle.cpg_base.specs.WellFormed.{WellFormed}
 use Rattle.cpg_order.specs.Urgency.{IsTopological}
 use Rattle.cpg_reach.specs.Wide.{IsNarrow}
@@ -18,18 +19,20 @@ use Rattle.cpg_core.specs.Compilation.{IsCompilation, IsTracked, HasNoTables, Is
 use Rattle.cpg_core.proofs.CompiledLaws.{not_preferred_many, not_preferred_wide, not_preferred_worse, preferred}
 use Rattle.cpg_run.specs.declared.built.Built.{Built}
 use Rattle.cpg_run.specs.Built.{IsBuiltFor}
+use Rattle.cpg_run.specs.Laws.{Keeps}
 use Rattle.cpg_run.specs.Finish.{IsExcess, IsLeastExceeding}
 use Rattle.cpg_run.specs.Run.{Times, IsRun, end_in, end_by}
 
 -- tables that a builder answers are valid where nothing is late
 pub built_valid : (g : Graph) (urgency order : List ℕ) (b : Built) → IsBuiltFor g urgency order b → b.excess ≡ 0 → IsValid g b.tables.nodes
 built_valid g urgency order b is none = record {
-  rules = λ rule x column s lawful within. elim (cases_eq rule 9) [
-    | inl e ↦ subst (λ r. breaks r g b.tables.nodes s x column ≡ false) (sym e) (is.due none s lawful x within column)
-    | inr other ↦ is.rules rule other s lawful x within column
-  ];
+  rules = λ rule x column s lawful within. kept rule s lawful x within column;
   hears = is.hears;
 }
+  where
+    kept : (rule : Rule) → Keeps rule g b.tables.nodes
+    kept Rule.Due = is.due none
+    kept rule = is.rules rule (λ e. cc)
 
 -- nothing is late where no process is shown
 pub nothing_late : (g : Graph) (urgency order : List ℕ) (frozen : List (Option ℕ)) (b : Built) → IsExcess g urgency order frozen b.excess b.excess_in b.excess_by → b.excess_by ≡ None → b.excess ≡ 0

@@ -40,6 +40,7 @@ use Rattle.cpg_run.specs.RowLaws.{IsTimed, HaveTimesOf, AreTablesOfRows}
 use Rattle.cpg_run.proofs.RowTables.{row_tables_are_exact, row_tables_keep_rules}
 use Rattle.cpg_run.proofs.RowsTimed.{rows_have_times}
 use Rattle.cpg_table.specs.Writing.{row_for, IsWritable, AreWritable}
+use Rattle.cpg_table.specs.declared.rule.Rule.{Rule}
 use Rattle.cpg_list.specs.Made.{columns_of_rows}
 use Rattle.cpg_list.specs.Found.{AreRowsFound}
 use Rattle.cpg_table.proofs.NodeRows.{no_row}
@@ -94,15 +95,15 @@ module _ (g : Graph) (within : IsWithinLimits g) (urgency order : List ℕ) (adm
     pub exact : (r : Reach) → IsReach g order r → IsExact g urgency order frozen r tables
     exact r reached = row_tables_are_exact g urgency order frozen columns tables r of_rows reached
 
-    pub rules : (rule : ℕ) → rule ≢ 9 → Keeps rule g tables
+    pub rules : (rule : Rule) → rule ≢ Rule.Due → Keeps rule g tables
     rules = (row_tables_keep_rules g urgency order frozen columns tables of_rows).0
 
-    pub dues : NothingIsLate g order frozen → Keeps 9 g tables
+    pub dues : NothingIsLate g order frozen → Keeps Rule.Due g tables
     dues = (row_tables_keep_rules g urgency order frozen columns tables of_rows).1
 
     pub within_views : (r : Reach) → IsReach g order r → (x : ℕ) → x < item_count g → length (columns_of tables x) ≤ views g (reach_of r x)
     within_views r reached x l = columns_within_views g within.few_processes (reach_of r x) urgency (columns_of tables x) ((exact r reached).formed x l)
-        (row_keeps g tables x (λ s i lawful. (rules 1 (omega arith) s lawful x l (Some i), rules 2 (omega arith) s lawful x l (Some i))))
+        (row_keeps g tables x (λ s i lawful. (rules Rule.Activity (λ e. cc) s lawful x l (Some i), rules Rule.Single (λ e. cc) s lawful x l (Some i))))
 
   -- ---- the rows themselves
 

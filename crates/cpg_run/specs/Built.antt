@@ -6,6 +6,7 @@ use Rattle.cpg_table.specs.Table.{NodeTable, columns_of}
 use Rattle.cpg_table.specs.Shape.{HasShape}
 use Rattle.cpg_table.specs.Valid.{hear_rows}
 use Rattle.cpg_table.specs.GraphHead.{head_of}
+use Rattle.cpg_table.specs.declared.rule.Rule.{Rule}
 use Rattle.cpg_run.specs.declared.built.Built.{Built}
 use Rattle.cpg_run.specs.Frozen.{AreFrozenTimes}
 use Rattle.cpg_run.specs.Finish.{IsWorst, IsExcess}
@@ -24,6 +25,6 @@ pub record IsBuiltFor (g : Graph) (urgency order : List ℕ) (b : Built) : Type 
   pub views : (x : ℕ) → x < item_count g → length (columns_of b.tables.nodes x) ≤ views g (reach_of reach x)
   pub worst : IsWorst g urgency order b.frozen b.worst b.worst_in b.worst_by
   pub excess : IsExcess g urgency order b.frozen b.excess b.excess_in b.excess_by
-  pub rules : (rule : ℕ) → rule ≢ 9 → Keeps rule g b.tables.nodes
-  pub due : b.excess ≡ 0 → Keeps 9 g b.tables.nodes
+  pub rules : (rule : Rule) → rule ≢ Rule.Due → Keeps rule g b.tables.nodes
+  pub due : b.excess ≡ 0 → Keeps Rule.Due g b.tables.nodes
   pub hears : (node : ℕ) (t : NodeTable) → slice_get b.tables.nodes node ≡ Some t → t.hears ≡ hear_rows g b.tables.nodes node

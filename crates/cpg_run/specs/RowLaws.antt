@@ -9,6 +9,7 @@ use Rattle.cpg_cube.specs.Cube.{matches}
 use Rattle.cpg_cube.specs.Fit.{IsCube}
 use Rattle.cpg_table.specs.Merged.{AreMergeable}
 use Rattle.cpg_table.specs.Table.{Column, NodeTable, columns_of, times_in}
+use Rattle.cpg_table.specs.declared.rule.Rule.{Rule}
 use Rattle.cpg_run.specs.Alike.{Admitted}
 use Rattle.cpg_run.specs.Exact.{IsExact}
 use Rattle.cpg_run.specs.Frozen.{AreFrozenTimes}
@@ -92,4 +93,4 @@ RowTablesAreExact = (g : Graph) (urgency order : List ℕ) (frozen : List (Optio
 abbrev pub RowTablesKeepRules : Type 0
 RowTablesKeepRules = (g : Graph) (urgency order : List ℕ) (frozen : List (Option ℕ)) (rows : List (List Column)) (tables : List NodeTable) →
     AreTablesOfRows g urgency order frozen rows tables →
-    ((rule : ℕ) → rule ≢ 9 → Keeps rule g tables) × (NothingIsLate g order frozen → Keeps 9 g tables)
+    ((rule : Rule) → rule ≢ Rule.Due → Keeps rule g tables) × (NothingIsLate g order frozen → Keeps Rule.Due g tables)

@@ -1,5 +1,5 @@
 -- Going over the items: what is known of the columns of each, and where the first violation is.
-use Rattle.std.proofs.Common.{ℕ, ◌+◌, ◌<◌, ◌≡◌, Bool, false, List, Option, Some, None, Contains, All, IfSome, length, arith, refl, subst, inl, inr}
+use Rattle.std.proofs.Common.{ℕ, ◌+◌, ◌<◌, ◌≡◌, Bool, false, List, [], ◌∷◌, Option, Some, None, Contains, All, IfSome, length, arith, subst, inl, inr}
 use Rattle.std.proofs.lemmas.Bool.{cases_lt}
 use Rattle.std.proofs.lemmas.List.Elements.{All-weaker, All-contains_itself}
 use Rattle.cpg_base.specs.Graph.{Graph, process_count, item_count, IsVariable}
@@ -14,9 +14,12 @@ use Rattle.cpg_table.specs.Table.{Column, NodeTable, columns_of}
 use Rattle.cpg_table.specs.GraphHead.{head_of}
 use Rattle.cpg_table.specs.Lawful.{AreTablesOf}
 use Rattle.cpg_table.specs.Valid.{breaks}
+use Rattle.cpg_table.specs.Rules.{number_of_rule}
+use Rattle.cpg_table.specs.declared.fault.Fault.{Fault}
+use Rattle.cpg_table.specs.declared.rule.Rule.{Rule}
 use Rattle.cpg_table.proofs.GraphTables.{has_shape}
 use Rattle.cpg_table.proofs.Rows.{variables_exist}
-use Rattle.cpg_violation.specs.Violation.{IsFirstColumn, IsFirstViolation}
+use Rattle.cpg_violation.specs.Violation.{IsFirstColumn, IsFirstViolation, IsFirstOf}
 
 module _ {g : Graph} {order : List ℕ} {guards : Guards} (admitted : IsAdmitted g order guards) where
   pub long_order : length order ≡ process_count g
@@ -35,7 +38,7 @@ first_lawful g order test None f = tt
 first_lawful g order test (Some s) f = f.lawful
 
 -- a rule that speaks of columns alone
-module _ (rule : ℕ) (g : Graph) (tables : List NodeTable) (x : ℕ) (never : (y : ℕ) (s : Scenario) → breaks rule g tables s y None ≡ false) where
+module _ (rule : Rule) (g : Graph) (tables : List NodeTable) (x : ℕ) (never : (y : ℕ) (s : Scenario) → breaks rule g tables s y None ≡ false) where
   -- one item more whose columns keep it
   pub none_more : ((y : ℕ) (column : Option ℕ) (s : Scenario) → y < x → IsScenario g s → breaks rule g tables s y column ≡ false)
       → ((i : ℕ) (s : Scenario) → IsScenario g s → breaks rule g tables s x (Some i) ≡ false)
@@ -47,14 +50,20 @@ module _ (rule : ℕ) (g : Graph) (tables : List NodeTable) (x : ℕ) (never : (
   ]
 
   -- the first of its columns that breaks it, after items that keep it
-  pub first_violation : (order : List ℕ) (j : ℕ) (s : Scenario) → x < item_count g
+  pub first_violation : (number : ℕ) → number ≡ number_of_rule rule → (order : List ℕ) (j : ℕ) (s : Scenario) → x < item_count g
       → ((y : ℕ) (column : Option ℕ) (s : Scenario) → y < x → IsScenario g s → breaks rule g tables s y column ≡ false)
       → IsFirstColumn g order (λ i t. breaks rule g tables t x (Some i)) (j, s)
-      → IsFirstViolation g order tables rule (record { rule = rule; item = x; column = Some j; scenario = s })
-  first_violation order j s l before first = record {
-    rule = refl;
+      → IsFirstViolation g order tables rule (record { rule = number; item = x; column = Some j; scenario = s })
+  first_violation number is order j s l before first = record {
+    number = is;
     item = l;
     least = first.least;
     items = before;
     columns = λ i t h k. first.columns i t h k;
   }
+
+-- what is first of some rules breaks one of them
+pub first_broken : (g : Graph) (order : List ℕ) (tables : List NodeTable) (f : Fault) (rules : List Rule) → IsFirstOf g order tables rules f → (rule : Rule) × IsFirstViolation g order tables rule f
+first_broken g order tables f [] k = absurd k
+first_broken g order tables f (rule ∷ rules) (inl k) = (rule, k)
+first_broken g order tables f (rule ∷ rules) (inr k) = first_broken g order tables f rules k.1

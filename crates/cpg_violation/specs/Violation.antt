@@ -1,13 +1,16 @@
 -- The first violation of a rule of valid tables.
-use Rattle.std.specs.Prelude.{ℕ, ◌≡◌, ◌<◌, ◌≤◌, Bool, false, IsTrue, IfSome, List, Option, Some}
+use Rattle.std.specs.Prelude.{ℕ, ◌≡◌, ◌<◌, ◌⊎◌, Bool, false, IsTrue, IfSome, List, [], ◌∷◌, ◌++◌, Option, Some, ⊤}
 use Rattle.cpg_base.specs.Graph.{Graph, item_count}
 use Rattle.cpg_order.specs.Scenario.{Scenario, IsScenario, IsLeast}
 use Rattle.cpg_table.specs.Table.{NodeTable}
 use Rattle.cpg_table.specs.Valid.{breaks}
 use Rattle.cpg_table.specs.declared.fault.Fault.{Fault}
+use Rattle.cpg_table.specs.declared.rule.Rule.{Rule}
+use Rattle.cpg_table.specs.declared.rule.Rule.TheVariants.{Activity, Single, Present, Heard, Inputs, Processor, Slot, Frozen, Due}
+use Rattle.cpg_table.specs.Rules.{number_of_rule}
 
 -- a rule from V1 to V9 holds in every scenario
-abbrev pub Holds : Graph → List NodeTable → ℕ → Type 0
+abbrev pub Holds : Graph → List NodeTable → Rule → Type 0
 Holds g tables rule = (x : ℕ) (column : Option ℕ) (s : Scenario) → IsScenario g s → x < item_count g → breaks rule g tables s x column ≡ false
 
 -- the first column that some scenario speaks against, with the least such scenario
@@ -17,20 +20,31 @@ pub record IsFirstColumn (g : Graph) (order : List ℕ) (test : ℕ → Scenario
 
 -- the rule is broken at the fault's item and column, first in the fault's scenario, and nowhere at an earlier item or an
 -- earlier column
-pub record IsFirstViolation (g : Graph) (order : List ℕ) (tables : List NodeTable) (number : ℕ) (f : Fault) : Type 0 where
-  pub rule : f.rule ≡ number
+pub record IsFirstViolation (g : Graph) (order : List ℕ) (tables : List NodeTable) (rule : Rule) (f : Fault) : Type 0 where
+  pub number : f.rule ≡ number_of_rule rule
   pub item : f.item < item_count g
-  pub least : IsLeast g order (λ s. IsTrue (breaks number g tables s f.item f.column)) f.scenario
-  pub items : (x : ℕ) (column : Option ℕ) (s : Scenario) → x < f.item → IsScenario g s → breaks number g tables s x column ≡ false
-  pub columns : IfSome f.column (λ j. (i : ℕ) (s : Scenario) → i < j → IsScenario g s → breaks number g tables s f.item (Some i) ≡ false)
+  pub least : IsLeast g order (λ s. IsTrue (breaks rule g tables s f.item f.column)) f.scenario
+  pub items : (x : ℕ) (column : Option ℕ) (s : Scenario) → x < f.item → IsScenario g s → breaks rule g tables s x column ≡ false
+  pub columns : IfSome f.column (λ j. (i : ℕ) (s : Scenario) → i < j → IsScenario g s → breaks rule g tables s f.item (Some i) ≡ false)
 
--- the rules from one number to another hold
-abbrev pub HoldFrom : Graph → List NodeTable → ℕ → ℕ → Type 0
-HoldFrom g tables from to = (rule : ℕ) → from ≤ rule → rule ≤ to → Holds g tables rule
+-- V1 to V3, on the rows of each item
+abbrev pub row_rules : List Rule
+row_rules = Activity ∷ Single ∷ Present ∷ []
 
--- the first violation of the first broken rule of those from one number to another
-pub record IsFirstOf (g : Graph) (order : List ℕ) (tables : List NodeTable) (from to : ℕ) (f : Fault) : Type 0 where
-  pub above : from ≤ f.rule
-  pub below : f.rule ≤ to
-  pub before : (rule : ℕ) → from ≤ rule → rule < f.rule → Holds g tables rule
-  pub first : IsFirstViolation g order tables f.rule f
+-- V5 to V9, on the times of all rows
+abbrev pub time_rules : List Rule
+time_rules = Inputs ∷ Processor ∷ Slot ∷ Frozen ∷ Due ∷ []
+
+-- V1 to V9
+abbrev pub column_rules : List Rule
+column_rules = row_rules ++ (Heard ∷ time_rules)
+
+-- all of these rules hold
+abbrev pub AllHold : Graph → List NodeTable → List Rule → Type 0
+AllHold g tables [] = ⊤
+AllHold g tables (rule ∷ rules) = Holds g tables rule × AllHold g tables rules
+
+-- the first violation of the first of these rules that is broken
+abbrev pub IsFirstOf : Graph → List ℕ → List NodeTable → List Rule → Fault → Type 0
+IsFirstOf g order tables [] f = ⊥
+IsFirstOf g order tables (rule ∷ rules) f = IsFirstViolation g order tables rule f ⊎ (Holds g tables rule × IsFirstOf g order tables rules f)

@@ -5,6 +5,7 @@ use Rattle.cpg_order.specs.Scenario.{Scenario, IsScenario}
 use Rattle.cpg_table.specs.GraphHead.{head_of}
 use Rattle.cpg_table.specs.Lawful.{AreTablesOf}
 use Rattle.cpg_table.specs.Table.{columns_of}
+use Rattle.cpg_table.specs.declared.rule.Rule.{Rule}
 use Rattle.cpg_violation.specs.Violation.{IsFirstColumn}
 use Rattle.cpg_violation.proofs.RowColumns.{columns_few}
 use Rattle.cpg_violation.proofs.Violations.{columns_known, none_more, first_violation}
@@ -29,7 +30,7 @@ returns-in-Some-clause-first c =
     let g = c.args.admitted.now.graph in
     let first : IsFirstColumn g c.args.admitted.now.order (is_unheard g c.args.tables.now.nodes c.loop-item.item (columns_of c.args.tables.now.nodes c.loop-item.item)) (c.in-Some.column, c.in-Some.scenario) =
     rw (← c.columns_of-columns.ensures.columns) (rw c.in-Some.is at c.in_ok-unheard.ensures.first) in
-    first_violation 4 g c.args.tables.now.nodes c.loop-item.item (λ y s. refl) c.args.admitted.now.order c.in-Some.column c.in-Some.scenario
+    first_violation Rule.Heard g c.args.tables.now.nodes c.loop-item.item (λ y s. refl) c.number.result c.number.ensures c.args.admitted.now.order c.in-Some.column c.in-Some.scenario
     (omega (arith, c.loop-item-test.true, c.item_count-item-end.ensures, ap item_count c.problem.ensures.problem)) c.loop-item.invariant first
 
 pub loop-item-preserved : goal.loop-item-preserved
@@ -37,4 +38,4 @@ loop-item-preserved c =
     let g = c.args.admitted.now.graph in
     let none : (i : ℕ) (s : Scenario) → IsScenario g s → is_unheard g c.args.tables.now.nodes c.loop-item.item (columns_of c.args.tables.now.nodes c.loop-item.item) i s ≡ false =
     rw (← c.columns_of-columns.ensures.columns) (rw c.in_default.is at c.in_ok-unheard.ensures.none) in
-    none_more 4 g c.args.tables.now.nodes c.loop-item.item (λ y s. refl) c.loop-item.invariant none
+    none_more Rule.Heard g c.args.tables.now.nodes c.loop-item.item (λ y s. refl) c.loop-item.invariant none

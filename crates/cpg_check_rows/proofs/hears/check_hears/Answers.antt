@@ -26,7 +26,7 @@ returns-in-Some-clause-first c =
     subst (λ cs. IsFirstHear c.args.tables.now.nodes (length g.nodes) c.loop-item.item cs c.in-Some.place) due
     (subst (λ n. IsFirstHear c.args.tables.now.nodes n c.loop-item.item (map (later_by c.slot_length-delay.result) c.columns_of-sent.result.now) c.in-Some.place) nodes c.in-Some.ensures.differ) in
     record {
-      rule = refl;
+      number = c.number.ensures;
       item = omega (arith, c.loop-item-test.true, c.item_count-item-end.ensures, ap item_count c.problem-problem.ensures.problem);
       scenario = rw (← c.problem-problem.ensures.problem) c.in_ok-scenario.ensures;
       items = c.loop-item.invariant;

@@ -7,6 +7,7 @@ use Rattle.cpg_table.specs.GraphHead.{head_of}
 use Rattle.cpg_violation.proofs.HeadLaws.{tables_of_graph}
 use Rattle.cpg_table.specs.Lawful.{AreTablesOf}
 use Rattle.cpg_table.specs.Table.{columns_of}
+use Rattle.cpg_table.specs.declared.rule.Rule.{Rule}
 use Rattle.cpg_violation.proofs.RowColumns.{columns_few}
 use Rattle.cpg_violation.proofs.Violations.{long_order, columns_known, none_more, first_violation}
 use Rattle.cpg_check_rows.proofs.single.check_single.Goals as goal
@@ -27,7 +28,7 @@ returns-in-Some-clause-first c =
     let g = c.args.admitted.now.graph in
     let first : IsFirstColumn g c.args.admitted.now.order (is_double (columns_of c.args.tables.now.nodes c.loop-item.item)) (c.in-Some.column, c.in-Some.scenario) =
     rw (← c.problem-problem.ensures.problem, ← c.order-order.ensures.order, ← c.columns_of-columns.ensures.columns) (rw c.in-Some.is at c.in_ok-double.ensures.first) in
-    first_violation 2 g c.args.tables.now.nodes c.loop-item.item (λ y s. refl) c.args.admitted.now.order c.in-Some.column c.in-Some.scenario
+    first_violation Rule.Single g c.args.tables.now.nodes c.loop-item.item (λ y s. refl) c.number.result c.number.ensures c.args.admitted.now.order c.in-Some.column c.in-Some.scenario
     (omega (arith, c.loop-item-test.true, c.item_count-item-end.ensures, ap item_count c.problem-problem.ensures.problem)) c.loop-item.invariant first
 
 pub loop-item-preserved : goal.loop-item-preserved
@@ -35,4 +36,4 @@ loop-item-preserved c =
     let g = c.args.admitted.now.graph in
     let none : (i : ℕ) (s : Scenario) → IsScenario g s → is_double (columns_of c.args.tables.now.nodes c.loop-item.item) i s ≡ false =
     rw (← c.problem-problem.ensures.problem, ← c.columns_of-columns.ensures.columns) (rw c.in_default.is at c.in_ok-double.ensures.none) in
-    none_more 2 g c.args.tables.now.nodes c.loop-item.item (λ y s. refl) c.loop-item.invariant none
+    none_more Rule.Single g c.args.tables.now.nodes c.loop-item.item (λ y s. refl) c.loop-item.invariant none

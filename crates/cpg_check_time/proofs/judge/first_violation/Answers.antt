@@ -7,6 +7,6 @@ use Rattle.cpg_check_time.proofs.judge.first_violation.Goals as goal
 
 pub loop-item-preserved : goal.loop-item-preserved
 loop-item-preserved g c =
-    let none : (i : ℕ) (s : Scenario) → IsScenario c.args.admitted.now.graph s → breaks g.J.Judge.number c.args.admitted.now.graph c.args.tables.now.nodes s c.loop-item.item (Some i) ≡ false = rw c.in_default.is at c.in_ok-found.ensures.none in
-    none_more g.J.Judge.number c.args.admitted.now.graph c.args.tables.now.nodes c.loop-item.item (λ y s. never_missing g.J.Judge.number g.met.J.Judge.late c.args.admitted.now.graph c.args.tables.now.nodes y s)
+    let none : (i : ℕ) (s : Scenario) → IsScenario c.args.admitted.now.graph s → breaks g.J.Judge.rule c.args.admitted.now.graph c.args.tables.now.nodes s c.loop-item.item (Some i) ≡ false = rw c.in_default.is at c.in_ok-found.ensures.none in
+    none_more g.J.Judge.rule c.args.admitted.now.graph c.args.tables.now.nodes c.loop-item.item (λ y s. never_missing g.J.Judge.rule g.met.J.Judge.alone c.args.admitted.now.graph c.args.tables.now.nodes y s)
     c.loop-item.invariant none

@@ -1,0 +1,68 @@
+//! The rules of valid tables.
+ghost use Rattle.std.specs.Prelude.{◌≡◌, ◌≢◌, IfNone, IfSome};
+ghost use Rattle.cpg_table.specs.Rules.{number_of_rule};
+
+/// A rule of valid tables (docs/FORMATS.md).
+#[derive(Clone, Copy, Debug, PartialEq, Eq)]
+pub enum Rule {
+    /// V1: a column that matches has an active item, and the processes of its literals are active.
+    Activity,
+    /// V2: no two columns of one row match.
+    Single,
+    /// V3: an active item has a column that matches.
+    Present,
+    /// V4: each literal of a column that matches is heard at its node by its time.
+    Heard,
+    /// V5: at a start the release has come and the live inputs have arrived; at a send the producer has ended.
+    Inputs,
+    /// V6: no two executions on a processor overlap.
+    Processor,
+    /// V7: each send is at the start of a slot of its own node, and no two items of a node share one.
+    Slot,
+    /// V8: the columns of a frozen item that match in any scenario have one time.
+    Frozen,
+    /// V9: every end is at most the process's due.
+    Due,
+    /// V10: a hear row has the sender's columns, each later by the sender's slot.
+    Hears,
+}
+
+impl Rule {
+    /// The rule of a number; `None` exactly where it is none from 1 to 10.
+    pub fn of(number: u8) -> Option<Rule>
+        ensures rule { IfSome result (λ r. number_of_rule r ≡ number) }
+        ensures none { IfNone result ((r : Rule) → number_of_rule r ≢ number) }
+    {
+        match number {
+            1 => Some(Rule::Activity),
+            2 => Some(Rule::Single),
+            3 => Some(Rule::Present),
+            4 => Some(Rule::Heard),
+            5 => Some(Rule::Inputs),
+            6 => Some(Rule::Processor),
+            7 => Some(Rule::Slot),
+            8 => Some(Rule::Frozen),
+            9 => Some(Rule::Due),
+            10 => Some(Rule::Hears),
+            _ => None,
+        }
+    }
+
+    /// The number by which it is named, from 1 for V1 to 10 for V10.
+    pub fn number(self) -> u8
+        ensures { result ≡ number_of_rule self }
+    {
+        match self {
+            Rule::Activity => 1,
+            Rule::Single => 2,
+            Rule::Present => 3,
+            Rule::Heard => 4,
+            Rule::Inputs => 5,
+            Rule::Processor => 6,
+            Rule::Slot => 7,
+            Rule::Frozen => 8,
+            Rule::Due => 9,
+            Rule::Hears => 10,
+        }
+    }
+}
