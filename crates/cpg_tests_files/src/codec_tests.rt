@@ -1,6 +1,6 @@
 //! Packs written out by hand, read and written, and what is refused.
 
-ghost use Rattle.std.specs.Prelude.{◌<◌};
+ghost use Rattle.std.specs.Prelude.{◌≤◌, length};
 
 use cpg_codec::{
     Fixed, PackFault, WriteFault, column_literals, column_time, edge_from, edge_to, literal_high,
@@ -41,53 +41,76 @@ fn bad_place(alloc: Global, bytes: &[u8]) -> Option<u64> {
     }
 }
 
-/// Whether bytes are a pack, and are written as they were read.
-fn is_kept(alloc: Global, bytes: &[u8]) -> bool {
-    let Ok(tables) = read_pack(alloc, bytes) else {
-        return false;
+/// What comes of writing tables to a sink with room for these bytes, and `None` where they aren't what it then has.
+fn written(alloc: Global, tables: &Tables, want: &[u8]) -> Option<Result<(), WriteFault>> {
+    let Ok(mut sink) = MemorySink::new(alloc, want.len()) else {
+        return None;
     };
-    let Ok(mut sink) = MemorySink::new(alloc, bytes.len()) else {
-        return false;
-    };
-    write_pack(alloc, &tables, &mut sink).is_ok() && sink.taken() == bytes
+    let result = write_pack(alloc, tables, &mut sink);
+    if sink.taken() == want {
+        Some(result)
+    } else {
+        None
+    }
+}
+
+/// The same for the tables that a pack spells, and so many of its bytes.
+fn rewritten(alloc: Global, bytes: &[u8], room: usize) -> Option<Result<(), WriteFault>>
+    requires { room ≤ length bytes.now }
+{
+    match read_pack(alloc, bytes) {
+        Ok(tables) => written(alloc, &tables, &bytes[..room]),
+        Err(_) => None,
+    }
 }
 
 #[test]
-fn keeps_packs(rt: HostRuntime) -> Result<(), Fail> {
+fn keeps_packs(rt: HostRuntime) {
     let alloc = rt.alloc();
-    assert!(rt; is_kept(alloc, &ONE_PROCESS));
-    assert!(rt; is_kept(alloc, &RELEASED));
-    assert!(rt; is_kept(alloc, &TWO_NODES));
-    Ok(())
+    assert!(rt; rewritten(alloc, &ONE_PROCESS, 44) == Some(Ok(())));
+    assert!(rt; rewritten(alloc, &RELEASED, 60) == Some(Ok(())));
+    assert!(rt; rewritten(alloc, &TWO_NODES, 145) == Some(Ok(())));
 }
 
+#[test]
+fn stops_where_the_sink_does(rt: HostRuntime) {
+    let stopped = Some(Err(WriteFault::Failed));
+    assert!(rt; rewritten(rt.alloc(), &ONE_PROCESS, 20) == stopped);
+}
+
+/// A place in the first pack, another byte for it, and the number of the refusal then.
+const DAMAGE: [[u8; 3]; 14] = [
+    [0, 0, 0],
+    [4, 3, 4],
+    [5, 9, 5],
+    [7, 0x21, 7],
+    [8, 0x20, 8],
+    [13, 1, 13],
+    [14, 2, 14],
+    [15, 0x10, 15],
+    [31, 1, 34],
+    [31, 2, 31],
+    [33, 0x40, 34],
+    [34, 2, 44],
+    [43, 1, 44],
+    [43, 2, 43],
+];
+
 /// The number of the refusal of the first pack with one byte changed.
-fn bad_after(alloc: Global, place: usize, byte: u8) -> Option<u64>
-    requires { place < 44 }
-{
+fn bad_after(alloc: Global, place: u8, byte: u8) -> Option<u64> {
     let mut bytes = ONE_PROCESS;
-    bytes[place] = byte;
+    *bytes.get_mut(usize::from(place))? = byte;
     bad_place(alloc, &bytes)
 }
 
 #[test]
-fn finds_damage(rt: HostRuntime) -> Result<(), Fail> {
-    let alloc = rt.alloc();
-    assert!(rt; bad_after(alloc, 0, 0) == Some(0));
-    assert!(rt; bad_after(alloc, 4, 3) == Some(4));
-    assert!(rt; bad_after(alloc, 5, 9) == Some(5));
-    assert!(rt; bad_after(alloc, 7, 0x21) == Some(7));
-    assert!(rt; bad_after(alloc, 8, 0x20) == Some(8));
-    assert!(rt; bad_after(alloc, 13, 1) == Some(13));
-    assert!(rt; bad_after(alloc, 14, 2) == Some(14));
-    assert!(rt; bad_after(alloc, 15, 0x10) == Some(15));
-    assert!(rt; bad_after(alloc, 31, 1) == Some(34));
-    assert!(rt; bad_after(alloc, 31, 2) == Some(31));
-    assert!(rt; bad_after(alloc, 33, 0x40) == Some(34));
-    assert!(rt; bad_after(alloc, 34, 2) == Some(44));
-    assert!(rt; bad_after(alloc, 43, 1) == Some(44));
-    assert!(rt; bad_after(alloc, 43, 2) == Some(43));
-    Ok(())
+fn finds_damage(rt: HostRuntime) {
+    for [place, byte, want] in DAMAGE {
+        assert!(rt;
+            bad_after(rt.alloc(), place, byte) == Some(u64::from(want)),
+            "at {place}"
+        );
+    }
 }
 
 #[test]
@@ -114,24 +137,6 @@ fn finds_damage_in_version_2(rt: HostRuntime) -> Result<(), Fail> {
     let mut mixed = RELEASED;
     mixed[40] = 0;
     assert!(rt; bad_place(alloc, &mixed) == Some(40));
-    Ok(())
-}
-
-/// The tables of the first pack.
-fn tables(alloc: Global) -> Result<Tables, Fail> {
-    match read_pack(alloc, &ONE_PROCESS) {
-        Ok(tables) => Ok(tables),
-        Err(_) => Err("refused".into()),
-    }
-}
-
-#[test]
-fn stops_where_the_sink_does(rt: HostRuntime) -> Result<(), Fail> {
-    let alloc = rt.alloc();
-    let tables = tables(alloc)?;
-    let mut sink = MemorySink::new(alloc, 20)?;
-    assert!(rt; write_pack(alloc, &tables, &mut sink).err() == Some(WriteFault::Failed));
-    assert!(rt; sink.taken() == &ONE_PROCESS[..20]);
     Ok(())
 }
 

@@ -39,15 +39,19 @@ fn shelf(alloc: Global) -> Result<MemoryShelf, Fail> {
     Ok(shelf)
 }
 
+/// What is read of that shelf.
+fn is_read(alloc: Global, shelf: &mut MemoryShelf) -> bool {
+    reads(alloc, shelf, "graph", 11, b"faults = 1\n")
+        && reads(alloc, shelf, "pack", 100, b"CPGT")
+        && reads(alloc, shelf, "pack", usize::MAX, b"CPGT")
+        && fault(alloc, shelf, "graph", 10) == Some(ReadAll::TooLong)
+        && fault(alloc, shelf, "log", 10) == Some(ReadAll::Failed)
+}
+
 #[test]
 fn reads_from_memory(rt: HostRuntime) -> Result<(), Fail> {
-    let alloc = rt.alloc();
-    let mut shelf = shelf(alloc)?;
-    assert!(rt; reads(alloc, &mut shelf, "graph", 11, b"faults = 1\n"));
-    assert!(rt; reads(alloc, &mut shelf, "pack", 100, b"CPGT"));
-    assert!(rt; reads(alloc, &mut shelf, "pack", usize::MAX, b"CPGT"));
-    assert!(rt; fault(alloc, &mut shelf, "graph", 10) == Some(ReadAll::TooLong));
-    assert!(rt; fault(alloc, &mut shelf, "log", 10) == Some(ReadAll::Failed));
+    let mut shelf = shelf(rt.alloc())?;
+    assert!(rt; is_read(rt.alloc(), &mut shelf));
     Ok(())
 }
 
@@ -61,25 +65,35 @@ fn failing(alloc: Global) -> Result<MemoryShelf, Fail> {
     Ok(shelf)
 }
 
+/// Whether the second and the fourth call of that shelf fail, and what the others do.
+fn fails_as_listed(shelf: &mut MemoryShelf) -> bool {
+    let mut piece = [0; 2];
+    shelf.fetch("graph") == Ok(())
+        && shelf.read(&mut piece) == Err(Failed)
+        && shelf.read(&mut piece) == Ok(2)
+        && piece == [b'a', b'b']
+        && shelf.fetch("graph") == Err(Failed)
+        && shelf.read(&mut piece) == Ok(0)
+}
+
 #[test]
 fn fails_at_listed_calls(rt: HostRuntime) -> Result<(), Fail> {
     let mut shelf = failing(rt.alloc())?;
-    let mut piece = [0; 2];
-    assert!(rt; shelf.fetch("graph") == Ok(()));
-    assert!(rt; shelf.read(&mut piece) == Err(Failed));
-    assert!(rt; shelf.read(&mut piece) == Ok(2));
-    assert!(rt; piece == [b'a', b'b']);
-    assert!(rt; shelf.fetch("graph") == Err(Failed));
-    assert!(rt; shelf.read(&mut piece) == Ok(0));
+    assert!(rt; fails_as_listed(&mut shelf));
     Ok(())
+}
+
+/// Whether a sink takes a piece, and of a second what there is room for.
+fn takes_both(sink: &mut MemorySink) -> bool {
+    write_all(sink, b"order A") == Ok(())
+        && write_all(sink, b"\nworst") == Err(Failed)
+        && sink.taken() == b"order A\nwo".as_slice()
 }
 
 #[test]
 fn takes_up_to_its_room(rt: HostRuntime) -> Result<(), Fail> {
     let mut sink = MemorySink::new(rt.alloc(), 10)?;
-    assert!(rt; write_all(&mut sink, b"order A") == Ok(()));
-    assert!(rt; write_all(&mut sink, b"\nworst") == Err(Failed));
-    assert!(rt; sink.taken() == b"order A\nwo".as_slice());
+    assert!(rt; takes_both(&mut sink));
     Ok(())
 }
 
@@ -123,28 +137,24 @@ fn empty_stream(alloc: Global, end: usize, can_flush: bool) -> Stream {
     }
 }
 
-/// Writes two pieces through one adapter.
-fn write_both(stream: &mut Stream, first: &[u8], second: &[u8]) -> (bool, bool) {
+/// Whether an adapter writes a piece, and of a second what there is room for.
+fn writes_both(stream: &mut Stream) -> bool {
     let mut sink = StreamSink::new(stream);
-    let is_first = write_all(&mut sink, first).is_ok();
-    (is_first, write_all(&mut sink, second).is_ok())
+    write_all(&mut sink, b"order A\n") == Ok(()) && write_all(&mut sink, b"worst") == Err(Failed)
 }
 
 #[test]
-fn writes_and_flushes_a_stream(rt: HostRuntime) -> Result<(), Fail> {
+fn writes_and_flushes_a_stream(rt: HostRuntime) {
     let mut stream = empty_stream(rt.alloc(), 10, true);
-    assert!(rt; write_both(&mut stream, b"order A\n", b"worst") == (true, false));
+    assert!(rt; writes_both(&mut stream));
     assert!(rt; stream.bytes.as_slice() == b"order A\nwors".as_slice());
     assert!(rt; stream.flushes == 3);
-    Ok(())
 }
 
 #[test]
-fn fails_where_a_flush_does(rt: HostRuntime) -> Result<(), Fail> {
+fn fails_where_a_flush_does(rt: HostRuntime) {
     let mut stream = empty_stream(rt.alloc(), 10, false);
-    let mut sink = StreamSink::new(&mut stream);
-    assert!(rt; sink.write(b"t") == Err(Failed));
-    Ok(())
+    assert!(rt; StreamSink::new(&mut stream).write(b"t") == Err(Failed));
 }
 
 /// Whether nothing is left to read.
@@ -152,19 +162,33 @@ fn is_at_end<S: Shelf>(shelf: &mut S) -> bool {
     shelf.read(&mut [0; 1]) == Ok(0)
 }
 
+/// Whether a file has these bytes, which come in more than one piece, and no more.
+fn is_file(alloc: Global, shelf: &mut FileShelf<&HostRuntime>, path: &str, bytes: &[u8]) -> bool {
+    is_at_end(shelf)
+        && reads(alloc, shelf, path, 200_000, bytes)
+        && fault(alloc, shelf, path, 199_999) == Some(ReadAll::TooLong)
+}
+
+/// Whether a path where nothing stands is a fault, after which nothing is left to read, and a folder is one too.
+fn are_faults(alloc: Global, shelf: &mut FileShelf<&HostRuntime>, path: &str) -> bool {
+    fault(alloc, shelf, path, 10) == Some(ReadAll::Failed)
+        && is_at_end(shelf)
+        && fault(alloc, shelf, "/", 10) == Some(ReadAll::Failed)
+}
+
+/// Whether a file is so before it is removed and after.
+fn is_read_and_missed(rt: &HostRuntime, path: &str, bytes: &[u8]) -> bool {
+    let mut shelf = FileShelf::new(rt);
+    is_file(rt.alloc(), &mut shelf, path, bytes)
+        && fs::remove_file(rt, path).is_ok()
+        && are_faults(rt.alloc(), &mut shelf, path)
+}
+
 #[test]
 fn reads_a_file(rt: HostRuntime) -> Result<(), Fail> {
-    let alloc = rt.alloc();
     let path = "cpg_tests_files_reads_a_file.tmp";
-    let bytes = vec![in alloc; 7u8; 200_000]?;
-    fs::write(&rt, path, bytes.as_slice())?;
-    let mut shelf = FileShelf::new(&rt);
-    assert!(rt; is_at_end(&mut shelf));
-    assert!(rt; reads(alloc, &mut shelf, path, 200_000, bytes.as_slice()));
-    assert!(rt; fault(alloc, &mut shelf, path, 199_999) == Some(ReadAll::TooLong));
-    fs::remove_file(&rt, path)?;
-    assert!(rt; fault(alloc, &mut shelf, path, 10) == Some(ReadAll::Failed));
-    assert!(rt; is_at_end(&mut shelf));
-    assert!(rt; fault(alloc, &mut shelf, "/", 10) == Some(ReadAll::Failed));
+    let bytes = vec![in rt.alloc(); 7u8; 200_000]?;
+    assert!(rt; fs::write(&rt, path, bytes.as_slice()).is_ok());
+    assert!(rt; is_read_and_missed(&rt, path, bytes.as_slice()));
     Ok(())
 }

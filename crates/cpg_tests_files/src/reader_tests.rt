@@ -56,40 +56,31 @@ fn is_second(edge: &Edge) -> bool {
     edge.size == 1 && edge.when.is_none() && edge.frozen
 }
 
-/// The whole graph.
-fn graph(alloc: Global) -> Result<Problem, Fail> {
-    match read_problem(alloc, GRAPH.as_bytes()) {
-        Ok(problem) => Ok(problem),
-        Err(_) => Err("refused".into()),
+fn are_slots(slots: &[Slot]) -> bool {
+    matches!(slots, [slot] if is_slot(slot))
+}
+
+fn are_processes(processes: &[Process]) -> bool {
+    match processes {
+        [a, b] => is_a(a) && are_times_of_a(a) && is_b(b) && are_due(a, b),
+        _ => false,
+    }
+}
+
+fn are_edges(edges: &[Edge]) -> bool {
+    match edges {
+        [first, second] => is_first(first) && is_second(second),
+        _ => false,
     }
 }
 
 #[test]
 fn a_whole_graph(rt: HostRuntime) -> Result<(), Fail> {
-    let problem = graph(rt.alloc())?;
+    let problem = read_problem(rt.alloc(), GRAPH.as_bytes()).map_err(|_| "refused")?;
     assert!(rt; are_sizes(&problem));
-    let [slot] = problem.slots() else {
-        return Err("slots".into());
-    };
-    assert!(rt; is_slot(slot));
-    let [first, second] = problem.edges() else {
-        return Err("edges".into());
-    };
-    assert!(rt; is_first(first));
-    assert!(rt; is_second(second));
-    Ok(())
-}
-
-#[test]
-fn processes_of_a_whole_graph(rt: HostRuntime) -> Result<(), Fail> {
-    let problem = graph(rt.alloc())?;
-    let [a, b] = problem.processes() else {
-        return Err("processes".into());
-    };
-    assert!(rt; is_a(a));
-    assert!(rt; are_times_of_a(a));
-    assert!(rt; is_b(b));
-    assert!(rt; are_due(a, b));
+    assert!(rt; are_slots(problem.slots()));
+    assert!(rt; are_processes(problem.processes()));
+    assert!(rt; are_edges(problem.edges()));
     Ok(())
 }
 
