@@ -6,6 +6,37 @@ use cpg_rules::{Admitted, admit};
 use std::alloc::Global;
 use std::test::Fail;
 
+/// What the tests are about.
+#[derive(Clone, Copy)]
+pub(crate) enum Example {
+    /// A before B on one node, and one of them may fail once.
+    Alone,
+    /// A sends B, on another node, a message, which is item 2, and one of them may fail once.
+    Pair {
+        /// Whether the message is frozen.
+        frozen: bool,
+        /// The deadline.
+        due: u64,
+    },
+    /// A decides between B, on the other node, and C, and J joins both.
+    Choice,
+    /// A decides between B, on the other node, and C, and one of them may fail once.
+    Fork,
+    /// X on the first node sends to Y on the second, and Z there waits for nothing.
+    Waiting,
+    /// Forty processes on one node, each after the one before.
+    Chain {
+        /// How many faults there may be.
+        faults: u8,
+        /// Whether each process is frozen.
+        frozen: bool,
+    },
+    /// Eight conditions, each on a process of its own without inputs.
+    Eight,
+    /// Nine of these.
+    Nine,
+}
+
 fn name(alloc: Global, text: &str) -> Result<Name, Fail> {
     match Name::new(alloc, text)? {
         Some(name) => Ok(name),
@@ -31,10 +62,7 @@ fn process(alloc: Global, text: &str, node: u32, wcet: u64) -> Result<Process, F
 }
 
 /// Processes, each with its name, its node and its time.
-fn processes(
-    alloc: Global,
-    facts: &[(&str, u32, u64)],
-) -> Result<Vec<Process>, Fail> {
+fn processes(alloc: Global, facts: &[(&str, u32, u64)]) -> Result<Vec<Process>, Fail> {
     let mut processes = Vec::new(alloc);
     for fact in facts {
         let (text, node, wcet) = *fact;
@@ -53,19 +81,6 @@ fn edge(from: u32, to: u32, when: Option<bool>) -> Edge {
     }
 }
 
-/// Edges, each with its ends and its condition's value.
-fn edges(
-    alloc: Global,
-    list: &[(u32, u32, Option<bool>)],
-) -> Result<Vec<Edge>, Fail> {
-    let mut edges = Vec::new(alloc);
-    for ends in list {
-        let (from, to, when) = *ends;
-        edges.push(edge(from, to, when))?;
-    }
-    Ok(edges)
-}
-
 fn nodes(alloc: Global, names: &[&str]) -> Result<Vec<Name>, Fail> {
     let mut nodes = Vec::new(alloc);
     for text in names {
@@ -74,18 +89,36 @@ fn nodes(alloc: Global, names: &[&str]) -> Result<Vec<Name>, Fail> {
     Ok(nodes)
 }
 
-/// A slot of 10 for each of two nodes.
-fn slots(alloc: Global) -> Result<Vec<Slot>, Fail> {
-    let slot = |node| Slot {
-        node,
-        length: 10,
-        bytes: 8,
-    };
-    let slots = vec![in alloc; slot(0), slot(1)]?;
+/// A slot of 10 for each of several nodes.
+fn slots(alloc: Global, count: u32) -> Result<Vec<Slot>, Fail> {
+    let mut slots = Vec::new(alloc);
+    if count > 1 {
+        for node in 0..count {
+            slots.push(Slot {
+                node,
+                length: 10,
+                bytes: 8,
+            })?;
+        }
+    }
     Ok(slots)
 }
 
-fn admitted(alloc: Global, problem: Option<Problem>) -> Result<Admitted, Fail> {
+/// A graph on these nodes.
+fn problem(
+    alloc: Global,
+    names: &[&str],
+    faults: u8,
+    deadline: u64,
+    processes: Vec<Process>,
+    edges: Vec<Edge>,
+) -> Result<Option<Problem>, Fail> {
+    let nodes = nodes(alloc, names)?;
+    let slots = slots(alloc, names.len() as u32)?;
+    Ok(Problem::new(faults, deadline, nodes, slots, processes, edges))
+}
+
+fn admit_it(alloc: Global, problem: Option<Problem>) -> Result<Admitted, Fail> {
     let Some(problem) = problem else {
         return Err(Fail::from(OutOfMemory));
     };
@@ -95,82 +128,94 @@ fn admitted(alloc: Global, problem: Option<Problem>) -> Result<Admitted, Fail> {
     }
 }
 
-/// A graph on one node.
-fn on_one_node(
+/// The graph of these processes and edges.
+fn made(
     alloc: Global,
+    names: &[&str],
     faults: u8,
     deadline: u64,
-    processes: Vec<Process>,
-    edges: Vec<Edge>,
+    facts: &[(&str, u32, u64)],
+    list: &[Edge],
 ) -> Result<Admitted, Fail> {
-    let nodes = nodes(alloc, ["N1"].as_slice())?;
-    let slots = Vec::new(alloc);
-    admitted(
+    let processes = processes(alloc, facts)?;
+    let mut edges = Vec::new(alloc);
+    edges.extend_from_slice(list)?;
+    let problem = problem(alloc, names, faults, deadline, processes, edges)?;
+    admit_it(alloc, problem)
+}
+
+fn alone(alloc: Global) -> Result<Admitted, Fail> {
+    let facts = [("A", 0, 30), ("B", 0, 10)];
+    let names = ["N1"];
+    made(
         alloc,
-        Problem::new(faults, deadline, nodes, slots, processes, edges),
+        names.as_slice(),
+        1,
+        87,
+        facts.as_slice(),
+        [].as_slice(),
     )
 }
 
-/// A graph on two nodes.
-fn on_two_nodes(
-    alloc: Global,
-    faults: u8,
-    deadline: u64,
-    processes: Vec<Process>,
-    edges: Vec<Edge>,
-) -> Result<Admitted, Fail> {
-    let nodes = nodes(alloc, ["N1", "N2"].as_slice())?;
-    let slots = slots(alloc)?;
-    admitted(
-        alloc,
-        Problem::new(faults, deadline, nodes, slots, processes, edges),
-    )
-}
-
-/// A before B on one node, and one of them may fail once.
-pub(crate) fn alone(alloc: Global) -> Result<Admitted, Fail> {
-    let processes = processes(alloc, [("A", 0, 30), ("B", 0, 10)].as_slice())?;
-    on_one_node(alloc, 1, 87, processes, Vec::new(alloc))
-}
-
-/// A sends B, on another node, a message, which is item 2, and one of them may fail once.
-pub(crate) fn pair(alloc: Global, frozen: bool, deadline: u64) -> Result<Admitted, Fail> {
-    let processes = processes(alloc, [("A", 0, 30), ("B", 1, 10)].as_slice())?;
+fn pair(alloc: Global, frozen: bool, due: u64) -> Result<Admitted, Fail> {
+    let facts = [("A", 0, 30), ("B", 1, 10)];
     let mut message = edge(0, 1, None);
     message.frozen = frozen;
-    let edges = vec![in alloc; message]?;
-    on_two_nodes(alloc, 1, deadline, processes, edges)
+    let names = ["N1", "N2"];
+    made(
+        alloc,
+        names.as_slice(),
+        1,
+        due,
+        facts.as_slice(),
+        [message].as_slice(),
+    )
 }
 
-/// A decides between B, on the other node, and C, and J joins both.
-pub(crate) fn choice(alloc: Global) -> Result<Admitted, Fail> {
+fn choice(alloc: Global) -> Result<Admitted, Fail> {
     let facts = [("A", 0, 30), ("B", 1, 10), ("C", 0, 10), ("J", 1, 5)];
-    let processes = processes(alloc, facts.as_slice())?;
-    let ends = [
-        (0, 1, Some(true)),
-        (0, 2, Some(false)),
-        (1, 3, None),
-        (2, 3, None),
+    let edges = [
+        edge(0, 1, Some(true)),
+        edge(0, 2, Some(false)),
+        edge(1, 3, None),
+        edge(2, 3, None),
     ];
-    let edges = edges(alloc, ends.as_slice())?;
-    on_two_nodes(alloc, 0, 95, processes, edges)
+    let names = ["N1", "N2"];
+    made(
+        alloc,
+        names.as_slice(),
+        0,
+        95,
+        facts.as_slice(),
+        edges.as_slice(),
+    )
 }
 
-/// A decides between B, on the other node, and C, and one of them may fail once.
-pub(crate) fn fork(alloc: Global) -> Result<Admitted, Fail> {
+fn fork(alloc: Global) -> Result<Admitted, Fail> {
     let facts = [("A", 0, 10), ("B", 1, 10), ("C", 0, 10)];
-    let processes = processes(alloc, facts.as_slice())?;
-    let ends = [(0, 1, Some(true)), (0, 2, Some(false))];
-    let edges = edges(alloc, ends.as_slice())?;
-    on_two_nodes(alloc, 1, 1_000_000, processes, edges)
+    let edges = [edge(0, 1, Some(true)), edge(0, 2, Some(false))];
+    let names = ["N1", "N2"];
+    made(
+        alloc,
+        names.as_slice(),
+        1,
+        1_000_000,
+        facts.as_slice(),
+        edges.as_slice(),
+    )
 }
 
-/// X on the first node sends to Y on the second, and Z there waits for nothing.
-pub(crate) fn waiting(alloc: Global) -> Result<Admitted, Fail> {
+fn waiting(alloc: Global) -> Result<Admitted, Fail> {
     let facts = [("X", 0, 5), ("Y", 1, 25), ("Z", 1, 15)];
-    let processes = processes(alloc, facts.as_slice())?;
-    let edges = edges(alloc, [(0, 1, None)].as_slice())?;
-    on_two_nodes(alloc, 0, 1000, processes, edges)
+    let names = ["N1", "N2"];
+    made(
+        alloc,
+        names.as_slice(),
+        0,
+        1000,
+        facts.as_slice(),
+        [edge(0, 1, None)].as_slice(),
+    )
 }
 
 /// Adds so many processes on the first node, each with a letter and its number as its name.
@@ -202,21 +247,38 @@ fn parallel(alloc: Global, count: u32, far: u32, when: Option<bool>) -> Result<V
     Ok(edges)
 }
 
-/// Forty processes on one node, each after the one before.
-pub(crate) fn chain(alloc: Global, faults: u8, frozen: bool) -> Result<Admitted, Fail> {
+fn chain(alloc: Global, faults: u8, frozen: bool) -> Result<Admitted, Fail> {
     let mut processes = Vec::new(alloc);
     push_numbered(alloc, "p", 40, frozen, &mut processes)?;
     let edges = parallel(alloc, 39, 1, None)?;
-    on_one_node(alloc, faults, 1_000_000, processes, edges)
+    let names = ["N1"];
+    let problem = problem(alloc, names.as_slice(), faults, 1_000_000, processes, edges)?;
+    admit_it(alloc, problem)
 }
 
-/// So many conditions, each on a process of its own without inputs.
-pub(crate) fn decided(alloc: Global, count: u32) -> Result<Admitted, Fail>
+fn decided(alloc: Global, count: u32) -> Result<Admitted, Fail>
     requires { count ≤ 9 }
 {
     let mut processes = Vec::new(alloc);
-    push_numbered(alloc, "p", count, false, &mut processes)?;
-    push_numbered(alloc, "q", count, false, &mut processes)?;
+    for letter in ["p", "q"] {
+        push_numbered(alloc, letter, count, false, &mut processes)?;
+    }
     let edges = parallel(alloc, count, count, Some(true))?;
-    on_two_nodes(alloc, 0, 1000, processes, edges)
+    let names = ["N1", "N2"];
+    let problem = problem(alloc, names.as_slice(), 0, 1000, processes, edges)?;
+    admit_it(alloc, problem)
+}
+
+/// The graph of an example.
+pub(crate) fn admitted(alloc: Global, example: Example) -> Result<Admitted, Fail> {
+    match example {
+        Example::Alone => alone(alloc),
+        Example::Pair { frozen, due } => pair(alloc, frozen, due),
+        Example::Choice => choice(alloc),
+        Example::Fork => fork(alloc),
+        Example::Waiting => waiting(alloc),
+        Example::Chain { faults, frozen } => chain(alloc, faults, frozen),
+        Example::Eight => decided(alloc, 8),
+        Example::Nine => decided(alloc, 9),
+    }
 }

@@ -1,6 +1,6 @@
 //! Two processes on one node and on two, with at most one fault, worked by hand.
 
-use crate::graphs;
+use crate::graphs::{Example, admitted};
 use cpg_base::OutOfMemory;
 use cpg_cube::Literal;
 use cpg_list::{has_few_scenarios, list};
@@ -22,16 +22,10 @@ fn built_of(alloc: Global, admitted: &Admitted) -> Result<Built, Fail> {
     }
 }
 
-fn alone(alloc: Global) -> Result<Built, Fail> {
-    let admitted = graphs::alone(alloc)?;
-    let built = built_of(alloc, &admitted)?;
-    Ok(built)
-}
-
-fn apart(alloc: Global) -> Result<Built, Fail> {
-    let admitted = graphs::pair(alloc, false, 100)?;
-    let built = built_of(alloc, &admitted)?;
-    Ok(built)
+/// What is built of an example.
+fn built(alloc: Global, example: Example) -> Result<Built, Fail> {
+    let admitted = admitted(alloc, example)?;
+    built_of(alloc, &admitted)
 }
 
 fn faults_of_a(count: u8) -> Literal {
@@ -112,14 +106,12 @@ fn has_excess(built: &Built, time: u64, process: Option<u32>, faults: u32) -> bo
     built.excess == time && built.excess_by == process && built.excess_in.total() == faults
 }
 
-#[test]
-fn measures_of_one_node(rt: HostRuntime) -> Result<(), Fail> {
-    let built = alone(rt.alloc())?;
-    assert!(rt; has_worst(&built, 87, 1));
-    assert!(rt; built.worst_in.number(0) == 1);
-    assert!(rt; built.worst_in.total() == 1);
-    assert!(rt; has_excess(&built, 0, None, 0));
-    Ok(())
+/// B ends at 87 after a fault of A, and nothing is late.
+fn is_measured_alone(built: &Built) -> bool {
+    has_worst(built, 87, 1)
+        && built.worst_in.number(0) == 1
+        && built.worst_in.total() == 1
+        && has_excess(built, 0, None, 0)
 }
 
 /// A starts at 0, and B at 35 or, after a fault of A, at 72.
@@ -137,20 +129,23 @@ fn starts_in_turn(built: &Built) -> bool {
         && has_literals(late, [faults_of_a(1)].as_slice())
 }
 
-#[test]
-fn starts_on_one_node(rt: HostRuntime) -> Result<(), Fail> {
-    let built = alone(rt.alloc())?;
-    assert!(rt; starts_in_turn(&built));
-    Ok(())
+/// Whether both are so.
+fn on_one_node(alloc: Global) -> Result<(bool, bool), Fail> {
+    let built = built(alloc, Example::Alone)?;
+    Ok((is_measured_alone(&built), starts_in_turn(&built)))
 }
 
 #[test]
-fn measures_of_two_nodes(rt: HostRuntime) -> Result<(), Fail> {
-    let built = apart(rt.alloc())?;
-    assert!(rt; has_worst(&built, 105, 1));
-    assert!(rt; has_excess(&built, 5, Some(1), 1));
-    assert!(rt; built.excess_in.number(0) == 1);
+fn tables_of_one_node(rt: HostRuntime) -> Result<(), Fail> {
+    let (measured, starts) = on_one_node(rt.alloc())?;
+    assert!(rt; measured);
+    assert!(rt; starts);
     Ok(())
+}
+
+/// B ends at 105, five too late, after a fault of A.
+fn is_measured_apart(built: &Built) -> bool {
+    has_worst(built, 105, 1) && has_excess(built, 5, Some(1), 1) && built.excess_in.number(0) == 1
 }
 
 /// The message, item 2, is sent at 40 or 80.
@@ -176,10 +171,25 @@ fn hears_in_time(built: &Built) -> bool {
         && has_literals(column(rows, 0, 1), [faults_of_a(1)].as_slice())
 }
 
+/// Whether all three are so.
+fn on_two_nodes(alloc: Global) -> Result<(bool, bool, bool), Fail> {
+    let example = Example::Pair {
+        frozen: false,
+        due: 100,
+    };
+    let built = built(alloc, example)?;
+    Ok((
+        is_measured_apart(&built),
+        sends_in_time(&built),
+        hears_in_time(&built),
+    ))
+}
+
 #[test]
-fn heard_on_another_node(rt: HostRuntime) -> Result<(), Fail> {
-    let built = apart(rt.alloc())?;
-    assert!(rt; sends_in_time(&built));
-    assert!(rt; hears_in_time(&built));
+fn tables_of_two_nodes(rt: HostRuntime) -> Result<(), Fail> {
+    let (measured, sends, hears) = on_two_nodes(rt.alloc())?;
+    assert!(rt; measured);
+    assert!(rt; sends);
+    assert!(rt; hears);
     Ok(())
 }

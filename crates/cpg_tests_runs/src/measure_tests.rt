@@ -4,15 +4,28 @@ ghost use Rattle.std.specs.Prelude.{◌≡◌, IfOk, length};
 ghost use Rattle.cpg_base.specs.Graph.{item_count};
 ghost use Rattle.cpg_list.specs.Listing.{AreScenarios};
 
-use crate::graphs::pair;
+use crate::graphs::{Example, admitted};
 use crate::sweeps::{frozen_over, listed, runs_over};
 use cpg_base::Scenario;
 use cpg_bus::Plan;
-use cpg_list::{Peak, excess, has_few_scenarios, worst};
+use cpg_list::{Peak, excess, worst};
 use cpg_rules::Admitted;
 use cpg_run::{Frozen, RunTimes};
 use std::alloc::Global;
 use std::test::Fail;
+
+/// The graph.
+const PAIR: Example = Example::Pair {
+    frozen: true,
+    due: 122,
+};
+
+/// How many scenarios there are.
+fn scenario_count(alloc: Global) -> Result<usize, Fail> {
+    let admitted = admitted(alloc, PAIR)?;
+    let scenarios = listed(alloc, &admitted)?;
+    Ok(scenarios.len())
+}
 
 /// The frozen times.
 fn frozen(alloc: Global, admitted: &Admitted) -> Result<Frozen, Fail>
@@ -25,13 +38,23 @@ fn frozen(alloc: Global, admitted: &Admitted) -> Result<Frozen, Fail>
 }
 
 /// The frozen time of an item.
-fn frozen_at(admitted: &Admitted, frozen: &Frozen, item: u32) -> Option<u64>
+fn time_of(admitted: &Admitted, frozen: &Frozen, item: u32) -> Option<u64>
     requires { length frozen.now ≡ item_count admitted.now.graph }
 {
     if item >= admitted.problem().item_count() {
         return None;
     }
     frozen.of(item)
+}
+
+/// The frozen times of the first start and of the message.
+fn frozen_times(alloc: Global) -> Result<(Option<u64>, Option<u64>), Fail> {
+    let admitted = admitted(alloc, PAIR)?;
+    let frozen = frozen(alloc, &admitted)?;
+    Ok((
+        time_of(&admitted, &frozen, 0),
+        time_of(&admitted, &frozen, 2),
+    ))
 }
 
 /// The runs of all scenarios.
@@ -49,56 +72,69 @@ fn run_all(
     Ok(runs)
 }
 
-/// The greatest finish of all runs.
-fn worst_of(alloc: Global, admitted: &Admitted) -> Result<Peak, Fail> {
-    let scenarios = listed(alloc, admitted)?;
-    let runs = run_all(alloc, admitted, scenarios.as_slice())?;
-    let worst = worst(alloc, admitted, scenarios.as_slice(), runs.as_slice())?;
-    Ok(worst)
+/// The number of a peak, its process, and how often B fails there, and all processes.
+fn told(peak: &Peak) -> (u64, Option<u32>, u8, u32) {
+    (
+        peak.time,
+        peak.process,
+        peak.scenario.number(1),
+        peak.scenario.total(),
+    )
 }
 
-/// The greatest excess of all runs.
-fn excess_of(alloc: Global, admitted: &Admitted) -> Result<Peak, Fail> {
+/// The greatest finish and the greatest excess of runs.
+fn peaks(
+    alloc: Global,
+    admitted: &Admitted,
+    scenarios: &[Scenario],
+    runs: &[RunTimes],
+) -> Result<[(u64, Option<u32>, u8, u32); 2], Fail>
+    requires scenarios { AreScenarios admitted.now.graph scenarios.now }
+    requires runs { length runs.now ≡ length scenarios.now }
+{
+    let worst = worst(alloc, admitted, scenarios, runs)?;
+    let excess = excess(alloc, admitted, scenarios, runs)?;
+    Ok([told(&worst), told(&excess)])
+}
+
+/// Those of all runs.
+fn peaks_over_all(
+    alloc: Global,
+    admitted: &Admitted,
+) -> Result<[(u64, Option<u32>, u8, u32); 2], Fail> {
     let scenarios = listed(alloc, admitted)?;
     let runs = run_all(alloc, admitted, scenarios.as_slice())?;
-    let excess = excess(alloc, admitted, scenarios.as_slice(), runs.as_slice())?;
-    Ok(excess)
+    peaks(alloc, admitted, scenarios.as_slice(), runs.as_slice())
+}
+
+/// Those of the graph.
+fn measures(alloc: Global) -> Result<[(u64, Option<u32>, u8, u32); 2], Fail> {
+    let admitted = admitted(alloc, PAIR)?;
+    peaks_over_all(alloc, &admitted)
 }
 
 #[test]
 fn lists_three_scenarios(rt: HostRuntime) -> Result<(), Fail> {
-    let admitted = pair(rt.alloc(), true, 122)?;
-    assert!(rt; has_few_scenarios(admitted.problem()));
-    let scenarios = listed(rt.alloc(), &admitted)?;
-    assert!(rt; scenarios.len() == 3);
+    assert!(rt; scenario_count(rt.alloc())? == 3);
     Ok(())
 }
 
 #[test]
 fn sends_at_the_frozen_time(rt: HostRuntime) -> Result<(), Fail> {
-    let admitted = pair(rt.alloc(), true, 122)?;
-    let frozen = frozen(rt.alloc(), &admitted)?;
-    assert!(rt; frozen_at(&admitted, &frozen, 0).is_none());
-    assert!(rt; frozen_at(&admitted, &frozen, 2) == Some(80));
+    let (start, message) = frozen_times(rt.alloc())?;
+    assert!(rt; start.is_none());
+    assert!(rt; message == Some(80));
     Ok(())
 }
 
 #[test]
 fn measures_all_scenarios(rt: HostRuntime) -> Result<(), Fail> {
-    let admitted = pair(rt.alloc(), true, 122)?;
-    let worst = worst_of(rt.alloc(), &admitted)?;
-    assert!(rt; worst.time == 122);
-    assert!(rt; worst.scenario.number(1) == 1);
-    assert!(rt; worst.process == Some(1));
-    Ok(())
-}
-
-#[test]
-fn exceeds_nothing(rt: HostRuntime) -> Result<(), Fail> {
-    let admitted = pair(rt.alloc(), true, 122)?;
-    let excess = excess_of(rt.alloc(), &admitted)?;
-    assert!(rt; excess.time == 0);
-    assert!(rt; excess.scenario.total() == 0);
-    assert!(rt; excess.process.is_none());
+    let [(worst, worst_by, of_b, _), (excess, excess_by, _, faults)] = measures(rt.alloc())?;
+    assert!(rt; worst == 122);
+    assert!(rt; worst_by == Some(1));
+    assert!(rt; of_b == 1);
+    assert!(rt; excess == 0);
+    assert!(rt; excess_by.is_none());
+    assert!(rt; faults == 0);
     Ok(())
 }

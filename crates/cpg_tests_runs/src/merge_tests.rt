@@ -1,50 +1,49 @@
 //! Orders of small graphs, worked by hand.
 
-use crate::graphs::{choice, decided, waiting};
+use crate::graphs::{Example, admitted};
 use cpg_merge::merged_order;
-use cpg_rules::Admitted;
+use cpg_order::Order;
 use std::alloc::Global;
 use std::test::Fail;
 
-/// The processes in their order, and none where there are many tracks.
-fn order(alloc: Global, admitted: &Admitted) -> Result<Vec<u32>, Fail> {
-    let mut order = Vec::new(alloc);
-    if let Some(merged) = merged_order(alloc, admitted)? {
-        order.extend_from_slice(merged.processes())?;
-    }
+/// The order, and `None` where there are many tracks.
+fn order_of(alloc: Global, example: Example) -> Result<Option<Order>, Fail> {
+    let admitted = admitted(alloc, example)?;
+    let order = merged_order(alloc, &admitted)?;
     Ok(order)
+}
+
+fn has_order(alloc: Global, example: Example) -> Result<bool, Fail> {
+    let order = order_of(alloc, example)?;
+    Ok(order.is_some())
+}
+
+/// Whether the order is this.
+fn is_order(alloc: Global, example: Example, wanted: &[u32]) -> Result<bool, Fail> {
+    let order = order_of(alloc, example)?;
+    match &order {
+        Some(order) => Ok(order.processes() == wanted),
+        None => Ok(false),
+    }
 }
 
 /// Z waits for nothing: the keys are 0, 30 and 0.
 #[test]
 fn what_waits_goes_later(rt: HostRuntime) -> Result<(), Fail> {
-    let admitted = waiting(rt.alloc())?;
-    let order = order(rt.alloc(), &admitted)?;
-    assert!(rt; order.as_slice() == [0, 2, 1].as_slice());
+    assert!(rt; is_order(rt.alloc(), Example::Waiting, [0, 2, 1].as_slice())?);
     Ok(())
 }
 
 /// The keys are 0, 55, 35 and 70.
 #[test]
 fn both_tracks_count(rt: HostRuntime) -> Result<(), Fail> {
-    let admitted = choice(rt.alloc())?;
-    let order = order(rt.alloc(), &admitted)?;
-    assert!(rt; order.as_slice() == [0, 2, 1, 3].as_slice());
+    assert!(rt; is_order(rt.alloc(), Example::Choice, [0, 2, 1, 3].as_slice())?);
     Ok(())
 }
 
 #[test]
-fn with_256_tracks_there_is_one(rt: HostRuntime) -> Result<(), Fail> {
-    let admitted = decided(rt.alloc(), 8)?;
-    let merged = merged_order(rt.alloc(), &admitted)?;
-    assert!(rt; merged.is_some());
-    Ok(())
-}
-
-#[test]
-fn with_more_tracks_there_is_none(rt: HostRuntime) -> Result<(), Fail> {
-    let admitted = decided(rt.alloc(), 9)?;
-    let merged = merged_order(rt.alloc(), &admitted)?;
-    assert!(rt; merged.is_none());
+fn with_many_tracks_there_is_none(rt: HostRuntime) -> Result<(), Fail> {
+    assert!(rt; has_order(rt.alloc(), Example::Eight)?);
+    assert!(rt; !has_order(rt.alloc(), Example::Nine)?);
     Ok(())
 }

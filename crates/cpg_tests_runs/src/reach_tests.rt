@@ -1,6 +1,6 @@
 //! Views and widths of small graphs, worked by hand.
 
-use crate::graphs::{chain, fork};
+use crate::graphs::{Example, admitted};
 use cpg_base::OutOfMemory;
 use cpg_reach::{too_wide, views};
 use cpg_rules::Admitted;
@@ -9,7 +9,7 @@ use std::test::Fail;
 
 /// How many views an item has under the urgency order.
 #[tactic(auto, using(crate::proofs::Unfrozen::urgent_topological))]
-fn views_of(alloc: Global, admitted: &Admitted, item: u32) -> Result<u64, Fail> {
+fn views_in(alloc: Global, admitted: &Admitted, item: u32) -> Result<u64, Fail> {
     if item >= admitted.problem().item_count() {
         return Err(Fail::from(OutOfMemory));
     }
@@ -19,60 +19,52 @@ fn views_of(alloc: Global, admitted: &Admitted, item: u32) -> Result<u64, Fail> 
 
 /// The least item that is too wide under the urgency order.
 #[tactic(auto, using(crate::proofs::Unfrozen::urgent_topological))]
-fn widest(alloc: Global, admitted: &Admitted) -> Result<Option<u32>, Fail> {
+fn wide_in(alloc: Global, admitted: &Admitted) -> Result<Option<u32>, Fail> {
     let item = too_wide(alloc, admitted, admitted.order())?;
     Ok(item)
 }
 
-/// The views of the first items, in order.
-fn first_views(alloc: Global, admitted: &Admitted, count: u32) -> Result<Vec<u64>, Fail> {
-    let mut list = Vec::new(alloc);
-    for item in 0..count {
-        list.push(views_of(alloc, admitted, item)?)?;
-    }
-    Ok(list)
+fn views_of(alloc: Global, example: Example, item: u32) -> Result<u64, Fail> {
+    let admitted = admitted(alloc, example)?;
+    views_in(alloc, &admitted, item)
 }
 
-#[test]
-fn a_chain_grows_wide(rt: HostRuntime) -> Result<(), Fail> {
-    let chain = chain(rt.alloc(), 4, false)?;
-    let views = first_views(rt.alloc(), &chain, 24)?;
-    assert!(rt; views.len() == 24);
-    assert!(rt; views[22] == 14_950);
-    assert!(rt; views[23] == 17_550);
-    Ok(())
+fn wide_of(alloc: Global, example: Example) -> Result<Option<u32>, Fail> {
+    let admitted = admitted(alloc, example)?;
+    wide_in(alloc, &admitted)
 }
 
 #[test]
 fn a_chain_grows_too_wide(rt: HostRuntime) -> Result<(), Fail> {
-    let chain = chain(rt.alloc(), 4, false)?;
-    let item = widest(rt.alloc(), &chain)?;
-    assert!(rt; item == Some(23));
+    let alloc = rt.alloc();
+    let chain = Example::Chain {
+        faults: 4,
+        frozen: false,
+    };
+    assert!(rt; views_of(alloc, chain, 22)? == 14_950);
+    assert!(rt; views_of(alloc, chain, 23)? == 17_550);
+    assert!(rt; wide_of(alloc, chain)? == Some(23));
     Ok(())
 }
 
 #[test]
 fn a_frozen_chain_does_not(rt: HostRuntime) -> Result<(), Fail> {
-    let chain = chain(rt.alloc(), 8, true)?;
-    let views = views_of(rt.alloc(), &chain, 39)?;
-    assert!(rt; views == 1);
-    let item = widest(rt.alloc(), &chain)?;
-    assert!(rt; item.is_none());
+    let alloc = rt.alloc();
+    let chain = Example::Chain {
+        faults: 8,
+        frozen: true,
+    };
+    assert!(rt; views_of(alloc, chain, 39)? == 1);
+    assert!(rt; wide_of(alloc, chain)?.is_none());
     Ok(())
 }
 
 #[test]
 fn a_choice_has_few_views(rt: HostRuntime) -> Result<(), Fail> {
-    let fork = fork(rt.alloc())?;
-    let views = first_views(rt.alloc(), &fork, 6)?;
-    assert!(rt; views.as_slice() == [1, 4, 4, 4, 1, 2].as_slice());
-    Ok(())
-}
-
-#[test]
-fn a_choice_is_not_too_wide(rt: HostRuntime) -> Result<(), Fail> {
-    let fork = fork(rt.alloc())?;
-    let item = widest(rt.alloc(), &fork)?;
-    assert!(rt; item.is_none());
+    let alloc = rt.alloc();
+    for (item, wanted) in [(0, 1), (1, 4), (2, 4), (3, 4), (4, 1), (5, 2)] {
+        assert!(rt; views_of(alloc, Example::Fork, item)? == wanted);
+    }
+    assert!(rt; wide_of(alloc, Example::Fork)?.is_none());
     Ok(())
 }

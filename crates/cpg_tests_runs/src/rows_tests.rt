@@ -4,7 +4,7 @@ ghost use Rattle.std.specs.Prelude.{◌≡◌};
 ghost use Rattle.cpg_bus.specs.Plan.{plan_of};
 ghost use Rattle.cpg_list.specs.Listing.{AreScenarios};
 
-use crate::graphs::{choice, pair};
+use crate::graphs::{Example, admitted};
 use crate::sweeps::{frozen_over, listed, runs_over};
 use cpg_base::Scenario;
 use cpg_bus::Plan;
@@ -13,6 +13,12 @@ use cpg_rules::Admitted;
 use cpg_table::Row;
 use std::alloc::Global;
 use std::test::Fail;
+
+/// The graph of two processes.
+const PAIR: Example = Example::Pair {
+    frozen: false,
+    due: 105,
+};
 
 /// The rows under the urgency order, given all scenarios.
 #[tactic(auto, using(crate::proofs::Unfrozen::urgent_topological))]
@@ -32,7 +38,7 @@ fn rows_over(
     Ok(rows)
 }
 
-/// The rows under the urgency order.
+/// The rows of a graph under its urgency order.
 fn rows_of(alloc: Global, admitted: &Admitted) -> Result<Vec<Row>, Fail> {
     let plan = Plan::of(alloc, admitted.problem())?;
     let scenarios = listed(alloc, admitted)?;
@@ -40,20 +46,8 @@ fn rows_of(alloc: Global, admitted: &Admitted) -> Result<Vec<Row>, Fail> {
     Ok(rows)
 }
 
-fn rows_of_pair(alloc: Global) -> Result<Vec<Row>, Fail> {
-    let admitted = pair(alloc, false, 105)?;
-    let rows = rows_of(alloc, &admitted)?;
-    Ok(rows)
-}
-
-fn rows_of_choice(alloc: Global) -> Result<Vec<Row>, Fail> {
-    let admitted = choice(alloc)?;
-    let rows = rows_of(alloc, &admitted)?;
-    Ok(rows)
-}
-
 /// When an entry of an item is, with the low and the high of its first literal, 9 where it has none.
-fn entry(rows: &[Row], item: usize, place: usize) -> Option<(u64, u8, u8)> {
+fn entry_in(rows: &[Row], item: usize, place: usize) -> Option<(u64, u8, u8)> {
     let entry = rows.get(item)?.entries().get(place)?;
     match entry.cube.literals().first() {
         Some(literal) => Some((entry.time, literal.low, literal.high)),
@@ -61,46 +55,54 @@ fn entry(rows: &[Row], item: usize, place: usize) -> Option<(u64, u8, u8)> {
     }
 }
 
+/// That in the rows of an example.
+fn entry(
+    alloc: Global,
+    example: Example,
+    item: usize,
+    place: usize,
+) -> Result<Option<(u64, u8, u8)>, Fail> {
+    let admitted = admitted(alloc, example)?;
+    let rows = rows_of(alloc, &admitted)?;
+    Ok(entry_in(rows.as_slice(), item, place))
+}
+
 #[test]
 fn sends_after_each_count(rt: HostRuntime) -> Result<(), Fail> {
-    let rows = rows_of_pair(rt.alloc())?;
-    let rows = rows.as_slice();
-    assert!(rt; entry(rows, 2, 0) == Some((40, 0, 0)));
-    assert!(rt; entry(rows, 2, 1) == Some((80, 1, 1)));
-    assert!(rt; entry(rows, 2, 2).is_none());
+    let alloc = rt.alloc();
+    assert!(rt; entry(alloc, PAIR, 2, 0)? == Some((40, 0, 0)));
+    assert!(rt; entry(alloc, PAIR, 2, 1)? == Some((80, 1, 1)));
+    assert!(rt; entry(alloc, PAIR, 2, 2)?.is_none());
     Ok(())
 }
 
 #[test]
 fn starts_after_each_count(rt: HostRuntime) -> Result<(), Fail> {
-    let rows = rows_of_pair(rt.alloc())?;
-    let rows = rows.as_slice();
-    assert!(rt; entry(rows, 1, 0) == Some((50, 0, 0)));
-    assert!(rt; entry(rows, 1, 1) == Some((90, 1, 1)));
-    assert!(rt; entry(rows, 1, 2).is_none());
-    assert!(rt; entry(rows, 0, 0) == Some((0, 9, 9)));
-    assert!(rt; entry(rows, 0, 1).is_none());
+    let alloc = rt.alloc();
+    assert!(rt; entry(alloc, PAIR, 1, 0)? == Some((50, 0, 0)));
+    assert!(rt; entry(alloc, PAIR, 1, 1)? == Some((90, 1, 1)));
+    assert!(rt; entry(alloc, PAIR, 1, 2)?.is_none());
+    assert!(rt; entry(alloc, PAIR, 0, 0)? == Some((0, 9, 9)));
+    assert!(rt; entry(alloc, PAIR, 0, 1)?.is_none());
     Ok(())
 }
 
 #[test]
 fn joins_both_outcomes(rt: HostRuntime) -> Result<(), Fail> {
-    let rows = rows_of_choice(rt.alloc())?;
-    let rows = rows.as_slice();
-    assert!(rt; entry(rows, 3, 0) == Some((70, 0, 0)));
-    assert!(rt; entry(rows, 3, 1) == Some((85, 1, 1)));
-    assert!(rt; entry(rows, 3, 2).is_none());
+    let alloc = rt.alloc();
+    assert!(rt; entry(alloc, Example::Choice, 3, 0)? == Some((70, 0, 0)));
+    assert!(rt; entry(alloc, Example::Choice, 3, 1)? == Some((85, 1, 1)));
+    assert!(rt; entry(alloc, Example::Choice, 3, 2)?.is_none());
     Ok(())
 }
 
 #[test]
 fn sends_one_of_two(rt: HostRuntime) -> Result<(), Fail> {
-    let rows = rows_of_choice(rt.alloc())?;
-    let rows = rows.as_slice();
-    assert!(rt; entry(rows, 4, 0) == Some((60, 1, 1)));
-    assert!(rt; entry(rows, 7, 0) == Some((60, 0, 0)));
-    assert!(rt; entry(rows, 5, 0).is_none());
-    assert!(rt; entry(rows, 8, 0) == Some((40, 9, 9)));
-    assert!(rt; entry(rows, 8, 1).is_none());
+    let alloc = rt.alloc();
+    assert!(rt; entry(alloc, Example::Choice, 4, 0)? == Some((60, 1, 1)));
+    assert!(rt; entry(alloc, Example::Choice, 7, 0)? == Some((60, 0, 0)));
+    assert!(rt; entry(alloc, Example::Choice, 5, 0)?.is_none());
+    assert!(rt; entry(alloc, Example::Choice, 8, 0)? == Some((40, 9, 9)));
+    assert!(rt; entry(alloc, Example::Choice, 8, 1)?.is_none());
     Ok(())
 }

@@ -5,7 +5,7 @@ ghost use Rattle.cpg_base.specs.Graph.{item_count};
 ghost use Rattle.cpg_base.specs.Scenario.{IsScenario};
 ghost use Rattle.cpg_run.specs.Known.{AreEarly};
 
-use crate::graphs::choice;
+use crate::graphs::{Example, admitted};
 use cpg_base::{OutOfMemory, Scenario};
 use cpg_rules::Admitted;
 use cpg_run::{Frozen, RunTimes, run};
@@ -44,37 +44,33 @@ fn run_where(alloc: Global, admitted: &Admitted, value: bool) -> Result<RunTimes
     Ok(times)
 }
 
-/// The run of the choice where its condition has a value.
-fn chosen(alloc: Global, value: bool) -> Result<RunTimes, Fail> {
-    let admitted = choice(alloc)?;
-    let times = run_where(alloc, &admitted, value)?;
-    Ok(times)
+/// The times of the starts and of what goes over the bus.
+fn times_of(run: &RunTimes) -> [Option<u64>; 7] {
+    let of = |item| run.time(item);
+    [of(0), of(1), of(2), of(3), of(4), of(7), of(8)]
+}
+
+/// Those where the condition has a value, and the finish.
+fn times_where(alloc: Global, value: bool) -> Result<([Option<u64>; 7], u64), Fail> {
+    let admitted = admitted(alloc, Example::Choice)?;
+    let run = run_where(alloc, &admitted, value)?;
+    Ok((times_of(&run), run.finish()))
 }
 
 #[test]
 fn runs_where_it_is_false(rt: HostRuntime) -> Result<(), Fail> {
-    let times = chosen(rt.alloc(), false)?;
-    assert!(rt; times.time(0) == Some(0));
-    assert!(rt; times.time(1).is_none());
-    assert!(rt; times.time(2) == Some(35));
-    assert!(rt; times.time(3) == Some(70));
-    assert!(rt; times.time(4).is_none());
-    assert!(rt; times.time(7) == Some(60));
-    assert!(rt; times.time(8) == Some(40));
-    assert!(rt; times.finish() == 80);
+    let (times, finish) = times_where(rt.alloc(), false)?;
+    let of_c = [Some(0), None, Some(35), Some(70), None, Some(60), Some(40)];
+    assert!(rt; times == of_c);
+    assert!(rt; finish == 80);
     Ok(())
 }
 
 #[test]
 fn runs_where_it_is_true(rt: HostRuntime) -> Result<(), Fail> {
-    let times = chosen(rt.alloc(), true)?;
-    assert!(rt; times.time(0) == Some(0));
-    assert!(rt; times.time(1) == Some(70));
-    assert!(rt; times.time(2).is_none());
-    assert!(rt; times.time(3) == Some(85));
-    assert!(rt; times.time(4) == Some(60));
-    assert!(rt; times.time(7).is_none());
-    assert!(rt; times.time(8) == Some(40));
-    assert!(rt; times.finish() == 95);
+    let (times, finish) = times_where(rt.alloc(), true)?;
+    let of_b = [Some(0), Some(70), None, Some(85), Some(60), None, Some(40)];
+    assert!(rt; times == of_b);
+    assert!(rt; finish == 95);
     Ok(())
 }

@@ -1,6 +1,6 @@
 //! Tracks and schedules of small graphs, worked by hand.
 
-use crate::graphs::{choice, decided, waiting};
+use crate::graphs::{Example, admitted};
 use cpg_base::OutOfMemory;
 use cpg_rules::Admitted;
 use cpg_tracks::{Starts, greedy, tracks};
@@ -25,19 +25,31 @@ fn first_starts(schedule: &Starts) -> [Option<u64>; 4] {
     [of(0), of(1), of(2), of(3)]
 }
 
-/// The starts of the first four processes in each schedule.
-fn starts(alloc: Global, admitted: &Admitted) -> Result<Vec<[Option<u64>; 4]>, Fail> {
-    let schedules = schedules(alloc, admitted)?;
-    let mut starts = Vec::new(alloc);
-    for schedule in schedules.as_slice() {
-        starts.push(first_starts(schedule))?;
+/// Whether the schedules begin with these.
+fn are_starts(schedules: &[Starts], wanted: &[[Option<u64>; 4]]) -> bool {
+    if schedules.len() != wanted.len() {
+        return false;
     }
-    Ok(starts)
+    for at in 0..schedules.len() {
+        if first_starts(&schedules[at]) != wanted[at] {
+            return false;
+        }
+    }
+    true
+}
+
+/// Whether those of an example do.
+fn has_starts(alloc: Global, example: Example, wanted: &[[Option<u64>; 4]]) -> Result<bool, Fail> {
+    let admitted = admitted(alloc, example)?;
+    let schedules = schedules(alloc, &admitted)?;
+    Ok(are_starts(schedules.as_slice(), wanted))
 }
 
 /// How many tracks there are, and `None` where these are many.
-fn count(alloc: Global, admitted: &Admitted) -> Result<Option<usize>, Fail> {
-    match tracks(alloc, admitted)? {
+fn track_count(alloc: Global, example: Example) -> Result<Option<usize>, Fail> {
+    let admitted = admitted(alloc, example)?;
+    let tracks = tracks(alloc, &admitted)?;
+    match &tracks {
         Some(tracks) => Ok(Some(tracks.len())),
         None => Ok(None),
     }
@@ -46,38 +58,25 @@ fn count(alloc: Global, admitted: &Admitted) -> Result<Option<usize>, Fail> {
 /// Z waits for nothing, so it goes first on its node.
 #[test]
 fn no_node_idles(rt: HostRuntime) -> Result<(), Fail> {
-    let admitted = waiting(rt.alloc())?;
-    let starts = starts(rt.alloc(), &admitted)?;
     let wanted = [[Some(0), Some(30), Some(0), None]];
-    assert!(rt; starts.as_slice() == wanted.as_slice());
+    assert!(rt; has_starts(rt.alloc(), Example::Waiting, wanted.as_slice())?);
     Ok(())
 }
 
 /// First the track of C, then that of B.
 #[test]
 fn each_track_has_its_schedule(rt: HostRuntime) -> Result<(), Fail> {
-    let admitted = choice(rt.alloc())?;
-    let starts = starts(rt.alloc(), &admitted)?;
     let wanted = [
         [Some(0), None, Some(35), Some(70)],
         [Some(0), Some(55), None, Some(70)],
     ];
-    assert!(rt; starts.as_slice() == wanted.as_slice());
-    Ok(())
-}
-
-#[test]
-fn up_to_256_are_listed(rt: HostRuntime) -> Result<(), Fail> {
-    let admitted = decided(rt.alloc(), 8)?;
-    let count = count(rt.alloc(), &admitted)?;
-    assert!(rt; count == Some(256));
+    assert!(rt; has_starts(rt.alloc(), Example::Choice, wanted.as_slice())?);
     Ok(())
 }
 
 #[test]
 fn no_more_than_256_are_listed(rt: HostRuntime) -> Result<(), Fail> {
-    let admitted = decided(rt.alloc(), 9)?;
-    let count = count(rt.alloc(), &admitted)?;
-    assert!(rt; count.is_none());
+    assert!(rt; track_count(rt.alloc(), Example::Eight)? == Some(256));
+    assert!(rt; track_count(rt.alloc(), Example::Nine)?.is_none());
     Ok(())
 }

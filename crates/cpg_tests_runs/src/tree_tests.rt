@@ -1,5 +1,5 @@
 //! Trees of values, and of the ends of a chain of processes.
-ghost use Rattle.std.specs.Prelude.{◌≡◌, IfOk};
+ghost use Rattle.std.specs.Prelude.{◌≡◌, ◌<◌, IfOk};
 
 use cpg_tree::{Tree, fault, value};
 use std::alloc::Global;
@@ -14,7 +14,7 @@ fn end(start: u64, faults: u8) -> u64 {
 
 /// The end of a process that starts so.
 fn ended(alloc: Global, process: u32, start: &Tree<u64>) -> Result<Tree<u64>, Fail>
-    requires process { process < 40 }
+    requires process { process < 128 }
     requires faults { start.now.faults ≡ 2 }
     ensures { IfOk result (λ end. end.faults ≡ 2) }
 {
@@ -23,19 +23,18 @@ fn ended(alloc: Global, process: u32, start: &Tree<u64>) -> Result<Tree<u64>, Fa
     Ok(end)
 }
 
-/// The end of the last process of a chain of 40 with at most two faults.
-fn chain(alloc: Global) -> Result<Tree<u64>, Fail> {
+/// How many ends the last process of a chain of 40 has with at most two faults.
+fn ends_of_last(alloc: Global) -> Result<u64, Fail> {
     let mut ready = Tree::constant(alloc, 0, 2)?;
     for process in 0..40 {
         ready = ended(alloc, process, &ready)?;
     }
-    Ok(ready)
+    Ok(ready.leaves())
 }
 
 #[test]
 fn ends_of_a_chain(rt: HostRuntime) -> Result<(), Fail> {
-    let last = chain(rt.alloc())?;
-    assert!(rt; last.leaves() == 861);
+    assert!(rt; ends_of_last(rt.alloc())? == 861);
     Ok(())
 }
 
@@ -47,7 +46,7 @@ fn constant(alloc: Global, number: u64) -> Result<Tree<u64>, Fail>
     Ok(tree)
 }
 
-/// One of two trees by the value of a condition.
+/// How many leaves one of two trees by the value of a condition has.
 fn picked(alloc: Global, on: &Tree<u64>, off: &Tree<u64>) -> Result<u64, Fail>
     requires on { on.now.faults ≡ 2 }
     requires off { off.now.faults ≡ 2 }
@@ -59,41 +58,38 @@ fn picked(alloc: Global, on: &Tree<u64>, off: &Tree<u64>) -> Result<u64, Fail>
 
 /// How many leaves the greater of two trees has, each time known.
 fn greater(on: &Tree<u64>, off: &Tree<u64>) -> Result<u64, Fail>
-    requires { on.now.faults ≡ off.now.faults }
+    requires on { on.now.faults ≡ 2 }
+    requires off { off.now.faults ≡ 2 }
 {
     let greater = on.max(off)?;
     let known = greater.map(&|time: u64| Some(time))?;
     Ok(known.leaves())
 }
 
+/// Both of two constants.
+fn leaves_of_two(alloc: Global) -> Result<(u64, u64), Fail> {
+    let on = constant(alloc, 5)?;
+    let off = constant(alloc, 7)?;
+    Ok((picked(alloc, &on, &off)?, greater(&on, &off)?))
+}
+
 #[test]
 fn picks(rt: HostRuntime) -> Result<(), Fail> {
-    let on = constant(rt.alloc(), 5)?;
-    let off = constant(rt.alloc(), 7)?;
-    let leaves = picked(rt.alloc(), &on, &off)?;
-    assert!(rt; leaves == 2);
+    let (picked, greater) = leaves_of_two(rt.alloc())?;
+    assert!(rt; picked == 2);
+    assert!(rt; greater == 1);
     Ok(())
 }
 
-#[test]
-fn the_greater_of_two(rt: HostRuntime) -> Result<(), Fail> {
-    let on = constant(rt.alloc(), 5)?;
-    let off = constant(rt.alloc(), 7)?;
-    let leaves = greater(&on, &off)?;
-    assert!(rt; leaves == 1);
-    Ok(())
-}
-
-/// Half a count, rounded down.
-fn halves(alloc: Global) -> Result<Tree<u8>, Fail> {
+/// How many leaves half a count has, rounded down.
+fn leaves_of_half(alloc: Global) -> Result<u64, Fail> {
     let faults = fault(alloc, 3, 3)?;
     let halves = faults.map(&|count: u8| count / 2)?;
-    Ok(halves)
+    Ok(halves.leaves())
 }
 
 #[test]
 fn joins_neighbouring_arms(rt: HostRuntime) -> Result<(), Fail> {
-    let halves = halves(rt.alloc())?;
-    assert!(rt; halves.leaves() == 2);
+    assert!(rt; leaves_of_half(rt.alloc())? == 2);
     Ok(())
 }
