@@ -1,7 +1,8 @@
 #!/usr/bin/env python3
 """Runs the gate and says what it costs: processor seconds by crate and step, as a table for docs/CONTRIBUTING.md.
 
-    tools/gate_times.py [WORDS OF rt ci ..]     at the top of the repository; with no words --anew, which proves and tries all
+    tools/gate_times.py            at the top of the repository: rt ci --anew, which proves and tries all
+    tools/gate_times.py NAME ..    rt ci NAME ..: some crates, and those below them that no earlier run proved
 
 The steps are a crate's proof, its tests (proved with them once more), the seed (the proof that its wrong bodies are tried over), and the
 wrong bodies. Each rattle process is looked at twice a second, so that up to half a second of each is missed; the sum at the end is exact.
@@ -30,11 +31,22 @@ def step_of(words):
     return "proof"
 
 
-def look(found):
+def parent_of(pid):
+    with open(f"/proc/{pid}/stat") as it:
+        return it.read().rpartition(")")[2].split()[1]
+
+
+def is_below(pid, top):
+    while pid not in ("0", "1", top):
+        pid = parent_of(pid)
+    return pid == top
+
+
+def look(found, top):
     for pid in filter(str.isdigit, os.listdir("/proc")):
         try:
             words = words_of(pid)
-            if not words[0].endswith("/rattle") or "--crate-name" not in words:
+            if not words[0].endswith("/rattle") or "--crate-name" not in words or not is_below(pid, top):
                 continue
             key = (words[words.index("--crate-name") + 1], step_of(words))
             found[pid, key] = seconds_of(pid)
@@ -46,7 +58,7 @@ def main():
     gate = subprocess.Popen(["rt", "ci", *(sys.argv[1:] or ["--anew"])])
     begun, found = time.time(), {}
     while gate.poll() is None:
-        look(found)
+        look(found, str(gate.pid))
         time.sleep(0.5)
     steps = ["proof", "tests", "seed", "edits"]
     crates = {}

@@ -4,6 +4,8 @@ use Rattle.cpg_base.specs.Graph.{Graph}
 use Rattle.cpg_base.specs.Scenario.{Scenario, IsScenario, zero_scenario}
 use Rattle.cpg_table.specs.declared.fault.Fault.{Fault}
 use Rattle.cpg_check.specs.Verdict.{IsFirstFault}
+use Rattle.cpg_violation.specs.Violation.{IsFirstViolation, column_rules}
+use Rattle.cpg_violation.proofs.Violations.{first_broken}
 use Rattle.cpg_list.proofs.Listed.{zero_lawful}
 use Rattle.cpg_words.specs.Parts.{Text}
 use Rattle.cpg_words.specs.Forms.{command_of}
@@ -88,7 +90,10 @@ tables_named seen told work works h (inl (inr (inr none))) = named_as h _ none.h
 tables_named seen told work works h (inr worked) = works worked.0 h worked.2
 
 fault_named : (a : Admission) (t : Tables) (f : Fault) → IsFirstFault a.graph a.order t.nodes f → IsNamed (Unsafe a f)
-fault_named a t f (inl first) = (first.first.item, lengths_of a.graph f.scenario first.first.least.lawful)
+fault_named a t f (inl broken) =
+    let shown = first_broken a.graph a.order t.nodes f column_rules broken in
+    let first : IsFirstViolation a.graph a.order t.nodes shown.0 f = shown.1 in
+    (first.item, lengths_of a.graph f.scenario first.least.lawful)
 fault_named a t f (inr heard) = (heard.1.item, subst (HasLengths a.graph) (sym heard.1.scenario) (lengths_of a.graph (zero_scenario a.graph) (zero_lawful a.graph)))
 
 verdict_named : (a : Admission) (t : Tables) (h : Halt) → StopsVerdict a t h → IsNamed h

@@ -46,7 +46,7 @@ module _ (g : Graph) (tables : List NodeTable) where
   -- tables with a fault aren't valid
   pub faulty_tables : (order : List ℕ) (f : Fault) → length tables ≡ length g.nodes → IsFirstFault g order tables f → IsValid g tables → ⊥
   faulty_tables order f count (inl broken) valid =
-      let shown = first_broken g tables order f column_rules broken in
+      let shown = first_broken g order tables f column_rules broken in
       let first : IsFirstViolation g order tables shown.0 f = shown.1 in
       both_ways _ (valid.rules shown.0 f.item f.column f.scenario first.least.lawful first.item) first.least.holds
   faulty_tables order f count (inr heard) valid = first_hear valid count f.item f.column heard.1.column

@@ -169,7 +169,13 @@ pub(crate) fn inputs_by(
     ensures first { IfOk result (λ r. IfSome r (IsFirstViolation admitted.now.graph admitted.now.order tables.now.nodes Rule.Inputs)) }
 {
     let links = Links::of(alloc, admitted.problem())?;
-    let found = first_violation(alloc, admitted, tables, Rule::Inputs, &Inputs { links, lines })?;
+    let found = first_violation(
+        alloc,
+        admitted,
+        tables,
+        Rule::Inputs,
+        &Inputs { links, lines },
+    )?;
     Ok(found)
 }
 

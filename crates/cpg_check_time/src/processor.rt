@@ -184,7 +184,13 @@ pub(crate) fn processors_by(
     ensures none { IfOk result (λ r. IfNone r (Holds admitted.now.graph tables.now.nodes Rule.Processor)) }
     ensures first { IfOk result (λ r. IfSome r (IsFirstViolation admitted.now.graph admitted.now.order tables.now.nodes Rule.Processor)) }
 {
-    let found = first_violation(alloc, admitted, tables, Rule::Processor, &Processors { lines })?;
+    let found = first_violation(
+        alloc,
+        admitted,
+        tables,
+        Rule::Processor,
+        &Processors { lines },
+    )?;
     Ok(found)
 }
 

@@ -90,7 +90,10 @@ fn nodes(alloc: Global, names: &[&str]) -> Result<Vec<Name>, Fail> {
 }
 
 /// A slot of 10 for each of several nodes.
-fn slots(alloc: Global, count: u32) -> Result<Vec<Slot>, Fail> {
+fn slots(alloc: Global, names: &[&str]) -> Result<Vec<Slot>, Fail> {
+    let Ok(count) = u32::try_from(names.len()) else {
+        return Err(Fail::from(OutOfMemory));
+    };
     let mut slots = Vec::new(alloc);
     if count > 1 {
         for node in 0..count {
@@ -114,7 +117,7 @@ fn problem(
     edges: Vec<Edge>,
 ) -> Result<Option<Problem>, Fail> {
     let nodes = nodes(alloc, names)?;
-    let slots = slots(alloc, names.len() as u32)?;
+    let slots = slots(alloc, names)?;
     Ok(Problem::new(faults, deadline, nodes, slots, processes, edges))
 }
 
