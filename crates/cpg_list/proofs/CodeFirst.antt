@@ -11,7 +11,8 @@ use Rattle.cpg_order.proofs.Places.{place_in_order}
 use Rattle.cpg_cube.specs.declared.literal.Literal.{Literal}
 use Rattle.cpg_table.specs.Shape.{items_of}
 use Rattle.cpg_table.specs.Table.{Column, Row}
-use Rattle.cpg_list.specs.Made.{AreCubesOf, AreCarried, AreMade, IsBefore, columns_of_rows, passed_by, queued_by, node_before, sent_before}
+use Rattle.cpg_list.specs.Made.{AreCubesOf, AreCarried, AreMade, IsBefore, passed_by, queued_by, node_before, sent_before}
+use Rattle.cpg_run.specs.Found.{columns_of_rows}
 use Rattle.cpg_run.specs.Rows.{IsCubeOf, AreRows}
 use Rattle.cpg_list.proofs.CodeCubes.{whole_cube}
 use Rattle.cpg_list.proofs.CodeMade.{count_of}

@@ -25,16 +25,18 @@ use Rattle.cpg_table.specs.Shape.{items_of}
 use Rattle.cpg_table.specs.Table.{Column, Row}
 use Rattle.cpg_run.specs.Carried.{row_at}
 use Rattle.cpg_list.specs.Learning.{AreTold}
-use Rattle.cpg_list.specs.Made.{columns_of_rows, AreMade, IsRowSet}
+use Rattle.cpg_list.specs.Made.{AreMade, IsRowSet}
+use Rattle.cpg_run.specs.Found.{columns_of_rows}
 use Rattle.cpg_run.specs.RowLaws.{IsTimed, SameRowsBefore, AreRowsBefore}
 use Rattle.cpg_run.specs.Rows.{AreEntriesOf, IsRowOf}
+use Rattle.cpg_run.proofs.BuiltTables.{admitted_under}
 use Rattle.cpg_run.proofs.EntriesMerge.{entries_have_times}
 use Rattle.cpg_run.proofs.RowsTimed.{row_alike, entries_alike, rows_before}
 
 -- with its orders and frozen times an admitted graph has the runs that the laws speak of
 pub timed_of : (g : Graph) (urgency order : List ℕ) (trees : Guards) (frozen : List (Option ℕ)) → IsAdmitted g urgency trees → IsTopological g order → AreFrozenTimes g order frozen → IsTimed g urgency order frozen
 timed_of g urgency order trees frozen is topological times = record {
-  admitted = record { formed = is.well_formed; joins = is.joins; urgent = is.urgency; topological = topological };
+  admitted = admitted_under g urgency order trees is topological;
   frozen_times = times;
 }
 

@@ -17,7 +17,8 @@ use Rattle.cpg_table.specs.Table.{Column, Row}
 use Rattle.cpg_bus.specs.Plan.{queue_of}
 use Rattle.cpg_bus.proofs.Queued.{rank_at, in_queue, queue-Contains, queue_rises, below_first, in_first}
 use Rattle.cpg_run.specs.Carried.{row_at, decided, heard, received, passed, queued, number_known, carried_at_end}
-use Rattle.cpg_list.specs.Made.{AreCubesOf, AreEndsOf, AreCarried, AreMade, IsBefore, IsStarted, IsSent, columns_of_rows, passed_by, queued_by, node_before, sent_before}
+use Rattle.cpg_list.specs.Made.{AreCubesOf, AreEndsOf, AreCarried, AreMade, IsBefore, IsStarted, IsSent, passed_by, queued_by, node_before, sent_before}
+use Rattle.cpg_run.specs.Found.{columns_of_rows}
 use Rattle.cpg_run.specs.RowLaws.{SameRowsBefore}
 use Rattle.cpg_run.specs.Rows.{IsCubeOf, IsRowOf}
 use Rattle.cpg_list.proofs.CodeCubes.{same_literals}

@@ -1,5 +1,4 @@
-mod Written
-mod BuiltTables
+pub mod FoundRows
 pub mod ActiveAlike
 pub mod Ends
 pub mod FewWays

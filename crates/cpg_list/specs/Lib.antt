@@ -1,4 +1,3 @@
-pub mod Found
 pub mod Refusal
 pub mod Active
 pub mod FirstAlike

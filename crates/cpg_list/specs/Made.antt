@@ -1,6 +1,6 @@
 -- What is made before the process at a place of the order: the rows of earlier items, and by node and scenario a cube of
 -- what is carried on.
-use Rattle.std.specs.Prelude.{ℕ, ◌≡◌, ◌<◌, ◌≤◌, ◌⊎◌, ◌&&◌, ◌==◌, nat_lt, true, List, [], Option, length, map, filter, take, get_or, slice_set, Contains}
+use Rattle.std.specs.Prelude.{ℕ, ◌≡◌, ◌<◌, ◌≤◌, ◌⊎◌, ◌&&◌, ◌==◌, nat_lt, true, List, [], Option, length, filter, take, get_or, slice_set, Contains}
 use Rattle.std.specs.List.{flat_map}
 use Rattle.cpg_base.specs.Numbers.{numbers_below}
 use Rattle.cpg_base.specs.Activity.{active}
@@ -13,11 +13,8 @@ use Rattle.cpg_table.specs.Shape.{items_of}
 use Rattle.cpg_table.specs.Table.{Column, Row}
 use Rattle.cpg_bus.specs.Plan.{queue_of}
 use Rattle.cpg_run.specs.Carried.{row_at, passed, queued, carried_at_end}
+use Rattle.cpg_run.specs.Found.{columns_of_rows}
 use Rattle.cpg_run.specs.Rows.{IsCubeOf, IsRowOf}
-
--- the columns of rows
-abbrev pub columns_of_rows : List Row → List (List Column)
-columns_of_rows rows = map (λ (r : Row). r.columns) rows
 
 -- for each scenario the cube of its literals
 pub record AreCubesOf (k : ℕ) (scenarios : List Scenario) (literals : Scenario → List Literal) (cubes : List (List Literal)) : Type 0 where

@@ -3,7 +3,7 @@ ghost use Rattle.std.specs.Prelude.{◌≡◌, ◌<◌, [], IfOk, length, map};
 ghost use Rattle.cpg_base.specs.Numbers.{numbers_below};
 ghost use Rattle.cpg_base.specs.Graph.{item_count};
 ghost use Rattle.cpg_run.specs.Carried.{row_at};
-ghost use Rattle.cpg_list.specs.Made.{columns_of_rows};
+ghost use Rattle.cpg_run.specs.Found.{columns_of_rows};
 
 use crate::timed::TimedRow;
 use cpg_base::{OutOfMemory, Problem};

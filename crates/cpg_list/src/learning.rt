@@ -10,7 +10,7 @@ ghost use Rattle.cpg_order.specs.Deciding.{deciding};
 ghost use Rattle.cpg_table.specs.Table.{times_in};
 ghost use Rattle.cpg_run.specs.Carried.{told_by, number_known, decided, heard, received};
 ghost use Rattle.cpg_list.specs.Learning.{IsTold, AreDeciding, heard_of, received_by};
-ghost use Rattle.cpg_list.specs.Made.{columns_of_rows};
+ghost use Rattle.cpg_run.specs.Found.{columns_of_rows};
 ghost use Rattle.cpg_list.specs.Narrowing.{IsNarrowed, met, told_in};
 
 use crate::cubes::{narrow, narrow_to_number};

@@ -10,3 +10,4 @@ pub mod Steps
 pub mod Empty
 pub mod Walks
 pub mod Widths
+pub mod Narrow

@@ -1,21 +1,16 @@
--- The laws of rows: what is carried beside a time decides it, so entries, their rows and tables of these have the times of the runs.
+-- The laws of rows: what is carried beside a time decides it, so entries and their rows have the times of the runs.
 use Rattle.std.specs.Prelude.{ℕ, ◌≡◌, ◌≢◌, ◌<◌, false, List, [], Option, None, get_or, option_to_list, All, IsTrue}
 use Rattle.cpg_base.specs.Graph.{Graph, item_count, item_at, producer}
 use Rattle.cpg_base.specs.Activity.{item_active}
 use Rattle.cpg_order.specs.Urgency.{place, IsTopological}
-use Rattle.cpg_order.specs.Reach.{Reach, IsReach}
 use Rattle.cpg_order.specs.Scenario.{Scenario, IsScenario}
 use Rattle.cpg_cube.specs.Cube.{matches}
 use Rattle.cpg_cube.specs.Fit.{IsCube}
 use Rattle.cpg_table.specs.Merged.{AreMergeable}
-use Rattle.cpg_table.specs.Table.{Column, NodeTable, columns_of, times_in}
-use Rattle.cpg_table.specs.declared.rule.Rule.{Rule}
+use Rattle.cpg_table.specs.Table.{Column, times_in}
 use Rattle.cpg_run.specs.Alike.{Admitted}
-use Rattle.cpg_run.specs.Exact.{IsExact}
 use Rattle.cpg_run.specs.Frozen.{AreFrozenTimes}
-use Rattle.cpg_run.specs.Laws.{Keeps, NothingIsLate}
 use Rattle.cpg_run.specs.Run.{Times, IsRun}
-use Rattle.cpg_run.specs.Supported.{Supported}
 use Rattle.cpg_run.specs.Carried.{row_at, carried}
 use Rattle.cpg_run.specs.Rows.{AreEntriesOf, AreRows}
 
@@ -72,25 +67,3 @@ abbrev pub RowsHaveTimes : Type 0
 RowsHaveTimes = (g : Graph) (urgency order : List ℕ) (frozen : List (Option ℕ)) (rows : List (List Column)) → IsTimed g urgency order frozen → AreRows g urgency order frozen rows → (x : ℕ) →
     HaveTimesOf g order frozen x (row_at rows x)
     × (((s : Scenario) → IsScenario g s → item_active g s.values (item_at g x) ≡ false) → row_at rows x ≡ [])
-
--- tables that have the rows as their columns
-pub record AreTablesOfRows (g : Graph) (urgency order : List ℕ) (frozen : List (Option ℕ)) (rows : List (List Column)) (tables : List NodeTable) : Type 0 where
-  pub timed : IsTimed g urgency order frozen
-  pub found : AreRows g urgency order frozen rows
-  pub columns : (x : ℕ) → columns_of tables x ≡ row_at rows x
-
--- such tables are supported
-abbrev pub RowTablesAreSupported : Type 0
-RowTablesAreSupported = (g : Graph) (urgency order : List ℕ) (frozen : List (Option ℕ)) (rows : List (List Column)) (tables : List NodeTable) →
-    AreTablesOfRows g urgency order frozen rows tables → Supported g order tables
-
--- they are exact
-abbrev pub RowTablesAreExact : Type 0
-RowTablesAreExact = (g : Graph) (urgency order : List ℕ) (frozen : List (Option ℕ)) (rows : List (List Column)) (tables : List NodeTable) (r : Reach) →
-    AreTablesOfRows g urgency order frozen rows tables → IsReach g order r → IsExact g urgency order frozen r tables
-
--- and keep every rule, but for the one on dues where an end is past its due
-abbrev pub RowTablesKeepRules : Type 0
-RowTablesKeepRules = (g : Graph) (urgency order : List ℕ) (frozen : List (Option ℕ)) (rows : List (List Column)) (tables : List NodeTable) →
-    AreTablesOfRows g urgency order frozen rows tables →
-    ((rule : Rule) → rule ≢ Rule.Due → Keeps rule g tables) × (NothingIsLate g order frozen → Keeps Rule.Due g tables)

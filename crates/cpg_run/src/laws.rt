@@ -1,6 +1,8 @@
 //! The laws of rows.
 
-ghost use Rattle.cpg_run.specs.RowLaws.{CarriedDecides, CarriedRestsOnEarlier, EntriesHaveTimes, RowsHaveTimes, RowTablesAreExact, RowTablesAreSupported, RowTablesKeepRules};
+ghost use Rattle.cpg_run.specs.Carrying.{CarryingTablesAreLawful, ListedRowsCarry};
+ghost use Rattle.cpg_run.specs.Found.{FoundRowsAreWritable, FoundTablesAreBuilt};
+ghost use Rattle.cpg_run.specs.RowLaws.{CarriedDecides, CarriedRestsOnEarlier, EntriesHaveTimes, RowsHaveTimes};
 
 /// What is carried beside a time is found in the rows of earlier processes alone.
 pub fn carried_rests_on_earlier()
@@ -22,17 +24,22 @@ pub fn rows_have_times()
     ensures { RowsHaveTimes }
 {}
 
-/// The cubes of tables that have rows as their columns speak only of what their node has heard because the time waited for it.
-pub fn row_tables_are_supported()
-    ensures { RowTablesAreSupported }
+/// Tables whose rows carry no more than they may are exact and keep the rules.
+pub fn carrying_tables_are_lawful()
+    ensures { CarryingTablesAreLawful }
 {}
 
-/// Such tables are exact: with the times of the runs, in merged rows of literals within the reach.
-pub fn row_tables_are_exact()
-    ensures { RowTablesAreExact }
+/// The rows of groups of listed scenarios are such rows.
+pub fn listed_rows_carry()
+    ensures { ListedRowsCarry }
 {}
 
-/// They keep every rule on times, the one on dues where no run has an end past its due.
-pub fn row_tables_keep_rules()
-    ensures { RowTablesKeepRules }
+/// Rows that carry no more than they may can be written as tables where no item is too wide.
+pub fn found_rows_are_writable()
+    ensures { FoundRowsAreWritable }
+{}
+
+/// Their tables, with the greatest finish and excess of the runs, are what a builder answers.
+pub fn found_tables_are_built()
+    ensures { FoundTablesAreBuilt }
 {}

@@ -1,7 +1,7 @@
 use Rattle.std.proofs.Common.{get_or}
 use Rattle.std.proofs.lemmas.List.Elements.{Contains-get_or}
 use Rattle.cpg_list.specs.Learning.{heard_of}
-use Rattle.cpg_list.specs.Made.{columns_of_rows}
+use Rattle.cpg_run.specs.Found.{columns_of_rows}
 use Rattle.cpg_list.proofs.CodeCubes.{narrowed_none}
 use Rattle.cpg_list.proofs.CodeTold.{narrowed_flat_map}
 use Rattle.cpg_list.proofs.learning.narrow_by_conditions.Goals as goal

@@ -1,6 +1,6 @@
 use Rattle.std.proofs.Common.{◌∙◌, sym, ap, subst}
 use Rattle.cpg_run.specs.Carried.{row_at}
-use Rattle.cpg_list.specs.Made.{columns_of_rows}
+use Rattle.cpg_run.specs.Found.{columns_of_rows}
 use Rattle.cpg_list.specs.Narrowing.{met, told_in, IsNarrowed}
 use Rattle.cpg_list.proofs.CodeCubes.{met_narrowed}
 use Rattle.cpg_list.proofs.CodeTold.{told_highs}

@@ -4,7 +4,7 @@ use Rattle.cpg_base.specs.Numbers.{numbers_below}
 use Rattle.cpg_base.proofs.Lists.{Contains-filter_parts, numbers-Contains}
 use Rattle.cpg_order.specs.Deciding.{decides, deciding}
 use Rattle.cpg_list.specs.Learning.{heard_of}
-use Rattle.cpg_list.specs.Made.{columns_of_rows}
+use Rattle.cpg_run.specs.Found.{columns_of_rows}
 use Rattle.cpg_list.specs.Narrowing.{IsNarrowed}
 use Rattle.cpg_list.proofs.CodeCubes.{narrowed_same}
 use Rattle.cpg_list.proofs.CodeTold.{within_flat_map}

@@ -1,6 +1,6 @@
 use Rattle.std.proofs.Common.{flat_map, take}
 use Rattle.cpg_list.specs.Learning.{received_by}
-use Rattle.cpg_list.specs.Made.{columns_of_rows}
+use Rattle.cpg_run.specs.Found.{columns_of_rows}
 use Rattle.cpg_list.specs.Narrowing.{IsNarrowed}
 use Rattle.cpg_list.proofs.learning.narrow_by_inputs.Given as goal
 

@@ -5,7 +5,8 @@ use Rattle.cpg_order.specs.Queue.{queued_before}
 use Rattle.cpg_order.specs.Urgency.{place}
 use Rattle.cpg_table.specs.Table.{Row}
 use Rattle.cpg_bus.specs.Plan.{queue_of}
-use Rattle.cpg_list.specs.Made.{columns_of_rows, queued_by, sent_before, AreCubesOf, AreEndsOf, AreMade, IsSent, IsRowSet}
+use Rattle.cpg_list.specs.Made.{queued_by, sent_before, AreCubesOf, AreEndsOf, AreMade, IsSent, IsRowSet}
+use Rattle.cpg_run.specs.Found.{columns_of_rows}
 use Rattle.cpg_run.specs.Rows.{AreEntriesOf}
 use Rattle.cpg_list.proofs.CodeMade.{timed_of, count_of, mergeable, same_before, one_made, made_same}
 use Rattle.cpg_list.proofs.CodeQueue.{queued_members, nth_queued, nth_place, nth_within, nth_earlier, nth_late, nth_new, before_to, before_from, next_to, next_from, sent_next, sent_back, queue_early, all_to, all_from, made_next}

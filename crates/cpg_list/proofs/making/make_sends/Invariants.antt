@@ -2,7 +2,8 @@ use Rattle.std.proofs.Common.{◌++◌, take}
 use Rattle.cpg_base.specs.Graph.{node_of}
 use Rattle.cpg_order.specs.Urgency.{place}
 use Rattle.cpg_bus.specs.Plan.{queue_of}
-use Rattle.cpg_list.specs.Made.{columns_of_rows, queued_by, sent_before, AreCubesOf, AreMade, IsSent}
+use Rattle.cpg_list.specs.Made.{queued_by, sent_before, AreCubesOf, AreMade, IsSent}
+use Rattle.cpg_run.specs.Found.{columns_of_rows}
 use Rattle.cpg_run.specs.RowLaws.{SameRowsBefore}
 use Rattle.cpg_list.proofs.making.make_sends.Given as goal
 

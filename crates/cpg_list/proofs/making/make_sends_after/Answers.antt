@@ -1,6 +1,6 @@
 use Rattle.std.proofs.Common.{◌≡◌, ◌∙◌, true, false, sym, ap}
 use Rattle.cpg_base.specs.Graph.{Graph, process_at, is_frozen}
-use Rattle.cpg_list.specs.Made.{columns_of_rows}
+use Rattle.cpg_run.specs.Found.{columns_of_rows}
 use Rattle.cpg_list.proofs.CodeQueue.{ends_plain, ends_frozen}
 use Rattle.cpg_list.proofs.CodeStarts.{frozen_start}
 use Rattle.cpg_list.proofs.making.make_sends_after.Goals as goal

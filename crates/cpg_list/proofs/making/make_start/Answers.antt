@@ -5,7 +5,8 @@ use Rattle.cpg_order.specs.Urgency.{place, before_on_node}
 use Rattle.cpg_run.specs.Run.{Times, IsRun}
 use Rattle.cpg_table.specs.Table.{Row}
 use Rattle.cpg_list.specs.Learning.{AreTold}
-use Rattle.cpg_list.specs.Made.{columns_of_rows, passed_by, AreCubesOf, IsBefore}
+use Rattle.cpg_list.specs.Made.{passed_by, AreCubesOf, IsBefore}
+use Rattle.cpg_run.specs.Found.{columns_of_rows}
 use Rattle.cpg_run.specs.Rows.{AreEntriesOf}
 use Rattle.cpg_list.proofs.CodeMade.{timed_of, count_of, told_from, mergeable, same_before, one_made}
 use Rattle.cpg_list.proofs.CodeQueue.{start_by, own_early}

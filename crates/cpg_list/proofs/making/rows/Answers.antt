@@ -3,7 +3,8 @@ use Rattle.cpg_base.specs.Graph.{Graph, process_count, item_count}
 use Rattle.cpg_base.specs.Numbers.{numbers_below}
 use Rattle.cpg_table.specs.Table.{Row}
 use Rattle.cpg_run.specs.Rows.{AreRows}
-use Rattle.cpg_list.specs.Made.{columns_of_rows, AreMade, IsBefore}
+use Rattle.cpg_list.specs.Made.{AreMade, IsBefore}
+use Rattle.cpg_run.specs.Found.{columns_of_rows}
 use Rattle.cpg_list.proofs.CodeFirst.{blank, none_made, none_carried, all_rows}
 use Rattle.cpg_list.proofs.making.rows.Goals as goal
 

@@ -1,4 +1,5 @@
-use Rattle.cpg_list.specs.Made.{columns_of_rows, AreCarried, AreMade, IsBefore}
+use Rattle.cpg_list.specs.Made.{AreCarried, AreMade, IsBefore}
+use Rattle.cpg_run.specs.Found.{columns_of_rows}
 use Rattle.cpg_list.proofs.making.rows.Given as goal
 
 abbrev pub invariant-loop-place : goal.invariant-loop-place

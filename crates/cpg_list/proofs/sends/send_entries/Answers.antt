@@ -2,7 +2,8 @@ use Rattle.std.proofs.Common.{◌≡◌, ◌++◌, ◌∷◌, [], get_or, take, 
 use Rattle.std.proofs.lemmas.List.{take_all}
 use Rattle.cpg_order.specs.Queue.{queued_before}
 use Rattle.cpg_run.specs.Carried.{queued, carried_at_end}
-use Rattle.cpg_list.specs.Made.{columns_of_rows, queued_by, AreCubesOf, AreEndsOf}
+use Rattle.cpg_list.specs.Made.{queued_by, AreCubesOf, AreEndsOf}
+use Rattle.cpg_run.specs.Found.{columns_of_rows}
 use Rattle.cpg_list.specs.Narrowing.{IsKeptAt, IsNarrowed}
 use Rattle.cpg_run.specs.Rows.{IsCubeOf}
 use Rattle.cpg_list.proofs.CodeStarts.{timed_here, found_more, cube_here, none_done, all_done, one_done, flat_map_push}

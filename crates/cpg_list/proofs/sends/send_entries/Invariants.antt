@@ -1,6 +1,7 @@
 use Rattle.std.proofs.Common.{◌++◌, ◌∷◌, [], take}
 use Rattle.cpg_order.specs.Queue.{queued_before}
-use Rattle.cpg_list.specs.Made.{columns_of_rows, queued_by, AreCubesUpTo}
+use Rattle.cpg_list.specs.Made.{queued_by, AreCubesUpTo}
+use Rattle.cpg_run.specs.Found.{columns_of_rows}
 use Rattle.cpg_run.proofs.EntriesFound.{AreEntriesAmong}
 use Rattle.cpg_list.proofs.sends.send_entries.Given as goal
 

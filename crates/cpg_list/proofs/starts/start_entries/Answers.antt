@@ -2,7 +2,8 @@ use Rattle.std.proofs.Common.{◌≡◌, ◌++◌, ◌∷◌, [], get_or, take, 
 use Rattle.std.proofs.lemmas.List.{take_all}
 use Rattle.cpg_order.specs.Urgency.{before_on_node}
 use Rattle.cpg_run.specs.Carried.{passed}
-use Rattle.cpg_list.specs.Made.{columns_of_rows, passed_by, AreCubesOf}
+use Rattle.cpg_list.specs.Made.{passed_by, AreCubesOf}
+use Rattle.cpg_run.specs.Found.{columns_of_rows}
 use Rattle.cpg_list.specs.Narrowing.{IsKeptAt}
 use Rattle.cpg_run.specs.Rows.{IsCubeOf}
 use Rattle.cpg_run.proofs.CarriedBefore.{hears_earlier, receives_earlier}

@@ -1,6 +1,7 @@
 use Rattle.std.proofs.Common.{◌++◌, ◌∷◌, [], take}
 use Rattle.cpg_order.specs.Urgency.{before_on_node}
-use Rattle.cpg_list.specs.Made.{columns_of_rows, passed_by, AreCubesUpTo}
+use Rattle.cpg_list.specs.Made.{passed_by, AreCubesUpTo}
+use Rattle.cpg_run.specs.Found.{columns_of_rows}
 use Rattle.cpg_run.proofs.EntriesFound.{AreEntriesAmong}
 use Rattle.cpg_list.proofs.starts.start_entries.Given as goal
 

@@ -4,7 +4,7 @@ use Rattle.cpg_base.specs.Activity.{active}
 use Rattle.cpg_order.specs.Deciding.{deciding}
 use Rattle.cpg_run.specs.Carried.{decided, heard, number_known}
 use Rattle.cpg_list.specs.Learning.{IsTold, start_after, received_unless_frozen}
-use Rattle.cpg_list.specs.Made.{columns_of_rows}
+use Rattle.cpg_run.specs.Found.{columns_of_rows}
 use Rattle.cpg_list.specs.Narrowing.{IsNarrowed, IsKeptOf, IsKeptAt}
 use Rattle.cpg_run.specs.Rows.{IsCubeOf}
 use Rattle.cpg_list.proofs.CodeCubes.{narrowed_then}

@@ -1,7 +1,7 @@
 use Rattle.std.proofs.Common.{◌≡◌, ◌∙◌, ◌++◌, false, sym, subst}
 use Rattle.cpg_base.specs.Graph.{process_at}
 use Rattle.cpg_run.specs.Carried.{decided, heard, received}
-use Rattle.cpg_list.specs.Made.{columns_of_rows}
+use Rattle.cpg_run.specs.Found.{columns_of_rows}
 use Rattle.cpg_list.specs.Narrowing.{IsKeptOf}
 use Rattle.cpg_list.proofs.CodeStarts.{kept_of, frozen_start, start_plain}
 use Rattle.cpg_list.proofs.starts.started.Goals as goal

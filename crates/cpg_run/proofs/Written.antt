@@ -1,49 +1,42 @@
--- Rows that have the times of the runs can be written as tables.
+-- Rows that carry no more than they may can be written as tables, and these are lawful.
 use Rattle.std.proofs.Common.{◌≡◌, ◌≢◌, ℕ, zero, suc, ◌+◌, ◌*◌, ◌^◌, ◌<◌, ◌≤◌, Bool, true, false, ◌&&◌, nat_lt, List, [], ◌∷◌, ◌++◌, Option, Some, None, length, get_or, filter, sum_by, unwrap_or, All, Contains, refl, sym, ap, ◌∙◌, subst, arith, inl, inr, append-nil, eq-eqb, ne_eqb, lt-ltb, le-ltb, cond, ◌⊎◌, flat_map}
-use Rattle.std.proofs.lemmas.Bool.{cases_lt, cond-true, cond-false, and_from, or_left, or_right}
+use Rattle.std.proofs.lemmas.Bool.{cases_lt, cond-true, cond-false, and_from, or_left, or_right, both_ways}
 use Rattle.std.proofs.lemmas.List.{length-map, get_or-map, get_or_past}
 use Rattle.std.proofs.lemmas.List.Elements.{All-contains, All-from_get_or, Contains-get_or}
+use Rattle.std.proofs.lemmas.List.FromFn.{length-range_with_len, get_or-range_with_len}
+use Rattle.std.proofs.lemmas.List.Sums.{sum_by_push}
+use Rattle.std.proofs.Math.Nat.{mul-le-mul}
 use Rattle.cpg_base.specs.Numbers.{numbers_below}
 use Rattle.cpg_base.specs.declared.limits.TheConstants.{MOST_COLUMNS, MOST_LOAD}
 use Rattle.cpg_base.specs.Graph.{Graph, process_count, item_count, item_at, is_sent, is_sent_item, process_of}
 use Rattle.cpg_base.specs.declared.item.Item.TheVariants.{Message}
 use Rattle.cpg_base.specs.Activity.{item_active, live, active}
 use Rattle.cpg_base.specs.Limits.{IsWithinLimits}
+use Rattle.cpg_base.specs.Variable.{top}
 use Rattle.cpg_base.proofs.Items.{item_cases, ItemCases}
 use Rattle.cpg_base.proofs.Lists.{Contains-filter, Contains-map, in_option, from_all, numbers-Contains, below_push}
 use Rattle.cpg_base.proofs.Sums.{sum_by-le_each}
-use Rattle.std.proofs.lemmas.List.FromFn.{length-range_with_len, get_or-range_with_len}
-use Rattle.std.proofs.lemmas.List.Sums.{sum_by_push}
-use Rattle.std.proofs.Math.Nat.{mul-le-mul}
 use Rattle.cpg_cube.specs.Cube.{matches, holds, is_whole}
-use Rattle.cpg_base.specs.Variable.{top}
-use Rattle.cpg_cube.specs.declared.literal.Literal.{Literal}
 use Rattle.cpg_cube.specs.Fit.{IsCube}
+use Rattle.cpg_cube.specs.declared.literal.Literal.{Literal}
 use Rattle.cpg_cube.proofs.CubeLows.{holds-low, holds-high}
 use Rattle.cpg_order.specs.Scenario.{Scenario, IsScenario}
-use Rattle.cpg_order.specs.Reach.{Reach, IsReach, reach_of, views, load, rows_of_item, most_views, most_loads}
+use Rattle.cpg_order.specs.Reach.{Reach, IsReach, reach_of, views, load, rows_of_item, is_too_wide, most_views, most_loads}
 use Rattle.cpg_order.proofs.ReachExists.{some_reach}
-use Rattle.cpg_reach.specs.Wide.{IsWide, IsNarrow}
-use Rattle.cpg_table.specs.Merged.{IsLeastMatch, IsMergeOf}
+use Rattle.cpg_table.specs.Merged.{IsLeastMatch}
 use Rattle.cpg_table.specs.Table.{Column, Row, NodeTable, columns_in, columns_of}
-use Rattle.cpg_run.specs.Alike.{Admitted}
-use Rattle.cpg_run.specs.Exact.{IsExact}
-use Rattle.cpg_run.specs.Laws.{Keeps, NothingIsLate}
-use Rattle.cpg_run.proofs.RunExists.{a_run}
-use Rattle.cpg_run.proofs.RowLaw.{columns_within_views}
-use Rattle.cpg_run.proofs.RowRules.{row_keeps}
-use Rattle.cpg_run.specs.Known.{AreSmall}
-use Rattle.cpg_run.proofs.Small.{run_small}
-use Rattle.cpg_run.specs.Carried.{row_at}
-use Rattle.cpg_run.specs.Rows.{IsRowOf}
-use Rattle.cpg_run.specs.RowLaws.{IsTimed, HaveTimesOf, AreTablesOfRows}
-use Rattle.cpg_run.proofs.RowTables.{row_tables_are_exact, row_tables_keep_rules}
-use Rattle.cpg_run.proofs.RowsTimed.{rows_have_times}
 use Rattle.cpg_table.specs.Writing.{row_for, IsWritable, AreWritable}
-use Rattle.cpg_table.specs.declared.rule.Rule.{Rule}
-use Rattle.cpg_list.specs.Made.{columns_of_rows}
-use Rattle.cpg_list.specs.Found.{AreRowsFound}
 use Rattle.cpg_table.proofs.NodeRows.{no_row}
+use Rattle.cpg_run.specs.Alike.{Admitted}
+use Rattle.cpg_run.specs.Carried.{row_at}
+use Rattle.cpg_run.specs.Carrying.{IsCarryingRow, AreTablesCarrying, AreExactAndLawful}
+use Rattle.cpg_run.specs.Found.{columns_of_rows, AreRowsFound, NoneIsTooWide, FoundRowsAreWritable}
+use Rattle.cpg_run.specs.Known.{AreSmall}
+use Rattle.cpg_run.specs.RowLaws.{IsTimed}
+use Rattle.cpg_run.proofs.CarryingTables.{carrying_tables_are_lawful}
+use Rattle.cpg_run.proofs.CarryingTimed.{never_columns}
+use Rattle.cpg_run.proofs.RunExists.{a_run}
+use Rattle.cpg_run.proofs.Small.{run_small}
 
 -- ---- rows as tables
 
@@ -63,11 +56,11 @@ columns_nowhere [] x h = refl
 columns_nowhere (row ∷ rows) x h = cond-false _ _ _ (ne_eqb row.item x (h 0 (omega arith))) ∙ columns_nowhere rows x (λ i m. h (suc i) (omega arith))
 
 -- one table that has all rows, as if they were starts
-abbrev pub one_table : List Row → List NodeTable
+abbrev one_table : List Row → List NodeTable
 one_table rows = record { faults = 0; first_broadcast = 0; own = []; starts = rows; sends = []; hears = [] } ∷ []
 
 -- the columns at the number of an item
-pub columns_at : (rows : List Row) (x : ℕ) → row_at (columns_of_rows rows) x ≡ (row_for rows x).columns
+columns_at : (rows : List Row) (x : ℕ) → row_at (columns_of_rows rows) x ≡ (row_for rows x).columns
 columns_at rows x = elim (cases_lt x (length rows)) [
   | inl l ↦ get_or-map (λ (row : Row). row.columns) rows x no_row [] l
   | inr past ↦ get_or_past (columns_of_rows rows) x [] (omega (arith, past, length-map rows (λ (row : Row). row.columns))) ∙ sym (ap (λ (row : Row). row.columns) (get_or_past rows x no_row past))
@@ -89,21 +82,11 @@ module _ (g : Graph) (within : IsWithinLimits g) (urgency order : List ℕ) (adm
   -- ---- tables with these rows
 
   module _ (tables : List NodeTable) (have : (x : ℕ) → columns_of tables x ≡ (row_for rows x).columns) where
-    pub of_rows : AreTablesOfRows g urgency order frozen columns tables
+    of_rows : AreTablesCarrying g urgency order frozen columns tables
     of_rows = record { timed = timed; found = is.found; columns = λ x. have x ∙ sym (columns_at rows x) }
 
-    pub exact : (r : Reach) → IsReach g order r → IsExact g urgency order frozen r tables
-    exact r reached = row_tables_are_exact g urgency order frozen columns tables r of_rows reached
-
-    pub rules : (rule : Rule) → rule ≢ Rule.Due → Keeps rule g tables
-    rules = (row_tables_keep_rules g urgency order frozen columns tables of_rows).0
-
-    pub dues : NothingIsLate g order frozen → Keeps Rule.Due g tables
-    dues = (row_tables_keep_rules g urgency order frozen columns tables of_rows).1
-
-    pub within_views : (r : Reach) → IsReach g order r → (x : ℕ) → x < item_count g → length (columns_of tables x) ≤ views g (reach_of r x)
-    within_views r reached x l = columns_within_views g within.few_processes (reach_of r x) urgency (columns_of tables x) ((exact r reached).formed x l)
-        (row_keeps g tables x (λ s i lawful. (rules Rule.Activity (λ e. cc) s lawful x l (Some i), rules Rule.Single (λ e. cc) s lawful x l (Some i))))
+    pub lawful : (r : Reach) → IsReach g order r → AreExactAndLawful g urgency order frozen r tables
+    lawful r reached = carrying_tables_are_lawful g urgency order frozen columns tables r of_rows reached
 
   -- ---- the rows themselves
 
@@ -118,40 +101,34 @@ module _ (g : Graph) (within : IsWithinLimits g) (urgency order : List ℕ) (adm
   ]
 
   row_views : (r : Reach) → IsReach g order r → (x : ℕ) → x < item_count g → length (row_for rows x).columns ≤ views g (reach_of r x)
-  row_views r reached x l = subst (λ cs. length cs ≤ views g (reach_of r x)) (one_has x) (within_views (one_table rows) one_has r reached x l)
-
-  row_is : (x : ℕ) → x < item_count g → IsRowOf g urgency order frozen columns x
-  row_is x l = is.found.each x l
-
-  merge_of : (x : ℕ) → (l : x < item_count g) → IsMergeOf g urgency (row_is x l).entries (row_for rows x).columns
-  merge_of x l = subst (IsMergeOf g urgency (row_is x l).entries) (columns_at rows x) (row_is x l).merge
-
-  times_of : (x : ℕ) → HaveTimesOf g order frozen x (row_for rows x).columns
-  times_of x = subst (HaveTimesOf g order frozen x) (columns_at rows x) (rows_have_times g urgency order frozen columns timed is.found x).0
+  row_views r reached x l = subst (λ cs. length cs ≤ views g (reach_of r x)) (one_has x) ((lawful (one_table rows) one_has r reached).views within.few_processes x l)
 
   -- a column has the time of a run
-  column_time : (x : ℕ) (c : Column) → Contains (row_for rows x).columns c → (s : Scenario) → IsScenario g s → matches c.cube s ≡ true → c.time < 2 ^ 59
-  column_time x c k s lawful m =
+  column_time : (x : ℕ) → x < item_count g → (c : Column) → Contains (row_at columns x) c → (s : Scenario) → IsScenario g s → matches c.cube s ≡ true → c.time < 2 ^ 59
+  column_time x l c k s lawful m =
       let r = a_run g order frozen s admitted.topological in
-      let there = Contains-map (λ (d : Column). d.time) (filter (λ (d : Column). matches d.cube s) (row_for rows x).columns) c (Contains-filter (λ (d : Column). matches d.cube s) (row_for rows x).columns c m k) in
-      let is_time : get_or r.0.times x None ≡ Some c.time = in_option (get_or r.0.times x None) c.time (subst (λ ts. Contains ts c.time) (times_of x s r.0 lawful r.1) there) in
+      let there = Contains-map (λ (d : Column). d.time) (filter (λ (d : Column). matches d.cube s) (row_at columns x)) c (Contains-filter (λ (d : Column). matches d.cube s) (row_at columns x) c m k) in
+      let is_time : get_or r.0.times x None ≡ Some c.time = in_option (get_or r.0.times x None) c.time (subst (λ ts. Contains ts c.time) ((is.found.each x l).times s r.0 lawful r.1) there) in
       let small : AreSmall r.0 = run_small g order frozen s r.0 within admitted.topological lawful is.early r.1 in
       subst (λ o. unwrap_or o 0 < 2 ^ 59) is_time (small.times x)
 
-  column_writable : (x : ℕ) → x < item_count g → (c : Column) → Contains (row_for rows x).columns c → IsWritable g c
+  column_writable : (x : ℕ) → x < item_count g → (c : Column) → Contains (row_at columns x) c → IsWritable g c
   column_writable x l c k =
-      let merge = merge_of x l in
-      let least = All-contains (λ (d : Column). (s : Scenario) × IsLeastMatch g urgency d s) (row_for rows x).columns c merge.met k in
+      let row : IsCarryingRow g urgency order frozen columns x = is.found.each x l in
+      let least = All-contains (λ (d : Column). (s : Scenario) × IsLeastMatch g urgency d s) (row_at columns x) c row.met k in
       record {
-        time = column_time x c k least.0 least.1.lawful least.1.holds;
-        cube = All-contains (λ (d : Column). IsCube g d.cube) (row_for rows x).columns c merge.cubes k;
+        time = column_time x l c k least.0 least.1.lawful least.1.holds;
+        cube = All-contains (λ (d : Column). IsCube g d.cube) (row_at columns x) c row.cubes k;
         some = λ i d h.
             let m : Literal = get_or c.cube i d in
             let holds_there : holds least.0 m ≡ true = from_all (holds least.0) c.cube m least.1.holds (Contains-get_or c.cube i d h) in
             omega (arith, holds-low least.0 m holds_there, holds-high least.0 m holds_there);
-        within = All-contains (λ (d : Column). All (λ (m : Literal). m.high ≤ top g.faults m.variable) d.cube) (row_for rows x).columns c merge.within k;
-        not_whole = All-contains (λ (d : Column). All (λ (m : Literal). is_whole g.faults m ≡ false) d.cube) (row_for rows x).columns c merge.not_whole k;
+        within = All-contains (λ (d : Column). All (λ (m : Literal). m.high ≤ top g.faults m.variable) d.cube) (row_at columns x) c row.within k;
+        not_whole = All-contains (λ (d : Column). All (λ (m : Literal). is_whole g.faults m ≡ false) d.cube) (row_at columns x) c row.not_whole k;
       }
+
+  row_writable : (x : ℕ) → x < item_count g → All (IsWritable g) (row_at columns x)
+  row_writable x l = λ i d h. column_writable x l (get_or (row_at columns x) i d) (Contains-get_or (row_at columns x) i d h)
 
   -- what is neither started nor sent has no column
   never_active : (x : ℕ) → is_sent g x ≡ false → process_count g ≤ x → ItemCases g x → (s : Scenario) → item_active g s.values (item_at g x) ≡ false
@@ -160,7 +137,7 @@ module _ (g : Graph) (within : IsWithinLimits g) (urgency order : List ℕ) (adm
   never_active x unsent later (inr (inr c)) s = ap (item_active g s.values) c.3 ∙ ap (λ b. b && active g s.values (process_of g c.0)) (sym (ap (is_sent_item g) c.3) ∙ unsent)
 
   unsent_row : (x : ℕ) → process_count g ≤ x → x < item_count g → is_sent g x ≡ false → (row_for rows x).columns ≡ []
-  unsent_row x later l unsent = sym (columns_at rows x) ∙ (rows_have_times g urgency order frozen columns timed is.found x).1 (λ s lawful. never_active x unsent later (item_cases g x l) s)
+  unsent_row x later l unsent = sym (columns_at rows x) ∙ never_columns g urgency order frozen timed columns is.found x (λ s lawful. never_active x unsent later (item_cases g x l) s)
 
   -- an item that stands in no row is neither started nor sent
   rowless : (x : ℕ) → ItemCases g x → rows_of_item g (item_at g x) ≤ 0 → (process_count g ≤ x) × (is_sent g x ≡ false)
@@ -178,30 +155,23 @@ module _ (g : Graph) (within : IsWithinLimits g) (urgency order : List ℕ) (adm
 
   -- ---- how many columns there are
 
-  module _ (narrow : IsNarrow g order) where
+  module _ (narrow : NoneIsTooWide g order) where
     abbrev reach : Reach
     reach = (some_reach g order admitted.topological).0
 
     reached : IsReach g order reach
     reached = (some_reach g order admitted.topological).1
 
-    wide_by_views : (x : ℕ) → x < item_count g → 0 < rows_of_item g (item_at g x) → most_views < views g (reach_of reach x) → IsWide g order x
-    wide_by_views x l some many = record {
-      reach = reach;
-      reached = reached;
-      within = l;
-      wide = and_from (nat_lt 0 (rows_of_item g (item_at g x))) _ (lt-ltb 0 (rows_of_item g (item_at g x)) some)
-          (or_left (nat_lt most_views (views g (reach_of reach x))) _ (lt-ltb most_views (views g (reach_of reach x)) many));
-    }
+    wide_by_views : (x : ℕ) → 0 < rows_of_item g (item_at g x) → most_views < views g (reach_of reach x) → is_too_wide g reach x ≡ true
+    wide_by_views x some many = and_from (nat_lt 0 (rows_of_item g (item_at g x))) _ (lt-ltb 0 (rows_of_item g (item_at g x)) some)
+        (or_left (nat_lt most_views (views g (reach_of reach x))) _ (lt-ltb most_views (views g (reach_of reach x)) many))
 
-    wide_by_loads : (x : ℕ) → x < item_count g → 0 < rows_of_item g (item_at g x) → most_loads < sum_by (load g reach) (numbers_below (x + 1)) → IsWide g order x
-    wide_by_loads x l some many = record {
-      reach = reach;
-      reached = reached;
-      within = l;
-      wide = and_from (nat_lt 0 (rows_of_item g (item_at g x))) _ (lt-ltb 0 (rows_of_item g (item_at g x)) some)
-          (or_right (nat_lt most_views (views g (reach_of reach x))) _ (lt-ltb most_loads (sum_by (load g reach) (numbers_below (x + 1))) many));
-    }
+    wide_by_loads : (x : ℕ) → 0 < rows_of_item g (item_at g x) → most_loads < sum_by (load g reach) (numbers_below (x + 1)) → is_too_wide g reach x ≡ true
+    wide_by_loads x some many = and_from (nat_lt 0 (rows_of_item g (item_at g x))) _ (lt-ltb 0 (rows_of_item g (item_at g x)) some)
+        (or_right (nat_lt most_views (views g (reach_of reach x))) _ (lt-ltb most_loads (sum_by (load g reach) (numbers_below (x + 1))) many))
+
+    not_wide : (x : ℕ) → x < item_count g → is_too_wide g reach x ≡ true → ⊥
+    not_wide x l wide = both_ways (is_too_wide g reach x) (narrow reach reached x l) wide
 
     -- an item that has no row has no load
     no_load : (x : ℕ) → rows_of_item g (item_at g x) ≡ 0 → load g reach x ≡ 0
@@ -216,7 +186,7 @@ module _ (g : Graph) (within : IsWithinLimits g) (urgency order : List ℕ) (adm
         (elim (cases_lt 0 (rows_of_item g (item_at g n))) [
           | inr none ↦ omega (arith, more, before, no_load n (omega (arith, none)))
           | inl some ↦ elim (cases_lt most_loads (sum_by (load g reach) (numbers_below (n + 1)))) [
-            | inl many ↦ absurd (narrow n (wide_by_loads n (omega arith) some many))
+            | inl many ↦ absurd (not_wide n (omega arith) (wide_by_loads n some many))
             | inr few ↦ few
           ]
         ])
@@ -224,7 +194,7 @@ module _ (g : Graph) (within : IsWithinLimits g) (urgency order : List ℕ) (adm
     row_few : (x : ℕ) → x < item_count g → length (row_for rows x).columns ≤ MOST_COLUMNS
     row_few x l = elim (cases_lt 0 (rows_of_item g (item_at g x))) [
       | inl some ↦ elim (cases_lt most_views (views g (reach_of reach x))) [
-        | inl many ↦ absurd (narrow x (wide_by_views x l some many))
+        | inl many ↦ absurd (not_wide x l (wide_by_views x some many))
         | inr few ↦ omega (arith, row_views reach reached x l, few)
       ]
       | inr none ↦ let none_here = rowless x (item_cases g x l) none in omega (arith, ap length (unsent_row x none_here.0 l none_here.1))
@@ -238,12 +208,15 @@ module _ (g : Graph) (within : IsWithinLimits g) (urgency order : List ℕ) (adm
           (λ x c. mul-le-mul (row_views reach reached x (numbers-Contains (item_count g) x c)) (let e : rows_of_item g (item_at g x) ≤ rows_of_item g (item_at g x) = omega arith in e)),
     )
 
-    pub are_writable : AreWritable g rows
-    are_writable = record {
+    writable : AreWritable g rows
+    writable = record {
       items = is.items;
       lawful = All-from_get_or (λ (row : Row). All (IsWritable g) row.columns) rows no_row
-          (λ x l d i h. let m : x < item_count g = omega (arith, l, long) in column_writable x m _ (Contains-get_or (row_for rows x).columns _ _ h));
+          (λ x l. subst (All (IsWritable g)) (columns_at rows x) (row_writable x (omega (arith, l, long))));
       few = All-from_get_or (λ (row : Row). length row.columns ≤ MOST_COLUMNS) rows no_row (λ x l. row_few x (omega (arith, l, long)));
       loads = loads;
       unsent = unsent_row;
     }
+
+pub found_rows_are_writable : FoundRowsAreWritable
+found_rows_are_writable g urgency order frozen rows within admitted is narrow = writable g within urgency order admitted frozen rows is narrow

@@ -1,13 +1,13 @@
--- The literals of rows are on variables of their items' reach.
+-- The literals of carrying rows are on variables of their items' reach.
 use Rattle.std.proofs.Common.{ℕ, zero, suc, ◌<◌, ◌≤◌, ◌≡◌, ◌==◌, true, false, if◌then◌else◌, List, [], ◌∷◌, ◌++◌, map, flat_map, Contains, Option, arith, refl, sym, ap, ◌∙◌, subst, inl, inr, eq-eqb, eqb-true, true≢false}
-use Rattle.std.proofs.lemmas.Bool.{cases_Bool, cond-true, cond-false, and_parts}
-use Rattle.std.proofs.lemmas.List.Elements.{Contains-append_left, Contains-append_right}
+use Rattle.std.proofs.lemmas.Bool.{cases_Bool, cond-true, cond-false, and_parts, both_ways}
+use Rattle.std.proofs.lemmas.List.Elements.{All-contains, Contains-append_left, Contains-append_right}
 use Rattle.cpg_base.specs.Numbers.{numbers_below}
 use Rattle.cpg_base.specs.Graph.{Graph, process_count, condition_count, item_count, item_at, process_at, node_of, source, inputs, is_message, is_sent, is_sent_item, is_frozen, message_item, broadcast_item, producer, producer_of_item, process_of, value_variable}
 use Rattle.cpg_base.specs.declared.item.Item.{Item}
 use Rattle.cpg_base.specs.declared.item.Item.TheVariants.{Start, Message, Broadcast}
 use Rattle.cpg_base.specs.Activity.{active, live, item_active}
-use Rattle.cpg_base.proofs.Lists.{Contains-first, Contains-rest, Contains-map, Contains-filter_parts, Contains-flat_map, numbers-Contains, list_any_true, list_any_parts}
+use Rattle.cpg_base.proofs.Lists.{Contains-first, Contains-rest, Contains-map, Contains-filter_parts, Contains-flat_map, numbers-Contains, list_any_true, list_any_parts, from_any_false}
 use Rattle.cpg_base.proofs.Items.{item_cases, item_at-start}
 use Rattle.cpg_order.specs.Deciding.{decides, deciding, conditions_of}
 use Rattle.cpg_order.specs.Queue.{queued_before}
@@ -19,17 +19,44 @@ use Rattle.cpg_order.proofs.Moments.{producer_in_range}
 use Rattle.cpg_order.proofs.Queues.{queued_parts}
 use Rattle.cpg_cube.specs.declared.literal.Literal.{Literal}
 use Rattle.cpg_cube.specs.Fit.{lows}
+use Rattle.cpg_cube.specs.Cube.{IsRising, is_whole}
+use Rattle.cpg_base.specs.Variable.{top}
+use Rattle.cpg_cube.specs.Fit.{IsCube}
+use Rattle.cpg_cube.proofs.Ranges.{narrow, range_of_literal}
+use Rattle.cpg_table.specs.Heard.{kept_low, kept_high}
+use Rattle.cpg_table.specs.Merged.{IsLeastMatch}
 use Rattle.cpg_table.specs.Table.{Column}
+use Rattle.cpg_run.proofs.Hearing.{kept_low_below, kept_high_above}
+use Rattle.cpg_run.specs.Carrying.{ContainsKept}
+use Rattle.cpg_run.proofs.CarryingTimed.{carrying_active}
+use Rattle.std.specs.Prelude.{All}
+use Rattle.std.specs.List.{list_any}
 use Rattle.cpg_run.specs.Supported.{up_to}
 use Rattle.cpg_run.proofs.Awaited.{up_to_parts, up_to_cases}
 use Rattle.cpg_run.specs.Carried.{row_at, number_known, carried, carried_by_item}
-use Rattle.cpg_run.specs.Rows.{AreRows}
+use Rattle.cpg_run.specs.Carrying.{AreCarrying}
 use Rattle.cpg_run.specs.RowLaws.{IsTimed, IsEarlier}
 use Rattle.cpg_run.proofs.CarriedBefore.{hears_earlier, receives_earlier}
 use Rattle.cpg_run.proofs.CarriedFrom.{FromRow, FromValue, FromProcess, by_value, by_broadcast, by_message, by_count, FromStart, own, more, FromEnd, from_start, its_count, FromSent, FromQueued, left_value, left_sent, left_end, FromSend, of_producer, of_queue, of_end, of_value, from_start_of, from_send_of}
 use Rattle.cpg_run.proofs.Queued.{producer_no_later}
 
-module _ (g : Graph) (urgency order : List ℕ) (frozen : List (Option ℕ)) (timed : IsTimed g urgency order frozen) (rows : List (List Column)) (all : AreRows g urgency order frozen rows) (r : Reach) (is : IsReach g order r) where
+-- a literal that isn't whole, in a cube that contains what literals leave, is on a variable of which one of these speaks
+narrower_spoken : (k : ℕ) (cube : List Literal) (m : Literal) → IsRising cube → Contains cube m → is_whole k m ≡ false → m.high ≤ top k m.variable → (literals : List Literal) → ContainsKept k cube literals →
+    (l : Literal) × Contains literals l × (l.variable ≡ m.variable)
+narrower_spoken k cube m rising i part within literals kept = elim (cases_Bool (list_any (λ (l : Literal). l.variable == m.variable) literals)) [
+  | inl t ↦ let f = list_any_parts (λ (l : Literal). l.variable == m.variable) literals t in (f.0, f.1, eqb-true _ _ f.2)
+  | inr f ↦
+      let other : (l : Literal) → Contains literals l → l.variable ≡ m.variable → ⊥ = λ l j e. both_ways (l.variable == m.variable) (from_any_false (λ (l : Literal). l.variable == m.variable) literals l f j) (eq-eqb _ _ e) in
+      let low : kept_low literals m.variable ≤ 0 = kept_low_below literals m.variable 0 (λ l j e. absurd (other l j e)) in
+      let high : top k m.variable ≤ kept_high k literals m.variable = kept_high_above literals m.variable k (top k m.variable) (omega arith) (λ l j e. absurd (other l j e)) in
+      let range = range_of_literal k cube m rising i in
+      absurd (elim (narrow k m part within) [
+        | inl up ↦ omega (arith, range.0, kept.low m.variable, low, up)
+        | inr down ↦ omega (arith, range.1, kept.high m.variable, high, down)
+      ])
+]
+
+module _ (g : Graph) (urgency order : List ℕ) (frozen : List (Option ℕ)) (timed : IsTimed g urgency order frozen) (rows : List (List Column)) (all : AreCarrying g urgency order frozen rows) (r : Reach) (is : IsReach g order r) where
   -- what the rules say is in a reach
   by_rule : (x v : ℕ) → x < item_count g → Contains (reach_by_item g order r x (item_at g x)) v → Contains (reach_of r x) v
   by_rule x v l j =
@@ -191,12 +218,14 @@ module _ (g : Graph) (urgency order : List ℕ) (frozen : List (Option ℕ)) (ti
   row_speaks : (bound x : ℕ) → SpeakOfReach bound → x < item_count g → place order (producer g x) ≤ bound → (c : Column) → Contains (row_at rows x) c → (m : Literal) → Contains c.cube m → Contains (reach_of r x) m.variable
   row_speaks bound x speak l at c j m i =
       let row = all.each x l in
-      let f = row.merge.spoken c m j i in
-      let e : Column = f.1 in
-      let entry = row.are.each e f.4 in
-      let told = entry.cube.spoken f.2 f.7 in
-      let there = carried_in (lows g e.cube) entry.lawful bound speak told.0 x l at entry.active told.1 in
-      subst (Contains (reach_of r x)) (told.2 ∙ f.8) there
+      let rising = (All-contains (λ (c : Column). IsCube g c.cube) (row_at rows x) c row.cubes j).rising in
+      let part = All-contains (λ (l : Literal). is_whole g.faults l ≡ false) c.cube m (All-contains (λ (c : Column). All (λ (l : Literal). is_whole g.faults l ≡ false) c.cube) (row_at rows x) c row.not_whole j) i in
+      let within = All-contains (λ (l : Literal). l.high ≤ top g.faults l.variable) c.cube m (All-contains (λ (c : Column). All (λ (l : Literal). l.high ≤ top g.faults l.variable) c.cube) (row_at rows x) c row.within j) i in
+      let least = All-contains (λ (c : Column). (s : Scenario) × IsLeastMatch g urgency c s) (row_at rows x) c row.met j in
+      let s : Scenario = least.0 in
+      let on = (carrying_active g urgency order frozen timed rows all x c j s least.1.lawful least.1.holds).1 in
+      let told = narrower_spoken g.faults c.cube m rising i part within (carried g order rows s x) (row.carries s c least.1.lawful j least.1.holds) in
+      subst (Contains (reach_of r x)) told.2 (carried_in s least.1.lawful bound speak told.0 x l at on told.1)
 
   speak_below : (n bound : ℕ) → bound ≤ n → SpeakOfReach bound
   unfolding SpeakOfReach

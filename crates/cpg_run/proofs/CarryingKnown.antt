@@ -1,4 +1,4 @@
--- Tables that have rows as their columns have the times of the runs, and are supported: what is carried is known.
+-- Tables of carrying rows have the times of the runs, and are supported: what is carried is known.
 use Rattle.std.proofs.Common.{ℕ, ◌<◌, ◌≤◌, ◌≡◌, ◌==◌, true, false, List, length, filter, Contains, All, Option, arith, refl, sym, ap, ◌∙◌, subst, inl, inr, lt-ltb}
 use Rattle.std.proofs.lemmas.Bool.{and_parts, and_from, not_from_false, eqb-false}
 use Rattle.std.proofs.lemmas.List.Elements.{All-contains, Contains-append_left}
@@ -26,15 +26,14 @@ use Rattle.cpg_run.proofs.Hearing.{kept_grows}
 use Rattle.cpg_run.proofs.KnownRanges.{supported_from_ranges}
 use Rattle.cpg_run.proofs.Supports.{known_value, known_input, known_count, known_own_value, known_frame, known_end, known_by_end, told_cube, told_count, a_match, start_grows}
 use Rattle.cpg_run.specs.Carried.{row_at, number_known, carried, carried_by_item}
-use Rattle.cpg_run.specs.RowLaws.{AreTablesOfRows, RowTablesAreSupported}
+use Rattle.cpg_run.specs.Carrying.{AreTablesCarrying}
 use Rattle.cpg_run.proofs.CarriedFrom.{FromRow, FromValue, FromProcess, by_value, by_broadcast, by_message, by_count, FromStart, own, more, FromEnd, from_start, its_count, FromSent, FromQueued, left_value, left_sent, left_end, FromSend, of_producer, of_queue, of_end, of_value, sent_variable, from_start_of, from_send_of}
-use Rattle.cpg_run.proofs.EntriesMerge.{entry_cube}
-use Rattle.cpg_run.proofs.RowsTimed.{all_before, rows_times, column_active}
+use Rattle.cpg_run.proofs.CarryingTimed.{carrying_times, carrying_active}
 use Rattle.cpg_run.proofs.SameSends.{producer_active}
 
-module _ (g : Graph) (urgency order : List ℕ) (frozen : List (Option ℕ)) (rows : List (List Column)) (tables : List NodeTable) (z : AreTablesOfRows g urgency order frozen rows tables) where
+module _ (g : Graph) (urgency order : List ℕ) (frozen : List (Option ℕ)) (rows : List (List Column)) (tables : List NodeTable) (z : AreTablesCarrying g urgency order frozen rows tables) where
   pub run_times : HasRunTimes g order frozen tables
-  run_times s t x law run = ap (λ cs. times_in cs s) (z.columns x) ∙ rows_times g urgency order frozen z.timed rows z.found x s t law run
+  run_times s t x law run = ap (λ cs. times_in cs s) (z.columns x) ∙ carrying_times g urgency order frozen z.timed rows z.found x s t law run
 
   pub given : Given g order frozen tables
   given = record { formed = z.timed.admitted.formed; topological = z.timed.admitted.topological; frozen_times = z.timed.frozen_times; times = run_times }
@@ -115,33 +114,19 @@ module _ (g : Graph) (urgency order : List ℕ) (frozen : List (Option ℕ)) (ro
           known_by_end g order frozen tables given s law x m e (send_known x m l e on (from_send_of g order rows s z.timed.admitted.topological x m on (subst (λ i. Contains (carried_by_item g order rows s x i) m) c.3 j)))
     ]
 
-    -- a column that matches is as wide as what is carried
-    pub column_wider : (x : ℕ) (l : x < item_count g) (c : Column) → Contains (row_at rows x) c → matches c.cube s ≡ true → (v : ℕ) → (low_in c.cube v ≤ kept_low (carried g order rows s x) v) × (kept_high g.faults (carried g order rows s x) v ≤ high_in g.faults c.cube v)
-    column_wider x l c j h v =
-        let row = z.found.each x l in
-        let there = Contains-map (λ (c : Column). c.time) (filter (λ (c : Column). matches c.cube s) (row_at rows x)) c (Contains-filter (λ (c : Column). matches c.cube s) (row_at rows x) c h j) in
-        let r = Contains-map_parts (λ (c : Column). c.time) (filter (λ (c : Column). matches c.cube s) row.entries) c.time (subst (λ ns. Contains ns c.time) (row.merge.times s law) there) in
-        let q = Contains-filter_parts (λ (c : Column). matches c.cube s) row.entries r.0 r.1 in
-        let is = entry_cube g urgency order frozen rows x z.timed l (all_before g urgency order frozen z.timed rows z.found (place order (producer g x))) row.entries row.are r.0 q.0 s law q.1 in
-        let w = row.merge.wider s r.0 c law q.0 j q.1 h v in
-        (omega (arith, w.0, is.low v), omega (arith, w.1, is.high v))
-
   pub supported : Supported g order tables
   supported s law x l c j =
       let r = Contains-filter_parts (λ (c : Column). matches c.cube s) (columns_of tables x) c j in
       let here : Contains (row_at rows x) c = subst (λ cs. Contains cs c) (z.columns x) r.0 in
-      let on = (column_active g urgency order frozen z.timed rows z.found x c here s law r.1).1 in
+      let on = (carrying_active g urgency order frozen z.timed rows z.found x c here s law r.1).1 in
       let row = z.found.each x l in
       supported_from_ranges g.faults (known g order tables s x) c.cube
-      (All-contains (λ (c : Column). IsCube g c.cube) (row_at rows x) c row.merge.cubes here).rising
+      (All-contains (λ (c : Column). IsCube g c.cube) (row_at rows x) c row.cubes here).rising
       (λ k d n. (
-        All-contains (λ (c : Column). All (λ (l : Literal). is_whole g.faults l ≡ false) c.cube) (row_at rows x) c row.merge.not_whole here k d n,
-        All-contains (λ (c : Column). All (λ (l : Literal). l.high ≤ top g.faults l.variable) c.cube) (row_at rows x) c row.merge.within here k d n,
+        All-contains (λ (c : Column). All (λ (l : Literal). is_whole g.faults l ≡ false) c.cube) (row_at rows x) c row.not_whole here k d n,
+        All-contains (λ (c : Column). All (λ (l : Literal). l.high ≤ top g.faults l.variable) c.cube) (row_at rows x) c row.within here k d n,
       ))
       (λ v.
-      let w = column_wider s law x l c here r.1 v in
+      let kept = row.carries s c law here r.1 in
       let more = kept_grows g.faults (carried g order rows s x) (known g order tables s x) (λ m i. carried_is_known s law x m l on i) v in
-      (omega (arith, w.0, more.0), omega (arith, w.1, more.1)))
-
-pub row_tables_are_supported : RowTablesAreSupported
-row_tables_are_supported g urgency order frozen rows tables z = supported g urgency order frozen rows tables z
+      (omega (arith, kept.low v, more.0), omega (arith, kept.high v, more.1)))

@@ -1,0 +1,20 @@
+-- Rows of listed scenarios are rows that a builder finds.
+use Rattle.std.specs.Prelude.{ℕ, ◌≡◌, List, Option}
+use Rattle.cpg_base.specs.Numbers.{numbers_below}
+use Rattle.cpg_base.specs.Graph.{Graph, item_count}
+use Rattle.cpg_table.specs.Shape.{items_of}
+use Rattle.cpg_table.specs.Table.{Row}
+use Rattle.cpg_run.specs.Found.{columns_of_rows, AreRowsFound}
+use Rattle.cpg_run.specs.Known.{AreEarly}
+use Rattle.cpg_run.specs.RowLaws.{IsTimed}
+use Rattle.cpg_run.specs.Rows.{AreRows}
+use Rattle.cpg_run.proofs.ListedRows.{listed_rows_carry}
+
+pub found_rows : (g : Graph) (urgency order : List ℕ) (frozen : List (Option ℕ)) (rows : List Row) → IsTimed g urgency order frozen → AreEarly frozen → items_of rows ≡ numbers_below (item_count g) →
+    AreRows g urgency order frozen (columns_of_rows rows) → AreRowsFound g urgency order frozen rows
+found_rows g urgency order frozen rows timed early items are = record {
+  frozen_times = timed.frozen_times;
+  early = early;
+  items = items;
+  found = listed_rows_carry g urgency order frozen (columns_of_rows rows) timed are;
+}

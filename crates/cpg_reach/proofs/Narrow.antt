@@ -1,0 +1,12 @@
+-- Where no item is wide under an order, none is too wide by any reach.
+use Rattle.std.proofs.Common.{ℕ, ◌<◌, ◌≡◌, false, List, inl, inr}
+use Rattle.std.proofs.lemmas.Bool.{cases_Bool}
+use Rattle.cpg_base.specs.Graph.{Graph, item_count}
+use Rattle.cpg_order.specs.Reach.{Reach, IsReach, is_too_wide}
+use Rattle.cpg_reach.specs.Wide.{IsNarrow}
+
+pub none_too_wide : (g : Graph) (order : List ℕ) → IsNarrow g order → (r : Reach) → IsReach g order r → (x : ℕ) → x < item_count g → is_too_wide g r x ≡ false
+none_too_wide g order narrow r is x l = elim (cases_Bool (is_too_wide g r x)) [
+  | inl wide ↦ absurd (narrow x (record { reach = r; reached = is; within = l; wide = wide }))
+  | inr fits ↦ fits
+]

@@ -1,0 +1,49 @@
+-- The rows of groups of listed scenarios carry no more than they may; so they have the times of the runs.
+use Rattle.std.proofs.Common.{ℕ, ◌<◌, ◌≤◌, ◌≡◌, true, List, filter, Contains, Option, arith, subst}
+use Rattle.cpg_base.specs.Graph.{Graph, item_count, producer}
+use Rattle.cpg_base.proofs.Lists.{Contains-map, Contains-map_parts, Contains-filter, Contains-filter_parts}
+use Rattle.cpg_order.specs.Urgency.{place}
+use Rattle.cpg_order.specs.Scenario.{Scenario, IsScenario}
+use Rattle.cpg_cube.specs.Cube.{matches}
+use Rattle.cpg_table.specs.Table.{Column}
+use Rattle.cpg_run.specs.Carried.{row_at, carried}
+use Rattle.cpg_run.specs.RowLaws.{IsTimed, RowsHaveTimes}
+use Rattle.cpg_run.specs.Rows.{AreRows}
+use Rattle.cpg_run.proofs.EntriesMerge.{entry_cube}
+use Rattle.cpg_run.proofs.CarryingTimed.{carrying_times, never_columns}
+use Rattle.cpg_run.proofs.RowsTimed.{all_before, rows_times}
+use Rattle.cpg_run.specs.Carrying.{ContainsKept, IsCarryingRow, AreCarrying, ListedRowsCarry}
+
+module _ (g : Graph) (urgency order : List ℕ) (frozen : List (Option ℕ)) (rows : List (List Column)) (timed : IsTimed g urgency order frozen) (found : AreRows g urgency order frozen rows) where
+  -- a column that matches is as wide as an entry that matches, whose cube is what is carried
+  carries : (x : ℕ) → x < item_count g → (s : Scenario) (c : Column) → IsScenario g s → Contains (row_at rows x) c → matches c.cube s ≡ true → ContainsKept g.faults c.cube (carried g order rows s x)
+  carries x l s c law j h =
+      let row = found.each x l in
+      let there = Contains-map (λ (c : Column). c.time) (filter (λ (c : Column). matches c.cube s) (row_at rows x)) c (Contains-filter (λ (c : Column). matches c.cube s) (row_at rows x) c h j) in
+      let r = Contains-map_parts (λ (c : Column). c.time) (filter (λ (c : Column). matches c.cube s) row.entries) c.time (subst (λ ns. Contains ns c.time) (row.merge.times s law) there) in
+      let q = Contains-filter_parts (λ (c : Column). matches c.cube s) row.entries r.0 r.1 in
+      let is = entry_cube g urgency order frozen rows x timed l (all_before g urgency order frozen timed rows found (place order (producer g x))) row.entries row.are r.0 q.0 s law q.1 in
+      let wide = row.merge.wider s r.0 c law q.0 j q.1 h in
+      record { low = λ v. omega (arith, (wide v).0, is.low v); high = λ v. omega (arith, (wide v).1, is.high v) }
+
+  carrying_row : (x : ℕ) → x < item_count g → IsCarryingRow g urgency order frozen rows x
+  carrying_row x l = record {
+    times = rows_times g urgency order frozen timed rows found x l;
+    carries = carries x l;
+    cubes = (found.each x l).merge.cubes;
+    within = (found.each x l).merge.within;
+    not_whole = (found.each x l).merge.not_whole;
+    met = (found.each x l).merge.met;
+    ordered = (found.each x l).merge.ordered;
+  }
+
+  carrying : AreCarrying g urgency order frozen rows
+  carrying = record { count = found.count; each = carrying_row; merged = λ p l. (found.each p (omega (arith, l))).merge.merged }
+
+pub listed_rows_carry : ListedRowsCarry
+listed_rows_carry g urgency order frozen rows timed found = carrying g urgency order frozen rows timed found
+
+pub rows_have_times : RowsHaveTimes
+rows_have_times g urgency order frozen rows timed found x =
+    let all = listed_rows_carry g urgency order frozen rows timed found in
+    (carrying_times g urgency order frozen timed rows all x, never_columns g urgency order frozen timed rows all x)

@@ -1,0 +1,5 @@
+use Rattle.cpg_run.proofs.laws.listed_rows_carry.Goals as goal
+use Rattle.cpg_run.proofs.ListedRows.{listed_rows_carry as law}
+
+pub returns : goal.returns
+returns c = law

@@ -1,0 +1,48 @@
+-- What a builder finds of a graph before it writes the tables, and what it answers then.
+use Rattle.std.specs.Prelude.{ℕ, ◌≡◌, ◌<◌, false, List, Option, map}
+use Rattle.cpg_base.specs.Numbers.{numbers_below}
+use Rattle.cpg_base.specs.Graph.{Graph, item_count}
+use Rattle.cpg_base.specs.Limits.{IsWithinLimits}
+use Rattle.cpg_order.specs.Reach.{Reach, IsReach, is_too_wide}
+use Rattle.cpg_table.specs.Shape.{items_of}
+use Rattle.cpg_table.specs.Table.{Column, Row}
+use Rattle.cpg_table.specs.Writing.{AreWritable, AreTablesWith}
+use Rattle.cpg_run.specs.declared.built.Built.{Built}
+use Rattle.cpg_run.specs.Alike.{Admitted}
+use Rattle.cpg_run.specs.Built.{IsBuiltFor}
+use Rattle.cpg_run.specs.Carrying.{AreCarrying}
+use Rattle.cpg_run.specs.Finish.{IsWorst, IsExcess}
+use Rattle.cpg_run.specs.Frozen.{AreFrozenTimes}
+use Rattle.cpg_run.specs.Known.{AreEarly}
+
+-- the columns of rows
+abbrev pub columns_of_rows : List Row → List (List Column)
+columns_of_rows rows = map (λ (r : Row). r.columns) rows
+
+-- the frozen times, and by number the row of each item, which carries no more than it may
+pub record AreRowsFound (g : Graph) (urgency order : List ℕ) (frozen : List (Option ℕ)) (rows : List Row) : Type 0 where
+  pub frozen_times : AreFrozenTimes g order frozen
+  pub early : AreEarly frozen
+  pub items : items_of rows ≡ numbers_below (item_count g)
+  pub found : AreCarrying g urgency order frozen (columns_of_rows rows)
+
+-- tables with these rows, and the greatest finish and excess of the runs
+pub record AreTablesFound (g : Graph) (urgency order : List ℕ) (rows : List Row) (b : Built) : Type 0 where
+  pub found : AreRowsFound g urgency order b.frozen rows
+  pub written : AreTablesWith g rows b.tables
+  pub worst : IsWorst g urgency order b.frozen b.worst b.worst_in b.worst_by
+  pub excess : IsExcess g urgency order b.frozen b.excess b.excess_in b.excess_by
+
+-- by no reach is an item too wide
+abbrev pub NoneIsTooWide : Graph → List ℕ → Type 0
+NoneIsTooWide g order = (r : Reach) → IsReach g order r → (x : ℕ) → x < item_count g → is_too_wide g r x ≡ false
+
+-- such rows can be written
+abbrev pub FoundRowsAreWritable : Type 0
+FoundRowsAreWritable = (g : Graph) (urgency order : List ℕ) (frozen : List (Option ℕ)) (rows : List Row) → IsWithinLimits g → Admitted g urgency order →
+    AreRowsFound g urgency order frozen rows → NoneIsTooWide g order → AreWritable g rows
+
+-- and such tables are what a builder answers
+abbrev pub FoundTablesAreBuilt : Type 0
+FoundTablesAreBuilt = (g : Graph) (urgency order : List ℕ) (rows : List Row) (b : Built) → IsWithinLimits g → Admitted g urgency order →
+    AreTablesFound g urgency order rows b → IsBuiltFor g urgency order b
