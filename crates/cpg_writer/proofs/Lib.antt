@@ -1,0 +1,5 @@
+pub mod Members
+pub mod RawReads
+pub mod Limited
+pub mod Numbered
+pub mod ReadBack
