@@ -1,0 +1,14 @@
+pub mod Taken
+pub mod Multiples
+pub mod Counted
+pub mod Texts
+pub mod Added
+pub mod Whole
+pub mod Outcome
+pub mod Copies
+pub mod CopiedEdges
+pub mod Keeping
+pub mod Around
+pub mod CopiedInputs
+pub mod Fuel
+pub mod Alike

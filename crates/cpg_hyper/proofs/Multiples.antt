@@ -1,0 +1,75 @@
+-- Common divisors and multiples.
+use Rattle.std.proofs.Common.{◌≡◌, ℕ, zero, suc, ◌+◌, ◌*◌, ◌/◌, ◌%◌, ◌-◌, ◌<◌, ◌≤◌, List, length, get_or, take, sym, ap, ◌∙◌, subst, arith}
+use Rattle.std.specs.Int.{◌∣◌}
+use Rattle.std.proofs.lemmas.Nat.Gcd.{dvd_refl, dvd-zero, dvd_trans, le_of_dvd}
+use Rattle.std.proofs.Math.Nat.{dvd-mul_left, dvd-mul_left_of_dvd, mul-dvd-mul_left, mul-dvd-mul_right, dvd_of_mul-dvd-mul_left, div-mul_cancel, dvd-sub, dvd-mod_iff, div-add-mod, one-dvd}
+use Rattle.cpg_hyper.specs.Hyperperiod.{IsMeasure, IsLeastCommon, IsCommon, IsHyperperiod}
+use Rattle.cpg_hyper.specs.declared.part.Part.{Part}
+use Rattle.cpg_hyper.proofs.Taken.{all_more, all_less, all_same}
+
+pub measure_zero : (a b : ℕ) → 1 ≤ a → b ≡ 0 → IsMeasure a b a
+measure_zero a b some e = record { some = omega (arith, some); first = dvd_refl a; second = subst (λ n. a ∣ n) (sym e) (dvd-zero a); most = λ d m p q. p }
+
+by_parts : (m b q r a : ℕ) → b * q + r ≡ a → m * r ≡ m * a - q * (m * b)
+by_parts m b q r a e = rw (← e) (omega arith)
+
+rest_of : (m a b : ℕ) → m * (a % b) ≡ m * a - a / b * (m * b)
+rest_of m a b = by_parts m b (a / b) (a % b) a (div-add-mod a b)
+
+pub measure_step : (a b g : ℕ) → IsMeasure b (a % b) g → IsMeasure a b g
+measure_step a b g h = record {
+  some = h.some;
+  first = (dvd-mod_iff g h.first).0 h.second;
+  second = h.first;
+  most = λ d m p q. h.most d m q (subst (λ n. d ∣ n) (sym (rest_of m a b)) (dvd-sub d p (dvd-mul_left_of_dvd d q (a / b))));
+}
+
+swap_inner : (x k g : ℕ) → x * (k * g) ≡ k * (x * g)
+swap_inner x k g = omega arith
+
+swap_outer : (k g b : ℕ) → k * g * b ≡ g * (k * b)
+swap_outer k g b = omega arith
+
+swap : (m g : ℕ) → m * g ≡ g * m
+swap m g = omega arith
+
+pub least_of : (a b g : ℕ) → IsMeasure a b g → IsLeastCommon a b (a / g * b)
+least_of a b g h =
+    let k = a / g in
+    let own : k * g ≡ a = div-mul_cancel g h.first in
+    let other : b / g * g ≡ b = div-mul_cancel g h.second in
+    let same : b / g * a ≡ k * b = ap (λ x. b / g * x) (sym own) ∙ swap_inner (b / g) k g ∙ ap (λ x. k * x) other in
+    record {
+      first = subst (λ n. a ∣ n) same (dvd-mul_left a (b / g));
+      second = dvd-mul_left b k;
+      least = λ m p q.
+          let both = h.most (a * b) m (subst (λ n. a * b ∣ n) (swap a m) (mul-dvd-mul_left b a q)) (mul-dvd-mul_right a p b) in
+          let left : a * b ≡ g * (k * b) = ap (λ x. x * b) (sym own) ∙ swap_outer k g b in
+          dvd_of_mul-dvd-mul_left (k * b) h.some (subst (λ n. n ∣ g * m) left (subst (λ n. a * b ∣ n) (swap m g) both));
+    }
+
+both_some : (k g b : ℕ) → 1 ≤ k * g → 1 ≤ b → 1 ≤ k * b
+both_some zero g b h l = absurd (omega (arith, h))
+both_some (suc k) g b h l = omega (arith, l)
+
+pub least_some : (a b g : ℕ) → IsMeasure a b g → 1 ≤ a → 1 ≤ b → 1 ≤ a / g * b
+least_some a b g h l m = both_some (a / g) g b (subst (λ n. 1 ≤ n) (sym (div-mul_cancel g h.first)) l) m
+
+-- the least common multiple of the parts so far
+pub record IsSoFar (parts : List Part) (whole : ℕ) : Type 0 where
+  pub common : IsCommon parts whole
+  pub least : (m : ℕ) → IsCommon parts m → whole ∣ m
+
+pub none_so_far : (parts : List Part) → IsSoFar (take 0 parts) 1
+none_so_far parts = record { common = λ k d l. absurd (omega arith); least = λ m h. one-dvd m }
+
+pub more_so_far : (parts : List Part) (i : ℕ) (part : Part) (whole new : ℕ) → i < length parts → part ≡ get_or parts i part → IsSoFar (take i parts) whole → IsLeastCommon whole part.period new → IsSoFar (take (i + 1) parts) new
+more_so_far parts i part whole new l is so_far h = record {
+  common = all_more parts i part l is (λ d. d.period ∣ new) (λ k d m. dvd_trans _ (so_far.common k d m) h.first) h.second;
+  least = λ m c.
+      let (before, here) = all_less parts i part l is (λ d. d.period ∣ m) c in
+      h.least m (so_far.least m before) here;
+}
+
+pub least_below : (parts : List Part) (i whole new : ℕ) → IsSoFar (take i parts) new → IsHyperperiod parts whole → new ≤ whole
+least_below parts i whole new h w = le_of_dvd w.some (h.least whole (all_same parts i (λ d. d.period ∣ whole) w.common))

@@ -1,0 +1,44 @@
+-- The answers of unrolling.
+use Rattle.std.proofs.Common.{◌≡◌, ℕ, ◌≤◌, List, length, get_or, filter, Option, Some, None, Err, refl, ap, ap₂, ◌∙◌}
+use Rattle.std.specs.Prelude.{IsSome, IfNone}
+use Rattle.cpg_base.specs.Numbers.{numbers_below}
+use Rattle.cpg_base.specs.Graph.{Graph, process_count, condition_count}
+use Rattle.cpg_base.specs.Conditions.{has_conditional_output}
+use Rattle.cpg_base.specs.Limits.{IsWithinLimits}
+use Rattle.cpg_base.specs.declared.process.Process.{Process}
+use Rattle.cpg_base.specs.declared.process.Edge.{Edge}
+use Rattle.cpg_base.specs.declared.process.Slot.{Slot}
+use Rattle.cpg_base.proofs.Found.{conditions_found}
+use Rattle.cpg_hyper.specs.declared.part.Part.{Part}
+use Rattle.cpg_hyper.specs.declared.part.HyperFault.{HyperFault}
+use Rattle.cpg_hyper.specs.declared.part.HyperFault.TheVariants.{Range, Differ, Over, Period, Count, LongName, OutOfMemory}
+use Rattle.cpg_hyper.specs.Unrolled.{processes_from, edges_from, first_graph, unrolled}
+use Rattle.cpg_hyper.specs.Refusals.{HoldsOfEach, HasFewEnough, AreOver, ShowsProcesses, ShowsUnrolled}
+use Rattle.cpg_hyper.proofs.Whole.{unrolled_within, first_there}
+
+pub some_from : {X : Type 0} (r : Option X) (P : Type 0) → IfNone r (P → ⊥) → P → IsSome r
+some_from None P h p = absurd (h p)
+some_from (Some x) P h p = refl
+
+-- the parts of which the graph is made
+pub made_within : (whole : ℕ) (parts : List Part) → 1 ≤ length parts → length parts ≤ 4 → AreOver parts whole → HoldsOfEach (λ p part. IsWithinLimits part.problem) parts → HasFewEnough (unrolled whole parts)
+    → (first : Graph) (faults : ℕ) (nodes : List (List ℕ)) (slots : List Slot) (ps : List Process) (es : List Edge)
+    → first ≡ first_graph parts → faults ≡ first.faults → nodes ≡ first.nodes → slots ≡ first.slots → ps ≡ processes_from whole 0 parts → es ≡ edges_from whole 0 parts
+    → IsWithinLimits (record { faults = faults; deadline = whole; nodes = nodes; slots = slots; processes = ps; edges = es })
+made_within whole parts some few over within counts first faults nodes slots ps es is a b c d e =
+    rw (a, b, c, d, e, is) (unrolled_within whole parts some few over within counts)
+
+pub first_problem : (parts : List Part) (part : Part) → 1 ≤ length parts → part ≡ get_or parts 0 part → part.problem ≡ first_graph parts
+first_problem parts part some is = ap (λ (d : Part). d.problem) is ∙ first_there parts part some
+
+pub count_is : (g : Graph) (es : List Edge) (n total : ℕ) → es ≡ g.edges → n ≡ process_count g → total ≡ length (filter (has_conditional_output es) (numbers_below n)) → total ≡ condition_count g
+count_is g es n total e k h = h ∙ ap length (ap₂ (λ ds m. filter (has_conditional_output ds) (numbers_below m)) e k ∙ conditions_found g)
+
+pub from_processes : (whole : ℕ) (parts : List Part) → AreOver parts whole → HasFewEnough (unrolled whole parts) → (f : HyperFault) → ShowsProcesses whole parts (Err f) → ShowsUnrolled parts (Err f)
+from_processes whole parts over few (Range p) h = absurd h
+from_processes whole parts over few (Differ p) h = absurd h
+from_processes whole parts over few (Over p) h = absurd h
+from_processes whole parts over few Period h = absurd h
+from_processes whole parts over few (Count what) h = absurd h
+from_processes whole parts over few (LongName p) h = (whole, over, few, h)
+from_processes whole parts over few OutOfMemory h = tt

@@ -1,0 +1,6 @@
+use Rattle.std.proofs.Common.{◌≡◌, ◌++◌, map, take}
+use Rattle.cpg_hyper.specs.Unrolled.{copied_edge}
+use Rattle.cpg_hyper.proofs.edges.add_instance.Given as goal
+
+abbrev pub invariant-loop-edge : goal.invariant-loop-edge
+invariant-loop-edge l = l.out.items ≡ l.fn.out.items ++ map (copied_edge l.first) (take l.edge-index l.edge-items)

@@ -1,0 +1,5 @@
+use Rattle.cpg_hyper.specs.Refusals.{HoldsBefore, IsInRange}
+use Rattle.cpg_hyper.proofs.fitting.first_out_of_range.Given as goal
+
+abbrev pub invariant-loop-place : goal.invariant-loop-place
+invariant-loop-place l = HoldsBefore (λ p part. IsInRange part) l.parts l.place

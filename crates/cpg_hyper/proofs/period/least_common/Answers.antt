@@ -1,0 +1,5 @@
+use Rattle.cpg_hyper.proofs.Multiples.{least_of}
+use Rattle.cpg_hyper.proofs.period.least_common.Goals as goal
+
+pub returns-clause-least : goal.returns-clause-least
+returns-clause-least c = least_of c.args.a c.args.b c.greatest_common-common.result c.greatest_common-common.ensures

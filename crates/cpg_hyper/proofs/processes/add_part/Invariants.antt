@@ -1,0 +1,9 @@
+use Rattle.std.proofs.Common.{◌≡◌, ◌<◌, ◌++◌, ℕ}
+use Rattle.std.specs.List.{flat_map}
+use Rattle.cpg_base.specs.Numbers.{numbers_below}
+use Rattle.cpg_hyper.specs.Unrolled.{processes_in}
+use Rattle.cpg_hyper.specs.Refusals.{AreShort}
+use Rattle.cpg_hyper.proofs.processes.add_part.Given as goal
+
+abbrev pub invariant-loop-instance : goal.invariant-loop-instance
+invariant-loop-instance l = record { added : l.out.items ≡ l.fn.out.items ++ flat_map (processes_in l.number l.part) (numbers_below l.instance); short : (i : ℕ) → i < l.instance → AreShort l.number l.part i }

@@ -1,0 +1,70 @@
+-- The graph of several parts, each with as many copies as it has periods in the whole.
+use Rattle.std.specs.Prelude.{ℕ, ◌+◌, ◌*◌, ◌/◌, List, [], ◌∷◌, ◌++◌, Some, codes, length, map}
+use Rattle.std.specs.List.{flat_map}
+use Rattle.std.specs.Fmt.{decimal}
+use Rattle.cpg_base.specs.Numbers.{numbers_below}
+use Rattle.cpg_base.specs.Graph.{Graph}
+use Rattle.cpg_base.specs.Duration.{lesser_due}
+use Rattle.cpg_base.specs.declared.process.Process.{Process}
+use Rattle.cpg_base.specs.declared.process.Edge.{Edge}
+use Rattle.cpg_hyper.specs.declared.part.Part.{Part}
+
+-- what a copy is called: the numbers of its part and its instance, and its name in the part
+abbrev pub name_in : ℕ → ℕ → List ℕ → List ℕ
+name_in p i name = decimal p ++ codes "." ++ decimal i ++ codes "." ++ name
+
+-- the copy of a process, whose times count from the begin of its instance
+abbrev pub copied_process : ℕ → ℕ → Part → Process → Process
+copied_process p i part q = record q { name = name_in p i q.name; release = i * part.period + q.release; deadline = Some (i * part.period + lesser_due part.problem.deadline q.deadline) }
+
+-- the copy of an edge, whose instance's first process has this number
+abbrev pub copied_edge : ℕ → Edge → Edge
+copied_edge first e = record e { from = first + e.from; to = first + e.to }
+
+-- how many processes a part has
+abbrev pub size_of : Part → ℕ
+size_of part = length part.problem.processes
+
+-- the instances of a part
+abbrev pub instances : ℕ → Part → List ℕ
+instances whole part = numbers_below (whole / part.period)
+
+-- the processes of one instance, and of all instances
+abbrev pub processes_in : ℕ → Part → ℕ → List Process
+processes_in p part i = map (copied_process p i part) part.problem.processes
+
+abbrev pub processes_of : ℕ → ℕ → Part → List Process
+processes_of whole p part = flat_map (processes_in p part) (instances whole part)
+
+-- those of the parts from a number on
+abbrev pub processes_from : ℕ → ℕ → List Part → List Process
+processes_from whole p [] = []
+processes_from whole p (part ∷ parts) = processes_of whole p part ++ processes_from whole (p + 1) parts
+
+-- the number of an instance's first process, where that of the part's first is given
+abbrev pub first_in : ℕ → Part → ℕ → ℕ
+first_in first part i = first + i * size_of part
+
+abbrev pub edges_in : ℕ → Part → ℕ → List Edge
+edges_in first part i = map (copied_edge (first_in first part i)) part.problem.edges
+
+abbrev pub edges_of : ℕ → ℕ → Part → List Edge
+edges_of whole first part = flat_map (edges_in first part) (instances whole part)
+
+-- the number of the first process after a part
+abbrev pub after_part : ℕ → ℕ → Part → ℕ
+after_part whole first part = first + whole / part.period * size_of part
+
+abbrev pub edges_from : ℕ → ℕ → List Part → List Edge
+edges_from whole first [] = []
+edges_from whole first (part ∷ parts) = edges_of whole first part ++ edges_from whole (after_part whole first part) parts
+
+-- the graph of the first part
+abbrev pub first_graph : List Part → Graph
+first_graph [] = record { faults = 0; deadline = 0; nodes = []; slots = []; processes = []; edges = [] }
+first_graph (part ∷ parts) = part.problem
+
+-- all parts over the whole: the first part's faults, nodes and slots, and the whole as deadline
+abbrev pub unrolled : ℕ → List Part → Graph
+unrolled whole parts =
+    record { faults = (first_graph parts).faults; deadline = whole; nodes = (first_graph parts).nodes; slots = (first_graph parts).slots; processes = processes_from whole 0 parts; edges = edges_from whole 0 parts }

@@ -1,0 +1,51 @@
+//! The hyperperiod of parts.
+ghost use Rattle.std.specs.Prelude.{◌≡◌, ◌<◌, ◌≤◌, ◌^◌, ◌*◌, length, ℕ, IfSome, IfNone};
+ghost use Rattle.cpg_hyper.specs.Hyperperiod.{IsMeasure, IsLeastCommon, IsHyperperiod};
+ghost use Rattle.cpg_hyper.specs.Refusals.{IsInRange, HoldsOfEach};
+
+use crate::Part;
+use cpg_base::LONGEST;
+
+/// The greatest common divisor.
+#[tactic(auto, using(crate::proofs::Multiples::measure_zero, crate::proofs::Multiples::measure_step))]
+fn greatest_common(a: u64, b: u64) -> u64
+    requires { 1 ≤ a }
+    ensures { IsMeasure a b result }
+{
+    if b == 0 {
+        return a;
+    }
+    let rest = a % b;
+    greatest_common(b, rest)
+}
+
+/// The least common multiple.
+#[tactic(auto, using(crate::proofs::Multiples::least_of, crate::proofs::Multiples::least_some))]
+fn least_common(a: u64, b: u64) -> u64
+    requires first { 1 ≤ a }
+    requires second { 1 ≤ b }
+    requires short { a ≤ LONGEST }
+    requires other { b ≤ LONGEST }
+    ensures some { 1 ≤ result }
+    ensures least { IsLeastCommon a b result }
+{
+    let common = greatest_common(a, b);
+    a / common * b
+}
+
+/// The least common multiple of the periods, where it isn't above the longest time.
+pub fn hyperperiod(parts: &[Part]) -> Option<u64>
+    requires { HoldsOfEach (λ p part. IsInRange part) parts.now }
+    ensures whole { IfSome result (IsHyperperiod parts.now) }
+    ensures short { IfSome result (λ whole. whole ≤ LONGEST) }
+    ensures long { IfNone result ((whole : ℕ) → IsHyperperiod parts.now whole → LONGEST < whole) }
+{
+    let mut whole = 1;
+    for part in parts {
+        whole = least_common(whole, part.period);
+        if whole > LONGEST {
+            return None;
+        }
+    }
+    Some(whole)
+}

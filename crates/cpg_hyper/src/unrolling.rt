@@ -1,0 +1,120 @@
+//! The graph of several parts over their hyperperiod.
+ghost use Rattle.std.specs.Prelude.{◌≡◌, ◌≤◌, IfOk, length};
+ghost use Rattle.cpg_base.specs.Limits.{IsWithinLimits};
+ghost use Rattle.cpg_hyper.specs.Refusals.{HoldsOfEach, HasFewEnough, HasShortNames, AreOver, ShowsUnrolled};
+ghost use Rattle.cpg_hyper.specs.Unrolled.{unrolled, processes_from, edges_from};
+
+use crate::edges::{condition_total, edge_total, process_total, unrolled_edges};
+use crate::fitting::{first_different, first_out_of_range, first_over};
+use crate::period::hyperperiod;
+use crate::processes::unrolled_processes;
+use crate::{HyperFault, Part};
+use cpg_base::{Edge, Name, OutOfMemory, Problem, Process, Slot};
+use cpg_reader::What;
+use std::alloc::Global;
+
+/// How many processes there are at most.
+const MOST_PROCESSES: u64 = cpg_base::MOST_PROCESSES as u64;
+
+/// How many edges there are at most.
+const MOST_EDGES: u64 = cpg_base::MOST_EDGES as u64;
+
+/// How many conditions there are at most.
+const MOST_CONDITIONS: u32 = cpg_base::MOST_CONDITIONS as u32;
+
+fn copied_nodes(alloc: Global, nodes: &[Name]) -> Result<Vec<Name>, OutOfMemory>
+    ensures { IfOk result (λ copy. copy.items ≡ nodes.now) }
+{
+    let mut copy = Vec::new(alloc);
+    for name in nodes {
+        copy.push(name.copy()?)?;
+    }
+    Ok(copy)
+}
+
+fn copied_slots(alloc: Global, slots: &[Slot]) -> Result<Vec<Slot>, OutOfMemory>
+    ensures { IfOk result (λ copy. copy.items ≡ slots.now) }
+{
+    let mut copy = Vec::new(alloc);
+    for slot in slots {
+        copy.push(*slot)?;
+    }
+    Ok(copy)
+}
+
+/// The graph of the processes and edges of all instances.
+fn built(
+    alloc: Global,
+    whole: u64,
+    parts: &[Part],
+    processes: Vec<Process>,
+    edges: Vec<Edge>,
+) -> Result<Problem, OutOfMemory>
+    requires some { 1 ≤ length parts.now }
+    requires few { length parts.now ≤ 4 }
+    requires over { AreOver parts.now whole }
+    requires within { HoldsOfEach (λ p part. IsWithinLimits part.problem) parts.now }
+    requires counts { HasFewEnough (unrolled whole parts.now) }
+    requires short { HoldsOfEach (HasShortNames whole) parts.now }
+    requires processes { processes.items ≡ processes_from whole 0 parts.now }
+    requires edges { edges.items ≡ edges_from whole 0 parts.now }
+    ensures { IfOk result (λ g. g ≡ unrolled whole parts.now) }
+{
+    let first = &parts[0].problem;
+    let nodes = copied_nodes(alloc, first.nodes())?;
+    let slots = copied_slots(alloc, first.slots())?;
+    let problem = Problem::new(first.faults(), whole, nodes, slots, processes, edges);
+    Ok(problem.unwrap())
+}
+
+/// The graph over a hyperperiod, where there are few enough of each and the made names are short.
+fn over(alloc: Global, whole: u64, parts: &[Part]) -> Result<Problem, HyperFault>
+    requires some { 1 ≤ length parts.now }
+    requires few { length parts.now ≤ 4 }
+    requires over { AreOver parts.now whole }
+    requires within { HoldsOfEach (λ p part. IsWithinLimits part.problem) parts.now }
+    ensures { ShowsUnrolled parts.now result }
+{
+    let process_count = process_total(whole, parts);
+    if process_count > MOST_PROCESSES {
+        return Err(HyperFault::Count(What::Processes));
+    }
+    if edge_total(whole, parts) > MOST_EDGES {
+        return Err(HyperFault::Count(What::Edges));
+    }
+    let edges = unrolled_edges(alloc, whole, parts)?;
+    if condition_total(edges.as_slice(), process_count as u32) > MOST_CONDITIONS {
+        return Err(HyperFault::Count(What::Conditions));
+    }
+    match unrolled_processes(alloc, whole, parts) {
+        Ok(processes) => Ok(built(alloc, whole, parts, processes, edges)?),
+        Err(fault) => Err(fault),
+    }
+}
+
+/// One graph of one to four parts: each part with as many copies as it has periods in the hyperperiod, which is the
+/// deadline. A copy is named by the numbers of its part and its instance and its name in the part, with points between,
+/// and its release and own deadline are later by the begin of its instance.
+///
+/// The refusals come in this order: a period out of its range; other faults, nodes or slots than the first part's; a
+/// deadline or a release above its period; a hyperperiod above 10^9; too many processes, edges or conditions; too long a
+/// made name. Each shows the first part that it is true of. Want of memory may come before any of the last two.
+pub fn unroll(alloc: Global, parts: &[Part]) -> Result<Problem, HyperFault>
+    requires some { 1 ≤ length parts.now }
+    requires few { length parts.now ≤ 4 }
+    ensures { ShowsUnrolled parts.now result }
+{
+    if let Some(part) = first_out_of_range(parts) {
+        return Err(HyperFault::Range(part));
+    }
+    if let Some(part) = first_different(&parts[0].problem, parts) {
+        return Err(HyperFault::Differ(part));
+    }
+    if let Some(part) = first_over(parts) {
+        return Err(HyperFault::Over(part));
+    }
+    let Some(whole) = hyperperiod(parts) else {
+        return Err(HyperFault::Period);
+    };
+    over(alloc, whole, parts)
+}
