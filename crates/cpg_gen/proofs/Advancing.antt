@@ -1,0 +1,20 @@
+-- Draws one after another.
+use Rattle.std.proofs.Common.{ℕ, zero, suc, ◌+◌, ◌≡◌, refl, ap, ◌∙◌, arith}
+use Rattle.cpg_gen.specs.Draws.{next_number, number_after}
+
+-- draws after draws
+pub number_after-add : (x m n : ℕ) → number_after (number_after x m) n ≡ number_after x (n + m)
+unfolding number_after
+number_after-add x m zero = ap (number_after x) (omega arith)
+number_after-add x m (suc n) =
+    let later : suc (n + m) ≡ suc n + m = omega arith in
+    ap next_number (number_after-add x m n) ∙ ap (number_after x) later
+
+-- one draw more
+pub number_after-suc : (x n : ℕ) → number_after x (suc n) ≡ next_number (number_after x n)
+unfolding number_after
+number_after-suc x n = refl
+
+pub number_after-zero : (x : ℕ) → number_after x 0 ≡ x
+unfolding number_after
+number_after-zero x = refl

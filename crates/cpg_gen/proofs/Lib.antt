@@ -1,0 +1,4 @@
+pub mod Advancing
+pub mod Steps
+pub mod Names
+pub mod Limits

@@ -1,0 +1,7 @@
+use Rattle.std.proofs.Common.{◌≡◌, map}
+use Rattle.cpg_base.specs.Numbers.{numbers_below}
+use Rattle.cpg_gen.specs.Generated.{node_name}
+use Rattle.cpg_gen.proofs.generation.nodes.Given as goal
+
+abbrev pub invariant-loop-node : goal.invariant-loop-node
+invariant-loop-node l = l.nodes.items ≡ map node_name (numbers_below l.node)

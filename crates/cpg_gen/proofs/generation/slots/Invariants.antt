@@ -1,0 +1,7 @@
+use Rattle.std.proofs.Common.{◌≡◌, map}
+use Rattle.cpg_base.specs.Numbers.{numbers_below}
+use Rattle.cpg_gen.specs.Generated.{slot_of}
+use Rattle.cpg_gen.proofs.generation.slots.Given as goal
+
+abbrev pub invariant-loop-node : goal.invariant-loop-node
+invariant-loop-node l = l.slots.items ≡ map slot_of (numbers_below l.node)

@@ -1,0 +1,11 @@
+use Rattle.std.proofs.Common.{rules}
+use Rattle.cpg_gen.specs.Draws.{number_after}
+use Rattle.cpg_gen.proofs.parts.draw_costs.Goals as goal
+
+pub returns-clause-costs : goal.returns-clause-costs
+unfolding number_after
+returns-clause-costs c = search rules
+
+pub returns-clause-number : goal.returns-clause-number
+unfolding number_after
+returns-clause-number c = search rules

@@ -1,0 +1,66 @@
+//! The generated graph.
+ghost use Rattle.std.specs.Prelude.{◌≡◌, IfOk, map};
+ghost use Rattle.std.specs.List.{flat_map};
+ghost use Rattle.cpg_base.specs.Numbers.{numbers_below};
+ghost use Rattle.cpg_gen.specs.Generated.{generated, generated_edges, generated_process, node_name, slot_of};
+
+use crate::draws::Draws;
+use crate::parts::{numbered, process, push_edges, slot};
+use cpg_base::{Edge, Name, OutOfMemory, Problem, Process, Slot};
+use std::alloc::Global;
+
+/// What is drawn.
+#[derive(Drop)]
+struct Drawn {
+    processes: Vec<Process>,
+    edges: Vec<Edge>,
+}
+
+fn nodes(alloc: Global) -> Result<Vec<Name>, OutOfMemory>
+    ensures { IfOk result (λ nodes. nodes.items ≡ map node_name (numbers_below 4)) }
+{
+    let mut nodes = Vec::new(alloc);
+    for node in 0..4 {
+        nodes.push(numbered(alloc, "N", node)?)?;
+    }
+    Ok(nodes)
+}
+
+fn slots(alloc: Global) -> Result<Vec<Slot>, OutOfMemory>
+    ensures { IfOk result (λ slots. slots.items ≡ map slot_of (numbers_below 4)) }
+{
+    let mut slots = Vec::new(alloc);
+    for node in 0..4 {
+        slots.push(slot(node))?;
+    }
+    Ok(slots)
+}
+
+/// The processes and edges, drawn in the order of the processes.
+fn draw_all(alloc: Global, number: u64) -> Result<Drawn, OutOfMemory>
+    ensures processes { IfOk result (λ drawn. drawn.processes.items ≡ map (generated_process number) (numbers_below 60)) }
+    ensures edges { IfOk result (λ drawn. drawn.edges.items ≡ flat_map (generated_edges number) (numbers_below 60)) }
+{
+    let mut draws = Draws { number };
+    let mut processes = Vec::new(alloc);
+    let mut edges = Vec::new(alloc);
+    for process_number in 0..60 {
+        processes.push(process(alloc, &mut draws, process_number)?)?;
+        push_edges(&mut edges, &mut draws, process_number)?;
+    }
+    Ok(Drawn { processes, edges })
+}
+
+/// The graph that a number generates: 60 processes on four nodes with at most two conditions, two faults, and a deadline of
+/// 10^9 time units. It errs by want of memory alone.
+pub fn generate(alloc: Global, number: u64) -> Result<Problem, OutOfMemory>
+    ensures { IfOk result (λ problem. problem ≡ generated number) }
+{
+    let nodes = nodes(alloc)?;
+    let slots = slots(alloc)?;
+    let drawn = draw_all(alloc, number)?;
+    match Problem::new(2, 1_000_000_000, nodes, slots, drawn.processes, drawn.edges) {
+        Some(problem) => Ok(problem),
+        None => unreachable!(),
+    }
+}

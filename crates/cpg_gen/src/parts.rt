@@ -1,0 +1,133 @@
+//! The parts of a generated graph.
+ghost use Rattle.std.specs.Prelude.{◌≡◌, ◌<◌, ◌+◌, ◌++◌, if◌then◌else◌, IfOk, OnOk};
+ghost use Rattle.cpg_base.specs.Name.{IsName};
+ghost use Rattle.cpg_gen.specs.Draws.{next_number, number_after, nth_draw};
+ghost use Rattle.cpg_gen.specs.Generated.{numbered, process_from, predecessor_by, has_predecessor, when_of, edge_of, edges_by, slot_of};
+
+use crate::draws::Draws;
+use cpg_base::{Edge, Name, OutOfMemory, Process, Slot};
+use std::alloc::Global;
+
+/// What the draws say of a process besides its predecessor.
+#[derive(Clone, Copy)]
+struct Costs {
+    wcet: u64,
+    parts: u32,
+    alpha: u64,
+    chi: u64,
+    mu: u64,
+}
+
+/// A letter and a number as a name.
+pub(crate) fn numbered(alloc: Global, letter: &str, number: u32) -> Result<Name, OutOfMemory>
+    requires { IsName (numbered letter.now number) }
+    ensures { IfOk result (λ name. name ≡ numbered letter.now number) }
+{
+    let mut text = String::new(alloc);
+    write!(text, "{letter}{number}")?;
+    match Name::new(alloc, text.as_str())? {
+        Some(name) => Ok(name),
+        None => unreachable!(),
+    }
+}
+
+/// The slot of a node.
+pub(crate) fn slot(node: u32) -> Slot
+    ensures { result ≡ slot_of node }
+{
+    Slot {
+        node,
+        length: 10,
+        bytes: 8,
+    }
+}
+
+fn draw_costs(draws: &mut Draws) -> Costs
+    ensures costs { result ≡ record { wcet = 1 + nth_draw draws.old.number 1 50; parts = 1 + nth_draw draws.old.number 2 3; alpha = nth_draw draws.old.number 3 3; chi = nth_draw draws.old.number 4 3; mu = nth_draw draws.old.number 5 5 } }
+    ensures number { draws.new.number ≡ number_after draws.old.number 5 }
+{
+    Costs {
+        wcet: 1 + draws.next(50),
+        parts: 1 + draws.next(3) as u32,
+        alpha: draws.next(3),
+        chi: draws.next(3),
+        mu: draws.next(5),
+    }
+}
+
+/// The process of a number, by the next five draws.
+pub(crate) fn process(alloc: Global, draws: &mut Draws, number: u32) -> Result<Process, OutOfMemory>
+    requires { number < 60 }
+    ensures process { IfOk result (λ process. process ≡ process_from draws.old.number number) }
+    ensures number { draws.new.number ≡ number_after draws.old.number 5 }
+{
+    let costs = draw_costs(draws);
+    let name = numbered(alloc, "p", number)?;
+    Ok(Process {
+        name,
+        node: number % 4,
+        wcet: costs.wcet,
+        parts: costs.parts,
+        alpha: costs.alpha,
+        chi: costs.chi,
+        mu: costs.mu,
+        join: number == 40,
+        frozen: false,
+        release: 0,
+        deadline: None,
+    })
+}
+
+/// With which value of its source's condition an edge is taken.
+fn when(source: u32, target: u32) -> Option<bool>
+    ensures { result ≡ when_of source target }
+{
+    if source == 10 || source == 20 {
+        return Some(target % 2 == 1);
+    }
+    None
+}
+
+/// An edge of one byte, whose message is frozen.
+fn edge(source: u32, target: u32, when: Option<bool>) -> Edge
+    ensures { result ≡ edge_of source target when }
+{
+    Edge {
+        from: source,
+        to: target,
+        size: 1,
+        when,
+        frozen: true,
+    }
+}
+
+/// The edge to a process from its predecessor, by the next draw.
+fn drawn_edge(draws: &mut Draws, target: u32) -> Edge
+    requires { 0 < target }
+    ensures edge { result ≡ edge_of (predecessor_by (next_number draws.old.number) target) target (when_of (predecessor_by (next_number draws.old.number) target) target) }
+    ensures number { draws.new.number ≡ next_number draws.old.number }
+{
+    let source = target - 1 - draws.next(u64::from(target.min(6))) as u32;
+    edge(source, target, when(source, target))
+}
+
+/// Pushes the edges to a process, with a draw where it has a predecessor.
+pub(crate) fn push_edges(
+    edges: &mut Vec<Edge>,
+    draws: &mut Draws,
+    target: u32,
+) -> Result<(), OutOfMemory>
+    ensures edges { OnOk result (edges.new.items ≡ edges.old.items ++ edges_by (next_number draws.old.number) target) }
+    ensures number { OnOk result (draws.new.number ≡ (if has_predecessor target then next_number draws.old.number else draws.old.number)) }
+{
+    if target == 0 {
+        return Ok(());
+    }
+    if target == 40 {
+        edges.push(edge(10, 40, Some(true)))?;
+        edges.push(edge(10, 40, Some(false)))?;
+        return Ok(());
+    }
+    edges.push(drawn_edge(draws, target))?;
+    Ok(())
+}
