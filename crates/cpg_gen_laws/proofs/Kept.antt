@@ -1,0 +1,147 @@
+-- Generated graphs keep the rules of admission.
+use Rattle.std.proofs.Common.{ℕ, zero, suc, ◌-◌, ◌<◌, ◌≤◌, ◌≡◌, ◌==◌, Bool, true, false, cond, not, ◌&&◌, List, [], ◌∷◌, length, get_or, filter, map, Some, refl, sym, ap, ap₂, ◌∙◌, subst, arith, eqb-true, eq-eqb, ltb-true, le-ltb}
+use Rattle.std.specs.Prelude.{nat_lt}
+use Rattle.std.proofs.lemmas.Bool.{and_parts, and_right, both_ways}
+use Rattle.cpg_base.specs.declared.process.Process.{Process}
+use Rattle.cpg_base.specs.declared.process.Edge.{Edge}
+use Rattle.cpg_base.specs.declared.process.Slot.{Slot}
+use Rattle.cpg_base.specs.Numbers.{numbers_below}
+use Rattle.cpg_base.specs.Graph.{process_count, condition_count, process_at, edge_at, node_of, source, inputs, is_message}
+use Rattle.cpg_base.specs.Activity.{active, live, takes, value_of}
+use Rattle.cpg_base.specs.WellFormed.{HasSingleJoins}
+use Rattle.cpg_base.proofs.Lists.{get_or-map-below, Contains-map, Contains-numbers, from_all, list_any_true, list_any_parts}
+use Rattle.cpg_base.proofs.Sums.{length-filter-le}
+use Rattle.cpg_order.specs.Cycle.{HasCycle, has_edge}
+use Rattle.cpg_order.specs.Deciding.{outcomes}
+use Rattle.cpg_order.specs.Track.{is_track, track_count}
+use Rattle.cpg_rules.specs.declared.admission.RuleFault.{RuleFault}
+use Rattle.cpg_rules.specs.declared.admission.RuleFault.TheVariants.{Cycle, TooManyTracks, TwoAlternatives, NoSlot, TooBig, OutOfMemory}
+use Rattle.cpg_rules.specs.Rules.{is_sender, has_slot, bytes_in, slot_bytes, is_too_big, AllFit}
+use Rattle.cpg_rules.specs.Faults.{ShowsFault}
+use Rattle.cpg_gen.specs.Generated.{generated, generated_process, edge_of, slot_of}
+use Rattle.cpg_gen.proofs.Limits.{generated_edge, edge_there, processes_count, few_conditions, within_limits}
+
+-- all elements are kept by a test that always passes
+pub kept_all : {X : Type 0} (xs : List X) → length (filter (λ x. true) xs) ≡ length xs
+kept_all [] = refl
+kept_all (x ∷ xs) = ap suc (kept_all xs)
+
+pub outcomes_few : (n : ℕ) → n ≤ 2 → length (outcomes n) ≤ 4
+outcomes_few zero l = omega arith
+outcomes_few (suc zero) l = omega arith
+outcomes_few (suc (suc zero)) l = omega arith
+outcomes_few (suc (suc (suc n))) l = absurd (omega arith)
+
+-- two edges that ask for different values of one condition are not both live
+abbrev kept_of : Bool → Bool → List ℕ
+kept_of first second = cond first (39 ∷ cond second (40 ∷ []) []) (cond second (40 ∷ []) [])
+
+one_live : (a value : Bool) → length (kept_of (a && value) (a && not value)) ≤ 1
+one_live true true = omega arith
+one_live true false = omega arith
+one_live false true = omega arith
+one_live false false = omega arith
+
+not_above : (size : ℕ) → size ≡ 1 → nat_lt 8 size ≡ false
+not_above size e = le-ltb 8 size (omega (arith, e))
+
+not_both : (b : Bool) → b ≡ true → not b ≡ true → ⊥
+not_both true e f = both_ways false refl f
+not_both false e f = both_ways false refl e
+
+module _ (number : ℕ) where
+  -- ---- cycles
+
+  rises : (p q : ℕ) → has_edge (generated number) p q ≡ true → p < q
+  rises p q t =
+      let found = list_any_parts (λ (e : Edge). (e.from == p) && (e.to == q)) (generated number).edges t in
+      let ends = and_parts (found.0.from == p) (found.0.to == q) found.2 in
+      let from = eqb-true found.0.from p ends.0 in
+      let to = eqb-true found.0.to q ends.1 in
+      let up = (generated_edge number found.0 found.1).rises in
+      omega arith
+
+  pub no_cycle : HasCycle (generated number) → ⊥
+  no_cycle (walk, c) =
+      let some = c.some in
+      let back = rises (get_or walk (length walk - 1) 0) (get_or walk 0 0) c.back in
+      let least = c.least (length walk - 1) (omega arith) in
+      omega arith
+
+  -- ---- tracks
+
+  pub few_tracks : track_count (generated number) ≤ 4
+  few_tracks =
+      let fewer = length-filter-le (is_track (generated number)) (λ o. true) (outcomes (condition_count (generated number))) (λ o t. refl) in
+      let all = kept_all (outcomes (condition_count (generated number))) in
+      let four = outcomes_few (condition_count (generated number)) (few_conditions number) in
+      omega arith
+
+  -- ---- the join
+
+  join_inputs : inputs (generated number) 40 ≡ 39 ∷ 40 ∷ []
+  join_inputs = refl
+
+  first_edge : edge_at (generated number) 39 ≡ edge_of 10 40 (Some true)
+  first_edge = refl
+
+  second_edge : edge_at (generated number) 40 ≡ edge_of 10 40 (Some false)
+  second_edge = refl
+
+  module _ (values : List Bool) where
+    abbrev live_by : Edge → Bool
+    live_by e = active (generated number) values e.from && takes e.when (value_of (generated number) values e.from)
+
+    first_live : live (generated number) values 39 ≡ (active (generated number) values 10 && value_of (generated number) values 10)
+    first_live = ap live_by first_edge
+
+    second_live : live (generated number) values 40 ≡ (active (generated number) values 10 && not (value_of (generated number) values 10))
+    second_live = ap live_by second_edge
+
+    join_single : length (filter (live (generated number) values) (inputs (generated number) 40)) ≤ 1
+    join_single =
+        let both = ap₂ (λ a b. length (kept_of a b)) first_live second_live in
+        let listed = ap (λ es. length (filter (live (generated number) values) es)) join_inputs in
+        let one = one_live (active (generated number) values 10) (value_of (generated number) values 10) in
+        subst (λ n. n ≤ 1) (sym (listed ∙ both)) one
+
+  join_is : (p : ℕ) → p < process_count (generated number) → (process_at (generated number) p).join ≡ true → p ≡ 40
+  join_is p l t =
+      let within : p < 60 = omega (arith, processes_count number) in
+      eqb-true p 40 (ap (λ (q : Process). q.join) (sym (get_or-map-below (generated_process number) 60 p _ within)) ∙ t)
+
+  pub single_joins : HasSingleJoins (generated number)
+  single_joins p values l join long = subst (λ q. length (filter (live (generated number) values) (inputs (generated number) q)) ≤ 1) (sym (join_is p l join)) (join_single values)
+
+  -- ---- slots
+
+  slot_there : (node : ℕ) → node < 4 → has_slot (generated number) node ≡ true
+  slot_there node l = list_any_true (λ (s : Slot). s.node == node) (generated number).slots (slot_of node) (Contains-map slot_of (numbers_below 4) node (Contains-numbers 4 node l)) (eq-eqb node node refl)
+
+  slot_holds : (node : ℕ) → node < 4 → bytes_in (map slot_of (numbers_below 4)) node ≡ 8
+  slot_holds node l = eqb-true (bytes_in (map slot_of (numbers_below 4)) node) 8 (from_all (λ n. bytes_in (map slot_of (numbers_below 4)) n == 8) (numbers_below 4) node refl (Contains-numbers 4 node l))
+
+  pub all_fit : AllFit (generated number)
+  all_fit e l =
+      let from = (within_limits number).edges e _ l in
+      let node = ((within_limits number).processes (source (generated number) e) _ from.from).node in
+      let holds = slot_holds (node_of (generated number) (source (generated number) e)) node in
+      and_right (is_message (generated number) e) (nat_lt (slot_bytes (generated number) (node_of (generated number) (source (generated number) e))) (edge_at (generated number) e).size)
+      (ap (λ n. nat_lt n (edge_at (generated number) e).size) holds ∙ not_above (edge_at (generated number) e).size (edge_there number e l).size)
+
+  -- ---- no fault
+
+  two_live : (n : ℕ) → n ≤ 1 → nat_lt 1 n ≡ true → ⊥
+  two_live n l t = let h = ltb-true 1 n t in omega arith
+
+  pub no_fault : (fault : RuleFault) → ShowsFault (generated number) fault → fault ≡ OutOfMemory
+  no_fault (Cycle walk) shows = absurd (no_cycle (walk, shows))
+  no_fault TooManyTracks shows = absurd (let l = few_tracks in let m = shows.2 in omega (arith, l, m))
+  no_fault (TwoAlternatives p s) shows =
+      let a = shows.2 in
+      absurd (two_live (length (filter (live (generated number) s.values) (inputs (generated number) p))) (single_joins p s.values a.within a.join a.least.lawful.values) a.least.holds)
+  no_fault (NoSlot node) shows =
+      let lacks = shows.2 in
+      absurd (not_both (has_slot (generated number) node) (slot_there node lacks.within) (and_parts (is_sender (generated number) node) (not (has_slot (generated number) node)) lacks.lacks).1)
+  no_fault (TooBig e) shows = absurd (both_ways (is_too_big (generated number) e) (all_fit e shows.2.within) shows.2.above)
+  no_fault OutOfMemory shows = refl

@@ -1,0 +1,241 @@
+-- In generated graphs nothing is too wide.
+use Rattle.std.proofs.Common.{ℕ, zero, suc, ◌+◌, ◌-◌, ◌*◌, ◌^◌, ◌<◌, ◌≤◌, ◌≡◌, ◌==◌, inl, inr, Bool, true, false, cond, ◌&&◌, ◌||◌, List, [], ◌++◌, length, filter, map, sum_by, is_some, option_to_list, Contains, refl, sym, ap, ap₂, ◌∙◌, subst, arith, ne_eqb, ⊎_elim}
+use Rattle.std.specs.Prelude.{nat_lt}
+use Rattle.std.specs.List.{flat_map}
+use Rattle.std.proofs.Math.Nat.{mul-le-mul}
+use Rattle.std.proofs.lemmas.Bool.{and_from, and_right, both_ways, lt-ltb, le-ltb, cond-true, cond-false}
+use Rattle.std.proofs.lemmas.List.Elements.{Contains-append_cases}
+use Rattle.std.proofs.lemmas.List.Sums.{sum_by_push, length-filter}
+use Rattle.cpg_base.specs.Numbers.{numbers_below}
+use Rattle.cpg_base.specs.Graph.{process_count, edge_count, condition_count, item_count, edge_at, message_item, item_at, source, producer, is_message, is_frozen, is_frozen_item, condition_of, value_variable}
+use Rattle.cpg_base.specs.Activity.{active}
+use Rattle.cpg_base.specs.declared.item.Item.TheVariants.{Message}
+use Rattle.cpg_base.proofs.Lists.{Contains-nil, Contains-map_parts, list_any_false, numbers-Contains, filter_none, below_push}
+use Rattle.cpg_base.proofs.Sums.{length-filter-le, same_sum_by, sum_by_constant}
+use Rattle.cpg_base.proofs.Items.{item_cases, item_at-message}
+use Rattle.cpg_order.specs.Deciding.{outcomes, conditions_of}
+use Rattle.cpg_order.specs.Scenario.{scenarios}
+use Rattle.cpg_order.specs.Counting.{ways, is_quiet, is_count_free, free_counts, views_of_outcome}
+use Rattle.cpg_order.specs.Reach.{Reach, IsReach, is_in, reach_of, reach_by_item, send_reach, source_value, sent_value, end_reach, views, load, rows_of_item, is_too_wide, most_views, most_loads}
+use Rattle.cpg_order.specs.Queue.{queued_before}
+use Rattle.cpg_order.proofs.Ways.{ways_of_none, ways_to_none, ways_times}
+use Rattle.cpg_order.proofs.Views.{views-sum}
+use Rattle.cpg_order.proofs.ViewsGrow.{views_le_scenarios}
+use Rattle.cpg_order.proofs.ScenariosApart.{length-scenarios}
+use Rattle.cpg_reach.specs.Wide.{IsNarrow}
+use Rattle.cpg_gen.specs.Generated.{generated}
+use Rattle.cpg_gen.proofs.Limits.{edge_there, processes_count, edges_count, few_conditions}
+use Rattle.cpg_gen_laws.proofs.Kept.{outcomes_few, kept_all}
+
+-- ---- numbers
+
+powers_few : (n : ℕ) → n ≤ 2 → 2 ^ n ≤ 4
+powers_few zero l = omega arith
+powers_few (suc zero) l = omega arith
+powers_few (suc (suc zero)) l = omega arith
+powers_few (suc (suc (suc n))) l = absurd (omega arith)
+
+ways_of_processes : ways 60 2 ≡ 1891
+ways_of_processes =
+    let none = ways_to_none 60 in
+    let one = ways_times 60 0 in
+    let two = ways_times 60 1 in
+    omega arith
+
+product_few : (p w : ℕ) → p ≤ 4 → w ≡ 1891 → p * w ≤ 7564
+product_few p w l e = subst (λ v. p * v ≤ 7564) (sym e) (omega (arith, l))
+
+times : (a b m n : ℕ) → a ≤ m → b ≤ n → a * b ≤ m * n
+times a b m n l h = mul-le-mul l h
+
+-- ---- lists of values alone
+
+abbrev AreValues : List ℕ → Type 0
+AreValues vs = (v : ℕ) → Contains vs v → 128 ≤ v
+
+none_values : AreValues []
+none_values v k = absurd (Contains-nil v k)
+
+values_values : (cs : List ℕ) → AreValues (map value_variable cs)
+values_values cs v k = let r = Contains-map_parts value_variable cs v k in omega (arith, r.2)
+
+append_values : (xs ys : List ℕ) → AreValues xs → AreValues ys → AreValues (xs ++ ys)
+append_values xs ys h k v c = ⊎_elim (λ (a : Contains xs v). h v a) (λ (a : Contains ys v). k v a) (Contains-append_cases xs ys v c)
+
+either_values : (b : Bool) (xs ys : List ℕ) → AreValues xs → AreValues ys → AreValues (cond b xs ys)
+either_values true xs ys h k = h
+either_values false xs ys h k = k
+
+first_values : (b : Bool) (xs ys : List ℕ) → b ≡ true → AreValues xs → AreValues (cond b xs ys)
+first_values true xs ys e h = h
+first_values false xs ys e h = absurd (both_ways false refl e)
+
+no_count : (vs : List ℕ) → AreValues vs → (p : ℕ) → p < 128 → is_in vs p ≡ false
+no_count vs h p l = list_any_false (λ u. u == p) vs (λ u k. ne_eqb u p (λ e. let high = h u k in omega (arith, high, e, l)))
+
+-- ---- sums
+
+sums_grow : (f : ℕ → ℕ) (n m : ℕ) → sum_by f (numbers_below n) ≤ sum_by f (numbers_below (n + m))
+sums_grow f n zero = let e : n + 0 ≡ n = omega arith in subst (λ k. sum_by f (numbers_below n) ≤ sum_by f (numbers_below k)) (sym e) (omega arith)
+sums_grow f n (suc m) =
+    let pushed : sum_by f (numbers_below (n + m + 1)) ≡ sum_by f (numbers_below (n + m)) + f (n + m) = ap (sum_by f) (below_push (n + m)) ∙ sum_by_push f (numbers_below (n + m)) (n + m) in
+    let ih = sums_grow f n m in
+    let e : n + suc m ≡ n + m + 1 = omega arith in
+    subst (λ k. sum_by f (numbers_below n) ≤ sum_by f (numbers_below k)) (sym e) (omega (arith, pushed, ih))
+
+-- term by term
+sums_below : (f h : ℕ → ℕ) (n : ℕ) → ((x : ℕ) → x < n → f x ≤ h x) → sum_by f (numbers_below n) ≤ sum_by h (numbers_below n)
+sums_below f h zero l = omega arith
+sums_below f h (suc n) l =
+    let e : suc n ≡ n + 1 = omega arith in
+    let first = ap (λ k. sum_by f (numbers_below k)) e ∙ ap (sum_by f) (below_push n) ∙ sum_by_push f (numbers_below n) n in
+    let second = ap (λ k. sum_by h (numbers_below k)) e ∙ ap (sum_by h) (below_push n) ∙ sum_by_push h (numbers_below n) n in
+    let ih = sums_below f h n (λ x k. l x (omega arith)) in
+    let last = l n (omega arith) in
+    omega (arith, first, second, ih, last)
+
+-- what an item adds at most
+abbrev bound : ℕ → ℕ
+bound x = cond (nat_lt x 60) 7564 (cond (nat_lt x 120) 8 30256)
+
+bound_of_start : (x : ℕ) → x < 60 → bound x ≡ 7564
+bound_of_start x l = cond-true (nat_lt x 60) 7564 (cond (nat_lt x 120) 8 30256) (lt-ltb x 60 l)
+
+bound_of_message : (x : ℕ) → 60 ≤ x → x < 120 → bound x ≡ 8
+bound_of_message x l h = cond-false (nat_lt x 60) 7564 (cond (nat_lt x 120) 8 30256) (le-ltb x 60 l) ∙ cond-true (nat_lt x 120) 8 30256 (lt-ltb x 120 h)
+
+bound_of_broadcast : (x : ℕ) → 120 ≤ x → bound x ≡ 30256
+bound_of_broadcast x l = cond-false (nat_lt x 60) 7564 (cond (nat_lt x 120) 8 30256) (le-ltb x 60 (omega arith)) ∙ cond-false (nat_lt x 120) 8 30256 (le-ltb x 120 l)
+
+bounds : sum_by bound (numbers_below 122) ≡ 514832
+bounds = refl
+
+few_rows : (b : Bool) (n : ℕ) → cond b n 0 ≤ n
+few_rows true n = omega arith
+few_rows false n = omega arith
+
+module _ (number : ℕ) where
+  -- ---- views
+
+  pub few_scenarios : length (scenarios (generated number)) ≤ 7564
+  few_scenarios =
+      let all = length-scenarios (generated number) in
+      let processes = ap (λ n. ways n 2) (processes_count number) ∙ ways_of_processes in
+      let few = product_few (2 ^ condition_count (generated number)) (ways (process_count (generated number)) 2) (powers_few (condition_count (generated number)) (few_conditions number)) processes in
+      subst (λ n. n ≤ 7564) (sym all) few
+
+  pub few_views : (reached : List ℕ) → views (generated number) reached ≤ 7564
+  few_views reached =
+      let all = views_le_scenarios (generated number) reached in
+      let processes = ap (λ n. ways n 2) (processes_count number) ∙ ways_of_processes in
+      let few = product_few (2 ^ condition_count (generated number)) (ways (process_count (generated number)) 2) (powers_few (condition_count (generated number)) (few_conditions number)) processes in
+      omega (arith, all, few)
+
+  -- what only values are in reach of has a view for each outcome at most
+  module _ (reached : List ℕ) (h : (p : ℕ) → p < 128 → is_in reached p ≡ false) where
+    no_free : (o : List Bool) → free_counts (generated number) reached o ≡ 0
+    no_free o = sym (length-filter (is_count_free (generated number) reached o) (numbers_below (process_count (generated number))))
+        ∙ ap length (filter_none (is_count_free (generated number) reached o) (numbers_below (process_count (generated number)))
+        (λ p k. let l = numbers-Contains (process_count (generated number)) p k in
+        let within : p < 128 = omega (arith, l, processes_count number) in
+        ap (λ b. b && active (generated number) o p) (h p within)))
+
+    one_view : (o : List Bool) → views_of_outcome (generated number) reached o ≡ 1
+    one_view o = ap (λ n. ways n 2) (no_free o) ∙ ways_of_none 2
+
+    pub views_by_outcome : views (generated number) reached ≤ 4
+    views_by_outcome =
+        let os = outcomes (condition_count (generated number)) in
+        let quiet = filter (is_quiet (generated number) reached) os in
+        let sum : views (generated number) reached ≡ length quiet * 1 =
+        views-sum (generated number) reached (omega (arith, processes_count number)) ∙ same_sum_by (views_of_outcome (generated number) reached) (λ o. 1) quiet (λ o k. one_view o) ∙ sum_by_constant 1 quiet in
+        let fewer : length quiet ≤ length (filter (λ o. true) os) = length-filter-le (is_quiet (generated number) reached) (λ o. true) os (λ o t. refl) in
+        let all : length (filter (λ (o : List Bool). true) os) ≡ length os = kept_all os in
+        let four = outcomes_few (condition_count (generated number)) (few_conditions number) in
+        omega (arith, sum, fewer, all, four)
+
+  module _ (order : List ℕ) (r : Reach) (is : IsReach (generated number) order r) where
+    -- ---- messages
+
+    module _ (e : ℕ) (l : e < edge_count (generated number)) where
+      item : item_at (generated number) (message_item (generated number) e) ≡ Message e
+      item = item_at-message (generated number) e l
+
+      source_values : AreValues (source_value (generated number) e)
+      source_values = either_values (is_some (edge_at (generated number) e).when) (map value_variable (option_to_list (condition_of (generated number) (source (generated number) e)))) [] (values_values (option_to_list (condition_of (generated number) (source (generated number) e)))) none_values
+
+      sent_values : AreValues (sent_value (generated number) (item_at (generated number) (message_item (generated number) e)))
+      sent_values = subst (λ i. AreValues (sent_value (generated number) i)) (sym item) source_values
+
+      send_values : is_message (generated number) e ≡ true → AreValues (send_reach (generated number) order r (message_item (generated number) e))
+      send_values t =
+          let x = message_item (generated number) e in
+          let still = conditions_of (generated number) (producer (generated number) x) in
+          let moving = end_reach r (producer (generated number) x) ++ flat_map (reach_of r) (queued_before (generated number) order x) in
+          let frozen : is_frozen (generated number) x ≡ true = ap (is_frozen_item (generated number)) item ∙ and_from (is_message (generated number) e) (edge_at (generated number) e).frozen t (edge_there number e l).frozen in
+          append_values (cond (is_frozen (generated number) x) (map value_variable still) moving) (sent_value (generated number) (item_at (generated number) x))
+          (first_values (is_frozen (generated number) x) (map value_variable still) moving frozen (values_values still))
+          sent_values
+
+      if_sent : (b : Bool) → is_message (generated number) e ≡ b → AreValues (cond b (send_reach (generated number) order r (message_item (generated number) e)) [])
+      if_sent true t = send_values t
+      if_sent false t = none_values
+
+      reached_values : AreValues (reach_by_item (generated number) order r (message_item (generated number) e) (item_at (generated number) (message_item (generated number) e)))
+      reached_values = subst (λ i. AreValues (reach_by_item (generated number) order r (message_item (generated number) e) i)) (sym item) (if_sent (is_message (generated number) e) refl)
+
+      pub message_views : views (generated number) (reach_of r (message_item (generated number) e)) ≤ 4
+      message_views = views_by_outcome (reach_of r (message_item (generated number) e))
+          (λ p h. is.each (message_item (generated number) e) p (omega (arith, l)) ∙ no_count (reach_by_item (generated number) order r (message_item (generated number) e) (item_at (generated number) (message_item (generated number) e))) reached_values p h)
+
+    -- ---- loads
+
+    load_few : (x : ℕ) → x < item_count (generated number) → load (generated number) r x ≤ bound x
+    load_few x l =
+        let g = generated number in
+        let count = processes_count number in
+        let edges = edges_count number in
+        let all = few_views (reach_of r x) in
+        elim (item_cases (generated number) x l) [
+          | inl c ↦ (let rows = ap (rows_of_item (generated number)) c.1 in
+              let product = times (views (generated number) (reach_of r x)) (rows_of_item (generated number) (item_at (generated number) x)) 7564 1 all (omega (arith, rows)) in
+              let most = bound_of_start x (omega (arith, c.0, count)) in
+              omega (arith, product, most))
+          | inr (inl c) ↦ (let rows = ap (rows_of_item (generated number)) c.3 in
+              let two = few_rows (is_message (generated number) c.0) 2 in
+              let four : views (generated number) (reach_of r x) ≤ 4 = subst (λ y. views (generated number) (reach_of r y) ≤ 4) (sym c.2) (message_views c.0 c.1) in
+              let product = times (views (generated number) (reach_of r x)) (rows_of_item (generated number) (item_at (generated number) x)) 4 2 four (omega (arith, rows, two)) in
+              let most = bound_of_message x (omega (arith, c.2, count)) (omega (arith, c.1, c.2, count, edges)) in
+              omega (arith, product, most))
+          | inr (inr c) ↦ (let rows = ap (rows_of_item (generated number)) c.3 in
+              let four = few_rows (nat_lt 1 4) 4 in
+              let product = times (views (generated number) (reach_of r x)) (rows_of_item (generated number) (item_at (generated number) x)) 7564 4 all (omega (arith, rows, four)) in
+              let most = bound_of_broadcast x (omega (arith, c.2, count, edges)) in
+              omega (arith, product, most))
+        ]
+
+    -- of the items up to one
+    pub loads_up_to : (n : ℕ) → n ≤ item_count (generated number) → sum_by (load (generated number) r) (numbers_below n) ≤ 514832
+    loads_up_to n l =
+        let count = processes_count number in
+        let edges = edges_count number in
+        let conditions = few_conditions number in
+        let within : n ≤ 122 = omega (arith, l, count, edges, conditions) in
+        let rest : n + (122 - n) ≡ 122 = omega (arith, within) in
+        let each = sums_below (load (generated number) r) bound n (λ x h. load_few x (omega (arith, h, l))) in
+        let grown = subst (λ m. sum_by bound (numbers_below n) ≤ sum_by bound (numbers_below m)) rest (sums_grow bound n (122 - n)) in
+        let total = bounds in
+        omega (arith, each, grown, total)
+
+    not_wide : (x : ℕ) → x < item_count (generated number) → is_too_wide (generated number) r x ≡ false
+    not_wide x l =
+        let narrow = few_views (reach_of r x) in
+        let light = loads_up_to (x + 1) (omega arith) in
+        and_right (nat_lt 0 (rows_of_item (generated number) (item_at (generated number) x))) (nat_lt most_views (views (generated number) (reach_of r x)) || nat_lt most_loads (sum_by (load (generated number) r) (numbers_below (x + 1))))
+        (ap₂ ◌||◌ (le-ltb most_views (views (generated number) (reach_of r x)) (omega (arith, narrow))) (le-ltb most_loads (sum_by (load (generated number) r) (numbers_below (x + 1))) (omega (arith, light))))
+
+  pub small_loads : (order : List ℕ) (r : Reach) → IsReach (generated number) order r → sum_by (load (generated number) r) (numbers_below (item_count (generated number))) ≤ 514832
+  small_loads order r is = loads_up_to order r is (item_count (generated number)) (omega arith)
+
+  pub narrow : (order : List ℕ) → IsNarrow (generated number) order
+  narrow order x wide = both_ways (is_too_wide (generated number) wide.reach x) (not_wide order wide.reach wide.reached x wide.within) wide.wide

@@ -1,0 +1,8 @@
+use Rattle.cpg_gen_laws.proofs.Narrow.{few_scenarios, few_views}
+use Rattle.cpg_gen_laws.proofs.generated_have_few_scenarios.Goals as goal
+
+pub returns-clause-scenarios : goal.returns-clause-scenarios
+returns-clause-scenarios c = few_scenarios
+
+pub returns-clause-views : goal.returns-clause-views
+returns-clause-views c = few_views

@@ -1,0 +1,5 @@
+use Rattle.cpg_gen_laws.proofs.Kept.{few_tracks}
+use Rattle.cpg_gen_laws.proofs.generated_have_few_tracks.Goals as goal
+
+pub returns : goal.returns
+returns c = few_tracks

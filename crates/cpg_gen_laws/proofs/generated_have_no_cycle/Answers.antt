@@ -1,0 +1,5 @@
+use Rattle.cpg_gen_laws.proofs.Kept.{no_cycle}
+use Rattle.cpg_gen_laws.proofs.generated_have_no_cycle.Goals as goal
+
+pub returns : goal.returns
+returns c = no_cycle

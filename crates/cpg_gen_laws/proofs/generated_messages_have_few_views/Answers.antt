@@ -1,0 +1,5 @@
+use Rattle.cpg_gen_laws.proofs.Narrow.{message_views}
+use Rattle.cpg_gen_laws.proofs.generated_messages_have_few_views.Goals as goal
+
+pub returns : goal.returns
+returns c = message_views

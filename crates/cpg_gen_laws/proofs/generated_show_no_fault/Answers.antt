@@ -1,0 +1,5 @@
+use Rattle.cpg_gen_laws.proofs.Kept.{no_fault}
+use Rattle.cpg_gen_laws.proofs.generated_show_no_fault.Goals as goal
+
+pub returns : goal.returns
+returns c = no_fault

@@ -1,0 +1,51 @@
+//! Laws on the graphs that numbers generate: each is admitted, and nothing in it is too wide.
+#![tactic(auto)]
+
+ghost use Rattle.cpg_gen_laws.specs.Admission.{GeneratedHaveFewTracks, GeneratedHaveNoCycle, GeneratedHaveSingleJoins, GeneratedMessagesFit, GeneratedShowNoFault};
+ghost use Rattle.cpg_gen_laws.specs.Width.{GeneratedAreNarrow, GeneratedHaveFewScenarios, GeneratedHaveFewViews, GeneratedHaveSmallLoads, GeneratedMessagesHaveFewViews};
+
+/// The graph of no number has a cycle.
+pub fn generated_have_no_cycle()
+    ensures { GeneratedHaveNoCycle }
+{}
+
+/// The graph of every number has at most four tracks.
+pub fn generated_have_few_tracks()
+    ensures { GeneratedHaveFewTracks }
+{}
+
+/// No outcome makes two inputs of the join live.
+pub fn generated_have_single_joins()
+    ensures { GeneratedHaveSingleJoins }
+{}
+
+/// Each message fits into its sender's slot.
+pub fn generated_messages_fit()
+    ensures { GeneratedMessagesFit }
+{}
+
+/// The graph of every number keeps all rules: it shows no fault but want of memory.
+pub fn generated_show_no_fault()
+    ensures { GeneratedShowNoFault }
+{}
+
+/// The graph of every number has at most 7,564 scenarios, and no item more views.
+pub fn generated_have_few_scenarios()
+    ensures scenarios { GeneratedHaveFewScenarios }
+    ensures views { GeneratedHaveFewViews }
+{}
+
+/// Each message has at most four views.
+pub fn generated_messages_have_few_views()
+    ensures { GeneratedMessagesHaveFewViews }
+{}
+
+/// All loads together are at most 514,832.
+pub fn generated_have_small_loads()
+    ensures { GeneratedHaveSmallLoads }
+{}
+
+/// Nothing is too wide under any order.
+pub fn generated_are_narrow()
+    ensures { GeneratedAreNarrow }
+{}
