@@ -37,7 +37,7 @@ pairs_by R f n h = λ i j d l m.
 numbered_differ : (b : ℕ) (i j : ℕ) → i < j → j < 60 → numbered (b ∷ []) i ≢ numbered (b ∷ []) j
 numbered_differ b i j l m e = absurd (omega (arith, decimal_injective i j (omega arith) (omega arith) (ap (drop 1) e)))
 
-draw-lt : (x n bound : ℕ) → 0 < bound → nth_draw x n bound < bound
+pub draw-lt : (x n bound : ℕ) → 0 < bound → nth_draw x n bound < bound
 draw-lt x n bound l = mod-lt (number_after x n / 2 ^ 33) l
 
 process_within : (x i : ℕ) → IsProcessWithin 4 (process_from x i)

@@ -1,7 +1,8 @@
-//! Laws on the graphs that numbers generate: each is admitted, and nothing in it is too wide.
+//! Laws on the graphs that numbers generate: each is admitted, nothing in it is too wide, and nothing is late.
 #![tactic(auto)]
 
 ghost use Rattle.cpg_gen_laws.specs.Admission.{GeneratedHaveFewTracks, GeneratedHaveNoCycle, GeneratedHaveSingleJoins, GeneratedMessagesFit, GeneratedShowNoFault};
+ghost use Rattle.cpg_gen_laws.specs.Timing.{GeneratedAreInTime, GeneratedEndEarly};
 ghost use Rattle.cpg_gen_laws.specs.Width.{GeneratedAreNarrow, GeneratedHaveFewScenarios, GeneratedHaveFewViews, GeneratedHaveSmallLoads, GeneratedMessagesHaveFewViews};
 
 /// The graph of no number has a cycle.
@@ -48,4 +49,14 @@ pub fn generated_have_small_loads()
 /// Nothing is too wide under any order.
 pub fn generated_are_narrow()
     ensures { GeneratedAreNarrow }
+{}
+
+/// Under a topological order no process ends later than 19,720.
+pub fn generated_end_early()
+    ensures { GeneratedEndEarly }
+{}
+
+/// Under a topological order no process ever ends past its due.
+pub fn generated_are_in_time()
+    ensures { GeneratedAreInTime }
 {}
