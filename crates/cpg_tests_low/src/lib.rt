@@ -8,6 +8,8 @@ mod bus_tests;
 #[cfg(test)]
 mod cube_tests;
 #[cfg(test)]
+mod generator_tests;
+#[cfg(test)]
 mod guard_tests;
 #[cfg(test)]
 mod merging_tests;
