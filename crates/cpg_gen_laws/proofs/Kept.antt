@@ -1,5 +1,5 @@
 -- Generated graphs keep the rules of admission.
-use Rattle.std.proofs.Common.{ℕ, zero, suc, ◌-◌, ◌<◌, ◌≤◌, ◌≡◌, ◌==◌, Bool, true, false, cond, not, ◌&&◌, List, [], ◌∷◌, length, get_or, filter, map, Some, refl, sym, ap, ap₂, ◌∙◌, subst, arith, eqb-true, eq-eqb, ltb-true, le-ltb}
+use Rattle.std.proofs.Common.{ℕ, ◌^◌, zero, suc, ◌-◌, ◌<◌, ◌≤◌, ◌≡◌, ◌==◌, Bool, true, false, cond, not, ◌&&◌, List, [], ◌∷◌, length, get_or, filter, map, Some, refl, sym, ap, ap₂, ◌∙◌, subst, arith, eqb-true, eq-eqb, ltb-true, le-ltb}
 use Rattle.std.specs.Prelude.{nat_lt}
 use Rattle.std.proofs.lemmas.Bool.{and_parts, and_right, both_ways}
 use Rattle.cpg_base.specs.declared.process.Process.{Process}
@@ -10,7 +10,8 @@ use Rattle.cpg_base.specs.Graph.{process_count, condition_count, process_at, edg
 use Rattle.cpg_base.specs.Activity.{active, live, takes, value_of}
 use Rattle.cpg_base.specs.WellFormed.{HasSingleJoins}
 use Rattle.cpg_base.proofs.Lists.{get_or-map-below, Contains-map, Contains-numbers, from_all, list_any_true, list_any_parts}
-use Rattle.cpg_base.proofs.Sums.{length-filter-le}
+use Rattle.std.proofs.lemmas.List.Sums.{length-filter, count_by-le-length}
+use Rattle.cpg_order.proofs.ScenariosApart.{length-outcomes}
 use Rattle.cpg_order.specs.Cycle.{HasCycle, has_edge}
 use Rattle.cpg_order.specs.Deciding.{outcomes}
 use Rattle.cpg_order.specs.Track.{is_track, track_count}
@@ -21,16 +22,18 @@ use Rattle.cpg_rules.specs.Faults.{ShowsFault}
 use Rattle.cpg_gen.specs.Generated.{generated, generated_process, edge_of, slot_of}
 use Rattle.cpg_gen.proofs.Limits.{generated_edge, edge_there, processes_count, few_conditions, within_limits}
 
--- all elements are kept by a test that always passes
-pub kept_all : {X : Type 0} (xs : List X) → length (filter (λ x. true) xs) ≡ length xs
-kept_all [] = refl
-kept_all (x ∷ xs) = ap suc (kept_all xs)
+-- a filter keeps no more than there is
+pub filter_long : {X : Type 0} (p : X → Bool) (xs : List X) → length (filter p xs) ≤ length xs
+filter_long p xs = omega (arith, length-filter p xs, count_by-le-length p xs)
+
+pub powers_few : (n : ℕ) → n ≤ 2 → 2 ^ n ≤ 4
+powers_few zero l = omega arith
+powers_few (suc zero) l = omega arith
+powers_few (suc (suc zero)) l = omega arith
+powers_few (suc (suc (suc n))) l = absurd (omega arith)
 
 pub outcomes_few : (n : ℕ) → n ≤ 2 → length (outcomes n) ≤ 4
-outcomes_few zero l = omega arith
-outcomes_few (suc zero) l = omega arith
-outcomes_few (suc (suc zero)) l = omega arith
-outcomes_few (suc (suc (suc n))) l = absurd (omega arith)
+outcomes_few n l = omega (arith, length-outcomes n, powers_few n l)
 
 -- two edges that ask for different values of one condition are not both live
 abbrev kept_of : Bool → Bool → List ℕ
@@ -72,10 +75,9 @@ module _ (number : ℕ) where
 
   pub few_tracks : track_count (generated number) ≤ 4
   few_tracks =
-      let fewer = length-filter-le (is_track (generated number)) (λ o. true) (outcomes (condition_count (generated number))) (λ o t. refl) in
-      let all = kept_all (outcomes (condition_count (generated number))) in
+      let fewer = filter_long (is_track (generated number)) (outcomes (condition_count (generated number))) in
       let four = outcomes_few (condition_count (generated number)) (few_conditions number) in
-      omega arith
+      omega (arith, fewer, four)
 
   -- ---- the join
 

@@ -11,7 +11,7 @@ use Rattle.cpg_base.specs.Graph.{process_count, edge_count, condition_count, ite
 use Rattle.cpg_base.specs.Activity.{active}
 use Rattle.cpg_base.specs.declared.item.Item.TheVariants.{Message}
 use Rattle.cpg_base.proofs.Lists.{Contains-nil, Contains-map_parts, list_any_false, numbers-Contains, filter_none, below_push}
-use Rattle.cpg_base.proofs.Sums.{length-filter-le, same_sum_by, sum_by_constant}
+use Rattle.cpg_base.proofs.Sums.{same_sum_by, sum_by_constant, sum_by-le_each}
 use Rattle.cpg_base.proofs.Items.{item_cases, item_at-message}
 use Rattle.cpg_order.specs.Deciding.{outcomes, conditions_of}
 use Rattle.cpg_order.specs.Scenario.{scenarios}
@@ -25,15 +25,9 @@ use Rattle.cpg_order.proofs.ScenariosApart.{length-scenarios}
 use Rattle.cpg_reach.specs.Wide.{IsNarrow}
 use Rattle.cpg_gen.specs.Generated.{generated}
 use Rattle.cpg_gen.proofs.Limits.{edge_there, processes_count, edges_count, few_conditions}
-use Rattle.cpg_gen_laws.proofs.Kept.{outcomes_few, kept_all}
+use Rattle.cpg_gen_laws.proofs.Kept.{filter_long, powers_few, outcomes_few}
 
 -- ---- numbers
-
-powers_few : (n : ℕ) → n ≤ 2 → 2 ^ n ≤ 4
-powers_few zero l = omega arith
-powers_few (suc zero) l = omega arith
-powers_few (suc (suc zero)) l = omega arith
-powers_few (suc (suc (suc n))) l = absurd (omega arith)
 
 ways_of_processes : ways 60 2 ≡ 1891
 ways_of_processes =
@@ -82,17 +76,6 @@ sums_grow f n (suc m) =
     let ih = sums_grow f n m in
     let e : n + suc m ≡ n + m + 1 = omega arith in
     subst (λ k. sum_by f (numbers_below n) ≤ sum_by f (numbers_below k)) (sym e) (omega (arith, pushed, ih))
-
--- term by term
-sums_below : (f h : ℕ → ℕ) (n : ℕ) → ((x : ℕ) → x < n → f x ≤ h x) → sum_by f (numbers_below n) ≤ sum_by h (numbers_below n)
-sums_below f h zero l = omega arith
-sums_below f h (suc n) l =
-    let e : suc n ≡ n + 1 = omega arith in
-    let first = ap (λ k. sum_by f (numbers_below k)) e ∙ ap (sum_by f) (below_push n) ∙ sum_by_push f (numbers_below n) n in
-    let second = ap (λ k. sum_by h (numbers_below k)) e ∙ ap (sum_by h) (below_push n) ∙ sum_by_push h (numbers_below n) n in
-    let ih = sums_below f h n (λ x k. l x (omega arith)) in
-    let last = l n (omega arith) in
-    omega (arith, first, second, ih, last)
 
 -- what an item adds at most
 abbrev bound : ℕ → ℕ
@@ -149,10 +132,9 @@ module _ (number : ℕ) where
         let quiet = filter (is_quiet (generated number) reached) os in
         let sum : views (generated number) reached ≡ length quiet * 1 =
         views-sum (generated number) reached (omega (arith, processes_count number)) ∙ same_sum_by (views_of_outcome (generated number) reached) (λ o. 1) quiet (λ o k. one_view o) ∙ sum_by_constant 1 quiet in
-        let fewer : length quiet ≤ length (filter (λ o. true) os) = length-filter-le (is_quiet (generated number) reached) (λ o. true) os (λ o t. refl) in
-        let all : length (filter (λ (o : List Bool). true) os) ≡ length os = kept_all os in
+        let fewer : length quiet ≤ length os = filter_long (is_quiet (generated number) reached) os in
         let four = outcomes_few (condition_count (generated number)) (few_conditions number) in
-        omega (arith, sum, fewer, all, four)
+        omega (arith, sum, fewer, four)
 
   module _ (order : List ℕ) (r : Reach) (is : IsReach (generated number) order r) where
     -- ---- messages
@@ -222,7 +204,7 @@ module _ (number : ℕ) where
         let conditions = few_conditions number in
         let within : n ≤ 122 = omega (arith, l, count, edges, conditions) in
         let rest : n + (122 - n) ≡ 122 = omega (arith, within) in
-        let each = sums_below (load (generated number) r) bound n (λ x h. load_few x (omega (arith, h, l))) in
+        let each = sum_by-le_each (load (generated number) r) bound (numbers_below n) (λ x k. let h = numbers-Contains n x k in load_few x (omega (arith, h, l))) in
         let grown = subst (λ m. sum_by bound (numbers_below n) ≤ sum_by bound (numbers_below m)) rest (sums_grow bound n (122 - n)) in
         let total = bounds in
         omega (arith, each, grown, total)

@@ -36,6 +36,7 @@ use Rattle.cpg_run.proofs.Bounded.{start_bounds_le, send_bounds_le}
 use Rattle.cpg_run.proofs.Rising.{next_slot-le}
 use Rattle.cpg_gen.specs.Draws.{nth_draw}
 use Rattle.cpg_gen.specs.Generated.{generated, generated_process, process_from, number_before}
+use Rattle.cpg_gen_laws.proofs.Kept.{filter_long}
 use Rattle.cpg_gen.proofs.Limits.{draw-lt, processes_count, edges_count, few_conditions}
 
 -- ---- durations
@@ -71,14 +72,6 @@ duration_from x i f l =
 -- how many of the first n numbers have a moment before one
 abbrev count_before : (ℕ → ℕ) → ℕ → ℕ → ℕ
 count_before at n m = length (filter (λ x. nat_lt (at x) m) (numbers_below n))
-
-filter_long : {X : Type 0} (p : X → Bool) (xs : List X) → length (filter p xs) ≤ length xs
-filter_long p [] = omega arith
-filter_long p (x ∷ xs) = go (p x) (filter_long p xs)
-  where
-    go : (b : Bool) → length (filter p xs) ≤ length xs → length (cond b (x ∷ filter p xs) (filter p xs)) ≤ suc (length xs)
-    go true ih = omega (arith, ih)
-    go false ih = omega (arith, ih)
 
 -- one passes the second test alone
 one_more : {X : Type 0} (p q : X → Bool) (xs : List X) (y : X) → ((x : X) → p x ≡ true → q x ≡ true) → Contains xs y → p y ≡ false → q y ≡ true → length (filter p xs) + 1 ≤ length (filter q xs)
