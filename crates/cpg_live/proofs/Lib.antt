@@ -1,0 +1,5 @@
+pub mod Turns
+pub mod Rooms
+pub mod Cutting
+pub mod Steps
+pub mod Growing

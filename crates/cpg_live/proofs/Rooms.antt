@@ -1,0 +1,97 @@
+-- How many acts a node may still do: each entry of its table is taken at most once.
+use Rattle.std.proofs.Common.{◌≡◌, ℕ, ◌+◌, ◌≤◌, Bool, true, false, cond, ◌&&◌, ◌==◌, List, [], ◌∷◌, ◌++◌, length, map, filter, Option, Some, None, refl, sym, ap, ap₂, ◌∙◌, arith, true≢false, ltb, lt-ltb, ltb-true, eqb-true}
+use Rattle.std.specs.List.{flat_map, list_all}
+use Rattle.std.proofs.lemmas.List.{length-map, length-append}
+use Rattle.std.proofs.lemmas.List.Elements.{filter-append}
+use Rattle.std.proofs.lemmas.List.Sums.{sum_by-append, sum_by-cons}
+use Rattle.cpg_table.specs.Lawful.{column_count}
+use Rattle.cpg_table.specs.Table.{Column, Row}
+use Rattle.cpg_node.specs.Dispatcher.{Dispatcher, Range, Act, is_after, next, has_heard, acts_of_columns, acts_of_turn, heard_after, turn, times_in}
+use Rattle.cpg_node.proofs.Next.{next_is}
+use Rattle.cpg_live.specs.Feeding.{entries_left}
+
+-- the times of a turn among times
+abbrev now : ℕ → List ℕ → List ℕ
+now time ts = filter (λ t. t == time) ts
+
+-- A turn does no more acts than there are entries of its time.
+
+columns_few : (heard : List Range) (time x i : ℕ) (cs : List Column) → length (acts_of_columns heard time x i cs) ≤ length (now time (map (λ (c : Column). c.time) cs))
+columns_few heard time x i [] = omega arith
+columns_few heard time x i (c ∷ cs) = go (c.time == time) (list_all (has_heard heard) c.cube) (columns_few heard time x (i + 1) cs)
+  where
+    go : (a b : Bool) → length (acts_of_columns heard time x (i + 1) cs) ≤ length (now time (map (λ (c : Column). c.time) cs)) →
+        length (cond (a && b) (record { time = time; item = x; column = i } ∷ []) [] ++ acts_of_columns heard time x (i + 1) cs) ≤ length (cond a (c.time ∷ now time (map (λ (c : Column). c.time) cs)) (now time (map (λ (c : Column). c.time) cs)))
+    go true true l = omega (arith, l)
+    go true false l = omega (arith, l)
+    go false b l = l
+
+rows_few : (heard : List Range) (time : ℕ) (rows : List Row) → length (flat_map (λ (row : Row). acts_of_columns heard time row.item 0 row.columns) rows) ≤ length (now time (times_in rows))
+rows_few heard time [] = omega arith
+rows_few heard time (row ∷ rows) =
+    let acts : List Act = acts_of_columns heard time row.item 0 row.columns in
+    let more : List Act = flat_map (λ (row : Row). acts_of_columns heard time row.item 0 row.columns) rows in
+    let times : List ℕ = map (λ (c : Column). c.time) row.columns in
+    omega (
+      arith,
+      length-append acts more,
+      ap (λ (l : List ℕ). length l) (filter-append (λ t. t == time) times (times_in rows)),
+      length-append (now time times) (now time (times_in rows)),
+      columns_few heard time row.item 0 row.columns,
+      rows_few heard time rows,
+    )
+
+pub after_later : (last : Option ℕ) (time x : ℕ) → is_after last time ≡ true → time ≤ x → is_after last x ≡ true
+after_later None time x a h = refl
+after_later (Some l) time x a h = lt-ltb l x (omega (arith, ltb-true l time a, h))
+
+-- the entries of a turn's time aren't left after it
+left_then : (last : Option ℕ) (time : ℕ) → is_after last time ≡ true → (ts : List ℕ) → length (now time ts) + length (filter (is_after (Some time)) ts) ≤ length (filter (is_after last) ts)
+left_then last time a [] = omega arith
+left_then last time a (t ∷ ts) = go (t == time) (ltb time t) (is_after last t)
+    (λ e f. omega (arith, eqb-true t time e, ltb-true time t f))
+    (λ e. after_later last time t a (omega (arith, eqb-true t time e)))
+    (λ f. after_later last time t a (omega (arith, ltb-true time t f)))
+    (left_then last time a ts)
+  where
+    go : (e f b : Bool) → (e ≡ true → f ≡ true → ⊥) → (e ≡ true → b ≡ true) → (f ≡ true → b ≡ true) →
+        length (now time ts) + length (filter (is_after (Some time)) ts) ≤ length (filter (is_after last) ts) →
+        length (cond e (t ∷ now time ts) (now time ts)) + length (cond f (t ∷ filter (is_after (Some time)) ts) (filter (is_after (Some time)) ts)) ≤ length (cond b (t ∷ filter (is_after last) ts) (filter (is_after last) ts))
+    go true true b apart x y h = absurd (apart refl refl)
+    go true false true apart x y h = omega (arith, h)
+    go true false false apart x y h = absurd (true≢false (sym (x refl)))
+    go false true true apart x y h = omega (arith, h)
+    go false true false apart x y h = absurd (true≢false (sym (y refl)))
+    go false false true apart x y h = omega (arith, h)
+    go false false false apart x y h = h
+
+-- the acts of a turn and the entries that are left after it
+pub room_turn : (d : Dispatcher) (time : ℕ) → next d ≡ Some time → length (acts_of_turn d time [] []) + length (entries_left (turn d time [] [])) ≤ length (entries_left d)
+room_turn d time e = omega (
+  arith,
+  rows_few (heard_after d time [] []) time (d.table.sends ++ d.table.starts),
+  left_then d.last time (next_is d time e).after (times_in (d.table.sends ++ d.table.starts)),
+)
+
+-- At first there are no more than columns of what the node sends and starts.
+
+times_count : (rows : List Row) → length (times_in rows) ≡ column_count rows
+times_count [] = refl
+times_count (row ∷ rows) = length-append (map (λ (c : Column). c.time) row.columns) (times_in rows)
+    ∙ ap₂ (λ m n. m + n) (length-map row.columns (λ (c : Column). c.time)) (times_count rows) ∙ sym (sum_by-cons (λ (row : Row). length row.columns) row rows)
+
+fewer : (p : ℕ → Bool) (ts : List ℕ) → length (filter p ts) ≤ length ts
+fewer p [] = omega arith
+fewer p (t ∷ ts) = go (p t) (fewer p ts)
+  where
+    go : (b : Bool) → length (filter p ts) ≤ length ts → length (cond b (t ∷ filter p ts) (filter p ts)) ≤ length (t ∷ ts)
+    go true l = omega (arith, l)
+    go false l = omega (arith, l)
+
+pub room_open : (d : Dispatcher) → length (entries_left d) ≤ column_count d.table.sends + column_count d.table.starts
+room_open d = omega (
+  arith,
+  fewer (is_after d.last) (times_in (d.table.sends ++ d.table.starts)),
+  times_count (d.table.sends ++ d.table.starts),
+  sum_by-append (λ (row : Row). length row.columns) d.table.sends d.table.starts,
+)

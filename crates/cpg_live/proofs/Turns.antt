@@ -1,0 +1,130 @@
+-- Turns below a limit: their instants rise, so that none is left after as many as the limit.
+use Rattle.std.proofs.Common.{◌≡◌, ℕ, zero, suc, ◌+◌, ◌-◌, ◌<◌, ◌≤◌, true, cond, Option, Some, None, refl, sym, ap, ◌∙◌, subst, arith, inl, inr, ◌⊎◌, lt-ltb, ltb-true, le-ltb}
+use Rattle.std.specs.Prelude.{IfSome}
+use Rattle.std.proofs.lemmas.Bool.{cases_lt}
+use Rattle.std.proofs.lemmas.Option.{none-some, same_Some}
+use Rattle.cpg_node.specs.Dispatcher.{Dispatcher, next, is_after}
+use Rattle.cpg_node.proofs.Next.{next_is}
+use Rattle.cpg_live.specs.Stream.{Progress, take_turn, instant_below, turn_if, turn_below, turns_below, turned}
+use Rattle.cpg_live.specs.Feeding.{IsTurned}
+
+-- the first time after the last turn
+abbrev pub floor : Option ℕ → ℕ
+floor None = 0
+floor (Some last) = last + 1
+
+pub floor_after : (last : Option ℕ) (t : ℕ) → is_after last t ≡ true → floor last ≤ t
+floor_after None t e = omega arith
+floor_after (Some l) t e = omega (arith, ltb-true l t e)
+
+pub after_floor : (last : Option ℕ) (t : ℕ) → floor last ≤ t → is_after last t ≡ true
+after_floor None t h = refl
+after_floor (Some l) t h = lt-ltb l t (omega arith)
+
+next_floor : (d : Dispatcher) (t : ℕ) → next d ≡ Some t → floor d.last ≤ t
+next_floor d t e = floor_after d.last t (next_is d t e).after
+
+-- an instant below a limit, or none
+pub record Below (limit : ℕ) (o : Option ℕ) : Type 0 where
+  pub time : ℕ
+  pub is : o ≡ Some time
+  pub less : time < limit
+  pub found : instant_below limit o ≡ Some time
+
+pub record NotBelow (limit : ℕ) (o : Option ℕ) : Type 0 where
+  pub past : IfSome o (λ time. limit ≤ time)
+  pub none : instant_below limit o ≡ None
+
+pub below_or_not : (limit : ℕ) (o : Option ℕ) → Below limit o ⊎ NotBelow limit o
+below_or_not limit None = inr (record { past = tt; none = refl })
+below_or_not limit (Some t) = elim (cases_lt t limit) [
+  | inl l ↦ inl (record { time = t; is = refl; less = l; found = ap (λ b. cond b (Some t) None) (lt-ltb t limit l) })
+  | inr g ↦ inr (record { past = g; none = ap (λ b. cond b (Some t) None) (le-ltb t limit g) })
+]
+
+-- what is found is the next instant, and below the limit
+pub found_is : (limit : ℕ) (o : Option ℕ) (t : ℕ) → instant_below limit o ≡ Some t → (o ≡ Some t) × (t < limit)
+found_is limit o t e = elim (below_or_not limit o) [
+  | inl b ↦ let z : b.time ≡ t = same_Some b.time t (sym b.found ∙ e) in (b.is ∙ ap Some z, omega (arith, z, b.less))
+  | inr n ↦ absurd (none-some t (sym n.none ∙ e))
+]
+
+-- where no instant is below the limit, more turns change nothing
+pub still : (n limit : ℕ) (p : Progress) → instant_below limit (next p.dispatcher) ≡ None → turns_below n limit p ≡ p
+unfolding turns_below
+still zero limit p e = refl
+still (suc n) limit p e = ap (λ o. turns_below n limit (turn_if p o)) e ∙ still n limit p e
+
+-- nor where so many turns are allowed
+no_more : (n limit : ℕ) (p : Progress) → limit ≤ n + floor p.dispatcher.last → turns_below n limit p ≡ turns_below (suc n) limit p
+unfolding turns_below
+no_more zero limit p h = elim (below_or_not limit (next p.dispatcher)) [
+  | inl b ↦ absurd (omega (arith, h, b.less, next_floor p.dispatcher b.time b.is))
+  | inr n ↦ sym (ap (turn_if p) n.none)
+]
+no_more (suc n) limit p h = elim (below_or_not limit (next p.dispatcher)) [
+  | inl b ↦ no_more n limit (turn_below limit p) (subst (λ (q : Progress). limit ≤ n + floor q.dispatcher.last) (sym (ap (turn_if p) b.found)) (omega (arith, h, next_floor p.dispatcher b.time b.is)))
+  | inr m ↦ ap (λ o. turns_below n limit (turn_if p o)) m.none ∙ still n limit p m.none
+      ∙ sym (ap (λ o. turns_below (suc n) limit (turn_if p o)) m.none ∙ still (suc n) limit p m.none)
+]
+
+-- a turn that a loop takes
+pub turned_next : (limit : ℕ) (p : Progress) (t : ℕ) → instant_below limit (next p.dispatcher) ≡ Some t → turned limit (take_turn t p) ≡ turned limit p
+unfolding turns_below
+turned_next zero p t e = absurd (omega (arith, (found_is zero (next p.dispatcher) t e).1))
+turned_next (suc m) p t e = sym (no_more m (suc m) (take_turn t p) (omega arith)) ∙ sym (ap (λ o. turns_below m (suc m) (turn_if p o)) e)
+
+-- and its end
+pub turned_last : (limit : ℕ) (p : Progress) → instant_below limit (next p.dispatcher) ≡ None → turned limit p ≡ p
+turned_last limit p e = still limit limit p e
+
+-- after them no instant is left below the limit
+turns_end : (n limit : ℕ) (p : Progress) → limit ≤ n + floor p.dispatcher.last → IsTurned (turns_below n limit p).dispatcher limit
+unfolding turns_below
+turns_end zero limit p h = elim (below_or_not limit (next p.dispatcher)) [
+  | inl b ↦ absurd (omega (arith, h, b.less, next_floor p.dispatcher b.time b.is))
+  | inr n ↦ n.past
+]
+turns_end (suc n) limit p h = elim (below_or_not limit (next p.dispatcher)) [
+  | inl b ↦ turns_end n limit (turn_below limit p) (subst (λ (q : Progress). limit ≤ n + floor q.dispatcher.last) (sym (ap (turn_if p) b.found)) (omega (arith, h, next_floor p.dispatcher b.time b.is)))
+  | inr m ↦ subst (λ (q : Progress). IsTurned q.dispatcher limit) (sym (still (suc n) limit p m.none)) m.past
+]
+
+pub turned_end : (limit : ℕ) (p : Progress) → IsTurned (turned limit p).dispatcher limit
+turned_end limit p = turns_end limit limit p (omega arith)
+
+-- the last turn is before the limit, where it was
+turns_after : (n limit : ℕ) (p : Progress) → is_after p.dispatcher.last limit ≡ true → is_after (turns_below n limit p).dispatcher.last limit ≡ true
+unfolding turns_below
+turns_after zero limit p h = h
+turns_after (suc n) limit p h = elim (below_or_not limit (next p.dispatcher)) [
+  | inl b ↦ turns_after n limit (turn_below limit p) (subst (λ (q : Progress). is_after q.dispatcher.last limit ≡ true) (sym (ap (turn_if p) b.found)) (lt-ltb b.time limit b.less))
+  | inr m ↦ subst (λ (q : Progress). is_after q.dispatcher.last limit ≡ true) (sym (still (suc n) limit p m.none)) h
+]
+
+pub turned_after : (limit : ℕ) (p : Progress) → is_after p.dispatcher.last limit ≡ true → is_after (turned limit p).dispatcher.last limit ≡ true
+turned_after limit p h = turns_after limit limit p h
+
+-- turns leave the table
+turns_table : (n limit : ℕ) (p : Progress) → (turns_below n limit p).dispatcher.table ≡ p.dispatcher.table
+unfolding turns_below
+turns_table zero limit p = refl
+turns_table (suc n) limit p = turns_table n limit (turn_below limit p) ∙ kept (instant_below limit (next p.dispatcher))
+  where
+    kept : (o : Option ℕ) → (turn_if p o).dispatcher.table ≡ p.dispatcher.table
+    kept None = refl
+    kept (Some t) = refl
+
+pub turned_table : (limit : ℕ) (p : Progress) → (turned limit p).dispatcher.table ≡ p.dispatcher.table
+turned_table limit p = turns_table limit limit p
+
+-- no turn is below 0
+pub turned_zero : (p : Progress) → turned 0 p ≡ p
+unfolding turns_below
+turned_zero p = refl
+
+-- what a loop has left falls with each turn
+pub nearer : (limit : ℕ) (p q : Progress) (t : ℕ) → instant_below limit (next p.dispatcher) ≡ Some t → q ≡ take_turn t p → limit - floor q.dispatcher.last < limit - floor p.dispatcher.last
+nearer limit p q t e is =
+    let f = found_is limit (next p.dispatcher) t e in
+    omega (arith, f.1, next_floor p.dispatcher t f.0, ap (λ (q : Progress). floor q.dispatcher.last) is)

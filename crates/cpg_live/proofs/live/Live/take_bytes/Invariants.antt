@@ -1,0 +1,6 @@
+use Rattle.std.proofs.Common.{◌≡◌, drop}
+use Rattle.cpg_live.specs.Feeding.{take_bytes}
+use Rattle.cpg_live.proofs.live.Live.take_bytes.Given as goal
+
+abbrev pub invariant-loop-byte : goal.invariant-loop-byte
+invariant-loop-byte l = take_bytes l.fn.self l.piece ≡ take_bytes l.self (drop l.byte-index l.piece)

@@ -1,0 +1,25 @@
+-- A stream that comes byte by byte, and what a live node keeps for that.
+use Rattle.std.specs.Prelude.{ℕ, ◌≤◌, ◌==◌, if◌then◌else◌, List, [], ◌∷◌, ◌++◌, IfSome, is_some, fold, filter, length}
+use Rattle.cpg_node.specs.Dispatcher.{Dispatcher, is_after, next, times_in}
+use Rattle.cpg_live.specs.declared.bad.Why.TheVariants.{Length}
+use Rattle.cpg_live.specs.Stream.{LiveState, refused, take_record}
+
+-- a byte of an open stream, with the bytes of its record so far
+abbrev pub take_open : LiveState → List ℕ → LiveState
+take_open s rest = if length rest == 14 then take_record (record s { rest = [] }) rest else record s { rest = rest }
+
+-- one more byte
+abbrev pub take_byte : LiveState → ℕ → LiveState
+take_byte s byte = if is_some s.bad then s else if s.closed then refused s Length else take_open s (s.rest ++ byte ∷ [])
+
+-- more bytes
+abbrev pub take_bytes : LiveState → List ℕ → LiveState
+take_bytes s bytes = fold take_byte s bytes
+
+-- the times after the last turn of the columns of what a node sends and starts
+abbrev pub entries_left : Dispatcher → List ℕ
+entries_left d = filter (is_after d.last) (times_in (d.table.sends ++ d.table.starts))
+
+-- all turns before a time are taken
+abbrev pub IsTurned : Dispatcher → ℕ → Type 0
+IsTurned d time = IfSome (next d) (λ instant. time ≤ instant)

@@ -1,0 +1,16 @@
+-- What a live node keeps between the pieces of its stream.
+use Rattle.std.specs.Prelude.{◌≡◌, ◌≤◌, ◌<◌, true, false, None}
+use Rattle.std.specs.Vec.{vec_len, vec_capacity}
+use Rattle.cpg_node.specs.Dispatcher.{is_after}
+use Rattle.cpg_live.specs.declared.live.Live.TheInside.{Inside}
+use Rattle.cpg_live.specs.Stream.{LiveState}
+
+-- the fields as they are seen
+abbrev pub live_of : Inside → LiveState
+live_of l = record { progress = l.progress; taken = l.taken; time = l.time; rest = l.rest.items; closed = l.closed; bad = l.bad }
+
+-- room for a record, which isn't whole, and a last turn before the time of the next record
+pub record IsReady (l : Inside) : Type 0 where
+  pub part : vec_len l.rest < 14
+  pub room : 14 ≤ vec_capacity l.rest
+  pub later : l.bad ≡ None → l.closed ≡ false → is_after l.progress.dispatcher.last l.time ≡ true

@@ -1,0 +1,16 @@
+-- What a live node keeps for its calls.
+use Rattle.std.specs.Prelude.{◌≤◌, ◌+◌, length}
+use Rattle.std.specs.Vec.{vec_capacity}
+use Rattle.cpg_table.specs.Lawful.{IsTable}
+use Rattle.cpg_live.specs.declared.progress.Progress.TheInside.{Inside}
+use Rattle.cpg_live.specs.Stream.{Progress}
+use Rattle.cpg_live.specs.Feeding.{entries_left}
+
+-- the fields as they are seen
+abbrev pub progress_of : Inside → Progress
+progress_of p = record { dispatcher = p.node.dispatcher; acts = p.acts.items }
+
+-- a lawful table, and room for an act of each entry that is left
+pub record HasRoom (p : Inside) : Type 0 where
+  pub made : IsTable p.node.dispatcher.table
+  pub room : length p.acts.items + length (entries_left p.node.dispatcher) ≤ vec_capacity p.acts

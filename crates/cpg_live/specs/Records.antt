@@ -1,0 +1,51 @@
+-- The records of a stream, which tell a node what happens.
+use Rattle.std.specs.Prelude.{ℕ, ◌+◌, Bool, not, ◌&&◌, ◌||◌, ◌==◌, nat_lt, if◌then◌else◌, List, [], ◌∷◌, ◌++◌, Option, Some, None, fold, length, drop, slice_index}
+use Rattle.byteorder.specs.Endian.{big_number}
+use Rattle.cpg_table.specs.Table.{NodeTable}
+use Rattle.cpg_live.specs.declared.reading.Record.{Record}
+use Rattle.cpg_live.specs.declared.event.Event.{Event}
+use Rattle.cpg_live.specs.declared.event.Event.TheVariants.{Frame as Arrival, End, Close}
+
+-- bytes cut into records: the whole ones, and the bytes of the next one so far
+pub record Cut : Type 0 where
+  pub whole : List (List ℕ)
+  pub rest : List ℕ
+
+-- one more byte; a record has 14
+abbrev pub cut_byte : Cut → ℕ → Cut
+cut_byte c byte = if length c.rest + 1 == 14 then record { whole = c.whole ++ ((c.rest ++ byte ∷ []) ∷ []); rest = [] }
+    else record { whole = c.whole; rest = c.rest ++ byte ∷ [] }
+
+abbrev pub cut : List ℕ → Cut
+cut bytes = fold cut_byte (record { whole = []; rest = [] }) bytes
+
+-- the numbers of a record, each with its highest byte first
+abbrev pub record_of : List ℕ → Record
+record_of bytes = record {
+  kind = slice_index bytes 0;
+  time = big_number 8 (drop 1 bytes);
+  item = big_number 2 (drop 9 bytes);
+  number = big_number 2 (drop 11 bytes);
+  value = slice_index bytes 13;
+}
+
+-- A kind above 2, a value byte above 1, a close that tells something, or a message's frame with a value.
+
+-- whether a close tells nothing
+abbrev pub is_plain : Record → Bool
+is_plain r = (r.item == 0) && (r.number == 0) && (r.value == 0)
+
+-- whether a record has no lawful kind
+abbrev pub is_unkind : NodeTable → Record → Bool
+is_unkind table r = nat_lt 2 r.kind || nat_lt 1 r.value || ((r.kind == 2) && not (is_plain r))
+    || ((r.kind == 0) && nat_lt r.item table.first_broadcast && (r.value == 1))
+
+-- what a record of a lawful kind tells
+abbrev pub told : Record → Event
+told r = if r.kind == 0 then Arrival (record { item = r.item; column = r.number; value = r.value == 1 })
+    else if r.kind == 1 then End r.item r.number (r.value == 1)
+    else Close
+
+-- what a record tells, where its kind is lawful
+abbrev pub event_of : NodeTable → Record → Option Event
+event_of table r = if is_unkind table r then None else Some (told r)

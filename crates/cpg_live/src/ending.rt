@@ -1,0 +1,77 @@
+//! Whether the end of an execution may be told.
+ghost use Rattle.std.specs.Prelude.{◌≡◌, ◌≤◌, IfSome, IfNone, not, ◌&&◌, ◌||◌, is_some, nat_le};
+ghost use Rattle.cpg_node.specs.Dispatcher.{own_of};
+ghost use Rattle.cpg_node.specs.State.{running_of, time_of};
+ghost use Rattle.cpg_live.specs.Stream.{may_tell, may_end, may_end_now};
+
+use cpg_node::{Ended, Node};
+
+/// A fault count of a record, where it isn't above what there may be.
+pub fn count_within(number: u16, most: u8) -> Option<u8>
+    ensures count { IfSome result (λ faults. faults ≡ number) }
+    ensures few { is_some result ≡ nat_le number most }
+{
+    if number <= u16::from(most) {
+        Some(number as u8)
+    } else {
+        None
+    }
+}
+
+/// Whether a process of the node has a condition.
+fn has_condition(node: &Node, process: u32) -> bool
+    ensures { result ≡ is_some (own_of node.now.dispatcher.table process).condition }
+{
+    for own in node.table().own() {
+        if own.process == process {
+            return own.condition.is_some();
+        }
+    }
+    false
+}
+
+/// How long an execution of a process of the node takes with so many faults.
+fn time_of(node: &Node, process: u32, faults: u8) -> u64
+    ensures { result ≡ time_of node.now.dispatcher process faults }
+{
+    for own in node.table().own() {
+        if own.process == process {
+            let times = own.times.times();
+            return times.get(faults as usize).copied().unwrap_or(0);
+        }
+    }
+    0
+}
+
+/// Whether an end has no more faults than there may be, and a value only of a condition.
+fn may_tell(node: &Node, ended: &Ended) -> bool
+    ensures { result ≡ may_tell node.now.dispatcher ended.now }
+{
+    if ended.faults > node.table().faults() {
+        return false;
+    }
+    !ended.value || has_condition(node, ended.process)
+}
+
+/// Whether a process runs without a report, has started before the time, and is planned to run to it.
+fn may_end_now(node: &Node, time: u64, ended: &Ended) -> bool
+    ensures { result ≡ may_end_now node.now.dispatcher time ended.now (running_of node.now.dispatcher ended.now.process) }
+{
+    let Some(start) = node.running(ended.process) else {
+        return false;
+    };
+    if node.reported(ended.process) {
+        return false;
+    }
+    if start >= time {
+        return false;
+    }
+    time - start <= time_of(node, ended.process, ended.faults)
+}
+
+/// Whether the end of an execution may be told at a time.
+pub fn may_end(node: &Node, time: u64, ended: &Ended) -> bool
+    ensures { result ≡ may_end node.now.dispatcher time ended.now }
+{
+    may_tell(node, ended) && may_end_now(node, time, ended)
+}

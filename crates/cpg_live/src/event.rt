@@ -1,0 +1,83 @@
+//! What a record tells.
+ghost use Rattle.std.specs.Prelude.{◌≡◌};
+ghost use Rattle.cpg_live.specs.Records.{is_plain, is_unkind, told, event_of};
+ghost use Rattle.cpg_live.specs.Stream.{is_close};
+
+use crate::reading::Record;
+use cpg_node::Frame;
+use cpg_table::NodeTable;
+
+/// What a record of a lawful kind tells.
+#[derive(Clone, Copy, Debug, PartialEq, Eq)]
+pub enum Event {
+    /// A frame arrives.
+    Frame(Frame),
+    /// The end of an execution of a process: its number, its fault count, and the value of its condition.
+    End(u32, u16, bool),
+    /// The stream ends.
+    Close,
+}
+
+/// Whether a close tells nothing.
+fn is_plain(read: &Record) -> bool
+    ensures { result ≡ is_plain read.now }
+{
+    read.item == 0 && read.number == 0 && read.value == 0
+}
+
+/// Whether a record has no lawful kind on the node of a table.
+fn is_unkind(table: &NodeTable, read: &Record) -> bool
+    ensures { result ≡ is_unkind table.now read.now }
+{
+    if read.kind > 2 {
+        return true;
+    }
+    if read.value > 1 {
+        return true;
+    }
+    if read.kind == 2 {
+        return !is_plain(read);
+    }
+    if read.kind != 0 {
+        return false;
+    }
+    u32::from(read.item) < table.first_broadcast() && read.value == 1
+}
+
+/// What a record of a lawful kind tells.
+fn told(read: &Record) -> Event
+    ensures { result ≡ told read.now }
+{
+    if read.kind == 0 {
+        return Event::Frame(Frame {
+            item: u32::from(read.item),
+            column: u32::from(read.number),
+            value: read.value == 1,
+        });
+    }
+    if read.kind == 1 {
+        return Event::End(u32::from(read.item), read.number, read.value == 1);
+    }
+    Event::Close
+}
+
+/// What a record tells. `None` exactly where its kind isn't lawful.
+pub fn event_of(table: &NodeTable, read: &Record) -> Option<Event>
+    ensures { result ≡ event_of table.now read.now }
+{
+    if is_unkind(table, read) {
+        None
+    } else {
+        Some(told(read))
+    }
+}
+
+/// Whether an event closes the stream.
+pub fn is_close(event: &Event) -> bool
+    ensures { result ≡ is_close event.now }
+{
+    match event {
+        Event::Frame(_) | Event::End(_, _, _) => false,
+        Event::Close => true,
+    }
+}

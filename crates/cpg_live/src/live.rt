@@ -1,0 +1,167 @@
+//! A node that follows a stream of records.
+ghost use Rattle.std.specs.Prelude.{◌≡◌, None, true, false, IfOk, IfSome};
+ghost use Rattle.cpg_node.specs.Dispatcher.{is_after};
+ghost use Rattle.cpg_live.specs.Records.{event_of};
+ghost use Rattle.cpg_live.specs.Stream.{open_stream, refused, step, stepped, judged, answer_of, outcome};
+ghost use Rattle.cpg_live.specs.Feeding.{take_byte, take_bytes};
+ghost use Rattle.cpg_live.specs.Laws.{Feeds, Grows};
+
+use crate::event::{Event, event_of, is_close};
+use crate::progress::Progress;
+use crate::reading::{RECORD_SIZE, Record, read_record};
+use crate::{Bad, Why};
+use cpg_base::OutOfMemory;
+use cpg_node::Act;
+use cpg_table::NodeTable;
+use std::alloc::Global;
+use std::marker::Model;
+
+/// One node on a stream of records (docs/FORMATS.md) that comes in pieces. It is seen as the node's state, the acts so far,
+/// the number of records taken, the time of the last one, the bytes of the next one so far, whether a close was taken, and
+/// the first lawless record, if there was one.
+#[derive(Drop)]
+pub struct Live {
+    progress: Progress,
+    taken: u64,
+    time: u64,
+    rest: Vec<u8>,
+    closed: bool,
+    bad: Option<Bad>,
+}
+
+impl Model for Live {
+    ghost use Rattle.cpg_live.specs.Stream.{LiveState};
+    ghost use Rattle.cpg_live.specs.Held.{live_of, IsReady};
+
+    ghost Value = { LiveState };
+
+    ghost view = { live_of };
+
+    ghost invariant = { IsReady };
+}
+
+impl Live {
+    /// The node of a table before the first byte of its stream. It takes all room that will be needed.
+    pub fn new(alloc: Global, table: NodeTable) -> Result<Live, OutOfMemory>
+        ensures { IfOk result (λ live. live ≡ open_stream table) }
+    {
+        let progress = Progress::new(alloc, table)?;
+        let mut rest = Vec::new(alloc);
+        rest.reserve(RECORD_SIZE)?;
+        Ok(Live {
+            progress,
+            taken: 0,
+            time: 0,
+            rest,
+            closed: false,
+            bad: None,
+        })
+    }
+
+    /// The acts of all turns so far, in order.
+    pub fn acts(&self) -> &[Act]
+        ensures { result.now ≡ self.now.progress.acts }
+    {
+        self.progress.acts()
+    }
+
+    /// The time of the close, in time units of the graph file, where the stream is lawful and ends here. Else its first
+    /// lawless record, which is the one that is awaited where no close was taken.
+    pub fn closed(&self) -> Result<u64, Bad>
+        ensures { result ≡ outcome self.now }
+    {
+        if let Some(bad) = self.bad {
+            return Err(bad);
+        }
+        if self.closed {
+            return Ok(self.time);
+        }
+        Err(Bad {
+            index: self.taken,
+            why: Why::Length,
+        })
+    }
+
+    /// Takes the next bytes of the stream: all records that they complete, up to the first that is lawless, which is
+    /// answered from then on. It doesn't matter how the stream is cut into pieces.
+    pub fn feed(&mut self, piece: &[u8]) -> Result<(), Bad>
+        ensures whole { Feeds self.old piece.now self.new }
+        ensures grows { Grows self.old.progress.acts self.new.progress.acts }
+        ensures answer { result ≡ answer_of self.new.bad }
+        ensures kept { IfSome self.old.bad (λ _. self.new ≡ self.old) }
+    {
+        self.take_bytes(piece);
+        match self.bad {
+            Some(bad) => Err(bad),
+            None => Ok(()),
+        }
+    }
+
+    /// Takes bytes, one after another.
+    fn take_bytes(&mut self, piece: &[u8])
+        ensures { self.new ≡ take_bytes self.old piece.now }
+    {
+        for byte in piece {
+            self.take_byte(*byte);
+        }
+    }
+
+    /// Takes a byte.
+    fn take_byte(&mut self, byte: u8)
+        ensures { self.new ≡ take_byte self.old byte }
+    {
+        if self.bad.is_some() {
+            return;
+        }
+        if self.closed {
+            self.refuse(Why::Length);
+            return;
+        }
+        self.rest.push_reserved(byte);
+        if self.rest.len() == RECORD_SIZE {
+            let told = read_record(self.rest.as_slice());
+            self.rest.clear();
+            self.judge(told);
+        }
+    }
+
+    /// The record that is awaited is lawless.
+    fn refuse(&mut self, why: Why)
+        ensures { self.new ≡ refused self.old why }
+    {
+        let index = self.taken;
+        self.bad = Some(Bad { index, why });
+    }
+
+    /// Takes a record of a lawful kind and time, unless it is lawless after the turns that come first.
+    fn take(&mut self, time: u64, event: Event)
+        requires { is_after self.old.progress.dispatcher.last time ≡ true }
+        ensures { self.new ≡ stepped self.old time event (step time event self.old.progress) }
+    {
+        if let Some(why) = self.progress.step(time, event) {
+            let index = self.taken;
+            self.bad = Some(Bad { index, why });
+            return;
+        }
+        self.taken = self.taken.saturating_add(1);
+        self.time = time;
+        self.closed = is_close(&event);
+    }
+
+    /// Takes a record, unless it is lawless.
+    fn judge(&mut self, told: Record)
+        requires open { self.old.closed ≡ false }
+        requires lawful { self.old.bad ≡ None }
+        ensures { self.new ≡ judged self.old told.time (event_of self.old.progress.dispatcher.table told) }
+    {
+        let Some(event) = event_of(self.progress.table(), &told) else {
+            self.refuse(Why::Kind);
+            return;
+        };
+        if told.time < self.time {
+            self.refuse(Why::Order);
+            return;
+        }
+        self.take(told.time, event);
+    }
+}

@@ -1,0 +1,177 @@
+//! A node, and the acts of all its turns.
+ghost use Rattle.std.specs.Prelude.{◌≡◌, ◌≤◌, ◌+◌, ◌++◌, Some, true, IfOk, length};
+ghost use Rattle.std.specs.Vec.{vec_capacity};
+ghost use Rattle.cpg_table.specs.Lawful.{column_count};
+ghost use Rattle.cpg_node.specs.Dispatcher.{next, is_after};
+ghost use Rattle.cpg_live.specs.Feeding.{IsTurned};
+ghost use Rattle.cpg_live.specs.Stream.{start, take_turn, instant_below, turned, step, arrived, ended};
+
+use crate::Why;
+use crate::ending::{count_within, may_end};
+use crate::event::Event;
+use cpg_base::OutOfMemory;
+use cpg_node::{Act, Ended, Frame, Node};
+use cpg_table::{NodeTable, Row};
+use std::alloc::Global;
+use std::marker::Model;
+
+/// A node with the acts of all its turns, in order, and room for those that are still to come.
+#[derive(Drop)]
+pub struct Progress {
+    node: Node,
+    acts: Vec<Act>,
+}
+
+impl Model for Progress {
+    ghost use Rattle.cpg_live.specs.Stream.{Progress};
+    ghost use Rattle.cpg_live.specs.Kept.{progress_of, HasRoom};
+
+    ghost Value = { Progress };
+
+    ghost view = { progress_of };
+
+    ghost invariant = { HasRoom };
+}
+
+/// How many columns rows have, and how many came before. No memory could hold more than are counted.
+fn count_columns(rows: &[Row], before: usize) -> Result<usize, OutOfMemory>
+    ensures { IfOk result (λ count. count ≡ before + column_count rows.now) }
+{
+    let mut count = before;
+    for row in rows {
+        let Some(more) = count.checked_add(row.entries().len()) else {
+            return Err(OutOfMemory);
+        };
+        count = more;
+    }
+    Ok(count)
+}
+
+/// Adds acts to those so far.
+fn append_acts(acts: &mut Vec<Act>, more: &[Act])
+    requires { length (acts.old.items ++ more.now) ≤ vec_capacity acts.old }
+    ensures acts { acts.new.items ≡ acts.old.items ++ more.now }
+    ensures room { vec_capacity acts.new ≡ vec_capacity acts.old }
+{
+    for act in more {
+        acts.push_reserved(*act);
+    }
+}
+
+impl Progress {
+    /// The node of a table before its first turn. Takes all room that it will need.
+    pub fn new(alloc: Global, table: NodeTable) -> Result<Progress, OutOfMemory>
+        ensures { IfOk result (λ progress. progress ≡ start table) }
+    {
+        let sends = count_columns(table.sends(), 0)?;
+        let entries = count_columns(table.starts(), sends)?;
+        let mut acts = Vec::new(alloc);
+        acts.reserve(entries)?;
+        let node = Node::new(alloc, table)?;
+        Ok(Progress { node, acts })
+    }
+
+    /// The table of the node.
+    pub fn table(&self) -> &NodeTable
+        ensures { result.now ≡ self.now.dispatcher.table }
+    {
+        self.node.table()
+    }
+
+    /// The acts of all turns, in order.
+    pub fn acts(&self) -> &[Act]
+        ensures { result.now ≡ self.now.acts }
+    {
+        self.acts.as_slice()
+    }
+
+    /// The next instant, where it isn't later than this.
+    fn instant_to(&self, last: u64) -> Option<u64>
+        ensures { result ≡ instant_below (last + 1) (next self.now.dispatcher) }
+    {
+        let time = self.node.next()?;
+        if time > last { None } else { Some(time) }
+    }
+
+    /// Takes the turn of the next instant.
+    fn take_turn(&mut self, time: u64)
+        requires { next self.old.dispatcher ≡ Some time }
+        ensures { self.new ≡ take_turn time self.old }
+    {
+        self.node.turn(&[], &[]);
+        append_acts(&mut self.acts, self.node.acts());
+    }
+
+    /// Takes all turns at instants that aren't later than this.
+    fn turn_to(&mut self, last: u64)
+        ensures { self.new ≡ turned (last + 1) self.old }
+    {
+        while let Some(time) = self.instant_to(last) {
+            self.take_turn(time);
+        }
+    }
+
+    /// Takes all turns at instants before this.
+    fn turn_before(&mut self, time: u64)
+        ensures { self.new ≡ turned time self.old }
+    {
+        if time > 0 {
+            self.turn_to(time - 1);
+        }
+    }
+
+    /// A frame arrives.
+    fn arrive(&mut self, time: u64, frame: Frame) -> Option<Why>
+        ensures progress { self.new ≡ (arrived time frame self.old).progress }
+        ensures fault { result ≡ (arrived time frame self.old).fault }
+    {
+        match self.node.hear(time, frame) {
+            Ok(()) => None,
+            Err(_) => Some(Why::Frame),
+        }
+    }
+
+    /// The end of an execution of a process is told, with so many faults.
+    fn end(&mut self, time: u64, process: u32, number: u16, value: bool) -> Option<Why>
+        requires before { IsTurned self.old.dispatcher time }
+        requires after { is_after self.old.dispatcher.last time ≡ true }
+        ensures progress { self.new ≡ (ended time (record { process = process; faults = number; value = value }) self.old).progress }
+        ensures fault { result ≡ (ended time (record { process = process; faults = number; value = value }) self.old).fault }
+    {
+        let Some(faults) = count_within(number, self.node.table().faults()) else {
+            return Some(Why::End);
+        };
+        let report = Ended {
+            process,
+            faults,
+            value,
+        };
+        if !may_end(&self.node, time, &report) {
+            return Some(Why::End);
+        }
+        self.node.finished(time, report);
+        None
+    }
+
+    /// Takes the turns that come before an event at a time, and then the event, unless it is lawless.
+    pub fn step(&mut self, time: u64, event: Event) -> Option<Why>
+        requires { is_after self.old.dispatcher.last time ≡ true }
+        ensures progress { self.new ≡ (step time event self.old).progress }
+        ensures fault { result ≡ (step time event self.old).fault }
+    {
+        match event {
+            Event::Frame(frame) => {
+                self.turn_before(time);
+                self.arrive(time, frame)
+            }
+            Event::End(process, number, value) => {
+                self.turn_before(time);
+                self.end(time, process, number, value)
+            }
+            Event::Close => {
+                self.turn_to(time);
+                None
+            }
+        }
+    }
+}
