@@ -6,6 +6,8 @@ mod cluster_tests;
 #[cfg(test)]
 mod fixtures;
 #[cfg(test)]
+mod live_tests;
+#[cfg(test)]
 mod node_tests;
 #[cfg(test)]
 mod show_tests;

@@ -10,7 +10,7 @@ use cpg_table::{NodeTable, head_of};
 use std::alloc::Global;
 use std::test::Fail;
 
-fn second_table(alloc: Global) -> Result<NodeTable, Fail> {
+pub fn second_table(alloc: Global) -> Result<NodeTable, Fail> {
     let admitted = pair(alloc)?;
     let head = head_of(alloc, admitted.problem())?;
     let rows = hearing_rows(alloc)?;
