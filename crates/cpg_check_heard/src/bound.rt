@@ -3,10 +3,8 @@ ghost use Rattle.std.specs.Prelude.{◌≡◌};
 ghost use Rattle.std.specs.List.{list_any};
 ghost use Rattle.cpg_check_heard.specs.Bounds.{high_of, is_free, low_of, range_of, tells, variable_of};
 
+use cpg_base::top;
 use cpg_cube::Literal;
-
-/// The variable of the first condition.
-const FIRST_VALUE: u8 = 128;
 
 /// One end of a literal's range.
 #[derive(Clone, Copy)]
@@ -54,13 +52,7 @@ impl Bound {
     {
         match self {
             Bound::Low { least, .. } => *least == 0,
-            Bound::High { variable, most } => {
-                if *variable < FIRST_VALUE {
-                    k <= *most
-                } else {
-                    1 <= *most
-                }
-            }
+            Bound::High { variable, most } => top(k, *variable) <= *most,
         }
     }
 
@@ -93,7 +85,7 @@ impl Bound {
             Bound::Low { variable, least } => Literal {
                 variable: *variable,
                 low: *least,
-                high: if *variable < FIRST_VALUE { k } else { 1 },
+                high: top(k, *variable),
             },
             Bound::High { variable, most } => Literal {
                 variable: *variable,

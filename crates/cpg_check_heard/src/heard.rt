@@ -1,5 +1,6 @@
 //! V4.
 ghost use Rattle.std.specs.Prelude.{◌≡◌, ◌≤◌, ◌<◌, ℕ, All, IfNone, IfOk, IfSome, false, length};
+ghost use Rattle.cpg_base.specs.declared.limits.TheConstants.{MOST_LOAD};
 ghost use Rattle.cpg_base.specs.Graph.{item_count};
 ghost use Rattle.cpg_order.specs.Scenario.{Scenario, IsScenario};
 ghost use Rattle.cpg_cube.specs.Fit.{IsKnown};
@@ -28,7 +29,7 @@ fn first_unheard(
     requires hearing { IsHearing hearing.now }
     requires item { item < item_count hearing.now.admitted.now.graph }
     requires columns { All (λ c. IsKnown hearing.now.admitted.now.graph c.cube) columns.now }
-    requires few { length columns.now ≤ 524288 }
+    requires few { length columns.now ≤ MOST_LOAD }
     ensures none { IfOk result (λ r. IfNone r ((i : ℕ) (s : Scenario) → IsScenario hearing.now.admitted.now.graph s → is_unheard hearing.now.admitted.now.graph hearing.now.tables.now.nodes item columns.now i s ≡ false)) }
     ensures first { IfOk result (λ r. IfSome r (IsFirstColumn hearing.now.admitted.now.graph hearing.now.admitted.now.order (is_unheard hearing.now.admitted.now.graph hearing.now.tables.now.nodes item columns.now))) }
 {

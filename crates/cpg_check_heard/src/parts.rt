@@ -14,7 +14,7 @@ ghost use Rattle.cpg_check_heard.specs.declared.tellers.Telling.TheVariants.{End
 
 use crate::bound::Bound;
 use crate::tellers::{Teller, Telling, has_come};
-use cpg_base::{OutOfMemory, Problem};
+use cpg_base::{FIRST_VALUE, OutOfMemory, Problem};
 use cpg_cube::{Cube, Literal};
 use cpg_table::Entry;
 use std::alloc::Global;
@@ -73,7 +73,7 @@ fn is_value(condition: Option<u32>, variable: u8) -> bool
     ensures { result ≡ is_value condition variable }
 {
     match condition {
-        Some(condition) => u64::from(condition) + 128 == u64::from(variable),
+        Some(condition) => u64::from(FIRST_VALUE) + u64::from(condition) == u64::from(variable),
         None => false,
     }
 }

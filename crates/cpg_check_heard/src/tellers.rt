@@ -4,7 +4,7 @@ ghost use Rattle.cpg_base.specs.Graph.{item_count};
 ghost use Rattle.cpg_base.specs.WellFormed.{WellFormed};
 ghost use Rattle.cpg_check_heard.specs.Tellings.{AreTellers, IsTeller, telling_of};
 
-use cpg_base::{OutOfMemory, Problem};
+use cpg_base::{Item, OutOfMemory, Problem};
 use cpg_rules::Admitted;
 use cpg_table::{Entry, Tables};
 use cpg_violation::{Sieve, columns_of};
@@ -43,22 +43,13 @@ fn telling_of(problem: &Problem, item: u32) -> Telling
     requires formed { WellFormed problem.now }
     ensures { result ≡ telling_of problem.now item }
 {
-    let processes = problem.processes().len() as u32;
-    let edges = problem.edges().len() as u32;
-    if item < processes {
-        return Telling::End { process: item };
-    }
+    let condition = match problem.item(item) {
+        Item::Start(process) => return Telling::End { process },
+        Item::Message(_) => None,
+        Item::Broadcast(condition) => Some(condition),
+    };
     let delay = problem.slot_length(problem.home(item));
-    if item - processes < edges {
-        return Telling::Frame {
-            delay,
-            condition: None,
-        };
-    }
-    Telling::Frame {
-        delay,
-        condition: Some(item - processes - edges),
-    }
+    Telling::Frame { delay, condition }
 }
 
 /// The row of an item, and how it tells.

@@ -1,8 +1,9 @@
 //! V1: a column that matches has an active item, and the processes of its literals are active.
 ghost use Rattle.std.specs.Prelude.{◌≡◌, ◌≤◌, ◌<◌, ◌&&◌, ℕ, List, All, IfNone, IfOk, IfSome, false, length, not, true};
 ghost use Rattle.std.specs.List.{list_any};
+ghost use Rattle.cpg_base.specs.declared.limits.TheConstants.{MOST_LOAD};
 ghost use Rattle.cpg_base.specs.Activity.{active, item_active, live};
-ghost use Rattle.cpg_base.specs.Graph.{IsVariable, condition_of, edge_at, edge_count, item_at, item_count, message_item, process_count, process_of_variable, source};
+ghost use Rattle.cpg_base.specs.Graph.{IsVariable, broadcast_item, condition_count, condition_of, edge_at, edge_count, item_at, item_count, message_item, process_count, process_of_variable, source};
 ghost use Rattle.cpg_guard.specs.Guards.{is_passed, test_of};
 ghost use Rattle.cpg_order.specs.First.{IsFirst};
 ghost use Rattle.cpg_order.specs.Scenario.{Scenario, IsScenario};
@@ -14,7 +15,7 @@ ghost use Rattle.cpg_check_rows.specs.Active.{is_idle};
 ghost use Rattle.cpg_violation.specs.Heads.{IsHeadFor};
 ghost use Rattle.cpg_violation.specs.Violation.{Holds, IsFirstColumn, IsFirstViolation};
 
-use cpg_base::{OutOfMemory, Problem, Scenario};
+use cpg_base::{Item, OutOfMemory, Problem, Scenario};
 use cpg_cube::{Cube, Literal};
 use cpg_rules::Admitted;
 use cpg_table::{Entry, Fault, Rule, Tables};
@@ -118,6 +119,25 @@ fn least_unsent(
     Ok(found)
 }
 
+/// The least scenario that a cube matches and in which a condition's broadcast isn't active, if there is one.
+fn least_untold(
+    alloc: Global,
+    admitted: &Admitted,
+    condition: u32,
+    cube: &Cube,
+) -> Result<Option<Scenario>, OutOfMemory>
+    requires condition { condition < condition_count admitted.now.graph }
+    requires cube { IsKnown admitted.now.graph cube.now }
+    ensures { IfOk result (IsFirst admitted.now.graph admitted.now.order (λ s. matches cube.now s && not (item_active admitted.now.graph s.values (item_at admitted.now.graph (broadcast_item admitted.now.graph condition))))) }
+{
+    let problem = admitted.problem();
+    if problem.nodes().len() < 2 {
+        let found = cube.least(alloc, problem)?;
+        return Ok(found);
+    }
+    least_idle(alloc, admitted, problem.process_of(condition), cube)
+}
+
 /// The least scenario that a cube matches and in which an item isn't active, if there is one.
 fn least_inactive(
     alloc: Global,
@@ -129,24 +149,11 @@ fn least_inactive(
     requires cube { IsKnown admitted.now.graph cube.now }
     ensures { IfOk result (IsFirst admitted.now.graph admitted.now.order (λ s. matches cube.now s && not (item_active admitted.now.graph s.values (item_at admitted.now.graph item)))) }
 {
-    let problem = admitted.problem();
-    let processes = problem.processes().len() as u32;
-    let edges = problem.edges().len() as u32;
-    if item < processes {
-        let found = least_idle(alloc, admitted, item, cube)?;
-        return Ok(found);
+    match admitted.problem().item(item) {
+        Item::Start(process) => least_idle(alloc, admitted, process, cube),
+        Item::Message(edge) => least_unsent(alloc, admitted, edge, cube),
+        Item::Broadcast(condition) => least_untold(alloc, admitted, condition, cube),
     }
-    if item - processes < edges {
-        let found = least_unsent(alloc, admitted, item - processes, cube)?;
-        return Ok(found);
-    }
-    if problem.nodes().len() < 2 {
-        let found = cube.least(alloc, problem)?;
-        return Ok(found);
-    }
-    let process = problem.process_of(item - processes - edges);
-    let found = least_idle(alloc, admitted, process, cube)?;
-    Ok(found)
 }
 
 /// The least scenario that a cube matches and in which the process of one of its literals isn't active, if there is one.
@@ -196,7 +203,7 @@ fn first_idle(
 ) -> Result<Option<(u32, Scenario)>, OutOfMemory>
     requires item { item < item_count admitted.now.graph }
     requires columns { All (λ c. IsKnown admitted.now.graph c.cube) columns.now }
-    requires few { length columns.now ≤ 524288 }
+    requires few { length columns.now ≤ MOST_LOAD }
     ensures none { IfOk result (λ r. IfNone r ((i : ℕ) (s : Scenario) → IsScenario admitted.now.graph s → is_idle admitted.now.graph item columns.now i s ≡ false)) }
     ensures first { IfOk result (λ r. IfSome r (IsFirstColumn admitted.now.graph admitted.now.order (is_idle admitted.now.graph item columns.now))) }
 {

@@ -1,5 +1,6 @@
 //! V10: a hear row has the sender's columns, each later by the sender's slot.
 ghost use Rattle.std.specs.Prelude.{◌≡◌, ◌≤◌, ◌<◌, ◌↔◌, ◌==◌, ℕ, IfNone, IfOk, IfSome, IsSomeAnd, IsTrue, length, map, position};
+ghost use Rattle.cpg_base.specs.declared.limits.TheConstants.{MOST_LOAD};
 ghost use Rattle.cpg_base.specs.Bus.{slot_length};
 ghost use Rattle.cpg_base.specs.Graph.{home, item_count, producer};
 ghost use Rattle.cpg_base.specs.WellFormed.{WellFormed};
@@ -51,7 +52,7 @@ fn is_later(heard: &Entry, sent: &Entry, delay: u64) -> bool
 
 /// The first column that isn't the sender's, later by the delay: the shorter length where all before it are.
 fn first_difference(heard: &[Entry], sent: &[Entry], delay: u64) -> Option<u32>
-    requires { length sent.now ≤ 524288 }
+    requires { length sent.now ≤ MOST_LOAD }
     ensures same { IfNone result (heard.now ≡ map (later_by delay) sent.now) }
     ensures differ { IfSome result (DifferFirstAt heard.now (map (later_by delay) sent.now)) }
 {
@@ -70,7 +71,7 @@ fn first_difference(heard: &[Entry], sent: &[Entry], delay: u64) -> Option<u32>
 /// The first column of an item's hear row at a node that isn't the sender's, later by the delay.
 fn difference_at(tables: &Tables, node: u32, item: u32, sent: &[Entry], delay: u64) -> Option<u32>
     requires node { node < length tables.now.head.nodes }
-    requires few { length sent.now ≤ 524288 }
+    requires few { length sent.now ≤ MOST_LOAD }
     ensures same { IfNone result (HearsAt tables.now.nodes item (map (later_by delay) sent.now) node) }
     ensures differ { IfSome result (λ place. IsSomeAnd (row_columns (table_at tables.now.nodes node).hears item) (λ cs. DifferFirstAt cs (map (later_by delay) sent.now) place)) }
 {
@@ -84,7 +85,7 @@ fn difference_at(tables: &Tables, node: u32, item: u32, sent: &[Entry], delay: u
 /// The first column that differs at the least node that hears the item otherwise.
 fn first_hear(tables: &Tables, nodes: u32, item: u32, sent: &[Entry], delay: u64) -> Option<u32>
     requires nodes { nodes ≡ length tables.now.head.nodes }
-    requires few { length sent.now ≤ 524288 }
+    requires few { length sent.now ≤ MOST_LOAD }
     ensures same { IfNone result ((node : ℕ) → node < length tables.now.head.nodes → HearsAt tables.now.nodes item (map (later_by delay) sent.now) node) }
     ensures differ { IfSome result (IsFirstHear tables.now.nodes (length tables.now.head.nodes) item (map (later_by delay) sent.now)) }
 {

@@ -1,7 +1,7 @@
 //! V3: an active item has a column that matches.
-ghost use Rattle.std.specs.Prelude.{◌≡◌, ◌<◌, ◌&&◌, ℕ, All, IfNone, IfOk, IfSome, map};
+ghost use Rattle.std.specs.Prelude.{◌≡◌, ◌<◌, ◌&&◌, [], ℕ, All, IfNone, IfOk, IfSome, map};
 ghost use Rattle.cpg_base.specs.Activity.{active};
-ghost use Rattle.cpg_base.specs.Graph.{edge_count, item_count, message_item, process_count};
+ghost use Rattle.cpg_base.specs.Graph.{broadcast_item, condition_count, edge_count, item_count, message_item, process_count};
 ghost use Rattle.cpg_order.specs.First.{IsFirst};
 ghost use Rattle.cpg_order.specs.Scenario.{Scenario};
 ghost use Rattle.cpg_cube.specs.Cube.{matches};
@@ -12,7 +12,7 @@ ghost use Rattle.cpg_table.specs.declared.rule.Rule.{Rule};
 ghost use Rattle.cpg_violation.specs.Heads.{IsHeadFor};
 ghost use Rattle.cpg_violation.specs.Violation.{Holds, IsFirstViolation};
 
-use cpg_base::{OutOfMemory, Scenario};
+use cpg_base::{Item, OutOfMemory, Scenario};
 use cpg_cube::Cube;
 use cpg_rules::Admitted;
 use cpg_table::{Entry, Fault, Rule, Tables};
@@ -61,6 +61,38 @@ fn least_unsent(
     Ok(found)
 }
 
+/// The least scenario in which a process is active and no column matches, if there is one.
+fn least_unstarted(
+    alloc: Global,
+    admitted: &Admitted,
+    process: u32,
+    columns: &[Entry],
+) -> Result<Option<Scenario>, OutOfMemory>
+    requires process { process < process_count admitted.now.graph }
+    requires columns { All (λ c. IsKnown admitted.now.graph c.cube) columns.now }
+    ensures { IfOk result (IsFirst admitted.now.graph admitted.now.order (λ s. is_left (map (λ c. c.cube) columns.now) [] s && active admitted.now.graph s.values process)) }
+{
+    least_without(alloc, admitted, process, &Cube::whole(alloc), columns)
+}
+
+/// The least scenario in which a condition's broadcast is active and no column matches, if there is one.
+fn least_untold(
+    alloc: Global,
+    admitted: &Admitted,
+    condition: u32,
+    columns: &[Entry],
+) -> Result<Option<Scenario>, OutOfMemory>
+    requires condition { condition < condition_count admitted.now.graph }
+    requires columns { All (λ c. IsKnown admitted.now.graph c.cube) columns.now }
+    ensures { IfOk result (IsFirst admitted.now.graph admitted.now.order (is_absent admitted.now.graph columns.now (broadcast_item admitted.now.graph condition))) }
+{
+    let problem = admitted.problem();
+    if problem.nodes().len() < 2 {
+        return Ok(None);
+    }
+    least_unstarted(alloc, admitted, problem.process_of(condition), columns)
+}
+
 /// The least scenario in which an item is active and no column matches, if there is one.
 fn least_absent(
     alloc: Global,
@@ -72,24 +104,11 @@ fn least_absent(
     requires columns { All (λ c. IsKnown admitted.now.graph c.cube) columns.now }
     ensures { IfOk result (IsFirst admitted.now.graph admitted.now.order (is_absent admitted.now.graph columns.now item)) }
 {
-    let problem = admitted.problem();
-    let processes = problem.processes().len() as u32;
-    let edges = problem.edges().len() as u32;
-    let whole = Cube::whole(alloc);
-    if item < processes {
-        let found = least_without(alloc, admitted, item, &whole, columns)?;
-        return Ok(found);
+    match admitted.problem().item(item) {
+        Item::Start(process) => least_unstarted(alloc, admitted, process, columns),
+        Item::Message(edge) => least_unsent(alloc, admitted, edge, columns),
+        Item::Broadcast(condition) => least_untold(alloc, admitted, condition, columns),
     }
-    if item - processes < edges {
-        let found = least_unsent(alloc, admitted, item - processes, columns)?;
-        return Ok(found);
-    }
-    if problem.nodes().len() < 2 {
-        return Ok(None);
-    }
-    let process = problem.process_of(item - processes - edges);
-    let found = least_without(alloc, admitted, process, &whole, columns)?;
-    Ok(found)
 }
 
 /// The first violation of V3, by item, with the least scenario in the urgency order in which it stands: the item is

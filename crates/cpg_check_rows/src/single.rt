@@ -1,6 +1,7 @@
 //! V2: no two columns of a row match in one scenario.
 ghost use Rattle.std.specs.Prelude.{◌≡◌, ◌≤◌, ◌<◌, ◌&&◌, ℕ, All, IfNone, IfOk, IfSome, List, false, length};
 ghost use Rattle.std.specs.List.{list_any};
+ghost use Rattle.cpg_base.specs.declared.limits.TheConstants.{MOST_LOAD};
 ghost use Rattle.cpg_base.specs.Graph.{process_count};
 ghost use Rattle.cpg_order.specs.First.{IsFirst};
 ghost use Rattle.cpg_order.specs.Scenario.{Scenario, IsScenario};
@@ -96,7 +97,7 @@ fn first_double(
 ) -> Result<Option<(u32, Scenario)>, OutOfMemory>
     requires order { length order.now ≡ process_count problem.now }
     requires columns { All (λ c. IsKnown problem.now c.cube) columns.now }
-    requires few { length columns.now ≤ 524288 }
+    requires few { length columns.now ≤ MOST_LOAD }
     ensures none { IfOk result (λ r. IfNone r ((i : ℕ) (s : Scenario) → IsScenario problem.now s → is_double columns.now i s ≡ false)) }
     ensures first { IfOk result (λ r. IfSome r (IsFirstColumn problem.now order.now (is_double columns.now))) }
 {

@@ -1,7 +1,7 @@
 //! V8: a frozen item has one time.
 ghost use Rattle.std.specs.Prelude.{◌≡◌, ◌<◌, All, IfNone, IfOk, IfSome, map};
 ghost use Rattle.std.proofs.Common.{refl};
-ghost use Rattle.cpg_base.specs.Graph.{is_frozen, item_count};
+ghost use Rattle.cpg_base.specs.Graph.{item_count};
 ghost use Rattle.cpg_base.specs.Numbers.{numbers_below};
 ghost use Rattle.cpg_rules.specs.Admission.{IsAdmitted};
 ghost use Rattle.cpg_table.specs.declared.rule.Rule.{Rule};
@@ -16,27 +16,6 @@ use cpg_rules::Admitted;
 use cpg_table::{Entry, Fault, Rule, Tables};
 use cpg_violation::columns_of;
 use std::alloc::Global;
-
-/// Whether an item has one time in all scenarios: a frozen process, or a frozen edge between nodes.
-fn is_frozen(problem: &Problem, item: u32) -> bool
-    requires { item < item_count problem.now }
-    ensures { result ≡ is_frozen problem.now item }
-{
-    let processes = problem.processes();
-    let edges = problem.edges();
-    let count = processes.len() as u32;
-    if item < count {
-        return processes[item as usize].frozen;
-    }
-    let edge = item - count;
-    if edge as usize >= edges.len() {
-        return false;
-    }
-    if !edges[edge as usize].frozen {
-        return false;
-    }
-    problem.is_message(edge)
-}
 
 /// The time of the first column that matches in any scenario, if there is one.
 fn possible_time(problem: &Problem, columns: &[Entry]) -> Option<u64>
@@ -58,7 +37,7 @@ fn frozen_time(admitted: &Admitted, tables: &Tables, item: u32) -> Option<u64>
     ensures { result ≡ frozen_time admitted.now.graph tables.now.nodes item }
 {
     let problem = admitted.problem();
-    if !is_frozen(problem, item) {
+    if !problem.is_frozen(item) {
         return None;
     }
     possible_time(problem, columns_of(tables, item))

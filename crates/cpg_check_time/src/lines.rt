@@ -1,6 +1,7 @@
 //! The columns of items, found by the scenarios that they match and by their times.
 ghost use Rattle.std.specs.Prelude.{◌≡◌, ◌≤◌, ◌<◌, ◌++◌, ◌∷◌, [], ℕ, Bool, All, Contains, IfOk, length, map, true};
 ghost use Rattle.std.specs.List.{list_any};
+ghost use Rattle.cpg_base.specs.declared.limits.TheConstants.{MOST_LOAD};
 ghost use Rattle.cpg_base.specs.Graph.{item_count};
 ghost use Rattle.cpg_cube.specs.Cube.{matches};
 ghost use Rattle.cpg_order.specs.Scenario.{Scenario};
@@ -49,7 +50,7 @@ fn last_time(columns: &[Entry]) -> u64
 
 /// The line of these columns.
 fn line_of<'a>(alloc: Global, columns: &'a [Entry]) -> Result<Line<'a>, OutOfMemory>
-    requires { length columns.now ≤ 524288 }
+    requires { length columns.now ≤ MOST_LOAD }
     ensures { IfOk result (IsLine columns.now) }
 {
     let sieve = Sieve::of(alloc, columns)?;

@@ -3,7 +3,7 @@ ghost use Rattle.std.specs.Prelude.{◌≡◌, ◌<◌, ◌==◌, ℕ, All, IfNo
 ghost use Rattle.std.specs.List.{list_any};
 ghost use Rattle.std.proofs.Common.{refl};
 ghost use Rattle.cpg_base.specs.Bus.{next_slot};
-ghost use Rattle.cpg_base.specs.Graph.{is_sent, item_count, process_count};
+ghost use Rattle.cpg_base.specs.Graph.{item_count, process_count};
 ghost use Rattle.cpg_base.specs.Numbers.{numbers_below};
 ghost use Rattle.cpg_bus.specs.Share.{HasSlot};
 ghost use Rattle.cpg_cube.specs.Fit.{IsKnown};
@@ -27,22 +27,6 @@ use cpg_rules::Admitted;
 use cpg_table::{Entry, Fault, Rule, Tables};
 use cpg_violation::{earlier, met};
 use std::alloc::Global;
-
-/// Whether an item goes over the bus: a message, or a broadcast where there are two nodes or more.
-fn is_sent(problem: &Problem, item: u32) -> bool
-    requires { item < item_count problem.now }
-    ensures { result ≡ is_sent problem.now item }
-{
-    let processes = problem.processes().len() as u32;
-    let edges = problem.edges().len() as u32;
-    if item < processes {
-        return false;
-    }
-    if item - processes < edges {
-        return problem.is_message(item - processes);
-    }
-    problem.nodes().len() > 1
-}
 
 /// Whether a node's slot starts at a time.
 fn is_slot_start(problem: &Problem, node: u32, time: u64) -> bool
@@ -126,7 +110,7 @@ fn least_with(
         return Ok(None);
     }
     let problem = admitted.problem();
-    if !is_sent(problem, other) {
+    if !problem.is_sent(other) {
         return Ok(None);
     }
     if problem.home(other) != problem.home(item) {
@@ -183,7 +167,7 @@ impl<'a> Judge for Slots<'a> {
         column: &Entry,
     ) -> Result<Option<Scenario>, OutOfMemory> {
         let problem = admitted.problem();
-        if !is_sent(problem, item) {
+        if !problem.is_sent(item) {
             return Ok(None);
         }
         if !is_slot_start(problem, problem.home(item), column.time) {

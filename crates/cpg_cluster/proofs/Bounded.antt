@@ -5,6 +5,7 @@ use Rattle.std.proofs.lemmas.List.{length-map, get_or_default}
 use Rattle.std.proofs.lemmas.List.Elements.{All-head, All-tail, All-map}
 use Rattle.std.proofs.lemmas.List.FromFn.{length-range_with_len}
 use Rattle.std.proofs.lemmas.List.Sums.{sum_by-cons}
+use Rattle.cpg_base.specs.declared.limits.TheConstants.{MOST_LOAD}
 use Rattle.cpg_base.specs.Graph.{Graph, node_of, process_count}
 use Rattle.cpg_base.specs.Duration.{duration}
 use Rattle.cpg_base.specs.Limits.{IsWithinLimits}
@@ -64,7 +65,7 @@ most_of (d ∷ ds) h =
 
 -- all nodes together have at most so many
 pub most_remaining : (g : Graph) (c : Cluster) → IsWithinLimits g → length c.nodes ≤ 16 → ((i : ℕ) → i < length c.nodes → (dispatcher_at c i).table.own ≡ own_of_node g i) →
-    sum_by (λ (t : NodeTable). column_count (rows_of t)) (map (λ (d : Dispatcher). d.table) c.nodes) ≤ 524288 → remaining c ≤ 604540944
+    sum_by (λ (t : NodeTable). column_count (rows_of t)) (map (λ (d : Dispatcher). d.table) c.nodes) ≤ MOST_LOAD → remaining c ≤ 604540944
 most_remaining g c within few own columns = omega (
   arith,
   few,

@@ -7,6 +7,7 @@ use Rattle.std.proofs.lemmas.List.{append-nil, length-map, map-append}
 use Rattle.std.proofs.lemmas.List.Sums.{sum_by-cons}
 use Rattle.std.proofs.lemmas.List.Elements.{All-from_recursion, recursion_from_All}
 use Rattle.std.proofs.Math.Seq.{take-append_seam, drop-append_seam}
+use Rattle.cpg_base.specs.declared.limits.TheConstants.{MOST_COLUMNS}
 use Rattle.cpg_table.specs.Head.{Head, IsHead}
 use Rattle.cpg_table.specs.Table.{Row, NodeTable, empty_table}
 use Rattle.cpg_table.specs.declared.own.Own.{Own}
@@ -37,7 +38,7 @@ pub row_reads : (s : Space) (item before : ℕ) → IsSpace s → before ≤ mos
 unfolding row_at
 row_reads s item before i le =
     adapt
-    (seq (λ (r : Row). length r.columns) (field_reads 2 0 (min 16384 (most - before)) (omega arith) (omega arith))
+    (seq (λ (r : Row). length r.columns) (field_reads 2 0 (min MOST_COLUMNS (most - before)) (omega arith) (omega arith))
     (λ n fn. seq (λ (r : Row). r.columns) (times_reads (IsLawfulColumn s) column_bytes (column_at s) n (λ _. column_reads s i))
     (λ cs fcs. pure_reads (record { item = item; columns = cs }))
     (λ cs r fcs h. ap (λ (q : Row). q.columns) h))

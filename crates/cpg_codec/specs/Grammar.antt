@@ -2,6 +2,8 @@
 use Rattle.std.specs.Prelude.{ℕ, zero, suc, ◌≤◌, ◌+◌, ◌-◌, min, max, List, [], ◌∷◌, ◌++◌, length, map, take, drop, Bool, ◌&&◌, ◌||◌, Option, Some, None, Result, Ok, Err, nat_lt, nat_le, ◌==◌, if◌then◌else◌}
 use Rattle.std.specs.List.{flat_map}
 use Rattle.cpg_base.specs.Name.{is_name_byte}
+use Rattle.cpg_base.specs.Variable.{top}
+use Rattle.cpg_base.specs.declared.limits.TheConstants.{MOST_FAULTS, MOST_NODES, MOST_PROCESSES, MOST_EDGES, MOST_CONDITIONS, MOST_COLUMNS, MOST_LOAD, LONGEST}
 use Rattle.cpg_cube.specs.declared.literal.Literal.{Literal}
 use Rattle.cpg_table.specs.Head.{Head}
 use Rattle.cpg_table.specs.declared.head_parts.Extra.{Extra}
@@ -26,7 +28,7 @@ time_at = number_at 8 (within 0 1152921504606846975)
 
 -- an own deadline, or eight bytes ff
 abbrev pub own_may : ℕ → ℕ → Bool
-own_may low below = within 0 1000000000 low below || within 18446744073709551615 18446744073709551615 low below
+own_may low below = within 0 LONGEST low below || within 18446744073709551615 18446744073709551615 low below
 
 unfoldable pub own_at : Reader (Option ℕ)
 own_at = do
@@ -37,7 +39,7 @@ own_at = do
 unfoldable pub extra_at : ℕ → Reader (Option Extra)
 extra_at version = if version == 2
     then (do
-      release ← number_at 8 (within 0 1000000000)
+      release ← number_at 8 (within 0 LONGEST)
       deadline ← own_at
       pure (Some (record { release = release; deadline = deadline })))
     else pure None
@@ -46,7 +48,7 @@ extra_at version = if version == 2
 unfoldable pub place_at : ℕ → ℕ → Reader (ℕ × ℕ)
 place_at nodes ones = do
   node ← small_at 0 (nodes - 1)
-  flag ← small_at 0 (if nat_lt ones 32 then 1 else 0)
+  flag ← small_at 0 (if nat_lt ones MOST_CONDITIONS then 1 else 0)
   pure (node, flag)
 
 unfoldable pub process_at : ℕ → ℕ → ℕ → ℕ → Reader Written
@@ -91,20 +93,20 @@ unfoldable pub head_at : Reader Head
 head_at = do
   text ← number_at 4 (within magic magic)
   version ← small_at 1 2
-  faults ← small_at 0 8
-  nodes ← small_at 0 16
+  faults ← small_at 0 MOST_FAULTS
+  nodes ← small_at 0 MOST_NODES
   names ← times_at name_at nodes
-  count ← small_at 0 (limit nodes 128)
+  count ← small_at 0 (limit nodes MOST_PROCESSES)
   processes ← processes_at version faults nodes count
-  ends ← number_at 2 (within 0 (limit count 256))
+  ends ← number_at 2 (within 0 (limit count MOST_EDGES))
   edges ← times_at (edge_at count) ends
   pure (head_from version faults names processes edges)
 
 -- a space as heads have it
 pub record IsSpace (s : Space) : Type 0 where
-  pub faults : s.faults ≤ 8
-  pub processes : s.processes ≤ 128
-  pub conditions : s.conditions ≤ 32
+  pub faults : s.faults ≤ MOST_FAULTS
+  pub processes : s.processes ≤ MOST_PROCESSES
+  pub conditions : s.conditions ≤ MOST_CONDITIONS
 
 -- the fault variables are 0 up to here
 abbrev pub fault_end : Space → ℕ
@@ -123,7 +125,7 @@ variable_may s least left v = (nat_le least v && is_variable s v) && nat_le left
 
 -- the greatest low
 abbrev pub low_end : Space → ℕ → ℕ
-low_end s v = if nat_lt v 128 then s.faults else 1
+low_end s v = top s.faults v
 
 -- the greatest high above this low
 abbrev pub high_end : Space → ℕ → ℕ → ℕ
@@ -155,12 +157,12 @@ column_at s = do
 
 -- all columns of a pack
 abbrev pub most : ℕ
-most = 524288
+most = MOST_LOAD
 
 -- `before` columns have been read
 unfoldable pub row_at : Space → ℕ → ℕ → Reader Row
 row_at s item before = do
-  count ← number_at 2 (within 0 (min 16384 (most - before)))
+  count ← number_at 2 (within 0 (min MOST_COLUMNS (most - before)))
   columns ← times_at (column_at s) count
   pure (record { item = item; columns = columns })
 

@@ -1,6 +1,7 @@
 -- What a buffer in front of a sink does.
 use Rattle.std.specs.Prelude.{◌≡◌, ◌≤◌, ◌<◌, ℕ, List, ◌++◌, length, All, Option, Result, Ok, Err}
 use Rattle.std.specs.Io.KnownBytes.{Appends}
+use Rattle.cpg_base.specs.declared.limits.TheConstants.{MOST_COLUMNS}
 use Rattle.cpg_io.specs.Sink.{TookPrefix}
 use Rattle.cpg_table.specs.Table.{Row}
 
@@ -17,7 +18,7 @@ Puts before after held left (Err _) piece = TookPrefix before after (held ++ pie
 
 -- a row whose counts fit their fields
 pub record IsShortRow (row : Row) : Type 0 where
-  pub few : length row.columns ≤ 16384
+  pub few : length row.columns ≤ MOST_COLUMNS
   pub short : All (λ c. length c.cube ≤ 255) row.columns
 
 -- an edge whose ends fit their fields

@@ -7,7 +7,7 @@ ghost use Rattle.cpg_codec.specs.Gives.{Gives};
 
 use crate::fault::ReadError;
 use crate::fixed::{Fixed, long_number};
-use cpg_base::{Name, OutOfMemory};
+use cpg_base::{LONGEST, Name, OutOfMemory};
 use cpg_table::Extra;
 use std::alloc::Global;
 
@@ -183,7 +183,7 @@ fn own_number_of(bytes: &[u8]) -> Result<(u64, &[u8]), ReadError>
     if begins_none(bytes) {
         long_of(bytes, u64::MAX, u64::MAX)
     } else {
-        long_of(bytes, 0, 1_000_000_000)
+        long_of(bytes, 0, LONGEST)
     }
 }
 
@@ -208,7 +208,7 @@ pub fn extra_of(bytes: &[u8], version: u8) -> Result<(Option<Extra>, &[u8]), Rea
     if version != 2 {
         return Ok((None, bytes));
     }
-    let (release, rest) = long_of(bytes, 0, 1_000_000_000)?;
+    let (release, rest) = long_of(bytes, 0, LONGEST)?;
     let (deadline, rest) = own_of(rest)?;
     Ok((Some(Extra { release, deadline }), rest))
 }

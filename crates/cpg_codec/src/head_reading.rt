@@ -11,20 +11,24 @@ ghost use Rattle.cpg_codec.specs.Parts.{head_of_parts};
 use crate::fault::ReadError;
 use crate::field_reading::{extra_of, name_of, number_of, small_of, times_of};
 use crate::fixed::{Fixed, edge_from, edge_to, process_flag, process_node};
-use cpg_base::{Name, OutOfMemory};
+use cpg_base::{
+    MOST_CONDITIONS, MOST_EDGES, MOST_FAULTS, MOST_NODES, MOST_PROCESSES, Name, OutOfMemory,
+};
 use cpg_table::{Durations, Extra, Head, HeadProcess};
 use std::alloc::{AllocError, Global};
 
 /// The text CPGT.
 const MAGIC: u64 = 0x43504754;
-/// How many conditions there are at most.
-const MOST_CONDITIONS: u32 = 32;
 
 /// The greatest condition flag behind so many processes with a condition.
 fn flag_end(ones: u32) -> u8
-    ensures { result ≡ (if nat_lt ones 32 then 1 else 0) }
+    ensures { result ≡ (if nat_lt ones MOST_CONDITIONS then 1 else 0) }
 {
-    if ones < MOST_CONDITIONS { 1 } else { 0 }
+    if (ones as usize) < MOST_CONDITIONS {
+        1
+    } else {
+        0
+    }
 }
 
 /// The node of a process, and its condition flag, where `ones` processes before have a condition; field by field.
@@ -39,7 +43,7 @@ fn place_by_fields(bytes: &[u8], nodes: u8, ones: u32) -> Result<(u8, u8, &[u8])
 }
 
 fn are_within(node: u8, flag: u8, nodes: u8, ones: u32) -> bool
-    ensures { IsTrue result ↔ (node < nodes) × (flag ≤ (if nat_lt ones 32 then 1 else 0)) }
+    ensures { IsTrue result ↔ (node < nodes) × (flag ≤ (if nat_lt ones MOST_CONDITIONS then 1 else 0)) }
 {
     node < nodes && flag <= flag_end(ones)
 }
@@ -223,12 +227,12 @@ fn parts_of(alloc: Global, bytes: &[u8]) -> Result<(HeadParts, &[u8]), ReadError
 {
     let (_text, rest) = number_of(bytes, 4, MAGIC, MAGIC)?;
     let (version, rest) = small_of(rest, 1, 2)?;
-    let (faults, rest) = small_of(rest, 0, 8)?;
-    let (names, rest) = small_of(rest, 0, 16)?;
+    let (faults, rest) = small_of(rest, 0, MOST_FAULTS)?;
+    let (names, rest) = small_of(rest, 0, MOST_NODES as u8)?;
     let (nodes, rest) = names_of(alloc, rest, names)?;
-    let (count, rest) = small_of(rest, 0, limit_of(names, 128) as u8)?;
+    let (count, rest) = small_of(rest, 0, limit_of(names, MOST_PROCESSES as u64) as u8)?;
     let (processes, extras, rest) = processes_of(alloc, rest, version, faults, names, count)?;
-    let (ends, rest) = number_of(rest, 2, 0, limit_of(count, 256))?;
+    let (ends, rest) = number_of(rest, 2, 0, limit_of(count, MOST_EDGES as u64))?;
     let (edges, rest) = edges_of(alloc, rest, ends as u16, count)?;
     Ok((
         HeadParts {

@@ -13,19 +13,13 @@ use crate::fixed::{
     Fixed, column_literals, column_time, literal_high, literal_low, literal_variable,
 };
 use crate::space::Space;
-use cpg_base::OutOfMemory;
+use cpg_base::{FIRST_VALUE, MOST_COLUMNS, MOST_LOAD, OutOfMemory, top};
 use cpg_cube::{Cube, Literal};
 use cpg_table::{Entry, Head, NodeTable, Row};
 use std::alloc::Global;
 
-/// The variable of the first condition's value.
-const FIRST_VALUE: u8 = 128;
 /// Times are below this, in time units of the graph file.
 const TIME_END: u64 = 1 << 60;
-/// How many columns a row has at most.
-const MOST_IN_ROW: u64 = 16_384;
-/// How many columns all rows have together at most.
-const MOST_COLUMNS: u64 = 524_288;
 
 /// Whether a literal may be on a variable, after those below `least` and with `left` more after it.
 fn variable_may(space: &Space, least: u32, left: u32, variable: u8) -> bool
@@ -60,11 +54,7 @@ fn variable_of<'a>(
 fn low_end(space: &Space, variable: u8) -> u8
     ensures { result ≡ low_end space.now variable }
 {
-    if variable < FIRST_VALUE {
-        space.faults
-    } else {
-        1
-    }
+    top(space.faults, variable)
 }
 
 /// The greatest high of a literal on this variable with this low.
@@ -259,11 +249,11 @@ fn row_of<'a>(
     before: u64,
 ) -> Result<(Row, u64, &'a [u8]), ReadError>
     requires space { IsSpace space.now }
-    requires before { before ≤ 524288 }
+    requires before { before ≤ MOST_LOAD }
     ensures gives { Gives (λ x. (x.0, x.2.now)) result (row_at space.now item before bytes.now) }
-    ensures total { IfOk result (λ x. (x.1 ≡ before + length x.0.columns) × (x.1 ≤ 524288)) }
+    ensures total { IfOk result (λ x. (x.1 ≡ before + length x.0.columns) × (x.1 ≤ MOST_LOAD)) }
 {
-    let most = MOST_COLUMNS.saturating_sub(before).min(MOST_IN_ROW);
+    let most = MOST_LOAD.saturating_sub(before).min(MOST_COLUMNS);
     let (count, rest) = number_of(bytes, 2, 0, most)?;
     let (columns, rest) = columns_of(alloc, rest, space, count as u16)?;
     Ok((Row::new(item, columns), before + count, rest))
@@ -278,9 +268,9 @@ fn rows_of<'a>(
     before: u64,
 ) -> Result<(Vec<Row>, u64, &'a [u8]), ReadError>
     requires space { IsSpace space.now }
-    requires before { before ≤ 524288 }
+    requires before { before ≤ MOST_LOAD }
     ensures gives { Gives (λ x. (x.0.items, x.2.now)) result (rows_at space.now items.now before bytes.now) }
-    ensures total { IfOk result (λ x. (x.1 ≡ before + column_count x.0.items) × (x.1 ≤ 524288)) }
+    ensures total { IfOk result (λ x. (x.1 ≡ before + column_count x.0.items) × (x.1 ≤ MOST_LOAD)) }
 {
     let mut rows = Vec::with_capacity(alloc, items.len())?;
     let mut rest = bytes;
@@ -308,10 +298,10 @@ pub fn table_of<'a>(
 ) -> Result<(NodeTable, u64, &'a [u8]), ReadError>
     requires space { space.now ≡ space_of head.now }
     requires within { IsSpace space.now }
-    requires before { before ≤ 524288 }
+    requires before { before ≤ MOST_LOAD }
     requires items { items.now ≡ items_of_node head.now node }
     ensures gives { Gives (λ x. (x.0, x.2.now)) result (node_table_at head.now node before bytes.now) }
-    ensures total { IfOk result (λ x. (x.1 ≡ before + column_count (rows_of x.0)) × (x.1 ≤ 524288)) }
+    ensures total { IfOk result (λ x. (x.1 ≡ before + column_count (rows_of x.0)) × (x.1 ≤ MOST_LOAD)) }
 {
     let (rows, total, rest) = rows_of(alloc, bytes, space, items, before)?;
     let table = NodeTable::new(alloc, head, node, rows)?;

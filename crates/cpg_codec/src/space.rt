@@ -7,7 +7,7 @@ use cpg_table::{Head, HeadProcess};
 use std::marker::Model;
 
 /// The variable of the first condition's value.
-const FIRST_VALUE: u32 = 128;
+const FIRST_VALUE: u32 = cpg_base::FIRST_VALUE as u32;
 
 /// The variables that there are under a head.
 #[derive(Drop)]

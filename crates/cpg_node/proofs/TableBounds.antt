@@ -2,6 +2,7 @@
 use Rattle.std.proofs.Common.{ℕ, ◌<◌, ◌≤◌, ◌+◌, ◌^◌, Bool, true, false, cond, ◌==◌, List, [], ◌∷◌, ◌++◌, length, map, Contains, Some, None, sym, subst, inl, inr}
 use Rattle.std.specs.Prelude.{All}
 use Rattle.std.proofs.lemmas.List.Elements.{All-cons, All-append, All-head, All-tail, All-nil, All-contains, All-contains_itself, All-weaker, Contains-append_left, Contains-append_right, Contains-append_cases}
+use Rattle.cpg_base.specs.declared.limits.TheConstants.{MOST_COLUMNS}
 use Rattle.cpg_base.proofs.Lists.{Contains-flat_map_parts, Contains-map_parts}
 use Rattle.cpg_table.specs.Table.{Column, Row, NodeTable}
 use Rattle.cpg_table.specs.declared.head_parts.HeadProcess.{HeadProcess}
@@ -30,8 +31,8 @@ pub times_short : (t : NodeTable) → IsTable t → All AreShort t.own
 times_short t h = subst (All AreShort) (sym h.of.own) (own_short h.head.faults (length h.head.nodes) h.node 0 0 h.head.processes h.lawful.processes)
 
 -- rows that are among those of a table have few columns
-rows_few : (t : NodeTable) → IsTable t → (rows : List Row) → ((row : Row) → Contains rows row → Contains (rows_of t) row) → All (λ (row : Row). length row.columns ≤ 16384) rows
-rows_few t h rows in' = All-weaker (Contains rows) (λ (row : Row). length row.columns ≤ 16384)
+rows_few : (t : NodeTable) → IsTable t → (rows : List Row) → ((row : Row) → Contains rows row → Contains (rows_of t) row) → All (λ (row : Row). length row.columns ≤ MOST_COLUMNS) rows
+rows_few t h rows in' = All-weaker (Contains rows) (λ (row : Row). length row.columns ≤ MOST_COLUMNS)
     (λ row c. (All-contains (IsLawfulRow (space_of h.head)) (rows_of t) row h.of.lawful (in' row c)).few) rows (All-contains_itself rows)
 
 in_sends : (t : NodeTable) (row : Row) → Contains t.sends row → Contains (rows_of t) row
@@ -40,10 +41,10 @@ in_sends t row c = Contains-append_right t.starts (t.sends ++ t.hears) row (Cont
 in_starts : (t : NodeTable) (row : Row) → Contains t.starts row → Contains (rows_of t) row
 in_starts t row c = Contains-append_left t.starts (t.sends ++ t.hears) row c
 
-pub sends_few : (t : NodeTable) → IsTable t → All (λ (row : Row). length row.columns ≤ 16384) t.sends
+pub sends_few : (t : NodeTable) → IsTable t → All (λ (row : Row). length row.columns ≤ MOST_COLUMNS) t.sends
 sends_few t h = rows_few t h t.sends (in_sends t)
 
-pub starts_few : (t : NodeTable) → IsTable t → All (λ (row : Row). length row.columns ≤ 16384) t.starts
+pub starts_few : (t : NodeTable) → IsTable t → All (λ (row : Row). length row.columns ≤ MOST_COLUMNS) t.starts
 starts_few t h = rows_few t h t.starts (in_starts t)
 
 time_early : (t : NodeTable) → IsTable t → (rows : List Row) → ((row : Row) → Contains rows row → Contains (rows_of t) row) → (x : ℕ) → Contains (times_in rows) x → x < 2 ^ 60

@@ -1,5 +1,6 @@
 //! What a node may do, in order of time.
 ghost use Rattle.std.specs.Prelude.{◌≡◌, ◌≤◌, ◌<◌, ◌+◌, ◌^◌, ◌++◌, ◌∷◌, [], ℕ, Some, None, IsPermutation, slice_get, IfOk, OnOk, All, length, map, filter, get_or, slice_index, slice_index_or};
+ghost use Rattle.cpg_base.specs.declared.limits.TheConstants.{MOST_COLUMNS};
 ghost use Rattle.std.specs.List.Sorted.{IsNonDecreasingBy};
 ghost use Rattle.std.specs.Vec.{vec_len, vec_capacity};
 ghost use Rattle.cpg_table.specs.Lawful.{IsTable};
@@ -34,7 +35,7 @@ fn plan_columns(
     item: u32,
     columns: &[Entry],
 ) -> Result<(), OutOfMemory>
-    requires { length columns.now ≤ 16384 }
+    requires { length columns.now ≤ MOST_COLUMNS }
     ensures { OnOk result (plan.new.items ≡ plan.old.items ++ plan_of_columns row item 0 columns.now) }
 {
     let mut column: u32 = 0;
@@ -52,7 +53,7 @@ fn plan_columns(
 
 /// Adds the columns of rows, the first of which has this place.
 fn plan_rows(plan: &mut Vec<Planned>, first: usize, rows: &[Row]) -> Result<(), OutOfMemory>
-    requires few { All (λ row. length row.columns ≤ 16384) rows.now }
+    requires few { All (λ row. length row.columns ≤ MOST_COLUMNS) rows.now }
     requires place { first + length rows.now < 2 ^ 64 }
     ensures { OnOk result (plan.new.items ≡ plan.old.items ++ plan_from first rows.now) }
 {

@@ -10,6 +10,7 @@ use Rattle.std.proofs.Math.Nat.{mul_comm}
 use Rattle.cpg_base.specs.Numbers.{numbers_below}
 use Rattle.cpg_base.specs.Graph.{Graph, process_count, edge_count, condition_count, item_count, item_at, node_of, source, target, process_of, producer_of_item, home, is_sent, is_sent_item, is_heard_by, is_message, message_item, broadcast_item}
 use Rattle.cpg_base.specs.Limits.{IsWithinLimits}
+use Rattle.cpg_base.specs.declared.limits.TheConstants.{MOST_LOAD}
 use Rattle.cpg_base.specs.declared.item.Item.TheVariants.{Message, Broadcast}
 use Rattle.cpg_base.specs.Bus.{slot_length}
 use Rattle.cpg_base.proofs.Items.{item_cases, ItemCases, item_at-start, item_at-message, item_at-broadcast, start_not_sent}
@@ -196,7 +197,7 @@ module _ (g : Graph) (within : IsWithinLimits g) (rows : List Row) where
     sum_by-le_each (λ x. sum_by (λ node. at_node node x) nodes) (λ x. columns x * rows_of_item g (item_at g x)) (numbers_below (item_count g)) (λ x c. let l = numbers-Contains (item_count g) x c in item_le x l (item_cases g x l)),
   )
 
-  pub tables_le : (tables : List NodeTable) → AreNodeTables g rows (length g.nodes) tables → AreWritable g rows → sum_by (λ t. column_count (rows_of t)) tables ≤ 524288
+  pub tables_le : (tables : List NodeTable) → AreNodeTables g rows (length g.nodes) tables → AreWritable g rows → sum_by (λ t. column_count (rows_of t)) tables ≤ MOST_LOAD
   tables_le tables are w = omega (
     arith,
     ap (sum_by (λ t. column_count (rows_of t))) (fill_by_all (table_at tables) tables (length g.nodes) empty_table are.long (λ k l. refl)),

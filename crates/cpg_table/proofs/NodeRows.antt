@@ -8,6 +8,7 @@ use Rattle.cpg_base.specs.Numbers.{numbers_below}
 use Rattle.cpg_base.specs.Graph.{Graph, process_count, item_count, item_at, node_of, home, is_sent, is_heard_by, IsVariable}
 use Rattle.cpg_base.specs.Bus.{slot_length}
 use Rattle.cpg_base.specs.Limits.{IsWithinLimits}
+use Rattle.cpg_base.specs.declared.limits.TheConstants.{MOST_COLUMNS}
 use Rattle.cpg_base.proofs.Bounds.{round-le}
 use Rattle.cpg_base.proofs.Lists.{numbers-Contains, Contains-filter_parts, Contains-first, Contains-rest}
 use Rattle.cpg_cube.specs.Cube.{is_whole}
@@ -40,7 +41,7 @@ module _ (g : Graph) (rows : List Row) (w : AreWritable g rows) where
   pub writable : (x : ℕ) → x < item_count g → All (IsWritable g) (row_for rows x).columns
   writable x l = w.lawful x no_row (omega (arith, l, long))
 
-  pub few_columns : (x : ℕ) → x < item_count g → length (row_for rows x).columns ≤ 16384
+  pub few_columns : (x : ℕ) → x < item_count g → length (row_for rows x).columns ≤ MOST_COLUMNS
   few_columns x l = w.few x no_row (omega (arith, l, long))
 
 -- numbers of items

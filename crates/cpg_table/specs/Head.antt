@@ -1,5 +1,6 @@
 -- The head of a pack: what its tables were made for.
 use Rattle.std.specs.Prelude.{ℕ, ◌≡◌, ◌+◌, ◌^◌, ◌≤◌, ◌<◌, List, Option, length, is_some, slice_get, option_and_then, count_by, All, IfSome, if◌then◌else◌}
+use Rattle.cpg_base.specs.declared.limits.TheConstants.{MOST_FAULTS, MOST_NODES, MOST_PROCESSES, MOST_EDGES, MOST_CONDITIONS, LONGEST}
 pub use Rattle.cpg_table.specs.declared.head_parts.HeadProcess.{HeadProcess}
 pub use Rattle.cpg_table.specs.declared.head_parts.Extra.{Extra}
 
@@ -24,8 +25,8 @@ pub record IsHeadEdge (processes : ℕ) (e : ℕ × ℕ) : Type 0 where
 
 -- what version 2 may say of a process
 pub record IsExtra (e : Extra) : Type 0 where
-  pub release : e.release ≤ 1000000000
-  pub deadline : IfSome e.deadline (λ d. d ≤ 1000000000)
+  pub release : e.release ≤ LONGEST
+  pub deadline : IfSome e.deadline (λ d. d ≤ LONGEST)
 
 -- one for each process
 pub record AreExtras (processes : ℕ) (extras : List Extra) : Type 0 where
@@ -34,11 +35,11 @@ pub record AreExtras (processes : ℕ) (extras : List Extra) : Type 0 where
 
 -- how many there are of each, and what each number is
 pub record IsHead (h : Head) : Type 0 where
-  pub faults : h.faults ≤ 8
-  pub few_nodes : length h.nodes ≤ 16
-  pub few_processes : length h.processes ≤ 128
-  pub few_conditions : count_by (λ p. p.condition) h.processes ≤ 32
-  pub few_edges : length h.edges ≤ 256
+  pub faults : h.faults ≤ MOST_FAULTS
+  pub few_nodes : length h.nodes ≤ MOST_NODES
+  pub few_processes : length h.processes ≤ MOST_PROCESSES
+  pub few_conditions : count_by (λ p. p.condition) h.processes ≤ MOST_CONDITIONS
+  pub few_edges : length h.edges ≤ MOST_EDGES
   pub processes : All (IsHeadProcess h.faults (length h.nodes)) h.processes
   pub edges : All (IsHeadEdge (length h.processes)) h.edges
   pub extras : IfSome h.extras (AreExtras (length h.processes))

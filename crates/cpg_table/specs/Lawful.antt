@@ -1,5 +1,6 @@
 -- Which rows a table may have under a head.
 use Rattle.std.specs.Prelude.{ℕ, ◌≡◌, ◌+◌, ◌^◌, ◌≤◌, ◌<◌, ◌⊎◌, List, ◌++◌, length, count_by, sum_by, All}
+use Rattle.cpg_base.specs.declared.limits.TheConstants.{MOST_COLUMNS, MOST_LOAD}
 use Rattle.cpg_cube.specs.Cube.{IsRising}
 use Rattle.cpg_cube.specs.declared.literal.Literal.{Literal}
 use Rattle.cpg_table.specs.Head.{Head, IsHead}
@@ -38,7 +39,7 @@ pub record IsLawfulColumn (s : Space) (c : Column) : Type 0 where
 
 -- not too many columns, each lawful
 pub record IsLawfulRow (s : Space) (row : Row) : Type 0 where
-  pub few : length row.columns ≤ 16384
+  pub few : length row.columns ≤ MOST_COLUMNS
   pub columns : All (IsLawfulColumn s) row.columns
 
 -- the rows of a node: those of what it starts, then of what it sends, then of what it hears
@@ -75,7 +76,7 @@ column_count rows = sum_by (λ row. length row.columns) rows
 pub record AreTablesOf (h : Head) (tables : List NodeTable) : Type 0 where
   pub count : length tables ≡ length h.nodes
   pub each : (node : ℕ) → node < length h.nodes → IsTableOf h node (table_at tables node)
-  pub few : sum_by (λ t. column_count (rows_of t)) tables ≤ 524288
+  pub few : sum_by (λ t. column_count (rows_of t)) tables ≤ MOST_LOAD
 
 -- a head and the tables of its nodes
 pub record Tables : Type 0 where

@@ -1,6 +1,7 @@
 -- Rows of all items, and tables that are written from them.
 use Rattle.std.specs.Prelude.{ℕ, ◌*◌, ◌^◌, ◌≡◌, ◌≤◌, ◌<◌, false, List, [], ◌++◌, Some, length, map, get_or, sum_by, slice_get, All}
 use Rattle.cpg_base.specs.Numbers.{numbers_below}
+use Rattle.cpg_base.specs.declared.limits.TheConstants.{MOST_COLUMNS, MOST_LOAD}
 use Rattle.cpg_base.specs.Graph.{Graph, process_count, item_count, item_at, home, is_sent}
 use Rattle.cpg_base.specs.Bus.{slot_length}
 use Rattle.cpg_cube.specs.Cube.{is_whole}
@@ -35,8 +36,8 @@ pub record IsWritable (g : Graph) (c : Column) : Type 0 where
 pub record AreWritable (g : Graph) (rows : List Row) : Type 0 where
   pub items : items_of rows ≡ numbers_below (item_count g)
   pub lawful : All (λ row. All (IsWritable g) row.columns) rows
-  pub few : All (λ row. length row.columns ≤ 16384) rows
-  pub loads : sum_by (λ x. length (row_for rows x).columns * rows_of_item g (item_at g x)) (numbers_below (item_count g)) ≤ 524288
+  pub few : All (λ row. length row.columns ≤ MOST_COLUMNS) rows
+  pub loads : sum_by (λ x. length (row_for rows x).columns * rows_of_item g (item_at g x)) (numbers_below (item_count g)) ≤ MOST_LOAD
   pub unsent : (x : ℕ) → process_count g ≤ x → x < item_count g → is_sent g x ≡ false → (row_for rows x).columns ≡ []
 
 -- the rows of a node's items, as they stand in its table

@@ -5,24 +5,15 @@ ghost use Rattle.cpg_table.specs.Head.{IsHead, IsHeadProcess, IsHeadEdge, IsExtr
 
 use crate::graph_head::{head_edges, head_extras, head_nodes, head_processes};
 use crate::{Extra, HeadProcess};
-use cpg_base::{Name, OutOfMemory, Problem};
+use cpg_base::{
+    LONGEST, MOST_CONDITIONS, MOST_EDGES, MOST_FAULTS, MOST_NODES, MOST_PROCESSES, Name,
+    OutOfMemory, Problem,
+};
 use std::alloc::Global;
 use std::marker::Model;
 
-/// How many faults a pack is made for at most.
-const MOST_FAULTS: u8 = 8;
-/// How many nodes a head has at most.
-const MOST_NODES: usize = 16;
-/// How many processes a head has at most.
-const MOST_PROCESSES: usize = 128;
-/// How many conditions a head has at most.
-const MOST_CONDITIONS: usize = 32;
-/// How many edges a head has at most.
-const MOST_EDGES: usize = 256;
 /// Durations are below this, in time units of the graph file.
 pub const TIME_END: u64 = 1 << 60;
-/// The latest release and deadline, in time units of the graph file.
-const LATEST: u64 = 1_000_000_000;
 
 /// What tables are made for (docs/FORMATS.md), seen as the fault number, the nodes' names, the processes, the edges by
 /// the numbers of the processes that they run between and, in version 2 alone, an `Extra` for each process.
@@ -48,7 +39,7 @@ impl Model for Head {
 
 /// Whether there are few enough of each.
 fn are_counts_within(faults: u8, nodes: usize, processes: usize, edges: usize) -> bool
-    ensures { IsTrue result ↔ ((faults ≤ 8) × (nodes ≤ 16) × (processes ≤ 128) × (edges ≤ 256)) }
+    ensures { IsTrue result ↔ ((faults ≤ MOST_FAULTS) × (nodes ≤ MOST_NODES) × (processes ≤ MOST_PROCESSES) × (edges ≤ MOST_EDGES)) }
 {
     if faults > MOST_FAULTS || nodes > MOST_NODES {
         return false;
@@ -106,10 +97,10 @@ fn is_extra_within(extra: Extra) -> bool
     ensures { IsTrue result ↔ IsExtra extra }
 {
     let due = match extra.deadline {
-        Some(deadline) => deadline <= LATEST,
+        Some(deadline) => deadline <= LONGEST,
         None => true,
     };
-    extra.release <= LATEST && due
+    extra.release <= LONGEST && due
 }
 
 fn are_extras_within(extras: &[Extra]) -> bool

@@ -5,11 +5,8 @@ ghost use Rattle.cpg_table.specs.Lawful.{space_of, IsCountLiteral, IsValueLitera
 
 use crate::head::{TIME_END, condition_count};
 use crate::{Entry, Head, Row};
-use cpg_base::Variable;
+use cpg_base::{MOST_COLUMNS, Variable};
 use cpg_cube::Literal;
-
-/// How many columns a row has at most.
-const MOST_COLUMNS: usize = 16_384;
 
 /// The variables that there are under a head.
 #[derive(Clone, Copy, Debug)]
@@ -87,7 +84,7 @@ fn is_row(space: Space, row: &Row) -> bool
     ensures { IsTrue result ↔ IsLawfulRow space row.now }
 {
     let columns = row.entries();
-    columns.len() <= MOST_COLUMNS && are_columns(space, columns)
+    columns.len() as u64 <= MOST_COLUMNS && are_columns(space, columns)
 }
 
 /// Whether rows are lawful.

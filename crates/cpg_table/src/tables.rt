@@ -5,11 +5,8 @@ ghost use Rattle.cpg_table.specs.Lawful.{IsTableOf, AreTablesOf, column_count, r
 
 use crate::node_table::is_table_of;
 use crate::{Head, NodeTable, Row};
-use cpg_base::OutOfMemory;
+use cpg_base::{MOST_LOAD, MOST_NODES, OutOfMemory};
 use std::marker::Model;
-
-/// How many columns all tables have together at most.
-const MOST_COLUMNS: usize = 524_288;
 
 /// What a pack holds: a head and the table of each node, seen as both.
 #[derive(Drop)]
@@ -30,7 +27,7 @@ impl Model for Tables {
 
 /// Whether each table is that of its node.
 fn are_tables_of(head: &Head, nodes: &[NodeTable]) -> bool
-    requires { length nodes.now ≤ 16 }
+    requires { length nodes.now ≤ MOST_NODES }
     ensures { IsTrue result ↔ ((node : ℕ) → node < length nodes.now → IsTableOf head.now node (table_at nodes.now node)) }
 {
     let mut node: u32 = 0;
@@ -71,9 +68,9 @@ fn table_left(table: &NodeTable, most: usize) -> Option<usize>
 
 /// Whether the tables have not too many columns.
 fn are_columns_few(nodes: &[NodeTable]) -> bool
-    ensures { IsTrue result ↔ (sum_by (λ t. column_count (rows_of t)) nodes.now ≤ 524288) }
+    ensures { IsTrue result ↔ (sum_by (λ t. column_count (rows_of t)) nodes.now ≤ MOST_LOAD) }
 {
-    let mut left = MOST_COLUMNS;
+    let mut left = MOST_LOAD as usize;
     for table in nodes {
         let Some(rest) = table_left(table, left) else {
             return false;

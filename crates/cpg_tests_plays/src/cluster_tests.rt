@@ -4,6 +4,8 @@ ghost use Rattle.std.specs.Prelude.{◌≡◌, ◌<◌, length};
 use crate::fixtures::{branching, branching_cluster, pair, pair_cluster, short_cluster};
 use cpg_cluster::{Cluster, Step};
 use cpg_node::{Act, Ended};
+use cpg_rules::Admitted;
+use std::alloc::Global;
 use std::test::Fail;
 
 /// The next instant of the first or the second node, and what it answers then.
@@ -60,30 +62,70 @@ fn is_pair_done(cluster: &Cluster) -> bool
     has_done(cluster, 1, &[act(90, 1, 1)], &[end(105, 1, 0, false)])
 }
 
+/// Drives the nodes of the pair, and judges what they have done.
+fn drives_pair(cluster: &mut Cluster) -> bool
+    requires { length cluster.old.graph.nodes ≡ 2 }
+    ensures { length cluster.new.graph.nodes ≡ 2 }
+{
+    if cluster.drive(0) != 2 {
+        return false;
+    }
+    is_pair_done(cluster)
+}
+
+fn is_pair_driven(alloc: Global, admitted: &Admitted) -> Result<bool, Fail>
+    requires { length admitted.now.graph.nodes ≡ 2 }
+{
+    let mut cluster = pair_cluster(alloc, admitted)?;
+    Ok(drives_pair(&mut cluster))
+}
+
+fn pair_is_driven(alloc: Global) -> Result<bool, Fail> {
+    let admitted = pair(alloc)?;
+    is_pair_driven(alloc, &admitted)
+}
+
 #[test]
 fn the_pair_is_driven(rt: HostRuntime) -> Result<(), Fail> {
-    let admitted = pair(rt.alloc())?;
-    let mut cluster = pair_cluster(rt.alloc(), &admitted)?;
-    assert!(rt; cluster.drive(0) == 2);
-    assert!(rt; is_pair_done(&cluster));
+    let driven = pair_is_driven(rt.alloc())?;
+    assert!(rt; driven);
     Ok(())
+}
+
+/// Drives the nodes of the pair where A runs one time unit: the same, and A has told of its end.
+fn drives_short(cluster: &mut Cluster) -> bool
+    requires { length cluster.old.graph.nodes ≡ 2 }
+{
+    if !drives_pair(cluster) {
+        return false;
+    }
+    let reports = [end(1, 0, 1, false)];
+    cluster.reports(0) == reports.as_slice()
+}
+
+fn is_short_driven(alloc: Global, admitted: &Admitted) -> Result<bool, Fail>
+    requires { length admitted.now.graph.nodes ≡ 2 }
+{
+    let mut cluster = short_cluster(alloc, admitted)?;
+    Ok(drives_short(&mut cluster))
+}
+
+fn short_is_driven(alloc: Global) -> Result<bool, Fail> {
+    let admitted = pair(alloc)?;
+    is_short_driven(alloc, &admitted)
 }
 
 #[test]
 fn a_short_execution(rt: HostRuntime) -> Result<(), Fail> {
-    let admitted = pair(rt.alloc())?;
-    let mut cluster = short_cluster(rt.alloc(), &admitted)?;
-    assert!(rt; cluster.drive(0) == 2);
-    let reports = [end(1, 0, 1, false)];
-    assert!(rt; cluster.reports(0) == reports.as_slice());
-    assert!(rt; is_pair_done(&cluster));
+    let driven = short_is_driven(rt.alloc())?;
+    assert!(rt; driven);
     Ok(())
 }
 
-#[test]
-fn the_second_node_waits_on_the_first(rt: HostRuntime) -> Result<(), Fail> {
-    let admitted = branching(rt.alloc())?;
-    let mut cluster = branching_cluster(rt.alloc(), &admitted)?;
+/// The second node waits on the first.
+fn waits_on_first(cluster: &mut Cluster) -> bool
+    requires { length cluster.old.graph.nodes ≡ 2 }
+{
     let waits = Step::Waits { on: 0 };
     let asks = [
         (true, Some(0), Step::Took),
@@ -102,14 +144,14 @@ fn the_second_node_waits_on_the_first(rt: HostRuntime) -> Result<(), Fail> {
         (true, None, Step::Done),
         (false, None, Step::Done),
     ];
-    assert!(rt; answers(&mut cluster, &asks));
-    Ok(())
+    answers(cluster, &asks)
 }
 
-/// Whether the nodes of the branching graph have done all that is due with A true.
-fn is_branching_done(cluster: &Cluster) -> bool
-    requires { length cluster.now.graph.nodes ≡ 2 }
+/// Drives the branching graph with A true, and judges what the nodes have done.
+fn drives_branching(cluster: &mut Cluster) -> bool
+    requires { length cluster.old.graph.nodes ≡ 2 }
 {
+    cluster.drive(7);
     let first = [act(0, 0, 0), act(40, 8, 0), act(60, 4, 0)];
     if !has_done(cluster, 0, &first, &[end(35, 0, 0, true)]) {
         return false;
@@ -119,11 +161,33 @@ fn is_branching_done(cluster: &Cluster) -> bool
     has_done(cluster, 1, &second, &ends)
 }
 
+/// Whether the branching graph plays so, turn by turn or driven.
+fn is_branching_played(alloc: Global, admitted: &Admitted, driven: bool) -> Result<bool, Fail>
+    requires { length admitted.now.graph.nodes ≡ 2 }
+{
+    let mut cluster = branching_cluster(alloc, admitted)?;
+    Ok(if driven {
+        drives_branching(&mut cluster)
+    } else {
+        waits_on_first(&mut cluster)
+    })
+}
+
+fn branching_is_played(alloc: Global, driven: bool) -> Result<bool, Fail> {
+    let admitted = branching(alloc)?;
+    is_branching_played(alloc, &admitted, driven)
+}
+
+#[test]
+fn the_second_node_waits_on_the_first(rt: HostRuntime) -> Result<(), Fail> {
+    let played = branching_is_played(rt.alloc(), false)?;
+    assert!(rt; played);
+    Ok(())
+}
+
 #[test]
 fn the_branching_play(rt: HostRuntime) -> Result<(), Fail> {
-    let admitted = branching(rt.alloc())?;
-    let mut cluster = branching_cluster(rt.alloc(), &admitted)?;
-    cluster.drive(7);
-    assert!(rt; is_branching_done(&cluster));
+    let played = branching_is_played(rt.alloc(), true)?;
+    assert!(rt; played);
     Ok(())
 }

@@ -1,5 +1,5 @@
 //! Texts of the pair and of the branching graph.
-ghost use Rattle.std.specs.Prelude.{◌≡◌, ◌<◌, length};
+ghost use Rattle.std.specs.Prelude.{◌≡◌};
 
 use crate::fixtures::{
     branching, branching_cluster, branching_tables, pair, pair_cluster, short_cluster,
@@ -37,18 +37,24 @@ fn is_table_text(alloc: Global, admitted: &Admitted, built: &Built, text: &str) 
     }
 }
 
-fn branching_built(alloc: Global, admitted: &Admitted) -> Result<Built, Fail> {
+/// Whether the tables of the branching graph have this text.
+fn is_branching_text(alloc: Global, admitted: &Admitted, text: &str) -> Result<bool, Fail> {
     let tables = branching_tables(alloc, admitted)?;
-    built(alloc, admitted, tables)
+    let built = built(alloc, admitted, tables)?;
+    Ok(is_table_text(alloc, admitted, &built, text))
+}
+
+fn has_table_text(alloc: Global, text: &str) -> Result<bool, Fail> {
+    let admitted = branching(alloc)?;
+    is_branching_text(alloc, &admitted, text)
 }
 
 #[test]
 fn a_table(rt: HostRuntime) -> Result<(), Fail> {
-    let admitted = branching(rt.alloc())?;
-    let built = branching_built(rt.alloc(), &admitted)?;
     let text =
         "order A C B J\nworst 95\nstart A on N1\n  0: always\nstart B on N2\n  70: A true\nstart C on N1\n  35: A false\nstart J on N2\n  70: A false\n  85: A true\nsend e0 A>B on N1\n  60: A true\nsend e3 C>J on N1\n  60: A false\ntell A on N1\n  40: always\n";
-    assert!(rt; is_table_text(rt.alloc(), &admitted, &built, text));
+    let same = has_table_text(rt.alloc(), text)?;
+    assert!(rt; same);
     Ok(())
 }
 
@@ -62,16 +68,30 @@ fn is_node_text(alloc: Global, tables: &Tables, node: u32, text: &str) -> bool {
     }
 }
 
+/// Whether the two nodes of the branching graph have these texts.
+fn are_branching_texts(
+    alloc: Global,
+    admitted: &Admitted,
+    first: &str,
+    second: &str,
+) -> Result<bool, Fail> {
+    let tables = branching_tables(alloc, admitted)?;
+    Ok(is_node_text(alloc, &tables, 0, first) && is_node_text(alloc, &tables, 1, second))
+}
+
+fn have_node_texts(alloc: Global, first: &str, second: &str) -> Result<bool, Fail> {
+    let admitted = branching(alloc)?;
+    are_branching_texts(alloc, &admitted, first, second)
+}
+
 #[test]
 fn nodes(rt: HostRuntime) -> Result<(), Fail> {
-    let admitted = branching(rt.alloc())?;
-    let tables = branching_tables(rt.alloc(), &admitted)?;
-    let text =
+    let first =
         "node N1\nstart A\n  0: always\nstart C\n  35: A false\nsend e0 A>B\n  60: A true\nsend e3 C>J\n  60: A false\ntell A\n  40: always\n";
-    assert!(rt; is_node_text(rt.alloc(), &tables, 0, text));
-    let text =
+    let second =
         "node N2\nstart B\n  70: A true\nstart J\n  70: A false\n  85: A true\nhear e0 A>B\n  70: A true\nhear e3 C>J\n  70: A false\nhear A\n  50: always\n";
-    assert!(rt; is_node_text(rt.alloc(), &tables, 1, text));
+    let same = have_node_texts(rt.alloc(), first, second)?;
+    assert!(rt; same);
     Ok(())
 }
 
@@ -84,43 +104,83 @@ fn is_trace_text(alloc: Global, admitted: &Admitted, cluster: &Cluster, text: &s
     }
 }
 
-#[test]
-fn full_length(rt: HostRuntime) -> Result<(), Fail> {
-    let admitted = pair(rt.alloc())?;
-    let mut cluster = pair_cluster(rt.alloc(), &admitted)?;
-    cluster.drive(0);
-    let text =
-        "0 N1 start A\n72 N1 end A faults 1\n80 N1 send e0\n90 N2 start B\n105 N2 end B faults 0\nfinish 105\n";
-    assert!(rt; is_trace_text(rt.alloc(), &admitted, &cluster, text));
-    Ok(())
+/// Whether the pair has this trace before its first turn.
+fn is_opening_trace(alloc: Global, admitted: &Admitted, text: &str) -> Result<bool, Fail> {
+    let cluster = pair_cluster(alloc, admitted)?;
+    Ok(is_trace_text(alloc, admitted, &cluster, text))
 }
 
-#[test]
-fn early_end(rt: HostRuntime) -> Result<(), Fail> {
-    let admitted = pair(rt.alloc())?;
-    let mut cluster = short_cluster(rt.alloc(), &admitted)?;
-    cluster.drive(0);
-    let text =
-        "0 N1 start A\n72 N1 end A faults 1 ran 1\n80 N1 send e0\n90 N2 start B\n105 N2 end B faults 0\nfinish 105\n";
-    assert!(rt; is_trace_text(rt.alloc(), &admitted, &cluster, text));
-    Ok(())
+fn has_opening_trace(alloc: Global, text: &str) -> Result<bool, Fail> {
+    let admitted = pair(alloc)?;
+    is_opening_trace(alloc, &admitted, text)
 }
 
 #[test]
 fn nothing_done_yet(rt: HostRuntime) -> Result<(), Fail> {
-    let admitted = pair(rt.alloc())?;
-    let cluster = pair_cluster(rt.alloc(), &admitted)?;
-    assert!(rt; is_trace_text(rt.alloc(), &admitted, &cluster, "finish 0\n"));
+    let same = has_opening_trace(rt.alloc(), "finish 0\n")?;
+    assert!(rt; same);
     Ok(())
+}
+
+/// Whether the pair has this trace once it is driven.
+fn is_full_trace(alloc: Global, admitted: &Admitted, text: &str) -> Result<bool, Fail> {
+    let mut cluster = pair_cluster(alloc, admitted)?;
+    cluster.drive(0);
+    Ok(is_trace_text(alloc, admitted, &cluster, text))
+}
+
+fn has_full_trace(alloc: Global, text: &str) -> Result<bool, Fail> {
+    let admitted = pair(alloc)?;
+    is_full_trace(alloc, &admitted, text)
+}
+
+#[test]
+fn full_length(rt: HostRuntime) -> Result<(), Fail> {
+    let text =
+        "0 N1 start A\n72 N1 end A faults 1\n80 N1 send e0\n90 N2 start B\n105 N2 end B faults 0\nfinish 105\n";
+    let same = has_full_trace(rt.alloc(), text)?;
+    assert!(rt; same);
+    Ok(())
+}
+
+/// The same where A runs one time unit.
+fn is_short_trace(alloc: Global, admitted: &Admitted, text: &str) -> Result<bool, Fail> {
+    let mut cluster = short_cluster(alloc, admitted)?;
+    cluster.drive(0);
+    Ok(is_trace_text(alloc, admitted, &cluster, text))
+}
+
+fn has_short_trace(alloc: Global, text: &str) -> Result<bool, Fail> {
+    let admitted = pair(alloc)?;
+    is_short_trace(alloc, &admitted, text)
+}
+
+#[test]
+fn early_end(rt: HostRuntime) -> Result<(), Fail> {
+    let text =
+        "0 N1 start A\n72 N1 end A faults 1 ran 1\n80 N1 send e0\n90 N2 start B\n105 N2 end B faults 0\nfinish 105\n";
+    let same = has_short_trace(rt.alloc(), text)?;
+    assert!(rt; same);
+    Ok(())
+}
+
+/// Whether the branching graph has this trace once it is driven.
+fn is_branching_trace(alloc: Global, admitted: &Admitted, text: &str) -> Result<bool, Fail> {
+    let mut cluster = branching_cluster(alloc, admitted)?;
+    cluster.drive(0);
+    Ok(is_trace_text(alloc, admitted, &cluster, text))
+}
+
+fn has_branching_trace(alloc: Global, text: &str) -> Result<bool, Fail> {
+    let admitted = branching(alloc)?;
+    is_branching_trace(alloc, &admitted, text)
 }
 
 #[test]
 fn choice(rt: HostRuntime) -> Result<(), Fail> {
-    let admitted = branching(rt.alloc())?;
-    let mut cluster = branching_cluster(rt.alloc(), &admitted)?;
-    cluster.drive(0);
     let text =
         "0 N1 start A\n35 N1 end A faults 0 value true\n40 N1 tell A\n60 N1 send e0\n70 N2 start B\n85 N2 end B faults 0\n85 N2 start J\n95 N2 end J faults 0\nfinish 95\n";
-    assert!(rt; is_trace_text(rt.alloc(), &admitted, &cluster, text));
+    let same = has_branching_trace(rt.alloc(), text)?;
+    assert!(rt; same);
     Ok(())
 }

@@ -7,6 +7,7 @@ use Rattle.std.proofs.lemmas.List.Sums.{sum_by-append, sum_by-cons}
 use Rattle.cpg_table.specs.Table.{Column, Row, NodeTable, empty_table, table_at, columns_in, columns_of}
 use Rattle.cpg_table.specs.Lawful.{column_count, rows_of, AreTablesOf}
 use Rattle.cpg_table.specs.Head.{Head}
+use Rattle.cpg_base.specs.declared.limits.TheConstants.{MOST_LOAD}
 use Rattle.cpg_violation.specs.Columns.{row_columns}
 
 module _ (x : ℕ) where
@@ -68,7 +69,7 @@ rows_within (t ∷ ts) =
     omega (arith, all, here, there, hears, more, ih)
 
 -- an item has not more columns than tables may have
-pub columns_few : (h : Head) (tables : List NodeTable) → AreTablesOf h tables → (x : ℕ) → length (columns_of tables x) ≤ 524288
+pub columns_few : (h : Head) (tables : List NodeTable) → AreTablesOf h tables → (x : ℕ) → length (columns_of tables x) ≤ MOST_LOAD
 columns_few h tables are x =
     let a = columns_within x (flat_map (λ (t : NodeTable). t.starts ++ t.sends) tables) in
     let b = rows_within tables in

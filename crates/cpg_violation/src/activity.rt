@@ -1,5 +1,6 @@
 //! The least scenario in which a process is active, or isn't, of those that a cube matches and others don't.
 ghost use Rattle.std.specs.Prelude.{◌≡◌, ◌<◌, ◌≤◌, ◌&&◌, All, IfOk, length, map};
+ghost use Rattle.cpg_base.specs.declared.limits.TheConstants.{MOST_CONDITIONS};
 ghost use Rattle.cpg_base.specs.Graph.{IsVariable, condition_count, process_count};
 ghost use Rattle.cpg_guard.specs.Trees.{TestsBelow};
 ghost use Rattle.cpg_order.specs.First.{IsFirst};
@@ -9,7 +10,7 @@ ghost use Rattle.cpg_cube.specs.Fit.{IsKnown};
 ghost use Rattle.cpg_violation.specs.Activity.{comes_to, value_literal};
 
 use crate::earliest::earlier;
-use cpg_base::{OutOfMemory, Problem, Scenario};
+use cpg_base::{FIRST_VALUE, OutOfMemory, Problem, Scenario};
 use cpg_cube::{Cube, Literal, uncovered};
 use cpg_guard::{GuardTop, GuardTree};
 use cpg_order::Order;
@@ -17,12 +18,12 @@ use std::alloc::Global;
 
 /// The literal that a condition has a value.
 pub fn value_literal(condition: u32, value: bool) -> Literal
-    requires { condition < 32 }
+    requires { condition < MOST_CONDITIONS }
     ensures { result ≡ value_literal condition value }
 {
     let number = u8::from(value);
     Literal {
-        variable: 128 + condition as u8,
+        variable: FIRST_VALUE + condition as u8,
         low: number,
         high: number,
     }
@@ -41,7 +42,7 @@ fn least_where(
     by: &[&Cube],
 ) -> Result<Option<Scenario>, OutOfMemory>
     requires order { length order.now ≡ process_count problem.now }
-    requires conditions { condition_count problem.now ≤ 32 }
+    requires conditions { condition_count problem.now ≤ MOST_CONDITIONS }
     requires tree { TestsBelow (condition_count problem.now) tree.now }
     requires cube { IsKnown problem.now cube.now }
     requires literal { IsVariable problem.now literal.variable }
@@ -68,7 +69,7 @@ pub fn least_at(
     by: &[&Cube],
 ) -> Result<Option<Scenario>, OutOfMemory>
     requires order { length order.now ≡ process_count problem.now }
-    requires conditions { condition_count problem.now ≤ 32 }
+    requires conditions { condition_count problem.now ≤ MOST_CONDITIONS }
     requires tree { TestsBelow (condition_count problem.now) tree.now }
     requires cube { IsKnown problem.now cube.now }
     requires list { All (λ b. IsKnown problem.now b.now) by.now }

@@ -2,6 +2,7 @@
 //! look at each.
 ghost use Rattle.std.specs.Prelude.{◌≡◌, ◌≤◌, ◌<◌, ◌&&◌, ℕ, Bool, IfOk, Contains, false, length, nat_le, not, true};
 ghost use Rattle.std.specs.Bool.{OnFalse};
+ghost use Rattle.cpg_base.specs.declared.limits.TheConstants.{MOST_LOAD};
 ghost use Rattle.cpg_order.specs.Scenario.{Scenario, number_of};
 ghost use Rattle.cpg_cube.specs.Cube.{holds, matches};
 ghost use Rattle.cpg_violation.specs.Sieves.{IsSieveOf, Sifts, column_at, places_in};
@@ -281,7 +282,7 @@ fn meeting(
 impl Sieve {
     /// The columns of a row, by place.
     pub fn of(alloc: Global, columns: &[Entry]) -> Result<Sieve, OutOfMemory>
-        requires { length columns.now ≤ 524288 }
+        requires { length columns.now ≤ MOST_LOAD }
         ensures { IfOk result (IsSieveOf columns.now) }
     {
         let mut places = Vec::new(alloc);

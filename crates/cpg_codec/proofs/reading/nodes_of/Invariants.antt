@@ -1,4 +1,5 @@
 use Rattle.std.proofs.Common.{◌≡◌, ◌+◌, ◌-◌, ◌≤◌, ℕ, length}
+use Rattle.cpg_base.specs.declared.limits.TheConstants.{MOST_LOAD}
 use Rattle.cpg_table.specs.Table.{NodeTable}
 use Rattle.cpg_table.specs.Lawful.{column_count, rows_of}
 use Rattle.cpg_codec.specs.Reading.{each_at}
@@ -10,5 +11,5 @@ abbrev pub invariant-loop-node : goal.invariant-loop-node
 invariant-loop-node l = record {
   so_far : with_front l.nodes.items (each_at (λ (c : ℕ) (t : NodeTable). c + column_count (rows_of t)) (node_table_at l.fn.head) (numbers_from l.node (length l.fn.head.nodes - l.node)) l.total l.rest)
       ≡ nodes_at l.fn.head l.fn.bytes;
-  few : l.total ≤ 524288;
+  few : l.total ≤ MOST_LOAD;
 }

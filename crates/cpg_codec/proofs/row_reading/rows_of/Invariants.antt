@@ -1,4 +1,5 @@
 use Rattle.std.proofs.Common.{◌≡◌, ◌+◌, ◌≤◌, ℕ, length, drop}
+use Rattle.cpg_base.specs.declared.limits.TheConstants.{MOST_LOAD}
 use Rattle.cpg_table.specs.Table.{Row}
 use Rattle.cpg_table.specs.Lawful.{column_count}
 use Rattle.cpg_codec.specs.Reading.{each_at}
@@ -11,5 +12,5 @@ invariant-loop-item l = record {
   so_far : with_front l.rows.items (each_at (λ (c : ℕ) (r : Row). c + length r.columns) (row_at l.fn.space) (drop l.item-index l.fn.items) l.total l.rest)
       ≡ rows_at l.fn.space l.fn.items l.fn.before l.fn.bytes;
   total : l.total ≡ l.fn.before + column_count l.rows.items;
-  few : l.total ≤ 524288;
+  few : l.total ≤ MOST_LOAD;
 }

@@ -2,6 +2,7 @@ use Rattle.std.proofs.Common.{rules, length, ap, subst, sym}
 use Rattle.std.specs.Prelude.{All, ◌≤◌}
 use Rattle.std.proofs.lemmas.Fn.{always_returns_same}
 use Rattle.std.proofs.lemmas.List.Sorted.{IsNonDecreasingBy-from_sort_by_key}
+use Rattle.cpg_base.specs.declared.limits.TheConstants.{MOST_COLUMNS}
 use Rattle.cpg_table.specs.Table.{Row}
 use Rattle.cpg_node.specs.Plan.{Planned, SameAtEachTime}
 use Rattle.cpg_node.proofs.Planning.{planned_is, same_from_stable}
@@ -9,10 +10,10 @@ use Rattle.cpg_node.proofs.TableBounds.{sends_few, starts_few}
 use Rattle.cpg_node.proofs.plan.plan_of.Goals as goal
 
 pub plan_rows-requires-clause-few : goal.plan_rows-requires-clause-few
-plan_rows-requires-clause-few c = subst (All (λ (row : Row). length row.columns ≤ 16384)) (sym c.sends.ensures.sends) (sends_few c.args.table.now c.sends.ensures.made)
+plan_rows-requires-clause-few c = subst (All (λ (row : Row). length row.columns ≤ MOST_COLUMNS)) (sym c.sends.ensures.sends) (sends_few c.args.table.now c.sends.ensures.made)
 
 pub plan_rows-requires-2-clause-few : goal.plan_rows-requires-2-clause-few
-plan_rows-requires-2-clause-few c = subst (All (λ (row : Row). length row.columns ≤ 16384)) (sym c.starts.ensures.starts) (starts_few c.args.table.now c.sends.ensures.made)
+plan_rows-requires-2-clause-few c = subst (All (λ (row : Row). length row.columns ≤ MOST_COLUMNS)) (sym c.starts.ensures.starts) (starts_few c.args.table.now c.sends.ensures.made)
 
 pub returns-clause-same : goal.returns-clause-same
 returns-clause-same c = subst (SameAtEachTime c.sort_by_key.new.self.items)
