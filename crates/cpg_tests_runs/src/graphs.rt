@@ -24,6 +24,8 @@ pub(crate) enum Example {
     Fork,
     /// X on the first node sends to Y on the second, and Z there waits for nothing.
     Waiting,
+    /// A, which may start from 20 on and ends by 40, and B, which waits for nothing, on one node.
+    Released,
     /// Forty processes on one node, each after the one before.
     Chain {
         /// How many faults there may be.
@@ -208,6 +210,18 @@ fn fork(alloc: Global) -> Result<Admitted, Fail> {
     )
 }
 
+fn released(alloc: Global) -> Result<Admitted, Fail> {
+    let mut first = process(alloc, "A", 0, 10)?;
+    first.release = 20;
+    first.deadline = Some(40);
+    let mut processes = Vec::new(alloc);
+    processes.push(first)?;
+    processes.push(process(alloc, "B", 0, 30)?)?;
+    let names = ["N1"];
+    let problem = problem(alloc, names.as_slice(), 0, 100, processes, Vec::new(alloc))?;
+    admit_it(alloc, problem)
+}
+
 fn waiting(alloc: Global) -> Result<Admitted, Fail> {
     let facts = [("X", 0, 5), ("Y", 1, 25), ("Z", 1, 15)];
     let names = ["N1", "N2"];
@@ -280,6 +294,7 @@ pub(crate) fn admitted(alloc: Global, example: Example) -> Result<Admitted, Fail
         Example::Choice => choice(alloc),
         Example::Fork => fork(alloc),
         Example::Waiting => waiting(alloc),
+        Example::Released => released(alloc),
         Example::Chain { faults, frozen } => chain(alloc, faults, frozen),
         Example::Eight => decided(alloc, 8),
         Example::Nine => decided(alloc, 9),

@@ -63,6 +63,14 @@ fn no_node_idles(rt: HostRuntime) -> Result<(), Fail> {
     Ok(())
 }
 
+/// A waits for its release, and B doesn't wait for A.
+#[test]
+fn no_start_before_its_release(rt: HostRuntime) -> Result<(), Fail> {
+    let wanted = [[Some(30), Some(0), None, None]];
+    assert!(rt; has_starts(rt.alloc(), Example::Released, wanted.as_slice())?);
+    Ok(())
+}
+
 /// First the track of C, then that of B.
 #[test]
 fn each_track_has_its_schedule(rt: HostRuntime) -> Result<(), Fail> {

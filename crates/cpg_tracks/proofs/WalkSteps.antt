@@ -30,12 +30,9 @@ ways_more g c xs before after i d l h e = e ∙ ap (λ ys. ys ++ both_ways_at g 
 
 -- ---- one more process of the order
 
-along_next : (g : Graph) (order : List ℕ) (i : ℕ) → i < length order → conditions_along g (take (i + 1) order) ≡ conditions_along g (take i order) ++ option_to_list (condition_of g (get_or order i 0))
-along_next g order i l = flat_map_next (λ p. option_to_list (condition_of g p)) order i 0 l
-
 over_next : (g : Graph) (order : List ℕ) (i : ℕ) (o : Option ℕ) → i < length order → condition_of g (get_or order i 0) ≡ o →
     tracks_over g (conditions_along g (take (i + 1) order)) (all_false g ∷ []) ≡ tracks_over g (option_to_list o) (tracks_over g (conditions_along g (take i order)) (all_false g ∷ []))
-over_next g order i o l e = ap (λ cs. tracks_over g cs (all_false g ∷ [])) (along_next g order i l ∙ ap (λ r. conditions_along g (take i order) ++ option_to_list r) e)
+over_next g order i o l e = ap (λ cs. tracks_over g cs (all_false g ∷ [])) (flat_map_next (λ p. option_to_list (condition_of g p)) order i 0 l ∙ ap (λ r. conditions_along g (take i order) ++ option_to_list r) e)
     ∙ over_append g (conditions_along g (take i order)) (option_to_list o) (all_false g ∷ [])
 
 pub walk_takes : (g : Graph) (order : List ℕ) (i c : ℕ) (before after : List Scenario) → i < length order → condition_of g (get_or order i 0) ≡ Some c →
