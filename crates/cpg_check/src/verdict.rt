@@ -47,7 +47,7 @@ fn first_fault(
 
 /// Whether tables are valid for an admitted graph: `Other` exactly where the head isn't the graph's, `Yes` exactly where
 /// it is and the tables keep the ten rules of valid tables in every scenario, and else the first violation
-/// (docs/FORMATS.md). No scenario is listed.
+/// (docs/RULES.md). No scenario is listed.
 pub fn check(alloc: Global, admitted: &Admitted, tables: &Tables) -> Result<Verdict, OutOfMemory>
     ensures { IfOk result (ShowsVerdict admitted.now.graph admitted.now.order tables.now) }
 {

@@ -2,7 +2,7 @@
 
 use cpg_base::Scenario;
 
-/// The first violation of a rule of valid tables (docs/FORMATS.md).
+/// The first violation of a rule of valid tables (docs/RULES.md).
 #[derive(Drop)]
 pub struct Fault {
     /// The number of the rule, from 1 for V1 to 10 for V10.

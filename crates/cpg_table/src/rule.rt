@@ -2,7 +2,7 @@
 ghost use Rattle.std.specs.Prelude.{◌≡◌, ◌≢◌, IfNone, IfSome};
 ghost use Rattle.cpg_table.specs.Rules.{number_of_rule};
 
-/// A rule of valid tables (docs/FORMATS.md).
+/// A rule of valid tables (docs/RULES.md).
 #[derive(Clone, Copy, Debug, PartialEq, Eq)]
 pub enum Rule {
     /// V1: a column that matches has an active item, and the processes of its literals are active.
