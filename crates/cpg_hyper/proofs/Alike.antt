@@ -1,6 +1,6 @@
 -- Instances are active and live as their parts: a copy's inputs are the copies of its process's, and conditions have the values of the scenario on the instance.
-use Rattle.std.proofs.Common.{◌≡◌, ℕ, zero, suc, ◌+◌, ◌-◌, ◌<◌, ◌≤◌, Bool, true, false, ◌&&◌, if◌then◌else◌, List, [], ◌∷◌, length, map, filter, get_or, Option, Some, None, is_some, unwrap_or, Contains, refl, sym, ap, ap₂, ◌∙◌, subst, arith}
-use Rattle.std.specs.List.{list_all, list_any}
+use Rattle.std.proofs.Common.{◌≡◌, ℕ, zero, suc, ◌+◌, ◌-◌, ◌<◌, Bool, true, false, ◌&&◌, if◌then◌else◌, List, [], ◌∷◌, map, filter, get_or, Option, Some, None, is_some, unwrap_or, Contains, refl, sym, ap, ap₂, ◌∙◌, subst, arith}
+use Rattle.std.specs.List.{list_all}
 use Rattle.std.proofs.lemmas.List.{get_or-map}
 use Rattle.std.proofs.lemmas.List.Folds.{list_all-map}
 use Rattle.std.proofs.lemmas.List.Elements.{Contains-get_or}
@@ -19,7 +19,7 @@ use Rattle.cpg_order.specs.Urgency.{place, IsTopological}
 use Rattle.cpg_order.proofs.Acyclic.{edge_goes_up}
 use Rattle.cpg_order.proofs.Places.{position-place, place-lt, get_or-place}
 use Rattle.cpg_hyper.specs.declared.part.Part.{Part}
-use Rattle.cpg_hyper.specs.Unrolled.{copied_edge, size_of, edges_from, unrolled, first_graph}
+use Rattle.cpg_hyper.specs.Unrolled.{copied_edge, size_of, unrolled, first_graph}
 use Rattle.cpg_hyper.specs.Instances.{part_at, IsInstance, first_of, first_edge_of, scenario_of, copied_activation}
 use Rattle.cpg_hyper.specs.Laws.{AreWithinLimits, InstancesHaveConditions, InstancesAreActivatedAlike, InstancesAreActiveAlike, InstancesAreLiveAlike}
 use Rattle.cpg_hyper.proofs.Copies.{are_copies, within_whole}

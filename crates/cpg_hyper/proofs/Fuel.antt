@@ -4,7 +4,7 @@ use Rattle.std.proofs.lemmas.Bool.{cases_lt, true≢false}
 use Rattle.std.proofs.lemmas.List.FromFn.{length-range_with_len}
 use Rattle.cpg_base.specs.Numbers.{numbers_below}
 use Rattle.cpg_base.specs.Graph.{Graph, process_count, edge_count, process_at, edge_at, source, target, inputs}
-use Rattle.cpg_base.specs.Activity.{is_active, takes, value_of, activation_by, activation_within}
+use Rattle.cpg_base.specs.Activity.{is_active, takes, value_of, activation_within}
 use Rattle.cpg_base.proofs.Lists.{Contains-nil, Contains-cases, Contains-numbers}
 use Rattle.cpg_base.proofs.Inputs.{inputs_parts, same_activation_by}
 use Rattle.cpg_base.proofs.Sums.{length-filter-le}

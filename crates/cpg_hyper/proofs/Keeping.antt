@@ -14,7 +14,6 @@ use Rattle.cpg_order.specs.Scenario.{Scenario, IsScenario, fault_of}
 use Rattle.cpg_cube.specs.Cube.{matches}
 use Rattle.cpg_table.specs.Table.{NodeTable, Column, columns_of}
 use Rattle.cpg_table.specs.Valid.{IsValid, breaks, breaks_present, breaks_inputs_of, breaks_inputs, breaks_due}
-use Rattle.cpg_table.specs.declared.rule.Rule.{Rule}
 use Rattle.cpg_table.specs.declared.rule.Rule.TheVariants.{Present, Inputs, Due}
 use Rattle.cpg_hyper.specs.declared.part.Part.{Part}
 use Rattle.cpg_hyper.specs.Unrolled.{size_of, unrolled, first_graph}
