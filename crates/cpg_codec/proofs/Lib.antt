@@ -16,3 +16,4 @@ pub mod Loop
 pub mod NameBytes
 pub mod WholePack
 pub mod Records
+pub mod Lengths

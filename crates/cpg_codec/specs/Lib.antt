@@ -6,3 +6,4 @@ pub mod Fields
 pub mod Writing
 pub mod Gives
 pub mod Parts
+pub mod Lengths

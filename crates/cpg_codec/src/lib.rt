@@ -3,6 +3,7 @@
 //! [`write_pack`] writes the one spelling of tables, and [`read_pack`] reads it; docs/FORMATS.md says what it is.
 #![tactic(auto)]
 
+ghost use Rattle.cpg_codec.specs.Lengths.{AllShort};
 ghost use Rattle.cpg_codec.specs.Packs.{OneValue, NoProperPrefix};
 
 mod buffer;
@@ -11,6 +12,7 @@ mod field_reading;
 mod fixed;
 mod head_reading;
 mod head_writing;
+mod lawful;
 mod reading;
 mod row_reading;
 mod row_writing;
@@ -22,6 +24,7 @@ pub use fixed::{
     Fixed, column_literals, column_time, edge_from, edge_to, literal_high, literal_low,
     literal_variable, long_number, process_flag, process_node,
 };
+pub use lawful::tables_are_lawful;
 pub use reading::read_pack;
 pub use writing::write_pack;
 
@@ -33,4 +36,9 @@ pub fn packs_have_one_value()
 /// No pack is a proper prefix of another.
 pub fn packs_have_no_proper_prefix()
     ensures { NoProperPrefix }
+{}
+
+/// No pack is longer than 268,435,456 bytes.
+pub fn packs_are_short()
+    ensures { AllShort }
 {}

@@ -1,0 +1,9 @@
+-- How long a pack is at most.
+use Rattle.std.specs.Prelude.{◌≤◌, length}
+use Rattle.cpg_table.specs.Lawful.{Tables}
+use Rattle.cpg_codec.specs.Packs.{AreLawful}
+use Rattle.cpg_codec.specs.Spelling.{spelling}
+
+-- No spelling is longer than 268,435,456 bytes.
+abbrev pub AllShort : Type 0
+AllShort = (t : Tables) → AreLawful t → length (spelling t) ≤ 268435456

@@ -1,0 +1,34 @@
+//! Tables are those of a pack.
+ghost use Rattle.std.specs.Prelude.{All};
+ghost use Rattle.cpg_base.specs.Name.{IsName};
+ghost use Rattle.cpg_codec.specs.Packs.{AreLawful};
+
+use cpg_base::Name;
+use cpg_table::{HeadProcess, Tables};
+
+/// Names are names.
+fn nodes_are_named(names: &[Name])
+    ensures { All IsName names.now }
+{
+    for name in names {
+        let _text = name.as_str();
+    }
+}
+
+/// Processes have names.
+fn processes_are_named(processes: &[HeadProcess])
+    ensures { All (λ p. IsName p.name) processes.now }
+{
+    for process in processes {
+        let _text = process.name.as_str();
+    }
+}
+
+/// That tables are lawful: their limits are those of their types, and so are those of the names, which are gone over.
+pub fn tables_are_lawful(tables: &Tables)
+    ensures { AreLawful tables.now }
+{
+    let head = tables.head();
+    nodes_are_named(head.nodes());
+    processes_are_named(head.processes());
+}
