@@ -1,5 +1,5 @@
 -- Of an admitted graph and a pack of tables, a check or a play stops only as it must.
-use Rattle.std.proofs.Common.{ℕ, ◌≡◌, ◌≢◌, ◌<◌, ◌≤◌, ◌∙◌, Bool, true, false, [], Option, Some, length, refl, sym, ap, subst, arith, inl, inr, append-nil}
+use Rattle.std.proofs.Common.{ℕ, ◌≡◌, ◌≢◌, ◌<◌, ◌≤◌, ◌∙◌, Bool, true, false, [], Option, None, Some, length, refl, sym, ap, subst, arith, inl, inr, append-nil}
 use Rattle.std.specs.Prelude.{◌⊎◌, Result, Ok, Err, IfSome}
 use Rattle.std.proofs.lemmas.Bool.{both_ways}
 use Rattle.cpg_io.specs.Causes.{Rose}
@@ -10,6 +10,7 @@ use Rattle.cpg_table.specs.Valid.{IsValid}
 use Rattle.cpg_codec.specs.declared.fault.PackFault.{PackFault}
 use Rattle.cpg_codec.specs.Packs.{AreLawful, IsBadPack}
 use Rattle.cpg_codec.specs.Spelling.{spelling}
+use Rattle.cpg_codec.proofs.Lengths.{all_short}
 use Rattle.cpg_codec.proofs.Theorems.{one_spelling}
 use Rattle.cpg_scenario.specs.File.{file_of}
 use Rattle.cpg_scenario.specs.declared.fault.ScenarioFault.{ScenarioFault}
@@ -20,8 +21,8 @@ use Rattle.cpg_app.specs.declared.halt.Halt.{Halt}
 use Rattle.cpg_app.specs.Halts.{halt_of_pack, halt_of_scenario}
 use Rattle.cpg_app.specs.Lines.{status_of}
 use Rattle.cpg_app.specs.declared.reading.TheConstants.{PACK_LIMIT, SCENARIO_LIMIT}
-use Rattle.cpg_app.specs.Causes.{Seen, Admits, Spells, StopsPack, StopsGraph, StopsTables, StopsVerdict, StopsPlay, ShowsPackFault}
-use Rattle.cpg_app.specs.Outputs.{AreJudgedSafe, IsChecked, IsPlayOf}
+use Rattle.cpg_app.specs.Causes.{Seen, Admits, Spells, StopsPack, StopsGraph, StopsNaming, StopsTables, StopsVerdict, StopsPlay, ShowsPackFault, first_named}
+use Rattle.cpg_app.specs.Outputs.{AreJudgedSafe, IsChecked, IsNodeOf, IsPlayOf}
 use Rattle.cpg_app.specs.Lawful.{AreAdmitted}
 use Rattle.cpg_app.proofs.Excluded.{reading_left, rules_left, same_admission}
 
@@ -51,6 +52,32 @@ unsaid (ScenarioFault.Bad cause) never = absurd (never (λ e. both_ways _ refl (
     is_memory ScenarioFault.OutOfMemory = true
     is_memory (ScenarioFault.Bad c) = false
 unsaid ScenarioFault.OutOfMemory never = refl
+
+-- ---- the pack
+
+module _ (seen : Seen) (t : Tables) (pack : Text) (still : Rose seen.before seen.now → ⊥) (spelled : seen.stands pack ≡ Some (spelling t)) (lawful : AreLawful t) where
+  pack_left : (h : Halt) → StopsPack seen (seen.stands pack) h → status_of h ≡ 8
+  pack_left h (inl unread) = absurd (still unread.rose)
+  pack_left h (inr (inl long)) = absurd (let l : PACK_LIMIT < length (spelling t) = subst (λ o. IfSome o (λ b. PACK_LIMIT < length b)) spelled long.long in let few = all_short t lawful in omega (arith, few))
+  pack_left h (inr (inr none)) = bad none.fault none.halt_is none.shows
+    where
+      bad : (fault : PackFault) → h ≡ halt_of_pack fault → ShowsPackFault (seen.stands pack) fault → status_of h ≡ 8
+      bad (PackFault.BadPack n) e shows = absurd (let no : IsBadPack (spelling t) n = subst (λ o. IfSome o (λ b. IsBadPack b n)) spelled shows.1 in no.no_pack t lawful refl)
+      bad PackFault.OutOfMemory e shows = ap status_of e
+
+  -- no node has the name, or memory is wanting
+  pub node_left : (name : Text) (h : Halt) → StopsTables seen (seen.stands pack) (λ u. StopsNaming u name) h → (status_of h ≡ 8) ⊎ ((status_of h ≡ 4) × (first_named t.head name ≡ None))
+  node_left name h (inl none) = inl (pack_left h none)
+  node_left name h (inr worked) = elim worked.2 [
+    | inl unknown ↦ inr (ap status_of unknown.0, subst (λ (u : Tables). first_named u.head name ≡ None) (same_tables (seen.stands pack) t worked.0 spelled lawful worked.1) unknown.1)
+    | inr memory ↦ inl (ap status_of memory)
+  ]
+
+  -- what is printed is of the node of the name
+  pub node_is : (name text : Text) → IsNodeOf (seen.stands pack) name text → (node : ℕ) × (first_named t.head name ≡ Some node)
+  node_is name text made = (made.2.node, subst (λ (u : Tables). first_named u.head name ≡ Some made.2.node) (same_tables (seen.stands pack) t made.0 spelled lawful made.1) made.2.named)
+
+-- ---- the graph and the pack
 
 module _ (seen : Seen) (a : Admission) (t : Tables) (graph pack bytes : Text) (tells : seen.stands graph ≡ Some bytes) (file : AreAdmitted bytes a) (still : Rose seen.before seen.now → ⊥)
     (spelled : seen.stands pack ≡ Some (spelling t)) (lawful : AreLawful t) where
@@ -84,42 +111,32 @@ module _ (seen : Seen) (a : Admission) (t : Tables) (graph pack bytes : Text) (t
       inr (inr (ap status_of broken.halt_is, moved.0, moved.1))
   verdict_left b admits u spells h (inr (inr memory)) = inl (ap status_of memory)
 
-  module _ (few : length (spelling t) ≤ PACK_LIMIT) where
-    pack_left : (h : Halt) → StopsPack seen (seen.stands pack) h → status_of h ≡ 8
-    pack_left h (inl unread) = absurd (still unread.rose)
-    pack_left h (inr (inl long)) = absurd (let l : PACK_LIMIT < length (spelling t) = subst (λ o. IfSome o (λ b. PACK_LIMIT < length b)) spelled long.long in omega (arith, few))
-    pack_left h (inr (inr none)) = bad none.fault none.halt_is none.shows
-      where
-        bad : (fault : PackFault) → h ≡ halt_of_pack fault → ShowsPackFault (seen.stands pack) fault → status_of h ≡ 8
-        bad (PackFault.BadPack n) e shows = absurd (let no : IsBadPack (spelling t) n = subst (λ o. IfSome o (λ b. IsBadPack b n)) spelled shows.1 in no.no_pack t lawful refl)
-        bad PackFault.OutOfMemory e shows = ap status_of e
+  -- the tables of a pack stop a run as its work does
+  worked_left : (work : Admission → Tables → Halt → Type 0) → ((b : Admission) → Admits (seen.stands graph) b → (u : Tables) → Spells (seen.stands pack) u → (h : Halt) → work b u h → CheckLeft a t h) →
+      (h : Halt) → StopsGraph seen (seen.stands graph) (λ b. StopsTables seen (seen.stands pack) (work b)) h → CheckLeft a t h
+  worked_left work then h (inl (inl read)) = inl (reading_left seen (seen.stands graph) bytes a tells file still h read)
+  worked_left work then h (inl (inr breaks)) = inl (rules_left seen (seen.stands graph) bytes a tells file still h breaks.0 breaks.1 breaks.2)
+  worked_left work then h (inr worked) = elim worked.2 [
+    | inl none ↦ inl (pack_left seen t pack still spelled lawful h none)
+    | inr judged ↦ then worked.0 worked.1 judged.0 judged.1 h judged.2
+  ]
 
-    -- the tables of a pack stop a run as its work does
-    worked_left : (work : Admission → Tables → Halt → Type 0) → ((b : Admission) → Admits (seen.stands graph) b → (u : Tables) → Spells (seen.stands pack) u → (h : Halt) → work b u h → CheckLeft a t h) →
-        (h : Halt) → StopsGraph seen (seen.stands graph) (λ b. StopsTables seen (seen.stands pack) (work b)) h → CheckLeft a t h
-    worked_left work then h (inl (inl read)) = inl (reading_left seen (seen.stands graph) bytes a tells file still h read)
-    worked_left work then h (inl (inr breaks)) = inl (rules_left seen (seen.stands graph) bytes a tells file still h breaks.0 breaks.1 breaks.2)
-    worked_left work then h (inr worked) = elim worked.2 [
-      | inl none ↦ inl (pack_left h none)
-      | inr judged ↦ then worked.0 worked.1 judged.0 judged.1 h judged.2
-    ]
+  pub check_left : (h : Halt) → StopsGraph seen (seen.stands graph) (λ b. StopsTables seen (seen.stands pack) (StopsVerdict b)) h → CheckLeft a t h
+  check_left = worked_left StopsVerdict verdict_left
 
-    pub check_left : (h : Halt) → StopsGraph seen (seen.stands graph) (λ b. StopsTables seen (seen.stands pack) (StopsVerdict b)) h → CheckLeft a t h
-    check_left = worked_left StopsVerdict verdict_left
+  -- a scenario of the graph stops nothing
+  module _ (told : Option Text) (note : Text) (tells_note : told ≡ Some note) (short : length note ≤ SCENARIO_LIMIT) (played : Played) (says : file_of a.graph note ≡ Ok played) where
+    scenario_left : (b : Admission) → Admits (seen.stands graph) b → (h : Halt) (fault : ScenarioFault) → h ≡ halt_of_scenario fault →
+        (fault ≢ ScenarioFault.OutOfMemory → IfSome told (λ n. file_of b.graph n ≡ Err fault)) → status_of h ≡ 8
+    scenario_left b admits h fault e first = ap status_of e ∙ unsaid fault
+        (λ other. said_once (file_of a.graph note) played fault says (same_admission seen (seen.stands graph) bytes a tells file still b admits (λ g o. file_of g note ≡ Err fault)
+        (subst (λ n. IfSome n (λ m. file_of b.graph m ≡ Err fault)) tells_note (first other))))
 
-    -- a scenario of the graph stops nothing
-    module _ (told : Option Text) (note : Text) (tells_note : told ≡ Some note) (short : length note ≤ SCENARIO_LIMIT) (played : Played) (says : file_of a.graph note ≡ Ok played) where
-      scenario_left : (b : Admission) → Admits (seen.stands graph) b → (h : Halt) (fault : ScenarioFault) → h ≡ halt_of_scenario fault →
-          (fault ≢ ScenarioFault.OutOfMemory → IfSome told (λ n. file_of b.graph n ≡ Err fault)) → status_of h ≡ 8
-      scenario_left b admits h fault e first = ap status_of e ∙ unsaid fault
-          (λ other. said_once (file_of a.graph note) played fault says (same_admission seen (seen.stands graph) bytes a tells file still b admits (λ g o. file_of g note ≡ Err fault)
-          (subst (λ n. IfSome n (λ m. file_of b.graph m ≡ Err fault)) tells_note (first other))))
+    played_left : (b : Admission) → Admits (seen.stands graph) b → (u : Tables) → Spells (seen.stands pack) u → (h : Halt) → StopsPlay seen told b u h → CheckLeft a t h
+    played_left b admits u spells h (inl (inl unread)) = absurd (still unread.rose)
+    played_left b admits u spells h (inl (inr (inl long))) = absurd (let l : SCENARIO_LIMIT < length note = subst (λ o. IfSome o (λ n. SCENARIO_LIMIT < length n)) tells_note long.long in omega (arith, short))
+    played_left b admits u spells h (inl (inr (inr none))) = inl (scenario_left b admits h none.fault none.halt_is (λ other. (none.first other).1))
+    played_left b admits u spells h (inr judged) = verdict_left b admits u spells h judged.2
 
-      played_left : (b : Admission) → Admits (seen.stands graph) b → (u : Tables) → Spells (seen.stands pack) u → (h : Halt) → StopsPlay seen told b u h → CheckLeft a t h
-      played_left b admits u spells h (inl (inl unread)) = absurd (still unread.rose)
-      played_left b admits u spells h (inl (inr (inl long))) = absurd (let l : SCENARIO_LIMIT < length note = subst (λ o. IfSome o (λ n. SCENARIO_LIMIT < length n)) tells_note long.long in omega (arith, short))
-      played_left b admits u spells h (inl (inr (inr none))) = inl (scenario_left b admits h none.fault none.halt_is (λ other. (none.first other).1))
-      played_left b admits u spells h (inr judged) = verdict_left b admits u spells h judged.2
-
-      pub play_left : (h : Halt) → StopsGraph seen (seen.stands graph) (λ b. StopsTables seen (seen.stands pack) (StopsPlay seen told b)) h → CheckLeft a t h
-      play_left = worked_left (StopsPlay seen told) played_left
+    pub play_left : (h : Halt) → StopsGraph seen (seen.stands graph) (λ b. StopsTables seen (seen.stands pack) (StopsPlay seen told b)) h → CheckLeft a t h
+    play_left = worked_left (StopsPlay seen told) played_left

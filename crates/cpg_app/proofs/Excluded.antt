@@ -29,7 +29,7 @@ use Rattle.cpg_app.specs.Lawful.{AreAdmitted}
 
 -- ---- what bytes say is one thing
 
-same_graph : (bytes : Text) (g h : Graph) → problem_of bytes ≡ Ok g → problem_of bytes ≡ Ok h → g ≡ h
+pub same_graph : (bytes : Text) (g h : Graph) → problem_of bytes ≡ Ok g → problem_of bytes ≡ Ok h → g ≡ h
 same_graph bytes g h a b = ap (value_or g) (sym a ∙ b)
   where
     value_or : Graph → Result Graph ReadFault → Graph

@@ -17,17 +17,17 @@ use Rattle.cpg_app.specs.declared.halt.Refusal.{Refusal}
 use Rattle.cpg_app.specs.declared.halt.Halt.{Halt}
 use Rattle.cpg_app.specs.declared.halt.Halt.TheVariants.{Refused, Late, TooWide, Unsafe}
 use Rattle.cpg_app.specs.Lines.{status_of}
-use Rattle.cpg_app.specs.Causes.{Seen, Stops, StopsAsked, StopsGraph, StopsCompile}
+use Rattle.cpg_app.specs.Causes.{Seen, Stops, StopsAsked, StopsGraph, StopsCompile, first_named}
 use Rattle.cpg_app.specs.Outputs.{Prints, PrintsAsked, IsMade, shown, packed}
 use Rattle.cpg_app.specs.Told.{Untouched}
 use Rattle.cpg_app.specs.Endings.{Ran, IsPrinted, IsTold, EndsWith, EndsBy}
-use Rattle.cpg_app.specs.Lawful.{IsFaultless, AsksFor, Asks, IsListable, AsksVerdict, IsLawful}
+use Rattle.cpg_app.specs.Lawful.{IsFaultless, AsksFor, Asks, IsListable, AsksNode, AsksVerdict, IsLawful}
 use Rattle.cpg_app.proofs.Statuses.{of_words, of_read, of_formless, refused_of, late_of, wide_of, unsafe_of, not_three, not_zero}
 use Rattle.cpg_table.specs.declared.fault.Fault.{Fault}
 use Rattle.cpg_table.specs.Lawful.{Tables}
 use Rattle.cpg_table.specs.Valid.{IsValid}
 use Rattle.cpg_violation.specs.Heads.{IsHeadFor}
-use Rattle.cpg_app.proofs.Checked.{CheckLeft, check_left, checked_is, play_left, played_is}
+use Rattle.cpg_app.proofs.Checked.{CheckLeft, check_left, checked_is, node_is, node_left, play_left, played_is}
 use Rattle.cpg_app.proofs.Excluded.{Left, graph_left, made_not_wide, made_not_late}
 
 -- words without a form print nothing
@@ -84,6 +84,13 @@ module _ (r : Ran) where
       with_late : IsLate a.graph a.order → (r.status ≡ 5) ⊎ (r.status ≡ 8)
       with_late late = absurd (made_not_late r.shelf (r.shelf.stands asks.graph) asks.bytes a asks.told asks.file asks.faultless.shelf made_here.0 text made_here.1 late)
 
+    -- and what is printed is of a node of the name
+    with_node : (t : Tables) (name : Text) → AsksNode r t name → (node : ℕ) × (first_named t.head name ≡ Some node)
+    with_node t name asks = node_is r.shelf t asks.pack asks.faultless.shelf asks.spelled asks.lawful name text (subst (λ c. PrintsAsked r.shelf c text) asks.words with.prints)
+
+    with_nameless : (t : Tables) (name : Text) → AsksNode r t name → first_named t.head name ≡ None → (r.status ≡ 4) ⊎ (r.status ≡ 8)
+    with_nameless t name asks none = let named = with_node t name asks in absurd (none-some named.0 (sym none ∙ named.1))
+
     pub lawful_with : IsLawful r
     lawful_with = record {
       ends = inl (text, with);
@@ -103,6 +110,8 @@ module _ (r : Ran) where
       other = λ a t asks differs. absurd (differs (with_check a t asks).0);
       safe = λ a t asks head valid. with_safe asks.faultless;
       broken = λ a t asks head broken. absurd (broken (with_check a t asks).1);
+      named = λ t name node asks named. with_safe asks.faultless;
+      nameless = with_nameless;
     }
 
   -- ---- without
@@ -187,8 +196,8 @@ module _ (r : Ran) where
 
       left_check : CheckLeft a t halt
       left_check = elim asks.words [
-        | inl check ↦ check_left r.shelf a t asks.graph asks.pack asks.bytes asks.told asks.file asks.faultless.shelf asks.spelled asks.lawful asks.few halt (subst (λ c. StopsAsked r.shelf c halt) check by.stops)
-        | inr play ↦ let says = play.3 in play_left r.shelf a t asks.graph asks.pack asks.bytes asks.told asks.file asks.faultless.shelf asks.spelled asks.lawful asks.few (r.shelf.stands play.0) says.bytes says.told says.short says.played says.says halt
+        | inl check ↦ check_left r.shelf a t asks.graph asks.pack asks.bytes asks.told asks.file asks.faultless.shelf asks.spelled asks.lawful halt (subst (λ c. StopsAsked r.shelf c halt) check by.stops)
+        | inr play ↦ let says = play.3 in play_left r.shelf a t asks.graph asks.pack asks.bytes asks.told asks.file asks.faultless.shelf asks.spelled asks.lawful (r.shelf.stands play.0) says.bytes says.told says.short says.played says.says halt
             (subst (λ c. StopsAsked r.shelf c halt) play.2 by.stops)
       ]
 
@@ -213,6 +222,22 @@ module _ (r : Ran) where
         | inr (inr broken) ↦ inl (told_check ∙ broken.0)
       ]
 
+    module _ (t : Tables) (name : Text) (asks : AsksNode r t name) where
+      told_node : r.status ≡ status_of halt
+      told_node = elim by.ending [ inl t ↦ t.status | inr m ↦ absurd (asks.faultless.err m.err.rose) ]
+
+      left_node : (status_of halt ≡ 8) ⊎ ((status_of halt ≡ 4) × (first_named t.head name ≡ None))
+      left_node = node_left r.shelf t asks.pack asks.faultless.shelf asks.spelled asks.lawful name halt (subst (λ c. StopsAsked r.shelf c halt) asks.words by.stops)
+
+      by_nameless : first_named t.head name ≡ None → (r.status ≡ 4) ⊎ (r.status ≡ 8)
+      by_nameless none = elim left_node [ inl e ↦ inr (told_node ∙ e) | inr unknown ↦ inl (told_node ∙ unknown.0) ]
+
+    by_named : (t : Tables) (name : Text) (node : ℕ) → AsksNode r t name → first_named t.head name ≡ Some node → (r.status ≡ 0) ⊎ (r.status ≡ 8)
+    by_named t name node asks named = elim (left_node t name asks) [
+      | inl e ↦ inr (told_node t name asks ∙ e)
+      | inr unknown ↦ absurd (none-some node (sym unknown.1 ∙ named))
+    ]
+
     pub lawful_by : IsLawful r
     lawful_by = record {
       ends = inr (halt, by);
@@ -232,4 +257,6 @@ module _ (r : Ran) where
       other = by_other;
       safe = by_safe;
       broken = by_broken;
+      named = by_named;
+      nameless = by_nameless;
     }

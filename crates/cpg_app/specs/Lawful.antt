@@ -1,10 +1,11 @@
 -- What each exit status of a run says.
 use Rattle.std.specs.Prelude.{ℕ, ◌≡◌, ◌≢◌, ◌≤◌, ◌⊎◌, Option, Some, None, Ok, length}
 use Rattle.cpg_io.specs.Causes.{Rose}
+use Rattle.cpg_base.specs.Graph.{Graph}
 use Rattle.cpg_words.specs.Parts.{Text}
 use Rattle.cpg_words.specs.Forms.{command_of}
 use Rattle.cpg_words.specs.declared.command.Command.{Command}
-use Rattle.cpg_words.specs.declared.command.Command.TheVariants.{Show, Compile, Check, Play}
+use Rattle.cpg_words.specs.declared.command.Command.TheVariants.{Show, Compile, Check, Play, Node}
 use Rattle.cpg_reader.specs.Document.{problem_of}
 use Rattle.cpg_rules.specs.Admission.{Admission, IsAdmitted}
 use Rattle.cpg_base.specs.Scenario.{Scenario}
@@ -21,8 +22,8 @@ use Rattle.cpg_codec.specs.Spelling.{spelling}
 use Rattle.cpg_violation.specs.Heads.{IsHeadFor}
 use Rattle.cpg_scenario.specs.File.{file_of}
 use Rattle.cpg_scenario.specs.declared.reading.Played.{Played}
-use Rattle.cpg_app.specs.declared.reading.TheConstants.{GRAPH_LIMIT, SCENARIO_LIMIT, PACK_LIMIT}
-use Rattle.cpg_app.specs.Causes.{Stops}
+use Rattle.cpg_app.specs.declared.reading.TheConstants.{GRAPH_LIMIT, SCENARIO_LIMIT}
+use Rattle.cpg_app.specs.Causes.{Stops, first_named}
 use Rattle.cpg_app.specs.Endings.{Ran, Ends, IsPrinted, IsTold}
 use Rattle.cpg_app.specs.Outputs.{Prints}
 use Rattle.cpg_app.specs.Told.{Untouched}
@@ -58,29 +59,36 @@ pub record IsListable (a : Admission) : Type 0 where
   pub narrow : IsNarrow a.graph a.order
 
 -- the shelf tells the bytes of a scenario of the graph and lengths of executions, at most 16 MiB
-pub record SaysScenario (r : Ran) (a : Admission) (name : Text) : Type 0 where
+pub record SaysScenario (r : Ran) (g : Graph) (name : Text) : Type 0 where
   pub bytes : Text
   pub told : r.shelf.stands name ≡ Some bytes
   pub short : length bytes ≤ SCENARIO_LIMIT
   pub played : Played
-  pub says : file_of a.graph bytes ≡ Ok played
+  pub says : file_of g bytes ≡ Ok played
 
 -- the words ask to check a pack, or to play it as such a scenario file says
-abbrev pub AsksToJudge : Ran → Admission → Text → Text → Type 0
-AsksToJudge r a graph pack = (command_of r.words ≡ Some (Check graph pack))
-    ⊎ ((scenario : Text) × (turns : ℕ) × (command_of r.words ≡ Some (Play graph pack scenario turns)) × SaysScenario r a scenario)
+abbrev pub AsksToJudge : Ran → Graph → Text → Text → Type 0
+AsksToJudge r g graph pack = (command_of r.words ≡ Some (Check graph pack))
+    ⊎ ((scenario : Text) × (turns : ℕ) × (command_of r.words ≡ Some (Play graph pack scenario turns)) × SaysScenario r g scenario)
 
 -- they do, the shelf tells the bytes of an admitted graph and of tables, and nothing failed
 pub record AsksVerdict (r : Ran) (a : Admission) (t : Tables) : Type 0 where
   pub graph : Text
   pub pack : Text
-  pub words : AsksToJudge r a graph pack
+  pub words : AsksToJudge r a.graph graph pack
   pub bytes : Text
   pub told : r.shelf.stands graph ≡ Some bytes
   pub file : AreAdmitted bytes a
   pub spelled : r.shelf.stands pack ≡ Some (spelling t)
   pub lawful : AreLawful t
-  pub few : length (spelling t) ≤ PACK_LIMIT
+  pub faultless : IsFaultless r
+
+-- the words ask for the table of a node, by its name, the shelf tells the bytes of tables, and nothing failed
+pub record AsksNode (r : Ran) (t : Tables) (name : Text) : Type 0 where
+  pub pack : Text
+  pub words : command_of r.words ≡ Some (Node pack name)
+  pub spelled : r.shelf.stands pack ≡ Some (spelling t)
+  pub lawful : AreLawful t
   pub faultless : IsFaultless r
 
 -- what each exit status says
@@ -117,3 +125,6 @@ pub record IsLawful (r : Ran) : Type 0 where
   pub other : (a : Admission) (t : Tables) → AsksVerdict r a t → (IsHeadFor a.graph t.head → ⊥) → (r.status ≡ 4) ⊎ (r.status ≡ 8)
   pub safe : (a : Admission) (t : Tables) → AsksVerdict r a t → IsHeadFor a.graph t.head → IsValid a.graph t.nodes → (r.status ≡ 0) ⊎ (r.status ≡ 8)
   pub broken : (a : Admission) (t : Tables) → AsksVerdict r a t → IsHeadFor a.graph t.head → (IsValid a.graph t.nodes → ⊥) → (r.status ≡ 7) ⊎ (r.status ≡ 8)
+  -- the table of the first node of a name is printed, and a name that no node has is refused, but for want of memory
+  pub named : (t : Tables) (name : Text) (node : ℕ) → AsksNode r t name → first_named t.head name ≡ Some node → (r.status ≡ 0) ⊎ (r.status ≡ 8)
+  pub nameless : (t : Tables) (name : Text) → AsksNode r t name → first_named t.head name ≡ None → (r.status ≡ 4) ⊎ (r.status ≡ 8)

@@ -6,3 +6,5 @@ pub mod Plays
 pub mod Outputs
 pub mod Endings
 pub mod Lawful
+pub mod Joined
+pub mod Knowledge

@@ -1,5 +1,5 @@
 -- What a command puts out.
-use Rattle.std.specs.Prelude.{ℕ, ◌≡◌, List, Option, Some, None, codes, string_bytes}
+use Rattle.std.specs.Prelude.{ℕ, ◌≡◌, ◌≤◌, List, Option, Some, None, codes, length, string_bytes}
 use Rattle.cpg_base.specs.Graph.{Graph}
 use Rattle.cpg_words.specs.Parts.{Text}
 use Rattle.cpg_words.specs.Forms.{command_of}
@@ -14,12 +14,16 @@ use Rattle.cpg_core.specs.Compilation.{IsCompilation}
 use Rattle.cpg_cluster.specs.Correct.{IsCorrect, IsLively, IsSteady, EndsAsPlanned}
 use Rattle.cpg_show.specs.TableText.{table_text}
 use Rattle.cpg_show.specs.NodeText.{node_text}
+use Rattle.cpg_table.specs.GraphHead.{head_of}
 use Rattle.cpg_table.specs.Lawful.{Tables}
+use Rattle.cpg_codec.specs.Packs.{AreLawful}
 use Rattle.cpg_codec.specs.Spelling.{spelling}
 use Rattle.cpg_app.specs.declared.output.Output.{Output}
 use Rattle.cpg_app.specs.declared.output.Output.TheVariants.{Lines, Pack}
 use Rattle.cpg_scenario.specs.File.{IsPlayed}
 use Rattle.cpg_scenario.specs.declared.reading.Played.{Played}
+use Rattle.cpg_app.specs.declared.reading.TheConstants.{PACK_LIMIT}
+use Rattle.cpg_app.specs.Knowledge.{KnowLocally}
 use Rattle.cpg_app.specs.Plays.{world_of, IsPlayText}
 use Rattle.cpg_app.specs.Causes.{Seen, Admits, SaysPlayed, Spells, first_named}
 
@@ -33,11 +37,20 @@ pub record AreSafe (g : Graph) (tables : List NodeTable) : Type 0 where
   pub steady : IsSteady g tables
   pub planned : EndsAsPlanned g tables
 
+-- Tables that are a pack of the graph. Each row is one that its head allows: cubes of lawful literals with rising
+-- variables, none of them whole, and times below 2^60. Their spelling is so short that it is read again.
+pub record ArePackOf (g : Graph) (t : Tables) : Type 0 where
+  pub head : t.head ≡ head_of g
+  pub lawful : AreLawful t
+  pub short : length (spelling t) ≤ PACK_LIMIT
+
 -- the bytes are spelled from the safe tables that a compile makes of an admitted graph
 pub record IsMadeOf (a : Admission) (spell : Graph → Compiled → Text) (bytes : Text) : Type 0 where
   pub compiled : Compiled
   pub compilation : IsCompilation a.graph a.order compiled
+  pub pack : ArePackOf a.graph compiled.built.tables
   pub safe : AreSafe a.graph compiled.built.tables.nodes
+  pub local : KnowLocally a.graph compiled.built.tables.nodes
   pub spelled : bytes ≡ spell a.graph compiled
 
 -- the graph is that of the file

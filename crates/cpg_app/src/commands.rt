@@ -5,7 +5,8 @@ ghost use Rattle.cpg_words.specs.FileWords.{file_words, file_words_of};
 ghost use Rattle.cpg_io.specs.Shelf.{SameLeave, SameNames};
 ghost use Rattle.cpg_core.specs.Compilation.{IsCompilation};
 ghost use Rattle.cpg_app.specs.Causes.{Admits, first_named, HasManyScenarios, IsUnbuilt, Stops, StopsAdmission, StopsCommand, StopsCompile, StopsGraph, StopsNaming, StopsPlay, StopsTables, StopsVerdict};
-ghost use Rattle.cpg_app.specs.Outputs.{bytes_of, packed, shown, AreJudgedSafe, AreSafe, IsMade, IsMadeOf, IsNodeOf, IsNodeText, IsChecked, IsPlayOf, IsPlayedText, IsSafeText, IsSpelled, Prints, PrintsCommand};
+ghost use Rattle.cpg_app.specs.Knowledge.{KnowLocally};
+ghost use Rattle.cpg_app.specs.Outputs.{bytes_of, packed, shown, AreJudgedSafe, ArePackOf, AreSafe, IsMade, IsMadeOf, IsNodeOf, IsNodeText, IsChecked, IsPlayOf, IsPlayedText, IsSafeText, IsSpelled, Prints, PrintsCommand};
 
 use crate::halt::{Halt, Refusal};
 use crate::output::Output;
@@ -13,6 +14,7 @@ use crate::playing::play_text;
 use crate::reading::{admit_graph, read_graph, read_played, read_tables};
 use cpg_base::Name;
 use cpg_check::{Verdict, check};
+use cpg_codec::tables_are_lawful;
 use cpg_core::{CompileFault, Compiled, compile};
 use cpg_io::Shelf;
 use cpg_list::has_few_scenarios;
@@ -48,14 +50,19 @@ fn unlisted(alloc: Global, admitted: Admitted) -> Halt
 fn compile_graph(alloc: Global, admitted: Admitted) -> Result<Made, Halt>
     ensures same { IfOk result (λ made. made.admitted ≡ admitted) }
     ensures compiled { IfOk result (λ made. IsCompilation admitted.graph admitted.order made.compiled) }
+    ensures pack { IfOk result (λ made. ArePackOf admitted.graph made.compiled.built.tables) }
     ensures safe { IfOk result (λ made. AreSafe admitted.graph made.compiled.built.tables.nodes) }
+    ensures local { IfOk result (λ made. KnowLocally admitted.graph made.compiled.built.tables.nodes) }
     ensures halt { IfErr result (StopsCompile admitted) }
 {
     if !has_few_scenarios(admitted.problem()) {
         return Err(unlisted(alloc, admitted));
     }
     match compile(alloc, &admitted) {
-        Ok(compiled) => Ok(Made { admitted, compiled }),
+        Ok(compiled) => {
+            tables_are_lawful(&compiled.built.tables);
+            Ok(Made { admitted, compiled })
+        }
         Err(fault) => Err(Halt::of_compile(admitted, fault)),
     }
 }

@@ -1,6 +1,8 @@
 //! The top call: from command words over a shelf and two sinks to an exit status.
 #![tactic(auto)]
 
+ghost use Rattle.cpg_app.specs.Joined.{PacksAreTaken};
+
 mod answer;
 mod commands;
 mod halt;
@@ -12,3 +14,9 @@ mod refusals;
 mod top;
 
 pub use top::{run, run_without_words};
+
+/// What `compile` wrote for a graph, `check` with that graph finds safe, `play` plays for each scenario file of the graph,
+/// and `node` prints for each of its nodes, want of memory aside.
+pub fn packs_are_taken()
+    ensures { PacksAreTaken }
+{}

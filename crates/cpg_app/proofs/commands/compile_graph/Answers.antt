@@ -1,5 +1,15 @@
+use Rattle.cpg_codec.proofs.Lengths.{all_short}
+use Rattle.cpg_app.proofs.Local.{compilations_know_locally}
 use Rattle.cpg_app.proofs.Safe.{compilations_are_safe}
 use Rattle.cpg_app.proofs.commands.compile_graph.Goals as goal
 
 pub returns-in-Ok-clause-safe : goal.returns-in-Ok-clause-safe
 returns-in-Ok-clause-safe c = compilations_are_safe c.args.admitted.graph c.problem.ensures.admitted.well_formed c.args.admitted.order c.in-Ok.compiled c.in-Ok.ensures.compiled
+
+pub returns-in-Ok-clause-pack : goal.returns-in-Ok-clause-pack
+returns-in-Ok-clause-pack c =
+    let lawful = c.tables_are_lawful.ensures in
+    record { head = c.in-Ok.ensures.compiled.built.head; lawful = lawful; short = all_short c.in-Ok.compiled.built.tables lawful }
+
+pub returns-in-Ok-clause-local : goal.returns-in-Ok-clause-local
+returns-in-Ok-clause-local c = compilations_know_locally c.args.admitted c.problem.ensures.admitted c.in-Ok.compiled c.in-Ok.ensures.compiled

@@ -6,6 +6,8 @@ returns-clause-pack c =
     record {
       compiled = c.in_ok-made.made.compiled;
       compilation = c.in_ok-made.ensures.compiled;
+      pack = c.in_ok-made.ensures.pack;
       safe = c.in_ok-made.ensures.safe;
+      local = c.in_ok-made.ensures.local;
       spelled = refl;
     }

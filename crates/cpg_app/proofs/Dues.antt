@@ -1,0 +1,132 @@
+-- A play that came to its end did what is due: the due lists exist, and all that was done is orderly as they are.
+use Rattle.std.proofs.Common.{ℕ, suc, ◌≡◌, ◌<◌, ◌∙◌, Bool, true, false, not, cond, ◌==◌, List, [], ◌∷◌, ◌++◌, All, AllPairs, Contains, IsPermutation, filter, get_or, length, refl, sym, ap, subst, arith}
+use Rattle.std.specs.List.{flat_map, list_any}
+use Rattle.std.specs.Prelude.{IsTrue}
+use Rattle.std.proofs.lemmas.List.Concat.{flat_map-cons}
+use Rattle.std.proofs.lemmas.List.Elements.{All-cons, All-nil}
+use Rattle.std.proofs.lemmas.List.Kept.{AllPairs-cons}
+use Rattle.std.proofs.lemmas.List.Sorted.{list_any-IsPermutation, sum_by-IsPermutation, Contains-permutation, IsPermutation-append, IsPermutation-refl, IsPermutation-sym}
+use Rattle.std.proofs.lemmas.List.Sums.{length-filter}
+use Rattle.cpg_base.specs.Graph.{Graph, process_count}
+use Rattle.cpg_base.specs.Numbers.{is_below, numbers_below}
+use Rattle.cpg_base.proofs.Below.{below_one_way, not_below_transitive}
+use Rattle.cpg_base.proofs.Lists.{Contains-first, Contains-rest, numbers-Contains}
+use Rattle.cpg_base.proofs.Pairs.{AllPairs-nil, AllPairs-rest}
+use Rattle.cpg_base.proofs.Sorted.{inserted, sorted, permutation_sorted}
+use Rattle.cpg_order.specs.Scenario.{Scenario}
+use Rattle.cpg_table.specs.Table.{NodeTable}
+use Rattle.cpg_node.specs.Dispatcher.{Act, Ended}
+use Rattle.cpg_cluster.specs.Cluster.{Cluster, Done, answer}
+use Rattle.cpg_cluster.specs.Correct.{IsDue, FollowsDue, AreDueEnds, IsOrderly, IsStartAct, IsSendAct, all_asked, asked_of, due_key, end_key, ends_asked, gives_input}
+use Rattle.cpg_cluster.specs.Driving.{AllDone}
+use Rattle.cpg_cluster.specs.Playing.{Playing, IsPlaying}
+use Rattle.cpg_app.specs.Plays.{IsWholePlay, all_acts}
+use Rattle.cpg_app.proofs.Safe.{valid_are_safe}
+
+-- ---- a sort by keys
+
+module _ {X : Type 0} (key : X → List ℕ) where
+  abbrev pub precedes : X → X → Bool
+  precedes x y = not (is_below (key y) (key x))
+
+  abbrev InOrder : X → X → Type 0
+  InOrder a b = is_below (key b) (key a) ≡ false
+
+  all_inserted : (P : X → Type 0) (x : X) (ys : List X) → P x → All P ys → All P (inserted precedes x ys)
+  all_inserted P x [] p h = All-cons P x [] p h
+  all_inserted P x (y ∷ ys) p h = go (precedes x y) (all_inserted P x ys p (λ k d l. h (suc k) d (omega arith)))
+    where
+      go : (b : Bool) → All P (inserted precedes x ys) → All P (cond b (x ∷ y ∷ ys) (y ∷ inserted precedes x ys))
+      go true ih = All-cons P x (y ∷ ys) p h
+      go false ih = All-cons P y (inserted precedes x ys) (h 0 y (omega arith)) ih
+
+  in_order_inserted : (x : X) (ys : List X) → AllPairs InOrder ys → AllPairs InOrder (inserted precedes x ys)
+  in_order_inserted x [] r = AllPairs-cons InOrder x [] (All-nil (InOrder x)) (AllPairs-nil InOrder)
+  in_order_inserted x (y ∷ ys) r = go (is_below (key y) (key x)) refl (in_order_inserted x ys (AllPairs-rest InOrder y ys r))
+    where
+      after : All (InOrder y) ys
+      after = λ k d l. r 0 (suc k) d (omega arith) (omega arith)
+
+      go : (b : Bool) → is_below (key y) (key x) ≡ b → AllPairs InOrder (inserted precedes x ys) → AllPairs InOrder (cond (not b) (x ∷ y ∷ ys) (y ∷ inserted precedes x ys))
+      go false e ih = AllPairs-cons InOrder x (y ∷ ys) (All-cons (InOrder x) y ys e (λ k d l. not_below_transitive (key x) (key y) (key (get_or ys k d)) e (after k d l))) r
+      go true e ih = AllPairs-cons InOrder y (inserted precedes x ys) (all_inserted (InOrder y) x ys (below_one_way (key y) (key x) e) after) ih
+
+  pub in_order_sorted : (xs : List X) → AllPairs (λ a b. is_below (key b) (key a) ≡ false) (sorted precedes xs)
+  in_order_sorted [] = AllPairs-nil InOrder
+  in_order_sorted (x ∷ xs) = in_order_inserted x (sorted precedes xs) (in_order_sorted xs)
+
+-- ---- what is done in another order is as orderly
+
+pieces_permuted : {X : Type 0} (f h : ℕ → List X) (xs : List ℕ) → ((x : ℕ) → Contains xs x → IsPermutation (f x) (h x)) → IsPermutation (flat_map f xs) (flat_map h xs)
+pieces_permuted f h [] each = IsPermutation-refl []
+pieces_permuted f h (x ∷ xs) each =
+    subst (λ ys. IsPermutation ys (flat_map h (x ∷ xs))) (sym (flat_map-cons f x xs))
+    (subst (λ ys. IsPermutation (f x ++ flat_map f xs) ys) (sym (flat_map-cons h x xs))
+    (IsPermutation-append (f x) (h x) (flat_map f xs) (flat_map h xs) (each x (Contains-first x xs)) (pieces_permuted f h xs (λ y m. each y (Contains-rest x xs y m)))))
+
+length_filter_permuted : {X : Type 0} (p : X → Bool) (xs ys : List X) → IsPermutation xs ys → length (filter p ys) ≡ length (filter p xs)
+length_filter_permuted p xs ys same = length-filter p ys ∙ sum_by-IsPermutation (λ x. cond (p x) 1 0) xs ys same ∙ sym (length-filter p xs)
+
+module _ (g : Graph) (s : Scenario) (xs ys : List Act) (same : IsPermutation xs ys) where
+  back : (a : Act) → Contains ys a → Contains xs a
+  back a m = Contains-permutation ys xs a (IsPermutation-sym xs ys same) m
+
+  starts_back : (a : Act) → IsStartAct g ys a → IsStartAct g xs a
+  starts_back a m = (back a m.0, m.1)
+
+  sends_back : (a : Act) → IsSendAct g ys a → IsSendAct g xs a
+  sends_back a m = (back a m.0, m.1)
+
+  pub orderly_permuted : IsOrderly g s xs → IsOrderly g s ys
+  orderly_permuted o = record {
+    once = λ x l. length_filter_permuted (λ (a : Act). a.item == x) xs ys same ∙ o.once x l;
+    released = λ a m. o.released a (starts_back a m);
+    inputs = λ a e m c. subst IsTrue (list_any-IsPermutation (gives_input g s e a.time) xs ys same) (o.inputs a e (starts_back a m) c);
+    processors = λ a b m n. o.processors a b (starts_back a m) (starts_back b n);
+    slots = λ a m. o.slots a (sends_back a m);
+    unshared = λ a b m n. o.unshared a b (sends_back a m) (sends_back b n);
+    in_time = λ a m. o.in_time a (starts_back a m);
+  }
+
+-- ---- a play that came to its end
+
+module _ (p : Playing) (playing : IsPlaying p) (done : AllDone p.graph p.cluster) where
+  abbrev acts_due : ℕ → List Act
+  acts_due node = sorted (precedes (due_key p.graph)) (asked_of p.tables p.world.scenario node)
+
+  due : (node : ℕ) → IsDue p.graph p.tables p.world.scenario node (acts_due node)
+  due node = record { all = permutation_sorted (precedes (due_key p.graph)) (asked_of p.tables p.world.scenario node); in_order = in_order_sorted (due_key p.graph) (asked_of p.tables p.world.scenario node) }
+
+  abbrev ends_due : ℕ → List (ℕ × Ended)
+  ends_due node = sorted (precedes end_key) (ends_asked p.graph p.tables p.world.scenario node)
+
+  planned : (node : ℕ) → AreDueEnds p.graph p.tables p.world.scenario node (ends_due node)
+  planned node = record { all = permutation_sorted (precedes end_key) (ends_asked p.graph p.tables p.world.scenario node); in_order = in_order_sorted end_key (ends_asked p.graph p.tables p.world.scenario node) }
+
+  follows : FollowsDue p.graph p.tables p.world.scenario p.cluster
+  follows = subst (FollowsDue p.graph p.tables p.world.scenario) playing.played.is ((valid_are_safe p.graph playing.formed p.tables playing.shape playing.valid).correct.plays p.world playing.played.turns playing.world)
+
+  acts_done : (node : ℕ) → node < length p.graph.nodes → IsDue p.graph p.tables p.world.scenario node (get_or p.cluster.acts node [])
+  acts_done node l = subst (IsDue p.graph p.tables p.world.scenario node) (sym (follows.whole node (acts_due node) l (due node) (done node l))) (due node)
+
+  ends_done : (node : ℕ) → node < length p.graph.nodes → AreDueEnds p.graph p.tables p.world.scenario node (get_or p.cluster.ends node [])
+  ends_done node l =
+      let whole = (valid_are_safe p.graph playing.formed p.tables playing.shape playing.valid).planned.whole p.world playing.played.turns node (ends_due node) playing.world l (planned node) in
+      let ended = subst (λ (c : Cluster). answer p.graph c node ≡ Done → get_or c.ends node [] ≡ ends_due node) playing.played.is whole in
+      subst (AreDueEnds p.graph p.tables p.world.scenario node) (sym (ended (done node l))) (planned node)
+
+  done_whole : IsWholePlay p.graph p.tables p.world p.cluster
+  done_whole = record {
+    played = playing.played;
+    acts = acts_done;
+    ends = ends_done;
+    orderly = orderly_permuted p.graph p.world.scenario (all_asked p.graph p.tables p.world.scenario) (all_acts p.graph p.cluster)
+        (pieces_permuted (asked_of p.tables p.world.scenario) (λ node. get_or p.cluster.acts node []) (numbers_below (length p.graph.nodes))
+        (λ node m. (acts_done node (numbers-Contains (length p.graph.nodes) node m)).all))
+        ((valid_are_safe p.graph playing.formed p.tables playing.shape playing.valid).correct.orderly p.world.scenario playing.world.scenario);
+  }
+
+-- nothing but the state changes in a play
+pub whole_play : (old new : Playing) → new ≡ record old { cluster = new.cluster } → IsPlaying new → AllDone old.graph new.cluster → IsWholePlay old.graph old.tables old.world new.cluster
+whole_play old new same playing done = subst (λ (p : Playing). IsWholePlay p.graph p.tables p.world new.cluster) same
+    (done_whole new playing (subst (λ (g : Graph). AllDone g new.cluster) (sym (ap (λ (p : Playing). p.graph) same)) done))

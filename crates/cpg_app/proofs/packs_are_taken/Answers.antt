@@ -1,0 +1,5 @@
+use Rattle.cpg_app.proofs.Joined.{packs_are_taken}
+use Rattle.cpg_app.proofs.packs_are_taken.Goals as goal
+
+pub returns : goal.returns
+returns c = packs_are_taken
