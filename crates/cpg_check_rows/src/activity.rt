@@ -135,7 +135,8 @@ fn least_untold(
         let found = cube.least(alloc, problem)?;
         return Ok(found);
     }
-    least_idle(alloc, admitted, problem.process_of(condition), cube)
+    let found = least_idle(alloc, admitted, problem.process_of(condition), cube)?;
+    Ok(found)
 }
 
 /// The least scenario that a cube matches and in which an item isn't active, if there is one.
@@ -149,11 +150,12 @@ fn least_inactive(
     requires cube { IsKnown admitted.now.graph cube.now }
     ensures { IfOk result (IsFirst admitted.now.graph admitted.now.order (λ s. matches cube.now s && not (item_active admitted.now.graph s.values (item_at admitted.now.graph item)))) }
 {
-    match admitted.problem().item(item) {
-        Item::Start(process) => least_idle(alloc, admitted, process, cube),
-        Item::Message(edge) => least_unsent(alloc, admitted, edge, cube),
-        Item::Broadcast(condition) => least_untold(alloc, admitted, condition, cube),
-    }
+    let found = match admitted.problem().item(item) {
+        Item::Start(process) => least_idle(alloc, admitted, process, cube)?,
+        Item::Message(edge) => least_unsent(alloc, admitted, edge, cube)?,
+        Item::Broadcast(condition) => least_untold(alloc, admitted, condition, cube)?,
+    };
+    Ok(found)
 }
 
 /// The least scenario that a cube matches and in which the process of one of its literals isn't active, if there is one.

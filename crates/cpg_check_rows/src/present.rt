@@ -72,7 +72,9 @@ fn least_unstarted(
     requires columns { All (λ c. IsKnown admitted.now.graph c.cube) columns.now }
     ensures { IfOk result (IsFirst admitted.now.graph admitted.now.order (λ s. is_left (map (λ c. c.cube) columns.now) [] s && active admitted.now.graph s.values process)) }
 {
-    least_without(alloc, admitted, process, &Cube::whole(alloc), columns)
+    let whole = Cube::whole(alloc);
+    let found = least_without(alloc, admitted, process, &whole, columns)?;
+    Ok(found)
 }
 
 /// The least scenario in which a condition's broadcast is active and no column matches, if there is one.
@@ -90,7 +92,8 @@ fn least_untold(
     if problem.nodes().len() < 2 {
         return Ok(None);
     }
-    least_unstarted(alloc, admitted, problem.process_of(condition), columns)
+    let found = least_unstarted(alloc, admitted, problem.process_of(condition), columns)?;
+    Ok(found)
 }
 
 /// The least scenario in which an item is active and no column matches, if there is one.
@@ -104,11 +107,12 @@ fn least_absent(
     requires columns { All (λ c. IsKnown admitted.now.graph c.cube) columns.now }
     ensures { IfOk result (IsFirst admitted.now.graph admitted.now.order (is_absent admitted.now.graph columns.now item)) }
 {
-    match admitted.problem().item(item) {
-        Item::Start(process) => least_unstarted(alloc, admitted, process, columns),
-        Item::Message(edge) => least_unsent(alloc, admitted, edge, columns),
-        Item::Broadcast(condition) => least_untold(alloc, admitted, condition, columns),
-    }
+    let found = match admitted.problem().item(item) {
+        Item::Start(process) => least_unstarted(alloc, admitted, process, columns)?,
+        Item::Message(edge) => least_unsent(alloc, admitted, edge, columns)?,
+        Item::Broadcast(condition) => least_untold(alloc, admitted, condition, columns)?,
+    };
+    Ok(found)
 }
 
 /// The first violation of V3, by item, with the least scenario in the urgency order in which it stands: the item is
