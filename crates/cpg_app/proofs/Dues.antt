@@ -1,20 +1,19 @@
 -- A play that came to its end did what is due: the due lists exist, and all that was done is orderly as they are.
 use Rattle.std.proofs.Common.{ℕ, suc, ◌≡◌, ◌<◌, ◌∙◌, Bool, true, false, not, cond, ◌==◌, List, [], ◌∷◌, ◌++◌, All, AllPairs, Contains, IsPermutation, filter, get_or, length, refl, sym, ap, subst, arith}
-use Rattle.std.specs.List.{flat_map, list_any}
+use Rattle.std.specs.List.{flat_map}
 use Rattle.std.specs.Prelude.{IsTrue}
 use Rattle.std.proofs.lemmas.List.Concat.{flat_map-cons}
 use Rattle.std.proofs.lemmas.List.Elements.{All-cons, All-nil}
 use Rattle.std.proofs.lemmas.List.Kept.{AllPairs-cons}
 use Rattle.std.proofs.lemmas.List.Sorted.{list_any-IsPermutation, sum_by-IsPermutation, Contains-permutation, IsPermutation-append, IsPermutation-refl, IsPermutation-sym}
 use Rattle.std.proofs.lemmas.List.Sums.{length-filter}
-use Rattle.cpg_base.specs.Graph.{Graph, process_count}
+use Rattle.cpg_base.specs.Graph.{Graph}
 use Rattle.cpg_base.specs.Numbers.{is_below, numbers_below}
 use Rattle.cpg_base.proofs.Below.{below_one_way, not_below_transitive}
 use Rattle.cpg_base.proofs.Lists.{Contains-first, Contains-rest, numbers-Contains}
 use Rattle.cpg_base.proofs.Pairs.{AllPairs-nil, AllPairs-rest}
 use Rattle.cpg_base.proofs.Sorted.{inserted, sorted, permutation_sorted}
 use Rattle.cpg_order.specs.Scenario.{Scenario}
-use Rattle.cpg_table.specs.Table.{NodeTable}
 use Rattle.cpg_node.specs.Dispatcher.{Act, Ended}
 use Rattle.cpg_cluster.specs.Cluster.{Cluster, Done, answer}
 use Rattle.cpg_cluster.specs.Correct.{IsDue, FollowsDue, AreDueEnds, IsOrderly, IsStartAct, IsSendAct, all_asked, asked_of, due_key, end_key, ends_asked, gives_input}

@@ -1,6 +1,6 @@
 -- What a run packed, the others take.
-use Rattle.std.proofs.Common.{ℕ, ◌≡◌, ◌<◌, ◌≤◌, ◌∙◌, Bool, true, false, List, [], ◌++◌, Option, Some, get_or, length, refl, sym, ap, subst, arith, inl, inr, lt-ltb, true≢false}
-use Rattle.std.specs.Prelude.{◌⊎◌, Ok, position, IfSome}
+use Rattle.std.proofs.Common.{ℕ, ◌≡◌, ◌<◌, ◌∙◌, Bool, true, List, [], ◌++◌, Option, Some, get_or, length, refl, sym, ap, subst, arith, inl, inr, lt-ltb, true≢false}
+use Rattle.std.specs.Prelude.{Ok, position}
 use Rattle.std.specs.List.{position_or_len}
 use Rattle.std.specs.Io.KnownBytes.{Appends}
 use Rattle.std.specs.Str.{bytes_eq}
@@ -12,7 +12,7 @@ use Rattle.cpg_base.specs.Graph.{Graph}
 use Rattle.cpg_words.specs.Parts.{Text}
 use Rattle.cpg_words.specs.Forms.{command_of}
 use Rattle.cpg_words.specs.declared.command.Command.{Command}
-use Rattle.cpg_words.specs.declared.command.Command.TheVariants.{Compile, Node}
+use Rattle.cpg_words.specs.declared.command.Command.TheVariants.{Node}
 use Rattle.cpg_reader.specs.Document.{problem_of}
 use Rattle.cpg_rules.specs.Admission.{Admission}
 use Rattle.cpg_table.specs.Head.{Head}
@@ -23,7 +23,7 @@ use Rattle.cpg_app.specs.Causes.{Admits, first_named}
 use Rattle.cpg_app.specs.Outputs.{IsMadeOf, IsMade, PrintsAsked, packed as packed_of}
 use Rattle.cpg_app.specs.Endings.{Ran}
 use Rattle.cpg_app.specs.Lawful.{AreAdmitted, AsksToJudge}
-use Rattle.cpg_app.specs.Joined.{Wrote, HasPacked, FindsPack, EndsWell, IsTaken, PacksAreTaken}
+use Rattle.cpg_app.specs.Joined.{Wrote, HasPacked, FindsPack, EndsWell, PacksAreTaken}
 use Rattle.cpg_app.proofs.Excluded.{same_graph}
 
 -- ---- what was written

@@ -1,12 +1,12 @@
 -- What a compile makes has local knowledge.
 use Rattle.std.proofs.Common.{ℕ, ◌+◌, ◌≡◌, ◌<◌, ◌∙◌, List, ◌∷◌, Option, Some, None, option_map, get_or, slice_get, option_to_list, inl, inr, refl, sym, ap, subst}
-use Rattle.cpg_base.specs.Graph.{Graph, process_count, item_count, item_at, home, condition_of}
+use Rattle.cpg_base.specs.Graph.{Graph, process_count, item_at, home, condition_of}
 use Rattle.cpg_base.specs.Bus.{slot_length}
 use Rattle.cpg_base.specs.Duration.{duration}
 use Rattle.cpg_order.specs.Scenario.{Scenario, IsScenario, fault_of, value_in_key}
 use Rattle.cpg_order.specs.Urgency.{IsTopological}
 use Rattle.cpg_rules.specs.Admission.{Admission, IsAdmitted}
-use Rattle.cpg_table.specs.Table.{NodeTable, at}
+use Rattle.cpg_table.specs.Table.{NodeTable}
 use Rattle.cpg_run.specs.Alike.{seen, value_of_frame, seen_end, seen_frame, AreAlike}
 use Rattle.cpg_run.specs.Exact.{HasRunTimes}
 use Rattle.cpg_run.specs.Run.{Times, IsRun}
@@ -17,7 +17,7 @@ use Rattle.cpg_tracks.proofs.TrackLaws.{order_of_tracks_topological}
 use Rattle.cpg_core.specs.Compiled.{IsCompileOrder}
 use Rattle.cpg_core.specs.Compilation.{IsCompilation}
 use Rattle.cpg_core.specs.declared.compiling.Compiled.{Compiled}
-use Rattle.cpg_app.specs.Knowledge.{time_of, end_seen, frame_seen, LookAlike, KnowLocally}
+use Rattle.cpg_app.specs.Knowledge.{time_of, end_seen, frame_seen, KnowLocally}
 
 first_of_option : (o : Option ℕ) → slice_get (option_to_list o) 0 ≡ o
 first_of_option None = refl

@@ -1,5 +1,5 @@
 -- How long a spelling is at most.
-use Rattle.std.proofs.Common.{◌≡◌, ℕ, ◌+◌, ◌-◌, ◌*◌, max, ◌<◌, ◌≤◌, Bool, true, false, cond, eqb, ltb, not, List, [], ◌∷◌, ◌++◌, length, get_or, map, filter, Option, None, Some, refl, sym, ap, ◌∙◌, arith}
+use Rattle.std.proofs.Common.{◌≡◌, ℕ, ◌+◌, ◌-◌, ◌*◌, max, ◌≤◌, Bool, true, false, cond, eqb, ltb, not, List, [], ◌∷◌, ◌++◌, length, Option, None, Some, refl, sym, ap, ◌∙◌, arith}
 use Rattle.std.specs.Prelude.{All, unwrap_or, sum_by}
 use Rattle.std.specs.List.{flat_map, AllByRecursion}
 use Rattle.std.specs.Int.{w16, w32, w64, to_be_bytes}
@@ -15,13 +15,12 @@ use Rattle.cpg_table.specs.declared.head_parts.HeadProcess.{HeadProcess}
 use Rattle.cpg_table.specs.declared.head_parts.Extra.{Extra}
 use Rattle.cpg_table.specs.declared.space.Space.{Space}
 use Rattle.cpg_table.specs.Items.{numbers_where, conditioned, starts_of, sends_of, hears_of, leaves, enters, first_message, first_broadcast}
-use Rattle.cpg_table.specs.Lawful.{Tables, IsLawfulColumn, IsLawfulRow, IsTableOf, column_count, rows_of, space_of}
-use Rattle.cpg_table.specs.Shape.{items_of}
+use Rattle.cpg_table.specs.Lawful.{IsLawfulColumn, IsLawfulRow, IsTableOf, column_count, rows_of, space_of}
 use Rattle.cpg_table.specs.Table.{Column, Row, NodeTable, table_at}
 use Rattle.cpg_codec.specs.Grammar.{IsSpace, fault_end}
 use Rattle.cpg_codec.specs.Lengths.{AllShort}
-use Rattle.cpg_codec.specs.Packs.{AreLawful, IsPackHead}
-use Rattle.cpg_codec.specs.Spelling.{spelling, head_bytes, name_bytes, process_bytes, extra_bytes, edge_bytes, literal_bytes, column_bytes, row_bytes, table_bytes, byte, bit, own_number, magic, Written, written, written_by}
+use Rattle.cpg_codec.specs.Packs.{IsPackHead}
+use Rattle.cpg_codec.specs.Spelling.{head_bytes, name_bytes, process_bytes, extra_bytes, edge_bytes, literal_bytes, column_bytes, row_bytes, table_bytes, byte, bit, own_number, magic, Written, written, written_by}
 use Rattle.cpg_codec.proofs.TableFields.{head_space}
 use Rattle.cpg_codec.proofs.ColumnFields.{few_fault, literals_room, column_literals}
 
