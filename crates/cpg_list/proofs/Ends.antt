@@ -1,76 +1,27 @@
--- Some process ends when a run finishes, and peaks of numbers that are read off runs.
-use Rattle.std.proofs.Common.{◌≡◌, ◌≢◌, ◌∙◌, ℕ, zero, suc, ◌<◌, ◌≤◌, Bool, true, List, [], ◌∷◌, flat_map, map, length, get_or, Contains, Option, Some, None, option_to_list, IfSome, IfNone, arith, refl, sym, ap, ap₂, subst, inl, inr}
+-- Peaks of numbers that are read off runs.
+use Rattle.std.proofs.Common.{◌≡◌, ◌≢◌, ◌∙◌, ℕ, ◌<◌, ◌≤◌, List, map, length, get_or, Contains, Option, Some, None, IfSome, IfNone, arith, sym, ap, ap₂, subst, inl, inr}
 use Rattle.std.proofs.lemmas.List.{get_or_default}
-use Rattle.std.proofs.lemmas.Option.{none-some}
 use Rattle.std.proofs.lemmas.Bool.{cases_lt}
-use Rattle.std.proofs.lemmas.List.FromFn.{length-map-range_with_len}
-use Rattle.cpg_base.specs.Numbers.{greatest, numbers_below}
-use Rattle.cpg_base.specs.Graph.{Graph, process_count, inputs, source, process_at}
-use Rattle.cpg_base.specs.Activity.{active, activation_by, is_active, live}
-use Rattle.cpg_base.proofs.Inputs.{inputs_parts}
-use Rattle.cpg_base.proofs.Lists.{Contains-first, Contains-rest, Contains-nil, Contains-cases, Contains-flat_map, Contains-flat_map_parts, Contains-map_parts, numbers-Contains, greatest_cases, greatest_in}
-use Rattle.cpg_order.specs.Urgency.{IsTopological, place}
+use Rattle.cpg_base.specs.Numbers.{numbers_below}
+use Rattle.cpg_base.specs.Graph.{Graph, process_count}
+use Rattle.cpg_base.proofs.Lists.{Contains-map_parts, numbers-Contains, greatest_cases}
+use Rattle.cpg_order.specs.Urgency.{IsTopological}
 use Rattle.cpg_order.specs.Scenario.{Scenario, IsScenario, IsLeast, is_before}
-use Rattle.cpg_order.proofs.Acyclic.{activation_is, input_goes_up, source_in_order}
-use Rattle.cpg_run.specs.Run.{Times, IsRun, end_by}
+use Rattle.cpg_run.specs.Run.{Times, IsRun}
 use Rattle.cpg_run.specs.Finish.{IsLeastEnding, IsWorst, excess_of, excess_in_run, IsLeastExceeding, IsExcess}
-use Rattle.cpg_run.proofs.Runs.{has_end}
+use Rattle.cpg_run.proofs.Ends.{finish_is_end}
 use Rattle.cpg_run.proofs.RunUnique.{run_unique}
 use Rattle.cpg_list.specs.Listing.{AreScenarios}
 use Rattle.cpg_list.specs.Peaks.{IsFirstGreatest, IsFirstEnding, IsFirstExceeding}
 use Rattle.cpg_list.specs.Runs.{AreRuns}
 use Rattle.cpg_list.proofs.Measured.{HasIn, AreMeasured, measured}
 
--- the number of an option in a list of options
-in_list : (os : List (Option ℕ)) (p n : ℕ) → get_or os p None ≡ Some n → Contains (flat_map option_to_list os) n
-in_list os p n e = Contains-flat_map option_to_list os (Some n) n (there os p e) (Contains-first n [])
-  where
-    there : (os : List (Option ℕ)) (p : ℕ) → get_or os p None ≡ Some n → Contains os (Some n)
-    there [] p e = absurd (none-some n e)
-    there (o ∷ os) zero e = subst (λ z. Contains (o ∷ os) z) e (Contains-first o os)
-    there (o ∷ os) (suc p) e = Contains-rest o os (Some n) (there os p e)
-
--- the greatest of a list that has something is in it
-greatest_there : (xs : List ℕ) (x : ℕ) → Contains xs x → Contains xs (greatest xs)
-greatest_there [] x c = absurd (Contains-nil x c)
-greatest_there (y ∷ ys) x c = greatest_in y ys
-
-option_of : (o : Option ℕ) (n : ℕ) → Contains (option_to_list o) n → o ≡ Some n
-option_of None n c = absurd (Contains-nil n c)
-option_of (Some m) n c = elim (Contains-cases m [] n c) [
-  | inl e ↦ ap (λ k. Some k) e
-  | inr d ↦ absurd (Contains-nil n d)
-]
-
 module _ (g : Graph) (order : List ℕ) (top : IsTopological g order) where
-  some_active : (o : List Bool) (n p : ℕ) → place order p < n → p < process_count g → (q : ℕ) × (q < process_count g) × (active g o q ≡ true)
-  some_active o zero p m l = absurd (omega arith)
-  some_active o (suc n) p m l = go (some_active o n) (inputs g p) refl
-    where
-      go : ((q : ℕ) → place order q < n → q < process_count g → (r : ℕ) × (r < process_count g) × (active g o r ≡ true)) →
-          (es : List ℕ) → inputs g p ≡ es → (q : ℕ) × (q < process_count g) × (active g o q ≡ true)
-      go ih [] e = (p, l, ap is_active (activation_is g order top o p (omega arith) ∙ ap (λ es. activation_by (process_at g p).join es (live g o)) e))
-      go ih (f ∷ fs) e = let k : Contains (inputs g p) f = subst (λ es. Contains es f) (sym e) (Contains-first f fs) in
-          ih (source g f) (omega (arith, input_goes_up g order top p f k)) (source_in_order g order top f (inputs_parts g p f k).0)
-
   module _ (frozen : List (Option ℕ)) (s : Scenario) (t : Times) (run : IsRun g order frozen s t) where
-    finish_is_end : 0 < process_count g → (p : ℕ) × (p < process_count g) × (get_or t.ends p None ≡ Some t.finish)
-    finish_is_end pos =
-        let a = some_active s.values (suc (place order 0)) 0 (omega arith) pos in
-        let e = has_end g order frozen s t run a.0 a.1 a.2 in
-        let there = greatest_there (flat_map option_to_list t.ends) _ (in_list t.ends a.0 _ e) in
-        let r = Contains-flat_map_parts option_to_list t.ends t.finish (subst (Contains (flat_map option_to_list t.ends)) (sym run.finish) there) in
-        let count : length t.ends ≡ process_count g = omega (arith, ap length run.ends, length-map-range_with_len (end_by g s t) 0 (process_count g)) in
-        let is : r.0 ≡ Some t.finish = option_of r.0 t.finish r.2 in
-        (r.1.0, omega (arith, count, r.1.1), there_is t.ends r.1.0 r.0 t.finish r.1.1 r.1.2 is)
-      where
-        there_is : (os : List (Option ℕ)) (i : ℕ) (o : Option ℕ) (n : ℕ) → i < length os → get_or os i o ≡ o → o ≡ Some n → get_or os i None ≡ Some n
-        there_is os i o n l at e = get_or_default os i None o l ∙ at ∙ e
-
     -- what the search among the processes finds
     pub ends_last : (by : Option ℕ) → IfSome by (λ p. IsFirstEnding t t.finish p) → IfNone by ((q : ℕ) → q < process_count g → get_or t.ends q None ≢ Some t.finish) → IsLeastEnding g t t.finish by
     ends_last None some none = elim (cases_lt 0 (process_count g)) [
-      | inl pos ↦ let r = finish_is_end pos in absurd (none r.0 r.1 r.2)
+      | inl pos ↦ let r = finish_is_end g order top frozen s t run pos in absurd (none r.0 r.1 r.2)
       | inr z ↦ omega arith
     ]
     ends_last (Some p) some none = (some.ends, some.first)

@@ -3,7 +3,6 @@ use Rattle.std.proofs.Common.{length, ◌≡◌, ◌∙◌, ℕ, zero, suc, ◌+
 use Rattle.std.proofs.lemmas.Bool.{cases_eq, cases_lt, cases_Bool, both_ways}
 use Rattle.std.proofs.lemmas.List.{append_assoc, get_or-replicate, length-replicate, get_or_past, get_or-set_same, get_or-set_other, set-get_or, ext_get_or, map-append}
 use Rattle.std.proofs.lemmas.List.Elements.{Contains-get_or}
-use Rattle.std.proofs.lemmas.List.Folds.{sum_by-replicate}
 use Rattle.std.proofs.lemmas.List.Sums.{sum_by-set}
 use Rattle.std.specs.List.{flat_map, AllPairs}
 use Rattle.cpg_base.specs.Numbers.{numbers_below}
@@ -11,15 +10,13 @@ use Rattle.cpg_base.specs.Graph.{Graph, process_count, condition_count}
 use Rattle.cpg_base.specs.Scenario.{Scenario, IsScenario, zero_scenario, fault_of}
 use Rattle.cpg_base.proofs.Lists.{Contains-first, Contains-rest, Contains-nil, Contains-cases, Contains-map, Contains-map_parts, Contains-flat_map, Contains-flat_map_parts, Contains-numbers, numbers-Contains, below_push}
 use Rattle.cpg_base.proofs.Pairs.{AllPairs-nil, AllPairs-cons_by, AllPairs-map, AllPairs-flat_map_in, numbers_apart}
+pub use Rattle.cpg_run.proofs.ZeroScenario.{zero_lawful}
 use Rattle.cpg_list.specs.Listing.{AreScenarios, HasValue, with_fault, with_true, with_each_fault, with_both, with_faults_below, with_values_below}
 
 -- one more, as at a step of a loop
 pub appended_push : {X : Type 0} (f : ℕ → X) (before xs ys : List X) (y : X) (n : ℕ) → xs ≡ before ++ map f (numbers_below n) → y ≡ f n → ys ≡ xs ++ y ∷ [] → ys ≡ before ++ map f (numbers_below (n + 1))
 appended_push f before xs ys y n e h is = is ∙ ap₂ (λ zs z. zs ++ z ∷ []) e h ∙ append_assoc before (map f (numbers_below n)) (f n ∷ [])
     ∙ ap (λ zs. before ++ zs) (sym (ap (map f) (below_push n) ∙ map-append f (numbers_below n) (n ∷ [])))
-
-sum_of_zeros : (n : ℕ) → sum (replicate n 0) ≡ 0
-sum_of_zeros n = sum_by-replicate (λ (x : ℕ). x) n 0 ∙ omega arith
 
 set_twice : {X : Type 0} (xs : List X) (i : ℕ) (y z d : X) → set (set xs i y) i z ≡ set xs i z
 set_twice [] zero y z d = refl
@@ -31,13 +28,6 @@ same : (s t : Scenario) → s.values ≡ t.values → s.faults ≡ t.faults → 
 same s t e f = ap₂ (λ vs fs. let r : Scenario = record { values = vs; faults = fs } in r) e f
 
 module _ (g : Graph) where
-  pub zero_lawful : IsScenario g (zero_scenario g)
-  zero_lawful = record {
-    values = length-replicate (condition_count g) false;
-    faults = length-replicate {A = ℕ} (process_count g) 0;
-    budget = omega (arith, sum_of_zeros (process_count g));
-  }
-
   -- no faults from the process p on, and every value false
   pub record HasFaultsBelow (p : ℕ) (s : Scenario) : Type 0 where
     pub lawful : IsScenario g s
@@ -60,7 +50,7 @@ module _ (g : Graph) where
   pub faults_listed : (p : ℕ) → p ≤ process_count g → (s : Scenario) → Contains (with_faults_below g p) s → HasFaultsBelow p s
   unfolding with_faults_below
   faults_listed zero within s c = elim (Contains-cases (zero_scenario g) [] s c) [
-    | inl e ↦ subst (HasFaultsBelow 0) e (record { lawful = zero_lawful; later = λ q l. no_fault q; quiet = refl })
+    | inl e ↦ subst (HasFaultsBelow 0) e (record { lawful = zero_lawful g; later = λ q l. no_fault q; quiet = refl })
     | inr n ↦ absurd (Contains-nil s n)
   ]
   faults_listed (suc p) within s c =
@@ -242,4 +232,4 @@ module _ (g : Graph) where
 
   -- there is a scenario
   pub some_listed : (list : List Scenario) → AreScenarios g list → 0 < length list
-  some_listed list all = let c = all.all (zero_scenario g) zero_lawful in let l = c.1 in omega arith
+  some_listed list all = let c = all.all (zero_scenario g) (zero_lawful g) in let l = c.1 in omega arith

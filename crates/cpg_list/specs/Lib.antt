@@ -1,4 +1,3 @@
-pub mod Refusal
 pub mod Active
 pub mod FirstAlike
 pub mod Listing

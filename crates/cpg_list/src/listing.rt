@@ -2,9 +2,8 @@
 ghost use Rattle.std.specs.Prelude.{◌≡◌, ◌≤◌, IfOk, IfErr, length};
 ghost use Rattle.cpg_order.specs.Urgency.{IsTopological};
 ghost use Rattle.cpg_order.specs.Scenario.{scenarios};
-ghost use Rattle.cpg_reach.specs.Wide.{IsNarrow};
-ghost use Rattle.cpg_run.specs.Built.{IsBuiltFor};
-ghost use Rattle.cpg_list.specs.Refusal.{ShowsBuildFault};
+ghost use Rattle.cpg_reach.specs.Wide.{IsLeastWide, IsNarrow};
+ghost use Rattle.cpg_run.specs.Built.{IsBuiltFor, ShowsBuildFault};
 
 use crate::enumeration::scenarios;
 use crate::exceeding::excess;
@@ -63,7 +62,7 @@ pub fn list(alloc: Global, admitted: &Admitted, order: &Order) -> Result<Built, 
     requires few { length (scenarios admitted.now.graph) ≤ MOST_SCENARIOS }
     ensures built { IfOk result (λ built. IsBuiltFor admitted.now.graph admitted.now.order order.now built) }
     ensures narrow { IfOk result (λ _. IsNarrow admitted.now.graph order.now) }
-    ensures fault { IfErr result (ShowsBuildFault admitted.now.graph order.now) }
+    ensures fault { IfErr result (ShowsBuildFault (IsLeastWide admitted.now.graph order.now)) }
 {
     if let Some(item) = too_wide(alloc, admitted, order)? {
         return Err(BuildFault::TooWide(item));

@@ -15,16 +15,16 @@ use Rattle.cpg_run.proofs.RunUnique.{AgreeBefore, agree_before}
 use Rattle.cpg_run.specs.Progress.{IsSentBefore, IsFree, IsReady, Knows, IsAt, ProgressState, IsAlong, free_after}
 
 -- over plain numbers: what is before the beginning of a place is at an earlier one
-earlier_place : (a i f m : ℕ) → a * m + f < i * m → a < i
+pub earlier_place : (a i f m : ℕ) → a * m + f < i * m → a < i
 earlier_place a i f m h = elim (cases_lt a i) [ inl l ↦ l | inr l ↦ absurd (let k = mul-le-mul_right m l in omega arith) ]
 
 module _ (g : Graph) (order : List ℕ) (topological : IsTopological g order) where
   -- two runs of a scenario that agree before a place
   module _ (s : Scenario) (t u : Times) (i : ℕ) (a : AgreeBefore g order t u (i * phases g)) where
-    item_before : (x : ℕ) → x < item_count g → place order (producer g x) < i → moment g order x < i * phases g
+    pub item_before : (x : ℕ) → x < item_count g → place order (producer g x) < i → moment g order x < i * phases g
     item_before x h l = sooner (place order (producer g x)) i (phase (item_at g x)) (phases g) l (phase_below g x h)
 
-    end_before : (p : ℕ) → place order p < i → moment_of_end g order p < i * phases g
+    pub end_before : (p : ℕ) → place order p < i → moment_of_end g order p < i * phases g
     end_before p l = sooner (place order p) i 1 (phases g) l (omega arith)
 
     broadcast_before : (c : ℕ) → place order (process_of g c) < i → moment g order (broadcast_item g c) < i * phases g
@@ -51,14 +51,14 @@ module _ (g : Graph) (order : List ℕ) (topological : IsTopological g order) wh
       no_ends = k.no_ends;
     }
 
-    ready_same : (node v : ℕ) → IsReady g order s t i node v → IsReady g order s u i node v
+    pub ready_same : (node v : ℕ) → IsReady g order s t i node v → IsReady g order s u i node v
     ready_same node v r = record {
       ends = λ q h l on acts. subst (λ n. n ≤ v) (end_same q h l) (r.ends q h l on acts);
       heard = λ q c h l on k d. subst (λ n. n ≤ v) (heard_same node q c l k d) (r.heard q c h l on k d);
       least = λ b x y. r.least b (λ q h l on acts. subst (λ n. n ≤ b) (sym (end_same q h l)) (x q h l on acts)) (λ q c h l on k d. subst (λ n. n ≤ b) (sym (heard_same node q c l k d)) (y q c h l on k d));
     }
 
-    free_same : (node v : ℕ) → IsFree g order s t i node v → IsFree g order s u i node v
+    pub free_same : (node v : ℕ) → IsFree g order s t i node v → IsFree g order s u i node v
     free_same node v f = record {
       above = λ y b. subst (λ n. n ≤ v) (after_same node y b) (f.above y b);
       least = λ b h. f.least b (λ y k. subst (λ n. n ≤ b) (sym (after_same node y k)) (h y k));

@@ -18,7 +18,7 @@ use Rattle.cpg_run.proofs.EarlyTimes.{early_from_low}
 use Rattle.cpg_run.proofs.Rising.{bound, AreLow, unfrozen_low}
 use Rattle.cpg_run.proofs.FrozenOrder.{later_moment, frozen_listed, lists_frozen}
 
-none_frozen : (g : Graph) (x : ℕ) → get_or (nothing_frozen g) x None ≡ None
+pub none_frozen : (g : Graph) (x : ℕ) → get_or (nothing_frozen g) x None ≡ None
 none_frozen g x = elim (cases_lt x (item_count g)) [
   | inl l ↦ get_or-replicate (item_count g) x None None l
   | inr l ↦ get_or_past (nothing_frozen g) x None (omega (arith, length-replicate {A = Option ℕ} (item_count g) None))
@@ -34,7 +34,7 @@ pub record AreSettled (g : Graph) (order items : List ℕ) (n : ℕ) (frozen : L
 
 module _ (g : Graph) (order : List ℕ) (topological : IsTopological g order) where
   -- two lists of frozen times agree before an item
-  abbrev SameBefore : List (Option ℕ) → List (Option ℕ) → ℕ → Type 0
+  abbrev pub SameBefore : List (Option ℕ) → List (Option ℕ) → ℕ → Type 0
   SameBefore frozen others x = (y : ℕ) → y < item_count g → moment g order y < moment g order x → get_or frozen y None ≡ get_or others y None
 
   -- what an item would have rests on the frozen times before it
@@ -52,7 +52,7 @@ module _ (g : Graph) (order : List ℕ) (topological : IsTopological g order) wh
       }
 
   -- so a frozen time stays one when what is set is not before it
-  frozen_time_kept : (frozen others : List (Option ℕ)) (x : ℕ) → x < item_count g → SameBefore frozen others x → get_or frozen x None ≡ get_or others x None → IsFrozenTime g order frozen x → IsFrozenTime g order others x
+  pub frozen_time_kept : (frozen others : List (Option ℕ)) (x : ℕ) → x < item_count g → SameBefore frozen others x → get_or frozen x None ≡ get_or others x None → IsFrozenTime g order frozen x → IsFrozenTime g order others x
   frozen_time_kept frozen others x h same here f = record {
     reached = λ time e. would_have_same frozen others x time h same (f.reached time (here ∙ e));
     greatest = λ time other e w. f.greatest time other (here ∙ e) (would_have_same others frozen x other h (λ y i l. sym (same y i l)) w);
@@ -60,7 +60,7 @@ module _ (g : Graph) (order : List ℕ) (topological : IsTopological g order) wh
   }
 
   -- and what an item would have is its frozen time once it is set
-  frozen_time_set : (frozen others : List (Option ℕ)) (x : ℕ) → x < item_count g → SameBefore frozen others x → IsUnfrozenTime g order frozen x (get_or others x None) → IsFrozenTime g order others x
+  pub frozen_time_set : (frozen others : List (Option ℕ)) (x : ℕ) → x < item_count g → SameBefore frozen others x → IsUnfrozenTime g order frozen x (get_or others x None) → IsFrozenTime g order others x
   frozen_time_set frozen others x h same f = record {
     reached = λ time e. would_have_same frozen others x time h same (f.reached time e);
     greatest = λ time other e w. f.greatest time other e (would_have_same others frozen x other h (λ y i l. sym (same y i l)) w);

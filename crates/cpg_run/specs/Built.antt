@@ -1,5 +1,5 @@
--- What a builder of tables answers: exact tables, and the greatest finish and excess of their runs.
-use Rattle.std.specs.Prelude.{ℕ, ◌≡◌, ◌≢◌, ◌≤◌, ◌<◌, List, Some, length, slice_get}
+-- What a builder of tables answers: exact tables, and the greatest finish and excess of their runs, or why there are none.
+use Rattle.std.specs.Prelude.{ℕ, ◌≡◌, ◌≢◌, ◌≤◌, ◌<◌, ⊤, List, Some, length, slice_get}
 use Rattle.cpg_base.specs.Graph.{Graph, item_count}
 use Rattle.cpg_order.specs.Reach.{Reach, IsReach, reach_of, views}
 use Rattle.cpg_table.specs.Table.{NodeTable, columns_of}
@@ -8,6 +8,8 @@ use Rattle.cpg_table.specs.Valid.{hear_rows}
 use Rattle.cpg_table.specs.GraphHead.{head_of}
 use Rattle.cpg_table.specs.declared.rule.Rule.{Rule}
 use Rattle.cpg_run.specs.declared.built.Built.{Built}
+use Rattle.cpg_run.specs.declared.built.BuildFault.{BuildFault}
+use Rattle.cpg_run.specs.declared.built.BuildFault.TheVariants.{TooWide, OutOfMemory}
 use Rattle.cpg_run.specs.Frozen.{AreFrozenTimes}
 use Rattle.cpg_run.specs.Finish.{IsWorst, IsExcess}
 use Rattle.cpg_run.specs.Exact.{IsExact}
@@ -28,3 +30,8 @@ pub record IsBuiltFor (g : Graph) (urgency order : List ℕ) (b : Built) : Type 
   pub rules : (rule : Rule) → rule ≢ Rule.Due → Keeps rule g b.tables.nodes
   pub due : b.excess ≡ 0 → Keeps Rule.Due g b.tables.nodes
   pub hears : (node : ℕ) (t : NodeTable) → slice_get b.tables.nodes node ≡ Some t → t.hears ≡ hear_rows g b.tables.nodes node
+
+-- why no tables are built: the item that shows that one is too wide, and want of memory at any time
+abbrev pub ShowsBuildFault : (ℕ → Type 0) → BuildFault → Type 0
+ShowsBuildFault is_shown (TooWide x) = is_shown x
+ShowsBuildFault is_shown OutOfMemory = ⊤
