@@ -18,7 +18,7 @@ if_err (Ok x) f p = p
 if_err (Err e) f p = f e p
 
 -- a count that rose later rose
-rose_later : (before middle now : ℕ) → before ≤ middle → Rose middle now → Rose before now
+pub rose_later : (before middle now : ℕ) → before ≤ middle → Rose middle now → Rose before now
 rose_later before middle now l rose = omega (arith, rose)
 
 -- what was seen from a moment in the middle of a run

@@ -22,7 +22,7 @@ memory_command seen (Play graph pack scenario turns) = memory_graph seen (seen.s
 memory_command seen (Node pack name) = inl (inr (inr (record { fault = PackFault.OutOfMemory; halt_is = refl; shows = tt })))
 memory_command seen (Trial number) = inr refl
 memory_command seen (Live pack name stream) = inr refl
-memory_command seen (Hyper parts) = inr refl
+memory_command seen (Hyper parts) = inl (inr refl)
 memory_command seen (Tune graph) = memory_graph seen (seen.stands graph) (λ _. IsUnbuilt)
 memory_command seen (Audit graph pack log) = inr refl
 

@@ -1,5 +1,5 @@
 -- What a halt of a run names is there.
-use Rattle.std.proofs.Common.{◌≡◌, List, Option, Some, None, sym, subst, inl, inr}
+use Rattle.std.proofs.Common.{◌≡◌, List, [], Option, Some, None, sym, subst, inl, inr}
 use Rattle.cpg_base.specs.Graph.{Graph}
 use Rattle.cpg_base.specs.Scenario.{Scenario, IsScenario, zero_scenario}
 use Rattle.cpg_table.specs.declared.fault.Fault.{Fault}
@@ -9,6 +9,7 @@ use Rattle.cpg_violation.proofs.Violations.{first_broken}
 use Rattle.cpg_list.proofs.Listed.{zero_lawful}
 use Rattle.cpg_words.specs.Parts.{Text}
 use Rattle.cpg_words.specs.Forms.{command_of}
+use Rattle.cpg_words.specs.declared.command.Pair.{Pair}
 use Rattle.cpg_words.specs.declared.command.Command.{Command}
 use Rattle.cpg_words.specs.declared.command.Command.TheVariants.{Show, Compile, Check, Play, Node, Trial, Live, Hyper, Tune, Audit}
 use Rattle.cpg_reader.specs.declared.place.ReadFault.{ReadFault}
@@ -18,14 +19,15 @@ use Rattle.cpg_scenario.specs.declared.fault.ScenarioFault.{ScenarioFault}
 use Rattle.cpg_rules.specs.Admission.{Admission}
 use Rattle.cpg_rules.specs.declared.admission.RuleFault.{RuleFault}
 use Rattle.cpg_rules.specs.Faults.{ShowsFault}
+use Rattle.cpg_hyper.specs.declared.part.HyperFault.{HyperFault}
 use Rattle.cpg_core.specs.declared.fault.CompileFault.{CompileFault}
 use Rattle.cpg_core.specs.Compilation.{ShowsCompileFault}
 use Rattle.cpg_app.specs.declared.halt.Refusal.TheVariants.{NotBuilt}
 use Rattle.cpg_app.specs.declared.halt.Halt.{Halt}
 use Rattle.cpg_app.specs.declared.halt.Halt.TheVariants.{Words, Read, Refused, Unsafe, Memory}
-use Rattle.cpg_app.specs.Halts.{halt_of_reading, halt_of_pack, halt_of_rules, halt_of_scenario, halt_of_compile}
+use Rattle.cpg_app.specs.Halts.{halt_of_reading, halt_of_pack, halt_of_rules, halt_of_scenario, halt_of_compile, halt_of_parts}
 use Rattle.cpg_app.specs.Lines.{HasLengths, IsNamed}
-use Rattle.cpg_app.specs.Causes.{Seen, StopsReading, BreaksRule, IsUnbuiltCommand, StopsGraph, StopsCompile, StopsTables, StopsNaming, StopsVerdict, StopsPlay, StopsCommand, StopsAsked, Stops}
+use Rattle.cpg_app.specs.Causes.{Seen, StopsReading, BreaksRule, IsUnbuiltCommand, StopsGraph, StopsCompile, StopsTables, StopsNaming, StopsVerdict, StopsPlay, StopsParts, StopsCommand, StopsAsked, Stops}
 
 lengths_of : (g : Graph) (s : Scenario) → IsScenario g s → HasLengths g s
 lengths_of g s is = record { values = is.values; faults = is.faults }
@@ -111,6 +113,20 @@ play_named seen told a t h (inl (inr (inl long))) = named_as h _ long.halt_is tt
 play_named seen told a t h (inl (inr (inr none))) = named_as h _ none.halt_is (of_scenario none.fault)
 play_named seen told a t h (inr judged) = verdict_named a t h judged.2
 
+of_parts : (fault : HyperFault) → IsNamed (halt_of_parts fault)
+of_parts (HyperFault.Range p) = tt
+of_parts (HyperFault.Differ p) = tt
+of_parts (HyperFault.Over p) = tt
+of_parts HyperFault.Period = tt
+of_parts (HyperFault.Count what) = tt
+of_parts (HyperFault.LongName p) = tt
+of_parts HyperFault.OutOfMemory = tt
+
+parts_named : (seen : Seen) (pairs : List Pair) (h : Halt) → StopsParts seen pairs h → IsNamed h
+parts_named seen pairs h (inl (inl unsaid)) = reading_named seen _ h (unsaid.stops (record { period = 0; graph = [] }))
+parts_named seen pairs h (inl (inr memory)) = named_as h Memory memory tt
+parts_named seen pairs h (inr refused) = named_as h _ refused.2.halt_is (of_parts refused.2.fault)
+
 command_named : (seen : Seen) (c : Command) (h : Halt) → StopsCommand seen c h → IsNamed h
 command_named seen (Show graph) h so = graph_named seen (seen.stands graph) StopsCompile compile_named h so
 command_named seen (Compile graph) h so = graph_named seen (seen.stands graph) StopsCompile compile_named h so
@@ -119,7 +135,7 @@ command_named seen (Play graph pack scenario turns) h so = graph_named seen (see
 command_named seen (Node pack name) h so = tables_named seen (seen.stands pack) (λ t. StopsNaming t name) (λ t. naming_named t name) h so
 command_named seen (Trial number) h so = unbuilt_command_named h so
 command_named seen (Live pack name stream) h so = unbuilt_command_named h so
-command_named seen (Hyper parts) h so = unbuilt_command_named h so
+command_named seen (Hyper parts) h so = parts_named seen parts h so
 command_named seen (Tune graph) h so = graph_named seen (seen.stands graph) (λ _ k. k ≡ Refused NotBuilt) (λ a. unbuilt_named) h so
 command_named seen (Audit graph pack log) h so = unbuilt_command_named h so
 

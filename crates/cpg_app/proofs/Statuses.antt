@@ -1,5 +1,5 @@
 -- What the status of a halt says of the words and of the shelf.
-use Rattle.std.proofs.Common.{ℕ, ◌≡◌, ◌≤◌, List, Option, Some, None, refl, sym, ap, arith, inl, inr}
+use Rattle.std.proofs.Common.{ℕ, ◌≡◌, ◌≤◌, List, [], Option, Some, None, refl, sym, ap, arith, inl, inr}
 use Rattle.std.specs.Prelude.{◌⊎◌}
 use Rattle.std.proofs.lemmas.Option.{none-some}
 use Rattle.cpg_base.specs.Graph.{Graph}
@@ -7,6 +7,7 @@ use Rattle.cpg_base.specs.Scenario.{Scenario}
 use Rattle.cpg_io.specs.Causes.{Rose}
 use Rattle.cpg_words.specs.Parts.{Text}
 use Rattle.cpg_words.specs.Forms.{command_of}
+use Rattle.cpg_words.specs.declared.command.Pair.{Pair}
 use Rattle.cpg_words.specs.declared.command.Command.{Command}
 use Rattle.cpg_words.specs.declared.command.Command.TheVariants.{Show, Compile, Check, Play, Node, Trial, Live, Hyper, Tune, Audit}
 use Rattle.cpg_reader.specs.declared.place.ReadFault.{ReadFault}
@@ -16,14 +17,15 @@ use Rattle.cpg_codec.specs.declared.fault.PackFault.{PackFault}
 use Rattle.cpg_scenario.specs.declared.fault.ScenarioFault.{ScenarioFault}
 use Rattle.cpg_rules.specs.Admission.{Admission}
 use Rattle.cpg_rules.specs.declared.admission.RuleFault.{RuleFault}
+use Rattle.cpg_hyper.specs.declared.part.HyperFault.{HyperFault}
 use Rattle.cpg_core.specs.declared.fault.CompileFault.{CompileFault}
 use Rattle.cpg_app.specs.declared.halt.Refusal.{Refusal}
 use Rattle.cpg_app.specs.declared.halt.Refusal.TheVariants.{NotBuilt}
 use Rattle.cpg_app.specs.declared.halt.Halt.{Halt}
 use Rattle.cpg_app.specs.declared.halt.Halt.TheVariants.{Words, Read, Refused, Late, TooWide, Unsafe, Memory}
-use Rattle.cpg_app.specs.Halts.{halt_of_reading, halt_of_pack, halt_of_rules, halt_of_scenario, halt_of_compile}
+use Rattle.cpg_app.specs.Halts.{halt_of_reading, halt_of_pack, halt_of_rules, halt_of_scenario, halt_of_compile, halt_of_parts}
 use Rattle.cpg_app.specs.Lines.{status_of}
-use Rattle.cpg_app.specs.Causes.{Seen, StopsReading, BreaksRule, IsUnbuiltCommand, StopsGraph, StopsCompile, StopsTables, StopsNaming, StopsVerdict, StopsPlay, StopsCommand, StopsAsked, Stops}
+use Rattle.cpg_app.specs.Causes.{Seen, StopsReading, BreaksRule, IsUnbuiltCommand, StopsGraph, StopsCompile, StopsTables, StopsNaming, StopsVerdict, StopsPlay, StopsParts, StopsCommand, StopsAsked, Stops}
 
 -- a halt of a command isn't one of its words, and is one of the shelf where its faults rose
 record IsOfCommand (seen : Seen) (h : Halt) : Type 0 where
@@ -104,6 +106,20 @@ of_play seen told a t h (inl (inr (inl long))) = later seen h _ long.halt_is (om
 of_play seen told a t h (inl (inr (inr none))) = later seen h _ none.halt_is (of_scenario none.fault)
 of_play seen told a t h (inr judged) = of_verdict seen a t h judged.2
 
+of_parts : (fault : HyperFault) → 4 ≤ status_of (halt_of_parts fault)
+of_parts (HyperFault.Range p) = omega arith
+of_parts (HyperFault.Differ p) = omega arith
+of_parts (HyperFault.Over p) = omega arith
+of_parts HyperFault.Period = omega arith
+of_parts (HyperFault.Count what) = omega arith
+of_parts (HyperFault.LongName p) = omega arith
+of_parts HyperFault.OutOfMemory = omega arith
+
+of_unrolling : (seen : Seen) (pairs : List Pair) (h : Halt) → StopsParts seen pairs h → IsOfCommand seen h
+of_unrolling seen pairs h (inl (inl unsaid)) = reading seen _ h (unsaid.stops (record { period = 0; graph = [] }))
+of_unrolling seen pairs h (inl (inr memory)) = later seen h _ memory (omega arith)
+of_unrolling seen pairs h (inr refused) = later seen h _ refused.2.halt_is (of_parts refused.2.fault)
+
 of_command : (seen : Seen) (c : Command) (h : Halt) → StopsCommand seen c h → IsOfCommand seen h
 of_command seen (Show graph) h so = of_graph seen (seen.stands graph) StopsCompile (of_made seen) h so
 of_command seen (Compile graph) h so = of_graph seen (seen.stands graph) StopsCompile (of_made seen) h so
@@ -112,7 +128,7 @@ of_command seen (Play graph pack scenario turns) h so = of_graph seen (seen.stan
 of_command seen (Node pack name) h so = of_tables seen (seen.stands pack) (λ t. StopsNaming t name) (λ t. of_naming seen t name) h so
 of_command seen (Trial number) h so = unbuilt_command seen h so
 of_command seen (Live pack name stream) h so = unbuilt_command seen h so
-of_command seen (Hyper parts) h so = unbuilt_command seen h so
+of_command seen (Hyper parts) h so = of_unrolling seen parts h so
 of_command seen (Tune graph) h so = of_graph seen (seen.stands graph) (λ _ k. k ≡ Refused NotBuilt) (λ a. unbuilt seen) h so
 of_command seen (Audit graph pack log) h so = unbuilt_command seen h so
 

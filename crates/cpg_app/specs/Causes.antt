@@ -1,10 +1,11 @@
 -- When a run stops for a reason: what is then true of the words and of the shelf.
-use Rattle.std.specs.Prelude.{ℕ, ◌≡◌, ◌≢◌, ◌<◌, ◌≤◌, ◌⊎◌, List, Option, Some, None, IfSome, Ok, Err, length, position, ⊤}
+use Rattle.std.specs.Prelude.{ℕ, ◌≡◌, ◌≢◌, ◌<◌, ◌≤◌, ◌⊎◌, List, [], ◌∷◌, Option, Some, None, IfSome, Ok, Err, length, take, get_or, position, ⊤}
 use Rattle.std.specs.Str.{bytes_eq}
 use Rattle.cpg_base.specs.Graph.{Graph}
 use Rattle.cpg_io.specs.Causes.{Rose}
 use Rattle.cpg_words.specs.Parts.{Text}
 use Rattle.cpg_words.specs.Forms.{command_of}
+use Rattle.cpg_words.specs.declared.command.Pair.{Pair}
 use Rattle.cpg_words.specs.declared.command.Command.{Command}
 use Rattle.cpg_words.specs.declared.command.Command.TheVariants.{Show, Compile, Check, Play, Node, Trial, Live, Hyper, Tune, Audit}
 use Rattle.cpg_reader.specs.declared.place.ReadFault.{ReadFault}
@@ -27,6 +28,9 @@ use Rattle.cpg_check.specs.declared.heads.HeadPart.{HeadPart}
 use Rattle.cpg_check.specs.Heads.{IsFirstDifference}
 use Rattle.cpg_check.specs.Verdict.{IsFirstFault}
 use Rattle.cpg_reach.specs.Wide.{IsNarrow}
+use Rattle.cpg_hyper.specs.declared.part.Part.{Part}
+use Rattle.cpg_hyper.specs.declared.part.HyperFault.{HyperFault}
+use Rattle.cpg_hyper.specs.Refusals.{ShowsUnrolled}
 use Rattle.cpg_core.specs.declared.fault.CompileFault.{CompileFault}
 use Rattle.cpg_core.specs.Compilation.{ShowsCompileFault}
 use Rattle.cpg_app.specs.declared.halt.Refusal.{Refusal}
@@ -34,7 +38,7 @@ use Rattle.cpg_app.specs.declared.halt.Refusal.TheVariants.{LongGraph, LongPack,
 use Rattle.cpg_app.specs.declared.halt.Halt.{Halt}
 use Rattle.cpg_app.specs.declared.halt.Halt.TheVariants.{Words, Read, Refused, Unsafe, Memory}
 use Rattle.cpg_app.specs.declared.reading.TheConstants.{GRAPH_LIMIT, SCENARIO_LIMIT, PACK_LIMIT}
-use Rattle.cpg_app.specs.Halts.{halt_of_reading, halt_of_pack, halt_of_rules, halt_of_scenario, halt_of_compile}
+use Rattle.cpg_app.specs.Halts.{halt_of_reading, halt_of_pack, halt_of_rules, halt_of_scenario, halt_of_compile, halt_of_parts}
 
 -- what a run sees of its shelf: what stands under each name, how many bytes the last fetched name gave, and the count
 -- of faults before and after
@@ -180,6 +184,34 @@ first_named h name = position (λ node. bytes_eq node name) h.nodes
 abbrev pub StopsNaming : Tables → Text → Halt → Type 0
 StopsNaming t name halt = ((halt ≡ Refused UnknownNode) × (first_named t.head name ≡ None)) ⊎ (halt ≡ Memory)
 
+-- parts with the periods of the words, whose graphs the files say
+abbrev pub AreSaid : (Text → Option Text) → List Pair → List Part → Type 0
+AreSaid stands [] [] = ⊤
+AreSaid stands [] (part ∷ parts) = ⊥
+AreSaid stands (pair ∷ pairs) [] = ⊥
+AreSaid stands (pair ∷ pairs) (part ∷ parts) = (part.period ≡ pair.period) × Says (stands pair.graph) part.problem × AreSaid stands pairs parts
+
+-- the first file that isn't read as a graph
+pub record IsUnsaid (seen : Seen) (pairs : List Pair) (halt : Halt) : Type 0 where
+  pub place : ℕ
+  pub within : place < length pairs
+  pub earlier : List Part
+  pub said : AreSaid seen.stands (take place pairs) earlier
+  pub stops : (d : Pair) → StopsReading seen (seen.stands (get_or pairs place d).graph) halt
+
+abbrev pub StopsReadingParts : Seen → List Pair → Halt → Type 0
+StopsReadingParts seen pairs halt = IsUnsaid seen pairs halt ⊎ (halt ≡ Memory)
+
+-- parts have no graph together
+pub record IsNotUnrolled (parts : List Part) (halt : Halt) : Type 0 where
+  pub fault : HyperFault
+  pub halt_is : halt ≡ halt_of_parts fault
+  pub shows : ShowsUnrolled parts (Err fault)
+
+-- to unroll the parts of the words
+abbrev pub StopsParts : Seen → List Pair → Halt → Type 0
+StopsParts seen pairs halt = StopsReadingParts seen pairs halt ⊎ ((parts : List Part) × AreSaid seen.stands pairs parts × IsNotUnrolled parts halt)
+
 -- a command stops as one that isn't built, or for want of memory
 abbrev pub IsUnbuiltCommand : Halt → Type 0
 IsUnbuiltCommand halt = IsUnbuilt halt ⊎ (halt ≡ Memory)
@@ -192,7 +224,7 @@ StopsCommand seen (Play graph pack scenario turns) halt = StopsGraph seen (seen.
 StopsCommand seen (Node pack name) halt = StopsTables seen (seen.stands pack) (λ t. StopsNaming t name) halt
 StopsCommand seen (Trial number) halt = IsUnbuiltCommand halt
 StopsCommand seen (Live pack name stream) halt = IsUnbuiltCommand halt
-StopsCommand seen (Hyper parts) halt = IsUnbuiltCommand halt
+StopsCommand seen (Hyper parts) halt = StopsParts seen parts halt
 StopsCommand seen (Tune graph) halt = StopsGraph seen (seen.stands graph) (λ _. IsUnbuilt) halt
 StopsCommand seen (Audit graph pack log) halt = IsUnbuiltCommand halt
 

@@ -7,7 +7,8 @@ use Rattle.cpg_scenario.specs.declared.fault.ScenarioFault.{ScenarioFault}
 use Rattle.cpg_rules.specs.Admission.{Admission}
 use Rattle.cpg_rules.specs.declared.admission.RuleFault.{RuleFault}
 use Rattle.cpg_core.specs.declared.fault.CompileFault.{CompileFault}
-use Rattle.cpg_app.specs.declared.halt.Refusal.TheVariants.{NotToml, BadField, DoubleName, UnknownName, OverLimit, Cycle, TwoAlternatives, NoSlot, TooBig, BadPack, BadScenario, TooManyTracks}
+use Rattle.cpg_hyper.specs.declared.part.HyperFault.{HyperFault}
+use Rattle.cpg_app.specs.declared.halt.Refusal.TheVariants.{NotToml, BadField, DoubleName, UnknownName, OverLimit, Cycle, TwoAlternatives, NoSlot, TooBig, BadPack, BadScenario, TooManyTracks, NoHypergraph}
 use Rattle.cpg_app.specs.declared.halt.Halt.{Halt}
 use Rattle.cpg_app.specs.declared.halt.Halt.TheVariants.{Words, Refused, Late, TooWide, Memory}
 
@@ -43,6 +44,16 @@ halt_of_rules g (RuleFault.TwoAlternatives p s) = Refused (TwoAlternatives g p s
 halt_of_rules g (RuleFault.NoSlot node) = Refused (NoSlot g node)
 halt_of_rules g (RuleFault.TooBig e) = Refused (TooBig e)
 halt_of_rules g RuleFault.OutOfMemory = Memory
+
+-- of parts that have no graph together
+abbrev pub halt_of_parts : HyperFault → Halt
+halt_of_parts (HyperFault.Range p) = Refused (NoHypergraph (HyperFault.Range p))
+halt_of_parts (HyperFault.Differ p) = Refused (NoHypergraph (HyperFault.Differ p))
+halt_of_parts (HyperFault.Over p) = Refused (NoHypergraph (HyperFault.Over p))
+halt_of_parts HyperFault.Period = Refused (NoHypergraph HyperFault.Period)
+halt_of_parts (HyperFault.Count what) = Refused (NoHypergraph (HyperFault.Count what))
+halt_of_parts (HyperFault.LongName p) = Refused (NoHypergraph (HyperFault.LongName p))
+halt_of_parts HyperFault.OutOfMemory = Memory
 
 -- of the compile of a graph
 abbrev pub halt_of_compile : Admission → CompileFault → Halt

@@ -18,9 +18,10 @@ use Rattle.cpg_reader.specs.Rows.{text_of}
 use Rattle.cpg_scenario.specs.declared.fault.Cause.{Cause}
 use Rattle.cpg_check.specs.declared.heads.HeadPart.{HeadPart}
 use Rattle.cpg_check.specs.declared.heads.HeadPart.TheVariants.{Faults}
+use Rattle.cpg_hyper.specs.declared.part.HyperFault.{HyperFault}
 use Rattle.cpg_table.specs.declared.fault.Fault.{Fault}
 use Rattle.cpg_app.specs.declared.halt.Refusal.{Refusal}
-use Rattle.cpg_app.specs.declared.halt.Refusal.TheVariants.{NotToml, BadField, DoubleName, UnknownName, OverLimit, Cycle, TwoAlternatives, NoSlot, TooBig, BadPack, BadScenario, LongGraph, LongPack, LongScenario, OtherGraph, TooManyTracks, UnknownNode, NotBuilt}
+use Rattle.cpg_app.specs.declared.halt.Refusal.TheVariants.{NotToml, BadField, DoubleName, UnknownName, OverLimit, Cycle, TwoAlternatives, NoSlot, TooBig, BadPack, BadScenario, LongGraph, LongPack, LongScenario, OtherGraph, TooManyTracks, UnknownNode, NoHypergraph, NotBuilt}
 use Rattle.cpg_app.specs.declared.halt.Halt.{Halt}
 use Rattle.cpg_app.specs.declared.halt.Halt.TheVariants.{Words, Read, Refused, Late, TooWide, Unsafe, Memory}
 
@@ -93,6 +94,16 @@ part_text HeadPart.Nodes = codes "nodes"
 part_text HeadPart.Processes = codes "processes"
 part_text HeadPart.Edges = codes "edges"
 
+-- why parts have no graph together, and the number of the part
+abbrev pub parts_text : HyperFault → List ℕ
+parts_text (HyperFault.Range p) = codes "range " ++ decimal p
+parts_text (HyperFault.Differ p) = codes "differ " ++ decimal p
+parts_text (HyperFault.Over p) = codes "over " ++ decimal p
+parts_text HyperFault.Period = codes "period"
+parts_text (HyperFault.Count what) = what_text what
+parts_text (HyperFault.LongName p) = codes "name " ++ decimal p
+parts_text HyperFault.OutOfMemory = codes "memory"
+
 -- a refusal: its number, its kind, and where it is
 abbrev pub refusal_text : Refusal → List ℕ
 refusal_text NotToml = codes "1 not toml"
@@ -112,6 +123,7 @@ refusal_text LongScenario = codes "16 long scenario"
 refusal_text (OtherGraph part) = codes "17 other graph " ++ part_text part
 refusal_text TooManyTracks = codes "18 tracks"
 refusal_text UnknownNode = codes "19 node"
+refusal_text (NoHypergraph fault) = codes "22 hyper " ++ parts_text fault
 refusal_text NotBuilt = codes "20 not built"
 
 abbrev pub refused_text : Refusal → List ℕ

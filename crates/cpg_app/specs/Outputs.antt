@@ -1,14 +1,18 @@
 -- What a command puts out.
-use Rattle.std.specs.Prelude.{ℕ, ◌≡◌, ◌≤◌, List, Option, Some, None, codes, length, string_bytes}
+use Rattle.std.specs.Prelude.{ℕ, ◌≡◌, ◌≤◌, List, Option, Some, None, Ok, codes, length, string_bytes}
 use Rattle.cpg_base.specs.Graph.{Graph}
 use Rattle.cpg_words.specs.Parts.{Text}
 use Rattle.cpg_words.specs.Forms.{command_of}
+use Rattle.cpg_words.specs.declared.command.Pair.{Pair}
 use Rattle.cpg_words.specs.declared.command.Command.{Command}
 use Rattle.cpg_words.specs.declared.command.Command.TheVariants.{Show, Compile, Check, Play, Node, Trial, Live, Hyper, Tune, Audit}
+use Rattle.cpg_reader.specs.Document.{problem_of}
 use Rattle.cpg_rules.specs.Admission.{Admission}
 use Rattle.cpg_table.specs.Table.{NodeTable}
 use Rattle.cpg_table.specs.Valid.{IsValid}
 use Rattle.cpg_violation.specs.Heads.{IsHeadFor}
+use Rattle.cpg_hyper.specs.declared.part.Part.{Part}
+use Rattle.cpg_hyper.specs.Refusals.{ShowsUnrolled}
 use Rattle.cpg_core.specs.declared.compiling.Compiled.{Compiled}
 use Rattle.cpg_core.specs.Compilation.{IsCompilation}
 use Rattle.cpg_cluster.specs.Correct.{IsCorrect, IsLively, IsSteady, EndsAsPlanned}
@@ -25,7 +29,7 @@ use Rattle.cpg_scenario.specs.declared.reading.Played.{Played}
 use Rattle.cpg_app.specs.declared.reading.TheConstants.{PACK_LIMIT}
 use Rattle.cpg_app.specs.Knowledge.{KnowLocally}
 use Rattle.cpg_app.specs.Plays.{world_of, IsPlayText}
-use Rattle.cpg_app.specs.Causes.{Seen, Admits, SaysPlayed, Spells, first_named}
+use Rattle.cpg_app.specs.Causes.{Seen, Admits, AreSaid, SaysPlayed, Spells, first_named}
 
 -- Tables that keep the ten rules, and what follows for the nodes that have them: in every scenario, with all lengths of
 -- executions and in every order of turns, each node starts and sends just what is due, in order and in time, can always go
@@ -108,6 +112,14 @@ pub record IsPlayedText (told : Option Text) (a : Admission) (t : Tables) (numbe
 abbrev pub IsPlayOf : Option Text → Option Text → Option Text → ℕ → Text → Type 0
 IsPlayOf graph pack scenario number text = (a : Admission) × Admits graph a × IsSpelled pack (λ t. IsPlayedText scenario a t number text)
 
+-- the text is read as the graph of all instances of parts
+abbrev pub IsUnrolledText : List Part → Text → Type 0
+IsUnrolledText parts text = (g : Graph) × ShowsUnrolled parts (Ok g) × (problem_of text ≡ Ok g)
+
+-- of the parts that the words and their files say
+abbrev pub IsUnrolledOf : (Text → Option Text) → List Pair → Text → Type 0
+IsUnrolledOf stands pairs text = (parts : List Part) × AreSaid stands pairs parts × IsUnrolledText parts text
+
 -- a command's output
 abbrev pub PrintsCommand : Seen → Command → Text → Type 0
 PrintsCommand seen (Show graph) text = IsMade (seen.stands graph) shown text
@@ -117,7 +129,7 @@ PrintsCommand seen (Play graph pack scenario turns) text = IsPlayOf (seen.stands
 PrintsCommand seen (Node pack name) text = IsNodeOf (seen.stands pack) name text
 PrintsCommand seen (Trial number) text = ⊥
 PrintsCommand seen (Live pack name stream) text = ⊥
-PrintsCommand seen (Hyper parts) text = ⊥
+PrintsCommand seen (Hyper parts) text = IsUnrolledOf seen.stands parts text
 PrintsCommand seen (Tune graph) text = ⊥
 PrintsCommand seen (Audit graph pack log) text = ⊥
 

@@ -10,6 +10,7 @@ ghost use Rattle.cpg_app.specs.Outputs.{bytes_of, packed, shown, AreJudgedSafe, 
 
 use crate::halt::{Halt, Refusal};
 use crate::output::Output;
+use crate::periods::hyper;
 use crate::playing::play_text;
 use crate::reading::{admit_graph, read_graph, read_played, read_tables};
 use cpg_base::Name;
@@ -328,6 +329,7 @@ fn command_output<S: Shelf>(alloc: Global, shelf: &mut S, command: &Command) -> 
             *turns,
         ),
         Command::Node { pack, name } => node(alloc, shelf, pack.as_str(), name.as_str()),
+        Command::Hyper { parts } => hyper(alloc, shelf, parts.as_slice()),
         Command::Tune { graph } => Err(admit_only(alloc, shelf, graph.as_str())),
         _ => Err(Halt::Refused(Refusal::NotBuilt)),
     }

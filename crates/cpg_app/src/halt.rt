@@ -1,12 +1,13 @@
 //! Why a run stops without an output.
 ghost use Rattle.std.specs.Prelude.{◌≡◌, IfErr};
 ghost use Rattle.cpg_app.specs.Lines.{status_of};
-ghost use Rattle.cpg_app.specs.Halts.{halt_of_reading, halt_of_pack, halt_of_rules, halt_of_scenario, halt_of_compile};
+ghost use Rattle.cpg_app.specs.Halts.{halt_of_reading, halt_of_pack, halt_of_rules, halt_of_scenario, halt_of_compile, halt_of_parts};
 
 use cpg_base::{Problem, Scenario};
 use cpg_check::HeadPart;
 use cpg_codec::PackFault;
 use cpg_core::CompileFault;
+use cpg_hyper::HyperFault;
 use cpg_order::Walk;
 use cpg_reader::{Place, ReadFault, What};
 use cpg_rules::{Admitted, Refused, RuleFault};
@@ -67,6 +68,8 @@ pub enum Refusal {
     TooManyTracks,
     /// No node of the pack has the name.
     UnknownNode,
+    /// The parts of a graph of several periods have no graph together.
+    NoHypergraph(HyperFault),
     /// The command, or this form of graph, isn't built yet.
     NotBuilt,
 }
@@ -180,6 +183,16 @@ impl Halt {
             RuleFault::NoSlot(node) => Halt::Refused(Refusal::NoSlot { graph, node }),
             RuleFault::TooBig(edge) => Halt::Refused(Refusal::TooBig(edge)),
             RuleFault::OutOfMemory => Halt::Memory,
+        }
+    }
+
+    /// What parts that have no graph together stop a run with.
+    pub fn of_parts(fault: HyperFault) -> Halt
+        ensures { result ≡ halt_of_parts fault }
+    {
+        match fault {
+            HyperFault::OutOfMemory => Halt::Memory,
+            _ => Halt::Refused(Refusal::NoHypergraph(fault)),
         }
     }
 

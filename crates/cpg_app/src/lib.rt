@@ -8,6 +8,7 @@ mod commands;
 mod halt;
 mod lines;
 mod output;
+mod periods;
 mod playing;
 mod reading;
 mod refusals;

@@ -1,11 +1,12 @@
 //! The texts of refusals.
 ghost use Rattle.std.specs.Prelude.{◌≡◌, ◌++◌, OnOk, codes, flat_map, string_bytes};
-ghost use Rattle.cpg_app.specs.Lines.{alternatives_text, cause_text, cycle_text, key_text, name_of, node_name, part_text, place_text, refusal_text, refused_text, table_text, what_text, HasLengths, IsNamedRefusal};
+ghost use Rattle.cpg_app.specs.Lines.{alternatives_text, cause_text, cycle_text, key_text, name_of, node_name, part_text, parts_text, place_text, refusal_text, refused_text, table_text, what_text, HasLengths, IsNamedRefusal};
 
 use crate::halt::Refusal;
 use crate::lines::{name_of, write_case};
 use cpg_base::{OutOfMemory, Problem, Scenario};
 use cpg_check::HeadPart;
+use cpg_hyper::HyperFault;
 use cpg_reader::{Key, Place, Table, What};
 use cpg_scenario::Cause;
 use std::alloc::AllocError;
@@ -158,6 +159,27 @@ fn write_other(out: &mut String, part: HeadPart) -> Result<(), AllocError>
     write!(out, "17 other graph {part}")
 }
 
+fn write_parts(out: &mut String, fault: HyperFault) -> Result<(), AllocError>
+    ensures { OnOk result (string_bytes out.new ≡ string_bytes out.old ++ parts_text fault) }
+{
+    match fault {
+        HyperFault::Range(part) => write!(out, "range {part}"),
+        HyperFault::Differ(part) => write!(out, "differ {part}"),
+        HyperFault::Over(part) => write!(out, "over {part}"),
+        HyperFault::Period => out.push_str("period"),
+        HyperFault::Count(what) => write_what(out, what),
+        HyperFault::LongName(part) => write!(out, "name {part}"),
+        HyperFault::OutOfMemory => out.push_str("memory"),
+    }
+}
+
+fn write_hyper(out: &mut String, fault: HyperFault) -> Result<(), AllocError>
+    ensures { OnOk result (string_bytes out.new ≡ string_bytes out.old ++ (codes "22 hyper " ++ parts_text fault)) }
+{
+    out.push_str("22 hyper ")?;
+    write_parts(out, fault)
+}
+
 fn write_refusal(out: &mut String, refusal: &Refusal) -> Result<(), OutOfMemory>
     requires { IsNamedRefusal refusal.now }
     ensures { OnOk result (string_bytes out.new ≡ string_bytes out.old ++ refusal_text refusal.now) }
@@ -184,6 +206,7 @@ fn write_refusal(out: &mut String, refusal: &Refusal) -> Result<(), OutOfMemory>
         Refusal::OtherGraph(part) => write_other(out, *part)?,
         Refusal::TooManyTracks => out.push_str("18 tracks")?,
         Refusal::UnknownNode => out.push_str("19 node")?,
+        Refusal::NoHypergraph(fault) => write_hyper(out, *fault)?,
         Refusal::NotBuilt => out.push_str("20 not built")?,
     }
     Ok(())

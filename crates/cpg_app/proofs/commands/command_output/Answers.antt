@@ -25,3 +25,17 @@ returns-in-Compile-clause-text g c =
     let seen : Seen = record { stands = S.stands c.args.shelf.now; given = S.given c.pack.new.shelf; before = S.faults c.args.shelf.now; now = S.faults c.pack.new.shelf } in
     subst (λ (command : Command). IfOk c.pack.result (λ o. PrintsCommand seen command (bytes_of o))) (sym c.in-Compile.is)
     (rw c.as_str-in-Compile.ensures at c.pack.ensures.pack)
+
+pub returns-in-Hyper-clause-text : goal.returns-in-Hyper-clause-text
+returns-in-Hyper-clause-text g c =
+    let S = g.S.Shelf in
+    let seen : Seen = record { stands = S.stands c.args.shelf.now; given = S.given c.hyper.new.shelf; before = S.faults c.args.shelf.now; now = S.faults c.hyper.new.shelf } in
+    subst (λ (command : Command). IfOk c.hyper.result (λ o. PrintsCommand seen command (bytes_of o))) (sym c.in-Hyper.is)
+    (rw c.as_slice.ensures.pairs at c.hyper.ensures.text)
+
+pub returns-in-Hyper-clause-halt : goal.returns-in-Hyper-clause-halt
+returns-in-Hyper-clause-halt g c =
+    let S = g.S.Shelf in
+    let seen : Seen = record { stands = S.stands c.args.shelf.now; given = S.given c.hyper.new.shelf; before = S.faults c.args.shelf.now; now = S.faults c.hyper.new.shelf } in
+    subst (λ (command : Command). IfErr c.hyper.result (StopsCommand seen command)) (sym c.in-Hyper.is)
+    (rw c.as_slice.ensures.pairs at c.hyper.ensures.halt)
