@@ -1,0 +1,178 @@
+-- What the operations on trees make of trees that agree with what is carried.
+use Rattle.std.proofs.Common.{ℕ, zero, suc, ◌≤◌, ◌<◌, ◌≡◌, max, min, ◌==◌, Bool, true, false, if◌then◌else◌, List, [], ◌∷◌, ◌++◌, length, filter, get_or, sum, sum_by, ◌+◌, Contains, arith, refl, sym, ap, ◌∙◌, subst, inl, inr}
+use Rattle.std.proofs.lemmas.List.Elements.{Contains-append_cases, Contains-append_left, Contains-append_right}
+use Rattle.std.proofs.lemmas.Bool.{cases_eq}
+use Rattle.cpg_base.proofs.Lists.{Contains-first, Contains-filter_parts}
+use Rattle.cpg_run.proofs.SameInRows.{only_one}
+use Rattle.std.proofs.lemmas.Grind.{common_steps}
+use Rattle.std.proofs.lemmas.List.Sums.{sum_by-cons}
+use Rattle.cpg_base.specs.Graph.{Graph}
+use Rattle.cpg_base.specs.Numbers.{numbers_below}
+use Rattle.cpg_base.proofs.Sums.{sum_by-below_first, same_sum_by, sum_by_zeros}
+use Rattle.cpg_order.specs.Scenario.{Scenario, IsScenario, number_of}
+use Rattle.cpg_cube.specs.declared.literal.Literal.{Literal}
+use Rattle.cpg_cube.specs.Cube.{low_in, high_in}
+use Rattle.cpg_base.specs.Variable.{top}
+use Rattle.cpg_cube.proofs.CubeLows.{low_in-le}
+use Rattle.cpg_cube.proofs.Within.{high_in-ge}
+use Rattle.cpg_table.specs.Heard.{exactly, kept_low, kept_high}
+use Rattle.cpg_run.proofs.Hearing.{low_kept, high_kept, high_kept_top, kept_low_below, kept_high_above, kept_grows}
+use Rattle.cpg_tree.specs.Space.{HasFew}
+use Rattle.cpg_tree.specs.Tree.{Path, TreeState, is_on, IsOn, HasOnePathEach, IsConstant, IsMap, IsJoin, IsPick, IsNumber}
+use Rattle.cpg_run.specs.Carrying.{ContainsKept}
+use Rattle.cpg_expand.specs.Agreeing.{Agrees}
+
+-- ---- what is kept of two lists
+
+module _ (xs ys : List Literal) (v : ℕ) where
+  kept_low_both : max (kept_low xs v) (kept_low ys v) ≤ kept_low (xs ++ ys) v
+  kept_low_both = omega (
+    arith,
+    kept_low_below xs v (kept_low (xs ++ ys) v) (λ m j e. low_kept (xs ++ ys) v m (Contains-append_left xs ys m j) e),
+    kept_low_below ys v (kept_low (xs ++ ys) v) (λ m j e. low_kept (xs ++ ys) v m (Contains-append_right xs ys m j) e),
+  )
+
+  kept_high_both : (k : ℕ) → kept_high k (xs ++ ys) v ≤ min (kept_high k xs v) (kept_high k ys v)
+  kept_high_both k = omega (
+    arith,
+    kept_high_above xs v k (kept_high k (xs ++ ys) v) (omega (arith, high_kept_top (xs ++ ys) v k)) (λ m j e. high_kept (xs ++ ys) v k m (Contains-append_left xs ys m j) e),
+    kept_high_above ys v k (kept_high k (xs ++ ys) v) (omega (arith, high_kept_top (xs ++ ys) v k)) (λ m j e. high_kept (xs ++ ys) v k m (Contains-append_right xs ys m j) e),
+  )
+
+-- ---- a scenario of the graph has at most its faults
+
+few_sum : (xs : List ℕ) (n : ℕ) → sum_by (λ p. get_or xs p 0) (numbers_below n) ≤ sum xs
+few_sum [] n = omega (arith, sum_by_zeros (λ p. get_or [] p 0) (numbers_below n) (λ p c. refl))
+few_sum (x ∷ xs) zero = omega arith
+few_sum (x ∷ xs) (suc n) = omega (
+  arith,
+  sum_by-below_first (λ p. get_or (x ∷ xs) p 0) n,
+  same_sum_by (λ i. get_or (x ∷ xs) (i + 1) 0) (λ i. get_or xs i 0) (numbers_below n) (λ i c. next i),
+  few_sum xs n,
+  sum_by-cons (λ n. n) x xs,
+)
+  where
+    next : (i : ℕ) → get_or (x ∷ xs) (i + 1) 0 ≡ get_or xs i 0
+    next i = grind (arith, common_steps)
+
+pub scenario_few : (g : Graph) (s : Scenario) → IsScenario g s → HasFew g.faults s
+scenario_few g s law = omega (arith, few_sum s.faults 128, law.budget)
+
+-- ---- the path of a scenario
+
+first_of_one : {X : Type 0} (xs : List X) → length xs ≡ 1 → (x : X) × Contains xs x
+first_of_one [] e = absurd (omega (arith, e))
+first_of_one (x ∷ xs) e = (x, Contains-first x xs)
+
+pub the_path : {T : Type 0} (k : ℕ) (paths : List (Path T)) → HasOnePathEach k paths → (s : Scenario) → HasFew k s → (x : Path T) × IsOn paths s x
+the_path k paths each s few =
+    let f = first_of_one (filter (is_on s) paths) (each s few) in
+    let parts = Contains-filter_parts (is_on s) paths f.0 f.1 in
+    (f.0, record { stands = parts.0; matched = parts.1 })
+
+-- ---- the operations
+
+module _ (s : Scenario) where
+  -- literals more, and a fact that follows
+  pub agrees_weaker : {T : Type 0} (t : TreeState T) (some more : List Literal) (fact other : T → Type 0) → ((l : Literal) → Contains some l → Contains more l) → ((x : T) → fact x → other x) → Agrees s some fact t → Agrees s more other t
+  agrees_weaker t some more fact other within follows a = record {
+    value = λ x on. follows x.1 (a.value x on);
+    says = λ x on.
+        let kept = a.says x on in
+        record {
+          low = λ v. omega (arith, kept.low v, (kept_grows t.faults some more within v).0);
+          high = λ v. omega (arith, kept.high v, (kept_grows t.faults some more within v).1);
+        };
+  }
+
+  pub agrees_constant : {T : Type 0} (x : T) (k : ℕ) (t : TreeState T) (fact : T → Type 0) → fact x → IsConstant x k t → Agrees s [] fact t
+  agrees_constant x k t fact holds is = subst (Agrees s [] fact) (sym is) (record {
+    value = λ y on. subst (λ (z : Path _). fact z.1) (only y on.stands) holds;
+    says = λ y on. subst (λ (z : Path _). ContainsKept k z.0 []) (only y on.stands) (record { low = λ v. omega arith; high = λ v. omega arith });
+  })
+    where
+      only : (y : Path _) → Contains (([], x) ∷ []) y → ([], x) ≡ y
+      only y c = only_one ([], x) y c
+
+  pub agrees_map : {T U : Type 0} (answers : T → U → Type 0) (a : TreeState T) (r : TreeState U) (literals : List Literal) (fact : T → Type 0) (other : U → Type 0) →
+      HasFew a.faults s → HasOnePathEach a.faults a.paths → IsMap answers a r → ((x : T) (z : U) → fact x → answers x z → other z) → Agrees s literals fact a → Agrees s literals other r
+  agrees_map answers a r literals fact other few each is follows of_a =
+      let x = the_path a.faults a.paths each s few in
+      record {
+        value = λ z on. follows x.0.1 z.1 (of_a.value x.0 x.1) (is.value s x.0 z few x.1 on);
+        says = λ z on.
+            let wide = is.ranges s x.0 z few x.1 on in
+            let kept = of_a.says x.0 x.1 in
+            subst (λ k. ContainsKept k z.0 literals) (sym is.faults) (record {
+              low = λ v. omega (arith, wide.low v, kept.low v);
+              high = λ v. omega (arith, wide.high v, kept.high v);
+            });
+      }
+
+  pub agrees_join : {T U V : Type 0} (answers : T → U → V → Type 0) (a : TreeState T) (b : TreeState U) (r : TreeState V) (first second : List Literal) (fact_a : T → Type 0) (fact_b : U → Type 0) (fact : V → Type 0) →
+      HasFew a.faults s → b.faults ≡ a.faults → HasOnePathEach a.faults a.paths → HasOnePathEach a.faults b.paths → IsJoin answers a b r →
+      ((x : T) (y : U) (z : V) → fact_a x → fact_b y → answers x y z → fact z) → Agrees s first fact_a a → Agrees s second fact_b b → Agrees s (first ++ second) fact r
+  agrees_join answers a b r first second fact_a fact_b fact few same each_a each_b is follows of_a of_b =
+      let x = the_path a.faults a.paths each_a s few in
+      let y = the_path a.faults b.paths each_b s few in
+      record {
+        value = λ z on. follows x.0.1 y.0.1 z.1 (of_a.value x.0 x.1) (of_b.value y.0 y.1) (is.value s x.0 y.0 z few x.1 y.1 on);
+        says = λ z on.
+            let wide = is.ranges s x.0 y.0 z few x.1 y.1 on in
+            let one = of_a.says x.0 x.1 in
+            let two = subst (λ k. ContainsKept k y.0.0 second) same (of_b.says y.0 y.1) in
+            subst (λ k. ContainsKept k z.0 (first ++ second)) (sym is.faults) (record {
+              low = λ v. omega (arith, wide.low v, one.low v, two.low v, kept_low_both first second v);
+              high = λ v. omega (arith, wide.high v, one.high v, two.high v, kept_high_both first second v a.faults);
+            });
+      }
+
+  -- only the tree that is picked in the scenario counts
+  pub agrees_pick : {T : Type 0} (chooser : TreeState Bool) (on off r : TreeState T) (b : Bool) (first second : List Literal) (fact : T → Type 0) →
+      HasFew chooser.faults s → on.faults ≡ chooser.faults → off.faults ≡ chooser.faults → HasOnePathEach chooser.faults chooser.paths → HasOnePathEach chooser.faults on.paths → HasOnePathEach chooser.faults off.paths →
+      IsPick chooser on off r → Agrees s first (λ c. c ≡ b) chooser → Agrees s second fact (if b then on else off) → Agrees s (first ++ second) fact r
+  agrees_pick {T} chooser on off r b first second fact few same_on same_off each_c each_on each_off is of_c of_picked =
+      let c = the_path chooser.faults chooser.paths each_c s few in
+      let chosen : c.0.1 ≡ b = of_c.value c.0 c.1 in
+      let x = picked_path b in
+      let here : IsOn (if c.0.1 then on.paths else off.paths) s x.0 = subst (λ (d : Bool). IsOn (if d then on.paths else off.paths) s x.0) (sym chosen) x.1 in
+      record {
+        value = λ z there. subst fact (sym (is.value s c.0 x.0 z few c.1 here there)) (picked_value b of_picked x.0 x.1);
+        says = λ z there.
+            let wide = is.ranges s c.0 x.0 z few c.1 here there in
+            let one = of_c.says c.0 c.1 in
+            let two = picked_says b of_picked x.0 x.1 in
+            subst (λ k. ContainsKept k z.0 (first ++ second)) (sym is.faults) (record {
+              low = λ v. omega (arith, wide.low v, one.low v, two.low v, kept_low_both first second v);
+              high = λ v. omega (arith, wide.high v, one.high v, two.high v, kept_high_both first second v chooser.faults);
+            });
+      }
+    where
+      picked_path : (d : Bool) → (x : Path T) × IsOn (if d then on.paths else off.paths) s x
+      picked_path true = the_path chooser.faults on.paths each_on s few
+      picked_path false = the_path chooser.faults off.paths each_off s few
+
+      picked_value : (d : Bool) → Agrees s second fact (if d then on else off) → (x : Path T) → IsOn (if d then on.paths else off.paths) s x → fact x.1
+      picked_value true a x h = a.value x h
+      picked_value false a x h = a.value x h
+
+      picked_says : (d : Bool) → Agrees s second fact (if d then on else off) → (x : Path T) → IsOn (if d then on.paths else off.paths) s x → ContainsKept chooser.faults x.0 second
+      picked_says true a x h = subst (λ k. ContainsKept k x.0 second) same_on (a.says x h)
+      picked_says false a x h = subst (λ k. ContainsKept k x.0 second) same_off (a.says x h)
+
+  -- a tree of the number of a variable says that number
+  pub agrees_number : {T : Type 0} (v k : ℕ) (number : T → ℕ) (t : TreeState T) → HasFew k s → number_of s v ≤ top k v → IsNumber v k number t →
+      Agrees s (exactly v (number_of s v) ∷ []) (λ x. number x ≡ number_of s v) t
+  agrees_number v k number t few most is = record {
+    value = λ x on. is.value s x few on;
+    says = λ x on. subst (λ m. ContainsKept m x.0 (exactly v (number_of s v) ∷ [])) (sym is.faults) (record {
+      low = λ u. elim (cases_eq u v) [
+        | inl e ↦ subst (λ w. low_in x.0 w ≤ kept_low (exactly v (number_of s v) ∷ []) w) (sym e) (omega (arith, low_in-le x.0 s v on.matched, low_kept (exactly v (number_of s v) ∷ []) v (exactly v (number_of s v)) (Contains-first _ []) refl))
+        | inr n ↦ omega (arith, is.low s x u few on n)
+      ];
+      high = λ u. elim (cases_eq u v) [
+        | inl e ↦ subst (λ w. kept_high k (exactly v (number_of s v) ∷ []) w ≤ high_in k x.0 w) (sym e) (omega (arith, high_in-ge k x.0 s v most on.matched, high_kept (exactly v (number_of s v) ∷ []) v k (exactly v (number_of s v)) (Contains-first _ []) refl))
+        | inr n ↦ omega (arith, is.high s x u few on n, high_kept_top (exactly v (number_of s v) ∷ []) u k)
+      ];
+    });
+  }

@@ -1,0 +1,333 @@
+-- Once the start, the end and the readiness of its node are set, a process has begun: trees that were grown before its place go on to tell the runs.
+use Rattle.std.proofs.Common.{ℕ, ◌+◌, ◌*◌, ◌<◌, ◌≤◌, ◌≡◌, ◌≢◌, ◌==◌, max, Bool, true, false, if◌then◌else◌, List, [], ◌∷◌, ◌++◌, length, map, filter, take, set, get_or, flat_map, Option, Some, None, unwrap_or, Contains, ◌⊎◌, arith, refl, sym, ap, ap₂, ◌∙◌, subst, inl, inr, get_or-set_same, get_or-set_other}
+use Rattle.std.proofs.lemmas.Bool.{cases_eq, cases_lt, cond-true, cond-false}
+use Rattle.std.proofs.lemmas.Option.{none-some}
+use Rattle.std.proofs.lemmas.List.{get_or-map}
+use Rattle.std.proofs.lemmas.List.Sums.{get_or-le-sum_by}
+use Rattle.std.proofs.lemmas.List.Elements.{All-contains, Contains-append_left}
+use Rattle.cpg_base.specs.Numbers.{greatest}
+use Rattle.cpg_base.specs.Limits.{IsWithinLimits}
+use Rattle.cpg_base.specs.Graph.{Graph, process_at, process_count, condition_count, item_count, item_at, node_of, inputs, is_frozen, is_frozen_item, producer, producer_of_item}
+use Rattle.cpg_base.specs.Activity.{active, activation, item_active}
+use Rattle.cpg_base.specs.WellFormed.{HasSingleJoins}
+use Rattle.cpg_base.specs.declared.item.Item.{Item}
+use Rattle.cpg_base.proofs.Items.{item_at-start}
+use Rattle.cpg_base.proofs.Lists.{Contains-nil, Contains-map, Contains-flat_map, Contains-flat_map_parts, Contains-map_parts}
+use Rattle.cpg_bus.specs.Plan.{queue_of}
+use Rattle.cpg_guard.specs.Guards.{Guards}
+use Rattle.cpg_rules.specs.Admission.{IsAdmitted}
+use Rattle.cpg_order.specs.Deciding.{deciding}
+use Rattle.cpg_order.specs.Guard.{Guard, outcome_at, way, IsGuardOf}
+use Rattle.cpg_order.specs.Scenario.{Scenario, IsScenario, fault_of}
+use Rattle.cpg_order.specs.Urgency.{IsTopological, IsUrgencyOrder, place, before_on_node}
+use Rattle.cpg_order.proofs.Moments.{moment, moment_of_start, phase, phases, phase_below, sooner}
+use Rattle.cpg_order.proofs.Places.{Contains-order, same_place}
+use Rattle.cpg_cube.specs.declared.literal.Literal.{Literal}
+use Rattle.cpg_table.specs.Table.{Column}
+use Rattle.cpg_run.specs.Run.{Times, IsRun, end_in, heard_there, input_bounds, unfrozen_time}
+use Rattle.cpg_run.specs.Carried.{row_at, decided, heard, received, carried, carried_by_item, carried_at_start, carried_at_end, passed, queued}
+use Rattle.cpg_run.specs.Known.{AreEarly, AreSmall}
+use Rattle.cpg_run.specs.Latest.{IsUnfrozenTime}
+use Rattle.cpg_run.specs.Progress.{IsReady, IsSentBefore, IsSentBy, free_after}
+use Rattle.cpg_run.proofs.EarlyTimes.{early_from_low}
+use Rattle.cpg_run.proofs.Mosts.{most_same}
+use Rattle.cpg_run.proofs.Runs.{time_is}
+use Rattle.cpg_run.proofs.Small.{run_small}
+use Rattle.cpg_tree.specs.Space.{HasFew}
+use Rattle.cpg_tree.specs.Tree.{Path, TreeState, IsOn, IsConstant}
+use Rattle.cpg_expand.specs.Begun.{IsBegun}
+use Rattle.cpg_expand.specs.Sent.{sent_before, sent_so_far, IsFreeOnce}
+use Rattle.cpg_expand.specs.Agreeing.{Tells, IsTree}
+use Rattle.cpg_expand.specs.Ending.{IsEndTree, IsReadyTree}
+use Rattle.cpg_expand.specs.Forest.{ForestState, HasTrees, no_tree, times_of, ends_of}
+use Rattle.cpg_expand.specs.Freezing.{IsThawed, IsNeverFrozen, IsFrozenBy, IsFixed}
+use Rattle.cpg_expand.specs.Grown.{RowsHold, IsReadyLine, IsFreeLine, Lines, SendLines, LeavesUnsent, IsEarlier, IsDone, AreSettledOf, IsGrown, IsSending}
+use Rattle.cpg_expand.specs.Guarded.{IsActiveTree, IsStartTree, value_known, values_known}
+use Rattle.cpg_expand.specs.Told.{HasTold}
+use Rattle.cpg_expand.specs.Waiting.{IsWaitTree, ready_of, free_of}
+use Rattle.cpg_expand.proofs.AgreeingTrees.{agrees_weaker, scenario_few, the_path}
+use Rattle.cpg_expand.proofs.FrozenFound.{IsFound, frozen_found}
+use Rattle.cpg_expand.proofs.FrozenLine.{frozen_line, frozen_value}
+use Rattle.cpg_expand.proofs.GrownLines.{told_from_lines, lines_over}
+use Rattle.cpg_expand.proofs.NextPlace.{ready_next, ready_elsewhere, same_before, settled_idle, settled_more}
+use Rattle.cpg_expand.proofs.ReadyLine.{ready_line}
+use Rattle.cpg_expand.proofs.StartLine.{on_way, leads, wait_line, start_told, start_idle, start_line}
+use Rattle.cpg_expand.proofs.StartValue.{most, start_value, waited_ends, end_line}
+use Rattle.cpg_expand.proofs.UnfrozenStart.{unfrozen_value}
+
+-- ---- rows that hold what the trees list
+
+path_column : Path (Option ℕ) → Column
+path_column path = record { time = unwrap_or path.1 0; cube = path.0 }
+
+abbrev own_rows : ForestState → List (List Column)
+own_rows f = map (λ (t : TreeState (Option ℕ)). map path_column t.paths) f.times
+
+own_rows_hold : (g : Graph) (order : List ℕ) (i : ℕ) (f : ForestState) → HasTrees g f → RowsHold g order i f (own_rows f)
+unfolding path_column
+own_rows_hold g order i f has = record {
+  sends = λ x l sent before path time j is. (
+    path_column path,
+    subst (λ (columns : List Column). Contains columns (path_column path)) (sym (row x l)) (Contains-map path_column (times_of g f x).paths path j),
+    refl,
+  );
+}
+  where
+    row : (x : ℕ) → x < item_count g → row_at (own_rows f) x ≡ map path_column (times_of g f x).paths
+    row x l = get_or-map (λ (t : TreeState (Option ℕ)). map path_column t.paths) f.times x (no_tree g.faults) [] (omega (arith, l, has.times))
+
+module _ (g : Graph) (urgency : List ℕ) (guards : Guards) (a : IsAdmitted g urgency guards) (order : List ℕ) (topological : IsTopological g order) (p : ℕ) (l : p < process_count g) (guard : Guard) (is_guard : IsGuardOf g urgency p guard)
+    (old new : ForestState) (before after : List (Option ℕ)) (chooser : TreeState Bool) (grown : IsGrown g order (place order p) before old) (trees : HasTrees g new) (b : IsBegun g urgency p guard old new before after chooser) where
+  nodes : (q : ℕ) → q < process_count g → node_of g q < length g.nodes
+  nodes q k = (a.limits.processes q _ k).node
+
+  its_producer : producer g p ≡ p
+  its_producer = ap (producer_of_item g) (item_at-start g p l)
+
+  early_apart : (x : ℕ) → IsEarlier g order (place order p) x → x ≢ p
+  early_apart x e is = absurd (let at = ap (λ y. place order (producer g y)) is in let own = ap (place order) its_producer in omega (arith, e, at, own))
+
+  p_item : p < item_count g
+  p_item = omega (arith, l)
+
+  unset : get_or before p None ≡ None
+  unset = grown.settled.others p (λ h f e. early_apart p e refl)
+
+  later : (y : ℕ) → y < item_count g → IsEarlier g order (place order p) y → moment g order y < moment g order p
+  later y h e =
+      let at = moment_of_start g order topological p l in
+      let sooner_it : moment g order y < place order p * phases g = sooner (place order (producer g y)) (place order p) (phase (item_at g y)) (phases g) e (phase_below g y h) in
+      omega (arith, at, sooner_it)
+
+  only : (y : ℕ) → IsDone g order p 0 y → IsEarlier g order (place order p) y ⊎ (y ≡ p)
+  only y (inl e) = inl e
+  only y (inr (inl e)) = inr e
+  only y (inr (inr c)) = absurd (Contains-nil y c)
+
+  thawed_start : is_frozen g p ≡ false → (process_at g p).frozen ≡ false
+  thawed_start e = sym (ap (is_frozen_item g) (item_at-start g p l)) ∙ e
+
+  frozen_start : is_frozen g p ≡ true → (process_at g p).frozen ≡ true
+  frozen_start e = sym (ap (is_frozen_item g) (item_at-start g p l)) ∙ e
+
+  -- ---- in one scenario with its run under frozen times that are those so far for what is done
+
+  module _ (fs : List (Option ℕ)) (same : (x : ℕ) → x < item_count g → IsEarlier g order (place order p) x → get_or before x None ≡ get_or fs x None) (early : AreEarly fs)
+      (rows : List (List Column)) (hold : RowsHold g order (place order p) old rows) (s : Scenario) (law : IsScenario g s) (t : Times) (run : IsRun g order fs s t) where
+    few : HasFew g.faults s
+    few = scenario_few g s law
+
+    long : length s.values ≡ condition_count g
+    long = law.values
+
+    small : AreSmall t
+    small = run_small g order fs s t a.limits topological law early run
+
+    lines : Lines g order rows s t (place order p) old
+    lines = lines_over g order topological rows s (place order p) old before fs same (λ u r. grown.lines rows hold s law u r) t run
+
+    told : HasTold g order rows s t (place order p) old
+    told = told_from_lines g order rows (place order p) old grown.trees hold fs s t run lines
+
+    ready_line_before : IsReadyLine g order rows s t (place order p) (node_of g p) (ready_of g old (node_of g p))
+    ready_line_before = lines.ready (node_of g p) (nodes p l)
+
+    abbrev r : ℕ
+    r = ready_line_before.time
+
+    -- the unfrozen tree tells what the start would be if it were not frozen
+    unfrozen_told : (x : Path (Option ℕ)) → IsOn b.unfrozen.paths s x → x.1 ≡ (if item_active g s.values (item_at g p) then Some (unfrozen_time g order s t p) else None)
+    unfrozen_told x on =
+        start_told g a.limits order topological a.joins urgency a.urgency a.topological rows s long few t small old p l nodes told guard is_guard b.wait b.waits r ready_line_before.tells b.unfrozen b.starts x on
+        ∙ ap₂ (λ (c : Bool) n. if c then Some n else None) (sym (ap (item_active g s.values) (item_at-start g p l)))
+        (sym (unfrozen_value g order topological urgency a.urgency a.topological s long t p l guard is_guard r ready_line_before.is))
+
+  early_before : AreEarly before
+  early_before = early_from_low g order before a.limits topological grown.settled.count grown.settled.low
+
+  found : is_frozen g p ≡ true → IsFrozenBy g urgency p b.unfrozen chooser before after b.start →
+      (IsUnfrozenTime g order before p (get_or after p None)) × ((y : ℕ) → y ≢ p → get_or after y None ≡ get_or before y None) × (length after ≡ length before)
+  found is f =
+      let r = frozen_found g order topological before p p_item grown.settled.count unset b.unfrozen b.unfrozen_tree
+      (λ s law t run x on. unfrozen_told before (λ y h e. refl) early_before (own_rows old) (own_rows_hold g order (place order p) old grown.trees) s law t run x on) urgency chooser after b.start f in
+      (r.is, r.same, r.long)
+
+  -- ---- the frozen times
+
+  new_settled : AreSettledOf g order (IsDone g order p 0) after
+  new_settled = by b.fixed
+    where
+      by : IsFixed g urgency p b.unfrozen chooser before after b.start → AreSettledOf g order (IsDone g order p 0) after
+      by (inl th) = subst (AreSettledOf g order (IsDone g order p 0)) (sym th.kept)
+          (settled_idle g order topological a.limits (IsEarlier g order (place order p)) (IsDone g order p 0) before grown.settled p p_item later (λ y e. inl e) (inr (inl refl)) only th.thawed)
+      by (inr f) =
+          let r = found f.0 f.1 in
+          settled_more g order topological a.limits (IsEarlier g order (place order p)) (IsDone g order p 0) before grown.settled p p_item later (λ y e. inl e) (inr (inl refl)) only f.0 after r.0 r.1 r.2
+
+  same_earlier : (x : ℕ) → x < item_count g → IsEarlier g order (place order p) x → get_or before x None ≡ get_or after x None
+  same_earlier x h e = by b.fixed
+    where
+      by : IsFixed g urgency p b.unfrozen chooser before after b.start → get_or before x None ≡ get_or after x None
+      by (inl th) = sym (ap (λ fs. get_or fs x None) th.kept)
+      by (inr f) = let k = found f.0 f.1 in sym (k.1 x (early_apart x e))
+
+  early_after : AreEarly after
+  early_after = early_from_low g order after a.limits topological new_settled.count new_settled.low
+
+  -- ---- the new trees
+
+  new_time : times_of g new p ≡ b.start
+  new_time = ap (λ f. times_of g f p) b.is ∙ get_or-set_same old.times p b.start (no_tree g.faults) (omega (arith, p_item, grown.trees.times))
+
+  other_time : (x : ℕ) → x ≢ p → times_of g new x ≡ times_of g old x
+  other_time x other = ap (λ f. times_of g f x) b.is ∙ get_or-set_other old.times p x b.start (no_tree g.faults) other
+
+  new_end : ends_of g new p ≡ b.end
+  new_end = ap (λ f. ends_of g f p) b.is ∙ get_or-set_same old.ends p b.end (no_tree g.faults) (omega (arith, l, grown.trees.ends))
+
+  other_end : (q : ℕ) → q ≢ p → ends_of g new q ≡ ends_of g old q
+  other_end q other = ap (λ f. ends_of g f q) b.is ∙ get_or-set_other old.ends p q b.end (no_tree g.faults) other
+
+  new_ready : ready_of g new (node_of g p) ≡ b.ready
+  new_ready = ap (λ f. ready_of g f (node_of g p)) b.is ∙ get_or-set_same old.ready (node_of g p) b.ready (no_tree g.faults) (let n = nodes p l in omega (arith, n, grown.trees.ready))
+
+  other_ready : (node : ℕ) → node ≢ node_of g p → ready_of g new node ≡ ready_of g old node
+  other_ready node other = ap (λ f. ready_of g f node) b.is ∙ get_or-set_other old.ready (node_of g p) node b.ready (no_tree g.faults) other
+
+  same_free : (node : ℕ) → free_of g new node ≡ free_of g old node
+  same_free node = ap (λ f. free_of g f node) b.is
+
+  hold_old : (rows : List (List Column)) → RowsHold g order (place order p) new rows → RowsHold g order (place order p) old rows
+  hold_old rows hold = record {
+    sends = λ x k sent sooner path time j is. hold.sends x k sent sooner path time (subst (λ (tree : TreeState (Option ℕ)). Contains tree.paths path) (sym (other_time x (early_apart x sooner))) j) is;
+  }
+
+  -- ---- the lines
+
+  module _ (rows : List (List Column)) (hold : RowsHold g order (place order p) new rows) (s : Scenario) (law : IsScenario g s) (t : Times) (run : IsRun g order after s t) where
+    held : RowsHold g order (place order p) old rows
+    held = hold_old rows hold
+
+    few_faults : HasFew g.faults s
+    few_faults = scenario_few g s law
+
+    run_is_small : AreSmall t
+    run_is_small = small after same_earlier early_after rows held s law t run
+
+    lines_before : Lines g order rows s t (place order p) old
+    lines_before = lines after same_earlier early_after rows held s law t run
+
+    told_before : HasTold g order rows s t (place order p) old
+    told_before = told after same_earlier early_after rows held s law t run
+
+    was_ready : IsReadyLine g order rows s t (place order p) (node_of g p) (ready_of g old (node_of g p))
+    was_ready = lines_before.ready (node_of g p) (nodes p l)
+
+    way_decides : (c : ℕ) → Contains (way guard s.values) c → Contains (deciding g s.values p) c
+    way_decides = on_way g a.limits order topological a.joins urgency a.urgency a.topological rows s law.values few_faults t run_is_small old p l nodes told_before guard is_guard
+
+    leads_there : outcome_at guard s.values ≡ activation g s.values p
+    leads_there = is_guard.is s.values law.values
+
+    in_decided : (x : Literal) → Contains (values_known s (way guard s.values)) x → Contains (decided g s p) x
+    in_decided x j = let m = Contains-map_parts (value_known s) (way guard s.values) x j in subst (Contains (decided g s p)) m.2 (Contains-map (value_known s) (deciding g s.values p) m.0 (way_decides m.0 m.1))
+
+    frozen_says : (process_at g p).frozen ≡ true → (x : Literal) → Contains (decided g s p) x → Contains (carried_at_start g order rows s p) x
+    frozen_says is x j = subst (λ (c : Bool). Contains (if c then decided g s p else flat_map (passed g rows s) (before_on_node g order p) ++ decided g s p ++ heard g rows s p ++ received g rows s p) x) (sym is) j
+
+    started : Tells s (carried_at_start g order rows s p) (get_or t.times p None) b.start
+    started = by b.fixed
+      where
+        told_there : (x : Path (Option ℕ)) → IsOn b.unfrozen.paths s x → x.1 ≡ (if item_active g s.values (item_at g p) then Some (unfrozen_time g order s t p) else None)
+        told_there = unfrozen_told after same_earlier early_after rows held s law t run
+
+        its_path : (x : Path (Option ℕ)) × IsOn b.unfrozen.paths s x
+        its_path = the_path g.faults b.unfrozen.paths b.unfrozen_tree.each s few_faults
+
+        acts_item : active g s.values p ≡ true → item_active g s.values (item_at g p) ≡ true
+        acts_item on = ap (item_active g s.values) (item_at-start g p l) ∙ on
+
+        by_never : is_frozen g p ≡ true → IsNeverFrozen b.unfrozen before after b.start → (c : Bool) → active g s.values p ≡ c → Tells s (carried_at_start g order rows s p) (get_or t.times p None) b.start
+        by_never is n true on = absurd (none-some _ (sym (All-contains (λ (q : Path (Option ℕ)). q.1 ≡ None) b.unfrozen.paths its_path.0 n.none its_path.1.stands) ∙ told_there its_path.0 its_path.1
+            ∙ cond-true _ (Some (unfrozen_time g order s t p)) None (acts_item on)))
+        by_never is n false idle = subst (λ (tree : TreeState (Option ℕ)). Tells s (carried_at_start g order rows s p) (get_or t.times p None) tree) (sym n.same)
+            (agrees_weaker s b.unfrozen (values_known s (way guard s.values)) (carried_at_start g order rows s p) (λ z. z ≡ None) (λ z. z ≡ get_or t.times p None)
+            (λ x j. frozen_says (frozen_start is) x (in_decided x j))
+            (λ z e. e ∙ sym (time_is g order after s t run p p_item ∙ cond-false _ _ _ (ap (item_active g s.values) (item_at-start g p l) ∙ idle)))
+            (start_idle g a.limits order topological a.joins urgency a.urgency a.topological rows s law.values few_faults t run_is_small old p l nodes told_before guard is_guard b.wait b.waits was_ready.time was_ready.tells b.unfrozen b.starts idle))
+
+        by : IsFixed g urgency p b.unfrozen chooser before after b.start → Tells s (carried_at_start g order rows s p) (get_or t.times p None) b.start
+        by (inl th) = subst (λ (tree : TreeState (Option ℕ)). Tells s (carried_at_start g order rows s p) (get_or t.times p None) tree) (sym th.same)
+            (subst (λ (o : Option ℕ). Tells s (carried_at_start g order rows s p) o b.unfrozen)
+            (start_value g order topological urgency a.urgency a.topological after s law.values t run p l guard is_guard was_ready.time was_ready.is (ap (λ fs. get_or fs p None) th.kept ∙ unset))
+            (start_line g a.limits order topological a.joins urgency a.urgency a.topological rows s law.values few_faults t run_is_small old p l nodes told_before guard is_guard b.wait b.waits was_ready.time was_ready.tells b.unfrozen b.starts (thawed_start th.thawed)))
+        by (inr (is, inl n)) = by_never is n (active g s.values p) refl
+        by (inr (is, inr f)) = subst (λ (o : Option ℕ). Tells s (carried_at_start g order rows s p) o b.start)
+            (frozen_value g order after s t run p l f.time (ap (λ h. get_or h p None) f.set ∙ get_or-set_same before p (Some f.time) None (omega (arith, p_item, grown.settled.count)))
+            (λ on. f.is.most its_path.0 (unfrozen_time g order s t p) its_path.1.stands (told_there its_path.0 its_path.1 ∙ cond-true _ (Some (unfrozen_time g order s t p)) None (acts_item on))))
+            (frozen_line g order rows s few_faults p guard leads_there way_decides (frozen_start is) chooser b.start f.time b.chooser_tree b.actives f.made)
+
+    few_here : fault_of s p ≤ g.faults
+    few_here = omega (arith, get_or-le-sum_by (λ (n : ℕ). n) s.faults p 0 (omega (arith, law.faults, l)), law.budget)
+
+    ended : Tells s (carried_at_end g order rows s p) (get_or t.ends p None) b.end
+    ended = end_line g a.limits order after s law t run run_is_small p l few_here rows b.start b.end few_faults b.ends started
+
+    readied : IsReadyLine g order rows s t (place order p + 1) (node_of g p) b.ready
+    readied = ready_next g order topological (place order p) p l refl rows s after t run was_ready.time (greatest (map (heard_there g t (node_of g p)) (way guard s.values))) was_ready.is
+        (most g order topological urgency a.urgency a.topological after s law.values t run p l guard is_guard was_ready.time was_ready.is)
+        (waited_ends g order topological urgency a.urgency a.topological after s law.values t run p l guard is_guard was_ready.time was_ready.is) b.ready
+        (ready_line g order topological rows s few_faults t run_is_small p guard leads_there way_decides chooser b.end b.wait b.ready (max was_ready.time (greatest (map (heard_there g t (node_of g p)) (way guard s.values)))) b.actives b.readies ended
+        (wait_line g a.limits order topological a.joins urgency a.urgency a.topological rows s law.values few_faults t run_is_small old p l nodes told_before guard is_guard b.wait b.waits was_ready.time was_ready.tells))
+
+    was_free : IsFreeLine g order rows s t (place order p) (node_of g p) (free_of g old (node_of g p))
+    was_free = lines_before.free (node_of g p) (nodes p l)
+
+    freed : IsFreeOnce g order rows s t p 0 new
+    freed = record {
+      time = was_free.time;
+      is = most_same (free_after g t) (IsSentBefore g order s (node_of g p) (place order p)) (IsSentBy g order s p 0) was_free.time
+          (λ y h. (h.0, inl h.1)) (λ y h. (h.0, elim h.1 [ inl less ↦ less | inr c ↦ absurd (Contains-nil y c) ])) was_free.is;
+      tells = subst (λ (tree : TreeState ℕ). Tells s (flat_map (queued g order rows s) (sent_so_far g order p 0)) was_free.time tree) (sym (same_free (node_of g p)))
+          (agrees_weaker s (free_of g old (node_of g p)) (flat_map (queued g order rows s) (sent_before g order (place order p) (node_of g p))) (flat_map (queued g order rows s) (sent_so_far g order p 0)) (λ z. z ≡ was_free.time) (λ z. z ≡ was_free.time)
+          (λ x j. let m = Contains-flat_map_parts (queued g order rows s) (sent_before g order (place order p) (node_of g p)) x j in
+          Contains-flat_map (queued g order rows s) (sent_so_far g order p 0) m.0 x (Contains-append_left (sent_before g order (place order p) (node_of g p)) [] m.0 m.1) m.2)
+          (λ z e. e) was_free.tells);
+    }
+
+    time_here : Tells s (carried g order rows s p) (get_or t.times p None) (times_of g new p)
+    time_here = subst (λ (tree : TreeState (Option ℕ)). Tells s (carried g order rows s p) (get_or t.times p None) tree) (sym new_time)
+        (subst (λ (i : Item). Tells s (carried_by_item g order rows s p i) (get_or t.times p None) b.start) (sym (item_at-start g p l)) started)
+
+    send_lines : SendLines g order rows s t p 0 new
+    send_lines = record {
+      times = λ x h done. elim (only x done) [
+        | inl e ↦ subst (λ (tree : TreeState (Option ℕ)). Tells s (carried g order rows s x) (get_or t.times x None) tree) (sym (other_time x (early_apart x e))) (lines_before.times x h e)
+        | inr e ↦ subst (λ z. Tells s (carried g order rows s z) (get_or t.times z None) (times_of g new z)) (sym e) time_here
+      ];
+      ends = λ q h less. elim (cases_eq q p) [
+        | inl e ↦ subst (λ z. Tells s (carried_at_end g order rows s z) (get_or t.ends z None) (ends_of g new z)) (sym e)
+            (subst (λ (tree : TreeState (Option ℕ)). Tells s (carried_at_end g order rows s p) (get_or t.ends p None) tree) (sym new_end) ended)
+        | inr other ↦ subst (λ (tree : TreeState (Option ℕ)). Tells s (carried_at_end g order rows s q) (get_or t.ends q None) tree) (sym (other_end q other)) (lines_before.ends q h (sooner_end q h less other))
+      ];
+      ready = λ node h. elim (cases_eq node (node_of g p)) [
+        | inl e ↦ subst (λ n. IsReadyLine g order rows s t (place order p + 1) n (ready_of g new n)) (sym e) (subst (λ (tree : TreeState ℕ). IsReadyLine g order rows s t (place order p + 1) (node_of g p) tree) (sym new_ready) readied)
+        | inr other ↦ subst (λ (tree : TreeState ℕ). IsReadyLine g order rows s t (place order p + 1) node tree) (sym (other_ready node other))
+            (ready_elsewhere g order topological (place order p) p l refl rows s after t run node other (ready_of g old node) (lines_before.ready node h))
+      ];
+      here = freed;
+      free = λ node h other. subst (λ (tree : TreeState ℕ). IsFreeLine g order rows s t (place order p) node tree) (sym (same_free node)) (lines_before.free node h);
+    }
+      where
+        sooner_end : (q : ℕ) → q < process_count g → place order q < place order p + 1 → q ≢ p → place order q < place order p
+        sooner_end q h less other = elim (cases_lt (place order q) (place order p)) [
+          | inl k ↦ k
+          | inr k ↦ absurd (other (same_place order q p (Contains-order (process_count g) order topological.all q h) (Contains-order (process_count g) order topological.all p l) (omega (arith, less, k))))
+        ]
+
+  new_unsent : LeavesUnsent g new
+  new_unsent x big h is = subst (λ (tree : TreeState (Option ℕ)). IsConstant None g.faults tree) (sym (other_time x (λ e. absurd (omega (arith, big, e, l))))) (grown.unsent x big h is)
+
+  -- a process that has begun is ready to send
+  pub begun_sends : IsSending g order p 0 after new
+  begun_sends = record { trees = trees; unsent = new_unsent; settled = new_settled; lines = λ rows hold s law t run. send_lines rows hold s law t run }

@@ -1,0 +1,15 @@
+-- Trees that are added to trees.
+use Rattle.std.proofs.Common.{ℕ, ◌+◌, ◌≡◌, List, [], ◌∷◌, ◌++◌, length, All, arith, refl, sym, ap, ◌∙◌, subst, length-append}
+use Rattle.std.proofs.lemmas.List.Elements.{All-push}
+use Rattle.cpg_base.specs.Graph.{Graph}
+use Rattle.cpg_tree.specs.Tree.{TreeState, IsConstant}
+use Rattle.cpg_expand.specs.Agreeing.{IsTree}
+
+pub trees_pushed : {T : Type 0} (g : Graph) (xs pushed : List (TreeState T)) (t : TreeState T) (n : ℕ) → (length xs ≡ n) × All (IsTree g) xs → IsTree g t → pushed ≡ xs ++ t ∷ [] → (length pushed ≡ n + 1) × All (IsTree g) pushed
+trees_pushed g xs pushed t n has is e = (
+  (let long = length-append xs (t ∷ []) in let same = ap length e in let before = has.0 in omega arith),
+  subst (All (IsTree g)) (sym e) (All-push (IsTree g) xs t has.1 is),
+)
+
+pub constants_pushed : {T : Type 0} (x : T) (k : ℕ) (xs pushed : List (TreeState T)) (t : TreeState T) → All (IsConstant x k) xs → IsConstant x k t → pushed ≡ xs ++ t ∷ [] → All (IsConstant x k) pushed
+constants_pushed x k xs pushed t h is e = subst (All (IsConstant x k)) (sym e) (All-push (IsConstant x k) xs t h is)

@@ -1,0 +1,184 @@
+-- A peak of the first n processes, with one process more.
+use Rattle.std.proofs.Common.{ℕ, ◌+◌, ◌≤◌, ◌<◌, ◌≡◌, ◌==◌, ◌⊎◌, Bool, true, false, nat_lt, if◌then◌else◌, List, Option, Some, None, All, arith, eq-eqb, refl, sym, ap, ◌∙◌, subst, inl, inr, lt-ltb}
+use Rattle.std.proofs.lemmas.Bool.{cases_Bool, cases_lt, cases_eq, cond-true, cond-false, both_ways, ne_eqb, ltb-true}
+use Rattle.std.proofs.lemmas.List.Elements.{All-contains}
+use Rattle.std.proofs.lemmas.Option.{none-some}
+use Rattle.cpg_base.specs.Graph.{Graph, process_count}
+use Rattle.cpg_base.specs.Duration.{due}
+use Rattle.cpg_base.specs.Scenario.{zero_scenario}
+use Rattle.cpg_order.specs.Scenario.{Scenario, IsScenario, is_before}
+use Rattle.cpg_order.proofs.ScenarioOrder.{before_one_way, not_before_transitive}
+use Rattle.cpg_tree.specs.Greatest.{HasValue, IsGreatestOf}
+use Rattle.cpg_tree.specs.Tree.{Path, TreeState, IsOn}
+use Rattle.cpg_expand.specs.Agreeing.{IsTree}
+use Rattle.cpg_expand.specs.Values.{time_past}
+use Rattle.cpg_expand.specs.Peaks.{tree_at, EndsAt, EndsPast, IsPeakOf, IsPeakBy, IsPeak, goes_before_by, goes_before, or_time, IsNextPeak, IsNextExcess}
+use Rattle.cpg_expand.specs.declared.measuring.Peak.{Peak}
+use Rattle.cpg_expand.proofs.AgreeingTrees.{scenario_few, the_path}
+use Rattle.cpg_expand.proofs.TreesTold.{few_of}
+
+-- no process, and so no peak
+pub no_peak : (g : Graph) (urgency : List ℕ) (has : ℕ → ℕ → Scenario → Type 0) (peak : Peak) → peak ≡ record { time = 0; scenario = zero_scenario g; process = None } → IsPeak g urgency 0 has peak
+no_peak g urgency has peak is = subst (IsPeak g urgency 0 has) (sym is) (record { time = refl; scenario = refl; none = λ q time s l law h. absurd (omega arith) })
+
+-- where all have been gone through
+pub all_processes : (g : Graph) (urgency : List ℕ) (has : ℕ → ℕ → Scenario → Type 0) (n : ℕ) (peak : Peak) → n ≡ process_count g → IsPeak g urgency n has peak → IsPeak g urgency (process_count g) has peak
+all_processes g urgency has n peak e a = subst (λ i. IsPeak g urgency i has peak) e a
+
+-- what goes before a time in a scenario, and what doesn't
+later_or_first : (a b : ℕ) (c : Bool) → (if a == b then c else nat_lt a b) ≡ true → (a < b) ⊎ ((a ≡ b) × (c ≡ true))
+later_or_first a b c h = elim (cases_eq a b) [
+  | inl e ↦ inr (e, sym (cond-true (a == b) c (nat_lt a b) (eq-eqb a b e)) ∙ h)
+  | inr n ↦ inl (ltb-true a b (sym (cond-false (a == b) c (nat_lt a b) (ne_eqb a b n)) ∙ h))
+]
+
+sooner_or_not_first : (a b : ℕ) (c : Bool) → (if a == b then c else nat_lt a b) ≡ false → (b < a) ⊎ ((a ≡ b) × (c ≡ false))
+sooner_or_not_first a b c h = elim (cases_eq a b) [
+  | inl e ↦ inr (e, sym (cond-true (a == b) c (nat_lt a b) (eq-eqb a b e)) ∙ h)
+  | inr n ↦ elim (cases_lt a b) [
+    | inl l ↦ absurd (both_ways (nat_lt a b) (sym (cond-false (a == b) c (nat_lt a b) (ne_eqb a b n)) ∙ h) (lt-ltb a b l))
+    | inr l ↦ inl (less a b l n)
+  ]
+]
+  where
+    less : (a b : ℕ) → b ≤ a → (a ≡ b → ⊥) → b < a
+    less a b l n = elim (cases_lt b a) [ inl m ↦ m | inr m ↦ absurd (n (omega arith)) ]
+
+module _ (g : Graph) (urgency : List ℕ) (n : ℕ) (has : ℕ → ℕ → Scenario → Type 0) (paths : List (Path (Option ℕ))) (into : (time : ℕ) (s : Scenario) → IsScenario g s → has n time s → HasValue paths (Some time) s) (from : (time : ℕ) (s : Scenario) → IsScenario g s → HasValue paths (Some time) s → has n time s) where
+  -- what is so of the first n and of the next is so of all
+  of_next : (q time : ℕ) (s : Scenario) → q < n + 1 → has q time s → (q < n) ⊎ has n time s
+  of_next q time s l h = elim (cases_lt q n) [
+    | inl m ↦ inl m
+    | inr m ↦ inr (let e : q ≡ n = omega arith in subst (λ i. has i time s) e h)
+  ]
+
+  -- ---- the next process has no time
+
+  none_of_paths : All (λ (p : Path (Option ℕ)). p.1 ≡ None) paths → (time : ℕ) (s : Scenario) → IsScenario g s → has n time s → ⊥
+  none_of_paths none time s law h = let v = into time s law h in none-some time (sym (All-contains (λ (p : Path (Option ℕ)). p.1 ≡ None) paths v.0 none v.1.stands) ∙ v.2)
+
+  -- ---- the peak stays
+
+  stays : (peak : Peak) (o : Option ℕ) → IsPeakBy g urgency n has peak o → (o ≡ None → (time : ℕ) (s : Scenario) → IsScenario g s → has n time s → ⊥) →
+      ((p : ℕ) → o ≡ Some p → (time : ℕ) (s : Scenario) → IsScenario g s → has n time s → (time ≤ peak.time) × (time ≡ peak.time → is_before g urgency s peak.scenario ≡ false)) → IsPeakBy g urgency (n + 1) has peak o
+  stays peak None a none some = record {
+    time = a.time;
+    scenario = a.scenario;
+    none = λ q time s l law h. elim (of_next q time s l h) [ inl m ↦ a.none q time s m law h | inr k ↦ none refl time s law k ];
+  }
+  stays peak (Some p) a none some = record {
+    most = λ q time s l law h. elim (of_next q time s l h) [ inl m ↦ a.most q time s m law h | inr k ↦ (some p refl time s law k).0 ];
+    least = record {
+      lawful = a.least.lawful;
+      holds = (a.least.holds.0, omega (arith, a.least.holds.1), a.least.holds.2);
+      least = λ t law h. elim (of_next h.0 peak.time t h.1 h.2) [ inl m ↦ a.least.least t law (h.0, m, h.2) | inr k ↦ (some p refl peak.time t law k).1 refl ];
+    };
+    there = omega (arith, a.there);
+    is = a.is;
+    first = a.first;
+  }
+
+  -- ---- the next process has the greatest time
+
+  module _ (time : ℕ) (scenario : Scenario) (greatest : IsGreatestOf g urgency paths time scenario) where
+    abbrev new : Peak
+    new = record { time = time; scenario = scenario; process = Some n }
+
+    at_most : (other : ℕ) (s : Scenario) → IsScenario g s → has n other s → other ≤ time
+    at_most other s law h = let v = into other s law h in greatest.most v.0 other v.1.stands v.2
+
+    not_earlier : (s : Scenario) → IsScenario g s → has n time s → is_before g urgency s scenario ≡ false
+    not_earlier s law h = greatest.least.least s law (into time s law h)
+
+    here : has n time scenario
+    here = from time scenario greatest.least.lawful greatest.least.holds
+
+    comes : ((q other : ℕ) (s : Scenario) → q < n → IsScenario g s → has q other s → other ≤ time) → ((q : ℕ) (s : Scenario) → q < n → IsScenario g s → has q time s → is_before g urgency s scenario ≡ false) → ((q : ℕ) → q < n → has q time scenario → ⊥) → IsPeakOf g urgency (n + 1) has new n
+    comes most least first = record {
+      most = λ q other s l law h. elim (of_next q other s l h) [ inl m ↦ most q other s m law h | inr k ↦ at_most other s law k ];
+      least = record {
+        lawful = greatest.least.lawful;
+        holds = (n, omega arith, here);
+        least = λ t law h. elim (of_next h.0 time t h.1 h.2) [ inl m ↦ least h.0 t m law h.2 | inr k ↦ not_earlier t law k ];
+      };
+      there = omega arith;
+      is = here;
+      first = first;
+    }
+
+    goes : (peak : Peak) (o : Option ℕ) → IsPeakBy g urgency n has peak o → goes_before_by g urgency peak time scenario o ≡ true → IsPeakOf g urgency (n + 1) has new n
+    goes peak None a t = comes
+        (λ q other s l law h. absurd (a.none q other s l law h))
+        (λ q s l law h. absurd (a.none q time s l law h))
+        (λ q l h. a.none q time scenario l greatest.least.lawful h)
+    goes peak (Some p) a t = elim (later_or_first peak.time time (is_before g urgency scenario peak.scenario) t) [
+      | inl less ↦ comes
+          (λ q other s l law h. omega (arith, less, a.most q other s l law h))
+          (λ q s l law h. absurd (omega (arith, less, a.most q time s l law h)))
+          (λ q l h. absurd (omega (arith, less, a.most q time scenario l greatest.least.lawful h)))
+      | inr same ↦ comes
+          (λ q other s l law h. omega (arith, same.0, a.most q other s l law h))
+          (λ q s l law h. not_before_transitive g urgency scenario peak.scenario s (before_one_way g urgency scenario peak.scenario same.1) (a.least.least s law (q, l, subst (λ i. has q i s) (sym same.0) h)))
+          (λ q l h. both_ways (is_before g urgency scenario peak.scenario) (a.least.least scenario greatest.least.lawful (q, l, subst (λ i. has q i scenario) (sym same.0) h)) same.1)
+    ]
+
+    keeps : (peak : Peak) (o : Option ℕ) → IsPeakBy g urgency n has peak o → goes_before_by g urgency peak time scenario o ≡ false → IsPeakBy g urgency (n + 1) has peak o
+    keeps peak None a f = absurd (both_ways (goes_before_by g urgency peak time scenario None) f refl)
+    keeps peak (Some p) a f = elim (sooner_or_not_first peak.time time (is_before g urgency scenario peak.scenario) f) [
+      | inl less ↦ stays peak (Some p) a (λ e. absurd (none-some p (sym e)))
+          (λ q e other s law h. (omega (arith, less, at_most other s law h), λ i. absurd (omega (arith, less, at_most other s law h, i))))
+      | inr same ↦ stays peak (Some p) a (λ e. absurd (none-some p (sym e)))
+          (λ q e other s law h. (
+            omega (arith, same.0, at_most other s law h),
+            λ i. not_before_transitive g urgency peak.scenario scenario s same.1 (not_earlier s law (subst (λ j. has n j s) (i ∙ same.0) h)),
+          ))
+    ]
+
+    pub or_keeps : (peak : Peak) → IsPeak g urgency n has peak → IsPeak g urgency (n + 1) has (or_time g urgency peak time scenario n)
+    or_keeps peak a = elim (cases_Bool (goes_before g urgency peak time scenario)) [
+      | inl t ↦ subst (IsPeak g urgency (n + 1) has) (sym (cond-true (goes_before g urgency peak time scenario) new peak t)) (goes peak peak.process a t)
+      | inr f ↦ subst (IsPeak g urgency (n + 1) has) (sym (cond-false (goes_before g urgency peak time scenario) new peak f)) (keeps peak peak.process a f)
+    ]
+
+  pub next_peak : (old next : Peak) → IsPeak g urgency n has old → IsNextPeak g urgency paths n old next → IsPeak g urgency (n + 1) has next
+  next_peak old next a (inl same) = subst (IsPeak g urgency (n + 1) has) (sym same.same)
+      (stays old old.process a (λ e. none_of_paths same.none) (λ p e time s law h. absurd (none_of_paths same.none time s law h)))
+  next_peak old next a (inr later) = subst (IsPeak g urgency (n + 1) has) (sym later.is) (or_keeps later.time later.scenario later.greatest old a)
+
+-- ---- of trees
+
+-- who has an excess has an end
+pub past_end : (o : Option ℕ) (due x : ℕ) → time_past due o ≡ Some x → (end : ℕ) × (o ≡ Some end)
+past_end None due x e = absurd (none-some x e)
+past_end (Some end) due x e = (end, refl)
+
+module _ (g : Graph) (urgency : List ℕ) (trees : List (TreeState (Option ℕ))) (n : ℕ) (end : TreeState (Option ℕ)) (same : end ≡ tree_at g trees n) (old next : Peak) where
+  pub next_end : IsPeak g urgency n (EndsAt g trees) old → IsNextPeak g urgency end.paths n old next → IsPeak g urgency (n + 1) (EndsAt g trees) next
+  next_end a is = next_peak g urgency n (EndsAt g trees) end.paths
+      (λ time s law h. subst (λ (t : TreeState (Option ℕ)). HasValue t.paths (Some time) s) (sym same) h)
+      (λ time s law h. subst (λ (t : TreeState (Option ℕ)). HasValue t.paths (Some time) s) same h)
+      old next a is
+
+  module _ (of_end : IsTree g end) (is : IsNextExcess g urgency end n old next) where
+    -- what the tree of the excesses has is what the ends are past the due
+    excess_value : (s : Scenario) → IsScenario g s → (x z : Path (Option ℕ)) → IsOn end.paths s x → IsOn is.tree.paths s z → z.1 ≡ time_past (due g n) x.1
+    excess_value s law x z on_x on_z = is.made.value s x z (few_of g.faults end.faults s of_end.faults (scenario_few g s law)) on_x on_z
+
+    excess_into : (time : ℕ) (s : Scenario) → IsScenario g s → EndsPast g trees n time s → HasValue is.tree.paths (Some time) s
+    excess_into time s law h =
+        let v : HasValue end.paths (Some h.0) s = subst (λ (t : TreeState (Option ℕ)). HasValue t.paths (Some h.0) s) (sym same) h.1 in
+        let z = the_path g.faults is.tree.paths is.of.each s (scenario_few g s law) in
+        (z.0, z.1, excess_value s law v.0 z.0 v.1 z.1 ∙ ap (time_past (due g n)) v.2 ∙ h.2)
+
+    excess_from : (time : ℕ) (s : Scenario) → IsScenario g s → HasValue is.tree.paths (Some time) s → EndsPast g trees n time s
+    excess_from time s law v =
+        let x = the_path g.faults end.paths of_end.each s (scenario_few g s law) in
+        let past : time_past (due g n) x.0.1 ≡ Some time = sym (excess_value s law x.0 v.0 x.1 v.1) ∙ v.2 in
+        let at = past_end x.0.1 (due g n) time past in (
+          at.0,
+          subst (λ (t : TreeState (Option ℕ)). HasValue t.paths (Some at.0) s) same (x.0, x.1, at.1),
+          ap (time_past (due g n)) (sym at.1) ∙ past,
+        )
+
+    pub next_past : IsPeak g urgency n (EndsPast g trees) old → IsPeak g urgency (n + 1) (EndsPast g trees) next
+    next_past a = next_peak g urgency n (EndsPast g trees) is.tree.paths excess_into excess_from old next a is.next

@@ -1,0 +1,71 @@
+-- The tree of when a node goes on after a process agrees with what the node carries on.
+use Rattle.std.proofs.Common.{ℕ, ◌+◌, ◌^◌, ◌<◌, ◌≤◌, ◌≡◌, min, Bool, true, false, if◌then◌else◌, List, [], ◌∷◌, ◌++◌, map, flat_map, get_or, Option, None, unwrap_or, Contains, ◌⊎◌, arith, refl, sym, ap, ◌∙◌, subst, inl, inr}
+use Rattle.std.proofs.lemmas.List.Elements.{Contains-append_cases, Contains-append_left, Contains-append_right}
+use Rattle.cpg_base.specs.Graph.{Graph}
+use Rattle.cpg_base.specs.Activity.{active, activation, is_active}
+use Rattle.cpg_base.specs.declared.activation.Activation.{Activation}
+use Rattle.cpg_base.proofs.Lists.{Contains-map, Contains-map_parts}
+use Rattle.cpg_order.specs.Urgency.{IsTopological, before_on_node}
+use Rattle.cpg_order.specs.Deciding.{deciding}
+use Rattle.cpg_order.specs.Guard.{Guard, outcome_at, way}
+use Rattle.cpg_order.specs.Scenario.{Scenario}
+use Rattle.cpg_cube.specs.declared.literal.Literal.{Literal}
+use Rattle.cpg_table.specs.Table.{Column}
+use Rattle.cpg_run.specs.Run.{Times, end_in}
+use Rattle.cpg_run.specs.Carried.{decided, heard, passed, carried_at_end}
+use Rattle.cpg_run.specs.Known.{AreSmall}
+use Rattle.cpg_tree.specs.Space.{HasFew}
+use Rattle.cpg_tree.specs.Tree.{TreeState}
+use Rattle.cpg_expand.specs.Agreeing.{Agrees, Tells}
+use Rattle.cpg_expand.specs.Ending.{IsReadyTree}
+use Rattle.cpg_expand.specs.Guarded.{IsActiveTree, value_known, values_known}
+use Rattle.cpg_expand.specs.Values.{time_later}
+use Rattle.cpg_expand.proofs.AgreeingTrees.{agrees_weaker}
+use Rattle.cpg_expand.proofs.CarriedOn.{end_parts, ready_carried}
+use Rattle.cpg_expand.proofs.StartTimes.{later_exact}
+
+module _ (g : Graph) (order : List ℕ) (topological : IsTopological g order) (rows : List (List Column)) (s : Scenario) (few : HasFew g.faults s) (t : Times) (small : AreSmall t) (p : ℕ) (guard : Guard)
+    (leads : outcome_at guard s.values ≡ activation g s.values p) (on_way : (c : ℕ) → Contains (way guard s.values) c → Contains (deciding g s.values p) c) where
+  abbrev wait_says : List Literal
+  wait_says = flat_map (passed g rows s) (before_on_node g order p) ++ decided g s p ++ heard g rows s p
+
+  abbrev then_says : List Literal
+  then_says = flat_map (passed g rows s) (before_on_node g order p) ++ passed g rows s p
+
+  -- the line of the time from which a node goes on after a process
+  pub ready_line : (chooser : TreeState Bool) (end : TreeState (Option ℕ)) (wait tree : TreeState ℕ) (waited : ℕ) → IsActiveTree g.faults guard chooser → IsReadyTree g.faults chooser end wait tree →
+      Tells s (carried_at_end g order rows s p) (get_or t.ends p None) end → Tells s wait_says waited wait → Tells s then_says (if active g s.values p then end_in t p else waited) tree
+  ready_line chooser end wait tree waited actives readies ends waits = agrees_weaker s tree (values_known s (way guard s.values) ++ second) then_says (λ z. z ≡ v) (λ z. z ≡ v) within (λ z e. e)
+      (readies s few (active g s.values p) (values_known s (way guard s.values)) second (get_or t.ends p None) waited v chosen by_end by_wait)
+    where
+      second : List Literal
+      second = if active g s.values p then carried_at_end g order rows s p else wait_says
+
+      v : ℕ
+      v = if active g s.values p then end_in t p else waited
+
+      chosen : Tells s (values_known s (way guard s.values)) (active g s.values p) chooser
+      chosen = subst (λ (a : Activation). Tells s (values_known s (way guard s.values)) (is_active a) chooser) leads (actives s few)
+
+      by_end : active g s.values p ≡ true → Tells s second (get_or t.ends p None) end × (v ≡ time_later 0 (get_or t.ends p None))
+      by_end e = (
+        subst (λ (b : Bool). Tells s (if b then carried_at_end g order rows s p else wait_says) (get_or t.ends p None) end) (sym e) ends,
+        ap (λ (b : Bool). if b then end_in t p else waited) e ∙ (let exact = later_exact (get_or t.ends p None) 0 (small.ends p) (omega arith) in omega (arith, exact)),
+      )
+
+      by_wait : active g s.values p ≡ false → Tells s second waited wait × (v ≡ waited)
+      by_wait e = (subst (λ (b : Bool). Tells s (if b then carried_at_end g order rows s p else wait_says) waited wait) (sym e) waits, ap (λ (b : Bool). if b then end_in t p else waited) e)
+
+      of_second : (b : Bool) → active g s.values p ≡ b → (x : Literal) → Contains (if b then carried_at_end g order rows s p else wait_says) x → Contains then_says x
+      of_second true e x j = elim (end_parts g order topological rows s p e x j) [
+        | inl i ↦ Contains-append_left (flat_map (passed g rows s) (before_on_node g order p)) (passed g rows s p) x i
+        | inr i ↦ Contains-append_right (flat_map (passed g rows s) (before_on_node g order p)) (passed g rows s p) x i
+      ]
+      of_second false e x j = ready_carried g order topological rows s p x (inr j)
+
+      within : (x : Literal) → Contains (values_known s (way guard s.values) ++ second) x → Contains then_says x
+      within x j = elim (Contains-append_cases (values_known s (way guard s.values)) second x j) [
+        | inl i ↦ let r = Contains-map_parts (value_known s) (way guard s.values) x i in
+            ready_carried g order topological rows s p x (inl (subst (Contains (decided g s p)) r.2 (Contains-map (value_known s) (deciding g s.values p) r.0 (on_way r.0 r.1))))
+        | inr i ↦ of_second (active g s.values p) refl x i
+      ]

@@ -1,0 +1,349 @@
+-- What the trees down guards tell.
+use Rattle.std.proofs.Common.{ℕ, ◌+◌, ◌-◌, ◌^◌, ◌<◌, ◌≤◌, ◌≡◌, ◌==◌, ◌&&◌, ◌||◌, nat_lt, max, length, Bool, true, false, if◌then◌else◌, List, [], ◌∷◌, ◌++◌, map, flat_map, get_or, Option, Some, None, All, Contains, ◌⊎◌, arith, le-ltb, lt-ltb, eq-eqb, refl, sym, ap, ap₂, ◌∙◌, subst, inl, inr}
+use Rattle.std.proofs.lemmas.Bool.{cond-false, ne_eqb, and_from, le-leb}
+use Rattle.std.specs.Prelude.{nat_le}
+use Rattle.std.proofs.lemmas.List.{get_or_read_under}
+use Rattle.std.proofs.lemmas.List.Elements.{All-contains, All-contains_itself, All-get_or, All-weaker, Contains-append_cases, Contains-append_left, Contains-append_right}
+use Rattle.cpg_base.specs.Bus.{slot_length}
+use Rattle.cpg_base.specs.Graph.{Graph, process_count, condition_count, value_variable, item_count, node_of, source, process_of, is_message, message_item, broadcast_item, home}
+use Rattle.cpg_base.specs.Activity.{is_active}
+use Rattle.cpg_base.specs.declared.activation.Activation.{Activation}
+use Rattle.cpg_base.specs.declared.activation.Activation.TheVariants.{Inactive, Plain, By}
+use Rattle.cpg_base.specs.Scenario.{number_of_value}
+use Rattle.cpg_base.proofs.Lists.{Contains-first, Contains-rest, Contains-cases, Contains-flat_map, greatest-cons}
+use Rattle.cpg_order.specs.Guard.{Guard, Leaf, Test, outcome_at, way}
+use Rattle.cpg_order.specs.Scenario.{Scenario, number_of, fault_of}
+use Rattle.cpg_cube.specs.declared.literal.Literal.{Literal}
+use Rattle.cpg_table.specs.Heard.{exactly}
+use Rattle.cpg_tree.specs.Space.{HasFew}
+use Rattle.cpg_tree.specs.Tree.{TreeState, HasOnePathEach, DoPathsPass, IsConstant, IsMap, IsJoin, IsPick, IsNumber}
+use Rattle.cpg_tree.specs.Variables.{is_variable}
+use Rattle.cpg_tree.proofs.Spaces.{number_le_top}
+use Rattle.cpg_expand.specs.Agreeing.{Agrees, Tells, IsTree}
+use Rattle.cpg_run.specs.Carried.{number_known}
+use Rattle.cpg_expand.specs.Values.{time_later, ended, slot_from}
+use Rattle.cpg_bus.specs.Share.{ShareState}
+use Rattle.cpg_base.specs.Numbers.{same_bool}
+use Rattle.cpg_expand.specs.Sending.{IsTestedTree, IsSentTree, IsFreeTree}
+use Rattle.cpg_expand.specs.Ending.{durations_of, IsEndTree, IsReadyTree}
+use Rattle.cpg_expand.specs.Waiting.{ready_of, IsWaitTree}
+use Rattle.cpg_expand.specs.Later.{IsLaterTree}
+use Rattle.cpg_expand.specs.Forest.{ForestState, HasTrees, no_tree, times_of, ends_of, heard_tree, heard_delay, input_tree, input_delay}
+use Rattle.cpg_expand.specs.Guarded.{value_known, values_known, PicksByValue, IsActiveTree, told_of, latest_of, IsHeardTree, IsWithInputs, awaited, start_says, start_at, IsStartBy, IsStartTree}
+use Rattle.cpg_expand.proofs.AgreeingTrees.{agrees_weaker, agrees_constant, agrees_number, agrees_map, agrees_join, agrees_pick}
+
+-- ---- trees of at most k faults
+
+pub constant_tree : {T : Type 0} (g : Graph) (x : T) (k : ℕ) (t : TreeState T) → k ≡ g.faults → HasOnePathEach t.faults t.paths → IsConstant x k t → DoPathsPass (is_variable g) t.paths → IsTree g t
+constant_tree g x k t e each is known =
+    let same = ap (λ (u : TreeState _). u.faults) is ∙ e in
+    record { faults = same; each = subst (λ n. HasOnePathEach n t.paths) same each; known = known }
+
+pub same_tree : {T U : Type 0} (g : Graph) (a : TreeState T) (t : TreeState U) → a.faults ≡ g.faults → t.faults ≡ a.faults → HasOnePathEach t.faults t.paths → DoPathsPass (is_variable g) t.paths → IsTree g t
+same_tree g a t is same each known = record { faults = same ∙ is; each = subst (λ n. HasOnePathEach n t.paths) (same ∙ is) each; known = known }
+
+pub each_of : {T : Type 0} (g : Graph) (m : ℕ) (t : TreeState T) → m ≡ g.faults → IsTree g t → HasOnePathEach m t.paths
+each_of g m t e is = subst (λ n. HasOnePathEach n t.paths) (sym e) is.each
+
+-- ---- variables of a graph
+
+or_right : (a b : Bool) → b ≡ true → (a || b) ≡ true
+or_right true b e = refl
+or_right false b e = e
+
+pub count_passes : (g : Graph) (p : ℕ) → p < process_count g → is_variable g p ≡ true
+count_passes g p l = ap (λ b. b || (nat_le 128 p && nat_lt p (value_variable (condition_count g)))) (lt-ltb p (process_count g) l)
+
+pub value_passes : (g : Graph) (c : ℕ) → c < condition_count g → is_variable g (128 + c) ≡ true
+value_passes g c l = or_right (nat_lt (128 + c) (process_count g)) (nat_le 128 (128 + c) && nat_lt (128 + c) (value_variable (condition_count g)))
+    (and_from (nat_le 128 (128 + c)) (nat_lt (128 + c) (value_variable (condition_count g))) (le-leb 128 (128 + c) (omega arith)) (lt-ltb (128 + c) (value_variable (condition_count g)) (omega (arith, l))))
+
+pub few_of : (k m : ℕ) (s : Scenario) → m ≡ k → HasFew k s → HasFew m s
+few_of k m s e few = subst (λ n. HasFew n s) (sym e) few
+
+-- ---- times that are later by a delay
+
+pub later_tells : (g : Graph) (delay : ℕ) (tree : TreeState (Option ℕ)) (t : TreeState ℕ) → IsTree g tree → IsMap (λ x z. z ≡ time_later delay x) tree t → IsLaterTree g.faults delay tree t
+later_tells g delay tree t is made s few ls x tells =
+    agrees_map s (λ y z. z ≡ time_later delay y) tree t ls (λ y. y ≡ x) (λ y. y ≡ time_later delay x) (few_of g.faults tree.faults s is.faults few) (each_of g tree.faults tree is.faults is) made
+    (λ y z e f. f ∙ ap (time_later delay) e) tells
+
+-- ---- the tree that a condition's value picks
+
+number_at : (s : Scenario) (c : ℕ) → number_of s (128 + c) ≡ number_of_value (get_or s.values c false)
+number_at s c = cond-false _ (fault_of s (128 + c)) (number_of_value (get_or s.values (128 + c - 128) false)) (le-ltb (128 + c) 128 (omega arith))
+    ∙ ap (λ d. number_of_value (get_or s.values d false)) (let e : 128 + c - 128 ≡ c = omega arith in e)
+
+same_value : (x b : Bool) → number_of_value x ≡ number_of_value b → x ≡ b
+same_value true true e = refl
+same_value false false e = refl
+same_value true false e = absurd (omega (arith, e))
+same_value false true e = absurd (omega (arith, e))
+
+pub value_picks : {T : Type 0} (g : Graph) (c : ℕ) (value : TreeState Bool) (yes_tree off_tree t : TreeState T) → IsNumber (128 + c) g.faults number_of_value value → HasOnePathEach value.faults value.paths →
+    IsTree g yes_tree → IsTree g off_tree → IsPick value yes_tree off_tree t → PicksByValue g.faults c yes_tree off_tree t
+value_picks g c value y f t is each of_y of_f made s few ls x tells =
+    let b : Bool = get_or s.values c false in
+    let told : Agrees s (exactly (128 + c) (number_of s (128 + c)) ∷ []) (λ (d : Bool). number_of_value d ≡ number_of s (128 + c)) value =
+    agrees_number s (128 + c) g.faults number_of_value value few (number_le_top g.faults s few (128 + c)) is in
+    let chosen : Agrees s (exactly (128 + c) (number_of s (128 + c)) ∷ []) (λ (d : Bool). d ≡ b) value =
+    agrees_weaker s value (exactly (128 + c) (number_of s (128 + c)) ∷ []) (exactly (128 + c) (number_of s (128 + c)) ∷ []) (λ (d : Bool). number_of_value d ≡ number_of s (128 + c)) (λ (d : Bool). d ≡ b)
+    (λ l j. j) (λ d e. same_value d b (e ∙ number_at s c)) told in
+    agrees_pick s value y f t b (exactly (128 + c) (number_of s (128 + c)) ∷ []) ls (λ z. z ≡ x) (few_of g.faults value.faults s is.faults few)
+    (of_y.faults ∙ sym is.faults) (of_f.faults ∙ sym is.faults) each (each_of g value.faults y is.faults of_y) (each_of g value.faults f is.faults of_f) made chosen tells
+
+-- ---- where a guard comes to an activation
+
+pub active_leaf : (k : ℕ) (a : Activation) (t : TreeState Bool) → IsConstant (is_active a) k t → IsActiveTree k (Leaf a) t
+active_leaf k a t is s few = agrees_constant s (is_active a) k t (λ y. y ≡ is_active a) refl is
+
+pub active_test : (k c : ℕ) (off on : Guard) (f y t : TreeState Bool) → IsActiveTree k off f → IsActiveTree k on y → PicksByValue k c y f t → IsActiveTree k (Test c off on) t
+active_test k c off on f y t of_off of_on picks s few = go (get_or s.values c false) refl
+  where
+    go : (d : Bool) → get_or s.values c false ≡ d → Tells s (values_known s (c ∷ (if d then way on s.values else way off s.values))) (is_active (if d then outcome_at on s.values else outcome_at off s.values)) t
+    go true e = picks s few (values_known s (way on s.values)) (is_active (outcome_at on s.values)) (subst (λ (d : Bool). Tells s (values_known s (way on s.values)) (is_active (outcome_at on s.values)) (if d then y else f)) (sym e) (of_on s few))
+    go false e = picks s few (values_known s (way off s.values)) (is_active (outcome_at off s.values)) (subst (λ (d : Bool). Tells s (values_known s (way off s.values)) (is_active (outcome_at off s.values)) (if d then y else f)) (sym e) (of_off s few))
+
+-- ---- when a node has heard what a guard tests
+
+pub heard_leaf : (g : Graph) (f : ForestState) (node : ℕ) (a : Activation) (t : TreeState ℕ) → IsConstant 0 g.faults t → IsHeardTree g f node (Leaf a) t
+heard_leaf g f node a t is s few tell time told = agrees_constant s 0 g.faults t (λ y. y ≡ 0) refl is
+
+-- what is told first, and then what a value is and what more is told
+told_first : (s : Scenario) (tell : ℕ → List Literal) (c : ℕ) (ws : List ℕ) (l : Literal) → Contains (tell c ++ value_known s c ∷ told_of s tell ws) l → Contains (told_of s tell (c ∷ ws)) l
+told_first s tell c ws l j = elim (Contains-append_cases (tell c) (value_known s c ∷ told_of s tell ws) l j) [
+  | inl i ↦ Contains-append_left (tell c ++ value_known s c ∷ []) (told_of s tell ws) l (Contains-append_left (tell c) (value_known s c ∷ []) l i)
+  | inr i ↦ elim (Contains-cases (value_known s c) (told_of s tell ws) l i) [
+    | inl e ↦ Contains-append_left (tell c ++ value_known s c ∷ []) (told_of s tell ws) l (Contains-append_right (tell c) (value_known s c ∷ []) l (subst (Contains (value_known s c ∷ [])) e (Contains-first (value_known s c) [])))
+    | inr more ↦ Contains-append_right (tell c ++ value_known s c ∷ []) (told_of s tell ws) l more
+  ]
+]
+
+pub latest-cons : (delay : ℕ → ℕ) (time : ℕ → Option ℕ) (x : ℕ) (xs : List ℕ) → latest_of delay time (x ∷ xs) ≡ max (time_later (delay x) (time x)) (latest_of delay time xs)
+latest-cons delay time x xs = greatest-cons (time_later (delay x) (time x)) (map (λ y. time_later (delay y) (time y)) xs)
+
+pub heard_test : (g : Graph) (f : ForestState) (node c : ℕ) (off on : Guard) (a b further there t : TreeState ℕ) → IsHeardTree g f node off a → IsHeardTree g f node on b → PicksByValue g.faults c b a further →
+    IsTree g further → IsTree g there → IsLaterTree g.faults (heard_delay g node c) (heard_tree g f node c) there → IsJoin (λ x y z. z ≡ max x y) there further t → IsHeardTree g f node (Test c off on) t
+heard_test g f node c off on a b further there t of_off of_on picks of_further of_there later made s few tell time told = go (get_or s.values c false) refl
+  where
+    delay : ℕ → ℕ
+    delay = heard_delay g node
+
+    first : Tells s (tell c) (time_later (delay c) (time c)) there
+    first = later s few (tell c) (time c) (told c (Contains-first c _))
+
+    joined : (ws : List ℕ) → Tells s (value_known s c ∷ told_of s tell ws) (latest_of delay time ws) further → Tells s (told_of s tell (c ∷ ws)) (latest_of delay time (c ∷ ws)) t
+    joined ws second = agrees_weaker s t (tell c ++ value_known s c ∷ told_of s tell ws) (told_of s tell (c ∷ ws))
+        (λ z. z ≡ max (time_later (delay c) (time c)) (latest_of delay time ws)) (λ z. z ≡ latest_of delay time (c ∷ ws)) (λ l j. told_first s tell c ws l j) (λ z e. e ∙ sym (latest-cons delay time c ws))
+        (agrees_join s (λ x y z. z ≡ max x y) there further t (tell c) (value_known s c ∷ told_of s tell ws) (λ x. x ≡ time_later (delay c) (time c)) (λ y. y ≡ latest_of delay time ws) (λ z. z ≡ max (time_later (delay c) (time c)) (latest_of delay time ws))
+        (few_of g.faults there.faults s of_there.faults few) (of_further.faults ∙ sym of_there.faults) (each_of g there.faults there of_there.faults of_there) (each_of g there.faults further of_there.faults of_further) made
+        (λ x y z d e i. i ∙ ap₂ max d e) first second)
+
+    go : (d : Bool) → get_or s.values c false ≡ d → Tells s (told_of s tell (c ∷ (if d then way on s.values else way off s.values))) (latest_of delay time (c ∷ (if d then way on s.values else way off s.values))) t
+    go true e = joined (way on s.values) (picks s few (told_of s tell (way on s.values)) (latest_of delay time (way on s.values))
+        (subst (λ (d : Bool). Tells s (told_of s tell (way on s.values)) (latest_of delay time (way on s.values)) (if d then b else a)) (sym e)
+        (of_on s few tell time (λ x j. told x (Contains-rest c _ x (subst (λ (d : Bool). Contains (if d then way on s.values else way off s.values) x) (sym e) j))))))
+    go false e = joined (way off s.values) (picks s few (told_of s tell (way off s.values)) (latest_of delay time (way off s.values))
+        (subst (λ (d : Bool). Tells s (told_of s tell (way off s.values)) (latest_of delay time (way off s.values)) (if d then b else a)) (sym e)
+        (of_off s few tell time (λ x j. told x (Contains-rest c _ x (subst (λ (d : Bool). Contains (if d then way on s.values else way off s.values) x) (sym e) j))))))
+
+-- ---- inputs
+
+pub no_inputs : (g : Graph) (f : ForestState) (wait : TreeState ℕ) → IsWithInputs g f wait [] wait
+no_inputs g f wait s few base x tells tell time told = agrees_weaker s wait base (base ++ []) (λ y. y ≡ x) (λ y. y ≡ max x 0) (λ l j. Contains-append_left base [] l j) (λ y e. omega (arith, e)) tells
+
+pub one_input : (g : Graph) (f : ForestState) (wait there both t : TreeState ℕ) (e : ℕ) (es : List ℕ) → IsTree g wait → IsTree g there → IsLaterTree g.faults (input_delay g e) (input_tree g f e) there →
+    IsJoin (λ x y z. z ≡ max x y) wait there both → IsWithInputs g f both es t → IsWithInputs g f wait (e ∷ es) t
+one_input g f wait there both t e es of_wait of_there later made others s few base x tells tell time told =
+    let at = time_later (input_delay g e) (time e) in
+    let first : Tells s (tell e) at there = later s few (tell e) (time e) (told e (Contains-first e es)) in
+    let joined : Tells s (base ++ tell e) (max x at) both =
+    agrees_join s (λ x y z. z ≡ max x y) wait there both base (tell e) (λ y. y ≡ x) (λ y. y ≡ at) (λ y. y ≡ max x at)
+    (few_of g.faults wait.faults s of_wait.faults few) (of_there.faults ∙ sym of_wait.faults) (each_of g wait.faults wait of_wait.faults of_wait) (each_of g wait.faults there of_wait.faults of_there) made
+    (λ x y z d f i. i ∙ ap₂ max d f) tells first in
+    agrees_weaker s t ((base ++ tell e) ++ flat_map tell es) (base ++ flat_map tell (e ∷ es)) (λ y. y ≡ max (max x at) (latest_of (input_delay g) time es)) (λ y. y ≡ max x (latest_of (input_delay g) time (e ∷ es)))
+    (λ l j. within l (Contains-append_cases (base ++ tell e) (flat_map tell es) l j)) (λ y d. omega (arith, d, latest-cons (input_delay g) time e es))
+    (others s few (base ++ tell e) (max x at) joined tell time (λ d j. told d (Contains-rest e es d j)))
+  where
+    within : (l : Literal) → Contains (base ++ tell e) l ⊎ Contains (flat_map tell es) l → Contains (base ++ flat_map tell (e ∷ es)) l
+    within l (inr j) = Contains-append_right base (tell e ++ flat_map tell es) l (Contains-append_right (tell e) (flat_map tell es) l j)
+    within l (inl j) = elim (Contains-append_cases base (tell e) l j) [
+      | inl i ↦ Contains-append_left base (tell e ++ flat_map tell es) l i
+      | inr i ↦ Contains-append_right base (tell e ++ flat_map tell es) l (Contains-append_left (tell e) (flat_map tell es) l i)
+    ]
+
+-- ---- starts
+
+pub no_start : (g : Graph) (f : ForestState) (wait : TreeState ℕ) (release : ℕ) (inputs : List ℕ) (t : TreeState (Option ℕ)) → IsConstant None g.faults t → IsStartBy g f wait release inputs Inactive t
+no_start g f wait release inputs t is s few base x tells tell time told = agrees_constant s None g.faults t (λ y. y ≡ None) refl is
+
+pub some_start : (g : Graph) (f : ForestState) (wait later both : TreeState ℕ) (t : TreeState (Option ℕ)) (release : ℕ) (inputs : List ℕ) (a : Activation) → is_active a ≡ true → IsTree g wait → IsTree g both →
+    IsMap (λ x z. z ≡ max x release) wait later → IsWithInputs g f later (awaited inputs a) both → IsMap (λ x z. z ≡ Some x) both t → IsStartBy g f wait release inputs a t
+some_start g f wait later both t release inputs a active of_wait of_both released withs made s few base x tells tell time told =
+    let after : Tells s base (max x release) later =
+    agrees_map s (λ x z. z ≡ max x release) wait later base (λ y. y ≡ x) (λ y. y ≡ max x release) (few_of g.faults wait.faults s of_wait.faults few) (each_of g wait.faults wait of_wait.faults of_wait) released
+    (λ y z e f. f ∙ ap (λ n. max n release) e) tells in
+    let all = withs s few base (max x release) after tell time told in
+    let at = max (max x release) (latest_of (input_delay g) time (awaited inputs a)) in
+    subst (λ (d : Bool). Tells s (if d then base ++ flat_map tell (awaited inputs a) else []) (if d then Some at else None) t) (sym active)
+    (agrees_map s (λ x z. z ≡ Some x) both t (base ++ flat_map tell (awaited inputs a)) (λ y. y ≡ at) (λ y. y ≡ Some at) (few_of g.faults both.faults s of_both.faults few) (each_of g both.faults both of_both.faults of_both) made
+    (λ y z e f. f ∙ ap (λ n. Some n) e) all)
+
+pub start_leaf : (g : Graph) (f : ForestState) (wait : TreeState ℕ) (release : ℕ) (inputs : List ℕ) (a : Activation) (t : TreeState (Option ℕ)) → IsStartBy g f wait release inputs a t → IsStartTree g f wait release inputs (Leaf a) t
+start_leaf g f wait release inputs a t is s few base x tells tell time told = is s few base x tells tell time told
+
+pub start_test : (g : Graph) (f : ForestState) (wait : TreeState ℕ) (release : ℕ) (inputs : List ℕ) (c : ℕ) (off on : Guard) (a b t : TreeState (Option ℕ)) → IsStartTree g f wait release inputs off a → IsStartTree g f wait release inputs on b → PicksByValue g.faults c b a t →
+    IsStartTree g f wait release inputs (Test c off on) t
+start_test g f wait release inputs c off on a b t of_off of_on picks s few base x tells tell time told = go (get_or s.values c false) refl
+  where
+    says : Guard → List Literal
+    says guard = values_known s (way guard s.values) ++ start_says base tell inputs (outcome_at guard s.values)
+
+    at : Guard → Option ℕ
+    at guard = start_at x release (input_delay g) time inputs (outcome_at guard s.values)
+
+    go : (d : Bool) → get_or s.values c false ≡ d → Tells s (values_known s (c ∷ (if d then way on s.values else way off s.values)) ++ start_says base tell inputs (if d then outcome_at on s.values else outcome_at off s.values)) (start_at x release (input_delay g) time inputs (if d then outcome_at on s.values else outcome_at off s.values)) t
+    go true e = picks s few (says on) (at on) (subst (λ (d : Bool). Tells s (says on) (at on) (if d then b else a)) (sym e)
+        (of_on s few base x tells tell time (λ y j. told y (subst (λ (d : Bool). Contains (awaited inputs (if d then outcome_at on s.values else outcome_at off s.values)) y) (sym e) j))))
+    go false e = picks s few (says off) (at off) (subst (λ (d : Bool). Tells s (says off) (at off) (if d then b else a)) (sym e)
+        (of_off s few base x tells tell time (λ y j. told y (subst (λ (d : Bool). Contains (awaited inputs (if d then outcome_at on s.values else outcome_at off s.values)) y) (sym e) j))))
+
+-- ---- trees of a forest
+
+pub times_read : (g : Graph) (f : ForestState) → HasTrees g f → (i : ForestState) → i ≡ f → (v : TreeState (Option ℕ)) (at x : ℕ) → v ≡ get_or i.times at v → at ≡ x → x < item_count g → v ≡ times_of g f x
+times_read g f has i same v at x is e l =
+    let long = ap (λ (h : ForestState). length h.times) same in
+    get_or_read_under i.times at (length i.times) v (no_tree g.faults) is (omega (arith, e, l, has.times, long)) refl ∙ ap (λ (h : ForestState). times_of g h at) same ∙ ap (times_of g f) e
+
+pub ends_read : (g : Graph) (f : ForestState) → HasTrees g f → (i : ForestState) → i ≡ f → (v : TreeState (Option ℕ)) (at p : ℕ) → v ≡ get_or i.ends at v → at ≡ p → p < process_count g → v ≡ ends_of g f p
+ends_read g f has i same v at p is e l =
+    let long = ap (λ (h : ForestState). length h.ends) same in
+    get_or_read_under i.ends at (length i.ends) v (no_tree g.faults) is (omega (arith, e, l, has.ends, long)) refl ∙ ap (λ (h : ForestState). ends_of g h at) same ∙ ap (ends_of g f) e
+
+pub times_tree : (g : Graph) (f : ForestState) → HasTrees g f → (x : ℕ) → x < item_count g → IsTree g (times_of g f x)
+times_tree g f has x l = All-get_or (IsTree g) f.times x (no_tree g.faults) (omega (arith, l, has.times)) has.all_times
+
+pub ends_tree : (g : Graph) (f : ForestState) → HasTrees g f → (p : ℕ) → p < process_count g → IsTree g (ends_of g f p)
+ends_tree g f has p l = All-get_or (IsTree g) f.ends p (no_tree g.faults) (omega (arith, l, has.ends)) has.all_ends
+
+-- a tree that is read, later by a delay
+pub read_later : (g : Graph) (delay : ℕ) (v tree : TreeState (Option ℕ)) (t : TreeState ℕ) → v ≡ tree → IsTree g tree → IsMap (λ x z. z ≡ time_later delay x) v t → HasOnePathEach t.faults t.paths → ((test : ℕ → Bool) → DoPathsPass test v.paths → DoPathsPass test t.paths) → IsTree g t × IsLaterTree g.faults delay tree t
+read_later g delay v tree t is of made each known =
+    let made_of = subst (λ (u : TreeState (Option ℕ)). IsMap (λ x z. z ≡ time_later delay x) u t) is made in
+    (same_tree g tree t of.faults made_of.faults each (known (is_variable g) (subst (λ (u : TreeState (Option ℕ)). DoPathsPass (is_variable g) u.paths) (sym is) of.known)), later_tells g delay tree t of made_of)
+
+module _ (g : Graph) (f : ForestState) (node c : ℕ) (t : TreeState ℕ) where
+  heard_if : (d : Bool) → (node_of g (process_of g c) == node) ≡ d → IsLaterTree g.faults (if d then 0 else slot_length g (home g (broadcast_item g c))) (if d then ends_of g f (process_of g c) else times_of g f (broadcast_item g c)) t →
+      IsLaterTree g.faults (heard_delay g node c) (heard_tree g f node c) t
+  heard_if d e is = subst (λ (b : Bool). IsLaterTree g.faults (if b then 0 else slot_length g (home g (broadcast_item g c))) (if b then ends_of g f (process_of g c) else times_of g f (broadcast_item g c)) t) (sym e) is
+
+  pub heard_own : node_of g (process_of g c) ≡ node → IsLaterTree g.faults 0 (ends_of g f (process_of g c)) t → IsLaterTree g.faults (heard_delay g node c) (heard_tree g f node c) t
+  heard_own e is = heard_if true (eq-eqb (node_of g (process_of g c)) node e) is
+
+  pub heard_other : (node_of g (process_of g c) ≡ node → ⊥) → IsLaterTree g.faults (slot_length g (home g (broadcast_item g c))) (times_of g f (broadcast_item g c)) t → IsLaterTree g.faults (heard_delay g node c) (heard_tree g f node c) t
+  heard_other e is = heard_if false (ne_eqb (node_of g (process_of g c)) node e) is
+
+module _ (g : Graph) (f : ForestState) (e : ℕ) (t : TreeState ℕ) where
+  input_if : (d : Bool) → is_message g e ≡ d → IsLaterTree g.faults (if d then slot_length g (home g (message_item g e)) else 0) (if d then times_of g f (message_item g e) else ends_of g f (source g e)) t →
+      IsLaterTree g.faults (input_delay g e) (input_tree g f e) t
+  input_if d i is = subst (λ (b : Bool). IsLaterTree g.faults (if b then slot_length g (home g (message_item g e)) else 0) (if b then times_of g f (message_item g e) else ends_of g f (source g e)) t) (sym i) is
+
+  pub input_message : is_message g e ≡ true → IsLaterTree g.faults (slot_length g (home g (message_item g e))) (times_of g f (message_item g e)) t → IsLaterTree g.faults (input_delay g e) (input_tree g f e) t
+  input_message i is = input_if true i is
+
+  pub input_end : is_message g e ≡ false → IsLaterTree g.faults 0 (ends_of g f (source g e)) t → IsLaterTree g.faults (input_delay g e) (input_tree g f e) t
+  input_end i is = input_if false i is
+
+-- ---- what holds of all of a list holds of its parts
+
+pub all_parts : {X : Type 0} (P : X → Type 0) (whole : List X) (x : X) (xs : List X) → whole ≡ x ∷ xs → All P whole → P x × All P xs
+all_parts P whole x xs is h =
+    let all = subst (All P) is h in
+    (All-contains P (x ∷ xs) x all (Contains-first x xs), All-weaker (Contains xs) P (λ y j. All-contains P (x ∷ xs) y all (Contains-rest x xs y j)) xs (All-contains_itself xs))
+
+-- ---- ends, and what a node waits for
+
+pub end_told : (g : Graph) (p : ℕ) (start t : TreeState (Option ℕ)) (faults : TreeState ℕ) → IsTree g start → IsNumber p g.faults (λ n. n) faults → HasOnePathEach faults.faults faults.paths →
+    IsJoin (λ x n z. z ≡ ended (durations_of g p) n x) start faults t → IsEndTree g p start t
+end_told g p start t faults of_start number each made s few ls x tells =
+    agrees_join s (λ x n z. z ≡ ended (durations_of g p) n x) start faults t ls (number_known s p ∷ []) (λ y. y ≡ x) (λ n. n ≡ number_of s p) (λ z. z ≡ ended (durations_of g p) (number_of s p) x)
+    (few_of g.faults start.faults s of_start.faults few) (number.faults ∙ sym of_start.faults) (each_of g start.faults start of_start.faults of_start)
+    (subst (λ n. HasOnePathEach n faults.paths) (number.faults ∙ sym of_start.faults) each) made
+    (λ y n z e i h. h ∙ ap₂ (λ m o. ended (durations_of g p) m o) i e) tells (agrees_number s p g.faults (λ n. n) faults few (number_le_top g.faults s few p) number)
+
+pub ready_told : (g : Graph) (active : TreeState Bool) (end : TreeState (Option ℕ)) (wait after t : TreeState ℕ) → IsTree g active → IsTree g end → IsTree g wait → IsMap (λ x z. z ≡ time_later 0 x) end after → HasOnePathEach after.faults after.paths → DoPathsPass (is_variable g) after.paths →
+    IsPick active after wait t → IsReadyTree g.faults active end wait t
+ready_told g active end wait after t of_active of_end of_wait later each known made s few b first second x w v of_b ends waits =
+    let of_after = same_tree g end after of_end.faults later.faults each known in
+    agrees_pick s active after wait t b first second (λ z. z ≡ v) (few_of g.faults active.faults s of_active.faults few) (of_after.faults ∙ sym of_active.faults) (of_wait.faults ∙ sym of_active.faults)
+    (each_of g active.faults active of_active.faults of_active) (each_of g active.faults after of_active.faults of_after) (each_of g active.faults wait of_active.faults of_wait) made of_b (picked b refl)
+  where
+    picked : (d : Bool) → b ≡ d → Agrees s second (λ z. z ≡ v) (if d then after else wait)
+    picked true e = let both = ends e in subst (λ n. Agrees s second (λ z. z ≡ n) after) (sym both.1) (later_tells g 0 end after of_end later s few second x both.0)
+    picked false e = let both = waits e in subst (λ n. Agrees s second (λ z. z ≡ n) wait) (sym both.1) both.0
+
+pub wait_told : (g : Graph) (f : ForestState) (node : ℕ) (guard : Guard) (ready heard t : TreeState ℕ) → ready ≡ ready_of g f node → IsTree g (ready_of g f node) → IsTree g heard → IsHeardTree g f node guard heard →
+    IsJoin (λ x y z. z ≡ max x y) ready heard t → IsWaitTree g f node guard t
+wait_told g f node guard ready heard t is of_ready of_heard hears made s few base x tells tell time told =
+    let at = latest_of (heard_delay g node) time (way guard s.values) in
+    agrees_join s (λ x y z. z ≡ max x y) (ready_of g f node) heard t base (told_of s tell (way guard s.values)) (λ y. y ≡ x) (λ y. y ≡ at) (λ y. y ≡ max x at)
+    (few_of g.faults (ready_of g f node).faults s of_ready.faults few) (of_heard.faults ∙ sym of_ready.faults) (each_of g (ready_of g f node).faults (ready_of g f node) of_ready.faults of_ready) (each_of g (ready_of g f node).faults heard of_ready.faults of_heard)
+    (subst (λ (r : TreeState ℕ). IsJoin (λ x y z. z ≡ max x y) r heard t) is made) (λ x y z d e i. i ∙ ap₂ max d e) tells (hears s few tell time told)
+
+pub ready_read : (g : Graph) (f : ForestState) → HasTrees g f → (i : ForestState) → i ≡ f → (v : TreeState ℕ) (at node : ℕ) → v ≡ get_or i.ready at v → at ≡ node → node < length g.nodes → v ≡ ready_of g f node
+ready_read g f has i same v at node is e l =
+    let long = ap (λ (h : ForestState). length h.ready) same in
+    get_or_read_under i.ready at (length i.ready) v (no_tree g.faults) is (omega (arith, e, l, has.ready, long)) refl ∙ ap (λ (h : ForestState). ready_of g h at) same ∙ ap (ready_of g f) e
+
+pub ready_tree : (g : Graph) (f : ForestState) → HasTrees g f → (node : ℕ) → node < length g.nodes → IsTree g (ready_of g f node)
+ready_tree g f has node l = All-get_or (IsTree g) f.ready node (no_tree g.faults) (omega (arith, l, has.ready)) has.all_ready
+
+-- ---- what is sent
+
+module _ (g : Graph) (active : TreeState Bool) (of_active : IsTree g active) (s : Scenario) (few : HasFew g.faults s) (b : Bool) (first : List Literal) (of_b : Tells s first b active) where
+  -- a value of one of two trees, and what is told where the chooser is true
+  picked_tells : {T : Type 0} (yes_tree off_tree t : TreeState T) (second : List Literal) (x y : T) → IsTree g yes_tree → IsTree g off_tree → IsPick active yes_tree off_tree t →
+      (b ≡ true → Tells s second x yes_tree) → Tells s [] y off_tree → Tells s (first ++ (if b then second else [])) (if b then x else y) t
+  picked_tells {T} y_tree f t second x y of_y of_f made told other =
+      agrees_pick s active y_tree f t b first (if b then second else []) (λ z. z ≡ (if b then x else y)) (few_of g.faults active.faults s of_active.faults few) (of_y.faults ∙ sym of_active.faults) (of_f.faults ∙ sym of_active.faults)
+      (each_of g active.faults active of_active.faults of_active) (each_of g active.faults y_tree of_active.faults of_y) (each_of g active.faults f of_active.faults of_f) made of_b (by b refl)
+    where
+      by : (d : Bool) → b ≡ d → Agrees s (if d then second else []) (λ z. z ≡ (if d then x else y)) (if d then y_tree else f)
+      by true e = told e
+      by false e = other
+
+and_if : (b v : Bool) → (if b then v else false) ≡ (b && v)
+and_if true v = refl
+and_if false v = refl
+
+pub tested_told : (g : Graph) (c : ℕ) (wanted : Bool) (active value is never t : TreeState Bool) → IsTree g active → IsNumber (128 + c) g.faults number_of_value value → HasOnePathEach value.faults value.paths →
+    IsMap (λ x z. z ≡ same_bool wanted x) value is → HasOnePathEach is.faults is.paths → DoPathsPass (is_variable g) is.paths → IsConstant false g.faults never → HasOnePathEach never.faults never.paths → DoPathsPass (is_variable g) never.paths → IsPick active is never t → IsTestedTree g.faults c wanted active t
+tested_told g c wanted active value is never t of_active number each same each_is known_is none each_never known_never made s few b first of_b =
+    let v : Bool = get_or s.values c false in
+    let told : Agrees s (exactly (128 + c) (number_of s (128 + c)) ∷ []) (λ (d : Bool). number_of_value d ≡ number_of s (128 + c)) value =
+    agrees_number s (128 + c) g.faults number_of_value value few (number_le_top g.faults s few (128 + c)) number in
+    let here : Tells s (value_known s c ∷ []) (same_bool wanted v) is =
+    agrees_map s (λ x z. z ≡ same_bool wanted x) value is (value_known s c ∷ []) (λ (d : Bool). number_of_value d ≡ number_of s (128 + c)) (λ (d : Bool). d ≡ same_bool wanted v) (few_of g.faults value.faults s number.faults few) each same
+    (λ x z e f. f ∙ ap (same_bool wanted) (same_value x v (e ∙ number_at s c))) told in
+    subst (λ (d : Bool). Tells s (first ++ (if b then value_known s c ∷ [] else [])) d t) (and_if b (same_bool wanted v))
+    (picked_tells g active of_active s few b first of_b is never t (value_known s c ∷ []) (same_bool wanted v) false (same_tree g value is number.faults same.faults each_is known_is) (constant_tree g false g.faults never refl each_never none known_never) made
+    (λ e. here) (agrees_constant s false g.faults never (λ y. y ≡ false) refl none))
+
+pub sent_told : (g : Graph) (share : ShareState) (goes : TreeState Bool) (end : TreeState (Option ℕ)) (free : TreeState ℕ) (slots never t : TreeState (Option ℕ)) → IsTree g goes → IsTree g end → IsTree g free →
+    IsJoin (λ x y z. z ≡ slot_from share y x) end free slots → HasOnePathEach slots.faults slots.paths → DoPathsPass (is_variable g) slots.paths → IsConstant None g.faults never → HasOnePathEach never.faults never.paths → DoPathsPass (is_variable g) never.paths → IsPick goes slots never t → IsSentTree g.faults share goes end free t
+sent_told g share goes end free slots never t of_goes of_end of_free joined each_slots known_slots none each_never known_never made s few b first second third x y of_b told =
+    picked_tells g goes of_goes s few b first of_b slots never t (second ++ third) (slot_from share y x) None (same_tree g end slots of_end.faults joined.faults each_slots known_slots) (constant_tree g None g.faults never refl each_never none known_never) made
+    (λ e. let both = told e in agrees_join s (λ x y z. z ≡ slot_from share y x) end free slots second third (λ z. z ≡ x) (λ z. z ≡ y) (λ z. z ≡ slot_from share y x) (few_of g.faults end.faults s of_end.faults few)
+    (of_free.faults ∙ sym of_end.faults) (each_of g end.faults end of_end.faults of_end) (each_of g end.faults free of_end.faults of_free) joined (λ m n z d f i. i ∙ ap₂ (λ p q. slot_from share q p) d f) both.0 both.1)
+    (agrees_constant s None g.faults never (λ z. z ≡ None) refl none)
+
+pub free_told : (g : Graph) (turn : ℕ) (goes : TreeState Bool) (sent : TreeState (Option ℕ)) (free after t : TreeState ℕ) → IsTree g goes → IsTree g sent → IsTree g free → IsMap (λ x z. z ≡ time_later turn x) sent after → HasOnePathEach after.faults after.paths → DoPathsPass (is_variable g) after.paths →
+    IsPick goes after free t → IsFreeTree g.faults turn goes sent free t
+free_told g turn goes sent free after t of_goes of_sent of_free later each known made s few b first second x w v of_b sends stays =
+    let of_after = same_tree g sent after of_sent.faults later.faults each known in
+    agrees_pick s goes after free t b first second (λ z. z ≡ v) (few_of g.faults goes.faults s of_goes.faults few) (of_after.faults ∙ sym of_goes.faults) (of_free.faults ∙ sym of_goes.faults)
+    (each_of g goes.faults goes of_goes.faults of_goes) (each_of g goes.faults after of_goes.faults of_after) (each_of g goes.faults free of_goes.faults of_free) made of_b (picked b refl)
+  where
+    picked : (d : Bool) → b ≡ d → Agrees s second (λ z. z ≡ v) (if d then after else free)
+    picked true e = let both = sends e in subst (λ n. Agrees s second (λ z. z ≡ n) after) (sym both.1) (later_tells g turn sent after of_sent later s few second x both.0)
+    picked false e = let both = stays e in subst (λ n. Agrees s second (λ z. z ≡ n) free) (sym both.1) both.0

@@ -1,0 +1,7 @@
+use Rattle.std.proofs.Common.{ℕ, ◌≡◌, Option, All, length}
+use Rattle.cpg_expand.specs.Agreeing.{IsTree}
+use Rattle.cpg_tree.specs.Tree.{IsConstant}
+use Rattle.cpg_expand.proofs.forest.zeros.Given as goal
+
+abbrev pub invariant-loop : goal.invariant-loop
+invariant-loop l = (length l.trees.items ≡ l.counter) × All (IsTree l.problem) l.trees.items × All (IsConstant 0 l.problem.faults) l.trees.items

@@ -1,0 +1,6 @@
+use Rattle.cpg_base.specs.Graph.{process_count}
+use Rattle.cpg_order.proofs.Places.{length_order}
+use Rattle.cpg_expand.proofs.measuring.Peak.or.Goals as goal
+
+pub or_time-requires-clause-order : goal.or_time-requires-clause-order
+or_time-requires-clause-order c = length_order (process_count c.args.problem.now) c.args.urgency.now c.requires.order

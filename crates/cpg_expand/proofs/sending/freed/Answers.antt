@@ -1,0 +1,10 @@
+use Rattle.cpg_tree.specs.Variables.{is_variable}
+use Rattle.cpg_expand.proofs.TreesTold.{free_told, same_tree}
+use Rattle.cpg_expand.proofs.sending.freed.Goals as goal
+
+pub returns-clause-tree : goal.returns-clause-tree
+returns-clause-tree c = same_tree c.args.problem.now c.args.goes.now c.in_ok-freed.freed c.requires.goes.faults c.in_ok-freed.ensures.is.faults c.in_ok-freed.ensures.each
+    (c.in_ok-freed.ensures.pass (is_variable c.args.problem.now) c.requires.goes.known (c.in_ok-after.ensures.pass (is_variable c.args.problem.now) c.requires.sent.known) c.requires.free.known)
+
+pub returns-clause-free : goal.returns-clause-free
+returns-clause-free c = free_told c.args.problem.now c.args.round c.args.goes.now c.args.sent.now c.args.free.now c.in_ok-after.after c.in_ok-freed.freed c.requires.goes c.requires.sent c.requires.free c.in_ok-after.ensures.is c.in_ok-after.ensures.each (c.in_ok-after.ensures.pass (is_variable c.args.problem.now) c.requires.sent.known) c.in_ok-freed.ensures.is

@@ -1,0 +1,14 @@
+use Rattle.std.proofs.Common.{None, subst}
+use Rattle.cpg_tree.specs.Tree.{IsConstant}
+use Rattle.cpg_tree.specs.Variables.{is_variable}
+use Rattle.cpg_expand.proofs.TreesTold.{sent_told, same_tree}
+use Rattle.cpg_expand.proofs.sending.unfrozen_sent.Goals as goal
+
+pub returns-clause-tree : goal.returns-clause-tree
+returns-clause-tree c = same_tree c.args.problem.now c.args.goes.now c.in_ok-sent.sent c.requires.goes.faults c.in_ok-sent.ensures.is.faults c.in_ok-sent.ensures.each
+    (c.in_ok-sent.ensures.pass (is_variable c.args.problem.now) c.requires.goes.known (c.in_ok-slots.ensures.pass (is_variable c.args.problem.now) c.requires.end.known c.requires.free.known) (c.in_ok-never.ensures.pass (is_variable c.args.problem.now)))
+
+pub returns-clause-sent : goal.returns-clause-sent
+returns-clause-sent c = sent_told c.args.problem.now c.args.share c.args.goes.now c.args.end.now c.args.free.now c.in_ok-slots.slots c.in_ok-never.never c.in_ok-sent.sent c.requires.goes c.requires.end c.requires.free
+    c.in_ok-slots.ensures.is c.in_ok-slots.ensures.each (c.in_ok-slots.ensures.pass (is_variable c.args.problem.now) c.requires.end.known c.requires.free.known)
+    (subst (λ k. IsConstant None k c.in_ok-never.never) c.faults.ensures.faults c.in_ok-never.ensures.is) c.in_ok-never.ensures.each (c.in_ok-never.ensures.pass (is_variable c.args.problem.now)) c.in_ok-sent.ensures.is

@@ -1,0 +1,25 @@
+-- Trees of ends, and of when a node goes on.
+use Rattle.std.specs.Prelude.{ℕ, ◌+◌, ◌≡◌, Bool, true, false, List, [], ◌∷◌, ◌++◌, map, Option}
+use Rattle.cpg_base.specs.Duration.{duration}
+use Rattle.cpg_base.specs.Graph.{Graph}
+use Rattle.cpg_base.specs.Numbers.{numbers_below}
+use Rattle.cpg_order.specs.Scenario.{Scenario, number_of}
+use Rattle.cpg_cube.specs.declared.literal.Literal.{Literal}
+use Rattle.cpg_run.specs.Carried.{number_known}
+use Rattle.cpg_tree.specs.Space.{HasFew}
+use Rattle.cpg_tree.specs.Tree.{TreeState}
+use Rattle.cpg_expand.specs.Agreeing.{Tells}
+use Rattle.cpg_expand.specs.Values.{ended, time_later}
+
+-- how long an execution lasts with no fault, with one, and so on
+abbrev pub durations_of : Graph → ℕ → List ℕ
+durations_of g p = map (duration g p) (numbers_below (g.faults + 1))
+
+-- the ends of a process, by its starts and its count
+abbrev pub IsEndTree : Graph → ℕ → TreeState (Option ℕ) → TreeState (Option ℕ) → Type 0
+IsEndTree g p start t = (s : Scenario) → HasFew g.faults s → (literals : List Literal) (x : Option ℕ) → Tells s literals x start → Tells s (literals ++ number_known s p ∷ []) (ended (durations_of g p) (number_of s p) x) t
+
+-- the end where a process is active, and else the time for which it would have waited
+abbrev pub IsReadyTree : ℕ → TreeState Bool → TreeState (Option ℕ) → TreeState ℕ → TreeState ℕ → Type 0
+IsReadyTree k active end wait t = (s : Scenario) → HasFew k s → (b : Bool) (first second : List Literal) (x : Option ℕ) (w v : ℕ) → Tells s first b active →
+    (b ≡ true → Tells s second x end × (v ≡ time_later 0 x)) → (b ≡ false → Tells s second w wait × (v ≡ w)) → Tells s (first ++ second) v t

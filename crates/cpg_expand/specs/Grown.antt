@@ -1,0 +1,93 @@
+-- What is kept along an order: the trees so far tell each run under the frozen times so far, whatever rows hold what they list.
+use Rattle.std.specs.Prelude.{ℕ, ◌+◌, ◌≡◌, ◌≢◌, ◌<◌, ◌≤◌, ◌==◌, ◌⊎◌, true, false, List, Option, Some, None, All, Contains, filter, take, length, get_or}
+use Rattle.std.specs.List.{flat_map}
+use Rattle.cpg_base.specs.Graph.{Graph, process_count, item_count, node_of, is_frozen, is_sent, producer}
+use Rattle.cpg_order.specs.Scenario.{Scenario, IsScenario}
+use Rattle.cpg_order.specs.Urgency.{place}
+use Rattle.cpg_bus.specs.Plan.{queue_of}
+use Rattle.cpg_table.specs.Table.{Column}
+use Rattle.cpg_run.specs.Run.{Times, IsRun}
+use Rattle.cpg_run.specs.Frozen.{IsFrozenTime}
+use Rattle.cpg_run.specs.Progress.{IsReady, IsFree}
+use Rattle.cpg_run.specs.Carried.{row_at, carried, carried_at_end, passed, queued}
+use Rattle.cpg_run.proofs.Rising.{AreLow}
+use Rattle.cpg_tree.specs.Tree.{Path, TreeState, IsConstant}
+use Rattle.cpg_expand.specs.Agreeing.{Tells}
+use Rattle.cpg_expand.specs.Forest.{ForestState, HasTrees, times_of, ends_of}
+use Rattle.cpg_expand.specs.Sent.{sent_before, IsFreeOnce}
+use Rattle.cpg_expand.specs.Waiting.{ready_of, free_of}
+
+-- the processes before the place i that are on a node
+abbrev pub on_node : Graph → List ℕ → ℕ → ℕ → List ℕ
+on_node g order i node = filter (λ q. node_of g q == node) (take i order)
+
+-- rows in which what is sent for the processes before the place i has the columns that its tree lists
+pub record RowsHold (g : Graph) (order : List ℕ) (i : ℕ) (f : ForestState) (rows : List (List Column)) : Type 0 where
+  pub sends : (x : ℕ) → x < item_count g → process_count g ≤ x → place order (producer g x) < i → (path : Path (Option ℕ)) (time : ℕ) → Contains (times_of g f x).paths path → path.1 ≡ Some time →
+      (c : Column) × Contains (row_at rows x) c × (c.cube ≡ path.0)
+
+-- a tree tells when a node is ready, and no more than what the node carries on
+pub record IsReadyLine (g : Graph) (order : List ℕ) (rows : List (List Column)) (s : Scenario) (t : Times) (i node : ℕ) (tree : TreeState ℕ) : Type 0 where
+  pub time : ℕ
+  pub is : IsReady g order s t i node time
+  pub tells : Tells s (flat_map (passed g rows s) (on_node g order i node)) time tree
+
+-- a tree tells when its slots are free, and no more than what is sent leaves to those behind it
+pub record IsFreeLine (g : Graph) (order : List ℕ) (rows : List (List Column)) (s : Scenario) (t : Times) (i node : ℕ) (tree : TreeState ℕ) : Type 0 where
+  pub time : ℕ
+  pub is : IsFree g order s t i node time
+  pub tells : Tells s (flat_map (queued g order rows s) (sent_before g order i node)) time tree
+
+-- in one scenario with its run the trees tell the times and ends before the place i, and what the nodes wait for there
+pub record Lines (g : Graph) (order : List ℕ) (rows : List (List Column)) (s : Scenario) (t : Times) (i : ℕ) (f : ForestState) : Type 0 where
+  pub times : (x : ℕ) → x < item_count g → place order (producer g x) < i → Tells s (carried g order rows s x) (get_or t.times x None) (times_of g f x)
+  pub ends : (q : ℕ) → q < process_count g → place order q < i → Tells s (carried_at_end g order rows s q) (get_or t.ends q None) (ends_of g f q)
+  pub ready : (node : ℕ) → node < length g.nodes → IsReadyLine g order rows s t i node (ready_of g f node)
+  pub free : (node : ℕ) → node < length g.nodes → IsFreeLine g order rows s t i node (free_of g f node)
+
+-- an item of a process before the place i
+abbrev pub IsEarlier : Graph → List ℕ → ℕ → ℕ → Type 0
+IsEarlier g order i x = place order (producer g x) < i
+
+-- one of an earlier process, the start of this one, or one of the first k of what it sends
+abbrev pub IsDone : Graph → List ℕ → ℕ → ℕ → ℕ → Type 0
+IsDone g order p k x = IsEarlier g order (place order p) x ⊎ ((x ≡ p) ⊎ Contains (take k (queue_of g p)) x)
+
+-- and they tell the start and the end of a process and the times of the first k items that it sends
+pub record SendLines (g : Graph) (order : List ℕ) (rows : List (List Column)) (s : Scenario) (t : Times) (p k : ℕ) (f : ForestState) : Type 0 where
+  pub times : (x : ℕ) → x < item_count g → IsDone g order p k x → Tells s (carried g order rows s x) (get_or t.times x None) (times_of g f x)
+  pub ends : (q : ℕ) → q < process_count g → place order q < place order p + 1 → Tells s (carried_at_end g order rows s q) (get_or t.ends q None) (ends_of g f q)
+  pub ready : (node : ℕ) → node < length g.nodes → IsReadyLine g order rows s t (place order p + 1) node (ready_of g f node)
+  pub here : IsFreeOnce g order rows s t p k f
+  pub free : (node : ℕ) → node < length g.nodes → node ≢ node_of g p → IsFreeLine g order rows s t (place order p) node (free_of g f node)
+
+-- the frozen items of these have their frozen times, and no other item has one
+pub record AreSettledOf (g : Graph) (order : List ℕ) (Done : ℕ → Type 0) (frozen : List (Option ℕ)) : Type 0 where
+  pub count : length frozen ≡ item_count g
+  pub each : (x : ℕ) → x < item_count g → is_frozen g x ≡ true → Done x → IsFrozenTime g order frozen x
+  pub others : (x : ℕ) → (x < item_count g → is_frozen g x ≡ true → Done x → ⊥) → get_or frozen x None ≡ None
+  pub low : AreLow 0 g order frozen
+
+-- an edge within a node has no times
+abbrev pub LeavesUnsent : Graph → ForestState → Type 0
+LeavesUnsent g f = (x : ℕ) → process_count g ≤ x → x < item_count g → is_sent g x ≡ false → IsConstant None g.faults (times_of g f x)
+
+-- the trees are grown up to the place i
+pub record IsGrown (g : Graph) (order : List ℕ) (i : ℕ) (frozen : List (Option ℕ)) (f : ForestState) : Type 0 where
+  pub trees : HasTrees g f
+  pub unsent : LeavesUnsent g f
+  pub settled : AreSettledOf g order (IsEarlier g order i) frozen
+  pub lines : (rows : List (List Column)) → RowsHold g order i f rows → (s : Scenario) → IsScenario g s → (t : Times) → IsRun g order frozen s t → Lines g order rows s t i f
+
+-- and a process has begun and sent the first k of its items
+pub record IsSending (g : Graph) (order : List ℕ) (p k : ℕ) (frozen : List (Option ℕ)) (f : ForestState) : Type 0 where
+  pub trees : HasTrees g f
+  pub unsent : LeavesUnsent g f
+  pub settled : AreSettledOf g order (IsDone g order p k) frozen
+  pub lines : (rows : List (List Column)) → RowsHold g order (place order p) f rows → (s : Scenario) → IsScenario g s → (t : Times) → IsRun g order frozen s t → SendLines g order rows s t p k f
+
+-- no item has times, and each node is ready and its slots are free from the beginning
+pub record IsBare (g : Graph) (f : ForestState) : Type 0 where
+  pub times : All (IsConstant None g.faults) f.times
+  pub ready : All (IsConstant 0 g.faults) f.ready
+  pub free : All (IsConstant 0 g.faults) f.free

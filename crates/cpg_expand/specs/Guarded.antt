@@ -1,0 +1,88 @@
+-- Trees down guards.
+use Rattle.std.specs.Prelude.{ℕ, ◌<◌, max, Bool, false, List, [], ◌∷◌, ◌++◌, Option, Some, None, map, if◌then◌else◌, Contains, get_or}
+use Rattle.std.specs.List.{flat_map}
+use Rattle.cpg_base.specs.Numbers.{greatest}
+use Rattle.cpg_base.specs.Graph.{Graph, value_variable}
+use Rattle.cpg_base.specs.Activity.{is_active}
+use Rattle.cpg_base.specs.declared.activation.Activation.{Activation}
+use Rattle.cpg_base.specs.declared.activation.Activation.TheVariants.{Inactive, Plain, By}
+use Rattle.cpg_order.specs.Guard.{Guard, Leaf, Test, outcome_at, way}
+use Rattle.cpg_order.specs.Scenario.{Scenario}
+use Rattle.cpg_cube.specs.declared.literal.Literal.{Literal}
+use Rattle.cpg_run.specs.Carried.{number_known}
+use Rattle.cpg_tree.specs.Space.{HasFew}
+use Rattle.cpg_tree.specs.Tree.{TreeState}
+use Rattle.cpg_expand.specs.Agreeing.{Tells}
+use Rattle.cpg_expand.specs.Forest.{ForestState, heard_tree, heard_delay, input_tree, input_delay}
+use Rattle.cpg_expand.specs.Values.{time_later}
+
+-- the value of a condition
+abbrev pub value_known : Scenario → ℕ → Literal
+value_known s c = number_known s (value_variable c)
+
+-- the values of these conditions
+abbrev pub values_known : Scenario → List ℕ → List Literal
+values_known s cs = map (value_known s) cs
+
+-- the tree that the value of a condition picks
+abbrev pub PicksByValue : {T : Type 0} → ℕ → ℕ → TreeState T → TreeState T → TreeState T → Type 0
+PicksByValue {T} k c high low t = (s : Scenario) → HasFew k s → (literals : List Literal) (x : T) → Tells s literals x (if get_or s.values c false then high else low) → Tells s (value_known s c ∷ literals) x t
+
+-- where a guard comes to an activation
+abbrev pub IsActiveTree : ℕ → Guard → TreeState Bool → Type 0
+IsActiveTree k guard t = (s : Scenario) → HasFew k s → Tells s (values_known s (way guard s.values)) (is_active (outcome_at guard s.values)) t
+
+-- what is told of these conditions when their values are heard
+abbrev pub told_of : Scenario → (ℕ → List Literal) → List ℕ → List Literal
+told_of s tell cs = flat_map (λ c. tell c ++ value_known s c ∷ []) cs
+
+-- when these are there, each a delay after its time
+abbrev pub latest_of : (ℕ → ℕ) → (ℕ → Option ℕ) → List ℕ → ℕ
+latest_of delay time xs = greatest (map (λ x. time_later (delay x) (time x)) xs)
+
+-- when a node has heard all that a guard tests, by what tells when it hears each condition on the way
+abbrev pub IsHeardTree : Graph → ForestState → ℕ → Guard → TreeState ℕ → Type 0
+IsHeardTree g f node guard t = (s : Scenario) → HasFew g.faults s → (tell : ℕ → List Literal) (time : ℕ → Option ℕ) →
+    ((c : ℕ) → Contains (way guard s.values) c → Tells s (tell c) (time c) (heard_tree g f node c)) →
+    Tells s (told_of s tell (way guard s.values)) (latest_of (heard_delay g node) time (way guard s.values)) t
+
+-- when these inputs are there too
+abbrev pub IsWithInputs : Graph → ForestState → TreeState ℕ → List ℕ → TreeState ℕ → Type 0
+IsWithInputs g f wait edges t = (s : Scenario) → HasFew g.faults s → (base : List Literal) (x : ℕ) → Tells s base x wait → (tell : ℕ → List Literal) (time : ℕ → Option ℕ) →
+    ((e : ℕ) → Contains edges e → Tells s (tell e) (time e) (input_tree g f e)) →
+    Tells s (base ++ flat_map tell edges) (max x (latest_of (input_delay g) time edges)) t
+
+-- the inputs that a process with an activation waits for
+abbrev pub awaited : List ℕ → Activation → List ℕ
+awaited inputs Inactive = []
+awaited inputs Plain = inputs
+awaited inputs (By e) = e ∷ []
+
+-- what its start says, and the start
+abbrev pub start_says : List Literal → (ℕ → List Literal) → List ℕ → Activation → List Literal
+start_says base tell inputs a = if is_active a then base ++ flat_map tell (awaited inputs a) else []
+
+abbrev pub start_at : ℕ → ℕ → (ℕ → ℕ) → (ℕ → Option ℕ) → List ℕ → Activation → Option ℕ
+start_at wait release delay time inputs a = if is_active a then Some (max (max wait release) (latest_of delay time (awaited inputs a))) else None
+
+abbrev pub IsStartBy : Graph → ForestState → TreeState ℕ → ℕ → List ℕ → Activation → TreeState (Option ℕ) → Type 0
+IsStartBy g f wait release inputs a t = (s : Scenario) → HasFew g.faults s → (base : List Literal) (x : ℕ) → Tells s base x wait → (tell : ℕ → List Literal) (time : ℕ → Option ℕ) →
+    ((e : ℕ) → Contains (awaited inputs a) e → Tells s (tell e) (time e) (input_tree g f e)) →
+    Tells s (start_says base tell inputs a) (start_at x release (input_delay g) time inputs a) t
+
+-- the starts of a process with a guard
+abbrev pub IsStartTree : Graph → ForestState → TreeState ℕ → ℕ → List ℕ → Guard → TreeState (Option ℕ) → Type 0
+IsStartTree g f wait release inputs guard t = (s : Scenario) → HasFew g.faults s → (base : List Literal) (x : ℕ) → Tells s base x wait → (tell : ℕ → List Literal) (time : ℕ → Option ℕ) →
+    ((e : ℕ) → Contains (awaited inputs (outcome_at guard s.values)) e → Tells s (tell e) (time e) (input_tree g f e)) →
+    Tells s (values_known s (way guard s.values) ++ start_says base tell inputs (outcome_at guard s.values)) (start_at x release (input_delay g) time inputs (outcome_at guard s.values)) t
+
+-- an activation by an input below a number, if by one
+abbrev pub IsByBelow : ℕ → Activation → Type 0
+IsByBelow n Inactive = Unit {0}
+IsByBelow n Plain = Unit {0}
+IsByBelow n (By e) = e < n
+
+-- so is each leaf's
+abbrev pub LeadsBelow : ℕ → Guard → Type 0
+LeadsBelow n (Leaf a) = IsByBelow n a
+LeadsBelow n (Test c off on) = LeadsBelow n off × LeadsBelow n on

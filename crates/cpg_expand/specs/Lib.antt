@@ -1,0 +1,16 @@
+pub mod Agreeing
+pub mod TreeRows
+pub mod Values
+pub mod Forest
+pub mod Guarded
+pub mod Later
+pub mod Ending
+pub mod Waiting
+pub mod Freezing
+pub mod Sending
+pub mod MadeRows
+pub mod Told
+pub mod Grown
+pub mod Sent
+pub mod Begun
+pub mod Peaks

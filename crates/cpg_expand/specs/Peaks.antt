@@ -1,0 +1,106 @@
+-- The greatest of times that processes have in scenarios, the least scenario that has it, and the least process that has it there.
+use Rattle.std.specs.Prelude.{ℕ, ◌≡◌, ◌==◌, ◌≤◌, ◌<◌, ◌⊎◌, nat_lt, Bool, true, List, Option, Some, None, All, get_or, if◌then◌else◌}
+use Rattle.cpg_base.specs.Graph.{Graph, process_count}
+use Rattle.cpg_base.specs.Duration.{due}
+use Rattle.cpg_base.specs.Scenario.{zero_scenario}
+use Rattle.cpg_order.specs.Scenario.{Scenario, IsScenario, IsLeast, is_before}
+use Rattle.cpg_order.specs.Urgency.{IsTopological}
+use Rattle.cpg_run.specs.Finish.{IsWorst, IsExcess}
+use Rattle.cpg_run.specs.Run.{Times, IsRun}
+use Rattle.cpg_tree.specs.Greatest.{HasValue, IsGreatestOf}
+use Rattle.cpg_tree.specs.Tree.{Path, TreeState, IsOn, IsMap}
+use Rattle.cpg_expand.specs.Agreeing.{IsTree}
+use Rattle.cpg_expand.specs.Forest.{no_tree}
+use Rattle.cpg_expand.specs.Values.{time_past}
+use Rattle.cpg_expand.specs.declared.measuring.Peak.{Peak}
+
+-- ---- what processes have in a scenario
+
+abbrev pub tree_at : Graph → List (TreeState (Option ℕ)) → ℕ → TreeState (Option ℕ)
+tree_at g trees q = get_or trees q (no_tree g.faults)
+
+-- the process ends at the time
+abbrev pub EndsAt : Graph → List (TreeState (Option ℕ)) → ℕ → ℕ → Scenario → Type 0
+EndsAt g trees q time s = HasValue (tree_at g trees q).paths (Some time) s
+
+-- the process ends so far past its due
+abbrev pub EndsPast : Graph → List (TreeState (Option ℕ)) → ℕ → ℕ → Scenario → Type 0
+EndsPast g trees q excess s = (end : ℕ) × EndsAt g trees q end s × (time_past (due g q) (Some end) ≡ Some excess)
+
+-- each tree tells when its process ends in every run
+abbrev pub TellEnds : Graph → List ℕ → List (Option ℕ) → List (TreeState (Option ℕ)) → Type 0
+TellEnds g order frozen trees = (s : Scenario) (t : Times) → IsScenario g s → IsRun g order frozen s t → (q : ℕ) → q < process_count g → (x : Path (Option ℕ)) → IsOn (tree_at g trees q).paths s x → x.1 ≡ get_or t.ends q None
+
+-- ---- peaks
+
+-- one of the first n processes has the time in the scenario
+abbrev pub SomeHas : ℕ → (ℕ → ℕ → Scenario → Type 0) → ℕ → Scenario → Type 0
+SomeHas n has time s = (q : ℕ) × (q < n) × has q time s
+
+-- none of the first n processes has a time in any scenario
+pub record IsNoPeak (g : Graph) (n : ℕ) (has : ℕ → ℕ → Scenario → Type 0) (peak : Peak) : Type 0 where
+  pub time : peak.time ≡ 0
+  pub scenario : peak.scenario ≡ zero_scenario g
+  pub none : (q time : ℕ) (s : Scenario) → q < n → IsScenario g s → has q time s → ⊥
+
+-- the time of the peak is the greatest, its scenario the least that has it, and p the least process that has it there
+pub record IsPeakOf (g : Graph) (urgency : List ℕ) (n : ℕ) (has : ℕ → ℕ → Scenario → Type 0) (peak : Peak) (p : ℕ) : Type 0 where
+  pub most : (q time : ℕ) (s : Scenario) → q < n → IsScenario g s → has q time s → time ≤ peak.time
+  pub least : IsLeast g urgency (SomeHas n has peak.time) peak.scenario
+  pub there : p < n
+  pub is : has p peak.time peak.scenario
+  pub first : (q : ℕ) → q < p → has q peak.time peak.scenario → ⊥
+
+abbrev pub IsPeakBy : Graph → List ℕ → ℕ → (ℕ → ℕ → Scenario → Type 0) → Peak → Option ℕ → Type 0
+IsPeakBy g urgency n has peak None = IsNoPeak g n has peak
+IsPeakBy g urgency n has peak (Some p) = IsPeakOf g urgency n has peak p
+
+-- of the first n processes
+abbrev pub IsPeak : Graph → List ℕ → ℕ → (ℕ → ℕ → Scenario → Type 0) → Peak → Type 0
+IsPeak g urgency n has peak = IsPeakBy g urgency n has peak peak.process
+
+-- ---- one process more
+
+-- whether a time that a later process has goes before a peak: it is greater, or its scenario comes first
+abbrev pub goes_before_by : Graph → List ℕ → Peak → ℕ → Scenario → Option ℕ → Bool
+goes_before_by g urgency peak time s None = true
+goes_before_by g urgency peak time s (Some p) = if peak.time == time then is_before g urgency s peak.scenario else nat_lt peak.time time
+
+abbrev pub goes_before : Graph → List ℕ → Peak → ℕ → Scenario → Bool
+goes_before g urgency peak time s = goes_before_by g urgency peak time s peak.process
+
+abbrev pub or_time : Graph → List ℕ → Peak → ℕ → Scenario → ℕ → Peak
+or_time g urgency peak time s p = if goes_before g urgency peak time s then record { time = time; scenario = s; process = Some p } else peak
+
+-- no scenario has a time, and the peak stays
+pub record IsSamePeak (paths : List (Path (Option ℕ))) (old new : Peak) : Type 0 where
+  pub none : All (λ p. p.1 ≡ None) paths
+  pub same : new ≡ old
+
+-- the greatest time, where it goes before the peak
+pub record IsLaterPeak (g : Graph) (urgency : List ℕ) (paths : List (Path (Option ℕ))) (p : ℕ) (old new : Peak) : Type 0 where
+  pub time : ℕ
+  pub scenario : Scenario
+  pub greatest : IsGreatestOf g urgency paths time scenario
+  pub is : new ≡ or_time g urgency old time scenario p
+
+-- with the times of the paths too
+abbrev pub IsNextPeak : Graph → List ℕ → List (Path (Option ℕ)) → ℕ → Peak → Peak → Type 0
+IsNextPeak g urgency paths p old new = IsSamePeak paths old new ⊎ IsLaterPeak g urgency paths p old new
+
+-- with how far the times of the tree are past the due of the process too
+pub record IsNextExcess (g : Graph) (urgency : List ℕ) (end : TreeState (Option ℕ)) (p : ℕ) (old new : Peak) : Type 0 where
+  pub tree : TreeState (Option ℕ)
+  pub of : IsTree g tree
+  pub made : IsMap (λ x z. z ≡ time_past (due g p) x) end tree
+  pub next : IsNextPeak g urgency tree.paths p old new
+
+-- ---- measures of runs
+
+-- the greatest finish, under any order and frozen times whose runs end as the trees tell
+abbrev pub IsWorstOfTrees : Graph → List ℕ → List (TreeState (Option ℕ)) → Peak → Type 0
+IsWorstOfTrees g urgency trees peak = (order : List ℕ) (frozen : List (Option ℕ)) → IsTopological g order → TellEnds g order frozen trees → IsWorst g urgency order frozen peak.time peak.scenario peak.process
+
+-- the greatest excess, likewise
+abbrev pub IsExcessOfTrees : Graph → List ℕ → List (TreeState (Option ℕ)) → Peak → Type 0
+IsExcessOfTrees g urgency trees peak = (order : List ℕ) (frozen : List (Option ℕ)) → IsTopological g order → TellEnds g order frozen trees → IsExcess g urgency order frozen peak.time peak.scenario peak.process

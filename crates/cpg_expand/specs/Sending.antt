@@ -1,0 +1,28 @@
+-- Trees of what a process sends.
+use Rattle.std.specs.Prelude.{ℕ, ◌≡◌, ◌-◌, ◌&&◌, nat_lt, Bool, true, false, List, [], ◌∷◌, ◌++◌, Option, Some, None, get_or, slice_get, if◌then◌else◌}
+use Rattle.cpg_base.specs.Graph.{Graph, process_count, condition_of}
+use Rattle.cpg_base.specs.Numbers.{same_bool}
+use Rattle.cpg_base.specs.declared.process.Edge.{Edge}
+use Rattle.cpg_bus.specs.Share.{ShareState}
+use Rattle.cpg_order.specs.Scenario.{Scenario}
+use Rattle.cpg_cube.specs.declared.literal.Literal.{Literal}
+use Rattle.cpg_tree.specs.Space.{HasFew}
+use Rattle.cpg_tree.specs.Tree.{TreeState}
+use Rattle.cpg_expand.specs.Agreeing.{Tells}
+use Rattle.cpg_expand.specs.Guarded.{value_known}
+use Rattle.cpg_expand.specs.Values.{slot_from, time_later}
+
+-- where a tree is true and a condition has a value
+abbrev pub IsTestedTree : ℕ → ℕ → Bool → TreeState Bool → TreeState Bool → Type 0
+IsTestedTree k c wanted active t = (s : Scenario) → HasFew k s → (b : Bool) (first : List Literal) → Tells s first b active →
+    Tells s (first ++ (if b then value_known s c ∷ [] else [])) (b && same_bool wanted (get_or s.values c false)) t
+
+-- the first free slots where an item is sent
+abbrev pub IsSentTree : ℕ → ShareState → TreeState Bool → TreeState (Option ℕ) → TreeState ℕ → TreeState (Option ℕ) → Type 0
+IsSentTree k share goes end free t = (s : Scenario) → HasFew k s → (b : Bool) (first second third : List Literal) (x : Option ℕ) (y : ℕ) → Tells s first b goes →
+    (b ≡ true → Tells s second x end × Tells s third y free) → Tells s (first ++ (if b then second ++ third else [])) (if b then slot_from share y x else None) t
+
+-- when the slots are free then: a round after what is sent
+abbrev pub IsFreeTree : ℕ → ℕ → TreeState Bool → TreeState (Option ℕ) → TreeState ℕ → TreeState ℕ → Type 0
+IsFreeTree k turn goes sent free t = (s : Scenario) → HasFew k s → (b : Bool) (first second : List Literal) (x : Option ℕ) (w v : ℕ) → Tells s first b goes →
+    (b ≡ true → Tells s second x sent × (v ≡ time_later turn x)) → (b ≡ false → Tells s second w free × (v ≡ w)) → Tells s (first ++ second) v t

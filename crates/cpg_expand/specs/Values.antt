@@ -1,0 +1,26 @@
+-- What becomes of the values of trees.
+use Rattle.std.specs.Prelude.{ℕ, ◌+◌, ◌-◌, ◌^◌, min, max, nat_lt, Bool, List, Option, Some, None, get_or, unwrap_or, if◌then◌else◌}
+use Rattle.cpg_bus.specs.Share.{ShareState, next_of}
+
+-- a time or 0, later by a delay, as far as there are numbers
+abbrev pub time_later : ℕ → Option ℕ → ℕ
+time_later delay time = min (unwrap_or time 0 + delay) (2 ^ 64 - 1)
+
+-- the time, where it is so
+abbrev pub time_if : ℕ → Bool → Option ℕ
+time_if time is = if is then Some time else None
+
+-- the end of an execution with so many faults
+abbrev pub ended : List ℕ → ℕ → Option ℕ → Option ℕ
+ended durations faults None = None
+ended durations faults (Some start) = Some (min (start + get_or durations faults 0) (2 ^ 64 - 1))
+
+-- the first slot at the time or later that is free
+abbrev pub slot_from : ShareState → ℕ → Option ℕ → Option ℕ
+slot_from share free None = None
+slot_from share free (Some time) = if nat_lt time (2 ^ 59) then Some (max (next_of share time) free) else None
+
+-- how far a time is past its due, where it is
+abbrev pub time_past : ℕ → Option ℕ → Option ℕ
+time_past due None = None
+time_past due (Some time) = if nat_lt due time then Some (time - due) else None

@@ -1,0 +1,23 @@
+-- What a start waits for on its node.
+use Rattle.std.specs.Prelude.{ℕ, max, List, ◌++◌, Option, Contains, get_or}
+use Rattle.cpg_base.specs.Graph.{Graph}
+use Rattle.cpg_order.specs.Guard.{Guard, way}
+use Rattle.cpg_order.specs.Scenario.{Scenario}
+use Rattle.cpg_cube.specs.declared.literal.Literal.{Literal}
+use Rattle.cpg_tree.specs.Space.{HasFew}
+use Rattle.cpg_tree.specs.Tree.{TreeState}
+use Rattle.cpg_expand.specs.Agreeing.{Tells}
+use Rattle.cpg_expand.specs.Forest.{ForestState, no_tree, heard_tree, heard_delay}
+use Rattle.cpg_expand.specs.Guarded.{told_of, latest_of}
+
+abbrev pub ready_of : Graph → ForestState → ℕ → TreeState ℕ
+ready_of g f node = get_or f.ready node (no_tree g.faults)
+
+abbrev pub free_of : Graph → ForestState → ℕ → TreeState ℕ
+free_of g f node = get_or f.free node (no_tree g.faults)
+
+-- until the node is ready and has heard all that a guard tests
+abbrev pub IsWaitTree : Graph → ForestState → ℕ → Guard → TreeState ℕ → Type 0
+IsWaitTree g f node guard t = (s : Scenario) → HasFew g.faults s → (base : List Literal) (x : ℕ) → Tells s base x (ready_of g f node) → (tell : ℕ → List Literal) (time : ℕ → Option ℕ) →
+    ((c : ℕ) → Contains (way guard s.values) c → Tells s (tell c) (time c) (heard_tree g f node c)) →
+    Tells s (base ++ told_of s tell (way guard s.values)) (max x (latest_of (heard_delay g node) time (way guard s.values))) t

@@ -1,0 +1,181 @@
+//! Trees down guards.
+ghost use Rattle.std.specs.Prelude.{◌≡◌, ◌<◌, ◌≤◌, All, IfOk, true};
+ghost use Rattle.cpg_base.specs.Graph.{condition_count, edge_count};
+ghost use Rattle.cpg_expand.specs.Agreeing.{IsTree};
+ghost use Rattle.cpg_expand.specs.Forest.{HasTrees};
+ghost use Rattle.cpg_expand.specs.Guarded.{IsActiveTree, IsHeardTree, IsStartBy, IsStartTree, IsWithInputs, LeadsBelow, PicksByValue, IsByBelow};
+ghost use Rattle.cpg_guard.specs.Trees.{TestsBelow};
+
+use crate::forest::Forest;
+use crate::values::{released, some};
+use cpg_base::{Activation, OutOfMemory, Problem};
+use cpg_guard::{GuardTop, GuardTree};
+use cpg_tree::{Tree, value};
+use std::alloc::Global;
+
+/// The tree that the value of a condition picks.
+fn by_value<T: Copy + Eq>(
+    alloc: Global,
+    problem: &Problem,
+    condition: u32,
+    yes: &Tree<T>,
+    no: &Tree<T>,
+) -> Result<Tree<T>, OutOfMemory>
+    requires equal { (x y : T) → T.eq x y ≡ true → x ≡ y }
+    requires few { condition_count problem.now ≤ 32 }
+    requires condition { condition < condition_count problem.now }
+    requires yes { IsTree problem.now yes.now }
+    requires no { IsTree problem.now no.now }
+    ensures tree { IfOk result (IsTree problem.now) }
+    ensures picks { IfOk result (PicksByValue problem.now.faults condition yes.now no.now) }
+{
+    let value = value(alloc, condition, problem.faults())?;
+    let picked = Tree::pick(&value, yes, no)?;
+    Ok(picked)
+}
+
+/// Where a guard comes to an activation.
+pub(crate) fn active(
+    alloc: Global,
+    problem: &Problem,
+    guard: &GuardTree,
+) -> Result<Tree<bool>, OutOfMemory>
+    requires few { condition_count problem.now ≤ 32 }
+    requires tests { TestsBelow (condition_count problem.now) guard.now }
+    ensures tree { IfOk result (IsTree problem.now) }
+    ensures active { IfOk result (IsActiveTree problem.now.faults guard.now) }
+{
+    match guard.top() {
+        GuardTop::Leaf(activation) => {
+            let constant = Tree::constant(alloc, activation.is_active(), problem.faults())?;
+            Ok(constant)
+        }
+        GuardTop::Test { condition, no, yes } => {
+            let no = active(alloc, problem, no)?;
+            let yes = active(alloc, problem, yes)?;
+            let picked = by_value(alloc, problem, condition, &yes, &no)?;
+            Ok(picked)
+        }
+    }
+}
+
+/// When a node has heard each condition that a guard tests.
+pub(crate) fn heard(
+    alloc: Global,
+    problem: &Problem,
+    forest: &Forest,
+    node: u32,
+    guard: &GuardTree,
+) -> Result<Tree<u64>, OutOfMemory>
+    requires few { condition_count problem.now ≤ 32 }
+    requires forest { HasTrees problem.now forest.now }
+    requires tests { TestsBelow (condition_count problem.now) guard.now }
+    ensures tree { IfOk result (IsTree problem.now) }
+    ensures heard { IfOk result (IsHeardTree problem.now forest.now node guard.now) }
+{
+    match guard.top() {
+        GuardTop::Leaf(_) => {
+            let constant = Tree::constant(alloc, 0, problem.faults())?;
+            Ok(constant)
+        }
+        GuardTop::Test { condition, no, yes } => {
+            let no = heard(alloc, problem, forest, node, no)?;
+            let yes = heard(alloc, problem, forest, node, yes)?;
+            let further = by_value(alloc, problem, condition, &yes, &no)?;
+            let there = forest.heard_there(problem, node, condition)?;
+            let both = there.max(&further)?;
+            Ok(both)
+        }
+    }
+}
+
+/// When these inputs are there too.
+fn with_inputs(
+    problem: &Problem,
+    forest: &Forest,
+    wait: Tree<u64>,
+    edges: &[u32],
+) -> Result<Tree<u64>, OutOfMemory>
+    requires forest { HasTrees problem.now forest.now }
+    requires wait { IsTree problem.now wait }
+    requires edges { All (λ e. e < edge_count problem.now) edges.now }
+    ensures tree { IfOk result (IsTree problem.now) }
+    ensures inputs { IfOk result (IsWithInputs problem.now forest.now wait edges.now) }
+{
+    let Some((edge, others)) = edges.split_first() else {
+        return Ok(wait);
+    };
+    let there = forest.input_there(problem, *edge)?;
+    let both = wait.max(&there)?;
+    let all = with_inputs(problem, forest, both, others)?;
+    Ok(all)
+}
+
+/// The starts of a process with an activation that waits until a time, its release and for its inputs.
+fn start_by(
+    alloc: Global,
+    problem: &Problem,
+    forest: &Forest,
+    wait: &Tree<u64>,
+    release: u64,
+    inputs: &[u32],
+    activation: Activation,
+) -> Result<Tree<Option<u64>>, OutOfMemory>
+    requires forest { HasTrees problem.now forest.now }
+    requires wait { IsTree problem.now wait.now }
+    requires inputs { All (λ e. e < edge_count problem.now) inputs.now }
+    requires by { IsByBelow (edge_count problem.now) activation }
+    ensures tree { IfOk result (IsTree problem.now) }
+    ensures start { IfOk result (IsStartBy problem.now forest.now wait.now release inputs.now activation) }
+{
+    match activation {
+        Activation::Inactive => {
+            let constant = Tree::constant(alloc, None, problem.faults())?;
+            Ok(constant)
+        }
+        Activation::Plain => {
+            let released = released(wait, release)?;
+            let both = with_inputs(problem, forest, released, inputs)?;
+            let start = some(&both)?;
+            Ok(start)
+        }
+        Activation::By(edge) => {
+            let released = released(wait, release)?;
+            let both = with_inputs(problem, forest, released, &[edge])?;
+            let start = some(&both)?;
+            Ok(start)
+        }
+    }
+}
+
+/// The starts of a process with a guard that waits until a time, its release and for its inputs.
+pub(crate) fn start(
+    alloc: Global,
+    problem: &Problem,
+    forest: &Forest,
+    wait: &Tree<u64>,
+    release: u64,
+    inputs: &[u32],
+    guard: &GuardTree,
+) -> Result<Tree<Option<u64>>, OutOfMemory>
+    requires forest { HasTrees problem.now forest.now }
+    requires wait { IsTree problem.now wait.now }
+    requires few { condition_count problem.now ≤ 32 }
+    requires tests { TestsBelow (condition_count problem.now) guard.now }
+    requires inputs { All (λ e. e < edge_count problem.now) inputs.now }
+    requires leaves { LeadsBelow (edge_count problem.now) guard.now }
+    ensures tree { IfOk result (IsTree problem.now) }
+    ensures start { IfOk result (IsStartTree problem.now forest.now wait.now release inputs.now guard.now) }
+{
+    match guard.top() {
+        GuardTop::Leaf(activation) => start_by(
+            alloc, problem, forest, wait, release, inputs, activation,
+        ),
+        GuardTop::Test { condition, no, yes } => {
+            let no = start(alloc, problem, forest, wait, release, inputs, no)?;
+            let yes = start(alloc, problem, forest, wait, release, inputs, yes)?;
+            let picked = by_value(alloc, problem, condition, &yes, &no)?;
+            Ok(picked)
+        }
+    }
+}

@@ -1,0 +1,159 @@
+//! The greatest finish and the greatest excess.
+ghost use Rattle.std.specs.Prelude.{◌≡◌, ◌<◌, All, IfOk, IsPermutation, None, length};
+ghost use Rattle.cpg_base.specs.Graph.{process_count};
+ghost use Rattle.cpg_base.specs.Numbers.{numbers_below};
+ghost use Rattle.cpg_base.specs.Scenario.{zero_scenario};
+ghost use Rattle.cpg_expand.specs.Agreeing.{IsTree};
+ghost use Rattle.cpg_expand.specs.Peaks.{EndsAt, EndsPast, IsNextExcess, IsNextPeak, IsPeak, IsWorstOfTrees, IsExcessOfTrees, goes_before, or_time};
+ghost use Rattle.cpg_order.specs.Scenario.{IsScenario};
+
+use crate::values::past;
+use cpg_base::{OutOfMemory, Problem, Scenario};
+use cpg_order::{Order, is_before};
+use cpg_tree::Tree;
+use std::alloc::Global;
+
+/// The greatest of a number of time units over all scenarios, the least scenario that has it, and the least process that
+/// has it there.
+#[derive(Drop)]
+pub(crate) struct Peak {
+    pub(crate) time: u64,
+    pub(crate) scenario: Scenario,
+    pub(crate) process: Option<u32>,
+}
+
+impl Peak {
+    /// No time of any process.
+    fn none(alloc: Global, problem: &Problem) -> Result<Peak, OutOfMemory>
+        ensures { IfOk result (λ peak. peak ≡ record { time = 0; scenario = zero_scenario problem.now; process = None }) }
+    {
+        let scenario = Scenario::zero(alloc, problem)?;
+        Ok(Peak {
+            time: 0,
+            scenario,
+            process: None,
+        })
+    }
+
+    /// Whether a time that a later process first has in a scenario goes before this.
+    fn is_under(&self, problem: &Problem, urgency: &Order, time: u64, scenario: &Scenario) -> bool
+        requires order { length urgency.now ≡ process_count problem.now }
+        requires own { IsScenario problem.now self.now.scenario }
+        requires scenario { IsScenario problem.now scenario.now }
+        ensures { result ≡ goes_before problem.now urgency.now self.now time scenario.now }
+    {
+        match self.process {
+            None => true,
+            Some(_) => {
+                if self.time == time {
+                    is_before(problem, urgency, scenario, &self.scenario)
+                } else {
+                    self.time < time
+                }
+            }
+        }
+    }
+
+    /// This, or a time that a later process first has in a scenario, where that goes before.
+    fn or_time(
+        self,
+        problem: &Problem,
+        urgency: &Order,
+        time: u64,
+        scenario: Scenario,
+        process: u32,
+    ) -> Peak
+        requires order { length urgency.now ≡ process_count problem.now }
+        requires own { IsScenario problem.now self.scenario }
+        requires scenario { IsScenario problem.now scenario }
+        ensures { result ≡ or_time problem.now urgency.now self time scenario process }
+    {
+        if self.is_under(problem, urgency, time, &scenario) {
+            Peak {
+                time,
+                scenario,
+                process: Some(process),
+            }
+        } else {
+            self
+        }
+    }
+
+    /// This, or the greatest time of the tree of a later process, where that goes before.
+    fn or(
+        self,
+        problem: &Problem,
+        urgency: &Order,
+        tree: &Tree<Option<u64>>,
+        process: u32,
+    ) -> Result<Peak, OutOfMemory>
+        requires order { IsPermutation (numbers_below (process_count problem.now)) urgency.now }
+        requires own { IsScenario problem.now self.scenario }
+        requires tree { IsTree problem.now tree.now }
+        ensures { IfOk result (IsNextPeak problem.now urgency.now tree.now.paths process self) }
+    {
+        match tree.greatest(problem, urgency)? {
+            Some(greatest) => Ok(self.or_time(problem, urgency, greatest.0, greatest.1, process)),
+            None => Ok(self),
+        }
+    }
+
+    /// This, or how far the ends of a later process are past its due at most, where that goes before.
+    fn or_past(
+        self,
+        problem: &Problem,
+        urgency: &Order,
+        end: &Tree<Option<u64>>,
+        process: u32,
+    ) -> Result<Peak, OutOfMemory>
+        requires order { IsPermutation (numbers_below (process_count problem.now)) urgency.now }
+        requires process { process < process_count problem.now }
+        requires own { IsScenario problem.now self.scenario }
+        requires tree { IsTree problem.now end.now }
+        ensures { IfOk result (IsNextExcess problem.now urgency.now end.now process self) }
+    {
+        let past = past(end, problem.due(process))?;
+        let peak = self.or(problem, urgency, &past, process)?;
+        Ok(peak)
+    }
+}
+
+/// The greatest finish, by the ends of the processes.
+pub(crate) fn worst(
+    alloc: Global,
+    problem: &Problem,
+    urgency: &Order,
+    ends: &[Tree<Option<u64>>],
+) -> Result<Peak, OutOfMemory>
+    requires order { IsPermutation (numbers_below (process_count problem.now)) urgency.now }
+    requires count { length ends.now ≡ process_count problem.now }
+    requires trees { All (IsTree problem.now) ends.now }
+    ensures peak { IfOk result (IsPeak problem.now urgency.now (process_count problem.now) (EndsAt problem.now ends.now)) }
+    ensures worst { IfOk result (IsWorstOfTrees problem.now urgency.now ends.now) }
+{
+    let mut peak = Peak::none(alloc, problem)?;
+    for process in 0..problem.processes().len() as u32 {
+        peak = peak.or(problem, urgency, &ends[process as usize], process)?;
+    }
+    Ok(peak)
+}
+
+/// How far an end is past its due at most, by the ends of the processes.
+pub(crate) fn excess(
+    alloc: Global,
+    problem: &Problem,
+    urgency: &Order,
+    ends: &[Tree<Option<u64>>],
+) -> Result<Peak, OutOfMemory>
+    requires order { IsPermutation (numbers_below (process_count problem.now)) urgency.now }
+    requires count { length ends.now ≡ process_count problem.now }
+    requires trees { All (IsTree problem.now) ends.now }
+    ensures peak { IfOk result (IsPeak problem.now urgency.now (process_count problem.now) (EndsPast problem.now ends.now)) }
+    ensures excess { IfOk result (IsExcessOfTrees problem.now urgency.now ends.now) }
+{
+    let mut peak = Peak::none(alloc, problem)?;
+    for process in 0..problem.processes().len() as u32 {
+        peak = peak.or_past(problem, urgency, &ends[process as usize], process)?;
+    }
+    Ok(peak)
+}

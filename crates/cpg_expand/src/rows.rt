@@ -1,0 +1,83 @@
+//! Rows of trees.
+ghost use Rattle.std.specs.Prelude.{◌≡◌, All, IfOk, IsPermutation, map};
+ghost use Rattle.cpg_base.specs.Graph.{process_count};
+ghost use Rattle.cpg_base.specs.Numbers.{numbers_below};
+ghost use Rattle.cpg_expand.specs.Agreeing.{IsTree};
+ghost use Rattle.cpg_expand.specs.MadeRows.{AreEntriesOf, AreMergedOf, IsRowOf};
+ghost use Rattle.cpg_expand.specs.TreeRows.{as_column};
+
+use cpg_base::{OutOfMemory, Problem};
+use cpg_cube::Cube;
+use cpg_order::Order;
+use cpg_table::{Entry, Row, merged};
+use cpg_tree::Tree;
+use std::alloc::Global;
+
+/// These columns as entries of a row.
+fn as_entries(alloc: Global, columns: &[(u64, Cube)]) -> Result<Vec<Entry>, OutOfMemory>
+    ensures { IfOk result (λ entries. entries.items ≡ map as_column columns.now) }
+{
+    let mut entries = Vec::new(alloc);
+    entries.reserve(columns.len())?;
+    for column in columns {
+        entries.push(Entry {
+            time: column.0,
+            cube: column.1.copy()?,
+        })?;
+    }
+    Ok(entries)
+}
+
+/// The columns of a tree.
+fn entries(
+    alloc: Global,
+    problem: &Problem,
+    urgency: &Order,
+    tree: &Tree<Option<u64>>,
+) -> Result<Vec<Entry>, OutOfMemory>
+    requires order { IsPermutation (numbers_below (process_count problem.now)) urgency.now }
+    requires tree { IsTree problem.now tree.now }
+    ensures { IfOk result (λ entries. AreEntriesOf problem.now urgency.now tree.now entries.items) }
+{
+    let columns = tree.columns(problem, urgency)?;
+    let entries = as_entries(alloc, columns.as_slice())?;
+    Ok(entries)
+}
+
+/// The columns of a start, merged.
+fn start_entries(
+    alloc: Global,
+    problem: &Problem,
+    urgency: &Order,
+    tree: &Tree<Option<u64>>,
+) -> Result<Vec<Entry>, OutOfMemory>
+    requires order { IsPermutation (numbers_below (process_count problem.now)) urgency.now }
+    requires tree { IsTree problem.now tree.now }
+    ensures { IfOk result (λ entries. AreMergedOf problem.now urgency.now tree.now entries.items) }
+{
+    let _processes = problem.processes();
+    let entries = entries(alloc, problem, urgency, tree)?;
+    let columns = merged(alloc, problem, urgency, entries)?;
+    Ok(columns)
+}
+
+/// The row of an item: that of a start with its columns merged.
+fn row(
+    alloc: Global,
+    problem: &Problem,
+    urgency: &Order,
+    tree: &Tree<Option<u64>>,
+    item: u32,
+) -> Result<Row, OutOfMemory>
+    requires order { IsPermutation (numbers_below (process_count problem.now)) urgency.now }
+    requires tree { IsTree problem.now tree.now }
+    ensures { IfOk result (IsRowOf problem.now urgency.now tree.now item) }
+{
+    let processes = problem.processes().len() as u32;
+    if item < processes {
+        let columns = start_entries(alloc, problem, urgency, tree)?;
+        return Ok(Row::new(item, columns));
+    }
+    let columns = entries(alloc, problem, urgency, tree)?;
+    Ok(Row::new(item, columns))
+}

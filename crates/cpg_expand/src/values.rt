@@ -1,0 +1,154 @@
+//! What becomes of the values of trees.
+ghost use Rattle.std.specs.Prelude.{ℕ, ◌≡◌, max, Bool, Some, IfOk};
+ghost use Rattle.cpg_base.specs.Numbers.{same_bool};
+ghost use Rattle.cpg_expand.specs.Values.{time_later, time_if, ended, slot_from, time_past};
+ghost use Rattle.cpg_tree.specs.Tree.{HasOnePathEach, DoPathsPass, IsMap, IsJoin};
+
+use cpg_base::OutOfMemory;
+use cpg_bus::Share;
+use cpg_tree::Tree;
+
+/// A time from which the next slot isn't asked for.
+const LATE: u64 = 1 << 59;
+
+/// A time or 0, later by a delay.
+fn time_later(time: Option<u64>, delay: u64) -> u64
+    ensures { result ≡ time_later delay time }
+{
+    time.unwrap_or(0).saturating_add(delay)
+}
+
+/// The times of a tree, or 0, later by a delay.
+pub(crate) fn later(tree: &Tree<Option<u64>>, delay: u64) -> Result<Tree<u64>, OutOfMemory>
+    ensures is { IfOk result (IsMap (λ x z. z ≡ time_later delay x) tree.now) }
+    ensures each { IfOk result (λ t. HasOnePathEach t.faults t.paths) }
+    ensures pass { IfOk result (λ t. (test : ℕ → Bool) → DoPathsPass test tree.now.paths → DoPathsPass test t.paths) }
+{
+    tree.map(&|time: Option<u64>| time_later(time, delay))
+}
+
+/// The times of a tree or a release, whichever is later.
+pub(crate) fn released(tree: &Tree<u64>, release: u64) -> Result<Tree<u64>, OutOfMemory>
+    ensures is { IfOk result (IsMap (λ x z. z ≡ max x release) tree.now) }
+    ensures each { IfOk result (λ t. HasOnePathEach t.faults t.paths) }
+    ensures pass { IfOk result (λ t. (test : ℕ → Bool) → DoPathsPass test tree.now.paths → DoPathsPass test t.paths) }
+{
+    tree.map(&|time: u64| time.max(release))
+}
+
+/// Where a tree has a value.
+pub(crate) fn same_as(tree: &Tree<bool>, wanted: bool) -> Result<Tree<bool>, OutOfMemory>
+    ensures is { IfOk result (IsMap (λ x z. z ≡ same_bool wanted x) tree.now) }
+    ensures each { IfOk result (λ t. HasOnePathEach t.faults t.paths) }
+    ensures pass { IfOk result (λ t. (test : ℕ → Bool) → DoPathsPass test tree.now.paths → DoPathsPass test t.paths) }
+{
+    tree.map(&|value: bool| is_same(wanted, value))
+}
+
+/// Whether two values are equal.
+fn is_same(first: bool, second: bool) -> bool
+    ensures { result ≡ same_bool first second }
+{
+    first == second
+}
+
+/// The time, where it is so.
+fn time_if(is: bool, time: u64) -> Option<u64>
+    ensures { result ≡ time_if time is }
+{
+    if is { Some(time) } else { None }
+}
+
+/// One time wherever a tree is true.
+pub(crate) fn fixed(tree: &Tree<bool>, time: u64) -> Result<Tree<Option<u64>>, OutOfMemory>
+    ensures is { IfOk result (IsMap (λ x z. z ≡ time_if time x) tree.now) }
+    ensures each { IfOk result (λ t. HasOnePathEach t.faults t.paths) }
+    ensures pass { IfOk result (λ t. (test : ℕ → Bool) → DoPathsPass test tree.now.paths → DoPathsPass test t.paths) }
+{
+    tree.map(&|is: bool| time_if(is, time))
+}
+
+/// The times of a tree in all scenarios.
+pub(crate) fn some(tree: &Tree<u64>) -> Result<Tree<Option<u64>>, OutOfMemory>
+    ensures is { IfOk result (IsMap (λ x z. z ≡ Some x) tree.now) }
+    ensures each { IfOk result (λ t. HasOnePathEach t.faults t.paths) }
+    ensures pass { IfOk result (λ t. (test : ℕ → Bool) → DoPathsPass test tree.now.paths → DoPathsPass test t.paths) }
+{
+    tree.map(&|time: u64| Some(time))
+}
+
+/// The end of an execution with so many faults, where there is a start.
+fn ended(start: Option<u64>, durations: &[u64], faults: u8) -> Option<u64>
+    ensures { result ≡ ended durations.now faults start }
+{
+    let start = start?;
+    let duration = match durations.get(faults as usize) {
+        Some(duration) => *duration,
+        None => 0,
+    };
+    Some(start.saturating_add(duration))
+}
+
+/// The ends of executions that start at the times of a tree, where one with so many faults lasts so long.
+pub(crate) fn ends(
+    start: &Tree<Option<u64>>,
+    faults: &Tree<u8>,
+    durations: &[u64],
+) -> Result<Tree<Option<u64>>, OutOfMemory>
+    requires { start.now.faults ≡ faults.now.faults }
+    ensures is { IfOk result (IsJoin (λ x n z. z ≡ ended durations.now n x) start.now faults.now) }
+    ensures each { IfOk result (λ t. HasOnePathEach t.faults t.paths) }
+    ensures pass { IfOk result (λ t. (test : ℕ → Bool) → DoPathsPass test start.now.paths → DoPathsPass test faults.now.paths → DoPathsPass test t.paths) }
+{
+    start.join_with(
+        faults,
+        &|start: Option<u64>, faults: u8| { ended(start, durations, faults) },
+    )
+}
+
+/// The first slot at the time or later, which is free.
+fn slot_from(share: Share, time: Option<u64>, free: u64) -> Option<u64>
+    ensures { result ≡ slot_from share free time }
+{
+    let time = time?;
+    if time < LATE {
+        let _length = share.length();
+        Some(share.next_slot(time).max(free))
+    } else {
+        None
+    }
+}
+
+/// The first slots at the times of a tree or later that are free.
+pub(crate) fn slots(
+    share: Share,
+    end: &Tree<Option<u64>>,
+    free: &Tree<u64>,
+) -> Result<Tree<Option<u64>>, OutOfMemory>
+    requires { end.now.faults ≡ free.now.faults }
+    ensures is { IfOk result (IsJoin (λ x y z. z ≡ slot_from share y x) end.now free.now) }
+    ensures each { IfOk result (λ t. HasOnePathEach t.faults t.paths) }
+    ensures pass { IfOk result (λ t. (test : ℕ → Bool) → DoPathsPass test end.now.paths → DoPathsPass test free.now.paths → DoPathsPass test t.paths) }
+{
+    end.join_with(
+        free,
+        &|end: Option<u64>, free: u64| { slot_from(share, end, free) },
+    )
+}
+
+/// How far a time is past its due, where it is.
+fn time_past(time: Option<u64>, due: u64) -> Option<u64>
+    ensures { result ≡ time_past due time }
+{
+    let time = time?;
+    if due < time { Some(time - due) } else { None }
+}
+
+/// How far the times of a tree are past their due, where they are.
+pub(crate) fn past(tree: &Tree<Option<u64>>, due: u64) -> Result<Tree<Option<u64>>, OutOfMemory>
+    ensures is { IfOk result (IsMap (λ x z. z ≡ time_past due x) tree.now) }
+    ensures each { IfOk result (λ t. HasOnePathEach t.faults t.paths) }
+    ensures pass { IfOk result (λ t. (test : ℕ → Bool) → DoPathsPass test tree.now.paths → DoPathsPass test t.paths) }
+{
+    tree.map(&|time: Option<u64>| time_past(time, due))
+}
