@@ -34,7 +34,7 @@ fn what_waits_goes_later(rt: HostRuntime) -> Result<(), Fail> {
     Ok(())
 }
 
-/// A waits for its release: the keys are 30 and 0.
+/// A waits for its release: the keys are 35 and 0.
 #[test]
 fn what_is_released_later_goes_later(rt: HostRuntime) -> Result<(), Fail> {
     assert!(rt; is_order(rt.alloc(), Example::Released, [1, 0].as_slice())?);

@@ -66,7 +66,7 @@ fn no_node_idles(rt: HostRuntime) -> Result<(), Fail> {
 /// A waits for its release, and B doesn't wait for A.
 #[test]
 fn no_start_before_its_release(rt: HostRuntime) -> Result<(), Fail> {
-    let wanted = [[Some(30), Some(0), None, None]];
+    let wanted = [[Some(35), Some(0), None, None]];
     assert!(rt; has_starts(rt.alloc(), Example::Released, wanted.as_slice())?);
     Ok(())
 }
