@@ -57,13 +57,13 @@ use Rattle.cpg_expand.proofs.UnfrozenStart.{unfrozen_value}
 
 -- ---- rows that hold what the trees list
 
-path_column : Path (Option ℕ) → Column
+pub path_column : Path (Option ℕ) → Column
 path_column path = record { time = unwrap_or path.1 0; cube = path.0 }
 
-abbrev own_rows : ForestState → List (List Column)
+abbrev pub own_rows : ForestState → List (List Column)
 own_rows f = map (λ (t : TreeState (Option ℕ)). map path_column t.paths) f.times
 
-own_rows_hold : (g : Graph) (order : List ℕ) (i : ℕ) (f : ForestState) → HasTrees g f → RowsHold g order i f (own_rows f)
+pub own_rows_hold : (g : Graph) (order : List ℕ) (i : ℕ) (f : ForestState) → HasTrees g f → RowsHold g order i f (own_rows f)
 unfolding path_column
 own_rows_hold g order i f has = record {
   sends = λ x l sent before path time j is. (

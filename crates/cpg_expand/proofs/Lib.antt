@@ -18,3 +18,14 @@ pub mod Begun
 pub mod GrownNext
 pub mod PeaksGrow
 pub mod PeaksMeasured
+pub mod SendValue
+pub mod FrozenSend
+pub mod Goes
+pub mod SentBefore
+pub mod SentOne
+pub mod FreeRead
+pub mod SentTrees
+pub mod SentAll
+pub mod ItemKept
+pub mod SendingOver
+pub mod SendingNext

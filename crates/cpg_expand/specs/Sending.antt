@@ -1,10 +1,12 @@
 -- Trees of what a process sends.
-use Rattle.std.specs.Prelude.{ℕ, ◌≡◌, ◌-◌, ◌&&◌, nat_lt, Bool, true, false, List, [], ◌∷◌, ◌++◌, Option, Some, None, get_or, slice_get, if◌then◌else◌}
-use Rattle.cpg_base.specs.Graph.{Graph, process_count, condition_of}
+use Rattle.std.specs.Prelude.{ℕ, ◌≡◌, ◌&&◌, Bool, true, false, List, [], ◌∷◌, ◌++◌, Option, Some, None, map, get_or, if◌then◌else◌}
+use Rattle.cpg_base.specs.Graph.{Graph, source, edge_at, condition_of, item_at, producer}
+use Rattle.cpg_base.specs.Activity.{active, live, item_active}
 use Rattle.cpg_base.specs.Numbers.{same_bool}
-use Rattle.cpg_base.specs.declared.process.Edge.{Edge}
 use Rattle.cpg_bus.specs.Share.{ShareState}
+use Rattle.cpg_order.specs.Reach.{source_value}
 use Rattle.cpg_order.specs.Scenario.{Scenario}
+use Rattle.cpg_run.specs.Carried.{number_known, sent_by_value}
 use Rattle.cpg_cube.specs.declared.literal.Literal.{Literal}
 use Rattle.cpg_tree.specs.Space.{HasFew}
 use Rattle.cpg_tree.specs.Tree.{TreeState}
@@ -16,6 +18,25 @@ use Rattle.cpg_expand.specs.Values.{slot_from, time_later}
 abbrev pub IsTestedTree : ℕ → ℕ → Bool → TreeState Bool → TreeState Bool → Type 0
 IsTestedTree k c wanted active t = (s : Scenario) → HasFew k s → (b : Bool) (first : List Literal) → Tells s first b active →
     Tells s (first ++ (if b then value_known s c ∷ [] else [])) (b && same_bool wanted (get_or s.values c false)) t
+
+-- the condition whose value decides whether an edge is live once its source has ended, and that value
+abbrev pub asked_by : Option Bool → Option ℕ → Option (ℕ × Bool)
+asked_by None condition = None
+asked_by (Some wanted) None = None
+asked_by (Some wanted) (Some condition) = Some (condition, wanted)
+
+abbrev pub asked : Graph → ℕ → Option (ℕ × Bool)
+asked g e = asked_by (edge_at g e).when (condition_of g (source g e))
+
+-- where an edge is live, by where its source is active
+abbrev pub IsLiveTree : Graph → ℕ → TreeState Bool → TreeState Bool → Type 0
+IsLiveTree g e chooser t = (s : Scenario) → HasFew g.faults s → (first : List Literal) → Tells s first (active g s.values (source g e)) chooser →
+    Tells s (first ++ (if active g s.values (source g e) then map (number_known s) (source_value g e) else [])) (live g s.values e) t
+
+-- where an item is sent, by where its producer is active
+abbrev pub IsGoesTree : Graph → ℕ → TreeState Bool → TreeState Bool → Type 0
+IsGoesTree g x chooser t = (s : Scenario) → HasFew g.faults s → (first : List Literal) → Tells s first (active g s.values (producer g x)) chooser →
+    Tells s (first ++ (if active g s.values (producer g x) then sent_by_value g s x else [])) (item_active g s.values (item_at g x)) t
 
 -- the first free slots where an item is sent
 abbrev pub IsSentTree : ℕ → ShareState → TreeState Bool → TreeState (Option ℕ) → TreeState ℕ → TreeState (Option ℕ) → Type 0

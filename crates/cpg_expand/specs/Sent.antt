@@ -1,8 +1,10 @@
--- What a node has sent so far, along an order.
-use Rattle.std.specs.Prelude.{ℕ, ◌==◌, List, ◌++◌, filter, take}
+-- What a node has sent so far, along an order; and what is found when an item is sent.
+use Rattle.std.specs.Prelude.{ℕ, ◌+◌, ◌≡◌, ◌==◌, Bool, List, [], ◌∷◌, ◌++◌, Option, filter, take, slice_set}
 use Rattle.std.specs.List.{flat_map}
-use Rattle.cpg_base.specs.Graph.{Graph, node_of}
+use Rattle.cpg_base.specs.Bus.{round}
+use Rattle.cpg_base.specs.Graph.{Graph, node_of, home, producer}
 use Rattle.cpg_bus.specs.Plan.{queue_of}
+use Rattle.cpg_bus.specs.Share.{share_of}
 use Rattle.cpg_order.specs.Scenario.{Scenario}
 use Rattle.cpg_order.specs.Urgency.{place}
 use Rattle.cpg_table.specs.Table.{Column}
@@ -10,8 +12,11 @@ use Rattle.cpg_run.specs.Run.{Times}
 use Rattle.cpg_run.specs.Carried.{queued}
 use Rattle.cpg_run.specs.Most.{IsMost}
 use Rattle.cpg_run.specs.Progress.{IsSentBy, free_after}
-use Rattle.cpg_expand.specs.Agreeing.{Tells}
-use Rattle.cpg_expand.specs.Forest.{ForestState}
+use Rattle.cpg_tree.specs.Tree.{TreeState}
+use Rattle.cpg_expand.specs.Agreeing.{IsTree, Tells}
+use Rattle.cpg_expand.specs.Forest.{ForestState, ends_of}
+use Rattle.cpg_expand.specs.Freezing.{IsFixed}
+use Rattle.cpg_expand.specs.Sending.{IsGoesTree, IsSentTree, IsFreeTree}
 use Rattle.cpg_expand.specs.Waiting.{free_of}
 
 -- for the processes before the place i
@@ -27,3 +32,24 @@ pub record IsFreeOnce (g : Graph) (order : List ℕ) (rows : List (List Column))
   pub time : ℕ
   pub is : IsMost (IsSentBy g order s p k) (free_after g t) time
   pub tells : Tells s (flat_map (queued g order rows s) (sent_so_far g order p k)) time (free_of g f (node_of g p))
+
+-- an item is added to the trees: its times, and when the slots of its node are free then
+pub record IsItemAdded (g : Graph) (urgency : List ℕ) (chooser : TreeState Bool) (x : ℕ) (old new : ForestState) (before after : List (Option ℕ)) : Type 0 where
+  pub goes : TreeState Bool
+  pub goes_tree : IsTree g goes
+  pub goes_where : IsGoesTree g x chooser goes
+  pub unfrozen : TreeState (Option ℕ)
+  pub unfrozen_tree : IsTree g unfrozen
+  pub slots : IsSentTree g.faults (share_of g (home g x)) goes (ends_of g old (producer g x)) (free_of g old (home g x)) unfrozen
+  pub sent : TreeState (Option ℕ)
+  pub sent_tree : IsTree g sent
+  pub fixed : IsFixed g urgency x unfrozen goes before after sent
+  pub freed : TreeState ℕ
+  pub freed_tree : IsTree g freed
+  pub frees : IsFreeTree g.faults (round g) goes sent (free_of g old (home g x)) freed
+  pub is : new ≡ record { times = slice_set old.times x sent; ends = old.ends; ready = old.ready; free = slice_set old.free (home g x) freed }
+
+-- these are added one after another
+abbrev pub AreItemsAdded : Graph → List ℕ → TreeState Bool → List ℕ → ForestState → ForestState → List (Option ℕ) → List (Option ℕ) → Type 0
+AreItemsAdded g urgency chooser [] old new before after = (new ≡ old) × (after ≡ before)
+AreItemsAdded g urgency chooser (x ∷ xs) old new before after = (mid : ForestState) × (between : List (Option ℕ)) × IsItemAdded g urgency chooser x old mid before between × AreItemsAdded g urgency chooser xs mid new between after

@@ -1,0 +1,20 @@
+-- What an item that is added leaves as it is: all other trees.
+use Rattle.std.proofs.Common.{ℕ, ◌≡◌, ◌≢◌, Bool, List, Option, ap, ◌∙◌, get_or-set_other}
+use Rattle.cpg_base.specs.Graph.{Graph, home}
+use Rattle.cpg_tree.specs.Tree.{TreeState}
+use Rattle.cpg_expand.specs.Forest.{ForestState, times_of, ends_of, no_tree}
+use Rattle.cpg_expand.specs.Sent.{IsItemAdded}
+use Rattle.cpg_expand.specs.Waiting.{ready_of, free_of}
+
+module _ (g : Graph) (urgency : List ℕ) (chooser : TreeState Bool) (x : ℕ) (old new : ForestState) (before after : List (Option ℕ)) (added : IsItemAdded g urgency chooser x old new before after) where
+  pub other_times : (y : ℕ) → y ≢ x → times_of g new y ≡ times_of g old y
+  other_times y other = ap (λ (f : ForestState). times_of g f y) added.is ∙ get_or-set_other old.times x y added.sent (no_tree g.faults) other
+
+  pub same_ends : (q : ℕ) → ends_of g new q ≡ ends_of g old q
+  same_ends q = ap (λ (f : ForestState). ends_of g f q) added.is
+
+  pub same_ready : (node : ℕ) → ready_of g new node ≡ ready_of g old node
+  same_ready node = ap (λ (f : ForestState). ready_of g f node) added.is
+
+  pub other_free : (node : ℕ) → node ≢ home g x → free_of g new node ≡ free_of g old node
+  other_free node other = ap (λ (f : ForestState). free_of g f node) added.is ∙ get_or-set_other old.free (home g x) node added.freed (no_tree g.faults) other

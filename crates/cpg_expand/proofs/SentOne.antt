@@ -1,0 +1,190 @@
+-- The trees of an item that is added tell its time in the run, and from when on the slots of its node are free then.
+use Rattle.std.proofs.Common.{ℕ, ◌+◌, ◌<◌, ◌≡◌, Bool, true, false, if◌then◌else◌, List, [], ◌++◌, length, flat_map, get_or, set, Option, Some, None, Contains, ◌⊎◌, arith, refl, sym, ap, ◌∙◌, subst, inl, inr, get_or-set_same}
+use Rattle.std.proofs.lemmas.Bool.{cond-false, cases_Bool}
+use Rattle.std.proofs.lemmas.List.Elements.{Contains-append_cases, Contains-append_left, Contains-append_right}
+use Rattle.cpg_base.specs.Bus.{round}
+use Rattle.cpg_base.specs.Limits.{IsWithinLimits}
+use Rattle.cpg_base.specs.Scenario.{IsScenario}
+use Rattle.cpg_base.specs.Graph.{Graph, process_count, item_count, item_at, node_of, home, producer, is_frozen}
+use Rattle.cpg_base.specs.Activity.{active, item_active}
+use Rattle.cpg_base.proofs.Bounds.{round-le}
+use Rattle.cpg_base.proofs.Lists.{Contains-nil}
+use Rattle.cpg_bus.specs.Plan.{queue_of}
+use Rattle.cpg_bus.specs.Share.{share_of}
+use Rattle.cpg_bus.proofs.Queued.{in_queue}
+use Rattle.cpg_cube.specs.declared.literal.Literal.{Literal}
+use Rattle.cpg_order.specs.Queue.{queued_before}
+use Rattle.cpg_order.specs.Scenario.{Scenario}
+use Rattle.cpg_order.specs.Urgency.{IsTopological}
+use Rattle.cpg_table.specs.Table.{Column}
+use Rattle.cpg_run.specs.Run.{Times, IsRun, unfrozen_time}
+use Rattle.cpg_run.specs.Carried.{decided, sent_by_value, carried_at_end, carried_at_send, queued}
+use Rattle.cpg_run.specs.Frozen.{IsFrozenTime, WouldHave}
+use Rattle.cpg_run.specs.Known.{AreSmall}
+use Rattle.cpg_run.specs.Most.{IsMost}
+use Rattle.cpg_run.specs.Progress.{IsSentBy, free_after}
+use Rattle.cpg_run.proofs.Runs.{time_is}
+use Rattle.cpg_run.proofs.SameSends.{producer_active}
+use Rattle.cpg_run.proofs.Sends.{here_sent, free_next, free_same}
+use Rattle.cpg_tree.specs.Space.{HasFew}
+use Rattle.cpg_tree.specs.Tree.{TreeState}
+use Rattle.cpg_expand.specs.Agreeing.{Tells}
+use Rattle.cpg_expand.specs.Forest.{ForestState, HasTrees, times_of, ends_of, no_tree}
+use Rattle.cpg_expand.specs.Freezing.{IsThawed, IsNeverFrozen, IsFrozenAt, IsFixed}
+use Rattle.cpg_expand.specs.Sent.{IsFreeOnce, IsItemAdded, sent_so_far}
+use Rattle.cpg_expand.specs.Values.{slot_from, time_later}
+use Rattle.cpg_expand.specs.Waiting.{free_of}
+use Rattle.cpg_expand.proofs.AgreeingTrees.{agrees_weaker}
+use Rattle.cpg_expand.proofs.FrozenSend.{frozen_send_line, frozen_send_value}
+use Rattle.cpg_expand.proofs.SendLine.{send_line, free_line}
+use Rattle.cpg_expand.proofs.SendValue.{send_value}
+use Rattle.cpg_expand.proofs.SentBefore.{tells_before, tells_after}
+use Rattle.cpg_expand.proofs.StartTimes.{later_exact}
+
+module _ (g : Graph) (limits : IsWithinLimits g) (order : List ℕ) (topological : IsTopological g order) (rows : List (List Column)) (s : Scenario) (law : IsScenario g s) (few : HasFew g.faults s)
+    (frozen : List (Option ℕ)) (t : Times) (run : IsRun g order frozen s t) (small : AreSmall t) (p : ℕ) (l : p < process_count g) (k : ℕ) (inside : k < length (queue_of g p)) where
+  abbrev here : ℕ
+  here = get_or (queue_of g p) k 0
+
+  in_here : Contains (queue_of g p) here
+  in_here = here_sent g order topological s p l k inside
+
+  within : here < item_count g
+  within = (in_queue g p here in_here).within
+
+  by : producer g here ≡ p
+  by = (in_queue g p here in_here).by
+
+  abbrev Sent : Bool
+  Sent = item_active g s.values (item_at g here)
+
+  acts : item_active g s.values (item_at g here) ≡ true → active g s.values (producer g here) ≡ true
+  acts = producer_active g s.values (item_at g here)
+
+  module _ (urgency : List ℕ) (chooser : TreeState Bool) (old new : ForestState) (before after : List (Option ℕ)) (trees : HasTrees g old) (added : IsItemAdded g urgency chooser here old new before after)
+      (on_node : node_of g p < length g.nodes)
+      (chosen : Tells s (decided g s p) (active g s.values p) chooser)
+      (ended : active g s.values p ≡ true → Tells s (carried_at_end g order rows s p) (get_or t.ends p None) (ends_of g old p))
+      (once : IsFreeOnce g order rows s t p k old)
+      (same : get_or frozen here None ≡ get_or after here None)
+      (long : here < length before)
+      (unset : get_or before here None ≡ None)
+      (settled : is_frozen g here ≡ true → IsFrozenTime g order frozen here) where
+    value_part : List Literal
+    value_part = if active g s.values (producer g here) then sent_by_value g s here else []
+
+    abbrev says : List Literal
+    says = decided g s (producer g here) ++ (if active g s.values (producer g here) then sent_by_value g s here else [])
+
+    of_goes : Tells s says (item_active g s.values (item_at g here)) added.goes
+    of_goes = added.goes_where s few (decided g s (producer g here)) (subst (λ q. Tells s (decided g s q) (active g s.values q) chooser) (sym by) chosen)
+
+    at_most : (m : Literal) → Contains says m → Contains (decided g s (producer g here)) m ⊎ ((active g s.values (producer g here) ≡ true) × Contains (sent_by_value g s here) m)
+    at_most m j = elim (Contains-append_cases (decided g s (producer g here)) (if active g s.values (producer g here) then sent_by_value g s here else []) m j) [
+      | inl i ↦ inl i
+      | inr i ↦ inr (of_value (active g s.values (producer g here)) refl i)
+    ]
+      where
+        of_value : (b : Bool) → active g s.values (producer g here) ≡ b → Contains (if b then sent_by_value g s here else []) m → (active g s.values (producer g here) ≡ true) × Contains (sent_by_value g s here) m
+        of_value true e i = (e, i)
+        of_value false e i = absurd (Contains-nil m i)
+
+    ends_told : item_active g s.values (item_at g here) ≡ true → Tells s (carried_at_end g order rows s (producer g here)) (get_or t.ends p None) (ends_of g old (producer g here))
+    ends_told on = subst (λ q. Tells s (carried_at_end g order rows s q) (get_or t.ends p None) (ends_of g old q)) (sym by) (ended (ap (active g s.values) (sym by) ∙ acts on))
+
+    waits : Tells s (flat_map (queued g order rows s) (queued_before g order here)) once.time (free_of g old (home g here))
+    waits = subst (λ q. Tells s (flat_map (queued g order rows s) (queued_before g order here)) once.time (free_of g old (node_of g q))) (sym by)
+        (tells_before g order topological s p l k inside rows once.time (free_of g old (node_of g p)) once.tells)
+
+    -- ---- its times
+
+    thawed : IsThawed g here added.unfrozen before after added.sent → get_or frozen here None ≡ None
+    thawed th = same ∙ ap (λ f. get_or f here None) th.kept ∙ unset
+
+    of_thawed : IsThawed g here added.unfrozen before after added.sent → Tells s (carried_at_send g order rows s here) (get_or t.times here None) added.sent
+    of_thawed th =
+        let share = ap (λ q. share_of g (node_of g q)) by in
+        let value = ap (λ h. if item_active g s.values (item_at g here) then slot_from h once.time (get_or t.ends p None) else None) share
+        ∙ send_value g order topological s p l frozen t run k inside once.time once.is (thawed th) small (λ on. ap (active g s.values) (sym by) ∙ acts on) in
+        subst (λ (u : TreeState (Option ℕ)). Tells s (carried_at_send g order rows s here) (get_or t.times here None) u) (sym th.same)
+        (subst (λ (o : Option ℕ). Tells s (carried_at_send g order rows s here) o added.unfrozen) value
+        (send_line g order rows s few here acts says added.goes of_goes at_most th.thawed (share_of g (home g here)) (ends_of g old (producer g here)) (free_of g old (home g here)) added.unfrozen (get_or t.ends p None) once.time added.slots ends_told waits))
+
+    would : item_active g s.values (item_at g here) ≡ true → WouldHave g order frozen here (unfrozen_time g order s t here)
+    would on = record { scenario = s; lawful = law; times = t; run = run; active = on; has = refl }
+
+    of_never : is_frozen g here ≡ true → IsNeverFrozen added.unfrozen before after added.sent → Tells s (carried_at_send g order rows s here) (get_or t.times here None) added.sent
+    of_never e never = elim (cases_Bool (item_active g s.values (item_at g here))) [
+      | inl on ↦ absurd ((settled e).none (same ∙ ap (λ f. get_or f here None) never.kept ∙ unset) (unfrozen_time g order s t here) (would on))
+      | inr off ↦
+          let all : List Literal = carried_at_end g order rows s (producer g here) ++ flat_map (queued g order rows s) (queued_before g order here) in
+          let told = added.slots s few (item_active g s.values (item_at g here)) says (carried_at_end g order rows s (producer g here)) (flat_map (queued g order rows s) (queued_before g order here)) (get_or t.ends p None) once.time of_goes (λ on. (ends_told on, waits)) in
+          let value : (if item_active g s.values (item_at g here) then slot_from (share_of g (home g here)) once.time (get_or t.ends p None) else None) ≡ get_or t.times here None =
+          cond-false _ _ None off ∙ sym (time_is g order frozen s t run here within ∙ cond-false _ _ _ off) in
+          subst (λ (u : TreeState (Option ℕ)). Tells s (carried_at_send g order rows s here) (get_or t.times here None) u) (sym never.same)
+          (agrees_weaker s added.unfrozen (says ++ (if item_active g s.values (item_at g here) then all else [])) (carried_at_send g order rows s here)
+          (λ z. z ≡ (if item_active g s.values (item_at g here) then slot_from (share_of g (home g here)) once.time (get_or t.ends p None) else None)) (λ z. z ≡ get_or t.times here None)
+          (λ m j. of_parts m (Contains-append_cases says (if item_active g s.values (item_at g here) then all else []) m j) off) (λ z f. f ∙ value) told)
+    ]
+      where
+        thawed_says : List Literal
+        thawed_says = flat_map (queued g order rows s) (queued_before g order here) ++ carried_at_end g order rows s (producer g here)
+
+        frozen_says : (m : Literal) → Contains (decided g s (producer g here) ++ sent_by_value g s here) m → Contains (carried_at_send g order rows s here) m
+        frozen_says m j = subst (λ (f : Bool). Contains ((if f then decided g s (producer g here) else thawed_says) ++ sent_by_value g s here) m) (sym e) j
+
+        of_parts : (m : Literal) → Contains says m ⊎ Contains (if item_active g s.values (item_at g here) then carried_at_end g order rows s (producer g here) ++ flat_map (queued g order rows s) (queued_before g order here) else []) m
+            → item_active g s.values (item_at g here) ≡ false → Contains (carried_at_send g order rows s here) m
+        of_parts m (inl j) off = elim (at_most m j) [
+          | inl i ↦ frozen_says m (Contains-append_left (decided g s (producer g here)) (sent_by_value g s here) m i)
+          | inr i ↦ frozen_says m (Contains-append_right (decided g s (producer g here)) (sent_by_value g s here) m i.1)
+        ]
+        of_parts m (inr j) off = absurd (Contains-nil m (subst (λ (b : Bool). Contains (if b then carried_at_end g order rows s (producer g here) ++ flat_map (queued g order rows s) (queued_before g order here) else []) m) off j))
+
+    of_frozen : is_frozen g here ≡ true → IsFrozenAt g urgency here added.unfrozen added.goes before after added.sent → Tells s (carried_at_send g order rows s here) (get_or t.times here None) added.sent
+    of_frozen e at =
+        let is : get_or frozen here None ≡ Some at.time = same ∙ ap (λ f. get_or f here None) at.set ∙ get_or-set_same before here (Some at.time) None long in
+        subst (λ (o : Option ℕ). Tells s (carried_at_send g order rows s here) o added.sent)
+        (frozen_send_value g order frozen s t run here within at.time is (λ on. (settled e).greatest at.time (unfrozen_time g order s t here) is (would on)))
+        (frozen_send_line g order rows s few here says added.goes of_goes at_most e added.sent at.time added.goes_tree at.made)
+
+    sends_told : Tells s (carried_at_send g order rows s here) (get_or t.times here None) added.sent
+    sends_told = by added.fixed
+      where
+        by : IsFixed g urgency here added.unfrozen added.goes before after added.sent → Tells s (carried_at_send g order rows s here) (get_or t.times here None) added.sent
+        by (inl th) = of_thawed th
+        by (inr (e, inl never)) = of_never e never
+        by (inr (e, inr at)) = of_frozen e at
+
+    times_is : times_of g new here ≡ added.sent
+    times_is = ap (λ (f : ForestState). times_of g f here) added.is ∙ get_or-set_same old.times here added.sent (no_tree g.faults) (omega (arith, within, trees.times))
+
+    -- the trees of the item tell its time in the run
+    pub item_told : Tells s (carried_at_send g order rows s here) (get_or t.times here None) (times_of g new here)
+    item_told = subst (λ (u : TreeState (Option ℕ)). Tells s (carried_at_send g order rows s here) (get_or t.times here None) u) (sym times_is) sends_told
+
+    -- ---- when the slots are free then
+
+    free_is : free_of g new (node_of g p) ≡ added.freed
+    free_is = ap (λ (f : ForestState). free_of g f (node_of g p)) added.is
+        ∙ ap (λ n. get_or (set old.free n added.freed) (node_of g p) (no_tree g.faults)) (ap (node_of g) by)
+        ∙ get_or-set_same old.free (node_of g p) added.freed (no_tree g.faults) (omega (arith, on_node, trees.free))
+
+    abbrev free_then : ℕ
+    free_then = if item_active g s.values (item_at g here) then time_later (round g) (get_or t.times here None) else once.time
+
+    free_tells : Tells s (flat_map (queued g order rows s) (sent_so_far g order p (k + 1))) free_then added.freed
+    free_tells = tells_after g order topological s p l k inside rows free_then added.freed
+        (free_line g order rows s few here acts says added.goes of_goes at_most (round g) added.sent (free_of g old (home g here)) added.freed (get_or t.times here None) once.time added.frees sends_told waits)
+
+    most_then : (b : Bool) → item_active g s.values (item_at g here) ≡ b → IsMost (IsSentBy g order s p (k + 1)) (free_after g t) (if b then time_later (round g) (get_or t.times here None) else once.time)
+    most_then true on = subst (IsMost (IsSentBy g order s p (k + 1)) (free_after g t)) (sym (later_exact (get_or t.times here None) (round g) (small.times here) (round-le g limits)))
+        (free_next g order topological s p l k inside frozen t run once.time once.is on)
+    most_then false off = free_same g order topological s p l k inside t once.time off once.is
+
+    pub free_once : IsFreeOnce g order rows s t p (k + 1) new
+    free_once = record {
+      time = free_then;
+      is = most_then (item_active g s.values (item_at g here)) refl;
+      tells = subst (λ (u : TreeState ℕ). Tells s (flat_map (queued g order rows s) (sent_so_far g order p (k + 1))) free_then u) (sym free_is) free_tells;
+    }

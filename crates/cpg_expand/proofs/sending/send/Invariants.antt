@@ -1,0 +1,13 @@
+use Rattle.std.proofs.Common.{◌≡◌, length, take}
+use Rattle.cpg_base.specs.Graph.{item_count}
+use Rattle.cpg_bus.specs.Plan.{queue_of}
+use Rattle.cpg_expand.specs.Forest.{HasTrees}
+use Rattle.cpg_expand.specs.Sent.{AreItemsAdded}
+use Rattle.cpg_expand.proofs.sending.send.Given as goal
+
+abbrev pub invariant-loop-item : goal.invariant-loop-item
+invariant-loop-item l = record {
+  trees : HasTrees l.admitted.graph l.forest;
+  count : length l.frozen ≡ item_count l.admitted.graph;
+  added : AreItemsAdded l.admitted.graph l.admitted.order l.active (take l.item-index (queue_of l.admitted.graph l.process)) l.fn.forest l.forest l.fn.frozen l.frozen;
+}
