@@ -1,6 +1,6 @@
 -- What the operations on trees make of trees that agree with what is carried.
-use Rattle.std.proofs.Common.{ℕ, zero, suc, ◌≤◌, ◌<◌, ◌≡◌, max, min, ◌==◌, Bool, true, false, if◌then◌else◌, List, [], ◌∷◌, ◌++◌, length, filter, get_or, sum, sum_by, ◌+◌, Contains, arith, refl, sym, ap, ◌∙◌, subst, inl, inr}
-use Rattle.std.proofs.lemmas.List.Elements.{Contains-append_cases, Contains-append_left, Contains-append_right}
+use Rattle.std.proofs.Common.{ℕ, zero, suc, ◌≤◌, ◌≡◌, max, min, Bool, true, false, if◌then◌else◌, List, [], ◌∷◌, ◌++◌, length, filter, get_or, sum, sum_by, ◌+◌, Contains, arith, refl, sym, subst, inl, inr}
+use Rattle.std.proofs.lemmas.List.Elements.{Contains-append_left, Contains-append_right}
 use Rattle.std.proofs.lemmas.Bool.{cases_eq}
 use Rattle.cpg_base.proofs.Lists.{Contains-first, Contains-filter_parts}
 use Rattle.cpg_run.proofs.SameInRows.{only_one}

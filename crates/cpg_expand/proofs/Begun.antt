@@ -1,34 +1,31 @@
 -- Once the start, the end and the readiness of its node are set, a process has begun: trees that were grown before its place go on to tell the runs.
-use Rattle.std.proofs.Common.{ℕ, ◌+◌, ◌*◌, ◌<◌, ◌≤◌, ◌≡◌, ◌≢◌, ◌==◌, max, Bool, true, false, if◌then◌else◌, List, [], ◌∷◌, ◌++◌, length, map, filter, take, set, get_or, flat_map, Option, Some, None, unwrap_or, Contains, ◌⊎◌, arith, refl, sym, ap, ap₂, ◌∙◌, subst, inl, inr, get_or-set_same, get_or-set_other}
+use Rattle.std.proofs.Common.{ℕ, ◌+◌, ◌*◌, ◌<◌, ◌≤◌, ◌≡◌, ◌≢◌, max, Bool, true, false, if◌then◌else◌, List, [], ◌++◌, length, map, get_or, flat_map, Option, Some, None, unwrap_or, Contains, ◌⊎◌, arith, refl, sym, ap, ap₂, ◌∙◌, subst, inl, inr, get_or-set_same, get_or-set_other}
 use Rattle.std.proofs.lemmas.Bool.{cases_eq, cases_lt, cond-true, cond-false}
 use Rattle.std.proofs.lemmas.Option.{none-some}
 use Rattle.std.proofs.lemmas.List.{get_or-map}
 use Rattle.std.proofs.lemmas.List.Sums.{get_or-le-sum_by}
 use Rattle.std.proofs.lemmas.List.Elements.{All-contains, Contains-append_left}
 use Rattle.cpg_base.specs.Numbers.{greatest}
-use Rattle.cpg_base.specs.Limits.{IsWithinLimits}
-use Rattle.cpg_base.specs.Graph.{Graph, process_at, process_count, condition_count, item_count, item_at, node_of, inputs, is_frozen, is_frozen_item, producer, producer_of_item}
+use Rattle.cpg_base.specs.Graph.{Graph, process_at, process_count, condition_count, item_count, item_at, node_of, is_frozen, is_frozen_item, producer, producer_of_item}
 use Rattle.cpg_base.specs.Activity.{active, activation, item_active}
-use Rattle.cpg_base.specs.WellFormed.{HasSingleJoins}
 use Rattle.cpg_base.specs.declared.item.Item.{Item}
 use Rattle.cpg_base.proofs.Items.{item_at-start}
 use Rattle.cpg_base.proofs.Lists.{Contains-nil, Contains-map, Contains-flat_map, Contains-flat_map_parts, Contains-map_parts}
-use Rattle.cpg_bus.specs.Plan.{queue_of}
 use Rattle.cpg_guard.specs.Guards.{Guards}
 use Rattle.cpg_rules.specs.Admission.{IsAdmitted}
 use Rattle.cpg_order.specs.Deciding.{deciding}
 use Rattle.cpg_order.specs.Guard.{Guard, outcome_at, way, IsGuardOf}
 use Rattle.cpg_order.specs.Scenario.{Scenario, IsScenario, fault_of}
-use Rattle.cpg_order.specs.Urgency.{IsTopological, IsUrgencyOrder, place, before_on_node}
+use Rattle.cpg_order.specs.Urgency.{IsTopological, place, before_on_node}
 use Rattle.cpg_order.proofs.Moments.{moment, moment_of_start, phase, phases, phase_below, sooner}
 use Rattle.cpg_order.proofs.Places.{Contains-order, same_place}
 use Rattle.cpg_cube.specs.declared.literal.Literal.{Literal}
 use Rattle.cpg_table.specs.Table.{Column}
-use Rattle.cpg_run.specs.Run.{Times, IsRun, end_in, heard_there, input_bounds, unfrozen_time}
+use Rattle.cpg_run.specs.Run.{Times, IsRun, heard_there, unfrozen_time}
 use Rattle.cpg_run.specs.Carried.{row_at, decided, heard, received, carried, carried_by_item, carried_at_start, carried_at_end, passed, queued}
 use Rattle.cpg_run.specs.Known.{AreEarly, AreSmall}
 use Rattle.cpg_run.specs.Latest.{IsUnfrozenTime}
-use Rattle.cpg_run.specs.Progress.{IsReady, IsSentBefore, IsSentBy, free_after}
+use Rattle.cpg_run.specs.Progress.{IsSentBefore, IsSentBy, free_after}
 use Rattle.cpg_run.proofs.EarlyTimes.{early_from_low}
 use Rattle.cpg_run.proofs.Mosts.{most_same}
 use Rattle.cpg_run.proofs.Runs.{time_is}
@@ -37,21 +34,20 @@ use Rattle.cpg_tree.specs.Space.{HasFew}
 use Rattle.cpg_tree.specs.Tree.{Path, TreeState, IsOn, IsConstant}
 use Rattle.cpg_expand.specs.Begun.{IsBegun}
 use Rattle.cpg_expand.specs.Sent.{sent_before, sent_so_far, IsFreeOnce}
-use Rattle.cpg_expand.specs.Agreeing.{Tells, IsTree}
-use Rattle.cpg_expand.specs.Ending.{IsEndTree, IsReadyTree}
+use Rattle.cpg_expand.specs.Agreeing.{Tells}
 use Rattle.cpg_expand.specs.Forest.{ForestState, HasTrees, no_tree, times_of, ends_of}
-use Rattle.cpg_expand.specs.Freezing.{IsThawed, IsNeverFrozen, IsFrozenBy, IsFixed}
+use Rattle.cpg_expand.specs.Freezing.{IsNeverFrozen, IsFrozenBy, IsFixed}
 use Rattle.cpg_expand.specs.Grown.{RowsHold, IsReadyLine, IsFreeLine, Lines, SendLines, LeavesUnsent, IsEarlier, IsDone, AreSettledOf, IsGrown, IsSending}
-use Rattle.cpg_expand.specs.Guarded.{IsActiveTree, IsStartTree, value_known, values_known}
+use Rattle.cpg_expand.specs.Guarded.{value_known, values_known}
 use Rattle.cpg_expand.specs.Told.{HasTold}
-use Rattle.cpg_expand.specs.Waiting.{IsWaitTree, ready_of, free_of}
+use Rattle.cpg_expand.specs.Waiting.{ready_of, free_of}
 use Rattle.cpg_expand.proofs.AgreeingTrees.{agrees_weaker, scenario_few, the_path}
-use Rattle.cpg_expand.proofs.FrozenFound.{IsFound, frozen_found}
+use Rattle.cpg_expand.proofs.FrozenFound.{frozen_found}
 use Rattle.cpg_expand.proofs.FrozenLine.{frozen_line, frozen_value}
 use Rattle.cpg_expand.proofs.GrownLines.{told_from_lines, lines_over}
-use Rattle.cpg_expand.proofs.NextPlace.{ready_next, ready_elsewhere, same_before, settled_idle, settled_more}
+use Rattle.cpg_expand.proofs.NextPlace.{ready_next, ready_elsewhere, settled_idle, settled_more}
 use Rattle.cpg_expand.proofs.ReadyLine.{ready_line}
-use Rattle.cpg_expand.proofs.StartLine.{on_way, leads, wait_line, start_told, start_idle, start_line}
+use Rattle.cpg_expand.proofs.StartLine.{on_way, wait_line, start_told, start_idle, start_line}
 use Rattle.cpg_expand.proofs.StartValue.{most, start_value, waited_ends, end_line}
 use Rattle.cpg_expand.proofs.UnfrozenStart.{unfrozen_value}
 

@@ -1,29 +1,26 @@
 -- What the trees behind a start say is carried beside it.
-use Rattle.std.proofs.Common.{ℕ, ◌+◌, ◌<◌, ◌≤◌, ◌≡◌, ◌==◌, ◌&&◌, Bool, true, false, if◌then◌else◌, List, [], ◌∷◌, ◌++◌, map, filter, flat_map, get_or, Option, Some, None, Contains, ◌⊎◌, IsPermutation, arith, eq-eqb, eqb-true, refl, sym, ap, ◌∙◌, subst, inl, inr}
-use Rattle.std.proofs.lemmas.Bool.{and_parts, cases_eq, ne_eqb}
+use Rattle.std.proofs.Common.{ℕ, ◌<◌, ◌≡◌, ◌==◌, Bool, true, false, if◌then◌else◌, List, [], ◌∷◌, ◌++◌, filter, flat_map, Contains, ◌⊎◌, arith, eq-eqb, eqb-true, refl, sym, ◌∙◌, subst, inl, inr}
+use Rattle.std.proofs.lemmas.Bool.{cases_eq, ne_eqb}
 use Rattle.std.proofs.lemmas.List.Elements.{Contains-append_cases, Contains-append_left, Contains-append_right}
 use Rattle.cpg_base.specs.Numbers.{numbers_below}
 use Rattle.cpg_base.specs.Graph.{Graph, process_at, process_count, condition_count, node_of, source, inputs, is_message, message_item, broadcast_item, process_of}
-use Rattle.cpg_base.specs.Activity.{active, live, takes, value_of}
+use Rattle.cpg_base.specs.Activity.{active}
 use Rattle.cpg_base.proofs.Items.{process_of_below}
-use Rattle.cpg_base.proofs.Lists.{Contains-cases, Contains-first, Contains-nil, Contains-filter, Contains-filter_parts, Contains-flat_map, Contains-flat_map_parts, Contains-map, Contains-map_parts, Contains-numbers, numbers-Contains}
+use Rattle.cpg_base.proofs.Lists.{Contains-cases, Contains-nil, Contains-filter, Contains-filter_parts, Contains-flat_map, Contains-flat_map_parts, Contains-map, numbers-Contains}
 use Rattle.cpg_order.specs.Urgency.{IsTopological, IsUrgencyOrder, place, before, before_on_node}
 use Rattle.cpg_order.specs.Deciding.{decides, deciding}
 use Rattle.cpg_order.specs.Scenario.{Scenario}
-use Rattle.cpg_order.proofs.Acyclic.{input_goes_up, source_in_order}
+use Rattle.cpg_order.proofs.Acyclic.{input_goes_up}
 use Rattle.cpg_order.proofs.DecidingLaws.{decides_earlier, deciding_is_active}
 use Rattle.cpg_order.proofs.Places.{Contains-before, Contains-order, on_node_before}
 use Rattle.cpg_cube.specs.Cube.{matches}
 use Rattle.cpg_cube.specs.declared.literal.Literal.{Literal}
-use Rattle.cpg_table.specs.Heard.{kept_low, kept_high}
 use Rattle.cpg_table.specs.Table.{Column}
 use Rattle.cpg_run.proofs.KnownRanges.{range_known}
 use Rattle.cpg_run.specs.Carried.{row_at, told_by, number_known, decided, heard, received, executed, passed, carried_at_start, carried_at_end}
 use Rattle.cpg_tree.specs.Tree.{Path, TreeState, IsOn}
 use Rattle.cpg_expand.specs.Agreeing.{Agrees}
-use Rattle.cpg_run.specs.Carrying.{ContainsKept}
-use Rattle.cpg_expand.specs.Guarded.{value_known, values_known, told_of}
-use Rattle.cpg_expand.specs.TreeRows.{as_column}
+use Rattle.cpg_expand.specs.Guarded.{value_known, told_of}
 
 -- ---- the literals of a column that matches are told
 

@@ -1,6 +1,5 @@
 -- The greatest time of a tree that tells what an item would have is its frozen time.
-use Rattle.std.proofs.Common.{ℕ, ◌<◌, ◌≤◌, ◌≡◌, ◌≢◌, Bool, true, false, if◌then◌else◌, List, length, get_or, Option, Some, None, unwrap_or, All, Contains, ◌⊎◌, arith, refl, sym, ap, ◌∙◌, subst, inl, inr, get_or-set_same, get_or-set_other}
-use Rattle.std.specs.Prelude.{slice_set}
+use Rattle.std.proofs.Common.{ℕ, ◌<◌, ◌≡◌, ◌≢◌, Bool, true, false, if◌then◌else◌, List, length, get_or, Option, Some, None, unwrap_or, All, Contains, arith, refl, sym, ap, ◌∙◌, subst, inl, inr, get_or-set_same, get_or-set_other}
 use Rattle.std.proofs.lemmas.Bool.{cond-true}
 use Rattle.std.proofs.lemmas.List.{length-set}
 use Rattle.std.proofs.lemmas.List.Elements.{All-contains}
@@ -16,7 +15,7 @@ use Rattle.cpg_run.proofs.RunExists.{a_run}
 use Rattle.cpg_tree.specs.Greatest.{IsGreatestOf}
 use Rattle.cpg_tree.specs.Tree.{Path, TreeState, IsOn}
 use Rattle.cpg_expand.specs.Agreeing.{IsTree}
-use Rattle.cpg_expand.specs.Freezing.{IsNeverFrozen, IsFrozenAt, IsFrozenBy}
+use Rattle.cpg_expand.specs.Freezing.{IsFrozenBy}
 use Rattle.cpg_expand.proofs.AgreeingTrees.{scenario_few, the_path}
 
 some_same : (a b : ℕ) → Some a ≡ Some b → a ≡ b

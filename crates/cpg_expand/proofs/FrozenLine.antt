@@ -1,7 +1,7 @@
 -- The tree of a frozen start agrees with what is carried beside it.
-use Rattle.std.proofs.Common.{ℕ, ◌<◌, ◌≤◌, ◌≡◌, max, Bool, true, false, if◌then◌else◌, List, [], ◌∷◌, ◌++◌, map, flat_map, get_or, Option, Some, None, option_to_list, Contains, arith, refl, sym, ap, ◌∙◌, subst}
-use Rattle.cpg_base.specs.Numbers.{greatest, numbers_below}
-use Rattle.cpg_base.specs.Graph.{Graph, process_at, process_count, item_count, item_at}
+use Rattle.std.proofs.Common.{ℕ, ◌<◌, ◌≤◌, ◌≡◌, Bool, true, false, if◌then◌else◌, List, [], ◌∷◌, ◌++◌, flat_map, get_or, Option, Some, None, option_to_list, Contains, arith, refl, sym, ap, ◌∙◌, subst}
+use Rattle.cpg_base.specs.Numbers.{greatest}
+use Rattle.cpg_base.specs.Graph.{Graph, process_at, process_count, item_count}
 use Rattle.cpg_base.specs.Activity.{active, activation, is_active, item_active}
 use Rattle.cpg_base.specs.declared.activation.Activation.{Activation}
 use Rattle.cpg_base.proofs.Items.{item_at-start}

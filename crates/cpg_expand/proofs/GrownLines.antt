@@ -1,25 +1,23 @@
 -- Trees that are grown tell what starts and sends rest on; lines go over to other frozen times; the first trees are grown.
-use Rattle.std.proofs.Common.{ℕ, ◌+◌, ◌*◌, ◌<◌, ◌≤◌, ◌≡◌, ◌≢◌, ◌==◌, ◌&&◌, nat_lt, Bool, true, false, List, [], length, get_or, flat_map, Option, Some, None, All, Contains, ◌⊎◌, arith, refl, sym, ap, ◌∙◌, subst, inl, inr}
+use Rattle.std.proofs.Common.{ℕ, ◌*◌, ◌<◌, ◌≡◌, List, [], length, get_or, Option, None, arith, refl, sym, ◌∙◌, subst}
 use Rattle.std.proofs.lemmas.Option.{none-some}
 use Rattle.std.proofs.lemmas.List.{length-replicate}
 use Rattle.std.proofs.lemmas.List.Elements.{All-get_or}
-use Rattle.cpg_base.specs.Graph.{Graph, process_count, item_count, item_at, producer}
-use Rattle.cpg_base.specs.Activity.{item_active}
+use Rattle.cpg_base.specs.Graph.{Graph, item_count, item_at, producer}
 use Rattle.cpg_base.proofs.Lists.{Contains-nil}
-use Rattle.cpg_order.specs.Scenario.{Scenario, IsScenario}
+use Rattle.cpg_order.specs.Scenario.{Scenario}
 use Rattle.cpg_order.specs.Urgency.{IsTopological, place}
 use Rattle.cpg_order.proofs.Moments.{phase, phases}
 use Rattle.cpg_table.specs.Table.{Column}
 use Rattle.cpg_run.specs.Run.{Times, IsRun}
 use Rattle.cpg_run.specs.Frozen.{nothing_frozen}
-use Rattle.cpg_run.specs.Carried.{told_by, carried, carried_at_end, passed, queued}
-use Rattle.cpg_run.specs.Progress.{IsReady, IsFree}
+use Rattle.cpg_run.specs.Carried.{carried, carried_at_end}
 use Rattle.cpg_run.proofs.Agreeing.{earlier_place, item_before, end_before, ready_same, free_same}
 use Rattle.cpg_run.proofs.Settled.{none_frozen}
 use Rattle.cpg_run.proofs.Runs.{has_time}
 use Rattle.cpg_run.proofs.RunExists.{a_run}
 use Rattle.cpg_run.proofs.RunUnique.{AgreeBefore, agree_before}
-use Rattle.cpg_tree.specs.Tree.{Path, TreeState, IsOn, IsConstant}
+use Rattle.cpg_tree.specs.Tree.{IsConstant}
 use Rattle.cpg_expand.specs.Agreeing.{Tells}
 use Rattle.cpg_expand.specs.Forest.{ForestState, HasTrees, no_tree, times_of, ends_of}
 use Rattle.cpg_expand.specs.Grown.{RowsHold, IsReadyLine, IsFreeLine, Lines, IsEarlier, AreSettledOf, IsGrown, IsBare}

@@ -1,12 +1,10 @@
 -- Once a process has sent all that it sends, the trees are grown up to the next place.
-use Rattle.std.proofs.Common.{ℕ, ◌+◌, ◌<◌, ◌≤◌, ◌≡◌, ◌≢◌, ◌&&◌, Bool, true, false, List, [], ◌∷◌, ◌++◌, length, take, get_or, flat_map, Option, None, Contains, ◌⊎◌, arith, refl, sym, ap, ◌∙◌, subst, inl, inr}
+use Rattle.std.proofs.Common.{ℕ, ◌+◌, ◌<◌, ◌≤◌, ◌≡◌, ◌≢◌, ◌&&◌, Bool, true, false, List, [], length, take, get_or, flat_map, Option, None, Contains, ◌⊎◌, arith, refl, sym, ap, ◌∙◌, subst, inl, inr}
 use Rattle.std.proofs.lemmas.Bool.{and_parts, cases_Bool, cases_eq, cases_lt, cond-false}
 use Rattle.std.proofs.lemmas.List.{take_all}
 use Rattle.std.proofs.lemmas.List.Elements.{Contains-append_cases}
 use Rattle.cpg_base.specs.Graph.{Graph, process_count, item_count, item_at, edge_at, is_message, is_sent, is_sent_item, is_frozen, is_frozen_item, node_of, producer, producer_of_item, process_of}
 use Rattle.cpg_base.specs.Activity.{active, live, item_active}
-use Rattle.cpg_base.specs.declared.item.Item.{Item}
-use Rattle.cpg_base.specs.declared.item.Item.TheVariants.{Start, Message, Broadcast}
 use Rattle.cpg_base.proofs.Items.{item_cases, ItemCases, item_at-start}
 use Rattle.cpg_base.proofs.Lists.{Contains-nil, Contains-flat_map, Contains-flat_map_parts}
 use Rattle.cpg_bus.specs.Plan.{queue_of}
@@ -15,18 +13,16 @@ use Rattle.cpg_order.specs.Scenario.{Scenario}
 use Rattle.cpg_order.specs.Urgency.{IsTopological, place}
 use Rattle.cpg_order.proofs.Moments.{producer_in_range}
 use Rattle.cpg_order.proofs.Places.{Contains-order, same_place}
-use Rattle.cpg_cube.specs.declared.literal.Literal.{Literal}
 use Rattle.cpg_table.specs.Table.{Column}
 use Rattle.cpg_run.specs.Run.{Times, IsRun}
 use Rattle.cpg_run.specs.Carried.{carried, queued}
 use Rattle.cpg_run.proofs.Runs.{time_is}
 use Rattle.cpg_run.proofs.Sends.{Contains-take}
 use Rattle.cpg_run.proofs.Steps.{free_here, free_other}
-use Rattle.cpg_tree.specs.Tree.{TreeState}
 use Rattle.cpg_expand.specs.Agreeing.{Tells}
 use Rattle.cpg_expand.specs.Forest.{ForestState, times_of}
 use Rattle.cpg_expand.specs.Grown.{RowsHold, IsFreeLine, Lines, SendLines, IsEarlier, IsDone, AreSettledOf, IsGrown, IsSending, on_node}
-use Rattle.cpg_expand.specs.Sent.{sent_before, sent_so_far, IsFreeOnce}
+use Rattle.cpg_expand.specs.Sent.{sent_before, sent_so_far}
 use Rattle.cpg_expand.specs.Waiting.{free_of}
 use Rattle.cpg_expand.proofs.AgreeingTrees.{agrees_constant, agrees_weaker}
 use Rattle.cpg_expand.proofs.NextPlace.{kept_on, here_on}

@@ -1,13 +1,11 @@
 -- The leaves of a guard are activations of its process, so they lead to inputs of the graph.
-use Rattle.std.proofs.Common.{ℕ, ◌+◌, ◌<◌, ◌≤◌, ◌≡◌, ◌≢◌, Bool, true, false, if◌then◌else◌, List, [], ◌∷◌, length, filter, get_or, set, Contains, arith, refl, sym, ap, ◌∙◌, subst, inl, inr, get_or-set_same, get_or-set_other}
+use Rattle.std.proofs.Common.{ℕ, ◌+◌, ◌<◌, ◌≡◌, Bool, true, false, if◌then◌else◌, List, [], ◌∷◌, length, filter, get_or, set, Contains, arith, refl, sym, ap, ◌∙◌, subst, get_or-set_same, get_or-set_other}
 use Rattle.std.specs.List.{list_all}
-use Rattle.std.proofs.lemmas.Bool.{cases_eq}
 use Rattle.std.proofs.lemmas.List.{length-set, length-replicate}
 use Rattle.std.specs.Prelude.{replicate}
 use Rattle.cpg_base.specs.Graph.{Graph, process_at, process_count, condition_count, edge_count, inputs, process_of}
 use Rattle.cpg_base.specs.Activity.{activation, activation_by, by_first, live}
-use Rattle.cpg_base.specs.declared.activation.Activation.{Activation}
-use Rattle.cpg_base.specs.declared.activation.Activation.TheVariants.{Inactive, Plain, By}
+use Rattle.cpg_base.specs.declared.activation.Activation.TheVariants.{Inactive, Plain}
 use Rattle.cpg_base.proofs.Inputs.{inputs_parts}
 use Rattle.cpg_base.proofs.Lists.{Contains-first, Contains-filter_parts}
 use Rattle.cpg_order.specs.Guard.{Guard, Leaf, Test, outcome_at, IsOrderedFrom, IsGuardOf}

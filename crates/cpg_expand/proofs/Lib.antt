@@ -29,3 +29,7 @@ pub mod SentAll
 pub mod ItemKept
 pub mod SendingOver
 pub mod SendingNext
+pub mod BegunMade
+pub mod RowsMade
+pub mod GrownRows
+pub mod Stepped

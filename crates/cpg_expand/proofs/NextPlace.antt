@@ -1,5 +1,5 @@
 -- What a node carries on, when it is ready and which frozen times are settled at the next place.
-use Rattle.std.proofs.Common.{ℕ, ◌+◌, ◌<◌, ◌≤◌, ◌≡◌, ◌≢◌, ◌==◌, max, Bool, true, false, if◌then◌else◌, List, [], ◌∷◌, ◌++◌, length, filter, take, get_or, flat_map, Option, Some, None, Contains, ◌⊎◌, arith, eq-eqb, eqb-true, refl, sym, ap, ◌∙◌, subst, inl, inr}
+use Rattle.std.proofs.Common.{ℕ, ◌+◌, ◌<◌, ◌≤◌, ◌≡◌, ◌≢◌, ◌==◌, max, Bool, true, false, if◌then◌else◌, List, ◌++◌, length, filter, take, get_or, flat_map, Option, None, Contains, ◌⊎◌, arith, eq-eqb, refl, sym, ap, ◌∙◌, subst, inl, inr}
 use Rattle.std.proofs.lemmas.Bool.{cases_eq}
 use Rattle.std.proofs.lemmas.List.Elements.{Contains-append_cases}
 use Rattle.cpg_base.specs.Graph.{Graph, process_count, condition_count, item_count, node_of, is_frozen}

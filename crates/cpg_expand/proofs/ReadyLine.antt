@@ -1,5 +1,5 @@
 -- The tree of when a node goes on after a process agrees with what the node carries on.
-use Rattle.std.proofs.Common.{ℕ, ◌+◌, ◌^◌, ◌<◌, ◌≤◌, ◌≡◌, min, Bool, true, false, if◌then◌else◌, List, [], ◌∷◌, ◌++◌, map, flat_map, get_or, Option, None, unwrap_or, Contains, ◌⊎◌, arith, refl, sym, ap, ◌∙◌, subst, inl, inr}
+use Rattle.std.proofs.Common.{ℕ, ◌≡◌, Bool, true, false, if◌then◌else◌, List, ◌++◌, flat_map, get_or, Option, None, Contains, arith, refl, sym, ap, ◌∙◌, subst, inl, inr}
 use Rattle.std.proofs.lemmas.List.Elements.{Contains-append_cases, Contains-append_left, Contains-append_right}
 use Rattle.cpg_base.specs.Graph.{Graph}
 use Rattle.cpg_base.specs.Activity.{active, activation, is_active}
@@ -16,7 +16,7 @@ use Rattle.cpg_run.specs.Carried.{decided, heard, passed, carried_at_end}
 use Rattle.cpg_run.specs.Known.{AreSmall}
 use Rattle.cpg_tree.specs.Space.{HasFew}
 use Rattle.cpg_tree.specs.Tree.{TreeState}
-use Rattle.cpg_expand.specs.Agreeing.{Agrees, Tells}
+use Rattle.cpg_expand.specs.Agreeing.{Tells}
 use Rattle.cpg_expand.specs.Ending.{IsReadyTree}
 use Rattle.cpg_expand.specs.Guarded.{IsActiveTree, value_known, values_known}
 use Rattle.cpg_expand.specs.Values.{time_later}

@@ -1,5 +1,5 @@
 -- The trees of a send and of when the slots are free then agree with what is carried beside them.
-use Rattle.std.proofs.Common.{ℕ, ◌+◌, ◌<◌, ◌≤◌, ◌≡◌, ◌&&◌, not, Bool, true, false, if◌then◌else◌, List, [], ◌∷◌, ◌++◌, map, flat_map, get_or, Option, None, Contains, ◌⊎◌, arith, refl, sym, ap, ap₂, ◌∙◌, subst, inl, inr}
+use Rattle.std.proofs.Common.{ℕ, ◌≡◌, ◌&&◌, not, Bool, true, false, if◌then◌else◌, List, [], ◌∷◌, ◌++◌, flat_map, Option, None, Contains, ◌⊎◌, refl, sym, ap, ap₂, subst, inl, inr}
 use Rattle.std.proofs.lemmas.List.Elements.{Contains-append_cases, Contains-append_left, Contains-append_right}
 use Rattle.cpg_base.specs.Graph.{Graph, process_at, item_at, is_frozen, producer}
 use Rattle.cpg_base.specs.Activity.{active, item_active}
@@ -10,7 +10,6 @@ use Rattle.cpg_order.specs.Urgency.{before_on_node}
 use Rattle.cpg_order.specs.Scenario.{Scenario}
 use Rattle.cpg_cube.specs.declared.literal.Literal.{Literal}
 use Rattle.cpg_table.specs.Table.{Column}
-use Rattle.cpg_run.specs.Run.{Times}
 use Rattle.cpg_run.specs.Carried.{number_known, decided, heard, received, passed, carried_at_start, carried_at_end, carried_at_send, sent_by_value, queued}
 use Rattle.cpg_tree.specs.Space.{HasFew}
 use Rattle.cpg_tree.specs.Tree.{TreeState}

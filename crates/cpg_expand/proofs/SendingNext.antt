@@ -1,9 +1,9 @@
 -- One item after another is sent, until the process has sent all that it sends.
-use Rattle.std.proofs.Common.{ℕ, ◌+◌, suc, zero, ◌<◌, ◌≡◌, ◌≢◌, Bool, true, false, if◌then◌else◌, List, [], ◌∷◌, ◌++◌, length, take, get_or, flat_map, Option, Some, None, Contains, ◌⊎◌, arith, refl, sym, ap, ◌∙◌, subst, inl, inr}
+use Rattle.std.proofs.Common.{ℕ, ◌+◌, suc, ◌<◌, ◌≡◌, ◌≢◌, Bool, true, false, if◌then◌else◌, List, [], ◌∷◌, ◌++◌, length, take, get_or, flat_map, Option, Some, None, Contains, ◌⊎◌, arith, refl, sym, ap, ◌∙◌, subst, inl, inr}
 use Rattle.std.proofs.Math.Seq.{take-suc}
 use Rattle.std.proofs.lemmas.List.Elements.{Contains-append_cases}
-use Rattle.cpg_base.specs.Graph.{Graph, process_count, item_count, item_at, node_of, home, producer, is_frozen, is_sent, is_sent_item}
-use Rattle.cpg_base.specs.Activity.{active, activation, is_active, item_active}
+use Rattle.cpg_base.specs.Graph.{Graph, process_count, item_count, item_at, node_of, home, producer, is_sent, is_sent_item}
+use Rattle.cpg_base.specs.Activity.{active, is_active, item_active}
 use Rattle.cpg_base.specs.declared.activation.Activation.{Activation}
 use Rattle.cpg_base.specs.declared.item.Item.{Item}
 use Rattle.cpg_base.specs.declared.item.Item.TheVariants.{Start, Message, Broadcast}
@@ -20,11 +20,9 @@ use Rattle.cpg_order.specs.Scenario.{Scenario, IsScenario}
 use Rattle.cpg_order.specs.Urgency.{IsTopological, IsUrgencyOrder, place}
 use Rattle.cpg_order.proofs.Along.{from_along}
 use Rattle.cpg_order.proofs.Moments.{moment}
-use Rattle.cpg_cube.specs.declared.literal.Literal.{Literal}
 use Rattle.cpg_table.specs.Table.{Column}
 use Rattle.cpg_run.specs.Run.{Times, IsRun, unfrozen_time}
 use Rattle.cpg_run.specs.Carried.{decided, sent_by_value, carried, carried_by_item, carried_at_end, carried_at_send, queued}
-use Rattle.cpg_run.specs.Frozen.{IsFrozenTime}
 use Rattle.cpg_run.specs.Known.{AreEarly, AreSmall}
 use Rattle.cpg_run.proofs.EarlyTimes.{early_from_low}
 use Rattle.cpg_run.proofs.RunExists.{a_run}
@@ -32,16 +30,15 @@ use Rattle.cpg_run.proofs.RunUnique.{agree_before}
 use Rattle.cpg_run.proofs.SameSends.{producer_active}
 use Rattle.cpg_run.proofs.Sends.{here_sent, in_next}
 use Rattle.cpg_run.proofs.Small.{run_small}
-use Rattle.cpg_tree.specs.Space.{HasFew}
 use Rattle.cpg_tree.specs.Tree.{Path, TreeState, IsOn, IsConstant}
-use Rattle.cpg_expand.specs.Agreeing.{Tells, IsTree}
+use Rattle.cpg_expand.specs.Agreeing.{Tells}
 use Rattle.cpg_expand.specs.Forest.{ForestState, HasTrees, times_of, ends_of}
 use Rattle.cpg_expand.specs.Freezing.{IsFixed, IsFrozenBy}
-use Rattle.cpg_expand.specs.Grown.{RowsHold, IsReadyLine, IsFreeLine, SendLines, LeavesUnsent, IsEarlier, IsDone, AreSettledOf, IsSending}
+use Rattle.cpg_expand.specs.Grown.{RowsHold, IsReadyLine, IsFreeLine, SendLines, LeavesUnsent, IsDone, AreSettledOf, IsSending}
 use Rattle.cpg_expand.specs.Guarded.{IsActiveTree, value_known, values_known}
 use Rattle.cpg_expand.specs.Sent.{IsItemAdded, AreItemsAdded, IsFreeOnce, sent_so_far}
 use Rattle.cpg_expand.specs.Values.{slot_from}
-use Rattle.cpg_expand.specs.Waiting.{ready_of, free_of}
+use Rattle.cpg_expand.specs.Waiting.{free_of}
 use Rattle.cpg_expand.proofs.AgreeingTrees.{agrees_weaker, scenario_few}
 use Rattle.cpg_expand.proofs.Begun.{own_rows, own_rows_hold}
 use Rattle.cpg_expand.proofs.FreeRead.{has_put}

@@ -1,10 +1,9 @@
 -- What is done when a process sends an item rests only on the frozen times of what is done.
-use Rattle.std.proofs.Common.{ℕ, ◌+◌, ◌*◌, ◌<◌, ◌≤◌, ◌≡◌, ◌==◌, true, if◌then◌else◌, List, length, take, get_or, Contains, Option, None, unwrap_or, ◌⊎◌, arith, refl, sym, ap, ap₂, ◌∙◌, subst, inl, inr}
+use Rattle.std.proofs.Common.{ℕ, ◌+◌, ◌*◌, ◌<◌, ◌≤◌, ◌≡◌, ◌==◌, true, if◌then◌else◌, List, length, take, get_or, Contains, Option, unwrap_or, ◌⊎◌, arith, sym, ap, ap₂, ◌∙◌, subst, inl, inr}
 use Rattle.std.proofs.lemmas.Bool.{cases_lt}
 use Rattle.std.proofs.lemmas.List.Elements.{Contains-get_or}
 use Rattle.cpg_base.specs.Bus.{round, slot_length}
 use Rattle.cpg_base.specs.Graph.{Graph, process_count, condition_count, item_count, item_at, broadcast_item, producer, process_of, node_of, home}
-use Rattle.cpg_base.specs.Activity.{active}
 use Rattle.cpg_base.proofs.Items.{process_of_below}
 use Rattle.cpg_bus.specs.Plan.{queue_of}
 use Rattle.cpg_bus.proofs.Queued.{in_queue, below_first, rank_at, queue_rises}

@@ -1,5 +1,5 @@
 -- What stands before an item in its node's queue is what the node has sent so far.
-use Rattle.std.proofs.Common.{ℕ, ◌+◌, ◌<◌, ◌≡◌, ◌&&◌, ◌==◌, ltb, true, List, ◌++◌, length, flat_map, take, get_or, Contains, ◌⊎◌, ⊎_elim, arith, eq-eqb, eqb-true, lt-ltb, ltb-true, refl, sym, ap, ◌∙◌, inl, inr}
+use Rattle.std.proofs.Common.{ℕ, ◌+◌, ◌<◌, ◌≡◌, ◌&&◌, ◌==◌, ltb, true, List, ◌++◌, length, flat_map, take, get_or, Contains, ⊎_elim, arith, eq-eqb, eqb-true, lt-ltb, ltb-true, refl, sym, ap, ◌∙◌, inl, inr}
 use Rattle.std.proofs.lemmas.Bool.{and_parts, and_from, or_cases, or_left, or_right}
 use Rattle.std.proofs.lemmas.List.Elements.{Contains-append_cases, Contains-append_left, Contains-append_right}
 use Rattle.cpg_base.specs.Numbers.{numbers_below}

@@ -1,21 +1,20 @@
 -- The tree of a start agrees with what is carried beside it.
-use Rattle.std.proofs.Common.{ℕ, ◌+◌, ◌<◌, ◌≤◌, ◌≡◌, ◌==◌, ◌&&◌, nat_lt, not, max, Bool, true, false, if◌then◌else◌, List, [], ◌∷◌, ◌++◌, length, map, filter, flat_map, get_or, Option, Some, None, Contains, ◌⊎◌, arith, eq-eqb, eqb-true, lt-ltb, refl, sym, ap, ap₂, ◌∙◌, subst, inl, inr}
+use Rattle.std.proofs.Common.{ℕ, ◌<◌, ◌≡◌, ◌==◌, nat_lt, not, max, Bool, true, false, if◌then◌else◌, List, [], ◌++◌, length, map, flat_map, get_or, Option, Some, None, Contains, ◌⊎◌, arith, eq-eqb, lt-ltb, refl, sym, ap, ◌∙◌, subst, inl, inr}
 use Rattle.std.proofs.lemmas.Bool.{and_parts, and_from, cases_eq, ne_eqb}
 use Rattle.std.proofs.lemmas.List.Elements.{Contains-append_cases, Contains-append_left, Contains-append_right}
 use Rattle.cpg_base.specs.Numbers.{greatest}
 use Rattle.cpg_base.specs.Limits.{IsWithinLimits}
-use Rattle.cpg_base.specs.Graph.{Graph, process_at, process_count, condition_count, edge_count, item_count, item_at, node_of, source, target, inputs, is_message, message_item, broadcast_item, process_of, producer, producer_of_item}
+use Rattle.cpg_base.specs.Graph.{Graph, process_at, process_count, condition_count, edge_count, item_at, node_of, source, target, inputs, is_message, message_item, broadcast_item, process_of}
 use Rattle.cpg_base.specs.Activity.{activation, active, is_active, item_active, live}
 use Rattle.cpg_base.specs.WellFormed.{HasSingleJoins}
-use Rattle.cpg_base.specs.Scenario.{IsScenario}
 use Rattle.cpg_base.specs.declared.activation.Activation.{Activation}
 use Rattle.cpg_base.specs.declared.activation.Activation.TheVariants.{Inactive, Plain, By}
 use Rattle.cpg_base.proofs.Inputs.{inputs_parts}
 use Rattle.cpg_base.proofs.Items.{item_at-message, item_at-broadcast, process_of_below}
-use Rattle.cpg_base.proofs.Lists.{Contains-filter_parts, Contains-flat_map, Contains-flat_map_parts, Contains-nil, Contains-map, Contains-map_parts, numbers-Contains}
+use Rattle.cpg_base.proofs.Lists.{Contains-filter_parts, Contains-flat_map_parts, Contains-nil, Contains-map, Contains-map_parts, numbers-Contains}
 use Rattle.cpg_order.specs.Urgency.{IsTopological, IsUrgencyOrder, place, before_on_node}
 use Rattle.cpg_order.specs.Deciding.{decides, deciding}
-use Rattle.cpg_order.specs.Guard.{Guard, outcome_at, way, IsGuardOf, deciding_along}
+use Rattle.cpg_order.specs.Guard.{Guard, outcome_at, way, IsGuardOf}
 use Rattle.cpg_order.specs.Counting.{conditions_along}
 use Rattle.cpg_order.specs.Scenario.{Scenario}
 use Rattle.cpg_order.proofs.Acyclic.{input_goes_up, source_in_order}
@@ -26,13 +25,13 @@ use Rattle.cpg_guard.proofs.Ways.{ways_are_deciding}
 use Rattle.cpg_cube.specs.declared.literal.Literal.{Literal}
 use Rattle.cpg_table.specs.Table.{Column}
 use Rattle.cpg_run.specs.Run.{Times, input_bounds, heard_there}
-use Rattle.cpg_run.specs.Carried.{told_by, number_known, decided, heard, received, passed, carried_at_start, carried_at_end}
-use Rattle.cpg_run.proofs.CarriedBefore.{producer_of_message, producer_of_broadcast, hears_earlier}
+use Rattle.cpg_run.specs.Carried.{told_by, decided, heard, passed, carried_at_start, carried_at_end}
+use Rattle.cpg_run.proofs.CarriedBefore.{producer_of_message, hears_earlier}
 use Rattle.cpg_run.specs.Known.{AreSmall}
 use Rattle.cpg_run.proofs.Senders.{many_nodes}
 use Rattle.cpg_tree.specs.Space.{HasFew}
 use Rattle.cpg_tree.specs.Tree.{Path, TreeState, IsOn}
-use Rattle.cpg_expand.specs.Agreeing.{Agrees, Tells}
+use Rattle.cpg_expand.specs.Agreeing.{Tells}
 use Rattle.cpg_expand.specs.Forest.{ForestState, heard_tree, input_tree, heard_delay, input_delay, times_of, ends_of}
 use Rattle.cpg_expand.specs.Guarded.{IsStartTree, awaited, start_says, start_at, value_known, values_known, told_of, latest_of}
 use Rattle.cpg_expand.specs.Told.{HasTold}

@@ -1,21 +1,20 @@
 -- The times that the trees behind a start tell are those of the run.
-use Rattle.std.proofs.Common.{ℕ, ◌+◌, ◌-◌, ◌^◌, ◌<◌, ◌≤◌, ◌≡◌, ◌==◌, min, max, Bool, true, false, if◌then◌else◌, List, [], ◌∷◌, length, map, filter, get_or, Option, Some, None, unwrap_or, Contains, arith, refl, sym, ap, ap₂, ◌∙◌, subst}
+use Rattle.std.proofs.Common.{ℕ, ◌+◌, ◌^◌, ◌<◌, ◌≤◌, ◌≡◌, ◌==◌, max, Bool, true, false, if◌then◌else◌, List, [], ◌∷◌, length, map, filter, get_or, Option, Some, None, unwrap_or, arith, refl, sym, ap, ap₂, ◌∙◌, subst}
 use Rattle.std.proofs.lemmas.Bool.{and_parts, cond-true}
 use Rattle.std.specs.List.{list_all}
 use Rattle.cpg_base.specs.Numbers.{greatest}
-use Rattle.cpg_base.specs.Bus.{round, slot_length}
+use Rattle.cpg_base.specs.Bus.{slot_length}
 use Rattle.cpg_base.specs.Limits.{IsWithinLimits}
 use Rattle.cpg_base.specs.Graph.{Graph, process_at, process_count, condition_count, node_of, source, inputs, is_message, message_item, broadcast_item, process_of, home}
 use Rattle.cpg_base.specs.Activity.{activation, activation_by, by_first, active, is_active, live}
 use Rattle.cpg_base.specs.WellFormed.{HasSingleJoins}
 use Rattle.cpg_base.specs.declared.activation.Activation.{Activation}
-use Rattle.cpg_base.specs.declared.activation.Activation.TheVariants.{Inactive, Plain, By}
+use Rattle.cpg_base.specs.declared.activation.Activation.TheVariants.{Inactive, Plain}
 use Rattle.cpg_base.proofs.Bounds.{round-le, slot_length-le}
-use Rattle.cpg_base.proofs.Lists.{Contains-first, Contains-rest}
 use Rattle.cpg_order.specs.Scenario.{Scenario}
 use Rattle.cpg_order.specs.Urgency.{IsTopological}
 use Rattle.cpg_order.proofs.Acyclic.{activation_is}
-use Rattle.cpg_run.specs.Run.{Times, time_in, end_in, frame_there, input_there, heard_there, input_bounds}
+use Rattle.cpg_run.specs.Run.{Times, end_in, frame_there, input_there, heard_there, input_bounds}
 use Rattle.cpg_run.specs.Known.{AreSmall}
 use Rattle.cpg_expand.specs.Values.{time_later}
 use Rattle.cpg_expand.specs.Forest.{input_delay, heard_delay}

@@ -1,10 +1,10 @@
 -- The time of a start that isn't frozen, and the end after it, are the run's.
-use Rattle.std.proofs.Common.{ℕ, ◌+◌, ◌^◌, ◌<◌, ◌≤◌, ◌≡◌, nat_lt, min, max, Bool, true, false, if◌then◌else◌, List, [], ◌∷◌, ◌++◌, length, map, filter, get_or, Option, Some, None, unwrap_or, option_map, option_to_list, Contains, arith, le-ltb, lt-ltb, refl, sym, ap, ap₂, ◌∙◌, subst}
+use Rattle.std.proofs.Common.{ℕ, ◌+◌, ◌^◌, ◌<◌, ◌≤◌, ◌≡◌, nat_lt, max, Bool, true, false, if◌then◌else◌, List, ◌∷◌, length, map, filter, get_or, Option, Some, None, unwrap_or, option_map, option_to_list, Contains, arith, le-ltb, lt-ltb, refl, sym, ap, ◌∙◌, subst}
 use Rattle.std.proofs.lemmas.Bool.{cond-true, cond-false}
 use Rattle.cpg_base.specs.Numbers.{greatest, numbers_below}
 use Rattle.cpg_base.specs.Limits.{IsWithinLimits}
 use Rattle.cpg_base.specs.Duration.{duration}
-use Rattle.cpg_base.specs.Graph.{Graph, process_at, process_count, condition_count, item_count, item_at, node_of, inputs, producer}
+use Rattle.cpg_base.specs.Graph.{Graph, process_at, process_count, condition_count, item_count, node_of, inputs, producer}
 use Rattle.cpg_base.specs.Activity.{active, item_active, live}
 use Rattle.cpg_base.specs.Scenario.{IsScenario}
 use Rattle.cpg_base.proofs.Items.{item_at-start}
@@ -14,7 +14,7 @@ use Rattle.cpg_order.specs.Deciding.{decides}
 use Rattle.cpg_order.specs.Guard.{Guard, way, IsGuardOf}
 use Rattle.cpg_order.specs.Scenario.{Scenario, fault_of, number_of}
 use Rattle.cpg_guard.proofs.Ways.{ways_are_deciding}
-use Rattle.cpg_run.specs.Run.{Times, IsRun, time_in, end_in, input_bounds, input_there, heard_there, unfrozen_time, time_by, end_by}
+use Rattle.cpg_run.specs.Run.{Times, IsRun, end_in, input_bounds, input_there, heard_there, unfrozen_time, time_by, end_by}
 use Rattle.cpg_base.proofs.Durations.{duration_short}
 use Rattle.cpg_table.specs.Table.{Column}
 use Rattle.cpg_run.specs.Carried.{carried_at_start, carried_at_end}
@@ -23,7 +23,7 @@ use Rattle.cpg_tree.specs.Tree.{TreeState}
 use Rattle.cpg_expand.specs.Agreeing.{Tells}
 use Rattle.cpg_expand.specs.Values.{ended}
 use Rattle.cpg_expand.specs.Ending.{durations_of, IsEndTree}
-use Rattle.cpg_run.specs.Known.{frozen_in, AreSmall}
+use Rattle.cpg_run.specs.Known.{AreSmall}
 use Rattle.cpg_run.specs.Most.{IsMost}
 use Rattle.cpg_run.specs.Progress.{Knows, IsReady}
 use Rattle.cpg_run.proofs.Mosts.{most_deciding}

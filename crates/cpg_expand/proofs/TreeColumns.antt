@@ -1,8 +1,8 @@
 -- The row of a tree that agrees with what is carried beside an item's time is a carrying row.
-use Rattle.std.proofs.Common.{ℕ, ◌<◌, ◌≤◌, ◌≡◌, ◌+◌, Bool, true, false, cond, List, [], ◌∷◌, ◌++◌, length, map, filter, flat_map, get_or, Option, Some, None, option_to_list, All, Contains, IsPermutation, arith, refl, sym, ap, ◌∙◌, subst, inl, inr, length-append}
+use Rattle.std.proofs.Common.{ℕ, ◌≤◌, ◌≡◌, ◌+◌, Bool, true, false, cond, List, [], ◌∷◌, length, map, filter, get_or, Option, Some, None, option_to_list, All, Contains, IsPermutation, arith, refl, sym, ap, ◌∙◌, subst, inl, inr, length-append}
 use Rattle.std.proofs.lemmas.Bool.{cond-true, cond-false, false_from_ne_true}
 use Rattle.std.proofs.lemmas.List.{length-map, map-append}
-use Rattle.std.proofs.lemmas.List.Elements.{All-contains, Contains-get_or, filter-append}
+use Rattle.std.proofs.lemmas.List.Elements.{All-contains, filter-append}
 use Rattle.std.proofs.lemmas.List.Sorted.{IsPermutation-sym, IsPermutation-map, Contains-permutation}
 use Rattle.cpg_base.specs.Graph.{Graph, process_count}
 use Rattle.cpg_base.specs.Numbers.{numbers_below, is_below}
@@ -26,7 +26,7 @@ use Rattle.cpg_run.specs.RowLaws.{IsTimed}
 use Rattle.cpg_run.proofs.EntriesMerge.{the_one, every}
 use Rattle.cpg_tree.specs.Columns.{column_of, columns_of_paths, IsTidyColumn}
 use Rattle.cpg_cube.specs.Keys.{lows_along, AreByLows}
-use Rattle.cpg_tree.specs.Tree.{Path, TreeState, is_on, IsOn}
+use Rattle.cpg_tree.specs.Tree.{Path, TreeState, is_on}
 use Rattle.cpg_run.specs.Carrying.{ContainsKept, IsCarryingRow}
 use Rattle.cpg_expand.specs.Agreeing.{Agrees}
 use Rattle.cpg_expand.specs.TreeRows.{as_column, AreColumnsOf, IsTreeOf}
@@ -108,7 +108,8 @@ module _ (g : Graph) (few : process_count g ≤ 128) (urgency : List ℕ) (all :
         | inr none ↦ absurd (Contains-nil c none)
       ]
 
-  column_there : (x : Path (Option ℕ)) (time : ℕ) → Contains t.paths x → x.1 ≡ Some time → Contains (map as_column columns) (record { time = time; cube = x.0 })
+  -- and a path with a time gives a column
+  pub column_there : (x : Path (Option ℕ)) (time : ℕ) → Contains t.paths x → x.1 ≡ Some time → Contains (map as_column columns) (record { time = time; cube = x.0 })
   column_there x time j e = Contains-map as_column columns (time, x.0) (Contains-permutation (columns_of_paths t.paths) columns (time, x.0) are.all
       (Contains-flat_map (λ (p : Path (Option ℕ)). column_of p.0 p.1) t.paths x (time, x.0) j (subst (λ o. Contains (column_of x.0 o) (time, x.0)) (sym e) (Contains-first (time, x.0) []))))
 

@@ -1,5 +1,5 @@
 -- What a start would wait for if it were not frozen, by when its node is ready.
-use Rattle.std.proofs.Common.{ℕ, ◌+◌, ◌<◌, ◌≤◌, ◌≡◌, max, Bool, true, List, [], ◌∷◌, ◌++◌, length, map, flat_map, filter, get_or, Contains, arith, eq-eqb, eqb-true, ◌==◌, sym, ap, ◌∙◌, subst, inl, inr}
+use Rattle.std.proofs.Common.{ℕ, ◌<◌, ◌≤◌, ◌≡◌, max, true, List, [], ◌∷◌, ◌++◌, length, map, flat_map, filter, Contains, arith, eq-eqb, eqb-true, ◌==◌, sym, ap, ◌∙◌, subst, inl, inr}
 use Rattle.std.proofs.lemmas.List.Elements.{Contains-append_cases, Contains-append_left, Contains-append_right}
 use Rattle.cpg_base.specs.Numbers.{greatest, numbers_below}
 use Rattle.cpg_base.specs.Graph.{Graph, process_at, process_count, condition_count, node_of, inputs}

@@ -1,5 +1,5 @@
 -- The trees that are found along an order.
-use Rattle.std.specs.Prelude.{ℕ, ◌≡◌, ◌==◌, List, [], ◌∷◌, Option, None, length, get_or, All, if◌then◌else◌}
+use Rattle.std.specs.Prelude.{ℕ, ◌≡◌, ◌==◌, List, [], Option, length, get_or, All, if◌then◌else◌}
 use Rattle.cpg_base.specs.Bus.{slot_length}
 use Rattle.cpg_base.specs.Graph.{Graph, process_count, item_count, node_of, source, process_of, is_message, message_item, broadcast_item, home}
 use Rattle.cpg_tree.specs.Tree.{TreeState}

@@ -3,7 +3,7 @@ use Rattle.std.specs.Prelude.{ℕ, ◌+◌, ◌≡◌, ◌≢◌, ◌<◌, ◌�
 use Rattle.std.specs.List.{flat_map}
 use Rattle.cpg_base.specs.Graph.{Graph, process_count, item_count, node_of, is_frozen, is_sent, producer}
 use Rattle.cpg_order.specs.Scenario.{Scenario, IsScenario}
-use Rattle.cpg_order.specs.Urgency.{place}
+use Rattle.cpg_order.specs.Urgency.{IsTopological, place}
 use Rattle.cpg_bus.specs.Plan.{queue_of}
 use Rattle.cpg_table.specs.Table.{Column}
 use Rattle.cpg_run.specs.Run.{Times, IsRun}
@@ -85,6 +85,10 @@ pub record IsSending (g : Graph) (order : List ℕ) (p k : ℕ) (frozen : List (
   pub unsent : LeavesUnsent g f
   pub settled : AreSettledOf g order (IsDone g order p k) frozen
   pub lines : (rows : List (List Column)) → RowsHold g order (place order p) f rows → (s : Scenario) → IsScenario g s → (t : Times) → IsRun g order frozen s t → SendLines g order rows s t p k f
+
+-- a process whose place is next is gone over: the trees are grown up to the place behind it, under any order
+abbrev pub IsGrownBy : Graph → ℕ → List (Option ℕ) → ForestState → List (Option ℕ) → ForestState → Type 0
+IsGrownBy g p before old after new = (order : List ℕ) → IsTopological g order → IsGrown g order (place order p) before old → IsGrown g order (place order p + 1) after new
 
 -- no item has times, and each node is ready and its slots are free from the beginning
 pub record IsBare (g : Graph) (f : ForestState) : Type 0 where

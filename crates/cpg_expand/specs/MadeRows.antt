@@ -1,10 +1,11 @@
 -- The rows that are made of trees.
-use Rattle.std.specs.Prelude.{ℕ, ◌≡◌, ◌<◌, ◌≤◌, List, Option, map}
-use Rattle.cpg_base.specs.Graph.{Graph, process_count}
+use Rattle.std.specs.Prelude.{ℕ, ◌≡◌, ◌<◌, ◌≤◌, List, Option, length, map, get_or}
+use Rattle.cpg_base.specs.Graph.{Graph, item_count, process_count}
 use Rattle.cpg_cube.specs.declared.literal.Literal.{Literal}
 use Rattle.cpg_table.specs.Merged.{IsMergeOf}
 use Rattle.cpg_table.specs.Table.{Column, Row}
 use Rattle.cpg_tree.specs.Tree.{TreeState}
+use Rattle.cpg_expand.specs.Forest.{no_tree}
 use Rattle.cpg_expand.specs.TreeRows.{as_column, AreColumnsOf}
 
 -- the columns that a tree lists
@@ -24,3 +25,12 @@ pub record IsRowOf (g : Graph) (urgency : List ℕ) (t : TreeState (Option ℕ))
   pub item : row.item ≡ x
   pub start : x < process_count g → AreMergedOf g urgency t row.columns
   pub send : process_count g ≤ x → AreEntriesOf g urgency t row.columns
+
+-- by number the rows of the first n items, each by its tree
+pub record AreFirstRows (g : Graph) (urgency : List ℕ) (times : List (TreeState (Option ℕ))) (n : ℕ) (rows : List Row) : Type 0 where
+  pub count : length rows ≡ n
+  pub each : (x : ℕ) (row : Row) → x < n → IsRowOf g urgency (get_or times x (no_tree g.faults)) x (get_or rows x row)
+
+-- those of all items
+abbrev pub AreRowsOf : Graph → List ℕ → List (TreeState (Option ℕ)) → List Row → Type 0
+AreRowsOf g urgency times rows = AreFirstRows g urgency times (item_count g) rows

@@ -1,5 +1,5 @@
 -- What a node has sent so far, along an order; and what is found when an item is sent.
-use Rattle.std.specs.Prelude.{ℕ, ◌+◌, ◌≡◌, ◌==◌, Bool, List, [], ◌∷◌, ◌++◌, Option, filter, take, slice_set}
+use Rattle.std.specs.Prelude.{ℕ, ◌≡◌, ◌==◌, Bool, List, [], ◌∷◌, ◌++◌, Option, filter, take, slice_set}
 use Rattle.std.specs.List.{flat_map}
 use Rattle.cpg_base.specs.Bus.{round}
 use Rattle.cpg_base.specs.Graph.{Graph, node_of, home, producer}

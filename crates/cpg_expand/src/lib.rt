@@ -1,12 +1,18 @@
-//! Parts of a builder of tables by trees: the trees of the starts, ends and sends of a process, the columns of a tree, and the
-//! greatest finish and excess of trees of ends. No call joins them to tables yet.
+//! Tables by trees: along an order the tree of each process's start and end and of each time at which something is sent, which
+//! tells it in every scenario; then a row for each item, the columns of its tree, and the greatest finish and excess. No
+//! scenario is listed.
 #![tactic(auto)]
 
+mod along;
 mod ending;
+mod expanding;
 mod forest;
+mod growing;
 mod guarded;
 mod measuring;
 mod rows;
 mod sending;
 mod starting;
 mod values;
+
+pub use expanding::expand;

@@ -1,9 +1,9 @@
 //! Rows of trees.
-ghost use Rattle.std.specs.Prelude.{◌≡◌, All, IfOk, IsPermutation, map};
-ghost use Rattle.cpg_base.specs.Graph.{process_count};
+ghost use Rattle.std.specs.Prelude.{◌≡◌, All, IfOk, IsPermutation, length, map};
+ghost use Rattle.cpg_base.specs.Graph.{item_count, process_count};
 ghost use Rattle.cpg_base.specs.Numbers.{numbers_below};
 ghost use Rattle.cpg_expand.specs.Agreeing.{IsTree};
-ghost use Rattle.cpg_expand.specs.MadeRows.{AreEntriesOf, AreMergedOf, IsRowOf};
+ghost use Rattle.cpg_expand.specs.MadeRows.{AreEntriesOf, AreMergedOf, AreRowsOf, IsRowOf};
 ghost use Rattle.cpg_expand.specs.TreeRows.{as_column};
 
 use cpg_base::{OutOfMemory, Problem};
@@ -80,4 +80,26 @@ fn row(
     }
     let columns = entries(alloc, problem, urgency, tree)?;
     Ok(Row::new(item, columns))
+}
+
+/// A row for each item.
+pub(crate) fn rows(
+    alloc: Global,
+    problem: &Problem,
+    urgency: &Order,
+    times: &[Tree<Option<u64>>],
+) -> Result<Vec<Row>, OutOfMemory>
+    requires order { IsPermutation (numbers_below (process_count problem.now)) urgency.now }
+    requires count { length times.now ≡ item_count problem.now }
+    requires trees { All (IsTree problem.now) times.now }
+    ensures { IfOk result (λ rows. AreRowsOf problem.now urgency.now times.now rows.items) }
+{
+    let count = problem.item_count();
+    let mut rows = Vec::new(alloc);
+    rows.reserve(count as usize)?;
+    for item in 0..count {
+        let row = row(alloc, problem, urgency, &times[item as usize], item)?;
+        rows.push(row)?;
+    }
+    Ok(rows)
 }

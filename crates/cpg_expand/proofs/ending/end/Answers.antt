@@ -1,7 +1,6 @@
-use Rattle.std.proofs.Common.{ℕ, List, ◌≡◌, ◌∙◌, sym, subst}
+use Rattle.std.proofs.Common.{ℕ, List, ◌≡◌, ◌∙◌, subst}
 use Rattle.cpg_tree.specs.Tree.{IsJoin, IsNumber}
 use Rattle.cpg_tree.specs.Variables.{is_variable}
-use Rattle.cpg_expand.specs.Ending.{durations_of}
 use Rattle.cpg_expand.specs.Values.{ended}
 use Rattle.cpg_expand.proofs.TreesTold.{end_told, same_tree, count_passes}
 use Rattle.cpg_expand.proofs.ending.end.Goals as goal

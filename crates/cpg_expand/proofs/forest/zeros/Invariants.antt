@@ -1,4 +1,4 @@
-use Rattle.std.proofs.Common.{ℕ, ◌≡◌, Option, All, length}
+use Rattle.std.proofs.Common.{◌≡◌, All, length}
 use Rattle.cpg_expand.specs.Agreeing.{IsTree}
 use Rattle.cpg_tree.specs.Tree.{IsConstant}
 use Rattle.cpg_expand.proofs.forest.zeros.Given as goal

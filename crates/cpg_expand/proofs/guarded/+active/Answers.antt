@@ -2,7 +2,7 @@ use Rattle.std.proofs.Common.{sym, subst}
 use Rattle.cpg_order.specs.Guard.{Guard}
 use Rattle.cpg_tree.specs.Variables.{is_variable}
 use Rattle.cpg_expand.specs.Guarded.{IsActiveTree}
-use Rattle.cpg_expand.proofs.TreesTold.{active_test, active_leaf, constant_tree}
+use Rattle.cpg_expand.proofs.TreesTold.{active_test, constant_tree}
 use Rattle.cpg_expand.proofs.guarded.+active.Goals as goal
 
 pub returns-in_ok-picked-in-Test-clause-active : goal.returns-in_ok-picked-in-Test-clause-active

@@ -1,5 +1,4 @@
-use Rattle.std.proofs.Common.{◌∙◌, ap, sym, subst}
-use Rattle.cpg_base.specs.Graph.{Graph}
+use Rattle.std.proofs.Common.{sym, subst}
 use Rattle.cpg_order.specs.Guard.{Guard}
 use Rattle.cpg_tree.specs.Variables.{is_variable}
 use Rattle.cpg_expand.specs.Guarded.{IsHeardTree}

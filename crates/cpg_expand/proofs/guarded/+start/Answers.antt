@@ -1,5 +1,5 @@
 use Rattle.std.proofs.Common.{sym, subst}
-use Rattle.cpg_order.specs.Guard.{Guard, Leaf}
+use Rattle.cpg_order.specs.Guard.{Guard}
 use Rattle.cpg_tree.proofs.Forks.{of_answer}
 use Rattle.cpg_expand.specs.Guarded.{IsStartBy, IsStartTree}
 use Rattle.cpg_expand.proofs.TreesTold.{start_leaf, start_test}

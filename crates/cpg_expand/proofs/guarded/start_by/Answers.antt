@@ -1,4 +1,4 @@
-use Rattle.std.proofs.Common.{None, sym, subst, refl, ap, ◌∙◌}
+use Rattle.std.proofs.Common.{None, sym, subst, refl}
 use Rattle.cpg_base.specs.declared.activation.Activation.{Activation}
 use Rattle.cpg_base.specs.declared.activation.Activation.TheVariants.{Plain, By}
 use Rattle.cpg_tree.specs.Tree.{IsConstant}

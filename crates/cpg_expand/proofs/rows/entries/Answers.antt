@@ -1,4 +1,4 @@
-use Rattle.std.proofs.Common.{ap, ◌∙◌, sym, subst, map, List, IsPermutation, All}
+use Rattle.std.proofs.Common.{ap, ◌∙◌, map}
 use Rattle.cpg_tree.proofs.Passing.{known_from}
 use Rattle.cpg_expand.specs.TreeRows.{as_column}
 use Rattle.cpg_expand.proofs.rows.entries.Goals as goal

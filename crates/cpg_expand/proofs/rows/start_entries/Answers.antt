@@ -1,4 +1,4 @@
-use Rattle.std.proofs.Common.{sym, subst, List, map}
+use Rattle.std.proofs.Common.{sym, subst, List}
 use Rattle.cpg_table.specs.Merged.{AreMergeable, IsMergeOf}
 use Rattle.cpg_table.specs.Table.{Column}
 use Rattle.cpg_expand.proofs.TreeColumns.{mergeable}

@@ -1,6 +1,5 @@
 use Rattle.std.proofs.Common.{ℕ, refl, ◌∙◌, ap, sym, subst}
 use Rattle.cpg_tree.specs.Variables.{is_variable}
-use Rattle.cpg_expand.specs.Waiting.{ready_of}
 use Rattle.cpg_tree.specs.Tree.{TreeState, DoPathsPass}
 use Rattle.cpg_expand.proofs.TreesTold.{wait_told, ready_read, ready_tree, same_tree}
 use Rattle.cpg_expand.proofs.starting.waiting.Goals as goal

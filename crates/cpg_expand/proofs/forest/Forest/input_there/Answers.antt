@@ -1,4 +1,4 @@
-use Rattle.std.proofs.Common.{◌≡◌, ◌∙◌, ◌<◌, ap, sym, subst, refl, arith}
+use Rattle.std.proofs.Common.{◌∙◌, ◌<◌, sym, subst, arith}
 use Rattle.cpg_base.specs.Bus.{slot_length}
 use Rattle.cpg_base.specs.Graph.{source, process_count, home}
 use Rattle.cpg_expand.specs.Forest.{times_of, ends_of}

@@ -1,9 +1,10 @@
 //! One process after another.
-ghost use Rattle.std.specs.Prelude.{◌≡◌, ◌<◌, IfOk, length};
+ghost use Rattle.std.specs.Prelude.{◌≡◌, ◌<◌, IfOk, length, slice_set};
 ghost use Rattle.cpg_base.specs.Graph.{item_count, process_count};
 ghost use Rattle.cpg_bus.specs.Plan.{plan_of};
 ghost use Rattle.cpg_expand.specs.Begun.{IsBegun};
 ghost use Rattle.cpg_expand.specs.Forest.{HasTrees};
+ghost use Rattle.cpg_expand.specs.Grown.{IsGrownBy};
 ghost use Rattle.cpg_guard.specs.Guards.{tree_of};
 
 use crate::ending::{end, ready};
@@ -17,6 +18,25 @@ use cpg_rules::Admitted;
 use cpg_run::Frozen;
 use cpg_tree::Tree;
 use std::alloc::Global;
+
+/// Puts the times and the ends of a process, and when a node is ready after it.
+fn put_begun(
+    forest: &mut Forest,
+    process: u32,
+    times: Tree<Option<u64>>,
+    ends: Tree<Option<u64>>,
+    node: u32,
+    ready: Tree<u64>,
+)
+    requires times { process < length forest.old.times }
+    requires ends { process < length forest.old.ends }
+    requires node { node < length forest.old.ready }
+    ensures { forest.new ≡ record { times = slice_set forest.old.times process times; ends = slice_set forest.old.ends process ends; ready = slice_set forest.old.ready node ready; free = forest.old.free } }
+{
+    forest.times[process as usize] = times;
+    forest.ends[process as usize] = ends;
+    forest.ready[node as usize] = ready;
+}
 
 /// Adds the start and the end of a process, its frozen time, and when its node goes on after it. Shows where it is active.
 fn begin(
@@ -38,9 +58,9 @@ fn begin(
     let problem = admitted.problem();
     let guard = admitted.guards().guard_of(process);
     let node = problem.node_of(process);
-    let wait = waiting(alloc, problem, forest, node, guard)?;
-    let active = active(alloc, problem, guard)?;
     let inputs = plan.inputs(problem, process);
+    let active = active(alloc, problem, guard)?;
+    let wait = waiting(alloc, problem, forest, node, guard)?;
     let unfrozen = unfrozen_start(alloc, problem, forest, &wait, inputs, guard, process)?;
     let start = fixed_if(
         problem,
@@ -51,9 +71,8 @@ fn begin(
         unfrozen,
     )?;
     let end = end(alloc, problem, &start, process)?;
-    forest.ready[node as usize] = ready(problem, &active, &end, &wait)?;
-    forest.times[process as usize] = start;
-    forest.ends[process as usize] = end;
+    let ready = ready(problem, &active, &end, &wait)?;
+    put_begun(forest, process, start, end, node, ready);
     Ok(active)
 }
 
@@ -65,16 +84,17 @@ pub(crate) fn step(
     frozen: &mut Frozen,
     forest: &mut Forest,
     process: u32,
-) -> Result<(), OutOfMemory> {
+) -> Result<(), OutOfMemory>
+    requires plan { plan.now ≡ plan_of admitted.now.graph }
+    requires process { process < process_count admitted.now.graph }
+    requires frozen { length frozen.old ≡ item_count admitted.now.graph }
+    requires forest { HasTrees admitted.now.graph forest.old }
+    ensures trees { IfOk result (λ u. HasTrees admitted.now.graph forest.new) }
+    ensures count { IfOk result (λ u. length frozen.new ≡ item_count admitted.now.graph) }
+    ensures grown { IfOk result (λ u. IsGrownBy admitted.now.graph process frozen.old forest.old frozen.new forest.new) }
+{
+    let _problem = admitted.problem();
     let active = begin(alloc, admitted, plan, frozen, forest, process)?;
-    send(
-        alloc,
-        admitted.problem(),
-        admitted.order(),
-        plan,
-        frozen,
-        forest,
-        &active,
-        process,
-    )
+    send(alloc, admitted, plan, frozen, forest, &active, process)?;
+    Ok(())
 }

@@ -1,0 +1,76 @@
+-- The trees of a process that begins, as the code finds them.
+use Rattle.std.proofs.Common.{ℕ, ◌<◌, ◌≤◌, ◌≡◌, Bool, List, All, set, length-set, Option, refl, sym, ap, ◌∙◌, subst}
+use Rattle.std.proofs.lemmas.List.Elements.{All-set}
+use Rattle.cpg_base.specs.Graph.{Graph, process_at, process_count, condition_count, edge_count, node_of, inputs}
+use Rattle.cpg_base.proofs.Inputs.{inputs_parts}
+use Rattle.cpg_guard.specs.Guards.{Guards, tree_of}
+use Rattle.cpg_guard.specs.Trees.{TestsBelow}
+use Rattle.cpg_order.specs.Guard.{Guard, IsGuardOf}
+use Rattle.cpg_rules.specs.Admission.{IsAdmitted}
+use Rattle.cpg_table.proofs.NodeRows.{all_below}
+use Rattle.cpg_tree.specs.Tree.{TreeState}
+use Rattle.cpg_expand.specs.Agreeing.{IsTree}
+use Rattle.cpg_expand.specs.Begun.{IsBegun}
+use Rattle.cpg_expand.specs.Ending.{IsEndTree, IsReadyTree}
+use Rattle.cpg_expand.specs.Forest.{ForestState, HasTrees}
+use Rattle.cpg_expand.specs.Freezing.{IsFixed}
+use Rattle.cpg_expand.specs.Guarded.{IsActiveTree, IsStartTree, LeadsBelow}
+use Rattle.cpg_expand.specs.Waiting.{IsWaitTree}
+use Rattle.cpg_expand.proofs.Leads.{leads_below}
+
+-- ---- what is asked of a guard and of inputs
+
+module _ (g : Graph) (order : List ℕ) (guards : Guards) (admitted : IsAdmitted g order guards) (h : Graph) (same : h ≡ g) where
+  pub few_here : condition_count h ≤ 32
+  few_here = subst (λ (k : Graph). condition_count k ≤ 32) (sym same) admitted.well_formed.few_conditions
+
+  pub tests_here : (found : Guards) → found ≡ guards → (guard : Guard) → TestsBelow found.conditions guard → TestsBelow (condition_count h) guard
+  tests_here found is guard below = subst (λ n. TestsBelow n guard) (ap (λ (x : Guards). x.conditions) is ∙ admitted.guards.conditions ∙ ap condition_count (sym same)) below
+
+  pub leads_here : (p : ℕ) → p < process_count g → (guard : Guard) → guard ≡ tree_of guards p → LeadsBelow (edge_count h) guard
+  leads_here p l guard is = subst (λ (k : Graph). LeadsBelow (edge_count k) guard) (sym same)
+      (leads_below g order admitted.topological p l guard (subst (IsGuardOf g order p) (sym is) (admitted.guards.trees p l)))
+
+pub inputs_here : (h : Graph) (p : ℕ) (edges : List ℕ) → edges ≡ inputs h p → All (λ e. e < edge_count h) edges
+inputs_here h p edges is = all_below (edge_count h) (edge_count h) edges (inputs h p) refl is (λ e c. (inputs_parts h p e c).0)
+
+-- ---- what is put
+
+-- a tree for each is kept
+pub has_begun : (g : Graph) (f new : ForestState) (p node : ℕ) (times ends : TreeState (Option ℕ)) (ready : TreeState ℕ) → HasTrees g f → IsTree g times → IsTree g ends → IsTree g ready →
+    new ≡ record { times = set f.times p times; ends = set f.ends p ends; ready = set f.ready node ready; free = f.free } → HasTrees g new
+has_begun g f new p node times ends ready has of_times of_ends of_ready is = subst (HasTrees g) (sym is) (record {
+  times = length-set f.times p times ∙ has.times;
+  ends = length-set f.ends p ends ∙ has.ends;
+  ready = length-set f.ready node ready ∙ has.ready;
+  free = has.free;
+  all_times = All-set (IsTree g) f.times p times of_times has.all_times;
+  all_ends = All-set (IsTree g) f.ends p ends of_ends has.all_ends;
+  all_ready = All-set (IsTree g) f.ready node ready of_ready has.all_ready;
+  all_free = has.all_free;
+})
+
+pub begun_made : (g h : Graph) → h ≡ g → (urgency order : List ℕ) → order ≡ urgency → (p : ℕ) (guard found : Guard) → found ≡ guard → (node : ℕ) → node ≡ node_of h p → (edges : List ℕ) → edges ≡ inputs h p →
+    (old new : ForestState) (before after : List (Option ℕ)) (chooser : TreeState Bool) → IsTree h chooser → IsActiveTree h.faults found chooser →
+    (wait : TreeState ℕ) → IsWaitTree h old node found wait →
+    (unfrozen : TreeState (Option ℕ)) → IsTree h unfrozen → IsStartTree h old wait (process_at h p).release edges found unfrozen →
+    (start : TreeState (Option ℕ)) → IsFixed h order p unfrozen chooser before after start →
+    (end : TreeState (Option ℕ)) → IsEndTree h p start end → (ready : TreeState ℕ) → IsReadyTree h.faults chooser end wait ready →
+    new ≡ record { times = set old.times p start; ends = set old.ends p end; ready = set old.ready node ready; free = old.free } → IsBegun g urgency p guard old new before after chooser
+begun_made g h same urgency order ordered p guard found the_guard node there edges of_p old new before after chooser chooser_tree actives wait waits unfrozen unfrozen_tree starts start fixed end ends ready readies is =
+    subst (λ k. IsBegun k urgency p guard old new before after chooser) same (subst (λ o. IsBegun h o p guard old new before after chooser) ordered (subst (λ t. IsBegun h order p t old new before after chooser) the_guard (record {
+      chooser_tree = chooser_tree;
+      actives = actives;
+      wait = wait;
+      waits = subst (λ n. IsWaitTree h old n found wait) there waits;
+      unfrozen = unfrozen;
+      unfrozen_tree = unfrozen_tree;
+      starts = subst (λ es. IsStartTree h old wait (process_at h p).release es found unfrozen) of_p starts;
+      start = start;
+      fixed = fixed;
+      end = end;
+      ends = ends;
+      ready = ready;
+      readies = readies;
+      is = is ∙ ap (λ n. record { times = set old.times p start; ends = set old.ends p end; ready = set old.ready n ready; free = old.free }) there;
+    })))

@@ -1,0 +1,121 @@
+-- Trees that are grown along a whole order: the rows of their times are rows that a builder finds, and they tell when the processes end.
+use Rattle.std.proofs.Common.{ℕ, ◌<◌, ◌≤◌, ◌≡◌, List, [], length, get_or, Option, Contains, arith, refl, sym, ◌∙◌, subst, inl, inr}
+use Rattle.std.proofs.lemmas.Bool.{both_ways, cases_lt}
+use Rattle.std.proofs.lemmas.Grind.{same_number_lists}
+use Rattle.std.proofs.lemmas.List.{length-map, get_or-map}
+use Rattle.std.proofs.lemmas.List.FromFn.{length-range_with_len, get_or-range_with_len}
+use Rattle.cpg_base.specs.Graph.{Graph, process_count, item_count, producer}
+use Rattle.cpg_base.specs.Numbers.{numbers_below}
+use Rattle.cpg_base.proofs.Items.{producer_within}
+use Rattle.cpg_guard.specs.Guards.{Guards}
+use Rattle.cpg_order.specs.Urgency.{IsTopological, place}
+use Rattle.cpg_order.proofs.Places.{place_in_order}
+use Rattle.cpg_rules.specs.Admission.{IsAdmitted}
+use Rattle.cpg_table.specs.Shape.{items_of}
+use Rattle.cpg_table.specs.Table.{Column, Row}
+use Rattle.cpg_table.proofs.NodeRows.{no_row}
+use Rattle.cpg_run.specs.Carried.{row_at}
+use Rattle.cpg_run.specs.Carrying.{IsCarryingRow, AreCarrying}
+use Rattle.cpg_run.specs.Found.{columns_of_rows, AreRowsFound}
+use Rattle.cpg_run.specs.Frozen.{AreFrozenTimes}
+use Rattle.cpg_run.specs.RowLaws.{IsTimed}
+use Rattle.cpg_run.proofs.BuiltTables.{admitted_under}
+use Rattle.cpg_run.proofs.EarlyTimes.{early_from_low}
+use Rattle.cpg_expand.specs.Forest.{ForestState, times_of}
+use Rattle.cpg_expand.specs.Grown.{RowsHold, IsEarlier, IsGrown}
+use Rattle.cpg_expand.specs.MadeRows.{AreEntriesOf, AreMergedOf, IsRowOf, AreRowsOf}
+use Rattle.cpg_expand.specs.Peaks.{TellEnds}
+use Rattle.cpg_expand.specs.TreeRows.{IsTreeOf}
+use Rattle.cpg_expand.proofs.Begun.{own_rows, own_rows_hold}
+use Rattle.cpg_expand.proofs.TreeColumns.{column_there, tree_row_carries, merged_row_carries}
+use Rattle.cpg_expand.proofs.TreesTold.{times_tree}
+
+module _ (g : Graph) (urgency : List ℕ) (guards : Guards) (a : IsAdmitted g urgency guards) (order : List ℕ) (topological : IsTopological g order) (frozen : List (Option ℕ)) (f : ForestState)
+    (grown : IsGrown g order (process_count g) frozen f) where
+  placed : (q : ℕ) → q < process_count g → place order q < process_count g
+  placed q l = place_in_order (process_count g) order topological.all q (omega (arith, l))
+
+  -- every item is of an earlier process
+  earlier : (x : ℕ) → x < item_count g → IsEarlier g order (process_count g) x
+  earlier x l = placed (producer g x) (producer_within g a.well_formed x l)
+
+  pub grown_tells_ends : TellEnds g order frozen f.ends
+  grown_tells_ends s t law run q l x on = ((grown.lines (own_rows f) (own_rows_hold g order (process_count g) f grown.trees) s law t run).ends q l (placed q l)).value x on
+
+  frozen_times : AreFrozenTimes g order frozen
+  frozen_times = record {
+    count = grown.settled.count;
+    each = λ x l is. grown.settled.each x l is (earlier x l);
+    others = λ x off. grown.settled.others x (λ l is early. both_ways _ off is);
+  }
+
+  timed : IsTimed g urgency order frozen
+  timed = record { admitted = admitted_under g urgency order guards a topological; frozen_times = frozen_times }
+
+  faults_of : (x : ℕ) → x < item_count g → (times_of g f x).faults ≡ g.faults
+  faults_of x l = (times_tree g f grown.trees x l).faults
+
+  module _ (rows : List Row) (are : AreRowsOf g urgency f.times rows) where
+    abbrev columns : List (List Column)
+    columns = columns_of_rows rows
+
+    row_is : (x : ℕ) → x < item_count g → IsRowOf g urgency (times_of g f x) x (get_or rows x no_row)
+    row_is x l = are.each x no_row l
+
+    columns_at : (x : ℕ) → x < item_count g → row_at columns x ≡ (get_or rows x no_row).columns
+    columns_at x l = get_or-map (λ (row : Row). row.columns) rows x no_row [] (omega (arith, l, are.count))
+
+    start_row : (p : ℕ) → p < process_count g → AreMergedOf g urgency (times_of g f p) (row_at columns p)
+    start_row p l =
+        let inside : p < item_count g = omega (arith, l) in
+        subst (AreMergedOf g urgency (times_of g f p)) (sym (columns_at p inside)) ((row_is p inside).start l)
+
+    sent_row : (x : ℕ) → process_count g ≤ x → x < item_count g → AreEntriesOf g urgency (times_of g f x) (row_at columns x)
+    sent_row x big l = subst (AreEntriesOf g urgency (times_of g f x)) (sym (columns_at x l)) ((row_is x l).send big)
+
+    -- the columns of what is sent are the paths of its tree that have a time
+    hold : RowsHold g order (process_count g) f columns
+    hold = record {
+      sends = λ x l big sooner path time j is.
+          let r = sent_row x big l in (
+            record { time = time; cube = path.0 },
+            subst (λ (cs : List Column). Contains cs (record { time = time; cube = path.0 })) (sym r.is) (column_there g a.limits.few_processes urgency a.topological.all (times_of g f x) r.columns r.are path time j is),
+            refl,
+          );
+    }
+
+    tree : (x : ℕ) → x < item_count g → IsTreeOf g order frozen columns x (times_of g f x)
+    tree x l s run law ran = (grown.lines columns hold s law run ran).times x l (earlier x l)
+
+    carrying_row : (x : ℕ) → x < item_count g → IsCarryingRow g urgency order frozen columns x
+    carrying_row x l = elim (cases_lt x (process_count g)) [
+      | inl start ↦
+          let r = start_row x start in
+          merged_row_carries g a.limits.few_processes urgency a.topological.all (times_of g f x) r.columns r.are order frozen timed columns x (tree x l) (faults_of x l) r.merge
+      | inr send ↦
+          let r = sent_row x send l in
+          tree_row_carries g a.limits.few_processes urgency a.topological.all (times_of g f x) r.columns r.are order frozen timed columns x (tree x l) (faults_of x l) r.is
+    ]
+
+    carrying : AreCarrying g urgency order frozen columns
+    carrying = record {
+      count = length-map rows (λ (row : Row). row.columns) ∙ are.count;
+      each = carrying_row;
+      merged = λ p l. (start_row p l).merge.merged;
+    }
+
+    items : items_of rows ≡ numbers_below (item_count g)
+    items = same_number_lists (items_of rows) (numbers_below (item_count g)) (count ∙ sym (length-range_with_len 0 (item_count g)))
+        (λ x l. let inside : x < item_count g = omega (arith, l, count) in
+        get_or-map (λ (row : Row). row.item) rows x no_row 0 (omega (arith, inside, are.count)) ∙ (row_is x inside).item ∙ sym (get_or-range_with_len 0 (item_count g) x 0 inside ∙ omega arith))
+      where
+        count : length (items_of rows) ≡ item_count g
+        count = length-map rows (λ (row : Row). row.item) ∙ are.count
+
+    pub grown_rows_found : AreRowsFound g urgency order frozen rows
+    grown_rows_found = record {
+      frozen_times = frozen_times;
+      early = early_from_low g order frozen a.limits topological grown.settled.count grown.settled.low;
+      items = items;
+      found = carrying;
+    }

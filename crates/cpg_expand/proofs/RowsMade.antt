@@ -1,0 +1,24 @@
+-- Rows of items one after another.
+use Rattle.std.proofs.Common.{ℕ, ◌+◌, ◌≡◌, List, [], ◌∷◌, ◌++◌, length, get_or, Option, arith, sym, ap, ap₂, ◌∙◌, subst, inl, inr, length-append}
+use Rattle.std.proofs.lemmas.Bool.{cases_lt}
+use Rattle.std.proofs.lemmas.List.{get_or_append_left}
+use Rattle.std.proofs.Math.Seq.{get_or-append_seam}
+use Rattle.cpg_base.specs.Graph.{Graph}
+use Rattle.cpg_table.specs.Table.{Row}
+use Rattle.cpg_tree.specs.Tree.{TreeState}
+use Rattle.cpg_expand.specs.Forest.{no_tree}
+use Rattle.cpg_expand.specs.MadeRows.{IsRowOf, AreFirstRows}
+
+-- one row more
+pub rows_more : (g : Graph) (urgency : List ℕ) (times : List (TreeState (Option ℕ))) (n : ℕ) (rows more : List Row) (row : Row) → AreFirstRows g urgency times n rows → IsRowOf g urgency (get_or times n (no_tree g.faults)) n row →
+    more ≡ rows ++ row ∷ [] → AreFirstRows g urgency times (n + 1) more
+rows_more g urgency times n rows more row a new is = record {
+  count = ap length is ∙ length-append rows (row ∷ []) ∙ ap (λ m. m + 1) a.count;
+  each = λ x d l. elim (cases_lt x n) [
+    | inl h ↦ subst (IsRowOf g urgency (get_or times x (no_tree g.faults)) x) (sym (ap (λ rs. get_or rs x d) is ∙ get_or_append_left rows (row ∷ []) d x (omega (arith, h, a.count)))) (a.each x d h)
+    | inr h ↦
+        let at : x ≡ length rows = omega (arith, a.count) in
+        let same : n ≡ x = omega arith in
+        subst (IsRowOf g urgency (get_or times x (no_tree g.faults)) x) (sym (ap₂ (λ rs j. get_or rs j d) is at ∙ get_or-append_seam rows row [] d)) (subst (λ j. IsRowOf g urgency (get_or times j (no_tree g.faults)) j row) same new)
+  ];
+}
