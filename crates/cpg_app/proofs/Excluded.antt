@@ -1,12 +1,11 @@
--- Of an admitted graph of a form that is built, a run stops only as it must.
-use Rattle.std.proofs.Common.{ℕ, ◌≡◌, ◌≢◌, ◌<◌, ◌≤◌, ◌∙◌, Bool, true, false, List, Option, Some, length, refl, sym, ap, subst, arith, inl, inr}
+-- Of an admitted graph, a run stops only as it must.
+use Rattle.std.proofs.Common.{ℕ, ◌≡◌, ◌≢◌, ◌<◌, ◌∙◌, Bool, true, false, List, Option, Some, length, refl, sym, ap, subst, arith, inl, inr}
 use Rattle.std.specs.Prelude.{◌⊎◌, Result, Ok, Err, IfSome}
 use Rattle.std.proofs.lemmas.Bool.{both_ways}
 use Rattle.cpg_base.specs.Graph.{Graph}
 use Rattle.cpg_io.specs.Causes.{Rose}
 use Rattle.cpg_words.specs.Parts.{Text}
 use Rattle.cpg_order.specs.Urgency.{IsUrgencyOrder}
-use Rattle.cpg_order.specs.Scenario.{scenarios}
 use Rattle.cpg_order.proofs.Urgent.{one_urgency_order}
 use Rattle.cpg_reader.specs.declared.place.ReadFault.{ReadFault}
 use Rattle.cpg_reader.specs.Document.{problem_of}
@@ -23,7 +22,7 @@ use Rattle.cpg_app.specs.declared.halt.Halt.{Halt}
 use Rattle.cpg_app.specs.Halts.{halt_of_reading, halt_of_rules, halt_of_compile}
 use Rattle.cpg_app.specs.Lines.{status_of}
 use Rattle.cpg_app.specs.declared.reading.TheConstants.{GRAPH_LIMIT}
-use Rattle.cpg_app.specs.Causes.{Seen, Says, Admits, StopsReading, BreaksRule, StopsGraph, StopsCompile, HasManyScenarios}
+use Rattle.cpg_app.specs.Causes.{Seen, Says, Admits, StopsReading, BreaksRule, StopsGraph, IsUncompiled}
 use Rattle.cpg_app.specs.Outputs.{IsMade}
 use Rattle.cpg_app.specs.Lawful.{AreAdmitted}
 
@@ -91,39 +90,23 @@ module _ (seen : Seen) (told : Option Text) (bytes : Text) (a : Admission) (tell
       let memory = no_fault a.graph a.order a.guards file.admitted breaks.fault (subst (λ x. ShowsFault x breaks.fault) same breaks.shows) in
       ap status_of (breaks.halt_is ∙ ap (halt_of_rules g) memory)
 
-  -- it is late
-  abbrev pub LeftLate : Type 0
-  LeftLate = IsLate a.graph a.order
-
-  -- too wide, late, of too many scenarios, or want of memory
-  abbrev pub LeftWide : Halt → Type 0
-  LeftWide h = (status_of h ≡ 6) × ((x : ℕ) × IsWide a.graph a.order x)
-
-  abbrev pub LeftMany : Type 0
-  LeftMany = HasManyScenarios a.graph × IsNarrow a.graph a.order
-
+  -- want of memory, late, or too wide
   abbrev pub Left : Halt → Type 0
-  Left h = (status_of h ≡ 8) ⊎ (((status_of h ≡ 5) × LeftLate) ⊎ (LeftWide h ⊎ LeftMany))
+  Left h = (status_of h ≡ 8) ⊎ (((status_of h ≡ 5) × IsLate a.graph a.order) ⊎ ((status_of h ≡ 6) × ((x : ℕ) × IsWide a.graph a.order x)))
 
   compile_left : (b : Admission) → Admits told b → (h : Halt) (fault : CompileFault) → h ≡ halt_of_compile b fault → ShowsCompileFault b.graph b.order fault → Left h
   compile_left b admits h (CompileFault.TooWide x) e shows =
       let same : b.graph ≡ a.graph = same_graph bytes b.graph a.graph (says_of told bytes b.graph tells admits.says) file.says in
-      inr (inr (inl (ap status_of e, (x, moved a b file.admitted admits.admitted same (λ g o. IsWide g o x) shows.wide))))
+      inr (inr (ap status_of e, (x, moved a b file.admitted admits.admitted same (λ g o. IsWide g o x) shows.wide)))
   compile_left b admits h (CompileFault.Late s p time) e shows =
       let same : b.graph ≡ a.graph = same_graph bytes b.graph a.graph (says_of told bytes b.graph tells admits.says) file.says in
       inr (inl (ap status_of e, moved a b file.admitted admits.admitted same IsLate shows.0))
   compile_left b admits h CompileFault.OutOfMemory e shows = inl (ap status_of e)
 
-  made_left : (h : Halt) (b : Admission) → Admits told b → StopsCompile b h → Left h
-  made_left h b admits (inl unlisted) =
-      let same : b.graph ≡ a.graph = same_graph bytes b.graph a.graph (says_of told bytes b.graph tells admits.says) file.says in
-      inr (inr (inr (subst HasManyScenarios same unlisted.many, moved a b file.admitted admits.admitted same IsNarrow unlisted.narrow)))
-  made_left h b admits (inr wrong) = compile_left b admits h wrong.fault wrong.halt_is wrong.shows
-
-  pub graph_left : (h : Halt) → StopsGraph seen told StopsCompile h → Left h
+  pub graph_left : (h : Halt) → StopsGraph seen told IsUncompiled h → Left h
   graph_left h (inl (inl read)) = inl (reading_left h read)
   graph_left h (inl (inr breaks)) = inl (rules_left h breaks.0 breaks.1 breaks.2)
-  graph_left h (inr worked) = made_left h worked.0 worked.1 worked.2
+  graph_left h (inr worked) = let wrong = worked.2 in compile_left worked.0 worked.1 h wrong.fault wrong.halt_is wrong.shows
 
   -- an admission that is had is the graph's
   pub same_admission : (b : Admission) → Admits told b → (P : Graph → List ℕ → Type 0) → P b.graph b.order → P a.graph a.order

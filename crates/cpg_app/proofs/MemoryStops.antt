@@ -9,14 +9,14 @@ use Rattle.cpg_rules.specs.Admission.{Admission}
 use Rattle.cpg_codec.specs.declared.fault.PackFault.{PackFault}
 use Rattle.cpg_app.specs.declared.halt.Halt.{Halt}
 use Rattle.cpg_app.specs.declared.halt.Halt.TheVariants.{Memory}
-use Rattle.cpg_app.specs.Causes.{Seen, IsUnbuilt, StopsGraph, StopsCompile, StopsTables, StopsVerdict, StopsPlay, Stops, StopsAsked, StopsCommand}
+use Rattle.cpg_app.specs.Causes.{Seen, IsUnbuilt, StopsGraph, IsUncompiled, StopsTables, StopsVerdict, StopsPlay, Stops, StopsAsked, StopsCommand}
 
 memory_graph : (seen : Seen) (told : Option Text) (work : Admission → Halt → Type 0) → StopsGraph seen told work Memory
 memory_graph seen told work = inl (inl (inr (inr (record { fault = OutOfMemory; halt_is = refl; first = λ other. absurd (other refl) }))))
 
 memory_command : (seen : Seen) (c : Command) → StopsCommand seen c Memory
-memory_command seen (Show graph) = memory_graph seen (seen.stands graph) StopsCompile
-memory_command seen (Compile graph) = memory_graph seen (seen.stands graph) StopsCompile
+memory_command seen (Show graph) = memory_graph seen (seen.stands graph) IsUncompiled
+memory_command seen (Compile graph) = memory_graph seen (seen.stands graph) IsUncompiled
 memory_command seen (Check graph pack) = memory_graph seen (seen.stands graph) (λ a. StopsTables seen (seen.stands pack) (StopsVerdict a))
 memory_command seen (Play graph pack scenario turns) = memory_graph seen (seen.stands graph) (λ a. StopsTables seen (seen.stands pack) (StopsPlay seen (seen.stands scenario) a))
 memory_command seen (Node pack name) = inl (inr (inr (record { fault = PackFault.OutOfMemory; halt_is = refl; shows = tt })))

@@ -6,7 +6,7 @@ use Rattle.cpg_table.specs.declared.fault.Fault.{Fault}
 use Rattle.cpg_check.specs.Verdict.{IsFirstFault}
 use Rattle.cpg_violation.specs.Violation.{IsFirstViolation, column_rules}
 use Rattle.cpg_violation.proofs.Violations.{first_broken}
-use Rattle.cpg_list.proofs.Listed.{zero_lawful}
+use Rattle.cpg_run.proofs.ZeroScenario.{zero_lawful}
 use Rattle.cpg_words.specs.Parts.{Text}
 use Rattle.cpg_words.specs.Forms.{command_of}
 use Rattle.cpg_words.specs.declared.command.Pair.{Pair}
@@ -27,7 +27,7 @@ use Rattle.cpg_app.specs.declared.halt.Halt.{Halt}
 use Rattle.cpg_app.specs.declared.halt.Halt.TheVariants.{Words, Read, Refused, Unsafe, Memory}
 use Rattle.cpg_app.specs.Halts.{halt_of_reading, halt_of_pack, halt_of_rules, halt_of_scenario, halt_of_compile, halt_of_parts}
 use Rattle.cpg_app.specs.Lines.{HasLengths, IsNamed}
-use Rattle.cpg_app.specs.Causes.{Seen, StopsReading, BreaksRule, IsUnbuiltCommand, StopsGraph, StopsCompile, StopsTables, StopsNaming, StopsVerdict, StopsPlay, StopsParts, StopsCommand, StopsAsked, Stops}
+use Rattle.cpg_app.specs.Causes.{Seen, StopsReading, BreaksRule, IsUnbuiltCommand, StopsGraph, IsUncompiled, StopsTables, StopsNaming, StopsVerdict, StopsPlay, StopsParts, StopsCommand, StopsAsked, Stops}
 
 lengths_of : (g : Graph) (s : Scenario) → IsScenario g s → HasLengths g s
 lengths_of g s is = record { values = is.values; faults = is.faults }
@@ -73,9 +73,8 @@ unbuilt_command_named : (h : Halt) → IsUnbuiltCommand h → IsNamed h
 unbuilt_command_named h (inl e) = unbuilt_named h e
 unbuilt_command_named h (inr e) = named_as h Memory e tt
 
-compile_named : (a : Admission) (h : Halt) → StopsCompile a h → IsNamed h
-compile_named a h (inl unlisted) = unbuilt_named h unlisted.unbuilt
-compile_named a h (inr wrong) = named_as h _ wrong.halt_is (of_compile a wrong.fault wrong.shows)
+compile_named : (a : Admission) (h : Halt) → IsUncompiled a h → IsNamed h
+compile_named a h wrong = named_as h _ wrong.halt_is (of_compile a wrong.fault wrong.shows)
 
 of_pack : (fault : PackFault) → IsNamed (halt_of_pack fault)
 of_pack (PackFault.BadPack n) = tt
@@ -128,8 +127,8 @@ parts_named seen pairs h (inl (inr memory)) = named_as h Memory memory tt
 parts_named seen pairs h (inr refused) = named_as h _ refused.2.halt_is (of_parts refused.2.fault)
 
 command_named : (seen : Seen) (c : Command) (h : Halt) → StopsCommand seen c h → IsNamed h
-command_named seen (Show graph) h so = graph_named seen (seen.stands graph) StopsCompile compile_named h so
-command_named seen (Compile graph) h so = graph_named seen (seen.stands graph) StopsCompile compile_named h so
+command_named seen (Show graph) h so = graph_named seen (seen.stands graph) IsUncompiled compile_named h so
+command_named seen (Compile graph) h so = graph_named seen (seen.stands graph) IsUncompiled compile_named h so
 command_named seen (Check graph pack) h so = graph_named seen (seen.stands graph) (λ a. StopsTables seen (seen.stands pack) (StopsVerdict a)) (λ a. tables_named seen (seen.stands pack) (StopsVerdict a) (verdict_named a)) h so
 command_named seen (Play graph pack scenario turns) h so = graph_named seen (seen.stands graph) (λ a. StopsTables seen (seen.stands pack) (StopsPlay seen (seen.stands scenario) a)) (λ a. tables_named seen (seen.stands pack) (StopsPlay seen (seen.stands scenario) a) (play_named seen (seen.stands scenario) a)) h so
 command_named seen (Node pack name) h so = tables_named seen (seen.stands pack) (λ t. StopsNaming t name) (λ t. naming_named t name) h so

@@ -17,11 +17,11 @@ use Rattle.cpg_app.specs.declared.halt.Refusal.{Refusal}
 use Rattle.cpg_app.specs.declared.halt.Halt.{Halt}
 use Rattle.cpg_app.specs.declared.halt.Halt.TheVariants.{Refused, Late, TooWide, Unsafe}
 use Rattle.cpg_app.specs.Lines.{status_of}
-use Rattle.cpg_app.specs.Causes.{Seen, Stops, StopsAsked, StopsGraph, StopsCompile, first_named}
+use Rattle.cpg_app.specs.Causes.{Seen, Stops, StopsAsked, StopsGraph, IsUncompiled, first_named}
 use Rattle.cpg_app.specs.Outputs.{Prints, PrintsAsked, IsMade, shown, packed}
 use Rattle.cpg_app.specs.Told.{Untouched}
 use Rattle.cpg_app.specs.Endings.{Ran, IsPrinted, IsTold, EndsWith, EndsBy}
-use Rattle.cpg_app.specs.Lawful.{IsFaultless, AsksFor, Asks, IsListable, AsksNode, AsksVerdict, IsLawful}
+use Rattle.cpg_app.specs.Lawful.{IsFaultless, AsksFor, Asks, AsksNode, AsksVerdict, IsLawful}
 use Rattle.cpg_app.proofs.Statuses.{of_words, of_read, of_formless, refused_of, late_of, wide_of, unsafe_of, not_three, not_zero}
 use Rattle.cpg_table.specs.declared.fault.Fault.{Fault}
 use Rattle.cpg_table.specs.Lawful.{Tables}
@@ -41,7 +41,7 @@ made_of seen graph asked bytes (inl show) prints = (shown, subst (λ c. PrintsAs
 made_of seen graph asked bytes (inr compile) prints = (packed, subst (λ c. PrintsAsked seen c bytes) compile prints)
 
 -- and a run stops for it as its compile does
-stopped_of : (seen : Seen) (graph : Text) (asked : Option Command) (halt : Halt) → AsksFor graph asked → StopsAsked seen asked halt → StopsGraph seen (seen.stands graph) StopsCompile halt
+stopped_of : (seen : Seen) (graph : Text) (asked : Option Command) (halt : Halt) → AsksFor graph asked → StopsAsked seen asked halt → StopsGraph seen (seen.stands graph) IsUncompiled halt
 stopped_of seen graph asked halt (inl show) stops = subst (λ c. StopsAsked seen c halt) show stops
 stopped_of seen graph asked halt (inr compile) stops = subst (λ c. StopsAsked seen c halt) compile stops
 
@@ -105,8 +105,8 @@ module _ (r : Ran) where
       is_unsafe = λ seven. absurd (other_status 7 seven (λ e. omega arith) (λ e. omega arith));
       silent = λ zero three. absurd (elim with_status [ inl z ↦ zero z | inr t ↦ three t ]);
       wide = λ a x asks. with_wide a asks x;
-      made = λ a asks listable timely. with_safe asks.faultless;
-      late = λ a asks listable. with_late a asks;
+      made = λ a asks narrow timely. with_safe asks.faultless;
+      late = with_late;
       other = λ a t asks differs. absurd (differs (with_check a t asks).0);
       safe = λ a t asks head valid. with_safe asks.faultless;
       broken = λ a t asks head broken. absurd (broken (with_check a t asks).1);
@@ -157,7 +157,7 @@ module _ (r : Ran) where
     by_silent = elim by.ending [ inl t ↦ t.out | inr m ↦ m.out ]
 
     module _ (a : Admission) (asks : Asks r a) where
-      stops_of : StopsGraph r.shelf (r.shelf.stands asks.graph) StopsCompile halt
+      stops_of : StopsGraph r.shelf (r.shelf.stands asks.graph) IsUncompiled halt
       stops_of = stopped_of r.shelf asks.graph (command_of r.words) halt asks.words by.stops
 
       told_here : r.status ≡ status_of halt
@@ -170,24 +170,21 @@ module _ (r : Ran) where
       by_wide x wide = elim left [
         | inl e ↦ inr (told_here ∙ e)
         | inr (inl late) ↦ absurd (late.1.narrow x wide)
-        | inr (inr (inl shown)) ↦ inl (told_here ∙ shown.0)
-        | inr (inr (inr many)) ↦ absurd (many.1 x wide)
+        | inr (inr shown) ↦ inl (told_here ∙ shown.0)
       ]
 
-      by_made : IsListable a → IsTimely a.graph a.order → (r.status ≡ 0) ⊎ (r.status ≡ 8)
-      by_made listable timely = elim left [
+      by_made : IsNarrow a.graph a.order → IsTimely a.graph a.order → (r.status ≡ 0) ⊎ (r.status ≡ 8)
+      by_made narrow timely = elim left [
         | inl e ↦ inr (told_here ∙ e)
         | inr (inl late) ↦ absurd (not_timely_and_late a.graph asks.file.admitted.well_formed a.order asks.file.admitted.topological timely late.1)
-        | inr (inr (inl wide)) ↦ absurd (listable.narrow wide.1.0 wide.1.1)
-        | inr (inr (inr many)) ↦ absurd (let few = listable.few in let more = many.0 in omega arith)
+        | inr (inr wide) ↦ absurd (narrow wide.1.0 wide.1.1)
       ]
 
-      by_late : IsListable a → (r.status ≡ 5) ⊎ (r.status ≡ 8)
-      by_late listable = elim left [
+      by_late : IsLate a.graph a.order → (r.status ≡ 5) ⊎ (r.status ≡ 8)
+      by_late is_late = elim left [
         | inl e ↦ inr (told_here ∙ e)
         | inr (inl late) ↦ inl (told_here ∙ late.0)
-        | inr (inr (inl wide)) ↦ absurd (listable.narrow wide.1.0 wide.1.1)
-        | inr (inr (inr many)) ↦ absurd (let few = listable.few in let more = many.0 in omega arith)
+        | inr (inr wide) ↦ absurd (is_late.narrow wide.1.0 wide.1.1)
       ]
 
     module _ (a : Admission) (t : Tables) (asks : AsksVerdict r a t) where
@@ -252,8 +249,8 @@ module _ (r : Ran) where
       is_unsafe = by_fault;
       silent = λ zero three. by_silent;
       wide = λ a x asks wide. by_wide a asks x wide;
-      made = λ a asks listable in_time. by_made a asks listable in_time;
-      late = λ a asks listable late. by_late a asks listable;
+      made = by_made;
+      late = by_late;
       other = by_other;
       safe = by_safe;
       broken = by_broken;

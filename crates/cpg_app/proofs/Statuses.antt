@@ -25,7 +25,7 @@ use Rattle.cpg_app.specs.declared.halt.Halt.{Halt}
 use Rattle.cpg_app.specs.declared.halt.Halt.TheVariants.{Words, Read, Refused, Late, TooWide, Unsafe, Memory}
 use Rattle.cpg_app.specs.Halts.{halt_of_reading, halt_of_pack, halt_of_rules, halt_of_scenario, halt_of_compile, halt_of_parts}
 use Rattle.cpg_app.specs.Lines.{status_of}
-use Rattle.cpg_app.specs.Causes.{Seen, StopsReading, BreaksRule, IsUnbuiltCommand, StopsGraph, StopsCompile, StopsTables, StopsNaming, StopsVerdict, StopsPlay, StopsParts, StopsCommand, StopsAsked, Stops}
+use Rattle.cpg_app.specs.Causes.{Seen, StopsReading, BreaksRule, IsUnbuiltCommand, StopsGraph, IsUncompiled, StopsTables, StopsNaming, StopsVerdict, StopsPlay, StopsParts, StopsCommand, StopsAsked, Stops}
 
 -- a halt of a command isn't one of its words, and is one of the shelf where its faults rose
 record IsOfCommand (seen : Seen) (h : Halt) : Type 0 where
@@ -73,9 +73,8 @@ unbuilt_command : (seen : Seen) (h : Halt) → IsUnbuiltCommand h → IsOfComman
 unbuilt_command seen h (inl e) = unbuilt seen h e
 unbuilt_command seen h (inr e) = later seen h _ e (omega arith)
 
-of_made : (seen : Seen) (a : Admission) (h : Halt) → StopsCompile a h → IsOfCommand seen h
-of_made seen a h (inl off) = unbuilt seen h off.unbuilt
-of_made seen a h (inr wrong) = later seen h _ wrong.halt_is (of_compile a wrong.fault)
+of_made : (seen : Seen) (a : Admission) (h : Halt) → IsUncompiled a h → IsOfCommand seen h
+of_made seen a h wrong = later seen h _ wrong.halt_is (of_compile a wrong.fault)
 
 of_pack : (fault : PackFault) → 4 ≤ status_of (halt_of_pack fault)
 of_pack (PackFault.BadPack n) = omega arith
@@ -121,8 +120,8 @@ of_unrolling seen pairs h (inl (inr memory)) = later seen h _ memory (omega arit
 of_unrolling seen pairs h (inr refused) = later seen h _ refused.2.halt_is (of_parts refused.2.fault)
 
 of_command : (seen : Seen) (c : Command) (h : Halt) → StopsCommand seen c h → IsOfCommand seen h
-of_command seen (Show graph) h so = of_graph seen (seen.stands graph) StopsCompile (of_made seen) h so
-of_command seen (Compile graph) h so = of_graph seen (seen.stands graph) StopsCompile (of_made seen) h so
+of_command seen (Show graph) h so = of_graph seen (seen.stands graph) IsUncompiled (of_made seen) h so
+of_command seen (Compile graph) h so = of_graph seen (seen.stands graph) IsUncompiled (of_made seen) h so
 of_command seen (Check graph pack) h so = of_graph seen (seen.stands graph) (λ a. StopsTables seen (seen.stands pack) (StopsVerdict a)) (λ a. of_tables seen (seen.stands pack) (StopsVerdict a) (of_verdict seen a)) h so
 of_command seen (Play graph pack scenario turns) h so = of_graph seen (seen.stands graph) (λ a. StopsTables seen (seen.stands pack) (StopsPlay seen (seen.stands scenario) a)) (λ a. of_tables seen (seen.stands pack) (StopsPlay seen (seen.stands scenario) a) (of_play seen (seen.stands scenario) a)) h so
 of_command seen (Node pack name) h so = of_tables seen (seen.stands pack) (λ t. StopsNaming t name) (λ t. of_naming seen t name) h so

@@ -18,7 +18,6 @@ use Rattle.cpg_table.specs.Lawful.{Tables}
 use Rattle.cpg_codec.specs.declared.fault.PackFault.{PackFault}
 use Rattle.cpg_codec.specs.Packs.{AreLawful, IsBadPack}
 use Rattle.cpg_codec.specs.Spelling.{spelling}
-use Rattle.cpg_order.specs.Scenario.{scenarios}
 use Rattle.cpg_table.specs.declared.fault.Fault.{Fault}
 use Rattle.cpg_scenario.specs.File.{file_of}
 use Rattle.cpg_scenario.specs.declared.fault.ScenarioFault.{ScenarioFault}
@@ -27,7 +26,6 @@ use Rattle.cpg_violation.specs.Heads.{IsHeadFor}
 use Rattle.cpg_check.specs.declared.heads.HeadPart.{HeadPart}
 use Rattle.cpg_check.specs.Heads.{IsFirstDifference}
 use Rattle.cpg_check.specs.Verdict.{IsFirstFault}
-use Rattle.cpg_reach.specs.Wide.{IsNarrow}
 use Rattle.cpg_hyper.specs.declared.part.Part.{Part}
 use Rattle.cpg_hyper.specs.declared.part.HyperFault.{HyperFault}
 use Rattle.cpg_hyper.specs.Refusals.{ShowsUnrolled}
@@ -90,7 +88,7 @@ pub record IsUncompiled (a : Admission) (halt : Halt) : Type 0 where
   pub halt_is : halt ≡ halt_of_compile a fault
   pub shows : ShowsCompileFault a.graph a.order fault
 
--- the command, or this form of graph, isn't built
+-- the command isn't built
 abbrev pub IsUnbuilt : Halt → Type 0
 IsUnbuilt halt = halt ≡ Refused NotBuilt
 
@@ -104,20 +102,6 @@ StopsAdmission seen told halt = StopsReading seen told halt ⊎ ((g : Graph) × 
 -- a graph file stops a run: it isn't admitted, or what the command does with the admitted graph stops it
 abbrev pub StopsGraph : Seen → Option Text → (Admission → Halt → Type 0) → Halt → Type 0
 StopsGraph seen told work halt = StopsAdmission seen told halt ⊎ ((a : Admission) × Admits told a × work a halt)
-
--- a graph has more scenarios than are gone over one by one
-abbrev pub HasManyScenarios : Graph → Type 0
-HasManyScenarios g = 16384 < length (scenarios g)
-
--- so that its tables aren't made, though no item is too wide
-pub record IsUnlisted (a : Admission) (halt : Halt) : Type 0 where
-  pub unbuilt : IsUnbuilt halt
-  pub many : HasManyScenarios a.graph
-  pub narrow : IsNarrow a.graph a.order
-
--- to make the tables of a graph
-abbrev pub StopsCompile : Admission → Halt → Type 0
-StopsCompile a halt = IsUnlisted a halt ⊎ IsUncompiled a halt
 
 -- the bytes of a pack, where the shelf tells them, spell tables
 pub record Spells (told : Option Text) (t : Tables) : Type 0 where
@@ -217,8 +201,8 @@ abbrev pub IsUnbuiltCommand : Halt → Type 0
 IsUnbuiltCommand halt = IsUnbuilt halt ⊎ (halt ≡ Memory)
 
 abbrev pub StopsCommand : Seen → Command → Halt → Type 0
-StopsCommand seen (Show graph) halt = StopsGraph seen (seen.stands graph) StopsCompile halt
-StopsCommand seen (Compile graph) halt = StopsGraph seen (seen.stands graph) StopsCompile halt
+StopsCommand seen (Show graph) halt = StopsGraph seen (seen.stands graph) IsUncompiled halt
+StopsCommand seen (Compile graph) halt = StopsGraph seen (seen.stands graph) IsUncompiled halt
 StopsCommand seen (Check graph pack) halt = StopsGraph seen (seen.stands graph) (λ a. StopsTables seen (seen.stands pack) (StopsVerdict a)) halt
 StopsCommand seen (Play graph pack scenario turns) halt = StopsGraph seen (seen.stands graph) (λ a. StopsTables seen (seen.stands pack) (StopsPlay seen (seen.stands scenario) a)) halt
 StopsCommand seen (Node pack name) halt = StopsTables seen (seen.stands pack) (λ t. StopsNaming t name) halt

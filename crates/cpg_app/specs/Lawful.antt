@@ -9,7 +9,6 @@ use Rattle.cpg_words.specs.declared.command.Command.TheVariants.{Show, Compile, 
 use Rattle.cpg_reader.specs.Document.{problem_of}
 use Rattle.cpg_rules.specs.Admission.{Admission, IsAdmitted}
 use Rattle.cpg_base.specs.Scenario.{Scenario}
-use Rattle.cpg_order.specs.Scenario.{scenarios}
 use Rattle.cpg_reach.specs.Wide.{IsNarrow, IsWide}
 use Rattle.cpg_core.specs.Compiled.{IsTimely, IsLate}
 use Rattle.cpg_app.specs.declared.halt.Refusal.{Refusal}
@@ -52,11 +51,6 @@ pub record Asks (r : Ran) (a : Admission) : Type 0 where
   pub told : r.shelf.stands graph ≡ Some bytes
   pub file : AreAdmitted bytes a
   pub faultless : IsFaultless r
-
--- it has at most 16,384 scenarios, and nothing is too wide under its urgency order
-pub record IsListable (a : Admission) : Type 0 where
-  pub few : length (scenarios a.graph) ≤ 16384
-  pub narrow : IsNarrow a.graph a.order
 
 -- the shelf tells the bytes of a scenario of the graph and lengths of executions, at most 16 MiB
 pub record SaysScenario (r : Ran) (g : Graph) (name : Text) : Type 0 where
@@ -114,12 +108,12 @@ pub record IsLawful (r : Ran) : Type 0 where
   pub is_unsafe : r.status ≡ 7 → (a : Admission) × (fault : Fault) × Stops r.shelf r.words (Unsafe a fault) × IsTold r (Unsafe a fault)
   -- but under 0 and 3, nothing was written to `out`
   pub silent : r.status ≢ 0 → r.status ≢ 3 → Untouched r.out
-  -- such a graph is refused as too wide where some item is under its urgency order; else, where it has at most 16,384
-  -- scenarios, it is shown or packed where every process ends by its due in every scenario, under that order or under the
-  -- track order, and refused as late where some process doesn't under either; but for want of memory
+  -- such a graph is refused as too wide where some item is under its urgency order; else it is shown or packed where every
+  -- process ends by its due in every scenario, under that order or under the track order, and refused as late where some
+  -- process doesn't under either; but for want of memory
   pub wide : (a : Admission) (x : ℕ) → Asks r a → IsWide a.graph a.order x → (r.status ≡ 6) ⊎ (r.status ≡ 8)
-  pub made : (a : Admission) → Asks r a → IsListable a → IsTimely a.graph a.order → (r.status ≡ 0) ⊎ (r.status ≡ 8)
-  pub late : (a : Admission) → Asks r a → IsListable a → IsLate a.graph a.order → (r.status ≡ 5) ⊎ (r.status ≡ 8)
+  pub made : (a : Admission) → Asks r a → IsNarrow a.graph a.order → IsTimely a.graph a.order → (r.status ≡ 0) ⊎ (r.status ≡ 8)
+  pub late : (a : Admission) → Asks r a → IsLate a.graph a.order → (r.status ≡ 5) ⊎ (r.status ≡ 8)
   -- a pack is refused as another graph's where its head is, and else found safe, or played, where its tables keep the ten
   -- rules, and found unsafe where they don't, but for want of memory
   pub other : (a : Admission) (t : Tables) → AsksVerdict r a t → (IsHeadFor a.graph t.head → ⊥) → (r.status ≡ 4) ⊎ (r.status ≡ 8)

@@ -4,7 +4,7 @@ ghost use Rattle.std.specs.Str.{bytes_eq};
 ghost use Rattle.cpg_words.specs.FileWords.{file_words, file_words_of};
 ghost use Rattle.cpg_io.specs.Shelf.{SameLeave, SameNames};
 ghost use Rattle.cpg_core.specs.Compilation.{IsCompilation};
-ghost use Rattle.cpg_app.specs.Causes.{Admits, first_named, HasManyScenarios, IsUnbuilt, Stops, StopsAdmission, StopsCommand, StopsCompile, StopsGraph, StopsNaming, StopsPlay, StopsTables, StopsVerdict};
+ghost use Rattle.cpg_app.specs.Causes.{Admits, first_named, IsUnbuilt, IsUncompiled, Stops, StopsAdmission, StopsCommand, StopsGraph, StopsNaming, StopsPlay, StopsTables, StopsVerdict};
 ghost use Rattle.cpg_app.specs.Knowledge.{KnowLocally};
 ghost use Rattle.cpg_app.specs.Outputs.{bytes_of, packed, shown, AreJudgedSafe, ArePackOf, AreSafe, IsMade, IsMadeOf, IsNodeOf, IsNodeText, IsChecked, IsPlayOf, IsPlayedText, IsSafeText, IsSpelled, Prints, PrintsCommand};
 
@@ -16,10 +16,8 @@ use crate::reading::{admit_graph, read_graph, read_played, read_tables};
 use cpg_base::Name;
 use cpg_check::{Verdict, check};
 use cpg_codec::tables_are_lawful;
-use cpg_core::{CompileFault, Compiled, compile};
+use cpg_core::{Compiled, compile};
 use cpg_io::Shelf;
-use cpg_list::has_few_scenarios;
-use cpg_reach::too_wide;
 use cpg_rules::Admitted;
 use cpg_run::Built;
 use cpg_show::{node_text, table_text};
@@ -34,19 +32,6 @@ struct Made {
     compiled: Compiled,
 }
 
-/// Why the tables of a graph of more scenarios than are gone over one by one aren't made: an item is too wide, or such
-/// graphs aren't built yet.
-fn unlisted(alloc: Global, admitted: Admitted) -> Halt
-    requires { HasManyScenarios admitted.graph }
-    ensures { StopsCompile admitted result }
-{
-    match too_wide(alloc, &admitted, admitted.order()) {
-        Ok(Some(item)) => Halt::of_compile(admitted, CompileFault::TooWide(item)),
-        Ok(None) => Halt::Refused(Refusal::NotBuilt),
-        Err(_) => Halt::Memory,
-    }
-}
-
 /// Compiles an admitted graph.
 fn compile_graph(alloc: Global, admitted: Admitted) -> Result<Made, Halt>
     ensures same { IfOk result (λ made. made.admitted ≡ admitted) }
@@ -54,11 +39,9 @@ fn compile_graph(alloc: Global, admitted: Admitted) -> Result<Made, Halt>
     ensures pack { IfOk result (λ made. ArePackOf admitted.graph made.compiled.built.tables) }
     ensures safe { IfOk result (λ made. AreSafe admitted.graph made.compiled.built.tables.nodes) }
     ensures local { IfOk result (λ made. KnowLocally admitted.graph made.compiled.built.tables.nodes) }
-    ensures halt { IfErr result (StopsCompile admitted) }
+    ensures halt { IfErr result (IsUncompiled admitted) }
 {
-    if !has_few_scenarios(admitted.problem()) {
-        return Err(unlisted(alloc, admitted));
-    }
+    let _graph = admitted.problem();
     match compile(alloc, &admitted) {
         Ok(compiled) => {
             tables_are_lawful(&compiled.built.tables);
@@ -71,7 +54,7 @@ fn compile_graph(alloc: Global, admitted: Admitted) -> Result<Made, Halt>
 /// The table text of an admitted graph.
 fn text_of(alloc: Global, admitted: Admitted) -> Result<Output, Halt>
     ensures text { IfOk result (λ o. IsMadeOf admitted shown (bytes_of o)) }
-    ensures halt { IfErr result (StopsCompile admitted) }
+    ensures halt { IfErr result (IsUncompiled admitted) }
 {
     let made = compile_graph(alloc, admitted)?;
     let built = &made.compiled.built;
@@ -84,7 +67,7 @@ fn text_of(alloc: Global, admitted: Admitted) -> Result<Output, Halt>
 /// The pack of an admitted graph.
 fn pack_of(alloc: Global, admitted: Admitted) -> Result<Output, Halt>
     ensures pack { IfOk result (λ o. IsMadeOf admitted packed (bytes_of o)) }
-    ensures halt { IfErr result (StopsCompile admitted) }
+    ensures halt { IfErr result (IsUncompiled admitted) }
 {
     let made = compile_graph(alloc, admitted)?;
     let Made { compiled, .. } = made;
@@ -111,7 +94,7 @@ fn admitted_file<S: Shelf>(alloc: Global, shelf: &mut S, name: &str) -> Result<A
 fn show<S: Shelf>(alloc: Global, shelf: &mut S, name: &str) -> Result<Output, Halt>
     requires { S.may_fetch shelf.old name.now }
     ensures text { IfOk result (λ o. IsMade (S.stands shelf.old name.now) shown (bytes_of o)) }
-    ensures halt { IfErr result (StopsGraph (record { stands = S.stands shelf.old; given = S.given shelf.new; before = S.faults shelf.old; now = S.faults shelf.new }) (S.stands shelf.old name.now) StopsCompile) }
+    ensures halt { IfErr result (StopsGraph (record { stands = S.stands shelf.old; given = S.given shelf.new; before = S.faults shelf.old; now = S.faults shelf.new }) (S.stands shelf.old name.now) IsUncompiled) }
 {
     let admitted = admitted_file(alloc, shelf, name)?;
     let text = text_of(alloc, admitted)?;
@@ -122,7 +105,7 @@ fn show<S: Shelf>(alloc: Global, shelf: &mut S, name: &str) -> Result<Output, Ha
 fn pack<S: Shelf>(alloc: Global, shelf: &mut S, name: &str) -> Result<Output, Halt>
     requires { S.may_fetch shelf.old name.now }
     ensures pack { IfOk result (λ o. IsMade (S.stands shelf.old name.now) packed (bytes_of o)) }
-    ensures halt { IfErr result (StopsGraph (record { stands = S.stands shelf.old; given = S.given shelf.new; before = S.faults shelf.old; now = S.faults shelf.new }) (S.stands shelf.old name.now) StopsCompile) }
+    ensures halt { IfErr result (StopsGraph (record { stands = S.stands shelf.old; given = S.given shelf.new; before = S.faults shelf.old; now = S.faults shelf.new }) (S.stands shelf.old name.now) IsUncompiled) }
 {
     let admitted = admitted_file(alloc, shelf, name)?;
     let pack = pack_of(alloc, admitted)?;

@@ -70,7 +70,7 @@ pub enum Refusal {
     UnknownNode,
     /// The parts of a graph of several periods have no graph together.
     NoHypergraph(HyperFault),
-    /// The command, or this form of graph, isn't built yet.
+    /// The command isn't built yet.
     NotBuilt,
 }
 

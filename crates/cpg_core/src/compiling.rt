@@ -1,6 +1,5 @@
 //! From an admitted graph to its tables.
-ghost use Rattle.std.specs.Prelude.{◌≡◌, ◌≤◌, ◌<◌, ◌+◌, ◌↔◌, IfOk, IfErr, IfSome, IfNone, IsTrue, Some, length};
-ghost use Rattle.cpg_order.specs.Scenario.{scenarios};
+ghost use Rattle.std.specs.Prelude.{◌≡◌, ◌≤◌, ◌<◌, ◌+◌, ◌↔◌, IfOk, IfErr, IfSome, IfNone, IsTrue, Some};
 ghost use Rattle.cpg_order.specs.Urgency.{IsTopological};
 ghost use Rattle.cpg_reach.specs.Wide.{IsNarrow};
 ghost use Rattle.cpg_run.specs.Built.{IsBuiltFor};
@@ -9,7 +8,7 @@ ghost use Rattle.cpg_core.specs.Compilation.{IsCompilation, IsTracked, HasNoTabl
 
 use crate::CompileFault;
 use cpg_base::{OutOfMemory, Problem};
-use cpg_list::list as build;
+use cpg_expand::expand as build;
 use cpg_merge::merged_order;
 use cpg_order::Order;
 use cpg_rules::Admitted;
@@ -62,7 +61,6 @@ fn late(problem: &Problem, order: &Order, built: Built) -> CompileFault
 
 /// The tables of the track order; `None` exactly where there is no track order, or an item is too wide under it.
 fn tracked(alloc: Global, admitted: &Admitted) -> Result<Option<Compiled>, OutOfMemory>
-    requires few { length (scenarios admitted.now.graph) ≤ 16384 }
     ensures tables { IfOk result (λ found. IfSome found (IsTracked admitted.now.graph admitted.now.order)) }
     ensures none { IfOk result (λ found. IfNone found (HasNoTables admitted.now.graph)) }
 {
@@ -92,7 +90,6 @@ fn preferred(
     admitted: &Admitted,
     urgent: &Built,
 ) -> Result<Option<Compiled>, OutOfMemory>
-    requires few { length (scenarios admitted.now.graph) ≤ 16384 }
     requires built { IsBuiltFor admitted.now.graph admitted.now.order admitted.now.order urgent.now }
     requires narrow { IsNarrow admitted.now.graph admitted.now.order }
     ensures tables { IfOk result (λ found. IfSome found (IsPreferredTo admitted.now.graph admitted.now.order urgent.now)) }
@@ -108,11 +105,10 @@ fn preferred(
     Ok(Some(tracked))
 }
 
-/// The tables of a graph of at most 16,384 scenarios under the order that compiles it: the track order where it gives a
-/// lesser greatest excess than the urgency order, or an equal one and an earlier greatest finish, and else the urgency order.
-/// Under it every process ends by its due in every scenario.
+/// The tables of a graph under the order that compiles it: the track order where it gives a lesser greatest excess than the
+/// urgency order, or an equal one and an earlier greatest finish, and else the urgency order. Under it every process ends by its
+/// due in every scenario.
 pub fn compile(alloc: Global, admitted: &Admitted) -> Result<Compiled, CompileFault>
-    requires few { length (scenarios admitted.now.graph) ≤ 16384 }
     ensures compiled { IfOk result (IsCompilation admitted.now.graph admitted.now.order) }
     ensures fault { IfErr result (ShowsCompileFault admitted.now.graph admitted.now.order) }
 {

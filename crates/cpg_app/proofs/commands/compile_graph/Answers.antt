@@ -4,7 +4,7 @@ use Rattle.cpg_app.proofs.Safe.{compilations_are_safe}
 use Rattle.cpg_app.proofs.commands.compile_graph.Goals as goal
 
 pub returns-in-Ok-clause-safe : goal.returns-in-Ok-clause-safe
-returns-in-Ok-clause-safe c = compilations_are_safe c.args.admitted.graph c.problem.ensures.admitted.well_formed c.args.admitted.order c.in-Ok.compiled c.in-Ok.ensures.compiled
+returns-in-Ok-clause-safe c = compilations_are_safe c.args.admitted.graph c.problem-graph.ensures.admitted.well_formed c.args.admitted.order c.in-Ok.compiled c.in-Ok.ensures.compiled
 
 pub returns-in-Ok-clause-pack : goal.returns-in-Ok-clause-pack
 returns-in-Ok-clause-pack c =
@@ -12,4 +12,4 @@ returns-in-Ok-clause-pack c =
     record { head = c.in-Ok.ensures.compiled.built.head; lawful = lawful; short = all_short c.in-Ok.compiled.built.tables lawful }
 
 pub returns-in-Ok-clause-local : goal.returns-in-Ok-clause-local
-returns-in-Ok-clause-local c = compilations_know_locally c.args.admitted c.problem.ensures.admitted c.in-Ok.compiled c.in-Ok.ensures.compiled
+returns-in-Ok-clause-local c = compilations_know_locally c.args.admitted c.problem-graph.ensures.admitted c.in-Ok.compiled c.in-Ok.ensures.compiled
