@@ -2,9 +2,9 @@
 #![tactic(auto)]
 
 #[cfg(test)]
-mod graphs;
+mod build_tests;
 #[cfg(test)]
-mod list_tests;
+mod graphs;
 #[cfg(test)]
 mod measure_tests;
 #[cfg(test)]

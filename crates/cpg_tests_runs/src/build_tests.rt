@@ -1,8 +1,9 @@
-//! Two processes on one node and on two, with at most one fault, worked by hand.
+//! Two processes on one node and on two, with at most one fault, worked by hand, and built over all scenarios and by trees.
 
 use crate::graphs::{Example, admitted};
 use cpg_base::OutOfMemory;
 use cpg_cube::Literal;
+use cpg_expand::expand;
 use cpg_list::{has_few_scenarios, list};
 use cpg_rules::Admitted;
 use cpg_run::Built;
@@ -10,9 +11,18 @@ use cpg_table::{Entry, Row};
 use std::alloc::Global;
 use std::test::Fail;
 
-/// What is built of a graph under its urgency order.
+/// A way to build tables.
+#[derive(Clone, Copy)]
+enum Builder {
+    /// Over all scenarios.
+    Listing,
+    /// By trees.
+    Trees,
+}
+
+/// What is built of a graph under its urgency order over all scenarios.
 #[tactic(auto, using(crate::proofs::Unfrozen::urgent_topological))]
-fn built_of(alloc: Global, admitted: &Admitted) -> Result<Built, Fail> {
+fn listed(alloc: Global, admitted: &Admitted) -> Result<Built, Fail> {
     if !has_few_scenarios(admitted.problem()) {
         return Err(Fail::from(OutOfMemory));
     }
@@ -22,10 +32,22 @@ fn built_of(alloc: Global, admitted: &Admitted) -> Result<Built, Fail> {
     }
 }
 
+/// What is built of a graph under its urgency order by trees.
+#[tactic(auto, using(crate::proofs::Unfrozen::urgent_topological))]
+fn expanded(alloc: Global, admitted: &Admitted) -> Result<Built, Fail> {
+    match expand(alloc, admitted, admitted.order()) {
+        Ok(built) => Ok(built),
+        Err(_) => Err(Fail::from(OutOfMemory)),
+    }
+}
+
 /// What is built of an example.
-fn built(alloc: Global, example: Example) -> Result<Built, Fail> {
+fn built(alloc: Global, builder: Builder, example: Example) -> Result<Built, Fail> {
     let admitted = admitted(alloc, example)?;
-    built_of(alloc, &admitted)
+    match builder {
+        Builder::Listing => listed(alloc, &admitted),
+        Builder::Trees => expanded(alloc, &admitted),
+    }
 }
 
 fn faults_of_a(count: u8) -> Literal {
@@ -130,14 +152,22 @@ fn starts_in_turn(built: &Built) -> bool {
 }
 
 /// Whether both are so.
-fn on_one_node(alloc: Global) -> Result<(bool, bool), Fail> {
-    let built = built(alloc, Example::Alone)?;
+fn on_one_node(alloc: Global, builder: Builder) -> Result<(bool, bool), Fail> {
+    let built = built(alloc, builder, Example::Alone)?;
     Ok((is_measured_alone(&built), starts_in_turn(&built)))
 }
 
 #[test]
-fn tables_of_one_node(rt: HostRuntime) -> Result<(), Fail> {
-    let (measured, starts) = on_one_node(rt.alloc())?;
+fn lists_one_node(rt: HostRuntime) -> Result<(), Fail> {
+    let (measured, starts) = on_one_node(rt.alloc(), Builder::Listing)?;
+    assert!(rt; measured);
+    assert!(rt; starts);
+    Ok(())
+}
+
+#[test]
+fn expands_one_node(rt: HostRuntime) -> Result<(), Fail> {
+    let (measured, starts) = on_one_node(rt.alloc(), Builder::Trees)?;
     assert!(rt; measured);
     assert!(rt; starts);
     Ok(())
@@ -172,12 +202,12 @@ fn hears_in_time(built: &Built) -> bool {
 }
 
 /// Whether all three are so.
-fn on_two_nodes(alloc: Global) -> Result<(bool, bool, bool), Fail> {
+fn on_two_nodes(alloc: Global, builder: Builder) -> Result<(bool, bool, bool), Fail> {
     let example = Example::Pair {
         frozen: false,
         due: 100,
     };
-    let built = built(alloc, example)?;
+    let built = built(alloc, builder, example)?;
     Ok((
         is_measured_apart(&built),
         sends_in_time(&built),
@@ -186,8 +216,17 @@ fn on_two_nodes(alloc: Global) -> Result<(bool, bool, bool), Fail> {
 }
 
 #[test]
-fn tables_of_two_nodes(rt: HostRuntime) -> Result<(), Fail> {
-    let (measured, sends, hears) = on_two_nodes(rt.alloc())?;
+fn lists_two_nodes(rt: HostRuntime) -> Result<(), Fail> {
+    let (measured, sends, hears) = on_two_nodes(rt.alloc(), Builder::Listing)?;
+    assert!(rt; measured);
+    assert!(rt; sends);
+    assert!(rt; hears);
+    Ok(())
+}
+
+#[test]
+fn expands_two_nodes(rt: HostRuntime) -> Result<(), Fail> {
+    let (measured, sends, hears) = on_two_nodes(rt.alloc(), Builder::Trees)?;
     assert!(rt; measured);
     assert!(rt; sends);
     assert!(rt; hears);
