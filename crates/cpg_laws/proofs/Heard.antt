@@ -1,10 +1,10 @@
 -- Each fact that a node is told is true of the scenario, and so is what they imply.
-use Rattle.std.proofs.Common.{◌≡◌, ℕ, ◌+◌, ◌-◌, ◌<◌, ◌≤◌, Bool, true, false, cond, ◌==◌, ◌&&◌, List, [], ◌++◌, map, filter, Contains, flat_map, refl, ap, arith, inl, inr, eqb-true, le-leb, leb, leb-true, lt-ltb, le-ltb, length, get_or}
+use Rattle.std.proofs.Common.{◌≡◌, ℕ, ◌+◌, ◌-◌, ◌≤◌, Bool, true, false, cond, ◌==◌, List, [], map, filter, Contains, flat_map, refl, ap, arith, inl, inr, eqb-true, le-leb, leb, leb-true, lt-ltb, le-ltb, length, get_or}
 use Rattle.std.proofs.lemmas.Bool.{cases_lt, and_from, and_parts, cond-true, cond-false}
 use Rattle.std.proofs.lemmas.List.{get_or_past}
 use Rattle.std.proofs.lemmas.List.Sums.{get_or-le-sum_by}
 use Rattle.std.proofs.lemmas.List.Elements.{Contains-append_cases}
-use Rattle.cpg_base.specs.Numbers.{greatest, least, numbers_below}
+use Rattle.cpg_base.specs.Numbers.{numbers_below}
 use Rattle.cpg_base.specs.Graph.{Graph, process_count, item_count, item_at, node_of, home, is_heard_by}
 use Rattle.cpg_base.specs.Duration.{duration}
 use Rattle.cpg_base.specs.Bus.{slot_length}
@@ -12,10 +12,10 @@ use Rattle.cpg_base.specs.Variable.{top}
 use Rattle.cpg_base.proofs.Lists.{Contains-nil, Contains-filter_parts, Contains-flat_map_parts, Contains-map_parts, numbers-Contains, greatest_cases, least_cases}
 use Rattle.cpg_order.specs.Scenario.{Scenario, IsScenario, number_of, number_of_value, fault_of}
 use Rattle.cpg_order.proofs.Scenarios.{number_of-fault}
-use Rattle.cpg_cube.specs.Cube.{matches, holds}
+use Rattle.cpg_cube.specs.Cube.{matches}
 use Rattle.cpg_cube.specs.declared.literal.Literal.{Literal}
 use Rattle.cpg_table.specs.Table.{Column, NodeTable, columns_of}
-use Rattle.cpg_table.specs.Heard.{matching, facts_of_end, facts_of_frame, facts, kept_low, kept_high, is_heard}
+use Rattle.cpg_table.specs.Heard.{matching, facts_of_end, facts_of_frame, facts, kept_low, kept_high}
 use Rattle.cpg_table.proofs.Settings.{Match}
 use Rattle.cpg_table.proofs.Told.{end_literals, frame_facts, Told, told_true}
 use Rattle.cpg_laws.specs.Tables.{HeardLiteralsAreTrue}
