@@ -1,7 +1,13 @@
-//! Laws on tables, each on an empty body, so that a reader can cite it.
+//! Laws on graph files and on tables, each on an empty body, so that a reader can cite it.
 #![tactic(auto)]
 
+ghost use Rattle.cpg_laws.specs.GraphFiles.{GraphFilesShowFirstFaults};
 ghost use Rattle.cpg_laws.specs.Tables.{FormedRowsHaveFewColumns, HeardLiteralsAreTrue};
+
+/// A graph file is refused by the first of its faults, and read as a graph where it has none.
+pub fn graph_files_show_first_faults()
+    ensures { GraphFilesShowFirstFaults }
+{}
 
 /// What a node has heard is true of the scenario, whatever the tables are.
 pub fn heard_literals_are_true()

@@ -1,0 +1,269 @@
+-- Step by step: where each step is refused by the first of its faults, so is a document.
+use Rattle.std.proofs.Common.{◌≡◌, ℕ, ◌+◌, Bool, true, false, not, List, [], ◌∷◌, ◌++◌, Option, Some, None, is_some, unwrap_or, option_and_then, Ok, Err, length, position, pos, refl, sym, ap, subst, if◌then◌else◌}
+use Rattle.std.specs.Prelude.{bytes_eq, nat_le}
+use Rattle.std.specs.List.{list_any}
+use Rattle.toml.specs.Data.{Data, Members, as_integer, as_bool}
+use Rattle.cpg_base.specs.declared.limits.TheConstants.{MOST_NODES, MOST_PROCESSES, MOST_EDGES, MOST_CONDITIONS}
+use Rattle.cpg_reader.specs.declared.place.Table.{Table}
+use Rattle.cpg_reader.specs.declared.place.Table.TheVariants as tables
+use Rattle.cpg_reader.specs.declared.place.Place.{Place}
+use Rattle.cpg_reader.specs.declared.place.Key.{Key}
+use Rattle.cpg_reader.specs.declared.place.Key.TheVariants.{Faults, Deadline, Node, Slot, Process, Edge, Name, Length, Bytes, Wcet, Parts, Alpha, Chi, Mu, Join, Frozen, Release, From, To, When, Unknown}
+use Rattle.cpg_reader.specs.declared.place.What.{What}
+use Rattle.cpg_reader.specs.declared.place.What.TheVariants.{Nodes, Slots, Processes, Edges, Number, Conditions}
+use Rattle.cpg_reader.specs.declared.place.ReadFault.{ReadFault}
+use Rattle.cpg_reader.specs.declared.place.ReadFault.TheVariants.{BadField, DoubleName, UnknownName, OverLimit}
+use Rattle.cpg_reader.specs.declared.ranges.Bounded.{Bounded}
+use Rattle.cpg_reader.specs.declared.shape.RawSlot.{RawSlot}
+use Rattle.cpg_reader.specs.declared.shape.RawProcess.{RawProcess}
+use Rattle.cpg_reader.specs.declared.shape.RawEdge.{RawEdge}
+use Rattle.cpg_reader.specs.Reading.{Reading, pure, done, ◌>>=◌, ◌>>◌, each}
+use Rattle.cpg_reader.specs.Rows.{Row, place_in, bad, value_at, as_name, as_tables, are_listed, typed_in, optional_in, optional, required_in, required, with_default, only, name_at, integer_at, integer_or, flag_or, tables_at}
+use Rattle.cpg_reader.specs.Shape.{RawGraph, node_at, slot_at, process_at, edge_at, rows_at, raw_graph_at}
+use Rattle.cpg_reader.specs.Ranges.{top_numbers, slot_numbers, process_numbers, edge_numbers, is_within, in_range, all_in_range, at_most, sources, different, limits}
+use Rattle.cpg_reader.specs.Names.{place, apart_from, apart, known, number_of, slot_of, process_of, edge_of, slot_names, process_names, resolved, graph_of}
+use Rattle.cpg_reader.specs.Document.{document_of, problem_at, problem_of}
+use Rattle.cpg_laws.specs.GraphFiles.{unless, of_each, Field, is_good_value, needed_name, needed_integer, list, node_fields, slot_fields, process_fields, edge_fields, bad_in, top_of, elements, bad_elements, field_faults, too_many, out_of_range, limit_faults, doubles_from, double_faults, unknown, unknown_ends, unknown_faults, graph_faults, document_faults, IsFirst, GraphFilesShowFirstFaults}
+
+-- ---- steps one after another
+
+bind : {T U : Type 0} (fs gs : List ReadFault) (r : Reading T) (next : T → Reading U) → IsFirst fs r → ((x : T) → r ≡ Ok x → IsFirst gs (next x)) → IsFirst (fs ++ gs) (r >>= next)
+bind [] gs r next h more = subst (λ z. IsFirst gs (z >>= next)) (sym h.1) (more h.0 h.1)
+bind (f ∷ fs) gs r next h more = ap (λ z. z >>= next) h
+
+seq : {T U : Type 0} (fs gs : List ReadFault) (r : Reading T) (next : Reading U) → IsFirst fs r → IsFirst gs next → IsFirst (fs ++ gs) (r >> next)
+seq [] gs r next h more = subst (λ z. IsFirst gs (z >> next)) (sym h.1) more
+seq (f ∷ fs) gs r next h more = ap (λ z. z >> next) h
+
+-- a last step that can't be refused
+bind_last : {T U : Type 0} (fs : List ReadFault) (r : Reading T) (f : T → U) → IsFirst fs r → IsFirst fs (r >>= (λ x. pure (f x)))
+bind_last [] r f h = (f h.0, ap (λ z. z >>= (λ x. pure (f x))) h.1)
+bind_last (g ∷ gs) r f h = ap (λ z. z >>= (λ x. pure (f x))) h
+
+seq_last : {T U : Type 0} (fs : List ReadFault) (r : Reading T) (y : U) → IsFirst fs r → IsFirst fs (r >> pure y)
+seq_last [] r y h = (y, ap (λ z. z >> pure y) h.1)
+seq_last (g ∷ gs) r y h = ap (λ z. z >> pure y) h
+
+-- steps within a longer list of faults
+bind_within : {T U : Type 0} (fs gs hs : List ReadFault) (r : Reading T) (next : T → Reading U) → IsFirst fs r → ((x : T) → r ≡ Ok x → IsFirst (gs ++ hs) (next x)) → IsFirst ((fs ++ gs) ++ hs) (r >>= next)
+bind_within [] gs hs r next h more = subst (λ z. IsFirst (gs ++ hs) (z >>= next)) (sym h.1) (more h.0 h.1)
+bind_within (f ∷ fs) gs hs r next h more = ap (λ z. z >>= next) h
+
+seq_within : {T U : Type 0} (fs gs hs : List ReadFault) (r : Reading T) (next : Reading U) → IsFirst fs r → IsFirst (gs ++ hs) next → IsFirst ((fs ++ gs) ++ hs) (r >> next)
+seq_within [] gs hs r next h more = subst (λ z. IsFirst (gs ++ hs) (z >> next)) (sym h.1) more
+seq_within (f ∷ fs) gs hs r next h more = ap (λ z. z >> next) h
+
+-- a test, and what follows it
+or_next : {T : Type 0} (b : Bool) (fault : ReadFault) (fs : List ReadFault) (next : Reading T) → IsFirst fs next → IsFirst (unless b fault ++ fs) (if b then next else Err fault)
+or_next true fault fs next h = h
+or_next false fault fs next h = refl
+
+if_next : {T : Type 0} (b : Bool) (fault : ReadFault) (fs : List ReadFault) (next : Reading T) → IsFirst fs next → IsFirst (unless (not b) fault ++ fs) (if b then Err fault else next)
+if_next true fault fs next h = refl
+if_next false fault fs next h = h
+
+each_first : {T U : Type 0} (faults : ℕ → T → List ReadFault) (step : ℕ → T → Reading U) → ((i : ℕ) (x : T) → IsFirst (faults i x) (step i x)) → (i : ℕ) (xs : List T) → IsFirst (of_each faults i xs) (each step i xs)
+each_first faults step first i [] = ([], refl)
+each_first faults step first i (x ∷ xs) = bind (faults i x) (of_each faults (i + 1) xs) (step i x) (λ y. each step (i + 1) xs >>= (λ ys. pure (y ∷ ys))) (first i x)
+    (λ y e. bind_last (of_each faults (i + 1) xs) (each step (i + 1) xs) (λ ys. y ∷ ys) (each_first faults step first (i + 1) xs))
+
+-- ---- fields
+
+-- the faults of what stands at a key
+abbrev of_field : {T : Type 0} → Row → Key → Bool → (Data → Option T) → Option Data → List ReadFault
+of_field row key needed as_type o = unless (is_good_value (record { key = key; needed = needed; fits = λ d. is_some (as_type d) }) o) (BadField (place_in row key))
+
+module _ {T : Type 0} (row : Row) (key : Key) (as_type : Data → Option T) where
+  typed : (x : Option T) → IsFirst (unless (is_some x) (BadField (place_in row key))) (typed_in row key x)
+  typed None = refl
+  typed (Some x) = (Some x, refl)
+
+  typed_required : (x : Option T) → IsFirst (unless (is_some x) (BadField (place_in row key))) (typed_in row key x >>= required_in row key)
+  typed_required None = refl
+  typed_required (Some x) = (x, refl)
+
+  optional_by : (o : Option Data) → IsFirst (of_field row key false as_type o) (optional_in row key as_type o)
+  optional_by None = (None, refl)
+  optional_by (Some d) = typed (as_type d)
+
+  required_by : (o : Option Data) → IsFirst (of_field row key true as_type o) (optional_in row key as_type o >>= required_in row key)
+  required_by None = refl
+  required_by (Some d) = typed_required (as_type d)
+
+  optional_first : IsFirst (of_field row key false as_type (value_at row key)) (optional as_type row key)
+  unfolding optional
+  optional_first = optional_by (value_at row key)
+
+  required_first : IsFirst (of_field row key true as_type (value_at row key)) (required as_type row key)
+  unfolding optional
+  required_first = required_by (value_at row key)
+
+  default_first : (value : T) → IsFirst (of_field row key false as_type (value_at row key)) (with_default value as_type row key)
+  default_first value = bind_last (of_field row key false as_type (value_at row key)) (optional as_type row key) (λ found. unwrap_or found value) optional_first
+
+  -- and what is found where it is good
+  default_by : (value : T) (o : Option Data) (x : T) → (optional_in row key as_type o >>= (λ found. pure (unwrap_or found value))) ≡ Ok x → x ≡ unwrap_or (option_and_then as_type o) value
+  default_by value None x e = cc
+  default_by value (Some d) x e = by (as_type d) e
+    where
+      by : (y : Option T) → (typed_in row key y >>= (λ found. pure (unwrap_or found value))) ≡ Ok x → x ≡ unwrap_or y value
+      by None e = cc
+      by (Some y) e = cc
+
+  default_is : (value x : T) → with_default value as_type row key ≡ Ok x → x ≡ unwrap_or (option_and_then as_type (value_at row key)) value
+  unfolding optional
+  default_is value x e = default_by value (value_at row key) x e
+
+module _ (row : Row) where
+  only_first : (keys : List Key) → IsFirst (unless (are_listed keys row.members) (BadField (place_in row Unknown))) (only keys row)
+  unfolding only
+  only_first keys = by (are_listed keys row.members)
+    where
+      by : (b : Bool) → IsFirst (unless b (BadField (place_in row Unknown))) (if b then done else bad row Unknown)
+      by true = (tt, refl)
+      by false = refl
+
+  name_first : (key : Key) → IsFirst (unless (is_good_value (needed_name key) (value_at row key)) (BadField (place_in row key))) (name_at row key)
+  unfolding name_at
+  name_first key = required_first row key as_name
+
+  integer_first : (key : Key) → IsFirst (unless (is_good_value (needed_integer key) (value_at row key)) (BadField (place_in row key))) (integer_at row key)
+  unfolding integer_at
+  integer_first key = required_first row key as_integer
+
+  list_first : (key : Key) → IsFirst (unless (is_good_value (list key) (value_at row key)) (BadField (place_in row key))) (tables_at row key)
+  unfolding tables_at
+  list_first key = default_first row key as_tables []
+
+-- ---- elements
+
+module _ (row : Row) where
+  node_first : IsFirst (bad_in node_fields row) (node_at row)
+  unfolding node_at
+  node_first = bind _ _ _ _ (name_first row Name) (λ name _. seq_last _ _ _ (only_first row (Name ∷ [])))
+
+  slot_first : IsFirst (bad_in slot_fields row) (slot_at row)
+  unfolding slot_at
+  slot_first = bind _ _ _ _ (name_first row Node) (λ node _. bind _ _ _ _ (integer_first row Length) (λ length _. bind _ _ _ _ (integer_first row Bytes) (λ bytes _. seq_last _ _ _ (only_first row (Node ∷ Length ∷ Bytes ∷ [])))))
+
+  process_first : IsFirst (bad_in process_fields row) (process_at row)
+  unfolding process_at integer_or flag_or
+  process_first = bind _ _ _ _ (name_first row Name) (λ name _. bind _ _ _ _ (name_first row Node) (λ node _. bind _ _ _ _ (integer_first row Wcet) (λ wcet _. bind _ _ _ _ (default_first row Parts as_integer (pos 1)) (λ parts _. bind _ _ _ _ (default_first row Alpha as_integer (pos 0)) (λ alpha _. bind _ _ _ _ (default_first row Chi as_integer (pos 0)) (λ chi _. bind _ _ _ _ (default_first row Mu as_integer (pos 0)) (λ mu _. bind _ _ _ _ (default_first row Join as_bool false) (λ join _. bind _ _ _ _ (default_first row Frozen as_bool false) (λ frozen _. bind _ _ _ _ (default_first row Release as_integer (pos 0)) (λ release _. bind _ _ _ _ (optional_first row Deadline as_integer) (λ deadline _. seq_last _ _ _ (only_first row (Name ∷ Node ∷ Wcet ∷ Parts ∷ Alpha ∷ Chi ∷ Mu ∷ Join ∷ Frozen ∷ Release ∷ Deadline ∷ [])))))))))))))
+
+  edge_first : IsFirst (bad_in edge_fields row) (edge_at row)
+  unfolding edge_at integer_or flag_or
+  edge_first = bind _ _ _ _ (name_first row From) (λ from _. bind _ _ _ _ (name_first row To) (λ to _. bind _ _ _ _ (default_first row Bytes as_integer (pos 1)) (λ bytes _. bind _ _ _ _ (optional_first row When as_bool) (λ when _. bind _ _ _ _ (default_first row Frozen as_bool false) (λ frozen _. seq_last _ _ _ (only_first row (From ∷ To ∷ Bytes ∷ When ∷ Frozen ∷ [])))))))
+
+rows_first : {T : Type 0} (table : Table) (fields : List Field) (element_at : Row → Reading T) → ((row : Row) → IsFirst (bad_in fields row) (element_at row)) → (members : List Members) → IsFirst (bad_elements table fields members) (rows_at table element_at members)
+rows_first table fields element_at first members = each_first (λ i ms. bad_in fields (record { table = table; index = i; members = ms })) (λ i ms. element_at (record { table = table; index = i; members = ms })) (λ i ms. first (record { table = table; index = i; members = ms })) 0 members
+
+-- the elements that are read are those of the document
+rows_of : {T : Type 0} (ms : Members) (key : Key) (table : Table) (fields : List Field) (element_at : Row → Reading T) → ((row : Row) → IsFirst (bad_in fields row) (element_at row)) → (members : List Members) → tables_at (top_of ms) key ≡ Ok members →
+    IsFirst (bad_elements table fields (elements ms key)) (rows_at table element_at members)
+unfolding tables_at
+rows_of ms key table fields element_at first members e = subst (λ rows. IsFirst (bad_elements table fields rows) (rows_at table element_at members)) (default_is (top_of ms) key as_tables [] members e) (rows_first table fields element_at first members)
+
+fields_first : (ms : Members) → IsFirst (field_faults ms) (raw_graph_at ms)
+unfolding raw_graph_at
+fields_first ms =
+    bind_within _ _ _ _ _ (integer_first (top_of ms) Faults) (λ faults e1.
+    bind_within _ _ _ _ _ (integer_first (top_of ms) Deadline) (λ deadline e2.
+    bind_within _ _ _ _ _ (list_first (top_of ms) Node) (λ node_tables nodes_are.
+    bind_within _ _ _ _ _ (list_first (top_of ms) Slot) (λ slot_tables slots_are.
+    bind_within _ _ _ _ _ (list_first (top_of ms) Process) (λ process_tables processes_are.
+    bind_within _ _ _ _ _ (list_first (top_of ms) Edge) (λ edge_tables edges_are.
+    seq _ _ _ _ (only_first (top_of ms) (Faults ∷ Deadline ∷ Node ∷ Slot ∷ Process ∷ Edge ∷ []))
+    (bind _ _ _ _ (rows_of ms Node tables.Node node_fields node_at node_first node_tables nodes_are) (λ nodes e3.
+    bind _ _ _ _ (rows_of ms Slot tables.Slot slot_fields slot_at slot_first slot_tables slots_are) (λ slots e4.
+    bind _ _ _ _ (rows_of ms Process tables.Process process_fields process_at process_first process_tables processes_are) (λ processes e5.
+    bind_last _ _ _ (rows_of ms Edge tables.Edge edge_fields edge_at edge_first edge_tables edges_are)))))))))))
+
+-- ---- limits
+
+at_most_first : {T : Type 0} (limit : ℕ) (what : What) (xs : List T) → IsFirst (too_many limit what xs) (at_most limit what xs)
+at_most_first limit what xs = by (nat_le (length xs) limit)
+  where
+    by : (b : Bool) → IsFirst (unless b (OverLimit what)) (if b then done else Err (OverLimit what))
+    by true = (tt, refl)
+    by false = refl
+
+range_first : (table : Table) (i : ℕ) (ns : List Bounded) → IsFirst (out_of_range table i ns) (in_range table i ns)
+range_first table i [] = (tt, refl)
+range_first table i (n ∷ ns) = or_next (is_within n.low n.high n.value) (OverLimit (Number (record { table = table; index = i; key = n.key }))) (out_of_range table i ns) (in_range table i ns) (range_first table i ns)
+
+ranges_first : {T : Type 0} (table : Table) (numbers_of : T → List Bounded) (i : ℕ) (xs : List T) → IsFirst (of_each (λ i x. out_of_range table i (numbers_of x)) i xs) (all_in_range table numbers_of i xs)
+ranges_first table numbers_of i [] = (tt, refl)
+ranges_first table numbers_of i (x ∷ xs) = seq _ _ _ _ (range_first table i (numbers_of x)) (ranges_first table numbers_of (i + 1) xs)
+
+limits_first : (g : RawGraph) → IsFirst (limit_faults g) (limits g)
+unfolding limits
+limits_first g =
+    seq _ _ _ _ (at_most_first MOST_NODES Nodes g.nodes)
+    (seq _ _ _ _ (at_most_first MOST_NODES Slots g.slots)
+    (seq _ _ _ _ (at_most_first MOST_PROCESSES Processes g.processes)
+    (seq _ _ _ _ (at_most_first MOST_EDGES Edges g.edges)
+    (seq _ _ _ _ (range_first tables.Top 0 (top_numbers g))
+    (seq _ _ _ _ (ranges_first tables.Slot slot_numbers 0 g.slots)
+    (seq _ _ _ _ (ranges_first tables.Process process_numbers 0 g.processes)
+    (seq _ _ _ _ (ranges_first tables.Edge edge_numbers 0 g.edges)
+    (at_most_first MOST_CONDITIONS Conditions (different [] (sources g.edges))))))))))
+
+-- ---- names
+
+apart_from_first : (table : Table) (key : Key) (i : ℕ) (earlier names : List (List ℕ)) → IsFirst (doubles_from table key i earlier names) (apart_from table key i earlier names)
+apart_from_first table key i earlier [] = (tt, refl)
+apart_from_first table key i earlier (name ∷ names) = if_next (list_any (bytes_eq name) earlier) (DoubleName (place table i key)) (doubles_from table key (i + 1) (earlier ++ name ∷ []) names) (apart_from table key (i + 1) (earlier ++ name ∷ []) names)
+    (apart_from_first table key (i + 1) (earlier ++ name ∷ []) names)
+
+apart_first : (table : Table) (key : Key) (names : List (List ℕ)) → IsFirst (doubles_from table key 0 [] names) (apart table key names)
+unfolding apart
+apart_first table key names = apart_from_first table key 0 [] names
+
+known_first : (at : Place) (o : Option ℕ) → IsFirst (unless (is_some o) (UnknownName at)) (known at o)
+known_first at None = refl
+known_first at (Some number) = (number, refl)
+
+number_first : (names : List (List ℕ)) (name : List ℕ) (table : Table) (i : ℕ) (key : Key) → IsFirst (unknown names name table i key) (number_of names (place table i key) name)
+unfolding number_of
+number_first names name table i key = known_first (place table i key) (position (bytes_eq name) names)
+
+slot_number_first : (nodes : List (List ℕ)) (i : ℕ) (s : RawSlot) → IsFirst (unknown nodes s.node tables.Slot i Node) (slot_of nodes i s)
+unfolding slot_of
+slot_number_first nodes i s = bind_last _ _ _ (number_first nodes s.node tables.Slot i Node)
+
+process_number_first : (nodes : List (List ℕ)) (i : ℕ) (p : RawProcess) → IsFirst (unknown nodes p.node tables.Process i Node) (process_of nodes i p)
+unfolding process_of
+process_number_first nodes i p = bind_last _ _ _ (number_first nodes p.node tables.Process i Node)
+
+ends_first : (names : List (List ℕ)) (i : ℕ) (e : RawEdge) → IsFirst (unknown_ends names i e) (edge_of names i e)
+unfolding edge_of
+ends_first names i e = bind _ _ _ _ (number_first names e.from tables.Edge i From) (λ from e1. bind_last _ _ _ (number_first names e.to tables.Edge i To))
+
+resolved_first : (g : RawGraph) → IsFirst (unknown_faults g) (resolved g)
+unfolding resolved
+resolved_first g =
+    bind _ _ _ _ (each_first (λ i s. unknown g.nodes s.node tables.Slot i Node) (slot_of g.nodes) (slot_number_first g.nodes) 0 g.slots) (λ slots e1.
+    bind _ _ _ _ (each_first (λ i p. unknown g.nodes p.node tables.Process i Node) (process_of g.nodes) (process_number_first g.nodes) 0 g.processes) (λ processes e2.
+    bind_last _ _ _ (each_first (unknown_ends (process_names g.processes)) (edge_of (process_names g.processes)) (ends_first (process_names g.processes)) 0 g.edges)))
+
+names_first : (g : RawGraph) → IsFirst (double_faults g ++ unknown_faults g) (graph_of g)
+unfolding graph_of
+names_first g =
+    seq_within _ _ _ _ _ (apart_first tables.Node Name g.nodes)
+    (seq_within _ _ _ _ _ (apart_first tables.Slot Node (slot_names g.slots))
+    (seq _ _ _ _ (apart_first tables.Process Name (process_names g.processes)) (resolved_first g)))
+
+-- ---- the whole
+
+problem_first : (ms : Members) → IsFirst (field_faults ms ++ graph_faults (raw_graph_at ms)) (problem_at ms)
+unfolding problem_at
+problem_first ms = bind (field_faults ms) (graph_faults (raw_graph_at ms)) (raw_graph_at ms) (λ g. limits g >> graph_of g) (fields_first ms)
+    (λ g e. subst (λ z. IsFirst (graph_faults z) (limits g >> graph_of g)) (sym e) (seq (limit_faults g) (double_faults g ++ unknown_faults g) (limits g) (graph_of g) (limits_first g) (names_first g)))
+
+document_first : (r : Reading Members) → IsFirst (document_faults r) (r >>= problem_at)
+document_first (Err fault) = refl
+document_first (Ok ms) = problem_first ms
+
+pub graph_files_show_first_faults : GraphFilesShowFirstFaults
+unfolding problem_of
+graph_files_show_first_faults bytes = document_first (document_of bytes)

@@ -1,0 +1,5 @@
+use Rattle.cpg_laws.proofs.GraphFiles.{graph_files_show_first_faults as law}
+use Rattle.cpg_laws.proofs.graph_files_show_first_faults.Goals as goal
+
+pub returns : goal.returns
+returns c = law

@@ -1,0 +1,179 @@
+-- All faults of a graph file, kind after kind, each kind in the order of tables, indexes and keys.
+use Rattle.std.specs.Prelude.{ℕ, ◌+◌, ◌≡◌, Bool, true, false, not, List, [], ◌∷◌, ◌++◌, Option, Some, None, is_some, unwrap_or, option_and_then, Ok, Err, length, map, position, nat_le, bytes_eq, if◌then◌else◌}
+use Rattle.std.specs.List.{list_any}
+use Rattle.toml.specs.Data.{Data, Members, as_integer, as_bool}
+use Rattle.cpg_base.specs.declared.limits.TheConstants.{MOST_NODES, MOST_PROCESSES, MOST_EDGES, MOST_CONDITIONS}
+use Rattle.cpg_reader.specs.declared.place.Table.{Table}
+use Rattle.cpg_reader.specs.declared.place.Table.TheVariants as tables
+use Rattle.cpg_reader.specs.declared.place.Key.{Key}
+use Rattle.cpg_reader.specs.declared.place.Key.TheVariants.{Faults, Deadline, Node, Slot, Process, Edge, Name, Length, Bytes, Wcet, Parts, Alpha, Chi, Mu, Join, Frozen, Release, From, To, When, Unknown}
+use Rattle.cpg_reader.specs.declared.place.What.{What}
+use Rattle.cpg_reader.specs.declared.place.What.TheVariants.{Nodes, Slots, Processes, Edges, Number, Conditions}
+use Rattle.cpg_reader.specs.declared.place.ReadFault.{ReadFault}
+use Rattle.cpg_reader.specs.declared.place.ReadFault.TheVariants.{BadField, DoubleName, UnknownName, OverLimit}
+use Rattle.cpg_reader.specs.declared.ranges.Bounded.{Bounded}
+use Rattle.cpg_reader.specs.declared.shape.RawEdge.{RawEdge}
+use Rattle.cpg_reader.specs.Reading.{Reading}
+use Rattle.cpg_reader.specs.Rows.{Row, place_in, value_at, as_name, as_tables, are_listed}
+use Rattle.cpg_reader.specs.Shape.{RawGraph, raw_graph_at}
+use Rattle.cpg_reader.specs.Ranges.{top_numbers, slot_numbers, process_numbers, edge_numbers, is_within, sources, different}
+use Rattle.cpg_reader.specs.Names.{place, slot_names, process_names}
+use Rattle.cpg_reader.specs.Document.{document_of, problem_of}
+
+-- a fault, where something isn't so
+abbrev pub unless : Bool → ReadFault → List ReadFault
+unless b fault = if b then [] else fault ∷ []
+
+-- the faults of each element of a list, with its index
+abbrev pub of_each : {T : Type 0} → (ℕ → T → List ReadFault) → ℕ → List T → List ReadFault
+of_each faults i [] = []
+of_each faults i (x ∷ xs) = faults i x ++ of_each faults (i + 1) xs
+
+-- ---- bad fields
+
+-- a field of a table: its key, whether it has to stand there, and what may stand there
+pub record Field : Type 0 where
+  pub key : Key
+  pub needed : Bool
+  pub fits : Data → Bool
+
+abbrev pub is_good_value : Field → Option Data → Bool
+is_good_value f None = not f.needed
+is_good_value f (Some d) = f.fits d
+
+abbrev pub is_name : Data → Bool
+is_name d = is_some (as_name d)
+
+abbrev pub is_integer : Data → Bool
+is_integer d = is_some (as_integer d)
+
+abbrev pub is_flag : Data → Bool
+is_flag d = is_some (as_bool d)
+
+abbrev pub are_tables : Data → Bool
+are_tables d = is_some (as_tables d)
+
+abbrev pub needed_name : Key → Field
+needed_name key = record { key = key; needed = true; fits = is_name }
+
+abbrev pub needed_integer : Key → Field
+needed_integer key = record { key = key; needed = true; fits = is_integer }
+
+abbrev pub integer : Key → Field
+integer key = record { key = key; needed = false; fits = is_integer }
+
+abbrev pub flag : Key → Field
+flag key = record { key = key; needed = false; fits = is_flag }
+
+abbrev pub list : Key → Field
+list key = record { key = key; needed = false; fits = are_tables }
+
+abbrev pub top_fields : List Field
+top_fields = needed_integer Faults ∷ needed_integer Deadline ∷ list Node ∷ list Slot ∷ list Process ∷ list Edge ∷ []
+
+abbrev pub node_fields : List Field
+node_fields = needed_name Name ∷ []
+
+abbrev pub slot_fields : List Field
+slot_fields = needed_name Node ∷ needed_integer Length ∷ needed_integer Bytes ∷ []
+
+abbrev pub process_fields : List Field
+process_fields = needed_name Name ∷ needed_name Node ∷ needed_integer Wcet ∷ integer Parts ∷ integer Alpha ∷ integer Chi ∷ integer Mu ∷ flag Join ∷ flag Frozen ∷ integer Release ∷ integer Deadline ∷ []
+
+abbrev pub edge_fields : List Field
+edge_fields = needed_name From ∷ needed_name To ∷ integer Bytes ∷ flag When ∷ flag Frozen ∷ []
+
+-- the fields that aren't good, and then a key that is none of theirs
+abbrev pub bad_fields : Row → List Key → List Field → List ReadFault
+bad_fields row keys [] = unless (are_listed keys row.members) (BadField (place_in row Unknown))
+bad_fields row keys (f ∷ fs) = unless (is_good_value f (value_at row f.key)) (BadField (place_in row f.key)) ++ bad_fields row keys fs
+
+abbrev pub bad_in : List Field → Row → List ReadFault
+bad_in fields row = bad_fields row (map (λ f. f.key) fields) fields
+
+abbrev pub top_of : Members → Row
+top_of ms = record { table = tables.Top; index = 0; members = ms }
+
+-- the elements of a list of the document, if it is one
+abbrev pub elements : Members → Key → List Members
+elements ms key = unwrap_or (option_and_then as_tables (value_at (top_of ms) key)) []
+
+abbrev pub bad_elements : Table → List Field → List Members → List ReadFault
+bad_elements table fields members = of_each (λ i ms. bad_in fields (record { table = table; index = i; members = ms })) 0 members
+
+-- of the whole document: first the keys of the top, then each element of each list
+abbrev pub field_faults : Members → List ReadFault
+field_faults ms = bad_in top_fields (top_of ms)
+    ++ (bad_elements tables.Node node_fields (elements ms Node)
+    ++ (bad_elements tables.Slot slot_fields (elements ms Slot)
+    ++ (bad_elements tables.Process process_fields (elements ms Process)
+    ++ bad_elements tables.Edge edge_fields (elements ms Edge))))
+
+-- ---- what is beyond its limit
+
+abbrev pub too_many : {T : Type 0} → ℕ → What → List T → List ReadFault
+too_many limit what xs = unless (nat_le (length xs) limit) (OverLimit what)
+
+abbrev pub out_of_range : Table → ℕ → List Bounded → List ReadFault
+out_of_range table i [] = []
+out_of_range table i (n ∷ ns) = unless (is_within n.low n.high n.value) (OverLimit (Number (record { table = table; index = i; key = n.key }))) ++ out_of_range table i ns
+
+abbrev pub all_out_of_range : {T : Type 0} → Table → (T → List Bounded) → List T → List ReadFault
+all_out_of_range table numbers_of xs = of_each (λ i x. out_of_range table i (numbers_of x)) 0 xs
+
+abbrev pub limit_faults : RawGraph → List ReadFault
+limit_faults g = too_many MOST_NODES Nodes g.nodes
+    ++ (too_many MOST_NODES Slots g.slots
+    ++ (too_many MOST_PROCESSES Processes g.processes
+    ++ (too_many MOST_EDGES Edges g.edges
+    ++ (out_of_range tables.Top 0 (top_numbers g)
+    ++ (all_out_of_range tables.Slot slot_numbers g.slots
+    ++ (all_out_of_range tables.Process process_numbers g.processes
+    ++ (all_out_of_range tables.Edge edge_numbers g.edges
+    ++ too_many MOST_CONDITIONS Conditions (different [] (sources g.edges)))))))))
+
+-- ---- names that stand twice
+
+-- a name that stands among those before it
+abbrev pub doubles_from : Table → Key → ℕ → List (List ℕ) → List (List ℕ) → List ReadFault
+doubles_from table key i earlier [] = []
+doubles_from table key i earlier (name ∷ names) = unless (not (list_any (bytes_eq name) earlier)) (DoubleName (place table i key)) ++ doubles_from table key (i + 1) (earlier ++ name ∷ []) names
+
+abbrev pub double_faults : RawGraph → List ReadFault
+double_faults g = doubles_from tables.Node Name 0 [] g.nodes ++ (doubles_from tables.Slot Node 0 [] (slot_names g.slots) ++ doubles_from tables.Process Name 0 [] (process_names g.processes))
+
+-- ---- names that name nothing
+
+abbrev pub unknown : List (List ℕ) → List ℕ → Table → ℕ → Key → List ReadFault
+unknown names name table i key = unless (is_some (position (bytes_eq name) names)) (UnknownName (place table i key))
+
+abbrev pub unknown_ends : List (List ℕ) → ℕ → RawEdge → List ReadFault
+unknown_ends names i e = unknown names e.from tables.Edge i From ++ unknown names e.to tables.Edge i To
+
+abbrev pub unknown_faults : RawGraph → List ReadFault
+unknown_faults g = of_each (λ i s. unknown g.nodes s.node tables.Slot i Node) 0 g.slots
+    ++ (of_each (λ i p. unknown g.nodes p.node tables.Process i Node) 0 g.processes ++ of_each (unknown_ends (process_names g.processes)) 0 g.edges)
+
+-- ---- all
+
+-- what a document says is judged further where its fields are good
+abbrev pub graph_faults : Reading RawGraph → List ReadFault
+graph_faults (Err fault) = []
+graph_faults (Ok g) = limit_faults g ++ (double_faults g ++ unknown_faults g)
+
+-- a document is judged where the bytes are one
+abbrev pub document_faults : Reading Members → List ReadFault
+document_faults (Err fault) = fault ∷ []
+document_faults (Ok ms) = field_faults ms ++ graph_faults (raw_graph_at ms)
+
+abbrev pub faults_of : List ℕ → List ReadFault
+faults_of bytes = document_faults (document_of bytes)
+
+-- a reading is refused by the first of these faults, and where there are none it gives something
+abbrev pub IsFirst : {T : Type 0} → List ReadFault → Reading T → Type 0
+IsFirst {T} [] reading = (x : T) × (reading ≡ Ok x)
+IsFirst (fault ∷ faults) reading = reading ≡ Err fault
+
+-- the bytes of a graph file are refused by the first of their faults
+abbrev pub GraphFilesShowFirstFaults : Type 0
+GraphFilesShowFirstFaults = (bytes : List ℕ) → IsFirst (faults_of bytes) (problem_of bytes)
