@@ -1,0 +1,68 @@
+-- Which files are logs, and the first line that makes a file none.
+use Rattle.std.specs.Prelude.{ℕ, zero, suc, ◌^◌, ◌+◌, ◌≡◌, ◌≢◌, ◌<◌, List, [], ◌∷◌, ◌++◌, None, true, take, length, get_or}
+use Rattle.cpg_base.specs.Graph.{Graph}
+use Rattle.cpg_audit.specs.Lines.{lines}
+use Rattle.cpg_audit.specs.Log.{Log, Logged, IsLog, IsActBy, log_lines, until_line, is_act, act_text, act_line, logged_time}
+
+-- the file has the lines of a log
+pub record IsLogOf (g : Graph) (bytes : List ℕ) (log : Log) : Type 0 where
+  pub lawful : IsLog g log
+  pub spelled : lines bytes ≡ log_lines g log
+
+-- a log may go on with an act: up to its time, and of an item that isn't logged yet
+pub record MayGoOn (g : Graph) (log : Log) (l : Logged) : Type 0 where
+  pub act : IsActBy g log.until l
+  pub new : logged_time log.acts l.item ≡ None
+
+-- no first line says until when a log goes
+abbrev pub LackTime : List (List ℕ) → Type 0
+LackTime ls = (until : ℕ) (rest : List (List ℕ)) → until < 2 ^ 60 → ls ≢ until_line until ∷ rest
+
+-- the lines before a place are a log's, and the line there is of no act that this log may go on with
+pub record IsStrangeLine (g : Graph) (ls : List (List ℕ)) (place : ℕ) : Type 0 where
+  pub before : Log
+  pub lawful : IsLog g before
+  pub spelled : take place ls ≡ log_lines g before
+  pub there : place < length ls
+  pub strange : (l : Logged) → MayGoOn g before l → get_or ls place [] ≢ act_line g l
+
+-- the first line of a file that makes it no log's, counted from 0
+abbrev pub IsBadLine : Graph → List (List ℕ) → ℕ → Type 0
+IsBadLine g ls zero = LackTime ls
+IsBadLine g ls (suc place) = IsStrangeLine g ls (suc place)
+
+-- Line by line.
+
+-- a text names an item that a node starts or sends and that isn't logged yet
+pub record IsNew (g : Graph) (log : Log) (text : List ℕ) (x : ℕ) : Type 0 where
+  pub item : is_act g x ≡ true
+  pub new : logged_time log.acts x ≡ None
+  pub spelled : text ≡ act_text g x
+
+-- a log with the act of a line more
+pub record GoesOn (g : Graph) (old : Log) (line : List ℕ) (new : Log) : Type 0 where
+  pub act : Logged
+  pub spelled : line ≡ act_line g act
+  pub may : MayGoOn g old act
+  pub added : new ≡ record { until = old.until; acts = old.acts ++ act ∷ [] }
+
+-- the log with the act of the first line of some bytes more, and the bytes after it
+pub record IsLineRead (g : Graph) (old : Log) (bytes : List ℕ) (new : Log) (rest : List ℕ) : Type 0 where
+  pub line : List ℕ
+  pub first : lines bytes ≡ line ∷ lines rest
+  pub shorter : length rest < length bytes
+  pub goes_on : GoesOn g old line new
+
+-- the first line of some bytes, which stands at this place of a file, is of no act that the log may go on with
+pub record IsLineStrange (g : Graph) (log : Log) (bytes : List ℕ) (place : ℕ) : Type 0 where
+  pub line : List ℕ
+  pub rest : List ℕ
+  pub first : lines bytes ≡ line ∷ lines rest
+  pub here : place ≡ length log.acts + 1
+  pub strange : (l : Logged) → MayGoOn g log l → line ≢ act_line g l
+
+-- a log without an act, by the first line of a file, and the bytes after it
+pub record IsOpened (bytes : List ℕ) (log : Log) (rest : List ℕ) : Type 0 where
+  pub until : log.until < 2 ^ 60
+  pub none : log.acts ≡ []
+  pub first : lines bytes ≡ until_line log.until ∷ lines rest

@@ -1,0 +1,13 @@
+//! Which scenario gives a log: the least one of at most the graph's faults in which the nodes do exactly what is logged.
+#![tactic(auto)]
+
+mod fault;
+mod lines;
+mod log;
+mod number;
+mod reading;
+mod texts;
+
+pub use fault::LogFault;
+pub use log::{Log, Logged};
+pub use reading::read_log;
