@@ -33,3 +33,4 @@ pub mod BegunMade
 pub mod RowsMade
 pub mod GrownRows
 pub mod Stepped
+pub mod ActiveItems

@@ -14,3 +14,4 @@ pub mod Grown
 pub mod Sent
 pub mod Begun
 pub mod Peaks
+pub mod Active

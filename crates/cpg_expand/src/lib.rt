@@ -3,6 +3,7 @@
 //! scenario is listed.
 #![tactic(auto)]
 
+mod activity;
 mod along;
 mod ending;
 mod expanding;
@@ -15,4 +16,5 @@ mod sending;
 mod starting;
 mod values;
 
+pub use activity::active_item;
 pub use expanding::expand;

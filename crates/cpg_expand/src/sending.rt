@@ -85,7 +85,7 @@ fn live(
 }
 
 /// Where an item is sent, by where its producer is active.
-fn goes(
+pub(crate) fn goes(
     alloc: Global,
     problem: &Problem,
     active: &Tree<bool>,

@@ -1,0 +1,30 @@
+//! The activity of items as trees.
+ghost use Rattle.std.specs.Prelude.{◌≡◌, ◌≤◌, ◌<◌, IfOk, true};
+ghost use Rattle.cpg_base.specs.Graph.{is_sent, item_count, process_count};
+ghost use Rattle.cpg_expand.specs.Active.{IsActivityOf};
+ghost use Rattle.cpg_expand.specs.Agreeing.{IsTree};
+
+use crate::guarded::active;
+use crate::sending::goes;
+use cpg_base::OutOfMemory;
+use cpg_rules::Admitted;
+use cpg_tree::Tree;
+use std::alloc::Global;
+
+/// Where an item that is started or sent is active.
+pub fn active_item(alloc: Global, admitted: &Admitted, item: u32) -> Result<Tree<bool>, OutOfMemory>
+    requires item { item < item_count admitted.now.graph }
+    requires acts { process_count admitted.now.graph ≤ item → is_sent admitted.now.graph item ≡ true }
+    ensures tree { IfOk result (IsTree admitted.now.graph) }
+    ensures active { IfOk result (IsActivityOf admitted.now.graph item) }
+{
+    let problem = admitted.problem();
+    let process = problem.producer(item);
+    let guard = admitted.guards().guard_of(process);
+    let producing = active(alloc, problem, guard)?;
+    if (item as usize) < problem.processes().len() {
+        return Ok(producing);
+    }
+    let goes = goes(alloc, problem, &producing, item)?;
+    Ok(goes)
+}
