@@ -1,3 +1,5 @@
 pub mod LineLaws
 pub mod TextLaws
 pub mod ReadingLaws
+pub mod IdleLaws
+pub mod GivesLaws

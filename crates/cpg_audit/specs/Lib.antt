@@ -1,3 +1,5 @@
 pub mod Log
 pub mod Lines
 pub mod Reading
+pub mod Gives
+pub mod Excluded

@@ -1,0 +1,202 @@
+-- A scenario gives a log exactly where no cube that the log excludes matches.
+use Rattle.std.proofs.Common.{ℕ, suc, ◌+◌, ◌≤◌, ◌≡◌, ◌≢◌, ◌==◌, Bool, true, false, not, List, [], ◌∷◌, ◌++◌, map, filter, Option, Some, None, IfSome, IfNone, All, AllPairs, Contains, arith, refl, sym, ap, ◌∙◌, subst, inl, inr, eq-eqb, eqb-true, ne_eqb, true≢false}
+use Rattle.std.specs.Prelude.{nat_le}
+use Rattle.std.specs.List.{list_any, flat_map}
+use Rattle.std.proofs.lemmas.Bool.{cases_eq, cond-true, cond-false, false_from_ne_true, leb-true, le-leb, not-false}
+use Rattle.std.proofs.lemmas.List.{append-nil}
+use Rattle.std.proofs.lemmas.List.Concat.{flat_map-append}
+use Rattle.std.proofs.lemmas.List.Elements.{All-contains, All-contains_itself, All-weaker, Contains-append_cases, Contains-append_left, Contains-append_right}
+use Rattle.std.proofs.lemmas.Option.{none-some, same_Some}
+use Rattle.cpg_base.specs.Numbers.{numbers_below}
+use Rattle.cpg_base.specs.Graph.{Graph, item_at, item_count}
+use Rattle.cpg_base.specs.Activity.{item_active}
+use Rattle.cpg_base.proofs.Lists.{Contains-first, Contains-rest, Contains-cases, Contains-nil, Contains-map, Contains-map_parts, Contains-filter, Contains-filter_parts, Contains-flat_map, Contains-flat_map_parts, Contains-numbers, below_push, list_any_false, from_any_false, slice_get-Contains}
+use Rattle.cpg_order.specs.Scenario.{Scenario, IsScenario, IsLeast}
+use Rattle.cpg_order.specs.First.{IsFirst}
+use Rattle.cpg_cube.specs.Cube.{matches}
+use Rattle.cpg_cube.specs.Cover.{is_left}
+use Rattle.cpg_cube.specs.Fit.{IsKnown}
+use Rattle.cpg_cube.specs.declared.literal.Literal.{Literal}
+use Rattle.cpg_cube.proofs.Kept.{any_map}
+use Rattle.cpg_table.specs.Table.{Column, NodeTable, columns_of}
+use Rattle.cpg_table.proofs.Rows.{has_row}
+use Rattle.cpg_table.proofs.Settings.{Setting, Match, item_within, match_once, match_active, match_there}
+use Rattle.cpg_node.specs.Dispatcher.{Act}
+use Rattle.cpg_cluster.specs.Correct.{all_asked}
+use Rattle.cpg_cluster.proofs.Asked.{asked_match, all_asked_in, all_asked_parts}
+use Rattle.cpg_audit.specs.Excluded.{is_excluded, excluded_of, is_some_idle}
+use Rattle.cpg_audit.specs.Gives.{Gives, logged}
+use Rattle.cpg_audit.specs.Log.{Log, Logged, IsLog, IsActBy, logged_time}
+use Rattle.cpg_audit.proofs.TextLaws.{act_within}
+
+-- ---- when an item is logged
+
+same_logged : (l : Logged) (time item : ℕ) → l.time ≡ time → l.item ≡ item → l ≡ record { time = time; item = item }
+same_logged l time item p q = λ i. record { time = p i; item = q i }
+
+pub logged_at : (ls : List Logged) → AllPairs (λ (a b : Logged). a.item ≢ b.item) ls → (l : Logged) → Contains ls l → logged_time ls l.item ≡ Some l.time
+logged_at [] pairs l c = absurd (Contains-nil l c)
+logged_at (m ∷ ls) pairs l c = elim (Contains-cases m ls l c) [
+  | inl e ↦ cond-true (m.item == l.item) (Some m.time) (logged_time ls l.item) (eq-eqb m.item l.item (ap (λ (z : Logged). z.item) e)) ∙ ap (λ (z : Logged). Some z.time) e
+  | inr r ↦ cond-false (m.item == l.item) (Some m.time) (logged_time ls l.item)
+      (ne_eqb m.item l.item (λ same. pairs 0 (suc r.0) l (omega arith) (omega (arith, r.1)) (same ∙ sym (ap (λ (z : Logged). z.item) r.2))))
+      ∙ logged_at ls (λ i j d a b. pairs (suc i) (suc j) d (omega arith) (omega arith)) l r
+]
+
+pub logged_in : (ls : List Logged) (x time : ℕ) → logged_time ls x ≡ Some time → Contains ls (record { time = time; item = x })
+logged_in [] x time e = absurd (none-some time e)
+logged_in (m ∷ ls) x time e = elim (cases_eq m.item x) [
+  | inl is ↦ subst (Contains (m ∷ ls)) (same_logged m time x (same_Some m.time time (sym (cond-true (m.item == x) (Some m.time) (logged_time ls x) (eq-eqb m.item x is)) ∙ e)) is) (Contains-first m ls)
+  | inr other ↦ Contains-rest m ls (record { time = time; item = x }) (logged_in ls x time (sym (cond-false (m.item == x) (Some m.time) (logged_time ls x) (ne_eqb m.item x other)) ∙ e))
+]
+
+-- ---- what is due, and the columns that match
+
+-- no column that matches has an excluded time, and each logged item is active
+pub record Fits (g : Graph) (tables : List NodeTable) (log : Log) (s : Scenario) : Type 0 where
+  pub times : (x : ℕ) (c : Column) → Match tables s x c → is_excluded log.until (logged_time log.acts x) c.time ≡ false
+  pub active : (l : Logged) → Contains log.acts l → item_active g s.values (item_at g l.item) ≡ true
+
+module _ {g : Graph} {tables : List NodeTable} {s : Scenario} (k : Setting g tables s) (log : Log) (is : IsLog g log) where
+  -- the act of a column that matches
+  act_of : (x : ℕ) (c : Column) → Match tables s x c → (a : Act) × Contains (all_asked g tables s) a × (a.time ≡ c.time) × (a.item ≡ x)
+  act_of x c m =
+      let p = slice_get-Contains (columns_of tables x) c m.there in
+      let a : Act = record { time = c.time; item = x; column = p.0 } in
+      (a, all_asked_in k a (record { row = has_row k.formed k.shape x c m.there; column = c; at = p.1; holds = m.holds; time = refl }), refl, refl)
+
+  match_of : (a : Act) → Contains (all_asked g tables s) a → (c : Column) × Match tables s a.item c × (c.time ≡ a.time)
+  match_of a h = let q = all_asked_parts k a h in (q.column, asked_match q, q.time)
+
+  -- the column of a logged act that is due
+  match_due : Gives g tables log s → (l : Logged) → Contains log.acts l → (c : Column) × Match tables s l.item c × (c.time ≡ l.time)
+  match_due gives l c =
+      let due = gives.due l c in
+      let m = match_of due.0 due.1 in
+      (m.0, subst (λ x. Match tables s x m.0) (ap (λ (z : Logged). z.item) due.2) m.1, m.2 ∙ ap (λ (z : Logged). z.time) due.2)
+
+  pub gives_fits : Gives g tables log s → Fits g tables log s
+  gives_fits gives = record {
+    times = λ x c m. times x c m (logged_time log.acts x) refl;
+    active = λ l c. let m = match_due gives l c in match_active k l.item m.0 m.1;
+  }
+    where
+      times : (x : ℕ) (c : Column) → Match tables s x c → (o : Option ℕ) → logged_time log.acts x ≡ o → is_excluded log.until o c.time ≡ false
+      times x c m None e = false_from_ne_true (nat_le c.time log.until) (λ early.
+          let a = act_of x c m in
+          let named = gives.named a.0 a.1 (omega (arith, a.2, leb-true c.time log.until early)) in
+          none-some a.0.time (sym e ∙ ap (logged_time log.acts) (sym a.3) ∙ logged_at log.acts is.apart (logged a.0) named))
+      times x c m (Some time) e =
+          let l = logged_in log.acts x time e in
+          let d = match_due gives (record { time = time; item = x }) l in
+          ap not (eq-eqb c.time time (ap (λ (z : Column). z.time) (match_once k x c d.0 m d.1) ∙ d.2))
+
+  pub fits_gives : Fits g tables log s → Gives g tables log s
+  fits_gives fits = record {
+    named = λ a h early.
+        let m = match_of a h in
+        subst (Contains log.acts) (sym (same_logged (logged a) (logged a).time (logged a).item refl refl))
+        (named a m.0 (logged_time log.acts a.item) refl (fits.times a.item m.0 m.1) m.2 early);
+    due = λ l c.
+        let act = All-contains (IsActBy g log.until) log.acts l is.acts c in
+        let m = match_there k l.item (act_within g l.item act.item) (fits.active l c) in
+        let a = act_of l.item m.0 m.1 in
+        let same : m.0.time ≡ l.time = eqb-true m.0.time l.time (not-false (m.0.time == l.time) (subst (λ o. is_excluded log.until o m.0.time ≡ false) (logged_at log.acts is.apart l c) (fits.times l.item m.0 m.1))) in
+        (a.0, a.1, same_logged (logged a.0) l.time l.item (a.2 ∙ same) a.3);
+  }
+    where
+      named : (a : Act) (c : Column) (o : Option ℕ) → logged_time log.acts a.item ≡ o → is_excluded log.until (logged_time log.acts a.item) c.time ≡ false → c.time ≡ a.time → a.time ≤ log.until → Contains log.acts (logged a)
+      named a c None e x same early = absurd (true≢false (sym (le-leb c.time log.until (omega (arith, same, early))) ∙ subst (λ o. is_excluded log.until o c.time ≡ false) e x))
+      named a c (Some time) e x same early =
+          let at : c.time ≡ time = eqb-true c.time time (not-false (c.time == time) (subst (λ o. is_excluded log.until o c.time ≡ false) e x)) in
+          subst (Contains log.acts) (sym (same_logged (logged a) time a.item (sym same ∙ at) refl)) (logged_in log.acts a.item time e)
+
+  -- ---- the cubes
+
+  module _ (idle : List (ℕ × List Literal)) (told : list_any (λ (c : ℕ × List Literal). matches c.1 s) idle ≡ is_some_idle g log.acts s) where
+    pub fits_left : Fits g tables log s → list_any (λ b. matches b s) (flat_map (excluded_of tables log) (numbers_below (item_count g)) ++ map (λ (c : ℕ × List Literal). c.1) idle) ≡ false
+    fits_left fits = list_any_false (λ b. matches b s) (flat_map (excluded_of tables log) (numbers_below (item_count g)) ++ map (λ (c : ℕ × List Literal). c.1) idle) (λ b c.
+        elim (Contains-append_cases (flat_map (excluded_of tables log) (numbers_below (item_count g))) (map (λ (c : ℕ × List Literal). c.1) idle) b c) [
+          | inl h ↦ of_column b h
+          | inr h ↦ of_idle b h
+        ])
+      where
+        of_column : (b : List Literal) → Contains (flat_map (excluded_of tables log) (numbers_below (item_count g))) b → matches b s ≡ false
+        of_column b h = false_from_ne_true (matches b s) (λ m.
+            let p = Contains-flat_map_parts (excluded_of tables log) (numbers_below (item_count g)) b h in
+            let q = Contains-map_parts (λ (c : Column). c.cube) (filter (λ (c : Column). is_excluded log.until (logged_time log.acts p.0) c.time) (columns_of tables p.0)) b p.2 in
+            let r = Contains-filter_parts (λ (c : Column). is_excluded log.until (logged_time log.acts p.0) c.time) (columns_of tables p.0) q.0 q.1 in
+            true≢false (sym r.1 ∙ fits.times p.0 q.0 (record { there = r.0; holds = subst (λ (ls : List Literal). matches ls s ≡ true) (sym q.2) m })))
+
+        none_idle : is_some_idle g log.acts s ≡ false
+        none_idle = list_any_false (λ (l : Logged). not (item_active g s.values (item_at g l.item))) log.acts (λ l c. ap not (fits.active l c))
+
+        of_idle : (b : List Literal) → Contains (map (λ (c : ℕ × List Literal). c.1) idle) b → matches b s ≡ false
+        of_idle b h = from_any_false (λ b. matches b s) (map (λ (c : ℕ × List Literal). c.1) idle) b (any_map (λ b. matches b s) (λ (c : ℕ × List Literal). c.1) idle ∙ told ∙ none_idle) h
+
+    pub left_fits : list_any (λ b. matches b s) (flat_map (excluded_of tables log) (numbers_below (item_count g)) ++ map (λ (c : ℕ × List Literal). c.1) idle) ≡ false → Fits g tables log s
+    left_fits none = record {
+      times = λ x c m. false_from_ne_true (is_excluded log.until (logged_time log.acts x) c.time) (λ e.
+          true≢false (sym m.holds ∙ from_any_false (λ b. matches b s) (flat_map (excluded_of tables log) (numbers_below (item_count g)) ++ map (λ (c : ℕ × List Literal). c.1) idle) c.cube none
+          (Contains-append_left (flat_map (excluded_of tables log) (numbers_below (item_count g))) (map (λ (c : ℕ × List Literal). c.1) idle) c.cube
+          (Contains-flat_map (excluded_of tables log) (numbers_below (item_count g)) x c.cube (Contains-numbers (item_count g) x (item_within k x c m.there))
+          (Contains-map (λ (c : Column). c.cube) (filter (λ (c : Column). is_excluded log.until (logged_time log.acts x) c.time) (columns_of tables x)) c
+          (Contains-filter (λ (c : Column). is_excluded log.until (logged_time log.acts x) c.time) (columns_of tables x) c e m.there))))));
+      active = λ l c. not-false (item_active g s.values (item_at g l.item)) (from_any_false (λ (l : Logged). not (item_active g s.values (item_at g l.item))) log.acts l (sym told ∙ none_idle) c);
+    }
+      where
+        none_idle : list_any (λ (c : ℕ × List Literal). matches c.1 s) idle ≡ false
+        none_idle = sym (any_map (λ b. matches b s) (λ (c : ℕ × List Literal). c.1) idle) ∙ list_any_false (λ b. matches b s) (map (λ (c : ℕ × List Literal). c.1) idle) (λ b h.
+            from_any_false (λ b. matches b s) (flat_map (excluded_of tables log) (numbers_below (item_count g)) ++ map (λ (c : ℕ × List Literal). c.1) idle) b none
+            (Contains-append_right (flat_map (excluded_of tables log) (numbers_below (item_count g))) (map (λ (c : ℕ × List Literal). c.1) idle) b h))
+
+-- ---- the least scenario that is left
+
+left_is : (b : Bool) → not b ≡ true → b ≡ false
+left_is false e = refl
+left_is true e = absurd (true≢false (sym e))
+
+module _ (g : Graph) (order : List ℕ) (tables : List NodeTable) (setting : (s : Scenario) → IsScenario g s → Setting g tables s) (log : Log) (is : IsLog g log)
+    (idle : List (ℕ × List Literal)) (told : (s : Scenario) → IsScenario g s → list_any (λ (c : ℕ × List Literal). matches c.1 s) idle ≡ is_some_idle g log.acts s)
+    (by : List (List Literal)) (are : by ≡ flat_map (excluded_of tables log) (numbers_below (item_count g)) ++ map (λ (c : ℕ × List Literal). c.1) idle) where
+  left_gives : (s : Scenario) → IsScenario g s → is_left by [] s ≡ true → Gives g tables log s
+  left_gives s law e = fits_gives (setting s law) log is (left_fits (setting s law) log is idle (told s law)
+      (ap (list_any (λ b. matches b s)) (sym are) ∙ left_is (list_any (λ b. matches b s) by) e))
+
+  gives_left : (s : Scenario) → IsScenario g s → Gives g tables log s → is_left by [] s ≡ true
+  gives_left s law gives = ap not (ap (list_any (λ b. matches b s)) are ∙ fits_left (setting s law) log is idle (told s law) (gives_fits (setting s law) log is gives))
+
+  pub least_gives : (r : Option Scenario) → IsFirst g order (is_left by []) r → IfSome r (IsLeast g order (Gives g tables log))
+  least_gives None first = tt
+  least_gives (Some s) first = record {
+    lawful = first.lawful;
+    holds = left_gives s first.lawful first.holds;
+    least = λ t law gives. first.least t law (gives_left t law gives);
+  }
+
+  pub none_gives : (r : Option Scenario) → IsFirst g order (is_left by []) r → IfNone r ((s : Scenario) → IsScenario g s → Gives g tables log s → ⊥)
+  none_gives None first = λ s law gives. true≢false (sym (gives_left s law gives) ∙ first s law)
+  none_gives (Some s) first = tt
+
+-- ---- going over the items and acts
+
+pub flat_below : {X : Type 0} (f : ℕ → List X) (n : ℕ) → flat_map f (numbers_below (n + 1)) ≡ flat_map f (numbers_below n) ++ f n
+flat_below f n = ap (flat_map f) (below_push n) ∙ flat_map-append f (numbers_below n) (n ∷ []) ∙ ap (λ xs. flat_map f (numbers_below n) ++ xs) (append-nil (f n))
+
+pub every : {X : Type 0} (P : X → Type 0) (xs : List X) → ((x : X) → Contains xs x → P x) → All P xs
+every P xs h = All-weaker (Contains xs) P h xs (All-contains_itself xs)
+
+-- the variables of these cubes are the graph's
+pub cubes_known : (g : Graph) (tables : List NodeTable) (log : Log) (ns : List ℕ) (idle : List (ℕ × List Literal)) → ((x : ℕ) → All (λ (c : Column). IsKnown g c.cube) (columns_of tables x)) → All (λ (c : ℕ × List Literal). IsKnown g c.1) idle
+    → All (IsKnown g) (flat_map (excluded_of tables log) ns ++ map (λ (c : ℕ × List Literal). c.1) idle)
+cubes_known g tables log ns idle columns known = every (IsKnown g) (flat_map (excluded_of tables log) ns ++ map (λ (c : ℕ × List Literal). c.1) idle) (λ b h.
+    elim (Contains-append_cases (flat_map (excluded_of tables log) ns) (map (λ (c : ℕ × List Literal). c.1) idle) b h) [
+      | inl j ↦
+          let p = Contains-flat_map_parts (excluded_of tables log) ns b j in
+          let q = Contains-map_parts (λ (c : Column). c.cube) (filter (λ (c : Column). is_excluded log.until (logged_time log.acts p.0) c.time) (columns_of tables p.0)) b p.2 in
+          let r = Contains-filter_parts (λ (c : Column). is_excluded log.until (logged_time log.acts p.0) c.time) (columns_of tables p.0) q.0 q.1 in
+          subst (IsKnown g) q.2 (All-contains (λ (c : Column). IsKnown g c.cube) (columns_of tables p.0) q.0 (columns p.0) r.0)
+      | inr j ↦
+          let q = Contains-map_parts (λ (c : ℕ × List Literal). c.1) idle b j in
+          subst (IsKnown g) q.2 (All-contains (λ (c : ℕ × List Literal). IsKnown g c.1) idle q.0 known q.1)
+    ])

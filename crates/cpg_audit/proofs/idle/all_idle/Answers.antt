@@ -1,0 +1,19 @@
+use Rattle.std.proofs.Common.{ℕ, List, All, sym, ap, ◌∙◌, subst}
+use Rattle.std.specs.List.{list_any}
+use Rattle.std.proofs.lemmas.List.Elements.{All-append}
+use Rattle.cpg_cube.specs.Cube.{matches}
+use Rattle.cpg_cube.specs.declared.literal.Literal.{Literal}
+use Rattle.cpg_cube.specs.Fit.{IsKnown}
+use Rattle.cpg_audit.proofs.IdleLaws.{idle_more}
+use Rattle.cpg_audit.proofs.idle.all_idle.Goals as goal
+
+pub loop-act-preserved : goal.loop-act-preserved
+loop-act-preserved c =
+    let g = c.args.admitted.now.graph in
+    let old = c.loop-act.all.items in
+    let columns = c.in_ok-columns.columns.items in
+    record {
+      known = subst (All (λ (d : ℕ × List Literal). IsKnown g d.1)) (sym c.in_ok-append.ensures.items) (All-append (λ (d : ℕ × List Literal). IsKnown g d.1) old columns c.loop-act.invariant.known c.in_ok-columns.ensures.known);
+      idle = λ s law. ap (list_any (λ (d : ℕ × List Literal). matches d.1 s)) c.in_ok-append.ensures.items
+          ∙ idle_more g s c.args.acts.now c.loop-act.act-index _ c.loop-act-test.true old columns (c.loop-act.invariant.idle s law) (c.in_ok-columns.ensures.idle s law);
+    }

@@ -1,0 +1,13 @@
+use Rattle.std.proofs.Common.{◌≡◌, All, take}
+use Rattle.std.specs.List.{list_any}
+use Rattle.cpg_order.specs.Scenario.{Scenario, IsScenario}
+use Rattle.cpg_cube.specs.Cube.{matches}
+use Rattle.cpg_cube.specs.Fit.{IsKnown}
+use Rattle.cpg_audit.specs.Excluded.{is_some_idle}
+use Rattle.cpg_audit.proofs.idle.all_idle.Given as goal
+
+abbrev pub invariant-loop-act : goal.invariant-loop-act
+invariant-loop-act l = record {
+  known : All (λ c. IsKnown l.admitted.graph c.1) l.all.items;
+  idle : (s : Scenario) → IsScenario l.admitted.graph s → list_any (λ c. matches c.1 s) l.all.items ≡ is_some_idle l.admitted.graph (take l.act-index l.acts) s;
+}

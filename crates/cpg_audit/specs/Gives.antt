@@ -1,0 +1,17 @@
+-- Which scenarios give a log: those in which the nodes have to do, up to its time, just what it names.
+use Rattle.std.specs.Prelude.{◌≡◌, ◌≤◌, List, Contains}
+use Rattle.cpg_base.specs.Graph.{Graph}
+use Rattle.cpg_order.specs.Scenario.{Scenario}
+use Rattle.cpg_table.specs.Table.{NodeTable}
+use Rattle.cpg_node.specs.Dispatcher.{Act}
+use Rattle.cpg_cluster.specs.Correct.{all_asked}
+use Rattle.cpg_audit.specs.Log.{Log, Logged}
+
+-- an act as a log names it
+abbrev pub logged : Act → Logged
+logged a = record { time = a.time; item = a.item }
+
+-- of what is due on all nodes the items and times up to the log's time are those of the log
+pub record Gives (g : Graph) (tables : List NodeTable) (log : Log) (s : Scenario) : Type 0 where
+  pub named : (a : Act) → Contains (all_asked g tables s) a → a.time ≤ log.until → Contains log.acts (logged a)
+  pub due : (l : Logged) → Contains log.acts l → (a : Act) × Contains (all_asked g tables s) a × (logged a ≡ l)

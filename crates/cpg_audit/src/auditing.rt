@@ -1,0 +1,99 @@
+//! The least scenario that gives a log.
+ghost use Rattle.std.specs.Prelude.{◌≡◌, ◌++◌, All, IfNone, IfOk, IfSome, map};
+ghost use Rattle.std.specs.List.{flat_map};
+ghost use Rattle.cpg_base.specs.Graph.{item_count};
+ghost use Rattle.cpg_base.specs.Numbers.{numbers_below};
+ghost use Rattle.cpg_order.specs.Scenario.{Scenario, IsLeast, IsScenario};
+ghost use Rattle.cpg_cube.specs.Fit.{IsKnown};
+ghost use Rattle.cpg_table.specs.Valid.{IsValid};
+ghost use Rattle.cpg_violation.specs.Heads.{IsHeadFor};
+ghost use Rattle.cpg_audit.specs.Excluded.{excluded_cubes, excluded_of, is_excluded};
+ghost use Rattle.cpg_audit.specs.Gives.{Gives};
+ghost use Rattle.cpg_audit.specs.Log.{IsLog};
+
+use crate::idle::all_idle;
+use crate::log::Log;
+use cpg_base::{OutOfMemory, Problem, Scenario};
+use cpg_cube::{Cube, uncovered};
+use cpg_rules::Admitted;
+use cpg_table::{Entry, Tables};
+use cpg_violation::columns_of;
+use std::alloc::Global;
+
+/// Whether a log excludes a time of an item, by when the item is logged.
+fn is_excluded(until: u64, logged: Option<u64>, time: u64) -> bool
+    ensures { result ≡ is_excluded until logged time }
+{
+    match logged {
+        None => time <= until,
+        Some(logged) => time != logged,
+    }
+}
+
+/// Adds the cubes of an item's columns with times that a log excludes.
+fn push_excluded<'a>(
+    until: u64,
+    logged: Option<u64>,
+    columns: &'a [Entry],
+    by: &mut Vec<&'a Cube>,
+) -> Result<(), OutOfMemory>
+    ensures { IfOk result (λ _. map (λ b. b.now) by.new.items ≡ map (λ b. b.now) by.old.items ++ excluded_cubes until logged columns.now) }
+{
+    for column in columns {
+        if is_excluded(until, logged, column.time) {
+            by.push(&column.cube)?;
+        }
+    }
+    Ok(())
+}
+
+/// The cubes of all columns with times that a log excludes.
+fn excluded<'a>(
+    alloc: Global,
+    problem: &Problem,
+    tables: &'a Tables,
+    log: &Log,
+) -> Result<Vec<&'a Cube>, OutOfMemory>
+    ensures { IfOk result (λ by. map (λ b. b.now) by.items ≡ flat_map (excluded_of tables.entry.now.nodes log.now) (numbers_below (item_count problem.now))) }
+{
+    let mut by = Vec::new(alloc);
+    for item in 0..problem.item_count() {
+        let columns = columns_of(tables, item);
+        push_excluded(log.until(), log.time_of(item), columns, &mut by)?;
+    }
+    Ok(by)
+}
+
+/// Adds the cubes of columns.
+fn push_cubes<'a>(columns: &'a [(u64, Cube)], by: &mut Vec<&'a Cube>) -> Result<(), OutOfMemory>
+    ensures { IfOk result (λ _. map (λ b. b.now) by.new.items ≡ map (λ b. b.now) by.old.items ++ map (λ c. c.1) columns.now) }
+{
+    for column in columns {
+        by.push(&column.1)?;
+    }
+    Ok(())
+}
+
+/// The least scenario along the urgency order, of at most the graph's faults, in which the items and times of what is due
+/// on all nodes up to a log's time are those of the log; `None` exactly where no scenario gives it. No scenario is listed.
+pub fn audit(
+    alloc: Global,
+    admitted: &Admitted,
+    tables: &Tables,
+    log: &Log,
+) -> Result<Option<Scenario>, OutOfMemory>
+    requires head { IsHeadFor admitted.now.graph tables.now.head }
+    requires valid { IsValid admitted.now.graph tables.now.nodes }
+    requires log { IsLog admitted.now.graph log.now }
+    ensures least { IfOk result (λ r. IfSome r (IsLeast admitted.now.graph admitted.now.order (Gives admitted.now.graph tables.now.nodes log.now))) }
+    ensures none { IfOk result (λ r. IfNone r ((s : Scenario) → IsScenario admitted.now.graph s → ¬ Gives admitted.now.graph tables.now.nodes log.now s)) }
+{
+    let problem = admitted.problem();
+    let _head = tables.head();
+    let idle = all_idle(alloc, admitted, log.acts())?;
+    let mut by = excluded(alloc, problem, tables, log)?;
+    push_cubes(idle.as_slice(), &mut by)?;
+    let whole = Cube::whole(alloc);
+    let found = uncovered(alloc, problem, admitted.order(), &whole, by.as_slice())?;
+    Ok(found)
+}

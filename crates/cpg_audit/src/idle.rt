@@ -1,0 +1,69 @@
+//! Where logged items aren't active.
+ghost use Rattle.std.specs.Prelude.{◌≡◌, ◌<◌, ◌≤◌, ℕ, All, Bool, IfOk, IsPermutation, not, true};
+ghost use Rattle.std.specs.List.{list_any};
+ghost use Rattle.cpg_base.specs.Activity.{item_active};
+ghost use Rattle.cpg_base.specs.Graph.{item_at, item_count};
+ghost use Rattle.cpg_order.specs.Scenario.{Scenario, IsScenario};
+ghost use Rattle.cpg_cube.specs.Cube.{matches};
+ghost use Rattle.cpg_cube.specs.Fit.{IsKnown};
+ghost use Rattle.cpg_tree.specs.Tree.{DoPathsPass, HasOnePathEach, IsMap};
+ghost use Rattle.cpg_audit.specs.Excluded.{idle_time, is_some_idle};
+ghost use Rattle.cpg_audit.specs.Log.{IsActBy, is_act};
+
+use crate::log::Logged;
+use cpg_base::OutOfMemory;
+use cpg_cube::Cube;
+use cpg_expand::active_item;
+use cpg_rules::Admitted;
+use cpg_tree::Tree;
+use std::alloc::Global;
+
+/// A time where something isn't active.
+fn idle_time(active: bool) -> Option<u64>
+    ensures { result ≡ idle_time active }
+{
+    if active { None } else { Some(0) }
+}
+
+/// A time wherever a tree isn't true.
+fn idle(active: &Tree<bool>) -> Result<Tree<Option<u64>>, OutOfMemory>
+    ensures is { IfOk result (IsMap (λ x z. z ≡ idle_time x) active.now) }
+    ensures each { IfOk result (λ t. HasOnePathEach t.faults t.paths) }
+    ensures pass { IfOk result (λ t. (test : ℕ → Bool) → DoPathsPass test active.now.paths → DoPathsPass test t.paths) }
+{
+    active.map(&|active: bool| idle_time(active))
+}
+
+/// The cubes of the scenarios in which an item isn't active.
+fn idle_columns(
+    alloc: Global,
+    admitted: &Admitted,
+    item: u32,
+) -> Result<Vec<(u64, Cube)>, OutOfMemory>
+    requires { is_act admitted.now.graph item ≡ true }
+    ensures known { IfOk result (λ columns. All (λ c. IsKnown admitted.now.graph c.1) columns.items) }
+    ensures idle { IfOk result (λ columns. (s : Scenario) → IsScenario admitted.now.graph s → list_any (λ c. matches c.1 s) columns.items ≡ not (item_active admitted.now.graph s.values (item_at admitted.now.graph item))) }
+{
+    let active = active_item(alloc, admitted, item)?;
+    let idle = idle(&active)?;
+    let columns = idle.columns(admitted.problem(), admitted.order())?;
+    Ok(columns)
+}
+
+/// The cubes of the scenarios in which an item of these acts isn't active.
+pub fn all_idle(
+    alloc: Global,
+    admitted: &Admitted,
+    acts: &[Logged],
+) -> Result<Vec<(u64, Cube)>, OutOfMemory>
+    requires { (until : ℕ) × All (IsActBy admitted.now.graph until) acts.now }
+    ensures known { IfOk result (λ columns. All (λ c. IsKnown admitted.now.graph c.1) columns.items) }
+    ensures idle { IfOk result (λ columns. (s : Scenario) → IsScenario admitted.now.graph s → list_any (λ c. matches c.1 s) columns.items ≡ is_some_idle admitted.now.graph acts.now s) }
+{
+    let mut all = Vec::new(alloc);
+    for act in acts {
+        let mut columns = idle_columns(alloc, admitted, act.item)?;
+        all.append(&mut columns)?;
+    }
+    Ok(all)
+}
