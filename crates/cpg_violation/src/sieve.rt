@@ -109,64 +109,66 @@ fn going(columns: &[Entry], places: &[u32], variable: u8, most: u8, below: bool)
     count
 }
 
-/// How well a cut parts so many places of which so many go below and so many above: 0 where it doesn't, or puts too many
-/// on both sides.
-fn worth(all: usize, below: usize, above: usize) -> usize {
-    if below >= all {
-        return 0;
-    }
-    if above >= all {
-        return 0;
-    }
-    let low = all - above;
-    let high = all - below;
-    let both = below.saturating_sub(low);
-    if both > low.min(high) / 2 {
-        return 0;
-    }
-    low.saturating_mul(high)
-}
-
 /// Where to cut.
 #[derive(Clone, Copy)]
 struct Cut {
     variable: u8,
     most: u8,
-    worth: usize,
 }
 
-/// The better of two cuts.
-fn better(columns: &[Entry], places: &[u32], cut: Cut, variable: u8, most: u8) -> Cut {
-    let below = going(columns, places, variable, most, true);
-    let above = going(columns, places, variable, most, false);
-    let worth = worth(places.len(), below, above);
-    if worth > cut.worth {
-        return Cut {
-            variable,
-            most,
-            worth,
-        };
+/// Whether a cut parts so many places of which so many go below and so many above, with few on both sides.
+fn is_parted(all: usize, below: usize, above: usize) -> bool {
+    if below >= all {
+        return false;
     }
-    cut
+    if above >= all {
+        return false;
+    }
+    let low = all - above;
+    let high = all - below;
+    let both = below.saturating_sub(low);
+    both <= low.min(high) / 2
 }
 
-/// The best of the cuts at an end of a literal of a column, if one parts the places.
-fn best_cut(columns: &[Entry], places: &[u32], column: &Entry) -> Option<Cut> {
-    let mut cut = Cut {
-        variable: 0,
-        most: 0,
-        worth: 0,
+/// Whether a cut parts these places, with few on both sides.
+fn parts(columns: &[Entry], places: &[u32], cut: Cut) -> bool {
+    let below = going(columns, places, cut.variable, cut.most, true);
+    let above = going(columns, places, cut.variable, cut.most, false);
+    is_parted(places.len(), below, above)
+}
+
+/// The first of the cuts at the ends of a literal that parts the places, if one does.
+fn cut_at(columns: &[Entry], places: &[u32], literal: &Literal) -> Option<Cut> {
+    let cut = Cut {
+        variable: literal.variable,
+        most: literal.high,
     };
-    for literal in column.cube.literals() {
-        cut = better(columns, places, cut, literal.variable, literal.high);
-        if literal.low > 0 {
-            cut = better(columns, places, cut, literal.variable, literal.low - 1);
-        }
+    if parts(columns, places, cut) {
+        return Some(cut);
     }
-    if cut.worth == 0 {
+    if literal.low == 0 {
         return None;
     }
-    Some(cut)
+    let cut = Cut {
+        variable: literal.variable,
+        most: literal.low - 1,
+    };
+    if parts(columns, places, cut) {
+        return Some(cut);
+    }
+    None
+}
+
+/// The first of the cuts at the ends of a column's literals that parts the places, if one does. A better one of them
+/// saves a search little, and to compare all takes most of the time of making a sieve.
+fn first_cut(columns: &[Entry], places: &[u32], column: &Entry) -> Option<Cut> {
+    for literal in column.cube.literals() {
+        let cut = cut_at(columns, places, literal);
+        if cut.is_some() {
+            return cut;
+        }
+    }
+    None
 }
 
 /// Some of these places, evenly spread.
@@ -193,7 +195,7 @@ fn cut_of(alloc: Global, columns: &[Entry], places: &[u32]) -> Result<Option<Cut
         return Ok(None);
     };
     let sample = sample_of(alloc, places)?;
-    Ok(best_cut(columns, sample.as_slice(), column))
+    Ok(first_cut(columns, sample.as_slice(), column))
 }
 
 /// The places that go to one side of a cut.
@@ -332,7 +334,6 @@ impl Sieve {
                 let cut = Cut {
                     variable: *variable,
                     most: *most,
-                    worth: 0,
                 };
                 below.search_side(cube, cut, true, found)?;
                 above.search_side(cube, cut, false, found)?;
