@@ -51,5 +51,5 @@ not_both true b = refl
 not_both false b = refl
 
 -- the low and the high of one literal more
-pub literal_more : (none one two old low high both : Bool) → none ≡ old → one ≡ (none || low) → two ≡ (one || high) → (low || high) ≡ both → two ≡ (old || both)
-literal_more none one two old low high both a b c d = c ∙ ap (λ t. t || high) (b ∙ ap (λ t. t || low) a) ∙ or_turned old low high ∙ ap (λ t. old || t) d
+pub literal_more : (old one two low high both : Bool) → one ≡ (old || low) → two ≡ (one || high) → (low || high) ≡ both → two ≡ (old || both)
+literal_more old one two low high both a b c = b ∙ ap (λ t. t || high) a ∙ or_turned old low high ∙ ap (λ t. old || t) c

@@ -8,7 +8,7 @@ use Rattle.cpg_base.specs.Graph.{Graph, process_at}
 use Rattle.cpg_base.specs.Duration.{duration}
 
 -- more faults take no less
-duration_rises : (g : Graph) (p n m : ℕ) → n ≤ m → duration g p n ≤ duration g p m
+pub duration_rises : (g : Graph) (p n m : ℕ) → n ≤ m → duration g p n ≤ duration g p m
 duration_rises g p n m l = let a = mul-le-mul_right ((process_at g p).mu + div_ceil (process_at g p).wcet (process_at g p).parts + (process_at g p).alpha) l in omega (arith, a)
 
 module _ (g : Graph) (p start time : ℕ) (come : start ≤ time) where

@@ -6,3 +6,4 @@ mod Facts
 mod Bounded
 mod Untolds
 mod ArrivalLaws
+pub mod Endings

@@ -21,7 +21,7 @@ module _ (g : Graph) (tables : List NodeTable) where
   pub tellers_none : AreTellers g tables 0 []
   tellers_none = record { count = refl; each = λ x t e. absurd (omega (arith, slice_get_within [] x t e)) }
 
-  pub tellers_push : (items : ℕ) (ts : List Teller) (t : Teller) → AreTellers g tables items ts → IsTeller g tables items t → AreTellers g tables (items + 1) (ts ++ t ∷ [])
+  tellers_push : (items : ℕ) (ts : List Teller) (t : Teller) → AreTellers g tables items ts → IsTeller g tables items t → AreTellers g tables (items + 1) (ts ++ t ∷ [])
   tellers_push items ts t are is = record {
     count = omega (arith, are.count, length-append ts (t ∷ []));
     each = λ x u e. elim (cases_lt x (length ts)) [
@@ -33,6 +33,9 @@ module _ (g : Graph) (tables : List NodeTable) where
           subst (IsTeller g tables x) same (subst (λ y. IsTeller g tables y t) (let n : items ≡ x = omega (arith, are.count, last) in n) is)
     ];
   }
+
+  pub tellers_more : (items : ℕ) (ts more : List Teller) (t : Teller) → more ≡ ts ++ t ∷ [] → AreTellers g tables items ts → IsTeller g tables items t → AreTellers g tables (items + 1) more
+  tellers_more items ts more t e are is = subst (AreTellers g tables (items + 1)) (sym e) (tellers_push items ts t are is)
 
   pub teller_at : (items : ℕ) (ts : List Teller) (x : ℕ) (t : Teller) → AreTellers g tables items ts → x < items → t ≡ get_or ts x t → IsTeller g tables x t
   teller_at items ts x t are l is = are.each x t (slice_get-get_or ts x t (omega (arith, l, are.count)) ∙ ap Some (sym is))

@@ -1,5 +1,6 @@
 pub mod Bounds
 pub mod Tellings
+pub mod Ended
 pub mod Untold
 pub mod Arrivals
 pub mod Unheard

@@ -11,7 +11,8 @@ use Rattle.cpg_cube.specs.Cube.{matches}
 use Rattle.cpg_cube.specs.declared.literal.Literal.{Literal}
 use Rattle.cpg_table.specs.Table.{Column, NodeTable, columns_of}
 use Rattle.cpg_table.specs.Heard.{exactly, value_fact}
-use Rattle.cpg_violation.specs.Sieves.{IsSieveOf, column_at}
+use Rattle.cpg_violation.specs.Lines.{IsLine}
+use Rattle.cpg_violation.specs.Sieves.{column_at}
 use Rattle.cpg_check_heard.specs.declared.bound.Bound.{Bound}
 use Rattle.cpg_check_heard.specs.declared.tellers.Telling.{Telling}
 use Rattle.cpg_check_heard.specs.declared.tellers.Telling.TheVariants.{End, Frame}
@@ -67,8 +68,7 @@ IsPart g test (Some cube) = (s : Scenario) → IsScenario g s → matches cube s
 
 -- the row of an item, and how it tells
 pub record IsTeller (g : Graph) (tables : List NodeTable) (x : ℕ) (t : Teller) : Type 0 where
-  pub columns : t.columns.now ≡ columns_of tables x
-  pub sieve : IsSieveOf (columns_of tables x) t.sieve
+  pub line : IsLine (columns_of tables x) t.line.now
   pub telling : t.telling ≡ telling_of g x
 
 -- the rows of all items, by number

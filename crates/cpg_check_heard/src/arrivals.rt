@@ -72,13 +72,14 @@ fn add_row<'a>(
     time: u64,
     arrivals: &mut Vec<Arrival<'a>>,
 ) -> Result<(), OutOfMemory>
-    requires { IsSieveOf teller.now.columns.now teller.now.sieve }
-    ensures each { IfOk result (λ _. (g : Graph) → All (λ c. IsKnown g c.cube) teller.now.columns.now → ((b : Bound) → CanTell g b teller.now.telling) → All (IsArrival g) arrivals.old.items → All (IsArrival g) arrivals.new.items) }
-    ensures told { IfOk result (λ _. (g : Graph) (b : Bound) (s : Scenario) → matches cube.now s ≡ true → do_tell g time b arrivals.new.items s ≡ (do_tell g time b arrivals.old.items s || row_tells g teller.now.telling time b teller.now.columns.now s)) }
+    requires { IsSieveOf teller.now.line.now.columns.now teller.now.line.now.sieve }
+    ensures each { IfOk result (λ _. (g : Graph) → All (λ c. IsKnown g c.cube) teller.now.line.now.columns.now → ((b : Bound) → CanTell g b teller.now.telling) → All (IsArrival g) arrivals.old.items → All (IsArrival g) arrivals.new.items) }
+    ensures told { IfOk result (λ _. (g : Graph) (b : Bound) (s : Scenario) → matches cube.now s ≡ true → do_tell g time b arrivals.new.items s ≡ (do_tell g time b arrivals.old.items s || row_tells g teller.now.telling time b teller.now.line.now.columns.now s)) }
 {
-    let places = teller.sieve.candidates(alloc, teller.columns, cube)?;
+    let line = teller.line;
+    let places = line.sieve.candidates(alloc, line.columns, cube)?;
     for place in places.as_slice() {
-        add_column(teller.telling, teller.columns, *place, time, arrivals)?;
+        add_column(teller.telling, line.columns, *place, time, arrivals)?;
     }
     Ok(())
 }

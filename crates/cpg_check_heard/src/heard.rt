@@ -4,18 +4,19 @@ ghost use Rattle.cpg_base.specs.declared.limits.TheConstants.{MOST_LOAD};
 ghost use Rattle.cpg_base.specs.Graph.{item_count};
 ghost use Rattle.cpg_order.specs.Scenario.{Scenario, IsScenario};
 ghost use Rattle.cpg_cube.specs.Fit.{IsKnown};
+ghost use Rattle.cpg_check_heard.specs.Ended.{HasActive};
 ghost use Rattle.cpg_check_heard.specs.Hearings.{IsHearing};
 ghost use Rattle.cpg_check_heard.specs.Unheard.{is_unheard};
 ghost use Rattle.cpg_table.specs.declared.rule.Rule.{Rule};
 ghost use Rattle.cpg_violation.specs.Heads.{IsHeadFor};
-ghost use Rattle.cpg_violation.specs.Violation.{Holds, IsFirstColumn, IsFirstViolation};
+ghost use Rattle.cpg_violation.specs.Violation.{AllHold, Holds, IsFirstColumn, IsFirstViolation, row_rules};
 
 use crate::hearing::Hearing;
 use crate::tellers::tellers;
 use cpg_base::{OutOfMemory, Scenario};
 use cpg_rules::Admitted;
 use cpg_table::{Entry, Fault, NodeItems, Rule, Tables};
-use cpg_violation::columns_of;
+use cpg_violation::{columns_of, lines_of};
 use std::alloc::Global;
 
 /// The first column of an item's row that matches in a scenario in which the item's node hasn't heard one of its literals
@@ -29,6 +30,7 @@ fn first_unheard(
     requires hearing { IsHearing hearing.now }
     requires item { item < item_count hearing.now.admitted.now.graph }
     requires columns { All (λ c. IsKnown hearing.now.admitted.now.graph c.cube) columns.now }
+    requires active { All (HasActive hearing.now.admitted.now.graph) columns.now }
     requires few { length columns.now ≤ MOST_LOAD }
     ensures none { IfOk result (λ r. IfNone r ((i : ℕ) (s : Scenario) → IsScenario hearing.now.admitted.now.graph s → is_unheard hearing.now.admitted.now.graph hearing.now.tables.now.nodes item columns.now i s ≡ false)) }
     ensures first { IfOk result (λ r. IfSome r (IsFirstColumn hearing.now.admitted.now.graph hearing.now.admitted.now.order (is_unheard hearing.now.admitted.now.graph hearing.now.tables.now.nodes item columns.now))) }
@@ -47,23 +49,26 @@ fn first_unheard(
 
 /// The first violation of V4, by item and column, with the least scenario in the urgency order in which it stands: the
 /// column matches, and one of its literals isn't heard at the item's node by the column's time. `None` exactly where the
-/// rule holds.
+/// rule holds. V1 to V3 hold.
 pub fn check_heard(
     alloc: Global,
     admitted: &Admitted,
     tables: &Tables,
 ) -> Result<Option<Fault>, OutOfMemory>
-    requires { IsHeadFor admitted.now.graph tables.now.head }
+    requires head { IsHeadFor admitted.now.graph tables.now.head }
+    requires rules { AllHold admitted.now.graph tables.now.nodes row_rules }
     ensures none { IfOk result (λ r. IfNone r (Holds admitted.now.graph tables.now.nodes Rule.Heard)) }
     ensures first { IfOk result (λ r. IfSome r (IsFirstViolation admitted.now.graph admitted.now.order tables.now.nodes Rule.Heard)) }
 {
-    let tellers = tellers(alloc, admitted, tables)?;
+    let problem = admitted.problem();
+    let lines = lines_of(alloc, problem, tables)?;
+    let tellers = tellers(alloc, admitted, lines.as_slice())?;
     let hearing = Hearing {
         admitted,
         tables,
         tellers,
     };
-    for item in 0..admitted.problem().item_count() {
+    for item in 0..problem.item_count() {
         let columns = columns_of(tables, item);
         let unheard = first_unheard(alloc, &hearing, item, columns)?;
         if let Some((column, scenario)) = unheard {

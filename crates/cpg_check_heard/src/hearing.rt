@@ -1,5 +1,5 @@
 //! What all rows tell: the least scenario in which a node hasn't heard a literal by a time.
-ghost use Rattle.std.specs.Prelude.{◌≡◌, ◌&&◌, ◌||◌, All, IfOk, not, true};
+ghost use Rattle.std.specs.Prelude.{◌≡◌, ◌&&◌, ◌||◌, All, Contains, IfOk, not, true};
 ghost use Rattle.std.specs.Bool.{OnFalse, OnTrue};
 ghost use Rattle.std.specs.List.{list_any};
 ghost use Rattle.cpg_base.specs.Graph.{IsVariable};
@@ -11,8 +11,9 @@ ghost use Rattle.cpg_cube.specs.Fit.{IsKnown};
 ghost use Rattle.cpg_table.specs.Shape.{heard_by};
 ghost use Rattle.cpg_check_heard.specs.Arrivals.{AreArrivals};
 ghost use Rattle.cpg_check_heard.specs.Bounds.{is_told, variable_of};
+ghost use Rattle.cpg_check_heard.specs.Ended.{HasActive};
 ghost use Rattle.cpg_check_heard.specs.Hearings.{IsHearing};
-ghost use Rattle.cpg_check_heard.specs.Unheard.{is_column_unheard, is_one_untold};
+ghost use Rattle.cpg_check_heard.specs.Unheard.{is_column_unheard, is_literal_unheard, is_one_untold};
 ghost use Rattle.cpg_check_heard.specs.Untold.{own_tells};
 
 use crate::arrivals::{Arrival, add_told, tells_one_whole};
@@ -20,7 +21,7 @@ use crate::bound::Bound;
 use crate::parts::add_row;
 use crate::tellers::Teller;
 use cpg_base::{OutOfMemory, Problem, Scenario};
-use cpg_cube::{Cube, covers};
+use cpg_cube::{Cube, Literal, covers};
 use cpg_rules::Admitted;
 use cpg_table::{Entry, Tables};
 use cpg_violation::earlier;
@@ -154,6 +155,32 @@ impl Hearing<'_> {
         Ok(())
     }
 
+    /// Adds the bounds of a column's literal that the node's own ends may leave open at its time.
+    fn add_literal(
+        &self,
+        alloc: Global,
+        node: u32,
+        column: &Entry,
+        literal: &Literal,
+        bounds: &mut Vec<Bound>,
+    ) -> Result<(), OutOfMemory>
+        requires hearing { IsHearing self.now }
+        requires cube { IsKnown self.now.admitted.now.graph column.now.cube }
+        requires active { HasActive self.now.admitted.now.graph column.now }
+        requires literal { Contains column.now.cube literal.now }
+        requires variable { IsVariable self.now.admitted.now.graph literal.now.variable }
+        requires bounds { All (λ b. IsVariable self.now.admitted.now.graph (variable_of b)) bounds.old.items }
+        ensures known { IfOk result (λ _. All (λ b. IsVariable self.now.admitted.now.graph (variable_of b)) bounds.new.items) }
+        ensures unheard { IfOk result (λ _. (s : Scenario) → IsScenario self.now.admitted.now.graph s → matches column.now.cube s ≡ true → is_one_untold self.now.admitted.now.graph self.now.tables.now.nodes node column.now.time bounds.new.items s ≡ (is_one_untold self.now.admitted.now.graph self.now.tables.now.nodes node column.now.time bounds.old.items s || is_literal_unheard self.now.admitted.now.graph self.now.tables.now.nodes node column.now.time s literal.now)) }
+    {
+        if self.has_ended(node, literal.variable, column.time) {
+            return Ok(());
+        }
+        self.add_open(alloc, node, column, Bound::low_of(literal), bounds)?;
+        self.add_open(alloc, node, column, Bound::high_of(literal), bounds)?;
+        Ok(())
+    }
+
     /// The bounds of a column's literals that the node's own ends may leave open at its time.
     fn open_bounds(
         &self,
@@ -163,13 +190,13 @@ impl Hearing<'_> {
     ) -> Result<Vec<Bound>, OutOfMemory>
         requires hearing { IsHearing self.now }
         requires cube { IsKnown self.now.admitted.now.graph column.now.cube }
+        requires active { HasActive self.now.admitted.now.graph column.now }
         ensures known { IfOk result (λ bounds. All (λ b. IsVariable self.now.admitted.now.graph (variable_of b)) bounds.items) }
         ensures untold { IfOk result (λ bounds. (s : Scenario) → IsScenario self.now.admitted.now.graph s → matches column.now.cube s ≡ true → is_one_untold self.now.admitted.now.graph self.now.tables.now.nodes node column.now.time bounds.items s ≡ is_column_unheard self.now.admitted.now.graph self.now.tables.now.nodes node s column.now) }
     {
         let mut bounds = Vec::new(alloc);
         for literal in column.cube.literals() {
-            self.add_open(alloc, node, column, Bound::low_of(literal), &mut bounds)?;
-            self.add_open(alloc, node, column, Bound::high_of(literal), &mut bounds)?;
+            self.add_literal(alloc, node, column, literal, &mut bounds)?;
         }
         Ok(bounds)
     }
@@ -248,6 +275,7 @@ impl Hearing<'_> {
         requires hearing { IsHearing self.now }
         requires items { items.now ≡ heard_by self.now.admitted.now.graph node }
         requires cube { IsKnown self.now.admitted.now.graph column.now.cube }
+        requires active { HasActive self.now.admitted.now.graph column.now }
         ensures { IfOk result (IsFirst self.now.admitted.now.graph self.now.admitted.now.order (λ s. matches column.now.cube s && is_column_unheard self.now.admitted.now.graph self.now.tables.now.nodes node s column.now)) }
     {
         let bounds = self.open_bounds(alloc, node, column)?;

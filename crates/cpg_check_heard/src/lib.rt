@@ -3,6 +3,7 @@
 
 mod arrivals;
 mod bound;
+mod ended;
 mod heard;
 mod hearing;
 mod parts;

@@ -177,15 +177,16 @@ pub(crate) fn add_row(
 ) -> Result<(), OutOfMemory>
     requires can { CanTell problem.now bound teller.now.telling }
     requires variable { IsVariable problem.now (variable_of bound) }
-    requires columns { All (λ c. IsKnown problem.now c.cube) teller.now.columns.now }
-    requires sieve { IsSieveOf teller.now.columns.now teller.now.sieve }
+    requires columns { All (λ c. IsKnown problem.now c.cube) teller.now.line.now.columns.now }
+    requires sieve { IsSieveOf teller.now.line.now.columns.now teller.now.line.now.sieve }
     requires told { All (IsKnown problem.now) told.old.items }
     ensures known { IfOk result (λ _. All (IsKnown problem.now) told.new.items) }
-    ensures told { IfOk result (λ _. (s : Scenario) → IsScenario problem.now s → matches cube.now s ≡ true → list_any (λ b. matches b s) told.new.items ≡ (list_any (λ b. matches b s) told.old.items || row_tells problem.now teller.now.telling time bound teller.now.columns.now s)) }
+    ensures told { IfOk result (λ _. (s : Scenario) → IsScenario problem.now s → matches cube.now s ≡ true → list_any (λ b. matches b s) told.new.items ≡ (list_any (λ b. matches b s) told.old.items || row_tells problem.now teller.now.telling time bound teller.now.line.now.columns.now s)) }
 {
-    let places = teller.sieve.candidates(alloc, teller.columns, cube)?;
+    let line = teller.line;
+    let places = line.sieve.candidates(alloc, line.columns, cube)?;
     for place in places.as_slice() {
-        let part = part_at(problem, teller.telling, teller.columns, *place, time, bound)?;
+        let part = part_at(problem, teller.telling, line.columns, *place, time, bound)?;
         add(told, part)?;
     }
     Ok(())

@@ -1,13 +1,14 @@
 //! The rows of all items, and how they tell.
-ghost use Rattle.std.specs.Prelude.{◌≡◌, ◌+◌, ◌<◌, IfOk, nat_le};
+ghost use Rattle.std.specs.Prelude.{◌≡◌, ◌+◌, ◌<◌, IfOk, List, length, nat_le};
 ghost use Rattle.cpg_base.specs.Graph.{item_count};
 ghost use Rattle.cpg_base.specs.WellFormed.{WellFormed};
-ghost use Rattle.cpg_check_heard.specs.Tellings.{AreTellers, IsTeller, telling_of};
+ghost use Rattle.cpg_table.specs.Table.{NodeTable};
+ghost use Rattle.cpg_violation.specs.Lines.{AreLines};
+ghost use Rattle.cpg_check_heard.specs.Tellings.{AreTellers, telling_of};
 
 use cpg_base::{Item, OutOfMemory, Problem};
 use cpg_rules::Admitted;
-use cpg_table::{Entry, Tables};
-use cpg_violation::{Sieve, columns_of};
+use cpg_violation::Line;
 use std::alloc::Global;
 
 /// How the columns of a row tell.
@@ -30,10 +31,9 @@ pub(crate) fn has_come(start: u64, delay: u64, time: u64) -> bool
 }
 
 /// The row of an item, and how it tells.
-#[derive(Drop)]
+#[derive(Clone, Copy)]
 pub(crate) struct Teller<'a> {
-    pub(crate) columns: &'a [Entry],
-    pub(crate) sieve: Sieve,
+    pub(crate) line: &'a Line<'a>,
     pub(crate) telling: Telling,
 }
 
@@ -52,40 +52,21 @@ fn telling_of(problem: &Problem, item: u32) -> Telling
     Telling::Frame { delay, condition }
 }
 
-/// The row of an item, and how it tells.
-fn teller_of<'a>(
-    alloc: Global,
-    problem: &Problem,
-    tables: &'a Tables,
-    item: u32,
-) -> Result<Teller<'a>, OutOfMemory>
-    requires item { item < item_count problem.now }
-    requires formed { WellFormed problem.now }
-    ensures { IfOk result (IsTeller problem.now tables.now.nodes item) }
-{
-    let columns = columns_of(tables, item);
-    let sieve = Sieve::of(alloc, columns)?;
-    let telling = telling_of(problem, item);
-    Ok(Teller {
-        columns,
-        sieve,
-        telling,
-    })
-}
-
-/// The rows of all items, by number.
+/// The rows of all items, by number, and how they tell.
 pub(crate) fn tellers<'a>(
     alloc: Global,
     admitted: &Admitted,
-    tables: &'a Tables,
+    lines: &'a [Line<'a>],
 ) -> Result<Vec<Teller<'a>>, OutOfMemory>
-    ensures { IfOk result (λ tellers. AreTellers admitted.now.graph tables.now.nodes (item_count admitted.now.graph) tellers.items) }
+    requires { length lines.now ≡ item_count admitted.now.graph }
+    ensures { IfOk result (λ tellers. (tables : List NodeTable) → AreLines tables (item_count admitted.now.graph) lines.now → AreTellers admitted.now.graph tables (item_count admitted.now.graph) tellers.items) }
 {
     let problem = admitted.problem();
     let mut tellers = Vec::new(alloc);
     for item in 0..problem.item_count() {
-        let teller = teller_of(alloc, problem, tables, item)?;
-        tellers.push(teller)?;
+        let line = &lines[item as usize];
+        let telling = telling_of(problem, item);
+        tellers.push(Teller { line, telling })?;
     }
     Ok(tellers)
 }

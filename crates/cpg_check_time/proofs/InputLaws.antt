@@ -25,12 +25,13 @@ use Rattle.cpg_table.specs.Table.{Column, NodeTable, columns_of}
 use Rattle.cpg_table.specs.Valid.{ends_of, arrivals_of, is_by, input_is_there, breaks_inputs_of}
 use Rattle.cpg_table.specs.declared.rule.Rule.{Rule}
 use Rattle.cpg_violation.specs.Violation.{AllHold, row_rules}
+use Rattle.cpg_violation.proofs.Matching.{active_where}
 use Rattle.cpg_check_time.specs.declared.delays.Delay.TheVariants.{Execution, Slot}
 use Rattle.cpg_check_time.specs.Columns.{breaks_column}
 use Rattle.cpg_check_time.specs.Delays.{is_late}
 use Rattle.cpg_check_time.specs.Inputs.{is_asked, is_input_late, lacks_input}
 use Rattle.cpg_check_time.proofs.Seeking.{any_filter, both_any}
-use Rattle.cpg_check_time.proofs.Waits.{active_where, late_where}
+use Rattle.cpg_check_time.proofs.Waits.{late_where}
 
 -- ---- live edges
 

@@ -1,5 +1,5 @@
 -- A rule that each column keeps or breaks by itself: column by column, and what is known of each column.
-use Rattle.std.proofs.Common.{ℕ, ◌+◌, ◌<◌, ◌≤◌, ◌≡◌, Bool, true, false, ◌&&◌, ◌==◌, List, [], ◌++◌, length, get_or, take, Some, None, Contains, All, arith, sym, ap, ◌∙◌, subst, inl, inr, refl, true≢false}
+use Rattle.std.proofs.Common.{ℕ, ◌+◌, ◌<◌, ◌≤◌, ◌≡◌, true, false, ◌&&◌, List, [], ◌++◌, length, get_or, take, Some, None, Contains, All, arith, sym, ap, ◌∙◌, subst, inl, inr, refl, true≢false}
 use Rattle.std.specs.List.{list_any}
 use Rattle.std.proofs.Math.Bool.{or-false}
 use Rattle.std.proofs.lemmas.Bool.{cases_lt}

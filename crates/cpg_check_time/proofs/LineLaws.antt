@@ -3,7 +3,7 @@ use Rattle.std.proofs.Common.{ℕ, ◌+◌, ◌<◌, ◌≤◌, ◌≡◌, Bool,
 use Rattle.std.specs.List.{list_any}
 use Rattle.std.proofs.lemmas.Bool.{cases_lt}
 use Rattle.std.proofs.lemmas.List.{take_more, get_or_default}
-use Rattle.std.proofs.lemmas.List.Elements.{All-contains, All-weaker, All-push, All-more, Contains-append_cases, Contains-append_left, Contains-append_right, Contains-get_or}
+use Rattle.std.proofs.lemmas.List.Elements.{All-contains, All-push, Contains-append_cases, Contains-append_left, Contains-append_right, Contains-get_or}
 use Rattle.cpg_base.proofs.Lists.{same_truth, list_any_true, list_any_parts, Contains-first, Contains-cases, Contains-nil}
 use Rattle.cpg_order.specs.Scenario.{Scenario}
 use Rattle.cpg_cube.specs.Cube.{matches}
@@ -52,10 +52,3 @@ same_found columns found places cube among all candidates s test both = same_tru
     let m = both c r.2 in
     let place = candidates s i r.1.1 (ap (λ (d : Column). matches d.cube s) at ∙ m.1) m.0 in
     list_any_true test found c (subst (Contains found) at (all i place r.1.1)) r.2)
-
--- times that none is before or after
-pub not_before_more : (columns : List Column) (k : ℕ) (c : Column) (first less : ℕ) → k < length columns → c ≡ get_or columns k c → All (λ (d : Column). first ≤ d.time) (take k columns) → less ≤ first → less ≤ c.time → All (λ (d : Column). less ≤ d.time) (take (k + 1) columns)
-not_before_more columns k c first less l is before a b = All-more (λ (d : Column). less ≤ d.time) columns k c l (All-weaker (λ (d : Column). first ≤ d.time) (λ (d : Column). less ≤ d.time) (λ d m. omega arith) (take k columns) before) (subst (λ (d : Column). less ≤ d.time) is b)
-
-pub not_after_more : (columns : List Column) (k : ℕ) (c : Column) (last more : ℕ) → k < length columns → c ≡ get_or columns k c → All (λ (d : Column). d.time ≤ last) (take k columns) → last ≤ more → c.time ≤ more → All (λ (d : Column). d.time ≤ more) (take (k + 1) columns)
-not_after_more columns k c last more l is before a b = All-more (λ (d : Column). d.time ≤ more) columns k c l (All-weaker (λ (d : Column). d.time ≤ last) (λ (d : Column). d.time ≤ more) (λ d m. omega arith) (take k columns) before) (subst (λ (d : Column). d.time ≤ more) is b)

@@ -5,4 +5,3 @@ pub mod Clashes
 pub mod Delays
 pub mod Inputs
 pub mod Ready
-pub mod Lines

@@ -4,7 +4,7 @@ use Rattle.cpg_base.specs.Graph.{Graph, item_count}
 use Rattle.cpg_order.specs.Links.{links_of}
 use Rattle.cpg_table.specs.Table.{NodeTable}
 use Rattle.cpg_violation.specs.Violation.{AllHold, row_rules}
-use Rattle.cpg_check_time.specs.Lines.{AreLines}
+use Rattle.cpg_violation.specs.Lines.{AreLines}
 use Rattle.cpg_check_time.specs.declared.inputs.Inputs.{Inputs}
 
 -- the graph's links and the columns of all items, of tables that keep V1 to V3

@@ -4,17 +4,17 @@ ghost use Rattle.cpg_base.specs.Graph.{item_count};
 ghost use Rattle.cpg_table.specs.declared.rule.Rule.{Rule};
 ghost use Rattle.cpg_violation.specs.Heads.{IsHeadFor};
 ghost use Rattle.cpg_violation.specs.Violation.{AllHold, IsFirstOf, row_rules, time_rules};
-ghost use Rattle.cpg_check_time.specs.Lines.{AreLines};
+ghost use Rattle.cpg_violation.specs.Lines.{AreLines};
 
 use crate::due::check_due;
 use crate::frozen::check_frozen;
 use crate::inputs::inputs_by;
-use crate::lines::{Line, lines_of};
 use crate::processor::processors_by;
 use crate::slots::slots_by;
 use cpg_base::OutOfMemory;
 use cpg_rules::Admitted;
 use cpg_table::{Fault, Tables};
+use cpg_violation::{Line, lines_of};
 use std::alloc::Global;
 
 /// The first violation of V5 to V9, by the columns of each item.

@@ -11,16 +11,16 @@ ghost use Rattle.cpg_table.specs.Table.{columns_of};
 ghost use Rattle.cpg_violation.specs.Room.{HasRoom};
 ghost use Rattle.cpg_check_time.specs.Columns.{IsColumn};
 ghost use Rattle.cpg_check_time.specs.Delays.{IsDelay, IsMost, delays, is_late};
-ghost use Rattle.cpg_check_time.specs.Lines.{AreLines};
+ghost use Rattle.cpg_violation.specs.Lines.{AreLines};
 
 use crate::lateness::least_late;
-use crate::lines::{Line, meeting};
+use crate::lines::meeting;
 use cpg_base::{OutOfMemory, Problem, Scenario};
 use cpg_cube::Cube;
 use cpg_order::Order;
 use cpg_rules::Admitted;
 use cpg_table::{Entry, Tables};
-use cpg_violation::{earlier, met};
+use cpg_violation::{Line, earlier, met};
 use std::alloc::Global;
 
 /// How long it takes from a column's time until what it begins is done.

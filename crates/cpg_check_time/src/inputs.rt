@@ -14,18 +14,17 @@ ghost use Rattle.cpg_violation.specs.Heads.{IsHeadFor};
 ghost use Rattle.cpg_violation.specs.Violation.{AllHold, Holds, IsFirstViolation, row_rules};
 ghost use Rattle.cpg_check_time.specs.Columns.{IsColumn};
 ghost use Rattle.cpg_check_time.specs.Inputs.{lacks_input};
-ghost use Rattle.cpg_check_time.specs.Lines.{AreLines};
+ghost use Rattle.cpg_violation.specs.Lines.{AreLines};
 ghost use Rattle.cpg_check_time.specs.Ready.{IsReady};
 
 use crate::delays::{Delay, least_delay};
 use crate::judge::{Judge, first_violation};
-use crate::lines::{Line, lines_of};
 use cpg_base::{OutOfMemory, Scenario};
 use cpg_cube::Cube;
 use cpg_order::Links;
 use cpg_rules::Admitted;
 use cpg_table::{Entry, Fault, Rule, Tables};
-use cpg_violation::{earlier, edge_cube};
+use cpg_violation::{Line, earlier, edge_cube, lines_of};
 use std::alloc::Global;
 
 /// The scenarios that two cubes match; `None` exactly where there are none.

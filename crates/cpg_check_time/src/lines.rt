@@ -1,84 +1,17 @@
-//! The columns of items, found by the scenarios that they match and by their times.
+//! The columns of a line that match scenarios together with a cube.
 ghost use Rattle.std.specs.Prelude.{◌≡◌, ◌≤◌, ◌<◌, ◌++◌, ◌∷◌, [], ℕ, Bool, All, Contains, IfOk, length, map, true};
 ghost use Rattle.std.specs.List.{list_any};
-ghost use Rattle.cpg_base.specs.declared.limits.TheConstants.{MOST_LOAD};
-ghost use Rattle.cpg_base.specs.Graph.{item_count};
 ghost use Rattle.cpg_cube.specs.Cube.{matches};
 ghost use Rattle.cpg_order.specs.Scenario.{Scenario};
 ghost use Rattle.cpg_table.specs.Table.{Column};
+ghost use Rattle.cpg_violation.specs.Lines.{IsLine};
 ghost use Rattle.cpg_violation.specs.Sieves.{column_at};
-ghost use Rattle.cpg_check_time.specs.Lines.{AreLines, IsLine};
 
-use cpg_base::{OutOfMemory, Problem};
+use cpg_base::OutOfMemory;
 use cpg_cube::Cube;
-use cpg_table::{Entry, Tables};
-use cpg_violation::{Sieve, columns_of};
+use cpg_table::Entry;
+use cpg_violation::Line;
 use std::alloc::Global;
-
-/// The columns of an item, with a sieve of them, and the time of the first and of the last.
-#[derive(Drop)]
-pub(crate) struct Line<'a> {
-    columns: &'a [Entry],
-    sieve: Sieve,
-    /// No column is at an earlier time.
-    pub first: u64,
-    /// No column is at a later time.
-    pub last: u64,
-}
-
-/// The least time of these columns; the greatest number where there is none.
-fn first_time(columns: &[Entry]) -> u64
-    ensures { All (λ d. result ≤ d.time) columns.now }
-{
-    let mut first = u64::MAX;
-    for column in columns {
-        first = first.min(column.time);
-    }
-    first
-}
-
-/// The greatest time of these columns; 0 where there is none.
-fn last_time(columns: &[Entry]) -> u64
-    ensures { All (λ d. d.time ≤ result) columns.now }
-{
-    let mut last = 0;
-    for column in columns {
-        last = column.time.max(last);
-    }
-    last
-}
-
-/// The line of these columns.
-fn line_of<'a>(alloc: Global, columns: &'a [Entry]) -> Result<Line<'a>, OutOfMemory>
-    requires { length columns.now ≤ MOST_LOAD }
-    ensures { IfOk result (IsLine columns.now) }
-{
-    let sieve = Sieve::of(alloc, columns)?;
-    Ok(Line {
-        columns,
-        sieve,
-        first: first_time(columns),
-        last: last_time(columns),
-    })
-}
-
-/// The lines of all items, by number.
-pub(crate) fn lines_of<'a>(
-    alloc: Global,
-    problem: &Problem,
-    tables: &'a Tables,
-) -> Result<Vec<Line<'a>>, OutOfMemory>
-    ensures { IfOk result (λ lines. AreLines tables.now.nodes (item_count problem.now) lines.items) }
-{
-    let count = problem.item_count();
-    let mut lines = Vec::new(alloc);
-    lines.reserve(count as usize)?;
-    for item in 0..count {
-        let line = line_of(alloc, columns_of(tables, item))?;
-        lines.push(line)?;
-    }
-    Ok(lines)
-}
 
 /// Adds the column at a place, if there is one.
 fn push_column<'a>(

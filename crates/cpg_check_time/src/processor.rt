@@ -14,16 +14,16 @@ ghost use Rattle.cpg_violation.specs.Room.{HasRoom};
 ghost use Rattle.cpg_violation.specs.Violation.{Holds, IsFirstViolation};
 ghost use Rattle.cpg_check_time.specs.Clashes.{overlaps, overlaps_some};
 ghost use Rattle.cpg_check_time.specs.Columns.{IsColumn};
-ghost use Rattle.cpg_check_time.specs.Lines.{AreLines};
+ghost use Rattle.cpg_violation.specs.Lines.{AreLines};
 
 use crate::judge::{Judge, first_violation};
 use crate::lateness::least_late;
-use crate::lines::{Line, lines_of, meeting};
+use crate::lines::meeting;
 use cpg_base::{OutOfMemory, Problem, Scenario};
 use cpg_order::Order;
 use cpg_rules::Admitted;
 use cpg_table::{Entry, Fault, Rule, Tables};
-use cpg_violation::earlier;
+use cpg_violation::{Line, earlier, lines_of};
 use std::alloc::Global;
 
 /// The least scenario in which the execution of a process that a column starts overlaps that of another process that its

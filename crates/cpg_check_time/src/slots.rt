@@ -16,16 +16,16 @@ ghost use Rattle.cpg_violation.specs.Room.{HasRoom};
 ghost use Rattle.cpg_violation.specs.Violation.{Holds, IsFirstViolation};
 ghost use Rattle.cpg_check_time.specs.Clashes.{shares, shares_some};
 ghost use Rattle.cpg_check_time.specs.Columns.{IsColumn};
-ghost use Rattle.cpg_check_time.specs.Lines.{AreLines};
+ghost use Rattle.cpg_violation.specs.Lines.{AreLines};
 
 use crate::judge::{Judge, first_violation};
-use crate::lines::{Line, lines_of, meeting};
+use crate::lines::meeting;
 use cpg_base::{OutOfMemory, Problem, Scenario};
 use cpg_bus::Share;
 use cpg_order::Order;
 use cpg_rules::Admitted;
 use cpg_table::{Entry, Fault, Rule, Tables};
-use cpg_violation::{earlier, met};
+use cpg_violation::{Line, earlier, lines_of, met};
 use std::alloc::Global;
 
 /// Whether a node's slot starts at a time.

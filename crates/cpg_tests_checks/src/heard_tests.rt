@@ -1,8 +1,13 @@
 //! V4, on tables of A on N1 that sends a message to B on N2.
 
+ghost use Rattle.cpg_violation.specs.Heads.{IsHeadFor};
+
 use crate::fixtures::{Place, edge, graph_on_two, place_in, sending};
+use cpg_base::OutOfMemory;
 use cpg_check_heard::check_heard;
+use cpg_check_rows::check_rows;
 use cpg_rules::Admitted;
+use cpg_table::{Fault, Tables};
 use std::alloc::Global;
 use std::test::Fail;
 
@@ -10,10 +15,25 @@ fn graph(alloc: Global) -> Result<Admitted, Fail> {
     graph_on_two(alloc, vec![in alloc; edge(None)]?)
 }
 
+/// The first violation of V1 to V4.
+fn judged(
+    alloc: Global,
+    admitted: &Admitted,
+    tables: &Tables,
+) -> Result<Option<Fault>, OutOfMemory>
+    requires { IsHeadFor admitted.now.graph tables.now.head }
+{
+    if let Some(fault) = check_rows(alloc, admitted, tables)? {
+        return Ok(Some(fault));
+    }
+    let found = check_heard(alloc, admitted, tables)?;
+    Ok(found)
+}
+
 /// Whether all is heard where B starts as the message comes.
 fn is_heard(alloc: Global, admitted: &Admitted) -> Result<bool, Fail> {
     let tables = sending(alloc, admitted, [40, 80], [50, 90], [50, 90])?;
-    Ok(matches!(check_heard(alloc, admitted, &tables), Ok(None)))
+    Ok(matches!(judged(alloc, admitted, &tables), Ok(None)))
 }
 
 #[test]
@@ -26,7 +46,7 @@ fn all_is_heard(rt: HostRuntime) -> Result<(), Fail> {
 /// What isn't heard where B starts before the message comes.
 fn unheard(alloc: Global, admitted: &Admitted) -> Result<Place, Fail> {
     let tables = sending(alloc, admitted, [40, 80], [50, 90], [49, 90])?;
-    place_in(check_heard(alloc, admitted, &tables))
+    place_in(judged(alloc, admitted, &tables))
 }
 
 #[test]

@@ -5,3 +5,5 @@ pub mod HeadLaws
 pub mod Columnwise
 pub mod SieveLaws
 pub mod ApartLaws
+pub mod LineLaws
+pub mod Matching

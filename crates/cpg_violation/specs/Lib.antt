@@ -9,3 +9,4 @@ pub mod PartedCode
 pub mod PartedView
 pub mod PartedFalls
 pub mod Sieves
+pub mod Lines

@@ -6,6 +6,7 @@ mod apart;
 mod columns;
 mod earliest;
 mod edges;
+mod lines;
 mod meeting;
 mod sieve;
 
@@ -13,5 +14,6 @@ pub use activity::{least_at, value_literal};
 pub use columns::{columns_of, row_columns};
 pub use earliest::earlier;
 pub use edges::{cubes_of, edge_cube};
+pub use lines::{Line, lines_of};
 pub use meeting::met;
 pub use sieve::Sieve;

@@ -1,5 +1,6 @@
 use Rattle.cpg_violation.proofs.HeadLaws.{tables_of_graph}
-use Rattle.std.proofs.Common.{◌≡◌, ap, false, ℕ, arith, refl}
+use Rattle.std.proofs.Common.{◌≡◌, ◌<◌, ap, false, ℕ, Contains, arith, refl}
+use Rattle.std.proofs.lemmas.List.Elements.{All-weaker, All-contains_itself}
 use Rattle.cpg_base.specs.Graph.{item_count}
 use Rattle.cpg_order.specs.Scenario.{Scenario, IsScenario}
 use Rattle.cpg_table.specs.GraphHead.{head_of}
@@ -8,19 +9,31 @@ use Rattle.cpg_table.specs.Table.{columns_of}
 use Rattle.cpg_table.specs.declared.rule.Rule.{Rule}
 use Rattle.cpg_violation.specs.Violation.{IsFirstColumn}
 use Rattle.cpg_violation.proofs.RowColumns.{columns_few}
+use Rattle.cpg_violation.proofs.Matching.{literal_active}
 use Rattle.cpg_violation.proofs.Violations.{columns_known, none_more, first_violation}
+use Rattle.cpg_check_heard.specs.Ended.{HasActive}
 use Rattle.cpg_check_heard.specs.Unheard.{is_unheard}
 use Rattle.cpg_check_heard.proofs.heard.check_heard.Goals as goal
 
 pub first_unheard-requires-clause-hearing : goal.first_unheard-requires-clause-hearing
 first_unheard-requires-clause-hearing c =
-    let are : AreTablesOf (head_of c.args.admitted.now.graph) c.args.tables.now.nodes = tables_of_graph c.args.admitted.now.graph c.args.tables.now.head c.args.tables.now.nodes c.requires c.columns_of-columns.ensures.lawful in
-    record { admitted = c.problem.ensures.admitted; head = c.requires; tables = are; tellers = c.in_ok-tellers.ensures }
+    let are : AreTablesOf (head_of c.args.admitted.now.graph) c.args.tables.now.nodes = tables_of_graph c.args.admitted.now.graph c.args.tables.now.head c.args.tables.now.nodes c.requires.head c.columns_of-columns.ensures.lawful in
+    let lines = rw (c.problem-problem.ensures.problem, ← c.as_slice.ensures.value) at c.in_ok-lines.ensures in
+    record { admitted = c.problem-problem.ensures.admitted; head = c.requires.head; tables = are; rules = c.requires.rules; tellers = c.in_ok-tellers.ensures c.args.tables.now.nodes lines }
+
+pub first_unheard-requires-clause-active : goal.first_unheard-requires-clause-active
+first_unheard-requires-clause-active c =
+    let g = c.args.admitted.now.graph in
+    let tables = c.args.tables.now.nodes in
+    let x = c.loop-item.item in
+    let below : x < item_count g = omega (arith, c.loop-item-test.true, c.item_count-item-end.ensures, ap item_count c.problem-problem.ensures.problem) in
+    rw c.columns_of-columns.ensures.columns (All-weaker (Contains (columns_of tables x)) (HasActive g) (λ d k s l law m n. literal_active g tables s law x below c.requires.rules d k m l n)
+    (columns_of tables x) (All-contains_itself (columns_of tables x)))
 
 pub first_unheard-requires-clause-columns : goal.first_unheard-requires-clause-columns
 first_unheard-requires-clause-columns c =
-    let are : AreTablesOf (head_of c.args.admitted.now.graph) c.args.tables.now.nodes = tables_of_graph c.args.admitted.now.graph c.args.tables.now.head c.args.tables.now.nodes c.requires c.columns_of-columns.ensures.lawful in
-    rw c.columns_of-columns.ensures.columns (columns_known c.problem.ensures.admitted c.args.tables.now.nodes are c.loop-item.item)
+    let are : AreTablesOf (head_of c.args.admitted.now.graph) c.args.tables.now.nodes = tables_of_graph c.args.admitted.now.graph c.args.tables.now.head c.args.tables.now.nodes c.requires.head c.columns_of-columns.ensures.lawful in
+    rw c.columns_of-columns.ensures.columns (columns_known c.problem-problem.ensures.admitted c.args.tables.now.nodes are c.loop-item.item)
 
 pub first_unheard-requires-clause-few : goal.first_unheard-requires-clause-few
 first_unheard-requires-clause-few c = rw c.columns_of-columns.ensures.columns (columns_few c.args.tables.now.head c.args.tables.now.nodes c.columns_of-columns.ensures.lawful c.loop-item.item)
@@ -31,7 +44,7 @@ returns-in-Some-clause-first c =
     let first : IsFirstColumn g c.args.admitted.now.order (is_unheard g c.args.tables.now.nodes c.loop-item.item (columns_of c.args.tables.now.nodes c.loop-item.item)) (c.in-Some.column, c.in-Some.scenario) =
     rw (← c.columns_of-columns.ensures.columns) (rw c.in-Some.is at c.in_ok-unheard.ensures.first) in
     first_violation Rule.Heard g c.args.tables.now.nodes c.loop-item.item (λ y s. refl) c.number.result c.number.ensures c.args.admitted.now.order c.in-Some.column c.in-Some.scenario
-    (omega (arith, c.loop-item-test.true, c.item_count-item-end.ensures, ap item_count c.problem.ensures.problem)) c.loop-item.invariant first
+    (omega (arith, c.loop-item-test.true, c.item_count-item-end.ensures, ap item_count c.problem-problem.ensures.problem)) c.loop-item.invariant first
 
 pub loop-item-preserved : goal.loop-item-preserved
 loop-item-preserved c =

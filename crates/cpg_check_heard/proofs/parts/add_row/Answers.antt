@@ -12,10 +12,10 @@ loop-place-preserved c =
     let places = c.as_slice-place-items.result.now in
     record {
       known = rw c.in_ok-add.ensures (known_add g c.loop-place.told.items c.in_ok-part.part c.loop-place.invariant.known c.in_ok-part.ensures.known);
-      told = λ s i. row_more (is_telling_at g c.args.teller.now.telling c.args.time c.args.bound c.args.teller.now.columns.now s) places c.loop-place.place-index 0 c.loop-place-test.true
+      told = λ s i. row_more (is_telling_at g c.args.teller.now.telling c.args.time c.args.bound c.args.teller.now.line.now.columns.now s) places c.loop-place.place-index 0 c.loop-place-test.true
           (list_any (λ b. matches b s) c.args.told.now.items) (list_any (λ b. matches b s) c.loop-place.told.items) (list_any (λ b. matches b s) c.add.new.told.items) (c.loop-place.invariant.told s i)
           (ap (list_any (λ b. matches b s)) c.in_ok-add.ensures
-          ∙ told_add g (λ t. is_telling_at g c.args.teller.now.telling c.args.time c.args.bound c.args.teller.now.columns.now t (get_or places c.loop-place.place-index 0)) c.loop-place.told.items c.in_ok-part.part c.in_ok-part.ensures.part s i);
+          ∙ told_add g (λ t. is_telling_at g c.args.teller.now.telling c.args.time c.args.bound c.args.teller.now.line.now.columns.now t (get_or places c.loop-place.place-index 0)) c.loop-place.told.items c.in_ok-part.part c.in_ok-part.ensures.part s i);
     }
 
 pub returns-clause-told : goal.returns-clause-told
@@ -23,6 +23,6 @@ returns-clause-told c = λ s i m.
     let g = c.args.problem.now in
     let places = c.as_slice-place-items.result.now in
     c.loop-place.invariant.told s i ∙ ap (λ t. list_any (λ b. matches b s) c.args.told.now.items || t)
-    (ap (list_any (is_telling_at g c.args.teller.now.telling c.args.time c.args.bound c.args.teller.now.columns.now s)) (take_all c.loop-place.place-index places c.loop-place-test.false)
-    ∙ row_all g c.args.teller.now.telling c.args.time c.args.bound c.args.teller.now.columns.now places s
+    (ap (list_any (is_telling_at g c.args.teller.now.telling c.args.time c.args.bound c.args.teller.now.line.now.columns.now s)) (take_all c.loop-place.place-index places c.loop-place-test.false)
+    ∙ row_all g c.args.teller.now.telling c.args.time c.args.bound c.args.teller.now.line.now.columns.now places s
     (λ j l t. subst (λ xs. Contains xs j) (sym c.as_slice-place-items.ensures.value) (c.in_ok-places.ensures s j l t m)))

@@ -7,7 +7,7 @@ use Rattle.cpg_table.specs.Table.{Column, columns_of}
 use Rattle.cpg_violation.proofs.Violations.{long_order}
 use Rattle.cpg_check_time.specs.Columns.{IsColumn}
 use Rattle.cpg_check_time.specs.Delays.{IsMost, delays}
-use Rattle.cpg_check_time.specs.Lines.{IsLine}
+use Rattle.cpg_violation.specs.Lines.{IsLine}
 use Rattle.cpg_check_time.proofs.Judging.{column_is}
 use Rattle.cpg_check_time.proofs.DelayLaws.{first_delay, never_delays}
 use Rattle.cpg_check_time.proofs.delays.least_delay.Goals as goal

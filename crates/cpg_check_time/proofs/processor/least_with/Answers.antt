@@ -9,7 +9,7 @@ use Rattle.cpg_table.specs.Table.{Column, columns_of}
 use Rattle.cpg_violation.proofs.Violations.{long_order}
 use Rattle.cpg_check_time.specs.Clashes.{overlaps}
 use Rattle.cpg_check_time.specs.Columns.{IsColumn}
-use Rattle.cpg_check_time.specs.Lines.{IsLine}
+use Rattle.cpg_violation.specs.Lines.{IsLine}
 use Rattle.cpg_check_time.proofs.Judging.{column_is}
 use Rattle.cpg_check_time.proofs.ProcessorLaws.{starts_late, ends_early, other_node}
 use Rattle.cpg_check_time.proofs.processor.least_with.Goals as goal

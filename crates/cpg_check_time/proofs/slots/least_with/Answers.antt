@@ -8,7 +8,7 @@ use Rattle.cpg_cube.proofs.Kept.{all_unmapped}
 use Rattle.cpg_table.specs.Table.{Column, columns_of}
 use Rattle.cpg_violation.proofs.Violations.{long_order}
 use Rattle.cpg_check_time.specs.Clashes.{shares}
-use Rattle.cpg_check_time.specs.Lines.{IsLine}
+use Rattle.cpg_violation.specs.Lines.{IsLine}
 use Rattle.cpg_check_time.proofs.Judging.{column_is}
 use Rattle.cpg_check_time.proofs.SlotLaws.{all_later, all_earlier, other_item}
 use Rattle.cpg_check_time.proofs.slots.least_with.Goals as goal

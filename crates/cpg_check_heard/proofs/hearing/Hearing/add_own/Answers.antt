@@ -30,7 +30,7 @@ add_row-requires-clause-columns c =
     let own : p < process_count g = rw c.problem-problem.ensures.problem at c.process_of_variable-process.ensures.within in
     let below : p < item_count g = omega arith in
     let is = teller_at g tables (item_count g) c.args.self.now.tellers.items p t c.requires.hearing.tellers below c.index-teller.ensures in
-    rw (c.problem-problem.ensures.problem, is.columns) (columns_known c.requires.hearing.admitted tables c.requires.hearing.tables p)
+    rw (c.problem-problem.ensures.problem, is.line.all) (columns_known c.requires.hearing.admitted tables c.requires.hearing.tables p)
 
 pub add_row-requires-clause-sieve : goal.add_row-requires-clause-sieve
 add_row-requires-clause-sieve c =
@@ -41,7 +41,7 @@ add_row-requires-clause-sieve c =
     let own : p < process_count g = rw c.problem-problem.ensures.problem at c.process_of_variable-process.ensures.within in
     let below : p < item_count g = omega arith in
     let is = teller_at g tables (item_count g) c.args.self.now.tellers.items p t c.requires.hearing.tellers below c.index-teller.ensures in
-    rw is.columns is.sieve
+    rw is.line.all is.line.sieve
 
 pub returns-clause-told : goal.returns-clause-told
 returns-clause-told c =
@@ -56,6 +56,6 @@ returns-clause-told c =
     let home : node_of g p ≡ c.args.node = rw c.problem-problem.ensures.problem at (sym c.node_of.ensures.node ∙ c.if-node_of-node.false) in
     λ s i m.
     let tells = item_tells g tables c.args.time c.args.bound s in
-    rw (c.problem-problem.ensures.problem, is.telling, is.columns) at c.in_ok-add_row.ensures.told s i m
+    rw (c.problem-problem.ensures.problem, is.telling, is.line.all) at c.in_ok-add_row.ensures.told s i m
     ∙ ap (λ a. list_any (λ b. matches b s) c.args.told.now.items || a)
     (sym (ap (λ q. (node_of g q == c.args.node) && tells q) (sym here) ∙ ap (λ a. a && tells p) (eq-eqb (node_of g p) c.args.node home)))

@@ -1,5 +1,5 @@
-use Rattle.cpg_check_time.specs.Lines.{AreLines}
-use Rattle.cpg_check_time.proofs.lines.lines_of.Given as goal
+use Rattle.cpg_violation.specs.Lines.{AreLines}
+use Rattle.cpg_violation.proofs.lines.lines_of.Given as goal
 
 abbrev pub invariant-loop-item : goal.invariant-loop-item
 invariant-loop-item l = AreLines l.tables.nodes l.item l.lines.items

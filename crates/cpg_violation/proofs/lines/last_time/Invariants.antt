@@ -1,5 +1,5 @@
 use Rattle.std.proofs.Common.{◌≤◌, All, take}
-use Rattle.cpg_check_time.proofs.lines.last_time.Given as goal
+use Rattle.cpg_violation.proofs.lines.last_time.Given as goal
 
 abbrev pub invariant-loop-column : goal.invariant-loop-column
 invariant-loop-column l = All (λ d. d.time ≤ l.last) (take l.column-index l.columns)

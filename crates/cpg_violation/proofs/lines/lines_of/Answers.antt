@@ -1,6 +1,6 @@
 use Rattle.std.proofs.Common.{arith, ap, length}
 use Rattle.cpg_violation.proofs.RowColumns.{columns_few}
-use Rattle.cpg_check_time.proofs.lines.lines_of.Goals as goal
+use Rattle.cpg_violation.proofs.lines.lines_of.Goals as goal
 
 pub line_of-requires : goal.line_of-requires
 line_of-requires c = omega (arith, ap length c.columns_of.ensures.columns, columns_few c.args.tables.now.head c.args.tables.now.nodes c.columns_of.ensures.lawful c.loop-item.item)

@@ -2,7 +2,7 @@
 use Rattle.std.specs.Prelude.{ℕ, ◌≡◌, ◌<◌, ◌≤◌, List, All, length, get_or}
 use Rattle.cpg_table.specs.Table.{Column, NodeTable, columns_of}
 use Rattle.cpg_violation.specs.Sieves.{IsSieveOf}
-use Rattle.cpg_check_time.specs.declared.lines.Line.{Line}
+use Rattle.cpg_violation.specs.declared.lines.Line.{Line}
 
 -- these columns, with a sieve of them, and times that none is before or after
 pub record IsLine (columns : List Column) (line : Line) : Type 0 where

@@ -1,8 +1,8 @@
 use Rattle.std.proofs.Common.{◌≤◌, All, arith, subst}
 use Rattle.std.proofs.lemmas.List.{take_all}
 use Rattle.cpg_table.specs.Table.{Column}
-use Rattle.cpg_check_time.proofs.LineLaws.{not_after_more}
-use Rattle.cpg_check_time.proofs.lines.last_time.Goals as goal
+use Rattle.cpg_violation.proofs.LineLaws.{not_after_more}
+use Rattle.cpg_violation.proofs.lines.last_time.Goals as goal
 
 pub loop-column-preserved : goal.loop-column-preserved
 loop-column-preserved c = not_after_more c.args.columns.now c.loop-column.column-index c.column-item.result c.loop-column.last c.max-last.result c.loop-column-test.true c.column-item.is c.loop-column.invariant (omega (arith, c.max-last.ensures)) (omega (arith, c.max-last.ensures))

@@ -1,0 +1,18 @@
+-- Literals that are heard by the ends of a node's own processes: what V1 says of columns, and which processes have ended.
+use Rattle.std.specs.Prelude.{ℕ, ◌+◌, ◌≡◌, ◌≤◌, true, List, Contains}
+use Rattle.cpg_base.specs.Activity.{active}
+use Rattle.cpg_base.specs.Duration.{duration}
+use Rattle.cpg_base.specs.Graph.{Graph, node_of, process_of_variable}
+use Rattle.cpg_order.specs.Scenario.{Scenario, IsScenario}
+use Rattle.cpg_cube.specs.Cube.{matches}
+use Rattle.cpg_cube.specs.declared.literal.Literal.{Literal}
+use Rattle.cpg_table.specs.Table.{Column, NodeTable, columns_of}
+
+-- where a column matches, the processes of its literals are active
+abbrev pub HasActive : Graph → Column → Type 0
+HasActive g c = (s : Scenario) (l : Literal) → IsScenario g s → matches c.cube s ≡ true → Contains c.cube l → active g s.values (process_of_variable g l.variable) ≡ true
+
+-- the process of a variable is on a node, and no execution of it ends after a time
+pub record HasEnded (g : Graph) (tables : List NodeTable) (node v time : ℕ) : Type 0 where
+  pub home : node_of g (process_of_variable g v) ≡ node
+  pub ends : (c : Column) (n : ℕ) → Contains (columns_of tables (process_of_variable g v)) c → n ≤ g.faults → c.time + duration g (process_of_variable g v) n ≤ time

@@ -1,0 +1,11 @@
+-- The first and the last time of columns.
+use Rattle.std.proofs.Common.{ℕ, ◌+◌, ◌<◌, ◌≤◌, ◌≡◌, List, length, get_or, take, All, arith, subst}
+use Rattle.std.proofs.lemmas.List.Elements.{All-weaker, All-more}
+use Rattle.cpg_table.specs.Table.{Column}
+
+-- times that none is before or after
+pub not_before_more : (columns : List Column) (k : ℕ) (c : Column) (first less : ℕ) → k < length columns → c ≡ get_or columns k c → All (λ (d : Column). first ≤ d.time) (take k columns) → less ≤ first → less ≤ c.time → All (λ (d : Column). less ≤ d.time) (take (k + 1) columns)
+not_before_more columns k c first less l is before a b = All-more (λ (d : Column). less ≤ d.time) columns k c l (All-weaker (λ (d : Column). first ≤ d.time) (λ (d : Column). less ≤ d.time) (λ d m. omega arith) (take k columns) before) (subst (λ (d : Column). less ≤ d.time) is b)
+
+pub not_after_more : (columns : List Column) (k : ℕ) (c : Column) (last more : ℕ) → k < length columns → c ≡ get_or columns k c → All (λ (d : Column). d.time ≤ last) (take k columns) → last ≤ more → c.time ≤ more → All (λ (d : Column). d.time ≤ more) (take (k + 1) columns)
+not_after_more columns k c last more l is before a b = All-more (λ (d : Column). d.time ≤ more) columns k c l (All-weaker (λ (d : Column). d.time ≤ last) (λ (d : Column). d.time ≤ more) (λ d m. omega arith) (take k columns) before) (subst (λ (d : Column). d.time ≤ more) is b)
