@@ -1,18 +1,18 @@
 -- A verdict that shows something shows that the tables are not the graph's, or not valid.
-use Rattle.std.proofs.Common.{ℕ, ◌≡◌, ◌<◌, ◌∙◌, ◌==◌, true, false, List, [], ◌∷◌, Option, Some, None, length, map, refl, sym, ap, subst, inl, inr, arith, eqb-true}
+use Rattle.std.proofs.Common.{ℕ, ◌≡◌, ◌<◌, ◌∙◌, ◌==◌, List, [], ◌∷◌, Option, Some, None, length, map, refl, sym, ap, inl, inr, arith, eqb-true}
 use Rattle.std.specs.Prelude.{slice_get, IsSomeAnd}
 use Rattle.std.proofs.lemmas.Bool.{both_ways, cases_Bool, cond-true, cond-false}
 use Rattle.std.proofs.lemmas.Option.{slice_get-get_or, none-some, same_Some}
 use Rattle.cpg_base.specs.Graph.{Graph}
 use Rattle.cpg_table.specs.Head.{Head}
-use Rattle.cpg_table.specs.Table.{Column, Row, NodeTable, table_at, empty_table}
+use Rattle.cpg_table.specs.Table.{Column, NodeTable, table_at, empty_table}
 use Rattle.cpg_table.specs.Valid.{IsValid, hear_row}
 use Rattle.cpg_table.specs.declared.fault.Fault.{Fault}
 use Rattle.cpg_violation.specs.Columns.{row_columns}
 use Rattle.cpg_violation.specs.Heads.{IsHeadFor}
 use Rattle.cpg_violation.specs.Violation.{IsFirstViolation, column_rules}
 use Rattle.cpg_violation.proofs.Violations.{first_broken}
-use Rattle.cpg_check_rows.specs.Hears.{DifferFirstAt, IsFirstHear, IsFirstHearFault, due_columns}
+use Rattle.cpg_check_rows.specs.Hears.{DifferFirstAt, IsFirstHear, due_columns}
 use Rattle.cpg_check.specs.Heads.{IsFirstDifference}
 use Rattle.cpg_check.specs.Verdict.{IsFirstFault}
 use Rattle.cpg_check.specs.declared.heads.HeadPart.{HeadPart}

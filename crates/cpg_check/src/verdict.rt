@@ -1,6 +1,8 @@
 //! Whether tables are valid for a graph.
 ghost use Rattle.std.specs.Prelude.{◌≡◌, IfOk};
+ghost use Rattle.cpg_base.specs.Graph.{item_count};
 ghost use Rattle.cpg_violation.specs.Heads.{IsHeadFor};
+ghost use Rattle.cpg_violation.specs.Lines.{AreLines};
 ghost use Rattle.cpg_check.specs.Verdict.{ShowsFault, ShowsVerdict};
 
 use crate::heads::{HeadPart, first_difference};
@@ -10,6 +12,7 @@ use cpg_check_rows::{check_hears, check_rows};
 use cpg_check_time::check_time;
 use cpg_rules::Admitted;
 use cpg_table::{Fault, Tables};
+use cpg_violation::{Line, lines_of};
 use std::alloc::Global;
 
 /// What a check answers.
@@ -23,6 +26,30 @@ pub enum Verdict {
     No(Fault),
 }
 
+/// The first violation of tables whose head is the graph's, by the lines of all items.
+fn fault_by(
+    alloc: Global,
+    admitted: &Admitted,
+    tables: &Tables,
+    lines: &[Line<'_>],
+) -> Result<Option<Fault>, OutOfMemory>
+    requires head { IsHeadFor admitted.now.graph tables.now.head }
+    requires lines { AreLines tables.now.nodes (item_count admitted.now.graph) lines.now }
+    ensures { IfOk result (ShowsFault admitted.now.graph admitted.now.order tables.now.nodes) }
+{
+    if let Some(fault) = check_rows(alloc, admitted, tables, lines)? {
+        return Ok(Some(fault));
+    }
+    if let Some(fault) = check_heard(alloc, admitted, tables, lines)? {
+        return Ok(Some(fault));
+    }
+    if let Some(fault) = check_time(alloc, admitted, tables, lines)? {
+        return Ok(Some(fault));
+    }
+    let fault = check_hears(alloc, admitted, tables)?;
+    Ok(fault)
+}
+
 /// The first violation of tables whose head is the graph's, if there is one.
 fn first_fault(
     alloc: Global,
@@ -32,16 +59,8 @@ fn first_fault(
     requires { IsHeadFor admitted.now.graph tables.now.head }
     ensures { IfOk result (ShowsFault admitted.now.graph admitted.now.order tables.now.nodes) }
 {
-    if let Some(fault) = check_rows(alloc, admitted, tables)? {
-        return Ok(Some(fault));
-    }
-    if let Some(fault) = check_heard(alloc, admitted, tables)? {
-        return Ok(Some(fault));
-    }
-    if let Some(fault) = check_time(alloc, admitted, tables)? {
-        return Ok(Some(fault));
-    }
-    let fault = check_hears(alloc, admitted, tables)?;
+    let lines = lines_of(alloc, admitted.problem(), tables)?;
+    let fault = fault_by(alloc, admitted, tables, lines.as_slice())?;
     Ok(fault)
 }
 

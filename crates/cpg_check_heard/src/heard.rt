@@ -9,6 +9,7 @@ ghost use Rattle.cpg_check_heard.specs.Hearings.{IsHearing};
 ghost use Rattle.cpg_check_heard.specs.Unheard.{is_unheard};
 ghost use Rattle.cpg_table.specs.declared.rule.Rule.{Rule};
 ghost use Rattle.cpg_violation.specs.Heads.{IsHeadFor};
+ghost use Rattle.cpg_violation.specs.Lines.{AreLines};
 ghost use Rattle.cpg_violation.specs.Violation.{AllHold, Holds, IsFirstColumn, IsFirstViolation, row_rules};
 
 use crate::hearing::Hearing;
@@ -16,7 +17,7 @@ use crate::tellers::tellers;
 use cpg_base::{OutOfMemory, Scenario};
 use cpg_rules::Admitted;
 use cpg_table::{Entry, Fault, NodeItems, Rule, Tables};
-use cpg_violation::{columns_of, lines_of};
+use cpg_violation::{Line, columns_of};
 use std::alloc::Global;
 
 /// The first column of an item's row that matches in a scenario in which the item's node hasn't heard one of its literals
@@ -49,20 +50,21 @@ fn first_unheard(
 
 /// The first violation of V4, by item and column, with the least scenario in the urgency order in which it stands: the
 /// column matches, and one of its literals isn't heard at the item's node by the column's time. `None` exactly where the
-/// rule holds. V1 to V3 hold.
+/// rule holds. V1 to V3 hold, and the lines are those of all items.
 pub fn check_heard(
     alloc: Global,
     admitted: &Admitted,
     tables: &Tables,
+    lines: &[Line<'_>],
 ) -> Result<Option<Fault>, OutOfMemory>
     requires head { IsHeadFor admitted.now.graph tables.now.head }
     requires rules { AllHold admitted.now.graph tables.now.nodes row_rules }
+    requires lines { AreLines tables.now.nodes (item_count admitted.now.graph) lines.now }
     ensures none { IfOk result (λ r. IfNone r (Holds admitted.now.graph tables.now.nodes Rule.Heard)) }
     ensures first { IfOk result (λ r. IfSome r (IsFirstViolation admitted.now.graph admitted.now.order tables.now.nodes Rule.Heard)) }
 {
     let problem = admitted.problem();
-    let lines = lines_of(alloc, problem, tables)?;
-    let tellers = tellers(alloc, admitted, lines.as_slice())?;
+    let tellers = tellers(alloc, admitted, lines)?;
     let hearing = Hearing {
         admitted,
         tables,

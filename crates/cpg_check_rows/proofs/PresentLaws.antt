@@ -1,15 +1,15 @@
 -- When items are active, by the source of an edge and the cube of its value; and the least scenario without a column.
 use Rattle.std.proofs.Common.{ℕ, zero, suc, ◌∷◌, All, ◌+◌, ◌<◌, ◌≤◌, ◌≡◌, Bool, true, false, not, ◌&&◌, List, [], get_or, length, map, Option, Some, None, arith, refl, sym, ap, ◌∙◌, subst, inl, inr, lt-ltb}
-use Rattle.std.specs.Prelude.{nat_lt, take, drop, IsTrue}
+use Rattle.std.specs.Prelude.{nat_lt, take, drop}
 use Rattle.std.specs.List.{list_any}
 use Rattle.std.proofs.lemmas.Bool.{cases_lt}
-use Rattle.cpg_base.specs.Graph.{Graph, process_count, edge_count, condition_count, item_count, item_at, message_item, broadcast_item, is_message, source, edge_at, condition_of, process_of}
+use Rattle.cpg_base.specs.Graph.{Graph, process_count, edge_count, condition_count, item_at, message_item, broadcast_item, is_message, source, edge_at, condition_of, process_of}
 use Rattle.cpg_base.specs.declared.item.Item.TheVariants.{Broadcast}
 use Rattle.cpg_base.specs.Activity.{active, is_active, live, item_active}
 use Rattle.cpg_base.proofs.Lists.{list_any_false, get_or-map-below}
 use Rattle.cpg_base.proofs.Items.{item_at-start, item_at-message, item_at-broadcast}
 use Rattle.cpg_order.specs.Urgency.{IsTopological}
-use Rattle.cpg_order.specs.Scenario.{Scenario, IsScenario, IsLeast}
+use Rattle.cpg_order.specs.Scenario.{Scenario, IsScenario}
 use Rattle.cpg_order.specs.First.{IsFirst}
 use Rattle.cpg_order.proofs.First.{first_same}
 use Rattle.cpg_order.proofs.Acyclic.{source_in_order}
@@ -22,9 +22,7 @@ use Rattle.cpg_cube.proofs.Kept.{any_map}
 use Rattle.cpg_rules.specs.Admission.{IsAdmitted}
 use Rattle.cpg_table.specs.Table.{Column, NodeTable, columns_of}
 use Rattle.cpg_table.specs.Valid.{breaks, breaks_at}
-use Rattle.cpg_table.specs.Rules.{number_of_rule}
 use Rattle.cpg_table.specs.declared.rule.Rule.{Rule}
-use Rattle.cpg_violation.specs.Violation.{IsFirstViolation}
 use Rattle.cpg_check_rows.specs.Present.{is_absent}
 use Rattle.cpg_violation.specs.Activity.{comes_to}
 

@@ -1,24 +1,29 @@
 //! The rules V1, V2 and V3, one after the other.
 ghost use Rattle.std.specs.Prelude.{◌≡◌, IfNone, IfOk, IfSome};
+ghost use Rattle.cpg_base.specs.Graph.{item_count};
 ghost use Rattle.cpg_violation.specs.Heads.{IsHeadFor};
+ghost use Rattle.cpg_violation.specs.Lines.{AreLines};
 ghost use Rattle.cpg_violation.specs.Violation.{AllHold, IsFirstOf, row_rules};
 
 use crate::activity::check_activity;
 use crate::present::check_present;
-use crate::single::check_single;
+use crate::single::single_by;
 use cpg_base::OutOfMemory;
 use cpg_rules::Admitted;
 use cpg_table::{Fault, Tables};
+use cpg_violation::Line;
 use std::alloc::Global;
 
 /// The first violation of V1, V2 and V3, by rule, item and column, with the least scenario in the urgency order in which
-/// it stands. `None` exactly where the three rules hold.
+/// it stands. `None` exactly where the three rules hold. The lines are those of all items.
 pub fn check_rows(
     alloc: Global,
     admitted: &Admitted,
     tables: &Tables,
+    lines: &[Line<'_>],
 ) -> Result<Option<Fault>, OutOfMemory>
-    requires { IsHeadFor admitted.now.graph tables.now.head }
+    requires head { IsHeadFor admitted.now.graph tables.now.head }
+    requires lines { AreLines tables.now.nodes (item_count admitted.now.graph) lines.now }
     ensures none { IfOk result (λ r. IfNone r (AllHold admitted.now.graph tables.now.nodes row_rules)) }
     ensures first { IfOk result (λ r. IfSome r (IsFirstOf admitted.now.graph admitted.now.order tables.now.nodes row_rules)) }
 {
@@ -26,7 +31,7 @@ pub fn check_rows(
     if let Some(fault) = idle {
         return Ok(Some(fault));
     }
-    let double = check_single(alloc, admitted, tables)?;
+    let double = single_by(alloc, admitted, tables, lines)?;
     if let Some(fault) = double {
         return Ok(Some(fault));
     }

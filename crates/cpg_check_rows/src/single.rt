@@ -2,12 +2,13 @@
 ghost use Rattle.std.specs.Prelude.{◌≡◌, ◌≤◌, ◌<◌, ◌&&◌, ℕ, All, IfNone, IfOk, IfSome, List, false, length};
 ghost use Rattle.std.specs.List.{list_any};
 ghost use Rattle.cpg_base.specs.declared.limits.TheConstants.{MOST_LOAD};
-ghost use Rattle.cpg_base.specs.Graph.{process_count};
+ghost use Rattle.cpg_base.specs.Graph.{item_count, process_count};
 ghost use Rattle.cpg_order.specs.First.{IsFirst};
 ghost use Rattle.cpg_order.specs.Scenario.{Scenario, IsScenario};
 ghost use Rattle.cpg_cube.specs.Cube.{matches};
 ghost use Rattle.cpg_cube.specs.Fit.{IsKnown};
 ghost use Rattle.cpg_table.specs.declared.rule.Rule.{Rule};
+ghost use Rattle.cpg_violation.specs.Lines.{AreLines};
 ghost use Rattle.cpg_violation.specs.Room.{HasRoom};
 ghost use Rattle.cpg_violation.specs.Sieves.{IsSieveOf, is_at};
 ghost use Rattle.cpg_violation.specs.Heads.{IsHeadFor};
@@ -19,7 +20,7 @@ use cpg_cube::Cube;
 use cpg_order::Order;
 use cpg_rules::Admitted;
 use cpg_table::{Entry, Fault, Rule, Tables};
-use cpg_violation::{Sieve, columns_of, earlier, met};
+use cpg_violation::{Line, Sieve, columns_of, earlier, lines_of, met};
 use std::alloc::Global;
 
 /// The least scenario that a cube matches together with the column at a place, if there is one.
@@ -94,18 +95,49 @@ fn first_double(
     problem: &Problem,
     order: &Order,
     columns: &[Entry],
+    sieve: &Sieve,
 ) -> Result<Option<(u32, Scenario)>, OutOfMemory>
     requires order { length order.now ≡ process_count problem.now }
     requires columns { All (λ c. IsKnown problem.now c.cube) columns.now }
     requires few { length columns.now ≤ MOST_LOAD }
+    requires sieve { IsSieveOf columns.now sieve.now }
     ensures none { IfOk result (λ r. IfNone r ((i : ℕ) (s : Scenario) → IsScenario problem.now s → is_double columns.now i s ≡ false)) }
     ensures first { IfOk result (λ r. IfSome r (IsFirstColumn problem.now order.now (is_double columns.now))) }
 {
-    let sieve = Sieve::of(alloc, columns)?;
     for column in 0..columns.len() {
-        let met = shared_before(alloc, problem, order, &sieve, columns, column)?;
+        let met = shared_before(alloc, problem, order, sieve, columns, column)?;
         if let Some(scenario) = met {
             return Ok(Some((column as u32, scenario)));
+        }
+    }
+    Ok(None)
+}
+
+/// The first violation of V2, by the sieves of all rows.
+pub(crate) fn single_by(
+    alloc: Global,
+    admitted: &Admitted,
+    tables: &Tables,
+    lines: &[Line<'_>],
+) -> Result<Option<Fault>, OutOfMemory>
+    requires head { IsHeadFor admitted.now.graph tables.now.head }
+    requires lines { AreLines tables.now.nodes (item_count admitted.now.graph) lines.now }
+    ensures none { IfOk result (λ r. IfNone r (Holds admitted.now.graph tables.now.nodes Rule.Single)) }
+    ensures first { IfOk result (λ r. IfSome r (IsFirstViolation admitted.now.graph admitted.now.order tables.now.nodes Rule.Single)) }
+{
+    let problem = admitted.problem();
+    let order = admitted.order();
+    for item in 0..problem.item_count() {
+        let columns = columns_of(tables, item);
+        let line = &lines[item as usize];
+        let double = first_double(alloc, problem, order, columns, &line.sieve)?;
+        if let Some((column, scenario)) = double {
+            return Ok(Some(Fault {
+                rule: Rule::Single.number(),
+                item,
+                column: Some(column),
+                scenario,
+            }));
         }
     }
     Ok(None)
@@ -122,19 +154,7 @@ pub fn check_single(
     ensures none { IfOk result (λ r. IfNone r (Holds admitted.now.graph tables.now.nodes Rule.Single)) }
     ensures first { IfOk result (λ r. IfSome r (IsFirstViolation admitted.now.graph admitted.now.order tables.now.nodes Rule.Single)) }
 {
-    let problem = admitted.problem();
-    let order = admitted.order();
-    for item in 0..problem.item_count() {
-        let columns = columns_of(tables, item);
-        let double = first_double(alloc, problem, order, columns)?;
-        if let Some((column, scenario)) = double {
-            return Ok(Some(Fault {
-                rule: Rule::Single.number(),
-                item,
-                column: Some(column),
-                scenario,
-            }));
-        }
-    }
-    Ok(None)
+    let lines = lines_of(alloc, admitted.problem(), tables)?;
+    let found = single_by(alloc, admitted, tables, lines.as_slice())?;
+    Ok(found)
 }

@@ -14,11 +14,12 @@ use crate::slots::slots_by;
 use cpg_base::OutOfMemory;
 use cpg_rules::Admitted;
 use cpg_table::{Fault, Tables};
-use cpg_violation::{Line, lines_of};
+use cpg_violation::Line;
 use std::alloc::Global;
 
-/// The first violation of V5 to V9, by the columns of each item.
-fn first_by(
+/// The first violation of the first of V5 to V9 that is broken, by item and column, with the least scenario in the urgency
+/// order in which it stands. `None` exactly where all five hold. V1 to V4 hold, and the lines are those of all items.
+pub fn check_time(
     alloc: Global,
     admitted: &Admitted,
     tables: &Tables,
@@ -43,22 +44,5 @@ fn first_by(
         return Ok(Some(fault));
     }
     let found = check_due(alloc, admitted, tables)?;
-    Ok(found)
-}
-
-/// The first violation of the first of V5 to V9 that is broken, by item and column, with the least scenario in the urgency
-/// order in which it stands. `None` exactly where all five hold. V1 to V4 hold.
-pub fn check_time(
-    alloc: Global,
-    admitted: &Admitted,
-    tables: &Tables,
-) -> Result<Option<Fault>, OutOfMemory>
-    requires head { IsHeadFor admitted.now.graph tables.now.head }
-    requires rules { AllHold admitted.now.graph tables.now.nodes (row_rules ++ Rule.Heard ∷ []) }
-    ensures none { IfOk result (λ r. IfNone r (AllHold admitted.now.graph tables.now.nodes time_rules)) }
-    ensures first { IfOk result (λ r. IfSome r (IsFirstOf admitted.now.graph admitted.now.order tables.now.nodes time_rules)) }
-{
-    let lines = lines_of(alloc, admitted.problem(), tables)?;
-    let found = first_by(alloc, admitted, tables, lines.as_slice())?;
     Ok(found)
 }

@@ -8,6 +8,7 @@ use cpg_check_heard::check_heard;
 use cpg_check_rows::check_rows;
 use cpg_rules::Admitted;
 use cpg_table::{Fault, Tables};
+use cpg_violation::lines_of;
 use std::alloc::Global;
 use std::test::Fail;
 
@@ -23,10 +24,12 @@ fn judged(
 ) -> Result<Option<Fault>, OutOfMemory>
     requires { IsHeadFor admitted.now.graph tables.now.head }
 {
-    if let Some(fault) = check_rows(alloc, admitted, tables)? {
+    let lines = lines_of(alloc, admitted.problem(), tables)?;
+    let lines = lines.as_slice();
+    if let Some(fault) = check_rows(alloc, admitted, tables, lines)? {
         return Ok(Some(fault));
     }
-    let found = check_heard(alloc, admitted, tables)?;
+    let found = check_heard(alloc, admitted, tables, lines)?;
     Ok(found)
 }
 

@@ -4,10 +4,11 @@ ghost use Rattle.std.specs.Prelude.{IfOk};
 ghost use Rattle.cpg_violation.specs.Heads.{IsHeadFor};
 
 use crate::fixtures::{A, B, C, Column, Place, edge, graph_on_one, place_in, tables_on_one};
-use cpg_base::Edge;
+use cpg_base::{Edge, OutOfMemory};
 use cpg_check_rows::{check_activity, check_hears, check_present, check_rows, check_single};
 use cpg_rules::Admitted;
-use cpg_table::Tables;
+use cpg_table::{Fault, Tables};
+use cpg_violation::lines_of;
 use std::alloc::Global;
 use std::test::Fail;
 
@@ -39,10 +40,23 @@ fn for_one_fault(alloc: Global, admitted: &Admitted) -> Result<Tables, Fail>
     with(alloc, admitted, early.with(0, 0), late.with(0, 1))
 }
 
+/// The first violation of V1 to V3.
+fn judged(
+    alloc: Global,
+    admitted: &Admitted,
+    tables: &Tables,
+) -> Result<Option<Fault>, OutOfMemory>
+    requires { IsHeadFor admitted.now.graph tables.now.head }
+{
+    let lines = lines_of(alloc, admitted.problem(), tables)?;
+    let found = check_rows(alloc, admitted, tables, lines.as_slice())?;
+    Ok(found)
+}
+
 /// Whether rows are as they are to be, and all that they hear.
 fn are_sound(alloc: Global, admitted: &Admitted) -> Result<bool, Fail> {
     let tables = for_one_fault(alloc, admitted)?;
-    let rows = matches!(check_rows(alloc, admitted, &tables), Ok(None));
+    let rows = matches!(judged(alloc, admitted, &tables), Ok(None));
     Ok(rows && matches!(check_hears(alloc, admitted, &tables), Ok(None)))
 }
 

@@ -1,4 +1,4 @@
-use Rattle.std.proofs.Common.{◌≡◌, ◌≤◌, List, length, ap, sym, arith, subst, Some, IfSome, ◌∙◌, get_or, refl}
+use Rattle.std.proofs.Common.{◌≤◌, List, length, ap, arith, subst, IfSome, ◌∙◌, get_or, refl}
 use Rattle.cpg_base.specs.declared.process.Process.{Process}
 use Rattle.cpg_table.specs.GraphHead.{extra_of}
 use Rattle.cpg_table.specs.Head.{AreExtras}

@@ -18,8 +18,7 @@ use Rattle.cpg_check_heard.proofs.heard.check_heard.Goals as goal
 pub first_unheard-requires-clause-hearing : goal.first_unheard-requires-clause-hearing
 first_unheard-requires-clause-hearing c =
     let are : AreTablesOf (head_of c.args.admitted.now.graph) c.args.tables.now.nodes = tables_of_graph c.args.admitted.now.graph c.args.tables.now.head c.args.tables.now.nodes c.requires.head c.columns_of-columns.ensures.lawful in
-    let lines = rw (c.problem-problem.ensures.problem, ← c.as_slice.ensures.value) at c.in_ok-lines.ensures in
-    record { admitted = c.problem-problem.ensures.admitted; head = c.requires.head; tables = are; rules = c.requires.rules; tellers = c.in_ok-tellers.ensures c.args.tables.now.nodes lines }
+    record { admitted = c.problem-problem.ensures.admitted; head = c.requires.head; tables = are; rules = c.requires.rules; tellers = c.in_ok-tellers.ensures c.args.tables.now.nodes c.requires.lines }
 
 pub first_unheard-requires-clause-active : goal.first_unheard-requires-clause-active
 first_unheard-requires-clause-active c =

@@ -1,6 +1,7 @@
-use Rattle.std.proofs.Common.{◌≡◌, ap, false, ℕ, arith, refl}
+use Rattle.std.proofs.Common.{◌≡◌, ◌<◌, ap, false, ℕ, arith, refl, subst, sym}
 use Rattle.cpg_base.specs.Graph.{item_count}
 use Rattle.cpg_order.specs.Scenario.{Scenario, IsScenario}
+use Rattle.cpg_violation.specs.Lines.{IsLine}
 use Rattle.cpg_violation.specs.Violation.{IsFirstColumn}
 use Rattle.cpg_check_rows.specs.Single.{is_double}
 use Rattle.cpg_table.specs.GraphHead.{head_of}
@@ -10,18 +11,26 @@ use Rattle.cpg_table.specs.Table.{columns_of}
 use Rattle.cpg_table.specs.declared.rule.Rule.{Rule}
 use Rattle.cpg_violation.proofs.RowColumns.{columns_few}
 use Rattle.cpg_violation.proofs.Violations.{long_order, columns_known, none_more, first_violation}
-use Rattle.cpg_check_rows.proofs.single.check_single.Goals as goal
+use Rattle.cpg_check_rows.proofs.single.single_by.Goals as goal
 
 pub first_double-requires-clause-order : goal.first_double-requires-clause-order
 first_double-requires-clause-order c = rw (c.order-order.ensures.order, c.problem-problem.ensures.problem) (long_order c.order-order.ensures.admitted)
 
 pub first_double-requires-clause-columns : goal.first_double-requires-clause-columns
 first_double-requires-clause-columns c =
-    let are : AreTablesOf (head_of c.args.admitted.now.graph) c.args.tables.now.nodes = tables_of_graph c.args.admitted.now.graph c.args.tables.now.head c.args.tables.now.nodes c.requires c.columns_of-columns.ensures.lawful in
+    let are : AreTablesOf (head_of c.args.admitted.now.graph) c.args.tables.now.nodes = tables_of_graph c.args.admitted.now.graph c.args.tables.now.head c.args.tables.now.nodes c.requires.head c.columns_of-columns.ensures.lawful in
     rw (c.problem-problem.ensures.problem, c.columns_of-columns.ensures.columns) (columns_known c.order-order.ensures.admitted c.args.tables.now.nodes are c.loop-item.item)
 
 pub first_double-requires-clause-few : goal.first_double-requires-clause-few
 first_double-requires-clause-few c = rw c.columns_of-columns.ensures.columns (columns_few c.args.tables.now.head c.args.tables.now.nodes c.columns_of-columns.ensures.lawful c.loop-item.item)
+
+pub first_double-requires-clause-sieve : goal.first_double-requires-clause-sieve
+first_double-requires-clause-sieve c =
+    let x = c.loop-item.item in
+    let columns = columns_of c.args.tables.now.nodes x in
+    let below : x < item_count c.args.admitted.now.graph = omega (arith, c.loop-item-test.true, c.item_count-item-end.ensures, ap item_count c.problem-problem.ensures.problem) in
+    let line : IsLine columns c.index-lines-item.result = subst (IsLine columns) (sym c.index-lines-item.is) (c.requires.lines.each x c.index-lines-item.result below) in
+    rw c.columns_of-columns.ensures.columns line.sieve
 
 pub returns-in-Some-clause-first : goal.returns-in-Some-clause-first
 returns-in-Some-clause-first c =
