@@ -7,7 +7,6 @@ pub mod MemoryStops
 pub mod Written
 pub mod Later
 pub mod Checked
-pub mod Dues
 pub mod Joined
 pub mod Local
 pub mod Said

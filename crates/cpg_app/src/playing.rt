@@ -4,8 +4,7 @@ ghost use Rattle.cpg_scenario.specs.File.{IsPlayed};
 ghost use Rattle.cpg_table.specs.GraphHead.{head_of};
 ghost use Rattle.cpg_table.specs.Lawful.{AreTablesOf};
 ghost use Rattle.cpg_table.specs.Valid.{IsValid};
-ghost use Rattle.cpg_cluster.specs.Driving.{IsDriven};
-ghost use Rattle.cpg_app.specs.Plays.{world_of, IsPlayText, IsWholePlay};
+ghost use Rattle.cpg_app.specs.Plays.{world_of, IsPlayText};
 
 use cpg_base::OutOfMemory;
 use cpg_cluster::Cluster;
@@ -14,17 +13,6 @@ use cpg_scenario::Played;
 use cpg_show::trace_text;
 use cpg_table::Tables;
 use std::alloc::Global;
-
-/// Plays to the end as a number drives it, and answers how many of the asks waited.
-fn play_out(cluster: &mut Cluster, number: u64) -> u64
-    ensures driven { IsDriven cluster.old.graph cluster.old.world number cluster.old.cluster cluster.new.cluster result }
-    ensures same { cluster.new ≡ record cluster.old { cluster = cluster.new.cluster } }
-    ensures whole { IsWholePlay cluster.old.graph cluster.old.tables cluster.old.world cluster.new.cluster }
-{
-    let waits = cluster.drive(number);
-    let _lengths = cluster.lengths();
-    waits
-}
 
 /// The text of a play of valid tables that a number drives: the trace of all nodes once each is done, and how many of
 /// the asks waited.
@@ -47,7 +35,7 @@ pub fn play_text(
         &played.scenario,
         &played.lengths,
     )?;
-    let waits = play_out(&mut cluster, number);
+    let waits = cluster.drive(number);
     let mut text = trace_text(alloc, admitted, &cluster)?;
     write!(text, "waits {waits}\n")?;
     Ok(text)

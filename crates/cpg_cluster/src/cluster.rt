@@ -13,6 +13,7 @@ ghost use Rattle.cpg_cluster.specs.Cluster.{Took, Done, answer, dispatcher_at};
 ghost use Rattle.cpg_cluster.specs.Driving.{IsDriven, choose, circle, next_number, remaining};
 ghost use Rattle.cpg_cluster.specs.Correct.{IsWorld, IsCorrect};
 ghost use Rattle.cpg_cluster.specs.Keeping.{HasNoted, frames_of_member, frames_by};
+ghost use Rattle.cpg_cluster.specs.Whole.{IsWholePlay};
 ghost use Rattle.cpg_cluster.specs.Playing.{IsPlaying, HasLeastInstant, HasDoneAll, opened, stepped, answer_of};
 
 use crate::Step;
@@ -252,6 +253,7 @@ impl Cluster {
     pub fn drive(&mut self, number: u64) -> u64
         ensures driven { IsDriven self.old.graph self.old.world number self.old.cluster self.new.cluster result }
         ensures same { self.new ≡ record self.old { cluster = self.new.cluster } }
+        ensures whole { IsWholePlay self.old.graph self.old.tables self.old.world self.new.cluster }
     {
         let nodes = self.members.len() as u64;
         let mut drawn = number;

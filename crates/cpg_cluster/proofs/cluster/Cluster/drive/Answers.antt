@@ -5,10 +5,11 @@ use Rattle.std.proofs.Math.Nat.{mod-lt}
 use Rattle.std.proofs.lemmas.List.{length-map}
 use Rattle.cpg_base.specs.Graph.{Graph}
 use Rattle.cpg_node.specs.Dispatcher.{next}
-use Rattle.cpg_cluster.specs.Playing.{Playing}
+use Rattle.cpg_cluster.specs.Playing.{Playing, IsPlaying}
 use Rattle.cpg_cluster.specs.Driving.{AllDone, remaining}
 use Rattle.cpg_cluster.specs.declared.member.Member.{Member}
 use Rattle.cpg_cluster.proofs.Bounded.{few_of_circle}
+use Rattle.cpg_cluster.proofs.Dues.{whole_play}
 use Rattle.cpg_cluster.proofs.Drives.{driving_none, driving_done, takes_at, left_at, done_at, most_at, drive_step}
 use Rattle.cpg_cluster.proofs.cluster.Cluster.drive.Goals as goal
 
@@ -74,3 +75,6 @@ returns-clause-driven c =
     let v = c.self-in-loop-self.invariant in
     driving_done c.args.self.now.graph c.args.self.now.world c.args.number c.args.self.now.cluster c.loop-self.self.cluster c.loop-self.drawn c.loop-self.waits c.loop-self.invariant.driving
     (subst (λ (g : Graph). AllDone g c.loop-self.self.cluster) (ap (λ (p : Playing). p.graph) c.loop-self.invariant.same) (done_at n.problem (record { scenario = n.scenario; lengths = n.lengths }) n.members.items c.loop-self.self c.self-in-loop-self.view_is v.playing (sym (c.loop-self-test.ensures.left ∙ ap (list_any (λ (m : Member). is_some (next m.node.dispatcher))) c.as_slice.ensures.value))))
+
+pub returns-clause-whole : goal.returns-clause-whole
+returns-clause-whole c = whole_play c.args.self.now c.loop-self.self c.loop-self.invariant.same (subst IsPlaying c.self-in-loop-self.view_is c.self-in-loop-self.invariant.playing) (returns-clause-driven c).done

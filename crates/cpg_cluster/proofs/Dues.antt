@@ -16,11 +16,12 @@ use Rattle.cpg_base.proofs.Sorted.{inserted, sorted, permutation_sorted}
 use Rattle.cpg_order.specs.Scenario.{Scenario}
 use Rattle.cpg_node.specs.Dispatcher.{Act, Ended}
 use Rattle.cpg_cluster.specs.Cluster.{Cluster, Done, answer}
-use Rattle.cpg_cluster.specs.Correct.{IsDue, FollowsDue, AreDueEnds, IsOrderly, IsStartAct, IsSendAct, all_asked, asked_of, due_key, end_key, ends_asked, gives_input}
+use Rattle.cpg_cluster.specs.Correct.{IsCorrect, IsDue, FollowsDue, AreDueEnds, IsOrderly, IsStartAct, IsSendAct, all_asked, asked_of, due_key, end_key, ends_asked, gives_input}
 use Rattle.cpg_cluster.specs.Driving.{AllDone}
 use Rattle.cpg_cluster.specs.Playing.{Playing, IsPlaying}
-use Rattle.cpg_app.specs.Plays.{IsWholePlay, all_acts}
-use Rattle.cpg_app.proofs.Safe.{valid_are_safe}
+use Rattle.cpg_cluster.specs.Whole.{IsWholePlay, all_acts}
+use Rattle.cpg_cluster.proofs.Plays.{valid_tables_are_correct}
+use Rattle.cpg_cluster.proofs.Ends.{valid_tables_end_as_planned}
 
 -- ---- a sort by keys
 
@@ -102,15 +103,18 @@ module _ (p : Playing) (playing : IsPlaying p) (done : AllDone p.graph p.cluster
   planned : (node : ℕ) → AreDueEnds p.graph p.tables p.world.scenario node (ends_due node)
   planned node = record { all = permutation_sorted (precedes end_key) (ends_asked p.graph p.tables p.world.scenario node); in_order = in_order_sorted end_key (ends_asked p.graph p.tables p.world.scenario node) }
 
+  correct : IsCorrect p.graph p.tables
+  correct = valid_tables_are_correct p.graph p.tables playing.formed playing.shape playing.valid
+
   follows : FollowsDue p.graph p.tables p.world.scenario p.cluster
-  follows = subst (FollowsDue p.graph p.tables p.world.scenario) playing.played.is ((valid_are_safe p.graph playing.formed p.tables playing.shape playing.valid).correct.plays p.world playing.played.turns playing.world)
+  follows = subst (FollowsDue p.graph p.tables p.world.scenario) playing.played.is (correct.plays p.world playing.played.turns playing.world)
 
   acts_done : (node : ℕ) → node < length p.graph.nodes → IsDue p.graph p.tables p.world.scenario node (get_or p.cluster.acts node [])
   acts_done node l = subst (IsDue p.graph p.tables p.world.scenario node) (sym (follows.whole node (acts_due node) l (due node) (done node l))) (due node)
 
   ends_done : (node : ℕ) → node < length p.graph.nodes → AreDueEnds p.graph p.tables p.world.scenario node (get_or p.cluster.ends node [])
   ends_done node l =
-      let whole = (valid_are_safe p.graph playing.formed p.tables playing.shape playing.valid).planned.whole p.world playing.played.turns node (ends_due node) playing.world l (planned node) in
+      let whole = (valid_tables_end_as_planned p.graph p.tables playing.formed playing.shape playing.valid).whole p.world playing.played.turns node (ends_due node) playing.world l (planned node) in
       let ended = subst (λ (c : Cluster). answer p.graph c node ≡ Done → get_or c.ends node [] ≡ ends_due node) playing.played.is whole in
       subst (AreDueEnds p.graph p.tables p.world.scenario node) (sym (ended (done node l))) (planned node)
 
@@ -122,7 +126,7 @@ module _ (p : Playing) (playing : IsPlaying p) (done : AllDone p.graph p.cluster
     orderly = orderly_permuted p.graph p.world.scenario (all_asked p.graph p.tables p.world.scenario) (all_acts p.graph p.cluster)
         (pieces_permuted (asked_of p.tables p.world.scenario) (λ node. get_or p.cluster.acts node []) (numbers_below (length p.graph.nodes))
         (λ node m. (acts_done node (numbers-Contains (length p.graph.nodes) node m)).all))
-        ((valid_are_safe p.graph playing.formed p.tables playing.shape playing.valid).correct.orderly p.world.scenario playing.world.scenario);
+        (correct.orderly p.world.scenario playing.world.scenario);
   }
 
 -- nothing but the state changes in a play
