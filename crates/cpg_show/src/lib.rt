@@ -13,4 +13,4 @@ mod trace;
 
 pub use node::node_text;
 pub use table::table_text;
-pub use trace::trace_text;
+pub use trace::{finish, trace_text};

@@ -146,8 +146,8 @@ fn last_of(time: u64, ends: &[(u64, Ended)]) -> u64
     last
 }
 
-/// The greatest end, and 0 where there is none.
-fn finish(problem: &Problem, cluster: &Cluster) -> u64
+/// The greatest of the ends that all nodes have come to, in time units, and 0 where there is none.
+pub fn finish(problem: &Problem, cluster: &Cluster) -> u64
     requires { cluster.now.graph ≡ problem.now }
     ensures { result ≡ finish_of problem.now cluster.now.cluster.ends }
 {
