@@ -1,0 +1,3 @@
+mod Finishes
+mod Figures
+mod Values
