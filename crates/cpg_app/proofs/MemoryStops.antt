@@ -20,7 +20,7 @@ memory_command seen (Compile graph) = memory_graph seen (seen.stands graph) IsUn
 memory_command seen (Check graph pack) = memory_graph seen (seen.stands graph) (λ a. StopsTables seen (seen.stands pack) (StopsVerdict a))
 memory_command seen (Play graph pack scenario turns) = memory_graph seen (seen.stands graph) (λ a. StopsTables seen (seen.stands pack) (StopsPlay seen (seen.stands scenario) a))
 memory_command seen (Node pack name) = inl (inr (inr (record { fault = PackFault.OutOfMemory; halt_is = refl; shows = tt })))
-memory_command seen (Trial number) = inr refl
+memory_command seen (Trial number) = refl
 memory_command seen (Live pack name stream) = inr refl
 memory_command seen (Hyper parts) = inl (inr refl)
 memory_command seen (Tune graph) = memory_graph seen (seen.stands graph) (λ _. IsUnbuilt)

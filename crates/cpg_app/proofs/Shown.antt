@@ -1,21 +1,22 @@
 -- A run that ends by its output or by a reason to stop keeps what each status says.
-use Rattle.std.proofs.Common.{ℕ, ◌≡◌, ◌≢◌, ◌∙◌, Option, Some, None, sym, subst, arith, inl, inr}
+use Rattle.std.proofs.Common.{ℕ, ◌≡◌, ◌≢◌, ◌∙◌, Option, Some, None, sym, ap, subst, arith, inl, inr}
 use Rattle.std.specs.Prelude.{◌⊎◌}
 use Rattle.std.proofs.lemmas.Option.{none-some}
 use Rattle.cpg_io.specs.Causes.{Rose}
 use Rattle.cpg_words.specs.Parts.{Text}
 use Rattle.cpg_words.specs.Forms.{command_of}
 use Rattle.cpg_words.specs.declared.command.Command.{Command}
+use Rattle.cpg_words.specs.declared.command.Command.TheVariants.{Trial}
 use Rattle.cpg_base.specs.Graph.{Graph}
 use Rattle.cpg_base.specs.Scenario.{Scenario}
 use Rattle.cpg_core.specs.declared.compiling.Compiled.{Compiled}
 use Rattle.cpg_rules.specs.Admission.{Admission}
-use Rattle.cpg_reach.specs.Wide.{IsNarrow, IsWide}
+use Rattle.cpg_reach.specs.Wide.{IsWide}
 use Rattle.cpg_core.specs.Compiled.{IsTimely, IsLate}
 use Rattle.cpg_core.proofs.CompiledLaws.{not_timely_and_late}
 use Rattle.cpg_app.specs.declared.halt.Refusal.{Refusal}
 use Rattle.cpg_app.specs.declared.halt.Halt.{Halt}
-use Rattle.cpg_app.specs.declared.halt.Halt.TheVariants.{Refused, Late, TooWide, Unsafe}
+use Rattle.cpg_app.specs.declared.halt.Halt.TheVariants.{Refused, Late, TooWide, Unsafe, Memory}
 use Rattle.cpg_app.specs.Lines.{status_of}
 use Rattle.cpg_app.specs.Causes.{Seen, Stops, StopsAsked, StopsGraph, IsUncompiled, first_named}
 use Rattle.cpg_app.specs.Outputs.{Prints, PrintsAsked, IsMade, shown, packed}
@@ -112,6 +113,7 @@ module _ (r : Ran) where
       broken = λ a t asks head broken. absurd (broken (with_check a t asks).1);
       named = λ t name node asks named. with_safe asks.faultless;
       nameless = with_nameless;
+      tried = λ number asks. elim with_status [ inl zero ↦ inl zero | inr three ↦ inr (inl three) ];
     }
 
   -- ---- without
@@ -235,6 +237,12 @@ module _ (r : Ran) where
       | inr unknown ↦ absurd (none-some node (sym unknown.1 ∙ named))
     ]
 
+    by_tried : (number : ℕ) → command_of r.words ≡ Some (Trial number) → (r.status ≡ 0) ⊎ ((r.status ≡ 3) ⊎ (r.status ≡ 8))
+    by_tried number asks = elim by.ending [
+      | inl told ↦ let memory : halt ≡ Memory = subst (λ c. StopsAsked r.shelf c halt) asks by.stops in inr (inr (told.status ∙ ap status_of memory))
+      | inr muted ↦ inr (inl muted.status)
+    ]
+
     pub lawful_by : IsLawful r
     lawful_by = record {
       ends = inr (halt, by);
@@ -256,4 +264,5 @@ module _ (r : Ran) where
       broken = by_broken;
       named = by_named;
       nameless = by_nameless;
+      tried = by_tried;
     }

@@ -5,7 +5,7 @@ use Rattle.cpg_base.specs.Graph.{Graph}
 use Rattle.cpg_words.specs.Parts.{Text}
 use Rattle.cpg_words.specs.Forms.{command_of}
 use Rattle.cpg_words.specs.declared.command.Command.{Command}
-use Rattle.cpg_words.specs.declared.command.Command.TheVariants.{Show, Compile, Check, Play, Node}
+use Rattle.cpg_words.specs.declared.command.Command.TheVariants.{Show, Compile, Check, Play, Node, Trial}
 use Rattle.cpg_reader.specs.Document.{problem_of}
 use Rattle.cpg_rules.specs.Admission.{Admission, IsAdmitted}
 use Rattle.cpg_base.specs.Scenario.{Scenario}
@@ -122,3 +122,5 @@ pub record IsLawful (r : Ran) : Type 0 where
   -- the table of the first node of a name is printed, and a name that no node has is refused, but for want of memory
   pub named : (t : Tables) (name : Text) (node : ℕ) → AsksNode r t name → first_named t.head name ≡ Some node → (r.status ≡ 0) ⊎ (r.status ≡ 8)
   pub nameless : (t : Tables) (name : Text) → AsksNode r t name → first_named t.head name ≡ None → (r.status ≡ 4) ⊎ (r.status ≡ 8)
+  -- a trial of a number writes its figures, but for a fault of a sink and want of memory
+  pub tried : (number : ℕ) → command_of r.words ≡ Some (Trial number) → (r.status ≡ 0) ⊎ ((r.status ≡ 3) ⊎ (r.status ≡ 8))

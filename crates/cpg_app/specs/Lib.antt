@@ -3,6 +3,7 @@ pub mod Lines
 pub mod Causes
 pub mod Told
 pub mod Plays
+pub mod Trials
 pub mod Outputs
 pub mod Endings
 pub mod Lawful

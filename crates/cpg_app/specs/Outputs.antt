@@ -17,6 +17,8 @@ use Rattle.cpg_core.specs.declared.compiling.Compiled.{Compiled}
 use Rattle.cpg_core.specs.Compilation.{IsCompilation}
 use Rattle.cpg_cluster.specs.Correct.{IsCorrect, IsLively, IsSteady, EndsAsPlanned}
 use Rattle.cpg_show.specs.TableText.{table_text}
+use Rattle.cpg_trial.specs.declared.trials.Trial.{Trial as Figures}
+use Rattle.cpg_trial.specs.Trial.{IsTrial}
 use Rattle.cpg_show.specs.NodeText.{node_text}
 use Rattle.cpg_table.specs.GraphHead.{head_of}
 use Rattle.cpg_table.specs.Lawful.{Tables}
@@ -29,6 +31,7 @@ use Rattle.cpg_scenario.specs.declared.reading.Played.{Played}
 use Rattle.cpg_app.specs.declared.reading.TheConstants.{PACK_LIMIT}
 use Rattle.cpg_app.specs.Knowledge.{KnowLocally}
 use Rattle.cpg_app.specs.Plays.{world_of, IsPlayText}
+use Rattle.cpg_app.specs.Trials.{trial_text}
 use Rattle.cpg_app.specs.Causes.{Seen, Admits, AreSaid, SaysPlayed, Spells, first_named}
 
 -- Tables that keep the ten rules, and what follows for the nodes that have them: in every scenario, with all lengths of
@@ -120,6 +123,14 @@ IsUnrolledText parts text = (g : Graph) × ShowsUnrolled parts (Ok g) × (proble
 abbrev pub IsUnrolledOf : (Text → Option Text) → List Pair → Text → Type 0
 IsUnrolledOf stands pairs text = (parts : List Part) × AreSaid stands pairs parts × IsUnrolledText parts text
 
+-- The text is that of the figures of a trial. The tables of its graph are safe, and know no more than a node may.
+pub record IsTrialText (number : ℕ) (text : Text) : Type 0 where
+  pub trial : Figures
+  pub is : IsTrial number trial
+  pub safe : AreSafe is.admission.graph is.compiled.built.tables.nodes
+  pub local : KnowLocally is.admission.graph is.compiled.built.tables.nodes
+  pub spelled : text ≡ trial_text number trial
+
 -- a command's output
 abbrev pub PrintsCommand : Seen → Command → Text → Type 0
 PrintsCommand seen (Show graph) text = IsMade (seen.stands graph) shown text
@@ -127,7 +138,7 @@ PrintsCommand seen (Compile graph) text = IsMade (seen.stands graph) packed text
 PrintsCommand seen (Check graph pack) text = IsChecked (seen.stands graph) (seen.stands pack) text
 PrintsCommand seen (Play graph pack scenario turns) text = IsPlayOf (seen.stands graph) (seen.stands pack) (seen.stands scenario) turns text
 PrintsCommand seen (Node pack name) text = IsNodeOf (seen.stands pack) name text
-PrintsCommand seen (Trial number) text = ⊥
+PrintsCommand seen (Trial number) text = IsTrialText number text
 PrintsCommand seen (Live pack name stream) text = ⊥
 PrintsCommand seen (Hyper parts) text = IsUnrolledOf seen.stands parts text
 PrintsCommand seen (Tune graph) text = ⊥

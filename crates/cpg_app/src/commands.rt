@@ -13,6 +13,7 @@ use crate::output::Output;
 use crate::periods::hyper;
 use crate::playing::play_text;
 use crate::reading::{admit_graph, read_graph, read_played, read_tables};
+use crate::trials::trial;
 use cpg_base::Name;
 use cpg_check::{Verdict, check};
 use cpg_codec::tables_are_lawful;
@@ -312,6 +313,7 @@ fn command_output<S: Shelf>(alloc: Global, shelf: &mut S, command: &Command) -> 
             *turns,
         ),
         Command::Node { pack, name } => node(alloc, shelf, pack.as_str(), name.as_str()),
+        Command::Trial { number } => trial(alloc, *number),
         Command::Hyper { parts } => hyper(alloc, shelf, parts.as_slice()),
         Command::Tune { graph } => Err(admit_only(alloc, shelf, graph.as_str())),
         _ => Err(Halt::Refused(Refusal::NotBuilt)),

@@ -13,6 +13,7 @@ mod playing;
 mod reading;
 mod refusals;
 mod top;
+mod trials;
 
 pub use top::{run, run_without_words};
 
