@@ -1,0 +1,105 @@
+-- What other parts and another fault number leave as it was.
+use Rattle.std.proofs.Common.{ℕ, zero, suc, ◌+◌, ◌<◌, ◌≤◌, ◌≡◌, ◌⊎◌, List, [], ◌∷◌, ◌++◌, length, get_or, take, filter, All, refl, sym, ap, ap₂, ◌∙◌, subst, inl, inr, arith, append-nil}
+use Rattle.std.proofs.lemmas.List.{length-map, get_or-map, get_or_default, take_more}
+use Rattle.std.proofs.lemmas.List.Elements.{All-map}
+use Rattle.cpg_base.specs.declared.process.Process.{Process}
+use Rattle.cpg_base.specs.Numbers.{numbers_below}
+use Rattle.cpg_base.specs.Graph.{Graph, process_count, condition_count, process_at, disjunctions, is_disjunction}
+use Rattle.cpg_base.specs.Limits.{IsWithinLimits, IsProcessWithin, IsEdgeWithin}
+use Rattle.cpg_base.specs.declared.limits.TheConstants.{MOST_FAULTS, MOST_PARTS}
+use Rattle.cpg_base.specs.Duration.{duration_of, duration}
+use Rattle.cpg_tune.specs.Best.{in_parts, duration_in, best_of, best_parts}
+use Rattle.cpg_tune.specs.Asked.{row_graph}
+use Rattle.cpg_tune.specs.Retuned.{in_parts_each, retuned, ArePartsOf}
+use Rattle.cpg_tune.proofs.Fewest.{best_is_best}
+
+pub each_long : (ps : List Process) (parts : List ℕ) → length parts ≡ length ps → length (in_parts_each ps parts) ≡ length ps
+each_long [] parts e = refl
+each_long (p ∷ ps) [] e = absurd (omega (arith, e))
+each_long (p ∷ ps) (n ∷ parts) e = ap suc (each_long ps parts (omega (arith, e)))
+
+pub each_at : (ps : List Process) (parts : List ℕ) (i : ℕ) (d : Process) → length parts ≡ length ps → i < length ps → get_or (in_parts_each ps parts) i d ≡ in_parts (get_or ps i d) (get_or parts i 0)
+each_at [] parts i d e l = absurd (omega (arith, l))
+each_at (p ∷ ps) [] i d e l = absurd (omega (arith, e))
+each_at (p ∷ ps) (n ∷ parts) zero d e l = refl
+each_at (p ∷ ps) (n ∷ parts) (suc i) d e l = each_at ps parts i d (omega (arith, e)) (omega (arith, l))
+
+-- where one of the lists is used up
+pub each_done : (ps : List Process) (parts : List ℕ) → (ps ≡ []) ⊎ (parts ≡ []) → in_parts_each ps parts ≡ []
+each_done [] parts e = refl
+each_done (p ∷ ps) [] e = refl
+each_done (p ∷ ps) (n ∷ parts) (inl e) = absurd (let l = ap length e in omega (arith, l))
+each_done (p ∷ ps) (n ∷ parts) (inr e) = absurd (let l = ap length e in omega (arith, l))
+
+pub each_whole : (ps : List Process) (parts : List ℕ) (whole copies : List Process) → whole ≡ copies ++ in_parts_each ps parts → (ps ≡ []) ⊎ (parts ≡ []) → copies ≡ whole
+each_whole ps parts whole copies h e = sym (h ∙ ap (λ zs. copies ++ zs) (each_done ps parts e) ∙ append-nil copies)
+
+module _ (g : Graph) (parts : List ℕ) (faults : ℕ) (one_each : length parts ≡ process_count g) where
+  pub count_same : process_count (retuned g parts faults) ≡ process_count g
+  count_same = each_long g.processes parts one_each
+
+  pub disjunctions_same : disjunctions (retuned g parts faults) ≡ disjunctions g
+  disjunctions_same = ap (λ n. filter (is_disjunction g) (numbers_below n)) count_same
+
+  pub conditions_same : condition_count (retuned g parts faults) ≡ condition_count g
+  conditions_same = ap length disjunctions_same
+
+-- the graph stays within the limits
+pub retuned_within : (g : Graph) (parts : List ℕ) (faults : ℕ) → IsWithinLimits g → ArePartsOf g parts → faults ≤ MOST_FAULTS → IsWithinLimits (retuned g parts faults)
+retuned_within g parts faults w a few = record {
+  faults = few;
+  deadline = w.deadline;
+  few_nodes = w.few_nodes;
+  few_slots = w.few_slots;
+  few_processes = subst (λ n. n ≤ 128) (sym (count_same g parts faults a.one_each)) w.few_processes;
+  few_edges = w.few_edges;
+  few_conditions = subst (λ n. n ≤ 32) (sym (conditions_same g parts faults a.one_each)) w.few_conditions;
+  slots = w.slots;
+  processes = λ i d l. (let within : i < length g.processes = subst (λ n. i < n) (count_same g parts faults a.one_each) l in subst (IsProcessWithin (length g.nodes)) (sym (each_at g.processes parts i d a.one_each within)) (process_within i d within));
+  edges = subst (λ n. All (IsEdgeWithin n) g.edges) (sym (count_same g parts faults a.one_each)) w.edges;
+  node_names = w.node_names;
+  process_names = λ i j d before l. (let within : j < length g.processes = subst (λ n. j < n) (count_same g parts faults a.one_each) l in λ same. w.process_names i j d before within (sym (name_at i d (omega (arith, before, within))) ∙ (same ∙ name_at j d within)));
+  own_slots = w.own_slots;
+}
+  where
+    process_within : (i : ℕ) (d : Process) → i < length g.processes → IsProcessWithin (length g.nodes) (in_parts (get_or g.processes i d) (get_or parts i 0))
+    process_within i d l = let h = w.processes i d l in
+        record { node = h.node; works = h.works; wcet = h.wcet; divided = a.divided i 0 (omega (arith, l, a.one_each)); parts = a.few i 0 (omega (arith, l, a.one_each)); alpha = h.alpha; chi = h.chi; mu = h.mu; release = h.release; deadline = h.deadline }
+
+    name_at : (i : ℕ) (d : Process) → i < length g.processes → (get_or (in_parts_each g.processes parts) i d).name ≡ (get_or g.processes i d).name
+    name_at i d l = ap (λ (p : Process). p.name) (each_at g.processes parts i d a.one_each l)
+
+-- the best parts are from 1 to 255
+pub best_parts_of : (g : Graph) → ArePartsOf g (best_parts g)
+best_parts_of g = record {
+  one_each = length-map g.processes (λ (p : Process). best_of p g.faults);
+  divided = All-map (λ n. 1 ≤ n) (λ (p : Process). best_of p g.faults) g.processes (λ i d l. (best_is_best (get_or g.processes i d) g.faults).some);
+  few = All-map (λ n. n ≤ MOST_PARTS) (λ (p : Process). best_of p g.faults) g.processes (λ i d l. (best_is_best (get_or g.processes i d) g.faults).few);
+}
+
+-- the best parts of a process
+best_at : (g : Graph) (p d : ℕ) → p < process_count g → get_or (best_parts g) p d ≡ best_of (process_at g p) g.faults
+best_at g p d l =
+    let f : Process → ℕ = λ q. best_of q g.faults in
+    get_or-map f g.processes p (process_at g p) d l ∙ ap f (get_or_default g.processes p _ _ l)
+
+-- one more of the best parts
+pub best_parts_push : (g : Graph) (p best : ℕ) (parts : List ℕ) → p < process_count g → parts ≡ take p (best_parts g) → best ≡ best_of (process_at g p) g.faults → parts ++ best ∷ [] ≡ take (p + 1) (best_parts g)
+best_parts_push g p best parts l is e =
+    let long = length-map g.processes (λ (q : Process). best_of q g.faults) in
+    ap₂ (λ xs x. xs ++ x ∷ []) is (e ∙ sym (best_at g p 0 l)) ∙ sym (take_more (best_parts g) p 0 (omega (arith, l, long)))
+
+-- how long a process lasts in the parts at its place
+duration_at : (g : Graph) (parts : List ℕ) → ArePartsOf g parts → (faults p f : ℕ) → p < process_count g → duration (retuned g parts faults) p f ≡ duration_in (process_at g p) f (get_or parts p 0)
+duration_at g parts a faults p f l = ap (λ (q : Process). duration_of q f) (each_at g.processes parts p _ a.one_each l)
+
+pub tuned_least : (g : Graph) (parts : List ℕ) → ArePartsOf g parts → (p : ℕ) → p < process_count g → duration (row_graph g g.faults) p g.faults ≤ duration (retuned g parts g.faults) p g.faults
+tuned_least g parts a p l =
+    let q = process_at g p in
+    let best = best_is_best q g.faults in
+    let within : p < length parts = omega (arith, l, a.one_each) in
+    let least = best.least (get_or parts p 0) (a.divided p 0 within) (a.few p 0 within) in
+    let there : get_or (best_parts g) p 0 ≡ best_of q g.faults = best_at g p 0 l in
+    let tuned = duration_at g (best_parts g) (best_parts_of g) g.faults p g.faults l ∙ ap (duration_in q g.faults) there in
+    let other = duration_at g parts a g.faults p g.faults l in
+    omega (arith, least, tuned, other)

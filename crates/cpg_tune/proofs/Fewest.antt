@@ -1,0 +1,103 @@
+-- The first number of parts that lasts least.
+use Rattle.std.proofs.Common.{ℕ, zero, suc, ◌+◌, ◌-◌, ◌<◌, ◌≤◌, ◌≡◌, ◌⊎◌, Bool, true, false, cond, [], ◌∷◌, ◌++◌, fold, refl, sym, ap, ◌∙◌, subst, inl, inr, arith, ltb-true, le-ltb}
+use Rattle.std.specs.Prelude.{nat_lt}
+use Rattle.std.specs.List.{range_with_len}
+use Rattle.std.proofs.lemmas.Bool.{cases_lt, ltb-false, lt-ltb}
+use Rattle.std.proofs.lemmas.List.{map-id}
+use Rattle.std.proofs.lemmas.List.FromFn.{map-range_with_len_more}
+use Rattle.std.proofs.lemmas.List.Sums.{fold_push}
+use Rattle.cpg_base.specs.declared.limits.TheConstants.{MOST_PARTS}
+use Rattle.cpg_base.specs.declared.process.Process.{Process}
+use Rattle.cpg_tune.specs.Best.{duration_in, shorter, best_of, IsBest}
+
+-- one more number at the end of a range
+range_push : (a n j : ℕ) → a + n ≡ j → range_with_len a (n + 1) ≡ range_with_len a n ++ j ∷ []
+range_push a n j e =
+    sym (map-id (range_with_len a (n + 1))) ∙ (map-range_with_len_more (λ x. x) a n j e ∙ ap (λ xs. xs ++ j ∷ []) (map-id (range_with_len a n)))
+
+-- the first of 1 to n where a function is least
+record IsFirstLeast (d : ℕ → ℕ) (n best : ℕ) : Type 0 where
+  some : 1 ≤ best
+  few : best ≤ n
+  least : (m : ℕ) → 1 ≤ m → m ≤ n → d best ≤ d m
+  first : (m : ℕ) → 1 ≤ m → m < best → d best < d m
+
+first_next : (d : ℕ → ℕ) (n best : ℕ) → IsFirstLeast d n best → IsFirstLeast d (n + 1) (cond (nat_lt (d (n + 1)) (d best)) (n + 1) best)
+first_next d n best h = go (nat_lt (d (n + 1)) (d best)) refl
+  where
+    or_last : (m : ℕ) → m ≤ n + 1 → (m ≤ n) ⊎ (m ≡ n + 1)
+    or_last m l = elim (cases_lt n m) [ inl a ↦ inr (omega (arith, a, l)) | inr b ↦ inl b ]
+
+    go : (b : Bool) → nat_lt (d (n + 1)) (d best) ≡ b → IsFirstLeast d (n + 1) (cond b (n + 1) best)
+    go true t =
+        let less = ltb-true (d (n + 1)) (d best) t in
+        record {
+          some = omega arith;
+          few = omega arith;
+          least = λ m some l. elim (or_last m l) [ inl k ↦ (let old = h.least m some k in omega (arith, old, less)) | inr e ↦ (let same = ap d e in omega (arith, same)) ];
+          first = λ m some l. (let old = h.least m some (omega (arith, l)) in omega (arith, old, less));
+        }
+    go false f =
+        let no_less = ltb-false (d (n + 1)) (d best) f in
+        record {
+          some = h.some;
+          few = (let old = h.few in omega (arith, old));
+          least = λ m some l. elim (or_last m l) [ inl k ↦ h.least m some k | inr e ↦ (let same = ap d e in omega (arith, same, no_less)) ];
+          first = h.first;
+        }
+
+same_either : (b : Bool) (x : ℕ) → cond b x x ≡ x
+same_either true x = refl
+same_either false x = refl
+
+one_first : (d : ℕ → ℕ) → IsFirstLeast d 1 1
+one_first d = record {
+  some = omega arith;
+  few = omega arith;
+  least = λ m some l. (let same = ap d (let e : m ≡ 1 = omega (arith, some, l) in e) in omega (arith, same));
+  first = λ m some l. absurd (omega (arith, some, l));
+}
+
+module _ (p : Process) (faults : ℕ) where
+  -- the first of 1 to n that lasts least
+  abbrev pub fewest : ℕ → ℕ
+  fewest n = fold (shorter p faults) 1 (range_with_len 1 n)
+
+  -- the last number of parts is compared last
+  pub fewest_next : (n m : ℕ) → m ≡ n + 1 → fewest m ≡ shorter p faults (fewest n) m
+  fewest_next n m e =
+      ap fewest e ∙ (ap (λ xs. fold (shorter p faults) 1 xs) (range_push 1 n m (omega (arith, e)))
+      ∙ fold_push (shorter p faults) 1 (range_with_len 1 n) m)
+
+  fewest_first : (n m : ℕ) → m ≡ n + 1 → IsFirstLeast (duration_in p faults) m (fewest m)
+  fewest_first zero m e =
+      subst (λ k. IsFirstLeast (duration_in p faults) k (fewest k)) (sym e)
+      (subst (λ b. IsFirstLeast (duration_in p faults) 1 b) (sym (same_either (nat_lt (duration_in p faults 1) (duration_in p faults 1)) 1)) (one_first (duration_in p faults)))
+  fewest_first (suc n) m e =
+      subst (λ k. IsFirstLeast (duration_in p faults) k (fewest k)) (sym e)
+      (subst (λ b. IsFirstLeast (duration_in p faults) (suc n + 1) b) (sym (fewest_next (suc n) (suc n + 1) refl))
+      (first_next (duration_in p faults) (suc n) (fewest (suc n)) (fewest_first n (suc n) (omega arith))))
+
+  pub best_is_best : IsBest p faults (best_of p faults)
+  unfolding best_of
+  best_is_best = let h = fewest_first 254 255 refl in record { some = h.some; few = h.few; least = h.least; first = h.first }
+
+  pub best_is_fewest : (n : ℕ) → n ≡ MOST_PARTS → fewest n ≡ best_of p faults
+  unfolding best_of
+  best_is_fewest n e = ap fewest e
+
+  -- one more number of parts, which lasts less than the best so far, or doesn't
+  module _ (best parts : ℕ) (some : 1 ≤ parts) (is : best ≡ fewest (parts - 1)) where
+    next_is : fewest parts ≡ shorter p faults best parts
+    next_is = fewest_next (parts - 1) parts (omega (arith, some)) ∙ ap (λ b. shorter p faults b parts) (sym is)
+
+    again : fewest parts ≡ fewest (parts + 1 - 1)
+    again = let e : parts ≡ parts + 1 - 1 = omega arith in ap fewest e
+
+    pub takes_next : duration_in p faults parts < duration_in p faults best → parts ≡ fewest (parts + 1 - 1)
+    takes_next less =
+        sym (next_is ∙ ap (λ b. cond b parts best) (lt-ltb (duration_in p faults parts) (duration_in p faults best) less)) ∙ again
+
+    pub keeps_best : duration_in p faults best ≤ duration_in p faults parts → best ≡ fewest (parts + 1 - 1)
+    keeps_best no_less =
+        sym (next_is ∙ ap (λ b. cond b parts best) (le-ltb (duration_in p faults parts) (duration_in p faults best) no_less)) ∙ again

@@ -1,0 +1,24 @@
+use Rattle.std.proofs.Common.{rules, ◌∙◌, ◌-◌, sym, ap, arith}
+use Rattle.cpg_tune.specs.Best.{duration_in}
+use Rattle.cpg_tune.proofs.Fewest.{takes_next, keeps_best, best_is_fewest}
+use Rattle.cpg_tune.proofs.best.best_of.Goals as goal
+use Rattle.cpg_tune.proofs.best.best_of.Goals.{then-duration-least, else-duration-least}
+
+pub loop-parts-preserved : goal.loop-parts-preserved
+loop-parts-preserved c =
+    let some = c.loop-parts.auto.parts in
+    let lasts = c.loop-parts.invariant.least in
+    let next = c.duration_in-duration.ensures in
+    elim c.if-duration-least.branch [
+      | then-duration-least w ↦ record {
+        best = w.best-is ∙ takes_next c.args.process.now c.args.faults c.loop-parts.best c.loop-parts.parts some c.loop-parts.invariant.best (omega (arith, w.if-duration-least, lasts, next));
+        least = w.least-is ∙ (next ∙ ap (duration_in c.args.process.now c.args.faults) (sym w.best-is));
+      }
+      | else-duration-least w ↦ record {
+        best = w.best-is ∙ keeps_best c.args.process.now c.args.faults c.loop-parts.best c.loop-parts.parts some c.loop-parts.invariant.best (omega (arith, w.if-duration-least, lasts, next));
+        least = w.least-is ∙ (lasts ∙ ap (duration_in c.args.process.now c.args.faults) (sym w.best-is));
+      }
+    ]
+
+pub returns : goal.returns
+returns c = c.loop-parts.invariant.best ∙ best_is_fewest c.args.process.now c.args.faults (c.loop-parts.parts - 1) (search rules)

@@ -1,0 +1,10 @@
+use Rattle.std.proofs.Common.{◌≡◌, ◌-◌, fold}
+use Rattle.std.specs.List.{range_with_len}
+use Rattle.cpg_tune.specs.Best.{duration_in, shorter}
+use Rattle.cpg_tune.proofs.best.best_of.Given as goal
+
+abbrev pub invariant-loop-parts : goal.invariant-loop-parts
+invariant-loop-parts l = record {
+  best : l.best ≡ fold (shorter l.process l.faults) 1 (range_with_len 1 (l.parts - 1));
+  least : l.least ≡ duration_in l.process l.faults l.best;
+}

@@ -1,0 +1,8 @@
+use Rattle.std.proofs.Common.{◌≡◌, ◌++◌}
+use Rattle.std.specs.Slice.Iter.{iter_rest}
+use Rattle.cpg_tune.specs.Retuned.{in_parts_each}
+use Rattle.cpg_tune.proofs.retuning.in_parts_each.Given as goal
+
+abbrev pub invariant-loop-process : goal.invariant-loop-process
+invariant-loop-process l =
+    in_parts_each l.fn.processes l.fn.parts ≡ l.copies.items ++ in_parts_each (iter_rest l.process-iterator.a) (iter_rest l.process-iterator.b)

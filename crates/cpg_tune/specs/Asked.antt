@@ -1,0 +1,23 @@
+-- What a judge is asked about a graph with its best parts: whether it is accepted, for each fault number.
+use Rattle.std.specs.Prelude.{ℕ, ◌≤◌, ◌↔◌}
+use Rattle.cpg_base.specs.declared.limits.TheConstants.{MOST_FAULTS}
+use Rattle.cpg_base.specs.Graph.{Graph}
+use Rattle.cpg_tune.specs.declared.judge.Judged.{Judged}
+use Rattle.cpg_tune.specs.Best.{best_parts}
+use Rattle.cpg_tune.specs.Retuned.{retuned}
+
+-- the graph of a row: with its best parts and a fault number
+abbrev pub row_graph : Graph → ℕ → Graph
+row_graph g faults = retuned g (best_parts g) faults
+
+-- the graph of each row may be asked
+abbrev pub MayAskRows : (Graph → Type 0) → Graph → Type 0
+MayAskRows may g = (faults : ℕ) → faults ≤ MOST_FAULTS → may (row_graph g faults)
+
+-- the same graphs may be asked
+abbrev pub SameLeave : (Graph → Type 0) → (Graph → Type 0) → Type 0
+SameLeave old new = (g : Graph) → old g ↔ new g
+
+-- each graph has the same answers
+abbrev pub SameAnswers : (Graph → Judged → Type 0) → (Graph → Judged → Type 0) → Type 0
+SameAnswers old new = (g : Graph) (judged : Judged) → old g judged ↔ new g judged

@@ -1,0 +1,5 @@
+pub mod Best
+pub mod Retuned
+pub mod Asked
+pub mod Tuned
+pub mod Laws

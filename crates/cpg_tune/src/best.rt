@@ -1,0 +1,48 @@
+//! The best number of parts.
+ghost use Rattle.std.specs.Prelude.{◌≡◌, ◌<◌, ◌≤◌, ◌^◌, ℕ};
+ghost use Rattle.cpg_base.specs.Graph.{process_count, process_at};
+ghost use Rattle.cpg_base.specs.Limits.{IsProcessWithin};
+ghost use Rattle.cpg_tune.specs.Best.{duration_in, best_of, IsBest};
+
+use cpg_base::{MOST_PARTS, Problem, Process};
+
+/// How long an execution in so many parts lasts with so many faults, in time units.
+fn duration_in(process: &Process, parts: u32, faults: u8) -> u64
+    requires within { (nodes : ℕ) × IsProcessWithin nodes process.now }
+    requires some { 1 ≤ parts }
+    requires few { parts ≤ MOST_PARTS }
+    requires faults { faults ≤ 8 }
+    ensures { result ≡ duration_in process.now faults parts }
+{
+    let checked = u64::from(parts) * (process.alpha + process.chi);
+    let again = process.mu + process.wcet.div_ceil(u64::from(parts)) + process.alpha;
+    process.wcet + checked + u64::from(faults) * again
+}
+
+/// The first of 1 to 255 parts in which an execution with so many faults lasts least.
+fn best_of(process: &Process, faults: u8) -> u32
+    requires within { (nodes : ℕ) × IsProcessWithin nodes process.now }
+    requires faults { faults ≤ 8 }
+    ensures { result ≡ best_of process.now faults }
+{
+    let mut best = 1;
+    let mut least = duration_in(process, best, faults);
+    for parts in 1..=MOST_PARTS {
+        let duration = duration_in(process, parts, faults);
+        if duration < least {
+            best = parts;
+            least = duration;
+        }
+    }
+    best
+}
+
+/// The best number of parts of a process: the least from 1 to 255 for which an execution with the greatest number of faults
+/// lasts least. It takes no memory.
+pub fn best_parts(problem: &Problem, process: u32) -> u32
+    requires { process < process_count problem.now }
+    ensures parts { result ≡ best_of (process_at problem.now process) problem.now.faults }
+    ensures best { IsBest (process_at problem.now process) problem.now.faults result }
+{
+    best_of(&problem.processes()[process as usize], problem.faults())
+}

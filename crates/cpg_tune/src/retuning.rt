@@ -1,0 +1,62 @@
+//! A graph with other numbers of parts and another fault number.
+ghost use Rattle.std.specs.Prelude.{◌≡◌, ◌≤◌, IfOk};
+ghost use Rattle.cpg_base.specs.declared.limits.TheConstants.{MOST_FAULTS};
+ghost use Rattle.cpg_tune.specs.Best.{in_parts};
+ghost use Rattle.cpg_tune.specs.Retuned.{retuned, in_parts_each, ArePartsOf};
+
+use cpg_base::{Name, OutOfMemory, Problem, Process};
+use std::alloc::Global;
+
+/// The process in another number of parts.
+fn in_parts(process: &Process, parts: u32) -> Result<Process, OutOfMemory>
+    ensures { IfOk result (λ copy. copy ≡ in_parts process.now parts) }
+{
+    let mut copy = process.copy()?;
+    copy.parts = parts;
+    Ok(copy)
+}
+
+/// Each process in the number of parts at its place.
+fn in_parts_each(
+    alloc: Global,
+    processes: &[Process],
+    parts: &[u32],
+) -> Result<Vec<Process>, OutOfMemory>
+    ensures { IfOk result (λ copies. copies.items ≡ in_parts_each processes.now parts.now) }
+{
+    let mut copies = Vec::new(alloc);
+    for (process, parts) in processes.iter().zip(parts) {
+        copies.push(in_parts(process, *parts)?)?;
+    }
+    Ok(copies)
+}
+
+fn copy_names(alloc: Global, names: &[Name]) -> Result<Vec<Name>, OutOfMemory>
+    ensures { IfOk result (λ copies. copies.items ≡ names.now) }
+{
+    let mut copies = Vec::new(alloc);
+    for name in names {
+        copies.push(name.copy()?)?;
+    }
+    Ok(copies)
+}
+
+/// The graph with another fault number, and each process in the number of parts at its place.
+pub fn retuned(
+    alloc: Global,
+    problem: &Problem,
+    parts: &[u32],
+    faults: u8,
+) -> Result<Problem, OutOfMemory>
+    requires parts { ArePartsOf problem.now parts.now }
+    requires faults { faults ≤ MOST_FAULTS }
+    ensures graph { IfOk result (λ made. made ≡ retuned problem.now parts.now faults) }
+{
+    let nodes = copy_names(alloc, problem.nodes())?;
+    let slots = Vec::from_slice(alloc, problem.slots())?;
+    let processes = in_parts_each(alloc, problem.processes(), parts)?;
+    let edges = Vec::from_slice(alloc, problem.edges())?;
+    let made = Problem::new(faults, problem.deadline(), nodes, slots, processes, edges);
+    let Some(made) = made else { unreachable!() };
+    Ok(made)
+}

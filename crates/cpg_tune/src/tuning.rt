@@ -1,0 +1,141 @@
+//! The tuning of a graph.
+ghost use Rattle.std.specs.Prelude.{◌≡◌, ◌≤◌, ◌+◌, IfOk, length};
+ghost use Rattle.cpg_tune.specs.Best.{best_parts};
+ghost use Rattle.cpg_tune.specs.Asked.{MayAskRows, SameLeave, SameAnswers, row_graph};
+ghost use Rattle.cpg_tune.specs.Tuned.{AreRows, IsTuning, is_accepted, tolerated, IsGreatestAccepted};
+
+use crate::{Judge, Judged, best_parts, retuned};
+use cpg_base::{MOST_FAULTS, OutOfMemory, Problem};
+use std::alloc::Global;
+use std::marker::Model;
+
+/// The best parts of a graph, and what a judge says of it with these parts, for each fault number from 0 to 8.
+#[derive(Drop)]
+pub struct Tuned {
+    parts: Vec<u32>,
+    rows: Vec<Judged>,
+    tolerates: Option<u8>,
+}
+
+impl Model for Tuned {
+    ghost use Rattle.cpg_tune.specs.Tuned.{Tuning, tolerated};
+    ghost use Rattle.std.specs.Prelude.{◌≡◌};
+
+    ghost Value = { Tuning };
+
+    ghost view = { λ t. record { parts = t.parts.items; rows = t.rows.items; tolerates = t.tolerates } };
+
+    ghost invariant = { λ t. t.tolerates ≡ tolerated t.rows.items };
+}
+
+/// Whether the graph was accepted.
+fn is_accepted(judged: Judged) -> bool
+    ensures { result ≡ is_accepted judged }
+{
+    matches!(judged, Judged::Worst(_))
+}
+
+/// The greatest fault number whose row is accepted.
+fn tolerated(rows: &[Judged]) -> Option<u8>
+    requires { length rows.now ≤ MOST_FAULTS + 1 }
+    ensures { result ≡ tolerated rows.now }
+{
+    let mut found = None;
+    for (faults, row) in rows.iter().enumerate() {
+        if is_accepted(*row) {
+            found = Some(faults as u8);
+        }
+    }
+    found
+}
+
+/// The best parts of each process.
+fn best_of_each(alloc: Global, problem: &Problem) -> Result<Vec<u32>, OutOfMemory>
+    ensures { IfOk result (λ parts. parts.items ≡ best_parts problem.now) }
+{
+    let mut parts = Vec::new(alloc);
+    for process in 0..problem.processes().len() as u32 {
+        parts.push(best_parts(problem, process))?;
+    }
+    Ok(parts)
+}
+
+/// What the judge says of the graph with its best parts and a fault number.
+fn judged<J: Judge>(
+    alloc: Global,
+    problem: &Problem,
+    parts: &[u32],
+    faults: u8,
+    judge: &mut J,
+) -> Result<Judged, OutOfMemory>
+    requires parts { parts.now ≡ best_parts problem.now }
+    requires faults { faults ≤ MOST_FAULTS }
+    requires may { J.may_ask judge.old (row_graph problem.now faults) }
+    ensures leave { SameLeave (J.may_ask judge.old) (J.may_ask judge.new) }
+    ensures same { SameAnswers (J.answers judge.old) (J.answers judge.new) }
+    ensures answer { IfOk result (J.answers judge.old (row_graph problem.now faults)) }
+{
+    let row = retuned(alloc, problem, parts, faults)?;
+    judge.judge(&row)
+}
+
+/// The judge's answers for the graph with its best parts, for each fault number from 0 to 8.
+fn rows_of<J: Judge>(
+    alloc: Global,
+    problem: &Problem,
+    parts: &[u32],
+    judge: &mut J,
+) -> Result<Vec<Judged>, OutOfMemory>
+    requires parts { parts.now ≡ best_parts problem.now }
+    requires may { MayAskRows (J.may_ask judge.old) problem.now }
+    ensures leave { SameLeave (J.may_ask judge.old) (J.may_ask judge.new) }
+    ensures same { SameAnswers (J.answers judge.old) (J.answers judge.new) }
+    ensures rows { IfOk result (λ rows. AreRows (J.answers judge.old) problem.now (MOST_FAULTS + 1) rows.items) }
+{
+    let mut rows = Vec::new(alloc);
+    for faults in 0..=MOST_FAULTS {
+        rows.push(judged(alloc, problem, parts, faults, judge)?)?;
+    }
+    Ok(rows)
+}
+
+/// The best parts of each process, and what the judge says of the graph with these parts, for each fault number from 0 to 8.
+pub fn tune<J: Judge>(alloc: Global, problem: &Problem, judge: &mut J) -> Result<Tuned, OutOfMemory>
+    requires { MayAskRows (J.may_ask judge.old) problem.now }
+    ensures leave { SameLeave (J.may_ask judge.old) (J.may_ask judge.new) }
+    ensures same { SameAnswers (J.answers judge.old) (J.answers judge.new) }
+    ensures tuned { IfOk result (IsTuning (J.answers judge.old) problem.now) }
+{
+    let parts = best_of_each(alloc, problem)?;
+    let rows = rows_of(alloc, problem, parts.as_slice(), judge)?;
+    let tolerates = tolerated(rows.as_slice());
+    Ok(Tuned {
+        parts,
+        rows,
+        tolerates,
+    })
+}
+
+impl Tuned {
+    /// The best number of parts of each process.
+    pub fn parts(&self) -> &[u32]
+        ensures { result.now ≡ self.now.parts }
+    {
+        self.parts.as_slice()
+    }
+
+    /// What the judge said, by fault number.
+    pub fn rows(&self) -> &[Judged]
+        ensures { result.now ≡ self.now.rows }
+    {
+        self.rows.as_slice()
+    }
+
+    /// The greatest fault number whose row is accepted, and `None` exactly where no row is.
+    pub fn tolerates(&self) -> Option<u8>
+        ensures tolerates { result ≡ self.now.tolerates }
+        ensures greatest { IsGreatestAccepted self.now.rows result }
+    {
+        self.tolerates
+    }
+}
