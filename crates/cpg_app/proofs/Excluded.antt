@@ -22,7 +22,7 @@ use Rattle.cpg_app.specs.declared.halt.Halt.{Halt}
 use Rattle.cpg_app.specs.Halts.{halt_of_reading, halt_of_rules, halt_of_compile}
 use Rattle.cpg_app.specs.Lines.{status_of}
 use Rattle.cpg_app.specs.declared.reading.TheConstants.{GRAPH_LIMIT}
-use Rattle.cpg_app.specs.Causes.{Seen, Says, Admits, StopsReading, BreaksRule, StopsGraph, IsUncompiled}
+use Rattle.cpg_app.specs.Causes.{Seen, Says, Admits, StopsReading, BreaksRule, StopsGraph, IsUncompiled, IsOutOfMemory}
 use Rattle.cpg_app.specs.Outputs.{IsMade}
 use Rattle.cpg_app.specs.Lawful.{AreAdmitted}
 
@@ -107,6 +107,12 @@ module _ (seen : Seen) (told : Option Text) (bytes : Text) (a : Admission) (tell
   graph_left h (inl (inl read)) = inl (reading_left h read)
   graph_left h (inl (inr breaks)) = inl (rules_left h breaks.0 breaks.1 breaks.2)
   graph_left h (inr worked) = let wrong = worked.2 in compile_left worked.0 worked.1 h wrong.fault wrong.halt_is wrong.shows
+
+  -- want of memory alone, where nothing else is left
+  pub tune_left : (h : Halt) → StopsGraph seen told IsOutOfMemory h → status_of h ≡ 8
+  tune_left h (inl (inl read)) = reading_left h read
+  tune_left h (inl (inr breaks)) = rules_left h breaks.0 breaks.1 breaks.2
+  tune_left h (inr worked) = ap status_of worked.2
 
   -- an admission that is had is the graph's
   pub same_admission : (b : Admission) → Admits told b → (P : Graph → List ℕ → Type 0) → P b.graph b.order → P a.graph a.order

@@ -10,3 +10,4 @@ pub mod Checked
 pub mod Joined
 pub mod Local
 pub mod Said
+pub mod TunedLines

@@ -27,7 +27,7 @@ use Rattle.cpg_app.specs.declared.halt.Halt.{Halt}
 use Rattle.cpg_app.specs.declared.halt.Halt.TheVariants.{Words, Read, Refused, Unsafe, Memory}
 use Rattle.cpg_app.specs.Halts.{halt_of_reading, halt_of_pack, halt_of_rules, halt_of_scenario, halt_of_compile, halt_of_parts}
 use Rattle.cpg_app.specs.Lines.{HasLengths, IsNamed}
-use Rattle.cpg_app.specs.Causes.{Seen, StopsReading, BreaksRule, IsUnbuiltCommand, StopsGraph, IsUncompiled, StopsTables, StopsNaming, StopsVerdict, StopsPlay, StopsParts, StopsCommand, StopsAsked, Stops}
+use Rattle.cpg_app.specs.Causes.{Seen, StopsReading, BreaksRule, IsUnbuiltCommand, StopsGraph, IsUncompiled, IsOutOfMemory, StopsTables, StopsNaming, StopsVerdict, StopsPlay, StopsParts, StopsCommand, StopsAsked, Stops}
 
 lengths_of : (g : Graph) (s : Scenario) → IsScenario g s → HasLengths g s
 lengths_of g s is = record { values = is.values; faults = is.faults }
@@ -135,7 +135,7 @@ command_named seen (Node pack name) h so = tables_named seen (seen.stands pack) 
 command_named seen (Trial number) h so = named_as h Memory so tt
 command_named seen (Live pack name stream) h so = unbuilt_command_named h so
 command_named seen (Hyper parts) h so = parts_named seen parts h so
-command_named seen (Tune graph) h so = graph_named seen (seen.stands graph) (λ _ k. k ≡ Refused NotBuilt) (λ a. unbuilt_named) h so
+command_named seen (Tune graph) h so = graph_named seen (seen.stands graph) IsOutOfMemory (λ a k e. named_as k Memory e tt) h so
 command_named seen (Audit graph pack log) h so = unbuilt_command_named h so
 
 asked_named : (seen : Seen) (asked : Option Command) (h : Halt) → StopsAsked seen asked h → IsNamed h

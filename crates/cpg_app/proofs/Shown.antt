@@ -22,14 +22,14 @@ use Rattle.cpg_app.specs.Causes.{Seen, Stops, StopsAsked, StopsGraph, IsUncompil
 use Rattle.cpg_app.specs.Outputs.{Prints, PrintsAsked, IsMade, shown, packed}
 use Rattle.cpg_app.specs.Told.{Untouched}
 use Rattle.cpg_app.specs.Endings.{Ran, IsPrinted, IsTold, EndsWith, EndsBy}
-use Rattle.cpg_app.specs.Lawful.{IsFaultless, AsksFor, Asks, AsksNode, AsksVerdict, IsLawful}
+use Rattle.cpg_app.specs.Lawful.{IsFaultless, AsksFor, Asks, AsksNode, AsksTuning, AsksVerdict, IsLawful}
 use Rattle.cpg_app.proofs.Statuses.{of_words, of_read, of_formless, refused_of, late_of, wide_of, unsafe_of, not_three, not_zero}
 use Rattle.cpg_table.specs.declared.fault.Fault.{Fault}
 use Rattle.cpg_table.specs.Lawful.{Tables}
 use Rattle.cpg_table.specs.Valid.{IsValid}
 use Rattle.cpg_violation.specs.Heads.{IsHeadFor}
 use Rattle.cpg_app.proofs.Checked.{CheckLeft, check_left, checked_is, node_is, node_left, play_left, played_is}
-use Rattle.cpg_app.proofs.Excluded.{Left, graph_left, made_not_wide, made_not_late}
+use Rattle.cpg_app.proofs.Excluded.{Left, graph_left, tune_left, made_not_wide, made_not_late}
 
 -- words without a form print nothing
 prints_form : (seen : Seen) (asked : Option Command) (text : Text) → PrintsAsked seen asked text → asked ≡ None → ⊥
@@ -114,6 +114,7 @@ module _ (r : Ran) where
       named = λ t name node asks named. with_safe asks.faultless;
       nameless = with_nameless;
       tried = λ number asks. elim with_status [ inl zero ↦ inl zero | inr three ↦ inr (inl three) ];
+      tuned = λ a asks. with_safe asks.faultless;
     }
 
   -- ---- without
@@ -243,6 +244,12 @@ module _ (r : Ran) where
       | inr muted ↦ inr (inl muted.status)
     ]
 
+    by_tuned : (a : Admission) → AsksTuning r a → (r.status ≡ 0) ⊎ (r.status ≡ 8)
+    by_tuned a asks = elim by.ending [
+      | inl t ↦ inr (t.status ∙ tune_left r.shelf (r.shelf.stands asks.graph) asks.bytes a asks.told asks.file asks.faultless.shelf halt (subst (λ c. StopsAsked r.shelf c halt) asks.words by.stops))
+      | inr m ↦ absurd (asks.faultless.err m.err.rose)
+    ]
+
     pub lawful_by : IsLawful r
     lawful_by = record {
       ends = inr (halt, by);
@@ -265,4 +272,5 @@ module _ (r : Ran) where
       named = by_named;
       nameless = by_nameless;
       tried = by_tried;
+      tuned = by_tuned;
     }

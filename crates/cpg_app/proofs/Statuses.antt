@@ -25,7 +25,7 @@ use Rattle.cpg_app.specs.declared.halt.Halt.{Halt}
 use Rattle.cpg_app.specs.declared.halt.Halt.TheVariants.{Words, Read, Refused, Late, TooWide, Unsafe, Memory}
 use Rattle.cpg_app.specs.Halts.{halt_of_reading, halt_of_pack, halt_of_rules, halt_of_scenario, halt_of_compile, halt_of_parts}
 use Rattle.cpg_app.specs.Lines.{status_of}
-use Rattle.cpg_app.specs.Causes.{Seen, StopsReading, BreaksRule, IsUnbuiltCommand, StopsGraph, IsUncompiled, StopsTables, StopsNaming, StopsVerdict, StopsPlay, StopsParts, StopsCommand, StopsAsked, Stops}
+use Rattle.cpg_app.specs.Causes.{Seen, StopsReading, BreaksRule, IsUnbuiltCommand, StopsGraph, IsUncompiled, IsOutOfMemory, StopsTables, StopsNaming, StopsVerdict, StopsPlay, StopsParts, StopsCommand, StopsAsked, Stops}
 
 -- a halt of a command isn't one of its words, and is one of the shelf where its faults rose
 record IsOfCommand (seen : Seen) (h : Halt) : Type 0 where
@@ -128,7 +128,7 @@ of_command seen (Node pack name) h so = of_tables seen (seen.stands pack) (λ t.
 of_command seen (Trial number) h so = later seen h _ so (omega arith)
 of_command seen (Live pack name stream) h so = unbuilt_command seen h so
 of_command seen (Hyper parts) h so = of_unrolling seen parts h so
-of_command seen (Tune graph) h so = of_graph seen (seen.stands graph) (λ _ k. k ≡ Refused NotBuilt) (λ a. unbuilt seen) h so
+of_command seen (Tune graph) h so = of_graph seen (seen.stands graph) IsOutOfMemory (λ a k e. later seen k _ e (omega arith)) h so
 of_command seen (Audit graph pack log) h so = unbuilt_command seen h so
 
 words_asked : (seen : Seen) (asked : Option Command) (h : Halt) → StopsAsked seen asked h → status_of h ≡ 1 → asked ≡ None

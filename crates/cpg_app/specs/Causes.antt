@@ -196,6 +196,10 @@ pub record IsNotUnrolled (parts : List Part) (halt : Halt) : Type 0 where
 abbrev pub StopsParts : Seen → List Pair → Halt → Type 0
 StopsParts seen pairs halt = StopsReadingParts seen pairs halt ⊎ ((parts : List Part) × AreSaid seen.stands pairs parts × IsNotUnrolled parts halt)
 
+-- what a command does with an admitted graph stops it for want of memory alone
+abbrev pub IsOutOfMemory : Admission → Halt → Type 0
+IsOutOfMemory a halt = halt ≡ Memory
+
 -- a command stops as one that isn't built, or for want of memory
 abbrev pub IsUnbuiltCommand : Halt → Type 0
 IsUnbuiltCommand halt = IsUnbuilt halt ⊎ (halt ≡ Memory)
@@ -209,7 +213,7 @@ StopsCommand seen (Node pack name) halt = StopsTables seen (seen.stands pack) (�
 StopsCommand seen (Trial number) halt = halt ≡ Memory
 StopsCommand seen (Live pack name stream) halt = IsUnbuiltCommand halt
 StopsCommand seen (Hyper parts) halt = StopsParts seen parts halt
-StopsCommand seen (Tune graph) halt = StopsGraph seen (seen.stands graph) (λ _. IsUnbuilt) halt
+StopsCommand seen (Tune graph) halt = StopsGraph seen (seen.stands graph) IsOutOfMemory halt
 StopsCommand seen (Audit graph pack log) halt = IsUnbuiltCommand halt
 
 -- words without a form stop a run as such, or for want of memory

@@ -5,7 +5,7 @@ use Rattle.cpg_base.specs.Graph.{Graph}
 use Rattle.cpg_words.specs.Parts.{Text}
 use Rattle.cpg_words.specs.Forms.{command_of}
 use Rattle.cpg_words.specs.declared.command.Command.{Command}
-use Rattle.cpg_words.specs.declared.command.Command.TheVariants.{Show, Compile, Check, Play, Node, Trial}
+use Rattle.cpg_words.specs.declared.command.Command.TheVariants.{Show, Compile, Check, Play, Node, Trial, Tune}
 use Rattle.cpg_reader.specs.Document.{problem_of}
 use Rattle.cpg_rules.specs.Admission.{Admission, IsAdmitted}
 use Rattle.cpg_base.specs.Scenario.{Scenario}
@@ -85,6 +85,15 @@ pub record AsksNode (r : Ran) (t : Tables) (name : Text) : Type 0 where
   pub lawful : AreLawful t
   pub faultless : IsFaultless r
 
+-- the words ask to tune a graph file, the shelf tells the bytes of an admitted graph, and nothing failed
+pub record AsksTuning (r : Ran) (a : Admission) : Type 0 where
+  pub graph : Text
+  pub bytes : Text
+  pub words : command_of r.words ≡ Some (Tune graph)
+  pub told : r.shelf.stands graph ≡ Some bytes
+  pub file : AreAdmitted bytes a
+  pub faultless : IsFaultless r
+
 -- what each exit status says
 pub record IsLawful (r : Ran) : Type 0 where
   -- the run has an output or a reason to stop, and all of it was written but where a sink met a fault
@@ -124,3 +133,5 @@ pub record IsLawful (r : Ran) : Type 0 where
   pub nameless : (t : Tables) (name : Text) → AsksNode r t name → first_named t.head name ≡ None → (r.status ≡ 4) ⊎ (r.status ≡ 8)
   -- a trial of a number writes its figures, but for a fault of a sink and want of memory
   pub tried : (number : ℕ) → command_of r.words ≡ Some (Trial number) → (r.status ≡ 0) ⊎ ((r.status ≡ 3) ⊎ (r.status ≡ 8))
+  -- an admitted graph is tuned, however late or wide it is, but for want of memory
+  pub tuned : (a : Admission) → AsksTuning r a → (r.status ≡ 0) ⊎ (r.status ≡ 8)

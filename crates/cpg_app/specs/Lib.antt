@@ -4,6 +4,8 @@ pub mod Causes
 pub mod Told
 pub mod Plays
 pub mod Trials
+pub mod Tunes
+pub mod OneJudged
 pub mod Outputs
 pub mod Endings
 pub mod Lawful

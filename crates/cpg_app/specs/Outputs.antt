@@ -32,6 +32,7 @@ use Rattle.cpg_app.specs.declared.reading.TheConstants.{PACK_LIMIT}
 use Rattle.cpg_app.specs.Knowledge.{KnowLocally}
 use Rattle.cpg_app.specs.Plays.{world_of, IsPlayText}
 use Rattle.cpg_app.specs.Trials.{trial_text}
+use Rattle.cpg_app.specs.Tunes.{IsTuningText}
 use Rattle.cpg_app.specs.Causes.{Seen, Admits, AreSaid, SaysPlayed, Spells, first_named}
 
 -- Tables that keep the ten rules, and what follows for the nodes that have them: in every scenario, with all lengths of
@@ -131,6 +132,10 @@ pub record IsTrialText (number : ℕ) (text : Text) : Type 0 where
   pub local : KnowLocally is.admission.graph is.compiled.built.tables.nodes
   pub spelled : text ≡ trial_text number trial
 
+-- the text of the tuning of the graph of a file
+abbrev pub IsTunedOf : Option Text → Text → Type 0
+IsTunedOf told text = (a : Admission) × Admits told a × IsTuningText a.graph text
+
 -- a command's output
 abbrev pub PrintsCommand : Seen → Command → Text → Type 0
 PrintsCommand seen (Show graph) text = IsMade (seen.stands graph) shown text
@@ -141,7 +146,7 @@ PrintsCommand seen (Node pack name) text = IsNodeOf (seen.stands pack) name text
 PrintsCommand seen (Trial number) text = IsTrialText number text
 PrintsCommand seen (Live pack name stream) text = ⊥
 PrintsCommand seen (Hyper parts) text = IsUnrolledOf seen.stands parts text
-PrintsCommand seen (Tune graph) text = ⊥
+PrintsCommand seen (Tune graph) text = IsTunedOf (seen.stands graph) text
 PrintsCommand seen (Audit graph pack log) text = ⊥
 
 -- words without a form have none

@@ -4,9 +4,9 @@ ghost use Rattle.std.specs.Str.{bytes_eq};
 ghost use Rattle.cpg_words.specs.FileWords.{file_words, file_words_of};
 ghost use Rattle.cpg_io.specs.Shelf.{SameLeave, SameNames};
 ghost use Rattle.cpg_core.specs.Compilation.{IsCompilation};
-ghost use Rattle.cpg_app.specs.Causes.{Admits, first_named, IsUnbuilt, IsUncompiled, Stops, StopsAdmission, StopsCommand, StopsGraph, StopsNaming, StopsPlay, StopsTables, StopsVerdict};
+ghost use Rattle.cpg_app.specs.Causes.{Admits, first_named, IsOutOfMemory, IsUncompiled, Stops, StopsAdmission, StopsCommand, StopsGraph, StopsNaming, StopsPlay, StopsTables, StopsVerdict};
 ghost use Rattle.cpg_app.specs.Knowledge.{KnowLocally};
-ghost use Rattle.cpg_app.specs.Outputs.{bytes_of, packed, shown, AreJudgedSafe, ArePackOf, AreSafe, IsMade, IsMadeOf, IsNodeOf, IsNodeText, IsChecked, IsPlayOf, IsPlayedText, IsSafeText, IsSpelled, Prints, PrintsCommand};
+ghost use Rattle.cpg_app.specs.Outputs.{bytes_of, packed, shown, AreJudgedSafe, ArePackOf, AreSafe, IsMade, IsMadeOf, IsNodeOf, IsNodeText, IsChecked, IsPlayOf, IsPlayedText, IsSafeText, IsSpelled, IsTunedOf, Prints, PrintsCommand};
 
 use crate::halt::{Halt, Refusal};
 use crate::output::Output;
@@ -14,6 +14,7 @@ use crate::periods::hyper;
 use crate::playing::play_text;
 use crate::reading::{admit_graph, read_graph, read_played, read_tables};
 use crate::trials::trial;
+use crate::tuning::tune_admitted;
 use cpg_base::Name;
 use cpg_check::{Verdict, check};
 use cpg_codec::tables_are_lawful;
@@ -113,15 +114,15 @@ fn pack<S: Shelf>(alloc: Global, shelf: &mut S, name: &str) -> Result<Output, Ha
     Ok(pack)
 }
 
-/// Why a command stops that isn't built beyond the admission of its graph.
-fn admit_only<S: Shelf>(alloc: Global, shelf: &mut S, name: &str) -> Halt
+/// Tunes the graph of a file.
+fn tune_file<S: Shelf>(alloc: Global, shelf: &mut S, name: &str) -> Result<Output, Halt>
     requires { S.may_fetch shelf.old name.now }
-    ensures { StopsGraph (record { stands = S.stands shelf.old; given = S.given shelf.new; before = S.faults shelf.old; now = S.faults shelf.new }) (S.stands shelf.old name.now) (λ _. IsUnbuilt) result }
+    ensures text { IfOk result (λ o. IsTunedOf (S.stands shelf.old name.now) (bytes_of o)) }
+    ensures halt { IfErr result (StopsGraph (record { stands = S.stands shelf.old; given = S.given shelf.new; before = S.faults shelf.old; now = S.faults shelf.new }) (S.stands shelf.old name.now) IsOutOfMemory) }
 {
-    match admitted_file(alloc, shelf, name) {
-        Ok(_) => Halt::Refused(Refusal::NotBuilt),
-        Err(halt) => halt,
-    }
+    let admitted = admitted_file(alloc, shelf, name)?;
+    let text = tune_admitted(alloc, &admitted)?;
+    Ok(text)
 }
 
 /// Whether tables are valid for an admitted graph, which comes back where they are.
@@ -315,7 +316,7 @@ fn command_output<S: Shelf>(alloc: Global, shelf: &mut S, command: &Command) -> 
         Command::Node { pack, name } => node(alloc, shelf, pack.as_str(), name.as_str()),
         Command::Trial { number } => trial(alloc, *number),
         Command::Hyper { parts } => hyper(alloc, shelf, parts.as_slice()),
-        Command::Tune { graph } => Err(admit_only(alloc, shelf, graph.as_str())),
+        Command::Tune { graph } => tune_file(alloc, shelf, graph.as_str()),
         _ => Err(Halt::Refused(Refusal::NotBuilt)),
     }
 }

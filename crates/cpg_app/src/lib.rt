@@ -14,6 +14,7 @@ mod reading;
 mod refusals;
 mod top;
 mod trials;
+mod tuning;
 
 pub use top::{run, run_without_words};
 

@@ -52,7 +52,7 @@ fn write_late(
 }
 
 /// An item: what starts, is sent or is told.
-fn write_item(out: &mut String, problem: &Problem, item: u32) -> Result<(), AllocError>
+pub fn write_item(out: &mut String, problem: &Problem, item: u32) -> Result<(), AllocError>
     requires { item < item_count problem.now }
     ensures { OnOk result (string_bytes out.new ≡ string_bytes out.old ++ item_text problem.now item) }
 {

@@ -1,0 +1,22 @@
+use Rattle.std.proofs.Common.{All, sym, subst}
+use Rattle.std.specs.Prelude.{IfOk}
+use Rattle.cpg_base.specs.Graph.{Graph}
+use Rattle.cpg_tune.specs.Asked.{MayAskRows}
+use Rattle.cpg_tune.specs.Tuned.{IsTuning}
+use Rattle.cpg_tune_laws.specs.Retuned.{ShowsNoFault}
+use Rattle.cpg_tune_laws.proofs.Kept.{tuned_no_fault}
+use Rattle.cpg_app.specs.Tunes.{IsJudged, IsNamedRow}
+use Rattle.cpg_app.proofs.Later.{if_ok}
+use Rattle.cpg_app.proofs.TunedLines.{rows_named}
+use Rattle.cpg_app.proofs.tuning.tuned.Goals as goal
+
+pub tune-requires : goal.tune-requires
+tune-requires c =
+    let a = c.args.admitted.now in
+    subst (MayAskRows ShowsNoFault) (sym c.problem.ensures.problem) (λ faults few. tuned_no_fault a.graph a.order a.guards c.problem.ensures.admitted faults)
+
+pub returns-clause-named : goal.returns-clause-named
+returns-clause-named c =
+    let g : Graph = c.args.admitted.now.graph in
+    if_ok {P = IsTuning IsJudged g} {Q = λ t. All (IsNamedRow g) t.rows} c.tune.result (rows_named g)
+    (subst (λ (h : Graph). IfOk c.tune.result (IsTuning IsJudged h)) c.problem.ensures.problem c.tune.ensures.tuned)
