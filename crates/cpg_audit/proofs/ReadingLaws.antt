@@ -1,18 +1,19 @@
 -- Logs line by line.
-use Rattle.std.proofs.Common.{ℕ, zero, suc, ◌+◌, ◌<◌, ◌≡◌, ◌≢◌, ◌==◌, ◌^◌, List, [], ◌∷◌, ◌++◌, length, get_or, take, codes, All, Some, None, arith, refl, sym, ap, ◌∙◌, subst, inl, inr, eq-eqb, ne_eqb}
+use Rattle.std.proofs.Common.{ℕ, zero, suc, ◌+◌, ◌<◌, ◌≡◌, ◌≢◌, ◌==◌, ◌^◌, List, [], ◌∷◌, ◌++◌, length, map, get_or, take, drop, codes, All, AllPairs, Contains, Some, None, arith, refl, sym, ap, ◌∙◌, subst, inl, inr, eq-eqb, ne_eqb}
 use Rattle.std.specs.Fmt.{decimal}
 use Rattle.std.proofs.lemmas.Bool.{cases_eq, cond-true, cond-false}
-use Rattle.std.proofs.lemmas.List.{length-map, map_push, append_assoc}
+use Rattle.std.proofs.lemmas.Fmt.{decimal_injective}
+use Rattle.std.proofs.lemmas.List.{length-map, length-take, get_or-take, map_push}
+use Rattle.std.proofs.lemmas.List.Elements.{All-contains, All-take, Contains-push}
 use Rattle.std.proofs.lemmas.List.Quantifiers.{all_pairs_push}
 use Rattle.std.proofs.lemmas.Option.{none-some}
-use Rattle.cpg_base.specs.Graph.{Graph}
+use Rattle.cpg_base.specs.Graph.{Graph, item_count}
+use Rattle.cpg_base.specs.Limits.{IsWithinLimits}
 use Rattle.cpg_audit.specs.Lines.{IsParted, lines}
 use Rattle.cpg_audit.specs.Log.{Log, Logged, IsLog, IsActBy, log_lines, until_line, act_text, act_line, logged_time}
-use Rattle.cpg_audit.specs.Reading.{MayGoOn, IsLineRead, IsLineStrange, IsBadLine}
+use Rattle.cpg_audit.specs.Reading.{IsLogOf, MayGoOn, HaveNames, LackTime, IsLineRead, IsLineStrange, IsBadLine}
 use Rattle.cpg_audit.proofs.LineLaws.{same_parts, decimal_spaceless}
-
-spaced : (a t : List ℕ) → a ++ codes " " ++ t ≡ a ++ 32 ∷ t
-spaced a t = append_assoc a (32 ∷ []) t
+use Rattle.cpg_audit.proofs.TextLaws.{spaced, same_line}
 
 -- an act's line is parted after its time
 pub act_parts : (g : Graph) (line digits text : List ℕ) (act : Logged) → IsParted 32 line digits text → act.time < 2 ^ 60 → line ≡ act_line g act → (digits ≡ decimal act.time) × (text ≡ act_text g act.item)
@@ -52,10 +53,6 @@ take_front : {X : Type 0} (xs ys : List X) → take (length xs) (xs ++ ys) ≡ x
 take_front [] ys = refl
 take_front (x ∷ xs) ys = ap (λ zs. x ∷ zs) (take_front xs ys)
 
-at_end : {X : Type 0} (xs ys : List X) (d : X) → get_or (xs ++ ys) (length xs) d ≡ get_or ys 0 d
-at_end [] ys d = refl
-at_end (x ∷ xs) ys d = at_end xs ys d
-
 long_front : {X : Type 0} (xs ys : List X) → length (xs ++ ys) ≡ length xs + length ys
 long_front [] ys = omega arith
 long_front (x ∷ xs) ys = omega (arith, long_front xs ys)
@@ -75,21 +72,82 @@ module _ (g : Graph) (ls : List (List ℕ)) (log : Log) (rest : List ℕ) (is : 
         ∙ ap (λ n. log_lines g n ++ lines after) (sym more.added),
   )
 
-  -- at a line that is none
-  pub line_strange : (place : ℕ) → IsLineStrange g log rest place → IsBadLine g ls place
-  line_strange place odd = subst (IsBadLine g ls) (sym here) (record {
-    before = log;
-    lawful = is;
-    spelled = ap (take (suc (length log.acts))) spelled ∙ ap (λ n. take n (log_lines g log ++ lines rest)) (sym long) ∙ take_front (log_lines g log) (lines rest);
-    there = omega (arith, ap length spelled, long_front (log_lines g log) (lines rest), long, ap length odd.first);
-    strange = λ l may e. odd.strange l may (sym at ∙ e);
-  })
-    where
-      here : place ≡ suc (length log.acts)
-      here = omega (arith, odd.here)
+-- ---- a line that makes no log
 
+head_of_cons : (a b : List ℕ) (xs ys : List (List ℕ)) → a ∷ xs ≡ b ∷ ys → a ≡ b
+head_of_cons a b xs ys e = ap (λ zs. get_or zs 0 []) e
+
+-- no log has the first line
+pub lack_bad : (g : Graph) (ls : List (List ℕ)) → LackTime ls → IsBadLine g ls 0
+lack_bad g ls lack = record { none = λ log is e. at ls lack log is.until e; before = λ some. absurd (some refl) }
+  where
+    at : (ls : List (List ℕ)) → LackTime ls → (log : Log) → log.until < 2 ^ 60 → take (0 + 1) ls ≡ log_lines g log → ⊥
+    at [] lack log early e = let f = ap length e in omega (arith, f)
+    at (line ∷ rest) lack log early e = lack log.until rest early (ap (λ l. l ∷ rest) (head_of_cons line (until_line log.until) _ _ e))
+
+-- the acts of lines that begin with those of a log
+module _ (g : Graph) (limits : IsWithinLimits g) (named : HaveNames g (item_count g)) (until later : ℕ) (early : until < 2 ^ 60) (soon : later < 2 ^ 60) (line : List ℕ) where
+  one_more : (xs ys : List Logged) → All (IsActBy g later) xs → All (IsActBy g until) ys → map (act_line g) xs ≡ map (act_line g) ys ++ line ∷ [] → (l : Logged) × (xs ≡ ys ++ l ∷ []) × (act_line g l ≡ line)
+  one_more [] [] by is e = absurd (let f = ap length e in omega (arith, f))
+  one_more [] (a ∷ ys) by is e = absurd (let f = ap length e in omega (arith, f))
+  one_more (b ∷ []) [] by is e = (b, refl, head_of_cons (act_line g b) line [] [] e)
+  one_more (b ∷ c ∷ xs) [] by is e = absurd (let f = ap length e in omega (arith, f))
+  one_more (b ∷ xs) (a ∷ ys) by is e =
+      let same = same_line g limits named later until soon early b a (by 0 b (omega arith)) (is 0 a (omega arith)) (head_of_cons (act_line g b) (act_line g a) _ _ e) in
+      let r = one_more xs ys (λ k d l. by (suc k) d (omega arith)) (λ k d l. is (suc k) d (omega arith)) (ap (drop 1) e) in
+      (r.0, (λ i. same i ∷ r.1 i), r.2)
+
+-- an item that is logged last isn't logged before
+before_last : (ls : List Logged) (l : Logged) → AllPairs (λ (a b : Logged). a.item ≢ b.item) (ls ++ l ∷ []) → logged_time ls l.item ≡ None
+before_last [] l pairs = refl
+before_last (m ∷ ls) l pairs = cond-false (m.item == l.item) (Some m.time) (logged_time ls l.item)
+    (ne_eqb m.item l.item (λ same. pairs 0 (suc (length ls)) l (omega arith) (omega (arith, long_front ls (l ∷ []))) (same ∙ sym (ap (λ (z : Logged). z.item) (at_end ls l)))))
+    ∙ before_last ls l (λ i j d a b. pairs (suc i) (suc j) d (omega arith) (omega arith))
+  where
+    at_end : (xs : List Logged) (x : Logged) → get_or (xs ++ x ∷ []) (length xs) l ≡ x
+    at_end [] x = refl
+    at_end (y ∷ xs) x = at_end xs x
+
+module _ (g : Graph) (limits : IsWithinLimits g) (named : HaveNames g (item_count g)) (ls : List (List ℕ)) (log : Log) (rest : List ℕ) (is : IsLog g log) (spelled : ls ≡ log_lines g log ++ lines rest) where
+  pub line_strange : (place : ℕ) → IsLineStrange g log rest place → IsBadLine g ls place
+  line_strange place odd = record {
+    none = λ other by e. strange other by (sym with_line ∙ ap (λ n. take n ls) (let n : length (log_lines g log ++ odd.line ∷ []) ≡ place + 1 = omega (arith, odd.here, long, long_front (log_lines g log) (odd.line ∷ [])) in n) ∙ e);
+    before = λ some. (log, is, ap (λ n. take n ls) (let n : place ≡ length (log_lines g log) = omega (arith, odd.here, long) in n) ∙ ap (take (length (log_lines g log))) spelled ∙ take_front (log_lines g log) (lines rest));
+  }
+    where
       long : length (log_lines g log) ≡ suc (length log.acts)
       long = ap suc (length-map log.acts (act_line g))
 
-      at : get_or ls (suc (length log.acts)) [] ≡ odd.line
-      at = ap (λ xs. get_or xs (suc (length log.acts)) []) spelled ∙ ap (λ n. get_or (log_lines g log ++ lines rest) n []) (sym long) ∙ at_end (log_lines g log) (lines rest) [] ∙ ap (λ xs. get_or xs 0 []) odd.first
+      whole : ls ≡ (log_lines g log ++ odd.line ∷ []) ++ lines odd.rest
+      whole = spelled ∙ ap (λ xs. log_lines g log ++ xs) odd.first ∙ shifted (log_lines g log) odd.line (lines odd.rest)
+
+      with_line : take (length (log_lines g log ++ odd.line ∷ [])) ls ≡ log_lines g log ++ odd.line ∷ []
+      with_line = ap (take (length (log_lines g log ++ odd.line ∷ []))) whole ∙ take_front (log_lines g log ++ odd.line ∷ []) (lines odd.rest)
+
+      -- a log of these lines would go on with an act of the last
+      strange : (other : Log) → IsLog g other → log_lines g log ++ odd.line ∷ [] ≡ log_lines g other → ⊥
+      strange other by e =
+          let until = decimal_injective log.until other.until (omega (arith, is.until)) (omega (arith, by.until)) (ap (drop 6) (head_of_cons (until_line log.until) (until_line other.until) _ _ e)) in
+          let r = one_more g limits named log.until other.until is.until by.until odd.line other.acts log.acts by.acts is.acts (sym (ap (drop 1) e)) in
+          let last = All-contains (IsActBy g other.until) other.acts r.0 by.acts (subst (λ xs. Contains xs r.0) (sym r.1) (Contains-push log.acts r.0)) in
+          odd.strange r.0 (record {
+            act = record { item = last.item; time = omega (arith, last.time, until) };
+            new = before_last log.acts r.0 (subst (AllPairs (λ (a b : Logged). a.item ≢ b.item)) r.1 by.apart);
+          }) (sym r.2)
+
+-- ---- a log's file has no bad line
+
+apart_take : (ls : List Logged) (n : ℕ) → AllPairs (λ (a b : Logged). a.item ≢ b.item) ls → AllPairs (λ (a b : Logged). a.item ≢ b.item) (take n ls)
+apart_take ls n pairs i j d a b e =
+    let long = length-take n ls in
+    pairs i j d a (omega (arith, long, b)) (sym (ap (λ (l : Logged). l.item) (get_or-take n ls i d (omega (arith, long, a, b)))) ∙ e ∙ ap (λ (l : Logged). l.item) (get_or-take n ls j d (omega (arith, long, b))))
+
+take_map : (g : Graph) (n : ℕ) (ls : List Logged) → take n (map (act_line g) ls) ≡ map (act_line g) (take n ls)
+take_map g zero ls = refl
+take_map g (suc n) [] = refl
+take_map g (suc n) (l ∷ ls) = ap (λ xs. act_line g l ∷ xs) (take_map g n ls)
+
+pub no_bad_line : (g : Graph) (bytes : List ℕ) (log : Log) → IsLogOf g bytes log → (n : ℕ) → IsBadLine g (lines bytes) n → ⊥
+no_bad_line g bytes log is n bad = bad.none (record { until = log.until; acts = take n log.acts })
+    (record { until = is.lawful.until; acts = All-take (IsActBy g log.until) n log.acts is.lawful.acts; apart = apart_take log.acts n is.lawful.apart })
+    (ap (λ m. take m (lines bytes)) (let m : n + 1 ≡ suc n = omega arith in m) ∙ ap (take (suc n)) is.spelled ∙ ap (λ xs. until_line log.until ∷ xs) (take_map g n log.acts))

@@ -1,6 +1,7 @@
 -- Which files are logs, and the first line that makes a file none.
-use Rattle.std.specs.Prelude.{ℕ, zero, suc, ◌^◌, ◌+◌, ◌≡◌, ◌≢◌, ◌<◌, List, [], ◌∷◌, ◌++◌, None, true, take, length, get_or}
-use Rattle.cpg_base.specs.Graph.{Graph}
+use Rattle.std.specs.Prelude.{ℕ, ◌^◌, ◌+◌, ◌≡◌, ◌≢◌, ◌<◌, List, [], ◌∷◌, ◌++◌, None, true, take, length, get_or}
+use Rattle.cpg_base.specs.Graph.{Graph, home}
+use Rattle.cpg_base.specs.Name.{IsName}
 use Rattle.cpg_audit.specs.Lines.{lines}
 use Rattle.cpg_audit.specs.Log.{Log, Logged, IsLog, IsActBy, log_lines, until_line, is_act, act_text, act_line, logged_time}
 
@@ -8,6 +9,13 @@ use Rattle.cpg_audit.specs.Log.{Log, Logged, IsLog, IsActBy, log_lines, until_li
 pub record IsLogOf (g : Graph) (bytes : List ℕ) (log : Log) : Type 0 where
   pub lawful : IsLog g log
   pub spelled : lines bytes ≡ log_lines g log
+
+-- the first line that makes a file no log, counted from 0: with it the lines are no log's, and those before it, if any, are one's
+pub record IsBadLine (g : Graph) (ls : List (List ℕ)) (place : ℕ) : Type 0 where
+  pub none : (log : Log) → IsLog g log → take (place + 1) ls ≢ log_lines g log
+  pub before : place ≢ 0 → (log : Log) × IsLog g log × (take place ls ≡ log_lines g log)
+
+-- Line by line.
 
 -- a log may go on with an act: up to its time, and of an item that isn't logged yet
 pub record MayGoOn (g : Graph) (log : Log) (l : Logged) : Type 0 where
@@ -18,20 +26,9 @@ pub record MayGoOn (g : Graph) (log : Log) (l : Logged) : Type 0 where
 abbrev pub LackTime : List (List ℕ) → Type 0
 LackTime ls = (until : ℕ) (rest : List (List ℕ)) → until < 2 ^ 60 → ls ≢ until_line until ∷ rest
 
--- the lines before a place are a log's, and the line there is of no act that this log may go on with
-pub record IsStrangeLine (g : Graph) (ls : List (List ℕ)) (place : ℕ) : Type 0 where
-  pub before : Log
-  pub lawful : IsLog g before
-  pub spelled : take place ls ≡ log_lines g before
-  pub there : place < length ls
-  pub strange : (l : Logged) → MayGoOn g before l → get_or ls place [] ≢ act_line g l
-
--- the first line of a file that makes it no log's, counted from 0
-abbrev pub IsBadLine : Graph → List (List ℕ) → ℕ → Type 0
-IsBadLine g ls zero = LackTime ls
-IsBadLine g ls (suc place) = IsStrangeLine g ls (suc place)
-
--- Line by line.
+-- the nodes of the items below a number have names
+abbrev pub HaveNames : Graph → ℕ → Type 0
+HaveNames g n = (x : ℕ) → x < n → IsName (get_or g.nodes (home g x) [])
 
 -- a text names an item that a node starts or sends and that isn't logged yet
 pub record IsNew (g : Graph) (log : Log) (text : List ℕ) (x : ℕ) : Type 0 where

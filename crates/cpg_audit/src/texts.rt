@@ -1,10 +1,11 @@
 //! The texts of acts.
-ghost use Rattle.std.specs.Prelude.{◌≡◌, ◌<◌, ◌++◌, ℕ, IfNone, IfOk, IfSome, OnOk, map, string_bytes};
+ghost use Rattle.std.specs.Prelude.{◌≡◌, ◌<◌, ◌++◌, [], ℕ, IfNone, IfOk, IfSome, OnOk, get_or, map, string_bytes};
 ghost use Rattle.std.specs.Bool.{OnFalse, OnTrue};
-ghost use Rattle.cpg_base.specs.Graph.{item_count};
+ghost use Rattle.cpg_base.specs.Graph.{home, item_count};
+ghost use Rattle.cpg_base.specs.Name.{IsName};
 ghost use Rattle.cpg_base.specs.Numbers.{numbers_below};
 ghost use Rattle.cpg_audit.specs.Log.{act_text, is_act};
-ghost use Rattle.cpg_audit.specs.Reading.{IsNew};
+ghost use Rattle.cpg_audit.specs.Reading.{HaveNames, IsNew};
 
 use crate::lines::are_same;
 use crate::log::Log;
@@ -22,7 +23,8 @@ fn is_act(problem: &Problem, item: u32) -> bool
 /// Which node starts or sends an item, and the item.
 fn write_act(out: &mut String, problem: &Problem, item: u32) -> Result<(), AllocError>
     requires { item < item_count problem.now }
-    ensures { OnOk result (string_bytes out.new ≡ string_bytes out.old ++ act_text problem.now item) }
+    ensures text { OnOk result (string_bytes out.new ≡ string_bytes out.old ++ act_text problem.now item) }
+    ensures name { IsName (get_or problem.now.nodes (home problem.now item) []) }
 {
     let home = problem.home(item);
     let node = problem.nodes()[home as usize].as_str();
@@ -43,7 +45,8 @@ fn write_act(out: &mut String, problem: &Problem, item: u32) -> Result<(), Alloc
 /// Which node starts or sends an item, and the item, in a text of its own.
 fn act_text(alloc: Global, problem: &Problem, item: u32) -> Result<String, OutOfMemory>
     requires { item < item_count problem.now }
-    ensures { IfOk result (λ text. string_bytes text ≡ act_text problem.now item) }
+    ensures text { IfOk result (λ text. string_bytes text ≡ act_text problem.now item) }
+    ensures name { IsName (get_or problem.now.nodes (home problem.now item) []) }
 {
     let mut out = String::new(alloc);
     write_act(&mut out, problem, item)?;
@@ -52,7 +55,8 @@ fn act_text(alloc: Global, problem: &Problem, item: u32) -> Result<String, OutOf
 
 /// These texts of all items, by number.
 pub fn act_texts(alloc: Global, problem: &Problem) -> Result<Vec<String>, OutOfMemory>
-    ensures { IfOk result (λ texts. map string_bytes texts.items ≡ map (act_text problem.now) (numbers_below (item_count problem.now))) }
+    ensures texts { IfOk result (λ texts. map string_bytes texts.items ≡ map (act_text problem.now) (numbers_below (item_count problem.now))) }
+    ensures names { IfOk result (λ _. HaveNames problem.now (item_count problem.now)) }
 {
     let count = problem.item_count();
     let mut texts = Vec::new(alloc);
