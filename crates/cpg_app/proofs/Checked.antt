@@ -17,12 +17,17 @@ use Rattle.cpg_scenario.specs.declared.fault.ScenarioFault.{ScenarioFault}
 use Rattle.cpg_scenario.specs.declared.reading.Played.{Played}
 use Rattle.cpg_violation.specs.Heads.{IsHeadFor}
 use Rattle.cpg_check.proofs.Verdicts.{other_head, faulty_tables}
+use Rattle.cpg_audit.specs.Lines.{lines}
+use Rattle.cpg_audit.specs.Log.{Log}
+use Rattle.cpg_audit.specs.Reading.{IsBadLine, IsLogOf}
+use Rattle.cpg_audit.specs.declared.fault.LogFault.{LogFault}
+use Rattle.cpg_audit.proofs.ReadingLaws.{no_bad_line}
 use Rattle.cpg_app.specs.declared.halt.Halt.{Halt}
-use Rattle.cpg_app.specs.Halts.{halt_of_pack, halt_of_scenario}
+use Rattle.cpg_app.specs.Halts.{halt_of_pack, halt_of_log, halt_of_scenario}
 use Rattle.cpg_app.specs.Lines.{status_of}
-use Rattle.cpg_app.specs.declared.reading.TheConstants.{PACK_LIMIT, SCENARIO_LIMIT}
-use Rattle.cpg_app.specs.Causes.{Seen, Admits, Spells, StopsPack, StopsGraph, StopsNaming, StopsTables, StopsVerdict, StopsPlay, ShowsPackFault, first_named}
-use Rattle.cpg_app.specs.Outputs.{AreJudgedSafe, IsChecked, IsNodeOf, IsPlayOf}
+use Rattle.cpg_app.specs.declared.reading.TheConstants.{PACK_LIMIT, LOG_LIMIT, SCENARIO_LIMIT}
+use Rattle.cpg_app.specs.Causes.{Seen, Admits, Spells, StopsPack, StopsGraph, StopsNaming, StopsTables, StopsVerdict, StopsAudit, StopsPlay, ShowsLogFault, ShowsPackFault, first_named}
+use Rattle.cpg_app.specs.Outputs.{AreJudgedSafe, IsChecked, IsNodeOf, IsAuditOf, IsPlayOf}
 use Rattle.cpg_app.specs.Lawful.{AreAdmitted}
 use Rattle.cpg_app.proofs.Excluded.{reading_left, rules_left, same_admission}
 
@@ -95,6 +100,10 @@ module _ (seen : Seen) (a : Admission) (t : Tables) (graph pack bytes : Text) (t
   pub played_is : (scenario : Option Text) (turns : ℕ) (text : Text) → IsPlayOf (seen.stands graph) (seen.stands pack) scenario turns text → IsHeadFor a.graph t.head × IsValid a.graph t.nodes
   played_is scenario turns text made = judged_is made.0 made.1 made.2.0 made.2.1 made.2.2.judged
 
+  -- and that by which a log was audited
+  pub audited_is : (log : Option Text) (text : Text) → IsAuditOf (seen.stands graph) (seen.stands pack) log text → IsHeadFor a.graph t.head × IsValid a.graph t.nodes
+  audited_is log text made = judged_is made.0 made.1 made.2.0 made.2.1 made.2.2.judged
+
   verdict_left : (b : Admission) → Admits (seen.stands graph) b → (u : Tables) → Spells (seen.stands pack) u → (h : Halt) → StopsVerdict b u h → CheckLeft a t h
   verdict_left b admits u spells h (inl other) =
       let same = same_tables (seen.stands pack) t u spelled lawful spells in
@@ -140,3 +149,19 @@ module _ (seen : Seen) (a : Admission) (t : Tables) (graph pack bytes : Text) (t
 
     pub play_left : (h : Halt) → StopsGraph seen (seen.stands graph) (λ b. StopsTables seen (seen.stands pack) (StopsPlay seen told b)) h → CheckLeft a t h
     play_left = worked_left (StopsPlay seen told) played_left
+
+  -- a log of the graph stops nothing
+  module _ (told : Option Text) (note : Text) (tells_note : told ≡ Some note) (short : length note ≤ LOG_LIMIT) (log : Log) (says : IsLogOf a.graph note log) where
+    log_left : (b : Admission) → Admits (seen.stands graph) b → (h : Halt) (fault : LogFault) → h ≡ halt_of_log fault → ShowsLogFault told b.graph fault → status_of h ≡ 8
+    log_left b admits h (LogFault.Bad line) e shows = absurd (no_bad_line a.graph note log says line
+        (same_admission seen (seen.stands graph) bytes a tells file still b admits (λ g o. IsBadLine g (lines note) line) (subst (λ n. IfSome n (λ m. IsBadLine b.graph (lines m) line)) tells_note shows.1)))
+    log_left b admits h LogFault.OutOfMemory e shows = ap status_of e
+
+    audited_left : (b : Admission) → Admits (seen.stands graph) b → (u : Tables) → Spells (seen.stands pack) u → (h : Halt) → StopsAudit seen told b u h → CheckLeft a t h
+    audited_left b admits u spells h (inl (inl unread)) = absurd (still unread.rose)
+    audited_left b admits u spells h (inl (inr (inl long))) = absurd (let l : LOG_LIMIT < length note = subst (λ o. IfSome o (λ n. LOG_LIMIT < length n)) tells_note long.long in omega (arith, short))
+    audited_left b admits u spells h (inl (inr (inr none))) = inl (log_left b admits h none.fault none.halt_is none.shows)
+    audited_left b admits u spells h (inr judged) = verdict_left b admits u spells h judged.2
+
+    pub audit_left : (h : Halt) → StopsGraph seen (seen.stands graph) (λ b. StopsTables seen (seen.stands pack) (StopsAudit seen told b)) h → CheckLeft a t h
+    audit_left = worked_left (StopsAudit seen told) audited_left

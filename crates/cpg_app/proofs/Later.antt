@@ -6,7 +6,7 @@ use Rattle.cpg_words.specs.Parts.{Text}
 use Rattle.cpg_rules.specs.Admission.{Admission}
 use Rattle.cpg_table.specs.Lawful.{Tables}
 use Rattle.cpg_app.specs.declared.halt.Halt.{Halt}
-use Rattle.cpg_app.specs.Causes.{Seen, StopsPlay, StopsTables}
+use Rattle.cpg_app.specs.Causes.{Seen, StopsPlay, StopsAudit, StopsTables}
 
 -- what follows from a value, or from an error, of an answer
 pub if_ok : {T E : Type 0} {P Q : T → Type 0} (r : Result T E) → ((x : T) → P x → Q x) → IfOk r P → IfOk r Q
@@ -39,3 +39,10 @@ module _ (seen : Seen) (stands : Text → Option Text) (middle : ℕ) (l : seen.
   play_later a t h (inl (inr (inl long))) = inl (inr (inl (record { halt_is = long.halt_is; given = long.given; long = long.long })))
   play_later a t h (inl (inr (inr none))) = inl (inr (inr (record { fault = none.fault; halt_is = none.halt_is; first = none.first })))
   play_later a t h (inr judged) = inr judged
+
+  -- and so does a log
+  pub audit_later : (a : Admission) (t : Tables) (h : Halt) → StopsAudit (seen_from seen stands middle) told a t h → StopsAudit seen told a t h
+  audit_later a t h (inl (inl unread)) = inl (inl (record { halt_is = unread.halt_is; rose = rose_later seen.before middle seen.now l unread.rose }))
+  audit_later a t h (inl (inr (inl long))) = inl (inr (inl (record { halt_is = long.halt_is; given = long.given; long = long.long })))
+  audit_later a t h (inl (inr (inr none))) = inl (inr (inr (record { fault = none.fault; halt_is = none.halt_is; shows = none.shows })))
+  audit_later a t h (inr judged) = inr judged

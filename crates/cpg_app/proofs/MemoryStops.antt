@@ -9,7 +9,7 @@ use Rattle.cpg_rules.specs.Admission.{Admission}
 use Rattle.cpg_codec.specs.declared.fault.PackFault.{PackFault}
 use Rattle.cpg_app.specs.declared.halt.Halt.{Halt}
 use Rattle.cpg_app.specs.declared.halt.Halt.TheVariants.{Memory}
-use Rattle.cpg_app.specs.Causes.{Seen, IsOutOfMemory, StopsGraph, IsUncompiled, StopsTables, StopsVerdict, StopsPlay, Stops, StopsAsked, StopsCommand}
+use Rattle.cpg_app.specs.Causes.{Seen, IsOutOfMemory, StopsGraph, IsUncompiled, StopsTables, StopsVerdict, StopsPlay, Stops, StopsAsked, StopsCommand, StopsAudit}
 
 memory_graph : (seen : Seen) (told : Option Text) (work : Admission → Halt → Type 0) → StopsGraph seen told work Memory
 memory_graph seen told work = inl (inl (inr (inr (record { fault = OutOfMemory; halt_is = refl; first = λ other. absurd (other refl) }))))
@@ -24,7 +24,7 @@ memory_command seen (Trial number) = refl
 memory_command seen (Live pack name stream) = inr refl
 memory_command seen (Hyper parts) = inl (inr refl)
 memory_command seen (Tune graph) = memory_graph seen (seen.stands graph) IsOutOfMemory
-memory_command seen (Audit graph pack log) = inr refl
+memory_command seen (Audit graph pack log) = memory_graph seen (seen.stands graph) (λ a. StopsTables seen (seen.stands pack) (StopsAudit seen (seen.stands log) a))
 
 memory_asked : (seen : Seen) (asked : Option Command) → StopsAsked seen asked Memory
 memory_asked seen None = inr refl

@@ -16,6 +16,7 @@ use Rattle.cpg_reader.specs.declared.place.ReadFault.{ReadFault}
 use Rattle.cpg_table.specs.Lawful.{Tables}
 use Rattle.cpg_codec.specs.declared.fault.PackFault.{PackFault}
 use Rattle.cpg_scenario.specs.declared.fault.ScenarioFault.{ScenarioFault}
+use Rattle.cpg_audit.specs.declared.fault.LogFault.{LogFault}
 use Rattle.cpg_rules.specs.Admission.{Admission}
 use Rattle.cpg_rules.specs.declared.admission.RuleFault.{RuleFault}
 use Rattle.cpg_rules.specs.Faults.{ShowsFault}
@@ -25,9 +26,9 @@ use Rattle.cpg_core.specs.Compilation.{ShowsCompileFault}
 use Rattle.cpg_app.specs.declared.halt.Refusal.TheVariants.{NotBuilt}
 use Rattle.cpg_app.specs.declared.halt.Halt.{Halt}
 use Rattle.cpg_app.specs.declared.halt.Halt.TheVariants.{Words, Read, Refused, Unsafe, Memory}
-use Rattle.cpg_app.specs.Halts.{halt_of_reading, halt_of_pack, halt_of_rules, halt_of_scenario, halt_of_compile, halt_of_parts}
+use Rattle.cpg_app.specs.Halts.{halt_of_reading, halt_of_pack, halt_of_rules, halt_of_scenario, halt_of_log, halt_of_compile, halt_of_parts}
 use Rattle.cpg_app.specs.Lines.{HasLengths, IsNamed}
-use Rattle.cpg_app.specs.Causes.{Seen, StopsReading, BreaksRule, IsUnbuiltCommand, StopsGraph, IsUncompiled, IsOutOfMemory, StopsTables, StopsNaming, StopsVerdict, StopsPlay, StopsParts, StopsCommand, StopsAsked, Stops}
+use Rattle.cpg_app.specs.Causes.{Seen, StopsReading, BreaksRule, IsUnbuiltCommand, StopsGraph, IsUncompiled, IsOutOfMemory, StopsTables, StopsNaming, StopsVerdict, StopsPlay, StopsParts, StopsCommand, StopsAsked, Stops, StopsAudit}
 
 lengths_of : (g : Graph) (s : Scenario) → IsScenario g s → HasLengths g s
 lengths_of g s is = record { values = is.values; faults = is.faults }
@@ -112,6 +113,16 @@ play_named seen told a t h (inl (inr (inl long))) = named_as h _ long.halt_is tt
 play_named seen told a t h (inl (inr (inr none))) = named_as h _ none.halt_is (of_scenario none.fault)
 play_named seen told a t h (inr judged) = verdict_named a t h judged.2
 
+of_log : (fault : LogFault) → IsNamed (halt_of_log fault)
+of_log (LogFault.Bad line) = tt
+of_log LogFault.OutOfMemory = tt
+
+audit_named : (seen : Seen) (told : Option Text) (a : Admission) (t : Tables) (h : Halt) → StopsAudit seen told a t h → IsNamed h
+audit_named seen told a t h (inl (inl unread)) = named_as h Read unread.halt_is tt
+audit_named seen told a t h (inl (inr (inl long))) = named_as h _ long.halt_is tt
+audit_named seen told a t h (inl (inr (inr none))) = named_as h _ none.halt_is (of_log none.fault)
+audit_named seen told a t h (inr judged) = verdict_named a t h judged.2
+
 of_parts : (fault : HyperFault) → IsNamed (halt_of_parts fault)
 of_parts (HyperFault.Range p) = tt
 of_parts (HyperFault.Differ p) = tt
@@ -136,7 +147,7 @@ command_named seen (Trial number) h so = named_as h Memory so tt
 command_named seen (Live pack name stream) h so = unbuilt_command_named h so
 command_named seen (Hyper parts) h so = parts_named seen parts h so
 command_named seen (Tune graph) h so = graph_named seen (seen.stands graph) IsOutOfMemory (λ a k e. named_as k Memory e tt) h so
-command_named seen (Audit graph pack log) h so = unbuilt_command_named h so
+command_named seen (Audit graph pack log) h so = graph_named seen (seen.stands graph) (λ a. StopsTables seen (seen.stands pack) (StopsAudit seen (seen.stands log) a)) (λ a. tables_named seen (seen.stands pack) (StopsAudit seen (seen.stands log) a) (audit_named seen (seen.stands log) a)) h so
 
 asked_named : (seen : Seen) (asked : Option Command) (h : Halt) → StopsAsked seen asked h → IsNamed h
 asked_named seen None h (inl e) = named_as h Words e tt

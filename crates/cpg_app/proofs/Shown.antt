@@ -28,7 +28,7 @@ use Rattle.cpg_table.specs.declared.fault.Fault.{Fault}
 use Rattle.cpg_table.specs.Lawful.{Tables}
 use Rattle.cpg_table.specs.Valid.{IsValid}
 use Rattle.cpg_violation.specs.Heads.{IsHeadFor}
-use Rattle.cpg_app.proofs.Checked.{CheckLeft, check_left, checked_is, node_is, node_left, play_left, played_is}
+use Rattle.cpg_app.proofs.Checked.{CheckLeft, check_left, checked_is, node_is, node_left, play_left, played_is, audit_left, audited_is}
 use Rattle.cpg_app.proofs.Excluded.{Left, graph_left, tune_left, made_not_wide, made_not_late}
 
 -- words without a form print nothing
@@ -72,7 +72,8 @@ module _ (r : Ran) where
     with_check : (a : Admission) (t : Tables) → AsksVerdict r a t → IsHeadFor a.graph t.head × IsValid a.graph t.nodes
     with_check a t asks = elim asks.words [
       | inl check ↦ checked_is r.shelf a t asks.graph asks.pack asks.bytes asks.told asks.file asks.faultless.shelf asks.spelled asks.lawful text (subst (λ c. PrintsAsked r.shelf c text) check with.prints)
-      | inr play ↦ played_is r.shelf a t asks.graph asks.pack asks.bytes asks.told asks.file asks.faultless.shelf asks.spelled asks.lawful (r.shelf.stands play.0) play.1 text (subst (λ c. PrintsAsked r.shelf c text) play.2 with.prints)
+      | inr (inl play) ↦ played_is r.shelf a t asks.graph asks.pack asks.bytes asks.told asks.file asks.faultless.shelf asks.spelled asks.lawful (r.shelf.stands play.0) play.1 text (subst (λ c. PrintsAsked r.shelf c text) play.2 with.prints)
+      | inr (inr log) ↦ audited_is r.shelf a t asks.graph asks.pack asks.bytes asks.told asks.file asks.faultless.shelf asks.spelled asks.lawful (r.shelf.stands log.0) text (subst (λ c. PrintsAsked r.shelf c text) log.1 with.prints)
     ]
 
     module _ (a : Admission) (asks : Asks r a) where
@@ -197,8 +198,10 @@ module _ (r : Ran) where
       left_check : CheckLeft a t halt
       left_check = elim asks.words [
         | inl check ↦ check_left r.shelf a t asks.graph asks.pack asks.bytes asks.told asks.file asks.faultless.shelf asks.spelled asks.lawful halt (subst (λ c. StopsAsked r.shelf c halt) check by.stops)
-        | inr play ↦ let says = play.3 in play_left r.shelf a t asks.graph asks.pack asks.bytes asks.told asks.file asks.faultless.shelf asks.spelled asks.lawful (r.shelf.stands play.0) says.bytes says.told says.short says.played says.says halt
+        | inr (inl play) ↦ let says = play.3 in play_left r.shelf a t asks.graph asks.pack asks.bytes asks.told asks.file asks.faultless.shelf asks.spelled asks.lawful (r.shelf.stands play.0) says.bytes says.told says.short says.played says.says halt
             (subst (λ c. StopsAsked r.shelf c halt) play.2 by.stops)
+        | inr (inr log) ↦ let says = log.2 in audit_left r.shelf a t asks.graph asks.pack asks.bytes asks.told asks.file asks.faultless.shelf asks.spelled asks.lawful (r.shelf.stands log.0) says.bytes says.told says.short says.log says.says halt
+            (subst (λ c. StopsAsked r.shelf c halt) log.1 by.stops)
       ]
 
       by_other : (IsHeadFor a.graph t.head → ⊥) → (r.status ≡ 4) ⊎ (r.status ≡ 8)

@@ -15,6 +15,7 @@ use Rattle.cpg_table.specs.declared.fault.Fault.{Fault}
 use Rattle.cpg_table.specs.Lawful.{Tables}
 use Rattle.cpg_codec.specs.declared.fault.PackFault.{PackFault}
 use Rattle.cpg_scenario.specs.declared.fault.ScenarioFault.{ScenarioFault}
+use Rattle.cpg_audit.specs.declared.fault.LogFault.{LogFault}
 use Rattle.cpg_rules.specs.Admission.{Admission}
 use Rattle.cpg_rules.specs.declared.admission.RuleFault.{RuleFault}
 use Rattle.cpg_hyper.specs.declared.part.HyperFault.{HyperFault}
@@ -23,9 +24,9 @@ use Rattle.cpg_app.specs.declared.halt.Refusal.{Refusal}
 use Rattle.cpg_app.specs.declared.halt.Refusal.TheVariants.{NotBuilt}
 use Rattle.cpg_app.specs.declared.halt.Halt.{Halt}
 use Rattle.cpg_app.specs.declared.halt.Halt.TheVariants.{Words, Read, Refused, Late, TooWide, Unsafe, Memory}
-use Rattle.cpg_app.specs.Halts.{halt_of_reading, halt_of_pack, halt_of_rules, halt_of_scenario, halt_of_compile, halt_of_parts}
+use Rattle.cpg_app.specs.Halts.{halt_of_reading, halt_of_pack, halt_of_rules, halt_of_scenario, halt_of_log, halt_of_compile, halt_of_parts}
 use Rattle.cpg_app.specs.Lines.{status_of}
-use Rattle.cpg_app.specs.Causes.{Seen, StopsReading, BreaksRule, IsUnbuiltCommand, StopsGraph, IsUncompiled, IsOutOfMemory, StopsTables, StopsNaming, StopsVerdict, StopsPlay, StopsParts, StopsCommand, StopsAsked, Stops}
+use Rattle.cpg_app.specs.Causes.{Seen, StopsReading, BreaksRule, IsUnbuiltCommand, StopsGraph, IsUncompiled, IsOutOfMemory, StopsTables, StopsNaming, StopsVerdict, StopsPlay, StopsParts, StopsCommand, StopsAsked, Stops, StopsAudit}
 
 -- a halt of a command isn't one of its words, and is one of the shelf where its faults rose
 record IsOfCommand (seen : Seen) (h : Halt) : Type 0 where
@@ -105,6 +106,16 @@ of_play seen told a t h (inl (inr (inl long))) = later seen h _ long.halt_is (om
 of_play seen told a t h (inl (inr (inr none))) = later seen h _ none.halt_is (of_scenario none.fault)
 of_play seen told a t h (inr judged) = of_verdict seen a t h judged.2
 
+of_log : (fault : LogFault) → 4 ≤ status_of (halt_of_log fault)
+of_log (LogFault.Bad line) = omega arith
+of_log LogFault.OutOfMemory = omega arith
+
+of_audit : (seen : Seen) (told : Option Text) (a : Admission) (t : Tables) (h : Halt) → StopsAudit seen told a t h → IsOfCommand seen h
+of_audit seen told a t h (inl (inl unread)) = let same = ap status_of unread.halt_is in record { not_words = λ one. omega arith; read = λ two. unread.rose }
+of_audit seen told a t h (inl (inr (inl long))) = later seen h _ long.halt_is (omega arith)
+of_audit seen told a t h (inl (inr (inr none))) = later seen h _ none.halt_is (of_log none.fault)
+of_audit seen told a t h (inr judged) = of_verdict seen a t h judged.2
+
 of_parts : (fault : HyperFault) → 4 ≤ status_of (halt_of_parts fault)
 of_parts (HyperFault.Range p) = omega arith
 of_parts (HyperFault.Differ p) = omega arith
@@ -129,7 +140,7 @@ of_command seen (Trial number) h so = later seen h _ so (omega arith)
 of_command seen (Live pack name stream) h so = unbuilt_command seen h so
 of_command seen (Hyper parts) h so = of_unrolling seen parts h so
 of_command seen (Tune graph) h so = of_graph seen (seen.stands graph) IsOutOfMemory (λ a k e. later seen k _ e (omega arith)) h so
-of_command seen (Audit graph pack log) h so = unbuilt_command seen h so
+of_command seen (Audit graph pack log) h so = of_graph seen (seen.stands graph) (λ a. StopsTables seen (seen.stands pack) (StopsAudit seen (seen.stands log) a)) (λ a. of_tables seen (seen.stands pack) (StopsAudit seen (seen.stands log) a) (of_audit seen (seen.stands log) a)) h so
 
 words_asked : (seen : Seen) (asked : Option Command) (h : Halt) → StopsAsked seen asked h → status_of h ≡ 1 → asked ≡ None
 words_asked seen None h so one = refl

@@ -19,6 +19,10 @@ use Rattle.cpg_codec.specs.declared.fault.PackFault.{PackFault}
 use Rattle.cpg_codec.specs.Packs.{AreLawful, IsBadPack}
 use Rattle.cpg_codec.specs.Spelling.{spelling}
 use Rattle.cpg_table.specs.declared.fault.Fault.{Fault}
+use Rattle.cpg_audit.specs.Lines.{lines}
+use Rattle.cpg_audit.specs.Log.{Log}
+use Rattle.cpg_audit.specs.Reading.{IsBadLine, IsLogOf}
+use Rattle.cpg_audit.specs.declared.fault.LogFault.{LogFault}
 use Rattle.cpg_scenario.specs.File.{file_of}
 use Rattle.cpg_scenario.specs.declared.fault.ScenarioFault.{ScenarioFault}
 use Rattle.cpg_scenario.specs.declared.reading.Played.{Played}
@@ -32,11 +36,11 @@ use Rattle.cpg_hyper.specs.Refusals.{ShowsUnrolled}
 use Rattle.cpg_core.specs.declared.fault.CompileFault.{CompileFault}
 use Rattle.cpg_core.specs.Compilation.{ShowsCompileFault}
 use Rattle.cpg_app.specs.declared.halt.Refusal.{Refusal}
-use Rattle.cpg_app.specs.declared.halt.Refusal.TheVariants.{LongGraph, LongPack, LongScenario, OtherGraph, UnknownNode, NotBuilt}
+use Rattle.cpg_app.specs.declared.halt.Refusal.TheVariants.{LongGraph, LongPack, LongScenario, LongLog, OtherGraph, UnknownNode, NotBuilt}
 use Rattle.cpg_app.specs.declared.halt.Halt.{Halt}
 use Rattle.cpg_app.specs.declared.halt.Halt.TheVariants.{Words, Read, Refused, Unsafe, Memory}
-use Rattle.cpg_app.specs.declared.reading.TheConstants.{GRAPH_LIMIT, SCENARIO_LIMIT, PACK_LIMIT}
-use Rattle.cpg_app.specs.Halts.{halt_of_reading, halt_of_pack, halt_of_rules, halt_of_scenario, halt_of_compile, halt_of_parts}
+use Rattle.cpg_app.specs.declared.reading.TheConstants.{GRAPH_LIMIT, SCENARIO_LIMIT, LOG_LIMIT, PACK_LIMIT}
+use Rattle.cpg_app.specs.Halts.{halt_of_reading, halt_of_pack, halt_of_rules, halt_of_scenario, halt_of_log, halt_of_compile, halt_of_parts}
 
 -- what a run sees of its shelf: what stands under each name, how many bytes the last fetched name gave, and the count
 -- of faults before and after
@@ -160,6 +164,27 @@ StopsPlayed seen told g halt = IsUnread seen halt ⊎ (IsLong SCENARIO_LIMIT Lon
 abbrev pub StopsPlay : Seen → Option Text → Admission → Tables → Halt → Type 0
 StopsPlay seen told a t halt = StopsPlayed seen told a.graph halt ⊎ ((p : Played) × SaysPlayed told a.graph p × StopsVerdict a t halt)
 
+-- the bytes of a log, where the shelf tells them, are those of a log of the graph
+abbrev pub SaysLog : Option Text → Graph → Log → Type 0
+SaysLog told g log = IsShort LOG_LIMIT told × IfSome told (λ bytes. IsLogOf g bytes log)
+
+-- they are those of none, and this is the first line that makes them so
+abbrev pub ShowsLogFault : Option Text → Graph → LogFault → Type 0
+ShowsLogFault told g (LogFault.Bad line) = IsShort LOG_LIMIT told × IfSome told (λ bytes. IsBadLine g (lines bytes) line)
+ShowsLogFault told g LogFault.OutOfMemory = ⊤
+
+pub record IsNoLog (told : Option Text) (g : Graph) (halt : Halt) : Type 0 where
+  pub fault : LogFault
+  pub halt_is : halt ≡ halt_of_log fault
+  pub shows : ShowsLogFault told g fault
+
+abbrev pub StopsLog : Seen → Option Text → Graph → Halt → Type 0
+StopsLog seen told g halt = IsUnread seen halt ⊎ (IsLong LOG_LIMIT LongLog seen told halt ⊎ IsNoLog told g halt)
+
+-- a log stops a run: as it is read, or by the check that comes before its audit
+abbrev pub StopsAudit : Seen → Option Text → Admission → Tables → Halt → Type 0
+StopsAudit seen told a t halt = StopsLog seen told a.graph halt ⊎ ((log : Log) × SaysLog told a.graph log × StopsVerdict a t halt)
+
 -- the number of the first node of a name
 abbrev pub first_named : Head → Text → Option ℕ
 first_named h name = position (λ node. bytes_eq node name) h.nodes
@@ -214,7 +239,7 @@ StopsCommand seen (Trial number) halt = halt ≡ Memory
 StopsCommand seen (Live pack name stream) halt = IsUnbuiltCommand halt
 StopsCommand seen (Hyper parts) halt = StopsParts seen parts halt
 StopsCommand seen (Tune graph) halt = StopsGraph seen (seen.stands graph) IsOutOfMemory halt
-StopsCommand seen (Audit graph pack log) halt = IsUnbuiltCommand halt
+StopsCommand seen (Audit graph pack log) halt = StopsGraph seen (seen.stands graph) (λ a. StopsTables seen (seen.stands pack) (StopsAudit seen (seen.stands log) a)) halt
 
 -- words without a form stop a run as such, or for want of memory
 abbrev pub StopsAsked : Seen → Option Command → Halt → Type 0

@@ -4,11 +4,12 @@ use Rattle.cpg_words.specs.declared.fault.WordsFault.{WordsFault}
 use Rattle.cpg_reader.specs.declared.place.ReadFault.{ReadFault}
 use Rattle.cpg_codec.specs.declared.fault.PackFault.{PackFault}
 use Rattle.cpg_scenario.specs.declared.fault.ScenarioFault.{ScenarioFault}
+use Rattle.cpg_audit.specs.declared.fault.LogFault.{LogFault}
 use Rattle.cpg_rules.specs.Admission.{Admission}
 use Rattle.cpg_rules.specs.declared.admission.RuleFault.{RuleFault}
 use Rattle.cpg_core.specs.declared.fault.CompileFault.{CompileFault}
 use Rattle.cpg_hyper.specs.declared.part.HyperFault.{HyperFault}
-use Rattle.cpg_app.specs.declared.halt.Refusal.TheVariants.{NotToml, BadField, DoubleName, UnknownName, OverLimit, Cycle, TwoAlternatives, NoSlot, TooBig, BadPack, BadScenario, TooManyTracks, NoHypergraph}
+use Rattle.cpg_app.specs.declared.halt.Refusal.TheVariants.{NotToml, BadField, DoubleName, UnknownName, OverLimit, Cycle, TwoAlternatives, NoSlot, TooBig, BadPack, BadScenario, BadLog, TooManyTracks, NoHypergraph}
 use Rattle.cpg_app.specs.declared.halt.Halt.{Halt}
 use Rattle.cpg_app.specs.declared.halt.Halt.TheVariants.{Words, Refused, Late, TooWide, Memory}
 
@@ -35,6 +36,11 @@ halt_of_pack PackFault.OutOfMemory = Memory
 abbrev pub halt_of_scenario : ScenarioFault → Halt
 halt_of_scenario (ScenarioFault.Bad cause) = Refused (BadScenario cause)
 halt_of_scenario ScenarioFault.OutOfMemory = Memory
+
+-- of the reading of a log
+abbrev pub halt_of_log : LogFault → Halt
+halt_of_log (LogFault.Bad line) = Refused (BadLog line)
+halt_of_log LogFault.OutOfMemory = Memory
 
 -- of the admission of a graph
 abbrev pub halt_of_rules : Graph → RuleFault → Halt

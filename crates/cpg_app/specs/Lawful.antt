@@ -5,7 +5,7 @@ use Rattle.cpg_base.specs.Graph.{Graph}
 use Rattle.cpg_words.specs.Parts.{Text}
 use Rattle.cpg_words.specs.Forms.{command_of}
 use Rattle.cpg_words.specs.declared.command.Command.{Command}
-use Rattle.cpg_words.specs.declared.command.Command.TheVariants.{Show, Compile, Check, Play, Node, Trial, Tune}
+use Rattle.cpg_words.specs.declared.command.Command.TheVariants.{Show, Compile, Check, Play, Node, Trial, Tune, Audit}
 use Rattle.cpg_reader.specs.Document.{problem_of}
 use Rattle.cpg_rules.specs.Admission.{Admission, IsAdmitted}
 use Rattle.cpg_base.specs.Scenario.{Scenario}
@@ -19,9 +19,11 @@ use Rattle.cpg_table.specs.Valid.{IsValid}
 use Rattle.cpg_codec.specs.Packs.{AreLawful}
 use Rattle.cpg_codec.specs.Spelling.{spelling}
 use Rattle.cpg_violation.specs.Heads.{IsHeadFor}
+use Rattle.cpg_audit.specs.Log.{Log}
+use Rattle.cpg_audit.specs.Reading.{IsLogOf}
 use Rattle.cpg_scenario.specs.File.{file_of}
 use Rattle.cpg_scenario.specs.declared.reading.Played.{Played}
-use Rattle.cpg_app.specs.declared.reading.TheConstants.{GRAPH_LIMIT, SCENARIO_LIMIT}
+use Rattle.cpg_app.specs.declared.reading.TheConstants.{GRAPH_LIMIT, SCENARIO_LIMIT, LOG_LIMIT}
 use Rattle.cpg_app.specs.Causes.{Stops, first_named}
 use Rattle.cpg_app.specs.Endings.{Ran, Ends, IsPrinted, IsTold}
 use Rattle.cpg_app.specs.Outputs.{Prints}
@@ -60,10 +62,19 @@ pub record SaysScenario (r : Ran) (g : Graph) (name : Text) : Type 0 where
   pub played : Played
   pub says : file_of g bytes ≡ Ok played
 
--- the words ask to check a pack, or to play it as such a scenario file says
+-- the shelf tells the bytes of a log of the graph, at most 16 MiB
+pub record SaysActs (r : Ran) (g : Graph) (name : Text) : Type 0 where
+  pub bytes : Text
+  pub told : r.shelf.stands name ≡ Some bytes
+  pub short : length bytes ≤ LOG_LIMIT
+  pub log : Log
+  pub says : IsLogOf g bytes log
+
+-- the words ask to check a pack, to play it as such a scenario file says, or to audit such a log by it
 abbrev pub AsksToJudge : Ran → Graph → Text → Text → Type 0
 AsksToJudge r g graph pack = (command_of r.words ≡ Some (Check graph pack))
-    ⊎ ((scenario : Text) × (turns : ℕ) × (command_of r.words ≡ Some (Play graph pack scenario turns)) × SaysScenario r g scenario)
+    ⊎ (((scenario : Text) × (turns : ℕ) × (command_of r.words ≡ Some (Play graph pack scenario turns)) × SaysScenario r g scenario)
+    ⊎ ((log : Text) × (command_of r.words ≡ Some (Audit graph pack log)) × SaysActs r g log))
 
 -- they do, the shelf tells the bytes of an admitted graph and of tables, and nothing failed
 pub record AsksVerdict (r : Ran) (a : Admission) (t : Tables) : Type 0 where
@@ -123,8 +134,8 @@ pub record IsLawful (r : Ran) : Type 0 where
   pub wide : (a : Admission) (x : ℕ) → Asks r a → IsWide a.graph a.order x → (r.status ≡ 6) ⊎ (r.status ≡ 8)
   pub made : (a : Admission) → Asks r a → IsNarrow a.graph a.order → IsTimely a.graph a.order → (r.status ≡ 0) ⊎ (r.status ≡ 8)
   pub late : (a : Admission) → Asks r a → IsLate a.graph a.order → (r.status ≡ 5) ⊎ (r.status ≡ 8)
-  -- a pack is refused as another graph's where its head is, and else found safe, or played, where its tables keep the ten
-  -- rules, and found unsafe where they don't, but for want of memory
+  -- a pack is refused as another graph's where its head is, and else found safe, played, or a log audited by it, where its
+  -- tables keep the ten rules, and found unsafe where they don't, but for want of memory
   pub other : (a : Admission) (t : Tables) → AsksVerdict r a t → (IsHeadFor a.graph t.head → ⊥) → (r.status ≡ 4) ⊎ (r.status ≡ 8)
   pub safe : (a : Admission) (t : Tables) → AsksVerdict r a t → IsHeadFor a.graph t.head → IsValid a.graph t.nodes → (r.status ≡ 0) ⊎ (r.status ≡ 8)
   pub broken : (a : Admission) (t : Tables) → AsksVerdict r a t → IsHeadFor a.graph t.head → (IsValid a.graph t.nodes → ⊥) → (r.status ≡ 7) ⊎ (r.status ≡ 8)

@@ -1,5 +1,5 @@
 -- What a command puts out.
-use Rattle.std.specs.Prelude.{ℕ, ◌≡◌, ◌≤◌, List, Option, Some, None, Ok, codes, length, string_bytes}
+use Rattle.std.specs.Prelude.{ℕ, ◌≡◌, ◌≤◌, ◌++◌, List, Option, Some, None, IfNone, IfSome, Ok, codes, length, string_bytes}
 use Rattle.cpg_base.specs.Graph.{Graph}
 use Rattle.cpg_words.specs.Parts.{Text}
 use Rattle.cpg_words.specs.Forms.{command_of}
@@ -26,6 +26,10 @@ use Rattle.cpg_codec.specs.Packs.{AreLawful}
 use Rattle.cpg_codec.specs.Spelling.{spelling}
 use Rattle.cpg_app.specs.declared.output.Output.{Output}
 use Rattle.cpg_app.specs.declared.output.Output.TheVariants.{Lines, Pack}
+use Rattle.cpg_order.specs.Scenario.{Scenario, IsLeast, IsScenario}
+use Rattle.cpg_audit.specs.Gives.{Gives}
+use Rattle.cpg_audit.specs.Log.{Log, IsLog}
+use Rattle.cpg_scenario.specs.Text.{scenario_text}
 use Rattle.cpg_scenario.specs.File.{IsPlayed}
 use Rattle.cpg_scenario.specs.declared.reading.Played.{Played}
 use Rattle.cpg_app.specs.declared.reading.TheConstants.{PACK_LIMIT}
@@ -33,7 +37,7 @@ use Rattle.cpg_app.specs.Knowledge.{KnowLocally}
 use Rattle.cpg_app.specs.Plays.{world_of, IsPlayText}
 use Rattle.cpg_app.specs.Trials.{trial_text}
 use Rattle.cpg_app.specs.Tunes.{IsTuningText}
-use Rattle.cpg_app.specs.Causes.{Seen, Admits, AreSaid, SaysPlayed, Spells, first_named}
+use Rattle.cpg_app.specs.Causes.{Seen, Admits, AreSaid, SaysPlayed, Spells, first_named, SaysLog}
 
 -- Tables that keep the ten rules, and what follows for the nodes that have them: in every scenario, with all lengths of
 -- executions and in every order of turns, each node starts and sends just what is due, in order and in time, can always go
@@ -116,6 +120,30 @@ pub record IsPlayedText (told : Option Text) (a : Admission) (t : Tables) (numbe
 abbrev pub IsPlayOf : Option Text → Option Text → Option Text → ℕ → Text → Type 0
 IsPlayOf graph pack scenario number text = (a : Admission) × Admits graph a × IsSpelled pack (λ t. IsPlayedText scenario a t number text)
 
+-- the text of the scenario that gives a log, if one does
+abbrev pub given_text : Graph → Option Scenario → Text
+given_text g None = codes "impossible\n"
+given_text g (Some s) = codes "scenario " ++ scenario_text g s ++ codes "\n"
+
+-- it is that of the least scenario that gives a log, and says so where none gives it
+pub record IsAuditText (g : Graph) (order : List ℕ) (tables : List NodeTable) (log : Log) (text : Text) : Type 0 where
+  pub found : Option Scenario
+  pub least : IfSome found (IsLeast g order (Gives g tables log))
+  pub none : IfNone found ((s : Scenario) → IsScenario g s → ¬ Gives g tables log s)
+  pub spelled : text ≡ given_text g found
+
+-- so of what a log says, and of safe tables
+pub record IsAuditedText (told : Option Text) (a : Admission) (t : Tables) (text : Text) : Type 0 where
+  pub judged : AreJudgedSafe a t
+  pub log : Log
+  pub says : SaysLog told a.graph log
+  pub lawful : IsLog a.graph log
+  pub audited : IsAuditText a.graph a.order t.nodes log text
+
+-- of the graph of a file and the tables of a pack
+abbrev pub IsAuditOf : Option Text → Option Text → Option Text → Text → Type 0
+IsAuditOf graph pack log text = (a : Admission) × Admits graph a × IsSpelled pack (λ t. IsAuditedText log a t text)
+
 -- the text is read as the graph of all instances of parts
 abbrev pub IsUnrolledText : List Part → Text → Type 0
 IsUnrolledText parts text = (g : Graph) × ShowsUnrolled parts (Ok g) × (problem_of text ≡ Ok g)
@@ -147,7 +175,7 @@ PrintsCommand seen (Trial number) text = IsTrialText number text
 PrintsCommand seen (Live pack name stream) text = ⊥
 PrintsCommand seen (Hyper parts) text = IsUnrolledOf seen.stands parts text
 PrintsCommand seen (Tune graph) text = IsTunedOf (seen.stands graph) text
-PrintsCommand seen (Audit graph pack log) text = ⊥
+PrintsCommand seen (Audit graph pack log) text = IsAuditOf (seen.stands graph) (seen.stands pack) (seen.stands log) text
 
 -- words without a form have none
 abbrev pub PrintsAsked : Seen → Option Command → Text → Type 0

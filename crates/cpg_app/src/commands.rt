@@ -4,15 +4,16 @@ ghost use Rattle.std.specs.Str.{bytes_eq};
 ghost use Rattle.cpg_words.specs.FileWords.{file_words, file_words_of};
 ghost use Rattle.cpg_io.specs.Shelf.{SameLeave, SameNames};
 ghost use Rattle.cpg_core.specs.Compilation.{IsCompilation};
-ghost use Rattle.cpg_app.specs.Causes.{Admits, first_named, IsOutOfMemory, IsUncompiled, Stops, StopsAdmission, StopsCommand, StopsGraph, StopsNaming, StopsPlay, StopsTables, StopsVerdict};
+ghost use Rattle.cpg_app.specs.Causes.{Admits, first_named, IsOutOfMemory, IsUncompiled, Stops, StopsAdmission, StopsCommand, StopsGraph, StopsNaming, StopsPlay, StopsTables, StopsVerdict, StopsAudit};
 ghost use Rattle.cpg_app.specs.Knowledge.{KnowLocally};
-ghost use Rattle.cpg_app.specs.Outputs.{bytes_of, packed, shown, AreJudgedSafe, ArePackOf, AreSafe, IsMade, IsMadeOf, IsNodeOf, IsNodeText, IsChecked, IsPlayOf, IsPlayedText, IsSafeText, IsSpelled, IsTunedOf, Prints, PrintsCommand};
+ghost use Rattle.cpg_app.specs.Outputs.{bytes_of, packed, shown, AreJudgedSafe, ArePackOf, AreSafe, IsMade, IsMadeOf, IsNodeOf, IsNodeText, IsChecked, IsPlayOf, IsPlayedText, IsSafeText, IsSpelled, IsTunedOf, Prints, PrintsCommand, IsAuditOf, IsAuditedText};
 
+use crate::auditing::audit_text;
 use crate::halt::{Halt, Refusal};
 use crate::output::Output;
 use crate::periods::hyper;
 use crate::playing::play_text;
-use crate::reading::{admit_graph, read_graph, read_played, read_tables};
+use crate::reading::{admit_graph, read_graph, read_played, read_tables, read_acts};
 use crate::trials::trial;
 use crate::tuning::tune_admitted;
 use cpg_base::Name;
@@ -247,6 +248,61 @@ fn play_files<S: Shelf>(
     play_pack(alloc, shelf, admitted, pack, scenario, turns)
 }
 
+/// Audits a log by tables, once they are found valid.
+fn audit_log<S: Shelf>(
+    alloc: Global,
+    shelf: &mut S,
+    admitted: Admitted,
+    tables: &Tables,
+    log: &str,
+) -> Result<Output, Halt>
+    requires { S.may_fetch shelf.old log.now }
+    ensures text { IfOk result (λ o. IsAuditedText (S.stands shelf.old log.now) admitted tables.now (bytes_of o)) }
+    ensures halt { IfErr result (StopsAudit (record { stands = S.stands shelf.old; given = S.given shelf.new; before = S.faults shelf.old; now = S.faults shelf.new }) (S.stands shelf.old log.now) admitted tables.now) }
+{
+    let acts = read_acts(alloc, shelf, log, admitted.problem())?;
+    let admitted = judged(alloc, admitted, tables)?;
+    match audit_text(alloc, &admitted, tables, &acts) {
+        Ok(text) => Ok(Output::Lines(text)),
+        Err(_) => Err(Halt::Memory),
+    }
+}
+
+/// Audits a log by the tables of a pack for an admitted graph.
+fn audit_pack<S: Shelf>(
+    alloc: Global,
+    shelf: &mut S,
+    admitted: Admitted,
+    pack: &str,
+    log: &str,
+) -> Result<Output, Halt>
+    requires pack { S.may_fetch shelf.old pack.now }
+    requires log { S.may_fetch shelf.old log.now }
+    ensures text { IfOk result (λ o. IsSpelled (S.stands shelf.old pack.now) (λ t. IsAuditedText (S.stands shelf.old log.now) admitted t (bytes_of o))) }
+    ensures halt { IfErr result (StopsTables (record { stands = S.stands shelf.old; given = S.given shelf.new; before = S.faults shelf.old; now = S.faults shelf.new }) (S.stands shelf.old pack.now) (StopsAudit (record { stands = S.stands shelf.old; given = S.given shelf.new; before = S.faults shelf.old; now = S.faults shelf.new }) (S.stands shelf.old log.now) admitted)) }
+{
+    let tables = read_tables(alloc, shelf, pack)?;
+    audit_log(alloc, shelf, admitted, &tables, log)
+}
+
+/// Audits a log by the tables of a pack for the graph of a file.
+fn audit_files<S: Shelf>(
+    alloc: Global,
+    shelf: &mut S,
+    graph: &str,
+    pack: &str,
+    log: &str,
+) -> Result<Output, Halt>
+    requires graph { S.may_fetch shelf.old graph.now }
+    requires pack { S.may_fetch shelf.old pack.now }
+    requires log { S.may_fetch shelf.old log.now }
+    ensures text { IfOk result (λ o. IsAuditOf (S.stands shelf.old graph.now) (S.stands shelf.old pack.now) (S.stands shelf.old log.now) (bytes_of o)) }
+    ensures halt { IfErr result (StopsGraph (record { stands = S.stands shelf.old; given = S.given shelf.new; before = S.faults shelf.old; now = S.faults shelf.new }) (S.stands shelf.old graph.now) (λ a. StopsTables (record { stands = S.stands shelf.old; given = S.given shelf.new; before = S.faults shelf.old; now = S.faults shelf.new }) (S.stands shelf.old pack.now) (StopsAudit (record { stands = S.stands shelf.old; given = S.given shelf.new; before = S.faults shelf.old; now = S.faults shelf.new }) (S.stands shelf.old log.now) a))) }
+{
+    let admitted = admitted_file(alloc, shelf, graph)?;
+    audit_pack(alloc, shelf, admitted, pack, log)
+}
+
 /// Whether a node has a name.
 fn is_named(node: &Name, name: &str) -> bool
     ensures { result ≡ bytes_eq node.now name.now }
@@ -317,6 +373,13 @@ fn command_output<S: Shelf>(alloc: Global, shelf: &mut S, command: &Command) -> 
         Command::Trial { number } => trial(alloc, *number),
         Command::Hyper { parts } => hyper(alloc, shelf, parts.as_slice()),
         Command::Tune { graph } => tune_file(alloc, shelf, graph.as_str()),
+        Command::Audit { graph, pack, log } => audit_files(
+            alloc,
+            shelf,
+            graph.as_str(),
+            pack.as_str(),
+            log.as_str(),
+        ),
         _ => Err(Halt::Refused(Refusal::NotBuilt)),
     }
 }

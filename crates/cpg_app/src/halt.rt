@@ -1,8 +1,9 @@
 //! Why a run stops without an output.
 ghost use Rattle.std.specs.Prelude.{◌≡◌, IfErr};
 ghost use Rattle.cpg_app.specs.Lines.{status_of};
-ghost use Rattle.cpg_app.specs.Halts.{halt_of_reading, halt_of_pack, halt_of_rules, halt_of_scenario, halt_of_compile, halt_of_parts};
+ghost use Rattle.cpg_app.specs.Halts.{halt_of_reading, halt_of_pack, halt_of_rules, halt_of_scenario, halt_of_log, halt_of_compile, halt_of_parts};
 
+use cpg_audit::LogFault;
 use cpg_base::{Problem, Scenario};
 use cpg_check::HeadPart;
 use cpg_codec::PackFault;
@@ -56,12 +57,16 @@ pub enum Refusal {
     BadPack(u64),
     /// The bytes are no scenario file of the graph.
     BadScenario(Cause),
+    /// The bytes are no log of the graph: the first line that makes them none, counted from 0.
+    BadLog(u64),
     /// The graph file gave more than 16,777,216 bytes.
     LongGraph,
     /// The pack gave more than 268,435,456 bytes.
     LongPack,
     /// The scenario file gave more than 16,777,216 bytes.
     LongScenario,
+    /// The log gave more than 16,777,216 bytes.
+    LongLog,
     /// The pack is another graph's: the first part of its head that differs.
     OtherGraph(HeadPart),
     /// The graph has more than 16,384 tracks.
@@ -183,6 +188,16 @@ impl Halt {
             RuleFault::NoSlot(node) => Halt::Refused(Refusal::NoSlot { graph, node }),
             RuleFault::TooBig(edge) => Halt::Refused(Refusal::TooBig(edge)),
             RuleFault::OutOfMemory => Halt::Memory,
+        }
+    }
+
+    /// What a log that can't be read stops a run with.
+    pub fn of_log(fault: LogFault) -> Halt
+        ensures { result ≡ halt_of_log fault }
+    {
+        match fault {
+            LogFault::Bad(line) => Halt::Refused(Refusal::BadLog(line)),
+            LogFault::OutOfMemory => Halt::Memory,
         }
     }
 

@@ -4,6 +4,7 @@
 ghost use Rattle.cpg_app.specs.Joined.{PacksAreTaken};
 
 mod answer;
+mod auditing;
 mod commands;
 mod halt;
 mod lines;
@@ -19,7 +20,7 @@ mod tuning;
 pub use top::{run, run_without_words};
 
 /// What `compile` wrote for a graph, `check` with that graph finds safe, `play` plays for each scenario file of the graph,
-/// and `node` prints for each of its nodes, want of memory aside.
+/// `audit` audits each log of the graph by, and `node` prints for each of its nodes, want of memory aside.
 pub fn packs_are_taken()
     ensures { PacksAreTaken }
 {}

@@ -2,10 +2,12 @@
 ghost use Rattle.std.specs.Prelude.{◌≡◌, ◌≤◌, IfOk, IfErr};
 ghost use Rattle.cpg_io.specs.Shelf.{SameLeave, SameNames};
 ghost use Rattle.cpg_rules.specs.Admission.{IsAdmitted};
-ghost use Rattle.cpg_app.specs.Causes.{BreaksRule, Says, SaysPlayed, Spells, StopsPack, StopsPlayed, StopsReading};
+ghost use Rattle.cpg_app.specs.Causes.{BreaksRule, Says, SaysLog, SaysPlayed, Spells, StopsLog, StopsPack, StopsPlayed, StopsReading};
+ghost use Rattle.cpg_audit.specs.Log.{IsLog};
 ghost use Rattle.cpg_scenario.specs.File.{IsPlayed};
 
 use crate::halt::{Halt, Refusal};
+use cpg_audit::{Log, read_log};
 use cpg_base::Problem;
 use cpg_codec::read_pack;
 use cpg_io::{ReadAll, Shelf, read_all};
@@ -20,6 +22,9 @@ const GRAPH_LIMIT: usize = 16_777_216;
 
 /// The most bytes of a scenario file.
 const SCENARIO_LIMIT: usize = 16_777_216;
+
+/// The most bytes of a log.
+const LOG_LIMIT: usize = 16_777_216;
 
 /// The most bytes of a pack.
 const PACK_LIMIT: usize = 268_435_456;
@@ -99,5 +104,29 @@ pub fn read_played<S: Shelf>(
     match read_scenario(alloc, problem, bytes.as_slice()) {
         Ok(played) => Ok(played),
         Err(fault) => Err(Halt::of_scenario(fault)),
+    }
+}
+
+/// Reads a log whole, and what it says of a graph.
+pub fn read_acts<S: Shelf>(
+    alloc: Global,
+    shelf: &mut S,
+    name: &str,
+    problem: &Problem,
+) -> Result<Log, Halt>
+    requires { S.may_fetch shelf.old name.now }
+    ensures says { IfOk result (SaysLog (S.stands shelf.old name.now) problem.now) }
+    ensures lawful { IfOk result (IsLog problem.now) }
+    ensures halt { IfErr result (StopsLog (record { stands = S.stands shelf.old; given = S.given shelf.new; before = S.faults shelf.old; now = S.faults shelf.new }) (S.stands shelf.old name.now) problem.now) }
+{
+    let bytes = match read_all(alloc, shelf, name, LOG_LIMIT) {
+        Ok(bytes) => bytes,
+        Err(ReadAll::Failed) => return Err(Halt::Read),
+        Err(ReadAll::TooLong) => return Err(Halt::Refused(Refusal::LongLog)),
+        Err(ReadAll::OutOfMemory) => return Err(Halt::Memory),
+    };
+    match read_log(alloc, problem, bytes.as_slice()) {
+        Ok(log) => Ok(log),
+        Err(fault) => Err(Halt::of_log(fault)),
     }
 }

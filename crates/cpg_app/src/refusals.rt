@@ -203,10 +203,12 @@ fn write_refusal(out: &mut String, refusal: &Refusal) -> Result<(), OutOfMemory>
         Refusal::LongGraph => out.push_str("16 long graph")?,
         Refusal::LongPack => out.push_str("16 long pack")?,
         Refusal::LongScenario => out.push_str("16 long scenario")?,
+        Refusal::LongLog => out.push_str("16 long log")?,
         Refusal::OtherGraph(part) => write_other(out, *part)?,
         Refusal::TooManyTracks => out.push_str("18 tracks")?,
         Refusal::UnknownNode => out.push_str("19 node")?,
         Refusal::NoHypergraph(fault) => write_hyper(out, *fault)?,
+        Refusal::BadLog(line) => write!(out, "23 log {line}")?,
         Refusal::NotBuilt => out.push_str("20 not built")?,
     }
     Ok(())

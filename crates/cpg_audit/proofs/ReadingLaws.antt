@@ -3,7 +3,7 @@ use Rattle.std.proofs.Common.{ℕ, zero, suc, ◌+◌, ◌<◌, ◌≡◌, ◌�
 use Rattle.std.specs.Fmt.{decimal}
 use Rattle.std.proofs.lemmas.Bool.{cases_eq, cond-true, cond-false}
 use Rattle.std.proofs.lemmas.Fmt.{decimal_injective}
-use Rattle.std.proofs.lemmas.List.{length-map, length-take, get_or-take, map_push}
+use Rattle.std.proofs.lemmas.List.{length-map, length-take, get_or-take, map_push, take-map}
 use Rattle.std.proofs.lemmas.List.Elements.{All-contains, All-take, Contains-push}
 use Rattle.std.proofs.lemmas.List.Quantifiers.{all_pairs_push}
 use Rattle.std.proofs.lemmas.Option.{none-some}
@@ -142,12 +142,7 @@ apart_take ls n pairs i j d a b e =
     let long = length-take n ls in
     pairs i j d a (omega (arith, long, b)) (sym (ap (λ (l : Logged). l.item) (get_or-take n ls i d (omega (arith, long, a, b)))) ∙ e ∙ ap (λ (l : Logged). l.item) (get_or-take n ls j d (omega (arith, long, b))))
 
-take_map : (g : Graph) (n : ℕ) (ls : List Logged) → take n (map (act_line g) ls) ≡ map (act_line g) (take n ls)
-take_map g zero ls = refl
-take_map g (suc n) [] = refl
-take_map g (suc n) (l ∷ ls) = ap (λ xs. act_line g l ∷ xs) (take_map g n ls)
-
 pub no_bad_line : (g : Graph) (bytes : List ℕ) (log : Log) → IsLogOf g bytes log → (n : ℕ) → IsBadLine g (lines bytes) n → ⊥
 no_bad_line g bytes log is n bad = bad.none (record { until = log.until; acts = take n log.acts })
     (record { until = is.lawful.until; acts = All-take (IsActBy g log.until) n log.acts is.lawful.acts; apart = apart_take log.acts n is.lawful.apart })
-    (ap (λ m. take m (lines bytes)) (let m : n + 1 ≡ suc n = omega arith in m) ∙ ap (take (suc n)) is.spelled ∙ ap (λ xs. until_line log.until ∷ xs) (take_map g n log.acts))
+    (ap (λ m. take m (lines bytes)) (let m : n + 1 ≡ suc n = omega arith in m) ∙ ap (take (suc n)) is.spelled ∙ ap (λ xs. until_line log.until ∷ xs) (take-map (act_line g) n log.acts))

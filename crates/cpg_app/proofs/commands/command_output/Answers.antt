@@ -39,3 +39,10 @@ returns-in-Hyper-clause-halt g c =
     let seen : Seen = record { stands = S.stands c.args.shelf.now; given = S.given c.hyper.new.shelf; before = S.faults c.args.shelf.now; now = S.faults c.hyper.new.shelf } in
     subst (λ (command : Command). IfErr c.hyper.result (StopsCommand seen command)) (sym c.in-Hyper.is)
     (rw c.as_slice.ensures.pairs at c.hyper.ensures.halt)
+
+pub returns-in-Audit-clause-halt : goal.returns-in-Audit-clause-halt
+returns-in-Audit-clause-halt g c =
+    let S = g.S.Shelf in
+    let seen : Seen = record { stands = S.stands c.args.shelf.now; given = S.given c.audit_files.new.shelf; before = S.faults c.args.shelf.now; now = S.faults c.audit_files.new.shelf } in
+    subst (λ (command : Command). IfErr c.audit_files.result (StopsCommand seen command)) (sym c.in-Audit.is)
+    (rw (c.as_str-in-Audit.ensures, c.as_str-in-Audit-2.ensures, c.as_str-in-Audit-3.ensures) at c.audit_files.ensures.halt)

@@ -1,0 +1,58 @@
+//! The audit of a log.
+ghost use Rattle.std.specs.Prelude.{◌≡◌, IfErr, IfOk, string_bytes};
+ghost use Rattle.cpg_base.specs.Graph.{condition_count, process_count};
+ghost use Rattle.cpg_base.specs.Scenario.{Scenario};
+ghost use Rattle.cpg_table.specs.Valid.{IsValid};
+ghost use Rattle.cpg_violation.specs.Heads.{IsHeadFor};
+ghost use Rattle.cpg_audit.specs.Log.{IsLog};
+ghost use Rattle.cpg_app.specs.Lines.{HasLengths};
+ghost use Rattle.cpg_app.specs.Outputs.{IsAuditText, given_text};
+
+use cpg_audit::{Log, audit};
+use cpg_base::{OutOfMemory, Problem, Scenario};
+use cpg_rules::Admitted;
+use cpg_scenario::scenario_text;
+use cpg_table::Tables;
+use std::alloc::Global;
+
+/// The text of a scenario that gives a log.
+fn scenario_line(
+    alloc: Global,
+    problem: &Problem,
+    scenario: &Scenario,
+) -> Result<String, OutOfMemory>
+    requires { HasLengths problem.now scenario.now }
+    ensures { IfOk result (λ text. string_bytes text ≡ given_text problem.now (Some scenario.now)) }
+{
+    let scenario = scenario_text(alloc, problem, scenario)?;
+    let mut text = String::new(alloc);
+    write!(text, "scenario {scenario}\n")?;
+    Ok(text)
+}
+
+/// The text where no scenario gives a log.
+fn impossible(alloc: Global, problem: &Problem) -> Result<String, OutOfMemory>
+    ensures { IfOk result (λ text. string_bytes text ≡ given_text problem.now None) }
+{
+    let text = String::from_str(alloc, "impossible\n")?;
+    Ok(text)
+}
+
+/// The text of the least scenario that gives a log, or that none does.
+pub fn audit_text(
+    alloc: Global,
+    admitted: &Admitted,
+    tables: &Tables,
+    log: &Log,
+) -> Result<String, OutOfMemory>
+    requires head { IsHeadFor admitted.now.graph tables.now.head }
+    requires valid { IsValid admitted.now.graph tables.now.nodes }
+    requires log { IsLog admitted.now.graph log.now }
+    ensures { IfOk result (λ text. IsAuditText admitted.now.graph admitted.now.order tables.now.nodes log.now (string_bytes text)) }
+{
+    let problem = admitted.problem();
+    match audit(alloc, admitted, tables, log)? {
+        Some(scenario) => scenario_line(alloc, problem, &scenario),
+        None => impossible(alloc, problem),
+    }
+}
