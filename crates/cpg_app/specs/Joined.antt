@@ -35,12 +35,12 @@ EndsWell r = (r.status ≡ 0) ⊎ (r.status ≡ 8)
 
 -- a pack for a graph file of these bytes is taken by the commands that read packs
 pub record IsTaken (g : Graph) (bytes packed : Text) : Type 0 where
-  -- found safe for the graph, and played as each scenario file of the graph says
+  -- found safe for the graph, played as each scenario file of the graph says, and each log of the graph audited by it
   pub judged : (r : Ran) (graph pack : Text) → FindsPack r pack packed → r.shelf.stands graph ≡ Some bytes → AsksToJudge r g graph pack → EndsWell r
   -- and the table of each of its nodes is printed
   pub printed : (r : Ran) (pack : Text) (node : ℕ) → FindsPack r pack packed → node < length g.nodes → command_of r.words ≡ Some (Node pack (get_or g.nodes node [])) → EndsWell r
 
--- What `compile` wrote for a graph, `check` with that graph finds safe, `play` plays for each scenario file of the graph, and
+-- What `compile` wrote for a graph, `check` with that graph finds safe, `play` plays for each scenario file of the graph, `audit` audits each log of the graph by, and
 -- `node` prints for each of its nodes, want of memory aside.
 abbrev pub PacksAreTaken : Type 0
 PacksAreTaken = (r : Ran) (g : Graph) (bytes packed : Text) → HasPacked r bytes packed → problem_of bytes ≡ Ok g → IsTaken g bytes packed
