@@ -13,7 +13,7 @@ use crate::halt::{Halt, Refusal};
 use crate::output::Output;
 use crate::periods::hyper;
 use crate::playing::play_text;
-use crate::reading::{admit_graph, read_graph, read_played, read_tables, read_acts};
+use crate::reading::{admit_graph, read_acts, read_graph, read_played, read_tables};
 use crate::trials::trial;
 use crate::tuning::tune_admitted;
 use cpg_base::Name;

@@ -17,11 +17,7 @@ fn graph(alloc: Global) -> Result<Admitted, Fail> {
 }
 
 /// The first violation of V1 to V4.
-fn judged(
-    alloc: Global,
-    admitted: &Admitted,
-    tables: &Tables,
-) -> Result<Option<Fault>, OutOfMemory>
+fn judged(alloc: Global, admitted: &Admitted, tables: &Tables) -> Result<Option<Fault>, OutOfMemory>
     requires { IsHeadFor admitted.now.graph tables.now.head }
 {
     let lines = lines_of(alloc, admitted.problem(), tables)?;

@@ -41,11 +41,7 @@ fn for_one_fault(alloc: Global, admitted: &Admitted) -> Result<Tables, Fail>
 }
 
 /// The first violation of V1 to V3.
-fn judged(
-    alloc: Global,
-    admitted: &Admitted,
-    tables: &Tables,
-) -> Result<Option<Fault>, OutOfMemory>
+fn judged(alloc: Global, admitted: &Admitted, tables: &Tables) -> Result<Option<Fault>, OutOfMemory>
     requires { IsHeadFor admitted.now.graph tables.now.head }
 {
     let lines = lines_of(alloc, admitted.problem(), tables)?;
