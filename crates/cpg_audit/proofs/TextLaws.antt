@@ -1,5 +1,5 @@
 -- The texts of acts, by number of the item.
-use Rattle.std.proofs.Common.{ℕ, ◌+◌, ◌<◌, ◌≡◌, ◌^◌, ◌==◌, Bool, true, false, ◌&&◌, ◌||◌, List, [], ◌∷◌, ◌++◌, codes, length, map, get_or, drop, All, arith, refl, sym, ap, ◌∙◌, subst, ◌⊎◌, inl, inr, ne_eqb, true≢false, String, Global, string_bytes}
+use Rattle.std.proofs.Common.{ℕ, ◌+◌, ◌<◌, ◌≡◌, ◌^◌, ◌==◌, Bool, true, false, ◌&&◌, ◌||◌, List, [], ◌∷◌, ◌++◌, codes, length, map, get_or, drop, arith, refl, sym, ap, ◌∙◌, subst, ◌⊎◌, inl, inr, ne_eqb, true≢false, String, Global, string_bytes}
 use Rattle.std.specs.Prelude.{nat_lt}
 use Rattle.std.specs.Fmt.{decimal}
 use Rattle.std.specs.List.{list_any}

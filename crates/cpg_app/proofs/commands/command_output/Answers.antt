@@ -1,4 +1,4 @@
-use Rattle.std.proofs.Common.{◌≡◌, sym, subst}
+use Rattle.std.proofs.Common.{sym, subst}
 use Rattle.std.specs.Prelude.{IfOk, IfErr}
 use Rattle.cpg_words.specs.declared.command.Command.{Command}
 use Rattle.cpg_app.specs.Causes.{Seen, StopsCommand}
