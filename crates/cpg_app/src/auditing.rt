@@ -1,7 +1,5 @@
 //! The audit of a log.
-ghost use Rattle.std.specs.Prelude.{◌≡◌, IfErr, IfOk, string_bytes};
-ghost use Rattle.cpg_base.specs.Graph.{condition_count, process_count};
-ghost use Rattle.cpg_base.specs.Scenario.{Scenario};
+ghost use Rattle.std.specs.Prelude.{◌≡◌, IfOk, None, Some, string_bytes};
 ghost use Rattle.cpg_table.specs.Valid.{IsValid};
 ghost use Rattle.cpg_violation.specs.Heads.{IsHeadFor};
 ghost use Rattle.cpg_audit.specs.Log.{IsLog};

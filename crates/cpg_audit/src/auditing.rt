@@ -1,10 +1,9 @@
 //! The least scenario that gives a log.
-ghost use Rattle.std.specs.Prelude.{◌≡◌, ◌++◌, All, IfNone, IfOk, IfSome, map};
+ghost use Rattle.std.specs.Prelude.{◌≡◌, ◌++◌, IfNone, IfOk, IfSome, map};
 ghost use Rattle.std.specs.List.{flat_map};
 ghost use Rattle.cpg_base.specs.Graph.{item_count};
 ghost use Rattle.cpg_base.specs.Numbers.{numbers_below};
 ghost use Rattle.cpg_order.specs.Scenario.{Scenario, IsLeast, IsScenario};
-ghost use Rattle.cpg_cube.specs.Fit.{IsKnown};
 ghost use Rattle.cpg_table.specs.Valid.{IsValid};
 ghost use Rattle.cpg_violation.specs.Heads.{IsHeadFor};
 ghost use Rattle.cpg_audit.specs.Excluded.{excluded_cubes, excluded_of, is_excluded};

@@ -1,7 +1,6 @@
 //! Why a file is no log.
 
 use cpg_base::OutOfMemory;
-use std::alloc::AllocError;
 
 /// Why a file is no log.
 #[derive(Clone, Copy, Debug, PartialEq, Eq)]

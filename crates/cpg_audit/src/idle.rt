@@ -1,8 +1,8 @@
 //! Where logged items aren't active.
-ghost use Rattle.std.specs.Prelude.{◌≡◌, ◌<◌, ◌≤◌, ℕ, All, Bool, IfOk, IsPermutation, not, true};
+ghost use Rattle.std.specs.Prelude.{◌≡◌, ℕ, All, Bool, IfOk, not, true};
 ghost use Rattle.std.specs.List.{list_any};
 ghost use Rattle.cpg_base.specs.Activity.{item_active};
-ghost use Rattle.cpg_base.specs.Graph.{item_at, item_count};
+ghost use Rattle.cpg_base.specs.Graph.{item_at};
 ghost use Rattle.cpg_order.specs.Scenario.{Scenario, IsScenario};
 ghost use Rattle.cpg_cube.specs.Cube.{matches};
 ghost use Rattle.cpg_cube.specs.Fit.{IsKnown};
