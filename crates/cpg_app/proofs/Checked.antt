@@ -36,7 +36,7 @@ abbrev pub CheckLeft : Admission → Tables → Halt → Type 0
 CheckLeft a t h = (status_of h ≡ 8) ⊎ (((status_of h ≡ 4) × (IsHeadFor a.graph t.head → ⊥)) ⊎ ((status_of h ≡ 7) × IsHeadFor a.graph t.head × (IsValid a.graph t.nodes → ⊥)))
 
 -- the tables of a spelling are one
-same_tables : (told : Option Text) (t u : Tables) → told ≡ Some (spelling t) → AreLawful t → Spells told u → u ≡ t
+pub same_tables : (told : Option Text) (t u : Tables) → told ≡ Some (spelling t) → AreLawful t → Spells told u → u ≡ t
 same_tables told t u tells lawful spells =
     let spelled : spelling t ≡ spelling u = subst (λ o. IfSome o (λ bytes. bytes ≡ spelling u)) tells spells.spelled in
     sym (one_spelling t u [] lawful spells.lawful (spelled ∙ sym (append-nil (spelling u)))).0

@@ -11,3 +11,9 @@ pub mod Joined
 pub mod Local
 pub mod Said
 pub mod TunedLines
+pub mod Streams
+pub mod Digits
+pub mod Along
+pub mod Streamed
+pub mod Streaming
+pub mod Wordless

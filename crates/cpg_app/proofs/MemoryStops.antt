@@ -21,7 +21,7 @@ memory_command seen (Check graph pack) = memory_graph seen (seen.stands graph) (
 memory_command seen (Play graph pack scenario turns) = memory_graph seen (seen.stands graph) (λ a. StopsTables seen (seen.stands pack) (StopsPlay seen (seen.stands scenario) a))
 memory_command seen (Node pack name) = inl (inr (inr (record { fault = PackFault.OutOfMemory; halt_is = refl; shows = tt })))
 memory_command seen (Trial number) = refl
-memory_command seen (Live pack name stream) = inr refl
+memory_command seen (Live pack name stream) = inl (inr (inr (record { fault = PackFault.OutOfMemory; halt_is = refl; shows = tt })))
 memory_command seen (Hyper parts) = inl (inr refl)
 memory_command seen (Tune graph) = memory_graph seen (seen.stands graph) IsOutOfMemory
 memory_command seen (Audit graph pack log) = memory_graph seen (seen.stands graph) (λ a. StopsTables seen (seen.stands pack) (StopsAudit seen (seen.stands log) a))

@@ -23,12 +23,11 @@ use Rattle.cpg_rules.specs.Faults.{ShowsFault}
 use Rattle.cpg_hyper.specs.declared.part.HyperFault.{HyperFault}
 use Rattle.cpg_core.specs.declared.fault.CompileFault.{CompileFault}
 use Rattle.cpg_core.specs.Compilation.{ShowsCompileFault}
-use Rattle.cpg_app.specs.declared.halt.Refusal.TheVariants.{NotBuilt}
 use Rattle.cpg_app.specs.declared.halt.Halt.{Halt}
 use Rattle.cpg_app.specs.declared.halt.Halt.TheVariants.{Words, Read, Refused, Unsafe, Memory}
 use Rattle.cpg_app.specs.Halts.{halt_of_reading, halt_of_pack, halt_of_rules, halt_of_scenario, halt_of_log, halt_of_compile, halt_of_parts}
 use Rattle.cpg_app.specs.Lines.{HasLengths, IsNamed}
-use Rattle.cpg_app.specs.Causes.{Seen, StopsReading, BreaksRule, IsUnbuiltCommand, StopsGraph, IsUncompiled, IsOutOfMemory, StopsTables, StopsNaming, StopsVerdict, StopsPlay, StopsParts, StopsCommand, StopsAsked, Stops, StopsAudit}
+use Rattle.cpg_app.specs.Causes.{Seen, StopsReading, BreaksRule, StopsGraph, IsUncompiled, IsOutOfMemory, StopsTables, StopsNaming, StopsVerdict, StopsPlay, StopsParts, StopsCommand, StopsAsked, Stops, StopsAudit}
 
 lengths_of : (g : Graph) (s : Scenario) → IsScenario g s → HasLengths g s
 lengths_of g s is = record { values = is.values; faults = is.faults }
@@ -66,13 +65,6 @@ graph_named : (seen : Seen) (told : Option Text) (work : Admission → Halt → 
 graph_named seen told work works h (inl (inl read)) = reading_named seen told h read
 graph_named seen told work works h (inl (inr breaks)) = let b : BreaksRule breaks.0 h = breaks.2 in named_as h _ b.halt_is (of_rules breaks.0 b.fault b.shows)
 graph_named seen told work works h (inr worked) = works worked.0 h worked.2
-
-pub unbuilt_named : (h : Halt) → h ≡ Refused NotBuilt → IsNamed h
-unbuilt_named h e = named_as h _ e tt
-
-unbuilt_command_named : (h : Halt) → IsUnbuiltCommand h → IsNamed h
-unbuilt_command_named h (inl e) = unbuilt_named h e
-unbuilt_command_named h (inr e) = named_as h Memory e tt
 
 compile_named : (a : Admission) (h : Halt) → IsUncompiled a h → IsNamed h
 compile_named a h wrong = named_as h _ wrong.halt_is (of_compile a wrong.fault wrong.shows)
@@ -137,14 +129,14 @@ parts_named seen pairs h (inl (inl unsaid)) = reading_named seen _ h (unsaid.sto
 parts_named seen pairs h (inl (inr memory)) = named_as h Memory memory tt
 parts_named seen pairs h (inr refused) = named_as h _ refused.2.halt_is (of_parts refused.2.fault)
 
-command_named : (seen : Seen) (c : Command) (h : Halt) → StopsCommand seen c h → IsNamed h
+pub command_named : (seen : Seen) (c : Command) (h : Halt) → StopsCommand seen c h → IsNamed h
 command_named seen (Show graph) h so = graph_named seen (seen.stands graph) IsUncompiled compile_named h so
 command_named seen (Compile graph) h so = graph_named seen (seen.stands graph) IsUncompiled compile_named h so
 command_named seen (Check graph pack) h so = graph_named seen (seen.stands graph) (λ a. StopsTables seen (seen.stands pack) (StopsVerdict a)) (λ a. tables_named seen (seen.stands pack) (StopsVerdict a) (verdict_named a)) h so
 command_named seen (Play graph pack scenario turns) h so = graph_named seen (seen.stands graph) (λ a. StopsTables seen (seen.stands pack) (StopsPlay seen (seen.stands scenario) a)) (λ a. tables_named seen (seen.stands pack) (StopsPlay seen (seen.stands scenario) a) (play_named seen (seen.stands scenario) a)) h so
 command_named seen (Node pack name) h so = tables_named seen (seen.stands pack) (λ t. StopsNaming t name) (λ t. naming_named t name) h so
 command_named seen (Trial number) h so = named_as h Memory so tt
-command_named seen (Live pack name stream) h so = unbuilt_command_named h so
+command_named seen (Live pack name stream) h so = tables_named seen (seen.stands pack) (λ t. StopsNaming t name) (λ t. naming_named t name) h so
 command_named seen (Hyper parts) h so = parts_named seen parts h so
 command_named seen (Tune graph) h so = graph_named seen (seen.stands graph) IsOutOfMemory (λ a k e. named_as k Memory e tt) h so
 command_named seen (Audit graph pack log) h so = graph_named seen (seen.stands graph) (λ a. StopsTables seen (seen.stands pack) (StopsAudit seen (seen.stands log) a)) (λ a. tables_named seen (seen.stands pack) (StopsAudit seen (seen.stands log) a) (audit_named seen (seen.stands log) a)) h so

@@ -19,13 +19,16 @@ use Rattle.cpg_app.specs.declared.halt.Halt.{Halt}
 use Rattle.cpg_app.specs.declared.halt.Halt.TheVariants.{Refused, Late, TooWide, Unsafe, Memory}
 use Rattle.cpg_app.specs.Lines.{status_of}
 use Rattle.cpg_app.specs.Causes.{Seen, Stops, StopsAsked, StopsGraph, IsUncompiled, first_named}
-use Rattle.cpg_app.specs.Outputs.{Prints, PrintsAsked, IsMade, shown, packed}
+use Rattle.cpg_app.specs.Outputs.{Prints, PrintsAsked, IsMade, shown, packed, IsFollowedOf}
 use Rattle.cpg_app.specs.Told.{Untouched}
 use Rattle.cpg_app.specs.Endings.{Ran, IsPrinted, IsTold, EndsWith, EndsBy}
-use Rattle.cpg_app.specs.Lawful.{IsFaultless, AsksFor, Asks, AsksNode, AsksTuning, AsksVerdict, IsLawful}
+use Rattle.cpg_app.specs.Lawful.{IsFaultless, AsksFor, Asks, AsksNode, AsksTuning, AsksVerdict, IsLawful, AsksStream, status_of_end}
+use Rattle.cpg_app.specs.Streams.{stream_end}
+use Rattle.cpg_app.proofs.Streamed.{followed_is, followed_named}
 use Rattle.cpg_app.proofs.Statuses.{of_words, of_read, of_formless, refused_of, late_of, wide_of, unsafe_of, not_three, not_zero}
 use Rattle.cpg_table.specs.declared.fault.Fault.{Fault}
 use Rattle.cpg_table.specs.Lawful.{Tables}
+use Rattle.cpg_table.specs.Table.{table_at}
 use Rattle.cpg_table.specs.Valid.{IsValid}
 use Rattle.cpg_violation.specs.Heads.{IsHeadFor}
 use Rattle.cpg_app.proofs.Checked.{CheckLeft, check_left, checked_is, node_is, node_left, play_left, played_is, audit_left, audited_is}
@@ -93,6 +96,20 @@ module _ (r : Ran) where
     with_nameless : (t : Tables) (name : Text) → AsksNode r t name → first_named t.head name ≡ None → (r.status ≡ 4) ⊎ (r.status ≡ 8)
     with_nameless t name asks none = let named = with_node t name asks in absurd (none-some named.0 (sym none ∙ named.1))
 
+    -- a stream is followed to its close
+    module _ (t : Tables) (name bytes : Text) (asks : AsksStream r t name bytes) where
+      followed_text : IsFollowedOf (r.shelf.stands asks.pack) name (r.shelf.stands asks.stream) text
+      followed_text = subst (λ c. PrintsAsked r.shelf c text) asks.words with.prints
+
+      with_followed : (node : ℕ) → first_named t.head name ≡ Some node → (r.status ≡ status_of_end (stream_end (table_at t.nodes node) bytes)) ⊎ (r.status ≡ 8)
+      with_followed node named = elim (with_safe asks.faultless) [
+        | inl z ↦ inl (z ∙ sym (followed_is r.shelf t asks.pack asks.stream name bytes text node asks.spelled asks.lawful asks.told named followed_text))
+        | inr e ↦ inr e
+      ]
+
+      with_unfollowed : first_named t.head name ≡ None → (r.status ≡ 4) ⊎ (r.status ≡ 8)
+      with_unfollowed none = let named = followed_named r.shelf t asks.pack name text (r.shelf.stands asks.stream) asks.spelled asks.lawful followed_text in absurd (none-some named.0 (sym none ∙ named.1))
+
     pub lawful_with : IsLawful r
     lawful_with = record {
       ends = inl (text, with);
@@ -116,6 +133,8 @@ module _ (r : Ran) where
       nameless = with_nameless;
       tried = λ number asks. elim with_status [ inl zero ↦ inl zero | inr three ↦ inr (inl three) ];
       tuned = λ a asks. with_safe asks.faultless;
+      followed = λ t name bytes node asks named. with_followed t name bytes asks node named;
+      unfollowed = with_unfollowed;
     }
 
   -- ---- without
@@ -253,19 +272,33 @@ module _ (r : Ran) where
       | inr m ↦ absurd (asks.faultless.err m.err.rose)
     ]
 
+    -- before a stream is fetched
+    module _ (t : Tables) (name bytes : Text) (asks : AsksStream r t name bytes) where
+      told_stream : r.status ≡ status_of halt
+      told_stream = elim by.ending [ inl t ↦ t.status | inr m ↦ absurd (asks.faultless.err m.err.rose) ]
+
+      left_stream : (status_of halt ≡ 8) ⊎ ((status_of halt ≡ 4) × (first_named t.head name ≡ None))
+      left_stream = node_left r.shelf t asks.pack asks.faultless.shelf asks.spelled asks.lawful name halt (subst (λ c. StopsAsked r.shelf c halt) asks.words by.stops)
+
+      by_followed : (node : ℕ) → first_named t.head name ≡ Some node → (r.status ≡ status_of_end (stream_end (table_at t.nodes node) bytes)) ⊎ (r.status ≡ 8)
+      by_followed node named = elim left_stream [ inl e ↦ inr (told_stream ∙ e) | inr unknown ↦ absurd (none-some node (sym unknown.1 ∙ named)) ]
+
+      by_unfollowed : first_named t.head name ≡ None → (r.status ≡ 4) ⊎ (r.status ≡ 8)
+      by_unfollowed none = elim left_stream [ inl e ↦ inr (told_stream ∙ e) | inr unknown ↦ inl (told_stream ∙ unknown.0) ]
+
     pub lawful_by : IsLawful r
     lawful_by = record {
-      ends = inr (halt, by);
+      ends = inr (inl (halt, by));
       done = λ zero. absurd (not_zero halt (status_at 0 zero (λ e. omega arith)));
       words = λ one. of_words r.shelf r.words halt by.stops (status_at 1 one (λ e. omega arith));
       formless = by_formless;
       read = λ two. of_read r.shelf r.words halt by.stops (status_at 2 two (λ e. omega arith));
       write = by_write;
-      refused = by_refused;
+      refused = λ four. inl (by_refused four);
       is_late = by_tardy;
       is_wide = by_width;
       is_unsafe = by_fault;
-      silent = λ zero three. by_silent;
+      silent = λ zero three. inl by_silent;
       wide = λ a x asks wide. by_wide a asks x wide;
       made = by_made;
       late = by_late;
@@ -276,4 +309,6 @@ module _ (r : Ran) where
       nameless = by_nameless;
       tried = by_tried;
       tuned = by_tuned;
+      followed = λ t name bytes node asks named. by_followed t name bytes asks node named;
+      unfollowed = by_unfollowed;
     }

@@ -21,12 +21,11 @@ use Rattle.cpg_rules.specs.declared.admission.RuleFault.{RuleFault}
 use Rattle.cpg_hyper.specs.declared.part.HyperFault.{HyperFault}
 use Rattle.cpg_core.specs.declared.fault.CompileFault.{CompileFault}
 use Rattle.cpg_app.specs.declared.halt.Refusal.{Refusal}
-use Rattle.cpg_app.specs.declared.halt.Refusal.TheVariants.{NotBuilt}
 use Rattle.cpg_app.specs.declared.halt.Halt.{Halt}
 use Rattle.cpg_app.specs.declared.halt.Halt.TheVariants.{Words, Read, Refused, Late, TooWide, Unsafe, Memory}
 use Rattle.cpg_app.specs.Halts.{halt_of_reading, halt_of_pack, halt_of_rules, halt_of_scenario, halt_of_log, halt_of_compile, halt_of_parts}
 use Rattle.cpg_app.specs.Lines.{status_of}
-use Rattle.cpg_app.specs.Causes.{Seen, StopsReading, BreaksRule, IsUnbuiltCommand, StopsGraph, IsUncompiled, IsOutOfMemory, StopsTables, StopsNaming, StopsVerdict, StopsPlay, StopsParts, StopsCommand, StopsAsked, Stops, StopsAudit}
+use Rattle.cpg_app.specs.Causes.{Seen, StopsReading, BreaksRule, StopsGraph, IsUncompiled, IsOutOfMemory, StopsTables, StopsNaming, StopsVerdict, StopsPlay, StopsParts, StopsCommand, StopsAsked, Stops, StopsAudit}
 
 -- a halt of a command isn't one of its words, and is one of the shelf where its faults rose
 record IsOfCommand (seen : Seen) (h : Halt) : Type 0 where
@@ -66,13 +65,6 @@ of_graph : (seen : Seen) (told : Option Text) (work : Admission → Halt → Typ
 of_graph seen told work works h (inl (inl read)) = reading seen told h read
 of_graph seen told work works h (inl (inr breaks)) = let b : BreaksRule breaks.0 h = breaks.2 in later seen h _ b.halt_is (of_rules breaks.0 b.fault)
 of_graph seen told work works h (inr worked) = works worked.0 h worked.2
-
-unbuilt : (seen : Seen) (h : Halt) → h ≡ Refused NotBuilt → IsOfCommand seen h
-unbuilt seen h e = later seen h _ e (omega arith)
-
-unbuilt_command : (seen : Seen) (h : Halt) → IsUnbuiltCommand h → IsOfCommand seen h
-unbuilt_command seen h (inl e) = unbuilt seen h e
-unbuilt_command seen h (inr e) = later seen h _ e (omega arith)
 
 of_made : (seen : Seen) (a : Admission) (h : Halt) → IsUncompiled a h → IsOfCommand seen h
 of_made seen a h wrong = later seen h _ wrong.halt_is (of_compile a wrong.fault)
@@ -137,7 +129,7 @@ of_command seen (Check graph pack) h so = of_graph seen (seen.stands graph) (λ 
 of_command seen (Play graph pack scenario turns) h so = of_graph seen (seen.stands graph) (λ a. StopsTables seen (seen.stands pack) (StopsPlay seen (seen.stands scenario) a)) (λ a. of_tables seen (seen.stands pack) (StopsPlay seen (seen.stands scenario) a) (of_play seen (seen.stands scenario) a)) h so
 of_command seen (Node pack name) h so = of_tables seen (seen.stands pack) (λ t. StopsNaming t name) (λ t. of_naming seen t name) h so
 of_command seen (Trial number) h so = later seen h _ so (omega arith)
-of_command seen (Live pack name stream) h so = unbuilt_command seen h so
+of_command seen (Live pack name stream) h so = of_tables seen (seen.stands pack) (λ t. StopsNaming t name) (λ t. of_naming seen t name) h so
 of_command seen (Hyper parts) h so = of_unrolling seen parts h so
 of_command seen (Tune graph) h so = of_graph seen (seen.stands graph) IsOutOfMemory (λ a k e. later seen k _ e (omega arith)) h so
 of_command seen (Audit graph pack log) h so = of_graph seen (seen.stands graph) (λ a. StopsTables seen (seen.stands pack) (StopsAudit seen (seen.stands log) a)) (λ a. of_tables seen (seen.stands pack) (StopsAudit seen (seen.stands log) a) (of_audit seen (seen.stands log) a)) h so

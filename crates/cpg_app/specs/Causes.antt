@@ -36,7 +36,7 @@ use Rattle.cpg_hyper.specs.Refusals.{ShowsUnrolled}
 use Rattle.cpg_core.specs.declared.fault.CompileFault.{CompileFault}
 use Rattle.cpg_core.specs.Compilation.{ShowsCompileFault}
 use Rattle.cpg_app.specs.declared.halt.Refusal.{Refusal}
-use Rattle.cpg_app.specs.declared.halt.Refusal.TheVariants.{LongGraph, LongPack, LongScenario, LongLog, OtherGraph, UnknownNode, NotBuilt}
+use Rattle.cpg_app.specs.declared.halt.Refusal.TheVariants.{LongGraph, LongPack, LongScenario, LongLog, OtherGraph, UnknownNode}
 use Rattle.cpg_app.specs.declared.halt.Halt.{Halt}
 use Rattle.cpg_app.specs.declared.halt.Halt.TheVariants.{Words, Read, Refused, Unsafe, Memory}
 use Rattle.cpg_app.specs.declared.reading.TheConstants.{GRAPH_LIMIT, SCENARIO_LIMIT, LOG_LIMIT, PACK_LIMIT}
@@ -91,10 +91,6 @@ pub record IsUncompiled (a : Admission) (halt : Halt) : Type 0 where
   pub fault : CompileFault
   pub halt_is : halt ≡ halt_of_compile a fault
   pub shows : ShowsCompileFault a.graph a.order fault
-
--- the command isn't built
-abbrev pub IsUnbuilt : Halt → Type 0
-IsUnbuilt halt = halt ≡ Refused NotBuilt
 
 abbrev pub StopsReading : Seen → Option Text → Halt → Type 0
 StopsReading seen told halt = IsUnread seen halt ⊎ (IsLong GRAPH_LIMIT LongGraph seen told halt ⊎ IsFaulty told halt)
@@ -225,10 +221,6 @@ StopsParts seen pairs halt = StopsReadingParts seen pairs halt ⊎ ((parts : Lis
 abbrev pub IsOutOfMemory : Admission → Halt → Type 0
 IsOutOfMemory a halt = halt ≡ Memory
 
--- a command stops as one that isn't built, or for want of memory
-abbrev pub IsUnbuiltCommand : Halt → Type 0
-IsUnbuiltCommand halt = IsUnbuilt halt ⊎ (halt ≡ Memory)
-
 abbrev pub StopsCommand : Seen → Command → Halt → Type 0
 StopsCommand seen (Show graph) halt = StopsGraph seen (seen.stands graph) IsUncompiled halt
 StopsCommand seen (Compile graph) halt = StopsGraph seen (seen.stands graph) IsUncompiled halt
@@ -236,7 +228,7 @@ StopsCommand seen (Check graph pack) halt = StopsGraph seen (seen.stands graph) 
 StopsCommand seen (Play graph pack scenario turns) halt = StopsGraph seen (seen.stands graph) (λ a. StopsTables seen (seen.stands pack) (StopsPlay seen (seen.stands scenario) a)) halt
 StopsCommand seen (Node pack name) halt = StopsTables seen (seen.stands pack) (λ t. StopsNaming t name) halt
 StopsCommand seen (Trial number) halt = halt ≡ Memory
-StopsCommand seen (Live pack name stream) halt = IsUnbuiltCommand halt
+StopsCommand seen (Live pack name stream) halt = StopsTables seen (seen.stands pack) (λ t. StopsNaming t name) halt
 StopsCommand seen (Hyper parts) halt = StopsParts seen parts halt
 StopsCommand seen (Tune graph) halt = StopsGraph seen (seen.stands graph) IsOutOfMemory halt
 StopsCommand seen (Audit graph pack log) halt = StopsGraph seen (seen.stands graph) (λ a. StopsTables seen (seen.stands pack) (StopsAudit seen (seen.stands log) a)) halt

@@ -1,11 +1,20 @@
--- The four ways in which a run ends: its output or its line is taken whole, or the sink meets a fault.
-use Rattle.std.specs.Prelude.{ℕ, ◌≡◌, ◌⊎◌, List}
+-- The ways in which a run ends: its output or its line is taken whole, or the sink meets a fault; a stream has its own.
+use Rattle.std.specs.Prelude.{ℕ, ◌≡◌, ◌⊎◌, List, Some}
 use Rattle.cpg_words.specs.Parts.{Text}
+use Rattle.cpg_words.specs.Forms.{command_of}
+use Rattle.cpg_words.specs.declared.command.Command.TheVariants.{Live}
+use Rattle.cpg_table.specs.Head.{Head}
+use Rattle.cpg_table.specs.Table.{NodeTable, table_at}
+use Rattle.cpg_table.specs.Lawful.{Tables}
 use Rattle.cpg_app.specs.declared.halt.Halt.{Halt}
-use Rattle.cpg_app.specs.Causes.{Seen, Stops}
+use Rattle.cpg_app.specs.declared.halt.Halt.TheVariants.{Read}
+use Rattle.cpg_app.specs.declared.following.Broken.{Broken}
+use Rattle.cpg_app.specs.Causes.{Seen, Spells, Stops, first_named}
+use Rattle.cpg_app.specs.Following.{Breaks, Completes, Stream}
 use Rattle.cpg_app.specs.Lines.{line_of, status_of, write_fault_line}
 use Rattle.cpg_app.specs.Outputs.{Prints}
-use Rattle.cpg_app.specs.Told.{SinkSeen, Whole, Untouched, Part}
+use Rattle.cpg_app.specs.Streams.{fault_line}
+use Rattle.cpg_app.specs.Told.{SinkSeen, Sent, Whole, Untouched, Part}
 
 -- a run: its words, what it saw of its shelf and its sinks, and its exit status
 pub record Ran : Type 0 where
@@ -49,6 +58,51 @@ pub record EndsBy (r : Ran) (halt : Halt) : Type 0 where
   pub stops : Stops r.shelf r.words halt
   pub ending : IsTold r halt ⊎ IsMuted r halt
 
--- a run has an output or a reason to stop, and ends by it
+-- a run that follows a stream: with the first node of a name in the tables of a pack
+pub record Follows (r : Ran) : Type 0 where
+  pub pack : Text
+  pub name : Text
+  pub stream : Text
+  pub words : command_of r.words ≡ Some (Live pack name stream)
+  pub tables : Tables
+  pub spells : Spells (r.shelf.stands pack) tables
+  pub node : ℕ
+  pub named : first_named tables.head name ≡ Some node
+
+-- the table of its node
+abbrev pub table_of : {r : Ran} → Follows r → NodeTable
+table_of f = table_at f.tables.nodes f.node
+
+-- what it sees of the stream's shelf and of `out`
+abbrev pub stream_of : (r : Ran) → Follows r → Stream
+stream_of r f = record {
+  told = r.shelf.stands f.stream;
+  given = r.shelf.given;
+  shelf_before = r.shelf.before;
+  shelf_now = r.shelf.now;
+  out_before = r.out.before;
+  out_now = r.out.now;
+  old = r.out.old;
+  new = r.out.new;
+}
+
+-- what `err` and the status say of a stream that isn't followed to its close
+abbrev pub IsSaid : SinkSeen → ℕ → Broken → Type 0
+IsSaid err status Broken.Shelf = Sent err status 2 (line_of Read)
+IsSaid err status Broken.Sink = (status ≡ 3) × (Whole err write_fault_line ⊎ Part err write_fault_line)
+IsSaid err status (Broken.Refused fault) = Sent err status 4 (fault_line fault)
+
+-- a stream is followed to its close, and nothing said, or it isn't, and what is wrong is said
+abbrev pub IsToldTo : Head → NodeTable → Stream → SinkSeen → ℕ → Type 0
+IsToldTo h table s err status = (Completes h table s.told s.old s.new × (status ≡ 0) × Untouched err) ⊎ ((broken : Broken) × Breaks h table s broken × IsSaid err status broken)
+
+-- a run that doesn't follow its stream to the close
+pub record EndsInStream (r : Ran) : Type 0 where
+  pub follows : Follows r
+  pub broken : Broken
+  pub breaks : Breaks follows.tables.head (table_of follows) (stream_of r follows) broken
+  pub said : IsSaid r.err r.status broken
+
+-- a run has an output, a reason to stop, or a stream that isn't followed to its close, and ends by it
 abbrev pub Ends : Ran → Type 0
-Ends r = ((text : Text) × EndsWith r text) ⊎ ((halt : Halt) × EndsBy r halt)
+Ends r = ((text : Text) × EndsWith r text) ⊎ (((halt : Halt) × EndsBy r halt) ⊎ EndsInStream r)

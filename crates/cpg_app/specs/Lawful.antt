@@ -1,20 +1,22 @@
 -- What each exit status of a run says.
-use Rattle.std.specs.Prelude.{ℕ, ◌≡◌, ◌≢◌, ◌≤◌, ◌⊎◌, Option, Some, None, Ok, length}
+use Rattle.std.specs.Prelude.{ℕ, ◌≡◌, ◌≢◌, ◌≤◌, ◌⊎◌, Option, Some, None, Result, Ok, Err, length}
 use Rattle.cpg_io.specs.Causes.{Rose}
 use Rattle.cpg_base.specs.Graph.{Graph}
 use Rattle.cpg_words.specs.Parts.{Text}
 use Rattle.cpg_words.specs.Forms.{command_of}
 use Rattle.cpg_words.specs.declared.command.Command.{Command}
-use Rattle.cpg_words.specs.declared.command.Command.TheVariants.{Show, Compile, Check, Play, Node, Trial, Tune, Audit}
+use Rattle.cpg_words.specs.declared.command.Command.TheVariants.{Show, Compile, Check, Play, Node, Trial, Tune, Audit, Live}
 use Rattle.cpg_reader.specs.Document.{problem_of}
 use Rattle.cpg_rules.specs.Admission.{Admission, IsAdmitted}
 use Rattle.cpg_base.specs.Scenario.{Scenario}
 use Rattle.cpg_reach.specs.Wide.{IsNarrow, IsWide}
 use Rattle.cpg_core.specs.Compiled.{IsTimely, IsLate}
 use Rattle.cpg_app.specs.declared.halt.Refusal.{Refusal}
-use Rattle.cpg_app.specs.declared.halt.Halt.TheVariants.{Refused, Late, TooWide, Unsafe}
+use Rattle.cpg_app.specs.declared.following.StreamFault.{StreamFault}
+use Rattle.cpg_app.specs.declared.halt.Halt.TheVariants.{Read, Refused, Late, TooWide, Unsafe}
 use Rattle.cpg_table.specs.declared.fault.Fault.{Fault}
 use Rattle.cpg_table.specs.Lawful.{Tables}
+use Rattle.cpg_table.specs.Table.{table_at}
 use Rattle.cpg_table.specs.Valid.{IsValid}
 use Rattle.cpg_codec.specs.Packs.{AreLawful}
 use Rattle.cpg_codec.specs.Spelling.{spelling}
@@ -25,9 +27,11 @@ use Rattle.cpg_scenario.specs.File.{file_of}
 use Rattle.cpg_scenario.specs.declared.reading.Played.{Played}
 use Rattle.cpg_app.specs.declared.reading.TheConstants.{GRAPH_LIMIT, SCENARIO_LIMIT, LOG_LIMIT}
 use Rattle.cpg_app.specs.Causes.{Stops, first_named}
-use Rattle.cpg_app.specs.Endings.{Ran, Ends, IsPrinted, IsTold}
+use Rattle.cpg_app.specs.Endings.{Ran, Ends, Follows, IsPrinted, IsTold, table_of}
+use Rattle.cpg_app.specs.Lines.{line_of}
 use Rattle.cpg_app.specs.Outputs.{Prints}
-use Rattle.cpg_app.specs.Told.{Untouched}
+use Rattle.cpg_app.specs.Streams.{IsLawfulSoFar, IsRefused, fault_line, stream_end}
+use Rattle.cpg_app.specs.Told.{Untouched, Whole}
 
 -- no count of faults rose
 pub record IsFaultless (r : Ran) : Type 0 where
@@ -105,6 +109,39 @@ pub record AsksTuning (r : Ran) (a : Admission) : Type 0 where
   pub file : AreAdmitted bytes a
   pub faultless : IsFaultless r
 
+-- they ask to follow a stream with a node, by its name, the shelf tells the bytes of tables and of the stream, and nothing
+-- failed
+pub record AsksStream (r : Ran) (t : Tables) (name bytes : Text) : Type 0 where
+  pub pack : Text
+  pub stream : Text
+  pub words : command_of r.words ≡ Some (Live pack name stream)
+  pub spelled : r.shelf.stands pack ≡ Some (spelling t)
+  pub lawful : AreLawful t
+  pub told : r.shelf.stands stream ≡ Some bytes
+  pub faultless : IsFaultless r
+
+-- a stream has a close, or is refused
+abbrev pub status_of_end : Result ℕ StreamFault → ℕ
+status_of_end (Ok time) = 0
+status_of_end (Err fault) = 4
+
+-- the shelf met a fault in a stream, and the lines of the records before were written
+pub record IsUnreadStream (r : Ran) : Type 0 where
+  pub follows : Follows r
+  pub lines : Text
+  pub lawful : IsLawfulSoFar follows.tables.head (table_of follows) (r.shelf.stands follows.stream) r.shelf.given lines
+  pub out : Whole r.out lines
+  pub err : Whole r.err (line_of Read)
+
+-- a stream is refused, and the lines of the records before were written
+pub record IsRefusedStream (r : Ran) : Type 0 where
+  pub follows : Follows r
+  pub fault : StreamFault
+  pub lines : Text
+  pub refused : IsRefused follows.tables.head (table_of follows) (r.shelf.stands follows.stream) fault lines
+  pub out : Whole r.out lines
+  pub err : Whole r.err (fault_line fault)
+
 -- what each exit status says
 pub record IsLawful (r : Ran) : Type 0 where
   -- the run has an output or a reason to stop, and all of it was written but where a sink met a fault
@@ -119,15 +156,16 @@ pub record IsLawful (r : Ran) : Type 0 where
   -- 3: a sink met a fault
   pub write : r.status ≡ 3 → Rose r.out.before r.out.now ⊎ Rose r.err.before r.err.now
   -- 4: a refusal whose cause is true, and whose line was written whole
-  pub refused : r.status ≡ 4 → (refusal : Refusal) × Stops r.shelf r.words (Refused refusal) × IsTold r (Refused refusal)
+  pub refused : r.status ≡ 4 → ((refusal : Refusal) × Stops r.shelf r.words (Refused refusal) × IsTold r (Refused refusal)) ⊎ IsRefusedStream r
   -- 5: a process is late, as the line says
   pub is_late : r.status ≡ 5 → (a : Admission) × (s : Scenario) × (p : ℕ) × (finish : ℕ) × Stops r.shelf r.words (Late a s p finish) × IsTold r (Late a s p finish)
   -- 6: an item is too wide, as the line says
   pub is_wide : r.status ≡ 6 → (a : Admission) × (x : ℕ) × Stops r.shelf r.words (TooWide a x) × IsTold r (TooWide a x)
   -- 7: the tables of a pack break a rule, as the line says
   pub is_unsafe : r.status ≡ 7 → (a : Admission) × (fault : Fault) × Stops r.shelf r.words (Unsafe a fault) × IsTold r (Unsafe a fault)
-  -- but under 0 and 3, nothing was written to `out`
-  pub silent : r.status ≢ 0 → r.status ≢ 3 → Untouched r.out
+  -- but under 0 and 3, nothing was written to `out` except, where a stream that is followed meets a fault of the shelf or is
+  -- refused, the lines of the records before
+  pub silent : r.status ≢ 0 → r.status ≢ 3 → Untouched r.out ⊎ (((r.status ≡ 2) × IsUnreadStream r) ⊎ ((r.status ≡ 4) × IsRefusedStream r))
   -- such a graph is refused as too wide where some item is under its urgency order; else it is shown or packed where every
   -- process ends by its due in every scenario, under that order or under the track order, and refused as late where some
   -- process doesn't under either; but for want of memory
@@ -146,3 +184,6 @@ pub record IsLawful (r : Ran) : Type 0 where
   pub tried : (number : ℕ) → command_of r.words ≡ Some (Trial number) → (r.status ≡ 0) ⊎ ((r.status ≡ 3) ⊎ (r.status ≡ 8))
   -- an admitted graph is tuned, however late or wide it is, but for want of memory
   pub tuned : (a : Admission) → AsksTuning r a → (r.status ≡ 0) ⊎ (r.status ≡ 8)
+  -- such a node follows a stream to its close, and else the stream is refused, but for want of memory
+  pub followed : (t : Tables) (name bytes : Text) (node : ℕ) → AsksStream r t name bytes → first_named t.head name ≡ Some node → (r.status ≡ status_of_end (stream_end (table_at t.nodes node) bytes)) ⊎ (r.status ≡ 8)
+  pub unfollowed : (t : Tables) (name bytes : Text) → AsksStream r t name bytes → first_named t.head name ≡ None → (r.status ≡ 4) ⊎ (r.status ≡ 8)

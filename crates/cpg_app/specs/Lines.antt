@@ -21,7 +21,7 @@ use Rattle.cpg_check.specs.declared.heads.HeadPart.TheVariants.{Faults}
 use Rattle.cpg_hyper.specs.declared.part.HyperFault.{HyperFault}
 use Rattle.cpg_table.specs.declared.fault.Fault.{Fault}
 use Rattle.cpg_app.specs.declared.halt.Refusal.{Refusal}
-use Rattle.cpg_app.specs.declared.halt.Refusal.TheVariants.{NotToml, BadField, DoubleName, UnknownName, OverLimit, Cycle, TwoAlternatives, NoSlot, TooBig, BadPack, BadScenario, BadLog, LongGraph, LongPack, LongScenario, LongLog, OtherGraph, TooManyTracks, UnknownNode, NoHypergraph, NotBuilt}
+use Rattle.cpg_app.specs.declared.halt.Refusal.TheVariants.{NotToml, BadField, DoubleName, UnknownName, OverLimit, Cycle, TwoAlternatives, NoSlot, TooBig, BadPack, BadScenario, BadLog, LongGraph, LongPack, LongScenario, LongLog, OtherGraph, TooManyTracks, UnknownNode, NoHypergraph}
 use Rattle.cpg_app.specs.declared.halt.Halt.{Halt}
 use Rattle.cpg_app.specs.declared.halt.Halt.TheVariants.{Words, Read, Refused, Late, TooWide, Unsafe, Memory}
 
@@ -126,7 +126,6 @@ refusal_text TooManyTracks = codes "18 tracks"
 refusal_text UnknownNode = codes "19 node"
 refusal_text (NoHypergraph fault) = codes "22 hyper " ++ parts_text fault
 refusal_text (BadLog line) = codes "23 log " ++ decimal line
-refusal_text NotBuilt = codes "20 not built"
 
 abbrev pub refused_text : Refusal → List ℕ
 refused_text refusal = codes "refused " ++ refusal_text refusal

@@ -1,5 +1,5 @@
 -- What a command puts out.
-use Rattle.std.specs.Prelude.{ℕ, ◌≡◌, ◌≤◌, ◌++◌, List, Option, Some, None, IfNone, IfSome, Ok, codes, length, string_bytes}
+use Rattle.std.specs.Prelude.{ℕ, ◌≡◌, ◌≤◌, ◌++◌, List, Option, Some, None, IfNone, IfSome, Ok, codes, length, string_bytes, ⊤}
 use Rattle.cpg_base.specs.Graph.{Graph}
 use Rattle.cpg_words.specs.Parts.{Text}
 use Rattle.cpg_words.specs.Forms.{command_of}
@@ -8,7 +8,7 @@ use Rattle.cpg_words.specs.declared.command.Command.{Command}
 use Rattle.cpg_words.specs.declared.command.Command.TheVariants.{Show, Compile, Check, Play, Node, Trial, Live, Hyper, Tune, Audit}
 use Rattle.cpg_reader.specs.Document.{problem_of}
 use Rattle.cpg_rules.specs.Admission.{Admission}
-use Rattle.cpg_table.specs.Table.{NodeTable}
+use Rattle.cpg_table.specs.Table.{NodeTable, table_at}
 use Rattle.cpg_table.specs.Valid.{IsValid}
 use Rattle.cpg_violation.specs.Heads.{IsHeadFor}
 use Rattle.cpg_hyper.specs.declared.part.Part.{Part}
@@ -38,6 +38,8 @@ use Rattle.cpg_app.specs.Plays.{world_of, IsPlayText}
 use Rattle.cpg_app.specs.Trials.{trial_text}
 use Rattle.cpg_app.specs.Tunes.{IsTuningText}
 use Rattle.cpg_app.specs.Causes.{Seen, Admits, AreSaid, SaysPlayed, Spells, first_named, SaysLog}
+use Rattle.cpg_app.specs.Streams.{IsClosed}
+use Rattle.cpg_app.specs.Follower.{Follower, open_follower}
 
 -- Tables that keep the ten rules, and what follows for the nodes that have them: in every scenario, with all lengths of
 -- executions and in every order of turns, each node starts and sends just what is due, in order and in time, can always go
@@ -94,6 +96,21 @@ IsSpelled told fact = (t : Tables) × Spells told t × fact t
 
 abbrev pub IsNodeOf : Option Text → Text → Text → Type 0
 IsNodeOf told name text = IsSpelled told (λ t. IsNodeText t name text)
+
+-- the lines are all those of a stream that the first node of a name follows to its close
+pub record IsFollowed (t : Tables) (name : Text) (stream : Option Text) (text : Text) : Type 0 where
+  pub node : ℕ
+  pub named : first_named t.head name ≡ Some node
+  pub closed : IsClosed t.head (table_at t.nodes node) stream text
+
+abbrev pub IsFollowedOf : Option Text → Text → Option Text → Text → Type 0
+IsFollowedOf pack name stream text = IsSpelled pack (λ t. IsFollowed t name stream text)
+
+-- a follower is of the first node of a name, before its stream
+pub record IsFollower (t : Tables) (name : Text) (f : Follower) : Type 0 where
+  pub node : ℕ
+  pub named : first_named t.head name ≡ Some node
+  pub opened : f ≡ open_follower t.head (table_at t.nodes node)
 
 -- the tables have the graph's head and are safe
 pub record AreJudgedSafe (a : Admission) (t : Tables) : Type 0 where
@@ -172,10 +189,15 @@ PrintsCommand seen (Check graph pack) text = IsChecked (seen.stands graph) (seen
 PrintsCommand seen (Play graph pack scenario turns) text = IsPlayOf (seen.stands graph) (seen.stands pack) (seen.stands scenario) turns text
 PrintsCommand seen (Node pack name) text = IsNodeOf (seen.stands pack) name text
 PrintsCommand seen (Trial number) text = IsTrialText number text
-PrintsCommand seen (Live pack name stream) text = ⊥
+PrintsCommand seen (Live pack name stream) text = IsFollowedOf (seen.stands pack) name (seen.stands stream) text
 PrintsCommand seen (Hyper parts) text = IsUnrolledOf seen.stands parts text
 PrintsCommand seen (Tune graph) text = IsTunedOf (seen.stands graph) text
 PrintsCommand seen (Audit graph pack log) text = IsAuditOf (seen.stands graph) (seen.stands pack) (seen.stands log) text
+
+-- whether a command puts out all at its end
+abbrev pub PutsOutAtEnd : Command → Type 0
+PutsOutAtEnd (Live pack name stream) = ⊥
+PutsOutAtEnd command = ⊤
 
 -- words without a form have none
 abbrev pub PrintsAsked : Seen → Option Command → Text → Type 0

@@ -15,7 +15,7 @@ use std::alloc::Global;
 const WRITE_FAULT: u8 = 3;
 
 /// Writes bytes, and answers the status, or that of a fault.
-fn send<O: Sink>(status: u8, bytes: &[u8], sink: &mut O) -> u8
+pub fn send<O: Sink>(status: u8, bytes: &[u8], sink: &mut O) -> u8
     requires { status ≢ WRITE_FAULT }
     ensures { Sent (record { before = O.faults sink.old; now = O.faults sink.new; old = O.taken sink.old; new = O.taken sink.new }) result status bytes.now }
 {

@@ -1,12 +1,12 @@
 //! What each command does before anything is written.
-ghost use Rattle.std.specs.Prelude.{◌≡◌, ◌<◌, ◌≤◌, All, IfOk, IfErr, IfSome, length, map, string_bytes};
+ghost use Rattle.std.specs.Prelude.{◌≡◌, ◌<◌, ◌≤◌, All, IfOk, IfErr, IfSome, length};
 ghost use Rattle.std.specs.Str.{bytes_eq};
-ghost use Rattle.cpg_words.specs.FileWords.{file_words, file_words_of};
+ghost use Rattle.cpg_words.specs.FileWords.{file_words};
 ghost use Rattle.cpg_io.specs.Shelf.{SameLeave, SameNames};
 ghost use Rattle.cpg_core.specs.Compilation.{IsCompilation};
 ghost use Rattle.cpg_app.specs.Causes.{Admits, first_named, IsOutOfMemory, IsUncompiled, Stops, StopsAdmission, StopsCommand, StopsGraph, StopsNaming, StopsPlay, StopsTables, StopsVerdict, StopsAudit};
 ghost use Rattle.cpg_app.specs.Knowledge.{KnowLocally};
-ghost use Rattle.cpg_app.specs.Outputs.{bytes_of, packed, shown, AreJudgedSafe, ArePackOf, AreSafe, IsMade, IsMadeOf, IsNodeOf, IsNodeText, IsChecked, IsPlayOf, IsPlayedText, IsSafeText, IsSpelled, IsTunedOf, Prints, PrintsCommand, IsAuditOf, IsAuditedText};
+ghost use Rattle.cpg_app.specs.Outputs.{bytes_of, packed, shown, AreJudgedSafe, ArePackOf, AreSafe, IsMade, IsMadeOf, IsNodeOf, IsNodeText, IsChecked, IsPlayOf, IsPlayedText, IsSafeText, IsSpelled, IsTunedOf, Prints, PrintsCommand, IsAuditOf, IsAuditedText, PutsOutAtEnd};
 
 use crate::auditing::audit_text;
 use crate::halt::{Halt, Refusal};
@@ -25,7 +25,7 @@ use cpg_rules::Admitted;
 use cpg_run::Built;
 use cpg_show::{node_text, table_text};
 use cpg_table::{Head, Tables};
-use cpg_words::{Command, WordsFault, read_words};
+use cpg_words::Command;
 use std::alloc::Global;
 
 /// An admitted graph, and what its compile answers.
@@ -311,7 +311,7 @@ fn is_named(node: &Name, name: &str) -> bool
 }
 
 /// The number of the first node of a name.
-fn first_named(head: &Head, name: &str) -> Option<usize>
+pub fn first_named(head: &Head, name: &str) -> Option<usize>
     ensures first { result ≡ first_named head.now name.now }
     ensures within { IfSome result (λ node. node < length head.now.nodes) }
     ensures few { IfSome result (λ node. node < 16) }
@@ -344,9 +344,14 @@ fn node<S: Shelf>(alloc: Global, shelf: &mut S, pack: &str, name: &str) -> Resul
     Ok(lines)
 }
 
-/// The output of a command, or why it stops.
-fn command_output<S: Shelf>(alloc: Global, shelf: &mut S, command: &Command) -> Result<Output, Halt>
-    requires { All (λ w. S.may_fetch shelf.old w) (file_words command.now) }
+/// The output of a command that has one at its end, or why it stops.
+pub fn command_output<S: Shelf>(
+    alloc: Global,
+    shelf: &mut S,
+    command: &Command,
+) -> Result<Output, Halt>
+    requires files { All (λ w. S.may_fetch shelf.old w) (file_words command.now) }
+    requires at_end { PutsOutAtEnd command.now }
     ensures text { IfOk result (λ o. PrintsCommand (record { stands = S.stands shelf.old; given = S.given shelf.new; before = S.faults shelf.old; now = S.faults shelf.new }) command.now (bytes_of o)) }
     ensures halt { IfErr result (StopsCommand (record { stands = S.stands shelf.old; given = S.given shelf.new; before = S.faults shelf.old; now = S.faults shelf.new }) command.now) }
 {
@@ -380,19 +385,7 @@ fn command_output<S: Shelf>(alloc: Global, shelf: &mut S, command: &Command) -> 
             pack.as_str(),
             log.as_str(),
         ),
-        _ => Err(Halt::Refused(Refusal::NotBuilt)),
-    }
-}
-
-/// The output of a run of the words, or why it stops.
-pub fn outcome<S: Shelf>(alloc: Global, words: &[String], shelf: &mut S) -> Result<Output, Halt>
-    requires { All (λ w. S.may_fetch shelf.old w) (file_words_of (map string_bytes words.now)) }
-    ensures text { IfOk result (λ o. Prints (record { stands = S.stands shelf.old; given = S.given shelf.new; before = S.faults shelf.old; now = S.faults shelf.new }) (map string_bytes words.now) (bytes_of o)) }
-    ensures halt { IfErr result (Stops (record { stands = S.stands shelf.old; given = S.given shelf.new; before = S.faults shelf.old; now = S.faults shelf.new }) (map string_bytes words.now)) }
-{
-    match read_words(alloc, words) {
-        Ok(command) => command_output(alloc, shelf, &command),
-        Err(WordsFault::Bad) => Err(Halt::Words),
-        Err(WordsFault::OutOfMemory) => Err(Halt::Memory),
+        // (it puts out as it goes)
+        Command::Live { .. } => unreachable!(),
     }
 }

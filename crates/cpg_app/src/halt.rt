@@ -75,8 +75,6 @@ pub enum Refusal {
     UnknownNode,
     /// The parts of a graph of several periods have no graph together.
     NoHypergraph(HyperFault),
-    /// The command isn't built yet.
-    NotBuilt,
 }
 
 /// Why a run stops without an output.

@@ -3,11 +3,14 @@
 
 ghost use Rattle.cpg_app.specs.Joined.{PacksAreTaken};
 
+mod act_lines;
 mod answer;
 mod auditing;
 mod commands;
+mod following;
 mod halt;
 mod lines;
+mod living;
 mod output;
 mod periods;
 mod playing;

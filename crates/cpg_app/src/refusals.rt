@@ -209,7 +209,6 @@ fn write_refusal(out: &mut String, refusal: &Refusal) -> Result<(), OutOfMemory>
         Refusal::UnknownNode => out.push_str("19 node")?,
         Refusal::NoHypergraph(fault) => write_hyper(out, *fault)?,
         Refusal::BadLog(line) => write!(out, "23 log {line}")?,
-        Refusal::NotBuilt => out.push_str("20 not built")?,
     }
     Ok(())
 }

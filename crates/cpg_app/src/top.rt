@@ -1,21 +1,44 @@
 //! The top call.
-ghost use Rattle.std.specs.Prelude.{◌≡◌, ◌⊎◌, All, map, string_bytes};
-ghost use Rattle.cpg_words.specs.FileWords.{file_words_of};
-ghost use Rattle.cpg_app.specs.Causes.{Stops};
-ghost use Rattle.cpg_app.specs.Endings.{EndsBy, EndsWith};
+ghost use Rattle.std.specs.Prelude.{◌≡◌, ◌⊎◌, All, List, Some, map, string_bytes};
+ghost use Rattle.cpg_words.specs.FileWords.{file_words, file_words_of};
+ghost use Rattle.cpg_words.specs.Forms.{command_of};
+ghost use Rattle.cpg_words.specs.Parts.{Text};
 ghost use Rattle.cpg_app.specs.Halts.{halt_of_words};
 ghost use Rattle.cpg_app.specs.Lawful.{IsLawful};
 ghost use Rattle.cpg_app.specs.Lines.{line_of, status_of};
-ghost use Rattle.cpg_app.specs.Outputs.{Prints};
+ghost use Rattle.cpg_app.specs.Outputs.{PutsOutAtEnd};
 ghost use Rattle.cpg_app.specs.Told.{Sent};
 
 use crate::answer::{cut, put, stop};
-use crate::commands::outcome;
+use crate::commands::command_output;
 use crate::halt::Halt;
+use crate::living::live;
 use cpg_codec::WriteFault;
 use cpg_io::{Shelf, Sink};
-use cpg_words::WordsFault;
+use cpg_words::{Command, WordsFault, read_words};
 use std::alloc::Global;
+
+/// Ends a run with the output of its command, or as it stops.
+fn print<S: Shelf, O: Sink, E: Sink>(
+    alloc: Global,
+    command: &Command,
+    shelf: &mut S,
+    out: &mut O,
+    err: &mut E,
+) -> u8
+    requires files { All (λ w. S.may_fetch shelf.old w) (file_words command.now) }
+    requires at_end { PutsOutAtEnd command.now }
+    ensures { (words : List Text) → command_of words ≡ Some command.now → IsLawful (record { words = words; shelf = record { stands = S.stands shelf.old; given = S.given shelf.new; before = S.faults shelf.old; now = S.faults shelf.new }; out = record { before = O.faults out.old; now = O.faults out.new; old = O.taken out.old; new = O.taken out.new }; err = record { before = E.faults err.old; now = E.faults err.new; old = E.taken err.old; new = E.taken err.new }; status = result }) }
+{
+    match command_output(alloc, shelf, command) {
+        Ok(output) => match put(alloc, &output, out) {
+            Ok(()) => 0,
+            Err(WriteFault::Failed) => cut(err),
+            Err(WriteFault::OutOfMemory) => stop(alloc, &Halt::Memory, err),
+        },
+        Err(halt) => stop(alloc, &halt, err),
+    }
+}
 
 /// All that the program does, by the words after its name: it reads the files that they name from the shelf, writes the
 /// command's output to `out` or one line to `err`, and answers the exit status. What each status says is in
@@ -30,13 +53,21 @@ pub fn run<S: Shelf, O: Sink, E: Sink>(
     requires { All (λ w. S.may_fetch shelf.old w) (file_words_of (map string_bytes words.now)) }
     ensures { IsLawful (record { words = map string_bytes words.now; shelf = record { stands = S.stands shelf.old; given = S.given shelf.new; before = S.faults shelf.old; now = S.faults shelf.new }; out = record { before = O.faults out.old; now = O.faults out.new; old = O.taken out.old; new = O.taken out.new }; err = record { before = E.faults err.old; now = E.faults err.new; old = E.taken err.old; new = E.taken err.new }; status = result }) }
 {
-    match outcome(alloc, words, shelf) {
-        Ok(output) => match put(alloc, &output, out) {
-            Ok(()) => 0,
-            Err(WriteFault::Failed) => cut(err),
-            Err(WriteFault::OutOfMemory) => stop(alloc, &Halt::Memory, err),
-        },
-        Err(halt) => stop(alloc, &halt, err),
+    let command = match read_words(alloc, words) {
+        Ok(command) => command,
+        Err(fault) => return run_without_words(alloc, fault, err),
+    };
+    match &command {
+        Command::Live { pack, name, stream } => live(
+            alloc,
+            shelf,
+            out,
+            err,
+            pack.as_str(),
+            name.as_str(),
+            stream.as_str(),
+        ),
+        _ => print(alloc, &command, shelf, out, err),
     }
 }
 

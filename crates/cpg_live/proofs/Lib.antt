@@ -3,3 +3,4 @@ pub mod Rooms
 pub mod Cutting
 pub mod Steps
 pub mod Growing
+pub mod Bounds

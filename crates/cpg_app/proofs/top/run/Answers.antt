@@ -1,71 +1,36 @@
-use Rattle.std.proofs.Common.{map, string_bytes, refl, inl, inr}
+use Rattle.std.proofs.Common.{rules, All, ap, arith, map, string_bytes, subst, sym}
 use Rattle.std.proofs.KnownBytes.{Keeps-refl}
-use Rattle.cpg_app.specs.declared.halt.Halt.TheVariants.{Memory}
+use Rattle.cpg_words.specs.declared.command.Command.{Command}
+use Rattle.cpg_words.specs.FileWords.{file_words, file_words_if}
 use Rattle.cpg_app.specs.Endings.{Ran}
-use Rattle.cpg_app.specs.Outputs.{bytes_of}
-use Rattle.cpg_app.proofs.MemoryStops.{memory_stops}
-use Rattle.cpg_app.proofs.Named.{stops_named}
-use Rattle.cpg_app.proofs.Shown.{lawful_with, lawful_by}
-use Rattle.cpg_app.proofs.Written.{stopped, cut_of, none_of}
+use Rattle.cpg_app.proofs.Wordless.{at_end, without_words}
 use Rattle.cpg_app.proofs.top.run.Goals as goal
 
-pub stop-requires-in-Err : goal.stop-requires-in-Err
-stop-requires-in-Err g c =
-    stops_named (record { stands = g.S.Shelf.stands c.args.shelf.now; given = g.S.Shelf.given c.outcome.new.shelf; before = g.S.Shelf.faults c.args.shelf.now; now = g.S.Shelf.faults c.outcome.new.shelf })
-    (map string_bytes c.args.words.now) c.in-Err.halt c.in-Err.ensures.halt
+pub live-requires-clause-pack : goal.live-requires-clause-pack
+live-requires-clause-pack g c =
+    let may = g.S.Shelf.may_fetch c.args.shelf.now in
+    let files = subst (λ (command : Command). All may (file_words command)) c.in-Live.is (subst (All may) (ap file_words_if c.in-Ok.ensures.command) c.requires) in
+    subst may (sym c.as_str.ensures) (files 0 c.in-Live.pack (omega arith))
 
-pub returns-in-Ok-put : goal.returns-in-Ok-put
-returns-in-Ok-put g c =
+pub live-requires-clause-stream : goal.live-requires-clause-stream
+live-requires-clause-stream g c =
+    let may = g.S.Shelf.may_fetch c.args.shelf.now in
+    let files = subst (λ (command : Command). All may (file_words command)) c.in-Live.is (subst (All may) (ap file_words_if c.in-Ok.ensures.command) c.requires) in
+    subst may (sym c.as_str-in-Live-2.ensures) (files 1 c.in-Live.stream (omega arith))
+
+pub print-requires : goal.print-requires
+print-requires g c = record {
+  files = subst (All (g.S.Shelf.may_fetch c.args.shelf.now)) (ap file_words_if c.in-Ok.ensures.command) c.requires;
+  at_end = at_end c.in-Ok.command c.in_default.not-Live;
+}
+
+pub returns-in-Err : goal.returns-in-Err
+returns-in-Err g c =
     let r : Ran = record {
       words = map string_bytes c.args.words.now;
-      shelf = record { stands = g.S.Shelf.stands c.args.shelf.now; given = g.S.Shelf.given c.outcome.new.shelf; before = g.S.Shelf.faults c.args.shelf.now; now = g.S.Shelf.faults c.outcome.new.shelf };
-      out = record { before = g.O.Sink.faults c.args.out.now; now = g.O.Sink.faults c.put.new.out; old = g.O.Sink.taken c.args.out.now; new = g.O.Sink.taken c.put.new.out };
-      err = record { before = g.E.Sink.faults c.args.err.now; now = g.E.Sink.faults c.args.err.now; old = g.E.Sink.taken c.args.err.now; new = g.E.Sink.taken c.args.err.now };
-      status = 0;
-    } in
-    lawful_with r (bytes_of c.in-Ok.output) (record {
-      prints = c.in-Ok.ensures.text;
-      ending = inl (record { status = refl; out = c.in-Ok-put.ensures; err = Keeps-refl (g.E.Sink.taken c.args.err.now) });
-    })
-
-pub returns-in-Err-Failed : goal.returns-in-Err-Failed
-returns-in-Err-Failed g c =
-    let r : Ran = record {
-      words = map string_bytes c.args.words.now;
-      shelf = record { stands = g.S.Shelf.stands c.args.shelf.now; given = g.S.Shelf.given c.outcome.new.shelf; before = g.S.Shelf.faults c.args.shelf.now; now = g.S.Shelf.faults c.outcome.new.shelf };
-      out = record { before = g.O.Sink.faults c.args.out.now; now = g.O.Sink.faults c.put.new.out; old = g.O.Sink.taken c.args.out.now; new = g.O.Sink.taken c.put.new.out };
-      err = record { before = g.E.Sink.faults c.args.err.now; now = g.E.Sink.faults c.cut.new.err; old = g.E.Sink.taken c.args.err.now; new = g.E.Sink.taken c.cut.new.err };
-      status = c.cut.result;
-    } in
-    lawful_with r (bytes_of c.in-Ok.output) (record {
-      prints = c.in-Ok.ensures.text;
-      ending = inr (record { status = c.cut.ensures.status; out = cut_of r.out (bytes_of c.in-Ok.output) c.in-Err-Failed.field-0 c.in-Err-Failed.field-0-is c.in-Err-Failed.ensures; err = c.cut.ensures.told });
-    })
-
-pub returns-in-Ok : goal.returns-in-Ok
-returns-in-Ok g c =
-    let r : Ran = record {
-      words = map string_bytes c.args.words.now;
-      shelf = record { stands = g.S.Shelf.stands c.args.shelf.now; given = g.S.Shelf.given c.outcome.new.shelf; before = g.S.Shelf.faults c.args.shelf.now; now = g.S.Shelf.faults c.outcome.new.shelf };
-      out = record { before = g.O.Sink.faults c.args.out.now; now = g.O.Sink.faults c.put.new.out; old = g.O.Sink.taken c.args.out.now; new = g.O.Sink.taken c.put.new.out };
-      err = record { before = g.E.Sink.faults c.args.err.now; now = g.E.Sink.faults c.stop.new.err; old = g.E.Sink.taken c.args.err.now; new = g.E.Sink.taken c.stop.new.err };
-      status = c.stop.result;
-    } in
-    elim c.stop.ensures [
-      | inl sent ↦ lawful_by r Memory (record { stops = memory_stops r.shelf r.words; ending = stopped r Memory (none_of r.out (bytes_of c.in-Ok.output) c.in-Err-OutOfMemory.field-0 c.in-Err-OutOfMemory.field-0-is c.in-Err-OutOfMemory.ensures) sent })
-      | inr sent ↦ lawful_by r Memory (record { stops = memory_stops r.shelf r.words; ending = stopped r Memory (none_of r.out (bytes_of c.in-Ok.output) c.in-Err-OutOfMemory.field-0 c.in-Err-OutOfMemory.field-0-is c.in-Err-OutOfMemory.ensures) sent })
-    ]
-
-pub returns : goal.returns
-returns g c =
-    let r : Ran = record {
-      words = map string_bytes c.args.words.now;
-      shelf = record { stands = g.S.Shelf.stands c.args.shelf.now; given = g.S.Shelf.given c.outcome.new.shelf; before = g.S.Shelf.faults c.args.shelf.now; now = g.S.Shelf.faults c.outcome.new.shelf };
+      shelf = record { stands = g.S.Shelf.stands c.args.shelf.now; given = g.S.Shelf.given c.args.shelf.now; before = g.S.Shelf.faults c.args.shelf.now; now = g.S.Shelf.faults c.args.shelf.now };
       out = record { before = g.O.Sink.faults c.args.out.now; now = g.O.Sink.faults c.args.out.now; old = g.O.Sink.taken c.args.out.now; new = g.O.Sink.taken c.args.out.now };
-      err = record { before = g.E.Sink.faults c.args.err.now; now = g.E.Sink.faults c.stop-in-Err.new.err; old = g.E.Sink.taken c.args.err.now; new = g.E.Sink.taken c.stop-in-Err.new.err };
-      status = c.stop-in-Err.result;
+      err = record { before = g.E.Sink.faults c.args.err.now; now = g.E.Sink.faults c.run_without_words.new.err; old = g.E.Sink.taken c.args.err.now; new = g.E.Sink.taken c.run_without_words.new.err };
+      status = c.run_without_words.result;
     } in
-    elim c.stop-in-Err.ensures [
-      | inl sent ↦ lawful_by r c.in-Err.halt (record { stops = c.in-Err.ensures.halt; ending = stopped r c.in-Err.halt (Keeps-refl (g.O.Sink.taken c.args.out.now)) sent })
-      | inr sent ↦ lawful_by r Memory (record { stops = memory_stops r.shelf r.words; ending = stopped r Memory (Keeps-refl (g.O.Sink.taken c.args.out.now)) sent })
-    ]
+    without_words r c.in-Err.fault (λ e. search rules) (Keeps-refl (g.O.Sink.taken c.args.out.now)) c.run_without_words.ensures

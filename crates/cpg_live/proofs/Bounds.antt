@@ -1,0 +1,97 @@
+-- How many acts a node can do in all: each entry of its table is taken at most once.
+use Rattle.std.proofs.Common.{◌≡◌, ℕ, zero, suc, ◌+◌, ◌≤◌, Bool, true, false, cond, List, [], ◌∷◌, ◌==◌, length, fold, Option, Some, None, refl, sym, ap, ◌∙◌, arith, ◌&&◌}
+use Rattle.std.specs.Prelude.{is_some, nat_lt}
+use Rattle.std.proofs.lemmas.List.{length-append}
+use Rattle.cpg_table.specs.Table.{NodeTable}
+use Rattle.cpg_table.specs.Lawful.{column_count}
+use Rattle.cpg_node.specs.Dispatcher.{Act, Ended, next, acts_of_turn, is_strange, hear, finished, opening}
+use Rattle.cpg_live.specs.declared.bad.Why.{Why}
+use Rattle.cpg_live.specs.declared.bad.Why.TheVariants.{Length, Order, Frame as StrangeFrame, End as FalseEnd}
+use Rattle.cpg_live.specs.declared.event.Event.{Event}
+use Rattle.cpg_live.specs.declared.event.Event.TheVariants.{Frame as Arrival, End as Ending, Close}
+use Rattle.cpg_live.specs.Records.{Cut, cut, record_of, event_of}
+use Rattle.cpg_live.specs.Stream.{Progress, LiveState, start, faulty, lawful, instant_below, turn_if, turn_below, turns_below, turned, may_end, ended, step, refused, settled, stepped, judged, take_record, open_stream, with_rest, after}
+use Rattle.cpg_live.specs.Feeding.{entries_left}
+use Rattle.cpg_live.proofs.Turns.{found_is}
+use Rattle.cpg_live.proofs.Rooms.{room_turn, room_open}
+
+module _ (table : NodeTable) (most : ℕ) where
+  -- the acts so far, and the entries of the table that are left, are at most so many
+  record HasFew (p : Progress) : Type 0 where
+    same : p.dispatcher.table ≡ table
+    few : length p.acts + length (entries_left p.dispatcher) ≤ most
+
+  turn_few : (limit : ℕ) (p : Progress) → HasFew p → HasFew (turn_below limit p)
+  turn_few limit p h = go (instant_below limit (next p.dispatcher)) refl
+    where
+      go : (o : Option ℕ) → instant_below limit (next p.dispatcher) ≡ o → HasFew (turn_if p o)
+      go None e = h
+      go (Some time) e = record {
+        same = h.same;
+        few = omega (arith, h.few, room_turn p.dispatcher time (found_is limit (next p.dispatcher) time e).0, length-append p.acts (acts_of_turn p.dispatcher time [] []));
+      }
+
+  turns_few : (n limit : ℕ) (p : Progress) → HasFew p → HasFew (turns_below n limit p)
+  unfolding turns_below
+  turns_few zero limit p h = h
+  turns_few (suc n) limit p h = turns_few n limit (turn_below limit p) (turn_few limit p h)
+
+  turned_few : (limit : ℕ) (p : Progress) → HasFew p → HasFew (turned limit p)
+  turned_few limit p h = turns_few limit limit p h
+
+  step_few : (time : ℕ) (event : Event) (p : Progress) → HasFew p → HasFew (step time event p).progress
+  step_few time (Arrival f) p h = go (is_strange (turned time p).dispatcher time f) (turned_few time p h)
+    where
+      go : (b : Bool) → HasFew (turned time p) → HasFew (cond b (faulty (turned time p) StrangeFrame) (lawful (record (turned time p) { dispatcher = hear (turned time p).dispatcher f }))).progress
+      go true w = w
+      go false w = record { same = w.same; few = w.few }
+  step_few time (Ending process faults value) p h = go (record { process = process; faults = faults; value = value }) (turned_few time p h)
+    where
+      go : (e : Ended) → HasFew (turned time p) → HasFew (ended time e (turned time p)).progress
+      go e w = told (may_end (turned time p).dispatcher time e)
+        where
+          told : (b : Bool) → HasFew (cond b (lawful (record (turned time p) { dispatcher = finished (turned time p).dispatcher e })) (faulty (turned time p) FalseEnd)).progress
+          told true = record { same = w.same; few = w.few }
+          told false = w
+  step_few time Close p h = turned_few (time + 1) p h
+
+  settled_few : (s : LiveState) (time : ℕ) (event : Event) (why : Option Why) → HasFew s.progress → HasFew (settled s time event why).progress
+  settled_few s time event None h = h
+  settled_few s time event (Some why) h = h
+
+  judged_few : (s : LiveState) (time : ℕ) (event : Option Event) → HasFew s.progress → HasFew (judged s time event).progress
+  judged_few s time None h = h
+  judged_few s time (Some event) h = go (nat_lt time s.time)
+    where
+      go : (b : Bool) → HasFew (cond b (refused s Order) (stepped s time event (step time event s.progress))).progress
+      go true = h
+      go false = settled_few (record s { progress = (step time event s.progress).progress }) time event (step time event s.progress).fault (step_few time event s.progress h)
+
+  record_few : (s : LiveState) (bytes : List ℕ) → HasFew s.progress → HasFew (take_record s bytes).progress
+  record_few s bytes h = go (is_some s.bad) s.closed
+    where
+      go : (b c : Bool) → HasFew (cond b s (cond c (refused s Length) (judged s (record_of bytes).time (event_of s.progress.dispatcher.table (record_of bytes))))).progress
+      go true c = h
+      go false true = h
+      go false false = judged_few s (record_of bytes).time (event_of s.progress.dispatcher.table (record_of bytes)) h
+
+  records_few : (s : LiveState) (rs : List (List ℕ)) → HasFew s.progress → HasFew (fold take_record s rs).progress
+  records_few s [] h = h
+  records_few s (r ∷ rs) h = records_few (take_record s r) rs (record_few s r h)
+
+  rest_few : (s : LiveState) (rest : List ℕ) → HasFew s.progress → HasFew (with_rest s rest).progress
+  rest_few s rest h = go (is_some s.bad) (s.closed && nat_lt 0 (length rest))
+    where
+      go : (b c : Bool) → HasFew (cond b s (cond c (refused s Length) (record s { rest = rest }))).progress
+      go true c = h
+      go false true = h
+      go false false = h
+
+-- the acts after bytes are at most as many as the columns of what the node sends and starts
+pub few_acts : (table : NodeTable) (bytes : List ℕ) → length (after table bytes).progress.acts ≤ column_count table.sends + column_count table.starts
+few_acts table bytes =
+    let most = column_count table.sends + column_count table.starts in
+    let first : HasFew table most (start table) = record { same = refl; few = omega (arith, room_open (opening table)) } in
+    let s : LiveState = fold take_record (open_stream table) (cut bytes).whole in
+    let h = rest_few table most s (cut bytes).rest (records_few table most (open_stream table) (cut bytes).whole first) in
+    omega (arith, h.few)
