@@ -1,11 +1,11 @@
 -- A follower along its stream.
-use Rattle.std.proofs.Common.{◌≡◌, ◌≢◌, ℕ, ◌+◌, ◌<◌, ◌≤◌, ◌-◌, List, [], ◌++◌, true, false, true≢false, length, take, drop, Option, Some, None, refl, sym, ap, ap₂, ◌∙◌, subst, arith, append-nil, inl, inr}
+use Rattle.std.proofs.Common.{◌≡◌, ℕ, ◌+◌, ◌<◌, ◌≤◌, ◌-◌, List, [], ◌++◌, true, false, true≢false, length, take, drop, Option, Some, None, refl, sym, ap, ap₂, ◌∙◌, subst, arith}
 use Rattle.std.specs.Prelude.{IfErr, IfOk, IfSome, Result, Ok, Err, MatchResult, OnErr, OnOk, is_err}
 use Rattle.std.specs.Io.KnownBytes.{Appends, Consumes, IsAtEnd}
 use Rattle.std.proofs.KnownBytes.{Appends-nil, Appends-trans, Consumes-trans}
 use Rattle.std.proofs.Math.Seq.{take-append_seam}
 use Rattle.std.proofs.lemmas.List.{length-append, length-drop, length-take, take_all}
-use Rattle.cpg_io.specs.Causes.{Rose, counted}
+use Rattle.cpg_io.specs.Causes.{counted}
 use Rattle.cpg_io.specs.Shelf.{StartsAt}
 use Rattle.cpg_io.specs.Sink.{TookPrefix}
 use Rattle.cpg_table.specs.Head.{Head}
@@ -16,7 +16,6 @@ use Rattle.cpg_live.specs.Stream.{LiveState, after, open_stream, outcome}
 use Rattle.cpg_live.specs.Laws.{Grows}
 use Rattle.cpg_app.specs.declared.following.Broken.{Broken}
 use Rattle.cpg_app.specs.declared.following.Broken.TheVariants.{Shelf, Sink, Refused}
-use Rattle.cpg_app.specs.declared.following.StreamFault.{StreamFault}
 use Rattle.cpg_app.specs.declared.following.StreamFault.TheVariants.{Lawless, Long}
 use Rattle.cpg_app.specs.declared.following.TheConstants.{STREAM_LIMIT}
 use Rattle.cpg_app.specs.Follower.{Follower, open_follower}

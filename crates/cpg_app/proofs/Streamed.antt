@@ -1,13 +1,13 @@
 -- A run that doesn't follow its stream to the close keeps what each status says.
 use Rattle.std.proofs.Common.{ℕ, ◌≡◌, ◌≢◌, ◌∙◌, Bool, true, false, true≢false, [], Option, Some, None, refl, sym, ap, subst, arith, inl, inr}
-use Rattle.std.specs.Prelude.{◌⊎◌, Result, Ok, Err}
+use Rattle.std.specs.Prelude.{◌⊎◌, Ok, Err}
 use Rattle.std.proofs.lemmas.Bool.{cases_eq}
 use Rattle.std.proofs.lemmas.Option.{none-some, same_Some}
 use Rattle.cpg_io.specs.Causes.{Rose}
 use Rattle.cpg_words.specs.Parts.{Text}
 use Rattle.cpg_words.specs.Forms.{command_of}
 use Rattle.cpg_words.specs.declared.command.Command.{Command}
-use Rattle.cpg_words.specs.declared.command.Command.TheVariants.{Show, Compile, Check, Play, Node, Trial, Live, Hyper, Tune, Audit}
+use Rattle.cpg_words.specs.declared.command.Command.TheVariants.{Show, Compile, Check, Play, Node, Live}
 use Rattle.cpg_rules.specs.Admission.{Admission}
 use Rattle.cpg_table.specs.Head.{Head}
 use Rattle.cpg_table.specs.Lawful.{Tables}
@@ -16,17 +16,16 @@ use Rattle.cpg_codec.specs.Packs.{AreLawful}
 use Rattle.cpg_codec.specs.Spelling.{spelling}
 use Rattle.cpg_app.specs.declared.following.Broken.{Broken}
 use Rattle.cpg_app.specs.declared.following.StreamFault.{StreamFault}
-use Rattle.cpg_app.specs.declared.halt.Refusal.{Refusal}
-use Rattle.cpg_app.specs.declared.halt.Halt.TheVariants.{Read, Refused}
-use Rattle.cpg_app.specs.Causes.{Seen, Spells, StopsNaming, StopsTables, first_named}
-use Rattle.cpg_app.specs.Endings.{Ran, EndsInStream, Follows, IsSaid, IsTold, stream_of, table_of}
-use Rattle.cpg_app.specs.Following.{Breaks, Stream}
-use Rattle.cpg_app.specs.Lawful.{AsksFor, AsksStream, AsksToJudge, IsFaultless, IsLawful, IsRefusedStream, IsUnreadStream, status_of_end}
-use Rattle.cpg_app.specs.Lines.{line_of, write_fault_line}
+use Rattle.cpg_app.specs.declared.halt.Halt.TheVariants.{Read}
+use Rattle.cpg_app.specs.Causes.{Seen, first_named}
+use Rattle.cpg_app.specs.Endings.{Ran, EndsInStream, Follows, IsSaid, stream_of, table_of}
+use Rattle.cpg_app.specs.Following.{Breaks}
+use Rattle.cpg_app.specs.Lawful.{AsksFor, AsksStream, AsksToJudge, IsLawful, IsRefusedStream, IsUnreadStream, status_of_end}
+use Rattle.cpg_app.specs.Lines.{line_of}
 use Rattle.cpg_app.specs.Outputs.{IsFollowedOf}
-use Rattle.cpg_app.specs.Streams.{AreBytesOf, IsClosed, IsLawfulSoFar, IsRefused, fault_line, stream_end}
-use Rattle.cpg_app.specs.Told.{Part, Sent, SinkSeen, Untouched, Whole}
-use Rattle.cpg_app.proofs.Checked.{node_left, same_tables}
+use Rattle.cpg_app.specs.Streams.{AreBytesOf, IsClosed, IsRefused, fault_line, stream_end}
+use Rattle.cpg_app.specs.Told.{Sent, SinkSeen, Untouched}
+use Rattle.cpg_app.proofs.Checked.{same_tables}
 
 -- ---- words
 

@@ -1,15 +1,14 @@
 -- A run with a follower keeps what each status says.
-use Rattle.std.proofs.Common.{ℕ, ◌≡◌, ◌≤◌, ◌∙◌, Option, Some, sym, ap, subst, arith, inl, inr}
+use Rattle.std.proofs.Common.{ℕ, ◌≡◌, ◌≤◌, Option, Some, sym, ap, subst, arith, inl}
 use Rattle.cpg_words.specs.Parts.{Text}
 use Rattle.cpg_words.specs.Forms.{command_of}
 use Rattle.cpg_words.specs.declared.command.Command.{Command}
 use Rattle.cpg_words.specs.declared.command.Command.TheVariants.{Live}
-use Rattle.cpg_table.specs.Head.{Head}
 use Rattle.cpg_table.specs.Lawful.{Tables}
-use Rattle.cpg_table.specs.Table.{NodeTable, table_at}
+use Rattle.cpg_table.specs.Table.{table_at}
 use Rattle.cpg_app.specs.declared.following.Broken.{Broken}
-use Rattle.cpg_app.specs.Causes.{Seen, Spells}
-use Rattle.cpg_app.specs.Endings.{Ran, Follows, IsSaid, stream_of, table_of}
+use Rattle.cpg_app.specs.Causes.{Spells}
+use Rattle.cpg_app.specs.Endings.{Ran, IsSaid}
 use Rattle.cpg_app.specs.Follower.{Follower}
 use Rattle.cpg_app.specs.Following.{Breaks, Completes, Stream}
 use Rattle.cpg_app.specs.Lawful.{IsLawful}

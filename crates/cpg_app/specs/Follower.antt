@@ -1,5 +1,5 @@
 -- A node of a pack that follows a stream.
-use Rattle.std.specs.Prelude.{ℕ, List}
+use Rattle.std.specs.Prelude.{ℕ}
 use Rattle.cpg_table.specs.Head.{Head}
 use Rattle.cpg_table.specs.Table.{NodeTable}
 use Rattle.cpg_live.specs.Stream.{LiveState, open_stream}

@@ -1,5 +1,5 @@
 -- What a follower keeps for its calls.
-use Rattle.std.specs.Prelude.{ℕ, ◌≡◌, ◌+◌, ◌*◌, ◌≤◌, ◌<◌, List, length}
+use Rattle.std.specs.Prelude.{ℕ, ◌≡◌, ◌+◌, ◌*◌, ◌≤◌, List, length}
 use Rattle.std.specs.Vec.{vec_capacity}
 use Rattle.cpg_table.specs.Table.{NodeTable, table_at}
 use Rattle.cpg_table.specs.Lawful.{column_count}

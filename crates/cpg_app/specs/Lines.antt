@@ -1,5 +1,5 @@
 -- The exit status of a run that stops without an output, and the line that it writes.
-use Rattle.std.specs.Prelude.{ℕ, ◌+◌, ◌-◌, ◌≡◌, ◌<◌, nat_lt, if◌then◌else◌, List, [], ◌++◌, Option, Some, None, length, get_or, codes, ⊤}
+use Rattle.std.specs.Prelude.{ℕ, ◌≡◌, ◌<◌, List, [], ◌++◌, Option, Some, None, length, get_or, codes, ⊤}
 use Rattle.std.specs.List.{flat_map}
 use Rattle.std.specs.Fmt.{decimal}
 use Rattle.cpg_base.specs.Graph.{Graph, condition_count, process_count, item_at, item_count, process_at, process_of}

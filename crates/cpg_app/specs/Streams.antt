@@ -1,8 +1,7 @@
 -- A stream that a node of a pack follows: the lines of what it does, and how the stream ends.
-use Rattle.std.specs.Prelude.{ℕ, ◌+◌, ◌≡◌, ◌&&◌, nat_lt, if◌then◌else◌, List, [], ◌++◌, Option, None, Some, IfSome, is_none, Result, Ok, Err, codes, length, take}
+use Rattle.std.specs.Prelude.{ℕ, ◌+◌, ◌≡◌, ◌&&◌, nat_lt, if◌then◌else◌, List, [], ◌++◌, Option, None, IfSome, is_none, Result, Ok, Err, codes, length, take}
 use Rattle.std.specs.List.{flat_map}
 use Rattle.std.specs.Fmt.{decimal}
-use Rattle.std.specs.Io.KnownBytes.{Appends}
 use Rattle.cpg_io.specs.Sink.{TookPrefix}
 use Rattle.cpg_table.specs.Head.{Head}
 use Rattle.cpg_table.specs.Table.{NodeTable}

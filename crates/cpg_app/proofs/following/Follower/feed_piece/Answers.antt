@@ -1,4 +1,4 @@
-use Rattle.std.proofs.Common.{rules, ◌+◌, ◌++◌, List, arith, ap, length, take}
+use Rattle.std.proofs.Common.{rules, ◌++◌, List, arith, ap, length, take}
 use Rattle.std.proofs.lemmas.List.{length-append}
 use Rattle.cpg_node.specs.Dispatcher.{Act}
 use Rattle.cpg_app.specs.Kept.{table_in}

@@ -1,5 +1,5 @@
 use Rattle.std.proofs.Common.{◌≡◌, ◌∙◌, [], refl, ap, arith}
-use Rattle.cpg_table.specs.Table.{NodeTable, table_at}
+use Rattle.cpg_table.specs.Table.{table_at}
 use Rattle.cpg_live.specs.Stream.{open_stream}
 use Rattle.cpg_app.specs.Kept.{entry_count}
 use Rattle.cpg_app.proofs.Along.{opened}

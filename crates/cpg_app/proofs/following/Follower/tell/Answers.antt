@@ -1,11 +1,11 @@
-use Rattle.std.proofs.Common.{◌≡◌, ◌∙◌, ◌≤◌, arith, ap, drop, length, subst}
+use Rattle.std.proofs.Common.{◌≡◌, ◌∙◌, arith, ap, drop, length, subst}
 use Rattle.std.specs.Prelude.{List, OnErr}
 use Rattle.cpg_io.specs.Sink.{TookPrefix}
 use Rattle.cpg_node.specs.Dispatcher.{Act}
 use Rattle.cpg_live.specs.Stream.{LiveState}
 use Rattle.cpg_live.proofs.Bounds.{few_acts}
 use Rattle.cpg_app.specs.Follower.{Follower}
-use Rattle.cpg_app.specs.Kept.{entry_count, table_in}
+use Rattle.cpg_app.specs.Kept.{table_in}
 use Rattle.cpg_app.specs.Streams.{act_lines}
 use Rattle.cpg_app.proofs.Along.{rest_few, told_lines}
 use Rattle.cpg_app.proofs.following.Follower.tell.Goals as goal
