@@ -4,3 +4,4 @@ pub mod Cutting
 pub mod Steps
 pub mod Growing
 pub mod Bounds
+pub mod Counting
