@@ -6,11 +6,10 @@ use Rattle.cpg_base.specs.Graph.{Graph}
 use Rattle.cpg_base.specs.declared.memory.OutOfMemory.{OutOfMemory}
 use Rattle.cpg_base.specs.Scenario.{Scenario}
 use Rattle.cpg_base.specs.WellFormed.{WellFormed}
-use Rattle.cpg_order.specs.Scenario.{scenarios}
 use Rattle.cpg_order.specs.Urgency.{IsTopological}
 use Rattle.cpg_gen.specs.Generated.{generated}
 use Rattle.cpg_gen_laws.proofs.Kept.{no_fault}
-use Rattle.cpg_gen_laws.proofs.Narrow.{few_scenarios, narrow}
+use Rattle.cpg_gen_laws.proofs.Narrow.{narrow}
 use Rattle.cpg_gen_laws.proofs.Timely.{in_time}
 use Rattle.cpg_reach.specs.Wide.{IsWide}
 use Rattle.cpg_rules.specs.Admission.{Admission, IsAdmitted}
@@ -40,10 +39,6 @@ use Rattle.cpg_trial.proofs.Finishes.{finish_is}
 -- its rules are kept
 pub admission_fault : (number : ℕ) (g : Graph) (fault : RuleFault) → g ≡ generated number → ShowsFault g fault → fault ≡ RuleFault.OutOfMemory
 admission_fault number g fault same shows = no_fault number fault (subst (λ x. ShowsFault x fault) same shows)
-
--- it has few scenarios
-pub scenarios_are_few : (g : Graph) → IsGenerated g → length (scenarios g) ≤ 16384
-scenarios_are_few g made = subst (λ x. length (scenarios x) ≤ 16384) (sym made.1) (omega (arith, few_scenarios made.0))
 
 -- and its tables are made
 pub compile_fault : (g : Graph) (urgency : List ℕ) (fault : CompileFault) → IsGenerated g → IsTopological g urgency → ShowsCompileFault g urgency fault → fault ≡ CompileFault.OutOfMemory
