@@ -1,5 +1,5 @@
 -- How a stream ends, by the part of it that was read.
-use Rattle.std.proofs.Common.{◌≡◌, ℕ, ◌+◌, ◌-◌, ◌<◌, ◌≤◌, cond, ◌&&◌, List, [], ◌++◌, length, take, drop, Option, Some, None, refl, sym, ap, ap₂, ◌∙◌, subst, arith, append_assoc, append-nil, lt-ltb, le-ltb}
+use Rattle.std.proofs.Common.{◌≡◌, ℕ, ◌+◌, ◌-◌, ◌<◌, ◌≤◌, Bool, true, false, cond, ◌&&◌, List, [], ◌++◌, length, take, drop, Option, Some, None, refl, sym, ap, ap₂, ◌∙◌, subst, arith, append_assoc, append-nil, lt-ltb, le-ltb, true≢false}
 use Rattle.std.specs.Prelude.{IfSome, is_none, nat_lt, Result, Ok, Err}
 use Rattle.std.specs.Io.KnownBytes.{Appends, Consumes, IsAtEnd}
 use Rattle.std.proofs.KnownBytes.{Appends-trans}
@@ -14,12 +14,13 @@ use Rattle.cpg_live.specs.declared.bad.Bad.{Bad}
 use Rattle.cpg_live.specs.Stream.{LiveState, after, outcome, outcome_if}
 use Rattle.cpg_live.specs.Feeding.{take_bytes}
 use Rattle.cpg_live.specs.Laws.{Grows}
+use Rattle.cpg_live.proofs.Counting.{within_record}
 use Rattle.cpg_live.proofs.Cutting.{feeds, bad_stays}
 use Rattle.cpg_live.proofs.Growing.{bytes_grow}
 use Rattle.cpg_app.specs.declared.following.StreamFault.{StreamFault}
 use Rattle.cpg_app.specs.declared.following.StreamFault.TheVariants.{Lawless, Long}
 use Rattle.cpg_app.specs.declared.following.TheConstants.{STREAM_LIMIT}
-use Rattle.cpg_app.specs.Streams.{act_line, act_lines, closed_line, read_part, end_by, end_of, stream_end, close_of, stream_lines, AreBytesOf, IsClosed, IsRefused, IsCutOff}
+use Rattle.cpg_app.specs.Streams.{act_line, act_lines, closed_line, read_part, end_by, end_of, stream_end, close_of, stream_lines, AreBytesOf, IsClosed, IsRefused, IsCutOff, IsTooLong}
 
 -- ---- what a sink took
 
@@ -98,16 +99,24 @@ end_short s count e l =
     ap (λ o. cond (is_none o && nat_lt STREAM_LIMIT count) (Err Long) (end_by (outcome_if s s.bad))) e
     ∙ ap (λ b. cond b (Err Long) (end_by (outcome_if s s.bad))) (le-ltb STREAM_LIMIT count l)
 
+not_long : (bad : Bad) → Lawless bad ≡ Long → ⊥
+not_long bad e = true≢false (ap is_lawless e)
+  where
+    is_lawless : StreamFault → Bool
+    is_lawless (Lawless bad) = true
+    is_lawless Long = false
+
 -- all lines, where the state is known
 lines_of : (h : Head) (table : NodeTable) (bytes : List ℕ) (s : LiveState) (ends : Result ℕ StreamFault) → after table (read_part bytes) ≡ s → stream_end table bytes ≡ ends → stream_lines h table bytes ≡ act_lines h s.progress.acts ++ close_of ends
 lines_of h table bytes s ends same e = ap₂ (λ (t : LiveState) r. act_lines h t.progress.acts ++ close_of r) same e
 
 module _ (h : Head) (table : NodeTable) (told left : Option (List ℕ)) (fed : List ℕ) (came : IfSome told (λ whole. Consumes (Some whole) left fed)) (few : length fed ≤ STREAM_LIMIT + 1) where
-  refused_by : (fault : StreamFault) (b : Begins told fed left) → after table (read_part b.bytes) ≡ after table fed → stream_end table b.bytes ≡ Err fault → IsRefused h table told fault (act_lines h (after table fed).progress.acts)
-  refused_by fault b same ends = record {
+  refused_by : (fault : StreamFault) (b : Begins told fed left) → (fault ≡ Long → IsTooLong table b.bytes) → after table (read_part b.bytes) ≡ after table fed → stream_end table b.bytes ≡ Err fault → IsRefused h table told fault (act_lines h (after table fed).progress.acts)
+  refused_by fault b long same ends = record {
     bytes = b.bytes;
     of = b.of;
     ends = ends;
+    long = long;
     spelled = sym (lines_of h table b.bytes (after table fed) (Err fault) same ends ∙ append-nil (act_lines h (after table fed).progress.acts));
   }
 
@@ -117,14 +126,21 @@ module _ (h : Head) (table : NodeTable) (told left : Option (List ℕ)) (fed : L
       let b = begins told left fed came in
       let more = take (STREAM_LIMIT + 1 - length fed) b.rest in
       let same : after table (read_part b.bytes) ≡ after table fed = ap (after table) (read_more b few) ∙ after_bad table fed more bad e in
-      refused_by (Lawless bad) b same (ap (λ s. end_of s (length (read_part b.bytes))) same ∙ end_bad (after table fed) (length (read_part b.bytes)) bad e)
+      refused_by (Lawless bad) b (λ e. absurd (not_long bad e)) same (ap (λ s. end_of s (length (read_part b.bytes))) same ∙ end_bad (after table fed) (length (read_part b.bytes)) bad e)
 
   -- as too long
   pub too_long : (after table fed).bad ≡ None → STREAM_LIMIT < length fed → IsRefused h table told Long (act_lines h (after table fed).progress.acts)
   too_long e l =
       let b = begins told left fed came in
       let read : read_part b.bytes ≡ fed = read_whole b few (take_none _ b.rest (omega (arith, l))) in
-      refused_by Long b (ap (after table) read) (ap (λ bytes. end_of (after table bytes) (length bytes)) read ∙ end_long (after table fed) (length fed) e l)
+      let within = within_record table fed 16777216 1 e (omega (arith, l, few)) (omega arith) (omega arith) (omega arith) in
+      let long : IsTooLong table b.bytes = record {
+        more = omega (arith, l, ap (λ (bytes : List ℕ). length bytes) b.is, length-append fed b.rest);
+        lawful = ap (λ bytes. (after table bytes).bad) read ∙ e;
+        taken = ap (λ bytes. (after table bytes).taken) read ∙ within.taken;
+        not_closed = ap (λ bytes. (after table bytes).closed) read ∙ within.not_closed;
+      } in
+      refused_by Long b (λ _. long) (ap (after table) read) (ap (λ bytes. end_of (after table bytes) (length bytes)) read ∙ end_long (after table fed) (length fed) e l)
 
   -- at its end
   module _ (end : IsAtEnd left) (lawful : (after table fed).bad ≡ None) (short : length fed ≤ STREAM_LIMIT) where
@@ -135,7 +151,7 @@ module _ (h : Head) (table : NodeTable) (told left : Option (List ℕ)) (fed : L
     ends_as = ap (λ bytes. end_of (after table bytes) (length bytes)) read_all ∙ end_short (after table fed) (length fed) lawful short
 
     pub unclosed : (bad : Bad) → outcome (after table fed) ≡ Err bad → IsRefused h table told (Lawless bad) (act_lines h (after table fed).progress.acts)
-    unclosed bad e = refused_by (Lawless bad) (begins told left fed came) (ap (after table) read_all) (ends_as ∙ ap end_by e)
+    unclosed bad e = refused_by (Lawless bad) (begins told left fed came) (λ e. absurd (not_long bad e)) (ap (after table) read_all) (ends_as ∙ ap end_by e)
 
     pub closed : (time : ℕ) → outcome (after table fed) ≡ Ok time → IsClosed h table told (act_lines h (after table fed).progress.acts ++ closed_line time)
     closed time e =

@@ -1,5 +1,5 @@
 -- A stream that a node of a pack follows: the lines of what it does, and how the stream ends.
-use Rattle.std.specs.Prelude.{ℕ, ◌+◌, ◌≡◌, ◌&&◌, nat_lt, if◌then◌else◌, List, [], ◌++◌, Option, None, IfSome, is_none, Result, Ok, Err, codes, length, take}
+use Rattle.std.specs.Prelude.{ℕ, ◌+◌, ◌≡◌, ◌<◌, false, ◌&&◌, nat_lt, if◌then◌else◌, List, [], ◌++◌, Option, None, IfSome, is_none, Result, Ok, Err, codes, length, take}
 use Rattle.std.specs.List.{flat_map}
 use Rattle.std.specs.Fmt.{decimal}
 use Rattle.cpg_io.specs.Sink.{TookPrefix}
@@ -83,11 +83,19 @@ pub record IsClosed (h : Head) (table : NodeTable) (told : Option (List ℕ)) (l
   pub ends : stream_end table bytes ≡ Ok time
   pub spelled : lines ≡ stream_lines h table bytes
 
+-- A stream is too long: as many records as are taken are lawful, none of them is a close, and another byte comes.
+pub record IsTooLong (table : NodeTable) (bytes : List ℕ) : Type 0 where
+  pub more : STREAM_LIMIT < length bytes
+  pub lawful : (after table (read_part bytes)).bad ≡ None
+  pub taken : (after table (read_part bytes)).taken ≡ 16777216
+  pub not_closed : (after table (read_part bytes)).closed ≡ false
+
 -- a stream that is refused, and the lines of the records before
 pub record IsRefused (h : Head) (table : NodeTable) (told : Option (List ℕ)) (fault : StreamFault) (lines : List ℕ) : Type 0 where
   pub bytes : List ℕ
   pub of : AreBytesOf told bytes
   pub ends : stream_end table bytes ≡ Err fault
+  pub long : fault ≡ Long → IsTooLong table bytes
   pub spelled : lines ≡ stream_lines h table bytes
 
 -- the first bytes of a stream, as many as the shelf gave, whose records are all lawful, and their lines
