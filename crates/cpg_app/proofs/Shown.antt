@@ -11,7 +11,7 @@ use Rattle.cpg_base.specs.Graph.{Graph}
 use Rattle.cpg_base.specs.Scenario.{Scenario}
 use Rattle.cpg_core.specs.declared.compiling.Compiled.{Compiled}
 use Rattle.cpg_rules.specs.Admission.{Admission}
-use Rattle.cpg_reach.specs.Wide.{IsWide}
+use Rattle.cpg_reach.specs.Wide.{IsNarrow, IsWide}
 use Rattle.cpg_core.specs.Compiled.{IsTimely, IsLate}
 use Rattle.cpg_core.proofs.CompiledLaws.{not_timely_and_late}
 use Rattle.cpg_app.specs.declared.halt.Refusal.{Refusal}

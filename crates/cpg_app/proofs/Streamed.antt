@@ -7,7 +7,7 @@ use Rattle.cpg_io.specs.Causes.{Rose}
 use Rattle.cpg_words.specs.Parts.{Text}
 use Rattle.cpg_words.specs.Forms.{command_of}
 use Rattle.cpg_words.specs.declared.command.Command.{Command}
-use Rattle.cpg_words.specs.declared.command.Command.TheVariants.{Show, Compile, Check, Play, Node, Live}
+use Rattle.cpg_words.specs.declared.command.Command.TheVariants.{Show, Compile, Check, Play, Node, Trial, Live, Tune, Audit}
 use Rattle.cpg_rules.specs.Admission.{Admission}
 use Rattle.cpg_table.specs.Head.{Head}
 use Rattle.cpg_table.specs.Lawful.{Tables}
@@ -95,7 +95,8 @@ module _ (r : Ran) (ends : EndsInStream r) where
 
   not_judged : (a : Admission) (graph pack : Text) → AsksToJudge r a.graph graph pack → ⊥
   not_judged a graph pack (inl check) = other_words (Some (Check graph pack)) refl check
-  not_judged a graph pack (inr play) = other_words (Some (Play graph pack play.0 play.1)) refl play.2
+  not_judged a graph pack (inr (inl play)) = other_words (Some (Play graph pack play.0 play.1)) refl play.2
+  not_judged a graph pack (inr (inr audit)) = other_words (Some (Audit graph pack audit.0)) refl audit.1
 
   abbrev head : Head
   head = f.tables.head
@@ -174,12 +175,14 @@ module _ (r : Ran) (ends : EndsInStream r) where
     silent = silent;
     wide = λ a x asks wide. absurd (not_shown asks.graph asks.words);
     made = λ a asks listable in_time. absurd (not_shown asks.graph asks.words);
-    late = λ a asks listable late. absurd (not_shown asks.graph asks.words);
+    late = λ a asks late. absurd (not_shown asks.graph asks.words);
     other = λ a t asks differs. absurd (not_judged a asks.graph asks.pack asks.words);
     safe = λ a t asks head valid. absurd (not_judged a asks.graph asks.pack asks.words);
     broken = λ a t asks head broken. absurd (not_judged a asks.graph asks.pack asks.words);
     named = λ t name node asks named. absurd (other_words (Some (Node asks.pack name)) refl asks.words);
     nameless = λ t name asks none. absurd (other_words (Some (Node asks.pack name)) refl asks.words);
+    tried = λ number asks. absurd (other_words (Some (Trial number)) refl asks);
+    tuned = λ a asks. absurd (other_words (Some (Tune asks.graph)) refl asks.words);
     followed = λ t name bytes node asks named. ended t name bytes asks node named ends.broken ends.breaks ends.said;
     unfollowed = λ t name bytes asks none. absurd (nameless t name bytes asks none);
   }
