@@ -1,6 +1,7 @@
 -- Draws one after another.
 use Rattle.std.proofs.Common.{ℕ, zero, suc, ◌+◌, ◌≡◌, refl, ap, ◌∙◌, arith}
-use Rattle.cpg_gen.specs.Draws.{next_number, number_after}
+use Rattle.cpg_base.specs.Draws.{next_number}
+use Rattle.cpg_gen.specs.Draws.{number_after}
 
 -- draws after draws
 pub number_after-add : (x m n : ℕ) → number_after (number_after x m) n ≡ number_after x (n + m)

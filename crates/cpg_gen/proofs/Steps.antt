@@ -5,7 +5,8 @@ use Rattle.std.proofs.lemmas.Grind.{flat_map-append}
 use Rattle.std.proofs.lemmas.List.Sums.{sum_by_push}
 use Rattle.cpg_base.specs.Numbers.{numbers_below}
 use Rattle.cpg_base.proofs.Lists.{below_push}
-use Rattle.cpg_gen.specs.Draws.{next_number, number_after}
+use Rattle.cpg_base.specs.Draws.{next_number}
+use Rattle.cpg_gen.specs.Draws.{number_after}
 use Rattle.cpg_gen.specs.Generated.{has_predecessor, draws_of, draws_before, number_before}
 use Rattle.cpg_gen.proofs.Advancing.{number_after-add, number_after-suc}
 

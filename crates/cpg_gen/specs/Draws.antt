@@ -1,9 +1,6 @@
--- Pseudo-random draws: each number gives the next, and each next number one draw.
-use Rattle.std.specs.Prelude.{ℕ, zero, suc, ◌+◌, ◌*◌, ◌^◌, ◌/◌, ◌%◌}
-
--- the number that follows one
-abbrev pub next_number : ℕ → ℕ
-next_number x = (x * 6364136223846793005 + 1442695040888963407) % 2 ^ 64
+-- Pseudo-random draws: each next number gives one.
+use Rattle.std.specs.Prelude.{ℕ, zero, suc, ◌^◌, ◌/◌, ◌%◌}
+use Rattle.cpg_base.specs.Draws.{next_number}
 
 -- the number after so many draws
 unfoldable pub number_after : ℕ → ℕ → ℕ

@@ -1,20 +1,14 @@
 //! Pseudo-random draws.
 ghost use Rattle.std.specs.Prelude.{◌≡◌, ◌<◌};
-ghost use Rattle.cpg_gen.specs.Draws.{next_number, draw_of};
+ghost use Rattle.cpg_base.specs.Draws.{next_number};
+ghost use Rattle.cpg_gen.specs.Draws.{draw_of};
+
+use cpg_base::next_number;
 
 /// The draws from a number on.
 #[derive(Drop)]
 pub(crate) struct Draws {
     pub(crate) number: u64,
-}
-
-/// The number that follows one.
-fn next_number(number: u64) -> u64
-    ensures { result ≡ next_number number }
-{
-    number
-        .wrapping_mul(6_364_136_223_846_793_005)
-        .wrapping_add(1_442_695_040_888_963_407)
 }
 
 impl Draws {

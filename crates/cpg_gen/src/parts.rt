@@ -1,7 +1,8 @@
 //! The parts of a generated graph.
 ghost use Rattle.std.specs.Prelude.{◌≡◌, ◌<◌, ◌+◌, ◌++◌, if◌then◌else◌, IfOk, OnOk};
 ghost use Rattle.cpg_base.specs.Name.{IsName};
-ghost use Rattle.cpg_gen.specs.Draws.{next_number, number_after, nth_draw};
+ghost use Rattle.cpg_base.specs.Draws.{next_number};
+ghost use Rattle.cpg_gen.specs.Draws.{number_after, nth_draw};
 ghost use Rattle.cpg_gen.specs.Generated.{numbered, process_from, predecessor_by, has_predecessor, when_of, edge_of, edges_by, slot_of};
 
 use crate::draws::Draws;

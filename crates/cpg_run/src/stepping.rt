@@ -1,7 +1,7 @@
 //! One process after another.
 ghost use Rattle.std.specs.List.{flat_map};
 ghost use Rattle.std.specs.Option.{option_to_list};
-ghost use Rattle.std.specs.Prelude.{◌≡◌, ◌+◌, ◌<◌, ℕ, List, Option, None, IfOk, OnOk, get_or, length};
+ghost use Rattle.std.specs.Prelude.{◌≡◌, ◌+◌, ◌<◌, ℕ, List, Option, None, IfOk, OnErr, OnOk, get_or, length};
 ghost use Rattle.cpg_base.specs.Graph.{process_count, item_count};
 ghost use Rattle.cpg_base.specs.Numbers.{greatest};
 ghost use Rattle.cpg_base.specs.Scenario.{Scenario, IsScenario};
@@ -51,6 +51,7 @@ fn step(
     requires at { (t : Times) → IsRun problem.now order.now frozen.now scenario.now t → IsAt problem.now order.now scenario.now t place known.old readies.old.items frees.old.items }
     ensures places { OnOk result (HasPlaces problem.now known.new readies.new.items frees.new.items) }
     ensures at { OnOk result ((t : Times) → IsRun problem.now order.now frozen.now scenario.now t → IsAt problem.now order.now scenario.now t (place + 1) known.new readies.new.items frees.new.items) }
+    ensures stays { OnErr result ((known.new ≡ known.old) × (readies.new ≡ readies.old) × (frees.new ≡ frees.old)) }
 {
     let process = order.at(place);
     let node = problem.node_of(process) as usize;
@@ -146,7 +147,8 @@ impl Progress {
         requires scenario { IsScenario admitted.now.graph scenario.now }
         requires place { place < process_count admitted.now.graph }
         requires along { IsAlong admitted.now.graph order.now frozen.now scenario.now place self.old }
-        ensures { OnOk result (IsAlong admitted.now.graph order.now frozen.now scenario.now (place + 1) self.new) }
+        ensures along { OnOk result (IsAlong admitted.now.graph order.now frozen.now scenario.now (place + 1) self.new) }
+        ensures stays { OnErr result (self.new ≡ self.old) }
     {
         step(
             alloc,

@@ -2,7 +2,8 @@ use Rattle.std.proofs.Common.{rules, ℕ, ◌≡◌, ◌++◌, ◌∙◌, sym, a
 use Rattle.std.specs.List.{flat_map}
 use Rattle.cpg_base.specs.Numbers.{numbers_below}
 use Rattle.cpg_base.proofs.Lists.{map_below_push}
-use Rattle.cpg_gen.specs.Draws.{next_number, number_after}
+use Rattle.cpg_base.specs.Draws.{next_number}
+use Rattle.cpg_gen.specs.Draws.{number_after}
 use Rattle.cpg_gen.specs.Generated.{generated_process, generated_edges, has_predecessor, number_before, process_from, edges_by}
 use Rattle.cpg_gen.proofs.Advancing.{number_after-zero, number_after-suc}
 use Rattle.cpg_gen.proofs.Steps.{number_before_after, flat_map_below_push}

@@ -21,7 +21,7 @@ loop-at-preserved c =
     let list = c.args.scenarios.now in
     stepped_more g c.args.order.now c.args.frozen.now c.args.place list c.loop-at.at c.loop-at.found.items _ c.step.new.self c.loop-at.invariant c.loop-at-test.true
     (λ d. subst (λ s. IsAlong g c.args.order.now c.args.frozen.now s (c.args.place + 1) c.step.new.self)
-    (c.index-scenarios-at.is ∙ get_or_default list c.loop-at.at c.index-scenarios-at.result d c.loop-at-test.true) c.in_ok-step.ensures) refl
+    (c.index-scenarios-at.is ∙ get_or_default list c.loop-at.at c.index-scenarios-at.result d c.loop-at-test.true) c.in_ok-step.ensures.along) refl
 
 pub returns : goal.returns
 returns c = stepped_all c.args.admitted.now.graph c.args.order.now c.args.frozen.now c.args.place c.args.scenarios.now c.loop-at.at c.loop-at.found.items c.loop-at.invariant (omega (arith, c.loop-at-test.false, c.loop-at.auto.at-end))
