@@ -10,14 +10,19 @@ use Rattle.cpg_base.specs.Graph.{Graph, node_of, process_count}
 use Rattle.cpg_base.specs.Duration.{duration}
 use Rattle.cpg_base.specs.Limits.{IsWithinLimits}
 use Rattle.cpg_base.specs.Numbers.{numbers_below}
+use Rattle.cpg_base.proofs.Lists.{Contains-map_parts}
+use Rattle.cpg_base.proofs.Ordered.{Rises, Rises-filter, numbers_go_up}
 use Rattle.cpg_table.specs.Lawful.{column_count, rows_of}
 use Rattle.cpg_table.specs.Shape.{processes_on}
 use Rattle.cpg_table.specs.Table.{NodeTable}
 use Rattle.cpg_node.specs.Dispatcher.{Dispatcher, Ended, Frame, Own, next, opening, turn}
 use Rattle.cpg_cluster.specs.Cluster.{World, Cluster, Answer, Took, Waits, Done, answer, dispatcher_at, own_process, reported, reports_now}
-use Rattle.cpg_cluster.specs.Driving.{choose, chosen, circle, instants_left, remaining}
+use Rattle.cpg_cluster.specs.Driving.{choose, chosen, circle, remaining}
+use Rattle.cpg_node.specs.Instants.{instants_left}
 use Rattle.cpg_cluster.proofs.Finishing.{next_finished, table_finished}
-use Rattle.cpg_cluster.proofs.Instants.{HaveFewEnds, all_left, most_instants, reported_left, turn_less}
+use Rattle.cpg_node.proofs.TableBounds.{DoRise, HaveFewEnds}
+use Rattle.cpg_node.proofs.Rooms.{all_left}
+use Rattle.cpg_node.proofs.Instants.{most_instants, reported_left, turn_less}
 use Rattle.cpg_cluster.proofs.Nodes.{own_of_node}
 
 -- a node has at most 128 processes, each of which may end at 9 times
@@ -38,20 +43,27 @@ own_few_ends g node within = All-map (λ (o : Own). length o.times ≤ 9) (own_p
   within.faults,
 ))
 
+own_rise : (g : Graph) (node : ℕ) → DoRise (own_of_node g node)
+own_rise g node = mapped (processes_on g node) (Rises-filter (λ x y. x < y) (λ p. node_of g p == node) (numbers_below (process_count g)) (numbers_go_up (process_count g)))
+  where
+    mapped : (ps : List ℕ) → Rises (λ x y. x < y) ps → DoRise (map (own_process g) ps)
+    mapped [] h = tt
+    mapped (p ∷ ps) h = (λ o m. let q = Contains-map_parts (own_process g) ps o m in subst (λ (o : Own). p < o.process) q.2 (h.0 q.0 q.1), mapped ps h.1)
+
 -- a turn leaves a node fewer instants
 pub less_turn : (g : Graph) (w : World) (node : ℕ) (d : Dispatcher) (time : ℕ) (frames : List Frame) → IsWithinLimits g → d.table.own ≡ own_of_node g node → next d ≡ Some time →
     instants_left (turn (reported g w d time) time [] frames) < instants_left d
 less_turn g w node d time frames within own comes =
     let es : List Ended = map (λ (r : ℕ × Ended). r.1) (reports_now g w d time) in
     let same : (reported g w d time).table.own ≡ own_of_node g node = ap (λ t. t.own) (table_finished d es) ∙ own in
-    let less = turn_less (reported g w d time) time frames (next_finished d es ∙ comes) (subst (λ (os : List Own). length os ≤ 128) (sym same) (few_own g node within)) (subst HaveFewEnds (sym same) (own_few_ends g node within)) in
+    let less = turn_less (reported g w d time) time frames (next_finished d es ∙ comes) (subst DoRise (sym same) (own_rise g node)) (subst HaveFewEnds (sym same) (own_few_ends g node within)) in
     omega (arith, less, reported_left d es)
 
 -- what a table says of a node's processes
 abbrev HasFew : Dispatcher → Type 0
 HasFew d = (length d.table.own ≤ 128) × HaveFewEnds d.table.own
 
-most_of : (ds : List Dispatcher) → All HasFew ds → sum_by instants_left ds ≤ sum_by (λ (t : NodeTable). column_count (rows_of t)) (map (λ (d : Dispatcher). d.table) ds) * 1153 + length ds * 2305
+most_of : (ds : List Dispatcher) → All HasFew ds → sum_by instants_left ds ≤ sum_by (λ (t : NodeTable). column_count (rows_of t)) (map (λ (d : Dispatcher). d.table) ds) * 10 + length ds * 1153
 most_of [] h = omega arith
 most_of (d ∷ ds) h =
     let here = All-head HasFew d ds h in
@@ -65,7 +77,7 @@ most_of (d ∷ ds) h =
 
 -- all nodes together have at most so many
 pub most_remaining : (g : Graph) (c : Cluster) → IsWithinLimits g → length c.nodes ≤ 16 → ((i : ℕ) → i < length c.nodes → (dispatcher_at c i).table.own ≡ own_of_node g i) →
-    sum_by (λ (t : NodeTable). column_count (rows_of t)) (map (λ (d : Dispatcher). d.table) c.nodes) ≤ MOST_LOAD → remaining c ≤ 604540944
+    sum_by (λ (t : NodeTable). column_count (rows_of t)) (map (λ (d : Dispatcher). d.table) c.nodes) ≤ MOST_LOAD → remaining c ≤ 5261328
 most_remaining g c within few own columns = omega (
   arith,
   few,

@@ -1,5 +1,5 @@
 -- Choices: a node is asked after another until one takes its turn, and choices follow each other until all nodes are done.
-use Rattle.std.proofs.Common.{◌≡◌, ℕ, zero, suc, ◌+◌, ◌<◌, ◌≤◌, ◌%◌, true, false, List, [], ◌∷◌, length, drop, get_or, set, Some, None, refl, sym, ap, ap₂, ◌∙◌, arith, true≢false, drop-cons, add-one}
+use Rattle.std.proofs.Common.{◌≡◌, ℕ, zero, suc, ◌+◌, ◌<◌, ◌≤◌, ◌%◌, true, false, List, [], ◌∷◌, length, drop, get_or, set, refl, sym, ap, ap₂, ◌∙◌, arith, true≢false, drop-cons, add-one}
 use Rattle.std.specs.Prelude.{sum_by}
 use Rattle.std.proofs.lemmas.List.{length-map}
 use Rattle.std.proofs.lemmas.List.Sums.{sum_by-set}
@@ -10,7 +10,8 @@ use Rattle.cpg_base.proofs.Lists.{get_or-map-below}
 use Rattle.cpg_node.specs.Dispatcher.{Dispatcher, next}
 use Rattle.cpg_cluster.specs.Cluster.{World, Cluster, Answer, Took, Waits, Done, step_by, step, answer, dispatcher_at}
 use Rattle.cpg_cluster.specs.Playing.{Playing, stepped}
-use Rattle.cpg_cluster.specs.Driving.{circle, Choice, chosen, choose, instants_left}
+use Rattle.cpg_cluster.specs.Driving.{circle, Choice, chosen, choose}
+use Rattle.cpg_node.specs.Instants.{instants_left}
 
 -- where a turn leaves a node fewer instants, it leaves fewer to all together
 pub nearer_set : (nodes : List Dispatcher) (a : ℕ) (d e : Dispatcher) → a < length nodes → instants_left d < instants_left (get_or nodes a e) → sum_by instants_left (set nodes a d) < sum_by instants_left nodes

@@ -15,7 +15,8 @@ use Rattle.cpg_table.specs.Table.{NodeTable}
 use Rattle.cpg_node.specs.Dispatcher.{Dispatcher, next}
 use Rattle.cpg_cluster.specs.Cluster.{World, Cluster, Answer, Took, Waits, Done, answer, answer_at, dispatcher_at}
 use Rattle.cpg_cluster.specs.Playing.{Playing, IsPlaying}
-use Rattle.cpg_cluster.specs.Driving.{next_number, circle, Choice, chosen, choose, choice, driven, AllDone, IsDriven, first_asked, remaining}
+use Rattle.cpg_base.specs.Draws.{next_number}
+use Rattle.cpg_cluster.specs.Driving.{circle, Choice, chosen, choose, choice, driven, AllDone, IsDriven, first_asked, remaining}
 use Rattle.cpg_cluster.specs.Kept.{cluster_of}
 use Rattle.cpg_cluster.specs.declared.member.Member.{Member}
 use Rattle.cpg_cluster.proofs.Between.{dispatcher_is}
@@ -182,12 +183,12 @@ tables_twice : (ms : List Member) → map (λ (d : Dispatcher). d.table) (map (�
 tables_twice [] = refl
 tables_twice (m ∷ ms) = ap (λ (ts : List NodeTable). m.node.dispatcher.table ∷ ts) (tables_twice ms)
 
-pub most_at : (g : Graph) (w : World) (ms : List Member) (now : Playing) → play_of g w ms ≡ now → IsPlaying (play_of g w ms) → length ms ≤ 16 → remaining now.cluster ≤ 604540944
+pub most_at : (g : Graph) (w : World) (ms : List Member) (now : Playing) → play_of g w ms ≡ now → IsPlaying (play_of g w ms) → length ms ≤ 16 → remaining now.cluster ≤ 5261328
 most_at g w ms now view p few =
     let k = played_of g (tables_of ms) p.formed p.shape p.valid w p.world in
     let r = played_reached k (cluster_of ms) p.played in
     let nodes = length-map ms (λ (m : Member). m.node.dispatcher) in
-    subst (λ (now : Playing). remaining now.cluster ≤ 604540944) view
+    subst (λ (now : Playing). remaining now.cluster ≤ 5261328) view
     (most_remaining g (cluster_of ms) p.limits (omega (arith, few, nodes)) (λ i l. ap (λ (d : Dispatcher). d.table.own) (r.holds i (omega (arith, l, r.nodes))).is)
     (omega (arith, p.lawful.few, ap (λ (ts : List NodeTable). sum_by (λ (t : NodeTable). column_count (rows_of t)) ts) (tables_twice ms))))
 

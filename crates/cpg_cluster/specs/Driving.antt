@@ -1,15 +1,10 @@
 -- A play that is driven to its end: which node is asked first comes from a number, and then the others are asked round the circle until one takes its turn.
-use Rattle.std.specs.Prelude.{ℕ, zero, suc, ◌≡◌, ◌<◌, ◌+◌, ◌*◌, ◌^◌, ◌%◌, ◌/◌, Bool, true, false, if◌then◌else◌, List, [], ◌∷◌, Option, is_some, map, filter, length, sum_by}
-use Rattle.std.specs.List.{flat_map}
+use Rattle.std.specs.Prelude.{ℕ, zero, suc, ◌≡◌, ◌<◌, ◌+◌, ◌^◌, ◌%◌, ◌/◌, Bool, true, false, List, [], ◌∷◌, map, length, sum_by}
 use Rattle.cpg_base.specs.Graph.{Graph}
+use Rattle.cpg_base.specs.Draws.{next_number}
 use Rattle.cpg_base.specs.Numbers.{numbers_below}
-use Rattle.cpg_node.specs.Dispatcher.{Dispatcher, is_after, possible_ends, zip_with}
-use Rattle.cpg_node.specs.Plan.{fixed_times}
+use Rattle.cpg_node.specs.Instants.{instants_left}
 use Rattle.cpg_cluster.specs.Cluster.{World, Cluster, Answer, Took, Waits, Done, step, answer}
-
--- the number of the next choice
-abbrev pub next_number : ℕ → ℕ
-next_number x = (x * 6364136223846793005 + 1442695040888963407) % 2 ^ 64
 
 -- the node that is asked first in a choice
 abbrev pub first_asked : ℕ → ℕ → ℕ
@@ -59,23 +54,6 @@ pub record IsDriven (g : Graph) (w : World) (x : ℕ) (before after : Cluster) (
   pub done : AllDone g after
   pub needed : (fewer : ℕ) → fewer < turns → AllDone g (driven g w fewer x before).0 → ⊥
 
--- how many of these times are after the last turn
-abbrev pub left_of : Option ℕ → List ℕ → ℕ
-left_of last times = length (filter (is_after last) times)
-
--- the instants that a table plans; before the first turn, instant 0 is one more
-abbrev pub planned_times : Dispatcher → List ℕ
-planned_times d = if is_some d.last then fixed_times d.table else 0 ∷ fixed_times d.table
-
--- when what runs may end
-abbrev pub end_times : Dispatcher → List ℕ
-end_times d = flat_map (λ ends. ends) (zip_with possible_ends d.table.own d.running)
-
--- How many instants a node may still come to. At each one that its table plans it may start at most 128 processes, each of
--- which may end at 9 times.
-abbrev pub instants_left : Dispatcher → ℕ
-instants_left d = left_of d.last (planned_times d) * 1153 + left_of d.last (end_times d)
-
--- and all nodes together
+-- how many instants all nodes together may still come to
 abbrev pub remaining : Cluster → ℕ
 remaining c = sum_by instants_left c.nodes

@@ -4,13 +4,14 @@ ghost use Rattle.std.specs.List.{flat_map, list_any};
 ghost use Rattle.std.specs.Bool.{OnTrue};
 ghost use Rattle.std.specs.Vec.{vec_capacity};
 ghost use Rattle.cpg_base.specs.Graph.{item_count};
+ghost use Rattle.cpg_base.specs.Draws.{next_number};
 ghost use Rattle.cpg_base.specs.Scenario.{IsScenario, full_lengths};
 ghost use Rattle.cpg_table.specs.GraphHead.{head_of};
 ghost use Rattle.cpg_table.specs.Lawful.{AreTablesOf};
 ghost use Rattle.cpg_table.specs.Valid.{IsValid};
 ghost use Rattle.cpg_node.specs.Dispatcher.{next, zip_with};
 ghost use Rattle.cpg_cluster.specs.Cluster.{Took, Done, answer, dispatcher_at};
-ghost use Rattle.cpg_cluster.specs.Driving.{IsDriven, choose, circle, next_number, remaining};
+ghost use Rattle.cpg_cluster.specs.Driving.{IsDriven, choose, circle, remaining};
 ghost use Rattle.cpg_cluster.specs.Correct.{IsWorld, IsCorrect};
 ghost use Rattle.cpg_cluster.specs.Keeping.{HasNoted, frames_of_member, frames_by};
 ghost use Rattle.cpg_cluster.specs.Whole.{IsWholePlay};
@@ -21,7 +22,7 @@ use crate::member::{Member, most_heard, open_members, take_turn};
 use crate::senders::value_of_item;
 use crate::told::add_noted_frame;
 use crate::waiting::waited_on;
-use cpg_base::{Lengths, OutOfMemory, Problem, Scenario};
+use cpg_base::{Lengths, OutOfMemory, Problem, Scenario, next_number};
 use cpg_node::{Act, Ended, Frame};
 use cpg_rules::Admitted;
 use cpg_table::{Row, Tables};
@@ -265,15 +266,6 @@ impl Cluster {
         }
         waits
     }
-}
-
-/// The number that follows one.
-fn next_number(number: u64) -> u64
-    ensures { result ≡ next_number number }
-{
-    number
-        .wrapping_mul(6_364_136_223_846_793_005)
-        .wrapping_add(1_442_695_040_888_963_407)
 }
 
 /// Whether some node isn't done.

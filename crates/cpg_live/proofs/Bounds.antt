@@ -1,19 +1,19 @@
 -- How many acts a node can do in all: each entry of its table is taken at most once.
-use Rattle.std.proofs.Common.{◌≡◌, ℕ, zero, suc, ◌+◌, ◌≤◌, Bool, true, false, cond, List, [], ◌∷◌, ◌==◌, length, fold, Option, Some, None, refl, sym, ap, ◌∙◌, arith, ◌&&◌}
+use Rattle.std.proofs.Common.{◌≡◌, ℕ, zero, suc, ◌+◌, ◌≤◌, Bool, true, false, cond, List, [], ◌∷◌, length, fold, Option, Some, None, refl, arith, ◌&&◌}
 use Rattle.std.specs.Prelude.{is_some, nat_lt}
 use Rattle.std.proofs.lemmas.List.{length-append}
 use Rattle.cpg_table.specs.Table.{NodeTable}
 use Rattle.cpg_table.specs.Lawful.{column_count}
-use Rattle.cpg_node.specs.Dispatcher.{Act, Ended, next, acts_of_turn, is_strange, hear, finished, opening}
+use Rattle.cpg_node.specs.Dispatcher.{Ended, next, acts_of_turn, is_strange, hear, finished, opening}
+use Rattle.cpg_node.specs.Instants.{entries_left}
+use Rattle.cpg_node.proofs.Rooms.{room_turn, room_open}
 use Rattle.cpg_live.specs.declared.bad.Why.{Why}
 use Rattle.cpg_live.specs.declared.bad.Why.TheVariants.{Length, Order, Frame as StrangeFrame, End as FalseEnd}
 use Rattle.cpg_live.specs.declared.event.Event.{Event}
 use Rattle.cpg_live.specs.declared.event.Event.TheVariants.{Frame as Arrival, End as Ending, Close}
-use Rattle.cpg_live.specs.Records.{Cut, cut, record_of, event_of}
+use Rattle.cpg_live.specs.Records.{cut, record_of, event_of}
 use Rattle.cpg_live.specs.Stream.{Progress, LiveState, start, faulty, lawful, instant_below, turn_if, turn_below, turns_below, turned, may_end, ended, step, refused, settled, stepped, judged, take_record, open_stream, with_rest, after}
-use Rattle.cpg_live.specs.Feeding.{entries_left}
 use Rattle.cpg_live.proofs.Turns.{found_is}
-use Rattle.cpg_live.proofs.Rooms.{room_turn, room_open}
 
 module _ (table : NodeTable) (most : ℕ) where
   -- the acts so far, and the entries of the table that are left, are at most so many
@@ -28,7 +28,7 @@ module _ (table : NodeTable) (most : ℕ) where
       go None e = h
       go (Some time) e = record {
         same = h.same;
-        few = omega (arith, h.few, room_turn p.dispatcher time (found_is limit (next p.dispatcher) time e).0, length-append p.acts (acts_of_turn p.dispatcher time [] []));
+        few = omega (arith, h.few, room_turn p.dispatcher time [] (found_is limit (next p.dispatcher) time e).0, length-append p.acts (acts_of_turn p.dispatcher time [] []));
       }
 
   turns_few : (n limit : ℕ) (p : Progress) → HasFew p → HasFew (turns_below n limit p)

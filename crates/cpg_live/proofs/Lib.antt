@@ -1,5 +1,4 @@
 pub mod Turns
-pub mod Rooms
 pub mod Cutting
 pub mod Steps
 pub mod Growing

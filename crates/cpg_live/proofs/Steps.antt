@@ -5,13 +5,14 @@ use Rattle.std.proofs.lemmas.Bool.{and_parts}
 use Rattle.std.proofs.lemmas.Option.{none-some}
 use Rattle.cpg_node.specs.Dispatcher.{Dispatcher, Act, Ended, Frame, Running, next, turn, acts_of_turn, is_after, is_strange, hear, finished, own_of}
 use Rattle.cpg_node.specs.State.{NodeState, MayFinish, running_of, time_of}
+use Rattle.cpg_node.specs.Instants.{entries_left}
+use Rattle.cpg_node.proofs.Rooms.{room_turn}
 use Rattle.cpg_live.specs.declared.event.Event.{Event}
 use Rattle.cpg_live.specs.declared.event.Event.TheVariants.{Frame as Arrival, End as Ending, Close}
 use Rattle.cpg_live.specs.declared.bad.Why.TheVariants.{Frame as StrangeFrame, End as FalseEnd}
 use Rattle.cpg_live.specs.Stream.{Progress, faulty, lawful, take_turn, turned, may_end, may_end_now, may_tell, arrived, ended, step, is_close}
-use Rattle.cpg_live.specs.Feeding.{entries_left, IsTurned}
+use Rattle.cpg_live.specs.Feeding.{IsTurned}
 use Rattle.cpg_live.proofs.Turns.{turned_after}
-use Rattle.cpg_live.proofs.Rooms.{room_turn}
 
 -- A turn.
 
@@ -37,7 +38,7 @@ pub room_taken : (before after : NodeState) (time n room : ℕ) (more : List Act
     more ≡ after.acts → n + length (entries_left before.dispatcher) ≤ room → n + length more + length (entries_left after.dispatcher) ≤ room
 room_taken before after time n room more here d a m l = omega (
   arith,
-  room_turn before.dispatcher time here,
+  room_turn before.dispatcher time [] here,
   ap (λ (l : List Act). length l) (m ∙ at_some (next before.dispatcher) time (λ t. after.acts ≡ acts_of_turn before.dispatcher t [] []) here a),
   ap (λ (d : Dispatcher). length (entries_left d)) (at_some (next before.dispatcher) time (λ t. after.dispatcher ≡ turn before.dispatcher t [] []) here d),
   l,

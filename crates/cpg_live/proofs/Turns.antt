@@ -1,12 +1,13 @@
 -- Turns below a limit: their instants rise, so that none is left after as many as the limit.
-use Rattle.std.proofs.Common.{◌≡◌, ℕ, zero, suc, ◌+◌, ◌-◌, ◌<◌, ◌≤◌, true, cond, Option, Some, None, refl, sym, ap, ◌∙◌, subst, arith, inl, inr, ◌⊎◌, lt-ltb, ltb-true, le-ltb}
+use Rattle.std.proofs.Common.{◌≡◌, ℕ, zero, suc, ◌+◌, ◌<◌, ◌≤◌, true, cond, Option, Some, None, refl, sym, ap, ◌∙◌, subst, arith, inl, inr, ◌⊎◌, lt-ltb, ltb-true, le-ltb}
 use Rattle.std.specs.Prelude.{IfSome}
 use Rattle.std.proofs.lemmas.Bool.{cases_lt}
 use Rattle.std.proofs.lemmas.Option.{none-some, same_Some}
 use Rattle.cpg_node.specs.Dispatcher.{Dispatcher, next, is_after}
+use Rattle.cpg_node.specs.Instants.{instants_left}
 use Rattle.cpg_node.proofs.Next.{next_is}
 use Rattle.cpg_live.specs.Stream.{Progress, take_turn, instant_below, turn_if, turn_below, turns_below, turned}
-use Rattle.cpg_live.specs.Feeding.{IsTurned}
+use Rattle.cpg_live.specs.Feeding.{IsTurned, AreFewTurns}
 
 -- the first time after the last turn
 abbrev pub floor : Option ℕ → ℕ
@@ -118,13 +119,27 @@ turns_table (suc n) limit p = turns_table n limit (turn_below limit p) ∙ kept 
 pub turned_table : (limit : ℕ) (p : Progress) → (turned limit p).dispatcher.table ≡ p.dispatcher.table
 turned_table limit p = turns_table limit limit p
 
+-- one turn after others is one more
+pub turns_more : (n limit : ℕ) (p : Progress) (t : ℕ) → instant_below limit (next (turns_below n limit p).dispatcher) ≡ Some t → take_turn t (turns_below n limit p) ≡ turns_below (suc n) limit p
+unfolding turns_below
+turns_more zero limit p t e = sym (ap (turn_if p) e)
+turns_more (suc n) limit p t e = turns_more n limit (turn_below limit p) t e
+
+-- no turn yet
+pub few_none : (limit : ℕ) (p : Progress) → AreFewTurns limit p p
+unfolding turns_below
+few_none limit p = record { turns = 0; few = omega arith; is = refl }
+
+-- turns that a loop has taken, and the next one, which leaves fewer
+pub few_next : (limit : ℕ) (before now after : Progress) (t : ℕ) → AreFewTurns limit before now → instant_below limit (next now.dispatcher) ≡ Some t → after ≡ take_turn t now → instants_left after.dispatcher < instants_left now.dispatcher →
+    AreFewTurns limit before after
+few_next limit before now after t h e is less = record {
+  turns = suc h.turns;
+  few = omega (arith, h.few, less);
+  is = is ∙ ap (take_turn t) h.is ∙ turns_more h.turns limit before t (ap (λ (p : Progress). instant_below limit (next p.dispatcher)) (sym h.is) ∙ e);
+}
+
 -- no turn is below 0
 pub turned_zero : (p : Progress) → turned 0 p ≡ p
 unfolding turns_below
 turned_zero p = refl
-
--- what a loop has left falls with each turn
-pub nearer : (limit : ℕ) (p q : Progress) (t : ℕ) → instant_below limit (next p.dispatcher) ≡ Some t → q ≡ take_turn t p → limit - floor q.dispatcher.last < limit - floor p.dispatcher.last
-nearer limit p q t e is =
-    let f = found_is limit (next p.dispatcher) t e in
-    omega (arith, f.1, next_floor p.dispatcher t f.0, ap (λ (q : Progress). floor q.dispatcher.last) is)

@@ -2,9 +2,9 @@
 use Rattle.std.specs.Prelude.{◌≤◌, ◌+◌, length}
 use Rattle.std.specs.Vec.{vec_capacity}
 use Rattle.cpg_table.specs.Lawful.{IsTable}
+use Rattle.cpg_node.specs.Instants.{entries_left}
 use Rattle.cpg_live.specs.declared.progress.Progress.TheInside.{Inside}
 use Rattle.cpg_live.specs.Stream.{Progress}
-use Rattle.cpg_live.specs.Feeding.{entries_left}
 
 -- the fields as they are seen
 abbrev pub progress_of : Inside → Progress

@@ -1,9 +1,10 @@
 //! A node, and the acts of all its turns.
-ghost use Rattle.std.specs.Prelude.{◌≡◌, ◌≤◌, ◌+◌, ◌++◌, Some, true, IfOk, length};
+ghost use Rattle.std.specs.Prelude.{◌≡◌, ◌≤◌, ◌<◌, ◌+◌, ◌++◌, Some, true, IfOk, length};
 ghost use Rattle.std.specs.Vec.{vec_capacity};
 ghost use Rattle.cpg_table.specs.Lawful.{column_count};
 ghost use Rattle.cpg_node.specs.Dispatcher.{next, is_after};
-ghost use Rattle.cpg_live.specs.Feeding.{IsTurned};
+ghost use Rattle.cpg_node.specs.Instants.{instants_left};
+ghost use Rattle.cpg_live.specs.Feeding.{IsTurned, AreFewTurns};
 ghost use Rattle.cpg_live.specs.Stream.{start, take_turn, instant_below, turned, step, arrived, ended};
 
 use crate::Why;
@@ -96,15 +97,18 @@ impl Progress {
     /// Takes the turn of the next instant.
     fn take_turn(&mut self, time: u64)
         requires { next self.old.dispatcher ≡ Some time }
-        ensures { self.new ≡ take_turn time self.old }
+        ensures turn { self.new ≡ take_turn time self.old }
+        ensures fewer { instants_left self.new.dispatcher < instants_left self.old.dispatcher }
     {
         self.node.turn(&[], &[]);
         append_acts(&mut self.acts, self.node.acts());
     }
 
-    /// Takes all turns at instants that aren't later than this.
+    /// Takes all turns at instants that aren't later than this. They are bounded by the entries of the node's table, however
+    /// late that is.
     fn turn_to(&mut self, last: u64)
-        ensures { self.new ≡ turned (last + 1) self.old }
+        ensures turns { self.new ≡ turned (last + 1) self.old }
+        ensures few { AreFewTurns (last + 1) self.old self.new }
     {
         while let Some(time) = self.instant_to(last) {
             self.take_turn(time);

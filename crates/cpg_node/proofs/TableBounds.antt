@@ -1,9 +1,10 @@
 -- What a lawful table says of its times.
-use Rattle.std.proofs.Common.{ℕ, ◌<◌, ◌≤◌, ◌+◌, ◌^◌, Bool, true, false, cond, ◌==◌, List, [], ◌∷◌, ◌++◌, length, map, Contains, Some, None, sym, subst, inl, inr}
+use Rattle.std.proofs.Common.{◌≡◌, ℕ, ◌<◌, ◌≤◌, ◌+◌, ◌^◌, Bool, true, false, cond, ◌==◌, List, [], ◌∷◌, ◌++◌, length, map, Contains, Some, None, refl, sym, ap, ◌∙◌, subst, arith, inl, inr}
 use Rattle.std.specs.Prelude.{All}
 use Rattle.std.proofs.lemmas.List.Elements.{All-cons, All-append, All-head, All-tail, All-nil, All-contains, All-contains_itself, All-weaker, Contains-append_left, Contains-append_right, Contains-append_cases}
 use Rattle.cpg_base.specs.declared.limits.TheConstants.{MOST_COLUMNS}
-use Rattle.cpg_base.proofs.Lists.{Contains-flat_map_parts, Contains-map_parts}
+use Rattle.cpg_base.proofs.Lists.{Contains-cases, Contains-nil, Contains-flat_map_parts, Contains-map_parts}
+use Rattle.cpg_base.proofs.Ordered.{Rises, Rises-append}
 use Rattle.cpg_table.specs.Table.{Column, Row, NodeTable}
 use Rattle.cpg_table.specs.declared.head_parts.HeadProcess.{HeadProcess}
 use Rattle.cpg_table.specs.Head.{IsHeadProcess}
@@ -29,6 +30,51 @@ own_short k n node p c (q ∷ qs) h = All-append AreShort (own_front node p c q)
 -- an execution takes less than 2 to the 60
 pub times_short : (t : NodeTable) → IsTable t → All AreShort t.own
 times_short t h = subst (All AreShort) (sym h.of.own) (own_short h.head.faults (length h.head.nodes) h.node 0 0 h.head.processes h.lawful.processes)
+
+-- a node's processes, by number
+abbrev pub DoRise : List Own → Type 0
+DoRise os = Rises (λ (a b : Own). a.process < b.process) os
+
+own_number : (p : ℕ) (x o : Own) (b : Bool) → x.process ≡ p → Contains (cond b (x ∷ []) []) o → o.process ≡ p
+own_number p x o true is m = elim (Contains-cases x [] o m) [ inl e ↦ ap (λ (o : Own). o.process) (sym e) ∙ is | inr n ↦ absurd (Contains-nil o n) ]
+own_number p x o false is m = absurd (Contains-nil o m)
+
+own_above : (node p c : ℕ) (qs : List HeadProcess) (o : Own) → Contains (own_from node p c qs) o → p ≤ o.process
+own_above node p c [] o m = absurd (Contains-nil o m)
+own_above node p c (q ∷ qs) o m = elim (Contains-append_cases (own_front node p c q) (own_from node (p + 1) (cond q.condition (c + 1) c) qs) o m) [
+  | inl n ↦ omega (arith, own_number p (record { process = p; condition = cond q.condition (Some c) None; times = q.times }) o (q.node == node) refl n)
+  | inr n ↦ omega (arith, own_above node (p + 1) (cond q.condition (c + 1) c) qs o n)
+]
+
+own_rises : (node p c : ℕ) (qs : List HeadProcess) → DoRise (own_from node p c qs)
+own_rises node p c [] = tt
+own_rises node p c (q ∷ qs) = Rises-append (λ (a b : Own). a.process < b.process) (own_front node p c q) (own_from node (p + 1) (cond q.condition (c + 1) c) qs)
+    (front (q.node == node)) (own_rises node (p + 1) (cond q.condition (c + 1) c) qs)
+    (λ a b m n. omega (arith, own_number p (record { process = p; condition = cond q.condition (Some c) None; times = q.times }) a (q.node == node) refl m, own_above node (p + 1) (cond q.condition (c + 1) c) qs b n))
+  where
+    front : (b : Bool) → DoRise (cond b (record { process = p; condition = cond q.condition (Some c) None; times = q.times } ∷ []) [])
+    front true = (λ o m. absurd (Contains-nil o m), tt)
+    front false = tt
+
+pub own_rise : (t : NodeTable) → IsTable t → DoRise t.own
+own_rise t h = subst DoRise (sym h.of.own) (own_rises h.node 0 0 h.head.processes)
+
+-- an execution may end at no more than 9 times
+abbrev pub HaveFewEnds : List Own → Type 0
+HaveFewEnds os = All (λ (o : Own). length o.times ≤ 9) os
+
+own_ends : (k n node p c : ℕ) (qs : List HeadProcess) → k ≤ 8 → All (IsHeadProcess k n) qs → HaveFewEnds (own_from node p c qs)
+own_ends k n node p c [] few h = All-nil (λ (o : Own). length o.times ≤ 9)
+own_ends k n node p c (q ∷ qs) few h = All-append (λ (o : Own). length o.times ≤ 9) (own_front node p c q) (own_from node (p + 1) (cond q.condition (c + 1) c) qs)
+    (front (q.node == node)) (own_ends k n node (p + 1) (cond q.condition (c + 1) c) qs few (All-tail (IsHeadProcess k n) q qs h))
+  where
+    front : (b : Bool) → HaveFewEnds (cond b (record { process = p; condition = cond q.condition (Some c) None; times = q.times } ∷ []) [])
+    front true = All-cons (λ (o : Own). length o.times ≤ 9) (record { process = p; condition = cond q.condition (Some c) None; times = q.times }) []
+        (omega (arith, few, (All-head (IsHeadProcess k n) q qs h).count)) (All-nil (λ (o : Own). length o.times ≤ 9))
+    front false = All-nil (λ (o : Own). length o.times ≤ 9)
+
+pub own_few_ends : (t : NodeTable) → IsTable t → HaveFewEnds t.own
+own_few_ends t h = subst HaveFewEnds (sym h.of.own) (own_ends h.head.faults (length h.head.nodes) h.node 0 0 h.head.processes h.lawful.faults h.lawful.processes)
 
 -- rows that are among those of a table have few columns
 rows_few : (t : NodeTable) → IsTable t → (rows : List Row) → ((row : Row) → Contains rows row → Contains (rows_of t) row) → All (λ (row : Row). length row.columns ≤ MOST_COLUMNS) rows

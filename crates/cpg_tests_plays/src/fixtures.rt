@@ -295,7 +295,7 @@ fn first_rows(alloc: Global) -> Result<Vec<Row>, Fail> {
 }
 
 /// The rows of the second node.
-fn second_rows(alloc: Global) -> Result<Vec<Row>, Fail> {
+pub fn second_rows(alloc: Global) -> Result<Vec<Row>, Fail> {
     let mut rows = Vec::new(alloc);
     add_rows(alloc, &mut rows, &[(1, 70, Some(1))])?;
     rows.push(row(alloc, 3, FIRST_VALUE, &[(70, Some(0)), (85, Some(1))])?)?;

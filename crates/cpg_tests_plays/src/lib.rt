@@ -11,3 +11,5 @@ mod live_tests;
 mod node_tests;
 #[cfg(test)]
 mod show_tests;
+#[cfg(test)]
+mod stream_tests;

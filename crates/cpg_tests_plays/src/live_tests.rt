@@ -38,7 +38,7 @@ fn a_stream_in_one_piece(rt: HostRuntime) -> Result<(), Fail> {
 }
 
 /// Feeds bytes one by one, and answers the last answer.
-fn feed_each(live: &mut Live, bytes: &[u8]) -> Result<(), Bad> {
+pub fn feed_each(live: &mut Live, bytes: &[u8]) -> Result<(), Bad> {
     let mut answer = Ok(());
     for byte in bytes {
         answer = live.feed(&[*byte]);

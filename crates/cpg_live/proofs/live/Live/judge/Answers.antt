@@ -1,7 +1,7 @@
 use Rattle.std.proofs.Common.{◌≡◌, true, ap, ◌∙◌, subst, arith}
 use Rattle.cpg_node.specs.Dispatcher.{is_after}
+use Rattle.cpg_node.proofs.Rooms.{after_later}
 use Rattle.cpg_live.specs.Stream.{LiveState}
-use Rattle.cpg_live.proofs.Rooms.{after_later}
 use Rattle.cpg_live.proofs.live.Live.judge.Goals as goal
 
 pub take-requires : goal.take-requires

@@ -4,8 +4,8 @@ use Rattle.cpg_table.specs.Lawful.{IsTable, column_count}
 use Rattle.cpg_table.specs.Table.{Row}
 use Rattle.cpg_node.specs.Dispatcher.{opening}
 use Rattle.cpg_node.specs.State.{NodeState}
-use Rattle.cpg_live.specs.Feeding.{entries_left}
-use Rattle.cpg_live.proofs.Rooms.{room_open}
+use Rattle.cpg_node.specs.Instants.{entries_left}
+use Rattle.cpg_node.proofs.Rooms.{room_open}
 use Rattle.cpg_live.proofs.progress.Progress.new.Goals as goal
 
 pub invariant_of-result : goal.invariant_of-result

@@ -4,7 +4,9 @@ use Rattle.std.proofs.lemmas.List.{length-append}
 use Rattle.std.proofs.lemmas.List.Elements.{All-nil}
 use Rattle.cpg_table.specs.Lawful.{IsTable}
 use Rattle.cpg_node.specs.Dispatcher.{Dispatcher, next, turn}
+use Rattle.cpg_node.specs.Instants.{instants_left}
 use Rattle.cpg_node.specs.State.{EndsAt, ArrivesAt}
+use Rattle.cpg_node.proofs.Instants.{table_less}
 use Rattle.cpg_live.specs.Stream.{Progress}
 use Rattle.cpg_live.proofs.Steps.{at_some, turn_taken, room_taken}
 use Rattle.cpg_live.proofs.progress.Progress.take_turn.Goals as goal
@@ -39,5 +41,15 @@ invariant_of-self c =
       );
     }
 
-pub returns : goal.returns
-returns c = turn_taken c.args.self.now c.self.inside.node c.turn.new.self c.args.time c.self.inside.acts.items c.acts.result.now c.append_acts.new.acts.items c.self.view_is c.requires c.turn.ensures.turn c.turn.ensures.acts c.acts.ensures c.append_acts.ensures.acts
+pub returns-clause-turn : goal.returns-clause-turn
+returns-clause-turn c = turn_taken c.args.self.now c.self.inside.node c.turn.new.self c.args.time c.self.inside.acts.items c.acts.result.now c.append_acts.new.acts.items c.self.view_is c.requires c.turn.ensures.turn c.turn.ensures.acts c.acts.ensures c.append_acts.ensures.acts
+
+pub returns-clause-fewer : goal.returns-clause-fewer
+returns-clause-fewer c =
+    let here : next c.self.inside.node.dispatcher ≡ Some c.args.time = ap (λ (p : Progress). next p.dispatcher) c.self.view_is ∙ c.requires in
+    omega (
+      arith,
+      table_less c.self.inside.node.dispatcher c.args.time [] here c.self.invariant.made,
+      ap instants_left (at_some (next c.self.inside.node.dispatcher) c.args.time (λ t. c.turn.new.self.dispatcher ≡ turn c.self.inside.node.dispatcher t [] []) here c.turn.ensures.turn),
+      ap (λ (p : Progress). instants_left p.dispatcher) c.self.view_is,
+    )

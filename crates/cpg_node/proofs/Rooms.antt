@@ -6,9 +6,9 @@ use Rattle.std.proofs.lemmas.List.Elements.{filter-append}
 use Rattle.std.proofs.lemmas.List.Sums.{sum_by-append, sum_by-cons}
 use Rattle.cpg_table.specs.Lawful.{column_count}
 use Rattle.cpg_table.specs.Table.{Column, Row}
-use Rattle.cpg_node.specs.Dispatcher.{Dispatcher, Range, Act, is_after, next, has_heard, acts_of_columns, acts_of_turn, heard_after, turn, times_in}
+use Rattle.cpg_node.specs.Dispatcher.{Dispatcher, Range, Frame, Act, is_after, next, has_heard, acts_of_columns, acts_of_turn, heard_after, turn, times_in}
 use Rattle.cpg_node.proofs.Next.{next_is}
-use Rattle.cpg_live.specs.Feeding.{entries_left}
+use Rattle.cpg_node.specs.Instants.{entries_left}
 
 -- the times of a turn among times
 abbrev now : ℕ → List ℕ → List ℕ
@@ -66,32 +66,33 @@ left_then last time a (t ∷ ts) = go (t == time) (ltb time t) (is_after last t)
     go false false false apart x y h = h
 
 -- the acts of a turn and the entries that are left after it
-pub room_turn : (d : Dispatcher) (time : ℕ) → next d ≡ Some time → length (acts_of_turn d time [] []) + length (entries_left (turn d time [] [])) ≤ length (entries_left d)
-room_turn d time e = omega (
+pub room_turn : (d : Dispatcher) (time : ℕ) (frames : List Frame) → next d ≡ Some time → length (acts_of_turn d time [] frames) + length (entries_left (turn d time [] frames)) ≤ length (entries_left d)
+room_turn d time frames e = omega (
   arith,
-  rows_few (heard_after d time [] []) time (d.table.sends ++ d.table.starts),
+  rows_few (heard_after d time [] frames) time (d.table.sends ++ d.table.starts),
   left_then d.last time (next_is d time e).after (times_in (d.table.sends ++ d.table.starts)),
 )
 
--- At first there are no more than columns of what the node sends and starts.
+-- Among times no more are left than there are.
+pub all_left : (p : ℕ → Bool) (xs : List ℕ) → length (filter p xs) ≤ length xs
+all_left p [] = omega arith
+all_left p (x ∷ xs) = go (p x) (all_left p xs)
+  where
+    go : (b : Bool) → length (filter p xs) ≤ length xs → length (cond b (x ∷ filter p xs) (filter p xs)) ≤ length (x ∷ xs)
+    go true l = omega arith
+    go false l = omega arith
 
-times_count : (rows : List Row) → length (times_in rows) ≡ column_count rows
+pub times_count : (rows : List Row) → length (times_in rows) ≡ column_count rows
 times_count [] = refl
 times_count (row ∷ rows) = length-append (map (λ (c : Column). c.time) row.columns) (times_in rows)
     ∙ ap₂ (λ m n. m + n) (length-map row.columns (λ (c : Column). c.time)) (times_count rows) ∙ sym (sum_by-cons (λ (row : Row). length row.columns) row rows)
 
-fewer : (p : ℕ → Bool) (ts : List ℕ) → length (filter p ts) ≤ length ts
-fewer p [] = omega arith
-fewer p (t ∷ ts) = go (p t) (fewer p ts)
-  where
-    go : (b : Bool) → length (filter p ts) ≤ length ts → length (cond b (t ∷ filter p ts) (filter p ts)) ≤ length (t ∷ ts)
-    go true l = omega (arith, l)
-    go false l = omega (arith, l)
+-- At first there are no more than columns of what the node sends and starts.
 
 pub room_open : (d : Dispatcher) → length (entries_left d) ≤ column_count d.table.sends + column_count d.table.starts
 room_open d = omega (
   arith,
-  fewer (is_after d.last) (times_in (d.table.sends ++ d.table.starts)),
+  all_left (is_after d.last) (times_in (d.table.sends ++ d.table.starts)),
   times_count (d.table.sends ++ d.table.starts),
   sum_by-append (λ (row : Row). length row.columns) d.table.sends d.table.starts,
 )

@@ -1,0 +1,112 @@
+-- Each fact that a node is told is true of the scenario, and so is what they imply.
+use Rattle.std.proofs.Common.{◌≡◌, ℕ, ◌+◌, ◌-◌, ◌≤◌, Bool, true, false, cond, ◌==◌, List, [], map, filter, Contains, flat_map, refl, ap, arith, inl, inr, eqb-true, le-leb, leb, leb-true, lt-ltb, le-ltb, length, get_or}
+use Rattle.std.proofs.lemmas.Bool.{cases_lt, and_from, and_parts, cond-true, cond-false}
+use Rattle.std.proofs.lemmas.List.{get_or_past}
+use Rattle.std.proofs.lemmas.List.Sums.{get_or-le-sum_by}
+use Rattle.std.proofs.lemmas.List.Elements.{Contains-append_cases}
+use Rattle.cpg_base.specs.Numbers.{numbers_below}
+use Rattle.cpg_base.specs.Graph.{Graph, process_count, item_count, item_at, node_of, home, is_heard_by}
+use Rattle.cpg_base.specs.Duration.{duration}
+use Rattle.cpg_base.specs.Bus.{slot_length}
+use Rattle.cpg_base.specs.Variable.{top}
+use Rattle.cpg_base.proofs.Lists.{Contains-nil, Contains-filter_parts, Contains-flat_map_parts, Contains-map_parts, numbers-Contains, greatest_cases, least_cases}
+use Rattle.cpg_order.specs.Scenario.{Scenario, IsScenario, number_of, number_of_value, fault_of}
+use Rattle.cpg_order.proofs.Scenarios.{number_of-fault}
+use Rattle.cpg_cube.specs.Cube.{holds, matches}
+use Rattle.cpg_cube.specs.declared.literal.Literal.{Literal}
+use Rattle.cpg_table.specs.Table.{Column, NodeTable, columns_of}
+use Rattle.cpg_table.specs.Heard.{matching, facts_of_end, facts_of_frame, facts, is_heard, kept_low, kept_high}
+use Rattle.cpg_table.proofs.Settings.{Match}
+use Rattle.cpg_table.proofs.Told.{end_literals, frame_facts, Told, told_true}
+
+cond_parts : {X : Type 0} (b : Bool) (xs : List X) (x : X) → Contains (cond b xs []) x → Contains xs x
+cond_parts true xs x h = h
+cond_parts false xs x h = absurd (Contains-nil x h)
+
+match_of : (tables : List NodeTable) (s : Scenario) (x : ℕ) (c : Column) → Contains (matching tables s x) c → Match tables s x c
+match_of tables s x c h = let q = Contains-filter_parts (λ (c : Column). matches c.cube s) (columns_of tables x) c h in record { there = q.0; holds = q.1 }
+
+-- at some time
+abbrev ever : ℕ → Bool
+ever moment = true
+
+module _ (g : Graph) (tables : List NodeTable) (node time : ℕ) (s : Scenario) (law : IsScenario g s) where
+  told : (l : Literal) → Contains (facts g tables node s time) l → Told g tables s node ever l
+  told l h = elim (Contains-append_cases (flat_map (facts_of_end g tables s time) (filter (λ p. node_of g p == node) (numbers_below (process_count g))))
+      (flat_map (facts_of_frame g tables s time) (filter (λ x. is_heard_by g node (item_at g x)) (numbers_below (item_count g)))) l h) [
+        | inl m ↦
+            let a = Contains-flat_map_parts (facts_of_end g tables s time) (filter (λ p. node_of g p == node) (numbers_below (process_count g))) l m in
+            let b = Contains-filter_parts (λ p. node_of g p == node) (numbers_below (process_count g)) a.0 a.1 in
+            let c = Contains-flat_map_parts (λ (c : Column). cond (leb (c.time + duration g a.0 (number_of s a.0)) time) (end_literals g s a.0) []) (matching tables s a.0) l a.2 in
+            inl (record {
+              process = a.0;
+              within = numbers-Contains (process_count g) a.0 b.0;
+              on = eqb-true _ _ b.1;
+              column = c.0;
+              match = match_of tables s a.0 c.0 c.1;
+              then = refl;
+              told = cond_parts (leb (c.0.time + duration g a.0 (number_of s a.0)) time) (end_literals g s a.0) l c.2;
+            })
+        | inr m ↦
+            let a = Contains-flat_map_parts (facts_of_frame g tables s time) (filter (λ x. is_heard_by g node (item_at g x)) (numbers_below (item_count g))) l m in
+            let b = Contains-filter_parts (λ x. is_heard_by g node (item_at g x)) (numbers_below (item_count g)) a.0 a.1 in
+            let c = Contains-flat_map_parts (λ (c : Column). cond (leb (c.time + slot_length g (home g a.0)) time) (frame_facts g s a.0 c) []) (matching tables s a.0) l a.2 in
+            inr (record {
+              item = a.0;
+              within = numbers-Contains (item_count g) a.0 b.0;
+              heard = b.1;
+              column = c.0;
+              match = match_of tables s a.0 c.0 c.1;
+              then = refl;
+              told = cond_parts (leb (c.0.time + slot_length g (home g a.0)) time) (frame_facts g s a.0 c.0) l c.2;
+            })
+      ]
+
+  -- the number of a variable is within its greatest
+  within : (v : ℕ) → number_of s v ≤ top g.faults v
+  within v = elim (cases_lt v 128) [
+    | inl l ↦ let t = cond-true _ g.faults 1 (lt-ltb v 128 l) in let n = number_of-fault s v l in
+        elim (cases_lt v (length s.faults)) as (λ _. number_of s v ≤ top g.faults v) [
+          | inl m ↦ omega (arith, t, n, get_or-le-sum_by (λ x. x) s.faults v 0 m, law.budget)
+          | inr m ↦ omega (arith, t, n, get_or_past s.faults v 0 m)
+        ]
+    | inr l ↦ let t = cond-false _ g.faults 1 (le-ltb v 128 l) in
+        let n = cond-false _ (fault_of s v) (number_of_value (get_or s.values (v - 128) false)) (le-ltb v 128 l) in
+        omega (arith, t, n, bit (get_or s.values (v - 128) false))
+  ]
+    where
+      bit : (b : Bool) → number_of_value b ≤ 1
+      bit true = omega arith
+      bit false = omega arith
+
+  abbrev fs : List Literal
+  fs = facts g tables node s time
+
+  true_of : (l m : Literal) → Contains (filter (λ (m : Literal). m.variable == l.variable) fs) m → (m.low ≤ number_of s l.variable) × (number_of s l.variable ≤ m.high)
+  true_of l m n =
+      let p = Contains-filter_parts (λ (m : Literal). m.variable == l.variable) fs m n in
+      let t = and_parts (leb m.low (number_of s m.variable)) (leb (number_of s m.variable) m.high) (told_true m (told m p.0)) in
+      let same : number_of s m.variable ≡ number_of s l.variable = ap (number_of s) (eqb-true m.variable l.variable p.1) in
+      let below : m.low ≤ number_of s m.variable = leb-true _ _ t.0 in
+      let above : number_of s m.variable ≤ m.high = leb-true _ _ t.1 in
+      (omega arith, omega arith)
+
+  low : (l : Literal) → kept_low fs l.variable ≤ number_of s l.variable
+  low l = elim (greatest_cases (map (λ (m : Literal). m.low) (filter (λ (m : Literal). m.variable == l.variable) fs))) [
+    | inl z ↦ omega (arith, z)
+    | inr q ↦ let r = Contains-map_parts (λ (m : Literal). m.low) (filter (λ (m : Literal). m.variable == l.variable) fs) (kept_low fs l.variable) q in omega (arith, r.2, (true_of l r.0 r.1).0)
+  ]
+
+  high : (l : Literal) → number_of s l.variable ≤ kept_high g.faults fs l.variable
+  high l = elim (least_cases (top g.faults l.variable) (map (λ (m : Literal). m.high) (filter (λ (m : Literal). m.variable == l.variable) fs))) [
+    | inl z ↦ omega (arith, z, within l.variable)
+    | inr q ↦ let r = Contains-map_parts (λ (m : Literal). m.high) (filter (λ (m : Literal). m.variable == l.variable) fs) (kept_high g.faults fs l.variable) q in omega (arith, r.2, (true_of l r.0 r.1).1)
+  ]
+
+-- a literal that is heard is true of the scenario, whatever the tables are
+pub heard_true : (g : Graph) (tables : List NodeTable) (node time : ℕ) (s : Scenario) (l : Literal) → IsScenario g s → is_heard g.faults (facts g tables node s time) l ≡ true → holds s l ≡ true
+heard_true g tables node time s l law h =
+    let r = and_parts (leb l.low (kept_low (facts g tables node s time) l.variable)) (leb (kept_high g.faults (facts g tables node s time) l.variable) l.high) h in
+    and_from (leb l.low (number_of s l.variable)) (leb (number_of s l.variable) l.high)
+    (le-leb l.low (number_of s l.variable) (omega (arith, leb-true _ _ r.0, low g tables node time s law l)))
+    (le-leb (number_of s l.variable) l.high (omega (arith, leb-true _ _ r.1, high g tables node time s law l)))

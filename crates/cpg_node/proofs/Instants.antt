@@ -1,0 +1,220 @@
+-- A node comes to finitely many instants: each turn leaves fewer.
+use Rattle.std.proofs.Common.{◌≡◌, ◌≢◌, ℕ, ◌+◌, ◌*◌, ◌<◌, ◌≤◌, Bool, true, false, cond, ◌||◌, ◌==◌, List, [], ◌∷◌, ◌++◌, length, filter, fold, Contains, Option, Some, None, refl, sym, ap, ◌∙◌, subst, arith, inl, inr, ◌⊎◌, true≢false, ltb, lt-ltb, ltb-true, le-ltb, eq-eqb, ne_eqb}
+use Rattle.std.specs.Prelude.{is_some}
+use Rattle.std.specs.List.{flat_map, list_any}
+use Rattle.std.proofs.lemmas.Bool.{cases_eq, cond-true, cond-false}
+use Rattle.std.proofs.lemmas.List.{length-map, length-append}
+use Rattle.std.proofs.lemmas.List.Elements.{All-head, All-tail, filter-append, Contains-append_cases}
+use Rattle.std.proofs.lemmas.List.Sums.{sum_by-append}
+use Rattle.cpg_base.proofs.Lists.{Contains-first, Contains-rest, Contains-cases, Contains-nil, Contains-filter_parts, filter_none}
+use Rattle.cpg_base.proofs.Sums.{length-filter-le}
+use Rattle.cpg_table.specs.Table.{Row}
+use Rattle.cpg_table.specs.Lawful.{IsTable, column_count, rows_of}
+use Rattle.cpg_node.specs.Dispatcher.{Dispatcher, Own, OwnTable, Running, Ended, Frame, Act, candidates, is_after, next, possible_ends, times_in, zip_with, running_after, ends_in_turn, acts_of_turn, turn, finished}
+use Rattle.cpg_node.specs.Plan.{fixed_times}
+use Rattle.cpg_node.proofs.Next.{least_of_parts, next_is}
+use Rattle.cpg_node.proofs.Turning.{ends_reported}
+use Rattle.cpg_node.proofs.Rooms.{all_left, times_count, room_turn, room_open}
+use Rattle.cpg_node.proofs.TableBounds.{HaveFewEnds, DoRise, own_rise, own_few_ends}
+use Rattle.cpg_node.specs.Instants.{left_of, planned_times, end_times, entries_left, instants_left}
+
+-- What is after a later moment is after an earlier one.
+
+after_both : (last : Option ℕ) (time x : ℕ) → is_after last time ≡ true → is_after (Some time) x ≡ true → is_after last x ≡ true
+after_both None time x a b = refl
+after_both (Some t) time x a b = lt-ltb t x (omega (arith, ltb-true t time a, ltb-true time x b))
+
+pub fewer_left : (last : Option ℕ) (time : ℕ) (xs : List ℕ) → is_after last time ≡ true → left_of (Some time) xs ≤ left_of last xs
+fewer_left last time xs a = length-filter-le (is_after (Some time)) (is_after last) xs (λ x b. after_both last time x a b)
+
+one_kept : (b c : Bool) (x : ℕ) (xs ys : List ℕ) → (b ≡ true → c ≡ true) → length xs < length ys → length (cond b (x ∷ xs) xs) < length (cond c (x ∷ ys) ys)
+one_kept true true x xs ys h l = omega arith
+one_kept true false x xs ys h l = absurd (true≢false (sym (h refl)))
+one_kept false true x xs ys h l = omega arith
+one_kept false false x xs ys h l = l
+
+-- fewer, where the later moment is one of them
+pub one_less : (last : Option ℕ) (time : ℕ) (xs : List ℕ) → is_after last time ≡ true → Contains xs time → left_of (Some time) xs < left_of last xs
+one_less last time [] a c = absurd (Contains-nil time c)
+one_less last time (x ∷ xs) a c = elim (Contains-cases x xs time c) [
+  | inl e ↦ first (ltb time x) (is_after last x) (le-ltb time x (omega (arith, e))) (subst (λ x. is_after last x ≡ true) (sym e) a) (fewer_left last time xs a)
+  | inr m ↦ one_kept (ltb time x) (is_after last x) x (filter (is_after (Some time)) xs) (filter (is_after last) xs) (after_both last time x a) (one_less last time xs a m)
+]
+  where
+    first : (b c : Bool) → b ≡ false → c ≡ true → left_of (Some time) xs ≤ left_of last xs → length (cond b (x ∷ filter (is_after (Some time)) xs) (filter (is_after (Some time)) xs)) < length (cond c (x ∷ filter (is_after last) xs) (filter (is_after last) xs))
+    first true c e f l = absurd (true≢false e)
+    first false true e f l = omega arith
+    first false false e f l = absurd (true≢false (sym f))
+
+-- one more in front
+front_left : (p : ℕ → Bool) (x : ℕ) (xs : List ℕ) → length (filter p xs) ≤ length (filter p (x ∷ xs))
+front_left p x xs = go (p x)
+  where
+    go : (b : Bool) → length (filter p xs) ≤ length (cond b (x ∷ filter p xs) (filter p xs))
+    go true = omega arith
+    go false = omega arith
+
+-- The possible ends of executions.
+
+-- at most 9 for each process
+few_each : (o : Own) (run : Option Running) → length o.times ≤ 9 → length (possible_ends o run) ≤ 9
+few_each o None l = omega arith
+few_each o (Some run) l = omega (arith, l, length-map o.times (λ d. run.start + d))
+
+pub few_ends : (os : List Own) (runs : List (Option Running)) → HaveFewEnds os → length (flat_map (λ ends. ends) (zip_with possible_ends os runs)) ≤ length os * 9
+few_ends [] runs h = omega arith
+few_ends (o ∷ os) [] h = omega arith
+few_ends (o ∷ os) (run ∷ runs) h = omega (
+  arith,
+  few_each o run (All-head (λ (o : Own). length o.times ≤ 9) o os h),
+  few_ends os runs (All-tail (λ (o : Own). length o.times ≤ 9) o os h),
+  length-append (possible_ends o run) (flat_map (λ ends. ends) (zip_with possible_ends os runs)),
+)
+
+-- Executions that start in a turn are no more than its acts.
+
+either_few : (p q : Own → Bool) (os : List Own) → length (filter (λ o. p o || q o) os) ≤ length (filter p os) + length (filter q os)
+either_few p q [] = omega arith
+either_few p q (o ∷ os) = go (p o) (q o) (filter (λ o. p o || q o) os) (filter p os) (filter q os) (either_few p q os)
+  where
+    go : (a b : Bool) (all some others : List Own) → length all ≤ length some + length others → length (cond (a || b) (o ∷ all) all) ≤ length (cond a (o ∷ some) some) + length (cond b (o ∷ others) others)
+    go true true all some others l = omega (arith, l)
+    go true false all some others l = omega (arith, l)
+    go false true all some others l = omega (arith, l)
+    go false false all some others l = l
+
+once : (x : ℕ) (os : List Own) → DoRise os → length (filter (λ (o : Own). x == o.process) os) ≤ 1
+once x [] h = omega arith
+once x (o ∷ os) h = elim (cases_eq x o.process) [
+  | inl e ↦ omega (
+    arith,
+    ap (λ (l : List Own). length l) (cond-true (x == o.process) (o ∷ filter (λ (o : Own). x == o.process) os) (filter (λ (o : Own). x == o.process) os) (eq-eqb x o.process e)),
+    ap (λ (l : List Own). length l) (filter_none (λ (o : Own). x == o.process) os (λ y m. ne_eqb x y.process (λ s. absurd (omega (arith, h.0 y m, e, s))))),
+  )
+  | inr ne ↦ omega (
+    arith,
+    ap (λ (l : List Own). length l) (cond-false (x == o.process) (o ∷ filter (λ (o : Own). x == o.process) os) (filter (λ (o : Own). x == o.process) os) (ne_eqb x o.process ne)),
+    once x os h.1,
+  )
+]
+
+-- the processes that acts start
+abbrev started : List Act → List Own → List Own
+started acts os = filter (λ (o : Own). list_any (λ (a : Act). a.item == o.process) acts) os
+
+started_few : (acts : List Act) (os : List Own) → DoRise os → length (started acts os) ≤ length acts
+started_few [] os h = omega (arith, ap (λ (l : List Own). length l) (filter_none (λ (o : Own). list_any (λ (a : Act). a.item == o.process) []) os (λ o m. refl)))
+started_few (a ∷ acts) os h = omega (
+  arith,
+  either_few (λ (o : Own). a.item == o.process) (λ (o : Own). list_any (λ (a : Act). a.item == o.process) acts) os,
+  once a.item os h,
+  started_few acts os h,
+)
+
+kept_parts : (p : ℕ → Bool) (xs ys : List ℕ) → length (filter p (xs ++ ys)) ≡ length (filter p xs) + length (filter p ys)
+kept_parts p xs ys = ap (λ (l : List ℕ). length l) (filter-append p xs ys) ∙ length-append (filter p xs) (filter p ys)
+
+-- so a turn adds few possible ends
+grown_ends : (p : ℕ → Bool) (ended : List Ended) (acts : List Act) (time : ℕ) (os : List Own) (runs : List (Option Running)) → HaveFewEnds os →
+    length (filter p (flat_map (λ ends. ends) (zip_with possible_ends os (zip_with (running_after ended acts time) os runs))))
+    ≤ length (filter p (flat_map (λ ends. ends) (zip_with possible_ends os runs))) + length (started acts os) * 9
+grown_ends p ended acts time [] runs h = omega arith
+grown_ends p ended acts time (o ∷ os) [] h = omega arith
+grown_ends p ended acts time (o ∷ os) (run ∷ runs) h = go (list_any (λ (a : Act). a.item == o.process) acts) (list_any (λ (e : Ended). e.process == o.process) ended)
+    (flat_map (λ ends. ends) (zip_with possible_ends os (zip_with (running_after ended acts time) os runs))) (flat_map (λ ends. ends) (zip_with possible_ends os runs)) (started acts os)
+    (grown_ends p ended acts time os runs (All-tail (λ (o : Own). length o.times ≤ 9) o os h))
+  where
+    go : (starts ends : Bool) (new old : List ℕ) (more : List Own) → length (filter p new) ≤ length (filter p old) + length more * 9 →
+        length (filter p (possible_ends o (cond starts (Some (record { start = time; report = None })) (cond ends None run)) ++ new))
+        ≤ length (filter p (possible_ends o run ++ old)) + length (cond starts (o ∷ more) more) * 9
+    go true ends new old more l =
+        let begun : Option Running = Some (record { start = time; report = None }) in
+        omega (
+          arith,
+          l,
+          kept_parts p (possible_ends o begun) new,
+          kept_parts p (possible_ends o run) old,
+          all_left p (possible_ends o begun),
+          few_each o begun (All-head (λ (o : Own). length o.times ≤ 9) o os h),
+        )
+    go false true new old more l = omega (arith, l, kept_parts p (possible_ends o run) old)
+    go false false new old more l = omega (arith, l, kept_parts p (possible_ends o run) new, kept_parts p (possible_ends o run) old)
+
+-- The instants of a node.
+
+-- the next instant is planned, or is a possible end
+instant_is : (d : Dispatcher) (time : ℕ) → next d ≡ Some time → Contains (planned_times d) time ⊎ Contains (end_times d) time
+instant_is d time e = go (is_some d.last) (Contains-filter_parts (is_after d.last) (cond (is_some d.last) (candidates d) (0 ∷ candidates d)) time (least_of_parts (filter (is_after d.last) (cond (is_some d.last) (candidates d) (0 ∷ candidates d))) time e).0).0
+  where
+    go : (b : Bool) → Contains (cond b (candidates d) (0 ∷ candidates d)) time → Contains (cond b (fixed_times d.table) (0 ∷ fixed_times d.table)) time ⊎ Contains (end_times d) time
+    go true c = Contains-append_cases (fixed_times d.table) (end_times d) time c
+    go false c = elim (Contains-cases 0 (candidates d) time c) [
+      | inl s ↦ inl (subst (Contains (0 ∷ fixed_times d.table)) s (Contains-first 0 (fixed_times d.table)))
+      | inr m ↦ elim (Contains-append_cases (fixed_times d.table) (end_times d) time m) [ inl f ↦ inl (Contains-rest 0 (fixed_times d.table) time f) | inr n ↦ inr n ]
+    ]
+
+fixed_left : (d : Dispatcher) (p : ℕ → Bool) → length (filter p (fixed_times d.table)) ≤ length (filter p (planned_times d))
+fixed_left d p = go (is_some d.last)
+  where
+    go : (b : Bool) → length (filter p (fixed_times d.table)) ≤ length (filter p (cond b (fixed_times d.table) (0 ∷ fixed_times d.table)))
+    go true = omega arith
+    go false = front_left p 0 (fixed_times d.table)
+
+-- a turn leaves fewer instants
+module _ (d : Dispatcher) (time : ℕ) (frames : List Frame) (comes : next d ≡ Some time) (rise : DoRise d.table.own) (ends : HaveFewEnds d.table.own) where
+  after : is_after d.last time ≡ true
+  after = (next_is d time comes).after
+
+  pub turn_less : instants_left (turn d time [] frames) < instants_left d
+  turn_less =
+      let acts : List Act = acts_of_turn d time [] frames in
+      let grown = grown_ends (is_after (Some time)) (ends_in_turn d time []) acts time d.table.own d.running ends in
+      let few = started_few acts d.table.own rise in
+      let room = room_turn d time frames comes in
+      let fixed = fixed_left d (is_after (Some time)) in
+      elim (instant_is d time comes) [
+        | inl c ↦ omega (arith, one_less d.last time (planned_times d) after c, fewer_left d.last time (end_times d) after, grown, few, room, fixed)
+        | inr c ↦ omega (arith, fewer_left d.last time (planned_times d) after, one_less d.last time (end_times d) after c, grown, few, room, fixed)
+      ]
+
+-- so does one of a lawful table
+pub table_less : (d : Dispatcher) (time : ℕ) (frames : List Frame) → next d ≡ Some time → IsTable d.table → instants_left (turn d time [] frames) < instants_left d
+table_less d time frames comes made = turn_less d time frames comes (own_rise d.table made) (own_few_ends d.table made)
+
+-- reports change nothing
+pub reported_left : (d : Dispatcher) (es : List Ended) → instants_left (fold finished d es) ≡ instants_left d
+reported_left d [] = refl
+reported_left d (e ∷ es) = reported_left (finished d e) es ∙ ap (λ l. left_of d.last (planned_times d) + left_of d.last (flat_map (λ ends. ends) l) + length (entries_left d) * 9) (ends_reported e d.table.own d.running)
+
+-- How many instants there are at all.
+
+fixed_count : (t : OwnTable) → length (fixed_times t) ≡ column_count (rows_of t)
+fixed_count t = omega (
+  arith,
+  length-append (times_in t.starts ++ times_in t.sends) (times_in t.hears),
+  length-append (times_in t.starts) (times_in t.sends),
+  times_count t.starts,
+  times_count t.sends,
+  times_count t.hears,
+  sum_by-append (λ (row : Row). length row.columns) t.starts (t.sends ++ t.hears),
+  sum_by-append (λ (row : Row). length row.columns) t.sends t.hears,
+)
+
+-- at most 10 for each entry, one more, and the ends of what runs
+pub most_instants : (d : Dispatcher) → length d.table.own ≤ 128 → HaveFewEnds d.table.own → instants_left d ≤ column_count (rows_of d.table) * 10 + 1153
+most_instants d few ends = omega (
+  arith,
+  all_left (is_after d.last) (planned_times d),
+  planned (is_some d.last),
+  fixed_count d.table,
+  all_left (is_after d.last) (end_times d),
+  few_ends d.table.own d.running ends,
+  few,
+  room_open d,
+  sum_by-append (λ (row : Row). length row.columns) d.table.starts (d.table.sends ++ d.table.hears),
+  sum_by-append (λ (row : Row). length row.columns) d.table.sends d.table.hears,
+)
+  where
+    planned : (b : Bool) → length (cond b (fixed_times d.table) (0 ∷ fixed_times d.table)) ≤ length (fixed_times d.table) + 1
+    planned true = omega arith
+    planned false = omega arith
