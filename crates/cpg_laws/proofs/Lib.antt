@@ -1,3 +1,3 @@
-pub mod Heard
 pub mod Rows
 pub mod GraphFiles
+pub mod Graphs

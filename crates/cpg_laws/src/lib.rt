@@ -1,12 +1,24 @@
-//! Laws on graph files and on tables, each on an empty body, so that a reader can cite it.
+//! Laws on graph files, on graphs and on tables, each on an empty body, so that a reader can cite it.
 #![tactic(auto)]
 
 ghost use Rattle.cpg_laws.specs.GraphFiles.{GraphFilesShowFirstFaults};
+ghost use Rattle.cpg_laws.specs.Graphs.{CyclesAreRefusedFirst, GraphsShowFirstCauses};
 ghost use Rattle.cpg_laws.specs.Tables.{FormedRowsHaveFewColumns, HeardLiteralsAreTrue};
 
 /// A graph file is refused by the first of its faults, and read as a graph where it has none.
 pub fn graph_files_show_first_faults()
     ensures { GraphFilesShowFirstFaults }
+{}
+
+/// A graph is refused for a cycle exactly where it has one, and is shown a cycle then.
+pub fn cycles_are_refused_first()
+    ensures { CyclesAreRefusedFirst }
+{}
+
+/// A graph is refused for its first cause, of which it has one at most: a cycle, too many tracks, two live inputs of a join, a
+/// node without its slot, a message that is too big.
+pub fn graphs_show_first_causes()
+    ensures { GraphsShowFirstCauses }
 {}
 
 /// What a node has heard is true of the scenario, whatever the tables are.

@@ -1,5 +1,5 @@
-use Rattle.cpg_laws.proofs.Heard.{heard_literals_are_true as law}
+use Rattle.cpg_node.proofs.HeardTruth.{heard_true}
 use Rattle.cpg_laws.proofs.heard_literals_are_true.Goals as goal
 
 pub returns : goal.returns
-returns c = law
+returns c = heard_true

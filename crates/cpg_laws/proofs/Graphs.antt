@@ -1,0 +1,115 @@
+-- A graph that is refused for anything but a cycle has a topological order, and so no cycle.
+use Rattle.std.proofs.Common.{◌≡◌, ◌≢◌, ℕ, ◌<◌, ◌≤◌, List, Ok, Err, length, filter, refl, subst, arith, inl, inr, ltb-true}
+use Rattle.std.proofs.lemmas.Bool.{cases_lt}
+use Rattle.std.specs.Prelude.{Result}
+use Rattle.cpg_base.specs.Graph.{Graph, inputs}
+use Rattle.cpg_base.specs.Activity.{live}
+use Rattle.cpg_base.specs.WellFormed.{HasSingleJoins, HasSenderSlots}
+use Rattle.cpg_order.specs.Cycle.{IsCycle, HasCycle}
+use Rattle.cpg_order.specs.Track.{track_count, most_tracks}
+use Rattle.cpg_order.proofs.Cycles.{no_cycle}
+use Rattle.cpg_rules.specs.Admission.{Admission}
+use Rattle.cpg_rules.specs.Faults.{IsOrdered, ShowsFault}
+use Rattle.cpg_rules.proofs.Exact.{no_lack}
+use Rattle.cpg_rules.specs.declared.admission.RuleFault.{RuleFault}
+use Rattle.cpg_rules.specs.declared.admission.RuleFault.TheVariants.{Cycle, TooManyTracks, TwoAlternatives, NoSlot, TooBig, OutOfMemory}
+use Rattle.cpg_laws.specs.Graphs.{RefusesCycles, CyclesAreRefusedFirst, place_of, IsFirstCause, GraphsShowFirstCauses}
+
+-- a graph in order is refused for no cycle
+none : (g : Graph) (answer : Result Admission RuleFault) → ((walk : List ℕ) → answer ≢ Err (Cycle walk)) → (HasCycle g → ⊥) → RefusesCycles g answer
+none g answer other acyclic = record {
+  exact = (λ h. absurd (other h.0 h.1), λ h. absurd (acyclic h));
+  shown = λ walk e. absurd (other walk e);
+}
+
+acyclic : (g : Graph) (order : List ℕ) → IsOrdered g order → HasCycle g → ⊥
+acyclic g order is = no_cycle g order is.topological
+
+pub cycles_are_refused_first : CyclesAreRefusedFirst
+cycles_are_refused_first g (Ok a) may kept = none g (Ok a) (λ walk e. cc) (subst (λ g. HasCycle g → ⊥) may.0 (no_cycle a.graph a.order may.1.topological))
+cycles_are_refused_first g (Err (Cycle walk)) may kept = record {
+  exact = (λ h. (walk, may), λ h. (walk, refl));
+  shown = λ other e. subst (IsCycle g) (let same : walk ≡ other = cc in same) may;
+}
+cycles_are_refused_first g (Err TooManyTracks) may kept = none g (Err TooManyTracks) (λ walk e. cc) (acyclic g may.0 may.1)
+cycles_are_refused_first g (Err (TwoAlternatives p least)) may kept = none g (Err (TwoAlternatives p least)) (λ walk e. cc) (acyclic g may.0 may.1.ordered)
+cycles_are_refused_first g (Err (NoSlot node)) may kept = none g (Err (NoSlot node)) (λ walk e. cc) (acyclic g may.0 may.1.tracks.ordered)
+cycles_are_refused_first g (Err (TooBig e)) may kept = none g (Err (TooBig e)) (λ walk e. cc) (acyclic g may.0 may.1.inputs.tracks.ordered)
+cycles_are_refused_first g (Err OutOfMemory) may kept = absurd (kept refl)
+
+-- A refusal tells the first cause.
+
+first : (g : Graph) (fault : RuleFault) → ShowsFault g fault → IsFirstCause g fault
+first g (Cycle walk) h = h
+first g TooManyTracks h = (acyclic g h.0 h.1, h.2)
+first g (TwoAlternatives p least) h = (acyclic g h.0 h.1.ordered, h.1.few, record { order = h.0; urgency = h.1.ordered.urgency; two = h.2 })
+first g (NoSlot node) h = (acyclic g h.0 h.1.tracks.ordered, h.1.tracks.few, h.1.joins, h.2)
+first g (TooBig e) h = (acyclic g h.0 h.1.inputs.tracks.ordered, h.1.inputs.tracks.few, h.1.inputs.joins, h.1.slots, h.2)
+first g OutOfMemory h = tt
+
+-- What a later cause says of the earlier ones.
+
+module _ (g : Graph) where
+  no_cycle_then : (fault : RuleFault) → 0 < place_of fault → place_of fault < 5 → IsFirstCause g fault → HasCycle g → ⊥
+  no_cycle_then (Cycle walk) l m h = absurd (omega (arith, l))
+  no_cycle_then TooManyTracks l m h = h.0
+  no_cycle_then (TwoAlternatives p least) l m h = h.0
+  no_cycle_then (NoSlot node) l m h = h.0
+  no_cycle_then (TooBig e) l m h = h.0
+  no_cycle_then OutOfMemory l m h = absurd (omega (arith, m))
+
+  few_then : (fault : RuleFault) → 1 < place_of fault → place_of fault < 5 → IsFirstCause g fault → track_count g ≤ most_tracks
+  few_then (Cycle walk) l m h = absurd (omega (arith, l))
+  few_then TooManyTracks l m h = absurd (omega (arith, l))
+  few_then (TwoAlternatives p least) l m h = h.1
+  few_then (NoSlot node) l m h = h.1
+  few_then (TooBig e) l m h = h.1
+  few_then OutOfMemory l m h = absurd (omega (arith, m))
+
+  joins_then : (fault : RuleFault) → 2 < place_of fault → place_of fault < 5 → IsFirstCause g fault → HasSingleJoins g
+  joins_then (Cycle walk) l m h = absurd (omega (arith, l))
+  joins_then TooManyTracks l m h = absurd (omega (arith, l))
+  joins_then (TwoAlternatives p least) l m h = absurd (omega (arith, l))
+  joins_then (NoSlot node) l m h = h.2
+  joins_then (TooBig e) l m h = h.2
+  joins_then OutOfMemory l m h = absurd (omega (arith, m))
+
+  slots_then : (fault : RuleFault) → 3 < place_of fault → place_of fault < 5 → IsFirstCause g fault → HasSenderSlots g
+  slots_then (Cycle walk) l m h = absurd (omega (arith, l))
+  slots_then TooManyTracks l m h = absurd (omega (arith, l))
+  slots_then (TwoAlternatives p least) l m h = absurd (omega (arith, l))
+  slots_then (NoSlot node) l m h = absurd (omega (arith, l))
+  slots_then (TooBig e) l m h = h.3
+  slots_then OutOfMemory l m h = absurd (omega (arith, m))
+
+  apart : (fault other : RuleFault) → place_of fault < place_of other → place_of other < 5 → IsFirstCause g fault → IsFirstCause g other → ⊥
+  apart (Cycle walk) other l m h k = no_cycle_then other l m k (walk, h)
+  apart TooManyTracks other l m h k = let f = few_then other l m k in let n = h.1 in omega (arith, f, n)
+  apart (TwoAlternatives p least) other l m h k =
+      let two = h.2.two in
+      let one = joins_then other l m k p least.values two.within two.join two.least.lawful.values in
+      let more = ltb-true 1 (length (filter (live g least.values) (inputs g p))) two.least.holds in
+      omega (arith, one, more)
+  apart (NoSlot node) other l m h k = no_lack g (slots_then other l m k) node h.3.lacks
+  apart (TooBig e) other l m h k = omega (arith, l, m)
+  apart OutOfMemory other l m h k = omega (arith, l, m)
+
+  below : (fault : RuleFault) → fault ≢ OutOfMemory → place_of fault < 5
+  below (Cycle walk) kept = omega arith
+  below TooManyTracks kept = omega arith
+  below (TwoAlternatives p least) kept = omega arith
+  below (NoSlot node) kept = omega arith
+  below (TooBig e) kept = omega arith
+  below OutOfMemory kept = absurd (kept refl)
+
+  one : (fault other : RuleFault) → fault ≢ OutOfMemory → other ≢ OutOfMemory → IsFirstCause g fault → IsFirstCause g other → place_of fault ≡ place_of other
+  one fault other kept kept' h k = elim (cases_lt (place_of fault) (place_of other)) [
+    | inl l ↦ absurd (apart fault other l (below other kept') h k)
+    | inr m ↦ elim (cases_lt (place_of other) (place_of fault)) [
+      | inl l ↦ absurd (apart other fault l (below fault kept) k h)
+      | inr n ↦ omega (arith, m, n)
+    ]
+  ]
+
+pub graphs_show_first_causes : GraphsShowFirstCauses
+graphs_show_first_causes g = record { first = first g; one = one g }

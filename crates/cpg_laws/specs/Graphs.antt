@@ -1,0 +1,65 @@
+-- Laws on the refusal of graphs.
+use Rattle.std.specs.Prelude.{ℕ, ◌≡◌, ◌≢◌, ◌<◌, ◌≤◌, ◌↔◌, List, Result, Ok, Err, ⊤}
+use Rattle.cpg_base.specs.Graph.{Graph}
+use Rattle.cpg_base.specs.Scenario.{Scenario}
+use Rattle.cpg_base.specs.WellFormed.{HasSingleJoins, HasSenderSlots}
+use Rattle.cpg_order.specs.Cycle.{IsCycle, HasCycle}
+use Rattle.cpg_order.specs.Track.{track_count, most_tracks}
+use Rattle.cpg_order.specs.Urgency.{IsUrgencyOrder}
+use Rattle.cpg_guard.specs.Alternatives.{AreAlternatives}
+use Rattle.cpg_rules.specs.Admission.{Admission, IsAdmitted}
+use Rattle.cpg_rules.specs.Faults.{ShowsFault}
+use Rattle.cpg_rules.specs.Rules.{LacksSlot, IsAboveSlot}
+use Rattle.cpg_rules.specs.declared.admission.RuleFault.{RuleFault}
+use Rattle.cpg_rules.specs.declared.admission.RuleFault.TheVariants.{Cycle, TooManyTracks, TwoAlternatives, NoSlot, TooBig, OutOfMemory}
+
+-- what `admit` may answer of a graph, by its contract
+abbrev pub MayAnswer : Graph → Result Admission RuleFault → Type 0
+MayAnswer g (Ok a) = (a.graph ≡ g) × IsAdmitted a.graph a.order a.guards
+MayAnswer g (Err fault) = ShowsFault g fault
+
+-- the answer refuses a graph for a cycle
+abbrev pub IsForCycle : Result Admission RuleFault → Type 0
+IsForCycle answer = (walk : List ℕ) × (answer ≡ Err (Cycle walk))
+
+-- a graph is refused for a cycle exactly where it has one, and then it is shown one: different processes, the least of them first
+pub record RefusesCycles (g : Graph) (answer : Result Admission RuleFault) : Type 0 where
+  pub exact : IsForCycle answer ↔ HasCycle g
+  pub shown : (walk : List ℕ) → answer ≡ Err (Cycle walk) → IsCycle g walk
+
+-- so is each graph, unless memory is wanting
+abbrev pub CyclesAreRefusedFirst : Type 0
+CyclesAreRefusedFirst = (g : Graph) (answer : Result Admission RuleFault) → MayAnswer g answer → answer ≢ Err OutOfMemory → RefusesCycles g answer
+
+-- which cause a refusal tells, by its place among them
+abbrev pub place_of : RuleFault → ℕ
+place_of (Cycle walk) = 0
+place_of TooManyTracks = 1
+place_of (TwoAlternatives p least) = 2
+place_of (NoSlot node) = 3
+place_of (TooBig e) = 4
+place_of OutOfMemory = 5
+
+-- a join with two live inputs: the least, with the least scenario along the urgency order
+pub record HasTwoInputs (g : Graph) (p : ℕ) (least : Scenario) : Type 0 where
+  pub order : List ℕ
+  pub urgency : IsUrgencyOrder g order
+  pub two : AreAlternatives g order p least
+
+-- the cause is there, and none before it
+abbrev pub IsFirstCause : Graph → RuleFault → Type 0
+IsFirstCause g (Cycle walk) = IsCycle g walk
+IsFirstCause g TooManyTracks = (HasCycle g → ⊥) × (most_tracks < track_count g)
+IsFirstCause g (TwoAlternatives p least) = (HasCycle g → ⊥) × (track_count g ≤ most_tracks) × HasTwoInputs g p least
+IsFirstCause g (NoSlot node) = (HasCycle g → ⊥) × (track_count g ≤ most_tracks) × HasSingleJoins g × LacksSlot g node
+IsFirstCause g (TooBig e) = (HasCycle g → ⊥) × (track_count g ≤ most_tracks) × HasSingleJoins g × HasSenderSlots g × IsAboveSlot g e
+IsFirstCause g OutOfMemory = ⊤
+
+-- a refusal tells the first cause, of which a graph has one at most
+pub record AreFirstCauses (g : Graph) : Type 0 where
+  pub first : (fault : RuleFault) → ShowsFault g fault → IsFirstCause g fault
+  pub one : (fault other : RuleFault) → fault ≢ OutOfMemory → other ≢ OutOfMemory → IsFirstCause g fault → IsFirstCause g other → place_of fault ≡ place_of other
+
+-- so does the refusal of each graph
+abbrev pub GraphsShowFirstCauses : Type 0
+GraphsShowFirstCauses = (g : Graph) → AreFirstCauses g
