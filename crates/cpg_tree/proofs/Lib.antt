@@ -8,3 +8,10 @@ pub mod Rooms
 pub mod Tidy
 pub mod Leasts
 pub mod Passing
+pub mod Passes
+pub mod Holding
+pub mod Demands
+pub mod SpotLaws
+pub mod OnePath
+pub mod Most
+pub mod Gathered

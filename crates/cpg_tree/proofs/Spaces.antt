@@ -16,12 +16,12 @@ use Rattle.cpg_tree.specs.Space.{Space, Lies, HasFew, beyond, is_open_below, bel
 not_less : (a b : ℕ) → nat_lt a b ≡ false → b ≤ a
 not_less a b h = elim (cases_lt a b) [ inl l ↦ absurd (both_ways (nat_lt a b) h (lt-ltb a b l)) | inr l ↦ l ]
 
-count_is : (s : Scenario) (v : ℕ) → v < 128 → number_of s v ≡ fault_of s v
+pub count_is : (s : Scenario) (v : ℕ) → v < 128 → number_of s v ≡ fault_of s v
 count_is s v l = cond-true (nat_lt v 128) (fault_of s v) _ (lt-ltb v 128 l)
 
 module _ (room : Space) (s : Scenario) (lies : Lies room s) (v cut : ℕ) (there : v < 256) where
   -- a count goes no further beyond its low than faults are left
-  count_le : v < 128 → number_of s v ≤ get_or room.low v 0 + room.left
+  pub count_le : v < 128 → number_of s v ≤ get_or room.low v 0 + room.left
   count_le l =
       let one = le-sum_by (beyond room s) (numbers_below 128) v (Contains-numbers 128 v l) in
       omega (arith, one, lies.left, count_is s v l)

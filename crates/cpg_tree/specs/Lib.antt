@@ -6,3 +6,5 @@ pub mod Tree
 pub mod Variables
 pub mod Columns
 pub mod Greatest
+pub mod Places
+pub mod Spots

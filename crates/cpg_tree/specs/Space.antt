@@ -2,6 +2,7 @@
 use Rattle.std.specs.Prelude.{ℕ, ◌+◌, ◌-◌, ◌≤◌, ◌<◌, ◌≡◌, Bool, ◌&&◌, ◌||◌, nat_le, nat_lt, if◌then◌else◌, get_or, slice_set, sum_by, length}
 use Rattle.cpg_base.specs.Numbers.{numbers_below}
 use Rattle.cpg_order.specs.Scenario.{Scenario, number_of, fault_of}
+use Rattle.cpg_cube.specs.declared.literal.Literal.{Literal}
 pub use Rattle.cpg_tree.specs.declared.space.Space.{Space}
 
 -- the faults of a process beyond the low of its count
@@ -29,6 +30,10 @@ is_open_above room v cut = nat_lt cut (get_or room.high v 0) && (nat_le 128 v ||
 -- how many faults a count of a variable is: a value is none
 abbrev pub faults_of : ℕ → ℕ → ℕ
 faults_of v count = if nat_lt v 128 then count else 0
+
+-- the faults that a literal asks for beyond the low of its variable
+abbrev pub more_asked : Space → Literal → ℕ
+more_asked room l = faults_of l.variable (l.low - get_or room.low l.variable 0)
 
 -- with the numbers up to a cut that has numbers on both sides
 abbrev pub below_cut : Space → ℕ → ℕ → Space

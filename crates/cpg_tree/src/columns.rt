@@ -61,6 +61,20 @@ impl Node<Option<u64>> {
 }
 
 impl Tree<Option<u64>> {
+    /// The paths with a number, each with its own cube, in no order.
+    pub fn listed(&self, problem: &Problem) -> Result<Vec<(u64, Cube)>, OutOfMemory>
+        requires faults { self.now.faults ≡ problem.now.faults }
+        requires known { All (λ p. IsKnown problem.now p.0) self.now.paths }
+        ensures tidy { IfOk result (λ r. All (IsTidyColumn problem.now) r.items) }
+        ensures all { IfOk result (λ r. IsPermutation (columns_of_paths self.now.paths) r.items) }
+    {
+        let _processes = problem.processes();
+        let whole = Cube::whole(self.alloc);
+        let mut columns = Vec::new(self.alloc);
+        self.root.push_columns(self.faults, whole, &mut columns)?;
+        Ok(columns)
+    }
+
     /// The paths with a number, each with its own cube, by the least scenario that it matches.
     pub fn columns(&self, problem: &Problem, order: &Order) -> Result<Vec<(u64, Cube)>, OutOfMemory>
         requires faults { self.now.faults ≡ problem.now.faults }
@@ -70,10 +84,7 @@ impl Tree<Option<u64>> {
         ensures all { IfOk result (λ r. IsPermutation (columns_of_paths self.now.paths) r.items) }
         ensures by_lows { IfOk result (λ r. AreByLows (λ c. c.1) problem.now order.now r.items) }
     {
-        let _processes = problem.processes();
-        let whole = Cube::whole(self.alloc);
-        let mut columns = Vec::new(self.alloc);
-        self.root.push_columns(self.faults, whole, &mut columns)?;
-        by_least_scenario(self.alloc, problem, order, columns)
+        let listed = self.listed(problem)?;
+        by_least_scenario(self.alloc, problem, order, listed)
     }
 }

@@ -2,11 +2,17 @@
 #![tactic(auto)]
 
 mod columns;
+mod gathering;
 mod greatest;
 mod node;
+mod places;
 mod space;
 mod tree;
 mod variables;
+mod walk;
 
+pub use places::Places;
+pub use space::Space;
 pub use tree::Tree;
 pub use variables::{fault, value};
+pub use walk::Test;

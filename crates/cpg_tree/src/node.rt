@@ -94,7 +94,7 @@ impl<T: Copy + Eq> Node<T> {
     }
 
     /// A fork.
-    fn fork_of(
+    pub(crate) fn fork_of(
         alloc: Global,
         variable: u8,
         cut: u8,

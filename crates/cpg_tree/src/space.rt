@@ -1,10 +1,12 @@
 //! The scenarios that come to a place of a tree.
-ghost use Rattle.std.specs.Prelude.{◌≡◌, ◌≤◌, ◌<◌, ◌+◌, ◌||◌, nat_le, nat_lt, true, get_or};
-ghost use Rattle.std.specs.Bool.{OnFalse};
+ghost use Rattle.std.specs.Prelude.{◌≡◌, ◌≤◌, ◌<◌, ◌+◌, ◌||◌, IfNone, IfSome, false, nat_le, nat_lt, true, get_or};
+ghost use Rattle.std.specs.Bool.{OnFalse, OnTrue};
+ghost use Rattle.cpg_cube.specs.Cube.{IsRising, holds, matches};
 ghost use Rattle.cpg_order.specs.Scenario.{Scenario, number_of};
 ghost use Rattle.cpg_tree.specs.Space.{Lies, IsWhole, HasFew, is_open_below, is_open_above, below_cut, above_cut, faults_of};
 
 use cpg_base::FIRST_VALUE;
+use cpg_cube::Literal;
 
 /// How many variables there may be.
 const VARIABLES: usize = 256;
@@ -18,7 +20,7 @@ fn faults_of(variable: u8, count: u8) -> u8
 
 /// A range for each variable, and how many faults there may be beyond the lows.
 #[derive(Clone, Copy)]
-pub(crate) struct Space {
+pub struct Space {
     pub(crate) low: [u8; VARIABLES],
     pub(crate) high: [u8; VARIABLES],
     pub(crate) left: u8,
@@ -26,7 +28,7 @@ pub(crate) struct Space {
 
 impl Space {
     /// All scenarios of at most `k` faults.
-    pub(crate) fn whole(k: u8) -> Space
+    pub fn whole(k: u8) -> Space
         ensures is { IsWhole k result }
         ensures lies { (s : Scenario) → HasFew k s → Lies result s }
     {
@@ -67,6 +69,31 @@ impl Space {
         cut < self.high[variable as usize] && self.allows_above(variable, cut)
     }
 
+    /// The greatest number of a variable.
+    pub fn most(&self, variable: u8) -> u8
+        ensures { (s : Scenario) → Lies self.now s → number_of s variable ≤ result }
+    {
+        let high = self.high[variable as usize];
+        let low = self.low[variable as usize];
+        if variable >= FIRST_VALUE {
+            return high;
+        }
+        if high <= low {
+            return high;
+        }
+        if high - low <= self.left {
+            return high;
+        }
+        low + self.left
+    }
+
+    /// The least number of a variable.
+    pub fn least(&self, variable: u8) -> u8
+        ensures { (s : Scenario) → Lies self.now s → result ≤ number_of s variable }
+    {
+        self.low[variable as usize]
+    }
+
     /// With the numbers up to the cut, where there are others.
     pub(crate) fn below(&self, variable: u8, cut: u8) -> Space
         ensures is { result ≡ below_cut self.now variable cut }
@@ -90,5 +117,123 @@ impl Space {
         space.left -= faults_of(variable, low - self.low[variable as usize]);
         space.low[variable as usize] = low;
         space
+    }
+
+    /// Leaves the scenarios in which a number is at least so great; false only where there are none.
+    fn lift(&mut self, variable: u8, low: u8) -> bool
+        ensures lies { OnTrue result ((s : Scenario) → Lies self.old s → low ≤ number_of s variable → Lies self.new s) }
+        ensures none { OnFalse result ((s : Scenario) → Lies self.old s → number_of s variable < low) }
+    {
+        if low == 0 {
+            return true;
+        }
+        let cut = low - 1;
+        if !self.is_open_above(variable, cut) {
+            return false;
+        }
+        if !self.is_open_below(variable, cut) {
+            return true;
+        }
+        self.raise(variable, cut);
+        true
+    }
+
+    /// Leaves the scenarios in which a number is at most so great; false only where there are none.
+    fn lower(&mut self, variable: u8, high: u8) -> bool
+        ensures lies { OnTrue result ((s : Scenario) → Lies self.old s → number_of s variable ≤ high → Lies self.new s) }
+        ensures none { OnFalse result ((s : Scenario) → Lies self.old s → high < number_of s variable) }
+    {
+        if !self.is_open_below(variable, high) {
+            return false;
+        }
+        if self.high[variable as usize] <= high {
+            return true;
+        }
+        self.high[variable as usize] = high;
+        true
+    }
+
+    /// Leaves the scenarios in which a literal holds; false only where there are none.
+    fn narrow(&mut self, literal: Literal) -> bool
+        ensures lies { OnTrue result ((s : Scenario) → Lies self.old s → holds s literal ≡ true → Lies self.new s) }
+        ensures none { OnFalse result ((s : Scenario) → Lies self.old s → holds s literal ≡ false) }
+    {
+        if !self.lift(literal.variable, literal.low) {
+            return false;
+        }
+        self.lower(literal.variable, literal.high)
+    }
+
+    /// Leaves the scenarios with a number above the cut, where there are others.
+    fn raise(&mut self, variable: u8, cut: u8)
+        requires below { is_open_below self.old variable cut ≡ true }
+        requires above { is_open_above self.old variable cut ≡ true }
+        ensures is { self.new ≡ above_cut self.old variable cut }
+        ensures lies { (s : Scenario) → Lies self.old s → cut < number_of s variable → Lies self.new s }
+    {
+        let _high = self.high[variable as usize];
+        let low = cut + 1;
+        self.left -= faults_of(variable, low - self.low[variable as usize]);
+        self.low[variable as usize] = low;
+    }
+
+    /// Whether a literal holds in the whole space.
+    pub fn tells(&self, literal: &Literal) -> bool
+        ensures { OnTrue result ((s : Scenario) → Lies self.now s → holds s literal.now ≡ true) }
+    {
+        if self.low[literal.variable as usize] < literal.low {
+            return false;
+        }
+        self.most(literal.variable) <= literal.high
+    }
+
+    /// Whether some number of a literal's range is in range.
+    pub(crate) fn meets(&self, literal: &Literal) -> bool
+        ensures { OnFalse result ((s : Scenario) → Lies self.now s → holds s literal.now ≡ false) }
+    {
+        if self.high[literal.variable as usize] < literal.low {
+            return false;
+        }
+        self.low[literal.variable as usize] <= literal.high
+    }
+
+    /// Whether the faults that are left suffice for the lows of literals from a place on.
+    pub(crate) fn affords(&self, literals: &[Literal], from: usize) -> bool
+        requires { IsRising literals.now }
+        ensures { OnFalse result ((s : Scenario) → Lies self.now s → matches literals.now s ≡ false) }
+    {
+        let mut left = self.left;
+        for at in from..literals.len() {
+            let literal = literals[at];
+            let low = self.low[literal.variable as usize];
+            let more = faults_of(literal.variable, literal.low.saturating_sub(low));
+            if left < more {
+                return false;
+            }
+            left -= more;
+        }
+        true
+    }
+
+    /// The scenarios of the space that literals match; `None` only where there are none.
+    pub fn within(&self, literals: &[Literal]) -> Option<Space>
+        ensures lies { IfSome result (λ r. (s : Scenario) → Lies self.now s → matches literals.now s ≡ true → Lies r s) }
+        ensures none { IfNone result ((s : Scenario) → Lies self.now s → matches literals.now s ≡ false) }
+    {
+        let mut space = *self;
+        for literal in literals {
+            if !space.narrow(*literal) {
+                return None;
+            }
+        }
+        Some(space)
+    }
+
+    /// The scenarios of at most `k` faults that literals match; `None` only where there are none.
+    pub fn of(k: u8, literals: &[Literal]) -> Option<Space>
+        ensures lies { IfSome result (λ r. (s : Scenario) → HasFew k s → matches literals.now s ≡ true → Lies r s) }
+        ensures none { IfNone result ((s : Scenario) → HasFew k s → matches literals.now s ≡ false) }
+    {
+        Space::whole(k).within(literals)
     }
 }

@@ -1,40 +1,17 @@
-use Rattle.std.proofs.Common.{ℕ, ◌≡◌, ◌∙◌, ◌++◌, List, Option, All, IsPermutation, sym, ap, ap₂, subst}
-use Rattle.cpg_cube.specs.declared.literal.Literal.{Literal}
-use Rattle.cpg_tree.specs.declared.node.Node.{Node}
-use Rattle.cpg_tree.specs.Columns.{columns_from, columns_of_paths, IsTidyColumn}
-use Rattle.cpg_cube.specs.Fit.{IsKnown}
-use Rattle.cpg_tree.specs.Decision.{IsGood}
-use Rattle.cpg_tree.specs.Paths.{paths_of}
-use Rattle.cpg_tree.specs.Tree.{Path, TreeState}
+use Rattle.std.proofs.Common.{All, IsPermutation}
+use Rattle.std.proofs.lemmas.List.Sorted.{All-permutation, IsPermutation-trans}
+use Rattle.cpg_tree.specs.Columns.{columns_of_paths, IsTidyColumn}
 use Rattle.cpg_tree.proofs.Forks.{of_answer}
-use Rattle.cpg_tree.proofs.PathLaws.{good_cuts}
-use Rattle.cpg_tree.proofs.Rooms.{all_columns}
-use Rattle.cpg_tree.proofs.Tidy.{tidy_columns}
 use Rattle.cpg_tree.proofs.columns.Tree+Option+u64.columns.Goals as goal
-
-pub push_columns-requires : goal.push_columns-requires
-push_columns-requires c = good_cuts c.self.inside.faults c.self.inside.root c.self.invariant.0
 
 pub returns-clause-all : goal.returns-clause-all
 returns-clause-all c =
-    let k : ℕ = c.self.inside.faults in
-    let root : Node (Option ℕ) = c.self.inside.root in
-    let is : c.push_columns.new.columns.items ≡ columns_of_paths c.args.self.now.paths =
-    c.in_ok-push_columns.ensures ∙ ap₂ ◌++◌ c.new-columns.ensures.items (ap (λ (cube : List Literal). columns_from k cube root) c.whole-whole.ensures)
-    ∙ all_columns k root c.self.invariant.0 ∙ ap (λ (t : TreeState (Option ℕ)). columns_of_paths t.paths) c.self.view_is in
-    of_answer c.by_least_scenario.result (λ r. IsPermutation c.push_columns.new.columns.items r.items) (λ r. IsPermutation (columns_of_paths c.args.self.now.paths) r.items) c.by_least_scenario.ensures.permutation
-    (λ r p. subst (λ (xs : List (ℕ × List Literal)). IsPermutation xs r.items) is p)
+    let listed = c.in_ok-listed.listed.items in
+    of_answer c.by_least_scenario.result (λ r. IsPermutation listed r.items) (λ r. IsPermutation (columns_of_paths c.args.self.now.paths) r.items) c.by_least_scenario.ensures.permutation
+    (λ r p. IsPermutation-trans (columns_of_paths c.args.self.now.paths) listed r.items c.in_ok-listed.ensures.all p)
 
 pub returns-clause-tidy : goal.returns-clause-tidy
 returns-clause-tidy c =
-    let g = c.args.problem.now in
-    let k : ℕ = c.self.inside.faults in
-    let root : Node (Option ℕ) = c.self.inside.root in
-    let same : k ≡ g.faults = ap (λ (t : TreeState (Option ℕ)). t.faults) c.self.view_is ∙ c.requires.faults in
-    let paths : c.args.self.now.paths ≡ paths_of g.faults root = sym (ap (λ (t : TreeState (Option ℕ)). t.paths) c.self.view_is) ∙ ap (λ (m : ℕ). paths_of m root) same in
-    let is : c.push_columns.new.columns.items ≡ columns_of_paths (paths_of g.faults root) =
-    c.in_ok-push_columns.ensures ∙ ap₂ ◌++◌ c.new-columns.ensures.items (ap (λ (cube : List Literal). columns_from k cube root) c.whole-whole.ensures)
-    ∙ all_columns k root c.self.invariant.0 ∙ ap (λ (m : ℕ). columns_of_paths (paths_of m root)) same in
-    of_answer c.by_least_scenario.result (λ r. IsPermutation c.push_columns.new.columns.items r.items) (λ r. All (IsTidyColumn g) r.items) c.by_least_scenario.ensures.permutation
-    (λ r p. tidy_columns g c.processes-processes.ensures.within.few_processes root (subst (λ (m : ℕ). IsGood m root) same c.self.invariant.0)
-    (subst (All (λ (p : Path (Option ℕ)). IsKnown g p.0)) paths c.requires.known) r.items (subst (λ (xs : List (ℕ × List Literal)). IsPermutation xs r.items) is p))
+    let listed = c.in_ok-listed.listed.items in
+    of_answer c.by_least_scenario.result (λ r. IsPermutation listed r.items) (λ r. All (IsTidyColumn c.args.problem.now) r.items) c.by_least_scenario.ensures.permutation
+    (λ r p. All-permutation (IsTidyColumn c.args.problem.now) listed r.items p c.in_ok-listed.ensures.tidy)

@@ -1,38 +1,48 @@
-use Rattle.std.proofs.Common.{ℕ, ◌≡◌, ◌∙◌, List, Option, None, Some, IsPermutation, All, length, get_or, cond, unwrap_or, sym, ap, subst}
-use Rattle.std.proofs.lemmas.Bool.{cond-true}
-use Rattle.std.proofs.lemmas.List.{get_or_default}
+use Rattle.std.proofs.Common.{ℕ, ◌≡◌, ◌∙◌, List, Option, None, Some, All, Contains, get_or, sym, ap, subst}
 use Rattle.std.proofs.lemmas.List.Elements.{Contains-get_or}
-use Rattle.cpg_cube.specs.declared.literal.Literal.{Literal}
-use Rattle.cpg_order.specs.Scenario.{Scenario}
-use Rattle.cpg_cube.specs.Fit.{is_met, lows}
-use Rattle.cpg_tree.specs.Columns.{columns_of_paths, IsTidyColumn}
-use Rattle.cpg_cube.specs.Keys.{AreByLows}
-use Rattle.cpg_tree.specs.Greatest.{IsFirstGreatest, IsGreatestOf}
-use Rattle.cpg_tree.specs.Tree.{Path}
-use Rattle.cpg_tree.proofs.Leasts.{no_numbers, column_met, greatest_of_columns}
+use Rattle.cpg_cube.specs.Fit.{IsKnown}
+use Rattle.cpg_tree.specs.Decision.{IsGood}
+use Rattle.cpg_tree.specs.declared.node.Node.{Node}
+use Rattle.cpg_tree.specs.Paths.{paths_of}
+use Rattle.cpg_tree.specs.Greatest.{IsGreatestOf, most_of, kept}
+use Rattle.cpg_tree.specs.Tree.{Path, TreeState, HasOnePathEach}
+use Rattle.cpg_tree.specs.Variables.{is_variable}
+use Rattle.cpg_tree.proofs.Most.{no_most, some_alone, greatest_alone}
+use Rattle.cpg_tree.proofs.Passing.{known_from, known_passes}
 use Rattle.cpg_tree.proofs.greatest.Tree+Option+u64.greatest.Goals as goal
 
 pub returns-in_default-clause-none : goal.returns-in_default-clause-none
 returns-in_default-clause-none c k d l =
-    no_numbers c.args.self.now.paths c.in_ok-columns.columns.items c.in_ok-columns.ensures.all (sym c.as_slice-columns.ensures.value ∙ c.in_default.ensures.none) (get_or c.args.self.now.paths k d) (Contains-get_or c.args.self.now.paths k d l)
+    let path : Path (Option ℕ) = get_or c.args.self.now.paths k d in
+    no_most c.self.inside.faults c.self.inside.root (sym c.most.ensures ∙ c.in_default.is) path
+    (subst (λ (t : TreeState (Option ℕ)). Contains t.paths path) (sym c.self.view_is) (Contains-get_or c.args.self.now.paths k d l))
+
+pub listed_greatest-requires-clause-known : goal.listed_greatest-requires-clause-known
+listed_greatest-requires-clause-known c =
+    let g = c.args.problem.now in
+    known_from g c.in_ok-peaks.peaks.paths (c.in_ok-peaks.ensures.pass (is_variable g) (known_passes g c.args.self.now.paths c.requires.known))
+
+pub unreachable-requires : goal.unreachable-requires
+unreachable-requires c =
+    let g = c.args.problem.now in
+    let root : Node (Option ℕ) = c.self.inside.root in
+    let all : TreeState (Option ℕ) = c.args.self.now in
+    let same : c.self.inside.faults ≡ g.faults = ap (λ (t : TreeState (Option ℕ)). t.faults) c.self.view_is ∙ c.requires.faults in
+    let is : record { faults = g.faults; paths = paths_of g.faults root } ≡ all = subst (λ (n : ℕ). record { faults = n; paths = paths_of n root } ≡ all) same c.self.view_is in
+    some_alone g root (subst (λ (n : ℕ). IsGood n root) same c.self.invariant.0) c.in-Some.most (sym c.most.ensures ∙ c.in-Some.is) all c.in_ok-peaks.peaks is
+    (subst (λ (n : ℕ). HasOnePathEach n c.in_ok-peaks.peaks.paths) (c.in_ok-peaks.ensures.is.faults ∙ c.requires.faults) c.in_ok-peaks.ensures.each) c.in_ok-peaks.ensures.is
+    c.processes-processes.ensures.within.few_processes
+    (subst (λ (t : TreeState (Option ℕ)). All (λ (p : Path (Option ℕ)). IsKnown g p.0) t.paths) (sym is) c.requires.known)
+    (rw c.in-None.is at c.in_ok-greatest.ensures.none)
 
 pub returns-clause-some : goal.returns-clause-some
 returns-clause-some c =
     let g = c.args.problem.now in
     let order = c.args.order.now in
-    let paths : List (Path (Option ℕ)) = c.args.self.now.paths in
-    let columns : List (ℕ × List Literal) = c.as_slice-columns.result.now in
-    let at : ℕ = c.in-Some.place in
-    let greatest : IsFirstGreatest (length columns) columns at = c.in-Some.ensures.some in
-    let column : ℕ × List Literal = get_or columns at c.index-columns-place.result in
-    let same = sym c.as_slice-columns.ensures.value in
-    let few = c.processes-processes.ensures.within.few_processes in
-    let all : IsPermutation (columns_of_paths paths) columns = subst (IsPermutation (columns_of_paths paths)) same c.in_ok-columns.ensures.all in
-    let tidy : All (IsTidyColumn g) columns = subst (All (IsTidyColumn g)) same c.in_ok-columns.ensures.tidy in
-    let sorted : AreByLows (λ (c : ℕ × List Literal). c.1) g order columns = subst (AreByLows (λ (c : ℕ × List Literal). c.1) g order) same c.in_ok-columns.ensures.by_lows in
-    let is : get_or columns at column ≡ column = get_or_default columns at column c.index-columns-place.result greatest.there in
-    let least : Some c.in-Some-2.least ≡ Some (lows g column.1) = sym c.in-Some-2.is ∙ c.in_ok-least.ensures.exact
-    ∙ ap (λ (d : ℕ × List Literal). cond (is_met g.faults d.1) (Some (lows g d.1)) None) (get_or_default columns at c.index-columns-place-2.result c.index-columns-place.result greatest.there)
-    ∙ cond-true _ _ _ (column_met paths columns all g few order c.requires.order tidy sorted at greatest column is) in
-    subst (IsGreatestOf g order paths column.0) (sym (ap (λ (o : Option Scenario). unwrap_or o c.in-Some-2.least) least))
-    (greatest_of_columns paths columns all g few order c.requires.order tidy sorted at greatest column is)
+    let root : Node (Option ℕ) = c.self.inside.root in
+    let all : TreeState (Option ℕ) = c.args.self.now in
+    let same : c.self.inside.faults ≡ g.faults = ap (λ (t : TreeState (Option ℕ)). t.faults) c.self.view_is ∙ c.requires.faults in
+    let is : record { faults = g.faults; paths = paths_of g.faults root } ≡ all = subst (λ (n : ℕ). record { faults = n; paths = paths_of n root } ≡ all) same c.self.view_is in
+    greatest_alone g root (subst (λ (n : ℕ). IsGood n root) same c.self.invariant.0) c.in-Some.most (sym c.most.ensures ∙ c.in-Some.is) all c.in_ok-peaks.peaks is
+    (subst (λ (n : ℕ). HasOnePathEach n c.in_ok-peaks.peaks.paths) (c.in_ok-peaks.ensures.is.faults ∙ c.requires.faults) c.in_ok-peaks.ensures.each) c.in_ok-peaks.ensures.is
+    order c.in-Some-2.greatest.0 c.in-Some-2.greatest.1 (rw c.in-Some-2.is at c.in_ok-greatest.ensures.some)

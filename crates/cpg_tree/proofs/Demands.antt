@@ -1,0 +1,62 @@
+-- No more faults are asked for than a scenario has.
+use Rattle.std.proofs.Common.{arith, ℕ, ◌+◌, ◌-◌, ◌<◌, ◌≤◌, ◌≡◌, ◌≢◌, ◌==◌, true, cond, List, [], ◌∷◌, Contains, sum_by, drop, nat_lt, get_or, length, ◌∙◌, refl, sym, ap, subst, inl, inr, lt-ltb, le-ltb, eq-eqb, ne_eqb}
+use Rattle.std.proofs.lemmas.Bool.{cases_lt, cond-true, cond-false}
+use Rattle.std.proofs.lemmas.List.Sums.{sum_by-cons, sum_by-take-drop, sum_by-drop_more}
+use Rattle.cpg_base.specs.Numbers.{numbers_below}
+use Rattle.cpg_base.proofs.Lists.{Contains-first, Contains-rest, from_all}
+use Rattle.cpg_base.proofs.Sums.{sum_changed}
+use Rattle.cpg_order.specs.Scenario.{Scenario}
+use Rattle.cpg_cube.specs.declared.literal.Literal.{Literal}
+use Rattle.cpg_cube.specs.Cube.{IsRising, holds, matches}
+use Rattle.cpg_cube.proofs.CubeLows.{holds-low}
+use Rattle.cpg_cube.proofs.Ranges.{rising_rest, rising_first}
+use Rattle.cpg_tree.specs.Space.{Space, Lies, beyond, faults_of, more_asked}
+use Rattle.cpg_tree.proofs.Spaces.{count_is}
+
+-- the numbers of a function but for one
+abbrev without : ℕ → (ℕ → ℕ) → ℕ → ℕ
+without v f u = cond (u == v) 0 (f u)
+
+without_here : (v : ℕ) (f : ℕ → ℕ) → without v f v ≡ 0
+without_here v f = cond-true (v == v) 0 (f v) (eq-eqb v v refl)
+
+without_other : (v u : ℕ) (f : ℕ → ℕ) → u ≢ v → without v f u ≡ f u
+without_other v u f n = cond-false (u == v) 0 (f u) (ne_eqb u v n)
+
+module _ (room : Space) where
+  -- what a literal asks for is at most a number of its variable
+  demands_le : (f : ℕ → ℕ) (ls : List Literal) → IsRising ls → ((l : Literal) → Contains ls l → l.variable < 128 → more_asked room l ≤ f l.variable) → sum_by (more_asked room) ls ≤ sum_by f (numbers_below 128)
+  demands_le f [] rising each = omega arith
+  demands_le f (l ∷ ls) rising each = elim (cases_lt l.variable 128) [
+    | inl few ↦
+        let rest = demands_le (without l.variable f) ls (rising_rest l ls rising) (λ m c h.
+        subst (λ n. more_asked room m ≤ n) (sym (without_other l.variable m.variable f (λ e. omega (arith, e, rising_first l m ls rising c)))) (each m (Contains-rest l ls m c) h)) in
+        let changed = sum_changed (without l.variable f) f 128 l.variable few (λ u n. without_other l.variable u f n) in
+        omega (arith, rest, changed, without_here l.variable f, each l (Contains-first l ls) few, sum_by-cons (more_asked room) l ls)
+    | inr many ↦
+        let rest = demands_le f ls (rising_rest l ls rising) (λ m c h. each m (Contains-rest l ls m c) h) in
+        omega (arith, rest, cond-false (nat_lt l.variable 128) (l.low - get_or room.low l.variable 0) 0 (le-ltb l.variable 128 many), sum_by-cons (more_asked room) l ls)
+  ]
+
+  module _ (s : Scenario) (lies : Lies room s) (ls : List Literal) (rising : IsRising ls) (all : matches ls s ≡ true) where
+    beyond_le : (l : Literal) → Contains ls l → l.variable < 128 → more_asked room l ≤ beyond room s l.variable
+    beyond_le l c few =
+        let low = holds-low s l (from_all (holds s) ls l all c) in
+        omega (arith, low, count_is s l.variable few, cond-true (nat_lt l.variable 128) (l.low - get_or room.low l.variable 0) 0 (lt-ltb l.variable 128 few))
+
+    pub demands_left : (from : ℕ) → sum_by (more_asked room) (drop from ls) ≤ room.left
+    demands_left from =
+        let all_of = demands_le (beyond room s) ls rising beyond_le in
+        omega (arith, all_of, lies.left, sum_by-take-drop (more_asked room) ls from)
+
+  -- the next literal's demand, and the rest
+  module _ (ls : List Literal) (at : ℕ) (d : Literal) (there : at < length ls) (left low more : ℕ) (low_is : low ≡ (get_or ls at d).low - get_or room.low (get_or ls at d).variable 0)
+      (more_is : more ≡ faults_of (get_or ls at d).variable low) (most : sum_by (more_asked room) (drop at ls) ≤ left) where
+    this_one : more ≡ more_asked room (get_or ls at d)
+    this_one = more_is ∙ ap (faults_of (get_or ls at d).variable) low_is
+
+    pub demand_fits : more ≤ left
+    demand_fits = omega (arith, this_one, sum_by-drop_more (more_asked room) ls at d there, most)
+
+    pub demand_rest : sum_by (more_asked room) (drop (at + 1) ls) ≤ left - more
+    demand_rest = omega (arith, this_one, sum_by-drop_more (more_asked room) ls at d there, most)

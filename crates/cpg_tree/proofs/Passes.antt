@@ -1,0 +1,36 @@
+-- What passes on the sides of a fork passes on the fork.
+use Rattle.std.proofs.Common.{ℕ, ◌≤◌, ◌<◌, ◌≡◌, Bool, true, false, sym, subst, inl, inr, Box, Global}
+use Rattle.std.specs.Bool.{OnFalse, OnTrue}
+use Rattle.std.proofs.lemmas.Bool.{cases_lt}
+use Rattle.cpg_order.specs.Scenario.{Scenario, number_of}
+use Rattle.cpg_tree.specs.declared.node.Node.{Node, Fork'}
+use Rattle.cpg_tree.specs.Space.{Space, Lies}
+use Rattle.cpg_tree.specs.Decision.{value_at}
+use Rattle.cpg_tree.specs.Places.{IsToldAll}
+use Rattle.cpg_tree.proofs.Forks.{value_below, value_above}
+
+-- what a test tells, and more
+pub of_true : {P Q : Type 0} (b : Bool) → OnTrue b P → (P → Q) → OnTrue b Q
+of_true true h f = f h
+of_true false h f = cc
+
+pub of_false : {P Q : Type 0} (b : Bool) → OnFalse b P → (P → Q) → OnFalse b Q
+of_false true h f = cc
+of_false false h f = f h
+
+module _ {T : Type 0} (fact : T → Scenario → Type 0) (room : Space) (v cut : ℕ) (below above n : Node T) {p q : Box (Unit {0}) Global} (is : n ≡ Fork' v cut p below q above) where
+  from_side : (s : Scenario) (x y : T) → y ≡ x → fact x s → fact y s
+  from_side s x y e h = subst (λ (z : T). fact z s) (sym e) h
+
+  pub told_above : IsToldAll fact room above → ((s : Scenario) → Lies room s → cut < number_of s v) → IsToldAll fact room n
+  told_above all only = subst (λ (m : Node T). IsToldAll fact room m) (sym is) (λ s lies. from_side s (value_at above s) (value_at (Fork' v cut p below q above) s) (value_above v cut p below q above s (only s lies)) (all s lies))
+
+  pub told_below : IsToldAll fact room below → ((s : Scenario) → Lies room s → number_of s v ≤ cut) → IsToldAll fact room n
+  told_below all only = subst (λ (m : Node T). IsToldAll fact room m) (sym is) (λ s lies. from_side s (value_at below s) (value_at (Fork' v cut p below q above) s) (value_below v cut p below q above s (only s lies)) (all s lies))
+
+  pub told_fork : (one two : Space) → IsToldAll fact one below → IsToldAll fact two above →
+      ((s : Scenario) → Lies room s → number_of s v ≤ cut → Lies one s) → ((s : Scenario) → Lies room s → cut < number_of s v → Lies two s) → IsToldAll fact room n
+  told_fork one two of_one of_two goes_one goes_two = subst (λ (m : Node T). IsToldAll fact room m) (sym is) (λ s lies. elim (cases_lt cut (number_of s v)) [
+    | inl h ↦ from_side s (value_at above s) (value_at (Fork' v cut p below q above) s) (value_above v cut p below q above s h) (of_two s (goes_two s lies h))
+    | inr h ↦ from_side s (value_at below s) (value_at (Fork' v cut p below q above) s) (value_below v cut p below q above s h) (of_one s (goes_one s lies h))
+  ])

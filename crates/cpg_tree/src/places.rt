@@ -1,0 +1,373 @@
+//! The tree of the places of cubes of which no scenario matches two.
+ghost use Rattle.std.specs.Prelude.{◌≡◌, ◌≤◌, ◌++◌, ℕ, Contains, IfOk, IfSome, OnOk, false, length, map, true};
+ghost use Rattle.std.specs.Bool.{OnFalse, OnTrue};
+ghost use Rattle.cpg_order.specs.Scenario.{Scenario};
+ghost use Rattle.cpg_cube.specs.Cube.{IsRising, matches};
+ghost use Rattle.cpg_tree.specs.Space.{Lies, HasFew};
+ghost use Rattle.cpg_tree.specs.Places.{IsAmong, IsMatched, place_at, tells_cube};
+ghost use Rattle.cpg_tree.specs.Spots.{IsSaidBy, IsTop, IsKept, IsSorted, KeepsMatches, AreOpen, places_of};
+
+use crate::node::Node;
+use crate::space::Space;
+use crate::walk::Test;
+use cpg_base::{FIRST_VALUE, OutOfMemory};
+use cpg_cube::{Cube, Literal};
+use std::alloc::Global;
+
+/// A tree has no more nodes than so many for each cube, and `FEW` besides.
+const EACH: u32 = 6;
+/// How many nodes a tree of few cubes may have.
+const FEW: u32 = 64;
+
+/// A place, and how many of its cube's first literals hold in the whole space where it stands: a hint where to look, that
+/// no clause speaks of.
+#[derive(Clone, Copy)]
+struct Spot {
+    place: u32,
+    held: u32,
+}
+
+/// A fork by whether a variable is at most a number.
+#[derive(Clone, Copy)]
+struct Cut {
+    variable: u8,
+    most: u8,
+}
+
+/// What stands at the top of the tree of some places.
+#[derive(Clone, Copy)]
+enum Top {
+    Leaf(Option<u32>),
+    Fork(Cut),
+    /// Two cubes may match together.
+    Unknown,
+}
+
+/// The places that go to each side of a fork.
+#[derive(Drop)]
+struct Sides {
+    low: Vec<Spot>,
+    high: Vec<Spot>,
+}
+
+/// A tree, and how many more nodes there may be.
+#[derive(Drop)]
+struct Sorted {
+    node: Node<Option<u32>>,
+    left: u32,
+}
+
+/// The literal on a count, if there is one from a place on.
+fn literal_on_count(literals: &[Literal], from: usize, variable: u8) -> Option<Literal>
+    ensures { IfSome result (IsSaidBy literals.now) }
+{
+    for at in from..literals.len() {
+        if literals[at].variable == variable {
+            return Some(literals[at]);
+        }
+        if literals[at].variable > variable {
+            return None;
+        }
+    }
+    None
+}
+
+/// The literal on a value, if there is one: these are the last.
+fn literal_on_value(literals: &[Literal], variable: u8) -> Option<Literal>
+    ensures { IfSome result (IsSaidBy literals.now) }
+{
+    for later in 0..literals.len() {
+        let at = literals.len() - 1 - later;
+        if literals[at].variable == variable {
+            return Some(literals[at]);
+        }
+        if literals[at].variable < variable {
+            return None;
+        }
+    }
+    None
+}
+
+/// The literal on a variable, if there is one from a place on.
+fn literal_on(literals: &[Literal], from: usize, variable: u8) -> Option<Literal>
+    ensures { IfSome result (IsSaidBy literals.now) }
+{
+    if variable < FIRST_VALUE {
+        literal_on_count(literals, from, variable)
+    } else {
+        literal_on_value(literals, variable)
+    }
+}
+
+/// The first value from the last on that literals leave open, if there is one.
+fn open_value(space: &Space, literals: &[Literal]) -> Option<Literal> {
+    for later in 0..literals.len() {
+        let literal = literals[literals.len() - 1 - later];
+        if literal.variable < FIRST_VALUE {
+            return None;
+        }
+        if !space.tells(&literal) {
+            return Some(literal);
+        }
+    }
+    None
+}
+
+/// A literal that doesn't hold in the whole space, a value if there is one, or else the first that may be one.
+fn open_literal(space: &Space, literals: &[Literal], held: usize) -> Option<Literal> {
+    let value = open_value(space, literals);
+    if value.is_some() {
+        return value;
+    }
+    literals.get(held).copied()
+}
+
+/// How many literals hold in the whole space, those before a place being known to, up to the first that doesn't.
+fn held_on(space: &Space, literals: &[Literal], held: u32) -> u32 {
+    let mut known = held;
+    for at in held as usize..literals.len() {
+        if !space.tells(&literals[at]) {
+            return known;
+        }
+        known = known.saturating_add(1);
+    }
+    known
+}
+
+/// Whether some scenario of a space may match literals, by the one on this variable, and by the faults if there are fewer left.
+fn may_match(
+    space: &Space,
+    literals: &[Literal],
+    held: usize,
+    variable: u8,
+    has_fewer: bool,
+) -> bool
+    requires { IsRising literals.now }
+    ensures { OnFalse result ((s : Scenario) → Lies space.now s → matches literals.now s ≡ false) }
+{
+    if let Some(literal) = literal_on(literals, held, variable) {
+        if !space.meets(&literal) {
+            return false;
+        }
+    }
+    if !has_fewer {
+        return true;
+    }
+    space.affords(literals, held)
+}
+
+/// Adds a place as it stands in a space, a part of the space where it stood, unless no scenario of it matches the cube.
+fn keep(
+    spots: &mut Vec<Spot>,
+    space: &Space,
+    cubes: &[&Cube],
+    spot: Spot,
+    variable: u8,
+    has_fewer: bool,
+) -> Result<(), OutOfMemory>
+    ensures { OnOk result (IsKept (map (λ b. b.now) cubes.now) space.now spot.place spots.old.items spots.new.items) }
+{
+    let Some(cube) = cubes.get(spot.place as usize) else {
+        return Ok(());
+    };
+    let literals = cube.literals();
+    if !may_match(space, literals, spot.held as usize, variable, has_fewer) {
+        return Ok(());
+    }
+    spots.push(Spot {
+        place: spot.place,
+        held: held_on(space, literals, spot.held),
+    })?;
+    Ok(())
+}
+
+/// The places whose cubes some scenario of each side's space may match.
+fn parted(
+    alloc: Global,
+    under: &Space,
+    over: &Space,
+    cubes: &[&Cube],
+    spots: Vec<Spot>,
+    variable: u8,
+) -> Result<Sides, OutOfMemory>
+    ensures low { IfOk result (λ r. KeepsMatches (map (λ b. b.now) cubes.now) under.now (places_of spots.items) (places_of r.low.items)) }
+    ensures high { IfOk result (λ r. KeepsMatches (map (λ b. b.now) cubes.now) over.now (places_of spots.items) (places_of r.high.items)) }
+{
+    let mut low = Vec::new(alloc);
+    let mut high = Vec::new(alloc);
+    let has_fewer = variable < FIRST_VALUE;
+    for spot in spots.as_slice() {
+        keep(&mut low, under, cubes, *spot, variable, false)?;
+        keep(&mut high, over, cubes, *spot, variable, has_fewer)?;
+    }
+    Ok(Sides { low, high })
+}
+
+/// Where a literal parts a space, if it does.
+fn cut_of(space: &Space, literal: Literal) -> Option<Cut>
+    ensures { IfSome result (λ r. AreOpen space.now r.variable r.most) }
+{
+    let most = if literal.low > space.least(literal.variable) {
+        literal.low - 1
+    } else {
+        literal.high
+    };
+    if !space.is_open_below(literal.variable, most) {
+        return None;
+    }
+    if !space.is_open_above(literal.variable, most) {
+        return None;
+    }
+    Some(Cut {
+        variable: literal.variable,
+        most,
+    })
+}
+
+/// Whether literals hold in the whole space.
+fn do_hold(space: &Space, literals: &[Literal]) -> bool
+    ensures { OnTrue result ((s : Scenario) → Lies space.now s → matches literals.now s ≡ true) }
+{
+    for literal in literals {
+        if !space.tells(literal) {
+            return false;
+        }
+    }
+    true
+}
+
+/// The top of the tree of some places for the scenarios of a space.
+fn top_of(space: &Space, cubes: &[&Cube], spots: &[Spot]) -> Top
+    ensures { IsTop (map (λ b. b.now) cubes.now) space.now (places_of spots.now) result }
+{
+    let Some((first, rest)) = spots.split_first() else {
+        return Top::Leaf(None);
+    };
+    let Some(cube) = cubes.get(first.place as usize) else {
+        return Top::Unknown;
+    };
+    let literals = cube.literals();
+    if let Some(literal) = open_literal(space, literals, first.held as usize) {
+        return match cut_of(space, literal) {
+            Some(cut) => Top::Fork(cut),
+            None => Top::Unknown,
+        };
+    }
+    if !rest.is_empty() {
+        return Top::Unknown;
+    }
+    if !do_hold(space, literals) {
+        return Top::Unknown;
+    }
+    Top::Leaf(Some(first.place))
+}
+
+/// The tree of places that a fork parts.
+#[cycle(sorted)]
+fn forked(
+    alloc: Global,
+    space: &Space,
+    cubes: &[&Cube],
+    spots: Vec<Spot>,
+    cut: Cut,
+    left: u32,
+) -> Result<Option<Sorted>, OutOfMemory>
+    requires { AreOpen space.now cut.variable cut.most }
+    ensures { IfOk result (λ r. IfSome r (IsSorted (map (λ b. b.now) cubes.now) space.now (places_of spots.items) left)) }
+{
+    let under = space.below(cut.variable, cut.most);
+    let over = space.above(cut.variable, cut.most);
+    let sides = parted(alloc, &under, &over, cubes, spots, cut.variable)?;
+    let Some(below) = sorted_out(alloc, &under, cubes, sides.low, left)? else {
+        return Ok(None);
+    };
+    let Some(above) = sorted_out(alloc, &over, cubes, sides.high, below.left)? else {
+        return Ok(None);
+    };
+    let node = Node::fork_of(alloc, cut.variable, cut.most, below.node, above.node)?;
+    Ok(Some(Sorted {
+        node,
+        left: above.left,
+    }))
+}
+
+/// The tree of these places for the scenarios of a space, with at most so many nodes; `None` where two cubes may match
+/// together, or where there would be more nodes.
+#[cycle(sorted)]
+fn sorted_out(
+    alloc: Global,
+    space: &Space,
+    cubes: &[&Cube],
+    spots: Vec<Spot>,
+    left: u32,
+) -> Result<Option<Sorted>, OutOfMemory>
+    ensures { IfOk result (λ r. IfSome r (IsSorted (map (λ b. b.now) cubes.now) space.now (places_of spots.items) left)) }
+{
+    if left == 0 {
+        return Ok(None);
+    }
+    match top_of(space, cubes, spots.as_slice()) {
+        Top::Unknown => Ok(None),
+        Top::Leaf(place) => Ok(Some(Sorted {
+            node: Node::Leaf(place),
+            left: left - 1,
+        })),
+        Top::Fork(cut) => forked(alloc, space, cubes, spots, cut, left - 1),
+    }
+}
+
+/// The places whose cubes some scenario of a space may match.
+fn spots_of(alloc: Global, space: &Space, cubes: &[&Cube]) -> Result<Vec<Spot>, OutOfMemory>
+    requires { length cubes.now ≤ 524288 }
+    ensures { IfOk result (λ r. (s : Scenario) (i : ℕ) → Lies space.now s → IsMatched (map (λ b. b.now) cubes.now) s i → Contains (places_of r.items) i) }
+{
+    let mut spots = Vec::new(alloc);
+    for place in 0..cubes.len() as u32 {
+        keep(&mut spots, space, cubes, Spot { place, held: 0 }, 0, true)?;
+    }
+    Ok(spots)
+}
+
+/// For each scenario the place of the one cube that it matches, if it matches one.
+#[derive(Drop)]
+pub struct Places {
+    root: Node<Option<u32>>,
+}
+
+impl Places {
+    /// The places of cubes in the scenarios of at most `k` faults. `None` says nothing: two cubes may match together, or the
+    /// tree would be too large.
+    pub fn of(alloc: Global, k: u8, cubes: &[&Cube]) -> Result<Option<Places>, OutOfMemory>
+        requires { length cubes.now ≤ 524288 }
+        ensures { IfOk result (λ r. IfSome r (λ t. (s : Scenario) → HasFew k s → tells_cube (map (λ b. b.now) cubes.now) (place_at t s) s)) }
+    {
+        let space = Space::whole(k);
+        let spots = spots_of(alloc, &space, cubes)?;
+        let nodes = cubes.len() as u32 * EACH + FEW;
+        let Some(sorted) = sorted_out(alloc, &space, cubes, spots, nodes)? else {
+            return Ok(None);
+        };
+        Ok(Some(Places { root: sorted.node }))
+    }
+
+    /// Whether a test passes at each place that scenarios of a space come to.
+    pub fn do_pass<J: Test>(&self, space: &Space, test: &J) -> bool
+        ensures { OnTrue result ((s : Scenario) → Lies space.now s → J.tells test.now (place_at self.now s) s) }
+    {
+        self.root.do_pass(space, test)
+    }
+
+    /// Adds the places that scenarios of a space come to, as long as there is one and a test passes at each; false where it
+    /// stopped before the last.
+    pub fn gather<J: Test>(
+        &self,
+        space: &Space,
+        test: &J,
+        found: &mut Vec<u32>,
+    ) -> Result<bool, OutOfMemory>
+        ensures { IfOk result (λ all. OnTrue all ((s : Scenario) → Lies space.now s → J.tells test.now (place_at self.now s) s × IsAmong found.new.items (place_at self.now s))) }
+    {
+        let all = self.root.gather(space, test, found)?;
+        Ok(all)
+    }
+}
