@@ -1,5 +1,5 @@
 -- What builders answer under both orders is a compilation where nothing is late, and else shows what is.
-use Rattle.std.proofs.Common.{◌≡◌, ◌+◌, ◌-◌, ◌<◌, ◌≤◌, ◌∙◌, ℕ, zero, suc, false, List, [], ◌∷◌, Option, Some, None, Contains, unwrap_or, option_to_list, flat_map, length, get_or, refl, sym, ap, subst, inl, inr, arith}
+use Rattle.std.proofs.Common.{◌≡◌, ◌+◌, ◌-◌, ◌<◌, ◌≤◌, ◌∙◌, ℕ, zero, suc, List, [], ◌∷◌, Option, Some, None, Contains, unwrap_or, option_to_list, flat_map, length, get_or, refl, sym, ap, subst, inl, inr, arith}
 use Rattle.std.proofs.lemmas.Bool.{cases_eq, cases_lt}
 use Rattle.std.proofs.lemmas.List.{get_or_past}
 use Rattle.std.proofs.lemmas.List.Elements.{Contains-append_left, Contains-append_right}
@@ -10,13 +10,15 @@ use Rattle.cpg_base.specs.Duration.{due}
 use Rattle.cpg_base.proofs.Lists.{greatest_above, Contains-first}
 use Rattle.cpg_table.specs.Valid.{IsValid}
 use Rattle.cpg_table.specs.declared.rule.Rule.{Rule}
-use Rattle.cpg_base.specs.WellFormed.{WellFormed}
-use Rattle.cpg_order.specs.Urgency.{IsTopological}
+use Rattle.cpg_base.specs.WellFormed.{WellFormed, HasSingleJoins}
+use Rattle.cpg_order.specs.Urgency.{IsTopological, IsUrgencyOrder}
 use Rattle.cpg_reach.specs.Wide.{IsNarrow}
+use Rattle.cpg_tracks.specs.Tracks.{HasTrackOrder}
 use Rattle.cpg_core.specs.declared.compiling.Compiled.{Compiled}
-use Rattle.cpg_core.specs.Compiled.{IsMeasured, IsLateUnder, IsInTimeUnder, IsBetter, IsHelpless}
-use Rattle.cpg_core.specs.Compilation.{IsCompilation, IsTracked, HasNoTables, IsPreferredTo, HasNoBetter}
+use Rattle.cpg_core.specs.Compiled.{IsCompileOrder, IsMeasured, IsLateUnder, IsInTimeUnder, IsBetter, IsHelpless}
+use Rattle.cpg_core.specs.Compilation.{IsCompilation, HasNoTables, IsPreferredTo, HasNoBetter}
 use Rattle.cpg_core.proofs.CompiledLaws.{not_preferred_many, not_preferred_wide, not_preferred_worse, preferred}
+use Rattle.cpg_core.proofs.Local.{know_locally}
 use Rattle.cpg_run.specs.declared.built.Built.{Built}
 use Rattle.cpg_run.specs.Built.{IsBuiltFor}
 use Rattle.cpg_run.specs.Laws.{Keeps}
@@ -126,22 +128,32 @@ module _ (g : Graph) (w : WellFormed g) (urgency : List ℕ) (top : IsTopologica
     }
   ]
 
-  -- nor where they are no better
-  pub no_better : (c : Compiled) → IsTracked g urgency c → (IsBetter c.built.excess c.built.worst urgent.excess urgent.worst → ⊥) → HasNoBetter g urgency urgent
-  no_better c h worse = record {
-    none = not_preferred_worse g w urgency top narrow urgent.excess urgent.worst (measured g urgency urgency urgent is) c.order h.track h.narrow c.built.excess c.built.worst (measured g urgency c.order c.built h.built) worse;
+  -- nor where its measures are no better
+  pub no_better : (order : List ℕ) → HasTrackOrder g order → IsNarrow g order → (excess worst : ℕ) → IsMeasured g urgency order excess worst → (IsBetter excess worst urgent.excess urgent.worst → ⊥) → HasNoBetter g urgency urgent
+  no_better order track own_narrow excess worst own worse = record {
+    none = not_preferred_worse g w urgency top narrow urgent.excess urgent.worst (measured g urgency urgency urgent is) order track own_narrow excess worst own worse;
     late = elim (cases_eq urgent.excess 0) [
       | inl e ↦ inr e
       | inr some ↦ inl (inr (
-        c.order,
-        h.track,
-        inr (late_under g urgency c.order c.built h.built (elim (cases_lt c.built.excess urgent.excess) [
-          | inl less ↦ absurd (worse (inl less))
-          | inr more ↦ omega (arith, some)
-        ])),
+        order,
+        track,
+        inr (
+          excess,
+          worst,
+          own,
+          elim (cases_lt excess urgent.excess) [
+            | inl less ↦ absurd (worse (inl less))
+            | inr more ↦ omega (arith, some)
+          ],
+        ),
       ))
     ];
   }
+
+  -- nor where the track order is the urgency order
+  pub same_order : (order : List ℕ) → HasTrackOrder g order → order ≡ urgency → HasNoBetter g urgency urgent
+  same_order order track same = no_better urgency (subst (HasTrackOrder g) same track) narrow urgent.excess urgent.worst (measured g urgency urgency urgent is)
+      (λ better. elim better [ inl less ↦ omega (arith, less) | inr earlier ↦ omega (arith, earlier.1) ])
 
   -- where the better ones are late, so are the others, and nothing helps
   pub late_too : (c : Compiled) → IsPreferredTo g urgency urgent c → 0 < c.built.excess → (0 < urgent.excess) × IsHelpless g urgency
@@ -150,22 +162,21 @@ module _ (g : Graph) (w : WellFormed g) (urgency : List ℕ) (top : IsTopologica
     inr (c.order, h.tracked.track, inr (late_under g urgency c.order c.built h.tracked.built l)),
   )
 
-  pub compiled_by_tracks : (c : Compiled) → IsPreferredTo g urgency urgent c → c.built.excess ≡ 0 → IsCompilation g urgency c
-  compiled_by_tracks c h e = record {
-    compiled = record {
-      narrow = narrow;
-      taken = inl (preferred g w urgency top narrow urgent.excess urgent.worst (measured g urgency urgency urgent is) c.order h.tracked.track h.tracked.narrow c.built.excess c.built.worst (measured g urgency c.order c.built h.tracked.built) h.better);
-      in_time = in_time_under g urgency c.order c.built h.tracked.built e;
-    };
-    built = h.tracked.built;
-    in_time = e;
-    valid = built_valid g urgency c.order c.built h.tracked.built e;
-  }
+  -- nothing is late
+  module _ (joins : HasSingleJoins g) (by : IsUrgencyOrder g urgency) where
+    compilation : (order : List ℕ) → IsCompileOrder g urgency order → (b : Built) → IsBuiltFor g urgency order b → b.excess ≡ 0 → IsCompilation g urgency (record { built = b; order = order })
+    compilation order taken b built e = record {
+      compiled = record { narrow = narrow; taken = taken; in_time = in_time_under g urgency order b built e };
+      built = built;
+      in_time = e;
+      valid = built_valid g urgency order b built e;
+      local = know_locally g w joins urgency by top order taken b built;
+    }
 
-  pub compiled_by_urgency : HasNoBetter g urgency urgent → urgent.excess ≡ 0 → (order : List ℕ) → order ≡ urgency → IsCompilation g urgency (record { built = urgent; order = order })
-  compiled_by_urgency h e order same = subst (λ o. IsCompilation g urgency (record { built = urgent; order = o })) (sym same) (record {
-    compiled = record { narrow = narrow; taken = inr (refl, h.none); in_time = in_time_under g urgency urgency urgent is e };
-    built = is;
-    in_time = e;
-    valid = built_valid g urgency urgency urgent is e;
-  })
+    pub compiled_by_tracks : (c : Compiled) → IsPreferredTo g urgency urgent c → c.built.excess ≡ 0 → IsCompilation g urgency c
+    compiled_by_tracks c h e = compilation c.order
+        (inl (preferred g w urgency top narrow urgent.excess urgent.worst (measured g urgency urgency urgent is) c.order h.tracked.track h.tracked.narrow c.built.excess c.built.worst (measured g urgency c.order c.built h.tracked.built) h.better))
+        c.built h.tracked.built e
+
+    pub compiled_by_urgency : HasNoBetter g urgency urgent → urgent.excess ≡ 0 → (order : List ℕ) → order ≡ urgency → IsCompilation g urgency (record { built = urgent; order = order })
+    compiled_by_urgency h e order same = subst (λ o. IsCompilation g urgency (record { built = urgent; order = o })) (sym same) (compilation urgency (inr (refl, h.none)) urgent is e)

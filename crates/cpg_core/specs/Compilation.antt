@@ -4,6 +4,7 @@ use Rattle.cpg_base.specs.Graph.{Graph}
 use Rattle.cpg_table.specs.Valid.{IsValid}
 use Rattle.cpg_run.specs.declared.built.Built.{Built}
 use Rattle.cpg_run.specs.Built.{IsBuiltFor}
+use Rattle.cpg_run.specs.Knowledge.{KnowLocally}
 use Rattle.cpg_core.specs.declared.compiling.Compiled.{Compiled}
 use Rattle.cpg_core.specs.declared.fault.CompileFault.{CompileFault}
 use Rattle.cpg_core.specs.declared.fault.CompileFault.TheVariants.{TooWide, Late, OutOfMemory}
@@ -12,12 +13,13 @@ use Rattle.cpg_tracks.specs.Tracks.{HasTrackOrder, HasManyTracks}
 use Rattle.cpg_core.specs.Compiled.{IsCompiled, IsLate, IsShownLate, IsBetter, IsPreferred, IsHelpless}
 
 -- the tables of the compile's order: exact, valid by all ten rules, with their greatest finish; nothing is too wide under
--- the urgency order, and nothing late
+-- the urgency order, and nothing late; and no node knows more than it has seen
 pub record IsCompilation (g : Graph) (urgency : List ℕ) (c : Compiled) : Type 0 where
   pub compiled : IsCompiled g urgency c.order
   pub built : IsBuiltFor g urgency c.order c.built
   pub in_time : c.built.excess ≡ 0
   pub valid : IsValid g c.built.tables.nodes
+  pub local : KnowLocally g c.built.tables.nodes
 
 -- what a fault shows: the first item that is too wide under the urgency order; or that the graph is late, and the scenario,
 -- the process and its end of the greatest excess under that order

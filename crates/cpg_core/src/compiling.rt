@@ -1,14 +1,16 @@
 //! From an admitted graph to its tables.
 ghost use Rattle.std.specs.Prelude.{◌≡◌, ◌≤◌, ◌<◌, ◌+◌, ◌↔◌, IfOk, IfErr, IfSome, IfNone, IsTrue, Some};
+ghost use Rattle.std.specs.Bool.{OnTrue};
 ghost use Rattle.cpg_order.specs.Urgency.{IsTopological};
 ghost use Rattle.cpg_reach.specs.Wide.{IsNarrow};
 ghost use Rattle.cpg_run.specs.Built.{IsBuiltFor};
-ghost use Rattle.cpg_core.specs.Compiled.{IsBetter, IsHelpless};
-ghost use Rattle.cpg_core.specs.Compilation.{IsCompilation, IsTracked, HasNoTables, IsPreferredTo, HasNoBetter, ShowsCompileFault};
+ghost use Rattle.cpg_tracks.specs.Tracks.{HasTrackOrder};
+ghost use Rattle.cpg_core.specs.Compiled.{IsHelpless};
+ghost use Rattle.cpg_core.specs.Compilation.{IsCompilation, IsPreferredTo, HasNoBetter, ShowsCompileFault};
 
 use crate::CompileFault;
 use cpg_base::{OutOfMemory, Problem};
-use cpg_expand::expand as build;
+use cpg_expand::{expand as build, expand_better};
 use cpg_merge::merged_order;
 use cpg_order::Order;
 use cpg_rules::Admitted;
@@ -59,29 +61,34 @@ fn late(problem: &Problem, order: &Order, built: Built) -> CompileFault
     }
 }
 
-/// The tables of the track order; `None` exactly where there is no track order, or an item is too wide under it.
-fn tracked(alloc: Global, admitted: &Admitted) -> Result<Option<Compiled>, OutOfMemory>
-    ensures tables { IfOk result (λ found. IfSome found (IsTracked admitted.now.graph admitted.now.order)) }
-    ensures none { IfOk result (λ found. IfNone found (HasNoTables admitted.now.graph)) }
+/// Whether two orders are equal.
+fn are_same(first: &Order, second: &Order) -> bool
+    ensures { OnTrue result (first.now ≡ second.now) }
 {
-    let Some(order) = merged_order(alloc, admitted)? else {
-        return Ok(None);
-    };
-    match build(alloc, admitted, &order) {
-        Ok(built) => Ok(Some(Compiled { built, order })),
+    first.processes() == second.processes()
+}
+
+/// The tables of a track order, where no item is too wide under it and they are better than those of the urgency order.
+fn better(
+    alloc: Global,
+    admitted: &Admitted,
+    order: Order,
+    urgent: &Built,
+) -> Result<Option<Compiled>, OutOfMemory>
+    requires track { HasTrackOrder admitted.now.graph order }
+    requires topological { IsTopological admitted.now.graph order }
+    requires built { IsBuiltFor admitted.now.graph admitted.now.order admitted.now.order urgent.now }
+    requires narrow { IsNarrow admitted.now.graph admitted.now.order }
+    ensures tables { IfOk result (λ found. IfSome found (IsPreferredTo admitted.now.graph admitted.now.order urgent.now)) }
+    ensures none { IfOk result (λ found. IfNone found (HasNoBetter admitted.now.graph admitted.now.order urgent.now)) }
+{
+    let _order = admitted.order();
+    match expand_better(alloc, admitted, &order, urgent.excess, urgent.worst) {
+        Ok(Some(built)) => Ok(Some(Compiled { built, order })),
+        Ok(None) => Ok(None),
         Err(BuildFault::TooWide(_)) => Ok(None),
         Err(BuildFault::OutOfMemory) => Err(OutOfMemory),
     }
-}
-
-/// Whether tables have a lesser greatest excess than others, or an equal one and a strictly lesser greatest finish.
-fn is_better(built: &Built, other: &Built) -> bool
-    ensures { IsTrue result ↔ IsBetter built.now.excess built.now.worst other.now.excess other.now.worst }
-{
-    if built.excess == other.excess {
-        return built.worst < other.worst;
-    }
-    built.excess < other.excess
 }
 
 /// The tables of the track order, where they are better than those of the urgency order.
@@ -95,19 +102,20 @@ fn preferred(
     ensures tables { IfOk result (λ found. IfSome found (IsPreferredTo admitted.now.graph admitted.now.order urgent.now)) }
     ensures none { IfOk result (λ found. IfNone found (HasNoBetter admitted.now.graph admitted.now.order urgent.now)) }
 {
-    let _order = admitted.order();
-    let Some(tracked) = tracked(alloc, admitted)? else {
+    let urgency = admitted.order();
+    let Some(order) = merged_order(alloc, admitted)? else {
         return Ok(None);
     };
-    if !is_better(&tracked.built, urgent) {
+    if are_same(&order, urgency) {
         return Ok(None);
     }
-    Ok(Some(tracked))
+    let found = better(alloc, admitted, order, urgent)?;
+    Ok(found)
 }
 
 /// The tables of a graph under the order that compiles it: the track order where it gives a lesser greatest excess than the
 /// urgency order, or an equal one and an earlier greatest finish, and else the urgency order. Under it every process ends by its
-/// due in every scenario.
+/// due in every scenario, and each node starts and sends the same wherever it has seen the same.
 pub fn compile(alloc: Global, admitted: &Admitted) -> Result<Compiled, CompileFault>
     ensures compiled { IfOk result (IsCompilation admitted.now.graph admitted.now.order) }
     ensures fault { IfErr result (ShowsCompileFault admitted.now.graph admitted.now.order) }

@@ -1,18 +1,18 @@
 -- What the trees of activity tell of items.
-use Rattle.std.proofs.Common.{ℕ, ◌<◌, ◌≤◌, ◌≡◌, ◌∙◌, Bool, true, List, ap, sym, subst}
-use Rattle.cpg_base.specs.Graph.{Graph, process_count, item_at, producer, producer_of_item}
+use Rattle.std.proofs.Common.{ℕ, ◌<◌, ◌≡◌, ◌∙◌, Bool, List, ap, sym, subst}
+use Rattle.cpg_base.specs.Graph.{Graph, process_count, producer, producer_of_item}
 use Rattle.cpg_base.specs.Activity.{active, is_active, item_active}
 use Rattle.cpg_base.proofs.Items.{item_at-start}
 use Rattle.cpg_order.specs.Guard.{Guard, outcome_at, way}
 use Rattle.cpg_order.specs.Scenario.{Scenario, IsScenario}
 use Rattle.cpg_guard.specs.Guards.{Guards, tree_of}
 use Rattle.cpg_rules.specs.Admission.{IsAdmitted}
-use Rattle.cpg_tree.specs.Tree.{Path, TreeState, IsOn}
+use Rattle.cpg_tree.specs.Tree.{TreeState}
 use Rattle.cpg_expand.specs.Active.{IsActivityOf}
 use Rattle.cpg_expand.specs.Agreeing.{Tells}
 use Rattle.cpg_expand.specs.Guarded.{IsActiveTree, values_known}
 use Rattle.cpg_expand.specs.Sending.{IsGoesTree}
-use Rattle.cpg_expand.proofs.AgreeingTrees.{scenario_few}
+use Rattle.cpg_tree.proofs.OnePath.{scenario_few}
 
 module _ (g : Graph) (order : List ℕ) (guards : Guards) (admitted : IsAdmitted g order guards) (guard : Guard) (p : ℕ) (l : p < process_count g) (is : guard ≡ tree_of guards p)
     (chooser : TreeState Bool) (chosen : IsActiveTree g.faults guard chooser) where

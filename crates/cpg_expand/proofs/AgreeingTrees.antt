@@ -1,15 +1,10 @@
 -- What the operations on trees make of trees that agree with what is carried.
-use Rattle.std.proofs.Common.{ℕ, zero, suc, ◌≤◌, ◌≡◌, max, min, Bool, true, false, if◌then◌else◌, List, [], ◌∷◌, ◌++◌, length, filter, get_or, sum, sum_by, ◌+◌, Contains, arith, refl, sym, subst, inl, inr}
+use Rattle.std.proofs.Common.{ℕ, ◌≤◌, ◌≡◌, max, min, Bool, true, false, if◌then◌else◌, List, [], ◌∷◌, ◌++◌, Contains, arith, refl, sym, subst, inl, inr}
 use Rattle.std.proofs.lemmas.List.Elements.{Contains-append_left, Contains-append_right}
 use Rattle.std.proofs.lemmas.Bool.{cases_eq}
-use Rattle.cpg_base.proofs.Lists.{Contains-first, Contains-filter_parts}
+use Rattle.cpg_base.proofs.Lists.{Contains-first}
 use Rattle.cpg_run.proofs.SameInRows.{only_one}
-use Rattle.std.proofs.lemmas.Grind.{common_steps}
-use Rattle.std.proofs.lemmas.List.Sums.{sum_by-cons}
-use Rattle.cpg_base.specs.Graph.{Graph}
-use Rattle.cpg_base.specs.Numbers.{numbers_below}
-use Rattle.cpg_base.proofs.Sums.{sum_by-below_first, same_sum_by, sum_by_zeros}
-use Rattle.cpg_order.specs.Scenario.{Scenario, IsScenario, number_of}
+use Rattle.cpg_order.specs.Scenario.{Scenario, number_of}
 use Rattle.cpg_cube.specs.declared.literal.Literal.{Literal}
 use Rattle.cpg_cube.specs.Cube.{low_in, high_in}
 use Rattle.cpg_base.specs.Variable.{top}
@@ -18,7 +13,8 @@ use Rattle.cpg_cube.proofs.Within.{high_in-ge}
 use Rattle.cpg_table.specs.Heard.{exactly, kept_low, kept_high}
 use Rattle.cpg_run.proofs.Hearing.{low_kept, high_kept, high_kept_top, kept_low_below, kept_high_above, kept_grows}
 use Rattle.cpg_tree.specs.Space.{HasFew}
-use Rattle.cpg_tree.specs.Tree.{Path, TreeState, is_on, IsOn, HasOnePathEach, IsConstant, IsMap, IsJoin, IsPick, IsNumber}
+use Rattle.cpg_tree.proofs.OnePath.{the_path}
+use Rattle.cpg_tree.specs.Tree.{Path, TreeState, IsOn, HasOnePathEach, IsConstant, IsMap, IsJoin, IsPick, IsNumber}
 use Rattle.cpg_run.specs.Carrying.{ContainsKept}
 use Rattle.cpg_expand.specs.Agreeing.{Agrees}
 
@@ -38,37 +34,6 @@ module _ (xs ys : List Literal) (v : ℕ) where
     kept_high_above xs v k (kept_high k (xs ++ ys) v) (omega (arith, high_kept_top (xs ++ ys) v k)) (λ m j e. high_kept (xs ++ ys) v k m (Contains-append_left xs ys m j) e),
     kept_high_above ys v k (kept_high k (xs ++ ys) v) (omega (arith, high_kept_top (xs ++ ys) v k)) (λ m j e. high_kept (xs ++ ys) v k m (Contains-append_right xs ys m j) e),
   )
-
--- ---- a scenario of the graph has at most its faults
-
-few_sum : (xs : List ℕ) (n : ℕ) → sum_by (λ p. get_or xs p 0) (numbers_below n) ≤ sum xs
-few_sum [] n = omega (arith, sum_by_zeros (λ p. get_or [] p 0) (numbers_below n) (λ p c. refl))
-few_sum (x ∷ xs) zero = omega arith
-few_sum (x ∷ xs) (suc n) = omega (
-  arith,
-  sum_by-below_first (λ p. get_or (x ∷ xs) p 0) n,
-  same_sum_by (λ i. get_or (x ∷ xs) (i + 1) 0) (λ i. get_or xs i 0) (numbers_below n) (λ i c. next i),
-  few_sum xs n,
-  sum_by-cons (λ n. n) x xs,
-)
-  where
-    next : (i : ℕ) → get_or (x ∷ xs) (i + 1) 0 ≡ get_or xs i 0
-    next i = grind (arith, common_steps)
-
-pub scenario_few : (g : Graph) (s : Scenario) → IsScenario g s → HasFew g.faults s
-scenario_few g s law = omega (arith, few_sum s.faults 128, law.budget)
-
--- ---- the path of a scenario
-
-first_of_one : {X : Type 0} (xs : List X) → length xs ≡ 1 → (x : X) × Contains xs x
-first_of_one [] e = absurd (omega (arith, e))
-first_of_one (x ∷ xs) e = (x, Contains-first x xs)
-
-pub the_path : {T : Type 0} (k : ℕ) (paths : List (Path T)) → HasOnePathEach k paths → (s : Scenario) → HasFew k s → (x : Path T) × IsOn paths s x
-the_path k paths each s few =
-    let f = first_of_one (filter (is_on s) paths) (each s few) in
-    let parts = Contains-filter_parts (is_on s) paths f.0 f.1 in
-    (f.0, record { stands = parts.0; matched = parts.1 })
 
 -- ---- the operations
 

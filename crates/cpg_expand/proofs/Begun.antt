@@ -41,7 +41,8 @@ use Rattle.cpg_expand.specs.Grown.{RowsHold, IsReadyLine, IsFreeLine, Lines, Sen
 use Rattle.cpg_expand.specs.Guarded.{value_known, values_known}
 use Rattle.cpg_expand.specs.Told.{HasTold}
 use Rattle.cpg_expand.specs.Waiting.{ready_of, free_of}
-use Rattle.cpg_expand.proofs.AgreeingTrees.{agrees_weaker, scenario_few, the_path}
+use Rattle.cpg_tree.proofs.OnePath.{scenario_few, the_path}
+use Rattle.cpg_expand.proofs.AgreeingTrees.{agrees_weaker}
 use Rattle.cpg_expand.proofs.FrozenFound.{frozen_found}
 use Rattle.cpg_expand.proofs.FrozenLine.{frozen_line, frozen_value}
 use Rattle.cpg_expand.proofs.GrownLines.{told_from_lines, lines_over}

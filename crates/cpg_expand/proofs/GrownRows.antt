@@ -42,15 +42,15 @@ module _ (g : Graph) (urgency : List ℕ) (guards : Guards) (a : IsAdmitted g ur
   pub grown_tells_ends : TellEnds g order frozen f.ends
   grown_tells_ends s t law run q l x on = ((grown.lines (own_rows f) (own_rows_hold g order (process_count g) f grown.trees) s law t run).ends q l (placed q l)).value x on
 
-  frozen_times : AreFrozenTimes g order frozen
-  frozen_times = record {
+  pub grown_frozen : AreFrozenTimes g order frozen
+  grown_frozen = record {
     count = grown.settled.count;
     each = λ x l is. grown.settled.each x l is (earlier x l);
     others = λ x off. grown.settled.others x (λ l is early. both_ways _ off is);
   }
 
   timed : IsTimed g urgency order frozen
-  timed = record { admitted = admitted_under g urgency order guards a topological; frozen_times = frozen_times }
+  timed = record { admitted = admitted_under g urgency order guards a topological; frozen_times = grown_frozen }
 
   faults_of : (x : ℕ) → x < item_count g → (times_of g f x).faults ≡ g.faults
   faults_of x l = (times_tree g f grown.trees x l).faults
@@ -94,7 +94,7 @@ module _ (g : Graph) (urgency : List ℕ) (guards : Guards) (a : IsAdmitted g ur
           merged_row_carries g a.limits.few_processes urgency a.topological.all (times_of g f x) r.columns r.are order frozen timed columns x (tree x l) (faults_of x l) r.merge
       | inr send ↦
           let r = sent_row x send l in
-          tree_row_carries g a.limits.few_processes urgency a.topological.all (times_of g f x) r.columns r.are order frozen timed columns x (tree x l) (faults_of x l) r.is
+          tree_row_carries g a.limits.few_processes urgency a.topological.all (times_of g f x) r.columns r.are order frozen timed columns x (tree x l) (faults_of x l) r.by_lows r.is
     ]
 
     carrying : AreCarrying g urgency order frozen columns
@@ -114,7 +114,7 @@ module _ (g : Graph) (urgency : List ℕ) (guards : Guards) (a : IsAdmitted g ur
 
     pub grown_rows_found : AreRowsFound g urgency order frozen rows
     grown_rows_found = record {
-      frozen_times = frozen_times;
+      frozen_times = grown_frozen;
       early = early_from_low g order frozen a.limits topological grown.settled.count grown.settled.low;
       items = items;
       found = carrying;

@@ -14,7 +14,7 @@ use Rattle.cpg_expand.specs.Agreeing.{IsTree}
 use Rattle.cpg_expand.specs.Values.{time_past}
 use Rattle.cpg_expand.specs.Peaks.{tree_at, EndsAt, EndsPast, IsPeakOf, IsPeakBy, IsPeak, goes_before_by, goes_before, or_time, IsNextPeak, IsNextExcess}
 use Rattle.cpg_expand.specs.declared.measuring.Peak.{Peak}
-use Rattle.cpg_expand.proofs.AgreeingTrees.{scenario_few, the_path}
+use Rattle.cpg_tree.proofs.OnePath.{scenario_few, the_path}
 use Rattle.cpg_expand.proofs.TreesTold.{few_of}
 
 -- no process, and so no peak

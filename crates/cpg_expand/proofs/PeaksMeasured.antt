@@ -20,7 +20,7 @@ use Rattle.cpg_expand.specs.Forest.{no_tree}
 use Rattle.cpg_expand.specs.Values.{time_past}
 use Rattle.cpg_expand.specs.Peaks.{tree_at, EndsAt, EndsPast, TellEnds, IsPeakBy, IsPeak}
 use Rattle.cpg_expand.specs.declared.measuring.Peak.{Peak}
-use Rattle.cpg_expand.proofs.AgreeingTrees.{scenario_few, the_path}
+use Rattle.cpg_tree.proofs.OnePath.{scenario_few, the_path}
 use Rattle.cpg_expand.proofs.PeaksGrow.{past_end}
 
 -- ---- how far a time is past its due

@@ -39,7 +39,8 @@ use Rattle.cpg_expand.specs.Guarded.{IsActiveTree, value_known, values_known}
 use Rattle.cpg_expand.specs.Sent.{IsItemAdded, AreItemsAdded, IsFreeOnce, sent_so_far}
 use Rattle.cpg_expand.specs.Values.{slot_from}
 use Rattle.cpg_expand.specs.Waiting.{free_of}
-use Rattle.cpg_expand.proofs.AgreeingTrees.{agrees_weaker, scenario_few}
+use Rattle.cpg_tree.proofs.OnePath.{scenario_few}
+use Rattle.cpg_expand.proofs.AgreeingTrees.{agrees_weaker}
 use Rattle.cpg_expand.proofs.Begun.{own_rows, own_rows_hold}
 use Rattle.cpg_expand.proofs.FreeRead.{has_put}
 use Rattle.cpg_expand.proofs.FrozenFound.{IsFound, frozen_found}

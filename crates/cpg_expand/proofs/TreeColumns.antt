@@ -29,8 +29,8 @@ use Rattle.cpg_cube.specs.Keys.{lows_along, AreByLows}
 use Rattle.cpg_tree.specs.Tree.{Path, TreeState, is_on}
 use Rattle.cpg_run.specs.Carrying.{ContainsKept, IsCarryingRow}
 use Rattle.cpg_expand.specs.Agreeing.{Agrees}
-use Rattle.cpg_expand.specs.TreeRows.{as_column, AreColumnsOf, IsTreeOf}
-use Rattle.cpg_expand.proofs.AgreeingTrees.{scenario_few, the_path}
+use Rattle.cpg_expand.specs.TreeRows.{as_column, AreListedOf, IsTreeOf}
+use Rattle.cpg_tree.proofs.OnePath.{scenario_few, the_path}
 
 -- ---- no more columns match than paths
 
@@ -54,7 +54,7 @@ no_more (p ∷ ps) s =
     omega (arith, split, one_more (matches p.0 s) p.1 p.0 s refl, path_count (matches p.0 s) p ps s refl, no_more ps s)
 
 module _ (g : Graph) (few : process_count g ≤ 128) (urgency : List ℕ) (all : IsPermutation (numbers_below (process_count g)) urgency)
-    (t : TreeState (Option ℕ)) (columns : List (ℕ × List Literal)) (are : AreColumnsOf g urgency t columns) where
+    (t : TreeState (Option ℕ)) (columns : List (ℕ × List Literal)) (are : AreListedOf g t columns) where
   row : List Column
   row = map as_column columns
 
@@ -77,9 +77,9 @@ module _ (g : Graph) (few : process_count g ≤ 128) (urgency : List ℕ) (all :
             (All-contains (λ (l : Literal). is_whole g.faults l ≡ false) c.cube l tidy.not_whole i, All-contains (λ (l : Literal). l.high ≤ top g.faults l.variable) c.cube l tidy.within i));
       })
 
-  sorted : AreByLows (λ (c : Column). c.cube) g urgency (map as_column columns)
-  sorted = AllPairs-map (λ (c d : ℕ × List Literal). is_below (lows_along g urgency (low_in d.1)) (lows_along g urgency (low_in c.1)) ≡ false) (λ (c d : Column). is_below (lows_along g urgency (low_in d.cube)) (lows_along g urgency (low_in c.cube)) ≡ false)
-      as_column columns (λ c d h. h) are.by_lows
+  sorted : AreByLows (λ (c : ℕ × List Literal). c.1) g urgency columns → AreByLows (λ (c : Column). c.cube) g urgency (map as_column columns)
+  sorted by_lows = AllPairs-map (λ (c d : ℕ × List Literal). is_below (lows_along g urgency (low_in d.1)) (lows_along g urgency (low_in c.1)) ≡ false) (λ (c d : Column). is_below (lows_along g urgency (low_in d.cube)) (lows_along g urgency (low_in c.cube)) ≡ false)
+      as_column columns (λ c d h. h) by_lows
 
   -- they can be merged
   pub mergeable : AreMergeable g (map as_column columns)
@@ -142,15 +142,15 @@ module _ (g : Graph) (few : process_count g ≤ 128) (urgency : List ℕ) (all :
         subst (λ (ls : List Literal). ContainsKept g.faults ls (carried g order rows s x)) p.3 (subst (λ k. ContainsKept k p.0.0 (carried g order rows s x)) same_faults kept)
 
     -- the row of a send
-    pub tree_row_carries : row_at rows x ≡ map as_column columns → IsCarryingRow g urgency order frozen rows x
-    tree_row_carries is = record {
+    pub tree_row_carries : AreByLows (λ (c : ℕ × List Literal). c.1) g urgency columns → row_at rows x ≡ map as_column columns → IsCarryingRow g urgency order frozen rows x
+    tree_row_carries by_lows is = record {
       times = λ s run law ran. subst (λ (cs : List Column). times_in cs s ≡ option_to_list (get_or run.times x None)) (sym is) (times s run law ran);
       carries = λ s c law j m. columns_carry s c law (subst (λ (cs : List Column). Contains cs c) is j) m;
       cubes = subst (All (λ (c : Column). IsCube g c.cube)) (sym is) (every (λ (c : Column). IsCube g c.cube) (map as_column columns) (λ c j. (tidy_at c j).cube));
       within = subst (All (λ (c : Column). All (λ (l : Literal). l.high ≤ top g.faults l.variable) c.cube)) (sym is) (every (λ (c : Column). All (λ (l : Literal). l.high ≤ top g.faults l.variable) c.cube) (map as_column columns) (λ c j. (tidy_at c j).within));
       not_whole = subst (All (λ (c : Column). All (λ (l : Literal). is_whole g.faults l ≡ false) c.cube)) (sym is) (every (λ (c : Column). All (λ (l : Literal). is_whole g.faults l ≡ false) c.cube) (map as_column columns) (λ c j. (tidy_at c j).not_whole));
       met = subst (AreMet g urgency) (sym is) (are_met g few urgency all (map as_column columns) good single);
-      ordered = subst (AreOrdered g urgency) (sym is) (are_ordered g few urgency all (map as_column columns) good single sorted);
+      ordered = subst (AreOrdered g urgency) (sym is) (are_ordered g few urgency all (map as_column columns) good single (sorted by_lows));
     }
 
     -- the row of a start: its columns, merged

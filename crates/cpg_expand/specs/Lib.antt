@@ -15,3 +15,4 @@ pub mod Sent
 pub mod Begun
 pub mod Peaks
 pub mod Active
+pub mod Measured

@@ -2,22 +2,24 @@
 use Rattle.std.specs.Prelude.{ℕ, ◌≡◌, ◌<◌, ◌≤◌, List, Option, length, map, get_or}
 use Rattle.cpg_base.specs.Graph.{Graph, item_count, process_count}
 use Rattle.cpg_cube.specs.declared.literal.Literal.{Literal}
+use Rattle.cpg_cube.specs.Keys.{AreByLows}
 use Rattle.cpg_table.specs.Merged.{IsMergeOf}
 use Rattle.cpg_table.specs.Table.{Column, Row}
 use Rattle.cpg_tree.specs.Tree.{TreeState}
 use Rattle.cpg_expand.specs.Forest.{no_tree}
-use Rattle.cpg_expand.specs.TreeRows.{as_column, AreColumnsOf}
+use Rattle.cpg_expand.specs.TreeRows.{as_column, AreListedOf}
 
--- the columns that a tree lists
+-- the columns of a tree, by their least scenarios
 pub record AreEntriesOf (g : Graph) (urgency : List ℕ) (t : TreeState (Option ℕ)) (entries : List Column) : Type 0 where
   pub columns : List (ℕ × List Literal)
-  pub are : AreColumnsOf g urgency t columns
+  pub are : AreListedOf g t columns
+  pub by_lows : AreByLows (λ (c : ℕ × List Literal). c.1) g urgency columns
   pub is : entries ≡ map as_column columns
 
--- those, merged
+-- the columns of a tree, merged
 pub record AreMergedOf (g : Graph) (urgency : List ℕ) (t : TreeState (Option ℕ)) (entries : List Column) : Type 0 where
   pub columns : List (ℕ × List Literal)
-  pub are : AreColumnsOf g urgency t columns
+  pub are : AreListedOf g t columns
   pub merge : IsMergeOf g urgency (map as_column columns) entries
 
 -- the row of an item, merged where it is a start

@@ -7,7 +7,6 @@ use Rattle.cpg_table.specs.Table.{Column}
 use Rattle.cpg_run.specs.Run.{Times, IsRun}
 use Rattle.cpg_run.specs.Carried.{carried}
 use Rattle.cpg_tree.specs.Columns.{columns_of_paths, IsTidyColumn}
-use Rattle.cpg_cube.specs.Keys.{AreByLows}
 use Rattle.cpg_tree.specs.Tree.{TreeState, HasOnePathEach}
 use Rattle.cpg_expand.specs.Agreeing.{Agrees}
 
@@ -15,12 +14,11 @@ use Rattle.cpg_expand.specs.Agreeing.{Agrees}
 abbrev pub as_column : ℕ × List Literal → Column
 as_column c = record { time = c.0; cube = c.1 }
 
--- what the columns of a tree are
-pub record AreColumnsOf (g : Graph) (urgency : List ℕ) (t : TreeState (Option ℕ)) (columns : List (ℕ × List Literal)) : Type 0 where
+-- what the columns of a tree are, in any order
+pub record AreListedOf (g : Graph) (t : TreeState (Option ℕ)) (columns : List (ℕ × List Literal)) : Type 0 where
   pub each : HasOnePathEach g.faults t.paths
   pub all : IsPermutation (columns_of_paths t.paths) columns
   pub tidy : All (IsTidyColumn g) columns
-  pub by_lows : AreByLows (λ (c : ℕ × List Literal). c.1) g urgency columns
 
 -- in every scenario a tree has the time of an item in the run, and says no more than what is carried there
 abbrev pub IsTreeOf : Graph → List ℕ → List (Option ℕ) → List (List Column) → ℕ → TreeState (Option ℕ) → Type 0

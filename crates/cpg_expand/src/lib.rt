@@ -17,4 +17,4 @@ mod starting;
 mod values;
 
 pub use activity::active_item;
-pub use expanding::expand;
+pub use expanding::{expand, expand_better};

@@ -14,21 +14,19 @@ use cpg_tree::Tree;
 use std::alloc::Global;
 
 /// These columns as entries of a row.
-fn as_entries(alloc: Global, columns: &[(u64, Cube)]) -> Result<Vec<Entry>, OutOfMemory>
-    ensures { IfOk result (λ entries. entries.items ≡ map as_column columns.now) }
+fn as_entries(alloc: Global, columns: Vec<(u64, Cube)>) -> Result<Vec<Entry>, OutOfMemory>
+    ensures { IfOk result (λ entries. entries.items ≡ map as_column columns.items) }
 {
     let mut entries = Vec::new(alloc);
     entries.reserve(columns.len())?;
     for column in columns {
-        entries.push(Entry {
-            time: column.0,
-            cube: column.1.copy()?,
-        })?;
+        let (time, cube) = column;
+        entries.push(Entry { time, cube })?;
     }
     Ok(entries)
 }
 
-/// The columns of a tree.
+/// The columns of a tree, by their least scenarios.
 fn entries(
     alloc: Global,
     problem: &Problem,
@@ -40,7 +38,7 @@ fn entries(
     ensures { IfOk result (λ entries. AreEntriesOf problem.now urgency.now tree.now entries.items) }
 {
     let columns = tree.columns(problem, urgency)?;
-    let entries = as_entries(alloc, columns.as_slice())?;
+    let entries = as_entries(alloc, columns)?;
     Ok(entries)
 }
 
@@ -56,7 +54,9 @@ fn start_entries(
     ensures { IfOk result (λ entries. AreMergedOf problem.now urgency.now tree.now entries.items) }
 {
     let _processes = problem.processes();
-    let entries = entries(alloc, problem, urgency, tree)?;
+    // merging sorts them, so they need no order before
+    let listed = tree.listed(problem)?;
+    let entries = as_entries(alloc, listed)?;
     let columns = merged(alloc, problem, urgency, entries)?;
     Ok(columns)
 }

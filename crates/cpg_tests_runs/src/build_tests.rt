@@ -22,7 +22,7 @@ enum Builder {
 
 /// What is built of a graph under its urgency order over all scenarios.
 #[tactic(auto, using(crate::proofs::Unfrozen::urgent_topological))]
-fn listed(alloc: Global, admitted: &Admitted) -> Result<Built, Fail> {
+pub(crate) fn listed(alloc: Global, admitted: &Admitted) -> Result<Built, Fail> {
     if !has_few_scenarios(admitted.problem()) {
         return Err(Fail::from(OutOfMemory));
     }
@@ -34,7 +34,7 @@ fn listed(alloc: Global, admitted: &Admitted) -> Result<Built, Fail> {
 
 /// What is built of a graph under its urgency order by trees.
 #[tactic(auto, using(crate::proofs::Unfrozen::urgent_topological))]
-fn expanded(alloc: Global, admitted: &Admitted) -> Result<Built, Fail> {
+pub(crate) fn expanded(alloc: Global, admitted: &Admitted) -> Result<Built, Fail> {
     match expand(alloc, admitted, admitted.order()) {
         Ok(built) => Ok(built),
         Err(_) => Err(Fail::from(OutOfMemory)),

@@ -123,7 +123,7 @@ fn problem(
     Ok(Problem::new(faults, deadline, nodes, slots, processes, edges))
 }
 
-fn admit_it(alloc: Global, problem: Option<Problem>) -> Result<Admitted, Fail> {
+pub(crate) fn admit_it(alloc: Global, problem: Option<Problem>) -> Result<Admitted, Fail> {
     let Some(problem) = problem else {
         return Err(Fail::from(OutOfMemory));
     };

@@ -2,6 +2,8 @@
 #![tactic(auto)]
 
 #[cfg(test)]
+mod both_tests;
+#[cfg(test)]
 mod build_tests;
 #[cfg(test)]
 mod graphs;

@@ -32,7 +32,7 @@ returns-in-Some-clause-compiled c =
     let built : IsBuiltFor g order order c.in-Ok.built = rw c.order-order.ensures.order at c.in-Ok.ensures.built in
     let better : IsPreferredTo g order c.in-Ok.built c.in-Some.tracked = rw c.in-Some.is at c.in_ok-tracked.ensures.tables in
     let zero : c.in-Some.tracked.built.excess ≡ 0 = omega (arith, c.if-tracked-gt0.false) in
-    compiled_by_tracks g a.well_formed order a.topological narrow c.in-Ok.built built c.in-Some.tracked better zero
+    compiled_by_tracks g a.well_formed order a.topological narrow c.in-Ok.built built a.joins a.urgency c.in-Some.tracked better zero
 
 pub late-requires-then-urgent-gt0-clause-narrow : goal.late-requires-then-urgent-gt0-clause-narrow
 late-requires-then-urgent-gt0-clause-narrow c = rw c.problem-problem.ensures.problem c.in-Ok.ensures.narrow
@@ -54,4 +54,4 @@ returns-clause-compiled c =
     let built : IsBuiltFor g order order c.in-Ok.built = rw c.order-order.ensures.order at c.in-Ok.ensures.built in
     let none : HasNoBetter g order c.in-Ok.built = rw c.in_default.is at c.in_ok-tracked.ensures.none in
     let zero : c.in-Ok.built.excess ≡ 0 = omega (arith, c.if-urgent-gt0.false) in
-    compiled_by_urgency g a.well_formed order a.topological narrow c.in-Ok.built built none zero c.in_ok-copy.field-0 (c.in_ok-copy.ensures ∙ c.order-order.ensures.order)
+    compiled_by_urgency g a.well_formed order a.topological narrow c.in-Ok.built built a.joins a.urgency none zero c.in_ok-copy.field-0 (c.in_ok-copy.ensures ∙ c.order-order.ensures.order)

@@ -1,4 +1,4 @@
-use Rattle.std.proofs.Common.{ℕ, ◌≡◌, ◌<◌, ◌∙◌, ap, arith, length, subst}
+use Rattle.std.proofs.Common.{◌≡◌, ◌<◌, ◌∙◌, ap, arith, length, subst}
 use Rattle.cpg_base.specs.Graph.{Graph, process_count, producer}
 use Rattle.cpg_guard.specs.Guards.{tree_of}
 use Rattle.cpg_expand.specs.Guarded.{IsActiveTree}

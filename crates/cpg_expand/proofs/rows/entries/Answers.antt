@@ -1,6 +1,4 @@
-use Rattle.std.proofs.Common.{ap, ◌∙◌, map}
 use Rattle.cpg_tree.proofs.Passing.{known_from}
-use Rattle.cpg_expand.specs.TreeRows.{as_column}
 use Rattle.cpg_expand.proofs.rows.entries.Goals as goal
 
 pub columns-requires-clause-known : goal.columns-requires-clause-known
@@ -13,7 +11,7 @@ returns c = record {
     each = c.requires.tree.each;
     all = c.in_ok-columns.ensures.all;
     tidy = c.in_ok-columns.ensures.tidy;
-    by_lows = c.in_ok-columns.ensures.by_lows;
   };
-  is = c.in_ok-entries.ensures ∙ ap (map as_column) c.as_slice.ensures.value;
+  by_lows = c.in_ok-columns.ensures.by_lows;
+  is = c.in_ok-entries.ensures;
 }

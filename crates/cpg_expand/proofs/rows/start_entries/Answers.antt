@@ -1,16 +1,23 @@
 use Rattle.std.proofs.Common.{sym, subst, List}
 use Rattle.cpg_table.specs.Merged.{AreMergeable, IsMergeOf}
 use Rattle.cpg_table.specs.Table.{Column}
+use Rattle.cpg_tree.proofs.Passing.{known_from}
+use Rattle.cpg_expand.specs.TreeRows.{AreListedOf}
 use Rattle.cpg_expand.proofs.TreeColumns.{mergeable}
 use Rattle.cpg_expand.proofs.rows.start_entries.Goals as goal
 
+pub listed-requires-clause-known : goal.listed-requires-clause-known
+listed-requires-clause-known c = known_from c.args.problem.now c.args.tree.now.paths c.requires.tree.known
+
 pub merged-requires-clause-entries : goal.merged-requires-clause-entries
-merged-requires-clause-entries c = subst (AreMergeable c.args.problem.now) (sym c.in_ok-entries.ensures.is)
-    (mergeable c.args.problem.now c.processes-processes.ensures.within.few_processes c.args.urgency.now c.requires.order c.args.tree.now c.in_ok-entries.ensures.columns c.in_ok-entries.ensures.are)
+merged-requires-clause-entries c =
+    let are : AreListedOf c.args.problem.now c.args.tree.now c.in_ok-listed.listed.items = record { each = c.requires.tree.each; all = c.in_ok-listed.ensures.all; tidy = c.in_ok-listed.ensures.tidy } in
+    subst (AreMergeable c.args.problem.now) (sym c.in_ok-entries.ensures)
+    (mergeable c.args.problem.now c.processes-processes.ensures.within.few_processes c.args.urgency.now c.requires.order c.args.tree.now c.in_ok-listed.listed.items are)
 
 pub returns : goal.returns
 returns c = record {
-  columns = c.in_ok-entries.ensures.columns;
-  are = c.in_ok-entries.ensures.are;
-  merge = subst (λ (es : List Column). IsMergeOf c.args.problem.now c.args.urgency.now es c.in_ok-columns.columns.items) c.in_ok-entries.ensures.is c.in_ok-columns.ensures;
+  columns = c.in_ok-listed.listed.items;
+  are = record { each = c.requires.tree.each; all = c.in_ok-listed.ensures.all; tidy = c.in_ok-listed.ensures.tidy };
+  merge = subst (λ (es : List Column). IsMergeOf c.args.problem.now c.args.urgency.now es c.in_ok-columns.columns.items) c.in_ok-entries.ensures c.in_ok-columns.ensures;
 }
