@@ -1,8 +1,12 @@
 //! Whether tables are valid for a graph.
-ghost use Rattle.std.specs.Prelude.{◌≡◌, IfOk};
+ghost use Rattle.std.specs.Prelude.{◌≡◌, ◌∷◌, IfNone, IfOk, IfSome};
 ghost use Rattle.cpg_base.specs.Graph.{item_count};
+ghost use Rattle.cpg_table.specs.declared.rule.Rule.{Rule};
 ghost use Rattle.cpg_violation.specs.Heads.{IsHeadFor};
 ghost use Rattle.cpg_violation.specs.Lines.{AreLines};
+ghost use Rattle.cpg_violation.specs.Sure.{AreTimeMarks};
+ghost use Rattle.cpg_violation.specs.Violation.{AllHold, IsFirstOf, row_rules, time_rules};
+ghost use Rattle.cpg_sure.specs.Trees.{AreRowTrees};
 ghost use Rattle.cpg_check.specs.Verdict.{ShowsFault, ShowsVerdict};
 
 use crate::heads::{HeadPart, first_difference};
@@ -11,8 +15,10 @@ use cpg_check_heard::check_heard;
 use cpg_check_rows::{check_hears, check_rows};
 use cpg_check_time::check_time;
 use cpg_rules::Admitted;
+use cpg_sure::{row_marks, row_trees, time_marks};
 use cpg_table::{Fault, Tables};
-use cpg_violation::{Line, lines_of};
+use cpg_tree::Places;
+use cpg_violation::{Line, TimeMarks, lines_of};
 use std::alloc::Global;
 
 /// What a check answers.
@@ -26,24 +32,90 @@ pub enum Verdict {
     No(Fault),
 }
 
-/// The first violation of tables whose head is the graph's, by the lines of all items.
-fn fault_by(
+/// The first violation of V1 to V3, by the trees of all rows. The lines of the items are made only where some item isn't
+/// marked as sure.
+fn row_fault(
+    alloc: Global,
+    admitted: &Admitted,
+    tables: &Tables,
+    trees: &[Option<Places>],
+) -> Result<Option<Fault>, OutOfMemory>
+    requires head { IsHeadFor admitted.now.graph tables.now.head }
+    requires trees { AreRowTrees admitted.now.graph tables.now.nodes trees.now }
+    ensures none { IfOk result (λ r. IfNone r (AllHold admitted.now.graph tables.now.nodes row_rules)) }
+    ensures first { IfOk result (λ r. IfSome r (IsFirstOf admitted.now.graph admitted.now.order tables.now.nodes row_rules)) }
+{
+    let problem = admitted.problem();
+    let marks = row_marks(alloc, admitted, tables, trees)?;
+    if marks.are_all(problem.item_count()) {
+        return Ok(None);
+    }
+    let lines = lines_of(alloc, problem, tables)?;
+    let fault = check_rows(alloc, admitted, tables, lines.as_slice(), &marks)?;
+    Ok(fault)
+}
+
+/// The first violation of V4 to V9, by the lines of all items.
+fn later_fault(
     alloc: Global,
     admitted: &Admitted,
     tables: &Tables,
     lines: &[Line<'_>],
+    marks: &TimeMarks,
 ) -> Result<Option<Fault>, OutOfMemory>
     requires head { IsHeadFor admitted.now.graph tables.now.head }
+    requires rules { AllHold admitted.now.graph tables.now.nodes row_rules }
     requires lines { AreLines tables.now.nodes (item_count admitted.now.graph) lines.now }
+    requires marks { AreTimeMarks admitted.now.graph tables.now.nodes marks.now }
+    ensures none { IfOk result (λ r. IfNone r (AllHold admitted.now.graph tables.now.nodes (Rule.Heard ∷ time_rules))) }
+    ensures first { IfOk result (λ r. IfSome r (IsFirstOf admitted.now.graph admitted.now.order tables.now.nodes (Rule.Heard ∷ time_rules))) }
+{
+    if let Some(fault) = check_heard(alloc, admitted, tables, lines, marks.heard.as_slice())? {
+        return Ok(Some(fault));
+    }
+    let fault = check_time(alloc, admitted, tables, lines, marks)?;
+    Ok(fault)
+}
+
+/// The first violation of V4 to V9, by the trees of all rows. The lines of the items are made only where some item isn't
+/// marked as sure.
+fn time_fault(
+    alloc: Global,
+    admitted: &Admitted,
+    tables: &Tables,
+    trees: &[Option<Places>],
+) -> Result<Option<Fault>, OutOfMemory>
+    requires head { IsHeadFor admitted.now.graph tables.now.head }
+    requires rules { AllHold admitted.now.graph tables.now.nodes row_rules }
+    requires trees { AreRowTrees admitted.now.graph tables.now.nodes trees.now }
+    ensures none { IfOk result (λ r. IfNone r (AllHold admitted.now.graph tables.now.nodes (Rule.Heard ∷ time_rules))) }
+    ensures first { IfOk result (λ r. IfSome r (IsFirstOf admitted.now.graph admitted.now.order tables.now.nodes (Rule.Heard ∷ time_rules))) }
+{
+    let problem = admitted.problem();
+    let marks = time_marks(alloc, admitted, tables, trees)?;
+    if marks.are_all(problem.item_count()) {
+        return Ok(None);
+    }
+    let lines = lines_of(alloc, problem, tables)?;
+    let fault = later_fault(alloc, admitted, tables, lines.as_slice(), &marks)?;
+    Ok(fault)
+}
+
+/// The first violation of tables whose head is the graph's, by the trees of all rows.
+fn fault_by(
+    alloc: Global,
+    admitted: &Admitted,
+    tables: &Tables,
+    trees: &[Option<Places>],
+) -> Result<Option<Fault>, OutOfMemory>
+    requires head { IsHeadFor admitted.now.graph tables.now.head }
+    requires trees { AreRowTrees admitted.now.graph tables.now.nodes trees.now }
     ensures { IfOk result (ShowsFault admitted.now.graph admitted.now.order tables.now.nodes) }
 {
-    if let Some(fault) = check_rows(alloc, admitted, tables, lines)? {
+    if let Some(fault) = row_fault(alloc, admitted, tables, trees)? {
         return Ok(Some(fault));
     }
-    if let Some(fault) = check_heard(alloc, admitted, tables, lines)? {
-        return Ok(Some(fault));
-    }
-    if let Some(fault) = check_time(alloc, admitted, tables, lines)? {
+    if let Some(fault) = time_fault(alloc, admitted, tables, trees)? {
         return Ok(Some(fault));
     }
     let fault = check_hears(alloc, admitted, tables)?;
@@ -59,8 +131,8 @@ fn first_fault(
     requires { IsHeadFor admitted.now.graph tables.now.head }
     ensures { IfOk result (ShowsFault admitted.now.graph admitted.now.order tables.now.nodes) }
 {
-    let lines = lines_of(alloc, admitted.problem(), tables)?;
-    let fault = fault_by(alloc, admitted, tables, lines.as_slice())?;
+    let trees = row_trees(alloc, admitted.problem(), tables)?;
+    let fault = fault_by(alloc, admitted, tables, trees.as_slice())?;
     Ok(fault)
 }
 

@@ -7,3 +7,4 @@ mod Bounded
 mod Untolds
 mod ArrivalLaws
 pub mod Endings
+mod Framed

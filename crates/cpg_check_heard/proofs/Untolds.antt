@@ -39,7 +39,7 @@ module _ (start : List (List Literal)) (s : Scenario) where
   pub told_all : (first last own heard all : Bool) → start ≡ [] → first ≡ (list_any (λ b. matches b s) start || own) → last ≡ (first || heard) → all ≡ (own || heard) → last ≡ all
   told_all first last own heard all none e f is = f ∙ ap (λ x. x || heard) (e ∙ ap (λ xs. list_any (λ b. matches b s) xs || own) none) ∙ sym is
 
-or_true : (a b : Bool) → b ≡ true → (a || b) ≡ true
+pub or_true : (a b : Bool) → b ≡ true → (a || b) ≡ true
 or_true true b e = refl
 or_true false b e = e
 

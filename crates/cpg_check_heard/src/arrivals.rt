@@ -1,6 +1,6 @@
 //! The columns of the rows that a node hears whose frames may have come by a time. They are found once for a column that
 //! is judged, and then asked for each of its literals.
-ghost use Rattle.std.specs.Prelude.{◌≡◌, ◌≤◌, ◌||◌, All, IfOk, false, true};
+ghost use Rattle.std.specs.Prelude.{◌≡◌, ◌≤◌, ◌||◌, All, Contains, IfOk, false, true};
 ghost use Rattle.std.specs.Bool.{OnFalse, OnTrue};
 ghost use Rattle.std.specs.List.{list_any};
 ghost use Rattle.cpg_base.specs.Graph.{Graph, IsVariable};
@@ -85,8 +85,8 @@ fn add_row<'a>(
 }
 
 impl<'a> Hearing<'a> {
-    /// The columns of the rows that a node hears whose frames may have come by a time, as far as they may match together
-    /// with a cube.
+    /// The columns of rows that a node hears whose frames may have come by a time, as far as they may match together with a
+    /// cube.
     pub(crate) fn arrivals(
         &self,
         alloc: Global,
@@ -96,7 +96,7 @@ impl<'a> Hearing<'a> {
         time: u64,
     ) -> Result<Vec<Arrival<'a>>, OutOfMemory>
         requires hearing { IsHearing self.now }
-        requires items { items.now ≡ heard_by self.now.admitted.now.graph node }
+        requires items { All (Contains (heard_by self.now.admitted.now.graph node)) items.now }
         ensures { IfOk result (λ arrivals. AreArrivals self.now.admitted.now.graph self.now.tables.now.nodes time cube.now items.now arrivals.items) }
     {
         let mut arrivals = Vec::new(alloc);

@@ -10,6 +10,7 @@ ghost use Rattle.cpg_check_heard.specs.Unheard.{is_unheard};
 ghost use Rattle.cpg_table.specs.declared.rule.Rule.{Rule};
 ghost use Rattle.cpg_violation.specs.Heads.{IsHeadFor};
 ghost use Rattle.cpg_violation.specs.Lines.{AreLines};
+ghost use Rattle.cpg_violation.specs.Sure.{AreSure};
 ghost use Rattle.cpg_violation.specs.Violation.{AllHold, Holds, IsFirstColumn, IsFirstViolation, row_rules};
 
 use crate::hearing::Hearing;
@@ -17,7 +18,7 @@ use crate::tellers::tellers;
 use cpg_base::{OutOfMemory, Scenario};
 use cpg_rules::Admitted;
 use cpg_table::{Entry, Fault, NodeItems, Rule, Tables};
-use cpg_violation::{Line, columns_of};
+use cpg_violation::{Line, columns_of, is_marked};
 use std::alloc::Global;
 
 /// The first column of an item's row that matches in a scenario in which the item's node hasn't heard one of its literals
@@ -39,8 +40,10 @@ fn first_unheard(
     let problem = hearing.admitted.problem();
     let node = problem.home(item);
     let items = NodeItems::of(alloc, hearing.tables.head(), node)?;
+    let hears = items.hears();
+    let ranks = hearing.ranks(alloc, node, hears)?;
     for (place, column) in columns.iter().enumerate() {
-        let unheard = hearing.least_unheard(alloc, node, items.hears(), column)?;
+        let unheard = hearing.least_unheard(alloc, node, hears, ranks.as_slice(), column)?;
         if let Some(scenario) = unheard {
             return Ok(Some((place as u32, scenario)));
         }
@@ -50,16 +53,18 @@ fn first_unheard(
 
 /// The first violation of V4, by item and column, with the least scenario in the urgency order in which it stands: the
 /// column matches, and one of its literals isn't heard at the item's node by the column's time. `None` exactly where the
-/// rule holds. V1 to V3 hold, and the lines are those of all items.
+/// rule holds. V1 to V3 hold, and the lines are those of all items. Items at which the rule is marked as sure are left out.
 pub fn check_heard(
     alloc: Global,
     admitted: &Admitted,
     tables: &Tables,
     lines: &[Line<'_>],
+    marks: &[bool],
 ) -> Result<Option<Fault>, OutOfMemory>
     requires head { IsHeadFor admitted.now.graph tables.now.head }
     requires rules { AllHold admitted.now.graph tables.now.nodes row_rules }
     requires lines { AreLines tables.now.nodes (item_count admitted.now.graph) lines.now }
+    requires marks { AreSure admitted.now.graph tables.now.nodes Rule.Heard marks.now }
     ensures none { IfOk result (λ r. IfNone r (Holds admitted.now.graph tables.now.nodes Rule.Heard)) }
     ensures first { IfOk result (λ r. IfSome r (IsFirstViolation admitted.now.graph admitted.now.order tables.now.nodes Rule.Heard)) }
 {
@@ -71,6 +76,9 @@ pub fn check_heard(
         tellers,
     };
     for item in 0..problem.item_count() {
+        if is_marked(marks, item) {
+            continue;
+        }
         let columns = columns_of(tables, item);
         let unheard = first_unheard(alloc, &hearing, item, columns)?;
         if let Some((column, scenario)) = unheard {

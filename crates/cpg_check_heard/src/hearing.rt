@@ -18,6 +18,7 @@ ghost use Rattle.cpg_check_heard.specs.Untold.{own_tells};
 
 use crate::arrivals::{Arrival, add_told, tells_one_whole};
 use crate::bound::Bound;
+use crate::frames::Rank;
 use crate::parts::add_row;
 use crate::tellers::Teller;
 use cpg_base::{OutOfMemory, Problem, Scenario};
@@ -270,21 +271,24 @@ impl Hearing<'_> {
         alloc: Global,
         node: u32,
         items: &[u32],
+        ranks: &[Rank],
         column: &Entry,
     ) -> Result<Option<Scenario>, OutOfMemory>
         requires hearing { IsHearing self.now }
         requires items { items.now ≡ heard_by self.now.admitted.now.graph node }
+        requires ranks { All (λ r. Contains (heard_by self.now.admitted.now.graph node) r.item) ranks.now }
         requires cube { IsKnown self.now.admitted.now.graph column.now.cube }
         requires active { HasActive self.now.admitted.now.graph column.now }
         ensures { IfOk result (IsFirst self.now.admitted.now.graph self.now.admitted.now.order (λ s. matches column.now.cube s && is_column_unheard self.now.admitted.now.graph self.now.tables.now.nodes node s column.now)) }
     {
         let bounds = self.open_bounds(alloc, node, column)?;
-        if bounds.is_empty() {
+        let left = self.unframed(alloc, node, ranks, column, bounds)?;
+        if left.is_empty() {
             return Ok(None);
         }
         let arrivals = self.arrivals(alloc, node, items, &column.cube, column.time)?;
         let heard = arrivals.as_slice();
-        let found = self.least_of_bounds(alloc, node, items, heard, column, bounds.as_slice())?;
+        let found = self.least_of_bounds(alloc, node, items, heard, column, left.as_slice())?;
         Ok(found)
     }
 }

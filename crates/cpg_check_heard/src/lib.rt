@@ -4,6 +4,7 @@
 mod arrivals;
 mod bound;
 mod ended;
+mod frames;
 mod heard;
 mod hearing;
 mod parts;

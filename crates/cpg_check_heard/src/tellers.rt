@@ -8,6 +8,7 @@ ghost use Rattle.cpg_check_heard.specs.Tellings.{AreTellers, telling_of};
 
 use cpg_base::{Item, OutOfMemory, Problem};
 use cpg_rules::Admitted;
+use cpg_table::Entry;
 use cpg_violation::Line;
 use std::alloc::Global;
 
@@ -30,11 +31,21 @@ pub(crate) fn has_come(start: u64, delay: u64, time: u64) -> bool
     delay <= time - start
 }
 
-/// The row of an item, and how it tells.
+/// The row of an item, how it tells, and how many literals its longest cube has.
 #[derive(Clone, Copy)]
 pub(crate) struct Teller<'a> {
     pub(crate) line: &'a Line<'a>,
     pub(crate) telling: Telling,
+    pub(crate) longest: usize,
+}
+
+/// The greatest number of literals of these columns; 0 where there is none.
+fn longest(columns: &[Entry]) -> usize {
+    let mut longest = 0;
+    for column in columns {
+        longest = column.cube.literals().len().max(longest);
+    }
+    longest
 }
 
 /// How an item tells.
@@ -66,7 +77,11 @@ pub(crate) fn tellers<'a>(
     for item in 0..problem.item_count() {
         let line = &lines[item as usize];
         let telling = telling_of(problem, item);
-        tellers.push(Teller { line, telling })?;
+        tellers.push(Teller {
+            line,
+            telling,
+            longest: longest(line.columns),
+        })?;
     }
     Ok(tellers)
 }

@@ -13,13 +13,14 @@ ghost use Rattle.cpg_table.specs.declared.rule.Rule.{Rule};
 ghost use Rattle.cpg_table.specs.Valid.{breaks_activity};
 ghost use Rattle.cpg_check_rows.specs.Active.{is_idle};
 ghost use Rattle.cpg_violation.specs.Heads.{IsHeadFor};
+ghost use Rattle.cpg_violation.specs.Sure.{AreSure};
 ghost use Rattle.cpg_violation.specs.Violation.{Holds, IsFirstColumn, IsFirstViolation};
 
 use cpg_base::{Item, OutOfMemory, Problem, Scenario};
 use cpg_cube::{Cube, Literal};
 use cpg_rules::Admitted;
 use cpg_table::{Entry, Fault, Rule, Tables};
-use cpg_violation::{columns_of, earlier, least_at, value_literal};
+use cpg_violation::{columns_of, earlier, is_marked, least_at, value_literal};
 use std::alloc::Global;
 
 /// The least scenario that a cube matches and in which a process isn't active, if there is one.
@@ -220,17 +221,22 @@ fn first_idle(
 
 /// The first violation of V1, by item and column, with the least scenario in the urgency order in which it stands: the
 /// column matches, and the item or the process of one of the column's literals isn't active. `None` exactly where the
-/// rule holds.
+/// rule holds. Items at which it is marked as sure are left out.
 pub fn check_activity(
     alloc: Global,
     admitted: &Admitted,
     tables: &Tables,
+    marks: &[bool],
 ) -> Result<Option<Fault>, OutOfMemory>
-    requires { IsHeadFor admitted.now.graph tables.now.head }
+    requires head { IsHeadFor admitted.now.graph tables.now.head }
+    requires marks { AreSure admitted.now.graph tables.now.nodes Rule.Activity marks.now }
     ensures none { IfOk result (λ r. IfNone r (Holds admitted.now.graph tables.now.nodes Rule.Activity)) }
     ensures first { IfOk result (λ r. IfSome r (IsFirstViolation admitted.now.graph admitted.now.order tables.now.nodes Rule.Activity)) }
 {
     for item in 0..admitted.problem().item_count() {
+        if is_marked(marks, item) {
+            continue;
+        }
         let columns = columns_of(tables, item);
         let idle = first_idle(alloc, admitted, item, columns)?;
         if let Some((column, scenario)) = idle {

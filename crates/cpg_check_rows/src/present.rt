@@ -10,13 +10,14 @@ ghost use Rattle.cpg_cube.specs.Fit.{IsKnown};
 ghost use Rattle.cpg_check_rows.specs.Present.{is_absent};
 ghost use Rattle.cpg_table.specs.declared.rule.Rule.{Rule};
 ghost use Rattle.cpg_violation.specs.Heads.{IsHeadFor};
+ghost use Rattle.cpg_violation.specs.Sure.{AreSure};
 ghost use Rattle.cpg_violation.specs.Violation.{Holds, IsFirstViolation};
 
 use cpg_base::{Item, OutOfMemory, Scenario};
 use cpg_cube::Cube;
 use cpg_rules::Admitted;
 use cpg_table::{Entry, Fault, Rule, Tables};
-use cpg_violation::{columns_of, cubes_of, edge_cube, least_at};
+use cpg_violation::{columns_of, cubes_of, edge_cube, is_marked, least_at};
 use std::alloc::Global;
 
 /// The least scenario that a cube matches and no column does, and in which a process is active; if there is one.
@@ -116,18 +117,24 @@ fn least_absent(
 }
 
 /// The first violation of V3, by item, with the least scenario in the urgency order in which it stands: the item is
-/// active and no column of its row matches. `None` exactly where the rule holds.
+/// active and no column of its row matches. `None` exactly where the rule holds. Items at which it is marked as sure are
+/// left out.
 pub fn check_present(
     alloc: Global,
     admitted: &Admitted,
     tables: &Tables,
+    marks: &[bool],
 ) -> Result<Option<Fault>, OutOfMemory>
-    requires { IsHeadFor admitted.now.graph tables.now.head }
+    requires head { IsHeadFor admitted.now.graph tables.now.head }
+    requires marks { AreSure admitted.now.graph tables.now.nodes Rule.Present marks.now }
     ensures none { IfOk result (λ r. IfNone r (Holds admitted.now.graph tables.now.nodes Rule.Present)) }
     ensures first { IfOk result (λ r. IfSome r (IsFirstViolation admitted.now.graph admitted.now.order tables.now.nodes Rule.Present)) }
 {
     let problem = admitted.problem();
     for item in 0..problem.item_count() {
+        if is_marked(marks, item) {
+            continue;
+        }
         let columns = columns_of(tables, item);
         let absent = least_absent(alloc, admitted, item, columns)?;
         if let Some(scenario) = absent {

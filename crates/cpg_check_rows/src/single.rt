@@ -12,6 +12,7 @@ ghost use Rattle.cpg_violation.specs.Lines.{AreLines};
 ghost use Rattle.cpg_violation.specs.Room.{HasRoom};
 ghost use Rattle.cpg_violation.specs.Sieves.{IsSieveOf, is_at};
 ghost use Rattle.cpg_violation.specs.Heads.{IsHeadFor};
+ghost use Rattle.cpg_violation.specs.Sure.{AreSure};
 ghost use Rattle.cpg_violation.specs.Violation.{Holds, IsFirstColumn, IsFirstViolation};
 ghost use Rattle.cpg_check_rows.specs.Single.{is_double};
 
@@ -20,7 +21,7 @@ use cpg_cube::Cube;
 use cpg_order::Order;
 use cpg_rules::Admitted;
 use cpg_table::{Entry, Fault, Rule, Tables};
-use cpg_violation::{Line, Sieve, columns_of, earlier, lines_of, met};
+use cpg_violation::{Line, Sieve, columns_of, earlier, is_marked, lines_of, met};
 use std::alloc::Global;
 
 /// The least scenario that a cube matches together with the column at a place, if there is one.
@@ -113,21 +114,26 @@ fn first_double(
     Ok(None)
 }
 
-/// The first violation of V2, by the sieves of all rows.
+/// The first violation of V2, by the sieves of all rows. Items at which the rule is marked as sure are left out.
 pub(crate) fn single_by(
     alloc: Global,
     admitted: &Admitted,
     tables: &Tables,
     lines: &[Line<'_>],
+    marks: &[bool],
 ) -> Result<Option<Fault>, OutOfMemory>
     requires head { IsHeadFor admitted.now.graph tables.now.head }
     requires lines { AreLines tables.now.nodes (item_count admitted.now.graph) lines.now }
+    requires marks { AreSure admitted.now.graph tables.now.nodes Rule.Single marks.now }
     ensures none { IfOk result (λ r. IfNone r (Holds admitted.now.graph tables.now.nodes Rule.Single)) }
     ensures first { IfOk result (λ r. IfSome r (IsFirstViolation admitted.now.graph admitted.now.order tables.now.nodes Rule.Single)) }
 {
     let problem = admitted.problem();
     let order = admitted.order();
     for item in 0..problem.item_count() {
+        if is_marked(marks, item) {
+            continue;
+        }
         let columns = columns_of(tables, item);
         let line = &lines[item as usize];
         let double = first_double(alloc, problem, order, columns, &line.sieve)?;
@@ -144,17 +150,20 @@ pub(crate) fn single_by(
 }
 
 /// The first violation of V2, by item and column, with the least scenario in the urgency order in which it stands:
-/// the column and an earlier one of its row match. `None` exactly where the rule holds.
+/// the column and an earlier one of its row match. `None` exactly where the rule holds. Items at which it is marked as
+/// sure are left out.
 pub fn check_single(
     alloc: Global,
     admitted: &Admitted,
     tables: &Tables,
+    marks: &[bool],
 ) -> Result<Option<Fault>, OutOfMemory>
-    requires { IsHeadFor admitted.now.graph tables.now.head }
+    requires head { IsHeadFor admitted.now.graph tables.now.head }
+    requires marks { AreSure admitted.now.graph tables.now.nodes Rule.Single marks.now }
     ensures none { IfOk result (λ r. IfNone r (Holds admitted.now.graph tables.now.nodes Rule.Single)) }
     ensures first { IfOk result (λ r. IfSome r (IsFirstViolation admitted.now.graph admitted.now.order tables.now.nodes Rule.Single)) }
 {
     let lines = lines_of(alloc, admitted.problem(), tables)?;
-    let found = single_by(alloc, admitted, tables, lines.as_slice())?;
+    let found = single_by(alloc, admitted, tables, lines.as_slice(), marks)?;
     Ok(found)
 }

@@ -26,6 +26,7 @@ use Rattle.cpg_table.specs.Valid.{ends_of, arrivals_of, is_by, input_is_there, b
 use Rattle.cpg_table.specs.declared.rule.Rule.{Rule}
 use Rattle.cpg_violation.specs.Violation.{AllHold, row_rules}
 use Rattle.cpg_violation.proofs.Matching.{active_where}
+use Rattle.cpg_violation.proofs.Moments.{made, waits}
 use Rattle.cpg_check_time.specs.declared.delays.Delay.TheVariants.{Execution, Slot}
 use Rattle.cpg_check_time.specs.Columns.{breaks_column}
 use Rattle.cpg_check_time.specs.Delays.{is_late}
@@ -91,28 +92,12 @@ module _ {g : Graph} {order : List ℕ} {guards : Guards} (admitted : IsAdmitted
   -- ---- the rule at a send
 
   module _ (x : ℕ) (l : x < item_count g) (send : process_count g ≤ x) (c : Column) (k : Contains (columns_of tables x) c) where
-    waits : breaks_inputs_of g tables s c.time (item_at g x) ≡ not (is_by c.time (ends_of g tables s (producer g x)))
-    waits = elim (item_cases g x l) [
-      | inl start ↦ absurd (omega (arith, start.0))
-      | inr (inl m) ↦ ap (breaks_inputs_of g tables s c.time) m.3 ∙ sym (ap (λ i. not (is_by c.time (ends_of g tables s (producer_of_item g i)))) m.3)
-      | inr (inr b) ↦ ap (breaks_inputs_of g tables s c.time) b.3 ∙ sym (ap (λ i. not (is_by c.time (ends_of g tables s (producer_of_item g i)))) b.3)
-    ]
-
-    made : item_active g s.values (item_at g x) ≡ true → active g s.values (producer g x) ≡ true
-    made a = elim (item_cases g x l) [
-      | inl start ↦ absurd (omega (arith, start.0))
-      | inr (inl m) ↦ ap (λ i. active g s.values (producer_of_item g i)) m.3
-          ∙ (and_parts (active g s.values (source g m.0)) _ (and_parts (is_sent_item g (Message m.0)) (live g s.values m.0) (sym (ap (item_active g s.values) m.3) ∙ a)).1).0
-      | inr (inr b) ↦ ap (λ i. active g s.values (producer_of_item g i)) b.3
-          ∙ (and_parts (is_sent_item g (Broadcast b.0)) _ (sym (ap (item_active g s.values) b.3) ∙ a)).1
-    ]
-
     at_send : (matches c.cube s && list_any (λ d. is_late g (Execution (producer g x)) c.time d s) (columns_of tables (producer g x))) ≡ breaks_column Rule.Inputs g tables x c s
     at_send =
         when (matches c.cube s) (list_any (λ d. is_late g (Execution (producer g x)) c.time d s) (columns_of tables (producer g x))) (not (is_by c.time (ends_of g tables s (producer g x))))
         (λ m. sym (end_late (producer g x) (producer_within g admitted.well_formed x l) c.time)
-        ∙ ap (λ b. b && not (is_by c.time (ends_of g tables s (producer g x)))) (made (active_where g tables s law x l rules c k m)))
-        ∙ ap (λ b. matches c.cube s && b) (sym waits)
+        ∙ ap (λ b. b && not (is_by c.time (ends_of g tables s (producer g x)))) (made g s x l send (active_where g tables s law x l rules c k m)))
+        ∙ ap (λ b. matches c.cube s && b) (sym (waits g s x l send tables c.time))
       where
         when : (m a b : Bool) → (m ≡ true → a ≡ b) → (m && a) ≡ (m && b)
         when true a b h = h refl

@@ -29,18 +29,6 @@ both_any false test [] = refl
 both_any true test (x ∷ xs) = ap (λ b. test x || b) (both_any true test xs)
 both_any false test (x ∷ xs) = both_any false test xs
 
--- ---- times of columns that match
-
-module _ (tables : List NodeTable) where
-  pub in_at : (x : ℕ) (s : Scenario) (d : Column) → Contains (columns_of tables x) d → matches d.cube s ≡ true → Contains (at tables x s) d.time
-  in_at x s d h m = Contains-map (λ (c : Column). c.time) (filter (λ (c : Column). matches c.cube s) (columns_of tables x)) d (Contains-filter (λ (c : Column). matches c.cube s) (columns_of tables x) d m h)
-
-  pub at_parts : (x : ℕ) (s : Scenario) (time : ℕ) → Contains (at tables x s) time → (d : Column) × Contains (columns_of tables x) d × (matches d.cube s ≡ true) × (d.time ≡ time)
-  at_parts x s time h =
-      let r = Contains-map_parts (λ (c : Column). c.time) (filter (λ (c : Column). matches c.cube s) (columns_of tables x)) time h in
-      let q = Contains-filter_parts (λ (c : Column). matches c.cube s) (columns_of tables x) r.0 r.1 in
-      (r.0, q.0, q.1, r.2)
-
 -- ---- the least scenario
 
 -- of one element more

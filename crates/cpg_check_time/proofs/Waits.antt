@@ -14,7 +14,7 @@ use Rattle.cpg_table.specs.Valid.{is_by}
 use Rattle.cpg_table.specs.declared.rule.Rule.{Rule}
 use Rattle.cpg_violation.specs.Violation.{AllHold, row_rules}
 use Rattle.cpg_violation.proofs.Matching.{at_rule, active_where, match_where}
-use Rattle.cpg_check_time.proofs.Seeking.{in_at, at_parts}
+use Rattle.cpg_violation.proofs.Moments.{in_at, at_parts}
 
 module _ (g : Graph) (tables : List NodeTable) (s : Scenario) (law : IsScenario g s) (x : ℕ) (l : x < item_count g) (rules : AllHold g tables row_rules) where
   not_after : (c d : Column) (i j : ℕ) → i < length (columns_of tables x) → j < i → get_or (columns_of tables x) i c ≡ c → get_or (columns_of tables x) j d ≡ d → matches c.cube s ≡ true → matches d.cube s ≡ true → ⊥

@@ -5,6 +5,7 @@ ghost use Rattle.cpg_table.specs.declared.rule.Rule.{Rule};
 ghost use Rattle.cpg_violation.specs.Heads.{IsHeadFor};
 ghost use Rattle.cpg_violation.specs.Violation.{AllHold, IsFirstOf, row_rules, time_rules};
 ghost use Rattle.cpg_violation.specs.Lines.{AreLines};
+ghost use Rattle.cpg_violation.specs.Sure.{AreTimeMarks};
 
 use crate::due::check_due;
 use crate::frozen::check_frozen;
@@ -14,35 +15,39 @@ use crate::slots::slots_by;
 use cpg_base::OutOfMemory;
 use cpg_rules::Admitted;
 use cpg_table::{Fault, Tables};
-use cpg_violation::Line;
+use cpg_violation::{Line, TimeMarks};
 use std::alloc::Global;
 
 /// The first violation of the first of V5 to V9 that is broken, by item and column, with the least scenario in the urgency
-/// order in which it stands. `None` exactly where all five hold. V1 to V4 hold, and the lines are those of all items.
+/// order in which it stands. `None` exactly where all five hold. V1 to V4 hold, and the lines are those of all items. Where
+/// a rule is marked as sure at an item, it isn't looked at there.
 pub fn check_time(
     alloc: Global,
     admitted: &Admitted,
     tables: &Tables,
     lines: &[Line<'_>],
+    marks: &TimeMarks,
 ) -> Result<Option<Fault>, OutOfMemory>
     requires head { IsHeadFor admitted.now.graph tables.now.head }
     requires rules { AllHold admitted.now.graph tables.now.nodes (row_rules ++ Rule.Heard ∷ []) }
     requires lines { AreLines tables.now.nodes (item_count admitted.now.graph) lines.now }
+    requires marks { AreTimeMarks admitted.now.graph tables.now.nodes marks.now }
     ensures none { IfOk result (λ r. IfNone r (AllHold admitted.now.graph tables.now.nodes time_rules)) }
     ensures first { IfOk result (λ r. IfSome r (IsFirstOf admitted.now.graph admitted.now.order tables.now.nodes time_rules)) }
 {
-    if let Some(fault) = inputs_by(alloc, admitted, tables, lines)? {
+    if let Some(fault) = inputs_by(alloc, admitted, tables, lines, marks.inputs.as_slice())? {
         return Ok(Some(fault));
     }
-    if let Some(fault) = processors_by(alloc, admitted, tables, lines)? {
+    let processor = marks.processor.as_slice();
+    if let Some(fault) = processors_by(alloc, admitted, tables, lines, processor)? {
         return Ok(Some(fault));
     }
-    if let Some(fault) = slots_by(alloc, admitted, tables, lines)? {
+    if let Some(fault) = slots_by(alloc, admitted, tables, lines, marks.slot.as_slice())? {
         return Ok(Some(fault));
     }
-    if let Some(fault) = check_frozen(alloc, admitted, tables)? {
+    if let Some(fault) = check_frozen(alloc, admitted, tables, marks.frozen.as_slice())? {
         return Ok(Some(fault));
     }
-    let found = check_due(alloc, admitted, tables)?;
+    let found = check_due(alloc, admitted, tables, marks.due.as_slice())?;
     Ok(found)
 }

@@ -3,6 +3,7 @@ ghost use Rattle.std.specs.Prelude.{◌≡◌, IfNone, IfOk, IfSome, ⊤};
 ghost use Rattle.std.proofs.Common.{refl};
 ghost use Rattle.cpg_table.specs.declared.rule.Rule.{Rule};
 ghost use Rattle.cpg_violation.specs.Heads.{IsHeadFor};
+ghost use Rattle.cpg_violation.specs.Sure.{AreSure};
 ghost use Rattle.cpg_violation.specs.Violation.{Holds, IsFirstViolation};
 
 use crate::judge::{Judge, first_violation};
@@ -45,16 +46,18 @@ impl Judge for Due {
 
 /// The first violation of V9, by item and column, with the least scenario in the urgency order in which it stands: the
 /// column matches, and the execution that it starts ends after the lesser of the deadline and the process's own. `None`
-/// exactly where the rule holds.
+/// exactly where the rule holds. Items at which it is marked as sure are left out.
 pub fn check_due(
     alloc: Global,
     admitted: &Admitted,
     tables: &Tables,
+    marks: &[bool],
 ) -> Result<Option<Fault>, OutOfMemory>
-    requires { IsHeadFor admitted.now.graph tables.now.head }
+    requires head { IsHeadFor admitted.now.graph tables.now.head }
+    requires marks { AreSure admitted.now.graph tables.now.nodes Rule.Due marks.now }
     ensures none { IfOk result (λ r. IfNone r (Holds admitted.now.graph tables.now.nodes Rule.Due)) }
     ensures first { IfOk result (λ r. IfSome r (IsFirstViolation admitted.now.graph admitted.now.order tables.now.nodes Rule.Due)) }
 {
-    let found = first_violation(alloc, admitted, tables, Rule::Due, &Due)?;
+    let found = first_violation(alloc, admitted, tables, Rule::Due, &Due, marks)?;
     Ok(found)
 }

@@ -6,6 +6,7 @@ ghost use Rattle.cpg_base.specs.Numbers.{numbers_below};
 ghost use Rattle.cpg_rules.specs.Admission.{IsAdmitted};
 ghost use Rattle.cpg_table.specs.declared.rule.Rule.{Rule};
 ghost use Rattle.cpg_violation.specs.Heads.{IsHeadFor};
+ghost use Rattle.cpg_violation.specs.Sure.{AreSure};
 ghost use Rattle.cpg_violation.specs.Violation.{Holds, IsFirstViolation};
 ghost use Rattle.cpg_check_time.specs.Columns.{IsColumn};
 ghost use Rattle.cpg_check_time.specs.Frozen.{frozen_time, possible_time};
@@ -95,17 +96,26 @@ impl Judge for Frozen {
 
 /// The first violation of V8, by item and column, with the least scenario in the urgency order in which it stands: the
 /// item is frozen, the column matches, and its time is another than that of the row's first column that matches in any
-/// scenario. `None` exactly where the rule holds.
+/// scenario. `None` exactly where the rule holds. Items at which it is marked as sure are left out.
 pub fn check_frozen(
     alloc: Global,
     admitted: &Admitted,
     tables: &Tables,
+    marks: &[bool],
 ) -> Result<Option<Fault>, OutOfMemory>
-    requires { IsHeadFor admitted.now.graph tables.now.head }
+    requires head { IsHeadFor admitted.now.graph tables.now.head }
+    requires marks { AreSure admitted.now.graph tables.now.nodes Rule.Frozen marks.now }
     ensures none { IfOk result (λ r. IfNone r (Holds admitted.now.graph tables.now.nodes Rule.Frozen)) }
     ensures first { IfOk result (λ r. IfSome r (IsFirstViolation admitted.now.graph admitted.now.order tables.now.nodes Rule.Frozen)) }
 {
     let times = frozen_times(alloc, admitted, tables)?;
-    let found = first_violation(alloc, admitted, tables, Rule::Frozen, &Frozen { times })?;
+    let found = first_violation(
+        alloc,
+        admitted,
+        tables,
+        Rule::Frozen,
+        &Frozen { times },
+        marks,
+    )?;
     Ok(found)
 }

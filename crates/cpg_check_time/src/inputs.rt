@@ -11,6 +11,7 @@ ghost use Rattle.cpg_table.specs.declared.rule.Rule.{Rule};
 ghost use Rattle.cpg_table.specs.GraphHead.{head_of};
 ghost use Rattle.cpg_table.specs.Lawful.{AreTablesOf};
 ghost use Rattle.cpg_violation.specs.Heads.{IsHeadFor};
+ghost use Rattle.cpg_violation.specs.Sure.{AreSure};
 ghost use Rattle.cpg_violation.specs.Violation.{AllHold, Holds, IsFirstViolation, row_rules};
 ghost use Rattle.cpg_check_time.specs.Columns.{IsColumn};
 ghost use Rattle.cpg_check_time.specs.Inputs.{lacks_input};
@@ -154,16 +155,18 @@ impl<'a> Judge for Inputs<'a> {
     ghost alone = { refl };
 }
 
-/// The first violation of V5, by the columns of each item.
+/// The first violation of V5, by the columns of each item. Items at which the rule is marked as sure are left out.
 pub(crate) fn inputs_by(
     alloc: Global,
     admitted: &Admitted,
     tables: &Tables,
     lines: &[Line<'_>],
+    marks: &[bool],
 ) -> Result<Option<Fault>, OutOfMemory>
     requires head { IsHeadFor admitted.now.graph tables.now.head }
     requires rules { AllHold admitted.now.graph tables.now.nodes row_rules }
     requires lines { AreLines tables.now.nodes (item_count admitted.now.graph) lines.now }
+    requires marks { AreSure admitted.now.graph tables.now.nodes Rule.Inputs marks.now }
     ensures none { IfOk result (λ r. IfNone r (Holds admitted.now.graph tables.now.nodes Rule.Inputs)) }
     ensures first { IfOk result (λ r. IfSome r (IsFirstViolation admitted.now.graph admitted.now.order tables.now.nodes Rule.Inputs)) }
 {
@@ -174,24 +177,28 @@ pub(crate) fn inputs_by(
         tables,
         Rule::Inputs,
         &Inputs { links, lines },
+        marks,
     )?;
     Ok(found)
 }
 
 /// The first violation of V5, by item and column, with the least scenario in the urgency order in which it stands: the
 /// column matches, and at a start its time is before the release or a live input isn't there by then, at a send the
-/// producer hasn't ended. `None` exactly where the rule holds. V1, V2 and V3 hold.
+/// producer hasn't ended. `None` exactly where the rule holds. V1, V2 and V3 hold. Items at which the rule is marked as
+/// sure are left out.
 pub fn check_inputs(
     alloc: Global,
     admitted: &Admitted,
     tables: &Tables,
+    marks: &[bool],
 ) -> Result<Option<Fault>, OutOfMemory>
     requires head { IsHeadFor admitted.now.graph tables.now.head }
     requires rules { AllHold admitted.now.graph tables.now.nodes row_rules }
+    requires marks { AreSure admitted.now.graph tables.now.nodes Rule.Inputs marks.now }
     ensures none { IfOk result (λ r. IfNone r (Holds admitted.now.graph tables.now.nodes Rule.Inputs)) }
     ensures first { IfOk result (λ r. IfSome r (IsFirstViolation admitted.now.graph admitted.now.order tables.now.nodes Rule.Inputs)) }
 {
     let lines = lines_of(alloc, admitted.problem(), tables)?;
-    let found = inputs_by(alloc, admitted, tables, lines.as_slice())?;
+    let found = inputs_by(alloc, admitted, tables, lines.as_slice(), marks)?;
     Ok(found)
 }

@@ -10,13 +10,14 @@ ghost use Rattle.cpg_table.specs.Table.{NodeTable, columns_of};
 ghost use Rattle.cpg_table.specs.Valid.{breaks};
 ghost use Rattle.cpg_table.specs.declared.rule.Rule.{Rule};
 ghost use Rattle.cpg_violation.specs.Heads.{IsHeadFor};
+ghost use Rattle.cpg_violation.specs.Sure.{AreSure};
 ghost use Rattle.cpg_violation.specs.Violation.{Holds, IsFirstColumn, IsFirstViolation};
 ghost use Rattle.cpg_check_time.specs.Columns.{IsColumn, breaks_column, is_alone};
 
 use cpg_base::{OutOfMemory, Scenario};
 use cpg_rules::Admitted;
 use cpg_table::{Entry, Fault, Rule, Tables};
-use cpg_violation::columns_of;
+use cpg_violation::{columns_of, is_marked};
 use std::alloc::Global;
 
 /// A rule on single columns, with what its questions need to know of the tables.
@@ -70,21 +71,26 @@ fn first_in_row<J: Judge>(
 }
 
 /// The first violation of the rule, by item and column, with the least scenario in the urgency order in which it
-/// stands. `None` exactly where the rule holds.
+/// stands. `None` exactly where the rule holds. Items at which it is marked as sure are left out.
 pub(crate) fn first_violation<J: Judge>(
     alloc: Global,
     admitted: &Admitted,
     tables: &Tables,
     rule: Rule,
     judge: &J,
+    marks: &[bool],
 ) -> Result<Option<Fault>, OutOfMemory>
     requires rule { rule ≡ J.rule }
     requires head { IsHeadFor admitted.now.graph tables.now.head }
     requires suits { J.suits judge.now admitted.now.graph tables.now.nodes }
+    requires marks { AreSure admitted.now.graph tables.now.nodes J.rule marks.now }
     ensures none { IfOk result (λ r. IfNone r (Holds admitted.now.graph tables.now.nodes J.rule)) }
     ensures first { IfOk result (λ r. IfSome r (IsFirstViolation admitted.now.graph admitted.now.order tables.now.nodes J.rule)) }
 {
     for item in 0..admitted.problem().item_count() {
+        if is_marked(marks, item) {
+            continue;
+        }
         let found = first_in_row(alloc, admitted, tables, judge, item)?;
         if let Some((column, scenario)) = found {
             return Ok(Some(Fault {

@@ -10,6 +10,7 @@ ghost use Rattle.cpg_table.specs.declared.rule.Rule.{Rule};
 ghost use Rattle.cpg_table.specs.GraphHead.{head_of};
 ghost use Rattle.cpg_table.specs.Lawful.{AreTablesOf};
 ghost use Rattle.cpg_violation.specs.Heads.{IsHeadFor};
+ghost use Rattle.cpg_violation.specs.Sure.{AreSure};
 ghost use Rattle.cpg_violation.specs.Room.{HasRoom};
 ghost use Rattle.cpg_violation.specs.Violation.{Holds, IsFirstViolation};
 ghost use Rattle.cpg_check_time.specs.Clashes.{overlaps, overlaps_some};
@@ -172,15 +173,17 @@ impl<'a> Judge for Processors<'a> {
     ghost alone = { refl };
 }
 
-/// The first violation of V6, by the columns of each item.
+/// The first violation of V6, by the columns of each item. Items at which the rule is marked as sure are left out.
 pub(crate) fn processors_by(
     alloc: Global,
     admitted: &Admitted,
     tables: &Tables,
     lines: &[Line<'_>],
+    marks: &[bool],
 ) -> Result<Option<Fault>, OutOfMemory>
     requires head { IsHeadFor admitted.now.graph tables.now.head }
     requires lines { AreLines tables.now.nodes (item_count admitted.now.graph) lines.now }
+    requires marks { AreSure admitted.now.graph tables.now.nodes Rule.Processor marks.now }
     ensures none { IfOk result (λ r. IfNone r (Holds admitted.now.graph tables.now.nodes Rule.Processor)) }
     ensures first { IfOk result (λ r. IfSome r (IsFirstViolation admitted.now.graph admitted.now.order tables.now.nodes Rule.Processor)) }
 {
@@ -190,23 +193,26 @@ pub(crate) fn processors_by(
         tables,
         Rule::Processor,
         &Processors { lines },
+        marks,
     )?;
     Ok(found)
 }
 
 /// The first violation of V6, by process and column, with the least scenario in the urgency order in which it stands: the
 /// column matches, and the execution that it starts overlaps that of a process of the same node with a lower number.
-/// `None` exactly where the rule holds.
+/// `None` exactly where the rule holds. Items at which it is marked as sure are left out.
 pub fn check_processor(
     alloc: Global,
     admitted: &Admitted,
     tables: &Tables,
+    marks: &[bool],
 ) -> Result<Option<Fault>, OutOfMemory>
-    requires { IsHeadFor admitted.now.graph tables.now.head }
+    requires head { IsHeadFor admitted.now.graph tables.now.head }
+    requires marks { AreSure admitted.now.graph tables.now.nodes Rule.Processor marks.now }
     ensures none { IfOk result (λ r. IfNone r (Holds admitted.now.graph tables.now.nodes Rule.Processor)) }
     ensures first { IfOk result (λ r. IfSome r (IsFirstViolation admitted.now.graph admitted.now.order tables.now.nodes Rule.Processor)) }
 {
     let lines = lines_of(alloc, admitted.problem(), tables)?;
-    let found = processors_by(alloc, admitted, tables, lines.as_slice())?;
+    let found = processors_by(alloc, admitted, tables, lines.as_slice(), marks)?;
     Ok(found)
 }

@@ -12,6 +12,7 @@ ghost use Rattle.cpg_table.specs.declared.rule.Rule.{Rule};
 ghost use Rattle.cpg_table.specs.GraphHead.{head_of};
 ghost use Rattle.cpg_table.specs.Lawful.{AreTablesOf};
 ghost use Rattle.cpg_violation.specs.Heads.{IsHeadFor};
+ghost use Rattle.cpg_violation.specs.Sure.{AreSure};
 ghost use Rattle.cpg_violation.specs.Room.{HasRoom};
 ghost use Rattle.cpg_violation.specs.Violation.{Holds, IsFirstViolation};
 ghost use Rattle.cpg_check_time.specs.Clashes.{shares, shares_some};
@@ -182,35 +183,39 @@ impl<'a> Judge for Slots<'a> {
     ghost alone = { refl };
 }
 
-/// The first violation of V7, by the columns of each item.
+/// The first violation of V7, by the columns of each item. Items at which the rule is marked as sure are left out.
 pub(crate) fn slots_by(
     alloc: Global,
     admitted: &Admitted,
     tables: &Tables,
     lines: &[Line<'_>],
+    marks: &[bool],
 ) -> Result<Option<Fault>, OutOfMemory>
     requires head { IsHeadFor admitted.now.graph tables.now.head }
     requires lines { AreLines tables.now.nodes (item_count admitted.now.graph) lines.now }
+    requires marks { AreSure admitted.now.graph tables.now.nodes Rule.Slot marks.now }
     ensures none { IfOk result (λ r. IfNone r (Holds admitted.now.graph tables.now.nodes Rule.Slot)) }
     ensures first { IfOk result (λ r. IfSome r (IsFirstViolation admitted.now.graph admitted.now.order tables.now.nodes Rule.Slot)) }
 {
-    let found = first_violation(alloc, admitted, tables, Rule::Slot, &Slots { lines })?;
+    let found = first_violation(alloc, admitted, tables, Rule::Slot, &Slots { lines }, marks)?;
     Ok(found)
 }
 
 /// The first violation of V7, by item and column, with the least scenario in the urgency order in which it stands: the
 /// column matches, and its time is no start of an own slot, or an item with a lower number that the same node sends has
-/// that time too. `None` exactly where the rule holds.
+/// that time too. `None` exactly where the rule holds. Items at which it is marked as sure are left out.
 pub fn check_slot(
     alloc: Global,
     admitted: &Admitted,
     tables: &Tables,
+    marks: &[bool],
 ) -> Result<Option<Fault>, OutOfMemory>
-    requires { IsHeadFor admitted.now.graph tables.now.head }
+    requires head { IsHeadFor admitted.now.graph tables.now.head }
+    requires marks { AreSure admitted.now.graph tables.now.nodes Rule.Slot marks.now }
     ensures none { IfOk result (λ r. IfNone r (Holds admitted.now.graph tables.now.nodes Rule.Slot)) }
     ensures first { IfOk result (λ r. IfSome r (IsFirstViolation admitted.now.graph admitted.now.order tables.now.nodes Rule.Slot)) }
 {
     let lines = lines_of(alloc, admitted.problem(), tables)?;
-    let found = slots_by(alloc, admitted, tables, lines.as_slice())?;
+    let found = slots_by(alloc, admitted, tables, lines.as_slice(), marks)?;
     Ok(found)
 }

@@ -8,7 +8,7 @@ use cpg_check_heard::check_heard;
 use cpg_check_rows::check_rows;
 use cpg_rules::Admitted;
 use cpg_table::{Fault, Tables};
-use cpg_violation::lines_of;
+use cpg_violation::{RowMarks, lines_of};
 use std::alloc::Global;
 use std::test::Fail;
 
@@ -22,10 +22,11 @@ fn judged(alloc: Global, admitted: &Admitted, tables: &Tables) -> Result<Option<
 {
     let lines = lines_of(alloc, admitted.problem(), tables)?;
     let lines = lines.as_slice();
-    if let Some(fault) = check_rows(alloc, admitted, tables, lines)? {
+    let marks = RowMarks::none(alloc);
+    if let Some(fault) = check_rows(alloc, admitted, tables, lines, &marks)? {
         return Ok(Some(fault));
     }
-    let found = check_heard(alloc, admitted, tables, lines)?;
+    let found = check_heard(alloc, admitted, tables, lines, &[])?;
     Ok(found)
 }
 

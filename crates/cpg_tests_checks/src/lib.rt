@@ -8,6 +8,8 @@ mod heard_tests;
 #[cfg(test)]
 mod rows_tests;
 #[cfg(test)]
+mod sure_tests;
+#[cfg(test)]
 mod time_tests;
 #[cfg(test)]
 mod verdict_tests;

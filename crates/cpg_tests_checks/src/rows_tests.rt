@@ -8,7 +8,7 @@ use cpg_base::{Edge, OutOfMemory};
 use cpg_check_rows::{check_activity, check_hears, check_present, check_rows, check_single};
 use cpg_rules::Admitted;
 use cpg_table::{Fault, Tables};
-use cpg_violation::lines_of;
+use cpg_violation::{RowMarks, lines_of};
 use std::alloc::Global;
 use std::test::Fail;
 
@@ -45,7 +45,8 @@ fn judged(alloc: Global, admitted: &Admitted, tables: &Tables) -> Result<Option<
     requires { IsHeadFor admitted.now.graph tables.now.head }
 {
     let lines = lines_of(alloc, admitted.problem(), tables)?;
-    let found = check_rows(alloc, admitted, tables, lines.as_slice())?;
+    let marks = RowMarks::none(alloc);
+    let found = check_rows(alloc, admitted, tables, lines.as_slice(), &marks)?;
     Ok(found)
 }
 
@@ -66,7 +67,7 @@ fn rows_for_one_fault(rt: HostRuntime) -> Result<(), Fail> {
 /// Where the tables for one fault lack a column.
 fn absent(alloc: Global, admitted: &Admitted) -> Result<Place, Fail> {
     let tables = for_one_fault(alloc, admitted)?;
-    place_in(check_present(alloc, admitted, &tables))
+    place_in(check_present(alloc, admitted, &tables, &[]))
 }
 
 #[test]
@@ -82,7 +83,7 @@ fn a_row_without_a_column(rt: HostRuntime) -> Result<(), Fail> {
 fn double(alloc: Global, admitted: &Admitted) -> Result<Place, Fail> {
     let early = Column::at(1, 35).with(0, 1);
     let tables = with(alloc, admitted, early, Column::at(1, 72))?;
-    place_in(check_single(alloc, admitted, &tables))
+    place_in(check_single(alloc, admitted, &tables, &[]))
 }
 
 #[test]
@@ -98,7 +99,7 @@ fn two_columns_in_one_scenario(rt: HostRuntime) -> Result<(), Fail> {
 fn idle(alloc: Global, admitted: &Admitted) -> Result<Place, Fail> {
     let early = Column::at(1, 35).with(128, 1);
     let tables = with(alloc, admitted, early, Column::at(1, 36))?;
-    place_in(check_activity(alloc, admitted, &tables))
+    place_in(check_activity(alloc, admitted, &tables, &[]))
 }
 
 #[test]

@@ -39,7 +39,7 @@ fn with_overlap(alloc: Global, admitted: &Admitted) -> Result<Tables, Fail>
 /// What is found there.
 fn overlap(alloc: Global, admitted: &Admitted) -> Result<Place, Fail> {
     let tables = with_overlap(alloc, admitted)?;
-    place_in(check_processor(alloc, admitted, &tables))
+    place_in(check_processor(alloc, admitted, &tables, &[]))
 }
 
 #[test]
@@ -59,7 +59,7 @@ fn one_message(alloc: Global) -> Result<Admitted, Fail> {
 /// What is found where a message of N1 is sent at 90 after a fault.
 fn foreign(alloc: Global, admitted: &Admitted) -> Result<Place, Fail> {
     let tables = sending(alloc, admitted, [40, 90], [50, 100], [50, 100])?;
-    place_in(check_slot(alloc, admitted, &tables))
+    place_in(check_slot(alloc, admitted, &tables, &[]))
 }
 
 #[test]
@@ -79,7 +79,7 @@ fn two_messages(alloc: Global) -> Result<Admitted, Fail> {
 /// What is found where both are sent at 80 after a fault.
 fn shared(alloc: Global, admitted: &Admitted) -> Result<Place, Fail> {
     let tables = sending_two(alloc, admitted, [60, 80], [70, 90])?;
-    place_in(check_slot(alloc, admitted, &tables))
+    place_in(check_slot(alloc, admitted, &tables, &[]))
 }
 
 #[test]
@@ -94,7 +94,7 @@ fn two_sends_in_one_slot(rt: HostRuntime) -> Result<(), Fail> {
 /// Whether none is found where the second is sent at 80 without a fault, and at 100 after one.
 fn is_unshared(alloc: Global, admitted: &Admitted) -> Result<bool, Fail> {
     let tables = sending_two(alloc, admitted, [80, 100], [90, 110])?;
-    Ok(matches!(check_slot(alloc, admitted, &tables), Ok(None)))
+    Ok(matches!(check_slot(alloc, admitted, &tables, &[]), Ok(None)))
 }
 
 #[test]
@@ -121,7 +121,7 @@ fn twice(alloc: Global, admitted: &Admitted, second: u64) -> Result<Tables, Fail
 /// What ends after the deadline where A is always at 0.
 fn late(alloc: Global, admitted: &Admitted) -> Result<Place, Fail> {
     let tables = twice(alloc, admitted, 0)?;
-    place_in(check_due(alloc, admitted, &tables))
+    place_in(check_due(alloc, admitted, &tables, &[]))
 }
 
 #[test]
@@ -136,8 +136,8 @@ fn an_end_after_the_deadline(rt: HostRuntime) -> Result<(), Fail> {
 /// Whether A is in time and frozen where it is always at 0.
 fn is_due(alloc: Global, admitted: &Admitted) -> Result<bool, Fail> {
     let tables = twice(alloc, admitted, 0)?;
-    let in_time = matches!(check_due(alloc, admitted, &tables), Ok(None));
-    Ok(in_time && matches!(check_frozen(alloc, admitted, &tables), Ok(None)))
+    let in_time = matches!(check_due(alloc, admitted, &tables, &[]), Ok(None));
+    Ok(in_time && matches!(check_frozen(alloc, admitted, &tables, &[]), Ok(None)))
 }
 
 #[test]
@@ -150,7 +150,7 @@ fn an_end_at_the_deadline(rt: HostRuntime) -> Result<(), Fail> {
 /// What isn't frozen where A is at 4 after a fault.
 fn unfrozen(alloc: Global, admitted: &Admitted) -> Result<Place, Fail> {
     let tables = twice(alloc, admitted, 4)?;
-    place_in(check_frozen(alloc, admitted, &tables))
+    place_in(check_frozen(alloc, admitted, &tables, &[]))
 }
 
 #[test]

@@ -1,5 +1,6 @@
 pub mod RowColumns
 pub mod Violations
+pub mod Marked
 pub mod ActiveWhere
 pub mod HeadLaws
 pub mod Columnwise
@@ -7,3 +8,4 @@ pub mod SieveLaws
 pub mod ApartLaws
 pub mod LineLaws
 pub mod Matching
+pub mod Moments

@@ -14,16 +14,22 @@ use Rattle.cpg_table.specs.Table.{Column, NodeTable, columns_of}
 use Rattle.cpg_table.specs.Valid.{breaks_at, breaks_rule}
 use Rattle.cpg_table.specs.declared.rule.Rule.{Rule}
 use Rattle.cpg_table.proofs.Settings.{second_false}
+use Rattle.cpg_violation.specs.Sure.{IsSure}
 use Rattle.cpg_violation.specs.Violation.{AllHold, Holds, row_rules}
 
 module _ (g : Graph) (tables : List NodeTable) (s : Scenario) (law : IsScenario g s) (x : ℕ) (l : x < item_count g) where
-  -- a rule that holds, at a column that matches
+  -- a rule that is sure, at a column that matches
+  pub sure_rule : (rule : Rule) → IsSure g tables rule x → (i : ℕ) (d : Column) → i < length (columns_of tables x) → matches (get_or (columns_of tables x) i d).cube s ≡ true
+      → breaks_rule rule g tables s x (take i (columns_of tables x)) (get_or (columns_of tables x) i d) ≡ false
+  sure_rule rule sure i d h m =
+      let here : (breaks_at rule g tables s x (take i (columns_of tables x)) (get_or (columns_of tables x) i d) || false) ≡ false =
+      sym (ap (λ l. list_any (breaks_at rule g tables s x (take i (columns_of tables x))) (take 1 l)) (drop_more (columns_of tables x) i d h)) ∙ sure (Some i) s law in
+      second_false _ _ m (or_parts _ _ here).0
+
+  -- one that holds
   pub at_rule : (rule : Rule) → Holds g tables rule → (i : ℕ) (d : Column) → i < length (columns_of tables x) → matches (get_or (columns_of tables x) i d).cube s ≡ true
       → breaks_rule rule g tables s x (take i (columns_of tables x)) (get_or (columns_of tables x) i d) ≡ false
-  at_rule rule holds i d h m =
-      let here : (breaks_at rule g tables s x (take i (columns_of tables x)) (get_or (columns_of tables x) i d) || false) ≡ false =
-      sym (ap (λ l. list_any (breaks_at rule g tables s x (take i (columns_of tables x))) (take 1 l)) (drop_more (columns_of tables x) i d h)) ∙ holds x (Some i) s law l in
-      second_false _ _ m (or_parts _ _ here).0
+  at_rule rule holds i d h m = sure_rule rule (λ column t lawful. holds x column t lawful l) i d h m
 
   module _ (rules : AllHold g tables row_rules) where
     -- its item is active

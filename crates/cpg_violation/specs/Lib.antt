@@ -1,5 +1,6 @@
 pub mod Columns
 pub mod Violation
+pub mod Sure
 pub mod Activity
 pub mod Room
 pub mod Heads

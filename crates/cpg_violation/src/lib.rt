@@ -7,6 +7,7 @@ mod columns;
 mod earliest;
 mod edges;
 mod lines;
+mod marks;
 mod meeting;
 mod sieve;
 
@@ -15,5 +16,6 @@ pub use columns::{columns_of, row_columns};
 pub use earliest::earlier;
 pub use edges::{cubes_of, edge_cube};
 pub use lines::{Line, lines_of};
+pub use marks::{RowMarks, TimeMarks, are_all, is_marked};
 pub use meeting::met;
 pub use sieve::Sieve;

@@ -1,5 +1,5 @@
 use Rattle.cpg_violation.proofs.HeadLaws.{tables_of_graph}
-use Rattle.std.proofs.Common.{◌≡◌, ◌<◌, ap, false, ℕ, Contains, arith, refl}
+use Rattle.std.proofs.Common.{◌≡◌, ◌<◌, ap, false, ℕ, Contains, arith, refl, sym}
 use Rattle.std.proofs.lemmas.List.Elements.{All-weaker, All-contains_itself}
 use Rattle.cpg_base.specs.Graph.{item_count}
 use Rattle.cpg_order.specs.Scenario.{Scenario, IsScenario}
@@ -10,6 +10,7 @@ use Rattle.cpg_table.specs.declared.rule.Rule.{Rule}
 use Rattle.cpg_violation.specs.Violation.{IsFirstColumn}
 use Rattle.cpg_violation.proofs.RowColumns.{columns_few}
 use Rattle.cpg_violation.proofs.Matching.{literal_active}
+use Rattle.cpg_violation.proofs.Marked.{marked_more}
 use Rattle.cpg_violation.proofs.Violations.{columns_known, none_more, first_violation}
 use Rattle.cpg_check_heard.specs.Ended.{HasActive}
 use Rattle.cpg_check_heard.specs.Unheard.{is_unheard}
@@ -51,3 +52,9 @@ loop-item-preserved c =
     let none : (i : ℕ) (s : Scenario) → IsScenario g s → is_unheard g c.args.tables.now.nodes c.loop-item.item (columns_of c.args.tables.now.nodes c.loop-item.item) i s ≡ false =
     rw (← c.columns_of-columns.ensures.columns) (rw c.in_default.is at c.in_ok-unheard.ensures.none) in
     none_more Rule.Heard g c.args.tables.now.nodes c.loop-item.item (λ y s. refl) c.loop-item.invariant none
+
+pub loop-item-preserved-then-is_marked : goal.loop-item-preserved-then-is_marked
+loop-item-preserved-then-is_marked c =
+    let g = c.args.admitted.now.graph in
+    let below : c.loop-item.item < item_count g = omega (arith, c.loop-item-test.true, c.item_count-item-end.ensures, ap item_count c.problem-problem.ensures.problem) in
+    marked_more g c.args.tables.now.nodes Rule.Heard c.args.marks.now c.requires.marks c.loop-item.item below (sym c.if-is_marked.ensures) c.loop-item.invariant

@@ -1,21 +1,31 @@
-use Rattle.std.proofs.Common.{◌≡◌, ◌<◌, ◌&&◌, ◌∙◌, false, Some, None, length, ap, subst, arith, inl, inr}
+use Rattle.std.proofs.Common.{◌≡◌, ◌<◌, ◌&&◌, ◌∙◌, false, Some, None, All, Contains, length, ap, sym, subst, arith, inl, inr}
 use Rattle.std.proofs.lemmas.Bool.{cases_lt}
+use Rattle.std.proofs.lemmas.List.Elements.{All-contains_itself}
 use Rattle.cpg_base.specs.Graph.{home}
 use Rattle.cpg_order.specs.First.{IsFirst}
 use Rattle.cpg_order.specs.Scenario.{Scenario, IsScenario}
 use Rattle.cpg_cube.specs.Cube.{matches}
 use Rattle.cpg_table.specs.Items.{ItemLists, hears_of}
+use Rattle.cpg_table.specs.Shape.{heard_by}
 use Rattle.cpg_table.specs.Valid.{breaks_heard}
 use Rattle.cpg_violation.proofs.HeadLaws.{hears_of_graph}
 use Rattle.cpg_violation.proofs.Columnwise.{broken_place}
 use Rattle.cpg_check_heard.specs.Unheard.{is_column_unheard, is_unheard}
 use Rattle.cpg_check_heard.proofs.heard.first_unheard.Goals as goal
 
+pub ranks-requires-clause-items : goal.ranks-requires-clause-items
+ranks-requires-clause-items c =
+    let g = c.args.hearing.now.admitted.now.graph in
+    let inside : c.home-node.result < length g.nodes = rw c.problem-problem.ensures.problem at c.home-node.ensures.within in
+    let are : c.hears-hears.result.now ≡ heard_by g c.home-node.result = c.hears-hears.ensures ∙ ap (λ (i : ItemLists). i.hears) c.in_ok-items.ensures ∙ ap (λ h. hears_of h c.home-node.result) c.head.ensures.head
+    ∙ hears_of_graph g c.args.hearing.now.tables.now.head c.requires.hearing.head c.requires.hearing.admitted.limits c.home-node.result inside in
+    subst (All (Contains (heard_by g c.home-node.result))) (sym are) (All-contains_itself (heard_by g c.home-node.result))
+
 pub least_unheard-requires-clause-items : goal.least_unheard-requires-clause-items
 least_unheard-requires-clause-items c =
     let g = c.args.hearing.now.admitted.now.graph in
     let inside : c.home-node.result < length g.nodes = rw c.problem-problem.ensures.problem at c.home-node.ensures.within in
-    c.hears.ensures ∙ ap (λ (i : ItemLists). i.hears) c.in_ok-items.ensures ∙ ap (λ h. hears_of h c.home-node.result) c.head.ensures.head
+    c.hears-hears.ensures ∙ ap (λ (i : ItemLists). i.hears) c.in_ok-items.ensures ∙ ap (λ h. hears_of h c.home-node.result) c.head.ensures.head
     ∙ hears_of_graph g c.args.hearing.now.tables.now.head c.requires.hearing.head c.requires.hearing.admitted.limits c.home-node.result inside
 
 pub returns-in-Some-clause-first : goal.returns-in-Some-clause-first

@@ -1,4 +1,4 @@
-use Rattle.std.proofs.Common.{◌≡◌, ap, false, ℕ, arith, refl}
+use Rattle.std.proofs.Common.{◌≡◌, ap, false, ℕ, arith, refl, ◌<◌, sym}
 use Rattle.cpg_base.specs.Graph.{item_count}
 use Rattle.cpg_order.specs.Scenario.{Scenario, IsScenario}
 use Rattle.cpg_violation.specs.Violation.{IsFirstColumn}
@@ -9,12 +9,13 @@ use Rattle.cpg_table.specs.Lawful.{AreTablesOf}
 use Rattle.cpg_table.specs.Table.{columns_of}
 use Rattle.cpg_table.specs.declared.rule.Rule.{Rule}
 use Rattle.cpg_violation.proofs.RowColumns.{columns_few}
+use Rattle.cpg_violation.proofs.Marked.{marked_more}
 use Rattle.cpg_violation.proofs.Violations.{columns_known, none_more, first_violation}
 use Rattle.cpg_check_rows.proofs.activity.check_activity.Goals as goal
 
 pub first_idle-requires-clause-columns : goal.first_idle-requires-clause-columns
 first_idle-requires-clause-columns c =
-    let are : AreTablesOf (head_of c.args.admitted.now.graph) c.args.tables.now.nodes = tables_of_graph c.args.admitted.now.graph c.args.tables.now.head c.args.tables.now.nodes c.requires c.columns_of-columns.ensures.lawful in
+    let are : AreTablesOf (head_of c.args.admitted.now.graph) c.args.tables.now.nodes = tables_of_graph c.args.admitted.now.graph c.args.tables.now.head c.args.tables.now.nodes c.requires.head c.columns_of-columns.ensures.lawful in
     rw c.columns_of-columns.ensures.columns (columns_known c.problem.ensures.admitted c.args.tables.now.nodes are c.loop-item.item)
 
 pub first_idle-requires-clause-few : goal.first_idle-requires-clause-few
@@ -34,3 +35,9 @@ loop-item-preserved c =
     let none : (i : ℕ) (s : Scenario) → IsScenario g s → is_idle g c.loop-item.item (columns_of c.args.tables.now.nodes c.loop-item.item) i s ≡ false =
     rw (← c.columns_of-columns.ensures.columns) (rw c.in_default.is at c.in_ok-idle.ensures.none) in
     none_more Rule.Activity g c.args.tables.now.nodes c.loop-item.item (λ y s. refl) c.loop-item.invariant none
+
+pub loop-item-preserved-then-is_marked : goal.loop-item-preserved-then-is_marked
+loop-item-preserved-then-is_marked c =
+    let g = c.args.admitted.now.graph in
+    let below : c.loop-item.item < item_count g = omega (arith, c.loop-item-test.true, c.item_count-item-end.ensures, ap item_count c.problem.ensures.problem) in
+    marked_more g c.args.tables.now.nodes Rule.Activity c.args.marks.now c.requires.marks c.loop-item.item below (sym c.if-is_marked.ensures) c.loop-item.invariant

@@ -10,6 +10,7 @@ use Rattle.cpg_table.specs.Lawful.{AreTablesOf}
 use Rattle.cpg_table.specs.Table.{columns_of}
 use Rattle.cpg_table.specs.declared.rule.Rule.{Rule}
 use Rattle.cpg_violation.proofs.RowColumns.{columns_few}
+use Rattle.cpg_violation.proofs.Marked.{marked_more}
 use Rattle.cpg_violation.proofs.Violations.{long_order, columns_known, none_more, first_violation}
 use Rattle.cpg_check_rows.proofs.single.single_by.Goals as goal
 
@@ -46,3 +47,9 @@ loop-item-preserved c =
     let none : (i : ℕ) (s : Scenario) → IsScenario g s → is_double (columns_of c.args.tables.now.nodes c.loop-item.item) i s ≡ false =
     rw (← c.problem-problem.ensures.problem, ← c.columns_of-columns.ensures.columns) (rw c.in_default.is at c.in_ok-double.ensures.none) in
     none_more Rule.Single g c.args.tables.now.nodes c.loop-item.item (λ y s. refl) c.loop-item.invariant none
+
+pub loop-item-preserved-then-is_marked : goal.loop-item-preserved-then-is_marked
+loop-item-preserved-then-is_marked c =
+    let g = c.args.admitted.now.graph in
+    let below : c.loop-item.item < item_count g = omega (arith, c.loop-item-test.true, c.item_count-item-end.ensures, ap item_count c.problem-problem.ensures.problem) in
+    marked_more g c.args.tables.now.nodes Rule.Single c.args.marks.now c.requires.marks c.loop-item.item below (sym c.if-is_marked.ensures) c.loop-item.invariant

@@ -1,5 +1,4 @@
-use Rattle.std.proofs.Common.{ℕ, ◌<◌, [], get_or, All, Contains, List, arith, subst, false}
-use Rattle.std.proofs.lemmas.List.Elements.{Contains-get_or}
+use Rattle.std.proofs.Common.{◌<◌, [], get_or, All, arith, false}
 use Rattle.cpg_base.proofs.Lists.{Contains-filter_parts, numbers-Contains}
 use Rattle.cpg_base.specs.Graph.{is_heard_by, item_at, item_count}
 use Rattle.cpg_base.specs.Numbers.{numbers_below}
@@ -11,6 +10,7 @@ use Rattle.cpg_check_heard.specs.Arrivals.{do_tell}
 use Rattle.cpg_check_heard.specs.Tellings.{CanTell}
 use Rattle.cpg_check_heard.specs.Untold.{item_tells}
 use Rattle.cpg_check_heard.proofs.Facts.{heard_can}
+use Rattle.cpg_check_heard.proofs.Framed.{heard_below}
 use Rattle.cpg_check_heard.proofs.PartLaws.{row_more}
 use Rattle.cpg_check_heard.proofs.TellerLists.{teller_at}
 use Rattle.cpg_check_heard.proofs.hearing.Hearing.arrivals.Goals as goal
@@ -19,18 +19,14 @@ pub index-teller-requires : goal.index-teller-requires
 index-teller-requires c =
     let g = c.args.self.now.admitted.now.graph in
     let x = get_or c.args.items.now c.loop-item.item-index 0 in
-    let parts = Contains-filter_parts (λ x. is_heard_by g c.args.node (item_at g x)) (numbers_below (item_count g)) x
-    (subst (λ (xs : List ℕ). Contains xs x) c.requires.items (Contains-get_or c.args.items.now c.loop-item.item-index 0 c.loop-item-test.true)) in
-    let below : x < item_count g = numbers-Contains (item_count g) x parts.0 in
+    let below : x < item_count g = heard_below g c.args.node x (c.requires.items c.loop-item.item-index 0 c.loop-item-test.true) in
     omega (arith, below, c.requires.hearing.tellers.count)
 
 pub add_row-requires : goal.add_row-requires
 add_row-requires c =
     let g = c.args.self.now.admitted.now.graph in
     let x = get_or c.args.items.now c.loop-item.item-index 0 in
-    let parts = Contains-filter_parts (λ x. is_heard_by g c.args.node (item_at g x)) (numbers_below (item_count g)) x
-    (subst (λ (xs : List ℕ). Contains xs x) c.requires.items (Contains-get_or c.args.items.now c.loop-item.item-index 0 c.loop-item-test.true)) in
-    let below : x < item_count g = numbers-Contains (item_count g) x parts.0 in
+    let below : x < item_count g = heard_below g c.args.node x (c.requires.items c.loop-item.item-index 0 c.loop-item-test.true) in
     let t = c.index-teller.result.now in
     let is = teller_at g c.args.self.now.tables.now.nodes (item_count g) c.args.self.now.tellers.items x t c.requires.hearing.tellers below c.index-teller.ensures in
     rw is.line.all is.line.sieve
@@ -40,7 +36,7 @@ loop-item-preserved c =
     let g = c.args.self.now.admitted.now.graph in
     let x = get_or c.args.items.now c.loop-item.item-index 0 in
     let parts = Contains-filter_parts (λ x. is_heard_by g c.args.node (item_at g x)) (numbers_below (item_count g)) x
-    (subst (λ (xs : List ℕ). Contains xs x) c.requires.items (Contains-get_or c.args.items.now c.loop-item.item-index 0 c.loop-item-test.true)) in
+    (c.requires.items c.loop-item.item-index 0 c.loop-item-test.true) in
     let below : x < item_count g = numbers-Contains (item_count g) x parts.0 in
     let tables = c.args.self.now.tables.now.nodes in
     let t = c.index-teller.result.now in

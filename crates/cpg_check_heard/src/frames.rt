@@ -1,0 +1,106 @@
+//! Bounds that frames tell wherever a column matches. The rows that a node hears are asked one after another, those with
+//! long cubes first: they tell most, and where nothing is left no other row is looked at.
+ghost use Rattle.std.specs.Prelude.{◌≡◌, ℕ, Bool, All, Contains, IfOk, false, true};
+ghost use Rattle.std.specs.List.{list_any};
+ghost use Rattle.cpg_base.specs.Graph.{IsVariable};
+ghost use Rattle.cpg_order.specs.Scenario.{Scenario, IsScenario};
+ghost use Rattle.cpg_cube.specs.Cube.{matches};
+ghost use Rattle.cpg_cube.specs.Fit.{IsKnown};
+ghost use Rattle.cpg_table.specs.Shape.{heard_by};
+ghost use Rattle.cpg_check_heard.specs.Arrivals.{IsArrival, do_tell};
+ghost use Rattle.cpg_check_heard.specs.Bounds.{variable_of};
+ghost use Rattle.cpg_check_heard.specs.Hearings.{IsHearing};
+ghost use Rattle.cpg_check_heard.specs.Unheard.{is_one_untold};
+
+use crate::arrivals::{Arrival, tells_one_whole};
+use crate::bound::Bound;
+use crate::hearing::Hearing;
+use cpg_base::{OutOfMemory, Problem};
+use cpg_table::Entry;
+use std::alloc::Global;
+use std::cmp::Reverse;
+
+/// A row that a node hears, by the length of its longest cube.
+#[derive(Clone, Copy, PartialEq, Eq, PartialOrd, Ord)]
+pub(crate) struct Rank {
+    longest: Reverse<usize>,
+    item: u32,
+}
+
+/// Of some bounds those that these columns may leave open somewhere that a column matches.
+fn left_open(
+    alloc: Global,
+    problem: &Problem,
+    arrivals: &[Arrival<'_>],
+    column: &Entry,
+    bounds: &[Bound],
+) -> Result<Vec<Bound>, OutOfMemory>
+    requires cube { IsKnown problem.now column.now.cube }
+    requires arrivals { All (IsArrival problem.now) arrivals.now }
+    requires bounds { All (λ b. IsVariable problem.now (variable_of b)) bounds.now }
+    ensures known { IfOk result (λ left. All (λ b. IsVariable problem.now (variable_of b)) left.items) }
+    ensures left { IfOk result (λ left. (s : Scenario) (test : Bound → Bool) → IsScenario problem.now s → matches column.now.cube s ≡ true → ((b : Bound) → IsVariable problem.now (variable_of b) → do_tell problem.now column.now.time b arrivals.now s ≡ true → test b ≡ false) → list_any test left.items ≡ list_any test bounds.now) }
+{
+    let mut left = Vec::new(alloc);
+    for bound in bounds {
+        if tells_one_whole(problem, arrivals, &column.cube, column.time, *bound) {
+            continue;
+        }
+        left.push(*bound)?;
+    }
+    Ok(left)
+}
+
+impl Hearing<'_> {
+    /// The rows that a node hears, those with long cubes first.
+    pub(crate) fn ranks(
+        &self,
+        alloc: Global,
+        node: u32,
+        items: &[u32],
+    ) -> Result<Vec<Rank>, OutOfMemory>
+        requires hearing { IsHearing self.now }
+        requires items { All (Contains (heard_by self.now.admitted.now.graph node)) items.now }
+        ensures { IfOk result (λ ranks. All (λ r. Contains (heard_by self.now.admitted.now.graph node) r.item) ranks.items) }
+    {
+        let mut ranks = Vec::new(alloc);
+        for item in items {
+            let teller = &self.tellers[*item as usize];
+            ranks.push(Rank {
+                longest: Reverse(teller.longest),
+                item: *item,
+            })?;
+        }
+        ranks.sort_unstable();
+        Ok(ranks)
+    }
+
+    /// Of some bounds those that single frames may leave open at a column's time, somewhere that the column matches.
+    pub(crate) fn unframed(
+        &self,
+        alloc: Global,
+        node: u32,
+        ranks: &[Rank],
+        column: &Entry,
+        bounds: Vec<Bound>,
+    ) -> Result<Vec<Bound>, OutOfMemory>
+        requires hearing { IsHearing self.now }
+        requires ranks { All (λ r. Contains (heard_by self.now.admitted.now.graph node) r.item) ranks.now }
+        requires cube { IsKnown self.now.admitted.now.graph column.now.cube }
+        requires bounds { All (λ b. IsVariable self.now.admitted.now.graph (variable_of b)) bounds.items }
+        ensures known { IfOk result (λ left. All (λ b. IsVariable self.now.admitted.now.graph (variable_of b)) left.items) }
+        ensures untold { IfOk result (λ left. (s : Scenario) → IsScenario self.now.admitted.now.graph s → matches column.now.cube s ≡ true → is_one_untold self.now.admitted.now.graph self.now.tables.now.nodes node column.now.time left.items s ≡ is_one_untold self.now.admitted.now.graph self.now.tables.now.nodes node column.now.time bounds.items s) }
+    {
+        let problem = self.admitted.problem();
+        let (cube, time) = (&column.cube, column.time);
+        let mut left = bounds;
+        for rank in ranks {
+            if left.is_empty() {
+                return Ok(left);
+            }
+            let arrivals = self.arrivals(alloc, node, &[rank.item], cube, time)?;
+            left = left_open(alloc, problem, arrivals.as_slice(), column, left.as_slice())?;
+        }
+        Ok(left)
+    }
+}

@@ -1,0 +1,97 @@
+-- Processes and items that are active in all scenarios of a space, or in none.
+use Rattle.std.proofs.Common.{ℕ, ◌<◌, ◌≡◌, Bool, true, false, not, ◌&&◌, List, Option, Some, get_or, refl, sym, ap, ◌∙◌, subst}
+use Rattle.std.specs.Bool.{OnTrue}
+use Rattle.std.specs.Prelude.{unwrap_or}
+use Rattle.std.proofs.lemmas.Bool.{both_ways}
+use Rattle.cpg_base.specs.Numbers.{same_bool}
+use Rattle.cpg_base.specs.Graph.{Graph, condition_of, process_count}
+use Rattle.cpg_base.specs.Activity.{active, is_active, takes, value_of}
+use Rattle.cpg_order.specs.Guard.{Guard, Test, outcome_at}
+use Rattle.cpg_order.specs.Scenario.{Scenario, IsScenario}
+use Rattle.cpg_guard.specs.Guards.{Guards, tree_of}
+use Rattle.cpg_cube.specs.Cube.{holds}
+use Rattle.cpg_rules.specs.Admission.{IsAdmitted}
+use Rattle.cpg_tree.specs.declared.space.Space.{Space}
+use Rattle.cpg_tree.specs.Space.{Lies}
+use Rattle.cpg_violation.specs.Activity.{comes_to, value_literal}
+use Rattle.cpg_violation.proofs.ActiveWhere.{value_holds}
+use Rattle.cpg_sure.proofs.SureLaws.{of_true}
+
+-- a test comes to nothing wanted where the sides that are open do
+module _ (wanted : Bool) (c : ℕ) (off on : Guard) (s : Scenario) where
+  arms : (v : Bool) → get_or s.values c false ≡ v → (v ≡ false → comes_to off wanted s ≡ false) → (v ≡ true → comes_to on wanted s ≡ false) → comes_to (Test c off on) wanted s ≡ false
+  arms true e low high = rw e (high refl)
+  arms false e low high = rw e (low refl)
+
+  pub only_on : holds s (value_literal c true) ≡ true → comes_to on wanted s ≡ false → comes_to (Test c off on) wanted s ≡ false
+  only_on h high = arms (get_or s.values c false) refl (λ e. absurd (both_ways (holds s (value_literal c true)) (value_holds s c true ∙ ap (same_bool true) e) h)) (λ e. high)
+
+  pub only_off : holds s (value_literal c false) ≡ true → comes_to off wanted s ≡ false → comes_to (Test c off on) wanted s ≡ false
+  only_off h low = arms (get_or s.values c false) refl (λ e. low) (λ e. absurd (both_ways (holds s (value_literal c false)) (value_holds s c false ∙ ap (same_bool false) e) h))
+
+  pub both_arms : comes_to off wanted s ≡ false → comes_to on wanted s ≡ false → comes_to (Test c off on) wanted s ≡ false
+  both_arms low high = arms (get_or s.values c false) refl (λ e. low) (λ e. high)
+
+-- the same in all scenarios of a space
+module _ (wanted : Bool) (tree : Guard) (c : ℕ) (off on : Guard) (is : tree ≡ Test c off on) (room : Space) where
+  pub step_on : (b : Bool) → OnTrue b ((s : Scenario) → Lies room s → comes_to on wanted s ≡ false) → ((s : Scenario) → Lies room s → holds s (value_literal c true) ≡ true)
+      → OnTrue b ((s : Scenario) → Lies room s → comes_to tree wanted s ≡ false)
+  step_on b high some = of_true b high (λ h. subst (λ t. (s : Scenario) → Lies room s → comes_to t wanted s ≡ false) (sym is) (λ s lies. only_on wanted c off on s (some s lies) (h s lies)))
+
+  pub step_off : ((s : Scenario) → Lies room s → comes_to off wanted s ≡ false) → ((s : Scenario) → Lies room s → holds s (value_literal c false) ≡ true)
+      → (s : Scenario) → Lies room s → comes_to tree wanted s ≡ false
+  step_off low none = subst (λ t. (s : Scenario) → Lies room s → comes_to t wanted s ≡ false) (sym is) (λ s lies. only_off wanted c off on s (none s lies) (low s lies))
+
+  pub step_both : (b : Bool) → ((s : Scenario) → Lies room s → comes_to off wanted s ≡ false) → OnTrue b ((s : Scenario) → Lies room s → comes_to on wanted s ≡ false)
+      → OnTrue b ((s : Scenario) → Lies room s → comes_to tree wanted s ≡ false)
+  step_both b low high = of_true b high (λ h. subst (λ t. (s : Scenario) → Lies room s → comes_to t wanted s ≡ false) (sym is) (λ s lies. both_arms wanted c off on s (low s lies) (h s lies)))
+
+-- a process by its tree
+module _ {g : Graph} {order : List ℕ} {guards : Guards} (admitted : IsAdmitted g order guards) (p : ℕ) (l : p < process_count g) (s : Scenario) (law : IsScenario g s) where
+  by_tree : is_active (outcome_at (tree_of guards p) s.values) ≡ active g s.values p
+  by_tree = ap is_active ((admitted.guards.trees p l).is s.values law.values)
+
+  same_true : (b : Bool) → same_bool true b ≡ b
+  same_true true = refl
+  same_true false = refl
+
+  same_false : (b : Bool) → same_bool false b ≡ false → b ≡ true
+  same_false true e = refl
+  same_false false e = sym e
+
+  pub idle_of : comes_to (tree_of guards p) true s ≡ false → active g s.values p ≡ false
+  idle_of e = sym by_tree ∙ sym (same_true (is_active (outcome_at (tree_of guards p) s.values))) ∙ e
+
+  pub running_of : comes_to (tree_of guards p) false s ≡ false → active g s.values p ≡ true
+  running_of e = sym by_tree ∙ same_false (is_active (outcome_at (tree_of guards p) s.values)) e
+
+-- the value that an edge asks for
+module _ (g : Graph) (s : Scenario) (p c : ℕ) (when : Option Bool) (value : Bool) (is : condition_of g p ≡ Some c) (asks : when ≡ Some value) where
+  taken_as : takes when (value_of g s.values p) ≡ same_bool value (get_or s.values c false)
+  taken_as = ap (λ w. takes w (value_of g s.values p)) asks ∙ ap (λ o. same_bool value (get_or s.values (unwrap_or o 0) false)) is
+
+  pub taken_of : holds s (value_literal c value) ≡ true → takes when (value_of g s.values p) ≡ true
+  taken_of h = taken_as ∙ sym (value_holds s c value) ∙ h
+
+  other : (v b : Bool) → same_bool (not v) b ≡ true → same_bool v b ≡ false
+  other true true e = sym e
+  other true false e = refl
+  other false true e = refl
+  other false false e = sym e
+
+  pub refused_of : holds s (value_literal c (not value)) ≡ true → takes when (value_of g s.values p) ≡ false
+  refused_of h = taken_as ∙ other value (get_or s.values c false) (sym (value_holds s c (not value)) ∙ h)
+
+-- a message is active where it is sent, its source is active and its value is there
+pub idle_source : (m a t : Bool) → a ≡ false → (m && (a && t)) ≡ false
+idle_source true false t e = refl
+idle_source false false t e = refl
+idle_source m true t e = absurd (both_ways true e refl)
+
+pub other_value : (m a t : Bool) → t ≡ false → (m && (a && t)) ≡ false
+other_value true true t e = e
+other_value true false t e = refl
+other_value false a t e = refl
+
+pub all_three : (m a t : Bool) → m ≡ true → a ≡ true → t ≡ true → (m && (a && t)) ≡ true
+all_three m a t e f h = rw (e, f, h) refl

@@ -1,0 +1,106 @@
+-- What a node knows by the ends of its own processes.
+use Rattle.std.proofs.Common.{ℕ, zero, suc, replicate, true≢false, ◌+◌, ◌<◌, ◌≤◌, ◌≡◌, ◌⊎◌, Bool, true, false, not, List, All, Contains, get_or, length, map, sym, ap, ◌∙◌, subst, arith, inl, inr}
+use Rattle.std.specs.Bool.{OnTrue}
+use Rattle.std.specs.List.{list_any}
+use Rattle.std.specs.Prelude.{slice_set}
+use Rattle.std.proofs.lemmas.Bool.{OnTrue_at, cases_eq, not-false}
+use Rattle.std.proofs.lemmas.List.{get_or-map, get_or-set_other, get_or-set_same, get_or_default, length-map}
+use Rattle.std.proofs.lemmas.List.Elements.{All-contains, Contains-get_or}
+use Rattle.cpg_base.specs.Activity.{active}
+use Rattle.cpg_base.specs.Duration.{duration}
+use Rattle.cpg_base.specs.Graph.{Graph, IsVariable, home, item_at, item_count, node_of, process_count, process_of_variable, producer}
+use Rattle.cpg_base.specs.WellFormed.{WellFormed}
+use Rattle.cpg_base.proofs.Items.{producer_within}
+use Rattle.cpg_base.proofs.Lists.{from_all}
+use Rattle.cpg_order.specs.Scenario.{Scenario, IsScenario, fault_of}
+use Rattle.cpg_cube.specs.Cube.{holds, matches}
+use Rattle.cpg_cube.specs.declared.literal.Literal.{Literal}
+use Rattle.cpg_table.specs.Heard.{facts, is_heard}
+use Rattle.cpg_table.specs.Table.{Column, NodeTable, columns_of}
+use Rattle.cpg_table.specs.Valid.{breaks_inputs_of, ends_of, is_by}
+use Rattle.cpg_table.specs.declared.rule.Rule.{Rule}
+use Rattle.cpg_violation.specs.Sure.{IsSure}
+use Rattle.cpg_violation.specs.Violation.{AllHold, row_rules}
+use Rattle.cpg_violation.proofs.Matching.{active_where, literal_active, sure_rule}
+use Rattle.cpg_violation.proofs.Moments.{made, waits}
+use Rattle.cpg_sure.specs.Hearing.{AreHeardIn, AreOwnEnded, IsAllHeard, IsEndedBy, IsHeardIn, IsOwnEnded, IsOwnOver, literal_at}
+use Rattle.cpg_sure.specs.Order.{IsBefore, IsOverBy, execution}
+use Rattle.cpg_sure.proofs.Ends.{by_parts, over_ended}
+use Rattle.cpg_sure.proofs.HeardLaws.{heard_end, heard_sure}
+
+module _ (g : Graph) (tables : List NodeTable) (rules : AllHold g tables row_rules) (x : ℕ) where
+  -- a process that is always over before an item
+  pub before_ended : (q : ℕ) → q < process_count g → IsBefore g tables q x → IsEndedBy g tables q x
+  before_ended q l before s c law k m a = over_ended g tables rules s law c.time q l a (before s c law k m)
+
+  module _ (lx : x < item_count g) where
+    module _ (send : process_count g ≤ x) where
+      -- the producer of a send that keeps V5
+      pub producer_ended : IsSure g tables Rule.Inputs x → IsEndedBy g tables (producer g x) x
+      producer_ended sure s c law k m a =
+          let at : get_or (columns_of tables x) k.0 c ≡ c = k.2 in
+          let none = sure_rule g tables s law x lx Rule.Inputs sure k.0 c k.1 (ap (λ (c : Column). matches c.cube s) at ∙ m) in
+          let here : breaks_inputs_of g tables s c.time (item_at g x) ≡ false = ap (λ (c : Column). breaks_inputs_of g tables s c.time (item_at g x)) (sym at) ∙ none in
+          not-false (is_by c.time (ends_of g tables s (producer g x))) (sym (waits g s x lx send tables c.time) ∙ here)
+
+      -- and what is always over before that
+      pub earlier_ended : WellFormed g → (q : ℕ) → q < process_count g → IsBefore g tables q (producer g x) → IsSure g tables Rule.Inputs x → IsEndedBy g tables q x
+      earlier_ended formed q l before sure s c law k m a =
+          let p : ℕ = producer g x in
+          let ended = producer_ended sure s c law k m (made g s x lx send (active_where g tables s law x lx rules c k m)) in
+          let d = by_parts tables p s (λ start. start + duration g p (fault_of s p)) c.time ended in
+          over_ended g tables rules s law c.time q l a (λ e h n. let over = before s d.0 law d.1 d.2 e h n in omega (arith, over, d.3))
+
+    module _ (few : process_count g ≤ 128) (c : Column) (l : Literal) (k : Contains (columns_of tables x) c) (h : Contains c.cube l) where
+      -- a literal on a variable of a process that has ended
+      pub ended_heard : IsOwnEnded g tables x l.variable → IsHeardIn g tables (home g x) c l
+      ended_heard own s law m =
+          let on : active g s.values own.process ≡ true = ap (active g s.values) (sym own.owner.owner) ∙ literal_active g tables s law x lx rules c k m l h in
+          heard_end g tables (home g x) c.time s l own.process few own.owner.within own.near (own.ended s c law k m on) own.owner.known own.owner.owner (from_all (holds s) c.cube l m h)
+
+      -- or that is over where the column matches
+      pub over_heard : (s : Scenario) → IsScenario g s → matches c.cube s ≡ true → IsOwnOver g tables (home g x) l.variable c.time s → is_heard g.faults (facts g tables (home g x) s c.time) l ≡ true
+      over_heard s law m own =
+          let on : active g s.values own.process ≡ true = ap (active g s.values) (sym own.owner.owner) ∙ literal_active g tables s law x lx rules c k m l h in
+          heard_end g tables (home g x) c.time s l own.process few own.owner.within own.near (over_ended g tables rules s law c.time own.process own.owner.within on own.over) own.owner.known own.owner.owner (from_all (holds s) c.cube l m h)
+
+    -- where all literals are on variables of processes that have ended, the rule holds
+    pub known_sure : process_count g ≤ 128 → (known : List Bool) → AreOwnEnded g tables x known → All (λ (c : Column). All (λ (l : Literal). get_or known l.variable false ≡ true) c.cube) (columns_of tables x) → IsSure g tables Rule.Heard x
+    known_sure few known own all = heard_sure g tables x (λ c l k h.
+        let marked = All-contains (λ (l : Literal). get_or known l.variable false ≡ true) c.cube l (All-contains (λ (c : Column). All (λ (l : Literal). get_or known l.variable false ≡ true) c.cube) (columns_of tables x) c all k) h in
+        ended_heard few c l k h (own l.variable marked))
+
+    module _ (few : process_count g ≤ 128) (c : Column) (k : Contains (columns_of tables x) c) where
+      -- the literals on these variables
+      pub known_heard : (known told : List Bool) → AreOwnEnded g tables x known → told ≡ map (λ (l : Literal). get_or known l.variable false) c.cube → AreHeardIn g tables (home g x) c told
+      known_heard known told own is = record {
+        long = ap length is ∙ length-map c.cube (λ (l : Literal). get_or known l.variable false);
+        heard = λ i l t.
+            let marked : get_or known (literal_at c.cube i).variable false ≡ true = sym (get_or-map (λ (l : Literal). get_or known l.variable false) c.cube i (record { variable = 0; low = 0; high = 0 }) false l) ∙ sym (ap (λ marks. get_or marks i false) is) ∙ t in
+            ended_heard few c (literal_at c.cube i) k (Contains-get_or c.cube i _ l) (own (literal_at c.cube i).variable marked);
+      }
+
+      -- with all others on variables of processes that are over
+      pub all_heard : (told : List Bool) → AreHeardIn g tables (home g x) c told
+          → ((s : Scenario) (i : ℕ) → IsScenario g s → matches c.cube s ≡ true → i < length c.cube → (get_or told i false ≡ true) ⊎ IsOwnOver g tables (home g x) (literal_at c.cube i).variable c.time s)
+          → IsAllHeard g tables (home g x) c
+      all_heard told heard others l h s law m =
+          let at : literal_at c.cube h.0 ≡ l = get_or_default c.cube h.0 (record { variable = 0; low = 0; high = 0 }) l h.1 ∙ h.2 in
+          subst (λ (l : Literal). is_heard g.faults (facts g tables (home g x) s c.time) l ≡ true) at
+          (elim (others s h.0 law m h.1) [
+            | inl t ↦ heard.heard h.0 h.1 t s law m
+            | inr own ↦ over_heard few c (literal_at c.cube h.0) k (Contains-get_or c.cube h.0 _ h.1) s law m own
+          ])
+
+-- one variable more
+pub own_more : (g : Graph) (tables : List NodeTable) (x : ℕ) (known : List Bool) (k : ℕ) (b : Bool) → k < length known → AreOwnEnded g tables x known → OnTrue b (IsOwnEnded g tables x k) → AreOwnEnded g tables x (slice_set known k b)
+own_more g tables x known k b within before here v t = elim (cases_eq v k) [
+  | inl same ↦ subst (IsOwnEnded g tables x) (sym same) (OnTrue_at (sym (get_or-set_same known k b false within) ∙ ap (λ j. get_or (slice_set known k b) j false) (sym same) ∙ t) here)
+  | inr other ↦ before v (sym (get_or-set_other known k v b false other) ∙ t)
+]
+
+-- at first none is marked
+pub none_marked : (n v : ℕ) → get_or (replicate n false) v false ≡ true → ⊥
+none_marked zero v t = true≢false (sym t)
+none_marked (suc n) zero t = true≢false (sym t)
+none_marked (suc n) (suc v) t = none_marked n v t

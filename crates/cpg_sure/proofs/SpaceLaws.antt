@@ -1,0 +1,29 @@
+-- The space of a cube, for the scenarios of a graph.
+use Rattle.std.proofs.Common.{ℕ, ◌≡◌, true, false, List, Option, None, Some, sym, subst, ap, ◌∙◌}
+use Rattle.std.specs.Prelude.{IfNone, IfSome}
+use Rattle.std.proofs.lemmas.Bool.{both_ways}
+use Rattle.std.proofs.lemmas.Option.{none-some}
+use Rattle.cpg_base.specs.Graph.{Graph}
+use Rattle.cpg_order.specs.Scenario.{Scenario, IsScenario}
+use Rattle.cpg_cube.specs.Cube.{matches}
+use Rattle.cpg_cube.specs.declared.literal.Literal.{Literal}
+use Rattle.cpg_tree.specs.declared.space.Space.{Space}
+use Rattle.cpg_tree.specs.Space.{HasFew, Lies}
+use Rattle.cpg_sure.proofs.Few.{scenario_few}
+
+module _ (g : Graph) (k : ℕ) (faults : k ≡ g.faults) (s : Scenario) (law : IsScenario g s) where
+  pub few_of : HasFew k s
+  few_of = subst (λ k. HasFew k s) (sym faults) (scenario_few g s law)
+
+  module _ (cube literals : List Literal) (same : literals ≡ cube) (m : matches cube s ≡ true) (o : Option Space) where
+    -- there is one where a scenario matches
+    pub not_none : o ≡ None → IfNone o ((s : Scenario) → HasFew k s → matches literals s ≡ false) → ⊥
+    not_none e none = go o e none
+      where
+        go : (o : Option Space) → o ≡ None → IfNone o ((s : Scenario) → HasFew k s → matches literals s ≡ false) → ⊥
+        go (Some room) e none = none-some room (sym e)
+        go None e none = both_ways (matches literals s) (none s few_of) (ap (λ c. matches c s) same ∙ m)
+
+    -- and the scenario lies in it
+    pub lies_in : (room : Space) → o ≡ Some room → IfSome o (λ r. (s : Scenario) → HasFew k s → matches literals s ≡ true → Lies r s) → Lies room s
+    lies_in room e some = subst (λ o. IfSome o (λ r. (s : Scenario) → HasFew k s → matches literals s ≡ true → Lies r s)) e some s few_of (ap (λ c. matches c s) same ∙ m)

@@ -1,0 +1,72 @@
+-- What frames that reach a node tell it.
+use Rattle.std.proofs.Common.{ℕ, ◌+◌, ◌<◌, ◌≤◌, ◌≡◌, ◌⊎◌, Bool, true, false, List, [], ◌++◌, Option, None, Some, All, Contains, IfSome, get_or, length, refl, sym, ap, ◌∙◌, subst, arith, inl, inr, leb-true}
+use Rattle.std.specs.Bool.{OnTrue}
+use Rattle.std.specs.Prelude.{slice_set}
+use Rattle.std.proofs.lemmas.Bool.{OnTrue_at, and_parts, cases_eq}
+use Rattle.std.proofs.lemmas.List.{get_or-set_other, get_or-set_same}
+use Rattle.std.proofs.lemmas.List.Elements.{All-contains, Contains-append_left, Contains-append_right, Contains-get_or}
+use Rattle.cpg_base.specs.Bus.{slot_length}
+use Rattle.cpg_base.specs.Graph.{Graph, home, item_at}
+use Rattle.cpg_base.proofs.Lists.{from_all}
+use Rattle.cpg_order.specs.Scenario.{Scenario, IsScenario, number_of}
+use Rattle.cpg_cube.specs.Cube.{holds, matches}
+use Rattle.cpg_cube.specs.declared.literal.Literal.{Literal}
+use Rattle.cpg_table.specs.Heard.{exactly, facts, frame_value, is_heard}
+use Rattle.cpg_table.specs.Table.{Column, NodeTable, columns_of}
+use Rattle.cpg_tree.specs.Places.{IsAmong, place_at}
+use Rattle.cpg_violation.specs.Sieves.{column_at}
+use Rattle.cpg_sure.specs.Hearing.{AreHeardIn, IsHeardIn, literal_at}
+use Rattle.cpg_sure.specs.Speakers.{HasCome, IsSpeaker, IsTold, IsToldIn}
+use Rattle.cpg_sure.specs.declared.speakers.Speaker.{Speaker}
+use Rattle.cpg_sure.proofs.HeardLaws.{heard_frame}
+use Rattle.cpg_sure.proofs.TreeLaws.{place_matches, place_there}
+
+module _ {g : Graph} {tables : List NodeTable} {node : ℕ} {speaker : Speaker} (is : IsSpeaker g tables node speaker) (places : List ℕ) (c : Column) (l : Literal) (h : Contains c.cube l) where
+  told_by : (s : Scenario) → IsScenario g s → matches c.cube s ≡ true → IsTold speaker.value speaker.columns.now places l → (o : Option ℕ) → place_at speaker.tree.now s ≡ o
+      → HasCome speaker.columns.now speaker.delay c.time o → IsAmong places o → is_heard g.faults (facts g tables node s c.time) l ≡ true
+  told_by s law m told None e come among = absurd among
+  told_by s law m told (Some i) e come among =
+      let d : Column = column_at (columns_of tables speaker.item) i in
+      let there : i < length (columns_of tables speaker.item) = place_there is.tree s law i e in
+      let match : matches d.cube s ≡ true = place_matches is.tree s law i e in
+      let same : column_at speaker.columns.now i ≡ d = ap (λ columns. column_at columns i) is.columns in
+      let by : d.time + slot_length g (home g speaker.item) ≤ c.time = omega (arith, come, ap (λ (d : Column). d.time) same, is.delay) in
+      let within = and_parts _ _ (from_all (holds s) c.cube l m h) in
+      elim told as (λ _. is_heard g.faults (facts g tables node s c.time) l ≡ true) [
+        | inl value ↦
+            let carried : Contains (frame_value s (item_at g speaker.item)) (exactly l.variable (number_of s l.variable)) = subst (λ o. IfSome o (λ v. (s : Scenario) → Contains (frame_value s (item_at g speaker.item)) (exactly v (number_of s v)))) value is.value s in
+            heard_frame g tables node c.time s l speaker.item d (exactly l.variable (number_of s l.variable)) is.item is.heard (Contains-get_or (columns_of tables speaker.item) i _ there) match by
+            (Contains-append_right d.cube (frame_value s (item_at g speaker.item)) _ carried) refl (leb-true _ _ within.0) (leb-true _ _ within.1)
+        | inr all ↦
+            let at : IsToldIn d.cube l = subst (λ (d : Column). IsToldIn d.cube l) same (All-contains (λ i. IsToldIn (column_at speaker.columns.now i).cube l) places i all among) in
+            heard_frame g tables node c.time s l speaker.item d at.by is.item is.heard (Contains-get_or (columns_of tables speaker.item) i _ there) match by
+            (Contains-append_left d.cube (frame_value s (item_at g speaker.item)) at.by at.there) at.variable at.low at.high
+      ]
+
+  -- a literal is heard that the frames tell which have come wherever a column matches
+  pub speaker_heard : ((s : Scenario) → IsScenario g s → matches c.cube s ≡ true → HasCome speaker.columns.now speaker.delay c.time (place_at speaker.tree.now s) × IsAmong places (place_at speaker.tree.now s))
+      → IsTold speaker.value speaker.columns.now places l → IsHeardIn g tables node c l
+  speaker_heard found told s law m = let r = found s law m in told_by s law m told (place_at speaker.tree.now s) refl r.0 r.1
+
+-- the marked literals and those that the frames tell
+module _ {g : Graph} {tables : List NodeTable} {node : ℕ} {speaker : Speaker} (is : IsSpeaker g tables node speaker) (places : List ℕ) (c : Column) where
+  pub more_heard : (old new : List Bool) → AreHeardIn g tables node c old → length new ≡ length c.cube
+      → ((i : ℕ) → get_or new i false ≡ true → (get_or old i false ≡ true) ⊎ IsTold speaker.value speaker.columns.now places (literal_at c.cube i))
+      → ((s : Scenario) → IsScenario g s → matches c.cube s ≡ true → HasCome speaker.columns.now speaker.delay c.time (place_at speaker.tree.now s) × IsAmong places (place_at speaker.tree.now s))
+      → AreHeardIn g tables node c new
+  more_heard old new before long told found = record {
+    long = long;
+    heard = λ i l t. elim (told i t) [
+      | inl o ↦ before.heard i l o
+      | inr by ↦ speaker_heard is places c (literal_at c.cube i) (Contains-get_or c.cube i _ l) found by
+    ];
+  }
+
+-- one mark more
+pub mark_step : (fact : ℕ → Type 0) (old marks : List Bool) (k : ℕ) (b : Bool) → k < length marks → ((i : ℕ) → get_or marks i false ≡ true → (get_or old i false ≡ true) ⊎ fact i) → OnTrue b ((get_or marks k false ≡ true) ⊎ fact k)
+    → (i : ℕ) → get_or (slice_set marks k b) i false ≡ true → (get_or old i false ≡ true) ⊎ fact i
+mark_step fact old marks k b within before here i t = elim (cases_eq i k) [
+  | inl same ↦ subst (λ j. (get_or old j false ≡ true) ⊎ fact j) (sym same)
+      (elim (OnTrue_at (sym (get_or-set_same marks k b false within) ∙ ap (λ j. get_or (slice_set marks k b) j false) (sym same) ∙ t) here) [ inl o ↦ before k o | inr f ↦ inr f ])
+  | inr other ↦ before i (sym (get_or-set_other marks k i b false other) ∙ t)
+]

@@ -1,0 +1,12 @@
+use Rattle.std.proofs.Common.{ℕ, ◌≡◌, ◌<◌, ◌⊎◌, List, All, Contains, take, true}
+use Rattle.cpg_base.specs.Activity.{live}
+use Rattle.cpg_base.specs.Graph.{edge_count}
+use Rattle.cpg_order.specs.Scenario.{Scenario, IsScenario}
+use Rattle.cpg_table.specs.Table.{NodeTable}
+use Rattle.cpg_tree.specs.Space.{Lies}
+use Rattle.cpg_violation.specs.Violation.{AllHold, row_rules}
+use Rattle.cpg_sure.specs.Inputs.{IsFromBefore, IsInputOver, IsLateEnough, IsWaiting}
+use Rattle.cpg_sure.proofs.waiting.Waiting.are_early.Given as goal
+
+abbrev pub invariant-loop-edge : goal.invariant-loop-edge
+invariant-loop-edge l = (tables : List NodeTable) (s : Scenario) → IsWaiting l.self.admitted.now.graph tables l.self → IsScenario l.self.admitted.now.graph s → All (λ e. IsInputOver l.self.admitted.now.graph tables e l.time s) (take l.edge-index l.edges)

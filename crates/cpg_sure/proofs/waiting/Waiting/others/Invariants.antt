@@ -1,0 +1,15 @@
+use Rattle.std.proofs.Common.{ℕ, ◌≡◌, ◌<◌, ◌⊎◌, List, All, Contains, take, true}
+use Rattle.cpg_base.specs.Activity.{live}
+use Rattle.cpg_base.specs.Graph.{edge_count}
+use Rattle.cpg_order.specs.Scenario.{Scenario, IsScenario}
+use Rattle.cpg_table.specs.Table.{NodeTable}
+use Rattle.cpg_tree.specs.Space.{Lies}
+use Rattle.cpg_violation.specs.Violation.{AllHold, row_rules}
+use Rattle.cpg_sure.specs.Inputs.{IsFromBefore, IsInputOver, IsLateEnough, IsWaiting}
+use Rattle.cpg_sure.proofs.waiting.Waiting.others.Given as goal
+
+abbrev pub invariant-loop-edge : goal.invariant-loop-edge
+invariant-loop-edge l = record {
+  edges : All (λ e. e < edge_count l.self.admitted.now.graph) l.others.items;
+  known : (tables : List NodeTable) (e : ℕ) → IsWaiting l.self.admitted.now.graph tables l.self → Contains (take l.edge-index l.edges) e → Contains l.others.items e ⊎ IsFromBefore l.self.admitted.now.graph tables e l.process;
+}

@@ -1,0 +1,21 @@
+-- Processes and items that are active in every scenario.
+use Rattle.std.specs.Prelude.{ℕ, ◌≡◌, ◌<◌, Bool, true, false, List, get_or}
+use Rattle.cpg_base.specs.Graph.{Graph, item_at, process_count}
+use Rattle.cpg_base.specs.Activity.{active, item_active}
+use Rattle.cpg_order.specs.Scenario.{Scenario, IsScenario}
+
+-- a process is active in every scenario
+abbrev pub IsAlways : Graph → ℕ → Type 0
+IsAlways g p = (s : Scenario) → IsScenario g s → active g s.values p ≡ true
+
+-- and so are all that are marked
+abbrev pub AreAlways : Graph → List Bool → Type 0
+AreAlways g marks = (p : ℕ) → p < process_count g → get_or marks p false ≡ true → IsAlways g p
+
+-- all processes are
+abbrev pub AllAlways : Graph → Type 0
+AllAlways g = (p : ℕ) → p < process_count g → IsAlways g p
+
+-- an item is
+abbrev pub IsItemAlways : Graph → ℕ → Type 0
+IsItemAlways g x = (s : Scenario) → IsScenario g s → item_active g s.values (item_at g x) ≡ true

@@ -1,0 +1,38 @@
+-- What is known of the rows of items before their columns are compared.
+use Rattle.std.specs.Prelude.{ℕ, ◌+◌, ◌≡◌, ◌≤◌, ◌<◌, true, List, All, IfSome, length, get_or}
+use Rattle.cpg_base.specs.Graph.{Graph, item_count}
+use Rattle.cpg_base.specs.declared.limits.TheConstants.{MOST_FAULTS}
+use Rattle.cpg_order.specs.Scenario.{Scenario, IsScenario, number_of}
+use Rattle.cpg_table.specs.Table.{NodeTable, columns_of}
+use Rattle.cpg_sure.specs.Order.{IsUnconditional}
+use Rattle.cpg_sure.specs.Trees.{IsRowTree}
+use Rattle.cpg_sure.specs.declared.span.Span.{Span}
+use Rattle.cpg_sure.specs.declared.course.Course.{Course}
+use Rattle.cpg_sure.specs.declared.course.Courses.{Courses}
+
+-- for each number that the variable has at most, the item lasts no longer than the length of that number, nor than the longest
+pub record IsSpan (g : Graph) (lasts : Scenario → ℕ) (span : Span) : Type 0 where
+  pub enough : (s : Scenario) (n : ℕ) → IsScenario g s → number_of s span.variable ≤ n → n ≤ MOST_FAULTS → lasts s ≤ get_or span.lengths n 0
+  pub longest : (s : Scenario) → IsScenario g s → lasts s ≤ span.longest
+
+-- what starts at a time is over by another, with a length of a number that the variable has at most
+pub record IsPast (span : Span) (start time : ℕ) (s : Scenario) : Type 0 where
+  pub count : ℕ
+  pub most : number_of s span.variable ≤ count
+  pub known : count ≤ MOST_FAULTS
+  pub over : start + get_or span.lengths count 0 ≤ time
+
+-- the columns of an item, their tree, the range of their times, how long it lasts, and whether it is always active
+pub record IsCourse (g : Graph) (tables : List NodeTable) (lasts : Scenario → ℕ) (x : ℕ) (course : Course) : Type 0 where
+  pub item : x < item_count g
+  pub columns : course.columns.now ≡ columns_of tables x
+  pub tree : IfSome course.tree.now (IsRowTree g (columns_of tables x))
+  pub first : All (λ d. course.first ≤ d.time) (columns_of tables x)
+  pub last : All (λ d. d.time ≤ course.last) (columns_of tables x)
+  pub span : IsSpan g lasts course.span
+  pub always : course.is_always ≡ true → IsUnconditional g x
+
+-- those of the first items
+pub record AreCourses (lasts : ℕ → Scenario → ℕ) (g : Graph) (tables : List NodeTable) (courses : Courses) : Type 0 where
+  pub faults : courses.faults ≡ g.faults
+  pub each : (x : ℕ) (d : Course) → x < length courses.list.items → IsCourse g tables (lasts x) x (get_or courses.list.items x d)

@@ -1,0 +1,10 @@
+pub mod Trees
+pub mod Order
+pub mod Courses
+pub mod Turns
+pub mod Always
+pub mod Absent
+pub mod Inputs
+pub mod Hearing
+pub mod Speakers
+pub mod Listening

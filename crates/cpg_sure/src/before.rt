@@ -1,0 +1,125 @@
+//! What is always over before something else begins.
+ghost use Rattle.std.specs.Prelude.{◌≡◌, ◌<◌, ℕ, All, IfSome, List, Some, true};
+ghost use Rattle.std.specs.Bool.{OnTrue};
+ghost use Rattle.cpg_base.specs.Graph.{Graph};
+ghost use Rattle.cpg_order.specs.Scenario.{Scenario, IsScenario};
+ghost use Rattle.cpg_cube.specs.Cube.{matches};
+ghost use Rattle.cpg_table.specs.Table.{NodeTable, columns_of};
+ghost use Rattle.cpg_tree.specs.Space.{Lies};
+ghost use Rattle.cpg_violation.specs.Sieves.{column_at};
+ghost use Rattle.cpg_sure.specs.Courses.{AreCourses, IsCourse, IsPast};
+ghost use Rattle.cpg_sure.specs.Order.{IsOver, IsOverBy};
+
+use crate::course::{Course, Courses};
+use crate::span::Span;
+use cpg_table::Entry;
+use cpg_tree::{Space, Test};
+
+/// That what lasts so long is over by a time, from the column at each place.
+#[derive(Drop)]
+struct Ends<'a> {
+    columns: &'a [Entry],
+    span: Span,
+    time: u64,
+}
+
+impl<'a> Test for Ends<'a> {
+    ghost tells = { λ test place s. IfSome place (λ i. IsPast test.span (column_at test.columns.now i).time test.time s) };
+
+    fn passes(&self, place: Option<u32>, space: &Space) -> bool {
+        let Some(place) = place else {
+            return true;
+        };
+        let Some(column) = self.columns.get(place as usize) else {
+            return false;
+        };
+        self.span.is_past(column.time, self.time, space)
+    }
+}
+
+impl<'a> Course<'a> {
+    /// Whether the item is over by a time in every scenario, by its last column.
+    pub(crate) fn is_early(&self, time: u64) -> bool
+        ensures { OnTrue result ((g : Graph) (tables : List NodeTable) (lasts : Scenario → ℕ) (x : ℕ) (s : Scenario) → IsCourse g tables lasts x self.now → IsScenario g s → IsOverBy tables (lasts s) x time s) }
+    {
+        if time < self.last {
+            return false;
+        }
+        self.span.longest <= time - self.last
+    }
+
+    /// Whether the item is over by a time in the scenarios of a space, by the columns that match there.
+    pub(crate) fn is_over(&self, space: &Space, time: u64) -> bool
+        ensures { OnTrue result ((g : Graph) (tables : List NodeTable) (lasts : Scenario → ℕ) (x : ℕ) (s : Scenario) → IsCourse g tables lasts x self.now → IsScenario g s → Lies space.now s → IsOverBy tables (lasts s) x time s) }
+    {
+        if self.is_early(time) {
+            return true;
+        }
+        let Some(tree) = self.tree else {
+            return false;
+        };
+        let test = Ends {
+            columns: self.columns,
+            span: self.span,
+            time,
+        };
+        tree.do_pass(space, &test)
+    }
+}
+
+impl<'a> Courses<'a> {
+    /// Whether each of these items is over by a time in every scenario, by its last column.
+    fn are_early(&self, items: &[u32], time: u64) -> bool
+        ensures { OnTrue result ((g : Graph) (tables : List NodeTable) (lasts : ℕ → Scenario → ℕ) (s : Scenario) → AreCourses lasts g tables self.now → IsScenario g s → All (λ y. IsOverBy tables (lasts y s) y time s) items.now) }
+    {
+        for item in items {
+            let Some(course) = self.list.get(*item as usize) else {
+                return false;
+            };
+            if !course.is_early(time) {
+                return false;
+            }
+        }
+        true
+    }
+
+    /// Whether each of these items is over by a time in the scenarios of a space, by the columns that match there.
+    fn are_over(&self, items: &[u32], space: &Space, time: u64) -> bool
+        ensures { OnTrue result ((g : Graph) (tables : List NodeTable) (lasts : ℕ → Scenario → ℕ) (s : Scenario) → AreCourses lasts g tables self.now → IsScenario g s → Lies space.now s → All (λ y. IsOverBy tables (lasts y s) y time s) items.now) }
+    {
+        for item in items {
+            let Some(course) = self.list.get(*item as usize) else {
+                return false;
+            };
+            if !course.is_over(space, time) {
+                return false;
+            }
+        }
+        true
+    }
+
+    /// Whether each of these items is over by the time of a column, wherever that matches.
+    pub(crate) fn are_over_at(&self, items: &[u32], column: &Entry) -> bool
+        ensures { OnTrue result ((g : Graph) (tables : List NodeTable) (lasts : ℕ → Scenario → ℕ) (s : Scenario) → AreCourses lasts g tables self.now → IsScenario g s → matches column.now.cube s ≡ true → All (λ y. IsOverBy tables (lasts y s) y column.now.time s) items.now) }
+    {
+        if self.are_early(items, column.time) {
+            return true;
+        }
+        let Some(space) = Space::of(self.faults, column.cube.literals()) else {
+            return true;
+        };
+        self.are_over(items, &space, column.time)
+    }
+
+    /// Whether each of these items is over before another, which has these columns: wherever a column of each matches.
+    pub(crate) fn come_before(&self, items: &[u32], columns: &[Entry]) -> bool
+        ensures { OnTrue result ((g : Graph) (tables : List NodeTable) (lasts : ℕ → Scenario → ℕ) (x : ℕ) → AreCourses lasts g tables self.now → columns.now ≡ columns_of tables x → All (λ y. IsOver lasts g tables y x) items.now) }
+    {
+        for column in columns {
+            if !self.are_over_at(items, column) {
+                return false;
+            }
+        }
+        true
+    }
+}

@@ -1,0 +1,287 @@
+//! What the node of an item knows by the times of the item's columns.
+ghost use Rattle.std.specs.Prelude.{◌≡◌, ◌<◌, ◌⊎◌, ℕ, All, Contains, IfOk, IfSome, List, false, get_or, length, map, true};
+ghost use Rattle.std.specs.Bool.{OnTrue};
+ghost use Rattle.cpg_base.specs.Graph.{Graph, IsVariable, item_count, process_count};
+ghost use Rattle.cpg_order.specs.Scenario.{Scenario, IsScenario};
+ghost use Rattle.cpg_cube.specs.Cube.{matches};
+ghost use Rattle.cpg_table.specs.Table.{NodeTable, columns_of};
+ghost use Rattle.cpg_table.specs.declared.rule.Rule.{Rule};
+ghost use Rattle.cpg_tree.specs.Space.{Lies};
+ghost use Rattle.cpg_violation.specs.Sure.{IsSure};
+ghost use Rattle.cpg_violation.specs.Violation.{AllHold, row_rules};
+ghost use Rattle.cpg_sure.specs.Hearing.{AreHeardIn, AreOwnEnded, IsAllHeard, IsEndedBy, IsOwnEnded, IsOwnOver, IsOwner, literal_at};
+ghost use Rattle.cpg_sure.specs.Listening.{IsListener};
+ghost use Rattle.cpg_sure.specs.Order.{IsOverBy, execution};
+ghost use Rattle.cpg_sure.specs.Speakers.{IsSpeaker};
+ghost use Rattle.cpg_sure.specs.Turns.{AreTurns};
+
+use crate::speakers::Speaker;
+use crate::turns::Turns;
+use cpg_base::{OutOfMemory, Problem, Variable};
+use cpg_cube::Literal;
+use cpg_rules::Admitted;
+use cpg_table::Entry;
+use cpg_tree::Space;
+use std::alloc::Global;
+
+/// How many variables there may be.
+const VARIABLES: usize = 256;
+
+/// The process that a variable belongs to.
+fn owner(problem: &Problem, variable: u8) -> Option<u32>
+    ensures { IfSome result (IsOwner problem.now variable) }
+{
+    match Variable::of(variable) {
+        Variable::Count(process) => {
+            if (process as usize) < problem.processes().len() {
+                Some(process)
+            } else {
+                None
+            }
+        }
+        Variable::Value(condition) => {
+            if condition < problem.conditions() {
+                Some(problem.process_of(condition))
+            } else {
+                None
+            }
+        }
+    }
+}
+
+/// Whether a process on an item's node has always ended by the item's columns: before it in turn, or by the end of the
+/// producer of a send that keeps V5.
+fn has_ended(
+    admitted: &Admitted,
+    turns: &Turns<'_>,
+    item: u32,
+    is_sent_in_time: bool,
+    process: u32,
+) -> bool
+    requires item { item < item_count admitted.now.graph }
+    requires process { process < process_count admitted.now.graph }
+    ensures { OnTrue result ((tables : List NodeTable) → AreTurns (execution admitted.now.graph) admitted.now.graph tables turns.now → AllHold admitted.now.graph tables row_rules → (is_sent_in_time ≡ true → IsSure admitted.now.graph tables Rule.Inputs item) → IsEndedBy admitted.now.graph tables process item) }
+{
+    let problem = admitted.problem();
+    let node = problem.node_of(process);
+    if (item as usize) < problem.processes().len() {
+        return turns.is_before(node, process, item);
+    }
+    if !is_sent_in_time {
+        return false;
+    }
+    let producer = problem.producer(item);
+    if process == producer {
+        return true;
+    }
+    turns.is_before(node, process, producer)
+}
+
+/// Whether a variable's process is on an item's node and has always ended by the item's columns.
+fn is_own_ended(
+    admitted: &Admitted,
+    turns: &Turns<'_>,
+    item: u32,
+    is_sent_in_time: bool,
+    variable: u8,
+) -> bool
+    requires item { item < item_count admitted.now.graph }
+    ensures { OnTrue result ((tables : List NodeTable) → AreTurns (execution admitted.now.graph) admitted.now.graph tables turns.now → AllHold admitted.now.graph tables row_rules → (is_sent_in_time ≡ true → IsSure admitted.now.graph tables Rule.Inputs item) → IsOwnEnded admitted.now.graph tables item variable) }
+{
+    let problem = admitted.problem();
+    let Some(process) = owner(problem, variable) else {
+        return false;
+    };
+    if problem.node_of(process) != problem.home(item) {
+        return false;
+    }
+    has_ended(admitted, turns, item, is_sent_in_time, process)
+}
+
+/// The variables of which this is so, by number.
+pub(crate) fn own_ended(
+    admitted: &Admitted,
+    turns: &Turns<'_>,
+    item: u32,
+    is_sent_in_time: bool,
+) -> [bool; VARIABLES]
+    requires item { item < item_count admitted.now.graph }
+    ensures { (tables : List NodeTable) → AreTurns (execution admitted.now.graph) admitted.now.graph tables turns.now → AllHold admitted.now.graph tables row_rules → (is_sent_in_time ≡ true → IsSure admitted.now.graph tables Rule.Inputs item) → AreOwnEnded admitted.now.graph tables item result }
+{
+    let mut known = [false; VARIABLES];
+    for variable in 0..VARIABLES {
+        known[variable] = is_own_ended(admitted, turns, item, is_sent_in_time, variable as u8);
+    }
+    known
+}
+
+/// Whether all literals are on marked variables.
+fn are_known(known: &[bool; VARIABLES], literals: &[Literal]) -> bool
+    ensures { OnTrue result (All (λ l. get_or known.now l.variable false ≡ true) literals.now) }
+{
+    for literal in literals {
+        if !known[literal.variable as usize] {
+            return false;
+        }
+    }
+    true
+}
+
+/// Whether all literals of all these columns are.
+pub(crate) fn are_all_known(known: &[bool; VARIABLES], columns: &[Entry]) -> bool
+    ensures { OnTrue result (All (λ c. All (λ l. get_or known.now l.variable false ≡ true) c.cube) columns.now) }
+{
+    for column in columns {
+        if !are_known(known, column.cube.literals()) {
+            return false;
+        }
+    }
+    true
+}
+
+/// Marks the literals on marked variables.
+fn mark_known(
+    known: &[bool; VARIABLES],
+    literals: &[Literal],
+    told: &mut Vec<bool>,
+) -> Result<(), OutOfMemory>
+    ensures { IfOk result (λ _. told.new.items ≡ map (λ l. get_or known.now l.variable false) literals.now) }
+{
+    told.clear();
+    for literal in literals {
+        told.push(known[literal.variable as usize])?;
+    }
+    Ok(())
+}
+
+/// Whether all are marked.
+fn are_marked(marks: &[bool]) -> bool
+    ensures { OnTrue result ((i : ℕ) → i < length marks.now → get_or marks.now i false ≡ true) }
+{
+    for mark in marks {
+        if !*mark {
+            return false;
+        }
+    }
+    true
+}
+
+/// What the node of an item knows by the item's columns: the variables of its own processes that have always ended, and
+/// what it hears.
+#[derive(Drop)]
+pub(crate) struct Listener<'a> {
+    pub(crate) admitted: &'a Admitted,
+    pub(crate) turns: &'a Turns<'a>,
+    pub(crate) node: u32,
+    pub(crate) known: [bool; VARIABLES],
+    pub(crate) speakers: Vec<Speaker<'a>>,
+}
+
+impl<'a> Listener<'a> {
+    /// Whether a process is over by a time in the scenarios of a space.
+    fn is_over(&self, process: u32, space: &Space, time: u64) -> bool
+        ensures { OnTrue result ((tables : List NodeTable) (s : Scenario) → AreTurns (execution self.now.admitted.now.graph) self.now.admitted.now.graph tables self.now.turns.now → IsScenario self.now.admitted.now.graph s → Lies space.now s → IsOverBy tables (execution self.now.admitted.now.graph process s) process time s) }
+    {
+        let Some(course) = self.turns.courses.list.get(process as usize) else {
+            return false;
+        };
+        if course.is_early(time) {
+            return true;
+        }
+        course.is_over(space, time)
+    }
+
+    /// Whether the process of a variable is on the node, and over by a time in the scenarios of a space.
+    fn is_own_over(&self, variable: u8, space: &Space, time: u64) -> bool
+        ensures { OnTrue result ((tables : List NodeTable) (s : Scenario) → AreTurns (execution self.now.admitted.now.graph) self.now.admitted.now.graph tables self.now.turns.now → IsScenario self.now.admitted.now.graph s → Lies space.now s → IsOwnOver self.now.admitted.now.graph tables self.now.node variable time s) }
+    {
+        let problem = self.admitted.problem();
+        let Some(process) = owner(problem, variable) else {
+            return false;
+        };
+        let (home, node) = (problem.node_of(process), self.node);
+        if home != node {
+            return false;
+        }
+        self.is_over(process, space, time)
+    }
+
+    /// Whether a literal is marked, or this is so of its variable.
+    fn is_known(&self, is_marked: bool, variable: u8, space: &Space, time: u64) -> bool
+        ensures { OnTrue result ((tables : List NodeTable) (s : Scenario) → AreTurns (execution self.now.admitted.now.graph) self.now.admitted.now.graph tables self.now.turns.now → IsScenario self.now.admitted.now.graph s → Lies space.now s → (is_marked ≡ true) ⊎ IsOwnOver self.now.admitted.now.graph tables self.now.node variable time s) }
+    {
+        if is_marked {
+            return true;
+        }
+        self.is_own_over(variable, space, time)
+    }
+
+    /// Whether this is so of the variables of all literals that aren't marked.
+    fn are_others_over(&self, literals: &[Literal], told: &[bool], space: &Space, time: u64) -> bool
+        requires long { length told.now ≡ length literals.now }
+        ensures { OnTrue result ((tables : List NodeTable) (s : Scenario) (i : ℕ) → AreTurns (execution self.now.admitted.now.graph) self.now.admitted.now.graph tables self.now.turns.now → IsScenario self.now.admitted.now.graph s → Lies space.now s → i < length literals.now → (get_or told.now i false ≡ true) ⊎ IsOwnOver self.now.admitted.now.graph tables self.now.node (literal_at literals.now i).variable time s) }
+    {
+        for (place, literal) in literals.iter().enumerate() {
+            if !self.is_known(told[place], literal.variable, space, time) {
+                return false;
+            }
+        }
+        true
+    }
+
+    /// Marks the literals of a column that the node has been told by others by the column's time wherever that matches, in
+    /// a space that has all these scenarios.
+    fn listen(
+        &self,
+        column: &Entry,
+        space: &Space,
+        places: &mut Vec<u32>,
+        told: &mut Vec<bool>,
+    ) -> Result<(), OutOfMemory>
+        requires long { length told.old.items ≡ length column.now.cube }
+        ensures long { IfOk result (λ _. length told.new.items ≡ length column.now.cube) }
+        ensures heard { IfOk result (λ _. (g : Graph) (tables : List NodeTable) → All (IsSpeaker g tables self.now.node) self.now.speakers.items → ((s : Scenario) → IsScenario g s → matches column.now.cube s ≡ true → Lies space.now s) → AreHeardIn g tables self.now.node column.now told.old.items → AreHeardIn g tables self.now.node column.now told.new.items) }
+    {
+        for speaker in self.speakers.as_slice() {
+            if are_marked(told.as_slice()) {
+                return Ok(());
+            }
+            speaker.tell(column, space, places, told)?;
+        }
+        Ok(())
+    }
+
+    /// Whether the node has heard all literals of one of the item's columns by its time, wherever it matches.
+    fn hears(
+        &self,
+        column: &Entry,
+        places: &mut Vec<u32>,
+        told: &mut Vec<bool>,
+    ) -> Result<bool, OutOfMemory>
+        ensures { IfOk result (λ all. OnTrue all ((tables : List NodeTable) (x : ℕ) → IsListener tables x self.now → AllHold self.now.admitted.now.graph tables row_rules → Contains (columns_of tables x) column.now → IsAllHeard self.now.admitted.now.graph tables self.now.node column.now)) }
+    {
+        let literals = column.cube.literals();
+        let problem = self.admitted.problem();
+        let Some(space) = Space::of(problem.faults(), literals) else {
+            return Ok(true);
+        };
+        mark_known(&self.known, literals, told)?;
+        self.listen(column, &space, places, told)?;
+        Ok(self.are_others_over(literals, told.as_slice(), &space, column.time))
+    }
+
+    /// Whether it has heard all literals of all of the item's columns.
+    pub(crate) fn hears_all(&self, alloc: Global, columns: &[Entry]) -> Result<bool, OutOfMemory>
+        ensures { IfOk result (λ all. OnTrue all ((tables : List NodeTable) (x : ℕ) → IsListener tables x self.now → AllHold self.now.admitted.now.graph tables row_rules → columns.now ≡ columns_of tables x → All (IsAllHeard self.now.admitted.now.graph tables self.now.node) columns.now)) }
+    {
+        let mut places = Vec::new(alloc);
+        let mut told = Vec::new(alloc);
+        for column in columns {
+            let heard = self.hears(column, &mut places, &mut told)?;
+            if !heard {
+                return Ok(false);
+            }
+        }
+        Ok(true)
+    }
+}

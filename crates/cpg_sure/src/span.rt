@@ -1,0 +1,80 @@
+//! How long items last.
+ghost use Rattle.std.specs.Prelude.{◌<◌};
+ghost use Rattle.std.specs.Bool.{OnTrue};
+ghost use Rattle.cpg_base.specs.Graph.{Graph, process_count};
+ghost use Rattle.cpg_order.specs.Scenario.{Scenario};
+ghost use Rattle.cpg_tree.specs.Space.{Lies};
+ghost use Rattle.cpg_sure.specs.Order.{execution};
+ghost use Rattle.cpg_sure.specs.Courses.{IsPast, IsSpan};
+
+use cpg_base::{MOST_FAULTS, Problem};
+use cpg_tree::Space;
+
+/// How many counts of faults there are.
+const COUNTS: usize = MOST_FAULTS as usize + 1;
+
+/// How long an item lasts at most, in time units, by the number of a variable.
+#[derive(Clone, Copy)]
+pub(crate) struct Span {
+    /// The fault count of a process.
+    pub(crate) variable: u8,
+    /// Where the variable has this number at most.
+    pub(crate) lengths: [u64; COUNTS],
+    /// Whatever number it has.
+    pub(crate) longest: u64,
+}
+
+impl Span {
+    /// That of the executions of a process, by its faults.
+    pub(crate) fn of_execution(problem: &Problem, process: u32) -> Span
+        requires { process < process_count problem.now }
+        ensures { IsSpan problem.now (execution problem.now process) result }
+    {
+        let faults = problem.faults();
+        let mut lengths = [0; COUNTS];
+        for count in 0..COUNTS {
+            lengths[count] = problem.duration(process, faults.min(count as u8));
+        }
+        Span {
+            variable: process as u8,
+            lengths,
+            longest: problem.duration(process, faults),
+        }
+    }
+
+    /// One time unit, for what has to be at another time.
+    pub(crate) fn one() -> Span
+        ensures { (g : Graph) → IsSpan g (λ _. 1) result }
+    {
+        Span {
+            variable: 0,
+            lengths: [1; COUNTS],
+            longest: 1,
+        }
+    }
+
+    /// A length that is always the same.
+    pub(crate) fn fixed(length: u64) -> Span
+        ensures { (g : Graph) → IsSpan g (λ _. length) result }
+    {
+        Span {
+            variable: 0,
+            lengths: [length; COUNTS],
+            longest: length,
+        }
+    }
+
+    /// Whether what starts at a time is over by another in all scenarios of a space.
+    pub(crate) fn is_past(&self, start: u64, time: u64, space: &Space) -> bool
+        ensures { OnTrue result ((s : Scenario) → Lies space.now s → IsPast self.now start time s) }
+    {
+        let most = space.most(self.variable);
+        if most > MOST_FAULTS {
+            return false;
+        }
+        if time < start {
+            return false;
+        }
+        self.lengths[most as usize] <= time - start
+    }
+}

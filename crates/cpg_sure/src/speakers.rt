@@ -1,0 +1,249 @@
+//! What a node hears of others: the rows of items whose frames reach it, and which literals these tell.
+ghost use Rattle.std.specs.Prelude.{◌≡◌, ◌≤◌, ◌+◌, ◌⊎◌, ℕ, Some, All, Contains, IfOk, IfSome, List, false, get_or, length, true};
+ghost use Rattle.std.specs.Bool.{OnTrue};
+ghost use Rattle.cpg_base.specs.Graph.{Graph};
+ghost use Rattle.cpg_order.specs.Scenario.{Scenario, IsScenario, number_of};
+ghost use Rattle.cpg_cube.specs.Cube.{matches};
+ghost use Rattle.cpg_table.specs.Heard.{exactly, frame_value};
+ghost use Rattle.cpg_table.specs.Table.{NodeTable};
+ghost use Rattle.cpg_tree.specs.Space.{Lies};
+ghost use Rattle.cpg_violation.specs.Sieves.{column_at};
+ghost use Rattle.cpg_sure.specs.Courses.{AreCourses};
+ghost use Rattle.cpg_sure.specs.Hearing.{AreHeardIn, literal_at};
+ghost use Rattle.cpg_sure.specs.Order.{frame};
+ghost use Rattle.cpg_sure.specs.Speakers.{HasCome, IsSpeaker, IsTold, IsToldIn};
+
+use crate::course::Courses;
+use cpg_base::{FIRST_VALUE, Item, OutOfMemory, Problem};
+use cpg_cube::Literal;
+use cpg_table::Entry;
+use cpg_tree::{Places, Space, Test};
+use std::alloc::Global;
+
+/// An item that a node hears.
+#[derive(Clone, Copy)]
+pub(crate) struct Speaker<'a> {
+    pub(crate) item: u32,
+    pub(crate) columns: &'a [Entry],
+    pub(crate) tree: &'a Places,
+    /// No column is at an earlier time.
+    pub(crate) first: u64,
+    /// A frame is there so long after its column's time.
+    pub(crate) delay: u64,
+    /// The variable of the condition whose value a frame carries.
+    pub(crate) value: Option<u8>,
+}
+
+/// Whether what takes so long from a start has come by a time.
+fn has_come(start: u64, delay: u64, time: u64) -> bool
+    ensures { OnTrue result (start + delay ≤ time) }
+{
+    if start > time {
+        return false;
+    }
+    delay <= time - start
+}
+
+/// That there is a place, and the frame of its column has come by a time.
+#[derive(Drop)]
+struct Arrivals<'a> {
+    columns: &'a [Entry],
+    delay: u64,
+    time: u64,
+}
+
+impl<'a> Test for Arrivals<'a> {
+    ghost tells = { λ test place s. HasCome test.columns.now test.delay test.time place };
+
+    fn passes(&self, place: Option<u32>, _space: &Space) -> bool {
+        let Some(place) = place else {
+            return false; // where no column matches, nothing is told
+        };
+        let Some(column) = self.columns.get(place as usize) else {
+            return false;
+        };
+        has_come(column.time, self.delay, self.time)
+    }
+}
+
+/// Whether a literal bounds the variable of another at least as closely.
+fn is_as_close(literal: &Literal, wanted: &Literal) -> bool
+    ensures { OnTrue result ((literal.now.variable ≡ wanted.now.variable) × (wanted.now.low ≤ literal.now.low) × (literal.now.high ≤ wanted.now.high)) }
+{
+    literal.variable == wanted.variable && wanted.low <= literal.low && literal.high <= wanted.high
+}
+
+/// Whether one of these literals, by rising variable, does.
+fn tells(literals: &[Literal], wanted: &Literal) -> bool
+    ensures { OnTrue result (IsToldIn literals.now wanted.now) }
+{
+    for literal in literals {
+        if literal.variable >= wanted.variable {
+            return is_as_close(literal, wanted);
+        }
+    }
+    false
+}
+
+/// Whether the literals of the column at a place do.
+fn tells_at(columns: &[Entry], place: u32, wanted: &Literal) -> bool
+    ensures { OnTrue result (IsToldIn (column_at columns.now place).cube wanted.now) }
+{
+    match columns.get(place as usize) {
+        Some(column) => tells(column.cube.literals(), wanted),
+        None => false,
+    }
+}
+
+/// Whether those of the column at each of these places do.
+fn tell_at_all(columns: &[Entry], places: &[u32], wanted: &Literal) -> bool
+    ensures { OnTrue result (All (λ i. IsToldIn (column_at columns.now i).cube wanted.now) places.now) }
+{
+    for place in places {
+        if !tells_at(columns, *place, wanted) {
+            return false;
+        }
+    }
+    true
+}
+
+impl<'a> Speaker<'a> {
+    /// Whether its frames carry the value of a variable.
+    fn carries(&self, variable: u8) -> bool
+        ensures { OnTrue result (self.now.value ≡ Some variable) }
+    {
+        match self.value {
+            Some(value) => value == variable,
+            None => false,
+        }
+    }
+
+    /// Whether the frames of the columns at these places tell a literal.
+    fn tells(&self, places: &[u32], wanted: &Literal) -> bool
+        ensures { OnTrue result (IsTold self.now.value self.now.columns.now places.now wanted.now) }
+    {
+        if self.carries(wanted.variable) {
+            return true;
+        }
+        tell_at_all(self.columns, places, wanted)
+    }
+
+    /// Whether a literal is told already, or by the frames of the columns at these places.
+    fn is_told(&self, already: bool, places: &[u32], wanted: &Literal) -> bool
+        ensures { OnTrue result ((already ≡ true) ⊎ IsTold self.now.value self.now.columns.now places.now wanted.now) }
+    {
+        if already {
+            return true;
+        }
+        self.tells(places, wanted)
+    }
+
+    /// Marks the literals that the frames of the columns at these places tell.
+    fn mark(&self, places: &[u32], literals: &[Literal], told: &mut Vec<bool>)
+        requires long { length told.old.items ≡ length literals.now }
+        ensures long { length told.new.items ≡ length literals.now }
+        ensures told { (i : ℕ) → get_or told.new.items i false ≡ true → (get_or told.old.items i false ≡ true) ⊎ IsTold self.now.value self.now.columns.now places.now (literal_at literals.now i) }
+    {
+        for (place, literal) in literals.iter().enumerate() {
+            told[place] = self.is_told(told[place], places, literal);
+        }
+    }
+
+    /// Marks the literals of a column that its frames have told by the column's time wherever that matches, in a space
+    /// that has all these scenarios. The places of its own columns that match there are first written to `places`.
+    pub(crate) fn tell(
+        &self,
+        column: &Entry,
+        space: &Space,
+        places: &mut Vec<u32>,
+        told: &mut Vec<bool>,
+    ) -> Result<(), OutOfMemory>
+        requires long { length told.old.items ≡ length column.now.cube }
+        ensures long { IfOk result (λ _. length told.new.items ≡ length column.now.cube) }
+        ensures heard { IfOk result (λ _. (g : Graph) (tables : List NodeTable) (node : ℕ) → IsSpeaker g tables node self.now → ((s : Scenario) → IsScenario g s → matches column.now.cube s ≡ true → Lies space.now s) → AreHeardIn g tables node column.now told.old.items → AreHeardIn g tables node column.now told.new.items) }
+    {
+        if !has_come(self.first, self.delay, column.time) {
+            return Ok(());
+        }
+        places.clear();
+        let arrivals = Arrivals {
+            columns: self.columns,
+            delay: self.delay,
+            time: column.time,
+        };
+        let all = self.tree.gather(space, &arrivals, places)?;
+        if !all {
+            return Ok(());
+        }
+        self.mark(places.as_slice(), column.cube.literals(), told);
+        Ok(())
+    }
+}
+
+/// The variable of the condition whose value an item's frames carry.
+fn value_of(problem: &Problem, item: Item) -> Option<u8>
+    ensures { IfSome result (λ v. (s : Scenario) → Contains (frame_value s item) (exactly v (number_of s v))) }
+{
+    match item {
+        Item::Start(_) => None,
+        Item::Message(_) => None,
+        Item::Broadcast(condition) => {
+            if condition < problem.conditions() {
+                Some(FIRST_VALUE + condition as u8)
+            } else {
+                None
+            }
+        }
+    }
+}
+
+/// An item as a node hears it, if it does and its row has a tree.
+fn speaker_of<'a>(
+    problem: &Problem,
+    frames: &'a Courses<'a>,
+    node: u32,
+    item: u32,
+) -> Option<Speaker<'a>>
+    ensures { (tables : List NodeTable) → AreCourses (frame problem.now) problem.now tables frames.now → IfSome result (IsSpeaker problem.now tables node) }
+{
+    if item >= problem.item_count() {
+        return None;
+    }
+    if !problem.is_heard_by(node, item) {
+        return None;
+    }
+    let Some(course) = frames.list.get(item as usize) else {
+        return None;
+    };
+    let Some(tree) = course.tree else {
+        return None;
+    };
+    Some(Speaker {
+        item,
+        columns: course.columns,
+        tree,
+        first: course.first,
+        delay: problem.slot_length(problem.home(item)),
+        value: value_of(problem, problem.item(item)),
+    })
+}
+
+/// Those of these items that a node hears and whose rows have trees.
+pub(crate) fn speakers<'a>(
+    alloc: Global,
+    problem: &Problem,
+    frames: &'a Courses<'a>,
+    node: u32,
+    items: &[u32],
+) -> Result<Vec<Speaker<'a>>, OutOfMemory>
+    ensures { IfOk result (λ found. (tables : List NodeTable) → AreCourses (frame problem.now) problem.now tables frames.now → All (IsSpeaker problem.now tables node) found.items) }
+{
+    let mut found = Vec::new(alloc);
+    for item in items {
+        let Some(speaker) = speaker_of(problem, frames, node, *item) else {
+            continue;
+        };
+        found.push(speaker)?;
+    }
+    Ok(found)
+}

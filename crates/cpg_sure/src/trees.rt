@@ -1,0 +1,44 @@
+//! The trees of all rows.
+ghost use Rattle.std.specs.Prelude.{◌≤◌, IfOk, IfSome, length};
+ghost use Rattle.cpg_base.specs.Graph.{Graph};
+ghost use Rattle.cpg_base.specs.declared.limits.TheConstants.{MOST_LOAD};
+ghost use Rattle.cpg_rules.specs.Admission.{IsAdmitted};
+ghost use Rattle.cpg_sure.specs.Trees.{AreRowTrees, IsRowTree};
+
+use cpg_base::{OutOfMemory, Problem};
+use cpg_table::{Entry, Tables};
+use cpg_tree::Places;
+use cpg_violation::{columns_of, cubes_of};
+use std::alloc::Global;
+
+/// The tree of a row's columns, if it has one: not where two columns may match together, or where it would be too large.
+fn tree_of(
+    alloc: Global,
+    problem: &Problem,
+    columns: &[Entry],
+) -> Result<Option<Places>, OutOfMemory>
+    requires { length columns.now ≤ MOST_LOAD }
+    ensures { IfOk result (λ r. IfSome r (IsRowTree problem.now columns.now)) }
+{
+    let cubes = cubes_of(alloc, columns)?;
+    let places = Places::of(alloc, problem.faults(), cubes.as_slice())?;
+    Ok(places)
+}
+
+/// For each item the tree of its row, if it has one: for each scenario the place of the one column that matches.
+pub fn row_trees(
+    alloc: Global,
+    problem: &Problem,
+    tables: &Tables,
+) -> Result<Vec<Option<Places>>, OutOfMemory>
+    ensures { IfOk result (λ trees. AreRowTrees problem.now tables.now.nodes trees.items) }
+{
+    let count = problem.item_count();
+    let mut trees = Vec::new(alloc);
+    trees.reserve(count as usize)?;
+    for item in 0..count {
+        let tree = tree_of(alloc, problem, columns_of(tables, item))?;
+        trees.push(tree)?;
+    }
+    Ok(trees)
+}

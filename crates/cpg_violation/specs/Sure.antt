@@ -1,0 +1,32 @@
+-- Items at which a rule is known to hold in every scenario.
+use Rattle.std.specs.Prelude.{ℕ, ◌≡◌, ◌<◌, true, false, List, Option, get_or, Bool}
+use Rattle.cpg_base.specs.Graph.{Graph, item_count}
+use Rattle.cpg_order.specs.Scenario.{Scenario, IsScenario}
+use Rattle.cpg_table.specs.Table.{NodeTable}
+use Rattle.cpg_table.specs.Valid.{breaks}
+use Rattle.cpg_table.specs.declared.rule.Rule.{Rule}
+use Rattle.cpg_violation.specs.declared.marks.RowMarks.{RowMarks}
+use Rattle.cpg_violation.specs.declared.marks.TimeMarks.{TimeMarks}
+
+-- no scenario breaks the rule at the item
+abbrev pub IsSure : Graph → List NodeTable → Rule → ℕ → Type 0
+IsSure g tables rule x = (column : Option ℕ) (s : Scenario) → IsScenario g s → breaks rule g tables s x column ≡ false
+
+-- nor at any item that is marked
+abbrev pub AreSure : Graph → List NodeTable → Rule → List Bool → Type 0
+AreSure g tables rule marks = (x : ℕ) → x < item_count g → get_or marks x false ≡ true → IsSure g tables rule x
+
+-- the marks of V1 to V3
+pub record AreRowMarks (g : Graph) (tables : List NodeTable) (marks : RowMarks) : Type 0 where
+  pub activity : AreSure g tables Rule.Activity marks.activity.items
+  pub single : AreSure g tables Rule.Single marks.single.items
+  pub present : AreSure g tables Rule.Present marks.present.items
+
+-- the marks of V4 to V9
+pub record AreTimeMarks (g : Graph) (tables : List NodeTable) (marks : TimeMarks) : Type 0 where
+  pub heard : AreSure g tables Rule.Heard marks.heard.items
+  pub inputs : AreSure g tables Rule.Inputs marks.inputs.items
+  pub processor : AreSure g tables Rule.Processor marks.processor.items
+  pub slot : AreSure g tables Rule.Slot marks.slot.items
+  pub frozen : AreSure g tables Rule.Frozen marks.frozen.items
+  pub due : AreSure g tables Rule.Due marks.due.items
