@@ -51,7 +51,7 @@ module _ (a b : Admission) (x : IsAdmitted a.graph a.order a.guards) (y : IsAdmi
   same_order : b.order ≡ a.order
   same_order = one_urgency_order a.graph b.order a.order (subst (λ g. IsUrgencyOrder g b.order) same y.urgency) x.urgency
 
-  moved : (P : Graph → List ℕ → Type 0) → P b.graph b.order → P a.graph a.order
+  pub moved : (P : Graph → List ℕ → Type 0) → P b.graph b.order → P a.graph a.order
   moved P p = subst (P a.graph) same_order (subst (λ g. P g b.order) same p)
 
 -- ---- the halts that are left

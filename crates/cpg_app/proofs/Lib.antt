@@ -8,12 +8,8 @@ pub mod Written
 pub mod Later
 pub mod Checked
 pub mod Joined
-pub mod Local
 pub mod Said
 pub mod TunedLines
-pub mod Streams
-pub mod Digits
-pub mod Along
 pub mod Streamed
 pub mod Streaming
 pub mod Wordless

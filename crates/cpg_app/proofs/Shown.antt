@@ -23,7 +23,7 @@ use Rattle.cpg_app.specs.Outputs.{Prints, PrintsAsked, IsMade, shown, packed, Is
 use Rattle.cpg_app.specs.Told.{Untouched}
 use Rattle.cpg_app.specs.Endings.{Ran, IsPrinted, IsTold, EndsWith, EndsBy}
 use Rattle.cpg_app.specs.Lawful.{IsFaultless, AsksFor, Asks, AsksNode, AsksTuning, AsksVerdict, IsLawful, AsksStream, status_of_end}
-use Rattle.cpg_app.specs.Streams.{stream_end}
+use Rattle.cpg_follow.specs.Streams.{stream_end}
 use Rattle.cpg_app.proofs.Streamed.{followed_is, followed_named}
 use Rattle.cpg_app.proofs.Statuses.{of_words, of_read, of_formless, refused_of, late_of, wide_of, unsafe_of, not_three, not_zero}
 use Rattle.cpg_table.specs.declared.fault.Fault.{Fault}
@@ -41,8 +41,8 @@ prints_form seen (Some c) text so none = none-some c (sym none)
 
 -- what is put out for a graph file is made of it
 made_of : (seen : Seen) (graph : Text) (asked : Option Command) (bytes : Text) → AsksFor graph asked → PrintsAsked seen asked bytes → (spell : Graph → Compiled → Text) × IsMade (seen.stands graph) spell bytes
-made_of seen graph asked bytes (inl show) prints = (shown, subst (λ c. PrintsAsked seen c bytes) show prints)
-made_of seen graph asked bytes (inr compile) prints = (packed, subst (λ c. PrintsAsked seen c bytes) compile prints)
+made_of seen graph asked bytes (inl show) prints = (shown, (subst (λ c. PrintsAsked seen c bytes) show prints).output)
+made_of seen graph asked bytes (inr compile) prints = (packed, (subst (λ c. PrintsAsked seen c bytes) compile prints).output)
 
 -- and a run stops for it as its compile does
 stopped_of : (seen : Seen) (graph : Text) (asked : Option Command) (halt : Halt) → AsksFor graph asked → StopsAsked seen asked halt → StopsGraph seen (seen.stands graph) IsUncompiled halt
@@ -74,9 +74,9 @@ module _ (r : Ran) where
     -- what was checked, or played, is what was asked for
     with_check : (a : Admission) (t : Tables) → AsksVerdict r a t → IsHeadFor a.graph t.head × IsValid a.graph t.nodes
     with_check a t asks = elim asks.words [
-      | inl check ↦ checked_is r.shelf a t asks.graph asks.pack asks.bytes asks.told asks.file asks.faultless.shelf asks.spelled asks.lawful text (subst (λ c. PrintsAsked r.shelf c text) check with.prints)
-      | inr (inl play) ↦ played_is r.shelf a t asks.graph asks.pack asks.bytes asks.told asks.file asks.faultless.shelf asks.spelled asks.lawful (r.shelf.stands play.0) play.1 text (subst (λ c. PrintsAsked r.shelf c text) play.2 with.prints)
-      | inr (inr log) ↦ audited_is r.shelf a t asks.graph asks.pack asks.bytes asks.told asks.file asks.faultless.shelf asks.spelled asks.lawful (r.shelf.stands log.0) text (subst (λ c. PrintsAsked r.shelf c text) log.1 with.prints)
+      | inl check ↦ checked_is r.shelf a t asks.graph asks.pack asks.bytes asks.told asks.file asks.faultless.shelf asks.spelled asks.lawful text (subst (λ c. PrintsAsked r.shelf c text) check with.prints).output
+      | inr (inl play) ↦ played_is r.shelf a t asks.graph asks.pack asks.bytes asks.told asks.file asks.faultless.shelf asks.spelled asks.lawful (r.shelf.stands play.0) play.1 text (subst (λ c. PrintsAsked r.shelf c text) play.2 with.prints).output
+      | inr (inr log) ↦ audited_is r.shelf a t asks.graph asks.pack asks.bytes asks.told asks.file asks.faultless.shelf asks.spelled asks.lawful (r.shelf.stands log.0) text (subst (λ c. PrintsAsked r.shelf c text) log.1 with.prints).output
     ]
 
     module _ (a : Admission) (asks : Asks r a) where
@@ -91,7 +91,7 @@ module _ (r : Ran) where
 
     -- and what is printed is of a node of the name
     with_node : (t : Tables) (name : Text) → AsksNode r t name → (node : ℕ) × (first_named t.head name ≡ Some node)
-    with_node t name asks = node_is r.shelf t asks.pack asks.faultless.shelf asks.spelled asks.lawful name text (subst (λ c. PrintsAsked r.shelf c text) asks.words with.prints)
+    with_node t name asks = node_is r.shelf t asks.pack asks.faultless.shelf asks.spelled asks.lawful name text (subst (λ c. PrintsAsked r.shelf c text) asks.words with.prints).output
 
     with_nameless : (t : Tables) (name : Text) → AsksNode r t name → first_named t.head name ≡ None → (r.status ≡ 4) ⊎ (r.status ≡ 8)
     with_nameless t name asks none = let named = with_node t name asks in absurd (none-some named.0 (sym none ∙ named.1))
@@ -99,7 +99,7 @@ module _ (r : Ran) where
     -- a stream is followed to its close
     module _ (t : Tables) (name bytes : Text) (asks : AsksStream r t name bytes) where
       followed_text : IsFollowedOf (r.shelf.stands asks.pack) name (r.shelf.stands asks.stream) text
-      followed_text = subst (λ c. PrintsAsked r.shelf c text) asks.words with.prints
+      followed_text = (subst (λ c. PrintsAsked r.shelf c text) asks.words with.prints).output
 
       with_followed : (node : ℕ) → first_named t.head name ≡ Some node → (r.status ≡ status_of_end (stream_end (table_at t.nodes node) bytes)) ⊎ (r.status ≡ 8)
       with_followed node named = elim (with_safe asks.faultless) [

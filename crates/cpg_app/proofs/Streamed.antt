@@ -14,16 +14,16 @@ use Rattle.cpg_table.specs.Lawful.{Tables}
 use Rattle.cpg_table.specs.Table.{NodeTable, table_at}
 use Rattle.cpg_codec.specs.Packs.{AreLawful}
 use Rattle.cpg_codec.specs.Spelling.{spelling}
-use Rattle.cpg_app.specs.declared.following.Broken.{Broken}
-use Rattle.cpg_app.specs.declared.following.StreamFault.{StreamFault}
+use Rattle.cpg_follow.specs.declared.following.Broken.{Broken}
+use Rattle.cpg_follow.specs.declared.following.StreamFault.{StreamFault}
 use Rattle.cpg_app.specs.declared.halt.Halt.TheVariants.{Read}
 use Rattle.cpg_app.specs.Causes.{Seen, first_named}
 use Rattle.cpg_app.specs.Endings.{Ran, EndsInStream, Follows, IsSaid, stream_of, table_of}
-use Rattle.cpg_app.specs.Following.{Breaks}
+use Rattle.cpg_follow.specs.Following.{Breaks}
 use Rattle.cpg_app.specs.Lawful.{AsksFor, AsksStream, AsksToJudge, IsLawful, IsRefusedStream, IsUnreadStream, status_of_end}
 use Rattle.cpg_app.specs.Lines.{line_of}
 use Rattle.cpg_app.specs.Outputs.{IsFollowedOf}
-use Rattle.cpg_app.specs.Streams.{AreBytesOf, IsClosed, IsRefused, fault_line, stream_end}
+use Rattle.cpg_follow.specs.Streams.{AreBytesOf, IsClosed, IsRefused, fault_line, stream_end}
 use Rattle.cpg_app.specs.Told.{Sent, SinkSeen, Untouched}
 use Rattle.cpg_app.proofs.Checked.{same_tables}
 
@@ -117,7 +117,7 @@ module _ (r : Ran) (ends : EndsInStream r) where
   refused_stream : (broken : Broken) → Breaks head table (stream_of r f) broken → IsSaid r.err r.status broken → r.status ≡ 4 → IsRefusedStream r
   refused_stream Broken.Shelf breaks said four = absurd (let two = status_sent r.err r.status 2 4 (line_of Read) said four (λ e. omega arith) in omega arith)
   refused_stream Broken.Sink breaks said four = absurd (let three = said.0 in omega arith)
-  refused_stream (Broken.Refused fault) breaks said four = record { follows = f; fault = fault; lines = breaks.0; refused = breaks.1; out = breaks.2; err = (said.whole (λ three. omega arith)).1 }
+  refused_stream (Broken.Refused fault) breaks said four = record { follows = f; fault = fault; lines = breaks.0; refused = breaks.1; over = breaks.3; out = breaks.2; err = (said.whole (λ three. omega arith)).1 }
 
   unread_stream : (broken : Broken) → Breaks head table (stream_of r f) broken → IsSaid r.err r.status broken → r.status ≡ 2 → IsUnreadStream r
   unread_stream Broken.Shelf breaks said two = record { follows = f; lines = breaks.1.0; lawful = breaks.1.1; out = breaks.1.2; err = (said.whole (λ three. omega arith)).1 }

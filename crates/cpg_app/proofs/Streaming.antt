@@ -6,16 +6,16 @@ use Rattle.cpg_words.specs.declared.command.Command.{Command}
 use Rattle.cpg_words.specs.declared.command.Command.TheVariants.{Live}
 use Rattle.cpg_table.specs.Lawful.{Tables}
 use Rattle.cpg_table.specs.Table.{table_at}
-use Rattle.cpg_app.specs.declared.following.Broken.{Broken}
+use Rattle.cpg_follow.specs.declared.following.Broken.{Broken}
 use Rattle.cpg_app.specs.Causes.{Spells}
 use Rattle.cpg_app.specs.Endings.{Ran, IsSaid}
-use Rattle.cpg_app.specs.Follower.{Follower}
-use Rattle.cpg_app.specs.Following.{Breaks, Completes, Stream}
+use Rattle.cpg_follow.specs.Follower.{Follower}
+use Rattle.cpg_follow.specs.Following.{Breaks, Completes, Stream}
 use Rattle.cpg_app.specs.Lawful.{IsLawful}
 use Rattle.cpg_app.specs.Outputs.{IsFollower, PrintsAsked}
-use Rattle.cpg_app.specs.Streams.{IsClosed}
+use Rattle.cpg_follow.specs.Streams.{IsClosed}
 use Rattle.cpg_app.specs.Told.{Untouched}
-use Rattle.cpg_app.proofs.Along.{breaks_later}
+use Rattle.cpg_follow.proofs.Along.{breaks_later}
 use Rattle.cpg_app.proofs.Shown.{lawful_with}
 use Rattle.cpg_app.proofs.Streamed.{lawful_stream}
 
@@ -53,11 +53,11 @@ module _ (r : Ran) (pack name stream : Text) (words : command_of r.words ≡ Som
       })
 
   -- it is
-  pub is_followed : Completes f.head f.table told r.out.old r.out.new → r.status ≡ 0 → Untouched r.err → IsLawful r
-  is_followed all zero silent =
+  pub is_followed : (middle : ℕ) → Completes f.head f.table (seen_from told middle) → r.status ≡ 0 → Untouched r.err → IsLawful r
+  is_followed middle all zero silent =
       let closed = subst (λ o. IsClosed f.head f.table o all.0) same all.1 in
       let here = subst (λ h. IsClosed h (table_at t.nodes follower.node) (r.shelf.stands stream) all.0) head_is (subst (λ table. IsClosed f.head table (r.shelf.stands stream) all.0) table_is closed) in
       lawful_with r all.0 (record {
-        prints = subst (λ (o : Option Command). PrintsAsked r.shelf o all.0) (sym words) (t, spells, record { node = follower.node; named = follower.named; closed = here });
+        prints = subst (λ (o : Option Command). PrintsAsked r.shelf o all.0) (sym words) (record { output = (t, spells, record { node = follower.node; named = follower.named; closed = here }); within = all.3 });
         ending = inl (record { status = zero; out = all.2; err = silent });
       })

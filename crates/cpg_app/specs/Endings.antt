@@ -8,12 +8,12 @@ use Rattle.cpg_table.specs.Table.{NodeTable, table_at}
 use Rattle.cpg_table.specs.Lawful.{Tables}
 use Rattle.cpg_app.specs.declared.halt.Halt.{Halt}
 use Rattle.cpg_app.specs.declared.halt.Halt.TheVariants.{Read}
-use Rattle.cpg_app.specs.declared.following.Broken.{Broken}
+use Rattle.cpg_follow.specs.declared.following.Broken.{Broken}
 use Rattle.cpg_app.specs.Causes.{Seen, Spells, Stops, first_named}
-use Rattle.cpg_app.specs.Following.{Breaks, Completes, Stream}
+use Rattle.cpg_follow.specs.Following.{Breaks, Completes, Stream}
 use Rattle.cpg_app.specs.Lines.{line_of, status_of, write_fault_line}
 use Rattle.cpg_app.specs.Outputs.{Prints}
-use Rattle.cpg_app.specs.Streams.{fault_line}
+use Rattle.cpg_follow.specs.Streams.{fault_line}
 use Rattle.cpg_app.specs.Told.{SinkSeen, Sent, Whole, Untouched, Part}
 
 -- a run: its words, what it saw of its shelf and its sinks, and its exit status
@@ -94,7 +94,7 @@ IsSaid err status (Broken.Refused fault) = Sent err status 4 (fault_line fault)
 
 -- a stream is followed to its close, and nothing said, or it isn't, and what is wrong is said
 abbrev pub IsToldTo : Head → NodeTable → Stream → SinkSeen → ℕ → Type 0
-IsToldTo h table s err status = (Completes h table s.told s.old s.new × (status ≡ 0) × Untouched err) ⊎ ((broken : Broken) × Breaks h table s broken × IsSaid err status broken)
+IsToldTo h table s err status = (Completes h table s × (status ≡ 0) × Untouched err) ⊎ ((broken : Broken) × Breaks h table s broken × IsSaid err status broken)
 
 -- a run that doesn't follow its stream to the close
 pub record EndsInStream (r : Ran) : Type 0 where

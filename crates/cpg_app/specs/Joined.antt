@@ -1,12 +1,16 @@
--- Runs one after another: what one wrote, the others read.
+-- Runs one after another: what one wrote, the others read; and runs for one graph file.
 use Rattle.std.specs.Prelude.{ℕ, ◌≡◌, ◌<◌, ◌⊎◌, [], ◌++◌, Some, Ok, get_or, length}
 use Rattle.cpg_base.specs.Graph.{Graph}
 use Rattle.cpg_words.specs.Parts.{Text}
 use Rattle.cpg_words.specs.Forms.{command_of}
-use Rattle.cpg_words.specs.declared.command.Command.TheVariants.{Compile, Node}
+use Rattle.cpg_words.specs.declared.command.Command.{Command}
+use Rattle.cpg_words.specs.declared.command.Command.TheVariants.{Show, Compile, Node}
 use Rattle.cpg_reader.specs.Document.{problem_of}
+use Rattle.cpg_rules.specs.Admission.{Admission}
+use Rattle.cpg_core.specs.CompileLaws.{AskTheSame}
 use Rattle.cpg_app.specs.Endings.{Ran}
-use Rattle.cpg_app.specs.Lawful.{IsFaultless, AsksToJudge, IsLawful}
+use Rattle.cpg_app.specs.Lawful.{AreAdmitted, IsFaultless, AsksToJudge, IsLawful}
+use Rattle.cpg_app.specs.Outputs.{IsMadeOf, shown, packed as packed_of}
 
 -- a run wrote these bytes, behind what its output had
 pub record Wrote (r : Ran) (bytes : Text) : Type 0 where
@@ -14,14 +18,22 @@ pub record Wrote (r : Ran) (bytes : Text) : Type 0 where
   pub old : r.out.old ≡ Some before
   pub new : r.out.new ≡ Some (before ++ bytes)
 
--- it wrote the pack of a graph file of these bytes
-pub record HasPacked (r : Ran) (bytes packed : Text) : Type 0 where
+-- it wrote them as a command asked of a graph file of other bytes
+pub record HasMade (asked : Text → Command) (r : Ran) (bytes made : Text) : Type 0 where
   pub lawful : IsLawful r
   pub graph : Text
-  pub words : command_of r.words ≡ Some (Compile graph)
+  pub words : command_of r.words ≡ Some (asked graph)
   pub told : r.shelf.stands graph ≡ Some bytes
   pub done : r.status ≡ 0
-  pub wrote : Wrote r packed
+  pub wrote : Wrote r made
+
+-- the text of its tables
+abbrev pub HasShown : Ran → Text → Text → Type 0
+HasShown r bytes text = HasMade Show r bytes text
+
+-- or their pack
+abbrev pub HasPacked : Ran → Text → Text → Type 0
+HasPacked r bytes pack = HasMade Compile r bytes pack
 
 -- a run finds these bytes under a name, and nothing fails
 pub record FindsPack (r : Ran) (pack packed : Text) : Type 0 where
@@ -44,3 +56,15 @@ pub record IsTaken (g : Graph) (bytes packed : Text) : Type 0 where
 -- `node` prints for each of its nodes, want of memory aside.
 abbrev pub PacksAreTaken : Type 0
 PacksAreTaken = (r : Ran) (g : Graph) (bytes packed : Text) → HasPacked r bytes packed → problem_of bytes ≡ Ok g → IsTaken g bytes packed
+
+-- A text and a pack are of two compilations of one admitted graph, which ask the same in every scenario.
+pub record AreOfOneGraph (bytes text pack : Text) : Type 0 where
+  pub admission : Admission
+  pub file : AreAdmitted bytes admission
+  pub shows : IsMadeOf admission shown text
+  pub packs : IsMadeOf admission packed_of pack
+  pub same : AskTheSame admission.graph shows.compiled packs.compiled
+
+-- what `show` printed for a graph file, and what `compile` wrote for it
+abbrev pub ShowAndCompileAgree : Type 0
+ShowAndCompileAgree = (r q : Ran) (bytes text pack : Text) → HasShown r bytes text → HasPacked q bytes pack → AreOfOneGraph bytes text pack

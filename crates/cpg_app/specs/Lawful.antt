@@ -1,5 +1,5 @@
 -- What each exit status of a run says.
-use Rattle.std.specs.Prelude.{ℕ, ◌≡◌, ◌≢◌, ◌≤◌, ◌⊎◌, Option, Some, None, Result, Ok, Err, length}
+use Rattle.std.specs.Prelude.{ℕ, ◌≡◌, ◌≢◌, ◌<◌, ◌≤◌, ◌⊎◌, Option, Some, None, Result, Ok, Err, length}
 use Rattle.cpg_io.specs.Causes.{Rose}
 use Rattle.cpg_base.specs.Graph.{Graph}
 use Rattle.cpg_words.specs.Parts.{Text}
@@ -12,7 +12,9 @@ use Rattle.cpg_base.specs.Scenario.{Scenario}
 use Rattle.cpg_reach.specs.Wide.{IsNarrow, IsWide}
 use Rattle.cpg_core.specs.Compiled.{IsTimely, IsLate}
 use Rattle.cpg_app.specs.declared.halt.Refusal.{Refusal}
-use Rattle.cpg_app.specs.declared.following.StreamFault.{StreamFault}
+use Rattle.cpg_follow.specs.declared.following.StreamFault.{StreamFault}
+use Rattle.cpg_follow.specs.declared.following.StreamFault.TheVariants.{Long}
+use Rattle.cpg_follow.specs.declared.following.TheConstants.{STREAM_LIMIT}
 use Rattle.cpg_app.specs.declared.halt.Halt.TheVariants.{Read, Refused, Late, TooWide, Unsafe}
 use Rattle.cpg_table.specs.declared.fault.Fault.{Fault}
 use Rattle.cpg_table.specs.Lawful.{Tables}
@@ -30,7 +32,7 @@ use Rattle.cpg_app.specs.Causes.{Stops, first_named}
 use Rattle.cpg_app.specs.Endings.{Ran, Ends, Follows, IsPrinted, IsTold, table_of}
 use Rattle.cpg_app.specs.Lines.{line_of}
 use Rattle.cpg_app.specs.Outputs.{Prints}
-use Rattle.cpg_app.specs.Streams.{IsLawfulSoFar, IsRefused, fault_line, stream_end}
+use Rattle.cpg_follow.specs.Streams.{IsLawfulSoFar, IsRefused, fault_line, stream_end}
 use Rattle.cpg_app.specs.Told.{Untouched, Whole}
 
 -- no count of faults rose
@@ -133,12 +135,14 @@ pub record IsUnreadStream (r : Ran) : Type 0 where
   pub out : Whole r.out lines
   pub err : Whole r.err (line_of Read)
 
--- a stream is refused, and the lines of the records before were written
+-- a stream is refused, as too long only where more bytes were given than those of as many records as are taken; the lines of
+-- the records before were written
 pub record IsRefusedStream (r : Ran) : Type 0 where
   pub follows : Follows r
   pub fault : StreamFault
   pub lines : Text
   pub refused : IsRefused follows.tables.head (table_of follows) (r.shelf.stands follows.stream) fault lines
+  pub over : fault ≡ Long → STREAM_LIMIT < r.shelf.given
   pub out : Whole r.out lines
   pub err : Whole r.err (fault_line fault)
 

@@ -6,12 +6,7 @@ pub mod Plays
 pub mod Trials
 pub mod Tunes
 pub mod OneJudged
-pub mod Streams
-pub mod Follower
-pub mod Kept
-pub mod Following
 pub mod Outputs
 pub mod Endings
 pub mod Lawful
 pub mod Joined
-pub mod Knowledge

@@ -2,9 +2,7 @@
 use Rattle.std.specs.Prelude.{ℕ, ◌≡◌, ◌<◌, List, [], ◌++◌, Option, Some, None, length, get_or, codes, ⊤}
 use Rattle.std.specs.List.{flat_map}
 use Rattle.std.specs.Fmt.{decimal}
-use Rattle.cpg_base.specs.Graph.{Graph, condition_count, process_count, item_at, item_count, process_at, process_of}
-use Rattle.cpg_base.specs.declared.item.Item.{Item}
-use Rattle.cpg_base.specs.declared.item.Item.TheVariants.{Start, Message, Broadcast}
+use Rattle.cpg_base.specs.Graph.{Graph, condition_count, process_count, item_at, item_count, process_at}
 use Rattle.cpg_base.specs.Scenario.{Scenario}
 use Rattle.cpg_scenario.specs.Text.{scenario_text}
 use Rattle.cpg_reader.specs.declared.place.Table.{Table}
@@ -19,6 +17,8 @@ use Rattle.cpg_scenario.specs.declared.fault.Cause.{Cause}
 use Rattle.cpg_check.specs.declared.heads.HeadPart.{HeadPart}
 use Rattle.cpg_check.specs.declared.heads.HeadPart.TheVariants.{Faults}
 use Rattle.cpg_hyper.specs.declared.part.HyperFault.{HyperFault}
+use Rattle.cpg_show.specs.Labels.{labels_of}
+use Rattle.cpg_show.specs.TraceText.{done_text}
 use Rattle.cpg_table.specs.declared.fault.Fault.{Fault}
 use Rattle.cpg_app.specs.declared.halt.Refusal.{Refusal}
 use Rattle.cpg_app.specs.declared.halt.Refusal.TheVariants.{NotToml, BadField, DoubleName, UnknownName, OverLimit, Cycle, TwoAlternatives, NoSlot, TooBig, BadPack, BadScenario, BadLog, LongGraph, LongPack, LongScenario, LongLog, OtherGraph, TooManyTracks, UnknownNode, NoHypergraph}
@@ -134,15 +134,9 @@ refused_text refusal = codes "refused " ++ refusal_text refusal
 abbrev pub late_text : Graph → Scenario → ℕ → ℕ → List ℕ
 late_text g s p time = codes "late " ++ decimal time ++ codes " by " ++ case_text g p s
 
--- what starts, is sent or is told
-abbrev pub text_of_item : Graph → Item → List ℕ
-text_of_item g (Start p) = codes "start " ++ name_of g p
-text_of_item g (Message e) = codes "send e" ++ decimal e
-text_of_item g (Broadcast c) = codes "tell " ++ name_of g (process_of g c)
-
--- an item, by its number
+-- what starts, is sent or is told: an item, by its number, as a trace says it
 abbrev pub item_text : Graph → ℕ → List ℕ
-item_text g x = text_of_item g (item_at g x)
+item_text g x = done_text (labels_of g) (item_at g x)
 
 -- the number of a column, or a dash where there is none
 abbrev pub column_text : Option ℕ → List ℕ

@@ -32,14 +32,14 @@ use Rattle.cpg_audit.specs.Log.{Log, IsLog}
 use Rattle.cpg_scenario.specs.Text.{scenario_text}
 use Rattle.cpg_scenario.specs.File.{IsPlayed}
 use Rattle.cpg_scenario.specs.declared.reading.Played.{Played}
-use Rattle.cpg_app.specs.declared.reading.TheConstants.{PACK_LIMIT}
-use Rattle.cpg_app.specs.Knowledge.{KnowLocally}
+use Rattle.cpg_app.specs.declared.reading.TheConstants.{GRAPH_LIMIT, SCENARIO_LIMIT, LOG_LIMIT, PACK_LIMIT}
 use Rattle.cpg_app.specs.Plays.{world_of, IsPlayText}
 use Rattle.cpg_app.specs.Trials.{trial_text}
 use Rattle.cpg_app.specs.Tunes.{IsTuningText}
 use Rattle.cpg_app.specs.Causes.{Seen, Admits, AreSaid, SaysPlayed, Spells, first_named, SaysLog}
-use Rattle.cpg_app.specs.Streams.{IsClosed}
-use Rattle.cpg_app.specs.Follower.{Follower, open_follower}
+use Rattle.cpg_follow.specs.declared.following.TheConstants.{STREAM_LIMIT}
+use Rattle.cpg_follow.specs.Streams.{IsClosed}
+use Rattle.cpg_follow.specs.Follower.{Follower, open_follower}
 
 -- Tables that keep the ten rules, and what follows for the nodes that have them: in every scenario, with all lengths of
 -- executions and in every order of turns, each node starts and sends just what is due, in order and in time, can always go
@@ -58,13 +58,12 @@ pub record ArePackOf (g : Graph) (t : Tables) : Type 0 where
   pub lawful : AreLawful t
   pub short : length (spelling t) ≤ PACK_LIMIT
 
--- the bytes are spelled from the safe tables that a compile makes of an admitted graph
+-- the bytes are spelled from the safe tables that a compile makes of an admitted graph; no node knows more than it has seen
 pub record IsMadeOf (a : Admission) (spell : Graph → Compiled → Text) (bytes : Text) : Type 0 where
   pub compiled : Compiled
   pub compilation : IsCompilation a.graph a.order compiled
   pub pack : ArePackOf a.graph compiled.built.tables
   pub safe : AreSafe a.graph compiled.built.tables.nodes
-  pub local : KnowLocally a.graph compiled.built.tables.nodes
   pub spelled : bytes ≡ spell a.graph compiled
 
 -- the graph is that of the file
@@ -169,30 +168,47 @@ IsUnrolledText parts text = (g : Graph) × ShowsUnrolled parts (Ok g) × (proble
 abbrev pub IsUnrolledOf : (Text → Option Text) → List Pair → Text → Type 0
 IsUnrolledOf stands pairs text = (parts : List Part) × AreSaid stands pairs parts × IsUnrolledText parts text
 
--- The text is that of the figures of a trial. The tables of its graph are safe, and know no more than a node may.
+-- The text is that of the figures of a trial. The tables of its graph are safe.
 pub record IsTrialText (number : ℕ) (text : Text) : Type 0 where
   pub trial : Figures
   pub is : IsTrial number trial
   pub safe : AreSafe is.admission.graph is.compiled.built.tables.nodes
-  pub local : KnowLocally is.admission.graph is.compiled.built.tables.nodes
   pub spelled : text ≡ trial_text number trial
 
 -- the text of the tuning of the graph of a file
 abbrev pub IsTunedOf : Option Text → Text → Type 0
 IsTunedOf told text = (a : Admission) × Admits told a × IsTuningText a.graph text
 
--- a command's output
-abbrev pub PrintsCommand : Seen → Command → Text → Type 0
-PrintsCommand seen (Show graph) text = IsMade (seen.stands graph) shown text
-PrintsCommand seen (Compile graph) text = IsMade (seen.stands graph) packed text
-PrintsCommand seen (Check graph pack) text = IsChecked (seen.stands graph) (seen.stands pack) text
-PrintsCommand seen (Play graph pack scenario turns) text = IsPlayOf (seen.stands graph) (seen.stands pack) (seen.stands scenario) turns text
-PrintsCommand seen (Node pack name) text = IsNodeOf (seen.stands pack) name text
-PrintsCommand seen (Trial number) text = IsTrialText number text
-PrintsCommand seen (Live pack name stream) text = IsFollowedOf (seen.stands pack) name (seen.stands stream) text
-PrintsCommand seen (Hyper parts) text = IsUnrolledOf seen.stands parts text
-PrintsCommand seen (Tune graph) text = IsTunedOf (seen.stands graph) text
-PrintsCommand seen (Audit graph pack log) text = IsAuditOf (seen.stands graph) (seen.stands pack) (seen.stands log) text
+-- a command's output, by its files
+abbrev pub IsOutputOf : Seen → Command → Text → Type 0
+IsOutputOf seen (Show graph) text = IsMade (seen.stands graph) shown text
+IsOutputOf seen (Compile graph) text = IsMade (seen.stands graph) packed text
+IsOutputOf seen (Check graph pack) text = IsChecked (seen.stands graph) (seen.stands pack) text
+IsOutputOf seen (Play graph pack scenario turns) text = IsPlayOf (seen.stands graph) (seen.stands pack) (seen.stands scenario) turns text
+IsOutputOf seen (Node pack name) text = IsNodeOf (seen.stands pack) name text
+IsOutputOf seen (Trial number) text = IsTrialText number text
+IsOutputOf seen (Live pack name stream) text = IsFollowedOf (seen.stands pack) name (seen.stands stream) text
+IsOutputOf seen (Hyper parts) text = IsUnrolledOf seen.stands parts text
+IsOutputOf seen (Tune graph) text = IsTunedOf (seen.stands graph) text
+IsOutputOf seen (Audit graph pack log) text = IsAuditOf (seen.stands graph) (seen.stands pack) (seen.stands log) text
+
+-- the file that a command reads last gave no more bytes than it may have
+abbrev pub ReadsWithin : Command → ℕ → Type 0
+ReadsWithin (Show graph) given = given ≤ GRAPH_LIMIT
+ReadsWithin (Compile graph) given = given ≤ GRAPH_LIMIT
+ReadsWithin (Check graph pack) given = given ≤ PACK_LIMIT
+ReadsWithin (Play graph pack scenario turns) given = given ≤ SCENARIO_LIMIT
+ReadsWithin (Node pack name) given = given ≤ PACK_LIMIT
+ReadsWithin (Trial number) given = ⊤
+ReadsWithin (Live pack name stream) given = given ≤ STREAM_LIMIT
+ReadsWithin (Hyper parts) given = given ≤ GRAPH_LIMIT
+ReadsWithin (Tune graph) given = given ≤ GRAPH_LIMIT
+ReadsWithin (Audit graph pack log) given = given ≤ LOG_LIMIT
+
+-- A command puts out a text. Where a shelf tells nothing of its files, the bytes that it gave tell that none was too long.
+pub record PrintsCommand (seen : Seen) (command : Command) (text : Text) : Type 0 where
+  pub output : IsOutputOf seen command text
+  pub within : ReadsWithin command seen.given
 
 -- whether a command puts out all at its end
 abbrev pub PutsOutAtEnd : Command → Type 0

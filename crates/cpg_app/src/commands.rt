@@ -4,9 +4,9 @@ ghost use Rattle.std.specs.Str.{bytes_eq};
 ghost use Rattle.cpg_words.specs.FileWords.{file_words};
 ghost use Rattle.cpg_io.specs.Shelf.{SameLeave, SameNames};
 ghost use Rattle.cpg_core.specs.Compilation.{IsCompilation};
+ghost use Rattle.cpg_app.specs.declared.reading.TheConstants.{GRAPH_LIMIT, LOG_LIMIT, PACK_LIMIT, SCENARIO_LIMIT};
 ghost use Rattle.cpg_app.specs.Causes.{Admits, first_named, IsOutOfMemory, IsUncompiled, Stops, StopsAdmission, StopsCommand, StopsGraph, StopsNaming, StopsPlay, StopsTables, StopsVerdict, StopsAudit};
-ghost use Rattle.cpg_app.specs.Knowledge.{KnowLocally};
-ghost use Rattle.cpg_app.specs.Outputs.{bytes_of, packed, shown, AreJudgedSafe, ArePackOf, AreSafe, IsMade, IsMadeOf, IsNodeOf, IsNodeText, IsChecked, IsPlayOf, IsPlayedText, IsSafeText, IsSpelled, IsTunedOf, Prints, PrintsCommand, IsAuditOf, IsAuditedText, PutsOutAtEnd};
+ghost use Rattle.cpg_app.specs.Outputs.{bytes_of, packed, shown, AreJudgedSafe, ArePackOf, AreSafe, IsMade, IsMadeOf, IsNodeOf, IsNodeText, IsChecked, IsPlayOf, IsPlayedText, IsSafeText, IsSpelled, IsTunedOf, IsOutputOf, IsAuditOf, IsAuditedText, PutsOutAtEnd, ReadsWithin};
 
 use crate::auditing::audit_text;
 use crate::halt::{Halt, Refusal};
@@ -41,7 +41,6 @@ fn compile_graph(alloc: Global, admitted: Admitted) -> Result<Made, Halt>
     ensures compiled { IfOk result (λ made. IsCompilation admitted.graph admitted.order made.compiled) }
     ensures pack { IfOk result (λ made. ArePackOf admitted.graph made.compiled.built.tables) }
     ensures safe { IfOk result (λ made. AreSafe admitted.graph made.compiled.built.tables.nodes) }
-    ensures local { IfOk result (λ made. KnowLocally admitted.graph made.compiled.built.tables.nodes) }
     ensures halt { IfErr result (IsUncompiled admitted) }
 {
     let _graph = admitted.problem();
@@ -86,6 +85,7 @@ fn admitted_file<S: Shelf>(alloc: Global, shelf: &mut S, name: &str) -> Result<A
     ensures leave { SameLeave (S.may_fetch shelf.old) (S.may_fetch shelf.new) }
     ensures later { S.faults shelf.old ≤ S.faults shelf.new }
     ensures graph { IfOk result (Admits (S.stands shelf.old name.now)) }
+    ensures within { IfOk result (λ _. S.given shelf.new ≤ GRAPH_LIMIT) }
     ensures halt { IfErr result (StopsAdmission (record { stands = S.stands shelf.old; given = S.given shelf.new; before = S.faults shelf.old; now = S.faults shelf.new }) (S.stands shelf.old name.now)) }
 {
     let graph = read_graph(alloc, shelf, name)?;
@@ -97,6 +97,7 @@ fn admitted_file<S: Shelf>(alloc: Global, shelf: &mut S, name: &str) -> Result<A
 fn show<S: Shelf>(alloc: Global, shelf: &mut S, name: &str) -> Result<Output, Halt>
     requires { S.may_fetch shelf.old name.now }
     ensures text { IfOk result (λ o. IsMade (S.stands shelf.old name.now) shown (bytes_of o)) }
+    ensures within { IfOk result (λ _. S.given shelf.new ≤ GRAPH_LIMIT) }
     ensures halt { IfErr result (StopsGraph (record { stands = S.stands shelf.old; given = S.given shelf.new; before = S.faults shelf.old; now = S.faults shelf.new }) (S.stands shelf.old name.now) IsUncompiled) }
 {
     let admitted = admitted_file(alloc, shelf, name)?;
@@ -108,6 +109,7 @@ fn show<S: Shelf>(alloc: Global, shelf: &mut S, name: &str) -> Result<Output, Ha
 fn pack<S: Shelf>(alloc: Global, shelf: &mut S, name: &str) -> Result<Output, Halt>
     requires { S.may_fetch shelf.old name.now }
     ensures pack { IfOk result (λ o. IsMade (S.stands shelf.old name.now) packed (bytes_of o)) }
+    ensures within { IfOk result (λ _. S.given shelf.new ≤ GRAPH_LIMIT) }
     ensures halt { IfErr result (StopsGraph (record { stands = S.stands shelf.old; given = S.given shelf.new; before = S.faults shelf.old; now = S.faults shelf.new }) (S.stands shelf.old name.now) IsUncompiled) }
 {
     let admitted = admitted_file(alloc, shelf, name)?;
@@ -119,6 +121,7 @@ fn pack<S: Shelf>(alloc: Global, shelf: &mut S, name: &str) -> Result<Output, Ha
 fn tune_file<S: Shelf>(alloc: Global, shelf: &mut S, name: &str) -> Result<Output, Halt>
     requires { S.may_fetch shelf.old name.now }
     ensures text { IfOk result (λ o. IsTunedOf (S.stands shelf.old name.now) (bytes_of o)) }
+    ensures within { IfOk result (λ _. S.given shelf.new ≤ GRAPH_LIMIT) }
     ensures halt { IfErr result (StopsGraph (record { stands = S.stands shelf.old; given = S.given shelf.new; before = S.faults shelf.old; now = S.faults shelf.new }) (S.stands shelf.old name.now) IsOutOfMemory) }
 {
     let admitted = admitted_file(alloc, shelf, name)?;
@@ -166,6 +169,7 @@ fn check_pack<S: Shelf>(
 ) -> Result<Output, Halt>
     requires { S.may_fetch shelf.old pack.now }
     ensures text { IfOk result (λ o. IsSpelled (S.stands shelf.old pack.now) (λ t. IsSafeText admitted t (bytes_of o))) }
+    ensures within { IfOk result (λ _. S.given shelf.new ≤ PACK_LIMIT) }
     ensures halt { IfErr result (StopsTables (record { stands = S.stands shelf.old; given = S.given shelf.new; before = S.faults shelf.old; now = S.faults shelf.new }) (S.stands shelf.old pack.now) (StopsVerdict admitted)) }
 {
     let tables = read_tables(alloc, shelf, pack)?;
@@ -183,6 +187,7 @@ fn check_files<S: Shelf>(
     requires graph { S.may_fetch shelf.old graph.now }
     requires pack { S.may_fetch shelf.old pack.now }
     ensures text { IfOk result (λ o. IsChecked (S.stands shelf.old graph.now) (S.stands shelf.old pack.now) (bytes_of o)) }
+    ensures within { IfOk result (λ _. S.given shelf.new ≤ PACK_LIMIT) }
     ensures halt { IfErr result (StopsGraph (record { stands = S.stands shelf.old; given = S.given shelf.new; before = S.faults shelf.old; now = S.faults shelf.new }) (S.stands shelf.old graph.now) (λ a. StopsTables (record { stands = S.stands shelf.old; given = S.given shelf.new; before = S.faults shelf.old; now = S.faults shelf.new }) (S.stands shelf.old pack.now) (StopsVerdict a))) }
 {
     let admitted = admitted_file(alloc, shelf, graph)?;
@@ -200,6 +205,7 @@ fn play_scenario<S: Shelf>(
 ) -> Result<Output, Halt>
     requires { S.may_fetch shelf.old scenario.now }
     ensures text { IfOk result (λ o. IsPlayedText (S.stands shelf.old scenario.now) admitted tables.now turns (bytes_of o)) }
+    ensures within { IfOk result (λ _. S.given shelf.new ≤ SCENARIO_LIMIT) }
     ensures halt { IfErr result (StopsPlay (record { stands = S.stands shelf.old; given = S.given shelf.new; before = S.faults shelf.old; now = S.faults shelf.new }) (S.stands shelf.old scenario.now) admitted tables.now) }
 {
     let _head = tables.head();
@@ -223,6 +229,7 @@ fn play_pack<S: Shelf>(
     requires pack { S.may_fetch shelf.old pack.now }
     requires scenario { S.may_fetch shelf.old scenario.now }
     ensures text { IfOk result (λ o. IsSpelled (S.stands shelf.old pack.now) (λ t. IsPlayedText (S.stands shelf.old scenario.now) admitted t turns (bytes_of o))) }
+    ensures within { IfOk result (λ _. S.given shelf.new ≤ SCENARIO_LIMIT) }
     ensures halt { IfErr result (StopsTables (record { stands = S.stands shelf.old; given = S.given shelf.new; before = S.faults shelf.old; now = S.faults shelf.new }) (S.stands shelf.old pack.now) (StopsPlay (record { stands = S.stands shelf.old; given = S.given shelf.new; before = S.faults shelf.old; now = S.faults shelf.new }) (S.stands shelf.old scenario.now) admitted)) }
 {
     let tables = read_tables(alloc, shelf, pack)?;
@@ -242,6 +249,7 @@ fn play_files<S: Shelf>(
     requires pack { S.may_fetch shelf.old pack.now }
     requires scenario { S.may_fetch shelf.old scenario.now }
     ensures text { IfOk result (λ o. IsPlayOf (S.stands shelf.old graph.now) (S.stands shelf.old pack.now) (S.stands shelf.old scenario.now) turns (bytes_of o)) }
+    ensures within { IfOk result (λ _. S.given shelf.new ≤ SCENARIO_LIMIT) }
     ensures halt { IfErr result (StopsGraph (record { stands = S.stands shelf.old; given = S.given shelf.new; before = S.faults shelf.old; now = S.faults shelf.new }) (S.stands shelf.old graph.now) (λ a. StopsTables (record { stands = S.stands shelf.old; given = S.given shelf.new; before = S.faults shelf.old; now = S.faults shelf.new }) (S.stands shelf.old pack.now) (StopsPlay (record { stands = S.stands shelf.old; given = S.given shelf.new; before = S.faults shelf.old; now = S.faults shelf.new }) (S.stands shelf.old scenario.now) a))) }
 {
     let admitted = admitted_file(alloc, shelf, graph)?;
@@ -258,6 +266,7 @@ fn audit_log<S: Shelf>(
 ) -> Result<Output, Halt>
     requires { S.may_fetch shelf.old log.now }
     ensures text { IfOk result (λ o. IsAuditedText (S.stands shelf.old log.now) admitted tables.now (bytes_of o)) }
+    ensures within { IfOk result (λ _. S.given shelf.new ≤ LOG_LIMIT) }
     ensures halt { IfErr result (StopsAudit (record { stands = S.stands shelf.old; given = S.given shelf.new; before = S.faults shelf.old; now = S.faults shelf.new }) (S.stands shelf.old log.now) admitted tables.now) }
 {
     let acts = read_acts(alloc, shelf, log, admitted.problem())?;
@@ -279,6 +288,7 @@ fn audit_pack<S: Shelf>(
     requires pack { S.may_fetch shelf.old pack.now }
     requires log { S.may_fetch shelf.old log.now }
     ensures text { IfOk result (λ o. IsSpelled (S.stands shelf.old pack.now) (λ t. IsAuditedText (S.stands shelf.old log.now) admitted t (bytes_of o))) }
+    ensures within { IfOk result (λ _. S.given shelf.new ≤ LOG_LIMIT) }
     ensures halt { IfErr result (StopsTables (record { stands = S.stands shelf.old; given = S.given shelf.new; before = S.faults shelf.old; now = S.faults shelf.new }) (S.stands shelf.old pack.now) (StopsAudit (record { stands = S.stands shelf.old; given = S.given shelf.new; before = S.faults shelf.old; now = S.faults shelf.new }) (S.stands shelf.old log.now) admitted)) }
 {
     let tables = read_tables(alloc, shelf, pack)?;
@@ -297,6 +307,7 @@ fn audit_files<S: Shelf>(
     requires pack { S.may_fetch shelf.old pack.now }
     requires log { S.may_fetch shelf.old log.now }
     ensures text { IfOk result (λ o. IsAuditOf (S.stands shelf.old graph.now) (S.stands shelf.old pack.now) (S.stands shelf.old log.now) (bytes_of o)) }
+    ensures within { IfOk result (λ _. S.given shelf.new ≤ LOG_LIMIT) }
     ensures halt { IfErr result (StopsGraph (record { stands = S.stands shelf.old; given = S.given shelf.new; before = S.faults shelf.old; now = S.faults shelf.new }) (S.stands shelf.old graph.now) (λ a. StopsTables (record { stands = S.stands shelf.old; given = S.given shelf.new; before = S.faults shelf.old; now = S.faults shelf.new }) (S.stands shelf.old pack.now) (StopsAudit (record { stands = S.stands shelf.old; given = S.given shelf.new; before = S.faults shelf.old; now = S.faults shelf.new }) (S.stands shelf.old log.now) a))) }
 {
     let admitted = admitted_file(alloc, shelf, graph)?;
@@ -337,6 +348,7 @@ fn node_lines(alloc: Global, tables: &Tables, name: &str) -> Result<Output, Halt
 fn node<S: Shelf>(alloc: Global, shelf: &mut S, pack: &str, name: &str) -> Result<Output, Halt>
     requires { S.may_fetch shelf.old pack.now }
     ensures text { IfOk result (λ o. IsNodeOf (S.stands shelf.old pack.now) name.now (bytes_of o)) }
+    ensures within { IfOk result (λ _. S.given shelf.new ≤ PACK_LIMIT) }
     ensures halt { IfErr result (StopsTables (record { stands = S.stands shelf.old; given = S.given shelf.new; before = S.faults shelf.old; now = S.faults shelf.new }) (S.stands shelf.old pack.now) (λ t. StopsNaming t name.now)) }
 {
     let tables = read_tables(alloc, shelf, pack)?;
@@ -352,7 +364,8 @@ pub fn command_output<S: Shelf>(
 ) -> Result<Output, Halt>
     requires files { All (λ w. S.may_fetch shelf.old w) (file_words command.now) }
     requires at_end { PutsOutAtEnd command.now }
-    ensures text { IfOk result (λ o. PrintsCommand (record { stands = S.stands shelf.old; given = S.given shelf.new; before = S.faults shelf.old; now = S.faults shelf.new }) command.now (bytes_of o)) }
+    ensures text { IfOk result (λ o. IsOutputOf (record { stands = S.stands shelf.old; given = S.given shelf.new; before = S.faults shelf.old; now = S.faults shelf.new }) command.now (bytes_of o)) }
+    ensures within { IfOk result (λ _. ReadsWithin command.now (S.given shelf.new)) }
     ensures halt { IfErr result (StopsCommand (record { stands = S.stands shelf.old; given = S.given shelf.new; before = S.faults shelf.old; now = S.faults shelf.new }) command.now) }
 {
     match command {

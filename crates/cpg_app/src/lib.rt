@@ -1,13 +1,11 @@
 //! The top call: from command words over a shelf and two sinks to an exit status.
 #![tactic(auto)]
 
-ghost use Rattle.cpg_app.specs.Joined.{PacksAreTaken};
+ghost use Rattle.cpg_app.specs.Joined.{PacksAreTaken, ShowAndCompileAgree};
 
-mod act_lines;
 mod answer;
 mod auditing;
 mod commands;
-mod following;
 mod halt;
 mod lines;
 mod living;
@@ -26,4 +24,10 @@ pub use top::{run, run_without_words};
 /// `audit` audits each log of the graph by, and `node` prints for each of its nodes, want of memory aside.
 pub fn packs_are_taken()
     ensures { PacksAreTaken }
+{}
+
+/// What `show` printed for a graph file and what `compile` wrote for it are of one graph, with one order and one greatest finish,
+/// and of tables that ask the same in every scenario.
+pub fn show_and_compile_agree()
+    ensures { ShowAndCompileAgree }
 {}

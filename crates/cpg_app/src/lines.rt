@@ -5,8 +5,9 @@ ghost use Rattle.cpg_app.specs.Lines.{case_text, column_text, item_text, unsafe_
 
 use crate::halt::Halt;
 use crate::refusals::write_refused;
-use cpg_base::{Item, OutOfMemory, Problem, Scenario};
+use cpg_base::{OutOfMemory, Problem, Scenario};
 use cpg_scenario::scenario_text;
+use cpg_show::write_item;
 use cpg_table::Fault;
 use std::alloc::{AllocError, Global};
 
@@ -49,24 +50,6 @@ fn write_late(
 {
     write!(out, "late {finish} by ")?;
     write_case(out, problem, process, scenario)
-}
-
-/// An item: what starts, is sent or is told.
-pub fn write_item(out: &mut String, problem: &Problem, item: u32) -> Result<(), AllocError>
-    requires { item < item_count problem.now }
-    ensures { OnOk result (string_bytes out.new ≡ string_bytes out.old ++ item_text problem.now item) }
-{
-    match problem.item(item) {
-        Item::Start(process) => {
-            let name = name_of(problem, process);
-            write!(out, "start {name}")
-        }
-        Item::Message(edge) => write!(out, "send e{edge}"),
-        Item::Broadcast(condition) => {
-            let name = name_of(problem, problem.process_of(condition));
-            write!(out, "tell {name}")
-        }
-    }
 }
 
 fn write_wide(out: &mut String, problem: &Problem, item: u32) -> Result<(), AllocError>

@@ -6,15 +6,15 @@ ghost use Rattle.cpg_words.specs.Parts.{Text};
 ghost use Rattle.cpg_words.specs.declared.command.Command.TheVariants.{Live};
 ghost use Rattle.cpg_app.specs.Causes.{StopsNaming, StopsTables};
 ghost use Rattle.cpg_app.specs.Endings.{IsSaid, IsToldTo};
-ghost use Rattle.cpg_app.specs.Follower.{open_follower};
+ghost use Rattle.cpg_follow.specs.Follower.{open_follower};
 ghost use Rattle.cpg_app.specs.Lawful.{IsLawful};
 ghost use Rattle.cpg_app.specs.Outputs.{IsFollower, IsSpelled};
 
 use crate::answer::{cut, send, stop};
 use crate::commands::first_named;
-use crate::following::{Broken, Follower};
 use crate::halt::{Halt, Refusal};
 use crate::reading::read_tables;
+use cpg_follow::{Broken, Follower};
 use cpg_io::{Shelf, Sink};
 use cpg_table::Tables;
 use std::alloc::Global;

@@ -1,6 +1,7 @@
 //! The graph of several periods that a command asks for.
 ghost use Rattle.std.specs.Prelude.{◌≡◌, ◌<◌, ◌≤◌, ◌++◌, ◌∷◌, [], All, IfOk, IfErr, OnOk, length, map};
 ghost use Rattle.cpg_app.specs.declared.halt.Halt.TheVariants.{Memory};
+ghost use Rattle.cpg_app.specs.declared.reading.TheConstants.{GRAPH_LIMIT};
 ghost use Rattle.cpg_app.specs.Causes.{AreSaid, IsNotUnrolled, StopsParts, StopsReadingParts};
 ghost use Rattle.cpg_app.specs.Outputs.{bytes_of, IsUnrolledOf, IsUnrolledText};
 
@@ -27,6 +28,7 @@ fn add(parts: &mut Vec<Part>, period: u64, problem: Problem) -> Result<(), Halt>
 fn read_parts<S: Shelf>(alloc: Global, shelf: &mut S, pairs: &[Pair]) -> Result<Vec<Part>, Halt>
     requires { All (λ w. S.may_fetch shelf.old w) (map (λ pair. pair.graph) pairs.now) }
     ensures parts { IfOk result (λ parts. AreSaid (S.stands shelf.old) pairs.now parts.items) }
+    ensures within { IfOk result (λ _. 0 < length pairs.now → S.given shelf.new ≤ GRAPH_LIMIT) }
     ensures halt { IfErr result (StopsReadingParts (record { stands = S.stands shelf.old; given = S.given shelf.new; before = S.faults shelf.old; now = S.faults shelf.new }) pairs.now) }
 {
     let mut parts = Vec::new(alloc);
@@ -60,6 +62,7 @@ pub fn hyper<S: Shelf>(alloc: Global, shelf: &mut S, pairs: &[Pair]) -> Result<O
     requires some { 0 < length pairs.now }
     requires few { length pairs.now ≤ 4 }
     ensures text { IfOk result (λ o. IsUnrolledOf (S.stands shelf.old) pairs.now (bytes_of o)) }
+    ensures within { IfOk result (λ _. S.given shelf.new ≤ GRAPH_LIMIT) }
     ensures halt { IfErr result (StopsParts (record { stands = S.stands shelf.old; given = S.given shelf.new; before = S.faults shelf.old; now = S.faults shelf.new }) pairs.now) }
 {
     let parts = read_parts(alloc, shelf, pairs)?;

@@ -36,6 +36,7 @@ pub fn read_graph<S: Shelf>(alloc: Global, shelf: &mut S, name: &str) -> Result<
     ensures leave { SameLeave (S.may_fetch shelf.old) (S.may_fetch shelf.new) }
     ensures later { S.faults shelf.old ≤ S.faults shelf.new }
     ensures graph { IfOk result (Says (S.stands shelf.old name.now)) }
+    ensures within { IfOk result (λ _. S.given shelf.new ≤ GRAPH_LIMIT) }
     ensures halt { IfErr result (StopsReading (record { stands = S.stands shelf.old; given = S.given shelf.new; before = S.faults shelf.old; now = S.faults shelf.new }) (S.stands shelf.old name.now)) }
 {
     let bytes = match read_all(alloc, shelf, name, GRAPH_LIMIT) {
@@ -69,6 +70,7 @@ pub fn read_tables<S: Shelf>(alloc: Global, shelf: &mut S, name: &str) -> Result
     ensures leave { SameLeave (S.may_fetch shelf.old) (S.may_fetch shelf.new) }
     ensures later { S.faults shelf.old ≤ S.faults shelf.new }
     ensures tables { IfOk result (Spells (S.stands shelf.old name.now)) }
+    ensures within { IfOk result (λ _. S.given shelf.new ≤ PACK_LIMIT) }
     ensures halt { IfErr result (StopsPack (record { stands = S.stands shelf.old; given = S.given shelf.new; before = S.faults shelf.old; now = S.faults shelf.new }) (S.stands shelf.old name.now)) }
 {
     let bytes = match read_all(alloc, shelf, name, PACK_LIMIT) {
@@ -93,6 +95,7 @@ pub fn read_played<S: Shelf>(
     requires { S.may_fetch shelf.old name.now }
     ensures says { IfOk result (SaysPlayed (S.stands shelf.old name.now) problem.now) }
     ensures played { IfOk result (IsPlayed problem.now) }
+    ensures within { IfOk result (λ _. S.given shelf.new ≤ SCENARIO_LIMIT) }
     ensures halt { IfErr result (StopsPlayed (record { stands = S.stands shelf.old; given = S.given shelf.new; before = S.faults shelf.old; now = S.faults shelf.new }) (S.stands shelf.old name.now) problem.now) }
 {
     let bytes = match read_all(alloc, shelf, name, SCENARIO_LIMIT) {
@@ -117,6 +120,7 @@ pub fn read_acts<S: Shelf>(
     requires { S.may_fetch shelf.old name.now }
     ensures says { IfOk result (SaysLog (S.stands shelf.old name.now) problem.now) }
     ensures lawful { IfOk result (IsLog problem.now) }
+    ensures within { IfOk result (λ _. S.given shelf.new ≤ LOG_LIMIT) }
     ensures halt { IfErr result (StopsLog (record { stands = S.stands shelf.old; given = S.given shelf.new; before = S.faults shelf.old; now = S.faults shelf.new }) (S.stands shelf.old name.now) problem.now) }
 {
     let bytes = match read_all(alloc, shelf, name, LOG_LIMIT) {

@@ -10,11 +10,11 @@ ghost use Rattle.cpg_app.specs.Outputs.{bytes_of};
 ghost use Rattle.cpg_app.specs.Tunes.{judged_text, parts_line, parts_lines, row_line, row_lines, tolerates_line, tuning_text, IsCompileAnswer, IsJudged, IsNamedRow, IsTuningText};
 
 use crate::halt::Halt;
-use crate::lines::write_item;
 use crate::output::Output;
 use cpg_base::{OutOfMemory, Problem, Process};
 use cpg_core::{CompileFault, compile};
 use cpg_rules::{Admitted, RuleFault, admit};
+use cpg_show::write_item;
 use cpg_tune::{Judge, Judged, Tuned, tune};
 use std::alloc::{AllocError, Global};
 

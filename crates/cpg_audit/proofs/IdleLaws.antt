@@ -15,7 +15,7 @@ use Rattle.cpg_tree.specs.Space.{HasFew}
 use Rattle.cpg_tree.specs.Tree.{Path, TreeState, IsOn, IsMap, HasOnePathEach}
 use Rattle.cpg_expand.specs.Active.{IsActivityOf}
 use Rattle.cpg_expand.specs.Agreeing.{IsTree}
-use Rattle.cpg_expand.proofs.AgreeingTrees.{scenario_few, the_path}
+use Rattle.cpg_tree.proofs.OnePath.{scenario_few, the_path}
 use Rattle.cpg_audit.specs.Excluded.{idle_time, is_some_idle}
 use Rattle.cpg_audit.specs.Log.{Logged}
 

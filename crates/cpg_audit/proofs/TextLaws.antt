@@ -11,10 +11,14 @@ use Rattle.std.proofs.lemmas.List.FromFn.{length-map-range_with_len}
 use Rattle.cpg_base.specs.Numbers.{numbers_below}
 use Rattle.cpg_base.specs.Name.{IsName, is_name_byte}
 use Rattle.cpg_base.specs.Limits.{IsWithinLimits}
-use Rattle.cpg_base.specs.Graph.{Graph, process_count, item_count, item_at, is_sent, home, process_at, process_of}
+use Rattle.cpg_base.specs.Graph.{Graph, process_count, condition_count, item_count, item_at, is_sent, home, process_at, process_of}
+use Rattle.cpg_base.specs.declared.item.Item.{Item}
 use Rattle.cpg_base.proofs.Items.{ItemCases, item_cases, same_condition, process_of_below}
 use Rattle.cpg_base.proofs.Lists.{get_or-map-below, list_any_false}
-use Rattle.cpg_audit.specs.Log.{Logged, IsActBy, is_act, item_text, act_text, act_line}
+use Rattle.cpg_show.specs.Labels.{condition_name, labels_of, process_name}
+use Rattle.cpg_show.specs.TraceText.{done_text}
+use Rattle.cpg_show.proofs.Called.{condition_called, process_called}
+use Rattle.cpg_audit.specs.Log.{Logged, IsActBy, is_act, act_text, act_line}
 use Rattle.cpg_audit.specs.Reading.{HaveNames}
 use Rattle.cpg_audit.proofs.LineLaws.{same_parts, decimal_spaceless}
 
@@ -62,20 +66,29 @@ module _ (g : Graph) (limits : IsWithinLimits g) where
     | inr (inr above) ↦ absurd (limits.process_names q p _ above l (sym e))
   ]
 
-  same_item : (x y : ℕ) → ItemCases g x → ItemCases g y → item_text g (item_at g x) ≡ item_text g (item_at g y) → x ≡ y
-  same_item x y (inl a) (inl b) e = same_process x y a.0 b.0 (ap (drop 6) (sym (ap (item_text g) a.1) ∙ e ∙ ap (item_text g) b.1))
-  same_item x y (inl a) (inr (inl b)) e = absurd (let f = ap (λ t. get_or t 1 0) (sym (ap (item_text g) a.1) ∙ e ∙ ap (item_text g) b.3) in omega (arith, f))
-  same_item x y (inl a) (inr (inr b)) e = absurd (let f = ap (λ t. get_or t 0 0) (sym (ap (item_text g) a.1) ∙ e ∙ ap (item_text g) b.3) in omega (arith, f))
-  same_item x y (inr (inl a)) (inl b) e = absurd (let f = ap (λ t. get_or t 1 0) (sym (ap (item_text g) a.3) ∙ e ∙ ap (item_text g) b.1) in omega (arith, f))
+  same_label : (p q : ℕ) → p < process_count g → q < process_count g → process_name (labels_of g) p ≡ process_name (labels_of g) q → p ≡ q
+  same_label p q l h e = same_process p q l h (sym (process_called g p) ∙ e ∙ process_called g q)
+
+  same_teller : (c d : ℕ) → c < condition_count g → d < condition_count g → condition_name (labels_of g) c ≡ condition_name (labels_of g) d → c ≡ d
+  same_teller c d l h e = same_condition g c d l h
+      (same_process (process_of g c) (process_of g d) (process_of_below g c l) (process_of_below g d h) (sym (condition_called g c l) ∙ e ∙ condition_called g d h))
+
+  abbrev text : Item → List ℕ
+  text = done_text (labels_of g)
+
+  same_item : (x y : ℕ) → ItemCases g x → ItemCases g y → text (item_at g x) ≡ text (item_at g y) → x ≡ y
+  same_item x y (inl a) (inl b) e = same_label x y a.0 b.0 (ap (drop 6) (sym (ap text a.1) ∙ e ∙ ap text b.1))
+  same_item x y (inl a) (inr (inl b)) e = absurd (let f = ap (λ t. get_or t 1 0) (sym (ap text a.1) ∙ e ∙ ap text b.3) in omega (arith, f))
+  same_item x y (inl a) (inr (inr b)) e = absurd (let f = ap (λ t. get_or t 0 0) (sym (ap text a.1) ∙ e ∙ ap text b.3) in omega (arith, f))
+  same_item x y (inr (inl a)) (inl b) e = absurd (let f = ap (λ t. get_or t 1 0) (sym (ap text a.3) ∙ e ∙ ap text b.1) in omega (arith, f))
   same_item x y (inr (inl a)) (inr (inl b)) e =
-      let f = decimal_injective a.0 b.0 (omega (arith, a.1, limits.few_edges)) (omega (arith, b.1, limits.few_edges)) (ap (drop 6) (sym (ap (item_text g) a.3) ∙ e ∙ ap (item_text g) b.3)) in
+      let f = decimal_injective a.0 b.0 (omega (arith, a.1, limits.few_edges)) (omega (arith, b.1, limits.few_edges)) (ap (drop 6) (sym (ap text a.3) ∙ e ∙ ap text b.3)) in
       omega (arith, f, a.2, b.2)
-  same_item x y (inr (inl a)) (inr (inr b)) e = absurd (let f = ap (λ t. get_or t 0 0) (sym (ap (item_text g) a.3) ∙ e ∙ ap (item_text g) b.3) in omega (arith, f))
-  same_item x y (inr (inr a)) (inl b) e = absurd (let f = ap (λ t. get_or t 0 0) (sym (ap (item_text g) a.3) ∙ e ∙ ap (item_text g) b.1) in omega (arith, f))
-  same_item x y (inr (inr a)) (inr (inl b)) e = absurd (let f = ap (λ t. get_or t 0 0) (sym (ap (item_text g) a.3) ∙ e ∙ ap (item_text g) b.3) in omega (arith, f))
+  same_item x y (inr (inl a)) (inr (inr b)) e = absurd (let f = ap (λ t. get_or t 0 0) (sym (ap text a.3) ∙ e ∙ ap text b.3) in omega (arith, f))
+  same_item x y (inr (inr a)) (inl b) e = absurd (let f = ap (λ t. get_or t 0 0) (sym (ap text a.3) ∙ e ∙ ap text b.1) in omega (arith, f))
+  same_item x y (inr (inr a)) (inr (inl b)) e = absurd (let f = ap (λ t. get_or t 0 0) (sym (ap text a.3) ∙ e ∙ ap text b.3) in omega (arith, f))
   same_item x y (inr (inr a)) (inr (inr b)) e =
-      let f = same_process (process_of g a.0) (process_of g b.0) (process_of_below g a.0 a.1) (process_of_below g b.0 b.1) (ap (drop 5) (sym (ap (item_text g) a.3) ∙ e ∙ ap (item_text g) b.3)) in
-      let h = same_condition g a.0 b.0 a.1 b.1 f in
+      let h = same_teller a.0 b.0 a.1 b.1 (ap (drop 5) (sym (ap text a.3) ∙ e ∙ ap text b.3)) in
       omega (arith, h, a.2, b.2)
 
   pub same_text : HaveNames g (item_count g) → (x y : ℕ) → is_act g x ≡ true → is_act g y ≡ true → act_text g x ≡ act_text g y → x ≡ y
@@ -83,8 +96,8 @@ module _ (g : Graph) (limits : IsWithinLimits g) where
       let l = act_within g x a in
       let h = act_within g y b in
       same_item x y (item_cases g x l) (item_cases g y h)
-      (same_parts 32 (get_or g.nodes (home g x) []) (get_or g.nodes (home g y) []) (item_text g (item_at g x)) (item_text g (item_at g y)) (name_spaceless _ (named x l)) (name_spaceless _ (named y h))
-      (sym (spaced (get_or g.nodes (home g x) []) (item_text g (item_at g x))) ∙ e ∙ spaced (get_or g.nodes (home g y) []) (item_text g (item_at g y)))).1
+      (same_parts 32 (get_or g.nodes (home g x) []) (get_or g.nodes (home g y) []) (text (item_at g x)) (text (item_at g y)) (name_spaceless _ (named x l)) (name_spaceless _ (named y h))
+      (sym (spaced (get_or g.nodes (home g x) []) (text (item_at g x))) ∙ e ∙ spaced (get_or g.nodes (home g y) []) (text (item_at g y)))).1
 
   -- so an act has one line
   pub same_line : HaveNames g (item_count g) → (until later : ℕ) → until < 2 ^ 60 → later < 2 ^ 60 → (a b : Logged) → IsActBy g until a → IsActBy g later b → act_line g a ≡ act_line g b → a ≡ b

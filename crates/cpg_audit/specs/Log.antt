@@ -1,9 +1,9 @@
 -- A log: the acts of all nodes up to a time, as a file names them.
 use Rattle.std.specs.Prelude.{ℕ, ◌^◌, ◌≡◌, ◌≢◌, ◌≤◌, ◌<◌, Bool, true, ◌&&◌, ◌||◌, ◌==◌, nat_lt, if◌then◌else◌, List, [], ◌∷◌, ◌++◌, codes, map, get_or, Option, Some, None, All, AllPairs}
 use Rattle.std.specs.Fmt.{decimal}
-use Rattle.cpg_base.specs.Graph.{Graph, process_count, item_count, item_at, is_sent, home, process_at, process_of}
-use Rattle.cpg_base.specs.declared.item.Item.{Item}
-use Rattle.cpg_base.specs.declared.item.Item.TheVariants.{Start, Message, Broadcast}
+use Rattle.cpg_base.specs.Graph.{Graph, process_count, item_count, item_at, is_sent, home}
+use Rattle.cpg_show.specs.Labels.{labels_of}
+use Rattle.cpg_show.specs.TraceText.{done_text}
 pub use Rattle.cpg_audit.specs.declared.log.Logged.{Logged}
 
 -- until when the log goes, and its acts
@@ -16,15 +16,9 @@ pub record Log : Type 0 where
 abbrev pub is_act : Graph → ℕ → Bool
 is_act g x = nat_lt x (process_count g) || (nat_lt x (item_count g) && is_sent g x)
 
--- what is done, as a trace says it too
-abbrev pub item_text : Graph → Item → List ℕ
-item_text g (Start p) = codes "start " ++ (process_at g p).name
-item_text g (Message e) = codes "send e" ++ decimal e
-item_text g (Broadcast c) = codes "tell " ++ (process_at g (process_of g c)).name
-
--- by which node, and what
+-- by which node, and what is done, as a trace says it
 abbrev pub act_text : Graph → ℕ → List ℕ
-act_text g x = get_or g.nodes (home g x) [] ++ codes " " ++ item_text g (item_at g x)
+act_text g x = get_or g.nodes (home g x) [] ++ codes " " ++ done_text (labels_of g) (item_at g x)
 
 -- when, by which node, and what
 abbrev pub act_line : Graph → Logged → List ℕ

@@ -9,7 +9,8 @@ ghost use Rattle.cpg_audit.specs.Reading.{HaveNames, IsNew};
 
 use crate::lines::are_same;
 use crate::log::Log;
-use cpg_base::{Item, OutOfMemory, Problem};
+use cpg_base::{OutOfMemory, Problem};
+use cpg_show::write_item;
 use std::alloc::{AllocError, Global};
 
 /// Whether a node starts or sends an item.
@@ -28,18 +29,8 @@ fn write_act(out: &mut String, problem: &Problem, item: u32) -> Result<(), Alloc
 {
     let home = problem.home(item);
     let node = problem.nodes()[home as usize].as_str();
-    match problem.item(item) {
-        Item::Start(process) => {
-            let name = problem.processes()[process as usize].name.as_str();
-            write!(out, "{node} start {name}")
-        }
-        Item::Message(edge) => write!(out, "{node} send e{edge}"),
-        Item::Broadcast(condition) => {
-            let process = problem.process_of(condition);
-            let name = problem.processes()[process as usize].name.as_str();
-            write!(out, "{node} tell {name}")
-        }
-    }
+    write!(out, "{node} ")?;
+    write_item(out, problem, item)
 }
 
 /// Which node starts or sends an item, and the item, in a text of its own.

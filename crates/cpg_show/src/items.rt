@@ -1,8 +1,10 @@
 //! What is done with an item, and where.
 ghost use Rattle.std.specs.Prelude.{◌≡◌, ◌<◌, ◌++◌, OnOk, string_bytes};
-ghost use Rattle.cpg_base.specs.Graph.{item_count};
+ghost use Rattle.cpg_base.specs.Graph.{condition_count, item_at, item_count, process_at};
 ghost use Rattle.cpg_show.specs.ItemText.{act_text, edge_text, hear_text};
+ghost use Rattle.cpg_show.specs.Labels.{condition_name, labels_of, process_name};
 ghost use Rattle.cpg_show.specs.TableText.{is_shown};
+ghost use Rattle.cpg_show.specs.TraceText.{done_text};
 
 use crate::labels::Labels;
 use cpg_base::{Item, Problem};
@@ -61,5 +63,47 @@ pub(crate) fn write_heard(
         Item::Start(process) => out.push_str(labels.process(process)),
         Item::Message(edge) => write_edge(out, labels, edge),
         Item::Broadcast(condition) => out.push_str(labels.condition(condition)),
+    }
+}
+
+fn name_of(problem: &Problem, process: u32) -> &str
+    ensures { result.now ≡ (process_at problem.now process).name }
+{
+    match problem.processes().get(process as usize) {
+        Some(process) => process.name.as_str(),
+        None => "",
+    }
+}
+
+/// What a process is called, and nothing where there is no such process.
+fn process_label(problem: &Problem, process: u32) -> &str
+    ensures { result.now ≡ process_name (labels_of problem.now) process }
+{
+    name_of(problem, process)
+}
+
+/// What the process of a condition is called.
+fn condition_label(problem: &Problem, condition: u32) -> &str
+    requires { condition < condition_count problem.now }
+    ensures { result.now ≡ condition_name (labels_of problem.now) condition }
+{
+    name_of(problem, problem.process_of(condition))
+}
+
+/// What is done with an item of a graph, as a trace says it.
+pub fn write_item(out: &mut String, problem: &Problem, item: u32) -> Result<(), AllocError>
+    requires { item < item_count problem.now }
+    ensures { OnOk result (string_bytes out.new ≡ string_bytes out.old ++ done_text (labels_of problem.now) (item_at problem.now item)) }
+{
+    match problem.item(item) {
+        Item::Start(process) => {
+            let name = process_label(problem, process);
+            write!(out, "start {name}")
+        }
+        Item::Message(edge) => write!(out, "send e{edge}"),
+        Item::Broadcast(condition) => {
+            let name = condition_label(problem, condition);
+            write!(out, "tell {name}")
+        }
     }
 }

@@ -11,6 +11,7 @@ mod node;
 mod table;
 mod trace;
 
+pub use items::write_item;
 pub use node::node_text;
 pub use table::table_text;
 pub use trace::{finish, trace_text};

@@ -2,7 +2,7 @@ use Rattle.std.proofs.Common.{sym, subst}
 use Rattle.std.specs.Prelude.{IfOk, IfErr}
 use Rattle.cpg_words.specs.declared.command.Command.{Command}
 use Rattle.cpg_app.specs.Causes.{Seen, StopsCommand}
-use Rattle.cpg_app.specs.Outputs.{PrintsCommand, bytes_of}
+use Rattle.cpg_app.specs.Outputs.{IsOutputOf, bytes_of}
 use Rattle.cpg_app.proofs.commands.command_output.Goals as goal
 
 pub returns-in-Play-clause-halt : goal.returns-in-Play-clause-halt
@@ -16,21 +16,21 @@ pub returns-in-Show-clause-text : goal.returns-in-Show-clause-text
 returns-in-Show-clause-text g c =
     let S = g.S.Shelf in
     let seen : Seen = record { stands = S.stands c.args.shelf.now; given = S.given c.show.new.shelf; before = S.faults c.args.shelf.now; now = S.faults c.show.new.shelf } in
-    subst (λ (command : Command). IfOk c.show.result (λ o. PrintsCommand seen command (bytes_of o))) (sym c.in-Show.is)
+    subst (λ (command : Command). IfOk c.show.result (λ o. IsOutputOf seen command (bytes_of o))) (sym c.in-Show.is)
     (rw c.as_str.ensures at c.show.ensures.text)
 
 pub returns-in-Compile-clause-text : goal.returns-in-Compile-clause-text
 returns-in-Compile-clause-text g c =
     let S = g.S.Shelf in
     let seen : Seen = record { stands = S.stands c.args.shelf.now; given = S.given c.pack.new.shelf; before = S.faults c.args.shelf.now; now = S.faults c.pack.new.shelf } in
-    subst (λ (command : Command). IfOk c.pack.result (λ o. PrintsCommand seen command (bytes_of o))) (sym c.in-Compile.is)
+    subst (λ (command : Command). IfOk c.pack.result (λ o. IsOutputOf seen command (bytes_of o))) (sym c.in-Compile.is)
     (rw c.as_str-in-Compile.ensures at c.pack.ensures.pack)
 
 pub returns-in-Hyper-clause-text : goal.returns-in-Hyper-clause-text
 returns-in-Hyper-clause-text g c =
     let S = g.S.Shelf in
     let seen : Seen = record { stands = S.stands c.args.shelf.now; given = S.given c.hyper.new.shelf; before = S.faults c.args.shelf.now; now = S.faults c.hyper.new.shelf } in
-    subst (λ (command : Command). IfOk c.hyper.result (λ o. PrintsCommand seen command (bytes_of o))) (sym c.in-Hyper.is)
+    subst (λ (command : Command). IfOk c.hyper.result (λ o. IsOutputOf seen command (bytes_of o))) (sym c.in-Hyper.is)
     (rw c.as_slice.ensures.pairs at c.hyper.ensures.text)
 
 pub returns-in-Hyper-clause-halt : goal.returns-in-Hyper-clause-halt

@@ -1,5 +1,4 @@
 use Rattle.cpg_codec.proofs.Lengths.{all_short}
-use Rattle.cpg_app.proofs.Local.{compilations_know_locally}
 use Rattle.cpg_app.proofs.Safe.{compilations_are_safe}
 use Rattle.cpg_app.proofs.commands.compile_graph.Goals as goal
 
@@ -10,6 +9,3 @@ pub returns-in-Ok-clause-pack : goal.returns-in-Ok-clause-pack
 returns-in-Ok-clause-pack c =
     let lawful = c.tables_are_lawful.ensures in
     record { head = c.in-Ok.ensures.compiled.built.head; lawful = lawful; short = all_short c.in-Ok.compiled.built.tables lawful }
-
-pub returns-in-Ok-clause-local : goal.returns-in-Ok-clause-local
-returns-in-Ok-clause-local c = compilations_know_locally c.args.admitted c.problem-graph.ensures.admitted c.in-Ok.compiled c.in-Ok.ensures.compiled

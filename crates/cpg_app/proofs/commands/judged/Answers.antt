@@ -1,4 +1,3 @@
-use Rattle.std.proofs.Common.{◌≡◌}
 use Rattle.cpg_table.specs.Valid.{IsValid}
 use Rattle.cpg_table.proofs.GraphTables.{has_shape}
 use Rattle.cpg_violation.specs.Heads.{IsHeadFor}

@@ -8,6 +8,5 @@ returns-clause-pack c =
       compilation = c.in_ok-made.ensures.compiled;
       pack = c.in_ok-made.ensures.pack;
       safe = c.in_ok-made.ensures.safe;
-      local = c.in_ok-made.ensures.local;
       spelled = refl;
     }

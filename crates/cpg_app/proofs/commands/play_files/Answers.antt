@@ -1,4 +1,4 @@
-use Rattle.std.proofs.Common.{◌≡◌, Option, inr, subst}
+use Rattle.std.proofs.Common.{Option, inr, subst}
 use Rattle.cpg_words.specs.Parts.{Text}
 use Rattle.cpg_app.specs.Causes.{Seen, StopsGraph, StopsPlay, StopsTables}
 use Rattle.cpg_app.proofs.Later.{if_err, play_later, tables_later}

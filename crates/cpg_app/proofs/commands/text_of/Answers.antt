@@ -10,6 +10,5 @@ returns-in-Ok-clause-text c =
       compilation = c.in_ok-made.ensures.compiled;
       pack = c.in_ok-made.ensures.pack;
       safe = c.in_ok-made.ensures.safe;
-      local = c.in_ok-made.ensures.local;
       spelled = c.in-Ok.ensures ∙ ap (λ g. table_text g made.order made.built.tables.nodes made.built.worst) (ap (λ x. x.graph) c.in_ok-made.ensures.same);
     }

@@ -22,7 +22,7 @@ returns g c words asked =
     let stream = c.args.stream.now in
     let told = g.S.Shelf.stands c.follower_of.new.shelf stream in
     elim c.follow_told.ensures [
-      | inl all ↦ is_followed r c.args.pack.now c.args.name.now stream asked found.0 found.1 c.in-Ok.follower found.2 told (c.in-Ok.ensures.names stream) all.0 all.1 all.2
+      | inl all ↦ is_followed r c.args.pack.now c.args.name.now stream asked found.0 found.1 c.in-Ok.follower found.2 told (c.in-Ok.ensures.names stream) (g.S.Shelf.faults c.follower_of.new.shelf) all.0 all.1 all.2
       | inr broken ↦ not_followed r c.args.pack.now c.args.name.now stream asked found.0 found.1 c.in-Ok.follower found.2 told (c.in-Ok.ensures.names stream) (g.S.Shelf.faults c.follower_of.new.shelf) c.in-Ok.ensures.later broken.0 broken.1 broken.2
     ]
 

@@ -31,5 +31,6 @@ loop-pair-preserved g c =
       names = λ name. read.names name ∙ before.names name;
       leave = λ name. (λ may. (read.leave name).0 ((before.leave name).0 may), λ may. (before.leave name).1 ((read.leave name).1 may));
       later = omega (arith, before.later, read.later);
+      within = λ _. read.within;
       said = said_next (S.stands c.args.shelf.now) c.args.pairs.now c.loop-pair.pair-index pair c.loop-pair-test.true c.pair-item.is c.loop-pair.parts.items c.add.new.parts.items c.in_ok-problem.problem before.said (subst (λ told. Says told c.in_ok-problem.problem) (before.names pair.graph) (rw c.as_str.ensures at read.graph)) c.in_ok-add.ensures.added;
     }

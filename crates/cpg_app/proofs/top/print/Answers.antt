@@ -25,7 +25,7 @@ returns-in-Ok-put g c words asked =
       status = 0;
     } in
     lawful_with r (bytes_of c.in-Ok.output) (record {
-      prints = subst (λ o. PrintsAsked r.shelf o (bytes_of c.in-Ok.output)) (sym asked) c.in-Ok.ensures.text;
+      prints = subst (λ o. PrintsAsked r.shelf o (bytes_of c.in-Ok.output)) (sym asked) (record { output = c.in-Ok.ensures.text; within = c.in-Ok.ensures.within });
       ending = inl (record { status = refl; out = c.in-Ok-put.ensures; err = Keeps-refl (g.E.Sink.taken c.args.err.now) });
     })
 
@@ -39,7 +39,7 @@ returns-in-Err-Failed g c words asked =
       status = c.cut.result;
     } in
     lawful_with r (bytes_of c.in-Ok.output) (record {
-      prints = subst (λ o. PrintsAsked r.shelf o (bytes_of c.in-Ok.output)) (sym asked) c.in-Ok.ensures.text;
+      prints = subst (λ o. PrintsAsked r.shelf o (bytes_of c.in-Ok.output)) (sym asked) (record { output = c.in-Ok.ensures.text; within = c.in-Ok.ensures.within });
       ending = inr (record { status = c.cut.ensures.status; out = cut_of r.out (bytes_of c.in-Ok.output) c.in-Err-Failed.field-0 c.in-Err-Failed.field-0-is c.in-Err-Failed.ensures; err = c.cut.ensures.told });
     })
 

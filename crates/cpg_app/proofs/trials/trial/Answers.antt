@@ -1,4 +1,3 @@
-use Rattle.cpg_app.proofs.Local.{compilations_know_locally}
 use Rattle.cpg_app.proofs.Safe.{compilations_are_safe}
 use Rattle.cpg_app.proofs.trials.trial.Goals as goal
 
@@ -9,6 +8,5 @@ returns-in-Ok-trial_text-clause-text c =
       trial = c.in-Ok.trial;
       is = is;
       safe = compilations_are_safe is.admission.graph is.admitted.well_formed is.admission.order is.compiled is.compilation;
-      local = compilations_know_locally is.admission is.admitted is.compiled is.compilation;
       spelled = c.in-Ok-trial_text.ensures;
     }

@@ -1,0 +1,5 @@
+use Rattle.cpg_app.proofs.Joined.{show_and_compile_agree}
+use Rattle.cpg_app.proofs.show_and_compile_agree.Goals as goal
+
+pub returns : goal.returns
+returns c = show_and_compile_agree

@@ -1,0 +1,4 @@
+pub mod Streams
+pub mod Follower
+pub mod Kept
+pub mod Following
