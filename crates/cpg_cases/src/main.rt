@@ -17,12 +17,14 @@
 //! | `first LINES` | of the next output only the first lines are printed |
 //! | `run WORD ..` | runs the program on these words over the files that they name |
 //! | `rooms WORD ..` | runs them with an output of each room below what they write |
+//! | `refusals WORD ..` | runs them, which are refused, with an error output of each room below the line that they write |
 //! | `calls WORD ..` | runs them with each call of the shelf failing in turn, until a run has status 0 |
 //! | `parts COUNT NAME WORD ..` | runs them with the longest proper beginnings of a pack in its place |
 //!
 //! A run prints its words, each line of its output behind `>` and of its error output behind `!`, or the bytes by two
-//! digits where they are no text, and its status. The last three print of how many runs how many ended as they are to: by
-//! a fault of the output after just that room, by a fault of the shelf, and by a refusal of the pack at its end.
+//! digits where they are no text, and its status. The last four print of how many runs how many ended as they are to: by
+//! a fault of the output after just that room, the same of the error output, by a fault of the shelf, and by a refusal of
+//! the pack at its end.
 #![tactic(auto)]
 
 mod files;

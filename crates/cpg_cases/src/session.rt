@@ -112,6 +112,13 @@ impl Session {
         Ok(print_sweep(rt, "rooms", sweep)?)
     }
 
+    /// Runs words that are refused with each room of the error output that is too small.
+    fn refusals(&mut self, rt: &HostRuntime, words: &[String]) -> Result<(), Stopped> {
+        print_words(rt, words)?;
+        let sweep = sweeps::refusals(rt.alloc(), &mut self.files, words)?;
+        Ok(print_sweep(rt, "refusals", sweep)?)
+    }
+
     /// Runs words with each call of the shelf failing.
     fn calls(&mut self, rt: &HostRuntime, words: &[String]) -> Result<(), Stopped> {
         print_words(rt, words)?;
@@ -135,6 +142,7 @@ impl Session {
         match item {
             "run" => self.run(rt, words),
             "rooms" => self.rooms(rt, words),
+            "refusals" => self.refusals(rt, words),
             "calls" => self.calls(rt, words),
             "parts" => self.parts(rt, words),
             _ => Err(Stopped),

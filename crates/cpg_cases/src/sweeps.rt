@@ -51,6 +51,27 @@ pub fn rooms(alloc: Global, files: &mut MemoryShelf, words: &[String]) -> Result
     Ok(sweep)
 }
 
+/// Whether a run ended by a fault of its error output, which took these bytes.
+fn is_unsaid(got: &Outcome, part: Option<&[u8]>) -> bool {
+    got.status == 3 && got.out.taken().is_empty() && part == Some(got.err.taken())
+}
+
+/// Runs words that are refused with an error output of each room that is less than their line: each run is to end by a
+/// fault of it there.
+pub fn refusals(
+    alloc: Global,
+    files: &mut MemoryShelf,
+    words: &[String],
+) -> Result<Sweep, Stopped> {
+    let whole = run_words(alloc, files, words, ROOM)?;
+    let mut sweep = Sweep::none();
+    for err in 0..whole.err.taken().len() {
+        let got = run_words(alloc, files, words, Room { out: ROOM.out, err })?;
+        sweep.count(is_unsaid(&got, whole.err.taken().get(..err)));
+    }
+    Ok(sweep)
+}
+
 /// Whether a run ended by a fault of its shelf.
 fn is_unread(got: &Outcome) -> bool {
     got.status == 2
