@@ -1,21 +1,23 @@
 -- Columns with keys, sorted by these, and the columns alone.
 use Rattle.std.proofs.lemmas.List.Elements.{Contains-get_or}
 use Rattle.cpg_base.proofs.Lists.{numbers-Contains}
-use Rattle.std.proofs.Common.{Ordering, Less, Equal, Greater, ℕ, suc, ◌+◌, ◌-◌, ◌*◌, ◌<◌, ◌≤◌, ◌≡◌, ◌≢◌, ◌==◌, Bool, true, false, List, [], ◌∷◌, ◌++◌, length, drop, append_assoc, map, get_or, All, Option, None, Some, IsPermutation, nat_lt, arith, refl, sym, ap, ap₂, ◌∙◌, inl, inr, eq-eqb, ne_eqb, lt-ltb, le-ltb, length-append}
-use Rattle.std.proofs.lemmas.Bool.{cases_eq, cases_order, cond-true, cond-false, both_ways, false_from_ne_true}
+use Rattle.std.proofs.Common.{Ordering, Less, Equal, Greater, ℕ, suc, ◌+◌, ◌-◌, ◌*◌, ◌<◌, ◌≤◌, ◌≡◌, ◌≢◌, ◌==◌, Bool, true, false, List, [], ◌∷◌, ◌++◌, length, drop, append_assoc, subst, map, get_or, All, Option, None, Some, IsPermutation, nat_lt, if◌then◌else◌, arith, refl, sym, ap, ap₂, ◌∙◌, inl, inr, eq-eqb, ne_eqb, lt-ltb, le-ltb, length-append}
+use Rattle.std.proofs.lemmas.Bool.{cases_Bool, cases_eq, cases_lt, cases_order, cond-true, cond-false, both_ways, false_from_ne_true}
 use Rattle.std.specs.Ordering.{nat_cmp, is_lt, ordering_then}
 use Rattle.std.specs.Cmp.{IsStrictWeakOrder}
 use Rattle.std.specs.Cmp.Lexicographic.{slice_cmp}
 use Rattle.std.specs.List.Sorted.{IsSortedBy}
 use Rattle.std.proofs.lemmas.Cmp.{nat_list_cmp_total}
 use Rattle.std.proofs.lemmas.List.Sorted.{ranks_by, sorted_far, All-permutation}
-use Rattle.std.proofs.lemmas.List.{append-nil, drop_all, drop_more}
+use Rattle.std.proofs.lemmas.List.{append-nil, drop_all, drop_more, length-map, map-append}
 use Rattle.cpg_cube.specs.Cube.{Literal, low_in}
 use Rattle.cpg_base.specs.Graph.{Graph, condition_of}
 use Rattle.cpg_base.specs.Numbers.{is_below, numbers_below}
+use Rattle.cpg_base.proofs.Below.{below_irreflexive, below_one_way, not_below_transitive}
 use Rattle.cpg_base.proofs.Pairs.{AllPairs-map}
-use Rattle.cpg_cube.specs.Keys.{low_of_value, lows_of, lows_along, AreByLows, asked_from, key_along}
+use Rattle.cpg_cube.specs.Keys.{low_of_value, lows_of, lows_along, AreByLows, IsFirstByLows, IsFirstByKeys, variable_of_value, variables_of, variables_along, asked_from, key_along, key_by}
 use Rattle.cpg_cube.specs.declared.sorting.Ranked.{Ranked}
+use Rattle.cpg_cube.specs.declared.sorting.Placed.{Placed}
 
 -- one key comes before another
 abbrev pub is_key_below : {T : Type 0} → Ranked T → Ranked T → Bool
@@ -95,7 +97,7 @@ one_or_two : (low : ℕ → ℕ) (o : Option ℕ) → length (low_of_value low o
 one_or_two low None = omega arith
 one_or_two low (Some v) = omega arith
 
-pub few_lows : (g : Graph) (low : ℕ → ℕ) (p : ℕ) → length (lows_of g low p) ≤ 2
+few_lows : (g : Graph) (low : ℕ → ℕ) (p : ℕ) → length (lows_of g low p) ≤ 2
 few_lows g low p = omega (arith, one_or_two low (condition_of g p))
 
 twice_long : (g : Graph) (order : List ℕ) (low : ℕ → ℕ) → length (lows_along g order low) ≤ length order * 2
@@ -114,19 +116,98 @@ asked_append left (x ∷ xs) ys =
       | inr n ↦ asked_some left x (xs ++ ys) n ∙ ap (λ k. left ∷ x ∷ k) rest ∙ ap (λ k. k ++ asked_from (left - length (x ∷ xs)) ys) (sym (asked_some left x xs n))
     ]
 
--- with the lows of one process more
-pub key_step : (g : Graph) (order : List ℕ) (low : ℕ → ℕ) (i p : ℕ) → i < length order → p ≡ get_or order i p → (key new : List ℕ) (left next : ℕ) → key_along g order low ≡ key ++ asked_from left (lows_along g (drop i order) low) →
-    new ≡ key ++ asked_from left (lows_of g low p) → next ≡ left - length (lows_of g low p) → key_along g order low ≡ new ++ asked_from next (lows_along g (drop (i + 1) order) low)
-key_step g order low i p within is key new left next before more fewer =
-    let split : drop i order ≡ p ∷ drop (i + 1) order = drop_more order i p within ∙ ap (λ q. q ∷ drop (i + 1) order) (sym is) in
-    before ∙ ap (λ ps. key ++ asked_from left (lows_along g ps low)) split
-    ∙ ap (λ k. key ++ k) (asked_append left (lows_of g low p) (lows_along g (drop (i + 1) order) low))
-    ∙ sym (append_assoc key (asked_from left (lows_of g low p)) (asked_from (left - length (lows_of g low p)) (lows_along g (drop (i + 1) order) low)))
-    ∙ ap₂ (λ k n. k ++ asked_from n (lows_along g (drop (i + 1) order) low)) (sym more) (sym fewer)
+-- with the low of one variable more
+pub key_step : (low : ℕ → ℕ) (variables : List ℕ) (i v : ℕ) → i < length variables → v ≡ get_or variables i v → (key new : List ℕ) (left next : ℕ) → asked_from 256 (map low variables) ≡ key ++ asked_from left (map low (drop i variables)) →
+    new ≡ key ++ asked_from left (low v ∷ []) → next ≡ left - 1 → asked_from 256 (map low variables) ≡ new ++ asked_from next (map low (drop (i + 1) variables))
+key_step low variables i v within is key new left next before more fewer =
+    let split : drop i variables ≡ v ∷ drop (i + 1) variables = drop_more variables i v within ∙ ap (λ w. w ∷ drop (i + 1) variables) (sym is) in
+    before ∙ ap (λ vs. key ++ asked_from left (map low vs)) split
+    ∙ ap (λ k. key ++ k) (asked_append left (low v ∷ []) (map low (drop (i + 1) variables)))
+    ∙ sym (append_assoc key (asked_from left (low v ∷ [])) (asked_from (left - 1) (map low (drop (i + 1) variables))))
+    ∙ ap₂ (λ k n. k ++ asked_from n (map low (drop (i + 1) variables))) (sym more) (sym fewer)
 
 -- with the lows of all
-pub key_done : (g : Graph) (order : List ℕ) (low : ℕ → ℕ) (i : ℕ) → length order ≤ i → (key : List ℕ) (left : ℕ) → key_along g order low ≡ key ++ asked_from left (lows_along g (drop i order) low) → key ≡ key_along g order low
-key_done g order low i past key left is = sym (is ∙ ap (λ ps. key ++ asked_from left (lows_along g ps low)) (drop_all i order past) ∙ append-nil key)
+pub key_done : (low : ℕ → ℕ) (variables : List ℕ) (i : ℕ) → length variables ≤ i → (key : List ℕ) (left : ℕ) → asked_from 256 (map low variables) ≡ key ++ asked_from left (map low (drop i variables)) → key ≡ asked_from 256 (map low variables)
+key_done low variables i past key left is = sym (is ∙ ap (λ vs. key ++ asked_from left (map low vs)) (drop_all i variables past) ∙ append-nil key)
+
+-- ---- the variables along an order
+
+low_of_variable : (low : ℕ → ℕ) (o : Option ℕ) → map low (variable_of_value o) ≡ low_of_value low o
+low_of_variable low None = refl
+low_of_variable low (Some c) = refl
+
+pub lows_by_variable : (g : Graph) (order : List ℕ) (low : ℕ → ℕ) → map low (variables_along g order) ≡ lows_along g order low
+lows_by_variable g [] low = refl
+lows_by_variable g (p ∷ ps) low = map-append low (variables_of g p) (variables_along g ps) ∙ ap₂ ◌++◌ (ap (λ (xs : List ℕ). low p ∷ xs) (low_of_variable low (condition_of g p))) (lows_by_variable g ps low)
+
+pub few_variables : (g : Graph) (order : List ℕ) → length order ≤ 128 → length (variables_along g order) ≤ 256
+few_variables g order few = omega (arith, sym (length-map (variables_along g order) (λ (v : ℕ). v)) ∙ ap length (lows_by_variable g order (λ v. v)), twice_long g order (λ v. v), few)
+
+-- ---- the first by keys
+
+-- the key of a cube by the variables along an order
+pub key_is : (g : Graph) (order variables : List ℕ) → variables ≡ variables_along g order → (cube : List Literal) → key_by variables cube ≡ key_along g order (low_in cube)
+key_is g order variables along cube = ap (λ (vs : List ℕ). key_by vs cube) along ∙ ap (asked_from 256) (lows_by_variable g order (low_in cube))
+
+pub lows_from_keys : (g : Graph) (order : List ℕ) → length order ≤ 128 → (a b : List Literal) → is_below (key_along g order (low_in a)) (key_along g order (low_in b)) ≡ false → is_below (lows_along g order (low_in a)) (lows_along g order (low_in b)) ≡ false
+lows_from_keys g order few a b h = false_from_ne_true _ (λ below. both_ways _ h (asked_below 256 (lows_along g order (low_in a)) (lows_along g order (low_in b)) (same_long g order (low_in a) (low_in b)) (omega (arith, twice_long g order (low_in a), few)) below))
+
+module _ {T : Type 0} (cube : T → List Literal) (columns : List T) where
+  pub first_by_lows : (g : Graph) (order variables : List ℕ) → length order ≤ 128 → variables ≡ variables_along g order → (at : ℕ) → IsFirstByKeys cube variables (length columns) columns at → IsFirstByLows cube g order columns at
+  first_by_lows g order variables few along at h = record {
+    there = h.there;
+    first = λ j d l. lows_from_keys g order few (cube (get_or columns j d)) (cube (get_or columns at d))
+        (ap₂ is_below (sym (key_is g order variables along (cube (get_or columns j d)))) (sym (key_is g order variables along (cube (get_or columns at d)))) ∙ h.first j d l);
+  }
+
+  module _ (variables : List ℕ) where
+    abbrev key_at : ℕ → T → List ℕ
+    key_at j d = key_by variables (cube (get_or columns j d))
+
+    pub first_alone : IsFirstByKeys cube variables 1 columns 0
+    first_alone = record {
+      there = omega arith;
+      first = λ j d l. subst (λ i. is_below (key_at i d) (key_at 0 d) ≡ false) (let e : 0 ≡ j = omega (arith, l) in e) (below_irreflexive (key_at 0 d));
+    }
+
+    -- the one of the least key of the first n
+    pub record IsBest (n : ℕ) (best : Placed) : Type 0 where
+      pub first : IsFirstByKeys cube variables n columns best.place
+      pub key : (d : T) → best.key.items ≡ key_at best.place d
+
+    module _ (n : ℕ) (best next : Placed) (h : IsBest n best) (at : next.place ≡ n) (key : (d : T) → next.key.items ≡ key_at next.place d) where
+      -- what is so of the first n and of the next is so of all
+      with_next : (i : ℕ) → ((j : ℕ) (d : T) → j < n → is_below (key_at j d) (key_at i d) ≡ false) → ((d : T) → is_below (key_at next.place d) (key_at i d) ≡ false) → (j : ℕ) (d : T) → j < n + 1 → is_below (key_at j d) (key_at i d) ≡ false
+      with_next i before after j d l = elim (cases_lt j n) [
+        | inl m ↦ before j d m
+        | inr m ↦ subst (λ o. is_below (key_at o d) (key_at i d) ≡ false) (let e : next.place ≡ j = omega (arith, l, m, at) in e) (after d)
+      ]
+
+      stays : is_below next.key.items best.key.items ≡ false → IsBest (n + 1) best
+      stays f = record {
+        first = record {
+          there = omega (arith, h.first.there);
+          first = with_next best.place h.first.first (λ d. ap₂ is_below (sym (key d)) (sym (h.key d)) ∙ f);
+        };
+        key = h.key;
+      }
+
+      comes : is_below next.key.items best.key.items ≡ true → IsBest (n + 1) next
+      comes t = record {
+        first = record {
+          there = omega (arith, at);
+          first = with_next next.place (λ j d l. not_below_transitive (key_at next.place d) (key_at best.place d) (key_at j d)
+              (below_one_way (key_at next.place d) (key_at best.place d) (ap₂ is_below (sym (key d)) (sym (h.key d)) ∙ t)) (h.first.first j d l))
+              (λ d. below_irreflexive (key_at next.place d));
+        };
+        key = key;
+      }
+
+      pub best_next : (new : Placed) → new ≡ (if is_below next.key.items best.key.items then next else best) → IsBest (n + 1) new
+      best_next new is = elim (cases_Bool (is_below next.key.items best.key.items)) [
+        | inl t ↦ subst (IsBest (n + 1)) (sym (is ∙ cond-true (is_below next.key.items best.key.items) next best t)) (comes t)
+        | inr f ↦ subst (IsBest (n + 1)) (sym (is ∙ cond-false (is_below next.key.items best.key.items) next best f)) (stays f)
+      ]
 
 -- ---- so columns that stand by keys stand by lows
 
@@ -141,7 +222,7 @@ by_lows {T} cube g order few before after keys p up = AllPairs-map (λ (a b : Ra
     let all = All-permutation (λ (r : Ranked T). r.key.items ≡ key_along g order (low_in (cube r.column))) before after p keys in
     let sorted : is_below (key_along g order b) (key_along g order a) ≡ false =
     ap₂ is_below (sym (all j d k)) (sym (all i d (omega arith))) ∙ sorted_far is_key_below is_total after up i j d (omega arith) k in
-    false_from_ne_true _ (λ below. both_ways _ sorted (asked_below 256 (lows_along g order b) (lows_along g order a) (same_long g order b a) (omega (arith, twice_long g order b, few)) below)))
+    lows_from_keys g order few (cube (get_or after j d).column) (cube (get_or after i d).column) sorted)
 
 -- each process of an order is below how many there are
 pub within_order : (n : ℕ) (order : List ℕ) → IsPermutation (numbers_below n) order → All (λ p. p < n) order

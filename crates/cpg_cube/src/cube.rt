@@ -62,6 +62,17 @@ fn place_of(literals: &[Literal], variable: u8) -> Option<usize>
         .position(|literal| variable <= literal.variable)
 }
 
+/// Whether a variable is above all of these literals.
+fn is_above(literals: &[Literal], variable: u8) -> bool
+    requires { IsRising literals.now }
+    ensures { OnTrue result (All (λ l. l.variable < variable) literals.now) }
+{
+    match literals.last() {
+        Some(last) => last.variable < variable,
+        None => true,
+    }
+}
+
 /// Puts a literal in its place, or meets the one on its variable with it.
 fn narrow(literals: &mut SmallVec<Literal, FEW>, literal: Literal) -> Result<(), OutOfMemory>
     ensures { IfOk result (λ _. literals.new.items ≡ narrowed_by literal literals.old.items) }
@@ -77,6 +88,18 @@ fn narrow(literals: &mut SmallVec<Literal, FEW>, literal: Literal) -> Result<(),
     }
     literals.insert(place, literal)?;
     Ok(())
+}
+
+/// What `narrow` does, at once where the variable is above all others, as it mostly is along a path.
+fn put(literals: &mut SmallVec<Literal, FEW>, literal: Literal) -> Result<(), OutOfMemory>
+    requires { IsRising literals.old.items }
+    ensures { IfOk result (λ _. literals.new.items ≡ narrowed_by literal literals.old.items) }
+{
+    if is_above(literals.as_slice(), literal.variable) {
+        literals.push(literal)?;
+        return Ok(());
+    }
+    narrow(literals, literal)
 }
 
 impl Cube {
@@ -160,12 +183,25 @@ impl Cube {
         literal
     }
 
+    /// The same, at once where the variable is above all others.
+    fn range_with(&self, literal: Literal) -> Literal
+        ensures { result ≡ range_left literal self.now }
+    {
+        if is_above(self.literals(), literal.variable) {
+            return literal;
+        }
+        self.range_left(literal)
+    }
+
     /// The cube with a literal more, met with the one on its variable.
     fn narrowed(&self, literal: Literal) -> Result<Cube, OutOfMemory>
         ensures { IfOk result (λ cube. cube ≡ narrowed_by literal self.now) }
     {
-        let mut literals = SmallVec::from_slice(*self.literals.allocator(), self.literals())?;
-        narrow(&mut literals, literal)?;
+        let own = self.literals();
+        // room for one more at once, as most narrow a variable that has no literal yet
+        let mut literals = SmallVec::with_capacity(*self.literals.allocator(), own.len() + 1)?;
+        literals.extend_from_slice(own)?;
+        put(&mut literals, literal)?;
         Ok(Cube { literals })
     }
 
@@ -176,12 +212,25 @@ impl Cube {
         ensures both { IfOk result (λ r. IfSome r (λ cube. (s : Scenario) → matches cube s ≡ (holds s literal && matches self.now s))) }
         ensures none { IfOk result (λ r. IfNone r ((s : Scenario) → (holds s literal && matches self.now s) ≡ false)) }
     {
-        let left = self.range_left(literal);
+        let left = self.range_with(literal);
         if left.low > left.high {
             return Ok(None);
         }
         let cube = self.narrowed(literal)?;
         Ok(Some(cube))
+    }
+
+    /// What `with` answers, of a cube that isn't needed any more.
+    pub fn into_with(self, literal: Literal) -> Result<Option<Cube>, OutOfMemory>
+        ensures { IfOk result (λ r. r ≡ with_literal literal self) }
+    {
+        let left = self.range_with(literal);
+        if left.high < left.low {
+            return Ok(None);
+        }
+        let Cube { mut literals } = self;
+        put(&mut literals, literal)?;
+        Ok(Some(Cube { literals }))
     }
 
     /// Whether the cube matches some scenario of at most `k` faults.

@@ -1,4 +1,4 @@
-use Rattle.std.proofs.Common.{ℕ, ◌<◌, ◌≤◌, ◌≡◌, List, All, length, map, IsPermutation, arith, sym, subst, rules}
+use Rattle.std.proofs.Common.{ℕ, ◌<◌, ◌≤◌, ◌≡◌, ◌∙◌, List, All, length, map, get_or, IsPermutation, arith, sym, ap, subst, rules}
 use Rattle.std.specs.List.Sorted.{IsSortedBy}
 use Rattle.std.proofs.lemmas.Fn.{always_returns_same}
 use Rattle.std.proofs.lemmas.List.Sorted.{IsPermutation-map}
@@ -6,16 +6,21 @@ use Rattle.std.proofs.lemmas.Result.{IfOk-weaker}
 use Rattle.cpg_base.specs.Graph.{process_count}
 use Rattle.cpg_order.proofs.Places.{length_order}
 use Rattle.cpg_cube.specs.Cube.{low_in}
-use Rattle.cpg_cube.specs.Keys.{AreByLows, key_along}
+use Rattle.cpg_cube.specs.Keys.{AreByLows, key_along, variables_along}
 use Rattle.cpg_cube.specs.declared.sorting.Ranked.{Ranked}
-use Rattle.cpg_cube.proofs.KeyOrder.{is_key_below, is_total, by_lows, within_order}
+use Rattle.cpg_cube.proofs.KeyOrder.{is_key_below, is_total, by_lows, few_variables, key_is, within_order}
 use Rattle.cpg_cube.proofs.sorting.by_least_scenario.Goals as goal
 
-pub with_keys-requires-clause-order : goal.with_keys-requires-clause-order
-with_keys-requires-clause-order g c = let n = process_count c.args.problem.now in subst (All (λ p. p < n)) (sym c.processes.ensures.processes) (within_order n c.args.order.now c.requires)
+pub variables_along-requires : goal.variables_along-requires
+variables_along-requires g c = let n = process_count c.args.problem.now in record { order = subst (All (λ p. p < n)) (sym c.processes.ensures.processes) (within_order n c.args.order.now c.requires) }
 
-pub with_keys-requires-clause-few : goal.with_keys-requires-clause-few
-with_keys-requires-clause-few g c = subst (λ (ps : List ℕ). length ps ≤ 128) (sym c.processes.ensures.processes) (omega (arith, length_order (process_count c.args.problem.now) c.args.order.now c.requires, c.processes-processes.ensures.within.few_processes))
+pub with_keys-requires : goal.with_keys-requires
+with_keys-requires g c =
+    let problem = c.args.problem.now in
+    let order = c.args.order.now in
+    let few : length order ≤ 128 = omega (arith, length_order (process_count problem) order c.requires, c.processes-processes.ensures.within.few_processes) in
+    let along : c.as_slice.result.now ≡ variables_along problem order = c.as_slice.ensures.value ∙ c.in_ok-variables.ensures ∙ ap (variables_along problem) c.processes.ensures.processes in
+    record { few = subst (λ (vs : List ℕ). length vs ≤ 256) (sym along) (few_variables problem order few) }
 
 pub returns-clause-permutation : goal.returns-clause-permutation
 returns-clause-permutation g c =
@@ -35,8 +40,11 @@ returns-clause-by_lows g c =
     let problem = c.args.problem.now in
     let order = c.args.order.now in
     let few : length order ≤ 128 = omega (arith, length_order (process_count problem) order c.requires, c.processes-processes.ensures.within.few_processes) in
+    let along : c.as_slice.result.now ≡ variables_along problem order = c.as_slice.ensures.value ∙ c.in_ok-variables.ensures ∙ ap (variables_along problem) c.processes.ensures.processes in
+    let keys : All (λ (x : Ranked g.row.T.Denot). x.key.items ≡ key_along problem order (low_in (g.T.Cubed.cubed x.column))) before = λ k d l.
+    c.in_ok-ranked.ensures.keys k d l ∙ key_is problem order c.as_slice.result.now along (g.T.Cubed.cubed (get_or before k d).column) in
     let up : IsSortedBy is_key_below after = c.sort_unstable_by.ensures.sorted is_key_below is_total (always_returns_same _ _ _ (λ a r f k. search rules)) in
     IfOk-weaker _ (λ r. r.items ≡ map column after) (λ r. AreByLows g.T.Cubed.cubed problem order r.items)
     (λ r e. subst (AreByLows g.T.Cubed.cubed problem order) (sym e) (by_lows g.T.Cubed.cubed problem order few before after
-    (subst (λ (ps : List ℕ). All (λ (x : Ranked g.row.T.Denot). x.key.items ≡ key_along problem ps (low_in (g.T.Cubed.cubed x.column))) before) c.processes.ensures.processes c.in_ok-ranked.ensures.keys) c.sort_unstable_by.ensures.permutation up))
+    keys c.sort_unstable_by.ensures.permutation up))
     (search rules)

@@ -1,9 +1,10 @@
-use Rattle.std.proofs.Common.{ℕ, ◌≡◌, ◌≤◌, ◌+◌, ◌*◌, ◌++◌, drop, get_or}
-use Rattle.cpg_cube.specs.Keys.{lows_along, asked_from, key_along}
+use Rattle.std.proofs.Common.{◌≡◌, ◌+◌, ◌++◌, drop, map}
+use Rattle.cpg_cube.specs.Cube.{low_in}
+use Rattle.cpg_cube.specs.Keys.{asked_from, key_by}
 use Rattle.cpg_cube.proofs.sorting.key_of.Given as goal
 
-abbrev pub invariant-loop-process : goal.invariant-loop-process
-invariant-loop-process l = record {
-  key : key_along l.problem l.order (λ (v : ℕ). get_or l.bounds.low v 0) ≡ l.key.items ++ asked_from l.left (lows_along l.problem (drop l.process-index l.order) (λ (v : ℕ). get_or l.bounds.low v 0));
-  left : 256 ≤ l.left + l.process-index * 2;
+abbrev pub invariant-loop-variable : goal.invariant-loop-variable
+invariant-loop-variable l = record {
+  key : key_by l.variables l.cube ≡ l.key.items ++ asked_from l.left (map (low_in l.cube) (drop l.variable-index l.variables));
+  left : l.left + l.variable-index ≡ 256;
 }

@@ -1,19 +1,19 @@
 use Rattle.std.proofs.Common.{◌≡◌, ◌∙◌, List, [], All, arith, rules, sym, ap, subst}
 use Rattle.std.proofs.lemmas.Grind.{common_steps}
 use Rattle.std.proofs.lemmas.List.Elements.{All-push}
-use Rattle.cpg_cube.specs.Cube.{Literal, low_in}
-use Rattle.cpg_cube.specs.Keys.{key_along}
+use Rattle.cpg_cube.specs.Cube.{Literal}
+use Rattle.cpg_cube.specs.Keys.{key_by}
 use Rattle.cpg_cube.specs.declared.sorting.Ranked.{Ranked}
 use Rattle.cpg_cube.proofs.sorting.with_keys.Goals as goal
 
 pub loop-column-preserved : goal.loop-column-preserved
 loop-column-preserved g c =
     let i = c.loop-column.invariant in
-    let has_key = λ (x : Ranked g.row.T.Denot). x.key.items ≡ key_along c.args.problem.now c.args.order.now (low_in (g.T.Cubed.cubed x.column)) in
+    let has_key = λ (x : Ranked g.row.T.Denot). x.key.items ≡ key_by c.args.variables.now (g.T.Cubed.cubed x.column) in
     record {
       columns = grind (arith, common_steps);
       keys = subst (All has_key) (sym c.in_ok-push.ensures.items) (All-push has_key c.loop-column.ranked.items _ i.keys
-          (c.in_ok-key.ensures ∙ ap (λ (ls : List Literal). key_along c.args.problem.now c.args.order.now (low_in ls)) c.cube.ensures));
+          (c.in_ok-key.ensures ∙ ap (λ (ls : List Literal). key_by c.args.variables.now ls) c.cube.ensures));
     }
 
 pub loop-column-init : goal.loop-column-init
@@ -21,7 +21,7 @@ loop-column-init g c =
     let none : c.reserve.new.self.items ≡ [] = c.in_ok-reserve.ensures.items ∙ c.new-ranked.ensures.items in
     record {
       columns = search rules;
-      keys = subst (All (λ (x : Ranked g.row.T.Denot). x.key.items ≡ key_along c.args.problem.now c.args.order.now (low_in (g.T.Cubed.cubed x.column)))) (sym none) (λ k d l. absurd (omega (arith, l)));
+      keys = subst (All (λ (x : Ranked g.row.T.Denot). x.key.items ≡ key_by c.args.variables.now (g.T.Cubed.cubed x.column))) (sym none) (λ k d l. absurd (omega (arith, l)));
     }
 
 pub returns-clause-columns : goal.returns-clause-columns

@@ -1,14 +1,14 @@
 use Rattle.std.proofs.Common.{◌<◌, arith, rules}
 use Rattle.cpg_base.specs.Graph.{condition_count}
 use Rattle.cpg_order.proofs.Along.{condition_of_below}
-use Rattle.cpg_cube.proofs.sorting.push_lows.Goals as goal
+use Rattle.cpg_cube.proofs.sorting.push_variables.Goals as goal
 
-pub overflow_cast-value : goal.overflow_cast-value
-overflow_cast-value c =
+pub overflow_cast-condition : goal.overflow_cast-condition
+overflow_cast-condition c =
     let l : c.in-Some.condition < condition_count c.args.problem.now = condition_of_below c.args.problem.now c.args.process c.in-Some.condition (search rules) in
     omega arith
 
-pub overflow_add-value : goal.overflow_add-value
-overflow_add-value c =
+pub overflow_add-condition : goal.overflow_add-condition
+overflow_add-condition c =
     let l : c.in-Some.condition < condition_count c.args.problem.now = condition_of_below c.args.problem.now c.args.process c.in-Some.condition (search rules) in
     omega arith

@@ -1,0 +1,9 @@
+use Rattle.std.proofs.Common.{◌<◌, All, ◌∙◌, sym}
+use Rattle.cpg_cube.specs.Cube.{Literal}
+use Rattle.cpg_cube.proofs.Above.{narrowed_above}
+use Rattle.cpg_cube.proofs.cube.put.Goals as goal
+
+pub returns-then-is_above : goal.returns-then-is_above
+returns-then-is_above c =
+    let under : All (λ (l : Literal). l.variable < c.args.literal.variable) c.args.literals.now.items = rw c.as_slice.ensures at c.if-is_above.ensures in
+    c.in_ok-push.ensures.ok ∙ sym (narrowed_above c.args.literal c.args.literals.now.items under)

@@ -1,0 +1,5 @@
+use Rattle.cpg_cube.proofs.KeyOrder.{IsBest}
+use Rattle.cpg_cube.proofs.sorting.first_by_key.Given as goal
+
+abbrev pub invariant-loop-place : goal.invariant-loop-place
+invariant-loop-place g l = IsBest g.T.Cubed.cubed l.columns l.variables l.place l.best
