@@ -1,6 +1,7 @@
 -- Ranges of cubes when literals are left out or one is raised, and two cubes that touch made one.
 use Rattle.std.proofs.Common.{ℕ, ◌<◌, ◌≤◌, ◌≡◌, ◌≢◌, ◌⊎◌, Bool, true, false, not, cond, ◌==◌, List, [], ◌∷◌, length, take, Contains, All, get_or, arith, refl, sym, ap, ap₂, ◌∙◌, subst, ⊎_elim, eqb-true}
-use Rattle.std.proofs.lemmas.Bool.{cases_eq, and_parts, not-true, eqb-false}
+use Rattle.std.specs.List.{list_any}
+use Rattle.std.proofs.lemmas.Bool.{cases_eq, and_parts, or_parts, not-true, eqb-false}
 use Rattle.std.proofs.lemmas.List.{get_or-take, get_or_default, length-take-le}
 use Rattle.std.proofs.lemmas.List.Elements.{All-contains, All-same, All-filter, All-map, All-weaker, Contains-get_or}
 use Rattle.cpg_base.proofs.Lists.{Contains-first, Contains-rest, Contains-filter_parts}
@@ -11,7 +12,8 @@ use Rattle.cpg_cube.specs.Cube.{IsRising, low_in, high_in, is_whole}
 use Rattle.cpg_base.specs.Variable.{top}
 use Rattle.cpg_cube.proofs.Ranges.{IsNarrow, rising_rest, rising_first, low_in-here, high_in-here, high_in-later, high_in-none, range_of_literal, narrow}
 use Rattle.cpg_cube.proofs.CubeLows.{low_in-later, low_in-none}
-use Rattle.cpg_table.specs.Merging.{shorn, without, raised}
+use Rattle.cpg_table.specs.Table.{Column}
+use Rattle.cpg_table.specs.Merging.{shorn, all_shorn, without, raised}
 
 -- where one literal leads two lists with the same ranges, the lists have the same ranges
 same_low : (l : Literal) (xs ys : List Literal) (v : ℕ) → low_in xs v ≡ low_in ys v → low_in (l ∷ xs) v ≡ low_in (l ∷ ys) v
@@ -36,6 +38,19 @@ rest-high : (k : ℕ) (l : Literal) (ls : List Literal) → IsRising (l ∷ ls) 
 rest-high k l ls r = high_in-none k ls l.variable (λ m c e. let h = rising_first l m ls r c in omega arith)
 
 module _ (k : ℕ) where
+  -- where no literal has the whole range, none is left out
+  cube_kept : (cube : List Literal) → list_any (is_whole k) cube ≡ false → shorn k cube ≡ cube
+  cube_kept [] e = refl
+  cube_kept (l ∷ ls) e =
+      let parts = or_parts (is_whole k l) (list_any (is_whole k) ls) e in
+      ap₂ (λ b xs. cond (not b) (l ∷ xs) xs) parts.0 (cube_kept ls parts.1)
+
+  pub columns_kept : (columns : List Column) → list_any (λ c. list_any (is_whole k) c.cube) columns ≡ false → all_shorn k columns ≡ columns
+  columns_kept [] e = refl
+  columns_kept (c ∷ cs) e =
+      let parts = or_parts (list_any (is_whole k) c.cube) (list_any (λ d. list_any (is_whole k) d.cube) cs) e in
+      ap₂ (λ cube rest. record { time = c.time; cube = cube } ∷ rest) (cube_kept c.cube parts.0) (columns_kept cs parts.1)
+
   -- a literal of the whole range may be left out
   left_out-low : (l : Literal) (ls : List Literal) (v : ℕ) → IsRising (l ∷ ls) → is_whole k l ≡ true → low_in ls v ≡ low_in (l ∷ ls) v
   left_out-low l ls v r w = ⊎_elim

@@ -1,23 +1,22 @@
 -- The steps of merging columns: their order doesn't matter, a step at one variable, and steps one after another.
-use Rattle.std.proofs.Common.{ℕ, ◌<◌, ◌≤◌, ◌≡◌, ◌≢◌, ◌⊎◌, true, false, cond, ◌==◌, List, [], ◌∷◌, length, filter, get_or, sum_by, Contains, All, IsPermutation, arith, refl, sym, ap, ap₂, ◌∙◌, subst, ⊎_elim, inl, inr}
+use Rattle.std.proofs.Common.{ℕ, ◌<◌, ◌≤◌, ◌≡◌, ◌≢◌, ◌⊎◌, true, false, cond, List, [], ◌∷◌, length, filter, get_or, sum_by, Contains, All, IsPermutation, arith, refl, sym, ap, ap₂, ◌∙◌, subst, ⊎_elim, inl, inr}
 use Rattle.std.specs.Ordering.{is_lt}
 use Rattle.std.specs.List.Sorted.{IsSortedBy}
-use Rattle.std.specs.List.{list_any}
-use Rattle.std.proofs.lemmas.Bool.{eqb-false, cond-false, or_parts}
+use Rattle.std.proofs.lemmas.Bool.{cond-false, or_parts}
 use Rattle.std.proofs.lemmas.List.{length-map}
 use Rattle.std.proofs.lemmas.List.Elements.{All-contains, All-head, All-tail, All-map}
 use Rattle.std.proofs.lemmas.List.Sorted.{All-permutation, Contains-permutation, IsPermutation-refl, IsPermutation-sym, IsPermutation-trans, length_permutation, sum_by-IsPermutation}
 use Rattle.std.proofs.lemmas.List.Sums.{length-filter}
 use Rattle.cpg_base.specs.Graph.{Graph, process_count, IsVariable}
-use Rattle.cpg_base.proofs.Lists.{from_any_false, Contains-first, Contains-cases, Contains-nil, Contains-filter, Contains-filter_parts, Contains-map, Contains-map_parts}
+use Rattle.cpg_base.proofs.Lists.{Contains-first, Contains-cases, Contains-nil, Contains-filter, Contains-filter_parts, Contains-map, Contains-map_parts}
 use Rattle.cpg_order.specs.Scenario.{Scenario, IsScenario}
-use Rattle.cpg_cube.specs.Cube.{matches, low_in, is_whole}
+use Rattle.cpg_cube.specs.Cube.{matches, is_whole}
 use Rattle.cpg_base.specs.Variable.{top}
 use Rattle.cpg_cube.specs.Fit.{IsCube, lows}
-use Rattle.cpg_cube.proofs.CubeLows.{low_in-none, met_by, lows-lawful, lows-match}
+use Rattle.cpg_cube.proofs.CubeLows.{met_by, lows-lawful, lows-match}
 use Rattle.cpg_table.specs.Table.{Column, times_in}
 use Rattle.cpg_table.specs.Merged.{AreMergeable}
-use Rattle.cpg_table.specs.Merging.{shorn, does_speak, is_followed, is_any_followed_from, is_any_followed, joined, column_cmp, walked, walked_over, all_shorn, IsShorn, IsJoinOf, IsSettledOn, IsPassed}
+use Rattle.cpg_table.specs.Merging.{shorn, is_followed, is_any_followed_from, is_any_followed, joined, column_cmp, walked, walked_over, all_shorn, IsShorn, IsJoinOf, IsSettledOn, IsPassed}
 use Rattle.cpg_table.proofs.MergingCubes.{All-from_each}
 use Rattle.cpg_table.proofs.MergingPairs.{IsGood, wider_itself, shorn_wider, matches_shorn, good_shorn}
 use Rattle.cpg_table.proofs.MergingLists.{AreGood, times_first, joins_itself, joins_through, walk}
@@ -166,22 +165,6 @@ not_walked_over k v (c ∷ cs) h = not_walked k v c cs h
 -- ---- steps one after another
 
 module _ (g : Graph) where
-  -- of which no column speaks
-  pub passed_unspoken : (v : ℕ) → (xs : List Column) → IsShorn g xs → list_any (λ c. does_speak v c.cube) xs ≡ false → IsPassed g (λ u. u ≡ v) xs xs
-  passed_unspoken v xs h silent = record {
-    joins = joins_itself g xs;
-    good = h;
-    fewer = inr (
-      IsPermutation-refl xs,
-      λ u e c d m n t k.
-          let none = from_any_false (λ c. does_speak v c.cube) xs d silent n in
-          let low = low_in-none d.cube v (λ l o. eqb-false l.variable v (from_any_false (λ l. l.variable == v) d.cube l none o)) in
-          let next = k.next in
-          let same : low_in d.cube u ≡ low_in d.cube v = ap (low_in d.cube) e in
-          omega arith,
-    );
-  }
-
   -- of which no two touch
   pub passed_settled : (v : ℕ) → (xs : List Column) → IsShorn g xs → IsSettledOn g.faults v xs → IsPassed g (λ u. u ≡ v) xs xs
   passed_settled v xs h apart = record {
@@ -232,6 +215,13 @@ module _ (g : Graph) where
   settled_same P xs ys k e = ⊎_elim
       (λ (l : length ys < length xs). absurd (omega arith))
       (λ (l : IsPermutation xs ys × ((v : ℕ) → P v → IsSettledOn g.faults v ys)). l.1)
+      k.fewer
+
+  -- and the same in some order
+  pub permuted_same : (P : ℕ → Type 0) (xs ys : List Column) → IsPassed g P xs ys → length ys ≡ length xs → IsPermutation xs ys
+  permuted_same P xs ys k e = ⊎_elim
+      (λ (l : length ys < length xs). absurd (omega arith))
+      (λ (l : IsPermutation xs ys × ((v : ℕ) → P v → IsSettledOn g.faults v ys)). l.0)
       k.fewer
 
   -- and else they are fewer

@@ -1,21 +1,21 @@
 -- Columns of which no sum is that of another changed at a literal don't touch.
-use Rattle.std.proofs.Common.{ℕ, ◌+◌, ◌-◌, ◌%◌, ◌^◌, ◌<◌, ◌≤◌, ◌≡◌, ◌≢◌, ◌⊎◌, ◌==◌, Bool, true, false, not, List, [], ◌∷◌, length, take, get_or, map, sum_by, Contains, IsPermutation, arith, refl, sym, ap, ap₂, ◌∙◌, subst, inl, inr, eq-eqb, ne_eqb}
+use Rattle.std.proofs.Common.{ℕ, ◌+◌, ◌-◌, ◌%◌, ◌^◌, ◌<◌, ◌≤◌, ◌≡◌, ◌≢◌, ◌⊎◌, ◌==◌, Bool, true, false, not, List, [], ◌∷◌, length, take, get_or, map, sum_by, Contains, IsPermutation, arith, refl, sym, ap, ap₂, ◌∙◌, subst, inl, inr, eq-eqb, ne_eqb, true≢false}
+use Rattle.std.specs.Prelude.{slice_set}
 use Rattle.std.specs.Bool.{OnFalse}
 use Rattle.std.proofs.lemmas.Bool.{cases_eq, cond-true, cond-false}
 use Rattle.std.proofs.lemmas.List.Elements.{All-contains, Contains-push_cases}
-use Rattle.std.proofs.lemmas.List.{take_more, take_all}
-use Rattle.std.proofs.lemmas.List.Sorted.{Contains-permutation}
+use Rattle.std.proofs.lemmas.List.{take_more, take_all, get_or-map, get_or-set_other, get_or-set_same}
+use Rattle.std.proofs.lemmas.List.Sorted.{Contains-permutation, IsPermutation-sym}
 use Rattle.std.proofs.lemmas.List.Sums.{sum_by-cons}
 use Rattle.cpg_base.specs.Graph.{Graph, process_count, IsVariable}
-use Rattle.cpg_base.proofs.Lists.{Contains-first, Contains-rest, Contains-cases, Contains-nil, Contains-map}
+use Rattle.cpg_base.proofs.Lists.{Contains-first, Contains-rest, Contains-cases, Contains-nil, Contains-map, Contains-map_parts}
 use Rattle.cpg_cube.specs.declared.literal.Literal.{Literal}
 use Rattle.cpg_cube.specs.Cube.{IsRising, low_in, high_in}
 use Rattle.cpg_base.specs.Variable.{top}
 use Rattle.cpg_cube.proofs.Ranges.{rising_rest, rising_first}
 use Rattle.cpg_table.specs.Table.{Column}
-use Rattle.cpg_table.specs.Digests.{mixed}
 use Rattle.cpg_table.specs.Merging.{without, TouchAt, IsSettledOn}
-use Rattle.cpg_table.specs.Totals.{hash_of, total_of, ended, HasNoPartner, HaveNoPartners}
+use Rattle.cpg_table.specs.Totals.{mixed, hash_of, total_of, ended, HasNoPartner, IsMarked, AreMarkedBy, AreMarked}
 use Rattle.cpg_table.proofs.MergingPairs.{IsGood, low-le-high, high_in-top}
 use Rattle.cpg_table.proofs.MergingLists.{AreGood}
 use Rattle.cpg_table.proofs.MergingSettled.{same_without}
@@ -81,7 +81,7 @@ mod_shift : (x r h i : ℕ) → (x + h) % 2 ^ 64 ≡ (r + h) % 2 ^ 64 → (x + i
 mod_shift x r h i e = omega (arith, e)
 
 module _ (g : Graph) (few : process_count g ≤ 128) (v : ℕ) (known : IsVariable g v) where
-  touch_partner : (c d : Column) → IsGood g c.cube → IsGood g d.cube → c.time ≡ d.time → TouchAt g.faults v c.cube d.cube → (totals : List ℕ) → Contains totals (total_of c) → ((l : Literal) → Contains d.cube l → HasNoPartner totals (total_of d) l) → ⊥
+  touch_partner : (c d : Column) → IsGood g c.cube → IsGood g d.cube → c.time ≡ d.time → TouchAt g.faults v c.cube d.cube → (totals : List ℕ) → Contains totals (total_of c) → ((l : Literal) → Contains d.cube l → l.variable ≡ v → HasNoPartner totals (total_of d) l) → ⊥
   touch_partner c d good_c good_d same touch totals there none =
       let k = g.faults in
       let next : high_in k c.cube v + 1 ≡ low_in d.cube v = touch.next in
@@ -99,21 +99,27 @@ module _ (g : Graph) (few : process_count g ≤ 128) (v : ℕ) (known : IsVariab
       (sum_parts hash_of v d.cube good_d.cube.rising (of_range k d.cube v) ld refl) in
       let high : high_in k c.cube v ≡ low_in d.cube v - 1 = omega (arith, next) in
       let end : of_range k c.cube v ≡ ended (of_range k d.cube v) (low_in c.cube v) = ap (λ (n : ℕ). record { variable = v; low = low_in c.cube v; high = n }) high in
-      none (of_range k d.cube v) ld (low_in c.cube v) rest (omega (arith, low_c, next)) (ap (λ n. n % 2 ^ 64) (sym sum_d))
+      none (of_range k d.cube v) ld refl (low_in c.cube v) rest (omega (arith, low_c, next)) (ap (λ n. n % 2 ^ 64) (sym sum_d))
       (subst (Contains totals) (ap (λ n. n % 2 ^ 64) sum_c ∙ ap (λ (l : Literal). (rest + hash_of l) % 2 ^ 64) end) there)
     where
       add_parts : (s t r w h : ℕ) → s ≡ r → t ≡ w + h → s + t ≡ r + w + h
       add_parts s t r w h e f = omega (arith, e, f)
 
-  pub settled_partners : (xs : List Column) → AreGood g xs → HaveNoPartners xs → IsSettledOn g.faults v xs
-  settled_partners xs good none c d m n e t = touch_partner c d (All-contains (λ (x : Column). IsGood g x.cube) xs c good m) (All-contains (λ (x : Column). IsGood g x.cube) xs d good n) e t
-      (map total_of xs) (Contains-map total_of xs c m) (λ l j. none d l n j)
+  -- so columns don't touch at a variable that isn't marked
+  pub settled_unmarked : (xs : List Column) → AreGood g xs → (marks : List Bool) → AreMarked marks xs → ¬ IsMarked marks v → IsSettledOn g.faults v xs
+  settled_unmarked xs good marks all off c d m n e t = touch_partner c d (All-contains (λ (x : Column). IsGood g x.cube) xs c good m) (All-contains (λ (x : Column). IsGood g x.cube) xs d good n) e t
+      (map total_of xs) (Contains-map total_of xs c m) (λ l j i. all d l n j (λ on. off (subst (IsMarked marks) i on)))
 
--- the numbers that are sorted are those of the columns
-pub partners_sorted : (columns : List Column) (sorted : List ℕ) (b : Bool) → IsPermutation (map total_of columns) sorted
-    → OnFalse b ((d : Column) (l : Literal) → Contains columns d → Contains d.cube l → HasNoPartner sorted (total_of d) l) → OnFalse b (HaveNoPartners columns)
-partners_sorted columns sorted true p h = h
-partners_sorted columns sorted false p h = λ d l m n low rest less is there. h d l m n low rest less is (Contains-permutation (map total_of columns) sorted _ p there)
+-- marks by the sums are marks by the same sums sorted
+pub marked_sorted : (columns : List Column) (marks : List Bool) (sorted : List ℕ) → IsPermutation (map total_of columns) sorted → AreMarkedBy sorted marks columns → AreMarked marks columns
+marked_sorted columns marks sorted p h = λ d l m n off low rest less is there. h d l m n off low rest less is (Contains-permutation (map total_of columns) sorted _ p there)
+
+-- and columns have the marks that they have in another order
+pub marked_permuted : (xs ys : List Column) (marks : List Bool) → IsPermutation xs ys → AreMarked marks xs → AreMarked marks ys
+marked_permuted xs ys marks p h = λ d l m n off low rest less is there.
+    let r = Contains-map_parts total_of ys ((rest + hash_of (ended l low)) % 2 ^ 64) there in
+    let back = IsPermutation-sym xs ys p in
+    h d l (Contains-permutation ys xs d back m) n off low rest less is (subst (Contains (map total_of xs)) r.2 (Contains-map total_of xs r.0 (Contains-permutation ys xs r.0 back r.1)))
 
 -- what is taken from a sum leaves one rest, up to whole rounds
 pub one_rest : (x r h i : ℕ) → (x + h) % 2 ^ 64 ≡ (r + h) % 2 ^ 64 → (x + i) % 2 ^ 64 ≡ (r + i) % 2 ^ 64
@@ -134,3 +140,21 @@ all_more P xs i d within before here m c = elim (Contains-push_cases (take i xs)
 -- and of those before the end of all
 pub all_of : {X : Type 0} (P : X → Type 0) (xs : List X) (i : ℕ) → length xs ≤ i → ((m : X) → Contains (take i xs) m → P m) → (m : X) → Contains xs m → P m
 all_of P xs i long before m c = before m (subst (λ ys. Contains ys m) (sym (take_all i xs long)) c)
+
+-- ---- marks of variables
+
+-- a mark set where there was none leaves the others
+pub mark_kept : (marks : List Bool) (place : ℕ) (b : Bool) → get_or marks place false ≡ false → (v : ℕ) → IsMarked marks v → IsMarked (slice_set marks place b) v
+mark_kept marks place b off v on = elim (cases_eq v place) [
+  | inl e ↦ absurd (true≢false (sym on ∙ ap (λ (p : ℕ). get_or marks p false) e ∙ off))
+  | inr n ↦ get_or-set_other marks place v b false n ∙ on
+]
+
+-- what isn't marked then was set so
+pub mark_off : (marks : List Bool) (place : ℕ) (b : Bool) → place < length marks → ¬ IsMarked (slice_set marks place b) place → b ≡ false
+mark_off marks place true within off = absurd (off (get_or-set_same marks place true false within))
+mark_off marks place false within off = refl
+
+-- the sum at a place is that of the column there
+pub total_at : (columns : List Column) (totals : List ℕ) (place : ℕ) (d : Column) (n : ℕ) → totals ≡ map total_of columns → place < length columns → get_or columns place d ≡ d → get_or totals place n ≡ total_of d
+total_at columns totals place d n e within is = ap (λ (ns : List ℕ). get_or ns place n) e ∙ get_or-map total_of columns place d n within ∙ ap total_of is

@@ -1,6 +1,5 @@
 -- How rows are merged: columns are sorted so that those which differ in one variable alone stand side by side, and neighbours that touch are made one, variable by variable.
 use Rattle.std.specs.Prelude.{ℕ, ◌+◌, ◌≡◌, ◌≢◌, ◌<◌, ◌≤◌, ◌⊎◌, Bool, false, not, ◌&&◌, ◌||◌, ◌==◌, if◌then◌else◌, List, [], ◌∷◌, map, filter, length, Contains, IsPermutation}
-use Rattle.std.specs.List.{list_any}
 use Rattle.std.specs.declared.cmp.Ordering.{Ordering}
 use Rattle.std.specs.Ordering.{nat_cmp, ordering_then, is_eq}
 use Rattle.std.specs.Cmp.Lexicographic.{slice_cmp}
@@ -61,10 +60,6 @@ is_any_followed_from k v c (d ∷ ds) = is_followed k v c d || is_any_followed_f
 abbrev pub is_any_followed : ℕ → ℕ → List Column → Bool
 is_any_followed k v [] = false
 is_any_followed k v (c ∷ cs) = is_any_followed_from k v c cs
-
--- whether a cube has a literal on the variable
-abbrev pub does_speak : ℕ → List Literal → Bool
-does_speak v cube = list_any (λ l. l.variable == v) cube
 
 -- columns without the literals of the whole range
 abbrev pub all_shorn : ℕ → List Column → List Column

@@ -7,6 +7,7 @@ ghost use Rattle.cpg_table.specs.Valid.{later_by};
 ghost use Rattle.cpg_table.specs.Items.{lists_of};
 ghost use Rattle.cpg_table.specs.Writing.{row_for, heard_row, rows_of_items, AreWritable, IsTableWith, AreNodeTables, AreTablesWith};
 
+use crate::counts::Counts;
 use crate::{Entry, Head, NodeItems, NodeTable, Row, Tables, head_of};
 use cpg_base::{OutOfMemory, Problem};
 use std::alloc::Global;
@@ -77,18 +78,17 @@ fn add_heard(
 fn node_rows(
     alloc: Global,
     problem: &Problem,
-    head: &Head,
     rows: &[Row],
     node: u32,
+    items: &NodeItems,
 ) -> Result<Vec<Row>, OutOfMemory>
     requires formed { WellFormed problem.now }
-    requires head { head.now ≡ head_of problem.now }
     requires rows { AreWritable problem.now rows.now }
     requires node { node < length problem.now.nodes }
+    requires items { items.now ≡ lists_of (head_of problem.now) node }
     ensures { IfOk result (λ all. all.items ≡ rows_of_items problem.now rows.now (lists_of (head_of problem.now) node)) }
 {
     let _nodes = problem.nodes();
-    let items = NodeItems::of(alloc, head, node)?;
     let mut all = Vec::new(alloc);
     all.reserve(items.all().len())?;
     add_copies(rows, items.starts(), &mut all)?;
@@ -112,11 +112,13 @@ fn node_table(
     ensures { IfOk result (IsTableWith problem.now rows.now node) }
 {
     let _nodes = problem.nodes();
-    let all = node_rows(alloc, problem, head, rows, node)?;
-    match NodeTable::new(alloc, head, node, all)? {
-        Some(table) => Ok(table),
-        None => unreachable!(),
-    }
+    let items = NodeItems::of(alloc, head, node)?;
+    let all = node_rows(alloc, problem, rows, node, &items)?;
+    let counts = Counts {
+        starts: items.starts().len(),
+        sends: items.sends().len(),
+    };
+    NodeTable::of(alloc, head, node, counts, all)
 }
 
 /// The tables of the nodes.
@@ -151,8 +153,5 @@ pub fn tables_of(alloc: Global, problem: &Problem, rows: &[Row]) -> Result<Table
     let _nodes = problem.nodes();
     let head = head_of(alloc, problem)?;
     let nodes = node_tables(alloc, problem, &head, rows)?;
-    match Tables::new(head, nodes) {
-        Some(tables) => Ok(tables),
-        None => unreachable!(),
-    }
+    Ok(Tables::of(head, nodes))
 }

@@ -3,7 +3,7 @@ ghost use Rattle.std.specs.Prelude.{◌≡◌, ◌+◌, ◌<◌, IfOk, length};
 ghost use Rattle.std.specs.List.{list_any};
 ghost use Rattle.std.specs.Cmp.Lexicographic.{slice_cmp};
 ghost use Rattle.cpg_cube.specs.Cube.{low_in, high_in, is_whole, IsRising};
-ghost use Rattle.cpg_table.specs.Merging.{without, literal_cmp, beside_cmp, column_cmp, is_followed, is_any_followed, does_speak, shorn, raised, joined, walked_over, all_shorn};
+ghost use Rattle.cpg_table.specs.Merging.{without, literal_cmp, beside_cmp, column_cmp, is_followed, is_any_followed, shorn, raised, joined, walked_over, all_shorn};
 
 use crate::Entry;
 use cpg_base::{OutOfMemory, top};
@@ -131,12 +131,24 @@ fn join(alloc: Global, faults: u8, variable: u8, a: &Entry, b: &Entry) -> Result
     })
 }
 
-/// Columns without the literals of the whole range.
-pub(crate) fn shorn_columns(
-    alloc: Global,
-    faults: u8,
-    columns: &[Entry],
-) -> Result<Vec<Entry>, OutOfMemory>
+/// Whether the cube has a literal of the whole range.
+fn has_whole(faults: u8, cube: &Cube) -> bool
+    ensures { result ≡ list_any (is_whole faults) cube.now }
+{
+    cube.literals()
+        .iter()
+        .any(|literal| is_whole(faults, literal))
+}
+
+/// Whether some column's cube has a literal of the whole range.
+fn has_any_whole(faults: u8, columns: &[Entry]) -> bool
+    ensures { result ≡ list_any (λ c. list_any (is_whole faults) c.cube) columns.now }
+{
+    columns.iter().any(|column| has_whole(faults, &column.cube))
+}
+
+/// Copies of columns without the literals of the whole range.
+fn shorn_copies(alloc: Global, faults: u8, columns: &[Entry]) -> Result<Vec<Entry>, OutOfMemory>
     ensures { IfOk result (λ r. r.items ≡ all_shorn faults columns.now) }
 {
     let mut shorn = Vec::new(alloc);
@@ -148,6 +160,20 @@ pub(crate) fn shorn_columns(
         })?;
     }
     Ok(shorn)
+}
+
+/// Columns without the literals of the whole range. They are as they were where none has one.
+pub(crate) fn shorn_columns(
+    alloc: Global,
+    faults: u8,
+    columns: Vec<Entry>,
+) -> Result<Vec<Entry>, OutOfMemory>
+    ensures { IfOk result (λ r. r.items ≡ all_shorn faults columns.items) }
+{
+    if !has_any_whole(faults, columns.as_slice()) {
+        return Ok(columns);
+    }
+    shorn_copies(alloc, faults, columns.as_slice())
 }
 
 /// Whether some column follows the one before it.
@@ -206,22 +232,4 @@ pub(crate) fn joined_columns(
         return Ok(columns);
     }
     join_neighbours(alloc, faults, variable, columns.as_slice())
-}
-
-/// Whether the cube has a literal on the variable.
-fn does_speak(variable: u8, cube: &Cube) -> bool
-    ensures { result ≡ does_speak variable cube.now }
-{
-    cube.literals()
-        .iter()
-        .any(|literal| literal.variable == variable)
-}
-
-/// Whether some column's cube has a literal on the variable.
-pub(crate) fn does_any_speak(variable: u8, columns: &[Entry]) -> bool
-    ensures { result ≡ list_any (λ c. does_speak variable c.cube) columns.now }
-{
-    columns
-        .iter()
-        .any(|column| does_speak(variable, &column.cube))
 }

@@ -4,11 +4,11 @@ ghost use Rattle.cpg_base.specs.Numbers.{numbers_below};
 ghost use Rattle.cpg_base.specs.Graph.{IsVariable, process_count};
 ghost use Rattle.cpg_table.specs.Merged.{AreMergeable, IsMergeOf};
 ghost use Rattle.cpg_table.specs.Merging.{IsShorn, IsPassed, IsBetween, AreSettled};
+ghost use Rattle.cpg_table.specs.Totals.{AreMarked};
 
 use crate::Entry;
-use crate::digests::may_touch;
-use crate::joins::{compare, does_any_speak, joined_columns, shorn_columns};
-use crate::totals::may_any_touch;
+use crate::joins::{compare, joined_columns, shorn_columns};
+use crate::marks::Marked;
 use cpg_base::{FIRST_VALUE, OutOfMemory, Problem};
 use cpg_cube::by_least_scenario;
 use cpg_order::Order;
@@ -25,18 +25,37 @@ fn joined_on(
     requires known { IsVariable problem.now variable }
     ensures { IfOk result (λ r. IsPassed problem.now (λ v. v ≡ variable) columns.items r.items) }
 {
-    if !does_any_speak(variable, columns.as_slice()) {
-        return Ok(columns);
-    }
     let k = problem.faults();
-    let may = may_touch(alloc, variable, columns.as_slice())?;
-    if !may {
-        return Ok(columns);
-    }
     // most columns stand in runs that are sorted already, of which the stable sort makes use
     let mut columns = columns;
     columns.sort_by(|a, b| compare(variable, a, b))?;
     joined_columns(alloc, k, variable, columns)
+}
+
+/// Joins columns where they touch at a variable, if it is marked.
+fn joined_at(
+    alloc: Global,
+    problem: &Problem,
+    variable: u8,
+    marked: Marked,
+) -> Result<Marked, OutOfMemory>
+    requires shorn { IsShorn problem.now marked.columns.items }
+    requires marked { AreMarked marked.marks marked.columns.items }
+    requires known { IsVariable problem.now variable }
+    ensures passed { IfOk result (λ r. IsPassed problem.now (λ v. v ≡ variable) marked.columns.items r.columns.items) }
+    ensures marked { IfOk result (λ r. AreMarked r.marks r.columns.items) }
+{
+    let _processes = problem.processes();
+    if !marked.marks[variable as usize] {
+        return Ok(marked);
+    }
+    let marks = marked.marks;
+    let before = marked.columns.len();
+    let columns = joined_on(alloc, problem, variable, marked.columns)?;
+    if columns.len() == before {
+        return Ok(Marked { columns, marks });
+    }
+    Marked::of(alloc, columns)
 }
 
 /// Joins columns where they touch at one of the variables from `first` up to `end`, which it leaves out.
@@ -45,32 +64,32 @@ fn joined_over(
     problem: &Problem,
     first: u8,
     end: u8,
-    columns: Vec<Entry>,
-) -> Result<Vec<Entry>, OutOfMemory>
-    requires shorn { IsShorn problem.now columns.items }
+    marked: Marked,
+) -> Result<Marked, OutOfMemory>
+    requires shorn { IsShorn problem.now marked.columns.items }
+    requires marked { AreMarked marked.marks marked.columns.items }
     requires known { (v : ℕ) → first ≤ v → v < end → IsVariable problem.now v }
-    ensures { IfOk result (λ r. IsPassed problem.now (IsBetween first end) columns.items r.items) }
+    ensures passed { IfOk result (λ r. IsPassed problem.now (IsBetween first end) marked.columns.items r.columns.items) }
+    ensures marked { IfOk result (λ r. AreMarked r.marks r.columns.items) }
 {
-    let mut columns = columns;
+    let mut marked = marked;
     for variable in first..end {
-        columns = joined_on(alloc, problem, variable, columns)?;
+        marked = joined_at(alloc, problem, variable, marked)?;
     }
-    Ok(columns)
+    Ok(marked)
 }
 
 /// Joins columns where they touch at any variable.
-fn joined_once(
-    alloc: Global,
-    problem: &Problem,
-    columns: Vec<Entry>,
-) -> Result<Vec<Entry>, OutOfMemory>
-    requires { IsShorn problem.now columns.items }
-    ensures { IfOk result (λ r. IsPassed problem.now (IsVariable problem.now) columns.items r.items) }
+fn joined_once(alloc: Global, problem: &Problem, marked: Marked) -> Result<Marked, OutOfMemory>
+    requires shorn { IsShorn problem.now marked.columns.items }
+    requires marked { AreMarked marked.marks marked.columns.items }
+    ensures passed { IfOk result (λ r. IsPassed problem.now (IsVariable problem.now) marked.columns.items r.columns.items) }
+    ensures marked { IfOk result (λ r. AreMarked r.marks r.columns.items) }
 {
     let processes = problem.processes().len() as u8;
-    let columns = joined_over(alloc, problem, 0, processes, columns)?;
+    let marked = joined_over(alloc, problem, 0, processes, marked)?;
     let end = FIRST_VALUE + problem.conditions() as u8;
-    joined_over(alloc, problem, FIRST_VALUE, end, columns)
+    joined_over(alloc, problem, FIRST_VALUE, end, marked)
 }
 
 /// Joins columns until no two of one time touch at any variable.
@@ -78,17 +97,12 @@ fn settled(alloc: Global, problem: &Problem, columns: Vec<Entry>) -> Result<Vec<
     requires { IsShorn problem.now columns.items }
     ensures { IfOk result (λ r. AreSettled problem.now columns.items r.items) }
 {
-    let _processes = problem.processes();
-    let mut columns = columns;
+    let mut marked = Marked::of(alloc, columns)?;
     loop {
-        let may = may_any_touch(alloc, columns.as_slice())?;
-        if !may {
-            return Ok(columns);
-        }
-        let before = columns.len();
-        columns = joined_once(alloc, problem, columns)?;
-        if columns.len() == before {
-            return Ok(columns);
+        let before = marked.columns.len();
+        marked = joined_once(alloc, problem, marked)?;
+        if marked.columns.len() == before {
+            return Ok(marked.columns);
         }
     }
 }
@@ -110,7 +124,7 @@ pub fn merged(
     requires entries { AreMergeable problem.now entries.items }
     ensures { IfOk result (λ r. IsMergeOf problem.now order.now entries.items r.items) }
 {
-    let columns = shorn_columns(alloc, problem.faults(), entries.as_slice())?;
+    let columns = shorn_columns(alloc, problem.faults(), entries)?;
     let columns = settled(alloc, problem, columns)?;
     by_least_scenario(alloc, problem, order, columns)
 }

@@ -4,7 +4,7 @@ ghost use Rattle.cpg_table.specs.Shape.{items_of};
 ghost use Rattle.cpg_table.specs.Items.{first_broadcast, own_of, starts_of, sends_of, hears_of};
 ghost use Rattle.cpg_table.specs.Lawful.{IsTable, IsTableOf, AreRowsOf, IsLawfulRow, rows_of, space_of};
 
-use crate::counts::{counts_of, have_hears, have_sends, have_starts};
+use crate::counts::{Counts, counts_of, have_hears, have_sends, have_starts};
 use crate::items::first_broadcast;
 use crate::own::{is_own_of, own_of};
 use crate::space::{Space, are_rows, space_of};
@@ -60,6 +60,34 @@ fn copy_rows(rows: &Vec<Row>) -> Result<Vec<Row>, OutOfMemory>
 }
 
 impl NodeTable {
+    /// The table of a node with the lawful rows of its items, so many of starts and so many of sends.
+    pub(crate) fn of(
+        alloc: Global,
+        head: &Head,
+        node: u32,
+        counts: Counts,
+        rows: Vec<Row>,
+    ) -> Result<NodeTable, OutOfMemory>
+        requires rows { AreRowsOf head.now node rows.items }
+        requires starts { counts.starts ≡ length (starts_of head.now node) }
+        requires sends { counts.sends ≡ length (sends_of head.now node) }
+        ensures table { IfOk result (λ t. IsTableOf head.now node t) }
+        ensures rows { IfOk result (λ t. rows_of t ≡ rows.items) }
+    {
+        let mut starts = rows;
+        let mut sends = starts.split_off(counts.starts)?;
+        let hears = sends.split_off(counts.sends)?;
+        let own = own_of(alloc, head, node)?;
+        Ok(NodeTable {
+            faults: head.faults(),
+            first_broadcast: first_broadcast(head),
+            own,
+            starts,
+            sends,
+            hears,
+        })
+    }
+
     /// The table of a node with these rows: for each item that it starts, then for each that it sends, then for each that
     /// it hears (docs/FORMATS.md). `None` exactly where the rows aren't those of the node's items, or one isn't lawful.
     pub fn new(
@@ -78,18 +106,8 @@ impl NodeTable {
         let Some(counts) = counts_of(head, node, rows.as_slice()) else {
             return Ok(None);
         };
-        let mut starts = rows;
-        let mut sends = starts.split_off(counts.starts)?;
-        let hears = sends.split_off(counts.sends)?;
-        let own = own_of(alloc, head, node)?;
-        Ok(Some(NodeTable {
-            faults: head.faults(),
-            first_broadcast: first_broadcast(head),
-            own,
-            starts,
-            sends,
-            hears,
-        }))
+        let table = NodeTable::of(alloc, head, node, counts, rows)?;
+        Ok(Some(table))
     }
 
     /// How many faults the table bears.

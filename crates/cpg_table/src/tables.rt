@@ -81,6 +81,14 @@ fn are_columns_few(nodes: &[NodeTable]) -> bool
 }
 
 impl Tables {
+    /// The tables of all nodes under a head.
+    pub(crate) fn of(head: Head, nodes: Vec<NodeTable>) -> Tables
+        requires { AreTablesOf head nodes.items }
+        ensures { result ≡ record { head = head; nodes = nodes.items } }
+    {
+        Tables { head, nodes }
+    }
+
     /// These tables under this head, and `None` exactly where there isn't one for each node, one isn't that of its node
     /// under this head, or all together have more than 524,288 columns.
     pub fn new(head: Head, nodes: Vec<NodeTable>) -> Option<Tables>

@@ -1,15 +1,32 @@
 //! Sums over literals by which it is found whether any two columns touch.
 ghost use Rattle.std.specs.Prelude.{◌≡◌, ◌+◌, ◌%◌, ◌^◌, ◌≤◌, ◌<◌, Contains, IfOk, map};
 ghost use Rattle.std.specs.Bool.{OnFalse};
-ghost use Rattle.cpg_cube.specs.declared.literal.Literal.{Literal};
-ghost use Rattle.cpg_table.specs.Table.{Column};
-ghost use Rattle.cpg_table.specs.Totals.{DoNotFall, HasNoPartner, HaveNoPartners, hash_of, total_of};
+ghost use Rattle.cpg_table.specs.Totals.{DoNotFall, HasNoPartner, hash_of, mixed, number_of, total_of};
 
 use crate::Entry;
-use crate::digests::{mixed, number_of};
 use cpg_base::OutOfMemory;
 use cpg_cube::Literal;
 use std::alloc::Global;
+
+/// The multiplier of Knuth's linear congruential generator of 64 bits.
+const MULTIPLIER: u64 = 6_364_136_223_846_793_005;
+
+/// A sum with one number more, spread.
+fn mixed(sum: u64, number: u64) -> u64
+    ensures { result ≡ mixed sum number }
+{
+    sum.wrapping_add(number).wrapping_mul(MULTIPLIER)
+}
+
+/// A number for a literal, another for each.
+fn number_of(literal: Literal) -> u64
+    ensures { result ≡ number_of literal }
+{
+    let variable = u64::from(literal.variable);
+    let low = u64::from(literal.low);
+    let high = u64::from(literal.high);
+    variable * 65536 + low * 256 + high
+}
 
 /// A number for a literal: sums of several of these are equal by chance alone.
 fn hash_of(literal: Literal) -> u64
@@ -34,7 +51,7 @@ fn total_of(column: &Entry) -> u64
 }
 
 /// The sums of columns.
-fn totals(alloc: Global, columns: &[Entry]) -> Result<Vec<u64>, OutOfMemory>
+pub(crate) fn totals(alloc: Global, columns: &[Entry]) -> Result<Vec<u64>, OutOfMemory>
     ensures { IfOk result (λ totals. totals.items ≡ map total_of columns.now) }
 {
     let mut totals = Vec::new(alloc);
@@ -61,10 +78,13 @@ fn is_there(sorted: &[u64], number: u64) -> bool
 }
 
 /// Whether a column with this sum may follow another at a literal.
-fn has_partner(sorted: &[u64], total: u64, literal: Literal) -> bool
+pub(crate) fn has_partner(sorted: &[u64], total: u64, literal: Literal) -> bool
     requires { DoNotFall sorted.now }
     ensures { OnFalse result (HasNoPartner sorted.now total literal) }
 {
+    if literal.low == 0 {
+        return false;
+    }
     let rest = rest_of(total, hash_of(literal));
     for low in 0..literal.low {
         let ended = Literal {
@@ -77,39 +97,4 @@ fn has_partner(sorted: &[u64], total: u64, literal: Literal) -> bool
         }
     }
     false
-}
-
-/// Whether a column with this sum may follow another at one of its literals.
-fn has_any_partner(sorted: &[u64], total: u64, literals: &[Literal]) -> bool
-    requires { DoNotFall sorted.now }
-    ensures { OnFalse result ((l : Literal) → Contains literals.now l → HasNoPartner sorted.now total l) }
-{
-    for literal in literals {
-        if has_partner(sorted, total, *literal) {
-            return true;
-        }
-    }
-    false
-}
-
-/// Whether some column may follow one with a sum among these.
-fn have_partners(sorted: &[u64], columns: &[Entry]) -> bool
-    requires { DoNotFall sorted.now }
-    ensures { OnFalse result ((d : Column) (l : Literal) → Contains columns.now d → Contains d.cube l → HasNoPartner sorted.now (total_of d) l) }
-{
-    for column in columns {
-        if has_any_partner(sorted, total_of(column), column.cube.literals()) {
-            return true;
-        }
-    }
-    false
-}
-
-/// Whether any two columns may touch at any variable.
-pub(crate) fn may_any_touch(alloc: Global, columns: &[Entry]) -> Result<bool, OutOfMemory>
-    ensures { IfOk result (λ may. OnFalse may (HaveNoPartners columns.now)) }
-{
-    let mut sorted = totals(alloc, columns)?;
-    sorted.sort_unstable();
-    Ok(have_partners(sorted.as_slice(), columns))
 }

@@ -3,14 +3,14 @@ use Rattle.cpg_table.specs.Lawful.{Tables, AreTablesOf}
 use Rattle.cpg_table.proofs.TablesWith.{lawful, tables_with}
 use Rattle.cpg_table.proofs.assembling.tables_of.Goals as goal
 
-pub unreachable-requires : goal.unreachable-requires
-unreachable-requires c =
+pub of-requires : goal.of-requires
+of-requires c =
     let g = c.args.problem.now in
-    c.in-None.ensures.refused (subst (λ h. AreTablesOf h c.in_ok-nodes.nodes.items) (sym c.in_ok-head.ensures)
-    (lawful g c.nodes-nodes.ensures.within c.requires.formed c.args.rows.now c.requires.rows c.in_ok-nodes.nodes.items c.in_ok-nodes.ensures))
+    subst (λ h. AreTablesOf h c.in_ok-nodes.nodes.items) (sym c.in_ok-head.ensures)
+    (lawful g c.nodes-nodes.ensures.within c.requires.formed c.args.rows.now c.requires.rows c.in_ok-nodes.nodes.items c.in_ok-nodes.ensures)
 
 pub returns : goal.returns
 returns c =
     let g = c.args.problem.now in
-    tables_with g c.nodes-nodes.ensures.within c.requires.formed c.args.rows.now c.requires.rows c.in_ok-nodes.nodes.items c.in_ok-nodes.ensures c.in-Some.tables
-    (ap (λ (t : Tables). t.head) c.in-Some.ensures.tables ∙ c.in_ok-head.ensures) (ap (λ (t : Tables). t.nodes) c.in-Some.ensures.tables)
+    tables_with g c.nodes-nodes.ensures.within c.requires.formed c.args.rows.now c.requires.rows c.in_ok-nodes.nodes.items c.in_ok-nodes.ensures c.of.result
+    (ap (λ (t : Tables). t.head) c.of.ensures ∙ c.in_ok-head.ensures) (ap (λ (t : Tables). t.nodes) c.of.ensures)

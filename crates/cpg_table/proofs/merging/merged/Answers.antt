@@ -1,4 +1,4 @@
-use Rattle.std.proofs.Common.{IsPermutation, Result, Ok, Err, sym, ap₂, ◌∙◌, subst}
+use Rattle.std.proofs.Common.{IsPermutation, Result, Ok, Err, sym, ap, ◌∙◌, subst}
 use Rattle.std.specs.Result.{IfOk}
 use Rattle.cpg_cube.specs.Keys.{AreByLows}
 use Rattle.cpg_table.specs.Table.{Column}
@@ -15,7 +15,7 @@ if_ok_both (Err e) P Q R h p q = tt
 pub settled-requires : goal.settled-requires
 settled-requires c =
     let g = c.args.problem.now in
-    subst (IsShorn g) (sym (c.in_ok-columns.ensures ∙ ap₂ all_shorn c.faults.ensures.faults c.as_slice.ensures.value))
+    subst (IsShorn g) (sym (c.in_ok-columns.ensures ∙ ap (λ k. all_shorn k c.args.entries.items) c.faults.ensures.faults))
     (shorn_columns g c.faults.ensures.within.few_processes c.args.entries.items c.requires.entries)
 
 pub returns : goal.returns
@@ -25,7 +25,7 @@ returns c =
     let entries = c.args.entries.items in
     let columns = c.in_ok-columns-2.columns.items in
     let settled : AreSettled g (all_shorn g.faults entries) columns =
-    subst (λ before. AreSettled g before columns) (c.in_ok-columns.ensures ∙ ap₂ all_shorn c.faults.ensures.faults c.as_slice.ensures.value) c.in_ok-columns-2.ensures in
+    subst (λ before. AreSettled g before columns) (c.in_ok-columns.ensures ∙ ap (λ k. all_shorn k c.args.entries.items) c.faults.ensures.faults) c.in_ok-columns-2.ensures in
     if_ok_both c.by_least_scenario.result (λ r. IsPermutation columns r.items) (λ r. AreByLows (λ (e : Column). e.cube) g order r.items) (λ r. IsMergeOf g order entries r.items)
     (λ r p up. merge_of g c.faults.ensures.within.few_processes order c.requires.order entries columns r.items c.requires.entries settled p up)
     c.by_least_scenario.ensures.permutation c.by_least_scenario.ensures.by_lows

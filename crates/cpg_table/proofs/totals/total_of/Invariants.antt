@@ -1,6 +1,5 @@
 use Rattle.std.proofs.Common.{◌≡◌, ◌+◌, ◌%◌, ◌^◌, take, sum_by}
-use Rattle.cpg_table.specs.Digests.{mixed}
-use Rattle.cpg_table.specs.Totals.{hash_of}
+use Rattle.cpg_table.specs.Totals.{mixed, hash_of}
 use Rattle.cpg_table.proofs.totals.total_of.Given as goal
 
 abbrev pub invariant-loop-literal : goal.invariant-loop-literal

@@ -1,0 +1,36 @@
+use Rattle.std.proofs.Common.{◌≡◌, ◌∙◌, ◌++◌, All, List, take, drop, sym, ap, ap₂, subst}
+use Rattle.cpg_table.specs.Table.{Row}
+use Rattle.cpg_table.specs.Shape.{items_of}
+use Rattle.cpg_table.specs.Items.{starts_of, sends_of, hears_of}
+use Rattle.cpg_table.specs.Lawful.{IsLawfulRow, space_of}
+use Rattle.std.proofs.lemmas.List.{take-append-drop}
+use Rattle.cpg_table.proofs.TableRows.{first_items, second_items, third_items}
+use Rattle.cpg_table.proofs.node_table.NodeTable.of.Goals as goal
+
+pub returns-clause-table : goal.returns-clause-table
+returns-clause-table c =
+    let rows : List Row = c.args.rows.items in
+    let n = c.args.counts.starts in
+    let m = c.args.counts.sends in
+    let xs = starts_of c.args.head.now c.args.node in
+    let ys = sends_of c.args.head.now c.args.node in
+    let zs = hears_of c.args.head.now c.args.node in
+    let is : items_of rows ≡ xs ++ (ys ++ zs) = c.requires.rows.items in
+    let starts : c.split_off.new.self.items ≡ take n rows = c.in_ok-sends.ensures.items in
+    let rest : c.in_ok-sends.sends.items ≡ drop n rows = c.in_ok-sends.ensures.tail in
+    let sends : c.split_off-2.new.self.items ≡ take m (drop n rows) = c.in_ok-hears.ensures.items ∙ ap (take m) rest in
+    let hears : c.in_ok-hears.hears.items ≡ drop m (drop n rows) = c.in_ok-hears.ensures.tail ∙ ap (drop m) rest in
+    let all : c.split_off.new.self.items ++ (c.split_off-2.new.self.items ++ c.in_ok-hears.hears.items) ≡ rows =
+    ap₂ (λ ps qs. ps ++ qs) starts (ap₂ (λ ps qs. ps ++ qs) sends hears ∙ take-append-drop m (drop n rows)) ∙ take-append-drop n rows in
+    record {
+      faults = c.faults.ensures.faults;
+      first_broadcast = c.first_broadcast.ensures;
+      own = c.in_ok-own.ensures;
+      starts = ap items_of starts ∙ first_items rows xs ys zs is n c.requires.starts;
+      sends = ap items_of sends ∙ second_items rows xs ys zs is n m c.requires.starts c.requires.sends;
+      hears = ap items_of hears ∙ third_items rows xs ys zs is n m c.requires.starts c.requires.sends;
+      lawful = subst (All (IsLawfulRow (space_of c.args.head.now))) (sym all) c.requires.rows.lawful;
+    }
+
+pub invariant_of-result : goal.invariant_of-result
+invariant_of-result c = record { head = c.args.head.now; node = c.args.node; lawful = c.faults.ensures.within; of = returns-clause-table c }
