@@ -14,30 +14,30 @@ use Rattle.cpg_tree.specs.Space.{Space, Lies, beyond, faults_of, more_asked}
 use Rattle.cpg_tree.proofs.Spaces.{count_is}
 
 -- the numbers of a function but for one
-abbrev without : ℕ → (ℕ → ℕ) → ℕ → ℕ
+abbrev pub without : ℕ → (ℕ → ℕ) → ℕ → ℕ
 without v f u = cond (u == v) 0 (f u)
 
-without_here : (v : ℕ) (f : ℕ → ℕ) → without v f v ≡ 0
+pub without_here : (v : ℕ) (f : ℕ → ℕ) → without v f v ≡ 0
 without_here v f = cond-true (v == v) 0 (f v) (eq-eqb v v refl)
 
-without_other : (v u : ℕ) (f : ℕ → ℕ) → u ≢ v → without v f u ≡ f u
+pub without_other : (v u : ℕ) (f : ℕ → ℕ) → u ≢ v → without v f u ≡ f u
 without_other v u f n = cond-false (u == v) 0 (f u) (ne_eqb u v n)
 
-module _ (room : Space) where
-  -- what a literal asks for is at most a number of its variable
-  demands_le : (f : ℕ → ℕ) (ls : List Literal) → IsRising ls → ((l : Literal) → Contains ls l → l.variable < 128 → more_asked room l ≤ f l.variable) → sum_by (more_asked room) ls ≤ sum_by f (numbers_below 128)
-  demands_le f [] rising each = omega arith
-  demands_le f (l ∷ ls) rising each = elim (cases_lt l.variable 128) [
-    | inl few ↦
-        let rest = demands_le (without l.variable f) ls (rising_rest l ls rising) (λ m c h.
-        subst (λ n. more_asked room m ≤ n) (sym (without_other l.variable m.variable f (λ e. omega (arith, e, rising_first l m ls rising c)))) (each m (Contains-rest l ls m c) h)) in
-        let changed = sum_changed (without l.variable f) f 128 l.variable few (λ u n. without_other l.variable u f n) in
-        omega (arith, rest, changed, without_here l.variable f, each l (Contains-first l ls) few, sum_by-cons (more_asked room) l ls)
-    | inr many ↦
-        let rest = demands_le f ls (rising_rest l ls rising) (λ m c h. each m (Contains-rest l ls m c) h) in
-        omega (arith, rest, cond-false (nat_lt l.variable 128) (l.low - get_or room.low l.variable 0) 0 (le-ltb l.variable 128 many), sum_by-cons (more_asked room) l ls)
-  ]
+-- what each literal is given is at most a number of its variable, or nothing from a variable on
+pub weights_le : (g : Literal → ℕ) (n : ℕ) (f : ℕ → ℕ) (ls : List Literal) → IsRising ls → ((l : Literal) → Contains ls l → l.variable < n → g l ≤ f l.variable) → ((l : Literal) → n ≤ l.variable → g l ≤ 0) → sum_by g ls ≤ sum_by f (numbers_below n)
+weights_le g n f [] rising each none = omega arith
+weights_le g n f (l ∷ ls) rising each none = elim (cases_lt l.variable n) [
+  | inl few ↦
+      let rest = weights_le g n (without l.variable f) ls (rising_rest l ls rising) (λ m c h.
+      subst (λ x. g m ≤ x) (sym (without_other l.variable m.variable f (λ e. omega (arith, e, rising_first l m ls rising c)))) (each m (Contains-rest l ls m c) h)) none in
+      let changed = sum_changed (without l.variable f) f n l.variable few (λ u d. without_other l.variable u f d) in
+      omega (arith, rest, changed, without_here l.variable f, each l (Contains-first l ls) few, sum_by-cons g l ls)
+  | inr many ↦
+      let rest = weights_le g n f ls (rising_rest l ls rising) (λ m c h. each m (Contains-rest l ls m c) h) none in
+      omega (arith, rest, none l many, sum_by-cons g l ls)
+]
 
+module _ (room : Space) where
   module _ (s : Scenario) (lies : Lies room s) (ls : List Literal) (rising : IsRising ls) (all : matches ls s ≡ true) where
     beyond_le : (l : Literal) → Contains ls l → l.variable < 128 → more_asked room l ≤ beyond room s l.variable
     beyond_le l c few =
@@ -46,7 +46,7 @@ module _ (room : Space) where
 
     pub demands_left : (from : ℕ) → sum_by (more_asked room) (drop from ls) ≤ room.left
     demands_left from =
-        let all_of = demands_le (beyond room s) ls rising beyond_le in
+        let all_of = weights_le (more_asked room) 128 (beyond room s) ls rising beyond_le (λ l many. omega (arith, cond-false (nat_lt l.variable 128) (l.low - get_or room.low l.variable 0) 0 (le-ltb l.variable 128 many))) in
         omega (arith, all_of, lies.left, sum_by-take-drop (more_asked room) ls from)
 
   -- the next literal's demand, and the rest

@@ -1,6 +1,5 @@
--- The first of the greatest times of columns in order is at the least scenario that has it.
-use Rattle.std.proofs.Common.{ℕ, ◌<◌, ◌≤◌, ◌≡◌, ◌⊎◌, true, false, List, [], length, get_or, Option, Some, None, All, Contains, IsPermutation, arith, refl, sym, ap, ap₂, ◌∙◌, subst, inl, inr}
-use Rattle.std.proofs.lemmas.Bool.{cases_order}
+-- The column with the first lows has the least scenario with a number.
+use Rattle.std.proofs.Common.{ℕ, ◌≤◌, ◌≡◌, true, false, List, [], get_or, Option, Some, None, All, Contains, IsPermutation, refl, sym, ap, ap₂, ◌∙◌, subst, inl, inr}
 use Rattle.std.proofs.lemmas.List.{get_or_default}
 use Rattle.std.proofs.lemmas.List.Elements.{All-contains, Contains-get_or}
 use Rattle.std.proofs.lemmas.List.Sorted.{IsPermutation-sym, Contains-permutation}
@@ -12,12 +11,12 @@ use Rattle.cpg_order.proofs.ScenarioOrder.{not_before_transitive}
 use Rattle.cpg_cube.specs.declared.literal.Literal.{Literal}
 use Rattle.cpg_cube.specs.Cube.{matches, low_in}
 use Rattle.cpg_cube.specs.Fit.{lows, is_met}
-use Rattle.cpg_cube.specs.Keys.{lows_along, AreByLows}
+use Rattle.cpg_cube.specs.Keys.{lows_along, IsFirstByLows}
 use Rattle.cpg_cube.proofs.CubeLows.{lows-least}
 use Rattle.cpg_cube.proofs.KeyLows.{lows_are_key}
 use Rattle.cpg_tree.specs.Columns.{column_of, columns_of_paths, IsTidyColumn}
 use Rattle.cpg_tree.specs.Tree.{Path}
-use Rattle.cpg_tree.specs.Greatest.{IsGreatestOf, IsFirstGreatest}
+use Rattle.cpg_tree.specs.Greatest.{HasNumber}
 
 least_of_column : (g : Graph) → process_count g ≤ 128 → (c : ℕ × List Literal) → IsTidyColumn g c → (order : List ℕ) → IsLeast g order (λ s. matches c.1 s ≡ true) (lows g c.1)
 least_of_column g few c tidy order = lows-least g few c.1 tidy.cube tidy.met order
@@ -53,10 +52,10 @@ module _ (paths : List (Path (Option ℕ))) (columns : List (ℕ × List Literal
       by_value None e = refl
       by_value (Some t) e = absurd (Contains-nil (t, x.0) (subst (λ (cs : List (ℕ × List Literal)). Contains cs (t, x.0)) none (column_there x t j e)))
 
-  module _ (g : Graph) (few : process_count g ≤ 128) (order : List ℕ) (all : IsPermutation (numbers_below (process_count g)) order) (tidy : All (IsTidyColumn g) columns) (sorted : AreByLows (λ (c : ℕ × List Literal). c.1) g order columns)
-      (at : ℕ) (greatest : IsFirstGreatest (length columns) columns at) (c : ℕ × List Literal) (is : get_or columns at c ≡ c) where
+  module _ (g : Graph) (few : process_count g ≤ 128) (order : List ℕ) (all : IsPermutation (numbers_below (process_count g)) order) (tidy : All (IsTidyColumn g) columns)
+      (at : ℕ) (first : IsFirstByLows (λ (c : ℕ × List Literal). c.1) g order columns at) (c : ℕ × List Literal) (is : get_or columns at c ≡ c) where
     here : Contains columns c
-    here = subst (Contains columns) is (Contains-get_or columns at c greatest.there)
+    here = subst (Contains columns) is (Contains-get_or columns at c first.there)
 
     tidy_at : (d : ℕ × List Literal) → Contains columns d → IsTidyColumn g d
     tidy_at d j = All-contains (IsTidyColumn g) columns d tidy j
@@ -64,41 +63,24 @@ module _ (paths : List (Path (Option ℕ))) (columns : List (ℕ × List Literal
     pub column_met : is_met g.faults c.1 ≡ true
     column_met = (tidy_at c here).met
 
-    most : (x : Path (Option ℕ)) (other : ℕ) → Contains paths x → x.1 ≡ Some other → other ≤ c.0
-    most x other j e =
-        let d = column_there x other j e in
-        omega (arith, greatest.most d.0 c (length_of d), ap (λ (d : ℕ × List Literal). d.0) (place_of d c), ap (λ (d : ℕ × List Literal). d.0) is)
-      where
-        length_of : (d : Contains columns (other, x.0)) → d.0 < length columns
-        length_of d = d.1
-
-        place_of : (d : Contains columns (other, x.0)) (e : ℕ × List Literal) → get_or columns d.0 e ≡ (other, x.0)
-        place_of d e = get_or_default columns d.0 e (other, x.0) d.1 ∙ d.2
-
-    -- a scenario of the same time is not before the column's least
-    not_earlier : (u : Scenario) → IsScenario g u → (d : ℕ × List Literal) → (k : Contains columns d) → d.0 ≡ c.0 → matches d.1 u ≡ true → (k.0 ≡ at) ⊎ ((k.0 < at) ⊎ (at < k.0)) → is_before g order u (lows g c.1) ≡ false
-    not_earlier u law d k same m (inl e) =
-        let one : d ≡ c = sym k.2 ∙ ap (λ i. get_or columns i d) e ∙ get_or_default columns at d c greatest.there ∙ is in
-        (least_of_column g few c (tidy_at c here) order).least u law (subst (λ (b : ℕ × List Literal). matches b.1 u ≡ true) one m)
-    not_earlier u law d k same m (inr (inl earlier)) =
-        absurd (omega (arith, greatest.first k.0 d earlier, ap (λ (b : ℕ × List Literal). b.0) k.2, same, ap (λ (b : ℕ × List Literal). b.0) (get_or_default columns at d c greatest.there ∙ is)))
-    not_earlier u law d k same m (inr (inr later)) =
+    -- a scenario of a column is not before the column's least
+    not_earlier : (u : Scenario) → IsScenario g u → (d : ℕ × List Literal) → Contains columns d → matches d.1 u ≡ true → is_before g order u (lows g c.1) ≡ false
+    not_earlier u law d k m =
         let below : is_below (lows_along g order (low_in d.1)) (lows_along g order (low_in c.1)) ≡ false =
         subst (λ (b : ℕ × List Literal). is_below (lows_along g order (low_in b.1)) (lows_along g order (low_in c.1)) ≡ false) k.2
-        (subst (λ (b : ℕ × List Literal). is_below (lows_along g order (low_in (get_or columns k.0 d).1)) (lows_along g order (low_in b.1)) ≡ false) (get_or_default columns at d c greatest.there ∙ is) (sorted at k.0 d later k.1)) in
+        (subst (λ (b : ℕ × List Literal). is_below (lows_along g order (low_in (get_or columns k.0 d).1)) (lows_along g order (low_in b.1)) ≡ false) (get_or_default columns at d c first.there ∙ is) (first.first k.0 d k.1)) in
         let order_of : is_before g order (lows g d.1) (lows g c.1) ≡ false =
         ap₂ is_below (sym (lows_are_key g few d.1 (tidy_at d k).met order all)) (sym (lows_are_key g few c.1 (tidy_at c here).met order all)) ∙ below in
         not_before_transitive g order (lows g c.1) (lows g d.1) u order_of ((least_of_column g few d (tidy_at d k) order).least u law m)
 
-    pub greatest_of_columns : IsGreatestOf g order paths c.0 (lows g c.1)
-    greatest_of_columns = record {
-      most = most;
-      least = record {
-        lawful = (least_of_column g few c (tidy_at c here) order).lawful;
-        holds = let x = path_there c here in
-            (x.0, record { stands = x.1; matched = subst (λ (ls : List Literal). matches ls (lows g c.1) ≡ true) (sym x.3) (least_of_column g few c (tidy_at c here) order).holds }, x.2);
-        least = λ u law has.
-            let k = column_there has.0 c.0 has.1.stands has.2 in
-            not_earlier u law (c.0, has.0.0) k refl has.1.matched (cases_order k.0 at);
-      };
+    pub least_of_columns : IsLeast g order (HasNumber paths) (lows g c.1)
+    least_of_columns = record {
+      lawful = (least_of_column g few c (tidy_at c here) order).lawful;
+      holds =
+          let x = path_there c here in
+          record {
+            number = c.0;
+            has = (x.0, record { stands = x.1; matched = subst (λ (ls : List Literal). matches ls (lows g c.1) ≡ true) (sym x.3) (least_of_column g few c (tidy_at c here) order).holds }, x.2);
+          };
+      least = λ u law h. not_earlier u law (h.number, h.has.0.0) (column_there h.has.0 h.number h.has.1.stands h.has.2) h.has.1.matched;
     }

@@ -1,5 +1,6 @@
 pub mod Spaces
 pub mod Forks
+pub mod Greatness
 pub mod Fits
 pub mod PathLaws
 pub mod Publics
@@ -15,3 +16,4 @@ pub mod SpotLaws
 pub mod OnePath
 pub mod Most
 pub mod Gathered
+pub mod SliceLaws

@@ -1,12 +1,13 @@
 -- The greatest number of a tree is that of the tree of this number alone.
-use Rattle.std.proofs.Common.{ℕ, ◌<◌, ◌≤◌, ◌≡◌, ◌≢◌, ◌⊎◌, ◌==◌, max, List, [], ◌∷◌, ◌++◌, length, filter, Option, Some, None, unwrap_or, All, Contains, arith, refl, sym, ap, ◌∙◌, subst, inl, inr, eq-eqb, ne_eqb}
+use Rattle.std.proofs.Common.{ℕ, ◌≤◌, ◌≡◌, ◌⊎◌, ◌==◌, max, List, [], length, filter, get_or, Option, Some, None, unwrap_or, All, Contains, arith, refl, sym, ap, ◌∙◌, subst, inl, inr, eq-eqb, ne_eqb}
+use Rattle.std.specs.Option.{IfNone, IfSome}
 use Rattle.std.proofs.lemmas.Bool.{cases_eq, cases_lt, cond-true, cond-false}
-use Rattle.std.proofs.lemmas.List.Elements.{All-contains, Contains-append_left, Contains-append_right, Contains-append_cases}
+use Rattle.std.proofs.lemmas.List.Elements.{All-contains, Contains-append_left, Contains-append_right, Contains-append_cases, Contains-get_or}
 use Rattle.std.proofs.lemmas.Option.{none-some}
 use Rattle.std.proofs.lemmas.List.Sorted.{IsPermutation-refl}
 use Rattle.cpg_base.specs.Graph.{Graph, process_count}
 use Rattle.cpg_base.proofs.Lists.{Contains-first, Contains-cases, Contains-nil, Contains-flat_map}
-use Rattle.cpg_order.specs.Scenario.{Scenario, IsScenario}
+use Rattle.cpg_order.specs.Scenario.{Scenario, IsScenario, IsLeast}
 use Rattle.cpg_cube.specs.declared.literal.Literal.{Literal}
 use Rattle.cpg_cube.specs.Cover.{narrowed_by}
 use Rattle.cpg_cube.specs.Fit.{IsKnown, lows}
@@ -17,7 +18,7 @@ use Rattle.cpg_tree.specs.Paths.{up_to, above, paths_from, paths_of}
 use Rattle.cpg_tree.specs.Columns.{column_of, columns_of_paths, IsTidyColumn}
 use Rattle.cpg_tree.specs.Space.{HasFew}
 use Rattle.cpg_tree.specs.Tree.{Path, TreeState, is_on, IsOn, IsMap, HasOnePathEach}
-use Rattle.cpg_tree.specs.Greatest.{IsGreatestOf, HasValue, greater, most_of, kept}
+use Rattle.cpg_tree.specs.Greatest.{IsGreatestOf, HasNumber, HasValue, IsMost, IsReached, greater, most_of, kept}
 use Rattle.cpg_tree.proofs.OnePath.{scenario_few, the_path}
 use Rattle.cpg_tree.proofs.PathLaws.{one_path}
 use Rattle.cpg_tree.proofs.Tidy.{tidy_columns}
@@ -78,6 +79,34 @@ no_most k node none p c = by_value p.1 refl
     by_value None e = refl
     by_value (Some n) e = absurd (subst (λ o. IsUnder o n) none (under_most k node [] p n c e))
 
+-- some scenario has the greatest
+most_reached : (g : Graph) (node : Node (Option ℕ)) → IsGood g.faults node → (m : ℕ) → most_of node ≡ Some m → process_count g ≤ 128 → All (λ p. IsKnown g p.0) (paths_of g.faults node) → IsReached g (paths_of g.faults node) m
+most_reached g node good m most processes known =
+    let paths = paths_of g.faults node in
+    let x = most_there g.faults node [] m most in
+    let column : Contains (columns_of_paths paths) (m, x.0.0) = Contains-flat_map (λ (p : Path (Option ℕ)). column_of p.0 p.1) paths x.0 (m, x.0.0) x.1 (subst (λ o. Contains (column_of x.0.0 o) (m, x.0.0)) (sym x.2) (Contains-first (m, x.0.0) [])) in
+    let tidy = All-contains (IsTidyColumn g) (columns_of_paths paths) (m, x.0.0) (tidy_columns g processes node good known (columns_of_paths paths) (IsPermutation-refl (columns_of_paths paths))) column in
+    let least = lows-least g processes x.0.0 tidy.cube tidy.met [] in
+    record { scenario = lows g x.0.0; lawful = least.lawful; has = (x.0, record { stands = x.1; matched = least.holds }, x.2) }
+
+most_is : (k : ℕ) (node : Node (Option ℕ)) → IsGood k node → (m : ℕ) → most_of node ≡ Some m → IsMost (record { faults = k; paths = paths_of k node }) m
+most_is k node good m most = record {
+  above = λ p n c e. subst (λ o. IsUnder o n) most (under_most k node [] p n c e);
+  there = most_there k node [] m most;
+  reached = λ g processes same known.
+      subst (λ n. IsReached g (paths_of n node) m) (sym same) (most_reached g node (subst (λ n. IsGood n node) same good) m most processes (subst (λ n. All (λ p. IsKnown g p.0) (paths_of n node)) same known));
+}
+
+-- ---- as what a call answers
+
+pub most_none : (k : ℕ) (node : Node (Option ℕ)) (o : Option ℕ) → o ≡ most_of node → IfNone o (All (λ (p : Path (Option ℕ)). p.1 ≡ None) (paths_of k node))
+most_none k node None e = λ i d l. no_most k node (sym e) (get_or (paths_of k node) i d) (Contains-get_or (paths_of k node) i d l)
+most_none k node (Some m) e = tt
+
+pub most_some : (k : ℕ) (node : Node (Option ℕ)) → IsGood k node → (o : Option ℕ) → o ≡ most_of node → IfSome o (IsMost (record { faults = k; paths = paths_of k node }))
+most_some k node good None e = tt
+most_some k node good (Some m) e = most_is k node good m (sym e)
+
 -- ---- the tree of the greatest alone
 
 kept_same : (m : ℕ) → kept m (Some m) ≡ Some m
@@ -106,28 +135,24 @@ module _ (g : Graph) (node : Node (Option ℕ)) (good : IsGood g.faults node) (m
       let z = the_path g.faults only.paths each s (scenario_few g s law) in
       (z.0, z.1, map.value s has.0 z.0 (few s law) has.1 z.1 ∙ ap (kept m) has.2 ∙ kept_same m)
 
-  pub greatest_alone : (order : List ℕ) (time : ℕ) (s : Scenario) → IsGreatestOf g order only.paths time s → IsGreatestOf g order all.paths m s
-  greatest_alone order time s h =
-      let z = h.least.holds in
-      let x = path_of s h.least.lawful in
-      let parts = kept_is m x.0.1 time (sym (map.value s x.0 z.0 (few s h.least.lawful) x.1 z.1) ∙ z.2) in
+  -- the least scenario of the one is that of the other
+  pub least_alone : (order : List ℕ) (s : Scenario) → IsLeast g order (HasNumber only.paths) s → IsGreatestOf g order all.paths m s
+  least_alone order s h =
+      let z = h.holds.has in
+      let x = path_of s h.lawful in
+      let parts = kept_is m x.0.1 h.holds.number (sym (map.value s x.0 z.0 (few s h.lawful) x.1 z.1) ∙ z.2) in
       record {
         most = λ p n c e. subst (λ o. IsUnder o n) most (under_most g.faults node [] p n (subst (λ (t : TreeState (Option ℕ)). Contains t.paths p) (sym is) c) e);
         least = record {
-          lawful = h.least.lawful;
+          lawful = h.lawful;
           holds = (x.0, x.1, parts.0);
-          least = λ u law has. h.least.least u law (subst (λ n. HasValue only.paths (Some n) u) (sym parts.1) (alone u law has));
+          least = λ u law has. h.least u law (record { number = m; has = alone u law has });
         };
       }
 
   -- some scenario has it
   pub some_alone : process_count g ≤ 128 → All (λ p. IsKnown g p.0) (paths_of g.faults node) → All (λ (p : Path (Option ℕ)). p.1 ≡ None) only.paths → ⊥
   some_alone processes known none =
-      let paths = paths_of g.faults node in
-      let x = most_there g.faults node [] m most in
-      let column : Contains (columns_of_paths paths) (m, x.0.0) = Contains-flat_map (λ (p : Path (Option ℕ)). column_of p.0 p.1) paths x.0 (m, x.0.0) x.1 (subst (λ o. Contains (column_of x.0.0 o) (m, x.0.0)) (sym x.2) (Contains-first (m, x.0.0) [])) in
-      let tidy = All-contains (IsTidyColumn g) (columns_of_paths paths) (m, x.0.0) (tidy_columns g processes node good known (columns_of_paths paths) (IsPermutation-refl (columns_of_paths paths))) column in
-      let least = lows-least g processes x.0.0 tidy.cube tidy.met [] in
-      let on : IsOn all.paths (lows g x.0.0) x.0 = record { stands = subst (λ (t : TreeState (Option ℕ)). Contains t.paths x.0) is x.1; matched = least.holds } in
-      let z = alone (lows g x.0.0) least.lawful (x.0, on, x.2) in
+      let r = most_reached g node good m most processes known in
+      let z = alone r.scenario r.lawful (subst (λ (t : TreeState (Option ℕ)). HasValue t.paths (Some m) r.scenario) is r.has) in
       none-some m (sym (All-contains (λ (p : Path (Option ℕ)). p.1 ≡ None) only.paths z.0 none z.1.stands) ∙ z.2)

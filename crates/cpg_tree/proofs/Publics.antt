@@ -4,12 +4,13 @@ use Rattle.cpg_order.specs.Scenario.{Scenario}
 use Rattle.cpg_cube.specs.Cube.{low_in, high_in}
 use Rattle.cpg_base.specs.Variable.{top}
 use Rattle.cpg_tree.specs.declared.node.Node.{Node}
-use Rattle.cpg_tree.specs.Space.{Space, Lies, HasFew}
-use Rattle.cpg_tree.specs.Decision.{value_at, low_at, high_at, IsGood}
+use Rattle.cpg_tree.specs.Space.{Space, Lies, HasFew, IsWhole}
+use Rattle.cpg_tree.specs.Decision.{value_at, low_at, high_at, IsGood, IsFit, DoForksPass}
 use Rattle.cpg_tree.specs.Paths.{paths_of}
 use Rattle.cpg_tree.specs.Results.{IsMapOf, IsJoinOf, IsPickOf, picked}
-use Rattle.cpg_tree.specs.Tree.{Path, TreeState, IsOn, IsMap, IsJoin, IsPick, IsValueAt}
+use Rattle.cpg_tree.specs.Tree.{Path, TreeState, IsOn, IsMap, IsJoin, IsPick, IsValueAt, DoPathsPass}
 use Rattle.cpg_tree.proofs.PathLaws.{found}
+use Rattle.cpg_tree.proofs.Passing.{forks_of_paths, paths_of_forks}
 
 -- the state of a tree
 abbrev pub state : {T : Type 0} → ℕ → Node T → TreeState T
@@ -82,3 +83,18 @@ map_paths k answers a r good_a good_r made = record {
         high = λ v. omega (arith, fx.high v, fz.high v, made.highs k s v tt);
       };
 }
+
+-- what is made of two trees, said of what callers see of them
+module _ {T U V : Type 0} (k l : ℕ) (a : Node T) (b : Node U) (r : Node V) (first : TreeState T) (second : TreeState U) (is_first : state k a ≡ first) (is_second : state l b ≡ second) where
+  pub joined_seen : (answers : T → U → V → Type 0) → first.faults ≡ second.faults → IsGood k a → IsGood l b → (room : Space) → IsWhole k room → ((s : Scenario) → HasFew k s → Lies room s) → IsFit room r → IsJoinOf answers room a b r →
+      IsJoin answers first second (state k r)
+  joined_seen answers same good_a good_b room whole all fit made =
+      let equal : k ≡ l = ap (λ (t : TreeState T). t.faults) is_first ∙ same ∙ sym (ap (λ (t : TreeState U). t.faults) is_second) in
+      subst (λ (x : TreeState T). IsJoin answers x second (state k r)) is_first
+      (subst (λ (y : TreeState U). IsJoin answers (state k a) y (state k r)) (ap (λ (m : ℕ). state m b) equal ∙ is_second)
+      (join_paths k room all answers a b r good_a (subst (λ (m : ℕ). IsGood m b) (sym equal) good_b) (room, whole, fit) made))
+
+  pub joined_pass : (test : ℕ → Bool) → (DoForksPass test a → DoForksPass test b → DoForksPass test r) → DoPathsPass test first.paths → DoPathsPass test second.paths → DoPathsPass test (paths_of k r)
+  joined_pass test pass on_first on_second = paths_of_forks test k r (pass
+      (forks_of_paths test k a (subst (λ (x : TreeState T). DoPathsPass test x.paths) (sym is_first) on_first))
+      (forks_of_paths test l b (subst (λ (x : TreeState U). DoPathsPass test x.paths) (sym is_second) on_second)))

@@ -13,7 +13,7 @@ use Rattle.cpg_base.specs.Variable.{top}
 use Rattle.cpg_tree.specs.Space.{Space, Lies, HasFew, beyond, is_open_below, below_cut, above_cut}
 
 -- what is not less is at most
-not_less : (a b : ℕ) → nat_lt a b ≡ false → b ≤ a
+pub not_less : (a b : ℕ) → nat_lt a b ≡ false → b ≤ a
 not_less a b h = elim (cases_lt a b) [ inl l ↦ absurd (both_ways (nat_lt a b) h (lt-ltb a b l)) | inr l ↦ l ]
 
 pub count_is : (s : Scenario) (v : ℕ) → v < 128 → number_of s v ≡ fault_of s v
@@ -50,10 +50,10 @@ fewer_left : (new old low cut faults left : ℕ) → new + (faults - low) ≡ ol
 fewer_left new old low cut faults left changed most below above = omega arith
 
 module _ (xs : List ℕ) (v y u : ℕ) where
-  set_other : u ≢ v → get_or (slice_set xs v y) u 0 ≡ get_or xs u 0
+  pub set_other : u ≢ v → get_or (slice_set xs v y) u 0 ≡ get_or xs u 0
   set_other n = get_or-set_other xs v u y 0 n
 
-  set_same : v < length xs → u ≡ v → get_or (slice_set xs v y) u 0 ≡ y
+  pub set_same : v < length xs → u ≡ v → get_or (slice_set xs v y) u 0 ≡ y
   set_same l e = subst (λ w. get_or (slice_set xs v y) w 0 ≡ y) (sym e) (get_or-set_same xs v y 0 l)
 
 none_less : (n left : ℕ) → n ≤ left → n ≤ left - 0

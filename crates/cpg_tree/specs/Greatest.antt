@@ -1,10 +1,10 @@
 -- The greatest number of a tree of times, with the first scenario that has it.
-use Rattle.std.specs.Prelude.{ℕ, ◌≡◌, ◌≤◌, ◌<◌, ◌==◌, max, if◌then◌else◌, Option, Some, None, List, get_or, Contains}
-use Rattle.cpg_base.specs.Graph.{Graph}
-use Rattle.cpg_order.specs.Scenario.{Scenario, IsLeast}
-use Rattle.cpg_cube.specs.declared.literal.Literal.{Literal}
+use Rattle.std.specs.Prelude.{ℕ, ◌≡◌, ◌≤◌, ◌==◌, max, if◌then◌else◌, Option, Some, None, List, Contains, All}
+use Rattle.cpg_base.specs.Graph.{Graph, process_count}
+use Rattle.cpg_order.specs.Scenario.{Scenario, IsScenario, IsLeast}
+use Rattle.cpg_cube.specs.Fit.{IsKnown}
 use Rattle.cpg_tree.specs.declared.node.Node.{Node, Leaf, Fork'}
-use Rattle.cpg_tree.specs.Tree.{Path, IsOn}
+use Rattle.cpg_tree.specs.Tree.{Path, TreeState, IsOn}
 
 -- the scenario's path has the value
 abbrev pub HasValue : {T : Type 0} → List (Path T) → T → Scenario → Type 0
@@ -15,11 +15,22 @@ pub record IsGreatestOf (g : Graph) (order : List ℕ) (paths : List (Path (Opti
   pub most : (p : Path (Option ℕ)) (other : ℕ) → Contains paths p → p.1 ≡ Some other → other ≤ time
   pub least : IsLeast g order (HasValue paths (Some time)) s
 
--- the column at a place has the greatest time, and none before it has
-pub record IsFirstGreatest (n : ℕ) (columns : List (ℕ × List Literal)) (at : ℕ) : Type 0 where
-  pub there : at < n
-  pub most : (j : ℕ) (d : ℕ × List Literal) → j < n → (get_or columns j d).0 ≤ (get_or columns at d).0
-  pub first : (j : ℕ) (d : ℕ × List Literal) → j < at → (get_or columns j d).0 < (get_or columns at d).0
+-- the scenario's path has a number
+pub record HasNumber (paths : List (Path (Option ℕ))) (s : Scenario) : Type 0 where
+  pub number : ℕ
+  pub has : HasValue paths (Some number) s
+
+-- some scenario has the number
+pub record IsReached (g : Graph) (paths : List (Path (Option ℕ))) (number : ℕ) : Type 0 where
+  pub scenario : Scenario
+  pub lawful : IsScenario g scenario
+  pub has : HasValue paths (Some number) scenario
+
+-- the greatest number of a path, which some scenario of a graph has whose variables the paths ask for
+pub record IsMost (t : TreeState (Option ℕ)) (most : ℕ) : Type 0 where
+  pub above : (p : Path (Option ℕ)) (other : ℕ) → Contains t.paths p → p.1 ≡ Some other → other ≤ most
+  pub there : (p : Path (Option ℕ)) × Contains t.paths p × (p.1 ≡ Some most)
+  pub reached : (g : Graph) → process_count g ≤ 128 → t.faults ≡ g.faults → All (λ p. IsKnown g p.0) t.paths → IsReached g t.paths most
 
 -- ---- without a list
 

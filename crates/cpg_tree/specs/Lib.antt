@@ -6,5 +6,7 @@ pub mod Tree
 pub mod Variables
 pub mod Columns
 pub mod Greatest
+pub mod Greater
 pub mod Places
 pub mod Spots
+pub mod Slices

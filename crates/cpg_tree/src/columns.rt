@@ -46,7 +46,7 @@ impl Node<Option<u64>> {
                 if let Some(low) = low {
                     below.push_columns(k, low, columns)?;
                 }
-                let high = cube.with(Literal {
+                let high = cube.into_with(Literal {
                     variable: *variable,
                     low: *cut + 1,
                     high: top(k, *variable),

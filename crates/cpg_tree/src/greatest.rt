@@ -1,33 +1,17 @@
 //! The greatest number of a tree of times.
-ghost use Rattle.std.specs.Prelude.{◌≡◌, ℕ, Bool, None, [], All, IfNone, IfOk, IfSome, IsPermutation, length};
+ghost use Rattle.std.specs.Prelude.{◌≡◌, ℕ, Bool, None, All, IfNone, IfOk, IfSome, IsPermutation};
 ghost use Rattle.cpg_base.specs.Graph.{process_count};
 ghost use Rattle.cpg_base.specs.Numbers.{numbers_below};
 ghost use Rattle.cpg_cube.specs.Fit.{IsKnown};
-ghost use Rattle.cpg_tree.specs.Greatest.{IsFirstGreatest, IsGreatestOf, greater, kept, most_of};
+ghost use Rattle.cpg_order.specs.Scenario.{IsLeast};
+ghost use Rattle.cpg_tree.specs.Greatest.{HasNumber, IsGreatestOf, IsMost, greater, kept, most_of};
 ghost use Rattle.cpg_tree.specs.Tree.{HasOnePathEach, DoPathsPass, IsMap};
 
 use crate::Tree;
 use crate::node::Node;
 use cpg_base::{OutOfMemory, Problem, Scenario};
-use cpg_cube::Cube;
+use cpg_cube::first_by_least_scenario;
 use cpg_order::Order;
-
-/// The place of the first column with the greatest time.
-fn first_greatest(columns: &[(u64, Cube)]) -> Option<usize>
-    ensures none { IfNone result (columns.now ≡ []) }
-    ensures some { IfSome result (IsFirstGreatest (length columns.now) columns.now) }
-{
-    if columns.is_empty() {
-        return None;
-    }
-    let mut best = 0;
-    for place in 1..columns.len() {
-        if columns[best].0 < columns[place].0 {
-            best = place;
-        }
-    }
-    Some(best)
-}
 
 /// The greater of two numbers, where there are two.
 fn greater(first: Option<u64>, second: Option<u64>) -> Option<u64>
@@ -72,30 +56,36 @@ impl Tree<Option<u64>> {
         self.map(&|time: Option<u64>| kept(wanted, time))
     }
 
-    /// The greatest number by a list of all columns, with its least scenario; `None` exactly where no scenario has a
-    /// number.
-    fn listed_greatest(
+    /// The least scenario that has a number; `None` exactly where no scenario has one.
+    fn first_with_number(
         &self,
         problem: &Problem,
         order: &Order,
-    ) -> Result<Option<(u64, Scenario)>, OutOfMemory>
+    ) -> Result<Option<Scenario>, OutOfMemory>
         requires faults { self.now.faults ≡ problem.now.faults }
         requires known { All (λ p. IsKnown problem.now p.0) self.now.paths }
         requires order { IsPermutation (numbers_below (process_count problem.now)) order.now }
         ensures none { IfOk result (λ r. IfNone r (All (λ p. p.1 ≡ None) self.now.paths)) }
-        ensures some { IfOk result (λ r. IfSome r (λ x. IsGreatestOf problem.now order.now self.now.paths x.0 x.1)) }
+        ensures some { IfOk result (λ r. IfSome r (IsLeast problem.now order.now (HasNumber self.now.paths))) }
     {
         let _processes = problem.processes();
-        let columns = self.columns(problem, order)?;
+        let columns = self.listed(problem)?;
         let columns = columns.as_slice();
-        let Some(place) = first_greatest(columns) else {
+        let Some(place) = first_by_least_scenario(self.alloc, problem, order, columns)? else {
             return Ok(None);
         };
-        let time = columns[place].0;
         match columns[place].1.least(self.alloc, problem)? {
-            Some(least) => Ok(Some((time, least))),
+            Some(least) => Ok(Some(least)),
             None => unreachable!(),
         }
+    }
+
+    /// The greatest number of a path; `None` exactly where no path has one.
+    pub fn most(&self) -> Option<u64>
+        ensures none { IfNone result (All (λ p. p.1 ≡ None) self.now.paths) }
+        ensures some { IfSome result (IsMost self.now) }
+    {
+        self.root.most()
     }
 
     /// The greatest number, with its least scenario; `None` exactly where no scenario has a number.
@@ -116,8 +106,8 @@ impl Tree<Option<u64>> {
         };
         // a tree of this number alone has few columns
         let peaks = self.with_alone(most)?;
-        match peaks.listed_greatest(problem, order)? {
-            Some(greatest) => Ok(Some((most, greatest.1))),
+        match peaks.first_with_number(problem, order)? {
+            Some(least) => Ok(Some((most, least))),
             None => unreachable!(),
         }
     }

@@ -3,9 +3,11 @@
 
 mod columns;
 mod gathering;
+mod greater;
 mod greatest;
 mod node;
 mod places;
+mod slices;
 mod space;
 mod tree;
 mod variables;

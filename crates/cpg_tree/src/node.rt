@@ -218,7 +218,7 @@ impl<T: Copy> Node<T> {
     }
 
     /// The answers of a function to a value and the values, for the scenarios of a space.
-    fn fill<U: Copy, V: Copy + Eq, F: Fn(U, T) -> V>(
+    pub(crate) fn fill<U: Copy, V: Copy + Eq, F: Fn(U, T) -> V>(
         &self,
         alloc: Global,
         space: &Space,

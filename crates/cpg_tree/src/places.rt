@@ -4,10 +4,12 @@ ghost use Rattle.std.specs.Bool.{OnFalse, OnTrue};
 ghost use Rattle.cpg_order.specs.Scenario.{Scenario};
 ghost use Rattle.cpg_cube.specs.Cube.{IsRising, matches};
 ghost use Rattle.cpg_tree.specs.Space.{Lies, HasFew};
+ghost use Rattle.cpg_tree.specs.Decision.{value_at};
 ghost use Rattle.cpg_tree.specs.Places.{IsAmong, IsMatched, place_at, tells_cube};
 ghost use Rattle.cpg_tree.specs.Spots.{IsSaidBy, IsTop, IsKept, IsSorted, KeepsMatches, AreOpen, places_of};
 
 use crate::node::Node;
+use crate::slices::led_out;
 use crate::space::Space;
 use crate::walk::Test;
 use cpg_base::{FIRST_VALUE, OutOfMemory};
@@ -29,9 +31,9 @@ struct Spot {
 
 /// A fork by whether a variable is at most a number.
 #[derive(Clone, Copy)]
-struct Cut {
-    variable: u8,
-    most: u8,
+pub(crate) struct Cut {
+    pub(crate) variable: u8,
+    pub(crate) most: u8,
 }
 
 /// What stands at the top of the tree of some places.
@@ -52,9 +54,9 @@ struct Sides {
 
 /// A tree, and how many more nodes there may be.
 #[derive(Drop)]
-struct Sorted {
-    node: Node<Option<u32>>,
-    left: u32,
+pub(crate) struct Sorted {
+    pub(crate) node: Node<Option<u32>>,
+    pub(crate) left: u32,
 }
 
 /// The literal on a count, if there is one from a place on.
@@ -89,7 +91,7 @@ fn literal_on_value(literals: &[Literal], variable: u8) -> Option<Literal>
 }
 
 /// The literal on a variable, if there is one from a place on.
-fn literal_on(literals: &[Literal], from: usize, variable: u8) -> Option<Literal>
+pub(crate) fn literal_on(literals: &[Literal], from: usize, variable: u8) -> Option<Literal>
     ensures { IfSome result (IsSaidBy literals.now) }
 {
     if variable < FIRST_VALUE {
@@ -100,7 +102,7 @@ fn literal_on(literals: &[Literal], from: usize, variable: u8) -> Option<Literal
 }
 
 /// The first value from the last on that literals leave open, if there is one.
-fn open_value(space: &Space, literals: &[Literal]) -> Option<Literal> {
+pub(crate) fn open_value(space: &Space, literals: &[Literal]) -> Option<Literal> {
     for later in 0..literals.len() {
         let literal = literals[literals.len() - 1 - later];
         if literal.variable < FIRST_VALUE {
@@ -204,7 +206,7 @@ fn parted(
 }
 
 /// Where a literal parts a space, if it does.
-fn cut_of(space: &Space, literal: Literal) -> Option<Cut>
+pub(crate) fn cut_of(space: &Space, literal: Literal) -> Option<Cut>
     ensures { IfSome result (λ r. AreOpen space.now r.variable r.most) }
 {
     let most = if literal.low > space.least(literal.variable) {
@@ -328,6 +330,24 @@ fn spots_of(alloc: Global, space: &Space, cubes: &[&Cube]) -> Result<Vec<Spot>, 
     Ok(spots)
 }
 
+/// The tree of places of cubes in any order, in the scenarios of at most `k` faults and with at most so many nodes.
+fn all_sorted_out(
+    alloc: Global,
+    k: u8,
+    cubes: &[&Cube],
+    nodes: u32,
+) -> Result<Option<Node<Option<u32>>>, OutOfMemory>
+    requires { length cubes.now ≤ 524288 }
+    ensures { IfOk result (λ r. IfSome r (λ n. (s : Scenario) → HasFew k s → tells_cube (map (λ b. b.now) cubes.now) (value_at n s) s)) }
+{
+    let space = Space::whole(k);
+    let spots = spots_of(alloc, &space, cubes)?;
+    let Some(sorted) = sorted_out(alloc, &space, cubes, spots, nodes)? else {
+        return Ok(None);
+    };
+    Ok(Some(sorted.node))
+}
+
 /// For each scenario the place of the one cube that it matches, if it matches one.
 #[derive(Drop)]
 pub struct Places {
@@ -341,13 +361,15 @@ impl Places {
         requires { length cubes.now ≤ 524288 }
         ensures { IfOk result (λ r. IfSome r (λ t. (s : Scenario) → HasFew k s → tells_cube (map (λ b. b.now) cubes.now) (place_at t s) s)) }
     {
-        let space = Space::whole(k);
-        let spots = spots_of(alloc, &space, cubes)?;
         let nodes = cubes.len() as u32 * EACH + FEW;
-        let Some(sorted) = sorted_out(alloc, &space, cubes, spots, nodes)? else {
+        // rows mostly stand as a tree lists them, and then this is faster
+        if let Some(root) = led_out(alloc, k, cubes, nodes)? {
+            return Ok(Some(Places { root }));
+        }
+        let Some(root) = all_sorted_out(alloc, k, cubes, nodes)? else {
             return Ok(None);
         };
-        Ok(Some(Places { root: sorted.node }))
+        Ok(Some(Places { root }))
     }
 
     /// Whether a test passes at each place that scenarios of a space come to.

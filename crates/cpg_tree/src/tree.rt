@@ -1,5 +1,6 @@
 //! Trees of values by scenarios.
 ghost use Rattle.std.specs.Prelude.{◌≡◌, ◌≤◌, ◌<◌, max, ℕ, Bool, List, IfOk, IfSome, length, true};
+ghost use Rattle.std.specs.Bool.{OnTrue};
 ghost use Rattle.cpg_cube.specs.declared.literal.Literal.{Literal};
 ghost use Rattle.cpg_tree.specs.Decision.{IsGood};
 ghost use Rattle.cpg_tree.specs.Paths.{paths_from, paths_of};
@@ -141,6 +142,18 @@ impl<T: Copy + Eq> Tree<T> {
     }
 }
 
+impl Tree<bool> {
+    /// Whether it is true in every scenario, as far as a look at the first fork tells.
+    pub fn is_true(&self) -> bool
+        ensures { OnTrue result (IsConstant true self.now.faults self.now) }
+    {
+        match &self.root {
+            Node::Leaf(value) => *value,
+            Node::Fork { .. } => false,
+        }
+    }
+}
+
 impl Tree<u64> {
     /// In each scenario the greater value of two trees.
     pub fn max(&self, other: &Tree<u64>) -> Result<Tree<u64>, OutOfMemory>
@@ -149,6 +162,8 @@ impl Tree<u64> {
         ensures each { IfOk result (λ t. HasOnePathEach t.faults t.paths) }
         ensures pass { IfOk result (λ t. (test : ℕ → Bool) → DoPathsPass test self.now.paths → DoPathsPass test other.now.paths → DoPathsPass test t.paths) }
     {
-        self.join_with(other, &|first: u64, second: u64| first.max(second))
+        let space = Space::whole(self.faults);
+        let root = self.root.greater_of(self.alloc, &space, &other.root)?;
+        Tree::of(self.alloc, self.faults, root)
     }
 }

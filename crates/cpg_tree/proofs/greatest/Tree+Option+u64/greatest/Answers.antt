@@ -1,13 +1,12 @@
-use Rattle.std.proofs.Common.{ℕ, ◌≡◌, ◌∙◌, List, Option, None, Some, All, Contains, get_or, sym, ap, subst}
+use Rattle.std.proofs.Common.{ℕ, ◌≡◌, ◌∙◌, Option, All, Contains, get_or, sym, ap, subst}
 use Rattle.std.proofs.lemmas.List.Elements.{Contains-get_or}
 use Rattle.cpg_cube.specs.Fit.{IsKnown}
 use Rattle.cpg_tree.specs.Decision.{IsGood}
 use Rattle.cpg_tree.specs.declared.node.Node.{Node}
 use Rattle.cpg_tree.specs.Paths.{paths_of}
-use Rattle.cpg_tree.specs.Greatest.{IsGreatestOf, most_of, kept}
 use Rattle.cpg_tree.specs.Tree.{Path, TreeState, HasOnePathEach}
 use Rattle.cpg_tree.specs.Variables.{is_variable}
-use Rattle.cpg_tree.proofs.Most.{no_most, some_alone, greatest_alone}
+use Rattle.cpg_tree.proofs.Most.{no_most, some_alone, least_alone}
 use Rattle.cpg_tree.proofs.Passing.{known_from, known_passes}
 use Rattle.cpg_tree.proofs.greatest.Tree+Option+u64.greatest.Goals as goal
 
@@ -17,8 +16,8 @@ returns-in_default-clause-none c k d l =
     no_most c.self.inside.faults c.self.inside.root (sym c.most.ensures ∙ c.in_default.is) path
     (subst (λ (t : TreeState (Option ℕ)). Contains t.paths path) (sym c.self.view_is) (Contains-get_or c.args.self.now.paths k d l))
 
-pub listed_greatest-requires-clause-known : goal.listed_greatest-requires-clause-known
-listed_greatest-requires-clause-known c =
+pub first_with_number-requires-clause-known : goal.first_with_number-requires-clause-known
+first_with_number-requires-clause-known c =
     let g = c.args.problem.now in
     known_from g c.in_ok-peaks.peaks.paths (c.in_ok-peaks.ensures.pass (is_variable g) (known_passes g c.args.self.now.paths c.requires.known))
 
@@ -33,7 +32,7 @@ unreachable-requires c =
     (subst (λ (n : ℕ). HasOnePathEach n c.in_ok-peaks.peaks.paths) (c.in_ok-peaks.ensures.is.faults ∙ c.requires.faults) c.in_ok-peaks.ensures.each) c.in_ok-peaks.ensures.is
     c.processes-processes.ensures.within.few_processes
     (subst (λ (t : TreeState (Option ℕ)). All (λ (p : Path (Option ℕ)). IsKnown g p.0) t.paths) (sym is) c.requires.known)
-    (rw c.in-None.is at c.in_ok-greatest.ensures.none)
+    (rw c.in-None.is at c.in_ok-least.ensures.none)
 
 pub returns-clause-some : goal.returns-clause-some
 returns-clause-some c =
@@ -43,6 +42,6 @@ returns-clause-some c =
     let all : TreeState (Option ℕ) = c.args.self.now in
     let same : c.self.inside.faults ≡ g.faults = ap (λ (t : TreeState (Option ℕ)). t.faults) c.self.view_is ∙ c.requires.faults in
     let is : record { faults = g.faults; paths = paths_of g.faults root } ≡ all = subst (λ (n : ℕ). record { faults = n; paths = paths_of n root } ≡ all) same c.self.view_is in
-    greatest_alone g root (subst (λ (n : ℕ). IsGood n root) same c.self.invariant.0) c.in-Some.most (sym c.most.ensures ∙ c.in-Some.is) all c.in_ok-peaks.peaks is
+    least_alone g root (subst (λ (n : ℕ). IsGood n root) same c.self.invariant.0) c.in-Some.most (sym c.most.ensures ∙ c.in-Some.is) all c.in_ok-peaks.peaks is
     (subst (λ (n : ℕ). HasOnePathEach n c.in_ok-peaks.peaks.paths) (c.in_ok-peaks.ensures.is.faults ∙ c.requires.faults) c.in_ok-peaks.ensures.each) c.in_ok-peaks.ensures.is
-    order c.in-Some-2.greatest.0 c.in-Some-2.greatest.1 (rw c.in-Some-2.is at c.in_ok-greatest.ensures.some)
+    order c.in-Some-2.least (rw c.in-Some-2.is at c.in_ok-least.ensures.some)

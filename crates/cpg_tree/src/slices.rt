@@ -1,0 +1,283 @@
+//! The tree of the places of cubes that stand as a tree lists them: each fork parts the cubes in two slices, so that no cube
+//! is visited but at its own leaf, and where a border is looked for.
+ghost use Rattle.std.specs.Prelude.{◌+◌, ◌≡◌, ◌≤◌, IfOk, IfSome, length, map};
+ghost use Rattle.std.specs.Bool.{OnTrue};
+ghost use Rattle.cpg_order.specs.Scenario.{Scenario};
+ghost use Rattle.cpg_cube.specs.Cube.{IsRising};
+ghost use Rattle.cpg_tree.specs.Space.{HasFew};
+ghost use Rattle.cpg_tree.specs.Decision.{value_at};
+ghost use Rattle.cpg_tree.specs.Places.{tells_cube};
+ghost use Rattle.cpg_tree.specs.Spots.{AreOpen};
+ghost use Rattle.cpg_tree.specs.Slices.{IsReached, IsLead, IsLed, IsInside, IsOwn, AreBounds, is_narrow, narrowed};
+
+use crate::node::Node;
+use crate::places::{Cut, Sorted, cut_of, literal_on, open_value};
+use crate::space::Space;
+use cpg_base::{OutOfMemory, top};
+use cpg_cube::{Cube, Literal};
+use std::alloc::Global;
+
+/// Cubes that stand together, from a place up to another, in a space in which so many variables are narrower than in all
+/// scenarios. So many of the first cube's literals hold in the whole space: a hint where to look, that no clause speaks of.
+#[derive(Clone, Copy)]
+struct Slice {
+    from: u32,
+    to: u32,
+    narrow: u32,
+    held: usize,
+}
+
+/// Where a slice parts, and how many of its first cube's literals stand before the one that tells it.
+#[derive(Clone, Copy)]
+struct Part {
+    cut: Cut,
+    held: usize,
+}
+
+/// What stands at the top of the tree of a slice.
+#[derive(Clone, Copy)]
+enum Lead {
+    Leaf(Option<u32>),
+    Fork(Part),
+    /// The cubes don't stand as a tree lists them.
+    Unknown,
+}
+
+/// Whether a space leaves fewer numbers of a variable than all scenarios of at most `k` faults do.
+fn is_narrow(k: u8, space: &Space, variable: u8) -> bool
+    ensures { result ≡ is_narrow k space.now variable }
+{
+    if space.low[variable as usize] > 0 {
+        return true;
+    }
+    space.high[variable as usize] < top(k, variable)
+}
+
+/// Whether all of a literal's numbers are in range.
+fn is_inside(space: &Space, literal: &Literal) -> bool
+    ensures { OnTrue result (IsInside space.now literal.now) }
+{
+    if literal.low < space.low[literal.variable as usize] {
+        return false;
+    }
+    literal.high <= space.high[literal.variable as usize]
+}
+
+/// 1 for a variable that is narrow.
+fn narrowed(k: u8, space: &Space, variable: u8) -> u32
+    ensures { result ≡ narrowed k space.now variable }
+{
+    if is_narrow(k, space, variable) { 1 } else { 0 }
+}
+
+/// How many variables are narrow where this one is narrowed too, if that isn't too great a number.
+fn narrow_with(k: u8, space: &Space, variable: u8, narrow: u32) -> Option<u32>
+    ensures { IfSome result (λ n. narrow + 1 ≤ n + narrowed k space.now variable) }
+{
+    narrow.checked_add(1 - narrowed(k, space, variable))
+}
+
+/// How many of the literals are on narrow variables, if each of them holds in the whole space and none goes beyond it.
+fn bounds_of(k: u8, space: &Space, literals: &[Literal]) -> Option<u32>
+    ensures { IfSome result (AreBounds k space.now literals.now) }
+{
+    let mut found: u32 = 0;
+    for literal in literals {
+        if !space.tells(literal) {
+            return None;
+        }
+        if !is_inside(space, literal) {
+            return None;
+        }
+        found = found.saturating_add(narrowed(k, space, literal.variable));
+    }
+    Some(found)
+}
+
+/// Whether the scenarios of a space are those of at most `k` faults that literals match.
+fn is_their_own(k: u8, space: &Space, narrow: u32, literals: &[Literal]) -> bool
+    requires rising { IsRising literals.now }
+    requires reached { IsReached k space.now narrow }
+    ensures { OnTrue result (IsOwn k space.now literals.now) }
+{
+    match bounds_of(k, space, literals) {
+        Some(found) => narrow <= found,
+        None => false,
+    }
+}
+
+/// The first literal from a place on that doesn't hold in the whole space, as a part of it.
+fn part_from(space: &Space, literals: &[Literal], from: usize) -> Option<Part>
+    ensures { IfSome result (λ r. AreOpen space.now r.cut.variable r.cut.most) }
+{
+    for at in from..literals.len() {
+        if !space.tells(&literals[at]) {
+            let cut = cut_of(space, literals[at])?;
+            return Some(Part { cut, held: at });
+        }
+    }
+    None
+}
+
+/// Where a cube's literals part a space: by a value if one doesn't hold in the whole space, or else by the first literal
+/// from a place on that doesn't.
+fn part_of(space: &Space, literals: &[Literal], held: usize) -> Option<Part>
+    ensures { IfSome result (λ r. AreOpen space.now r.cut.variable r.cut.most) }
+{
+    if let Some(value) = open_value(space, literals) {
+        let cut = cut_of(space, value)?;
+        return Some(Part { cut, held });
+    }
+    part_from(space, literals, held)
+}
+
+/// The top of the tree of a slice for the scenarios of a space.
+fn lead_of(k: u8, space: &Space, cubes: &[&Cube], slice: Slice) -> Lead
+    requires { IsReached k space.now slice.narrow }
+    ensures { IsLead (map (λ b. b.now) cubes.now) k space.now slice.from slice.to result }
+{
+    if slice.to <= slice.from {
+        return Lead::Leaf(None);
+    }
+    let Some(cube) = cubes.get(slice.from as usize) else {
+        return Lead::Unknown;
+    };
+    let literals = cube.literals();
+    if let Some(part) = part_of(space, literals, slice.held) {
+        return Lead::Fork(part);
+    }
+    if slice.to - slice.from == 1 {
+        if is_their_own(k, space, slice.narrow, literals) {
+            return Lead::Leaf(Some(slice.from));
+        }
+    }
+    // the hint may be wrong
+    match part_from(space, literals, 0) {
+        Some(part) => Lead::Fork(part),
+        None => Lead::Unknown,
+    }
+}
+
+/// Whether the cube at a place asks for a number above a cut.
+fn is_above(cubes: &[&Cube], place: u32, part: Part) -> bool {
+    let Some(cube) = cubes.get(place as usize) else {
+        return true;
+    };
+    match literal_on(cube.literals(), part.held, part.cut.variable) {
+        Some(literal) => literal.low > part.cut.most,
+        None => false,
+    }
+}
+
+/// The first place of a slice from which on all cubes ask for a number above a cut, if those that do are the last.
+fn border_of(cubes: &[&Cube], slice: Slice, part: Part) -> u32 {
+    let mut first = slice.from;
+    let mut end = slice.to;
+    while first < end {
+        let middle = first + (end - first) / 2;
+        if is_above(cubes, middle, part) {
+            end = middle;
+        } else {
+            first = middle + 1;
+        }
+    }
+    first
+}
+
+/// The tree of a slice that a fork parts.
+#[cycle(led)]
+fn led_apart(
+    alloc: Global,
+    k: u8,
+    space: &Space,
+    cubes: &[&Cube],
+    slice: Slice,
+    part: Part,
+    left: u32,
+) -> Result<Option<Sorted>, OutOfMemory>
+    requires open { AreOpen space.now part.cut.variable part.cut.most }
+    requires reached { IsReached k space.now slice.narrow }
+    ensures { IfOk result (λ r. IfSome r (IsLed (map (λ b. b.now) cubes.now) k space.now slice.from slice.to left)) }
+{
+    let cut = part.cut;
+    let Some(narrow) = narrow_with(k, space, cut.variable, slice.narrow) else {
+        return Ok(None);
+    };
+    let border = border_of(cubes, slice, part);
+    let low = Slice {
+        from: slice.from,
+        to: border,
+        narrow,
+        held: part.held,
+    };
+    let high = Slice {
+        from: border,
+        to: slice.to,
+        narrow,
+        held: part.held,
+    };
+    let under = space.below(cut.variable, cut.most);
+    let Some(below) = led(alloc, k, &under, cubes, low, left)? else {
+        return Ok(None);
+    };
+    let over = space.above(cut.variable, cut.most);
+    let Some(above) = led(alloc, k, &over, cubes, high, below.left)? else {
+        return Ok(None);
+    };
+    let node = Node::fork_of(alloc, cut.variable, cut.most, below.node, above.node)?;
+    Ok(Some(Sorted {
+        node,
+        left: above.left,
+    }))
+}
+
+/// The tree of a slice for the scenarios of a space, with at most so many nodes; `None` where the cubes don't stand as a
+/// tree lists them, or where there would be more nodes.
+#[cycle(led)]
+fn led(
+    alloc: Global,
+    k: u8,
+    space: &Space,
+    cubes: &[&Cube],
+    slice: Slice,
+    left: u32,
+) -> Result<Option<Sorted>, OutOfMemory>
+    requires { IsReached k space.now slice.narrow }
+    ensures { IfOk result (λ r. IfSome r (IsLed (map (λ b. b.now) cubes.now) k space.now slice.from slice.to left)) }
+{
+    if left == 0 {
+        return Ok(None);
+    }
+    match lead_of(k, space, cubes, slice) {
+        Lead::Unknown => Ok(None),
+        Lead::Leaf(place) => Ok(Some(Sorted {
+            node: Node::Leaf(place),
+            left: left - 1,
+        })),
+        Lead::Fork(part) => led_apart(alloc, k, space, cubes, slice, part, left - 1),
+    }
+}
+
+/// The tree of the places of cubes that stand as a tree lists them, in the scenarios of at most `k` faults and with at most
+/// so many nodes; `None` where they don't, or where there would be more nodes.
+pub(crate) fn led_out(
+    alloc: Global,
+    k: u8,
+    cubes: &[&Cube],
+    nodes: u32,
+) -> Result<Option<Node<Option<u32>>>, OutOfMemory>
+    requires { length cubes.now ≤ 524288 }
+    ensures { IfOk result (λ r. IfSome r (λ n. (s : Scenario) → HasFew k s → tells_cube (map (λ b. b.now) cubes.now) (value_at n s) s)) }
+{
+    let space = Space::whole(k);
+    let slice = Slice {
+        from: 0,
+        to: cubes.len() as u32,
+        narrow: 0,
+        held: 0,
+    };
+    match led(alloc, k, &space, cubes, slice, nodes)? {
+        Some(sorted) => Ok(Some(sorted.node)),
+        None => Ok(None),
+    }
+}
