@@ -17,6 +17,7 @@ pub mod UnfrozenStart
 pub mod Begun
 pub mod GrownNext
 pub mod PeaksGrow
+pub mod PeaksTop
 pub mod PeaksMeasured
 pub mod SendValue
 pub mod FrozenSend
@@ -34,3 +35,4 @@ pub mod RowsMade
 pub mod GrownRows
 pub mod Stepped
 pub mod ActiveItems
+pub mod SlotTrees

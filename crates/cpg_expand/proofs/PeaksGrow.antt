@@ -1,6 +1,7 @@
 -- A peak of the first n processes, with one process more.
-use Rattle.std.proofs.Common.{ℕ, ◌+◌, ◌≤◌, ◌<◌, ◌≡◌, ◌==◌, ◌⊎◌, Bool, true, false, nat_lt, if◌then◌else◌, List, Option, Some, None, All, arith, eq-eqb, refl, sym, ap, ◌∙◌, subst, inl, inr, lt-ltb}
-use Rattle.std.proofs.lemmas.Bool.{cases_Bool, cases_lt, cases_eq, cond-true, cond-false, both_ways, ne_eqb, ltb-true}
+use Rattle.std.proofs.Common.{ℕ, ◌+◌, ◌≤◌, ◌<◌, ◌≡◌, ◌==◌, ◌⊎◌, Bool, true, false, nat_lt, if◌then◌else◌, List, Option, Some, None, All, arith, eq-eqb, refl, sym, ap, ◌∙◌, subst, inl, inr, le-leb, lt-ltb}
+use Rattle.std.specs.Prelude.{nat_le}
+use Rattle.std.proofs.lemmas.Bool.{cases_Bool, cases_lt, cases_eq, cond-true, cond-false, both_ways, false≢true, leb-true, ne_eqb, ltb-true}
 use Rattle.std.proofs.lemmas.List.Elements.{All-contains}
 use Rattle.std.proofs.lemmas.Option.{none-some}
 use Rattle.cpg_base.specs.Graph.{Graph, process_count}
@@ -11,6 +12,7 @@ use Rattle.cpg_order.proofs.ScenarioOrder.{before_one_way, not_before_transitive
 use Rattle.cpg_tree.specs.Greatest.{HasValue, IsGreatestOf}
 use Rattle.cpg_tree.specs.Tree.{Path, TreeState, IsOn}
 use Rattle.cpg_expand.specs.Agreeing.{IsTree}
+use Rattle.cpg_expand.specs.Tops.{IsTop, HasFrom, reaches}
 use Rattle.cpg_expand.specs.Values.{time_past}
 use Rattle.cpg_expand.specs.Peaks.{tree_at, EndsAt, EndsPast, IsPeakOf, IsPeakBy, IsPeak, goes_before_by, goes_before, or_time, IsNextPeak, IsNextExcess}
 use Rattle.cpg_expand.specs.declared.measuring.Peak.{Peak}
@@ -44,18 +46,13 @@ sooner_or_not_first a b c h = elim (cases_eq a b) [
     less : (a b : ℕ) → b ≤ a → (a ≡ b → ⊥) → b < a
     less a b l n = elim (cases_lt b a) [ inl m ↦ m | inr m ↦ absurd (n (omega arith)) ]
 
-module _ (g : Graph) (urgency : List ℕ) (n : ℕ) (has : ℕ → ℕ → Scenario → Type 0) (paths : List (Path (Option ℕ))) (into : (time : ℕ) (s : Scenario) → IsScenario g s → has n time s → HasValue paths (Some time) s) (from : (time : ℕ) (s : Scenario) → IsScenario g s → HasValue paths (Some time) s → has n time s) where
+module _ (g : Graph) (urgency : List ℕ) (n : ℕ) (has : ℕ → ℕ → Scenario → Type 0) where
   -- what is so of the first n and of the next is so of all
   of_next : (q time : ℕ) (s : Scenario) → q < n + 1 → has q time s → (q < n) ⊎ has n time s
   of_next q time s l h = elim (cases_lt q n) [
     | inl m ↦ inl m
     | inr m ↦ inr (let e : q ≡ n = omega arith in subst (λ i. has i time s) e h)
   ]
-
-  -- ---- the next process has no time
-
-  none_of_paths : All (λ (p : Path (Option ℕ)). p.1 ≡ None) paths → (time : ℕ) (s : Scenario) → IsScenario g s → has n time s → ⊥
-  none_of_paths none time s law h = let v = into time s law h in none-some time (sym (All-contains (λ (p : Path (Option ℕ)). p.1 ≡ None) paths v.0 none v.1.stands) ∙ v.2)
 
   -- ---- the peak stays
 
@@ -78,72 +75,106 @@ module _ (g : Graph) (urgency : List ℕ) (n : ℕ) (has : ℕ → ℕ → Scena
     first = a.first;
   }
 
-  -- ---- the next process has the greatest time
+  pub next_none : (peak : Peak) → IsPeak g urgency n has peak → ((time : ℕ) (s : Scenario) → IsScenario g s → has n time s → ⊥) → IsPeak g urgency (n + 1) has peak
+  next_none peak a none = stays peak peak.process a (λ e. none) (λ p e time s law h. absurd (none time s law h))
 
-  module _ (time : ℕ) (scenario : Scenario) (greatest : IsGreatestOf g urgency paths time scenario) where
-    abbrev new : Peak
-    new = record { time = time; scenario = scenario; process = Some n }
+  module _ (paths : List (Path (Option ℕ))) (into : (time : ℕ) (s : Scenario) → IsScenario g s → has n time s → HasValue paths (Some time) s) (there : (time : ℕ) (s : Scenario) → IsGreatestOf g urgency paths time s → has n time s) where
+    -- ---- the next process has no time
 
-    at_most : (other : ℕ) (s : Scenario) → IsScenario g s → has n other s → other ≤ time
-    at_most other s law h = let v = into other s law h in greatest.most v.0 other v.1.stands v.2
+    none_of_paths : All (λ (p : Path (Option ℕ)). p.1 ≡ None) paths → (time : ℕ) (s : Scenario) → IsScenario g s → has n time s → ⊥
+    none_of_paths none time s law h = let v = into time s law h in none-some time (sym (All-contains (λ (p : Path (Option ℕ)). p.1 ≡ None) paths v.0 none v.1.stands) ∙ v.2)
 
-    not_earlier : (s : Scenario) → IsScenario g s → has n time s → is_before g urgency s scenario ≡ false
-    not_earlier s law h = greatest.least.least s law (into time s law h)
+    -- ---- the next process has the greatest time
 
-    here : has n time scenario
-    here = from time scenario greatest.least.lawful greatest.least.holds
+    module _ (time : ℕ) (scenario : Scenario) (greatest : IsGreatestOf g urgency paths time scenario) where
+      abbrev new : Peak
+      new = record { time = time; scenario = scenario; process = Some n }
 
-    comes : ((q other : ℕ) (s : Scenario) → q < n → IsScenario g s → has q other s → other ≤ time) → ((q : ℕ) (s : Scenario) → q < n → IsScenario g s → has q time s → is_before g urgency s scenario ≡ false) → ((q : ℕ) → q < n → has q time scenario → ⊥) → IsPeakOf g urgency (n + 1) has new n
-    comes most least first = record {
-      most = λ q other s l law h. elim (of_next q other s l h) [ inl m ↦ most q other s m law h | inr k ↦ at_most other s law k ];
-      least = record {
-        lawful = greatest.least.lawful;
-        holds = (n, omega arith, here);
-        least = λ t law h. elim (of_next h.0 time t h.1 h.2) [ inl m ↦ least h.0 t m law h.2 | inr k ↦ not_earlier t law k ];
-      };
-      there = omega arith;
-      is = here;
-      first = first;
-    }
+      at_most : (other : ℕ) (s : Scenario) → IsScenario g s → has n other s → other ≤ time
+      at_most other s law h = let v = into other s law h in greatest.most v.0 other v.1.stands v.2
 
-    goes : (peak : Peak) (o : Option ℕ) → IsPeakBy g urgency n has peak o → goes_before_by g urgency peak time scenario o ≡ true → IsPeakOf g urgency (n + 1) has new n
-    goes peak None a t = comes
-        (λ q other s l law h. absurd (a.none q other s l law h))
-        (λ q s l law h. absurd (a.none q time s l law h))
-        (λ q l h. a.none q time scenario l greatest.least.lawful h)
-    goes peak (Some p) a t = elim (later_or_first peak.time time (is_before g urgency scenario peak.scenario) t) [
-      | inl less ↦ comes
-          (λ q other s l law h. omega (arith, less, a.most q other s l law h))
-          (λ q s l law h. absurd (omega (arith, less, a.most q time s l law h)))
-          (λ q l h. absurd (omega (arith, less, a.most q time scenario l greatest.least.lawful h)))
-      | inr same ↦ comes
-          (λ q other s l law h. omega (arith, same.0, a.most q other s l law h))
-          (λ q s l law h. not_before_transitive g urgency scenario peak.scenario s (before_one_way g urgency scenario peak.scenario same.1) (a.least.least s law (q, l, subst (λ i. has q i s) (sym same.0) h)))
-          (λ q l h. both_ways (is_before g urgency scenario peak.scenario) (a.least.least scenario greatest.least.lawful (q, l, subst (λ i. has q i scenario) (sym same.0) h)) same.1)
-    ]
+      not_earlier : (s : Scenario) → IsScenario g s → has n time s → is_before g urgency s scenario ≡ false
+      not_earlier s law h = greatest.least.least s law (into time s law h)
 
-    keeps : (peak : Peak) (o : Option ℕ) → IsPeakBy g urgency n has peak o → goes_before_by g urgency peak time scenario o ≡ false → IsPeakBy g urgency (n + 1) has peak o
-    keeps peak None a f = absurd (both_ways (goes_before_by g urgency peak time scenario None) f refl)
-    keeps peak (Some p) a f = elim (sooner_or_not_first peak.time time (is_before g urgency scenario peak.scenario) f) [
-      | inl less ↦ stays peak (Some p) a (λ e. absurd (none-some p (sym e)))
-          (λ q e other s law h. (omega (arith, less, at_most other s law h), λ i. absurd (omega (arith, less, at_most other s law h, i))))
-      | inr same ↦ stays peak (Some p) a (λ e. absurd (none-some p (sym e)))
-          (λ q e other s law h. (
-            omega (arith, same.0, at_most other s law h),
-            λ i. not_before_transitive g urgency peak.scenario scenario s same.1 (not_earlier s law (subst (λ j. has n j s) (i ∙ same.0) h)),
-          ))
-    ]
+      here : has n time scenario
+      here = there time scenario greatest
 
-    pub or_keeps : (peak : Peak) → IsPeak g urgency n has peak → IsPeak g urgency (n + 1) has (or_time g urgency peak time scenario n)
-    or_keeps peak a = elim (cases_Bool (goes_before g urgency peak time scenario)) [
-      | inl t ↦ subst (IsPeak g urgency (n + 1) has) (sym (cond-true (goes_before g urgency peak time scenario) new peak t)) (goes peak peak.process a t)
-      | inr f ↦ subst (IsPeak g urgency (n + 1) has) (sym (cond-false (goes_before g urgency peak time scenario) new peak f)) (keeps peak peak.process a f)
-    ]
+      comes : ((q other : ℕ) (s : Scenario) → q < n → IsScenario g s → has q other s → other ≤ time) → ((q : ℕ) (s : Scenario) → q < n → IsScenario g s → has q time s → is_before g urgency s scenario ≡ false) → ((q : ℕ) → q < n → has q time scenario → ⊥) → IsPeakOf g urgency (n + 1) has new n
+      comes most least first = record {
+        most = λ q other s l law h. elim (of_next q other s l h) [ inl m ↦ most q other s m law h | inr k ↦ at_most other s law k ];
+        least = record {
+          lawful = greatest.least.lawful;
+          holds = (n, omega arith, here);
+          least = λ t law h. elim (of_next h.0 time t h.1 h.2) [ inl m ↦ least h.0 t m law h.2 | inr k ↦ not_earlier t law k ];
+        };
+        there = omega arith;
+        is = here;
+        first = first;
+      }
 
-  pub next_peak : (old next : Peak) → IsPeak g urgency n has old → IsNextPeak g urgency paths n old next → IsPeak g urgency (n + 1) has next
-  next_peak old next a (inl same) = subst (IsPeak g urgency (n + 1) has) (sym same.same)
-      (stays old old.process a (λ e. none_of_paths same.none) (λ p e time s law h. absurd (none_of_paths same.none time s law h)))
-  next_peak old next a (inr later) = subst (IsPeak g urgency (n + 1) has) (sym later.is) (or_keeps later.time later.scenario later.greatest old a)
+      goes : (peak : Peak) (o : Option ℕ) → IsPeakBy g urgency n has peak o → goes_before_by g urgency peak time scenario o ≡ true → IsPeakOf g urgency (n + 1) has new n
+      goes peak None a t = comes
+          (λ q other s l law h. absurd (a.none q other s l law h))
+          (λ q s l law h. absurd (a.none q time s l law h))
+          (λ q l h. a.none q time scenario l greatest.least.lawful h)
+      goes peak (Some p) a t = elim (later_or_first peak.time time (is_before g urgency scenario peak.scenario) t) [
+        | inl less ↦ comes
+            (λ q other s l law h. omega (arith, less, a.most q other s l law h))
+            (λ q s l law h. absurd (omega (arith, less, a.most q time s l law h)))
+            (λ q l h. absurd (omega (arith, less, a.most q time scenario l greatest.least.lawful h)))
+        | inr same ↦ comes
+            (λ q other s l law h. omega (arith, same.0, a.most q other s l law h))
+            (λ q s l law h. not_before_transitive g urgency scenario peak.scenario s (before_one_way g urgency scenario peak.scenario same.1) (a.least.least s law (q, l, subst (λ i. has q i s) (sym same.0) h)))
+            (λ q l h. both_ways (is_before g urgency scenario peak.scenario) (a.least.least scenario greatest.least.lawful (q, l, subst (λ i. has q i scenario) (sym same.0) h)) same.1)
+      ]
+
+      keeps : (peak : Peak) (o : Option ℕ) → IsPeakBy g urgency n has peak o → goes_before_by g urgency peak time scenario o ≡ false → IsPeakBy g urgency (n + 1) has peak o
+      keeps peak None a f = absurd (both_ways (goes_before_by g urgency peak time scenario None) f refl)
+      keeps peak (Some p) a f = elim (sooner_or_not_first peak.time time (is_before g urgency scenario peak.scenario) f) [
+        | inl less ↦ stays peak (Some p) a (λ e. absurd (none-some p (sym e)))
+            (λ q e other s law h. (omega (arith, less, at_most other s law h), λ i. absurd (omega (arith, less, at_most other s law h, i))))
+        | inr same ↦ stays peak (Some p) a (λ e. absurd (none-some p (sym e)))
+            (λ q e other s law h. (
+              omega (arith, same.0, at_most other s law h),
+              λ i. not_before_transitive g urgency peak.scenario scenario s same.1 (not_earlier s law (subst (λ j. has n j s) (i ∙ same.0) h)),
+            ))
+      ]
+
+      pub or_keeps : (peak : Peak) → IsPeak g urgency n has peak → IsPeak g urgency (n + 1) has (or_time g urgency peak time scenario n)
+      or_keeps peak a = elim (cases_Bool (goes_before g urgency peak time scenario)) [
+        | inl t ↦ subst (IsPeak g urgency (n + 1) has) (sym (cond-true (goes_before g urgency peak time scenario) new peak t)) (goes peak peak.process a t)
+        | inr f ↦ subst (IsPeak g urgency (n + 1) has) (sym (cond-false (goes_before g urgency peak time scenario) new peak f)) (keeps peak peak.process a f)
+      ]
+
+    pub next_peak : (old next : Peak) → IsPeak g urgency n has old → IsNextPeak g urgency paths n old next → IsPeak g urgency (n + 1) has next
+    next_peak old next a (inl same) = subst (IsPeak g urgency (n + 1) has) (sym same.same)
+        (next_none old a (none_of_paths same.none))
+    next_peak old next a (inr later) = subst (IsPeak g urgency (n + 1) has) (sym later.is) (or_keeps later.time later.scenario later.greatest old a)
+
+-- ---- above a bar
+
+module _ (g : Graph) (urgency : List ℕ) (n : ℕ) (has : ℕ → ℕ → Scenario → Type 0) (bar : ℕ) (top : Option ℕ) (is_top : IsTop g (has n) top) where
+  -- a process whose greatest time is under the bar has none from it on
+  none_from : (o : Option ℕ) → IsTop g (has n) o → reaches bar o ≡ false → (time : ℕ) (s : Scenario) → IsScenario g s → HasFrom bar has n time s → ⊥
+  none_from None is f time s law h = is time s law h.is
+  none_from (Some t) is f time s law h = both_ways (nat_le bar t) f (le-leb bar t (omega (arith, h.from, is.above time s law h.is)))
+
+  pub next_under : reaches bar top ≡ false → (peak : Peak) → IsPeak g urgency n (HasFrom bar has) peak → IsPeak g urgency (n + 1) (HasFrom bar has) peak
+  next_under f peak a = next_none g urgency n (HasFrom bar has) peak a (none_from top is_top f)
+
+  module _ (reached : reaches bar top ≡ true) (paths : List (Path (Option ℕ))) (into : (time : ℕ) (s : Scenario) → IsScenario g s → has n time s → HasValue paths (Some time) s) (from : (time : ℕ) (s : Scenario) → IsScenario g s → HasValue paths (Some time) s → has n time s) where
+    -- the greatest time of one that reaches the bar isn't under it
+    not_under : (o : Option ℕ) → IsTop g (has n) o → reaches bar o ≡ true → (time : ℕ) (s : Scenario) → IsGreatestOf g urgency paths time s → bar ≤ time
+    not_under None is t time s greatest = absurd (false≢true t)
+    not_under (Some m) is t time s greatest =
+        let v = into m is.scenario is.lawful is.there in
+        omega (arith, leb-true bar m t, greatest.most v.0 m v.1.stands v.2)
+
+    pub next_from : (old next : Peak) → IsPeak g urgency n (HasFrom bar has) old → IsNextPeak g urgency paths n old next → IsPeak g urgency (n + 1) (HasFrom bar has) next
+    next_from old next a is = next_peak g urgency n (HasFrom bar has) paths
+        (λ time s law h. into time s law h.is)
+        (λ time s greatest. record { from = not_under top is_top reached time s greatest; is = from time s greatest.least.lawful greatest.least.holds })
+        old next a is
 
 -- ---- of trees
 
@@ -153,11 +184,12 @@ past_end None due x e = absurd (none-some x e)
 past_end (Some end) due x e = (end, refl)
 
 module _ (g : Graph) (urgency : List ℕ) (trees : List (TreeState (Option ℕ))) (n : ℕ) (end : TreeState (Option ℕ)) (same : end ≡ tree_at g trees n) (old next : Peak) where
-  pub next_end : IsPeak g urgency n (EndsAt g trees) old → IsNextPeak g urgency end.paths n old next → IsPeak g urgency (n + 1) (EndsAt g trees) next
-  next_end a is = next_peak g urgency n (EndsAt g trees) end.paths
-      (λ time s law h. subst (λ (t : TreeState (Option ℕ)). HasValue t.paths (Some time) s) (sym same) h)
-      (λ time s law h. subst (λ (t : TreeState (Option ℕ)). HasValue t.paths (Some time) s) same h)
-      old next a is
+  module _ (bar : ℕ) (top : Option ℕ) (reached : reaches bar top ≡ true) where
+    pub next_end : IsTop g (EndsAt g trees n) top → IsPeak g urgency n (HasFrom bar (EndsAt g trees)) old → IsNextPeak g urgency end.paths n old next → IsPeak g urgency (n + 1) (HasFrom bar (EndsAt g trees)) next
+    next_end is_top a is = next_from g urgency n (EndsAt g trees) bar top is_top reached end.paths
+        (λ time s law h. subst (λ (t : TreeState (Option ℕ)). HasValue t.paths (Some time) s) (sym same) h)
+        (λ time s law h. subst (λ (t : TreeState (Option ℕ)). HasValue t.paths (Some time) s) same h)
+        old next a is
 
   module _ (of_end : IsTree g end) (is : IsNextExcess g urgency end n old next) where
     -- what the tree of the excesses has is what the ends are past the due
@@ -180,5 +212,6 @@ module _ (g : Graph) (urgency : List ℕ) (trees : List (TreeState (Option ℕ))
           ap (time_past (due g n)) (sym at.1) ∙ past,
         )
 
-    pub next_past : IsPeak g urgency n (EndsPast g trees) old → IsPeak g urgency (n + 1) (EndsPast g trees) next
-    next_past a = next_peak g urgency n (EndsPast g trees) is.tree.paths excess_into excess_from old next a is.next
+    module _ (bar : ℕ) (top : Option ℕ) (reached : reaches bar top ≡ true) where
+      pub next_past : IsTop g (EndsPast g trees n) top → IsPeak g urgency n (HasFrom bar (EndsPast g trees)) old → IsPeak g urgency (n + 1) (HasFrom bar (EndsPast g trees)) next
+      next_past is_top a = next_from g urgency n (EndsPast g trees) bar top is_top reached is.tree.paths excess_into excess_from old next a is.next

@@ -29,7 +29,7 @@ use Rattle.cpg_expand.specs.Ending.{durations_of, IsEndTree, IsReadyTree}
 use Rattle.cpg_expand.specs.Waiting.{ready_of, IsWaitTree}
 use Rattle.cpg_expand.specs.Later.{IsLaterTree}
 use Rattle.cpg_expand.specs.Forest.{ForestState, HasTrees, no_tree, times_of, ends_of, heard_tree, heard_delay, input_tree, input_delay}
-use Rattle.cpg_expand.specs.Guarded.{value_known, values_known, PicksByValue, IsActiveTree, told_of, latest_of, IsHeardTree, IsWithInputs, awaited, start_says, start_at, IsStartBy, IsStartTree}
+use Rattle.cpg_expand.specs.Guarded.{value_known, values_known, PicksByValue, IsActiveTree, told_of, latest_of, IsHeardTree, IsWithInputs, IsStartAfter, awaited, start_says, start_at, IsStartBy, IsStartTree}
 use Rattle.cpg_expand.proofs.AgreeingTrees.{agrees_weaker, agrees_constant, agrees_number, agrees_map, agrees_join, agrees_pick}
 
 -- ---- trees of at most k faults
@@ -177,17 +177,17 @@ one_input g f wait there both t e es of_wait of_there later made others s few ba
 pub no_start : (g : Graph) (f : ForestState) (wait : TreeState ℕ) (release : ℕ) (inputs : List ℕ) (t : TreeState (Option ℕ)) → IsConstant None g.faults t → IsStartBy g f wait release inputs Inactive t
 no_start g f wait release inputs t is s few base x tells tell time told = agrees_constant s None g.faults t (λ y. y ≡ None) refl is
 
-pub some_start : (g : Graph) (f : ForestState) (wait later both : TreeState ℕ) (t : TreeState (Option ℕ)) (release : ℕ) (inputs : List ℕ) (a : Activation) → is_active a ≡ true → IsTree g wait → IsTree g both →
-    IsMap (λ x z. z ≡ max x release) wait later → IsWithInputs g f later (awaited inputs a) both → IsMap (λ x z. z ≡ Some x) both t → IsStartBy g f wait release inputs a t
-some_start g f wait later both t release inputs a active of_wait of_both released withs made s few base x tells tell time told =
-    let after : Tells s base (max x release) later =
-    agrees_map s (λ x z. z ≡ max x release) wait later base (λ y. y ≡ x) (λ y. y ≡ max x release) (few_of g.faults wait.faults s of_wait.faults few) (each_of g wait.faults wait of_wait.faults of_wait) released
-    (λ y z e f. f ∙ ap (λ n. max n release) e) tells in
-    let all = withs s few base (max x release) after tell time told in
-    let at = max (max x release) (latest_of (input_delay g) time (awaited inputs a)) in
-    subst (λ (d : Bool). Tells s (if d then base ++ flat_map tell (awaited inputs a) else []) (if d then Some at else None) t) (sym active)
-    (agrees_map s (λ x z. z ≡ Some x) both t (base ++ flat_map tell (awaited inputs a)) (λ y. y ≡ at) (λ y. y ≡ Some at) (few_of g.faults both.faults s of_both.faults few) (each_of g both.faults both of_both.faults of_both) made
-    (λ y z e f. f ∙ ap (λ n. Some n) e) all)
+pub start_told : (g : Graph) (f : ForestState) (wait all : TreeState ℕ) (t : TreeState (Option ℕ)) (release : ℕ) (edges : List ℕ) → IsTree g all →
+    IsWithInputs g f wait edges all → IsMap (λ x z. z ≡ Some (max x release)) all t → IsStartAfter g f wait release edges t
+start_told g f wait all t release edges of_all withs made s few base x tells tell time told =
+    let latest = latest_of (input_delay g) time edges in
+    agrees_map s (λ y z. z ≡ Some (max y release)) all t (base ++ flat_map tell edges) (λ y. y ≡ max x latest) (λ y. y ≡ Some (max (max x release) latest)) (few_of g.faults all.faults s of_all.faults few) (each_of g all.faults all of_all.faults of_all) made
+    (λ y z e i. i ∙ ap Some (let same : max y release ≡ max (max x release) latest = omega (arith, e) in same)) (withs s few base x tells tell time told)
+
+pub start_active : (g : Graph) (f : ForestState) (wait : TreeState ℕ) (t : TreeState (Option ℕ)) (release : ℕ) (inputs : List ℕ) (a : Activation) → is_active a ≡ true → IsStartAfter g f wait release (awaited inputs a) t → IsStartBy g f wait release inputs a t
+start_active g f wait t release inputs a active is s few base x tells tell time told =
+    subst (λ (d : Bool). Tells s (if d then base ++ flat_map tell (awaited inputs a) else []) (if d then Some (max (max x release) (latest_of (input_delay g) time (awaited inputs a))) else None) t) (sym active)
+    (is s few base x tells tell time told)
 
 pub start_leaf : (g : Graph) (f : ForestState) (wait : TreeState ℕ) (release : ℕ) (inputs : List ℕ) (a : Activation) (t : TreeState (Option ℕ)) → IsStartBy g f wait release inputs a t → IsStartTree g f wait release inputs (Leaf a) t
 start_leaf g f wait release inputs a t is s few base x tells tell time told = is s few base x tells tell time told
@@ -281,6 +281,14 @@ ready_told g active end wait after t of_active of_end of_wait later each known m
     picked : (d : Bool) → b ≡ d → Agrees s second (λ z. z ≡ v) (if d then after else wait)
     picked true e = let both = ends e in subst (λ n. Agrees s second (λ z. z ≡ n) after) (sym both.1) (later_tells g 0 end after of_end later s few second x both.0)
     picked false e = let both = waits e in subst (λ n. Agrees s second (λ z. z ≡ n) wait) (sym both.1) both.0
+
+-- where the chooser is true everywhere
+pub ready_always : (g : Graph) (active : TreeState Bool) (end : TreeState (Option ℕ)) (wait after : TreeState ℕ) → IsConstant true active.faults active → IsTree g end → IsMap (λ x z. z ≡ time_later 0 x) end after → IsReadyTree g.faults active end wait after
+ready_always g active end wait after always of_end later s few b first second x w v of_b ends waits =
+    let there : Contains active.paths ([], true) = subst (λ (t : TreeState Bool). Contains t.paths ([], true)) (sym always) (Contains-first ([], true) []) in
+    let both = ends (sym (of_b.value ([], true) (record { stands = there; matched = refl }))) in
+    agrees_weaker s after second (first ++ second) (λ z. z ≡ time_later 0 x) (λ z. z ≡ v) (λ l j. Contains-append_right first second l j) (λ z e. e ∙ sym both.1)
+    (later_tells g 0 end after of_end later s few second x both.0)
 
 pub wait_told : (g : Graph) (f : ForestState) (node : ℕ) (guard : Guard) (ready heard t : TreeState ℕ) → ready ≡ ready_of g f node → IsTree g (ready_of g f node) → IsTree g heard → IsHeardTree g f node guard heard →
     IsJoin (λ x y z. z ≡ max x y) ready heard t → IsWaitTree g f node guard t

@@ -52,6 +52,12 @@ IsWithInputs g f wait edges t = (s : Scenario) → HasFew g.faults s → (base :
     ((e : ℕ) → Contains edges e → Tells s (tell e) (time e) (input_tree g f e)) →
     Tells s (base ++ flat_map tell edges) (max x (latest_of (input_delay g) time edges)) t
 
+-- the starts after a release and after these inputs are there too
+abbrev pub IsStartAfter : Graph → ForestState → TreeState ℕ → ℕ → List ℕ → TreeState (Option ℕ) → Type 0
+IsStartAfter g f wait release edges t = (s : Scenario) → HasFew g.faults s → (base : List Literal) (x : ℕ) → Tells s base x wait → (tell : ℕ → List Literal) (time : ℕ → Option ℕ) →
+    ((e : ℕ) → Contains edges e → Tells s (tell e) (time e) (input_tree g f e)) →
+    Tells s (base ++ flat_map tell edges) (Some (max (max x release) (latest_of (input_delay g) time edges))) t
+
 -- the inputs that a process with an activation waits for
 abbrev pub awaited : List ℕ → Activation → List ℕ
 awaited inputs Inactive = []

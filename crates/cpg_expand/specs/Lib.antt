@@ -14,5 +14,6 @@ pub mod Grown
 pub mod Sent
 pub mod Begun
 pub mod Peaks
+pub mod Tops
 pub mod Active
 pub mod Measured

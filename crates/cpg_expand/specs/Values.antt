@@ -20,6 +20,16 @@ abbrev pub slot_from : ShareState → ℕ → Option ℕ → Option ℕ
 slot_from share free None = None
 slot_from share free (Some time) = if nat_lt time (2 ^ 59) then Some (max (next_of share time) free) else None
 
+-- in two steps: the first slot at the time or later, and 0 where none is asked for
+abbrev pub slot_at : ShareState → Option ℕ → ℕ
+slot_at share None = 0
+slot_at share (Some time) = if nat_lt time (2 ^ 59) then next_of share time else 0
+
+-- and the slot where one is asked for
+abbrev pub slot_if : ℕ → Option ℕ → Option ℕ
+slot_if slot None = None
+slot_if slot (Some time) = if nat_lt time (2 ^ 59) then Some slot else None
+
 -- how far a time is past its due, where it is
 abbrev pub time_past : ℕ → Option ℕ → Option ℕ
 time_past due None = None

@@ -57,6 +57,9 @@ pub(crate) fn ready(
     ensures ready { IfOk result (IsReadyTree problem.now.faults active.now end.now wait.now) }
 {
     let after = later(end, 0)?;
+    if active.is_true() {
+        return Ok(after);
+    }
     let ready = Tree::pick(active, &after, wait)?;
     Ok(ready)
 }

@@ -3,11 +3,11 @@ ghost use Rattle.std.specs.Prelude.{◌≡◌, ◌<◌, ◌≤◌, All, IfOk, tr
 ghost use Rattle.cpg_base.specs.Graph.{condition_count, edge_count};
 ghost use Rattle.cpg_expand.specs.Agreeing.{IsTree};
 ghost use Rattle.cpg_expand.specs.Forest.{HasTrees};
-ghost use Rattle.cpg_expand.specs.Guarded.{IsActiveTree, IsHeardTree, IsStartBy, IsStartTree, IsWithInputs, LeadsBelow, PicksByValue, IsByBelow};
+ghost use Rattle.cpg_expand.specs.Guarded.{IsActiveTree, IsHeardTree, IsStartAfter, IsStartBy, IsStartTree, IsWithInputs, LeadsBelow, PicksByValue, IsByBelow};
 ghost use Rattle.cpg_guard.specs.Trees.{TestsBelow};
 
 use crate::forest::Forest;
-use crate::values::{released, some};
+use crate::values::started;
 use cpg_base::{Activation, OutOfMemory, Problem};
 use cpg_guard::{GuardTop, GuardTree};
 use cpg_tree::{Tree, value};
@@ -111,6 +111,31 @@ fn with_inputs(
     Ok(all)
 }
 
+/// The starts of a process that waits until a time, its release and for these inputs.
+fn start_after(
+    problem: &Problem,
+    forest: &Forest,
+    wait: &Tree<u64>,
+    release: u64,
+    edges: &[u32],
+) -> Result<Tree<Option<u64>>, OutOfMemory>
+    requires forest { HasTrees problem.now forest.now }
+    requires wait { IsTree problem.now wait.now }
+    requires edges { All (λ e. e < edge_count problem.now) edges.now }
+    ensures tree { IfOk result (IsTree problem.now) }
+    ensures start { IfOk result (IsStartAfter problem.now forest.now wait.now release edges.now) }
+{
+    let Some((edge, others)) = edges.split_first() else {
+        let start = started(wait, release)?;
+        return Ok(start);
+    };
+    let there = forest.input_there(problem, *edge)?;
+    let both = wait.max(&there)?;
+    let all = with_inputs(problem, forest, both, others)?;
+    let start = started(&all, release)?;
+    Ok(start)
+}
+
 /// The starts of a process with an activation that waits until a time, its release and for its inputs.
 fn start_by(
     alloc: Global,
@@ -134,15 +159,11 @@ fn start_by(
             Ok(constant)
         }
         Activation::Plain => {
-            let released = released(wait, release)?;
-            let both = with_inputs(problem, forest, released, inputs)?;
-            let start = some(&both)?;
+            let start = start_after(problem, forest, wait, release, inputs)?;
             Ok(start)
         }
         Activation::By(edge) => {
-            let released = released(wait, release)?;
-            let both = with_inputs(problem, forest, released, &[edge])?;
-            let start = some(&both)?;
+            let start = start_after(problem, forest, wait, release, &[edge])?;
             Ok(start)
         }
     }

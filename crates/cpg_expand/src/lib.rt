@@ -14,6 +14,7 @@ mod measuring;
 mod rows;
 mod sending;
 mod starting;
+mod tops;
 mod values;
 
 pub use activity::active_item;

@@ -7,6 +7,7 @@ ghost use Rattle.cpg_expand.specs.Agreeing.{IsTree};
 ghost use Rattle.cpg_expand.specs.Peaks.{EndsAt, EndsPast, IsNextExcess, IsNextPeak, IsPeak, IsWorstOfTrees, IsExcessOfTrees, goes_before, or_time};
 ghost use Rattle.cpg_order.specs.Scenario.{IsScenario};
 
+use crate::tops::{bar_of, past_tops, reaches, tops_of};
 use crate::values::past;
 use cpg_base::{OutOfMemory, Problem, Scenario};
 use cpg_order::{Order, is_before};
@@ -131,9 +132,13 @@ pub(crate) fn worst(
     ensures peak { IfOk result (IsPeak problem.now urgency.now (process_count problem.now) (EndsAt problem.now ends.now)) }
     ensures worst { IfOk result (IsWorstOfTrees problem.now urgency.now ends.now) }
 {
+    let tops = tops_of(alloc, ends)?;
+    let bar = bar_of(tops.as_slice());
     let mut peak = Peak::none(alloc, problem)?;
     for process in 0..problem.processes().len() as u32 {
-        peak = peak.or(problem, urgency, &ends[process as usize], process)?;
+        if reaches(bar, tops[process as usize]) {
+            peak = peak.or(problem, urgency, &ends[process as usize], process)?;
+        }
     }
     Ok(peak)
 }
@@ -151,9 +156,14 @@ pub(crate) fn excess(
     ensures peak { IfOk result (IsPeak problem.now urgency.now (process_count problem.now) (EndsPast problem.now ends.now)) }
     ensures excess { IfOk result (IsExcessOfTrees problem.now urgency.now ends.now) }
 {
+    let tops = tops_of(alloc, ends)?;
+    let past = past_tops(alloc, problem, tops.as_slice())?;
+    let bar = bar_of(past.as_slice());
     let mut peak = Peak::none(alloc, problem)?;
     for process in 0..problem.processes().len() as u32 {
-        peak = peak.or_past(problem, urgency, &ends[process as usize], process)?;
+        if reaches(bar, past[process as usize]) {
+            peak = peak.or_past(problem, urgency, &ends[process as usize], process)?;
+        }
     }
     Ok(peak)
 }

@@ -1,7 +1,7 @@
 //! What becomes of the values of trees.
 ghost use Rattle.std.specs.Prelude.{ℕ, ◌≡◌, max, Bool, Some, IfOk};
 ghost use Rattle.cpg_base.specs.Numbers.{same_bool};
-ghost use Rattle.cpg_expand.specs.Values.{time_later, time_if, ended, slot_from, time_past};
+ghost use Rattle.cpg_expand.specs.Values.{time_later, time_if, ended, slot_at, slot_if, slot_from, time_past};
 ghost use Rattle.cpg_tree.specs.Tree.{HasOnePathEach, DoPathsPass, IsMap, IsJoin};
 
 use cpg_base::OutOfMemory;
@@ -27,13 +27,13 @@ pub(crate) fn later(tree: &Tree<Option<u64>>, delay: u64) -> Result<Tree<u64>, O
     tree.map(&|time: Option<u64>| time_later(time, delay))
 }
 
-/// The times of a tree or a release, whichever is later.
-pub(crate) fn released(tree: &Tree<u64>, release: u64) -> Result<Tree<u64>, OutOfMemory>
-    ensures is { IfOk result (IsMap (λ x z. z ≡ max x release) tree.now) }
+/// The times of a tree or a release, whichever is later, as starts in all scenarios.
+pub(crate) fn started(tree: &Tree<u64>, release: u64) -> Result<Tree<Option<u64>>, OutOfMemory>
+    ensures is { IfOk result (λ t. IsMap (λ x z. z ≡ Some (max x release)) tree.now t) }
     ensures each { IfOk result (λ t. HasOnePathEach t.faults t.paths) }
     ensures pass { IfOk result (λ t. (test : ℕ → Bool) → DoPathsPass test tree.now.paths → DoPathsPass test t.paths) }
 {
-    tree.map(&|time: u64| time.max(release))
+    tree.map(&|time: u64| Some(time.max(release)))
 }
 
 /// Where a tree has a value.
@@ -68,15 +68,6 @@ pub(crate) fn fixed(tree: &Tree<bool>, time: u64) -> Result<Tree<Option<u64>>, O
     tree.map(&|is: bool| time_if(is, time))
 }
 
-/// The times of a tree in all scenarios.
-pub(crate) fn some(tree: &Tree<u64>) -> Result<Tree<Option<u64>>, OutOfMemory>
-    ensures is { IfOk result (IsMap (λ x z. z ≡ Some x) tree.now) }
-    ensures each { IfOk result (λ t. HasOnePathEach t.faults t.paths) }
-    ensures pass { IfOk result (λ t. (test : ℕ → Bool) → DoPathsPass test tree.now.paths → DoPathsPass test t.paths) }
-{
-    tree.map(&|time: u64| Some(time))
-}
-
 /// The end of an execution with so many faults, where there is a start.
 fn ended(start: Option<u64>, durations: &[u64], faults: u8) -> Option<u64>
     ensures { result ≡ ended durations.now faults start }
@@ -106,17 +97,49 @@ pub(crate) fn ends(
     )
 }
 
-/// The first slot at the time or later, which is free.
-fn slot_from(share: Share, time: Option<u64>, free: u64) -> Option<u64>
-    ensures { result ≡ slot_from share free time }
+/// The first slot at the time or later, and 0 where none is asked for.
+fn slot_at(share: Share, time: Option<u64>) -> u64
+    ensures { result ≡ slot_at share time }
 {
-    let time = time?;
+    let Some(time) = time else {
+        return 0;
+    };
     if time < LATE {
         let _length = share.length();
-        Some(share.next_slot(time).max(free))
+        share.next_slot(time)
     } else {
-        None
+        0
     }
+}
+
+/// The slot, where one is asked for.
+fn slot_if(time: Option<u64>, slot: u64) -> Option<u64>
+    ensures { result ≡ slot_if slot time }
+{
+    let time = time?;
+    if time < LATE { Some(slot) } else { None }
+}
+
+/// The first slots at the times of a tree or later, and 0 where none is asked for.
+fn next_slots(share: Share, end: &Tree<Option<u64>>) -> Result<Tree<u64>, OutOfMemory>
+    ensures is { IfOk result (IsMap (λ x z. z ≡ slot_at share x) end.now) }
+    ensures each { IfOk result (λ t. HasOnePathEach t.faults t.paths) }
+    ensures pass { IfOk result (λ t. (test : ℕ → Bool) → DoPathsPass test end.now.paths → DoPathsPass test t.paths) }
+{
+    end.map(&|time: Option<u64>| slot_at(share, time))
+}
+
+/// The slots of a tree, where one is asked for.
+fn asked(end: &Tree<Option<u64>>, slots: &Tree<u64>) -> Result<Tree<Option<u64>>, OutOfMemory>
+    requires { end.now.faults ≡ slots.now.faults }
+    ensures is { IfOk result (IsJoin (λ x y z. z ≡ slot_if y x) end.now slots.now) }
+    ensures each { IfOk result (λ t. HasOnePathEach t.faults t.paths) }
+    ensures pass { IfOk result (λ t. (test : ℕ → Bool) → DoPathsPass test end.now.paths → DoPathsPass test slots.now.paths → DoPathsPass test t.paths) }
+{
+    end.join_with(
+        slots,
+        &|time: Option<u64>, slot: u64| { slot_if(time, slot) },
+    )
 }
 
 /// The first slots at the times of a tree or later that are free.
@@ -130,14 +153,14 @@ pub(crate) fn slots(
     ensures each { IfOk result (λ t. HasOnePathEach t.faults t.paths) }
     ensures pass { IfOk result (λ t. (test : ℕ → Bool) → DoPathsPass test end.now.paths → DoPathsPass test free.now.paths → DoPathsPass test t.paths) }
 {
-    end.join_with(
-        free,
-        &|end: Option<u64>, free: u64| { slot_from(share, end, free) },
-    )
+    // where the slots are at least `free` everywhere, `max` tests nothing of it
+    let next = next_slots(share, end)?;
+    let slots = next.max(free)?;
+    asked(end, &slots)
 }
 
 /// How far a time is past its due, where it is.
-fn time_past(time: Option<u64>, due: u64) -> Option<u64>
+pub(crate) fn time_past(time: Option<u64>, due: u64) -> Option<u64>
     ensures { result ≡ time_past due time }
 {
     let time = time?;

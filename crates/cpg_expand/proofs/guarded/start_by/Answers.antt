@@ -4,24 +4,16 @@ use Rattle.cpg_base.specs.declared.activation.Activation.TheVariants.{Plain, By}
 use Rattle.cpg_tree.specs.Tree.{IsConstant}
 use Rattle.cpg_tree.specs.Variables.{is_variable}
 use Rattle.cpg_expand.specs.Guarded.{IsStartBy}
-use Rattle.cpg_expand.proofs.TreesTold.{some_start, no_start, same_tree, constant_tree}
+use Rattle.cpg_expand.proofs.TreesTold.{start_active, no_start, constant_tree}
 use Rattle.cpg_expand.proofs.guarded.start_by.Goals as goal
 
 pub returns-in_ok-start-in-Plain-clause-start : goal.returns-in_ok-start-in-Plain-clause-start
 returns-in_ok-start-in-Plain-clause-start c = subst (λ (a : Activation). IsStartBy c.args.problem.now c.args.forest.now c.args.wait.now c.args.release c.args.inputs.now a c.in_ok-start-in-Plain.start) (sym c.in-Plain.is)
-    (some_start c.args.problem.now c.args.forest.now c.args.wait.now c.in_ok-released-in-Plain.released c.in_ok-both-in-Plain.both c.in_ok-start-in-Plain.start c.args.release c.args.inputs.now Plain refl
-    c.requires.wait c.in_ok-both-in-Plain.ensures.tree c.in_ok-released-in-Plain.ensures.is c.in_ok-both-in-Plain.ensures.inputs c.in_ok-start-in-Plain.ensures.is)
-
-pub returns-in_ok-start-in-By-clause-tree : goal.returns-in_ok-start-in-By-clause-tree
-returns-in_ok-start-in-By-clause-tree c = same_tree c.args.problem.now c.in_ok-both-in-By.both c.in_ok-start-in-By.start c.in_ok-both-in-By.ensures.tree.faults c.in_ok-start-in-By.ensures.is.faults c.in_ok-start-in-By.ensures.each (c.in_ok-start-in-By.ensures.pass (is_variable c.args.problem.now) c.in_ok-both-in-By.ensures.tree.known)
+    (start_active c.args.problem.now c.args.forest.now c.args.wait.now c.in_ok-start-in-Plain.start c.args.release c.args.inputs.now Plain refl c.in_ok-start-in-Plain.ensures.start)
 
 pub returns-in_ok-start-in-By-clause-start : goal.returns-in_ok-start-in-By-clause-start
 returns-in_ok-start-in-By-clause-start c = subst (λ (a : Activation). IsStartBy c.args.problem.now c.args.forest.now c.args.wait.now c.args.release c.args.inputs.now a c.in_ok-start-in-By.start) (sym c.in-By.is)
-    (some_start c.args.problem.now c.args.forest.now c.args.wait.now c.in_ok-released-in-By.released c.in_ok-both-in-By.both c.in_ok-start-in-By.start c.args.release c.args.inputs.now (By c.in-By.edge) refl
-    c.requires.wait c.in_ok-both-in-By.ensures.tree c.in_ok-released-in-By.ensures.is c.in_ok-both-in-By.ensures.inputs c.in_ok-start-in-By.ensures.is)
-
-pub returns-in_ok-start-in-Plain-clause-tree : goal.returns-in_ok-start-in-Plain-clause-tree
-returns-in_ok-start-in-Plain-clause-tree c = same_tree c.args.problem.now c.in_ok-both-in-Plain.both c.in_ok-start-in-Plain.start c.in_ok-both-in-Plain.ensures.tree.faults c.in_ok-start-in-Plain.ensures.is.faults c.in_ok-start-in-Plain.ensures.each (c.in_ok-start-in-Plain.ensures.pass (is_variable c.args.problem.now) c.in_ok-both-in-Plain.ensures.tree.known)
+    (start_active c.args.problem.now c.args.forest.now c.args.wait.now c.in_ok-start-in-By.start c.args.release c.args.inputs.now (By c.in-By.edge) refl c.in_ok-start-in-By.ensures.start)
 
 pub returns-in_ok-constant-in-Inactive-clause-tree : goal.returns-in_ok-constant-in-Inactive-clause-tree
 returns-in_ok-constant-in-Inactive-clause-tree c = constant_tree c.args.problem.now None c.faults.result c.in_ok-constant-in-Inactive.constant c.faults.ensures.faults c.in_ok-constant-in-Inactive.ensures.each c.in_ok-constant-in-Inactive.ensures.is
@@ -31,11 +23,3 @@ pub returns-in_ok-constant-in-Inactive-clause-start : goal.returns-in_ok-constan
 returns-in_ok-constant-in-Inactive-clause-start c = subst (λ (a : Activation). IsStartBy c.args.problem.now c.args.forest.now c.args.wait.now c.args.release c.args.inputs.now a c.in_ok-constant-in-Inactive.constant) (sym c.in-Inactive.is)
     (no_start c.args.problem.now c.args.forest.now c.args.wait.now c.args.release c.args.inputs.now c.in_ok-constant-in-Inactive.constant
     (subst (λ k. IsConstant None k c.in_ok-constant-in-Inactive.constant) c.faults.ensures.faults c.in_ok-constant-in-Inactive.ensures.is))
-
-pub with_inputs-requires-clause-wait : goal.with_inputs-requires-clause-wait
-with_inputs-requires-clause-wait c = same_tree c.args.problem.now c.args.wait.now c.in_ok-released-in-Plain.released c.requires.wait.faults c.in_ok-released-in-Plain.ensures.is.faults c.in_ok-released-in-Plain.ensures.each
-    (c.in_ok-released-in-Plain.ensures.pass (is_variable c.args.problem.now) c.requires.wait.known)
-
-pub with_inputs-requires-in-By-clause-wait : goal.with_inputs-requires-in-By-clause-wait
-with_inputs-requires-in-By-clause-wait c = same_tree c.args.problem.now c.args.wait.now c.in_ok-released-in-By.released c.requires.wait.faults c.in_ok-released-in-By.ensures.is.faults c.in_ok-released-in-By.ensures.each
-    (c.in_ok-released-in-By.ensures.pass (is_variable c.args.problem.now) c.requires.wait.known)

@@ -1,0 +1,5 @@
+use Rattle.cpg_expand.specs.Tops.{AreTops}
+use Rattle.cpg_expand.proofs.tops.tops_of.Given as goal
+
+abbrev pub invariant-loop-tree : goal.invariant-loop-tree
+invariant-loop-tree l = AreTops l.trees l.tree-index l.tops.items
