@@ -14,7 +14,7 @@ use crate::course::Courses;
 use crate::listening::{Listener, are_all_known, own_ended};
 use crate::speakers::speakers;
 use crate::turns::Turns;
-use cpg_base::{OutOfMemory, Problem};
+use cpg_base::{Item, OutOfMemory, Problem};
 use cpg_rules::Admitted;
 use cpg_table::{Entry, Tables};
 use cpg_violation::{columns_of, is_marked};
@@ -60,6 +60,47 @@ fn longest_first(
     Ok(items)
 }
 
+/// Whether an item is a message to a process.
+fn is_input(problem: &Problem, process: u32, item: u32) -> bool {
+    if item >= problem.item_count() {
+        return false;
+    }
+    match problem.item(item) {
+        Item::Message(edge) => problem.target(edge) == process,
+        Item::Start(_) | Item::Broadcast(_) => false,
+    }
+}
+
+/// Adds the items that are messages to a process, or those that aren't.
+fn push_inputs(
+    problem: &Problem,
+    process: u32,
+    are_inputs: bool,
+    items: &[u32],
+    sorted: &mut Vec<u32>,
+) -> Result<(), OutOfMemory> {
+    for item in items {
+        if is_input(problem, process, *item) == are_inputs {
+            sorted.push(*item)?;
+        }
+    }
+    Ok(())
+}
+
+/// These items, the messages to a process first: these mostly tell all that its columns speak of.
+fn inputs_first(
+    alloc: Global,
+    problem: &Problem,
+    process: u32,
+    items: &[u32],
+) -> Result<Vec<u32>, OutOfMemory> {
+    let mut sorted = Vec::new(alloc);
+    sorted.reserve(items.len())?;
+    push_inputs(problem, process, true, items, &mut sorted)?;
+    push_inputs(problem, process, false, items, &mut sorted)?;
+    Ok(sorted)
+}
+
 /// What all nodes may hear: the executions in turn, and the frames of all items, those with the longest columns first.
 #[derive(Drop)]
 struct Hall<'a> {
@@ -87,7 +128,9 @@ impl<'a> Hall<'a> {
             return Ok(true);
         }
         let node = problem.home(item);
-        let speakers = speakers(alloc, problem, self.frames, node, self.items.as_slice())?;
+        let process = problem.producer(item);
+        let items = inputs_first(alloc, problem, process, self.items.as_slice())?;
+        let speakers = speakers(alloc, problem, self.frames, node, items.as_slice())?;
         let listener = Listener {
             admitted: self.admitted,
             turns: self.turns,

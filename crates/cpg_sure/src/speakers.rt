@@ -73,16 +73,28 @@ fn is_as_close(literal: &Literal, wanted: &Literal) -> bool
     literal.variable == wanted.variable && wanted.low <= literal.low && literal.high <= wanted.high
 }
 
+/// Where a variable's literal stands among literals by rising variable, if there is one.
+fn place_of(literals: &[Literal], variable: u8) -> usize {
+    let mut first = 0;
+    let mut end = literals.len();
+    while first < end {
+        let middle = first + (end - first) / 2;
+        match literals.get(middle) {
+            Some(literal) if literal.variable < variable => first = middle + 1,
+            _ => end = middle,
+        }
+    }
+    first
+}
+
 /// Whether one of these literals, by rising variable, does.
 fn tells(literals: &[Literal], wanted: &Literal) -> bool
     ensures { OnTrue result (IsToldIn literals.now wanted.now) }
 {
-    for literal in literals {
-        if literal.variable >= wanted.variable {
-            return is_as_close(literal, wanted);
-        }
+    match literals.get(place_of(literals, wanted.variable)) {
+        Some(literal) => is_as_close(literal, wanted),
+        None => false,
     }
-    false
 }
 
 /// Whether the literals of the column at a place do.
