@@ -17,3 +17,4 @@ pub mod NameBytes
 pub mod WholePack
 pub mod Records
 pub mod Lengths
+pub mod Taking

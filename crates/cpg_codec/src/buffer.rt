@@ -1,10 +1,13 @@
 //! A buffer in front of a sink.
-ghost use Rattle.std.specs.Prelude.{◌≡◌, ◌≤◌, ◌+◌, ◌++◌, [], IfOk, OnOk, OnErr, length};
+ghost use Rattle.std.specs.Prelude.{◌≡◌, ◌≤◌, ◌+◌, ◌*◌, ◌++◌, [], IfOk, OnOk, OnErr, length, vec_len, vec_capacity};
+ghost use Rattle.std.specs.List.{flat_map};
 ghost use Rattle.std.specs.Io.KnownBytes.{Appends};
 ghost use Rattle.cpg_io.specs.Causes.{HasCause};
 ghost use Rattle.cpg_io.specs.Sink.{TookPrefix};
+ghost use Rattle.cpg_codec.specs.Spelling.{literal_bytes};
 ghost use Rattle.cpg_codec.specs.Writing.{Puts};
 
+use cpg_cube::Literal;
 use cpg_io::{Failed, Sink, write_all};
 use std::alloc::{AllocError, Global};
 use std::marker::Model;
@@ -28,6 +31,20 @@ impl Model for Buffer {
     ghost invariant = { λ b. (vec_len b.bytes ≤ 65536) × (65536 ≤ vec_capacity b.bytes) };
 }
 
+/// Adds literals, three bytes each, for which there is room.
+fn push_literals(bytes: &mut Vec<u8>, literals: &[Literal])
+    requires { vec_len bytes.old + 3 * length literals.now ≤ vec_capacity bytes.old }
+    ensures items { bytes.new.items ≡ bytes.old.items ++ flat_map literal_bytes literals.now }
+    ensures len { vec_len bytes.new ≡ vec_len bytes.old + 3 * length literals.now }
+    ensures capacity { vec_capacity bytes.new ≡ vec_capacity bytes.old }
+{
+    for literal in literals {
+        bytes.push_reserved(literal.variable);
+        bytes.push_reserved(literal.low);
+        bytes.push_reserved(literal.high);
+    }
+}
+
 impl Buffer {
     /// An empty buffer, which reserves all that it ever needs.
     pub fn new(alloc: Global) -> Result<Buffer, AllocError>
@@ -35,6 +52,21 @@ impl Buffer {
     {
         let bytes = Vec::with_capacity(alloc, SIZE)?;
         Ok(Buffer { bytes })
+    }
+
+    /// For how many bytes there is room.
+    pub fn room(&self) -> usize
+        ensures { length self.now + result ≡ 65536 }
+    {
+        SIZE - self.bytes.len()
+    }
+
+    /// Adds literals, three bytes each, for which there is room.
+    pub fn hold_literals(&mut self, literals: &[Literal])
+        requires { length self.old + 3 * length literals.now ≤ 65536 }
+        ensures { self.new ≡ self.old ++ flat_map literal_bytes literals.now }
+    {
+        push_literals(&mut self.bytes, literals);
     }
 
     /// Adds bytes for which there is room.
@@ -65,7 +97,7 @@ impl Buffer {
         ensures put { Puts (O.taken sink.old) (O.taken sink.new) self.old self.new result piece.now }
         ensures cause { HasCause (O.faults sink.old) (O.faults sink.new) result }
     {
-        let free = SIZE - self.bytes.len();
+        let free = self.room();
         if piece.len() < free {
             self.hold(piece);
             return Ok(());

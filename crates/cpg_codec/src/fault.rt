@@ -90,3 +90,45 @@ impl<T: Drop> From<AllocFailed<T>> for ReadError {
         ReadError::Memory
     }
 }
+
+/// Why rows weren't taken as they stand.
+#[derive(Clone, Copy, Debug)]
+pub enum Untaken {
+    /// They may be no rows of a pack: reading them field by field tells.
+    Odd,
+    /// Want of memory.
+    Memory,
+}
+
+impl From<NoMemory> for Untaken {
+    ghost use Rattle.std.specs.Prelude.{◌≡◌};
+    ghost use Rattle.cpg_codec.specs.declared.fault.Untaken.{Untaken};
+
+    ghost from_gives = { λ _ e. e ≡ Untaken.Memory };
+
+    fn from(_: NoMemory) -> Untaken {
+        Untaken::Memory
+    }
+}
+
+impl From<AllocError> for Untaken {
+    ghost use Rattle.std.specs.Prelude.{◌≡◌};
+    ghost use Rattle.cpg_codec.specs.declared.fault.Untaken.{Untaken};
+
+    ghost from_gives = { λ _ e. e ≡ Untaken.Memory };
+
+    fn from(_: AllocError) -> Untaken {
+        Untaken::Memory
+    }
+}
+
+impl<T: Drop> From<AllocFailed<T>> for Untaken {
+    ghost use Rattle.std.specs.Prelude.{◌≡◌};
+    ghost use Rattle.cpg_codec.specs.declared.fault.Untaken.{Untaken};
+
+    ghost from_gives = { λ _ e. e ≡ Untaken.Memory };
+
+    fn from(_: AllocFailed<T>) -> Untaken {
+        Untaken::Memory
+    }
+}

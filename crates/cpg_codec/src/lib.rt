@@ -15,6 +15,7 @@ mod head_writing;
 mod lawful;
 mod reading;
 mod row_reading;
+mod row_taking;
 mod row_writing;
 mod space;
 mod writing;

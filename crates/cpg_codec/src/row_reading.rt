@@ -7,11 +7,12 @@ ghost use Rattle.cpg_codec.specs.Reading.{number_at, within, times_at, byte_by, 
 ghost use Rattle.cpg_codec.specs.Grammar.{IsSpace, room, variable_may, low_end, high_end, literal_at, literals_at, front_at, column_at, row_at, rows_at, items_of_node, node_table_at};
 ghost use Rattle.cpg_codec.specs.Gives.{Gives};
 
-use crate::fault::ReadError;
+use crate::fault::{ReadError, Untaken};
 use crate::field_reading::{number_of, small_of, time_of};
 use crate::fixed::{
     Fixed, column_literals, column_time, literal_high, literal_low, literal_variable,
 };
+use crate::row_taking::take_table;
 use crate::space::Space;
 use cpg_base::{FIRST_VALUE, MOST_COLUMNS, MOST_LOAD, OutOfMemory, top};
 use cpg_cube::{Cube, Literal};
@@ -284,10 +285,9 @@ fn rows_of<'a>(
     Ok((rows, total, rest))
 }
 
-/// The table of a node, where `before` columns were read before, and how many were read up to its end. `items` are
-/// those of its rows.
+/// The table of a node, field by field.
 #[tactic(auto, unfolding(crate::specs::Grammar::node_table_at))]
-pub fn table_of<'a>(
+fn table_by_fields<'a>(
     alloc: Global,
     bytes: &'a [u8],
     head: &Head,
@@ -308,5 +308,30 @@ pub fn table_of<'a>(
     match table {
         Some(table) => Ok((table, total, rest)),
         None => unreachable!(),
+    }
+}
+
+/// The table of a node, where `before` columns were read before, and how many were read up to its end. `items` are
+/// those of its rows.
+pub fn table_of<'a>(
+    alloc: Global,
+    bytes: &'a [u8],
+    head: &Head,
+    space: &Space,
+    node: u32,
+    items: &[u32],
+    before: u64,
+) -> Result<(NodeTable, u64, &'a [u8]), ReadError>
+    requires space { space.now ≡ space_of head.now }
+    requires within { IsSpace space.now }
+    requires before { before ≤ MOST_LOAD }
+    requires items { items.now ≡ items_of_node head.now node }
+    ensures gives { Gives (λ x. (x.0, x.2.now)) result (node_table_at head.now node before bytes.now) }
+    ensures total { IfOk result (λ x. (x.1 ≡ before + column_count (rows_of x.0)) × (x.1 ≤ MOST_LOAD)) }
+{
+    match take_table(alloc, bytes, head, node, items, before) {
+        Ok(taken) => Ok(taken),
+        Err(Untaken::Memory) => Err(ReadError::Memory),
+        Err(Untaken::Odd) => table_by_fields(alloc, bytes, head, space, node, items, before),
     }
 }

@@ -27,6 +27,18 @@ pub fn put_short<O: Sink>(buffer: &mut Buffer, sink: &mut O, number: u16) -> Res
     buffer.put(sink, &number.to_be_bytes())
 }
 
+/// Literals, one after another.
+fn put_each<O: Sink>(buffer: &mut Buffer, sink: &mut O, literals: &[Literal]) -> Result<(), Failed>
+    ensures put { Puts (O.taken sink.old) (O.taken sink.new) buffer.old buffer.new result (flat_map literal_bytes literals.now) }
+    ensures cause { HasCause (O.faults sink.old) (O.faults sink.new) result }
+{
+    for literal in literals {
+        buffer.put(sink, &[literal.variable, literal.low, literal.high])?;
+    }
+    Ok(())
+}
+
+/// Literals, all at once where the buffer has room for them.
 fn put_literals<O: Sink>(
     buffer: &mut Buffer,
     sink: &mut O,
@@ -35,10 +47,11 @@ fn put_literals<O: Sink>(
     ensures put { Puts (O.taken sink.old) (O.taken sink.new) buffer.old buffer.new result (flat_map literal_bytes literals.now) }
     ensures cause { HasCause (O.faults sink.old) (O.faults sink.new) result }
 {
-    for literal in literals {
-        buffer.put(sink, &[literal.variable, literal.low, literal.high])?;
+    if literals.len() <= buffer.room() / 3 {
+        buffer.hold_literals(literals);
+        return Ok(());
     }
-    Ok(())
+    put_each(buffer, sink, literals)
 }
 
 /// How many literals a column has, and these.

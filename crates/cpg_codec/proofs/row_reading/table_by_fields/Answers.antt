@@ -1,5 +1,5 @@
 use Rattle.cpg_codec.proofs.TableFields.{rows_are_of}
-use Rattle.cpg_codec.proofs.row_reading.table_of.Goals as goal
+use Rattle.cpg_codec.proofs.row_reading.table_by_fields.Goals as goal
 
 pub unreachable-requires : goal.unreachable-requires
 unreachable-requires c =

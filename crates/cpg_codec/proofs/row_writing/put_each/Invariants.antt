@@ -2,7 +2,7 @@ use Rattle.std.proofs.Common.{◌≤◌, take}
 use Rattle.std.specs.List.{flat_map}
 use Rattle.cpg_codec.specs.Spelling.{literal_bytes}
 use Rattle.cpg_codec.specs.Writing.{IsPut}
-use Rattle.cpg_codec.proofs.row_writing.put_literals.Given as goal
+use Rattle.cpg_codec.proofs.row_writing.put_each.Given as goal
 
 abbrev pub invariant-loop-literal : goal.invariant-loop-literal
 invariant-loop-literal g l = record {

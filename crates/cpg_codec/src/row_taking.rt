@@ -1,0 +1,155 @@
+//! Rows taken from bytes as they stand: their literals are judged once, where a whole table is made of them. Reading
+//! field by field tells where bytes that make no table go wrong.
+ghost use Rattle.std.specs.Prelude.{◌≡◌, ◌≤◌, ◌+◌, ◌++◌, ◌∷◌, length, Ok, IfOk};
+ghost use Rattle.std.specs.List.{flat_map};
+ghost use Rattle.std.specs.Int.{w64, to_be_bytes};
+ghost use Rattle.cpg_table.specs.Lawful.{space_of, column_count, rows_of};
+ghost use Rattle.cpg_codec.specs.Spelling.{literal_bytes, column_bytes, row_bytes};
+ghost use Rattle.cpg_codec.specs.Grammar.{IsSpace, node_table_at};
+
+use crate::fault::Untaken;
+use cpg_base::MOST_LOAD;
+use cpg_cube::{Cube, Literal};
+use cpg_table::{Entry, Head, NodeTable, Row};
+use std::alloc::Global;
+
+/// The time of a column, in time units of the graph file, and how many literals it has.
+fn take_front(bytes: &[u8]) -> Result<(u64, u8, &[u8]), Untaken>
+    ensures { IfOk result (λ x. bytes.now ≡ to_be_bytes w64 x.0 ++ x.1 ∷ x.2.now) }
+{
+    let [a, b, c, d, e, f, g, h, count, rest @ ..] = bytes else {
+        return Err(Untaken::Odd);
+    };
+    let time = u64::from_be_bytes([*a, *b, *c, *d, *e, *f, *g, *h]);
+    Ok((time, *count, rest))
+}
+
+/// So many literals, in place of those that `held` had.
+fn take_literals<'a>(
+    held: &mut Vec<Literal>,
+    bytes: &'a [u8],
+    count: u8,
+) -> Result<&'a [u8], Untaken>
+    ensures taken { IfOk result (λ rest. bytes.now ≡ flat_map literal_bytes held.new.items ++ rest.now) }
+    ensures count { IfOk result (λ rest. length held.new.items ≡ count) }
+{
+    held.clear();
+    held.reserve(count as usize)?;
+    let mut rest = bytes;
+    for _ in 0..count {
+        let [variable, low, high, behind @ ..] = rest else {
+            return Err(Untaken::Odd);
+        };
+        held.push_reserved(Literal {
+            variable: *variable,
+            low: *low,
+            high: *high,
+        });
+        rest = behind;
+    }
+    Ok(rest)
+}
+
+/// A column. `held` is for its literals, which a cube has in memory of its own.
+fn take_column<'a>(
+    alloc: Global,
+    held: &mut Vec<Literal>,
+    bytes: &'a [u8],
+) -> Result<(Entry, &'a [u8]), Untaken>
+    ensures { IfOk result (λ x. bytes.now ≡ column_bytes x.0 ++ x.1.now) }
+{
+    let (time, count, rest) = take_front(bytes)?;
+    let rest = take_literals(held, rest, count)?;
+    match Cube::new(alloc, held.as_slice())? {
+        Some(cube) => Ok((Entry { time, cube }, rest)),
+        None => Err(Untaken::Odd),
+    }
+}
+
+/// So many columns.
+fn take_columns<'a>(
+    alloc: Global,
+    held: &mut Vec<Literal>,
+    bytes: &'a [u8],
+    count: u16,
+) -> Result<(Vec<Entry>, &'a [u8]), Untaken>
+    ensures taken { IfOk result (λ x. bytes.now ≡ flat_map column_bytes x.0.items ++ x.1.now) }
+    ensures count { IfOk result (λ x. length x.0.items ≡ count) }
+{
+    let mut columns = Vec::with_capacity(alloc, count as usize)?;
+    let mut rest = bytes;
+    for _ in 0..count {
+        let (column, after) = take_column(alloc, held, rest)?;
+        columns.push(column)?;
+        rest = after;
+    }
+    Ok((columns, rest))
+}
+
+/// A row of at most so many columns.
+fn take_row<'a>(
+    alloc: Global,
+    held: &mut Vec<Literal>,
+    bytes: &'a [u8],
+    item: u32,
+    most: u64,
+) -> Result<(Row, &'a [u8]), Untaken>
+    ensures taken { IfOk result (λ x. bytes.now ≡ row_bytes x.0 ++ x.1.now) }
+    ensures few { IfOk result (λ x. length x.0.columns ≤ most) }
+{
+    let [high, low, rest @ ..] = bytes else {
+        return Err(Untaken::Odd);
+    };
+    let count = u16::from_be_bytes([*high, *low]);
+    if u64::from(count) > most {
+        return Err(Untaken::Odd);
+    }
+    let (columns, rest) = take_columns(alloc, held, rest, count)?;
+    Ok((Row::new(item, columns), rest))
+}
+
+/// The rows of these items, where `before` columns were read before, and how many were read up to their end.
+fn take_rows<'a>(
+    alloc: Global,
+    bytes: &'a [u8],
+    items: &[u32],
+    before: u64,
+) -> Result<(Vec<Row>, u64, &'a [u8]), Untaken>
+    requires { before ≤ MOST_LOAD }
+    ensures taken { IfOk result (λ x. bytes.now ≡ flat_map row_bytes x.0.items ++ x.2.now) }
+    ensures total { IfOk result (λ x. (x.1 ≡ before + column_count x.0.items) × (x.1 ≤ MOST_LOAD)) }
+{
+    let mut held = Vec::new(alloc);
+    let mut rows = Vec::with_capacity(alloc, items.len())?;
+    let mut rest = bytes;
+    let mut total = before;
+    for item in items {
+        let (row, after) = take_row(alloc, &mut held, rest, *item, MOST_LOAD - total)?;
+        total += row.entries().len() as u64;
+        rows.push(row)?;
+        rest = after;
+    }
+    Ok((rows, total, rest))
+}
+
+/// The table of a node, where `before` columns were read before, and how many were read up to its end. `items` are
+/// those of its rows.
+pub fn take_table<'a>(
+    alloc: Global,
+    bytes: &'a [u8],
+    head: &Head,
+    node: u32,
+    items: &[u32],
+    before: u64,
+) -> Result<(NodeTable, u64, &'a [u8]), Untaken>
+    requires within { IsSpace (space_of head.now) }
+    requires before { before ≤ MOST_LOAD }
+    ensures taken { IfOk result (λ x. node_table_at head.now node before bytes.now ≡ Ok (x.0, x.2.now)) }
+    ensures total { IfOk result (λ x. (x.1 ≡ before + column_count (rows_of x.0)) × (x.1 ≤ MOST_LOAD)) }
+{
+    let (rows, total, rest) = take_rows(alloc, bytes, items, before)?;
+    match NodeTable::new(alloc, head, node, rows)? {
+        Some(table) => Ok((table, total, rest)),
+        None => Err(Untaken::Odd),
+    }
+}
