@@ -1,8 +1,7 @@
 //! A shelf over the runtime's files.
-ghost use Rattle.std.specs.Prelude.{◌≡◌, ◌<◌, ◌≤◌, None, Ok, false, ⊤, is_ok, length, MatchResult, OnErr, OnOk};
+ghost use Rattle.std.specs.Prelude.{◌≡◌, ◌<◌, ◌≤◌, [], None, Some, Ok, false, ⊤, is_ok, length, MatchResult, OnErr, OnOk};
 ghost use Rattle.std.specs.Io.{ReadsAtMost};
 ghost use Rattle.std.specs.Io.KnownBytes.{IsAtEnd, ReadConsumes};
-ghost use Rattle.cpg_io.specs.Adapters.{left_of};
 ghost use Rattle.cpg_io.specs.Causes.{HasCause, counted};
 ghost use Rattle.cpg_io.specs.Shelf.{StartsAt, SameNames, SameLeave};
 
@@ -12,8 +11,9 @@ use std::io::Read;
 use std::marker::Model;
 use std::rt::Files;
 
-/// A shelf over the runtime's files, where a name is a path. It tells no bytes of a file, and that nothing is left where
-/// no file is open. Every name may be fetched.
+/// A shelf over the runtime's files, where a name is a path. It tells nothing of what stands under a name. What is left
+/// it tells as far as the open file does, which one of the machine doesn't, and that nothing is left where no file is
+/// open. Every name may be fetched.
 #[derive(Drop)]
 pub struct FileShelf<R: Files> {
     rt: R,
@@ -24,17 +24,17 @@ pub struct FileShelf<R: Files> {
 
 impl<R: Files> Model for FileShelf<R> {
     ghost use Rattle.std.specs.Prelude.{is_some};
-    ghost use Rattle.cpg_io.specs.Adapters.{FileShelfState};
+    ghost use Rattle.cpg_io.specs.Adapters.{FileShelfState, left_in};
 
     ghost Value = { FileShelfState };
 
-    ghost view = { λ s. record { is_open = is_some s.file; given = s.given; faults = s.faults } };
+    ghost view = { λ s. record { is_open = is_some s.file; left = left_in R.File.Read.remaining s.file; given = s.given; faults = s.faults } };
 }
 
 impl<R: Files> FileShelf<R> {
     /// A shelf over the files of `rt`, with no file open.
     pub fn new(rt: R) -> FileShelf<R>
-        ensures { result ≡ record { is_open = false; given = 0; faults = 0 } }
+        ensures { result ≡ record { is_open = false; left = Some []; given = 0; faults = 0 } }
     {
         FileShelf {
             rt,
@@ -57,7 +57,7 @@ impl<R: Files> FileShelf<R> {
 impl<R: Files> Shelf for FileShelf<R> {
     ghost stands = { λ _ _. None };
 
-    ghost left = { λ s. left_of s };
+    ghost left = { λ s. s.left };
 
     ghost given = { λ s. s.given };
 
@@ -69,8 +69,8 @@ impl<R: Files> Shelf for FileShelf<R> {
     fn fetch(&mut self, name: &str) -> Result<(), Failed>
         ensures names { SameNames (λ _. None) (λ _. None) }
         ensures leave { SameLeave (λ _. ⊤) (λ _. ⊤) }
-        ensures started { OnOk result (StartsAt None (left_of self.new)) }
-        ensures spent { OnErr result (IsAtEnd (left_of self.new)) }
+        ensures started { OnOk result (StartsAt None self.new.left) }
+        ensures spent { OnErr result (IsAtEnd self.new.left) }
         ensures count { self.new.given ≡ 0 }
         ensures cause { HasCause self.old.faults self.new.faults result }
         ensures open { self.new.is_open ≡ is_ok result }
@@ -93,7 +93,7 @@ impl<R: Files> Shelf for FileShelf<R> {
         ensures names { SameNames (λ _. None) (λ _. None) }
         ensures leave { SameLeave (λ _. ⊤) (λ _. ⊤) }
         ensures bound { ReadsAtMost result buf.new }
-        ensures bytes { ReadConsumes (left_of self.old) (left_of self.new) result buf.new }
+        ensures bytes { ReadConsumes self.old.left self.new.left result buf.new }
         ensures count { MatchResult result (λ n. self.new.given ≡ counted self.old.given n) (λ _. self.new.given ≡ self.old.given) }
         ensures cause { HasCause self.old.faults self.new.faults result }
         ensures open { self.new.is_open ≡ self.old.is_open }

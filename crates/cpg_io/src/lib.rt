@@ -2,8 +2,8 @@
 //! bytes, and both count their faults.
 //!
 //! A call answers [`Failed`] only where that count rose in it. What a shelf or a sink knows of its bytes it tells to
-//! contracts by ghost members: [`MemoryShelf`] and [`MemorySink`] tell all, [`FileShelf`] and [`StreamSink`] only
-//! counts.
+//! contracts by ghost members: [`MemoryShelf`] and [`MemorySink`] tell all, [`FileShelf`] what its open file tells of
+//! what is left, which one of the machine doesn't, and [`StreamSink`] only counts.
 #![tactic(auto)]
 
 mod failed;
