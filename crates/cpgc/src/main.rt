@@ -6,6 +6,7 @@ ghost use Rattle.std.specs.Vec.Iter.{into_iter_items};
 ghost use Rattle.std.specs.declared.io.ErrorKind.{ErrorKind};
 ghost use Rattle.cpg_words.specs.declared.fault.WordsFault.{WordsFault};
 ghost use Rattle.cpg_app.specs.Lawful.{IsLawful};
+ghost use Rattle.cpgc.specs.Statuses.{IsStatusOf, IsStatusWithout};
 
 use cpg_app::{run, run_without_words};
 use cpg_io::{FileShelf, StreamSink};
@@ -54,16 +55,28 @@ fn run_on(
     run(alloc, words, shelf, out, err)
 }
 
-fn status(rt: &HostRuntime) -> u8 {
-    let alloc = rt.alloc();
+/// The exit status of a run of these words over the machine's files and streams.
+fn status_of(rt: &HostRuntime, words: &[String]) -> u8
+    ensures { IsStatusOf (map string_bytes words.now) result }
+{
     let mut out = StreamSink::new(rt.stdout());
     let mut err = StreamSink::new(rt.stderr());
+    let mut shelf = FileShelf::new(rt);
+    run_on(rt.alloc(), words, &mut shelf, &mut out, &mut err)
+}
+
+/// The exit status where there are no words.
+fn status_without(rt: &HostRuntime, fault: WordsFault) -> u8
+    ensures { IsStatusWithout fault result }
+{
+    let mut err = StreamSink::new(rt.stderr());
+    run_without_words(rt.alloc(), fault, &mut err)
+}
+
+fn status(rt: &HostRuntime) -> u8 {
     match words(rt) {
-        Ok(words) => {
-            let mut shelf = FileShelf::new(rt);
-            run_on(alloc, words.as_slice(), &mut shelf, &mut out, &mut err)
-        }
-        Err(fault) => run_without_words(alloc, fault, &mut err),
+        Ok(words) => status_of(rt, words.as_slice()),
+        Err(fault) => status_without(rt, fault),
     }
 }
 
