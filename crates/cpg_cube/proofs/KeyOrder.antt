@@ -1,7 +1,7 @@
 -- Columns with keys, sorted by these, and the columns alone.
 use Rattle.std.proofs.lemmas.List.Elements.{Contains-get_or}
 use Rattle.cpg_base.proofs.Lists.{numbers-Contains}
-use Rattle.std.proofs.Common.{Ordering, Less, Equal, Greater, ℕ, suc, ◌+◌, ◌-◌, ◌*◌, ◌<◌, ◌≤◌, ◌≡◌, ◌≢◌, ◌==◌, Bool, true, false, List, [], ◌∷◌, ◌++◌, length, drop, append_assoc, subst, map, get_or, All, Option, None, Some, IsPermutation, nat_lt, if◌then◌else◌, arith, refl, sym, ap, ap₂, ◌∙◌, inl, inr, eq-eqb, ne_eqb, lt-ltb, le-ltb, length-append}
+use Rattle.std.proofs.Common.{Ordering, Less, Equal, Greater, ℕ, suc, ◌+◌, ◌-◌, ◌*◌, ◌<◌, ◌≤◌, ◌≡◌, ◌≢◌, ◌==◌, Bool, true, false, List, [], ◌∷◌, ◌++◌, length, subst, map, get_or, All, Option, None, Some, IsPermutation, nat_lt, if◌then◌else◌, arith, refl, sym, ap, ap₂, ◌∙◌, inl, inr, eq-eqb, ne_eqb, lt-ltb, le-ltb, length-append}
 use Rattle.std.proofs.lemmas.Bool.{cases_Bool, cases_eq, cases_lt, cases_order, cond-true, cond-false, both_ways, false_from_ne_true}
 use Rattle.std.specs.Ordering.{nat_cmp, is_lt, ordering_then}
 use Rattle.std.specs.Cmp.{IsStrictWeakOrder}
@@ -9,7 +9,7 @@ use Rattle.std.specs.Cmp.Lexicographic.{slice_cmp}
 use Rattle.std.specs.List.Sorted.{IsSortedBy}
 use Rattle.std.proofs.lemmas.Cmp.{nat_list_cmp_total}
 use Rattle.std.proofs.lemmas.List.Sorted.{ranks_by, sorted_far, All-permutation}
-use Rattle.std.proofs.lemmas.List.{append-nil, drop_all, drop_more, length-map, map-append}
+use Rattle.std.proofs.lemmas.List.{length-map, map-append}
 use Rattle.cpg_cube.specs.Cube.{Literal, low_in}
 use Rattle.cpg_base.specs.Graph.{Graph, condition_of}
 use Rattle.cpg_base.specs.Numbers.{is_below, numbers_below}
@@ -37,10 +37,10 @@ cmp_same x = cond-false (nat_lt x x) Less _ (le-ltb x x (omega arith)) ∙ cond-
 cmp_more : (x y : ℕ) → y < x → nat_cmp x y ≡ Greater
 cmp_more x y l = cond-false (nat_lt x y) Less _ (le-ltb x y (omega (arith, l))) ∙ cond-false (x == y) Equal Greater (ne_eqb x y (λ e. omega (arith, e, l)))
 
-asked_zero : (left x : ℕ) (xs : List ℕ) → x ≡ 0 → asked_from left (x ∷ xs) ≡ asked_from (left - 1) xs
+pub asked_zero : (left x : ℕ) (xs : List ℕ) → x ≡ 0 → asked_from left (x ∷ xs) ≡ asked_from (left - 1) xs
 asked_zero left x xs e = cond-true (x == 0) _ _ (eq-eqb x 0 e)
 
-asked_some : (left x : ℕ) (xs : List ℕ) → x ≢ 0 → asked_from left (x ∷ xs) ≡ left ∷ x ∷ asked_from (left - 1) xs
+pub asked_some : (left x : ℕ) (xs : List ℕ) → x ≢ 0 → asked_from left (x ∷ xs) ≡ left ∷ x ∷ asked_from (left - 1) xs
 asked_some left x xs n = cond-false (x == 0) _ _ (ne_eqb x 0 n)
 
 -- the first of two equal ones tell nothing
@@ -103,32 +103,6 @@ few_lows g low p = omega (arith, one_or_two low (condition_of g p))
 twice_long : (g : Graph) (order : List ℕ) (low : ℕ → ℕ) → length (lows_along g order low) ≤ length order * 2
 twice_long g [] low = omega arith
 twice_long g (p ∷ ps) low = omega (arith, length-append (lows_of g low p) (lows_along g ps low), few_lows g low p, twice_long g ps low)
-
--- ---- a key part by part
-
-pub asked_append : (left : ℕ) (xs ys : List ℕ) → asked_from left (xs ++ ys) ≡ asked_from left xs ++ asked_from (left - length xs) ys
-asked_append left [] ys = ap (λ n. asked_from n ys) (let e : left ≡ left - 0 = omega arith in e)
-asked_append left (x ∷ xs) ys =
-    let rest : asked_from (left - 1) (xs ++ ys) ≡ asked_from (left - 1) xs ++ asked_from (left - length (x ∷ xs)) ys =
-    asked_append (left - 1) xs ys ∙ ap (λ n. asked_from (left - 1) xs ++ asked_from n ys) (let e : left - 1 - length xs ≡ left - suc (length xs) = omega arith in e) in
-    elim (cases_eq x 0) [
-      | inl z ↦ asked_zero left x (xs ++ ys) z ∙ rest ∙ ap (λ k. k ++ asked_from (left - length (x ∷ xs)) ys) (sym (asked_zero left x xs z))
-      | inr n ↦ asked_some left x (xs ++ ys) n ∙ ap (λ k. left ∷ x ∷ k) rest ∙ ap (λ k. k ++ asked_from (left - length (x ∷ xs)) ys) (sym (asked_some left x xs n))
-    ]
-
--- with the low of one variable more
-pub key_step : (low : ℕ → ℕ) (variables : List ℕ) (i v : ℕ) → i < length variables → v ≡ get_or variables i v → (key new : List ℕ) (left next : ℕ) → asked_from 256 (map low variables) ≡ key ++ asked_from left (map low (drop i variables)) →
-    new ≡ key ++ asked_from left (low v ∷ []) → next ≡ left - 1 → asked_from 256 (map low variables) ≡ new ++ asked_from next (map low (drop (i + 1) variables))
-key_step low variables i v within is key new left next before more fewer =
-    let split : drop i variables ≡ v ∷ drop (i + 1) variables = drop_more variables i v within ∙ ap (λ w. w ∷ drop (i + 1) variables) (sym is) in
-    before ∙ ap (λ vs. key ++ asked_from left (map low vs)) split
-    ∙ ap (λ k. key ++ k) (asked_append left (low v ∷ []) (map low (drop (i + 1) variables)))
-    ∙ sym (append_assoc key (asked_from left (low v ∷ [])) (asked_from (left - 1) (map low (drop (i + 1) variables))))
-    ∙ ap₂ (λ k n. k ++ asked_from n (map low (drop (i + 1) variables))) (sym more) (sym fewer)
-
--- with the lows of all
-pub key_done : (low : ℕ → ℕ) (variables : List ℕ) (i : ℕ) → length variables ≤ i → (key : List ℕ) (left : ℕ) → asked_from 256 (map low variables) ≡ key ++ asked_from left (map low (drop i variables)) → key ≡ asked_from 256 (map low variables)
-key_done low variables i past key left is = sym (is ∙ ap (λ vs. key ++ asked_from left (map low vs)) (drop_all i variables past) ∙ append-nil key)
 
 -- ---- the variables along an order
 

@@ -1,5 +1,5 @@
 -- What columns stand by: the lows of their cubes along an order, of each process that of its count and then that of its value.
-use Rattle.std.specs.Prelude.{ℕ, ◌-◌, ◌<◌, ◌≡◌, ◌==◌, if◌then◌else◌, false, List, [], ◌∷◌, get_or, length, map, Option, None, Some, AllPairs}
+use Rattle.std.specs.Prelude.{ℕ, suc, ◌-◌, ◌<◌, ◌≤◌, ◌≡◌, ◌≢◌, ◌==◌, nat_lt, if◌then◌else◌, false, List, [], ◌∷◌, ◌++◌, get_or, length, map, take, drop, Option, None, Some, AllPairs}
 use Rattle.std.specs.List.{flat_map}
 use Rattle.cpg_base.specs.Graph.{Graph, value_variable, condition_of}
 use Rattle.cpg_base.specs.Numbers.{is_below}
@@ -56,6 +56,42 @@ key_along g order low = asked_from 256 (lows_along g order low)
 -- and of the lows of variables
 abbrev pub key_by : List ℕ → List Literal → List ℕ
 key_by variables cube = asked_from 256 (map (low_in cube) variables)
+
+-- ---- how the code makes a key of a cube's literals
+
+-- how many places are left at a variable among some, 0 at another
+abbrev pub left_at : ℕ → List ℕ → ℕ → ℕ
+left_at left [] v = 0
+left_at left (u ∷ us) v = if u == v then left else left_at (left - 1) us v
+
+-- how many places are left at each of some variables, of which each is there once
+pub record ArePlaces (variables places : List ℕ) : Type 0 where
+  pub few : length variables ≤ 256
+  pub apart : AllPairs (λ u v. u ≢ v) variables
+  pub left : (v : ℕ) → get_or places v 0 ≡ left_at 256 variables v
+
+-- how many numbers of a key stand before a low with so many places left: those of lows with as many or more
+abbrev pub place_in : ℕ → List ℕ → ℕ
+place_in left [] = 0
+place_in left (more ∷ []) = if nat_lt more left then 0 else 2
+place_in left (more ∷ low ∷ key) = if nat_lt more left then 0 else suc (suc (place_in left key))
+
+-- a key with a low and how many places are left, in its place
+abbrev pub with_asked : ℕ → ℕ → List ℕ → List ℕ
+with_asked left low key = take (place_in left key) key ++ left ∷ low ∷ drop (place_in left key) key
+
+-- so, where places are left
+abbrev pub with_any_asked : ℕ → ℕ → List ℕ → List ℕ
+with_any_asked left low key = if left == 0 then key else with_asked left low key
+
+-- a key with the low of a literal, if it isn't 0
+abbrev pub with_low_of : List ℕ → Literal → List ℕ → List ℕ
+with_low_of places l key = if l.low == 0 then key else with_any_asked (get_or places l.variable 0) l.low key
+
+-- a key with the lows of literals, one after another
+abbrev pub with_lows_of : List ℕ → List Literal → List ℕ → List ℕ
+with_lows_of places [] key = key
+with_lows_of places (l ∷ ls) key = with_lows_of places ls (with_low_of places l key)
 
 -- none of the first n columns has a key before that of the column at a place
 pub record IsFirstByKeys {T : Type 0} (cube : T → List Literal) (variables : List ℕ) (n : ℕ) (columns : List T) (at : ℕ) : Type 0 where

@@ -198,8 +198,9 @@ impl Cube {
         ensures { IfOk result (λ cube. cube ≡ narrowed_by literal self.now) }
     {
         let own = self.literals();
-        // room for one more at once, as most narrow a variable that has no literal yet
-        let mut literals = SmallVec::with_capacity(*self.literals.allocator(), own.len() + 1)?;
+        // room for more at once, as most narrow a variable that has no literal yet, and are narrowed again
+        let room = (own.len() / FEW + 1) * FEW;
+        let mut literals = SmallVec::with_capacity(*self.literals.allocator(), room)?;
         literals.extend_from_slice(own)?;
         put(&mut literals, literal)?;
         Ok(Cube { literals })

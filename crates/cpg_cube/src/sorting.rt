@@ -1,11 +1,11 @@
 //! Columns by the least scenario that they match.
-ghost use Rattle.std.specs.Prelude.{◌≡◌, ◌++◌, ◌∷◌, ◌<◌, ◌≤◌, [], All, IfNone, IfOk, IfSome, IsPermutation, List, OnOk, if◌then◌else◌, length, map};
+ghost use Rattle.std.specs.Prelude.{◌≡◌, ◌≢◌, ◌++◌, ◌<◌, ◌≤◌, ℕ, [], All, AllPairs, IfNone, IfOk, IfSome, IsPermutation, List, OnOk, if◌then◌else◌, length, map};
 ghost use Rattle.cpg_base.specs.Graph.{condition_count, process_count};
 ghost use Rattle.cpg_base.specs.Numbers.{is_below, numbers_below};
-ghost use Rattle.cpg_cube.specs.Keys.{AreByLows, IsFirstByKeys, IsFirstByLows, asked_from, key_by, variables_along, variables_of};
+ghost use Rattle.cpg_cube.specs.Keys.{AreByLows, ArePlaces, IsFirstByKeys, IsFirstByLows, key_by, place_in, variables_along, variables_of, with_asked, with_low_of};
 
-use crate::Cube;
-use crate::bounds::{Bounds, VARIABLES};
+use crate::bounds::VARIABLES;
+use crate::{Cube, Literal};
 use cpg_base::{FIRST_VALUE, OutOfMemory, Problem};
 use cpg_order::Order;
 use smallvec::SmallVec;
@@ -34,18 +34,6 @@ impl<T> Cubed for (T, Cube) {
     fn cube(&self) -> &Cube {
         &self.1
     }
-}
-
-/// Adds a low, if it isn't 0, with how many places are left.
-fn push_low(left: u16, low: u8, key: &mut SmallVec<u16, SHORT>) -> Result<(), OutOfMemory>
-    ensures { OnOk result (key.new.items ≡ key.old.items ++ asked_from left (low ∷ [])) }
-{
-    if low == 0 {
-        return Ok(());
-    }
-    key.push(left)?;
-    key.push(u16::from(low))?;
-    Ok(())
 }
 
 /// Adds a process's count and then its value, if it has a condition.
@@ -79,17 +67,80 @@ fn variables_along(alloc: Global, problem: &Problem, order: &[u32]) -> Result<Ve
     Ok(variables)
 }
 
-/// What a cube stands by: the lows along some variables that aren't 0, each after how many places are left.
-fn key_of(alloc: Global, variables: &[u8], cube: &Cube) -> Result<SmallVec<u16, SHORT>, OutOfMemory>
+/// How many places are left at each of some variables, and 0 at others.
+fn places_of(variables: &[u8]) -> [u16; VARIABLES]
     requires few { length variables.now ≤ 256 }
-    ensures { IfOk result (λ key. key.items ≡ key_by variables.now cube.now) }
+    requires apart { AllPairs (λ u v. u ≢ v) variables.now }
+    ensures { ArePlaces variables.now result }
 {
-    let bounds = Bounds::of(cube.literals());
-    let mut key = SmallVec::new(alloc);
+    let mut places = [0; VARIABLES];
     let mut left = PLACES;
     for variable in variables {
-        push_low(left, bounds.low[*variable as usize], &mut key)?;
+        places[*variable as usize] = left;
         left -= 1;
+    }
+    places
+}
+
+/// How many numbers of a key stand before a low with so many places left.
+fn place_in(left: u16, key: &[u16]) -> usize
+    ensures { result ≡ place_in left key.now }
+{
+    let mut place = 0;
+    while place < key.len() {
+        if key[place] < left {
+            return place;
+        }
+        place += 2;
+    }
+    place
+}
+
+/// Puts a low with how many places are left before those with fewer.
+fn put_low(left: u16, low: u16, key: &mut SmallVec<u16, SHORT>) -> Result<(), OutOfMemory>
+    ensures { OnOk result (key.new.items ≡ with_asked left low key.old.items) }
+{
+    let place = place_in(left, key.as_slice());
+    if place >= key.len() {
+        key.push(left)?;
+        key.push(low)?;
+        return Ok(());
+    }
+    key.insert(place, left)?;
+    key.insert(place + 1, low)?;
+    Ok(())
+}
+
+/// Puts a literal's low, if it isn't 0 and its variable has a place.
+fn put_low_of(
+    places: &[u16; VARIABLES],
+    literal: Literal,
+    key: &mut SmallVec<u16, SHORT>,
+) -> Result<(), OutOfMemory>
+    ensures { OnOk result (key.new.items ≡ with_low_of places.now literal key.old.items) }
+{
+    if literal.low == 0 {
+        return Ok(());
+    }
+    let left = places[literal.variable as usize];
+    if left == 0 {
+        return Ok(());
+    }
+    put_low(left, u16::from(literal.low), key)
+}
+
+/// What a cube stands by: the lows along some variables that aren't 0, each after how many places are left.
+fn key_of(
+    alloc: Global,
+    places: &[u16; VARIABLES],
+    cube: &Cube,
+) -> Result<SmallVec<u16, SHORT>, OutOfMemory>
+    ensures { IfOk result (λ key. (variables : List ℕ) → ArePlaces variables places.now → key.items ≡ key_by variables cube.now) }
+{
+    let mut key = SmallVec::new(alloc);
+    // few literals of a cube have a low above 0
+    for literal in cube.literals() {
+        put_low_of(places, *literal, &mut key)?;
     }
     Ok(key)
 }
@@ -108,13 +159,15 @@ fn with_keys<T: Cubed + Drop>(
     columns: Vec<T>,
 ) -> Result<Vec<Ranked<T>>, OutOfMemory>
     requires few { length variables.now ≤ 256 }
+    requires apart { AllPairs (λ u v. u ≢ v) variables.now }
     ensures columns { IfOk result (λ r. map (λ x. x.column) r.items ≡ columns.items) }
     ensures keys { IfOk result (λ r. All (λ x. x.key.items ≡ key_by variables.now (T.cubed x.column)) r.items) }
 {
+    let places = places_of(variables);
     let mut ranked = Vec::new(alloc);
     ranked.reserve(columns.len())?;
     for column in columns {
-        let key = key_of(alloc, variables, column.cube())?;
+        let key = key_of(alloc, &places, column.cube())?;
         ranked.push(Ranked { key, column })?;
     }
     Ok(ranked)
@@ -172,16 +225,18 @@ fn first_by_key<T: Cubed>(
     columns: &[T],
 ) -> Result<Option<usize>, OutOfMemory>
     requires few { length variables.now ≤ 256 }
+    requires apart { AllPairs (λ u v. u ≢ v) variables.now }
     ensures none { IfOk result (λ r. IfNone r (columns.now ≡ [])) }
     ensures first { IfOk result (λ r. IfSome r (IsFirstByKeys T.cubed variables.now (length columns.now) columns.now)) }
 {
     if columns.is_empty() {
         return Ok(None);
     }
-    let key = key_of(alloc, variables, columns[0].cube())?;
+    let places = places_of(variables);
+    let key = key_of(alloc, &places, columns[0].cube())?;
     let mut best = Placed { key, place: 0 };
     for place in 1..columns.len() {
-        let key = key_of(alloc, variables, columns[place].cube())?;
+        let key = key_of(alloc, &places, columns[place].cube())?;
         best = lesser(best, Placed { key, place });
     }
     Ok(Some(best.place))

@@ -1,4 +1,5 @@
-use Rattle.std.proofs.Common.{ℕ, ◌<◌, ◌≤◌, ◌≡◌, ◌∙◌, List, All, length, map, get_or, IsPermutation, arith, sym, ap, subst, rules}
+use Rattle.std.proofs.Common.{ℕ, ◌<◌, ◌≤◌, ◌≡◌, ◌≢◌, ◌∙◌, List, All, length, map, get_or, IsPermutation, arith, sym, ap, subst, rules}
+use Rattle.std.specs.List.{AllPairs}
 use Rattle.std.specs.List.Sorted.{IsSortedBy}
 use Rattle.std.proofs.lemmas.Fn.{always_returns_same}
 use Rattle.std.proofs.lemmas.List.Sorted.{IsPermutation-map}
@@ -9,6 +10,7 @@ use Rattle.cpg_cube.specs.Cube.{low_in}
 use Rattle.cpg_cube.specs.Keys.{AreByLows, key_along, variables_along}
 use Rattle.cpg_cube.specs.declared.sorting.Ranked.{Ranked}
 use Rattle.cpg_cube.proofs.KeyOrder.{is_key_below, is_total, by_lows, few_variables, key_is, within_order}
+use Rattle.cpg_cube.proofs.KeyPlaces.{variables_apart}
 use Rattle.cpg_cube.proofs.sorting.by_least_scenario.Goals as goal
 
 pub variables_along-requires : goal.variables_along-requires
@@ -20,7 +22,10 @@ with_keys-requires g c =
     let order = c.args.order.now in
     let few : length order ≤ 128 = omega (arith, length_order (process_count problem) order c.requires, c.processes-processes.ensures.within.few_processes) in
     let along : c.as_slice.result.now ≡ variables_along problem order = c.as_slice.ensures.value ∙ c.in_ok-variables.ensures ∙ ap (variables_along problem) c.processes.ensures.processes in
-    record { few = subst (λ (vs : List ℕ). length vs ≤ 256) (sym along) (few_variables problem order few) }
+    record {
+      few = subst (λ (vs : List ℕ). length vs ≤ 256) (sym along) (few_variables problem order few);
+      apart = subst (AllPairs (λ u v. u ≢ v)) (sym along) (variables_apart problem c.processes-processes.ensures.within.few_processes order c.requires);
+    }
 
 pub returns-clause-permutation : goal.returns-clause-permutation
 returns-clause-permutation g c =

@@ -12,7 +12,7 @@ loop-place-init g c =
     let within : 0 < length columns = grind (arith, common_steps) in
     record {
       first = first_alone g.T.Cubed.cubed columns variables;
-      key = λ d. c.in_ok-key.ensures ∙ ap (key_by variables) c.cube.ensures
+      key = λ d. c.in_ok-key.ensures variables c.places_of-places.ensures ∙ ap (key_by variables) c.cube.ensures
           ∙ ap (λ (x : g.row.T.Denot). key_by variables (g.T.Cubed.cubed x)) (c.index-columns-0.is ∙ get_or_default columns 0 c.index-columns-0.result d within);
     }
 
@@ -23,6 +23,6 @@ loop-place-preserved g c =
     let n = c.loop-place.place in
     let within : n < length columns = omega (arith, c.loop-place-test.true) in
     best_next g.T.Cubed.cubed columns variables n c.loop-place.best (record { key = c.in_ok-key-2.key; place = n }) c.loop-place.invariant refl
-    (λ d. c.in_ok-key-2.ensures ∙ ap (key_by variables) c.cube-in-loop-place.ensures
+    (λ d. c.in_ok-key-2.ensures variables c.places_of-places.ensures ∙ ap (key_by variables) c.cube-in-loop-place.ensures
     ∙ ap (λ (x : g.row.T.Denot). key_by variables (g.T.Cubed.cubed x)) (c.index-columns-place.is ∙ get_or_default columns n c.index-columns-place.result d within))
     c.lesser-best.result c.lesser-best.ensures

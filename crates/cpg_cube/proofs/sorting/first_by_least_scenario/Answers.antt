@@ -1,9 +1,11 @@
-use Rattle.std.proofs.Common.{ℕ, ◌<◌, ◌≤◌, ◌≡◌, ◌∙◌, List, All, length, arith, sym, ap, subst}
+use Rattle.std.proofs.Common.{ℕ, ◌<◌, ◌≤◌, ◌≡◌, ◌≢◌, ◌∙◌, List, All, length, arith, sym, ap, subst}
+use Rattle.std.specs.List.{AllPairs}
 use Rattle.std.proofs.lemmas.Option.{IfSome_then}
 use Rattle.cpg_base.specs.Graph.{process_count}
 use Rattle.cpg_order.proofs.Places.{length_order}
 use Rattle.cpg_cube.specs.Keys.{IsFirstByKeys, IsFirstByLows, variables_along}
 use Rattle.cpg_cube.proofs.KeyOrder.{few_variables, first_by_lows, within_order}
+use Rattle.cpg_cube.proofs.KeyPlaces.{variables_apart}
 use Rattle.cpg_cube.proofs.sorting.first_by_least_scenario.Goals as goal
 
 pub variables_along-requires : goal.variables_along-requires
@@ -15,7 +17,10 @@ first_by_key-requires g c =
     let order = c.args.order.now in
     let few : length order ≤ 128 = omega (arith, length_order (process_count problem) order c.requires, c.processes-processes.ensures.within.few_processes) in
     let along : c.as_slice.result.now ≡ variables_along problem order = c.as_slice.ensures.value ∙ c.in_ok-variables.ensures ∙ ap (variables_along problem) c.processes.ensures.processes in
-    record { few = subst (λ (vs : List ℕ). length vs ≤ 256) (sym along) (few_variables problem order few) }
+    record {
+      few = subst (λ (vs : List ℕ). length vs ≤ 256) (sym along) (few_variables problem order few);
+      apart = subst (AllPairs (λ u v. u ≢ v)) (sym along) (variables_apart problem c.processes-processes.ensures.within.few_processes order c.requires);
+    }
 
 pub returns-clause-first : goal.returns-clause-first
 returns-clause-first g c =

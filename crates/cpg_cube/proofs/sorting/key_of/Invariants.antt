@@ -1,10 +1,6 @@
-use Rattle.std.proofs.Common.{◌≡◌, ◌+◌, ◌++◌, drop, map}
-use Rattle.cpg_cube.specs.Cube.{low_in}
-use Rattle.cpg_cube.specs.Keys.{asked_from, key_by}
+use Rattle.std.proofs.Common.{◌≡◌, [], drop}
+use Rattle.cpg_cube.specs.Keys.{with_lows_of}
 use Rattle.cpg_cube.proofs.sorting.key_of.Given as goal
 
-abbrev pub invariant-loop-variable : goal.invariant-loop-variable
-invariant-loop-variable l = record {
-  key : key_by l.variables l.cube ≡ l.key.items ++ asked_from l.left (map (low_in l.cube) (drop l.variable-index l.variables));
-  left : l.left + l.variable-index ≡ 256;
-}
+abbrev pub invariant-loop-literal : goal.invariant-loop-literal
+invariant-loop-literal l = with_lows_of l.places l.cube [] ≡ with_lows_of l.places (drop l.literal-index l.cube) l.key.items

@@ -13,7 +13,7 @@ loop-column-preserved g c =
     record {
       columns = grind (arith, common_steps);
       keys = subst (All has_key) (sym c.in_ok-push.ensures.items) (All-push has_key c.loop-column.ranked.items _ i.keys
-          (c.in_ok-key.ensures ∙ ap (λ (ls : List Literal). key_by c.args.variables.now ls) c.cube.ensures));
+          (c.in_ok-key.ensures c.args.variables.now c.places_of-places.ensures ∙ ap (λ (ls : List Literal). key_by c.args.variables.now ls) c.cube.ensures));
     }
 
 pub loop-column-init : goal.loop-column-init

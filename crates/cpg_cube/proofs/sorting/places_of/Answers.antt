@@ -1,0 +1,18 @@
+use Rattle.std.proofs.Common.{◌<◌, rules, arith, refl, length}
+use Rattle.std.specs.Prelude.{slice_index_or}
+use Rattle.cpg_cube.proofs.KeyPlaces.{places_none, places_more}
+use Rattle.cpg_cube.proofs.sorting.places_of.Goals as goal
+
+pub loop-variable-init : goal.loop-variable-init
+loop-variable-init c = record { left = refl; long = refl; places = places_none }
+
+pub loop-variable-preserved : goal.loop-variable-preserved
+loop-variable-preserved c =
+    let i = c.loop-variable.invariant in
+    let within : c.loop-variable.variable-index < length c.args.variables.now = omega arith in
+    let small : slice_index_or c.args.variables.now c.loop-variable.variable-index 0 < 256 = omega arith in
+    record {
+      left = omega (arith, i.left, within, c.requires.few);
+      long = search rules;
+      places = places_more c.args.variables.now c.requires.apart c.loop-variable.variable-index 0 c.loop-variable.left within i.left c.loop-variable.places i.long small i.places;
+    }

@@ -1,0 +1,10 @@
+use Rattle.std.proofs.Common.{ℕ, ◌≡◌, ◌+◌, get_or, length, take}
+use Rattle.cpg_cube.specs.Keys.{left_at}
+use Rattle.cpg_cube.proofs.sorting.places_of.Given as goal
+
+abbrev pub invariant-loop-variable : goal.invariant-loop-variable
+invariant-loop-variable l = record {
+  left : l.left + l.variable-index ≡ 256;
+  long : length l.places ≡ 256;
+  places : (v : ℕ) → get_or l.places v 0 ≡ left_at 256 (take l.variable-index l.variables) v;
+}
