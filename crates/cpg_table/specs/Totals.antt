@@ -1,5 +1,5 @@
 -- Numbers of columns, each a sum over its literals, by which it is found whether any two of a row touch: where two do, the later one's sum with one literal changed is the sum of the other.
-use Rattle.std.specs.Prelude.{ℕ, ◌+◌, ◌-◌, ◌*◌, ◌^◌, ◌%◌, ◌<◌, ◌≤◌, ◌≡◌, Bool, true, false, List, length, get_or, map, sum_by, Contains}
+use Rattle.std.specs.Prelude.{ℕ, ◌+◌, ◌-◌, ◌*◌, ◌/◌, ◌^◌, ◌%◌, ◌<◌, ◌≤◌, ◌≡◌, Bool, true, false, List, length, get_or, map, sum_by, Contains}
 use Rattle.cpg_cube.specs.declared.literal.Literal.{Literal}
 use Rattle.cpg_table.specs.Table.{Column}
 
@@ -11,18 +11,9 @@ mixed sum number = (sum + number) % 2 ^ 64 * 6364136223846793005 % 2 ^ 64
 abbrev pub number_of : Literal → ℕ
 number_of l = l.variable * 65536 + l.low * 256 + l.high
 
-abbrev pub squared : ℕ → ℕ
-squared n = n * n % 2 ^ 64
-
--- a number for a literal's number, with no line through several
-abbrev pub spread_first : ℕ → ℕ
-spread_first n = mixed 1 n
-
-abbrev pub spread_second : ℕ → ℕ
-spread_second n = mixed (squared (spread_first n)) n
-
+-- a number for a literal's number, with no line through several: the spread one by its upper half
 abbrev pub spread : ℕ → ℕ
-spread n = squared (mixed (squared (spread_second n)) (spread_first n))
+spread n = mixed 1 n * (mixed 1 n / 4294967296) % 2 ^ 64
 
 abbrev pub hash_of : Literal → ℕ
 hash_of l = spread (number_of l)

@@ -18,6 +18,10 @@ fn mark_at(sorted: &[u64], total: u64, literal: Literal, marks: &mut [bool; VARI
     ensures kept { (v : ℕ) → IsMarked marks.old v → IsMarked marks.new v }
     ensures marked { ¬ IsMarked marks.new literal.variable → HasNoPartner sorted.now total literal }
 {
+    // as most literals begin at 0, which nothing comes before
+    if literal.low == 0 {
+        return;
+    }
     let place = literal.variable as usize;
     if marks[place] {
         return;

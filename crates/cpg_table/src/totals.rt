@@ -11,6 +11,9 @@ use std::alloc::Global;
 /// The multiplier of Knuth's linear congruential generator of 64 bits.
 const MULTIPLIER: u64 = 6_364_136_223_846_793_005;
 
+/// What divides a number of 64 bits into its halves.
+const HALF: u64 = 4_294_967_296;
+
 /// A sum with one number more, spread.
 fn mixed(sum: u64, number: u64) -> u64
     ensures { result ≡ mixed sum number }
@@ -32,11 +35,8 @@ fn number_of(literal: Literal) -> u64
 fn hash_of(literal: Literal) -> u64
     ensures { result ≡ hash_of literal }
 {
-    let number = number_of(literal);
-    let first = mixed(1, number);
-    let second = mixed(first.wrapping_mul(first), number);
-    let third = mixed(second.wrapping_mul(second), first);
-    third.wrapping_mul(third)
+    let first = mixed(1, number_of(literal));
+    first.wrapping_mul(first / HALF)
 }
 
 /// The sum of a column.
