@@ -28,9 +28,8 @@ module _ {T : Type 0} (fact : T → Scenario → Type 0) (room : Space) (v cut :
   pub told_below : IsToldAll fact room below → ((s : Scenario) → Lies room s → number_of s v ≤ cut) → IsToldAll fact room n
   told_below all only = subst (λ (m : Node T). IsToldAll fact room m) (sym is) (λ s lies. from_side s (value_at below s) (value_at (Fork' v cut p below q above) s) (value_below v cut p below q above s (only s lies)) (all s lies))
 
-  pub told_fork : (one two : Space) → IsToldAll fact one below → IsToldAll fact two above →
-      ((s : Scenario) → Lies room s → number_of s v ≤ cut → Lies one s) → ((s : Scenario) → Lies room s → cut < number_of s v → Lies two s) → IsToldAll fact room n
-  told_fork one two of_one of_two goes_one goes_two = subst (λ (m : Node T). IsToldAll fact room m) (sym is) (λ s lies. elim (cases_lt cut (number_of s v)) [
-    | inl h ↦ from_side s (value_at above s) (value_at (Fork' v cut p below q above) s) (value_above v cut p below q above s h) (of_two s (goes_two s lies h))
-    | inr h ↦ from_side s (value_at below s) (value_at (Fork' v cut p below q above) s) (value_below v cut p below q above s h) (of_one s (goes_one s lies h))
+  pub told_fork : ((s : Scenario) → Lies room s → number_of s v ≤ cut → fact (value_at below s) s) → ((s : Scenario) → Lies room s → cut < number_of s v → fact (value_at above s) s) → IsToldAll fact room n
+  told_fork of_below of_above = subst (λ (m : Node T). IsToldAll fact room m) (sym is) (λ s lies. elim (cases_lt cut (number_of s v)) [
+    | inl h ↦ from_side s (value_at above s) (value_at (Fork' v cut p below q above) s) (value_above v cut p below q above s h) (of_above s lies h)
+    | inr h ↦ from_side s (value_at below s) (value_at (Fork' v cut p below q above) s) (value_below v cut p below q above s h) (of_below s lies h)
   ])

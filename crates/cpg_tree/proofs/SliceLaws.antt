@@ -17,7 +17,8 @@ use Rattle.cpg_cube.specs.Cube.{IsRising, holds, matches}
 use Rattle.cpg_cube.proofs.CubeLows.{holds-low, holds-high}
 use Rattle.cpg_tree.specs.declared.node.Node.{Node}
 use Rattle.cpg_tree.specs.declared.places.Sorted.{Sorted}
-use Rattle.cpg_tree.specs.Space.{Space, Lies, HasFew, IsWhole, below_cut, above_cut}
+use Rattle.cpg_tree.specs.declared.space.Lifted.{Lifted}
+use Rattle.cpg_tree.specs.Space.{Space, Lies, HasFew, IsWhole, below_cut, above_cut, reopened_below}
 use Rattle.cpg_tree.specs.Decision.{value_at}
 use Rattle.cpg_tree.specs.Results.{IsForkOf}
 use Rattle.cpg_tree.specs.Places.{IsMatched, cube_at, tells_cube}
@@ -260,6 +261,22 @@ module _ (cubes : List (List Literal)) (k : ℕ) (room under over : Space) (from
         (under_cut k room under v cut narrow n there highs reached open_ more is_under goes_under) (over_cut k room over v cut narrow n there lows reached open_ more is_over goes_over);
     fewer = omega (arith, low.fewer, high.fewer);
   }
+
+-- ---- a side that was closed and is put back
+
+module _ (room closed after now : Space) (v : ℕ) (same : after ≡ closed) where
+  pub above_again : (high : ℕ) → now ≡ below_cut after v high → below_cut closed v high ≡ room → now ≡ room
+  above_again high is back = is ∙ ap (λ (r : Space). below_cut r v high) same ∙ back
+
+  pub below_again : (was : Lifted) → now ≡ reopened_below after v was → reopened_below closed v was ≡ room → now ≡ room
+  below_again was is back = is ∙ ap (λ (r : Space). reopened_below r v was) same ∙ back
+
+module _ (room again over : Space) (v cut : ℕ) (back : again ≡ room) where
+  pub over_again : over ≡ above_cut again v cut → over ≡ above_cut room v cut
+  over_again is = is ∙ ap (λ (r : Space). above_cut r v cut) back
+
+  pub goes_again : ((s : Scenario) → Lies again s → cut < number_of s v → Lies over s) → (s : Scenario) → Lies room s → cut < number_of s v → Lies over s
+  goes_again goes s lies h = goes s (subst (λ (r : Space). Lies r s) (sym back) lies) h
 
 -- ---- all cubes
 

@@ -1,19 +1,19 @@
--- The least and the greatest value of a tree of numbers.
+-- The least and the greatest number of a tree whose leaves are read as numbers.
 use Rattle.std.specs.Prelude.{ℕ, ◌≤◌, max, min}
 use Rattle.cpg_order.specs.Scenario.{Scenario}
 use Rattle.cpg_tree.specs.declared.node.Node.{Node, Leaf, Fork'}
 use Rattle.cpg_tree.specs.Decision.{value_at}
 
--- the least value of a leaf
-abbrev pub least_in : Node ℕ → ℕ
-least_in (Leaf x) = x
-least_in (Fork' v cut p below q above) = min (least_in below) (least_in above)
+-- the least number of a leaf
+abbrev pub least_in : {T : Type 0} → (T → ℕ) → Node T → ℕ
+least_in number (Leaf x) = number x
+least_in number (Fork' v cut p below q above) = min (least_in number below) (least_in number above)
 
--- the greatest value of a leaf
-abbrev pub most_in : Node ℕ → ℕ
-most_in (Leaf x) = x
-most_in (Fork' v cut p below q above) = max (most_in below) (most_in above)
+-- the greatest number of a leaf
+abbrev pub most_in : {T : Type 0} → (T → ℕ) → Node T → ℕ
+most_in number (Leaf x) = number x
+most_in number (Fork' v cut p below q above) = max (most_in number below) (most_in number above)
 
--- each value of a tree is at least each value of another
-abbrev pub IsAtLeast : Node ℕ → Node ℕ → Type 0
-IsAtLeast a b = (s t : Scenario) → value_at b s ≤ value_at a t
+-- each number of a tree is at least each number of another
+abbrev pub IsAtLeast : {T U : Type 0} → (T → ℕ) → (U → ℕ) → Node T → Node U → Type 0
+IsAtLeast number other_number a b = (s t : Scenario) → other_number (value_at b s) ≤ number (value_at a t)

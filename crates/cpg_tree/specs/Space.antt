@@ -4,6 +4,7 @@ use Rattle.cpg_base.specs.Numbers.{numbers_below}
 use Rattle.cpg_order.specs.Scenario.{Scenario, number_of, fault_of}
 use Rattle.cpg_cube.specs.declared.literal.Literal.{Literal}
 pub use Rattle.cpg_tree.specs.declared.space.Space.{Space}
+use Rattle.cpg_tree.specs.declared.space.Lifted.{Lifted}
 
 -- the faults of a process beyond the low of its count
 abbrev pub beyond : Space → Scenario → ℕ → ℕ
@@ -42,6 +43,10 @@ below_cut room v cut = record { low = room.low; high = slice_set room.high v cut
 -- with the numbers above it
 abbrev pub above_cut : Space → ℕ → ℕ → Space
 above_cut room v cut = record { low = slice_set room.low v (cut + 1); high = room.high; left = room.left - faults_of v (cut + 1 - get_or room.low v 0) }
+
+-- with a low and the faults left as they were
+abbrev pub reopened_below : Space → ℕ → Lifted → Space
+reopened_below room v was = record { low = slice_set room.low v was.low; high = room.high; left = was.left }
 
 -- the space of all scenarios of at most k faults
 pub record IsWhole (k : ℕ) (room : Space) : Type 0 where

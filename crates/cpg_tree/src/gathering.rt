@@ -1,10 +1,11 @@
 //! The places that scenarios of a space come to.
-ghost use Rattle.std.specs.Prelude.{ℕ, Contains, IfOk};
+ghost use Rattle.std.specs.Prelude.{◌≤◌, ◌<◌, ℕ, Contains, IfOk};
 ghost use Rattle.std.specs.Bool.{OnTrue};
-ghost use Rattle.cpg_order.specs.Scenario.{Scenario};
+ghost use Rattle.cpg_order.specs.Scenario.{Scenario, number_of};
 ghost use Rattle.cpg_tree.specs.Space.{Lies};
 ghost use Rattle.cpg_tree.specs.Decision.{value_at};
 ghost use Rattle.cpg_tree.specs.Places.{IsAmong};
+ghost use Rattle.cpg_tree.specs.Spots.{AreOpen};
 
 use crate::node::Node;
 use crate::space::Space;
@@ -26,6 +27,7 @@ fn add_place(place: Option<u32>, found: &mut Vec<u32>) -> Result<bool, OutOfMemo
 impl Node<Option<u32>> {
     /// Adds the places that scenarios of a space come to, as long as there is one and a test passes at each; false where it
     /// stopped before the last.
+    #[cycle(gathering)]
     pub(crate) fn gather<J: Test>(
         &self,
         space: &Space,
@@ -57,13 +59,49 @@ impl Node<Option<u32>> {
                     let all = below.gather(space, test, found)?;
                     return Ok(all);
                 }
-                let low = below.gather(&space.below(*variable, *cut), test, found)?;
+                let low = below.gather_under(*variable, *cut, space, test, found)?;
                 if !low {
                     return Ok(false);
                 }
-                let high = above.gather(&space.above(*variable, *cut), test, found)?;
+                let high = above.gather_over(*variable, *cut, space, test, found)?;
                 Ok(high)
             }
         }
+    }
+
+    /// The same for the scenarios up to a cut. In a function of its own, since a space of its own is cleared at each call,
+    /// and on the way down mostly one side of a fork is closed.
+    #[cycle(gathering)]
+    fn gather_under<J: Test>(
+        &self,
+        variable: u8,
+        cut: u8,
+        space: &Space,
+        test: &J,
+        found: &mut Vec<u32>,
+    ) -> Result<bool, OutOfMemory>
+        ensures kept { IfOk result (λ _. (i : ℕ) → Contains found.old.items i → Contains found.new.items i) }
+        ensures found { IfOk result (λ all. OnTrue all ((s : Scenario) → Lies space.now s → number_of s variable ≤ cut → J.tells test.now (value_at self.now s) s × IsAmong found.new.items (value_at self.now s))) }
+    {
+        let all = self.gather(&space.below(variable, cut), test, found)?;
+        Ok(all)
+    }
+
+    /// The same for the scenarios above a cut.
+    #[cycle(gathering)]
+    fn gather_over<J: Test>(
+        &self,
+        variable: u8,
+        cut: u8,
+        space: &Space,
+        test: &J,
+        found: &mut Vec<u32>,
+    ) -> Result<bool, OutOfMemory>
+        requires { AreOpen space.now variable cut }
+        ensures kept { IfOk result (λ _. (i : ℕ) → Contains found.old.items i → Contains found.new.items i) }
+        ensures found { IfOk result (λ all. OnTrue all ((s : Scenario) → Lies space.now s → cut < number_of s variable → J.tells test.now (value_at self.now s) s × IsAmong found.new.items (value_at self.now s))) }
+    {
+        let all = self.gather(&space.above(variable, cut), test, found)?;
+        Ok(all)
     }
 }

@@ -7,6 +7,7 @@ mod greater;
 mod greatest;
 mod node;
 mod places;
+mod reading;
 mod slices;
 mod space;
 mod tree;
@@ -14,6 +15,7 @@ mod variables;
 mod walk;
 
 pub use places::Places;
+pub use reading::time_later;
 pub use space::Space;
 pub use tree::Tree;
 pub use variables::{fault, value};

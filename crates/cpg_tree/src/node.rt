@@ -161,10 +161,11 @@ impl<T: Copy + Eq> Node<T> {
     }
 
     /// The same tree for the scenarios of a space.
-    pub(crate) fn within(&self, alloc: Global, space: &Space) -> Result<Node<T>, OutOfMemory>
+    pub(crate) fn within(&self, alloc: Global, space: &mut Space) -> Result<Node<T>, OutOfMemory>
         requires { (x y : T) → T.eq x y ≡ true → x ≡ y }
-        ensures made { IfOk result (IsWithin space.now self.now) }
-        ensures fit { IfOk result (IsFit space.now) }
+        ensures made { IfOk result (IsWithin space.old self.now) }
+        ensures back { IfOk result (λ _. space.new ≡ space.old) }
+        ensures fit { IfOk result (IsFit space.old) }
         ensures pass { IfOk result (λ r. (test : ℕ → Bool) → DoForksPass test self.now → DoForksPass test r) }
     {
         match self {
@@ -181,8 +182,12 @@ impl<T: Copy + Eq> Node<T> {
                 if !space.is_open_above(*variable, *cut) {
                     return below.within(alloc, space);
                 }
-                let low = below.within(alloc, &space.below(*variable, *cut))?;
-                let high = above.within(alloc, &space.above(*variable, *cut))?;
+                let most = space.close_above(*variable, *cut);
+                let low = below.within(alloc, space)?;
+                space.reopen_above(*variable, most);
+                let least = space.close_below(*variable, *cut);
+                let high = above.within(alloc, space)?;
+                space.reopen_below(*variable, least);
                 Node::fork(alloc, *variable, *cut, low, high)
             }
         }
@@ -221,14 +226,15 @@ impl<T: Copy> Node<T> {
     pub(crate) fn fill<U: Copy, V: Copy + Eq, F: Fn(U, T) -> V>(
         &self,
         alloc: Global,
-        space: &Space,
+        space: &mut Space,
         value: U,
         f: &F,
     ) -> Result<Node<V>, OutOfMemory>
         requires callable { F.IsAlwaysCallable f.now }
         requires equal { (x y : V) → V.eq x y ≡ true → x ≡ y }
-        ensures made { IfOk result (IsFillOf (F.post f.now) space.now value self.now) }
-        ensures fit { IfOk result (IsFit space.now) }
+        ensures made { IfOk result (IsFillOf (F.post f.now) space.old value self.now) }
+        ensures back { IfOk result (λ _. space.new ≡ space.old) }
+        ensures fit { IfOk result (IsFit space.old) }
         ensures pass { IfOk result (λ r. (test : ℕ → Bool) → DoForksPass test self.now → DoForksPass test r) }
     {
         match self {
@@ -245,8 +251,12 @@ impl<T: Copy> Node<T> {
                 if !space.is_open_above(*variable, *cut) {
                     return below.fill(alloc, space, value, f);
                 }
-                let low = below.fill(alloc, &space.below(*variable, *cut), value, f)?;
-                let high = above.fill(alloc, &space.above(*variable, *cut), value, f)?;
+                let most = space.close_above(*variable, *cut);
+                let low = below.fill(alloc, space, value, f)?;
+                space.reopen_above(*variable, most);
+                let least = space.close_below(*variable, *cut);
+                let high = above.fill(alloc, space, value, f)?;
+                space.reopen_below(*variable, least);
                 Node::fork(alloc, *variable, *cut, low, high)
             }
         }
@@ -256,14 +266,15 @@ impl<T: Copy> Node<T> {
     pub(crate) fn join<U: Copy, V: Copy + Eq, F: Fn(T, U) -> V>(
         &self,
         alloc: Global,
-        space: &Space,
+        space: &mut Space,
         other: &Node<U>,
         f: &F,
     ) -> Result<Node<V>, OutOfMemory>
         requires callable { F.IsAlwaysCallable f.now }
         requires equal { (x y : V) → V.eq x y ≡ true → x ≡ y }
-        ensures made { IfOk result (IsJoinOf (F.post f.now) space.now self.now other.now) }
-        ensures fit { IfOk result (IsFit space.now) }
+        ensures made { IfOk result (IsJoinOf (F.post f.now) space.old self.now other.now) }
+        ensures back { IfOk result (λ _. space.new ≡ space.old) }
+        ensures fit { IfOk result (IsFit space.old) }
         ensures pass { IfOk result (λ r. (test : ℕ → Bool) → DoForksPass test self.now → DoForksPass test other.now → DoForksPass test r) }
     {
         match self {
@@ -280,8 +291,12 @@ impl<T: Copy> Node<T> {
                 if !space.is_open_above(*variable, *cut) {
                     return below.join(alloc, space, other, f);
                 }
-                let low = below.join(alloc, &space.below(*variable, *cut), other, f)?;
-                let high = above.join(alloc, &space.above(*variable, *cut), other, f)?;
+                let most = space.close_above(*variable, *cut);
+                let low = below.join(alloc, space, other, f)?;
+                space.reopen_above(*variable, most);
+                let least = space.close_below(*variable, *cut);
+                let high = above.join(alloc, space, other, f)?;
+                space.reopen_below(*variable, least);
                 Node::fork(alloc, *variable, *cut, low, high)
             }
         }
@@ -293,13 +308,14 @@ impl Node<bool> {
     pub(crate) fn pick<T: Copy + Eq>(
         &self,
         alloc: Global,
-        space: &Space,
+        space: &mut Space,
         on: &Node<T>,
         off: &Node<T>,
     ) -> Result<Node<T>, OutOfMemory>
         requires { (x y : T) → T.eq x y ≡ true → x ≡ y }
-        ensures made { IfOk result (IsPickOf space.now self.now on.now off.now) }
-        ensures fit { IfOk result (IsFit space.now) }
+        ensures made { IfOk result (IsPickOf space.old self.now on.now off.now) }
+        ensures back { IfOk result (λ _. space.new ≡ space.old) }
+        ensures fit { IfOk result (IsFit space.old) }
         ensures pass { IfOk result (λ r. (test : ℕ → Bool) → DoForksPass test self.now → DoForksPass test on.now → DoForksPass test off.now → DoForksPass test r) }
     {
         match self {
@@ -322,8 +338,12 @@ impl Node<bool> {
                 if !space.is_open_above(*variable, *cut) {
                     return below.pick(alloc, space, on, off);
                 }
-                let low = below.pick(alloc, &space.below(*variable, *cut), on, off)?;
-                let high = above.pick(alloc, &space.above(*variable, *cut), on, off)?;
+                let most = space.close_above(*variable, *cut);
+                let low = below.pick(alloc, space, on, off)?;
+                space.reopen_above(*variable, most);
+                let least = space.close_below(*variable, *cut);
+                let high = above.pick(alloc, space, on, off)?;
+                space.reopen_below(*variable, least);
                 Node::fork(alloc, *variable, *cut, low, high)
             }
         }

@@ -59,8 +59,8 @@ pub(crate) struct Sorted {
     pub(crate) left: u32,
 }
 
-/// The literal on a count, if there is one from a place on.
-fn literal_on_count(literals: &[Literal], from: usize, variable: u8) -> Option<Literal>
+/// The literal on a variable, if there is one from a place on.
+pub(crate) fn literal_from(literals: &[Literal], from: usize, variable: u8) -> Option<Literal>
     ensures { IfSome result (IsSaidBy literals.now) }
 {
     for at in from..literals.len() {
@@ -74,12 +74,13 @@ fn literal_on_count(literals: &[Literal], from: usize, variable: u8) -> Option<L
     None
 }
 
-/// The literal on a value, if there is one: these are the last.
-fn literal_on_value(literals: &[Literal], variable: u8) -> Option<Literal>
+/// The literal on a variable, if there is one before a place.
+pub(crate) fn literal_up_to(literals: &[Literal], end: usize, variable: u8) -> Option<Literal>
     ensures { IfSome result (IsSaidBy literals.now) }
 {
-    for later in 0..literals.len() {
-        let at = literals.len() - 1 - later;
+    let count = end.min(literals.len());
+    for later in 0..count {
+        let at = count - 1 - later;
         if literals[at].variable == variable {
             return Some(literals[at]);
         }
@@ -90,14 +91,14 @@ fn literal_on_value(literals: &[Literal], variable: u8) -> Option<Literal>
     None
 }
 
-/// The literal on a variable, if there is one from a place on.
-pub(crate) fn literal_on(literals: &[Literal], from: usize, variable: u8) -> Option<Literal>
+/// The literal on a variable, if there is one from a place on or if it is on a value: these are the last.
+fn literal_on(literals: &[Literal], from: usize, variable: u8) -> Option<Literal>
     ensures { IfSome result (IsSaidBy literals.now) }
 {
     if variable < FIRST_VALUE {
-        literal_on_count(literals, from, variable)
+        literal_from(literals, from, variable)
     } else {
-        literal_on_value(literals, variable)
+        literal_up_to(literals, literals.len(), variable)
     }
 }
 

@@ -1,30 +1,40 @@
 //! The tree of the places of cubes that stand as a tree lists them: each fork parts the cubes in two slices, so that no cube
 //! is visited but at its own leaf, and where a border is looked for.
-ghost use Rattle.std.specs.Prelude.{◌+◌, ◌≡◌, ◌≤◌, IfOk, IfSome, length, map};
+ghost use Rattle.std.specs.Prelude.{◌+◌, ◌≡◌, ◌≤◌, IfOk, IfSome, length, map, true};
 ghost use Rattle.std.specs.Bool.{OnTrue};
 ghost use Rattle.cpg_order.specs.Scenario.{Scenario};
-ghost use Rattle.cpg_cube.specs.Cube.{IsRising};
-ghost use Rattle.cpg_tree.specs.Space.{HasFew};
+ghost use Rattle.cpg_cube.specs.Cube.{IsRising, holds};
+ghost use Rattle.cpg_tree.specs.Space.{Lies, HasFew};
 ghost use Rattle.cpg_tree.specs.Decision.{value_at};
 ghost use Rattle.cpg_tree.specs.Places.{tells_cube};
 ghost use Rattle.cpg_tree.specs.Spots.{AreOpen};
 ghost use Rattle.cpg_tree.specs.Slices.{IsReached, IsLead, IsLed, IsInside, IsOwn, AreBounds, is_narrow, narrowed};
 
 use crate::node::Node;
-use crate::places::{Cut, Sorted, cut_of, literal_on, open_value};
+use crate::places::{Cut, Sorted, cut_of, literal_from, literal_up_to, open_value};
 use crate::space::Space;
 use cpg_base::{OutOfMemory, top};
 use cpg_cube::{Cube, Literal};
 use std::alloc::Global;
 
+/// How the variable is found at which a slice parts: a guess, that no clause speaks of.
+#[derive(Clone, Copy)]
+enum Way {
+    /// By the first literal that doesn't hold in the whole space: in cubes that stand by the numbers of the variables.
+    ByNumber,
+    /// By the first on which the last cube asks for more than the first cube does: in cubes that stand by another order.
+    ByEnds,
+}
+
 /// Cubes that stand together, from a place up to another, in a space in which so many variables are narrower than in all
-/// scenarios. So many of the first cube's literals hold in the whole space: a hint where to look, that no clause speaks of.
+/// scenarios. `held` is where to look first in the literals: a hint, that no clause speaks of.
 #[derive(Clone, Copy)]
 struct Slice {
     from: u32,
     to: u32,
     narrow: u32,
     held: usize,
+    way: Way,
 }
 
 /// Where a slice parts, and how many of its first cube's literals stand before the one that tells it.
@@ -63,6 +73,31 @@ fn is_inside(space: &Space, literal: &Literal) -> bool
     literal.high <= space.high[literal.variable as usize]
 }
 
+/// Whether all numbers in range are a literal's.
+fn is_filled(space: &Space, literal: &Literal) -> bool
+    ensures { OnTrue result ((s : Scenario) → Lies space.now s → holds s literal.now ≡ true) }
+{
+    if space.low[literal.variable as usize] < literal.low {
+        return false;
+    }
+    space.high[literal.variable as usize] <= literal.high
+}
+
+/// Whether a literal holds in the whole space and doesn't go beyond it.
+fn is_bound(space: &Space, literal: &Literal) -> bool
+    ensures hold { OnTrue result ((s : Scenario) → Lies space.now s → holds s literal.now ≡ true) }
+    ensures inside { OnTrue result (IsInside space.now literal.now) }
+{
+    if !is_inside(space, literal) {
+        return false;
+    }
+    // mostly so, and then the faults that are left don't matter
+    if is_filled(space, literal) {
+        return true;
+    }
+    space.tells(literal)
+}
+
 /// 1 for a variable that is narrow.
 fn narrowed(k: u8, space: &Space, variable: u8) -> u32
     ensures { result ≡ narrowed k space.now variable }
@@ -83,10 +118,7 @@ fn bounds_of(k: u8, space: &Space, literals: &[Literal]) -> Option<u32>
 {
     let mut found: u32 = 0;
     for literal in literals {
-        if !space.tells(literal) {
-            return None;
-        }
-        if !is_inside(space, literal) {
+        if !is_bound(space, literal) {
             return None;
         }
         found = found.saturating_add(narrowed(k, space, literal.variable));
@@ -119,16 +151,79 @@ fn part_from(space: &Space, literals: &[Literal], from: usize) -> Option<Part>
     None
 }
 
-/// Where a cube's literals part a space: by a value if one doesn't hold in the whole space, or else by the first literal
-/// from a place on that doesn't.
-fn part_of(space: &Space, literals: &[Literal], held: usize) -> Option<Part>
+/// The literal on a variable, if there is one, looked for from a place on to both sides.
+fn literal_near(literals: &[Literal], place: usize, variable: u8) -> Option<Literal> {
+    let Some(here) = literals.get(place) else {
+        return literal_up_to(literals, literals.len(), variable);
+    };
+    if here.variable > variable {
+        return literal_up_to(literals, place, variable);
+    }
+    literal_from(literals, place, variable)
+}
+
+/// Whether literals ask for more than a literal allows, looked for from a place on.
+fn asks_more(literals: &[Literal], place: usize, literal: Literal) -> bool {
+    match literal_near(literals, place, literal.variable) {
+        Some(other) => literal.high < other.low,
+        None => false,
+    }
+}
+
+/// The place of the first literal for which other literals ask for more, if there is one.
+fn place_apart(literals: &[Literal], others: &[Literal]) -> Option<usize> {
+    for at in 0..literals.len() {
+        if asks_more(others, at, literals[at]) {
+            return Some(at);
+        }
+    }
+    None
+}
+
+/// Where the first and the last cube of a slice part a space: where its part did, if they do there still.
+fn part_by_ends(space: &Space, first: &[Literal], last: &[Literal], held: usize) -> Option<Part>
+    ensures { IfSome result (λ r. AreOpen space.now r.cut.variable r.cut.most) }
+{
+    let mut at = held;
+    if at >= first.len() || !asks_more(last, at, first[at]) {
+        at = place_apart(first, last)?;
+    }
+    let cut = cut_of(space, *first.get(at)?)?;
+    Some(Part { cut, held: at })
+}
+
+/// Where a slice parts a space, by its first cube's literals and by the last cube, if it is to be seen by these.
+fn part_apart(space: &Space, cubes: &[&Cube], literals: &[Literal], slice: Slice) -> Option<Part>
+    ensures { IfSome result (λ r. AreOpen space.now r.cut.variable r.cut.most) }
+{
+    match slice.way {
+        Way::ByNumber => None,
+        Way::ByEnds => {
+            let last = cubes.get(slice.to.saturating_sub(1) as usize)?;
+            part_by_ends(space, literals, last.literals(), slice.held)
+        }
+    }
+}
+
+/// Where a slice parts a space: by a value of its first cube if one doesn't hold in the whole space, or else by a count.
+fn part_of(space: &Space, cubes: &[&Cube], literals: &[Literal], slice: Slice) -> Option<Part>
     ensures { IfSome result (λ r. AreOpen space.now r.cut.variable r.cut.most) }
 {
     if let Some(value) = open_value(space, literals) {
         let cut = cut_of(space, value)?;
-        return Some(Part { cut, held });
+        return Some(Part {
+            cut,
+            held: slice.held,
+        });
     }
-    part_from(space, literals, held)
+    if let Some(part) = part_apart(space, cubes, literals, slice) {
+        return Some(part);
+    }
+    if let Some(part) = part_from(space, literals, slice.held) {
+        return Some(part);
+    }
+    // the hint may be wrong
+    part_from(space, literals, 0)
 }
 
 /// The top of the tree of a slice for the scenarios of a space.
@@ -143,16 +238,12 @@ fn lead_of(k: u8, space: &Space, cubes: &[&Cube], slice: Slice) -> Lead
         return Lead::Unknown;
     };
     let literals = cube.literals();
-    if let Some(part) = part_of(space, literals, slice.held) {
-        return Lead::Fork(part);
-    }
     if slice.to - slice.from == 1 {
         if is_their_own(k, space, slice.narrow, literals) {
             return Lead::Leaf(Some(slice.from));
         }
     }
-    // the hint may be wrong
-    match part_from(space, literals, 0) {
+    match part_of(space, cubes, literals, slice) {
         Some(part) => Lead::Fork(part),
         None => Lead::Unknown,
     }
@@ -163,7 +254,7 @@ fn is_above(cubes: &[&Cube], place: u32, part: Part) -> bool {
     let Some(cube) = cubes.get(place as usize) else {
         return true;
     };
-    match literal_on(cube.literals(), part.held, part.cut.variable) {
+    match literal_near(cube.literals(), part.held, part.cut.variable) {
         Some(literal) => literal.low > part.cut.most,
         None => false,
     }
@@ -184,20 +275,21 @@ fn border_of(cubes: &[&Cube], slice: Slice, part: Part) -> u32 {
     first
 }
 
-/// The tree of a slice that a fork parts.
+/// The tree of a slice that a fork parts. The space is as before where there is a tree.
 #[cycle(led)]
 fn led_apart(
     alloc: Global,
     k: u8,
-    space: &Space,
+    space: &mut Space,
     cubes: &[&Cube],
     slice: Slice,
     part: Part,
     left: u32,
 ) -> Result<Option<Sorted>, OutOfMemory>
-    requires open { AreOpen space.now part.cut.variable part.cut.most }
-    requires reached { IsReached k space.now slice.narrow }
-    ensures { IfOk result (λ r. IfSome r (IsLed (map (λ b. b.now) cubes.now) k space.now slice.from slice.to left)) }
+    requires open { AreOpen space.old part.cut.variable part.cut.most }
+    requires reached { IsReached k space.old slice.narrow }
+    ensures led { IfOk result (λ r. IfSome r (IsLed (map (λ b. b.now) cubes.now) k space.old slice.from slice.to left)) }
+    ensures same { IfOk result (λ r. IfSome r (λ _. space.new ≡ space.old)) }
 {
     let cut = part.cut;
     let Some(narrow) = narrow_with(k, space, cut.variable, slice.narrow) else {
@@ -209,21 +301,25 @@ fn led_apart(
         to: border,
         narrow,
         held: part.held,
+        way: slice.way,
     };
     let high = Slice {
         from: border,
         to: slice.to,
         narrow,
         held: part.held,
+        way: slice.way,
     };
-    let under = space.below(cut.variable, cut.most);
-    let Some(below) = led(alloc, k, &under, cubes, low, left)? else {
+    let most = space.close_above(cut.variable, cut.most);
+    let Some(below) = led(alloc, k, space, cubes, low, left)? else {
         return Ok(None);
     };
-    let over = space.above(cut.variable, cut.most);
-    let Some(above) = led(alloc, k, &over, cubes, high, below.left)? else {
+    space.reopen_above(cut.variable, most);
+    let was = space.close_below(cut.variable, cut.most);
+    let Some(above) = led(alloc, k, space, cubes, high, below.left)? else {
         return Ok(None);
     };
+    space.reopen_below(cut.variable, was);
     let node = Node::fork_of(alloc, cut.variable, cut.most, below.node, above.node)?;
     Ok(Some(Sorted {
         node,
@@ -232,18 +328,19 @@ fn led_apart(
 }
 
 /// The tree of a slice for the scenarios of a space, with at most so many nodes; `None` where the cubes don't stand as a
-/// tree lists them, or where there would be more nodes.
+/// tree lists them, or where there would be more nodes. The space is as before where there is a tree.
 #[cycle(led)]
 fn led(
     alloc: Global,
     k: u8,
-    space: &Space,
+    space: &mut Space,
     cubes: &[&Cube],
     slice: Slice,
     left: u32,
 ) -> Result<Option<Sorted>, OutOfMemory>
-    requires { IsReached k space.now slice.narrow }
-    ensures { IfOk result (λ r. IfSome r (IsLed (map (λ b. b.now) cubes.now) k space.now slice.from slice.to left)) }
+    requires { IsReached k space.old slice.narrow }
+    ensures led { IfOk result (λ r. IfSome r (IsLed (map (λ b. b.now) cubes.now) k space.old slice.from slice.to left)) }
+    ensures same { IfOk result (λ r. IfSome r (λ _. space.new ≡ space.old)) }
 {
     if left == 0 {
         return Ok(None);
@@ -259,6 +356,32 @@ fn led(
 }
 
 /// The tree of the places of cubes that stand as a tree lists them, in the scenarios of at most `k` faults and with at most
+/// so many nodes, if the slices are found in one way.
+fn led_by(
+    alloc: Global,
+    k: u8,
+    cubes: &[&Cube],
+    nodes: u32,
+    way: Way,
+) -> Result<Option<Node<Option<u32>>>, OutOfMemory>
+    requires { length cubes.now ≤ 524288 }
+    ensures { IfOk result (λ r. IfSome r (λ n. (s : Scenario) → HasFew k s → tells_cube (map (λ b. b.now) cubes.now) (value_at n s) s)) }
+{
+    let mut space = Space::whole(k);
+    let slice = Slice {
+        from: 0,
+        to: cubes.len() as u32,
+        narrow: 0,
+        held: 0,
+        way,
+    };
+    match led(alloc, k, &mut space, cubes, slice, nodes)? {
+        Some(sorted) => Ok(Some(sorted.node)),
+        None => Ok(None),
+    }
+}
+
+/// The tree of the places of cubes that stand as a tree lists them, in the scenarios of at most `k` faults and with at most
 /// so many nodes; `None` where they don't, or where there would be more nodes.
 pub(crate) fn led_out(
     alloc: Global,
@@ -269,15 +392,9 @@ pub(crate) fn led_out(
     requires { length cubes.now ≤ 524288 }
     ensures { IfOk result (λ r. IfSome r (λ n. (s : Scenario) → HasFew k s → tells_cube (map (λ b. b.now) cubes.now) (value_at n s) s)) }
 {
-    let space = Space::whole(k);
-    let slice = Slice {
-        from: 0,
-        to: cubes.len() as u32,
-        narrow: 0,
-        held: 0,
-    };
-    match led(alloc, k, &space, cubes, slice, nodes)? {
-        Some(sorted) => Ok(Some(sorted.node)),
-        None => Ok(None),
+    if let Some(root) = led_by(alloc, k, cubes, nodes, Way::ByNumber)? {
+        return Ok(Some(root));
     }
+    let root = led_by(alloc, k, cubes, nodes, Way::ByEnds)?;
+    Ok(root)
 }

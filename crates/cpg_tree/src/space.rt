@@ -3,7 +3,7 @@ ghost use Rattle.std.specs.Prelude.{◌≡◌, ◌≤◌, ◌<◌, ◌+◌, ◌|
 ghost use Rattle.std.specs.Bool.{OnFalse, OnTrue};
 ghost use Rattle.cpg_cube.specs.Cube.{IsRising, holds, matches};
 ghost use Rattle.cpg_order.specs.Scenario.{Scenario, number_of};
-ghost use Rattle.cpg_tree.specs.Space.{Lies, IsWhole, HasFew, is_open_below, is_open_above, below_cut, above_cut, faults_of};
+ghost use Rattle.cpg_tree.specs.Space.{Lies, IsWhole, HasFew, is_open_below, is_open_above, below_cut, above_cut, reopened_below, faults_of};
 
 use cpg_base::FIRST_VALUE;
 use cpg_cube::Literal;
@@ -24,6 +24,13 @@ pub struct Space {
     pub(crate) low: [u8; VARIABLES],
     pub(crate) high: [u8; VARIABLES],
     pub(crate) left: u8,
+}
+
+/// What a variable's low and the faults left were before numbers were closed.
+#[derive(Clone, Copy)]
+pub(crate) struct Lifted {
+    low: u8,
+    left: u8,
 }
 
 impl Space {
@@ -117,6 +124,48 @@ impl Space {
         space.left -= faults_of(variable, low - self.low[variable as usize]);
         space.low[variable as usize] = low;
         space
+    }
+
+    /// Leaves the numbers up to the cut, where there are others; the high of before, for `reopen_above`.
+    pub(crate) fn close_above(&mut self, variable: u8, cut: u8) -> u8
+        ensures is { self.new ≡ below_cut self.old variable cut }
+        ensures back { below_cut self.new variable result ≡ self.old }
+        ensures lies { (s : Scenario) → Lies self.old s → number_of s variable ≤ cut → Lies self.new s }
+    {
+        let high = self.high[variable as usize];
+        self.high[variable as usize] = cut;
+        high
+    }
+
+    /// Puts a high back.
+    pub(crate) fn reopen_above(&mut self, variable: u8, high: u8)
+        ensures { self.new ≡ below_cut self.old variable high }
+    {
+        self.high[variable as usize] = high;
+    }
+
+    /// Leaves the numbers above the cut, where there are others; what was before, for `reopen_below`.
+    pub(crate) fn close_below(&mut self, variable: u8, cut: u8) -> Lifted
+        requires below { is_open_below self.old variable cut ≡ true }
+        requires above { is_open_above self.old variable cut ≡ true }
+        ensures is { self.new ≡ above_cut self.old variable cut }
+        ensures back { reopened_below self.new variable result ≡ self.old }
+        ensures lies { (s : Scenario) → Lies self.old s → cut < number_of s variable → Lies self.new s }
+    {
+        let was = Lifted {
+            low: self.low[variable as usize],
+            left: self.left,
+        };
+        self.raise(variable, cut);
+        was
+    }
+
+    /// Puts a low and the faults left back.
+    pub(crate) fn reopen_below(&mut self, variable: u8, was: Lifted)
+        ensures { self.new ≡ reopened_below self.old variable was }
+    {
+        self.low[variable as usize] = was.low;
+        self.left = was.left;
     }
 
     /// Leaves the scenarios in which a number is at least so great; false only where there are none.

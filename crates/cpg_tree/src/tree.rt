@@ -3,10 +3,12 @@ ghost use Rattle.std.specs.Prelude.{◌≡◌, ◌≤◌, ◌<◌, max, ℕ, Boo
 ghost use Rattle.std.specs.Bool.{OnTrue};
 ghost use Rattle.cpg_cube.specs.declared.literal.Literal.{Literal};
 ghost use Rattle.cpg_tree.specs.Decision.{IsGood};
+ghost use Rattle.cpg_tree.specs.Later.{time_later};
 ghost use Rattle.cpg_tree.specs.Paths.{paths_from, paths_of};
 ghost use Rattle.cpg_tree.specs.Tree.{HasOnePathEach, DoPathsPass, IsConstant, IsMap, IsJoin, IsPick, IsValueAt};
 
 use crate::node::Node;
+use crate::reading::{AsIs, Later, Reading};
 use crate::space::Space;
 use cpg_base::{OutOfMemory, Scenario};
 use std::alloc::Global;
@@ -106,8 +108,8 @@ impl<T: Copy> Tree<T> {
         ensures each { IfOk result (λ t. HasOnePathEach t.faults t.paths) }
         ensures pass { IfOk result (λ t. (test : ℕ → Bool) → DoPathsPass test self.now.paths → DoPathsPass test other.now.paths → DoPathsPass test t.paths) }
     {
-        let space = Space::whole(self.faults);
-        let root = self.root.join(self.alloc, &space, &other.root, f)?;
+        let mut space = Space::whole(self.faults);
+        let root = self.root.join(self.alloc, &mut space, &other.root, f)?;
         Tree::of(self.alloc, self.faults, root)
     }
 
@@ -134,10 +136,10 @@ impl<T: Copy + Eq> Tree<T> {
         ensures each { IfOk result (λ t. HasOnePathEach t.faults t.paths) }
         ensures pass { IfOk result (λ t. (test : ℕ → Bool) → DoPathsPass test chooser.now.paths → DoPathsPass test yes.now.paths → DoPathsPass test no.now.paths → DoPathsPass test t.paths) }
     {
-        let space = Space::whole(chooser.faults);
+        let mut space = Space::whole(chooser.faults);
         let root = chooser
             .root
-            .pick(chooser.alloc, &space, &yes.root, &no.root)?;
+            .pick(chooser.alloc, &mut space, &yes.root, &no.root)?;
         Tree::of(chooser.alloc, chooser.faults, root)
     }
 }
@@ -155,6 +157,24 @@ impl Tree<bool> {
 }
 
 impl Tree<u64> {
+    /// In each scenario the greater number of two trees.
+    fn greater<U: Copy, R: Reading<U>>(
+        &self,
+        other: &Tree<U>,
+        read: &R,
+    ) -> Result<Tree<u64>, OutOfMemory>
+        requires same { self.now.faults ≡ other.now.faults }
+        ensures is { IfOk result (IsJoin (λ x y z. z ≡ max x (R.number read.now y)) self.now other.now) }
+        ensures each { IfOk result (λ t. HasOnePathEach t.faults t.paths) }
+        ensures pass { IfOk result (λ t. (test : ℕ → Bool) → DoPathsPass test self.now.paths → DoPathsPass test other.now.paths → DoPathsPass test t.paths) }
+    {
+        let mut space = Space::whole(self.faults);
+        let root = self
+            .root
+            .greater_of(self.alloc, &mut space, &other.root, read)?;
+        Tree::of(self.alloc, self.faults, root)
+    }
+
     /// In each scenario the greater value of two trees.
     pub fn max(&self, other: &Tree<u64>) -> Result<Tree<u64>, OutOfMemory>
         requires same { self.now.faults ≡ other.now.faults }
@@ -162,8 +182,16 @@ impl Tree<u64> {
         ensures each { IfOk result (λ t. HasOnePathEach t.faults t.paths) }
         ensures pass { IfOk result (λ t. (test : ℕ → Bool) → DoPathsPass test self.now.paths → DoPathsPass test other.now.paths → DoPathsPass test t.paths) }
     {
-        let space = Space::whole(self.faults);
-        let root = self.root.greater_of(self.alloc, &space, &other.root)?;
-        Tree::of(self.alloc, self.faults, root)
+        self.greater(other, &AsIs)
+    }
+
+    /// In each scenario the greater of this tree's number and another's, 0 where that has none, later by a delay.
+    pub fn max_later(&self, other: &Tree<Option<u64>>, delay: u64) -> Result<Tree<u64>, OutOfMemory>
+        requires same { self.now.faults ≡ other.now.faults }
+        ensures is { IfOk result (IsJoin (λ x y z. z ≡ max x (time_later delay y)) self.now other.now) }
+        ensures each { IfOk result (λ t. HasOnePathEach t.faults t.paths) }
+        ensures pass { IfOk result (λ t. (test : ℕ → Bool) → DoPathsPass test self.now.paths → DoPathsPass test other.now.paths → DoPathsPass test t.paths) }
+    {
+        self.greater(other, &Later { delay })
     }
 }

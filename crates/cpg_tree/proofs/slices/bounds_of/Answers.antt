@@ -5,7 +5,7 @@ use Rattle.cpg_tree.proofs.slices.bounds_of.Goals as goal
 
 pub loop-literal-preserved : goal.loop-literal-preserved
 loop-literal-preserved c = bounds_more c.args.k c.args.space.now c.args.literals.now c.loop-literal.literal-index c.loop-literal.found (record { variable = 0; low = 0; high = 0 }) c.loop-literal-test.true c.loop-literal.invariant
-    (λ s lies. from_true c.tells.result c.if-not-tells.false c.tells.ensures s lies)
-    (from_true c.is_inside.result c.if-not-is_inside.false c.is_inside.ensures)
+    (λ s lies. from_true c.is_bound.result c.if-not-is_bound.false c.is_bound.ensures.hold s lies)
+    (from_true c.is_bound.result c.if-not-is_bound.false c.is_bound.ensures.inside)
     c.saturating_add-found.result
     (omega (arith, c.saturating_add-found.ensures, c.narrowed.ensures))

@@ -3,6 +3,7 @@ use Rattle.std.specs.Prelude.{IfOk}
 use Rattle.cpg_tree.specs.declared.node.Node.{Node}
 use Rattle.cpg_tree.specs.Space.{Space, Lies}
 use Rattle.cpg_tree.specs.Results.{IsFillOf, IsForkOf}
+use Rattle.cpg_tree.proofs.Spaces.{lies_reopened}
 use Rattle.cpg_tree.proofs.Forks.{one_below_of, one_above_of, one_fork_of, of_answer, from_false}
 use Rattle.cpg_tree.specs.Decision.{DoForksPass}
 use Rattle.cpg_tree.proofs.Forks.{passes_parts}
@@ -28,10 +29,11 @@ pub returns-in_ok-high-in-Fork-clause-made : goal.returns-in_ok-high-in-Fork-cla
 returns-in_ok-high-in-Fork-clause-made g t c =
     let room : Space = c.args.space.now in
     of_answer c.fork.result (IsForkOf c.in-Fork.variable c.in-Fork.cut c.in_ok-low-in-Fork.low c.in_ok-high-in-Fork.high) (IsFillOf (λ (x : g.row.U.Denot) (y : g.row.T.Denot) (z : g.row.V.Denot). g.F.Fn.post c.args.f.now (x, (y, tt)) z) room c.args.value c.args.self.now) c.fork.ensures.made
-    (λ r fork. one_fork_of (λ s y z. (λ (x : g.row.U.Denot) (y : g.row.T.Denot) (z : g.row.V.Denot). g.F.Fn.post c.args.f.now (x, (y, tt)) z) c.args.value y z) (Lies room) c.in-Fork.variable c.in-Fork.cut c.in-Fork.below.value c.in-Fork.above.value c.args.self.now c.in-Fork.is r (Lies c.below.result) (Lies c.above.result) c.in_ok-low-in-Fork.low c.in_ok-high-in-Fork.high
-    (subst (λ (n : Node g.row.T.Denot). IsFillOf (λ (x : g.row.U.Denot) (y : g.row.T.Denot) (z : g.row.V.Denot). g.F.Fn.post c.args.f.now (x, (y, tt)) z) c.below.result c.args.value n c.in_ok-low-in-Fork.low) c.deref-in-Fork.ensures c.in_ok-low-in-Fork.ensures.made)
-    (subst (λ (n : Node g.row.T.Denot). IsFillOf (λ (x : g.row.U.Denot) (y : g.row.T.Denot) (z : g.row.V.Denot). g.F.Fn.post c.args.f.now (x, (y, tt)) z) c.above.result c.args.value n c.in_ok-high-in-Fork.high) c.deref-in-Fork-2.ensures c.in_ok-high-in-Fork.ensures.made)
-    fork c.below.ensures.lies c.above.ensures.lies)
+    (λ r fork. one_fork_of (λ s y z. (λ (x : g.row.U.Denot) (y : g.row.T.Denot) (z : g.row.V.Denot). g.F.Fn.post c.args.f.now (x, (y, tt)) z) c.args.value y z) (Lies room) c.in-Fork.variable c.in-Fork.cut c.in-Fork.below.value c.in-Fork.above.value c.args.self.now c.in-Fork.is r (Lies c.close_above-most.new.self) (Lies c.close_below-least.new.self) c.in_ok-low-in-Fork.low c.in_ok-high-in-Fork.high
+    (subst (λ (n : Node g.row.T.Denot). IsFillOf (λ (x : g.row.U.Denot) (y : g.row.T.Denot) (z : g.row.V.Denot). g.F.Fn.post c.args.f.now (x, (y, tt)) z) c.close_above-most.new.self c.args.value n c.in_ok-low-in-Fork.low) c.deref-in-Fork.ensures c.in_ok-low-in-Fork.ensures.made)
+    (subst (λ (n : Node g.row.T.Denot). IsFillOf (λ (x : g.row.U.Denot) (y : g.row.T.Denot) (z : g.row.V.Denot). g.F.Fn.post c.args.f.now (x, (y, tt)) z) c.close_below-least.new.self c.args.value n c.in_ok-high-in-Fork.high) c.deref-in-Fork-2.ensures c.in_ok-high-in-Fork.ensures.made)
+    fork c.close_above-most.ensures.lies
+    (lies_reopened room c.close_above-most.new.self c.fill-in-Fork.new.space c.reopen_above.new.self c.close_below-least.new.self c.in-Fork.variable c.close_above-most.result c.in-Fork.cut c.close_above-most.ensures.back c.in_ok-low-in-Fork.ensures.back c.reopen_above.ensures c.close_below-least.ensures.lies))
 
 pub returns-in_ok-high-in-Fork-clause-pass : goal.returns-in_ok-high-in-Fork-clause-pass
 returns-in_ok-high-in-Fork-clause-pass g t c =

@@ -4,6 +4,7 @@ use Rattle.cpg_tree.specs.declared.node.Node.{Node}
 use Rattle.cpg_tree.specs.Space.{Space, Lies}
 use Rattle.cpg_tree.specs.Decision.{value_at, low_at, high_at}
 use Rattle.cpg_tree.specs.Results.{IsJoinOf, IsFillOf, IsForkOf}
+use Rattle.cpg_tree.proofs.Spaces.{lies_reopened}
 use Rattle.cpg_tree.proofs.Forks.{two_below_of, two_above_of, two_fork_of, two_leaf_of, of_answer, from_false}
 use Rattle.cpg_tree.specs.Decision.{DoForksPass}
 use Rattle.cpg_tree.proofs.Forks.{passes_parts}
@@ -29,10 +30,11 @@ pub returns-in_ok-high-in-Fork-clause-made : goal.returns-in_ok-high-in-Fork-cla
 returns-in_ok-high-in-Fork-clause-made g t c =
     let room : Space = c.args.space.now in
     of_answer c.fork.result (IsForkOf c.in-Fork.variable c.in-Fork.cut c.in_ok-low-in-Fork.low c.in_ok-high-in-Fork.high) (IsJoinOf (λ (x : g.row.T.Denot) (y : g.row.U.Denot) (z : g.row.V.Denot). g.F.Fn.post c.args.f.now (x, (y, tt)) z) room c.args.self.now c.args.other.now) c.fork.ensures.made
-    (λ r fork. two_fork_of (λ s x z. (λ (x : g.row.T.Denot) (y : g.row.U.Denot) (z : g.row.V.Denot). g.F.Fn.post c.args.f.now (x, (y, tt)) z) x (value_at c.args.other.now s) z) (λ s x v. low_at c.args.other.now s v) (λ k s x v. high_at k c.args.other.now s v) (Lies room) c.in-Fork.variable c.in-Fork.cut c.in-Fork.below.value c.in-Fork.above.value c.args.self.now c.in-Fork.is r (Lies c.below.result) (Lies c.above.result) c.in_ok-low-in-Fork.low c.in_ok-high-in-Fork.high
-    (subst (λ (n : Node g.row.T.Denot). IsJoinOf (λ (x : g.row.T.Denot) (y : g.row.U.Denot) (z : g.row.V.Denot). g.F.Fn.post c.args.f.now (x, (y, tt)) z) c.below.result n c.args.other.now c.in_ok-low-in-Fork.low) c.deref-in-Fork.ensures c.in_ok-low-in-Fork.ensures.made)
-    (subst (λ (n : Node g.row.T.Denot). IsJoinOf (λ (x : g.row.T.Denot) (y : g.row.U.Denot) (z : g.row.V.Denot). g.F.Fn.post c.args.f.now (x, (y, tt)) z) c.above.result n c.args.other.now c.in_ok-high-in-Fork.high) c.deref-in-Fork-2.ensures c.in_ok-high-in-Fork.ensures.made)
-    fork c.below.ensures.lies c.above.ensures.lies)
+    (λ r fork. two_fork_of (λ s x z. (λ (x : g.row.T.Denot) (y : g.row.U.Denot) (z : g.row.V.Denot). g.F.Fn.post c.args.f.now (x, (y, tt)) z) x (value_at c.args.other.now s) z) (λ s x v. low_at c.args.other.now s v) (λ k s x v. high_at k c.args.other.now s v) (Lies room) c.in-Fork.variable c.in-Fork.cut c.in-Fork.below.value c.in-Fork.above.value c.args.self.now c.in-Fork.is r (Lies c.close_above-most.new.self) (Lies c.close_below-least.new.self) c.in_ok-low-in-Fork.low c.in_ok-high-in-Fork.high
+    (subst (λ (n : Node g.row.T.Denot). IsJoinOf (λ (x : g.row.T.Denot) (y : g.row.U.Denot) (z : g.row.V.Denot). g.F.Fn.post c.args.f.now (x, (y, tt)) z) c.close_above-most.new.self n c.args.other.now c.in_ok-low-in-Fork.low) c.deref-in-Fork.ensures c.in_ok-low-in-Fork.ensures.made)
+    (subst (λ (n : Node g.row.T.Denot). IsJoinOf (λ (x : g.row.T.Denot) (y : g.row.U.Denot) (z : g.row.V.Denot). g.F.Fn.post c.args.f.now (x, (y, tt)) z) c.close_below-least.new.self n c.args.other.now c.in_ok-high-in-Fork.high) c.deref-in-Fork-2.ensures c.in_ok-high-in-Fork.ensures.made)
+    fork c.close_above-most.ensures.lies
+    (lies_reopened room c.close_above-most.new.self c.join-in-Fork.new.space c.reopen_above.new.self c.close_below-least.new.self c.in-Fork.variable c.close_above-most.result c.in-Fork.cut c.close_above-most.ensures.back c.in_ok-low-in-Fork.ensures.back c.reopen_above.ensures c.close_below-least.ensures.lies))
 
 pub returns-in-Leaf-clause-made : goal.returns-in-Leaf-clause-made
 returns-in-Leaf-clause-made g t c =

@@ -5,7 +5,7 @@ use Rattle.cpg_cube.specs.declared.literal.Literal.{Literal}
 use Rattle.cpg_tree.specs.declared.places.Sorted.{Sorted}
 use Rattle.cpg_tree.specs.Slices.{IsLed}
 use Rattle.cpg_tree.proofs.SliceLaws.{whole_reached, tells_of_leads}
-use Rattle.cpg_tree.proofs.slices.led_out.Goals as goal
+use Rattle.cpg_tree.proofs.slices.led_by.Goals as goal
 
 pub led-requires : goal.led-requires
 led-requires c = whole_reached c.args.k c.whole-space.result c.whole-space.ensures.is c.whole-space.ensures.lies
@@ -13,5 +13,5 @@ led-requires c = whole_reached c.args.k c.whole-space.result c.whole-space.ensur
 pub returns-in-Some : goal.returns-in-Some
 returns-in-Some c s few =
     let cubes : List (List Literal) = map (λ (b : Bor (List Literal)). b.now) c.args.cubes.now in
-    let led : IsLed cubes c.args.k c.whole-space.result 0 (length c.args.cubes.now) c.args.nodes c.in-Some.sorted = subst (λ (o : Option Sorted). IfSome o (IsLed cubes c.args.k c.whole-space.result 0 (length c.args.cubes.now) c.args.nodes)) c.in-Some.is c.in_ok-sorted.ensures in
+    let led : IsLed cubes c.args.k c.whole-space.result 0 (length c.args.cubes.now) c.args.nodes c.in-Some.sorted = subst (λ (o : Option Sorted). IfSome o (IsLed cubes c.args.k c.whole-space.result 0 (length c.args.cubes.now) c.args.nodes)) c.in-Some.is c.in_ok-sorted.ensures.led in
     tells_of_leads cubes c.args.k c.whole-space.result s few (c.whole-space.ensures.lies s few) (length c.args.cubes.now) (omega (arith, length-map c.args.cubes.now (λ (b : Bor (List Literal)). b.now))) c.in-Some.sorted.node led.leads

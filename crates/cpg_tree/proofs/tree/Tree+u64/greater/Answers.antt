@@ -3,20 +3,21 @@ use Rattle.cpg_tree.specs.declared.node.Node.{Node}
 use Rattle.cpg_tree.specs.Tree.{TreeState, IsJoin, DoPathsPass}
 use Rattle.cpg_tree.proofs.Forks.{of_answer}
 use Rattle.cpg_tree.proofs.Publics.{state, joined_seen, joined_pass}
-use Rattle.cpg_tree.proofs.tree.Tree+u64.max.Goals as goal
+use Rattle.cpg_tree.proofs.tree.Tree+u64.greater.Goals as goal
 
 pub returns-clause-is : goal.returns-clause-is
-returns-clause-is c =
+returns-clause-is g c =
     let k : ℕ = c.self.inside.faults in
+    let number : g.row.U.Denot → ℕ = g.R.Reading.number c.args.read.now in
     let r : Node ℕ = c.in_ok-root.root in
-    of_answer c.of.result (λ t. t ≡ state k r) (IsJoin (λ x y z. z ≡ max x y) c.args.self.now c.args.other.now) c.of.ensures.is
-    (λ t is. subst (IsJoin (λ x y z. z ≡ max x y) c.args.self.now c.args.other.now) (sym is)
+    of_answer c.of.result (λ t. t ≡ state k r) (IsJoin (λ (x : ℕ) (y : g.row.U.Denot) (z : ℕ). z ≡ max x (number y)) c.args.self.now c.args.other.now) c.of.ensures.is
+    (λ t is. subst (IsJoin (λ (x : ℕ) (y : g.row.U.Denot) (z : ℕ). z ≡ max x (number y)) c.args.self.now c.args.other.now) (sym is)
     (joined_seen k c.other.inside.faults c.self.inside.root c.other.inside.root r c.args.self.now c.args.other.now c.self.view_is c.other.view_is
-    (λ x y z. z ≡ max x y) c.requires.same c.self.invariant.0 c.other.invariant.0
+    (λ (x : ℕ) (y : g.row.U.Denot) (z : ℕ). z ≡ max x (number y)) c.requires.same c.self.invariant.0 c.other.invariant.0
     c.whole-space.result c.whole-space.ensures.is c.whole-space.ensures.lies c.in_ok-root.ensures.fit c.in_ok-root.ensures.made))
 
 pub returns-clause-pass : goal.returns-clause-pass
-returns-clause-pass c =
+returns-clause-pass g c =
     let k : ℕ = c.self.inside.faults in
     let r : Node ℕ = c.in_ok-root.root in
     of_answer c.of.result (λ t. t ≡ state k r) (λ t. (test : ℕ → Bool) → DoPathsPass test c.args.self.now.paths → DoPathsPass test c.args.other.now.paths → DoPathsPass test t.paths) c.of.ensures.is
