@@ -35,7 +35,10 @@ use Rattle.cpg_tree.specs.Tree.{Path, TreeState, IsOn, IsConstant}
 use Rattle.cpg_expand.specs.Begun.{IsBegun}
 use Rattle.cpg_expand.specs.Sent.{sent_before, sent_so_far, IsFreeOnce}
 use Rattle.cpg_expand.specs.Agreeing.{Tells}
-use Rattle.cpg_expand.specs.Forest.{ForestState, HasTrees, no_tree, times_of, ends_of}
+use Rattle.cpg_expand.specs.Forest.{ForestState, HasTrees, no_tree, times_of, ends_of, later_tree, ready_at, ready_by}
+use Rattle.cpg_expand.specs.Ending.{IsReadyAfter, goes_on}
+use Rattle.cpg_expand.specs.declared.forest.Ready.{Ready}
+use Rattle.cpg_expand.specs.declared.forest.Ready.TheVariants.{After, At}
 use Rattle.cpg_expand.specs.Freezing.{IsNeverFrozen, IsFrozenBy, IsFixed}
 use Rattle.cpg_expand.specs.Grown.{RowsHold, IsReadyLine, IsFreeLine, Lines, SendLines, LeavesUnsent, IsEarlier, IsDone, AreSettledOf, IsGrown, IsSending}
 use Rattle.cpg_expand.specs.Guarded.{value_known, values_known}
@@ -135,7 +138,7 @@ module _ (g : Graph) (urgency : List ℕ) (guards : Guards) (a : IsAdmitted g ur
     -- the unfrozen tree tells what the start would be if it were not frozen
     unfrozen_told : (x : Path (Option ℕ)) → IsOn b.unfrozen.paths s x → x.1 ≡ (if item_active g s.values (item_at g p) then Some (unfrozen_time g order s t p) else None)
     unfrozen_told x on =
-        start_told g a.limits order topological a.joins urgency a.urgency a.topological rows s long few t small old p l nodes told guard is_guard b.wait b.waits r ready_line_before.tells b.unfrozen b.starts x on
+        start_told g a.limits order topological a.joins urgency a.urgency a.topological rows s long few t small old p l nodes told guard is_guard b.wait b.waits r ready_line_before.is ready_line_before.tells b.unfrozen b.starts x on
         ∙ ap₂ (λ (c : Bool) n. if c then Some n else None) (sym (ap (item_active g s.values) (item_at-start g p l)))
         (sym (unfrozen_value g order topological urgency a.urgency a.topological s long t p l guard is_guard r ready_line_before.is))
 
@@ -185,11 +188,20 @@ module _ (g : Graph) (urgency : List ℕ) (guards : Guards) (a : IsAdmitted g ur
   other_end : (q : ℕ) → q ≢ p → ends_of g new q ≡ ends_of g old q
   other_end q other = ap (λ f. ends_of g f q) b.is ∙ get_or-set_other old.ends p q b.end (no_tree g.faults) other
 
-  new_ready : ready_of g new (node_of g p) ≡ b.ready
-  new_ready = ap (λ f. ready_of g f (node_of g p)) b.is ∙ get_or-set_same old.ready (node_of g p) b.ready (no_tree g.faults) (let n = nodes p l in omega (arith, n, grown.trees.ready))
+  new_ready : ready_of g new (node_of g p) ≡ goes_on b.end b.ready
+  new_ready = ap (ready_by g new) (ap (λ f. ready_at g f (node_of g p)) b.is ∙ get_or-set_same old.ready (node_of g p) b.ready (At (no_tree g.faults)) (let n = nodes p l in omega (arith, n, grown.trees.ready))) ∙ goes b.ready b.ready_after
+    where
+      goes : (r : Ready) → IsReadyAfter g p r → ready_by g new r ≡ goes_on b.end r
+      goes (After q) e = ap later_tree (ap (ends_of g new) e ∙ new_end)
+      goes (At t) is = refl
 
-  other_ready : (node : ℕ) → node ≢ node_of g p → ready_of g new node ≡ ready_of g old node
-  other_ready node other = ap (λ f. ready_of g f node) b.is ∙ get_or-set_other old.ready (node_of g p) node b.ready (no_tree g.faults) other
+  other_ready : (node : ℕ) → node < length g.nodes → node ≢ node_of g p → ready_of g new node ≡ ready_of g old node
+  other_ready node within other = ap (ready_by g new) (ap (λ f. ready_at g f node) b.is ∙ get_or-set_other old.ready (node_of g p) node b.ready (At (no_tree g.faults)) other) ∙ kept (ready_at g old node) refl
+    where
+      -- the process after whose ends another node is ready isn't this one
+      kept : (r : Ready) → ready_at g old node ≡ r → ready_by g new r ≡ ready_by g old r
+      kept (After q) e = ap later_tree (other_end q (λ same. other (sym (grown.trees.own node q within e) ∙ ap (node_of g) same)))
+      kept (At t) e = refl
 
   same_free : (node : ℕ) → free_of g new node ≡ free_of g old node
   same_free node = ap (λ f. free_of g f node) b.is
@@ -251,13 +263,13 @@ module _ (g : Graph) (urgency : List ℕ) (guards : Guards) (a : IsAdmitted g ur
             (agrees_weaker s b.unfrozen (values_known s (way guard s.values)) (carried_at_start g order rows s p) (λ z. z ≡ None) (λ z. z ≡ get_or t.times p None)
             (λ x j. frozen_says (frozen_start is) x (in_decided x j))
             (λ z e. e ∙ sym (time_is g order after s t run p p_item ∙ cond-false _ _ _ (ap (item_active g s.values) (item_at-start g p l) ∙ idle)))
-            (start_idle g a.limits order topological a.joins urgency a.urgency a.topological rows s law.values few_faults t run_is_small old p l nodes told_before guard is_guard b.wait b.waits was_ready.time was_ready.tells b.unfrozen b.starts idle))
+            (start_idle g a.limits order topological a.joins urgency a.urgency a.topological rows s law.values few_faults t run_is_small old p l nodes told_before guard is_guard b.wait b.waits was_ready.time was_ready.is was_ready.tells b.unfrozen b.starts idle))
 
         by : IsFixed g urgency p b.unfrozen chooser before after b.start → Tells s (carried_at_start g order rows s p) (get_or t.times p None) b.start
         by (inl th) = subst (λ (tree : TreeState (Option ℕ)). Tells s (carried_at_start g order rows s p) (get_or t.times p None) tree) (sym th.same)
             (subst (λ (o : Option ℕ). Tells s (carried_at_start g order rows s p) o b.unfrozen)
             (start_value g order topological urgency a.urgency a.topological after s law.values t run p l guard is_guard was_ready.time was_ready.is (ap (λ fs. get_or fs p None) th.kept ∙ unset))
-            (start_line g a.limits order topological a.joins urgency a.urgency a.topological rows s law.values few_faults t run_is_small old p l nodes told_before guard is_guard b.wait b.waits was_ready.time was_ready.tells b.unfrozen b.starts (thawed_start th.thawed)))
+            (start_line g a.limits order topological a.joins urgency a.urgency a.topological rows s law.values few_faults t run_is_small old p l nodes told_before guard is_guard b.wait b.waits was_ready.time was_ready.is was_ready.tells b.unfrozen b.starts (thawed_start th.thawed)))
         by (inr (is, inl n)) = by_never is n (active g s.values p) refl
         by (inr (is, inr f)) = subst (λ (o : Option ℕ). Tells s (carried_at_start g order rows s p) o b.start)
             (frozen_value g order after s t run p l f.time (ap (λ h. get_or h p None) f.set ∙ get_or-set_same before p (Some f.time) None (omega (arith, p_item, grown.settled.count)))
@@ -270,12 +282,12 @@ module _ (g : Graph) (urgency : List ℕ) (guards : Guards) (a : IsAdmitted g ur
     ended : Tells s (carried_at_end g order rows s p) (get_or t.ends p None) b.end
     ended = end_line g a.limits order after s law t run run_is_small p l few_here rows b.start b.end few_faults b.ends started
 
-    readied : IsReadyLine g order rows s t (place order p + 1) (node_of g p) b.ready
+    readied : IsReadyLine g order rows s t (place order p + 1) (node_of g p) (goes_on b.end b.ready)
     readied = ready_next g order topological (place order p) p l refl rows s after t run was_ready.time (greatest (map (heard_there g t (node_of g p)) (way guard s.values))) was_ready.is
         (most g order topological urgency a.urgency a.topological after s law.values t run p l guard is_guard was_ready.time was_ready.is)
-        (waited_ends g order topological urgency a.urgency a.topological after s law.values t run p l guard is_guard was_ready.time was_ready.is) b.ready
-        (ready_line g order topological rows s few_faults t run_is_small p guard leads_there way_decides chooser b.end b.wait b.ready (max was_ready.time (greatest (map (heard_there g t (node_of g p)) (way guard s.values)))) b.actives b.readies ended
-        (wait_line g a.limits order topological a.joins urgency a.urgency a.topological rows s law.values few_faults t run_is_small old p l nodes told_before guard is_guard b.wait b.waits was_ready.time was_ready.tells))
+        (waited_ends g order topological urgency a.urgency a.topological after s law.values t run p l guard is_guard was_ready.time was_ready.is) (goes_on b.end b.ready)
+        (ready_line g order topological rows s few_faults t run_is_small p guard leads_there way_decides chooser b.end b.wait (goes_on b.end b.ready) (max was_ready.time (greatest (map (heard_there g t (node_of g p)) (way guard s.values)))) b.actives b.readies ended
+        (wait_line g a.limits order topological a.joins urgency a.urgency a.topological rows s law.values few_faults t run_is_small old p l nodes told_before guard is_guard b.wait b.waits was_ready.time was_ready.is was_ready.tells))
 
     was_free : IsFreeLine g order rows s t (place order p) (node_of g p) (free_of g old (node_of g p))
     was_free = lines_before.free (node_of g p) (nodes p l)
@@ -309,7 +321,7 @@ module _ (g : Graph) (urgency : List ℕ) (guards : Guards) (a : IsAdmitted g ur
       ];
       ready = λ node h. elim (cases_eq node (node_of g p)) [
         | inl e ↦ subst (λ n. IsReadyLine g order rows s t (place order p + 1) n (ready_of g new n)) (sym e) (subst (λ (tree : TreeState ℕ). IsReadyLine g order rows s t (place order p + 1) (node_of g p) tree) (sym new_ready) readied)
-        | inr other ↦ subst (λ (tree : TreeState ℕ). IsReadyLine g order rows s t (place order p + 1) node tree) (sym (other_ready node other))
+        | inr other ↦ subst (λ (tree : TreeState ℕ). IsReadyLine g order rows s t (place order p + 1) node tree) (sym (other_ready node h other))
             (ready_elsewhere g order topological (place order p) p l refl rows s after t run node other (ready_of g old node) (lines_before.ready node h))
       ];
       here = freed;

@@ -1,5 +1,6 @@
 -- The trees of a process that begins, as the code finds them.
-use Rattle.std.proofs.Common.{ℕ, ◌<◌, ◌≤◌, ◌≡◌, Bool, List, All, set, length-set, Option, refl, sym, ap, ◌∙◌, subst}
+use Rattle.std.proofs.Common.{ℕ, ◌<◌, ◌≤◌, ◌≡◌, Bool, List, All, set, length-set, get_or, get_or-set_same, get_or-set_other, Option, arith, refl, sym, ap, ◌∙◌, subst, inl, inr}
+use Rattle.std.proofs.lemmas.Bool.{cases_eq}
 use Rattle.std.proofs.lemmas.List.Elements.{All-set}
 use Rattle.cpg_base.specs.Graph.{Graph, process_at, process_count, condition_count, edge_count, node_of, inputs}
 use Rattle.cpg_base.proofs.Inputs.{inputs_parts}
@@ -11,8 +12,10 @@ use Rattle.cpg_table.proofs.NodeRows.{all_below}
 use Rattle.cpg_tree.specs.Tree.{TreeState}
 use Rattle.cpg_expand.specs.Agreeing.{IsTree}
 use Rattle.cpg_expand.specs.Begun.{IsBegun}
-use Rattle.cpg_expand.specs.Ending.{IsEndTree, IsReadyTree}
-use Rattle.cpg_expand.specs.Forest.{ForestState, HasTrees}
+use Rattle.cpg_expand.specs.Ending.{IsEndTree, IsReadyAfter, IsReadyTree, goes_on}
+use Rattle.cpg_expand.specs.Forest.{ForestState, HasTrees, IsWait, no_tree}
+use Rattle.cpg_expand.specs.declared.forest.Ready.{Ready}
+use Rattle.cpg_expand.specs.declared.forest.Ready.TheVariants.{After, At}
 use Rattle.cpg_expand.specs.Freezing.{IsFixed}
 use Rattle.cpg_expand.specs.Guarded.{IsActiveTree, IsStartTree, LeadsBelow}
 use Rattle.cpg_expand.specs.Waiting.{IsWaitTree}
@@ -36,18 +39,29 @@ inputs_here h p edges is = all_below (edge_count h) (edge_count h) edges (inputs
 
 -- ---- what is put
 
+ready_waits : (g : Graph) (p : ℕ) (r : Ready) → p < process_count g → IsReadyAfter g p r → IsWait g r
+ready_waits g p (After q) l e = subst (λ n. n < process_count g) (sym e) l
+ready_waits g p (At t) l is = is
+
 -- a tree for each is kept
-pub has_begun : (g : Graph) (f new : ForestState) (p node : ℕ) (times ends : TreeState (Option ℕ)) (ready : TreeState ℕ) → HasTrees g f → IsTree g times → IsTree g ends → IsTree g ready →
+pub has_begun : (g : Graph) (f new : ForestState) (p node : ℕ) (times ends : TreeState (Option ℕ)) (ready : Ready) → p < process_count g → node ≡ node_of g p → HasTrees g f → IsTree g times → IsTree g ends → IsReadyAfter g p ready →
     new ≡ record { times = set f.times p times; ends = set f.ends p ends; ready = set f.ready node ready; free = f.free } → HasTrees g new
-has_begun g f new p node times ends ready has of_times of_ends of_ready is = subst (HasTrees g) (sym is) (record {
+has_begun g f new p node times ends ready l at has of_times of_ends of_ready is = subst (HasTrees g) (sym is) (record {
   times = length-set f.times p times ∙ has.times;
   ends = length-set f.ends p ends ∙ has.ends;
   ready = length-set f.ready node ready ∙ has.ready;
   free = has.free;
   all_times = All-set (IsTree g) f.times p times of_times has.all_times;
   all_ends = All-set (IsTree g) f.ends p ends of_ends has.all_ends;
-  all_ready = All-set (IsTree g) f.ready node ready of_ready has.all_ready;
+  all_ready = All-set (IsWait g) f.ready node ready (ready_waits g p ready l of_ready) has.all_ready;
   all_free = has.all_free;
+  own = λ n q within e. elim (cases_eq n node) [
+    | inl here ↦
+        let there : After q ≡ ready = sym e ∙ ap (λ m. get_or (set f.ready node ready) m (At (no_tree g.faults))) here ∙ get_or-set_same f.ready node ready (At (no_tree g.faults)) (omega (arith, within, here, has.ready)) in
+        let same : q ≡ p = subst (IsReadyAfter g p) (sym there) of_ready in
+        ap (node_of g) same ∙ sym at ∙ sym here
+    | inr other ↦ has.own n q within (sym (get_or-set_other f.ready node n ready (At (no_tree g.faults)) other) ∙ e)
+  ];
 })
 
 pub begun_made : (g h : Graph) → h ≡ g → (urgency order : List ℕ) → order ≡ urgency → (p : ℕ) (guard found : Guard) → found ≡ guard → (node : ℕ) → node ≡ node_of h p → (edges : List ℕ) → edges ≡ inputs h p →
@@ -55,9 +69,9 @@ pub begun_made : (g h : Graph) → h ≡ g → (urgency order : List ℕ) → or
     (wait : TreeState ℕ) → IsWaitTree h old node found wait →
     (unfrozen : TreeState (Option ℕ)) → IsTree h unfrozen → IsStartTree h old wait (process_at h p).release edges found unfrozen →
     (start : TreeState (Option ℕ)) → IsFixed h order p unfrozen chooser before after start →
-    (end : TreeState (Option ℕ)) → IsEndTree h p start end → (ready : TreeState ℕ) → IsReadyTree h.faults chooser end wait ready →
+    (end : TreeState (Option ℕ)) → IsEndTree h p start end → (ready : Ready) → IsReadyAfter h p ready → IsReadyTree h.faults chooser end wait (goes_on end ready) →
     new ≡ record { times = set old.times p start; ends = set old.ends p end; ready = set old.ready node ready; free = old.free } → IsBegun g urgency p guard old new before after chooser
-begun_made g h same urgency order ordered p guard found the_guard node there edges of_p old new before after chooser chooser_tree actives wait waits unfrozen unfrozen_tree starts start fixed end ends ready readies is =
+begun_made g h same urgency order ordered p guard found the_guard node there edges of_p old new before after chooser chooser_tree actives wait waits unfrozen unfrozen_tree starts start fixed end ends ready ready_after readies is =
     subst (λ k. IsBegun k urgency p guard old new before after chooser) same (subst (λ o. IsBegun h o p guard old new before after chooser) ordered (subst (λ t. IsBegun h order p t old new before after chooser) the_guard (record {
       chooser_tree = chooser_tree;
       actives = actives;
@@ -71,6 +85,7 @@ begun_made g h same urgency order ordered p guard found the_guard node there edg
       end = end;
       ends = ends;
       ready = ready;
+      ready_after = ready_after;
       readies = readies;
       is = is ∙ ap (λ n. record { times = set old.times p start; ends = set old.ends p end; ready = set old.ready n ready; free = old.free }) there;
     })))

@@ -23,6 +23,7 @@ has_put g f new x node times free has of_times of_free is = subst (HasTrees g) (
   all_ends = has.all_ends;
   all_ready = has.all_ready;
   all_free = All-set (IsTree g) f.free node free of_free has.all_free;
+  own = has.own;
 })
 
 pub free_read : (g : Graph) (f : ForestState) → HasTrees g f → (i : ForestState) → i ≡ f → (v : TreeState ℕ) (at node : ℕ) → v ≡ get_or i.free at v → at ≡ node → node < length g.nodes → v ≡ free_of g f node

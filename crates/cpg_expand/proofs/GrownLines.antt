@@ -19,8 +19,10 @@ use Rattle.cpg_run.proofs.RunExists.{a_run}
 use Rattle.cpg_run.proofs.RunUnique.{AgreeBefore, agree_before}
 use Rattle.cpg_tree.specs.Tree.{IsConstant}
 use Rattle.cpg_expand.specs.Agreeing.{Tells}
-use Rattle.cpg_expand.specs.Forest.{ForestState, HasTrees, no_tree, times_of, ends_of}
-use Rattle.cpg_expand.specs.Grown.{RowsHold, IsReadyLine, IsFreeLine, Lines, IsEarlier, AreSettledOf, IsGrown, IsBare}
+use Rattle.cpg_expand.specs.Forest.{ForestState, HasTrees, no_tree, times_of, ends_of, ready_at, ready_by}
+use Rattle.cpg_expand.specs.declared.forest.Ready.{Ready}
+use Rattle.cpg_expand.specs.declared.forest.Ready.TheVariants.{After, At}
+use Rattle.cpg_expand.specs.Grown.{RowsHold, IsReadyLine, IsFreeLine, Lines, IsEarlier, AreSettledOf, IsGrown, IsReadyFirst, IsBare}
 use Rattle.cpg_expand.specs.Told.{HasTold}
 use Rattle.cpg_expand.specs.Waiting.{ready_of, free_of}
 use Rattle.cpg_expand.proofs.AgreeingTrees.{agrees_constant, agrees_weaker}
@@ -66,8 +68,12 @@ module _ (g : Graph) (order : List ℕ) (f : ForestState) (bare : IsBare g f) (h
     time = 0;
     is = record { ends = λ q k before. absurd (omega (arith, before)); heard = λ q c k before. absurd (omega (arith, before)); least = λ b x y. omega arith };
     tells = agrees_weaker s (ready_of g f node) [] _ (λ z. z ≡ 0) (λ z. z ≡ 0) (λ l j. absurd (Contains-nil l j)) (λ z e. e)
-        (agrees_constant s 0 g.faults (ready_of g f node) (λ z. z ≡ 0) refl (All-get_or (IsConstant 0 g.faults) f.ready node (no_tree g.faults) (omega (arith, l, has.ready)) bare.ready));
+        (agrees_constant s 0 g.faults (ready_of g f node) (λ z. z ≡ 0) refl (first (ready_at g f node) (All-get_or (IsReadyFirst g.faults) f.ready node (At (no_tree g.faults)) (omega (arith, l, has.ready)) bare.ready)));
   }
+    where
+      first : (r : Ready) → IsReadyFirst g.faults r → IsConstant 0 g.faults (ready_by g f r)
+      first (After q) none = absurd none
+      first (At t) is = is
 
   free_first : (node : ℕ) → node < length g.nodes → IsFreeLine g order rows s t 0 node (free_of g f node)
   free_first node l = record {

@@ -1,8 +1,10 @@
 -- What an item that is added leaves as it is: all other trees.
-use Rattle.std.proofs.Common.{ℕ, ◌≡◌, ◌≢◌, Bool, List, Option, ap, ◌∙◌, get_or-set_other}
+use Rattle.std.proofs.Common.{ℕ, ◌≡◌, ◌≢◌, Bool, List, Option, set, refl, ap, ◌∙◌, get_or-set_other}
 use Rattle.cpg_base.specs.Graph.{Graph, home}
 use Rattle.cpg_tree.specs.Tree.{TreeState}
-use Rattle.cpg_expand.specs.Forest.{ForestState, times_of, ends_of, no_tree}
+use Rattle.cpg_expand.specs.Forest.{ForestState, times_of, ends_of, no_tree, ready_at, ready_by}
+use Rattle.cpg_expand.specs.declared.forest.Ready.{Ready}
+use Rattle.cpg_expand.specs.declared.forest.Ready.TheVariants.{After, At}
 use Rattle.cpg_expand.specs.Sent.{IsItemAdded}
 use Rattle.cpg_expand.specs.Waiting.{ready_of, free_of}
 
@@ -14,7 +16,11 @@ module _ (g : Graph) (urgency : List ℕ) (chooser : TreeState Bool) (x : ℕ) (
   same_ends q = ap (λ (f : ForestState). ends_of g f q) added.is
 
   pub same_ready : (node : ℕ) → ready_of g new node ≡ ready_of g old node
-  same_ready node = ap (λ (f : ForestState). ready_of g f node) added.is
+  same_ready node = ap (λ (f : ForestState). ready_of g f node) added.is ∙ kept (ready_at g old node)
+    where
+      kept : (r : Ready) → ready_by g (record { times = set old.times x added.sent; ends = old.ends; ready = old.ready; free = set old.free (home g x) added.freed }) r ≡ ready_by g old r
+      kept (After q) = refl
+      kept (At t) = refl
 
   pub other_free : (node : ℕ) → node ≢ home g x → free_of g new node ≡ free_of g old node
   other_free node other = ap (λ (f : ForestState). free_of g f node) added.is ∙ get_or-set_other old.free (home g x) node added.freed (no_tree g.faults) other

@@ -1,5 +1,5 @@
 -- The tree of a start agrees with what is carried beside it.
-use Rattle.std.proofs.Common.{ℕ, ◌<◌, ◌≡◌, ◌==◌, nat_lt, not, max, Bool, true, false, if◌then◌else◌, List, [], ◌++◌, length, map, flat_map, get_or, Option, Some, None, Contains, ◌⊎◌, arith, eq-eqb, lt-ltb, refl, sym, ap, ◌∙◌, subst, inl, inr}
+use Rattle.std.proofs.Common.{ℕ, ◌<◌, ◌≤◌, ◌≡◌, ◌==◌, nat_lt, not, max, Bool, true, false, if◌then◌else◌, List, [], ◌++◌, length, map, flat_map, get_or, Option, Some, None, Contains, ◌⊎◌, arith, eq-eqb, lt-ltb, refl, sym, ap, ◌∙◌, subst, inl, inr}
 use Rattle.std.proofs.lemmas.Bool.{and_parts, and_from, cases_eq, ne_eqb}
 use Rattle.std.proofs.lemmas.List.Elements.{Contains-append_cases, Contains-append_left, Contains-append_right}
 use Rattle.cpg_base.specs.Numbers.{greatest}
@@ -24,21 +24,23 @@ use Rattle.cpg_base.proofs.Lists.{Contains-filter, Contains-numbers}
 use Rattle.cpg_guard.proofs.Ways.{ways_are_deciding}
 use Rattle.cpg_cube.specs.declared.literal.Literal.{Literal}
 use Rattle.cpg_table.specs.Table.{Column}
-use Rattle.cpg_run.specs.Run.{Times, input_bounds, heard_there}
+use Rattle.cpg_run.specs.Run.{Times, end_in, input_bounds, heard_there}
 use Rattle.cpg_run.specs.Carried.{told_by, decided, heard, passed, carried_at_start, carried_at_end}
 use Rattle.cpg_run.proofs.CarriedBefore.{producer_of_message, hears_earlier}
 use Rattle.cpg_run.specs.Known.{AreSmall}
+use Rattle.cpg_run.specs.Progress.{IsReady}
 use Rattle.cpg_run.proofs.Senders.{many_nodes}
 use Rattle.cpg_tree.specs.Space.{HasFew}
 use Rattle.cpg_tree.specs.Tree.{Path, TreeState, IsOn}
 use Rattle.cpg_expand.specs.Agreeing.{Tells}
 use Rattle.cpg_expand.specs.Forest.{ForestState, heard_tree, input_tree, heard_delay, input_delay, times_of, ends_of}
-use Rattle.cpg_expand.specs.Guarded.{IsStartTree, awaited, start_says, start_at, value_known, values_known, told_of, latest_of}
+use Rattle.cpg_expand.specs.Guarded.{AreThere, IsStartTree, awaited, start_says, start_at, value_known, values_known, told_of, latest_of}
 use Rattle.cpg_expand.specs.Told.{HasTold}
+use Rattle.cpg_expand.specs.Values.{time_later}
 use Rattle.cpg_expand.specs.Waiting.{IsWaitTree, ready_of}
 use Rattle.cpg_expand.proofs.AgreeingTrees.{agrees_weaker}
 use Rattle.cpg_expand.proofs.CarriedOn.{heard_tell, input_tell, tests_carried, input_carried, start_carried}
-use Rattle.cpg_expand.proofs.StartTimes.{input_time, heard_time, latest_heard, awaits_live, start_exact}
+use Rattle.cpg_expand.proofs.StartTimes.{input_time, later_exact, heard_time, latest_heard, awaits_live, start_exact}
 
 idle_awaits : (inputs : List ℕ) (a : Activation) → is_active a ≡ false → (e : ℕ) → Contains (awaited inputs a) e → ⊥
 idle_awaits inputs Inactive is e j = Contains-nil e j
@@ -108,7 +110,7 @@ module _ (g : Graph) (limits : IsWithinLimits g) (order : List ℕ) (topological
           (subst (λ x. item_active g s.values x ≡ true) (sym (item_at-message g e parts.0)) (and_from (is_message g e) (live g s.values e) m on))
       by false m = told.ends (source g e) (source_in_order g order topological e parts.0) earlier (and_parts _ _ on).0
 
-  module _ (wait : TreeState ℕ) (waits : IsWaitTree g f (node_of g p) guard wait) (r : ℕ) (ready : Tells s (flat_map (passed g rows s) (before_on_node g order p)) r (ready_of g f (node_of g p))) where
+  module _ (wait : TreeState ℕ) (waits : IsWaitTree g f (node_of g p) guard wait) (r : ℕ) (is_ready : IsReady g order s t (place order p) (node_of g p) r) (ready : Tells s (flat_map (passed g rows s) (before_on_node g order p)) r (ready_of g f (node_of g p))) where
     abbrev waited : ℕ
     waited = max r (greatest (map (heard_there g t (node_of g p)) (way guard s.values)))
 
@@ -141,11 +143,32 @@ module _ (g : Graph) (limits : IsWithinLimits g) (order : List ℕ) (topological
     live_input : (e : ℕ) → Contains (awaited (inputs g p) (outcome_at guard s.values)) e → Contains (inputs g p) e × (live g s.values e ≡ true)
     live_input e j = live_if (active g s.values p) refl e (subst (λ (a : Activation). Contains (awaited (inputs g p) a) e) leads j)
 
+    ends_there : (e : ℕ) → Contains (inputs g p) e → node_of g (source g e) ≡ node_of g p ⊎ (is_message g e ≡ true)
+    ends_there e j = elim (cases_eq (node_of g (source g e)) (node_of g p)) [
+      | inl same ↦ inl same
+      | inr other ↦ inr (message_at g p e (inputs_parts g p e j).1 other)
+    ]
+
+    -- the inputs of the node itself are there once it is ready
+    there : AreThere g (input_time g limits t small) waited (awaited (inputs g p) (outcome_at guard s.values))
+    there e j own =
+        let k = live_input e j in
+        let ended : end_in t (source g e) ≤ r = is_ready.ends (source g e) (source_in_order g order topological e (inputs_parts g p e k.0).0) (input_goes_up g order topological p e k.0) (same_node (ends_there e k.0)) (and_parts _ _ k.1).0 in
+        subst (λ (b : Bool). time_later 0 (if b then get_or t.times (message_item g e) None else get_or t.ends (source g e) None) ≤ waited) (sym own)
+        (omega (arith, later_exact (get_or t.ends (source g e) None) 0 (small.ends (source g e)) (omega arith), ended))
+      where
+        untrue : true ≡ false → ⊥
+        untrue i = cc
+
+        same_node : node_of g (source g e) ≡ node_of g p ⊎ (is_message g e ≡ true) → node_of g (source g e) ≡ node_of g p
+        same_node (inl same) = same
+        same_node (inr sends) = absurd (untrue (sym sends ∙ own))
+
     -- the start, whether the process is frozen or not
     pub start_told : (start : TreeState (Option ℕ)) → IsStartTree g f wait (process_at g p).release (inputs g p) guard start → (x : Path (Option ℕ)) → IsOn start.paths s x →
         x.1 ≡ (if active g s.values p then Some (max (max waited (process_at g p).release) (greatest (input_bounds g s t p))) else None)
     start_told start starts x on =
-        (starts s few wait_says waited wait_line (input_tell g order topological rows s) (input_time g limits t small) (λ e j. let k = live_input e j in input_told e k.0 k.1)).value x on
+        (starts s few wait_says waited wait_line (input_tell g order topological rows s) (input_time g limits t small) there (λ e j. let k = live_input e j in input_told e k.0 k.1)).value x on
         ∙ ap (λ (a : Activation). start_at waited (process_at g p).release (input_delay g) (input_time g limits t small) (inputs g p) a) leads ∙ start_exact g limits order topological joins s long t small p l waited
 
     -- where the process is inactive no more is told than what decides it
@@ -153,7 +176,7 @@ module _ (g : Graph) (limits : IsWithinLimits g) (order : List ℕ) (topological
     start_idle start starts idle = agrees_weaker s start (values_known s (way guard s.values) ++ start_says wait_says (input_tell g order topological rows s) (inputs g p) (outcome_at guard s.values)) (values_known s (way guard s.values))
         (λ z. z ≡ start_at waited (process_at g p).release (input_delay g) (input_time g limits t small) (inputs g p) (outcome_at guard s.values)) (λ z. z ≡ None) within
         (λ z e. e ∙ ap (λ (b : Bool). if b then Some (max (max waited (process_at g p).release) (latest_of (input_delay g) (input_time g limits t small) (awaited (inputs g p) (outcome_at guard s.values)))) else None) off)
-        (starts s few wait_says waited wait_line (input_tell g order topological rows s) (input_time g limits t small) (λ e j. let k = live_input e j in input_told e k.0 k.1))
+        (starts s few wait_says waited wait_line (input_tell g order topological rows s) (input_time g limits t small) there (λ e j. let k = live_input e j in input_told e k.0 k.1))
       where
         off : is_active (outcome_at guard s.values) ≡ false
         off = ap is_active leads ∙ idle
@@ -169,19 +192,13 @@ module _ (g : Graph) (limits : IsWithinLimits g) (order : List ℕ) (topological
         Tells s (carried_at_start g order rows s p) (if active g s.values p then Some (max (max waited (process_at g p).release) (greatest (input_bounds g s t p))) else None) start
     start_line start starts thawed = agrees_weaker s start says (carried_at_start g order rows s p) (λ z. z ≡ at) (λ z. z ≡ (if active g s.values p then Some (max (max waited (process_at g p).release) (greatest (input_bounds g s t p))) else None)) within
         (λ z e. e ∙ ap (λ (a : Activation). start_at waited (process_at g p).release (input_delay g) (input_time g limits t small) (inputs g p) a) leads ∙ start_exact g limits order topological joins s long t small p l waited)
-        (starts s few wait_says waited wait_line (input_tell g order topological rows s) (input_time g limits t small) (λ e j. let k = live_input e j in input_told e k.0 k.1))
+        (starts s few wait_says waited wait_line (input_tell g order topological rows s) (input_time g limits t small) there (λ e j. let k = live_input e j in input_told e k.0 k.1))
       where
         says : List Literal
         says = values_known s (way guard s.values) ++ start_says wait_says (input_tell g order topological rows s) (inputs g p) (outcome_at guard s.values)
 
         at : Option ℕ
         at = start_at waited (process_at g p).release (input_delay g) (input_time g limits t small) (inputs g p) (outcome_at guard s.values)
-
-        ends_there : (e : ℕ) → Contains (inputs g p) e → node_of g (source g e) ≡ node_of g p ⊎ (is_message g e ≡ true)
-        ends_there e j = elim (cases_eq (node_of g (source g e)) (node_of g p)) [
-          | inl same ↦ inl same
-          | inr other ↦ inr (message_at g p e (inputs_parts g p e j).1 other)
-        ]
 
         of_start : (b : Bool) (x : Literal) → Contains (if b then wait_says ++ flat_map (input_tell g order topological rows s) (awaited (inputs g p) (outcome_at guard s.values)) else []) x → Contains (carried_at_start g order rows s p) x
         of_start false x j = absurd (Contains-nil x j)

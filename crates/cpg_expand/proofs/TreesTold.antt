@@ -1,7 +1,7 @@
 -- What the trees down guards tell.
 use Rattle.std.proofs.Common.{ℕ, ◌+◌, ◌-◌, ◌<◌, ◌≡◌, ◌==◌, ◌&&◌, ◌||◌, nat_lt, max, length, Bool, true, false, if◌then◌else◌, List, [], ◌∷◌, ◌++◌, map, flat_map, get_or, Option, Some, None, All, Contains, ◌⊎◌, arith, le-ltb, lt-ltb, eq-eqb, refl, sym, ap, ap₂, ◌∙◌, subst, inl, inr}
 use Rattle.std.proofs.lemmas.Bool.{cond-false, ne_eqb, and_from, le-leb}
-use Rattle.std.specs.Prelude.{nat_le}
+use Rattle.std.specs.Prelude.{nat_le, IsTrue, ◌≤◌}
 use Rattle.std.proofs.lemmas.List.{get_or_read_under}
 use Rattle.std.proofs.lemmas.List.Elements.{All-contains, All-contains_itself, All-get_or, All-weaker, Contains-append_cases, Contains-append_left, Contains-append_right}
 use Rattle.cpg_base.specs.Bus.{slot_length}
@@ -10,26 +10,29 @@ use Rattle.cpg_base.specs.Activity.{is_active}
 use Rattle.cpg_base.specs.declared.activation.Activation.{Activation}
 use Rattle.cpg_base.specs.declared.activation.Activation.TheVariants.{Inactive}
 use Rattle.cpg_base.specs.Scenario.{number_of_value}
-use Rattle.cpg_base.proofs.Lists.{Contains-first, Contains-rest, Contains-cases, greatest-cons}
+use Rattle.cpg_base.proofs.Lists.{Contains-first, Contains-rest, Contains-cases, Contains-map, Contains-map_parts, greatest-cons}
 use Rattle.cpg_order.specs.Guard.{Guard, Leaf, Test, outcome_at, way}
 use Rattle.cpg_order.specs.Scenario.{Scenario, number_of, fault_of}
 use Rattle.cpg_cube.specs.declared.literal.Literal.{Literal}
 use Rattle.cpg_table.specs.Heard.{exactly}
 use Rattle.cpg_tree.specs.Space.{HasFew}
-use Rattle.cpg_tree.specs.Tree.{TreeState, HasOnePathEach, DoPathsPass, IsConstant, IsMap, IsJoin, IsPick, IsNumber}
+use Rattle.cpg_tree.specs.Tree.{Path, TreeState, is_on, IsOn, HasOnePathEach, DoPathsPass, IsConstant, IsMap, IsJoin, IsPick, IsNumber}
 use Rattle.cpg_tree.specs.Variables.{is_variable}
 use Rattle.cpg_tree.proofs.Spaces.{number_le_top}
 use Rattle.cpg_expand.specs.Agreeing.{Agrees, Tells, IsTree}
 use Rattle.cpg_run.specs.Carried.{number_known}
+use Rattle.cpg_run.specs.Carrying.{ContainsKept}
 use Rattle.cpg_expand.specs.Values.{time_later, ended, slot_from}
 use Rattle.cpg_bus.specs.Share.{ShareState}
 use Rattle.cpg_base.specs.Numbers.{same_bool}
 use Rattle.cpg_expand.specs.Sending.{IsTestedTree, IsSentTree, IsFreeTree}
 use Rattle.cpg_expand.specs.Ending.{durations_of, IsEndTree, IsReadyTree}
 use Rattle.cpg_expand.specs.Waiting.{ready_of, IsWaitTree}
-use Rattle.cpg_expand.specs.Later.{IsLaterTree}
-use Rattle.cpg_expand.specs.Forest.{ForestState, HasTrees, no_tree, times_of, ends_of, heard_tree, heard_delay, input_tree, input_delay}
-use Rattle.cpg_expand.specs.Guarded.{value_known, values_known, PicksByValue, IsActiveTree, told_of, latest_of, IsHeardTree, IsWithInputs, IsStartAfter, awaited, start_says, start_at, IsStartBy, IsStartTree}
+use Rattle.cpg_expand.specs.Later.{IsLaterTree, IsNoMore, IsLatest}
+use Rattle.cpg_expand.specs.Forest.{ForestState, HasTrees, IsWait, no_tree, times_of, ends_of, as_times, later_tree, ready_at, heard_tree, heard_delay, input_tree, input_delay}
+use Rattle.cpg_expand.specs.declared.forest.Ready.{Ready}
+use Rattle.cpg_expand.specs.declared.forest.Ready.TheVariants.{At}
+use Rattle.cpg_expand.specs.Guarded.{value_known, values_known, PicksByValue, IsActiveTree, told_of, latest_of, IsHeardTree, IsStartAfter, awaited, start_says, start_at, IsStartBy, IsStartTree}
 use Rattle.cpg_expand.proofs.AgreeingTrees.{agrees_weaker, agrees_constant, agrees_number, agrees_map, agrees_join, agrees_pick}
 
 -- ---- trees of at most k faults
@@ -67,6 +70,53 @@ pub later_tells : (g : Graph) (delay : ℕ) (tree : TreeState (Option ℕ)) (t :
 later_tells g delay tree t is made s few ls x tells =
     agrees_map s (λ y z. z ≡ time_later delay y) tree t ls (λ y. y ≡ x) (λ y. y ≡ time_later delay x) (few_of g.faults tree.faults s is.faults few) (each_of g tree.faults tree is.faults is) made
     (λ y z e f. f ∙ ap (time_later delay) e) tells
+
+-- ---- ends that tell when a node is ready
+
+module _ (s : Scenario) (t : TreeState (Option ℕ)) (ls : List Literal) where
+  on_times : (z : Path (Option ℕ)) → IsOn t.paths s z → IsOn (later_tree t).paths s (as_times z)
+  on_times z on = record { stands = Contains-map as_times t.paths z on.stands; matched = on.matched }
+
+  of_times : (z : Path ℕ) → IsOn (later_tree t).paths s z → (x : Path (Option ℕ)) × IsOn t.paths s x × (as_times x ≡ z)
+  of_times z on =
+      let r = Contains-map_parts as_times t.paths z on.stands in
+      (r.0, record { stands = r.1; matched = subst (λ (w : Path ℕ). IsTrue (is_on s w)) (sym r.2) on.matched }, r.2)
+
+  pub from_ends : (x : ℕ) → Tells s ls x (later_tree t) → Agrees s ls (λ y. time_later 0 y ≡ x) t
+  from_ends x tells = record {
+    value = λ z on. tells.value (as_times z) (on_times z on);
+    says = λ z on. tells.says (as_times z) (on_times z on);
+  }
+
+  pub to_ends : (y : Option ℕ) → Tells s ls y t → Tells s ls (time_later 0 y) (later_tree t)
+  to_ends y tells = record {
+    value = λ z on. let r = of_times z on in subst (λ (w : Path ℕ). w.1 ≡ time_later 0 y) r.2 (ap (time_later 0) (tells.value r.0 r.1));
+    says = λ z on. let r = of_times z on in subst (λ (w : Path ℕ). ContainsKept t.faults w.0 ls) r.2 (tells.says r.0 r.1);
+  }
+
+pub no_more : (g : Graph) (tree : TreeState (Option ℕ)) (t : TreeState ℕ) → IsTree g tree → IsMap (λ x z. z ≡ time_later 0 x) tree t → IsNoMore g.faults (later_tree tree) t
+no_more g tree t is made s few ls x tells =
+    agrees_map s (λ y z. z ≡ time_later 0 y) tree t ls (λ y. time_later 0 y ≡ x) (λ z. z ≡ x) (few_of g.faults tree.faults s is.faults few) (each_of g tree.faults tree is.faults is) made
+    (λ y z e f. f ∙ e) (from_ends s tree ls x tells)
+
+pub later_from : (k : ℕ) (tree : TreeState (Option ℕ)) (t : TreeState ℕ) → IsNoMore k (later_tree tree) t → IsLaterTree k 0 tree t
+later_from k tree t none s few ls x tells = none s few ls (time_later 0 x) (to_ends s tree ls x tells)
+
+-- ---- the later of two
+
+pub latest_told : (g : Graph) (one two t : TreeState ℕ) → IsTree g one → IsTree g two → IsJoin (λ x y z. z ≡ max x y) one two t → IsLatest g.faults one two t
+latest_told g one two t of_one of_two made s few first second x y tells other =
+    agrees_join s (λ x y z. z ≡ max x y) one two t first second (λ z. z ≡ x) (λ z. z ≡ y) (λ z. z ≡ max x y) (few_of g.faults one.faults s of_one.faults few) (of_two.faults ∙ sym of_one.faults)
+    (each_of g one.faults one of_one.faults of_one) (each_of g one.faults two of_one.faults of_two) made (λ a b z d e i. i ∙ ap₂ max d e) tells other
+
+-- where one are ends
+pub latest_ends : (g : Graph) (end : TreeState (Option ℕ)) (there t : TreeState ℕ) → IsTree g end → IsTree g there → IsJoin (λ x y z. z ≡ max x (time_later 0 y)) there end t → IsLatest g.faults (later_tree end) there t
+latest_ends g end there t of_end of_there made s few first second x y tells other =
+    agrees_weaker s t (second ++ first) (first ++ second) (λ z. z ≡ max y x) (λ z. z ≡ max x y)
+    (λ l j. elim (Contains-append_cases second first l j) [ inl i ↦ Contains-append_right first second l i | inr i ↦ Contains-append_left first second l i ])
+    (λ z e. omega (arith, e))
+    (agrees_join s (λ a b z. z ≡ max a (time_later 0 b)) there end t second first (λ z. z ≡ y) (λ z. time_later 0 z ≡ x) (λ z. z ≡ max y x) (few_of g.faults there.faults s of_there.faults few) (of_end.faults ∙ sym of_there.faults)
+    (each_of g there.faults there of_there.faults of_there) (each_of g there.faults end of_there.faults of_end) made (λ a b z d e i. i ∙ ap₂ max d e) other (from_ends s end first x tells))
 
 -- ---- the tree that a condition's value picks
 
@@ -149,21 +199,33 @@ heard_test g f node c off on a b further there t of_off of_on picks of_further o
 
 -- ---- inputs
 
-pub no_inputs : (g : Graph) (f : ForestState) (wait : TreeState ℕ) → IsWithInputs g f wait [] wait
-no_inputs g f wait s few base x tells tell time told = agrees_weaker s wait base (base ++ []) (λ y. y ≡ x) (λ y. y ≡ max x 0) (λ l j. Contains-append_left base [] l j) (λ y e. omega (arith, e)) tells
+-- one that the node sends itself
+pub own_input : (g : Graph) (f : ForestState) (wait : TreeState ℕ) (t : TreeState (Option ℕ)) (release e : ℕ) (es : List ℕ) → is_message g e ≡ false → IsStartAfter g f wait release es t → IsStartAfter g f wait release (e ∷ es) t
+own_input g f wait t release e es own starts s few base x tells tell time there told =
+    let latest = latest_of (input_delay g) time es in
+    agrees_weaker s t (base ++ flat_map tell es) (base ++ flat_map tell (e ∷ es)) (λ y. y ≡ Some (max (max x release) latest)) (λ y. y ≡ Some (max (max x release) (latest_of (input_delay g) time (e ∷ es))))
+    (λ l j. within l (Contains-append_cases base (flat_map tell es) l j))
+    (λ y d. d ∙ ap Some (let same : max (max x release) latest ≡ max (max x release) (latest_of (input_delay g) time (e ∷ es)) = omega (arith, early, latest-cons (input_delay g) time e es) in same))
+    (starts s few base x tells tell time (λ d j. there d (Contains-rest e es d j)) (λ d j. told d (Contains-rest e es d j)))
+  where
+    early : time_later (input_delay g e) (time e) ≤ x
+    early = subst (λ (b : Bool). time_later (if b then slot_length g (home g (message_item g e)) else 0) (time e) ≤ x) (sym own) (there e (Contains-first e es) own)
 
-pub one_input : (g : Graph) (f : ForestState) (wait there both t : TreeState ℕ) (e : ℕ) (es : List ℕ) → IsTree g wait → IsTree g there → IsLaterTree g.faults (input_delay g e) (input_tree g f e) there →
-    IsJoin (λ x y z. z ≡ max x y) wait there both → IsWithInputs g f both es t → IsWithInputs g f wait (e ∷ es) t
-one_input g f wait there both t e es of_wait of_there later made others s few base x tells tell time told =
+    within : (l : Literal) → Contains base l ⊎ Contains (flat_map tell es) l → Contains (base ++ flat_map tell (e ∷ es)) l
+    within l (inl j) = Contains-append_left base (tell e ++ flat_map tell es) l j
+    within l (inr j) = Contains-append_right base (tell e ++ flat_map tell es) l (Contains-append_right (tell e) (flat_map tell es) l j)
+
+-- one that another node sends
+pub one_input : (g : Graph) (f : ForestState) (wait there both : TreeState ℕ) (t : TreeState (Option ℕ)) (release e : ℕ) (es : List ℕ) → IsLaterTree g.faults (input_delay g e) (input_tree g f e) there →
+    IsLatest g.faults wait there both → IsStartAfter g f both release es t → IsStartAfter g f wait release (e ∷ es) t
+one_input g f wait there both t release e es later latest starts s few base x tells tell time ready told =
     let at = time_later (input_delay g e) (time e) in
-    let first : Tells s (tell e) at there = later s few (tell e) (time e) (told e (Contains-first e es)) in
-    let joined : Tells s (base ++ tell e) (max x at) both =
-    agrees_join s (λ x y z. z ≡ max x y) wait there both base (tell e) (λ y. y ≡ x) (λ y. y ≡ at) (λ y. y ≡ max x at)
-    (few_of g.faults wait.faults s of_wait.faults few) (of_there.faults ∙ sym of_wait.faults) (each_of g wait.faults wait of_wait.faults of_wait) (each_of g wait.faults there of_wait.faults of_there) made
-    (λ x y z d f i. i ∙ ap₂ max d f) tells first in
-    agrees_weaker s t ((base ++ tell e) ++ flat_map tell es) (base ++ flat_map tell (e ∷ es)) (λ y. y ≡ max (max x at) (latest_of (input_delay g) time es)) (λ y. y ≡ max x (latest_of (input_delay g) time (e ∷ es)))
-    (λ l j. within l (Contains-append_cases (base ++ tell e) (flat_map tell es) l j)) (λ y d. omega (arith, d, latest-cons (input_delay g) time e es))
-    (others s few (base ++ tell e) (max x at) joined tell time (λ d j. told d (Contains-rest e es d j)))
+    let others = latest_of (input_delay g) time es in
+    let joined : Tells s (base ++ tell e) (max x at) both = latest s few base (tell e) x at tells (later s few (tell e) (time e) (told e (Contains-first e es))) in
+    agrees_weaker s t ((base ++ tell e) ++ flat_map tell es) (base ++ flat_map tell (e ∷ es)) (λ y. y ≡ Some (max (max (max x at) release) others)) (λ y. y ≡ Some (max (max x release) (latest_of (input_delay g) time (e ∷ es))))
+    (λ l j. within l (Contains-append_cases (base ++ tell e) (flat_map tell es) l j))
+    (λ y d. d ∙ ap Some (let same : max (max (max x at) release) others ≡ max (max x release) (latest_of (input_delay g) time (e ∷ es)) = omega (arith, latest-cons (input_delay g) time e es) in same))
+    (starts s few (base ++ tell e) (max x at) joined tell time (λ d j own. let h = ready d (Contains-rest e es d j) own in omega (arith, h)) (λ d j. told d (Contains-rest e es d j)))
   where
     within : (l : Literal) → Contains (base ++ tell e) l ⊎ Contains (flat_map tell es) l → Contains (base ++ flat_map tell (e ∷ es)) l
     within l (inr j) = Contains-append_right base (tell e ++ flat_map tell es) l (Contains-append_right (tell e) (flat_map tell es) l j)
@@ -175,26 +237,33 @@ one_input g f wait there both t e es of_wait of_there later made others s few ba
 -- ---- starts
 
 pub no_start : (g : Graph) (f : ForestState) (wait : TreeState ℕ) (release : ℕ) (inputs : List ℕ) (t : TreeState (Option ℕ)) → IsConstant None g.faults t → IsStartBy g f wait release inputs Inactive t
-no_start g f wait release inputs t is s few base x tells tell time told = agrees_constant s None g.faults t (λ y. y ≡ None) refl is
+no_start g f wait release inputs t is s few base x tells tell time there told = agrees_constant s None g.faults t (λ y. y ≡ None) refl is
 
-pub start_told : (g : Graph) (f : ForestState) (wait all : TreeState ℕ) (t : TreeState (Option ℕ)) (release : ℕ) (edges : List ℕ) → IsTree g all →
-    IsWithInputs g f wait edges all → IsMap (λ x z. z ≡ Some (max x release)) all t → IsStartAfter g f wait release edges t
-start_told g f wait all t release edges of_all withs made s few base x tells tell time told =
-    let latest = latest_of (input_delay g) time edges in
-    agrees_map s (λ y z. z ≡ Some (max y release)) all t (base ++ flat_map tell edges) (λ y. y ≡ max x latest) (λ y. y ≡ Some (max (max x release) latest)) (few_of g.faults all.faults s of_all.faults few) (each_of g all.faults all of_all.faults of_all) made
-    (λ y z e i. i ∙ ap Some (let same : max y release ≡ max (max x release) latest = omega (arith, e) in same)) (withs s few base x tells tell time told)
+started_none : (g : Graph) (s : Scenario) (t : TreeState (Option ℕ)) (base : List Literal) (x release : ℕ) → Tells s base (Some (max x release)) t → Tells s (base ++ []) (Some (max (max x release) 0)) t
+started_none g s t base x release tells = agrees_weaker s t base (base ++ []) (λ y. y ≡ Some (max x release)) (λ y. y ≡ Some (max (max x release) 0)) (λ l j. Contains-append_left base [] l j)
+    (λ y e. e ∙ ap Some (let same : max x release ≡ max (max x release) 0 = omega arith in same)) tells
+
+pub start_told : (g : Graph) (f : ForestState) (wait : TreeState ℕ) (t : TreeState (Option ℕ)) (release : ℕ) → IsTree g wait → IsMap (λ x z. z ≡ Some (max x release)) wait t → IsStartAfter g f wait release [] t
+start_told g f wait t release of_wait made s few base x tells tell time there told = started_none g s t base x release
+    (agrees_map s (λ y z. z ≡ Some (max y release)) wait t base (λ y. y ≡ x) (λ y. y ≡ Some (max x release)) (few_of g.faults wait.faults s of_wait.faults few) (each_of g wait.faults wait of_wait.faults of_wait) made
+    (λ y z e i. i ∙ ap (λ n. Some (max n release)) e) tells)
+
+pub start_after_ends : (g : Graph) (f : ForestState) (end t : TreeState (Option ℕ)) (release : ℕ) → IsTree g end → IsMap (λ x z. z ≡ Some (max (time_later 0 x) release)) end t → IsStartAfter g f (later_tree end) release [] t
+start_after_ends g f end t release of_end made s few base x tells tell time there told = started_none g s t base x release
+    (agrees_map s (λ y z. z ≡ Some (max (time_later 0 y) release)) end t base (λ y. time_later 0 y ≡ x) (λ y. y ≡ Some (max x release)) (few_of g.faults end.faults s of_end.faults few) (each_of g end.faults end of_end.faults of_end) made
+    (λ y z e i. i ∙ ap (λ n. Some (max n release)) e) (from_ends s end base x tells))
 
 pub start_active : (g : Graph) (f : ForestState) (wait : TreeState ℕ) (t : TreeState (Option ℕ)) (release : ℕ) (inputs : List ℕ) (a : Activation) → is_active a ≡ true → IsStartAfter g f wait release (awaited inputs a) t → IsStartBy g f wait release inputs a t
-start_active g f wait t release inputs a active is s few base x tells tell time told =
+start_active g f wait t release inputs a active is s few base x tells tell time there told =
     subst (λ (d : Bool). Tells s (if d then base ++ flat_map tell (awaited inputs a) else []) (if d then Some (max (max x release) (latest_of (input_delay g) time (awaited inputs a))) else None) t) (sym active)
-    (is s few base x tells tell time told)
+    (is s few base x tells tell time there told)
 
 pub start_leaf : (g : Graph) (f : ForestState) (wait : TreeState ℕ) (release : ℕ) (inputs : List ℕ) (a : Activation) (t : TreeState (Option ℕ)) → IsStartBy g f wait release inputs a t → IsStartTree g f wait release inputs (Leaf a) t
-start_leaf g f wait release inputs a t is s few base x tells tell time told = is s few base x tells tell time told
+start_leaf g f wait release inputs a t is s few base x tells tell time there told = is s few base x tells tell time there told
 
 pub start_test : (g : Graph) (f : ForestState) (wait : TreeState ℕ) (release : ℕ) (inputs : List ℕ) (c : ℕ) (off on : Guard) (a b t : TreeState (Option ℕ)) → IsStartTree g f wait release inputs off a → IsStartTree g f wait release inputs on b → PicksByValue g.faults c b a t →
     IsStartTree g f wait release inputs (Test c off on) t
-start_test g f wait release inputs c off on a b t of_off of_on picks s few base x tells tell time told = go (get_or s.values c false) refl
+start_test g f wait release inputs c off on a b t of_off of_on picks s few base x tells tell time there told = go (get_or s.values c false) refl
   where
     says : Guard → List Literal
     says guard = values_known s (way guard s.values) ++ start_says base tell inputs (outcome_at guard s.values)
@@ -204,9 +273,9 @@ start_test g f wait release inputs c off on a b t of_off of_on picks s few base 
 
     go : (d : Bool) → get_or s.values c false ≡ d → Tells s (values_known s (c ∷ (if d then way on s.values else way off s.values)) ++ start_says base tell inputs (if d then outcome_at on s.values else outcome_at off s.values)) (start_at x release (input_delay g) time inputs (if d then outcome_at on s.values else outcome_at off s.values)) t
     go true e = picks s few (says on) (at on) (subst (λ (d : Bool). Tells s (says on) (at on) (if d then b else a)) (sym e)
-        (of_on s few base x tells tell time (λ y j. told y (subst (λ (d : Bool). Contains (awaited inputs (if d then outcome_at on s.values else outcome_at off s.values)) y) (sym e) j))))
+        (of_on s few base x tells tell time (λ y j. there y (subst (λ (d : Bool). Contains (awaited inputs (if d then outcome_at on s.values else outcome_at off s.values)) y) (sym e) j)) (λ y j. told y (subst (λ (d : Bool). Contains (awaited inputs (if d then outcome_at on s.values else outcome_at off s.values)) y) (sym e) j))))
     go false e = picks s few (says off) (at off) (subst (λ (d : Bool). Tells s (says off) (at off) (if d then b else a)) (sym e)
-        (of_off s few base x tells tell time (λ y j. told y (subst (λ (d : Bool). Contains (awaited inputs (if d then outcome_at on s.values else outcome_at off s.values)) y) (sym e) j))))
+        (of_off s few base x tells tell time (λ y j. there y (subst (λ (d : Bool). Contains (awaited inputs (if d then outcome_at on s.values else outcome_at off s.values)) y) (sym e) j)) (λ y j. told y (subst (λ (d : Bool). Contains (awaited inputs (if d then outcome_at on s.values else outcome_at off s.values)) y) (sym e) j))))
 
 -- ---- trees of a forest
 
@@ -232,6 +301,10 @@ read_later g delay v tree t is of made each known =
     let made_of = subst (λ (u : TreeState (Option ℕ)). IsMap (λ x z. z ≡ time_later delay x) u t) is made in
     (same_tree g tree t of.faults made_of.faults each (known (is_variable g) (subst (λ (u : TreeState (Option ℕ)). DoPathsPass (is_variable g) u.paths) (sym is) of.known)), later_tells g delay tree t of made_of)
 
+pub read_end : (g : Graph) (v tree : TreeState (Option ℕ)) (t : TreeState ℕ) → v ≡ tree → IsTree g tree → IsMap (λ x z. z ≡ time_later 0 x) v t → HasOnePathEach t.faults t.paths → ((test : ℕ → Bool) → DoPathsPass test v.paths → DoPathsPass test t.paths) → IsTree g t × IsNoMore g.faults (later_tree tree) t
+read_end g v tree t is of made each known =
+    ((read_later g 0 v tree t is of made each known).0, no_more g tree t of (subst (λ (u : TreeState (Option ℕ)). IsMap (λ x z. z ≡ time_later 0 x) u t) is made))
+
 module _ (g : Graph) (f : ForestState) (node c : ℕ) (t : TreeState ℕ) where
   heard_if : (d : Bool) → (node_of g (process_of g c) == node) ≡ d → IsLaterTree g.faults (if d then 0 else slot_length g (home g (broadcast_item g c))) (if d then ends_of g f (process_of g c) else times_of g f (broadcast_item g c)) t →
       IsLaterTree g.faults (heard_delay g node c) (heard_tree g f node c) t
@@ -250,9 +323,6 @@ module _ (g : Graph) (f : ForestState) (e : ℕ) (t : TreeState ℕ) where
 
   pub input_message : is_message g e ≡ true → IsLaterTree g.faults (slot_length g (home g (message_item g e))) (times_of g f (message_item g e)) t → IsLaterTree g.faults (input_delay g e) (input_tree g f e) t
   input_message i is = input_if true i is
-
-  pub input_end : is_message g e ≡ false → IsLaterTree g.faults 0 (ends_of g f (source g e)) t → IsLaterTree g.faults (input_delay g e) (input_tree g f e) t
-  input_end i is = input_if false i is
 
 -- ---- what holds of all of a list holds of its parts
 
@@ -282,29 +352,37 @@ ready_told g active end wait after t of_active of_end of_wait later each known m
     picked true e = let both = ends e in subst (λ n. Agrees s second (λ z. z ≡ n) after) (sym both.1) (later_tells g 0 end after of_end later s few second x both.0)
     picked false e = let both = waits e in subst (λ n. Agrees s second (λ z. z ≡ n) wait) (sym both.1) both.0
 
--- where the chooser is true everywhere
-pub ready_always : (g : Graph) (active : TreeState Bool) (end : TreeState (Option ℕ)) (wait after : TreeState ℕ) → IsConstant true active.faults active → IsTree g end → IsMap (λ x z. z ≡ time_later 0 x) end after → IsReadyTree g.faults active end wait after
-ready_always g active end wait after always of_end later s few b first second x w v of_b ends waits =
+-- a chooser that is true everywhere
+always_true : (active : TreeState Bool) → IsConstant true active.faults active → (s : Scenario) (b : Bool) (first : List Literal) → Tells s first b active → b ≡ true
+always_true active always s b first of_b =
     let there : Contains active.paths ([], true) = subst (λ (t : TreeState Bool). Contains t.paths ([], true)) (sym always) (Contains-first ([], true) []) in
-    let both = ends (sym (of_b.value ([], true) (record { stands = there; matched = refl }))) in
-    agrees_weaker s after second (first ++ second) (λ z. z ≡ time_later 0 x) (λ z. z ≡ v) (λ l j. Contains-append_right first second l j) (λ z e. e ∙ sym both.1)
-    (later_tells g 0 end after of_end later s few second x both.0)
+    sym (of_b.value ([], true) (record { stands = there; matched = refl }))
 
-pub wait_told : (g : Graph) (f : ForestState) (node : ℕ) (guard : Guard) (ready heard t : TreeState ℕ) → ready ≡ ready_of g f node → IsTree g (ready_of g f node) → IsTree g heard → IsHeardTree g f node guard heard →
-    IsJoin (λ x y z. z ≡ max x y) ready heard t → IsWaitTree g f node guard t
-wait_told g f node guard ready heard t is of_ready of_heard hears made s few base x tells tell time told =
-    let at = latest_of (heard_delay g node) time (way guard s.values) in
-    agrees_join s (λ x y z. z ≡ max x y) (ready_of g f node) heard t base (told_of s tell (way guard s.values)) (λ y. y ≡ x) (λ y. y ≡ at) (λ y. y ≡ max x at)
-    (few_of g.faults (ready_of g f node).faults s of_ready.faults few) (of_heard.faults ∙ sym of_ready.faults) (each_of g (ready_of g f node).faults (ready_of g f node) of_ready.faults of_ready) (each_of g (ready_of g f node).faults heard of_ready.faults of_heard)
-    (subst (λ (r : TreeState ℕ). IsJoin (λ x y z. z ≡ max x y) r heard t) is made) (λ x y z d e i. i ∙ ap₂ max d e) tells (hears s few tell time told)
+pub ready_always : (g : Graph) (active : TreeState Bool) (end : TreeState (Option ℕ)) (wait : TreeState ℕ) → IsConstant true active.faults active → IsReadyTree g.faults active end wait (later_tree end)
+ready_always g active end wait always s few b first second x w v of_b ends waits =
+    let both = ends (always_true active always s b first of_b) in
+    agrees_weaker s (later_tree end) second (first ++ second) (λ z. z ≡ time_later 0 x) (λ z. z ≡ v) (λ l j. Contains-append_right first second l j) (λ z e. e ∙ sym both.1) (to_ends s end second x both.0)
 
-pub ready_read : (g : Graph) (f : ForestState) → HasTrees g f → (i : ForestState) → i ≡ f → (v : TreeState ℕ) (at node : ℕ) → v ≡ get_or i.ready at v → at ≡ node → node < length g.nodes → v ≡ ready_of g f node
+-- where the node was ready after ends
+pub ready_after : (k : ℕ) (active : TreeState Bool) (end : TreeState (Option ℕ)) (tree before t : TreeState ℕ) → IsNoMore k tree before → IsReadyTree k active end before t → IsReadyTree k active end tree t
+ready_after k active end tree before t none readies s few b first second x w v of_b ends waits = readies s few b first second x w v of_b ends (λ e. let r = waits e in (none s few second w r.0, r.1))
+
+pub wait_told : (g : Graph) (f : ForestState) (node : ℕ) (guard : Guard) (heard t : TreeState ℕ) → IsHeardTree g f node guard heard → IsLatest g.faults (ready_of g f node) heard t → IsWaitTree g f node guard t
+wait_told g f node guard heard t hears latest s few base x tells tell time told =
+    latest s few base (told_of s tell (way guard s.values)) x (latest_of (heard_delay g node) time (way guard s.values)) tells (hears s few tell time told)
+
+-- where nothing is tested
+pub wait_leaf : (g : Graph) (f : ForestState) (node : ℕ) (a : Activation) → IsWaitTree g f node (Leaf a) (ready_of g f node)
+wait_leaf g f node a s few base x tells tell time told =
+    agrees_weaker s (ready_of g f node) base (base ++ []) (λ y. y ≡ x) (λ y. y ≡ max x 0) (λ l j. Contains-append_left base [] l j) (λ y e. omega (arith, e)) tells
+
+pub ready_read : (g : Graph) (f : ForestState) → HasTrees g f → (i : ForestState) → i ≡ f → (v : Ready) (at node : ℕ) → v ≡ get_or i.ready at v → at ≡ node → node < length g.nodes → v ≡ ready_at g f node
 ready_read g f has i same v at node is e l =
     let long = ap (λ (h : ForestState). length h.ready) same in
-    get_or_read_under i.ready at (length i.ready) v (no_tree g.faults) is (omega (arith, e, l, has.ready, long)) refl ∙ ap (λ (h : ForestState). ready_of g h at) same ∙ ap (ready_of g f) e
+    get_or_read_under i.ready at (length i.ready) v (At (no_tree g.faults)) is (omega (arith, e, l, has.ready, long)) refl ∙ ap (λ (h : ForestState). ready_at g h at) same ∙ ap (ready_at g f) e
 
-pub ready_tree : (g : Graph) (f : ForestState) → HasTrees g f → (node : ℕ) → node < length g.nodes → IsTree g (ready_of g f node)
-ready_tree g f has node l = All-get_or (IsTree g) f.ready node (no_tree g.faults) (omega (arith, l, has.ready)) has.all_ready
+pub ready_waits : (g : Graph) (f : ForestState) → HasTrees g f → (node : ℕ) → node < length g.nodes → IsWait g (ready_at g f node)
+ready_waits g f has node l = All-get_or (IsWait g) f.ready node (At (no_tree g.faults)) (omega (arith, l, has.ready)) has.all_ready
 
 -- ---- what is sent
 
@@ -344,6 +422,21 @@ sent_told g share goes end free slots never t of_goes of_end of_free joined each
     (λ e. let both = told e in agrees_join s (λ x y z. z ≡ slot_from share y x) end free slots second third (λ z. z ≡ x) (λ z. z ≡ y) (λ z. z ≡ slot_from share y x) (few_of g.faults end.faults s of_end.faults few)
     (of_free.faults ∙ sym of_end.faults) (each_of g end.faults end of_end.faults of_end) (each_of g end.faults free of_end.faults of_free) joined (λ m n z d f i. i ∙ ap₂ (λ p q. slot_from share q p) d f) both.0 both.1)
     (agrees_constant s None g.faults never (λ z. z ≡ None) refl none)
+
+pub sent_always : (g : Graph) (share : ShareState) (goes : TreeState Bool) (end : TreeState (Option ℕ)) (free : TreeState ℕ) (t : TreeState (Option ℕ)) → IsConstant true goes.faults goes → IsTree g end → IsTree g free →
+    IsJoin (λ x y z. z ≡ slot_from share y x) end free t → IsSentTree g.faults share goes end free t
+sent_always g share goes end free t always of_end of_free joined s few b first second third x y of_b told =
+    let on = always_true goes always s b first of_b in
+    let both = told on in
+    subst (λ (d : Bool). Tells s (first ++ (if d then second ++ third else [])) (if d then slot_from share y x else None) t) (sym on)
+    (agrees_weaker s t (second ++ third) (first ++ (second ++ third)) (λ z. z ≡ slot_from share y x) (λ z. z ≡ slot_from share y x) (λ l j. Contains-append_right first (second ++ third) l j) (λ z e. e)
+    (agrees_join s (λ x y z. z ≡ slot_from share y x) end free t second third (λ z. z ≡ x) (λ z. z ≡ y) (λ z. z ≡ slot_from share y x) (few_of g.faults end.faults s of_end.faults few)
+    (of_free.faults ∙ sym of_end.faults) (each_of g end.faults end of_end.faults of_end) (each_of g end.faults free of_end.faults of_free) joined (λ m n z d f i. i ∙ ap₂ (λ p q. slot_from share q p) d f) both.0 both.1))
+
+pub free_always : (g : Graph) (turn : ℕ) (goes : TreeState Bool) (sent : TreeState (Option ℕ)) (free t : TreeState ℕ) → IsConstant true goes.faults goes → IsTree g sent → IsMap (λ x z. z ≡ time_later turn x) sent t → IsFreeTree g.faults turn goes sent free t
+free_always g turn goes sent free t always of_sent later s few b first second x w v of_b sends stays =
+    let both = sends (always_true goes always s b first of_b) in
+    agrees_weaker s t second (first ++ second) (λ z. z ≡ time_later turn x) (λ z. z ≡ v) (λ l j. Contains-append_right first second l j) (λ z e. e ∙ sym both.1) (later_tells g turn sent t of_sent later s few second x both.0)
 
 pub free_told : (g : Graph) (turn : ℕ) (goes : TreeState Bool) (sent : TreeState (Option ℕ)) (free after t : TreeState ℕ) → IsTree g goes → IsTree g sent → IsTree g free → IsMap (λ x z. z ≡ time_later turn x) sent after → HasOnePathEach after.faults after.paths → DoPathsPass (is_variable g) after.paths →
     IsPick goes after free t → IsFreeTree g.faults turn goes sent free t

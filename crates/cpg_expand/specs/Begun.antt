@@ -4,11 +4,12 @@ use Rattle.cpg_base.specs.Graph.{Graph, process_at, node_of, inputs}
 use Rattle.cpg_order.specs.Guard.{Guard}
 use Rattle.cpg_tree.specs.Tree.{TreeState}
 use Rattle.cpg_expand.specs.Agreeing.{IsTree}
-use Rattle.cpg_expand.specs.Ending.{IsEndTree, IsReadyTree}
+use Rattle.cpg_expand.specs.Ending.{IsEndTree, IsReadyAfter, IsReadyTree, goes_on}
 use Rattle.cpg_expand.specs.Forest.{ForestState}
 use Rattle.cpg_expand.specs.Freezing.{IsFixed}
 use Rattle.cpg_expand.specs.Guarded.{IsActiveTree, IsStartTree}
 use Rattle.cpg_expand.specs.Waiting.{IsWaitTree}
+use Rattle.cpg_expand.specs.declared.forest.Ready.{Ready}
 
 -- where it is active, its start and its end, and when its node goes on after it
 pub record IsBegun (g : Graph) (urgency : List ℕ) (p : ℕ) (guard : Guard) (old new : ForestState) (before after : List (Option ℕ)) (chooser : TreeState Bool) : Type 0 where
@@ -23,6 +24,7 @@ pub record IsBegun (g : Graph) (urgency : List ℕ) (p : ℕ) (guard : Guard) (o
   pub fixed : IsFixed g urgency p unfrozen chooser before after start
   pub end : TreeState (Option ℕ)
   pub ends : IsEndTree g p start end
-  pub ready : TreeState ℕ
-  pub readies : IsReadyTree g.faults chooser end wait ready
+  pub ready : Ready
+  pub ready_after : IsReadyAfter g p ready
+  pub readies : IsReadyTree g.faults chooser end wait (goes_on end ready)
   pub is : new ≡ record { times = slice_set old.times p start; ends = slice_set old.ends p end; ready = slice_set old.ready (node_of g p) ready; free = old.free }

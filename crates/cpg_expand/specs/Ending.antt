@@ -8,8 +8,11 @@ use Rattle.cpg_cube.specs.declared.literal.Literal.{Literal}
 use Rattle.cpg_run.specs.Carried.{number_known}
 use Rattle.cpg_tree.specs.Space.{HasFew}
 use Rattle.cpg_tree.specs.Tree.{TreeState}
-use Rattle.cpg_expand.specs.Agreeing.{Tells}
+use Rattle.cpg_expand.specs.Agreeing.{IsTree, Tells}
+use Rattle.cpg_expand.specs.Forest.{later_tree}
 use Rattle.cpg_expand.specs.Values.{ended, time_later}
+use Rattle.cpg_expand.specs.declared.forest.Ready.{Ready}
+use Rattle.cpg_expand.specs.declared.forest.Ready.TheVariants.{After, At}
 
 -- how long an execution lasts with no fault, with one, and so on
 abbrev pub durations_of : Graph → ℕ → List ℕ
@@ -23,3 +26,12 @@ IsEndTree g p start t = (s : Scenario) → HasFew g.faults s → (literals : Lis
 abbrev pub IsReadyTree : ℕ → TreeState Bool → TreeState (Option ℕ) → TreeState ℕ → TreeState ℕ → Type 0
 IsReadyTree k active end wait t = (s : Scenario) → HasFew k s → (b : Bool) (first second : List Literal) (x : Option ℕ) (w v : ℕ) → Tells s first b active →
     (b ≡ true → Tells s second x end × (v ≡ time_later 0 x)) → (b ≡ false → Tells s second w wait × (v ≡ w)) → Tells s (first ++ second) v t
+
+-- from when on a node is ready after a process: by its ends or by a tree
+abbrev pub IsReadyAfter : Graph → ℕ → Ready → Type 0
+IsReadyAfter g p (After q) = q ≡ p
+IsReadyAfter g p (At t) = IsTree g t
+
+abbrev pub goes_on : TreeState (Option ℕ) → Ready → TreeState ℕ
+goes_on end (After q) = later_tree end
+goes_on end (At t) = t

@@ -1,18 +1,33 @@
 -- The trees that are found along an order.
-use Rattle.std.specs.Prelude.{ℕ, ◌≡◌, ◌==◌, List, [], Option, length, get_or, All, if◌then◌else◌}
+use Rattle.std.specs.Prelude.{ℕ, ◌≡◌, ◌==◌, List, [], Option, length, get_or, map, All, ◌<◌, if◌then◌else◌}
 use Rattle.cpg_base.specs.Bus.{slot_length}
 use Rattle.cpg_base.specs.Graph.{Graph, process_count, item_count, node_of, source, process_of, is_message, message_item, broadcast_item, home}
-use Rattle.cpg_tree.specs.Tree.{TreeState}
+use Rattle.cpg_tree.specs.Tree.{Path, TreeState}
 use Rattle.cpg_expand.specs.Agreeing.{IsTree}
+use Rattle.cpg_expand.specs.Values.{time_later}
+use Rattle.cpg_expand.specs.declared.forest.Ready.{Ready}
+use Rattle.cpg_expand.specs.declared.forest.Ready.TheVariants.{After, At}
 
--- of the times of each item, of the ends of each process, and by node of when it is ready and its slots are free
+-- of the times of each item, of the ends of each process, and by node from when on it is ready and its slots are free
 pub record ForestState : Type 0 where
   pub times : List (TreeState (Option ℕ))
   pub ends : List (TreeState (Option ℕ))
-  pub ready : List (TreeState ℕ)
+  pub ready : List Ready
   pub free : List (TreeState ℕ)
 
--- a tree for each
+-- a tree without paths
+abbrev pub no_tree : {T : Type 0} → ℕ → TreeState T
+no_tree k = record { faults = k; paths = [] }
+
+-- from when on a node is ready, by the ends of a process or by a tree
+abbrev pub IsWait : Graph → Ready → Type 0
+IsWait g (After q) = q < process_count g
+IsWait g (At t) = IsTree g t
+
+abbrev pub ready_at : Graph → ForestState → ℕ → Ready
+ready_at g f node = get_or f.ready node (At (no_tree g.faults))
+
+-- a tree for each; a node that is ready after a process has that process
 pub record HasTrees (g : Graph) (f : ForestState) : Type 0 where
   pub times : length f.times ≡ item_count g
   pub ends : length f.ends ≡ process_count g
@@ -20,18 +35,26 @@ pub record HasTrees (g : Graph) (f : ForestState) : Type 0 where
   pub free : length f.free ≡ length g.nodes
   pub all_times : All (IsTree g) f.times
   pub all_ends : All (IsTree g) f.ends
-  pub all_ready : All (IsTree g) f.ready
+  pub all_ready : All (IsWait g) f.ready
   pub all_free : All (IsTree g) f.free
-
--- a tree without paths
-abbrev pub no_tree : {T : Type 0} → ℕ → TreeState T
-no_tree k = record { faults = k; paths = [] }
+  pub own : (node q : ℕ) → node < length g.nodes → ready_at g f node ≡ After q → node_of g q ≡ node
 
 abbrev pub times_of : Graph → ForestState → ℕ → TreeState (Option ℕ)
 times_of g f x = get_or f.times x (no_tree g.faults)
 
 abbrev pub ends_of : Graph → ForestState → ℕ → TreeState (Option ℕ)
 ends_of g f p = get_or f.ends p (no_tree g.faults)
+
+-- the times of a tree, 0 where there are none
+abbrev pub as_times : Path (Option ℕ) → Path ℕ
+as_times path = (path.0, time_later 0 path.1)
+
+abbrev pub later_tree : TreeState (Option ℕ) → TreeState ℕ
+later_tree t = record { faults = t.faults; paths = map as_times t.paths }
+
+abbrev pub ready_by : Graph → ForestState → Ready → TreeState ℕ
+ready_by g f (After q) = later_tree (ends_of g f q)
+ready_by g f (At t) = t
 
 -- what tells when an input is there, and how long after
 abbrev pub input_tree : Graph → ForestState → ℕ → TreeState (Option ℕ)

@@ -16,6 +16,8 @@ use Rattle.cpg_expand.specs.Agreeing.{Tells}
 use Rattle.cpg_expand.specs.Forest.{ForestState, HasTrees, times_of, ends_of}
 use Rattle.cpg_expand.specs.Sent.{sent_before, IsFreeOnce}
 use Rattle.cpg_expand.specs.Waiting.{ready_of, free_of}
+use Rattle.cpg_expand.specs.declared.forest.Ready.{Ready}
+use Rattle.cpg_expand.specs.declared.forest.Ready.TheVariants.{After, At}
 
 -- the processes before the place i that are on a node
 abbrev pub on_node : Graph → List ℕ → ℕ → ℕ → List ℕ
@@ -90,8 +92,13 @@ pub record IsSending (g : Graph) (order : List ℕ) (p k : ℕ) (frozen : List (
 abbrev pub IsGrownBy : Graph → ℕ → List (Option ℕ) → ForestState → List (Option ℕ) → ForestState → Type 0
 IsGrownBy g p before old after new = (order : List ℕ) → IsTopological g order → IsGrown g order (place order p) before old → IsGrown g order (place order p + 1) after new
 
+-- a node is ready from the beginning
+abbrev pub IsReadyFirst : ℕ → Ready → Type 0
+IsReadyFirst k (After q) = ⊥
+IsReadyFirst k (At t) = IsConstant 0 k t
+
 -- no item has times, and each node is ready and its slots are free from the beginning
 pub record IsBare (g : Graph) (f : ForestState) : Type 0 where
   pub times : All (IsConstant None g.faults) f.times
-  pub ready : All (IsConstant 0 g.faults) f.ready
+  pub ready : All (IsReadyFirst g.faults) f.ready
   pub free : All (IsConstant 0 g.faults) f.free

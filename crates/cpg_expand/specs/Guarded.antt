@@ -1,8 +1,8 @@
 -- Trees down guards.
-use Rattle.std.specs.Prelude.{ℕ, ◌<◌, max, Bool, false, List, [], ◌∷◌, ◌++◌, Option, Some, None, map, if◌then◌else◌, Contains, get_or}
+use Rattle.std.specs.Prelude.{ℕ, ◌<◌, ◌≤◌, ◌≡◌, max, Bool, false, List, [], ◌∷◌, ◌++◌, Option, Some, None, map, if◌then◌else◌, Contains, get_or}
 use Rattle.std.specs.List.{flat_map}
 use Rattle.cpg_base.specs.Numbers.{greatest}
-use Rattle.cpg_base.specs.Graph.{Graph, value_variable}
+use Rattle.cpg_base.specs.Graph.{Graph, is_message, value_variable}
 use Rattle.cpg_base.specs.Activity.{is_active}
 use Rattle.cpg_base.specs.declared.activation.Activation.{Activation}
 use Rattle.cpg_base.specs.declared.activation.Activation.TheVariants.{Inactive, Plain, By}
@@ -46,15 +46,13 @@ IsHeardTree g f node guard t = (s : Scenario) → HasFew g.faults s → (tell : 
     ((c : ℕ) → Contains (way guard s.values) c → Tells s (tell c) (time c) (heard_tree g f node c)) →
     Tells s (told_of s tell (way guard s.values)) (latest_of (heard_delay g node) time (way guard s.values)) t
 
--- when these inputs are there too
-abbrev pub IsWithInputs : Graph → ForestState → TreeState ℕ → List ℕ → TreeState ℕ → Type 0
-IsWithInputs g f wait edges t = (s : Scenario) → HasFew g.faults s → (base : List Literal) (x : ℕ) → Tells s base x wait → (tell : ℕ → List Literal) (time : ℕ → Option ℕ) →
-    ((e : ℕ) → Contains edges e → Tells s (tell e) (time e) (input_tree g f e)) →
-    Tells s (base ++ flat_map tell edges) (max x (latest_of (input_delay g) time edges)) t
+-- inputs that a node doesn't send itself are there once it is ready
+abbrev pub AreThere : Graph → (ℕ → Option ℕ) → ℕ → List ℕ → Type 0
+AreThere g time ready edges = (e : ℕ) → Contains edges e → is_message g e ≡ false → time_later 0 (time e) ≤ ready
 
 -- the starts after a release and after these inputs are there too
 abbrev pub IsStartAfter : Graph → ForestState → TreeState ℕ → ℕ → List ℕ → TreeState (Option ℕ) → Type 0
-IsStartAfter g f wait release edges t = (s : Scenario) → HasFew g.faults s → (base : List Literal) (x : ℕ) → Tells s base x wait → (tell : ℕ → List Literal) (time : ℕ → Option ℕ) →
+IsStartAfter g f wait release edges t = (s : Scenario) → HasFew g.faults s → (base : List Literal) (x : ℕ) → Tells s base x wait → (tell : ℕ → List Literal) (time : ℕ → Option ℕ) → AreThere g time x edges →
     ((e : ℕ) → Contains edges e → Tells s (tell e) (time e) (input_tree g f e)) →
     Tells s (base ++ flat_map tell edges) (Some (max (max x release) (latest_of (input_delay g) time edges))) t
 
@@ -72,13 +70,13 @@ abbrev pub start_at : ℕ → ℕ → (ℕ → ℕ) → (ℕ → Option ℕ) →
 start_at wait release delay time inputs a = if is_active a then Some (max (max wait release) (latest_of delay time (awaited inputs a))) else None
 
 abbrev pub IsStartBy : Graph → ForestState → TreeState ℕ → ℕ → List ℕ → Activation → TreeState (Option ℕ) → Type 0
-IsStartBy g f wait release inputs a t = (s : Scenario) → HasFew g.faults s → (base : List Literal) (x : ℕ) → Tells s base x wait → (tell : ℕ → List Literal) (time : ℕ → Option ℕ) →
+IsStartBy g f wait release inputs a t = (s : Scenario) → HasFew g.faults s → (base : List Literal) (x : ℕ) → Tells s base x wait → (tell : ℕ → List Literal) (time : ℕ → Option ℕ) → AreThere g time x (awaited inputs a) →
     ((e : ℕ) → Contains (awaited inputs a) e → Tells s (tell e) (time e) (input_tree g f e)) →
     Tells s (start_says base tell inputs a) (start_at x release (input_delay g) time inputs a) t
 
 -- the starts of a process with a guard
 abbrev pub IsStartTree : Graph → ForestState → TreeState ℕ → ℕ → List ℕ → Guard → TreeState (Option ℕ) → Type 0
-IsStartTree g f wait release inputs guard t = (s : Scenario) → HasFew g.faults s → (base : List Literal) (x : ℕ) → Tells s base x wait → (tell : ℕ → List Literal) (time : ℕ → Option ℕ) →
+IsStartTree g f wait release inputs guard t = (s : Scenario) → HasFew g.faults s → (base : List Literal) (x : ℕ) → Tells s base x wait → (tell : ℕ → List Literal) (time : ℕ → Option ℕ) → AreThere g time x (awaited inputs (outcome_at guard s.values)) →
     ((e : ℕ) → Contains (awaited inputs (outcome_at guard s.values)) e → Tells s (tell e) (time e) (input_tree g f e)) →
     Tells s (values_known s (way guard s.values) ++ start_says base tell inputs (outcome_at guard s.values)) (start_at x release (input_delay g) time inputs (outcome_at guard s.values)) t
 

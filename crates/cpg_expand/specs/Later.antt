@@ -1,5 +1,5 @@
--- A tree of times that are a delay after those of another.
-use Rattle.std.specs.Prelude.{ℕ, List, Option}
+-- Trees of times that are a delay after those of another, and of the later of two.
+use Rattle.std.specs.Prelude.{ℕ, max, List, ◌++◌, Option}
 use Rattle.cpg_order.specs.Scenario.{Scenario}
 use Rattle.cpg_cube.specs.declared.literal.Literal.{Literal}
 use Rattle.cpg_tree.specs.Space.{HasFew}
@@ -9,3 +9,11 @@ use Rattle.cpg_expand.specs.Values.{time_later}
 
 abbrev pub IsLaterTree : ℕ → ℕ → TreeState (Option ℕ) → TreeState ℕ → Type 0
 IsLaterTree k delay tree t = (s : Scenario) → HasFew k s → (literals : List Literal) (x : Option ℕ) → Tells s literals x tree → Tells s literals (time_later delay x) t
+
+-- a tree tells what another one does
+abbrev pub IsNoMore : ℕ → TreeState ℕ → TreeState ℕ → Type 0
+IsNoMore k tree t = (s : Scenario) → HasFew k s → (literals : List Literal) (x : ℕ) → Tells s literals x tree → Tells s literals x t
+
+-- the later of the times of two trees
+abbrev pub IsLatest : ℕ → TreeState ℕ → TreeState ℕ → TreeState ℕ → Type 0
+IsLatest k one two t = (s : Scenario) → HasFew k s → (first second : List Literal) (x y : ℕ) → Tells s first x one → Tells s second y two → Tells s (first ++ second) (max x y) t

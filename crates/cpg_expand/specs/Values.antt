@@ -1,10 +1,7 @@
 -- What becomes of the values of trees.
-use Rattle.std.specs.Prelude.{ℕ, ◌+◌, ◌-◌, ◌^◌, min, max, nat_lt, Bool, List, Option, Some, None, get_or, unwrap_or, if◌then◌else◌}
+use Rattle.std.specs.Prelude.{ℕ, ◌+◌, ◌-◌, ◌^◌, min, max, nat_lt, Bool, List, Option, Some, None, get_or, if◌then◌else◌}
 use Rattle.cpg_bus.specs.Share.{ShareState, next_of}
-
--- a time or 0, later by a delay, as far as there are numbers
-abbrev pub time_later : ℕ → Option ℕ → ℕ
-time_later delay time = min (unwrap_or time 0 + delay) (2 ^ 64 - 1)
+pub use Rattle.cpg_tree.specs.Later.{time_later}
 
 -- the time, where it is so
 abbrev pub time_if : ℕ → Bool → Option ℕ

@@ -1,5 +1,5 @@
 -- What a start waits for on its node.
-use Rattle.std.specs.Prelude.{ℕ, max, List, ◌++◌, Option, Contains, get_or}
+use Rattle.std.specs.Prelude.{ℕ, max, List, ◌++◌, Option, Some, None, Contains, get_or}
 use Rattle.cpg_base.specs.Graph.{Graph}
 use Rattle.cpg_order.specs.Guard.{Guard, way}
 use Rattle.cpg_order.specs.Scenario.{Scenario}
@@ -7,14 +7,20 @@ use Rattle.cpg_cube.specs.declared.literal.Literal.{Literal}
 use Rattle.cpg_tree.specs.Space.{HasFew}
 use Rattle.cpg_tree.specs.Tree.{TreeState}
 use Rattle.cpg_expand.specs.Agreeing.{Tells}
-use Rattle.cpg_expand.specs.Forest.{ForestState, no_tree, heard_tree, heard_delay}
+use Rattle.cpg_expand.specs.Forest.{ForestState, no_tree, ready_at, ready_by, heard_tree, heard_delay}
+use Rattle.cpg_expand.specs.declared.forest.Ready.{Ready}
 use Rattle.cpg_expand.specs.Guarded.{told_of, latest_of}
 
 abbrev pub ready_of : Graph → ForestState → ℕ → TreeState ℕ
-ready_of g f node = get_or f.ready node (no_tree g.faults)
+ready_of g f node = ready_by g f (ready_at g f node)
 
 abbrev pub free_of : Graph → ForestState → ℕ → TreeState ℕ
 free_of g f node = get_or f.free node (no_tree g.faults)
+
+-- what a process waits for on its node: what it has heard too, or else the node itself
+abbrev pub wait_of : Graph → ForestState → ℕ → Option Ready → Ready
+wait_of g f node None = ready_at g f node
+wait_of g f node (Some wait) = wait
 
 -- until the node is ready and has heard all that a guard tests
 abbrev pub IsWaitTree : Graph → ForestState → ℕ → Guard → TreeState ℕ → Type 0

@@ -8,10 +8,10 @@ ghost use Rattle.cpg_expand.specs.Grown.{IsGrownBy};
 ghost use Rattle.cpg_guard.specs.Guards.{tree_of};
 
 use crate::ending::{end, ready};
-use crate::forest::Forest;
+use crate::forest::{Forest, Ready};
 use crate::guarded::active;
 use crate::sending::send;
-use crate::starting::{fixed_if, unfrozen_start, waiting};
+use crate::starting::{fixed_if, unfrozen_start, wait_for, waiting};
 use cpg_base::OutOfMemory;
 use cpg_bus::Plan;
 use cpg_rules::Admitted;
@@ -19,14 +19,14 @@ use cpg_run::Frozen;
 use cpg_tree::Tree;
 use std::alloc::Global;
 
-/// Puts the times and the ends of a process, and when a node is ready after it.
+/// Puts the times and the ends of a process, and from when on a node is ready after it.
 fn put_begun(
     forest: &mut Forest,
     process: u32,
     times: Tree<Option<u64>>,
     ends: Tree<Option<u64>>,
     node: u32,
-    ready: Tree<u64>,
+    ready: Ready,
 )
     requires times { process < length forest.old.times }
     requires ends { process < length forest.old.ends }
@@ -60,8 +60,9 @@ fn begin(
     let node = problem.node_of(process);
     let inputs = plan.inputs(problem, process);
     let active = active(alloc, problem, guard)?;
-    let wait = waiting(alloc, problem, forest, node, guard)?;
-    let unfrozen = unfrozen_start(alloc, problem, forest, &wait, inputs, guard, process)?;
+    let heard = waiting(alloc, problem, forest, node, guard)?;
+    let wait = wait_for(problem, forest, node, &heard);
+    let unfrozen = unfrozen_start(alloc, problem, forest, wait, inputs, guard, process)?;
     let start = fixed_if(
         problem,
         admitted.order(),
@@ -71,7 +72,7 @@ fn begin(
         unfrozen,
     )?;
     let end = end(alloc, problem, &start, process)?;
-    let ready = ready(problem, &active, &end, &wait)?;
+    let ready = ready(problem, forest, &active, &end, wait, process)?;
     put_begun(forest, process, start, end, node, ready);
     Ok(active)
 }

@@ -4,8 +4,10 @@ ghost use Rattle.cpg_base.specs.Duration.{duration};
 ghost use Rattle.cpg_base.specs.Graph.{process_count};
 ghost use Rattle.cpg_base.specs.Numbers.{numbers_below};
 ghost use Rattle.cpg_expand.specs.Agreeing.{IsTree};
-ghost use Rattle.cpg_expand.specs.Ending.{IsEndTree, IsReadyTree};
+ghost use Rattle.cpg_expand.specs.Ending.{IsEndTree, IsReadyAfter, IsReadyTree, goes_on};
+ghost use Rattle.cpg_expand.specs.Forest.{HasTrees, IsWait, ready_by};
 
+use crate::forest::{Forest, Ready};
 use crate::values::{ends, later};
 use cpg_base::{OutOfMemory, Problem};
 use cpg_tree::{Tree, fault};
@@ -43,8 +45,8 @@ pub(crate) fn end(
     Ok(end)
 }
 
-/// When the node of a process goes on: after its end, or where it is inactive once the node would have been ready for it.
-pub(crate) fn ready(
+/// The ends of a process, and where it is inactive the times from which on the node would have been ready for it.
+fn end_or(
     problem: &Problem,
     active: &Tree<bool>,
     end: &Tree<Option<u64>>,
@@ -57,9 +59,57 @@ pub(crate) fn ready(
     ensures ready { IfOk result (IsReadyTree problem.now.faults active.now end.now wait.now) }
 {
     let after = later(end, 0)?;
-    if active.is_true() {
-        return Ok(after);
-    }
     let ready = Tree::pick(active, &after, wait)?;
     Ok(ready)
+}
+
+/// When the node of a process goes on that isn't active everywhere.
+fn ready_at(
+    problem: &Problem,
+    forest: &Forest,
+    active: &Tree<bool>,
+    end: &Tree<Option<u64>>,
+    wait: &Ready,
+) -> Result<Tree<u64>, OutOfMemory>
+    requires forest { HasTrees problem.now forest.now }
+    requires active { IsTree problem.now active.now }
+    requires end { IsTree problem.now end.now }
+    requires wait { IsWait problem.now wait.now }
+    ensures tree { IfOk result (IsTree problem.now) }
+    ensures ready { IfOk result (IsReadyTree problem.now.faults active.now end.now (ready_by problem.now forest.now wait.now)) }
+{
+    match wait {
+        Ready::After(process) => {
+            let before = forest.end_there(problem, *process)?;
+            let ready = end_or(problem, active, end, &before)?;
+            Ok(ready)
+        }
+        Ready::At(tree) => {
+            let ready = end_or(problem, active, end, tree)?;
+            Ok(ready)
+        }
+    }
+}
+
+/// When the node of a process goes on: after its end, or where it is inactive once the node would have been ready for it.
+pub(crate) fn ready(
+    problem: &Problem,
+    forest: &Forest,
+    active: &Tree<bool>,
+    end: &Tree<Option<u64>>,
+    wait: &Ready,
+    process: u32,
+) -> Result<Ready, OutOfMemory>
+    requires forest { HasTrees problem.now forest.now }
+    requires active { IsTree problem.now active.now }
+    requires end { IsTree problem.now end.now }
+    requires wait { IsWait problem.now wait.now }
+    ensures of { IfOk result (IsReadyAfter problem.now process) }
+    ensures ready { IfOk result (λ ready. IsReadyTree problem.now.faults active.now end.now (ready_by problem.now forest.now wait.now) (goes_on end.now ready)) }
+{
+    if active.is_true() {
+        return Ok(Ready::After(process));
+    }
+    let tree = ready_at(problem, forest, active, end, wait)?;
+    Ok(Ready::At(tree))
 }

@@ -8,6 +8,7 @@ ghost use Rattle.cpg_run.specs.Built.{IsBuiltFor, ShowsBuildFault};
 use crate::growing::grown;
 use crate::measuring::{excess, worst};
 use crate::rows::rows;
+use crate::tops::tops_of;
 use cpg_base::OutOfMemory;
 use cpg_order::Order;
 use cpg_reach::too_wide;
@@ -48,8 +49,9 @@ fn build(
     let urgency = admitted.order();
     let grown = grown(alloc, admitted, order)?;
     let ends = grown.forest.ends.as_slice();
-    let worst = worst(alloc, problem, urgency, ends)?;
-    let excess = excess(alloc, problem, urgency, ends)?;
+    let tops = tops_of(alloc, ends)?;
+    let worst = worst(alloc, problem, urgency, ends, tops.as_slice())?;
+    let excess = excess(alloc, problem, urgency, ends, tops.as_slice())?;
     if !is_under(bar, excess.time, worst.time) {
         return Ok(None);
     }

@@ -1,27 +1,37 @@
 //! The trees that are found along an order.
-ghost use Rattle.std.specs.Prelude.{◌≡◌, ◌<◌, ◌≤◌, None, All, IfOk, length};
-ghost use Rattle.cpg_base.specs.Graph.{condition_count, edge_count, item_count};
+ghost use Rattle.std.specs.Prelude.{[], ◌≡◌, ◌<◌, ◌≤◌, None, All, IfOk, length, true};
+ghost use Rattle.cpg_base.specs.Graph.{condition_count, edge_count, is_message, item_count, process_count};
 ghost use Rattle.cpg_expand.specs.Agreeing.{IsTree};
-ghost use Rattle.cpg_expand.specs.Forest.{HasTrees, heard_delay, heard_tree, input_delay, input_tree, times_of};
-ghost use Rattle.cpg_expand.specs.Grown.{IsBare};
-ghost use Rattle.cpg_expand.specs.Later.{IsLaterTree};
+ghost use Rattle.cpg_expand.specs.Forest.{HasTrees, IsWait, ends_of, heard_delay, heard_tree, input_delay, input_tree, later_tree, ready_by, times_of};
+ghost use Rattle.cpg_expand.specs.Grown.{IsBare, IsReadyFirst};
+ghost use Rattle.cpg_expand.specs.Guarded.{IsStartAfter};
+ghost use Rattle.cpg_expand.specs.Later.{IsLaterTree, IsLatest, IsNoMore};
 ghost use Rattle.cpg_base.specs.Bus.{slot_length};
 ghost use Rattle.cpg_base.specs.Graph.{home};
 ghost use Rattle.cpg_tree.specs.Tree.{IsConstant};
 
-use crate::values::later;
+use crate::values::{later, started, started_after};
 use cpg_base::{OutOfMemory, Problem};
 use cpg_tree::Tree;
 use std::alloc::Global;
 use std::marker::Model;
 
-/// A tree of the times of each item and of the ends of each process, and by node trees of the times from which on it is
-/// ready for its next process and its slots are free.
+/// From when on a node is ready for its next process.
+#[derive(Drop)]
+pub(crate) enum Ready {
+    /// From the ends of a process on: their tree isn't copied.
+    After(u32),
+    /// From the times of a tree on.
+    At(Tree<u64>),
+}
+
+/// A tree of the times of each item and of the ends of each process, and by node from when on it is ready for its next
+/// process and its slots are free.
 #[derive(Drop)]
 pub(crate) struct Forest {
     pub(crate) times: Vec<Tree<Option<u64>>>,
     pub(crate) ends: Vec<Tree<Option<u64>>>,
-    pub(crate) ready: Vec<Tree<u64>>,
+    pub(crate) ready: Vec<Ready>,
     pub(crate) free: Vec<Tree<u64>>,
 }
 
@@ -65,6 +75,21 @@ fn zeros(alloc: Global, problem: &Problem, count: usize) -> Result<Vec<Tree<u64>
     Ok(trees)
 }
 
+/// So many nodes that are ready from the beginning.
+fn ready_first(alloc: Global, problem: &Problem, count: usize) -> Result<Vec<Ready>, OutOfMemory>
+    ensures count { IfOk result (λ nodes. length nodes.items ≡ count) }
+    ensures all { IfOk result (λ nodes. All (IsWait problem.now) nodes.items) }
+    ensures first { IfOk result (λ nodes. All (IsReadyFirst problem.now.faults) nodes.items) }
+{
+    let mut nodes = Vec::new(alloc);
+    nodes.reserve(count)?;
+    for _ in 0..count {
+        let zero = Tree::constant(alloc, 0, problem.faults())?;
+        nodes.push(Ready::At(zero))?;
+    }
+    Ok(nodes)
+}
+
 impl Forest {
     /// Nothing is found of a graph.
     pub(crate) fn none(alloc: Global, problem: &Problem) -> Result<Forest, OutOfMemory>
@@ -75,7 +100,7 @@ impl Forest {
         Ok(Forest {
             times: without_times(alloc, problem, problem.item_count() as usize)?,
             ends: without_times(alloc, problem, problem.processes().len())?,
-            ready: zeros(alloc, problem, nodes)?,
+            ready: ready_first(alloc, problem, nodes)?,
             free: zeros(alloc, problem, nodes)?,
         })
     }
@@ -92,20 +117,31 @@ impl Forest {
         Ok(there)
     }
 
-    /// The times at which an input is there.
+    /// The times at which an input from another node is there.
     pub(crate) fn input_there(&self, problem: &Problem, edge: u32) -> Result<Tree<u64>, OutOfMemory>
         requires forest { HasTrees problem.now self.now }
         requires edge { edge < edge_count problem.now }
+        requires message { is_message problem.now edge ≡ true }
         ensures tree { IfOk result (IsTree problem.now) }
         ensures later { IfOk result (IsLaterTree problem.now.faults (input_delay problem.now edge) (input_tree problem.now self.now edge)) }
     {
-        if problem.is_message(edge) {
-            let there = self.frame_there(problem, problem.message_item(edge))?;
-            Ok(there)
-        } else {
-            let there = later(&self.ends[problem.source(edge) as usize], 0)?;
-            Ok(there)
-        }
+        let there = self.frame_there(problem, problem.message_item(edge))?;
+        Ok(there)
+    }
+
+    /// The ends of a process, 0 where it isn't active.
+    pub(crate) fn end_there(
+        &self,
+        problem: &Problem,
+        process: u32,
+    ) -> Result<Tree<u64>, OutOfMemory>
+        requires forest { HasTrees problem.now self.now }
+        requires process { process < process_count problem.now }
+        ensures tree { IfOk result (IsTree problem.now) }
+        ensures later { IfOk result (IsNoMore problem.now.faults (later_tree (ends_of problem.now self.now process))) }
+    {
+        let there = later(&self.ends[process as usize], 0)?;
+        Ok(there)
     }
 
     /// The times at which a node has heard a condition.
@@ -122,11 +158,62 @@ impl Forest {
     {
         let process = problem.process_of(condition);
         if problem.node_of(process) == node {
-            let there = later(&self.ends[process as usize], 0)?;
+            let there = self.end_there(problem, process)?;
             Ok(there)
         } else {
             let there = self.frame_there(problem, problem.broadcast_item(condition))?;
             Ok(there)
+        }
+    }
+
+    /// The times from which on a node is ready and something else is there.
+    pub(crate) fn ready_and(
+        &self,
+        problem: &Problem,
+        ready: &Ready,
+        there: &Tree<u64>,
+    ) -> Result<Tree<u64>, OutOfMemory>
+        requires forest { HasTrees problem.now self.now }
+        requires ready { IsWait problem.now ready.now }
+        requires there { IsTree problem.now there.now }
+        ensures tree { IfOk result (IsTree problem.now) }
+        ensures both { IfOk result (IsLatest problem.now.faults (ready_by problem.now self.now ready.now) there.now) }
+    {
+        match ready {
+            Ready::After(process) => {
+                let _processes = problem.processes();
+                let both = there.max_later(&self.ends[*process as usize], 0)?;
+                Ok(both)
+            }
+            Ready::At(tree) => {
+                let both = tree.max(there)?;
+                Ok(both)
+            }
+        }
+    }
+
+    /// The starts of a process on a node once it is ready and at a release or later.
+    pub(crate) fn started(
+        &self,
+        problem: &Problem,
+        ready: &Ready,
+        release: u64,
+    ) -> Result<Tree<Option<u64>>, OutOfMemory>
+        requires forest { HasTrees problem.now self.now }
+        requires ready { IsWait problem.now ready.now }
+        ensures tree { IfOk result (IsTree problem.now) }
+        ensures start { IfOk result (IsStartAfter problem.now self.now (ready_by problem.now self.now ready.now) release []) }
+    {
+        match ready {
+            Ready::After(process) => {
+                let _processes = problem.processes();
+                let start = started_after(&self.ends[*process as usize], release)?;
+                Ok(start)
+            }
+            Ready::At(tree) => {
+                let start = started(tree, release)?;
+                Ok(start)
+            }
         }
     }
 }

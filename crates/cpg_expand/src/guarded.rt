@@ -2,12 +2,11 @@
 ghost use Rattle.std.specs.Prelude.{◌≡◌, ◌<◌, ◌≤◌, All, IfOk, true};
 ghost use Rattle.cpg_base.specs.Graph.{condition_count, edge_count};
 ghost use Rattle.cpg_expand.specs.Agreeing.{IsTree};
-ghost use Rattle.cpg_expand.specs.Forest.{HasTrees};
-ghost use Rattle.cpg_expand.specs.Guarded.{IsActiveTree, IsHeardTree, IsStartAfter, IsStartBy, IsStartTree, IsWithInputs, LeadsBelow, PicksByValue, IsByBelow};
+ghost use Rattle.cpg_expand.specs.Forest.{HasTrees, IsWait, ready_by};
+ghost use Rattle.cpg_expand.specs.Guarded.{IsActiveTree, IsHeardTree, IsStartAfter, IsStartBy, IsStartTree, LeadsBelow, PicksByValue, IsByBelow};
 ghost use Rattle.cpg_guard.specs.Trees.{TestsBelow};
 
-use crate::forest::Forest;
-use crate::values::started;
+use crate::forest::{Forest, Ready};
 use cpg_base::{Activation, OutOfMemory, Problem};
 use cpg_guard::{GuardTop, GuardTree};
 use cpg_tree::{Tree, value};
@@ -89,69 +88,51 @@ pub(crate) fn heard(
     }
 }
 
-/// When these inputs are there too.
-fn with_inputs(
-    problem: &Problem,
-    forest: &Forest,
-    wait: Tree<u64>,
-    edges: &[u32],
-) -> Result<Tree<u64>, OutOfMemory>
-    requires forest { HasTrees problem.now forest.now }
-    requires wait { IsTree problem.now wait }
-    requires edges { All (λ e. e < edge_count problem.now) edges.now }
-    ensures tree { IfOk result (IsTree problem.now) }
-    ensures inputs { IfOk result (IsWithInputs problem.now forest.now wait edges.now) }
-{
-    let Some((edge, others)) = edges.split_first() else {
-        return Ok(wait);
-    };
-    let there = forest.input_there(problem, *edge)?;
-    let both = wait.max(&there)?;
-    let all = with_inputs(problem, forest, both, others)?;
-    Ok(all)
-}
-
-/// The starts of a process that waits until a time, its release and for these inputs.
+/// The starts of a process that waits until its node is ready, its release and for these inputs.
 fn start_after(
     problem: &Problem,
     forest: &Forest,
-    wait: &Tree<u64>,
+    wait: &Ready,
     release: u64,
     edges: &[u32],
 ) -> Result<Tree<Option<u64>>, OutOfMemory>
     requires forest { HasTrees problem.now forest.now }
-    requires wait { IsTree problem.now wait.now }
+    requires wait { IsWait problem.now wait.now }
     requires edges { All (λ e. e < edge_count problem.now) edges.now }
     ensures tree { IfOk result (IsTree problem.now) }
-    ensures start { IfOk result (IsStartAfter problem.now forest.now wait.now release edges.now) }
+    ensures start { IfOk result (IsStartAfter problem.now forest.now (ready_by problem.now forest.now wait.now) release edges.now) }
 {
     let Some((edge, others)) = edges.split_first() else {
-        let start = started(wait, release)?;
+        let start = forest.started(problem, wait, release)?;
         return Ok(start);
     };
+    // what comes from the node itself is there once the node is ready
+    if !problem.is_message(*edge) {
+        let start = start_after(problem, forest, wait, release, others)?;
+        return Ok(start);
+    }
     let there = forest.input_there(problem, *edge)?;
-    let both = wait.max(&there)?;
-    let all = with_inputs(problem, forest, both, others)?;
-    let start = started(&all, release)?;
+    let both = Ready::At(forest.ready_and(problem, wait, &there)?);
+    let start = start_after(problem, forest, &both, release, others)?;
     Ok(start)
 }
 
-/// The starts of a process with an activation that waits until a time, its release and for its inputs.
+/// The starts of a process with an activation that waits until its node is ready, its release and for its inputs.
 fn start_by(
     alloc: Global,
     problem: &Problem,
     forest: &Forest,
-    wait: &Tree<u64>,
+    wait: &Ready,
     release: u64,
     inputs: &[u32],
     activation: Activation,
 ) -> Result<Tree<Option<u64>>, OutOfMemory>
     requires forest { HasTrees problem.now forest.now }
-    requires wait { IsTree problem.now wait.now }
+    requires wait { IsWait problem.now wait.now }
     requires inputs { All (λ e. e < edge_count problem.now) inputs.now }
     requires by { IsByBelow (edge_count problem.now) activation }
     ensures tree { IfOk result (IsTree problem.now) }
-    ensures start { IfOk result (IsStartBy problem.now forest.now wait.now release inputs.now activation) }
+    ensures start { IfOk result (IsStartBy problem.now forest.now (ready_by problem.now forest.now wait.now) release inputs.now activation) }
 {
     match activation {
         Activation::Inactive => {
@@ -169,24 +150,24 @@ fn start_by(
     }
 }
 
-/// The starts of a process with a guard that waits until a time, its release and for its inputs.
+/// The starts of a process with a guard that waits until its node is ready, its release and for its inputs.
 pub(crate) fn start(
     alloc: Global,
     problem: &Problem,
     forest: &Forest,
-    wait: &Tree<u64>,
+    wait: &Ready,
     release: u64,
     inputs: &[u32],
     guard: &GuardTree,
 ) -> Result<Tree<Option<u64>>, OutOfMemory>
     requires forest { HasTrees problem.now forest.now }
-    requires wait { IsTree problem.now wait.now }
+    requires wait { IsWait problem.now wait.now }
     requires few { condition_count problem.now ≤ 32 }
     requires tests { TestsBelow (condition_count problem.now) guard.now }
     requires inputs { All (λ e. e < edge_count problem.now) inputs.now }
     requires leaves { LeadsBelow (edge_count problem.now) guard.now }
     ensures tree { IfOk result (IsTree problem.now) }
-    ensures start { IfOk result (IsStartTree problem.now forest.now wait.now release inputs.now guard.now) }
+    ensures start { IfOk result (IsStartTree problem.now forest.now (ready_by problem.now forest.now wait.now) release inputs.now guard.now) }
 {
     match guard.top() {
         GuardTop::Leaf(activation) => start_by(

@@ -5,9 +5,10 @@ ghost use Rattle.cpg_base.specs.Numbers.{numbers_below};
 ghost use Rattle.cpg_base.specs.Scenario.{zero_scenario};
 ghost use Rattle.cpg_expand.specs.Agreeing.{IsTree};
 ghost use Rattle.cpg_expand.specs.Peaks.{EndsAt, EndsPast, IsNextExcess, IsNextPeak, IsPeak, IsWorstOfTrees, IsExcessOfTrees, goes_before, or_time};
+ghost use Rattle.cpg_expand.specs.Tops.{AreTops};
 ghost use Rattle.cpg_order.specs.Scenario.{IsScenario};
 
-use crate::tops::{bar_of, past_tops, reaches, tops_of};
+use crate::tops::{bar_of, past_tops, reaches};
 use crate::values::past;
 use cpg_base::{OutOfMemory, Problem, Scenario};
 use cpg_order::{Order, is_before};
@@ -119,21 +120,22 @@ impl Peak {
     }
 }
 
-/// The greatest finish, by the ends of the processes.
+/// The greatest finish, by the ends of the processes and the greatest of each.
 pub(crate) fn worst(
     alloc: Global,
     problem: &Problem,
     urgency: &Order,
     ends: &[Tree<Option<u64>>],
+    tops: &[Option<u64>],
 ) -> Result<Peak, OutOfMemory>
     requires order { IsPermutation (numbers_below (process_count problem.now)) urgency.now }
     requires count { length ends.now ≡ process_count problem.now }
     requires trees { All (IsTree problem.now) ends.now }
+    requires tops { AreTops ends.now (length ends.now) tops.now }
     ensures peak { IfOk result (IsPeak problem.now urgency.now (process_count problem.now) (EndsAt problem.now ends.now)) }
     ensures worst { IfOk result (IsWorstOfTrees problem.now urgency.now ends.now) }
 {
-    let tops = tops_of(alloc, ends)?;
-    let bar = bar_of(tops.as_slice());
+    let bar = bar_of(tops);
     let mut peak = Peak::none(alloc, problem)?;
     for process in 0..problem.processes().len() as u32 {
         if reaches(bar, tops[process as usize]) {
@@ -143,21 +145,22 @@ pub(crate) fn worst(
     Ok(peak)
 }
 
-/// How far an end is past its due at most, by the ends of the processes.
+/// How far an end is past its due at most, by the ends of the processes and the greatest of each.
 pub(crate) fn excess(
     alloc: Global,
     problem: &Problem,
     urgency: &Order,
     ends: &[Tree<Option<u64>>],
+    tops: &[Option<u64>],
 ) -> Result<Peak, OutOfMemory>
     requires order { IsPermutation (numbers_below (process_count problem.now)) urgency.now }
     requires count { length ends.now ≡ process_count problem.now }
     requires trees { All (IsTree problem.now) ends.now }
+    requires tops { AreTops ends.now (length ends.now) tops.now }
     ensures peak { IfOk result (IsPeak problem.now urgency.now (process_count problem.now) (EndsPast problem.now ends.now)) }
     ensures excess { IfOk result (IsExcessOfTrees problem.now urgency.now ends.now) }
 {
-    let tops = tops_of(alloc, ends)?;
-    let past = past_tops(alloc, problem, tops.as_slice())?;
+    let past = past_tops(alloc, problem, tops)?;
     let bar = bar_of(past.as_slice());
     let mut peak = Peak::none(alloc, problem)?;
     for process in 0..problem.processes().len() as u32 {

@@ -126,6 +126,9 @@ fn unfrozen_sent(
     ensures sent { IfOk result (IsSentTree problem.now.faults share goes.now end.now free.now) }
 {
     let slots = slots(share, end, free)?;
+    if goes.is_true() {
+        return Ok(slots);
+    }
     let never = Tree::constant(alloc, None, problem.faults())?;
     let sent = Tree::pick(goes, &slots, &never)?;
     Ok(sent)
@@ -146,6 +149,9 @@ fn freed(
     ensures free { IfOk result (IsFreeTree problem.now.faults round goes.now sent.now free.now) }
 {
     let after = later(sent, round)?;
+    if goes.is_true() {
+        return Ok(after);
+    }
     let freed = Tree::pick(goes, &after, free)?;
     Ok(freed)
 }

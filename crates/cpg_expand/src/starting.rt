@@ -4,39 +4,66 @@ ghost use Rattle.cpg_base.specs.Numbers.{numbers_below};
 ghost use Rattle.cpg_expand.specs.Freezing.{IsFixed, IsFrozenBy};
 ghost use Rattle.cpg_base.specs.Graph.{condition_count, edge_count, item_count, process_at, process_count};
 ghost use Rattle.cpg_expand.specs.Agreeing.{IsTree};
-ghost use Rattle.cpg_expand.specs.Forest.{HasTrees};
+ghost use Rattle.cpg_expand.specs.Forest.{HasTrees, IsWait, ready_by};
 ghost use Rattle.cpg_expand.specs.Guarded.{IsStartTree, LeadsBelow};
-ghost use Rattle.cpg_expand.specs.Waiting.{IsWaitTree};
+ghost use Rattle.cpg_expand.specs.Waiting.{IsWaitTree, wait_of};
 ghost use Rattle.cpg_guard.specs.Trees.{TestsBelow};
 
-use crate::forest::Forest;
+use crate::forest::{Forest, Ready};
 use crate::guarded::{heard, start};
 use crate::values::fixed;
 use cpg_base::{OutOfMemory, Problem};
-use cpg_guard::GuardTree;
+use cpg_guard::{GuardTop, GuardTree};
 use cpg_order::Order;
 use cpg_run::Frozen;
 use cpg_tree::Tree;
 use std::alloc::Global;
 
-/// When a node is ready for a process with a guard and has heard what it tests.
+/// From when on a node is ready for a process with a guard and has heard what it tests. `None` where it tests nothing: from
+/// when on the node is ready.
 pub(crate) fn waiting(
     alloc: Global,
     problem: &Problem,
     forest: &Forest,
     node: u32,
     guard: &GuardTree,
-) -> Result<Tree<u64>, OutOfMemory>
+) -> Result<Option<Ready>, OutOfMemory>
     requires few { condition_count problem.now ≤ 32 }
     requires forest { HasTrees problem.now forest.now }
     requires node { node < length problem.now.nodes }
     requires tests { TestsBelow (condition_count problem.now) guard.now }
-    ensures tree { IfOk result (IsTree problem.now) }
-    ensures wait { IfOk result (IsWaitTree problem.now forest.now node guard.now) }
+    ensures of { IfOk result (λ heard. IsWait problem.now (wait_of problem.now forest.now node heard)) }
+    ensures wait { IfOk result (λ heard. IsWaitTree problem.now forest.now node guard.now (ready_by problem.now forest.now (wait_of problem.now forest.now node heard))) }
 {
-    let heard = heard(alloc, problem, forest, node, guard)?;
-    let wait = forest.ready[node as usize].max(&heard)?;
-    Ok(wait)
+    match guard.top() {
+        GuardTop::Leaf(_) => Ok(None),
+        GuardTop::Test {
+            condition: _,
+            no: _,
+            yes: _,
+        } => {
+            let heard = heard(alloc, problem, forest, node, guard)?;
+            let wait = forest.ready_and(problem, &forest.ready[node as usize], &heard)?;
+            Ok(Some(Ready::At(wait)))
+        }
+    }
+}
+
+/// What a process waits for on its node: what it has heard too, or where there is nothing of that the node itself.
+pub(crate) fn wait_for<'a>(
+    problem: &Problem,
+    forest: &'a Forest,
+    node: u32,
+    heard: &'a Option<Ready>,
+) -> &'a Ready
+    requires forest { HasTrees problem.now forest.now }
+    requires node { node < length problem.now.nodes }
+    ensures { result.now ≡ wait_of problem.now forest.now node heard.now }
+{
+    match heard {
+        Some(wait) => wait,
+        None => &forest.ready[node as usize],
+    }
 }
 
 /// The starts of a process, its frozen time aside.
@@ -44,20 +71,20 @@ pub(crate) fn unfrozen_start(
     alloc: Global,
     problem: &Problem,
     forest: &Forest,
-    wait: &Tree<u64>,
+    wait: &Ready,
     inputs: &[u32],
     guard: &GuardTree,
     process: u32,
 ) -> Result<Tree<Option<u64>>, OutOfMemory>
     requires process { process < process_count problem.now }
     requires forest { HasTrees problem.now forest.now }
-    requires wait { IsTree problem.now wait.now }
+    requires wait { IsWait problem.now wait.now }
     requires few { condition_count problem.now ≤ 32 }
     requires tests { TestsBelow (condition_count problem.now) guard.now }
     requires inputs { All (λ e. e < edge_count problem.now) inputs.now }
     requires leaves { LeadsBelow (edge_count problem.now) guard.now }
     ensures tree { IfOk result (IsTree problem.now) }
-    ensures start { IfOk result (IsStartTree problem.now forest.now wait.now (process_at problem.now process).release inputs.now guard.now) }
+    ensures start { IfOk result (IsStartTree problem.now forest.now (ready_by problem.now forest.now wait.now) (process_at problem.now process).release inputs.now guard.now) }
 {
     start(
         alloc,

@@ -6,17 +6,10 @@ ghost use Rattle.cpg_tree.specs.Tree.{HasOnePathEach, DoPathsPass, IsMap, IsJoin
 
 use cpg_base::OutOfMemory;
 use cpg_bus::Share;
-use cpg_tree::Tree;
+use cpg_tree::{Tree, time_later};
 
 /// A time from which the next slot isn't asked for.
 const LATE: u64 = 1 << 59;
-
-/// A time or 0, later by a delay.
-fn time_later(time: Option<u64>, delay: u64) -> u64
-    ensures { result ≡ time_later delay time }
-{
-    time.unwrap_or(0).saturating_add(delay)
-}
 
 /// The times of a tree, or 0, later by a delay.
 pub(crate) fn later(tree: &Tree<Option<u64>>, delay: u64) -> Result<Tree<u64>, OutOfMemory>
@@ -34,6 +27,25 @@ pub(crate) fn started(tree: &Tree<u64>, release: u64) -> Result<Tree<Option<u64>
     ensures pass { IfOk result (λ t. (test : ℕ → Bool) → DoPathsPass test tree.now.paths → DoPathsPass test t.paths) }
 {
     tree.map(&|time: u64| Some(time.max(release)))
+}
+
+/// A time, 0 where there is none, or a release, whichever is later.
+fn time_or(time: Option<u64>, release: u64) -> u64
+    ensures { result ≡ max (time_later 0 time) release }
+{
+    time_later(time, 0).max(release)
+}
+
+/// The times of a tree, 0 where there are none, or a release, whichever is later, as starts in all scenarios.
+pub(crate) fn started_after(
+    tree: &Tree<Option<u64>>,
+    release: u64,
+) -> Result<Tree<Option<u64>>, OutOfMemory>
+    ensures is { IfOk result (λ t. IsMap (λ x z. z ≡ Some (max (time_later 0 x) release)) tree.now t) }
+    ensures each { IfOk result (λ t. HasOnePathEach t.faults t.paths) }
+    ensures pass { IfOk result (λ t. (test : ℕ → Bool) → DoPathsPass test tree.now.paths → DoPathsPass test t.paths) }
+{
+    tree.map(&|time: Option<u64>| Some(time_or(time, release)))
 }
 
 /// Where a tree has a value.

@@ -15,8 +15,8 @@ use Rattle.cpg_expand.proofs.measuring.excess.Goals.{then-reaches+in_ok-peak-2, 
 pub index-requires : goal.index-requires
 index-requires c =
     let g = c.args.problem.now in
-    let made : past_tops g c.in_ok-tops.tops.items ≡ c.in_ok-past.past.items = ap (past_tops g) (sym c.as_slice.ensures.value) ∙ sym c.in_ok-past.ensures in
-    omega (arith, c.loop-process-test.true, ap length c.processes.ensures.processes, ap length (sym made) ∙ past_count g c.in_ok-tops.tops.items)
+    let made : past_tops g c.args.tops.now ≡ c.in_ok-past.past.items = sym c.in_ok-past.ensures in
+    omega (arith, c.loop-process-test.true, ap length c.processes.ensures.processes, ap length (sym made) ∙ past_count g c.args.tops.now)
 
 pub loop-process-preserved : goal.loop-process-preserved
 loop-process-preserved c =
@@ -28,10 +28,10 @@ loop-process-preserved c =
     let bar = c.bar_of-bar.result in
     let top : Option ℕ = c.index.result.now in
     let below : n < process_count g = omega (arith, c.loop-process-test.true, ap length c.processes.ensures.processes) in
-    let ends_top : HasTops g (process_count g) (EndsAt g ends) c.in_ok-tops.tops.items = ends_tops g c.processes.ensures.within.few_processes ends c.requires.trees c.in_ok-tops.tops.items c.in_ok-tops.ensures c.requires.count in
-    let made : past_tops g c.in_ok-tops.tops.items ≡ tops = ap (past_tops g) (sym c.as_slice.ensures.value) ∙ sym c.in_ok-past.ensures in
-    let are : HasTops g (process_count g) (EndsPast g ends) tops = subst (HasTops g (process_count g) (EndsPast g ends)) made (past_tops_are g ends c.in_ok-tops.tops.items ends_top) in
-    let count : length tops ≡ process_count g = ap length (sym made) ∙ past_count g c.in_ok-tops.tops.items in
+    let ends_top : HasTops g (process_count g) (EndsAt g ends) c.args.tops.now = ends_tops g c.processes.ensures.within.few_processes ends c.requires.trees c.args.tops.now c.requires.tops c.requires.count in
+    let made : past_tops g c.args.tops.now ≡ tops = sym c.in_ok-past.ensures in
+    let are : HasTops g (process_count g) (EndsPast g ends) tops = subst (HasTops g (process_count g) (EndsPast g ends)) made (past_tops_are g ends c.args.tops.now ends_top) in
+    let count : length tops ≡ process_count g = ap length (sym made) ∙ past_count g c.args.tops.now in
     let is_top : IsTop g (EndsPast g ends n) top = subst (IsTop g (EndsPast g ends n)) (get_or_default tops n None top (omega (arith, below, count)) ∙ sym c.index.ensures) (are n below) in
     elim c.if-reaches.branch [
       | then-reaches+in_ok-peak-2 w ↦
@@ -44,21 +44,21 @@ loop-process-preserved c =
           (next_under g urgency n (EndsPast g ends) bar top is_top (sym c.reaches.ensures ∙ w.if-reaches.false) c.loop-process.peak c.loop-process.invariant)
     ]
 
-peak_of : (c : goal.After-drop-tops-2) → IsPeak c.args.problem.now c.args.urgency.now (process_count c.args.problem.now) (EndsPast c.args.problem.now c.args.ends.now) c.loop-process.peak
+peak_of : (c : goal.After-drop-past-2) → IsPeak c.args.problem.now c.args.urgency.now (process_count c.args.problem.now) (EndsPast c.args.problem.now c.args.ends.now) c.loop-process.peak
 peak_of c =
     let g = c.args.problem.now in
     let urgency = c.args.urgency.now in
     let ends = c.args.ends.now in
     let tops = c.in_ok-past.past.items in
     let peak = c.loop-process.peak in
-    let ends_top : HasTops g (process_count g) (EndsAt g ends) c.in_ok-tops.tops.items = ends_tops g c.processes.ensures.within.few_processes ends c.requires.trees c.in_ok-tops.tops.items c.in_ok-tops.ensures c.requires.count in
-    let made : past_tops g c.in_ok-tops.tops.items ≡ tops = ap (past_tops g) (sym c.as_slice.ensures.value) ∙ sym c.in_ok-past.ensures in
-    let are : HasTops g (process_count g) (EndsPast g ends) tops = subst (HasTops g (process_count g) (EndsPast g ends)) made (past_tops_are g ends c.in_ok-tops.tops.items ends_top) in
-    let count : length tops ≡ process_count g = ap length (sym made) ∙ past_count g c.in_ok-tops.tops.items in
+    let ends_top : HasTops g (process_count g) (EndsAt g ends) c.args.tops.now = ends_tops g c.processes.ensures.within.few_processes ends c.requires.trees c.args.tops.now c.requires.tops c.requires.count in
+    let made : past_tops g c.args.tops.now ≡ tops = sym c.in_ok-past.ensures in
+    let are : HasTops g (process_count g) (EndsPast g ends) tops = subst (HasTops g (process_count g) (EndsPast g ends)) made (past_tops_are g ends c.args.tops.now ends_top) in
+    let count : length tops ≡ process_count g = ap length (sym made) ∙ past_count g c.args.tops.now in
     let all = all_processes g urgency (HasFrom c.bar_of-bar.result (EndsPast g ends)) c.loop-process.process peak
     (omega (arith, c.loop-process-test.false, c.loop-process.auto.process-end, ap length c.processes.ensures.processes)) c.loop-process.invariant in
     peak_of_all g urgency (process_count g) (EndsPast g ends) tops count are peak
-    (subst (λ (bar : ℕ). IsPeak g urgency (process_count g) (HasFrom bar (EndsPast g ends)) peak) (c.bar_of-bar.ensures ∙ ap bar_of c.as_slice-2.ensures.value) all)
+    (subst (λ (bar : ℕ). IsPeak g urgency (process_count g) (HasFrom bar (EndsPast g ends)) peak) (c.bar_of-bar.ensures ∙ ap bar_of c.as_slice.ensures.value) all)
 
 pub returns-clause-peak : goal.returns-clause-peak
 returns-clause-peak c = peak_of c

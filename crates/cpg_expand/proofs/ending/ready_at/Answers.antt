@@ -1,0 +1,25 @@
+use Rattle.std.proofs.Common.{sym, subst}
+use Rattle.cpg_expand.specs.Ending.{IsReadyTree}
+use Rattle.cpg_expand.specs.Forest.{IsWait, ends_of, later_tree, ready_by}
+use Rattle.cpg_expand.specs.declared.forest.Ready.{Ready}
+use Rattle.cpg_expand.proofs.TreesTold.{ready_after}
+use Rattle.cpg_expand.proofs.ending.ready_at.Goals as goal
+
+pub end_there-requires-clause-process : goal.end_there-requires-clause-process
+end_there-requires-clause-process c = subst (IsWait c.args.problem.now) c.in-After.is c.requires.wait
+
+pub returns-in_ok-ready-in-After-clause-ready : goal.returns-in_ok-ready-in-After-clause-ready
+returns-in_ok-ready-in-After-clause-ready c =
+    let g = c.args.problem.now in
+    let f = c.args.forest.now in
+    subst (λ (r : Ready). IsReadyTree g.faults c.args.active.now c.args.end.now (ready_by g f r) c.in_ok-ready-in-After.ready) (sym c.in-After.is)
+    (ready_after g.faults c.args.active.now c.args.end.now (later_tree (ends_of g f c.in-After.process)) c.in_ok-before-in-After.before c.in_ok-ready-in-After.ready c.in_ok-before-in-After.ensures.later c.in_ok-ready-in-After.ensures.ready)
+
+pub end_or-requires-in-At-clause-wait : goal.end_or-requires-in-At-clause-wait
+end_or-requires-in-At-clause-wait c = subst (IsWait c.args.problem.now) c.in-At.is c.requires.wait
+
+pub returns-in_ok-ready-in-At-clause-ready : goal.returns-in_ok-ready-in-At-clause-ready
+returns-in_ok-ready-in-At-clause-ready c =
+    let g = c.args.problem.now in
+    let f = c.args.forest.now in
+    subst (λ (r : Ready). IsReadyTree g.faults c.args.active.now c.args.end.now (ready_by g f r) c.in_ok-ready-in-At.ready) (sym c.in-At.is) c.in_ok-ready-in-At.ensures.ready

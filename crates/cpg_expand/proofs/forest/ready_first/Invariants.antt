@@ -1,0 +1,7 @@
+use Rattle.std.proofs.Common.{◌≡◌, All, length}
+use Rattle.cpg_expand.specs.Forest.{IsWait}
+use Rattle.cpg_expand.specs.Grown.{IsReadyFirst}
+use Rattle.cpg_expand.proofs.forest.ready_first.Given as goal
+
+abbrev pub invariant-loop : goal.invariant-loop
+invariant-loop l = (length l.nodes.items ≡ l.counter) × All (IsWait l.problem) l.nodes.items × All (IsReadyFirst l.problem.faults) l.nodes.items

@@ -1,0 +1,5 @@
+use Rattle.std.proofs.Common.{length}
+use Rattle.cpg_expand.proofs.guarded.+start_after.Given as goal
+
+abbrev pub decreases-start_after : goal.decreases-start_after
+decreases-start_after l = length l.edges.now
