@@ -1,6 +1,7 @@
 //! The least scenario that two cubes match.
-ghost use Rattle.std.specs.Prelude.{◌≡◌, ◌&&◌, ℕ, IfOk, List};
+ghost use Rattle.std.specs.Prelude.{◌≡◌, ◌≢◌, ◌&&◌, ℕ, IfOk, IsTrue, List};
 ghost use Rattle.cpg_order.specs.First.{IsFirst};
+ghost use Rattle.cpg_order.specs.Scenario.{IsLeast};
 ghost use Rattle.cpg_cube.specs.Cube.{matches};
 ghost use Rattle.cpg_cube.specs.Fit.{IsKnown};
 ghost use Rattle.cpg_violation.specs.Room.{HasRoom};
@@ -8,7 +9,8 @@ ghost use Rattle.cpg_violation.specs.Room.{HasRoom};
 use cpg_base::{OutOfMemory, Problem, Scenario};
 use cpg_cube::Cube;
 
-/// The least scenario that two cubes match, if there is one. It is first written to `room`.
+/// The least scenario that two cubes match, if there is one. `room` is that scenario then, also where no memory is
+/// left for its copy; where there is none, `room` stays as it was.
 pub fn met(
     problem: &Problem,
     cube: &Cube,
@@ -20,6 +22,8 @@ pub fn met(
     requires room { HasRoom problem.now room.old }
     ensures room { HasRoom problem.now room.new }
     ensures first { IfOk result (λ r. (order : List ℕ) → IsFirst problem.now order (λ s. matches cube.now s && matches other.now s) r) }
+    ensures apart { result ≡ Ok None → room.new ≡ room.old }
+    ensures least { result ≢ Ok None → (order : List ℕ) → IsLeast problem.now order (λ s. IsTrue (matches cube.now s && matches other.now s)) room.new }
 {
     if !cube.meets(other, problem, room) {
         return Ok(None);
