@@ -13,4 +13,5 @@ pub mod HeardLaws
 pub mod ActivityLaws
 pub mod OwnLaws
 pub mod SpeakerLaws
+pub mod BoundLaws
 pub mod WaitingLaws

@@ -1,9 +1,9 @@
 -- What a node knows by the ends of its own processes.
-use Rattle.std.proofs.Common.{ℕ, zero, suc, replicate, true≢false, ◌+◌, ◌<◌, ◌≤◌, ◌≡◌, ◌⊎◌, Bool, true, false, not, List, All, Contains, get_or, length, map, sym, ap, ◌∙◌, subst, arith, inl, inr}
+use Rattle.std.proofs.Common.{ℕ, zero, suc, replicate, true≢false, ◌+◌, ◌<◌, ◌≤◌, ◌≡◌, ◌⊎◌, Bool, true, false, not, List, All, Contains, get_or, length, map, sym, ap, ◌∙◌, subst, arith, inl, inr, refl, le-leb, leb-true}
 use Rattle.std.specs.Bool.{OnTrue}
 use Rattle.std.specs.List.{list_any}
 use Rattle.std.specs.Prelude.{slice_set}
-use Rattle.std.proofs.lemmas.Bool.{OnTrue_at, cases_eq, not-false}
+use Rattle.std.proofs.lemmas.Bool.{OnTrue_at, and_from, and_parts, cases_eq, not-false}
 use Rattle.std.proofs.lemmas.List.{get_or-map, get_or-set_other, get_or-set_same, get_or_default, length-map}
 use Rattle.std.proofs.lemmas.List.Elements.{All-contains, Contains-get_or}
 use Rattle.cpg_base.specs.Activity.{active}
@@ -12,7 +12,7 @@ use Rattle.cpg_base.specs.Graph.{Graph, IsVariable, home, item_at, item_count, n
 use Rattle.cpg_base.specs.WellFormed.{WellFormed}
 use Rattle.cpg_base.proofs.Items.{producer_within}
 use Rattle.cpg_base.proofs.Lists.{from_all}
-use Rattle.cpg_order.specs.Scenario.{Scenario, IsScenario, fault_of}
+use Rattle.cpg_order.specs.Scenario.{Scenario, IsScenario, fault_of, number_of}
 use Rattle.cpg_cube.specs.Cube.{holds, matches}
 use Rattle.cpg_cube.specs.declared.literal.Literal.{Literal}
 use Rattle.cpg_table.specs.Heard.{facts, is_heard}
@@ -24,6 +24,7 @@ use Rattle.cpg_violation.specs.Violation.{AllHold, row_rules}
 use Rattle.cpg_violation.proofs.Matching.{active_where, literal_active, sure_rule}
 use Rattle.cpg_violation.proofs.Moments.{made, waits}
 use Rattle.cpg_sure.specs.Hearing.{AreHeardIn, AreOwnEnded, IsAllHeard, IsEndedBy, IsHeardIn, IsOwnEnded, IsOwnOver, literal_at}
+use Rattle.cpg_sure.specs.Speakers.{IsToldIn}
 use Rattle.cpg_sure.specs.Order.{IsBefore, IsOverBy, execution}
 use Rattle.cpg_sure.proofs.Ends.{by_parts, over_ended}
 use Rattle.cpg_sure.proofs.HeardLaws.{heard_end, heard_sure}
@@ -51,45 +52,59 @@ module _ (g : Graph) (tables : List NodeTable) (rules : AllHold g tables row_rul
           let d = by_parts tables p s (λ start. start + duration g p (fault_of s p)) c.time ended in
           over_ended g tables rules s law c.time q l a (λ e h n. let over = before s d.0 law d.1 d.2 e h n in omega (arith, over, d.3))
 
-    module _ (few : process_count g ≤ 128) (c : Column) (l : Literal) (k : Contains (columns_of tables x) c) (h : Contains c.cube l) where
+    module _ (few : process_count g ≤ 128) (c : Column) (l : Literal) (k : Contains (columns_of tables x) c) (h : IsToldIn c.cube l) where
+      -- the literal's process is active, and its number in range
+      active_here : (s : Scenario) → IsScenario g s → matches c.cube s ≡ true → active g s.values (process_of_variable g l.variable) ≡ true
+      active_here s law m = subst (λ v. active g s.values (process_of_variable g v) ≡ true) h.variable (literal_active g tables s law x lx rules c k m h.by h.there)
+
+      holds_here : (s : Scenario) → matches c.cube s ≡ true → holds s l ≡ true
+      holds_here s m =
+          let inside = and_parts _ _ (from_all (holds s) c.cube h.by m h.there) in
+          let from : h.by.low ≤ number_of s l.variable = subst (λ v. h.by.low ≤ number_of s v) h.variable (leb-true _ _ inside.0) in
+          let to : number_of s l.variable ≤ h.by.high = subst (λ v. number_of s v ≤ h.by.high) h.variable (leb-true _ _ inside.1) in
+          and_from _ _ (le-leb l.low (number_of s l.variable) (omega (arith, h.low, from))) (le-leb (number_of s l.variable) l.high (omega (arith, to, h.high)))
+
       -- a literal on a variable of a process that has ended
       pub ended_heard : IsOwnEnded g tables x l.variable → IsHeardIn g tables (home g x) c l
       ended_heard own s law m =
-          let on : active g s.values own.process ≡ true = ap (active g s.values) (sym own.owner.owner) ∙ literal_active g tables s law x lx rules c k m l h in
-          heard_end g tables (home g x) c.time s l own.process few own.owner.within own.near (own.ended s c law k m on) own.owner.known own.owner.owner (from_all (holds s) c.cube l m h)
+          let on : active g s.values own.process ≡ true = ap (active g s.values) (sym own.owner.owner) ∙ active_here s law m in
+          heard_end g tables (home g x) c.time s l own.process few own.owner.within own.near (own.ended s c law k m on) own.owner.known own.owner.owner (holds_here s m)
 
       -- or that is over where the column matches
       pub over_heard : (s : Scenario) → IsScenario g s → matches c.cube s ≡ true → IsOwnOver g tables (home g x) l.variable c.time s → is_heard g.faults (facts g tables (home g x) s c.time) l ≡ true
       over_heard s law m own =
-          let on : active g s.values own.process ≡ true = ap (active g s.values) (sym own.owner.owner) ∙ literal_active g tables s law x lx rules c k m l h in
-          heard_end g tables (home g x) c.time s l own.process few own.owner.within own.near (over_ended g tables rules s law c.time own.process own.owner.within on own.over) own.owner.known own.owner.owner (from_all (holds s) c.cube l m h)
+          let on : active g s.values own.process ≡ true = ap (active g s.values) (sym own.owner.owner) ∙ active_here s law m in
+          heard_end g tables (home g x) c.time s l own.process few own.owner.within own.near (over_ended g tables rules s law c.time own.process own.owner.within on own.over) own.owner.known own.owner.owner (holds_here s m)
 
     -- where all literals are on variables of processes that have ended, the rule holds
     pub known_sure : process_count g ≤ 128 → (known : List Bool) → AreOwnEnded g tables x known → All (λ (c : Column). All (λ (l : Literal). get_or known l.variable false ≡ true) c.cube) (columns_of tables x) → IsSure g tables Rule.Heard x
     known_sure few known own all = heard_sure g tables x (λ c l k h.
         let marked = All-contains (λ (l : Literal). get_or known l.variable false ≡ true) c.cube l (All-contains (λ (c : Column). All (λ (l : Literal). get_or known l.variable false ≡ true) c.cube) (columns_of tables x) c all k) h in
-        ended_heard few c l k h (own l.variable marked))
+        ended_heard few c l k (record { by = l; there = h; variable = refl; low = omega arith; high = omega arith }) (own l.variable marked))
 
-    module _ (few : process_count g ≤ 128) (c : Column) (k : Contains (columns_of tables x) c) where
-      -- the literals on these variables
-      pub known_heard : (known told : List Bool) → AreOwnEnded g tables x known → told ≡ map (λ (l : Literal). get_or known l.variable false) c.cube → AreHeardIn g tables (home g x) c told
+    module _ (few : process_count g ≤ 128) (c : Column) (k : Contains (columns_of tables x) c) (wanted : List Literal) (wider : All (IsToldIn c.cube) wanted) where
+      wider_at : (i : ℕ) → i < length wanted → IsToldIn c.cube (literal_at wanted i)
+      wider_at i l = All-contains (IsToldIn c.cube) wanted (literal_at wanted i) wider (Contains-get_or wanted i _ l)
+
+      -- the wanted literals on these variables
+      pub known_heard : (known told : List Bool) → AreOwnEnded g tables x known → told ≡ map (λ (l : Literal). get_or known l.variable false) wanted → AreHeardIn g tables (home g x) c wanted told
       known_heard known told own is = record {
-        long = ap length is ∙ length-map c.cube (λ (l : Literal). get_or known l.variable false);
+        long = ap length is ∙ length-map wanted (λ (l : Literal). get_or known l.variable false);
         heard = λ i l t.
-            let marked : get_or known (literal_at c.cube i).variable false ≡ true = sym (get_or-map (λ (l : Literal). get_or known l.variable false) c.cube i (record { variable = 0; low = 0; high = 0 }) false l) ∙ sym (ap (λ marks. get_or marks i false) is) ∙ t in
-            ended_heard few c (literal_at c.cube i) k (Contains-get_or c.cube i _ l) (own (literal_at c.cube i).variable marked);
+            let marked : get_or known (literal_at wanted i).variable false ≡ true = sym (get_or-map (λ (l : Literal). get_or known l.variable false) wanted i (record { variable = 0; low = 0; high = 0 }) false l) ∙ sym (ap (λ marks. get_or marks i false) is) ∙ t in
+            ended_heard few c (literal_at wanted i) k (wider_at i l) (own (literal_at wanted i).variable marked);
       }
 
       -- with all others on variables of processes that are over
-      pub all_heard : (told : List Bool) → AreHeardIn g tables (home g x) c told
-          → ((s : Scenario) (i : ℕ) → IsScenario g s → matches c.cube s ≡ true → i < length c.cube → (get_or told i false ≡ true) ⊎ IsOwnOver g tables (home g x) (literal_at c.cube i).variable c.time s)
-          → IsAllHeard g tables (home g x) c
+      pub all_heard : (told : List Bool) → AreHeardIn g tables (home g x) c wanted told
+          → ((s : Scenario) (i : ℕ) → IsScenario g s → matches c.cube s ≡ true → i < length wanted → (get_or told i false ≡ true) ⊎ IsOwnOver g tables (home g x) (literal_at wanted i).variable c.time s)
+          → (l : Literal) → Contains wanted l → IsHeardIn g tables (home g x) c l
       all_heard told heard others l h s law m =
-          let at : literal_at c.cube h.0 ≡ l = get_or_default c.cube h.0 (record { variable = 0; low = 0; high = 0 }) l h.1 ∙ h.2 in
+          let at : literal_at wanted h.0 ≡ l = get_or_default wanted h.0 (record { variable = 0; low = 0; high = 0 }) l h.1 ∙ h.2 in
           subst (λ (l : Literal). is_heard g.faults (facts g tables (home g x) s c.time) l ≡ true) at
           (elim (others s h.0 law m h.1) [
             | inl t ↦ heard.heard h.0 h.1 t s law m
-            | inr own ↦ over_heard few c (literal_at c.cube h.0) k (Contains-get_or c.cube h.0 _ h.1) s law m own
+            | inr own ↦ over_heard few c (literal_at wanted h.0) k (wider_at h.0 h.1) s law m own
           ])
 
 -- one variable more

@@ -21,7 +21,7 @@ use Rattle.cpg_sure.specs.declared.speakers.Speaker.{Speaker}
 use Rattle.cpg_sure.proofs.HeardLaws.{heard_frame}
 use Rattle.cpg_sure.proofs.TreeLaws.{place_matches, place_there}
 
-module _ {g : Graph} {tables : List NodeTable} {node : ℕ} {speaker : Speaker} (is : IsSpeaker g tables node speaker) (places : List ℕ) (c : Column) (l : Literal) (h : Contains c.cube l) where
+module _ {g : Graph} {tables : List NodeTable} {node : ℕ} {speaker : Speaker} (is : IsSpeaker g tables node speaker) (places : List ℕ) (c : Column) (l : Literal) (h : IsToldIn c.cube l) where
   told_by : (s : Scenario) → IsScenario g s → matches c.cube s ≡ true → IsTold speaker.value speaker.columns.now places l → (o : Option ℕ) → place_at speaker.tree.now s ≡ o
       → HasCome speaker.columns.now speaker.delay c.time o → IsAmong places o → is_heard g.faults (facts g tables node s c.time) l ≡ true
   told_by s law m told None e come among = absurd among
@@ -31,12 +31,14 @@ module _ {g : Graph} {tables : List NodeTable} {node : ℕ} {speaker : Speaker} 
       let match : matches d.cube s ≡ true = place_matches is.tree s law i e in
       let same : column_at speaker.columns.now i ≡ d = ap (λ columns. column_at columns i) is.columns in
       let by : d.time + slot_length g (home g speaker.item) ≤ c.time = omega (arith, come, ap (λ (d : Column). d.time) same, is.delay) in
-      let within = and_parts _ _ (from_all (holds s) c.cube l m h) in
+      let inside = and_parts _ _ (from_all (holds s) c.cube h.by m h.there) in
+      let from : h.by.low ≤ number_of s l.variable = subst (λ v. h.by.low ≤ number_of s v) h.variable (leb-true _ _ inside.0) in
+      let to : number_of s l.variable ≤ h.by.high = subst (λ v. number_of s v ≤ h.by.high) h.variable (leb-true _ _ inside.1) in
       elim told as (λ _. is_heard g.faults (facts g tables node s c.time) l ≡ true) [
         | inl value ↦
             let carried : Contains (frame_value s (item_at g speaker.item)) (exactly l.variable (number_of s l.variable)) = subst (λ o. IfSome o (λ v. (s : Scenario) → Contains (frame_value s (item_at g speaker.item)) (exactly v (number_of s v)))) value is.value s in
             heard_frame g tables node c.time s l speaker.item d (exactly l.variable (number_of s l.variable)) is.item is.heard (Contains-get_or (columns_of tables speaker.item) i _ there) match by
-            (Contains-append_right d.cube (frame_value s (item_at g speaker.item)) _ carried) refl (leb-true _ _ within.0) (leb-true _ _ within.1)
+            (Contains-append_right d.cube (frame_value s (item_at g speaker.item)) _ carried) refl (omega (arith, h.low, from)) (omega (arith, to, h.high))
         | inr all ↦
             let at : IsToldIn d.cube l = subst (λ (d : Column). IsToldIn d.cube l) same (All-contains (λ i. IsToldIn (column_at speaker.columns.now i).cube l) places i all among) in
             heard_frame g tables node c.time s l speaker.item d at.by is.item is.heard (Contains-get_or (columns_of tables speaker.item) i _ there) match by
@@ -49,16 +51,16 @@ module _ {g : Graph} {tables : List NodeTable} {node : ℕ} {speaker : Speaker} 
   speaker_heard found told s law m = let r = found s law m in told_by s law m told (place_at speaker.tree.now s) refl r.0 r.1
 
 -- the marked literals and those that the frames tell
-module _ {g : Graph} {tables : List NodeTable} {node : ℕ} {speaker : Speaker} (is : IsSpeaker g tables node speaker) (places : List ℕ) (c : Column) where
-  pub more_heard : (old new : List Bool) → AreHeardIn g tables node c old → length new ≡ length c.cube
-      → ((i : ℕ) → get_or new i false ≡ true → (get_or old i false ≡ true) ⊎ IsTold speaker.value speaker.columns.now places (literal_at c.cube i))
+module _ {g : Graph} {tables : List NodeTable} {node : ℕ} {speaker : Speaker} (is : IsSpeaker g tables node speaker) (places : List ℕ) (c : Column) (wanted : List Literal) (wider : All (IsToldIn c.cube) wanted) where
+  pub more_heard : (old new : List Bool) → AreHeardIn g tables node c wanted old → length new ≡ length wanted
+      → ((i : ℕ) → get_or new i false ≡ true → (get_or old i false ≡ true) ⊎ IsTold speaker.value speaker.columns.now places (literal_at wanted i))
       → ((s : Scenario) → IsScenario g s → matches c.cube s ≡ true → HasCome speaker.columns.now speaker.delay c.time (place_at speaker.tree.now s) × IsAmong places (place_at speaker.tree.now s))
-      → AreHeardIn g tables node c new
+      → AreHeardIn g tables node c wanted new
   more_heard old new before long told found = record {
     long = long;
     heard = λ i l t. elim (told i t) [
       | inl o ↦ before.heard i l o
-      | inr by ↦ speaker_heard is places c (literal_at c.cube i) (Contains-get_or c.cube i _ l) found by
+      | inr by ↦ speaker_heard is places c (literal_at wanted i) (All-contains (IsToldIn c.cube) wanted (literal_at wanted i) wider (Contains-get_or wanted i _ l)) found by
     ];
   }
 

@@ -18,12 +18,12 @@ IsHeardIn g tables node c l = (s : Scenario) → IsScenario g s → matches c.cu
 abbrev pub literal_at : List Literal → ℕ → Literal
 literal_at literals i = get_or literals i (record { variable = 0; low = 0; high = 0 })
 
--- so it is with those literals of a column that are marked
-pub record AreHeardIn (g : Graph) (tables : List NodeTable) (node : ℕ) (c : Column) (marks : List Bool) : Type 0 where
-  pub long : length marks ≡ length c.cube
-  pub heard : (i : ℕ) → i < length c.cube → get_or marks i false ≡ true → IsHeardIn g tables node c (literal_at c.cube i)
+-- so it is with those of some literals that are marked
+pub record AreHeardIn (g : Graph) (tables : List NodeTable) (node : ℕ) (c : Column) (wanted : List Literal) (marks : List Bool) : Type 0 where
+  pub long : length marks ≡ length wanted
+  pub heard : (i : ℕ) → i < length wanted → get_or marks i false ≡ true → IsHeardIn g tables node c (literal_at wanted i)
 
--- and with all of them
+-- so it is with all literals of a column
 abbrev pub IsAllHeard : Graph → List NodeTable → ℕ → Column → Type 0
 IsAllHeard g tables node c = (l : Literal) → Contains c.cube l → IsHeardIn g tables node c l
 

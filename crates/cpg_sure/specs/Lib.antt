@@ -5,6 +5,7 @@ pub mod Turns
 pub mod Always
 pub mod Absent
 pub mod Inputs
+pub mod Bounds
 pub mod Hearing
 pub mod Speakers
 pub mod Listening

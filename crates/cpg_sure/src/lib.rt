@@ -4,6 +4,7 @@
 mod activity;
 mod apart;
 mod before;
+mod bounds;
 mod course;
 mod due;
 mod frozen;

@@ -12,9 +12,10 @@ ghost use Rattle.cpg_violation.specs.Violation.{AllHold, row_rules};
 ghost use Rattle.cpg_sure.specs.Hearing.{AreHeardIn, AreOwnEnded, IsAllHeard, IsEndedBy, IsOwnEnded, IsOwnOver, IsOwner, literal_at};
 ghost use Rattle.cpg_sure.specs.Listening.{IsListener};
 ghost use Rattle.cpg_sure.specs.Order.{IsOverBy, execution};
-ghost use Rattle.cpg_sure.specs.Speakers.{IsSpeaker};
+ghost use Rattle.cpg_sure.specs.Speakers.{IsSpeaker, IsToldIn};
 ghost use Rattle.cpg_sure.specs.Turns.{AreTurns};
 
+use crate::bounds::list_bounds;
 use crate::speakers::Speaker;
 use crate::turns::Turns;
 use cpg_base::{OutOfMemory, Problem, Variable};
@@ -229,32 +230,35 @@ impl<'a> Listener<'a> {
         true
     }
 
-    /// Marks the literals of a column that the node has been told by others by the column's time wherever that matches, in
-    /// a space that has all these scenarios.
+    /// Marks those of the wanted literals, each as wide as one of a column, that the node has been told by others by the
+    /// column's time wherever that matches, in a space that has all these scenarios.
     fn listen(
         &self,
         column: &Entry,
+        wanted: &[Literal],
         space: &Space,
         places: &mut Vec<u32>,
         told: &mut Vec<bool>,
     ) -> Result<(), OutOfMemory>
-        requires long { length told.old.items ≡ length column.now.cube }
-        ensures long { IfOk result (λ _. length told.new.items ≡ length column.now.cube) }
-        ensures heard { IfOk result (λ _. (g : Graph) (tables : List NodeTable) → All (IsSpeaker g tables self.now.node) self.now.speakers.items → ((s : Scenario) → IsScenario g s → matches column.now.cube s ≡ true → Lies space.now s) → AreHeardIn g tables self.now.node column.now told.old.items → AreHeardIn g tables self.now.node column.now told.new.items) }
+        requires long { length told.old.items ≡ length wanted.now }
+        ensures long { IfOk result (λ _. length told.new.items ≡ length wanted.now) }
+        ensures heard { IfOk result (λ _. (g : Graph) (tables : List NodeTable) → All (IsSpeaker g tables self.now.node) self.now.speakers.items → All (IsToldIn column.now.cube) wanted.now → ((s : Scenario) → IsScenario g s → matches column.now.cube s ≡ true → Lies space.now s) → AreHeardIn g tables self.now.node column.now wanted.now told.old.items → AreHeardIn g tables self.now.node column.now wanted.now told.new.items) }
     {
         for speaker in self.speakers.as_slice() {
             if are_marked(told.as_slice()) {
                 return Ok(());
             }
-            speaker.tell(column, space, places, told)?;
+            speaker.tell(column, wanted, space, places, told)?;
         }
         Ok(())
     }
 
-    /// Whether the node has heard all literals of one of the item's columns by its time, wherever it matches.
+    /// Whether the node has heard all literals of one of the item's columns by its time, wherever it matches: the low of
+    /// each and its high, which different items may have told.
     fn hears(
         &self,
         column: &Entry,
+        wanted: &mut Vec<Literal>,
         places: &mut Vec<u32>,
         told: &mut Vec<bool>,
     ) -> Result<bool, OutOfMemory>
@@ -262,22 +266,25 @@ impl<'a> Listener<'a> {
     {
         let literals = column.cube.literals();
         let problem = self.admitted.problem();
-        let Some(space) = Space::of(problem.faults(), literals) else {
+        let faults = problem.faults();
+        let Some(space) = Space::of(faults, literals) else {
             return Ok(true);
         };
-        mark_known(&self.known, literals, told)?;
-        self.listen(column, &space, places, told)?;
-        Ok(self.are_others_over(literals, told.as_slice(), &space, column.time))
+        list_bounds(faults, literals, wanted)?;
+        mark_known(&self.known, wanted.as_slice(), told)?;
+        self.listen(column, wanted.as_slice(), &space, places, told)?;
+        Ok(self.are_others_over(wanted.as_slice(), told.as_slice(), &space, column.time))
     }
 
     /// Whether it has heard all literals of all of the item's columns.
     pub(crate) fn hears_all(&self, alloc: Global, columns: &[Entry]) -> Result<bool, OutOfMemory>
         ensures { IfOk result (λ all. OnTrue all ((tables : List NodeTable) (x : ℕ) → IsListener tables x self.now → AllHold self.now.admitted.now.graph tables row_rules → columns.now ≡ columns_of tables x → All (IsAllHeard self.now.admitted.now.graph tables self.now.node) columns.now)) }
     {
+        let mut wanted = Vec::new(alloc);
         let mut places = Vec::new(alloc);
         let mut told = Vec::new(alloc);
         for column in columns {
-            let heard = self.hears(column, &mut places, &mut told)?;
+            let heard = self.hears(column, &mut wanted, &mut places, &mut told)?;
             if !heard {
                 return Ok(false);
             }

@@ -161,18 +161,20 @@ impl<'a> Speaker<'a> {
         }
     }
 
-    /// Marks the literals of a column that its frames have told by the column's time wherever that matches, in a space
-    /// that has all these scenarios. The places of its own columns that match there are first written to `places`.
+    /// Marks those of the wanted literals, each as wide as one of a column, that its frames have told by the column's time
+    /// wherever that matches, in a space that has all these scenarios. The places of its own columns that match there are
+    /// first written to `places`.
     pub(crate) fn tell(
         &self,
         column: &Entry,
+        wanted: &[Literal],
         space: &Space,
         places: &mut Vec<u32>,
         told: &mut Vec<bool>,
     ) -> Result<(), OutOfMemory>
-        requires long { length told.old.items ≡ length column.now.cube }
-        ensures long { IfOk result (λ _. length told.new.items ≡ length column.now.cube) }
-        ensures heard { IfOk result (λ _. (g : Graph) (tables : List NodeTable) (node : ℕ) → IsSpeaker g tables node self.now → ((s : Scenario) → IsScenario g s → matches column.now.cube s ≡ true → Lies space.now s) → AreHeardIn g tables node column.now told.old.items → AreHeardIn g tables node column.now told.new.items) }
+        requires long { length told.old.items ≡ length wanted.now }
+        ensures long { IfOk result (λ _. length told.new.items ≡ length wanted.now) }
+        ensures heard { IfOk result (λ _. (g : Graph) (tables : List NodeTable) (node : ℕ) → IsSpeaker g tables node self.now → All (IsToldIn column.now.cube) wanted.now → ((s : Scenario) → IsScenario g s → matches column.now.cube s ≡ true → Lies space.now s) → AreHeardIn g tables node column.now wanted.now told.old.items → AreHeardIn g tables node column.now wanted.now told.new.items) }
     {
         if !has_come(self.first, self.delay, column.time) {
             return Ok(());
@@ -187,7 +189,7 @@ impl<'a> Speaker<'a> {
         if !all {
             return Ok(());
         }
-        self.mark(places.as_slice(), column.cube.literals(), told);
+        self.mark(places.as_slice(), wanted, told);
         Ok(())
     }
 }

@@ -1,0 +1,16 @@
+-- What a node has to hear of a literal: its low and its high, each as a literal that is open at the other end.
+use Rattle.std.specs.Prelude.{ℕ, ◌==◌, nat_le, if◌then◌else◌, List, [], ◌∷◌, ◌++◌, max}
+use Rattle.cpg_base.specs.Variable.{top}
+use Rattle.cpg_cube.specs.declared.literal.Literal.{Literal}
+
+-- the low, where it isn't 0
+abbrev pub low_of : ℕ → Literal → List Literal
+low_of k l = if l.low == 0 then [] else record { variable = l.variable; low = l.low; high = max l.high (top k l.variable) } ∷ []
+
+-- the high, where the variable may be above it in scenarios of at most k faults
+abbrev pub high_of : ℕ → Literal → List Literal
+high_of k l = if nat_le (top k l.variable) l.high then [] else record { variable = l.variable; low = 0; high = l.high } ∷ []
+
+-- both
+abbrev pub bounds_of : ℕ → Literal → List Literal
+bounds_of k l = low_of k l ++ high_of k l

@@ -1,0 +1,52 @@
+//! What a node has to hear of literals: lows and highs, which different items may tell it.
+ghost use Rattle.std.specs.Prelude.{◌≡◌, ◌++◌, IfOk, flat_map};
+ghost use Rattle.cpg_sure.specs.Bounds.{bounds_of, high_of, low_of};
+
+use cpg_base::{OutOfMemory, top};
+use cpg_cube::Literal;
+
+/// Adds the low of a literal, where it isn't 0.
+fn push_low(k: u8, literal: &Literal, bounds: &mut Vec<Literal>) -> Result<(), OutOfMemory>
+    ensures { IfOk result (λ _. bounds.new.items ≡ bounds.old.items ++ low_of k literal.now) }
+{
+    if literal.low == 0 {
+        return Ok(());
+    }
+    bounds.push(Literal {
+        variable: literal.variable,
+        low: literal.low,
+        high: literal.high.max(top(k, literal.variable)),
+    })?;
+    Ok(())
+}
+
+/// Adds its high, where the variable may be above it.
+fn push_high(k: u8, literal: &Literal, bounds: &mut Vec<Literal>) -> Result<(), OutOfMemory>
+    ensures { IfOk result (λ _. bounds.new.items ≡ bounds.old.items ++ high_of k literal.now) }
+{
+    if top(k, literal.variable) <= literal.high {
+        return Ok(());
+    }
+    bounds.push(Literal {
+        variable: literal.variable,
+        low: 0,
+        high: literal.high,
+    })?;
+    Ok(())
+}
+
+/// Lists the bounds of literals in scenarios of at most `k` faults, in place of what the list held.
+pub(crate) fn list_bounds(
+    k: u8,
+    literals: &[Literal],
+    bounds: &mut Vec<Literal>,
+) -> Result<(), OutOfMemory>
+    ensures { IfOk result (λ _. bounds.new.items ≡ flat_map (bounds_of k) literals.now) }
+{
+    bounds.clear();
+    for literal in literals {
+        push_low(k, literal, bounds)?;
+        push_high(k, literal, bounds)?;
+    }
+    Ok(())
+}
