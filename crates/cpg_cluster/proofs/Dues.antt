@@ -7,7 +7,7 @@ use Rattle.std.proofs.lemmas.List.Elements.{All-cons, All-nil}
 use Rattle.std.proofs.lemmas.List.Kept.{AllPairs-cons}
 use Rattle.std.proofs.lemmas.List.Sorted.{list_any-IsPermutation, sum_by-IsPermutation, Contains-permutation, IsPermutation-append, IsPermutation-refl, IsPermutation-sym}
 use Rattle.std.proofs.lemmas.List.Sums.{length-filter}
-use Rattle.cpg_base.specs.Graph.{Graph}
+use Rattle.cpg_base.specs.Graph.{Graph, producer}
 use Rattle.cpg_base.specs.Numbers.{is_below, numbers_below}
 use Rattle.cpg_base.proofs.Below.{below_one_way, not_below_transitive}
 use Rattle.cpg_base.proofs.Lists.{Contains-first, Contains-rest, numbers-Contains}
@@ -16,7 +16,7 @@ use Rattle.cpg_base.proofs.Sorted.{inserted, sorted, permutation_sorted}
 use Rattle.cpg_order.specs.Scenario.{Scenario}
 use Rattle.cpg_node.specs.Dispatcher.{Act, Ended}
 use Rattle.cpg_cluster.specs.Cluster.{Cluster, Done, answer}
-use Rattle.cpg_cluster.specs.Correct.{IsCorrect, IsDue, FollowsDue, AreDueEnds, IsOrderly, IsStartAct, IsSendAct, all_asked, asked_of, due_key, end_key, ends_asked, gives_input}
+use Rattle.cpg_cluster.specs.Correct.{IsCorrect, IsDue, FollowsDue, AreDueEnds, IsOrderly, IsStartAct, IsSendAct, all_asked, asked_of, due_key, end_key, ends_asked, gives_end, gives_input}
 use Rattle.cpg_cluster.specs.Driving.{AllDone}
 use Rattle.cpg_cluster.specs.Playing.{Playing, IsPlaying}
 use Rattle.cpg_cluster.specs.Whole.{IsWholePlay, all_acts}
@@ -83,6 +83,7 @@ module _ (g : Graph) (s : Scenario) (xs ys : List Act) (same : IsPermutation xs 
     released = λ a m. o.released a (starts_back a m);
     inputs = λ a e m c. subst IsTrue (list_any-IsPermutation (gives_input g s e a.time) xs ys same) (o.inputs a e (starts_back a m) c);
     processors = λ a b m n. o.processors a b (starts_back a m) (starts_back b n);
+    produced = λ a m. subst IsTrue (list_any-IsPermutation (gives_end g s (producer g a.item) a.time) xs ys same) (o.produced a (sends_back a m));
     slots = λ a m. o.slots a (sends_back a m);
     unshared = λ a b m n. o.unshared a b (sends_back a m) (sends_back b n);
     in_time = λ a m. o.in_time a (starts_back a m);
