@@ -1,2 +1,3 @@
 pub mod ExtraLists
 pub mod Verdicts
+pub mod OneVerdict

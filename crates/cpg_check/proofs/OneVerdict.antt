@@ -1,0 +1,208 @@
+-- What is first is one: the differing part of a head, the violation of tables.
+use Rattle.std.proofs.Common.{ℕ, zero, suc, ◌≡◌, ◌<◌, ◌∙◌, Bool, true, false, ◌&&◌, ◌||◌, List, [], ◌∷◌, Option, Some, None, IfSome, IsPermutation, length, take, drop, refl, sym, ap, subst, inl, inr, arith}
+use Rattle.std.specs.Prelude.{slice_get, IsSomeAnd, IsTrue}
+use Rattle.std.specs.List.{list_any}
+use Rattle.std.proofs.lemmas.Bool.{both_ways, cases_lt, true≢false}
+use Rattle.cpg_base.specs.Numbers.{numbers_below}
+use Rattle.cpg_base.specs.Graph.{Graph, process_count}
+use Rattle.cpg_order.specs.Scenario.{Scenario, IsScenario, IsLeast}
+use Rattle.cpg_order.specs.Urgency.{IsTopological}
+use Rattle.cpg_order.proofs.ScenarioOrder.{one_least}
+use Rattle.cpg_cube.specs.Cube.{matches}
+use Rattle.cpg_table.specs.Head.{Head}
+use Rattle.cpg_table.specs.Lawful.{Tables}
+use Rattle.cpg_table.specs.Table.{Column, NodeTable, table_at, columns_of}
+use Rattle.cpg_table.specs.Valid.{breaks, breaks_at}
+use Rattle.cpg_table.specs.declared.fault.Fault.{Fault}
+use Rattle.cpg_table.specs.declared.rule.Rule.{Rule}
+use Rattle.cpg_violation.specs.Columns.{row_columns}
+use Rattle.cpg_violation.specs.Violation.{AllHold, Holds, IsFirstOf, IsFirstViolation, column_rules}
+use Rattle.cpg_check_rows.specs.Hears.{DifferFirstAt, IsFirstHear, IsFirstHearFault, IsHeardWell, due_columns}
+use Rattle.cpg_check.specs.Heads.{IsFirstDifference}
+use Rattle.cpg_check.specs.OneVerdict.{HaveOneVerdict}
+use Rattle.cpg_check.specs.Verdict.{IsFirstFault, ShowsVerdict}
+use Rattle.cpg_check.specs.declared.heads.HeadPart.{HeadPart}
+use Rattle.cpg_check.specs.declared.verdict.Verdict.{Verdict}
+use Rattle.cpg_check.specs.declared.verdict.Verdict.TheVariants.{Yes, Other, No}
+use Rattle.cpg_check.proofs.Verdicts.{other_head, faulty_tables}
+
+-- ---- heads
+
+one_part : (g : Graph) (h : Head) (p q : HeadPart) → IsFirstDifference g h p → IsFirstDifference g h q → p ≡ q
+one_part g h HeadPart.Faults HeadPart.Faults d e = refl
+one_part g h HeadPart.Faults HeadPart.Nodes d e = absurd (d e.faults)
+one_part g h HeadPart.Faults HeadPart.Processes d e = absurd (d e.faults)
+one_part g h HeadPart.Faults HeadPart.Edges d e = absurd (d e.faults)
+one_part g h HeadPart.Nodes HeadPart.Faults d e = absurd (e d.faults)
+one_part g h HeadPart.Nodes HeadPart.Nodes d e = refl
+one_part g h HeadPart.Nodes HeadPart.Processes d e = absurd (d.nodes e.nodes)
+one_part g h HeadPart.Nodes HeadPart.Edges d e = absurd (d.nodes e.nodes)
+one_part g h HeadPart.Processes HeadPart.Faults d e = absurd (e d.faults)
+one_part g h HeadPart.Processes HeadPart.Nodes d e = absurd (e.nodes d.nodes)
+one_part g h HeadPart.Processes HeadPart.Processes d e = refl
+one_part g h HeadPart.Processes HeadPart.Edges d e = absurd (d.processes e.processes)
+one_part g h HeadPart.Edges HeadPart.Faults d e = absurd (e d.faults)
+one_part g h HeadPart.Edges HeadPart.Nodes d e = absurd (e.nodes d.nodes)
+one_part g h HeadPart.Edges HeadPart.Processes d e = absurd (e.processes d.processes)
+one_part g h HeadPart.Edges HeadPart.Edges d e = refl
+
+-- ---- faults by their parts
+
+fault_of : ℕ → ℕ → Option ℕ → Scenario → Fault
+fault_of rule item column scenario = record { rule = rule; item = item; column = column; scenario = scenario }
+
+same_fault : (e f : Fault) → e.rule ≡ f.rule → e.item ≡ f.item → e.column ≡ f.column → e.scenario ≡ f.scenario → e ≡ f
+unfolding fault_of
+same_fault e f rule item column scenario =
+    ap (λ r. fault_of r e.item e.column e.scenario) rule ∙ ap (λ i. fault_of f.rule i e.column e.scenario) item
+    ∙ ap (λ c. fault_of f.rule f.item c e.scenario) column ∙ ap (λ s. fault_of f.rule f.item f.column s) scenario
+
+-- what none of either is less than the other is the same
+same_number : (n m : ℕ) → (n < m → ⊥) → (m < n → ⊥) → n ≡ m
+same_number n m below above = elim (cases_lt n m) [
+  | inl l ↦ absurd (below l)
+  | inr k ↦ elim (cases_lt m n) [
+    | inl l ↦ absurd (above l)
+    | inr h ↦ omega (arith, k, h)
+  ]
+]
+
+-- ---- V1 to V9
+
+module _ (g : Graph) (tables : List NodeTable) where
+  off : (b r : Bool) → r ≡ false → ((b && false) || r) ≡ false
+  off true r e = e
+  off false r e = e
+
+  -- V3 speaks of no column
+  present_never : (s : Scenario) (x : ℕ) (earlier cs : List Column) → list_any (breaks_at Rule.Present g tables s x earlier) cs ≡ false
+  present_never s x earlier [] = refl
+  present_never s x earlier (c ∷ cs) = off (matches c.cube s) (list_any (breaks_at Rule.Present g tables s x earlier) cs) (present_never s x earlier cs)
+
+  -- a rule is broken at columns alone, or at no column alone
+  none_or_some : (rule : Rule) (s t : Scenario) (x i : ℕ) → breaks rule g tables s x None ≡ true → breaks rule g tables t x (Some i) ≡ true → ⊥
+  none_or_some Rule.Present s t x i e k = both_ways (breaks Rule.Present g tables t x (Some i)) (present_never t x (take i (columns_of tables x)) (take 1 (drop i (columns_of tables x)))) k
+  none_or_some Rule.Activity s t x i e k = true≢false (sym e)
+  none_or_some Rule.Single s t x i e k = true≢false (sym e)
+  none_or_some Rule.Heard s t x i e k = true≢false (sym e)
+  none_or_some Rule.Inputs s t x i e k = true≢false (sym e)
+  none_or_some Rule.Processor s t x i e k = true≢false (sym e)
+  none_or_some Rule.Slot s t x i e k = true≢false (sym e)
+  none_or_some Rule.Frozen s t x i e k = true≢false (sym e)
+  none_or_some Rule.Due s t x i e k = true≢false (sym e)
+  none_or_some Rule.Hears s t x i e k = true≢false (sym e)
+
+  module _ (rule : Rule) (x : ℕ) where
+    abbrev Before : Option ℕ → Type 0
+    Before column = IfSome column (λ j. (i : ℕ) (s : Scenario) → i < j → IsScenario g s → breaks rule g tables s x (Some i) ≡ false)
+
+    one_column : (c d : Option ℕ) (s t : Scenario) → IsScenario g s → IsScenario g t → breaks rule g tables s x c ≡ true → breaks rule g tables t x d ≡ true → Before c → Before d → c ≡ d
+    one_column None None s t is it h k before earlier = refl
+    one_column None (Some j) s t is it h k before earlier = absurd (none_or_some rule s t x j h k)
+    one_column (Some i) None s t is it h k before earlier = absurd (none_or_some rule t s x i k h)
+    one_column (Some i) (Some j) s t is it h k before earlier = ap Some (same_number i j
+        (λ l. both_ways (breaks rule g tables s x (Some i)) (earlier i s l is) h)
+        (λ l. both_ways (breaks rule g tables t x (Some j)) (before j t l it) k))
+
+  module _ (order : List ℕ) (all : IsPermutation (numbers_below (process_count g)) order) where
+    abbrev LeastAt : Rule → ℕ → Option ℕ → Scenario → Type 0
+    LeastAt rule x column s = IsLeast g order (λ t. IsTrue (breaks rule g tables t x column)) s
+
+    one_violation : (rule : Rule) (e f : Fault) → IsFirstViolation g order tables rule e → IsFirstViolation g order tables rule f → e ≡ f
+    one_violation rule e f a b =
+        let item : e.item ≡ f.item = same_number e.item f.item
+        (λ l. both_ways (breaks rule g tables e.scenario e.item e.column) (b.items e.item e.column e.scenario l a.least.lawful) a.least.holds)
+        (λ l. both_ways (breaks rule g tables f.scenario f.item f.column) (a.items f.item f.column f.scenario l b.least.lawful) b.least.holds) in
+        let moved : LeastAt rule f.item e.column e.scenario = subst (λ x. LeastAt rule x e.column e.scenario) item a.least in
+        let column : e.column ≡ f.column = one_column rule f.item e.column f.column e.scenario f.scenario a.least.lawful b.least.lawful moved.holds b.least.holds
+        (subst (λ x. Before rule x e.column) item a.columns) b.columns in
+        let here : LeastAt rule f.item f.column e.scenario = subst (λ c. LeastAt rule f.item c e.scenario) column moved in
+        same_fault e f (a.number ∙ sym b.number) item column (one_least g order all (λ t. IsTrue (breaks rule g tables t f.item f.column)) e.scenario f.scenario here b.least)
+
+    broken : (rule : Rule) (e : Fault) → IsFirstViolation g order tables rule e → Holds g tables rule → ⊥
+    broken rule e a holds = both_ways (breaks rule g tables e.scenario e.item e.column) (holds e.item e.column e.scenario a.least.lawful a.item) a.least.holds
+
+    some_broken : (rules : List Rule) (e : Fault) → IsFirstOf g order tables rules e → AllHold g tables rules → ⊥
+    some_broken [] e h all = h
+    some_broken (rule ∷ rules) e (inl a) all = broken rule e a all.0
+    some_broken (rule ∷ rules) e (inr a) all = some_broken rules e a.1 all.1
+
+    one_of : (rules : List Rule) (e f : Fault) → IsFirstOf g order tables rules e → IsFirstOf g order tables rules f → e ≡ f
+    one_of [] e f a b = absurd a
+    one_of (rule ∷ rules) e f (inl a) (inl b) = one_violation rule e f a b
+    one_of (rule ∷ rules) e f (inl a) (inr b) = absurd (broken rule e a b.0)
+    one_of (rule ∷ rules) e f (inr a) (inl b) = absurd (broken rule f b a.0)
+    one_of (rule ∷ rules) e f (inr a) (inr b) = one_of rules e f a.1 b.1
+
+-- ---- V10
+
+-- columns that differ aren't the same
+differ : (columns : List Column) (place : ℕ) (r : Option (List Column)) → IfSome r (λ cs. cs ≡ columns) → IsSomeAnd r (λ cs. DifferFirstAt cs columns place) → ⊥
+differ columns place None e d = d
+differ columns place (Some cs) e d = d.here (ap (λ xs. slice_get xs place) e)
+
+slice_get-take : (xs : List Column) (i j : ℕ) → i < j → slice_get (take j xs) i ≡ slice_get xs i
+slice_get-take xs i zero l = absurd (omega arith)
+slice_get-take [] i (suc j) l = refl
+slice_get-take (x ∷ xs) zero (suc j) l = refl
+slice_get-take (x ∷ xs) (suc i) (suc j) l = slice_get-take xs i j (omega arith)
+
+taken : (xs ys : List Column) (i j : ℕ) → i < j → take j xs ≡ take j ys → slice_get xs i ≡ slice_get ys i
+taken xs ys i j l e = sym (slice_get-take xs i j l) ∙ ap (λ zs. slice_get zs i) e ∙ slice_get-take ys i j l
+
+one_place : (columns : List Column) (i j : ℕ) (r : Option (List Column)) → IsSomeAnd r (λ cs. DifferFirstAt cs columns i) → IsSomeAnd r (λ cs. DifferFirstAt cs columns j) → i ≡ j
+one_place columns i j None d e = absurd d
+one_place columns i j (Some cs) d e = same_number i j (λ l. d.here (taken cs columns i j l e.before)) (λ l. e.here (taken cs columns j i l d.before))
+
+module _ (g : Graph) (tables : List NodeTable) where
+  abbrev FirstAt : ℕ → Option ℕ → Type 0
+  FirstAt x o = IsSomeAnd o (IsFirstHear tables (length g.nodes) x (due_columns g tables x))
+
+  heard_badly : (x : ℕ) (o : Option ℕ) → FirstAt x o → IsHeardWell g tables x → ⊥
+  heard_badly x None h well = h
+  heard_badly x (Some place) h well = differ (due_columns g tables x) place (row_columns (table_at tables h.node).hears x) (well h.node h.within) h.differ
+
+  one_hear_place : (x : ℕ) (o p : Option ℕ) → FirstAt x o → FirstAt x p → o ≡ p
+  one_hear_place x None p h k = absurd h
+  one_hear_place x (Some i) None h k = absurd k
+  one_hear_place x (Some i) (Some j) h k =
+      let columns = due_columns g tables x in
+      let node : h.node ≡ k.node = same_number h.node k.node
+      (λ l. differ columns i (row_columns (table_at tables h.node).hears x) (k.earlier h.node l) h.differ)
+      (λ l. differ columns j (row_columns (table_at tables k.node).hears x) (h.earlier k.node l) k.differ) in
+      ap Some (one_place columns i j (row_columns (table_at tables k.node).hears x)
+      (subst (λ n. IsSomeAnd (row_columns (table_at tables n).hears x) (λ cs. DifferFirstAt cs columns i)) node h.differ) k.differ)
+
+  one_hear : (e f : Fault) → IsFirstHearFault g tables e → IsFirstHearFault g tables f → e ≡ f
+  one_hear e f a b =
+      let item : e.item ≡ f.item = same_number e.item f.item
+      (λ l. heard_badly e.item e.column a.column (b.items e.item l))
+      (λ l. heard_badly f.item f.column b.column (a.items f.item l)) in
+      same_fault e f (a.number ∙ sym b.number) item
+      (one_hear_place f.item e.column f.column (subst (λ x. FirstAt x e.column) item a.column) b.column) (a.scenario ∙ sym b.scenario)
+
+  one_fault : (order : List ℕ) (e f : Fault) → IsTopological g order → IsFirstFault g order tables e → IsFirstFault g order tables f → e ≡ f
+  one_fault order e f along (inl a) (inl b) = one_of g tables order along.all column_rules e f a b
+  one_fault order e f along (inl a) (inr b) = absurd (some_broken g tables order along.all column_rules e a b.0)
+  one_fault order e f along (inr a) (inl b) = absurd (some_broken g tables order along.all column_rules f b a.0)
+  one_fault order e f along (inr a) (inr b) = one_hear e f a.1 b.1
+
+-- ---- verdicts
+
+one_verdict : (g : Graph) (order : List ℕ) (t : Tables) (v w : Verdict) → IsTopological g order → length t.nodes ≡ length g.nodes → ShowsVerdict g order t v → ShowsVerdict g order t w → v ≡ w
+one_verdict g order t Yes Yes along count a b = refl
+one_verdict g order t Yes (Other q) along count a b = absurd (other_head g t.head q b a.0)
+one_verdict g order t Yes (No f) along count a b = absurd (faulty_tables g t.nodes order f count b.1 a.1)
+one_verdict g order t (Other p) Yes along count a b = absurd (other_head g t.head p a b.0)
+one_verdict g order t (Other p) (Other q) along count a b = ap Other (one_part g t.head p q a b)
+one_verdict g order t (Other p) (No f) along count a b = absurd (other_head g t.head p a b.0)
+one_verdict g order t (No e) Yes along count a b = absurd (faulty_tables g t.nodes order e count a.1 b.1)
+one_verdict g order t (No e) (Other q) along count a b = absurd (other_head g t.head q b a.0)
+one_verdict g order t (No e) (No f) along count a b = ap No (one_fault g t.nodes order e f along a.1 b.1)
+
+pub have_one_verdict : HaveOneVerdict
+have_one_verdict = record {
+  parts = one_part;
+  faults = λ g order tables. one_fault g tables order;
+  verdicts = one_verdict;
+}

@@ -1,0 +1,5 @@
+use Rattle.cpg_scenario.proofs.Causes.{first_causes_are_told}
+use Rattle.cpg_scenario.proofs.first_causes_are_told.Goals as goal
+
+pub returns : goal.returns
+returns c = first_causes_are_told
