@@ -163,7 +163,7 @@ rows_of : {T : Type 0} (ms : Members) (key : Key) (table : Table) (fields : List
 unfolding tables_at
 rows_of ms key table fields element_at first members e = subst (λ rows. IsFirst (bad_elements table fields rows) (rows_at table element_at members)) (default_is (top_of ms) key as_tables [] members e) (rows_first table fields element_at first members)
 
-fields_first : (ms : Members) → IsFirst (field_faults ms) (raw_graph_at ms)
+pub fields_first : (ms : Members) → IsFirst (field_faults ms) (raw_graph_at ms)
 unfolding raw_graph_at
 fields_first ms =
     bind_within _ _ _ _ _ (integer_first (top_of ms) Faults) (λ faults e1.

@@ -1,3 +1,11 @@
 pub mod Rows
 pub mod GraphFiles
 pub mod Graphs
+pub mod Refusals
+pub mod DocumentValues
+pub mod FaultLists
+pub mod FieldFaults
+pub mod LimitFaults
+pub mod NameFaults
+pub mod DocumentFaults
+pub mod Packs

@@ -1,13 +1,28 @@
-//! Laws on graph files, on graphs and on tables, each on an empty body, so that a reader can cite it.
+//! Laws on graph files, on graphs, on packs and on tables, each on an empty body, so that a reader can cite it.
 #![tactic(auto)]
 
+ghost use Rattle.cpg_laws.specs.DocumentFaults.{FilesAreRefusedByDocument};
 ghost use Rattle.cpg_laws.specs.GraphFiles.{GraphFilesShowFirstFaults};
 ghost use Rattle.cpg_laws.specs.Graphs.{CyclesAreRefusedFirst, GraphsShowFirstCauses};
+ghost use Rattle.cpg_laws.specs.Packs.{PacksAreRefusedAtOnePlace};
+ghost use Rattle.cpg_laws.specs.Refusals.{RefusalsAreFirst};
 ghost use Rattle.cpg_laws.specs.Tables.{FormedRowsHaveFewColumns, HeardLiteralsAreTrue};
 
 /// A graph file is refused by the first of its faults, and read as a graph where it has none.
 pub fn graph_files_show_first_faults()
     ensures { GraphFilesShowFirstFaults }
+{}
+
+/// A graph file is refused with a fault exactly where it has that fault, none of an earlier kind anywhere, and none of its
+/// kind at an earlier place; no two of its faults stand at one place.
+pub fn refusals_are_first()
+    ensures { RefusalsAreFirst }
+{}
+
+/// The faults of a graph file are those that its document has, each kind by what stands at the places of the document; the
+/// file is refused by the first of them, and read as a graph exactly where it has none.
+pub fn files_are_refused_by_document()
+    ensures { FilesAreRefusedByDocument }
 {}
 
 /// A graph is refused for a cycle exactly where it has one, and is shown a cycle then.
@@ -19,6 +34,11 @@ pub fn cycles_are_refused_first()
 /// node without its slot, a message that is too big.
 pub fn graphs_show_first_causes()
     ensures { GraphsShowFirstCauses }
+{}
+
+/// Bytes that are no pack are refused at one place.
+pub fn packs_are_refused_at_one_place()
+    ensures { PacksAreRefusedAtOnePlace }
 {}
 
 /// What a node has heard is true of the scenario, whatever the tables are.

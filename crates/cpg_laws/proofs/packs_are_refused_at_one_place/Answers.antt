@@ -1,0 +1,5 @@
+use Rattle.cpg_laws.proofs.Packs.{packs_are_refused_at_one_place as law}
+use Rattle.cpg_laws.proofs.packs_are_refused_at_one_place.Goals as goal
+
+pub returns : goal.returns
+returns c = law

@@ -1,0 +1,154 @@
+-- What is faulty in a graph file, kind by kind: said of the document alone, by what stands at its places.
+use Rattle.std.specs.Prelude.{ℕ, zero, suc, ◌≡◌, ◌≢◌, ◌<◌, ◌⊎◌, ◌↔◌, ℤ, Bool, true, false, List, [], ◌∷◌, Option, Some, None, is_some, unwrap_or, option_and_then, Ok, Err, Contains, length, map, filter, slice_get, if◌then◌else◌}
+use Rattle.std.specs.Str.{is_utf8}
+use Rattle.toml.specs.Data.{Data, string, integer, Members, get_member}
+use Rattle.toml.specs.Parse.{parse_document}
+use Rattle.cpg_base.specs.Graph.{Graph}
+use Rattle.cpg_base.specs.declared.limits.TheConstants.{MOST_FAULTS, MOST_NODES, MOST_PROCESSES, MOST_EDGES, MOST_CONDITIONS, MOST_PARTS, LONGEST, LARGEST}
+use Rattle.cpg_reader.specs.declared.place.Table.{Table}
+use Rattle.cpg_reader.specs.declared.place.Table.TheVariants as tables
+use Rattle.cpg_reader.specs.declared.place.Key.{Key}
+use Rattle.cpg_reader.specs.declared.place.Key.TheVariants.{Faults, Deadline, Node, Slot, Process, Edge, Name, Length, Bytes, Wcet, Parts, Alpha, Chi, Mu, Release, From, To, When, Unknown}
+use Rattle.cpg_reader.specs.declared.place.Place.{Place}
+use Rattle.cpg_reader.specs.declared.place.What.{What}
+use Rattle.cpg_reader.specs.declared.place.What.TheVariants.{Nodes, Slots, Processes, Edges, Number, Conditions}
+use Rattle.cpg_reader.specs.declared.place.ReadFault.{ReadFault}
+use Rattle.cpg_reader.specs.declared.place.ReadFault.TheVariants.{NotToml, BadField, DoubleName, UnknownName, OverLimit, OutOfMemory}
+use Rattle.cpg_reader.specs.Rows.{text_of, as_name}
+use Rattle.cpg_reader.specs.Ranges.{is_within, different}
+use Rattle.cpg_reader.specs.Document.{problem_of}
+use Rattle.cpg_laws.specs.GraphFiles.{Field, is_good_value, top_fields, node_fields, slot_fields, process_fields, edge_fields, elements, faults_of}
+use Rattle.cpg_laws.specs.Refusals.{IsFirstOf}
+
+-- the document that the bytes are, if they are one
+abbrev pub document : List ℕ → Option Members
+document bytes = if is_utf8 bytes then parse_document bytes else None
+
+-- a table of the document, if it is there
+abbrev pub table_at : Members → Table → ℕ → Option Members
+table_at ms tables.Top zero = Some ms
+table_at ms tables.Top (suc i) = None
+table_at ms tables.Node i = slice_get (elements ms Node) i
+table_at ms tables.Slot i = slice_get (elements ms Slot) i
+table_at ms tables.Process i = slice_get (elements ms Process) i
+table_at ms tables.Edge i = slice_get (elements ms Edge) i
+
+-- what stands at a key of a table of the document
+abbrev pub found_at : Members → Table → ℕ → Key → Option Data
+found_at ms table i key = option_and_then (get_member (text_of key)) (table_at ms table i)
+
+-- ---- bad fields
+
+abbrev pub fields_of : Table → List Field
+fields_of tables.Top = top_fields
+fields_of tables.Node = node_fields
+fields_of tables.Slot = slot_fields
+fields_of tables.Process = process_fields
+fields_of tables.Edge = edge_fields
+
+-- the table has this key, and its value doesn't fit, or is needed and missing
+abbrev pub HasBadValue : Members → List Field → Key → Type 0
+HasBadValue members fields key = (f : Field) × Contains fields f × (f.key ≡ key) × (is_good_value f (get_member (text_of key) members) ≡ false)
+
+-- something stands at a key that the table doesn't have
+abbrev pub HasOtherKey : Members → List Field → Type 0
+HasOtherKey members fields = (text : List ℕ) × (d : Data) × (get_member text members ≡ Some d) × ((f : Field) → Contains fields f → text_of f.key ≢ text)
+
+abbrev pub IsBadField : Members → Place → Type 0
+IsBadField ms place = (members : Members) × (table_at ms place.table place.index ≡ Some members)
+    × (HasBadValue members (fields_of place.table) place.key ⊎ ((place.key ≡ Unknown) × HasOtherKey members (fields_of place.table)))
+
+abbrev pub HasGoodFields : Members → Type 0
+HasGoodFields ms = (place : Place) → IsBadField ms place → ⊥
+
+-- ---- what is beyond its limit
+
+-- a number of a table, and the least and the greatest that it may be
+pub record Range : Type 0 where
+  pub key : Key
+  pub low : ℕ
+  pub high : ℕ
+
+abbrev pub range : Key → ℕ → ℕ → Range
+range key low high = record { key = key; low = low; high = high }
+
+abbrev pub ranges_of : Table → List Range
+ranges_of tables.Top = range Faults 0 MOST_FAULTS ∷ range Deadline 0 LONGEST ∷ []
+ranges_of tables.Node = []
+ranges_of tables.Slot = range Length 1 LONGEST ∷ range Bytes 1 LARGEST ∷ []
+ranges_of tables.Process = range Wcet 1 LONGEST ∷ range Parts 1 MOST_PARTS ∷ range Alpha 0 LONGEST ∷ range Chi 0 LONGEST ∷ range Mu 0 LONGEST ∷ range Release 0 LONGEST ∷ range Deadline 0 LONGEST ∷ []
+ranges_of tables.Edge = range Bytes 1 LARGEST ∷ []
+
+-- an integer stands there that is outside its range
+abbrev pub IsOutOfRange : Members → Place → Type 0
+IsOutOfRange ms place = (r : Range) × Contains (ranges_of place.table) r × (r.key ≡ place.key) × (z : ℤ) × (found_at ms place.table place.index place.key ≡ Some (integer z)) × (is_within r.low r.high z ≡ false)
+
+-- the edges that have a `when`, and what they say at `from`
+abbrev pub conditional_edges : Members → List Members
+conditional_edges ms = filter (λ e. is_some (get_member (text_of When) e)) (elements ms Edge)
+
+abbrev pub source_of : Members → List ℕ
+source_of e = unwrap_or (option_and_then as_name (get_member (text_of From) e)) []
+
+abbrev pub IsOverLimit : Members → What → Type 0
+IsOverLimit ms Nodes = MOST_NODES < length (elements ms Node)
+IsOverLimit ms Slots = MOST_NODES < length (elements ms Slot)
+IsOverLimit ms Processes = MOST_PROCESSES < length (elements ms Process)
+IsOverLimit ms Edges = MOST_EDGES < length (elements ms Edge)
+IsOverLimit ms (Number place) = IsOutOfRange ms place
+IsOverLimit ms Conditions = MOST_CONDITIONS < length (different [] (map source_of (conditional_edges ms)))
+
+-- ---- names
+
+-- the names that are different in their kind
+abbrev pub is_own_name : Table → Key → Bool
+is_own_name tables.Node Name = true
+is_own_name tables.Slot Node = true
+is_own_name tables.Process Name = true
+is_own_name table key = false
+
+-- the name stands earlier in its kind
+abbrev pub IsDouble : Members → Place → Type 0
+IsDouble ms place = (is_own_name place.table place.key ≡ true) × (name : List ℕ) × (found_at ms place.table place.index place.key ≡ Some (string name)) × (j : ℕ) × (j < place.index) × (found_at ms place.table j place.key ≡ Some (string name))
+
+-- the table that has what a name names
+abbrev pub named_in : Table → Key → Option Table
+named_in tables.Slot Node = Some tables.Node
+named_in tables.Process Node = Some tables.Node
+named_in tables.Edge From = Some tables.Process
+named_in tables.Edge To = Some tables.Process
+named_in table key = None
+
+-- none there has the name
+abbrev pub IsUnknown : Members → Place → Type 0
+IsUnknown ms place = (others : Table) × (named_in place.table place.key ≡ Some others) × (name : List ℕ) × (found_at ms place.table place.index place.key ≡ Some (string name)) × ((j : ℕ) → found_at ms others j Name ≢ Some (string name))
+
+-- ---- all
+
+-- limits and names are asked of a document whose fields are good
+abbrev pub IsFaultOf : Members → ReadFault → Type 0
+IsFaultOf ms NotToml = ⊥
+IsFaultOf ms (BadField place) = IsBadField ms place
+IsFaultOf ms (OverLimit what) = HasGoodFields ms × IsOverLimit ms what
+IsFaultOf ms (DoubleName place) = HasGoodFields ms × IsDouble ms place
+IsFaultOf ms (UnknownName place) = HasGoodFields ms × IsUnknown ms place
+IsFaultOf ms OutOfMemory = ⊥
+
+-- and fields of bytes that are a document
+abbrev pub IsFaultIn : Option Members → ReadFault → Type 0
+IsFaultIn None fault = fault ≡ NotToml
+IsFaultIn (Some ms) fault = IsFaultOf ms fault
+
+abbrev pub IsFaulty : List ℕ → ReadFault → Type 0
+IsFaulty bytes fault = IsFaultIn (document bytes) fault
+
+-- The faults of a graph file are those of its document. It is refused with a fault exactly where that is the first of them, of which
+-- there is one at most, and read as a graph exactly where nothing is faulty.
+pub record IsRefusedByDocument (bytes : List ℕ) : Type 0 where
+  pub faults : (fault : ReadFault) → Contains (faults_of bytes) fault ↔ IsFaulty bytes fault
+  pub first : (fault : ReadFault) → (problem_of bytes ≡ Err fault) ↔ IsFirstOf (IsFaulty bytes) fault
+  pub one : (fault other : ReadFault) → IsFirstOf (IsFaulty bytes) fault → IsFirstOf (IsFaulty bytes) other → fault ≡ other
+  pub read : ((g : Graph) × (problem_of bytes ≡ Ok g)) ↔ ((fault : ReadFault) → IsFaulty bytes fault → ⊥)
+
+abbrev pub FilesAreRefusedByDocument : Type 0
+FilesAreRefusedByDocument = (bytes : List ℕ) → IsRefusedByDocument bytes
