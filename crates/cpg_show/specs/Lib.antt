@@ -1,5 +1,6 @@
 pub mod Labels
 pub mod CubeText
+pub mod Phrases
 pub mod ItemText
 pub mod TableText
 pub mod NodeText

@@ -30,7 +30,12 @@ pub(crate) fn write_value(out: &mut String, number: u8) -> Result<(), AllocError
     }
 }
 
-fn write_literal(out: &mut String, labels: &Labels<'_>, literal: Literal) -> Result<(), AllocError>
+/// A literal.
+pub(crate) fn write_literal(
+    out: &mut String,
+    labels: &Labels<'_>,
+    literal: Literal,
+) -> Result<(), AllocError>
     ensures { OnOk result (string_bytes out.new ≡ string_bytes out.old ++ literal_text labels.now literal) }
 {
     match Variable::of(literal.variable) {
@@ -47,13 +52,37 @@ fn write_literal(out: &mut String, labels: &Labels<'_>, literal: Literal) -> Res
     }
 }
 
-/// The literals after the first one.
+/// A literal behind another one.
+pub(crate) fn write_later(
+    out: &mut String,
+    labels: &Labels<'_>,
+    literal: Literal,
+) -> Result<(), AllocError>
+    ensures { OnOk result (string_bytes out.new ≡ string_bytes out.old ++ codes ", " ++ literal_text labels.now literal) }
+{
+    out.push_str(", ")?;
+    write_literal(out, labels, literal)
+}
+
+/// The first literal, by its text where that is at hand.
+fn write_first(out: &mut String, labels: &Labels<'_>, literal: Literal) -> Result<(), AllocError>
+    ensures { OnOk result (string_bytes out.new ≡ string_bytes out.old ++ literal_text labels.now literal) }
+{
+    match labels.phrase(literal) {
+        Some(phrase) => out.push_str(phrase.first.as_str()),
+        None => write_literal(out, labels, literal),
+    }
+}
+
+/// The literals after the first one, by their texts where those are at hand.
 fn write_rest(out: &mut String, labels: &Labels<'_>, literals: &[Literal]) -> Result<(), AllocError>
     ensures { OnOk result (string_bytes out.new ≡ string_bytes out.old ++ flat_map (λ l. codes ", " ++ literal_text labels.now l) literals.now) }
 {
     for literal in literals {
-        out.push_str(", ")?;
-        write_literal(out, labels, *literal)?;
+        match labels.phrase(*literal) {
+            Some(phrase) => out.push_str(phrase.later.as_str())?,
+            None => write_later(out, labels, *literal)?,
+        }
     }
     Ok(())
 }
@@ -64,7 +93,7 @@ fn write_cube(out: &mut String, labels: &Labels<'_>, cube: &Cube) -> Result<(), 
     let Some((first, rest)) = cube.literals().split_first() else {
         return out.push_str("always");
     };
-    write_literal(out, labels, *first)?;
+    write_first(out, labels, *first)?;
     write_rest(out, labels, rest)
 }
 

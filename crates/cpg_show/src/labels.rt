@@ -1,29 +1,38 @@
 //! What texts call processes, conditions and edges.
-ghost use Rattle.std.specs.Prelude.{◌≡◌, IfOk, filter, map};
+ghost use Rattle.std.specs.Prelude.{◌≡◌, IfOk, IfSome, filter, map};
 ghost use Rattle.cpg_base.specs.Graph.{disjunctions, process_at};
 ghost use Rattle.cpg_show.specs.ItemText.{item_of};
 ghost use Rattle.cpg_show.specs.Labels.{condition_name, edge_ends, head_labels, labels_of, process_name};
+ghost use Rattle.cpg_show.specs.Phrases.{IsPhraseOf};
 
+use crate::phrases::{Counts, Phrase, longest_of, phrases_of};
 use cpg_base::{Edge, Item, OutOfMemory, Problem, Process};
+use cpg_cube::Literal;
 use cpg_table::{Head, HeadProcess};
 use std::alloc::Global;
 use std::marker::Model;
 
-/// The names of the processes, the name of the process of each condition, and the ends of the edges, by number.
+/// The names of the processes, the name of the process of each condition, and the ends of the edges, by number. Where
+/// many lines are written with them, the texts of literals are at hand too.
 #[derive(Drop)]
 pub(crate) struct Labels<'a> {
     processes: Vec<&'a str>,
     conditions: Vec<&'a str>,
     edges: Vec<(u32, u32)>,
+    phrases: Vec<Phrase>,
+    counts: Counts,
 }
 
 impl<'a> Model for Labels<'a> {
-    ghost use Rattle.std.specs.Prelude.{map};
+    ghost use Rattle.std.specs.Prelude.{All, map};
     ghost use Rattle.cpg_show.specs.Labels.{Labels};
+    ghost use Rattle.cpg_show.specs.Phrases.{IsPhrase};
 
     ghost Value = { Labels };
 
     ghost view = { λ l. record { processes = map (λ n. n.now) l.processes.items; conditions = map (λ n. n.now) l.conditions.items; edges = l.edges.items } };
+
+    ghost invariant = { λ l. All (IsPhrase (record { processes = map (λ n. n.now) l.processes.items; conditions = map (λ n. n.now) l.conditions.items; edges = l.edges.items })) l.phrases.items };
 }
 
 fn process_names<'a>(alloc: Global, processes: &'a [Process]) -> Result<Vec<&'a str>, OutOfMemory>
@@ -99,13 +108,15 @@ fn head_edges(alloc: Global, edges: &[(u32, u32)]) -> Result<Vec<(u32, u32)>, Ou
 
 impl<'a> Labels<'a> {
     /// What the head of a pack calls the parts of its graph.
-    pub fn of_head(alloc: Global, head: &'a Head) -> Result<Labels<'a>, OutOfMemory>
+    fn of_head(alloc: Global, head: &'a Head) -> Result<Labels<'a>, OutOfMemory>
         ensures { IfOk result (λ labels. labels ≡ head_labels head.entry.now) }
     {
         Ok(Labels {
             processes: head_process_names(alloc, head.processes())?,
             conditions: head_condition_names(alloc, head.processes())?,
             edges: head_edges(alloc, head.edges())?,
+            phrases: Vec::new(alloc),
+            counts: Counts::default(),
         })
     }
 
@@ -117,7 +128,61 @@ impl<'a> Labels<'a> {
             processes: process_names(alloc, problem.processes())?,
             conditions: condition_names(alloc, problem)?,
             edges: edge_ends(alloc, problem.edges())?,
+            phrases: Vec::new(alloc),
+            counts: Counts::default(),
         })
+    }
+
+    /// How many processes and conditions there are.
+    fn counts(&self) -> Counts {
+        Counts {
+            processes: self.processes.len().min(128) as u8,
+            conditions: self.conditions.len().min(127) as u8,
+        }
+    }
+
+    /// The same labels, with the texts of literals of at most so many faults at hand.
+    fn with_phrases(mut self, alloc: Global, faults: u8) -> Result<Labels<'a>, OutOfMemory>
+        ensures { IfOk result (λ labels. labels ≡ self.entry) }
+    {
+        let counts = self.counts();
+        let phrases = phrases_of(alloc, &self, counts, faults.max(1))?;
+        self.phrases = phrases;
+        self.counts = counts;
+        Ok(self)
+    }
+
+    /// What a graph calls its parts, with the texts of its literals at hand.
+    pub fn ready(alloc: Global, problem: &'a Problem) -> Result<Labels<'a>, OutOfMemory>
+        ensures { IfOk result (λ labels. labels ≡ labels_of problem.entry.now) }
+    {
+        let names = Labels::of(alloc, problem)?;
+        let labels = names.with_phrases(alloc, problem.faults())?;
+        Ok(labels)
+    }
+
+    /// The same of a head.
+    pub fn ready_of_head(alloc: Global, head: &'a Head) -> Result<Labels<'a>, OutOfMemory>
+        ensures { IfOk result (λ labels. labels ≡ head_labels head.entry.now) }
+    {
+        let names = Labels::of_head(alloc, head)?;
+        let labels = names.with_phrases(alloc, head.faults())?;
+        Ok(labels)
+    }
+
+    /// The text of a literal, where it is at hand.
+    pub fn phrase(&self, literal: Literal) -> Option<&Phrase>
+        ensures { IfSome result (λ p. IsPhraseOf self.now literal p.now) }
+    {
+        match self.phrases.get(self.counts.place_of(literal)) {
+            Some(phrase) if phrase.literal == literal => Some(phrase),
+            _ => None,
+        }
+    }
+
+    /// How many bytes the longest text that is at hand has.
+    pub fn longest(&self) -> usize {
+        longest_of(self.phrases.as_slice())
     }
 
     /// What a process is called, and nothing where there is no such process.

@@ -8,6 +8,8 @@ mod found;
 mod items;
 mod labels;
 mod node;
+mod phrases;
+mod room;
 mod table;
 mod trace;
 

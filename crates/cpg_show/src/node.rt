@@ -64,7 +64,7 @@ pub fn node_text(alloc: Global, tables: &Tables, node: u32) -> Result<String, Ou
     requires { node < length tables.now.head.nodes }
     ensures { IfOk result (λ text. string_bytes text ≡ node_text tables.now node) }
 {
-    let labels = Labels::of_head(alloc, tables.head())?;
+    let labels = Labels::ready_of_head(alloc, tables.head())?;
     let mut out = String::new(alloc);
     write_name(&mut out, tables.head(), node)?;
     write_rows(&mut out, &labels, tables.node(node))?;

@@ -1,5 +1,5 @@
 //! The text of tables.
-ghost use Rattle.std.specs.Prelude.{◌≡◌, ◌<◌, ◌++◌, IfOk, OnOk, codes, flat_map, string_bytes};
+ghost use Rattle.std.specs.Prelude.{◌≡◌, ◌<◌, ◌++◌, [], IfOk, OnOk, codes, flat_map, string_bytes};
 ghost use Rattle.cpg_base.specs.Graph.{item_count};
 ghost use Rattle.cpg_base.specs.Numbers.{numbers_below};
 ghost use Rattle.cpg_table.specs.Table.{columns_of};
@@ -11,6 +11,7 @@ use crate::columns::write_columns;
 use crate::found::find_columns;
 use crate::items::{is_shown, write_act};
 use crate::labels::Labels;
+use crate::room::room_of;
 use cpg_base::{OutOfMemory, Problem};
 use cpg_order::Order;
 use cpg_rules::Admitted;
@@ -100,6 +101,16 @@ fn write_items(
     Ok(())
 }
 
+/// An empty text with room for the lines of all columns. Where there is no memory for that, it has to grow as it is
+/// written.
+fn roomy(alloc: Global, labels: &Labels<'_>, tables: &Tables) -> String
+    ensures { string_bytes result ≡ [] }
+{
+    let mut out = String::new(alloc);
+    let _reserved = out.reserve(room_of(tables, labels.longest()));
+    out
+}
+
 /// The order, the greatest finish in time units, and the rows of what is started and sent, by number of the item. Of
 /// tables that weren't made for the graph it shows the rows of its items, and leaves out names that it doesn't have. The
 /// one error is want of memory.
@@ -112,8 +123,8 @@ pub fn table_text(
     ensures { IfOk result (λ text. string_bytes text ≡ table_text admitted.now.graph order.now built.now.tables.nodes built.now.worst) }
 {
     let problem = admitted.problem();
-    let labels = Labels::of(alloc, problem)?;
-    let mut out = String::new(alloc);
+    let labels = Labels::ready(alloc, problem)?;
+    let mut out = roomy(alloc, &labels, &built.tables);
     write_order(&mut out, &labels, order.processes())?;
     let worst = built.worst;
     write!(out, "worst {worst}\n")?;
