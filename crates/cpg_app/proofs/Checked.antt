@@ -26,7 +26,7 @@ use Rattle.cpg_app.specs.declared.halt.Halt.{Halt}
 use Rattle.cpg_app.specs.Halts.{halt_of_pack, halt_of_log, halt_of_scenario}
 use Rattle.cpg_app.specs.Lines.{status_of}
 use Rattle.cpg_app.specs.declared.reading.TheConstants.{PACK_LIMIT, LOG_LIMIT, SCENARIO_LIMIT}
-use Rattle.cpg_app.specs.Causes.{Seen, Admits, Spells, StopsPack, StopsGraph, StopsNaming, StopsTables, StopsVerdict, StopsAudit, StopsPlay, ShowsLogFault, ShowsPackFault, first_named}
+use Rattle.cpg_app.specs.Causes.{Seen, IsAfterReading, Admits, Spells, StopsPack, StopsGraph, StopsNaming, StopsTables, StopsVerdict, StopsAudit, StopsPlay, ShowsLogFault, ShowsPackFault, first_named}
 use Rattle.cpg_app.specs.Outputs.{AreJudgedSafe, IsChecked, IsNodeOf, IsAuditOf, IsPlayOf}
 use Rattle.cpg_app.specs.Lawful.{AreAdmitted}
 use Rattle.cpg_app.proofs.Excluded.{reading_left, rules_left, same_admission}
@@ -71,9 +71,9 @@ module _ (seen : Seen) (t : Tables) (pack : Text) (still : Rose seen.before seen
       bad PackFault.OutOfMemory e shows = ap status_of e
 
   -- no node has the name, or memory is wanting
-  pub node_left : (name : Text) (h : Halt) → StopsTables seen (seen.stands pack) (λ u. StopsNaming u name) h → (status_of h ≡ 8) ⊎ ((status_of h ≡ 4) × (first_named t.head name ≡ None))
+  pub node_left : (name : Text) (h : Halt) → StopsTables seen (seen.stands pack) (IsAfterReading seen.given PACK_LIMIT (λ u. StopsNaming u name)) h → (status_of h ≡ 8) ⊎ ((status_of h ≡ 4) × (first_named t.head name ≡ None))
   node_left name h (inl none) = inl (pack_left h none)
-  node_left name h (inr worked) = elim worked.2 [
+  node_left name h (inr worked) = elim worked.2.stops [
     | inl unknown ↦ inr (ap status_of unknown.0, subst (λ (u : Tables). first_named u.head name ≡ None) (same_tables (seen.stands pack) t worked.0 spelled lawful worked.1) unknown.1)
     | inr memory ↦ inl (ap status_of memory)
   ]
@@ -124,14 +124,14 @@ module _ (seen : Seen) (a : Admission) (t : Tables) (graph pack bytes : Text) (t
   worked_left : (work : Admission → Tables → Halt → Type 0) → ((b : Admission) → Admits (seen.stands graph) b → (u : Tables) → Spells (seen.stands pack) u → (h : Halt) → work b u h → CheckLeft a t h) →
       (h : Halt) → StopsGraph seen (seen.stands graph) (λ b. StopsTables seen (seen.stands pack) (work b)) h → CheckLeft a t h
   worked_left work then h (inl (inl read)) = inl (reading_left seen (seen.stands graph) bytes a tells file still h read)
-  worked_left work then h (inl (inr breaks)) = inl (rules_left seen (seen.stands graph) bytes a tells file still h breaks.0 breaks.1 breaks.2)
+  worked_left work then h (inl (inr breaks)) = inl (rules_left seen (seen.stands graph) bytes a tells file still h breaks.0 breaks.1 breaks.2.stops)
   worked_left work then h (inr worked) = elim worked.2 [
     | inl none ↦ inl (pack_left seen t pack still spelled lawful h none)
     | inr judged ↦ then worked.0 worked.1 judged.0 judged.1 h judged.2
   ]
 
-  pub check_left : (h : Halt) → StopsGraph seen (seen.stands graph) (λ b. StopsTables seen (seen.stands pack) (StopsVerdict b)) h → CheckLeft a t h
-  check_left = worked_left StopsVerdict verdict_left
+  pub check_left : (h : Halt) → StopsGraph seen (seen.stands graph) (λ b. StopsTables seen (seen.stands pack) (IsAfterReading seen.given PACK_LIMIT (StopsVerdict b))) h → CheckLeft a t h
+  check_left = worked_left (λ b. IsAfterReading seen.given PACK_LIMIT (StopsVerdict b)) (λ b admits u spells h w. verdict_left b admits u spells h w.stops)
 
   -- a scenario of the graph stops nothing
   module _ (told : Option Text) (note : Text) (tells_note : told ≡ Some note) (short : length note ≤ SCENARIO_LIMIT) (played : Played) (says : file_of a.graph note ≡ Ok played) where
@@ -145,7 +145,7 @@ module _ (seen : Seen) (a : Admission) (t : Tables) (graph pack bytes : Text) (t
     played_left b admits u spells h (inl (inl unread)) = absurd (still unread.rose)
     played_left b admits u spells h (inl (inr (inl long))) = absurd (let l : SCENARIO_LIMIT < length note = subst (λ o. IfSome o (λ n. SCENARIO_LIMIT < length n)) tells_note long.long in omega (arith, short))
     played_left b admits u spells h (inl (inr (inr none))) = inl (scenario_left b admits h none.fault none.halt_is (λ other. (none.first other).1))
-    played_left b admits u spells h (inr judged) = verdict_left b admits u spells h judged.2
+    played_left b admits u spells h (inr judged) = verdict_left b admits u spells h judged.2.stops
 
     pub play_left : (h : Halt) → StopsGraph seen (seen.stands graph) (λ b. StopsTables seen (seen.stands pack) (StopsPlay seen told b)) h → CheckLeft a t h
     play_left = worked_left (StopsPlay seen told) played_left
@@ -161,7 +161,7 @@ module _ (seen : Seen) (a : Admission) (t : Tables) (graph pack bytes : Text) (t
     audited_left b admits u spells h (inl (inl unread)) = absurd (still unread.rose)
     audited_left b admits u spells h (inl (inr (inl long))) = absurd (let l : LOG_LIMIT < length note = subst (λ o. IfSome o (λ n. LOG_LIMIT < length n)) tells_note long.long in omega (arith, short))
     audited_left b admits u spells h (inl (inr (inr none))) = inl (log_left b admits h none.fault none.halt_is none.shows)
-    audited_left b admits u spells h (inr judged) = verdict_left b admits u spells h judged.2
+    audited_left b admits u spells h (inr judged) = verdict_left b admits u spells h judged.2.stops
 
     pub audit_left : (h : Halt) → StopsGraph seen (seen.stands graph) (λ b. StopsTables seen (seen.stands pack) (StopsAudit seen told b)) h → CheckLeft a t h
     audit_left = worked_left (StopsAudit seen told) audited_left

@@ -1,5 +1,5 @@
 -- Of an admitted graph, a run stops only as it must.
-use Rattle.std.proofs.Common.{ℕ, ◌≡◌, ◌≢◌, ◌<◌, ◌∙◌, Bool, true, false, List, Option, Some, length, refl, sym, ap, subst, arith, inl, inr}
+use Rattle.std.proofs.Common.{ℕ, ◌≡◌, ◌≢◌, ◌<◌, ◌≤◌, ◌∙◌, Bool, true, false, List, Option, Some, length, refl, sym, ap, subst, arith, inl, inr}
 use Rattle.std.specs.Prelude.{◌⊎◌, Result, Ok, Err, IfSome}
 use Rattle.std.proofs.lemmas.Bool.{both_ways}
 use Rattle.cpg_base.specs.Graph.{Graph}
@@ -22,7 +22,7 @@ use Rattle.cpg_app.specs.declared.halt.Halt.{Halt}
 use Rattle.cpg_app.specs.Halts.{halt_of_reading, halt_of_rules, halt_of_compile}
 use Rattle.cpg_app.specs.Lines.{status_of}
 use Rattle.cpg_app.specs.declared.reading.TheConstants.{GRAPH_LIMIT}
-use Rattle.cpg_app.specs.Causes.{Seen, Says, Admits, StopsReading, BreaksRule, StopsGraph, IsUncompiled, IsOutOfMemory}
+use Rattle.cpg_app.specs.Causes.{Seen, IsAfterReading, Says, Admits, StopsReading, BreaksRule, StopsGraph, IsUncompiled, IsOutOfMemory}
 use Rattle.cpg_app.specs.Outputs.{IsMade}
 use Rattle.cpg_app.specs.Lawful.{AreAdmitted}
 
@@ -42,7 +42,7 @@ not_faulty bytes g fault a b = both_ways _ refl (ap is_err (sym a ∙ b) ∙ ref
     is_err (Ok x) = false
     is_err (Err e) = true
 
-says_of : (told : Option Text) (bytes : Text) (g : Graph) → told ≡ Some bytes → Says told g → problem_of bytes ≡ Ok g
+pub says_of : (told : Option Text) (bytes : Text) (g : Graph) → told ≡ Some bytes → Says told g → problem_of bytes ≡ Ok g
 says_of told bytes g e says = (subst (λ t. Says t g) e says).1
 
 -- ---- one order of one graph
@@ -56,7 +56,8 @@ module _ (a b : Admission) (x : IsAdmitted a.graph a.order a.guards) (y : IsAdmi
 
 -- ---- the halts that are left
 
-module _ (seen : Seen) (told : Option Text) (bytes : Text) (a : Admission) (tells : told ≡ Some bytes) (file : AreAdmitted bytes a) (still : Rose seen.before seen.now → ⊥) where
+-- of the bytes of a graph
+module _ (seen : Seen) (told : Option Text) (bytes : Text) (g : Graph) (tells : told ≡ Some bytes) (short : length bytes ≤ GRAPH_LIMIT) (is : problem_of bytes ≡ Ok g) (still : Rose seen.before seen.now → ⊥) where
   faulty_left : (h : Halt) (fault : ReadFault) → h ≡ halt_of_reading fault → (fault ≢ ReadFault.OutOfMemory → ⊥) → status_of h ≡ 8
   faulty_left h fault e never = ap status_of e ∙ go fault never
     where
@@ -75,14 +76,18 @@ module _ (seen : Seen) (told : Option Text) (bytes : Text) (a : Admission) (tell
       go (ReadFault.OverLimit what) k = absurd (k (apart (ReadFault.OverLimit what) refl))
       go ReadFault.OutOfMemory k = refl
 
-  pub reading_left : (h : Halt) → StopsReading seen told h → status_of h ≡ 8
-  reading_left h (inl unread) = absurd (still unread.rose)
-  reading_left h (inr (inl long)) = absurd (
+  pub file_left : (h : Halt) → StopsReading seen told h → status_of h ≡ 8
+  file_left h (inl unread) = absurd (still unread.rose)
+  file_left h (inr (inl long)) = absurd (
       let l : GRAPH_LIMIT < length bytes = subst (λ t. IfSome t (λ b. GRAPH_LIMIT < length b)) tells long.long in
-      let s = file.short in
-      omega arith)
-  reading_left h (inr (inr faulty)) = faulty_left h faulty.fault faulty.halt_is
-      (λ other. not_faulty bytes a.graph faulty.fault file.says (subst (λ t. IfSome t (λ b. problem_of b ≡ Err faulty.fault)) tells (faulty.first other).1))
+      omega (arith, l, short))
+  file_left h (inr (inr faulty)) = faulty_left h faulty.fault faulty.halt_is
+      (λ other. not_faulty bytes g faulty.fault is (subst (λ t. IfSome t (λ b. problem_of b ≡ Err faulty.fault)) tells (faulty.first other).1))
+
+-- of an admitted one
+module _ (seen : Seen) (told : Option Text) (bytes : Text) (a : Admission) (tells : told ≡ Some bytes) (file : AreAdmitted bytes a) (still : Rose seen.before seen.now → ⊥) where
+  pub reading_left : (h : Halt) → StopsReading seen told h → status_of h ≡ 8
+  reading_left = file_left seen told bytes a.graph tells file.short file.says still
 
   pub rules_left : (h : Halt) (g : Graph) → Says told g → BreaksRule g h → status_of h ≡ 8
   rules_left h g says breaks =
@@ -103,16 +108,16 @@ module _ (seen : Seen) (told : Option Text) (bytes : Text) (a : Admission) (tell
       inr (inl (ap status_of e, moved a b file.admitted admits.admitted same IsLate shows.0))
   compile_left b admits h CompileFault.OutOfMemory e shows = inl (ap status_of e)
 
-  pub graph_left : (h : Halt) → StopsGraph seen told IsUncompiled h → Left h
+  pub graph_left : (h : Halt) → StopsGraph seen told (IsAfterReading seen.given GRAPH_LIMIT IsUncompiled) h → Left h
   graph_left h (inl (inl read)) = inl (reading_left h read)
-  graph_left h (inl (inr breaks)) = inl (rules_left h breaks.0 breaks.1 breaks.2)
-  graph_left h (inr worked) = let wrong = worked.2 in compile_left worked.0 worked.1 h wrong.fault wrong.halt_is wrong.shows
+  graph_left h (inl (inr breaks)) = inl (rules_left h breaks.0 breaks.1 breaks.2.stops)
+  graph_left h (inr worked) = let wrong = worked.2.stops in compile_left worked.0 worked.1 h wrong.fault wrong.halt_is wrong.shows
 
   -- want of memory alone, where nothing else is left
-  pub tune_left : (h : Halt) → StopsGraph seen told IsOutOfMemory h → status_of h ≡ 8
+  pub tune_left : (h : Halt) → StopsGraph seen told (IsAfterReading seen.given GRAPH_LIMIT IsOutOfMemory) h → status_of h ≡ 8
   tune_left h (inl (inl read)) = reading_left h read
-  tune_left h (inl (inr breaks)) = rules_left h breaks.0 breaks.1 breaks.2
-  tune_left h (inr worked) = ap status_of worked.2
+  tune_left h (inl (inr breaks)) = rules_left h breaks.0 breaks.1 breaks.2.stops
+  tune_left h (inr worked) = ap status_of worked.2.stops
 
   -- an admission that is had is the graph's
   pub same_admission : (b : Admission) → Admits told b → (P : Graph → List ℕ → Type 0) → P b.graph b.order → P a.graph a.order

@@ -13,3 +13,4 @@ pub mod TunedLines
 pub mod Streamed
 pub mod Streaming
 pub mod Wordless
+pub mod Unrolling

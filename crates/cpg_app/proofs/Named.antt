@@ -27,7 +27,8 @@ use Rattle.cpg_app.specs.declared.halt.Halt.{Halt}
 use Rattle.cpg_app.specs.declared.halt.Halt.TheVariants.{Words, Read, Unsafe, Memory}
 use Rattle.cpg_app.specs.Halts.{halt_of_reading, halt_of_pack, halt_of_rules, halt_of_scenario, halt_of_log, halt_of_compile, halt_of_parts}
 use Rattle.cpg_app.specs.Lines.{HasLengths, IsNamed}
-use Rattle.cpg_app.specs.Causes.{Seen, StopsReading, BreaksRule, StopsGraph, IsUncompiled, IsOutOfMemory, StopsTables, StopsNaming, StopsVerdict, StopsPlay, StopsParts, StopsCommand, StopsAsked, Stops, StopsAudit}
+use Rattle.cpg_app.specs.declared.reading.TheConstants.{GRAPH_LIMIT, PACK_LIMIT}
+use Rattle.cpg_app.specs.Causes.{Seen, IsAfterReading, StopsReading, BreaksRule, StopsGraph, IsUncompiled, IsOutOfMemory, StopsTables, StopsNaming, StopsVerdict, StopsPlay, StopsParts, StopsCommand, StopsAsked, Stops, StopsAudit}
 
 lengths_of : (g : Graph) (s : Scenario) → IsScenario g s → HasLengths g s
 lengths_of g s is = record { values = is.values; faults = is.faults }
@@ -63,7 +64,7 @@ reading_named seen told h (inr (inr faulty)) = named_as h _ faulty.halt_is (of_r
 
 graph_named : (seen : Seen) (told : Option Text) (work : Admission → Halt → Type 0) → ((a : Admission) (h : Halt) → work a h → IsNamed h) → (h : Halt) → StopsGraph seen told work h → IsNamed h
 graph_named seen told work works h (inl (inl read)) = reading_named seen told h read
-graph_named seen told work works h (inl (inr breaks)) = let b : BreaksRule breaks.0 h = breaks.2 in named_as h _ b.halt_is (of_rules breaks.0 b.fault b.shows)
+graph_named seen told work works h (inl (inr breaks)) = let b : BreaksRule breaks.0 h = breaks.2.stops in named_as h _ b.halt_is (of_rules breaks.0 b.fault b.shows)
 graph_named seen told work works h (inr worked) = works worked.0 h worked.2
 
 compile_named : (a : Admission) (h : Halt) → IsUncompiled a h → IsNamed h
@@ -103,7 +104,7 @@ play_named : (seen : Seen) (told : Option Text) (a : Admission) (t : Tables) (h 
 play_named seen told a t h (inl (inl unread)) = named_as h Read unread.halt_is tt
 play_named seen told a t h (inl (inr (inl long))) = named_as h _ long.halt_is tt
 play_named seen told a t h (inl (inr (inr none))) = named_as h _ none.halt_is (of_scenario none.fault)
-play_named seen told a t h (inr judged) = verdict_named a t h judged.2
+play_named seen told a t h (inr judged) = verdict_named a t h judged.2.stops
 
 of_log : (fault : LogFault) → IsNamed (halt_of_log fault)
 of_log (LogFault.Bad line) = tt
@@ -113,7 +114,7 @@ audit_named : (seen : Seen) (told : Option Text) (a : Admission) (t : Tables) (h
 audit_named seen told a t h (inl (inl unread)) = named_as h Read unread.halt_is tt
 audit_named seen told a t h (inl (inr (inl long))) = named_as h _ long.halt_is tt
 audit_named seen told a t h (inl (inr (inr none))) = named_as h _ none.halt_is (of_log none.fault)
-audit_named seen told a t h (inr judged) = verdict_named a t h judged.2
+audit_named seen told a t h (inr judged) = verdict_named a t h judged.2.stops
 
 of_parts : (fault : HyperFault) → IsNamed (halt_of_parts fault)
 of_parts (HyperFault.Range p) = tt
@@ -127,18 +128,18 @@ of_parts HyperFault.OutOfMemory = tt
 parts_named : (seen : Seen) (pairs : List Pair) (h : Halt) → StopsParts seen pairs h → IsNamed h
 parts_named seen pairs h (inl (inl unsaid)) = reading_named seen _ h (unsaid.stops (record { period = 0; graph = [] }))
 parts_named seen pairs h (inl (inr memory)) = named_as h Memory memory tt
-parts_named seen pairs h (inr refused) = named_as h _ refused.2.halt_is (of_parts refused.2.fault)
+parts_named seen pairs h (inr refused) = named_as h _ refused.2.stops.halt_is (of_parts refused.2.stops.fault)
 
 pub command_named : (seen : Seen) (c : Command) (h : Halt) → StopsCommand seen c h → IsNamed h
-command_named seen (Show graph) h so = graph_named seen (seen.stands graph) IsUncompiled compile_named h so
-command_named seen (Compile graph) h so = graph_named seen (seen.stands graph) IsUncompiled compile_named h so
-command_named seen (Check graph pack) h so = graph_named seen (seen.stands graph) (λ a. StopsTables seen (seen.stands pack) (StopsVerdict a)) (λ a. tables_named seen (seen.stands pack) (StopsVerdict a) (verdict_named a)) h so
+command_named seen (Show graph) h so = graph_named seen (seen.stands graph) (IsAfterReading seen.given GRAPH_LIMIT IsUncompiled) (λ a k w. compile_named a k w.stops) h so
+command_named seen (Compile graph) h so = graph_named seen (seen.stands graph) (IsAfterReading seen.given GRAPH_LIMIT IsUncompiled) (λ a k w. compile_named a k w.stops) h so
+command_named seen (Check graph pack) h so = graph_named seen (seen.stands graph) (λ a. StopsTables seen (seen.stands pack) (IsAfterReading seen.given PACK_LIMIT (StopsVerdict a))) (λ a. tables_named seen (seen.stands pack) (IsAfterReading seen.given PACK_LIMIT (StopsVerdict a)) (λ t k w. verdict_named a t k w.stops)) h so
 command_named seen (Play graph pack scenario turns) h so = graph_named seen (seen.stands graph) (λ a. StopsTables seen (seen.stands pack) (StopsPlay seen (seen.stands scenario) a)) (λ a. tables_named seen (seen.stands pack) (StopsPlay seen (seen.stands scenario) a) (play_named seen (seen.stands scenario) a)) h so
-command_named seen (Node pack name) h so = tables_named seen (seen.stands pack) (λ t. StopsNaming t name) (λ t. naming_named t name) h so
+command_named seen (Node pack name) h so = tables_named seen (seen.stands pack) (IsAfterReading seen.given PACK_LIMIT (λ t. StopsNaming t name)) (λ t k w. naming_named t name k w.stops) h so
 command_named seen (Trial number) h so = named_as h Memory so tt
-command_named seen (Live pack name stream) h so = tables_named seen (seen.stands pack) (λ t. StopsNaming t name) (λ t. naming_named t name) h so
+command_named seen (Live pack name stream) h so = tables_named seen (seen.stands pack) (IsAfterReading seen.given PACK_LIMIT (λ t. StopsNaming t name)) (λ t k w. naming_named t name k w.stops) h so
 command_named seen (Hyper parts) h so = parts_named seen parts h so
-command_named seen (Tune graph) h so = graph_named seen (seen.stands graph) IsOutOfMemory (λ a k e. named_as k Memory e tt) h so
+command_named seen (Tune graph) h so = graph_named seen (seen.stands graph) (IsAfterReading seen.given GRAPH_LIMIT IsOutOfMemory) (λ a k e. named_as k Memory e.stops tt) h so
 command_named seen (Audit graph pack log) h so = graph_named seen (seen.stands graph) (λ a. StopsTables seen (seen.stands pack) (StopsAudit seen (seen.stands log) a)) (λ a. tables_named seen (seen.stands pack) (StopsAudit seen (seen.stands log) a) (audit_named seen (seen.stands log) a)) h so
 
 asked_named : (seen : Seen) (asked : Option Command) (h : Halt) → StopsAsked seen asked h → IsNamed h

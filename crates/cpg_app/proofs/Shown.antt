@@ -1,6 +1,6 @@
 -- A run that ends by its output or by a reason to stop keeps what each status says.
-use Rattle.std.proofs.Common.{ℕ, ◌≡◌, ◌≢◌, ◌∙◌, Option, Some, None, sym, ap, subst, arith, inl, inr}
-use Rattle.std.specs.Prelude.{◌⊎◌}
+use Rattle.std.proofs.Common.{ℕ, ◌≡◌, ◌≢◌, ◌∙◌, List, Option, Some, None, sym, ap, subst, arith, inl, inr}
+use Rattle.std.specs.Prelude.{◌⊎◌, Ok, Err}
 use Rattle.std.proofs.lemmas.Option.{none-some}
 use Rattle.cpg_io.specs.Causes.{Rose}
 use Rattle.cpg_words.specs.Parts.{Text}
@@ -18,11 +18,12 @@ use Rattle.cpg_app.specs.declared.halt.Refusal.{Refusal}
 use Rattle.cpg_app.specs.declared.halt.Halt.{Halt}
 use Rattle.cpg_app.specs.declared.halt.Halt.TheVariants.{Refused, Late, TooWide, Unsafe, Memory}
 use Rattle.cpg_app.specs.Lines.{status_of}
-use Rattle.cpg_app.specs.Causes.{Seen, Stops, StopsAsked, StopsGraph, IsUncompiled, first_named}
+use Rattle.cpg_app.specs.declared.reading.TheConstants.{GRAPH_LIMIT}
+use Rattle.cpg_app.specs.Causes.{Seen, IsAfterReading, Stops, StopsAsked, StopsGraph, IsUncompiled, first_named}
 use Rattle.cpg_app.specs.Outputs.{Prints, PrintsAsked, IsMade, shown, packed, IsFollowedOf}
 use Rattle.cpg_app.specs.Told.{Untouched}
 use Rattle.cpg_app.specs.Endings.{Ran, IsPrinted, IsTold, EndsWith, EndsBy}
-use Rattle.cpg_app.specs.Lawful.{IsFaultless, AsksFor, Asks, AsksNode, AsksTuning, AsksVerdict, IsLawful, AsksStream, status_of_end}
+use Rattle.cpg_app.specs.Lawful.{IsFaultless, AsksFor, Asks, AsksNode, AsksTuning, AsksUnrolling, AsksVerdict, IsLawful, AsksStream, status_of_end}
 use Rattle.cpg_follow.specs.Streams.{stream_end}
 use Rattle.cpg_app.proofs.Streamed.{followed_is, followed_named}
 use Rattle.cpg_app.proofs.Statuses.{of_words, of_read, of_formless, refused_of, late_of, wide_of, unsafe_of, not_three, not_zero}
@@ -32,6 +33,11 @@ use Rattle.cpg_table.specs.Table.{table_at}
 use Rattle.cpg_table.specs.Valid.{IsValid}
 use Rattle.cpg_violation.specs.Heads.{IsHeadFor}
 use Rattle.cpg_app.proofs.Checked.{CheckLeft, check_left, checked_is, node_is, node_left, play_left, played_is, audit_left, audited_is}
+use Rattle.cpg_hyper.specs.declared.part.Part.{Part}
+use Rattle.cpg_hyper.specs.declared.part.HyperFault.{HyperFault}
+use Rattle.cpg_hyper.specs.declared.part.HyperFault.TheVariants.{OutOfMemory}
+use Rattle.cpg_hyper.specs.Refusals.{ShowsUnrolled}
+use Rattle.cpg_app.proofs.Unrolling.{PartsLeft, not_both, parts_left, unrolled_is}
 use Rattle.cpg_app.proofs.Excluded.{Left, graph_left, tune_left, made_not_wide, made_not_late}
 
 -- words without a form print nothing
@@ -45,7 +51,7 @@ made_of seen graph asked bytes (inl show) prints = (shown, (subst (λ c. PrintsA
 made_of seen graph asked bytes (inr compile) prints = (packed, (subst (λ c. PrintsAsked seen c bytes) compile prints).output)
 
 -- and a run stops for it as its compile does
-stopped_of : (seen : Seen) (graph : Text) (asked : Option Command) (halt : Halt) → AsksFor graph asked → StopsAsked seen asked halt → StopsGraph seen (seen.stands graph) IsUncompiled halt
+stopped_of : (seen : Seen) (graph : Text) (asked : Option Command) (halt : Halt) → AsksFor graph asked → StopsAsked seen asked halt → StopsGraph seen (seen.stands graph) (IsAfterReading seen.given GRAPH_LIMIT IsUncompiled) halt
 stopped_of seen graph asked halt (inl show) stops = subst (λ c. StopsAsked seen c halt) show stops
 stopped_of seen graph asked halt (inr compile) stops = subst (λ c. StopsAsked seen c halt) compile stops
 
@@ -96,6 +102,12 @@ module _ (r : Ran) where
     with_nameless : (t : Tables) (name : Text) → AsksNode r t name → first_named t.head name ≡ None → (r.status ≡ 4) ⊎ (r.status ≡ 8)
     with_nameless t name asks none = let named = with_node t name asks in absurd (none-some named.0 (sym none ∙ named.1))
 
+    -- what is written is the graph of the parts
+    with_apart : (parts : List Part) (fault : HyperFault) → AsksUnrolling r parts → ShowsUnrolled parts (Err fault) → fault ≢ OutOfMemory → (r.status ≡ 4) ⊎ (r.status ≡ 8)
+    with_apart parts fault asks shows other =
+        let made = unrolled_is r.shelf asks.pairs parts asks.told asks.faultless.shelf text (subst (λ c. PrintsAsked r.shelf c text) asks.words with.prints).output in
+        absurd (not_both parts made.0 fault made.1 shows other)
+
     -- a stream is followed to its close
     module _ (t : Tables) (name bytes : Text) (asks : AsksStream r t name bytes) where
       followed_text : IsFollowedOf (r.shelf.stands asks.pack) name (r.shelf.stands asks.stream) text
@@ -133,6 +145,8 @@ module _ (r : Ran) where
       nameless = with_nameless;
       tried = λ number asks. elim with_status [ inl zero ↦ inl zero | inr three ↦ inr (inl three) ];
       tuned = λ a asks. with_safe asks.faultless;
+      unrolled = λ parts g asks shows. with_safe asks.faultless;
+      apart = with_apart;
       followed = λ t name bytes node asks named. with_followed t name bytes asks node named;
       unfollowed = with_unfollowed;
     }
@@ -180,7 +194,7 @@ module _ (r : Ran) where
     by_silent = elim by.ending [ inl t ↦ t.out | inr m ↦ m.out ]
 
     module _ (a : Admission) (asks : Asks r a) where
-      stops_of : StopsGraph r.shelf (r.shelf.stands asks.graph) IsUncompiled halt
+      stops_of : StopsGraph r.shelf (r.shelf.stands asks.graph) (IsAfterReading r.shelf.given GRAPH_LIMIT IsUncompiled) halt
       stops_of = stopped_of r.shelf asks.graph (command_of r.words) halt asks.words by.stops
 
       told_here : r.status ≡ status_of halt
@@ -272,6 +286,22 @@ module _ (r : Ran) where
       | inr m ↦ absurd (asks.faultless.err m.err.rose)
     ]
 
+    module _ (parts : List Part) (asks : AsksUnrolling r parts) where
+      told_parts : r.status ≡ status_of halt
+      told_parts = elim by.ending [ inl t ↦ t.status | inr m ↦ absurd (asks.faultless.err m.err.rose) ]
+
+      left_parts : PartsLeft parts halt
+      left_parts = parts_left r.shelf asks.pairs parts asks.told asks.faultless.shelf halt (subst (λ c. StopsAsked r.shelf c halt) asks.words by.stops)
+
+      by_apart : (r.status ≡ 4) ⊎ (r.status ≡ 8)
+      by_apart = elim left_parts [ inl e ↦ inr (told_parts ∙ e) | inr refused ↦ inl (told_parts ∙ refused.0) ]
+
+    by_unrolled : (parts : List Part) (g : Graph) → AsksUnrolling r parts → ShowsUnrolled parts (Ok g) → (r.status ≡ 0) ⊎ (r.status ≡ 8)
+    by_unrolled parts g asks made = elim (left_parts parts asks) [
+      | inl e ↦ inr (told_parts parts asks ∙ e)
+      | inr refused ↦ absurd (not_both parts g refused.1.0 made refused.1.1 refused.1.2)
+    ]
+
     -- before a stream is fetched
     module _ (t : Tables) (name bytes : Text) (asks : AsksStream r t name bytes) where
       told_stream : r.status ≡ status_of halt
@@ -309,6 +339,8 @@ module _ (r : Ran) where
       nameless = by_nameless;
       tried = by_tried;
       tuned = by_tuned;
+      unrolled = by_unrolled;
+      apart = λ parts fault asks shows other. by_apart parts asks;
       followed = λ t name bytes node asks named. by_followed t name bytes asks node named;
       unfollowed = by_unfollowed;
     }

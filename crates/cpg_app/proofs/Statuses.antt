@@ -25,7 +25,8 @@ use Rattle.cpg_app.specs.declared.halt.Halt.{Halt}
 use Rattle.cpg_app.specs.declared.halt.Halt.TheVariants.{Words, Read, Refused, Late, TooWide, Unsafe, Memory}
 use Rattle.cpg_app.specs.Halts.{halt_of_reading, halt_of_pack, halt_of_rules, halt_of_scenario, halt_of_log, halt_of_compile, halt_of_parts}
 use Rattle.cpg_app.specs.Lines.{status_of}
-use Rattle.cpg_app.specs.Causes.{Seen, StopsReading, BreaksRule, StopsGraph, IsUncompiled, IsOutOfMemory, StopsTables, StopsNaming, StopsVerdict, StopsPlay, StopsParts, StopsCommand, StopsAsked, Stops, StopsAudit}
+use Rattle.cpg_app.specs.declared.reading.TheConstants.{GRAPH_LIMIT, PACK_LIMIT}
+use Rattle.cpg_app.specs.Causes.{Seen, IsAfterReading, StopsReading, BreaksRule, StopsGraph, IsUncompiled, IsOutOfMemory, StopsTables, StopsNaming, StopsVerdict, StopsPlay, StopsParts, StopsCommand, StopsAsked, Stops, StopsAudit}
 
 -- a halt of a command isn't one of its words, and is one of the shelf where its faults rose
 record IsOfCommand (seen : Seen) (h : Halt) : Type 0 where
@@ -63,7 +64,7 @@ reading seen told h (inr (inr faulty)) = later seen h _ faulty.halt_is (of_readi
 
 of_graph : (seen : Seen) (told : Option Text) (work : Admission → Halt → Type 0) → ((a : Admission) (h : Halt) → work a h → IsOfCommand seen h) → (h : Halt) → StopsGraph seen told work h → IsOfCommand seen h
 of_graph seen told work works h (inl (inl read)) = reading seen told h read
-of_graph seen told work works h (inl (inr breaks)) = let b : BreaksRule breaks.0 h = breaks.2 in later seen h _ b.halt_is (of_rules breaks.0 b.fault)
+of_graph seen told work works h (inl (inr breaks)) = let b : BreaksRule breaks.0 h = breaks.2.stops in later seen h _ b.halt_is (of_rules breaks.0 b.fault)
 of_graph seen told work works h (inr worked) = works worked.0 h worked.2
 
 of_made : (seen : Seen) (a : Admission) (h : Halt) → IsUncompiled a h → IsOfCommand seen h
@@ -96,7 +97,7 @@ of_play : (seen : Seen) (told : Option Text) (a : Admission) (t : Tables) (h : H
 of_play seen told a t h (inl (inl unread)) = let same = ap status_of unread.halt_is in record { not_words = λ one. omega arith; read = λ two. unread.rose }
 of_play seen told a t h (inl (inr (inl long))) = later seen h _ long.halt_is (omega arith)
 of_play seen told a t h (inl (inr (inr none))) = later seen h _ none.halt_is (of_scenario none.fault)
-of_play seen told a t h (inr judged) = of_verdict seen a t h judged.2
+of_play seen told a t h (inr judged) = of_verdict seen a t h judged.2.stops
 
 of_log : (fault : LogFault) → 4 ≤ status_of (halt_of_log fault)
 of_log (LogFault.Bad line) = omega arith
@@ -106,7 +107,7 @@ of_audit : (seen : Seen) (told : Option Text) (a : Admission) (t : Tables) (h : 
 of_audit seen told a t h (inl (inl unread)) = let same = ap status_of unread.halt_is in record { not_words = λ one. omega arith; read = λ two. unread.rose }
 of_audit seen told a t h (inl (inr (inl long))) = later seen h _ long.halt_is (omega arith)
 of_audit seen told a t h (inl (inr (inr none))) = later seen h _ none.halt_is (of_log none.fault)
-of_audit seen told a t h (inr judged) = of_verdict seen a t h judged.2
+of_audit seen told a t h (inr judged) = of_verdict seen a t h judged.2.stops
 
 of_parts : (fault : HyperFault) → 4 ≤ status_of (halt_of_parts fault)
 of_parts (HyperFault.Range p) = omega arith
@@ -120,18 +121,18 @@ of_parts HyperFault.OutOfMemory = omega arith
 of_unrolling : (seen : Seen) (pairs : List Pair) (h : Halt) → StopsParts seen pairs h → IsOfCommand seen h
 of_unrolling seen pairs h (inl (inl unsaid)) = reading seen _ h (unsaid.stops (record { period = 0; graph = [] }))
 of_unrolling seen pairs h (inl (inr memory)) = later seen h _ memory (omega arith)
-of_unrolling seen pairs h (inr refused) = later seen h _ refused.2.halt_is (of_parts refused.2.fault)
+of_unrolling seen pairs h (inr refused) = later seen h _ refused.2.stops.halt_is (of_parts refused.2.stops.fault)
 
 of_command : (seen : Seen) (c : Command) (h : Halt) → StopsCommand seen c h → IsOfCommand seen h
-of_command seen (Show graph) h so = of_graph seen (seen.stands graph) IsUncompiled (of_made seen) h so
-of_command seen (Compile graph) h so = of_graph seen (seen.stands graph) IsUncompiled (of_made seen) h so
-of_command seen (Check graph pack) h so = of_graph seen (seen.stands graph) (λ a. StopsTables seen (seen.stands pack) (StopsVerdict a)) (λ a. of_tables seen (seen.stands pack) (StopsVerdict a) (of_verdict seen a)) h so
+of_command seen (Show graph) h so = of_graph seen (seen.stands graph) (IsAfterReading seen.given GRAPH_LIMIT IsUncompiled) (λ a k w. of_made seen a k w.stops) h so
+of_command seen (Compile graph) h so = of_graph seen (seen.stands graph) (IsAfterReading seen.given GRAPH_LIMIT IsUncompiled) (λ a k w. of_made seen a k w.stops) h so
+of_command seen (Check graph pack) h so = of_graph seen (seen.stands graph) (λ a. StopsTables seen (seen.stands pack) (IsAfterReading seen.given PACK_LIMIT (StopsVerdict a))) (λ a. of_tables seen (seen.stands pack) (IsAfterReading seen.given PACK_LIMIT (StopsVerdict a)) (λ t k w. of_verdict seen a t k w.stops)) h so
 of_command seen (Play graph pack scenario turns) h so = of_graph seen (seen.stands graph) (λ a. StopsTables seen (seen.stands pack) (StopsPlay seen (seen.stands scenario) a)) (λ a. of_tables seen (seen.stands pack) (StopsPlay seen (seen.stands scenario) a) (of_play seen (seen.stands scenario) a)) h so
-of_command seen (Node pack name) h so = of_tables seen (seen.stands pack) (λ t. StopsNaming t name) (λ t. of_naming seen t name) h so
+of_command seen (Node pack name) h so = of_tables seen (seen.stands pack) (IsAfterReading seen.given PACK_LIMIT (λ t. StopsNaming t name)) (λ t k w. of_naming seen t name k w.stops) h so
 of_command seen (Trial number) h so = later seen h _ so (omega arith)
-of_command seen (Live pack name stream) h so = of_tables seen (seen.stands pack) (λ t. StopsNaming t name) (λ t. of_naming seen t name) h so
+of_command seen (Live pack name stream) h so = of_tables seen (seen.stands pack) (IsAfterReading seen.given PACK_LIMIT (λ t. StopsNaming t name)) (λ t k w. of_naming seen t name k w.stops) h so
 of_command seen (Hyper parts) h so = of_unrolling seen parts h so
-of_command seen (Tune graph) h so = of_graph seen (seen.stands graph) IsOutOfMemory (λ a k e. later seen k _ e (omega arith)) h so
+of_command seen (Tune graph) h so = of_graph seen (seen.stands graph) (IsAfterReading seen.given GRAPH_LIMIT IsOutOfMemory) (λ a k e. later seen k _ e.stops (omega arith)) h so
 of_command seen (Audit graph pack log) h so = of_graph seen (seen.stands graph) (λ a. StopsTables seen (seen.stands pack) (StopsAudit seen (seen.stands log) a)) (λ a. of_tables seen (seen.stands pack) (StopsAudit seen (seen.stands log) a) (of_audit seen (seen.stands log) a)) h so
 
 words_asked : (seen : Seen) (asked : Option Command) (h : Halt) → StopsAsked seen asked h → status_of h ≡ 1 → asked ≡ None

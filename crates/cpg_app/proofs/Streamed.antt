@@ -7,7 +7,7 @@ use Rattle.cpg_io.specs.Causes.{Rose}
 use Rattle.cpg_words.specs.Parts.{Text}
 use Rattle.cpg_words.specs.Forms.{command_of}
 use Rattle.cpg_words.specs.declared.command.Command.{Command}
-use Rattle.cpg_words.specs.declared.command.Command.TheVariants.{Show, Compile, Check, Play, Node, Trial, Live, Tune, Audit}
+use Rattle.cpg_words.specs.declared.command.Command.TheVariants.{Show, Compile, Check, Play, Node, Trial, Live, Hyper, Tune, Audit}
 use Rattle.cpg_rules.specs.Admission.{Admission}
 use Rattle.cpg_table.specs.Head.{Head}
 use Rattle.cpg_table.specs.Lawful.{Tables}
@@ -183,6 +183,8 @@ module _ (r : Ran) (ends : EndsInStream r) where
     nameless = λ t name asks none. absurd (other_words (Some (Node asks.pack name)) refl asks.words);
     tried = λ number asks. absurd (other_words (Some (Trial number)) refl asks);
     tuned = λ a asks. absurd (other_words (Some (Tune asks.graph)) refl asks.words);
+    unrolled = λ parts g asks shows. absurd (other_words (Some (Hyper asks.pairs)) refl asks.words);
+    apart = λ parts fault asks shows other. absurd (other_words (Some (Hyper asks.pairs)) refl asks.words);
     followed = λ t name bytes node asks named. ended t name bytes asks node named ends.broken ends.breaks ends.said;
     unfollowed = λ t name bytes asks none. absurd (nameless t name bytes asks none);
   }

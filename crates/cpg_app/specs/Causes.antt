@@ -74,10 +74,11 @@ pub record IsLong (limit : ℕ) (refusal : Refusal) (seen : Seen) (told : Option
   pub given : limit < seen.given
   pub long : IfSome told (λ bytes. limit < length bytes)
 
--- its bytes are those of no graph, and this is the first refusal of them
-pub record IsFaulty (told : Option Text) (halt : Halt) : Type 0 where
+-- its bytes, no more than the limit, are those of no graph, and this is the first refusal of them
+pub record IsFaulty (seen : Seen) (told : Option Text) (halt : Halt) : Type 0 where
   pub fault : ReadFault
   pub halt_is : halt ≡ halt_of_reading fault
+  pub within : fault ≢ ReadFault.OutOfMemory → seen.given ≤ GRAPH_LIMIT
   pub first : fault ≢ ReadFault.OutOfMemory → IsShort GRAPH_LIMIT told × IfSome told (λ bytes. problem_of bytes ≡ Err fault)
 
 -- the graph breaks a rule, the first that it breaks
@@ -86,6 +87,11 @@ pub record BreaksRule (g : Graph) (halt : Halt) : Type 0 where
   pub halt_is : halt ≡ halt_of_rules g fault
   pub shows : ShowsFault g fault
 
+-- something stops a run after a file was read, which gave no more bytes than its limit
+pub record IsAfterReading {T : Type 0} (given limit : ℕ) (Stops : T → Halt → Type 0) (x : T) (halt : Halt) : Type 0 where
+  pub stops : Stops x halt
+  pub within : given ≤ limit
+
 -- it is late or too wide
 pub record IsUncompiled (a : Admission) (halt : Halt) : Type 0 where
   pub fault : CompileFault
@@ -93,11 +99,11 @@ pub record IsUncompiled (a : Admission) (halt : Halt) : Type 0 where
   pub shows : ShowsCompileFault a.graph a.order fault
 
 abbrev pub StopsReading : Seen → Option Text → Halt → Type 0
-StopsReading seen told halt = IsUnread seen halt ⊎ (IsLong GRAPH_LIMIT LongGraph seen told halt ⊎ IsFaulty told halt)
+StopsReading seen told halt = IsUnread seen halt ⊎ (IsLong GRAPH_LIMIT LongGraph seen told halt ⊎ IsFaulty seen told halt)
 
 -- a graph file isn't admitted: as it is read, or by a rule
 abbrev pub StopsAdmission : Seen → Option Text → Halt → Type 0
-StopsAdmission seen told halt = StopsReading seen told halt ⊎ ((g : Graph) × Says told g × BreaksRule g halt)
+StopsAdmission seen told halt = StopsReading seen told halt ⊎ ((g : Graph) × Says told g × IsAfterReading seen.given GRAPH_LIMIT BreaksRule g halt)
 
 -- a graph file stops a run: it isn't admitted, or what the command does with the admitted graph stops it
 abbrev pub StopsGraph : Seen → Option Text → (Admission → Halt → Type 0) → Halt → Type 0
@@ -114,13 +120,14 @@ abbrev pub ShowsPackFault : Option Text → PackFault → Type 0
 ShowsPackFault told (PackFault.BadPack n) = IsShort PACK_LIMIT told × IfSome told (λ bytes. IsBadPack bytes n)
 ShowsPackFault told PackFault.OutOfMemory = ⊤
 
-pub record IsNoPack (told : Option Text) (halt : Halt) : Type 0 where
+pub record IsNoPack (seen : Seen) (told : Option Text) (halt : Halt) : Type 0 where
   pub fault : PackFault
   pub halt_is : halt ≡ halt_of_pack fault
+  pub within : fault ≢ PackFault.OutOfMemory → seen.given ≤ PACK_LIMIT
   pub shows : ShowsPackFault told fault
 
 abbrev pub StopsPack : Seen → Option Text → Halt → Type 0
-StopsPack seen told halt = IsUnread seen halt ⊎ (IsLong PACK_LIMIT LongPack seen told halt ⊎ IsNoPack told halt)
+StopsPack seen told halt = IsUnread seen halt ⊎ (IsLong PACK_LIMIT LongPack seen told halt ⊎ IsNoPack seen told halt)
 
 -- a pack stops a run: its bytes spell no tables, or what the command does with them stops it
 abbrev pub StopsTables : Seen → Option Text → (Tables → Halt → Type 0) → Halt → Type 0
@@ -148,17 +155,18 @@ abbrev pub SaysPlayed : Option Text → Graph → Played → Type 0
 SaysPlayed told g p = IsShort SCENARIO_LIMIT told × IfSome told (λ bytes. file_of g bytes ≡ Ok p)
 
 -- they say none, and this is the first cause
-pub record IsNoScenario (told : Option Text) (g : Graph) (halt : Halt) : Type 0 where
+pub record IsNoScenario (seen : Seen) (told : Option Text) (g : Graph) (halt : Halt) : Type 0 where
   pub fault : ScenarioFault
   pub halt_is : halt ≡ halt_of_scenario fault
+  pub within : fault ≢ ScenarioFault.OutOfMemory → seen.given ≤ SCENARIO_LIMIT
   pub first : fault ≢ ScenarioFault.OutOfMemory → IsShort SCENARIO_LIMIT told × IfSome told (λ bytes. file_of g bytes ≡ Err fault)
 
 abbrev pub StopsPlayed : Seen → Option Text → Graph → Halt → Type 0
-StopsPlayed seen told g halt = IsUnread seen halt ⊎ (IsLong SCENARIO_LIMIT LongScenario seen told halt ⊎ IsNoScenario told g halt)
+StopsPlayed seen told g halt = IsUnread seen halt ⊎ (IsLong SCENARIO_LIMIT LongScenario seen told halt ⊎ IsNoScenario seen told g halt)
 
 -- a scenario file stops a run: as it is read, or by the check that comes before its play
 abbrev pub StopsPlay : Seen → Option Text → Admission → Tables → Halt → Type 0
-StopsPlay seen told a t halt = StopsPlayed seen told a.graph halt ⊎ ((p : Played) × SaysPlayed told a.graph p × StopsVerdict a t halt)
+StopsPlay seen told a t halt = StopsPlayed seen told a.graph halt ⊎ ((p : Played) × SaysPlayed told a.graph p × IsAfterReading seen.given SCENARIO_LIMIT (StopsVerdict a) t halt)
 
 -- the bytes of a log, where the shelf tells them, are those of a log of the graph
 abbrev pub SaysLog : Option Text → Graph → Log → Type 0
@@ -169,17 +177,18 @@ abbrev pub ShowsLogFault : Option Text → Graph → LogFault → Type 0
 ShowsLogFault told g (LogFault.Bad line) = IsShort LOG_LIMIT told × IfSome told (λ bytes. IsBadLine g (lines bytes) line)
 ShowsLogFault told g LogFault.OutOfMemory = ⊤
 
-pub record IsNoLog (told : Option Text) (g : Graph) (halt : Halt) : Type 0 where
+pub record IsNoLog (seen : Seen) (told : Option Text) (g : Graph) (halt : Halt) : Type 0 where
   pub fault : LogFault
   pub halt_is : halt ≡ halt_of_log fault
+  pub within : fault ≢ LogFault.OutOfMemory → seen.given ≤ LOG_LIMIT
   pub shows : ShowsLogFault told g fault
 
 abbrev pub StopsLog : Seen → Option Text → Graph → Halt → Type 0
-StopsLog seen told g halt = IsUnread seen halt ⊎ (IsLong LOG_LIMIT LongLog seen told halt ⊎ IsNoLog told g halt)
+StopsLog seen told g halt = IsUnread seen halt ⊎ (IsLong LOG_LIMIT LongLog seen told halt ⊎ IsNoLog seen told g halt)
 
 -- a log stops a run: as it is read, or by the check that comes before its audit
 abbrev pub StopsAudit : Seen → Option Text → Admission → Tables → Halt → Type 0
-StopsAudit seen told a t halt = StopsLog seen told a.graph halt ⊎ ((log : Log) × SaysLog told a.graph log × StopsVerdict a t halt)
+StopsAudit seen told a t halt = StopsLog seen told a.graph halt ⊎ ((log : Log) × SaysLog told a.graph log × IsAfterReading seen.given LOG_LIMIT (StopsVerdict a) t halt)
 
 -- the number of the first node of a name
 abbrev pub first_named : Head → Text → Option ℕ
@@ -215,22 +224,22 @@ pub record IsNotUnrolled (parts : List Part) (halt : Halt) : Type 0 where
 
 -- to unroll the parts of the words
 abbrev pub StopsParts : Seen → List Pair → Halt → Type 0
-StopsParts seen pairs halt = StopsReadingParts seen pairs halt ⊎ ((parts : List Part) × AreSaid seen.stands pairs parts × IsNotUnrolled parts halt)
+StopsParts seen pairs halt = StopsReadingParts seen pairs halt ⊎ ((parts : List Part) × AreSaid seen.stands pairs parts × IsAfterReading seen.given GRAPH_LIMIT IsNotUnrolled parts halt)
 
 -- what a command does with an admitted graph stops it for want of memory alone
 abbrev pub IsOutOfMemory : Admission → Halt → Type 0
 IsOutOfMemory a halt = halt ≡ Memory
 
 abbrev pub StopsCommand : Seen → Command → Halt → Type 0
-StopsCommand seen (Show graph) halt = StopsGraph seen (seen.stands graph) IsUncompiled halt
-StopsCommand seen (Compile graph) halt = StopsGraph seen (seen.stands graph) IsUncompiled halt
-StopsCommand seen (Check graph pack) halt = StopsGraph seen (seen.stands graph) (λ a. StopsTables seen (seen.stands pack) (StopsVerdict a)) halt
+StopsCommand seen (Show graph) halt = StopsGraph seen (seen.stands graph) (IsAfterReading seen.given GRAPH_LIMIT IsUncompiled) halt
+StopsCommand seen (Compile graph) halt = StopsGraph seen (seen.stands graph) (IsAfterReading seen.given GRAPH_LIMIT IsUncompiled) halt
+StopsCommand seen (Check graph pack) halt = StopsGraph seen (seen.stands graph) (λ a. StopsTables seen (seen.stands pack) (IsAfterReading seen.given PACK_LIMIT (StopsVerdict a))) halt
 StopsCommand seen (Play graph pack scenario turns) halt = StopsGraph seen (seen.stands graph) (λ a. StopsTables seen (seen.stands pack) (StopsPlay seen (seen.stands scenario) a)) halt
-StopsCommand seen (Node pack name) halt = StopsTables seen (seen.stands pack) (λ t. StopsNaming t name) halt
+StopsCommand seen (Node pack name) halt = StopsTables seen (seen.stands pack) (IsAfterReading seen.given PACK_LIMIT (λ t. StopsNaming t name)) halt
 StopsCommand seen (Trial number) halt = halt ≡ Memory
-StopsCommand seen (Live pack name stream) halt = StopsTables seen (seen.stands pack) (λ t. StopsNaming t name) halt
+StopsCommand seen (Live pack name stream) halt = StopsTables seen (seen.stands pack) (IsAfterReading seen.given PACK_LIMIT (λ t. StopsNaming t name)) halt
 StopsCommand seen (Hyper parts) halt = StopsParts seen parts halt
-StopsCommand seen (Tune graph) halt = StopsGraph seen (seen.stands graph) IsOutOfMemory halt
+StopsCommand seen (Tune graph) halt = StopsGraph seen (seen.stands graph) (IsAfterReading seen.given GRAPH_LIMIT IsOutOfMemory) halt
 StopsCommand seen (Audit graph pack log) halt = StopsGraph seen (seen.stands graph) (λ a. StopsTables seen (seen.stands pack) (StopsAudit seen (seen.stands log) a)) halt
 
 -- words without a form stop a run as such, or for want of memory

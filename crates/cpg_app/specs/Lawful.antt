@@ -1,11 +1,12 @@
 -- What each exit status of a run says.
-use Rattle.std.specs.Prelude.{ℕ, ◌≡◌, ◌≢◌, ◌<◌, ◌≤◌, ◌⊎◌, Option, Some, None, Result, Ok, Err, length}
+use Rattle.std.specs.Prelude.{ℕ, ◌≡◌, ◌≢◌, ◌<◌, ◌≤◌, ◌⊎◌, List, [], ◌∷◌, Option, Some, None, Result, Ok, Err, length, ⊤}
 use Rattle.cpg_io.specs.Causes.{Rose}
 use Rattle.cpg_base.specs.Graph.{Graph}
 use Rattle.cpg_words.specs.Parts.{Text}
 use Rattle.cpg_words.specs.Forms.{command_of}
+use Rattle.cpg_words.specs.declared.command.Pair.{Pair}
 use Rattle.cpg_words.specs.declared.command.Command.{Command}
-use Rattle.cpg_words.specs.declared.command.Command.TheVariants.{Show, Compile, Check, Play, Node, Trial, Tune, Audit, Live}
+use Rattle.cpg_words.specs.declared.command.Command.TheVariants.{Show, Compile, Check, Play, Node, Trial, Hyper, Tune, Audit, Live}
 use Rattle.cpg_reader.specs.Document.{problem_of}
 use Rattle.cpg_rules.specs.Admission.{Admission, IsAdmitted}
 use Rattle.cpg_base.specs.Scenario.{Scenario}
@@ -23,6 +24,10 @@ use Rattle.cpg_table.specs.Valid.{IsValid}
 use Rattle.cpg_codec.specs.Packs.{AreLawful}
 use Rattle.cpg_codec.specs.Spelling.{spelling}
 use Rattle.cpg_violation.specs.Heads.{IsHeadFor}
+use Rattle.cpg_hyper.specs.declared.part.Part.{Part}
+use Rattle.cpg_hyper.specs.declared.part.HyperFault.{HyperFault}
+use Rattle.cpg_hyper.specs.declared.part.HyperFault.TheVariants.{OutOfMemory}
+use Rattle.cpg_hyper.specs.Refusals.{ShowsUnrolled}
 use Rattle.cpg_audit.specs.Log.{Log}
 use Rattle.cpg_audit.specs.Reading.{IsLogOf}
 use Rattle.cpg_scenario.specs.File.{file_of}
@@ -111,6 +116,27 @@ pub record AsksTuning (r : Ran) (a : Admission) : Type 0 where
   pub file : AreAdmitted bytes a
   pub faultless : IsFaultless r
 
+-- the shelf tells the bytes of a graph, at most 16 MiB
+pub record TellsGraph (told : Option Text) (g : Graph) : Type 0 where
+  pub bytes : Text
+  pub is : told ≡ Some bytes
+  pub short : length bytes ≤ GRAPH_LIMIT
+  pub says : problem_of bytes ≡ Ok g
+
+-- parts with the periods of the words, whose graphs it tells
+abbrev pub AreTold : (Text → Option Text) → List Pair → List Part → Type 0
+AreTold stands [] [] = ⊤
+AreTold stands [] (part ∷ parts) = ⊥
+AreTold stands (pair ∷ pairs) [] = ⊥
+AreTold stands (pair ∷ pairs) (part ∷ parts) = (part.period ≡ pair.period) × TellsGraph (stands pair.graph) part.problem × AreTold stands pairs parts
+
+-- the words ask for the graph of all instances of such parts, and nothing failed
+pub record AsksUnrolling (r : Ran) (parts : List Part) : Type 0 where
+  pub pairs : List Pair
+  pub words : command_of r.words ≡ Some (Hyper pairs)
+  pub told : AreTold r.shelf.stands pairs parts
+  pub faultless : IsFaultless r
+
 -- they ask to follow a stream with a node, by its name, the shelf tells the bytes of tables and of the stream, and nothing
 -- failed
 pub record AsksStream (r : Ran) (t : Tables) (name bytes : Text) : Type 0 where
@@ -188,6 +214,10 @@ pub record IsLawful (r : Ran) : Type 0 where
   pub tried : (number : ℕ) → command_of r.words ≡ Some (Trial number) → (r.status ≡ 0) ⊎ ((r.status ≡ 3) ⊎ (r.status ≡ 8))
   -- an admitted graph is tuned, however late or wide it is, but for want of memory
   pub tuned : (a : Admission) → AsksTuning r a → (r.status ≡ 0) ⊎ (r.status ≡ 8)
+  -- the graph of all instances of parts is written where they have one, and they are refused where they have none, but for
+  -- want of memory
+  pub unrolled : (parts : List Part) (g : Graph) → AsksUnrolling r parts → ShowsUnrolled parts (Ok g) → (r.status ≡ 0) ⊎ (r.status ≡ 8)
+  pub apart : (parts : List Part) (fault : HyperFault) → AsksUnrolling r parts → ShowsUnrolled parts (Err fault) → fault ≢ OutOfMemory → (r.status ≡ 4) ⊎ (r.status ≡ 8)
   -- such a node follows a stream to its close, and else the stream is refused, but for want of memory
   pub followed : (t : Tables) (name bytes : Text) (node : ℕ) → AsksStream r t name bytes → first_named t.head name ≡ Some node → (r.status ≡ status_of_end (stream_end (table_at t.nodes node) bytes)) ⊎ (r.status ≡ 8)
   pub unfollowed : (t : Tables) (name bytes : Text) → AsksStream r t name bytes → first_named t.head name ≡ None → (r.status ≡ 4) ⊎ (r.status ≡ 8)

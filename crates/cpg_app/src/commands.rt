@@ -5,7 +5,7 @@ ghost use Rattle.cpg_words.specs.FileWords.{file_words};
 ghost use Rattle.cpg_io.specs.Shelf.{SameLeave, SameNames};
 ghost use Rattle.cpg_core.specs.Compilation.{IsCompilation};
 ghost use Rattle.cpg_app.specs.declared.reading.TheConstants.{GRAPH_LIMIT, LOG_LIMIT, PACK_LIMIT, SCENARIO_LIMIT};
-ghost use Rattle.cpg_app.specs.Causes.{Admits, first_named, IsOutOfMemory, IsUncompiled, Stops, StopsAdmission, StopsCommand, StopsGraph, StopsNaming, StopsPlay, StopsTables, StopsVerdict, StopsAudit};
+ghost use Rattle.cpg_app.specs.Causes.{Admits, first_named, IsAfterReading, IsOutOfMemory, IsUncompiled, Stops, StopsAdmission, StopsCommand, StopsGraph, StopsNaming, StopsPlay, StopsTables, StopsVerdict, StopsAudit};
 ghost use Rattle.cpg_app.specs.Outputs.{bytes_of, packed, shown, AreJudgedSafe, ArePackOf, AreSafe, IsMade, IsMadeOf, IsNodeOf, IsNodeText, IsChecked, IsPlayOf, IsPlayedText, IsSafeText, IsSpelled, IsTunedOf, IsOutputOf, IsAuditOf, IsAuditedText, PutsOutAtEnd, ReadsWithin};
 
 use crate::auditing::audit_text;
@@ -98,7 +98,7 @@ fn show<S: Shelf>(alloc: Global, shelf: &mut S, name: &str) -> Result<Output, Ha
     requires { S.may_fetch shelf.old name.now }
     ensures text { IfOk result (λ o. IsMade (S.stands shelf.old name.now) shown (bytes_of o)) }
     ensures within { IfOk result (λ _. S.given shelf.new ≤ GRAPH_LIMIT) }
-    ensures halt { IfErr result (StopsGraph (record { stands = S.stands shelf.old; given = S.given shelf.new; before = S.faults shelf.old; now = S.faults shelf.new }) (S.stands shelf.old name.now) IsUncompiled) }
+    ensures halt { IfErr result (StopsGraph (record { stands = S.stands shelf.old; given = S.given shelf.new; before = S.faults shelf.old; now = S.faults shelf.new }) (S.stands shelf.old name.now) (IsAfterReading (S.given shelf.new) GRAPH_LIMIT IsUncompiled)) }
 {
     let admitted = admitted_file(alloc, shelf, name)?;
     let text = text_of(alloc, admitted)?;
@@ -110,7 +110,7 @@ fn pack<S: Shelf>(alloc: Global, shelf: &mut S, name: &str) -> Result<Output, Ha
     requires { S.may_fetch shelf.old name.now }
     ensures pack { IfOk result (λ o. IsMade (S.stands shelf.old name.now) packed (bytes_of o)) }
     ensures within { IfOk result (λ _. S.given shelf.new ≤ GRAPH_LIMIT) }
-    ensures halt { IfErr result (StopsGraph (record { stands = S.stands shelf.old; given = S.given shelf.new; before = S.faults shelf.old; now = S.faults shelf.new }) (S.stands shelf.old name.now) IsUncompiled) }
+    ensures halt { IfErr result (StopsGraph (record { stands = S.stands shelf.old; given = S.given shelf.new; before = S.faults shelf.old; now = S.faults shelf.new }) (S.stands shelf.old name.now) (IsAfterReading (S.given shelf.new) GRAPH_LIMIT IsUncompiled)) }
 {
     let admitted = admitted_file(alloc, shelf, name)?;
     let pack = pack_of(alloc, admitted)?;
@@ -122,7 +122,7 @@ fn tune_file<S: Shelf>(alloc: Global, shelf: &mut S, name: &str) -> Result<Outpu
     requires { S.may_fetch shelf.old name.now }
     ensures text { IfOk result (λ o. IsTunedOf (S.stands shelf.old name.now) (bytes_of o)) }
     ensures within { IfOk result (λ _. S.given shelf.new ≤ GRAPH_LIMIT) }
-    ensures halt { IfErr result (StopsGraph (record { stands = S.stands shelf.old; given = S.given shelf.new; before = S.faults shelf.old; now = S.faults shelf.new }) (S.stands shelf.old name.now) IsOutOfMemory) }
+    ensures halt { IfErr result (StopsGraph (record { stands = S.stands shelf.old; given = S.given shelf.new; before = S.faults shelf.old; now = S.faults shelf.new }) (S.stands shelf.old name.now) (IsAfterReading (S.given shelf.new) GRAPH_LIMIT IsOutOfMemory)) }
 {
     let admitted = admitted_file(alloc, shelf, name)?;
     let text = tune_admitted(alloc, &admitted)?;
@@ -170,7 +170,7 @@ fn check_pack<S: Shelf>(
     requires { S.may_fetch shelf.old pack.now }
     ensures text { IfOk result (λ o. IsSpelled (S.stands shelf.old pack.now) (λ t. IsSafeText admitted t (bytes_of o))) }
     ensures within { IfOk result (λ _. S.given shelf.new ≤ PACK_LIMIT) }
-    ensures halt { IfErr result (StopsTables (record { stands = S.stands shelf.old; given = S.given shelf.new; before = S.faults shelf.old; now = S.faults shelf.new }) (S.stands shelf.old pack.now) (StopsVerdict admitted)) }
+    ensures halt { IfErr result (StopsTables (record { stands = S.stands shelf.old; given = S.given shelf.new; before = S.faults shelf.old; now = S.faults shelf.new }) (S.stands shelf.old pack.now) (IsAfterReading (S.given shelf.new) PACK_LIMIT (StopsVerdict admitted))) }
 {
     let tables = read_tables(alloc, shelf, pack)?;
     let output = verdict_of(alloc, admitted, &tables)?;
@@ -188,7 +188,7 @@ fn check_files<S: Shelf>(
     requires pack { S.may_fetch shelf.old pack.now }
     ensures text { IfOk result (λ o. IsChecked (S.stands shelf.old graph.now) (S.stands shelf.old pack.now) (bytes_of o)) }
     ensures within { IfOk result (λ _. S.given shelf.new ≤ PACK_LIMIT) }
-    ensures halt { IfErr result (StopsGraph (record { stands = S.stands shelf.old; given = S.given shelf.new; before = S.faults shelf.old; now = S.faults shelf.new }) (S.stands shelf.old graph.now) (λ a. StopsTables (record { stands = S.stands shelf.old; given = S.given shelf.new; before = S.faults shelf.old; now = S.faults shelf.new }) (S.stands shelf.old pack.now) (StopsVerdict a))) }
+    ensures halt { IfErr result (StopsGraph (record { stands = S.stands shelf.old; given = S.given shelf.new; before = S.faults shelf.old; now = S.faults shelf.new }) (S.stands shelf.old graph.now) (λ a. StopsTables (record { stands = S.stands shelf.old; given = S.given shelf.new; before = S.faults shelf.old; now = S.faults shelf.new }) (S.stands shelf.old pack.now) (IsAfterReading (S.given shelf.new) PACK_LIMIT (StopsVerdict a)))) }
 {
     let admitted = admitted_file(alloc, shelf, graph)?;
     check_pack(alloc, shelf, admitted, pack)
@@ -349,7 +349,7 @@ fn node<S: Shelf>(alloc: Global, shelf: &mut S, pack: &str, name: &str) -> Resul
     requires { S.may_fetch shelf.old pack.now }
     ensures text { IfOk result (λ o. IsNodeOf (S.stands shelf.old pack.now) name.now (bytes_of o)) }
     ensures within { IfOk result (λ _. S.given shelf.new ≤ PACK_LIMIT) }
-    ensures halt { IfErr result (StopsTables (record { stands = S.stands shelf.old; given = S.given shelf.new; before = S.faults shelf.old; now = S.faults shelf.new }) (S.stands shelf.old pack.now) (λ t. StopsNaming t name.now)) }
+    ensures halt { IfErr result (StopsTables (record { stands = S.stands shelf.old; given = S.given shelf.new; before = S.faults shelf.old; now = S.faults shelf.new }) (S.stands shelf.old pack.now) (IsAfterReading (S.given shelf.new) PACK_LIMIT (λ t. StopsNaming t name.now))) }
 {
     let tables = read_tables(alloc, shelf, pack)?;
     let lines = node_lines(alloc, &tables, name)?;

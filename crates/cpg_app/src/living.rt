@@ -4,7 +4,8 @@ ghost use Rattle.cpg_io.specs.Shelf.{SameLeave, SameNames};
 ghost use Rattle.cpg_words.specs.Forms.{command_of};
 ghost use Rattle.cpg_words.specs.Parts.{Text};
 ghost use Rattle.cpg_words.specs.declared.command.Command.TheVariants.{Live};
-ghost use Rattle.cpg_app.specs.Causes.{StopsNaming, StopsTables};
+ghost use Rattle.cpg_app.specs.declared.reading.TheConstants.{PACK_LIMIT};
+ghost use Rattle.cpg_app.specs.Causes.{IsAfterReading, StopsNaming, StopsTables};
 ghost use Rattle.cpg_app.specs.Endings.{IsSaid, IsToldTo};
 ghost use Rattle.cpg_follow.specs.Follower.{open_follower};
 ghost use Rattle.cpg_app.specs.Lawful.{IsLawful};
@@ -45,7 +46,7 @@ fn follower_of<S: Shelf>(
     ensures leave { SameLeave (S.may_fetch shelf.old) (S.may_fetch shelf.new) }
     ensures later { S.faults shelf.old ≤ S.faults shelf.new }
     ensures follower { IfOk result (λ f. IsSpelled (S.stands shelf.old pack.now) (λ t. IsFollower t name.now f)) }
-    ensures halt { IfErr result (StopsTables (record { stands = S.stands shelf.old; given = S.given shelf.new; before = S.faults shelf.old; now = S.faults shelf.new }) (S.stands shelf.old pack.now) (λ t. StopsNaming t name.now)) }
+    ensures halt { IfErr result (StopsTables (record { stands = S.stands shelf.old; given = S.given shelf.new; before = S.faults shelf.old; now = S.faults shelf.new }) (S.stands shelf.old pack.now) (IsAfterReading (S.given shelf.new) PACK_LIMIT (λ t. StopsNaming t name.now))) }
 {
     let tables = read_tables(alloc, shelf, pack)?;
     let follower = named_follower(alloc, tables, name)?;

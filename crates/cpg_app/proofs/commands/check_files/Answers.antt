@@ -1,6 +1,7 @@
 use Rattle.std.proofs.Common.{Option, inr, subst}
 use Rattle.cpg_words.specs.Parts.{Text}
-use Rattle.cpg_app.specs.Causes.{Seen, Spells, StopsGraph, StopsTables, StopsVerdict}
+use Rattle.cpg_app.specs.declared.reading.TheConstants.{PACK_LIMIT}
+use Rattle.cpg_app.specs.Causes.{Seen, IsAfterReading, Spells, StopsGraph, StopsTables, StopsVerdict}
 use Rattle.cpg_app.specs.Outputs.{bytes_of, IsChecked, IsSafeText, IsSpelled}
 use Rattle.cpg_app.proofs.Later.{if_ok, if_err, tables_later}
 use Rattle.cpg_app.proofs.commands.check_files.Goals as goal
@@ -14,8 +15,8 @@ returns-clause-halt g c =
     let middle : Seen = record { stands = S.stands c.admitted_file.new.shelf; given = S.given c.check_pack.new.shelf; before = S.faults c.admitted_file.new.shelf; now = S.faults c.check_pack.new.shelf } in
     let graph : Option Text = S.stands c.args.shelf.now c.args.graph.now in
     let pack : Option Text = S.stands c.args.shelf.now c.args.pack.now in
-    if_err {P = StopsTables middle (S.stands c.admitted_file.new.shelf c.args.pack.now) (StopsVerdict a)} {Q = StopsGraph seen graph (λ b. StopsTables seen pack (StopsVerdict b))} c.check_pack.result
-    (λ h so. inr (a, read.graph, tables_later seen (S.stands c.admitted_file.new.shelf) (S.faults c.admitted_file.new.shelf) read.later pack (StopsVerdict a) (StopsVerdict a) (λ t k w. w) h (subst (λ t. StopsTables middle t (StopsVerdict a) h) (read.names c.args.pack.now) so)))
+    if_err {P = StopsTables middle (S.stands c.admitted_file.new.shelf c.args.pack.now) (IsAfterReading middle.given PACK_LIMIT (StopsVerdict a))} {Q = StopsGraph seen graph (λ b. StopsTables seen pack (IsAfterReading seen.given PACK_LIMIT (StopsVerdict b)))} c.check_pack.result
+    (λ h so. inr (a, read.graph, tables_later seen (S.stands c.admitted_file.new.shelf) (S.faults c.admitted_file.new.shelf) read.later pack (IsAfterReading middle.given PACK_LIMIT (StopsVerdict a)) (IsAfterReading seen.given PACK_LIMIT (StopsVerdict a)) (λ t k w. w) h (subst (λ t. StopsTables middle t (IsAfterReading middle.given PACK_LIMIT (StopsVerdict a)) h) (read.names c.args.pack.now) so)))
     c.check_pack.ensures.halt
 
 pub returns-clause-text : goal.returns-clause-text
