@@ -125,6 +125,13 @@ impl Tables {
         &self.nodes[number as usize]
     }
 
+    /// The tables of the nodes, by node.
+    pub fn into_nodes(self) -> Vec<NodeTable>
+        ensures nodes { result.items ≡ self.nodes }
+    {
+        self.nodes
+    }
+
     /// Equal tables.
     pub fn copy(&self) -> Result<Tables, OutOfMemory>
         ensures { IfOk result (λ tables. tables ≡ self.now) }
