@@ -199,18 +199,18 @@ fn play_scenario<S: Shelf>(
     alloc: Global,
     shelf: &mut S,
     admitted: Admitted,
-    tables: &Tables,
+    tables: Tables,
     scenario: &str,
     turns: u64,
 ) -> Result<Output, Halt>
     requires { S.may_fetch shelf.old scenario.now }
-    ensures text { IfOk result (λ o. IsPlayedText (S.stands shelf.old scenario.now) admitted tables.now turns (bytes_of o)) }
+    ensures text { IfOk result (λ o. IsPlayedText (S.stands shelf.old scenario.now) admitted tables turns (bytes_of o)) }
     ensures within { IfOk result (λ _. S.given shelf.new ≤ SCENARIO_LIMIT) }
-    ensures halt { IfErr result (StopsPlay (record { stands = S.stands shelf.old; given = S.given shelf.new; before = S.faults shelf.old; now = S.faults shelf.new }) (S.stands shelf.old scenario.now) admitted tables.now) }
+    ensures halt { IfErr result (StopsPlay (record { stands = S.stands shelf.old; given = S.given shelf.new; before = S.faults shelf.old; now = S.faults shelf.new }) (S.stands shelf.old scenario.now) admitted tables) }
 {
     let _head = tables.head();
     let played = read_played(alloc, shelf, scenario, admitted.problem())?;
-    let admitted = judged(alloc, admitted, tables)?;
+    let admitted = judged(alloc, admitted, &tables)?;
     match play_text(alloc, &admitted, tables, &played, turns) {
         Ok(text) => Ok(Output::Lines(text)),
         Err(_) => Err(Halt::Memory),
@@ -233,7 +233,7 @@ fn play_pack<S: Shelf>(
     ensures halt { IfErr result (StopsTables (record { stands = S.stands shelf.old; given = S.given shelf.new; before = S.faults shelf.old; now = S.faults shelf.new }) (S.stands shelf.old pack.now) (StopsPlay (record { stands = S.stands shelf.old; given = S.given shelf.new; before = S.faults shelf.old; now = S.faults shelf.new }) (S.stands shelf.old scenario.now) admitted)) }
 {
     let tables = read_tables(alloc, shelf, pack)?;
-    play_scenario(alloc, shelf, admitted, &tables, scenario, turns)
+    play_scenario(alloc, shelf, admitted, tables, scenario, turns)
 }
 
 /// Plays the tables of a pack for the graph of a file.

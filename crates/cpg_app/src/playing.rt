@@ -19,14 +19,14 @@ use std::alloc::Global;
 pub fn play_text(
     alloc: Global,
     admitted: &Admitted,
-    tables: &Tables,
+    tables: Tables,
     played: &Played,
     number: u64,
 ) -> Result<String, OutOfMemory>
-    requires tables { AreTablesOf (head_of admitted.now.graph) tables.now.nodes }
-    requires valid { IsValid admitted.now.graph tables.now.nodes }
+    requires tables { AreTablesOf (head_of admitted.now.graph) tables.nodes }
+    requires valid { IsValid admitted.now.graph tables.nodes }
     requires played { IsPlayed admitted.now.graph played.now }
-    ensures { IfOk result (λ text. IsPlayText admitted.now.graph tables.now.nodes (world_of played.now) number (string_bytes text)) }
+    ensures { IfOk result (λ text. IsPlayText admitted.now.graph tables.nodes (world_of played.now) number (string_bytes text)) }
 {
     let mut cluster = Cluster::with_lengths(
         alloc,

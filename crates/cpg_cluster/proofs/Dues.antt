@@ -18,6 +18,7 @@ use Rattle.cpg_node.specs.Dispatcher.{Act, Ended}
 use Rattle.cpg_cluster.specs.Cluster.{Cluster, Done, answer}
 use Rattle.cpg_cluster.specs.Correct.{IsCorrect, IsDue, FollowsDue, AreDueEnds, IsOrderly, IsStartAct, IsSendAct, all_asked, asked_of, due_key, end_key, ends_asked, gives_end, gives_input}
 use Rattle.cpg_cluster.specs.Driving.{AllDone}
+use Rattle.cpg_cluster.specs.Laws.{PlaysThatEndAreAlike}
 use Rattle.cpg_cluster.specs.Playing.{Playing, IsPlaying}
 use Rattle.cpg_cluster.specs.Whole.{IsWholePlay, all_acts}
 use Rattle.cpg_cluster.proofs.Plays.{valid_tables_are_correct}
@@ -110,16 +111,21 @@ module _ (p : Playing) (playing : IsPlaying p) (done : AllDone p.graph p.cluster
   follows : FollowsDue p.graph p.tables p.world.scenario p.cluster
   follows = subst (FollowsDue p.graph p.tables p.world.scenario) playing.played.is (correct.plays p.world playing.played.turns playing.world)
 
+  pub acts_are_due : (node : ℕ) → node < length p.graph.nodes → get_or p.cluster.acts node [] ≡ acts_due node
+  acts_are_due node l = follows.whole node (acts_due node) l (due node) (done node l)
+
+  pub ends_are_due : (node : ℕ) → node < length p.graph.nodes → get_or p.cluster.ends node [] ≡ ends_due node
+  ends_are_due node l =
+      let whole = (valid_tables_end_as_planned p.graph p.tables playing.formed playing.shape playing.valid).whole p.world playing.played.turns node (ends_due node) playing.world l (planned node) in
+      subst (λ (c : Cluster). answer p.graph c node ≡ Done → get_or c.ends node [] ≡ ends_due node) playing.played.is whole (done node l)
+
   acts_done : (node : ℕ) → node < length p.graph.nodes → IsDue p.graph p.tables p.world.scenario node (get_or p.cluster.acts node [])
-  acts_done node l = subst (IsDue p.graph p.tables p.world.scenario node) (sym (follows.whole node (acts_due node) l (due node) (done node l))) (due node)
+  acts_done node l = subst (IsDue p.graph p.tables p.world.scenario node) (sym (acts_are_due node l)) (due node)
 
   ends_done : (node : ℕ) → node < length p.graph.nodes → AreDueEnds p.graph p.tables p.world.scenario node (get_or p.cluster.ends node [])
-  ends_done node l =
-      let whole = (valid_tables_end_as_planned p.graph p.tables playing.formed playing.shape playing.valid).whole p.world playing.played.turns node (ends_due node) playing.world l (planned node) in
-      let ended = subst (λ (c : Cluster). answer p.graph c node ≡ Done → get_or c.ends node [] ≡ ends_due node) playing.played.is whole in
-      subst (AreDueEnds p.graph p.tables p.world.scenario node) (sym (ended (done node l))) (planned node)
+  ends_done node l = subst (AreDueEnds p.graph p.tables p.world.scenario node) (sym (ends_are_due node l)) (planned node)
 
-  done_whole : IsWholePlay p.graph p.tables p.world p.cluster
+  pub done_whole : IsWholePlay p.graph p.tables p.world p.cluster
   done_whole = record {
     played = playing.played;
     acts = acts_done;
@@ -134,3 +140,10 @@ module _ (p : Playing) (playing : IsPlaying p) (done : AllDone p.graph p.cluster
 pub whole_play : (old new : Playing) → new ≡ record old { cluster = new.cluster } → IsPlaying new → AllDone old.graph new.cluster → IsWholePlay old.graph old.tables old.world new.cluster
 whole_play old new same playing done = subst (λ (p : Playing). IsWholePlay p.graph p.tables p.world new.cluster) same
     (done_whole new playing (subst (λ (g : Graph). AllDone g new.cluster) (sym (ap (λ (p : Playing). p.graph) same)) done))
+
+-- what is due doesn't tell how a play came to its end
+pub plays_that_end_are_alike : PlaysThatEndAreAlike
+plays_that_end_are_alike p other one two done over = record {
+  acts = λ node l. acts_are_due p one done node l ∙ sym (acts_are_due (record p { cluster = other }) two over node l);
+  ends = λ node l. ends_are_due p one done node l ∙ sym (ends_are_due (record p { cluster = other }) two over node l);
+}

@@ -1,9 +1,9 @@
 -- A cluster before its first turns.
-use Rattle.std.proofs.Common.{◌≡◌, ℕ, ◌+◌, ◌<◌, false, List, [], ◌∷◌, ◌++◌, length, map, filter, get_or, replicate, Contains, None, sym, ap, ◌∙◌, subst, arith, inl, inr}
+use Rattle.std.proofs.Common.{◌≡◌, ℕ, ◌+◌, ◌<◌, false, List, [], ◌∷◌, ◌++◌, length, map, filter, get_or, replicate, Contains, None, drop, sym, ap, ◌∙◌, subst, arith, inl, inr}
 use Rattle.std.specs.Prelude.{All}
 use Rattle.std.proofs.lemmas.Bool.{cases_eq}
 use Rattle.std.proofs.lemmas.List.FromFn.{length-range_with_len}
-use Rattle.std.proofs.lemmas.List.{length-append, get_or_append_left, get_or_push, get_or-map, length-map, get_or_default, get_or-replicate, length-replicate, same_lists}
+use Rattle.std.proofs.lemmas.List.{length-append, get_or_append_left, get_or_push, get_or-map, length-map, get_or_default, get_or-replicate, length-replicate, same_lists, get_or-drop, drop-drop}
 use Rattle.std.proofs.lemmas.List.Elements.{All-weaker, All-contains_itself}
 use Rattle.std.proofs.lemmas.Option.{slice_get-get_or}
 use Rattle.cpg_base.specs.Graph.{Graph, home, item_count, item_at, process_count, is_heard_by}
@@ -46,6 +46,14 @@ open_more g tables n ms m a o = record {
     | inr ne ↦ subst (IsOpen g i (table_at tables i)) (sym (get_or_append_left ms (m ∷ []) d i (omega (arith, a.count)))) (a.each i d (omega arith))
   ];
 }
+
+-- the first of the tables that are left is the next node's
+pub open_next : (g : Graph) (tables : List NodeTable) (n number after : ℕ) (t : NodeTable) (rest : List NodeTable) (ms : List Member) (m : Member) → AreOpen g tables n ms → drop n tables ≡ t ∷ rest → number ≡ n → after ≡ n + 1
+    → IsOpen g number t m → AreOpen g tables after (ms ++ m ∷ []) × (drop after tables ≡ rest)
+open_next g tables n number after t rest ms m a left is next o =
+    let at : table_at tables n ≡ t = ap (λ i. get_or tables i empty_table) (omega arith) ∙ (sym (get_or-drop n tables 0 empty_table) ∙ ap (λ ts. get_or ts 0 empty_table) left) in
+    let more = open_more g tables n ms m a (subst (λ t. IsOpen g n t m) (sym at) (subst (λ n. IsOpen g n t m) is o)) in
+    (subst (λ k. AreOpen g tables k (ms ++ m ∷ [])) (sym next) more, ap (λ k. drop k tables) next ∙ (sym (drop-drop 1 n tables) ∙ ap (drop 1) left))
 
 -- what a node hears by valid tables
 pub hears_items : (g : Graph) (tables : List NodeTable) → IsValid g tables → (i : ℕ) → i < length tables → HearsItems g (table_at tables i)

@@ -105,14 +105,14 @@ impl Cluster {
     pub fn new(
         alloc: Global,
         admitted: &Admitted,
-        tables: &Tables,
+        tables: Tables,
         scenario: &Scenario,
     ) -> Result<Cluster, OutOfMemory>
-        requires tables { AreTablesOf (head_of admitted.now.graph) tables.now.nodes }
-        requires valid { IsValid admitted.now.graph tables.now.nodes }
+        requires tables { AreTablesOf (head_of admitted.now.graph) tables.nodes }
+        requires valid { IsValid admitted.now.graph tables.nodes }
         requires scenario { IsScenario admitted.now.graph scenario.now }
-        ensures opened { IfOk result (λ c. c ≡ opened admitted.now.graph tables.now.nodes (record { scenario = scenario.now; lengths = full_lengths admitted.now.graph scenario.now })) }
-        ensures correct { IfOk result (λ _. IsCorrect admitted.now.graph tables.now.nodes) }
+        ensures opened { IfOk result (λ c. c ≡ opened admitted.now.graph tables.nodes (record { scenario = scenario.now; lengths = full_lengths admitted.now.graph scenario.now })) }
+        ensures correct { IfOk result (λ _. IsCorrect admitted.now.graph tables.nodes) }
     {
         let lengths = Lengths::full(alloc, admitted.problem(), scenario)?;
         let cluster = Cluster::with_lengths(alloc, admitted, tables, scenario, &lengths)?;
@@ -124,15 +124,15 @@ impl Cluster {
     pub fn with_lengths(
         alloc: Global,
         admitted: &Admitted,
-        tables: &Tables,
+        tables: Tables,
         scenario: &Scenario,
         lengths: &Lengths,
     ) -> Result<Cluster, OutOfMemory>
-        requires tables { AreTablesOf (head_of admitted.now.graph) tables.now.nodes }
-        requires valid { IsValid admitted.now.graph tables.now.nodes }
+        requires tables { AreTablesOf (head_of admitted.now.graph) tables.nodes }
+        requires valid { IsValid admitted.now.graph tables.nodes }
         requires world { IsWorld admitted.now.graph (record { scenario = scenario.now; lengths = lengths.now }) }
-        ensures opened { IfOk result (λ c. c ≡ opened admitted.now.graph tables.now.nodes (record { scenario = scenario.now; lengths = lengths.now })) }
-        ensures correct { IfOk result (λ _. IsCorrect admitted.now.graph tables.now.nodes) }
+        ensures opened { IfOk result (λ c. c ≡ opened admitted.now.graph tables.nodes (record { scenario = scenario.now; lengths = lengths.now })) }
+        ensures correct { IfOk result (λ _. IsCorrect admitted.now.graph tables.nodes) }
     {
         let members = open_members(alloc, admitted.problem(), tables)?;
         let mut frames = Vec::new(alloc);
@@ -157,7 +157,7 @@ impl Cluster {
         self.members[node as usize].node.next()
     }
 
-    /// What a node has done so far, by time.
+    /// What a node has done so far, in its order.
     pub fn acts(&self, node: u32) -> &[Act]
         requires { node < length self.now.graph.nodes }
         ensures { result.now ≡ get_or self.now.cluster.acts node [] }
@@ -165,7 +165,7 @@ impl Cluster {
         self.members[node as usize].acts.as_slice()
     }
 
-    /// The planned ends that a node has reached so far, each with its time, by time and then by process.
+    /// The planned ends that a node has reached so far, each with its time, in the order of reaching.
     pub fn ends(&self, node: u32) -> &[(u64, Ended)]
         requires { node < length self.now.graph.nodes }
         ensures { result.now ≡ get_or self.now.cluster.ends node [] }

@@ -125,16 +125,15 @@ pub fn take_turn(
 pub fn open_members(
     alloc: Global,
     problem: &Problem,
-    tables: &Tables,
+    tables: Tables,
 ) -> Result<Vec<Member>, OutOfMemory>
-    requires { (i : ℕ) → i < length tables.now.nodes → HearsItems problem.now (table_at tables.now.nodes i) }
-    ensures members { IfOk result (λ members. AreOpen problem.now tables.now.nodes (length tables.now.nodes) members.items) }
-    ensures lawful { AreTablesOf tables.now.head tables.now.nodes }
+    requires { (i : ℕ) → i < length tables.nodes → HearsItems problem.now (table_at tables.nodes i) }
+    ensures members { IfOk result (λ members. AreOpen problem.now tables.nodes (length tables.nodes) members.items) }
+    ensures lawful { AreTablesOf tables.head tables.nodes }
 {
     let count = tables.head().nodes().len() as u32;
     let mut members = Vec::new(alloc);
-    for number in 0..count {
-        let table = tables.node(number).copy()?;
+    for (number, table) in (0..count).zip(tables.into_nodes()) {
         members.push(open_member(alloc, problem, number, table)?)?;
     }
     Ok(members)

@@ -245,13 +245,13 @@ pub fn pair_cluster(alloc: Global, admitted: &Admitted) -> Result<Cluster, Fail>
 {
     let tables = pair_tables(alloc, admitted)?;
     let scenario = faulty(alloc, admitted.problem())?;
-    Ok(Cluster::new(alloc, admitted, &tables, &scenario)?)
+    Ok(Cluster::new(alloc, admitted, tables, &scenario)?)
 }
 
 /// Opens tables in the scenario of one fault of A, which runs one time unit.
-fn shortened(alloc: Global, admitted: &Admitted, tables: &Tables) -> Result<Cluster, Fail>
-    requires tables { AreTablesOf (head_of admitted.now.graph) tables.now.nodes }
-    requires valid { IsValid admitted.now.graph tables.now.nodes }
+fn shortened(alloc: Global, admitted: &Admitted, tables: Tables) -> Result<Cluster, Fail>
+    requires tables { AreTablesOf (head_of admitted.now.graph) tables.nodes }
+    requires valid { IsValid admitted.now.graph tables.nodes }
     ensures { IfOk result (λ c. c.graph ≡ admitted.now.graph) }
 {
     let scenario = faulty(alloc, admitted.problem())?;
@@ -264,7 +264,7 @@ pub fn short_cluster(alloc: Global, admitted: &Admitted) -> Result<Cluster, Fail
     ensures { IfOk result (λ c. c.graph ≡ admitted.now.graph) }
 {
     let tables = pair_tables(alloc, admitted)?;
-    shortened(alloc, admitted, &tables)
+    shortened(alloc, admitted, tables)
 }
 
 /// A on the first node decides: B on the second with a message, or C on the first, and then the join J on the second.
@@ -323,5 +323,5 @@ pub fn branching_cluster(alloc: Global, admitted: &Admitted) -> Result<Cluster, 
 {
     let tables = branching_tables(alloc, admitted)?;
     let scenario = true_one(alloc, admitted.problem())?;
-    Ok(Cluster::new(alloc, admitted, &tables, &scenario)?)
+    Ok(Cluster::new(alloc, admitted, tables, &scenario)?)
 }

@@ -49,7 +49,7 @@ fn ending_of(
     ensures { IfOk result (IsEnding admitted.now.graph tables.now.nodes scenario.now number) }
 {
     let _head = tables.head();
-    let mut cluster = Cluster::new(alloc, admitted, tables, scenario)?;
+    let mut cluster = Cluster::new(alloc, admitted, tables.copy()?, scenario)?;
     let waits = cluster.drive(number);
     Ok(Ending {
         finish: finish(admitted.problem(), &cluster),

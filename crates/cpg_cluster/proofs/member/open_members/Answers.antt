@@ -1,12 +1,40 @@
-use Rattle.std.proofs.Common.{subst, sym, ◌∙◌, ◌+◌}
-use Rattle.cpg_table.specs.Table.{NodeTable}
-use Rattle.cpg_cluster.specs.Keeping.{IsOpen, AreOpen}
-use Rattle.cpg_cluster.proofs.Opening.{open_more}
+use Rattle.std.proofs.Common.{subst, sym, ap, ◌∙◌, arith, inl, inr, length}
+use Rattle.std.proofs.lemmas.List.{length-drop}
+use Rattle.cpg_table.specs.Head.{Head}
+use Rattle.cpg_table.specs.Lawful.{AreTablesOf}
+use Rattle.cpg_cluster.specs.Keeping.{AreOpen}
+use Rattle.cpg_cluster.proofs.Opening.{open_next}
 use Rattle.cpg_cluster.proofs.member.open_members.Goals as goal
 
 pub loop-number-preserved : goal.loop-number-preserved
 loop-number-preserved c =
-    let m = c.in_ok-open_member.field-0 in
-    subst (AreOpen c.args.problem.now c.args.tables.now.nodes (c.loop-number.number + 1)) (sym c.in_ok-push.ensures.items)
-    (open_more c.args.problem.now c.args.tables.now.nodes c.loop-number.number c.loop-number.members.items m c.loop-number.invariant
-    (subst (λ (t : NodeTable). IsOpen c.args.problem.now c.loop-number.number t m) (c.in_ok-table.ensures ∙ c.node.ensures.table) c.in_ok-open_member.ensures))
+    let l = c.loop-number.number-iterator in
+    let t = c.next.new.self in
+    let invariant = c.loop-number.invariant in
+    let steps = c.in-Some.ensures.steps in
+    let range = steps.0 in
+    let next = open_next c.args.problem.now c.args.tables.nodes l.a.start c.in-Some.number t.a.start c.in-Some.table t.b.rest.items c.loop-number.members.items c.in_ok-open_member.field-0
+    invariant.opened (invariant.left ∙ steps.1.0) range.1.1 range.1.2 c.in_ok-open_member.ensures in
+    record {
+      opened = subst (AreOpen c.args.problem.now c.args.tables.nodes t.a.start) (sym c.in_ok-push.ensures.items) next.0;
+      left = next.1;
+      few = omega (arith, range, invariant.few);
+      end = range.0 ∙ invariant.end;
+    }
+
+pub returns-clause-members : goal.returns-clause-members
+returns-clause-members c =
+    let nodes = c.args.tables.nodes in
+    let l = c.loop-number.number-iterator in
+    let invariant = c.loop-number.invariant in
+    let many = length-drop l.a.start nodes in
+    let left = ap length invariant.left in
+    let of : AreTablesOf c.args.tables.head nodes = c.head.ensures.lawful in
+    let head = ap (λ (h : Head). length h.nodes) c.head.ensures.head in
+    let count = ap length c.nodes.ensures.nodes in
+    let rest = l.b.rest.ok.0 in
+    subst (λ n. AreOpen c.args.problem.now nodes n c.loop-number.members.items)
+    (elim c.in-None.ensures.steps [
+      | inl e ↦ omega (arith, e.1, invariant.few, invariant.end, of.count, head, count)
+      | inr e ↦ omega (arith, e.1, rest, many, left, invariant.few, invariant.end, of.count, head, count)
+    ]) invariant.opened

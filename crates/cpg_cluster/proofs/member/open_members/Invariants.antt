@@ -1,5 +1,11 @@
+use Rattle.std.proofs.Common.{◌≡◌, ◌≤◌, drop}
 use Rattle.cpg_cluster.specs.Keeping.{AreOpen}
 use Rattle.cpg_cluster.proofs.member.open_members.Given as goal
 
 abbrev pub invariant-loop-number : goal.invariant-loop-number
-invariant-loop-number l = AreOpen l.problem l.tables.nodes l.number l.members.items
+invariant-loop-number l = record {
+  opened : AreOpen l.problem l.fn.tables.nodes l.number-iterator.a.start l.members.items;
+  left : drop l.number-iterator.a.start l.fn.tables.nodes ≡ l.number-iterator.b.rest.items;
+  few : l.number-iterator.a.start ≤ l.number-iterator.a.end;
+  end : l.number-iterator.a.end ≡ l.count;
+}

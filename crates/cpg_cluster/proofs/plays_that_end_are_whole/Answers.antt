@@ -1,0 +1,6 @@
+-- A play that came to its end did all that is due.
+use Rattle.cpg_cluster.proofs.plays_that_end_are_whole.Goals as goal
+use Rattle.cpg_cluster.proofs.Dues.{done_whole}
+
+pub returns : goal.returns
+returns c = done_whole
