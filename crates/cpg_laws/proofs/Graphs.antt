@@ -1,19 +1,24 @@
 -- A graph that is refused for anything but a cycle has a topological order, and so no cycle.
-use Rattle.std.proofs.Common.{◌≡◌, ◌≢◌, ℕ, ◌<◌, ◌≤◌, List, Ok, Err, length, filter, refl, subst, arith, inl, inr, ltb-true}
+use Rattle.std.proofs.Common.{◌≡◌, ◌≢◌, ℕ, ◌<◌, ◌≤◌, Bool, true, false, List, Ok, Err, length, filter, refl, sym, ap, ◌∙◌, subst, arith, inl, inr, ltb-true, true≢false}
 use Rattle.std.proofs.lemmas.Bool.{cases_lt}
 use Rattle.std.specs.Prelude.{Result}
 use Rattle.cpg_base.specs.Graph.{Graph, inputs}
 use Rattle.cpg_base.specs.Activity.{live}
 use Rattle.cpg_base.specs.WellFormed.{HasSingleJoins, HasSenderSlots}
 use Rattle.cpg_order.specs.Cycle.{IsCycle, HasCycle}
+use Rattle.cpg_order.specs.Scenario.{Scenario, IsLeast}
 use Rattle.cpg_order.specs.Track.{track_count, most_tracks}
 use Rattle.cpg_order.proofs.Cycles.{no_cycle}
+use Rattle.cpg_order.proofs.ScenarioOrder.{one_least}
+use Rattle.cpg_order.proofs.Urgent.{one_urgency_order}
+use Rattle.cpg_guard.specs.Alternatives.{AreAlternatives, IsSingleJoin, has_two_live}
 use Rattle.cpg_rules.specs.Admission.{Admission}
 use Rattle.cpg_rules.specs.Faults.{IsOrdered, ShowsFault}
+use Rattle.cpg_rules.specs.Rules.{is_too_big, lacks_slot}
 use Rattle.cpg_rules.proofs.Exact.{no_lack}
 use Rattle.cpg_rules.specs.declared.admission.RuleFault.{RuleFault}
 use Rattle.cpg_rules.specs.declared.admission.RuleFault.TheVariants.{Cycle, TooManyTracks, TwoAlternatives, NoSlot, TooBig, OutOfMemory}
-use Rattle.cpg_laws.specs.Graphs.{RefusesCycles, CyclesAreRefusedFirst, place_of, IsFirstCause, GraphsShowFirstCauses}
+use Rattle.cpg_laws.specs.Graphs.{RefusesCycles, CyclesAreRefusedFirst, HasTwoInputs, place_of, IsFirstCause, GraphsShowFirstCauses}
 
 -- a graph in order is refused for no cycle
 none : (g : Graph) (answer : Result Admission RuleFault) → ((walk : List ℕ) → answer ≢ Err (Cycle walk)) → (HasCycle g → ⊥) → RefusesCycles g answer
@@ -111,5 +116,69 @@ module _ (g : Graph) where
     ]
   ]
 
+-- Two first causes of one kind are the same.
+
+-- the first number of a kind is one
+one_first : (holds : ℕ → Bool) (m n : ℕ) → holds m ≡ true → ((k : ℕ) → k < m → holds k ≡ false) → holds n ≡ true → ((k : ℕ) → k < n → holds k ≡ false) → m ≡ n
+one_first holds m n h before k earlier = elim (cases_lt m n) [
+  | inl l ↦ absurd (true≢false (sym h ∙ earlier m l))
+  | inr a ↦ elim (cases_lt n m) [
+    | inl l ↦ absurd (true≢false (sym k ∙ before n l))
+    | inr b ↦ omega (arith, a, b)
+  ]
+]
+
+module _ (g : Graph) where
+  not_single : (order : List ℕ) (p : ℕ) (s : Scenario) → AreAlternatives g order p s → IsSingleJoin g p → ⊥
+  not_single order p s two single = true≢false (sym two.least.holds ∙ single s.values two.join two.least.lawful.values)
+
+  one_join : (o r : List ℕ) (p q : ℕ) (s t : Scenario) → AreAlternatives g o p s → AreAlternatives g r q t → p ≡ q
+  one_join o r p q s t a b = elim (cases_lt p q) [
+    | inl l ↦ absurd (not_single o p s a (b.before p l))
+    | inr m ↦ elim (cases_lt q p) [
+      | inl l ↦ absurd (not_single r q t b (a.before q l))
+      | inr n ↦ omega (arith, m, n)
+    ]
+  ]
+
+  same_two : (p q : ℕ) (s t : Scenario) → HasTwoInputs g p s → HasTwoInputs g q t → TwoAlternatives p s ≡ TwoAlternatives q t
+  same_two p q s t h k =
+      let join = one_join h.order k.order p q s t h.two k.two in
+      let order = one_urgency_order g k.order h.order k.urgency h.urgency in
+      let least = subst (λ (o : List ℕ). IsLeast g o (λ u. has_two_live g u.values q ≡ true) t) order k.two.least in
+      λ i. TwoAlternatives (join i) (one_least g h.order h.urgency.all (λ u. has_two_live g u.values q ≡ true) s t (subst (λ r. IsLeast g h.order (λ u. has_two_live g u.values r ≡ true) s) join h.two.least) least i)
+
+  alike : (fault other : RuleFault) → place_of fault ≡ place_of other → 0 < place_of fault → place_of fault < 5 → IsFirstCause g fault → IsFirstCause g other → fault ≡ other
+  alike (Cycle walk) other e l m h k = absurd (omega (arith, l))
+  alike OutOfMemory other e l m h k = absurd (omega (arith, m))
+  alike TooManyTracks TooManyTracks e l m h k = refl
+  alike TooManyTracks (Cycle walk) e l m h k = absurd (omega (arith, e))
+  alike TooManyTracks (TwoAlternatives q t) e l m h k = absurd (omega (arith, e))
+  alike TooManyTracks (NoSlot node) e l m h k = absurd (omega (arith, e))
+  alike TooManyTracks (TooBig b) e l m h k = absurd (omega (arith, e))
+  alike TooManyTracks OutOfMemory e l m h k = absurd (omega (arith, e))
+  alike (TwoAlternatives p s) (TwoAlternatives q t) e l m h k = same_two p q s t h.2 k.2
+  alike (TwoAlternatives p s) (Cycle walk) e l m h k = absurd (omega (arith, e))
+  alike (TwoAlternatives p s) TooManyTracks e l m h k = absurd (omega (arith, e))
+  alike (TwoAlternatives p s) (NoSlot node) e l m h k = absurd (omega (arith, e))
+  alike (TwoAlternatives p s) (TooBig b) e l m h k = absurd (omega (arith, e))
+  alike (TwoAlternatives p s) OutOfMemory e l m h k = absurd (omega (arith, e))
+  alike (NoSlot node) (NoSlot other) e l m h k = ap NoSlot (one_first (lacks_slot g) node other h.3.lacks h.3.before k.3.lacks k.3.before)
+  alike (NoSlot node) (Cycle walk) e l m h k = absurd (omega (arith, e))
+  alike (NoSlot node) TooManyTracks e l m h k = absurd (omega (arith, e))
+  alike (NoSlot node) (TwoAlternatives q t) e l m h k = absurd (omega (arith, e))
+  alike (NoSlot node) (TooBig b) e l m h k = absurd (omega (arith, e))
+  alike (NoSlot node) OutOfMemory e l m h k = absurd (omega (arith, e))
+  alike (TooBig a) (TooBig b) e l m h k = ap TooBig (one_first (is_too_big g) a b h.4.above h.4.before k.4.above k.4.before)
+  alike (TooBig a) (Cycle walk) e l m h k = absurd (omega (arith, e))
+  alike (TooBig a) TooManyTracks e l m h k = absurd (omega (arith, e))
+  alike (TooBig a) (TwoAlternatives q t) e l m h k = absurd (omega (arith, e))
+  alike (TooBig a) (NoSlot node) e l m h k = absurd (omega (arith, e))
+  alike (TooBig a) OutOfMemory e l m h k = absurd (omega (arith, e))
+
 pub graphs_show_first_causes : GraphsShowFirstCauses
-graphs_show_first_causes g = record { first = first g; one = one g }
+graphs_show_first_causes g = record {
+  first = first g;
+  one = one g;
+  same = λ fault other kept kept' later h k. alike g fault other (one g fault other kept kept' h k) later (below g fault kept) h k;
+}

@@ -1,13 +1,22 @@
--- The longest front that some pack begins with is one.
-use Rattle.std.proofs.Common.{ℕ, ◌≤◌, List, arith}
-use Rattle.cpg_codec.specs.Packs.{IsBadPack}
+-- Reading answers of any bytes; the longest front that some pack begins with is one.
+use Rattle.std.proofs.Common.{ℕ, ◌≡◌, ◌≤◌, List, Result, Ok, Err, refl, arith, inl, inr}
+use Rattle.std.specs.Prelude.{◌⊎◌}
+use Rattle.cpg_table.specs.Lawful.{Tables}
+use Rattle.cpg_codec.specs.Grammar.{read}
+use Rattle.cpg_codec.specs.Packs.{AreLawful, IsBadPack}
+use Rattle.cpg_codec.specs.Spelling.{spelling}
+use Rattle.cpg_codec.proofs.Theorems.{read_is_spelled, refused_is_bad}
 use Rattle.cpg_laws.specs.Packs.{PacksAreRefusedAtOnePlace}
+
+answered : (bytes : List ℕ) (answer : Result Tables ℕ) → read bytes ≡ answer → ((t : Tables) × AreLawful t × (bytes ≡ spelling t)) ⊎ ((n : ℕ) × IsBadPack bytes n)
+answered bytes (Ok t) e = let r = read_is_spelled bytes t e in inl (t, r.0, r.1)
+answered bytes (Err n) e = inr (n, refused_is_bad bytes n e)
 
 at_most : (bytes : List ℕ) (n m : ℕ) → IsBadPack bytes n → IsBadPack bytes m → n ≤ m
 at_most bytes n m bad other = other.longest n bad.place bad.goes_on
 
 pub packs_are_refused_at_one_place : PacksAreRefusedAtOnePlace
-packs_are_refused_at_one_place bytes n m bad other =
-    let below = at_most bytes n m bad other in
-    let above = at_most bytes m n other bad in
-    omega (arith, below, above)
+packs_are_refused_at_one_place bytes = record {
+  some = answered bytes (read bytes) refl;
+  one = λ n m bad other. let below = at_most bytes n m bad other in let above = at_most bytes m n other bad in omega (arith, below, above);
+}

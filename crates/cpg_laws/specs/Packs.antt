@@ -1,7 +1,14 @@
--- A law on the refusal of packs.
-use Rattle.std.specs.Prelude.{ℕ, ◌≡◌, List}
-use Rattle.cpg_codec.specs.Packs.{IsBadPack}
+-- A law on packs and their refusal.
+use Rattle.std.specs.Prelude.{ℕ, ◌≡◌, ◌⊎◌, List}
+use Rattle.cpg_table.specs.Lawful.{Tables}
+use Rattle.cpg_codec.specs.Packs.{AreLawful, IsBadPack}
+use Rattle.cpg_codec.specs.Spelling.{spelling}
 
--- bytes that are no pack are so from one place on
+-- bytes are a pack, or no pack, and then so from one place on
+pub record ArePackOrRefused (bytes : List ℕ) : Type 0 where
+  pub some : ((t : Tables) × AreLawful t × (bytes ≡ spelling t)) ⊎ ((n : ℕ) × IsBadPack bytes n)
+  pub one : (n m : ℕ) → IsBadPack bytes n → IsBadPack bytes m → n ≡ m
+
+-- so are any bytes
 abbrev pub PacksAreRefusedAtOnePlace : Type 0
-PacksAreRefusedAtOnePlace = (bytes : List ℕ) (n m : ℕ) → IsBadPack bytes n → IsBadPack bytes m → n ≡ m
+PacksAreRefusedAtOnePlace = (bytes : List ℕ) → ArePackOrRefused bytes

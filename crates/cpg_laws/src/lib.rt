@@ -30,13 +30,13 @@ pub fn cycles_are_refused_first()
     ensures { CyclesAreRefusedFirst }
 {}
 
-/// A graph is refused for its first cause, of which it has one at most: a cycle, too many tracks, two live inputs of a join, a
-/// node without its slot, a message that is too big.
+/// A graph is refused for its first cause, of which it has one at most, but that it may have several cycles: a cycle, too many
+/// tracks, two live inputs of a join, a node without its slot, a message that is too big.
 pub fn graphs_show_first_causes()
     ensures { GraphsShowFirstCauses }
 {}
 
-/// Bytes that are no pack are refused at one place.
+/// Bytes are a pack, or are no pack from one place on, at which they are refused.
 pub fn packs_are_refused_at_one_place()
     ensures { PacksAreRefusedAtOnePlace }
 {}
