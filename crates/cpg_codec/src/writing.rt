@@ -45,7 +45,7 @@ fn write_through<O: Sink>(buffer: &mut Buffer, sink: &mut O, tables: &Tables) ->
     buffer.write(sink)
 }
 
-/// Writes the spelling of tables, in pieces of 65,536 bytes and a rest.
+/// Writes the spelling of tables.
 ///
 /// `Failed` only where the sink's count of faults rose. The sink has taken a proper prefix of the spelling then. The
 /// buffer is taken before the first write, so on `OutOfMemory` the sink is as it was.

@@ -46,7 +46,7 @@ IsHeardTree g f node guard t = (s : Scenario) → HasFew g.faults s → (tell : 
     ((c : ℕ) → Contains (way guard s.values) c → Tells s (tell c) (time c) (heard_tree g f node c)) →
     Tells s (told_of s tell (way guard s.values)) (latest_of (heard_delay g node) time (way guard s.values)) t
 
--- inputs that a node doesn't send itself are there once it is ready
+-- inputs that are no messages, those within the node, are there once it is ready
 abbrev pub AreThere : Graph → (ℕ → Option ℕ) → ℕ → List ℕ → Type 0
 AreThere g time ready edges = (e : ℕ) → Contains edges e → is_message g e ≡ false → time_later 0 (time e) ≤ ready
 

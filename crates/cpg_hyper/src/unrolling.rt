@@ -98,7 +98,8 @@ fn over(alloc: Global, whole: u64, parts: &[Part]) -> Result<Problem, HyperFault
 ///
 /// The refusals come in this order: a period out of its range; other faults, nodes or slots than the first part's; a
 /// deadline or a release above its period; a hyperperiod above 10^9; too many processes, edges or conditions; too long a
-/// made name. Each shows the first part that it is true of. Want of memory may come before any of the last two.
+/// made name. One of a range, a difference, a time or a name shows the first part that it is true of. Want of memory may
+/// come in place of any.
 pub fn unroll(alloc: Global, parts: &[Part]) -> Result<Problem, HyperFault>
     requires some { 1 ≤ length parts.now }
     requires few { length parts.now ≤ 4 }

@@ -123,8 +123,8 @@ fn figures_of(
     })
 }
 
-/// Generates the graph of a number, admits, compiles and checks it, and plays its tables in three scenarios as the number
-/// drives them. No such graph is refused, too wide or late, so it errs by want of memory alone.
+/// Generates the graph of a number, admits and compiles it, and plays its tables in three scenarios as the number drives
+/// them. No such graph is refused, too wide or late, so it errs by want of memory alone.
 pub fn run_trial(alloc: Global, number: u64) -> Result<Trial, OutOfMemory>
     ensures { IfOk result (IsTrial number) }
 {
