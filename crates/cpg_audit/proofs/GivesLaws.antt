@@ -1,16 +1,14 @@
 -- A scenario gives a log exactly where no cube that the log excludes matches.
-use Rattle.std.proofs.Common.{ℕ, suc, ◌+◌, ◌≤◌, ◌≡◌, ◌≢◌, ◌==◌, Bool, true, false, not, List, [], ◌∷◌, ◌++◌, map, filter, Option, Some, None, IfSome, IfNone, All, AllPairs, Contains, arith, refl, sym, ap, ◌∙◌, subst, inl, inr, eq-eqb, eqb-true, ne_eqb, true≢false}
+use Rattle.std.proofs.Common.{ℕ, suc, ◌≤◌, ◌≡◌, ◌≢◌, ◌==◌, Bool, true, false, not, List, [], ◌∷◌, ◌++◌, map, filter, Option, Some, None, IfSome, IfNone, All, AllPairs, Contains, arith, refl, sym, ap, ◌∙◌, subst, inl, inr, eq-eqb, eqb-true, ne_eqb, true≢false}
 use Rattle.std.specs.Prelude.{nat_le}
 use Rattle.std.specs.List.{list_any, flat_map}
 use Rattle.std.proofs.lemmas.Bool.{cases_eq, cond-true, cond-false, false_from_ne_true, leb-true, le-leb, not-false}
-use Rattle.std.proofs.lemmas.List.{append-nil}
-use Rattle.std.proofs.lemmas.List.Concat.{flat_map-append}
-use Rattle.std.proofs.lemmas.List.Elements.{All-contains, All-contains_itself, All-weaker, Contains-append_cases, Contains-append_left, Contains-append_right}
+use Rattle.std.proofs.lemmas.List.Elements.{All-append, All-contains, All-filter, All-map, Contains-append_cases, Contains-append_left, Contains-append_right}
 use Rattle.std.proofs.lemmas.Option.{none-some, same_Some}
 use Rattle.cpg_base.specs.Numbers.{numbers_below}
 use Rattle.cpg_base.specs.Graph.{Graph, item_at, item_count}
 use Rattle.cpg_base.specs.Activity.{item_active}
-use Rattle.cpg_base.proofs.Lists.{Contains-first, Contains-rest, Contains-cases, Contains-nil, Contains-map, Contains-map_parts, Contains-filter, Contains-filter_parts, Contains-flat_map, Contains-flat_map_parts, Contains-numbers, below_push, list_any_false, from_any_false, slice_get-Contains}
+use Rattle.cpg_base.proofs.Lists.{Contains-first, Contains-rest, Contains-cases, Contains-nil, Contains-map, Contains-map_parts, Contains-filter, Contains-filter_parts, Contains-flat_map, Contains-flat_map_parts, Contains-numbers, list_any_false, from_any_false, slice_get-Contains}
 use Rattle.cpg_order.specs.Scenario.{Scenario, IsScenario, IsLeast}
 use Rattle.cpg_order.specs.First.{IsFirst}
 use Rattle.cpg_cube.specs.Cube.{matches}
@@ -178,25 +176,11 @@ module _ (g : Graph) (order : List ℕ) (tables : List NodeTable) (setting : (s 
   none_gives None first = λ s law gives. true≢false (sym (gives_left s law gives) ∙ first s law)
   none_gives (Some s) first = tt
 
--- ---- going over the items and acts
+-- the variables of excluded cubes are the graph's
+pub excluded_known : (g : Graph) (tables : List NodeTable) (log : Log) (x : ℕ) → All (λ (c : Column). IsKnown g c.cube) (columns_of tables x) → All (IsKnown g) (excluded_of tables log x)
+excluded_known g tables log x known =
+    let excluded : Column → Bool = λ c. is_excluded log.until (logged_time log.acts x) c.time in
+    All-map (IsKnown g) (λ (c : Column). c.cube) (filter excluded (columns_of tables x)) (All-filter excluded (λ (c : Column). IsKnown g c.cube) (columns_of tables x) known)
 
-pub flat_below : {X : Type 0} (f : ℕ → List X) (n : ℕ) → flat_map f (numbers_below (n + 1)) ≡ flat_map f (numbers_below n) ++ f n
-flat_below f n = ap (flat_map f) (below_push n) ∙ flat_map-append f (numbers_below n) (n ∷ []) ∙ ap (λ xs. flat_map f (numbers_below n) ++ xs) (append-nil (f n))
-
-pub every : {X : Type 0} (P : X → Type 0) (xs : List X) → ((x : X) → Contains xs x → P x) → All P xs
-every P xs h = All-weaker (Contains xs) P h xs (All-contains_itself xs)
-
--- the variables of these cubes are the graph's
-pub cubes_known : (g : Graph) (tables : List NodeTable) (log : Log) (ns : List ℕ) (idle : List (ℕ × List Literal)) → ((x : ℕ) → All (λ (c : Column). IsKnown g c.cube) (columns_of tables x)) → All (λ (c : ℕ × List Literal). IsKnown g c.1) idle
-    → All (IsKnown g) (flat_map (excluded_of tables log) ns ++ map (λ (c : ℕ × List Literal). c.1) idle)
-cubes_known g tables log ns idle columns known = every (IsKnown g) (flat_map (excluded_of tables log) ns ++ map (λ (c : ℕ × List Literal). c.1) idle) (λ b h.
-    elim (Contains-append_cases (flat_map (excluded_of tables log) ns) (map (λ (c : ℕ × List Literal). c.1) idle) b h) [
-      | inl j ↦
-          let p = Contains-flat_map_parts (excluded_of tables log) ns b j in
-          let q = Contains-map_parts (λ (c : Column). c.cube) (filter (λ (c : Column). is_excluded log.until (logged_time log.acts p.0) c.time) (columns_of tables p.0)) b p.2 in
-          let r = Contains-filter_parts (λ (c : Column). is_excluded log.until (logged_time log.acts p.0) c.time) (columns_of tables p.0) q.0 q.1 in
-          subst (IsKnown g) q.2 (All-contains (λ (c : Column). IsKnown g c.cube) (columns_of tables p.0) q.0 (columns p.0) r.0)
-      | inr j ↦
-          let q = Contains-map_parts (λ (c : ℕ × List Literal). c.1) idle b j in
-          subst (IsKnown g) q.2 (All-contains (λ (c : ℕ × List Literal). IsKnown g c.1) idle q.0 known q.1)
-    ])
+pub idle_known : (g : Graph) (kept : List (List Literal)) (idle : List (ℕ × List Literal)) → All (IsKnown g) kept → All (λ (c : ℕ × List Literal). IsKnown g c.1) idle → All (IsKnown g) (kept ++ map (λ (c : ℕ × List Literal). c.1) idle)
+idle_known g kept idle first then = All-append (IsKnown g) kept (map (λ (c : ℕ × List Literal). c.1) idle) first (All-map (IsKnown g) (λ (c : ℕ × List Literal). c.1) idle then)

@@ -3,3 +3,4 @@ pub mod TextLaws
 pub mod ReadingLaws
 pub mod IdleLaws
 pub mod GivesLaws
+pub mod NarrowingLaws

@@ -3,3 +3,4 @@ pub mod Lines
 pub mod Reading
 pub mod Gives
 pub mod Excluded
+pub mod Narrowing

@@ -1,21 +1,29 @@
 //! The least scenario that gives a log.
-ghost use Rattle.std.specs.Prelude.{◌≡◌, ◌++◌, IfNone, IfOk, IfSome, map};
-ghost use Rattle.std.specs.List.{flat_map};
+ghost use Rattle.std.specs.Prelude.{◌≡◌, ◌++◌, ℕ, All, IfNone, IfOk, IfSome, map};
+ghost use Rattle.std.specs.List.{flat_map, list_any};
 ghost use Rattle.cpg_base.specs.Graph.{item_count};
 ghost use Rattle.cpg_base.specs.Numbers.{numbers_below};
 ghost use Rattle.cpg_order.specs.Scenario.{Scenario, IsLeast, IsScenario};
+ghost use Rattle.cpg_cube.specs.Cube.{matches};
+ghost use Rattle.cpg_cube.specs.Fit.{IsKnown};
+ghost use Rattle.cpg_table.specs.Table.{columns_of};
 ghost use Rattle.cpg_table.specs.Valid.{IsValid};
+ghost use Rattle.cpg_tree.specs.Space.{Lies};
 ghost use Rattle.cpg_violation.specs.Heads.{IsHeadFor};
 ghost use Rattle.cpg_audit.specs.Excluded.{excluded_cubes, excluded_of, is_excluded};
 ghost use Rattle.cpg_audit.specs.Gives.{Gives};
 ghost use Rattle.cpg_audit.specs.Log.{IsLog};
+ghost use Rattle.cpg_audit.specs.Narrowing.{Leaves};
 
 use crate::idle::all_idle;
 use crate::log::Log;
+use crate::log_order::in_log_order;
+use crate::narrowing::{cube_of, narrow, take_off_all};
 use cpg_base::{OutOfMemory, Problem, Scenario};
 use cpg_cube::{Cube, uncovered};
 use cpg_rules::Admitted;
 use cpg_table::{Entry, Tables};
+use cpg_tree::Space;
 use cpg_violation::columns_of;
 use std::alloc::Global;
 
@@ -29,38 +37,48 @@ fn is_excluded(until: u64, logged: Option<u64>, time: u64) -> bool
     }
 }
 
-/// Adds the cubes of an item's columns with times that a log excludes.
-fn push_excluded<'a>(
+/// The cubes of an item's columns with times that a log excludes.
+fn excluded_cubes<'a>(
+    alloc: Global,
     until: u64,
     logged: Option<u64>,
     columns: &'a [Entry],
-    by: &mut Vec<&'a Cube>,
-) -> Result<(), OutOfMemory>
-    ensures { IfOk result (λ _. map (λ b. b.now) by.new.items ≡ map (λ b. b.now) by.old.items ++ excluded_cubes until logged columns.now) }
+) -> Result<Vec<&'a Cube>, OutOfMemory>
+    ensures { IfOk result (λ by. map (λ b. b.now) by.items ≡ excluded_cubes until logged columns.now) }
 {
+    let mut by = Vec::new(alloc);
     for column in columns {
         if is_excluded(until, logged, column.time) {
             by.push(&column.cube)?;
         }
     }
-    Ok(())
+    Ok(by)
 }
 
-/// The cubes of all columns with times that a log excludes.
+/// The cubes of all columns with times that a log excludes, but for some that match nothing of what is left of a space, which is
+/// narrowed by them item by item.
 fn excluded<'a>(
     alloc: Global,
     problem: &Problem,
     tables: &'a Tables,
     log: &Log,
+    space: &mut Space,
 ) -> Result<Vec<&'a Cube>, OutOfMemory>
-    ensures { IfOk result (λ by. map (λ b. b.now) by.items ≡ flat_map (excluded_of tables.entry.now.nodes log.now) (numbers_below (item_count problem.now))) }
+    requires { (x : ℕ) → All (λ c. IsKnown problem.now c.cube) (columns_of tables.now.nodes x) }
+    ensures same { IfOk result (λ kept. (s : Scenario) → Lies space.old s → list_any (λ b. matches b.now s) kept.items ≡ list_any (λ b. matches b s) (flat_map (excluded_of tables.entry.now.nodes log.now) (numbers_below (item_count problem.now)))) }
+    ensures space { IfOk result (λ kept. (s : Scenario) → Lies space.old s → Leaves space.new kept.items s) }
+    ensures known { IfOk result (λ kept. All (λ b. IsKnown problem.now b.now) kept.items) }
 {
-    let mut by = Vec::new(alloc);
-    for item in 0..problem.item_count() {
-        let columns = columns_of(tables, item);
-        push_excluded(log.until(), log.time_of(item), columns, &mut by)?;
+    let ordered = in_log_order(alloc, problem, log)?;
+    let mut kept = Vec::new(alloc);
+    for timed in ordered.as_slice() {
+        let columns = columns_of(tables, timed.item);
+        let by = excluded_cubes(alloc, log.until(), log.time_of(timed.item), columns)?;
+        let first = kept.len();
+        take_off_all(space, by.as_slice(), &mut kept)?;
+        narrow(space, &kept[first..]);
     }
-    Ok(by)
+    Ok(kept)
 }
 
 /// Adds the cubes of columns.
@@ -88,11 +106,13 @@ pub fn audit(
     ensures none { IfOk result (λ r. IfNone r ((s : Scenario) → IsScenario admitted.now.graph s → ¬ Gives admitted.now.graph tables.now.nodes log.now s)) }
 {
     let problem = admitted.problem();
+    let order = admitted.order();
     let _head = tables.head();
     let idle = all_idle(alloc, admitted, log.acts())?;
-    let mut by = excluded(alloc, problem, tables, log)?;
+    let mut space = Space::whole(problem.faults());
+    let mut by = excluded(alloc, problem, tables, log, &mut space)?;
     push_cubes(idle.as_slice(), &mut by)?;
-    let whole = Cube::whole(alloc);
-    let found = uncovered(alloc, problem, admitted.order(), &whole, by.as_slice())?;
+    let cube = cube_of(alloc, problem, &space)?;
+    let found = uncovered(alloc, problem, order, &cube, by.as_slice())?;
     Ok(found)
 }

@@ -6,6 +6,8 @@ mod fault;
 mod idle;
 mod lines;
 mod log;
+mod log_order;
+mod narrowing;
 mod number;
 mod reading;
 mod texts;

@@ -1,7 +1,10 @@
-use Rattle.std.proofs.Common.{ℕ, ◌≡◌, ◌++◌, ◌∙◌, List, All, Bor, map, flat_map, sym, ap, subst}
+use Rattle.std.proofs.Common.{ℕ, refl, ◌≡◌, ◌++◌, List, [], All, Bor, map, flat_map, sym, subst}
+use Rattle.std.proofs.lemmas.List.Elements.{All-map}
 use Rattle.cpg_base.specs.Numbers.{numbers_below}
 use Rattle.cpg_base.specs.Graph.{item_count}
 use Rattle.cpg_order.specs.Scenario.{Scenario, IsScenario}
+use Rattle.cpg_order.proofs.First.{first_same}
+use Rattle.cpg_cube.specs.Cover.{is_left}
 use Rattle.cpg_cube.specs.declared.literal.Literal.{Literal}
 use Rattle.cpg_cube.specs.Fit.{IsKnown}
 use Rattle.cpg_cube.proofs.Kept.{all_unmapped}
@@ -11,7 +14,9 @@ use Rattle.cpg_violation.proofs.HeadLaws.{tables_of_graph}
 use Rattle.cpg_violation.proofs.Violations.{long_order, columns_known}
 use Rattle.cpg_audit.specs.Excluded.{excluded_of}
 use Rattle.cpg_audit.specs.Log.{IsActBy}
-use Rattle.cpg_audit.proofs.GivesLaws.{cubes_known, least_gives, none_gives}
+use Rattle.cpg_tree.proofs.OnePath.{scenario_few}
+use Rattle.cpg_audit.proofs.NarrowingLaws.{left_of_whole}
+use Rattle.cpg_audit.proofs.GivesLaws.{idle_known, least_gives, none_gives}
 use Rattle.cpg_audit.proofs.auditing.audit.Goals as goal
 
 -- what the list's references point to
@@ -22,17 +27,19 @@ pub all_idle-requires : goal.all_idle-requires
 all_idle-requires c = (c.args.log.now.until, subst (All (IsActBy c.args.admitted.now.graph c.args.log.now.until)) (sym c.acts.ensures) c.requires.log.acts)
 
 pub uncovered-requires-clause-order : goal.uncovered-requires-clause-order
-uncovered-requires-clause-order c = rw (c.order.ensures.order, c.problem-problem.ensures.problem) (long_order c.order.ensures.admitted)
+uncovered-requires-clause-order c = rw (c.order-order.ensures.order, c.problem-problem.ensures.problem) (long_order c.order-order.ensures.admitted)
+
+pub excluded-requires : goal.excluded-requires
+excluded-requires c x =
+    let are = tables_of_graph c.args.admitted.now.graph c.args.tables.now.head c.args.tables.now.nodes c.requires.head c.head-head.ensures.lawful in
+    rw c.problem-problem.ensures.problem (columns_known c.order-order.ensures.admitted c.args.tables.now.nodes are x)
 
 pub uncovered-requires-clause-list : goal.uncovered-requires-clause-list
 uncovered-requires-clause-list c =
     let g = c.args.admitted.now.graph in
-    let nodes = c.args.tables.now.nodes in
-    let are = tables_of_graph g c.args.tables.now.head nodes c.requires.head c.head-head.ensures.lawful in
-    let by : map seen c.push_cubes.new.by.items ≡ flat_map (excluded_of nodes c.args.log.now) (numbers_below (item_count c.problem-problem.result.now)) ++ map (λ (d : ℕ × List Literal). d.1) c.in_ok-idle.idle.items =
-    rw c.as_slice.ensures.value at (c.in_ok-push_cubes.ensures ∙ ap (λ xs. xs ++ map (λ (d : ℕ × List Literal). d.1) c.as_slice.result.now) c.in_ok-by.ensures) in
-    let cubes : All (IsKnown g) (map seen c.push_cubes.new.by.items) = subst (All (IsKnown g)) (sym by)
-    (cubes_known g nodes c.args.log.now (numbers_below (item_count c.problem-problem.result.now)) c.in_ok-idle.idle.items (columns_known c.order.ensures.admitted nodes are) c.in_ok-idle.ensures.known) in
+    let by = rw c.as_slice.ensures.value at c.in_ok-push_cubes.ensures in
+    let kept : All (IsKnown g) (map seen c.in_ok-by.by.items) = rw c.problem-problem.ensures.problem at (All-map (IsKnown c.problem-problem.result.now) seen c.in_ok-by.by.items c.in_ok-by.ensures.known) in
+    let cubes : All (IsKnown g) (map seen c.push_cubes.new.by.items) = subst (All (IsKnown g)) (sym by) (idle_known g (map seen c.in_ok-by.by.items) c.in_ok-idle.idle.items kept c.in_ok-idle.ensures.known) in
     rw (c.problem-problem.ensures.problem, c.as_slice-2.ensures.value) (all_unmapped (IsKnown g) seen c.push_cubes.new.by.items cubes)
 
 pub returns-clause-least : goal.returns-clause-least
@@ -41,14 +48,19 @@ returns-clause-least c =
     let order = c.args.admitted.now.order in
     let nodes = c.args.tables.now.nodes in
     let log = c.args.log.now in
-    let idle = c.in_ok-idle.idle.items in
-    let a = c.order.ensures.admitted in
+    let a = c.order-order.ensures.admitted in
     let are = tables_of_graph g c.args.tables.now.head nodes c.requires.head c.head-head.ensures.lawful in
     let setting : (s : Scenario) → IsScenario g s → Setting g nodes s = λ s law. record { formed = a.well_formed; shape = has_shape g a.limits nodes are; valid = c.requires.valid; law = law } in
-    let by = rw (c.as_slice.ensures.value, c.problem-problem.ensures.problem) at (c.in_ok-push_cubes.ensures ∙ ap (λ xs. xs ++ map (λ (d : ℕ × List Literal). d.1) c.as_slice.result.now) c.in_ok-by.ensures) in
     let told = rw c.acts.ensures at c.in_ok-idle.ensures.idle in
-    let first = rw (c.problem-problem.ensures.problem, c.order.ensures.order, c.whole-whole.ensures, c.as_slice-2.ensures.value) at c.in_ok-found.ensures.first in
-    least_gives g order nodes setting log c.requires.log idle told (map seen c.push_cubes.new.by.items) by c.in_ok-found.found first
+    let idle = map (λ (d : ℕ × List Literal). d.1) c.in_ok-idle.idle.items in
+    let all = flat_map (excluded_of nodes log) (numbers_below (item_count g)) in
+    let by = rw c.as_slice.ensures.value at c.in_ok-push_cubes.ensures in
+    let same : (s : Scenario) → IsScenario g s → is_left (map seen c.push_cubes.new.by.items) c.in_ok-cube.cube s ≡ is_left (all ++ idle) [] s = λ s law.
+    let lies = c.whole-space.ensures.lies s (rw (c.faults.ensures.faults, c.problem-problem.ensures.problem) (scenario_few g s law)) in
+    left_of_whole c.in_ok-by.by.items c.push_cubes.new.by.items idle all c.in_ok-cube.cube s by (rw c.problem-problem.ensures.problem at (c.in_ok-by.ensures.same s lies)) (λ off.
+    c.in_ok-cube.ensures.matches s (c.in_ok-by.ensures.space s lies off)) in
+    let first = rw (c.problem-problem.ensures.problem, c.order-order.ensures.order, c.as_slice-2.ensures.value) at c.in_ok-found.ensures.first in
+    least_gives g order nodes setting log c.requires.log c.in_ok-idle.idle.items told (all ++ idle) refl c.in_ok-found.found (first_same g order (is_left (map seen c.push_cubes.new.by.items) c.in_ok-cube.cube) (is_left (all ++ idle) []) c.in_ok-found.found same first)
 
 pub returns-clause-none : goal.returns-clause-none
 returns-clause-none c =
@@ -56,11 +68,16 @@ returns-clause-none c =
     let order = c.args.admitted.now.order in
     let nodes = c.args.tables.now.nodes in
     let log = c.args.log.now in
-    let idle = c.in_ok-idle.idle.items in
-    let a = c.order.ensures.admitted in
+    let a = c.order-order.ensures.admitted in
     let are = tables_of_graph g c.args.tables.now.head nodes c.requires.head c.head-head.ensures.lawful in
     let setting : (s : Scenario) → IsScenario g s → Setting g nodes s = λ s law. record { formed = a.well_formed; shape = has_shape g a.limits nodes are; valid = c.requires.valid; law = law } in
-    let by = rw (c.as_slice.ensures.value, c.problem-problem.ensures.problem) at (c.in_ok-push_cubes.ensures ∙ ap (λ xs. xs ++ map (λ (d : ℕ × List Literal). d.1) c.as_slice.result.now) c.in_ok-by.ensures) in
     let told = rw c.acts.ensures at c.in_ok-idle.ensures.idle in
-    let first = rw (c.problem-problem.ensures.problem, c.order.ensures.order, c.whole-whole.ensures, c.as_slice-2.ensures.value) at c.in_ok-found.ensures.first in
-    none_gives g order nodes setting log c.requires.log idle told (map seen c.push_cubes.new.by.items) by c.in_ok-found.found first
+    let idle = map (λ (d : ℕ × List Literal). d.1) c.in_ok-idle.idle.items in
+    let all = flat_map (excluded_of nodes log) (numbers_below (item_count g)) in
+    let by = rw c.as_slice.ensures.value at c.in_ok-push_cubes.ensures in
+    let same : (s : Scenario) → IsScenario g s → is_left (map seen c.push_cubes.new.by.items) c.in_ok-cube.cube s ≡ is_left (all ++ idle) [] s = λ s law.
+    let lies = c.whole-space.ensures.lies s (rw (c.faults.ensures.faults, c.problem-problem.ensures.problem) (scenario_few g s law)) in
+    left_of_whole c.in_ok-by.by.items c.push_cubes.new.by.items idle all c.in_ok-cube.cube s by (rw c.problem-problem.ensures.problem at (c.in_ok-by.ensures.same s lies)) (λ off.
+    c.in_ok-cube.ensures.matches s (c.in_ok-by.ensures.space s lies off)) in
+    let first = rw (c.problem-problem.ensures.problem, c.order-order.ensures.order, c.as_slice-2.ensures.value) at c.in_ok-found.ensures.first in
+    none_gives g order nodes setting log c.requires.log c.in_ok-idle.idle.items told (all ++ idle) refl c.in_ok-found.found (first_same g order (is_left (map seen c.push_cubes.new.by.items) c.in_ok-cube.cube) (is_left (all ++ idle) []) c.in_ok-found.found same first)

@@ -1,0 +1,23 @@
+use Rattle.std.proofs.Common.{◌≡◌, ◌++◌, ◌∷◌, ◌∙◌, ℕ, [], map, ap, rules, subst, sym}
+use Rattle.std.specs.Prelude.{IsPermutation}
+use Rattle.std.proofs.lemmas.List.{map-append}
+use Rattle.std.proofs.lemmas.List.Sorted.{IsPermutation-map}
+use Rattle.cpg_base.specs.Graph.{item_count}
+use Rattle.cpg_base.specs.Numbers.{numbers_below}
+use Rattle.cpg_base.proofs.Lists.{below_push}
+use Rattle.cpg_audit.specs.declared.log_order.Timed.{Timed}
+use Rattle.cpg_audit.proofs.log_order.in_log_order.Goals as goal
+
+abbrev item : Timed → ℕ
+item t = t.item
+
+pub loop-item-preserved : goal.loop-item-preserved
+loop-item-preserved c =
+    let timed : Timed = record { time = c.unwrap_or-time.result; item = c.loop-item.item } in
+    ap (map item) c.in_ok-push.ensures.items ∙ map-append item c.loop-item.ordered.items (timed ∷ []) ∙ ap (λ xs. xs ++ c.loop-item.item ∷ []) c.loop-item.invariant ∙ sym (below_push c.loop-item.item)
+
+pub returns : goal.returns
+returns c =
+    let last : c.loop-item.item ≡ item_count c.args.problem.now = search rules in
+    let all : map item c.loop-item.ordered.items ≡ numbers_below (item_count c.args.problem.now) = c.loop-item.invariant ∙ ap numbers_below last in
+    subst (λ xs. IsPermutation xs (map item c.sort_by_key.new.self.items)) all (IsPermutation-map item c.loop-item.ordered.items c.sort_by_key.new.self.items c.in_ok-sort_by_key.ensures.permutation)

@@ -1,0 +1,28 @@
+use Rattle.std.proofs.Common.{rules, ◌≡◌, ◌-◌, ◌∙◌, ◌||◌, ap, drop, arith, Bor, List, subst, sym}
+use Rattle.std.specs.List.{list_any}
+use Rattle.cpg_cube.specs.Cube.{matches}
+use Rattle.cpg_cube.specs.declared.literal.Literal.{Literal}
+use Rattle.cpg_cube.specs.Fit.{IsKnown}
+use Rattle.cpg_audit.proofs.NarrowingLaws.{before_place}
+use Rattle.cpg_audit.proofs.narrowing.take_off_all.Goals as goal
+
+pub loop-place-preserved : goal.loop-place-preserved
+loop-place-preserved c =
+    let inv = c.loop-place.invariant in
+    let by = c.args.by.now in
+    record {
+      within = omega (arith, inv.within);
+      same = λ s leaves.
+          let held = list_any (λ b. matches b.now s) c.args.kept.now.items in
+          c.in_ok-take_off.ensures.same s (inv.left s leaves)
+          ∙ ap (λ b. b || matches c.index-by-place.result.now s) (inv.same s leaves)
+          ∙ before_place (λ b. matches b.now s) by c.loop-place.place c.index-by-place.result held c.loop-place-test.true inv.within c.index-by-place.is;
+      left = λ s leaves. c.in_ok-take_off.ensures.space s (inv.left s leaves);
+      grows = search rules;
+      known = λ g all first. c.in_ok-take_off.ensures.known g (subst (λ (b : Bor (List Literal)). IsKnown g b.now) (sym c.index-by-place.is) (all (c.loop-place.place - 1) c.index-by-place.result (omega (arith, c.loop-place-test.true, inv.within)))) (inv.known g all first);
+    }
+
+pub returns-clause-same : goal.returns-clause-same
+returns-clause-same c s leaves =
+    let first : c.loop-place.place ≡ 0 = omega (arith, c.loop-place-test.false) in
+    c.loop-place.invariant.same s leaves ∙ ap (λ k. list_any (λ b. matches b.now s) c.args.kept.now.items || list_any (λ b. matches b.now s) (drop k c.args.by.now)) first

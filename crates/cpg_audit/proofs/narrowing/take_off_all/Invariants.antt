@@ -1,0 +1,20 @@
+use Rattle.std.proofs.Common.{◌≡◌, ◌≤◌, ◌||◌, All, drop, length}
+use Rattle.std.specs.List.{list_any}
+use Rattle.cpg_base.specs.Graph.{Graph}
+use Rattle.cpg_order.specs.Scenario.{Scenario}
+use Rattle.cpg_cube.specs.Cube.{matches}
+use Rattle.cpg_cube.specs.Fit.{IsKnown}
+use Rattle.cpg_audit.specs.Narrowing.{Leaves}
+use Rattle.cpg_audit.proofs.narrowing.take_off_all.Given as goal
+
+abbrev pub invariant-loop-place : goal.invariant-loop-place
+invariant-loop-place l = record {
+  within : l.place ≤ length l.by;
+  same : (s : Scenario) → Leaves l.fn.space l.fn.kept.items s → list_any (λ b. matches b.now s) l.kept.items ≡ (list_any (λ b. matches b.now s) l.fn.kept.items || list_any (λ b. matches b.now s) (drop l.place l.by));
+  left : (s : Scenario) → Leaves l.fn.space l.fn.kept.items s → Leaves l.space l.kept.items s;
+  grows : length l.fn.kept.items ≤ length l.kept.items;
+  known : (g : Graph) → All (λ b. IsKnown g b.now) l.by → All (λ b. IsKnown g b.now) l.fn.kept.items → All (λ b. IsKnown g b.now) l.kept.items;
+}
+
+abbrev pub decreases-loop-place : goal.decreases-loop-place
+decreases-loop-place l = l.place

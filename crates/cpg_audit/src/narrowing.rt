@@ -1,0 +1,188 @@
+//! What is left of all scenarios where single cubes are taken off, as ranges.
+ghost use Rattle.std.specs.Prelude.{◌≡◌, ◌≤◌, ◌<◌, ◌||◌, ℕ, All, IfOk, IfSome, false, length, true};
+ghost use Rattle.std.specs.Bool.{OnTrue};
+ghost use Rattle.std.specs.List.{list_any};
+ghost use Rattle.cpg_base.specs.Graph.{Graph, IsVariable};
+ghost use Rattle.cpg_order.specs.Scenario.{Scenario};
+ghost use Rattle.cpg_cube.specs.Cube.{holds, matches};
+ghost use Rattle.cpg_cube.specs.Fit.{IsKnown};
+ghost use Rattle.cpg_tree.specs.Space.{Lies};
+ghost use Rattle.cpg_audit.specs.Narrowing.{IsExtent, IsRange, Leaves};
+
+use cpg_base::{FIRST_VALUE, OutOfMemory, Problem, top};
+use cpg_cube::{Cube, Literal};
+use cpg_tree::Space;
+use std::alloc::Global;
+
+/// Which scenarios of a space a cube matches, as far as its literals tell one by one.
+#[derive(Drop)]
+enum Extent {
+    /// None.
+    Nowhere,
+    /// Those in which a literal holds.
+    Where(Literal),
+    /// Not told.
+    Unknown,
+}
+
+/// Whether a literal holds nowhere in a space.
+fn is_apart(space: &Space, literal: &Literal) -> bool
+    ensures { OnTrue result ((s : Scenario) → Lies space.now s → holds s literal.now ≡ false) }
+{
+    space.most(literal.variable) < literal.low || literal.high < space.least(literal.variable)
+}
+
+/// Which scenarios of a space literals match.
+fn extent_of(space: &Space, literals: &[Literal]) -> Extent
+    ensures { IsExtent space.now literals.now result }
+{
+    let mut open = None;
+    for literal in literals {
+        if !space.tells(literal) {
+            if is_apart(space, literal) {
+                return Extent::Nowhere;
+            }
+            if open.is_some() {
+                return Extent::Unknown;
+            }
+            open = Some(*literal);
+        }
+    }
+    match open {
+        Some(literal) => Extent::Where(literal),
+        None => Extent::Unknown,
+    }
+}
+
+/// The range that a variable is in where a literal on it doesn't hold; `None` where that isn't one range of the space.
+fn range_outside(space: &Space, literal: Literal) -> Option<Literal>
+    ensures { IfSome result (λ l. (s : Scenario) → Lies space.now s → holds s literal ≡ false → holds s l ≡ true) }
+{
+    let variable = literal.variable;
+    let least = space.least(variable);
+    let most = space.most(variable);
+    if literal.low <= least && literal.high < most {
+        return Some(Literal {
+            variable,
+            low: literal.high + 1,
+            high: most,
+        });
+    }
+    if least < literal.low && most <= literal.high {
+        return Some(Literal {
+            variable,
+            low: least,
+            high: literal.low - 1,
+        });
+    }
+    None
+}
+
+/// Leaves the scenarios in which a literal doesn't hold, where they have one range of its variable.
+fn exclude(space: &mut Space, literal: Literal)
+    ensures { (s : Scenario) → Lies space.old s → holds s literal ≡ false → Lies space.new s }
+{
+    let Some(range) = range_outside(space, literal) else {
+        return;
+    };
+    if let Some(rest) = space.within(&[range]) {
+        *space = rest;
+    }
+}
+
+/// Leaves the scenarios that a cube doesn't match, where it tells of one variable, and keeps the cube unless it is known to match
+/// none of the space.
+fn take_off<'a>(
+    space: &mut Space,
+    cube: &'a Cube,
+    kept: &mut Vec<&'a Cube>,
+) -> Result<(), OutOfMemory>
+    ensures same { IfOk result (λ _. (s : Scenario) → Leaves space.old kept.old.items s → list_any (λ b. matches b.now s) kept.new.items ≡ (list_any (λ b. matches b.now s) kept.old.items || matches cube.now s)) }
+    ensures space { IfOk result (λ _. (s : Scenario) → Leaves space.old kept.old.items s → Leaves space.new kept.new.items s) }
+    ensures grows { IfOk result (λ _. length kept.old.items ≤ length kept.new.items) }
+    ensures known { IfOk result (λ _. (g : Graph) → IsKnown g cube.now → All (λ b. IsKnown g b.now) kept.old.items → All (λ b. IsKnown g b.now) kept.new.items) }
+{
+    match extent_of(space, cube.literals()) {
+        Extent::Nowhere => return Ok(()),
+        Extent::Where(literal) => exclude(space, literal),
+        Extent::Unknown => {}
+    }
+    kept.push(cube)?;
+    Ok(())
+}
+
+/// Leaves the scenarios that no cube matches, as far as each by itself tells of one variable, and keeps the cubes but for those that
+/// are known to match nothing of what is left at their turn. It goes from the last on: where an item's cubes rise by the number of
+/// faults, each then takes off the greatest number that is left, down to the one that the log tells.
+pub fn take_off_all<'a>(
+    space: &mut Space,
+    by: &[&'a Cube],
+    kept: &mut Vec<&'a Cube>,
+) -> Result<(), OutOfMemory>
+    ensures same { IfOk result (λ _. (s : Scenario) → Leaves space.old kept.old.items s → list_any (λ b. matches b.now s) kept.new.items ≡ (list_any (λ b. matches b.now s) kept.old.items || list_any (λ b. matches b.now s) by.now)) }
+    ensures space { IfOk result (λ _. (s : Scenario) → Leaves space.old kept.old.items s → Leaves space.new kept.new.items s) }
+    ensures grows { IfOk result (λ _. length kept.old.items ≤ length kept.new.items) }
+    ensures known { IfOk result (λ _. (g : Graph) → All (λ b. IsKnown g b.now) by.now → All (λ b. IsKnown g b.now) kept.old.items → All (λ b. IsKnown g b.now) kept.new.items) }
+{
+    let mut place = by.len();
+    while place > 0 {
+        place -= 1;
+        take_off(space, by[place], kept)?;
+    }
+    Ok(())
+}
+
+/// Leaves the scenarios that no cube matches, as far as each by itself tells of one variable. It goes from the last on: of cubes that
+/// were kept from the last on, each then takes off the least number that is left.
+pub fn narrow(space: &mut Space, by: &[&Cube])
+    ensures { (s : Scenario) → list_any (λ b. matches b.now s) by.now ≡ false → Lies space.old s → Lies space.new s }
+{
+    let mut place = by.len();
+    while place > 0 {
+        place -= 1;
+        if let Extent::Where(literal) = extent_of(space, by[place].literals()) {
+            exclude(space, literal);
+        }
+    }
+}
+
+/// Adds the ranges of the variables from one on and before another, but for those that all scenarios are in.
+fn push_ranges(
+    problem: &Problem,
+    space: &Space,
+    first: u8,
+    end: u8,
+    cube: &mut Cube,
+) -> Result<(), OutOfMemory>
+    requires order { first ≤ end }
+    requires known { (v : ℕ) → first ≤ v → v < end → IsVariable problem.now v }
+    requires before { All (IsRange problem.now space.now first) cube.old }
+    ensures { IfOk result (λ _. All (IsRange problem.now space.now end) cube.new) }
+{
+    let k = problem.faults();
+    for variable in first..end {
+        let low = space.least(variable);
+        let high = space.most(variable);
+        if low > 0 || high < top(k, variable) {
+            cube.push(Literal {
+                variable,
+                low,
+                high,
+            })?;
+        }
+    }
+    Ok(())
+}
+
+/// The cube of a space's ranges.
+pub fn cube_of(alloc: Global, problem: &Problem, space: &Space) -> Result<Cube, OutOfMemory>
+    ensures matches { IfOk result (λ cube. (s : Scenario) → Lies space.now s → matches cube s ≡ true) }
+    ensures known { IfOk result (IsKnown problem.now) }
+{
+    let mut cube = Cube::whole(alloc);
+    let processes = problem.processes().len() as u8;
+    let end = FIRST_VALUE + problem.conditions() as u8;
+    push_ranges(problem, space, 0, processes, &mut cube)?;
+    push_ranges(problem, space, FIRST_VALUE, end, &mut cube)?;
+    Ok(cube)
+}
