@@ -12,6 +12,13 @@ impl From<AllocError> for OutOfMemory {
     }
 }
 
+/// What `Clone` answers.
+impl From<OutOfMemory> for AllocError {
+    fn from(_: OutOfMemory) -> Self {
+        AllocError
+    }
+}
+
 impl<T: Drop> From<AllocFailed<T>> for OutOfMemory {
     fn from(_: AllocFailed<T>) -> Self {
         OutOfMemory

@@ -3,7 +3,7 @@ ghost use Rattle.std.specs.Prelude.{◌≡◌, ◌↔◌, IfOk, IfSome, IfNone, 
 ghost use Rattle.cpg_base.specs.Name.{IsName, is_name_byte};
 
 use crate::OutOfMemory;
-use std::alloc::Global;
+use std::alloc::{AllocError, Global};
 use std::marker::Model;
 
 /// A name of a node or a process, seen as its bytes: 1 to 32 of them, each a letter, a digit, `_`, `-` or `.`.
@@ -65,5 +65,14 @@ impl Name {
         Ok(Name {
             text: self.text.clone()?,
         })
+    }
+}
+
+/// A clone is an equal name.
+impl Clone for Name {
+    ghost is_clone = { λ name copy. copy ≡ name };
+
+    fn clone(&self) -> Result<Name, AllocError> {
+        Ok(self.copy()?)
     }
 }

@@ -63,28 +63,6 @@ fn round_of(slots: &[Slot]) -> u64
     slots.iter().map(|slot| slot.length).sum()
 }
 
-fn copy_names(names: &Vec<Name>) -> Result<Vec<Name>, OutOfMemory>
-    ensures { IfOk result (λ copy. copy.items ≡ names.now.items) }
-{
-    let mut copy = Vec::new(*names.allocator());
-    copy.reserve(names.len())?;
-    for name in names.as_slice() {
-        copy.push(name.copy()?)?;
-    }
-    Ok(copy)
-}
-
-fn copy_processes(processes: &Vec<Process>) -> Result<Vec<Process>, OutOfMemory>
-    ensures { IfOk result (λ copy. copy.items ≡ processes.now.items) }
-{
-    let mut copy = Vec::new(*processes.allocator());
-    copy.reserve(processes.len())?;
-    for process in processes.as_slice() {
-        copy.push(process.copy()?)?;
-    }
-    Ok(copy)
-}
-
 impl Problem {
     /// The graph of these parts, and `None` exactly where one of the limits is broken.
     pub fn new(
@@ -259,9 +237,9 @@ impl Problem {
         Ok(Problem {
             faults: self.faults,
             deadline: self.deadline,
-            nodes: copy_names(&self.nodes)?,
+            nodes: self.nodes.clone()?,
             slots: self.slots.clone()?,
-            processes: copy_processes(&self.processes)?,
+            processes: self.processes.clone()?,
             edges: self.edges.clone()?,
             conditions: self.conditions.copy(),
         })

@@ -5,6 +5,7 @@ ghost use Rattle.cpg_base.specs.Duration.{duration_of};
 ghost use Rattle.cpg_base.specs.Limits.{IsProcessWithin};
 
 use crate::{Name, OutOfMemory};
+use std::alloc::AllocError;
 
 /// A process, with the node that it runs on. Times are in the time units of the graph file.
 #[derive(Drop)]
@@ -89,5 +90,14 @@ impl Process {
             release: self.release,
             deadline: self.deadline,
         })
+    }
+}
+
+/// A clone is an equal process.
+impl Clone for Process {
+    ghost is_clone = { λ process copy. copy ≡ process };
+
+    fn clone(&self) -> Result<Process, AllocError> {
+        Ok(self.copy()?)
     }
 }

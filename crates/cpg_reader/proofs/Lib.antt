@@ -1,6 +1,8 @@
 pub mod NameTexts
 pub mod Each
+pub mod Tables
 pub mod Texts
+pub mod Parts
 pub mod Steps
 pub mod Limits
 pub mod Numbering

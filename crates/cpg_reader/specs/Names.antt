@@ -76,6 +76,12 @@ resolved g = do
   edges ← each (edge_of (process_names g.processes)) 0 g.edges
   pure (graph_with g slots processes edges)
 
+-- the same where the names of processes are looked at first
+unfoldable pub named : RawGraph → Reading Graph
+named g = do
+  apart tables.Process Name (process_names g.processes)
+  resolved g
+
 -- the graph of a document within the limits: first no name of a kind is double, then each names something
 unfoldable pub graph_of : RawGraph → Reading Graph
 graph_of g = do

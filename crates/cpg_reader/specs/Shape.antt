@@ -1,6 +1,7 @@
 -- What a document says, as far as its keys and types go: the refusals of a bad field.
-use Rattle.std.specs.Prelude.{ℕ, ℤ, pos, false, List, [], ◌∷◌}
+use Rattle.std.specs.Prelude.{ℕ, ℤ, pos, false, List, [], ◌∷◌, map}
 use Rattle.toml.specs.Data.{Members, as_integer, as_bool}
+use Rattle.toml.specs.View.{table_view}
 use Rattle.cpg_reader.specs.declared.place.Table.{Table}
 use Rattle.cpg_reader.specs.declared.place.Table.TheVariants as tables
 use Rattle.cpg_reader.specs.declared.place.Key.TheVariants.{Faults, Deadline, Node, Slot, Process, Edge, Name, Length, Bytes, Wcet, Parts, Alpha, Chi, Mu, Join, Frozen, Release, From, To, When}
@@ -8,6 +9,9 @@ use Rattle.cpg_reader.specs.declared.shape.RawSlot.{RawSlot}
 use Rattle.cpg_reader.specs.declared.shape.RawProcess.{RawProcess}
 use Rattle.cpg_reader.specs.declared.shape.RawEdge.{RawEdge}
 use Rattle.cpg_reader.specs.declared.shape.RawProblem.{RawProblem}
+use Rattle.cpg_reader.specs.declared.shape.RawWork.{RawWork}
+use Rattle.cpg_reader.specs.declared.shape.RawLink.{RawLink}
+use Rattle.cpg_reader.specs.declared.shape.Tops.{Tops as TopsOfCode}
 use Rattle.cpg_reader.specs.Reading.{Reading, pure, ◌>>=◌, ◌>>◌, each}
 use Rattle.cpg_reader.specs.Rows.{Row, name_at, integer_at, integer_or, flag_or, optional, tables_at, only}
 
@@ -41,6 +45,25 @@ process_at row = do
   only (Name ∷ Node ∷ Wcet ∷ Parts ∷ Alpha ∷ Chi ∷ Mu ∷ Join ∷ Frozen ∷ Release ∷ Deadline ∷ []) row
   pure (record { name = name; node = node; wcet = wcet; parts = parts; alpha = alpha; chi = chi; mu = mu; join = join; frozen = frozen; release = release; deadline = deadline })
 
+-- what a process has beside its names, and the end of its table
+unfoldable pub work_at : Row → Reading RawWork
+work_at row = do
+  wcet ← integer_at row Wcet
+  parts ← integer_or (pos 1) row Parts
+  alpha ← integer_or (pos 0) row Alpha
+  chi ← integer_or (pos 0) row Chi
+  mu ← integer_or (pos 0) row Mu
+  join ← flag_or false row Join
+  frozen ← flag_or false row Frozen
+  release ← integer_or (pos 0) row Release
+  deadline ← optional as_integer row Deadline
+  only (Name ∷ Node ∷ Wcet ∷ Parts ∷ Alpha ∷ Chi ∷ Mu ∷ Join ∷ Frozen ∷ Release ∷ Deadline ∷ []) row
+  pure (record { wcet = wcet; parts = parts; alpha = alpha; chi = chi; mu = mu; join = join; frozen = frozen; release = release; deadline = deadline })
+
+-- a process of these names
+abbrev pub process_with : List ℕ → List ℕ → RawWork → RawProcess
+process_with name node w = record { name = name; node = node; wcet = w.wcet; parts = w.parts; alpha = w.alpha; chi = w.chi; mu = w.mu; join = w.join; frozen = w.frozen; release = w.release; deadline = w.deadline }
+
 unfoldable pub edge_at : Row → Reading RawEdge
 edge_at row = do
   from ← name_at row From
@@ -50,6 +73,19 @@ edge_at row = do
   frozen ← flag_or false row Frozen
   only (From ∷ To ∷ Bytes ∷ When ∷ Frozen ∷ []) row
   pure (record { from = from; to = to; bytes = bytes; when = when; frozen = frozen })
+
+-- what an edge has beside its ends, and the end of its table
+unfoldable pub link_at : Row → Reading RawLink
+link_at row = do
+  bytes ← integer_or (pos 1) row Bytes
+  when ← optional as_bool row When
+  frozen ← flag_or false row Frozen
+  only (From ∷ To ∷ Bytes ∷ When ∷ Frozen ∷ []) row
+  pure (record { bytes = bytes; when = when; frozen = frozen })
+
+-- an edge between these ends
+abbrev pub edge_with : List ℕ → List ℕ → RawLink → RawEdge
+edge_with from to l = record { from = from; to = to; bytes = l.bytes; when = l.when; frozen = l.frozen }
 
 -- the elements of a list of the document
 abbrev pub rows_at : {T : Type 0} → Table → (Row → Reading T) → List Members → Reading (List T)
@@ -83,3 +119,41 @@ raw_graph_at ms = do
   processes ← rows_at tables.Process process_at process_tables
   edges ← rows_at tables.Edge edge_at edge_tables
   pure (record { faults = faults; deadline = deadline; nodes = nodes; slots = slots; processes = processes; edges = edges })
+
+-- what stands at the keys of the top: two numbers, and the tables of each list
+pub record Tops : Type 0 where
+  pub faults : ℤ
+  pub deadline : ℤ
+  pub nodes : List Members
+  pub slots : List Members
+  pub processes : List Members
+  pub edges : List Members
+
+abbrev pub tops_view : TopsOfCode → Tops
+tops_view t = record { faults = t.faults; deadline = t.deadline; nodes = map (λ m. table_view m.now) t.nodes.items; slots = map (λ m. table_view m.now) t.slots.items; processes = map (λ m. table_view m.now) t.processes.items; edges = map (λ m. table_view m.now) t.edges.items }
+
+-- the tables of each list, and the end of the top
+unfoldable pub lists_at : Row → ℤ → ℤ → Reading Tops
+lists_at top faults deadline = do
+  node_tables ← tables_at top Node
+  slot_tables ← tables_at top Slot
+  process_tables ← tables_at top Process
+  edge_tables ← tables_at top Edge
+  only (Faults ∷ Deadline ∷ Node ∷ Slot ∷ Process ∷ Edge ∷ []) top
+  pure (record { faults = faults; deadline = deadline; nodes = node_tables; slots = slot_tables; processes = process_tables; edges = edge_tables })
+
+-- all keys of the top
+unfoldable pub tops_at : Row → Reading Tops
+tops_at top = do
+  faults ← integer_at top Faults
+  deadline ← integer_at top Deadline
+  lists_at top faults deadline
+
+-- the elements of each list, one list after the other
+unfoldable pub elements_at : Tops → Reading RawGraph
+elements_at t = do
+  nodes ← rows_at tables.Node node_at t.nodes
+  slots ← rows_at tables.Slot slot_at t.slots
+  processes ← rows_at tables.Process process_at t.processes
+  edges ← rows_at tables.Edge edge_at t.edges
+  pure (record { faults = t.faults; deadline = t.deadline; nodes = nodes; slots = slots; processes = processes; edges = edges })

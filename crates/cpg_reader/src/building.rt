@@ -3,7 +3,7 @@ ghost use Rattle.std.specs.Prelude.{◌≡◌, ◌≤◌, length, Ok, IfOk, opti
 ghost use Rattle.cpg_reader.specs.Reading.{Gives, each};
 ghost use Rattle.cpg_reader.specs.Shape.{raw_view};
 ghost use Rattle.cpg_reader.specs.Ranges.{limits};
-ghost use Rattle.cpg_reader.specs.Names.{natural, slot_of, process_of, edge_of, slot_names, process_names, apart, graph_with, resolved, graph_of};
+ghost use Rattle.cpg_reader.specs.Names.{natural, slot_of, process_of, edge_of, slot_names, process_names, apart, graph_with, resolved, named, graph_of};
 
 use crate::names::Names;
 use crate::place::{Key, Place, ReadFault, Table};
@@ -197,16 +197,25 @@ fn process_names<'a>(alloc: Global, raw: &'a RawProblem) -> Result<Names<'a>, Re
     Names::of(alloc, Table::Process, Key::Name, raw.processes.as_slice())
 }
 
-#[tactic(auto, unfolding(crate::specs::Names::graph_of))]
+/// The parts of a document whose nodes have these names.
+#[tactic(auto, unfolding(crate::specs::Names::named))]
+fn parts_on(alloc: Global, raw: &RawProblem, nodes: &Names<'_>) -> Result<Parts, ReadFault>
+    requires limits { limits (raw_view raw.now) ≡ Ok tt }
+    requires nodes { nodes.now ≡ (raw_view raw.now).nodes }
+    ensures { Gives (λ p. graph_with (raw_view raw.now) p.slots.items p.processes.items p.edges.items) result (named (raw_view raw.now)) }
+{
+    let names = process_names(alloc, raw)?;
+    resolved(alloc, raw, nodes, &names)
+}
+
+#[tactic(auto, unfolding(crate::specs::Names::graph_of, crate::specs::Names::named))]
 fn parts_of(alloc: Global, raw: &RawProblem) -> Result<Parts, ReadFault>
     requires { limits (raw_view raw.now) ≡ Ok tt }
     ensures { Gives (λ p. graph_with (raw_view raw.now) p.slots.items p.processes.items p.edges.items) result (graph_of (raw_view raw.now)) }
 {
     let nodes = node_names(alloc, raw)?;
     slots_differ(alloc, raw)?;
-    let processes = process_names(alloc, raw)?;
-    let parts = resolved(alloc, raw, &nodes, &processes)?;
-    Ok(parts)
+    parts_on(alloc, raw, &nodes)
 }
 
 fn faults_of(raw: &RawProblem) -> u8

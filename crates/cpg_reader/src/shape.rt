@@ -3,7 +3,7 @@ ghost use Rattle.std.specs.Prelude.{◌≡◌, map};
 ghost use Rattle.toml.specs.View.{table_view};
 ghost use Rattle.cpg_reader.specs.Reading.{Reading, Gives, each};
 ghost use Rattle.cpg_reader.specs.Rows.{Row as RowOfDocument, row_view};
-ghost use Rattle.cpg_reader.specs.Shape.{node_at, slot_at, process_at, edge_at, rows_at, raw_view, raw_graph_at};
+ghost use Rattle.cpg_reader.specs.Shape.{node_at, slot_at, process_at, work_at, edge_at, link_at, rows_at, raw_view, raw_graph_at, tops_view, tops_at, lists_at, elements_at};
 
 use crate::place::{Key, ReadFault, Table};
 use crate::row::Row;
@@ -91,6 +91,60 @@ impl Element for RawSlot {
     }
 }
 
+/// What a process has beside its names, as the document has it.
+#[derive(Clone, Copy)]
+struct RawWork {
+    wcet: i64,
+    parts: i64,
+    alpha: i64,
+    chi: i64,
+    mu: i64,
+    join: bool,
+    frozen: bool,
+    release: i64,
+    deadline: Option<i64>,
+}
+
+/// What a process has beside its names, where its table has no other key.
+#[tactic(auto, unfolding(crate::specs::Shape::work_at))]
+fn read_work(row: &Row<'_>) -> Result<RawWork, ReadFault>
+    ensures { Gives (λ x. x) result (work_at (row_view row.now)) }
+{
+    let wcet = row.integer(Key::Wcet)?;
+    let parts = row.integer_or(Key::Parts, 1)?;
+    let alpha = row.integer_or(Key::Alpha, 0)?;
+    let chi = row.integer_or(Key::Chi, 0)?;
+    let mu = row.integer_or(Key::Mu, 0)?;
+    let join = row.flag(Key::Join)?;
+    let frozen = row.flag(Key::Frozen)?;
+    let release = row.integer_or(Key::Release, 0)?;
+    let deadline = row.optional_integer(Key::Deadline)?;
+    row.only(&[
+        Key::Name,
+        Key::Node,
+        Key::Wcet,
+        Key::Parts,
+        Key::Alpha,
+        Key::Chi,
+        Key::Mu,
+        Key::Join,
+        Key::Frozen,
+        Key::Release,
+        Key::Deadline,
+    ])?;
+    Ok(RawWork {
+        wcet,
+        parts,
+        alpha,
+        chi,
+        mu,
+        join,
+        frozen,
+        release,
+        deadline,
+    })
+}
+
 impl Element for RawProcess {
     ghost reads = { process_at };
 
@@ -98,42 +152,45 @@ impl Element for RawProcess {
     fn read(alloc: Global, row: &Row<'_>) -> Result<RawProcess, ReadFault> {
         let name = row.name(alloc, Key::Name)?;
         let node = row.name(alloc, Key::Node)?;
-        let wcet = row.integer(Key::Wcet)?;
-        let parts = row.integer_or(Key::Parts, 1)?;
-        let alpha = row.integer_or(Key::Alpha, 0)?;
-        let chi = row.integer_or(Key::Chi, 0)?;
-        let mu = row.integer_or(Key::Mu, 0)?;
-        let join = row.flag(Key::Join)?;
-        let frozen = row.flag(Key::Frozen)?;
-        let release = row.integer_or(Key::Release, 0)?;
-        let deadline = row.optional_integer(Key::Deadline)?;
-        row.only(&[
-            Key::Name,
-            Key::Node,
-            Key::Wcet,
-            Key::Parts,
-            Key::Alpha,
-            Key::Chi,
-            Key::Mu,
-            Key::Join,
-            Key::Frozen,
-            Key::Release,
-            Key::Deadline,
-        ])?;
+        let work = read_work(row)?;
         Ok(RawProcess {
             name,
             node,
-            wcet,
-            parts,
-            alpha,
-            chi,
-            mu,
-            join,
-            frozen,
-            release,
-            deadline,
+            wcet: work.wcet,
+            parts: work.parts,
+            alpha: work.alpha,
+            chi: work.chi,
+            mu: work.mu,
+            join: work.join,
+            frozen: work.frozen,
+            release: work.release,
+            deadline: work.deadline,
         })
     }
+}
+
+/// What an edge has beside its ends, as the document has it.
+#[derive(Clone, Copy)]
+struct RawLink {
+    bytes: i64,
+    when: Option<bool>,
+    frozen: bool,
+}
+
+/// What an edge has beside its ends, where its table has no other key.
+#[tactic(auto, unfolding(crate::specs::Shape::link_at))]
+fn read_link(row: &Row<'_>) -> Result<RawLink, ReadFault>
+    ensures { Gives (λ x. x) result (link_at (row_view row.now)) }
+{
+    let bytes = row.integer_or(Key::Bytes, 1)?;
+    let when = row.optional_flag(Key::When)?;
+    let frozen = row.flag(Key::Frozen)?;
+    row.only(&[Key::From, Key::To, Key::Bytes, Key::When, Key::Frozen])?;
+    Ok(RawLink {
+        bytes,
+        when,
+        frozen,
+    })
 }
 
 impl Element for RawEdge {
@@ -143,16 +200,13 @@ impl Element for RawEdge {
     fn read(alloc: Global, row: &Row<'_>) -> Result<RawEdge, ReadFault> {
         let from = row.name(alloc, Key::From)?;
         let to = row.name(alloc, Key::To)?;
-        let bytes = row.integer_or(Key::Bytes, 1)?;
-        let when = row.optional_flag(Key::When)?;
-        let frozen = row.flag(Key::Frozen)?;
-        row.only(&[Key::From, Key::To, Key::Bytes, Key::When, Key::Frozen])?;
+        let link = read_link(row)?;
         Ok(RawEdge {
             from,
             to,
-            bytes,
-            when,
-            frozen,
+            bytes: link.bytes,
+            when: link.when,
+            frozen: link.frozen,
         })
     }
 }
@@ -177,22 +231,31 @@ fn rows<T: Element + Drop>(
     Ok(rows)
 }
 
-/// All that a document says.
-#[tactic(auto, unfolding(crate::specs::Shape::raw_graph_at))]
-pub fn raw_problem(alloc: Global, members: &toml::Table) -> Result<RawProblem, ReadFault>
-    ensures { Gives raw_view result (raw_graph_at (table_view members.now)) }
+/// The keys of the top: the numbers, and the tables of each list.
+#[derive(Drop)]
+struct Tops<'a> {
+    faults: i64,
+    deadline: i64,
+    nodes: Vec<&'a toml::Table>,
+    slots: Vec<&'a toml::Table>,
+    processes: Vec<&'a toml::Table>,
+    edges: Vec<&'a toml::Table>,
+}
+
+/// The tables of each list of the top, where it has no other key.
+#[tactic(auto, unfolding(crate::specs::Shape::lists_at))]
+fn read_lists<'a>(
+    alloc: Global,
+    top: &Row<'a>,
+    faults: i64,
+    deadline: i64,
+) -> Result<Tops<'a>, ReadFault>
+    ensures { Gives tops_view result (lists_at (row_view top.now) faults deadline) }
 {
-    let top = Row {
-        table: Table::Top,
-        index: 0,
-        members,
-    };
-    let faults = top.integer(Key::Faults)?;
-    let deadline = top.integer(Key::Deadline)?;
-    let node_tables = top.tables(alloc, Key::Node)?;
-    let slot_tables = top.tables(alloc, Key::Slot)?;
-    let process_tables = top.tables(alloc, Key::Process)?;
-    let edge_tables = top.tables(alloc, Key::Edge)?;
+    let nodes = top.tables(alloc, Key::Node)?;
+    let slots = top.tables(alloc, Key::Slot)?;
+    let processes = top.tables(alloc, Key::Process)?;
+    let edges = top.tables(alloc, Key::Edge)?;
     top.only(&[
         Key::Faults,
         Key::Deadline,
@@ -201,11 +264,7 @@ pub fn raw_problem(alloc: Global, members: &toml::Table) -> Result<RawProblem, R
         Key::Process,
         Key::Edge,
     ])?;
-    let nodes = rows(alloc, Table::Node, node_tables.as_slice())?;
-    let slots = rows(alloc, Table::Slot, slot_tables.as_slice())?;
-    let processes = rows(alloc, Table::Process, process_tables.as_slice())?;
-    let edges = rows(alloc, Table::Edge, edge_tables.as_slice())?;
-    Ok(RawProblem {
+    Ok(Tops {
         faults,
         deadline,
         nodes,
@@ -213,4 +272,46 @@ pub fn raw_problem(alloc: Global, members: &toml::Table) -> Result<RawProblem, R
         processes,
         edges,
     })
+}
+
+/// What stands at the keys of the top.
+#[tactic(auto, unfolding(crate::specs::Shape::tops_at))]
+fn read_top<'a>(alloc: Global, top: &Row<'a>) -> Result<Tops<'a>, ReadFault>
+    ensures { Gives tops_view result (tops_at (row_view top.now)) }
+{
+    let faults = top.integer(Key::Faults)?;
+    let deadline = top.integer(Key::Deadline)?;
+    read_lists(alloc, top, faults, deadline)
+}
+
+/// The elements of each list, one list after the other.
+#[tactic(auto, unfolding(crate::specs::Shape::elements_at))]
+fn read_elements(alloc: Global, tops: &Tops<'_>) -> Result<RawProblem, ReadFault>
+    ensures { Gives raw_view result (elements_at (tops_view tops.now)) }
+{
+    let nodes = rows(alloc, Table::Node, tops.nodes.as_slice())?;
+    let slots = rows(alloc, Table::Slot, tops.slots.as_slice())?;
+    let processes = rows(alloc, Table::Process, tops.processes.as_slice())?;
+    let edges = rows(alloc, Table::Edge, tops.edges.as_slice())?;
+    Ok(RawProblem {
+        faults: tops.faults,
+        deadline: tops.deadline,
+        nodes,
+        slots,
+        processes,
+        edges,
+    })
+}
+
+/// All that a document says.
+pub fn raw_problem(alloc: Global, members: &toml::Table) -> Result<RawProblem, ReadFault>
+    ensures { Gives raw_view result (raw_graph_at (table_view members.now)) }
+{
+    let top = Row {
+        table: Table::Top,
+        index: 0,
+        members,
+    };
+    let tops = read_top(alloc, &top)?;
+    read_elements(alloc, &tops)
 }

@@ -3,6 +3,7 @@ ghost use Rattle.std.specs.Prelude.{◌≡◌, IfOk};
 
 use cpg_base::OutOfMemory;
 use cpg_cube::{Cube, Cubed};
+use std::alloc::AllocError;
 
 /// A column of a row.
 #[derive(Drop)]
@@ -22,6 +23,15 @@ impl Entry {
             time: self.time,
             cube: self.cube.copy()?,
         })
+    }
+}
+
+/// A clone is an equal entry.
+impl Clone for Entry {
+    ghost is_clone = { λ entry copy. copy ≡ entry };
+
+    fn clone(&self) -> Result<Entry, AllocError> {
+        Ok(self.copy()?)
     }
 }
 

@@ -55,12 +55,7 @@ pub fn head_processes(alloc: Global, problem: &Problem) -> Result<Vec<HeadProces
 pub fn head_nodes(alloc: Global, names: &[Name]) -> Result<Vec<Name>, OutOfMemory>
     ensures { IfOk result (λ v. v.items ≡ names.now) }
 {
-    let mut nodes = Vec::new(alloc);
-    nodes.reserve(names.len())?;
-    for name in names {
-        nodes.push(name.copy()?)?;
-    }
-    Ok(nodes)
+    Ok(Vec::from_clones(alloc, names)?)
 }
 
 /// The ends of the edges.

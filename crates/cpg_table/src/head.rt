@@ -109,28 +109,6 @@ fn are_extras_within(extras: &[Extra]) -> bool
     extras.iter().all(|extra| is_extra_within(*extra))
 }
 
-fn copy_names(names: &Vec<Name>) -> Result<Vec<Name>, OutOfMemory>
-    ensures { IfOk result (λ copy. copy.items ≡ names.now.items) }
-{
-    let mut copy = Vec::new(*names.allocator());
-    copy.reserve(names.len())?;
-    for name in names.as_slice() {
-        copy.push(name.copy()?)?;
-    }
-    Ok(copy)
-}
-
-fn copy_processes(processes: &Vec<HeadProcess>) -> Result<Vec<HeadProcess>, OutOfMemory>
-    ensures { IfOk result (λ copy. copy.items ≡ processes.now.items) }
-{
-    let mut copy = Vec::new(*processes.allocator());
-    copy.reserve(processes.len())?;
-    for process in processes.as_slice() {
-        copy.push(process.copy()?)?;
-    }
-    Ok(copy)
-}
-
 fn copy_extras(extras: &Option<Vec<Extra>>) -> Result<Option<Vec<Extra>>, OutOfMemory>
     ensures { IfOk result (λ copy. option_map (λ v. v.items) copy ≡ option_map (λ v. v.items) extras.now) }
 {
@@ -252,8 +230,8 @@ impl Head {
     {
         Ok(Head {
             faults: self.faults,
-            nodes: copy_names(&self.nodes)?,
-            processes: copy_processes(&self.processes)?,
+            nodes: self.nodes.clone()?,
+            processes: self.processes.clone()?,
             edges: self.edges.clone()?,
             extras: copy_extras(&self.extras)?,
         })

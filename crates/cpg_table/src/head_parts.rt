@@ -3,6 +3,7 @@ ghost use Rattle.std.specs.Prelude.{◌≡◌, IfOk};
 
 use crate::Durations;
 use cpg_base::{Name, OutOfMemory};
+use std::alloc::AllocError;
 
 /// What a head says of a process.
 #[derive(Drop)]
@@ -37,5 +38,14 @@ impl HeadProcess {
             condition: self.condition,
             times: self.times.copy()?,
         })
+    }
+}
+
+/// A clone is an equal value.
+impl Clone for HeadProcess {
+    ghost is_clone = { λ process copy. copy ≡ process };
+
+    fn clone(&self) -> Result<HeadProcess, AllocError> {
+        Ok(self.copy()?)
     }
 }

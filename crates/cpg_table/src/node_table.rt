@@ -10,7 +10,7 @@ use crate::own::{is_own_of, own_of};
 use crate::space::{Space, are_rows, space_of};
 use crate::{Head, Own, Row};
 use cpg_base::OutOfMemory;
-use std::alloc::Global;
+use std::alloc::{AllocError, Global};
 use std::marker::Model;
 
 /// When a node starts, sends and hears its items, with what it needs of the head to act by that: the fault number, the
@@ -35,28 +35,6 @@ impl Model for NodeTable {
     ghost view = { λ t. record { faults = t.faults; first_broadcast = t.first_broadcast; own = t.own.items; starts = t.starts.items; sends = t.sends.items; hears = t.hears.items } };
 
     ghost invariant = { λ t. IsTable (record { faults = t.faults; first_broadcast = t.first_broadcast; own = t.own.items; starts = t.starts.items; sends = t.sends.items; hears = t.hears.items }) };
-}
-
-fn copy_own(own: &Vec<Own>) -> Result<Vec<Own>, OutOfMemory>
-    ensures { IfOk result (λ copy. copy.items ≡ own.now.items) }
-{
-    let mut copy = Vec::new(*own.allocator());
-    copy.reserve(own.len())?;
-    for process in own.as_slice() {
-        copy.push(process.copy()?)?;
-    }
-    Ok(copy)
-}
-
-fn copy_rows(rows: &Vec<Row>) -> Result<Vec<Row>, OutOfMemory>
-    ensures { IfOk result (λ copy. copy.items ≡ rows.now.items) }
-{
-    let mut copy = Vec::new(*rows.allocator());
-    copy.reserve(rows.len())?;
-    for row in rows.as_slice() {
-        copy.push(row.copy()?)?;
-    }
-    Ok(copy)
 }
 
 impl NodeTable {
@@ -165,11 +143,20 @@ impl NodeTable {
         Ok(NodeTable {
             faults: self.faults,
             first_broadcast: self.first_broadcast,
-            own: copy_own(&self.own)?,
-            starts: copy_rows(&self.starts)?,
-            sends: copy_rows(&self.sends)?,
-            hears: copy_rows(&self.hears)?,
+            own: self.own.clone()?,
+            starts: self.starts.clone()?,
+            sends: self.sends.clone()?,
+            hears: self.hears.clone()?,
         })
+    }
+}
+
+/// A clone is an equal table.
+impl Clone for NodeTable {
+    ghost is_clone = { λ table copy. copy ≡ table };
+
+    fn clone(&self) -> Result<NodeTable, AllocError> {
+        Ok(self.copy()?)
     }
 }
 

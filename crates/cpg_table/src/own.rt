@@ -6,7 +6,7 @@ ghost use Rattle.cpg_table.specs.Items.{own_front, own_of};
 use crate::items::next_number;
 use crate::{Durations, Head, HeadProcess};
 use cpg_base::OutOfMemory;
-use std::alloc::Global;
+use std::alloc::{AllocError, Global};
 
 /// A process of the node that has the table.
 #[derive(Drop)]
@@ -29,6 +29,15 @@ impl Own {
             condition: self.condition,
             times: self.times.copy()?,
         })
+    }
+}
+
+/// A clone is an equal value.
+impl Clone for Own {
+    ghost is_clone = { λ own copy. copy ≡ own };
+
+    fn clone(&self) -> Result<Own, AllocError> {
+        Ok(self.copy()?)
     }
 }
 

@@ -3,6 +3,7 @@ ghost use Rattle.std.specs.Prelude.{◌≡◌, IfOk};
 
 use crate::Entry;
 use cpg_base::OutOfMemory;
+use std::alloc::AllocError;
 use std::marker::Model;
 
 /// When an item is, seen as the number of the item and its entries.
@@ -18,17 +19,6 @@ impl Model for Row {
     ghost Value = { Row };
 
     ghost view = { λ r. record { item = r.item; columns = r.entries.items } };
-}
-
-fn copy_entries(entries: &Vec<Entry>) -> Result<Vec<Entry>, OutOfMemory>
-    ensures { IfOk result (λ copy. copy.items ≡ entries.now.items) }
-{
-    let mut copy = Vec::new(*entries.allocator());
-    copy.reserve(entries.len())?;
-    for entry in entries.as_slice() {
-        copy.push(entry.copy()?)?;
-    }
-    Ok(copy)
 }
 
 impl Row {
@@ -59,7 +49,16 @@ impl Row {
     {
         Ok(Row {
             item: self.item,
-            entries: copy_entries(&self.entries)?,
+            entries: self.entries.clone()?,
         })
+    }
+}
+
+/// A clone is an equal row.
+impl Clone for Row {
+    ghost is_clone = { λ row copy. copy ≡ row };
+
+    fn clone(&self) -> Result<Row, AllocError> {
+        Ok(self.copy()?)
     }
 }

@@ -138,18 +138,7 @@ impl Tables {
     {
         Ok(Tables {
             head: self.head.copy()?,
-            nodes: copy_nodes(&self.nodes)?,
+            nodes: self.nodes.clone()?,
         })
     }
-}
-
-fn copy_nodes(nodes: &Vec<NodeTable>) -> Result<Vec<NodeTable>, OutOfMemory>
-    ensures { IfOk result (λ copy. copy.items ≡ nodes.now.items) }
-{
-    let mut copy = Vec::new(*nodes.allocator());
-    copy.reserve(nodes.len())?;
-    for table in nodes.as_slice() {
-        copy.push(table.copy()?)?;
-    }
-    Ok(copy)
 }

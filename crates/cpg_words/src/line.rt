@@ -1,6 +1,6 @@
 //! The command line as `clap` is told of it. Each command takes any number of positionals and of values of `--turns`,
 //! as texts: which of these it needs is tested after the parse.
-ghost use Rattle.std.specs.Prelude.{◌≡◌, IfOk, false};
+ghost use Rattle.std.specs.Prelude.{◌≡◌, IfOk, false, fold, map};
 ghost use Rattle.clap.specs.Words.{app_of, rule_of};
 ghost use Rattle.clap.specs.declared.builder.command.Command.TheViews.{out-Command};
 ghost use Rattle.cpg_words.specs.Line.{positionals_rule, turns_rule, plain_app, sub_app, top_app, with_command, line_app};
@@ -64,20 +64,27 @@ fn with_form<'a>(alloc: Global, line: Command<'a>, name: &'a str) -> Result<Comm
     Ok(more)
 }
 
+// The line with these subcommands more.
+fn with_forms<'a>(
+    alloc: Global,
+    line: Command<'a>,
+    names: &[&'a str],
+) -> Result<Command<'a>, AllocError>
+    ensures { IfOk result (λ c. app_of c ≡ fold with_command (app_of line.entry) (map (λ name. name.now) names.now)) }
+{
+    let mut line = line;
+    for name in names {
+        line = with_form(alloc, line, name)?;
+    }
+    Ok(line)
+}
+
 /// The command line with all its subcommands. Fails for want of memory alone.
 pub fn line<'a>(alloc: Global) -> Result<Command<'a>, AllocError>
     ensures { IfOk result (λ c. app_of c ≡ line_app) }
 {
-    let mut line = top(alloc);
-    line = with_form(alloc, line, "show")?;
-    line = with_form(alloc, line, "compile")?;
-    line = with_form(alloc, line, "check")?;
-    line = with_form(alloc, line, "play")?;
-    line = with_form(alloc, line, "node")?;
-    line = with_form(alloc, line, "trial")?;
-    line = with_form(alloc, line, "live")?;
-    line = with_form(alloc, line, "hyper")?;
-    line = with_form(alloc, line, "tune")?;
-    line = with_form(alloc, line, "audit")?;
-    Ok(line)
+    let names = [
+        "show", "compile", "check", "play", "node", "trial", "live", "hyper", "tune", "audit",
+    ];
+    with_forms(alloc, top(alloc), &names)
 }

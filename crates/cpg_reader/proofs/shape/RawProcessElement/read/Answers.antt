@@ -1,12 +1,14 @@
-use Rattle.std.proofs.Common.{refl}
+use Rattle.std.proofs.Common.{◌∙◌, refl, rules}
 use Rattle.std.proofs.lemmas.Result.{err_from_is_err_and}
+use Rattle.cpg_reader.specs.Rows.{row_view}
 use Rattle.cpg_reader.proofs.Each.{Refuses-along}
-use Rattle.cpg_reader.specs.Shape.{process_at}
+use Rattle.cpg_reader.proofs.Parts.{process-parts}
 use Rattle.cpg_reader.proofs.shape.RawProcessElement.read.Goals as goal
 
-pub returns-in_err-only : goal.returns-in_err-only
-unfolding process_at
-returns-in_err-only c =
-    let p = err_from_is_err_and c.from_residual-in_err-only.result c.from_residual-in_err-only.ensures.1 in
-    rw (p.1, p.2, c.in_ok-name.ensures, c.in_ok-node.ensures, c.in_ok-wcet.ensures, c.in_ok-parts.ensures, c.in_ok-alpha.ensures, c.in_ok-chi.ensures, c.in_ok-mu.ensures, c.in_ok-join.ensures, c.in_ok-frozen.ensures, c.in_ok-release.ensures, c.in_ok-deadline.ensures)
-    (Refuses-along c.in_err-only.field-0.0 _ _ (λ f e. rw e refl) c.in_err-only.ensures)
+pub returns-in_err-work : goal.returns-in_err-work
+returns-in_err-work c =
+    let p = err_from_is_err_and c.from_residual-in_err-work.result c.from_residual-in_err-work.ensures.1 in
+    rw (p.1, p.2, process-parts (row_view c.args.row.now) _ _ c.in_ok-name.ensures c.in_ok-node.ensures) (Refuses-along c.in_err-work.field-0.0 _ _ (λ f e. rw e refl) c.in_err-work.ensures)
+
+pub returns : goal.returns
+returns c = process-parts (row_view c.args.row.now) _ _ c.in_ok-name.ensures c.in_ok-node.ensures ∙ rw c.in_ok-work.ensures (search rules)
