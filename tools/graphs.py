@@ -203,6 +203,14 @@ def latest_ends(pack):
     return ends
 
 
+def columns(rows):
+    """Lines of texts and numbers under each other, the first two of a row to the left."""
+    widths = [max(len(str(row[i])) for row in rows if i < len(row)) for i in range(max(map(len, rows)))]
+    for row in rows:
+        cells = [str(cell).ljust(width) if i < 2 else str(cell).rjust(width) for i, (cell, width) in enumerate(zip(row, widths))]
+        yield "  " + "  ".join(cells).rstrip()
+
+
 def columns_of(table):
     """The items of a text of `cpgc show`, each with its columns."""
     found = {}
