@@ -2,7 +2,7 @@
 
 A graph is here the document of its file, as tomllib reads it. docs/FORMATS.md has the keys.
 """
-import argparse, json, os, re, shutil, subprocess, sys, tempfile, tomllib
+import argparse, json, os, re, shutil, subprocess, sys, tempfile, tomllib, weakref
 from importlib import machinery, util
 
 HERE = os.path.dirname(os.path.realpath(__file__))
@@ -149,8 +149,9 @@ class Program:
         if self.path is None:
             fail(f"no program {path}: name it by --program or CPGC, or put cpgc on the path")
         self.path = os.path.abspath(self.path)
-        self.gone = tempfile.TemporaryDirectory() if folder is None else None
-        self.folder = folder or self.gone.name
+        self.folder = folder or tempfile.mkdtemp()
+        if folder is None:
+            weakref.finalize(self, shutil.rmtree, self.folder, True)
         try:
             os.makedirs(self.folder, exist_ok=True)
         except OSError as fault:
