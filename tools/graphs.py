@@ -79,11 +79,11 @@ def document(text):
         return tomllib.loads(on_one_line(text))
 
 
-def toml_of(path, parse=document):
-    """The text of a TOML file and its document."""
+def toml_of(path, content):
+    """The text of a TOML file, of which the bytes were read, and its document."""
     try:
-        text = bytes_of(path).decode().replace("\r\n", "\n")
-        return text, parse(text)
+        text = content.decode().replace("\r\n", "\n")
+        return text, document(text)
     except (UnicodeDecodeError, tomllib.TOMLDecodeError, RecursionError) as fault:
         fail(f"{path}: {fault}")
 
