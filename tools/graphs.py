@@ -23,8 +23,14 @@ def stop(line, status=1):
     sys.exit(status)
 
 
+def note(what):
+    """A line on the error stream that doesn't end the tool."""
+    print(f"{os.path.basename(sys.argv[0])}: {what}", file=sys.stderr)
+
+
 def fail(why):
-    stop(f"{os.path.basename(sys.argv[0])}: {why}")
+    note(why)
+    sys.exit(1)
 
 
 class Words(argparse.ArgumentParser):
