@@ -208,7 +208,7 @@ def asked(cube):
 
 def left(graph, cube):
     """How many faults may still strike what a column starts."""
-    return max(graph.faults - asked(cube), 0)
+    return graph.faults - asked(cube)
 
 
 def matches(graph, cube, scenario):
@@ -236,6 +236,8 @@ def worst(graph, rows):
         if row.kind == "start":
             process = graph.processes[row.number]
             for time, cube in row.columns:
+                if asked(cube) > graph.faults:
+                    continue  # it is for no scenario
                 faults = left(graph, cube)
                 end = time + process.duration(faults)
                 if end > latest:
