@@ -131,6 +131,13 @@ def read_toml(path):
 
 def read_graph(path):
     document = read_toml(path)
+    try:
+        return graph_of(document)
+    except (KeyError, TypeError, ValueError, AttributeError):
+        raise Refused(f"{path}: no graph file") from None
+
+
+def graph_of(document):
     nodes = [node["name"] for node in document.get("node", [])]
     slots, begin = {}, 0
     for slot in document.get("slot", []):
