@@ -125,7 +125,8 @@ class Axis:
         return self.at(max(begin, self.low)), self.at(min(end, self.high))
 
     def ticks(self):
-        step = next(step * 10 ** power for power in range(20) for step in (1, 2, 5) if self.wide(step * 10 ** power) >= 48)
+        apart = max(48, width_of(str(self.high), 9.5) + 12)
+        step = next(step * 10 ** power for power in range(20) for step in (1, 2, 5) if self.wide(step * 10 ** power) >= apart)
         return range(-(-self.low // step) * step, self.high + 1, step)
 
     def draw(self, canvas, top, bottom):
@@ -170,7 +171,7 @@ def legend(canvas, entries, left, right, y):
     """Entries side by side, in as many lines as they need: (width, how it is drawn at a place, its text)."""
     x = left
     for wide, draw, text in entries:
-        need = wide + 5 + width_of(text, 10) + 14
+        need = wide + 5 + width_of(text, 11.5) + 12  # with room for a wide font
         if x + need > right and x > left:
             x, y = left, y + 18
         draw(x, y)
