@@ -21,7 +21,7 @@ const page = (() => {
 
   // ---- where things stand -------------------------------------------------------------------------------------------------------------
 
-  const SIZE = nodes.length > 6 ? { top: 26, run: 18, past: 5, bus: 12, gap: 6 } : { top: 28, run: 26, past: 6, bus: 15, gap: 10 };
+  const SIZE = nodes.length > 6 ? { top: 22, run: 18, past: 5, bus: 12, gap: 6 } : { top: 22, run: 26, past: 6, bus: 15, gap: 10 };
   const PAD = 12, LABEL = 11.5;
   let lanes = [], height = 0;
   const own = nodes.map((_, node) => processes.map((_, p) => p).filter((p) => processes[p].node === node));
@@ -38,7 +38,7 @@ const page = (() => {
       height = end + SIZE.gap;
       return lane;
     });
-    height += 10;
+    height += nodes.length > 6 ? 24 : 10;
   }
 
   const extent = data.deadline <= 1.3 * model.horizon ? Math.max(model.horizon, data.deadline) : model.horizon;
@@ -58,11 +58,11 @@ const page = (() => {
   for (const it of [back, spans, pastLayer, arrowLayer, markLayer, topArrows, cursorLayer]) it.setAttribute("aria-hidden", "true");
 
   const ruler = document.createElement("canvas").getContext("2d");
-  const widths = new Map();
+  const widths = new Map(), family = getComputedStyle(document.body).fontFamily;
   function wide(text, font) {
     const key = font + text;
     if (!widths.has(key)) {
-      ruler.font = `${font} ${getComputedStyle(svg).fontFamily}`;
+      ruler.font = `${font} ${family}`;
       widths.set(key, ruler.measureText(text).width);
     }
     return widths.get(key);
@@ -132,11 +132,11 @@ const page = (() => {
       const inside = fits(p), line = inside ? -1 : free.findIndex((it) => left >= it);
       label.style.display = inside || line >= 0 ? "" : "none";
       label.setAttribute("class", inside ? "name inside" : "name outside");
-      label.setAttribute("x", inside ? 4 + mark : 2);
+      label.setAttribute("x", inside ? 4 + mark : 6);
       label.setAttribute("y", near(inside ? SIZE.run / 2 + 4 : -3 - line * LABEL));
       lead.setAttribute("d", line > 0 ? `M.5 0V${near(-2 - line * LABEL - 6)}` : "");
       reword(label, it.name);
-      if (line >= 0) free[line] = left + wide(it.name, "600 11px") + 7;
+      if (line >= 0) free[line] = left + wide(it.name, "600 11px") + 9;
       for (let lower = 0; lower < line; lower++) free[lower] = Math.max(free[lower], left + 4);
     }
   }
@@ -206,8 +206,11 @@ const page = (() => {
         text += `<rect x="${near(x(slot.offset))}" y="${y}" width="${near(right - x(slot.offset))}" height="${h}" style="fill:url(#${id})"/>`;
       } else text += `<rect class="lane" x="0" y="${y}" width="${right}" height="${h}"/>`;
     });
-    for (let t = 0, by = step(); t <= extent; t += by)
-      text += `<path class="grid" d="M${near(x(t))} ${SIZE.top - 5}V${bottom}"/><text class="tick" x="${near(x(t))}" y="${SIZE.top - 11}" text-anchor="${t ? "middle" : "start"}">${t}</text>`;
+    const ticks = [11.5, ...(nodes.length > 6 ? [bottom - 4] : [])];
+    for (let t = 0, by = step(); t <= extent; t += by) {
+      text += `<path class="grid" d="M${near(x(t))} ${SIZE.top - 4}V${bottom - (ticks.length - 1) * 15}"/>`;
+      for (const y of ticks) text += `<text class="tick" x="${near(x(t))}" y="${y}" text-anchor="${t ? "middle" : "start"}">${t}</text>`;
+    }
     back.innerHTML = text;
   }
 
@@ -216,7 +219,7 @@ const page = (() => {
     let text = "";
     if (data.deadline <= extent) {
       const dx = near(x(data.deadline));
-      text += `<path class="due all" d="M${dx} ${SIZE.top - 5}V${bottom}"/><text class="due-text" x="${dx + 4}" y="${height - 1}" text-anchor="${dx > 120 ? "end" : "start"}">deadline ${data.deadline}</text>`;
+      text += `<path class="due all" d="M${dx} ${SIZE.top - 5}V${bottom}"/><text class="due-text" x="${dx > 120 ? dx - 4 : dx + 4}" y="${height - 1}" text-anchor="${dx > 120 ? "end" : "start"}">deadline ${data.deadline}</text>`;
     } else text += `<text class="due-text" x="${near(right)}" y="${height - 1}" text-anchor="end">deadline ${data.deadline} →</text>`;
     processes.forEach((it, p) => {
       if (!play.active[p]) return;
@@ -238,9 +241,13 @@ const page = (() => {
     pastLayer.innerHTML = text;
   }
 
-  function curve(x1, y1, x2, y2, kind, strong) {
-    const bend = Math.max(Math.min(Math.abs(x2 - x1), 60) * 0.5, 8);
-    return `<path class="arrow ${kind === "tell" ? "told" : kind === "work" ? "local" : ""}${strong ? " picked" : ""}" marker-end="url(#head-${kind})" d="M${near(x1)} ${y1}C${near(x1 + bend)} ${y1} ${near(x2 - bend)} ${y2} ${near(x2)} ${y2}"/>`;
+  const arrow = (kind, strong, path) => `<path class="arrow by-${kind}${strong ? " picked" : ""}" marker-end="url(#head-${kind})" d="${path}"/>`;
+
+  /* From the end of a frame to the begin of an execution, which it meets from above or from below. */
+  function bent(frame, run, strong) {
+    const x1 = near(x(frame.end)), x2 = near(x(run.start) + 1.5), from = lanes[frame.item.node], to = lanes[run.item.node];
+    const down = to.runs > from.bus, y1 = from.bus + SIZE.bus / 2 - 0.5, y2 = down ? to.runs - 1 : to.runs + SIZE.run + 1, half = (y1 + y2) / 2;
+    return arrow("frame", strong, `M${x1} ${y1}C${x1 + 4} ${half} ${x2} ${half} ${x2} ${y2}`);
   }
 
   function drawArrows() {
@@ -252,20 +259,18 @@ const page = (() => {
       if (item.kind === "send") {
         const to = edges[item.edge][1], run = play.runs[to], bold = strong || mine(to);
         if (!run || !(all || bold)) continue;
-        const arrow = curve(x(frame.end), lane.bus + SIZE.bus / 2 - 0.5, x(run.start), lanes[processes[to].node].runs + SIZE.run / 2, "frame", bold);
-        if (bold) above += arrow;
-        else below += arrow;
+        if (bold) above += bent(frame, run, true);
+        else below += bent(frame, run, false);
       } else if (strong)
         for (const node of item.hearers) {
-          const y = node > item.node ? lanes[node].runs : lanes[node].end;
-          above += `<path class="arrow told picked" marker-end="url(#head-tell)" d="M${near(x(frame.end))} ${lane.bus + (node > item.node ? SIZE.bus : 0)}V${y}"/>`;
+          const down = node > item.node;
+          above += arrow("tell", true, `M${near(x(frame.end))} ${lane.bus + (down ? SIZE.bus : 0)}V${down ? lanes[node].runs : lanes[node].end}`);
         }
     }
     edges.forEach(([from, to], e) => {
-      if (processes[from].node !== processes[to].node || !(mine(from) || mine(to)) || !play.live[e] || !play.runs[to] || !play.runs[from]) return;
-      const y = lanes[processes[from].node].runs;
-      const [a, b] = [x(play.runs[from].end), x(play.runs[to].start)];
-      if (b - a > 6) above += curve(a, y + SIZE.run / 2, b, y + SIZE.run / 2, "work", true);
+      const [a, b] = [play.runs[from], play.runs[to]];
+      if (a && b && play.live[e] && a.item.node === b.item.node && (mine(from) || mine(to)) && (b.start - a.end) * px > 6)
+        above += arrow("work", true, `M${near(x(a.end))} ${lanes[a.item.node].runs + SIZE.run / 2}H${near(x(b.start))}`);
     });
     arrowLayer.innerHTML = below;
     topArrows.innerHTML = above;
@@ -287,14 +292,15 @@ const page = (() => {
 
   function drawCursor() {
     const cx = near(x(time)), label = String(time), w = wide(label, "600 11px") + 10, left = Math.min(Math.max(cx - w / 2, 0), width() - w);
-    cursorLayer.innerHTML = `<path class="cursor" d="M${cx} 14V${height - 8}"/><rect class="cursor-flag" x="${near(left)}" y="0" width="${near(w)}" height="15" rx="3"/><text class="cursor-text" x="${near(left + w / 2)}" y="11.5" text-anchor="middle">${label}</text>`;
+    cursorLayer.innerHTML = `<path class="cursor" d="M${cx} 14V${height - 8}"/><rect class="cursor-flag" x="${near(left - 3)}" y="0" width="${near(w + 6)}" height="16" rx="3"/><text class="cursor-text" x="${near(left + w / 2)}" y="11.5" text-anchor="middle">${label}</text>`;
   }
 
   function drawLanes() {
     const text = lanes.map((lane, node) => {
       const active = own[node].filter((p) => play.runs[p]).length;
       const bus = model.slotOf[node] ? `<div style="top:${lane.bus - 1}px;line-height:${SIZE.bus}px"><small>bus</small></div>` : "";
-      return `<div style="top:${lane.runs - 1}px;line-height:${SIZE.run / 2}px" title="${html(lane.name)}"><b>${html(lane.name)}</b><br><small>${active} of ${own[node].length}</small></div>${bus}`;
+      const count = `<small>${active} of ${own[node].length}</small>`, height = SIZE.run > 20 ? 13 : 18;
+      return `<div style="top:${lane.runs}px;line-height:${height}px" title="${html(lane.name)}: ${active} of ${own[node].length} active"><b>${html(lane.name)}</b>${SIZE.run > 20 ? `<br>${count}` : ""}</div>${bus}`;
     });
     at("lanes").innerHTML = text.join("");
   }
@@ -337,7 +343,9 @@ const page = (() => {
     reword(at("finish"), play.finish);
     const later = play.finish - calm.finish;
     reword(at("finish-note"), model.spent(scenario) === 0 ? "without faults" : later > 0 ? `${later} later than without faults` : later < 0 ? `${-later} earlier than without faults` : "as without faults");
+    const late = play.runs.filter((run, p) => run && run.end > processes[p].due).map((run) => `${processes[run.item.process].name} by ${run.end - processes[run.item.process].due}`);
     reword(at("scenario-text"), `in the scenario: ${model.scenarioText(scenario)}`);
+    reword(at("late"), late.length ? `Late: ${late.join(", ")}` : "");
   }
 
   function showControls() {
@@ -359,11 +367,13 @@ const page = (() => {
     at("wrong").hidden = play.wrong.length === 0;
   }
 
+  const NO_EFFECT = "isn't active here: a fault has no effect";
   function counter(p, named) {
     const it = processes[p], n = scenario.faults[p], full = model.spent(scenario) >= k, place = named ? "placed" : "row";
-    return `<span class="counter${named && !play.active[p] ? " idle" : ""}"${play.active[p] ? "" : ' title="isn\'t active here: a fault has no effect"'}>${named ? `<span>${html(it.name)}</span>` : ""}<button type="button" data-less="${p}" data-counter="${place}-less-${p}" aria-label="One fault less of ${html(it.name)}"${n ? "" : " disabled"}>−</button><b class="${n ? "some" : ""}">${n}</b><button type="button" data-more="${p}" data-counter="${place}-more-${p}" aria-label="One fault more of ${html(it.name)}"${full ? " disabled" : ""}>+</button></span>`;
+    return `<span class="counter${named && !play.active[p] ? " idle" : ""}"${play.active[p] ? "" : ` title="${NO_EFFECT}"`}>${named ? `<span>${html(it.name)}</span>` : ""}<button type="button" data-less="${p}" data-counter="${place}-less-${p}" aria-label="One fault less of ${html(it.name)}"${n ? "" : " disabled"}>−</button><b class="${n ? "some" : ""}">${n}</b><button type="button" data-more="${p}" data-counter="${place}-more-${p}" aria-label="One fault more of ${html(it.name)}"${full ? " disabled" : ""}>+</button></span>`;
   }
 
+  const cards = nodes.map(() => ({ card: put(at("nodes"), "div", { class: "node" }), text: "" }));
   let knownOf = "";
   function showKnown() {
     reword(at("known-time"), time);
@@ -374,7 +384,10 @@ const page = (() => {
     const key = `${model.address(scenario)} ${moments.reduce((n, it) => n + (it <= time), 0)}`;
     if (key === knownOf) return;
     knownOf = key;
-    at("nodes").innerHTML = nodes.map(nodeCard).join("");
+    nodes.forEach((name, node) => {
+      const text = nodeCard(name, node);
+      if (cards[node].text !== text) cards[node].card.innerHTML = cards[node].text = text;
+    });
   }
 
   function nodeCard(name, node) {
@@ -393,7 +406,7 @@ const page = (() => {
     const sent = play.frames.find((it) => it.item.node === node && it.start <= time && time < it.end);
     const rows = [["values", values], ["faults", struck], ["faults within", within], ["no fault in", without]].filter(([, list]) => list.length);
     const doing = run ? `runs ${html(processes[run.item.process].name)} to ${run.end}` : "runs nothing";
-    return `<div class="node"><h3>${html(name)} <span>${doing}${sent ? `, sends ${html(letter(sent.item))}` : ""}</span></h3>${rows.length ? `<dl>${rows.map(([head, list]) => `<dt>${head}</dt><dd>${list.join(", ")}</dd>`).join("")}</dl>` : "<p>has heard nothing yet</p>"}</div>`;
+    return `<h3>${html(name)} <span>${doing}${sent ? `, sends ${html(letter(sent.item))}` : ""}</span></h3>${rows.length ? `<dl>${rows.map(([head, list]) => `<dt>${head}</dt><dd>${list.join(", ")}</dd>`).join("")}</dl>` : "<p>has heard nothing yet</p>"}`;
   }
 
   const MOST = 80;
@@ -425,7 +438,7 @@ const page = (() => {
       else if (play.runs[from]) waits.push([play.runs[from].end, `the end of ${source}`]);
     }
     const before = play.runs.reduce((best, other) => (other && other.item.node === it.node && other.end <= run.start && other !== run && (!best || other.end > best.end) ? other : best), null);
-    if (before) waits.push([before.end, `the end of ${processes[before.item.process].name}, which runs before it`]);
+    if (before && !model.into[p].some((e) => play.live[e] && edges[e][0] === before.item.process)) waits.push([before.end, `the end of ${processes[before.item.process].name}, which runs before it`]);
     for (const frame of play.frames) if (frame.item.kind === "tell" && frame.end === run.start && frame.item.hearers.includes(it.node)) waits.push([frame.end, `the value of ${processes[frame.item.process].name}`]);
     const just = [...new Set(waits.filter(([t]) => t === run.start).map(([, text]) => text))];
     said.push(`From ${run.start} to ${run.end}, due ${it.due}.`);
@@ -451,31 +464,36 @@ const page = (() => {
   const rows = [];
   function makeRows() {
     processes.forEach((it, p) => {
-      const row = put(at("rows"), "tr");
-      row.innerHTML = `<th scope="row"><button type="button" class="plain" data-pick="${p}">${html(it.name)}</button></th><td>${html(nodes[it.node])}</td><td></td><td class="n"></td><td class="n"></td><td class="n">${it.due}</td><td class="n"></td><td class="n"></td><td class="n"></td>`;
-      const last = model.latest[p];
-      row.children[7].innerHTML = last ? `<button type="button" class="plain" data-latest="${p}" aria-label="${last.end}, show the scenario of the latest end of ${html(it.name)}">${last.end}</button>` : "never";
-      row.children[8].textContent = last ? model.slackOf(p) : "";
-      row.children[8].classList.toggle("late", last && model.slackOf(p) < 0);
-      rows.push({ row, counter: "" });
+      const row = put(at("rows"), "tr"), last = model.latest[p];
+      row.innerHTML = `<th scope="row"><button type="button" class="plain" data-pick="${p}">${html(it.name)}</button></th><td>${html(nodes[it.node])}</td><td>${counter(p, false)}</td><td class="n"></td><td class="n"></td><td class="n">${it.due}</td><td class="n"></td><td class="n"></td><td class="n"></td>`;
+      const [, , , start, end, , slack, latest, least] = row.children, [less, more] = row.querySelectorAll(".counter button");
+      latest.innerHTML = last ? `<button type="button" class="plain" data-latest="${p}" aria-label="${last.end}, show the scenario of the latest end of ${html(it.name)}">${last.end}</button>` : "never";
+      least.textContent = last ? model.slackOf(p) : "";
+      least.classList.toggle("late", last !== null && model.slackOf(p) < 0);
+      rows.push({ row, start, end, slack, less, more, faults: row.querySelector(".counter b"), counter: row.querySelector(".counter") });
     });
   }
 
+  const disable = (button, off) => { if (button.disabled !== off) button.disabled = off; };
+
   function showRows() {
-    const focus = document.activeElement?.dataset?.counter;
+    const full = model.spent(scenario) >= k, focus = document.activeElement;
     processes.forEach((it, p) => {
-      const { row } = rows[p], run = play.runs[p], [, , faults, start, end, , slack] = row.children, buttons = counter(p, false);
-      if (rows[p].counter !== buttons) faults.innerHTML = rows[p].counter = buttons;
-      row.className = `${run ? "" : "off"}${picked && picked.number === p ? " picked" : ""}`;
+      const { row, start, end, slack, less, more, faults, counter } = rows[p], run = play.runs[p], n = scenario.faults[p];
+      const name = `${run ? "" : "off"}${picked && picked.number === p ? " picked" : ""}`;
+      if (row.className !== name) row.className = name;
       reword(start, run ? run.start : "not active");
       reword(end, run ? run.end : "");
       reword(slack, run ? it.due - run.end : "");
       slack.classList.toggle("late", Boolean(run) && run.end > it.due);
+      reword(faults, n);
+      faults.classList.toggle("some", n > 0);
+      counter.title = run ? "" : NO_EFFECT;
+      disable(less, n === 0);
+      disable(more, full);
+      if (focus === less && less.disabled) more.focus();
+      if (focus === more && more.disabled) less.focus();
     });
-    if (focus?.startsWith("row")) {
-      const same = document.querySelector(`#rows [data-counter="${focus}"]`);
-      (same?.disabled ? same.parentElement.querySelector("button:not(:disabled)") : same)?.focus();
-    }
   }
 
   function sortRows() {
@@ -621,9 +639,9 @@ const page = (() => {
 
   function tipFor(target, event) {
     const tip = at("tip"), group = target.closest?.(".run, .frame");
-    tip.hidden = !group;
-    if (!group) return;
-    const { item, shown } = groups.get(Number(group.dataset.item));
+    const { item, shown } = (group && groups.get(Number(group.dataset.item))) ?? {};
+    tip.hidden = !shown;
+    if (!shown) return;
     if (item.kind === "start") {
       const it = processes[item.process], n = scenario.faults[item.process], over = it.parts * (it.alpha + it.chi);
       const part = Math.ceil(it.wcet / it.parts);
@@ -788,9 +806,9 @@ const page = (() => {
   at("cursor").max = extent;
   at("arrows").checked = model.sends.length <= 60;
   at("lanes").style.width = `${Math.ceil(Math.max(...nodes.map((name) => wide(name, "600 14px")), 44)) + 14}px`;
+  play = calm = model.acts(scenario);
   makeRows();
   legend();
-  play = calm = model.acts(scenario);
   fit();
   drawPicture();
   listen();
