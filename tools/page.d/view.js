@@ -28,11 +28,11 @@ const page = (() => {
   const needs = (p) => wide(processes[p].name, "600 11px") + 8 + (processes[p].frozen ? 13 : 0);
   const fits = (p) => needs(p) <= model.durations[p][0] * px;
 
-  /* A lane for the executions of each node, with up to two lines above it for names that don't fit into their bars, and one for its bus. */
+  /* A lane for the executions of each node, with some lines above it for names that don't fit into their bars, and one for its bus. */
   function layOut() {
     height = SIZE.top;
     lanes = nodes.map((name, node) => {
-      const lines = Math.min(own[node].filter((p) => !fits(p)).length, 2), runs = height + Math.max(lines * LABEL + 3, 9);
+      const lines = Math.min(own[node].filter((p) => !fits(p)).length, nodes.length > 6 ? 2 : 3), runs = height + Math.max(lines * LABEL + 3, 9);
       const past = runs + SIZE.run + 1, bus = past + SIZE.past, end = bus + (model.slotOf[node] ? SIZE.bus : 0);
       const lane = { name, lines, top: height, runs, past, bus, end };
       height = end + SIZE.gap;
