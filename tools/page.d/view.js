@@ -32,7 +32,7 @@ const page = (() => {
   function layOut() {
     height = SIZE.top;
     lanes = nodes.map((name, node) => {
-      const lines = Math.min(own[node].filter((p) => !fits(p)).length, nodes.length > 6 ? 2 : 3), runs = height + Math.max(lines * LABEL + 3, 9);
+      const lines = Math.min(own[node].filter((p) => !fits(p)).length, nodes.length > 6 || scroll.clientWidth > 1000 ? 2 : 3), runs = height + Math.max(lines * LABEL + 3, 9);
       const past = runs + SIZE.run + 1, bus = past + SIZE.past, end = bus + (model.slotOf[node] ? SIZE.bus : 0);
       const lane = { name, lines, top: height, runs, past, bus, end };
       height = end + SIZE.gap;
@@ -391,20 +391,21 @@ const page = (() => {
   }
 
   function nodeCard(name, node) {
-    const { low, high } = model.heard(play, node, time), values = [], struck = [], within = [], without = [];
+    const { low, high } = model.heard(play, node, time), values = [], struck = [], without = [], within = new Map();
     model.deciding.forEach((p, c) => {
       const v = model.VALUE + c;
       if (low[v] === high[v]) values.push(`${processes[p].name} <strong>${Boolean(low[v])}</strong>`);
     });
     processes.forEach((it, p) => {
       if (low[p] === 0 && high[p] === k) return;
-      if (low[p] !== high[p]) within.push(`${it.name} ${low[p]}..${high[p]}`);
+      const range = `faults ${low[p]}..${high[p]}`;
+      if (low[p] !== high[p]) within.set(range, [...(within.get(range) ?? []), it.name]);
       else if (low[p]) struck.push(`<b>${it.name} ${low[p]}</b>`);
       else without.push(it.name);
     });
     const run = play.runs.find((it, p) => it && processes[p].node === node && it.start <= time && time < it.end);
     const sent = play.frames.find((it) => it.item.node === node && it.start <= time && time < it.end);
-    const rows = [["values", values], ["faults", struck], ["faults within", within], ["no fault in", without]].filter(([, list]) => list.length);
+    const rows = [["values", values], ["faults", struck], ...[...within].sort(), ["no fault in", without]].filter(([, list]) => list.length);
     const doing = run ? `runs ${html(processes[run.item.process].name)} to ${run.end}` : "runs nothing";
     return `<h3>${html(name)} <span>${doing}${sent ? `, sends ${html(letter(sent.item))}` : ""}</span></h3>${rows.length ? `<dl>${rows.map(([head, list]) => `<dt>${head}</dt><dd>${list.join(", ")}</dd>`).join("")}</dl>` : "<p>has heard nothing yet</p>"}`;
   }
@@ -423,6 +424,17 @@ const page = (() => {
     const more = (n, where) => (n > 0 ? `<p class="hint">${n} more ${where}</p>` : "");
     at("columns").innerHTML = more(from, "before") + list.slice(from, from + MOST).map((column) =>
       `<button type="button" class="column" data-column="${column}" aria-current="${Boolean(shown && shown.column === column)}" title="Show the least scenario of this column"><b>${model.timeOf(column)}:</b><span>${html(model.columnText(column))}</span></button>`).join("") + more(total - from - MOST, "after");
+    if (total > 6) afterwards(() => {
+      const box = at("columns"), one = box.querySelector('[aria-current="true"]');
+      if (one) box.scrollTop = one.offsetTop - (box.clientHeight - one.clientHeight) / 2;
+    });
+  }
+
+  /* What asks where things stand would be a layout of its own, and waits until the picture is there. */
+  let last = 0;
+  function afterwards(what) {
+    const turn = ++last;
+    requestAnimationFrame(() => setTimeout(() => { if (turn === last) what(); }));
   }
 
   function aboutRun(p, run) {
@@ -681,6 +693,7 @@ const page = (() => {
       }
     });
     at("worst").onclick = () => model.worst && showLatest(model.worst.process);
+    at("tightest").onclick = () => model.tightest !== null && showLatest(model.tightest);
     at("clear").onclick = () => become(model.none(), "No faults, and every value false");
     at("link").onclick = () => copy(location.href, "Link");
     at("copy-file").onclick = () => copy(model.scenarioFile(scenario), "Scenario");
@@ -747,12 +760,15 @@ const page = (() => {
     }).observe(scroll);
     window.addEventListener("beforeprint", () => {
       printing = px;
-      px = (980 - at("lanes").offsetWidth) / extent;
+      const part = Math.min(1, 600 / height), side = at("lanes").offsetWidth;
+      px = (980 / part - side) / extent;
+      at("chart").style.zoom = part;
       drawPicture();
     });
     window.addEventListener("afterprint", () => {
       px = printing;
       printing = 0;
+      at("chart").style.zoom = "";
       drawPicture();
     });
   }
@@ -797,6 +813,7 @@ const page = (() => {
   reword(at("about"), `${count(P, "process", "processes")} on ${count(nodes.length, "node")}, ${count(edges.length, "edge")}, ${count(switches.length, "condition")}, at most ${count(k, "fault")}: ${scenarios} scenarios in ${count(model.columns.toLocaleString("en"), "column")}. Deadline ${data.deadline}.`);
   reword(at("worst-end"), model.worst ? model.worst.end : 0);
   reword(at("worst-note"), model.worst ? `by ${processes[model.worst.process].name}` : "");
+  at("tightest").hidden = model.tightest === null;
   if (model.tightest !== null) {
     reword(at("least-slack"), model.slackOf(model.tightest));
     reword(at("slack-note"), `of ${processes[model.tightest].name}, due ${processes[model.tightest].due}`);
