@@ -7,7 +7,7 @@
 
 enum { FRAME, END, CLOSE };
 #define RECORD 14U
-#define TRIES 6U
+#define MOST_BYTES 200000U
 
 typedef struct {
     uint64_t time;
@@ -54,96 +54,109 @@ static uint64_t due_time(uint32_t i)
     return host_number(node.pack + node.due[i].at, 8U);
 }
 
-/* A column of a row, by its place in the index: `dues` where the row has none. */
-static uint32_t any_column(uint16_t row)
+/* How the execution of a row goes on: when its end is told, where it is. */
+typedef struct {
+    bool awaited;
+    record end;
+} plan;
+
+static plan planned[CPG_MAX_OWN];
+
+/* An execution has started: it ends at its end with some faults, or before, or (seldom) never. */
+static void plan_end(uint16_t process, uint64_t time)
 {
-    uint32_t found = node.dues;
-    uint64_t count = 0U;
-    for (uint32_t i = 0U; i < node.dues; i++) {
-        if (node.due[i].row == row) {
-            count++;
-            if (draw(count) == 0U) {
-                found = i;
+    uint16_t row = 0U;
+    while (node.item[row] != process) {
+        row++;
+    }
+    const cpg_execution *execution = &node.execution[row];
+    uint16_t faults = (uint16_t)draw((uint64_t)node.k + 1U);
+    uint64_t duration = host_number(node.pack + execution->durations + (8U * faults), 8U);
+    uint64_t real = (draw(3U) > 0U) ? duration : (1U + draw(duration));
+    uint8_t value = (uint8_t)((execution->condition != 255U) ? draw(2U) : 0U);
+    planned[row].end = (record){ time + real, END, process, faults, value };
+    planned[row].awaited = (duration > 0U) && (draw(12U) > 0U);
+}
+
+/* Takes all turns up to and at an instant. */
+static void take_turns(uint64_t until)
+{
+    cpg_event event;
+    while (cpg_poll(&node, until, &event)) {
+        if (event.kind == CPG_START) {
+            plan_end(event.item, event.time);
+        }
+    }
+}
+
+/* The next instant at which something is told or done. */
+static uint64_t next_instant(void)
+{
+    uint64_t next = cpg_next(&node);
+    for (uint16_t row = 0U; row < node.own; row++) {
+        if (planned[row].awaited && (planned[row].end.time < next)) {
+            next = planned[row].end.time;
+        }
+    }
+    return next;
+}
+
+/* Tells a record. A lawless one is left out, but for some where much is to be spoilt. */
+static void tell(record it, uint64_t wild)
+{
+    cpg_status status = (it.kind == END) ? cpg_ended(&node, it.time, it.item, it.number, it.value)
+                                         : cpg_hear(&node, it.time, it.item, it.number, it.value);
+    if ((status == CPG_OK) || (draw(200U) < wild)) {
+        put_record(it);
+    }
+}
+
+static uint8_t any_value(uint16_t item)
+{
+    return (uint8_t)((item >= node.broadcast) ? draw(2U) : 0U);
+}
+
+/* Tells the ends of an instant, and some of the frames that may arrive then, one of them maybe twice. */
+static void tell_instant(uint64_t now, uint64_t wild)
+{
+    for (uint16_t row = 0U; row < node.own; row++) {
+        if (planned[row].awaited && (planned[row].end.time == now)) {
+            planned[row].awaited = false;
+            tell(planned[row].end, wild);
+        }
+    }
+    for (uint32_t i = node.next; (i < node.dues) && (due_time(i) == now); i++) {
+        uint16_t item = node.item[node.due[i].row];
+        if ((node.due[i].row >= node.acting) && (draw(4U) > 0U)) {
+            record it = { now, FRAME, item, node.due[i].column, any_value(item) };
+            tell(it, wild);
+            if (draw(20U) == 0U) {
+                tell(it, wild);
             }
         }
     }
-    return found;
 }
 
-/* A frame that may come, or an end that may be. */
-static bool any_record(uint64_t wild, record *it)
+/* Tells something that is mostly lawless. */
+static void tell_anything(uint64_t now, uint64_t wild)
 {
-    uint16_t row = (uint16_t)draw(node.rows + 1U);
-    if ((row >= node.acting) && (row < node.rows) && (!node.came[row] || (draw(100U) < 5U))) {
-        uint32_t i = any_column(row);
-        if (i < node.dues) {
-            uint16_t item = node.item[row];
-            *it = (record){ due_time(i), FRAME, item, node.due[i].column, (uint8_t)((item >= node.broadcast) ? draw(2U) : 0U) };
-            return true;
-        }
-    } else if (row < node.own) {
-        const cpg_execution *execution = &node.execution[row];
-        bool runs = (execution->state == CPG_RUNNING) || (execution->state == CPG_OVERRUNNING);
-        uint16_t faults = (uint16_t)draw((uint64_t)node.k + 1U);
-        uint64_t duration = host_number(node.pack + execution->durations + (8U * faults), 8U);
-        if ((runs || (draw(100U) < wild)) && (duration > 0U)) {
-            uint64_t time = execution->start + ((draw(3U) > 0U) ? duration : (1U + draw(duration)));
-            *it = (record){ time, END, node.item[row], faults, (uint8_t)((execution->condition != 255U) ? draw(2U) : 0U) };
-            return true;
-        }
-    } else {
-        /* nothing of this row is told */
+    if (node.rows > 0U) {
+        uint16_t item = node.item[draw(node.rows)];
+        uint32_t kind = (uint32_t)draw(2U);
+        tell((record){ now + draw(3U), kind, item, (uint16_t)draw(4U), any_value(item) }, wild);
     }
-    return false;
-}
-
-static void take_turns(uint64_t before)
-{
-    cpg_event event;
-    while ((before > 0U) && cpg_poll(&node, before - 1U, &event)) {
-        /* what is done is of no matter here */
-    }
-}
-
-/* Lets time go on so that something starts. */
-static uint64_t go_on(uint64_t now)
-{
-    uint64_t next = cpg_next(&node);
-    if ((next != CPG_NEVER) && (draw(3U) == 0U) && ((next + 1U) > now)) {
-        uint64_t time = next + draw(2U);
-        take_turns(time);
-        return time;
-    }
-    return now;
 }
 
 static uint64_t records(uint64_t wild)
 {
     uint64_t now = 0U;
-    uint32_t most = 3U * ((uint32_t)node.rows + 3U);
-    for (uint32_t step = 0U; step < most; step++) {
-        record best = { CPG_NEVER, CLOSE, 0U, 0U, 0U };
-        record it;
-        for (uint32_t i = 0U; i < TRIES; i++) {
-            if (any_record(wild, &it) && (it.time >= now) && (it.time < best.time)) {
-                best = it;
-            }
+    for (uint64_t next = next_instant(); (next != CPG_NEVER) && (size < MOST_BYTES) && (draw(60U) > 0U); next = next_instant()) {
+        now = next;
+        tell_instant(now, wild);
+        if (draw(200U) < wild) {
+            tell_anything(now, wild);
         }
-        if (best.time == CPG_NEVER) {
-            now = go_on(now);
-            continue;
-        }
-        take_turns(best.time);
-        cpg_status status = (best.kind == END) ? cpg_ended(&node, best.time, best.item, best.number, best.value)
-                                               : cpg_hear(&node, best.time, best.item, best.number, best.value);
-        if ((status != CPG_OK) && (draw(1000U) >= wild)) {
-            continue;
-        }
-        now = best.time;
-        put_record(best);
-        if ((status != CPG_OK) && (draw(2U) > 0U)) {
-            break;
-        }
+        take_turns(now);
     }
     return now;
 }
