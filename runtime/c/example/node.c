@@ -1,0 +1,66 @@
+#include "node.h"
+
+#include "board.h"
+#include "cpg_table.h"
+
+static cpg_node node;
+static uint64_t now;
+
+bool node_open(void)
+{
+    now = 0U;
+    return cpg_open(&node, cpg_table, cpg_table_size, cpg_table_name, cpg_table_name_length) == CPG_OK;
+}
+
+void node_begin(void)
+{
+    now = 0U;
+    cpg_begin(&node);
+}
+
+static void take_ends(void)
+{
+    board_end end;
+    while (board_finished(&end)) {
+        if (cpg_ended(&node, now, end.process, end.faults, end.value) != CPG_OK) {
+            board_strange(end.process);
+        }
+    }
+}
+
+static void take_frames(void)
+{
+    board_frame frame;
+    while (board_received(&frame)) {
+        if (cpg_hear(&node, now, frame.item, frame.column, frame.value) != CPG_OK) {
+            board_strange(frame.item);
+        }
+    }
+}
+
+static void act(const cpg_event *event)
+{
+    board_frame frame = { event->item, event->column, event->value };
+    switch (event->kind) {
+    case CPG_START:
+        board_start(event->item);
+        break;
+    case CPG_SEND:
+        board_send(&frame);
+        break;
+    default:
+        board_alarm(event);
+        break;
+    }
+}
+
+void node_tick(void)
+{
+    cpg_event event;
+    take_ends();
+    take_frames();
+    while (cpg_poll(&node, now, &event)) {
+        act(&event);
+    }
+    now++;
+}
