@@ -1,121 +1,69 @@
-//! Each call once, with its value.
+//! Names, and what a scenario tells.
 
-use cpg_base::{Activation, Edge, Lengths, Name, Problem, Process, Scenario, Slot};
+use crate::fixtures::choice;
+use cpg_base::{Name, Scenario};
+use cpg_rules::Admitted;
 use std::alloc::Global;
-use std::test::Fail;
 
-fn name(alloc: Global, text: &str) -> Result<Name, Fail> {
-    Ok(Name::new(alloc, text)?.ok_or("name")?)
-}
-
-fn process(name: Name, parts: u32, release: u64, deadline: Option<u64>) -> Process {
-    Process {
-        name,
-        node: 0,
-        wcet: 30,
-        parts,
-        alpha: 2,
-        chi: 3,
-        mu: 5,
-        join: false,
-        frozen: false,
-        release,
-        deadline,
+fn is_same(name: &Name, text: &str) -> bool {
+    match name.copy() {
+        Ok(copy) => copy.as_str() == text,
+        Err(_) => false,
     }
 }
 
-/// A is in one part and B in three, both on the first of two nodes; A has a condition.
-fn problem(alloc: Global) -> Result<Problem, Fail> {
-    let nodes = vec![in alloc; name(alloc, "N1")?, name(alloc, "N2")?]?;
-    let slot = |node, length| Slot {
-        node,
-        length,
-        bytes: 8,
-    };
-    let slots = vec![in alloc; slot(1, 10), slot(0, 20)]?;
-    let first = process(name(alloc, "A")?, 1, 0, Some(60));
-    let second = process(name(alloc, "B")?, 3, 7, None);
-    let processes = vec![in alloc; first, second]?;
-    let edge = Edge {
-        from: 0,
-        to: 1,
-        size: 4,
-        when: Some(true),
-        frozen: false,
-    };
-    let edges = vec![in alloc; edge]?;
-    Ok(Problem::new(1, 100, nodes, slots, processes, edges).ok_or("problem")?)
+/// Whether this text is a name, and its copy the same.
+fn is_kept(alloc: Global, text: &str) -> bool {
+    match Name::new(alloc, text) {
+        Ok(Some(name)) => is_same(&name, text),
+        _ => false,
+    }
 }
 
 #[test]
-fn names(rt: HostRuntime) -> Result<(), Fail> {
+fn names(rt: HostRuntime) {
     let alloc = rt.alloc();
-    let longest = "abcdefghijklmnopqrstuvwxyz0-9_A.";
-    assert!(rt; name(alloc, longest)?.copy()?.as_str() == longest);
+    assert!(rt; is_kept(alloc, "abcdefghijklmnopqrstuvwxyz0-9_A."));
     for text in ["", "a b", "abcdefghijklmnopqrstuvwxyz0-9_A.Z"] {
-        assert!(rt; Name::new(alloc, text)?.is_none(), "at {text}");
+        assert!(rt; matches!(Name::new(alloc, text), Ok(None)), "at {text}");
     }
-    Ok(())
 }
 
-#[test]
-fn problems(rt: HostRuntime) -> Result<(), Fail> {
-    let problem = problem(rt.alloc())?.copy()?;
-    assert!(rt; problem.faults() == 1);
-    assert!(rt; problem.deadline() == 100);
-    assert!(rt; problem.round() == 30);
-    assert!(rt; problem.nodes().len() == 2);
-    assert!(rt; problem.slots().len() == 2);
-    assert!(rt; problem.edges().len() == 1);
-    assert!(rt; problem.processes().len() == 2);
-    assert!(rt; problem.processes()[1].copy()?.name.as_str() == "B");
-    assert!(rt; problem.conditions() == 1);
-    assert!(rt; problem.process_of(0) == 0);
-    assert!(rt; problem.condition_of(0) == Some(0));
-    assert!(rt; problem.condition_of(1).is_none());
-    assert!(rt; problem.release(0) == 0);
-    assert!(rt; problem.release(1) == 7);
-    assert!(rt; problem.due(0) == 60);
-    assert!(rt; problem.due(1) == 100);
-    assert!(rt; Activation::By(1).is_active());
-    Ok(())
+/// Whether this is the scenario with the condition true and two faults of process 1.
+fn is_set(scenario: &Scenario) -> bool {
+    scenario.total() == 2
+        && scenario.number(0) == 0
+        && scenario.number(1) == 2
+        && scenario.number(128) == 1
+        && scenario.number(129) == 0
 }
 
-#[test]
-fn durations(rt: HostRuntime) -> Result<(), Fail> {
-    let problem = problem(rt.alloc())?;
-    assert!(rt; problem.faults() == 1);
-    assert!(rt; problem.processes().len() == 2);
-    assert!(rt; problem.duration(0, 0) == 35);
-    assert!(rt; problem.duration(0, 1) == 72);
-    assert!(rt; problem.duration(1, 0) == 45);
-    assert!(rt; problem.duration(1, 1) == 62);
-    let zero = Scenario::zero(rt.alloc(), &problem)?;
-    let mut lengths = Lengths::full(rt.alloc(), &problem, &zero)?;
-    lengths.set(0, 1);
-    let lengths = lengths.copy()?;
-    assert!(rt; lengths.of(0) == 1);
-    assert!(rt; lengths.of(1) == 45);
-    Ok(())
+fn is_copied(scenario: &Scenario) -> bool {
+    match scenario.copy() {
+        Ok(copy) => is_set(&copy),
+        Err(_) => false,
+    }
 }
 
-#[test]
-fn scenarios(rt: HostRuntime) -> Result<(), Fail> {
-    let problem = problem(rt.alloc())?;
-    assert!(rt; problem.processes().len() == 2);
-    assert!(rt; problem.conditions() == 1);
-    let mut scenario = Scenario::zero(rt.alloc(), &problem)?;
-    assert!(rt; !scenario.value(0));
-    assert!(rt; scenario.fault(1) == 0);
-    assert!(rt; scenario.total() == 0);
+/// Whether a scenario of this graph begins at zero, and is then as it is set.
+fn is_as_set(alloc: Global, admitted: &Admitted) -> bool {
+    let problem = admitted.problem();
+    if problem.conditions() != 1 || problem.processes().len() != 4 {
+        return false;
+    }
+    let Ok(mut scenario) = Scenario::zero(alloc, problem) else {
+        return false;
+    };
+    if scenario.total() != 0 || scenario.value(0) || scenario.fault(1) != 0 {
+        return false;
+    }
     scenario.set_value(0, true);
     scenario.set_fault(1, 2);
-    let scenario = scenario.copy()?;
-    assert!(rt; scenario.value(0));
-    assert!(rt; scenario.fault(1) == 2);
-    assert!(rt; scenario.total() == 2);
-    assert!(rt; scenario.number(1) == 2);
-    assert!(rt; scenario.number(128) == 1);
-    assert!(rt; scenario.number(129) == 0);
-    Ok(())
+    scenario.value(0) && scenario.fault(1) == 2 && is_copied(&scenario)
+}
+
+#[test]
+fn scenarios(rt: HostRuntime) {
+    let admitted = choice(rt.alloc()).expect(&rt, "a graph");
+    assert!(rt; is_as_set(rt.alloc(), &admitted));
 }

@@ -2,30 +2,36 @@
 
 use cpg_base::{Problem, Process};
 use cpg_gen::generate;
-use std::test::Fail;
+use std::alloc::Global;
+
+/// A process, and its worst time, parts and costs.
+type Costs = (usize, [u64; 5]);
+
+/// An edge, its ends and its condition.
+type Ends = (usize, u32, u32, Option<bool>);
 
 fn costs_of(process: &Process) -> [u64; 5] {
     let parts = u64::from(process.parts);
     [process.wcet, parts, process.alpha, process.chi, process.mu]
 }
 
-fn has_costs(problem: &Problem, process: usize, costs: [u64; 5]) -> bool {
-    match problem.processes().get(process) {
-        Some(process) => costs_of(process) == costs,
+fn has_costs(problem: &Problem, costs: Costs) -> bool {
+    match problem.processes().get(costs.0) {
+        Some(process) => costs_of(process) == costs.1,
         None => false,
     }
 }
 
-fn has_edge(problem: &Problem, edge: usize, ends: (u32, u32), when: Option<bool>) -> bool {
-    match problem.edges().get(edge) {
-        Some(edge) => edge.from == ends.0 && edge.to == ends.1 && edge.when == when,
+fn has_edge(problem: &Problem, ends: Ends) -> bool {
+    match problem.edges().get(ends.0) {
+        Some(edge) => edge.from == ends.1 && edge.to == ends.2 && edge.when == ends.3,
         None => false,
     }
 }
 
-/// The two edges to the join, which stand after the 39 edges before them.
+/// The two edges to the join stand after the 39 edges before them.
 fn has_join(problem: &Problem) -> bool {
-    has_edge(problem, 39, (10, 40), Some(true)) && has_edge(problem, 40, (10, 40), Some(false))
+    has_edge(problem, (39, 10, 40, Some(true))) && has_edge(problem, (40, 10, 40, Some(false)))
 }
 
 fn are_counts(problem: &Problem) -> bool {
@@ -37,89 +43,75 @@ fn are_counts(problem: &Problem) -> bool {
         && problem.deadline() == 1_000_000_000
 }
 
-fn is_of_0(problem: &Problem) -> bool {
-    has_costs(problem, 0, [8, 1, 1, 1, 0])
-        && has_costs(problem, 1, [42, 3, 2, 0, 4])
-        && has_costs(problem, 40, [7, 3, 0, 0, 0])
-        && has_costs(problem, 59, [41, 3, 1, 0, 1])
-        && has_edge(problem, 10, (7, 11), None)
-        && has_edge(problem, 59, (58, 59), None)
-        && problem.conditions() == 1
-}
-
-fn is_of_7(problem: &Problem) -> bool {
-    has_costs(problem, 0, [29, 3, 0, 2, 0])
-        && has_costs(problem, 40, [11, 3, 2, 1, 2])
-        && has_costs(problem, 59, [14, 2, 0, 0, 0])
-        && has_edge(problem, 12, (10, 13), Some(true))
-        && has_edge(problem, 14, (10, 15), Some(true))
-        && has_edge(problem, 59, (55, 59), None)
-        && problem.conditions() == 1
-}
-
-fn is_of_12345(problem: &Problem) -> bool {
-    has_costs(problem, 0, [15, 2, 1, 1, 0])
-        && has_costs(problem, 40, [18, 3, 1, 1, 1])
-        && has_costs(problem, 59, [5, 3, 1, 0, 0])
-        && has_edge(problem, 22, (20, 23), Some(true))
-        && has_edge(problem, 59, (54, 59), None)
-        && problem.conditions() == 2
-}
-
-fn is_of_greatest(problem: &Problem) -> bool {
-    has_costs(problem, 0, [39, 3, 1, 2, 4])
-        && has_costs(problem, 40, [13, 2, 0, 2, 0])
-        && has_costs(problem, 59, [15, 3, 1, 1, 1])
-        && has_edge(problem, 15, (10, 16), Some(false))
-        && has_edge(problem, 21, (20, 22), Some(false))
-        && has_edge(problem, 59, (57, 59), None)
-        && problem.conditions() == 2
-}
-
-fn are_edges_same(some: &Problem, other: &Problem) -> bool {
-    some.edges() == other.edges()
+/// Whether the graph of a number has these processes and edges, and so many conditions.
+fn is_generated(
+    alloc: Global,
+    number: u64,
+    costs: &[Costs],
+    edges: &[Ends],
+    conditions: u32,
+) -> bool {
+    match generate(alloc, number) {
+        Ok(problem) => {
+            are_counts(&problem)
+                && has_join(&problem)
+                && costs.iter().all(|costs| has_costs(&problem, *costs))
+                && edges.iter().all(|ends| has_edge(&problem, *ends))
+                && problem.conditions() == conditions
+        }
+        Err(_) => false,
+    }
 }
 
 #[test]
-fn generates(rt: HostRuntime) -> Result<(), Fail> {
-    let problem = generate(rt.alloc(), 0)?;
-    assert!(rt; are_counts(&problem));
-    assert!(rt; has_join(&problem));
-    assert!(rt; is_of_0(&problem));
-    Ok(())
+fn generates_of_0(rt: HostRuntime) {
+    let costs = [
+        (0, [8, 1, 1, 1, 0]),
+        (1, [42, 3, 2, 0, 4]),
+        (40, [7, 3, 0, 0, 0]),
+        (59, [41, 3, 1, 0, 1]),
+    ];
+    let edges = [(10, 7, 11, None), (59, 58, 59, None)];
+    assert!(rt; is_generated(rt.alloc(), 0, &costs, &edges, 1));
 }
 
 #[test]
-fn generates_of_7(rt: HostRuntime) -> Result<(), Fail> {
-    let problem = generate(rt.alloc(), 7)?;
-    assert!(rt; are_counts(&problem));
-    assert!(rt; has_join(&problem));
-    assert!(rt; is_of_7(&problem));
-    Ok(())
+fn generates_of_7(rt: HostRuntime) {
+    let costs = [
+        (0, [29, 3, 0, 2, 0]),
+        (40, [11, 3, 2, 1, 2]),
+        (59, [14, 2, 0, 0, 0]),
+    ];
+    let edges = [
+        (12, 10, 13, Some(true)),
+        (14, 10, 15, Some(true)),
+        (59, 55, 59, None),
+    ];
+    assert!(rt; is_generated(rt.alloc(), 7, &costs, &edges, 1));
 }
 
 #[test]
-fn generates_of_12345(rt: HostRuntime) -> Result<(), Fail> {
-    let problem = generate(rt.alloc(), 12345)?;
-    assert!(rt; are_counts(&problem));
-    assert!(rt; has_join(&problem));
-    assert!(rt; is_of_12345(&problem));
-    Ok(())
+fn generates_of_12345(rt: HostRuntime) {
+    let costs = [
+        (0, [15, 2, 1, 1, 0]),
+        (40, [18, 3, 1, 1, 1]),
+        (59, [5, 3, 1, 0, 0]),
+    ];
+    let edges = [(22, 20, 23, Some(true)), (59, 54, 59, None)];
+    assert!(rt; is_generated(rt.alloc(), 12345, &costs, &edges, 2));
 }
 
 #[test]
-fn generates_of_the_greatest(rt: HostRuntime) -> Result<(), Fail> {
-    let problem = generate(rt.alloc(), u64::MAX)?;
-    assert!(rt; are_counts(&problem));
-    assert!(rt; has_join(&problem));
-    assert!(rt; is_of_greatest(&problem));
-    Ok(())
-}
-
-#[test]
-fn generates_alike(rt: HostRuntime) -> Result<(), Fail> {
-    let some = generate(rt.alloc(), 12345)?;
-    let other = generate(rt.alloc(), 12345)?;
-    assert!(rt; are_edges_same(&some, &other));
-    Ok(())
+fn generates_of_the_greatest(rt: HostRuntime) {
+    let costs = [
+        (0, [39, 3, 1, 2, 4]),
+        (40, [13, 2, 0, 2, 0]),
+        (59, [15, 3, 1, 1, 1]),
+    ];
+    let edges = [
+        (15, 10, 16, Some(false)),
+        (21, 20, 22, Some(false)),
+        (59, 57, 59, None),
+    ];
+    assert!(rt; is_generated(rt.alloc(), u64::MAX, &costs, &edges, 2));
 }

@@ -1,4 +1,5 @@
-//! Tests of the lower crates, each of which is so proved once and not twice.
+//! Tests of the lower crates, each of which is so proved once and not twice: what neither a contract nor a case of the whole
+//! program shows.
 #![tactic(auto)]
 
 #[cfg(test)]
@@ -8,11 +9,11 @@ mod bus_tests;
 #[cfg(test)]
 mod cube_tests;
 #[cfg(test)]
+mod fixtures;
+#[cfg(test)]
 mod generator_tests;
 #[cfg(test)]
 mod guard_tests;
-#[cfg(test)]
-mod merging_tests;
 #[cfg(test)]
 mod order_tests;
 #[cfg(test)]
