@@ -1,6 +1,7 @@
 pub mod Reading
 pub mod Spelling
 pub mod Grammar
+pub mod Behind
 pub mod Packs
 pub mod Fields
 pub mod Writing

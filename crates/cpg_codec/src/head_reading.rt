@@ -4,6 +4,7 @@ ghost use Rattle.cpg_table.specs.Head.{IsHead};
 ghost use Rattle.cpg_codec.specs.Reading.{number_at, within, times_at};
 ghost use Rattle.cpg_codec.specs.Spelling.{magic, bit, written_by, written_with};
 ghost use Rattle.cpg_codec.specs.Grammar.{place_at, process_at, processes_at, edge_at, limit, listed, name_at, head_at};
+ghost use Rattle.cpg_codec.specs.Behind.{behind_names};
 ghost use Rattle.cpg_codec.specs.Gives.{Gives};
 ghost use Rattle.cpg_codec.specs.Packs.{IsPackHead};
 ghost use Rattle.cpg_codec.specs.Parts.{head_of_parts};
@@ -220,17 +221,20 @@ pub struct HeadParts {
     edges: Vec<(u32, u32)>,
 }
 
-#[tactic(auto, unfolding(crate::specs::Grammar::head_at))]
-fn parts_of(alloc: Global, bytes: &[u8]) -> Result<(HeadParts, &[u8]), ReadError>
-    ensures gives { Gives (λ x. (head_of_parts x.0, x.1.now)) result (head_at bytes.now) }
+/// The parts of a head, from the processes on, behind its first numbers and the names of so many nodes.
+#[tactic(auto, unfolding(crate::specs::Behind::behind_names))]
+fn parts_behind(
+    alloc: Global,
+    bytes: &[u8],
+    version: u8,
+    faults: u8,
+    names: u8,
+    nodes: Vec<Name>,
+) -> Result<(HeadParts, &[u8]), ReadError>
+    ensures gives { Gives (λ x. (head_of_parts x.0, x.1.now)) result (behind_names version faults names nodes.items bytes.now) }
     ensures kept { IfOk result (λ x. length x.0.extras.items ≡ (if x.0.version == 2 then length x.0.processes.items else 0)) }
 {
-    let (_text, rest) = number_of(bytes, 4, MAGIC, MAGIC)?;
-    let (version, rest) = small_of(rest, 1, 2)?;
-    let (faults, rest) = small_of(rest, 0, MOST_FAULTS)?;
-    let (names, rest) = small_of(rest, 0, MOST_NODES as u8)?;
-    let (nodes, rest) = names_of(alloc, rest, names)?;
-    let (count, rest) = small_of(rest, 0, limit_of(names, MOST_PROCESSES as u64) as u8)?;
+    let (count, rest) = small_of(bytes, 0, limit_of(names, MOST_PROCESSES as u64) as u8)?;
     let (processes, extras, rest) = processes_of(alloc, rest, version, faults, names, count)?;
     let (ends, rest) = number_of(rest, 2, 0, limit_of(count, MOST_EDGES as u64))?;
     let (edges, rest) = edges_of(alloc, rest, ends as u16, count)?;
@@ -245,6 +249,19 @@ fn parts_of(alloc: Global, bytes: &[u8]) -> Result<(HeadParts, &[u8]), ReadError
         },
         rest,
     ))
+}
+
+#[tactic(auto, unfolding(crate::specs::Grammar::head_at, crate::specs::Behind::behind_names))]
+fn parts_of(alloc: Global, bytes: &[u8]) -> Result<(HeadParts, &[u8]), ReadError>
+    ensures gives { Gives (λ x. (head_of_parts x.0, x.1.now)) result (head_at bytes.now) }
+    ensures kept { IfOk result (λ x. length x.0.extras.items ≡ (if x.0.version == 2 then length x.0.processes.items else 0)) }
+{
+    let (_text, rest) = number_of(bytes, 4, MAGIC, MAGIC)?;
+    let (version, rest) = small_of(rest, 1, 2)?;
+    let (faults, rest) = small_of(rest, 0, MOST_FAULTS)?;
+    let (names, rest) = small_of(rest, 0, MOST_NODES as u8)?;
+    let (nodes, rest) = names_of(alloc, rest, names)?;
+    parts_behind(alloc, rest, version, faults, names, nodes)
 }
 
 /// The head of lawful parts.

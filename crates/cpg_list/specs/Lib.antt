@@ -1,5 +1,6 @@
 pub mod Active
 pub mod FirstAlike
+pub mod Found
 pub mod Listing
 pub mod Peaks
 pub mod Placed

@@ -3,7 +3,13 @@ ghost use Rattle.std.specs.Prelude.{◌≡◌, ◌≤◌, IfOk, IfErr, length};
 ghost use Rattle.cpg_order.specs.Urgency.{IsTopological};
 ghost use Rattle.cpg_order.specs.Scenario.{scenarios};
 ghost use Rattle.cpg_reach.specs.Wide.{IsLeastWide, IsNarrow};
+ghost use Rattle.cpg_bus.specs.Plan.{plan_of};
 ghost use Rattle.cpg_run.specs.Built.{IsBuiltFor, ShowsBuildFault};
+ghost use Rattle.cpg_run.specs.Frozen.{AreFrozenTimes};
+ghost use Rattle.cpg_run.specs.Known.{AreEarly};
+ghost use Rattle.cpg_list.specs.Listing.{AreScenarios};
+ghost use Rattle.cpg_list.specs.Found.{AreTablesOfRows};
+ghost use Rattle.cpg_list.specs.Runs.{AreRuns};
 
 use crate::enumeration::scenarios;
 use crate::exceeding::excess;
@@ -13,33 +19,57 @@ use crate::making::rows;
 use crate::peaks::worst;
 use crate::placing::first_alike;
 use crate::running::runs;
-use cpg_base::OutOfMemory;
+use cpg_base::{OutOfMemory, Scenario};
 use cpg_bus::Plan;
 use cpg_order::Order;
 use cpg_reach::too_wide;
 use cpg_rules::Admitted;
-use cpg_run::{BuildFault, Built};
-use cpg_table::tables_of;
+use cpg_run::{BuildFault, Built, Frozen, RunTimes};
+use cpg_table::{Tables, tables_of};
 use std::alloc::Global;
 
-/// The tables and measures under an order in which no item is too wide.
-fn build(alloc: Global, admitted: &Admitted, order: &Order) -> Result<Built, OutOfMemory>
+/// The tables of the rows of all items, given all scenarios and their runs.
+fn tables(
+    alloc: Global,
+    admitted: &Admitted,
+    order: &Order,
+    plan: &Plan,
+    frozen: &Frozen,
+    scenarios: &[Scenario],
+    runs: &[RunTimes],
+) -> Result<Tables, OutOfMemory>
     requires topological { IsTopological admitted.now.graph order.now }
-    requires few { length (scenarios admitted.now.graph) ≤ MOST_SCENARIOS }
     requires narrow { IsNarrow admitted.now.graph order.now }
-    ensures { IfOk result (λ built. IsBuiltFor admitted.now.graph admitted.now.order order.now built) }
+    requires plan { plan.now ≡ plan_of admitted.now.graph }
+    requires frozen { AreFrozenTimes admitted.now.graph order.now frozen.now }
+    requires early { AreEarly frozen.now }
+    requires scenarios { AreScenarios admitted.now.graph scenarios.now }
+    requires runs { AreRuns admitted.now.graph order.now frozen.now scenarios.now runs.now }
+    ensures { IfOk result (AreTablesOfRows admitted.now.graph admitted.now.order order.now frozen.now) }
 {
     let problem = admitted.problem();
-    let plan = Plan::of(alloc, problem)?;
-    let scenarios = scenarios(alloc, problem)?;
-    let scenarios = scenarios.as_slice();
-    let firsts = first_alike(alloc, admitted, scenarios)?;
-    let firsts = firsts.as_slice();
-    let frozen = frozen_times(alloc, admitted, order, &plan, scenarios, firsts)?;
-    let runs = runs(alloc, admitted, order, &plan, &frozen, scenarios, firsts)?;
-    let runs = runs.as_slice();
-    let rows = rows(alloc, admitted, order, &plan, &frozen, scenarios, runs)?;
+    let rows = rows(alloc, admitted, order, plan, frozen, scenarios, runs)?;
     let tables = tables_of(alloc, problem, rows.as_slice())?;
+    Ok(tables)
+}
+
+/// The tables with what is greatest over all runs.
+fn measured(
+    alloc: Global,
+    admitted: &Admitted,
+    order: &Order,
+    frozen: Frozen,
+    tables: Tables,
+    scenarios: &[Scenario],
+    runs: &[RunTimes],
+) -> Result<Built, OutOfMemory>
+    requires topological { IsTopological admitted.now.graph order.now }
+    requires scenarios { AreScenarios admitted.now.graph scenarios.now }
+    requires runs { AreRuns admitted.now.graph order.now frozen scenarios.now runs.now }
+    requires tables { AreTablesOfRows admitted.now.graph admitted.now.order order.now frozen tables }
+    ensures { IfOk result (λ built. IsBuiltFor admitted.now.graph admitted.now.order order.now built) }
+{
+    let _problem = admitted.problem();
     let worst = worst(alloc, admitted, scenarios, runs)?;
     let excess = excess(alloc, admitted, scenarios, runs)?;
     Ok(Built {
@@ -52,6 +82,43 @@ fn build(alloc: Global, admitted: &Admitted, order: &Order) -> Result<Built, Out
         excess_in: excess.scenario,
         excess_by: excess.process,
     })
+}
+
+/// The tables and measures of all scenarios.
+fn swept(
+    alloc: Global,
+    admitted: &Admitted,
+    order: &Order,
+    plan: &Plan,
+    scenarios: &[Scenario],
+) -> Result<Built, OutOfMemory>
+    requires topological { IsTopological admitted.now.graph order.now }
+    requires narrow { IsNarrow admitted.now.graph order.now }
+    requires plan { plan.now ≡ plan_of admitted.now.graph }
+    requires scenarios { AreScenarios admitted.now.graph scenarios.now }
+    ensures { IfOk result (λ built. IsBuiltFor admitted.now.graph admitted.now.order order.now built) }
+{
+    let _problem = admitted.problem();
+    let firsts = first_alike(alloc, admitted, scenarios)?;
+    let firsts = firsts.as_slice();
+    let frozen = frozen_times(alloc, admitted, order, plan, scenarios, firsts)?;
+    let runs = runs(alloc, admitted, order, plan, &frozen, scenarios, firsts)?;
+    let runs = runs.as_slice();
+    let tables = tables(alloc, admitted, order, plan, &frozen, scenarios, runs)?;
+    measured(alloc, admitted, order, frozen, tables, scenarios, runs)
+}
+
+/// The tables and measures under an order in which no item is too wide.
+fn build(alloc: Global, admitted: &Admitted, order: &Order) -> Result<Built, OutOfMemory>
+    requires topological { IsTopological admitted.now.graph order.now }
+    requires few { length (scenarios admitted.now.graph) ≤ MOST_SCENARIOS }
+    requires narrow { IsNarrow admitted.now.graph order.now }
+    ensures { IfOk result (λ built. IsBuiltFor admitted.now.graph admitted.now.order order.now built) }
+{
+    let problem = admitted.problem();
+    let plan = Plan::of(alloc, problem)?;
+    let scenarios = scenarios(alloc, problem)?;
+    swept(alloc, admitted, order, &plan, scenarios.as_slice())
 }
 
 /// The exact tables of a graph of at most 16,384 scenarios under an order, with the frozen times and, in time units, the

@@ -4,7 +4,7 @@ ghost use Rattle.cpg_base.specs.declared.limits.TheConstants.{MOST_FAULTS};
 ghost use Rattle.cpg_tune.specs.Best.{in_parts};
 ghost use Rattle.cpg_tune.specs.Retuned.{retuned, in_parts_each, ArePartsOf};
 
-use cpg_base::{Name, OutOfMemory, Problem, Process};
+use cpg_base::{OutOfMemory, Problem, Process};
 use std::alloc::Global;
 
 /// The process in another number of parts.
@@ -31,16 +31,6 @@ fn in_parts_each(
     Ok(copies)
 }
 
-fn copy_names(alloc: Global, names: &[Name]) -> Result<Vec<Name>, OutOfMemory>
-    ensures { IfOk result (λ copies. copies.items ≡ names.now) }
-{
-    let mut copies = Vec::new(alloc);
-    for name in names {
-        copies.push(name.copy()?)?;
-    }
-    Ok(copies)
-}
-
 /// The graph with another fault number, and each process in the number of parts at its place.
 pub fn retuned(
     alloc: Global,
@@ -52,7 +42,7 @@ pub fn retuned(
     requires faults { faults ≤ MOST_FAULTS }
     ensures graph { IfOk result (λ made. made ≡ retuned problem.now parts.now faults) }
 {
-    let nodes = copy_names(alloc, problem.nodes())?;
+    let nodes = Vec::from_clones(alloc, problem.nodes())?;
     let slots = Vec::from_slice(alloc, problem.slots())?;
     let processes = in_parts_each(alloc, problem.processes(), parts)?;
     let edges = Vec::from_slice(alloc, problem.edges())?;

@@ -1,0 +1,28 @@
+use Rattle.cpg_run.proofs.BuiltTables.{found_tables_are_built}
+use Rattle.cpg_list.proofs.CodeMade.{timed_of}
+use Rattle.cpg_list.proofs.listing.measured.Goals as goal
+
+pub returns : goal.returns
+returns c =
+    let g = c.args.admitted.now.graph in
+    let urgency = c.args.admitted.now.order in
+    let order = c.args.order.now in
+    found_tables_are_built g urgency order c.requires.tables.rows
+    (record {
+      tables = c.args.tables;
+      frozen = c.args.frozen;
+      worst = c.in_ok-worst.worst.time;
+      worst_in = c.in_ok-worst.worst.scenario;
+      worst_by = c.in_ok-worst.worst.process;
+      excess = c.in_ok-excess.excess.time;
+      excess_in = c.in_ok-excess.excess.scenario;
+      excess_by = c.in_ok-excess.excess.process;
+    })
+    c.problem-problem.ensures.admitted.limits
+    (timed_of g urgency order c.args.admitted.now.guards c.args.frozen c.problem-problem.ensures.admitted c.requires.topological c.requires.tables.found.frozen_times).admitted
+    (record {
+      found = c.requires.tables.found;
+      written = c.requires.tables.written;
+      worst = c.in_ok-worst.ensures order c.args.frozen c.requires.topological c.requires.runs;
+      excess = c.in_ok-excess.ensures order c.args.frozen c.requires.topological c.requires.runs;
+    })

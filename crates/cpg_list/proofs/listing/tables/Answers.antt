@@ -1,0 +1,39 @@
+use Rattle.std.proofs.Common.{ℕ, List, Option, sym, subst}
+use Rattle.cpg_base.specs.Graph.{Graph}
+use Rattle.cpg_table.specs.Table.{Row}
+use Rattle.cpg_table.specs.Writing.{AreWritable, AreTablesWith}
+use Rattle.cpg_reach.proofs.Narrow.{none_too_wide}
+use Rattle.cpg_run.specs.Found.{AreRowsFound}
+use Rattle.cpg_run.specs.RowLaws.{IsTimed}
+use Rattle.cpg_run.proofs.Written.{found_rows_are_writable}
+use Rattle.cpg_list.proofs.CodeMade.{timed_of}
+use Rattle.cpg_list.proofs.FoundRows.{found_rows}
+use Rattle.cpg_list.proofs.listing.tables.Goals as goal
+
+pub tables_of-requires-clause-rows : goal.tables_of-requires-clause-rows
+tables_of-requires-clause-rows c =
+    let g = c.args.admitted.now.graph in
+    let urgency = c.args.admitted.now.order in
+    let order = c.args.order.now in
+    let frozen : List (Option ℕ) = c.args.frozen.now in
+    let rows : List Row = c.in_ok-rows.rows.items in
+    let timed : IsTimed g urgency order frozen = timed_of g urgency order c.args.admitted.now.guards frozen c.problem-problem.ensures.admitted c.requires.topological c.requires.frozen in
+    let found : AreRowsFound g urgency order frozen rows = found_rows g urgency order frozen rows timed c.requires.early c.in_ok-rows.ensures.items c.in_ok-rows.ensures.rows in
+    subst (λ (h : Graph). AreWritable h c.as_slice.result.now) (sym c.problem-problem.ensures.problem)
+    (subst (AreWritable g) (sym c.as_slice.ensures.value)
+    (found_rows_are_writable g urgency order frozen rows c.problem-problem.ensures.admitted.limits timed.admitted found (none_too_wide g order c.requires.narrow)))
+
+pub returns : goal.returns
+returns c =
+    let g = c.args.admitted.now.graph in
+    let urgency = c.args.admitted.now.order in
+    let order = c.args.order.now in
+    let frozen : List (Option ℕ) = c.args.frozen.now in
+    let rows : List Row = c.in_ok-rows.rows.items in
+    let timed : IsTimed g urgency order frozen = timed_of g urgency order c.args.admitted.now.guards frozen c.problem-problem.ensures.admitted c.requires.topological c.requires.frozen in
+    record {
+      rows = rows;
+      found = found_rows g urgency order frozen rows timed c.requires.early c.in_ok-rows.ensures.items c.in_ok-rows.ensures.rows;
+      written = subst (λ (rs : List Row). AreTablesWith g rs c.in_ok-tables.tables) c.as_slice.ensures.value
+          (subst (λ (h : Graph). AreTablesWith h c.as_slice.result.now c.in_ok-tables.tables) c.problem-problem.ensures.problem c.in_ok-tables.ensures);
+    }
