@@ -597,6 +597,13 @@ const page = (() => {
     become(model.scenarioOf(last), `The latest end of ${processes[p].name}: ${last.end}`);
     pick(items[p]);
     moveTime(last.end);
+    keepAddress();
+  }
+
+  function showColumn(column) {
+    if (model.askedOf(column) > k) return say("This column asks for more faults than there may be");
+    become(model.ofColumn(column), "The least scenario of a column");
+    at("columns").querySelector('[aria-current="true"]')?.focus();
   }
 
   /* One element of the picture can be reached by Tab: the one that is picked, or the first. */
@@ -684,13 +691,7 @@ const page = (() => {
       else if (it.less) changeFault(Number(it.less), -1);
       else if (it.pick) pick(items[Number(it.pick)]);
       else if (it.latest) showLatest(Number(it.latest));
-      else if (it.column) {
-        const item = picked;
-        become(model.ofColumn(Number(it.column)), "The least scenario of a column");
-        pick(item);
-        const again = at("columns").querySelector('[aria-current="true"]');
-        again?.focus();
-      }
+      else if (it.column) showColumn(Number(it.column));
     });
     at("worst").onclick = () => model.worst && showLatest(model.worst.process);
     at("tightest").onclick = () => model.tightest !== null && showLatest(model.tightest);
