@@ -3,6 +3,10 @@
 #include "board.h"
 #include "cpg_table.h"
 
+#ifndef NODE_CYCLE
+#define NODE_CYCLE 0U                   /* how long a cycle is, as tools/cycle says; 0 where there is one alone */
+#endif
+
 static cpg_node node;
 static uint64_t now;
 
@@ -10,12 +14,6 @@ bool node_open(void)
 {
     now = 0U;
     return cpg_open(&node, cpg_table, cpg_table_size, cpg_table_name, cpg_table_name_length) == CPG_OK;
-}
-
-void node_begin(void)
-{
-    now = 0U;
-    cpg_begin(&node);
 }
 
 static void take_ends(void)
@@ -57,6 +55,12 @@ static void act(const cpg_event *event)
 void node_tick(void)
 {
     cpg_event event;
+#if NODE_CYCLE > 0U
+    if (now >= NODE_CYCLE) {
+        now = 0U;
+        cpg_begin(&node);
+    }
+#endif
     take_ends();
     take_frames();
     while (cpg_poll(&node, now, &event)) {

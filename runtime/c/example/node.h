@@ -11,7 +11,4 @@ bool node_open(void);
 /* The handler of the timer interrupt, once in each time unit. */
 void node_tick(void);
 
-/* Begins the next cycle: the next tick is that of time 0 again. */
-void node_begin(void);
-
 #endif

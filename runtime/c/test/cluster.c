@@ -1,6 +1,6 @@
 /*
- * cluster PACK WORD ..: nodes, each with its table alone, on a bus that carries (item, column, value), for one cycle in one scenario.
- * Writes what `cpgc play` writes, but for the line `waits`; and what the watch of a node tells, as TIME NODE overrun|missing ITEM.
+ * cluster PACK WORD ..: nodes, each with its table alone, on a bus that carries (item, column, value), in one scenario. Writes what
+ * `cpgc play` writes, but for the line `waits`; and what the watch of a node tells, as TIME NODE overrun|missing ITEM.
  *
  *   slot:NODE=N    the slot of a node lasts so long: its frames are there so much later
  *   fault:NAME=N   so many faults strike a process          value:NAME     the value of its condition is true
@@ -128,7 +128,8 @@ static void take_turns(cpg_node *node, uint64_t now)
         } else if (event.kind == CPG_SEND) {
             carry(node, &event);
         } else {
-            (void)snprintf(text, sizeof text, "%s %s", (event.kind == CPG_OVERRUN) ? "overrun" : "missing", host_item(node, event.item));
+            const char *what = (event.kind == CPG_OVERRUN) ? "overrun" : "missing";
+            (void)snprintf(text, sizeof text, "%s %s", what, host_item(node, event.item));
             add_line(event.time, node->self, WATCH_LINE, event.item, text);
         }
     }

@@ -1,4 +1,4 @@
-/* gen PACK NODE SEED WILD: writes a stream of records for a node, lawful for the most part. WILD in percent is how much is spoilt. */
+/* gen PACK NODE SEED WILD: writes a stream of records for a node, lawful for the most part. WILD, in percent, is how much isn't. */
 #include "host.h"
 
 #include <stdio.h>
@@ -166,7 +166,6 @@ static void spoil(void)
 {
     uint32_t one = (uint32_t)draw(size / RECORD) * RECORD;
     uint32_t other = (uint32_t)draw(size / RECORD) * RECORD;
-    uint8_t kept[RECORD];
     switch (draw(6U)) {
     case 0:
         out[draw(size)] ^= (uint8_t)(1U << draw(8U));
@@ -179,6 +178,7 @@ static void spoil(void)
         break;
     case 3:
         if (size >= (2U * RECORD)) {
+            uint8_t kept[RECORD];
             memcpy(kept, out + one, RECORD);
             memmove(out + one, out + other, RECORD);
             memcpy(out + other, kept, RECORD);

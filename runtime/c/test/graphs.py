@@ -1,8 +1,8 @@
-"""Random graph files: 1 to 16 nodes, conditions and joins, frozen items, releases and own deadlines. docs/FORMATS.md has the keys."""
+"""Random graph files: 1 to 16 nodes, conditions, joins, frozen items, releases, own deadlines. docs/FORMATS.md has the keys."""
 
 
 def joined(random, process, edges, decides):
-    """The two inputs of a join at a process: from one condition, each the true or the false way, directly or by one process between."""
+    """The two inputs of a join: from one condition, the true and the false way, each directly or by a process between."""
     deciding = [it for it in range(process) if it in decides]
     if not deciding:
         return []

@@ -1,5 +1,5 @@
-"""Random packs that no graph stands behind: lawful ones, most of which break the ten rules, and damaged ones. docs/FORMATS.md has the
-bytes."""
+"""Random packs that no graph stands behind: lawful ones, most of which break the ten rules, and damaged ones. docs/FORMATS.md has
+the bytes."""
 
 
 class Writer:
@@ -44,7 +44,8 @@ def write_literal(random, out, variable, faults):
     if variable >= 128:
         low = high = random.randrange(2)
     else:
-        low, high = random.choice([(low, high) for low in range(faults + 1) for high in range(low, faults + 1) if (low, high) != (0, faults)])
+        ranges = [(low, high) for low in range(faults + 1) for high in range(low, faults + 1)]
+        low, high = random.choice([it for it in ranges if it != (0, faults)])
     out.number(low), out.number(high)
 
 

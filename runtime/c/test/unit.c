@@ -1,5 +1,5 @@
-/* unit PAIR BRANCHING: what a node answers where it is called wrongly or a premise breaks, by the packs of two examples. Writes each
- * check that fails, and a count. */
+/* unit PAIR BRANCHING: what a node answers where it is called wrongly or a premise breaks, by the packs of two examples. Writes
+ * each check that fails, and a count. */
 #include "host.h"
 
 #include <stdio.h>

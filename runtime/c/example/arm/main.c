@@ -1,5 +1,5 @@
-/* The example on a Cortex-M3, the LM3S6965 that QEMU emulates: each interrupt of SysTick is a tick. The wire is UART 0, and a tick waits
- * for its line there, so that the nodes of a cluster, each in an emulator of its own, have one time. */
+/* The example on a Cortex-M3, the LM3S6965 that QEMU emulates: each interrupt of SysTick is a tick. The wire is UART 0, and a tick
+ * waits for its line there, so that the nodes of a cluster, each in an emulator of its own, have one time. */
 #include "../node.h"
 #include "../wire.h"
 

@@ -30,11 +30,11 @@ __attribute__((section(".vectors"), used)) const vectors vector_table = {
 void reset_handler(void)
 {
     const uint32_t *from = &data_in_flash;
-    for (uint32_t *to = &data_begin; to < &data_end; to++) {
+    for (uint32_t *to = &data_begin; to != &data_end; to++) {
         *to = *from;
         from++;
     }
-    for (uint32_t *to = &bss_begin; to < &bss_end; to++) {
+    for (uint32_t *to = &bss_begin; to != &bss_end; to++) {
         *to = 0U;
     }
     (void)main();
