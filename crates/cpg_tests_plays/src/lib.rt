@@ -1,4 +1,4 @@
-//! Tests of what runs tables and shows them, each crate of which is so proved once and not twice.
+//! Tests of what runs tables, and of the bytes that come in and go out.
 #![tactic(auto)]
 
 #[cfg(test)]
@@ -6,10 +6,10 @@ mod cluster_tests;
 #[cfg(test)]
 mod fixtures;
 #[cfg(test)]
+mod io_tests;
+#[cfg(test)]
 mod live_tests;
 #[cfg(test)]
 mod node_tests;
 #[cfg(test)]
-mod show_tests;
-#[cfg(test)]
-mod stream_tests;
+mod record_tests;

@@ -1,6 +1,6 @@
-//! A stream of three records for the second node of the pair: the frame that tells of a fault, the end of the process that
-//! it starts, and a close.
-use crate::node_tests::second_table;
+//! A stream of three records for the second node of the pair, in one piece and byte by byte: the frame that tells of a
+//! fault, the end of the process that it starts, and a close.
+use crate::fixtures::second_table;
 use cpg_live::{Bad, Live, Why};
 use cpg_node::Act;
 use std::alloc::Global;
@@ -19,6 +19,18 @@ fn second_live(alloc: Global) -> Result<Live, Fail> {
     Ok(Live::new(alloc, table)?)
 }
 
+/// Feeds bytes in one piece, or one by one, and answers the last answer.
+fn feed(live: &mut Live, bytes: &[u8], each: bool) -> Result<(), Bad> {
+    if !each {
+        return live.feed(bytes);
+    }
+    let mut answer = Ok(());
+    for byte in bytes {
+        answer = live.feed(&[*byte]);
+    }
+    answer
+}
+
 /// Whether the process was started at 90 and nothing else was done, and the stream was closed at 105.
 fn is_done(live: &Live) -> bool {
     let start = Act {
@@ -29,51 +41,25 @@ fn is_done(live: &Live) -> bool {
     live.closed() == Ok(105) && live.acts() == [start].as_slice()
 }
 
-#[test]
-fn a_stream_in_one_piece(rt: HostRuntime) -> Result<(), Fail> {
-    let mut live = second_live(rt.alloc())?;
-    assert!(rt; live.feed(&STREAM) == Ok(()));
-    assert!(rt; is_done(&live));
-    Ok(())
+/// Whether the stream is followed to its end.
+fn follows(live: &mut Live, each: bool) -> bool {
+    feed(live, &STREAM, each) == Ok(()) && is_done(live)
 }
 
-/// Feeds bytes one by one, and answers the last answer.
-pub fn feed_each(live: &mut Live, bytes: &[u8]) -> Result<(), Bad> {
-    let mut answer = Ok(());
-    for byte in bytes {
-        answer = live.feed(&[*byte]);
+#[test]
+fn a_stream_to_its_close(rt: HostRuntime) -> Result<(), Fail> {
+    for each in [false, true] {
+        let mut live = second_live(rt.alloc())?;
+        assert!(rt; follows(&mut live, each));
     }
-    answer
-}
-
-#[test]
-fn a_stream_byte_by_byte(rt: HostRuntime) -> Result<(), Fail> {
-    let mut live = second_live(rt.alloc())?;
-    assert!(rt; feed_each(&mut live, &STREAM) == Ok(()));
-    assert!(rt; is_done(&live));
     Ok(())
 }
 
-/// The stream with another byte at a place.
-fn stream_with(place: usize, byte: u8) -> [u8; SIZE] {
+/// What is found lawless in the stream with another byte at a place.
+fn found(live: &mut Live, place: usize, byte: u8, each: bool) -> Option<Bad> {
     let mut stream = STREAM;
-    if place < SIZE {
-        stream[place] = byte;
-    }
-    stream
-}
-
-/// What is found lawless in the stream with another byte at a place, in one piece and byte by byte.
-fn found(alloc: Global, place: usize, byte: u8) -> Result<Option<Bad>, Fail> {
-    let mut whole = second_live(alloc)?;
-    let mut parts = second_live(alloc)?;
-    let stream = stream_with(place, byte);
-    Ok(same(whole.feed(&stream), feed_each(&mut parts, &stream)))
-}
-
-/// The fault that both answers tell.
-fn same(one: Result<(), Bad>, two: Result<(), Bad>) -> Option<Bad> {
-    if one == two { one.err() } else { None }
+    *stream.get_mut(place)? = byte;
+    feed(live, &stream, each).err()
 }
 
 fn bad(index: u64, why: Why) -> Option<Bad> {
@@ -81,45 +67,38 @@ fn bad(index: u64, why: Why) -> Option<Bad> {
 }
 
 #[test]
-fn lawless_kinds(rt: HostRuntime) -> Result<(), Fail> {
-    for (place, byte, index) in [(0, 3, 0), (13, 1, 0), (27, 2, 1), (40, 1, 2)] {
-        let fault = found(rt.alloc(), place, byte)?;
-        assert!(rt; fault == bad(index, Why::Kind));
+fn a_lawless_record(rt: HostRuntime) -> Result<(), Fail> {
+    for each in [false, true] {
+        let mut live = second_live(rt.alloc())?;
+        assert!(rt; found(&mut live, 22, 106, each) == bad(1, Why::End));
     }
     Ok(())
 }
 
-#[test]
-fn lawless_times_frames_and_ends(rt: HostRuntime) -> Result<(), Fail> {
-    for (place, byte, index, why) in [
-        (36, 104, 2, Why::Order),
-        (12, 0, 0, Why::Frame),
-        (8, 89, 0, Why::Frame),
-        (24, 0, 1, Why::End),
-        (26, 2, 1, Why::End),
-        (27, 1, 1, Why::End),
-        (22, 106, 1, Why::End),
-    ] {
-        let fault = found(rt.alloc(), place, byte)?;
-        assert!(rt; fault == bad(index, why));
-    }
-    Ok(())
+/// Whether a stream that ends too early is told of where it is closed.
+fn misses_a_byte(live: &mut Live) -> bool {
+    live.feed(&STREAM[..41]) == Ok(()) && live.closed().err() == bad(2, Why::Length)
 }
 
 #[test]
 fn a_stream_that_ends_too_early(rt: HostRuntime) -> Result<(), Fail> {
     let mut live = second_live(rt.alloc())?;
-    assert!(rt; live.feed(&STREAM[..41]) == Ok(()));
-    assert!(rt; live.closed().err() == bad(2, Why::Length));
+    assert!(rt; misses_a_byte(&mut live));
     Ok(())
+}
+
+/// Whether a byte after the close is told of from then on.
+fn has_a_byte_more(live: &mut Live) -> bool {
+    let more = bad(3, Why::Length);
+    live.feed(&STREAM) == Ok(())
+        && live.feed(&[0]).err() == more
+        && live.feed(&[]).err() == more
+        && live.closed().err() == more
 }
 
 #[test]
 fn a_byte_after_the_close(rt: HostRuntime) -> Result<(), Fail> {
     let mut live = second_live(rt.alloc())?;
-    assert!(rt; feed_each(&mut live, &STREAM) == Ok(()));
-    assert!(rt; live.feed(&[0]).err() == bad(3, Why::Length));
-    assert!(rt; live.feed(&[]).err() == bad(3, Why::Length));
-    assert!(rt; live.closed().err() == bad(3, Why::Length));
+    assert!(rt; has_a_byte_more(&mut live));
     Ok(())
 }

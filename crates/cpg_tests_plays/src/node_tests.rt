@@ -4,40 +4,30 @@ ghost use Rattle.std.specs.Prelude.{◌≡◌, ◌<◌, ◌+◌, ◌^◌, IfSome
 ghost use Rattle.std.specs.Bool.{OnTrue};
 ghost use Rattle.cpg_node.specs.State.{MayFinish, time_of};
 
-use crate::fixtures::{hearing_rows, pair, table};
+use crate::fixtures::second_table;
 use cpg_node::{Act, Ended, Frame, Node, StrangeFrame};
-use cpg_table::{NodeTable, head_of};
 use std::alloc::Global;
 use std::test::Fail;
-
-pub fn second_table(alloc: Global) -> Result<NodeTable, Fail> {
-    let admitted = pair(alloc)?;
-    let head = head_of(alloc, admitted.problem())?;
-    let rows = hearing_rows(alloc)?;
-    table(alloc, &head, 1, rows)
-}
 
 fn second_node(alloc: Global) -> Result<Node, Fail> {
     let table = second_table(alloc)?;
     Ok(Node::new(alloc, table)?)
 }
 
-/// Whether a node is before its first turn.
+/// Whether a node is before its first turn, with one process, of which there is no report.
 fn is_new(node: &Node) -> bool {
-    node.next() == Some(0) && node.acts().is_empty() && node.running(1).is_none()
-}
-
-/// Whether a node has one process, and no report of it.
-fn has_one_process(node: &Node) -> bool {
-    node.table().own().len() == 1 && node.executions().len() == 1 && !node.reported(1)
+    node.next() == Some(0)
+        && node.acts().is_empty()
+        && node.running(1).is_none()
+        && node.table().own().len() == 1
+        && node.executions().len() == 1
+        && !node.reported(1)
 }
 
 #[test]
 fn a_new_node(rt: HostRuntime) -> Result<(), Fail> {
     let node = second_node(rt.alloc())?;
     assert!(rt; is_new(&node));
-    assert!(rt; has_one_process(&node));
-    assert!(rt; !node.reported(7));
     Ok(())
 }
 
@@ -51,22 +41,26 @@ fn take_turn(node: &mut Node) -> Option<u64>
     Some(time)
 }
 
+/// Takes the turns at 0 and 50, in which nothing has been heard.
+fn takes_two_turns(node: &mut Node) -> bool {
+    take_turn(node) == Some(0) && take_turn(node) == Some(50)
+}
+
 #[test]
 fn turns_without_frames(rt: HostRuntime) -> Result<(), Fail> {
     let mut node = second_node(rt.alloc())?;
-    assert!(rt; take_turn(&mut node) == Some(0));
-    assert!(rt; take_turn(&mut node) == Some(50));
-    assert!(rt; node.acts().is_empty());
-    assert!(rt; node.next() == Some(90));
+    assert!(rt; takes_two_turns(&mut node) && node.acts().is_empty() && node.next() == Some(90));
     Ok(())
 }
 
-/// The node after its turns at 0 and 50, in which it has heard nothing.
+/// The node after these turns.
 fn after_two_turns(alloc: Global) -> Result<Node, Fail> {
     let mut node = second_node(alloc)?;
-    take_turn(&mut node).ok_or("turn")?;
-    take_turn(&mut node).ok_or("turn")?;
-    Ok(node)
+    if takes_two_turns(&mut node) {
+        Ok(node)
+    } else {
+        Err(Fail::new("turn"))
+    }
 }
 
 fn frame(item: u32, column: u32) -> Frame {
@@ -77,12 +71,17 @@ fn frame(item: u32, column: u32) -> Frame {
     }
 }
 
+/// Whether a frame is strange at 90.
+fn is_strange(node: &mut Node, item: u32, column: u32) -> bool {
+    node.hear(90, frame(item, column)) == Err(StrangeFrame)
+}
+
 #[test]
 fn strange_frames(rt: HostRuntime) -> Result<(), Fail> {
     let mut node = after_two_turns(rt.alloc())?;
-    assert!(rt; node.hear(90, frame(2, 0)) == Err(StrangeFrame));
-    assert!(rt; node.hear(90, frame(2, 2)) == Err(StrangeFrame));
-    assert!(rt; node.hear(90, frame(1, 1)) == Err(StrangeFrame));
+    for (item, column) in [(2, 0), (2, 2), (1, 1)] {
+        assert!(rt; is_strange(&mut node, item, column));
+    }
     Ok(())
 }
 
@@ -91,19 +90,24 @@ fn did(node: &Node, act: Act) -> bool {
     node.acts() == [act].as_slice()
 }
 
-#[test]
-fn a_frame_and_a_start(rt: HostRuntime) -> Result<(), Fail> {
-    let mut node = after_two_turns(rt.alloc())?;
-    assert!(rt; node.hear(90, frame(2, 1)) == Ok(()));
-    assert!(rt; take_turn(&mut node) == Some(90));
+/// Whether the process starts at 90, where the frame of a fault is heard.
+fn hears_and_starts(node: &mut Node) -> bool {
     let start = Act {
         time: 90,
         item: 1,
         column: 1,
     };
-    assert!(rt; did(&node, start));
-    assert!(rt; node.running(1) == Some(90));
-    assert!(rt; node.next() == Some(105));
+    node.hear(90, frame(2, 1)) == Ok(())
+        && take_turn(node) == Some(90)
+        && did(node, start)
+        && node.running(1) == Some(90)
+        && node.next() == Some(105)
+}
+
+#[test]
+fn a_frame_and_a_start(rt: HostRuntime) -> Result<(), Fail> {
+    let mut node = after_two_turns(rt.alloc())?;
+    assert!(rt; hears_and_starts(&mut node));
     Ok(())
 }
 
@@ -157,19 +161,24 @@ fn has_report(node: &Node, start: u64, ended: Ended) -> bool {
         && node.running(process) == Some(start)
 }
 
-#[test]
-fn a_kept_report(rt: HostRuntime) -> Result<(), Fail> {
-    let mut node = after_two_turns(rt.alloc())?;
-    assert!(rt; node.hear(90, frame(2, 1)) == Ok(()));
+/// Whether the report of an execution that ends early is kept until its planned end.
+fn keeps_a_report(node: &mut Node) -> bool {
     let ended = Ended {
         process: 1,
         faults: 0,
         value: false,
     };
-    assert!(rt; start_and_finish(&mut node, ended));
-    assert!(rt; has_report(&node, 90, ended));
-    assert!(rt; take_turn(&mut node) == Some(105));
-    assert!(rt; !node.reported(1));
-    assert!(rt; node.running(1).is_none());
+    node.hear(90, frame(2, 1)) == Ok(())
+        && start_and_finish(node, ended)
+        && has_report(node, 90, ended)
+        && take_turn(node) == Some(105)
+        && !node.reported(1)
+        && node.running(1).is_none()
+}
+
+#[test]
+fn a_kept_report(rt: HostRuntime) -> Result<(), Fail> {
+    let mut node = after_two_turns(rt.alloc())?;
+    assert!(rt; keeps_a_report(&mut node));
     Ok(())
 }

@@ -1,234 +1,160 @@
-//! Two processes on one node and on two, with at most one fault, worked by hand, and built over all scenarios and by trees.
+//! The pair, built over all scenarios and by trees, worked by hand, and both builders on a graph of two nodes with a
+//! choice, two faults, releases, deadlines and frozen items.
+ghost use Rattle.std.specs.Prelude.{◌≡◌, length};
 
-use crate::graphs::{Example, admitted};
-use cpg_base::OutOfMemory;
-use cpg_cube::Literal;
+use crate::columns::are_rows;
+use crate::fixtures::{MIXED, PAIR, admitted};
+use crate::list_tests::listed;
+use cpg_base::Scenario;
 use cpg_expand::expand;
 use cpg_list::{has_few_scenarios, list};
 use cpg_rules::Admitted;
 use cpg_run::Built;
-use cpg_table::{Entry, Row};
+use cpg_table::{NodeTable, Row};
 use std::alloc::Global;
 use std::test::Fail;
 
-/// A way to build tables.
-#[derive(Clone, Copy)]
-enum Builder {
-    /// Over all scenarios.
-    Listing,
-    /// By trees.
-    Trees,
-}
-
-/// What is built of a graph under its urgency order over all scenarios.
+/// What is built under the urgency order over all scenarios.
 #[tactic(auto, using(crate::proofs::Unfrozen::urgent_topological))]
-pub(crate) fn listed(alloc: Global, admitted: &Admitted) -> Result<Built, Fail> {
+fn built_by_list(alloc: Global, admitted: &Admitted) -> Option<Built> {
     if !has_few_scenarios(admitted.problem()) {
-        return Err(Fail::from(OutOfMemory));
+        return None;
     }
-    match list(alloc, admitted, admitted.order()) {
-        Ok(built) => Ok(built),
-        Err(_) => Err(Fail::from(OutOfMemory)),
-    }
+    list(alloc, admitted, admitted.order()).ok()
 }
 
-/// What is built of a graph under its urgency order by trees.
+/// What is built under the urgency order by trees.
 #[tactic(auto, using(crate::proofs::Unfrozen::urgent_topological))]
-pub(crate) fn expanded(alloc: Global, admitted: &Admitted) -> Result<Built, Fail> {
-    match expand(alloc, admitted, admitted.order()) {
-        Ok(built) => Ok(built),
-        Err(_) => Err(Fail::from(OutOfMemory)),
-    }
+fn built_by_trees(alloc: Global, admitted: &Admitted) -> Option<Built> {
+    expand(alloc, admitted, admitted.order()).ok()
 }
 
-/// What is built of an example.
-fn built(alloc: Global, builder: Builder, example: Example) -> Result<Built, Fail> {
-    let admitted = admitted(alloc, example)?;
-    match builder {
-        Builder::Listing => listed(alloc, &admitted),
-        Builder::Trees => expanded(alloc, &admitted),
-    }
+/// B ends at 105, five too late, after a fault of A.
+fn has_peaks(built: &Built) -> bool {
+    built.worst == 105
+        && built.worst_by == Some(1)
+        && built.excess == 5
+        && built.excess_by == Some(1)
+        && built.excess_in.number(0) == 1
+        && built.excess_in.total() == 1
 }
 
-fn faults_of_a(count: u8) -> Literal {
-    Literal {
-        variable: 0,
-        low: count,
-        high: count,
-    }
-}
-
-/// The rows of the starts on the one node.
-fn starts(built: &Built) -> Option<&[Row]> {
-    if built.tables.head().nodes().len() != 1 {
-        return None;
-    }
-    Some(built.tables.node(0).starts())
-}
-
-/// The rows of what the first of two nodes sends.
-fn sends(built: &Built) -> Option<&[Row]> {
+/// The tables of two nodes.
+fn both(built: &Built) -> Option<(&NodeTable, &NodeTable)> {
     if built.tables.head().nodes().len() != 2 {
         return None;
     }
-    Some(built.tables.node(0).sends())
+    Some((built.tables.node(0), built.tables.node(1)))
 }
 
-/// The rows of what the second of two nodes hears.
-fn hears(built: &Built) -> Option<&[Row]> {
-    if built.tables.head().nodes().len() != 2 {
-        return None;
+/// The message is sent at 40 and heard at 50 or, after a fault of A, at 80 and 90.
+fn has_rows(built: &Built) -> bool {
+    let Some((first, second)) = both(built) else {
+        return false;
+    };
+    let sent = [(40, 0, 0), (80, 1, 1)];
+    let heard = [(50, 0, 0), (90, 1, 1)];
+    are_rows(first.sends(), &[sent.as_slice()]) && are_rows(second.hears(), &[heard.as_slice()])
+}
+
+fn is_pair(built: Option<&Built>) -> bool {
+    match built {
+        Some(built) => has_peaks(built) && has_rows(built),
+        None => false,
     }
-    Some(built.tables.node(1).hears())
 }
 
-/// Whether the rows are as many as these numbers, with so many columns each.
-fn have_columns(rows: &[Row], counts: &[usize]) -> bool {
-    if rows.len() != counts.len() {
+#[test]
+fn the_pair_is_listed(rt: HostRuntime) -> Result<(), Fail> {
+    let admitted = admitted(rt.alloc(), PAIR)?;
+    let built = built_by_list(rt.alloc(), &admitted);
+    assert!(rt; is_pair(built.as_ref()));
+    Ok(())
+}
+
+#[test]
+fn the_pair_is_expanded(rt: HostRuntime) -> Result<(), Fail> {
+    let admitted = admitted(rt.alloc(), PAIR)?;
+    let built = built_by_trees(rt.alloc(), &admitted);
+    assert!(rt; is_pair(built.as_ref()));
+    Ok(())
+}
+
+/// The time that a row has in a scenario.
+fn time_in(row: &Row, scenario: &Scenario) -> Option<u64> {
+    for column in row.entries() {
+        if column.cube.matches(scenario) {
+            return Some(column.time);
+        }
+    }
+    None
+}
+
+/// Whether rows are of the same items, with the same times in a scenario.
+fn rows_agree(first: &[Row], second: &[Row], scenario: &Scenario) -> bool {
+    if first.len() != second.len() {
         return false;
     }
-    for at in 0..rows.len() {
-        if rows[at].entries().len() != counts[at] {
+    for at in 0..first.len() {
+        if first[at].item() != second[at].item() {
+            return false;
+        }
+        if time_in(&first[at], scenario) != time_in(&second[at], scenario) {
             return false;
         }
     }
     true
 }
 
-fn column(rows: &[Row], row: usize, place: usize) -> Option<&Entry> {
-    rows.get(row)?.entries().get(place)
+fn nodes_agree(first: &NodeTable, second: &NodeTable, scenario: &Scenario) -> bool {
+    rows_agree(first.starts(), second.starts(), scenario)
+        && rows_agree(first.sends(), second.sends(), scenario)
+        && rows_agree(first.hears(), second.hears(), scenario)
 }
 
-fn is_at(column: Option<&Entry>, time: u64) -> bool {
-    match column {
-        Some(column) => column.time == time,
-        None => false,
+/// Whether all items of two nodes have the same times in a scenario.
+fn agree_in(first: &Built, second: &Built, scenario: &Scenario) -> bool {
+    match (both(first), both(second)) {
+        (Some((a, b)), Some((c, d))) => {
+            nodes_agree(a, c, scenario) && nodes_agree(b, d, scenario)
+        }
+        _ => false,
     }
 }
 
-fn has_literals(column: Option<&Entry>, literals: &[Literal]) -> bool {
-    match column {
-        Some(column) => column.cube.literals() == literals,
-        None => false,
+/// Whether the greatest finish and the greatest excess are equal, and there is an excess.
+fn are_measured_alike(first: &Built, second: &Built) -> bool {
+    first.worst == second.worst
+        && first.worst_by == second.worst_by
+        && first.excess == second.excess
+        && first.excess_by == second.excess_by
+        && first.excess > 0
+}
+
+/// Whether what two builders answer has the same measures, and the same times in each of these scenarios.
+fn agree(first: Option<&Built>, second: Option<&Built>, scenarios: &[Scenario]) -> bool {
+    match (first, second) {
+        (Some(first), Some(second)) => {
+            are_measured_alike(first, second)
+                && scenarios
+                    .iter()
+                    .all(|scenario| agree_in(first, second, scenario))
+        }
+        _ => false,
     }
 }
 
-fn is_of(rows: &[Row], item: u32) -> bool {
-    match rows.first() {
-        Some(row) => row.item() == item,
-        None => false,
-    }
-}
-
-fn has_worst(built: &Built, time: u64, process: u32) -> bool {
-    built.worst == time && built.worst_by == Some(process)
-}
-
-fn has_excess(built: &Built, time: u64, process: Option<u32>, faults: u32) -> bool {
-    built.excess == time && built.excess_by == process && built.excess_in.total() == faults
-}
-
-/// B ends at 87 after a fault of A, and nothing is late.
-fn is_measured_alone(built: &Built) -> bool {
-    has_worst(built, 87, 1)
-        && built.worst_in.number(0) == 1
-        && built.worst_in.total() == 1
-        && has_excess(built, 0, None, 0)
-}
-
-/// A starts at 0, and B at 35 or, after a fault of A, at 72.
-fn starts_in_turn(built: &Built) -> bool {
-    let Some(rows) = starts(built) else {
-        return false;
-    };
-    let (always, early, late) = (column(rows, 0, 0), column(rows, 1, 0), column(rows, 1, 1));
-    have_columns(rows, [1, 2].as_slice())
-        && is_at(always, 0)
-        && has_literals(always, [].as_slice())
-        && is_at(early, 35)
-        && has_literals(early, [faults_of_a(0)].as_slice())
-        && is_at(late, 72)
-        && has_literals(late, [faults_of_a(1)].as_slice())
-}
-
-/// Whether both are so.
-fn on_one_node(alloc: Global, builder: Builder) -> Result<(bool, bool), Fail> {
-    let built = built(alloc, builder, Example::Alone)?;
-    Ok((is_measured_alone(&built), starts_in_turn(&built)))
+/// Whether both builders tell the same in these scenarios.
+fn builders_agree(alloc: Global, admitted: &Admitted, scenarios: &[Scenario]) -> bool {
+    let first = built_by_list(alloc, admitted);
+    let second = built_by_trees(alloc, admitted);
+    agree(first.as_ref(), second.as_ref(), scenarios)
 }
 
 #[test]
-fn lists_one_node(rt: HostRuntime) -> Result<(), Fail> {
-    let (measured, starts) = on_one_node(rt.alloc(), Builder::Listing)?;
-    assert!(rt; measured);
-    assert!(rt; starts);
-    Ok(())
-}
-
-#[test]
-fn expands_one_node(rt: HostRuntime) -> Result<(), Fail> {
-    let (measured, starts) = on_one_node(rt.alloc(), Builder::Trees)?;
-    assert!(rt; measured);
-    assert!(rt; starts);
-    Ok(())
-}
-
-/// B ends at 105, five too late, after a fault of A.
-fn is_measured_apart(built: &Built) -> bool {
-    has_worst(built, 105, 1) && has_excess(built, 5, Some(1), 1) && built.excess_in.number(0) == 1
-}
-
-/// The message, item 2, is sent at 40 or 80.
-fn sends_in_time(built: &Built) -> bool {
-    let Some(rows) = sends(built) else {
-        return false;
-    };
-    have_columns(rows, [2].as_slice())
-        && is_of(rows, 2)
-        && is_at(column(rows, 0, 0), 40)
-        && is_at(column(rows, 0, 1), 80)
-}
-
-/// It is heard at 50 or, after a fault of A, at 90.
-fn hears_in_time(built: &Built) -> bool {
-    let Some(rows) = hears(built) else {
-        return false;
-    };
-    have_columns(rows, [2].as_slice())
-        && is_of(rows, 2)
-        && is_at(column(rows, 0, 0), 50)
-        && is_at(column(rows, 0, 1), 90)
-        && has_literals(column(rows, 0, 1), [faults_of_a(1)].as_slice())
-}
-
-/// Whether all three are so.
-fn on_two_nodes(alloc: Global, builder: Builder) -> Result<(bool, bool, bool), Fail> {
-    let example = Example::Pair {
-        frozen: false,
-        due: 100,
-    };
-    let built = built(alloc, builder, example)?;
-    Ok((
-        is_measured_apart(&built),
-        sends_in_time(&built),
-        hears_in_time(&built),
-    ))
-}
-
-#[test]
-fn lists_two_nodes(rt: HostRuntime) -> Result<(), Fail> {
-    let (measured, sends, hears) = on_two_nodes(rt.alloc(), Builder::Listing)?;
-    assert!(rt; measured);
-    assert!(rt; sends);
-    assert!(rt; hears);
-    Ok(())
-}
-
-#[test]
-fn expands_two_nodes(rt: HostRuntime) -> Result<(), Fail> {
-    let (measured, sends, hears) = on_two_nodes(rt.alloc(), Builder::Trees)?;
-    assert!(rt; measured);
-    assert!(rt; sends);
-    assert!(rt; hears);
+fn trees_tell_what_lists_tell(rt: HostRuntime) -> Result<(), Fail> {
+    let admitted = admitted(rt.alloc(), MIXED)?;
+    let scenarios = listed(rt.alloc(), &admitted)?;
+    assert!(rt; builders_agree(rt.alloc(), &admitted, scenarios.as_slice()));
     Ok(())
 }

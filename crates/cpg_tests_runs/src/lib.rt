@@ -1,24 +1,18 @@
-//! Tests of what goes over scenarios: runs, lists, reaches, tracks, orders and trees.
+//! Tests of what goes over scenarios: runs, lists, reaches, tracks and trees.
 #![tactic(auto)]
 
 #[cfg(test)]
-mod both_tests;
-#[cfg(test)]
 mod build_tests;
 #[cfg(test)]
-mod graphs;
+mod columns;
 #[cfg(test)]
-mod measure_tests;
+mod fixtures;
 #[cfg(test)]
-mod merge_tests;
+mod list_tests;
 #[cfg(test)]
 mod reach_tests;
 #[cfg(test)]
-mod rows_tests;
-#[cfg(test)]
 mod run_tests;
-#[cfg(test)]
-mod sweeps;
 #[cfg(test)]
 mod tracks_tests;
 #[cfg(test)]

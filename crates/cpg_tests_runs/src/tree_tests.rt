@@ -1,6 +1,7 @@
 //! Trees of values, and of the ends of a chain of processes.
 ghost use Rattle.std.specs.Prelude.{◌≡◌, ◌<◌, IfOk};
 
+use cpg_base::OutOfMemory;
 use cpg_tree::{Tree, fault, value};
 use std::alloc::Global;
 use std::test::Fail;
@@ -13,7 +14,7 @@ fn end(start: u64, faults: u8) -> u64 {
 }
 
 /// The end of a process that starts so.
-fn ended(alloc: Global, process: u32, start: &Tree<u64>) -> Result<Tree<u64>, Fail>
+fn ended(alloc: Global, process: u32, start: &Tree<u64>) -> Result<Tree<u64>, OutOfMemory>
     requires process { process < 128 }
     requires faults { start.now.faults ≡ 2 }
     ensures { IfOk result (λ end. end.faults ≡ 2) }
@@ -24,7 +25,7 @@ fn ended(alloc: Global, process: u32, start: &Tree<u64>) -> Result<Tree<u64>, Fa
 }
 
 /// How many ends the last process of a chain of 40 has with at most two faults.
-fn ends_of_last(alloc: Global) -> Result<u64, Fail> {
+fn ends_of_last(alloc: Global) -> Result<u64, OutOfMemory> {
     let mut ready = Tree::constant(alloc, 0, 2)?;
     for process in 0..40 {
         ready = ended(alloc, process, &ready)?;
@@ -39,7 +40,7 @@ fn ends_of_a_chain(rt: HostRuntime) -> Result<(), Fail> {
 }
 
 /// A number in every scenario of at most two faults.
-fn constant(alloc: Global, number: u64) -> Result<Tree<u64>, Fail>
+fn constant(alloc: Global, number: u64) -> Result<Tree<u64>, OutOfMemory>
     ensures { IfOk result (λ tree. tree.faults ≡ 2) }
 {
     let tree = Tree::constant(alloc, number, 2)?;
@@ -47,7 +48,7 @@ fn constant(alloc: Global, number: u64) -> Result<Tree<u64>, Fail>
 }
 
 /// How many leaves one of two trees by the value of a condition has.
-fn picked(alloc: Global, on: &Tree<u64>, off: &Tree<u64>) -> Result<u64, Fail>
+fn picked(alloc: Global, on: &Tree<u64>, off: &Tree<u64>) -> Result<u64, OutOfMemory>
     requires on { on.now.faults ≡ 2 }
     requires off { off.now.faults ≡ 2 }
 {
@@ -57,7 +58,7 @@ fn picked(alloc: Global, on: &Tree<u64>, off: &Tree<u64>) -> Result<u64, Fail>
 }
 
 /// How many leaves the greater of two trees has, each time known.
-fn greater(on: &Tree<u64>, off: &Tree<u64>) -> Result<u64, Fail>
+fn greater(on: &Tree<u64>, off: &Tree<u64>) -> Result<u64, OutOfMemory>
     requires on { on.now.faults ≡ 2 }
     requires off { off.now.faults ≡ 2 }
 {
@@ -67,7 +68,7 @@ fn greater(on: &Tree<u64>, off: &Tree<u64>) -> Result<u64, Fail>
 }
 
 /// Both of two constants.
-fn leaves_of_two(alloc: Global) -> Result<(u64, u64), Fail> {
+fn leaves_of_two(alloc: Global) -> Result<(u64, u64), OutOfMemory> {
     let on = constant(alloc, 5)?;
     let off = constant(alloc, 7)?;
     Ok((picked(alloc, &on, &off)?, greater(&on, &off)?))
@@ -82,7 +83,7 @@ fn picks(rt: HostRuntime) -> Result<(), Fail> {
 }
 
 /// How many leaves half a count has, rounded down.
-fn leaves_of_half(alloc: Global) -> Result<u64, Fail> {
+fn leaves_of_half(alloc: Global) -> Result<u64, OutOfMemory> {
     let faults = fault(alloc, 3, 3)?;
     let halves = faults.map(&|count: u8| count / 2)?;
     Ok(halves.leaves())

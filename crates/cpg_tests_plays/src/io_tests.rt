@@ -1,4 +1,4 @@
-//! Each call once, and each adapter over a real file or a writer that fails.
+//! A shelf and a sink in memory call by call, and each adapter over a real file or a writer that fails.
 
 use cpg_io::{
     Failed, FileShelf, MemoryShelf, MemorySink, ReadAll, Shelf, Sink, StreamSink, read_all,
@@ -24,35 +24,6 @@ fn fault<S: Shelf>(alloc: Global, shelf: &mut S, name: &str, limit: usize) -> Op
     requires { S.may_fetch shelf.old name.now }
 {
     read_all(alloc, shelf, name, limit).err()
-}
-
-/// A shelf with a graph, which was put twice, and a pack.
-fn shelf(alloc: Global) -> Result<MemoryShelf, Fail> {
-    let mut shelf = MemoryShelf::new(alloc)?;
-    for (name, text) in [
-        ("graph", "old"),
-        ("pack", "CPGT"),
-        ("graph", "faults = 1\n"),
-    ] {
-        shelf.put(name, text.as_bytes())?;
-    }
-    Ok(shelf)
-}
-
-/// What is read of that shelf.
-fn is_read(alloc: Global, shelf: &mut MemoryShelf) -> bool {
-    reads(alloc, shelf, "graph", 11, b"faults = 1\n")
-        && reads(alloc, shelf, "pack", 100, b"CPGT")
-        && reads(alloc, shelf, "pack", usize::MAX, b"CPGT")
-        && fault(alloc, shelf, "graph", 10) == Some(ReadAll::TooLong)
-        && fault(alloc, shelf, "log", 10) == Some(ReadAll::Failed)
-}
-
-#[test]
-fn reads_from_memory(rt: HostRuntime) -> Result<(), Fail> {
-    let mut shelf = shelf(rt.alloc())?;
-    assert!(rt; is_read(rt.alloc(), &mut shelf));
-    Ok(())
 }
 
 /// A shelf with a graph, whose second and fourth call fail.
@@ -186,7 +157,7 @@ fn is_read_and_missed(rt: &HostRuntime, path: &str, bytes: &[u8]) -> bool {
 
 #[test]
 fn reads_a_file(rt: HostRuntime) -> Result<(), Fail> {
-    let path = "cpg_tests_files_reads_a_file.tmp";
+    let path = "cpg_tests_plays_reads_a_file.tmp";
     let bytes = vec![in rt.alloc(); 7u8; 200_000]?;
     assert!(rt; fs::write(&rt, path, bytes.as_slice()).is_ok());
     assert!(rt; is_read_and_missed(&rt, path, bytes.as_slice()));

@@ -1,0 +1,95 @@
+//! Graphs as files have them.
+use cpg_base::Problem;
+use cpg_reader::read_problem;
+use cpg_rules::{Admitted, admit};
+use std::alloc::Global;
+use std::test::Fail;
+
+/// A sends B, on another node, a message, which is item 2, and one of them may fail once.
+pub const PAIR: &str = r#"faults = 1
+deadline = 100
+node = [{ name = "N1" }, { name = "N2" }]
+slot = [{ node = "N1", length = 10, bytes = 8 }, { node = "N2", length = 10, bytes = 8 }]
+process = [
+  { name = "A", node = "N1", wcet = 30, alpha = 2, chi = 3, mu = 5 },
+  { name = "B", node = "N2", wcet = 10, alpha = 2, chi = 3, mu = 5 },
+]
+edge = [{ from = "A", to = "B" }]
+"#;
+
+/// The same with a frozen message, and in time.
+pub const FROZEN: &str = r#"faults = 1
+deadline = 122
+node = [{ name = "N1" }, { name = "N2" }]
+slot = [{ node = "N1", length = 10, bytes = 8 }, { node = "N2", length = 10, bytes = 8 }]
+process = [
+  { name = "A", node = "N1", wcet = 30, alpha = 2, chi = 3, mu = 5 },
+  { name = "B", node = "N2", wcet = 10, alpha = 2, chi = 3, mu = 5 },
+]
+edge = [{ from = "A", to = "B", frozen = true }]
+"#;
+
+/// A decides between B, on the other node, and C, and J joins both.
+pub const CHOICE: &str = r#"faults = 0
+deadline = 95
+node = [{ name = "N1" }, { name = "N2" }]
+slot = [{ node = "N1", length = 10, bytes = 8 }, { node = "N2", length = 10, bytes = 8 }]
+process = [
+  { name = "A", node = "N1", wcet = 30, alpha = 2, chi = 3, mu = 5 },
+  { name = "B", node = "N2", wcet = 10, alpha = 2, chi = 3, mu = 5 },
+  { name = "C", node = "N1", wcet = 10, alpha = 2, chi = 3, mu = 5 },
+  { name = "J", node = "N2", wcet = 5, join = true, alpha = 2, chi = 3, mu = 5 },
+]
+edge = [
+  { from = "A", to = "B", when = true },
+  { from = "A", to = "C", when = false },
+  { from = "B", to = "J" },
+  { from = "C", to = "J" },
+]
+"#;
+
+/// A decides between B, on the other node, and C, and one of them may fail once.
+pub const FORK: &str = r#"faults = 1
+deadline = 1000000
+node = [{ name = "N1" }, { name = "N2" }]
+slot = [{ node = "N1", length = 10, bytes = 8 }, { node = "N2", length = 10, bytes = 8 }]
+process = [
+  { name = "A", node = "N1", wcet = 10, alpha = 2, chi = 3, mu = 5 },
+  { name = "B", node = "N2", wcet = 10, alpha = 2, chi = 3, mu = 5 },
+  { name = "C", node = "N1", wcet = 10, alpha = 2, chi = 3, mu = 5 },
+]
+edge = [{ from = "A", to = "B", when = true }, { from = "A", to = "C", when = false }]
+"#;
+
+/// The same with two faults, a join, releases, deadlines that are missed, and frozen items.
+pub const MIXED: &str = r#"faults = 2
+deadline = 150
+node = [{ name = "N1" }, { name = "N2" }]
+slot = [{ node = "N1", length = 10, bytes = 8 }, { node = "N2", length = 10, bytes = 8 }]
+process = [
+  { name = "A", node = "N1", wcet = 30, alpha = 2, chi = 3, mu = 5, release = 7 },
+  { name = "B", node = "N2", wcet = 10, alpha = 2, chi = 3, mu = 5, deadline = 140 },
+  { name = "C", node = "N1", wcet = 10, parts = 2, alpha = 2, chi = 3, mu = 5 },
+  { name = "J", node = "N2", wcet = 5, join = true, alpha = 2, chi = 3, mu = 5 },
+  { name = "K", node = "N2", wcet = 4, alpha = 1, frozen = true },
+  { name = "L", node = "N1", wcet = 6, mu = 1 },
+]
+edge = [
+  { from = "A", to = "B", when = true, frozen = true },
+  { from = "A", to = "C", when = false },
+  { from = "B", to = "J" },
+  { from = "C", to = "J" },
+  { from = "J", to = "K" },
+  { from = "J", to = "L" },
+]
+"#;
+
+fn problem(alloc: Global, text: &str) -> Result<Problem, Fail> {
+    Ok(read_problem(alloc, text.as_bytes()).map_err(|_| "graph")?)
+}
+
+/// The graph of a text.
+pub fn admitted(alloc: Global, text: &str) -> Result<Admitted, Fail> {
+    let problem = problem(alloc, text)?;
+    Ok(admit(alloc, problem).ok().ok_or("graph")?)
+}
