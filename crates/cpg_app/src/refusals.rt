@@ -90,7 +90,7 @@ fn write_alternatives(
     problem: &Problem,
     process: u32,
     scenario: &Scenario,
-) -> Result<(), OutOfMemory>
+) -> Result<(), AllocError>
     requires { HasLengths problem.now scenario.now }
     ensures { OnOk result (string_bytes out.new ≡ string_bytes out.old ++ alternatives_text problem.now process scenario.now) }
 {
@@ -180,37 +180,36 @@ fn write_hyper(out: &mut String, fault: HyperFault) -> Result<(), AllocError>
     write_parts(out, fault)
 }
 
-fn write_refusal(out: &mut String, refusal: &Refusal) -> Result<(), OutOfMemory>
+fn write_refusal(out: &mut String, refusal: &Refusal) -> Result<(), AllocError>
     requires { IsNamedRefusal refusal.now }
     ensures { OnOk result (string_bytes out.new ≡ string_bytes out.old ++ refusal_text refusal.now) }
 {
     match refusal {
-        Refusal::NotToml => out.push_str("1 not toml")?,
-        Refusal::BadField(place) => write_placed(out, "2 field ", *place)?,
-        Refusal::DoubleName(place) => write_placed(out, "3 double ", *place)?,
-        Refusal::UnknownName(place) => write_placed(out, "4 unknown ", *place)?,
-        Refusal::OverLimit(what) => write_limit(out, *what)?,
-        Refusal::Cycle { graph, walk } => write_cycle(out, graph, walk.processes())?,
+        Refusal::NotToml => out.push_str("1 not toml"),
+        Refusal::BadField(place) => write_placed(out, "2 field ", *place),
+        Refusal::DoubleName(place) => write_placed(out, "3 double ", *place),
+        Refusal::UnknownName(place) => write_placed(out, "4 unknown ", *place),
+        Refusal::OverLimit(what) => write_limit(out, *what),
+        Refusal::Cycle { graph, walk } => write_cycle(out, graph, walk.processes()),
         Refusal::TwoAlternatives {
             graph,
             process,
             scenario,
-        } => write_alternatives(out, graph, *process, scenario)?,
-        Refusal::NoSlot { graph, node } => write_slot(out, graph, *node)?,
-        Refusal::TooBig(edge) => write!(out, "9 big e{edge}")?,
-        Refusal::BadPack(length) => write!(out, "10 pack {length}")?,
-        Refusal::BadScenario(cause) => write_scenario(out, *cause)?,
-        Refusal::LongGraph => out.push_str("16 long graph")?,
-        Refusal::LongPack => out.push_str("16 long pack")?,
-        Refusal::LongScenario => out.push_str("16 long scenario")?,
-        Refusal::LongLog => out.push_str("16 long log")?,
-        Refusal::OtherGraph(part) => write_other(out, *part)?,
-        Refusal::TooManyTracks => out.push_str("18 tracks")?,
-        Refusal::UnknownNode => out.push_str("19 node")?,
-        Refusal::NoHypergraph(fault) => write_hyper(out, *fault)?,
-        Refusal::BadLog(line) => write!(out, "23 log {line}")?,
+        } => write_alternatives(out, graph, *process, scenario),
+        Refusal::NoSlot { graph, node } => write_slot(out, graph, *node),
+        Refusal::TooBig(edge) => write!(out, "9 big e{edge}"),
+        Refusal::BadPack(length) => write!(out, "10 pack {length}"),
+        Refusal::BadScenario(cause) => write_scenario(out, *cause),
+        Refusal::LongGraph => out.push_str("16 long graph"),
+        Refusal::LongPack => out.push_str("16 long pack"),
+        Refusal::LongScenario => out.push_str("16 long scenario"),
+        Refusal::LongLog => out.push_str("16 long log"),
+        Refusal::OtherGraph(part) => write_other(out, *part),
+        Refusal::TooManyTracks => out.push_str("18 tracks"),
+        Refusal::UnknownNode => out.push_str("19 node"),
+        Refusal::NoHypergraph(fault) => write_hyper(out, *fault),
+        Refusal::BadLog(line) => write!(out, "23 log {line}"),
     }
-    Ok(())
 }
 
 /// What a refusal is called, and its text.
@@ -219,5 +218,6 @@ pub fn write_refused(out: &mut String, refusal: &Refusal) -> Result<(), OutOfMem
     ensures { OnOk result (string_bytes out.new ≡ string_bytes out.old ++ refused_text refusal.now) }
 {
     out.push_str("refused ")?;
-    write_refusal(out, refusal)
+    write_refusal(out, refusal)?;
+    Ok(())
 }
