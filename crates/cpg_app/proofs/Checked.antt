@@ -17,11 +17,11 @@ use Rattle.cpg_scenario.specs.declared.fault.ScenarioFault.{ScenarioFault}
 use Rattle.cpg_scenario.specs.declared.reading.Played.{Played}
 use Rattle.cpg_violation.specs.Heads.{IsHeadFor}
 use Rattle.cpg_check.proofs.Verdicts.{other_head, faulty_tables}
-use Rattle.cpg_audit.specs.Lines.{lines}
-use Rattle.cpg_audit.specs.Log.{Log}
-use Rattle.cpg_audit.specs.Reading.{IsBadLine, IsLogOf}
-use Rattle.cpg_audit.specs.declared.fault.LogFault.{LogFault}
-use Rattle.cpg_audit.proofs.ReadingLaws.{no_bad_line}
+use Rattle.cpg_log.specs.Lines.{lines}
+use Rattle.cpg_log.specs.Log.{Log}
+use Rattle.cpg_log.specs.Reading.{IsBadLine, IsLogOf}
+use Rattle.cpg_log.specs.declared.fault.LogFault.{LogFault}
+use Rattle.cpg_log.proofs.ReadingLaws.{no_bad_line}
 use Rattle.cpg_app.specs.declared.halt.Halt.{Halt}
 use Rattle.cpg_app.specs.Halts.{halt_of_pack, halt_of_log, halt_of_scenario}
 use Rattle.cpg_app.specs.Lines.{status_of}

@@ -15,7 +15,7 @@ use Rattle.cpg_words.specs.declared.command.Command.{Command}
 use Rattle.cpg_words.specs.declared.command.Command.TheVariants.{Show, Compile, Node}
 use Rattle.cpg_reader.specs.Document.{problem_of}
 use Rattle.cpg_rules.specs.Admission.{Admission, IsAdmitted}
-use Rattle.cpg_table.specs.Head.{Head}
+use Rattle.cpg_head.specs.Head.{Head}
 use Rattle.cpg_table.specs.Lawful.{Tables}
 use Rattle.cpg_violation.specs.Heads.{IsHeadFor}
 use Rattle.cpg_violation.proofs.HeadLaws.{own_head}

@@ -14,3 +14,6 @@ pub mod Streamed
 pub mod Streaming
 pub mod Wordless
 pub mod Unrolling
+pub mod Finishes
+pub mod Figures
+pub mod Values

@@ -16,7 +16,7 @@ use Rattle.cpg_reader.specs.declared.place.ReadFault.{ReadFault}
 use Rattle.cpg_table.specs.Lawful.{Tables}
 use Rattle.cpg_codec.specs.declared.fault.PackFault.{PackFault}
 use Rattle.cpg_scenario.specs.declared.fault.ScenarioFault.{ScenarioFault}
-use Rattle.cpg_audit.specs.declared.fault.LogFault.{LogFault}
+use Rattle.cpg_log.specs.declared.fault.LogFault.{LogFault}
 use Rattle.cpg_rules.specs.Admission.{Admission}
 use Rattle.cpg_rules.specs.declared.admission.RuleFault.{RuleFault}
 use Rattle.cpg_rules.specs.Faults.{ShowsFault}

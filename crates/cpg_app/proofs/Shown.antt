@@ -24,7 +24,7 @@ use Rattle.cpg_app.specs.Outputs.{Prints, PrintsAsked, IsMade, shown, packed, Is
 use Rattle.cpg_app.specs.Told.{Untouched}
 use Rattle.cpg_app.specs.Endings.{Ran, IsPrinted, IsTold, EndsWith, EndsBy}
 use Rattle.cpg_app.specs.Lawful.{IsFaultless, AsksFor, Asks, AsksNode, AsksTuning, AsksUnrolling, AsksVerdict, IsLawful, AsksStream, status_of_end}
-use Rattle.cpg_follow.specs.Streams.{stream_end}
+use Rattle.cpg_live.specs.Streams.{stream_end}
 use Rattle.cpg_app.proofs.Streamed.{followed_is, followed_named}
 use Rattle.cpg_app.proofs.Statuses.{of_words, of_read, of_formless, refused_of, late_of, wide_of, unsafe_of, not_three, not_zero}
 use Rattle.cpg_table.specs.declared.fault.Fault.{Fault}

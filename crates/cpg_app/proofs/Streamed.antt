@@ -9,21 +9,21 @@ use Rattle.cpg_words.specs.Forms.{command_of}
 use Rattle.cpg_words.specs.declared.command.Command.{Command}
 use Rattle.cpg_words.specs.declared.command.Command.TheVariants.{Show, Compile, Check, Play, Node, Trial, Live, Hyper, Tune, Audit}
 use Rattle.cpg_rules.specs.Admission.{Admission}
-use Rattle.cpg_table.specs.Head.{Head}
+use Rattle.cpg_head.specs.Head.{Head}
 use Rattle.cpg_table.specs.Lawful.{Tables}
 use Rattle.cpg_table.specs.Table.{NodeTable, table_at}
 use Rattle.cpg_codec.specs.Packs.{AreLawful}
 use Rattle.cpg_codec.specs.Spelling.{spelling}
-use Rattle.cpg_follow.specs.declared.following.Broken.{Broken}
-use Rattle.cpg_follow.specs.declared.following.StreamFault.{StreamFault}
+use Rattle.cpg_live.specs.declared.following.Broken.{Broken}
+use Rattle.cpg_live.specs.declared.following.StreamFault.{StreamFault}
 use Rattle.cpg_app.specs.declared.halt.Halt.TheVariants.{Read}
 use Rattle.cpg_app.specs.Causes.{Seen, first_named}
 use Rattle.cpg_app.specs.Endings.{Ran, EndsInStream, Follows, IsSaid, stream_of, table_of}
-use Rattle.cpg_follow.specs.Following.{Breaks}
+use Rattle.cpg_live.specs.Following.{Breaks}
 use Rattle.cpg_app.specs.Lawful.{AsksFor, AsksStream, AsksToJudge, IsLawful, IsRefusedStream, IsUnreadStream, status_of_end}
 use Rattle.cpg_app.specs.Lines.{line_of}
 use Rattle.cpg_app.specs.Outputs.{IsFollowedOf}
-use Rattle.cpg_follow.specs.Streams.{AreBytesOf, IsClosed, IsRefused, fault_line, stream_end}
+use Rattle.cpg_live.specs.Streams.{AreBytesOf, IsClosed, IsRefused, fault_line, stream_end}
 use Rattle.cpg_app.specs.Told.{Sent, SinkSeen, Untouched}
 use Rattle.cpg_app.proofs.Checked.{same_tables}
 

@@ -6,16 +6,16 @@ use Rattle.cpg_words.specs.declared.command.Command.{Command}
 use Rattle.cpg_words.specs.declared.command.Command.TheVariants.{Live}
 use Rattle.cpg_table.specs.Lawful.{Tables}
 use Rattle.cpg_table.specs.Table.{table_at}
-use Rattle.cpg_follow.specs.declared.following.Broken.{Broken}
+use Rattle.cpg_live.specs.declared.following.Broken.{Broken}
 use Rattle.cpg_app.specs.Causes.{Spells}
 use Rattle.cpg_app.specs.Endings.{Ran, IsSaid}
-use Rattle.cpg_follow.specs.Follower.{Follower}
-use Rattle.cpg_follow.specs.Following.{Breaks, Completes, Stream}
+use Rattle.cpg_live.specs.Follower.{Follower}
+use Rattle.cpg_live.specs.Following.{Breaks, Completes, Stream}
 use Rattle.cpg_app.specs.Lawful.{IsLawful}
 use Rattle.cpg_app.specs.Outputs.{IsFollower, PrintsAsked}
-use Rattle.cpg_follow.specs.Streams.{IsClosed}
+use Rattle.cpg_live.specs.Streams.{IsClosed}
 use Rattle.cpg_app.specs.Told.{Untouched}
-use Rattle.cpg_follow.proofs.Along.{breaks_later}
+use Rattle.cpg_live.proofs.Along.{breaks_later}
 use Rattle.cpg_app.proofs.Shown.{lawful_with}
 use Rattle.cpg_app.proofs.Streamed.{lawful_stream}
 

@@ -9,7 +9,7 @@ use Rattle.cpg_tune.specs.Best.{best_parts}
 use Rattle.cpg_tune.specs.Asked.{row_graph}
 use Rattle.cpg_tune.specs.Tuned.{Tuning, IsTuning, row_at}
 use Rattle.cpg_tune.proofs.AsBefore.{best_parts_of}
-use Rattle.cpg_tune_laws.proofs.Kept.{items_same}
+use Rattle.cpg_tune.proofs.Kept.{items_same}
 use Rattle.cpg_app.specs.Tunes.{parts_lines, IsJudged, IsNamedRow}
 
 parts_done : (ps : List Process) (parts : List ℕ) → (ps ≡ []) ⊎ (parts ≡ []) → parts_lines ps parts ≡ []

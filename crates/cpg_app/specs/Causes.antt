@@ -13,16 +13,16 @@ use Rattle.cpg_reader.specs.Document.{problem_of}
 use Rattle.cpg_rules.specs.Admission.{Admission, IsAdmitted}
 use Rattle.cpg_rules.specs.declared.admission.RuleFault.{RuleFault}
 use Rattle.cpg_rules.specs.Faults.{ShowsFault}
-use Rattle.cpg_table.specs.Head.{Head}
+use Rattle.cpg_head.specs.Head.{Head}
 use Rattle.cpg_table.specs.Lawful.{Tables}
 use Rattle.cpg_codec.specs.declared.fault.PackFault.{PackFault}
 use Rattle.cpg_codec.specs.Packs.{AreLawful, IsBadPack}
 use Rattle.cpg_codec.specs.Spelling.{spelling}
 use Rattle.cpg_table.specs.declared.fault.Fault.{Fault}
-use Rattle.cpg_audit.specs.Lines.{lines}
-use Rattle.cpg_audit.specs.Log.{Log}
-use Rattle.cpg_audit.specs.Reading.{IsBadLine, IsLogOf}
-use Rattle.cpg_audit.specs.declared.fault.LogFault.{LogFault}
+use Rattle.cpg_log.specs.Lines.{lines}
+use Rattle.cpg_log.specs.Log.{Log}
+use Rattle.cpg_log.specs.Reading.{IsBadLine, IsLogOf}
+use Rattle.cpg_log.specs.declared.fault.LogFault.{LogFault}
 use Rattle.cpg_scenario.specs.File.{file_of}
 use Rattle.cpg_scenario.specs.declared.fault.ScenarioFault.{ScenarioFault}
 use Rattle.cpg_scenario.specs.declared.reading.Played.{Played}

@@ -4,7 +4,7 @@ use Rattle.cpg_words.specs.declared.fault.WordsFault.{WordsFault}
 use Rattle.cpg_reader.specs.declared.place.ReadFault.{ReadFault}
 use Rattle.cpg_codec.specs.declared.fault.PackFault.{PackFault}
 use Rattle.cpg_scenario.specs.declared.fault.ScenarioFault.{ScenarioFault}
-use Rattle.cpg_audit.specs.declared.fault.LogFault.{LogFault}
+use Rattle.cpg_log.specs.declared.fault.LogFault.{LogFault}
 use Rattle.cpg_rules.specs.Admission.{Admission}
 use Rattle.cpg_rules.specs.declared.admission.RuleFault.{RuleFault}
 use Rattle.cpg_core.specs.declared.fault.CompileFault.{CompileFault}

@@ -10,3 +10,4 @@ pub mod Outputs
 pub mod Endings
 pub mod Lawful
 pub mod Joined
+pub mod Trial

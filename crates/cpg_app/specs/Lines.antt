@@ -17,8 +17,8 @@ use Rattle.cpg_scenario.specs.declared.fault.Cause.{Cause}
 use Rattle.cpg_check.specs.declared.heads.HeadPart.{HeadPart}
 use Rattle.cpg_check.specs.declared.heads.HeadPart.TheVariants.{Faults}
 use Rattle.cpg_hyper.specs.declared.part.HyperFault.{HyperFault}
-use Rattle.cpg_show.specs.Labels.{labels_of}
-use Rattle.cpg_show.specs.TraceText.{done_text}
+use Rattle.cpg_label.specs.Labels.{labels_of}
+use Rattle.cpg_label.specs.ItemText.{done_text}
 use Rattle.cpg_table.specs.declared.fault.Fault.{Fault}
 use Rattle.cpg_app.specs.declared.halt.Refusal.{Refusal}
 use Rattle.cpg_app.specs.declared.halt.Refusal.TheVariants.{NotToml, BadField, DoubleName, UnknownName, OverLimit, Cycle, TwoAlternatives, NoSlot, TooBig, BadPack, BadScenario, BadLog, LongGraph, LongPack, LongScenario, LongLog, OtherGraph, TooManyTracks, UnknownNode, NoHypergraph}

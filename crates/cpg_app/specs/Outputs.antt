@@ -17,18 +17,18 @@ use Rattle.cpg_core.specs.declared.compiling.Compiled.{Compiled}
 use Rattle.cpg_core.specs.Compilation.{IsCompilation}
 use Rattle.cpg_cluster.specs.Correct.{IsCorrect, IsLively, IsSteady, EndsAsPlanned}
 use Rattle.cpg_show.specs.TableText.{table_text}
-use Rattle.cpg_trial.specs.declared.trials.Trial.{Trial as Figures}
-use Rattle.cpg_trial.specs.Trial.{IsTrial}
+use Rattle.cpg_app.specs.declared.trial_figures.Trial.{Trial as Figures}
+use Rattle.cpg_app.specs.Trial.{IsTrial}
 use Rattle.cpg_show.specs.NodeText.{node_text}
-use Rattle.cpg_table.specs.GraphHead.{head_of}
+use Rattle.cpg_head.specs.GraphHead.{head_of}
 use Rattle.cpg_table.specs.Lawful.{Tables}
 use Rattle.cpg_codec.specs.Packs.{AreLawful}
 use Rattle.cpg_codec.specs.Spelling.{spelling}
 use Rattle.cpg_app.specs.declared.output.Output.{Output}
 use Rattle.cpg_app.specs.declared.output.Output.TheVariants.{Lines, Pack}
-use Rattle.cpg_order.specs.Scenario.{Scenario, IsLeast, IsScenario}
+use Rattle.cpg_base.specs.Scenario.{Scenario, IsScenario, IsLeast}
 use Rattle.cpg_audit.specs.Gives.{Gives}
-use Rattle.cpg_audit.specs.Log.{Log, IsLog}
+use Rattle.cpg_log.specs.Log.{Log, IsLog}
 use Rattle.cpg_scenario.specs.Text.{scenario_text}
 use Rattle.cpg_scenario.specs.File.{IsPlayed}
 use Rattle.cpg_scenario.specs.declared.reading.Played.{Played}
@@ -37,9 +37,9 @@ use Rattle.cpg_app.specs.Plays.{world_of, IsPlayText}
 use Rattle.cpg_app.specs.Trials.{trial_text}
 use Rattle.cpg_app.specs.Tunes.{IsTuningText}
 use Rattle.cpg_app.specs.Causes.{Seen, Admits, AreSaid, SaysPlayed, Spells, first_named, SaysLog}
-use Rattle.cpg_follow.specs.declared.following.TheConstants.{STREAM_LIMIT}
-use Rattle.cpg_follow.specs.Streams.{IsClosed}
-use Rattle.cpg_follow.specs.Follower.{Follower, open_follower}
+use Rattle.cpg_live.specs.declared.following.TheConstants.{STREAM_LIMIT}
+use Rattle.cpg_live.specs.Streams.{IsClosed}
+use Rattle.cpg_live.specs.Follower.{Follower, open_follower}
 
 -- Tables that keep the ten rules, and what follows for the nodes that have them: in every scenario, with all lengths of
 -- executions and in every order of turns, each node starts and sends just what is due, in order and in time, can always go

@@ -2,9 +2,9 @@
 use Rattle.std.specs.Prelude.{ℕ, ◌++◌, codes}
 use Rattle.std.specs.Fmt.{decimal}
 use Rattle.cpg_words.specs.Parts.{Text}
-use Rattle.cpg_trial.specs.declared.plays.Ending.{Ending}
-use Rattle.cpg_trial.specs.declared.plays.Endings.{Endings}
-use Rattle.cpg_trial.specs.declared.trials.Trial.{Trial}
+use Rattle.cpg_app.specs.declared.trial_plays.Ending.{Ending}
+use Rattle.cpg_app.specs.declared.trial_plays.Endings.{Endings}
+use Rattle.cpg_app.specs.declared.trial_figures.Trial.{Trial}
 
 -- how large the graph is
 abbrev pub sizes_text : Trial → Text

@@ -2,12 +2,13 @@
 ghost use Rattle.std.specs.Prelude.{◌≡◌, IfOk, None, Some, string_bytes};
 ghost use Rattle.cpg_table.specs.Valid.{IsValid};
 ghost use Rattle.cpg_violation.specs.Heads.{IsHeadFor};
-ghost use Rattle.cpg_audit.specs.Log.{IsLog};
+ghost use Rattle.cpg_log.specs.Log.{IsLog};
 ghost use Rattle.cpg_app.specs.Lines.{HasLengths};
 ghost use Rattle.cpg_app.specs.Outputs.{IsAuditText, given_text};
 
-use cpg_audit::{Log, audit};
+use cpg_audit::audit;
 use cpg_base::{OutOfMemory, Problem, Scenario};
+use cpg_log::Log;
 use cpg_rules::Admitted;
 use cpg_scenario::scenario_text;
 use cpg_table::Tables;

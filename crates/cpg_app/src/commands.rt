@@ -20,11 +20,12 @@ use cpg_base::Name;
 use cpg_check::{Verdict, check};
 use cpg_codec::tables_are_lawful;
 use cpg_core::{Compiled, compile};
+use cpg_head::Head;
 use cpg_io::Shelf;
 use cpg_rules::Admitted;
 use cpg_run::Built;
 use cpg_show::{node_text, table_text};
-use cpg_table::{Head, Tables};
+use cpg_table::Tables;
 use cpg_words::Command;
 use std::alloc::Global;
 

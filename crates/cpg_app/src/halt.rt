@@ -3,12 +3,12 @@ ghost use Rattle.std.specs.Prelude.{◌≡◌, IfErr};
 ghost use Rattle.cpg_app.specs.Lines.{status_of};
 ghost use Rattle.cpg_app.specs.Halts.{halt_of_reading, halt_of_pack, halt_of_rules, halt_of_scenario, halt_of_log, halt_of_compile, halt_of_parts};
 
-use cpg_audit::LogFault;
 use cpg_base::{Problem, Scenario};
 use cpg_check::HeadPart;
 use cpg_codec::PackFault;
 use cpg_core::CompileFault;
 use cpg_hyper::HyperFault;
+use cpg_log::LogFault;
 use cpg_order::Walk;
 use cpg_reader::{Place, ReadFault, What};
 use cpg_rules::{Admitted, Refused, RuleFault};

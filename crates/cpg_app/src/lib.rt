@@ -5,6 +5,7 @@ ghost use Rattle.cpg_app.specs.Joined.{PacksAreTaken, ShowAndCompileAgree};
 
 mod answer;
 mod auditing;
+mod column_counts;
 mod commands;
 mod halt;
 mod lines;
@@ -15,10 +16,14 @@ mod playing;
 mod reading;
 mod refusals;
 mod top;
+mod trial_figures;
+mod trial_plays;
 mod trials;
 mod tuning;
 
 pub use top::{run, run_without_words};
+pub use trial_figures::{Trial, run_trial};
+pub use trial_plays::{Ending, Endings};
 
 /// What `compile` wrote for a graph, `check` with that graph finds safe, `play` plays for each scenario file of the graph,
 /// `audit` audits each log of the graph by, and `node` prints for each of its nodes, want of memory aside.

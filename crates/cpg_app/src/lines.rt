@@ -6,8 +6,8 @@ ghost use Rattle.cpg_app.specs.Lines.{case_text, column_text, item_text, unsafe_
 use crate::halt::Halt;
 use crate::refusals::write_refused;
 use cpg_base::{OutOfMemory, Problem, Scenario};
+use cpg_label::write_item;
 use cpg_scenario::scenario_text;
-use cpg_show::write_item;
 use cpg_table::Fault;
 use std::alloc::{AllocError, Global};
 

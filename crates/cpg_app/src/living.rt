@@ -7,7 +7,7 @@ ghost use Rattle.cpg_words.specs.declared.command.Command.TheVariants.{Live};
 ghost use Rattle.cpg_app.specs.declared.reading.TheConstants.{PACK_LIMIT};
 ghost use Rattle.cpg_app.specs.Causes.{IsAfterReading, StopsNaming, StopsTables};
 ghost use Rattle.cpg_app.specs.Endings.{IsSaid, IsToldTo};
-ghost use Rattle.cpg_follow.specs.Follower.{open_follower};
+ghost use Rattle.cpg_live.specs.Follower.{open_follower};
 ghost use Rattle.cpg_app.specs.Lawful.{IsLawful};
 ghost use Rattle.cpg_app.specs.Outputs.{IsFollower, IsSpelled};
 
@@ -15,8 +15,8 @@ use crate::answer::{cut, send, stop};
 use crate::commands::first_named;
 use crate::halt::{Halt, Refusal};
 use crate::reading::read_tables;
-use cpg_follow::{Broken, Follower};
 use cpg_io::{Shelf, Sink};
+use cpg_live::{Broken, Follower};
 use cpg_table::Tables;
 use std::alloc::Global;
 

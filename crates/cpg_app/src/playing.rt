@@ -1,7 +1,7 @@
 //! The play of checked tables.
 ghost use Rattle.std.specs.Prelude.{◌≡◌, IfOk, string_bytes};
 ghost use Rattle.cpg_scenario.specs.File.{IsPlayed};
-ghost use Rattle.cpg_table.specs.GraphHead.{head_of};
+ghost use Rattle.cpg_head.specs.GraphHead.{head_of};
 ghost use Rattle.cpg_table.specs.Lawful.{AreTablesOf};
 ghost use Rattle.cpg_table.specs.Valid.{IsValid};
 ghost use Rattle.cpg_app.specs.Plays.{world_of, IsPlayText};

@@ -3,14 +3,14 @@ ghost use Rattle.std.specs.Prelude.{◌≡◌, ◌≤◌, IfOk, IfErr};
 ghost use Rattle.cpg_io.specs.Shelf.{SameLeave, SameNames};
 ghost use Rattle.cpg_rules.specs.Admission.{IsAdmitted};
 ghost use Rattle.cpg_app.specs.Causes.{BreaksRule, Says, SaysLog, SaysPlayed, Spells, StopsLog, StopsPack, StopsPlayed, StopsReading};
-ghost use Rattle.cpg_audit.specs.Log.{IsLog};
+ghost use Rattle.cpg_log.specs.Log.{IsLog};
 ghost use Rattle.cpg_scenario.specs.File.{IsPlayed};
 
 use crate::halt::{Halt, Refusal};
-use cpg_audit::{Log, read_log};
 use cpg_base::Problem;
 use cpg_codec::read_pack;
 use cpg_io::{ReadAll, Shelf, read_all};
+use cpg_log::{Log, read_log};
 use cpg_reader::read_problem;
 use cpg_rules::{Admitted, admit};
 use cpg_scenario::{Played, read_scenario};

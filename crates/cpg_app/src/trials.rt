@@ -6,7 +6,7 @@ ghost use Rattle.cpg_app.specs.Trials.{ending_line, endings_text, sizes_text, ta
 
 use crate::halt::Halt;
 use crate::output::Output;
-use cpg_trial::{Ending, Endings, Trial, run_trial};
+use crate::{Ending, Endings, Trial, run_trial};
 use std::alloc::{AllocError, Global};
 
 fn write_sizes(out: &mut String, trial: &Trial) -> Result<(), AllocError>

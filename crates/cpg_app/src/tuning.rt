@@ -3,7 +3,7 @@ ghost use Rattle.std.specs.Prelude.{◌≡◌, ◌<◌, ◌++◌, All, IfOk, IfE
 ghost use Rattle.cpg_base.specs.Graph.{item_count};
 ghost use Rattle.cpg_rules.specs.Admission.{IsAdmitted};
 ghost use Rattle.cpg_tune.specs.Tuned.{IsTuning};
-ghost use Rattle.cpg_tune_laws.specs.Retuned.{ShowsNoFault};
+ghost use Rattle.cpg_tune.specs.RetunedLaws.{ShowsNoFault};
 ghost use Rattle.cpg_app.specs.declared.halt.Halt.TheVariants.{Memory};
 ghost use Rattle.cpg_app.specs.Lines.{item_text};
 ghost use Rattle.cpg_app.specs.Outputs.{bytes_of};
@@ -13,8 +13,8 @@ use crate::halt::Halt;
 use crate::output::Output;
 use cpg_base::{OutOfMemory, Problem, Process};
 use cpg_core::{CompileFault, compile};
+use cpg_label::write_item;
 use cpg_rules::{Admitted, RuleFault, admit};
-use cpg_show::write_item;
 use cpg_tune::{Judge, Judged, Tuned, tune};
 use std::alloc::{AllocError, Global};
 
@@ -52,7 +52,7 @@ struct Compiler {
 }
 
 impl Judge for Compiler {
-    ghost use Rattle.cpg_tune_laws.specs.Retuned.{ShowsNoFault};
+    ghost use Rattle.cpg_tune.specs.RetunedLaws.{ShowsNoFault};
     ghost use Rattle.cpg_app.specs.Tunes.{IsJudged};
     ghost use Rattle.cpg_app.specs.OneJudged.{one_judged};
 

@@ -9,14 +9,15 @@ use Rattle.cpg_base.specs.Numbers.{numbers_below}
 use Rattle.cpg_base.specs.Graph.{Graph, item_at, item_count}
 use Rattle.cpg_base.specs.Activity.{item_active}
 use Rattle.cpg_base.proofs.Lists.{Contains-first, Contains-rest, Contains-cases, Contains-nil, Contains-map, Contains-map_parts, Contains-filter, Contains-filter_parts, Contains-flat_map, Contains-flat_map_parts, Contains-numbers, list_any_false, from_any_false, slice_get-Contains}
-use Rattle.cpg_order.specs.Scenario.{Scenario, IsScenario, IsLeast}
-use Rattle.cpg_order.specs.First.{IsFirst}
+use Rattle.cpg_base.specs.Scenario.{Scenario, IsScenario, IsLeast}
+use Rattle.cpg_base.specs.First.{IsFirst}
 use Rattle.cpg_cube.specs.Cube.{matches}
 use Rattle.cpg_cube.specs.Cover.{is_left}
 use Rattle.cpg_cube.specs.Fit.{IsKnown}
 use Rattle.cpg_cube.specs.declared.literal.Literal.{Literal}
 use Rattle.cpg_cube.proofs.Kept.{any_map}
-use Rattle.cpg_table.specs.Table.{Column, NodeTable, columns_of}
+use Rattle.cpg_table.specs.Table.{NodeTable, columns_of}
+use Rattle.cpg_cube.specs.Column.{Column}
 use Rattle.cpg_table.proofs.Rows.{has_row}
 use Rattle.cpg_table.proofs.Settings.{Setting, Match, item_within, match_once, match_active, match_there}
 use Rattle.cpg_node.specs.Dispatcher.{Act}
@@ -24,8 +25,9 @@ use Rattle.cpg_cluster.specs.Correct.{all_asked}
 use Rattle.cpg_cluster.proofs.Asked.{asked_match, all_asked_in, all_asked_parts}
 use Rattle.cpg_audit.specs.Excluded.{is_excluded, excluded_of, is_some_idle}
 use Rattle.cpg_audit.specs.Gives.{Gives, logged}
-use Rattle.cpg_audit.specs.Log.{Log, Logged, IsLog, IsActBy, logged_time}
-use Rattle.cpg_audit.proofs.TextLaws.{act_within}
+use Rattle.cpg_log.specs.Log.{Log, IsLog, IsActBy, logged_time}
+use Rattle.cpg_log.specs.declared.log.Logged.{Logged}
+use Rattle.cpg_log.proofs.TextLaws.{act_within}
 
 -- ---- when an item is logged
 

@@ -7,7 +7,7 @@ use Rattle.std.proofs.lemmas.Option.{none-some}
 use Rattle.cpg_base.specs.Graph.{Graph, item_at}
 use Rattle.cpg_base.specs.Activity.{item_active}
 use Rattle.cpg_base.proofs.Lists.{Contains-first, Contains-cases, Contains-nil, Contains-flat_map, Contains-flat_map_parts, list_any_true, list_any_parts, same_truth}
-use Rattle.cpg_order.specs.Scenario.{Scenario, IsScenario}
+use Rattle.cpg_base.specs.Scenario.{Scenario, IsScenario}
 use Rattle.cpg_cube.specs.Cube.{matches}
 use Rattle.cpg_cube.specs.declared.literal.Literal.{Literal}
 use Rattle.cpg_tree.specs.Columns.{column_of, columns_of_paths}
@@ -17,7 +17,7 @@ use Rattle.cpg_expand.specs.Active.{IsActivityOf}
 use Rattle.cpg_expand.specs.Agreeing.{IsTree}
 use Rattle.cpg_tree.proofs.OnePath.{scenario_few, the_path}
 use Rattle.cpg_audit.specs.Excluded.{idle_time, is_some_idle}
-use Rattle.cpg_audit.specs.Log.{Logged}
+use Rattle.cpg_log.specs.declared.log.Logged.{Logged}
 
 -- a column comes of a path
 column_parts : (cube : List Literal) (time : Option ℕ) (c : ℕ × List Literal) → Contains (column_of cube time) c → (time ≡ Some c.0) × (cube ≡ c.1)

@@ -11,7 +11,7 @@ use Rattle.std.proofs.lemmas.List.Folds.{list_all_more, list_any-append}
 use Rattle.std.proofs.lemmas.List.Sorted.{list_any-IsPermutation}
 use Rattle.cpg_base.specs.Graph.{Graph, IsVariable}
 use Rattle.cpg_base.proofs.Lists.{all_from}
-use Rattle.cpg_order.specs.Scenario.{Scenario, number_of}
+use Rattle.cpg_base.specs.Scenario.{Scenario, number_of}
 use Rattle.cpg_cube.specs.Cover.{is_left}
 use Rattle.cpg_cube.specs.Cube.{holds, matches}
 use Rattle.cpg_cube.specs.Fit.{IsKnown}

@@ -4,9 +4,11 @@ use Rattle.std.specs.List.{list_any}
 use Rattle.cpg_base.specs.Graph.{Graph, item_at}
 use Rattle.cpg_base.specs.Activity.{item_active}
 use Rattle.cpg_cube.specs.declared.literal.Literal.{Literal}
-use Rattle.cpg_order.specs.Scenario.{Scenario}
-use Rattle.cpg_table.specs.Table.{Column, NodeTable, columns_of}
-use Rattle.cpg_audit.specs.Log.{Log, Logged, logged_time}
+use Rattle.cpg_base.specs.Scenario.{Scenario}
+use Rattle.cpg_table.specs.Table.{NodeTable, columns_of}
+use Rattle.cpg_cube.specs.Column.{Column}
+use Rattle.cpg_log.specs.Log.{Log, logged_time}
+use Rattle.cpg_log.specs.declared.log.Logged.{Logged}
 
 -- whether a log excludes a time of an item: another than the one that is logged, or any up to the log's time where none is
 abbrev pub is_excluded : ℕ → Option ℕ → ℕ → Bool

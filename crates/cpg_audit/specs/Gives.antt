@@ -1,11 +1,12 @@
 -- Which scenarios give a log: those in which the nodes have to do, up to its time, just what it names.
 use Rattle.std.specs.Prelude.{◌≡◌, ◌≤◌, List, Contains}
 use Rattle.cpg_base.specs.Graph.{Graph}
-use Rattle.cpg_order.specs.Scenario.{Scenario}
+use Rattle.cpg_base.specs.Scenario.{Scenario}
 use Rattle.cpg_table.specs.Table.{NodeTable}
 use Rattle.cpg_node.specs.Dispatcher.{Act}
 use Rattle.cpg_cluster.specs.Correct.{all_asked}
-use Rattle.cpg_audit.specs.Log.{Log, Logged}
+use Rattle.cpg_log.specs.Log.{Log}
+use Rattle.cpg_log.specs.declared.log.Logged.{Logged}
 
 -- an act as a log names it
 abbrev pub logged : Act → Logged

@@ -2,17 +2,8 @@
 #![tactic(auto)]
 
 mod auditing;
-mod fault;
 mod idle;
-mod lines;
-mod log;
 mod log_order;
 mod narrowing;
-mod number;
-mod reading;
-mod texts;
 
 pub use auditing::audit;
-pub use fault::LogFault;
-pub use log::{Log, Logged};
-pub use reading::read_log;

@@ -3,8 +3,8 @@ ghost use Rattle.std.specs.Prelude.{IfOk, IsPermutation, map};
 ghost use Rattle.cpg_base.specs.Graph.{item_count};
 ghost use Rattle.cpg_base.specs.Numbers.{numbers_below};
 
-use crate::log::Log;
 use cpg_base::{OutOfMemory, Problem};
+use cpg_log::Log;
 use std::alloc::Global;
 
 /// An item, at the time at which a log names it or, where it doesn't, at the greatest.

@@ -1,8 +1,9 @@
 -- A scenario: a value for each condition, and a count of faults for each process.
-use Rattle.std.specs.Prelude.{ℕ, ◌-◌, ◌≡◌, ◌≤◌, Bool, true, false, List, length, sum, get_or, if◌then◌else◌, nat_lt, replicate, map}
-use Rattle.cpg_base.specs.Numbers.{numbers_below}
-use Rattle.cpg_base.specs.Graph.{Graph, process_count, condition_count}
+use Rattle.std.specs.Prelude.{ℕ, ◌-◌, ◌≡◌, ◌≤◌, Bool, true, false, List, length, sum, get_or, if◌then◌else◌, nat_lt, replicate, map, [], ◌∷◌, Option, Some, None}
+use Rattle.cpg_base.specs.Numbers.{numbers_below, is_below}
+use Rattle.cpg_base.specs.Graph.{Graph, process_count, condition_count, condition_of}
 use Rattle.cpg_base.specs.Duration.{duration}
+use Rattle.std.specs.List.{flat_map}
 
 -- values by condition, and faults by process
 pub record Scenario : Type 0 where
@@ -35,3 +36,22 @@ number_of s v = if nat_lt v 128 then fault_of s v else number_of_value (get_or s
 -- how long each execution takes at most in a scenario
 abbrev pub full_lengths : Graph → Scenario → List ℕ
 full_lengths g s = map (λ p. duration g p (fault_of s p)) (numbers_below (process_count g))
+
+-- the value of a process's condition, if it has one
+abbrev pub value_in_key : List Bool → Option ℕ → List ℕ
+value_in_key values None = []
+value_in_key values (Some c) = number_of_value (get_or values c false) ∷ []
+
+-- what scenarios are compared by: along an order, of each process its count and then its value
+abbrev pub key : Graph → List ℕ → Scenario → List ℕ
+key g order s = flat_map (λ p. fault_of s p ∷ value_in_key s.values (condition_of g p)) order
+
+-- whether the first scenario comes first
+abbrev pub is_before : Graph → List ℕ → Scenario → Scenario → Bool
+is_before g order s t = is_below (key g order s) (key g order t)
+
+-- the scenario has the fact, and no earlier one has it
+pub record IsLeast (g : Graph) (order : List ℕ) (fact : Scenario → Type 0) (s : Scenario) : Type 0 where
+  pub lawful : IsScenario g s
+  pub holds : fact s
+  pub least : (t : Scenario) → IsScenario g t → fact t → is_before g order t s ≡ false

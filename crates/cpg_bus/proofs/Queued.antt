@@ -11,8 +11,7 @@ use Rattle.cpg_base.proofs.Items.{item_cases, item_at-message, item_at-broadcast
 use Rattle.cpg_base.proofs.Lists.{Contains-nil, Contains-cases, Contains-first, Contains-map, Contains-map_parts, Contains-filter, Contains-filter_parts, numbers_rise}
 use Rattle.cpg_base.proofs.Ordered.{Rises, Rises-all_pairs, Rises-append, Rises-weaker}
 use Rattle.cpg_order.specs.Queue.{rank_of_item}
-use Rattle.cpg_order.proofs.Along.{condition_of_below}
-use Rattle.cpg_order.proofs.Conditions.{condition_of_process_of, process_of_condition_of}
+use Rattle.cpg_base.proofs.ConditionProcesses.{condition_of_below, condition_of_process_of, process_of_condition_of}
 use Rattle.cpg_bus.specs.Plan.{broadcasts_of, queue_of}
 
 -- ---- lists in which each element is so to each later one

@@ -6,9 +6,9 @@ use Rattle.std.proofs.lemmas.Bool.{cases_lt}
 use Rattle.std.proofs.lemmas.List.{get_or-map, length-map}
 use Rattle.std.proofs.lemmas.Option.{slice_get-get_or, slice_get_past, same_Some, none-some}
 use Rattle.cpg_base.specs.declared.process.Process.{Process}
-use Rattle.cpg_table.specs.GraphHead.{extra_of}
-use Rattle.cpg_table.specs.declared.head_parts.Extra.{Extra}
-use Rattle.cpg_table.specs.Head.{AreExtras}
+use Rattle.cpg_head.specs.GraphHead.{extra_of}
+use Rattle.cpg_head.specs.declared.head_parts.Extra.{Extra}
+use Rattle.cpg_head.specs.Head.{AreExtras}
 use Rattle.cpg_check_rows.proofs.Differences.{same_more, same_whole}
 
 module _ (ps : List Process) (p : ℕ) (e : Extra) (d : Process) (l : p < length ps) where

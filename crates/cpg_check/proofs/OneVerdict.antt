@@ -5,13 +5,14 @@ use Rattle.std.specs.List.{list_any}
 use Rattle.std.proofs.lemmas.Bool.{both_ways, cases_lt, true≢false}
 use Rattle.cpg_base.specs.Numbers.{numbers_below}
 use Rattle.cpg_base.specs.Graph.{Graph, process_count}
-use Rattle.cpg_order.specs.Scenario.{Scenario, IsScenario, IsLeast}
+use Rattle.cpg_base.specs.Scenario.{Scenario, IsScenario, IsLeast}
 use Rattle.cpg_order.specs.Urgency.{IsTopological}
-use Rattle.cpg_order.proofs.ScenarioOrder.{one_least}
+use Rattle.cpg_base.proofs.ScenarioOrder.{one_least}
 use Rattle.cpg_cube.specs.Cube.{matches}
-use Rattle.cpg_table.specs.Head.{Head}
+use Rattle.cpg_head.specs.Head.{Head}
 use Rattle.cpg_table.specs.Lawful.{Tables}
-use Rattle.cpg_table.specs.Table.{Column, NodeTable, table_at, columns_of}
+use Rattle.cpg_table.specs.Table.{NodeTable, table_at, columns_of}
+use Rattle.cpg_cube.specs.Column.{Column}
 use Rattle.cpg_table.specs.Valid.{breaks, breaks_at}
 use Rattle.cpg_table.specs.declared.fault.Fault.{Fault}
 use Rattle.cpg_table.specs.declared.rule.Rule.{Rule}

@@ -4,8 +4,9 @@ use Rattle.std.specs.Prelude.{slice_get, IsSomeAnd}
 use Rattle.std.proofs.lemmas.Bool.{both_ways, cases_Bool, cond-true, cond-false}
 use Rattle.std.proofs.lemmas.Option.{slice_get-get_or, none-some, same_Some}
 use Rattle.cpg_base.specs.Graph.{Graph}
-use Rattle.cpg_table.specs.Head.{Head}
-use Rattle.cpg_table.specs.Table.{Column, NodeTable, table_at, empty_table}
+use Rattle.cpg_head.specs.Head.{Head}
+use Rattle.cpg_table.specs.Table.{NodeTable, table_at, empty_table}
+use Rattle.cpg_cube.specs.Column.{Column}
 use Rattle.cpg_table.specs.Valid.{IsValid, hear_row}
 use Rattle.cpg_table.specs.declared.fault.Fault.{Fault}
 use Rattle.cpg_violation.specs.Columns.{row_columns}

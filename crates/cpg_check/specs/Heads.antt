@@ -1,8 +1,8 @@
 -- The first part in which the head of a pack differs from a graph's.
 use Rattle.std.specs.Prelude.{◌≡◌, ◌≢◌}
 use Rattle.cpg_base.specs.Graph.{Graph}
-use Rattle.cpg_table.specs.GraphHead.{head_of}
-use Rattle.cpg_table.specs.Head.{Head}
+use Rattle.cpg_head.specs.GraphHead.{head_of}
+use Rattle.cpg_head.specs.Head.{Head}
 use Rattle.cpg_violation.specs.Heads.{AreProcessesOf}
 use Rattle.cpg_check.specs.declared.heads.HeadPart.{HeadPart}
 use Rattle.cpg_check.specs.declared.heads.HeadPart.TheVariants.{Faults, Nodes, Processes, Edges}

@@ -1,12 +1,12 @@
 //! The first part in which the head of a pack differs from a graph's.
 ghost use Rattle.std.specs.Prelude.{◌≡◌, ◌<◌, ◌↔◌, IfNone, IfOk, IfSome, IsTrue, length, map};
 ghost use Rattle.cpg_base.specs.Graph.{process_count};
-ghost use Rattle.cpg_table.specs.GraphHead.{extra_of, head_of};
+ghost use Rattle.cpg_head.specs.GraphHead.{extra_of, head_of};
 ghost use Rattle.cpg_violation.specs.Heads.{AreProcessesOf, IsHeadFor};
 ghost use Rattle.cpg_check.specs.Heads.{IsFirstDifference};
 
 use cpg_base::{Name, OutOfMemory, Problem, Process};
-use cpg_table::{Extra, Head, HeadProcess, head_of};
+use cpg_head::{Extra, Head, HeadProcess, head_of};
 use std::alloc::Global;
 
 /// A part of a pack's head. The first that differs from the graph's is told.

@@ -6,7 +6,7 @@ use Rattle.std.proofs.lemmas.List.Folds.{list_any-append}
 use Rattle.cpg_base.proofs.Lists.{Contains-filter_parts, list_any_true, numbers-Contains}
 use Rattle.cpg_base.specs.Graph.{Graph, is_heard_by, item_at, item_count, process_count, process_of_variable}
 use Rattle.cpg_base.specs.Numbers.{numbers_below}
-use Rattle.cpg_order.specs.Scenario.{Scenario}
+use Rattle.cpg_base.specs.Scenario.{Scenario}
 use Rattle.cpg_table.specs.Heard.{facts}
 use Rattle.cpg_table.specs.Shape.{heard_by}
 use Rattle.cpg_table.specs.Table.{NodeTable}

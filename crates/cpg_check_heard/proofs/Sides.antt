@@ -6,8 +6,8 @@ use Rattle.std.proofs.Math.Bool.{or-false}
 use Rattle.std.proofs.lemmas.Bool.{cases_lt, ne_eqb, lt-leb, cond-true, cond-false}
 use Rattle.cpg_base.specs.Graph.{Graph, IsVariable, process_count, condition_count, condition_of, process_of, process_of_variable, value_variable}
 use Rattle.cpg_base.proofs.Items.{process_of_below}
-use Rattle.cpg_order.proofs.Conditions.{condition_of_process_of}
-use Rattle.cpg_order.specs.Scenario.{Scenario, IsScenario, number_of}
+use Rattle.cpg_base.proofs.ConditionProcesses.{condition_of_process_of}
+use Rattle.cpg_base.specs.Scenario.{Scenario, IsScenario, number_of}
 use Rattle.cpg_cube.specs.Cube.{holds}
 use Rattle.cpg_base.specs.Variable.{top}
 use Rattle.cpg_cube.proofs.Boxes.{number_within, top_of_count}

@@ -4,9 +4,9 @@ use Rattle.std.specs.Bool.{OnFalse}
 use Rattle.std.specs.Prelude.{IfSome, IfNone, IsTrue, is_some}
 use Rattle.std.specs.List.{list_any}
 use Rattle.cpg_base.specs.Graph.{Graph}
-use Rattle.cpg_order.proofs.First.{first_same}
-use Rattle.cpg_order.specs.First.{IsFirst}
-use Rattle.cpg_order.specs.Scenario.{Scenario, IsScenario, IsLeast}
+use Rattle.cpg_base.proofs.First.{first_same}
+use Rattle.cpg_base.specs.First.{IsFirst}
+use Rattle.cpg_base.specs.Scenario.{Scenario, IsScenario, IsLeast}
 use Rattle.cpg_cube.specs.Cover.{is_left}
 use Rattle.cpg_cube.specs.Cube.{matches}
 use Rattle.cpg_cube.specs.declared.literal.Literal.{Literal}

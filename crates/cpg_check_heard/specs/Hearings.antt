@@ -1,7 +1,7 @@
 -- The rows of a graph's tables, ready to be asked what they tell.
 use Rattle.cpg_base.specs.Graph.{item_count}
 use Rattle.cpg_rules.specs.Admission.{IsAdmitted}
-use Rattle.cpg_table.specs.GraphHead.{head_of}
+use Rattle.cpg_head.specs.GraphHead.{head_of}
 use Rattle.cpg_table.specs.Lawful.{AreTablesOf}
 use Rattle.cpg_violation.specs.Heads.{IsHeadFor}
 use Rattle.cpg_violation.specs.Violation.{AllHold, row_rules}

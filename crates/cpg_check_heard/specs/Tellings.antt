@@ -6,10 +6,11 @@ use Rattle.cpg_base.specs.declared.item.Item.{Item}
 use Rattle.cpg_base.specs.declared.item.Item.TheVariants.{Start, Message, Broadcast}
 use Rattle.cpg_base.specs.Duration.{duration}
 use Rattle.cpg_base.specs.Bus.{slot_length}
-use Rattle.cpg_order.specs.Scenario.{Scenario, IsScenario, number_of}
+use Rattle.cpg_base.specs.Scenario.{Scenario, IsScenario, number_of}
 use Rattle.cpg_cube.specs.Cube.{matches}
 use Rattle.cpg_cube.specs.declared.literal.Literal.{Literal}
-use Rattle.cpg_table.specs.Table.{Column, NodeTable, columns_of}
+use Rattle.cpg_table.specs.Table.{NodeTable, columns_of}
+use Rattle.cpg_cube.specs.Column.{Column}
 use Rattle.cpg_table.specs.Heard.{exactly, value_fact}
 use Rattle.cpg_violation.specs.Lines.{IsLine}
 use Rattle.cpg_violation.specs.Sieves.{column_at}

@@ -4,11 +4,11 @@ ghost use Rattle.std.specs.Prelude.{◌≡◌, ◌≤◌, ◌||◌, All, Contain
 ghost use Rattle.std.specs.Bool.{OnFalse, OnTrue};
 ghost use Rattle.std.specs.List.{list_any};
 ghost use Rattle.cpg_base.specs.Graph.{Graph, IsVariable};
-ghost use Rattle.cpg_order.specs.Scenario.{Scenario, IsScenario};
+ghost use Rattle.cpg_base.specs.Scenario.{Scenario, IsScenario};
 ghost use Rattle.cpg_cube.specs.Cube.{matches};
 ghost use Rattle.cpg_cube.specs.Fit.{IsKnown};
 ghost use Rattle.cpg_table.specs.Shape.{heard_by};
-ghost use Rattle.cpg_table.specs.Table.{Column};
+ghost use Rattle.cpg_cube.specs.Column.{Column};
 ghost use Rattle.cpg_violation.specs.Sieves.{IsSieveOf};
 ghost use Rattle.cpg_check_heard.specs.Arrivals.{AreArrivals, IsArrival, do_tell};
 ghost use Rattle.cpg_check_heard.specs.Bounds.{variable_of};
@@ -21,8 +21,7 @@ use crate::hearing::Hearing;
 use crate::parts::{add, part_of};
 use crate::tellers::{Teller, Telling, has_come};
 use cpg_base::{OutOfMemory, Problem};
-use cpg_cube::Cube;
-use cpg_table::Entry;
+use cpg_cube::{Cube, Entry};
 use std::alloc::Global;
 
 /// A column, and how it tells.

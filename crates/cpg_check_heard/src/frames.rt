@@ -3,7 +3,7 @@
 ghost use Rattle.std.specs.Prelude.{◌≡◌, ℕ, Bool, All, Contains, IfOk, false, true};
 ghost use Rattle.std.specs.List.{list_any};
 ghost use Rattle.cpg_base.specs.Graph.{IsVariable};
-ghost use Rattle.cpg_order.specs.Scenario.{Scenario, IsScenario};
+ghost use Rattle.cpg_base.specs.Scenario.{Scenario, IsScenario};
 ghost use Rattle.cpg_cube.specs.Cube.{matches};
 ghost use Rattle.cpg_cube.specs.Fit.{IsKnown};
 ghost use Rattle.cpg_table.specs.Shape.{heard_by};
@@ -16,7 +16,7 @@ use crate::arrivals::{Arrival, tells_one_whole};
 use crate::bound::Bound;
 use crate::hearing::Hearing;
 use cpg_base::{OutOfMemory, Problem};
-use cpg_table::Entry;
+use cpg_cube::Entry;
 use std::alloc::Global;
 use std::cmp::Reverse;
 

@@ -2,7 +2,7 @@
 ghost use Rattle.std.specs.Prelude.{◌≡◌, ◌≤◌, ◌<◌, ℕ, All, IfNone, IfOk, IfSome, false, length};
 ghost use Rattle.cpg_base.specs.declared.limits.TheConstants.{MOST_LOAD};
 ghost use Rattle.cpg_base.specs.Graph.{item_count};
-ghost use Rattle.cpg_order.specs.Scenario.{Scenario, IsScenario};
+ghost use Rattle.cpg_base.specs.Scenario.{Scenario, IsScenario};
 ghost use Rattle.cpg_cube.specs.Fit.{IsKnown};
 ghost use Rattle.cpg_check_heard.specs.Ended.{HasActive};
 ghost use Rattle.cpg_check_heard.specs.Hearings.{IsHearing};
@@ -16,8 +16,9 @@ ghost use Rattle.cpg_violation.specs.Violation.{AllHold, Holds, IsFirstColumn, I
 use crate::hearing::Hearing;
 use crate::tellers::tellers;
 use cpg_base::{OutOfMemory, Scenario};
+use cpg_cube::Entry;
 use cpg_rules::Admitted;
-use cpg_table::{Entry, Fault, NodeItems, Rule, Tables};
+use cpg_table::{Fault, NodeItems, Rule, Tables};
 use cpg_violation::{Line, columns_of, is_marked};
 use std::alloc::Global;
 

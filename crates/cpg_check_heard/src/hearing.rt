@@ -3,8 +3,8 @@ ghost use Rattle.std.specs.Prelude.{◌≡◌, ◌&&◌, ◌||◌, All, Contains
 ghost use Rattle.std.specs.Bool.{OnFalse, OnTrue};
 ghost use Rattle.std.specs.List.{list_any};
 ghost use Rattle.cpg_base.specs.Graph.{IsVariable};
-ghost use Rattle.cpg_order.specs.First.{IsFirst};
-ghost use Rattle.cpg_order.specs.Scenario.{Scenario, IsScenario};
+ghost use Rattle.cpg_base.specs.First.{IsFirst};
+ghost use Rattle.cpg_base.specs.Scenario.{Scenario, IsScenario};
 ghost use Rattle.cpg_cube.specs.Cover.{is_left};
 ghost use Rattle.cpg_cube.specs.Cube.{matches};
 ghost use Rattle.cpg_cube.specs.Fit.{IsKnown};
@@ -22,9 +22,9 @@ use crate::frames::Rank;
 use crate::parts::add_row;
 use crate::tellers::Teller;
 use cpg_base::{OutOfMemory, Problem, Scenario};
-use cpg_cube::{Cube, Literal, covers};
+use cpg_cube::{Cube, Entry, Literal, covers};
 use cpg_rules::Admitted;
-use cpg_table::{Entry, Tables};
+use cpg_table::Tables;
 use cpg_violation::earlier;
 use std::alloc::Global;
 

@@ -4,7 +4,7 @@ ghost use Rattle.std.specs.List.{list_any};
 ghost use Rattle.cpg_base.specs.Duration.{duration};
 ghost use Rattle.cpg_base.specs.Graph.{IsVariable, process_count};
 ghost use Rattle.cpg_base.specs.Limits.{IsWithinLimits};
-ghost use Rattle.cpg_order.specs.Scenario.{Scenario, IsScenario};
+ghost use Rattle.cpg_base.specs.Scenario.{Scenario, IsScenario};
 ghost use Rattle.cpg_cube.specs.Cube.{matches};
 ghost use Rattle.cpg_cube.specs.Fit.{IsKnown};
 ghost use Rattle.cpg_violation.specs.Sieves.{IsSieveOf};
@@ -15,8 +15,7 @@ ghost use Rattle.cpg_check_heard.specs.declared.tellers.Telling.TheVariants.{End
 use crate::bound::Bound;
 use crate::tellers::{Teller, Telling, has_come};
 use cpg_base::{FIRST_VALUE, OutOfMemory, Problem};
-use cpg_cube::{Cube, Literal};
-use cpg_table::Entry;
+use cpg_cube::{Cube, Entry, Literal};
 use std::alloc::Global;
 
 /// With how many of the fault counts, from 0 on, an execution that starts at a time has ended by another.

@@ -7,8 +7,8 @@ ghost use Rattle.cpg_violation.specs.Lines.{AreLines};
 ghost use Rattle.cpg_check_heard.specs.Tellings.{AreTellers, telling_of};
 
 use cpg_base::{Item, OutOfMemory, Problem};
+use cpg_cube::Entry;
 use cpg_rules::Admitted;
-use cpg_table::Entry;
 use cpg_violation::Line;
 use std::alloc::Global;
 

@@ -5,10 +5,10 @@ use Rattle.cpg_base.specs.Graph.{Graph, process_count, edge_count, item_at, mess
 use Rattle.cpg_base.specs.Activity.{active, is_active, live, item_active}
 use Rattle.cpg_base.proofs.Items.{item_at-start, item_at-message, item_at-broadcast}
 use Rattle.cpg_order.specs.Guard.{outcome_at}
-use Rattle.cpg_order.specs.Scenario.{Scenario, IsScenario}
-use Rattle.cpg_order.specs.First.{IsFirst, earlier}
-use Rattle.cpg_order.proofs.First.{first_same}
-use Rattle.cpg_guard.specs.Guards.{Guards, tree_of}
+use Rattle.cpg_base.specs.Scenario.{Scenario, IsScenario}
+use Rattle.cpg_base.specs.First.{IsFirst, earlier}
+use Rattle.cpg_base.proofs.First.{first_same}
+use Rattle.cpg_rules.specs.Guards.{Guards, tree_of}
 use Rattle.cpg_cube.specs.Cube.{matches, holds}
 use Rattle.cpg_cube.specs.declared.literal.Literal.{Literal}
 use Rattle.cpg_cube.specs.Cover.{is_left}

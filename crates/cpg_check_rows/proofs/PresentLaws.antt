@@ -9,18 +9,19 @@ use Rattle.cpg_base.specs.Activity.{active, is_active, live, item_active}
 use Rattle.cpg_base.proofs.Lists.{list_any_false, get_or-map-below}
 use Rattle.cpg_base.proofs.Items.{item_at-start, item_at-message, item_at-broadcast}
 use Rattle.cpg_order.specs.Urgency.{IsTopological}
-use Rattle.cpg_order.specs.Scenario.{Scenario, IsScenario}
-use Rattle.cpg_order.specs.First.{IsFirst}
-use Rattle.cpg_order.proofs.First.{first_same}
+use Rattle.cpg_base.specs.Scenario.{Scenario, IsScenario}
+use Rattle.cpg_base.specs.First.{IsFirst}
+use Rattle.cpg_base.proofs.First.{first_same}
 use Rattle.cpg_order.proofs.Acyclic.{source_in_order}
-use Rattle.cpg_guard.specs.Guards.{Guards, AreGuardsOf, is_passed, test_of, active_by, edge_guard, edge_guard_of, tree_of}
-use Rattle.cpg_guard.proofs.EdgeGuards.{active_by-is, live_by-is}
+use Rattle.cpg_rules.specs.Guards.{Guards, AreGuardsOf, is_passed, test_of, active_by, edge_guard, edge_guard_of, tree_of}
+use Rattle.cpg_rules.proofs.EdgeGuards.{active_by-is, live_by-is}
 use Rattle.cpg_cube.specs.Cube.{matches}
 use Rattle.cpg_cube.specs.declared.literal.Literal.{Literal}
 use Rattle.cpg_cube.specs.Cover.{is_left}
 use Rattle.cpg_cube.proofs.Kept.{any_map}
 use Rattle.cpg_rules.specs.Admission.{IsAdmitted}
-use Rattle.cpg_table.specs.Table.{Column, NodeTable, columns_of}
+use Rattle.cpg_table.specs.Table.{NodeTable, columns_of}
+use Rattle.cpg_cube.specs.Column.{Column}
 use Rattle.cpg_table.specs.Valid.{breaks, breaks_at}
 use Rattle.cpg_table.specs.declared.rule.Rule.{Rule}
 use Rattle.cpg_check_rows.specs.Present.{is_absent}

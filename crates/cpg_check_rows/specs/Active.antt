@@ -1,8 +1,8 @@
 -- Columns of inactive items, or with literals of inactive processes.
 use Rattle.std.specs.Prelude.{ℕ, Bool, List}
 use Rattle.cpg_base.specs.Graph.{Graph}
-use Rattle.cpg_order.specs.Scenario.{Scenario}
-use Rattle.cpg_table.specs.Table.{Column}
+use Rattle.cpg_base.specs.Scenario.{Scenario}
+use Rattle.cpg_cube.specs.Column.{Column}
 use Rattle.cpg_table.specs.Valid.{breaks_activity}
 use Rattle.cpg_violation.specs.Broken.{is_broken}
 

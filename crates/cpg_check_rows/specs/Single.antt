@@ -1,9 +1,9 @@
 -- Columns that match together with an earlier column of their row.
 use Rattle.std.specs.Prelude.{ℕ, Bool, ◌&&◌, List, take, drop}
 use Rattle.std.specs.List.{list_any}
-use Rattle.cpg_order.specs.Scenario.{Scenario}
+use Rattle.cpg_base.specs.Scenario.{Scenario}
 use Rattle.cpg_cube.specs.Cube.{matches}
-use Rattle.cpg_table.specs.Table.{Column}
+use Rattle.cpg_cube.specs.Column.{Column}
 use Rattle.cpg_table.specs.Valid.{breaks_single}
 
 -- whether the column at a place of a row matches in a scenario together with an earlier one

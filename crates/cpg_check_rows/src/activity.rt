@@ -4,9 +4,9 @@ ghost use Rattle.std.specs.List.{list_any};
 ghost use Rattle.cpg_base.specs.declared.limits.TheConstants.{MOST_LOAD};
 ghost use Rattle.cpg_base.specs.Activity.{active, item_active, live};
 ghost use Rattle.cpg_base.specs.Graph.{IsVariable, broadcast_item, condition_count, condition_of, edge_at, edge_count, item_at, item_count, message_item, process_count, process_of_variable, source};
-ghost use Rattle.cpg_guard.specs.Guards.{is_passed, test_of};
-ghost use Rattle.cpg_order.specs.First.{IsFirst};
-ghost use Rattle.cpg_order.specs.Scenario.{Scenario, IsScenario};
+ghost use Rattle.cpg_rules.specs.Guards.{is_passed, test_of};
+ghost use Rattle.cpg_base.specs.First.{IsFirst};
+ghost use Rattle.cpg_base.specs.Scenario.{Scenario, IsScenario};
 ghost use Rattle.cpg_cube.specs.Cube.{holds, matches};
 ghost use Rattle.cpg_cube.specs.Fit.{IsKnown};
 ghost use Rattle.cpg_table.specs.declared.rule.Rule.{Rule};
@@ -17,9 +17,9 @@ ghost use Rattle.cpg_violation.specs.Sure.{AreSure};
 ghost use Rattle.cpg_violation.specs.Violation.{Holds, IsFirstColumn, IsFirstViolation};
 
 use cpg_base::{Item, OutOfMemory, Problem, Scenario};
-use cpg_cube::{Cube, Literal};
+use cpg_cube::{Cube, Entry, Literal};
 use cpg_rules::Admitted;
-use cpg_table::{Entry, Fault, Rule, Tables};
+use cpg_table::{Fault, Rule, Tables};
 use cpg_violation::{columns_of, earlier, is_marked, least_at, value_literal};
 use std::alloc::Global;
 

@@ -11,9 +11,9 @@ ghost use Rattle.cpg_violation.specs.Heads.{IsHeadFor};
 ghost use Rattle.cpg_check_rows.specs.Hears.{DifferFirstAt, HearsAt, HearsHold, IsFirstHear, IsFirstHearFault};
 
 use cpg_base::{OutOfMemory, Scenario};
-use cpg_cube::Literal;
+use cpg_cube::{Entry, Literal};
 use cpg_rules::Admitted;
-use cpg_table::{Entry, Fault, Rule, Tables};
+use cpg_table::{Fault, Rule, Tables};
 use cpg_violation::{columns_of, row_columns};
 use std::alloc::Global;
 

@@ -11,4 +11,3 @@ pub use activity::check_activity;
 pub use hears::check_hears;
 pub use present::check_present;
 pub use rows::check_rows;
-pub use single::check_single;

@@ -2,8 +2,8 @@
 ghost use Rattle.std.specs.Prelude.{◌≡◌, ◌<◌, ◌&&◌, [], ℕ, All, IfNone, IfOk, IfSome, map};
 ghost use Rattle.cpg_base.specs.Activity.{active};
 ghost use Rattle.cpg_base.specs.Graph.{broadcast_item, condition_count, edge_count, item_count, message_item, process_count};
-ghost use Rattle.cpg_order.specs.First.{IsFirst};
-ghost use Rattle.cpg_order.specs.Scenario.{Scenario};
+ghost use Rattle.cpg_base.specs.First.{IsFirst};
+ghost use Rattle.cpg_base.specs.Scenario.{Scenario};
 ghost use Rattle.cpg_cube.specs.Cube.{matches};
 ghost use Rattle.cpg_cube.specs.Cover.{is_left};
 ghost use Rattle.cpg_cube.specs.Fit.{IsKnown};
@@ -14,9 +14,9 @@ ghost use Rattle.cpg_violation.specs.Sure.{AreSure};
 ghost use Rattle.cpg_violation.specs.Violation.{Holds, IsFirstViolation};
 
 use cpg_base::{Item, OutOfMemory, Scenario};
-use cpg_cube::Cube;
+use cpg_cube::{Cube, Entry};
 use cpg_rules::Admitted;
-use cpg_table::{Entry, Fault, Rule, Tables};
+use cpg_table::{Fault, Rule, Tables};
 use cpg_violation::{columns_of, cubes_of, edge_cube, is_marked, least_at};
 use std::alloc::Global;
 

@@ -3,8 +3,8 @@ ghost use Rattle.std.specs.Prelude.{◌≡◌, ◌≤◌, ◌<◌, ◌&&◌, ℕ
 ghost use Rattle.std.specs.List.{list_any};
 ghost use Rattle.cpg_base.specs.declared.limits.TheConstants.{MOST_LOAD};
 ghost use Rattle.cpg_base.specs.Graph.{item_count, process_count};
-ghost use Rattle.cpg_order.specs.First.{IsFirst};
-ghost use Rattle.cpg_order.specs.Scenario.{Scenario, IsScenario};
+ghost use Rattle.cpg_base.specs.First.{IsFirst};
+ghost use Rattle.cpg_base.specs.Scenario.{Scenario, IsScenario};
 ghost use Rattle.cpg_cube.specs.Cube.{matches};
 ghost use Rattle.cpg_cube.specs.Fit.{IsKnown};
 ghost use Rattle.cpg_table.specs.declared.rule.Rule.{Rule};
@@ -16,12 +16,11 @@ ghost use Rattle.cpg_violation.specs.Sure.{AreSure};
 ghost use Rattle.cpg_violation.specs.Violation.{Holds, IsFirstColumn, IsFirstViolation};
 ghost use Rattle.cpg_check_rows.specs.Single.{is_double};
 
-use cpg_base::{OutOfMemory, Problem, Scenario};
-use cpg_cube::Cube;
-use cpg_order::Order;
+use cpg_base::{Order, OutOfMemory, Problem, Scenario};
+use cpg_cube::{Cube, Entry};
 use cpg_rules::Admitted;
-use cpg_table::{Entry, Fault, Rule, Tables};
-use cpg_violation::{Line, Sieve, columns_of, earlier, is_marked, lines_of, met};
+use cpg_table::{Fault, Rule, Tables};
+use cpg_violation::{Line, Sieve, columns_of, earlier, is_marked, met};
 use std::alloc::Global;
 
 /// The least scenario that a cube matches together with the column at a place, if there is one.
@@ -147,23 +146,4 @@ pub(crate) fn single_by(
         }
     }
     Ok(None)
-}
-
-/// The first violation of V2, by item and column, with the least scenario in the urgency order in which it stands:
-/// the column and an earlier one of its row match. `None` exactly where the rule holds. Items at which it is marked as
-/// sure are left out.
-pub fn check_single(
-    alloc: Global,
-    admitted: &Admitted,
-    tables: &Tables,
-    marks: &[bool],
-) -> Result<Option<Fault>, OutOfMemory>
-    requires head { IsHeadFor admitted.now.graph tables.now.head }
-    requires marks { AreSure admitted.now.graph tables.now.nodes Rule.Single marks.now }
-    ensures none { IfOk result (λ r. IfNone r (Holds admitted.now.graph tables.now.nodes Rule.Single)) }
-    ensures first { IfOk result (λ r. IfSome r (IsFirstViolation admitted.now.graph admitted.now.order tables.now.nodes Rule.Single)) }
-{
-    let lines = lines_of(alloc, admitted.problem(), tables)?;
-    let found = single_by(alloc, admitted, tables, lines.as_slice(), marks)?;
-    Ok(found)
 }

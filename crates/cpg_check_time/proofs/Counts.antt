@@ -7,8 +7,8 @@ use Rattle.std.proofs.lemmas.Bool.{cases_lt}
 use Rattle.cpg_base.specs.Graph.{Graph, process_count, process_at}
 use Rattle.cpg_base.specs.Duration.{duration}
 use Rattle.cpg_base.specs.Limits.{IsWithinLimits}
-use Rattle.cpg_order.specs.Scenario.{Scenario, IsScenario, fault_of}
-use Rattle.cpg_order.proofs.Scenarios.{number_of-fault}
+use Rattle.cpg_base.specs.Scenario.{Scenario, IsScenario, fault_of}
+use Rattle.cpg_base.proofs.NumbersOf.{number_of-fault}
 use Rattle.cpg_cube.specs.declared.literal.Literal.{Literal}
 use Rattle.cpg_cube.specs.Fit.{IsKnown}
 use Rattle.cpg_cube.specs.Cover.{with_literal}

@@ -11,12 +11,12 @@ use Rattle.cpg_base.specs.Duration.{duration}
 use Rattle.cpg_base.specs.Graph.{Graph, process_count}
 use Rattle.cpg_base.specs.declared.process.Slot.{Slot}
 use Rattle.cpg_base.specs.Limits.{IsWithinLimits}
-use Rattle.cpg_order.specs.Scenario.{Scenario, IsScenario, fault_of}
-use Rattle.cpg_order.specs.First.{IsFirst}
-use Rattle.cpg_order.proofs.First.{first_same}
+use Rattle.cpg_base.specs.Scenario.{Scenario, IsScenario, fault_of}
+use Rattle.cpg_base.specs.First.{IsFirst}
+use Rattle.cpg_base.proofs.First.{first_same}
 use Rattle.cpg_cube.specs.Cube.{matches}
 use Rattle.cpg_cube.specs.declared.literal.Literal.{Literal}
-use Rattle.cpg_table.specs.Table.{Column}
+use Rattle.cpg_cube.specs.Column.{Column}
 use Rattle.cpg_check_time.specs.declared.delays.Delay.{Delay}
 use Rattle.cpg_check_time.specs.Delays.{IsMost, done_at, is_late, delays}
 use Rattle.cpg_check_time.proofs.Seeking.{both_any}

@@ -2,12 +2,13 @@
 use Rattle.std.proofs.Common.{ℕ, ◌<◌, ◌≡◌, ◌&&◌, List, ap, sym, lt-ltb, Option, ◌∙◌}
 use Rattle.cpg_base.specs.Graph.{Graph, process_count}
 use Rattle.cpg_base.specs.Duration.{due}
-use Rattle.cpg_order.specs.Scenario.{Scenario, IsScenario}
-use Rattle.cpg_order.specs.First.{IsFirst}
-use Rattle.cpg_order.proofs.First.{first_same}
+use Rattle.cpg_base.specs.Scenario.{Scenario, IsScenario}
+use Rattle.cpg_base.specs.First.{IsFirst}
+use Rattle.cpg_base.proofs.First.{first_same}
 use Rattle.cpg_cube.specs.Cube.{matches}
 use Rattle.cpg_cube.specs.declared.literal.Literal.{Literal}
-use Rattle.cpg_table.specs.Table.{Column, NodeTable}
+use Rattle.cpg_table.specs.Table.{NodeTable}
+use Rattle.cpg_cube.specs.Column.{Column}
 use Rattle.cpg_table.specs.declared.rule.Rule.{Rule}
 use Rattle.cpg_check_time.specs.Columns.{breaks_column}
 use Rattle.cpg_check_time.specs.Lateness.{ends_after}

@@ -7,12 +7,13 @@ use Rattle.std.proofs.lemmas.Option.{none-some, same_Some}
 use Rattle.cpg_base.specs.Graph.{Graph, process_count, is_frozen, item_count}
 use Rattle.cpg_base.specs.Numbers.{numbers_below}
 use Rattle.cpg_base.proofs.Lists.{get_or-map-below}
-use Rattle.cpg_order.specs.Scenario.{Scenario}
-use Rattle.cpg_order.specs.First.{IsFirst}
-use Rattle.cpg_order.proofs.First.{first_same}
+use Rattle.cpg_base.specs.Scenario.{Scenario}
+use Rattle.cpg_base.specs.First.{IsFirst}
+use Rattle.cpg_base.proofs.First.{first_same}
 use Rattle.cpg_cube.specs.Cube.{matches}
 use Rattle.cpg_cube.specs.Fit.{is_met}
-use Rattle.cpg_table.specs.Table.{Column, NodeTable, columns_of}
+use Rattle.cpg_table.specs.Table.{NodeTable, columns_of}
+use Rattle.cpg_cube.specs.Column.{Column}
 use Rattle.cpg_table.specs.Valid.{is_possible, differs_from}
 use Rattle.cpg_table.specs.declared.rule.Rule.{Rule}
 use Rattle.cpg_table.proofs.Possible.{possible-is_met}

@@ -12,16 +12,17 @@ use Rattle.cpg_base.specs.declared.item.Item.TheVariants.{Message, Broadcast}
 use Rattle.cpg_base.specs.Numbers.{numbers_below}
 use Rattle.cpg_base.proofs.Items.{item_at-start, item_at-message, item_cases, producer_within}
 use Rattle.cpg_base.proofs.Lists.{same_any, Contains-filter_parts, numbers-Contains, get_or-map-below}
-use Rattle.cpg_order.specs.Scenario.{Scenario, IsScenario, fault_of}
-use Rattle.cpg_order.specs.First.{IsFirst}
+use Rattle.cpg_base.specs.Scenario.{Scenario, IsScenario, fault_of}
+use Rattle.cpg_base.specs.First.{IsFirst}
 use Rattle.cpg_order.proofs.Acyclic.{source_in_order}
-use Rattle.cpg_order.proofs.First.{first_same}
-use Rattle.cpg_guard.specs.Guards.{Guards, AreGuardsOf, is_passed, active_by, edge_guard, edge_guard_of}
-use Rattle.cpg_guard.proofs.EdgeGuards.{active_by-is, live_by-is}
+use Rattle.cpg_base.proofs.First.{first_same}
+use Rattle.cpg_rules.specs.Guards.{Guards, AreGuardsOf, is_passed, active_by, edge_guard, edge_guard_of}
+use Rattle.cpg_rules.proofs.EdgeGuards.{active_by-is, live_by-is}
 use Rattle.cpg_cube.specs.Cube.{matches}
 use Rattle.cpg_cube.specs.declared.literal.Literal.{Literal}
 use Rattle.cpg_rules.specs.Admission.{IsAdmitted}
-use Rattle.cpg_table.specs.Table.{Column, NodeTable, columns_of}
+use Rattle.cpg_table.specs.Table.{NodeTable, columns_of}
+use Rattle.cpg_cube.specs.Column.{Column}
 use Rattle.cpg_table.specs.Valid.{ends_of, arrivals_of, is_by, input_is_there, breaks_inputs_of}
 use Rattle.cpg_table.specs.declared.rule.Rule.{Rule}
 use Rattle.cpg_violation.specs.Violation.{AllHold, row_rules}

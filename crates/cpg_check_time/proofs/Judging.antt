@@ -6,15 +6,16 @@ use Rattle.std.proofs.lemmas.Bool.{cases_lt}
 use Rattle.std.proofs.lemmas.List.{drop_more, drop_all}
 use Rattle.std.proofs.lemmas.List.Elements.{All-weaker, All-contains, All-contains_itself, Contains-append_cases, Contains-append_left, Contains-append_right}
 use Rattle.cpg_base.specs.Graph.{Graph, home}
-use Rattle.cpg_order.specs.Scenario.{Scenario, IsScenario}
-use Rattle.cpg_order.specs.First.{IsFirst}
-use Rattle.cpg_order.proofs.First.{first_same}
+use Rattle.cpg_base.specs.Scenario.{Scenario, IsScenario}
+use Rattle.cpg_base.specs.First.{IsFirst}
+use Rattle.cpg_base.proofs.First.{first_same}
 use Rattle.cpg_cube.specs.Cube.{matches}
 use Rattle.cpg_cube.specs.Fit.{IsKnown}
 use Rattle.cpg_rules.specs.Admission.{IsAdmitted}
-use Rattle.cpg_guard.specs.Guards.{Guards}
-use Rattle.cpg_table.specs.Table.{Column, Row, NodeTable, columns_of, table_at}
-use Rattle.cpg_table.specs.GraphHead.{head_of}
+use Rattle.cpg_rules.specs.Guards.{Guards}
+use Rattle.cpg_table.specs.Table.{Row, NodeTable, columns_of, table_at}
+use Rattle.cpg_cube.specs.Column.{Column}
+use Rattle.cpg_head.specs.GraphHead.{head_of}
 use Rattle.cpg_table.specs.Lawful.{AreTablesOf, IsLawfulRow, IsLawfulColumn, rows_of, space_of}
 use Rattle.cpg_table.specs.Valid.{breaks, breaks_at, breaks_rule, breaks_present, asks_for_one}
 use Rattle.cpg_table.specs.declared.rule.Rule.{Rule}

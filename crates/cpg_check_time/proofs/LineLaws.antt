@@ -5,10 +5,10 @@ use Rattle.std.proofs.lemmas.Bool.{cases_lt}
 use Rattle.std.proofs.lemmas.List.{take_more, get_or_default}
 use Rattle.std.proofs.lemmas.List.Elements.{All-contains, All-push, Contains-append_cases, Contains-append_left, Contains-append_right, Contains-get_or}
 use Rattle.cpg_base.proofs.Lists.{same_truth, list_any_true, list_any_parts, Contains-first, Contains-cases, Contains-nil}
-use Rattle.cpg_order.specs.Scenario.{Scenario}
+use Rattle.cpg_base.specs.Scenario.{Scenario}
 use Rattle.cpg_cube.specs.Cube.{matches}
 use Rattle.cpg_cube.specs.declared.literal.Literal.{Literal}
-use Rattle.cpg_table.specs.Table.{Column}
+use Rattle.cpg_cube.specs.Column.{Column}
 use Rattle.cpg_violation.specs.Sieves.{column_at}
 
 -- the columns at these places are found

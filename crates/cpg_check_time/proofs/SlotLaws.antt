@@ -7,11 +7,12 @@ use Rattle.cpg_base.specs.Graph.{Graph, home, is_sent}
 use Rattle.cpg_base.specs.Bus.{next_slot}
 use Rattle.cpg_base.specs.Numbers.{numbers_below}
 use Rattle.cpg_base.proofs.Lists.{list_any_false, same_any}
-use Rattle.cpg_order.specs.Scenario.{Scenario}
-use Rattle.cpg_order.specs.First.{IsFirst}
-use Rattle.cpg_order.proofs.First.{first_same}
+use Rattle.cpg_base.specs.Scenario.{Scenario}
+use Rattle.cpg_base.specs.First.{IsFirst}
+use Rattle.cpg_base.proofs.First.{first_same}
 use Rattle.cpg_cube.specs.Cube.{matches}
-use Rattle.cpg_table.specs.Table.{Column, NodeTable, columns_of, at}
+use Rattle.cpg_table.specs.Table.{NodeTable, columns_of, at}
+use Rattle.cpg_cube.specs.Column.{Column}
 use Rattle.cpg_table.specs.declared.rule.Rule.{Rule}
 use Rattle.cpg_check_time.specs.Columns.{breaks_column}
 use Rattle.cpg_check_time.specs.Clashes.{shares, shares_some}

@@ -7,9 +7,10 @@ use Rattle.std.proofs.lemmas.List.{get_or-take, get_or_default}
 use Rattle.cpg_base.specs.Graph.{Graph, item_at, item_count}
 use Rattle.cpg_base.specs.Activity.{item_active}
 use Rattle.cpg_base.proofs.Lists.{same_truth, list_any_true, list_any_parts, from_any_false, Contains-map, Contains-map_parts}
-use Rattle.cpg_order.specs.Scenario.{Scenario, IsScenario}
+use Rattle.cpg_base.specs.Scenario.{Scenario, IsScenario}
 use Rattle.cpg_cube.specs.Cube.{matches}
-use Rattle.cpg_table.specs.Table.{Column, NodeTable, columns_of, at}
+use Rattle.cpg_table.specs.Table.{NodeTable, columns_of, at}
+use Rattle.cpg_cube.specs.Column.{Column}
 use Rattle.cpg_table.specs.Valid.{is_by}
 use Rattle.cpg_table.specs.declared.rule.Rule.{Rule}
 use Rattle.cpg_violation.specs.Violation.{AllHold, row_rules}

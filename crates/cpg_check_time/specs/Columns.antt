@@ -1,9 +1,10 @@
 -- A rule on one column.
 use Rattle.std.specs.Prelude.{ℕ, ◌<◌, ◌^◌, Bool, true, false, List, []}
 use Rattle.cpg_base.specs.Graph.{Graph}
-use Rattle.cpg_order.specs.Scenario.{Scenario}
+use Rattle.cpg_base.specs.Scenario.{Scenario}
 use Rattle.cpg_cube.specs.Fit.{IsCube}
-use Rattle.cpg_table.specs.Table.{Column, NodeTable}
+use Rattle.cpg_table.specs.Table.{NodeTable}
+use Rattle.cpg_cube.specs.Column.{Column}
 use Rattle.cpg_table.specs.Valid.{breaks_at}
 use Rattle.cpg_table.specs.declared.rule.Rule.{Rule}
 use Rattle.cpg_table.specs.declared.rule.Rule.TheVariants.{Single, Present}

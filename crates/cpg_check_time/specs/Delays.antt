@@ -2,10 +2,10 @@
 use Rattle.std.specs.Prelude.{ℕ, ◌+◌, ◌<◌, ◌≤◌, ◌^◌, Bool, ◌&&◌, nat_lt, List}
 use Rattle.cpg_base.specs.Duration.{duration}
 use Rattle.cpg_base.specs.Graph.{Graph, process_count}
-use Rattle.cpg_order.specs.Scenario.{Scenario, IsScenario, fault_of}
+use Rattle.cpg_base.specs.Scenario.{Scenario, IsScenario, fault_of}
 use Rattle.cpg_cube.specs.Cube.{matches}
 use Rattle.cpg_cube.specs.declared.literal.Literal.{Literal}
-use Rattle.cpg_table.specs.Table.{Column}
+use Rattle.cpg_cube.specs.Column.{Column}
 use Rattle.cpg_check_time.specs.declared.delays.Delay.{Delay}
 use Rattle.cpg_check_time.specs.declared.delays.Delay.TheVariants.{Execution, Slot}
 

@@ -3,10 +3,11 @@ use Rattle.std.specs.Prelude.{ℕ, Bool, ◌&&◌, if◌then◌else◌, List}
 use Rattle.std.specs.List.{list_any}
 use Rattle.cpg_base.specs.Bus.{slot_length}
 use Rattle.cpg_base.specs.Graph.{Graph, condition_of, edge_at, home, is_message, message_item, source}
-use Rattle.cpg_guard.specs.Guards.{is_passed, test_of}
-use Rattle.cpg_order.specs.Scenario.{Scenario}
+use Rattle.cpg_rules.specs.Guards.{is_passed, test_of}
+use Rattle.cpg_base.specs.Scenario.{Scenario}
 use Rattle.cpg_cube.specs.Cube.{matches}
-use Rattle.cpg_table.specs.Table.{Column, NodeTable, columns_of}
+use Rattle.cpg_table.specs.Table.{NodeTable, columns_of}
+use Rattle.cpg_cube.specs.Column.{Column}
 use Rattle.cpg_check_time.specs.Delays.{is_late}
 use Rattle.cpg_check_time.specs.declared.delays.Delay.TheVariants.{Execution, Slot}
 

@@ -2,7 +2,7 @@
 use Rattle.std.specs.Prelude.{ℕ, ◌+◌, ◌<◌, ◌≤◌, ◌↔◌, Bool, nat_lt}
 use Rattle.cpg_base.specs.Duration.{duration}
 use Rattle.cpg_base.specs.Graph.{Graph}
-use Rattle.cpg_order.specs.Scenario.{Scenario, fault_of}
+use Rattle.cpg_base.specs.Scenario.{Scenario, fault_of}
 
 -- whether an execution that starts at a time ends after another in a scenario
 abbrev pub ends_after : Graph → ℕ → ℕ → ℕ → Scenario → Bool

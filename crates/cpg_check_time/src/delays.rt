@@ -4,8 +4,8 @@ ghost use Rattle.std.specs.List.{list_any};
 ghost use Rattle.cpg_base.specs.Graph.{item_count, process_count};
 ghost use Rattle.cpg_cube.specs.Cube.{matches};
 ghost use Rattle.cpg_cube.specs.Fit.{IsKnown};
-ghost use Rattle.cpg_order.specs.First.{IsFirst};
-ghost use Rattle.cpg_table.specs.GraphHead.{head_of};
+ghost use Rattle.cpg_base.specs.First.{IsFirst};
+ghost use Rattle.cpg_head.specs.GraphHead.{head_of};
 ghost use Rattle.cpg_table.specs.Lawful.{AreTablesOf};
 ghost use Rattle.cpg_table.specs.Table.{columns_of};
 ghost use Rattle.cpg_violation.specs.Room.{HasRoom};
@@ -15,11 +15,10 @@ ghost use Rattle.cpg_violation.specs.Lines.{AreLines};
 
 use crate::lateness::least_late;
 use crate::lines::meeting;
-use cpg_base::{OutOfMemory, Problem, Scenario};
-use cpg_cube::Cube;
-use cpg_order::Order;
+use cpg_base::{Order, OutOfMemory, Problem, Scenario};
+use cpg_cube::{Cube, Entry};
 use cpg_rules::Admitted;
-use cpg_table::{Entry, Tables};
+use cpg_table::Tables;
 use cpg_violation::{Line, earlier, met};
 use std::alloc::Global;
 

@@ -9,8 +9,9 @@ ghost use Rattle.cpg_violation.specs.Violation.{Holds, IsFirstViolation};
 use crate::judge::{Judge, first_violation};
 use crate::lateness::late_part;
 use cpg_base::{OutOfMemory, Scenario};
+use cpg_cube::Entry;
 use cpg_rules::Admitted;
-use cpg_table::{Entry, Fault, Rule, Tables};
+use cpg_table::{Fault, Rule, Tables};
 use std::alloc::Global;
 
 /// That every execution ends by its due.

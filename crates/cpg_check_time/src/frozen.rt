@@ -13,8 +13,9 @@ ghost use Rattle.cpg_check_time.specs.Frozen.{frozen_time, possible_time};
 
 use crate::judge::{Judge, first_violation};
 use cpg_base::{OutOfMemory, Problem, Scenario};
+use cpg_cube::Entry;
 use cpg_rules::Admitted;
-use cpg_table::{Entry, Fault, Rule, Tables};
+use cpg_table::{Fault, Rule, Tables};
 use cpg_violation::columns_of;
 use std::alloc::Global;
 

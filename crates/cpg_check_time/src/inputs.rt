@@ -5,10 +5,10 @@ ghost use Rattle.std.proofs.Common.{refl};
 ghost use Rattle.cpg_base.specs.Graph.{Graph, edge_count, item_count};
 ghost use Rattle.cpg_cube.specs.Cube.{matches};
 ghost use Rattle.cpg_cube.specs.Fit.{IsKnown};
-ghost use Rattle.cpg_order.specs.First.{IsFirst};
-ghost use Rattle.cpg_order.specs.Scenario.{Scenario};
+ghost use Rattle.cpg_base.specs.First.{IsFirst};
+ghost use Rattle.cpg_base.specs.Scenario.{Scenario};
 ghost use Rattle.cpg_table.specs.declared.rule.Rule.{Rule};
-ghost use Rattle.cpg_table.specs.GraphHead.{head_of};
+ghost use Rattle.cpg_head.specs.GraphHead.{head_of};
 ghost use Rattle.cpg_table.specs.Lawful.{AreTablesOf};
 ghost use Rattle.cpg_violation.specs.Heads.{IsHeadFor};
 ghost use Rattle.cpg_violation.specs.Sure.{AreSure};
@@ -21,11 +21,11 @@ ghost use Rattle.cpg_check_time.specs.Ready.{IsReady};
 use crate::delays::{Delay, least_delay};
 use crate::judge::{Judge, first_violation};
 use cpg_base::{OutOfMemory, Scenario};
-use cpg_cube::Cube;
+use cpg_cube::{Cube, Entry};
 use cpg_order::Links;
 use cpg_rules::Admitted;
-use cpg_table::{Entry, Fault, Rule, Tables};
-use cpg_violation::{Line, earlier, edge_cube, lines_of};
+use cpg_table::{Fault, Rule, Tables};
+use cpg_violation::{Line, earlier, edge_cube};
 use std::alloc::Global;
 
 /// The scenarios that two cubes match; `None` exactly where there are none.
@@ -179,26 +179,5 @@ pub(crate) fn inputs_by(
         &Inputs { links, lines },
         marks,
     )?;
-    Ok(found)
-}
-
-/// The first violation of V5, by item and column, with the least scenario in the urgency order in which it stands: the
-/// column matches, and at a start its time is before the release or a live input isn't there by then, at a send the
-/// producer hasn't ended. `None` exactly where the rule holds. V1, V2 and V3 hold. Items at which the rule is marked as
-/// sure are left out.
-pub fn check_inputs(
-    alloc: Global,
-    admitted: &Admitted,
-    tables: &Tables,
-    marks: &[bool],
-) -> Result<Option<Fault>, OutOfMemory>
-    requires head { IsHeadFor admitted.now.graph tables.now.head }
-    requires rules { AllHold admitted.now.graph tables.now.nodes row_rules }
-    requires marks { AreSure admitted.now.graph tables.now.nodes Rule.Inputs marks.now }
-    ensures none { IfOk result (λ r. IfNone r (Holds admitted.now.graph tables.now.nodes Rule.Inputs)) }
-    ensures first { IfOk result (λ r. IfSome r (IsFirstViolation admitted.now.graph admitted.now.order tables.now.nodes Rule.Inputs)) }
-{
-    let lines = lines_of(alloc, admitted.problem(), tables)?;
-    let found = inputs_by(alloc, admitted, tables, lines.as_slice(), marks)?;
     Ok(found)
 }

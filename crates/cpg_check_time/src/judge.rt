@@ -1,10 +1,10 @@
 //! The first violation of a rule that each column keeps or breaks by itself.
 ghost use Rattle.std.specs.Prelude.{◌≡◌, ◌<◌, ℕ, Contains, IfNone, IfOk, IfSome, List, Some, false, true};
 ghost use Rattle.cpg_base.specs.Graph.{Graph, item_count};
-ghost use Rattle.cpg_order.specs.First.{IsFirst};
-ghost use Rattle.cpg_order.specs.Scenario.{Scenario, IsScenario};
+ghost use Rattle.cpg_base.specs.First.{IsFirst};
+ghost use Rattle.cpg_base.specs.Scenario.{Scenario, IsScenario};
 ghost use Rattle.cpg_rules.specs.Admission.{IsAdmitted};
-ghost use Rattle.cpg_table.specs.GraphHead.{head_of};
+ghost use Rattle.cpg_head.specs.GraphHead.{head_of};
 ghost use Rattle.cpg_table.specs.Lawful.{AreTablesOf};
 ghost use Rattle.cpg_table.specs.Table.{NodeTable, columns_of};
 ghost use Rattle.cpg_table.specs.Valid.{breaks};
@@ -15,8 +15,9 @@ ghost use Rattle.cpg_violation.specs.Violation.{Holds, IsFirstColumn, IsFirstVio
 ghost use Rattle.cpg_check_time.specs.Columns.{IsColumn, breaks_column, is_alone};
 
 use cpg_base::{OutOfMemory, Scenario};
+use cpg_cube::Entry;
 use cpg_rules::Admitted;
-use cpg_table::{Entry, Fault, Rule, Tables};
+use cpg_table::{Fault, Rule, Tables};
 use cpg_violation::{columns_of, is_marked};
 use std::alloc::Global;
 

@@ -2,8 +2,8 @@
 ghost use Rattle.std.specs.Prelude.{◌≡◌, ◌≤◌, ◌<◌, ◌+◌, ◌^◌, ◌&&◌, ℕ, IfNone, IfOk, IfSome, List, false, nat_lt};
 ghost use Rattle.cpg_base.specs.Duration.{duration};
 ghost use Rattle.cpg_base.specs.Graph.{process_count};
-ghost use Rattle.cpg_order.specs.First.{IsFirst};
-ghost use Rattle.cpg_order.specs.Scenario.{Scenario, IsScenario, fault_of};
+ghost use Rattle.cpg_base.specs.First.{IsFirst};
+ghost use Rattle.cpg_base.specs.Scenario.{Scenario, IsScenario, fault_of};
 ghost use Rattle.cpg_cube.specs.Cube.{matches};
 ghost use Rattle.cpg_cube.specs.Fit.{IsKnown};
 ghost use Rattle.cpg_violation.specs.Room.{HasRoom};
@@ -11,8 +11,7 @@ ghost use Rattle.cpg_check_time.specs.Columns.{IsColumn};
 ghost use Rattle.cpg_check_time.specs.Lateness.{IsLeastCount, ends_after};
 
 use cpg_base::{OutOfMemory, Problem, Scenario};
-use cpg_cube::{Cube, Literal};
-use cpg_table::Entry;
+use cpg_cube::{Cube, Entry, Literal};
 use cpg_violation::met;
 
 /// The least count of faults with which an execution that starts at a time ends after another; `None` where even the

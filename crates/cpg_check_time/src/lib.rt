@@ -15,6 +15,3 @@ mod slots;
 pub use check::check_time;
 pub use due::check_due;
 pub use frozen::check_frozen;
-pub use inputs::check_inputs;
-pub use processor::check_processor;
-pub use slots::check_slot;

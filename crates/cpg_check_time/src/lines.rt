@@ -2,14 +2,13 @@
 ghost use Rattle.std.specs.Prelude.{◌≡◌, ◌≤◌, ◌<◌, ◌++◌, ◌∷◌, [], ℕ, Bool, All, Contains, IfOk, length, map, true};
 ghost use Rattle.std.specs.List.{list_any};
 ghost use Rattle.cpg_cube.specs.Cube.{matches};
-ghost use Rattle.cpg_order.specs.Scenario.{Scenario};
-ghost use Rattle.cpg_table.specs.Table.{Column};
+ghost use Rattle.cpg_base.specs.Scenario.{Scenario};
+ghost use Rattle.cpg_cube.specs.Column.{Column};
 ghost use Rattle.cpg_violation.specs.Lines.{IsLine};
 ghost use Rattle.cpg_violation.specs.Sieves.{column_at};
 
 use cpg_base::OutOfMemory;
-use cpg_cube::Cube;
-use cpg_table::Entry;
+use cpg_cube::{Cube, Entry};
 use cpg_violation::Line;
 use std::alloc::Global;
 

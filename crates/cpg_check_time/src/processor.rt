@@ -5,9 +5,9 @@ ghost use Rattle.std.proofs.Common.{refl};
 ghost use Rattle.cpg_base.specs.Graph.{item_count, process_count};
 ghost use Rattle.cpg_base.specs.Limits.{IsWithinLimits};
 ghost use Rattle.cpg_base.specs.Numbers.{numbers_below};
-ghost use Rattle.cpg_order.specs.First.{IsFirst};
+ghost use Rattle.cpg_base.specs.First.{IsFirst};
 ghost use Rattle.cpg_table.specs.declared.rule.Rule.{Rule};
-ghost use Rattle.cpg_table.specs.GraphHead.{head_of};
+ghost use Rattle.cpg_head.specs.GraphHead.{head_of};
 ghost use Rattle.cpg_table.specs.Lawful.{AreTablesOf};
 ghost use Rattle.cpg_violation.specs.Heads.{IsHeadFor};
 ghost use Rattle.cpg_violation.specs.Sure.{AreSure};
@@ -20,11 +20,11 @@ ghost use Rattle.cpg_violation.specs.Lines.{AreLines};
 use crate::judge::{Judge, first_violation};
 use crate::lateness::least_late;
 use crate::lines::meeting;
-use cpg_base::{OutOfMemory, Problem, Scenario};
-use cpg_order::Order;
+use cpg_base::{Order, OutOfMemory, Problem, Scenario};
+use cpg_cube::Entry;
 use cpg_rules::Admitted;
-use cpg_table::{Entry, Fault, Rule, Tables};
-use cpg_violation::{Line, earlier, lines_of};
+use cpg_table::{Fault, Rule, Tables};
+use cpg_violation::{Line, earlier};
 use std::alloc::Global;
 
 /// The least scenario in which the execution of a process that a column starts overlaps that of another process that its
@@ -195,24 +195,5 @@ pub(crate) fn processors_by(
         &Processors { lines },
         marks,
     )?;
-    Ok(found)
-}
-
-/// The first violation of V6, by process and column, with the least scenario in the urgency order in which it stands: the
-/// column matches, and the execution that it starts overlaps that of a process of the same node with a lower number.
-/// `None` exactly where the rule holds. Items at which it is marked as sure are left out.
-pub fn check_processor(
-    alloc: Global,
-    admitted: &Admitted,
-    tables: &Tables,
-    marks: &[bool],
-) -> Result<Option<Fault>, OutOfMemory>
-    requires head { IsHeadFor admitted.now.graph tables.now.head }
-    requires marks { AreSure admitted.now.graph tables.now.nodes Rule.Processor marks.now }
-    ensures none { IfOk result (λ r. IfNone r (Holds admitted.now.graph tables.now.nodes Rule.Processor)) }
-    ensures first { IfOk result (λ r. IfSome r (IsFirstViolation admitted.now.graph admitted.now.order tables.now.nodes Rule.Processor)) }
-{
-    let lines = lines_of(alloc, admitted.problem(), tables)?;
-    let found = processors_by(alloc, admitted, tables, lines.as_slice(), marks)?;
     Ok(found)
 }

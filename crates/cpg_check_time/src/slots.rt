@@ -7,9 +7,9 @@ ghost use Rattle.cpg_base.specs.Graph.{item_count, process_count};
 ghost use Rattle.cpg_base.specs.Numbers.{numbers_below};
 ghost use Rattle.cpg_bus.specs.Share.{HasSlot};
 ghost use Rattle.cpg_cube.specs.Fit.{IsKnown};
-ghost use Rattle.cpg_order.specs.First.{IsFirst};
+ghost use Rattle.cpg_base.specs.First.{IsFirst};
 ghost use Rattle.cpg_table.specs.declared.rule.Rule.{Rule};
-ghost use Rattle.cpg_table.specs.GraphHead.{head_of};
+ghost use Rattle.cpg_head.specs.GraphHead.{head_of};
 ghost use Rattle.cpg_table.specs.Lawful.{AreTablesOf};
 ghost use Rattle.cpg_violation.specs.Heads.{IsHeadFor};
 ghost use Rattle.cpg_violation.specs.Sure.{AreSure};
@@ -21,12 +21,12 @@ ghost use Rattle.cpg_violation.specs.Lines.{AreLines};
 
 use crate::judge::{Judge, first_violation};
 use crate::lines::meeting;
-use cpg_base::{OutOfMemory, Problem, Scenario};
+use cpg_base::{Order, OutOfMemory, Problem, Scenario};
 use cpg_bus::Share;
-use cpg_order::Order;
+use cpg_cube::Entry;
 use cpg_rules::Admitted;
-use cpg_table::{Entry, Fault, Rule, Tables};
-use cpg_violation::{Line, earlier, lines_of, met};
+use cpg_table::{Fault, Rule, Tables};
+use cpg_violation::{Line, earlier, met};
 use std::alloc::Global;
 
 /// Whether a node's slot starts at a time.
@@ -198,24 +198,5 @@ pub(crate) fn slots_by(
     ensures first { IfOk result (λ r. IfSome r (IsFirstViolation admitted.now.graph admitted.now.order tables.now.nodes Rule.Slot)) }
 {
     let found = first_violation(alloc, admitted, tables, Rule::Slot, &Slots { lines }, marks)?;
-    Ok(found)
-}
-
-/// The first violation of V7, by item and column, with the least scenario in the urgency order in which it stands: the
-/// column matches, and its time is no start of an own slot, or an item with a lower number that the same node sends has
-/// that time too. `None` exactly where the rule holds. Items at which it is marked as sure are left out.
-pub fn check_slot(
-    alloc: Global,
-    admitted: &Admitted,
-    tables: &Tables,
-    marks: &[bool],
-) -> Result<Option<Fault>, OutOfMemory>
-    requires head { IsHeadFor admitted.now.graph tables.now.head }
-    requires marks { AreSure admitted.now.graph tables.now.nodes Rule.Slot marks.now }
-    ensures none { IfOk result (λ r. IfNone r (Holds admitted.now.graph tables.now.nodes Rule.Slot)) }
-    ensures first { IfOk result (λ r. IfSome r (IsFirstViolation admitted.now.graph admitted.now.order tables.now.nodes Rule.Slot)) }
-{
-    let lines = lines_of(alloc, admitted.problem(), tables)?;
-    let found = slots_by(alloc, admitted, tables, lines.as_slice(), marks)?;
     Ok(found)
 }

@@ -8,7 +8,8 @@ use Rattle.std.proofs.lemmas.Bool.{cases_eq, cases_lt, le-leb, lt-leb, leb-false
 use Rattle.std.proofs.lemmas.List.{get_or_append_left, get_or_push, length-append}
 use Rattle.std.proofs.lemmas.List.Folds.{list_any-append, list_any_none, list_any_at}
 use Rattle.std.proofs.lemmas.List.Sorted.{list_any-IsPermutation}
-use Rattle.cpg_table.specs.Table.{Column, Row}
+use Rattle.cpg_table.specs.Table.{Row}
+use Rattle.cpg_cube.specs.Column.{Column}
 use Rattle.cpg_node.specs.Dispatcher.{zip_with}
 use Rattle.cpg_cluster.specs.Keeping.{waits_until, waits_by, times_by, arrival_times, IsIndex, AreIndexed}
 

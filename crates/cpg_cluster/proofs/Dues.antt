@@ -13,7 +13,7 @@ use Rattle.cpg_base.proofs.Below.{below_one_way, not_below_transitive}
 use Rattle.cpg_base.proofs.Lists.{Contains-first, Contains-rest, numbers-Contains}
 use Rattle.cpg_base.proofs.Pairs.{AllPairs-nil, AllPairs-rest}
 use Rattle.cpg_base.proofs.Sorted.{inserted, sorted, permutation_sorted}
-use Rattle.cpg_order.specs.Scenario.{Scenario}
+use Rattle.cpg_base.specs.Scenario.{Scenario}
 use Rattle.cpg_node.specs.Dispatcher.{Act, Ended}
 use Rattle.cpg_cluster.specs.Cluster.{Cluster, Done, answer}
 use Rattle.cpg_cluster.specs.Correct.{IsCorrect, IsDue, FollowsDue, AreDueEnds, IsOrderly, IsStartAct, IsSendAct, all_asked, asked_of, due_key, end_key, ends_asked, gives_end, gives_input}

@@ -10,7 +10,7 @@ use Rattle.cpg_base.specs.Duration.{duration}
 use Rattle.cpg_base.specs.Numbers.{numbers_below}
 use Rattle.cpg_base.proofs.Lists.{Contains-first, Contains-rest, Contains-cases, Contains-nil, Contains-map_parts, Contains-filter_parts, get_or-map-below, numbers-Contains}
 use Rattle.cpg_base.proofs.Ordered.{Rises, Rises-filter, numbers_go_up}
-use Rattle.cpg_order.specs.Scenario.{fault_of}
+use Rattle.cpg_base.specs.Scenario.{fault_of}
 use Rattle.cpg_table.specs.Table.{NodeTable, table_at}
 use Rattle.cpg_table.specs.Shape.{processes_on}
 use Rattle.cpg_node.specs.Dispatcher.{Dispatcher, Own, OwnTable, Range, Running, Ended, with_report, finished, next}

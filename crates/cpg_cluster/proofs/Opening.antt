@@ -10,12 +10,11 @@ use Rattle.cpg_base.specs.Graph.{Graph, home, item_count, item_at, process_count
 use Rattle.cpg_base.specs.Duration.{duration}
 use Rattle.cpg_base.specs.Limits.{IsWithinLimits}
 use Rattle.cpg_base.specs.Numbers.{numbers_below}
-use Rattle.cpg_base.specs.Scenario.{full_lengths}
+use Rattle.cpg_base.specs.Scenario.{full_lengths, IsScenario, Scenario, fault_of}
 use Rattle.cpg_base.specs.WellFormed.{WellFormed}
 use Rattle.cpg_base.proofs.Lists.{Contains-map_parts, Contains-filter_parts, numbers-Contains, get_or-map-below}
-use Rattle.cpg_order.specs.Scenario.{IsScenario, Scenario, fault_of}
 use Rattle.cpg_table.specs.Table.{NodeTable, Row, table_at, empty_table}
-use Rattle.cpg_table.specs.GraphHead.{head_of}
+use Rattle.cpg_head.specs.GraphHead.{head_of}
 use Rattle.cpg_table.specs.Lawful.{AreTablesOf}
 use Rattle.cpg_table.specs.Valid.{IsValid, hear_row, hear_rows}
 use Rattle.cpg_table.proofs.GraphTables.{has_shape, suits_graph}

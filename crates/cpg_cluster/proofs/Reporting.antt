@@ -5,12 +5,12 @@ use Rattle.std.specs.List.{flat_map}
 use Rattle.std.proofs.lemmas.Bool.{cases_eq, and_parts}
 use Rattle.std.proofs.lemmas.List.{length-set, get_or-set_same, get_or-set_other, get_or-replicate, length-replicate}
 use Rattle.std.proofs.lemmas.List.Elements.{Contains-append_cases}
-use Rattle.cpg_base.specs.Graph.{Graph}
+use Rattle.cpg_base.specs.Graph.{Graph, process_count, node_of}
 use Rattle.cpg_base.specs.Numbers.{numbers_below}
-use Rattle.cpg_base.specs.Graph.{process_count, node_of}
 use Rattle.cpg_base.proofs.Lists.{Contains-cases, Contains-nil, Contains-map_parts, Contains-flat_map_parts}
 use Rattle.cpg_base.proofs.Ordered.{Rises, Rises-append, Rises-filter, Rises-flat_map, numbers_go_up}
-use Rattle.cpg_table.specs.Table.{Column, NodeTable}
+use Rattle.cpg_table.specs.Table.{NodeTable}
+use Rattle.cpg_cube.specs.Column.{Column}
 use Rattle.cpg_table.specs.Shape.{processes_on}
 use Rattle.cpg_table.proofs.Settings.{Match, match_once}
 use Rattle.cpg_node.specs.Dispatcher.{Dispatcher, Own, Range, Running, Ended, next}

@@ -8,7 +8,7 @@ use Rattle.cpg_base.specs.Bus.{slot_length}
 use Rattle.cpg_base.proofs.Lists.{Contains-map, Contains-map_parts, filter_none}
 use Rattle.cpg_base.proofs.Ordered.{Rises, Rises-weaker}
 use Rattle.cpg_base.proofs.Pairs.{AllPairs-cons_by, length-le_of_apart}
-use Rattle.cpg_order.specs.Scenario.{fault_of}
+use Rattle.cpg_base.specs.Scenario.{fault_of}
 use Rattle.cpg_base.specs.Duration.{duration}
 use Rattle.cpg_table.specs.Table.{Row, NodeTable, table_at}
 use Rattle.cpg_table.specs.Shape.{processes_on}

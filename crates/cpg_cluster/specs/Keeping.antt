@@ -7,7 +7,8 @@ use Rattle.std.specs.Global.{Vec}
 use Rattle.std.specs.Vec.{vec_capacity}
 use Rattle.cpg_base.specs.Graph.{Graph, home, item_at, item_count}
 use Rattle.cpg_base.specs.Bus.{slot_length}
-use Rattle.cpg_table.specs.Table.{Column, Row, NodeTable, table_at}
+use Rattle.cpg_table.specs.Table.{Row, NodeTable, table_at}
+use Rattle.cpg_cube.specs.Column.{Column}
 use Rattle.cpg_node.specs.Dispatcher.{Act, Frame, next, opening, zip_with}
 use Rattle.cpg_cluster.specs.Cluster.{Answer, Took, Waits}
 use Rattle.cpg_cluster.specs.Taking.{value_of_item, frames_from}

@@ -4,7 +4,7 @@ use Rattle.std.specs.List.{flat_map}
 use Rattle.cpg_base.specs.Graph.{Graph, process_count, condition_of}
 use Rattle.cpg_base.specs.declared.item.Item.{Item}
 use Rattle.cpg_base.specs.declared.item.Item.TheVariants.{Start, Message, Broadcast}
-use Rattle.cpg_order.specs.Scenario.{Scenario}
+use Rattle.cpg_base.specs.Scenario.{Scenario}
 use Rattle.cpg_node.specs.Dispatcher.{Dispatcher, Own, Ended, Frame, Act, Running, zip_with, finished, due_reports_of}
 use Rattle.cpg_node.specs.State.{MayFinish}
 use Rattle.cpg_cluster.specs.Cluster.{World, report_of}

@@ -4,7 +4,8 @@ ghost use Rattle.std.specs.List.Sorted.{IsNonDecreasingBy};
 ghost use Rattle.cpg_cluster.specs.Keeping.{arrival_times, AreIndexed};
 
 use cpg_base::OutOfMemory;
-use cpg_table::{Entry, Row};
+use cpg_cube::Entry;
+use cpg_table::Row;
 use std::alloc::Global;
 
 /// Adds the times of a row.

@@ -6,7 +6,7 @@ ghost use Rattle.std.specs.Vec.{vec_capacity};
 ghost use Rattle.cpg_base.specs.Graph.{item_count};
 ghost use Rattle.cpg_base.specs.Draws.{next_number};
 ghost use Rattle.cpg_base.specs.Scenario.{IsScenario, full_lengths};
-ghost use Rattle.cpg_table.specs.GraphHead.{head_of};
+ghost use Rattle.cpg_head.specs.GraphHead.{head_of};
 ghost use Rattle.cpg_table.specs.Lawful.{AreTablesOf};
 ghost use Rattle.cpg_table.specs.Valid.{IsValid};
 ghost use Rattle.cpg_node.specs.Dispatcher.{next, zip_with};

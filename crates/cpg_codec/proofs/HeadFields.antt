@@ -7,8 +7,8 @@ use Rattle.std.proofs.lemmas.Bool.{eqb-true, ne_eqb, ltb-true, ltb-false, cases_
 use Rattle.std.proofs.lemmas.List.{append-nil}
 use Rattle.std.proofs.lemmas.List.Elements.{All-from_recursion, recursion_from_All}
 use Rattle.cpg_base.specs.Name.{IsName, is_name_byte}
-use Rattle.cpg_table.specs.Head.{Head, IsHeadEdge, version_of}
-use Rattle.cpg_table.specs.declared.head_parts.Extra.{Extra}
+use Rattle.cpg_head.specs.Head.{Head, IsHeadEdge, version_of}
+use Rattle.cpg_head.specs.declared.head_parts.Extra.{Extra}
 use Rattle.cpg_codec.specs.Reading.{byte_by, within, down}
 use Rattle.cpg_codec.specs.Spelling.{Written, written, magic, bit, byte, name_bytes, own_number, extra_bytes, process_bytes, edge_bytes, head_bytes}
 use Rattle.cpg_codec.specs.Grammar.{name_at, time_at, own_may, own_at, extra_at, place_at, process_at, processes_at, edge_at, limit, head_from, head_at}

@@ -2,7 +2,7 @@
 use Rattle.std.proofs.Common.{◌≡◌, ℕ, List, ◌++◌, length, append_assoc}
 use Rattle.std.specs.List.{flat_map}
 use Rattle.std.specs.Int.{w16, w32, w64, to_be_bytes}
-use Rattle.cpg_table.specs.Head.{Head, version_of}
+use Rattle.cpg_head.specs.Head.{Head, version_of}
 use Rattle.cpg_codec.specs.Spelling.{Written, written, magic, byte, bit, name_bytes, extra_bytes, process_bytes, edge_bytes, head_bytes}
 
 five : (a b c d e : List ℕ) → a ++ b ++ c ++ d ++ e ≡ a ++ ((b ++ c) ++ (d ++ e))

@@ -10,13 +10,14 @@ use Rattle.std.proofs.lemmas.List.Filters.{length-filter_both}
 use Rattle.std.proofs.lemmas.List.Sums.{sum_by-cons}
 use Rattle.cpg_base.specs.Name.{IsName}
 use Rattle.cpg_cube.specs.declared.literal.Literal.{Literal}
-use Rattle.cpg_table.specs.Head.{Head, IsHead, IsHeadProcess, version_of}
-use Rattle.cpg_table.specs.declared.head_parts.HeadProcess.{HeadProcess}
-use Rattle.cpg_table.specs.declared.head_parts.Extra.{Extra}
+use Rattle.cpg_head.specs.Head.{Head, IsHead, IsHeadProcess, version_of}
+use Rattle.cpg_head.specs.declared.head_parts.HeadProcess.{HeadProcess}
+use Rattle.cpg_head.specs.declared.head_parts.Extra.{Extra}
 use Rattle.cpg_table.specs.declared.space.Space.{Space}
 use Rattle.cpg_table.specs.Items.{numbers_where, conditioned, starts_of, sends_of, hears_of, leaves, enters, first_message, first_broadcast}
 use Rattle.cpg_table.specs.Lawful.{IsLawfulColumn, IsLawfulRow, IsTableOf, column_count, rows_of, space_of}
-use Rattle.cpg_table.specs.Table.{Column, Row, NodeTable, table_at}
+use Rattle.cpg_table.specs.Table.{Row, NodeTable, table_at}
+use Rattle.cpg_cube.specs.Column.{Column}
 use Rattle.cpg_codec.specs.Grammar.{IsSpace, fault_end}
 use Rattle.cpg_codec.specs.Lengths.{AllShort}
 use Rattle.cpg_codec.specs.Packs.{IsPackHead}

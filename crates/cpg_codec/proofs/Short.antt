@@ -4,8 +4,9 @@ use Rattle.std.specs.Prelude.{All}
 use Rattle.std.specs.List.{flat_map, AllByRecursion}
 use Rattle.std.proofs.lemmas.List.Concat.{flat_map-append}
 use Rattle.std.proofs.lemmas.List.Elements.{All-from_recursion, recursion_from_All, All-weaker}
-use Rattle.cpg_table.specs.Head.{Head, IsHead, IsHeadEdge}
-use Rattle.cpg_table.specs.Table.{Column, Row, NodeTable}
+use Rattle.cpg_head.specs.Head.{Head, IsHead, IsHeadEdge}
+use Rattle.cpg_table.specs.Table.{Row, NodeTable}
+use Rattle.cpg_cube.specs.Column.{Column}
 use Rattle.cpg_table.specs.Lawful.{IsLawfulColumn, IsLawfulRow, IsTable, rows_of, space_of}
 use Rattle.cpg_table.specs.declared.space.Space.{Space}
 use Rattle.cpg_codec.specs.Grammar.{IsSpace, fault_end}

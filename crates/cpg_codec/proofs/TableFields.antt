@@ -8,7 +8,7 @@ use Rattle.std.proofs.lemmas.List.Sums.{sum_by-cons}
 use Rattle.std.proofs.lemmas.List.Elements.{All-from_recursion, recursion_from_All}
 use Rattle.std.proofs.Math.Seq.{take-append_seam, drop-append_seam}
 use Rattle.cpg_base.specs.declared.limits.TheConstants.{MOST_COLUMNS}
-use Rattle.cpg_table.specs.Head.{Head, IsHead}
+use Rattle.cpg_head.specs.Head.{Head, IsHead}
 use Rattle.cpg_table.specs.Table.{Row, NodeTable, empty_table}
 use Rattle.cpg_table.specs.declared.own.Own.{Own}
 use Rattle.cpg_table.specs.Shape.{items_of}

@@ -1,7 +1,7 @@
 -- Rows that were taken as they stand.
 use Rattle.std.proofs.Common.{◌≡◌, ℕ, ◌+◌, ◌≤◌, List, ◌++◌, Ok, sym, ap, ◌∙◌}
 use Rattle.std.specs.List.{flat_map}
-use Rattle.cpg_table.specs.Head.{Head}
+use Rattle.cpg_head.specs.Head.{Head}
 use Rattle.cpg_table.specs.Table.{Row, NodeTable}
 use Rattle.cpg_table.specs.Lawful.{IsTableOf, column_count, rows_of, space_of}
 use Rattle.cpg_codec.specs.Spelling.{row_bytes}

@@ -7,9 +7,9 @@ use Rattle.std.proofs.lemmas.Bool.{ne_eqb}
 use Rattle.std.proofs.lemmas.List.Sums.{sum_by-cons}
 use Rattle.std.proofs.lemmas.List.Elements.{All-from_recursion, recursion_from_All}
 use Rattle.cpg_base.specs.Name.{IsName}
-use Rattle.cpg_table.specs.Head.{Head, IsHead, IsHeadProcess, IsHeadEdge, IsExtra, AreExtras, version_of, extra_at}
-use Rattle.cpg_table.specs.declared.head_parts.HeadProcess.{HeadProcess}
-use Rattle.cpg_table.specs.declared.head_parts.Extra.{Extra}
+use Rattle.cpg_head.specs.Head.{Head, IsHead, IsHeadProcess, IsHeadEdge, IsExtra, AreExtras, version_of, extra_at}
+use Rattle.cpg_head.specs.declared.head_parts.HeadProcess.{HeadProcess}
+use Rattle.cpg_head.specs.declared.head_parts.Extra.{Extra}
 use Rattle.cpg_codec.specs.Spelling.{Written, written_by, written_with, written, bit}
 use Rattle.cpg_codec.specs.Grammar.{limit, listed, head_from}
 use Rattle.cpg_codec.specs.Packs.{IsPackHead}

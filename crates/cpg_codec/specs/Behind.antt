@@ -1,7 +1,7 @@
 -- What stands in a head behind the names of the nodes.
 use Rattle.std.specs.Prelude.{ℕ, List}
 use Rattle.cpg_base.specs.declared.limits.TheConstants.{MOST_PROCESSES, MOST_EDGES}
-use Rattle.cpg_table.specs.Head.{Head}
+use Rattle.cpg_head.specs.Head.{Head}
 use Rattle.cpg_codec.specs.Reading.{Reader, pure, ◌>>=◌, number_at, within, times_at}
 use Rattle.cpg_codec.specs.Grammar.{small_at, limit, processes_at, edge_at, head_from}
 

@@ -5,9 +5,10 @@ use Rattle.cpg_base.specs.Name.{is_name_byte}
 use Rattle.cpg_base.specs.Variable.{top}
 use Rattle.cpg_base.specs.declared.limits.TheConstants.{MOST_FAULTS, MOST_NODES, MOST_PROCESSES, MOST_EDGES, MOST_CONDITIONS, MOST_COLUMNS, MOST_LOAD, LONGEST}
 use Rattle.cpg_cube.specs.declared.literal.Literal.{Literal}
-use Rattle.cpg_table.specs.Head.{Head}
-use Rattle.cpg_table.specs.declared.head_parts.Extra.{Extra}
-use Rattle.cpg_table.specs.Table.{Column, Row, NodeTable}
+use Rattle.cpg_head.specs.Head.{Head}
+use Rattle.cpg_head.specs.declared.head_parts.Extra.{Extra}
+use Rattle.cpg_table.specs.Table.{Row, NodeTable}
+use Rattle.cpg_cube.specs.Column.{Column}
 use Rattle.cpg_table.specs.Items.{first_broadcast, own_of, starts_of, sends_of, hears_of}
 use Rattle.cpg_table.specs.Lawful.{Tables, space_of, column_count, rows_of}
 use Rattle.cpg_table.specs.declared.space.Space.{Space}

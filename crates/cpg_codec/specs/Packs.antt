@@ -1,7 +1,7 @@
 -- Packs: the spellings of lawful tables, and what holds of them.
 use Rattle.std.specs.Prelude.{◌≡◌, ℕ, ◌+◌, ◌<◌, ◌≤◌, List, [], ◌++◌, length, take, All}
 use Rattle.cpg_base.specs.Name.{IsName}
-use Rattle.cpg_table.specs.Head.{Head, IsHead}
+use Rattle.cpg_head.specs.Head.{Head, IsHead}
 use Rattle.cpg_table.specs.Lawful.{Tables, AreTablesOf}
 use Rattle.cpg_codec.specs.Spelling.{spelling}
 

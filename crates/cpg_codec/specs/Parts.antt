@@ -1,5 +1,5 @@
 -- The head that parts in code make.
-use Rattle.cpg_table.specs.Head.{Head}
+use Rattle.cpg_head.specs.Head.{Head}
 use Rattle.cpg_codec.specs.Spelling.{written_by}
 use Rattle.cpg_codec.specs.Grammar.{head_from}
 use Rattle.cpg_codec.specs.declared.head_reading.HeadParts.{HeadParts}

@@ -3,10 +3,11 @@ use Rattle.std.specs.Prelude.{ℕ, Bool, List, [], ◌∷◌, ◌++◌, length, 
 use Rattle.std.specs.List.{flat_map}
 use Rattle.std.specs.Int.{w16, w32, w64, to_be_bytes}
 use Rattle.cpg_cube.specs.declared.literal.Literal.{Literal}
-use Rattle.cpg_table.specs.Head.{Head, version_of}
-use Rattle.cpg_table.specs.declared.head_parts.HeadProcess.{HeadProcess}
-use Rattle.cpg_table.specs.declared.head_parts.Extra.{Extra}
-use Rattle.cpg_table.specs.Table.{Column, Row, NodeTable}
+use Rattle.cpg_head.specs.Head.{Head, version_of}
+use Rattle.cpg_head.specs.declared.head_parts.HeadProcess.{HeadProcess}
+use Rattle.cpg_head.specs.declared.head_parts.Extra.{Extra}
+use Rattle.cpg_table.specs.Table.{Row, NodeTable}
+use Rattle.cpg_cube.specs.Column.{Column}
 use Rattle.cpg_table.specs.Lawful.{Tables, rows_of}
 
 -- the text CPGT

@@ -8,7 +8,7 @@ ghost use Rattle.cpg_codec.specs.Gives.{Gives};
 use crate::fault::ReadError;
 use crate::fixed::{Fixed, long_number};
 use cpg_base::{LONGEST, Name, OutOfMemory};
-use cpg_table::Extra;
+use cpg_head::Extra;
 use std::alloc::Global;
 
 /// A byte from low to high, and the bytes after it.

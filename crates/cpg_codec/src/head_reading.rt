@@ -1,6 +1,6 @@
 //! The head of a pack, read.
 ghost use Rattle.std.specs.Prelude.{◌≡◌, ◌≤◌, ◌<◌, ◌+◌, ◌*◌, ◌^◌, ◌==◌, is_some, IfSome, ℕ, List, length, Ok, Err, IfOk, OnOk, IsTrue, ◌↔◌, ◌++◌, nat_lt, if◌then◌else◌};
-ghost use Rattle.cpg_table.specs.Head.{IsHead};
+ghost use Rattle.cpg_head.specs.Head.{IsHead};
 ghost use Rattle.cpg_codec.specs.Reading.{number_at, within, times_at};
 ghost use Rattle.cpg_codec.specs.Spelling.{magic, bit, written_by, written_with};
 ghost use Rattle.cpg_codec.specs.Grammar.{place_at, process_at, processes_at, edge_at, limit, listed, name_at, head_at};
@@ -15,7 +15,7 @@ use crate::fixed::{Fixed, edge_from, edge_to, process_flag, process_node};
 use cpg_base::{
     MOST_CONDITIONS, MOST_EDGES, MOST_FAULTS, MOST_NODES, MOST_PROCESSES, Name, OutOfMemory,
 };
-use cpg_table::{Durations, Extra, Head, HeadProcess};
+use cpg_head::{Durations, Extra, Head, HeadProcess};
 use std::alloc::{AllocError, Global};
 
 /// The text CPGT.

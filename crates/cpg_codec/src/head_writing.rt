@@ -3,15 +3,15 @@ ghost use Rattle.std.specs.Prelude.{◌≡◌, ◌<◌, ◌≤◌, ◌++◌, All
 ghost use Rattle.std.specs.List.{flat_map};
 ghost use Rattle.std.specs.Int.{w16, w64, to_be_bytes};
 ghost use Rattle.cpg_io.specs.Causes.{HasCause};
-ghost use Rattle.cpg_table.specs.Head.{extra_at};
+ghost use Rattle.cpg_head.specs.Head.{extra_at};
 ghost use Rattle.cpg_codec.specs.Spelling.{byte, bit, name_bytes, own_number, extra_bytes, written, process_bytes, edge_bytes, head_bytes};
 ghost use Rattle.cpg_codec.specs.Writing.{Puts, IsShortEdge};
 
 use crate::buffer::Buffer;
 use crate::row_writing::{put_long, put_short};
 use cpg_base::Name;
+use cpg_head::{Extra, Head, HeadProcess};
 use cpg_io::{Failed, Sink};
-use cpg_table::{Extra, Head, HeadProcess};
 
 fn put_text<O: Sink>(buffer: &mut Buffer, sink: &mut O, text: &[u8]) -> Result<(), Failed>
     requires { length text.now ≤ 32 }

@@ -4,7 +4,8 @@ ghost use Rattle.cpg_base.specs.Name.{IsName};
 ghost use Rattle.cpg_codec.specs.Packs.{AreLawful};
 
 use cpg_base::Name;
-use cpg_table::{HeadProcess, Tables};
+use cpg_head::HeadProcess;
+use cpg_table::Tables;
 
 /// Names are names.
 fn nodes_are_named(names: &[Name])

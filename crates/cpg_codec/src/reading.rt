@@ -11,7 +11,8 @@ use crate::fault::ReadError;
 use crate::head_reading::head_of;
 use crate::row_reading::table_of;
 use crate::space::Space;
-use cpg_table::{Head, NodeItems, NodeTable, Tables};
+use cpg_head::Head;
+use cpg_table::{NodeItems, NodeTable, Tables};
 use std::alloc::Global;
 
 /// The tables of all nodes.

@@ -15,8 +15,9 @@ use crate::fixed::{
 use crate::row_taking::take_table;
 use crate::space::Space;
 use cpg_base::{FIRST_VALUE, MOST_COLUMNS, MOST_LOAD, OutOfMemory, top};
-use cpg_cube::{Cube, Literal};
-use cpg_table::{Entry, Head, NodeTable, Row};
+use cpg_cube::{Cube, Entry, Literal};
+use cpg_head::Head;
+use cpg_table::{NodeTable, Row};
 use std::alloc::Global;
 
 /// Times are below this, in time units of the graph file.

@@ -9,8 +9,9 @@ ghost use Rattle.cpg_codec.specs.Grammar.{IsSpace, node_table_at};
 
 use crate::fault::Untaken;
 use cpg_base::MOST_LOAD;
-use cpg_cube::{Cube, Literal};
-use cpg_table::{Entry, Head, NodeTable, Row};
+use cpg_cube::{Cube, Entry, Literal};
+use cpg_head::Head;
+use cpg_table::{NodeTable, Row};
 use std::alloc::Global;
 
 /// The time of a column, in time units of the graph file, and how many literals it has.

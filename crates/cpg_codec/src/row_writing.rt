@@ -7,9 +7,9 @@ ghost use Rattle.cpg_codec.specs.Spelling.{byte, literal_bytes, column_bytes, ro
 ghost use Rattle.cpg_codec.specs.Writing.{Puts, IsShortRow};
 
 use crate::buffer::Buffer;
-use cpg_cube::Literal;
+use cpg_cube::{Entry, Literal};
 use cpg_io::{Failed, Sink};
-use cpg_table::{Entry, NodeTable, Row};
+use cpg_table::{NodeTable, Row};
 
 /// A number of eight bytes.
 pub fn put_long<O: Sink>(buffer: &mut Buffer, sink: &mut O, number: u64) -> Result<(), Failed>

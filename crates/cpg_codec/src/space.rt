@@ -3,7 +3,7 @@ ghost use Rattle.std.specs.Prelude.{◌≡◌, count_by};
 ghost use Rattle.cpg_table.specs.Lawful.{space_of};
 ghost use Rattle.cpg_codec.specs.Grammar.{limit, fault_end, is_variable, room, IsSpace};
 
-use cpg_table::{Head, HeadProcess};
+use cpg_head::{Head, HeadProcess};
 use std::marker::Model;
 
 /// The variable of the first condition's value.

@@ -4,7 +4,7 @@ use Rattle.cpg_base.specs.Graph.{Graph, process_count, item_at, home, condition_
 use Rattle.cpg_base.specs.Bus.{slot_length}
 use Rattle.cpg_base.specs.Duration.{duration}
 use Rattle.cpg_base.specs.WellFormed.{WellFormed, HasSingleJoins}
-use Rattle.cpg_order.specs.Scenario.{Scenario, IsScenario, fault_of, value_in_key}
+use Rattle.cpg_base.specs.Scenario.{Scenario, IsScenario, fault_of, value_in_key}
 use Rattle.cpg_order.specs.Urgency.{IsTopological, IsUrgencyOrder}
 use Rattle.cpg_table.specs.Table.{NodeTable}
 use Rattle.cpg_run.specs.Alike.{seen, value_of_frame, seen_end, seen_frame, AreAlike}

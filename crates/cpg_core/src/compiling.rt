@@ -9,12 +9,11 @@ ghost use Rattle.cpg_core.specs.Compiled.{IsHelpless};
 ghost use Rattle.cpg_core.specs.Compilation.{IsCompilation, IsPreferredTo, HasNoBetter, ShowsCompileFault};
 
 use crate::CompileFault;
-use cpg_base::{OutOfMemory, Problem};
+use cpg_base::{Order, OutOfMemory, Problem};
 use cpg_expand::{expand as build, expand_better};
-use cpg_merge::merged_order;
-use cpg_order::Order;
 use cpg_rules::Admitted;
 use cpg_run::{BuildFault, Built};
+use cpg_tracks::merged_order;
 use std::alloc::Global;
 
 /// The tables of a graph, and the order that they were built under.

@@ -6,9 +6,9 @@ use Rattle.std.proofs.lemmas.Bool.{and_right, and_left}
 use Rattle.std.proofs.lemmas.List.Sorted.{Contains-permutation, IsPermutation-sym}
 use Rattle.cpg_base.specs.Graph.{Graph, process_count, IsVariable}
 use Rattle.cpg_base.proofs.Lists.{from_all, all_from, same_truth}
-use Rattle.cpg_order.specs.Scenario.{Scenario, IsScenario, IsLeast}
-use Rattle.cpg_order.specs.First.{IsFirst, earlier}
-use Rattle.cpg_order.proofs.First.{first_same, first_or}
+use Rattle.cpg_base.specs.Scenario.{Scenario, IsScenario, IsLeast}
+use Rattle.cpg_base.specs.First.{IsFirst, earlier}
+use Rattle.cpg_base.proofs.First.{first_same, first_or}
 use Rattle.cpg_cube.specs.Cube.{Literal, holds, matches}
 use Rattle.cpg_base.specs.Variable.{top}
 use Rattle.cpg_cube.specs.Cover.{is_left, narrowed_by, with_literal}

@@ -8,9 +8,9 @@ use Rattle.cpg_base.specs.Numbers.{numbers_below}
 use Rattle.cpg_base.specs.Graph.{Graph, process_count, condition_count, condition_of, value_variable, IsVariable}
 use Rattle.cpg_base.specs.Variable.{top}
 use Rattle.cpg_base.proofs.Lists.{from_all, same_flat_map}
-use Rattle.cpg_order.specs.Scenario.{key, fault_of, number_of, value_in_key}
-use Rattle.cpg_order.proofs.Scenarios.{number_of-fault, number_of-value}
-use Rattle.cpg_order.proofs.Along.{condition_of_below}
+use Rattle.cpg_base.specs.Scenario.{fault_of, number_of, key, value_in_key}
+use Rattle.cpg_base.proofs.NumbersOf.{number_of-fault, number_of-value}
+use Rattle.cpg_base.proofs.ConditionProcesses.{condition_of_below}
 use Rattle.cpg_cube.specs.Cube.{Literal, low_in}
 use Rattle.cpg_cube.specs.Fit.{lows, is_met, is_open, asked_faults}
 use Rattle.cpg_cube.specs.Keys.{low_of_value, lows_of, lows_along}

@@ -9,7 +9,7 @@ use Rattle.cpg_base.specs.Graph.{Graph, process_count, process_of, condition_of,
 use Rattle.cpg_base.specs.Numbers.{numbers_below}
 use Rattle.cpg_base.proofs.Lists.{Contains-first, Contains-rest, Contains-cases, Contains-nil, same_map}
 use Rattle.cpg_base.proofs.Pairs.{AllPairs-first, AllPairs-rest, AllPairs-nil, AllPairs-cons_by, AllPairs-flat_map_in, order_apart}
-use Rattle.cpg_order.proofs.Conditions.{process_of_condition_of}
+use Rattle.cpg_base.proofs.ConditionProcesses.{process_of_condition_of}
 use Rattle.cpg_cube.specs.Cube.{Literal, IsRising, low_in}
 use Rattle.cpg_cube.specs.Keys.{asked_from, key_by, left_at, ArePlaces, place_in, with_asked, with_any_asked, with_low_of, with_lows_of, variable_of_value, variables_of, variables_along}
 use Rattle.cpg_cube.proofs.BoundSteps.{low_in-last, low_in-before}

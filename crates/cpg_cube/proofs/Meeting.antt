@@ -9,7 +9,7 @@ use Rattle.cpg_base.specs.Graph.{Graph, process_count, condition_count, value_va
 use Rattle.cpg_base.specs.Limits.{IsWithinLimits}
 use Rattle.cpg_base.proofs.Lists.{same_map, numbers-Contains, from_all, all_from}
 use Rattle.cpg_base.proofs.Sums.{sum_by-le_each}
-use Rattle.cpg_order.specs.Scenario.{Scenario, IsScenario}
+use Rattle.cpg_base.specs.Scenario.{Scenario, IsScenario}
 use Rattle.cpg_cube.specs.Cube.{Literal, holds, matches, low_in}
 use Rattle.cpg_cube.specs.Fit.{IsCube, asked_of_literal, asked_faults, is_open, is_met, scenario_of, both_low, reaches, do_meet, both_lows, bounds, is_within}
 use Rattle.cpg_cube.specs.Bounds.{AreBounds, AreRaised, budget_left, touches, more_asked, spans}

@@ -2,8 +2,8 @@
 ghost use Rattle.std.specs.Prelude.{◌≡◌, ◌≤◌, ◌<◌, ◌↔◌, ◌&&◌, Bool, ℕ, All, IfNone, IfOk, IfSome, IsNone, IsPermutation, IsTrue, None, Some, false, length, map, not, true, vec_len};
 ghost use Rattle.std.specs.List.{list_any};
 ghost use Rattle.cpg_base.specs.Graph.{IsVariable, process_count};
-ghost use Rattle.cpg_order.specs.First.{IsFirst, earlier};
-ghost use Rattle.cpg_order.specs.Scenario.{Scenario, IsLeast, IsScenario};
+ghost use Rattle.cpg_base.specs.First.{IsFirst, earlier};
+ghost use Rattle.cpg_base.specs.Scenario.{Scenario, IsScenario, IsLeast};
 ghost use Rattle.cpg_cube.specs.Cube.{Literal, matches};
 ghost use Rattle.cpg_cube.specs.Fit.{IsKnown};
 ghost use Rattle.cpg_cube.specs.Cover.{is_left, narrowed_by};
@@ -12,8 +12,7 @@ ghost use Rattle.cpg_cube.specs.Parts.{range_below, range_above};
 use crate::bounds::{Bounds, budget_left};
 use crate::frequency::by_frequency;
 use crate::{Cube, Literal};
-use cpg_base::{OutOfMemory, Problem, Scenario, top};
-use cpg_order::{Order, is_before};
+use cpg_base::{Order, OutOfMemory, Problem, Scenario, is_before, top};
 use std::alloc::Global;
 
 /// The earlier of two scenarios, where there are two.

@@ -3,8 +3,8 @@ ghost use Rattle.std.specs.Prelude.{◌≡◌, ◌<◌, ◌↔◌, ◌++◌, ◌
 ghost use Rattle.std.specs.Bool.{OnFalse, OnTrue};
 ghost use Rattle.cpg_base.specs.Graph.{condition_count, process_count};
 ghost use Rattle.cpg_base.specs.Limits.{IsWithinLimits};
-ghost use Rattle.cpg_order.specs.First.{IsFirst};
-ghost use Rattle.cpg_order.specs.Scenario.{Scenario, IsLeast, IsScenario};
+ghost use Rattle.cpg_base.specs.First.{IsFirst};
+ghost use Rattle.cpg_base.specs.Scenario.{Scenario, IsScenario, IsLeast};
 ghost use Rattle.cpg_cube.specs.Cube.{IsRising, holds, matches};
 ghost use Rattle.cpg_cube.specs.Rising.{rises_from};
 ghost use Rattle.cpg_cube.specs.Fit.{IsCube, IsKnown, is_met, lows, do_meet, both_lows, is_within, scenario_of};

@@ -6,8 +6,7 @@ ghost use Rattle.cpg_cube.specs.Keys.{AreByLows, ArePlaces, IsFirstByKeys, IsFir
 
 use crate::bounds::VARIABLES;
 use crate::{Cube, Literal};
-use cpg_base::{FIRST_VALUE, OutOfMemory, Problem};
-use cpg_order::Order;
+use cpg_base::{FIRST_VALUE, Order, OutOfMemory, Problem};
 use smallvec::SmallVec;
 use std::alloc::Global;
 

@@ -4,8 +4,8 @@ use Rattle.cpg_base.specs.Graph.{Graph, process_count, producer, producer_of_ite
 use Rattle.cpg_base.specs.Activity.{active, is_active, item_active}
 use Rattle.cpg_base.proofs.Items.{item_at-start}
 use Rattle.cpg_order.specs.Guard.{Guard, outcome_at, way}
-use Rattle.cpg_order.specs.Scenario.{Scenario, IsScenario}
-use Rattle.cpg_guard.specs.Guards.{Guards, tree_of}
+use Rattle.cpg_base.specs.Scenario.{Scenario, IsScenario}
+use Rattle.cpg_rules.specs.Guards.{Guards, tree_of}
 use Rattle.cpg_rules.specs.Admission.{IsAdmitted}
 use Rattle.cpg_tree.specs.Tree.{TreeState}
 use Rattle.cpg_expand.specs.Active.{IsActivityOf}

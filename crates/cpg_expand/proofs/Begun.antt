@@ -11,16 +11,17 @@ use Rattle.cpg_base.specs.Activity.{active, activation, item_active}
 use Rattle.cpg_base.specs.declared.item.Item.{Item}
 use Rattle.cpg_base.proofs.Items.{item_at-start}
 use Rattle.cpg_base.proofs.Lists.{Contains-nil, Contains-map, Contains-flat_map, Contains-flat_map_parts, Contains-map_parts}
-use Rattle.cpg_guard.specs.Guards.{Guards}
+use Rattle.cpg_rules.specs.Guards.{Guards}
 use Rattle.cpg_rules.specs.Admission.{IsAdmitted}
 use Rattle.cpg_order.specs.Deciding.{deciding}
 use Rattle.cpg_order.specs.Guard.{Guard, outcome_at, way, IsGuardOf}
-use Rattle.cpg_order.specs.Scenario.{Scenario, IsScenario, fault_of}
-use Rattle.cpg_order.specs.Urgency.{IsTopological, place, before_on_node}
+use Rattle.cpg_base.specs.Scenario.{Scenario, IsScenario, fault_of}
+use Rattle.cpg_order.specs.Urgency.{IsTopological}
+use Rattle.cpg_base.specs.Order.{place, before_on_node}
 use Rattle.cpg_order.proofs.Moments.{moment, moment_of_start, phase, phases, phase_below, sooner}
-use Rattle.cpg_order.proofs.Places.{Contains-order, same_place}
+use Rattle.cpg_base.proofs.Places.{Contains-order, same_place}
 use Rattle.cpg_cube.specs.declared.literal.Literal.{Literal}
-use Rattle.cpg_table.specs.Table.{Column}
+use Rattle.cpg_cube.specs.Column.{Column}
 use Rattle.cpg_run.specs.Run.{Times, IsRun, heard_there, unfrozen_time}
 use Rattle.cpg_run.specs.Carried.{row_at, decided, heard, received, carried, carried_by_item, carried_at_start, carried_at_end, passed, queued}
 use Rattle.cpg_run.specs.Known.{AreEarly, AreSmall}

@@ -4,8 +4,8 @@ use Rattle.std.proofs.lemmas.Bool.{cases_eq}
 use Rattle.std.proofs.lemmas.List.Elements.{All-set}
 use Rattle.cpg_base.specs.Graph.{Graph, process_at, process_count, condition_count, edge_count, node_of, inputs}
 use Rattle.cpg_base.proofs.Inputs.{inputs_parts}
-use Rattle.cpg_guard.specs.Guards.{Guards, tree_of}
-use Rattle.cpg_guard.specs.Trees.{TestsBelow}
+use Rattle.cpg_rules.specs.Guards.{Guards, tree_of}
+use Rattle.cpg_rules.specs.Trees.{TestsBelow}
 use Rattle.cpg_order.specs.Guard.{Guard, IsGuardOf}
 use Rattle.cpg_rules.specs.Admission.{IsAdmitted}
 use Rattle.cpg_table.proofs.NodeRows.{all_below}

@@ -7,15 +7,16 @@ use Rattle.cpg_base.specs.Graph.{Graph, process_at, process_count, condition_cou
 use Rattle.cpg_base.specs.Activity.{active}
 use Rattle.cpg_base.proofs.Items.{process_of_below}
 use Rattle.cpg_base.proofs.Lists.{Contains-cases, Contains-nil, Contains-filter, Contains-filter_parts, Contains-flat_map, Contains-flat_map_parts, Contains-map, numbers-Contains}
-use Rattle.cpg_order.specs.Urgency.{IsTopological, IsUrgencyOrder, place, before, before_on_node}
+use Rattle.cpg_order.specs.Urgency.{IsTopological, IsUrgencyOrder}
+use Rattle.cpg_base.specs.Order.{place, before, before_on_node}
 use Rattle.cpg_order.specs.Deciding.{decides, deciding}
-use Rattle.cpg_order.specs.Scenario.{Scenario}
+use Rattle.cpg_base.specs.Scenario.{Scenario}
 use Rattle.cpg_order.proofs.Acyclic.{input_goes_up}
 use Rattle.cpg_order.proofs.DecidingLaws.{decides_earlier, deciding_is_active}
-use Rattle.cpg_order.proofs.Places.{Contains-before, Contains-order, on_node_before}
+use Rattle.cpg_base.proofs.Places.{Contains-before, Contains-order, on_node_before}
 use Rattle.cpg_cube.specs.Cube.{matches}
 use Rattle.cpg_cube.specs.declared.literal.Literal.{Literal}
-use Rattle.cpg_table.specs.Table.{Column}
+use Rattle.cpg_cube.specs.Column.{Column}
 use Rattle.cpg_run.proofs.KnownRanges.{range_known}
 use Rattle.cpg_run.specs.Carried.{row_at, told_by, number_known, decided, heard, received, executed, passed, carried_at_start, carried_at_end}
 use Rattle.cpg_tree.specs.Tree.{Path, TreeState, IsOn}

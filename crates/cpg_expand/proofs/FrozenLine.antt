@@ -7,11 +7,11 @@ use Rattle.cpg_base.specs.declared.activation.Activation.{Activation}
 use Rattle.cpg_base.proofs.Items.{item_at-start}
 use Rattle.cpg_base.proofs.Lists.{get_or-map-below, greatest-cons, Contains-map, Contains-map_parts}
 use Rattle.cpg_order.specs.Deciding.{deciding}
-use Rattle.cpg_order.specs.Urgency.{before_on_node}
+use Rattle.cpg_base.specs.Order.{before_on_node}
 use Rattle.cpg_order.specs.Guard.{Guard, outcome_at, way}
-use Rattle.cpg_order.specs.Scenario.{Scenario}
+use Rattle.cpg_base.specs.Scenario.{Scenario}
 use Rattle.cpg_cube.specs.declared.literal.Literal.{Literal}
-use Rattle.cpg_table.specs.Table.{Column}
+use Rattle.cpg_cube.specs.Column.{Column}
 use Rattle.cpg_run.specs.Run.{Times, IsRun, unfrozen_time, time_by}
 use Rattle.cpg_run.specs.Carried.{decided, heard, received, passed, carried_at_start}
 use Rattle.cpg_tree.specs.Space.{HasFew}

@@ -6,9 +6,9 @@ use Rattle.cpg_base.specs.Graph.{Graph, item_count, item_at, is_frozen, producer
 use Rattle.cpg_base.specs.Activity.{active, item_active}
 use Rattle.cpg_base.proofs.Lists.{greatest-cons}
 use Rattle.cpg_order.specs.Queue.{queued_before}
-use Rattle.cpg_order.specs.Scenario.{Scenario}
+use Rattle.cpg_base.specs.Scenario.{Scenario}
 use Rattle.cpg_cube.specs.declared.literal.Literal.{Literal}
-use Rattle.cpg_table.specs.Table.{Column}
+use Rattle.cpg_cube.specs.Column.{Column}
 use Rattle.cpg_run.specs.Run.{Times, IsRun, unfrozen_time}
 use Rattle.cpg_run.specs.Carried.{decided, carried_at_end, carried_at_send, sent_by_value, queued}
 use Rattle.cpg_run.proofs.Runs.{time_is}

@@ -8,8 +8,8 @@ use Rattle.cpg_base.specs.Activity.{active, live, takes, item_active}
 use Rattle.cpg_base.specs.declared.item.Item.{Item}
 use Rattle.cpg_base.specs.declared.item.Item.TheVariants.{Start, Message, Broadcast}
 use Rattle.cpg_order.specs.Reach.{source_value, sent_value}
-use Rattle.cpg_order.specs.Scenario.{Scenario}
-use Rattle.cpg_order.proofs.Conditions.{condition_of_edge, condition_of_process_of}
+use Rattle.cpg_base.specs.Scenario.{Scenario}
+use Rattle.cpg_base.proofs.ConditionProcesses.{condition_of_edge, condition_of_process_of}
 use Rattle.cpg_cube.specs.declared.literal.Literal.{Literal}
 use Rattle.cpg_run.specs.Carried.{number_known, sent_by_value}
 use Rattle.cpg_tree.specs.Space.{HasFew}

@@ -9,11 +9,12 @@ use Rattle.cpg_base.proofs.Items.{item_cases, ItemCases, item_at-start}
 use Rattle.cpg_base.proofs.Lists.{Contains-nil, Contains-flat_map, Contains-flat_map_parts}
 use Rattle.cpg_bus.specs.Plan.{queue_of}
 use Rattle.cpg_bus.proofs.Queued.{in_queue, queue-Contains}
-use Rattle.cpg_order.specs.Scenario.{Scenario}
-use Rattle.cpg_order.specs.Urgency.{IsTopological, place}
+use Rattle.cpg_base.specs.Scenario.{Scenario}
+use Rattle.cpg_order.specs.Urgency.{IsTopological}
+use Rattle.cpg_base.specs.Order.{place}
 use Rattle.cpg_order.proofs.Moments.{producer_in_range}
-use Rattle.cpg_order.proofs.Places.{Contains-order, same_place}
-use Rattle.cpg_table.specs.Table.{Column}
+use Rattle.cpg_base.proofs.Places.{Contains-order, same_place}
+use Rattle.cpg_cube.specs.Column.{Column}
 use Rattle.cpg_run.specs.Run.{Times, IsRun}
 use Rattle.cpg_run.specs.Carried.{carried, queued}
 use Rattle.cpg_run.proofs.Runs.{time_is}

@@ -7,12 +7,14 @@ use Rattle.std.proofs.lemmas.List.FromFn.{length-range_with_len, get_or-range_wi
 use Rattle.cpg_base.specs.Graph.{Graph, process_count, item_count, producer}
 use Rattle.cpg_base.specs.Numbers.{numbers_below}
 use Rattle.cpg_base.proofs.Items.{producer_within}
-use Rattle.cpg_guard.specs.Guards.{Guards}
-use Rattle.cpg_order.specs.Urgency.{IsTopological, place}
-use Rattle.cpg_order.proofs.Places.{place_in_order}
+use Rattle.cpg_rules.specs.Guards.{Guards}
+use Rattle.cpg_order.specs.Urgency.{IsTopological}
+use Rattle.cpg_base.specs.Order.{place}
+use Rattle.cpg_base.proofs.Places.{place_in_order}
 use Rattle.cpg_rules.specs.Admission.{IsAdmitted}
 use Rattle.cpg_table.specs.Shape.{items_of}
-use Rattle.cpg_table.specs.Table.{Column, Row}
+use Rattle.cpg_table.specs.Table.{Row}
+use Rattle.cpg_cube.specs.Column.{Column}
 use Rattle.cpg_table.proofs.NodeRows.{no_row}
 use Rattle.cpg_run.specs.Carried.{row_at}
 use Rattle.cpg_run.specs.Carrying.{IsCarryingRow, AreCarrying}

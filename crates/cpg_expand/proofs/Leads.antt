@@ -9,7 +9,8 @@ use Rattle.cpg_base.specs.declared.activation.Activation.TheVariants.{Inactive, 
 use Rattle.cpg_base.proofs.Inputs.{inputs_parts}
 use Rattle.cpg_base.proofs.Lists.{Contains-first, Contains-filter_parts}
 use Rattle.cpg_order.specs.Guard.{Guard, Leaf, Test, outcome_at, IsOrderedFrom, IsGuardOf}
-use Rattle.cpg_order.specs.Urgency.{IsTopological, place}
+use Rattle.cpg_order.specs.Urgency.{IsTopological}
+use Rattle.cpg_base.specs.Order.{place}
 use Rattle.cpg_order.proofs.Acyclic.{activation_is}
 use Rattle.cpg_expand.specs.Guarded.{IsByBelow, LeadsBelow}
 

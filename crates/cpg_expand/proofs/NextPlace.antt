@@ -7,12 +7,13 @@ use Rattle.cpg_base.specs.Activity.{active}
 use Rattle.cpg_base.specs.Limits.{IsWithinLimits}
 use Rattle.cpg_base.proofs.Lists.{Contains-filter, Contains-filter_parts, Contains-flat_map, Contains-flat_map_parts}
 use Rattle.cpg_order.specs.Deciding.{decides}
-use Rattle.cpg_order.specs.Scenario.{Scenario}
-use Rattle.cpg_order.specs.Urgency.{IsTopological, place, before_on_node}
+use Rattle.cpg_base.specs.Scenario.{Scenario}
+use Rattle.cpg_order.specs.Urgency.{IsTopological}
+use Rattle.cpg_base.specs.Order.{place, before_on_node}
 use Rattle.cpg_order.proofs.Moments.{moment}
-use Rattle.cpg_order.proofs.Places.{Contains-order, get_or-place, place-lt}
+use Rattle.cpg_base.proofs.Places.{Contains-order, get_or-place, place-lt}
 use Rattle.cpg_cube.specs.declared.literal.Literal.{Literal}
-use Rattle.cpg_table.specs.Table.{Column}
+use Rattle.cpg_cube.specs.Column.{Column}
 use Rattle.cpg_run.specs.Run.{Times, IsRun, end_in, heard_there}
 use Rattle.cpg_run.specs.Carried.{passed}
 use Rattle.cpg_run.specs.Frozen.{IsFrozenTime}

@@ -8,7 +8,7 @@ use Rattle.cpg_base.specs.Graph.{Graph, process_count}
 use Rattle.cpg_base.specs.Duration.{due}
 use Rattle.cpg_base.proofs.Lists.{numbers-Contains, Contains-numbers, Contains-map, Contains-map_parts, greatest_above, greatest_cases}
 use Rattle.cpg_order.specs.Urgency.{IsTopological}
-use Rattle.cpg_order.specs.Scenario.{Scenario, IsScenario, IsLeast, is_before}
+use Rattle.cpg_base.specs.Scenario.{Scenario, IsScenario, IsLeast, is_before}
 use Rattle.cpg_run.specs.Run.{Times, IsRun}
 use Rattle.cpg_run.specs.Finish.{IsLeastEnding, IsWorst, excess_of, excess_in_run, IsLeastExceeding, IsExcess}
 use Rattle.cpg_run.proofs.Ends.{end_below, finish_is_end, finish_of_none}

@@ -5,12 +5,13 @@ use Rattle.cpg_base.specs.Graph.{Graph}
 use Rattle.cpg_base.specs.Activity.{active, activation, is_active}
 use Rattle.cpg_base.specs.declared.activation.Activation.{Activation}
 use Rattle.cpg_base.proofs.Lists.{Contains-map, Contains-map_parts}
-use Rattle.cpg_order.specs.Urgency.{IsTopological, before_on_node}
+use Rattle.cpg_order.specs.Urgency.{IsTopological}
+use Rattle.cpg_base.specs.Order.{before_on_node}
 use Rattle.cpg_order.specs.Deciding.{deciding}
 use Rattle.cpg_order.specs.Guard.{Guard, outcome_at, way}
-use Rattle.cpg_order.specs.Scenario.{Scenario}
+use Rattle.cpg_base.specs.Scenario.{Scenario}
 use Rattle.cpg_cube.specs.declared.literal.Literal.{Literal}
-use Rattle.cpg_table.specs.Table.{Column}
+use Rattle.cpg_cube.specs.Column.{Column}
 use Rattle.cpg_run.specs.Run.{Times, end_in}
 use Rattle.cpg_run.specs.Carried.{decided, heard, passed, carried_at_end}
 use Rattle.cpg_run.specs.Known.{AreSmall}

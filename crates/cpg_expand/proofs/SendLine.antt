@@ -6,10 +6,10 @@ use Rattle.cpg_base.specs.Activity.{active, item_active}
 use Rattle.cpg_base.proofs.Lists.{Contains-nil}
 use Rattle.cpg_bus.specs.Share.{ShareState}
 use Rattle.cpg_order.specs.Queue.{queued_before}
-use Rattle.cpg_order.specs.Urgency.{before_on_node}
-use Rattle.cpg_order.specs.Scenario.{Scenario}
+use Rattle.cpg_base.specs.Order.{before_on_node}
+use Rattle.cpg_base.specs.Scenario.{Scenario}
 use Rattle.cpg_cube.specs.declared.literal.Literal.{Literal}
-use Rattle.cpg_table.specs.Table.{Column}
+use Rattle.cpg_cube.specs.Column.{Column}
 use Rattle.cpg_run.specs.Carried.{number_known, decided, heard, received, passed, carried_at_start, carried_at_end, carried_at_send, sent_by_value, queued}
 use Rattle.cpg_tree.specs.Space.{HasFew}
 use Rattle.cpg_tree.specs.Tree.{TreeState}

@@ -9,7 +9,7 @@ use Rattle.cpg_bus.specs.Plan.{queue_of}
 use Rattle.cpg_bus.specs.Share.{ShareState, share_of, next_of}
 use Rattle.cpg_bus.proofs.Queued.{in_queue}
 use Rattle.cpg_order.specs.Urgency.{IsTopological}
-use Rattle.cpg_order.specs.Scenario.{Scenario}
+use Rattle.cpg_base.specs.Scenario.{Scenario}
 use Rattle.cpg_run.specs.Run.{Times, IsRun, time_in, end_in, unfrozen_time}
 use Rattle.cpg_run.specs.Known.{AreSmall, frozen_in}
 use Rattle.cpg_run.specs.Most.{IsMost}

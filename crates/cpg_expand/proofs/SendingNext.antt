@@ -12,15 +12,16 @@ use Rattle.cpg_base.proofs.Lists.{Contains-cases, Contains-nil, Contains-filter,
 use Rattle.cpg_bus.specs.Plan.{queue_of}
 use Rattle.cpg_bus.specs.Share.{share_of}
 use Rattle.cpg_bus.proofs.Queued.{in_queue}
-use Rattle.cpg_guard.proofs.Ways.{ways_are_deciding}
+use Rattle.cpg_rules.proofs.Ways.{ways_are_deciding}
 use Rattle.cpg_order.specs.Counting.{conditions_along}
 use Rattle.cpg_order.specs.Deciding.{decides, deciding}
 use Rattle.cpg_order.specs.Guard.{Guard, way, outcome_at, IsGuardOf}
-use Rattle.cpg_order.specs.Scenario.{Scenario, IsScenario}
-use Rattle.cpg_order.specs.Urgency.{IsTopological, IsUrgencyOrder, place}
+use Rattle.cpg_base.specs.Scenario.{Scenario, IsScenario}
+use Rattle.cpg_order.specs.Urgency.{IsTopological, IsUrgencyOrder}
+use Rattle.cpg_base.specs.Order.{place}
 use Rattle.cpg_order.proofs.Along.{from_along}
 use Rattle.cpg_order.proofs.Moments.{moment}
-use Rattle.cpg_table.specs.Table.{Column}
+use Rattle.cpg_cube.specs.Column.{Column}
 use Rattle.cpg_run.specs.Run.{Times, IsRun, unfrozen_time}
 use Rattle.cpg_run.specs.Carried.{decided, sent_by_value, carried, carried_by_item, carried_at_end, carried_at_send, queued}
 use Rattle.cpg_run.specs.Known.{AreEarly, AreSmall}

@@ -9,11 +9,12 @@ use Rattle.cpg_bus.specs.Plan.{queue_of}
 use Rattle.cpg_bus.proofs.Queued.{in_queue, below_first, rank_at, queue_rises}
 use Rattle.cpg_order.specs.Deciding.{decides}
 use Rattle.cpg_order.specs.Queue.{rank_of_item}
-use Rattle.cpg_order.specs.Scenario.{Scenario}
-use Rattle.cpg_order.specs.Urgency.{IsTopological, place}
+use Rattle.cpg_base.specs.Scenario.{Scenario}
+use Rattle.cpg_order.specs.Urgency.{IsTopological}
+use Rattle.cpg_base.specs.Order.{place}
 use Rattle.cpg_order.proofs.DecidingLaws.{decides_earlier}
 use Rattle.cpg_order.proofs.Moments.{phase, phases, phase_below, phase_is_rank, moment, moment_of_end, moment_of_start, sooner, broadcast_sooner, end_sooner}
-use Rattle.cpg_table.specs.Table.{Column}
+use Rattle.cpg_cube.specs.Column.{Column}
 use Rattle.cpg_run.specs.Run.{Times, end_in, heard_there}
 use Rattle.cpg_run.specs.Carried.{carried, carried_at_end}
 use Rattle.cpg_run.specs.Most.{IsMost}

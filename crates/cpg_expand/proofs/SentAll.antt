@@ -5,16 +5,17 @@ use Rattle.cpg_base.specs.Graph.{Graph, process_count, node_of}
 use Rattle.cpg_base.proofs.Lists.{Contains-filter, Contains-filter_parts, Contains-flat_map, Contains-flat_map_parts, Contains-nil}
 use Rattle.cpg_bus.specs.Plan.{queue_of}
 use Rattle.cpg_cube.specs.declared.literal.Literal.{Literal}
-use Rattle.cpg_order.specs.Scenario.{Scenario}
-use Rattle.cpg_order.specs.Urgency.{IsTopological, place}
-use Rattle.cpg_order.proofs.Places.{Contains-order, get_or-place, place-lt}
+use Rattle.cpg_base.specs.Scenario.{Scenario}
+use Rattle.cpg_order.specs.Urgency.{IsTopological}
+use Rattle.cpg_base.specs.Order.{place}
+use Rattle.cpg_base.proofs.Places.{Contains-order, get_or-place, place-lt}
 use Rattle.cpg_run.specs.Carried.{queued}
 use Rattle.cpg_run.specs.Run.{Times, IsRun}
 use Rattle.cpg_run.specs.Progress.{IsSentBefore, IsSentBy, IsFree, free_after}
 use Rattle.cpg_run.proofs.Mosts.{most_same}
 use Rattle.cpg_run.proofs.Sends.{in_next, Contains-take}
 use Rattle.cpg_run.proofs.Steps.{free_here}
-use Rattle.cpg_table.specs.Table.{Column}
+use Rattle.cpg_cube.specs.Column.{Column}
 use Rattle.cpg_expand.specs.Agreeing.{Tells}
 use Rattle.cpg_expand.specs.Forest.{ForestState}
 use Rattle.cpg_expand.specs.Sent.{IsFreeOnce, sent_before, sent_so_far}

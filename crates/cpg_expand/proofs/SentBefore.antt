@@ -9,14 +9,15 @@ use Rattle.cpg_bus.specs.Plan.{queue_of}
 use Rattle.cpg_bus.proofs.Queued.{in_queue, queue-Contains, queue_rises, below_first, in_first, rank_at}
 use Rattle.cpg_cube.specs.declared.literal.Literal.{Literal}
 use Rattle.cpg_order.specs.Queue.{is_queued_before, queued_before, rank_of_item}
-use Rattle.cpg_order.specs.Scenario.{Scenario}
-use Rattle.cpg_order.specs.Urgency.{IsTopological, place, before, before_on_node, comes_before}
+use Rattle.cpg_base.specs.Scenario.{Scenario}
+use Rattle.cpg_order.specs.Urgency.{IsTopological}
+use Rattle.cpg_base.specs.Order.{place, before, before_on_node, comes_before}
 use Rattle.cpg_order.proofs.Moments.{producer_in_range}
-use Rattle.cpg_order.proofs.Places.{Contains-order, Contains-before, on_node_before, places_from_comes_before, comes_before_from_places}
+use Rattle.cpg_base.proofs.Places.{Contains-order, Contains-before, on_node_before, places_from_comes_before, comes_before_from_places}
 use Rattle.cpg_order.proofs.Queues.{queued_from}
 use Rattle.cpg_run.specs.Carried.{queued}
 use Rattle.cpg_run.proofs.Sends.{here_sent, in_next, Contains-take}
-use Rattle.cpg_table.specs.Table.{Column}
+use Rattle.cpg_cube.specs.Column.{Column}
 use Rattle.cpg_tree.specs.Tree.{TreeState}
 use Rattle.cpg_expand.specs.Agreeing.{Tells}
 use Rattle.cpg_expand.specs.Sent.{sent_before, sent_so_far}

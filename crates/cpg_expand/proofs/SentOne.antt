@@ -4,7 +4,7 @@ use Rattle.std.proofs.lemmas.Bool.{cond-false, cases_Bool}
 use Rattle.std.proofs.lemmas.List.Elements.{Contains-append_cases, Contains-append_left, Contains-append_right}
 use Rattle.cpg_base.specs.Bus.{round}
 use Rattle.cpg_base.specs.Limits.{IsWithinLimits}
-use Rattle.cpg_base.specs.Scenario.{IsScenario}
+use Rattle.cpg_base.specs.Scenario.{IsScenario, Scenario}
 use Rattle.cpg_base.specs.Graph.{Graph, process_count, item_count, item_at, node_of, home, producer, is_frozen}
 use Rattle.cpg_base.specs.Activity.{active, item_active}
 use Rattle.cpg_base.proofs.Bounds.{round-le}
@@ -14,9 +14,8 @@ use Rattle.cpg_bus.specs.Share.{share_of}
 use Rattle.cpg_bus.proofs.Queued.{in_queue}
 use Rattle.cpg_cube.specs.declared.literal.Literal.{Literal}
 use Rattle.cpg_order.specs.Queue.{queued_before}
-use Rattle.cpg_order.specs.Scenario.{Scenario}
 use Rattle.cpg_order.specs.Urgency.{IsTopological}
-use Rattle.cpg_table.specs.Table.{Column}
+use Rattle.cpg_cube.specs.Column.{Column}
 use Rattle.cpg_run.specs.Run.{Times, IsRun, unfrozen_time}
 use Rattle.cpg_run.specs.Carried.{decided, sent_by_value, carried_at_end, carried_at_send, queued}
 use Rattle.cpg_run.specs.Frozen.{IsFrozenTime, WouldHave}

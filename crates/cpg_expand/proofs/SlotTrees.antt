@@ -1,6 +1,6 @@
 -- The trees of free slots, made in three steps.
 use Rattle.std.proofs.Common.{ℕ, ◌^◌, ◌≡◌, max, Bool, true, false, nat_lt, Option, Some, None, List, if◌then◌else◌, arith, refl, sym, ap, ◌∙◌, subst}
-use Rattle.cpg_order.specs.Scenario.{Scenario}
+use Rattle.cpg_base.specs.Scenario.{Scenario}
 use Rattle.cpg_bus.specs.Share.{ShareState, next_of}
 use Rattle.cpg_cube.specs.declared.literal.Literal.{Literal}
 use Rattle.cpg_tree.specs.Space.{HasFew}

@@ -11,19 +11,19 @@ use Rattle.cpg_base.specs.declared.activation.Activation.{Activation}
 use Rattle.cpg_base.specs.declared.activation.Activation.TheVariants.{Inactive, Plain, By}
 use Rattle.cpg_base.proofs.Inputs.{inputs_parts}
 use Rattle.cpg_base.proofs.Items.{item_at-message, item_at-broadcast, process_of_below}
-use Rattle.cpg_base.proofs.Lists.{Contains-filter_parts, Contains-flat_map_parts, Contains-nil, Contains-map, Contains-map_parts, numbers-Contains}
-use Rattle.cpg_order.specs.Urgency.{IsTopological, IsUrgencyOrder, place, before_on_node}
+use Rattle.cpg_base.proofs.Lists.{Contains-filter_parts, Contains-flat_map_parts, Contains-nil, Contains-map, Contains-map_parts, numbers-Contains, Contains-filter, Contains-numbers}
+use Rattle.cpg_order.specs.Urgency.{IsTopological, IsUrgencyOrder}
+use Rattle.cpg_base.specs.Order.{place, before_on_node}
 use Rattle.cpg_order.specs.Deciding.{decides, deciding}
 use Rattle.cpg_order.specs.Guard.{Guard, outcome_at, way, IsGuardOf}
 use Rattle.cpg_order.specs.Counting.{conditions_along}
-use Rattle.cpg_order.specs.Scenario.{Scenario}
+use Rattle.cpg_base.specs.Scenario.{Scenario}
 use Rattle.cpg_order.proofs.Acyclic.{input_goes_up, source_in_order}
 use Rattle.cpg_order.proofs.Along.{from_along}
 use Rattle.cpg_order.proofs.DecidingLaws.{decides_earlier, deciding_is_active}
-use Rattle.cpg_base.proofs.Lists.{Contains-filter, Contains-numbers}
-use Rattle.cpg_guard.proofs.Ways.{ways_are_deciding}
+use Rattle.cpg_rules.proofs.Ways.{ways_are_deciding}
 use Rattle.cpg_cube.specs.declared.literal.Literal.{Literal}
-use Rattle.cpg_table.specs.Table.{Column}
+use Rattle.cpg_cube.specs.Column.{Column}
 use Rattle.cpg_run.specs.Run.{Times, end_in, input_bounds, heard_there}
 use Rattle.cpg_run.specs.Carried.{told_by, decided, heard, passed, carried_at_start, carried_at_end}
 use Rattle.cpg_run.proofs.CarriedBefore.{producer_of_message, hears_earlier}

@@ -11,7 +11,7 @@ use Rattle.cpg_base.specs.WellFormed.{HasSingleJoins}
 use Rattle.cpg_base.specs.declared.activation.Activation.{Activation}
 use Rattle.cpg_base.specs.declared.activation.Activation.TheVariants.{Inactive, Plain}
 use Rattle.cpg_base.proofs.Bounds.{round-le, slot_length-le}
-use Rattle.cpg_order.specs.Scenario.{Scenario}
+use Rattle.cpg_base.specs.Scenario.{Scenario}
 use Rattle.cpg_order.specs.Urgency.{IsTopological}
 use Rattle.cpg_order.proofs.Acyclic.{activation_is}
 use Rattle.cpg_run.specs.Run.{Times, end_in, frame_there, input_there, heard_there, input_bounds}

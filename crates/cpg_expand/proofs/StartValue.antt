@@ -6,17 +6,17 @@ use Rattle.cpg_base.specs.Limits.{IsWithinLimits}
 use Rattle.cpg_base.specs.Duration.{duration}
 use Rattle.cpg_base.specs.Graph.{Graph, process_at, process_count, condition_count, item_count, node_of, inputs, producer}
 use Rattle.cpg_base.specs.Activity.{active, item_active, live}
-use Rattle.cpg_base.specs.Scenario.{IsScenario}
+use Rattle.cpg_base.specs.Scenario.{IsScenario, Scenario, fault_of, number_of}
 use Rattle.cpg_base.proofs.Items.{item_at-start}
 use Rattle.cpg_base.proofs.Lists.{get_or-map-below, greatest-map-le, Contains-filter_parts}
-use Rattle.cpg_order.specs.Urgency.{IsTopological, IsUrgencyOrder, place}
+use Rattle.cpg_order.specs.Urgency.{IsTopological, IsUrgencyOrder}
+use Rattle.cpg_base.specs.Order.{place}
 use Rattle.cpg_order.specs.Deciding.{decides}
 use Rattle.cpg_order.specs.Guard.{Guard, way, IsGuardOf}
-use Rattle.cpg_order.specs.Scenario.{Scenario, fault_of, number_of}
-use Rattle.cpg_guard.proofs.Ways.{ways_are_deciding}
+use Rattle.cpg_rules.proofs.Ways.{ways_are_deciding}
 use Rattle.cpg_run.specs.Run.{Times, IsRun, end_in, input_bounds, input_there, heard_there, unfrozen_time, time_by, end_by}
 use Rattle.cpg_base.proofs.Durations.{duration_short}
-use Rattle.cpg_table.specs.Table.{Column}
+use Rattle.cpg_cube.specs.Column.{Column}
 use Rattle.cpg_run.specs.Carried.{carried_at_start, carried_at_end}
 use Rattle.cpg_tree.specs.Space.{HasFew}
 use Rattle.cpg_tree.specs.Tree.{TreeState}

@@ -2,11 +2,11 @@
 use Rattle.std.proofs.Common.{ℕ, ◌+◌, ◌<◌, ◌≡◌, Bool, List, length, get_or, Option, sym, ap, ◌∙◌, subst}
 use Rattle.cpg_base.specs.Graph.{Graph, process_count}
 use Rattle.cpg_bus.specs.Plan.{queue_of}
-use Rattle.cpg_guard.specs.Guards.{Guards, tree_of}
-use Rattle.cpg_order.specs.Order.{IsOrder}
-use Rattle.cpg_order.specs.Urgency.{IsTopological, place}
-use Rattle.cpg_order.proofs.Places.{length_order}
-use Rattle.cpg_order.proofs.Standing.{place_at}
+use Rattle.cpg_rules.specs.Guards.{Guards, tree_of}
+use Rattle.cpg_base.specs.Order.{IsOrder, place}
+use Rattle.cpg_order.specs.Urgency.{IsTopological}
+use Rattle.cpg_base.proofs.Places.{length_order}
+use Rattle.cpg_base.proofs.Standing.{place_at}
 use Rattle.cpg_rules.specs.Admission.{IsAdmitted}
 use Rattle.cpg_tree.specs.Tree.{TreeState}
 use Rattle.cpg_expand.specs.Begun.{IsBegun}

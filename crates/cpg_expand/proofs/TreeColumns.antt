@@ -8,17 +8,17 @@ use Rattle.cpg_base.specs.Graph.{Graph, process_count}
 use Rattle.cpg_base.specs.Numbers.{numbers_below, is_below}
 use Rattle.cpg_base.proofs.Lists.{Contains-first, Contains-cases, Contains-nil, Contains-map, Contains-map_parts, Contains-filter, Contains-filter_parts, Contains-flat_map, Contains-flat_map_parts, filter_none}
 use Rattle.cpg_base.proofs.Pairs.{AllPairs-map}
-use Rattle.cpg_order.specs.Scenario.{Scenario, IsScenario}
+use Rattle.cpg_base.specs.Scenario.{Scenario, IsScenario}
 use Rattle.cpg_cube.specs.declared.literal.Literal.{Literal}
 use Rattle.cpg_cube.specs.Cube.{matches, is_whole, low_in}
 use Rattle.cpg_base.specs.Variable.{top}
 use Rattle.cpg_cube.specs.Fit.{IsCube}
-use Rattle.cpg_table.specs.Merged.{AreMet, AreOrdered, AreMergeable, IsLeastMatch, IsMergeOf}
-use Rattle.cpg_table.specs.Table.{Column, times_in}
-use Rattle.cpg_table.proofs.MergingEnds.{are_met, are_ordered}
-use Rattle.cpg_table.proofs.MergingLists.{AreGood}
-use Rattle.cpg_table.proofs.MergingPairs.{IsGood}
-use Rattle.cpg_table.proofs.MergingSteps.{AreSingle, single_permuted}
+use Rattle.cpg_merging.specs.Merged.{AreMet, AreOrdered, AreMergeable, IsLeastMatch, IsMergeOf}
+use Rattle.cpg_cube.specs.Column.{Column, times_in}
+use Rattle.cpg_merging.proofs.MergingEnds.{are_met, are_ordered}
+use Rattle.cpg_merging.proofs.MergingLists.{AreGood}
+use Rattle.cpg_merging.proofs.MergingPairs.{IsGood}
+use Rattle.cpg_merging.proofs.MergingSteps.{AreSingle, single_permuted}
 use Rattle.cpg_run.specs.Run.{Times, IsRun}
 use Rattle.cpg_run.proofs.RunExists.{a_run}
 use Rattle.cpg_run.specs.Carried.{row_at, carried}

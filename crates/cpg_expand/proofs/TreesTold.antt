@@ -9,10 +9,9 @@ use Rattle.cpg_base.specs.Graph.{Graph, process_count, condition_count, value_va
 use Rattle.cpg_base.specs.Activity.{is_active}
 use Rattle.cpg_base.specs.declared.activation.Activation.{Activation}
 use Rattle.cpg_base.specs.declared.activation.Activation.TheVariants.{Inactive}
-use Rattle.cpg_base.specs.Scenario.{number_of_value}
+use Rattle.cpg_base.specs.Scenario.{number_of_value, Scenario, number_of, fault_of}
 use Rattle.cpg_base.proofs.Lists.{Contains-first, Contains-rest, Contains-cases, Contains-map, Contains-map_parts, greatest-cons}
 use Rattle.cpg_order.specs.Guard.{Guard, Leaf, Test, outcome_at, way}
-use Rattle.cpg_order.specs.Scenario.{Scenario, number_of, fault_of}
 use Rattle.cpg_cube.specs.declared.literal.Literal.{Literal}
 use Rattle.cpg_table.specs.Heard.{exactly}
 use Rattle.cpg_tree.specs.Space.{HasFew}

@@ -6,12 +6,13 @@ use Rattle.cpg_base.specs.Graph.{Graph, process_at, process_count, condition_cou
 use Rattle.cpg_base.specs.Activity.{active, live}
 use Rattle.cpg_base.proofs.Items.{item_at-start}
 use Rattle.cpg_base.proofs.Lists.{greatest-le, greatest_above, Contains-cases, Contains-first, Contains-rest, Contains-nil, Contains-map, Contains-filter, Contains-filter_parts, Contains-flat_map, Contains-flat_map_parts, Contains-numbers, numbers-Contains}
-use Rattle.cpg_order.specs.Urgency.{IsTopological, IsUrgencyOrder, place, before, before_on_node}
+use Rattle.cpg_order.specs.Urgency.{IsTopological, IsUrgencyOrder}
+use Rattle.cpg_base.specs.Order.{place, before, before_on_node}
 use Rattle.cpg_order.specs.Deciding.{decides, deciding}
 use Rattle.cpg_order.specs.Guard.{Guard, way, IsGuardOf}
-use Rattle.cpg_order.specs.Scenario.{Scenario}
-use Rattle.cpg_order.proofs.Places.{Contains-order, Contains-before, from_order, on_node_before}
-use Rattle.cpg_guard.proofs.Ways.{ways_are_deciding}
+use Rattle.cpg_base.specs.Scenario.{Scenario}
+use Rattle.cpg_base.proofs.Places.{Contains-order, Contains-before, from_order, on_node_before}
+use Rattle.cpg_rules.proofs.Ways.{ways_are_deciding}
 use Rattle.cpg_run.specs.Run.{Times, end_in, input_there, heard_there, input_bounds, processor_bounds, hearing_bounds, start_bounds, bounds_of_item, unfrozen_time}
 use Rattle.cpg_run.specs.Most.{IsMost}
 use Rattle.cpg_run.specs.Progress.{IsReady}

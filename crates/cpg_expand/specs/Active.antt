@@ -2,7 +2,7 @@
 use Rattle.std.specs.Prelude.{ℕ, ◌≡◌, Bool}
 use Rattle.cpg_base.specs.Graph.{Graph, item_at}
 use Rattle.cpg_base.specs.Activity.{item_active}
-use Rattle.cpg_order.specs.Scenario.{Scenario, IsScenario}
+use Rattle.cpg_base.specs.Scenario.{Scenario, IsScenario}
 use Rattle.cpg_tree.specs.Tree.{Path, TreeState, IsOn}
 
 -- in each scenario whether an item is active

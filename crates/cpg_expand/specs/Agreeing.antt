@@ -1,6 +1,6 @@
 -- Trees that agree with what is carried in a scenario: their value there has a fact, and their path says no more than literals.
 use Rattle.std.specs.Prelude.{◌≡◌, List}
-use Rattle.cpg_order.specs.Scenario.{Scenario}
+use Rattle.cpg_base.specs.Scenario.{Scenario}
 use Rattle.cpg_cube.specs.declared.literal.Literal.{Literal}
 use Rattle.cpg_base.specs.Graph.{Graph}
 use Rattle.cpg_tree.specs.Tree.{Path, TreeState, IsOn, HasOnePathEach, DoPathsPass}

@@ -1,7 +1,7 @@
 -- What becomes of a tree of times that is frozen.
 use Rattle.std.specs.Prelude.{ℕ, ◌≡◌, ◌⊎◌, Bool, true, false, List, Option, Some, None, All, slice_set}
 use Rattle.cpg_base.specs.Graph.{Graph, is_frozen}
-use Rattle.cpg_order.specs.Scenario.{Scenario}
+use Rattle.cpg_base.specs.Scenario.{Scenario}
 use Rattle.cpg_tree.specs.Greatest.{IsGreatestOf}
 use Rattle.cpg_tree.specs.Tree.{TreeState, IsMap}
 use Rattle.cpg_expand.specs.Values.{time_if}

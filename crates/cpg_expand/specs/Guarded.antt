@@ -7,7 +7,7 @@ use Rattle.cpg_base.specs.Activity.{is_active}
 use Rattle.cpg_base.specs.declared.activation.Activation.{Activation}
 use Rattle.cpg_base.specs.declared.activation.Activation.TheVariants.{Inactive, Plain, By}
 use Rattle.cpg_order.specs.Guard.{Guard, Leaf, Test, outcome_at, way}
-use Rattle.cpg_order.specs.Scenario.{Scenario}
+use Rattle.cpg_base.specs.Scenario.{Scenario}
 use Rattle.cpg_cube.specs.declared.literal.Literal.{Literal}
 use Rattle.cpg_run.specs.Carried.{number_known}
 use Rattle.cpg_tree.specs.Space.{HasFew}

@@ -1,6 +1,6 @@
 -- Trees of times that are a delay after those of another, and of the later of two.
 use Rattle.std.specs.Prelude.{ℕ, max, List, ◌++◌, Option}
-use Rattle.cpg_order.specs.Scenario.{Scenario}
+use Rattle.cpg_base.specs.Scenario.{Scenario}
 use Rattle.cpg_cube.specs.declared.literal.Literal.{Literal}
 use Rattle.cpg_tree.specs.Space.{HasFew}
 use Rattle.cpg_tree.specs.Tree.{TreeState}

@@ -3,8 +3,9 @@ use Rattle.std.specs.Prelude.{ℕ, ◌≡◌, ◌<◌, ◌≤◌, List, Option, 
 use Rattle.cpg_base.specs.Graph.{Graph, item_count, process_count}
 use Rattle.cpg_cube.specs.declared.literal.Literal.{Literal}
 use Rattle.cpg_cube.specs.Keys.{AreByLows}
-use Rattle.cpg_table.specs.Merged.{IsMergeOf}
-use Rattle.cpg_table.specs.Table.{Column, Row}
+use Rattle.cpg_merging.specs.Merged.{IsMergeOf}
+use Rattle.cpg_table.specs.Table.{Row}
+use Rattle.cpg_cube.specs.Column.{Column}
 use Rattle.cpg_tree.specs.Tree.{TreeState}
 use Rattle.cpg_expand.specs.Forest.{no_tree}
 use Rattle.cpg_expand.specs.TreeRows.{as_column, AreListedOf}

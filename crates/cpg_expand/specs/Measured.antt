@@ -1,7 +1,7 @@
 -- The measures of an order: its greatest excess and its greatest finish, and whether they are better than others.
 use Rattle.std.specs.Prelude.{ℕ, ◌≡◌, ◌<◌, ◌⊎◌, ⊤, List, Option, None, Some}
 use Rattle.cpg_base.specs.Graph.{Graph}
-use Rattle.cpg_order.specs.Scenario.{Scenario}
+use Rattle.cpg_base.specs.Scenario.{Scenario}
 use Rattle.cpg_run.specs.Frozen.{AreFrozenTimes}
 use Rattle.cpg_run.specs.Finish.{IsWorst, IsExcess}
 

@@ -2,8 +2,7 @@
 use Rattle.std.specs.Prelude.{ℕ, ◌≡◌, ◌==◌, ◌≤◌, ◌<◌, ◌⊎◌, nat_lt, Bool, true, List, Option, Some, None, All, get_or, if◌then◌else◌}
 use Rattle.cpg_base.specs.Graph.{Graph, process_count}
 use Rattle.cpg_base.specs.Duration.{due}
-use Rattle.cpg_base.specs.Scenario.{zero_scenario}
-use Rattle.cpg_order.specs.Scenario.{Scenario, IsScenario, IsLeast, is_before}
+use Rattle.cpg_base.specs.Scenario.{zero_scenario, IsLeast, is_before, Scenario, IsScenario}
 use Rattle.cpg_order.specs.Urgency.{IsTopological}
 use Rattle.cpg_run.specs.Finish.{IsWorst, IsExcess}
 use Rattle.cpg_run.specs.Run.{Times, IsRun}

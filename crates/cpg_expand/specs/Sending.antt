@@ -5,7 +5,7 @@ use Rattle.cpg_base.specs.Activity.{active, live, item_active}
 use Rattle.cpg_base.specs.Numbers.{same_bool}
 use Rattle.cpg_bus.specs.Share.{ShareState}
 use Rattle.cpg_order.specs.Reach.{source_value}
-use Rattle.cpg_order.specs.Scenario.{Scenario}
+use Rattle.cpg_base.specs.Scenario.{Scenario}
 use Rattle.cpg_run.specs.Carried.{number_known, sent_by_value}
 use Rattle.cpg_cube.specs.declared.literal.Literal.{Literal}
 use Rattle.cpg_tree.specs.Space.{HasFew}

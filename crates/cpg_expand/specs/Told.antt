@@ -2,9 +2,9 @@
 use Rattle.std.specs.Prelude.{ℕ, ◌≡◌, ◌<◌, ◌≤◌, true, List, None, get_or}
 use Rattle.cpg_base.specs.Graph.{Graph, process_count, item_count, item_at, producer}
 use Rattle.cpg_base.specs.Activity.{active, item_active}
-use Rattle.cpg_order.specs.Scenario.{Scenario}
-use Rattle.cpg_order.specs.Urgency.{place}
-use Rattle.cpg_table.specs.Table.{Column}
+use Rattle.cpg_base.specs.Scenario.{Scenario}
+use Rattle.cpg_base.specs.Order.{place}
+use Rattle.cpg_cube.specs.Column.{Column}
 use Rattle.cpg_run.specs.Run.{Times}
 use Rattle.cpg_run.specs.Carried.{told_by, carried_at_end}
 use Rattle.cpg_expand.specs.Agreeing.{Tells}

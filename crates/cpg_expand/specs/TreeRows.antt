@@ -1,9 +1,9 @@
 -- The row of a tree: the columns that it lists.
 use Rattle.std.specs.Prelude.{ℕ, ◌≡◌, List, Option, None, get_or, All, IsPermutation}
 use Rattle.cpg_base.specs.Graph.{Graph}
-use Rattle.cpg_order.specs.Scenario.{Scenario, IsScenario}
+use Rattle.cpg_base.specs.Scenario.{Scenario, IsScenario}
 use Rattle.cpg_cube.specs.declared.literal.Literal.{Literal}
-use Rattle.cpg_table.specs.Table.{Column}
+use Rattle.cpg_cube.specs.Column.{Column}
 use Rattle.cpg_run.specs.Run.{Times, IsRun}
 use Rattle.cpg_run.specs.Carried.{carried}
 use Rattle.cpg_tree.specs.Columns.{columns_of_paths, IsTidyColumn}

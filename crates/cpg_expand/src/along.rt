@@ -5,7 +5,7 @@ ghost use Rattle.cpg_bus.specs.Plan.{plan_of};
 ghost use Rattle.cpg_expand.specs.Begun.{IsBegun};
 ghost use Rattle.cpg_expand.specs.Forest.{HasTrees};
 ghost use Rattle.cpg_expand.specs.Grown.{IsGrownBy};
-ghost use Rattle.cpg_guard.specs.Guards.{tree_of};
+ghost use Rattle.cpg_rules.specs.Guards.{tree_of};
 
 use crate::ending::{end, ready};
 use crate::forest::{Forest, Ready};

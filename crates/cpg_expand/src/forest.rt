@@ -1,13 +1,12 @@
 //! The trees that are found along an order.
 ghost use Rattle.std.specs.Prelude.{[], ◌≡◌, ◌<◌, ◌≤◌, None, All, IfOk, length, true};
-ghost use Rattle.cpg_base.specs.Graph.{condition_count, edge_count, is_message, item_count, process_count};
+ghost use Rattle.cpg_base.specs.Graph.{condition_count, edge_count, is_message, item_count, process_count, home};
 ghost use Rattle.cpg_expand.specs.Agreeing.{IsTree};
 ghost use Rattle.cpg_expand.specs.Forest.{HasTrees, IsWait, ends_of, heard_delay, heard_tree, input_delay, input_tree, later_tree, ready_by, times_of};
 ghost use Rattle.cpg_expand.specs.Grown.{IsBare, IsReadyFirst};
 ghost use Rattle.cpg_expand.specs.Guarded.{IsStartAfter};
 ghost use Rattle.cpg_expand.specs.Later.{IsLaterTree, IsLatest, IsNoMore};
 ghost use Rattle.cpg_base.specs.Bus.{slot_length};
-ghost use Rattle.cpg_base.specs.Graph.{home};
 ghost use Rattle.cpg_tree.specs.Tree.{IsConstant};
 
 use crate::values::{later, started, started_after};

@@ -6,9 +6,8 @@ ghost use Rattle.cpg_order.specs.Urgency.{IsTopological};
 
 use crate::along::step;
 use crate::forest::Forest;
-use cpg_base::OutOfMemory;
+use cpg_base::{Order, OutOfMemory};
 use cpg_bus::Plan;
-use cpg_order::Order;
 use cpg_rules::Admitted;
 use cpg_run::Frozen;
 use std::alloc::Global;

@@ -4,11 +4,11 @@ ghost use Rattle.cpg_base.specs.Graph.{condition_count, edge_count};
 ghost use Rattle.cpg_expand.specs.Agreeing.{IsTree};
 ghost use Rattle.cpg_expand.specs.Forest.{HasTrees, IsWait, ready_by};
 ghost use Rattle.cpg_expand.specs.Guarded.{IsActiveTree, IsHeardTree, IsStartAfter, IsStartBy, IsStartTree, LeadsBelow, PicksByValue, IsByBelow};
-ghost use Rattle.cpg_guard.specs.Trees.{TestsBelow};
+ghost use Rattle.cpg_rules.specs.Trees.{TestsBelow};
 
 use crate::forest::{Forest, Ready};
 use cpg_base::{Activation, OutOfMemory, Problem};
-use cpg_guard::{GuardTop, GuardTree};
+use cpg_rules::{GuardTop, GuardTree};
 use cpg_tree::{Tree, value};
 use std::alloc::Global;
 

@@ -2,16 +2,14 @@
 ghost use Rattle.std.specs.Prelude.{◌≡◌, ◌<◌, All, IfOk, IsPermutation, None, length};
 ghost use Rattle.cpg_base.specs.Graph.{process_count};
 ghost use Rattle.cpg_base.specs.Numbers.{numbers_below};
-ghost use Rattle.cpg_base.specs.Scenario.{zero_scenario};
+ghost use Rattle.cpg_base.specs.Scenario.{zero_scenario, IsScenario};
 ghost use Rattle.cpg_expand.specs.Agreeing.{IsTree};
 ghost use Rattle.cpg_expand.specs.Peaks.{EndsAt, EndsPast, IsNextExcess, IsNextPeak, IsPeak, IsWorstOfTrees, IsExcessOfTrees, goes_before, or_time};
 ghost use Rattle.cpg_expand.specs.Tops.{AreTops};
-ghost use Rattle.cpg_order.specs.Scenario.{IsScenario};
 
 use crate::tops::{bar_of, past_tops, reaches};
 use crate::values::past;
-use cpg_base::{OutOfMemory, Problem, Scenario};
-use cpg_order::{Order, is_before};
+use cpg_base::{Order, OutOfMemory, Problem, Scenario, is_before};
 use cpg_tree::Tree;
 use std::alloc::Global;
 

@@ -6,10 +6,10 @@ ghost use Rattle.cpg_expand.specs.Agreeing.{IsTree};
 ghost use Rattle.cpg_expand.specs.MadeRows.{AreEntriesOf, AreMergedOf, AreRowsOf, IsRowOf};
 ghost use Rattle.cpg_expand.specs.TreeRows.{as_column};
 
-use cpg_base::{OutOfMemory, Problem};
-use cpg_cube::Cube;
-use cpg_order::Order;
-use cpg_table::{Entry, Row, merged};
+use cpg_base::{Order, OutOfMemory, Problem};
+use cpg_cube::{Cube, Entry};
+use cpg_merging::merged;
+use cpg_table::Row;
 use cpg_tree::Tree;
 use std::alloc::Global;
 

@@ -7,14 +7,13 @@ ghost use Rattle.cpg_expand.specs.Agreeing.{IsTree};
 ghost use Rattle.cpg_expand.specs.Forest.{HasTrees, IsWait, ready_by};
 ghost use Rattle.cpg_expand.specs.Guarded.{IsStartTree, LeadsBelow};
 ghost use Rattle.cpg_expand.specs.Waiting.{IsWaitTree, wait_of};
-ghost use Rattle.cpg_guard.specs.Trees.{TestsBelow};
+ghost use Rattle.cpg_rules.specs.Trees.{TestsBelow};
 
 use crate::forest::{Forest, Ready};
 use crate::guarded::{heard, start};
 use crate::values::fixed;
-use cpg_base::{OutOfMemory, Problem};
-use cpg_guard::{GuardTop, GuardTree};
-use cpg_order::Order;
+use cpg_base::{Order, OutOfMemory, Problem};
+use cpg_rules::{GuardTop, GuardTree};
 use cpg_run::Frozen;
 use cpg_tree::Tree;
 use std::alloc::Global;

@@ -14,20 +14,20 @@ use Rattle.cpg_base.specs.Graph.{process_count, condition_count, item_count, mes
 use Rattle.cpg_base.specs.Activity.{item_active}
 use Rattle.cpg_base.specs.Bus.{round}
 use Rattle.cpg_base.specs.Duration.{duration, duration_of, due, lesser_due}
-use Rattle.cpg_base.specs.Scenario.{IsScenario}
+use Rattle.cpg_base.specs.Scenario.{IsScenario, Scenario, fault_of}
 use Rattle.cpg_base.proofs.Bounds.{slot_length-le}
 use Rattle.cpg_base.proofs.Inputs.{inputs_parts}
 use Rattle.cpg_base.proofs.Items.{item_cases, ItemCases, process_of_below}
 use Rattle.cpg_base.proofs.Sums.{length-filter-le}
 use Rattle.cpg_base.proofs.Lists.{Contains-nil, greatest-cons, greatest-le, get_or-map-below, Contains-filter_parts, Contains-flat_map_parts, Contains-map_parts, Contains-cases, Contains-numbers, numbers-Contains}
-use Rattle.cpg_order.specs.Urgency.{IsTopological, place, before, before_on_node}
+use Rattle.cpg_order.specs.Urgency.{IsTopological}
+use Rattle.cpg_base.specs.Order.{place, before, before_on_node}
 use Rattle.cpg_order.specs.Deciding.{decides, deciding}
 use Rattle.cpg_order.specs.Queue.{is_queued_before, rank_of_item}
-use Rattle.cpg_order.specs.Scenario.{Scenario, fault_of}
 use Rattle.cpg_order.proofs.Acyclic.{input_goes_up, source_in_order}
 use Rattle.cpg_order.proofs.DecidingLaws.{decides_earlier}
 use Rattle.cpg_order.proofs.Moments.{phase, phases, moment, moment_of_end, moment_of_start, last, message_sooner, broadcast_sooner, end_sooner, queued_sooner, producer_in_range, end_before_last}
-use Rattle.cpg_order.proofs.Places.{from_order, not_later, on_node_before}
+use Rattle.cpg_base.proofs.Places.{from_order, not_later, on_node_before}
 use Rattle.cpg_run.specs.Run.{Times, IsRun, time_in, end_in, frame_there, input_there, heard_there, bounds_of_item, unfrozen_time, start_bounds, send_bounds, end_by}
 use Rattle.cpg_run.specs.Frozen.{AreFrozenTimes}
 use Rattle.cpg_run.specs.Finish.{IsExcess, excess_of, excess_in_run}

@@ -15,9 +15,10 @@ use Rattle.cpg_base.specs.declared.process.Edge.{Edge}
 use Rattle.cpg_base.proofs.Lists.{Contains-filter, Contains-numbers, list_any_true, same_filter, same_all}
 use Rattle.cpg_base.proofs.Inputs.{inputs_parts, outputs-Contains}
 use Rattle.cpg_base.proofs.Sums.{filter-map}
-use Rattle.cpg_order.specs.Urgency.{place, IsTopological}
+use Rattle.cpg_order.specs.Urgency.{IsTopological}
+use Rattle.cpg_base.specs.Order.{place}
 use Rattle.cpg_order.proofs.Acyclic.{edge_goes_up}
-use Rattle.cpg_order.proofs.Places.{position-place, place-lt, get_or-place}
+use Rattle.cpg_base.proofs.Places.{position-place, place-lt, get_or-place}
 use Rattle.cpg_hyper.specs.declared.part.Part.{Part}
 use Rattle.cpg_hyper.specs.Unrolled.{copied_edge, size_of, unrolled, first_graph}
 use Rattle.cpg_hyper.specs.Instances.{part_at, IsInstance, first_of, first_edge_of, scenario_of, copied_activation}

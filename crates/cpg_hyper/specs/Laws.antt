@@ -4,7 +4,7 @@ use Rattle.cpg_base.specs.Graph.{process_at, edge_at, is_disjunction}
 use Rattle.cpg_base.specs.Activity.{activation, active, live}
 use Rattle.cpg_base.specs.Duration.{duration, due}
 use Rattle.cpg_base.specs.Limits.{IsWithinLimits}
-use Rattle.cpg_order.specs.Scenario.{Scenario, IsScenario, fault_of}
+use Rattle.cpg_base.specs.Scenario.{Scenario, IsScenario, fault_of}
 use Rattle.cpg_order.specs.Urgency.{IsTopological}
 use Rattle.cpg_table.specs.Table.{NodeTable, at}
 use Rattle.cpg_table.specs.Valid.{IsValid}

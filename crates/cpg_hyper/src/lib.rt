@@ -9,7 +9,7 @@ mod period;
 mod processes;
 mod unrolling;
 
-pub use cpg_writer::graph_text;
+pub use cpg_reader::graph_text;
 pub use laws::{
     instances_are_activated_alike, instances_are_active_alike, instances_are_copies,
     instances_are_live_alike, instances_have_conditions, instances_have_edges,

@@ -6,12 +6,12 @@ use Rattle.cpg_base.specs.Graph.{Graph, inputs}
 use Rattle.cpg_base.specs.Activity.{live}
 use Rattle.cpg_base.specs.WellFormed.{HasSingleJoins, HasSenderSlots}
 use Rattle.cpg_order.specs.Cycle.{IsCycle, HasCycle}
-use Rattle.cpg_order.specs.Scenario.{Scenario, IsLeast}
+use Rattle.cpg_base.specs.Scenario.{Scenario, IsLeast}
 use Rattle.cpg_order.specs.Track.{track_count, most_tracks}
 use Rattle.cpg_order.proofs.Cycles.{no_cycle}
-use Rattle.cpg_order.proofs.ScenarioOrder.{one_least}
+use Rattle.cpg_base.proofs.ScenarioOrder.{one_least}
 use Rattle.cpg_order.proofs.Urgent.{one_urgency_order}
-use Rattle.cpg_guard.specs.Alternatives.{AreAlternatives, IsSingleJoin, has_two_live}
+use Rattle.cpg_rules.specs.Alternatives.{AreAlternatives, IsSingleJoin, has_two_live}
 use Rattle.cpg_rules.specs.Admission.{Admission}
 use Rattle.cpg_rules.specs.Faults.{IsOrdered, ShowsFault}
 use Rattle.cpg_rules.specs.Rules.{is_too_big, lacks_slot}

@@ -6,7 +6,7 @@ use Rattle.cpg_base.specs.WellFormed.{HasSingleJoins, HasSenderSlots}
 use Rattle.cpg_order.specs.Cycle.{IsCycle, HasCycle}
 use Rattle.cpg_order.specs.Track.{track_count, most_tracks}
 use Rattle.cpg_order.specs.Urgency.{IsUrgencyOrder}
-use Rattle.cpg_guard.specs.Alternatives.{AreAlternatives}
+use Rattle.cpg_rules.specs.Alternatives.{AreAlternatives}
 use Rattle.cpg_rules.specs.Admission.{Admission, IsAdmitted}
 use Rattle.cpg_rules.specs.Faults.{ShowsFault}
 use Rattle.cpg_rules.specs.Rules.{LacksSlot, IsAboveSlot}

@@ -15,13 +15,14 @@ use Rattle.cpg_base.proofs.Items.{ItemCases, item_cases, item_at-start, process_
 use Rattle.cpg_base.proofs.Lists.{Contains-filter_parts, numbers-Contains, same_map, same_filter, same_flat_map, get_or-map-below}
 use Rattle.cpg_order.specs.Deciding.{deciding}
 use Rattle.cpg_order.specs.Queue.{is_queued_before, queued_before}
-use Rattle.cpg_order.specs.Urgency.{IsTopological, IsUrgencyOrder, before_on_node}
+use Rattle.cpg_order.specs.Urgency.{IsTopological, IsUrgencyOrder}
+use Rattle.cpg_base.specs.Order.{before_on_node}
 use Rattle.cpg_order.proofs.Acyclic.{source_in_order}
 use Rattle.cpg_order.proofs.DecidingLaws.{deciding_is_active}
 use Rattle.cpg_order.proofs.DecidingSame.{deciding_same}
-use Rattle.cpg_order.proofs.Places.{from_order, on_node_before}
+use Rattle.cpg_base.proofs.Places.{from_order, on_node_before}
 use Rattle.cpg_order.proofs.SameActivation.{live_same, same_everywhere}
-use Rattle.cpg_order.proofs.Scenarios.{one_value}
+use Rattle.cpg_base.proofs.NumbersOf.{one_value}
 use Rattle.cpg_run.specs.Run.{Times, IsRun, time_in, end_in, input_there, heard_there, start_bounds, send_bounds, bounds_of_item, time_by, end_by}
 use Rattle.cpg_run.proofs.Runs.{time_is}
 use Rattle.cpg_list.specs.Active.{active_fault, active_value, active_numbers, HaveSameRuns}

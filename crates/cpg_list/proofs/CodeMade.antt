@@ -13,16 +13,18 @@ use Rattle.cpg_base.specs.Activity.{item_active}
 use Rattle.cpg_base.proofs.Items.{item_cases}
 use Rattle.cpg_base.proofs.Lists.{Contains-nil}
 use Rattle.cpg_base.proofs.Pairs.{AllPairs-nil}
-use Rattle.cpg_guard.specs.Guards.{Guards}
-use Rattle.cpg_order.specs.Urgency.{place, IsTopological}
+use Rattle.cpg_rules.specs.Guards.{Guards}
+use Rattle.cpg_order.specs.Urgency.{IsTopological}
+use Rattle.cpg_base.specs.Order.{place}
 use Rattle.cpg_rules.specs.Admission.{IsAdmitted}
 use Rattle.cpg_run.specs.Frozen.{AreFrozenTimes}
-use Rattle.cpg_order.specs.Scenario.{Scenario, IsScenario}
+use Rattle.cpg_base.specs.Scenario.{Scenario, IsScenario}
 use Rattle.cpg_run.specs.Run.{Times, IsRun}
 use Rattle.cpg_cube.specs.Fit.{lows, IsCube}
-use Rattle.cpg_table.specs.Merged.{AreMergeable, IsMergeOf}
+use Rattle.cpg_merging.specs.Merged.{AreMergeable, IsMergeOf}
 use Rattle.cpg_table.specs.Shape.{items_of}
-use Rattle.cpg_table.specs.Table.{Column, Row}
+use Rattle.cpg_table.specs.Table.{Row}
+use Rattle.cpg_cube.specs.Column.{Column}
 use Rattle.cpg_run.specs.Carried.{row_at}
 use Rattle.cpg_list.specs.Learning.{AreTold}
 use Rattle.cpg_list.specs.Made.{AreMade, IsRowSet}

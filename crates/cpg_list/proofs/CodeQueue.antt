@@ -8,12 +8,14 @@ use Rattle.cpg_base.specs.Graph.{Graph, process_count, item_count, node_of, home
 use Rattle.cpg_base.proofs.Items.{item_cases, item_at-start}
 use Rattle.cpg_base.proofs.Lists.{Contains-nil, Contains-first, Contains-filter, Contains-filter_parts, Contains-numbers, numbers-Contains}
 use Rattle.cpg_order.specs.Queue.{is_queued_before, queued_before}
-use Rattle.cpg_order.specs.Scenario.{Scenario}
-use Rattle.cpg_order.specs.Urgency.{place, comes_before, before_on_node, IsTopological}
+use Rattle.cpg_base.specs.Scenario.{Scenario}
+use Rattle.cpg_order.specs.Urgency.{IsTopological}
+use Rattle.cpg_base.specs.Order.{place, comes_before, before_on_node}
 use Rattle.cpg_order.proofs.Moments.{producer_in_range}
-use Rattle.cpg_order.proofs.Places.{from_before, places_from_comes_before, comes_before_from_places, Contains-order, get_or-place, same_place, place-lt}
+use Rattle.cpg_base.proofs.Places.{from_before, places_from_comes_before, comes_before_from_places, Contains-order, get_or-place, same_place, place-lt}
 use Rattle.cpg_cube.specs.declared.literal.Literal.{Literal}
-use Rattle.cpg_table.specs.Table.{Column, Row}
+use Rattle.cpg_table.specs.Table.{Row}
+use Rattle.cpg_cube.specs.Column.{Column}
 use Rattle.cpg_bus.specs.Plan.{queue_of}
 use Rattle.cpg_bus.proofs.Queued.{rank_at, in_queue, queue-Contains, queue_rises, below_first, in_first}
 use Rattle.cpg_run.specs.Carried.{row_at, decided, heard, received, passed, queued, number_known, carried_at_end}

@@ -2,10 +2,11 @@
 use Rattle.std.proofs.Common.{ℕ, ◌≤◌, List, [], get_or, Contains, subst}
 use Rattle.cpg_base.specs.Graph.{Graph, producer}
 use Rattle.cpg_base.proofs.Lists.{same_flat_map}
-use Rattle.cpg_order.specs.Urgency.{place, IsTopological}
-use Rattle.cpg_order.specs.Scenario.{Scenario}
+use Rattle.cpg_order.specs.Urgency.{IsTopological}
+use Rattle.cpg_base.specs.Order.{place}
+use Rattle.cpg_base.specs.Scenario.{Scenario}
 use Rattle.cpg_cube.specs.declared.literal.Literal.{Literal}
-use Rattle.cpg_table.specs.Table.{Column}
+use Rattle.cpg_cube.specs.Column.{Column}
 use Rattle.cpg_run.specs.Carried.{passed, queued}
 use Rattle.cpg_list.specs.Made.{AreCubesOf, AreEndsOf, passed_by, queued_by}
 use Rattle.cpg_run.specs.RowLaws.{SameRowsBefore}

@@ -8,14 +8,14 @@ use Rattle.cpg_base.specs.declared.item.Item.TheVariants.{Message}
 use Rattle.cpg_base.specs.Activity.{active, item_active}
 use Rattle.cpg_base.proofs.Items.{item_cases}
 use Rattle.cpg_order.specs.Reach.{sent_value}
-use Rattle.cpg_order.specs.Scenario.{Scenario}
-use Rattle.cpg_order.proofs.Along.{condition_of_below}
+use Rattle.cpg_base.specs.Scenario.{Scenario}
+use Rattle.cpg_base.proofs.ConditionProcesses.{condition_of_below}
 use Rattle.cpg_cube.specs.declared.literal.Literal.{Literal}
 use Rattle.cpg_bus.specs.Plan.{queue_of}
 use Rattle.cpg_bus.proofs.Queued.{in_queue}
 use Rattle.cpg_order.specs.Queue.{queued_before}
-use Rattle.cpg_order.specs.Urgency.{before_on_node}
-use Rattle.cpg_table.specs.Table.{Column}
+use Rattle.cpg_base.specs.Order.{before_on_node}
+use Rattle.cpg_cube.specs.Column.{Column}
 use Rattle.cpg_run.specs.Carried.{number_known, decided, heard, received, passed, queued, sent_by_value, carried, carried_by_item, carried_at_start, carried_at_end}
 use Rattle.cpg_list.specs.Made.{queued_by, AreEndsOf}
 use Rattle.cpg_run.specs.Rows.{IsCubeOf}

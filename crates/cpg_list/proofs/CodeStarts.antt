@@ -11,14 +11,15 @@ use Rattle.cpg_base.specs.Activity.{active, item_active}
 use Rattle.cpg_base.proofs.Items.{item_at-start}
 use Rattle.cpg_list.specs.Listing.{AreScenarios}
 use Rattle.cpg_list.specs.Runs.{AreRuns}
-use Rattle.cpg_order.specs.Scenario.{Scenario, IsScenario}
-use Rattle.cpg_order.specs.Urgency.{IsTopological, before_on_node}
+use Rattle.cpg_base.specs.Scenario.{Scenario, IsScenario}
+use Rattle.cpg_order.specs.Urgency.{IsTopological}
+use Rattle.cpg_base.specs.Order.{before_on_node}
 use Rattle.cpg_cube.specs.Fit.{lows}
 use Rattle.cpg_cube.specs.declared.literal.Literal.{Literal}
 use Rattle.cpg_run.specs.Run.{Times, IsRun, unfrozen_time}
 use Rattle.cpg_run.proofs.Runs.{time_is}
 use Rattle.cpg_run.proofs.RunUnique.{run_unique}
-use Rattle.cpg_table.specs.Table.{Column}
+use Rattle.cpg_cube.specs.Column.{Column}
 use Rattle.cpg_run.specs.Carried.{number_known, decided, heard, received, executed, passed, carried, carried_by_item}
 use Rattle.cpg_list.specs.Learning.{IsTimedIfActive, start_after, received_unless_frozen}
 use Rattle.cpg_list.specs.Made.{AreCubesOf, AreCubesUpTo, passed_by}

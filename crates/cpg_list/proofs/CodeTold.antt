@@ -6,12 +6,12 @@ use Rattle.std.proofs.lemmas.List.{append-nil, length-map, map_more, take_more}
 use Rattle.std.proofs.lemmas.List.Elements.{All-contains}
 use Rattle.cpg_base.specs.Graph.{Graph, node_of, process_of, is_message, message_item, broadcast_item}
 use Rattle.cpg_base.proofs.Lists.{Contains-first, Contains-map, Contains-map_parts, Contains-filter, Contains-filter_parts, Contains-flat_map, Contains-flat_map_parts}
-use Rattle.cpg_order.specs.Scenario.{Scenario}
+use Rattle.cpg_base.specs.Scenario.{Scenario}
 use Rattle.cpg_cube.specs.Cube.{matches}
 use Rattle.cpg_base.specs.Variable.{top}
 use Rattle.cpg_cube.specs.declared.literal.Literal.{Literal}
-use Rattle.cpg_table.specs.Merged.{AreWithin}
-use Rattle.cpg_table.specs.Table.{Column, times_in}
+use Rattle.cpg_merging.specs.Merged.{AreWithin}
+use Rattle.cpg_cube.specs.Column.{Column, times_in}
 use Rattle.cpg_run.specs.Carried.{told_by}
 use Rattle.cpg_list.specs.Learning.{Within, heard_of, received_by}
 use Rattle.cpg_list.specs.Narrowing.{told_in, IsNarrowed}

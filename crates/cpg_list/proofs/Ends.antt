@@ -6,7 +6,7 @@ use Rattle.cpg_base.specs.Numbers.{numbers_below}
 use Rattle.cpg_base.specs.Graph.{Graph, process_count}
 use Rattle.cpg_base.proofs.Lists.{Contains-map_parts, numbers-Contains, greatest_cases}
 use Rattle.cpg_order.specs.Urgency.{IsTopological}
-use Rattle.cpg_order.specs.Scenario.{Scenario, IsScenario, IsLeast, is_before}
+use Rattle.cpg_base.specs.Scenario.{Scenario, IsScenario, IsLeast, is_before}
 use Rattle.cpg_run.specs.Run.{Times, IsRun}
 use Rattle.cpg_run.specs.Finish.{IsLeastEnding, IsWorst, excess_of, excess_in_run, IsLeastExceeding, IsExcess}
 use Rattle.cpg_run.proofs.Ends.{finish_is_end}

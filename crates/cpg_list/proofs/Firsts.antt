@@ -7,8 +7,8 @@ use Rattle.std.proofs.lemmas.List.{map_push}
 use Rattle.cpg_base.specs.Numbers.{greatest, numbers_below}
 use Rattle.cpg_base.proofs.Lists.{below_push, greatest_push}
 use Rattle.cpg_base.specs.Graph.{Graph}
-use Rattle.cpg_order.specs.Scenario.{Scenario, is_before}
-use Rattle.cpg_order.proofs.ScenarioOrder.{before_irreflexive, before_one_way, not_before_transitive}
+use Rattle.cpg_base.specs.Scenario.{Scenario, is_before}
+use Rattle.cpg_base.proofs.ScenarioOrder.{before_irreflexive, before_one_way, not_before_transitive}
 use Rattle.cpg_list.specs.Peaks.{IsFirstGreatest}
 
 module _ (g : Graph) (urgency : List ℕ) (n : ℕ) (list : List Scenario) (numbers : List ℕ) (at : ℕ) (f : IsFirstGreatest g urgency n list numbers at) where

@@ -5,12 +5,12 @@ use Rattle.cpg_base.specs.Graph.{Graph, condition_count, value_variable, item_co
 use Rattle.cpg_base.specs.Activity.{active, item_active}
 use Rattle.cpg_order.specs.Deciding.{deciding}
 use Rattle.cpg_order.specs.Reach.{sent_value}
-use Rattle.cpg_order.specs.Scenario.{Scenario}
-use Rattle.cpg_order.specs.Urgency.{place}
+use Rattle.cpg_base.specs.Scenario.{Scenario}
+use Rattle.cpg_base.specs.Order.{place}
 use Rattle.cpg_cube.specs.declared.literal.Literal.{Literal}
 use Rattle.cpg_run.specs.Run.{Times}
-use Rattle.cpg_table.specs.Merged.{AreWithin}
-use Rattle.cpg_table.specs.Table.{Column, times_in}
+use Rattle.cpg_merging.specs.Merged.{AreWithin}
+use Rattle.cpg_cube.specs.Column.{Column, times_in}
 use Rattle.cpg_run.specs.Rows.{IsCubeOf}
 use Rattle.cpg_run.specs.Carried.{row_at, told_by, decided, heard, received, sent_by_value}
 

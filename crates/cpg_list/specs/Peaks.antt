@@ -1,7 +1,7 @@
 -- The first scenario of the greatest number, the first process that has it, and peaks that are read off given runs.
 use Rattle.std.specs.Prelude.{ℕ, ◌≡◌, ◌≢◌, ◌≤◌, ◌<◌, false, List, Option, Some, None, get_or}
 use Rattle.cpg_base.specs.Graph.{Graph}
-use Rattle.cpg_order.specs.Scenario.{Scenario, is_before}
+use Rattle.cpg_base.specs.Scenario.{Scenario, is_before}
 use Rattle.cpg_order.specs.Urgency.{IsTopological}
 use Rattle.cpg_run.specs.Run.{Times}
 use Rattle.cpg_run.specs.Finish.{excess_of, IsWorst, IsExcess}

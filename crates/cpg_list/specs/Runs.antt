@@ -1,7 +1,7 @@
 -- The runs of scenarios, in the order of a list.
 use Rattle.std.specs.Prelude.{ℕ, ◌≡◌, ◌<◌, List, Option, length, get_or}
 use Rattle.cpg_base.specs.Graph.{Graph}
-use Rattle.cpg_order.specs.Scenario.{Scenario}
+use Rattle.cpg_base.specs.Scenario.{Scenario}
 use Rattle.cpg_run.specs.Run.{Times, IsRun}
 
 -- at each of the first n places the run of the scenario there

@@ -1,8 +1,8 @@
 -- All scenarios along an order, a place at a time.
 use Rattle.std.specs.Prelude.{ℕ, ◌≡◌, ◌<◌, List, Option, length, get_or}
 use Rattle.cpg_base.specs.Graph.{Graph, producer}
-use Rattle.cpg_order.specs.Scenario.{Scenario}
-use Rattle.cpg_order.specs.Urgency.{place}
+use Rattle.cpg_base.specs.Scenario.{Scenario}
+use Rattle.cpg_base.specs.Order.{place}
 use Rattle.cpg_run.specs.Progress.{ProgressState, IsAlong}
 
 -- for each scenario of a list what is found of its run before the place i

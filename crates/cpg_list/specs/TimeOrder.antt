@@ -1,8 +1,8 @@
 -- The columns of a row by time, as the code searches them.
 use Rattle.std.specs.Prelude.{ℕ, ◌≡◌, ◌<◌, ◌≤◌, true, false, List, Option, None, Some, length, get_or}
-use Rattle.cpg_order.specs.Scenario.{Scenario}
+use Rattle.cpg_base.specs.Scenario.{Scenario}
 use Rattle.cpg_cube.specs.Cube.{matches}
-use Rattle.cpg_table.specs.Table.{Column}
+use Rattle.cpg_cube.specs.Column.{Column}
 pub use Rattle.cpg_list.specs.declared.timed.Timed.{Timed}
 
 -- the times rise, and each column has its time and place once

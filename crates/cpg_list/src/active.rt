@@ -7,7 +7,7 @@ ghost use Rattle.cpg_run.specs.Admitted.{AreAdmitted};
 ghost use Rattle.cpg_list.specs.Active.{active_fault, active_value, active_numbers};
 
 use cpg_base::{OutOfMemory, Problem, Scenario};
-use cpg_guard::GuardTrees;
+use cpg_rules::GuardTrees;
 use cpg_run::is_active;
 use std::alloc::Global;
 

@@ -11,9 +11,8 @@ ghost use Rattle.cpg_list.specs.Active.{AreExamples};
 ghost use Rattle.cpg_run.specs.Latest.{later, IsUnfrozenTime};
 ghost use Rattle.cpg_list.specs.Sweep.{AreAlong, place_of};
 
-use cpg_base::{OutOfMemory, Scenario};
+use cpg_base::{Order, OutOfMemory, Scenario};
 use cpg_bus::Plan;
-use cpg_order::Order;
 use cpg_rules::Admitted;
 use cpg_run::{Frozen, Progress};
 use std::alloc::Global;

@@ -7,7 +7,7 @@ ghost use Rattle.cpg_base.specs.Scenario.{IsScenario};
 ghost use Rattle.cpg_bus.specs.Plan.{plan_of};
 ghost use Rattle.cpg_cube.specs.Cube.{matches};
 ghost use Rattle.cpg_order.specs.Deciding.{deciding};
-ghost use Rattle.cpg_table.specs.Table.{times_in};
+ghost use Rattle.cpg_cube.specs.Column.{times_in};
 ghost use Rattle.cpg_run.specs.Carried.{told_by, number_known, decided, heard, received};
 ghost use Rattle.cpg_list.specs.Learning.{IsTold, AreDeciding, heard_of, received_by};
 ghost use Rattle.cpg_run.specs.Found.{columns_of_rows};

@@ -7,8 +7,7 @@ ghost use Rattle.cpg_cube.specs.Fit.{lows};
 ghost use Rattle.cpg_list.specs.Narrowing.{from_variable, front_low, as_number, IsKept};
 
 use cpg_base::{FIRST_VALUE, OutOfMemory, Problem, Scenario};
-use cpg_cube::{Cube, Literal};
-use cpg_table::Entry;
+use cpg_cube::{Cube, Entry, Literal};
 
 /// The literals on a variable and on those above.
 fn from_variable(variable: u8, literals: &[Literal]) -> &[Literal]

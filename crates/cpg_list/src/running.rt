@@ -10,9 +10,8 @@ ghost use Rattle.cpg_list.specs.Active.{HaveSameRuns};
 ghost use Rattle.cpg_list.specs.FirstAlike.{scenario_at, AreFirstAlike};
 ghost use Rattle.cpg_list.specs.Runs.{AreFirstRuns, AreRuns};
 
-use cpg_base::{OutOfMemory, Scenario};
+use cpg_base::{Order, OutOfMemory, Scenario};
 use cpg_bus::Plan;
-use cpg_order::Order;
 use cpg_rules::Admitted;
 use cpg_run::{Frozen, RunTimes, run_by};
 use std::alloc::Global;

@@ -1,12 +1,10 @@
 //! The first scenario of the greatest number.
 ghost use Rattle.std.specs.Prelude.{◌≡◌, ◌<◌, All, true, false, length};
 ghost use Rattle.cpg_base.specs.Graph.{process_count};
-ghost use Rattle.cpg_base.specs.Scenario.{IsScenario};
-ghost use Rattle.cpg_order.specs.Scenario.{is_before};
+ghost use Rattle.cpg_base.specs.Scenario.{IsScenario, is_before};
 ghost use Rattle.cpg_list.specs.Peaks.{IsFirstGreatest};
 
-use cpg_base::{Problem, Scenario};
-use cpg_order::{Order, is_before};
+use cpg_base::{Order, Problem, Scenario, is_before};
 
 /// Whether a scenario has a greater number than another, or the same and comes before it.
 fn goes_first(

@@ -21,12 +21,10 @@ use crate::learning::{deciding, narrow_by_decided, narrow_by_value};
 use crate::least::{kept, push_entry};
 use crate::state::Cubes;
 use crate::timed::TimedRow;
-use cpg_base::{Item, OutOfMemory, Problem, Scenario};
-use cpg_cube::Cube;
-use cpg_order::Order;
+use cpg_base::{Item, Order, OutOfMemory, Problem, Scenario};
+use cpg_cube::{Cube, Entry};
 use cpg_rules::Admitted;
 use cpg_run::{Frozen, RunTimes};
-use cpg_table::Entry;
 use std::alloc::Global;
 
 /// The condition whose value decides whether an item that a process sends is sent, if there is one.

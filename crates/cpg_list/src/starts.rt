@@ -6,7 +6,8 @@ ghost use Rattle.cpg_bus.specs.Plan.{plan_of};
 ghost use Rattle.cpg_cube.specs.declared.literal.Literal.{Literal};
 ghost use Rattle.cpg_list.specs.Listing.{AreScenarios};
 ghost use Rattle.cpg_order.specs.Deciding.{deciding};
-ghost use Rattle.cpg_order.specs.Urgency.{IsTopological, before_on_node};
+ghost use Rattle.cpg_order.specs.Urgency.{IsTopological};
+ghost use Rattle.cpg_base.specs.Order.{before_on_node};
 ghost use Rattle.cpg_run.specs.Run.{Times, IsRun};
 ghost use Rattle.cpg_run.specs.Carried.{decided, heard, passed};
 ghost use Rattle.cpg_list.specs.Learning.{IsTold, AreTold, AreDeciding, IsTimedIfActive, start_after, received_unless_frozen};
@@ -21,13 +22,11 @@ use crate::learning::{deciding, narrow_by_decided, narrow_by_heard, narrow_by_re
 use crate::least::{kept, push_entry};
 use crate::state::Cubes;
 use crate::timed::{Hints, TimedRow};
-use cpg_base::{OutOfMemory, Problem, Scenario};
+use cpg_base::{Order, OutOfMemory, Problem, Scenario};
 use cpg_bus::Plan;
-use cpg_cube::Cube;
-use cpg_order::Order;
+use cpg_cube::{Cube, Entry};
 use cpg_rules::Admitted;
 use cpg_run::{Frozen, RunTimes};
-use cpg_table::Entry;
 use std::alloc::Global;
 
 /// The entry of the start of a frozen process, where the scenario is the least of what decides the process.

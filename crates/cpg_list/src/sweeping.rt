@@ -7,9 +7,8 @@ ghost use Rattle.cpg_run.specs.Known.{AreEarly};
 ghost use Rattle.cpg_bus.specs.Plan.{plan_of};
 ghost use Rattle.cpg_list.specs.Sweep.{AreAlong};
 
-use cpg_base::{OutOfMemory, Problem, Scenario};
+use cpg_base::{Order, OutOfMemory, Problem, Scenario};
 use cpg_bus::Plan;
-use cpg_order::Order;
 use cpg_rules::Admitted;
 use cpg_run::{Frozen, Progress};
 use std::alloc::Global;

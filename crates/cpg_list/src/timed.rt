@@ -3,7 +3,8 @@ ghost use Rattle.std.specs.Prelude.{◌≡◌, ◌<◌, ◌≤◌, ℕ, [], IfOk
 ghost use Rattle.cpg_list.specs.TimeOrder.{Timed, IsTimeOrder, StartsAt, FindsHit};
 
 use cpg_base::{OutOfMemory, Scenario};
-use cpg_table::{Entry, Row};
+use cpg_cube::Entry;
+use cpg_table::Row;
 use std::alloc::Global;
 use std::marker::Model;
 

@@ -4,3 +4,6 @@ pub mod Steps
 pub mod Growing
 pub mod Bounds
 pub mod Counting
+pub mod Streams
+pub mod Digits
+pub mod Along

@@ -4,3 +4,7 @@ pub mod Feeding
 pub mod Laws
 pub mod Kept
 pub mod Held
+pub mod Streams
+pub mod Follower
+pub mod LinesKept
+pub mod Following

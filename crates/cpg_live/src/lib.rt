@@ -1,12 +1,15 @@
 //! One node on a stream of records, however the stream is cut.
 #![tactic(auto)]
 
+mod act_lines;
 mod bad;
 mod ending;
 mod event;
+mod following;
 mod live;
 mod progress;
 mod reading;
 
 pub use bad::{Bad, Why};
+pub use following::{Broken, Follower, STREAM_LIMIT, StreamFault};
 pub use live::Live;

@@ -10,11 +10,12 @@ use Rattle.cpg_base.specs.Duration.{duration}
 use Rattle.cpg_base.specs.Bus.{slot_length}
 use Rattle.cpg_base.specs.Variable.{top}
 use Rattle.cpg_base.proofs.Lists.{Contains-nil, Contains-filter_parts, Contains-flat_map_parts, Contains-map_parts, numbers-Contains, greatest_cases, least_cases}
-use Rattle.cpg_order.specs.Scenario.{Scenario, IsScenario, number_of, number_of_value, fault_of}
-use Rattle.cpg_order.proofs.Scenarios.{number_of-fault}
+use Rattle.cpg_base.specs.Scenario.{Scenario, IsScenario, number_of, number_of_value, fault_of}
+use Rattle.cpg_base.proofs.NumbersOf.{number_of-fault}
 use Rattle.cpg_cube.specs.Cube.{holds, matches}
 use Rattle.cpg_cube.specs.declared.literal.Literal.{Literal}
-use Rattle.cpg_table.specs.Table.{Column, NodeTable, columns_of}
+use Rattle.cpg_table.specs.Table.{NodeTable, columns_of}
+use Rattle.cpg_cube.specs.Column.{Column}
 use Rattle.cpg_table.specs.Heard.{matching, facts_of_end, facts_of_frame, facts, is_heard, kept_low, kept_high}
 use Rattle.cpg_table.proofs.Settings.{Match}
 use Rattle.cpg_table.proofs.Told.{end_literals, frame_facts, Told, told_true}

@@ -10,7 +10,8 @@ use Rattle.std.proofs.lemmas.Grind.{flat_map-append}
 use Rattle.std.proofs.lemmas.List.Sorted.{Contains-permutation, IsPermutation-sym}
 use Rattle.cpg_base.proofs.Lists.{Contains-nil, Contains-cases, Contains-map_parts, Contains-filter, Contains-filter_parts}
 use Rattle.cpg_node.specs.Dispatcher.{Dispatcher, times_in, Own, OwnTable, Range, Running, Ended, Frame, Act, zip_with, possible_ends, candidates, is_after, least_of, next, with_report, running_after, due_reports, hear_end, hear_frame, acts_at, heard_after, acts_of_turn, ends_in_turn, turn}
-use Rattle.cpg_table.specs.Table.{Row, Column}
+use Rattle.cpg_table.specs.Table.{Row}
+use Rattle.cpg_cube.specs.Column.{Column}
 use Rattle.cpg_node.specs.State.{NodeState, earlier, IsTimed, AreTimed}
 use Rattle.cpg_node.specs.Plan.{Planned, IsLine, fixed_times, SameAtEachTime, plan_of, act_of, takes}
 use Rattle.cpg_node.proofs.Least.{least_passing, least_same}

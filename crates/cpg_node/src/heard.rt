@@ -11,8 +11,8 @@ ghost use Rattle.cpg_node.specs.State.{arrives};
 use crate::range::Range;
 use crate::{Ended, Frame};
 use cpg_base::{FIRST_VALUE, MOST_CONDITIONS, OutOfMemory, top};
-use cpg_cube::Literal;
-use cpg_table::{Entry, NodeTable, Row};
+use cpg_cube::{Entry, Literal};
+use cpg_table::{NodeTable, Row};
 use std::alloc::Global;
 
 /// How many variables there may be.

@@ -11,8 +11,8 @@ use crate::Act;
 use crate::heard::have_heard;
 use crate::range::Range;
 use cpg_base::OutOfMemory;
-use cpg_cube::Literal;
-use cpg_table::{Entry, NodeTable, Row};
+use cpg_cube::{Entry, Literal};
+use cpg_table::{NodeTable, Row};
 use std::alloc::Global;
 
 /// A column of what a node sends or starts: when it is, and where it stands.

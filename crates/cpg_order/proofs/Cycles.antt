@@ -1,9 +1,8 @@
 -- Cycles: found by a walk against the edges, turned into the direction of the edges, and not there under a topological order.
-use Rattle.std.proofs.Common.{ℕ, zero, suc, ◌+◌, ◌-◌, ◌<◌, ◌≤◌, ◌≡◌, ◌≢◌, ◌⊎◌, inl, inr, true, false, ◌&&◌, ◌==◌, nat_le, if◌then◌else◌, List, [], ◌∷◌, ◌++◌, length, get_or, drop, map, Contains, arith, refl, sym, ap, ap₂, ◌∙◌, subst, length-append, length-drop, eqb-true, eq-eqb}
+use Rattle.std.proofs.Common.{ℕ, zero, suc, ◌+◌, ◌-◌, ◌<◌, ◌≤◌, ◌≡◌, ◌≢◌, ◌⊎◌, inl, inr, true, false, ◌&&◌, ◌==◌, nat_le, if◌then◌else◌, List, [], ◌∷◌, ◌++◌, length, get_or, drop, map, Contains, arith, refl, sym, ap, ap₂, ◌∙◌, subst, length-append, length-drop, eqb-true, eq-eqb, le-leb, subst₂}
 use Rattle.std.specs.List.{AllPairs}
 use Rattle.std.proofs.lemmas.Bool.{cases_lt, cases_order, and_parts, and_from, both_ways, lt-leb}
 use Rattle.std.proofs.lemmas.List.{get_or-drop, get_or_append_left, get_or_default}
-use Rattle.std.proofs.Common.{le-leb, subst₂}
 use Rattle.std.proofs.Math.Seq.{get_or-append_seam}
 use Rattle.std.proofs.lemmas.List.FromFn.{length-map-range_with_len}
 use Rattle.std.proofs.lemmas.List.Elements.{Contains-get_or, Contains-append_cases}
@@ -12,7 +11,8 @@ use Rattle.cpg_base.specs.Graph.{Graph, process_count, edge_count, edge_at, sour
 use Rattle.cpg_base.proofs.Lists.{Contains-cases, Contains-nil, list_any_true, list_any_parts, get_or-map-below}
 use Rattle.cpg_base.proofs.Pairs.{AllPairs-append, AllPairs-nil, AllPairs-cons_by}
 use Rattle.cpg_base.proofs.Inputs.{inputs_parts}
-use Rattle.cpg_order.specs.Urgency.{place, IsTopological}
+use Rattle.cpg_order.specs.Urgency.{IsTopological}
+use Rattle.cpg_base.specs.Order.{place}
 use Rattle.cpg_order.specs.Reach.{is_in}
 use Rattle.cpg_order.specs.Cycle.{has_edge, IsCycle, HasCycle}
 use Rattle.cpg_order.specs.Settling.{IsCycleBack}

@@ -10,9 +10,8 @@ use Rattle.cpg_base.proofs.Lists.{Contains-cases, Contains-nil}
 use Rattle.cpg_base.proofs.Pairs.{AllPairs-append, AllPairs-nil, AllPairs-cons_by, order_apart}
 use Rattle.cpg_order.specs.Reach.{is_in}
 use Rattle.cpg_order.proofs.Along.{is_in_from}
-use Rattle.cpg_order.specs.Urgency.{place, comes_before}
-use Rattle.cpg_order.specs.Order.{IsOrder}
-use Rattle.cpg_order.proofs.Places.{from_order, Contains-order, places_from_comes_before, comes_before_from_places}
+use Rattle.cpg_base.specs.Order.{place, comes_before, IsOrder}
+use Rattle.cpg_base.proofs.Places.{from_order, Contains-order, places_from_comes_before, comes_before_from_places}
 use Rattle.cpg_order.proofs.Readiness.{apart_before, permutation_of_all}
 
 or_nothing : (b c : Bool) → c ≡ false → (b || c) ≡ b

@@ -11,8 +11,9 @@ use Rattle.cpg_base.specs.Limits.{IsWithinLimits}
 use Rattle.cpg_base.proofs.Lists.{same_map, Contains-map_parts, greatest-le, get_or-map-below}
 use Rattle.cpg_base.proofs.Inputs.{outputs_parts}
 use Rattle.cpg_base.proofs.Bounds.{round-le, duration-le}
-use Rattle.cpg_order.specs.Urgency.{tail, place, IsTopological}
-use Rattle.cpg_order.proofs.Places.{length_order, place-lt, get_or-place, Contains-order}
+use Rattle.cpg_order.specs.Urgency.{tail, IsTopological}
+use Rattle.cpg_base.specs.Order.{place}
+use Rattle.cpg_base.proofs.Places.{length_order, place-lt, get_or-place, Contains-order}
 use Rattle.cpg_order.proofs.Acyclic.{output_goes_up, tail_is}
 
 -- the longest way over an edge from a process, given how long the ways from other processes are

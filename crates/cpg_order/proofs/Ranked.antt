@@ -15,7 +15,7 @@ use Rattle.cpg_order.specs.declared.urgency_order.Rank.{Rank}
 use Rattle.cpg_order.specs.Ranks.{rank_of}
 use Rattle.cpg_order.specs.Ranking.{goes_first, AreRanked}
 use Rattle.cpg_order.specs.Urgency.{tail, IsUrgencyOrder}
-use Rattle.cpg_order.proofs.Places.{from_order}
+use Rattle.cpg_base.proofs.Places.{from_order}
 use Rattle.cpg_order.proofs.Urgent.{first_from_more, first_from_place, first_chain}
 
 -- a relation between neighbours holds of all pairs if it goes on

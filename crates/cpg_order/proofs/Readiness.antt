@@ -14,10 +14,11 @@ use Rattle.cpg_base.proofs.Lists.{Contains-first, Contains-cases, Contains-nil, 
 use Rattle.cpg_base.proofs.Pairs.{AllPairs-append, AllPairs-nil, AllPairs-cons_by, numbers_apart, length-le_of_apart, permutation_of_same}
 use Rattle.cpg_base.proofs.Inputs.{inputs_parts, outputs_parts}
 use Rattle.cpg_order.specs.Reach.{is_in}
-use Rattle.cpg_order.specs.Urgency.{place, IsTopological}
+use Rattle.cpg_order.specs.Urgency.{IsTopological}
+use Rattle.cpg_base.specs.Order.{place}
 use Rattle.cpg_order.specs.Settling.{waits, AreReady, AreSettled, AreStuck}
 use Rattle.cpg_order.proofs.Along.{is_in_from, from_is_in}
-use Rattle.cpg_order.proofs.Places.{place-lt, get_or-place, comes_before_from}
+use Rattle.cpg_base.proofs.Places.{place-lt, get_or-place, comes_before_from}
 
 -- ---- numbers below a bound, without repeats
 

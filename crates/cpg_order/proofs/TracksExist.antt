@@ -10,7 +10,8 @@ use Rattle.cpg_base.specs.Graph.{Graph, condition_count, process_of}
 use Rattle.cpg_base.proofs.Lists.{Contains-first, Contains-rest, Contains-cases, Contains-nil, Contains-numbers, numbers-Contains, list_any_parts, list_any_true, Contains-filter_parts, Contains-filter}
 use Rattle.cpg_base.proofs.Items.{process_of_below}
 use Rattle.cpg_base.proofs.Pairs.{AllPairs-nil, AllPairs-first, AllPairs-rest, AllPairs-cons_by, AllPairs-append, permutation_of_same}
-use Rattle.cpg_order.specs.Urgency.{place, is_more_urgent, IsUrgencyOrder, IsTopological}
+use Rattle.cpg_order.specs.Urgency.{is_more_urgent, IsUrgencyOrder, IsTopological}
+use Rattle.cpg_base.specs.Order.{place}
 use Rattle.cpg_order.specs.Deciding.{outcomes, agree_on, earlier_conditions}
 use Rattle.cpg_order.specs.Counting.{is_value_free, conditions_along, all_false, chosen, all_values, tracks_along}
 use Rattle.cpg_order.proofs.Outcomes.{agree_from, Contains-outcomes, length_of_outcome}

@@ -2,10 +2,10 @@
 ghost use Rattle.std.specs.Prelude.{◌≡◌, ◌≤◌, ◌↔◌, IfOk, IfSome, IfNone, IsTrue, length, IsPermutation, Contains, ℕ};
 ghost use Rattle.cpg_base.specs.Numbers.{numbers_below};
 ghost use Rattle.cpg_base.specs.Graph.{process_count, edge_count, source, target};
-ghost use Rattle.cpg_order.specs.Urgency.{IsTopological, comes_before};
+ghost use Rattle.cpg_order.specs.Urgency.{IsTopological};
+ghost use Rattle.cpg_base.specs.Order.{comes_before};
 
-use crate::Order;
-use cpg_base::{OutOfMemory, Problem};
+use cpg_base::{Order, OutOfMemory, Problem};
 use std::alloc::Global;
 
 /// Whether a list has each number below its length once.
@@ -59,7 +59,7 @@ pub fn ordered(alloc: Global, problem: &Problem, list: &[u32]) -> Result<Option<
     if !has_each(alloc, list)? {
         return Ok(None);
     }
-    let order = Order::placed(copied(alloc, list)?)?;
+    let order = Order::new(copied(alloc, list)?)?;
     if !is_forward(problem, &order) {
         return Ok(None);
     }

@@ -7,8 +7,8 @@ ghost use Rattle.cpg_base.specs.Bus.{round};
 ghost use Rattle.cpg_order.specs.Urgency.{tail, IsTopological};
 ghost use Rattle.cpg_order.specs.Links.{links_of};
 
-use crate::{Links, Order};
-use cpg_base::{OutOfMemory, Problem};
+use crate::Links;
+use cpg_base::{Order, OutOfMemory, Problem};
 use std::alloc::Global;
 
 /// How long an edge takes: a round where it is a message, and no time within a node.

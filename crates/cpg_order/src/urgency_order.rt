@@ -12,8 +12,8 @@ ghost use Rattle.cpg_order.specs.Ranks.{rank_of};
 use crate::cycle::cycle;
 use crate::settling::settle;
 use crate::tails::tails;
-use crate::{Links, Order, OrderFault, Walk};
-use cpg_base::{OutOfMemory, Problem};
+use crate::{Links, OrderFault, Walk};
+use cpg_base::{Order, OutOfMemory, Problem};
 use std::alloc::Global;
 use std::cmp::Reverse;
 
@@ -74,7 +74,7 @@ fn topological(alloc: Global, problem: &Problem, links: &Links) -> Result<Order,
         let walk = cycle(alloc, problem, links, settled.waiting.as_slice())?;
         return Err(OrderFault::Cycle(Walk::through(walk)));
     }
-    Ok(Order::placed(settled.ready)?)
+    Ok(Order::new(settled.ready)?)
 }
 
 /// The urgency order: by falling length of the longest way to an end, then by number. A way takes the executions without
@@ -91,5 +91,5 @@ pub fn urgency(alloc: Global, problem: &Problem) -> Result<Order, OrderFault>
     let order = topological(alloc, problem, &links)?;
     let tails = tails(alloc, problem, &links, &order)?;
     let processes = ranked(alloc, tails.as_slice())?;
-    Ok(Order::placed(processes)?)
+    Ok(Order::new(processes)?)
 }

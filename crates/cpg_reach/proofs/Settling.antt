@@ -7,10 +7,11 @@ use Rattle.cpg_base.specs.Numbers.{numbers_below}
 use Rattle.cpg_base.specs.Graph.{Graph, process_count, edge_count, condition_count, item_count, item_at, broadcast_item, source, is_sent, producer, producer_of_item, home, process_of}
 use Rattle.cpg_base.proofs.Lists.{Contains-first, Contains-rest, Contains-filter, Contains-filter_parts, Contains-flat_map, Contains-flat_map_parts, Contains-numbers, numbers-Contains, same_truth, same_filter}
 use Rattle.cpg_base.proofs.Items.{item_cases, same_condition}
-use Rattle.cpg_order.specs.Urgency.{IsTopological, place}
+use Rattle.cpg_order.specs.Urgency.{IsTopological}
+use Rattle.cpg_base.specs.Order.{place}
 use Rattle.cpg_order.specs.Reach.{Reach, is_in, reach_of}
 use Rattle.cpg_order.proofs.Along.{is_in_from, from_is_in}
-use Rattle.cpg_order.proofs.Places.{same_place, Contains-order}
+use Rattle.cpg_base.proofs.Places.{same_place, Contains-order}
 use Rattle.cpg_order.proofs.Moments.{phase, phases, moment, producer_in_range, phase_below, sooner}
 use Rattle.cpg_reach.specs.Variables.{Adds, HasSame}
 use Rattle.cpg_reach.specs.Walked.{sent_before, AgreesUntil}

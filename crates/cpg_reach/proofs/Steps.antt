@@ -13,11 +13,12 @@ use Rattle.cpg_base.specs.declared.item.Item.{Item}
 use Rattle.cpg_base.proofs.Lists.{Contains-filter_parts, numbers-Contains, list_any_parts, same_truth, same_filter, filter_none}
 use Rattle.cpg_base.proofs.Inputs.{inputs_parts}
 use Rattle.cpg_base.proofs.Items.{item_at-start, process_of_below, start_not_sent}
-use Rattle.cpg_order.specs.Urgency.{IsTopological, before_on_node, place}
+use Rattle.cpg_order.specs.Urgency.{IsTopological}
+use Rattle.cpg_base.specs.Order.{before_on_node, place}
 use Rattle.cpg_order.specs.Deciding.{decides, conditions_of, outcomes}
 use Rattle.cpg_order.specs.Queue.{queued_before, is_queued_before}
 use Rattle.cpg_order.specs.Reach.{Reach, IsReach, is_in, reach_of, end_reach, hearing_reach, source_value, input_reach, start_reach, sent_value, send_reach, reach_by_item}
-use Rattle.cpg_order.proofs.Places.{same_place, Contains-order, comes_before_from_places, place-lt, get_or-place}
+use Rattle.cpg_base.proofs.Places.{same_place, Contains-order, comes_before_from_places, place-lt, get_or-place}
 use Rattle.cpg_order.proofs.Moments.{phase, phases, moment, message_sooner, broadcast_sooner, end_sooner, moment_of_start, producer_in_range, phase_below, phase_is_rank, queued_sooner, sooner}
 use Rattle.cpg_order.proofs.Acyclic.{input_goes_up, source_in_order}
 use Rattle.cpg_order.proofs.DecidingLaws.{decides_earlier}

@@ -8,17 +8,18 @@ use Rattle.std.proofs.lemmas.List.Elements.{Contains-append_cases, Contains-appe
 use Rattle.cpg_base.specs.Numbers.{numbers_below}
 use Rattle.cpg_base.specs.Graph.{Graph, process_count, condition_count, process_of, value_variable}
 use Rattle.cpg_base.proofs.Lists.{Contains-first, Contains-rest, Contains-cases, Contains-nil, Contains-map, Contains-map_parts, Contains-filter, Contains-filter_parts, Contains-numbers, numbers-Contains, list_any_true, list_any_parts, same_truth}
-use Rattle.cpg_order.specs.Urgency.{place, IsUrgencyOrder}
+use Rattle.cpg_order.specs.Urgency.{IsUrgencyOrder}
+use Rattle.cpg_base.specs.Order.{place}
 use Rattle.cpg_order.specs.Deciding.{outcomes, decides, conditions_of}
 use Rattle.cpg_order.specs.Guard.{Guard, Leaf, Test, way, IsOrderedFrom, IsGuardOf}
 use Rattle.cpg_order.specs.Reach.{is_in}
 use Rattle.cpg_order.proofs.Along.{is_in_from, from_is_in}
 use Rattle.cpg_order.proofs.Outcomes.{Contains-outcomes, length_of_outcome}
 use Rattle.cpg_order.proofs.GuardLaw.{way_is_deciding}
-use Rattle.cpg_guard.specs.Guards.{Guards, tree_of}
+use Rattle.cpg_rules.specs.Guards.{Guards, tree_of}
 use Rattle.cpg_rules.specs.Admission.{IsAdmitted}
 use Rattle.cpg_reach.specs.Variables.{HasSame, Adds}
-use Rattle.cpg_guard.specs.Trees.{TestsBelow}
+use Rattle.cpg_rules.specs.Trees.{TestsBelow}
 use Rattle.cpg_reach.specs.Tested.{tested, tested_values, AreDecidingUntil}
 
 -- a way has tests of the tree

@@ -4,14 +4,13 @@ use Rattle.cpg_base.specs.Graph.{Graph, process_count, edge_count, item_count, i
 use Rattle.cpg_base.specs.declared.item.Item.{Item}
 use Rattle.cpg_base.specs.declared.item.Item.TheVariants.{Message, Broadcast}
 use Rattle.cpg_base.proofs.Items.{item_at-message, item_at-broadcast}
-use Rattle.cpg_order.specs.Urgency.{IsTopological, place}
+use Rattle.cpg_order.specs.Urgency.{IsTopological}
+use Rattle.cpg_base.specs.Order.{place, IsOrder}
 use Rattle.cpg_order.specs.Deciding.{conditions_of}
 use Rattle.cpg_order.specs.Reach.{Reach, IsReach, send_reach, reach_by_item}
-use Rattle.cpg_order.proofs.Conditions.{condition_of_process_of, process_of_condition_of}
-use Rattle.cpg_order.proofs.Along.{condition_of_below}
+use Rattle.cpg_base.proofs.ConditionProcesses.{condition_of_process_of, process_of_condition_of, condition_of_below}
 use Rattle.cpg_order.proofs.Moments.{phases, moment, moment_of_item, moment_before_last}
-use Rattle.cpg_order.specs.Order.{IsOrder}
-use Rattle.cpg_order.proofs.Standing.{place_at}
+use Rattle.cpg_base.proofs.Standing.{place_at}
 use Rattle.cpg_reach.specs.Variables.{Adds, HasSame}
 use Rattle.cpg_reach.specs.Walked.{heard_by, start_by, send_by, AgreesUntil, AreEmpty, AreReaches}
 use Rattle.cpg_reach.proofs.Settling.{skipped, settled, broadcast_at, message_at}

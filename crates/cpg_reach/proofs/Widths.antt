@@ -13,7 +13,7 @@ use Rattle.cpg_order.proofs.ViewsGrow.{views_grow}
 use Rattle.cpg_order.proofs.ReachExists.{some_reach}
 use Rattle.cpg_order.proofs.TrackLists.{tracks_exist, count_of_tracks}
 use Rattle.cpg_order.proofs.TrackViews.{views_fit}
-use Rattle.cpg_guard.specs.Guards.{Guards}
+use Rattle.cpg_rules.specs.Guards.{Guards}
 use Rattle.cpg_rules.specs.Admission.{IsAdmitted}
 use Rattle.cpg_reach.specs.Variables.{HasSame}
 use Rattle.cpg_reach.specs.Walked.{AreReaches}

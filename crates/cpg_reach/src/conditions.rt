@@ -1,13 +1,12 @@
 //! The conditions that decide each process in some scenario.
 ghost use Rattle.std.specs.Prelude.{◌≡◌, ◌<◌, ◌≤◌, IfOk, length, get_or, []};
-ghost use Rattle.cpg_guard.specs.Trees.{TestsBelow};
+ghost use Rattle.cpg_rules.specs.Trees.{TestsBelow};
 ghost use Rattle.cpg_reach.specs.Variables.{Adds};
 ghost use Rattle.cpg_reach.specs.Tested.{tested_values, AreDecidingValues};
 
 use crate::variables::{FIRST_VALUE, Variables};
 use cpg_base::OutOfMemory;
-use cpg_guard::{GuardTop, GuardTree};
-use cpg_rules::Admitted;
+use cpg_rules::{Admitted, GuardTop, GuardTree};
 use std::alloc::Global;
 
 /// Adds the values of all conditions that a tree tests.

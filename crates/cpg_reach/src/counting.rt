@@ -9,8 +9,7 @@ ghost use Rattle.cpg_reach.specs.Counter.{IsCounterFor};
 
 use crate::variables::{FIRST_VALUE, Variables};
 use crate::ways::{WaysTable, ways_of};
-use cpg_base::{OutOfMemory, Problem, Scenario};
-use cpg_order::Order;
+use cpg_base::{Order, OutOfMemory, Problem, Scenario};
 use cpg_rules::Admitted;
 use std::alloc::Global;
 

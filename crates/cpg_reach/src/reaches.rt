@@ -1,7 +1,8 @@
 //! The reach of each item, along an order.
 ghost use Rattle.std.specs.Prelude.{◌≡◌, ◌<◌, ◌+◌, ◌*◌, List, ℕ, [], IfOk, length, get_or, slice_set};
 ghost use Rattle.cpg_base.specs.Graph.{process_count, edge_count};
-ghost use Rattle.cpg_order.specs.Urgency.{IsTopological, place};
+ghost use Rattle.cpg_order.specs.Urgency.{IsTopological};
+ghost use Rattle.cpg_base.specs.Order.{place};
 ghost use Rattle.cpg_order.proofs.Moments.{phases};
 ghost use Rattle.cpg_reach.specs.Variables.{Adds};
 ghost use Rattle.cpg_reach.specs.Tested.{AreDecidingValues};
@@ -11,8 +12,7 @@ use crate::conditions::deciding_values;
 use crate::sending::{broadcast_of, message_of};
 use crate::starting::{add_heard, start_of};
 use crate::variables::Variables;
-use cpg_base::{OutOfMemory, Problem};
-use cpg_order::Order;
+use cpg_base::{Order, OutOfMemory, Problem};
 use cpg_rules::Admitted;
 use std::alloc::Global;
 

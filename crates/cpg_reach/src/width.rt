@@ -9,8 +9,7 @@ ghost use Rattle.cpg_reach.specs.Wide.{HasViews, HasLoads, is_wide_by, IsLeastWi
 use crate::counting::Counter;
 use crate::reaches::reaches;
 use crate::variables::Variables;
-use cpg_base::{Item, MOST_COLUMNS, MOST_LOAD, OutOfMemory, Problem};
-use cpg_order::Order;
+use cpg_base::{Item, MOST_COLUMNS, MOST_LOAD, Order, OutOfMemory, Problem};
 use cpg_rules::Admitted;
 use std::alloc::Global;
 

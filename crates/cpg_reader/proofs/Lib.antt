@@ -9,3 +9,8 @@ pub mod Numbering
 pub mod Within
 pub mod DocumentLaws
 pub mod Examples
+pub mod Members
+pub mod RawReads
+pub mod Limited
+pub mod Numbered
+pub mod ReadBack

@@ -4,3 +4,5 @@ pub mod Shape
 pub mod Ranges
 pub mod Names
 pub mod Document
+pub mod WrittenTree
+pub mod RawOf

@@ -10,7 +10,7 @@ use Rattle.cpg_base.specs.WellFormed.{HasSenderSlots}
 use Rattle.cpg_base.proofs.Items.{item_at-message, item_at-broadcast}
 use Rattle.cpg_base.proofs.Lists.{list_any_parts, numbers-Contains}
 use Rattle.cpg_order.proofs.Cycles.{no_cycle}
-use Rattle.cpg_guard.specs.Guards.{Guards}
+use Rattle.cpg_rules.specs.Guards.{Guards}
 use Rattle.cpg_rules.specs.declared.admission.RuleFault.{RuleFault}
 use Rattle.cpg_rules.specs.declared.admission.RuleFault.TheVariants.{Cycle, TooManyTracks, TwoAlternatives, NoSlot, TooBig, OutOfMemory}
 use Rattle.cpg_rules.specs.Rules.{is_message_of, sends_message, decides, is_sender, has_slot, lacks_slot}

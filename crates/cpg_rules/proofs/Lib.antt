@@ -1,2 +1,15 @@
 pub mod Senders
 pub mod Exact
+pub mod Collect
+pub mod Inputs
+pub mod Merging
+pub mod Along
+pub mod Standings
+pub mod Grown
+pub mod Counted
+pub mod Ways
+pub mod EdgeGuards
+pub mod Below
+pub mod Made
+pub mod Searched
+pub mod Outcome

@@ -5,7 +5,7 @@ use Rattle.cpg_base.specs.Limits.{IsWithinLimits}
 use Rattle.cpg_base.specs.WellFormed.{WellFormed, HasSingleJoins, HasSenderSlots}
 use Rattle.cpg_order.specs.Urgency.{IsUrgencyOrder, IsTopological}
 use Rattle.cpg_order.specs.Track.{track_count, most_tracks}
-use Rattle.cpg_guard.specs.Guards.{Guards, AreGuardsOf}
+use Rattle.cpg_rules.specs.Guards.{Guards, AreGuardsOf}
 use Rattle.cpg_rules.specs.Rules.{AllFit}
 
 -- a graph, an order of its processes and guards

@@ -5,8 +5,8 @@ use Rattle.cpg_base.specs.WellFormed.{HasSingleJoins, HasSenderSlots}
 use Rattle.cpg_order.specs.Urgency.{IsUrgencyOrder, IsTopological}
 use Rattle.cpg_order.specs.Track.{track_count, most_tracks}
 use Rattle.cpg_order.specs.Cycle.{IsCycle}
-use Rattle.cpg_guard.specs.Alternatives.{AreAlternatives}
-use Rattle.cpg_guard.specs.Guards.{Guards}
+use Rattle.cpg_rules.specs.Alternatives.{AreAlternatives}
+use Rattle.cpg_rules.specs.Guards.{Guards}
 use Rattle.cpg_rules.specs.declared.admission.RuleFault.{RuleFault}
 use Rattle.cpg_rules.specs.declared.admission.RuleFault.TheVariants.{Cycle, TooManyTracks, TwoAlternatives, NoSlot, TooBig, OutOfMemory}
 use Rattle.cpg_rules.specs.Rules.{LacksSlot, IsAboveSlot}

@@ -1,3 +1,14 @@
 pub mod Rules
 pub mod Admission
 pub mod Faults
+pub mod Trees
+pub mod TreeCode
+pub mod TreeView
+pub mod TreeFalls
+pub mod TreeTop
+pub mod Steps
+pub mod Growing
+pub mod Way
+pub mod Guards
+pub mod Laws
+pub mod Alternatives

@@ -3,15 +3,15 @@ ghost use Rattle.std.specs.Prelude.{◌≡◌, List, ℕ, IfOk, IfErr};
 ghost use Rattle.cpg_base.specs.Limits.{IsWithinLimits};
 ghost use Rattle.cpg_base.specs.WellFormed.{HasSenderSlots};
 ghost use Rattle.cpg_order.specs.Urgency.{IsTopological};
-ghost use Rattle.cpg_guard.specs.Guards.{AreGuardsOf};
+ghost use Rattle.cpg_rules.specs.Guards.{AreGuardsOf};
 ghost use Rattle.cpg_rules.specs.Rules.{AllFit};
 ghost use Rattle.cpg_rules.specs.Admission.{IsAdmitted};
 ghost use Rattle.cpg_rules.specs.Faults.{IsOrdered, HasFewTracks, HasFewInputs, ShowsFault};
 
 use crate::slots::{above_slot, without_slot};
-use cpg_base::{Problem, Scenario};
-use cpg_guard::{GuardFault, GuardTrees, guards, two_alternatives};
-use cpg_order::{Order, OrderFault, Walk, urgency};
+use crate::{GuardFault, GuardTrees, guards, two_alternatives};
+use cpg_base::{Order, Problem, Scenario};
+use cpg_order::{OrderFault, Walk, urgency};
 use std::alloc::Global;
 use std::marker::Model;
 
@@ -25,7 +25,7 @@ pub struct Admitted {
 
 impl Model for Admitted {
     ghost use Rattle.std.specs.Coded.{codes};
-    ghost use Rattle.cpg_guard.specs.TreeCode.{tree_code};
+    ghost use Rattle.cpg_rules.specs.TreeCode.{tree_code};
     ghost use Rattle.cpg_rules.specs.Admission.{Admission, IsAdmitted};
 
     ghost Value = { Admission };

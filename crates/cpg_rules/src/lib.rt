@@ -4,9 +4,20 @@
 ghost use Rattle.cpg_rules.specs.Faults.{AdmittedShowNoFault};
 
 mod admission;
+mod edges;
+mod growing;
+mod joins;
+mod laws;
 mod slots;
+mod steps;
+mod tree;
+mod trees;
 
 pub use admission::{Admitted, Refused, RuleFault, admit};
+pub use joins::{Alternatives, two_alternatives};
+pub use laws::ways_are_deciding;
+pub use tree::{GuardTop, GuardTree};
+pub use trees::{GuardFault, GuardTrees, guards};
 
 /// A graph that keeps all rules shows no fault but want of memory.
 pub fn admitted_show_no_fault()

@@ -4,8 +4,9 @@ use Rattle.std.proofs.lemmas.Bool.{cases_lt}
 use Rattle.cpg_base.specs.Graph.{Graph, process_count, condition_count, item_count, item_at, broadcast_item, producer, process_of, node_of, home}
 use Rattle.cpg_base.specs.Bus.{round, slot_length}
 use Rattle.cpg_base.proofs.Items.{process_of_below, item_at-broadcast}
-use Rattle.cpg_order.specs.Urgency.{IsTopological, place}
-use Rattle.cpg_order.specs.Scenario.{Scenario}
+use Rattle.cpg_order.specs.Urgency.{IsTopological}
+use Rattle.cpg_base.specs.Order.{place}
+use Rattle.cpg_base.specs.Scenario.{Scenario}
 use Rattle.cpg_order.specs.Deciding.{decides}
 use Rattle.cpg_order.proofs.DecidingLaws.{decides_earlier}
 use Rattle.cpg_order.proofs.Moments.{phase, phases, phase_below, moment, moment_of_item, moment_of_end, sooner}

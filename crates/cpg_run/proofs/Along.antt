@@ -5,9 +5,9 @@ use Rattle.std.proofs.lemmas.List.FromFn.{length-map-range_with_len}
 use Rattle.cpg_base.specs.Numbers.{greatest}
 use Rattle.cpg_base.specs.Graph.{Graph, process_count, item_count, producer}
 use Rattle.cpg_order.specs.Urgency.{IsTopological}
-use Rattle.cpg_order.specs.Scenario.{Scenario}
+use Rattle.cpg_base.specs.Scenario.{Scenario}
 use Rattle.cpg_order.proofs.Moments.{producer_in_range}
-use Rattle.cpg_order.proofs.Places.{place_in_order}
+use Rattle.cpg_base.proofs.Places.{place_in_order}
 use Rattle.cpg_run.specs.Run.{Times, IsRun, time_by, end_by}
 use Rattle.cpg_run.proofs.RunExists.{a_run}
 use Rattle.cpg_run.specs.Progress.{Knows}

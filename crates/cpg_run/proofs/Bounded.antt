@@ -6,10 +6,10 @@ use Rattle.cpg_base.specs.Graph.{Graph, process_at, item_at, node_of, inputs, ho
 use Rattle.cpg_base.specs.Activity.{active, live, item_active}
 use Rattle.cpg_base.specs.Bus.{round, next_slot}
 use Rattle.cpg_base.proofs.Lists.{greatest-le, Contains-cases, Contains-map_parts, Contains-filter_parts}
-use Rattle.cpg_order.specs.Urgency.{before_on_node}
+use Rattle.cpg_base.specs.Order.{before_on_node}
 use Rattle.cpg_order.specs.Deciding.{deciding}
 use Rattle.cpg_order.specs.Queue.{queued_before}
-use Rattle.cpg_order.specs.Scenario.{Scenario}
+use Rattle.cpg_base.specs.Scenario.{Scenario}
 use Rattle.cpg_run.specs.Run.{Times, time_in, end_in, input_there, heard_there, input_bounds, processor_bounds, hearing_bounds, start_bounds, send_bounds}
 
 -- the greatest of those that pass

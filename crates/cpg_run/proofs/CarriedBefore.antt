@@ -7,16 +7,17 @@ use Rattle.cpg_base.specs.Activity.{active, item_active}
 use Rattle.cpg_base.proofs.Lists.{Contains-filter_parts, numbers-Contains, same_flat_map}
 use Rattle.cpg_base.proofs.Inputs.{inputs_parts}
 use Rattle.cpg_base.proofs.Items.{item_cases, item_at-message, item_at-broadcast}
-use Rattle.cpg_order.specs.Urgency.{place, before_on_node, IsTopological}
+use Rattle.cpg_order.specs.Urgency.{IsTopological}
+use Rattle.cpg_base.specs.Order.{place, before_on_node}
 use Rattle.cpg_order.specs.Deciding.{decides, deciding}
 use Rattle.cpg_order.specs.Queue.{queued_before}
-use Rattle.cpg_order.specs.Scenario.{Scenario}
+use Rattle.cpg_base.specs.Scenario.{Scenario}
 use Rattle.cpg_order.proofs.Acyclic.{input_goes_up}
 use Rattle.cpg_order.proofs.DecidingLaws.{decides_earlier}
-use Rattle.cpg_order.proofs.Places.{on_node_before}
+use Rattle.cpg_base.proofs.Places.{on_node_before}
 use Rattle.cpg_cube.specs.declared.literal.Literal.{Literal}
 use Rattle.cpg_cube.specs.Cube.{matches}
-use Rattle.cpg_table.specs.Table.{Column}
+use Rattle.cpg_cube.specs.Column.{Column}
 use Rattle.cpg_run.specs.Carried.{told_by, number_known, decided, heard, received, executed, passed, carried_at_start, carried_at_end, sent_by_value, queued, carried_at_send, carried_by_item, carried}
 use Rattle.cpg_run.specs.RowLaws.{SameRowsBefore, CarriedRestsOnEarlier}
 use Rattle.cpg_run.proofs.Queued.{producer_no_later}

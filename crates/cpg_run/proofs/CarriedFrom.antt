@@ -10,17 +10,18 @@ use Rattle.cpg_base.specs.declared.item.Item.TheVariants.{Start, Message, Broadc
 use Rattle.cpg_base.specs.Activity.{active, item_active}
 use Rattle.cpg_base.proofs.Lists.{Contains-cases, Contains-nil, Contains-map_parts, Contains-filter_parts, Contains-flat_map_parts, numbers-Contains, from_all, all_from, in_option}
 use Rattle.cpg_base.proofs.Items.{item_cases}
-use Rattle.cpg_order.specs.Urgency.{place, before_on_node, IsTopological}
+use Rattle.cpg_order.specs.Urgency.{IsTopological}
+use Rattle.cpg_base.specs.Order.{place, before_on_node}
 use Rattle.cpg_order.specs.Deciding.{decides, deciding}
 use Rattle.cpg_order.specs.Queue.{queued_before, is_queued_before}
 use Rattle.cpg_order.specs.Reach.{sent_value}
-use Rattle.cpg_order.specs.Scenario.{Scenario}
-use Rattle.cpg_order.proofs.Conditions.{process_of_condition_of}
+use Rattle.cpg_base.specs.Scenario.{Scenario}
+use Rattle.cpg_base.proofs.ConditionProcesses.{process_of_condition_of}
 use Rattle.cpg_order.proofs.Moments.{producer_in_range}
 use Rattle.cpg_cube.specs.declared.literal.Literal.{Literal}
 use Rattle.cpg_cube.specs.Cube.{holds, matches}
 use Rattle.cpg_cube.specs.Fit.{IsCube}
-use Rattle.cpg_table.specs.Table.{Column}
+use Rattle.cpg_cube.specs.Column.{Column}
 use Rattle.cpg_run.specs.Supported.{up_to}
 use Rattle.cpg_run.proofs.Awaited.{up_to_before, up_to_itself, up_to_parts}
 use Rattle.cpg_run.specs.Carried.{row_at, told_by, number_known, decided, heard, received, executed, passed, carried_at_start, carried_at_end, sent_by_value, queued, carried_at_send, carried_by_item, carried}

@@ -9,15 +9,16 @@ use Rattle.cpg_base.specs.Numbers.{numbers_below}
 use Rattle.cpg_base.proofs.Lists.{Contains-map, Contains-map_parts, Contains-filter, Contains-filter_parts, numbers-Contains}
 use Rattle.cpg_base.proofs.Items.{item_cases, item_at-start, item_at-broadcast, process_of_below, producer_within}
 use Rattle.cpg_order.specs.Deciding.{decides}
-use Rattle.cpg_order.specs.Scenario.{Scenario, IsScenario, number_of}
-use Rattle.cpg_order.specs.Urgency.{place}
+use Rattle.cpg_base.specs.Scenario.{Scenario, IsScenario, number_of}
+use Rattle.cpg_base.specs.Order.{place}
 use Rattle.cpg_order.proofs.Queues.{queued_parts}
 use Rattle.cpg_cube.specs.declared.literal.Literal.{Literal}
 use Rattle.cpg_cube.specs.Cube.{matches, is_whole, low_in, high_in}
 use Rattle.cpg_base.specs.Variable.{top}
 use Rattle.cpg_cube.specs.Fit.{IsCube}
 use Rattle.cpg_table.specs.Heard.{exactly, matching, kept_low, kept_high}
-use Rattle.cpg_table.specs.Table.{Column, NodeTable, columns_of, times_in}
+use Rattle.cpg_table.specs.Table.{NodeTable, columns_of}
+use Rattle.cpg_cube.specs.Column.{Column, times_in}
 use Rattle.cpg_run.specs.Exact.{HasRunTimes}
 use Rattle.cpg_run.specs.Laws.{Given}
 use Rattle.cpg_run.specs.Supported.{Supported, known, known_by_item, known_at_start, known_at_end, up_to}

@@ -12,29 +12,27 @@ use Rattle.cpg_base.proofs.Items.{item_cases, item_at-start}
 use Rattle.cpg_order.specs.Deciding.{decides, deciding, conditions_of}
 use Rattle.cpg_order.specs.Queue.{queued_before}
 use Rattle.cpg_order.specs.Reach.{Reach, IsReach, is_in, reach_of, end_reach, hearing_reach, source_value, input_reach, start_reach, sent_value, send_reach, reach_by_item}
-use Rattle.cpg_order.specs.Scenario.{Scenario, IsScenario}
-use Rattle.cpg_order.specs.Urgency.{place, before_on_node}
+use Rattle.cpg_base.specs.Scenario.{Scenario, IsScenario}
+use Rattle.cpg_base.specs.Order.{place, before_on_node}
 use Rattle.cpg_order.proofs.ConditionsOf.{in_conditions_of}
 use Rattle.cpg_order.proofs.Moments.{producer_in_range}
 use Rattle.cpg_order.proofs.Queues.{queued_parts}
 use Rattle.cpg_cube.specs.declared.literal.Literal.{Literal}
-use Rattle.cpg_cube.specs.Fit.{lows}
+use Rattle.cpg_cube.specs.Fit.{lows, IsCube}
 use Rattle.cpg_cube.specs.Cube.{IsRising, is_whole}
 use Rattle.cpg_base.specs.Variable.{top}
-use Rattle.cpg_cube.specs.Fit.{IsCube}
 use Rattle.cpg_cube.proofs.Ranges.{narrow, range_of_literal}
 use Rattle.cpg_table.specs.Heard.{kept_low, kept_high}
-use Rattle.cpg_table.specs.Merged.{IsLeastMatch}
-use Rattle.cpg_table.specs.Table.{Column}
+use Rattle.cpg_merging.specs.Merged.{IsLeastMatch}
+use Rattle.cpg_cube.specs.Column.{Column}
 use Rattle.cpg_run.proofs.Hearing.{kept_low_below, kept_high_above}
-use Rattle.cpg_run.specs.Carrying.{ContainsKept}
+use Rattle.cpg_run.specs.Carrying.{ContainsKept, AreCarrying}
 use Rattle.cpg_run.proofs.CarryingTimed.{carrying_active}
 use Rattle.std.specs.Prelude.{All}
 use Rattle.std.specs.List.{list_any}
 use Rattle.cpg_run.specs.Supported.{up_to}
 use Rattle.cpg_run.proofs.Awaited.{up_to_parts, up_to_cases}
 use Rattle.cpg_run.specs.Carried.{row_at, number_known, carried, carried_by_item}
-use Rattle.cpg_run.specs.Carrying.{AreCarrying}
 use Rattle.cpg_run.specs.RowLaws.{IsTimed, IsEarlier}
 use Rattle.cpg_run.proofs.CarriedBefore.{hears_earlier, receives_earlier}
 use Rattle.cpg_run.proofs.CarriedFrom.{FromRow, FromValue, FromProcess, by_value, by_broadcast, by_message, by_count, FromStart, own, more, FromEnd, from_start, its_count, FromSent, FromQueued, left_value, left_sent, left_end, FromSend, of_producer, of_queue, of_end, of_value, from_start_of, from_send_of}

@@ -3,8 +3,9 @@ use Rattle.std.proofs.Common.{ℕ, ◌<◌, ◌≤◌, ◌≢◌, List, Contains
 use Rattle.cpg_base.specs.Graph.{Graph, process_count, item_count}
 use Rattle.cpg_order.specs.Reach.{Reach, IsReach, reach_of, views}
 use Rattle.cpg_cube.specs.declared.literal.Literal.{Literal}
-use Rattle.cpg_table.specs.Merged.{IsMerged}
-use Rattle.cpg_table.specs.Table.{Column, NodeTable, columns_of}
+use Rattle.cpg_merging.specs.Merged.{IsMerged}
+use Rattle.cpg_table.specs.Table.{NodeTable, columns_of}
+use Rattle.cpg_cube.specs.Column.{Column}
 use Rattle.cpg_table.specs.declared.rule.Rule.{Rule}
 use Rattle.cpg_run.specs.Exact.{IsFormed, IsExact}
 use Rattle.cpg_run.specs.Laws.{Keeps}

@@ -8,8 +8,8 @@ use Rattle.cpg_base.specs.Numbers.{numbers_below, greatest}
 use Rattle.cpg_base.specs.Graph.{Graph, process_count, condition_count, value_variable}
 use Rattle.cpg_base.proofs.Lists.{Contains-first, Contains-rest, Contains-map, Contains-map_parts, Contains-filter, Contains-filter_parts, Contains-numbers, Contains-flat_map, Contains-flat_map_parts, numbers_rise, all_from, from_all, same_map, list_any_true, list_any_parts, greatest_above}
 use Rattle.cpg_base.proofs.Pairs.{AllPairs-map}
-use Rattle.cpg_order.specs.Scenario.{Scenario, IsScenario, number_of}
-use Rattle.cpg_order.proofs.Variables.{variable_or_not, unknown-zero}
+use Rattle.cpg_base.specs.Scenario.{Scenario, IsScenario, number_of}
+use Rattle.cpg_base.proofs.NumbersOf.{variable_or_not, unknown-zero}
 use Rattle.cpg_cube.specs.declared.literal.Literal.{Literal}
 use Rattle.cpg_cube.specs.Cube.{IsRising, holds, matches, low_in, high_in}
 use Rattle.cpg_base.specs.Variable.{top}

@@ -8,8 +8,9 @@ use Rattle.cpg_base.specs.Graph.{Graph, process_count, inputs, source, process_a
 use Rattle.cpg_base.specs.Activity.{active, activation_by, is_active, live}
 use Rattle.cpg_base.proofs.Inputs.{inputs_parts}
 use Rattle.cpg_base.proofs.Lists.{Contains-first, Contains-rest, Contains-nil, Contains-cases, Contains-flat_map, Contains-flat_map_parts, greatest_above, greatest_in}
-use Rattle.cpg_order.specs.Urgency.{IsTopological, place}
-use Rattle.cpg_order.specs.Scenario.{Scenario}
+use Rattle.cpg_order.specs.Urgency.{IsTopological}
+use Rattle.cpg_base.specs.Order.{place}
+use Rattle.cpg_base.specs.Scenario.{Scenario}
 use Rattle.cpg_order.proofs.Acyclic.{activation_is, input_goes_up, source_in_order}
 use Rattle.cpg_run.specs.Run.{Times, IsRun, end_by}
 use Rattle.cpg_run.proofs.Runs.{has_end}

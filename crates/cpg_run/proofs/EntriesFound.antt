@@ -7,10 +7,10 @@ use Rattle.cpg_base.specs.Graph.{Graph, item_at}
 use Rattle.cpg_base.specs.Activity.{item_active}
 use Rattle.cpg_base.proofs.Lists.{Contains-first, Contains-map, Contains-map_parts, Contains-nil}
 use Rattle.cpg_base.proofs.Pairs.{AllPairs-nil, AllPairs-cons_by, AllPairs-append}
-use Rattle.cpg_order.specs.Scenario.{Scenario, IsScenario}
+use Rattle.cpg_base.specs.Scenario.{Scenario, IsScenario}
 use Rattle.cpg_cube.specs.declared.literal.Literal.{Literal}
 use Rattle.cpg_cube.specs.Fit.{lows}
-use Rattle.cpg_table.specs.Table.{Column}
+use Rattle.cpg_cube.specs.Column.{Column}
 use Rattle.cpg_run.specs.Carried.{carried}
 use Rattle.cpg_run.specs.Rows.{IsCubeOf, IsEntryIn, AreEntriesOf}
 use Rattle.cpg_run.proofs.CubesOf.{same_least}

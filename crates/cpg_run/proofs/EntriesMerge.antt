@@ -7,14 +7,14 @@ use Rattle.std.proofs.lemmas.List.Kept.{AllPairs-filter}
 use Rattle.cpg_base.specs.Graph.{Graph, process_count, item_count, item_at, IsVariable}
 use Rattle.cpg_base.specs.Activity.{item_active}
 use Rattle.cpg_base.proofs.Lists.{Contains-first, Contains-rest, Contains-cases, Contains-nil, Contains-map, Contains-map_parts, Contains-filter, Contains-filter_parts, filter_none}
-use Rattle.cpg_order.specs.Scenario.{Scenario, IsScenario}
+use Rattle.cpg_base.specs.Scenario.{Scenario, IsScenario}
 use Rattle.cpg_cube.specs.declared.literal.Literal.{Literal}
 use Rattle.cpg_cube.specs.Cube.{matches}
 use Rattle.cpg_base.specs.Variable.{top}
 use Rattle.cpg_cube.specs.Fit.{IsCube, is_met, lows}
 use Rattle.cpg_cube.proofs.CubeLows.{met_by, lows-lawful, lows-match}
-use Rattle.cpg_table.specs.Merged.{AreMergeable}
-use Rattle.cpg_table.specs.Table.{Column, times_in}
+use Rattle.cpg_merging.specs.Merged.{AreMergeable}
+use Rattle.cpg_cube.specs.Column.{Column, times_in}
 use Rattle.cpg_run.specs.Run.{Times, IsRun, time_in}
 use Rattle.cpg_run.proofs.RunExists.{a_run}
 use Rattle.cpg_run.proofs.RunUnique.{run_unique}

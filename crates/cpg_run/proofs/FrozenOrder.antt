@@ -7,10 +7,10 @@ use Rattle.cpg_base.proofs.Items.{item_cases, ItemCases, item_at-start}
 use Rattle.cpg_base.proofs.Lists.{Contains-first, Contains-rest, Contains-cases, Contains-filter, Contains-filter_parts, Contains-flat_map, Contains-flat_map_parts}
 use Rattle.cpg_base.proofs.Ordered.{Rises, Rises-all_pairs, Rises-filter, Rises-flat_map, Rises-weaker}
 use Rattle.cpg_base.proofs.Pairs.{order_apart}
-use Rattle.cpg_order.specs.Order.{IsOrder}
-use Rattle.cpg_order.specs.Urgency.{IsTopological, place}
+use Rattle.cpg_base.specs.Order.{IsOrder, place}
+use Rattle.cpg_order.specs.Urgency.{IsTopological}
 use Rattle.cpg_order.proofs.Moments.{moment, phase, phases, phase_below, phase_is_rank, moment_of_start, producer_in_range, sooner}
-use Rattle.cpg_order.proofs.Places.{Contains-order, from_order, places_rise}
+use Rattle.cpg_base.proofs.Places.{Contains-order, from_order, places_rise}
 use Rattle.cpg_bus.specs.Plan.{queue_of}
 use Rattle.cpg_bus.proofs.Queued.{rank_at, in_queue, queue-Contains, queue_rises}
 use Rattle.cpg_run.specs.FrozenItems.{frozen_items_of, frozen_along}

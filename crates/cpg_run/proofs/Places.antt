@@ -5,9 +5,10 @@ use Rattle.cpg_base.specs.Numbers.{greatest}
 use Rattle.cpg_base.specs.Graph.{Graph, process_count, condition_count, item_count, process_at, node_of}
 use Rattle.cpg_base.specs.Activity.{active}
 use Rattle.cpg_base.specs.Duration.{duration}
-use Rattle.cpg_order.specs.Urgency.{IsTopological, place}
+use Rattle.cpg_order.specs.Urgency.{IsTopological}
+use Rattle.cpg_base.specs.Order.{place}
 use Rattle.cpg_order.specs.Deciding.{decides}
-use Rattle.cpg_order.specs.Scenario.{Scenario, fault_of}
+use Rattle.cpg_base.specs.Scenario.{Scenario, fault_of}
 use Rattle.cpg_run.specs.Run.{Times, IsRun, time_in, end_in, heard_there, input_bounds}
 use Rattle.cpg_run.proofs.Runs.{end_active}
 use Rattle.cpg_run.specs.Known.{frozen_in}

@@ -4,9 +4,9 @@ use Rattle.std.proofs.lemmas.Bool.{and_parts, and_from, or_cases, or_left, or_ri
 use Rattle.cpg_base.specs.Numbers.{numbers_below}
 use Rattle.cpg_base.specs.Graph.{Graph, item_count, item_at, is_sent, home, producer}
 use Rattle.cpg_base.proofs.Lists.{Contains-filter, Contains-filter_parts}
-use Rattle.cpg_order.specs.Urgency.{place, comes_before}
+use Rattle.cpg_base.specs.Order.{place, comes_before}
 use Rattle.cpg_order.specs.Queue.{rank_of_item, is_queued_before, queued_before}
-use Rattle.cpg_order.proofs.Places.{places_from_comes_before, before_contains, comes_before_from_places}
+use Rattle.cpg_base.proofs.Places.{places_from_comes_before, before_contains, comes_before_from_places}
 
 module _ (g : Graph) (order : List ℕ) where
   -- y is sent by the node that sends x, and from an earlier producer or by a lower rank

@@ -12,19 +12,19 @@ use Rattle.cpg_base.specs.Activity.{item_active}
 use Rattle.cpg_base.specs.Bus.{round, offset, slot_place, slot_length, next_slot}
 use Rattle.cpg_base.specs.Duration.{duration}
 use Rattle.cpg_base.specs.Limits.{IsWithinLimits}
-use Rattle.cpg_base.specs.Scenario.{IsScenario}
+use Rattle.cpg_base.specs.Scenario.{IsScenario, Scenario, fault_of}
 use Rattle.cpg_base.proofs.Bounds.{round-le, duration-le, slot_length-le}
 use Rattle.cpg_base.proofs.Inputs.{inputs_parts}
 use Rattle.cpg_base.proofs.Items.{item_cases, ItemCases, process_of_below}
 use Rattle.cpg_base.proofs.Lists.{greatest-cons, Contains-filter_parts, Contains-flat_map_parts, numbers-Contains}
-use Rattle.cpg_order.specs.Urgency.{IsTopological, place, before, before_on_node}
+use Rattle.cpg_order.specs.Urgency.{IsTopological}
+use Rattle.cpg_base.specs.Order.{place, before, before_on_node}
 use Rattle.cpg_order.specs.Deciding.{decides, deciding}
 use Rattle.cpg_order.specs.Queue.{is_queued_before, rank_of_item}
-use Rattle.cpg_order.specs.Scenario.{Scenario, fault_of}
 use Rattle.cpg_order.proofs.Acyclic.{input_goes_up, source_in_order}
 use Rattle.cpg_order.proofs.DecidingLaws.{decides_earlier}
 use Rattle.cpg_order.proofs.Moments.{phase, phases, moment, moment_of_end, moment_of_start, last, message_sooner, broadcast_sooner, end_sooner, queued_sooner, producer_in_range}
-use Rattle.cpg_order.proofs.Places.{from_order, not_later, on_node_before}
+use Rattle.cpg_base.proofs.Places.{from_order, not_later, on_node_before}
 use Rattle.cpg_run.specs.Run.{Times, IsRun, time_in, end_in, frame_there, input_there, heard_there, bounds_of_item, unfrozen_time, start_bounds, send_bounds, end_by}
 use Rattle.cpg_run.proofs.Runs.{time_is, time_in_active, end_is}
 use Rattle.cpg_run.proofs.Bounded.{start_bounds_le, send_bounds_le}

@@ -1,10 +1,10 @@
 -- Rows have the times of the runs, process after process; and what is said of a row rests on the rows of earlier processes.
 use Rattle.std.proofs.Common.{ℕ, zero, suc, ◌<◌, ◌≤◌, ◌≡◌, List, Contains, Option, arith, sym, ◌∙◌, subst}
 use Rattle.cpg_base.specs.Graph.{Graph, item_count, producer}
-use Rattle.cpg_order.specs.Urgency.{place}
-use Rattle.cpg_order.specs.Scenario.{Scenario}
-use Rattle.cpg_table.specs.Merged.{IsMergeOf}
-use Rattle.cpg_table.specs.Table.{Column}
+use Rattle.cpg_base.specs.Order.{place}
+use Rattle.cpg_base.specs.Scenario.{Scenario}
+use Rattle.cpg_merging.specs.Merged.{IsMergeOf}
+use Rattle.cpg_cube.specs.Column.{Column}
 use Rattle.cpg_run.specs.Carried.{row_at, carried}
 use Rattle.cpg_run.specs.Rows.{IsCubeOf, IsEntryIn, AreEntriesOf, IsRowOf, AreRows}
 use Rattle.cpg_run.specs.RowLaws.{IsTimed, IsEarlier, SameRowsBefore, AreRowsBefore, HaveTimesOf}

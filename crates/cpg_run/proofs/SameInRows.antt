@@ -4,9 +4,9 @@ use Rattle.std.proofs.lemmas.Bool.{cond-false}
 use Rattle.cpg_base.specs.Graph.{Graph, item_count, item_at}
 use Rattle.cpg_base.specs.Activity.{item_active}
 use Rattle.cpg_base.proofs.Lists.{Contains-first, Contains-cases, Contains-nil, Contains-map, Contains-filter, Contains-filter_parts, in_option}
-use Rattle.cpg_order.specs.Scenario.{Scenario, IsScenario}
+use Rattle.cpg_base.specs.Scenario.{Scenario, IsScenario}
 use Rattle.cpg_cube.specs.Cube.{matches}
-use Rattle.cpg_table.specs.Table.{Column}
+use Rattle.cpg_cube.specs.Column.{Column}
 use Rattle.cpg_run.specs.Run.{Times, IsRun, time_in}
 use Rattle.cpg_run.proofs.Runs.{time_is, has_time, time_parts}
 use Rattle.cpg_run.specs.Carried.{row_at, told_by}

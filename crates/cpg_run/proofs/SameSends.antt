@@ -9,17 +9,17 @@ use Rattle.cpg_base.specs.Activity.{active, live, takes, value_of, item_active}
 use Rattle.cpg_base.specs.Bus.{round, next_slot}
 use Rattle.cpg_base.proofs.Lists.{Contains-first, Contains-filter_parts, from_all, same_map, same_filter, same_flat_map}
 use Rattle.cpg_base.proofs.Items.{item_cases}
-use Rattle.cpg_order.specs.Urgency.{place}
+use Rattle.cpg_base.specs.Order.{place}
 use Rattle.cpg_order.specs.Queue.{queued_before}
 use Rattle.cpg_order.specs.Reach.{source_value, sent_value}
-use Rattle.cpg_order.specs.Scenario.{Scenario}
-use Rattle.cpg_order.proofs.Conditions.{condition_of_process_of}
+use Rattle.cpg_base.specs.Scenario.{Scenario}
+use Rattle.cpg_base.proofs.ConditionProcesses.{condition_of_process_of}
 use Rattle.cpg_order.proofs.Moments.{moment, producer_in_range}
 use Rattle.cpg_order.proofs.Queues.{queued_parts}
 use Rattle.cpg_order.proofs.SameActivation.{takes_same}
-use Rattle.cpg_order.proofs.Scenarios.{one_value, number_of-value}
+use Rattle.cpg_base.proofs.NumbersOf.{one_value, number_of-value}
 use Rattle.cpg_cube.specs.Cube.{holds, matches}
-use Rattle.cpg_table.specs.Table.{Column}
+use Rattle.cpg_cube.specs.Column.{Column}
 use Rattle.cpg_table.specs.Heard.{exactly}
 use Rattle.cpg_run.specs.Run.{Times, IsRun, time_in, send_bounds}
 use Rattle.cpg_run.proofs.RunExists.{a_run}

@@ -9,18 +9,18 @@ use Rattle.cpg_base.specs.Bus.{slot_length}
 use Rattle.cpg_base.proofs.Lists.{Contains-first, Contains-map, Contains-filter, Contains-filter_parts, Contains-flat_map_parts, Contains-numbers, numbers-Contains, from_all, same_map, same_filter, same_flat_map, same_truth}
 use Rattle.cpg_base.proofs.Inputs.{inputs_parts}
 use Rattle.cpg_base.proofs.Items.{item_at-start, item_at-message, item_at-broadcast, process_of_below}
-use Rattle.cpg_order.specs.Urgency.{place, before_on_node}
+use Rattle.cpg_base.specs.Order.{place, before_on_node}
 use Rattle.cpg_order.specs.Deciding.{decides, deciding}
-use Rattle.cpg_order.specs.Scenario.{Scenario, IsScenario, fault_of, number_of}
+use Rattle.cpg_base.specs.Scenario.{Scenario, IsScenario, fault_of, number_of}
 use Rattle.cpg_order.proofs.Acyclic.{activation_is, input_goes_up}
 use Rattle.cpg_order.proofs.ConditionsOf.{same_live_inputs}
 use Rattle.cpg_order.proofs.DecidingLaws.{deciding_is_active, decides_earlier}
 use Rattle.cpg_order.proofs.DecidingSame.{deciding_same, activation_same}
-use Rattle.cpg_order.proofs.Scenarios.{one_value, number_of-value, number_of-fault}
+use Rattle.cpg_base.proofs.NumbersOf.{one_value, number_of-value, number_of-fault}
 use Rattle.cpg_order.proofs.UrgencyIsTopological.{urgency_is_topological}
 use Rattle.cpg_cube.specs.Cube.{holds, matches}
 use Rattle.cpg_table.specs.Heard.{exactly}
-use Rattle.cpg_table.specs.Table.{Column}
+use Rattle.cpg_cube.specs.Column.{Column}
 use Rattle.cpg_run.specs.Alike.{Admitted}
 use Rattle.cpg_run.specs.Run.{Times, IsRun, end_in, input_there, heard_there, start_bounds, input_bounds, processor_bounds, hearing_bounds, bounds_of_item, unfrozen_time}
 use Rattle.cpg_run.specs.Supported.{up_to}

@@ -9,11 +9,12 @@ use Rattle.cpg_base.specs.Graph.{Graph, process_count, item_count, item_at, prod
 use Rattle.cpg_base.specs.Activity.{item_active}
 use Rattle.cpg_base.specs.Bus.{round, next_slot}
 use Rattle.cpg_base.proofs.Lists.{greatest-cons, Contains-first, Contains-cases, Contains-nil, Contains-filter_parts, numbers-Contains}
-use Rattle.cpg_order.specs.Urgency.{IsTopological, place, comes_before}
+use Rattle.cpg_order.specs.Urgency.{IsTopological}
+use Rattle.cpg_base.specs.Order.{place, comes_before}
 use Rattle.cpg_order.specs.Queue.{is_queued_before, queued_before, rank_of_item}
-use Rattle.cpg_order.specs.Scenario.{Scenario}
+use Rattle.cpg_base.specs.Scenario.{Scenario}
 use Rattle.cpg_order.proofs.Moments.{producer_in_range}
-use Rattle.cpg_order.proofs.Places.{Contains-order, places_from_comes_before, comes_before_from_places}
+use Rattle.cpg_base.proofs.Places.{Contains-order, places_from_comes_before, comes_before_from_places}
 use Rattle.cpg_order.proofs.Queues.{queued_from}
 use Rattle.cpg_run.specs.Run.{Times, IsRun, time_in, end_in, send_bounds, unfrozen_time}
 use Rattle.cpg_run.proofs.Runs.{time_is, time_in_active, has_time, producer_below, queue_below, unfrozen_sent}

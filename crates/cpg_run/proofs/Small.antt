@@ -5,9 +5,8 @@ use Rattle.std.proofs.lemmas.List.{get_or_past}
 use Rattle.std.proofs.lemmas.List.FromFn.{length-map-range_with_len}
 use Rattle.cpg_base.specs.Graph.{Graph, process_count, item_count}
 use Rattle.cpg_base.specs.Limits.{IsWithinLimits}
-use Rattle.cpg_base.specs.Scenario.{IsScenario}
+use Rattle.cpg_base.specs.Scenario.{IsScenario, Scenario}
 use Rattle.cpg_order.specs.Urgency.{IsTopological}
-use Rattle.cpg_order.specs.Scenario.{Scenario}
 use Rattle.cpg_order.proofs.Moments.{moment_before_last, end_before_last, last}
 use Rattle.cpg_run.specs.Run.{Times, IsRun, time_in, end_in, time_by, end_by}
 use Rattle.cpg_run.specs.Known.{AreEarly, AreSmall}

@@ -10,12 +10,13 @@ use Rattle.cpg_base.specs.Bus.{slot_length}
 use Rattle.cpg_base.proofs.Inputs.{inputs_parts}
 use Rattle.cpg_base.proofs.Items.{item_at-start, item_at-message, item_at-broadcast, process_of_below}
 use Rattle.cpg_base.proofs.Lists.{greatest-cons, greatest-le, greatest_above, Contains-first, Contains-cases, Contains-nil, Contains-map, Contains-filter, Contains-filter_parts, Contains-flat_map, Contains-flat_map_parts, Contains-numbers, numbers-Contains}
-use Rattle.cpg_order.specs.Urgency.{IsTopological, place, before, before_on_node}
+use Rattle.cpg_order.specs.Urgency.{IsTopological}
+use Rattle.cpg_base.specs.Order.{place, before, before_on_node}
 use Rattle.cpg_order.specs.Deciding.{decides, deciding}
-use Rattle.cpg_order.specs.Scenario.{Scenario}
+use Rattle.cpg_base.specs.Scenario.{Scenario}
 use Rattle.cpg_order.proofs.Acyclic.{input_goes_up, source_in_order}
 use Rattle.cpg_order.proofs.DecidingLaws.{decides_earlier}
-use Rattle.cpg_order.proofs.Places.{Contains-order, Contains-before, from_order, on_node_before}
+use Rattle.cpg_base.proofs.Places.{Contains-order, Contains-before, from_order, on_node_before}
 use Rattle.cpg_run.specs.Run.{Times, IsRun, time_in, end_in, frame_there, input_there, heard_there, input_bounds, start_bounds, bounds_of_item, unfrozen_time}
 use Rattle.cpg_run.proofs.Runs.{time_in_active, start_acts, release_below, input_below, before_below, hearing_below}
 use Rattle.cpg_run.specs.Known.{AreSmall, frozen_in}

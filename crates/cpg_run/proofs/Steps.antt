@@ -8,11 +8,12 @@ use Rattle.cpg_base.specs.declared.item.Item.TheVariants.{Start, Message, Broadc
 use Rattle.cpg_base.specs.Activity.{active, live, takes, value_of, item_active}
 use Rattle.cpg_base.specs.Duration.{duration}
 use Rattle.cpg_base.proofs.Items.{item_at-start, item_cases}
-use Rattle.cpg_order.specs.Urgency.{IsTopological, place}
+use Rattle.cpg_order.specs.Urgency.{IsTopological}
+use Rattle.cpg_base.specs.Order.{place}
 use Rattle.cpg_order.specs.Deciding.{decides}
-use Rattle.cpg_order.specs.Scenario.{Scenario, fault_of}
+use Rattle.cpg_base.specs.Scenario.{Scenario, fault_of}
 use Rattle.cpg_order.proofs.Moments.{producer_in_range}
-use Rattle.cpg_order.proofs.Places.{Contains-order, same_place}
+use Rattle.cpg_base.proofs.Places.{Contains-order, same_place}
 use Rattle.cpg_run.specs.Run.{Times, IsRun, time_in, end_in, heard_there}
 use Rattle.cpg_run.proofs.Runs.{time_is, has_time, end_is, has_end, end_active, start_acts}
 use Rattle.cpg_run.specs.Most.{IsMost}

@@ -20,11 +20,12 @@ use Rattle.cpg_cube.specs.Cube.{matches, holds, is_whole}
 use Rattle.cpg_cube.specs.Fit.{IsCube}
 use Rattle.cpg_cube.specs.declared.literal.Literal.{Literal}
 use Rattle.cpg_cube.proofs.CubeLows.{holds-low, holds-high}
-use Rattle.cpg_order.specs.Scenario.{Scenario, IsScenario}
+use Rattle.cpg_base.specs.Scenario.{Scenario, IsScenario}
 use Rattle.cpg_order.specs.Reach.{Reach, IsReach, reach_of, views, load, rows_of_item, is_too_wide, most_views, most_loads}
 use Rattle.cpg_order.proofs.ReachExists.{some_reach}
-use Rattle.cpg_table.specs.Merged.{IsLeastMatch}
-use Rattle.cpg_table.specs.Table.{Column, Row, NodeTable, columns_in, columns_of}
+use Rattle.cpg_merging.specs.Merged.{IsLeastMatch}
+use Rattle.cpg_table.specs.Table.{Row, NodeTable, columns_in, columns_of}
+use Rattle.cpg_cube.specs.Column.{Column}
 use Rattle.cpg_table.specs.Writing.{row_for, IsWritable, AreWritable}
 use Rattle.cpg_table.proofs.NodeRows.{no_row}
 use Rattle.cpg_run.specs.Alike.{Admitted}

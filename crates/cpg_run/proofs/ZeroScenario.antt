@@ -3,9 +3,8 @@ use Rattle.std.proofs.Common.{◌≡◌, ℕ, zero, suc, Bool, false, List, get_
 use Rattle.std.proofs.lemmas.List.{length-replicate}
 use Rattle.std.proofs.lemmas.List.Folds.{sum_by-replicate}
 use Rattle.cpg_base.specs.Graph.{Graph, process_count, condition_count}
-use Rattle.cpg_base.specs.Scenario.{zero_scenario, number_of_value}
-use Rattle.cpg_order.specs.Scenario.{Scenario, IsScenario, is_before}
-use Rattle.cpg_order.proofs.ScenarioOrder.{not_before_by_parts}
+use Rattle.cpg_base.specs.Scenario.{zero_scenario, number_of_value, is_before, Scenario, IsScenario}
+use Rattle.cpg_base.proofs.ScenarioOrder.{not_before_by_parts}
 
 module _ (g : Graph) where
   pub zero_lawful : IsScenario g (zero_scenario g)

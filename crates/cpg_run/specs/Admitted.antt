@@ -1,7 +1,7 @@
 -- The guards of an admitted graph.
 use Rattle.std.specs.Prelude.{ℕ, List}
 use Rattle.cpg_base.specs.Graph.{Graph}
-use Rattle.cpg_guard.specs.Guards.{Guards}
+use Rattle.cpg_rules.specs.Guards.{Guards}
 use Rattle.cpg_rules.specs.Admission.{IsAdmitted}
 
 abbrev pub AreAdmitted : Graph → Guards → Type 0

@@ -5,14 +5,14 @@ use Rattle.cpg_base.specs.Graph.{Graph, process_at, node_of, inputs, is_message,
 use Rattle.cpg_base.specs.declared.item.Item.{Item}
 use Rattle.cpg_base.specs.declared.item.Item.TheVariants.{Start, Message, Broadcast}
 use Rattle.cpg_base.specs.Activity.{active, item_active}
-use Rattle.cpg_order.specs.Urgency.{before_on_node}
+use Rattle.cpg_base.specs.Order.{before_on_node}
 use Rattle.cpg_order.specs.Deciding.{deciding}
 use Rattle.cpg_order.specs.Queue.{queued_before}
 use Rattle.cpg_order.specs.Reach.{sent_value}
-use Rattle.cpg_order.specs.Scenario.{Scenario, number_of}
+use Rattle.cpg_base.specs.Scenario.{Scenario, number_of}
 use Rattle.cpg_cube.specs.Cube.{matches}
 use Rattle.cpg_cube.specs.declared.literal.Literal.{Literal}
-use Rattle.cpg_table.specs.Table.{Column}
+use Rattle.cpg_cube.specs.Column.{Column}
 use Rattle.cpg_table.specs.Heard.{exactly}
 
 -- the columns of an item

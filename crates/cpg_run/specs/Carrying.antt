@@ -2,13 +2,14 @@
 use Rattle.std.specs.Prelude.{ℕ, ◌≡◌, ◌≢◌, ◌≤◌, ◌<◌, List, Option, length, All, Contains, IsTrue}
 use Rattle.cpg_base.specs.Graph.{Graph, process_count, item_count}
 use Rattle.cpg_order.specs.Reach.{Reach, IsReach, reach_of, views}
-use Rattle.cpg_order.specs.Scenario.{Scenario, IsScenario}
+use Rattle.cpg_base.specs.Scenario.{Scenario, IsScenario}
 use Rattle.cpg_cube.specs.Cube.{matches, low_in, high_in}
 use Rattle.cpg_cube.specs.Fit.{IsCube}
 use Rattle.cpg_cube.specs.declared.literal.Literal.{Literal}
 use Rattle.cpg_table.specs.Heard.{kept_low, kept_high}
-use Rattle.cpg_table.specs.Merged.{AreMet, AreOrdered, HaveNoWhole, AreWithin, IsMerged}
-use Rattle.cpg_table.specs.Table.{Column, NodeTable, columns_of}
+use Rattle.cpg_merging.specs.Merged.{AreMet, AreOrdered, HaveNoWhole, AreWithin, IsMerged}
+use Rattle.cpg_table.specs.Table.{NodeTable, columns_of}
+use Rattle.cpg_cube.specs.Column.{Column}
 use Rattle.cpg_table.specs.declared.rule.Rule.{Rule}
 use Rattle.cpg_run.specs.Exact.{IsExact}
 use Rattle.cpg_run.specs.Laws.{Keeps, NothingIsLate}

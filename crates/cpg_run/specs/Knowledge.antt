@@ -4,7 +4,7 @@ use Rattle.std.specs.Prelude.{ℕ, ◌+◌, ◌≡◌, ◌<◌, ◌↔◌, List,
 use Rattle.cpg_base.specs.Graph.{Graph, process_count, item_count, item_at, node_of, home, is_heard_by, condition_of}
 use Rattle.cpg_base.specs.Bus.{slot_length}
 use Rattle.cpg_base.specs.Duration.{duration}
-use Rattle.cpg_order.specs.Scenario.{Scenario, IsScenario, fault_of, value_in_key}
+use Rattle.cpg_base.specs.Scenario.{Scenario, IsScenario, fault_of, value_in_key}
 use Rattle.cpg_table.specs.Table.{NodeTable, at}
 use Rattle.cpg_run.specs.Alike.{seen, value_of_frame}
 

@@ -3,9 +3,9 @@ use Rattle.std.specs.Prelude.{ℕ, ◌+◌, ◌≡◌, ◌<◌, ◌≤◌, ◌�
 use Rattle.cpg_base.specs.Graph.{Graph, process_count, condition_count, item_count, item_at, node_of, is_sent, home, producer}
 use Rattle.cpg_base.specs.Activity.{active, item_active}
 use Rattle.cpg_base.specs.Bus.{round}
-use Rattle.cpg_order.specs.Urgency.{place}
+use Rattle.cpg_base.specs.Order.{place}
 use Rattle.cpg_order.specs.Deciding.{decides}
-use Rattle.cpg_order.specs.Scenario.{Scenario}
+use Rattle.cpg_base.specs.Scenario.{Scenario}
 use Rattle.cpg_run.specs.Run.{Times, IsRun, time_in, end_in, heard_there}
 use Rattle.cpg_bus.specs.Plan.{queue_of}
 use Rattle.cpg_run.specs.Most.{IsMost}

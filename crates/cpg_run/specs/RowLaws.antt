@@ -2,12 +2,13 @@
 use Rattle.std.specs.Prelude.{ℕ, ◌≡◌, ◌≢◌, ◌<◌, false, List, [], Option, None, get_or, option_to_list, All, IsTrue}
 use Rattle.cpg_base.specs.Graph.{Graph, item_count, item_at, producer}
 use Rattle.cpg_base.specs.Activity.{item_active}
-use Rattle.cpg_order.specs.Urgency.{place, IsTopological}
-use Rattle.cpg_order.specs.Scenario.{Scenario, IsScenario}
+use Rattle.cpg_order.specs.Urgency.{IsTopological}
+use Rattle.cpg_base.specs.Order.{place}
+use Rattle.cpg_base.specs.Scenario.{Scenario, IsScenario}
 use Rattle.cpg_cube.specs.Cube.{matches}
 use Rattle.cpg_cube.specs.Fit.{IsCube}
-use Rattle.cpg_table.specs.Merged.{AreMergeable}
-use Rattle.cpg_table.specs.Table.{Column, times_in}
+use Rattle.cpg_merging.specs.Merged.{AreMergeable}
+use Rattle.cpg_cube.specs.Column.{Column, times_in}
 use Rattle.cpg_run.specs.Alike.{Admitted}
 use Rattle.cpg_run.specs.Frozen.{AreFrozenTimes}
 use Rattle.cpg_run.specs.Run.{Times, IsRun}

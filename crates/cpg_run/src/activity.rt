@@ -9,7 +9,7 @@ ghost use Rattle.cpg_run.specs.Admitted.{AreAdmitted};
 ghost use Rattle.cpg_bus.specs.Plan.{queue_of};
 
 use cpg_base::{OutOfMemory, Problem, Scenario};
-use cpg_guard::GuardTrees;
+use cpg_rules::GuardTrees;
 use std::alloc::Global;
 
 /// Whether a process is active in a scenario, by the guards of an admitted graph.

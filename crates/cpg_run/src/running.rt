@@ -8,9 +8,8 @@ ghost use Rattle.cpg_run.specs.Known.{AreEarly};
 ghost use Rattle.cpg_bus.specs.Plan.{plan_of};
 
 use crate::{Frozen, Progress, RunTimes};
-use cpg_base::{OutOfMemory, Scenario};
+use cpg_base::{Order, OutOfMemory, Scenario};
 use cpg_bus::Plan;
-use cpg_order::Order;
 use cpg_rules::Admitted;
 use std::alloc::Global;
 

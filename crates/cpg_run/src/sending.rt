@@ -16,10 +16,9 @@ use crate::Frozen;
 use crate::activity::is_item_active;
 use crate::known::Known;
 use crate::waiting::frozen_time;
-use cpg_base::{Problem, Scenario};
+use cpg_base::{Order, Problem, Scenario};
 use cpg_bus::Plan;
-use cpg_guard::GuardTrees;
-use cpg_order::Order;
+use cpg_rules::GuardTrees;
 
 /// When an active item is sent: in a slot that is free, at the end of its producer or later.
 fn send_time(

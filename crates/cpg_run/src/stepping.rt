@@ -17,11 +17,9 @@ use crate::known::Known;
 use crate::sending::send;
 use crate::waiting::{decided_there, start};
 use crate::{Frozen, RunTimes};
-use cpg_base::{OutOfMemory, Problem, Scenario};
+use cpg_base::{Order, OutOfMemory, Problem, Scenario};
 use cpg_bus::Plan;
-use cpg_guard::GuardTrees;
-use cpg_order::Order;
-use cpg_rules::Admitted;
+use cpg_rules::{Admitted, GuardTrees};
 use std::alloc::Global;
 use std::marker::Model;
 

@@ -18,7 +18,7 @@ use crate::activity::{deciding, is_live};
 use crate::known::Known;
 use cpg_base::{OutOfMemory, Problem, Scenario};
 use cpg_bus::Plan;
-use cpg_guard::GuardTrees;
+use cpg_rules::GuardTrees;
 use std::alloc::Global;
 
 /// When a frame of a node is there.

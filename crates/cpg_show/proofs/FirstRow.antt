@@ -1,9 +1,10 @@
 -- Where the first row of an item stands among rows.
 use Rattle.std.proofs.Common.{◌≡◌, ℕ, ◌+◌, ◌<◌, ◌==◌, Bool, true, false, cond, List, [], ◌∷◌, ◌++◌, Option, Some, None, length, get_or, drop, flat_map, refl, sym, ap, ◌∙◌}
 use Rattle.std.proofs.Math.Seq.{drop-cons}
-use Rattle.cpg_table.specs.Table.{Column, Row, columns_in}
+use Rattle.cpg_table.specs.Table.{Row, columns_in}
+use Rattle.cpg_cube.specs.Column.{Column}
 use Rattle.cpg_show.specs.Found.{found_in}
-use Rattle.cpg_show.proofs.Steps.{one_more}
+use Rattle.cpg_label.proofs.Steps.{one_more}
 
 -- what is found among the first rows, else among the others
 abbrev pub first_found : Option (List Column) → Option (List Column) → Option (List Column)

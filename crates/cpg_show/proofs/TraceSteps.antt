@@ -11,7 +11,7 @@ use Rattle.cpg_base.proofs.Lists.{Contains-flat_map_parts, numbers-Contains}
 use Rattle.cpg_node.specs.Dispatcher.{Act, Ended}
 use Rattle.cpg_show.specs.TraceEvents.{Event, IsActWithin, IsDeedWithin, IsEndWithin, all_events, deed_of, event_of_act, event_of_end, node_events}
 use Rattle.cpg_show.specs.TraceText.{end_times}
-use Rattle.cpg_show.proofs.Steps.{next_piece}
+use Rattle.cpg_label.proofs.Steps.{next_piece}
 
 module _ (g : Graph) (acts : List (List Act)) (ends : List (List (ℕ × Ended))) where
   pub one_node : (i : ℕ) (before middle after : List Event) → before ≡ flat_map (node_events g acts ends) (numbers_below i) → middle ≡ before ++ map (event_of_act g i) (get_or acts i [])

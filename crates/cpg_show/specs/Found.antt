@@ -1,6 +1,7 @@
 -- The columns of an item, where it has a row.
 use Rattle.std.specs.Prelude.{ℕ, ◌==◌, if◌then◌else◌, List, [], ◌∷◌, Option, Some, None}
-use Rattle.cpg_table.specs.Table.{Column, Row}
+use Rattle.cpg_table.specs.Table.{Row}
+use Rattle.cpg_cube.specs.Column.{Column}
 
 -- the columns of an item's first row
 abbrev pub found_in : List Row → ℕ → Option (List Column)

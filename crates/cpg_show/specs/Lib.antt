@@ -1,7 +1,3 @@
-pub mod Labels
-pub mod CubeText
-pub mod Phrases
-pub mod ItemText
 pub mod TableText
 pub mod NodeText
 pub mod Found

@@ -1,12 +1,12 @@
 -- The text of a node's table: its name, and the lines of what it starts, sends and hears.
 use Rattle.std.specs.Prelude.{ℕ, List, [], ◌++◌, codes, get_or}
 use Rattle.std.specs.List.{flat_map}
-use Rattle.cpg_table.specs.Head.{Head}
+use Rattle.cpg_head.specs.Head.{Head}
 use Rattle.cpg_table.specs.Table.{Row, NodeTable, table_at}
 use Rattle.cpg_table.specs.Lawful.{Tables}
-use Rattle.cpg_show.specs.Labels.{Labels, head_labels}
-use Rattle.cpg_show.specs.CubeText.{columns_text}
-use Rattle.cpg_show.specs.ItemText.{item_of, act_text, hear_text}
+use Rattle.cpg_label.specs.Labels.{Labels, head_labels}
+use Rattle.cpg_label.specs.CubeText.{columns_text}
+use Rattle.cpg_label.specs.ItemText.{item_of, act_text, hear_text}
 
 -- a row of what the node starts or sends
 abbrev pub act_row : Labels → Row → List ℕ

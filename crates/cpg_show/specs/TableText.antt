@@ -7,9 +7,9 @@ use Rattle.cpg_base.specs.Graph.{Graph, item_at, item_count, home, is_sent_item}
 use Rattle.cpg_base.specs.declared.item.Item.{Item}
 use Rattle.cpg_base.specs.declared.item.Item.TheVariants.{Start, Message, Broadcast}
 use Rattle.cpg_table.specs.Table.{NodeTable, columns_of}
-use Rattle.cpg_show.specs.Labels.{labels_of, process_name}
-use Rattle.cpg_show.specs.CubeText.{columns_text}
-use Rattle.cpg_show.specs.ItemText.{act_text}
+use Rattle.cpg_label.specs.Labels.{labels_of, process_name}
+use Rattle.cpg_label.specs.CubeText.{columns_text}
+use Rattle.cpg_label.specs.ItemText.{act_text}
 
 -- whether an item has lines: an edge within a node has none, nor has a broadcast where there is one node
 abbrev pub is_shown_item : Graph → Item → Bool

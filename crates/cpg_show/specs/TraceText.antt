@@ -4,21 +4,15 @@ use Rattle.std.specs.List.{flat_map}
 use Rattle.std.specs.Fmt.{decimal}
 use Rattle.cpg_base.specs.Numbers.{numbers_below, greatest}
 use Rattle.cpg_base.specs.Graph.{Graph, item_at, condition_of}
-use Rattle.cpg_base.specs.declared.item.Item.{Item}
-use Rattle.cpg_base.specs.declared.item.Item.TheVariants.{Start as StartItem, Message, Broadcast}
+use Rattle.cpg_base.specs.declared.item.Item.TheVariants.{Start as StartItem}
 use Rattle.cpg_base.specs.Duration.{duration}
 use Rattle.cpg_base.specs.Scenario.{number_of_value}
 use Rattle.cpg_node.specs.Dispatcher.{Act, Ended}
 use Rattle.cpg_show.specs.declared.event.Deed.TheVariants.{End, Send, Start}
-use Rattle.cpg_show.specs.CubeText.{value_text}
-use Rattle.cpg_show.specs.Labels.{Labels, labels_of, process_name, condition_name}
+use Rattle.cpg_label.specs.CubeText.{value_text}
+use Rattle.cpg_label.specs.Labels.{labels_of, process_name}
 use Rattle.cpg_show.specs.TraceEvents.{Deed, Event, AreToldInOrder}
-
--- a start, a message, by the number of its edge, or a broadcast, by the process of its condition
-abbrev pub done_text : Labels → Item → List ℕ
-done_text labels (StartItem p) = codes "start " ++ process_name labels p
-done_text labels (Message e) = codes "send e" ++ decimal e
-done_text labels (Broadcast c) = codes "tell " ++ condition_name labels c
+use Rattle.cpg_label.specs.ItemText.{done_text}
 
 -- the value of a process's condition, and nothing where it has none
 abbrev pub outcome_text : Graph → ℕ → Bool → List ℕ

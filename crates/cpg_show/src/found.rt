@@ -2,7 +2,8 @@
 ghost use Rattle.std.specs.Prelude.{◌≡◌, ◌++◌, flat_map, option_map};
 ghost use Rattle.cpg_show.specs.Found.{found_in};
 
-use cpg_table::{Entry, NodeTable, Row, Tables};
+use cpg_cube::Entry;
+use cpg_table::{NodeTable, Row, Tables};
 
 fn found_in<'a>(rows: &'a [Row], item: u32) -> Option<&'a [Entry]>
     ensures { option_map (λ columns. columns.now) result ≡ found_in rows.entry.now item }

@@ -2,11 +2,10 @@
 ghost use Rattle.std.specs.Prelude.{◌≡◌, ◌<◌, ◌++◌, IfOk, OnOk, codes, flat_map, length, string_bytes};
 ghost use Rattle.cpg_show.specs.NodeText.{act_row, hear_row, name_line, node_text, rows_text};
 
-use crate::columns::write_columns;
-use crate::items::{write_act, write_heard};
-use crate::labels::Labels;
 use cpg_base::OutOfMemory;
-use cpg_table::{Head, NodeTable, Row, Tables};
+use cpg_head::Head;
+use cpg_label::{Labels, write_act, write_columns, write_heard};
+use cpg_table::{NodeTable, Row, Tables};
 use std::alloc::{AllocError, Global};
 
 fn write_act_row(out: &mut String, labels: &Labels<'_>, row: &Row) -> Result<(), AllocError>

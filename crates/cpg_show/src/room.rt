@@ -1,6 +1,7 @@
 //! How long the lines of columns may get.
 
-use cpg_table::{Entry, NodeTable, Row, Tables};
+use cpg_cube::Entry;
+use cpg_table::{NodeTable, Row, Tables};
 
 /// How many bytes a line has beside its literals: two spaces, a time of at most 20 digits, a colon and a space, `always`
 /// and the line feed.

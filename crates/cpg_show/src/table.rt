@@ -3,21 +3,29 @@ ghost use Rattle.std.specs.Prelude.{◌≡◌, ◌<◌, ◌++◌, [], IfOk, OnOk
 ghost use Rattle.cpg_base.specs.Graph.{item_count};
 ghost use Rattle.cpg_base.specs.Numbers.{numbers_below};
 ghost use Rattle.cpg_table.specs.Table.{columns_of};
-ghost use Rattle.cpg_show.specs.CubeText.{columns_text};
-ghost use Rattle.cpg_show.specs.Labels.{labels_of, process_name};
-ghost use Rattle.cpg_show.specs.TableText.{head_line, item_text, table_text};
+ghost use Rattle.cpg_label.specs.CubeText.{columns_text};
+ghost use Rattle.cpg_label.specs.Labels.{labels_of, process_name};
+ghost use Rattle.cpg_show.specs.TableText.{head_line, is_shown, item_text, table_text};
 
-use crate::columns::write_columns;
 use crate::found::find_columns;
-use crate::items::{is_shown, write_act};
-use crate::labels::Labels;
 use crate::room::room_of;
-use cpg_base::{OutOfMemory, Problem};
-use cpg_order::Order;
+use cpg_base::{Item, Order, OutOfMemory, Problem};
+use cpg_label::{Labels, write_act, write_columns};
 use cpg_rules::Admitted;
 use cpg_run::Built;
 use cpg_table::Tables;
 use std::alloc::{AllocError, Global};
+
+/// Whether an item is started or sent.
+fn is_shown(problem: &Problem, item: u32) -> bool
+    requires { item < item_count problem.now }
+    ensures { result ≡ is_shown problem.now item }
+{
+    match problem.item(item) {
+        Item::Start(_) => true,
+        Item::Message(_) | Item::Broadcast(_) => problem.is_sent(item),
+    }
+}
 
 fn write_names(out: &mut String, labels: &Labels<'_>, order: &[u32]) -> Result<(), AllocError>
     ensures { OnOk result (string_bytes out.new ≡ string_bytes out.old ++ flat_map (λ p. codes " " ++ process_name labels.now p) order.now) }

@@ -1,16 +1,16 @@
 //! The text of a trace.
 ghost use Rattle.std.specs.Prelude.{◌≡◌, ◌<◌, ◌++◌, [], All, IfOk, OnOk, codes, flat_map, fold, get_or, length, map, max, string_bytes};
 ghost use Rattle.cpg_base.specs.Graph.{process_count};
-ghost use Rattle.cpg_show.specs.Labels.{labels_of};
+ghost use Rattle.cpg_label.specs.Labels.{labels_of};
 ghost use Rattle.cpg_show.specs.TraceEvents.{IsDeedWithin};
-ghost use Rattle.cpg_show.specs.TraceText.{IsTraceText, deed_text, done_text, event_line, finish_of, outcome_text, ran_text};
+ghost use Rattle.cpg_show.specs.TraceText.{IsTraceText, deed_text, event_line, finish_of, outcome_text, ran_text};
+ghost use Rattle.cpg_label.specs.ItemText.{done_text};
 
-use crate::columns::write_value;
 use crate::event::{Deed, Event};
 use crate::events::events_in_order;
-use crate::labels::Labels;
 use cpg_base::{Item, Lengths, OutOfMemory, Problem};
 use cpg_cluster::Cluster;
+use cpg_label::{Labels, write_value};
 use cpg_node::Ended;
 use cpg_rules::Admitted;
 use std::alloc::{AllocError, Global};

@@ -6,11 +6,12 @@ use Rattle.cpg_base.specs.Graph.{Graph, IsVariable, process_count, process_of_va
 use Rattle.cpg_base.proofs.Items.{process_of_below}
 use Rattle.cpg_base.proofs.Lists.{list_any_false}
 use Rattle.cpg_base.proofs.Variables.{of_count, of_value}
-use Rattle.cpg_order.specs.Scenario.{Scenario, IsScenario}
+use Rattle.cpg_base.specs.Scenario.{Scenario, IsScenario}
 use Rattle.cpg_cube.specs.Cube.{matches}
 use Rattle.cpg_cube.specs.declared.literal.Literal.{Literal}
 use Rattle.cpg_cube.specs.Fit.{IsKnown}
-use Rattle.cpg_table.specs.Table.{Column, NodeTable, columns_of}
+use Rattle.cpg_table.specs.Table.{NodeTable, columns_of}
+use Rattle.cpg_cube.specs.Column.{Column}
 use Rattle.cpg_table.specs.Valid.{breaks_activity}
 use Rattle.cpg_table.specs.declared.rule.Rule.{Rule}
 use Rattle.cpg_violation.specs.Sure.{IsSure}

@@ -8,7 +8,8 @@ use Rattle.cpg_base.specs.Variable.{top}
 use Rattle.cpg_base.proofs.Lists.{Contains-cases, Contains-first, Contains-flat_map, Contains-flat_map_parts, Contains-nil, least_bound}
 use Rattle.cpg_cube.specs.declared.literal.Literal.{Literal}
 use Rattle.cpg_table.specs.Heard.{facts, is_heard, kept_high, kept_low}
-use Rattle.cpg_table.specs.Table.{Column, NodeTable}
+use Rattle.cpg_table.specs.Table.{NodeTable}
+use Rattle.cpg_cube.specs.Column.{Column}
 use Rattle.cpg_sure.specs.Bounds.{bounds_of, high_of, low_of}
 use Rattle.cpg_sure.specs.Hearing.{IsAllHeard, IsHeardIn}
 use Rattle.cpg_sure.specs.Speakers.{IsToldIn}

@@ -9,9 +9,10 @@ use Rattle.cpg_base.specs.Duration.{duration}
 use Rattle.cpg_base.specs.Graph.{Graph, home, is_sent, node_of, process_count}
 use Rattle.cpg_base.specs.Numbers.{numbers_below}
 use Rattle.cpg_base.proofs.Lists.{list_any_false, Contains-filter, Contains-filter_parts, Contains-map_parts}
-use Rattle.cpg_order.specs.Scenario.{Scenario, IsScenario, fault_of}
+use Rattle.cpg_base.specs.Scenario.{Scenario, IsScenario, fault_of}
 use Rattle.cpg_cube.specs.Cube.{matches}
-use Rattle.cpg_table.specs.Table.{Column, NodeTable, columns_of, at}
+use Rattle.cpg_table.specs.Table.{NodeTable, columns_of, at}
+use Rattle.cpg_cube.specs.Column.{Column}
 use Rattle.cpg_table.specs.Valid.{overlap}
 use Rattle.cpg_table.specs.declared.rule.Rule.{Rule}
 use Rattle.cpg_violation.specs.Sure.{IsSure}

@@ -8,9 +8,10 @@ use Rattle.cpg_base.specs.Duration.{duration}
 use Rattle.cpg_base.specs.Graph.{Graph, edge_count, home, is_message, item_at, item_count, message_item, process_count, producer}
 use Rattle.cpg_base.proofs.Items.{item_at-message, item_at-start}
 use Rattle.cpg_base.proofs.Lists.{Contains-map, Contains-map_parts, list_any_parts, list_any_true}
-use Rattle.cpg_order.specs.Scenario.{Scenario, IsScenario, fault_of}
+use Rattle.cpg_base.specs.Scenario.{Scenario, IsScenario, fault_of}
 use Rattle.cpg_cube.specs.Cube.{matches}
-use Rattle.cpg_table.specs.Table.{Column, NodeTable, columns_of, at}
+use Rattle.cpg_table.specs.Table.{NodeTable, columns_of, at}
+use Rattle.cpg_cube.specs.Column.{Column}
 use Rattle.cpg_table.specs.Valid.{arrivals_of, ends_of, is_by}
 use Rattle.cpg_violation.specs.Violation.{AllHold, row_rules}
 use Rattle.cpg_violation.proofs.Matching.{match_where}

@@ -5,7 +5,7 @@ use Rattle.std.proofs.lemmas.List.Sums.{sum_by-cons}
 use Rattle.cpg_base.specs.Graph.{Graph}
 use Rattle.cpg_base.specs.Numbers.{numbers_below}
 use Rattle.cpg_base.proofs.Sums.{sum_by-below_first, same_sum_by, sum_by_zeros}
-use Rattle.cpg_order.specs.Scenario.{Scenario, IsScenario}
+use Rattle.cpg_base.specs.Scenario.{Scenario, IsScenario}
 use Rattle.cpg_tree.specs.Space.{HasFew}
 
 few_sum : (xs : List ℕ) (n : ℕ) → sum_by (λ p. get_or xs p 0) (numbers_below n) ≤ sum xs

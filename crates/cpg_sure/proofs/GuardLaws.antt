@@ -7,8 +7,8 @@ use Rattle.cpg_base.specs.Numbers.{same_bool}
 use Rattle.cpg_base.specs.Graph.{Graph, condition_of, process_count}
 use Rattle.cpg_base.specs.Activity.{active, is_active, takes, value_of}
 use Rattle.cpg_order.specs.Guard.{Guard, Test, outcome_at}
-use Rattle.cpg_order.specs.Scenario.{Scenario, IsScenario}
-use Rattle.cpg_guard.specs.Guards.{Guards, tree_of}
+use Rattle.cpg_base.specs.Scenario.{Scenario, IsScenario}
+use Rattle.cpg_rules.specs.Guards.{Guards, tree_of}
 use Rattle.cpg_cube.specs.Cube.{holds}
 use Rattle.cpg_rules.specs.Admission.{IsAdmitted}
 use Rattle.cpg_tree.specs.declared.space.Space.{Space}

@@ -9,13 +9,14 @@ use Rattle.cpg_base.specs.Graph.{Graph, IsVariable, condition_count, condition_o
 use Rattle.cpg_base.specs.Numbers.{numbers_below}
 use Rattle.cpg_base.proofs.Lists.{Contains-filter, Contains-first, Contains-flat_map, Contains-map, Contains-numbers, Contains-rest, greatest_above, least_below, list_any_false}
 use Rattle.cpg_base.specs.Variable.{top}
-use Rattle.cpg_order.specs.Scenario.{Scenario, IsScenario, fault_of, number_of}
-use Rattle.cpg_order.proofs.Conditions.{condition_of_process_of}
-use Rattle.cpg_order.proofs.Scenarios.{number_of-fault}
+use Rattle.cpg_base.specs.Scenario.{Scenario, IsScenario, fault_of, number_of}
+use Rattle.cpg_base.proofs.ConditionProcesses.{condition_of_process_of}
+use Rattle.cpg_base.proofs.NumbersOf.{number_of-fault}
 use Rattle.cpg_cube.specs.Cube.{holds, matches}
 use Rattle.cpg_cube.specs.declared.literal.Literal.{Literal}
 use Rattle.cpg_table.specs.Heard.{exactly, facts, facts_of_end, facts_of_frame, frame_value, is_heard, kept_high, kept_low, matching, value_fact}
-use Rattle.cpg_table.specs.Table.{Column, NodeTable, columns_of}
+use Rattle.cpg_table.specs.Table.{NodeTable, columns_of}
+use Rattle.cpg_cube.specs.Column.{Column}
 use Rattle.cpg_table.specs.Valid.{ends_of, is_by}
 use Rattle.cpg_table.specs.declared.rule.Rule.{Rule}
 use Rattle.cpg_violation.specs.Sure.{IsSure}

@@ -9,10 +9,11 @@ use Rattle.cpg_base.specs.Graph.{Graph, item_at, item_count, process_count}
 use Rattle.cpg_base.proofs.Lists.{list_any_parts}
 use Rattle.cpg_base.specs.Duration.{duration}
 use Rattle.cpg_base.specs.declared.limits.TheConstants.{MOST_FAULTS}
-use Rattle.cpg_order.specs.Scenario.{Scenario, IsScenario, fault_of, number_of}
-use Rattle.cpg_order.proofs.Scenarios.{number_of-fault}
+use Rattle.cpg_base.specs.Scenario.{Scenario, IsScenario, fault_of, number_of}
+use Rattle.cpg_base.proofs.NumbersOf.{number_of-fault}
 use Rattle.cpg_cube.specs.Cube.{matches}
-use Rattle.cpg_table.specs.Table.{Column, NodeTable, columns_of}
+use Rattle.cpg_table.specs.Table.{NodeTable, columns_of}
+use Rattle.cpg_cube.specs.Column.{Column}
 use Rattle.cpg_table.specs.declared.rule.Rule.{Rule}
 use Rattle.cpg_tree.specs.declared.places.Places.{Places}
 use Rattle.cpg_tree.specs.Places.{place_at}

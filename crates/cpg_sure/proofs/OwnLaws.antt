@@ -12,11 +12,12 @@ use Rattle.cpg_base.specs.Graph.{Graph, IsVariable, home, item_at, item_count, n
 use Rattle.cpg_base.specs.WellFormed.{WellFormed}
 use Rattle.cpg_base.proofs.Items.{producer_within}
 use Rattle.cpg_base.proofs.Lists.{from_all}
-use Rattle.cpg_order.specs.Scenario.{Scenario, IsScenario, fault_of, number_of}
+use Rattle.cpg_base.specs.Scenario.{Scenario, IsScenario, fault_of, number_of}
 use Rattle.cpg_cube.specs.Cube.{holds, matches}
 use Rattle.cpg_cube.specs.declared.literal.Literal.{Literal}
 use Rattle.cpg_table.specs.Heard.{facts, is_heard}
-use Rattle.cpg_table.specs.Table.{Column, NodeTable, columns_of}
+use Rattle.cpg_table.specs.Table.{NodeTable, columns_of}
+use Rattle.cpg_cube.specs.Column.{Column}
 use Rattle.cpg_table.specs.Valid.{breaks_inputs_of, ends_of, is_by}
 use Rattle.cpg_table.specs.declared.rule.Rule.{Rule}
 use Rattle.cpg_violation.specs.Sure.{IsSure}

@@ -9,9 +9,10 @@ use Rattle.std.proofs.lemmas.List.{drop_more, drop_all, get_or-take, get_or_defa
 use Rattle.cpg_base.specs.Graph.{Graph, item_at}
 use Rattle.cpg_base.specs.Activity.{item_active}
 use Rattle.cpg_base.proofs.Lists.{list_any_false, list_any_true, list_any_at_place}
-use Rattle.cpg_order.specs.Scenario.{Scenario, IsScenario}
+use Rattle.cpg_base.specs.Scenario.{Scenario, IsScenario}
 use Rattle.cpg_cube.specs.Cube.{matches}
-use Rattle.cpg_table.specs.Table.{Column, NodeTable, columns_of}
+use Rattle.cpg_table.specs.Table.{NodeTable, columns_of}
+use Rattle.cpg_cube.specs.Column.{Column}
 use Rattle.cpg_table.specs.Valid.{breaks_at, breaks_present}
 use Rattle.cpg_table.specs.declared.rule.Rule.{Rule}
 use Rattle.cpg_tree.specs.declared.places.Places.{Places}

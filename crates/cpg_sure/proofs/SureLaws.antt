@@ -7,9 +7,10 @@ use Rattle.std.proofs.lemmas.List.{get_or_append_left, get_or_push, get_or_past,
 use Rattle.std.proofs.lemmas.List.Elements.{All-more}
 use Rattle.cpg_base.specs.Graph.{Graph, item_count}
 use Rattle.cpg_base.proofs.Lists.{list_any_at_place}
-use Rattle.cpg_order.specs.Scenario.{Scenario, IsScenario}
+use Rattle.cpg_base.specs.Scenario.{Scenario, IsScenario}
 use Rattle.cpg_cube.specs.Cube.{matches}
-use Rattle.cpg_table.specs.Table.{Column, NodeTable, columns_of}
+use Rattle.cpg_table.specs.Table.{NodeTable, columns_of}
+use Rattle.cpg_cube.specs.Column.{Column}
 use Rattle.cpg_table.specs.Valid.{asks_for_one, breaks_at, breaks_present, breaks_rule}
 use Rattle.cpg_table.specs.declared.rule.Rule.{Rule}
 use Rattle.cpg_violation.specs.Sure.{AreSure, IsSure}

@@ -1,7 +1,7 @@
 -- The rows of what inputs come from.
 use Rattle.std.proofs.Common.{ℕ, List}
 use Rattle.cpg_base.specs.Graph.{Graph, message_item, source}
-use Rattle.cpg_order.specs.Scenario.{Scenario}
+use Rattle.cpg_base.specs.Scenario.{Scenario}
 use Rattle.cpg_table.specs.Table.{NodeTable}
 use Rattle.cpg_sure.specs.Courses.{IsCourse}
 use Rattle.cpg_sure.specs.Inputs.{IsInputCourse, IsInputOver}

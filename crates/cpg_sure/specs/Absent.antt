@@ -2,7 +2,7 @@
 use Rattle.std.specs.Prelude.{ℕ, ◌≡◌, false, Option, None}
 use Rattle.cpg_base.specs.Graph.{Graph, item_at}
 use Rattle.cpg_base.specs.Activity.{item_active}
-use Rattle.cpg_order.specs.Scenario.{Scenario, IsScenario}
+use Rattle.cpg_base.specs.Scenario.{Scenario, IsScenario}
 
 -- where there is no place, the item is inactive
 abbrev pub IsIdleWhere : Graph → ℕ → Option ℕ → Scenario → Type 0

@@ -2,7 +2,7 @@
 use Rattle.std.specs.Prelude.{ℕ, ◌≡◌, ◌<◌, Bool, true, false, List, get_or}
 use Rattle.cpg_base.specs.Graph.{Graph, item_at, process_count}
 use Rattle.cpg_base.specs.Activity.{active, item_active}
-use Rattle.cpg_order.specs.Scenario.{Scenario, IsScenario}
+use Rattle.cpg_base.specs.Scenario.{Scenario, IsScenario}
 
 -- a process is active in every scenario
 abbrev pub IsAlways : Graph → ℕ → Type 0

@@ -2,7 +2,7 @@
 use Rattle.std.specs.Prelude.{ℕ, ◌+◌, ◌≡◌, ◌≤◌, ◌<◌, true, List, All, IfSome, length, get_or}
 use Rattle.cpg_base.specs.Graph.{Graph, item_count}
 use Rattle.cpg_base.specs.declared.limits.TheConstants.{MOST_FAULTS}
-use Rattle.cpg_order.specs.Scenario.{Scenario, IsScenario, number_of}
+use Rattle.cpg_base.specs.Scenario.{Scenario, IsScenario, number_of}
 use Rattle.cpg_table.specs.Table.{NodeTable, columns_of}
 use Rattle.cpg_sure.specs.Order.{IsUnconditional}
 use Rattle.cpg_sure.specs.Trees.{IsRowTree}

@@ -4,9 +4,10 @@ use Rattle.cpg_base.specs.Activity.{live}
 use Rattle.cpg_base.specs.Bus.{slot_length}
 use Rattle.cpg_base.specs.Graph.{Graph, home, is_message, message_item, source}
 use Rattle.cpg_order.specs.Links.{links_of}
-use Rattle.cpg_order.specs.Scenario.{Scenario, IsScenario}
+use Rattle.cpg_base.specs.Scenario.{Scenario, IsScenario}
 use Rattle.cpg_cube.specs.Cube.{matches}
-use Rattle.cpg_table.specs.Table.{Column, NodeTable}
+use Rattle.cpg_table.specs.Table.{NodeTable}
+use Rattle.cpg_cube.specs.Column.{Column}
 use Rattle.cpg_table.specs.Valid.{input_is_there}
 use Rattle.cpg_sure.specs.Courses.{AreCourses, IsCourse}
 use Rattle.cpg_sure.specs.Order.{IsBefore, IsOverBy, execution, frame}

@@ -2,10 +2,11 @@
 use Rattle.std.specs.Prelude.{ℕ, ◌+◌, ◌≡◌, ◌≤◌, ◌<◌, ◌⊎◌, true, List, Option, None, Some, IfSome, All, Contains}
 use Rattle.cpg_base.specs.Bus.{slot_length}
 use Rattle.cpg_base.specs.Graph.{Graph, home, is_heard_by, item_at, item_count}
-use Rattle.cpg_order.specs.Scenario.{Scenario, number_of}
+use Rattle.cpg_base.specs.Scenario.{Scenario, number_of}
 use Rattle.cpg_cube.specs.declared.literal.Literal.{Literal}
 use Rattle.cpg_table.specs.Heard.{exactly, frame_value}
-use Rattle.cpg_table.specs.Table.{Column, NodeTable, columns_of}
+use Rattle.cpg_table.specs.Table.{NodeTable, columns_of}
+use Rattle.cpg_cube.specs.Column.{Column}
 use Rattle.cpg_violation.specs.Sieves.{column_at}
 use Rattle.cpg_sure.specs.Trees.{IsRowTree}
 use Rattle.cpg_sure.specs.declared.speakers.Speaker.{Speaker}

@@ -1,8 +1,9 @@
 -- Trees of rows: for each scenario the place of the column that matches.
 use Rattle.std.specs.Prelude.{ℕ, ◌≡◌, ◌<◌, List, Option, None, IfSome, map, length, get_or}
 use Rattle.cpg_base.specs.Graph.{Graph, item_count}
-use Rattle.cpg_order.specs.Scenario.{Scenario, IsScenario}
-use Rattle.cpg_table.specs.Table.{Column, NodeTable, columns_of}
+use Rattle.cpg_base.specs.Scenario.{Scenario, IsScenario}
+use Rattle.cpg_table.specs.Table.{NodeTable, columns_of}
+use Rattle.cpg_cube.specs.Column.{Column}
 use Rattle.cpg_tree.specs.declared.places.Places.{Places}
 use Rattle.cpg_tree.specs.Places.{place_at, tells_cube}
 

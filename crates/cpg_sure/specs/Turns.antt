@@ -1,7 +1,7 @@
 -- Items of each node that follow one another.
 use Rattle.std.specs.Prelude.{ℕ, List, All}
 use Rattle.cpg_base.specs.Graph.{Graph}
-use Rattle.cpg_order.specs.Scenario.{Scenario}
+use Rattle.cpg_base.specs.Scenario.{Scenario}
 use Rattle.cpg_table.specs.Table.{NodeTable}
 use Rattle.cpg_sure.specs.Courses.{AreCourses}
 use Rattle.cpg_sure.specs.Order.{IsInTurn}

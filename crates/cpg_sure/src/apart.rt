@@ -2,7 +2,7 @@
 ghost use Rattle.std.specs.Prelude.{◌≡◌, ◌⊎◌, ℕ, All, Contains, IfOk, IfSome, List, true};
 ghost use Rattle.std.specs.Bool.{OnTrue};
 ghost use Rattle.cpg_base.specs.Graph.{Graph};
-ghost use Rattle.cpg_order.specs.Scenario.{Scenario, IsScenario};
+ghost use Rattle.cpg_base.specs.Scenario.{Scenario, IsScenario};
 ghost use Rattle.cpg_cube.specs.Cube.{matches};
 ghost use Rattle.cpg_table.specs.Table.{NodeTable};
 ghost use Rattle.cpg_tree.specs.Space.{Lies};
@@ -15,7 +15,7 @@ use crate::course::{Course, Courses};
 use crate::span::Span;
 use crate::turns::Turns;
 use cpg_base::OutOfMemory;
-use cpg_table::Entry;
+use cpg_cube::Entry;
 use cpg_tree::{Space, Test};
 use std::alloc::Global;
 

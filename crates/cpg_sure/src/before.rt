@@ -2,7 +2,7 @@
 ghost use Rattle.std.specs.Prelude.{◌≡◌, ◌<◌, ℕ, All, IfSome, List, Some, true};
 ghost use Rattle.std.specs.Bool.{OnTrue};
 ghost use Rattle.cpg_base.specs.Graph.{Graph};
-ghost use Rattle.cpg_order.specs.Scenario.{Scenario, IsScenario};
+ghost use Rattle.cpg_base.specs.Scenario.{Scenario, IsScenario};
 ghost use Rattle.cpg_cube.specs.Cube.{matches};
 ghost use Rattle.cpg_table.specs.Table.{NodeTable, columns_of};
 ghost use Rattle.cpg_tree.specs.Space.{Lies};
@@ -12,7 +12,7 @@ ghost use Rattle.cpg_sure.specs.Order.{IsOver, IsOverBy};
 
 use crate::course::{Course, Courses};
 use crate::span::Span;
-use cpg_table::Entry;
+use cpg_cube::Entry;
 use cpg_tree::{Space, Test};
 
 /// That what lasts so long is over by a time, from the column at each place.

@@ -1,7 +1,7 @@
 //! The rows of items, with what is asked of them before their columns are compared.
 ghost use Rattle.std.specs.Prelude.{◌≡◌, ◌<◌, ℕ, IfOk, length};
 ghost use Rattle.cpg_base.specs.Graph.{item_count, process_count};
-ghost use Rattle.cpg_order.specs.Scenario.{Scenario};
+ghost use Rattle.cpg_base.specs.Scenario.{Scenario};
 ghost use Rattle.cpg_sure.specs.Courses.{AreCourses, IsCourse, IsSpan};
 ghost use Rattle.cpg_sure.specs.Order.{execution, frame, sending};
 ghost use Rattle.cpg_sure.specs.Trees.{AreRowTrees};
@@ -10,8 +10,9 @@ use crate::guards::is_item_running;
 use crate::range::{first_time, last_time};
 use crate::span::Span;
 use cpg_base::OutOfMemory;
+use cpg_cube::Entry;
 use cpg_rules::Admitted;
-use cpg_table::{Entry, Tables};
+use cpg_table::Tables;
 use cpg_tree::{Places, Space};
 use cpg_violation::columns_of;
 use std::alloc::Global;

@@ -3,15 +3,16 @@ ghost use Rattle.std.specs.Prelude.{◌≡◌, ◌≤◌, ◌<◌, ◌+◌, All,
 ghost use Rattle.std.specs.Bool.{OnTrue};
 ghost use Rattle.cpg_base.specs.Duration.{duration, due};
 ghost use Rattle.cpg_base.specs.Graph.{item_count, process_count};
-ghost use Rattle.cpg_order.specs.Scenario.{Scenario, IsScenario, fault_of};
+ghost use Rattle.cpg_base.specs.Scenario.{Scenario, IsScenario, fault_of};
 ghost use Rattle.cpg_cube.specs.Cube.{matches};
 ghost use Rattle.cpg_table.specs.declared.rule.Rule.{Rule};
 ghost use Rattle.cpg_violation.specs.Sure.{AreSure, IsSure};
 
 use crate::longest::longest;
 use cpg_base::{OutOfMemory, Problem};
+use cpg_cube::Entry;
 use cpg_rules::Admitted;
-use cpg_table::{Entry, Tables};
+use cpg_table::Tables;
 use cpg_tree::Space;
 use cpg_violation::columns_of;
 use std::alloc::Global;

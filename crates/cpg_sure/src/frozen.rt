@@ -6,8 +6,9 @@ ghost use Rattle.cpg_table.specs.declared.rule.Rule.{Rule};
 ghost use Rattle.cpg_violation.specs.Sure.{AreSure, IsSure};
 
 use cpg_base::{OutOfMemory, Problem};
+use cpg_cube::Entry;
 use cpg_rules::Admitted;
-use cpg_table::{Entry, Tables};
+use cpg_table::Tables;
 use cpg_violation::columns_of;
 use std::alloc::Global;
 

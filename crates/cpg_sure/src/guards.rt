@@ -6,15 +6,14 @@ ghost use Rattle.cpg_base.specs.Activity.{active, item_active, takes, value_of};
 ghost use Rattle.cpg_base.specs.Graph.{condition_count, edge_at, edge_count, item_at, item_count, process_count, source};
 ghost use Rattle.cpg_base.specs.Limits.{IsWithinLimits};
 ghost use Rattle.cpg_base.specs.declared.item.Item.{Item};
-ghost use Rattle.cpg_order.specs.Scenario.{Scenario, IsScenario};
-ghost use Rattle.cpg_guard.specs.Trees.{TestsBelow};
+ghost use Rattle.cpg_base.specs.Scenario.{Scenario, IsScenario};
+ghost use Rattle.cpg_rules.specs.Trees.{TestsBelow};
 ghost use Rattle.cpg_tree.specs.Space.{Lies};
 ghost use Rattle.cpg_violation.specs.Activity.{comes_to};
 ghost use Rattle.cpg_sure.specs.Always.{AreAlways};
 
 use cpg_base::{Edge, Item, OutOfMemory, Problem};
-use cpg_guard::{GuardTop, GuardTree};
-use cpg_rules::Admitted;
+use cpg_rules::{Admitted, GuardTop, GuardTree};
 use cpg_tree::Space;
 use cpg_violation::value_literal;
 use std::alloc::Global;

@@ -16,9 +16,10 @@ use crate::course::Courses;
 use crate::turns::Turns;
 use crate::waiting::Waiting;
 use cpg_base::OutOfMemory;
+use cpg_cube::Entry;
 use cpg_order::Links;
 use cpg_rules::Admitted;
-use cpg_table::{Entry, Tables};
+use cpg_table::Tables;
 use cpg_violation::columns_of;
 use std::alloc::Global;
 

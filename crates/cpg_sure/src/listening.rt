@@ -2,7 +2,7 @@
 ghost use Rattle.std.specs.Prelude.{◌≡◌, ◌<◌, ◌⊎◌, ℕ, All, Contains, IfOk, IfSome, List, false, get_or, length, map, true};
 ghost use Rattle.std.specs.Bool.{OnTrue};
 ghost use Rattle.cpg_base.specs.Graph.{Graph, IsVariable, item_count, process_count};
-ghost use Rattle.cpg_order.specs.Scenario.{Scenario, IsScenario};
+ghost use Rattle.cpg_base.specs.Scenario.{Scenario, IsScenario};
 ghost use Rattle.cpg_cube.specs.Cube.{matches};
 ghost use Rattle.cpg_table.specs.Table.{NodeTable, columns_of};
 ghost use Rattle.cpg_table.specs.declared.rule.Rule.{Rule};
@@ -19,9 +19,8 @@ use crate::bounds::list_bounds;
 use crate::speakers::Speaker;
 use crate::turns::Turns;
 use cpg_base::{OutOfMemory, Problem, Variable};
-use cpg_cube::Literal;
+use cpg_cube::{Entry, Literal};
 use cpg_rules::Admitted;
-use cpg_table::Entry;
 use cpg_tree::Space;
 use std::alloc::Global;
 

@@ -2,7 +2,7 @@
 ghost use Rattle.std.specs.Prelude.{◌≤◌, ◌<◌, ◌^◌};
 ghost use Rattle.cpg_base.specs.Duration.{duration};
 ghost use Rattle.cpg_base.specs.Graph.{process_count};
-ghost use Rattle.cpg_order.specs.Scenario.{Scenario, IsScenario, fault_of};
+ghost use Rattle.cpg_base.specs.Scenario.{Scenario, IsScenario, fault_of};
 ghost use Rattle.cpg_tree.specs.Space.{Lies};
 
 use cpg_base::Problem;

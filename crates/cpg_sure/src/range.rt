@@ -1,7 +1,7 @@
 //! The range of the times of columns.
 ghost use Rattle.std.specs.Prelude.{◌≤◌, All};
 
-use cpg_table::Entry;
+use cpg_cube::Entry;
 
 /// The least time of these columns; the greatest number where there is none.
 pub(crate) fn first_time(columns: &[Entry]) -> u64

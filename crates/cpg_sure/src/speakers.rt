@@ -2,7 +2,7 @@
 ghost use Rattle.std.specs.Prelude.{◌≡◌, ◌≤◌, ◌+◌, ◌⊎◌, ℕ, Some, All, Contains, IfOk, IfSome, List, false, get_or, length, true};
 ghost use Rattle.std.specs.Bool.{OnTrue};
 ghost use Rattle.cpg_base.specs.Graph.{Graph};
-ghost use Rattle.cpg_order.specs.Scenario.{Scenario, IsScenario, number_of};
+ghost use Rattle.cpg_base.specs.Scenario.{Scenario, IsScenario, number_of};
 ghost use Rattle.cpg_cube.specs.Cube.{matches};
 ghost use Rattle.cpg_table.specs.Heard.{exactly, frame_value};
 ghost use Rattle.cpg_table.specs.Table.{NodeTable};
@@ -15,8 +15,7 @@ ghost use Rattle.cpg_sure.specs.Speakers.{HasCome, IsSpeaker, IsTold, IsToldIn};
 
 use crate::course::Courses;
 use cpg_base::{FIRST_VALUE, Item, OutOfMemory, Problem};
-use cpg_cube::Literal;
-use cpg_table::Entry;
+use cpg_cube::{Entry, Literal};
 use cpg_tree::{Places, Space, Test};
 use std::alloc::Global;
 

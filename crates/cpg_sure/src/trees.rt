@@ -6,7 +6,8 @@ ghost use Rattle.cpg_rules.specs.Admission.{IsAdmitted};
 ghost use Rattle.cpg_sure.specs.Trees.{AreRowTrees, IsRowTree};
 
 use cpg_base::{OutOfMemory, Problem};
-use cpg_table::{Entry, Tables};
+use cpg_cube::Entry;
+use cpg_table::Tables;
 use cpg_tree::Places;
 use cpg_violation::{columns_of, cubes_of};
 use std::alloc::Global;

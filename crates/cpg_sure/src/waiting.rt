@@ -3,7 +3,7 @@ ghost use Rattle.std.specs.Prelude.{◌≡◌, ◌<◌, ◌⊎◌, ℕ, All, Con
 ghost use Rattle.std.specs.Bool.{OnTrue};
 ghost use Rattle.cpg_base.specs.Activity.{live};
 ghost use Rattle.cpg_base.specs.Graph.{edge_count, item_count, process_count, producer};
-ghost use Rattle.cpg_order.specs.Scenario.{Scenario, IsScenario};
+ghost use Rattle.cpg_base.specs.Scenario.{Scenario, IsScenario};
 ghost use Rattle.cpg_table.specs.Table.{NodeTable, columns_of};
 ghost use Rattle.cpg_tree.specs.Space.{Lies};
 ghost use Rattle.cpg_violation.specs.Violation.{AllHold, row_rules};
@@ -14,9 +14,9 @@ use crate::course::{Course, Courses};
 use crate::guards::is_refused;
 use crate::turns::Turns;
 use cpg_base::OutOfMemory;
+use cpg_cube::Entry;
 use cpg_order::Links;
 use cpg_rules::Admitted;
-use cpg_table::Entry;
 use cpg_tree::Space;
 use std::alloc::Global;
 

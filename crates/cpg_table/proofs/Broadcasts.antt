@@ -1,6 +1,6 @@
 -- The broadcasts of a node, process by process.
 use Rattle.std.proofs.Common.{◌≡◌, ℕ, ◌+◌, ◌<◌, ◌≤◌, Bool, true, false, cond, ◌&&◌, List, [], ◌∷◌, ◌++◌, length, get_or, drop, filter, refl, sym, ap, ap₂, ◌∙◌, append_assoc, append-nil, arith, add-one, drop-cons}
-use Rattle.cpg_table.specs.declared.head_parts.HeadProcess.{HeadProcess}
+use Rattle.cpg_head.specs.declared.head_parts.HeadProcess.{HeadProcess}
 use Rattle.cpg_table.specs.Items.{numbers_where}
 
 abbrev has_condition : HeadProcess → Bool

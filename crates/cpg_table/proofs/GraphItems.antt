@@ -12,11 +12,11 @@ use Rattle.cpg_base.specs.declared.process.Edge.{Edge}
 use Rattle.cpg_base.specs.Limits.{IsWithinLimits, IsProcessWithin, IsEdgeWithin}
 use Rattle.cpg_base.proofs.Lists.{same_filter, filter_none, from_range, numbers-Contains, get_or-map-below}
 use Rattle.cpg_base.proofs.Items.{item_at-start, item_at-message, item_at-broadcast, start_not_sent, process_of_below}
-use Rattle.cpg_table.specs.Head.{HeadProcess}
-use Rattle.cpg_table.specs.GraphHead.{head_process, head_of}
+use Rattle.cpg_head.specs.declared.head_parts.HeadProcess.{HeadProcess}
+use Rattle.cpg_head.specs.GraphHead.{head_process, head_of}
 use Rattle.cpg_table.specs.Shape.{processes_on, sent_from, heard_by}
 use Rattle.cpg_table.specs.Items.{numbers_where, head_node_of, conditioned, leaves, enters, first_message, first_broadcast, starts_of, sends_of, hears_of}
-use Rattle.cpg_table.proofs.HeadWithin.{has_condition}
+use Rattle.cpg_head.proofs.HeadWithin.{has_condition}
 
 -- ---- lists
 

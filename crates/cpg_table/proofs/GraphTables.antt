@@ -9,13 +9,14 @@ use Rattle.cpg_base.specs.Graph.{Graph, process_count, condition_count, node_of,
 use Rattle.cpg_base.specs.Limits.{IsWithinLimits}
 use Rattle.cpg_base.proofs.Lists.{filter_below_push}
 use Rattle.cpg_cube.specs.declared.literal.Literal.{Literal}
-use Rattle.cpg_order.proofs.Conditions.{condition_of_process_of}
-use Rattle.cpg_table.specs.GraphHead.{head_process, head_of, own_process}
-use Rattle.cpg_table.specs.Table.{Column, Row, NodeTable, table_at}
+use Rattle.cpg_base.proofs.ConditionProcesses.{condition_of_process_of}
+use Rattle.cpg_head.specs.GraphHead.{head_process, head_of}
+use Rattle.cpg_table.specs.Items.{own_process, own_from, own_of}
+use Rattle.cpg_table.specs.Table.{Row, NodeTable, table_at}
+use Rattle.cpg_cube.specs.Column.{Column}
 use Rattle.cpg_table.specs.Shape.{HasShape, SpeakOf, processes_on}
-use Rattle.cpg_table.specs.Items.{own_from, own_of}
 use Rattle.cpg_table.specs.Lawful.{IsLawfulLiteral, IsLawfulColumn, IsLawfulRow, space_of, AreTablesOf}
-use Rattle.cpg_table.proofs.HeadWithin.{has_condition, conditions_counted}
+use Rattle.cpg_head.proofs.HeadWithin.{has_condition, conditions_counted}
 use Rattle.cpg_table.proofs.GraphItems.{starts_are, sends_are, hears_are, range-append}
 use Rattle.cpg_table.specs.Laws.{SuitsGraph}
 use Rattle.std.proofs.lemmas.List.{length-map}

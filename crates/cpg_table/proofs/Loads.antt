@@ -21,7 +21,7 @@ use Rattle.cpg_table.specs.Lawful.{column_count, rows_of}
 use Rattle.cpg_table.specs.Shape.{processes_on}
 use Rattle.cpg_table.specs.Table.{Row, NodeTable, table_at, empty_table}
 use Rattle.cpg_table.specs.Valid.{later_by}
-use Rattle.cpg_table.specs.GraphHead.{head_of}
+use Rattle.cpg_head.specs.GraphHead.{head_of}
 use Rattle.cpg_table.specs.Items.{ItemLists, starts_of, sends_of, hears_of, lists_of}
 use Rattle.cpg_table.specs.Writing.{row_for, heard_row, rows_of_items, AreWritable, AreNodeTables}
 use Rattle.cpg_table.proofs.GraphItems.{range-append, starts_are, sends_are, hears_are}

@@ -9,21 +9,21 @@ use Rattle.cpg_base.specs.Graph.{Graph, process_count, item_count, item_at, node
 use Rattle.cpg_base.specs.Bus.{slot_length}
 use Rattle.cpg_base.specs.Limits.{IsWithinLimits}
 use Rattle.cpg_base.specs.declared.limits.TheConstants.{MOST_COLUMNS}
-use Rattle.cpg_base.proofs.Bounds.{round-le}
+use Rattle.cpg_base.proofs.Bounds.{round-le, slot_length-le}
 use Rattle.cpg_base.proofs.Lists.{numbers-Contains, Contains-filter_parts, Contains-first, Contains-rest}
 use Rattle.cpg_cube.specs.Cube.{is_whole}
 use Rattle.cpg_base.specs.Variable.{top}
 use Rattle.cpg_cube.specs.declared.literal.Literal.{Literal}
 use Rattle.cpg_cube.proofs.Boxes.{top_of_count, top_of_value}
-use Rattle.cpg_table.specs.GraphHead.{head_of, head_process}
+use Rattle.cpg_head.specs.GraphHead.{head_of, head_process}
 use Rattle.cpg_table.specs.Items.{starts_of, sends_of, hears_of, lists_of}
 use Rattle.cpg_table.specs.Lawful.{IsLawfulLiteral, IsLawfulColumn, IsLawfulRow, AreRowsOf, space_of}
 use Rattle.cpg_table.specs.Shape.{items_of}
-use Rattle.cpg_table.specs.Table.{Column, Row}
+use Rattle.cpg_table.specs.Table.{Row}
+use Rattle.cpg_cube.specs.Column.{Column}
 use Rattle.cpg_table.specs.Valid.{later_by}
 use Rattle.cpg_table.proofs.GraphItems.{starts_are, sends_are, hears_are}
-use Rattle.cpg_table.proofs.HeadWithin.{conditions_counted}
-use Rattle.cpg_base.proofs.Bounds.{slot_length-le}
+use Rattle.cpg_head.proofs.HeadWithin.{conditions_counted}
 use Rattle.cpg_table.specs.Writing.{row_for, heard_row, rows_of_items, IsWritable, AreWritable}
 
 abbrev pub no_row : Row

@@ -1,8 +1,12 @@
 -- Which items a node starts, sends and hears by a head, and what it needs to know of its own processes.
-use Rattle.std.specs.Prelude.{ℕ, ◌+◌, Bool, false, not, ◌&&◌, ◌==◌, nat_lt, if◌then◌else◌, List, [], ◌∷◌, ◌++◌, Option, Some, None, length, filter, get_or}
-use Rattle.cpg_table.specs.Head.{Head, HeadProcess}
+use Rattle.std.specs.Prelude.{ℕ, ◌+◌, Bool, false, not, ◌&&◌, ◌==◌, nat_lt, if◌then◌else◌, List, [], ◌∷◌, ◌++◌, Option, Some, None, length, filter, get_or, map}
+use Rattle.cpg_head.specs.Head.{Head}
+use Rattle.cpg_head.specs.declared.head_parts.HeadProcess.{HeadProcess}
 use Rattle.cpg_table.specs.Table.{Row}
 use Rattle.cpg_table.specs.declared.own.Own.{Own}
+use Rattle.cpg_base.specs.Numbers.{numbers_below}
+use Rattle.cpg_base.specs.Graph.{Graph, condition_of}
+use Rattle.cpg_base.specs.Duration.{duration}
 
 -- the numbers, from i on, of the elements that pass
 abbrev pub numbers_where : {X : Type 0} → (X → Bool) → ℕ → List X → List ℕ
@@ -75,3 +79,7 @@ abbrev pub after_items : List ℕ → List Row → Option (List Row)
 after_items [] rows = Some rows
 after_items (x ∷ xs) [] = None
 after_items (x ∷ xs) (row ∷ rows) = if row.item == x then after_items xs rows else None
+
+-- what a node needs to know of a process of its own
+abbrev pub own_process : Graph → ℕ → Own
+own_process g p = record { process = p; condition = condition_of g p; times = map (duration g p) (numbers_below (g.faults + 1)) }

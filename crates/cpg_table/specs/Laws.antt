@@ -4,7 +4,8 @@ use Rattle.cpg_base.specs.Graph.{Graph, process_count, edge_count}
 use Rattle.cpg_base.specs.Limits.{IsWithinLimits}
 use Rattle.cpg_table.specs.Table.{NodeTable, table_at}
 use Rattle.cpg_table.specs.Shape.{HasShape, items_of, processes_on, heard_by}
-use Rattle.cpg_table.specs.GraphHead.{head_of, own_process}
+use Rattle.cpg_head.specs.GraphHead.{head_of}
+use Rattle.cpg_table.specs.Items.{own_process}
 use Rattle.cpg_table.specs.Lawful.{AreTablesOf}
 
 -- a row for each item that a node starts or sends, on variables that there are

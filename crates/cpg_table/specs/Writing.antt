@@ -8,11 +8,12 @@ use Rattle.cpg_cube.specs.Cube.{is_whole}
 use Rattle.cpg_base.specs.Variable.{top}
 use Rattle.cpg_cube.specs.Fit.{IsCube}
 use Rattle.cpg_order.specs.Reach.{rows_of_item}
-use Rattle.cpg_table.specs.GraphHead.{head_of}
+use Rattle.cpg_head.specs.GraphHead.{head_of}
 use Rattle.cpg_table.specs.Items.{ItemLists, lists_of}
 use Rattle.cpg_table.specs.Lawful.{Tables, IsTableOf, AreTablesOf, rows_of}
 use Rattle.cpg_table.specs.Shape.{items_of}
-use Rattle.cpg_table.specs.Table.{Column, Row, NodeTable, table_at, columns_of}
+use Rattle.cpg_table.specs.Table.{Row, NodeTable, table_at, columns_of}
+use Rattle.cpg_cube.specs.Column.{Column}
 use Rattle.cpg_table.specs.Valid.{later_by, hear_rows}
 
 -- the row of an item, where each stands at the number of its item

@@ -2,14 +2,16 @@
 ghost use Rattle.std.specs.Prelude.{◌≡◌, ◌<◌, ◌^◌, ◌++◌, All, IfOk, length, map};
 ghost use Rattle.cpg_base.specs.Graph.{item_count};
 ghost use Rattle.cpg_base.specs.WellFormed.{WellFormed};
-ghost use Rattle.cpg_table.specs.GraphHead.{head_of};
+ghost use Rattle.cpg_head.specs.GraphHead.{head_of};
 ghost use Rattle.cpg_table.specs.Valid.{later_by};
 ghost use Rattle.cpg_table.specs.Items.{lists_of};
 ghost use Rattle.cpg_table.specs.Writing.{row_for, heard_row, rows_of_items, AreWritable, IsTableWith, AreNodeTables, AreTablesWith};
 
 use crate::counts::Counts;
-use crate::{Entry, Head, NodeItems, NodeTable, Row, Tables, head_of};
+use crate::{NodeItems, NodeTable, Row, Tables};
 use cpg_base::{OutOfMemory, Problem};
+use cpg_cube::Entry;
+use cpg_head::{Head, head_of};
 use std::alloc::Global;
 
 /// The entries, each later by a delay.

@@ -3,8 +3,9 @@ ghost use Rattle.std.specs.Prelude.{◌≡◌, ◌≢◌, ◌↔◌, ◌++◌, I
 ghost use Rattle.cpg_table.specs.Shape.{items_of};
 ghost use Rattle.cpg_table.specs.Items.{starts_of, sends_of, hears_of};
 
+use crate::Row;
 use crate::items::{after_hears, after_sends, after_starts};
-use crate::{Head, Row};
+use cpg_head::Head;
 
 /// How many rows a node has of each kind but the last.
 #[derive(Clone, Copy, Debug)]

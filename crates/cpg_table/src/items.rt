@@ -1,9 +1,10 @@
 //! Which items a node starts, sends and hears by a head.
 ghost use Rattle.std.specs.Prelude.{◌≡◌, ◌<◌, ◌≤◌, ◌+◌, ◌∷◌, [], ◌==◌, ◌&&◌, not, if◌then◌else◌, length, option_map, option_and_then, ℕ};
-ghost use Rattle.cpg_table.specs.Head.{IsHead};
+ghost use Rattle.cpg_head.specs.Head.{IsHead};
 ghost use Rattle.cpg_table.specs.Items.{numbers_where, head_node_of, leaves, enters, first_message, first_broadcast, conditioned, starts_of, sends_of, hears_of, after_items};
 
-use crate::{Head, HeadProcess, Row};
+use crate::Row;
+use cpg_head::{Head, HeadProcess};
 
 /// The rows after one of an item where there is to be one, and `None` exactly where it doesn't come first.
 fn after_row(rows: &[Row], item: u32, wanted: bool) -> Option<&[Row]>

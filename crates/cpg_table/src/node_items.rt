@@ -2,9 +2,9 @@
 ghost use Rattle.std.specs.Prelude.{◌≡◌, ◌==◌, not, ◌++◌, ◌∷◌, [], IfOk, OnOk, if◌then◌else◌};
 ghost use Rattle.cpg_table.specs.Items.{numbers_where, leaves, enters, first_message, first_broadcast, conditioned, starts_of, sends_of, hears_of, lists_of};
 
-use crate::Head;
 use crate::items::{first_broadcast, is_crossing, is_wanted, next_number};
 use cpg_base::OutOfMemory;
+use cpg_head::Head;
 use std::alloc::Global;
 use std::marker::Model;
 

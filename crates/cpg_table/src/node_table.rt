@@ -8,8 +8,9 @@ use crate::counts::{Counts, counts_of, have_hears, have_sends, have_starts};
 use crate::items::first_broadcast;
 use crate::own::{is_own_of, own_of};
 use crate::space::{Space, are_rows, space_of};
-use crate::{Head, Own, Row};
+use crate::{Own, Row};
 use cpg_base::OutOfMemory;
+use cpg_head::Head;
 use std::alloc::{AllocError, Global};
 use std::marker::Model;
 

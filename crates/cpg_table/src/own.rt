@@ -1,11 +1,11 @@
 //! What a node needs to know of its own processes.
 ghost use Rattle.std.specs.Prelude.{◌≡◌, ◌≢◌, ◌↔◌, ◌≤◌, ◌++◌, IsTrue, IfOk, IfSome, IfNone, OnOk, List, Some, None, if◌then◌else◌};
-ghost use Rattle.cpg_table.specs.Head.{IsHead};
+ghost use Rattle.cpg_head.specs.Head.{IsHead};
 ghost use Rattle.cpg_table.specs.Items.{own_front, own_of};
 
 use crate::items::next_number;
-use crate::{Durations, Head, HeadProcess};
 use cpg_base::OutOfMemory;
+use cpg_head::{Durations, Head, HeadProcess};
 use std::alloc::{AllocError, Global};
 
 /// A process of the node that has the table.

@@ -1,8 +1,8 @@
 //! A row of a table.
 ghost use Rattle.std.specs.Prelude.{◌≡◌, IfOk};
 
-use crate::Entry;
 use cpg_base::OutOfMemory;
+use cpg_cube::Entry;
 use std::alloc::AllocError;
 use std::marker::Model;
 

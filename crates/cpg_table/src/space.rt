@@ -3,10 +3,10 @@ ghost use Rattle.std.specs.Prelude.{◌≡◌, ◌↔◌, ◌≤◌, ◌<◌, Is
 ghost use Rattle.cpg_cube.specs.Cube.{IsRising};
 ghost use Rattle.cpg_table.specs.Lawful.{space_of, IsCountLiteral, IsValueLiteral, IsLawfulLiteral, IsLawfulColumn, IsLawfulRow};
 
-use crate::head::{TIME_END, condition_count};
-use crate::{Entry, Head, Row};
+use crate::Row;
 use cpg_base::{MOST_COLUMNS, Variable};
-use cpg_cube::Literal;
+use cpg_cube::{Entry, Literal};
+use cpg_head::{Head, TIME_END, condition_count};
 
 /// The variables that there are under a head.
 #[derive(Clone, Copy, Debug)]

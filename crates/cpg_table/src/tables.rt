@@ -4,8 +4,9 @@ ghost use Rattle.cpg_table.specs.Table.{table_at};
 ghost use Rattle.cpg_table.specs.Lawful.{IsTableOf, AreTablesOf, column_count, rows_of};
 
 use crate::node_table::is_table_of;
-use crate::{Head, NodeTable, Row};
+use crate::{NodeTable, Row};
 use cpg_base::{MOST_LOAD, MOST_NODES, OutOfMemory};
+use cpg_head::Head;
 use std::marker::Model;
 
 /// What a pack holds: a head and the table of each node, seen as both.

@@ -2,8 +2,7 @@
 
 use crate::fixtures::choice;
 use cpg_base::{Activation, Scenario};
-use cpg_guard::{GuardTop, GuardTree};
-use cpg_rules::Admitted;
+use cpg_rules::{Admitted, GuardTop, GuardTree};
 use std::alloc::Global;
 
 /// Whether a tree tests the condition first.

@@ -1,8 +1,8 @@
 //! Tails, and the order of scenarios, on a graph worked by hand.
 
 use crate::fixtures::choice;
-use cpg_base::Scenario;
-use cpg_order::{is_before, tail};
+use cpg_base::{Scenario, is_before};
+use cpg_order::tail;
 use cpg_rules::Admitted;
 use std::alloc::Global;
 

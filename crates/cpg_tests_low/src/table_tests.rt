@@ -1,6 +1,7 @@
 //! Calls that no command makes.
 
-use cpg_table::{Durations, Rule};
+use cpg_head::Durations;
+use cpg_table::Rule;
 use std::alloc::AllocError;
 
 #[test]

@@ -1,7 +1,7 @@
 //! A pair of processes on two nodes with a message: its graph as a file has it, and its tables as a pack, by hand.
 ghost use Rattle.std.specs.Prelude.{◌≡◌, IfOk, length};
 ghost use Rattle.cpg_base.specs.Scenario.{IsScenario};
-ghost use Rattle.cpg_table.specs.GraphHead.{head_of};
+ghost use Rattle.cpg_head.specs.GraphHead.{head_of};
 ghost use Rattle.cpg_table.specs.Lawful.{AreTablesOf};
 ghost use Rattle.cpg_table.specs.Valid.{IsValid};
 

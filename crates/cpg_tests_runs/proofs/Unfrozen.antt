@@ -7,7 +7,7 @@ use Rattle.std.proofs.lemmas.List.Folds.{sum_by-replicate}
 use Rattle.std.proofs.lemmas.Option.{none-some}
 use Rattle.cpg_base.specs.Graph.{Graph, process_count, condition_count, item_count}
 use Rattle.cpg_base.specs.Scenario.{Scenario, IsScenario, zero_scenario}
-use Rattle.cpg_guard.specs.Guards.{Guards}
+use Rattle.cpg_rules.specs.Guards.{Guards}
 use Rattle.cpg_order.specs.Urgency.{IsTopological}
 use Rattle.cpg_rules.specs.Admission.{IsAdmitted}
 use Rattle.cpg_run.specs.Frozen.{nothing_frozen}

@@ -1,5 +1,6 @@
 //! Rows as plain data.
-use cpg_table::{Entry, Row};
+use cpg_cube::Entry;
+use cpg_table::Row;
 
 /// When a column is, with the low and the high of its first literal, 9 where it has none.
 pub type Column = (u64, u8, u8);

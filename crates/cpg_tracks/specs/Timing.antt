@@ -8,7 +8,7 @@ use Rattle.cpg_base.specs.Activity.{live}
 use Rattle.cpg_base.specs.Duration.{duration}
 use Rattle.cpg_base.specs.Bus.{round}
 use Rattle.cpg_order.specs.Links.{links_of}
-use Rattle.cpg_order.specs.Urgency.{place}
+use Rattle.cpg_base.specs.Order.{place}
 use Rattle.cpg_tracks.specs.declared.timing.Timing.{Timing}
 use Rattle.cpg_tracks.specs.declared.schedule.Candidate.{Candidate}
 use Rattle.cpg_tracks.specs.Placing.{IsFed, IsSooner, would_start, free_at}

@@ -4,7 +4,7 @@ use Rattle.cpg_base.specs.Numbers.{numbers_below}
 use Rattle.cpg_base.specs.Graph.{Graph, process_count, condition_count}
 use Rattle.cpg_base.specs.Scenario.{Scenario}
 use Rattle.cpg_base.specs.Activity.{active}
-use Rattle.cpg_guard.specs.Guards.{Guards}
+use Rattle.cpg_rules.specs.Guards.{Guards}
 use Rattle.cpg_rules.specs.Admission.{IsAdmitted}
 use Rattle.cpg_tracks.specs.Tracks.{start_in, most_scheduled_tracks}
 use Rattle.cpg_order.specs.Track.{AreTracks}

@@ -11,10 +11,8 @@ ghost use Rattle.cpg_tracks.specs.Timing.{IsTiming, IsOpen, AreFree, IsCandidate
 
 use crate::Track;
 use crate::timing::Timing;
-use cpg_base::{OutOfMemory, Problem};
-use cpg_guard::GuardTrees;
-use cpg_order::Order;
-use cpg_rules::Admitted;
+use cpg_base::{Order, OutOfMemory, Problem};
+use cpg_rules::{Admitted, GuardTrees};
 use std::alloc::Global;
 use std::marker::Model;
 

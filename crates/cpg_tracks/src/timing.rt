@@ -9,8 +9,8 @@ ghost use Rattle.cpg_tracks.specs.Timing.{IsTiming};
 
 use crate::Track;
 use cpg_base::{OutOfMemory, Problem, Scenario};
-use cpg_guard::GuardTrees;
 use cpg_order::Links;
+use cpg_rules::GuardTrees;
 use std::alloc::Global;
 
 /// What placing the processes of a track rests on, found once.

@@ -10,10 +10,8 @@ ghost use Rattle.cpg_order.specs.Track.{AreTracks};
 ghost use Rattle.cpg_tracks.specs.Walks.{both_ways_at};
 ghost use Rattle.cpg_tracks.specs.Track.{IsTrackOf, AreAllTracks, outcomes_of, HasValues, AreAdmitted};
 
-use cpg_base::{OutOfMemory, Problem, Scenario};
-use cpg_guard::GuardTrees;
-use cpg_order::Order;
-use cpg_rules::Admitted;
+use cpg_base::{Order, OutOfMemory, Problem, Scenario};
+use cpg_rules::{Admitted, GuardTrees};
 use std::alloc::Global;
 use std::marker::Model;
 

@@ -3,7 +3,7 @@ use Rattle.std.proofs.Common.{ℕ, ◌≤◌, ◌≡◌, max, Bool, true, false,
 use Rattle.std.specs.Prelude.{nat_le}
 use Rattle.std.specs.Bool.{OnTrue}
 use Rattle.std.proofs.lemmas.Bool.{cases_lt, leb-true}
-use Rattle.cpg_order.specs.Scenario.{Scenario, number_of}
+use Rattle.cpg_base.specs.Scenario.{Scenario, number_of}
 use Rattle.cpg_tree.specs.declared.node.Node.{Node, Leaf, Fork'}
 use Rattle.cpg_tree.specs.Space.{Space, Lies}
 use Rattle.cpg_tree.specs.Decision.{value_at}

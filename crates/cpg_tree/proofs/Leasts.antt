@@ -6,8 +6,8 @@ use Rattle.std.proofs.lemmas.List.Sorted.{IsPermutation-sym, Contains-permutatio
 use Rattle.cpg_base.specs.Numbers.{numbers_below, is_below}
 use Rattle.cpg_base.specs.Graph.{Graph, process_count}
 use Rattle.cpg_base.proofs.Lists.{Contains-first, Contains-cases, Contains-nil, Contains-flat_map, Contains-flat_map_parts}
-use Rattle.cpg_order.specs.Scenario.{Scenario, IsScenario, IsLeast, is_before}
-use Rattle.cpg_order.proofs.ScenarioOrder.{not_before_transitive}
+use Rattle.cpg_base.specs.Scenario.{Scenario, IsScenario, IsLeast, is_before}
+use Rattle.cpg_base.proofs.ScenarioOrder.{not_before_transitive}
 use Rattle.cpg_cube.specs.declared.literal.Literal.{Literal}
 use Rattle.cpg_cube.specs.Cube.{matches, low_in}
 use Rattle.cpg_cube.specs.Fit.{lows, is_met}

@@ -8,13 +8,12 @@ use Rattle.cpg_base.proofs.Lists.{Contains-first, Contains-rest, Contains-cases,
 use Rattle.cpg_cube.specs.declared.literal.Literal.{Literal}
 use Rattle.cpg_cube.specs.Cover.{narrowed_by, meet_literal}
 use Rattle.cpg_cube.specs.Fit.{IsKnown}
-use Rattle.cpg_cube.proofs.Narrow.{narrowed-before, narrowed-here, narrowed-after}
+use Rattle.cpg_cube.proofs.Narrow.{narrowed-before, narrowed-here, narrowed-after, variables_of_narrowed}
 use Rattle.cpg_tree.specs.declared.node.Node.{Node, Leaf, Fork'}
 use Rattle.cpg_tree.specs.Decision.{DoForksPass}
 use Rattle.cpg_tree.specs.Paths.{up_to, above, paths_from, paths_of}
 use Rattle.cpg_tree.specs.Tree.{Path, DoPathsPass}
 use Rattle.cpg_tree.specs.Variables.{is_variable}
-use Rattle.cpg_cube.proofs.Narrow.{variables_of_narrowed}
 
 -- ---- a narrowed cube speaks of the variables of the cube, and of the literal's
 

@@ -1,6 +1,6 @@
 -- What the operations make of decision trees, said of their paths.
 use Rattle.std.proofs.Common.{ℕ, ◌≡◌, min, Bool, true, false, if◌then◌else◌, arith, refl, sym, ap, ◌∙◌, subst}
-use Rattle.cpg_order.specs.Scenario.{Scenario}
+use Rattle.cpg_base.specs.Scenario.{Scenario}
 use Rattle.cpg_cube.specs.Cube.{low_in, high_in}
 use Rattle.cpg_base.specs.Variable.{top}
 use Rattle.cpg_tree.specs.declared.node.Node.{Node}

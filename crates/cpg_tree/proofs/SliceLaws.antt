@@ -11,7 +11,7 @@ use Rattle.cpg_base.specs.Numbers.{numbers_below}
 use Rattle.cpg_base.specs.Variable.{top}
 use Rattle.cpg_base.proofs.Lists.{list_any_parts, from_any_false, from_all, numbers-Contains}
 use Rattle.cpg_base.proofs.Sums.{sum_changed, sum_by_zeros}
-use Rattle.cpg_order.specs.Scenario.{Scenario, number_of}
+use Rattle.cpg_base.specs.Scenario.{Scenario, number_of}
 use Rattle.cpg_cube.specs.declared.literal.Literal.{Literal}
 use Rattle.cpg_cube.specs.Cube.{IsRising, holds, matches}
 use Rattle.cpg_cube.proofs.CubeLows.{holds-low, holds-high}

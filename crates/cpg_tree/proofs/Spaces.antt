@@ -5,10 +5,9 @@ use Rattle.std.specs.Bool.{OnFalse}
 use Rattle.std.proofs.lemmas.Bool.{cases_lt, cases_eq, or_parts, cond-true, cond-false, leb-true, le-leb, both_ways}
 use Rattle.std.proofs.lemmas.List.{get_or-set_same, get_or-set_other}
 use Rattle.cpg_base.specs.Numbers.{numbers_below}
-use Rattle.cpg_base.specs.Scenario.{number_of_value}
+use Rattle.cpg_base.specs.Scenario.{number_of_value, Scenario, number_of, fault_of}
 use Rattle.cpg_base.proofs.Lists.{numbers-Contains, Contains-numbers}
 use Rattle.cpg_base.proofs.Sums.{le-sum_by, sum_changed, same_sum_by}
-use Rattle.cpg_order.specs.Scenario.{Scenario, number_of, fault_of}
 use Rattle.cpg_base.specs.Variable.{top}
 use Rattle.cpg_tree.specs.Space.{Space, Lies, HasFew, beyond, is_open_below, below_cut, above_cut}
 

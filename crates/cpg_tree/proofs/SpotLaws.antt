@@ -4,7 +4,7 @@ use Rattle.std.proofs.lemmas.List.{take_more, get_or-map, length-map, map_push}
 use Rattle.std.proofs.lemmas.List.Elements.{Contains-push_cases, Contains-append_left, Contains-push}
 use Rattle.std.proofs.lemmas.Bool.{cases_lt, eqb-true}
 use Rattle.cpg_base.proofs.Lists.{Contains-nil}
-use Rattle.cpg_order.specs.Scenario.{Scenario, number_of}
+use Rattle.cpg_base.specs.Scenario.{Scenario, number_of}
 use Rattle.cpg_cube.specs.declared.literal.Literal.{Literal}
 use Rattle.cpg_tree.specs.declared.node.Node.{Node}
 use Rattle.cpg_tree.specs.declared.places.Spot.{Spot}

@@ -1,6 +1,6 @@
 -- Decision trees: a value, or a fork by the number of a variable; and what a scenario finds on its way down.
 use Rattle.std.specs.Prelude.{ℕ, ◌+◌, ◌<◌, ◌≡◌, true, max, min, ◌==◌, nat_le, Bool, if◌then◌else◌}
-use Rattle.cpg_order.specs.Scenario.{Scenario, number_of}
+use Rattle.cpg_base.specs.Scenario.{Scenario, number_of}
 use Rattle.cpg_base.specs.Variable.{top}
 use Rattle.cpg_tree.specs.Space.{Space, IsWhole, is_open_below, is_open_above, below_cut, above_cut}
 use Rattle.cpg_tree.specs.declared.node.Node.{Node, Leaf, Fork'}

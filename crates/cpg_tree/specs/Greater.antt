@@ -1,6 +1,6 @@
 -- The least and the greatest number of a tree whose leaves are read as numbers.
 use Rattle.std.specs.Prelude.{ℕ, ◌≤◌, max, min}
-use Rattle.cpg_order.specs.Scenario.{Scenario}
+use Rattle.cpg_base.specs.Scenario.{Scenario}
 use Rattle.cpg_tree.specs.declared.node.Node.{Node, Leaf, Fork'}
 use Rattle.cpg_tree.specs.Decision.{value_at}
 

@@ -1,7 +1,7 @@
 -- The greatest number of a tree of times, with the first scenario that has it.
 use Rattle.std.specs.Prelude.{ℕ, ◌≡◌, ◌≤◌, ◌==◌, max, if◌then◌else◌, Option, Some, None, List, Contains, All}
 use Rattle.cpg_base.specs.Graph.{Graph, process_count}
-use Rattle.cpg_order.specs.Scenario.{Scenario, IsScenario, IsLeast}
+use Rattle.cpg_base.specs.Scenario.{Scenario, IsScenario, IsLeast}
 use Rattle.cpg_cube.specs.Fit.{IsKnown}
 use Rattle.cpg_tree.specs.declared.node.Node.{Node, Leaf, Fork'}
 use Rattle.cpg_tree.specs.Tree.{Path, TreeState, IsOn}

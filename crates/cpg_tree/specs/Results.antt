@@ -1,6 +1,6 @@
 -- What the operations on decision trees make of these.
 use Rattle.std.specs.Prelude.{⊤, ℕ, ◌+◌, ◌≡◌, ◌≢◌, ◌≤◌, ◌<◌, max, min, Bool, if◌then◌else◌}
-use Rattle.cpg_order.specs.Scenario.{Scenario, number_of}
+use Rattle.cpg_base.specs.Scenario.{Scenario, number_of}
 use Rattle.cpg_tree.specs.declared.node.Node.{Node}
 use Rattle.cpg_tree.specs.Space.{Space, Lies}
 use Rattle.cpg_tree.specs.Decision.{value_at, low_at, high_at}

@@ -1,7 +1,7 @@
 -- The scenarios that come to a place of a tree: a range for each variable, and how many faults there may be beyond the lows.
 use Rattle.std.specs.Prelude.{ℕ, ◌+◌, ◌-◌, ◌≤◌, ◌<◌, ◌≡◌, Bool, ◌&&◌, ◌||◌, nat_le, nat_lt, if◌then◌else◌, get_or, slice_set, sum_by, length}
 use Rattle.cpg_base.specs.Numbers.{numbers_below}
-use Rattle.cpg_order.specs.Scenario.{Scenario, number_of, fault_of}
+use Rattle.cpg_base.specs.Scenario.{Scenario, number_of, fault_of}
 use Rattle.cpg_cube.specs.declared.literal.Literal.{Literal}
 pub use Rattle.cpg_tree.specs.declared.space.Space.{Space}
 use Rattle.cpg_tree.specs.declared.space.Lifted.{Lifted}

@@ -1,6 +1,6 @@
 -- What callers see of a tree: its paths, each a cube and a value; and what the operations answer.
 use Rattle.std.specs.Prelude.{ℕ, ◌≡◌, ◌≢◌, ◌≤◌, max, min, Bool, true, List, [], ◌∷◌, All, length, filter, IsTrue, Contains, if◌then◌else◌}
-use Rattle.cpg_order.specs.Scenario.{Scenario, number_of}
+use Rattle.cpg_base.specs.Scenario.{Scenario, number_of}
 use Rattle.cpg_cube.specs.declared.literal.Literal.{Literal}
 use Rattle.cpg_cube.specs.Cube.{matches, low_in, high_in}
 use Rattle.cpg_base.specs.Variable.{top}

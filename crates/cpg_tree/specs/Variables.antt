@@ -1,8 +1,7 @@
 -- Trees of the number of one variable, as they are made.
 use Rattle.std.specs.Prelude.{ℕ, ◌+◌, ◌≡◌, ◌≢◌, ◌≤◌, Bool, ◌&&◌, ◌||◌, nat_lt, nat_le, length, get_or}
 use Rattle.cpg_base.specs.Graph.{Graph, process_count, condition_count, value_variable}
-use Rattle.cpg_base.specs.Scenario.{number_of_value}
-use Rattle.cpg_order.specs.Scenario.{Scenario, number_of}
+use Rattle.cpg_base.specs.Scenario.{number_of_value, Scenario, number_of}
 use Rattle.cpg_base.specs.Variable.{top}
 use Rattle.cpg_tree.specs.declared.node.Node.{Node}
 use Rattle.cpg_tree.specs.Space.{Space}

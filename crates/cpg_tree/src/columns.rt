@@ -9,9 +9,8 @@ ghost use Rattle.cpg_tree.specs.Decision.{HasCuts};
 
 use crate::Tree;
 use crate::node::Node;
-use cpg_base::{OutOfMemory, Problem, top};
+use cpg_base::{Order, OutOfMemory, Problem, top};
 use cpg_cube::{Cube, Literal, by_least_scenario};
-use cpg_order::Order;
 use std::alloc::Global;
 
 impl Node<Option<u64>> {

@@ -1,7 +1,7 @@
 //! The places that scenarios of a space come to.
 ghost use Rattle.std.specs.Prelude.{◌≤◌, ◌<◌, ℕ, Contains, IfOk};
 ghost use Rattle.std.specs.Bool.{OnTrue};
-ghost use Rattle.cpg_order.specs.Scenario.{Scenario, number_of};
+ghost use Rattle.cpg_base.specs.Scenario.{Scenario, number_of};
 ghost use Rattle.cpg_tree.specs.Space.{Lies};
 ghost use Rattle.cpg_tree.specs.Decision.{value_at};
 ghost use Rattle.cpg_tree.specs.Places.{IsAmong};

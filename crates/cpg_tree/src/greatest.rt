@@ -3,15 +3,14 @@ ghost use Rattle.std.specs.Prelude.{◌≡◌, ℕ, Bool, None, All, IfNone, IfO
 ghost use Rattle.cpg_base.specs.Graph.{process_count};
 ghost use Rattle.cpg_base.specs.Numbers.{numbers_below};
 ghost use Rattle.cpg_cube.specs.Fit.{IsKnown};
-ghost use Rattle.cpg_order.specs.Scenario.{IsLeast};
+ghost use Rattle.cpg_base.specs.Scenario.{IsLeast};
 ghost use Rattle.cpg_tree.specs.Greatest.{HasNumber, IsGreatestOf, IsMost, greater, kept, most_of};
 ghost use Rattle.cpg_tree.specs.Tree.{HasOnePathEach, DoPathsPass, IsMap};
 
 use crate::Tree;
 use crate::node::Node;
-use cpg_base::{OutOfMemory, Problem, Scenario};
+use cpg_base::{Order, OutOfMemory, Problem, Scenario};
 use cpg_cube::first_by_least_scenario;
-use cpg_order::Order;
 
 /// The greater of two numbers, where there are two.
 fn greater(first: Option<u64>, second: Option<u64>) -> Option<u64>

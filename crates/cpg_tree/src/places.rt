@@ -1,7 +1,7 @@
 //! The tree of the places of cubes of which no scenario matches two.
 ghost use Rattle.std.specs.Prelude.{◌≡◌, ◌≤◌, ◌++◌, ℕ, Contains, IfOk, IfSome, OnOk, false, length, map, true};
 ghost use Rattle.std.specs.Bool.{OnFalse, OnTrue};
-ghost use Rattle.cpg_order.specs.Scenario.{Scenario};
+ghost use Rattle.cpg_base.specs.Scenario.{Scenario};
 ghost use Rattle.cpg_cube.specs.Cube.{IsRising, matches};
 ghost use Rattle.cpg_tree.specs.Space.{Lies, HasFew};
 ghost use Rattle.cpg_tree.specs.Decision.{value_at};

@@ -2,7 +2,7 @@
 //! is visited but at its own leaf, and where a border is looked for.
 ghost use Rattle.std.specs.Prelude.{◌+◌, ◌≡◌, ◌≤◌, IfOk, IfSome, length, map, true};
 ghost use Rattle.std.specs.Bool.{OnTrue};
-ghost use Rattle.cpg_order.specs.Scenario.{Scenario};
+ghost use Rattle.cpg_base.specs.Scenario.{Scenario};
 ghost use Rattle.cpg_cube.specs.Cube.{IsRising, holds};
 ghost use Rattle.cpg_tree.specs.Space.{Lies, HasFew};
 ghost use Rattle.cpg_tree.specs.Decision.{value_at};

@@ -2,7 +2,7 @@
 ghost use Rattle.std.specs.Prelude.{◌≡◌, ◌≤◌, ◌<◌, ◌+◌, ◌||◌, IfNone, IfSome, false, nat_le, nat_lt, true, get_or};
 ghost use Rattle.std.specs.Bool.{OnFalse, OnTrue};
 ghost use Rattle.cpg_cube.specs.Cube.{IsRising, holds, matches};
-ghost use Rattle.cpg_order.specs.Scenario.{Scenario, number_of};
+ghost use Rattle.cpg_base.specs.Scenario.{Scenario, number_of};
 ghost use Rattle.cpg_tree.specs.Space.{Lies, IsWhole, HasFew, is_open_below, is_open_above, below_cut, above_cut, reopened_below, faults_of};
 
 use cpg_base::FIRST_VALUE;

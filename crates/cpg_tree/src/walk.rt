@@ -1,7 +1,7 @@
 //! Whether a test passes wherever scenarios of a space come to.
 ghost use Rattle.std.specs.Prelude.{◌≤◌, ◌<◌, ℕ, Option};
 ghost use Rattle.std.specs.Bool.{OnTrue};
-ghost use Rattle.cpg_order.specs.Scenario.{Scenario, number_of};
+ghost use Rattle.cpg_base.specs.Scenario.{Scenario, number_of};
 ghost use Rattle.cpg_tree.specs.Space.{Lies};
 ghost use Rattle.cpg_tree.specs.Decision.{value_at};
 ghost use Rattle.cpg_tree.specs.Spots.{AreOpen};

@@ -1,3 +1,4 @@
 pub mod Fewest
 pub mod Tolerating
 pub mod AsBefore
+pub mod Kept

@@ -3,3 +3,4 @@ pub mod Retuned
 pub mod Asked
 pub mod Tuned
 pub mod Laws
+pub mod RetunedLaws

@@ -1,6 +1,7 @@
 //! The best number of parts of each process of a graph, and for each fault number what a judge says of the graph so tuned.
 #![tactic(auto)]
 
+ghost use Rattle.cpg_tune.specs.RetunedLaws.{RetunedKeepRules, RetunedShowNoFault, TunedShowNoFault};
 ghost use Rattle.cpg_tune.specs.Laws.{BestPartsAreBest, TunedLastLeast, ToleratedIsGreatest};
 
 mod best;
@@ -26,4 +27,19 @@ pub fn tuned_last_least()
 /// The faults that are tolerated are the greatest number whose row is accepted, and `None` exactly where no row is.
 pub fn tolerated_is_greatest()
     ensures { ToleratedIsGreatest }
+{}
+
+/// Cycles, tracks, joins, slots and sizes don't rest on parts or the fault number.
+pub fn retuned_keep_rules()
+    ensures { RetunedKeepRules }
+{}
+
+/// An admitted graph shows no fault but want of memory with other parts and another fault number.
+pub fn retuned_show_no_fault()
+    ensures { RetunedShowNoFault }
+{}
+
+/// Nor does it with its best parts.
+pub fn tuned_show_no_fault()
+    ensures { TunedShowNoFault }
 {}

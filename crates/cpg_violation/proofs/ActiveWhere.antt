@@ -9,9 +9,9 @@ use Rattle.cpg_base.specs.Graph.{Graph, value_variable}
 use Rattle.cpg_base.specs.declared.activation.Activation.{Activation}
 use Rattle.cpg_base.specs.Activity.{is_active}
 use Rattle.cpg_order.specs.Guard.{Guard, Leaf, Test, outcome_at}
-use Rattle.cpg_order.specs.Scenario.{Scenario, number_of, number_of_value}
-use Rattle.cpg_order.specs.First.{IsFirst, earlier}
-use Rattle.cpg_order.proofs.First.{first_same, first_or}
+use Rattle.cpg_base.specs.Scenario.{Scenario, number_of, number_of_value}
+use Rattle.cpg_base.specs.First.{IsFirst, earlier}
+use Rattle.cpg_base.proofs.First.{first_same, first_or}
 use Rattle.cpg_cube.specs.Cube.{matches, holds}
 use Rattle.cpg_cube.specs.declared.literal.Literal.{Literal}
 use Rattle.cpg_cube.specs.Cover.{is_left}

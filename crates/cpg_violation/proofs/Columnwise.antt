@@ -5,11 +5,11 @@ use Rattle.std.proofs.Math.Bool.{or-false}
 use Rattle.std.proofs.lemmas.List.{take_more, drop_more, drop_all}
 use Rattle.std.proofs.lemmas.List.Folds.{list_any-append}
 use Rattle.cpg_base.specs.Graph.{Graph}
-use Rattle.cpg_order.specs.Scenario.{Scenario}
-use Rattle.cpg_order.specs.First.{IsFirst, earlier}
-use Rattle.cpg_order.proofs.First.{first_same, first_or}
+use Rattle.cpg_base.specs.Scenario.{Scenario}
+use Rattle.cpg_base.specs.First.{IsFirst, earlier}
+use Rattle.cpg_base.proofs.First.{first_same, first_or}
 use Rattle.cpg_cube.specs.Cube.{matches}
-use Rattle.cpg_table.specs.Table.{Column}
+use Rattle.cpg_cube.specs.Column.{Column}
 use Rattle.cpg_violation.specs.Broken.{is_broken}
 
 both_or : (m a b : Bool) → ((m && a) || (m && b)) ≡ (m && (a || b))

@@ -3,8 +3,8 @@ use Rattle.std.proofs.Common.{◌≡◌, ◌<◌, ◌∙◌, ℕ, Bool, true, fa
 use Rattle.cpg_base.specs.Graph.{Graph}
 use Rattle.cpg_base.specs.Limits.{IsWithinLimits}
 use Rattle.cpg_base.specs.declared.process.Process.{Process}
-use Rattle.cpg_table.specs.GraphHead.{extra_of, extras_of, head_of, is_plain}
-use Rattle.cpg_table.specs.Head.{Head}
+use Rattle.cpg_head.specs.GraphHead.{extra_of, extras_of, head_of, is_plain}
+use Rattle.cpg_head.specs.Head.{Head}
 use Rattle.cpg_table.specs.Items.{hears_of}
 use Rattle.cpg_table.specs.Lawful.{AreTablesOf}
 use Rattle.cpg_table.specs.Shape.{heard_by}

@@ -1,7 +1,7 @@
 -- The first and the last time of columns.
 use Rattle.std.proofs.Common.{ℕ, ◌+◌, ◌<◌, ◌≤◌, ◌≡◌, List, length, get_or, take, All, arith, subst}
 use Rattle.std.proofs.lemmas.List.Elements.{All-weaker, All-more}
-use Rattle.cpg_table.specs.Table.{Column}
+use Rattle.cpg_cube.specs.Column.{Column}
 
 -- times that none is before or after
 pub not_before_more : (columns : List Column) (k : ℕ) (c : Column) (first less : ℕ) → k < length columns → c ≡ get_or columns k c → All (λ (d : Column). first ≤ d.time) (take k columns) → less ≤ first → less ≤ c.time → All (λ (d : Column). less ≤ d.time) (take (k + 1) columns)

@@ -2,7 +2,7 @@
 use Rattle.std.proofs.Common.{ℕ, ◌+◌, ◌<◌, ◌≡◌, true, false, Bool, List, Option, get_or, arith, subst, inl, inr}
 use Rattle.std.proofs.lemmas.Bool.{cases_lt}
 use Rattle.cpg_base.specs.Graph.{Graph, item_count}
-use Rattle.cpg_order.specs.Scenario.{Scenario, IsScenario}
+use Rattle.cpg_base.specs.Scenario.{Scenario, IsScenario}
 use Rattle.cpg_table.specs.Table.{NodeTable}
 use Rattle.cpg_table.specs.Valid.{breaks}
 use Rattle.cpg_table.specs.declared.rule.Rule.{Rule}

@@ -3,15 +3,16 @@ use Rattle.std.proofs.Common.{ℕ, ◌+◌, ◌<◌, ◌≡◌, Bool, false, Lis
 use Rattle.std.proofs.lemmas.Bool.{cases_lt}
 use Rattle.std.proofs.lemmas.List.Elements.{All-weaker, All-contains_itself}
 use Rattle.cpg_base.specs.Graph.{Graph, process_count, item_count, IsVariable}
-use Rattle.cpg_order.proofs.Places.{length_order}
-use Rattle.cpg_order.specs.First.{IsFirst}
-use Rattle.cpg_order.specs.Scenario.{Scenario, IsScenario}
+use Rattle.cpg_base.proofs.Places.{length_order}
+use Rattle.cpg_base.specs.First.{IsFirst}
+use Rattle.cpg_base.specs.Scenario.{Scenario, IsScenario}
 use Rattle.cpg_cube.specs.declared.literal.Literal.{Literal}
 use Rattle.cpg_cube.specs.Fit.{IsKnown}
 use Rattle.cpg_rules.specs.Admission.{IsAdmitted}
-use Rattle.cpg_guard.specs.Guards.{Guards}
-use Rattle.cpg_table.specs.Table.{Column, NodeTable, columns_of}
-use Rattle.cpg_table.specs.GraphHead.{head_of}
+use Rattle.cpg_rules.specs.Guards.{Guards}
+use Rattle.cpg_table.specs.Table.{NodeTable, columns_of}
+use Rattle.cpg_cube.specs.Column.{Column}
+use Rattle.cpg_head.specs.GraphHead.{head_of}
 use Rattle.cpg_table.specs.Lawful.{AreTablesOf}
 use Rattle.cpg_table.specs.Valid.{breaks}
 use Rattle.cpg_table.specs.Rules.{number_of_rule}

@@ -4,7 +4,7 @@ use Rattle.cpg_base.specs.Numbers.{same_bool}
 use Rattle.cpg_base.specs.Graph.{value_variable}
 use Rattle.cpg_base.specs.Activity.{is_active}
 use Rattle.cpg_order.specs.Guard.{Guard, outcome_at}
-use Rattle.cpg_order.specs.Scenario.{Scenario, number_of_value}
+use Rattle.cpg_base.specs.Scenario.{Scenario, number_of_value}
 use Rattle.cpg_cube.specs.declared.literal.Literal.{Literal}
 
 -- whether a tree comes to an activation in a scenario, or else to none, as wanted

@@ -1,6 +1,7 @@
 -- The columns of the first row of an item, where there is a row.
 use Rattle.std.specs.Prelude.{ℕ, ◌==◌, if◌then◌else◌, List, [], ◌∷◌, Option, Some, None}
-use Rattle.cpg_table.specs.Table.{Column, Row}
+use Rattle.cpg_table.specs.Table.{Row}
+use Rattle.cpg_cube.specs.Column.{Column}
 
 abbrev pub row_columns : List Row → ℕ → Option (List Column)
 row_columns [] x = None

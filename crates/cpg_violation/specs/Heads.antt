@@ -1,8 +1,8 @@
 -- Whether the head of a pack is that of a graph.
 use Rattle.std.specs.Prelude.{◌≡◌, IfSome, map}
 use Rattle.cpg_base.specs.Graph.{Graph}
-use Rattle.cpg_table.specs.GraphHead.{extra_of, head_of}
-use Rattle.cpg_table.specs.Head.{Head}
+use Rattle.cpg_head.specs.GraphHead.{extra_of, head_of}
+use Rattle.cpg_head.specs.Head.{Head}
 
 -- what it says of the processes is so, and in version 2 what it says beside
 pub record AreProcessesOf (g : Graph) (h : Head) : Type 0 where

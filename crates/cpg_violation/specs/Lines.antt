@@ -1,6 +1,7 @@
 -- The columns of an item, as they are looked for.
 use Rattle.std.specs.Prelude.{ℕ, ◌≡◌, ◌<◌, ◌≤◌, List, All, length, get_or}
-use Rattle.cpg_table.specs.Table.{Column, NodeTable, columns_of}
+use Rattle.cpg_table.specs.Table.{NodeTable, columns_of}
+use Rattle.cpg_cube.specs.Column.{Column}
 use Rattle.cpg_violation.specs.Sieves.{IsSieveOf}
 use Rattle.cpg_violation.specs.declared.lines.Line.{Line}
 

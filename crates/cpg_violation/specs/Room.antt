@@ -1,7 +1,7 @@
 -- Room for a scenario.
 use Rattle.std.specs.Prelude.{◌≡◌, length}
 use Rattle.cpg_base.specs.Graph.{Graph, process_count, condition_count}
-use Rattle.cpg_order.specs.Scenario.{Scenario}
+use Rattle.cpg_base.specs.Scenario.{Scenario}
 
 -- a scenario that another can be written to: as long as the graph's are
 pub record HasRoom (g : Graph) (s : Scenario) : Type 0 where

@@ -1,7 +1,7 @@
 -- Items at which a rule is known to hold in every scenario.
 use Rattle.std.specs.Prelude.{ℕ, ◌≡◌, ◌<◌, true, false, List, Option, get_or, Bool}
 use Rattle.cpg_base.specs.Graph.{Graph, item_count}
-use Rattle.cpg_order.specs.Scenario.{Scenario, IsScenario}
+use Rattle.cpg_base.specs.Scenario.{Scenario, IsScenario}
 use Rattle.cpg_table.specs.Table.{NodeTable}
 use Rattle.cpg_table.specs.Valid.{breaks}
 use Rattle.cpg_table.specs.declared.rule.Rule.{Rule}

@@ -1,7 +1,7 @@
 -- The first violation of a rule of valid tables.
 use Rattle.std.specs.Prelude.{ℕ, ◌≡◌, ◌<◌, ◌⊎◌, Bool, false, IsTrue, IfSome, List, [], ◌∷◌, ◌++◌, Option, Some, ⊤}
 use Rattle.cpg_base.specs.Graph.{Graph, item_count}
-use Rattle.cpg_order.specs.Scenario.{Scenario, IsScenario, IsLeast}
+use Rattle.cpg_base.specs.Scenario.{Scenario, IsScenario, IsLeast}
 use Rattle.cpg_table.specs.Table.{NodeTable}
 use Rattle.cpg_table.specs.Valid.{breaks}
 use Rattle.cpg_table.specs.declared.fault.Fault.{Fault}

@@ -2,18 +2,17 @@
 ghost use Rattle.std.specs.Prelude.{◌≡◌, ◌<◌, ◌≤◌, ◌&&◌, All, IfOk, length, map};
 ghost use Rattle.cpg_base.specs.declared.limits.TheConstants.{MOST_CONDITIONS};
 ghost use Rattle.cpg_base.specs.Graph.{IsVariable, condition_count, process_count};
-ghost use Rattle.cpg_guard.specs.Trees.{TestsBelow};
-ghost use Rattle.cpg_order.specs.First.{IsFirst};
+ghost use Rattle.cpg_rules.specs.Trees.{TestsBelow};
+ghost use Rattle.cpg_base.specs.First.{IsFirst};
 ghost use Rattle.cpg_cube.specs.Cube.{holds};
 ghost use Rattle.cpg_cube.specs.Cover.{is_left};
 ghost use Rattle.cpg_cube.specs.Fit.{IsKnown};
 ghost use Rattle.cpg_violation.specs.Activity.{comes_to, value_literal};
 
 use crate::earliest::earlier;
-use cpg_base::{FIRST_VALUE, OutOfMemory, Problem, Scenario};
+use cpg_base::{FIRST_VALUE, Order, OutOfMemory, Problem, Scenario};
 use cpg_cube::{Cube, Literal, uncovered};
-use cpg_guard::{GuardTop, GuardTree};
-use cpg_order::Order;
+use cpg_rules::{GuardTop, GuardTree};
 use std::alloc::Global;
 
 /// The literal that a condition has a value.

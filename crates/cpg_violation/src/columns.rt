@@ -6,7 +6,8 @@ ghost use Rattle.cpg_table.specs.Table.{columns_of};
 ghost use Rattle.cpg_violation.specs.Columns.{row_columns};
 
 use cpg_base::Problem;
-use cpg_table::{Entry, Row, Tables};
+use cpg_cube::Entry;
+use cpg_table::{Row, Tables};
 
 /// The columns of the first row of an item, and `None` exactly where there is no row of it.
 pub fn row_columns(rows: &[Row], item: u32) -> Option<&[Entry]>

@@ -1,11 +1,10 @@
 //! The earlier of two scenarios.
 ghost use Rattle.std.specs.Prelude.{◌≡◌, IfSome, length};
 ghost use Rattle.cpg_base.specs.Graph.{process_count};
-ghost use Rattle.cpg_order.specs.First.{earlier};
-ghost use Rattle.cpg_order.specs.Scenario.{IsScenario};
+ghost use Rattle.cpg_base.specs.First.{earlier};
+ghost use Rattle.cpg_base.specs.Scenario.{IsScenario};
 
-use cpg_base::{Problem, Scenario};
-use cpg_order::{Order, is_before};
+use cpg_base::{Order, Problem, Scenario, is_before};
 
 /// The earlier of two scenarios, where there are two.
 pub fn earlier(

@@ -1,15 +1,14 @@
 //! The cubes of columns, and the scenarios that let edges be live.
 ghost use Rattle.std.specs.Prelude.{◌≡◌, ◌<◌, IfOk, map};
 ghost use Rattle.cpg_base.specs.Graph.{condition_of, edge_at, edge_count, process_count, source};
-ghost use Rattle.cpg_guard.specs.Guards.{is_passed, test_of};
-ghost use Rattle.cpg_order.specs.Scenario.{Scenario};
+ghost use Rattle.cpg_rules.specs.Guards.{is_passed, test_of};
+ghost use Rattle.cpg_base.specs.Scenario.{Scenario};
 ghost use Rattle.cpg_cube.specs.Cube.{matches};
 ghost use Rattle.cpg_cube.specs.Fit.{IsKnown};
 
 use crate::activity::value_literal;
 use cpg_base::{OutOfMemory, Problem};
-use cpg_cube::Cube;
-use cpg_table::Entry;
+use cpg_cube::{Cube, Entry};
 use std::alloc::Global;
 
 /// A reference to the cube of each column.

@@ -7,7 +7,8 @@ ghost use Rattle.cpg_violation.specs.Lines.{AreLines, IsLine};
 use crate::columns::columns_of;
 use crate::sieve::Sieve;
 use cpg_base::{OutOfMemory, Problem};
-use cpg_table::{Entry, Tables};
+use cpg_cube::Entry;
+use cpg_table::Tables;
 use std::alloc::Global;
 
 /// The columns of an item, with a sieve of them, and the time of the first and of the last.

@@ -3,14 +3,13 @@
 ghost use Rattle.std.specs.Prelude.{◌≡◌, ◌≤◌, ◌<◌, ◌&&◌, ℕ, Bool, IfOk, Contains, false, length, nat_le, not, true};
 ghost use Rattle.std.specs.Bool.{OnFalse};
 ghost use Rattle.cpg_base.specs.declared.limits.TheConstants.{MOST_LOAD};
-ghost use Rattle.cpg_order.specs.Scenario.{Scenario, number_of};
+ghost use Rattle.cpg_base.specs.Scenario.{Scenario, number_of};
 ghost use Rattle.cpg_cube.specs.Cube.{holds, matches};
 ghost use Rattle.cpg_violation.specs.Sieves.{IsSieveOf, Sifts, column_at, places_in};
 
 use crate::apart::may_meet;
 use cpg_base::OutOfMemory;
-use cpg_cube::{Cube, Literal};
-use cpg_table::Entry;
+use cpg_cube::{Cube, Entry, Literal};
 use std::alloc::Global;
 use std::marker::Model;
 

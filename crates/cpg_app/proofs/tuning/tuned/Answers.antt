@@ -3,8 +3,8 @@ use Rattle.std.specs.Prelude.{IfOk}
 use Rattle.cpg_base.specs.Graph.{Graph}
 use Rattle.cpg_tune.specs.Asked.{MayAskRows}
 use Rattle.cpg_tune.specs.Tuned.{IsTuning}
-use Rattle.cpg_tune_laws.specs.Retuned.{ShowsNoFault}
-use Rattle.cpg_tune_laws.proofs.Kept.{tuned_no_fault}
+use Rattle.cpg_tune.specs.RetunedLaws.{ShowsNoFault}
+use Rattle.cpg_tune.proofs.Kept.{tuned_no_fault}
 use Rattle.cpg_app.specs.Tunes.{IsJudged, IsNamedRow}
 use Rattle.cpg_app.proofs.Later.{if_ok}
 use Rattle.cpg_app.proofs.TunedLines.{rows_named}

@@ -2,8 +2,8 @@ use Rattle.std.proofs.Common.{ℕ, refl, ◌≡◌, ◌++◌, List, [], All, Bor
 use Rattle.std.proofs.lemmas.List.Elements.{All-map}
 use Rattle.cpg_base.specs.Numbers.{numbers_below}
 use Rattle.cpg_base.specs.Graph.{item_count}
-use Rattle.cpg_order.specs.Scenario.{Scenario, IsScenario}
-use Rattle.cpg_order.proofs.First.{first_same}
+use Rattle.cpg_base.specs.Scenario.{Scenario, IsScenario}
+use Rattle.cpg_base.proofs.First.{first_same}
 use Rattle.cpg_cube.specs.Cover.{is_left}
 use Rattle.cpg_cube.specs.declared.literal.Literal.{Literal}
 use Rattle.cpg_cube.specs.Fit.{IsKnown}
@@ -13,7 +13,7 @@ use Rattle.cpg_table.proofs.Settings.{Setting}
 use Rattle.cpg_violation.proofs.HeadLaws.{tables_of_graph}
 use Rattle.cpg_violation.proofs.Violations.{long_order, columns_known}
 use Rattle.cpg_audit.specs.Excluded.{excluded_of}
-use Rattle.cpg_audit.specs.Log.{IsActBy}
+use Rattle.cpg_log.specs.Log.{IsActBy}
 use Rattle.cpg_tree.proofs.OnePath.{scenario_few}
 use Rattle.cpg_audit.proofs.NarrowingLaws.{left_of_whole}
 use Rattle.cpg_audit.proofs.GivesLaws.{idle_known, least_gives, none_gives}

@@ -1,6 +1,6 @@
 use Rattle.std.proofs.Common.{◌≡◌, true, take}
 use Rattle.std.specs.Prelude.{IfNone, IfSome}
-use Rattle.cpg_order.specs.Scenario.{Scenario}
+use Rattle.cpg_base.specs.Scenario.{Scenario}
 use Rattle.cpg_cube.specs.Cube.{holds, matches}
 use Rattle.cpg_tree.specs.Space.{Lies}
 use Rattle.cpg_audit.proofs.narrowing.extent_of.Given as goal

@@ -1,6 +1,6 @@
 use Rattle.std.proofs.Common.{◌≡◌, ◌≤◌, false, drop, length}
 use Rattle.std.specs.List.{list_any}
-use Rattle.cpg_order.specs.Scenario.{Scenario}
+use Rattle.cpg_base.specs.Scenario.{Scenario}
 use Rattle.cpg_cube.specs.Cube.{matches}
 use Rattle.cpg_tree.specs.Space.{Lies}
 use Rattle.cpg_audit.proofs.narrowing.narrow.Given as goal

@@ -1,7 +1,7 @@
 use Rattle.std.proofs.Common.{◌≡◌, ◌≤◌, ◌||◌, All, drop, length}
 use Rattle.std.specs.List.{list_any}
 use Rattle.cpg_base.specs.Graph.{Graph}
-use Rattle.cpg_order.specs.Scenario.{Scenario}
+use Rattle.cpg_base.specs.Scenario.{Scenario}
 use Rattle.cpg_cube.specs.Cube.{matches}
 use Rattle.cpg_cube.specs.Fit.{IsKnown}
 use Rattle.cpg_audit.specs.Narrowing.{Leaves}

@@ -1,8 +1,8 @@
 use Rattle.std.proofs.Common.{length, ap, sym, refl, ◌∙◌}
 use Rattle.std.proofs.lemmas.List.FromFn.{length-map-range_with_len}
 use Rattle.cpg_base.specs.Graph.{process_count}
-use Rattle.cpg_table.specs.GraphHead.{head_process}
-use Rattle.cpg_table.specs.Head.{Head}
+use Rattle.cpg_head.specs.GraphHead.{head_process}
+use Rattle.cpg_head.specs.Head.{Head}
 use Rattle.cpg_check.proofs.heads.are_processes_of.Goals as goal
 
 pub are_same_extras-requires : goal.are_same_extras-requires

@@ -1,7 +1,7 @@
 use Rattle.std.proofs.Common.{◌≤◌, List, length, ap, arith, subst, IfSome, ◌∙◌, get_or, refl}
 use Rattle.cpg_base.specs.declared.process.Process.{Process}
-use Rattle.cpg_table.specs.GraphHead.{extra_of}
-use Rattle.cpg_table.specs.Head.{AreExtras}
+use Rattle.cpg_head.specs.GraphHead.{extra_of}
+use Rattle.cpg_head.specs.Head.{AreExtras}
 use Rattle.cpg_check.proofs.ExtraLists.{extras_more, extras_whole}
 use Rattle.cpg_check.proofs.heads.are_same_extras.Goals as goal
 

@@ -1,5 +1,5 @@
 use Rattle.std.proofs.Common.{◌≡◌, IfSome, map, take}
-use Rattle.cpg_table.specs.GraphHead.{extra_of}
+use Rattle.cpg_head.specs.GraphHead.{extra_of}
 use Rattle.cpg_check.proofs.heads.are_same_extras.Given as goal
 
 abbrev pub invariant-loop-process : goal.invariant-loop-process

@@ -2,8 +2,8 @@ use Rattle.cpg_violation.proofs.HeadLaws.{tables_of_graph}
 use Rattle.std.proofs.Common.{◌≡◌, ◌<◌, ap, false, ℕ, Contains, arith, refl, sym}
 use Rattle.std.proofs.lemmas.List.Elements.{All-weaker, All-contains_itself}
 use Rattle.cpg_base.specs.Graph.{item_count}
-use Rattle.cpg_order.specs.Scenario.{Scenario, IsScenario}
-use Rattle.cpg_table.specs.GraphHead.{head_of}
+use Rattle.cpg_base.specs.Scenario.{Scenario, IsScenario}
+use Rattle.cpg_head.specs.GraphHead.{head_of}
 use Rattle.cpg_table.specs.Lawful.{AreTablesOf}
 use Rattle.cpg_table.specs.Table.{columns_of}
 use Rattle.cpg_table.specs.declared.rule.Rule.{Rule}

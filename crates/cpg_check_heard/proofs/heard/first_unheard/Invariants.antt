@@ -1,5 +1,5 @@
 use Rattle.std.proofs.Common.{ℕ, ◌≡◌, ◌<◌, false}
-use Rattle.cpg_order.specs.Scenario.{Scenario, IsScenario}
+use Rattle.cpg_base.specs.Scenario.{Scenario, IsScenario}
 use Rattle.cpg_check_heard.specs.Unheard.{is_unheard}
 use Rattle.cpg_check_heard.proofs.heard.first_unheard.Given as goal
 

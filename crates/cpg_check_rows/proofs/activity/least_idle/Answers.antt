@@ -1,7 +1,7 @@
 use Rattle.std.proofs.Common.{◌≡◌, ◌&&◌, ◌∙◌, [], false, ap}
-use Rattle.cpg_order.specs.First.{IsFirst}
+use Rattle.cpg_base.specs.First.{IsFirst}
 use Rattle.cpg_cube.specs.Cover.{is_left}
-use Rattle.cpg_guard.specs.Guards.{tree_of}
+use Rattle.cpg_rules.specs.Guards.{tree_of}
 use Rattle.cpg_violation.specs.Activity.{comes_to}
 use Rattle.cpg_violation.proofs.Violations.{long_order}
 use Rattle.cpg_check_rows.proofs.ActivityLaws.{idle_found}

@@ -1,8 +1,8 @@
 use Rattle.std.proofs.Common.{◌≡◌, ◌&&◌, ◌∙◌, not, ap, subst}
 use Rattle.cpg_base.specs.Activity.{active, live}
 use Rattle.cpg_base.specs.Graph.{condition_of, edge_at, source}
-use Rattle.cpg_guard.specs.Guards.{is_passed, test_of}
-use Rattle.cpg_order.specs.First.{IsFirst}
+use Rattle.cpg_rules.specs.Guards.{is_passed, test_of}
+use Rattle.cpg_base.specs.First.{IsFirst}
 use Rattle.cpg_cube.specs.Cube.{matches, holds}
 use Rattle.cpg_violation.proofs.Violations.{long_order, first_lawful}
 use Rattle.cpg_check_rows.proofs.PresentLaws.{live_tested}

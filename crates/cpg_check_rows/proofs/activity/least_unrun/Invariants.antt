@@ -2,7 +2,7 @@ use Rattle.std.proofs.Common.{◌&&◌, take, not}
 use Rattle.std.specs.List.{list_any}
 use Rattle.cpg_base.specs.Activity.{active}
 use Rattle.cpg_base.specs.Graph.{process_of_variable}
-use Rattle.cpg_order.specs.First.{IsFirst}
+use Rattle.cpg_base.specs.First.{IsFirst}
 use Rattle.cpg_cube.specs.Cube.{matches}
 use Rattle.cpg_check_rows.proofs.activity.least_unrun.Given as goal
 

@@ -1,8 +1,8 @@
 use Rattle.std.proofs.Common.{◌≡◌, ◌<◌, ◌&&◌, ◌∙◌, [], Option, ap, sym, subst, arith}
 use Rattle.cpg_base.specs.Activity.{active, item_active}
 use Rattle.cpg_base.specs.Graph.{Graph, process_count, item_at, message_item, broadcast_item}
-use Rattle.cpg_order.specs.First.{IsFirst}
-use Rattle.cpg_order.specs.Scenario.{Scenario}
+use Rattle.cpg_base.specs.First.{IsFirst}
+use Rattle.cpg_base.specs.Scenario.{Scenario}
 use Rattle.cpg_cube.specs.Cube.{matches}
 use Rattle.cpg_check_rows.specs.Present.{is_absent}
 use Rattle.cpg_check_rows.proofs.PresentLaws.{absent_from, start_active}

@@ -1,12 +1,12 @@
 use Rattle.std.proofs.Common.{rules, ◌≡◌, ◌&&◌, ◌∙◌, true, map, ap, subst}
 use Rattle.cpg_base.specs.Activity.{active}
 use Rattle.cpg_base.specs.Graph.{condition_of, edge_at, is_message, message_item, source}
-use Rattle.cpg_guard.specs.Guards.{is_passed, test_of}
-use Rattle.cpg_order.specs.First.{IsFirst}
-use Rattle.cpg_order.specs.Scenario.{Scenario}
+use Rattle.cpg_rules.specs.Guards.{is_passed, test_of}
+use Rattle.cpg_base.specs.First.{IsFirst}
+use Rattle.cpg_base.specs.Scenario.{Scenario}
 use Rattle.cpg_cube.specs.Cube.{matches}
 use Rattle.cpg_cube.specs.Cover.{is_left}
-use Rattle.cpg_table.specs.Table.{Column}
+use Rattle.cpg_cube.specs.Column.{Column}
 use Rattle.cpg_check_rows.proofs.PresentLaws.{absent_from, message_active}
 use Rattle.cpg_check_rows.proofs.present.least_unsent.Goals as goal
 

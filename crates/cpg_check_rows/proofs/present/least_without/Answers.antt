@@ -1,11 +1,11 @@
 use Rattle.std.proofs.Common.{◌≡◌, ◌&&◌, ◌∙◌, true, sym, ap, subst, map, List, All, Bor}
-use Rattle.cpg_order.specs.First.{IsFirst}
+use Rattle.cpg_base.specs.First.{IsFirst}
 use Rattle.cpg_cube.specs.declared.literal.Literal.{Literal}
 use Rattle.cpg_cube.specs.Fit.{IsKnown}
 use Rattle.cpg_cube.specs.Cover.{is_left}
 use Rattle.cpg_cube.proofs.Kept.{all_unmapped}
-use Rattle.cpg_guard.specs.Guards.{tree_of}
-use Rattle.cpg_table.specs.Table.{Column}
+use Rattle.cpg_rules.specs.Guards.{tree_of}
+use Rattle.cpg_cube.specs.Column.{Column}
 use Rattle.cpg_violation.specs.Activity.{comes_to}
 use Rattle.cpg_violation.proofs.Violations.{long_order}
 use Rattle.cpg_check_rows.proofs.PresentLaws.{all_mapped, active_found}

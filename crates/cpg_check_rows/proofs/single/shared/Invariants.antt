@@ -1,6 +1,6 @@
 use Rattle.std.proofs.Common.{◌&&◌, take}
 use Rattle.std.specs.List.{list_any}
-use Rattle.cpg_order.specs.First.{IsFirst}
+use Rattle.cpg_base.specs.First.{IsFirst}
 use Rattle.cpg_cube.specs.Cube.{matches}
 use Rattle.cpg_violation.specs.Room.{HasRoom}
 use Rattle.cpg_violation.specs.Sieves.{is_at}

@@ -1,5 +1,5 @@
 use Rattle.std.proofs.Common.{◌&&◌, sym, subst}
-use Rattle.cpg_order.specs.First.{IsFirst}
+use Rattle.cpg_base.specs.First.{IsFirst}
 use Rattle.cpg_cube.specs.Cube.{matches}
 use Rattle.cpg_check_time.specs.Delays.{is_late}
 use Rattle.cpg_check_time.proofs.DelayLaws.{slot_first}

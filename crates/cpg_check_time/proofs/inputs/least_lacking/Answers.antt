@@ -1,6 +1,6 @@
 use Rattle.std.proofs.Common.{◌≡◌, ◌&&◌, ◌∙◌, true, false, sym, ap}
 use Rattle.cpg_base.specs.Graph.{is_message}
-use Rattle.cpg_order.specs.Scenario.{Scenario}
+use Rattle.cpg_base.specs.Scenario.{Scenario}
 use Rattle.cpg_cube.specs.Cube.{matches}
 use Rattle.cpg_check_time.specs.Inputs.{is_asked}
 use Rattle.cpg_check_time.proofs.InputLaws.{lacks_frame, lacks_source}

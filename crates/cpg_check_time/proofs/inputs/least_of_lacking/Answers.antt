@@ -1,7 +1,7 @@
 use Rattle.std.proofs.Common.{subst}
 use Rattle.std.specs.List.{list_any}
 use Rattle.std.proofs.lemmas.List.{take_all}
-use Rattle.cpg_order.specs.First.{IsFirst}
+use Rattle.cpg_base.specs.First.{IsFirst}
 use Rattle.cpg_violation.proofs.Violations.{long_order}
 use Rattle.cpg_check_time.specs.Inputs.{lacks_input}
 use Rattle.cpg_check_time.proofs.Seeking.{first_more}

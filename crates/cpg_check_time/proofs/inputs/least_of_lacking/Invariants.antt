@@ -1,6 +1,6 @@
 use Rattle.std.proofs.Common.{take}
 use Rattle.std.specs.List.{list_any}
-use Rattle.cpg_order.specs.First.{IsFirst}
+use Rattle.cpg_base.specs.First.{IsFirst}
 use Rattle.cpg_check_time.specs.Inputs.{lacks_input}
 use Rattle.cpg_check_time.proofs.inputs.least_of_lacking.Given as goal
 

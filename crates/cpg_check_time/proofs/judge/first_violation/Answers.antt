@@ -1,6 +1,6 @@
 use Rattle.std.proofs.Common.{ℕ, ◌≡◌, ◌<◌, Some, false, ap, arith, sym}
 use Rattle.cpg_base.specs.Graph.{item_count}
-use Rattle.cpg_order.specs.Scenario.{Scenario, IsScenario}
+use Rattle.cpg_base.specs.Scenario.{Scenario, IsScenario}
 use Rattle.cpg_table.specs.Valid.{breaks}
 use Rattle.cpg_violation.proofs.Marked.{marked_more}
 use Rattle.cpg_violation.proofs.Violations.{none_more}

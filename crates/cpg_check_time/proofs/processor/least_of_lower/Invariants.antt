@@ -1,6 +1,6 @@
 use Rattle.std.specs.List.{list_any}
 use Rattle.cpg_base.specs.Numbers.{numbers_below}
-use Rattle.cpg_order.specs.First.{IsFirst}
+use Rattle.cpg_base.specs.First.{IsFirst}
 use Rattle.cpg_check_time.specs.Clashes.{overlaps_some}
 use Rattle.cpg_check_time.proofs.processor.least_of_lower.Given as goal
 

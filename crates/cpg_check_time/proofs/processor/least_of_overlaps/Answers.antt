@@ -1,8 +1,8 @@
 use Rattle.std.proofs.Common.{map, subst, Bor}
 use Rattle.std.specs.List.{list_any}
 use Rattle.std.proofs.lemmas.List.{take_all}
-use Rattle.cpg_order.specs.First.{IsFirst}
-use Rattle.cpg_table.specs.Table.{Column}
+use Rattle.cpg_base.specs.First.{IsFirst}
+use Rattle.cpg_cube.specs.Column.{Column}
 use Rattle.cpg_violation.proofs.Violations.{first_lawful}
 use Rattle.cpg_check_time.specs.Clashes.{overlaps}
 use Rattle.cpg_check_time.proofs.Seeking.{first_mapped}

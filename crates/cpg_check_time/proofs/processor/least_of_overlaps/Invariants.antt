@@ -1,6 +1,6 @@
 use Rattle.std.proofs.Common.{map, take}
 use Rattle.std.specs.List.{list_any}
-use Rattle.cpg_order.specs.First.{IsFirst}
+use Rattle.cpg_base.specs.First.{IsFirst}
 use Rattle.cpg_violation.specs.Room.{HasRoom}
 use Rattle.cpg_check_time.specs.Clashes.{overlaps}
 use Rattle.cpg_check_time.proofs.processor.least_of_overlaps.Given as goal

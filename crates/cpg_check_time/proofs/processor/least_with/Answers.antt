@@ -3,9 +3,10 @@ use Rattle.std.specs.List.{list_any}
 use Rattle.std.proofs.lemmas.List.Elements.{All-weaker}
 use Rattle.cpg_base.specs.Duration.{duration}
 use Rattle.cpg_base.specs.Graph.{node_of}
-use Rattle.cpg_order.specs.First.{IsFirst}
+use Rattle.cpg_base.specs.First.{IsFirst}
 use Rattle.cpg_cube.proofs.Kept.{all_unmapped}
-use Rattle.cpg_table.specs.Table.{Column, columns_of}
+use Rattle.cpg_table.specs.Table.{columns_of}
+use Rattle.cpg_cube.specs.Column.{Column}
 use Rattle.cpg_violation.proofs.Violations.{long_order}
 use Rattle.cpg_check_time.specs.Clashes.{overlaps}
 use Rattle.cpg_check_time.specs.Columns.{IsColumn}

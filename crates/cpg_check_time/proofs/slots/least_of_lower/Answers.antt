@@ -1,7 +1,7 @@
 use Rattle.std.proofs.Common.{◌≡◌, arith, subst}
 use Rattle.std.specs.List.{list_any}
 use Rattle.cpg_base.specs.Numbers.{numbers_below}
-use Rattle.cpg_order.specs.First.{IsFirst}
+use Rattle.cpg_base.specs.First.{IsFirst}
 use Rattle.cpg_violation.proofs.Violations.{long_order}
 use Rattle.cpg_check_time.specs.Clashes.{shares_some}
 use Rattle.cpg_check_time.proofs.Seeking.{first_below}

@@ -2,10 +2,11 @@ use Rattle.std.proofs.Common.{◌≡◌, ◌∙◌, List, map, Contains, sym, su
 use Rattle.std.specs.List.{list_any}
 use Rattle.std.proofs.lemmas.List.Elements.{All-weaker}
 use Rattle.cpg_base.specs.Graph.{home, is_sent}
-use Rattle.cpg_order.specs.First.{IsFirst}
+use Rattle.cpg_base.specs.First.{IsFirst}
 use Rattle.cpg_cube.specs.Fit.{IsKnown}
 use Rattle.cpg_cube.proofs.Kept.{all_unmapped}
-use Rattle.cpg_table.specs.Table.{Column, columns_of}
+use Rattle.cpg_table.specs.Table.{columns_of}
+use Rattle.cpg_cube.specs.Column.{Column}
 use Rattle.cpg_violation.proofs.Violations.{long_order}
 use Rattle.cpg_check_time.specs.Clashes.{shares}
 use Rattle.cpg_violation.specs.Lines.{IsLine}

@@ -1,6 +1,6 @@
 use Rattle.std.proofs.Common.{subst, sym, ap, ◌∙◌, arith, inl, inr, length}
 use Rattle.std.proofs.lemmas.List.{length-drop}
-use Rattle.cpg_table.specs.Head.{Head}
+use Rattle.cpg_head.specs.Head.{Head}
 use Rattle.cpg_table.specs.Lawful.{AreTablesOf}
 use Rattle.cpg_cluster.specs.Keeping.{AreOpen}
 use Rattle.cpg_cluster.proofs.Opening.{open_next}

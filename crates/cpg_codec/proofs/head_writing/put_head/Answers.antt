@@ -3,7 +3,7 @@ use Rattle.std.specs.List.{flat_map}
 use Rattle.std.proofs.lemmas.Result.{err_from_is_err_and}
 use Rattle.cpg_codec.specs.Spelling.{magic, byte, name_bytes, written, process_bytes, edge_bytes}
 use Rattle.std.specs.Int.{w16, w32, to_be_bytes}
-use Rattle.cpg_table.specs.Head.{version_of}
+use Rattle.cpg_head.specs.Head.{version_of}
 use Rattle.cpg_codec.proofs.HeadParts.{head_parts}
 use Rattle.cpg_codec.proofs.Puts.{Puts-then, Puts-first, Puts-failed, fails_second, fails_first}
 use Rattle.cpg_codec.proofs.head_writing.put_head.Goals as goal

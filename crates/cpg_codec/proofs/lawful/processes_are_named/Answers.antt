@@ -2,7 +2,7 @@ use Rattle.std.proofs.Common.{All, subst}
 use Rattle.std.proofs.lemmas.List.{take_all}
 use Rattle.std.proofs.lemmas.List.Elements.{All-more}
 use Rattle.cpg_base.specs.Name.{IsName}
-use Rattle.cpg_table.specs.declared.head_parts.HeadProcess.{HeadProcess}
+use Rattle.cpg_head.specs.declared.head_parts.HeadProcess.{HeadProcess}
 use Rattle.cpg_codec.proofs.lawful.processes_are_named.Goals as goal
 
 abbrev HasName : HeadProcess → Type 0

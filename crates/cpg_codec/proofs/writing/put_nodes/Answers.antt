@@ -1,6 +1,6 @@
 use Rattle.std.proofs.Common.{arith, ap, length, ◌∙◌}
 use Rattle.std.proofs.lemmas.Result.{err_from_is_err_and}
-use Rattle.cpg_table.specs.Head.{Head}
+use Rattle.cpg_head.specs.Head.{Head}
 use Rattle.cpg_table.specs.Table.{empty_table}
 use Rattle.cpg_codec.specs.Spelling.{table_bytes}
 use Rattle.cpg_codec.proofs.Puts.{puts_more, puts_fail, Puts-failed}

@@ -5,8 +5,8 @@ use Rattle.std.proofs.lemmas.List.{nil_from_length}
 use Rattle.std.proofs.lemmas.List.Elements.{All-head, All-tail}
 use Rattle.std.proofs.lemmas.List.Sorted.{All-permutation, length_permutation}
 use Rattle.cpg_base.specs.Graph.{IsVariable}
-use Rattle.cpg_order.specs.First.{earlier}
-use Rattle.cpg_order.specs.Scenario.{Scenario, IsScenario}
+use Rattle.cpg_base.specs.First.{earlier}
+use Rattle.cpg_base.specs.Scenario.{Scenario, IsScenario}
 use Rattle.cpg_cube.specs.Cube.{Literal, matches}
 use Rattle.cpg_cube.specs.Fit.{IsCube, IsKnown, is_met, lows}
 use Rattle.cpg_cube.specs.Cover.{narrowed_by, with_literal}

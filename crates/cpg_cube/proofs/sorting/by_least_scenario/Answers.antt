@@ -5,7 +5,7 @@ use Rattle.std.proofs.lemmas.Fn.{always_returns_same}
 use Rattle.std.proofs.lemmas.List.Sorted.{IsPermutation-map}
 use Rattle.std.proofs.lemmas.Result.{IfOk-weaker}
 use Rattle.cpg_base.specs.Graph.{process_count}
-use Rattle.cpg_order.proofs.Places.{length_order}
+use Rattle.cpg_base.proofs.Places.{length_order}
 use Rattle.cpg_cube.specs.Cube.{low_in}
 use Rattle.cpg_cube.specs.Keys.{AreByLows, key_along, variables_along}
 use Rattle.cpg_cube.specs.declared.sorting.Ranked.{Ranked}

@@ -2,7 +2,7 @@ use Rattle.std.proofs.Common.{ℕ, ◌<◌, ◌≤◌, ◌≡◌, ◌≢◌, ◌
 use Rattle.std.specs.List.{AllPairs}
 use Rattle.std.proofs.lemmas.Option.{IfSome_then}
 use Rattle.cpg_base.specs.Graph.{process_count}
-use Rattle.cpg_order.proofs.Places.{length_order}
+use Rattle.cpg_base.proofs.Places.{length_order}
 use Rattle.cpg_cube.specs.Keys.{IsFirstByKeys, IsFirstByLows, variables_along}
 use Rattle.cpg_cube.proofs.KeyOrder.{few_variables, first_by_lows, within_order}
 use Rattle.cpg_cube.proofs.KeyPlaces.{variables_apart}

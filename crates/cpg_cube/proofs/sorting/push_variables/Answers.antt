@@ -1,6 +1,6 @@
 use Rattle.std.proofs.Common.{◌<◌, arith, rules}
 use Rattle.cpg_base.specs.Graph.{condition_count}
-use Rattle.cpg_order.proofs.Along.{condition_of_below}
+use Rattle.cpg_base.proofs.ConditionProcesses.{condition_of_below}
 use Rattle.cpg_cube.proofs.sorting.push_variables.Goals as goal
 
 pub overflow_cast-condition : goal.overflow_cast-condition

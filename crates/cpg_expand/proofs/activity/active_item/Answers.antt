@@ -1,6 +1,6 @@
 use Rattle.std.proofs.Common.{◌≡◌, ◌<◌, ◌∙◌, ap, arith, length, subst}
 use Rattle.cpg_base.specs.Graph.{Graph, process_count, producer}
-use Rattle.cpg_guard.specs.Guards.{tree_of}
+use Rattle.cpg_rules.specs.Guards.{tree_of}
 use Rattle.cpg_expand.specs.Guarded.{IsActiveTree}
 use Rattle.cpg_expand.specs.Sending.{IsGoesTree}
 use Rattle.cpg_expand.proofs.ActiveItems.{start_activity, sent_activity}

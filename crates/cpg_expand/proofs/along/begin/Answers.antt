@@ -1,6 +1,6 @@
 use Rattle.std.proofs.Common.{◌<◌, ◌∙◌, ap, sym, subst, length, arith}
 use Rattle.cpg_base.specs.Graph.{Graph, process_count}
-use Rattle.cpg_guard.specs.Guards.{Guards, tree_of}
+use Rattle.cpg_rules.specs.Guards.{Guards, tree_of}
 use Rattle.cpg_expand.specs.Forest.{HasTrees, IsWait, ready_by}
 use Rattle.cpg_expand.specs.Waiting.{IsWaitTree}
 use Rattle.cpg_expand.specs.declared.forest.Ready.{Ready}

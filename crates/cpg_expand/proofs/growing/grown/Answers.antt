@@ -1,7 +1,7 @@
 use Rattle.std.proofs.Common.{ℕ, List, Option, length, get_or, arith, sym, ap, subst}
 use Rattle.cpg_base.specs.Graph.{Graph, process_count}
-use Rattle.cpg_order.proofs.Places.{length_order}
-use Rattle.cpg_order.proofs.Standing.{process_within}
+use Rattle.cpg_base.proofs.Places.{length_order}
+use Rattle.cpg_base.proofs.Standing.{process_within}
 use Rattle.cpg_expand.specs.Grown.{IsGrown}
 use Rattle.cpg_expand.proofs.GrownLines.{grown_first}
 use Rattle.cpg_expand.proofs.Stepped.{next_grown, all_grown}

@@ -1,6 +1,6 @@
 use Rattle.std.proofs.Common.{sym, subst, List}
-use Rattle.cpg_table.specs.Merged.{AreMergeable, IsMergeOf}
-use Rattle.cpg_table.specs.Table.{Column}
+use Rattle.cpg_merging.specs.Merged.{AreMergeable, IsMergeOf}
+use Rattle.cpg_cube.specs.Column.{Column}
 use Rattle.cpg_tree.proofs.Passing.{known_from}
 use Rattle.cpg_expand.specs.TreeRows.{AreListedOf}
 use Rattle.cpg_expand.proofs.TreeColumns.{mergeable}

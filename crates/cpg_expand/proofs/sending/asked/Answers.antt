@@ -1,5 +1,5 @@
 use Rattle.std.proofs.Common.{◌∙◌, sym}
-use Rattle.cpg_order.proofs.Along.{condition_of_below}
+use Rattle.cpg_base.proofs.ConditionProcesses.{condition_of_below}
 use Rattle.cpg_expand.proofs.sending.asked.Goals as goal
 
 pub returns-in-Some-condition_of-clause-condition : goal.returns-in-Some-condition_of-clause-condition

@@ -1,6 +1,6 @@
 use Rattle.std.proofs.Common.{◌≡◌, ◌∙◌, rules, length, sym, ap}
 use Rattle.cpg_base.specs.Graph.{Graph, process_count}
-use Rattle.cpg_order.proofs.Places.{length_order}
+use Rattle.cpg_base.proofs.Places.{length_order}
 use Rattle.cpg_run.specs.FrozenItems.{frozen_along}
 use Rattle.cpg_run.proofs.Settled.{settled_first, settled_all}
 use Rattle.cpg_list.proofs.freezing.frozen_times.Goals as goal

@@ -2,8 +2,8 @@ use Rattle.std.proofs.Common.{◌≡◌, ◌∙◌, ◌<◌, Contains, get_or, s
 use Rattle.std.proofs.lemmas.List.Elements.{All-weaker, All-contains_itself}
 use Rattle.cpg_base.specs.Scenario.{IsScenario}
 use Rattle.cpg_base.specs.Graph.{Graph, process_count, item_count, producer}
-use Rattle.cpg_order.specs.Urgency.{place}
-use Rattle.cpg_order.proofs.Places.{length_order}
+use Rattle.cpg_base.specs.Order.{place}
+use Rattle.cpg_base.proofs.Places.{length_order}
 use Rattle.cpg_list.specs.Sweep.{AreAlong, place_of}
 use Rattle.cpg_run.proofs.FrozenOrder.{later_moment}
 use Rattle.cpg_run.proofs.Settled.{item_frozen, next_within, next_unset, settled_early, settled_first, settled_more, settled_all}

@@ -6,7 +6,7 @@ use Rattle.cpg_order.specs.Counting.{conditions_along}
 use Rattle.cpg_order.specs.Deciding.{decides}
 use Rattle.cpg_order.specs.Guard.{deciding_along}
 use Rattle.cpg_order.proofs.Along.{from_along, Contains-along}
-use Rattle.cpg_guard.specs.Guards.{AreGuardsOf}
+use Rattle.cpg_rules.specs.Guards.{AreGuardsOf}
 use Rattle.cpg_list.specs.Learning.{AreDeciding}
 use Rattle.cpg_list.proofs.learning.deciding.Goals as goal
 

@@ -1,8 +1,8 @@
 use Rattle.std.proofs.Common.{◌≡◌, ◌∙◌, ◌+◌, ◌<◌, ◌∷◌, [], ◌++◌, length, get_or, set, sym, ap, subst, arith}
 use Rattle.std.proofs.lemmas.List.{get_or_default}
 use Rattle.cpg_base.specs.Graph.{Graph, process_count, node_of}
-use Rattle.cpg_order.specs.Urgency.{place, before_on_node}
-use Rattle.cpg_order.proofs.Places.{length_order}
+use Rattle.cpg_base.specs.Order.{place, before_on_node}
+use Rattle.cpg_base.proofs.Places.{length_order}
 use Rattle.cpg_list.specs.Made.{passed_by, queued_by, node_before, sent_before, AreCubesOf, AreCarried}
 use Rattle.cpg_run.specs.Found.{columns_of_rows}
 use Rattle.cpg_run.specs.RowLaws.{SameRowsBefore}

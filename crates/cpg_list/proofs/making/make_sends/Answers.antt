@@ -2,7 +2,7 @@ use Rattle.std.proofs.Common.{◌≡◌, ◌∙◌, ◌+◌, ◌<◌, ◌⊎◌,
 use Rattle.std.proofs.lemmas.List.{take_all}
 use Rattle.cpg_base.specs.Graph.{Graph, item_count, node_of}
 use Rattle.cpg_order.specs.Queue.{queued_before}
-use Rattle.cpg_order.specs.Urgency.{place}
+use Rattle.cpg_base.specs.Order.{place}
 use Rattle.cpg_table.specs.Table.{Row}
 use Rattle.cpg_bus.specs.Plan.{queue_of}
 use Rattle.cpg_list.specs.Made.{queued_by, sent_before, AreCubesOf, AreEndsOf, AreMade, IsSent, IsRowSet}

@@ -1,6 +1,6 @@
 use Rattle.std.proofs.Common.{◌++◌, take}
 use Rattle.cpg_base.specs.Graph.{node_of}
-use Rattle.cpg_order.specs.Urgency.{place}
+use Rattle.cpg_base.specs.Order.{place}
 use Rattle.cpg_bus.specs.Plan.{queue_of}
 use Rattle.cpg_list.specs.Made.{queued_by, sent_before, AreCubesOf, AreMade, IsSent}
 use Rattle.cpg_run.specs.Found.{columns_of_rows}

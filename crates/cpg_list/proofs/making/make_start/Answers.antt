@@ -1,7 +1,7 @@
 use Rattle.std.proofs.Common.{◌∷◌, [], ◌++◌, List, sym, subst, arith}
 use Rattle.cpg_base.specs.Graph.{item_count}
-use Rattle.cpg_order.specs.Scenario.{Scenario, IsScenario}
-use Rattle.cpg_order.specs.Urgency.{place, before_on_node}
+use Rattle.cpg_base.specs.Scenario.{Scenario, IsScenario}
+use Rattle.cpg_base.specs.Order.{place, before_on_node}
 use Rattle.cpg_run.specs.Run.{Times, IsRun}
 use Rattle.cpg_table.specs.Table.{Row}
 use Rattle.cpg_list.specs.Learning.{AreTold}

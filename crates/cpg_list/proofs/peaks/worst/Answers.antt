@@ -1,7 +1,7 @@
 use Rattle.std.proofs.Common.{◌≢◌, ◌<◌, ◌∙◌, ℕ, IfSome, IfNone, Some, None, get_or, length, sym, ap, subst, arith}
 use Rattle.std.proofs.lemmas.List.{get_or_default, length-map}
 use Rattle.cpg_base.specs.Graph.{process_count}
-use Rattle.cpg_order.proofs.Places.{length_order}
+use Rattle.cpg_base.proofs.Places.{length_order}
 use Rattle.cpg_run.specs.Finish.{IsWorst}
 use Rattle.cpg_list.specs.Peaks.{IsFirstGreatest, IsFirstEnding}
 use Rattle.cpg_list.proofs.Listed.{some_listed}

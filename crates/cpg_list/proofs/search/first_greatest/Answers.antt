@@ -1,8 +1,7 @@
 use Rattle.std.proofs.Common.{◌≡◌, ◌∙◌, get_or, sym, ap₂, arith, inl, inr}
 use Rattle.std.proofs.lemmas.Bool.{cases_lt, both_ways}
 use Rattle.std.proofs.lemmas.List.{get_or_default}
-use Rattle.cpg_base.specs.Scenario.{Scenario}
-use Rattle.cpg_order.specs.Scenario.{is_before}
+use Rattle.cpg_base.specs.Scenario.{Scenario, is_before}
 use Rattle.cpg_list.proofs.Firsts.{starts_it, takes_it, skips_it}
 use Rattle.cpg_list.proofs.search.first_greatest.Goals as goal
 use Rattle.cpg_list.proofs.search.first_greatest.Goals.{then-goes_first, else-goes_first}

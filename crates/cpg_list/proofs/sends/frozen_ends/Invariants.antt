@@ -1,5 +1,5 @@
 use Rattle.std.proofs.Common.{◌≡◌, ℕ, ◌<◌, ◌∷◌, [], ◌++◌, length, get_or}
-use Rattle.cpg_order.specs.Scenario.{Scenario}
+use Rattle.cpg_base.specs.Scenario.{Scenario}
 use Rattle.cpg_run.specs.Carried.{decided, number_known}
 use Rattle.cpg_run.specs.Rows.{IsCubeOf}
 use Rattle.cpg_list.proofs.sends.frozen_ends.Given as goal

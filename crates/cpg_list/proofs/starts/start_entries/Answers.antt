@@ -1,6 +1,6 @@
 use Rattle.std.proofs.Common.{◌≡◌, ◌++◌, ◌∷◌, [], get_or, take, None, sym, subst, arith}
 use Rattle.std.proofs.lemmas.List.{take_all}
-use Rattle.cpg_order.specs.Urgency.{before_on_node}
+use Rattle.cpg_base.specs.Order.{before_on_node}
 use Rattle.cpg_run.specs.Carried.{passed}
 use Rattle.cpg_list.specs.Made.{passed_by, AreCubesOf}
 use Rattle.cpg_run.specs.Found.{columns_of_rows}

@@ -1,5 +1,5 @@
 use Rattle.std.proofs.Common.{◌++◌, ◌∷◌, [], take}
-use Rattle.cpg_order.specs.Urgency.{before_on_node}
+use Rattle.cpg_base.specs.Order.{before_on_node}
 use Rattle.cpg_list.specs.Made.{passed_by, AreCubesUpTo}
 use Rattle.cpg_run.specs.Found.{columns_of_rows}
 use Rattle.cpg_run.proofs.EntriesFound.{AreEntriesAmong}

@@ -3,9 +3,9 @@ use Rattle.std.proofs.lemmas.Bool.{false_from_ne_true}
 use Rattle.std.proofs.lemmas.List.Quantifiers.{position-Some}
 use Rattle.cpg_base.specs.Graph.{process_count}
 use Rattle.cpg_order.specs.Reach.{is_in}
-use Rattle.cpg_order.specs.Urgency.{place}
+use Rattle.cpg_base.specs.Order.{place}
 use Rattle.cpg_order.proofs.Along.{from_is_in}
-use Rattle.cpg_order.proofs.Places.{position-place}
+use Rattle.cpg_base.proofs.Places.{position-place}
 use Rattle.cpg_order.proofs.Readiness.{length-lt_below}
 use Rattle.cpg_order.proofs.Cycles.{walk_more, walk_meets}
 use Rattle.cpg_order.proofs.cycle.walk_back.Goals as goal

@@ -2,7 +2,7 @@ use Rattle.std.proofs.Common.{◌≡◌, ◌<◌, sym, ap, subst, refl, true, tr
 use Rattle.std.proofs.lemmas.Bool.{cases_eq}
 use Rattle.cpg_base.specs.Graph.{source, target, edge_count, process_count}
 use Rattle.cpg_base.proofs.Lists.{numbers-Contains, Contains-numbers}
-use Rattle.cpg_order.specs.Urgency.{comes_before}
+use Rattle.cpg_base.specs.Order.{comes_before}
 use Rattle.cpg_order.proofs.ListChecks.{comes_before_at, not_before_at}
 use Rattle.cpg_order.proofs.lists.is_forward.Goals as goal
 

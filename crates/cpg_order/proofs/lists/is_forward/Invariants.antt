@@ -1,6 +1,6 @@
 use Rattle.std.proofs.Common.{ℕ, ◌<◌, ◌≡◌, true}
 use Rattle.cpg_base.specs.Graph.{source, target}
-use Rattle.cpg_order.specs.Urgency.{comes_before}
+use Rattle.cpg_base.specs.Order.{comes_before}
 use Rattle.cpg_order.proofs.lists.is_forward.Given as goal
 
 abbrev pub invariant-loop-edge : goal.invariant-loop-edge

@@ -2,7 +2,7 @@ use Rattle.std.proofs.Common.{◌≡◌, ◌∙◌, refl, sym, ap, subst, subst�
 use Rattle.cpg_base.specs.Numbers.{numbers_below}
 use Rattle.cpg_base.specs.Graph.{process_count}
 use Rattle.cpg_order.specs.Urgency.{IsTopological}
-use Rattle.cpg_order.proofs.Places.{length_order}
+use Rattle.cpg_base.proofs.Places.{length_order}
 use Rattle.cpg_order.proofs.lists.ordered.Goals as goal
 
 pub returns-then-list-processes-clause-refused : goal.returns-then-list-processes-clause-refused

@@ -3,8 +3,8 @@ use Rattle.std.proofs.lemmas.List.{get_or-replicate, length-replicate}
 use Rattle.cpg_base.specs.Graph.{process_count}
 use Rattle.cpg_base.proofs.Bounds.{round-le, duration-le}
 use Rattle.cpg_base.proofs.Inputs.{outputs_parts}
-use Rattle.cpg_order.specs.Urgency.{place}
-use Rattle.cpg_order.proofs.Places.{length_order}
+use Rattle.cpg_base.specs.Order.{place}
+use Rattle.cpg_base.proofs.Places.{length_order}
 use Rattle.cpg_order.proofs.LongestWays.{AreFound, longest_from-le, way_is, none_found, found_more, all_found}
 use Rattle.cpg_order.proofs.tails.tails.Goals as goal
 

@@ -1,4 +1,4 @@
-use Rattle.cpg_guard.specs.Trees.{size_of}
+use Rattle.cpg_rules.specs.Trees.{size_of}
 use Rattle.cpg_reach.proofs.conditions.+add_tested.Given as goal
 
 abbrev pub decreases-add_tested : goal.decreases-add_tested

@@ -1,6 +1,6 @@
 use Rattle.std.proofs.Common.{◌+◌, ◌∙◌, ◌≡◌, sym, ap, subst, length, arith}
 use Rattle.cpg_base.specs.Graph.{process_count}
-use Rattle.cpg_guard.specs.Guards.{tree_of}
+use Rattle.cpg_rules.specs.Guards.{tree_of}
 use Rattle.cpg_reach.specs.Tested.{AreDecidingUntil}
 use Rattle.cpg_reach.proofs.Testing.{deciding_first, deciding_next, tests_fit, tree_decides}
 use Rattle.cpg_reach.proofs.conditions.deciding_values.Goals as goal

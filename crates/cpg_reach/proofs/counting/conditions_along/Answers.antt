@@ -1,6 +1,6 @@
 use Rattle.std.proofs.Common.{◌∙◌, sym, ap, length, get_or, arith}
 use Rattle.cpg_base.specs.Graph.{condition_of}
-use Rattle.cpg_order.proofs.Standing.{process_within}
+use Rattle.cpg_base.proofs.Standing.{process_within}
 use Rattle.cpg_reach.proofs.Counted.{along_takes, along_skips, none_if}
 use Rattle.cpg_reach.proofs.counting.conditions_along.Goals as goal
 use Rattle.cpg_reach.proofs.counting.conditions_along.Goals.{in-Some+in_ok-push, in_default}

@@ -2,7 +2,7 @@ use Rattle.std.proofs.Common.{◌∙◌, ◌&&◌, sym, ap, subst, length, arith
 use Rattle.cpg_base.proofs.Items.{process_of_below}
 use Rattle.cpg_base.specs.Graph.{process_of}
 use Rattle.cpg_base.specs.Activity.{active}
-use Rattle.cpg_guard.specs.Guards.{AreGuardsOf}
+use Rattle.cpg_rules.specs.Guards.{AreGuardsOf}
 use Rattle.cpg_reach.proofs.counting.is_value_free.Goals as goal
 
 pub active-requires-clause-process : goal.active-requires-clause-process

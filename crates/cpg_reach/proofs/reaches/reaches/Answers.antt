@@ -1,7 +1,7 @@
 use Rattle.std.proofs.Common.{◌+◌, ap, ap₂, get_or, length, arith}
 use Rattle.cpg_base.specs.Graph.{process_count, item_count}
-use Rattle.cpg_order.proofs.Places.{length_order}
-use Rattle.cpg_order.proofs.Standing.{process_within}
+use Rattle.cpg_base.proofs.Places.{length_order}
+use Rattle.cpg_base.proofs.Standing.{process_within}
 use Rattle.cpg_reach.proofs.Walks.{walk_starts, step_in, step_out, all_reached}
 use Rattle.cpg_reach.proofs.reaches.reaches.Goals as goal
 

@@ -1,8 +1,8 @@
 use Rattle.std.proofs.Common.{◌+◌, ◌*◌, ◌≡◌, ◌∙◌, sym, ap, ap₂, set, length, arith}
 use Rattle.cpg_base.specs.Graph.{broadcast_item}
-use Rattle.cpg_order.specs.Urgency.{place}
+use Rattle.cpg_base.specs.Order.{place}
 use Rattle.cpg_order.proofs.Moments.{phases}
-use Rattle.cpg_order.proofs.Along.{condition_of_below}
+use Rattle.cpg_base.proofs.ConditionProcesses.{condition_of_below}
 use Rattle.cpg_reach.proofs.Steps.{walked_some}
 use Rattle.cpg_reach.proofs.Walks.{no_broadcast, broadcast_settled}
 use Rattle.cpg_reach.proofs.reaches.settle_broadcast.Goals as goal

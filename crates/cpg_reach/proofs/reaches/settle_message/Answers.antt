@@ -1,6 +1,6 @@
 use Rattle.std.proofs.Common.{◌+◌, ◌*◌, ◌≡◌, ◌∙◌, sym, ap, set, get_or, length, arith}
 use Rattle.cpg_base.specs.Graph.{message_item, edge_at}
-use Rattle.cpg_order.specs.Urgency.{place}
+use Rattle.cpg_base.specs.Order.{place}
 use Rattle.cpg_order.proofs.Moments.{phases}
 use Rattle.cpg_reach.proofs.Sends.{no_edge}
 use Rattle.cpg_reach.proofs.Steps.{walked_some}

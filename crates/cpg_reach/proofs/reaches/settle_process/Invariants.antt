@@ -1,5 +1,5 @@
 use Rattle.std.proofs.Common.{◌+◌, ◌*◌}
-use Rattle.cpg_order.specs.Urgency.{place}
+use Rattle.cpg_base.specs.Order.{place}
 use Rattle.cpg_order.proofs.Moments.{phases}
 use Rattle.cpg_reach.specs.Walked.{IsWalkedTo}
 use Rattle.cpg_reach.proofs.reaches.settle_process.Given as goal

@@ -1,5 +1,5 @@
 use Rattle.std.proofs.Common.{◌*◌, ◌∙◌, ap, length, arith}
-use Rattle.cpg_order.specs.Urgency.{place}
+use Rattle.cpg_base.specs.Order.{place}
 use Rattle.cpg_order.proofs.Moments.{phases}
 use Rattle.cpg_reach.proofs.Adding.{set_at}
 use Rattle.cpg_reach.proofs.Steps.{walked_some}

@@ -1,6 +1,6 @@
 use Rattle.std.proofs.Common.{◌∙◌, sym, ap}
 use Rattle.cpg_base.specs.Graph.{process_count}
-use Rattle.cpg_order.proofs.Places.{length_order}
+use Rattle.cpg_base.proofs.Places.{length_order}
 use Rattle.cpg_reach.proofs.Widths.{has_views}
 use Rattle.cpg_reach.proofs.width.views.Goals as goal
 

@@ -1,5 +1,5 @@
 use Rattle.std.proofs.Common.{arith}
-use Rattle.cpg_guard.proofs.EdgeGuards.{length-edges}
+use Rattle.cpg_rules.proofs.EdgeGuards.{length-edges}
 use Rattle.cpg_run.proofs.activity.is_live.Goals as goal
 
 pub live-live-requires-clause-edge : goal.live-live-requires-clause-edge

@@ -2,7 +2,7 @@ use Rattle.std.proofs.Common.{◌≡◌, ◌∙◌, ℕ, ◌<◌, ◌+◌, max, 
 use Rattle.std.proofs.lemmas.List.{get_or_default}
 use Rattle.cpg_base.specs.Graph.{process_count, node_of}
 use Rattle.cpg_base.specs.Duration.{duration}
-use Rattle.cpg_order.proofs.Places.{length_order}
+use Rattle.cpg_base.proofs.Places.{length_order}
 use Rattle.cpg_run.specs.Run.{Times, IsRun}
 use Rattle.cpg_run.proofs.RunExists.{a_run}
 use Rattle.cpg_run.specs.Progress.{IsAt}

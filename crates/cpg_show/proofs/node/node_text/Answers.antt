@@ -1,5 +1,5 @@
 use Rattle.std.proofs.Common.{◌++◌, ◌∙◌, ap, ap₂}
-use Rattle.cpg_show.specs.Labels.{head_labels}
+use Rattle.cpg_label.specs.Labels.{head_labels}
 use Rattle.cpg_show.specs.NodeText.{name_line, rows_text}
 use Rattle.cpg_show.proofs.node.node_text.Goals as goal
 

@@ -1,6 +1,6 @@
 use Rattle.std.proofs.Common.{string_bytes}
 use Rattle.cpg_show.specs.TableText.{item_text}
-use Rattle.cpg_show.proofs.Steps.{next_piece}
+use Rattle.cpg_label.proofs.Steps.{next_piece}
 use Rattle.cpg_show.proofs.table.write_items.Goals as goal
 
 pub loop-item-preserved : goal.loop-item-preserved

@@ -1,5 +1,5 @@
 use Rattle.std.proofs.Common.{◌≡◌, ◌++◌, codes, drop, flat_map, string_bytes}
-use Rattle.cpg_show.specs.Labels.{process_name}
+use Rattle.cpg_label.specs.Labels.{process_name}
 use Rattle.cpg_show.proofs.table.write_names.Given as goal
 
 abbrev pub invariant-loop-process : goal.invariant-loop-process

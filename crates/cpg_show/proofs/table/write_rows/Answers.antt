@@ -1,6 +1,6 @@
 use Rattle.std.proofs.Common.{◌≡◌, ◌++◌, ◌∙◌, [], sym, ap, append-nil, flat_map, option_map, string_bytes}
 use Rattle.cpg_table.specs.Table.{NodeTable, columns_of}
-use Rattle.cpg_show.specs.CubeText.{columns_text}
+use Rattle.cpg_label.specs.CubeText.{columns_text}
 use Rattle.cpg_show.proofs.FirstRow.{columns_found, columns_in_found}
 use Rattle.cpg_show.proofs.table.write_rows.Goals as goal
 

@@ -2,7 +2,7 @@ use Rattle.std.proofs.Common.{◌≡◌, false, not, take}
 use Rattle.std.specs.List.{list_any}
 use Rattle.cpg_base.specs.Activity.{active}
 use Rattle.cpg_base.specs.Graph.{process_of_variable}
-use Rattle.cpg_order.specs.Scenario.{Scenario, IsScenario}
+use Rattle.cpg_base.specs.Scenario.{Scenario, IsScenario}
 use Rattle.cpg_tree.specs.Space.{Lies}
 use Rattle.cpg_sure.proofs.activity.are_active.Given as goal
 

@@ -1,10 +1,10 @@
 use Rattle.std.proofs.Common.{◌≡◌, All, true, false, subst}
 use Rattle.std.proofs.lemmas.Bool.{OnTrue_at}
-use Rattle.cpg_order.specs.Scenario.{Scenario, IsScenario}
+use Rattle.cpg_base.specs.Scenario.{Scenario, IsScenario}
 use Rattle.cpg_cube.specs.Cube.{matches}
-use Rattle.cpg_table.specs.GraphHead.{head_of}
+use Rattle.cpg_head.specs.GraphHead.{head_of}
 use Rattle.cpg_table.specs.Lawful.{AreTablesOf}
-use Rattle.cpg_table.specs.Table.{Column}
+use Rattle.cpg_cube.specs.Column.{Column}
 use Rattle.cpg_table.specs.Valid.{breaks_activity}
 use Rattle.cpg_violation.proofs.HeadLaws.{tables_of_graph}
 use Rattle.cpg_violation.proofs.Violations.{columns_known}

@@ -1,5 +1,5 @@
 use Rattle.std.proofs.Common.{◌≡◌}
-use Rattle.cpg_table.specs.Table.{Column}
+use Rattle.cpg_cube.specs.Column.{Column}
 use Rattle.cpg_sure.proofs.SureLaws.{each_all}
 use Rattle.cpg_sure.proofs.frozen.is_one_time.Goals as goal
 

@@ -1,6 +1,6 @@
 use Rattle.std.proofs.Common.{◌≤◌, ◌<◌, arith}
-use Rattle.cpg_order.specs.Scenario.{fault_of}
-use Rattle.cpg_order.proofs.Scenarios.{number_of-fault}
+use Rattle.cpg_base.specs.Scenario.{fault_of}
+use Rattle.cpg_base.proofs.NumbersOf.{number_of-fault}
 use Rattle.cpg_sure.proofs.TimeLaws.{duration_grows, fault_few}
 use Rattle.cpg_sure.proofs.longest.longest.Goals as goal
 

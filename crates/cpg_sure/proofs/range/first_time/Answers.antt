@@ -1,6 +1,6 @@
 use Rattle.std.proofs.Common.{◌≤◌, All, arith, subst}
 use Rattle.std.proofs.lemmas.List.{take_all}
-use Rattle.cpg_table.specs.Table.{Column}
+use Rattle.cpg_cube.specs.Column.{Column}
 use Rattle.cpg_violation.proofs.LineLaws.{not_before_more}
 use Rattle.cpg_sure.proofs.range.first_time.Goals as goal
 

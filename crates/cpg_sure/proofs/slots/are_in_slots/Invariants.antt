@@ -1,8 +1,8 @@
 use Rattle.std.proofs.Common.{◌≡◌, All, take, true}
 use Rattle.cpg_base.specs.Bus.{next_slot}
-use Rattle.cpg_order.specs.Scenario.{Scenario, IsScenario}
+use Rattle.cpg_base.specs.Scenario.{Scenario, IsScenario}
 use Rattle.cpg_cube.specs.Cube.{matches}
-use Rattle.cpg_table.specs.Table.{Column}
+use Rattle.cpg_cube.specs.Column.{Column}
 use Rattle.cpg_sure.proofs.slots.are_in_slots.Given as goal
 
 abbrev pub invariant-loop-column : goal.invariant-loop-column

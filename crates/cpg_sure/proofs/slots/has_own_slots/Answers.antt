@@ -2,9 +2,10 @@ use Rattle.std.proofs.Common.{◌≡◌, ◌∙◌, All, true}
 use Rattle.std.proofs.lemmas.Bool.{OnTrue_at}
 use Rattle.cpg_base.specs.Bus.{next_slot}
 use Rattle.cpg_base.specs.Graph.{home}
-use Rattle.cpg_order.specs.Scenario.{Scenario, IsScenario}
+use Rattle.cpg_base.specs.Scenario.{Scenario, IsScenario}
 use Rattle.cpg_cube.specs.Cube.{matches}
-use Rattle.cpg_table.specs.Table.{Column, columns_of}
+use Rattle.cpg_table.specs.Table.{columns_of}
+use Rattle.cpg_cube.specs.Column.{Column}
 use Rattle.cpg_sure.specs.Order.{sending}
 use Rattle.cpg_sure.proofs.ClashLaws.{sure_own_slots}
 use Rattle.cpg_sure.proofs.SureLaws.{of_true}

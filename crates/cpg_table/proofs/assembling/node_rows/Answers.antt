@@ -1,6 +1,6 @@
 use Rattle.std.proofs.Common.{◌∙◌, length, ap, refl}
 use Rattle.cpg_base.specs.Graph.{item_count}
-use Rattle.cpg_table.specs.GraphHead.{head_of}
+use Rattle.cpg_head.specs.GraphHead.{head_of}
 use Rattle.cpg_table.specs.Items.{ItemLists, starts_of, sends_of, hears_of}
 use Rattle.cpg_table.proofs.NodeRows.{long, all_below, start_below, send_below, hear_below}
 use Rattle.cpg_table.proofs.assembling.node_rows.Goals as goal

@@ -1,5 +1,5 @@
 use Rattle.std.proofs.Common.{◌∙◌, length, sym, ap, subst}
-use Rattle.cpg_table.specs.GraphHead.{head_of}
+use Rattle.cpg_head.specs.GraphHead.{head_of}
 use Rattle.cpg_table.specs.Items.{ItemLists, lists_of}
 use Rattle.cpg_table.specs.Lawful.{AreRowsOf}
 use Rattle.cpg_table.proofs.NodeRows.{are_rows}

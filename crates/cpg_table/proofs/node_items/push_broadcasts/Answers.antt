@@ -1,5 +1,5 @@
 use Rattle.std.proofs.Common.{◌==◌, not, if◌then◌else◌}
-use Rattle.cpg_table.specs.declared.head_parts.HeadProcess.{HeadProcess}
+use Rattle.cpg_head.specs.declared.head_parts.HeadProcess.{HeadProcess}
 use Rattle.cpg_table.specs.Items.{first_broadcast}
 use Rattle.cpg_table.proofs.Broadcasts.{few_on, broadcasts_on}
 use Rattle.cpg_table.proofs.node_items.push_broadcasts.Goals as goal

@@ -1,7 +1,7 @@
 use Rattle.std.proofs.Common.{◌≡◌, ◌∙◌, get_or, length, take, refl, sym, ap, subst, arith}
 use Rattle.std.proofs.lemmas.List.{take_all, take_more}
 use Rattle.cpg_base.specs.Graph.{process_count}
-use Rattle.cpg_order.proofs.Places.{length_order}
+use Rattle.cpg_base.proofs.Places.{length_order}
 use Rattle.cpg_tracks.specs.Placing.{IsFed}
 use Rattle.cpg_tracks.specs.Timing.{outcome_of, IsBestOf, IsCandidate}
 use Rattle.cpg_tracks.proofs.GreedySteps.{active_at, best_within, candidate_within, best_more, some_at, none_at, done_none, done_some, done_start}

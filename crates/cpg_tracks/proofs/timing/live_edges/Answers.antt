@@ -1,7 +1,7 @@
 use Rattle.std.proofs.Common.{ap, length, arith}
 use Rattle.cpg_base.specs.Activity.{live}
 use Rattle.cpg_base.proofs.Lists.{map_below_push}
-use Rattle.cpg_guard.proofs.EdgeGuards.{length-edges}
+use Rattle.cpg_rules.proofs.EdgeGuards.{length-edges}
 use Rattle.cpg_tracks.proofs.timing.live_edges.Goals as goal
 
 pub live-requires-clause-edge : goal.live-requires-clause-edge

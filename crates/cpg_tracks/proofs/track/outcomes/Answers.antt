@@ -3,8 +3,8 @@ use Rattle.std.proofs.lemmas.List.{take_all, length-map}
 use Rattle.cpg_base.specs.Graph.{condition_of, process_count}
 use Rattle.cpg_base.specs.Scenario.{Scenario}
 use Rattle.cpg_order.specs.Counting.{conditions_along, all_false}
-use Rattle.cpg_order.proofs.Standing.{process_within}
-use Rattle.cpg_order.proofs.Places.{length_order}
+use Rattle.cpg_base.proofs.Standing.{process_within}
+use Rattle.cpg_base.proofs.Places.{length_order}
 use Rattle.cpg_order.specs.Track.{AreTracks}
 use Rattle.cpg_tracks.specs.Track.{outcomes_of, HasValues}
 use Rattle.cpg_tracks.specs.Walks.{tracks_over}

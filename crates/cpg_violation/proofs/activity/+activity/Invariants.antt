@@ -1,5 +1,5 @@
 use Rattle.std.proofs.Common.{◌+◌, ◌*◌}
-use Rattle.cpg_guard.specs.Trees.{size_of}
+use Rattle.cpg_rules.specs.Trees.{size_of}
 use Rattle.cpg_violation.proofs.activity.+activity.Given as goal
 
 abbrev pub decreases-least_at : goal.decreases-least_at

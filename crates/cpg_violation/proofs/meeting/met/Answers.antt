@@ -1,5 +1,5 @@
 use Rattle.std.proofs.Common.{[]}
-use Rattle.cpg_order.specs.Scenario.{IsScenario}
+use Rattle.cpg_base.specs.Scenario.{IsScenario}
 use Rattle.cpg_violation.proofs.meeting.met.Goals as goal
 
 pub returns-in_err-least-clause-room : goal.returns-in_err-least-clause-room

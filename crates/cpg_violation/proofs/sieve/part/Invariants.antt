@@ -1,5 +1,5 @@
 use Rattle.std.proofs.Common.{◌≡◌, ◌<◌, ℕ, Contains, length, nat_le, true, take}
-use Rattle.cpg_order.specs.Scenario.{Scenario, number_of}
+use Rattle.cpg_base.specs.Scenario.{Scenario, number_of}
 use Rattle.cpg_cube.specs.Cube.{matches}
 use Rattle.cpg_violation.specs.Sieves.{column_at}
 use Rattle.cpg_violation.proofs.sieve.part.Given as goal

@@ -1,6 +1,6 @@
 use Rattle.std.proofs.Common.{◌≡◌, true, All, take}
 use Rattle.std.specs.List.{list_any}
-use Rattle.cpg_order.specs.Scenario.{Scenario}
+use Rattle.cpg_base.specs.Scenario.{Scenario}
 use Rattle.cpg_cube.specs.Cube.{matches}
 use Rattle.cpg_check_heard.specs.declared.bound.Bound.{Bound}
 use Rattle.cpg_check_heard.specs.Arrivals.{IsArrival, do_tell}

@@ -1,5 +1,5 @@
 use Rattle.std.proofs.Common.{◌&&◌, take}
-use Rattle.cpg_order.specs.First.{IsFirst}
+use Rattle.cpg_base.specs.First.{IsFirst}
 use Rattle.cpg_cube.specs.Cube.{matches}
 use Rattle.cpg_check_heard.specs.Unheard.{is_one_untold}
 use Rattle.cpg_check_heard.proofs.hearing.Hearing.least_of_bounds.Given as goal

@@ -1,6 +1,6 @@
 use Rattle.std.proofs.Common.{◌≡◌, true, All}
 use Rattle.cpg_base.specs.Graph.{IsVariable}
-use Rattle.cpg_order.specs.Scenario.{Scenario, IsScenario}
+use Rattle.cpg_base.specs.Scenario.{Scenario, IsScenario}
 use Rattle.cpg_cube.specs.Cube.{matches}
 use Rattle.cpg_check_heard.specs.declared.bound.Bound.{Bound}
 use Rattle.cpg_check_heard.specs.Bounds.{variable_of}

@@ -1,8 +1,8 @@
 use Rattle.std.proofs.Common.{◌≡◌, ◌<◌, ◌&&◌, arith, ap, length}
 use Rattle.cpg_base.specs.Duration.{due}
 use Rattle.cpg_base.specs.Graph.{process_count}
-use Rattle.cpg_order.specs.First.{IsFirst}
-use Rattle.cpg_order.specs.Scenario.{Scenario, IsScenario}
+use Rattle.cpg_base.specs.First.{IsFirst}
+use Rattle.cpg_base.specs.Scenario.{Scenario, IsScenario}
 use Rattle.cpg_cube.specs.Cube.{matches}
 use Rattle.cpg_check_time.specs.Lateness.{ends_after}
 use Rattle.cpg_check_time.proofs.DueLaws.{due_first}

@@ -1,7 +1,7 @@
 use Rattle.std.proofs.Common.{◌∙◌, arith, sym, ap, length}
 use Rattle.std.proofs.lemmas.List.FromFn.{length-map-range_with_len}
 use Rattle.cpg_base.specs.Graph.{item_count}
-use Rattle.cpg_order.specs.First.{IsFirst}
+use Rattle.cpg_base.specs.First.{IsFirst}
 use Rattle.cpg_cube.specs.Cube.{matches}
 use Rattle.cpg_check_time.specs.Frozen.{frozen_time}
 use Rattle.cpg_check_time.proofs.FrozenLaws.{frozen_none, frozen_same, frozen_first, time_at}

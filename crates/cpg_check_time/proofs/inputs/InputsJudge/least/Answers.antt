@@ -5,7 +5,7 @@ use Rattle.cpg_base.specs.Graph.{process_count, edge_count, process_at, producer
 use Rattle.cpg_base.specs.Numbers.{numbers_below}
 use Rattle.cpg_base.proofs.Items.{producer_within}
 use Rattle.cpg_base.proofs.Lists.{Contains-filter_parts, numbers-Contains}
-use Rattle.cpg_order.specs.First.{IsFirst}
+use Rattle.cpg_base.specs.First.{IsFirst}
 use Rattle.cpg_cube.specs.Cube.{matches}
 use Rattle.cpg_check_time.specs.Inputs.{lacks_input}
 use Rattle.cpg_check_time.proofs.InputLaws.{first_released, first_input, first_send}

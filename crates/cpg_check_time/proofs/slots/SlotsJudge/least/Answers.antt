@@ -1,7 +1,7 @@
 use Rattle.std.proofs.Common.{◌≡◌, ◌==◌, ◌∙◌, true, false, sym, eqb-true, true≢false, eq-eqb}
 use Rattle.cpg_base.specs.Bus.{next_slot}
 use Rattle.cpg_base.specs.Graph.{home, is_sent}
-use Rattle.cpg_order.specs.First.{IsFirst}
+use Rattle.cpg_base.specs.First.{IsFirst}
 use Rattle.cpg_cube.specs.Cube.{matches}
 use Rattle.cpg_check_time.proofs.SlotLaws.{first_no_start, first_shared}
 use Rattle.cpg_check_time.proofs.slots.SlotsJudge.least.Goals as goal

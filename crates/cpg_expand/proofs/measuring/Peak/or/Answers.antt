@@ -1,5 +1,5 @@
 use Rattle.cpg_base.specs.Graph.{process_count}
-use Rattle.cpg_order.proofs.Places.{length_order}
+use Rattle.cpg_base.proofs.Places.{length_order}
 use Rattle.cpg_expand.proofs.measuring.Peak.or.Goals as goal
 
 pub or_time-requires-clause-order : goal.or_time-requires-clause-order

@@ -1,6 +1,6 @@
 use Rattle.std.proofs.Common.{ℕ, List, All, take}
 use Rattle.cpg_base.specs.Graph.{Graph}
-use Rattle.cpg_order.specs.Scenario.{Scenario, IsScenario}
+use Rattle.cpg_base.specs.Scenario.{Scenario, IsScenario}
 use Rattle.cpg_table.specs.Table.{NodeTable}
 use Rattle.cpg_tree.specs.Space.{Lies}
 use Rattle.cpg_sure.specs.Courses.{AreCourses}

@@ -1,8 +1,9 @@
 use Rattle.std.proofs.Common.{ℕ, ◌≡◌, List, All, take, true}
 use Rattle.cpg_base.specs.Graph.{Graph}
-use Rattle.cpg_order.specs.Scenario.{Scenario, IsScenario}
+use Rattle.cpg_base.specs.Scenario.{Scenario, IsScenario}
 use Rattle.cpg_cube.specs.Cube.{matches}
-use Rattle.cpg_table.specs.Table.{Column, NodeTable}
+use Rattle.cpg_table.specs.Table.{NodeTable}
+use Rattle.cpg_cube.specs.Column.{Column}
 use Rattle.cpg_sure.specs.Courses.{AreCourses}
 use Rattle.cpg_sure.specs.Order.{IsOverBy}
 use Rattle.cpg_sure.proofs.course.Courses.come_before.Given as goal

@@ -1,7 +1,7 @@
 use Rattle.std.proofs.Common.{◌≡◌, true, true≢false, All, List, flat_map, sym, ◌∙◌, ap, map, subst}
 use Rattle.cpg_cube.specs.Cube.{matches}
 use Rattle.cpg_cube.specs.declared.literal.Literal.{Literal}
-use Rattle.cpg_order.specs.Scenario.{Scenario, IsScenario}
+use Rattle.cpg_base.specs.Scenario.{Scenario, IsScenario}
 use Rattle.cpg_tree.specs.Space.{Lies}
 use Rattle.cpg_tree.proofs.Passes.{of_true}
 use Rattle.cpg_sure.specs.Bounds.{bounds_of}

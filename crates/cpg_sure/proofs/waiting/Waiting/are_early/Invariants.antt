@@ -1,7 +1,7 @@
 use Rattle.std.proofs.Common.{ℕ, ◌≡◌, ◌<◌, ◌⊎◌, List, All, Contains, take, true}
 use Rattle.cpg_base.specs.Activity.{live}
 use Rattle.cpg_base.specs.Graph.{edge_count}
-use Rattle.cpg_order.specs.Scenario.{Scenario, IsScenario}
+use Rattle.cpg_base.specs.Scenario.{Scenario, IsScenario}
 use Rattle.cpg_table.specs.Table.{NodeTable}
 use Rattle.cpg_tree.specs.Space.{Lies}
 use Rattle.cpg_violation.specs.Violation.{AllHold, row_rules}

@@ -1,6 +1,6 @@
 use Rattle.std.proofs.Common.{ℕ, ◌≡◌, false, true, true≢false, ap, sym, ◌∙◌, subst}
 use Rattle.std.proofs.lemmas.Bool.{OnTrue_at}
-use Rattle.cpg_order.specs.Scenario.{Scenario, IsScenario}
+use Rattle.cpg_base.specs.Scenario.{Scenario, IsScenario}
 use Rattle.cpg_cube.specs.Cube.{matches}
 use Rattle.cpg_tree.specs.Space.{HasFew}
 use Rattle.cpg_tree.proofs.Passes.{of_true}

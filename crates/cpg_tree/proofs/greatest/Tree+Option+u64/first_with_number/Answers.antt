@@ -3,7 +3,7 @@ use Rattle.std.proofs.lemmas.Bool.{cond-true}
 use Rattle.std.proofs.lemmas.List.{get_or_default}
 use Rattle.std.proofs.lemmas.List.Elements.{Contains-get_or}
 use Rattle.cpg_cube.specs.declared.literal.Literal.{Literal}
-use Rattle.cpg_order.specs.Scenario.{Scenario, IsLeast}
+use Rattle.cpg_base.specs.Scenario.{Scenario, IsLeast}
 use Rattle.cpg_cube.specs.Fit.{lows}
 use Rattle.cpg_cube.specs.Keys.{IsFirstByLows}
 use Rattle.cpg_tree.specs.Columns.{columns_of_paths, IsTidyColumn}

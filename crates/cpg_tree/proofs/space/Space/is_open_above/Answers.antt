@@ -1,5 +1,5 @@
 use Rattle.std.proofs.Common.{rules, sym, ◌∙◌, ◌≤◌}
-use Rattle.cpg_order.specs.Scenario.{Scenario, number_of}
+use Rattle.cpg_base.specs.Scenario.{Scenario, number_of}
 use Rattle.cpg_tree.specs.Space.{Lies}
 use Rattle.cpg_tree.proofs.Spaces.{none_by_range, none_by_faults, on_false}
 use Rattle.cpg_tree.proofs.space.Space.is_open_above.Goals as goal

@@ -1,4 +1,4 @@
-use Rattle.cpg_order.specs.Scenario.{number_of}
+use Rattle.cpg_base.specs.Scenario.{number_of}
 use Rattle.cpg_tree.proofs.Forks.{from_false}
 use Rattle.cpg_tree.proofs.Holding.{under, over}
 use Rattle.cpg_tree.proofs.space.Space.lift.Goals as goal

@@ -1,6 +1,6 @@
 use Rattle.std.proofs.Common.{inl, inr}
 use Rattle.std.proofs.lemmas.Bool.{cases_lt}
-use Rattle.cpg_order.specs.Scenario.{number_of}
+use Rattle.cpg_base.specs.Scenario.{number_of}
 use Rattle.cpg_cube.proofs.CubeLows.{holds-low, holds-high}
 use Rattle.cpg_tree.proofs.Forks.{from_false, from_true}
 use Rattle.cpg_tree.proofs.Holding.{below_low, above_high}

@@ -1,6 +1,6 @@
 use Rattle.std.proofs.Common.{ℕ, ◌≤◌, ◌<◌, Option, subst}
 use Rattle.std.specs.Bool.{OnTrue}
-use Rattle.cpg_order.specs.Scenario.{Scenario, number_of}
+use Rattle.cpg_base.specs.Scenario.{Scenario, number_of}
 use Rattle.cpg_tree.specs.declared.node.Node.{Node}
 use Rattle.cpg_tree.specs.Space.{Space, Lies}
 use Rattle.cpg_tree.specs.Decision.{value_at}

@@ -1,5 +1,5 @@
 use Rattle.std.specs.Prelude.{nat_le}
-use Rattle.cpg_order.specs.Scenario.{number_of}
+use Rattle.cpg_base.specs.Scenario.{number_of}
 use Rattle.cpg_violation.specs.Sieves.{places_in}
 use Rattle.cpg_violation.proofs.SieveLaws.{side_of}
 use Rattle.cpg_violation.proofs.sieve.Sieve.+search.Goals as goal

@@ -1,0 +1,21 @@
+use Rattle.std.proofs.Common.{Bool, sym, subst}
+use Rattle.std.specs.Prelude.{◌↔◌, IfOk, IsTrue, Result}
+use Rattle.cpg_base.specs.declared.memory.OutOfMemory.{OutOfMemory}
+use Rattle.cpg_table.specs.Valid.{IsValid}
+use Rattle.cpg_violation.specs.Heads.{IsHeadFor}
+use Rattle.cpg_check.specs.declared.verdict.Verdict.{Verdict}
+use Rattle.cpg_app.proofs.Figures.{is_yes, verdict_is}
+use Rattle.cpg_app.proofs.trial_figures.are_valid.Goals.{in-Yes, in-Other, in-No}
+use Rattle.cpg_app.proofs.trial_figures.are_valid.Goals as goal
+
+pub returns : goal.returns
+returns c =
+    let g = c.args.admitted.now.graph in
+    let t = c.args.tables.now in
+    let Says : Bool → Type 0 = λ found. IsTrue found ↔ (IsHeadFor g t.head × IsValid g t.nodes) in
+    let whole = verdict_is g c.args.admitted.now.order t c.in_ok-check.field-0 c.head-head.ensures.lawful c.in_ok-check.ensures in
+    elim c.match-branch-2.branch [
+      | in-Yes w ↦ subst (λ (r : Result Bool OutOfMemory). IfOk r Says) (sym w.result-is) (subst (λ (v : Verdict). Says (is_yes v)) w.in-Yes.is whole)
+      | in-Other w ↦ subst (λ (r : Result Bool OutOfMemory). IfOk r Says) (sym w.result-is) (subst (λ (v : Verdict). Says (is_yes v)) w.in-Other.is whole)
+      | in-No w ↦ subst (λ (r : Result Bool OutOfMemory). IfOk r Says) (sym w.result-is) (subst (λ (v : Verdict). Says (is_yes v)) w.in-No.is whole)
+    ]

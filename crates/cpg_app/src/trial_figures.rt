@@ -1,0 +1,134 @@
+//! From a number to the figures of its trial.
+ghost use Rattle.std.specs.Prelude.{◌≡◌, ◌↔◌, IfOk, IsTrue};
+ghost use Rattle.cpg_table.specs.Valid.{IsValid};
+ghost use Rattle.cpg_rules.specs.Admission.{IsAdmitted};
+ghost use Rattle.cpg_rules.specs.declared.admission.RuleFault.{RuleFault};
+ghost use Rattle.cpg_violation.specs.Heads.{IsHeadFor};
+ghost use Rattle.cpg_gen.specs.Generated.{generated};
+ghost use Rattle.cpg_core.specs.declared.fault.CompileFault.{CompileFault};
+ghost use Rattle.cpg_core.specs.Compilation.{IsCompilation};
+ghost use Rattle.cpg_app.specs.Trial.{AreFiguresOf, IsGenerated, IsTrial};
+
+use crate::column_counts::column_total;
+use crate::trial_plays::{Endings, endings_of};
+use cpg_base::OutOfMemory;
+use cpg_check::{Verdict, check};
+use cpg_core::{CompileFault, Compiled, compile};
+use cpg_gen::generate;
+use cpg_rules::{Admitted, Refused, RuleFault, admit};
+use cpg_table::Tables;
+use std::alloc::Global;
+
+/// The figures of a trial: how large the graph of its number and the tables of that are, and what three plays of them come
+/// to.
+#[derive(Clone, Copy)]
+pub struct Trial {
+    /// How many processes there are.
+    pub processes: u32,
+    /// How many edges.
+    pub edges: u32,
+    /// How many conditions.
+    pub conditions: u32,
+    /// How many columns all tables have, those of what is heard among them.
+    pub columns: u64,
+    /// The greatest finish of all scenarios, in time units.
+    pub worst: u64,
+    /// What the plays come to.
+    pub endings: Endings,
+}
+
+/// The want of memory that an admission tells.
+fn unadmitted(fault: RuleFault) -> OutOfMemory
+    requires { fault ≡ RuleFault.OutOfMemory }
+{
+    match fault {
+        RuleFault::OutOfMemory => OutOfMemory,
+        _ => unreachable!(),
+    }
+}
+
+/// The want of memory that a compile tells.
+fn uncompiled(fault: CompileFault) -> OutOfMemory
+    requires { fault ≡ CompileFault.OutOfMemory }
+{
+    match fault {
+        CompileFault::OutOfMemory => OutOfMemory,
+        _ => unreachable!(),
+    }
+}
+
+/// The graph of a number, admitted.
+fn admitted_of(alloc: Global, number: u64) -> Result<Admitted, OutOfMemory>
+    ensures graph { IfOk result (λ a. a.graph ≡ generated number) }
+    ensures admitted { IfOk result (λ a. IsAdmitted a.graph a.order a.guards) }
+{
+    let problem = generate(alloc, number)?;
+    match admit(alloc, problem) {
+        Ok(admitted) => Ok(admitted),
+        Err(refused) => {
+            let Refused { fault, .. } = refused;
+            Err(unadmitted(fault))
+        }
+    }
+}
+
+/// The tables of a graph that a number generates.
+fn compiled_of(alloc: Global, admitted: &Admitted) -> Result<Compiled, OutOfMemory>
+    requires { IsGenerated admitted.now.graph }
+    ensures { IfOk result (IsCompilation admitted.now.graph admitted.now.order) }
+{
+    let _graph = admitted.problem();
+    match compile(alloc, admitted) {
+        Ok(compiled) => Ok(compiled),
+        Err(fault) => Err(uncompiled(fault)),
+    }
+}
+
+/// Whether tables are valid for a graph.
+fn are_valid(alloc: Global, admitted: &Admitted, tables: &Tables) -> Result<bool, OutOfMemory>
+    ensures { IfOk result (λ found. IsTrue found ↔ (IsHeadFor admitted.now.graph tables.now.head × IsValid admitted.now.graph tables.now.nodes)) }
+{
+    let _head = tables.head();
+    match check(alloc, admitted, tables)? {
+        Verdict::Yes => Ok(true),
+        Verdict::Other(_) => Ok(false),
+        Verdict::No(_) => Ok(false),
+    }
+}
+
+/// The figures of a generated graph and of its tables, which the check finds valid.
+fn figures_of(
+    alloc: Global,
+    admitted: &Admitted,
+    compiled: &Compiled,
+    number: u64,
+) -> Result<Trial, OutOfMemory>
+    requires graph { admitted.now.graph ≡ generated number }
+    requires compilation { IsCompilation admitted.now.graph admitted.now.order compiled.now }
+    ensures { IfOk result (AreFiguresOf admitted.now.graph compiled.now number) }
+{
+    let built = &compiled.built;
+    if !are_valid(alloc, admitted, &built.tables)? {
+        unreachable!();
+    }
+    let endings = endings_of(alloc, admitted, compiled, number)?;
+    let problem = admitted.problem();
+    Ok(Trial {
+        processes: problem.processes().len() as u32,
+        edges: problem.edges().len() as u32,
+        conditions: problem.conditions(),
+        columns: column_total(&built.tables),
+        worst: built.worst,
+        endings,
+    })
+}
+
+/// Generates the graph of a number, admits and compiles it, and plays its tables in three scenarios as the number drives
+/// them. No such graph is refused, too wide or late, so it errs by want of memory alone.
+pub fn run_trial(alloc: Global, number: u64) -> Result<Trial, OutOfMemory>
+    ensures { IfOk result (IsTrial number) }
+{
+    let admitted = admitted_of(alloc, number)?;
+    let compiled = compiled_of(alloc, &admitted)?;
+    figures_of(alloc, &admitted, &compiled, number)
+}

@@ -1,0 +1,135 @@
+//! The plays of a trial.
+ghost use Rattle.std.specs.Prelude.{◌≡◌, ◌<◌, ◌≤◌, IfOk, replicate, true, false};
+ghost use Rattle.cpg_base.specs.Graph.{process_count, condition_count};
+ghost use Rattle.cpg_base.specs.Scenario.{IsScenario, zero_scenario};
+ghost use Rattle.cpg_head.specs.GraphHead.{head_of};
+ghost use Rattle.cpg_table.specs.Valid.{IsValid};
+ghost use Rattle.cpg_core.specs.Compilation.{IsCompilation};
+ghost use Rattle.cpg_app.specs.Trial.{AreEndings, IsEnding, true_scenario};
+
+use cpg_base::{OutOfMemory, Problem, Scenario};
+use cpg_cluster::Cluster;
+use cpg_core::Compiled;
+use cpg_rules::Admitted;
+use cpg_show::finish;
+use cpg_table::Tables;
+use std::alloc::Global;
+
+/// What a play comes to.
+#[derive(Clone, Copy)]
+pub struct Ending {
+    /// The greatest end of an execution, in time units; 0 where there is none.
+    pub finish: u64,
+    /// How many of the asks waited.
+    pub waits: u64,
+}
+
+/// What the plays of a trial come to.
+#[derive(Clone, Copy)]
+pub struct Endings {
+    /// The play without faults and with every value false.
+    pub fault_free: Ending,
+    /// The play of the least scenario of the greatest finish.
+    pub worst_case: Ending,
+    /// The play with every value true and two faults of the first process.
+    pub all_true: Ending,
+}
+
+/// Plays valid tables in a scenario to the end as a number drives it, each execution as long as planned.
+fn ending_of(
+    alloc: Global,
+    admitted: &Admitted,
+    tables: &Tables,
+    scenario: &Scenario,
+    number: u64,
+) -> Result<Ending, OutOfMemory>
+    requires head { tables.now.head ≡ head_of admitted.now.graph }
+    requires valid { IsValid admitted.now.graph tables.now.nodes }
+    requires scenario { IsScenario admitted.now.graph scenario.now }
+    ensures { IfOk result (IsEnding admitted.now.graph tables.now.nodes scenario.now number) }
+{
+    let _head = tables.head();
+    let mut cluster = Cluster::new(alloc, admitted, tables.copy()?, scenario)?;
+    let waits = cluster.drive(number);
+    Ok(Ending {
+        finish: finish(admitted.problem(), &cluster),
+        waits,
+    })
+}
+
+/// Makes every value true.
+fn set_values(scenario: &mut Scenario, count: u32)
+    requires { scenario.old.values ≡ replicate count false }
+    ensures values { scenario.new.values ≡ replicate count true }
+    ensures faults { scenario.new.faults ≡ scenario.old.faults }
+{
+    for condition in 0..count {
+        scenario.set_value(condition, true);
+    }
+}
+
+/// Every value true, and two faults of the first process.
+fn true_scenario(alloc: Global, problem: &Problem) -> Result<Scenario, OutOfMemory>
+    requires { 0 < process_count problem.now }
+    ensures { IfOk result (λ s. s ≡ true_scenario problem.now) }
+{
+    let mut scenario = Scenario::zero(alloc, problem)?;
+    set_values(&mut scenario, problem.conditions());
+    scenario.set_fault(0, 2);
+    Ok(scenario)
+}
+
+/// The play without faults and with every value false.
+fn fault_free(
+    alloc: Global,
+    admitted: &Admitted,
+    tables: &Tables,
+    number: u64,
+) -> Result<Ending, OutOfMemory>
+    requires head { tables.now.head ≡ head_of admitted.now.graph }
+    requires valid { IsValid admitted.now.graph tables.now.nodes }
+    ensures { IfOk result (IsEnding admitted.now.graph tables.now.nodes (zero_scenario admitted.now.graph) number) }
+{
+    let scenario = Scenario::zero(alloc, admitted.problem())?;
+    ending_of(alloc, admitted, tables, &scenario, number)
+}
+
+/// The play with every value true and two faults of the first process.
+fn all_true(
+    alloc: Global,
+    admitted: &Admitted,
+    tables: &Tables,
+    number: u64,
+) -> Result<Ending, OutOfMemory>
+    requires head { tables.now.head ≡ head_of admitted.now.graph }
+    requires valid { IsValid admitted.now.graph tables.now.nodes }
+    requires processes { 0 < process_count admitted.now.graph }
+    requires faults { 2 ≤ admitted.now.graph.faults }
+    ensures { IfOk result (IsEnding admitted.now.graph tables.now.nodes (true_scenario admitted.now.graph) number) }
+{
+    let scenario = true_scenario(alloc, admitted.problem())?;
+    ending_of(alloc, admitted, tables, &scenario, number)
+}
+
+/// The three plays of compiled tables.
+pub(crate) fn endings_of(
+    alloc: Global,
+    admitted: &Admitted,
+    compiled: &Compiled,
+    number: u64,
+) -> Result<Endings, OutOfMemory>
+    requires compilation { IsCompilation admitted.now.graph admitted.now.order compiled.now }
+    requires processes { 0 < process_count admitted.now.graph }
+    requires faults { 2 ≤ admitted.now.graph.faults }
+    ensures { IfOk result (AreEndings admitted.now.graph compiled.now number) }
+{
+    let tables = &compiled.built.tables;
+    let fault_free = fault_free(alloc, admitted, tables, number)?;
+    let worst_case = ending_of(alloc, admitted, tables, &compiled.built.worst_in, number)?;
+    let all_true = all_true(alloc, admitted, tables, number)?;
+    Ok(Endings {
+        fault_free,
+        worst_case,
+        all_true,
+    })
+}

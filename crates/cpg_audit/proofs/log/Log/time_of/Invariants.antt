@@ -1,6 +1,0 @@
-use Rattle.std.proofs.Common.{◌≡◌, drop}
-use Rattle.cpg_audit.specs.Log.{logged_time}
-use Rattle.cpg_audit.proofs.log.Log.time_of.Given as goal
-
-abbrev pub invariant-loop-act : goal.invariant-loop-act
-invariant-loop-act l = logged_time l.self.acts l.item ≡ logged_time (drop l.act-index l.act-items) l.item

@@ -1,6 +1,0 @@
-use Rattle.std.proofs.Common.{◌<◌, ℕ}
-use Rattle.cpg_audit.specs.Reading.{IsNew}
-use Rattle.cpg_audit.proofs.texts.item_named.Given as goal
-
-abbrev pub invariant-loop-item : goal.invariant-loop-item
-invariant-loop-item l = (x : ℕ) → x < l.item → IsNew l.problem l.log l.text x → ⊥

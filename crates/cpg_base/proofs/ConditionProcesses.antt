@@ -1,0 +1,60 @@
+-- The conditions of a graph and the processes that have them: each condition is that of its process.
+use Rattle.std.proofs.Common.{ℕ, ◌<◌, ◌≤◌, ◌≡◌, ◌==◌, Bool, true, false, List, length, get_or, Some, is_some, unwrap_or, Contains, arith, ap, ◌∙◌, subst, ⊎_elim, lt_irrefl, eqb-true}
+use Rattle.std.specs.List.Sorted.{IsStrictlyIncreasing}
+use Rattle.std.proofs.lemmas.Bool.{cases_lt}
+use Rattle.std.proofs.lemmas.List.Elements.{Contains-get_or}
+use Rattle.std.proofs.lemmas.List.{get_or_default}
+use Rattle.std.proofs.lemmas.List.Kept.{AllPairs-from_increasing}
+use Rattle.std.proofs.lemmas.List.Quantifiers.{position-Some}
+use Rattle.cpg_base.specs.Numbers.{numbers_below}
+use Rattle.cpg_base.specs.Graph.{Graph, process_count, edge_count, edge_at, source, outputs, is_disjunction, disjunctions, condition_count, condition_of, process_of}
+use Rattle.cpg_base.specs.Activity.{value_of}
+use Rattle.cpg_base.proofs.Lists.{Contains-filter, Contains-numbers, list_any_true}
+use Rattle.cpg_base.proofs.Items.{disjunctions_rise}
+use Rattle.cpg_base.proofs.Inputs.{outputs-Contains}
+use Rattle.cpg_base.specs.Order.{place}
+use Rattle.cpg_base.proofs.Places.{position-place, place-le, place-lt, get_or-place}
+
+-- in a rising list each number has one place
+place-get_or : (xs : List ℕ) (k : ℕ) → IsStrictlyIncreasing xs → k < length xs → place xs (get_or xs k 0) ≡ k
+place-get_or xs k rises h =
+    let c = Contains-get_or xs k 0 h in
+    let le = place-le xs (get_or xs k 0) k h (get_or_here xs k h) in
+    ⊎_elim
+    (λ (l : place xs (get_or xs k 0) < k). absurd (lt_irrefl _ (subst (λ y. y < get_or xs k 0) (get_or-place xs (get_or xs k 0) 0 c) (AllPairs-from_increasing xs rises (place xs (get_or xs k 0)) k 0 l h))))
+    (λ (l : k ≤ place xs (get_or xs k 0)). omega arith)
+    (cases_lt (place xs (get_or xs k 0)) k)
+  where
+    get_or_here : (ys : List ℕ) (i : ℕ) → i < length ys → get_or ys i (get_or ys i 0) ≡ get_or ys i 0
+    get_or_here ys i j = get_or_default ys i _ 0 j
+
+module _ (g : Graph) where
+  pub Contains-disjunctions : (c : ℕ) → c < condition_count g → Contains (disjunctions g) (process_of g c)
+  Contains-disjunctions c h = Contains-get_or (disjunctions g) c 0 h
+
+  pub condition_of_process_of : (c : ℕ) → c < condition_count g → condition_of g (process_of g c) ≡ Some c
+  condition_of_process_of c h = position-place (disjunctions g) (process_of g c) (Contains-disjunctions c h)
+      ∙ ap Some (place-get_or (disjunctions g) c (disjunctions_rise g) h)
+
+  pub process_of_condition_of : (p c : ℕ) → condition_of g p ≡ Some c → process_of g c ≡ p
+  process_of_condition_of p c e = eqb-true (process_of g c) p (position-Some (λ q. q == p) (disjunctions g) c 0 e).1
+
+  -- the condition of a process that has one
+  pub condition_there : (p : ℕ) → p < process_count g → is_disjunction g p ≡ true → (c : ℕ) × (c < condition_count g) × (process_of g c ≡ p)
+  condition_there p h t =
+      let c = Contains-filter (is_disjunction g) (numbers_below (process_count g)) p t (Contains-numbers (process_count g) p h) in
+      (place (disjunctions g) p, place-lt (disjunctions g) p c, get_or-place (disjunctions g) p 0 c)
+
+  -- the source of a conditional edge has a condition
+  pub condition_of_edge : (e : ℕ) (wanted : Bool) → e < edge_count g → source g e < process_count g → (edge_at g e).when ≡ Some wanted → (c : ℕ) × (c < condition_count g) × (process_of g c ≡ source g e)
+  condition_of_edge e wanted h s w = condition_there (source g e) s
+      (list_any_true (λ f. is_some (edge_at g f).when) (outputs g (source g e)) e
+      (outputs-Contains g e h)
+      (ap is_some w))
+
+  pub value_of_process : (values : List Bool) (c : ℕ) → c < condition_count g → value_of g values (process_of g c) ≡ get_or values c false
+  value_of_process values c h = ap (λ o. get_or values (unwrap_or o 0) false) (condition_of_process_of c h)
+
+module _ (g : Graph) where
+  pub condition_of_below : (p c : ℕ) → condition_of g p ≡ Some c → c < condition_count g
+  condition_of_below p c e = (position-Some (λ q. q == p) (disjunctions g) c 0 e).0

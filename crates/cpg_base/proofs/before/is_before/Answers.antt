@@ -1,0 +1,12 @@
+use Rattle.std.proofs.Common.{◌<◌, get_or, length}
+use Rattle.std.proofs.lemmas.List.Elements.{Contains-get_or}
+use Rattle.cpg_base.proofs.Places.{from_order}
+use Rattle.cpg_base.proofs.before.is_before.Goals as goal
+
+pub at_process-requires : goal.at_process-requires
+at_process-requires c =
+    let e = c.processes-process-items.ensures in
+    let order = c.args.order.now in
+    let within : c.loop-process.process-index < length order = rw e.processes at c.loop-process-test.true in
+    let below = from_order (length order) order e.order.all (get_or order c.loop-process.process-index 0) (Contains-get_or order c.loop-process.process-index 0 within) in
+    record { process = rw e.processes (rw c.requires.order at below); first = c.requires.first; second = c.requires.second }

@@ -1,0 +1,32 @@
+-- An order of processes, its places, and as the code keeps it.
+use Rattle.std.specs.Prelude.{ℕ, Bool, ◌==◌, List, filter, position, unwrap_or, take, ◌≡◌, ◌<◌, ◌≤◌, length, get_or, IsPermutation}
+use Rattle.std.specs.List.{list_any}
+use Rattle.cpg_base.specs.Graph.{Graph, node_of}
+use Rattle.cpg_base.specs.Numbers.{numbers_below}
+
+-- the first place of a process in an order, or 0 where it is not in it
+abbrev pub place : List ℕ → ℕ → ℕ
+place order p = unwrap_or (position (λ q. q == p) order) 0
+
+-- the processes before one in an order
+abbrev pub before : List ℕ → ℕ → List ℕ
+before order p = take (place order p) order
+
+-- those of them that are on its node
+abbrev pub before_on_node : Graph → List ℕ → ℕ → List ℕ
+before_on_node g order p = filter (λ q. node_of g q == node_of g p) (before order p)
+
+-- whether one process stands before another in an order
+abbrev pub comes_before : List ℕ → ℕ → ℕ → Bool
+comes_before order p q = list_any (λ r. r == p) (before order q)
+
+-- each of the process numbers below the length once
+pub record IsOrder (order : List ℕ) : Type 0 where
+  pub few : length order ≤ 128
+  pub all : IsPermutation (numbers_below (length order)) order
+
+-- an order, and at each process number the place at which the process stands
+pub record ArePlaces (order places : List ℕ) : Type 0 where
+  pub lawful : IsOrder order
+  pub long : length places ≡ length order
+  pub there : (p : ℕ) → p < length order → get_or places p 0 ≡ place order p

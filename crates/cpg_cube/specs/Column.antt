@@ -1,0 +1,13 @@
+-- A column of a row: a time, for the scenarios that its cube matches.
+use Rattle.std.specs.Prelude.{ℕ, List, map, filter}
+use Rattle.cpg_base.specs.Scenario.{Scenario}
+use Rattle.cpg_cube.specs.Cube.{matches}
+use Rattle.cpg_cube.specs.declared.entry.Entry.{Entry}
+
+-- a time, for the scenarios that the cube matches
+abbrev pub Column : Type 0
+Column = Entry
+
+-- the times of the columns that match in a scenario
+abbrev pub times_in : List Column → Scenario → List ℕ
+times_in columns s = map (λ c. c.time) (filter (λ c. matches c.cube s) columns)

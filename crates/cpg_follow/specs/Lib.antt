@@ -1,4 +1,0 @@
-pub mod Streams
-pub mod Follower
-pub mod Kept
-pub mod Following

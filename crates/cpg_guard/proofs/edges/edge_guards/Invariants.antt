@@ -1,7 +1,0 @@
-use Rattle.std.proofs.Common.{◌≡◌, map}
-use Rattle.cpg_base.specs.Numbers.{numbers_below}
-use Rattle.cpg_guard.specs.Guards.{edge_guard_of}
-use Rattle.cpg_guard.proofs.edges.edge_guards.Given as goal
-
-abbrev pub invariant-loop-edge : goal.invariant-loop-edge
-invariant-loop-edge l = l.guards.items ≡ map (edge_guard_of l.problem) (numbers_below l.edge-index)

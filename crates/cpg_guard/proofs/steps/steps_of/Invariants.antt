@@ -1,6 +1,0 @@
-use Rattle.std.proofs.Common.{◌≡◌, map, take}
-use Rattle.cpg_guard.specs.Steps.{step_of}
-use Rattle.cpg_guard.proofs.steps.steps_of.Given as goal
-
-abbrev pub invariant-loop-process : goal.invariant-loop-process
-invariant-loop-process l = l.steps.items ≡ map (step_of l.problem) (take l.process-index l.process-items)

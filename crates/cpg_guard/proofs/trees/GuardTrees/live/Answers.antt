@@ -1,8 +1,0 @@
-use Rattle.std.proofs.Common.{◌∙◌, arith}
-use Rattle.cpg_guard.proofs.EdgeGuards.{live_by-is, length-edges}
-use Rattle.cpg_guard.proofs.trees.GuardTrees.live.Goals as goal
-
-pub returns-clause-live : goal.returns-clause-live
-returns-clause-live c = λ g order topological are. c.is_live-live.ensures
-    ∙ live_by-is g order topological c.args.self.now are c.args.scenario.now.values (c.requires.scenario ∙ are.conditions) c.args.edge
-    (let within = c.requires.edge in omega (arith, length-edges g order c.args.self.now are))

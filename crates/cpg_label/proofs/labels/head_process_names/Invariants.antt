@@ -1,0 +1,5 @@
+use Rattle.std.proofs.Common.{◌≡◌, map, take}
+use Rattle.cpg_label.proofs.labels.head_process_names.Given as goal
+
+abbrev pub invariant-loop-process : goal.invariant-loop-process
+invariant-loop-process l = map (λ n. n.now) l.names.items ≡ map (λ p. p.name) (take l.process-index l.processes)

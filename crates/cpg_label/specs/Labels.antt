@@ -1,0 +1,42 @@
+-- What texts call processes, conditions and edges.
+use Rattle.std.specs.Prelude.{ℕ, List, [], map, get_or}
+use Rattle.cpg_base.specs.Graph.{Graph, process_at, disjunctions}
+use Rattle.cpg_base.specs.declared.process.Process.{Process}
+use Rattle.cpg_base.specs.declared.process.Edge.{Edge}
+use Rattle.cpg_head.specs.Head.{Head}
+use Rattle.cpg_head.specs.declared.head_parts.HeadProcess.{HeadProcess}
+use Rattle.cpg_table.specs.Items.{conditioned}
+
+-- the names of the processes, the name of the process of each condition, and the ends of the edges
+pub record Labels : Type 0 where
+  pub processes : List (List ℕ)
+  pub conditions : List (List ℕ)
+  pub edges : List (ℕ × ℕ)
+
+-- what a process is called
+abbrev pub process_name : Labels → ℕ → List ℕ
+process_name labels p = get_or labels.processes p []
+
+-- what the process of a condition is called
+abbrev pub condition_name : Labels → ℕ → List ℕ
+condition_name labels c = get_or labels.conditions c []
+
+-- the processes that an edge runs between
+abbrev pub edge_ends : Labels → ℕ → ℕ × ℕ
+edge_ends labels e = get_or labels.edges e (0, 0)
+
+-- what a graph calls its parts
+abbrev pub labels_of : Graph → Labels
+labels_of g = record {
+  processes = map (λ (p : Process). p.name) g.processes;
+  conditions = map (λ p. (process_at g p).name) (disjunctions g);
+  edges = map (λ (e : Edge). (e.from, e.to)) g.edges;
+}
+
+-- what a head calls them
+abbrev pub head_labels : Head → Labels
+head_labels h = record {
+  processes = map (λ (p : HeadProcess). p.name) h.processes;
+  conditions = map (λ (p : HeadProcess). p.name) (conditioned h);
+  edges = h.edges;
+}

@@ -1,0 +1,4 @@
+pub mod Labels
+pub mod CubeText
+pub mod Phrases
+pub mod ItemText

@@ -1,0 +1,230 @@
+//! What texts call processes, conditions and edges.
+ghost use Rattle.std.specs.Prelude.{◌≡◌, IfOk, IfSome, filter, map};
+ghost use Rattle.cpg_base.specs.Graph.{disjunctions, process_at};
+ghost use Rattle.cpg_label.specs.ItemText.{item_of};
+ghost use Rattle.cpg_label.specs.Labels.{condition_name, edge_ends, head_labels, labels_of, process_name};
+ghost use Rattle.cpg_label.specs.Phrases.{IsPhraseOf};
+
+use crate::phrases::{Counts, Phrase, longest_of, phrases_of};
+use cpg_base::{Edge, Item, OutOfMemory, Problem, Process};
+use cpg_cube::Literal;
+use cpg_head::{Head, HeadProcess};
+use std::alloc::Global;
+use std::marker::Model;
+
+/// The names of the processes, the name of the process of each condition, and the ends of the edges, by number. Where
+/// many lines are written with them, the texts of literals are at hand too.
+#[derive(Drop)]
+pub struct Labels<'a> {
+    processes: Vec<&'a str>,
+    conditions: Vec<&'a str>,
+    edges: Vec<(u32, u32)>,
+    phrases: Vec<Phrase>,
+    counts: Counts,
+}
+
+impl<'a> Model for Labels<'a> {
+    ghost use Rattle.std.specs.Prelude.{All, map};
+    ghost use Rattle.cpg_label.specs.Labels.{Labels};
+    ghost use Rattle.cpg_label.specs.Phrases.{IsPhrase};
+
+    ghost Value = { Labels };
+
+    ghost view = { λ l. record { processes = map (λ n. n.now) l.processes.items; conditions = map (λ n. n.now) l.conditions.items; edges = l.edges.items } };
+
+    ghost invariant = { λ l. All (IsPhrase (record { processes = map (λ n. n.now) l.processes.items; conditions = map (λ n. n.now) l.conditions.items; edges = l.edges.items })) l.phrases.items };
+}
+
+fn process_names<'a>(alloc: Global, processes: &'a [Process]) -> Result<Vec<&'a str>, OutOfMemory>
+    ensures { IfOk result (λ names. map (λ n. n.now) names.items ≡ map (λ p. p.name) processes.entry.now) }
+{
+    let mut names = Vec::new(alloc);
+    names.reserve(processes.len())?;
+    for process in processes {
+        names.push(process.name.as_str())?;
+    }
+    Ok(names)
+}
+
+fn condition_names<'a>(alloc: Global, problem: &'a Problem) -> Result<Vec<&'a str>, OutOfMemory>
+    ensures { IfOk result (λ names. map (λ n. n.now) names.items ≡ map (λ p. (process_at problem.entry.now p).name) (disjunctions problem.entry.now)) }
+{
+    let mut names = Vec::new(alloc);
+    names.reserve(problem.conditions() as usize)?;
+    for condition in 0..problem.conditions() {
+        let process = problem.process_of(condition);
+        names.push(problem.processes()[process as usize].name.as_str())?;
+    }
+    Ok(names)
+}
+
+fn edge_ends(alloc: Global, edges: &[Edge]) -> Result<Vec<(u32, u32)>, OutOfMemory>
+    ensures { IfOk result (λ ends. ends.items ≡ map (λ e. (e.from, e.to)) edges.now) }
+{
+    let mut ends = Vec::new(alloc);
+    ends.reserve(edges.len())?;
+    for edge in edges {
+        ends.push((edge.from, edge.to))?;
+    }
+    Ok(ends)
+}
+
+fn head_process_names<'a>(
+    alloc: Global,
+    processes: &'a [HeadProcess],
+) -> Result<Vec<&'a str>, OutOfMemory>
+    ensures { IfOk result (λ names. map (λ n. n.now) names.items ≡ map (λ p. p.name) processes.entry.now) }
+{
+    let mut names = Vec::new(alloc);
+    names.reserve(processes.len())?;
+    for process in processes {
+        names.push(process.name.as_str())?;
+    }
+    Ok(names)
+}
+
+fn head_condition_names<'a>(
+    alloc: Global,
+    processes: &'a [HeadProcess],
+) -> Result<Vec<&'a str>, OutOfMemory>
+    ensures { IfOk result (λ names. map (λ n. n.now) names.items ≡ map (λ p. p.name) (filter (λ p. p.condition) processes.entry.now)) }
+{
+    let mut names = Vec::new(alloc);
+    for process in processes {
+        if process.condition {
+            names.push(process.name.as_str())?;
+        }
+    }
+    Ok(names)
+}
+
+fn head_edges(alloc: Global, edges: &[(u32, u32)]) -> Result<Vec<(u32, u32)>, OutOfMemory>
+    ensures { IfOk result (λ ends. ends.items ≡ edges.now) }
+{
+    let mut ends = Vec::new(alloc);
+    ends.extend_from_slice(edges)?;
+    Ok(ends)
+}
+
+impl<'a> Labels<'a> {
+    /// What the head of a pack calls the parts of its graph.
+    fn of_head(alloc: Global, head: &'a Head) -> Result<Labels<'a>, OutOfMemory>
+        ensures { IfOk result (λ labels. labels ≡ head_labels head.entry.now) }
+    {
+        Ok(Labels {
+            processes: head_process_names(alloc, head.processes())?,
+            conditions: head_condition_names(alloc, head.processes())?,
+            edges: head_edges(alloc, head.edges())?,
+            phrases: Vec::new(alloc),
+            counts: Counts::default(),
+        })
+    }
+
+    /// What a graph calls its parts.
+    pub fn of(alloc: Global, problem: &'a Problem) -> Result<Labels<'a>, OutOfMemory>
+        ensures { IfOk result (λ labels. labels ≡ labels_of problem.entry.now) }
+    {
+        Ok(Labels {
+            processes: process_names(alloc, problem.processes())?,
+            conditions: condition_names(alloc, problem)?,
+            edges: edge_ends(alloc, problem.edges())?,
+            phrases: Vec::new(alloc),
+            counts: Counts::default(),
+        })
+    }
+
+    /// How many processes and conditions there are.
+    fn counts(&self) -> Counts {
+        Counts {
+            processes: self.processes.len().min(128) as u8,
+            conditions: self.conditions.len().min(127) as u8,
+        }
+    }
+
+    /// The same labels, with the texts of literals of at most so many faults at hand.
+    fn with_phrases(mut self, alloc: Global, faults: u8) -> Result<Labels<'a>, OutOfMemory>
+        ensures { IfOk result (λ labels. labels ≡ self.entry) }
+    {
+        let counts = self.counts();
+        let phrases = phrases_of(alloc, &self, counts, faults.max(1))?;
+        self.phrases = phrases;
+        self.counts = counts;
+        Ok(self)
+    }
+
+    /// What a graph calls its parts, with the texts of its literals at hand.
+    pub fn ready(alloc: Global, problem: &'a Problem) -> Result<Labels<'a>, OutOfMemory>
+        ensures { IfOk result (λ labels. labels ≡ labels_of problem.entry.now) }
+    {
+        let names = Labels::of(alloc, problem)?;
+        let labels = names.with_phrases(alloc, problem.faults())?;
+        Ok(labels)
+    }
+
+    /// The same of a head.
+    pub fn ready_of_head(alloc: Global, head: &'a Head) -> Result<Labels<'a>, OutOfMemory>
+        ensures { IfOk result (λ labels. labels ≡ head_labels head.entry.now) }
+    {
+        let names = Labels::of_head(alloc, head)?;
+        let labels = names.with_phrases(alloc, head.faults())?;
+        Ok(labels)
+    }
+
+    /// The text of a literal, where it is at hand.
+    pub fn phrase(&self, literal: Literal) -> Option<&Phrase>
+        ensures { IfSome result (λ p. IsPhraseOf self.now literal p.now) }
+    {
+        match self.phrases.get(self.counts.place_of(literal)) {
+            Some(phrase) if phrase.literal == literal => Some(phrase),
+            _ => None,
+        }
+    }
+
+    /// How many bytes the longest text that is at hand has.
+    pub fn longest(&self) -> usize {
+        longest_of(self.phrases.as_slice())
+    }
+
+    /// What a process is called, and nothing where there is no such process.
+    pub fn process(&self, process: u32) -> &str
+        ensures { result.now ≡ process_name self.now process }
+    {
+        match self.processes.get(process as usize) {
+            Some(name) => name,
+            None => "",
+        }
+    }
+
+    /// What the process of a condition is called, and nothing where there is no such condition.
+    pub fn condition(&self, condition: u32) -> &str
+        ensures { result.now ≡ condition_name self.now condition }
+    {
+        match self.conditions.get(condition as usize) {
+            Some(name) => name,
+            None => "",
+        }
+    }
+
+    /// The numbers of the processes that an edge runs between, 0 where there is no such edge.
+    pub fn ends(&self, edge: u32) -> (u32, u32)
+        ensures { result ≡ edge_ends self.now edge }
+    {
+        self.edges.get(edge as usize).copied().unwrap_or((0, 0))
+    }
+
+    /// The item of a number, for the texts of a pack, which comes without its graph.
+    pub fn item(&self, number: u32) -> Item
+        ensures { result ≡ item_of self.now number }
+    {
+        let messages = self.processes.len();
+        let place = number as usize;
+        if place < messages {
+            return Item::Start(number);
+        }
+        let edge = place - messages;
+        if edge < self.edges.len() {
+            return Item::Message(edge as u32);
+        }
+        Item::Broadcast((edge - self.edges.len()) as u32)
+    }
+}

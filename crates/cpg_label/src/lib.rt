@@ -1,0 +1,11 @@
+//! Labels, and the texts of items, literals and columns.
+#![tactic(auto)]
+
+mod columns;
+mod items;
+mod labels;
+mod phrases;
+
+pub use columns::{write_columns, write_value};
+pub use items::{write_act, write_heard, write_item};
+pub use labels::Labels;

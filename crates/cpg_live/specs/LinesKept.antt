@@ -1,0 +1,31 @@
+-- What a follower keeps for its calls.
+use Rattle.std.specs.Prelude.{ℕ, ◌≡◌, ◌+◌, ◌*◌, ◌≤◌, List, length}
+use Rattle.std.specs.Vec.{vec_capacity}
+use Rattle.cpg_table.specs.Table.{NodeTable, table_at}
+use Rattle.cpg_table.specs.Lawful.{column_count}
+use Rattle.cpg_live.specs.Stream.{after}
+use Rattle.cpg_live.specs.declared.act_lines.TheConstants.{MOST_LINE}
+use Rattle.cpg_live.specs.declared.following.TheConstants.{STREAM_LIMIT}
+use Rattle.cpg_live.specs.declared.following.Follower.TheInside.{Inside}
+use Rattle.cpg_live.specs.Follower.{Follower}
+
+-- the table of its node
+abbrev pub table_in : Inside → NodeTable
+table_in f = table_at f.tables.nodes f.node
+
+-- the fields as they are seen
+abbrev pub follower_of : Inside → Follower
+follower_of f = record { head = f.tables.head; table = table_in f; live = f.live; told = f.told; read = f.read }
+
+-- how many acts a node can do: one for each column of what it sends and starts
+abbrev pub entry_count : NodeTable → ℕ
+entry_count table = column_count table.sends + column_count table.starts
+
+-- its state is that after so many bytes, and there is room for the lines of all acts, and for one more
+pub record IsFollowing (f : Inside) : Type 0 where
+  pub fed : List ℕ
+  pub live : f.live ≡ after (table_in f) fed
+  pub read : f.read ≡ length fed
+  pub few : f.read ≤ STREAM_LIMIT + 1
+  pub told : f.told ≤ length f.live.progress.acts
+  pub room : MOST_LINE * (entry_count (table_in f) + 1) ≤ vec_capacity f.lines

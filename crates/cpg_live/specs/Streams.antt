@@ -1,0 +1,112 @@
+-- A stream that a node of a pack follows: the lines of what it does, and how the stream ends.
+use Rattle.std.specs.Prelude.{ℕ, ◌+◌, ◌≡◌, ◌<◌, false, ◌&&◌, nat_lt, if◌then◌else◌, List, [], ◌++◌, Option, None, IfSome, is_none, Result, Ok, Err, codes, length, take}
+use Rattle.std.specs.List.{flat_map}
+use Rattle.std.specs.Fmt.{decimal}
+use Rattle.cpg_io.specs.Sink.{TookPrefix}
+use Rattle.cpg_head.specs.Head.{Head}
+use Rattle.cpg_table.specs.Table.{NodeTable}
+use Rattle.cpg_node.specs.Dispatcher.{Act}
+use Rattle.cpg_live.specs.declared.bad.Bad.{Bad}
+use Rattle.cpg_live.specs.declared.bad.Why.{Why}
+use Rattle.cpg_live.specs.declared.bad.Why.TheVariants.{Length, Kind, Order, Frame, End}
+use Rattle.cpg_live.specs.Stream.{LiveState, after, outcome}
+use Rattle.cpg_label.specs.Labels.{head_labels}
+use Rattle.cpg_label.specs.ItemText.{item_of, done_text}
+use Rattle.cpg_live.specs.declared.following.StreamFault.{StreamFault}
+use Rattle.cpg_live.specs.declared.following.StreamFault.TheVariants.{Lawless, Long}
+use Rattle.cpg_live.specs.declared.following.TheConstants.{STREAM_LIMIT}
+
+-- when an act was, and what
+abbrev pub act_line : Head → Act → List ℕ
+act_line h a = decimal a.time ++ codes " " ++ done_text (head_labels h) (item_of (head_labels h) a.item) ++ codes "\n"
+
+abbrev pub act_lines : Head → List Act → List ℕ
+act_lines h acts = flat_map (act_line h) acts
+
+-- the line of a close
+abbrev pub closed_line : ℕ → List ℕ
+closed_line time = codes "closed " ++ decimal time ++ codes "\n"
+
+-- what is wrong with a record
+abbrev pub why_text : Why → List ℕ
+why_text Length = codes "length"
+why_text Kind = codes "kind"
+why_text Order = codes "order"
+why_text Frame = codes "frame"
+why_text End = codes "end"
+
+-- why a stream is refused
+abbrev pub fault_text : StreamFault → List ℕ
+fault_text (Lawless bad) = codes "21 stream " ++ decimal bad.index ++ codes " " ++ why_text bad.why
+fault_text Long = codes "16 long stream"
+
+abbrev pub fault_line : StreamFault → List ℕ
+fault_line fault = codes "cpgc: refused " ++ fault_text fault ++ codes "\n"
+
+-- No more bytes of a stream are read than those of 16,777,216 records, and one.
+abbrev pub read_part : List ℕ → List ℕ
+read_part bytes = take (STREAM_LIMIT + 1) bytes
+
+-- the close of a stream, or its first lawless record
+abbrev pub end_by : Result ℕ Bad → Result ℕ StreamFault
+end_by (Ok time) = Ok time
+end_by (Err bad) = Err (Lawless bad)
+
+-- how a stream ends after so many bytes in a state: where none was lawless, more bytes than the limit are too many
+abbrev pub end_of : LiveState → ℕ → Result ℕ StreamFault
+end_of s count = if is_none s.bad && nat_lt STREAM_LIMIT count then Err Long else end_by (outcome s)
+
+-- how a stream of these bytes ends: the time of its close, or why it is refused
+abbrev pub stream_end : NodeTable → List ℕ → Result ℕ StreamFault
+stream_end table bytes = end_of (after table (read_part bytes)) (length (read_part bytes))
+
+-- the line of a stream's close, if it has one
+abbrev pub close_of : Result ℕ StreamFault → List ℕ
+close_of (Ok time) = closed_line time
+close_of (Err fault) = []
+
+-- all lines of a stream: those of the acts for the records before the first lawless one, and that of its close where it is
+-- lawful to its end
+abbrev pub stream_lines : Head → NodeTable → List ℕ → List ℕ
+stream_lines h table bytes = act_lines h (after table (read_part bytes)).progress.acts ++ close_of (stream_end table bytes)
+
+-- the bytes of a file, where the shelf tells them
+abbrev pub AreBytesOf : Option (List ℕ) → List ℕ → Type 0
+AreBytesOf told bytes = IfSome told (λ whole. bytes ≡ whole)
+
+-- a stream that is lawful to its end, and all its lines
+pub record IsClosed (h : Head) (table : NodeTable) (told : Option (List ℕ)) (lines : List ℕ) : Type 0 where
+  pub bytes : List ℕ
+  pub of : AreBytesOf told bytes
+  pub time : ℕ
+  pub ends : stream_end table bytes ≡ Ok time
+  pub spelled : lines ≡ stream_lines h table bytes
+
+-- A stream is too long: as many records as are taken are lawful, none of them is a close, and another byte comes.
+pub record IsTooLong (table : NodeTable) (bytes : List ℕ) : Type 0 where
+  pub more : STREAM_LIMIT < length bytes
+  pub lawful : (after table (read_part bytes)).bad ≡ None
+  pub taken : (after table (read_part bytes)).taken ≡ 16777216
+  pub not_closed : (after table (read_part bytes)).closed ≡ false
+
+-- a stream that is refused, and the lines of the records before
+pub record IsRefused (h : Head) (table : NodeTable) (told : Option (List ℕ)) (fault : StreamFault) (lines : List ℕ) : Type 0 where
+  pub bytes : List ℕ
+  pub of : AreBytesOf told bytes
+  pub ends : stream_end table bytes ≡ Err fault
+  pub long : fault ≡ Long → IsTooLong table bytes
+  pub spelled : lines ≡ stream_lines h table bytes
+
+-- the first bytes of a stream, as many as the shelf gave, whose records are all lawful, and their lines
+pub record IsLawfulSoFar (h : Head) (table : NodeTable) (told : Option (List ℕ)) (given : ℕ) (lines : List ℕ) : Type 0 where
+  pub bytes : List ℕ
+  pub count : given ≡ length bytes
+  pub first : IfSome told (λ whole. bytes ≡ take given whole)
+  pub lawful : (after table bytes).bad ≡ None
+  pub spelled : lines ≡ act_lines h (after table bytes).progress.acts
+
+-- a proper front of all lines of a stream was written
+pub record IsCutOff (h : Head) (table : NodeTable) (told old new : Option (List ℕ)) : Type 0 where
+  pub bytes : List ℕ
+  pub of : AreBytesOf told bytes
+  pub front : TookPrefix old new (stream_lines h table bytes)

@@ -1,0 +1,196 @@
+//! Lines of a stream, in bytes that have room for them.
+ghost use Rattle.std.specs.Prelude.{◌≡◌, ◌+◌, ◌*◌, ◌≤◌, ◌++◌, codes, length};
+ghost use Rattle.std.specs.Fmt.{decimal};
+ghost use Rattle.std.specs.Vec.{vec_len, vec_capacity};
+ghost use Rattle.cpg_label.specs.ItemText.{item_of, done_text};
+ghost use Rattle.cpg_label.specs.Labels.{condition_name, head_labels, process_name};
+ghost use Rattle.cpg_live.specs.Streams.{act_line, act_lines, closed_line, fault_line, fault_text, why_text};
+
+use crate::following::StreamFault;
+use crate::{Bad, Why};
+use cpg_base::Item;
+use cpg_head::Head;
+use cpg_node::Act;
+
+/// No line is longer, in bytes.
+pub const MOST_LINE: usize = 64;
+
+/// Appends bytes.
+fn append(out: &mut Vec<u8>, bytes: &[u8])
+    requires { vec_len out.old + length bytes.now ≤ vec_capacity out.old }
+    ensures bytes { out.new.items ≡ out.old.items ++ bytes.now }
+    ensures len { vec_len out.new ≡ vec_len out.old + length bytes.now }
+    ensures room { vec_capacity out.old ≤ vec_capacity out.new }
+{
+    let _done = out.extend_from_slice(bytes);
+}
+
+/// Appends a number.
+fn append_decimal(out: &mut Vec<u8>, number: u64)
+    requires { vec_len out.old + length (decimal number) ≤ vec_capacity out.old }
+    ensures bytes { out.new.items ≡ out.old.items ++ decimal number }
+    ensures len { vec_len out.new ≡ vec_len out.old + length (decimal number) }
+    ensures room { vec_capacity out.old ≤ vec_capacity out.new }
+{
+    if number < 10 {
+        out.push_reserved(b'0' + number as u8);
+        return;
+    }
+    append_decimal(out, number / 10);
+    out.push_reserved(b'0' + (number % 10) as u8);
+}
+
+/// Appends a number of 64 bits, which has at most 20 digits.
+fn append_number(out: &mut Vec<u8>, number: u64)
+    requires { vec_len out.old + 20 ≤ vec_capacity out.old }
+    ensures bytes { out.new.items ≡ out.old.items ++ decimal number }
+    ensures few { vec_len out.new ≤ vec_len out.old + 20 }
+    ensures room { vec_capacity out.old ≤ vec_capacity out.new }
+{
+    append_decimal(out, number);
+}
+
+/// What a process is called, and nothing where there is no such process.
+fn process_name(head: &Head, process: u32) -> &str
+    ensures text { result.now ≡ process_name (head_labels head.now) process }
+    ensures few { length result.now ≤ 32 }
+{
+    match head.processes().get(process as usize) {
+        Some(process) => process.name.as_str(),
+        None => "",
+    }
+}
+
+/// What the process of a condition is called, and nothing where there is no such condition.
+fn condition_name(head: &Head, condition: u32) -> &str
+    ensures text { result.now ≡ condition_name (head_labels head.now) condition }
+    ensures few { length result.now ≤ 32 }
+{
+    let mut before = condition;
+    for process in head.processes() {
+        if process.condition {
+            if before == 0 {
+                return process.name.as_str();
+            }
+            before -= 1;
+        }
+    }
+    ""
+}
+
+/// The item of a number.
+fn item_of(head: &Head, number: u32) -> Item
+    ensures { result ≡ item_of (head_labels head.now) number }
+{
+    let messages = head.processes().len();
+    let place = number as usize;
+    if place < messages {
+        return Item::Start(number);
+    }
+    let edge = place - messages;
+    let edges = head.edges().len();
+    if edge < edges {
+        return Item::Message(edge as u32);
+    }
+    Item::Broadcast((edge - edges) as u32)
+}
+
+/// Appends what a node did with an item.
+fn append_done(out: &mut Vec<u8>, head: &Head, item: Item)
+    requires { vec_len out.old + 40 ≤ vec_capacity out.old }
+    ensures bytes { out.new.items ≡ out.old.items ++ done_text (head_labels head.now) item }
+    ensures few { vec_len out.new ≤ vec_len out.old + 40 }
+    ensures room { vec_capacity out.old ≤ vec_capacity out.new }
+{
+    match item {
+        Item::Start(process) => {
+            append(out, b"start ");
+            append(out, process_name(head, process).as_bytes());
+        }
+        Item::Message(edge) => {
+            append(out, b"send e");
+            append_number(out, u64::from(edge));
+        }
+        Item::Broadcast(condition) => {
+            append(out, b"tell ");
+            append(out, condition_name(head, condition).as_bytes());
+        }
+    }
+}
+
+/// Appends the line of an act.
+fn append_act(out: &mut Vec<u8>, head: &Head, act: &Act)
+    requires { vec_len out.old + MOST_LINE ≤ vec_capacity out.old }
+    ensures bytes { out.new.items ≡ out.old.items ++ act_line head.now act.now }
+    ensures few { vec_len out.new ≤ vec_len out.old + MOST_LINE }
+    ensures room { vec_capacity out.old ≤ vec_capacity out.new }
+{
+    append_number(out, act.time);
+    append(out, b" ");
+    append_done(out, head, item_of(head, act.item));
+    append(out, b"\n");
+}
+
+/// Appends the lines of acts.
+pub fn append_acts(out: &mut Vec<u8>, head: &Head, acts: &[Act])
+    requires { vec_len out.old + MOST_LINE * length acts.now ≤ vec_capacity out.old }
+    ensures bytes { out.new.items ≡ out.old.items ++ act_lines head.now acts.now }
+    ensures room { vec_capacity out.old ≤ vec_capacity out.new }
+{
+    for act in acts {
+        append_act(out, head, act);
+    }
+}
+
+/// Appends the line of a close.
+pub fn append_closed(out: &mut Vec<u8>, time: u64)
+    requires { vec_len out.old + MOST_LINE ≤ vec_capacity out.old }
+    ensures bytes { out.new.items ≡ out.old.items ++ closed_line time }
+    ensures room { vec_capacity out.old ≤ vec_capacity out.new }
+{
+    append(out, b"closed ");
+    append_number(out, time);
+    append(out, b"\n");
+}
+
+fn why_text(why: Why) -> &'static [u8]
+    ensures text { result.now ≡ why_text why }
+    ensures few { length result.now ≤ 6 }
+{
+    match why {
+        Why::Length => b"length",
+        Why::Kind => b"kind",
+        Why::Order => b"order",
+        Why::Frame => b"frame",
+        Why::End => b"end",
+    }
+}
+
+/// Appends why a stream is refused.
+fn append_fault(out: &mut Vec<u8>, fault: StreamFault)
+    requires { vec_len out.old + 40 ≤ vec_capacity out.old }
+    ensures bytes { out.new.items ≡ out.old.items ++ fault_text fault }
+    ensures few { vec_len out.new ≤ vec_len out.old + 40 }
+    ensures room { vec_capacity out.old ≤ vec_capacity out.new }
+{
+    match fault {
+        StreamFault::Lawless(bad) => {
+            append(out, b"21 stream ");
+            append_number(out, bad.index);
+            append(out, b" ");
+            append(out, why_text(bad.why));
+        }
+        StreamFault::Long => append(out, b"16 long stream"),
+    }
+}
+
+/// Appends the line of a stream that is refused.
+pub fn append_refused(out: &mut Vec<u8>, fault: StreamFault)
+    requires { vec_len out.old + MOST_LINE ≤ vec_capacity out.old }
+    ensures bytes { out.new.items ≡ out.old.items ++ fault_line fault }
+    ensures room { vec_capacity out.old ≤ vec_capacity out.new }
+{
+    append(out, b"cpgc: refused ");
+    append_fault(out, fault);
+    append(out, b"\n");
+}

@@ -1,0 +1,276 @@
+//! A node of a pack that follows a stream.
+ghost use Rattle.std.specs.Prelude.{ℕ, List, Option, ◌≡◌, ◌+◌, ◌*◌, ◌≤◌, ◌<◌, IfErr, IfOk, IfSome, MatchResult, OnErr, OnOk, drop, length};
+ghost use Rattle.std.specs.Io.KnownBytes.{Appends, IsAtEnd};
+ghost use Rattle.cpg_io.specs.Causes.{HasCause, Rose, counted};
+ghost use Rattle.cpg_io.specs.Shelf.{SameNames};
+ghost use Rattle.cpg_io.specs.Sink.{TookPrefix};
+ghost use Rattle.cpg_table.specs.Lawful.{column_count};
+ghost use Rattle.cpg_table.specs.Table.{table_at};
+ghost use Rattle.cpg_live.specs.Follower.{open_follower};
+ghost use Rattle.cpg_live.specs.Following.{Breaks, Closes, Completes, IsAlong, IsOfSame, TakesPiece};
+ghost use Rattle.cpg_live.specs.LinesKept.{entry_count};
+ghost use Rattle.cpg_live.specs.Streams.{act_lines, closed_line, fault_line};
+
+use crate::act_lines::{MOST_LINE, append_acts, append_closed, append_refused};
+use crate::{Bad, Live};
+use cpg_base::OutOfMemory;
+use cpg_io::{Failed, Shelf, Sink, write_all};
+use cpg_table::{NodeTable, Row, Tables};
+use std::alloc::Global;
+use std::marker::Model;
+
+/// The bytes of as many records as are taken of a stream: 16,777,216 of 14 bytes.
+pub const STREAM_LIMIT: usize = 234_881_024;
+
+/// The most bytes of a piece.
+const PIECE: usize = 65_536;
+
+/// Why a stream is refused.
+#[derive(Clone, Copy, Debug, PartialEq, Eq)]
+pub enum StreamFault {
+    /// Its first lawless record, which is the awaited one where it ends without a close.
+    Lawless(Bad),
+    /// It has more than 16,777,216 records, of which so many are lawful and none is a close.
+    Long,
+}
+
+/// Why a stream isn't followed to its close.
+#[derive(Clone, Copy, Debug, PartialEq, Eq)]
+pub enum Broken {
+    /// The shelf met a fault.
+    Shelf,
+    /// The sink met a fault.
+    Sink,
+    /// It is refused.
+    Refused(StreamFault),
+}
+
+/// A piece of a stream that was fed: how many bytes it has, and the lawless record, if there is one.
+#[derive(Clone, Copy, Debug, PartialEq, Eq)]
+struct Fed {
+    count: usize,
+    bad: Option<Bad>,
+}
+
+/// A node of a pack that follows a stream, with room for the lines of all that it can do. It is seen as the pack's head, the
+/// node's table and state, how many of its acts are told, and how many bytes were fed.
+#[derive(Drop)]
+pub struct Follower {
+    tables: Tables,
+    node: u32,
+    live: Live,
+    lines: Vec<u8>,
+    told: usize,
+    read: usize,
+}
+
+impl Model for Follower {
+    ghost use Rattle.cpg_live.specs.Follower.{Follower};
+    ghost use Rattle.cpg_live.specs.LinesKept.{follower_of, IsFollowing};
+
+    ghost Value = { Follower };
+
+    ghost view = { follower_of };
+
+    ghost invariant = { IsFollowing };
+}
+
+/// How many columns rows have, and how many came before. No memory could hold more than are counted.
+fn count_columns(rows: &[Row], before: usize) -> Option<usize>
+    ensures { IfSome result (λ count. count ≡ before + column_count rows.now) }
+{
+    let mut count = before;
+    for row in rows {
+        count = count.checked_add(row.entries().len())?;
+    }
+    Some(count)
+}
+
+/// The bytes of the lines of all acts that a node can do, and of one more.
+fn room_of(table: &NodeTable) -> Option<usize>
+    ensures { IfSome result (λ room. room ≡ MOST_LINE * (entry_count table.now + 1)) }
+{
+    let sends = count_columns(table.sends(), 0)?;
+    let entries = count_columns(table.starts(), sends)?;
+    let lines = entries.checked_add(1)?;
+    lines.checked_mul(MOST_LINE)
+}
+
+impl Follower {
+    /// A node of these tables before the first byte of its stream. Takes all room that it will need.
+    pub fn new(alloc: Global, tables: Tables, node: u32) -> Result<Follower, OutOfMemory>
+        requires { node < length tables.head.nodes }
+        ensures { IfOk result (λ f. f ≡ open_follower tables.head (table_at tables.nodes node)) }
+    {
+        let table = tables.node(node).copy()?;
+        let Some(room) = room_of(&table) else {
+            return Err(OutOfMemory);
+        };
+        let mut lines = Vec::new(alloc);
+        lines.reserve(room)?;
+        let live = Live::new(alloc, table)?;
+        Ok(Follower {
+            tables,
+            node,
+            live,
+            lines,
+            told: 0,
+            read: 0,
+        })
+    }
+
+    /// Reads the next piece of the stream and feeds it.
+    fn feed_piece<S: Shelf>(&mut self, shelf: &mut S, buffer: &mut [u8]) -> Result<Fed, Failed>
+        requires some { 0 < length buffer.old }
+        requires few { self.old.read ≤ STREAM_LIMIT }
+        ensures names { SameNames (S.stands shelf.old) (S.stands shelf.new) }
+        ensures piece { IfOk result (λ fed. TakesPiece (S.left shelf.old) (S.left shelf.new) self.old self.new fed.count) }
+        ensures bad { IfOk result (λ fed. fed.bad ≡ self.new.live.bad) }
+        ensures given { MatchResult result (λ fed. S.given shelf.new ≡ counted (S.given shelf.old) fed.count) (λ _. S.given shelf.new ≡ S.given shelf.old) }
+        ensures same { OnErr result (self.new ≡ self.old) }
+        ensures cause { HasCause (S.faults shelf.old) (S.faults shelf.new) result }
+    {
+        let most = buffer.len().min(STREAM_LIMIT + 1 - self.read);
+        let piece = &mut buffer[..most];
+        let count = shelf.read(piece)?;
+        let bad = match self.live.feed(&piece[..count]) {
+            Ok(()) => None,
+            Err(bad) => Some(bad),
+        };
+        self.read += count;
+        Ok(Fed { count, bad })
+    }
+
+    /// Writes the lines of the acts that aren't told, in one write.
+    fn tell<O: Sink>(&mut self, out: &mut O) -> Result<(), Failed>
+        ensures whole { OnOk result (Appends (O.taken out.old) (O.taken out.new) (act_lines self.old.head (drop self.old.told self.old.live.progress.acts))) }
+        ensures part { OnErr result (TookPrefix (O.taken out.old) (O.taken out.new) (act_lines self.old.head (drop self.old.told self.old.live.progress.acts))) }
+        ensures state { self.new ≡ record self.old { told = length self.old.live.progress.acts } }
+        ensures cause { HasCause (O.faults out.old) (O.faults out.new) result }
+    {
+        let told = self.told;
+        let acts = self.live.acts();
+        self.lines.clear();
+        append_acts(&mut self.lines, self.tables.head(), &acts[told..]);
+        self.told = acts.len();
+        write_all(out, self.lines.as_slice())
+    }
+
+    /// Follows the next piece: reads it, feeds it, and writes the lines of the acts that it brings. Says how many bytes it
+    /// has, 0 at the end of the stream.
+    fn follow_piece<S: Shelf, O: Sink>(
+        &mut self,
+        shelf: &mut S,
+        buffer: &mut [u8],
+        out: &mut O,
+    ) -> Result<usize, Broken>
+        requires some { 0 < length buffer.old }
+        requires few { self.old.read ≤ STREAM_LIMIT }
+        ensures names { SameNames (S.stands shelf.old) (S.stands shelf.new) }
+        ensures same { IsOfSame self.old self.new }
+        ensures along { (told start : Option (List ℕ)) → IsAlong told (S.left shelf.old) (S.given shelf.old) start (O.taken out.old) self.old → MatchResult result (λ count. (count ≡ 0 → IsAtEnd (S.left shelf.new)) × IsAlong told (S.left shelf.new) (S.given shelf.new) start (O.taken out.new) self.new) (Breaks self.old.head self.old.table (record { told = told; given = S.given shelf.new; shelf_before = S.faults shelf.old; shelf_now = S.faults shelf.new; out_before = O.faults out.old; out_now = O.faults out.new; old = start; new = O.taken out.new })) }
+        ensures nearer { IfOk result (λ count. self.new.read ≡ self.old.read + count) }
+        ensures within { IfOk result (λ _. self.new.read ≤ STREAM_LIMIT) }
+        ensures later { S.faults shelf.old ≤ S.faults shelf.new }
+        ensures out_later { O.faults out.old ≤ O.faults out.new }
+    {
+        let Ok(fed) = self.feed_piece(shelf, buffer) else {
+            return Err(Broken::Shelf);
+        };
+        if self.tell(out).is_err() {
+            return Err(Broken::Sink);
+        }
+        if let Some(bad) = fed.bad {
+            return Err(Broken::Refused(StreamFault::Lawless(bad)));
+        }
+        if self.read > STREAM_LIMIT {
+            return Err(Broken::Refused(StreamFault::Long));
+        }
+        Ok(fed.count)
+    }
+
+    /// Follows all pieces to the end of the stream.
+    fn follow_pieces<S: Shelf, O: Sink>(&mut self, shelf: &mut S, out: &mut O) -> Result<(), Broken>
+        requires { self.old.read ≤ STREAM_LIMIT }
+        ensures same { IsOfSame self.old self.new }
+        ensures along { (told start : Option (List ℕ)) → IsAlong told (S.left shelf.old) (S.given shelf.old) start (O.taken out.old) self.old → MatchResult result (λ _. IsAtEnd (S.left shelf.new) × IsAlong told (S.left shelf.new) (S.given shelf.new) start (O.taken out.new) self.new) (Breaks self.old.head self.old.table (record { told = told; given = S.given shelf.new; shelf_before = S.faults shelf.old; shelf_now = S.faults shelf.new; out_before = O.faults out.old; out_now = O.faults out.new; old = start; new = O.taken out.new })) }
+        ensures later { S.faults shelf.old ≤ S.faults shelf.new }
+        ensures out_later { O.faults out.old ≤ O.faults out.new }
+    {
+        let mut buffer = [0; PIECE];
+        loop {
+            let count = match self.follow_piece(shelf, &mut buffer, out) {
+                Ok(count) => count,
+                Err(broken) => return Err(broken),
+            };
+            if count == 0 {
+                return Ok(());
+            }
+        }
+    }
+
+    /// Writes the line of a close.
+    fn write_close<O: Sink>(&mut self, time: u64, out: &mut O) -> Result<(), Failed>
+        ensures whole { OnOk result (Appends (O.taken out.old) (O.taken out.new) (closed_line time)) }
+        ensures part { OnErr result (TookPrefix (O.taken out.old) (O.taken out.new) (closed_line time)) }
+        ensures cause { HasCause (O.faults out.old) (O.faults out.new) result }
+    {
+        self.lines.clear();
+        append_closed(&mut self.lines, time);
+        write_all(out, self.lines.as_slice())
+    }
+
+    /// Closes a stream that has no more bytes: writes the line of its close.
+    fn end<O: Sink>(&mut self, out: &mut O) -> Result<(), Broken>
+        ensures { Closes self.old (O.faults out.old) (O.faults out.new) (O.taken out.old) (O.taken out.new) result }
+    {
+        let time = match self.live.closed() {
+            Ok(time) => time,
+            Err(bad) => return Err(Broken::Refused(StreamFault::Lawless(bad))),
+        };
+        match self.write_close(time, out) {
+            Ok(()) => Ok(()),
+            Err(Failed) => Err(Broken::Sink),
+        }
+    }
+
+    /// Follows what is left of a stream to its close.
+    fn follow_rest<S: Shelf, O: Sink>(&mut self, shelf: &mut S, out: &mut O) -> Result<(), Broken>
+        requires { self.old.read ≤ STREAM_LIMIT }
+        ensures along { (told start : Option (List ℕ)) → IsAlong told (S.left shelf.old) (S.given shelf.old) start (O.taken out.old) self.old → MatchResult result (λ _. Completes self.old.head self.old.table (record { told = told; given = S.given shelf.new; shelf_before = S.faults shelf.old; shelf_now = S.faults shelf.new; out_before = O.faults out.old; out_now = O.faults out.new; old = start; new = O.taken out.new })) (Breaks self.old.head self.old.table (record { told = told; given = S.given shelf.new; shelf_before = S.faults shelf.old; shelf_now = S.faults shelf.new; out_before = O.faults out.old; out_now = O.faults out.new; old = start; new = O.taken out.new })) }
+        ensures later { S.faults shelf.old ≤ S.faults shelf.new }
+    {
+        match self.follow_pieces(shelf, out) {
+            Ok(()) => self.end(out),
+            Err(broken) => Err(broken),
+        }
+    }
+
+    /// Follows the stream of a name to its close, and writes the lines of what the node does after each piece, at last that
+    /// of the close.
+    pub fn follow<S: Shelf, O: Sink>(
+        &mut self,
+        shelf: &mut S,
+        name: &str,
+        out: &mut O,
+    ) -> Result<(), Broken>
+        requires may { S.may_fetch shelf.old name.now }
+        requires opened { self.old ≡ open_follower self.old.head self.old.table }
+        ensures whole { IfOk result (λ _. Completes self.old.head self.old.table (record { told = S.stands shelf.old name.now; given = S.given shelf.new; shelf_before = S.faults shelf.old; shelf_now = S.faults shelf.new; out_before = O.faults out.old; out_now = O.faults out.new; old = O.taken out.old; new = O.taken out.new })) }
+        ensures broken { IfErr result (Breaks self.old.head self.old.table (record { told = S.stands shelf.old name.now; given = S.given shelf.new; shelf_before = S.faults shelf.old; shelf_now = S.faults shelf.new; out_before = O.faults out.old; out_now = O.faults out.new; old = O.taken out.old; new = O.taken out.new })) }
+    {
+        match shelf.fetch(name) {
+            Ok(()) => self.follow_rest(shelf, out),
+            Err(Failed) => Err(Broken::Shelf),
+        }
+    }
+
+    /// The line of a stream that is refused.
+    pub fn refused_line(&mut self, fault: StreamFault) -> &[u8]
+        ensures { result.now ≡ fault_line fault }
+    {
+        self.lines.clear();
+        append_refused(&mut self.lines, fault);
+        self.lines.as_slice()
+    }
+}

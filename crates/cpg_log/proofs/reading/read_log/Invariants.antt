@@ -1,0 +1,13 @@
+use Rattle.std.proofs.Common.{◌≡◌, ◌++◌, length}
+use Rattle.cpg_log.specs.Lines.{lines}
+use Rattle.cpg_log.specs.Log.{IsLog, log_lines}
+use Rattle.cpg_log.proofs.reading.read_log.Given as goal
+
+abbrev pub invariant-loop-rest : goal.invariant-loop-rest
+invariant-loop-rest l = record {
+  lawful : IsLog l.problem l.log;
+  spelled : lines l.bytes ≡ log_lines l.problem l.log ++ lines l.rest;
+}
+
+abbrev pub decreases-loop-rest : goal.decreases-loop-rest
+decreases-loop-rest l = length l.rest

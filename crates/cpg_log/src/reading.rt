@@ -1,0 +1,137 @@
+//! Reading of logs.
+ghost use Rattle.std.specs.Prelude.{◌≡◌, ◌≢◌, ◌^◌, ◌<◌, ℕ, Err, IfNone, IfOk, IfSome, length, map, string_bytes};
+ghost use Rattle.std.specs.Bool.{OnFalse, OnTrue};
+ghost use Rattle.cpg_base.specs.Graph.{item_count};
+ghost use Rattle.cpg_base.specs.Numbers.{numbers_below};
+ghost use Rattle.cpg_log.specs.Lines.{lines};
+ghost use Rattle.cpg_log.specs.Log.{Logged, act_line, act_text, until_line};
+ghost use Rattle.cpg_log.specs.Reading.{GoesOn, IsBadLine, IsLineRead, IsLineStrange, IsLogOf, IsOpened, LackTime, MayGoOn};
+ghost use Rattle.cpg_log.specs.declared.fault.LogFault.{LogFault};
+
+use crate::fault::LogFault;
+use crate::lines::{are_same, first_line, parted};
+use crate::log::{Log, Logged};
+use crate::number::time;
+use crate::texts::{act_texts, item_named};
+use cpg_base::{OutOfMemory, Problem};
+use std::alloc::Global;
+
+/// What the first line begins with.
+const UNTIL: &[u8] = b"until";
+
+/// The time until which a line says that a log goes, and `None` exactly where it says none.
+fn until_of(alloc: Global, line: &[u8]) -> Result<Option<u64>, OutOfMemory>
+    ensures some { IfOk result (λ r. IfSome r (λ until. (line.now ≡ until_line until) × (until < 2 ^ 60))) }
+    ensures none { IfOk result (λ r. IfNone r ((until : ℕ) → until < 2 ^ 60 → line.now ≢ until_line until)) }
+{
+    let Some((word, digits)) = parted(line, b' ') else {
+        return Ok(None);
+    };
+    if !are_same(word, UNTIL) {
+        return Ok(None);
+    }
+    let until = time(alloc, digits)?;
+    Ok(until)
+}
+
+/// The act of a line that a log may go on with, and `None` exactly where there is none.
+fn act_of(
+    alloc: Global,
+    problem: &Problem,
+    texts: &[String],
+    log: &Log,
+    line: &[u8],
+) -> Result<Option<Logged>, OutOfMemory>
+    requires texts { map string_bytes texts.now ≡ map (act_text problem.now) (numbers_below (item_count problem.now)) }
+    requires until { log.now.until < 2 ^ 60 }
+    ensures some { IfOk result (λ r. IfSome r (λ act. (line.now ≡ act_line problem.now act) × MayGoOn problem.now log.now act)) }
+    ensures none { IfOk result (λ r. IfNone r ((act : Logged) → MayGoOn problem.now log.now act → line.now ≢ act_line problem.now act)) }
+{
+    let Some((digits, text)) = parted(line, b' ') else {
+        return Ok(None);
+    };
+    let Some(time) = time(alloc, digits)? else {
+        return Ok(None);
+    };
+    if log.until < time {
+        return Ok(None);
+    }
+    let Some(item) = item_named(problem, texts, log, text) else {
+        return Ok(None);
+    };
+    Ok(Some(Logged { time, item }))
+}
+
+/// Adds the act of a line to a log, and answers false exactly where the line is of none that the log may go on with.
+fn go_on(
+    alloc: Global,
+    problem: &Problem,
+    texts: &[String],
+    log: &mut Log,
+    line: &[u8],
+) -> Result<bool, OutOfMemory>
+    requires texts { map string_bytes texts.now ≡ map (act_text problem.now) (numbers_below (item_count problem.now)) }
+    requires until { log.old.until < 2 ^ 60 }
+    ensures more { IfOk result (λ r. OnTrue r (GoesOn problem.now log.old line.now log.new)) }
+    ensures none { IfOk result (λ r. OnFalse r ((act : Logged) → MayGoOn problem.now log.old act → line.now ≢ act_line problem.now act)) }
+{
+    let Some(act) = act_of(alloc, problem, texts, log, line)? else {
+        return Ok(false);
+    };
+    log.acts.push(act)?;
+    Ok(true)
+}
+
+/// Adds the act of the first line of some bytes to a log, and answers the bytes after that line.
+fn read_line<'a>(
+    alloc: Global,
+    problem: &Problem,
+    texts: &[String],
+    log: &mut Log,
+    bytes: &'a [u8],
+) -> Result<&'a [u8], LogFault>
+    requires texts { map string_bytes texts.now ≡ map (act_text problem.now) (numbers_below (item_count problem.now)) }
+    requires until { log.old.until < 2 ^ 60 }
+    requires some { 0 < length bytes.now }
+    ensures more { IfOk result (λ rest. IsLineRead problem.now log.old bytes.now log.new rest.now) }
+    ensures bad { (place : ℕ) → result ≡ Err (LogFault.Bad place) → IsLineStrange problem.now log.old bytes.now place }
+{
+    let place = log.acts.len() as u64 + 1;
+    let (line, rest) = first_line(bytes);
+    if !go_on(alloc, problem, texts, log, line)? {
+        return Err(LogFault::Bad(place));
+    }
+    Ok(rest)
+}
+
+/// The log of the first line, without an act yet, and the bytes after that line.
+fn opened(alloc: Global, bytes: &[u8]) -> Result<(Log, &[u8]), LogFault>
+    ensures log { IfOk result (λ r. IsOpened bytes.now r.0 r.1.now) }
+    ensures bad { (place : ℕ) → result ≡ Err (LogFault.Bad place) → (place ≡ 0) × LackTime (lines bytes.now) }
+{
+    if bytes.is_empty() {
+        return Err(LogFault::Bad(0));
+    }
+    let (line, rest) = first_line(bytes);
+    let Some(until) = until_of(alloc, line)? else {
+        return Err(LogFault::Bad(0));
+    };
+    let acts = Vec::new(alloc);
+    Ok((Log { until, acts }, rest))
+}
+
+/// The log that a file spells. `Bad` comes exactly where some line isn't of its form, names no item, names another node
+/// than the one that starts or sends it, names an item of an earlier line or has a time past that of the first line, and
+/// tells the first such line, counted from 0; a file without a line lacks line 0.
+pub fn read_log(alloc: Global, problem: &Problem, bytes: &[u8]) -> Result<Log, LogFault>
+    ensures log { IfOk result (IsLogOf problem.now bytes.now) }
+    ensures bad { (place : ℕ) → result ≡ Err (LogFault.Bad place) → IsBadLine problem.now (lines bytes.now) place }
+{
+    let _processes = problem.processes();
+    let texts = act_texts(alloc, problem)?;
+    let (mut log, mut rest) = opened(alloc, bytes)?;
+    while !rest.is_empty() {
+        rest = read_line(alloc, problem, texts.as_slice(), &mut log, rest)?;
+    }
+    Ok(log)
+}

@@ -1,7 +1,0 @@
-use Rattle.std.proofs.Common.{◌≡◌, take}
-use Rattle.cpg_base.specs.Graph.{inputs}
-use Rattle.cpg_merge.specs.Keys.{key_over}
-use Rattle.cpg_merge.proofs.keys.key_of.Given as goal
-
-abbrev pub invariant-loop-edge : goal.invariant-loop-edge
-invariant-loop-edge l = l.key ≡ key_over l.problem l.schedules l.keys l.process (take l.edge-index (inputs l.problem l.process))

@@ -1,0 +1,166 @@
+-- What joins do to lists of columns, and what is left of sorted columns when neighbours that touch are made one.
+use Rattle.std.proofs.Common.{ℕ, ◌+◌, ◌<◌, ◌≤◌, ◌≡◌, ◌≢◌, ◌⊎◌, Bool, true, false, cond, ◌==◌, List, [], ◌∷◌, length, map, filter, Contains, All, Equal, arith, refl, sym, ap, ◌∙◌, subst, ⊎_elim, inl, inr, eqb-true}
+use Rattle.std.specs.Ordering.{is_eq}
+use Rattle.std.proofs.lemmas.Bool.{and_parts}
+use Rattle.std.proofs.lemmas.List.Elements.{All-cons, All-head, All-tail}
+use Rattle.cpg_base.specs.Graph.{Graph, process_count, IsVariable}
+use Rattle.cpg_base.proofs.Lists.{Contains-first, Contains-rest, Contains-cases}
+use Rattle.cpg_base.specs.Scenario.{Scenario}
+use Rattle.cpg_cube.specs.declared.literal.Literal.{Literal}
+use Rattle.cpg_cube.specs.Cube.{matches, low_in, high_in}
+use Rattle.cpg_cube.specs.Column.{Column, times_in}
+use Rattle.cpg_merging.specs.Merged.{IsWider}
+use Rattle.cpg_merging.specs.Merging.{without, beside_cmp, is_followed, joined, walked, IsJoinOf, TouchAt}
+use Rattle.cpg_merging.proofs.MergingCubes.{without-low, without-high}
+use Rattle.cpg_merging.proofs.MergingPairs.{IsGood, wider_itself, wider_through, wider_first, wider_second, apart, either, matches_first, matches_second, good_both}
+use Rattle.cpg_merging.proofs.MergingOrder.{beside_equal, equal_from}
+
+-- all columns are good
+abbrev pub AreGood : Graph → List Column → Type 0
+AreGood g columns = All (λ c. IsGood g c.cube) columns
+
+-- ---- lists
+
+module _ (g : Graph) where
+  pub joins_itself : (columns : List Column) → IsJoinOf g columns columns
+  joins_itself columns = record { times = λ s i. refl; held = λ e c. (e, c, refl, wider_itself g.faults e.cube) }
+
+  pub joins_through : (a b c : List Column) → IsJoinOf g a b → IsJoinOf g b c → IsJoinOf g a c
+  joins_through a b c h k = record {
+    times = λ s i. k.times s i ∙ h.times s i;
+    held = λ e m.
+        let x = h.held e m in
+        let y = k.held x.0 x.1 in
+        (y.0, y.1, y.2 ∙ x.2, wider_through g.faults y.0.cube x.0.cube e.cube y.3 x.3);
+  }
+
+  -- one more column before two lists with the same times
+  times_cons : (c : Column) (a b : List Column) (s : Scenario) → times_in a s ≡ times_in b s → times_in (c ∷ a) s ≡ times_in (c ∷ b) s
+  times_cons c a b s e = go (matches c.cube s)
+    where
+      go : (m : Bool) → map (λ (x : Column). x.time) (cond m (c ∷ filter (λ x. matches x.cube s) a) (filter (λ x. matches x.cube s) a)) ≡ map (λ (x : Column). x.time) (cond m (c ∷ filter (λ x. matches x.cube s) b) (filter (λ x. matches x.cube s) b))
+      go true = ap (λ ts. c.time ∷ ts) e
+      go false = e
+
+  pub joins_cons : (c : Column) (a b : List Column) → IsJoinOf g a b → IsJoinOf g (c ∷ a) (c ∷ b)
+  joins_cons c a b h = record {
+    times = λ s i. times_cons c b a s (h.times s i);
+    held = λ e m. ⊎_elim
+        (λ (x : c ≡ e). (c, Contains-first c b, ap (λ (z : Column). z.time) x, subst (λ (z : Column). IsWider g.faults c.cube z.cube) x (wider_itself g.faults c.cube)))
+        (λ (x : Contains a e). let y = h.held e x in (y.0, Contains-rest c b y.0 y.1, y.2, y.3))
+        (Contains-cases c a e m);
+  }
+
+-- ---- one join
+
+-- two columns that one follows the other touch
+pub followed_parts : (k v : ℕ) (c d : Column) → is_followed k v c d ≡ true → (beside_cmp v c d ≡ Equal) × (high_in k c.cube v + 1 ≡ low_in d.cube v)
+followed_parts k v c d h =
+    let r = and_parts (is_eq (beside_cmp v c d)) (high_in k c.cube v + 1 == low_in d.cube v) h in
+    (equal_from (beside_cmp v c d) r.0, eqb-true (high_in k c.cube v + 1) (low_in d.cube v) r.1)
+
+-- columns that tie have the same ranges of other variables
+pub ranges_beside : (k v : ℕ) (a b : List Literal) → without v a ≡ without v b → (u : ℕ) → u ≢ v → (low_in a u ≡ low_in b u) × (high_in k a u ≡ high_in k b u)
+ranges_beside k v a b e u n = (
+  sym (without-low v a u n) ∙ ap (λ ls. low_in ls u) e ∙ without-low v b u n,
+  sym (without-high v k a u n) ∙ ap (λ ls. high_in k ls u) e ∙ without-high v k b u n,
+)
+
+pub touch_of : (k v : ℕ) (c d : Column) → is_followed k v c d ≡ true → TouchAt k v c.cube d.cube
+touch_of k v c d h =
+    let r = followed_parts k v c d h in
+    record { others = ranges_beside k v c.cube d.cube (beside_equal v c d r.0).1; next = r.1 }
+
+pub time_of : (k v : ℕ) (c d : Column) → is_followed k v c d ≡ true → c.time ≡ d.time
+time_of k v c d h = (beside_equal v c d (followed_parts k v c d h).0).0
+
+-- of two that never match together one stands for what matches either
+times_of_one : (t : ℕ) (rest : List ℕ) (a b m : Bool) → (a ≡ true → b ≡ true → ⊥) → (m ≡ true → (a ≡ true) ⊎ (b ≡ true)) → (a ≡ true → m ≡ true) → (b ≡ true → m ≡ true) →
+    cond m (t ∷ rest) rest ≡ cond a (t ∷ cond b (t ∷ rest) rest) (cond b (t ∷ rest) rest)
+times_of_one t rest true true m n e x y = absurd (n refl refl)
+times_of_one t rest true false m n e x y = ap (λ z. cond z (t ∷ rest) rest) (x refl)
+times_of_one t rest false true m n e x y = ap (λ z. cond z (t ∷ rest) rest) (y refl)
+times_of_one t rest false false true n e x y = ⊎_elim (λ (h : false ≡ true). cc) (λ (h : false ≡ true). cc) (e refl)
+times_of_one t rest false false false n e x y = refl
+
+pub times_first : (c : Column) (ds : List Column) (s : Scenario) → times_in (c ∷ ds) s ≡ cond (matches c.cube s) (c.time ∷ times_in ds s) (times_in ds s)
+times_first c ds s = go (matches c.cube s)
+  where
+    go : (m : Bool) → map (λ (x : Column). x.time) (cond m (c ∷ filter (λ x. matches x.cube s) ds) (filter (λ x. matches x.cube s) ds)) ≡ cond m (c.time ∷ times_in ds s) (times_in ds s)
+    go true = refl
+    go false = refl
+
+module _ (g : Graph) (few : process_count g ≤ 128) (v : ℕ) (known : IsVariable g v) where
+  module _ (c d : Column) (good_c : IsGood g c.cube) (good_d : IsGood g d.cube) (h : is_followed g.faults v c d ≡ true) where
+    touch : TouchAt g.faults v c.cube d.cube
+    touch = touch_of g.faults v c d h
+
+    pub good_joined : IsGood g (joined g.faults v c d).cube
+    good_joined = good_both g few v c.cube d.cube good_c good_d touch
+
+    pub joins_two : (ds : List Column) → IsJoinOf g (c ∷ d ∷ ds) (joined g.faults v c d ∷ ds)
+    joins_two ds = record {
+      times = λ s i.
+          times_first (joined g.faults v c d) ds s
+          ∙ times_of_one c.time (times_in ds s) (matches c.cube s) (matches d.cube s) (matches (joined g.faults v c d).cube s)
+          (apart g few v c.cube d.cube good_c good_d touch s i known) (either g few v c.cube d.cube good_c good_d touch s i known)
+          (matches_first g few v c.cube d.cube good_c good_d touch s i) (matches_second g few v c.cube d.cube good_c good_d touch s i)
+          ∙ ap (λ t. cond (matches c.cube s) (c.time ∷ cond (matches d.cube s) (t ∷ times_in ds s) (times_in ds s)) (cond (matches d.cube s) (t ∷ times_in ds s) (times_in ds s))) (time_of g.faults v c d h)
+          ∙ ap (λ ts. cond (matches c.cube s) (c.time ∷ ts) ts) (sym (times_first d ds s))
+          ∙ sym (times_first c (d ∷ ds) s);
+      held = λ e m. ⊎_elim
+          (λ (x : c ≡ e). (
+            joined g.faults v c d,
+            Contains-first (joined g.faults v c d) ds,
+            ap (λ (z : Column). z.time) x,
+            subst (λ (z : Column). IsWider g.faults (joined g.faults v c d).cube z.cube) x (wider_first g few v c.cube d.cube good_c good_d touch),
+          ))
+          (λ (n : Contains (d ∷ ds) e). ⊎_elim
+          (λ (x : d ≡ e). (
+            joined g.faults v c d,
+            Contains-first (joined g.faults v c d) ds,
+            time_of g.faults v c d h ∙ ap (λ (z : Column). z.time) x,
+            subst (λ (z : Column). IsWider g.faults (joined g.faults v c d).cube z.cube) x (wider_second g few v c.cube d.cube good_c good_d touch),
+          ))
+          (λ (x : Contains ds e). (e, Contains-rest (joined g.faults v c d) ds e x, refl, wider_itself g.faults e.cube))
+          (Contains-cases d ds e n))
+          (Contains-cases c (d ∷ ds) e m);
+    }
+
+  -- ---- all joins of sorted columns
+
+  -- what a walk over columns gives
+  pub record Walked (before after : List Column) : Type 0 where
+    pub joins : IsJoinOf g before after
+    pub good : AreGood g after
+    pub fewer : (length after < length before) ⊎ (after ≡ before)
+
+  pub walk : (c : Column) (ds : List Column) → AreGood g (c ∷ ds) → Walked (c ∷ ds) (walked g.faults v c ds)
+  walk c [] a = record { joins = joins_itself g (c ∷ []); good = a; fewer = inr refl }
+  walk c (d ∷ ds) a = go (is_followed g.faults v c d) refl
+      (λ good. walk (joined g.faults v c d) ds (All-cons (λ (x : Column). IsGood g x.cube) (joined g.faults v c d) ds good (All-tail (λ (x : Column). IsGood g x.cube) d ds (All-tail (λ (x : Column). IsGood g x.cube) c (d ∷ ds) a))))
+      (walk d ds (All-tail (λ (x : Column). IsGood g x.cube) c (d ∷ ds) a))
+    where
+      good_c : IsGood g c.cube
+      good_c = All-head (λ (x : Column). IsGood g x.cube) c (d ∷ ds) a
+
+      good_d : IsGood g d.cube
+      good_d = All-head (λ (x : Column). IsGood g x.cube) d ds (All-tail (λ (x : Column). IsGood g x.cube) c (d ∷ ds) a)
+
+      go : (b : Bool) → is_followed g.faults v c d ≡ b → (IsGood g (joined g.faults v c d).cube → Walked (joined g.faults v c d ∷ ds) (walked g.faults v (joined g.faults v c d) ds)) → Walked (d ∷ ds) (walked g.faults v d ds) →
+          Walked (c ∷ d ∷ ds) (cond b (walked g.faults v (joined g.faults v c d) ds) (c ∷ walked g.faults v d ds))
+      go true e ih_joined ih =
+          let w = ih_joined (good_joined c d good_c good_d e) in
+          record {
+            joins = joins_through g (c ∷ d ∷ ds) (joined g.faults v c d ∷ ds) (walked g.faults v (joined g.faults v c d) ds) (joins_two c d good_c good_d e ds) w.joins;
+            good = w.good;
+            fewer = inl (⊎_elim
+                (λ (l : length (walked g.faults v (joined g.faults v c d) ds) < length (joined g.faults v c d ∷ ds)). omega arith)
+                (λ (f : walked g.faults v (joined g.faults v c d) ds ≡ joined g.faults v c d ∷ ds). let n = ap length f in omega arith)
+                w.fewer);
+          }
+      go false e ih_joined ih = record {
+        joins = joins_cons g c (d ∷ ds) (walked g.faults v d ds) ih.joins;
+        good = All-cons (λ (x : Column). IsGood g x.cube) c (walked g.faults v d ds) good_c ih.good;
+        fewer = ⊎_elim (λ (l : length (walked g.faults v d ds) < length (d ∷ ds)). inl (omega arith)) (λ (f : walked g.faults v d ds ≡ d ∷ ds). inr (ap (λ xs. c ∷ xs) f)) ih.fewer;
+      }

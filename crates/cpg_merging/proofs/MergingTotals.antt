@@ -1,0 +1,160 @@
+-- Columns of which no sum is that of another changed at a literal don't touch.
+use Rattle.std.proofs.Common.{ℕ, ◌+◌, ◌-◌, ◌%◌, ◌^◌, ◌<◌, ◌≤◌, ◌≡◌, ◌≢◌, ◌⊎◌, ◌==◌, Bool, true, false, not, List, [], ◌∷◌, length, take, get_or, map, sum_by, Contains, IsPermutation, arith, refl, sym, ap, ap₂, ◌∙◌, subst, inl, inr, eq-eqb, ne_eqb, true≢false}
+use Rattle.std.specs.Prelude.{slice_set}
+use Rattle.std.specs.Bool.{OnFalse}
+use Rattle.std.proofs.lemmas.Bool.{cases_eq, cond-true, cond-false}
+use Rattle.std.proofs.lemmas.List.Elements.{All-contains, Contains-push_cases}
+use Rattle.std.proofs.lemmas.List.{take_more, take_all, get_or-map, get_or-set_other, get_or-set_same}
+use Rattle.std.proofs.lemmas.List.Sorted.{Contains-permutation, IsPermutation-sym}
+use Rattle.std.proofs.lemmas.List.Sums.{sum_by-cons}
+use Rattle.cpg_base.specs.Graph.{Graph, process_count, IsVariable}
+use Rattle.cpg_base.proofs.Lists.{Contains-first, Contains-rest, Contains-cases, Contains-nil, Contains-map, Contains-map_parts}
+use Rattle.cpg_cube.specs.declared.literal.Literal.{Literal}
+use Rattle.cpg_cube.specs.Cube.{IsRising, low_in, high_in}
+use Rattle.cpg_base.specs.Variable.{top}
+use Rattle.cpg_cube.proofs.Ranges.{rising_rest, rising_first}
+use Rattle.cpg_cube.specs.Column.{Column}
+use Rattle.cpg_merging.specs.Merging.{without, TouchAt, IsSettledOn}
+use Rattle.cpg_merging.specs.Totals.{mixed, hash_of, total_of, ended, HasNoPartner, IsMarked, AreMarkedBy, AreMarked}
+use Rattle.cpg_merging.proofs.MergingPairs.{IsGood, low-le-high, high_in-top}
+use Rattle.cpg_merging.proofs.MergingLists.{AreGood}
+use Rattle.cpg_merging.proofs.MergingSettled.{same_without}
+
+-- the literal that a cube's range of a variable comes of
+abbrev of_range : ℕ → List Literal → ℕ → Literal
+of_range k cube v = record { variable = v; low = low_in cube v; high = high_in k cube v }
+
+range_here : (k : ℕ) (l : Literal) (ls : List Literal) (v : ℕ) → l.variable ≡ v → l ≡ of_range k (l ∷ ls) v
+range_here k l ls v e = subst (λ w. l ≡ of_range k (l ∷ ls) w) e
+    (ap₂ (λ low high. record { variable = l.variable; low = low; high = high }) (sym (cond-true (l.variable == l.variable) l.low (low_in ls l.variable) (eq-eqb _ _ refl))) (sym (cond-true (l.variable == l.variable) l.high (high_in k ls l.variable) (eq-eqb _ _ refl))))
+
+range_later : (k : ℕ) (l : Literal) (ls : List Literal) (v : ℕ) → l.variable ≢ v → of_range k ls v ≡ of_range k (l ∷ ls) v
+range_later k l ls v n = ap₂ (λ low high. record { variable = v; low = low; high = high }) (sym (cond-false (l.variable == v) l.low (low_in ls v) (ne_eqb _ _ n))) (sym (cond-false (l.variable == v) l.high (high_in k ls v) (ne_eqb _ _ n)))
+
+-- a range that isn't the whole one is a literal's
+spoken : (k : ℕ) (cube : List Literal) (v : ℕ) → (0 < low_in cube v) ⊎ (high_in k cube v < top k v) → Contains cube (of_range k cube v)
+spoken k [] v (inl h) = absurd (omega (arith, h))
+spoken k [] v (inr h) = absurd (omega (arith, h))
+spoken k (l ∷ ls) v h = elim (cases_eq l.variable v) [
+  | inl e ↦ subst (Contains (l ∷ ls)) (range_here k l ls v e) (Contains-first l ls)
+  | inr n ↦ subst (Contains (l ∷ ls)) (range_later k l ls v n) (Contains-rest l ls (of_range k ls v) (spoken k ls v (later n h)))
+]
+  where
+    later : l.variable ≢ v → (0 < low_in (l ∷ ls) v) ⊎ (high_in k (l ∷ ls) v < top k v) → (0 < low_in ls v) ⊎ (high_in k ls v < top k v)
+    later n (inl h) = inl (subst (λ w. 0 < w) (cond-false (l.variable == v) l.low (low_in ls v) (ne_eqb _ _ n)) h)
+    later n (inr h) = inr (subst (λ w. w < top k v) (cond-false (l.variable == v) l.high (high_in k ls v) (ne_eqb _ _ n)) h)
+
+-- ---- the sum over a cube is that over the other literals and the one on the variable
+
+without_same : (v : ℕ) (l : Literal) (ls : List Literal) → l.variable ≡ v → without v (l ∷ ls) ≡ without v ls
+without_same v l ls e = cond-false (not (l.variable == v)) (l ∷ without v ls) (without v ls) (ap not (eq-eqb _ _ e))
+
+without_other : (v : ℕ) (l : Literal) (ls : List Literal) → l.variable ≢ v → without v (l ∷ ls) ≡ l ∷ without v ls
+without_other v l ls n = cond-true (not (l.variable == v)) (l ∷ without v ls) (without v ls) (ap not (ne_eqb _ _ n))
+
+without_none : (v : ℕ) (ls : List Literal) → ((m : Literal) → Contains ls m → m.variable ≢ v) → without v ls ≡ ls
+without_none v [] h = refl
+without_none v (l ∷ ls) h = without_other v l ls (h l (Contains-first l ls)) ∙ ap (λ ms. l ∷ ms) (without_none v ls (λ m c. h m (Contains-rest l ls m c)))
+
+sum_parts : (f : Literal → ℕ) (v : ℕ) (cube : List Literal) → IsRising cube → (l : Literal) → Contains cube l → l.variable ≡ v → sum_by f cube ≡ sum_by f (without v cube) + f l
+sum_parts f v [] rising l c e = absurd (Contains-nil l c)
+sum_parts f v (m ∷ ms) rising l c e = elim (Contains-cases m ms l c) [
+  | inl s ↦ omega (
+    arith,
+    sum_by-cons f m ms,
+    ap (sum_by f) (without_same v m ms (ap (λ (x : Literal). x.variable) s ∙ e)),
+    ap (sum_by f) (without_none v ms (λ n d h. absurd (omega (arith, rising_first m n ms rising d, h, e, ap (λ (x : Literal). x.variable) s)))),
+    ap f s,
+  )
+  | inr d ↦ omega (
+    arith,
+    sum_by-cons f m ms,
+    sum_by-cons f m (without v ms),
+    ap (sum_by f) (without_other v m ms (λ h. absurd (omega (arith, rising_first m l ms rising d, h, e)))),
+    sum_parts f v ms (rising_rest m ms rising) l d e,
+  )
+]
+
+-- ---- so sums of columns that touch differ in one literal
+
+mod_shift : (x r h i : ℕ) → (x + h) % 2 ^ 64 ≡ (r + h) % 2 ^ 64 → (x + i) % 2 ^ 64 ≡ (r + i) % 2 ^ 64
+mod_shift x r h i e = omega (arith, e)
+
+module _ (g : Graph) (few : process_count g ≤ 128) (v : ℕ) (known : IsVariable g v) where
+  touch_partner : (c d : Column) → IsGood g c.cube → IsGood g d.cube → c.time ≡ d.time → TouchAt g.faults v c.cube d.cube → (totals : List ℕ) → Contains totals (total_of c) → ((l : Literal) → Contains d.cube l → l.variable ≡ v → HasNoPartner totals (total_of d) l) → ⊥
+  touch_partner c d good_c good_d same touch totals there none =
+      let k = g.faults in
+      let next : high_in k c.cube v + 1 ≡ low_in d.cube v = touch.next in
+      let low_c = low-le-high k c.cube good_c.met v in
+      let low_d = low-le-high k d.cube good_d.met v in
+      let high_d = high_in-top k d.cube (λ i e l. (good_d.narrow i e l).1) v in
+      let lc : Contains c.cube (of_range k c.cube v) = spoken k c.cube v (inr (omega (arith, next, low_d, high_d))) in
+      let ld : Contains d.cube (of_range k d.cube v) = spoken k d.cube v (inl (omega (arith, next))) in
+      let rest : ℕ = mixed 0 d.time + sum_by hash_of (without v d.cube) in
+      let sum_c : mixed 0 c.time + sum_by hash_of c.cube ≡ rest + hash_of (of_range k c.cube v) =
+      add_parts (mixed 0 c.time) (sum_by hash_of c.cube) (mixed 0 d.time) (sum_by hash_of (without v d.cube)) (hash_of (of_range k c.cube v)) (ap (mixed 0) same)
+      (sum_parts hash_of v c.cube good_c.cube.rising (of_range k c.cube v) lc refl ∙ ap (λ ls. sum_by hash_of ls + hash_of (of_range k c.cube v)) (same_without g few v known c.cube d.cube good_c good_d touch.others)) in
+      let sum_d : mixed 0 d.time + sum_by hash_of d.cube ≡ rest + hash_of (of_range k d.cube v) =
+      add_parts (mixed 0 d.time) (sum_by hash_of d.cube) (mixed 0 d.time) (sum_by hash_of (without v d.cube)) (hash_of (of_range k d.cube v)) refl
+      (sum_parts hash_of v d.cube good_d.cube.rising (of_range k d.cube v) ld refl) in
+      let high : high_in k c.cube v ≡ low_in d.cube v - 1 = omega (arith, next) in
+      let end : of_range k c.cube v ≡ ended (of_range k d.cube v) (low_in c.cube v) = ap (λ (n : ℕ). record { variable = v; low = low_in c.cube v; high = n }) high in
+      none (of_range k d.cube v) ld refl (low_in c.cube v) rest (omega (arith, low_c, next)) (ap (λ n. n % 2 ^ 64) (sym sum_d))
+      (subst (Contains totals) (ap (λ n. n % 2 ^ 64) sum_c ∙ ap (λ (l : Literal). (rest + hash_of l) % 2 ^ 64) end) there)
+    where
+      add_parts : (s t r w h : ℕ) → s ≡ r → t ≡ w + h → s + t ≡ r + w + h
+      add_parts s t r w h e f = omega (arith, e, f)
+
+  -- so columns don't touch at a variable that isn't marked
+  pub settled_unmarked : (xs : List Column) → AreGood g xs → (marks : List Bool) → AreMarked marks xs → ¬ IsMarked marks v → IsSettledOn g.faults v xs
+  settled_unmarked xs good marks all off c d m n e t = touch_partner c d (All-contains (λ (x : Column). IsGood g x.cube) xs c good m) (All-contains (λ (x : Column). IsGood g x.cube) xs d good n) e t
+      (map total_of xs) (Contains-map total_of xs c m) (λ l j i. all d l n j (λ on. off (subst (IsMarked marks) i on)))
+
+-- marks by the sums are marks by the same sums sorted
+pub marked_sorted : (columns : List Column) (marks : List Bool) (sorted : List ℕ) → IsPermutation (map total_of columns) sorted → AreMarkedBy sorted marks columns → AreMarked marks columns
+marked_sorted columns marks sorted p h = λ d l m n off low rest less is there. h d l m n off low rest less is (Contains-permutation (map total_of columns) sorted _ p there)
+
+-- and columns have the marks that they have in another order
+pub marked_permuted : (xs ys : List Column) (marks : List Bool) → IsPermutation xs ys → AreMarked marks xs → AreMarked marks ys
+marked_permuted xs ys marks p h = λ d l m n off low rest less is there.
+    let r = Contains-map_parts total_of ys ((rest + hash_of (ended l low)) % 2 ^ 64) there in
+    let back = IsPermutation-sym xs ys p in
+    h d l (Contains-permutation ys xs d back m) n off low rest less is (subst (Contains (map total_of xs)) r.2 (Contains-map total_of xs r.0 (Contains-permutation ys xs r.0 back r.1)))
+
+-- what is taken from a sum leaves one rest, up to whole rounds
+pub one_rest : (x r h i : ℕ) → (x + h) % 2 ^ 64 ≡ (r + h) % 2 ^ 64 → (x + i) % 2 ^ 64 ≡ (r + i) % 2 ^ 64
+one_rest x r h i e = mod_shift x r h i e
+
+-- what a test that failed tells
+pub from_off : {P : Type 0} (b : Bool) → b ≡ false → OnFalse b P → P
+from_off true e h = cc
+from_off false e h = h
+
+-- what holds of the elements before a place and of the one there holds of those before the next
+pub all_more : {X : Type 0} (P : X → Type 0) (xs : List X) (i : ℕ) (d : X) → i < length xs → ((m : X) → Contains (take i xs) m → P m) → P (get_or xs i d) → (m : X) → Contains (take (i + 1) xs) m → P m
+all_more P xs i d within before here m c = elim (Contains-push_cases (take i xs) (get_or xs i d) m (subst (λ ys. Contains ys m) (take_more xs i d within) c)) [
+  | inl o ↦ before m o
+  | inr e ↦ subst P e here
+]
+
+-- and of those before the end of all
+pub all_of : {X : Type 0} (P : X → Type 0) (xs : List X) (i : ℕ) → length xs ≤ i → ((m : X) → Contains (take i xs) m → P m) → (m : X) → Contains xs m → P m
+all_of P xs i long before m c = before m (subst (λ ys. Contains ys m) (sym (take_all i xs long)) c)
+
+-- ---- marks of variables
+
+-- a mark set where there was none leaves the others
+pub mark_kept : (marks : List Bool) (place : ℕ) (b : Bool) → get_or marks place false ≡ false → (v : ℕ) → IsMarked marks v → IsMarked (slice_set marks place b) v
+mark_kept marks place b off v on = elim (cases_eq v place) [
+  | inl e ↦ absurd (true≢false (sym on ∙ ap (λ (p : ℕ). get_or marks p false) e ∙ off))
+  | inr n ↦ get_or-set_other marks place v b false n ∙ on
+]
+
+-- what isn't marked then was set so
+pub mark_off : (marks : List Bool) (place : ℕ) (b : Bool) → place < length marks → ¬ IsMarked (slice_set marks place b) place → b ≡ false
+mark_off marks place true within off = absurd (off (get_or-set_same marks place true false within))
+mark_off marks place false within off = refl
+
+-- the sum at a place is that of the column there
+pub total_at : (columns : List Column) (totals : List ℕ) (place : ℕ) (d : Column) (n : ℕ) → totals ≡ map total_of columns → place < length columns → get_or columns place d ≡ d → get_or totals place n ≡ total_of d
+total_at columns totals place d n e within is = ap (λ (ns : List ℕ). get_or ns place n) e ∙ get_or-map total_of columns place d n within ∙ ap total_of is

@@ -1,0 +1,6 @@
+use Rattle.std.proofs.Common.{subst}
+use Rattle.cpg_merging.specs.Totals.{AreMarked}
+use Rattle.cpg_merging.proofs.marks.Marked.of.Goals as goal
+
+pub returns-clause-marks : goal.returns-clause-marks
+returns-clause-marks c = subst (AreMarked c.in_ok-marks.marks) c.as_slice.ensures.value c.in_ok-marks.ensures

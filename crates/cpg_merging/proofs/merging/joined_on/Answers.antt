@@ -1,0 +1,23 @@
+use Rattle.std.proofs.Common.{◌≡◌, sym, subst, rules}
+use Rattle.std.specs.Ordering.{is_lt}
+use Rattle.std.specs.List.Sorted.{IsSortedBy}
+use Rattle.std.proofs.lemmas.Fn.{always_returns_same}
+use Rattle.std.proofs.lemmas.List.Sorted.{ranks_by}
+use Rattle.std.proofs.lemmas.Result.{IfOk-weaker}
+use Rattle.cpg_cube.specs.Column.{Column}
+use Rattle.cpg_merging.specs.Merging.{column_cmp, walked_over, IsPassed}
+use Rattle.cpg_merging.proofs.MergingOrder.{column_total}
+use Rattle.cpg_merging.proofs.MergingSteps.{passed_on}
+use Rattle.cpg_merging.proofs.merging.joined_on.Goals as goal
+
+pub returns : goal.returns
+returns c =
+    let g = c.args.problem.now in
+    let v = c.args.variable in
+    let columns = c.args.columns.items in
+    let sorted = c.sort_by.new.self.items in
+    let up : IsSortedBy (λ (x y : Column). is_lt (column_cmp v x y)) sorted =
+    c.in_ok-sort_by.ensures.sorted (λ (x y : Column). is_lt (column_cmp v x y)) (ranks_by (column_total v) (λ (x : Column). x)) (always_returns_same _ _ _ (λ a r f k. search rules)) in
+    IfOk-weaker _ (λ r. r.items ≡ walked_over g.faults v sorted) (λ r. IsPassed g (λ u. u ≡ v) columns r.items)
+    (λ r e. subst (IsPassed g (λ u. u ≡ v) columns) (sym e) (passed_on g c.faults-k.ensures.within.few_processes v c.requires.known columns sorted c.requires.shorn c.sort_by.ensures.permutation up))
+    (search rules)

@@ -1,0 +1,31 @@
+use Rattle.std.proofs.Common.{IsPermutation, Result, Ok, Err, sym, ap, ◌∙◌, subst}
+use Rattle.std.specs.Result.{IfOk}
+use Rattle.cpg_cube.specs.Keys.{AreByLows}
+use Rattle.cpg_cube.specs.Column.{Column}
+use Rattle.cpg_merging.specs.Merged.{IsMergeOf}
+use Rattle.cpg_merging.specs.Merging.{IsShorn, AreSettled, all_shorn}
+use Rattle.cpg_merging.proofs.MergingSteps.{shorn_columns}
+use Rattle.cpg_merging.proofs.MergingEnds.{merge_of}
+use Rattle.cpg_merging.proofs.merging.merged.Goals as goal
+
+if_ok_both : {T E : Type 0} (r : Result T E) (P Q R : T → Type 0) → ((x : T) → P x → Q x → R x) → IfOk r P → IfOk r Q → IfOk r R
+if_ok_both (Ok x) P Q R h p q = h x p q
+if_ok_both (Err e) P Q R h p q = tt
+
+pub settled-requires : goal.settled-requires
+settled-requires c =
+    let g = c.args.problem.now in
+    subst (IsShorn g) (sym (c.in_ok-columns.ensures ∙ ap (λ k. all_shorn k c.args.entries.items) c.faults.ensures.faults))
+    (shorn_columns g c.faults.ensures.within.few_processes c.args.entries.items c.requires.entries)
+
+pub returns : goal.returns
+returns c =
+    let g = c.args.problem.now in
+    let order = c.args.order.now in
+    let entries = c.args.entries.items in
+    let columns = c.in_ok-columns-2.columns.items in
+    let settled : AreSettled g (all_shorn g.faults entries) columns =
+    subst (λ before. AreSettled g before columns) (c.in_ok-columns.ensures ∙ ap (λ k. all_shorn k c.args.entries.items) c.faults.ensures.faults) c.in_ok-columns-2.ensures in
+    if_ok_both c.by_least_scenario.result (λ r. IsPermutation columns r.items) (λ r. AreByLows (λ (e : Column). e.cube) g order r.items) (λ r. IsMergeOf g order entries r.items)
+    (λ r p up. merge_of g c.faults.ensures.within.few_processes order c.requires.order entries columns r.items c.requires.entries settled p up)
+    c.by_least_scenario.ensures.permutation c.by_least_scenario.ensures.by_lows

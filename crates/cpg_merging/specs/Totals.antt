@@ -1,0 +1,47 @@
+-- Numbers of columns, each a sum over its literals, by which it is found whether any two of a row touch: where two do, the later one's sum with one literal changed is the sum of the other.
+use Rattle.std.specs.Prelude.{ℕ, ◌+◌, ◌-◌, ◌*◌, ◌/◌, ◌^◌, ◌%◌, ◌<◌, ◌≤◌, ◌≡◌, Bool, true, false, List, length, get_or, map, sum_by, Contains}
+use Rattle.cpg_cube.specs.declared.literal.Literal.{Literal}
+use Rattle.cpg_cube.specs.Column.{Column}
+
+-- a sum with one number more, spread
+abbrev pub mixed : ℕ → ℕ → ℕ
+mixed sum number = (sum + number) % 2 ^ 64 * 6364136223846793005 % 2 ^ 64
+
+-- a number for a literal, another for each
+abbrev pub number_of : Literal → ℕ
+number_of l = l.variable * 65536 + l.low * 256 + l.high
+
+-- a number for a literal's number, with no line through several: the spread one by its upper half
+abbrev pub spread : ℕ → ℕ
+spread n = mixed 1 n * (mixed 1 n / 4294967296) % 2 ^ 64
+
+abbrev pub hash_of : Literal → ℕ
+hash_of l = spread (number_of l)
+
+-- the sum of a column's time and literals
+abbrev pub total_of : Column → ℕ
+total_of c = (mixed 0 c.time + sum_by hash_of c.cube) % 2 ^ 64
+
+-- a literal that ends where another begins
+abbrev pub ended : Literal → ℕ → Literal
+ended l low = record { variable = l.variable; low = low; high = l.low - 1 }
+
+-- none of the sums is that of a column with the literal changed so
+abbrev pub HasNoPartner : List ℕ → ℕ → Literal → Type 0
+HasNoPartner totals total l = (low rest : ℕ) → low < l.low → (rest + hash_of l) % 2 ^ 64 ≡ total → Contains totals ((rest + hash_of (ended l low)) % 2 ^ 64) → ⊥
+
+-- whether a number is marked
+abbrev pub IsMarked : List Bool → ℕ → Type 0
+IsMarked marks v = get_or marks v false ≡ true
+
+-- nor of any column with a literal changed that is on a variable which isn't marked
+abbrev pub AreMarkedBy : List ℕ → List Bool → List Column → Type 0
+AreMarkedBy totals marks columns = (d : Column) (l : Literal) → Contains columns d → Contains d.cube l → ¬ IsMarked marks l.variable → HasNoPartner totals (total_of d) l
+
+-- nor of any among the columns themselves
+abbrev pub AreMarked : List Bool → List Column → Type 0
+AreMarked marks columns = AreMarkedBy (map total_of columns) marks columns
+
+-- numbers that don't fall
+abbrev pub DoNotFall : List ℕ → Type 0
+DoNotFall ns = (i j : ℕ) → i ≤ j → j < length ns → get_or ns i 0 ≤ get_or ns j 0

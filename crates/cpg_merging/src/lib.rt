@@ -1,0 +1,9 @@
+//! Rows of columns that are as few as can be.
+#![tactic(auto)]
+
+mod joins;
+mod marks;
+mod merging;
+mod totals;
+
+pub use merging::merged;

@@ -1,0 +1,128 @@
+//! Rows with as few columns as can be.
+ghost use Rattle.std.specs.Prelude.{ℕ, ◌≡◌, ◌<◌, ◌≤◌, IfOk, IsPermutation};
+ghost use Rattle.cpg_base.specs.Numbers.{numbers_below};
+ghost use Rattle.cpg_base.specs.Graph.{IsVariable, process_count};
+ghost use Rattle.cpg_merging.specs.Merged.{AreMergeable, IsMergeOf};
+ghost use Rattle.cpg_merging.specs.Merging.{IsShorn, IsPassed, IsBetween, AreSettled};
+ghost use Rattle.cpg_merging.specs.Totals.{AreMarked};
+
+use crate::joins::{compare, joined_columns, shorn_columns};
+use crate::marks::Marked;
+use cpg_base::{FIRST_VALUE, Order, OutOfMemory, Problem};
+use cpg_cube::{Entry, by_least_scenario};
+use std::alloc::Global;
+
+/// Joins columns where they touch at a variable.
+fn joined_on(
+    alloc: Global,
+    problem: &Problem,
+    variable: u8,
+    columns: Vec<Entry>,
+) -> Result<Vec<Entry>, OutOfMemory>
+    requires shorn { IsShorn problem.now columns.items }
+    requires known { IsVariable problem.now variable }
+    ensures { IfOk result (λ r. IsPassed problem.now (λ v. v ≡ variable) columns.items r.items) }
+{
+    let k = problem.faults();
+    // most columns stand in runs that are sorted already, of which the stable sort makes use
+    let mut columns = columns;
+    columns.sort_by(|a, b| compare(variable, a, b))?;
+    joined_columns(alloc, k, variable, columns)
+}
+
+/// Joins columns where they touch at a variable, if it is marked.
+fn joined_at(
+    alloc: Global,
+    problem: &Problem,
+    variable: u8,
+    marked: Marked,
+) -> Result<Marked, OutOfMemory>
+    requires shorn { IsShorn problem.now marked.columns.items }
+    requires marked { AreMarked marked.marks marked.columns.items }
+    requires known { IsVariable problem.now variable }
+    ensures passed { IfOk result (λ r. IsPassed problem.now (λ v. v ≡ variable) marked.columns.items r.columns.items) }
+    ensures marked { IfOk result (λ r. AreMarked r.marks r.columns.items) }
+{
+    let _processes = problem.processes();
+    if !marked.marks[variable as usize] {
+        return Ok(marked);
+    }
+    let marks = marked.marks;
+    let before = marked.columns.len();
+    let columns = joined_on(alloc, problem, variable, marked.columns)?;
+    if columns.len() == before {
+        return Ok(Marked { columns, marks });
+    }
+    Marked::of(alloc, columns)
+}
+
+/// Joins columns where they touch at one of the variables from `first` up to `end`, which it leaves out.
+fn joined_over(
+    alloc: Global,
+    problem: &Problem,
+    first: u8,
+    end: u8,
+    marked: Marked,
+) -> Result<Marked, OutOfMemory>
+    requires shorn { IsShorn problem.now marked.columns.items }
+    requires marked { AreMarked marked.marks marked.columns.items }
+    requires known { (v : ℕ) → first ≤ v → v < end → IsVariable problem.now v }
+    ensures passed { IfOk result (λ r. IsPassed problem.now (IsBetween first end) marked.columns.items r.columns.items) }
+    ensures marked { IfOk result (λ r. AreMarked r.marks r.columns.items) }
+{
+    let mut marked = marked;
+    for variable in first..end {
+        marked = joined_at(alloc, problem, variable, marked)?;
+    }
+    Ok(marked)
+}
+
+/// Joins columns where they touch at any variable.
+fn joined_once(alloc: Global, problem: &Problem, marked: Marked) -> Result<Marked, OutOfMemory>
+    requires shorn { IsShorn problem.now marked.columns.items }
+    requires marked { AreMarked marked.marks marked.columns.items }
+    ensures passed { IfOk result (λ r. IsPassed problem.now (IsVariable problem.now) marked.columns.items r.columns.items) }
+    ensures marked { IfOk result (λ r. AreMarked r.marks r.columns.items) }
+{
+    let processes = problem.processes().len() as u8;
+    let marked = joined_over(alloc, problem, 0, processes, marked)?;
+    let end = FIRST_VALUE + problem.conditions() as u8;
+    joined_over(alloc, problem, FIRST_VALUE, end, marked)
+}
+
+/// Joins columns until no two of one time touch at any variable.
+fn settled(alloc: Global, problem: &Problem, columns: Vec<Entry>) -> Result<Vec<Entry>, OutOfMemory>
+    requires { IsShorn problem.now columns.items }
+    ensures { IfOk result (λ r. AreSettled problem.now columns.items r.items) }
+{
+    let mut marked = Marked::of(alloc, columns)?;
+    loop {
+        let before = marked.columns.len();
+        marked = joined_once(alloc, problem, marked)?;
+        if marked.columns.len() == before {
+            return Ok(marked.columns);
+        }
+    }
+}
+
+/// The columns of a row that have the times of the entries in every scenario of at most as many faults as the problem
+/// has, and are as few as can be: no two of them have one time, equal ranges of all variables but one, and ranges of that
+/// one which touch. Each column's ranges contain those of the entries that match together with it. No literal has the
+/// whole range of its variable, and the columns stand by the least scenario that they match along the order.
+///
+/// Each entry must match some scenario, and no scenario two of them; their literals must be on variables of the problem
+/// and within their ranges. The one error is want of memory.
+pub fn merged(
+    alloc: Global,
+    problem: &Problem,
+    order: &Order,
+    entries: Vec<Entry>,
+) -> Result<Vec<Entry>, OutOfMemory>
+    requires order { IsPermutation (numbers_below (process_count problem.now)) order.now }
+    requires entries { AreMergeable problem.now entries.items }
+    ensures { IfOk result (λ r. IsMergeOf problem.now order.now entries.items r.items) }
+{
+    let columns = shorn_columns(alloc, problem.faults(), entries)?;
+    let columns = settled(alloc, problem, columns)?;
+    by_least_scenario(alloc, problem, order, columns)
+}

@@ -1,5 +1,0 @@
-use Rattle.cpg_order.proofs.Standing.{AreWritten}
-use Rattle.cpg_order.proofs.order.places_of.Given as goal
-
-abbrev pub invariant-loop-i : goal.invariant-loop-i
-invariant-loop-i l = AreWritten l.processes.items l.places.items l.i

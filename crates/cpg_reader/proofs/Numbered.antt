@@ -1,0 +1,125 @@
+-- The names of a written document stand for the numbers that they were written for.
+use Rattle.std.proofs.Common.{◌≡◌, ◌≢◌, ℕ, ◌+◌, ◌<◌, Bool, false, List, [], ◌∷◌, ◌++◌, length, get_or, map, Option, Some, None, Ok, Err, AllPairs, refl, sym, ap, ◌∙◌, subst, arith, lt-ltb, append_assoc, zero, suc}
+use Rattle.std.specs.Prelude.{bytes_eq, position}
+use Rattle.std.specs.List.{AllByRecursion, list_any, position_or_len}
+use Rattle.std.proofs.lemmas.Bool.{cond-true, false_from_ne_true}
+use Rattle.std.proofs.lemmas.List.{length-map, get_or-map}
+use Rattle.std.proofs.lemmas.List.Sums.{position_or_len_is}
+use Rattle.std.proofs.lemmas.Slice.Eq.{bytes_eq-Decides}
+use Rattle.cpg_base.specs.Graph.{Graph, process_count}
+use Rattle.cpg_base.specs.Limits.{IsProcessWithin, IsSlotWithin, IsEdgeWithin, IsWithinLimits}
+use Rattle.cpg_base.specs.declared.process.Process.{Process}
+use Rattle.cpg_base.specs.declared.process.Edge.{Edge}
+use Rattle.cpg_base.specs.declared.process.Slot.{Slot}
+use Rattle.cpg_base.proofs.Lists.{list_any_false}
+use Rattle.cpg_base.proofs.Pairs.{AllPairs-map}
+use Rattle.cpg_reader.specs.declared.place.Table.{Table}
+use Rattle.cpg_reader.specs.declared.place.Table.TheVariants as places
+use Rattle.cpg_reader.specs.declared.place.Key.{Key}
+use Rattle.cpg_reader.specs.declared.place.Key.TheVariants as keys
+use Rattle.cpg_reader.specs.declared.place.Place.{Place}
+use Rattle.cpg_reader.specs.Reading.{Reading, each}
+use Rattle.cpg_reader.specs.Names.{apart_from, apart, number_of, slot_of, process_of, edge_of, graph_of, resolved}
+use Rattle.cpg_reader.specs.RawOf.{raw_slot, raw_process, raw_edge, raw_of, names_of}
+use Rattle.cpg_reader.proofs.RawReads.{all_by_recursion}
+
+abbrev pub AreApart : List (List ℕ) → Type 0
+AreApart names = AllPairs (λ a b. a ≢ b) names
+
+differ : (x y : List ℕ) → x ≢ y → bytes_eq x y ≡ false
+differ x y h = false_from_ne_true (bytes_eq x y) (λ t. h ((bytes_eq-Decides x y).0 t))
+
+at_left : (xs ys : List (List ℕ)) (k : ℕ) (d : List ℕ) → k < length xs → get_or (xs ++ ys) k d ≡ get_or xs k d
+at_left [] ys k d l = absurd (omega arith)
+at_left (x ∷ xs) ys zero d l = refl
+at_left (x ∷ xs) ys (suc k) d l = at_left xs ys k d (omega arith)
+
+at_middle : (xs ys : List (List ℕ)) (y d : List ℕ) → get_or (xs ++ y ∷ ys) (length xs) d ≡ y
+at_middle [] ys y d = refl
+at_middle (x ∷ xs) ys y d = at_middle xs ys y d
+
+left_shorter : (xs ys : List (List ℕ)) (y : List ℕ) → length xs < length (xs ++ y ∷ ys)
+left_shorter [] ys y = omega arith
+left_shorter (x ∷ xs) ys y = omega (arith, left_shorter xs ys y)
+
+-- names that differ pass
+apart_from-pairs : (table : Table) (key : Key) (i : ℕ) (earlier names : List (List ℕ)) → AreApart (earlier ++ names) → apart_from table key i earlier names ≡ Ok tt
+apart_from-pairs table key i earlier [] h = refl
+apart_from-pairs table key i earlier (name ∷ names) h =
+    let new : list_any (bytes_eq name) earlier ≡ false = list_any_false (bytes_eq name) earlier (λ y (k, l, is). differ name y
+    (λ same. h k (length earlier) y l (left_shorter earlier names name) (at_left earlier (name ∷ names) k y l ∙ is ∙ sym same ∙ sym (at_middle earlier names name y)))) in
+    rw new (apart_from-pairs table key (i + 1) (earlier ++ name ∷ []) names (subst AreApart (sym (append_assoc earlier (name ∷ []) names)) h))
+
+apart-names : (table : Table) (key : Key) (names : List (List ℕ)) → AreApart names → apart table key names ≡ Ok tt
+unfolding apart
+apart-names table key names h = apart_from-pairs table key 0 [] names h
+
+-- the number of the name at a place is that place
+number_at : (names : List (List ℕ)) (place : Place) (n : ℕ) → AreApart names → n < length names → number_of names place (get_or names n []) ≡ Ok n
+unfolding number_of
+number_at names place n h l =
+    let passes : List ℕ → Bool = bytes_eq (get_or names n []) in
+    let at : position_or_len passes names ≡ n = position_or_len_is passes names n [] (omega (arith, l))
+    (λ k lt. differ (get_or names n []) (get_or names k []) (λ same. h k n [] lt l (sym same)))
+    (λ m. (bytes_eq-Decides (get_or names n []) (get_or names n [])).1 refl) in
+    let found : position passes names ≡ Some n = cond-true _ _ _ (lt-ltb (position_or_len passes names) (length names) (omega (arith, at, l))) ∙ ap Some at in
+    rw found refl
+
+each_back : {S T : Type 0} (step : ℕ → T → Reading S) (f : S → T) (P : S → Type 0) → ((i : ℕ) (x : S) → P x → step i (f x) ≡ Ok x) → (i : ℕ) (xs : List S) → AllByRecursion P xs → each step i (map f xs) ≡ Ok xs
+each_back step f P h i [] a = refl
+each_back step f P h i (x ∷ xs) a = rw (h i x a.0, each_back step f P h (i + 1) xs a.1) refl
+
+map_map : {X Y Z : Type 0} (f : X → Y) (r : Y → Z) (xs : List X) → map r (map f xs) ≡ map (λ x. r (f x)) xs
+map_map f r [] = refl
+map_map f r (x ∷ xs) = ap (λ l. r (f x) ∷ l) (map_map f r xs)
+
+abbrev number_value : Reading ℕ → ℕ
+number_value (Ok n) = n
+number_value (Err e) = 0
+
+module _ (g : Graph) (limited : IsWithinLimits g) where
+  slot_back : (i : ℕ) (s : Slot) → IsSlotWithin (length g.nodes) s → slot_of g.nodes i (raw_slot g.nodes s) ≡ Ok s
+  unfolding slot_of
+  slot_back i s h = rw (number_at g.nodes _ s.node limited.node_names h.node) refl
+
+  process_by : (i : ℕ) (p : Process) (own : Option ℕ) → p.deadline ≡ own → IsProcessWithin (length g.nodes) p → process_of g.nodes i (raw_process g.nodes p) ≡ Ok (record p { deadline = own })
+  unfolding process_of
+  process_by i p None e h = rw (number_at g.nodes _ p.node limited.node_names h.node, e) refl
+  process_by i p (Some d) e h = rw (number_at g.nodes _ p.node limited.node_names h.node, e) refl
+
+  names_apart : AreApart (names_of g.processes)
+  names_apart = AllPairs-map (λ (p : Process) (q : Process). p.name ≢ q.name) (λ a b. a ≢ b) (λ (p : Process). p.name) g.processes (λ p q d. d) limited.process_names
+
+  only : (m n : ℕ) → m < length g.nodes → n < length g.nodes → get_or g.nodes m [] ≡ get_or g.nodes n [] → m ≡ n
+  only m n l k e =
+      let somewhere : Place = record { table = places.Slot; index = 0; key = keys.Node } in
+      ap number_value (sym (number_at g.nodes somewhere m limited.node_names l) ∙ ap (number_of g.nodes somewhere) e ∙ number_at g.nodes somewhere n limited.node_names k)
+
+  slots_apart : AreApart (map (λ (s : Slot). get_or g.nodes s.node []) g.slots)
+  slots_apart i j d lt l same =
+      let l' : j < length g.slots = omega (arith, l, length-map g.slots (λ (s : Slot). get_or g.nodes s.node [])) in
+      let none : Slot = record { node = 0; length = 0; bytes = 0 } in
+      let a = get_or-map (λ (s : Slot). get_or g.nodes s.node []) g.slots i none d (omega (arith, lt, l')) in
+      let b = get_or-map (λ (s : Slot). get_or g.nodes s.node []) g.slots j none d l' in
+      let m = (get_or g.slots i none).node in
+      let n = (get_or g.slots j none).node in
+      let equal : get_or g.nodes m [] ≡ get_or g.nodes n [] = sym a ∙ same ∙ b in
+      let mi = (limited.slots i none (omega (arith, lt, l'))).node in
+      let ni = (limited.slots j none l').node in
+      limited.own_slots i j none lt l' (only m n mi ni equal)
+
+  edge_back : (i : ℕ) (e : Edge) → IsEdgeWithin (process_count g) e → edge_of (names_of g.processes) i (raw_edge (names_of g.processes) e) ≡ Ok e
+  unfolding edge_of
+  edge_back i e h =
+      let count = length-map g.processes (λ (p : Process). p.name) in
+      rw (number_at (names_of g.processes) _ e.from names_apart (omega (arith, count, h.from)), number_at (names_of g.processes) _ e.to names_apart (omega (arith, count, h.to))) refl
+
+  pub graph_back : graph_of (raw_of g) ≡ Ok g
+  unfolding graph_of resolved
+  graph_back =
+      let slot_name = map_map (raw_slot g.nodes) (λ s. s.node) g.slots in
+      let process_name = map_map (raw_process g.nodes) (λ p. p.name) g.processes in
+      let slots = each_back (slot_of g.nodes) (raw_slot g.nodes) (IsSlotWithin (length g.nodes)) slot_back 0 g.slots (all_by_recursion _ g.slots limited.slots) in
+      let processes = each_back (process_of g.nodes) (raw_process g.nodes) (IsProcessWithin (length g.nodes)) (λ i p h. process_by i p p.deadline refl h) 0 g.processes (all_by_recursion _ g.processes limited.processes) in
+      let edges = each_back (edge_of (names_of g.processes)) (raw_edge (names_of g.processes)) (IsEdgeWithin (process_count g)) edge_back 0 g.edges (all_by_recursion _ g.edges limited.edges) in
+      rw (slot_name, process_name, apart-names places.Node _ g.nodes limited.node_names, apart-names places.Slot _ _ slots_apart, apart-names places.Process _ _ names_apart, slots, processes, edges) refl

@@ -1,0 +1,82 @@
+-- What is read of a written document, as far as its keys and types go.
+use Rattle.std.proofs.Common.{◌≡◌, ℕ, ◌+◌, suc, Bool, List, [], ◌∷◌, get_or, map, Option, Some, None, Ok, refl, ap, ◌∙◌, arith}
+use Rattle.std.specs.Prelude.{All}
+use Rattle.std.specs.List.{AllByRecursion}
+use Rattle.toml.specs.Data.{Members, table}
+use Rattle.toml.specs.View.{items_of}
+use Rattle.cpg_base.specs.Graph.{Graph}
+use Rattle.cpg_base.specs.Name.{IsName}
+use Rattle.cpg_base.specs.declared.process.Process.{Process}
+use Rattle.cpg_base.specs.declared.process.Edge.{Edge}
+use Rattle.cpg_base.specs.declared.process.Slot.{Slot}
+use Rattle.cpg_reader.specs.declared.place.Table.TheVariants as places
+use Rattle.cpg_reader.specs.Reading.{Reading, each}
+use Rattle.cpg_reader.specs.Rows.{name_if, tables_in, name_at, integer_at, integer_or, flag_or, optional, only, tables_at}
+use Rattle.cpg_reader.specs.Shape.{node_at, slot_at, process_at, edge_at, raw_graph_at}
+use Rattle.cpg_reader.proofs.NameTexts.{is_name-from_IsName}
+use Rattle.cpg_reader.specs.WrittenTree.{node_members, slot_members, process_members, edge_members, graph_members}
+use Rattle.cpg_reader.specs.RawOf.{raw_slot, raw_process, raw_edge, raw_of, names_of}
+
+pub all_by_recursion : {X : Type 0} (P : X → Type 0) (xs : List X) → All P xs → AllByRecursion P xs
+all_by_recursion P [] h = tt
+all_by_recursion P (x ∷ xs) h = (h 0 x (omega arith), all_by_recursion P xs (λ k d l. h (suc k) d (omega (arith, l))))
+
+pub name_read : (text : List ℕ) → IsName text → name_if text ≡ Some text
+name_read text h = rw (is_name-from_IsName text h) refl
+
+node_read : (i : ℕ) (name : List ℕ) → IsName name → node_at (record { table = places.Node; index = i; members = node_members name }) ≡ Ok name
+unfolding node_at name_at optional only
+node_read i name h = rw (name_read name h) refl
+
+slot_read : (nodes : List (List ℕ)) (i : ℕ) (s : Slot) → IsName (get_or nodes s.node []) → slot_at (record { table = places.Slot; index = i; members = slot_members nodes s }) ≡ Ok (raw_slot nodes s)
+unfolding slot_at name_at integer_at optional only
+slot_read nodes i s h = rw (name_read (get_or nodes s.node []) h) refl
+
+pub record IsCalled (nodes : List (List ℕ)) (p : Process) : Type 0 where
+  pub name : IsName p.name
+  pub node : IsName (get_or nodes p.node [])
+
+process_by : (nodes : List (List ℕ)) (i : ℕ) (p : Process) (own : Option ℕ) → p.deadline ≡ own → IsCalled nodes p
+    → process_at (record { table = places.Process; index = i; members = process_members nodes p }) ≡ Ok (raw_process nodes p)
+unfolding process_at name_at integer_at integer_or flag_or optional only
+process_by nodes i p None e h = rw (e, name_read p.name h.name, name_read (get_or nodes p.node []) h.node) refl
+process_by nodes i p (Some d) e h = rw (e, name_read p.name h.name, name_read (get_or nodes p.node []) h.node) refl
+
+pub record IsJoined (names : List (List ℕ)) (e : Edge) : Type 0 where
+  pub from : IsName (get_or names e.from [])
+  pub to : IsName (get_or names e.to [])
+
+edge_by : (processes : List Process) (i : ℕ) (e : Edge) (when : Option Bool) → e.when ≡ when → IsJoined (names_of processes) e
+    → edge_at (record { table = places.Edge; index = i; members = edge_members processes e }) ≡ Ok (raw_edge (names_of processes) e)
+unfolding edge_at name_at integer_or flag_or optional only
+edge_by processes i e None is h = rw (is, name_read (get_or (names_of processes) e.from []) h.from, name_read (get_or (names_of processes) e.to []) h.to) refl
+edge_by processes i e (Some value) is h = rw (is, name_read (get_or (names_of processes) e.from []) h.from, name_read (get_or (names_of processes) e.to []) h.to) refl
+
+each_read : {S T U : Type 0} (step : ℕ → T → Reading U) (f : S → T) (r : S → U) (P : S → Type 0) → ((i : ℕ) (x : S) → P x → step i (f x) ≡ Ok (r x)) → (i : ℕ) (xs : List S) → AllByRecursion P xs
+    → each step i (map f xs) ≡ Ok (map r xs)
+each_read step f r P h i [] a = refl
+each_read step f r P h i (x ∷ xs) a = rw (h i x a.0, each_read step f r P h (i + 1) xs a.1) refl
+
+tables_read : {T : Type 0} (f : T → Members) (xs : List T) → tables_in (items_of (map (λ x. table (f x)) xs)) ≡ Some (map f xs)
+tables_read f [] = refl
+tables_read f (x ∷ xs) = rw (tables_read f xs) refl
+
+map_same : {X : Type 0} (xs : List X) → map (λ x. x) xs ≡ xs
+map_same [] = refl
+map_same (x ∷ xs) = ap (λ l. x ∷ l) (map_same xs)
+
+-- the names are names
+pub record AreNames (g : Graph) : Type 0 where
+  pub nodes : AllByRecursion IsName g.nodes
+  pub slots : AllByRecursion (λ s. IsName (get_or g.nodes s.node [])) g.slots
+  pub processes : AllByRecursion (IsCalled g.nodes) g.processes
+  pub edges : AllByRecursion (IsJoined (names_of g.processes)) g.edges
+
+pub raw_read : (g : Graph) → AreNames g → raw_graph_at (graph_members g) ≡ Ok (raw_of g)
+unfolding raw_graph_at integer_at tables_at optional only
+raw_read g h =
+    let nodes = each_read (λ i ms. node_at (record { table = places.Node; index = i; members = ms })) node_members (λ n. n) IsName node_read 0 g.nodes h.nodes ∙ ap (λ l. Ok l) (map_same g.nodes) in
+    let slots = each_read (λ i ms. slot_at (record { table = places.Slot; index = i; members = ms })) (slot_members g.nodes) (raw_slot g.nodes) _ (slot_read g.nodes) 0 g.slots h.slots in
+    let processes = each_read (λ i ms. process_at (record { table = places.Process; index = i; members = ms })) (process_members g.nodes) (raw_process g.nodes) (IsCalled g.nodes) (λ i p c. process_by g.nodes i p p.deadline refl c) 0 g.processes h.processes in
+    let edges = each_read (λ i ms. edge_at (record { table = places.Edge; index = i; members = ms })) (edge_members g.processes) (raw_edge (names_of g.processes)) (IsJoined (names_of g.processes)) (λ i e c. edge_by g.processes i e e.when refl c) 0 g.edges h.edges in
+    rw (tables_read node_members g.nodes, tables_read (slot_members g.nodes) g.slots, tables_read (process_members g.nodes) g.processes, tables_read (edge_members g.processes) g.edges, nodes, slots, processes, edges) refl

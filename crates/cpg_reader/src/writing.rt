@@ -1,0 +1,94 @@
+//! Writing of a graph file.
+ghost use Rattle.std.specs.Prelude.{◌≡◌, IfOk, Ok, All, map, string_bytes};
+ghost use Rattle.toml.specs.Data.{table};
+ghost use Rattle.toml.specs.View.{view, table_view};
+ghost use Rattle.cpg_base.specs.Name.{IsName};
+ghost use Rattle.cpg_reader.specs.Document.{problem_of};
+ghost use Rattle.cpg_reader.specs.WrittenTree.{with_member, tables, node_members, slot_members, process_members, edge_members, list_members, graph_members};
+
+use crate::written_rows::{edge_table, node_table, process_table, slot_table};
+use crate::written_tables::{push, with_array, with_number};
+use cpg_base::{OutOfMemory, Problem};
+use std::alloc::Global;
+use toml::Table;
+use toml::value::Array;
+
+fn node_tables(alloc: Global, problem: &Problem) -> Result<Array, OutOfMemory>
+    ensures tables { IfOk result (λ a. map view a.items ≡ map (λ n. table (node_members n)) problem.now.nodes) }
+    ensures named { IfOk result (λ _. All IsName problem.now.nodes) }
+{
+    let mut made = Vec::new(alloc);
+    for name in problem.nodes() {
+        push(&mut made, node_table(alloc, name)?)?;
+    }
+    Ok(made)
+}
+
+fn slot_tables(alloc: Global, problem: &Problem) -> Result<Array, OutOfMemory>
+    ensures { IfOk result (λ a. map view a.items ≡ map (λ s. table (slot_members problem.now.nodes s)) problem.now.slots) }
+{
+    let mut made = Vec::new(alloc);
+    for slot in problem.slots() {
+        push(&mut made, slot_table(alloc, slot, problem.nodes())?)?;
+    }
+    Ok(made)
+}
+
+fn process_tables(alloc: Global, problem: &Problem) -> Result<Array, OutOfMemory>
+    ensures tables { IfOk result (λ a. map view a.items ≡ map (λ p. table (process_members problem.now.nodes p)) problem.now.processes) }
+    ensures named { IfOk result (λ _. All (λ p. IsName p.name) problem.now.processes) }
+{
+    let mut made = Vec::new(alloc);
+    for process in problem.processes() {
+        push(&mut made, process_table(alloc, process, problem.nodes())?)?;
+    }
+    Ok(made)
+}
+
+fn edge_tables(alloc: Global, problem: &Problem) -> Result<Array, OutOfMemory>
+    ensures { IfOk result (λ a. map view a.items ≡ map (λ e. table (edge_members problem.now.processes e)) problem.now.edges) }
+{
+    let mut made = Vec::new(alloc);
+    for edge in problem.edges() {
+        push(&mut made, edge_table(alloc, edge, problem.processes())?)?;
+    }
+    Ok(made)
+}
+
+/// The end of the document: nodes, processes and slots.
+fn lists(alloc: Global, problem: &Problem) -> Result<Table, OutOfMemory>
+    ensures table { IfOk result (λ t. table_view t ≡ list_members problem.now) }
+    ensures nodes { IfOk result (λ _. All IsName problem.now.nodes) }
+    ensures processes { IfOk result (λ _. All (λ p. IsName p.name) problem.now.processes) }
+{
+    let slots = slot_tables(alloc, problem)?;
+    let table = with_array(alloc, Table::new(alloc), "slot", slots)?;
+    let processes = process_tables(alloc, problem)?;
+    let table = with_array(alloc, table, "process", processes)?;
+    let nodes = node_tables(alloc, problem)?;
+    with_array(alloc, table, "node", nodes)
+}
+
+fn document(alloc: Global, problem: &Problem) -> Result<Table, OutOfMemory>
+    ensures table { IfOk result (λ t. table_view t ≡ graph_members problem.now) }
+    ensures nodes { IfOk result (λ _. All IsName problem.now.nodes) }
+    ensures processes { IfOk result (λ _. All (λ p. IsName p.name) problem.now.processes) }
+{
+    let table = lists(alloc, problem)?;
+    let table = with_number(alloc, table, "faults", u64::from(problem.faults()))?;
+    let edges = edge_tables(alloc, problem)?;
+    let table = with_array(alloc, table, "edge", edges)?;
+    with_number(alloc, table, "deadline", problem.deadline())
+}
+
+/// A text of a graph file that is read as the graph: its numbers and names, with each key that has a value.
+pub fn graph_text(alloc: Global, problem: &Problem) -> Result<String, OutOfMemory>
+    ensures { IfOk result (λ text. problem_of (string_bytes text) ≡ Ok problem.now) }
+{
+    let _faults = problem.faults();
+    let table = document(alloc, problem)?;
+    match toml::table_to_string(alloc, &table) {
+        Ok(text) => Ok(text),
+        Err(_) => Err(OutOfMemory),
+    }
+}

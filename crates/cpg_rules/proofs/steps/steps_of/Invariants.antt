@@ -1,0 +1,6 @@
+use Rattle.std.proofs.Common.{◌≡◌, map, take}
+use Rattle.cpg_rules.specs.Steps.{step_of}
+use Rattle.cpg_rules.proofs.steps.steps_of.Given as goal
+
+abbrev pub invariant-loop-process : goal.invariant-loop-process
+invariant-loop-process l = l.steps.items ≡ map (step_of l.problem) (take l.process-index l.process-items)

@@ -1,0 +1,77 @@
+-- How the trees are grown: along the order, and both ways where a process that has a condition is active.
+use Rattle.std.specs.Prelude.{ℕ, ◌+◌, Bool, true, false, if◌then◌else◌, List, [], ◌∷◌, Option, Some, None, get_or, slice_set, map, replicate}
+use Rattle.std.specs.List.{list_all, zip}
+use Rattle.cpg_base.specs.declared.activation.Activation.{Activation}
+use Rattle.cpg_base.specs.declared.activation.Activation.TheVariants.{Inactive, Plain, By}
+use Rattle.cpg_base.specs.Activity.{is_active, takes}
+use Rattle.cpg_order.specs.Guard.{Guard, Leaf}
+use Rattle.cpg_rules.specs.declared.steps.Input.{Input}
+use Rattle.cpg_rules.specs.Trees.{tested}
+use Rattle.cpg_rules.specs.Steps.{Step}
+
+-- On the way each process so far has a standing: None where it is inactive, and else the value of its condition,
+-- false where it has none.
+
+-- whether an input is live, by the standing of its source
+abbrev pub is_taken : Option Bool → Option Bool → Bool
+is_taken when None = false
+is_taken when (Some value) = takes when value
+
+-- whether an input is live
+abbrev pub is_live_in : List (Option Bool) → Input → Bool
+is_live_in standings i = is_taken i.when (get_or standings i.source None)
+
+-- by the first live input
+abbrev pub first_live : List (Option Bool) → List Input → Activation
+first_live standings [] = Inactive
+first_live standings (i ∷ is) = if is_live_in standings i then By i.edge else first_live standings is
+
+-- the activation of a process, by the standings of its sources
+abbrev pub activation_from : Bool → List (Option Bool) → List Input → Activation
+activation_from join standings [] = Plain
+activation_from true standings (i ∷ is) = first_live standings (i ∷ is)
+activation_from false standings (i ∷ is) = if list_all (is_live_in standings) (i ∷ is) then Plain else Inactive
+
+-- the activation of a step's process
+abbrev pub activation_in : List (Option Bool) → Step → Activation
+activation_in standings step = activation_from step.join standings step.inputs
+
+-- the standing of a process, where its condition has the value
+abbrev pub standing : Activation → Bool → Option Bool
+standing a value = if is_active a then Some value else None
+
+-- the condition that goes both ways, if there is one
+abbrev pub choice : Activation → Option ℕ → Option ℕ
+choice a condition = if is_active a then condition else None
+
+-- the standings with one more
+abbrev pub settled : List (Option Bool) → Step → Bool → List (Option Bool)
+settled standings step value = slice_set standings step.process (standing (activation_in standings step) value)
+
+-- of each process a test with the trees of both ways
+abbrev pub merged : ℕ → List Guard → List Guard → List Guard
+merged c off on = map (λ arms. tested c arms.0 arms.1) (zip off on)
+
+-- the trees of both ways, where there are two
+abbrev pub branched : Option ℕ → List Guard → List Guard → List Guard
+branched None off on = off
+branched (Some c) off on = merged c off on
+
+-- the trees of the processes that are left, by process number
+abbrev pub grown : ℕ → List Step → List (Option Bool) → List Guard
+grown count [] standings = replicate count (Leaf Inactive)
+grown count (step ∷ steps) standings =
+    slice_set
+    (branched (choice (activation_in standings step) step.condition) (grown count steps (settled standings step false)) (grown count steps (settled standings step true)))
+    step.process (Leaf (activation_in standings step))
+
+-- the second number counts where there are two ways
+abbrev pub if_both : Option ℕ → ℕ → ℕ
+if_both None n = 0
+if_both (Some c) n = n
+
+-- how many tracks go the way so far
+abbrev pub tracks_from : List Step → List (Option Bool) → ℕ
+tracks_from [] standings = 1
+tracks_from (step ∷ steps) standings =
+    tracks_from steps (settled standings step false) + if_both (choice (activation_in standings step) step.condition) (tracks_from steps (settled standings step true))

@@ -1,0 +1,64 @@
+-- The guards of a graph, as the code keeps them: a tree for each process, and for each edge when it is live.
+use Rattle.std.specs.Prelude.{ℕ, ◌≡◌, ◌<◌, Bool, true, false, ◌&&◌, List, Option, Some, None, All, IfSome, get_or, length, map}
+use Rattle.cpg_base.specs.declared.activation.Activation.TheVariants.{Inactive}
+use Rattle.cpg_base.specs.Numbers.{numbers_below, same_bool}
+use Rattle.cpg_base.specs.Graph.{Graph, process_count, edge_count, condition_count, condition_of, edge_at, source}
+use Rattle.cpg_base.specs.Activity.{is_active}
+use Rattle.cpg_order.specs.Guard.{Guard, Leaf, outcome_at, IsGuardOf}
+use Rattle.cpg_rules.specs.declared.edges.ValueTest.{ValueTest}
+use Rattle.cpg_rules.specs.declared.edges.EdgeGuard.{EdgeGuard}
+use Rattle.cpg_rules.specs.Trees.{TestsBelow}
+
+-- how many conditions there are, the trees by process, and the edges' guards by edge
+pub record Guards : Type 0 where
+  pub conditions : ℕ
+  pub trees : List Guard
+  pub edges : List EdgeGuard
+
+-- the tree of a process
+abbrev pub tree_of : Guards → ℕ → Guard
+tree_of guards p = get_or guards.trees p (Leaf Inactive)
+
+-- the guard of an edge
+abbrev pub edge_guard : Guards → ℕ → EdgeGuard
+edge_guard guards e = get_or guards.edges e (record { source = 0; test = None })
+
+-- the value that an edge asks for, where its source has a condition
+abbrev pub test_of : Option ℕ → Option Bool → Option ValueTest
+test_of None when = None
+test_of (Some c) None = None
+test_of (Some c) (Some value) = Some (record { condition = c; value = value })
+
+-- when an edge is live: its source is active and the condition has the value
+abbrev pub edge_guard_of : Graph → ℕ → EdgeGuard
+edge_guard_of g e = record { source = source g e; test = test_of (condition_of g (source g e)) (edge_at g e).when }
+
+-- whether a test passes
+abbrev pub is_passed : Option ValueTest → List Bool → Bool
+is_passed None values = true
+is_passed (Some test) values = same_bool test.value (get_or values test.condition false)
+
+-- whether a process is active by its tree
+abbrev pub active_by : Guards → List Bool → ℕ → Bool
+active_by guards values p = is_active (outcome_at (tree_of guards p) values)
+
+-- whether an edge is live by its guard
+abbrev pub live_by : Guards → List Bool → ℕ → Bool
+live_by guards values e = active_by guards values (edge_guard guards e).source && is_passed (edge_guard guards e).test values
+
+-- an edge's guard speaks of processes and conditions that there are
+pub record IsEdgeBelow (processes conditions : ℕ) (edge : EdgeGuard) : Type 0 where
+  pub source : edge.source < processes
+  pub test : IfSome edge.test (λ test. test.condition < conditions)
+
+-- and so do all guards
+pub record AreBelow (guards : Guards) : Type 0 where
+  pub trees : All (TestsBelow guards.conditions) guards.trees
+  pub edges : All (IsEdgeBelow (length guards.trees) guards.conditions) guards.edges
+
+-- they are the guards of a graph and an order
+pub record AreGuardsOf (g : Graph) (order : List ℕ) (guards : Guards) : Type 0 where
+  pub conditions : guards.conditions ≡ condition_count g
+  pub count : length guards.trees ≡ process_count g
+  pub trees : (p : ℕ) → p < process_count g → IsGuardOf g order p (tree_of guards p)
+  pub edges : guards.edges ≡ map (edge_guard_of g) (numbers_below (edge_count g))

@@ -1,0 +1,119 @@
+//! Outcomes that make two inputs of a join live.
+ghost use Rattle.std.specs.Prelude.{◌≡◌, ◌<◌, ◌≤◌, IfOk, IfSome, IfNone, IsTrue, All, None, true, length, get_or, map};
+ghost use Rattle.cpg_base.specs.Graph.{process_count, process_at};
+ghost use Rattle.cpg_base.specs.Scenario.{IsLeast};
+ghost use Rattle.cpg_order.specs.Urgency.{IsTopological};
+ghost use Rattle.cpg_base.specs.WellFormed.{HasSingleJoins};
+ghost use Rattle.cpg_rules.specs.Steps.{IsStepBelow, step_of};
+ghost use Rattle.cpg_rules.specs.Alternatives.{AreAlternatives, IsSingleJoin, has_two_live, found_from, is_set, scenario_of};
+
+use crate::growing::{choice, settled};
+use crate::steps::{Standings, Step, steps_of};
+use cpg_base::{Order, OutOfMemory, Problem, Scenario};
+use std::alloc::Global;
+
+/// A join that some outcome gives two live inputs.
+#[derive(Drop)]
+pub struct Alternatives {
+    /// The number of the least such join.
+    pub process: u32,
+    /// The least scenario in which two of its inputs are live, which has no faults.
+    pub least: Scenario,
+}
+
+/// The first standings on the way to a process at which two of its inputs are live.
+fn found_from(process: u32, steps: &[Step], standings: Standings) -> Option<Standings>
+    requires { All (IsStepBelow 128) steps.now }
+    ensures { result ≡ found_from process steps.now standings }
+{
+    let Some((step, left)) = steps.split_first() else {
+        return None;
+    };
+    if step.process() == process {
+        return step.two_live(standings);
+    }
+    let activation = step.activation(&standings);
+    let first = found_from(process, left, settled(standings, step, activation, false));
+    if first.is_some() {
+        return first;
+    }
+    if choice(activation, step.condition()).is_none() {
+        return None;
+    }
+    found_from(process, left, settled(standings, step, activation, true))
+}
+
+/// Whether a process stands as active with a true condition.
+fn is_set(standing: Option<bool>) -> bool
+    ensures { result ≡ is_set standing }
+{
+    match standing {
+        None => false,
+        Some(value) => value,
+    }
+}
+
+/// The scenario without faults in which the processes stand so.
+fn scenario_of(
+    alloc: Global,
+    problem: &Problem,
+    standings: &Standings,
+) -> Result<Scenario, OutOfMemory>
+    requires { process_count problem.now ≤ 128 }
+    ensures { IfOk result (λ scenario. scenario ≡ scenario_of problem.now standings.now) }
+{
+    let mut scenario = Scenario::zero(alloc, problem)?;
+    for condition in 0..problem.conditions() {
+        let process = problem.process_of(condition);
+        scenario.set_value(condition, is_set(standings[process as usize]));
+    }
+    Ok(scenario)
+}
+
+/// The least scenario in which two inputs of a process are live, where it is a join and there is one.
+fn least_of(
+    alloc: Global,
+    problem: &Problem,
+    order: &Order,
+    steps: &[Step],
+    process: u32,
+) -> Result<Option<Scenario>, OutOfMemory>
+    requires topological { IsTopological problem.now order.now }
+    requires steps { steps.now ≡ map (step_of problem.now) order.now }
+    requires process { process < process_count problem.now }
+    ensures none { IfOk result (λ found. IfNone found (IsSingleJoin problem.now process)) }
+    ensures join { IfOk result (λ found. IfSome found (λ _. IsTrue (process_at problem.now process).join)) }
+    ensures some { IfOk result (λ found. IfSome found (IsLeast problem.now order.now (λ s. has_two_live problem.now s.values process ≡ true))) }
+{
+    if !problem.processes()[process as usize].join {
+        return Ok(None);
+    }
+    match found_from(process, steps, [None; 128]) {
+        None => Ok(None),
+        Some(standings) => {
+            let least = scenario_of(alloc, problem, &standings)?;
+            Ok(Some(least))
+        }
+    }
+}
+
+/// The least join that some outcome gives two live inputs, with its least scenario; `None` exactly where no outcome gives
+/// a join two.
+pub fn two_alternatives(
+    alloc: Global,
+    problem: &Problem,
+    order: &Order,
+) -> Result<Option<Alternatives>, OutOfMemory>
+    requires { IsTopological problem.now order.now }
+    ensures none { IfOk result (λ found. IfNone found (HasSingleJoins problem.now)) }
+    ensures some { IfOk result (λ found. IfSome found (λ a. AreAlternatives problem.now order.now a.process a.least)) }
+{
+    let count = problem.processes().len() as u32;
+    let steps = steps_of(alloc, problem, order)?;
+    for process in 0..count {
+        if let Some(least) = least_of(alloc, problem, order, steps.as_slice(), process)? {
+            return Ok(Some(Alternatives { process, least }));
+        }
+    }
+    Ok(None)
+}

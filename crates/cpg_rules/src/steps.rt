@@ -1,0 +1,185 @@
+//! The processes along an order, each with what its activation rests on.
+ghost use Rattle.std.specs.Prelude.{◌≡◌, ◌<◌, ◌≤◌, ◌≢◌, IfOk, All, length, map, get_or, None, Some, if◌then◌else◌};
+ghost use Rattle.std.specs.List.{list_all};
+ghost use Rattle.cpg_base.specs.Graph.{process_count, edge_count, inputs};
+ghost use Rattle.cpg_order.specs.Urgency.{IsTopological};
+ghost use Rattle.cpg_rules.specs.Growing.{is_live_in, first_live, activation_in};
+ghost use Rattle.cpg_rules.specs.Alternatives.{are_two_live};
+ghost use Rattle.cpg_rules.specs.Steps.{Step, step_of, input_of};
+
+use cpg_base::{Activation, Order, OutOfMemory, Problem};
+use std::alloc::Global;
+use std::marker::Model;
+
+/// How the processes so far stand, by process number: `None` where one is inactive, and else the value of its condition,
+/// false where it has none.
+pub type Standings = [Option<bool>; 128];
+
+/// An input of a process.
+#[derive(Clone, Copy, Debug, PartialEq, Eq)]
+pub struct Input {
+    pub edge: u32,
+    pub source: u32,
+    pub when: Option<bool>,
+}
+
+/// A process and what its activation rests on.
+#[derive(Drop)]
+pub struct Step {
+    process: u32,
+    join: bool,
+    inputs: Vec<Input>,
+    condition: Option<u32>,
+}
+
+impl Model for Step {
+    ghost use Rattle.cpg_rules.specs.Steps.{Step};
+
+    ghost Value = { Step };
+
+    ghost view = { λ s. record { process = s.process; join = s.join; inputs = s.inputs.items; condition = s.condition } };
+}
+
+impl Input {
+    /// Whether the input is live.
+    fn is_live(&self, standings: &[Option<bool>]) -> bool
+        requires { self.now.source < length standings.now }
+        ensures { result ≡ is_live_in standings.now self.now }
+    {
+        match standings[self.source as usize] {
+            None => false,
+            Some(value) => match self.when {
+                None => true,
+                Some(wanted) => wanted == value,
+            },
+        }
+    }
+}
+
+/// The activation of a join with these inputs.
+fn first_live(inputs: &[Input], standings: &[Option<bool>]) -> Activation
+    requires { All (λ input. input.source < length standings.now) inputs.now }
+    ensures { result ≡ first_live standings.now inputs.now }
+{
+    for input in inputs {
+        if input.is_live(standings) {
+            return Activation::By(input.edge);
+        }
+    }
+    Activation::Inactive
+}
+
+/// Whether all inputs are live.
+fn are_live(inputs: &[Input], standings: &[Option<bool>]) -> bool
+    requires { All (λ input. input.source < length standings.now) inputs.now }
+    ensures { result ≡ list_all (is_live_in standings.now) inputs.now }
+{
+    for input in inputs {
+        if !input.is_live(standings) {
+            return false;
+        }
+    }
+    true
+}
+
+impl Step {
+    /// The number of the process.
+    pub fn process(&self) -> u32
+        ensures { result ≡ self.now.process }
+    {
+        self.process
+    }
+
+    /// The number of its condition, if it has one.
+    pub fn condition(&self) -> Option<u32>
+        ensures { result ≡ self.now.condition }
+    {
+        self.condition
+    }
+
+    /// The standings, where two of the inputs are live by them.
+    pub fn two_live(&self, standings: Standings) -> Option<Standings>
+        requires { All (λ input. input.source < 128) self.now.inputs }
+        ensures { result ≡ (if are_two_live standings self.now.inputs then Some standings else None) }
+    {
+        if are_two_live(self.inputs.as_slice(), &standings) {
+            Some(standings)
+        } else {
+            None
+        }
+    }
+
+    /// How the process is active.
+    pub fn activation(&self, standings: &[Option<bool>]) -> Activation
+        requires { All (λ input. input.source < length standings.now) self.now.inputs }
+        ensures { result ≡ activation_in standings.now self.now }
+    {
+        let inputs = self.inputs.as_slice();
+        if inputs.is_empty() {
+            return Activation::Plain;
+        }
+        if self.join {
+            return first_live(inputs, standings);
+        }
+        if are_live(inputs, standings) {
+            Activation::Plain
+        } else {
+            Activation::Inactive
+        }
+    }
+}
+
+/// Whether two inputs or more are live.
+fn are_two_live(inputs: &[Input], standings: &[Option<bool>]) -> bool
+    requires { All (λ input. input.source < length standings.now) inputs.now }
+    ensures { result ≡ are_two_live standings.now inputs.now }
+{
+    inputs
+        .iter()
+        .filter(|input| input.is_live(standings))
+        .count()
+        > 1
+}
+
+/// The inputs of a process, by edge number.
+fn inputs_of(alloc: Global, problem: &Problem, process: u32) -> Result<Vec<Input>, OutOfMemory>
+    ensures { IfOk result (λ found. found.items ≡ map (input_of problem.now) (inputs problem.now process)) }
+{
+    let mut found = Vec::new(alloc);
+    for (edge, ends) in problem.edges().iter().enumerate() {
+        if ends.to == process {
+            found.push(Input {
+                edge: edge as u32,
+                source: ends.from,
+                when: ends.when,
+            })?;
+        }
+    }
+    Ok(found)
+}
+
+/// The step of a process.
+fn step_of(alloc: Global, problem: &Problem, process: u32) -> Result<Step, OutOfMemory>
+    requires { process < process_count problem.now }
+    ensures { IfOk result (λ step. step ≡ step_of problem.now process) }
+{
+    Ok(Step {
+        process,
+        join: problem.processes()[process as usize].join,
+        inputs: inputs_of(alloc, problem, process)?,
+        condition: problem.condition_of(process),
+    })
+}
+
+/// The steps of all processes, in the order.
+pub fn steps_of(alloc: Global, problem: &Problem, order: &Order) -> Result<Vec<Step>, OutOfMemory>
+    requires { length order.now ≡ process_count problem.now }
+    ensures { IfOk result (λ steps. steps.items ≡ map (step_of problem.now) order.now) }
+{
+    let mut steps = Vec::new(alloc);
+    steps.reserve(order.len())?;
+    for process in order.processes() {
+        steps.push(step_of(alloc, problem, *process)?)?;
+    }
+    Ok(steps)
+}

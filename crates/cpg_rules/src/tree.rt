@@ -1,0 +1,181 @@
+//! Trees of tests.
+ghost use Rattle.std.specs.Prelude.{◌≡◌, ◌++◌, IfOk, OnOk, length};
+ghost use Rattle.cpg_order.specs.Guard.{Leaf, outcome_at, way};
+ghost use Rattle.cpg_base.specs.Activity.{same_activation};
+ghost use Rattle.cpg_rules.specs.Trees.{TestsBelow, same_guard, tested};
+ghost use Rattle.cpg_rules.specs.TreeTop.{ShowsTop};
+
+use cpg_base::{Activation, OutOfMemory, Scenario};
+use std::alloc::Global;
+use std::marker::Model;
+
+/// How a process is active, by tests of conditions in urgency order: seen as a leaf with an activation, or as a test of
+/// a condition with the trees for false and for true.
+#[cycle(guard)]
+#[derive(Drop)]
+pub struct GuardTree {
+    node: Node,
+}
+
+#[cycle(guard)]
+#[derive(Drop)]
+enum Node {
+    Leaf(Activation),
+    Test {
+        condition: u32,
+        no: Box<GuardTree>,
+        yes: Box<GuardTree>,
+    },
+}
+
+impl Model for GuardTree {
+    ghost use Rattle.cpg_order.specs.Guard.{Guard};
+    ghost use Rattle.cpg_rules.specs.Trees.{size_of};
+    ghost use Rattle.cpg_rules.specs.TreeCode.{tree_code};
+
+    ghost Value = { Guard };
+
+    ghost coded = { tree_code };
+
+    ghost use Rattle.cpg_rules.specs.TreeView.{tree_of};
+
+    ghost view = { λ t. tree_of t.node };
+
+    ghost size = { size_of };
+
+    ghost use Rattle.cpg_rules.specs.TreeFalls.{deep_le-size};
+
+    ghost size_decreases = { λ a h. deep_le-size a.node };
+}
+
+/// The top of a tree.
+pub enum GuardTop<'a> {
+    /// The process is active in this way.
+    Leaf(Activation),
+    /// A test of a condition, with the trees for its values.
+    Test {
+        /// The number of the condition.
+        condition: u32,
+        /// The tree where it is false.
+        no: &'a GuardTree,
+        /// The tree where it is true.
+        yes: &'a GuardTree,
+    },
+}
+
+/// Whether two activations are equal.
+fn is_same(a: Activation, b: Activation) -> bool
+    ensures { result ≡ same_activation a b }
+{
+    match a {
+        Activation::Inactive => matches!(b, Activation::Inactive),
+        Activation::Plain => matches!(b, Activation::Plain),
+        Activation::By(e) => match b {
+            Activation::By(f) => e == f,
+            _ => false,
+        },
+    }
+}
+
+impl GuardTree {
+    /// No test: the process is active in this way.
+    pub(crate) fn leaf(activation: Activation) -> GuardTree
+        ensures { result ≡ Leaf activation }
+    {
+        GuardTree {
+            node: Node::Leaf(activation),
+        }
+    }
+
+    /// Whether two trees are equal.
+    fn is_same(&self, other: &GuardTree) -> bool
+        ensures { result ≡ same_guard self.now other.now }
+    {
+        match &self.node {
+            Node::Leaf(a) => match &other.node {
+                Node::Leaf(b) => is_same(*a, *b),
+                Node::Test { .. } => false,
+            },
+            Node::Test { condition, no, yes } => match &other.node {
+                Node::Leaf(_) => false,
+                Node::Test {
+                    condition: tested,
+                    no: low,
+                    yes: high,
+                } => *condition == *tested && no.is_same(low) && yes.is_same(high),
+            },
+        }
+    }
+
+    /// A test, or the one tree where both arms are equal.
+    pub(crate) fn tested(
+        alloc: Global,
+        condition: u32,
+        no: GuardTree,
+        yes: GuardTree,
+    ) -> Result<GuardTree, OutOfMemory>
+        ensures { IfOk result (λ tree. tree ≡ tested condition no yes) }
+    {
+        if no.is_same(&yes) {
+            return Ok(no);
+        }
+        let no = Box::new(alloc, no)?;
+        let yes = Box::new(alloc, yes)?;
+        Ok(GuardTree {
+            node: Node::Test { condition, no, yes },
+        })
+    }
+
+    /// How the process is active in a scenario.
+    pub fn at(&self, scenario: &Scenario) -> Activation
+        requires { TestsBelow (length scenario.now.values) self.now }
+        ensures { result ≡ outcome_at self.now scenario.now.values }
+    {
+        match &self.node {
+            Node::Leaf(activation) => *activation,
+            Node::Test { condition, no, yes } => {
+                if scenario.value(*condition) {
+                    yes.at(scenario)
+                } else {
+                    no.at(scenario)
+                }
+            }
+        }
+    }
+
+    /// The activation of a leaf, or a test's condition and its trees.
+    pub fn top(&self) -> GuardTop<'_>
+        ensures { ShowsTop result self.now }
+    {
+        match &self.node {
+            Node::Leaf(activation) => GuardTop::Leaf(*activation),
+            Node::Test { condition, no, yes } => GuardTop::Test {
+                condition: *condition,
+                no,
+                yes,
+            },
+        }
+    }
+
+    /// Adds the conditions that are tested on a scenario's way, in their order.
+    pub(crate) fn push_way(
+        &self,
+        scenario: &Scenario,
+        tests: &mut Vec<u32>,
+    ) -> Result<(), OutOfMemory>
+        requires { TestsBelow (length scenario.now.values) self.now }
+        ensures { OnOk result (tests.new.items ≡ tests.old.items ++ way self.now scenario.now.values) }
+    {
+        match &self.node {
+            Node::Leaf(_) => Ok(()),
+            Node::Test { condition, no, yes } => {
+                tests.push(*condition)?;
+                if scenario.value(*condition) {
+                    yes.push_way(scenario, tests)
+                } else {
+                    no.push_way(scenario, tests)
+                }
+            }
+        }
+    }
+}

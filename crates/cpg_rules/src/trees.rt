@@ -1,0 +1,161 @@
+//! The guards of a graph.
+ghost use Rattle.std.specs.Prelude.{◌≡◌, ◌<◌, ◌≤◌, List, ℕ, IfOk, IfErr, length};
+ghost use Rattle.cpg_base.specs.Graph.{Graph, process_count, condition_count};
+ghost use Rattle.cpg_base.specs.Activity.{active, live};
+ghost use Rattle.cpg_order.specs.Track.{track_count, most_tracks};
+ghost use Rattle.cpg_order.specs.Urgency.{IsUrgencyOrder, IsTopological};
+ghost use Rattle.cpg_order.specs.Guard.{way, deciding_along};
+ghost use Rattle.cpg_rules.specs.Trees.{TestsBelow};
+ghost use Rattle.cpg_rules.specs.Guards.{AreGuardsOf, tree_of, active_by, live_by};
+
+use crate::GuardTree;
+use crate::edges::{EdgeGuard, edge_guards};
+use crate::growing::{grown, tracks};
+use crate::steps::steps_of;
+use cpg_base::{Order, OutOfMemory, Problem, Scenario};
+use std::alloc::{AllocError, AllocFailed, Global};
+use std::marker::Model;
+
+/// How many tracks a graph has at most.
+const MOST_TRACKS: u32 = cpg_base::MOST_TRACKS as u32;
+
+/// How each process comes to be active, and when each edge is live: seen as the number of conditions, a tree for each
+/// process, and a guard for each edge.
+#[derive(Drop)]
+pub struct GuardTrees {
+    conditions: u32,
+    trees: Vec<GuardTree>,
+    edges: Vec<EdgeGuard>,
+}
+
+impl Model for GuardTrees {
+    ghost use Rattle.std.specs.Coded.{codes};
+    ghost use Rattle.cpg_rules.specs.TreeCode.{tree_code};
+    ghost use Rattle.cpg_rules.specs.Guards.{Guards, AreBelow};
+
+    ghost Value = { Guards };
+
+    ghost coded = { Prim.hlevel (codes, tree_code) };
+
+    ghost view = { λ g. record { conditions = g.conditions; trees = g.trees.items; edges = g.edges.items } };
+
+    ghost invariant = { λ g. AreBelow (record { conditions = g.conditions; trees = g.trees.items; edges = g.edges.items }) };
+}
+
+/// Why a graph has no guards.
+#[derive(Clone, Copy, Debug, PartialEq, Eq)]
+pub enum GuardFault {
+    /// It has more than 16,384 tracks.
+    TooManyTracks,
+    /// Want of memory.
+    OutOfMemory,
+}
+
+impl From<OutOfMemory> for GuardFault {
+    ghost use Rattle.std.specs.Prelude.{◌≡◌};
+    ghost use Rattle.cpg_rules.specs.declared.trees.GuardFault.{GuardFault};
+
+    ghost from_gives = { λ _ fault. fault ≡ GuardFault.OutOfMemory };
+
+    fn from(_: OutOfMemory) -> Self {
+        GuardFault::OutOfMemory
+    }
+}
+
+/// The guards of a graph, by the trees along its urgency order.
+///
+/// `TooManyTracks` comes exactly where the graph has more than 16,384 tracks.
+pub fn guards(alloc: Global, problem: &Problem, order: &Order) -> Result<GuardTrees, GuardFault>
+    requires { IsTopological problem.now order.now }
+    ensures guards { IfOk result (AreGuardsOf problem.now order.now) }
+    ensures few { IfOk result (λ _. track_count problem.now ≤ most_tracks) }
+    ensures many { result ≡ Err GuardFault.TooManyTracks → most_tracks < track_count problem.now }
+{
+    let count = problem.processes().len();
+    let steps = steps_of(alloc, problem, order)?;
+    if tracks(steps.as_slice(), [None; 128], MOST_TRACKS + 1) > MOST_TRACKS {
+        return Err(GuardFault::TooManyTracks);
+    }
+    let trees = grown(alloc, count, steps.as_slice(), [None; 128])?;
+    let edges = edge_guards(alloc, problem)?;
+    Ok(GuardTrees {
+        conditions: problem.conditions(),
+        trees,
+        edges,
+    })
+}
+
+impl GuardTrees {
+    /// The tree of a process.
+    pub fn guard_of(&self, process: u32) -> &GuardTree
+        requires { process < length self.now.trees }
+        ensures tree { result.now ≡ tree_of self.now process }
+        ensures below { TestsBelow self.now.conditions result.now }
+    {
+        &self.trees[process as usize]
+    }
+
+    /// Whether a process is active in a scenario.
+    pub fn active(&self, process: u32, scenario: &Scenario) -> bool
+        requires process { process < length self.now.trees }
+        requires scenario { length scenario.now.values ≡ self.now.conditions }
+        ensures tree { result ≡ active_by self.now scenario.now.values process }
+        ensures active { (g : Graph) (order : List ℕ) → AreGuardsOf g order self.now → result ≡ active g scenario.now.values process }
+    {
+        self.guard_of(process).at(scenario).is_active()
+    }
+
+    /// Whether an edge is live in a scenario.
+    pub fn live(&self, edge: u32, scenario: &Scenario) -> bool
+        requires edge { edge < length self.now.edges }
+        requires scenario { length scenario.now.values ≡ self.now.conditions }
+        ensures edge { result ≡ live_by self.now scenario.now.values edge }
+        ensures live { (g : Graph) (order : List ℕ) → IsTopological g order → AreGuardsOf g order self.now → result ≡ live g scenario.now.values edge }
+    {
+        let live = self.is_live(edge, scenario);
+        live
+    }
+
+    /// Whether an edge is live in a scenario, by the guards.
+    fn is_live(&self, edge: u32, scenario: &Scenario) -> bool
+        requires edge { edge < length self.now.edges }
+        requires scenario { length scenario.now.values ≡ self.now.conditions }
+        ensures { result ≡ live_by self.now scenario.now.values edge }
+    {
+        let guard = self.edges[edge as usize];
+        if !self.active(guard.source, scenario) {
+            return false;
+        }
+        match guard.test {
+            None => true,
+            Some(test) => scenario.value(test.condition) == test.value,
+        }
+    }
+
+    /// The conditions that decide a process in a scenario, in urgency order.
+    pub fn deciding(
+        &self,
+        alloc: Global,
+        process: u32,
+        scenario: &Scenario,
+    ) -> Result<Vec<u32>, OutOfMemory>
+        requires process { process < length self.now.trees }
+        requires scenario { length scenario.now.values ≡ self.now.conditions }
+        ensures way { IfOk result (λ conditions. conditions.items ≡ way (tree_of self.now process) scenario.now.values) }
+        ensures deciding { IfOk result (λ conditions. (g : Graph) (order : List ℕ) → IsUrgencyOrder g order → IsTopological g order → AreGuardsOf g order self.now → conditions.items ≡ deciding_along g order scenario.now.values process) }
+    {
+        let conditions = self.way(alloc, process, scenario)?;
+        Ok(conditions)
+    }
+
+    /// The conditions that are tested on a scenario's way through the tree of a process.
+    fn way(&self, alloc: Global, process: u32, scenario: &Scenario) -> Result<Vec<u32>, OutOfMemory>
+        requires process { process < length self.now.trees }
+        requires scenario { length scenario.now.values ≡ self.now.conditions }
+        ensures { IfOk result (λ conditions. conditions.items ≡ way (tree_of self.now process) scenario.now.values) }
+    {
+        let mut conditions = Vec::new(alloc);
+        self.guard_of(process).push_way(scenario, &mut conditions)?;
+        Ok(conditions)
+    }
+}

@@ -1,5 +1,0 @@
-use Rattle.std.proofs.Common.{◌≡◌, map, take}
-use Rattle.cpg_show.proofs.labels.edge_ends.Given as goal
-
-abbrev pub invariant-loop-edge : goal.invariant-loop-edge
-invariant-loop-edge l = l.ends.items ≡ map (λ e. (e.from, e.to)) (take l.edge-index l.edges)

@@ -1,5 +1,0 @@
-use Rattle.std.proofs.Common.{◌≡◌, map, take}
-use Rattle.cpg_show.proofs.labels.process_names.Given as goal
-
-abbrev pub invariant-loop-process : goal.invariant-loop-process
-invariant-loop-process l = map (λ n. n.now) l.names.items ≡ map (λ p. p.name) (take l.process-index l.processes)

@@ -1,7 +1,0 @@
-use Rattle.std.proofs.Common.{◌≡◌, map}
-use Rattle.cpg_base.specs.Numbers.{numbers_below}
-use Rattle.cpg_base.specs.Duration.{duration}
-use Rattle.cpg_table.proofs.graph_head.durations_of.Given as goal
-
-abbrev pub invariant-loop-faults : goal.invariant-loop-faults
-invariant-loop-faults l = l.times.items ≡ map (duration l.problem l.process) (numbers_below l.faults)

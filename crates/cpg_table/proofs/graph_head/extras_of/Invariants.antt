@@ -1,6 +1,0 @@
-use Rattle.std.proofs.Common.{◌≡◌, map, take}
-use Rattle.cpg_table.specs.GraphHead.{extra_of}
-use Rattle.cpg_table.proofs.graph_head.extras_of.Given as goal
-
-abbrev pub invariant-loop-process : goal.invariant-loop-process
-invariant-loop-process l = l.extras.items ≡ map extra_of (take l.process-index l.processes)

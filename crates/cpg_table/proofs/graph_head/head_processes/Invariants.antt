@@ -1,7 +1,0 @@
-use Rattle.std.proofs.Common.{◌≡◌, map}
-use Rattle.cpg_base.specs.Numbers.{numbers_below}
-use Rattle.cpg_table.specs.GraphHead.{head_process}
-use Rattle.cpg_table.proofs.graph_head.head_processes.Given as goal
-
-abbrev pub invariant-loop-process : goal.invariant-loop-process
-invariant-loop-process l = l.processes.items ≡ map (head_process l.problem) (numbers_below l.process)

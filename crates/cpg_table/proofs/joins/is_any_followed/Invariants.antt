@@ -1,6 +1,0 @@
-use Rattle.std.proofs.Common.{◌≡◌, drop}
-use Rattle.cpg_table.specs.Merging.{is_any_followed, is_any_followed_from}
-use Rattle.cpg_table.proofs.joins.is_any_followed.Given as goal
-
-abbrev pub invariant-loop-next : goal.invariant-loop-next
-invariant-loop-next l = is_any_followed l.faults l.variable l.columns ≡ is_any_followed_from l.faults l.variable l.last (drop l.next-index l.rest)

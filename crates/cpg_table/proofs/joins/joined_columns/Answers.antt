@@ -1,9 +1,0 @@
-use Rattle.std.proofs.Common.{◌≡◌, false, sym, rules}
-use Rattle.cpg_table.specs.Merging.{is_any_followed}
-use Rattle.cpg_table.proofs.MergingSteps.{not_walked_over}
-use Rattle.cpg_table.proofs.joins.joined_columns.Goals as goal
-
-pub returns-then-not-is_any_followed : goal.returns-then-not-is_any_followed
-returns-then-not-is_any_followed c =
-    let none : is_any_followed c.args.faults c.args.variable c.args.columns.items ≡ false = search rules in
-    sym (not_walked_over c.args.faults c.args.variable c.args.columns.items none)

@@ -1,6 +1,0 @@
-use Rattle.std.proofs.Common.{◌≡◌, take}
-use Rattle.cpg_table.specs.Merging.{raised}
-use Rattle.cpg_table.proofs.joins.raised_cube.Given as goal
-
-abbrev pub invariant-loop-literal : goal.invariant-loop-literal
-invariant-loop-literal l = l.raised ≡ raised l.variable l.high (take l.literal-index l.literal-items)

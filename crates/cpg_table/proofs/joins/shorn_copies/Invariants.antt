@@ -1,6 +1,0 @@
-use Rattle.std.proofs.Common.{◌≡◌, take}
-use Rattle.cpg_table.specs.Merging.{all_shorn}
-use Rattle.cpg_table.proofs.joins.shorn_copies.Given as goal
-
-abbrev pub invariant-loop-column : goal.invariant-loop-column
-invariant-loop-column l = l.shorn.items ≡ all_shorn l.faults (take l.column-index l.columns)

@@ -1,9 +1,0 @@
-use Rattle.std.proofs.Common.{rules}
-use Rattle.cpg_table.proofs.MergingTotals.{mark_kept, mark_off, from_off}
-use Rattle.cpg_table.proofs.marks.mark_at.Goals as goal
-
-pub returns-clause-kept : goal.returns-clause-kept
-returns-clause-kept c = mark_kept c.args.marks.now c.args.literal.variable c.has_partner.result c.if-marks-place.false
-
-pub returns-clause-marked : goal.returns-clause-marked
-returns-clause-marked c off = from_off c.has_partner.result (mark_off c.args.marks.now c.args.literal.variable c.has_partner.result (search rules) off) c.has_partner.ensures

@@ -1,6 +1,0 @@
-use Rattle.std.proofs.Common.{take}
-use Rattle.cpg_table.specs.Totals.{AreMarkedBy}
-use Rattle.cpg_table.proofs.marks.marks_by.Given as goal
-
-abbrev pub invariant-loop-place : goal.invariant-loop-place
-invariant-loop-place l = AreMarkedBy l.sorted l.marks (take l.place l.columns)

@@ -1,6 +1,0 @@
-use Rattle.std.proofs.Common.{ℕ, ◌<◌, ◌+◌, ◌%◌, ◌^◌, Contains}
-use Rattle.cpg_table.specs.Totals.{hash_of, ended}
-use Rattle.cpg_table.proofs.totals.has_partner.Given as goal
-
-abbrev pub invariant-loop-low : goal.invariant-loop-low
-invariant-loop-low l = (low : ℕ) → low < l.low → Contains l.sorted ((l.rest + hash_of (ended l.literal low)) % 2 ^ 64) → ⊥

@@ -1,6 +1,0 @@
-use Rattle.std.proofs.Common.{◌≡◌, map, take}
-use Rattle.cpg_table.specs.Totals.{total_of}
-use Rattle.cpg_table.proofs.totals.totals.Given as goal
-
-abbrev pub invariant-loop-column : goal.invariant-loop-column
-invariant-loop-column l = l.totals.items ≡ map total_of (take l.column-index l.columns)

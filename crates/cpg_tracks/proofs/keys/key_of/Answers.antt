@@ -1,0 +1,11 @@
+use Rattle.std.proofs.Common.{Contains, get_or, subst}
+use Rattle.std.proofs.lemmas.List.Elements.{Contains-get_or}
+use Rattle.cpg_base.proofs.Inputs.{inputs_parts}
+use Rattle.cpg_tracks.proofs.keys.key_of.Goals as goal
+
+pub source-requires : goal.source-requires
+source-requires c =
+    let g = c.args.problem.now in
+    let xs = c.inputs-edge-items.result.now in
+    let e = get_or xs c.loop-edge.edge-index 0 in
+    (inputs_parts g c.args.process e (subst (λ ys. Contains ys e) (c.inputs-edge-items.ensures.of_graph g c.requires.links) (Contains-get_or xs c.loop-edge.edge-index 0 c.loop-edge-test.true))).0

@@ -1,0 +1,10 @@
+use Rattle.std.proofs.Common.{◌+◌, ◌^◌}
+use Rattle.cpg_tracks.specs.Walks.{KeysSoFar}
+use Rattle.cpg_tracks.specs.Keys.{AreLow}
+use Rattle.cpg_tracks.proofs.keys.keys.Given as goal
+
+abbrev pub invariant-loop-process : goal.invariant-loop-process
+invariant-loop-process l = record {
+  set : KeysSoFar l.problem l.order l.schedules l.keys.items l.process-index;
+  low : AreLow (2 ^ 60 + l.process-index) l.keys.items;
+}

@@ -1,0 +1,6 @@
+use Rattle.std.proofs.Common.{◌≡◌, take}
+use Rattle.cpg_tracks.specs.Keys.{latest}
+use Rattle.cpg_tracks.proofs.keys.latest.Given as goal
+
+abbrev pub invariant-loop-starts : goal.invariant-loop-starts
+invariant-loop-starts l = l.latest ≡ latest (take l.starts-index l.schedules) l.process

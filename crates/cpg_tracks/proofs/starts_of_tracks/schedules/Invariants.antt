@@ -1,0 +1,10 @@
+use Rattle.std.proofs.Common.{◌^◌, All, map, take}
+use Rattle.cpg_tracks.specs.Tracks.{AreSchedules}
+use Rattle.cpg_tracks.specs.Track.{AreBy}
+use Rattle.cpg_tracks.proofs.starts_of_tracks.schedules.Given as goal
+
+abbrev pub invariant-loop-track : goal.invariant-loop-track
+invariant-loop-track l = record {
+  greedy : AreSchedules l.admitted.graph (map (λ t. t.outcome) (take l.track-index l.tracks)) l.schedules.items;
+  early : All (AreBy (2 ^ 60)) l.schedules.items;
+}

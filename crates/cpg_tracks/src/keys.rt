@@ -1,0 +1,62 @@
+//! The keys of the processes.
+ghost use Rattle.std.specs.Prelude.{◌≡◌, ◌<◌, ◌≤◌, ◌+◌, ◌^◌, All, IfOk, length};
+ghost use Rattle.cpg_base.specs.Graph.{process_count};
+ghost use Rattle.cpg_order.specs.Links.{links_of};
+ghost use Rattle.cpg_order.specs.Urgency.{IsTopological};
+ghost use Rattle.cpg_tracks.specs.Tracks.{key_by};
+ghost use Rattle.cpg_tracks.specs.Track.{AreBy};
+ghost use Rattle.cpg_tracks.specs.Walks.{AreKeys};
+ghost use Rattle.cpg_tracks.specs.Keys.{latest, AreLow};
+
+use crate::Starts;
+use cpg_base::{Order, OutOfMemory, Problem};
+use cpg_order::Links;
+use std::alloc::Global;
+
+/// The latest start of a process in these schedules, or 0 where it has none.
+fn latest(schedules: &[Starts], process: u32) -> u64
+    ensures { result ≡ latest schedules.now process }
+{
+    let mut latest = 0;
+    for starts in schedules {
+        if let Some(start) = starts.of(process) {
+            latest = latest.max(start);
+        }
+    }
+    latest
+}
+
+/// The key of a process: its latest start, and one more than the key of each predecessor where that is greater.
+fn key_of(problem: &Problem, links: &Links, schedules: &[Starts], keys: &[u64], process: u32) -> u64
+    requires links { links.now ≡ links_of problem.now }
+    requires process { process < process_count problem.now }
+    requires keys { length keys.now ≡ process_count problem.now }
+    requires low { AreLow (2 ^ 61) keys.now }
+    ensures { result ≡ key_by problem.now schedules.now keys.now process }
+{
+    let mut key = latest(schedules, process);
+    for edge in links.inputs(process) {
+        key = key.max(keys[problem.source(*edge) as usize] + 1);
+    }
+    key
+}
+
+/// The key of each process.
+pub fn keys(
+    alloc: Global,
+    problem: &Problem,
+    order: &Order,
+    schedules: &[Starts],
+) -> Result<Vec<u64>, OutOfMemory>
+    requires order { IsTopological problem.now order.now }
+    requires early { All (AreBy (2 ^ 60)) schedules.now }
+    ensures { IfOk result (λ keys. AreKeys problem.now schedules.now keys.items) }
+{
+    let links = Links::of(alloc, problem)?;
+    let mut keys = vec![in alloc; 0u64; problem.processes().len()]?;
+    for process in order.processes() {
+        let key = key_of(problem, &links, schedules, keys.as_slice(), *process);
+        keys[*process as usize] = key;
+    }
+    Ok(keys)
+}

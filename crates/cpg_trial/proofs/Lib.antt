@@ -1,3 +1,0 @@
-mod Finishes
-mod Figures
-mod Values

@@ -1,6 +1,0 @@
-use Rattle.std.proofs.Common.{◌≡◌, ◌+◌, drop}
-use Rattle.cpg_trial.specs.Trial.{columns_in}
-use Rattle.cpg_trial.proofs.columns.column_total.Given as goal
-
-abbrev pub invariant-loop-node : goal.invariant-loop-node
-invariant-loop-node l = l.count + columns_in (drop l.node l.tables.nodes) ≡ columns_in l.tables.nodes

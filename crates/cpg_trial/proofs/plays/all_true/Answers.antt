@@ -1,9 +1,0 @@
-use Rattle.std.proofs.Common.{sym, subst}
-use Rattle.cpg_base.specs.Scenario.{IsScenario}
-use Rattle.cpg_trial.proofs.Values.{true_lawful}
-use Rattle.cpg_trial.proofs.plays.all_true.Goals as goal
-
-pub ending_of-requires-clause-scenario : goal.ending_of-requires-clause-scenario
-ending_of-requires-clause-scenario c =
-    let g = c.args.admitted.now.graph in
-    subst (IsScenario g) (sym (rw c.problem.ensures.problem at c.in_ok-scenario.ensures)) (true_lawful g c.requires.processes c.requires.faults)

@@ -1,5 +1,0 @@
-use Rattle.cpg_trial.proofs.Figures.{admission_fault}
-use Rattle.cpg_trial.proofs.trials.admitted_of.Goals as goal
-
-pub unadmitted-requires : goal.unadmitted-requires
-unadmitted-requires c = admission_fault c.args.number c.in_ok-problem.problem c.in-Err.refused.fault c.in_ok-problem.ensures c.in-Err.ensures.fault

@@ -1,5 +1,0 @@
-use Rattle.cpg_trial.proofs.Figures.{compile_fault}
-use Rattle.cpg_trial.proofs.trials.compiled_of.Goals as goal
-
-pub uncompiled-requires : goal.uncompiled-requires
-uncompiled-requires c = compile_fault c.args.admitted.now.graph c.args.admitted.now.order c.in-Err.fault c.requires c.problem-graph.ensures.admitted.topological c.in-Err.ensures.fault

@@ -1,5 +1,0 @@
-use Rattle.cpg_trial.proofs.Figures.{trial_is}
-use Rattle.cpg_trial.proofs.trials.run_trial.Goals as goal
-
-pub returns : goal.returns
-returns c = trial_is c.args.number c.in_ok-admitted.admitted c.in_ok-compiled.compiled c.in_ok-admitted.ensures.graph c.in_ok-admitted.ensures.admitted c.in_ok-compiled.ensures c.figures_of.result c.figures_of.ensures

@@ -1,0 +1,5 @@
+use Rattle.cpg_tune.proofs.Kept.{keeps_rules}
+use Rattle.cpg_tune.proofs.retuned_keep_rules.Goals as goal
+
+pub returns : goal.returns
+returns c = keeps_rules

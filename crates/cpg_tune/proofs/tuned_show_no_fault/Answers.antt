@@ -1,0 +1,5 @@
+use Rattle.cpg_tune.proofs.Kept.{tuned_no_fault}
+use Rattle.cpg_tune.proofs.tuned_show_no_fault.Goals as goal
+
+pub returns : goal.returns
+returns c = tuned_no_fault

@@ -1,0 +1,38 @@
+-- A graph that keeps all rules keeps them with other parts and another fault number: no rule rests on these.
+use Rattle.std.specs.Prelude.{ℕ, ◌≡◌, List, length}
+use Rattle.cpg_base.specs.Graph.{Graph, process_count}
+use Rattle.cpg_base.specs.WellFormed.{HasSingleJoins, HasSenderSlots}
+use Rattle.cpg_order.specs.Cycle.{HasCycle}
+use Rattle.cpg_order.specs.Track.{track_count}
+use Rattle.cpg_rules.specs.Guards.{Guards}
+use Rattle.cpg_rules.specs.declared.admission.RuleFault.{RuleFault}
+use Rattle.cpg_rules.specs.declared.admission.RuleFault.TheVariants.{OutOfMemory}
+use Rattle.cpg_rules.specs.Rules.{AllFit}
+use Rattle.cpg_rules.specs.Admission.{IsAdmitted}
+use Rattle.cpg_rules.specs.Faults.{ShowsFault}
+use Rattle.cpg_tune.specs.Retuned.{retuned}
+use Rattle.cpg_tune.specs.Asked.{row_graph}
+
+-- what the rules say of a graph they say of another
+pub record KeepsRules (g h : Graph) : Type 0 where
+  pub cycle : HasCycle h → HasCycle g
+  pub tracks : track_count h ≡ track_count g
+  pub joins : HasSingleJoins g → HasSingleJoins h
+  pub slots : HasSenderSlots g → HasSenderSlots h
+  pub sizes : AllFit g → AllFit h
+
+-- with a number of parts for each process, and any fault number
+abbrev pub RetunedKeepRules : Type 0
+RetunedKeepRules = (g : Graph) (parts : List ℕ) (faults : ℕ) → length parts ≡ process_count g → KeepsRules g (retuned g parts faults)
+
+-- no fault is shown but want of memory
+abbrev pub ShowsNoFault : Graph → Type 0
+ShowsNoFault g = (fault : RuleFault) → ShowsFault g fault → fault ≡ OutOfMemory
+
+-- so an admitted graph is not refused with other parts and another fault number
+abbrev pub RetunedShowNoFault : Type 0
+RetunedShowNoFault = (g : Graph) (order : List ℕ) (guards : Guards) → IsAdmitted g order guards → (parts : List ℕ) (faults : ℕ) → length parts ≡ process_count g → ShowsNoFault (retuned g parts faults)
+
+-- nor with its best parts
+abbrev pub TunedShowNoFault : Type 0
+TunedShowNoFault = (g : Graph) (order : List ℕ) (guards : Guards) → IsAdmitted g order guards → (faults : ℕ) → ShowsNoFault (row_graph g faults)

@@ -1,5 +1,0 @@
-use Rattle.cpg_tune_laws.proofs.Kept.{tuned_no_fault}
-use Rattle.cpg_tune_laws.proofs.tuned_show_no_fault.Goals as goal
-
-pub returns : goal.returns
-returns c = tuned_no_fault

@@ -1,9 +1,0 @@
-use Rattle.std.proofs.Common.{◌∙◌, ap}
-use Rattle.toml.specs.View.{view, members_view}
-use Rattle.cpg_writer.specs.Tree.{with_member}
-use Rattle.cpg_writer.proofs.Members.{members_view-insert}
-use Rattle.cpg_writer.proofs.tables.with.Goals as goal
-
-pub returns : goal.returns
-returns c = ap members_view c.in_ok-insert.ensures.entries ∙ members_view-insert c.args.table.entries c.in_ok-key.key c.args.value
-    ∙ ap (λ k. with_member k (view c.args.value) (members_view c.args.table.entries)) c.in_ok-key.ensures.ok

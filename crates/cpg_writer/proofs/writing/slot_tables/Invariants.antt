@@ -1,8 +1,0 @@
-use Rattle.std.proofs.Common.{◌≡◌, take, map}
-use Rattle.toml.specs.Data.{table}
-use Rattle.toml.specs.View.{view}
-use Rattle.cpg_writer.specs.Tree.{slot_members}
-use Rattle.cpg_writer.proofs.writing.slot_tables.Given as goal
-
-abbrev pub invariant-loop-slot : goal.invariant-loop-slot
-invariant-loop-slot l = map view l.made.items ≡ map (λ s. table (slot_members l.problem.nodes s)) (take l.slot-index l.slot-items)
