@@ -5,7 +5,8 @@
     tools/gate_times.py NAME ..    rt ci NAME ..: some crates, and those below them that no earlier run proved
 
 The steps are a crate's proof, its tests (proved with them once more), the seed (the proof that its wrong bodies are tried over), and the
-wrong bodies. Each rattle process is looked at twice a second, so that up to half a second of each is missed; the sum at the end is exact.
+wrong bodies. Each rattle process is looked at twice a second, with those that it started and that have ended, so that up to half a
+second of each is missed; the sum at the end is exact.
 """
 import os, resource, subprocess, sys, time
 
@@ -20,7 +21,7 @@ def words_of(pid):
 def seconds_of(pid):
     with open(f"/proc/{pid}/stat") as it:
         fields = it.read().rpartition(")")[2].split()
-    return (int(fields[11]) + int(fields[12])) / TICK
+    return sum(map(int, fields[11:15])) / TICK
 
 
 def step_of(words):
@@ -74,4 +75,7 @@ def main():
 
 
 if __name__ == "__main__":
+    if "--help" in sys.argv:
+        print(__doc__)
+        sys.exit(0)
     sys.exit(main())
