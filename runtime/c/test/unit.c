@@ -81,6 +81,11 @@ static void sender(const uint8_t *pack, uint32_t size)
     CHECK(cpg_ended(&node, 30U, 0U, 0U, 0U) == CPG_ORDER);
     CHECK(cpg_ended(&node, 30U, 0U, 1U, 0U) == CPG_OK);
     CHECK(cpg_poll(&node, 100U, &event) && is_event(CPG_SEND, 80U, 2U, 1U));
+    cpg_begin(&node);
+    CHECK(cpg_poll(&node, 0U, &event));
+    cpg_begin(&node);                                                   /* a cycle that is broken off leaves nothing */
+    CHECK(cpg_next(&node) == 0U);
+    CHECK(cpg_ended(&node, 30U, 0U, 0U, 0U) == CPG_END);
 }
 
 /* N2 of branching hears the value of A at 50, in an `always` column, and e0 at 70 where it is true. Items: 4 e0, 8 the value. */
