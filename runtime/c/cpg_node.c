@@ -653,7 +653,7 @@ static void sort_dues(cpg_node *node)
     terminates \true;
     assigns node->k, node->nodes, node->self, node->processes, node->conditions, node->edges, node->broadcast, node->edges_at,
         node->own, node->acting, node->rows, node->dues, node->from, node->next;
-    ensures node->k == 0 && node->own == 0 && node->rows == 0 && node->dues == 0; */
+    ensures cpg_fits(node); */
 static void shut(cpg_node *node)
 {
     node->k = 0U;
@@ -672,14 +672,19 @@ static void shut(cpg_node *node)
     node->next = 0U;
 }
 
-cpg_status cpg_open(cpg_node *node, const uint8_t *pack, uint32_t size, const char *name, uint32_t length)
+/* Reads the whole pack, and puts its index in order. */
+/*@ requires cpg_is_open(node);
+    requires length <= LONGEST_NAME ==> \valid_read(name + (0 .. length - 1));
+    terminates \true;
+    assigns node->bad, node->k, node->nodes, node->self, node->processes, node->edges, node->broadcast, node->edges_at,
+        node->node_of[0 .. CPG_MAX_PROCESSES - 1], node->told_by[0 .. CPG_MAX_CONDITIONS - 1], node->conditions,
+        node->execution[0 .. CPG_MAX_OWN - 1], node->own, node->acting, node->item[0 .. CPG_MAX_ROWS - 1], node->rows,
+        node->due[0 .. CPG_MAX_COLUMNS - 1], node->dues;
+    ensures cpg_fits(node); */
+static cpg_status read_pack(cpg_node *node, uint32_t size, const char *name, uint32_t length)
 {
     reading reader = { 0U, 0U, true, false };
     cpg_status status = CPG_OK;
-    shut(node);
-    node->bad = 0U;
-    node->pack = pack;
-    node->size = (size <= CPG_MAX_SIZE) ? size : 0U;
     read_head(node, &reader, name, length);
     read_rows(node, &reader);
     node->bad = reader.at;
@@ -694,6 +699,16 @@ cpg_status cpg_open(cpg_node *node, const uint8_t *pack, uint32_t size, const ch
     } else {
         sort_dues(node);
     }
+    return status;
+}
+
+cpg_status cpg_open(cpg_node *node, const uint8_t *pack, uint32_t size, const char *name, uint32_t length)
+{
+    cpg_status status;
+    shut(node);
+    node->pack = pack;
+    node->size = (size <= CPG_MAX_SIZE) ? size : 0U;
+    status = read_pack(node, size, name, length);
     if (status != CPG_OK) {
         shut(node);
     }

@@ -130,9 +130,10 @@ typedef struct {
 
 /* Comments that begin with @ are contracts in ACSL, for tools/prove-runtime. What they require are the duties of the caller: call
  * cpg_open first, whatever it answers; leave the pack where it is; give pointers to what is there, each apart from the others. */
-/*@ predicate cpg_is_open(cpg_node *node) =
-        \valid(node) && \valid_read(node->pack + (0 .. node->size - 1)) &&
+/*@ predicate cpg_fits(cpg_node *node) =
         node->k <= 8 && node->own <= CPG_MAX_OWN && node->rows <= CPG_MAX_ROWS && node->dues <= CPG_MAX_COLUMNS;
+    predicate cpg_is_open(cpg_node *node) =
+        \valid(node) && \valid_read(node->pack + (0 .. node->size - 1)) && cpg_fits(node);
     predicate cpg_is_node(cpg_node *node) =
         cpg_is_open(node) && (\forall integer i; 0 <= i < node->rows ==> node->came[i] == 0 || node->came[i] == 1); */
 
