@@ -128,24 +128,61 @@ typedef struct {
     cpg_execution execution[CPG_MAX_OWN];       /* by the row of the start */
 } cpg_node;
 
+/* Comments that begin with @ are contracts in ACSL, for tools/prove-runtime. What they require are the duties of the caller: call
+ * cpg_open first, whatever it answers; leave the pack where it is; give pointers to what is there, each apart from the others. */
+/*@ predicate cpg_fits(cpg_node *node) =
+        node->k <= 8 && node->own <= CPG_MAX_OWN && node->rows <= CPG_MAX_ROWS && node->dues <= CPG_MAX_COLUMNS;
+    predicate cpg_is_open(cpg_node *node) =
+        \valid(node) && \valid_read(node->pack + (0 .. node->size - 1)) && cpg_fits(node);
+    predicate cpg_is_node(cpg_node *node) =
+        cpg_is_open(node) && (\forall integer i; 0 <= i < node->rows ==> node->came[i] == 0 || node->came[i] == 1); */
+
 /* Opens a pack for the first node of a name, and begins a cycle. The pack has to stay. Where the answer isn't CPG_OK the node is
  * closed: it does nothing. It takes about c log c steps for c columns; all other calls are short. */
+/*@ requires \valid(node);
+    requires size <= CPG_MAX_SIZE ==> \valid_read(pack + (0 .. size - 1)) && \separated(node, pack + (0 .. size - 1));
+    requires length <= 32 ==> \valid_read(name + (0 .. length - 1)) && \separated(node, name + (0 .. length - 1));
+    terminates \true;
+    assigns *node;
+    ensures cpg_is_node(node); */
 cpg_status cpg_open(cpg_node *node, const uint8_t *pack, uint32_t size, const char *name, uint32_t length);
 
 /* Begins a cycle: time is 0 again, nothing runs, and nothing has been heard. */
+/*@ requires cpg_is_open(node);
+    terminates \true;
+    assigns node->from, node->next, node->heard[0 .. CPG_VARIABLES - 1], node->sure[0 .. CPG_VARIABLES - 1],
+        node->came[0 .. CPG_MAX_ROWS - 1], node->execution[0 .. CPG_MAX_OWN - 1];
+    ensures cpg_is_node(node); */
 void cpg_begin(cpg_node *node);
 
 /* The next instant at which the node has something to do: CPG_NEVER where there is none, unless something is heard or ends. */
+/*@ requires cpg_is_node(node);
+    terminates \true;
+    assigns \nothing; */
 uint64_t cpg_next(const cpg_node *node);
 
 /* Takes turns up to and at `until`, as far as the next event. Answers whether there is one; where there is none, all these turns
  * are over. Frames that arrive at an instant and executions that end then are told before the turn of that instant. */
+/*@ requires cpg_is_node(node);
+    requires \valid(event) && \separated(node, event);
+    terminates \true;
+    assigns node->from, node->next, node->heard[0 .. CPG_VARIABLES - 1], node->sure[0 .. CPG_VARIABLES - 1],
+        node->execution[0 .. CPG_MAX_OWN - 1], event->time, event->kind, event->item, event->column, event->value;
+    ensures cpg_is_node(node); */
 bool cpg_poll(cpg_node *node, uint64_t until, cpg_event *event);
 
 /* A frame has arrived at a time. The value is looked at where the item is a broadcast. */
+/*@ requires cpg_is_node(node);
+    terminates \true;
+    assigns node->heard[0 .. CPG_VARIABLES - 1], node->sure[0 .. CPG_VARIABLES - 1], node->came[0 .. CPG_MAX_ROWS - 1];
+    ensures cpg_is_node(node); */
 cpg_status cpg_hear(cpg_node *node, uint64_t time, uint16_t item, uint16_t column, uint8_t value);
 
 /* The execution of a process has ended by a time, with so many faults; `value` is that of its condition, 0 where it has none. */
+/*@ requires cpg_is_node(node);
+    terminates \true;
+    assigns node->execution[0 .. CPG_MAX_OWN - 1];
+    ensures cpg_is_node(node); */
 cpg_status cpg_ended(cpg_node *node, uint64_t time, uint16_t process, uint16_t faults, uint8_t value);
 
 #ifdef __cplusplus
