@@ -176,7 +176,7 @@ class Files:
     """The files of a command, by what they are."""
 
     def __init__(self, words, command=None):
-        self.words, self.command, self.by, self.name, self.turns = words, command, {}, None, None
+        self.words, self.command, self.by, self.name = words, command, {}, None
         self.order = list(self.of_form() if command in COMMANDS else self.of_content())
         self.graphs = [file for kind, file in self.order if kind == "graph"]
         for kind, file in self.order:
@@ -204,13 +204,13 @@ class Files:
         """The files of a command that isn't known: packs begin so, the first other one is the graph, the next is what it may be."""
         files = [File(word) for word in self.words if not word.startswith("-") and not word.isdigit()]
         self.name = next((it.path for it in files if it.fault), None)
-        first = True
+        first, pairs = True, any(word.isdigit() for word in self.words)  # of hyper
         for number, file in enumerate(files):
             if file.bytes.startswith(b"CPGT"):
                 yield "pack", file
             elif file.path.endswith(".pack") or file.known and not file.bytes and number:
                 yield "pack", file
-            elif first:
+            elif first or pairs:
                 first = False
                 yield "graph", file
             else:
@@ -254,11 +254,12 @@ def path_of(table, number, *key):
 @explains(1, "^cpgc: words$")
 def words(files):
     forms = [f"{name} {form}" for name, form in COMMANDS.items()]
-    if files.command is None and not files.words:
-        yield f"the words have no form; the forms are: {', '.join(forms)}"
+    if files.command is None:
+        yield f"the words of the command have no form; the forms are: {', '.join(forms)}"
+        yield mend("write the command as one of these")
     elif files.command not in COMMANDS:
         found = nearest(files.command, COMMANDS, 0.5)
-        yield f"{files.command or 'no word'} is no command: {', '.join(COMMANDS)}" if files.command else "a command is missing: " + ", ".join(COMMANDS)
+        yield (f"{files.command} is no command" if files.command else "a command is missing") + f": {', '.join(COMMANDS)}"
         yield mend(f"cpgc {found} {COMMANDS[found]}" if found else "begin with one of these; man cpgc has their forms")
     else:
         yield f"{files.command} is written as: cpgc {files.command} {COMMANDS[files.command]}; here is {wrong_word(files)}"
@@ -269,7 +270,7 @@ def wrong_word(files):
     """What is wrong in the words of a command."""
     rest = files.words[:files.words.index("--")] if "--" in files.words else files.words
     form = COMMANDS[files.command].split(" ")
-    turns = [it.partition("=")[2] if "=" in it else (rest[i + 1:] or [""])[0] for i, it in enumerate(rest) if it == "--turns" or it.startswith("--turns=")]
+    turns = [it.partition("=")[2] or (rest[i + 1:] or [""])[0] for i, it in enumerate(rest) if it == "--turns" or it.startswith("--turns=")]
     options = [it for it in rest if it.startswith("-") and len(it) > 1 and not re.fullmatch("--turns(=.*)?", it, re.S)]
     number = re.compile("[0-9]{1,20}")
     if options:
@@ -374,17 +375,18 @@ def field(files, said, _, key):
     entry, called = file.written(table, number), file.called(table, number)
     if key in entry:
         yield file.at(f"{called} has {key} = {shown(entry[key])}, which isn't {wanted(table, key)}", *path_of(table, number, key))
-        yield mend(f"give it {wanted(table, key)}" + (", without quotes" if isinstance(entry[key], str) and key_of(table, key)["type"] != "string" else ""))
+        quoted = isinstance(entry[key], str) and key_of(table, key)["type"] != "string"
+        yield mend(f"give it {wanted(table, key)}" + ", without quotes" * quoted)
         return
     yield file.at(f"{called} has no {key}, which it needs", *path_of(table, number))
-    astray = [(kind, n) for kind in COUNTS for n, it in enumerate(file.entries(kind)) if table == "top" and key in file.written(kind, n) and key not in keys_of(kind)]
+    others = [(kind, n) for kind in COUNTS for n in range(len(file.entries(kind))) if table == "top" and key in file.written(kind, n)]
+    astray = [it for it in others if key not in keys_of(it[0])] or others
     typo = nearest(key, unknown_keys(file, table, number))
     if typo:
         yield file.at(f"{typo} stands there, which is no key", *path_of(table, number, typo))
         yield mend(f"write {key} in its place")
-    elif astray or table == "top" and key == "deadline" and any("deadline" in it for it in file.entries("process")):
-        where = astray or [("process", next(n for n, it in enumerate(file.entries("process")) if "deadline" in it))]
-        yield file.at(f"a {key} stands in {file.called(*where[0])}", *where[0], key)
+    elif astray:
+        yield file.at(f"a {key} stands in {file.called(*astray[0])}", *astray[0], key)
         yield mend(f"{key} of the graph goes before the first [[..]]")
     else:
         yield mend(f"add {key} = .., {wanted(table, key)}")
@@ -408,15 +410,17 @@ def unknown_field(file, table, number):
 @explains(4, "^cpgc: refused 3 double (node|slot|process) ([0-9]+) (name|node)$")
 def double(files, table, number, key):
     number = int(number)
-    first = lambda it: next((n for n, other in enumerate(it.entries(table)[:number]) if other.get(key) == it.entry(table, number).get(key, ...)), None)
+    name_of = lambda it, n: it.entry(table, n).get(key, n)
+    first = lambda it: next((n for n in range(number) if name_of(it, n) == name_of(it, number)), None)
     file = graph_with(files, lambda it: first(it) is not None)
     name, earlier = file.entry(table, number).get(key), first(file)
     what = f"slot {number} is of {name}, which has one already" if table == "slot" else f"{table} {number} is named {name}, as an earlier one"
     yield file.at(what, table, number, key)
     if earlier is not None:
         yield file.at(f"the earlier one is {table} {earlier}", table, earlier, key)
-    yield mend("leave one of them out: a node has at most one slot in a round" if table == "slot" else f"give one of them another name, also where edges say it"
-               if table == "process" else "give one of them another name, or leave it out")
+    yield mend({
+        "slot": "leave one of them out: a node has at most one slot in a round", "process": "give one of them another name, also where edges say it",
+        "node": "give one of them another name, or leave it out"}[table])
 
 
 @explains(4, "^cpgc: refused 4 unknown (slot|process|edge) ([0-9]+) (node|from|to)$")
@@ -426,7 +430,8 @@ def unknown(files, table, number, key):
     name, names = file.entry(table, number).get(key), file.names(kind)
     other = "process" if kind == "node" else "node"
     yield file.at(f"{file.called(table, number)}: {key} = {shown(name)} is the name of no {kind}{near(name, names)}", table, number, key)
-    yield mend(f"{name} is a {other}; {key} names a {kind}" if name in file.names(other) else f"write one of {listed(names)}, or add {name} as a {kind}")
+    known = f"{name} is a {other}; {key} names a {kind}"
+    yield mend(known if name in file.names(other) else f"write one of {listed(names)}, or add {name} as a {kind}")
 
 
 @explains(4, "^cpgc: refused 5 limit (nodes|slots|processes|edges|conditions)$")
@@ -457,7 +462,7 @@ def out_of_range(files, said, _, key):
     file = graph_with(files, outside)
     value = file.entry(table, number).get(key)
     yield file.at(f"{file.called(table, number)} has {key} = {shown(value)}, which isn't {wanted(table, key)}", *path_of(table, number, key))
-    yield mend(f"give it {wanted(table, key)}" + ("; for more, take a larger time unit in the whole file" if isinstance(value, int) and value > graphs.LIMIT else ""))
+    yield mend(f"give it {wanted(table, key)}" + "; for more, take a larger time unit in the whole file" * (value is not None and value > graphs.LIMIT))
 
 
 @explains(4, "^cpgc: refused 6 cycle( [^ ]+)+$")
@@ -512,7 +517,8 @@ def no_slot(files, name):
     if sent:
         yield file.at(f"{file.called('edge', sent[0])} is a message from {name}", "edge", sent[0])
     elif tells:
-        yield file.at(f"{file.entry('edge', tells[0])['from']} has a condition by {file.called('edge', tells[0])}; its value is told to all other nodes", "edge", tells[0])
+        edge = file.called("edge", tells[0])
+        yield file.at(f"by {edge} {edges[tells[0]][1]['from']} has a condition, of which all other nodes are told", "edge", tells[0])
     yield mend(f'add a slot: {{ node = "{name}", length = .., bytes = .. }}')
 
 
@@ -650,7 +656,8 @@ def scenario_budget(file, graph, entries):
         yield file.at(f"{below[0]} has {below[1]} faults", "faults", below[0])
         yield mend("a count is 0 or more")
     else:
-        yield file.at(f"there are {sum(value for _, value in faults)} faults ({listed(f'{n} {v}' for n, v in faults)}), and the graph has at most {most}", "faults")
+        said = f"{sum(value for _, value in faults)} faults ({listed(f'{name} {value}' for name, value in faults)})"
+        yield file.at(f"there are {said}, and the graph has at most {most}", "faults")
         if most is not None:
             yield graph.at(f"faults = {most}", "faults")
         yield mend("take some out; in one cycle all processes share them")
@@ -677,8 +684,8 @@ def long(files, kind):
     most = "16,777,216 records" if kind == "stream" else f"{MOST[kind]:,} bytes"
     size = f"has {len(file.bytes):,} bytes and " if file and file.known else ""
     yield (f"{file.path}: " if file and file.path else "") + f"the {kind} {size}is longer than {most}"
-    yield mend("split the log: a beginning of it is audited, too" if kind == "log" else "is it the right file? No lawful one is so long" if kind != "stream" else
-               "close the stream by then; each cycle is a stream of its own")
+    yield mend({"log": "split the log: a beginning of it is audited, too", "stream": "close the stream by then; each cycle is a stream of its own"}.get(
+        kind, "is it the right file? No lawful one is so long"))
 
 
 @explains(4, "^cpgc: refused 17 other graph (faults|nodes|processes|edges)$")
@@ -752,7 +759,7 @@ def stream(files, number, why):
     file, number, pack = files.get("stream"), int(number), files.pack()
     record = file.bytes[14 * number:14 * number + 14] if file else b""
     what = {
-        "length": "a byte follows the close" if number and file and file.bytes[14 * number - 14:14 * number - 13] == b"\2" else "the stream ends before a close, or within a record",
+        "length": "a byte follows the close, or the stream ends before a close or within a record",
         "kind": "its kind is above 2, its value above 1, or a field that has to be 0 isn't",
         "order": "its time is before that of the record before it",
         "frame": "the node hears no such item, the item has no such column, the column arrives at another time, or it contradicts what was heard",
@@ -778,8 +785,8 @@ def item_name(pack, item):
         return ""
     names = [it["name"] for it in pack["processes"]]
     tells = [it["name"] for it in pack["processes"] if it["condition"]]
-    all_ = [f"start {it}" for it in names] + [f"e{n} {names[a]}>{names[b]}" for n, (a, b) in enumerate(pack["edges"])] + [f"tell {it}" for it in tells]
-    return f" ({all_[item]})" if item < len(all_) else ""
+    items = [f"start {it}" for it in names] + [f"e{n} {names[a]}>{names[b]}" for n, (a, b) in enumerate(pack["edges"])] + [f"tell {it}" for it in tells]
+    return f" ({items[item]})" if item < len(items) else ""
 
 
 def heard(files, pack, item):
@@ -788,7 +795,8 @@ def heard(files, pack, item):
         names, said = [it["name"] for it in pack["processes"]], item_name(pack, item).strip(" ()").split(" ")
         label = f"hear {said[0] if item < len(names) + len(pack['edges']) else said[-1]}"
         rows = [row for row in pack["rows"][pack["nodes"].index(files.name)] if row["item"] == label]
-        yield f"{files.name} hears it at {listed(f'{time} by column {n}' for n, (time, _) in enumerate(rows[0]['columns']))}" if rows else f"{files.name} doesn't hear it"
+        times = [f"{time} by column {n}" for row in rows[:1] for n, (time, _) in enumerate(row["columns"])]
+        yield f"{files.name} hears it at {listed(times)}" if rows else f"{files.name} doesn't hear it"
 
 
 @explains(4, "^cpgc: refused 22 hyper (range|differ|over|name) ([0-9]+)$")
@@ -808,7 +816,8 @@ def hyper_part(files, why, number):
         yield mend("all parts run on the same nodes with the same slots and faults: write them alike, in the same order")
     elif why == "over":
         found = [("deadline", file.entry("top", 0).get("deadline", 0), ("deadline",))]
-        found += [(f"the release of {file.called('process', n)}", it.get("release", 0), ("process", n, "release")) for n, it in enumerate(file.entries("process"))]
+        found += [(f"the release of {file.called('process', n)}", it.get("release", 0), ("process", n, "release"))
+                  for n, it in enumerate(file.entries("process"))]
         what, value, path = next((it for it in found if isinstance(period, int) and it[1] > period), found[0])
         yield file.at(f"{what} is {value}, after the period of {period} of part {number}", *path)
         yield mend("lower it, or take a longer period: an instance is over before the next one comes")
@@ -856,7 +865,7 @@ def log_fault(files, lines, number, line):
     pack = files.pack()
     until = lines[0].split(" ")[-1]
     act = f"{found[3]} {found[4]}"
-    rows = {row["item"]: pack["nodes"][node] for node, of_node in enumerate(pack["rows"]) for row in of_node if not row["item"].startswith("hear")} if pack else None
+    rows = {row["item"]: name for name, of_node in zip(pack["nodes"], pack["rows"]) for row in of_node} if pack else None
     if rows is not None and act not in rows:
         return f"there is no {act}{near(found[4], [it.split(' ')[1] for it in rows if it.startswith(found[3])])}"
     if rows is not None and rows[act] != found[2]:
@@ -890,7 +899,8 @@ def late(files, finish, name, in_):
     dues = [it for it in (file.entry("top", 0).get("deadline"), own.get("deadline")) if it is not None]
     due = f", {int(finish) - min(dues)} after its due of {min(dues)}" if dues else ""
     yield file.named(f"process {name} ends at {finish}{due}, in {in_}", "process", name)
-    yield mend(f"ask `{tool('why')} {file.path or 'GRAPH'}` what held it up: another process may be what misses by less; `{tool('slack')}` says how far a wcet has to shrink")
+    yield mend(f"ask `{tool('why')} {file.path or 'GRAPH'}` what held it up: another process may be what misses by less; `{tool('slack')}` "
+               "says how far a wcet has to shrink")
 
 
 @explains(6, "^cpgc: too wide (start|send|tell) ([^ ]+)$")
@@ -911,8 +921,10 @@ def unsafe(files, rule, kind, name, column, in_):
             yield f"{file.path}: column {column} of {kind} {name} on {pack['nodes'][node]} is {time}: {PACK.literals_text(pack, literals)}"
         else:
             yield f"{file.path}: {kind} {name} on {pack['nodes'][node]} has {len(row['columns'])} columns"
-    yield mend({8: "the pack is older than `frozen` in the graph: compile it again", 9: "compile the graph again, which refuses it as late where no tables are found"}.get(
-        int(rule), "compile the graph again; tables of another tool need this column put right, and docs/RULES.md has the rule"))
+    yield mend({
+        8: "the pack is older than `frozen` in the graph: compile it again",
+        9: "compile the graph again, which refuses it as late where no tables are found",
+    }.get(int(rule), "compile the graph again; tables of another tool need this column put right, and docs/RULES.md has the rule"))
 
 
 @explains(8, "^cpgc: memory$")
