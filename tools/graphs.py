@@ -57,10 +57,12 @@ def bytes_of(path):
         fail(f"{path}: {fault.strerror}")
 
 
-def on_one_line(text):
-    """The same document with each table in braces on one line, which a reader of TOML 1.0 asks for and cpgc doesn't."""
-    out, open_marks = [], []
+def words_on_one_line(text):
+    """The words of the same document with each table in braces on one line, which a reader of TOML 1.0 asks for and cpgc doesn't; each with
+    the place at which it stands in the text."""
+    out, open_marks, at = [], [], 0
     for word in WORD.findall(text):
+        begin, at = at, at + len(word)
         if word in ("[", "{"):
             open_marks.append(word)
         elif word in ("]", "}") and open_marks:
@@ -69,12 +71,12 @@ def on_one_line(text):
         if within and (word.startswith("#") or word == "\n"):
             continue
         if word == "}":
-            while out and out[-1].isspace():
+            while out and out[-1][0].isspace():
                 out.pop()
-            if out and out[-1] == ",":
+            if out and out[-1][0] == ",":
                 out.pop()
-        out.append(word)
-    return "".join(out)
+        out.append((word, begin))
+    return out
 
 
 def document(text):
@@ -82,7 +84,26 @@ def document(text):
     try:
         return tomllib.loads(text)
     except tomllib.TOMLDecodeError:
-        return tomllib.loads(on_one_line(text))
+        return tomllib.loads("".join(word for word, _ in words_on_one_line(text)))
+
+
+def placed_fault(text):
+    """The line of a text at which it is no TOML, counted from 1, and why, or nothing where it is a document."""
+    words = words_on_one_line(text)
+    try:
+        tomllib.loads("".join(word for word, _ in words))
+        return None
+    except tomllib.TOMLDecodeError as fault:
+        found = re.fullmatch(r"(.*) \((?:at line (\d+), column (\d+)|at end of document)\)", str(fault), re.S)
+    if not found or not found[2]:
+        return text.rstrip().count("\n") + 1, (found[1] if found else str(fault)) + ", at the end"
+    lines, at = "".join(word for word, _ in words).split("\n"), 0
+    place = sum(len(line) + 1 for line in lines[:int(found[2]) - 1]) + int(found[3]) - 1
+    for word, begin in words:
+        if place < at + len(word):
+            break
+        at += len(word)
+    return text.count("\n", 0, min(begin + place - at, len(text))) + 1, found[1]
 
 
 def toml_of(path, content):
