@@ -61,7 +61,7 @@ def tracks_table(lines):
         return [name, len(values), *spread(values), f"{max(values):.1f}%", *shares, share([it < 0 for it in values]), published]
 
     rows = [row(tracks, [line for line in lines if line["tracks"] == tracks], f"{NONE_PUBLISHED[tracks]}%") for tracks in TRACKS]
-    heads = ["tracks", "graphs", "longer by, mean", "quartiles", "most", "at most 1% longer", "no longer", "shorter", "no longer, published"]
+    heads = ["tracks", "graphs", "longer by, mean", "quartiles", "most", "at most 1% longer", "no longer", "shorter", "no longer, published (recalled)"]
     return table(heads, [*rows, row("all", lines, "")])
 
 
