@@ -14,6 +14,8 @@ import importlib.machinery, importlib.util, os, shutil, subprocess, sys, tomllib
 from typing import NamedTuple
 
 sys.dont_write_bytecode = True
+import graphs
+
 HERE = os.path.dirname(os.path.abspath(__file__))
 LOADER = importlib.machinery.SourceFileLoader("pack", os.path.join(HERE, "pack"))
 PACK = importlib.util.module_from_spec(importlib.util.spec_from_loader("pack", LOADER))
@@ -124,8 +126,8 @@ class Play(NamedTuple):
 def read_toml(path):
     try:
         with open(path, "rb") as it:
-            return tomllib.load(it)
-    except (OSError, tomllib.TOMLDecodeError, UnicodeDecodeError) as why:
+            return graphs.document(it.read().decode().replace("\r\n", "\n"))
+    except (OSError, tomllib.TOMLDecodeError, UnicodeDecodeError, RecursionError) as why:
         raise Refused(f"{path}: {getattr(why, 'strerror', None) or why}") from None
 
 

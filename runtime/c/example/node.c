@@ -52,19 +52,25 @@ static void act(const cpg_event *event)
     }
 }
 
-void node_tick(void)
+static void take_turn(void)
 {
     cpg_event event;
-#if NODE_CYCLE > 0U
-    if (now >= NODE_CYCLE) {
-        now = 0U;
-        cpg_begin(&node);
-    }
-#endif
     take_ends();
     take_frames();
     while (cpg_poll(&node, now, &event)) {
         act(&event);
     }
+}
+
+void node_tick(void)
+{
+    take_turn();
+#if NODE_CYCLE > 0U
+    if (now >= NODE_CYCLE) {            /* what ends or arrives at this instant was still of the cycle that is over */
+        now = 0U;
+        cpg_begin(&node);
+        take_turn();
+    }
+#endif
     now++;
 }
