@@ -116,18 +116,6 @@ fn hit(columns: &[Entry], by_time: &[Timed], time: u64, scenario: &Scenario) -> 
     None
 }
 
-/// Equal columns.
-fn copy_columns(columns: &Vec<Entry>) -> Result<Vec<Entry>, OutOfMemory>
-    ensures { IfOk result (λ copy. copy.items ≡ columns.now.items) }
-{
-    let mut copy = Vec::new(*columns.allocator());
-    copy.reserve(columns.len())?;
-    for column in columns.as_slice() {
-        copy.push(column.copy()?)?;
-    }
-    Ok(copy)
-}
-
 impl TimedRow {
     /// The row of an item with these columns.
     pub(crate) fn new(
@@ -174,7 +162,7 @@ impl TimedRow {
     pub(crate) fn to_row(&self) -> Result<Row, OutOfMemory>
         ensures { IfOk result (λ row. row ≡ self.now) }
     {
-        let columns = copy_columns(&self.columns)?;
+        let columns = self.columns.clone()?;
         Ok(Row::new(self.item, columns))
     }
 }
