@@ -19,6 +19,7 @@ pub enum Event<'a> {
 /// All fetches of a shelf, newest first, with the bytes that were given of each.
 #[derive(Drop)]
 pub struct History {
+    made: (),
     ghost fetches: { List Fetch },
 }
 
@@ -39,7 +40,7 @@ impl History {
     pub fn new() -> History
         ensures { result ≡ [] }
     {
-        History {}
+        History { made: () }
     }
 
     /// The history after a call.
@@ -47,6 +48,6 @@ impl History {
     pub fn after(&self, _event: &Event<'_>) -> History
         ensures { result ≡ after _event.now self.now }
     {
-        History {}
+        History { made: () }
     }
 }

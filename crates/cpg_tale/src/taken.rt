@@ -6,6 +6,7 @@ use std::marker::Model;
 /// All bytes that a sink took, in order.
 #[derive(Drop)]
 pub struct Taken {
+    made: (),
     ghost bytes: { List ℕ },
 }
 
@@ -25,7 +26,7 @@ impl Taken {
     pub fn new() -> Taken
         ensures { result ≡ [] }
     {
-        Taken {}
+        Taken { made: () }
     }
 
     /// The bytes after a piece that was taken.
@@ -33,6 +34,6 @@ impl Taken {
     pub fn then(&self, _piece: &[u8]) -> Taken
         ensures { result ≡ self.now ++ _piece.now }
     {
-        Taken {}
+        Taken { made: () }
     }
 }

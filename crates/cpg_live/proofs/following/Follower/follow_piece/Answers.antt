@@ -10,10 +10,11 @@ use Rattle.cpg_live.proofs.Along.{fed_on, fed_cut, fed_lawless, fed_long, fed_ov
 use Rattle.cpg_live.proofs.Streams.{not_long}
 use Rattle.cpg_live.proofs.following.Follower.follow_piece.Goals as goal
 
-pub returns-in-Err-clause-along : goal.returns-in-Err-clause-along
-returns-in-Err-clause-along g c told start name past a =
+pub returns-in_default-clause-along : goal.returns-in_default-clause-along
+returns-in_default-clause-along g c told start name past a =
     let f = c.args.self.now in
-    (c.in-Err.ensures.cause.failed, act_lines f.head f.live.progress.acts, unread told name past (g.S.Shelf.state c.args.shelf.now) (g.S.Shelf.state c.feed_piece.new.shelf) start (g.O.Sink.state c.args.out.now).taken f a c.in-Err.ensures.failed, a.wrote)
+    let so_far = unread told name past (g.S.Shelf.state c.args.shelf.now) (g.S.Shelf.state c.feed_piece.new.shelf) start (g.O.Sink.state c.args.out.now).taken f a c.in_default.ensures.failed in
+    (c.in_default.ensures.cause.failed, (act_lines f.head f.live.progress.acts, so_far, a.wrote))
 
 pub returns-then-is_err-clause-along : goal.returns-then-is_err-clause-along
 returns-then-is_err-clause-along g c told start name past a =
