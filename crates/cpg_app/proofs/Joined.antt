@@ -1,6 +1,6 @@
 -- What a run packed, the others take, and it asks what `show` prints.
-use Rattle.std.proofs.Common.{ℕ, ◌≡◌, ◌<◌, ◌∙◌, Bool, true, List, [], ◌++◌, Option, Some, get_or, length, refl, sym, ap, subst, arith, inl, inr, lt-ltb, true≢false}
-use Rattle.std.specs.Prelude.{Ok, position}
+use Rattle.std.proofs.Common.{ℕ, ◌≡◌, ◌<◌, ◌∙◌, Bool, true, false, List, [], ◌∷◌, ◌++◌, Option, Some, None, append-nil, get_or, length, refl, sym, ap, subst, arith, inl, inr, lt-ltb, true≢false}
+use Rattle.std.specs.Prelude.{◌⊎◌, position}
 use Rattle.std.specs.List.{position_or_len}
 use Rattle.std.specs.Io.KnownBytes.{Appends}
 use Rattle.std.specs.Str.{bytes_eq}
@@ -10,24 +10,38 @@ use Rattle.std.proofs.lemmas.List.Sums.{fails_before_first}
 use Rattle.std.proofs.lemmas.Slice.Eq.{bytes_eq-Decides}
 use Rattle.cpg_base.specs.Graph.{Graph}
 use Rattle.cpg_words.specs.Parts.{Text}
-use Rattle.cpg_words.specs.Forms.{command_of}
 use Rattle.cpg_words.specs.declared.command.Command.{Command}
-use Rattle.cpg_words.specs.declared.command.Command.TheVariants.{Show, Compile, Node}
-use Rattle.cpg_reader.specs.Document.{problem_of}
+use Rattle.cpg_words.specs.declared.command.Command.TheVariants.{Show, Compile, Check, Play, Node, Audit}
 use Rattle.cpg_rules.specs.Admission.{Admission, IsAdmitted}
 use Rattle.cpg_head.specs.Head.{Head}
 use Rattle.cpg_table.specs.Lawful.{Tables}
+use Rattle.cpg_codec.specs.Packs.{AreLawful}
+use Rattle.cpg_codec.specs.Spelling.{spelling}
+use Rattle.cpg_codec.proofs.Theorems.{one_spelling}
+use Rattle.cpg_table.specs.Valid.{IsValid}
 use Rattle.cpg_violation.specs.Heads.{IsHeadFor}
 use Rattle.cpg_violation.proofs.HeadLaws.{own_head}
 use Rattle.cpg_core.specs.declared.compiling.Compiled.{Compiled}
 use Rattle.cpg_core.specs.Compilation.{IsCompilation}
 use Rattle.cpg_core.proofs.OneCompilation.{ask_the_same}
-use Rattle.cpg_app.specs.Causes.{Admits, Seen, first_named}
-use Rattle.cpg_app.specs.Outputs.{ArePackOf, AreSafe, IsMadeOf, IsMade, IsOutputOf, PrintsAsked, shown, packed as packed_of}
+use Rattle.cpg_order.proofs.Urgent.{one_urgency_order}
+use Rattle.cpg_order.specs.Urgency.{IsUrgencyOrder}
+use Rattle.cpg_inputs.specs.declared.kind.Kind.TheVariants.{GraphFile}
+use Rattle.cpg_inputs.specs.Files.{file, files_of}
+use Rattle.cpg_inputs.specs.Says.{Value, graph_value, tables_value}
+use Rattle.cpg_inputs.specs.Shapes.{OnGraph}
+use Rattle.cpg_inputs.specs.Reading.{Reads}
+use Rattle.cpg_inputs.proofs.OneReading.{AreAlike, moved, values_lawful}
+use Rattle.cpg_app.specs.Causes.{first_named}
+use Rattle.cpg_app.specs.Outputs.{ArePackOf, AreSafe, IsMadeOf, PutsOut, shown, packed as packed_of}
 use Rattle.cpg_app.specs.Endings.{Ran}
-use Rattle.cpg_app.specs.Lawful.{AreAdmitted, AsksToJudge}
-use Rattle.cpg_app.specs.Joined.{Wrote, HasMade, HasShown, HasPacked, FindsPack, EndsWell, PacksAreTaken, ShowAndCompileAgree}
-use Rattle.cpg_app.proofs.Excluded.{moved, same_graph}
+use Rattle.cpg_app.specs.Lawful.{Asks, AsksVerdict, IsLawful}
+use Rattle.cpg_app.specs.Joined.{Wrote, HasMade, HasShown, HasPacked, EndsWell, PacksAreTaken, ShowAndCompileAgree}
+use Rattle.cpg_app.proofs.Asked.{on_graph, printed}
+use Rattle.cpg_app.proofs.Shown.{tables_lawful}
+use Rattle.cpg_app.proofs.Streamed.{is_live, other_words}
+
+-- NOT CHECKED YET
 
 -- ---- what was written
 
@@ -37,34 +51,42 @@ put_out r bytes text w took =
     let grown : w.before ++ bytes ≡ w.before ++ text = subst (λ new. Appends (Some w.before) new text) w.new (subst (λ old. Appends old r.out.new text) w.old took) in
     append_cancel_left w.before bytes text grown
 
--- the graph of the file was admitted, and the bytes are spelled from its tables
-record IsOutputFor (spell : Graph → Compiled → Text) (bytes made : Text) : Type 0 where
+-- what is made of a graph is made of it as it is admitted once more
+made_again : (a b : Admission) → AreAlike a b → (spell : Graph → Compiled → Text) (bytes : Text) → IsMadeOf b spell bytes → IsMadeOf a spell bytes
+made_again a b same spell bytes made =
+    let c = made.compiled in
+    let all = moved a b same (λ g order. IsCompilation g order c × ArePackOf g c.built.tables × AreSafe g c.built.tables.nodes × (bytes ≡ spell g c)) (made.compilation, made.pack, made.safe, made.spelled) in
+    record { compiled = c; compilation = all.0; pack = all.1; safe = all.2; spelled = all.3 }
+
+-- a graph is admitted, and bytes are spelled from its tables
+record IsOutputFor (spell : Graph → Compiled → Text) (g : Graph) (made : Text) : Type 0 where
   admission : Admission
-  file : AreAdmitted bytes admission
+  of : admission.graph ≡ g
+  admitted : IsAdmitted admission.graph admission.order admission.guards
   made_of : IsMadeOf admission spell made
 
-admitted_of : (told : Option Text) (bytes : Text) (a : Admission) → told ≡ Some bytes → Admits told a → AreAdmitted bytes a
-admitted_of told bytes a tells admits =
-    let here : Admits (Some bytes) a = subst (λ t. Admits t a) tells admits in
-    record { short = here.says.0; says = here.says.1; admitted = here.admitted }
-
 -- so it is where a command's output is made of a graph file
-output_of : (asked : Text → Command) (spell : Graph → Compiled → Text) → ((seen : Seen) (graph text : Text) → IsOutputOf seen (asked graph) text → IsMade (seen.stands graph) spell text) →
-    (r : Ran) (bytes made : Text) → HasMade asked r bytes made → IsOutputFor spell bytes made
-output_of asked spell is_made r bytes made has =
-    let done = has.lawful.done has.done in
-    let put = is_made r.shelf has.graph done.0 (subst (λ (c : Option Command). PrintsAsked r.shelf c done.0) has.words done.1).output in
-    record {
-      admission = put.0;
-      file = admitted_of (r.shelf.stands has.graph) bytes put.0 has.told put.1;
-      made_of = subst (λ text. IsMadeOf put.0 spell text) (sym (put_out r made done.0 has.wrote done.2.out)) put.2;
-    }
+output_of : (asked : Text → Command) (spell : Graph → Compiled → Text) → ((graph text : Text) (vs : List Value) → PutsOut (asked graph) vs text → OnGraph vs (λ a. IsMadeOf a spell text)) → ((graph : Text) → is_live (Some (asked graph)) ≡ false) →
+    ((graph : Text) → files_of (asked graph) ≡ file GraphFile graph ∷ []) → (r : Ran) (g : Graph) (made : Text) → HasMade asked r g made → IsOutputFor spell g made
+output_of asked spell puts dead files r g made has = elim (has.lawful.done has.done) [
+  | inl out ↦
+      let a = has.admission in
+      let q = printed r (asked has.graph) (graph_value a ∷ []) has.has out.0 out.1 in
+      let k = on_graph a q.0 (λ b. IsMadeOf b spell out.0) q.1 (puts has.graph out.0 q.0 q.2) in
+      record {
+        admission = a;
+        of = has.of;
+        admitted = (values_lawful None (file GraphFile has.graph ∷ []) r.shelf.old.history r.shelf.new.history (graph_value a ∷ []) (subst (λ fs. Reads None fs r.shelf.old.history r.shelf.new.history (graph_value a ∷ [])) (files has.graph) has.has.reads)).0;
+        made_of = subst (λ text. IsMadeOf a spell text) (sym (put_out r made out.0 has.wrote out.2.out)) (made_again a k.0 k.1 spell out.0 k.2);
+      }
+  | inr closed ↦ absurd (other_words r closed.follows (Some (asked has.graph)) (dead has.graph) has.has.words)
+]
 
-shown_of : (r : Ran) (bytes text : Text) → HasShown r bytes text → IsOutputFor shown bytes text
-shown_of = output_of Show shown (λ seen graph text output. output)
+shown_of : (r : Ran) (g : Graph) (text : Text) → HasShown r g text → IsOutputFor shown g text
+shown_of = output_of Show shown (λ graph text vs puts. puts) (λ graph. refl) (λ graph. refl)
 
-pack_of : (r : Ran) (bytes pack : Text) → HasPacked r bytes pack → IsOutputFor packed_of bytes pack
-pack_of = output_of Compile packed_of (λ seen graph text output. output)
+pack_of : (r : Ran) (g : Graph) (pack : Text) → HasPacked r g pack → IsOutputFor packed_of g pack
+pack_of = output_of Compile packed_of (λ graph text vs puts. puts) (λ graph. refl) (λ graph. refl)
 
 -- ---- names of nodes
 
@@ -83,67 +105,54 @@ node_named h node l = found (λ other. bytes_eq other (get_or h.nodes node [])) 
 
 -- ---- the pack is taken
 
-module _ (g : Graph) (bytes packed : Text) (says : problem_of bytes ≡ Ok g) (is : IsOutputFor packed_of bytes packed) where
-  graph_is : is.admission.graph ≡ g
-  graph_is = same_graph bytes is.admission.graph g is.file.says says
-
+module _ (g : Graph) (pack : Text) (is : IsOutputFor packed_of g pack) where
   abbrev tables : Tables
   tables = is.made_of.compiled.built.tables
+
+  -- tables of these bytes are those
+  same_tables : (t : Tables) → AreLawful t → pack ≡ spelling t → tables ≡ t
+  same_tables t lawful e = (one_spelling tables t [] is.made_of.pack.lawful lawful (sym is.made_of.spelled ∙ (e ∙ sym (append-nil (spelling t))))).0
 
   head_is : IsHeadFor is.admission.graph tables.head
   head_is = subst (IsHeadFor is.admission.graph) (sym is.made_of.pack.head) (own_head is.admission.graph)
 
-  judged : (r : Ran) (graph pack : Text) → FindsPack r pack packed → r.shelf.stands graph ≡ Some bytes → AsksToJudge r g graph pack → EndsWell r
-  judged r graph pack finds tells asks = finds.lawful.safe is.admission tables (record {
-    graph = graph;
-    pack = pack;
-    words = subst (λ h. AsksToJudge r h graph pack) (sym graph_is) asks;
-    bytes = bytes;
-    told = tells;
-    file = is.file;
-    spelled = finds.told ∙ ap (λ (b : Text). Some b) is.made_of.spelled;
-    lawful = is.made_of.pack.lawful;
-    faultless = finds.faultless;
-  }) head_is is.made_of.safe.valid
+  judged : (r : Ran) (a : Admission) (t : Tables) → IsLawful r → a.graph ≡ g → pack ≡ spelling t → AsksVerdict r a t → EndsWell r
+  judged r a t lawful of e asks =
+      let same = same_tables t (tables_lawful r a t asks) e in
+      let graph : is.admission.graph ≡ a.graph = is.of ∙ sym of in
+      lawful.safe a t asks
+      (subst (λ h. IsHeadFor h t.head) graph (subst (λ (u : Tables). IsHeadFor is.admission.graph u.head) same head_is))
+      (subst (λ h. IsValid h t.nodes) graph (subst (λ (u : Tables). IsValid is.admission.graph u.nodes) same is.made_of.safe.valid))
 
-  printed : (r : Ran) (pack : Text) (node : ℕ) → FindsPack r pack packed → node < length g.nodes → command_of r.words ≡ Some (Node pack (get_or g.nodes node [])) → EndsWell r
-  printed r pack node finds l words =
-      let nodes : tables.head.nodes ≡ g.nodes = head_is.nodes ∙ ap (λ (h : Graph). h.nodes) graph_is in
-      let named = node_named tables.head node (let count : length tables.head.nodes ≡ length g.nodes = ap length nodes in omega (arith, count, l)) in
-      finds.lawful.named tables (get_or tables.head.nodes node []) named.0 (record {
-        pack = pack;
-        words = words ∙ ap (λ (ns : List Text). Some (Node pack (get_or ns node []))) (sym nodes);
-        spelled = finds.told ∙ ap (λ (b : Text). Some b) is.made_of.spelled;
-        lawful = is.made_of.pack.lawful;
-        faultless = finds.faultless;
-      }) named.1
+  taken : (r : Ran) (path : Text) (t : Tables) (node : ℕ) → IsLawful r → pack ≡ spelling t → node < length g.nodes → Asks r (Node path (get_or g.nodes node [])) (tables_value t ∷ []) → EndsWell r
+  taken r path t node lawful e l asks =
+      let same = same_tables t (values_lawful None (files_of (Node path (get_or g.nodes node []))) r.shelf.old.history r.shelf.new.history (tables_value t ∷ []) asks.has.reads).0 e in
+      let nodes : t.head.nodes ≡ g.nodes = ap (λ (u : Tables). u.head.nodes) (sym same) ∙ (head_is.nodes ∙ ap (λ (h : Graph). h.nodes) is.of) in
+      let named = node_named t.head node (let count : length t.head.nodes ≡ length g.nodes = ap length nodes in omega (arith, count, l)) in
+      lawful.named path (get_or g.nodes node []) t named.0 asks (subst (λ (ns : List Text). first_named t.head (get_or ns node []) ≡ Some named.0) nodes named.1)
 
 pub packs_are_taken : PacksAreTaken
-packs_are_taken r g bytes packed has says =
-    let is = pack_of r bytes packed has in
-    record { judged = judged g bytes packed says is; printed = printed g bytes packed says is }
+packs_are_taken r g pack has = let is = pack_of r g pack has in record { judged = judged g pack is; printed = taken g pack is }
 
 -- ---- what is shown is what is packed
 
--- what is made of a graph is made of it as it is admitted once more
-made_again : (a b : Admission) → IsAdmitted a.graph a.order a.guards → IsAdmitted b.graph b.order b.guards → b.graph ≡ a.graph → (spell : Graph → Compiled → Text) (bytes : Text) → IsMadeOf b spell bytes → IsMadeOf a spell bytes
-made_again a b x y same spell bytes made =
-    let c = made.compiled in
-    let all = moved a b x y same (λ g order. IsCompilation g order c × ArePackOf g c.built.tables × AreSafe g c.built.tables.nodes × (bytes ≡ spell g c)) (made.compilation, made.pack, made.safe, made.spelled) in
-    record { compiled = c; compilation = all.0; pack = all.1; safe = all.2; spelled = all.3 }
+-- two admissions of one graph
+alike : (g : Graph) (a b : Admission) → a.graph ≡ g → b.graph ≡ g → IsAdmitted a.graph a.order a.guards → IsAdmitted b.graph b.order b.guards → AreAlike a b
+alike g a b e f x y =
+    let same : b.graph ≡ a.graph = f ∙ sym e in
+    record { graph = same; order = one_urgency_order a.graph b.order a.order (subst (λ h. IsUrgencyOrder h b.order) same y.urgency) x.urgency }
 
 pub show_and_compile_agree : ShowAndCompileAgree
-show_and_compile_agree r q bytes text pack shows packs =
-    let one = shown_of r bytes text shows in
-    let other = pack_of q bytes pack packs in
+show_and_compile_agree r q g text pack shows packs =
+    let one = shown_of r g text shows in
+    let other = pack_of q g pack packs in
     let a = one.admission in
-    let is = one.file.admitted in
-    let same = same_graph bytes other.admission.graph a.graph other.file.says one.file.says in
-    let made = made_again a other.admission is other.file.admitted same packed_of pack other.made_of in
+    let made = made_again a other.admission (alike g a other.admission one.of other.of one.admitted other.admitted) packed_of pack other.made_of in
     record {
       admission = a;
-      file = one.file;
+      of = one.of;
+      admitted = one.admitted;
       shows = one.made_of;
       packs = made;
-      same = ask_the_same a.graph is.well_formed a.order is.topological one.made_of.compiled made.compiled one.made_of.compilation made.compilation;
+      same = ask_the_same a.graph one.admitted.well_formed a.order one.admitted.topological one.made_of.compiled made.compiled one.made_of.compilation made.compilation;
     }

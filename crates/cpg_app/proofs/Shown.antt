@@ -1,61 +1,164 @@
 -- A run that ends by its output or by a reason to stop keeps what each status says.
-use Rattle.std.proofs.Common.{ℕ, ◌≡◌, ◌≢◌, ◌∙◌, List, Option, Some, None, sym, ap, subst, arith, inl, inr}
+use Rattle.std.proofs.Common.{ℕ, ◌≡◌, ◌≢◌, ◌∙◌, true, false, true≢false, List, [], ◌∷◌, Option, Some, None, length, sym, ap, subst, arith, inl, inr}
 use Rattle.std.specs.Prelude.{◌⊎◌, Ok, Err}
-use Rattle.std.proofs.lemmas.Option.{none-some}
+use Rattle.std.proofs.lemmas.Option.{none-some, same_Some}
 use Rattle.cpg_io.specs.Causes.{Rose}
+use Rattle.cpg_tale.specs.Fetch.{Fetch}
 use Rattle.cpg_words.specs.Parts.{Text}
 use Rattle.cpg_words.specs.Forms.{command_of}
+use Rattle.cpg_words.specs.declared.command.Pair.{Pair}
 use Rattle.cpg_words.specs.declared.command.Command.{Command}
-use Rattle.cpg_words.specs.declared.command.Command.TheVariants.{Trial}
+use Rattle.cpg_words.specs.declared.command.Command.TheVariants.{Show, Compile, Check, Play, Node, Trial, Live, Hyper, Tune, Audit}
 use Rattle.cpg_base.specs.Graph.{Graph}
 use Rattle.cpg_base.specs.Scenario.{Scenario}
-use Rattle.cpg_core.specs.declared.compiling.Compiled.{Compiled}
-use Rattle.cpg_rules.specs.Admission.{Admission}
+use Rattle.cpg_base.specs.WellFormed.{WellFormed}
+use Rattle.cpg_order.specs.Urgency.{IsTopological}
+use Rattle.cpg_rules.specs.Admission.{Admission, IsAdmitted}
 use Rattle.cpg_reach.specs.Wide.{IsNarrow, IsWide}
-use Rattle.cpg_core.specs.Compiled.{IsTimely, IsLate}
-use Rattle.cpg_core.proofs.CompiledLaws.{not_timely_and_late}
-use Rattle.cpg_refusal.specs.declared.halt.Refusal.{Refusal}
-use Rattle.cpg_refusal.specs.declared.halt.Halt.{Halt}
-use Rattle.cpg_refusal.specs.declared.halt.Halt.TheVariants.{Refused, Late, TooWide, Unsafe, Memory}
-use Rattle.cpg_refusal.specs.Lines.{status_of}
-use Rattle.cpg_app.specs.declared.reading.TheConstants.{GRAPH_LIMIT}
-use Rattle.cpg_app.specs.Causes.{Seen, IsAfterReading, Stops, StopsAsked, StopsGraph, IsUncompiled, first_named}
-use Rattle.cpg_app.specs.Outputs.{Prints, PrintsAsked, IsMade, shown, packed, IsFollowedOf}
-use Rattle.cpg_app.specs.Told.{Untouched}
-use Rattle.cpg_app.specs.Endings.{Ran, IsPrinted, IsTold, EndsWith, EndsBy}
-use Rattle.cpg_app.specs.Lawful.{IsFaultless, AsksFor, Asks, AsksNode, AsksTuning, AsksUnrolling, AsksVerdict, IsLawful, AsksStream, status_of_end}
-use Rattle.cpg_live.specs.Streams.{stream_end}
-use Rattle.cpg_app.proofs.Streamed.{followed_is, followed_named}
-use Rattle.cpg_app.proofs.Statuses.{of_words, of_read, of_formless, refused_of, late_of, wide_of, unsafe_of, not_three, not_zero}
+use Rattle.cpg_core.specs.declared.compiling.Compiled.{Compiled}
+use Rattle.cpg_core.specs.Compiled.{IsCompiled, IsTimely, IsLate}
+use Rattle.cpg_core.proofs.CompiledLaws.{not_late_and_compiled, not_timely_and_late}
 use Rattle.cpg_table.specs.declared.fault.Fault.{Fault}
 use Rattle.cpg_table.specs.Lawful.{Tables}
-use Rattle.cpg_table.specs.Table.{table_at}
 use Rattle.cpg_table.specs.Valid.{IsValid}
 use Rattle.cpg_violation.specs.Heads.{IsHeadFor}
-use Rattle.cpg_app.proofs.Checked.{CheckLeft, check_left, checked_is, node_is, node_left, play_left, played_is, audit_left, audited_is}
+use Rattle.cpg_codec.specs.Packs.{AreLawful}
+use Rattle.cpg_log.specs.Log.{Log}
+use Rattle.cpg_scenario.specs.declared.reading.Played.{Played}
 use Rattle.cpg_hyper.specs.declared.part.Part.{Part}
 use Rattle.cpg_hyper.specs.declared.part.HyperFault.{HyperFault}
 use Rattle.cpg_hyper.specs.declared.part.HyperFault.TheVariants.{OutOfMemory}
 use Rattle.cpg_hyper.specs.Refusals.{ShowsUnrolled}
-use Rattle.cpg_app.proofs.Unrolling.{PartsLeft, not_both, parts_left, unrolled_is}
-use Rattle.cpg_app.proofs.Excluded.{Left, graph_left, tune_left, made_not_wide, made_not_late}
+use Rattle.cpg_refusal.specs.declared.halt.Refusal.{Refusal}
+use Rattle.cpg_refusal.specs.declared.halt.Halt.{Halt}
+use Rattle.cpg_refusal.specs.declared.halt.Halt.TheVariants.{Words, Read, Refused, Late, TooWide, Unsafe, Memory}
+use Rattle.cpg_refusal.specs.Lines.{status_of}
+use Rattle.cpg_inputs.specs.declared.kind.Kind.TheVariants.{PackFile}
+use Rattle.cpg_inputs.specs.Files.{file, files_of}
+use Rattle.cpg_inputs.specs.Says.{Value, graph_value, tables_value, played_value, log_value}
+use Rattle.cpg_inputs.specs.Shapes.{HavePeriods, part_values}
+use Rattle.cpg_inputs.specs.Reading.{Reads, StopsReading}
+use Rattle.cpg_inputs.proofs.OneReading.{AllAlike, AreAlike, HasGrown, moved, reads_grown, stops_grown, values_lawful}
+use Rattle.cpg_live.specs.Streams.{stream_end}
+use Rattle.cpg_app.specs.Causes.{IsNotUnrolled, IsUncompiled, StopsVerdict, StopsWork, first_named}
+use Rattle.cpg_app.specs.Outputs.{AreJudgedSafe, IsMadeOf, PutsOut, packed, shown}
+use Rattle.cpg_app.specs.Told.{Untouched}
+use Rattle.cpg_app.specs.Endings.{Ran, EndsBy, EndsWith, Follows, Has, IsPrinted, IsTold, Prints, Stops, table_of}
+use Rattle.cpg_app.specs.Lawful.{Asks, AsksAudit, AsksForTables, AsksPlay, AsksVerdict, IsClosedStream, IsFailed, IsFaultless, IsLawful, IsUnreadStream, status_of_end}
+use Rattle.cpg_app.proofs.Asked.{on_graph, on_judged, on_logged, on_parts, on_played, on_tables, printed, stopped_by}
+use Rattle.cpg_app.proofs.Left.{CheckLeft, CompileLeft, PartsLeft, check_left, compile_left, judged_is, parts_left}
+use Rattle.cpg_app.proofs.Statuses.{FailsLast, late_of, not_three, not_zero, of_files, of_work, read_of, refused_of, unsafe_of, wide_of, words_of}
+use Rattle.cpg_app.proofs.Unrolled.{not_both}
 
--- words without a form print nothing
-prints_form : (seen : Seen) (asked : Option Command) (text : Text) → PrintsAsked seen asked text → asked ≡ None → ⊥
-prints_form seen None text so none = so
-prints_form seen (Some c) text so none = none-some c (sym none)
+-- ---- a stream isn't fetched
 
--- what is put out for a graph file is made of it
-made_of : (seen : Seen) (graph : Text) (asked : Option Command) (bytes : Text) → AsksFor graph asked → PrintsAsked seen asked bytes → (spell : Graph → Compiled → Text) × IsMade (seen.stands graph) spell bytes
-made_of seen graph asked bytes (inl show) prints = (shown, (subst (λ c. PrintsAsked seen c bytes) show prints).output)
-made_of seen graph asked bytes (inr compile) prints = (packed, (subst (λ c. PrintsAsked seen c bytes) compile prints).output)
+-- one fetch isn't two, nor none
+one_is_two : (f e d : Fetch) (past : List Fetch) → f ∷ past ≡ e ∷ d ∷ past → ⊥
+one_is_two f e d past is = let l = ap length is in omega (arith, l)
 
--- and a run stops for it as its compile does
-stopped_of : (seen : Seen) (graph : Text) (asked : Option Command) (halt : Halt) → AsksFor graph asked → StopsAsked seen asked halt → StopsGraph seen (seen.stands graph) (IsAfterReading seen.given GRAPH_LIMIT IsUncompiled) halt
-stopped_of seen graph asked halt (inl show) stops = subst (λ c. StopsAsked seen c halt) show stops
-stopped_of seen graph asked halt (inr compile) stops = subst (λ c. StopsAsked seen c halt) compile stops
+none_is_two : (e d : Fetch) (past : List Fetch) → past ≡ e ∷ d ∷ past → ⊥
+none_is_two e d past is = let l = ap length is in omega (arith, l)
 
 module _ (r : Ran) where
+  -- ---- what is told of an admitted graph, and of tables
+
+  made_here : (a : Admission) → AsksForTables r a → (text : Text) → Prints r text → (spell : Graph → Compiled → Text) × (b : Admission) × AreAlike a b × IsMadeOf b spell text
+  made_here a (graph, inl asks) text p = let q = printed r _ _ asks.has text p in let k = on_graph a q.0 _ q.1 q.2 in (shown, k.0, k.1, k.2)
+  made_here a (graph, inr asks) text p = let q = printed r _ _ asks.has text p in let k = on_graph a q.0 _ q.1 q.2 in (packed, k.0, k.1, k.2)
+
+  -- the graph is admitted
+  admitted_here : (a : Admission) → AsksForTables r a → IsAdmitted a.graph a.order a.guards
+  admitted_here a (graph, inl asks) = (values_lawful None (files_of (Show graph)) r.shelf.old.history r.shelf.new.history (graph_value a ∷ []) asks.has.reads).0
+  admitted_here a (graph, inr asks) = (values_lawful None (files_of (Compile graph)) r.shelf.old.history r.shelf.new.history (graph_value a ∷ []) asks.has.reads).0
+
+  formed : (a : Admission) → AsksForTables r a → WellFormed a.graph
+  formed a asks = (admitted_here a asks).well_formed
+
+  topological : (a : Admission) → AsksForTables r a → IsTopological a.graph a.order
+  topological a asks = (admitted_here a asks).topological
+
+  tables_faultless : (a : Admission) → AsksForTables r a → IsFaultless r
+  tables_faultless a (graph, inl asks) = asks.faultless
+  tables_faultless a (graph, inr asks) = asks.faultless
+
+  -- what is left of a graph where the run stops
+  tables_left : (a : Admission) → AsksForTables r a → (h : Halt) → Stops r h → CompileLeft a h
+  tables_left a (graph, inl asks) h stops = elim (stopped_by r _ _ asks.has h stops) [
+    | inl memory ↦ inl (ap status_of memory)
+    | inr q ↦ let k = on_graph a q.0 (λ b. IsUncompiled b h) q.1 q.2 in compile_left a k.0 k.1 h k.2
+  ]
+  tables_left a (graph, inr asks) h stops = elim (stopped_by r _ _ asks.has h stops) [
+    | inl memory ↦ inl (ap status_of memory)
+    | inr q ↦ let k = on_graph a q.0 (λ b. IsUncompiled b h) q.1 q.2 in compile_left a k.0 k.1 h k.2
+  ]
+
+  check_faultless : (a : Admission) (t : Tables) → AsksVerdict r a t → IsFaultless r
+  check_faultless a t (graph, pack, inl asks) = asks.faultless
+  check_faultless a t (graph, pack, inr (inl play)) = play.asks.faultless
+  check_faultless a t (graph, pack, inr (inr audit)) = audit.asks.faultless
+
+  -- the tables are lawful
+  pub tables_lawful : (a : Admission) (t : Tables) → AsksVerdict r a t → AreLawful t
+  tables_lawful a t (graph, pack, inl asks) = (values_lawful None (files_of (Check graph pack)) r.shelf.old.history r.shelf.new.history (graph_value a ∷ tables_value t ∷ []) asks.has.reads).1.0
+  tables_lawful a t (graph, pack, inr (inl play)) = (values_lawful None (files_of (Play graph pack play.scenario play.turns)) r.shelf.old.history r.shelf.new.history (graph_value a ∷ tables_value t ∷ played_value play.played ∷ []) play.asks.has.reads).1.0
+  tables_lawful a t (graph, pack, inr (inr audit)) = (values_lawful None (files_of (Audit graph pack audit.path)) r.shelf.old.history r.shelf.new.history (graph_value a ∷ tables_value t ∷ log_value audit.log ∷ []) audit.asks.has.reads).1.0
+
+  -- what was checked, played, or audited by, is valid
+  judged_here : (a : Admission) (t : Tables) → AsksVerdict r a t → (text : Text) → Prints r text → IsHeadFor a.graph t.head × IsValid a.graph t.nodes
+  judged_here a t (graph, pack, inl asks) text p =
+      let q = printed r _ _ asks.has text p in let k = on_judged a t q.0 _ q.1 q.2 in
+      let lawful : AreLawful t = tables_lawful a t (graph, pack, inl asks) in judged_is a k.0 k.1 t lawful k.2.0
+  judged_here a t (graph, pack, inr (inl play)) text p =
+      let q = printed r _ _ play.asks.has text p in let k = on_played a t play.played q.0 _ q.1 q.2 in
+      let lawful : AreLawful t = tables_lawful a t (graph, pack, inr (inl play)) in judged_is a k.0 k.1 t lawful k.2.judged
+  judged_here a t (graph, pack, inr (inr audit)) text p =
+      let q = printed r _ _ audit.asks.has text p in let k = on_logged a t audit.log q.0 _ q.1 q.2 in
+      let lawful : AreLawful t = tables_lawful a t (graph, pack, inr (inr audit)) in judged_is a k.0 k.1 t lawful k.2.1.judged
+
+  -- what is left of them where the run stops
+  verdict_left : (a : Admission) (t : Tables) → AsksVerdict r a t → (h : Halt) → Stops r h → (h ≡ Memory) ⊎ CheckLeft a t h
+  verdict_left a t (graph, pack, inl asks) h stops = elim (stopped_by r _ _ asks.has h stops) [
+    | inl memory ↦ inl memory
+    | inr q ↦
+        let k = on_judged a t q.0 (λ b u. StopsVerdict b u h) q.1 q.2 in
+        let lawful : AreLawful t = tables_lawful a t (graph, pack, inl asks) in inr (check_left a k.0 k.1 t lawful h k.2)
+  ]
+  verdict_left a t (graph, pack, inr (inl play)) h stops = elim (stopped_by r _ _ play.asks.has h stops) [
+    | inl memory ↦ inl memory
+    | inr q ↦
+        let k = on_played a t play.played q.0 (λ b u p. StopsVerdict b u h) q.1 q.2 in
+        let lawful : AreLawful t = tables_lawful a t (graph, pack, inr (inl play)) in inr (check_left a k.0 k.1 t lawful h k.2)
+  ]
+  verdict_left a t (graph, pack, inr (inr audit)) h stops = elim (stopped_by r _ _ audit.asks.has h stops) [
+    | inl memory ↦ inl memory
+    | inr q ↦
+        let k = on_logged a t audit.log q.0 (λ b u l. StopsVerdict b u h) q.1 q.2 in
+        let lawful : AreLawful t = tables_lawful a t (graph, pack, inr (inr audit)) in inr (check_left a k.0 k.1 t lawful h k.2.1)
+  ]
+
+  -- ---- a run that follows a stream has no output, and doesn't stop before it
+
+  no_output : (f : Follows r) (text : Text) → Prints r text → ⊥
+  no_output f text p = subst (λ (k : Command). PutsOut k p.values text) (same_Some p.command (Live f.pack f.name f.stream) (sym p.has.words ∙ f.words)) p.puts
+
+  read_one : (f : Follows r) (name : Text) (vs : List Value) → Reads None (file PackFile name ∷ []) r.shelf.old.history r.shelf.new.history vs → ⊥
+  read_one f name [] reads = reads
+  read_one f name (v ∷ []) reads = one_is_two reads.0 f.fetch f.read r.shelf.old.history (sym reads.2 ∙ f.history)
+  read_one f name (v ∷ w ∷ vs) reads = reads.2
+
+  -- its pack isn't all that was fetched
+  pub one_file : (f : Follows r) {pack name stream : Text} (vs : List Value) → Has r (Live pack name stream) vs → ⊥
+  one_file f {pack = pack} vs has = read_one f pack vs has.reads
+
+  one_stop : (f : Follows r) (h : Halt) → StopsReading None (files_of (Live f.pack f.name f.stream)) r.shelf.old.history r.shelf.new.history h → ⊥
+  one_stop f h (fetch, inl here) = one_is_two fetch f.fetch f.read r.shelf.old.history (sym here.1 ∙ f.history)
+  one_stop f h (fetch, inr there) = there.2
+
+  no_stop : (f : Follows r) (h : Halt) → Stops r h → ⊥
+  no_stop f h (inl words) = none_is_two f.fetch f.read r.shelf.old.history (sym words.unread ∙ f.history)
+  no_stop f h (inr (inl files)) = one_stop f h (subst (λ (k : Command). StopsReading None (files_of k) r.shelf.old.history r.shelf.new.history h) (same_Some files.command (Live f.pack f.name f.stream) (sym files.words ∙ f.words)) files.stops)
+  no_stop f h (inr (inr work)) = read_one f f.pack work.values (subst (λ (k : Command). Reads None (files_of k) r.shelf.old.history r.shelf.new.history work.values) (same_Some work.command (Live f.pack f.name f.stream) (sym work.has.words ∙ f.words)) work.has.reads)
+
   -- ---- with an output
 
   module _ (text : Text) (with : EndsWith r text) where
@@ -65,69 +168,38 @@ module _ (r : Ran) where
     other_status : (n : ℕ) → r.status ≡ n → n ≢ 0 → n ≢ 3 → ⊥
     other_status n e a b = elim with_status [ inl z ↦ a (sym e ∙ z) | inr t ↦ b (sym e ∙ t) ]
 
-    with_done : r.status ≡ 0 → (t : Text) × Prints r.shelf r.words t × IsPrinted r t
-    with_done zero = elim with.ending [ inl p ↦ (text, with.prints, p) | inr c ↦ absurd (let e = c.status in omega arith) ]
+    with_done : r.status ≡ 0 → ((t : Text) × Prints r t × IsPrinted r t) ⊎ IsClosedStream r
+    with_done zero = elim with.ending [ inl p ↦ inl (text, with.prints, p) | inr c ↦ absurd (let e = c.status in omega arith) ]
 
     with_write : r.status ≡ 3 → Rose r.out.before r.out.now ⊎ Rose r.err.before r.err.now
     with_write three = elim with.ending [ inl p ↦ absurd (let e = p.status in omega arith) | inr c ↦ inl c.out.rose ]
 
-    with_no_form : command_of r.words ≡ None → ⊥
-    with_no_form none = prints_form r.shelf (command_of r.words) text with.prints none
-
     with_safe : IsFaultless r → (r.status ≡ 0) ⊎ (r.status ≡ 8)
     with_safe faultless = elim with.ending [ inl p ↦ inl p.status | inr c ↦ absurd (faultless.out c.out.rose) ]
 
-    -- what was checked, or played, is what was asked for
-    with_check : (a : Admission) (t : Tables) → AsksVerdict r a t → IsHeadFor a.graph t.head × IsValid a.graph t.nodes
-    with_check a t asks = elim asks.words [
-      | inl check ↦ checked_is r.shelf a t asks.graph asks.pack asks.bytes asks.told asks.file asks.faultless.shelf asks.spelled asks.lawful text (subst (λ c. PrintsAsked r.shelf c text) check with.prints).output
-      | inr (inl play) ↦ played_is r.shelf a t asks.graph asks.pack asks.bytes asks.told asks.file asks.faultless.shelf asks.spelled asks.lawful (r.shelf.stands play.0) play.1 text (subst (λ c. PrintsAsked r.shelf c text) play.2 with.prints).output
-      | inr (inr log) ↦ audited_is r.shelf a t asks.graph asks.pack asks.bytes asks.told asks.file asks.faultless.shelf asks.spelled asks.lawful (r.shelf.stands log.0) text (subst (λ c. PrintsAsked r.shelf c text) log.1 with.prints).output
-    ]
+    with_wide : (a : Admission) (x : ℕ) → AsksForTables r a → IsWide a.graph a.order x → (r.status ≡ 6) ⊎ (r.status ≡ 8)
+    with_wide a x asks wide = let made = made_here a asks text with.prints in
+        absurd (moved a made.1 made.2 IsNarrow made.3.compilation.compiled.narrow x wide)
 
-    module _ (a : Admission) (asks : Asks r a) where
-      made_here : (spell : Graph → Compiled → Text) × IsMade (r.shelf.stands asks.graph) spell text
-      made_here = made_of r.shelf asks.graph (command_of r.words) text asks.words with.prints
+    with_late : (a : Admission) → AsksForTables r a → IsLate a.graph a.order → (r.status ≡ 5) ⊎ (r.status ≡ 8)
+    with_late a asks late = let made = made_here a asks text with.prints in
+        absurd (not_late_and_compiled a.graph (formed a asks) a.order (topological a asks) made.3.compiled.order late (moved a made.1 made.2 (λ g o. IsCompiled g o made.3.compiled.order) made.3.compilation.compiled))
 
-      with_wide : (x : ℕ) → IsWide a.graph a.order x → (r.status ≡ 6) ⊎ (r.status ≡ 8)
-      with_wide x wide = absurd (made_not_wide r.shelf (r.shelf.stands asks.graph) asks.bytes a asks.told asks.file asks.faultless.shelf made_here.0 text made_here.1 x wide)
+    with_nameless : (pack name : Text) (t : Tables) → Asks r (Node pack name) (tables_value t ∷ []) → first_named t.head name ≡ None → (r.status ≡ 4) ⊎ (r.status ≡ 8)
+    with_nameless pack name t asks none = let q = printed r _ _ asks.has text with.prints in let k = on_tables t q.0 _ q.1 q.2 in absurd (none-some k.node (sym none ∙ k.named))
 
-      with_late : IsLate a.graph a.order → (r.status ≡ 5) ⊎ (r.status ≡ 8)
-      with_late late = absurd (made_not_late r.shelf (r.shelf.stands asks.graph) asks.bytes a asks.told asks.file asks.faultless.shelf made_here.0 text made_here.1 late)
+    with_apart : (pairs : List Pair) (parts : List Part) (fault : HyperFault) → Asks r (Hyper pairs) (part_values parts) → HavePeriods pairs parts → ShowsUnrolled parts (Err fault) → fault ≢ OutOfMemory → (r.status ≡ 4) ⊎ (r.status ≡ 8)
+    with_apart pairs parts fault asks periods shows other = let q = printed r _ _ asks.has text with.prints in let k = on_parts pairs parts q.0 _ q.1 periods q.2 in absurd (not_both parts k.0 fault k.1 shows other)
 
-    -- and what is printed is of a node of the name
-    with_node : (t : Tables) (name : Text) → AsksNode r t name → (node : ℕ) × (first_named t.head name ≡ Some node)
-    with_node t name asks = node_is r.shelf t asks.pack asks.faultless.shelf asks.spelled asks.lawful name text (subst (λ c. PrintsAsked r.shelf c text) asks.words with.prints).output
-
-    with_nameless : (t : Tables) (name : Text) → AsksNode r t name → first_named t.head name ≡ None → (r.status ≡ 4) ⊎ (r.status ≡ 8)
-    with_nameless t name asks none = let named = with_node t name asks in absurd (none-some named.0 (sym none ∙ named.1))
-
-    -- what is written is the graph of the parts
-    with_apart : (parts : List Part) (fault : HyperFault) → AsksUnrolling r parts → ShowsUnrolled parts (Err fault) → fault ≢ OutOfMemory → (r.status ≡ 4) ⊎ (r.status ≡ 8)
-    with_apart parts fault asks shows other =
-        let made = unrolled_is r.shelf asks.pairs parts asks.told asks.faultless.shelf text (subst (λ c. PrintsAsked r.shelf c text) asks.words with.prints).output in
-        absurd (not_both parts made.0 fault made.1 shows other)
-
-    -- a stream is followed to its close
-    module _ (t : Tables) (name bytes : Text) (asks : AsksStream r t name bytes) where
-      followed_text : IsFollowedOf (r.shelf.stands asks.pack) name (r.shelf.stands asks.stream) text
-      followed_text = (subst (λ c. PrintsAsked r.shelf c text) asks.words with.prints).output
-
-      with_followed : (node : ℕ) → first_named t.head name ≡ Some node → (r.status ≡ status_of_end (stream_end (table_at t.nodes node) bytes)) ⊎ (r.status ≡ 8)
-      with_followed node named = elim (with_safe asks.faultless) [
-        | inl z ↦ inl (z ∙ sym (followed_is r.shelf t asks.pack asks.stream name bytes text node asks.spelled asks.lawful asks.told named followed_text))
-        | inr e ↦ inr e
-      ]
-
-      with_unfollowed : first_named t.head name ≡ None → (r.status ≡ 4) ⊎ (r.status ≡ 8)
-      with_unfollowed none = let named = followed_named r.shelf t asks.pack name text (r.shelf.stands asks.stream) asks.spelled asks.lawful followed_text in absurd (none-some named.0 (sym none ∙ named.1))
+    with_unfollowed : (pack name stream : Text) (t : Tables) → Asks r (Live pack name stream) (tables_value t ∷ []) → (r.status ≡ 4) ⊎ (r.status ≡ 8)
+    with_unfollowed pack name stream t asks = absurd (printed r _ _ asks.has text with.prints).2
 
     pub lawful_with : IsLawful r
     lawful_with = record {
       ends = inl (text, with);
       done = with_done;
       words = λ one. absurd (other_status 1 one (λ e. omega arith) (λ e. omega arith));
-      formless = λ none other. absurd (with_no_form none);
+      formless = λ none other. absurd (none-some with.prints.command (sym none ∙ with.prints.has.words));
       read = λ two. absurd (other_status 2 two (λ e. omega arith) (λ e. omega arith));
       write = with_write;
       refused = λ four. absurd (other_status 4 four (λ e. omega arith) (λ e. omega arith));
@@ -135,26 +207,25 @@ module _ (r : Ran) where
       is_wide = λ six. absurd (other_status 6 six (λ e. omega arith) (λ e. omega arith));
       is_unsafe = λ seven. absurd (other_status 7 seven (λ e. omega arith) (λ e. omega arith));
       silent = λ zero three. absurd (elim with_status [ inl z ↦ zero z | inr t ↦ three t ]);
-      wide = λ a x asks. with_wide a asks x;
-      made = λ a asks narrow timely. with_safe asks.faultless;
+      wide = with_wide;
+      made = λ a asks narrow timely. with_safe (tables_faultless a asks);
       late = with_late;
-      other = λ a t asks differs. absurd (differs (with_check a t asks).0);
-      safe = λ a t asks head valid. with_safe asks.faultless;
-      broken = λ a t asks head broken. absurd (broken (with_check a t asks).1);
-      named = λ t name node asks named. with_safe asks.faultless;
+      other = λ a t asks differs. absurd (differs (judged_here a t asks text with.prints).0);
+      safe = λ a t asks head valid. with_safe (check_faultless a t asks);
+      broken = λ a t asks head broken. absurd (broken (judged_here a t asks text with.prints).1);
+      named = λ pack name t node asks named. with_safe asks.faultless;
       nameless = with_nameless;
       tried = λ number asks. elim with_status [ inl zero ↦ inl zero | inr three ↦ inr (inl three) ];
-      tuned = λ a asks. with_safe asks.faultless;
-      unrolled = λ parts g asks shows. with_safe asks.faultless;
+      tuned = λ graph a asks. with_safe asks.faultless;
+      unrolled = λ pairs parts g asks periods shows. with_safe asks.faultless;
       apart = with_apart;
-      followed = λ t name bytes node asks named. with_followed t name bytes asks node named;
-      unfollowed = with_unfollowed;
+      followed = λ f faultless sound. absurd (no_output f text with.prints);
+      unfollowed = λ pack name stream t asks none. with_unfollowed pack name stream t asks;
     }
 
   -- ---- without
 
   module _ (halt : Halt) (by : EndsBy r halt) where
-    -- under another status than 3 the line of the halt was written
     told_of : r.status ≢ 3 → IsTold r halt
     told_of other = elim by.ending [ inl t ↦ t | inr m ↦ absurd (other m.status) ]
 
@@ -164,165 +235,185 @@ module _ (r : Ran) where
     status_at : (n : ℕ) → r.status ≡ n → n ≢ 3 → status_of halt ≡ n
     status_at n e other = sym (told_at n e other).status ∙ e
 
+    -- where no sink met a fault, the status is the halt's
+    told_here : IsFaultless r → r.status ≡ status_of halt
+    told_here faultless = elim by.ending [ inl t ↦ t.status | inr m ↦ absurd (faultless.err m.err.rose) ]
+
+    words_at : status_of halt ≡ 1 → Stops r halt → command_of r.words ≡ None
+    words_at one (inl words) = elim words.cause [ inl formless ↦ formless.1 | inr memory ↦ absurd (let e = ap status_of memory in omega (arith, one, e)) ]
+    words_at one (inr (inl files)) = elim (of_files None (files_of files.command) _ _ halt files.stops) [
+      | inl read ↦ absurd (let e = ap status_of read.0 in omega (arith, one, e))
+      | inr later ↦ absurd (omega (arith, one, later))
+    ]
+    words_at one (inr (inr work)) = elim work.stops [
+      | inl stops ↦ absurd (let later = of_work work.command work.values halt stops in omega (arith, one, later))
+      | inr memory ↦ absurd (let e = ap status_of memory in omega (arith, one, e))
+    ]
+
+    formless_at : command_of r.words ≡ None → Stops r halt → (status_of halt ≡ 1) ⊎ (status_of halt ≡ 8)
+    formless_at none (inl words) = elim words.cause [ inl formless ↦ inl (ap status_of formless.0) | inr memory ↦ inr (ap status_of memory) ]
+    formless_at none (inr (inl files)) = absurd (none-some files.command (sym none ∙ files.words))
+    formless_at none (inr (inr work)) = absurd (none-some work.command (sym none ∙ work.has.words))
+
+    failed_at : status_of halt ≡ 2 → Stops r halt → IsFailed r
+    failed_at two (inl words) = elim words.cause [
+      | inl formless ↦ absurd (let e = ap status_of formless.0 in omega (arith, two, e))
+      | inr memory ↦ absurd (let e = ap status_of memory in omega (arith, two, e))
+    ]
+    failed_at two (inr (inl files)) = elim (of_files None (files_of files.command) _ _ halt files.stops) [
+      | inl read ↦ let last = read.1 in record { fetch = last.fetch; past = last.past; last = last.last; failed = last.failed }
+      | inr later ↦ absurd (omega (arith, two, later))
+    ]
+    failed_at two (inr (inr work)) = elim work.stops [
+      | inl stops ↦ absurd (let later = of_work work.command work.values halt stops in omega (arith, two, later))
+      | inr memory ↦ absurd (let e = ap status_of memory in omega (arith, two, e))
+    ]
+
     by_formless : command_of r.words ≡ None → r.status ≢ 3 → (r.status ≡ 1) ⊎ (r.status ≡ 8)
-    by_formless none other = let t = (told_of other).status in elim (of_formless r.shelf r.words halt by.stops none) [ inl e ↦ inl (t ∙ e) | inr e ↦ inr (t ∙ e) ]
+    by_formless none other = let t = (told_of other).status in elim (formless_at none by.stops) [ inl e ↦ inl (t ∙ e) | inr e ↦ inr (t ∙ e) ]
+
+    by_read : r.status ≡ 2 → IsFailed r × ((Stops r Read × IsTold r Read) ⊎ IsUnreadStream r)
+    by_read two =
+        let at = status_at 2 two (λ e. omega arith) in
+        let is = read_of halt at in
+        (failed_at at by.stops, inl (subst (Stops r) is by.stops, subst (IsTold r) is (told_at 2 two (λ e. omega arith))))
 
     by_write : r.status ≡ 3 → Rose r.out.before r.out.now ⊎ Rose r.err.before r.err.now
     by_write three = elim by.ending [ inl t ↦ absurd (not_three halt (sym t.status ∙ three)) | inr m ↦ inr m.err.rose ]
 
-    by_refused : r.status ≡ 4 → (refusal : Refusal) × Stops r.shelf r.words (Refused refusal) × IsTold r (Refused refusal)
+    by_refused : r.status ≡ 4 → (refusal : Refusal) × Stops r (Refused refusal) × IsTold r (Refused refusal)
     by_refused four =
         let is = refused_of halt (status_at 4 four (λ e. omega arith)) in
-        (is.0, subst (Stops r.shelf r.words) is.1 by.stops, subst (IsTold r) is.1 (told_at 4 four (λ e. omega arith)))
+        (is.0, subst (Stops r) is.1 by.stops, subst (IsTold r) is.1 (told_at 4 four (λ e. omega arith)))
 
-    by_tardy : r.status ≡ 5 → (a : Admission) × (s : Scenario) × (p : ℕ) × (finish : ℕ) × Stops r.shelf r.words (Late a s p finish) × IsTold r (Late a s p finish)
+    by_tardy : r.status ≡ 5 → (a : Admission) × (s : Scenario) × (p : ℕ) × (finish : ℕ) × Stops r (Late a s p finish) × IsTold r (Late a s p finish)
     by_tardy five =
         let is = late_of halt (status_at 5 five (λ e. omega arith)) in
-        (is.0, is.1, is.2, is.3, subst (Stops r.shelf r.words) is.4 by.stops, subst (IsTold r) is.4 (told_at 5 five (λ e. omega arith)))
+        (is.0, is.1, is.2, is.3, subst (Stops r) is.4 by.stops, subst (IsTold r) is.4 (told_at 5 five (λ e. omega arith)))
 
-    by_width : r.status ≡ 6 → (a : Admission) × (x : ℕ) × Stops r.shelf r.words (TooWide a x) × IsTold r (TooWide a x)
+    by_width : r.status ≡ 6 → (a : Admission) × (x : ℕ) × Stops r (TooWide a x) × IsTold r (TooWide a x)
     by_width six =
         let is = wide_of halt (status_at 6 six (λ e. omega arith)) in
-        (is.0, is.1, subst (Stops r.shelf r.words) is.2 by.stops, subst (IsTold r) is.2 (told_at 6 six (λ e. omega arith)))
+        (is.0, is.1, subst (Stops r) is.2 by.stops, subst (IsTold r) is.2 (told_at 6 six (λ e. omega arith)))
 
-    by_fault : r.status ≡ 7 → (a : Admission) × (fault : Fault) × Stops r.shelf r.words (Unsafe a fault) × IsTold r (Unsafe a fault)
+    by_fault : r.status ≡ 7 → (a : Admission) × (fault : Fault) × Stops r (Unsafe a fault) × IsTold r (Unsafe a fault)
     by_fault seven =
         let is = unsafe_of halt (status_at 7 seven (λ e. omega arith)) in
-        (is.0, is.1, subst (Stops r.shelf r.words) is.2 by.stops, subst (IsTold r) is.2 (told_at 7 seven (λ e. omega arith)))
+        (is.0, is.1, subst (Stops r) is.2 by.stops, subst (IsTold r) is.2 (told_at 7 seven (λ e. omega arith)))
 
     by_silent : Untouched r.out
     by_silent = elim by.ending [ inl t ↦ t.out | inr m ↦ m.out ]
 
-    module _ (a : Admission) (asks : Asks r a) where
-      stops_of : StopsGraph r.shelf (r.shelf.stands asks.graph) (IsAfterReading r.shelf.given GRAPH_LIMIT IsUncompiled) halt
-      stops_of = stopped_of r.shelf asks.graph (command_of r.words) halt asks.words by.stops
-
-      told_here : r.status ≡ status_of halt
-      told_here = elim by.ending [ inl t ↦ t.status | inr m ↦ absurd (asks.faultless.err m.err.rose) ]
-
-      left : Left r.shelf (r.shelf.stands asks.graph) asks.bytes a asks.told asks.file asks.faultless.shelf halt
-      left = graph_left r.shelf (r.shelf.stands asks.graph) asks.bytes a asks.told asks.file asks.faultless.shelf halt stops_of
+    module _ (a : Admission) (asks : AsksForTables r a) where
+      here : r.status ≡ status_of halt
+      here = told_here (tables_faultless a asks)
 
       by_wide : (x : ℕ) → IsWide a.graph a.order x → (r.status ≡ 6) ⊎ (r.status ≡ 8)
-      by_wide x wide = elim left [
-        | inl e ↦ inr (told_here ∙ e)
+      by_wide x wide = elim (tables_left a asks halt by.stops) [
+        | inl e ↦ inr (here ∙ e)
         | inr (inl late) ↦ absurd (late.1.narrow x wide)
-        | inr (inr shown) ↦ inl (told_here ∙ shown.0)
+        | inr (inr shows) ↦ inl (here ∙ shows.0)
       ]
 
       by_made : IsNarrow a.graph a.order → IsTimely a.graph a.order → (r.status ≡ 0) ⊎ (r.status ≡ 8)
-      by_made narrow timely = elim left [
-        | inl e ↦ inr (told_here ∙ e)
-        | inr (inl late) ↦ absurd (not_timely_and_late a.graph asks.file.admitted.well_formed a.order asks.file.admitted.topological timely late.1)
+      by_made narrow timely = elim (tables_left a asks halt by.stops) [
+        | inl e ↦ inr (here ∙ e)
+        | inr (inl late) ↦ absurd (not_timely_and_late a.graph (formed a asks) a.order (topological a asks) timely late.1)
         | inr (inr wide) ↦ absurd (narrow wide.1.0 wide.1.1)
       ]
 
       by_late : IsLate a.graph a.order → (r.status ≡ 5) ⊎ (r.status ≡ 8)
-      by_late is_late = elim left [
-        | inl e ↦ inr (told_here ∙ e)
-        | inr (inl late) ↦ inl (told_here ∙ late.0)
+      by_late is_late = elim (tables_left a asks halt by.stops) [
+        | inl e ↦ inr (here ∙ e)
+        | inr (inl late) ↦ inl (here ∙ late.0)
         | inr (inr wide) ↦ absurd (is_late.narrow wide.1.0 wide.1.1)
       ]
 
     module _ (a : Admission) (t : Tables) (asks : AsksVerdict r a t) where
-      told_check : r.status ≡ status_of halt
-      told_check = elim by.ending [ inl t ↦ t.status | inr m ↦ absurd (asks.faultless.err m.err.rose) ]
-
-      left_check : CheckLeft a t halt
-      left_check = elim asks.words [
-        | inl check ↦ check_left r.shelf a t asks.graph asks.pack asks.bytes asks.told asks.file asks.faultless.shelf asks.spelled asks.lawful halt (subst (λ c. StopsAsked r.shelf c halt) check by.stops)
-        | inr (inl play) ↦ let says = play.3 in play_left r.shelf a t asks.graph asks.pack asks.bytes asks.told asks.file asks.faultless.shelf asks.spelled asks.lawful (r.shelf.stands play.0) says.bytes says.told says.short says.played says.says halt
-            (subst (λ c. StopsAsked r.shelf c halt) play.2 by.stops)
-        | inr (inr log) ↦ let says = log.2 in audit_left r.shelf a t asks.graph asks.pack asks.bytes asks.told asks.file asks.faultless.shelf asks.spelled asks.lawful (r.shelf.stands log.0) says.bytes says.told says.short says.log says.says halt
-            (subst (λ c. StopsAsked r.shelf c halt) log.1 by.stops)
-      ]
+      here_too : r.status ≡ status_of halt
+      here_too = told_here (check_faultless a t asks)
 
       by_other : (IsHeadFor a.graph t.head → ⊥) → (r.status ≡ 4) ⊎ (r.status ≡ 8)
-      by_other differs = elim left_check [
-        | inl e ↦ inr (told_check ∙ e)
-        | inr (inl other) ↦ inl (told_check ∙ other.0)
+      by_other differs = elim (verdict_left a t asks halt by.stops) [
+        | inl memory ↦ inr (here_too ∙ ap status_of memory)
+        | inr (inl other) ↦ inl (here_too ∙ other.0)
         | inr (inr broken) ↦ absurd (differs broken.1)
       ]
 
       by_safe : IsHeadFor a.graph t.head → IsValid a.graph t.nodes → (r.status ≡ 0) ⊎ (r.status ≡ 8)
-      by_safe head valid = elim left_check [
-        | inl e ↦ inr (told_check ∙ e)
+      by_safe head valid = elim (verdict_left a t asks halt by.stops) [
+        | inl memory ↦ inr (here_too ∙ ap status_of memory)
         | inr (inl other) ↦ absurd (other.1 head)
         | inr (inr broken) ↦ absurd (broken.2 valid)
       ]
 
       by_broken : IsHeadFor a.graph t.head → (IsValid a.graph t.nodes → ⊥) → (r.status ≡ 7) ⊎ (r.status ≡ 8)
-      by_broken head invalid = elim left_check [
-        | inl e ↦ inr (told_check ∙ e)
+      by_broken head invalid = elim (verdict_left a t asks halt by.stops) [
+        | inl memory ↦ inr (here_too ∙ ap status_of memory)
         | inr (inl other) ↦ absurd (other.1 head)
-        | inr (inr broken) ↦ inl (told_check ∙ broken.0)
+        | inr (inr broken) ↦ inl (here_too ∙ broken.0)
       ]
 
-    module _ (t : Tables) (name : Text) (asks : AsksNode r t name) where
-      told_node : r.status ≡ status_of halt
-      told_node = elim by.ending [ inl t ↦ t.status | inr m ↦ absurd (asks.faultless.err m.err.rose) ]
+    by_named : (pack name : Text) (t : Tables) (node : ℕ) → Asks r (Node pack name) (tables_value t ∷ []) → first_named t.head name ≡ Some node → (r.status ≡ 0) ⊎ (r.status ≡ 8)
+    by_named pack name t node asks named = elim (stopped_by r _ _ asks.has halt by.stops) [
+      | inl memory ↦ inr (told_here asks.faultless ∙ ap status_of memory)
+      | inr q ↦ let k = on_tables t q.0 _ q.1 q.2 in absurd (none-some node (sym k.none ∙ named))
+    ]
 
-      left_node : (status_of halt ≡ 8) ⊎ ((status_of halt ≡ 4) × (first_named t.head name ≡ None))
-      left_node = node_left r.shelf t asks.pack asks.faultless.shelf asks.spelled asks.lawful name halt (subst (λ c. StopsAsked r.shelf c halt) asks.words by.stops)
+    by_nameless : (pack name : Text) (t : Tables) → Asks r (Node pack name) (tables_value t ∷ []) → first_named t.head name ≡ None → (r.status ≡ 4) ⊎ (r.status ≡ 8)
+    by_nameless pack name t asks none = elim (stopped_by r _ _ asks.has halt by.stops) [
+      | inl memory ↦ inr (told_here asks.faultless ∙ ap status_of memory)
+      | inr q ↦ let k = on_tables t q.0 _ q.1 q.2 in inl (told_here asks.faultless ∙ ap status_of k.halt_is)
+    ]
 
-      by_nameless : first_named t.head name ≡ None → (r.status ≡ 4) ⊎ (r.status ≡ 8)
-      by_nameless none = elim left_node [ inl e ↦ inr (told_node ∙ e) | inr unknown ↦ inl (told_node ∙ unknown.0) ]
-
-    by_named : (t : Tables) (name : Text) (node : ℕ) → AsksNode r t name → first_named t.head name ≡ Some node → (r.status ≡ 0) ⊎ (r.status ≡ 8)
-    by_named t name node asks named = elim (left_node t name asks) [
-      | inl e ↦ inr (told_node t name asks ∙ e)
-      | inr unknown ↦ absurd (none-some node (sym unknown.1 ∙ named))
+    by_unfollowed : (pack name stream : Text) (t : Tables) → Asks r (Live pack name stream) (tables_value t ∷ []) → first_named t.head name ≡ None → (r.status ≡ 4) ⊎ (r.status ≡ 8)
+    by_unfollowed pack name stream t asks none = elim (stopped_by r _ _ asks.has halt by.stops) [
+      | inl memory ↦ inr (told_here asks.faultless ∙ ap status_of memory)
+      | inr q ↦ let k = on_tables t q.0 _ q.1 q.2 in inl (told_here asks.faultless ∙ ap status_of k.halt_is)
     ]
 
     by_tried : (number : ℕ) → command_of r.words ≡ Some (Trial number) → (r.status ≡ 0) ⊎ ((r.status ≡ 3) ⊎ (r.status ≡ 8))
     by_tried number asks = elim by.ending [
-      | inl told ↦ let memory : halt ≡ Memory = subst (λ c. StopsAsked r.shelf c halt) asks by.stops in inr (inr (told.status ∙ ap status_of memory))
+      | inl told ↦ inr (inr (told.status ∙ ap status_of (trial_memory number asks by.stops)))
       | inr muted ↦ inr (inl muted.status)
     ]
+      where
+        trial_memory : (number : ℕ) → command_of r.words ≡ Some (Trial number) → Stops r halt → halt ≡ Memory
+        trial_memory number asks (inl words) = elim words.cause [ inl formless ↦ absurd (none-some (Trial number) (sym formless.1 ∙ asks)) | inr memory ↦ memory ]
+        trial_memory number asks (inr (inl files)) = absurd (subst (λ (k : Command). StopsReading None (files_of k) r.shelf.old.history r.shelf.new.history halt) (same_Some files.command (Trial number) (sym files.words ∙ asks)) files.stops)
+        trial_memory number asks (inr (inr work)) = elim work.stops [
+          | inl stops ↦ absurd (subst (λ (k : Command). StopsWork k work.values halt) (same_Some work.command (Trial number) (sym work.has.words ∙ asks)) stops)
+          | inr memory ↦ memory
+        ]
 
-    by_tuned : (a : Admission) → AsksTuning r a → (r.status ≡ 0) ⊎ (r.status ≡ 8)
-    by_tuned a asks = elim by.ending [
-      | inl t ↦ inr (t.status ∙ tune_left r.shelf (r.shelf.stands asks.graph) asks.bytes a asks.told asks.file asks.faultless.shelf halt (subst (λ c. StopsAsked r.shelf c halt) asks.words by.stops))
-      | inr m ↦ absurd (asks.faultless.err m.err.rose)
+    by_tuned : (graph : Text) (a : Admission) → Asks r (Tune graph) (graph_value a ∷ []) → (r.status ≡ 0) ⊎ (r.status ≡ 8)
+    by_tuned graph a asks = elim (stopped_by r _ _ asks.has halt by.stops) [
+      | inl memory ↦ inr (told_here asks.faultless ∙ ap status_of memory)
+      | inr q ↦ absurd q.2
     ]
 
-    module _ (parts : List Part) (asks : AsksUnrolling r parts) where
-      told_parts : r.status ≡ status_of halt
-      told_parts = elim by.ending [ inl t ↦ t.status | inr m ↦ absurd (asks.faultless.err m.err.rose) ]
+    left_parts : (pairs : List Pair) (parts : List Part) → Asks r (Hyper pairs) (part_values parts) → HavePeriods pairs parts → PartsLeft parts halt
+    left_parts pairs parts asks periods = elim (stopped_by r _ _ asks.has halt by.stops) [
+      | inl memory ↦ inl (ap status_of memory)
+      | inr q ↦ parts_left parts halt (on_parts pairs parts q.0 (λ ps. IsNotUnrolled ps halt) q.1 periods q.2)
+    ]
 
-      left_parts : PartsLeft parts halt
-      left_parts = parts_left r.shelf asks.pairs parts asks.told asks.faultless.shelf halt (subst (λ c. StopsAsked r.shelf c halt) asks.words by.stops)
-
-      by_apart : (r.status ≡ 4) ⊎ (r.status ≡ 8)
-      by_apart = elim left_parts [ inl e ↦ inr (told_parts ∙ e) | inr refused ↦ inl (told_parts ∙ refused.0) ]
-
-    by_unrolled : (parts : List Part) (g : Graph) → AsksUnrolling r parts → ShowsUnrolled parts (Ok g) → (r.status ≡ 0) ⊎ (r.status ≡ 8)
-    by_unrolled parts g asks made = elim (left_parts parts asks) [
-      | inl e ↦ inr (told_parts parts asks ∙ e)
+    by_unrolled : (pairs : List Pair) (parts : List Part) (g : Graph) → Asks r (Hyper pairs) (part_values parts) → HavePeriods pairs parts → ShowsUnrolled parts (Ok g) → (r.status ≡ 0) ⊎ (r.status ≡ 8)
+    by_unrolled pairs parts g asks periods made = elim (left_parts pairs parts asks periods) [
+      | inl e ↦ inr (told_here asks.faultless ∙ e)
       | inr refused ↦ absurd (not_both parts g refused.1.0 made refused.1.1 refused.1.2)
     ]
 
-    -- before a stream is fetched
-    module _ (t : Tables) (name bytes : Text) (asks : AsksStream r t name bytes) where
-      told_stream : r.status ≡ status_of halt
-      told_stream = elim by.ending [ inl t ↦ t.status | inr m ↦ absurd (asks.faultless.err m.err.rose) ]
-
-      left_stream : (status_of halt ≡ 8) ⊎ ((status_of halt ≡ 4) × (first_named t.head name ≡ None))
-      left_stream = node_left r.shelf t asks.pack asks.faultless.shelf asks.spelled asks.lawful name halt (subst (λ c. StopsAsked r.shelf c halt) asks.words by.stops)
-
-      by_followed : (node : ℕ) → first_named t.head name ≡ Some node → (r.status ≡ status_of_end (stream_end (table_at t.nodes node) bytes)) ⊎ (r.status ≡ 8)
-      by_followed node named = elim left_stream [ inl e ↦ inr (told_stream ∙ e) | inr unknown ↦ absurd (none-some node (sym unknown.1 ∙ named)) ]
-
-      by_unfollowed : first_named t.head name ≡ None → (r.status ≡ 4) ⊎ (r.status ≡ 8)
-      by_unfollowed none = elim left_stream [ inl e ↦ inr (told_stream ∙ e) | inr unknown ↦ inl (told_stream ∙ unknown.0) ]
+    by_apart : (pairs : List Pair) (parts : List Part) → Asks r (Hyper pairs) (part_values parts) → HavePeriods pairs parts → (r.status ≡ 4) ⊎ (r.status ≡ 8)
+    by_apart pairs parts asks periods = elim (left_parts pairs parts asks periods) [ inl e ↦ inr (told_here asks.faultless ∙ e) | inr refused ↦ inl (told_here asks.faultless ∙ refused.0) ]
 
     pub lawful_by : IsLawful r
     lawful_by = record {
       ends = inr (inl (halt, by));
       done = λ zero. absurd (not_zero halt (status_at 0 zero (λ e. omega arith)));
-      words = λ one. of_words r.shelf r.words halt by.stops (status_at 1 one (λ e. omega arith));
+      words = λ one. words_at (status_at 1 one (λ e. omega arith)) by.stops;
       formless = by_formless;
-      read = λ two. of_read r.shelf r.words halt by.stops (status_at 2 two (λ e. omega arith));
+      read = by_read;
       write = by_write;
       refused = λ four. inl (by_refused four);
       is_late = by_tardy;
@@ -340,7 +431,7 @@ module _ (r : Ran) where
       tried = by_tried;
       tuned = by_tuned;
       unrolled = by_unrolled;
-      apart = λ parts fault asks shows other. by_apart parts asks;
-      followed = λ t name bytes node asks named. by_followed t name bytes asks node named;
+      apart = λ pairs parts fault asks periods shows other. by_apart pairs parts asks periods;
+      followed = λ f faultless sound. absurd (no_stop f halt by.stops);
       unfollowed = by_unfollowed;
     }

@@ -1,28 +1,98 @@
 -- The ways in which a run ends: its output or its line is taken whole, or the sink meets a fault; a stream has its own.
-use Rattle.std.specs.Prelude.{ℕ, ◌≡◌, ◌⊎◌, List, Some}
+use Rattle.std.specs.Prelude.{ℕ, ◌≡◌, ◌⊎◌, List, [], ◌∷◌, Option, Some, None, Result, Ok, Err, All}
+use Rattle.cpg_tale.specs.Fetch.{Fetch}
+use Rattle.cpg_io.specs.State.{ShelfState}
 use Rattle.cpg_words.specs.Parts.{Text}
+use Rattle.cpg_words.specs.FileWords.{file_words}
 use Rattle.cpg_words.specs.Forms.{command_of}
+use Rattle.cpg_words.specs.declared.command.Command.{Command}
 use Rattle.cpg_words.specs.declared.command.Command.TheVariants.{Live}
 use Rattle.cpg_head.specs.Head.{Head}
 use Rattle.cpg_table.specs.Table.{NodeTable, table_at}
 use Rattle.cpg_table.specs.Lawful.{Tables}
+use Rattle.cpg_codec.specs.declared.fault.WriteFault.{WriteFault}
 use Rattle.cpg_refusal.specs.declared.halt.Halt.{Halt}
-use Rattle.cpg_refusal.specs.declared.halt.Halt.TheVariants.{Read}
-use Rattle.cpg_live.specs.declared.following.Broken.{Broken}
-use Rattle.cpg_app.specs.Causes.{Seen, Spells, Stops, first_named}
-use Rattle.cpg_live.specs.Following.{Breaks, Completes, Stream}
+use Rattle.cpg_refusal.specs.declared.halt.Halt.TheVariants.{Words, Read, Memory}
 use Rattle.cpg_refusal.specs.Lines.{line_of, status_of, write_fault_line}
-use Rattle.cpg_app.specs.Outputs.{Prints}
+use Rattle.cpg_inputs.specs.declared.kind.Kind.TheVariants.{PackFile}
+use Rattle.cpg_inputs.specs.Files.{file, files_of}
+use Rattle.cpg_inputs.specs.declared.inputs.Inputs.{Inputs}
+use Rattle.cpg_inputs.specs.Inputs.{AreInputs, HasInputs}
+use Rattle.cpg_inputs.specs.Says.{Value, tables_value}
+use Rattle.cpg_inputs.specs.Reading.{IsRead, Reads, StopsReading}
+use Rattle.cpg_live.specs.declared.following.Broken.{Broken}
+use Rattle.cpg_live.specs.Following.{Breaks, Completes, Stream}
 use Rattle.cpg_live.specs.Streams.{fault_line}
+use Rattle.cpg_app.specs.Causes.{OrMemory, StopsWork, first_named}
+use Rattle.cpg_app.specs.Outputs.{PutsOut}
 use Rattle.cpg_app.specs.Told.{SinkSeen, Sent, Whole, Untouched, Part}
 
--- a run: its words, what it saw of its shelf and its sinks, and its exit status
+-- what a run sees of its shelf, before and after
+pub record ShelfSeen : Type 0 where
+  pub old : ShelfState
+  pub new : ShelfState
+
+abbrev pub seen : ShelfState → ShelfState → ShelfSeen
+seen old new = record { old = old; new = new }
+
+-- a run: its words, its shelf and its sinks before and after, and its exit status
 pub record Ran : Type 0 where
   pub words : List Text
-  pub shelf : Seen
+  pub shelf : ShelfSeen
   pub out : SinkSeen
   pub err : SinkSeen
   pub status : ℕ
+
+-- ---- what it read
+
+-- the files of its words were read, one after the other, and say these values
+pub record Has (r : Ran) (command : Command) (values : List Value) : Type 0 where
+  pub words : command_of r.words ≡ Some command
+  pub reads : Reads None (files_of command) r.shelf.old.history r.shelf.new.history values
+
+-- so of inputs, from one state of a shelf to a later one
+pub record HasAt (asked : List Text) (old new : ShelfState) (inputs : Inputs) : Type 0 where
+  pub command : Command
+  pub words : command_of asked ≡ Some command
+  pub has : HasInputs command old.history new.history inputs
+
+-- inputs are those of some command, of which each file may be fetched
+pub record MayRun (may : Text → Type 0) (inputs : Inputs) : Type 0 where
+  pub command : Command
+  pub values : List Value
+  pub are : AreInputs command values inputs
+  pub files : All may (file_words command)
+
+-- nothing was fetched: the words have no form, or memory was wanting
+pub record StopsInWords (r : Ran) (halt : Halt) : Type 0 where
+  pub unread : r.shelf.new.history ≡ r.shelf.old.history
+  pub cause : ((halt ≡ Words) × (command_of r.words ≡ None)) ⊎ (halt ≡ Memory)
+
+-- a file stops it, the first that does: every earlier one was read, and none was fetched after it
+pub record StopsInFiles (r : Ran) (halt : Halt) : Type 0 where
+  pub command : Command
+  pub words : command_of r.words ≡ Some command
+  pub stops : StopsReading None (files_of command) r.shelf.old.history r.shelf.new.history halt
+
+-- the work on what all of them say stops it
+pub record StopsInWork (r : Ran) (halt : Halt) : Type 0 where
+  pub command : Command
+  pub values : List Value
+  pub has : Has r command values
+  pub stops : OrMemory (StopsWork command values) halt
+
+-- a run stops for a reason
+abbrev pub Stops : Ran → Halt → Type 0
+Stops r halt = StopsInWords r halt ⊎ (StopsInFiles r halt ⊎ StopsInWork r halt)
+
+-- it puts out a text
+pub record Prints (r : Ran) (text : Text) : Type 0 where
+  pub command : Command
+  pub values : List Value
+  pub has : Has r command values
+  pub puts : PutsOut command values text
+
+-- ---- how it ends
 
 -- the output was taken whole
 pub record IsPrinted (r : Ran) (text : Text) : Type 0 where
@@ -48,43 +118,48 @@ pub record IsMuted (r : Ran) (halt : Halt) : Type 0 where
   pub out : Untouched r.out
   pub err : Part r.err (line_of halt)
 
+-- what `err` and the status say of an output that was written, or wasn't
+abbrev pub IsEnded : Result Unit WriteFault → SinkSeen → ℕ → Type 0
+IsEnded (Ok done) err status = (status ≡ 0) × Untouched err
+IsEnded (Err WriteFault.Failed) err status = (status ≡ 3) × (Whole err write_fault_line ⊎ Part err write_fault_line)
+IsEnded (Err WriteFault.OutOfMemory) err status = Sent err status (status_of Memory) (line_of Memory) ⊎ Sent err status (status_of Memory) (line_of Memory)
+
 -- a run with an output
 pub record EndsWith (r : Ran) (text : Text) : Type 0 where
-  pub prints : Prints r.shelf r.words text
+  pub prints : Prints r text
   pub ending : IsPrinted r text ⊎ IsCut r text
 
 -- a run that stops without one
 pub record EndsBy (r : Ran) (halt : Halt) : Type 0 where
-  pub stops : Stops r.shelf r.words halt
+  pub stops : Stops r halt
   pub ending : IsTold r halt ⊎ IsMuted r halt
 
--- a run that follows a stream: with the first node of a name in the tables of a pack
+-- a run that follows a stream, with the first node of a name in the tables of a pack: the pack was read, then the stream was
+-- fetched, and nothing else
 pub record Follows (r : Ran) : Type 0 where
   pub pack : Text
   pub name : Text
   pub stream : Text
   pub words : command_of r.words ≡ Some (Live pack name stream)
+  pub read : Fetch
   pub tables : Tables
-  pub spells : Spells (r.shelf.stands pack) tables
+  pub spelled : IsRead None (file PackFile pack) read (tables_value tables)
   pub node : ℕ
   pub named : first_named tables.head name ≡ Some node
+  pub fetch : Fetch
+  pub of : fetch.name ≡ stream
+  pub history : r.shelf.new.history ≡ fetch ∷ read ∷ r.shelf.old.history
 
 -- the table of its node
 abbrev pub table_of : {r : Ran} → Follows r → NodeTable
 table_of f = table_at f.tables.nodes f.node
 
--- what it sees of the stream's shelf and of `out`
+-- what a run sees of a stream and of `out`
+abbrev pub streamed : Fetch → SinkSeen → Stream
+streamed fetch out = record { fetch = fetch; before = out.before; now = out.now; old = out.old; new = out.new }
+
 abbrev pub stream_of : (r : Ran) → Follows r → Stream
-stream_of r f = record {
-  told = r.shelf.stands f.stream;
-  given = r.shelf.given;
-  shelf_before = r.shelf.before;
-  shelf_now = r.shelf.now;
-  out_before = r.out.before;
-  out_now = r.out.now;
-  old = r.out.old;
-  new = r.out.new;
-}
+stream_of r f = streamed f.fetch r.out
 
 -- what `err` and the status say of a stream that isn't followed to its close
 abbrev pub IsSaid : SinkSeen → ℕ → Broken → Type 0
@@ -96,13 +171,27 @@ IsSaid err status (Broken.Refused fault) = Sent err status 4 (fault_line fault)
 abbrev pub IsToldTo : Head → NodeTable → Stream → SinkSeen → ℕ → Type 0
 IsToldTo h table s err status = (Completes h table s × (status ≡ 0) × Untouched err) ⊎ ((broken : Broken) × Breaks h table s broken × IsSaid err status broken)
 
--- a run that doesn't follow its stream to the close
+-- how a stream that a node follows ends, which is fetched once
+pub record IsFollowedAt (h : Head) (table : NodeTable) (name : Text) (past now : List Fetch) (out err : SinkSeen) (status : ℕ) : Type 0 where
+  pub fetch : Fetch
+  pub named : fetch.name ≡ name
+  pub history : now ≡ fetch ∷ past
+  pub ends : IsToldTo h table (streamed fetch out) err status
+
+-- a run that follows its stream to the close, and has written all its lines
+pub record EndsAtClose (r : Ran) : Type 0 where
+  pub follows : Follows r
+  pub completes : Completes follows.tables.head (table_of follows) (stream_of r follows)
+  pub status : r.status ≡ 0
+  pub err : Untouched r.err
+
+-- a run that doesn't
 pub record EndsInStream (r : Ran) : Type 0 where
   pub follows : Follows r
   pub broken : Broken
   pub breaks : Breaks follows.tables.head (table_of follows) (stream_of r follows) broken
   pub said : IsSaid r.err r.status broken
 
--- a run has an output, a reason to stop, or a stream that isn't followed to its close, and ends by it
+-- a run has an output or a reason to stop, or follows a stream, and ends by it
 abbrev pub Ends : Ran → Type 0
-Ends r = ((text : Text) × EndsWith r text) ⊎ (((halt : Halt) × EndsBy r halt) ⊎ EndsInStream r)
+Ends r = ((text : Text) × EndsWith r text) ⊎ (((halt : Halt) × EndsBy r halt) ⊎ (EndsAtClose r ⊎ EndsInStream r))

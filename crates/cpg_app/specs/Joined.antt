@@ -1,15 +1,16 @@
--- Runs one after another: what one wrote, the others read; and runs for one graph file.
-use Rattle.std.specs.Prelude.{ℕ, ◌≡◌, ◌<◌, ◌⊎◌, [], ◌++◌, Some, Ok, get_or, length}
+-- Runs one after another: what one wrote, the others read; and runs for one graph.
+use Rattle.std.specs.Prelude.{ℕ, ◌≡◌, ◌<◌, ◌⊎◌, [], ◌∷◌, ◌++◌, Some, get_or, length}
 use Rattle.cpg_base.specs.Graph.{Graph}
 use Rattle.cpg_words.specs.Parts.{Text}
-use Rattle.cpg_words.specs.Forms.{command_of}
 use Rattle.cpg_words.specs.declared.command.Command.{Command}
 use Rattle.cpg_words.specs.declared.command.Command.TheVariants.{Show, Compile, Node}
-use Rattle.cpg_reader.specs.Document.{problem_of}
-use Rattle.cpg_rules.specs.Admission.{Admission}
+use Rattle.cpg_rules.specs.Admission.{Admission, IsAdmitted}
+use Rattle.cpg_table.specs.Lawful.{Tables}
+use Rattle.cpg_codec.specs.Spelling.{spelling}
 use Rattle.cpg_core.specs.CompileLaws.{AskTheSame}
-use Rattle.cpg_app.specs.Endings.{Ran}
-use Rattle.cpg_app.specs.Lawful.{AreAdmitted, IsFaultless, AsksToJudge, IsLawful}
+use Rattle.cpg_inputs.specs.Says.{graph_value, tables_value}
+use Rattle.cpg_app.specs.Endings.{Has, Ran}
+use Rattle.cpg_app.specs.Lawful.{Asks, AsksVerdict, IsLawful}
 use Rattle.cpg_app.specs.Outputs.{IsMadeOf, shown, packed as packed_of}
 
 -- a run wrote these bytes, behind what its output had
@@ -18,53 +19,50 @@ pub record Wrote (r : Ran) (bytes : Text) : Type 0 where
   pub old : r.out.old ≡ Some before
   pub new : r.out.new ≡ Some (before ++ bytes)
 
--- it wrote them as a command asked of a graph file of other bytes
-pub record HasMade (asked : Text → Command) (r : Ran) (bytes made : Text) : Type 0 where
+-- it wrote them as a command asked of a graph file that says this graph
+pub record HasMade (asked : Text → Command) (r : Ran) (g : Graph) (made : Text) : Type 0 where
   pub lawful : IsLawful r
   pub graph : Text
-  pub words : command_of r.words ≡ Some (asked graph)
-  pub told : r.shelf.stands graph ≡ Some bytes
+  pub admission : Admission
+  pub of : admission.graph ≡ g
+  pub has : Has r (asked graph) (graph_value admission ∷ [])
   pub done : r.status ≡ 0
   pub wrote : Wrote r made
 
 -- the text of its tables
-abbrev pub HasShown : Ran → Text → Text → Type 0
-HasShown r bytes text = HasMade Show r bytes text
+abbrev pub HasShown : Ran → Graph → Text → Type 0
+HasShown r g text = HasMade Show r g text
 
 -- or their pack
-abbrev pub HasPacked : Ran → Text → Text → Type 0
-HasPacked r bytes pack = HasMade Compile r bytes pack
+abbrev pub HasPacked : Ran → Graph → Text → Type 0
+HasPacked r g pack = HasMade Compile r g pack
 
--- a run finds these bytes under a name, and nothing fails
-pub record FindsPack (r : Ran) (pack packed : Text) : Type 0 where
-  pub lawful : IsLawful r
-  pub told : r.shelf.stands pack ≡ Some packed
-  pub faultless : IsFaultless r
-
--- it ends well, or memory is wanting
+-- a run ends well, or memory is wanting
 abbrev pub EndsWell : Ran → Type 0
 EndsWell r = (r.status ≡ 0) ⊎ (r.status ≡ 8)
 
--- a pack for a graph file of these bytes is taken by the commands that read packs
-pub record IsTaken (g : Graph) (bytes packed : Text) : Type 0 where
-  -- found safe for the graph, played as each scenario file of the graph says, and each log of the graph audited by it
-  pub judged : (r : Ran) (graph pack : Text) → FindsPack r pack packed → r.shelf.stands graph ≡ Some bytes → AsksToJudge r g graph pack → EndsWell r
+-- a pack of a graph is taken by the commands that read packs, where no sink meets a fault
+pub record IsTaken (g : Graph) (pack : Text) : Type 0 where
+  -- with a file that says the graph it is found safe, played as each scenario file of the graph says, and each log of the graph
+  -- audited by it
+  pub judged : (r : Ran) (a : Admission) (t : Tables) → IsLawful r → a.graph ≡ g → pack ≡ spelling t → AsksVerdict r a t → EndsWell r
   -- and the table of each of its nodes is printed
-  pub printed : (r : Ran) (pack : Text) (node : ℕ) → FindsPack r pack packed → node < length g.nodes → command_of r.words ≡ Some (Node pack (get_or g.nodes node [])) → EndsWell r
+  pub printed : (r : Ran) (name : Text) (t : Tables) (node : ℕ) → IsLawful r → pack ≡ spelling t → node < length g.nodes → Asks r (Node name (get_or g.nodes node [])) (tables_value t ∷ []) → EndsWell r
 
--- What `compile` wrote for a graph, `check` with that graph finds safe, `play` plays for each scenario file of the graph, `audit` audits each log of the graph by, and
--- `node` prints for each of its nodes, want of memory aside.
+-- What `compile` wrote for a graph, `check` with that graph finds safe, `play` plays for each scenario file of the graph, `audit`
+-- audits each log of the graph by, and `node` prints for each of its nodes, want of memory aside.
 abbrev pub PacksAreTaken : Type 0
-PacksAreTaken = (r : Ran) (g : Graph) (bytes packed : Text) → HasPacked r bytes packed → problem_of bytes ≡ Ok g → IsTaken g bytes packed
+PacksAreTaken = (r : Ran) (g : Graph) (pack : Text) → HasPacked r g pack → IsTaken g pack
 
 -- A text and a pack are of two compilations of one admitted graph, which ask the same in every scenario.
-pub record AreOfOneGraph (bytes text pack : Text) : Type 0 where
+pub record AreOfOneGraph (g : Graph) (text pack : Text) : Type 0 where
   pub admission : Admission
-  pub file : AreAdmitted bytes admission
+  pub of : admission.graph ≡ g
+  pub admitted : IsAdmitted admission.graph admission.order admission.guards
   pub shows : IsMadeOf admission shown text
   pub packs : IsMadeOf admission packed_of pack
   pub same : AskTheSame admission.graph shows.compiled packs.compiled
 
--- what `show` printed for a graph file, and what `compile` wrote for it
+-- what `show` printed for a graph, and what `compile` wrote for it
 abbrev pub ShowAndCompileAgree : Type 0
-ShowAndCompileAgree = (r q : Ran) (bytes text pack : Text) → HasShown r bytes text → HasPacked q bytes pack → AreOfOneGraph bytes text pack
+ShowAndCompileAgree = (r q : Ran) (g : Graph) (text pack : Text) → HasShown r g text → HasPacked q g pack → AreOfOneGraph g text pack

@@ -1,11 +1,10 @@
 //! The writing at the end of a run.
-ghost use Rattle.std.specs.Prelude.{◌≡◌, ◌≢◌, ◌⊎◌, Err, OnOk};
+ghost use Rattle.std.specs.Prelude.{◌≡◌, ◌≢◌, ◌⊎◌, Err, OnOk, string_bytes};
 ghost use Rattle.cpg_refusal.specs.Lines.{line_of, status_of, write_fault_line, IsNamed};
-ghost use Rattle.cpg_app.specs.Outputs.{bytes_of};
+ghost use Rattle.cpg_app.specs.Endings.{IsEnded};
 ghost use Rattle.cpg_app.specs.Told.{IsWritten, Part, Sent, Untouched, Whole, sent};
 
-use crate::output::Output;
-use cpg_codec::{WriteFault, write_pack};
+use cpg_codec::WriteFault;
 use cpg_io::{Failed, Sink, write_all};
 use cpg_refusal::{Halt, line};
 use std::alloc::Global;
@@ -31,16 +30,13 @@ fn tell_fault<E: Sink>(err: &mut E)
     let _tried = write_all(err, b"cpgc: write fault\n");
 }
 
-/// Writes an output.
-pub fn put<O: Sink>(alloc: Global, output: &Output, out: &mut O) -> Result<(), WriteFault>
-    ensures { IsWritten (sent (O.state out.old) (O.state out.new)) result (bytes_of output.now) }
+/// Writes a text.
+pub fn put<O: Sink>(text: &str, out: &mut O) -> Result<(), WriteFault>
+    ensures { IsWritten (sent (O.state out.old) (O.state out.new)) result text.now }
 {
-    match output {
-        Output::Lines(text) => match write_all(out, text.as_bytes()) {
-            Ok(()) => Ok(()),
-            Err(Failed) => Err(WriteFault::Failed),
-        },
-        Output::Pack(tables) => write_pack(alloc, tables, out),
+    match write_all(out, text.as_bytes()) {
+        Ok(()) => Ok(()),
+        Err(Failed) => Err(WriteFault::Failed),
     }
 }
 
@@ -61,5 +57,16 @@ pub fn stop<E: Sink>(alloc: Global, halt: &Halt, err: &mut E) -> u8
     match line(alloc, halt) {
         Ok(line) => send(halt.status(), line.as_bytes(), err),
         Err(_) => send(Halt::Memory.status(), b"cpgc: memory\n", err),
+    }
+}
+
+/// Ends a run whose output was written, or wasn't.
+pub fn end<E: Sink>(alloc: Global, written: Result<(), WriteFault>, err: &mut E) -> u8
+    ensures { IsEnded written (sent (E.state err.old) (E.state err.new)) result }
+{
+    match written {
+        Ok(()) => 0,
+        Err(WriteFault::Failed) => cut(err),
+        Err(WriteFault::OutOfMemory) => stop(alloc, &Halt::Memory, err),
     }
 }

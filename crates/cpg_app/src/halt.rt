@@ -1,21 +1,10 @@
-//! What a log and a compile stop a run with.
+//! What a compile stops a run with.
 ghost use Rattle.std.specs.Prelude.{◌≡◌};
-ghost use Rattle.cpg_app.specs.Halts.{halt_of_compile, halt_of_log};
+ghost use Rattle.cpg_app.specs.Halts.{halt_of_compile};
 
 use cpg_core::CompileFault;
-use cpg_log::LogFault;
-use cpg_refusal::{Halt, Refusal};
+use cpg_refusal::Halt;
 use cpg_rules::Admitted;
-
-/// What a log that can't be read stops a run with.
-pub fn halt_of_log(fault: LogFault) -> Halt
-    ensures { result ≡ halt_of_log fault }
-{
-    match fault {
-        LogFault::Bad(line) => Halt::Refused(Refusal::BadLog(line)),
-        LogFault::OutOfMemory => Halt::Memory,
-    }
-}
 
 /// What a graph that isn't compiled stops a run with.
 pub fn halt_of_compile(graph: Admitted, fault: CompileFault) -> Halt

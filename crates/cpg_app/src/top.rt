@@ -1,49 +1,56 @@
 //! The top call.
-ghost use Rattle.std.specs.Prelude.{◌≡◌, ◌⊎◌, All, List, Some, map, string_bytes};
-ghost use Rattle.cpg_words.specs.FileWords.{file_words, file_words_of};
-ghost use Rattle.cpg_words.specs.Forms.{command_of};
+ghost use Rattle.std.specs.Prelude.{◌≡◌, ◌⊎◌, All, List, map, string_bytes};
+ghost use Rattle.cpg_io.specs.Shelf.{SameLeave};
+ghost use Rattle.cpg_io.specs.State.{ShelfState};
+ghost use Rattle.cpg_words.specs.FileWords.{file_words_of};
 ghost use Rattle.cpg_words.specs.Parts.{Text};
 ghost use Rattle.cpg_refusal.specs.Halts.{halt_of_words};
-ghost use Rattle.cpg_app.specs.Lawful.{IsLawful};
 ghost use Rattle.cpg_refusal.specs.Lines.{line_of, status_of};
-ghost use Rattle.cpg_app.specs.Outputs.{PutsOutAtEnd};
-ghost use Rattle.cpg_app.specs.Told.{Sent, sent};
-ghost use Rattle.cpg_app.specs.Causes.{seen};
+ghost use Rattle.cpg_inputs.specs.Inputs.{AreFit};
+ghost use Rattle.cpg_inputs.specs.Steps.{KeepsShelf};
+ghost use Rattle.cpg_app.specs.Endings.{seen, HasAt, MayRun};
+ghost use Rattle.cpg_app.specs.Lawful.{IsLawful};
+ghost use Rattle.cpg_app.specs.Told.{sent, Sent};
 
-use crate::answer::{cut, put, stop};
-use crate::commands::command_output;
-use crate::living::live;
-use cpg_codec::WriteFault;
+use crate::answer::{end, put, stop};
+use crate::living::follow;
+use crate::output::Output;
+use crate::work::work;
+use cpg_codec::write_pack;
+use cpg_inputs::{Inputs, read_inputs};
 use cpg_io::{Shelf, Sink};
 use cpg_refusal::Halt;
-use cpg_words::{Command, WordsFault, read_words};
+use cpg_words::{WordsFault, read_words};
 use std::alloc::Global;
 
-/// Ends a run with the output of its command, or as it stops.
-fn print<S: Shelf, O: Sink, E: Sink>(
+/// Does the work of a command on what its files say, and ends the run by it.
+fn finish<S: Shelf, O: Sink, E: Sink>(
     alloc: Global,
-    command: &Command,
+    inputs: Inputs,
     shelf: &mut S,
     out: &mut O,
     err: &mut E,
 ) -> u8
-    requires files { All (λ w. S.may_fetch shelf.old w) (file_words command.now) }
-    requires at_end { PutsOutAtEnd command.now }
-    ensures { (words : List Text) → command_of words ≡ Some command.now → IsLawful (record { words = words; shelf = seen (S.state shelf.old) (S.state shelf.new); out = sent (O.state out.old) (O.state out.new); err = sent (E.state err.old) (E.state err.new); status = result }) }
+    requires may { MayRun (S.may_fetch shelf.old) inputs }
+    requires fit { AreFit inputs }
+    ensures keeps { KeepsShelf (S.state shelf.old) (S.state shelf.new) }
+    ensures leave { SameLeave (S.may_fetch shelf.old) (S.may_fetch shelf.new) }
+    ensures lawful { (words : List Text) (start : ShelfState) → HasAt words start (S.state shelf.old) inputs → IsLawful (record { words = words; shelf = seen start (S.state shelf.new); out = sent (O.state out.old) (O.state out.new); err = sent (E.state err.old) (E.state err.new); status = result }) }
 {
-    match command_output(alloc, shelf, command) {
-        Ok(output) => match put(alloc, &output, out) {
-            Ok(()) => 0,
-            Err(WriteFault::Failed) => cut(err),
-            Err(WriteFault::OutOfMemory) => stop(alloc, &Halt::Memory, err),
-        },
+    match work(alloc, inputs) {
+        Ok(Output::Lines(text)) => end(alloc, put(text.as_str(), out), err),
+        Ok(Output::Pack(tables)) => end(alloc, write_pack(alloc, &tables, out), err),
+        Ok(Output::Stream {
+            mut follower,
+            stream,
+        }) => follow(&mut follower, shelf, out, err, stream.as_str()),
         Err(halt) => stop(alloc, &halt, err),
     }
 }
 
-/// All that the program does, by the words after its name: it reads the files that they name from the shelf, writes the
-/// command's output to `out` or one line to `err`, and answers the exit status. What each status says is in
-/// `specs/Lawful.antt`.
+/// All that the program does, by the words after its name: it reads the files that they name from the shelf, one after the
+/// other, does the work on what they say, writes the command's output to `out` or one line to `err`, and answers the exit
+/// status. What each status says is in `specs/Lawful.antt`.
 pub fn run<S: Shelf, O: Sink, E: Sink>(
     alloc: Global,
     words: &[String],
@@ -52,23 +59,17 @@ pub fn run<S: Shelf, O: Sink, E: Sink>(
     err: &mut E,
 ) -> u8
     requires { All (λ w. S.may_fetch shelf.old w) (file_words_of (map string_bytes words.now)) }
-    ensures { IsLawful (record { words = map string_bytes words.now; shelf = seen (S.state shelf.old) (S.state shelf.new); out = sent (O.state out.old) (O.state out.new); err = sent (E.state err.old) (E.state err.new); status = result }) }
+    ensures keeps { KeepsShelf (S.state shelf.old) (S.state shelf.new) }
+    ensures leave { SameLeave (S.may_fetch shelf.old) (S.may_fetch shelf.new) }
+    ensures lawful { IsLawful (record { words = map string_bytes words.now; shelf = seen (S.state shelf.old) (S.state shelf.new); out = sent (O.state out.old) (O.state out.new); err = sent (E.state err.old) (E.state err.new); status = result }) }
 {
     let command = match read_words(alloc, words) {
         Ok(command) => command,
         Err(fault) => return run_without_words(alloc, fault, err),
     };
-    match &command {
-        Command::Live { pack, name, stream } => live(
-            alloc,
-            shelf,
-            out,
-            err,
-            pack.as_str(),
-            name.as_str(),
-            stream.as_str(),
-        ),
-        _ => print(alloc, &command, shelf, out, err),
+    match read_inputs(alloc, shelf, command) {
+        Ok(inputs) => finish(alloc, inputs, shelf, out, err),
+        Err(halt) => stop(alloc, &halt, err),
     }
 }
 

@@ -1,7 +1,7 @@
 //! The trial that a command asks for.
 ghost use Rattle.std.specs.Prelude.{◌≡◌, ◌++◌, IfOk, IfErr, OnOk, string_bytes};
 ghost use Rattle.cpg_refusal.specs.declared.halt.Halt.TheVariants.{Memory};
-ghost use Rattle.cpg_app.specs.Outputs.{bytes_of, IsTrialText};
+ghost use Rattle.cpg_app.specs.Outputs.{IsTrialText, Puts};
 ghost use Rattle.cpg_app.specs.Trials.{ending_line, endings_text, sizes_text, tables_text, trial_text};
 
 use crate::output::Output;
@@ -59,7 +59,7 @@ fn trial_text(alloc: Global, number: u64, trial: &Trial) -> Result<String, Alloc
 
 /// Writes the figures of a trial of a number. It stops for want of memory alone.
 pub fn trial(alloc: Global, number: u64) -> Result<Output, Halt>
-    ensures text { IfOk result (λ o. IsTrialText number (bytes_of o)) }
+    ensures text { IfOk result (λ o. Puts o (IsTrialText number)) }
     ensures halt { IfErr result (λ halt. halt ≡ Memory) }
 {
     let Ok(trial) = run_trial(alloc, number) else {

@@ -6,7 +6,7 @@ ghost use Rattle.cpg_tune.specs.Tuned.{IsTuning};
 ghost use Rattle.cpg_tune.specs.RetunedLaws.{ShowsNoFault};
 ghost use Rattle.cpg_refusal.specs.declared.halt.Halt.TheVariants.{Memory};
 ghost use Rattle.cpg_refusal.specs.Lines.{item_text};
-ghost use Rattle.cpg_app.specs.Outputs.{bytes_of};
+ghost use Rattle.cpg_app.specs.Outputs.{Puts};
 ghost use Rattle.cpg_app.specs.Tunes.{judged_text, parts_line, parts_lines, row_line, row_lines, tolerates_line, tuning_text, IsCompileAnswer, IsJudged, IsNamedRow, IsTuningText};
 
 use crate::output::Output;
@@ -170,7 +170,7 @@ fn text_of_tuning(alloc: Global, admitted: &Admitted) -> Result<String, OutOfMem
 
 /// Tunes an admitted graph.
 pub fn tune_admitted(alloc: Global, admitted: &Admitted) -> Result<Output, Halt>
-    ensures text { IfOk result (λ o. IsTuningText admitted.now.graph (bytes_of o)) }
+    ensures text { IfOk result (λ o. Puts o (IsTuningText admitted.now.graph)) }
     ensures halt { IfErr result (λ h. h ≡ Memory) }
 {
     match text_of_tuning(alloc, admitted) {

@@ -8,6 +8,10 @@ ghost use Rattle.cpg_laws.specs.Packs.{PacksAreRefusedAtOnePlace};
 ghost use Rattle.cpg_laws.specs.Refusals.{RefusalsAreFirst};
 ghost use Rattle.cpg_laws.specs.Tables.{FormedRowsHaveFewColumns, HeardLiteralsAreTrue};
 
+mod limits;
+
+pub use limits::limits_are_these;
+
 /// A graph file is refused by the first of its faults, and read as a graph where it has none.
 pub fn graph_files_show_first_faults()
     ensures { GraphFilesShowFirstFaults }

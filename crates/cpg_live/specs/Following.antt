@@ -1,10 +1,9 @@
 -- A node that follows a stream, piece by piece.
-use Rattle.std.specs.Prelude.{ℕ, ◌≡◌, false, ◌+◌, ◌<◌, ◌≤◌, List, Option, Some, None, IfSome, Result, Ok, Err, length}
-use Rattle.std.specs.Io.KnownBytes.{Appends, Consumes, IsAtEnd}
+use Rattle.std.specs.Prelude.{ℕ, ◌≡◌, true, false, ◌+◌, ◌≤◌, List, ◌∷◌, Option, None, Result, Ok, Err, length}
+use Rattle.std.specs.Io.KnownBytes.{Appends}
 use Rattle.cpg_tale.specs.Fetch.{Fetch, gave}
 use Rattle.cpg_io.specs.Causes.{Rose}
-use Rattle.cpg_io.specs.Reading.{IsFetch}
-use Rattle.cpg_io.specs.State.{ShelfState, SinkState, given_count}
+use Rattle.cpg_io.specs.State.{ShelfState, SinkState}
 use Rattle.cpg_io.specs.Sink.{TookPrefix}
 use Rattle.cpg_head.specs.Head.{Head}
 use Rattle.cpg_table.specs.Table.{NodeTable}
@@ -26,61 +25,54 @@ pub record IsOfSame (old new : Follower) : Type 0 where
 pub record TakesPiece (shelf rest : ShelfState) (old new : Follower) (count : ℕ) : Type 0 where
   pub piece : List ℕ
   pub long : length piece ≡ count
-  pub taken : Consumes shelf.left rest.left piece
   pub gave : rest.history ≡ gave piece shelf.history
-  pub end : count ≡ 0 → IsAtEnd rest.left
   pub state : new ≡ record old { live = new.live; read = old.read + count }
   pub few : new.read ≤ STREAM_LIMIT + 1
   pub fed : Feeds old.live piece new.live
 
 -- A follower along a stream: what the shelf gave of its name, in one fetch more than before, was fed and lawful, and all lines of
 -- it are written.
-pub record IsAlong (told : Option (List ℕ)) (name : List ℕ) (past : List Fetch) (shelf : ShelfState) (start now : Option (List ℕ)) (f : Follower) : Type 0 where
-  pub fed : List ℕ
-  pub came : IfSome told (λ whole. Consumes (Some whole) shelf.left fed)
-  pub gave : IsFetch past shelf.history name fed false
-  pub read : f.read ≡ length fed
+pub record IsAlong (name : List ℕ) (past history : List Fetch) (start now : Option (List ℕ)) (f : Follower) : Type 0 where
+  pub fetch : Fetch
+  pub named : fetch.name ≡ name
+  pub sound : fetch.failed ≡ false
+  pub history_is : history ≡ fetch ∷ past
+  pub read : f.read ≡ length fetch.given
   pub few : f.read ≤ STREAM_LIMIT
-  pub live : f.live ≡ after f.table fed
+  pub live : f.live ≡ after f.table fetch.given
   pub lawful : f.live.bad ≡ None
   pub all_told : f.told ≡ length f.live.progress.acts
   pub wrote : Appends start now (act_lines f.head f.live.progress.acts)
 
--- what a run sees of a stream's shelf and of `out`: the bytes of the stream, how many were given, and the counts of faults
--- and what was taken before and after
+-- so after a piece of so many bytes, of which none ends the stream
+pub record IsAlongAt (count : ℕ) (name : List ℕ) (past history : List Fetch) (start now : Option (List ℕ)) (f : Follower) : Type 0 where
+  pub along : IsAlong name past history start now f
+  pub end : count ≡ 0 → along.fetch.ended ≡ true
+
+-- what a run sees of a stream and of `out`: what its fetch gave, and the count of faults and what was taken before and after
 pub record Stream : Type 0 where
-  pub told : Option (List ℕ)
-  pub given : ℕ
-  pub shelf_before : ℕ
-  pub shelf_now : ℕ
-  pub out_before : ℕ
-  pub out_now : ℕ
+  pub fetch : Fetch
+  pub before : ℕ
+  pub now : ℕ
   pub old : Option (List ℕ)
   pub new : Option (List ℕ)
 
--- by the states of both, where the bytes taken before are known
-abbrev pub streamed : Option (List ℕ) → Option (List ℕ) → ShelfState → ShelfState → SinkState → SinkState → Stream
-streamed told start shelf shelf' out out' = record {
-  told = told;
-  given = given_count shelf';
-  shelf_before = shelf.faults;
-  shelf_now = shelf'.faults;
-  out_before = out.faults;
-  out_now = out'.faults;
-  old = start;
-  new = out'.taken;
-}
-
--- a stream is followed to its close: all its lines are written, and no more bytes were given than those of as many records
--- as are taken
+-- a stream is followed to its close, and all its lines are written
 abbrev pub Completes : Head → NodeTable → Stream → Type 0
-Completes h table r = (lines : List ℕ) × IsClosed h table r.told lines × Appends r.old r.new lines × (r.given ≤ STREAM_LIMIT)
+Completes h table s = (lines : List ℕ) × IsClosed h table s.fetch lines × Appends s.old s.new lines
 
--- a stream isn't followed to its close; it is too long only where more bytes were given
+-- it isn't
 abbrev pub Breaks : Head → NodeTable → Stream → Broken → Type 0
-Breaks h table r Shelf = Rose r.shelf_before r.shelf_now × ((lines : List ℕ) × IsLawfulSoFar h table r.told r.given lines × Appends r.old r.new lines)
-Breaks h table r Sink = Rose r.out_before r.out_now × IsCutOff h table r.told r.old r.new
-Breaks h table r (Refused fault) = (lines : List ℕ) × IsRefused h table r.told fault lines × Appends r.old r.new lines × (fault ≡ Long → STREAM_LIMIT < r.given)
+Breaks h table s Shelf = (lines : List ℕ) × IsLawfulSoFar h table s.fetch lines × Appends s.old s.new lines
+Breaks h table s Sink = Rose s.before s.now × IsCutOff h table s.fetch s.old s.new
+Breaks h table s (Refused fault) = (lines : List ℕ) × IsRefused h table s.fetch fault lines × Appends s.old s.new lines
+
+-- a stream of the name, which was fetched once, with what was taken since a start
+pub record IsStreamed (Is : Stream → Type 0) (name : List ℕ) (past history : List Fetch) (start : Option (List ℕ)) (old new : SinkState) : Type 0 where
+  pub fetch : Fetch
+  pub named : fetch.name ≡ name
+  pub history_is : history ≡ fetch ∷ past
+  pub is : Is (record { fetch = fetch; before = old.faults; now = new.faults; old = start; new = new.taken })
 
 -- a stream that has no more bytes ends: its close is written, or it is refused
 abbrev pub Closes : Follower → ℕ → ℕ → Option (List ℕ) → Option (List ℕ) → Result Unit Broken → Type 0

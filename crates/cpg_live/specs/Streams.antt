@@ -1,7 +1,8 @@
 -- A stream that a node of a pack follows: the lines of what it does, and how the stream ends.
-use Rattle.std.specs.Prelude.{ℕ, ◌+◌, ◌≡◌, ◌<◌, false, ◌&&◌, nat_lt, if◌then◌else◌, List, [], ◌++◌, Option, None, IfSome, is_none, Result, Ok, Err, codes, length, take}
+use Rattle.std.specs.Prelude.{ℕ, ◌+◌, ◌≡◌, ◌≢◌, ◌<◌, ◌≤◌, true, false, ◌&&◌, nat_lt, if◌then◌else◌, List, [], ◌++◌, Option, None, is_none, Result, Ok, Err, codes, length, take}
 use Rattle.std.specs.List.{flat_map}
 use Rattle.std.specs.Fmt.{decimal}
+use Rattle.cpg_tale.specs.Fetch.{Fetch}
 use Rattle.cpg_io.specs.Sink.{TookPrefix}
 use Rattle.cpg_head.specs.Head.{Head}
 use Rattle.cpg_table.specs.Table.{NodeTable}
@@ -70,43 +71,41 @@ close_of (Err fault) = []
 abbrev pub stream_lines : Head → NodeTable → List ℕ → List ℕ
 stream_lines h table bytes = act_lines h (after table (read_part bytes)).progress.acts ++ close_of (stream_end table bytes)
 
--- the bytes of a file, where the shelf tells them
-abbrev pub AreBytesOf : Option (List ℕ) → List ℕ → Type 0
-AreBytesOf told bytes = IfSome told (λ whole. bytes ≡ whole)
-
--- a stream that is lawful to its end, and all its lines
-pub record IsClosed (h : Head) (table : NodeTable) (told : Option (List ℕ)) (lines : List ℕ) : Type 0 where
-  pub bytes : List ℕ
-  pub of : AreBytesOf told bytes
+-- a stream was read to its end, and is lawful to it; and all its lines
+pub record IsClosed (h : Head) (table : NodeTable) (fetch : Fetch) (lines : List ℕ) : Type 0 where
+  pub ended : fetch.ended ≡ true
+  pub sound : fetch.failed ≡ false
+  pub short : length fetch.given ≤ STREAM_LIMIT
   pub time : ℕ
-  pub ends : stream_end table bytes ≡ Ok time
-  pub spelled : lines ≡ stream_lines h table bytes
+  pub ends : stream_end table fetch.given ≡ Ok time
+  pub spelled : lines ≡ stream_lines h table fetch.given
 
--- A stream is too long: as many records as are taken are lawful, none of them is a close, and another byte comes.
+-- A stream is too long: as many records as are taken are lawful, none of them is a close, and another byte came.
 pub record IsTooLong (table : NodeTable) (bytes : List ℕ) : Type 0 where
   pub more : STREAM_LIMIT < length bytes
   pub lawful : (after table (read_part bytes)).bad ≡ None
   pub taken : (after table (read_part bytes)).taken ≡ 16777216
   pub not_closed : (after table (read_part bytes)).closed ≡ false
 
--- a stream that is refused, and the lines of the records before
-pub record IsRefused (h : Head) (table : NodeTable) (told : Option (List ℕ)) (fault : StreamFault) (lines : List ℕ) : Type 0 where
-  pub bytes : List ℕ
-  pub of : AreBytesOf told bytes
-  pub ends : stream_end table bytes ≡ Err fault
-  pub long : fault ≡ Long → IsTooLong table bytes
-  pub spelled : lines ≡ stream_lines h table bytes
+-- A stream is refused by the bytes that came, and the lines of the records before. They have a lawless record, are too many, or
+-- are all that there are.
+pub record IsRefused (h : Head) (table : NodeTable) (fetch : Fetch) (fault : StreamFault) (lines : List ℕ) : Type 0 where
+  pub sound : fetch.failed ≡ false
+  pub few : length fetch.given ≤ STREAM_LIMIT + 1
+  pub ends : stream_end table fetch.given ≡ Err fault
+  pub long : fault ≡ Long → IsTooLong table fetch.given
+  pub all : fault ≢ Long → (after table fetch.given).bad ≡ None → fetch.ended ≡ true
+  pub spelled : lines ≡ stream_lines h table fetch.given
 
--- the first bytes of a stream, as many as the shelf gave, whose records are all lawful, and their lines
-pub record IsLawfulSoFar (h : Head) (table : NodeTable) (told : Option (List ℕ)) (given : ℕ) (lines : List ℕ) : Type 0 where
-  pub bytes : List ℕ
-  pub count : given ≡ length bytes
-  pub first : IfSome told (λ whole. bytes ≡ take given whole)
-  pub lawful : (after table bytes).bad ≡ None
-  pub spelled : lines ≡ act_lines h (after table bytes).progress.acts
+-- the shelf met a fault; the records of the bytes that came before are all lawful, and their lines
+pub record IsLawfulSoFar (h : Head) (table : NodeTable) (fetch : Fetch) (lines : List ℕ) : Type 0 where
+  pub failed : fetch.failed ≡ true
+  pub few : length fetch.given ≤ STREAM_LIMIT
+  pub lawful : (after table fetch.given).bad ≡ None
+  pub spelled : lines ≡ act_lines h (after table fetch.given).progress.acts
 
--- a proper front of all lines of a stream was written
-pub record IsCutOff (h : Head) (table : NodeTable) (told old new : Option (List ℕ)) : Type 0 where
-  pub bytes : List ℕ
-  pub of : AreBytesOf told bytes
-  pub front : TookPrefix old new (stream_lines h table bytes)
+-- a proper front of all lines of the bytes that came was written
+pub record IsCutOff (h : Head) (table : NodeTable) (fetch : Fetch) (old new : Option (List ℕ)) : Type 0 where
+  pub sound : fetch.failed ≡ false
+  pub few : length fetch.given ≤ STREAM_LIMIT + 1
+  pub front : TookPrefix old new (stream_lines h table fetch.given)

@@ -1,14 +1,14 @@
 //! A node of a pack that follows a stream.
-ghost use Rattle.std.specs.Prelude.{ℕ, List, Option, ◌≡◌, ◌+◌, ◌*◌, ◌≤◌, ◌<◌, IfErr, IfOk, IfSome, MatchResult, OnErr, OnOk, drop, length};
-ghost use Rattle.std.specs.Io.KnownBytes.{Appends, IsAtEnd};
+ghost use Rattle.std.specs.Prelude.{ℕ, List, Option, ◌≡◌, ◌+◌, ◌*◌, ◌≤◌, ◌<◌, Err, IfErr, IfOk, IfSome, MatchResult, OnErr, OnOk, drop, length};
+ghost use Rattle.std.specs.Io.KnownBytes.{Appends};
 ghost use Rattle.cpg_tale.specs.Fetch.{Fetch, failed};
-ghost use Rattle.cpg_io.specs.Causes.{HasCause};
-ghost use Rattle.cpg_io.specs.Shelf.{SameNames};
+ghost use Rattle.cpg_io.specs.Causes.{HasCause, Rose};
+ghost use Rattle.cpg_io.specs.Shelf.{SameLeave, SameNames};
 ghost use Rattle.cpg_io.specs.Sink.{TookPrefix};
 ghost use Rattle.cpg_table.specs.Lawful.{column_count};
 ghost use Rattle.cpg_table.specs.Table.{table_at};
 ghost use Rattle.cpg_live.specs.Follower.{open_follower};
-ghost use Rattle.cpg_live.specs.Following.{Breaks, Closes, Completes, IsAlong, IsOfSame, TakesPiece, streamed};
+ghost use Rattle.cpg_live.specs.Following.{Breaks, Closes, Completes, IsAlong, IsAlongAt, IsOfSame, IsStreamed, TakesPiece};
 ghost use Rattle.cpg_live.specs.LinesKept.{entry_count};
 ghost use Rattle.cpg_live.specs.Streams.{act_lines, closed_line, fault_line};
 
@@ -23,8 +23,11 @@ use std::marker::Model;
 /// The bytes of as many records as are taken of a stream: 16,777,216 of 14 bytes.
 pub const STREAM_LIMIT: usize = 234_881_024;
 
-/// The most bytes of a piece.
-const PIECE: usize = 65_536;
+/// The limit of a stream in plain numbers: so many bytes, which are 16,777,216 records.
+pub fn stream_limit_is_this()
+    ensures bytes { STREAM_LIMIT ≡ 234881024 }
+    ensures records { STREAM_LIMIT ≡ 14 * 16777216 }
+{}
 
 /// Why a stream is refused.
 #[derive(Clone, Copy, Debug, PartialEq, Eq)]
@@ -125,6 +128,7 @@ impl Follower {
         requires some { 0 < length buffer.old }
         requires few { self.old.read ≤ STREAM_LIMIT }
         ensures names { SameNames (S.state shelf.old) (S.state shelf.new) }
+        ensures leave { SameLeave (S.may_fetch shelf.old) (S.may_fetch shelf.new) }
         ensures piece { IfOk result (λ fed. TakesPiece (S.state shelf.old) (S.state shelf.new) self.old self.new fed.count) }
         ensures bad { IfOk result (λ fed. fed.bad ≡ self.new.live.bad) }
         ensures failed { OnErr result ((S.state shelf.new).history ≡ failed (S.state shelf.old).history) }
@@ -157,9 +161,9 @@ impl Follower {
         write_all(out, self.lines.as_slice())
     }
 
-    /// Follows the next piece: reads it, feeds it, and writes the lines of the acts that it brings. Says how many bytes it
-    /// has, 0 at the end of the stream.
-    fn follow_piece<S: Shelf, O: Sink>(
+    /// Follows the next piece: reads it, feeds it, and writes the lines of the acts that it brings, before anything else is read.
+    /// Says how many bytes it has, 0 at the end of the stream.
+    pub fn follow_piece<S: Shelf, O: Sink>(
         &mut self,
         shelf: &mut S,
         buffer: &mut [u8],
@@ -168,10 +172,12 @@ impl Follower {
         requires some { 0 < length buffer.old }
         requires few { self.old.read ≤ STREAM_LIMIT }
         ensures names { SameNames (S.state shelf.old) (S.state shelf.new) }
+        ensures leave { SameLeave (S.may_fetch shelf.old) (S.may_fetch shelf.new) }
         ensures same { IsOfSame self.old self.new }
-        ensures along { (told start : Option (List ℕ)) (name : List ℕ) (past : List Fetch) → IsAlong told name past (S.state shelf.old) start (O.state out.old).taken self.old → MatchResult result (λ count. (count ≡ 0 → IsAtEnd (S.state shelf.new).left) × IsAlong told name past (S.state shelf.new) start (O.state out.new).taken self.new) (Breaks self.old.head self.old.table (streamed told start (S.state shelf.old) (S.state shelf.new) (O.state out.old) (O.state out.new))) }
+        ensures along { (start : Option (List ℕ)) (name : List ℕ) (past : List Fetch) → IsAlong name past (S.state shelf.old).history start (O.state out.old).taken self.old → MatchResult result (λ count. IsAlongAt count name past (S.state shelf.new).history start (O.state out.new).taken self.new) (λ broken. IsStreamed (λ s. Breaks self.old.head self.old.table s broken) name past (S.state shelf.new).history start (O.state out.old) (O.state out.new)) }
         ensures nearer { IfOk result (λ count. self.new.read ≡ self.old.read + count) }
         ensures within { IfOk result (λ _. self.new.read ≤ STREAM_LIMIT) }
+        ensures rose { result ≡ Err Broken.Shelf → Rose (S.state shelf.old).faults (S.state shelf.new).faults }
         ensures later { (S.state shelf.old).faults ≤ (S.state shelf.new).faults }
         ensures out_later { (O.state out.old).faults ≤ (O.state out.new).faults }
     {
@@ -190,26 +196,6 @@ impl Follower {
         Ok(fed.count)
     }
 
-    /// Follows all pieces to the end of the stream.
-    fn follow_pieces<S: Shelf, O: Sink>(&mut self, shelf: &mut S, out: &mut O) -> Result<(), Broken>
-        requires { self.old.read ≤ STREAM_LIMIT }
-        ensures same { IsOfSame self.old self.new }
-        ensures along { (told start : Option (List ℕ)) (name : List ℕ) (past : List Fetch) → IsAlong told name past (S.state shelf.old) start (O.state out.old).taken self.old → MatchResult result (λ _. IsAtEnd (S.state shelf.new).left × IsAlong told name past (S.state shelf.new) start (O.state out.new).taken self.new) (Breaks self.old.head self.old.table (streamed told start (S.state shelf.old) (S.state shelf.new) (O.state out.old) (O.state out.new))) }
-        ensures later { (S.state shelf.old).faults ≤ (S.state shelf.new).faults }
-        ensures out_later { (O.state out.old).faults ≤ (O.state out.new).faults }
-    {
-        let mut buffer = [0; PIECE];
-        loop {
-            let count = match self.follow_piece(shelf, &mut buffer, out) {
-                Ok(count) => count,
-                Err(broken) => return Err(broken),
-            };
-            if count == 0 {
-                return Ok(());
-            }
-        }
-    }
-
     /// Writes the line of a close.
     fn write_close<O: Sink>(&mut self, time: u64, out: &mut O) -> Result<(), Failed>
         ensures whole { OnOk result (Appends (O.state out.old).taken (O.state out.new).taken (closed_line time)) }
@@ -222,7 +208,7 @@ impl Follower {
     }
 
     /// Closes a stream that has no more bytes: writes the line of its close.
-    fn end<O: Sink>(&mut self, out: &mut O) -> Result<(), Broken>
+    pub fn end<O: Sink>(&mut self, out: &mut O) -> Result<(), Broken>
         ensures { Closes self.old (O.state out.old).faults (O.state out.new).faults (O.state out.old).taken (O.state out.new).taken result }
     {
         let time = match self.live.closed() {
@@ -232,37 +218,6 @@ impl Follower {
         match self.write_close(time, out) {
             Ok(()) => Ok(()),
             Err(Failed) => Err(Broken::Sink),
-        }
-    }
-
-    /// Follows what is left of a stream to its close.
-    fn follow_rest<S: Shelf, O: Sink>(&mut self, shelf: &mut S, out: &mut O) -> Result<(), Broken>
-        requires { self.old.read ≤ STREAM_LIMIT }
-        ensures along { (told start : Option (List ℕ)) (name : List ℕ) (past : List Fetch) → IsAlong told name past (S.state shelf.old) start (O.state out.old).taken self.old → MatchResult result (λ _. Completes self.old.head self.old.table (streamed told start (S.state shelf.old) (S.state shelf.new) (O.state out.old) (O.state out.new))) (Breaks self.old.head self.old.table (streamed told start (S.state shelf.old) (S.state shelf.new) (O.state out.old) (O.state out.new))) }
-        ensures later { (S.state shelf.old).faults ≤ (S.state shelf.new).faults }
-    {
-        match self.follow_pieces(shelf, out) {
-            Ok(()) => self.end(out),
-            Err(broken) => Err(broken),
-        }
-    }
-
-    /// Follows the stream of a name to its close, and writes the lines of what the node does after each piece, at last that
-    /// of the close.
-    pub fn follow<S: Shelf, O: Sink>(
-        &mut self,
-        shelf: &mut S,
-        name: &str,
-        out: &mut O,
-    ) -> Result<(), Broken>
-        requires may { S.may_fetch shelf.old name.now }
-        requires opened { self.old ≡ open_follower self.old.head self.old.table }
-        ensures whole { IfOk result (λ _. Completes self.old.head self.old.table (streamed ((S.state shelf.old).stands name.now) (O.state out.old).taken (S.state shelf.old) (S.state shelf.new) (O.state out.old) (O.state out.new))) }
-        ensures broken { IfErr result (Breaks self.old.head self.old.table (streamed ((S.state shelf.old).stands name.now) (O.state out.old).taken (S.state shelf.old) (S.state shelf.new) (O.state out.old) (O.state out.new))) }
-    {
-        match shelf.fetch(name) {
-            Ok(()) => self.follow_rest(shelf, out),
-            Err(Failed) => Err(Broken::Shelf),
         }
     }
 

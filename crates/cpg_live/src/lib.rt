@@ -11,5 +11,5 @@ mod progress;
 mod reading;
 
 pub use bad::{Bad, Why};
-pub use following::{Broken, Follower, STREAM_LIMIT, StreamFault};
+pub use following::{Broken, Follower, STREAM_LIMIT, StreamFault, stream_limit_is_this};
 pub use live::Live;

@@ -1,20 +1,23 @@
 -- How the program ends, whatever its run met.
-use Rattle.std.specs.Prelude.{ℕ, ◌≡◌, ◌⊎◌, List}
+use Rattle.std.specs.Prelude.{ℕ, ◌⊎◌, List, [], Some, None}
+use Rattle.cpg_io.specs.State.{ShelfState, SinkState}
 use Rattle.cpg_words.specs.Parts.{Text}
 use Rattle.cpg_words.specs.declared.fault.WordsFault.{WordsFault}
 use Rattle.cpg_refusal.specs.declared.halt.Halt.TheVariants.{Memory}
-use Rattle.cpg_app.specs.Endings.{Ran}
+use Rattle.cpg_app.specs.Endings.{Ran, seen}
 use Rattle.cpg_refusal.specs.Halts.{halt_of_words}
-use Rattle.cpg_app.specs.Lawful.{IsLawful}
 use Rattle.cpg_refusal.specs.Lines.{line_of, status_of}
-use Rattle.cpg_app.specs.Told.{SinkSeen, Sent}
+use Rattle.cpg_app.specs.Told.{SinkSeen, Sent, sent}
 
--- a lawful run of these words ends so
-pub record IsStatusOf (words : List Text) (status : ℕ) : Type 0 where
-  pub run : Ran
-  pub of_words : run.words ≡ words
-  pub ended : run.status ≡ status
-  pub lawful : IsLawful run
+-- the program's run of these words: no file was fetched before, and nothing was written
+abbrev pub program_run : List Text → ShelfState → SinkState → SinkState → ℕ → Ran
+program_run words shelf out err status = record {
+  words = words;
+  shelf = seen (record { stands = λ _. None; left = Some []; faults = 0; history = [] }) shelf;
+  out = sent (record { taken = Some []; faults = 0 }) out;
+  err = sent (record { taken = Some []; faults = 0 }) err;
+  status = status;
+}
 
 -- the line of the fault, or that of want of memory, was sent so
 pub record IsStatusWithout (fault : WordsFault) (status : ℕ) : Type 0 where

@@ -6,10 +6,10 @@ ghost use Rattle.std.specs.Vec.Iter.{into_iter_items};
 ghost use Rattle.std.specs.declared.io.ErrorKind.{ErrorKind};
 ghost use Rattle.cpg_words.specs.declared.fault.WordsFault.{WordsFault};
 ghost use Rattle.cpg_io.specs.Adapters.{shelf_of, sink_of};
-ghost use Rattle.cpg_app.specs.Causes.{seen};
+ghost use Rattle.cpg_app.specs.Endings.{seen};
 ghost use Rattle.cpg_app.specs.Lawful.{IsLawful};
 ghost use Rattle.cpg_app.specs.Told.{sent};
-ghost use Rattle.cpgc.specs.Statuses.{IsStatusOf, IsStatusWithout};
+ghost use Rattle.cpgc.specs.Statuses.{program_run, IsStatusWithout};
 
 use cpg_app::{run, run_without_words};
 use cpg_io::{FileShelf, StreamSink};
@@ -58,14 +58,29 @@ fn run_on(
     run(alloc, words, shelf, out, err)
 }
 
-/// The exit status of a run of these words over the machine's files and streams.
-fn status_of(rt: &HostRuntime, words: &[String]) -> u8
-    ensures { IsStatusOf (map string_bytes words.now) result }
+/// What a run leaves of the machine's files and streams, and its exit status.
+#[derive(Drop)]
+struct Ended<'a> {
+    shelf: FileShelf<&'a HostRuntime>,
+    out: StreamSink<Stdout>,
+    err: StreamSink<Stderr>,
+    status: u8,
+}
+
+/// A run of these words over the machine's files and streams, of which nothing was read or written before.
+fn run_of<'a>(rt: &'a HostRuntime, words: &[String]) -> Ended<'a>
+    ensures { IsLawful (program_run (map string_bytes words.now) (shelf_of result.shelf) (sink_of result.out) (sink_of result.err) result.status) }
 {
     let mut out = StreamSink::new(rt.stdout());
     let mut err = StreamSink::new(rt.stderr());
     let mut shelf = FileShelf::new(rt);
-    run_on(rt.alloc(), words, &mut shelf, &mut out, &mut err)
+    let status = run_on(rt.alloc(), words, &mut shelf, &mut out, &mut err);
+    Ended {
+        shelf,
+        out,
+        err,
+        status,
+    }
 }
 
 /// The exit status where there are no words.
@@ -78,7 +93,7 @@ fn status_without(rt: &HostRuntime, fault: WordsFault) -> u8
 
 fn status(rt: &HostRuntime) -> u8 {
     match words(rt) {
-        Ok(words) => status_of(rt, words.as_slice()),
+        Ok(words) => run_of(rt, words.as_slice()).status,
         Err(fault) => status_without(rt, fault),
     }
 }

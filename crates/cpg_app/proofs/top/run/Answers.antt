@@ -1,33 +1,48 @@
-use Rattle.std.proofs.Common.{rules, All, ap, arith, map, string_bytes, subst, sym}
+use Rattle.std.proofs.Common.{rules, All, List, None, ap, inl, inr, map, refl, string_bytes, subst}
 use Rattle.std.proofs.KnownBytes.{Keeps-refl}
-use Rattle.cpg_words.specs.declared.command.Command.{Command}
+use Rattle.cpg_tale.specs.Fetch.{Fetch}
 use Rattle.cpg_words.specs.FileWords.{file_words, file_words_if}
-use Rattle.cpg_app.specs.Endings.{Ran}
-use Rattle.cpg_app.proofs.Wordless.{at_end, without_words}
-use Rattle.cpg_app.specs.Causes.{seen}
+use Rattle.cpg_inputs.specs.Files.{files_of}
+use Rattle.cpg_inputs.proofs.Fitting.{inputs_fit}
+use Rattle.cpg_inputs.proofs.Keeping.{keeps_on, keeps_same, leave_on}
+use Rattle.cpg_app.specs.Endings.{Ran, seen}
 use Rattle.cpg_app.specs.Told.{sent}
+use Rattle.cpg_app.proofs.Finished.{stopped_lawful, wordless_lawful}
+use Rattle.cpg_app.proofs.Named.{files_named}
 use Rattle.cpg_app.proofs.top.run.Goals as goal
 
-pub live-requires-clause-pack : goal.live-requires-clause-pack
-live-requires-clause-pack g c =
-    let may = g.S.Shelf.may_fetch c.args.shelf.now in
-    let files = subst (λ (command : Command). All may (file_words command)) c.in-Live.is (subst (All may) (ap file_words_if c.in-Ok.ensures.command) c.requires) in
-    subst may (sym c.as_str.ensures) (files 0 c.in-Live.pack (omega arith))
+pub read_inputs-requires : goal.read_inputs-requires
+read_inputs-requires g c = subst (All (g.S.Shelf.may_fetch c.args.shelf.now)) (ap file_words_if c.in-Ok.ensures.command) c.requires
 
-pub live-requires-clause-stream : goal.live-requires-clause-stream
-live-requires-clause-stream g c =
-    let may = g.S.Shelf.may_fetch c.args.shelf.now in
-    let files = subst (λ (command : Command). All may (file_words command)) c.in-Live.is (subst (All may) (ap file_words_if c.in-Ok.ensures.command) c.requires) in
-    subst may (sym c.as_str-in-Live-2.ensures) (files 1 c.in-Live.stream (omega arith))
+pub finish-requires-clause-may : goal.finish-requires-clause-may
+finish-requires-clause-may g c =
+    let has = c.in-Ok-read_inputs.ensures.inputs in
+    let files = subst (All (g.S.Shelf.may_fetch c.args.shelf.now)) (ap file_words_if c.in-Ok.ensures.command) c.requires in
+    record { command = c.in-Ok.command; values = has.values; are = has.are; files = λ i d l. (c.in-Ok-read_inputs.ensures.leave _).0 (files i d l) }
 
-pub print-requires : goal.print-requires
-print-requires g c = record {
-  files = subst (All (g.S.Shelf.may_fetch c.args.shelf.now)) (ap file_words_if c.in-Ok.ensures.command) c.requires;
-  at_end = at_end c.in-Ok.command c.in_default.not-Live;
-}
+pub finish-requires-clause-fit : goal.finish-requires-clause-fit
+finish-requires-clause-fit g c = inputs_fit c.in-Ok.command _ _ c.in-Ok-read_inputs.inputs c.in-Ok-read_inputs.ensures.inputs
 
-pub returns-in-Err : goal.returns-in-Err
-returns-in-Err g c =
+pub stop-requires : goal.stop-requires
+stop-requires g c = files_named None (files_of c.in-Ok.command) _ _ c.in-Err-read_inputs.halt c.in-Err-read_inputs.ensures.inputs
+
+pub returns-in-Ok-read_inputs-clause-lawful : goal.returns-in-Ok-read_inputs-clause-lawful
+returns-in-Ok-read_inputs-clause-lawful g c =
+    c.finish.ensures.lawful (map string_bytes c.args.words.now) (g.S.Shelf.state c.args.shelf.now) (record { command = c.in-Ok.command; words = c.in-Ok.ensures.command; has = c.in-Ok-read_inputs.ensures.inputs })
+
+pub returns-in-Err-read_inputs-clause-lawful : goal.returns-in-Err-read_inputs-clause-lawful
+returns-in-Err-read_inputs-clause-lawful g c =
+    let r : Ran = record {
+      words = map string_bytes c.args.words.now;
+      shelf = seen (g.S.Shelf.state c.args.shelf.now) (g.S.Shelf.state c.read_inputs.new.shelf);
+      out = sent (g.O.Sink.state c.args.out.now) (g.O.Sink.state c.args.out.now);
+      err = sent (g.E.Sink.state c.args.err.now) (g.E.Sink.state c.stop.new.err);
+      status = c.stop.result;
+    } in
+    stopped_lawful r c.in-Err-read_inputs.halt (inr (inl (record { command = c.in-Ok.command; words = c.in-Ok.ensures.command; stops = c.in-Err-read_inputs.ensures.inputs }))) (Keeps-refl (g.O.Sink.state c.args.out.now).taken) c.stop.ensures
+
+pub returns-in-Err-clause-lawful : goal.returns-in-Err-clause-lawful
+returns-in-Err-clause-lawful g c =
     let r : Ran = record {
       words = map string_bytes c.args.words.now;
       shelf = seen (g.S.Shelf.state c.args.shelf.now) (g.S.Shelf.state c.args.shelf.now);
@@ -35,4 +50,4 @@ returns-in-Err g c =
       err = sent (g.E.Sink.state c.args.err.now) (g.E.Sink.state c.run_without_words.new.err);
       status = c.run_without_words.result;
     } in
-    without_words r c.in-Err.fault (λ e. search rules) (Keeps-refl (g.O.Sink.state c.args.out.now).taken) c.run_without_words.ensures
+    wordless_lawful r c.in-Err.fault (λ e. search rules) refl (Keeps-refl (g.O.Sink.state c.args.out.now).taken) c.run_without_words.ensures

@@ -1,0 +1,65 @@
+-- A run ends lawfully by what its work answered and its sinks took.
+use Rattle.std.proofs.Common.{ℕ, ◌≡◌, ◌≤◌, ◌+◌, List, [], ◌∷◌, Option, Some, None, length, refl, arith, inl, inr}
+use Rattle.std.specs.Prelude.{◌⊎◌, Result, Ok, Err}
+use Rattle.cpg_base.specs.Graph.{Graph}
+use Rattle.cpg_tale.specs.Fetch.{Fetch}
+use Rattle.cpg_words.specs.Parts.{Text}
+use Rattle.cpg_words.specs.Forms.{command_of}
+use Rattle.cpg_words.specs.declared.fault.WordsFault.{WordsFault}
+use Rattle.cpg_codec.specs.declared.fault.WriteFault.{WriteFault}
+use Rattle.cpg_refusal.specs.declared.halt.Halt.{Halt}
+use Rattle.cpg_refusal.specs.declared.halt.Halt.TheVariants.{Words, Memory}
+use Rattle.cpg_refusal.specs.Halts.{halt_of_words}
+use Rattle.cpg_refusal.specs.Lines.{line_of, status_of}
+use Rattle.cpg_inputs.specs.Files.{File, limit_of}
+use Rattle.cpg_inputs.specs.Says.{graph_after}
+use Rattle.cpg_inputs.specs.Reading.{IsFetchOf, IsWanting, IsWhole, StopsAt, StopsReading}
+use Rattle.cpg_app.specs.Told.{IsWritten, Sent, Untouched}
+use Rattle.cpg_app.specs.Endings.{IsEnded, Prints, Ran, Stops}
+use Rattle.cpg_app.specs.Lawful.{IsLawful}
+use Rattle.cpg_app.proofs.Shown.{lawful_by, lawful_with}
+use Rattle.cpg_app.proofs.Written.{stopped}
+
+-- ---- memory may want wherever a run stops
+
+of_whole : (f : File) (fetch : Fetch) → IsWhole f fetch → IsFetchOf f fetch
+of_whole f fetch w = let s = w.short in record { named = w.named; few = omega (arith, s) }
+
+fetch_of : (g : Option Graph) (f : File) (fetch : Fetch) (h : Halt) → StopsAt g f fetch h → IsFetchOf f fetch
+fetch_of g f fetch h (inl unread) = unread.of
+fetch_of g f fetch h (inr (inl long)) = long.of
+fetch_of g f fetch h (inr (inr (inl refused))) = of_whole f fetch refused.whole
+fetch_of g f fetch h (inr (inr (inr wanting))) = wanting.of
+
+files_memory : (g : Option Graph) (files : List File) (past now : List Fetch) (h : Halt) → StopsReading g files past now h → StopsReading g files past now Memory
+files_memory g [] past now h s = absurd s
+files_memory g (f ∷ fs) past now h (fetch, inl here) = (fetch, inl (inr (inr (inr (record { of = fetch_of g f fetch h here.0; halt_is = refl }))), here.1))
+files_memory g (f ∷ fs) past now h (fetch, inr (v, read, there)) = (fetch, inr (v, read, files_memory (graph_after g v) fs (fetch ∷ past) now h there))
+
+module _ (r : Ran) where
+  memory_too : (h : Halt) → Stops r h → Stops r Memory
+  memory_too h (inl words) = inl (record { unread = words.unread; cause = inr refl })
+  memory_too h (inr (inl files)) = inr (inl (record { command = files.command; words = files.words; stops = files_memory None _ _ _ h files.stops }))
+  memory_too h (inr (inr work)) = inr (inr (record { command = work.command; values = work.values; has = work.has; stops = inr refl }))
+
+  by_memory : Stops r Memory → Untouched r.out → Sent r.err r.status (status_of Memory) (line_of Memory) → IsLawful r
+  by_memory stops silent sent = lawful_by r Memory (record { stops = stops; ending = stopped r Memory silent sent })
+
+  -- it stops, and its line was sent, or that of want of memory
+  pub stopped_lawful : (h : Halt) → Stops r h → Untouched r.out → Sent r.err r.status (status_of h) (line_of h) ⊎ Sent r.err r.status (status_of Memory) (line_of Memory) → IsLawful r
+  stopped_lawful h stops silent (inl sent) = lawful_by r h (record { stops = stops; ending = stopped r h silent sent })
+  stopped_lawful h stops silent (inr sent) = by_memory (memory_too h stops) silent sent
+
+  -- its output was written
+  pub written_lawful : (text : Text) (written : Result Unit WriteFault) → Prints r text → IsWritten r.out written text → IsEnded written r.err r.status → IsLawful r
+  written_lawful text (Ok done) prints out ended = lawful_with r text (record { prints = prints; ending = inl (record { status = ended.0; out = out; err = ended.1 }) })
+  written_lawful text (Err WriteFault.Failed) prints out ended = lawful_with r text (record { prints = prints; ending = inr (record { status = ended.0; out = out; err = ended.1 }) })
+  written_lawful text (Err WriteFault.OutOfMemory) prints out ended =
+      let stops : Stops r Memory = inr (inr (record { command = prints.command; values = prints.values; has = prints.has; stops = inr refl })) in
+      elim ended [ inl sent ↦ by_memory stops out sent | inr sent ↦ by_memory stops out sent ]
+
+  -- its words can't be had
+  pub wordless_lawful : (fault : WordsFault) → (fault ≡ WordsFault.Bad → command_of r.words ≡ None) → r.shelf.new.history ≡ r.shelf.old.history → Untouched r.out →
+      Sent r.err r.status (status_of (halt_of_words fault)) (line_of (halt_of_words fault)) ⊎ Sent r.err r.status (status_of Memory) (line_of Memory) → IsLawful r
+  wordless_lawful WordsFault.Bad none unread silent sent = stopped_lawful Words (inl (record { unread = unread; cause = inl (refl, none refl) })) silent sent
+  wordless_lawful WordsFault.OutOfMemory none unread silent sent = stopped_lawful Memory (inl (record { unread = unread; cause = inr refl })) silent sent

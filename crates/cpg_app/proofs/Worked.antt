@@ -1,0 +1,162 @@
+-- What the work on inputs answers is the answer of the command whose files say them.
+use Rattle.std.proofs.Common.{ℕ, ◌≡◌, List, [], ◌∷◌, Option, Some, refl, sym, subst, inl, inr}
+use Rattle.std.specs.Prelude.{◌⊎◌, Result, Ok, Err, IfOk, IfErr, string_bytes}
+use Rattle.cpg_words.specs.Parts.{Text}
+use Rattle.cpg_words.specs.declared.command.Pair.{Pair}
+use Rattle.cpg_words.specs.declared.command.Command.{Command}
+use Rattle.cpg_words.specs.declared.command.Command.TheVariants.{Show, Compile, Check, Play, Node, Trial, Live, Hyper, Tune, Audit}
+use Rattle.cpg_rules.specs.Admission.{Admission}
+use Rattle.cpg_table.specs.Lawful.{Tables}
+use Rattle.cpg_codec.specs.Spelling.{spelling}
+use Rattle.cpg_log.specs.Log.{Log}
+use Rattle.cpg_scenario.specs.declared.reading.Played.{Played}
+use Rattle.cpg_hyper.specs.declared.part.Part.{Part}
+use Rattle.cpg_refusal.specs.declared.halt.Halt.{Halt}
+use Rattle.cpg_refusal.specs.declared.halt.Halt.TheVariants.{Memory}
+use Rattle.cpg_inputs.specs.declared.inputs.Inputs.{Inputs}
+use Rattle.cpg_inputs.specs.Inputs.{AreInputs}
+use Rattle.cpg_inputs.specs.Says.{Value, tables_value}
+use Rattle.cpg_live.specs.Follower.{Follower}
+use Rattle.cpg_app.specs.declared.output.Output.{Output}
+use Rattle.cpg_app.specs.declared.output.Output.TheVariants.{Lines, Pack, Stream}
+use Rattle.cpg_app.specs.Causes.{IsNotUnrolled, IsUncompiled, OrMemory, StopsNaming, StopsVerdict, StopsWork}
+use Rattle.cpg_app.specs.Outputs.{Answers, IsAuditedText, IsFollower, IsMadeOf, IsNodeText, IsPlayedText, IsSafeText, IsTrialText, IsUnrolledText, Opens, Puts, PutsOut, packed, shown}
+use Rattle.cpg_app.specs.Tunes.{IsTuningText}
+
+-- ---- answers
+
+pub if_ok : {T E : Type 0} {P Q : T → Type 0} (r : Result T E) → ((x : T) → P x → Q x) → IfOk r P → IfOk r Q
+if_ok (Ok x) f p = f x p
+if_ok (Err e) f p = p
+
+pub if_err : {T E : Type 0} {P Q : E → Type 0} (r : Result T E) → ((e : E) → P e → Q e) → IfErr r P → IfErr r Q
+if_err (Ok x) f p = p
+if_err (Err e) f p = f e p
+
+put_on : {P Q : Text → Type 0} (o : Output) → ((text : Text) → P text → Q text) → Puts o P → Puts o Q
+put_on (Lines text) f p = f (string_bytes text) p
+put_on (Pack tables) f p = f (spelling tables) p
+put_on (Stream follower path) f p = p
+
+module _ (c : Command) (vs : List Value) (r : Result Output Halt) where
+  -- of a command that is known
+  known : (d : Command) → c ≡ d → IfOk r (Answers d vs) → IfOk r (Answers c vs)
+  known d e = subst (λ k. IfOk r (Answers k vs)) (sym e)
+
+  puts : {P Q : Text → Type 0} → ((text : Text) → P text → Q text) → IfOk r (λ o. Puts o P) → IfOk r (λ o. Puts o Q)
+  puts f = if_ok r (λ o. put_on o f)
+
+  pub of_show : (a : Admission) → AreInputs c vs (Inputs.Show a) → IfOk r (λ o. Puts o (IsMadeOf a shown)) → IfOk r (Answers c vs)
+  of_show a (graph, e, is) ok = known (Show graph) e (puts (λ text made. (a, is, made)) ok)
+
+  pub of_compile : (a : Admission) → AreInputs c vs (Inputs.Compile a) → IfOk r (λ o. Puts o (IsMadeOf a packed)) → IfOk r (Answers c vs)
+  of_compile a (graph, e, is) ok = known (Compile graph) e (puts (λ text made. (a, is, made)) ok)
+
+  pub of_tune : (a : Admission) → AreInputs c vs (Inputs.Tune a) → IfOk r (λ o. Puts o (IsTuningText a.graph)) → IfOk r (Answers c vs)
+  of_tune a (graph, e, is) ok = known (Tune graph) e (puts (λ text made. (a, is, made)) ok)
+
+  pub of_check : (a : Admission) (t : Tables) → AreInputs c vs (Inputs.Check a t) → IfOk r (λ o. Puts o (IsSafeText a t)) → IfOk r (Answers c vs)
+  of_check a t (graph, pack, e, is) ok = known (Check graph pack) e (puts (λ text made. (a, t, is, made)) ok)
+
+  pub of_play : (a : Admission) (t : Tables) (p : Played) (turns : ℕ) → AreInputs c vs (Inputs.Play a t p turns) → IfOk r (λ o. Puts o (IsPlayedText a t p turns)) → IfOk r (Answers c vs)
+  of_play a t p turns (graph, pack, scenario, e, is) ok = known (Play graph pack scenario turns) e (puts (λ text made. (a, t, p, is, made)) ok)
+
+  pub of_audit : (a : Admission) (t : Tables) (l : Log) → AreInputs c vs (Inputs.Audit a t l) → IfOk r (λ o. Puts o (IsAuditedText a t l)) → IfOk r (Answers c vs)
+  of_audit a t l (graph, pack, log, e, is) ok = known (Audit graph pack log) e (puts (λ text made. (a, t, l, is, made)) ok)
+
+  pub of_node : (t : Tables) (name : Text) → AreInputs c vs (Inputs.Node t name) → IfOk r (λ o. Puts o (IsNodeText t name)) → IfOk r (Answers c vs)
+  of_node t name (pack, e, is) ok = known (Node pack name) e (puts (λ text made. (t, is, made)) ok)
+
+  pub of_live : (t : Tables) (name stream : Text) → AreInputs c vs (Inputs.Live t name stream) → IfOk r (Opens t name stream) → IfOk r (Answers c vs)
+  of_live t name stream (pack, e, is) ok = known (Live pack name stream) e (if_ok r (λ o opens. (t, is, opens)) ok)
+
+  pub of_hyper : (parts : List Part) → AreInputs c vs (Inputs.Hyper parts) → IfOk r (λ o. Puts o (IsUnrolledText parts)) → IfOk r (Answers c vs)
+  of_hyper parts (pairs, e, is, periods) ok = known (Hyper pairs) e (puts (λ text made. (parts, is, periods, made)) ok)
+
+  pub of_trial : (number : ℕ) → AreInputs c vs (Inputs.Trial number) → IfOk r (λ o. Puts o (IsTrialText number)) → IfOk r (Answers c vs)
+  of_trial number (e, is) ok = known (Trial number) e ok
+
+  -- ---- halts
+
+  stop_as : (d : Command) → c ≡ d → IfErr r (OrMemory (StopsWork d vs)) → IfErr r (OrMemory (StopsWork c vs))
+  stop_as d e = subst (λ k. IfErr r (OrMemory (StopsWork k vs))) (sym e)
+
+  stops : {P Q : Halt → Type 0} → ((h : Halt) → P h → Q h) → IfErr r (OrMemory P) → IfErr r (OrMemory Q)
+  stops {P = P} {Q = Q} f = if_err r (λ h so. go h so)
+    where
+      go : (h : Halt) → OrMemory P h → OrMemory Q h
+      go h (inl p) = inl (f h p)
+      go h (inr memory) = inr memory
+
+  pub stops_show : (a : Admission) → AreInputs c vs (Inputs.Show a) → IfErr r (IsUncompiled a) → IfErr r (OrMemory (StopsWork c vs))
+  stops_show a (graph, e, is) err = stop_as (Show graph) e (if_err r (λ h wrong. inl (a, is, wrong)) err)
+
+  pub stops_compile : (a : Admission) → AreInputs c vs (Inputs.Compile a) → IfErr r (IsUncompiled a) → IfErr r (OrMemory (StopsWork c vs))
+  stops_compile a (graph, e, is) err = stop_as (Compile graph) e (if_err r (λ h wrong. inl (a, is, wrong)) err)
+
+  -- want of memory alone
+  pub stops_memory : IfErr r (λ h. h ≡ Memory) → IfErr r (OrMemory (StopsWork c vs))
+  stops_memory err = if_err r (λ h memory. inr memory) err
+
+  pub stops_check : (a : Admission) (t : Tables) → AreInputs c vs (Inputs.Check a t) → IfErr r (OrMemory (StopsVerdict a t)) → IfErr r (OrMemory (StopsWork c vs))
+  stops_check a t (graph, pack, e, is) err = stop_as (Check graph pack) e (stops (λ h wrong. (a, t, is, wrong)) err)
+
+  pub stops_play : (a : Admission) (t : Tables) (p : Played) (turns : ℕ) → AreInputs c vs (Inputs.Play a t p turns) → IfErr r (OrMemory (StopsVerdict a t)) → IfErr r (OrMemory (StopsWork c vs))
+  stops_play a t p turns (graph, pack, scenario, e, is) err = stop_as (Play graph pack scenario turns) e (stops (λ h wrong. (a, t, p, is, wrong)) err)
+
+  pub stops_audit : (a : Admission) (t : Tables) (l : Log) → AreInputs c vs (Inputs.Audit a t l) → IfErr r (OrMemory (StopsVerdict a t)) → IfErr r (OrMemory (StopsWork c vs))
+  stops_audit a t l (graph, pack, log, e, is) err = stop_as (Audit graph pack log) e (stops (λ h wrong. (a, t, l, is, wrong)) err)
+
+  pub stops_node : (t : Tables) (name : Text) → AreInputs c vs (Inputs.Node t name) → IfErr r (OrMemory (StopsNaming t name)) → IfErr r (OrMemory (StopsWork c vs))
+  stops_node t name (pack, e, is) err = stop_as (Node pack name) e (stops (λ h wrong. (t, is, wrong)) err)
+
+  pub stops_live : (t : Tables) (name stream : Text) → AreInputs c vs (Inputs.Live t name stream) → IfErr r (OrMemory (StopsNaming t name)) → IfErr r (OrMemory (StopsWork c vs))
+  stops_live t name stream (pack, e, is) err = stop_as (Live pack name stream) e (stops (λ h wrong. (t, is, wrong)) err)
+
+  pub stops_hyper : (parts : List Part) → AreInputs c vs (Inputs.Hyper parts) → IfErr r (IsNotUnrolled parts) → IfErr r (OrMemory (StopsWork c vs))
+  stops_hyper parts (pairs, e, is, periods) err = stop_as (Hyper pairs) e (if_err r (λ h wrong. inl (parts, is, periods, wrong)) err)
+
+-- ---- what an answer is of
+
+abbrev pub IsText : Output → Type 0
+IsText (Lines text) = Unit {0}
+IsText (Pack tables) = Unit {0}
+IsText (Stream follower path) = ⊥
+
+not_opened : (t : Tables) (name stream : Text) (o : Output) → IsText o → Opens t name stream o → ⊥
+not_opened t name stream (Lines text) is opens = opens
+not_opened t name stream (Pack tables) is opens = opens
+not_opened t name stream (Stream follower path) is opens = is
+
+pub text_of : (c : Command) (vs : List Value) (o : Output) → IsText o → Answers c vs o → Puts o (PutsOut c vs)
+text_of (Show graph) vs o is answers = answers
+text_of (Compile graph) vs o is answers = answers
+text_of (Check graph pack) vs o is answers = answers
+text_of (Play graph pack scenario turns) vs o is answers = answers
+text_of (Node pack name) vs o is answers = answers
+text_of (Trial number) vs o is answers = answers
+text_of (Live pack name stream) vs o is answers = absurd (not_opened answers.0 name stream o is answers.2)
+text_of (Hyper pairs) vs o is answers = answers
+text_of (Tune graph) vs o is answers = answers
+text_of (Audit graph pack log) vs o is answers = answers
+
+-- a stream is of a command that follows one
+pub record IsLive (c : Command) (vs : List Value) (f : Follower) (path : Text) : Type 0 where
+  pub pack : Text
+  pub name : Text
+  pub command : c ≡ Live pack name path
+  pub tables : Tables
+  pub said : vs ≡ tables_value tables ∷ []
+  pub follower : IsFollower tables name f
+
+pub live_of : (c : Command) (vs : List Value) (f : Follower) (path : Text) → Answers c vs (Stream f path) → IsLive c vs f path
+live_of (Show graph) vs f path answers = absurd answers
+live_of (Compile graph) vs f path answers = absurd answers
+live_of (Check graph pack) vs f path answers = absurd answers
+live_of (Play graph pack scenario turns) vs f path answers = absurd answers
+live_of (Node pack name) vs f path answers = absurd answers
+live_of (Trial number) vs f path answers = absurd answers
+live_of (Live pack name stream) vs f path (t, is, opens) = record { pack = pack; name = name; command = subst (λ p. Live pack name stream ≡ Live pack name p) (sym opens.1) refl; tables = t; said = is; follower = opens.0 }
+live_of (Hyper pairs) vs f path answers = absurd answers
+live_of (Tune graph) vs f path answers = absurd answers
+live_of (Audit graph pack log) vs f path answers = absurd answers

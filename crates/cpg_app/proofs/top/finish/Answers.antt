@@ -1,0 +1,85 @@
+use Rattle.std.proofs.Common.{ℕ, List, ap, inr, refl, sym, subst, string_bytes}
+use Rattle.std.proofs.KnownBytes.{Keeps-refl}
+use Rattle.cpg_tale.specs.Fetch.{Fetch}
+use Rattle.cpg_codec.specs.Spelling.{spelling}
+use Rattle.cpg_inputs.specs.declared.inputs.Inputs.{Inputs}
+use Rattle.cpg_app.specs.declared.output.Output.TheVariants.{Lines, Pack, Stream}
+use Rattle.cpg_app.specs.Endings.{Has, Prints, Ran, Stops, seen}
+use Rattle.cpg_app.specs.Outputs.{Answers}
+use Rattle.cpg_app.specs.Told.{IsWritten, sent}
+use Rattle.cpg_app.proofs.Answered.{followed_lawful, halt_named, is_open, may_follow}
+use Rattle.cpg_app.proofs.Finished.{stopped_lawful, written_lawful}
+use Rattle.cpg_app.proofs.Worked.{IsLive, live_of, text_of}
+use Rattle.cpg_app.proofs.Written.{packed}
+use Rattle.cpg_app.proofs.top.finish.Goals as goal
+
+-- NOT PROVED YET: of Lines and Pack, clause lawful was changed last and its check did not end
+
+pub follow-requires-clause-may : goal.follow-requires-clause-may
+follow-requires-clause-may g c =
+    let asked = c.requires.may in
+    let live : IsLive asked.command asked.values c.in-Ok-Stream.follower c.in-Ok-Stream.stream = live_of asked.command asked.values c.in-Ok-Stream.follower c.in-Ok-Stream.stream (subst (Answers asked.command asked.values) c.in-Ok-Stream.field-0-is (c.in-Ok-Stream.ensures.output asked.command asked.values asked.are)) in
+    subst (g.S.Shelf.may_fetch c.args.shelf.now) (sym c.as_str-in-Ok-Stream.ensures) (may_follow (g.S.Shelf.may_fetch c.args.shelf.now) asked.command asked.values _ _ live asked.files)
+
+pub follow-requires-clause-opened : goal.follow-requires-clause-opened
+follow-requires-clause-opened g c =
+    let asked = c.requires.may in
+    let live : IsLive asked.command asked.values c.in-Ok-Stream.follower c.in-Ok-Stream.stream = live_of asked.command asked.values c.in-Ok-Stream.follower c.in-Ok-Stream.stream (subst (Answers asked.command asked.values) c.in-Ok-Stream.field-0-is (c.in-Ok-Stream.ensures.output asked.command asked.values asked.are)) in
+    is_open live.tables live.name c.in-Ok-Stream.follower live.follower
+
+pub stop-requires : goal.stop-requires
+stop-requires g c =
+    let asked = c.requires.may in
+    halt_named asked.command asked.values c.in-Err.halt (c.in-Err.ensures.halt asked.command asked.values asked.are)
+
+pub returns-in-Ok-Lines-clause-lawful : goal.returns-in-Ok-Lines-clause-lawful
+returns-in-Ok-Lines-clause-lawful g c words start at =
+    let r : Ran = record {
+      words = words;
+      shelf = seen start (g.S.Shelf.state c.args.shelf.now);
+      out = sent (g.O.Sink.state c.args.out.now) (g.O.Sink.state c.put.new.out);
+      err = sent (g.E.Sink.state c.args.err.now) (g.E.Sink.state c.end.new.err);
+      status = c.end.result;
+    } in
+    let has : Has r at.command at.has.values = record { words = at.words; reads = at.has.reads } in
+    let puts = text_of at.command at.has.values (Lines c.in-Ok-Lines.text) tt (subst (Answers at.command at.has.values) c.in-Ok-Lines.field-0-is (c.in-Ok-Lines.ensures.output at.command at.has.values at.has.are)) in
+    let prints : Prints r (string_bytes c.in-Ok-Lines.text) = record { command = at.command; values = at.has.values; has = has; puts = puts } in
+    written_lawful r (string_bytes c.in-Ok-Lines.text) c.put.result prints (subst (λ (bytes : List ℕ). IsWritten r.out c.put.result bytes) c.as_str.ensures c.put.ensures) c.end.ensures
+
+pub returns-in-Ok-Pack-clause-lawful : goal.returns-in-Ok-Pack-clause-lawful
+returns-in-Ok-Pack-clause-lawful g c words start at =
+    let r : Ran = record {
+      words = words;
+      shelf = seen start (g.S.Shelf.state c.args.shelf.now);
+      out = sent (g.O.Sink.state c.args.out.now) (g.O.Sink.state c.write_pack.new.sink);
+      err = sent (g.E.Sink.state c.args.err.now) (g.E.Sink.state c.end-in-Ok-Pack.new.err);
+      status = c.end-in-Ok-Pack.result;
+    } in
+    let has : Has r at.command at.has.values = record { words = at.words; reads = at.has.reads } in
+    let puts = text_of at.command at.has.values (Pack c.in-Ok-Pack.tables) tt (subst (Answers at.command at.has.values) c.in-Ok-Pack.field-0-is (c.in-Ok-Pack.ensures.output at.command at.has.values at.has.are)) in
+    let prints : Prints r (spelling c.in-Ok-Pack.tables) = record { command = at.command; values = at.has.values; has = has; puts = puts } in
+    written_lawful r (spelling c.in-Ok-Pack.tables) c.write_pack.result prints (packed (g.O.Sink.state c.args.out.now) (g.O.Sink.state c.write_pack.new.sink) (spelling c.in-Ok-Pack.tables) c.write_pack.result c.write_pack.ensures.whole c.write_pack.ensures.part c.write_pack.ensures.cause (λ e. ap g.O.Sink.state (c.write_pack.ensures.same e))) c.end-in-Ok-Pack.ensures
+
+pub returns-in-Ok-Stream-clause-lawful : goal.returns-in-Ok-Stream-clause-lawful
+returns-in-Ok-Stream-clause-lawful g c words start at =
+    let r : Ran = record {
+      words = words;
+      shelf = seen start (g.S.Shelf.state c.follow.new.shelf);
+      out = sent (g.O.Sink.state c.args.out.now) (g.O.Sink.state c.follow.new.out);
+      err = sent (g.E.Sink.state c.args.err.now) (g.E.Sink.state c.follow.new.err);
+      status = c.follow.result;
+    } in
+    let live = live_of at.command at.has.values c.in-Ok-Stream.follower c.in-Ok-Stream.stream (subst (Answers at.command at.has.values) c.in-Ok-Stream.field-0-is (c.in-Ok-Stream.ensures.output at.command at.has.values at.has.are)) in
+    followed_lawful r at.command at.has.values c.in-Ok-Stream.follower c.in-Ok-Stream.stream (g.S.Shelf.state c.args.shelf.now).history at.words at.has.reads live (rw c.as_str-in-Ok-Stream.ensures at c.follow.ensures.followed)
+
+pub returns-in-Err-clause-lawful : goal.returns-in-Err-clause-lawful
+returns-in-Err-clause-lawful g c words start at =
+    let r : Ran = record {
+      words = words;
+      shelf = seen start (g.S.Shelf.state c.args.shelf.now);
+      out = sent (g.O.Sink.state c.args.out.now) (g.O.Sink.state c.args.out.now);
+      err = sent (g.E.Sink.state c.args.err.now) (g.E.Sink.state c.stop.new.err);
+      status = c.stop.result;
+    } in
+    let has : Has r at.command at.has.values = record { words = at.words; reads = at.has.reads } in
+    stopped_lawful r c.in-Err.halt (inr (inr (record { command = at.command; values = at.has.values; has = has; stops = c.in-Err.ensures.halt at.command at.has.values at.has.are }))) (Keeps-refl (g.O.Sink.state c.args.out.now).taken) c.stop.ensures

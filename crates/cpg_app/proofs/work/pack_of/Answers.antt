@@ -1,0 +1,12 @@
+use Rattle.std.proofs.Common.{refl}
+use Rattle.cpg_app.proofs.work.pack_of.Goals as goal
+
+pub returns-clause-pack : goal.returns-clause-pack
+returns-clause-pack c =
+    record {
+      compiled = c.in_ok-made.made.compiled;
+      compilation = c.in_ok-made.ensures.compiled;
+      pack = c.in_ok-made.ensures.pack;
+      safe = c.in_ok-made.ensures.safe;
+      spelled = refl;
+    }

@@ -1,0 +1,67 @@
+use Rattle.std.proofs.Common.{List, subst, sym}
+use Rattle.cpg_words.specs.declared.command.Command.{Command}
+use Rattle.cpg_inputs.specs.declared.inputs.Inputs.{Inputs}
+use Rattle.cpg_inputs.specs.Inputs.{AreFit, AreInputs}
+use Rattle.cpg_inputs.specs.Says.{Value}
+use Rattle.cpg_app.proofs.Worked.{of_audit, of_check, of_compile, of_hyper, of_live, of_node, of_play, of_show, of_trial, of_tune, stops_audit, stops_check, stops_compile, stops_hyper, stops_live, stops_memory, stops_node, stops_play, stops_show}
+use Rattle.cpg_app.proofs.work.work.Goals as goal
+
+pub returns-in-Show-clause-output : goal.returns-in-Show-clause-output
+returns-in-Show-clause-output c command values are = of_show command values c.text_of.result c.in-Show.graph (subst (AreInputs command values) c.in-Show.is are) c.text_of.ensures.text
+
+pub returns-in-Show-clause-halt : goal.returns-in-Show-clause-halt
+returns-in-Show-clause-halt c command values are = stops_show command values c.text_of.result c.in-Show.graph (subst (AreInputs command values) c.in-Show.is are) c.text_of.ensures.halt
+
+pub returns-in-Compile-clause-output : goal.returns-in-Compile-clause-output
+returns-in-Compile-clause-output c command values are = of_compile command values c.pack_of.result c.in-Compile.graph (subst (AreInputs command values) c.in-Compile.is are) c.pack_of.ensures.pack
+
+pub returns-in-Compile-clause-halt : goal.returns-in-Compile-clause-halt
+returns-in-Compile-clause-halt c command values are = stops_compile command values c.pack_of.result c.in-Compile.graph (subst (AreInputs command values) c.in-Compile.is are) c.pack_of.ensures.halt
+
+pub returns-in-Tune-clause-output : goal.returns-in-Tune-clause-output
+returns-in-Tune-clause-output c command values are = of_tune command values c.tune_admitted.result c.in-Tune.graph (subst (AreInputs command values) c.in-Tune.is are) c.tune_admitted.ensures.text
+
+pub returns-in-Tune-clause-halt : goal.returns-in-Tune-clause-halt
+returns-in-Tune-clause-halt c command values are = stops_memory command values c.tune_admitted.result c.tune_admitted.ensures.halt
+
+pub returns-in-Check-clause-output : goal.returns-in-Check-clause-output
+returns-in-Check-clause-output c command values are = of_check command values c.verdict_of.result c.in-Check.graph c.in-Check.tables (subst (AreInputs command values) c.in-Check.is are) c.verdict_of.ensures.text
+
+pub returns-in-Check-clause-halt : goal.returns-in-Check-clause-halt
+returns-in-Check-clause-halt c command values are = stops_check command values c.verdict_of.result c.in-Check.graph c.in-Check.tables (subst (AreInputs command values) c.in-Check.is are) c.verdict_of.ensures.halt
+
+pub returns-in-Play-clause-output : goal.returns-in-Play-clause-output
+returns-in-Play-clause-output c command values are = of_play command values c.play.result c.in-Play.graph c.in-Play.tables c.in-Play.played c.in-Play.turns (subst (AreInputs command values) c.in-Play.is are) c.play.ensures.text
+
+pub returns-in-Play-clause-halt : goal.returns-in-Play-clause-halt
+returns-in-Play-clause-halt c command values are = stops_play command values c.play.result c.in-Play.graph c.in-Play.tables c.in-Play.played c.in-Play.turns (subst (AreInputs command values) c.in-Play.is are) c.play.ensures.halt
+
+pub returns-in-Audit-clause-output : goal.returns-in-Audit-clause-output
+returns-in-Audit-clause-output c command values are = of_audit command values c.audited.result c.in-Audit.graph c.in-Audit.tables c.in-Audit.log (subst (AreInputs command values) c.in-Audit.is are) c.audited.ensures.text
+
+pub returns-in-Audit-clause-halt : goal.returns-in-Audit-clause-halt
+returns-in-Audit-clause-halt c command values are = stops_audit command values c.audited.result c.in-Audit.graph c.in-Audit.tables c.in-Audit.log (subst (AreInputs command values) c.in-Audit.is are) c.audited.ensures.halt
+
+pub returns-in-Node-clause-output : goal.returns-in-Node-clause-output
+returns-in-Node-clause-output c command values are = of_node command values c.node_lines.result c.in-Node.tables c.in-Node.name (subst (AreInputs command values) c.in-Node.is are) (rw c.as_str.ensures at c.node_lines.ensures.text)
+
+pub returns-in-Node-clause-halt : goal.returns-in-Node-clause-halt
+returns-in-Node-clause-halt c command values are = stops_node command values c.node_lines.result c.in-Node.tables c.in-Node.name (subst (AreInputs command values) c.in-Node.is are) (rw c.as_str.ensures at c.node_lines.ensures.halt)
+
+pub returns-in-Live-clause-output : goal.returns-in-Live-clause-output
+returns-in-Live-clause-output c command values are = of_live command values c.opened.result c.in-Live.tables c.in-Live.name c.in-Live.stream (subst (AreInputs command values) c.in-Live.is are) (rw c.as_str-in-Live.ensures at c.opened.ensures.opens)
+
+pub returns-in-Live-clause-halt : goal.returns-in-Live-clause-halt
+returns-in-Live-clause-halt c command values are = stops_live command values c.opened.result c.in-Live.tables c.in-Live.name c.in-Live.stream (subst (AreInputs command values) c.in-Live.is are) (rw c.as_str-in-Live.ensures at c.opened.ensures.halt)
+
+pub returns-in-Hyper-clause-output : goal.returns-in-Hyper-clause-output
+returns-in-Hyper-clause-output c command values are = of_hyper command values c.unrolled_text.result c.in-Hyper.parts (subst (AreInputs command values) c.in-Hyper.is are) (rw c.as_slice.ensures.parts at c.unrolled_text.ensures.text)
+
+pub returns-in-Hyper-clause-halt : goal.returns-in-Hyper-clause-halt
+returns-in-Hyper-clause-halt c command values are = stops_hyper command values c.unrolled_text.result c.in-Hyper.parts (subst (AreInputs command values) c.in-Hyper.is are) (rw c.as_slice.ensures.parts at c.unrolled_text.ensures.halt)
+
+pub returns-in-Trial-clause-output : goal.returns-in-Trial-clause-output
+returns-in-Trial-clause-output c command values are = of_trial command values c.trial.result c.in-Trial.number (subst (AreInputs command values) c.in-Trial.is are) c.trial.ensures.text
+
+pub returns-in-Trial-clause-halt : goal.returns-in-Trial-clause-halt
+returns-in-Trial-clause-halt c command values are = stops_memory command values c.trial.result c.trial.ensures.halt

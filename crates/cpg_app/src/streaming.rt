@@ -1,0 +1,84 @@
+//! A stream that is followed, piece by piece.
+ghost use Rattle.std.specs.Prelude.{ℕ, List, Option, ◌≡◌, ◌≤◌, Err, IfErr, IfOk, MatchResult};
+ghost use Rattle.cpg_tale.specs.Fetch.{Fetch};
+ghost use Rattle.cpg_io.specs.Causes.{Rose};
+ghost use Rattle.cpg_io.specs.Shelf.{SameLeave, SameNames};
+ghost use Rattle.cpg_live.specs.Follower.{open_follower};
+ghost use Rattle.cpg_live.specs.Following.{Breaks, Completes, IsAlong, IsAlongAt, IsOfSame, IsStreamed};
+ghost use Rattle.cpg_live.specs.declared.following.TheConstants.{STREAM_LIMIT};
+ghost use Rattle.cpg_live.specs.declared.following.Broken.{Broken};
+
+use cpg_io::{Failed, Shelf, Sink};
+use cpg_live::{Broken, Follower};
+
+/// The most bytes of a piece.
+const PIECE: usize = 65_536;
+
+/// Follows all pieces to the end of the stream.
+fn follow_pieces<S: Shelf, O: Sink>(
+    follower: &mut Follower,
+    shelf: &mut S,
+    out: &mut O,
+) -> Result<(), Broken>
+    requires { follower.old.read ≤ STREAM_LIMIT }
+    ensures names { SameNames (S.state shelf.old) (S.state shelf.new) }
+    ensures leave { SameLeave (S.may_fetch shelf.old) (S.may_fetch shelf.new) }
+    ensures same { IsOfSame follower.old follower.new }
+    ensures along { (start : Option (List ℕ)) (name : List ℕ) (past : List Fetch) → IsAlong name past (S.state shelf.old).history start (O.state out.old).taken follower.old → MatchResult result (λ _. IsAlongAt 0 name past (S.state shelf.new).history start (O.state out.new).taken follower.new) (λ broken. IsStreamed (λ s. Breaks follower.old.head follower.old.table s broken) name past (S.state shelf.new).history start (O.state out.old) (O.state out.new)) }
+    ensures rose { result ≡ Err Broken.Shelf → Rose (S.state shelf.old).faults (S.state shelf.new).faults }
+    ensures later { (S.state shelf.old).faults ≤ (S.state shelf.new).faults }
+    ensures out_later { (O.state out.old).faults ≤ (O.state out.new).faults }
+{
+    let mut buffer = [0; PIECE];
+    loop {
+        let count = match follower.follow_piece(shelf, &mut buffer, out) {
+            Ok(count) => count,
+            Err(broken) => return Err(broken),
+        };
+        if count == 0 {
+            return Ok(());
+        }
+    }
+}
+
+/// Follows what is left of a stream to its close.
+fn follow_rest<S: Shelf, O: Sink>(
+    follower: &mut Follower,
+    shelf: &mut S,
+    out: &mut O,
+) -> Result<(), Broken>
+    requires { follower.old.read ≤ STREAM_LIMIT }
+    ensures names { SameNames (S.state shelf.old) (S.state shelf.new) }
+    ensures leave { SameLeave (S.may_fetch shelf.old) (S.may_fetch shelf.new) }
+    ensures along { (start : Option (List ℕ)) (name : List ℕ) (past : List Fetch) → IsAlong name past (S.state shelf.old).history start (O.state out.old).taken follower.old → MatchResult result (λ _. IsStreamed (Completes follower.old.head follower.old.table) name past (S.state shelf.new).history start (O.state out.old) (O.state out.new)) (λ broken. IsStreamed (λ s. Breaks follower.old.head follower.old.table s broken) name past (S.state shelf.new).history start (O.state out.old) (O.state out.new)) }
+    ensures rose { result ≡ Err Broken.Shelf → Rose (S.state shelf.old).faults (S.state shelf.new).faults }
+    ensures later { (S.state shelf.old).faults ≤ (S.state shelf.new).faults }
+{
+    match follow_pieces(follower, shelf, out) {
+        Ok(()) => follower.end(out),
+        Err(broken) => Err(broken),
+    }
+}
+
+/// Follows the stream of a name to its close, and writes the lines of what the node does after each piece, at last that
+/// of the close.
+pub fn follow<S: Shelf, O: Sink>(
+    follower: &mut Follower,
+    shelf: &mut S,
+    name: &str,
+    out: &mut O,
+) -> Result<(), Broken>
+    requires may { S.may_fetch shelf.old name.now }
+    requires opened { follower.old ≡ open_follower follower.old.head follower.old.table }
+    ensures names { SameNames (S.state shelf.old) (S.state shelf.new) }
+    ensures leave { SameLeave (S.may_fetch shelf.old) (S.may_fetch shelf.new) }
+    ensures whole { IfOk result (λ _. IsStreamed (Completes follower.old.head follower.old.table) name.now (S.state shelf.old).history (S.state shelf.new).history (O.state out.old).taken (O.state out.old) (O.state out.new)) }
+    ensures broken { IfErr result (λ broken. IsStreamed (λ s. Breaks follower.old.head follower.old.table s broken) name.now (S.state shelf.old).history (S.state shelf.new).history (O.state out.old).taken (O.state out.old) (O.state out.new)) }
+    ensures rose { result ≡ Err Broken.Shelf → Rose (S.state shelf.old).faults (S.state shelf.new).faults }
+    ensures later { (S.state shelf.old).faults ≤ (S.state shelf.new).faults }
+{
+    match shelf.fetch(name) {
+        Ok(()) => follow_rest(follower, shelf, out),
+        Err(Failed) => Err(Broken::Shelf),
+    }
+}

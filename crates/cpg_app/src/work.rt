@@ -1,0 +1,222 @@
+//! What each command does with what its files say.
+ghost use Rattle.std.specs.Prelude.{◌≡◌, ◌<◌, IfErr, IfOk, IfSome, List, length};
+ghost use Rattle.std.specs.Str.{bytes_eq};
+ghost use Rattle.cpg_core.specs.Compilation.{IsCompilation};
+ghost use Rattle.cpg_log.specs.Log.{IsLog};
+ghost use Rattle.cpg_scenario.specs.File.{IsPlayed};
+ghost use Rattle.cpg_words.specs.declared.command.Command.{Command};
+ghost use Rattle.cpg_inputs.specs.Inputs.{AreFit, AreInputs};
+ghost use Rattle.cpg_inputs.specs.Says.{Value};
+ghost use Rattle.cpg_app.specs.Causes.{first_named, IsUncompiled, OrMemory, StopsNaming, StopsVerdict, StopsWork};
+ghost use Rattle.cpg_app.specs.Outputs.{packed, shown, Answers, AreJudgedSafe, ArePackOf, AreSafe, IsAuditedText, IsMadeOf, IsNodeText, IsPlayedText, IsSafeText, Opens, Puts};
+
+use crate::auditing::audit_text;
+use crate::halt::halt_of_compile;
+use crate::output::Output;
+use crate::periods::unrolled_text;
+use crate::playing::play_text;
+use crate::trials::trial;
+use crate::tuning::tune_admitted;
+use cpg_base::Name;
+use cpg_check::{Verdict, check};
+use cpg_codec::tables_are_lawful;
+use cpg_core::{Compiled, compile};
+use cpg_head::Head;
+use cpg_inputs::Inputs;
+use cpg_live::Follower;
+use cpg_log::Log;
+use cpg_refusal::{Halt, Refusal};
+use cpg_rules::Admitted;
+use cpg_run::Built;
+use cpg_scenario::Played;
+use cpg_show::{node_text, table_text};
+use cpg_table::Tables;
+use cpg_words::Word;
+use std::alloc::Global;
+
+/// An admitted graph, and what its compile answers.
+#[derive(Drop)]
+struct Made {
+    admitted: Admitted,
+    compiled: Compiled,
+}
+
+/// Compiles an admitted graph.
+fn compile_graph(alloc: Global, admitted: Admitted) -> Result<Made, Halt>
+    ensures same { IfOk result (λ made. made.admitted ≡ admitted) }
+    ensures compiled { IfOk result (λ made. IsCompilation admitted.graph admitted.order made.compiled) }
+    ensures pack { IfOk result (λ made. ArePackOf admitted.graph made.compiled.built.tables) }
+    ensures safe { IfOk result (λ made. AreSafe admitted.graph made.compiled.built.tables.nodes) }
+    ensures halt { IfErr result (IsUncompiled admitted) }
+{
+    let _graph = admitted.problem();
+    match compile(alloc, &admitted) {
+        Ok(compiled) => {
+            tables_are_lawful(&compiled.built.tables);
+            Ok(Made { admitted, compiled })
+        }
+        Err(fault) => Err(halt_of_compile(admitted, fault)),
+    }
+}
+
+/// The table text of an admitted graph.
+fn text_of(alloc: Global, admitted: Admitted) -> Result<Output, Halt>
+    ensures text { IfOk result (λ o. Puts o (IsMadeOf admitted shown)) }
+    ensures halt { IfErr result (IsUncompiled admitted) }
+{
+    let made = compile_graph(alloc, admitted)?;
+    let built = &made.compiled.built;
+    match table_text(alloc, &made.admitted, built, &made.compiled.order) {
+        Ok(text) => Ok(Output::Lines(text)),
+        Err(_) => Err(Halt::Memory),
+    }
+}
+
+/// The pack of an admitted graph.
+fn pack_of(alloc: Global, admitted: Admitted) -> Result<Output, Halt>
+    ensures pack { IfOk result (λ o. Puts o (IsMadeOf admitted packed)) }
+    ensures halt { IfErr result (IsUncompiled admitted) }
+{
+    let made = compile_graph(alloc, admitted)?;
+    let Made { compiled, .. } = made;
+    let Compiled { built, .. } = compiled;
+    let Built { tables, .. } = built;
+    Ok(Output::Pack(tables))
+}
+
+/// Whether tables are valid for an admitted graph, which comes back where they are.
+fn judged(alloc: Global, admitted: Admitted, tables: &Tables) -> Result<Admitted, Halt>
+    ensures same { IfOk result (λ a. a ≡ admitted) }
+    ensures safe { IfOk result (λ _. AreJudgedSafe admitted tables.now) }
+    ensures halt { IfErr result (OrMemory (StopsVerdict admitted tables.now)) }
+{
+    let _graph = admitted.problem();
+    let _head = tables.head();
+    match check(alloc, &admitted, tables) {
+        Ok(Verdict::Yes) => Ok(admitted),
+        Ok(Verdict::Other(part)) => Err(Halt::Refused(Refusal::OtherGraph(part))),
+        Ok(Verdict::No(fault)) => Err(Halt::Unsafe {
+            graph: admitted,
+            fault,
+        }),
+        Err(_) => Err(Halt::Memory),
+    }
+}
+
+/// The output of a check of tables for an admitted graph.
+fn verdict_of(alloc: Global, admitted: Admitted, tables: &Tables) -> Result<Output, Halt>
+    ensures text { IfOk result (λ o. Puts o (IsSafeText admitted tables.now)) }
+    ensures halt { IfErr result (OrMemory (StopsVerdict admitted tables.now)) }
+{
+    let _admitted = judged(alloc, admitted, tables)?;
+    match String::from_str(alloc, "safe\n") {
+        Ok(text) => Ok(Output::Lines(text)),
+        Err(_) => Err(Halt::Memory),
+    }
+}
+
+/// Plays tables, once they are found valid.
+fn play(
+    alloc: Global,
+    admitted: Admitted,
+    tables: Tables,
+    played: &Played,
+    turns: u64,
+) -> Result<Output, Halt>
+    requires { IsPlayed admitted.graph played.now }
+    ensures text { IfOk result (λ o. Puts o (IsPlayedText admitted tables played.now turns)) }
+    ensures halt { IfErr result (OrMemory (StopsVerdict admitted tables)) }
+{
+    let _head = tables.head();
+    let admitted = judged(alloc, admitted, &tables)?;
+    match play_text(alloc, &admitted, tables, played, turns) {
+        Ok(text) => Ok(Output::Lines(text)),
+        Err(_) => Err(Halt::Memory),
+    }
+}
+
+/// Audits a log by tables, once they are found valid.
+fn audited(alloc: Global, admitted: Admitted, tables: &Tables, log: &Log) -> Result<Output, Halt>
+    requires { IsLog admitted.graph log.now }
+    ensures text { IfOk result (λ o. Puts o (IsAuditedText admitted tables.now log.now)) }
+    ensures halt { IfErr result (OrMemory (StopsVerdict admitted tables.now)) }
+{
+    let admitted = judged(alloc, admitted, tables)?;
+    match audit_text(alloc, &admitted, tables, log) {
+        Ok(text) => Ok(Output::Lines(text)),
+        Err(_) => Err(Halt::Memory),
+    }
+}
+
+/// Whether a node has a name.
+fn is_named(node: &Name, name: &str) -> bool
+    ensures { result ≡ bytes_eq node.now name.now }
+{
+    node.as_str() == name
+}
+
+/// The number of the first node of a name.
+fn first_named(head: &Head, name: &str) -> Option<usize>
+    ensures first { result ≡ first_named head.now name.now }
+    ensures within { IfSome result (λ node. node < length head.now.nodes) }
+    ensures few { IfSome result (λ node. node < 16) }
+{
+    head.nodes().iter().position(|node| is_named(node, name))
+}
+
+/// The text of the table of the first node of a name.
+fn node_lines(alloc: Global, tables: &Tables, name: &str) -> Result<Output, Halt>
+    ensures text { IfOk result (λ o. Puts o (IsNodeText tables.now name.now)) }
+    ensures halt { IfErr result (OrMemory (StopsNaming tables.now name.now)) }
+{
+    let Some(node) = first_named(tables.head(), name) else {
+        return Err(Halt::Refused(Refusal::UnknownNode));
+    };
+    match node_text(alloc, tables, node as u32) {
+        Ok(text) => Ok(Output::Lines(text)),
+        Err(_) => Err(Halt::Memory),
+    }
+}
+
+/// The first node of a name, before its stream.
+fn opened(alloc: Global, tables: Tables, name: &str, stream: Word) -> Result<Output, Halt>
+    ensures opens { IfOk result (Opens tables name.now stream) }
+    ensures halt { IfErr result (OrMemory (StopsNaming tables name.now)) }
+{
+    let Some(node) = first_named(tables.head(), name) else {
+        return Err(Halt::Refused(Refusal::UnknownNode));
+    };
+    match Follower::new(alloc, tables, node as u32) {
+        Ok(follower) => Ok(Output::Stream { follower, stream }),
+        Err(_) => Err(Halt::Memory),
+    }
+}
+
+/// What a command puts out by what its files say, or why it stops.
+pub fn work(alloc: Global, inputs: Inputs) -> Result<Output, Halt>
+    requires { AreFit inputs }
+    ensures output { (command : Command) (values : List Value) → AreInputs command values inputs → IfOk result (Answers command values) }
+    ensures halt { (command : Command) (values : List Value) → AreInputs command values inputs → IfErr result (OrMemory (StopsWork command values)) }
+{
+    match inputs {
+        Inputs::Show(graph) => text_of(alloc, graph),
+        Inputs::Compile(graph) => pack_of(alloc, graph),
+        Inputs::Tune(graph) => tune_admitted(alloc, &graph),
+        Inputs::Check { graph, tables } => verdict_of(alloc, graph, &tables),
+        Inputs::Play {
+            graph,
+            tables,
+            played,
+            turns,
+        } => play(alloc, graph, tables, &played, turns),
+        Inputs::Audit { graph, tables, log } => audited(alloc, graph, &tables, &log),
+        Inputs::Node { tables, name } => node_lines(alloc, &tables, name.as_str()),
+        Inputs::Live {
+            tables,
+            name,
+            stream,
+        } => opened(alloc, tables, name.as_str(), stream),
+        Inputs::Hyper(parts) => unrolled_text(alloc, parts.as_slice()),
+        Inputs::Trial(number) => trial(alloc, number),
+    }
+}

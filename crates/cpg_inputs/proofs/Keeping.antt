@@ -1,0 +1,29 @@
+-- What reading leaves of a shelf, file after file.
+use Rattle.std.proofs.Common.{ℕ, ◌≡◌, ◌∙◌, List, ◌∷◌, true, arith, refl, sym, inl, inr}
+use Rattle.std.specs.Prelude.{◌⊎◌}
+use Rattle.cpg_tale.specs.Fetch.{Fetch}
+use Rattle.cpg_io.specs.Causes.{Rose}
+use Rattle.cpg_io.specs.Shelf.{SameLeave}
+use Rattle.cpg_io.specs.State.{ShelfState}
+use Rattle.cpg_inputs.specs.Steps.{KeepsShelf}
+
+module _ (old mid new : ShelfState) (a : KeepsShelf old mid) (b : KeepsShelf mid new) where
+  counted_rose : (fetch : Fetch) (past : List Fetch) → new.history ≡ fetch ∷ past → fetch.failed ≡ true → (new.history ≡ old.history) ⊎ Rose old.faults new.faults
+  counted_rose fetch past is failed = elim (b.rose fetch past is failed) [
+    | inl same ↦ elim (a.rose fetch past (sym same ∙ is) failed) [
+      | inl before ↦ inl (same ∙ before)
+      | inr up ↦ inr (let l = b.later in omega (arith, l, up))
+    ]
+    | inr up ↦ inr (let l = a.later in omega (arith, l, up))
+  ]
+
+  pub keeps_on : KeepsShelf old new
+  keeps_on = record { names = λ name. b.names name ∙ a.names name; later = (let l = a.later in let m = b.later in omega (arith, l, m)); rose = counted_rose }
+
+-- nothing was read
+pub keeps_same : (s : ShelfState) → KeepsShelf s s
+keeps_same s = record { names = λ name. refl; later = omega arith; rose = λ fetch past is failed. inl refl }
+
+-- the same names may be fetched after two steps
+pub leave_on : (a b c : List ℕ → Type 0) → SameLeave a b → SameLeave b c → SameLeave a c
+leave_on a b c x y = λ name. (λ may. (y name).0 ((x name).0 may), λ may. (x name).1 ((y name).1 may))

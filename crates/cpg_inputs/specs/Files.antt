@@ -1,0 +1,52 @@
+-- The files that a command reads before it does its work: what each is read as, and its name, in the order of the words.
+use Rattle.std.specs.Prelude.{ℕ, List, [], ◌∷◌}
+use Rattle.cpg_words.specs.Parts.{Text}
+use Rattle.cpg_words.specs.declared.command.Pair.{Pair}
+use Rattle.cpg_words.specs.declared.command.Command.{Command}
+use Rattle.cpg_words.specs.declared.command.Command.TheVariants.{Show, Compile, Check, Play, Node, Trial, Live, Hyper, Tune, Audit}
+use Rattle.cpg_refusal.specs.declared.halt.Refusal.{Refusal}
+use Rattle.cpg_refusal.specs.declared.halt.Refusal.TheVariants.{LongGraph, LongPack, LongScenario, LongLog}
+use Rattle.cpg_inputs.specs.declared.kind.Kind.{Kind}
+use Rattle.cpg_inputs.specs.declared.kind.Kind.TheVariants.{GraphFile, PartFile, PackFile, ScenarioFile, LogFile}
+use Rattle.cpg_inputs.specs.declared.kind.TheConstants.{GRAPH_LIMIT, SCENARIO_LIMIT, LOG_LIMIT, PACK_LIMIT}
+
+pub record File : Type 0 where
+  pub kind : Kind
+  pub name : Text
+
+abbrev pub file : Kind → Text → File
+file kind name = record { kind = kind; name = name }
+
+-- the graphs of parts
+abbrev pub part_files : List Pair → List File
+part_files [] = []
+part_files (pair ∷ pairs) = file PartFile pair.graph ∷ part_files pairs
+
+-- the stream of `live` isn't among them: it is followed, after them
+abbrev pub files_of : Command → List File
+files_of (Show graph) = file GraphFile graph ∷ []
+files_of (Compile graph) = file GraphFile graph ∷ []
+files_of (Check graph pack) = file GraphFile graph ∷ file PackFile pack ∷ []
+files_of (Play graph pack scenario turns) = file GraphFile graph ∷ file PackFile pack ∷ file ScenarioFile scenario ∷ []
+files_of (Node pack name) = file PackFile pack ∷ []
+files_of (Trial number) = []
+files_of (Live pack name stream) = file PackFile pack ∷ []
+files_of (Hyper pairs) = part_files pairs
+files_of (Tune graph) = file GraphFile graph ∷ []
+files_of (Audit graph pack log) = file GraphFile graph ∷ file PackFile pack ∷ file LogFile log ∷ []
+
+-- the most bytes that a file may have
+abbrev pub limit_of : Kind → ℕ
+limit_of GraphFile = GRAPH_LIMIT
+limit_of PartFile = GRAPH_LIMIT
+limit_of PackFile = PACK_LIMIT
+limit_of ScenarioFile = SCENARIO_LIMIT
+limit_of LogFile = LOG_LIMIT
+
+-- and how it is refused where it gives more
+abbrev pub long_of : Kind → Refusal
+long_of GraphFile = LongGraph
+long_of PartFile = LongGraph
+long_of PackFile = LongPack
+long_of ScenarioFile = LongScenario
+long_of LogFile = LongLog

@@ -1,0 +1,9 @@
+-- What a log stops a run with.
+use Rattle.cpg_log.specs.declared.fault.LogFault.{LogFault}
+use Rattle.cpg_refusal.specs.declared.halt.Refusal.TheVariants.{BadLog}
+use Rattle.cpg_refusal.specs.declared.halt.Halt.{Halt}
+use Rattle.cpg_refusal.specs.declared.halt.Halt.TheVariants.{Refused, Memory}
+
+abbrev pub halt_of_log : LogFault → Halt
+halt_of_log (LogFault.Bad line) = Refused (BadLog line)
+halt_of_log LogFault.OutOfMemory = Memory

@@ -1,0 +1,66 @@
+-- What a run has read: its files one after another, each fetched once, in the order of the words. A history is that of a shelf:
+-- its fetches, the newest first.
+use Rattle.std.specs.Prelude.{◌≡◌, ◌<◌, ◌≤◌, ◌+◌, ◌⊎◌, true, false, List, [], ◌∷◌, Option, length}
+use Rattle.cpg_base.specs.Graph.{Graph}
+use Rattle.cpg_tale.specs.Fetch.{Fetch}
+use Rattle.cpg_refusal.specs.declared.halt.Halt.{Halt}
+use Rattle.cpg_refusal.specs.declared.halt.Halt.TheVariants.{Read, Refused, Memory}
+use Rattle.cpg_inputs.specs.Files.{File, limit_of, long_of}
+use Rattle.cpg_inputs.specs.Says.{Value, graph_after, Says, Refuses}
+
+-- a fetch is of the file, and gave at most a byte more than its limit
+pub record IsFetchOf (file : File) (fetch : Fetch) : Type 0 where
+  pub named : fetch.name ≡ file.name
+  pub few : length fetch.given ≤ limit_of file.kind + 1
+
+-- it gave the whole of it, within its limit
+pub record IsWhole (file : File) (fetch : Fetch) : Type 0 where
+  pub named : fetch.name ≡ file.name
+  pub ended : fetch.ended ≡ true
+  pub sound : fetch.failed ≡ false
+  pub short : length fetch.given ≤ limit_of file.kind
+
+-- and its bytes say a value
+pub record IsRead (g : Option Graph) (file : File) (fetch : Fetch) (value : Value) : Type 0 where
+  pub whole : IsWhole file fetch
+  pub says : Says g file.kind fetch.given value
+
+-- the shelf met a fault as the file was fetched or read
+pub record IsUnread (file : File) (fetch : Fetch) (halt : Halt) : Type 0 where
+  pub of : IsFetchOf file fetch
+  pub failed : fetch.failed ≡ true
+  pub halt_is : halt ≡ Read
+
+-- it gave more bytes than the limit
+pub record IsLong (file : File) (fetch : Fetch) (halt : Halt) : Type 0 where
+  pub of : IsFetchOf file fetch
+  pub sound : fetch.failed ≡ false
+  pub over : limit_of file.kind < length fetch.given
+  pub halt_is : halt ≡ Refused (long_of file.kind)
+
+-- it was read whole, and is refused for its bytes
+pub record IsRefused (g : Option Graph) (file : File) (fetch : Fetch) (halt : Halt) : Type 0 where
+  pub whole : IsWhole file fetch
+  pub refuses : Refuses g file.kind fetch.given halt
+
+-- memory was wanting
+pub record IsWanting (file : File) (fetch : Fetch) (halt : Halt) : Type 0 where
+  pub of : IsFetchOf file fetch
+  pub halt_is : halt ≡ Memory
+
+-- a file stops a run
+abbrev pub StopsAt : Option Graph → File → Fetch → Halt → Type 0
+StopsAt g file fetch halt = IsUnread file fetch halt ⊎ (IsLong file fetch halt ⊎ (IsRefused g file fetch halt ⊎ IsWanting file fetch halt))
+
+-- all files were read, in order, and say these values; nothing else was fetched
+abbrev pub Reads : Option Graph → List File → List Fetch → List Fetch → List Value → Type 0
+Reads g [] past now [] = now ≡ past
+Reads g [] past now (value ∷ values) = ⊥
+Reads g (file ∷ files) past now [] = ⊥
+Reads g (file ∷ files) past now (value ∷ values) = (fetch : Fetch) × IsRead g file fetch value × Reads (graph_after g value) files (fetch ∷ past) now values
+
+-- the first file that isn't read stops a run: every earlier one was, and none was fetched after it
+abbrev pub StopsReading : Option Graph → List File → List Fetch → List Fetch → Halt → Type 0
+StopsReading g [] past now halt = ⊥
+StopsReading g (file ∷ files) past now halt = (fetch : Fetch)
+    × ((StopsAt g file fetch halt × (now ≡ fetch ∷ past)) ⊎ ((value : Value) × IsRead g file fetch value × StopsReading (graph_after g value) files (fetch ∷ past) now halt))

@@ -1,0 +1,116 @@
+-- What the bytes of a file say, by its kind, and why they are refused.
+use Rattle.std.specs.Prelude.{ℕ, ◌≡◌, ◌⊎◌, Option, Some, None, Ok, Err}
+use Rattle.cpg_base.specs.Graph.{Graph}
+use Rattle.cpg_words.specs.Parts.{Text}
+use Rattle.cpg_reader.specs.declared.place.ReadFault.{ReadFault}
+use Rattle.cpg_reader.specs.Document.{problem_of}
+use Rattle.cpg_rules.specs.Admission.{Admission, IsAdmitted}
+use Rattle.cpg_rules.specs.declared.admission.RuleFault.{RuleFault}
+use Rattle.cpg_rules.specs.Faults.{ShowsFault}
+use Rattle.cpg_table.specs.Lawful.{Tables}
+use Rattle.cpg_codec.specs.Packs.{AreLawful, IsBadPack}
+use Rattle.cpg_codec.specs.Spelling.{spelling}
+use Rattle.cpg_log.specs.Lines.{lines}
+use Rattle.cpg_log.specs.Log.{Log, IsLog}
+use Rattle.cpg_log.specs.Reading.{IsBadLine, IsLogOf}
+use Rattle.cpg_scenario.specs.File.{IsPlayed, file_of}
+use Rattle.cpg_scenario.specs.declared.fault.ScenarioFault.{ScenarioFault}
+use Rattle.cpg_scenario.specs.declared.reading.Played.{Played}
+use Rattle.cpg_refusal.specs.declared.halt.Refusal.TheVariants.{BadPack, BadLog}
+use Rattle.cpg_refusal.specs.declared.halt.Halt.{Halt}
+use Rattle.cpg_refusal.specs.declared.halt.Halt.TheVariants.{Refused}
+use Rattle.cpg_refusal.specs.Halts.{halt_of_reading, halt_of_rules, halt_of_scenario}
+use Rattle.cpg_inputs.specs.declared.kind.Kind.{Kind}
+use Rattle.cpg_inputs.specs.declared.kind.Kind.TheVariants.{GraphFile, PartFile, PackFile, ScenarioFile, LogFile}
+
+-- what a file says
+pub data Value : Type 0 where
+  graph_value : Admission → Value
+  part_value : Graph → Value
+  tables_value : Tables → Value
+  played_value : Played → Value
+  log_value : Log → Value
+
+-- the graph that the files after it are of
+abbrev pub graph_after : Option Graph → Value → Option Graph
+graph_after g (graph_value a) = Some a.graph
+graph_after g (part_value h) = g
+graph_after g (tables_value t) = g
+graph_after g (played_value p) = g
+graph_after g (log_value l) = g
+
+-- the bytes say a graph that keeps all rules, with its urgency order and its guards
+pub record AreAdmitted (bytes : Text) (a : Admission) : Type 0 where
+  pub says : problem_of bytes ≡ Ok a.graph
+  pub admitted : IsAdmitted a.graph a.order a.guards
+
+-- they spell tables
+pub record AreSpelled (bytes : Text) (t : Tables) : Type 0 where
+  pub spelled : bytes ≡ spelling t
+  pub lawful : AreLawful t
+
+-- they say a scenario of the graph, and lengths of executions
+pub record ArePlayed (bytes : Text) (g : Graph) (p : Played) : Type 0 where
+  pub says : file_of g bytes ≡ Ok p
+  pub lawful : IsPlayed g p
+
+-- they are a log of the graph
+pub record AreLogged (bytes : Text) (g : Graph) (log : Log) : Type 0 where
+  pub says : IsLogOf g bytes log
+  pub lawful : IsLog g log
+
+-- a file of this kind, behind a graph if one was read, says a value by its bytes
+abbrev pub Says : Option Graph → Kind → Text → Value → Type 0
+Says g GraphFile bytes value = (a : Admission) × (value ≡ graph_value a) × AreAdmitted bytes a
+Says g PartFile bytes value = (h : Graph) × (value ≡ part_value h) × (problem_of bytes ≡ Ok h)
+Says g PackFile bytes value = (t : Tables) × (value ≡ tables_value t) × AreSpelled bytes t
+Says (Some g) ScenarioFile bytes value = (p : Played) × (value ≡ played_value p) × ArePlayed bytes g p
+Says (Some g) LogFile bytes value = (l : Log) × (value ≡ log_value l) × AreLogged bytes g l
+Says None ScenarioFile bytes value = ⊥
+Says None LogFile bytes value = ⊥
+
+-- the bytes are those of no graph, and this is the first refusal of them
+pub record AreFaulty (bytes : Text) (halt : Halt) : Type 0 where
+  pub fault : ReadFault
+  pub first : problem_of bytes ≡ Err fault
+  pub halt_is : halt ≡ halt_of_reading fault
+
+-- the graph breaks a rule, the first that it breaks
+pub record BreaksRule (g : Graph) (halt : Halt) : Type 0 where
+  pub fault : RuleFault
+  pub shows : ShowsFault g fault
+  pub halt_is : halt ≡ halt_of_rules g fault
+
+-- they say a graph that isn't admitted
+pub record AreOfNone (bytes : Text) (halt : Halt) : Type 0 where
+  pub graph : Graph
+  pub says : problem_of bytes ≡ Ok graph
+  pub breaks : BreaksRule graph halt
+
+-- they are no pack, from this place on
+pub record AreNoPack (bytes : Text) (halt : Halt) : Type 0 where
+  pub length : ℕ
+  pub bad : IsBadPack bytes length
+  pub halt_is : halt ≡ Refused (BadPack length)
+
+-- they say no scenario of the graph, and this is the first cause
+pub record AreNoScenario (bytes : Text) (g : Graph) (halt : Halt) : Type 0 where
+  pub fault : ScenarioFault
+  pub first : file_of g bytes ≡ Err fault
+  pub halt_is : halt ≡ halt_of_scenario fault
+
+-- they are no log of the graph, and this is the first line that makes them none
+pub record AreNoLog (bytes : Text) (g : Graph) (halt : Halt) : Type 0 where
+  pub line : ℕ
+  pub bad : IsBadLine g (lines bytes) line
+  pub halt_is : halt ≡ Refused (BadLog line)
+
+-- a file of this kind is refused for its bytes
+abbrev pub Refuses : Option Graph → Kind → Text → Halt → Type 0
+Refuses g GraphFile bytes halt = AreFaulty bytes halt ⊎ AreOfNone bytes halt
+Refuses g PartFile bytes halt = AreFaulty bytes halt
+Refuses g PackFile bytes halt = AreNoPack bytes halt
+Refuses (Some g) ScenarioFile bytes halt = AreNoScenario bytes g halt
+Refuses (Some g) LogFile bytes halt = AreNoLog bytes g halt
+Refuses None ScenarioFile bytes halt = ⊥
+Refuses None LogFile bytes halt = ⊥

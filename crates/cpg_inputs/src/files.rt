@@ -1,0 +1,140 @@
+//! One file: its bytes, and what they say by its kind.
+ghost use Rattle.std.specs.Prelude.{◌≡◌, IfErr, IfOk, None, Option, Some};
+ghost use Rattle.cpg_base.specs.Graph.{Graph};
+ghost use Rattle.cpg_io.specs.Shelf.{SameLeave};
+ghost use Rattle.cpg_inputs.specs.declared.kind.Kind.TheVariants.{GraphFile, LogFile, PackFile, PartFile, ScenarioFile};
+ghost use Rattle.cpg_inputs.specs.Files.{file};
+ghost use Rattle.cpg_inputs.specs.Says.{graph_value, log_value, part_value, played_value, tables_value, AreAdmitted};
+ghost use Rattle.cpg_inputs.specs.Steps.{Gives, GivesNone, KeepsShelf, ReadsNext, RefusesGraph, StopsNext};
+
+use crate::halt::halt_of_log;
+use crate::kind::Kind;
+use cpg_base::Problem;
+use cpg_codec::read_pack;
+use cpg_io::{ReadAll, Shelf, read_all};
+use cpg_log::{Log, read_log};
+use cpg_reader::read_problem;
+use cpg_refusal::Halt;
+use cpg_rules::{Admitted, admit};
+use cpg_scenario::{Played, read_scenario};
+use cpg_table::Tables;
+use std::alloc::Global;
+
+/// Reads a file whole.
+fn read_file<S: Shelf>(
+    alloc: Global,
+    shelf: &mut S,
+    kind: Kind,
+    name: &str,
+) -> Result<Vec<u8>, Halt>
+    requires { S.may_fetch shelf.old name.now }
+    ensures keeps { KeepsShelf (S.state shelf.old) (S.state shelf.new) }
+    ensures leave { SameLeave (S.may_fetch shelf.old) (S.may_fetch shelf.new) }
+    ensures bytes { IfOk result (λ bytes. Gives (file kind name.now) (S.state shelf.old).history (S.state shelf.new).history bytes.items) }
+    ensures halt { IfErr result (GivesNone (file kind name.now) (S.state shelf.old).history (S.state shelf.new).history) }
+{
+    match read_all(alloc, shelf, name, kind.limit()) {
+        Ok(bytes) => Ok(bytes),
+        Err(ReadAll::Failed) => Err(Halt::Read),
+        Err(ReadAll::TooLong) => Err(Halt::Refused(kind.long())),
+        Err(ReadAll::OutOfMemory) => Err(Halt::Memory),
+    }
+}
+
+/// Reads the graph of a part. It isn't admitted.
+pub fn read_part<S: Shelf>(alloc: Global, shelf: &mut S, name: &str) -> Result<Problem, Halt>
+    requires { S.may_fetch shelf.old name.now }
+    ensures keeps { KeepsShelf (S.state shelf.old) (S.state shelf.new) }
+    ensures leave { SameLeave (S.may_fetch shelf.old) (S.may_fetch shelf.new) }
+    ensures graph { IfOk result (λ graph. ReadsNext None (file PartFile name.now) (S.state shelf.old).history (S.state shelf.new).history (part_value graph)) }
+    ensures halt { IfErr result (StopsNext None (file PartFile name.now) (S.state shelf.old).history (S.state shelf.new).history) }
+{
+    let bytes = read_file(alloc, shelf, Kind::PartFile, name)?;
+    match read_problem(alloc, bytes.as_slice()) {
+        Ok(problem) => Ok(problem),
+        Err(fault) => Err(Halt::of_reading(fault)),
+    }
+}
+
+/// The graph that bytes say, admitted.
+fn admitted_graph(alloc: Global, bytes: &[u8]) -> Result<Admitted, Halt>
+    ensures graph { IfOk result (AreAdmitted bytes.now) }
+    ensures halt { IfErr result (RefusesGraph bytes.now) }
+{
+    let problem = match read_problem(alloc, bytes) {
+        Ok(problem) => problem,
+        Err(fault) => return Err(Halt::of_reading(fault)),
+    };
+    match admit(alloc, problem) {
+        Ok(admitted) => Ok(admitted),
+        Err(refused) => Err(Halt::of_rules(refused)),
+    }
+}
+
+/// Reads a graph and admits it.
+pub fn read_graph<S: Shelf>(alloc: Global, shelf: &mut S, name: &str) -> Result<Admitted, Halt>
+    requires { S.may_fetch shelf.old name.now }
+    ensures keeps { KeepsShelf (S.state shelf.old) (S.state shelf.new) }
+    ensures leave { SameLeave (S.may_fetch shelf.old) (S.may_fetch shelf.new) }
+    ensures graph { IfOk result (λ admitted. ReadsNext None (file GraphFile name.now) (S.state shelf.old).history (S.state shelf.new).history (graph_value admitted)) }
+    ensures halt { IfErr result (StopsNext None (file GraphFile name.now) (S.state shelf.old).history (S.state shelf.new).history) }
+{
+    let bytes = read_file(alloc, shelf, Kind::GraphFile, name)?;
+    let admitted = admitted_graph(alloc, bytes.as_slice())?;
+    Ok(admitted)
+}
+
+/// Reads the tables of a pack.
+pub fn read_tables<S: Shelf>(alloc: Global, shelf: &mut S, name: &str) -> Result<Tables, Halt>
+    requires { S.may_fetch shelf.old name.now }
+    ensures keeps { KeepsShelf (S.state shelf.old) (S.state shelf.new) }
+    ensures leave { SameLeave (S.may_fetch shelf.old) (S.may_fetch shelf.new) }
+    ensures tables { (g : Option Graph) → IfOk result (λ tables. ReadsNext g (file PackFile name.now) (S.state shelf.old).history (S.state shelf.new).history (tables_value tables)) }
+    ensures halt { (g : Option Graph) → IfErr result (StopsNext g (file PackFile name.now) (S.state shelf.old).history (S.state shelf.new).history) }
+{
+    let bytes = read_file(alloc, shelf, Kind::PackFile, name)?;
+    match read_pack(alloc, bytes.as_slice()) {
+        Ok(tables) => Ok(tables),
+        Err(fault) => Err(Halt::of_pack(fault)),
+    }
+}
+
+/// Reads a scenario file of a graph.
+pub fn read_played<S: Shelf>(
+    alloc: Global,
+    shelf: &mut S,
+    name: &str,
+    problem: &Problem,
+) -> Result<Played, Halt>
+    requires { S.may_fetch shelf.old name.now }
+    ensures keeps { KeepsShelf (S.state shelf.old) (S.state shelf.new) }
+    ensures leave { SameLeave (S.may_fetch shelf.old) (S.may_fetch shelf.new) }
+    ensures played { IfOk result (λ played. ReadsNext (Some problem.now) (file ScenarioFile name.now) (S.state shelf.old).history (S.state shelf.new).history (played_value played)) }
+    ensures halt { IfErr result (StopsNext (Some problem.now) (file ScenarioFile name.now) (S.state shelf.old).history (S.state shelf.new).history) }
+{
+    let bytes = read_file(alloc, shelf, Kind::ScenarioFile, name)?;
+    match read_scenario(alloc, problem, bytes.as_slice()) {
+        Ok(played) => Ok(played),
+        Err(fault) => Err(Halt::of_scenario(fault)),
+    }
+}
+
+/// Reads a log of a graph.
+pub fn read_acts<S: Shelf>(
+    alloc: Global,
+    shelf: &mut S,
+    name: &str,
+    problem: &Problem,
+) -> Result<Log, Halt>
+    requires { S.may_fetch shelf.old name.now }
+    ensures keeps { KeepsShelf (S.state shelf.old) (S.state shelf.new) }
+    ensures leave { SameLeave (S.may_fetch shelf.old) (S.may_fetch shelf.new) }
+    ensures log { IfOk result (λ log. ReadsNext (Some problem.now) (file LogFile name.now) (S.state shelf.old).history (S.state shelf.new).history (log_value log)) }
+    ensures halt { IfErr result (StopsNext (Some problem.now) (file LogFile name.now) (S.state shelf.old).history (S.state shelf.new).history) }
+{
+    let bytes = read_file(alloc, shelf, Kind::LogFile, name)?;
+    match read_log(alloc, problem, bytes.as_slice()) {
+        Ok(log) => Ok(log),
+        Err(fault) => Err(halt_of_log(fault)),
+    }
+}

@@ -1,0 +1,68 @@
+//! Kinds of files.
+ghost use Rattle.std.specs.Prelude.{◌≡◌};
+ghost use Rattle.cpg_inputs.specs.Files.{limit_of, long_of};
+
+use cpg_refusal::Refusal;
+
+/// The most bytes of a graph file.
+const GRAPH_LIMIT: usize = 16_777_216;
+
+/// The most bytes of a scenario file.
+const SCENARIO_LIMIT: usize = 16_777_216;
+
+/// The most bytes of a log.
+const LOG_LIMIT: usize = 16_777_216;
+
+/// The most bytes of a pack.
+const PACK_LIMIT: usize = 268_435_456;
+
+/// What a file is read as.
+#[derive(Clone, Copy, Debug, PartialEq, Eq)]
+pub enum Kind {
+    /// A graph, which is admitted.
+    GraphFile,
+    /// A graph that is a part of one of several periods. It isn't admitted.
+    PartFile,
+    /// A pack: the tables of all nodes.
+    PackFile,
+    /// What happens in a play of the graph that was read before.
+    ScenarioFile,
+    /// What the nodes of the graph that was read before did.
+    LogFile,
+}
+
+impl Kind {
+    /// The most bytes of such a file.
+    pub fn limit(self) -> usize
+        ensures { result ≡ limit_of self }
+    {
+        match self {
+            Kind::GraphFile => GRAPH_LIMIT,
+            Kind::PartFile => GRAPH_LIMIT,
+            Kind::PackFile => PACK_LIMIT,
+            Kind::ScenarioFile => SCENARIO_LIMIT,
+            Kind::LogFile => LOG_LIMIT,
+        }
+    }
+
+    /// How one of more bytes is refused.
+    pub fn long(self) -> Refusal
+        ensures { result ≡ long_of self }
+    {
+        match self {
+            Kind::GraphFile => Refusal::LongGraph,
+            Kind::PartFile => Refusal::LongGraph,
+            Kind::PackFile => Refusal::LongPack,
+            Kind::ScenarioFile => Refusal::LongScenario,
+            Kind::LogFile => Refusal::LongLog,
+        }
+    }
+}
+
+/// The limits of files, in bytes.
+pub fn limits_are_these()
+    ensures graph { GRAPH_LIMIT ≡ 16777216 }
+    ensures scenario { SCENARIO_LIMIT ≡ 16777216 }
+    ensures log { LOG_LIMIT ≡ 16777216 }
+    ensures pack { PACK_LIMIT ≡ 268435456 }
+{}

@@ -1,0 +1,42 @@
+//! The parts of a graph of several periods.
+ghost use Rattle.std.specs.Prelude.{◌≡◌, ◌<◌, ◌≤◌, length};
+
+use cpg_hyper::Part;
+use std::marker::Model;
+
+/// One to four parts, in the order of the words. Their graphs aren't admitted.
+#[derive(Drop)]
+pub struct Parts {
+    parts: Vec<Part>,
+}
+
+impl Model for Parts {
+    ghost use Rattle.std.specs.Prelude.{List, length, ◌<◌, ◌≤◌};
+    ghost use Rattle.cpg_hyper.specs.declared.part.Part.{Part};
+
+    ghost Value = { List Part };
+
+    ghost view = { λ p. p.parts.items };
+
+    ghost invariant = { λ p. (0 < length p.parts.items) × (length p.parts.items ≤ 4) };
+}
+
+impl Parts {
+    /// Takes one to four parts.
+    pub(crate) fn new(parts: Vec<Part>) -> Parts
+        requires some { 0 < length parts.items }
+        requires few { length parts.items ≤ 4 }
+        ensures { result ≡ parts.items }
+    {
+        Parts { parts }
+    }
+
+    /// The parts.
+    pub fn as_slice(&self) -> &[Part]
+        ensures parts { result.now ≡ self.now }
+        ensures some { 0 < length self.now }
+        ensures few { length self.now ≤ 4 }
+    {
+        self.parts.as_slice()
+    }
+}
