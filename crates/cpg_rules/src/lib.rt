@@ -1,4 +1,4 @@
-//! Which graphs are admitted.
+//! Guards of processes, the rules of graphs, and which graphs are admitted.
 #![tactic(auto)]
 
 ghost use Rattle.cpg_rules.specs.Faults.{AdmittedShowNoFault};
