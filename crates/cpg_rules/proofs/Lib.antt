@@ -12,4 +12,5 @@ pub mod EdgeGuards
 pub mod Below
 pub mod Made
 pub mod Searched
+pub mod Rested
 pub mod Outcome

@@ -7,6 +7,7 @@ pub mod TreeView
 pub mod TreeFalls
 pub mod TreeTop
 pub mod Steps
+pub mod Rested
 pub mod Growing
 pub mod Way
 pub mod Guards

@@ -11,7 +11,7 @@ ghost use Rattle.cpg_rules.specs.Guards.{AreGuardsOf, tree_of, active_by, live_b
 use crate::GuardTree;
 use crate::edges::{EdgeGuard, edge_guards};
 use crate::growing::{grown, tracks};
-use crate::steps::steps_of;
+use crate::steps::{Aim, rested, steps_of};
 use cpg_base::{Order, OutOfMemory, Problem, Scenario};
 use std::alloc::{AllocError, AllocFailed, Global};
 use std::marker::Model;
@@ -73,7 +73,8 @@ pub fn guards(alloc: Global, problem: &Problem, order: &Order) -> Result<GuardTr
 {
     let count = problem.processes().len();
     let steps = steps_of(alloc, problem, order)?;
-    if tracks(steps.as_slice(), [None; 128], MOST_TRACKS + 1) > MOST_TRACKS {
+    let choosing = rested(alloc, Aim::Conditions, steps.as_slice())?;
+    if tracks(choosing.as_slice(), [None; 128], MOST_TRACKS + 1) > MOST_TRACKS {
         return Err(GuardFault::TooManyTracks);
     }
     let trees = grown(alloc, count, steps.as_slice(), [None; 128])?;
