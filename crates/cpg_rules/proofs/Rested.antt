@@ -1,5 +1,5 @@
 -- A walk along the steps that it rests on finds what a walk along all steps finds.
-use Rattle.std.proofs.Common.{ℕ, zero, suc, ◌+◌, ◌<◌, ◌≤◌, ◌≡◌, ◌≢◌, Bool, true, false, ◌&&◌, ◌||◌, ◌==◌, if◌then◌else◌, List, [], ◌∷◌, All, length, get_or, set, map, filter, drop, replicate, Option, Some, None, is_some, arith, refl, sym, ap, ap₂, ◌∙◌, subst, inl, inr, eq-eqb, get_or-set_other, get_or-set_same, length-set}
+use Rattle.std.proofs.Common.{ℕ, zero, suc, ◌+◌, ◌<◌, ◌≤◌, ◌≡◌, Bool, true, false, ◌&&◌, ◌||◌, ◌==◌, if◌then◌else◌, List, [], ◌∷◌, All, length, get_or, set, map, filter, drop, replicate, Option, Some, None, is_some, arith, refl, sym, ap, ap₂, ◌∙◌, subst, inl, inr, eq-eqb, get_or-set_other, get_or-set_same, length-set}
 use Rattle.std.specs.Bool.{nat_lt}
 use Rattle.std.specs.Prelude.{count_by}
 use Rattle.std.specs.List.{list_any, list_all}
@@ -17,10 +17,10 @@ use Rattle.cpg_rules.specs.declared.steps.Input.{Input}
 use Rattle.cpg_rules.specs.declared.steps.Aim.{Aim}
 use Rattle.cpg_rules.specs.declared.steps.Aim.TheVariants.{Process, Conditions}
 use Rattle.cpg_rules.specs.Steps.{Step, step_of}
-use Rattle.cpg_rules.specs.Rested.{is_aim, reads, are_reading, is_rested, rested}
+use Rattle.cpg_rules.specs.Rested.{reads, are_reading, is_rested, rested}
 use Rattle.cpg_rules.specs.Growing.{is_taken, is_live_in, first_live, activation_from, activation_in, standing, settled, choice, if_both, tracks_from}
 use Rattle.cpg_rules.specs.Alternatives.{are_two_live, first_some, if_other, found_from, is_set, scenario_of, has_two_live}
-use Rattle.cpg_rules.proofs.Merging.{all_parts}
+use Rattle.cpg_rules.proofs.Parts.{all_parts}
 use Rattle.cpg_rules.proofs.Along.{rest_first, rest_more}
 use Rattle.cpg_rules.proofs.Searched.{search_none, search_some}
 

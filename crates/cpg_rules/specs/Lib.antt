@@ -9,6 +9,7 @@ pub mod TreeTop
 pub mod Steps
 pub mod Rested
 pub mod Growing
+pub mod Composing
 pub mod Way
 pub mod Guards
 pub mod Laws

@@ -98,6 +98,20 @@ impl Step {
         self.condition
     }
 
+    /// Whether it is a join.
+    pub fn is_join(&self) -> bool
+        ensures { result ≡ self.now.join }
+    {
+        self.join
+    }
+
+    /// Its inputs, by edge number.
+    pub fn inputs(&self) -> &[Input]
+        ensures { result.now ≡ self.now.inputs }
+    {
+        self.inputs.as_slice()
+    }
+
     /// Whether an input comes from a process.
     fn reads(&self, process: u32) -> bool
         ensures { result ≡ reads process self.now }

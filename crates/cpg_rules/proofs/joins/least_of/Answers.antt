@@ -3,7 +3,7 @@ use Rattle.cpg_base.specs.Scenario.{IsLeast}
 use Rattle.cpg_rules.specs.declared.steps.Aim.TheVariants.{Process}
 use Rattle.cpg_rules.specs.Alternatives.{found_from, has_two_live}
 use Rattle.cpg_rules.specs.Rested.{rested}
-use Rattle.cpg_rules.specs.Steps.{IsStepBelow, step_of}
+use Rattle.cpg_rules.specs.Steps.{IsStepBelow}
 use Rattle.cpg_rules.proofs.Below.{steps_below}
 use Rattle.cpg_rules.proofs.Rested.{all_rested, rested_none, rested_some}
 use Rattle.cpg_rules.proofs.joins.least_of.Goals as goal

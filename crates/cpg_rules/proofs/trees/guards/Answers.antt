@@ -1,6 +1,7 @@
 use Rattle.std.proofs.Common.{ℕ, ◌≡◌, ◌∙◌, ap, arith, length, List, None, map, replicate, min}
 use Rattle.cpg_base.specs.Graph.{process_count}
-use Rattle.cpg_order.specs.Guard.{Guard}
+use Rattle.cpg_base.specs.declared.activation.Activation.TheVariants.{Inactive}
+use Rattle.cpg_order.specs.Guard.{Guard, Leaf}
 use Rattle.cpg_base.proofs.Places.{length_order}
 use Rattle.cpg_rules.specs.declared.edges.EdgeGuard.{EdgeGuard}
 use Rattle.cpg_rules.specs.declared.steps.Aim.TheVariants.{Conditions}
@@ -35,8 +36,11 @@ returns-then-tracks-gt-MOST_TRACKS-clause-many c = λ e.
     let over = c.if-tracks-gt-MOST_TRACKS.true in
     omega arith
 
-pub grown-requires-clause-steps : goal.grown-requires-clause-steps
-grown-requires-clause-steps c = rw (c.as_slice-3.ensures.value, c.in_ok-steps.ensures, c.processes-count.ensures.processes) (steps_below c.args.problem.now c.args.order.now c.requires (process_count c.args.problem.now) (omega arith))
+pub ranks_of-requires : goal.ranks_of-requires
+ranks_of-requires c = let long = length_order (process_count c.args.problem.now) c.args.order.now c.requires.all in omega (arith, long)
+
+pub composed_along-requires-clause-steps : goal.composed_along-requires-clause-steps
+composed_along-requires-clause-steps c = rw (c.as_slice-4.ensures.value, c.in_ok-steps.ensures) (steps_below c.args.problem.now c.args.order.now c.requires (process_count c.args.problem.now) (omega arith))
 
 -- the guards that are made
 abbrev made_guards : (conditions : ℕ) (trees : List Guard) (edges : List EdgeGuard) → Guards
@@ -44,13 +48,15 @@ made_guards conditions trees edges = record { conditions = conditions; trees = t
 
 pub invariant_of-result : goal.invariant_of-result
 invariant_of-result c = guards_below c.args.problem.now c.args.order.now c.requires (made_guards c.conditions.result c.in_ok-trees.trees.items c.in_ok-edges.edges.items)
-    (made c.args.problem.now c.args.order.now c.requires c.processes-count.ensures.within.few_processes (length c.processes-count.result.now) (ap length c.processes-count.ensures.processes)
-    c.as_slice-3.result.now (c.as_slice-3.ensures.value ∙ c.in_ok-steps.ensures) (made_guards c.conditions.result c.in_ok-trees.trees.items c.in_ok-edges.edges.items) c.conditions.ensures.count c.in_ok-trees.ensures c.in_ok-edges.ensures)
+    (made c.args.problem.now c.args.order.now c.requires c.as_slice-3.result.now (c.as_slice-3.ensures.value ∙ c.in_ok-ranks.ensures)
+    c.as_slice-4.result.now (c.as_slice-4.ensures.value ∙ c.in_ok-steps.ensures) c.in_ok-seeds.seeds.items
+    (c.in_ok-seeds.ensures ∙ ap (λ n. replicate n (Leaf Inactive)) (ap length c.processes-count.ensures.processes)) (made_guards c.conditions.result c.in_ok-trees.trees.items c.in_ok-edges.edges.items) c.conditions.ensures.count c.in_ok-trees.ensures c.in_ok-edges.ensures)
 
 pub returns-clause-guards : goal.returns-clause-guards
 returns-clause-guards c =
-    made c.args.problem.now c.args.order.now c.requires c.processes-count.ensures.within.few_processes (length c.processes-count.result.now) (ap length c.processes-count.ensures.processes)
-    c.as_slice-3.result.now (c.as_slice-3.ensures.value ∙ c.in_ok-steps.ensures) (made_guards c.conditions.result c.in_ok-trees.trees.items c.in_ok-edges.edges.items) c.conditions.ensures.count c.in_ok-trees.ensures c.in_ok-edges.ensures
+    made c.args.problem.now c.args.order.now c.requires c.as_slice-3.result.now (c.as_slice-3.ensures.value ∙ c.in_ok-ranks.ensures)
+    c.as_slice-4.result.now (c.as_slice-4.ensures.value ∙ c.in_ok-steps.ensures) c.in_ok-seeds.seeds.items
+    (c.in_ok-seeds.ensures ∙ ap (λ n. replicate n (Leaf Inactive)) (ap length c.processes-count.ensures.processes)) (made_guards c.conditions.result c.in_ok-trees.trees.items c.in_ok-edges.edges.items) c.conditions.ensures.count c.in_ok-trees.ensures c.in_ok-edges.ensures
 
 pub returns-clause-few : goal.returns-clause-few
 returns-clause-few c =
