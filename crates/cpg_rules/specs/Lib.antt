@@ -7,7 +7,9 @@ pub mod TreeView
 pub mod TreeFalls
 pub mod TreeTop
 pub mod Steps
+pub mod Rested
 pub mod Growing
+pub mod Composing
 pub mod Way
 pub mod Guards
 pub mod Laws

@@ -8,7 +8,7 @@ ghost use Rattle.cpg_rules.specs.Steps.{IsStepBelow, step_of};
 ghost use Rattle.cpg_rules.specs.Alternatives.{AreAlternatives, IsSingleJoin, has_two_live, found_from, is_set, scenario_of};
 
 use crate::growing::{choice, settled};
-use crate::steps::{Standings, Step, steps_of};
+use crate::steps::{Aim, Standings, Step, rested, steps_of};
 use cpg_base::{Order, OutOfMemory, Problem, Scenario};
 use std::alloc::Global;
 
@@ -88,7 +88,8 @@ fn least_of(
     if !problem.processes()[process as usize].join {
         return Ok(None);
     }
-    match found_from(process, steps, [None; 128]) {
+    let steps = rested(alloc, Aim::Process(process), steps)?;
+    match found_from(process, steps.as_slice(), [None; 128]) {
         None => Ok(None),
         Some(standings) => {
             let least = scenario_of(alloc, problem, &standings)?;

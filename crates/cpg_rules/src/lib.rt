@@ -4,6 +4,7 @@
 ghost use Rattle.cpg_rules.specs.Faults.{AdmittedShowNoFault};
 
 mod admission;
+mod composing;
 mod edges;
 mod growing;
 mod joins;
