@@ -1,6 +1,6 @@
 use Rattle.std.proofs.Common.{map, take}
 use Rattle.cpg_tree.specs.Spots.{KeepsMatches, places_of}
-use Rattle.cpg_tree.proofs.places.parted.Given as goal
+use Rattle.cpg_tree.proofs.places.parted_in.Given as goal
 
 abbrev pub invariant-loop-spot : goal.invariant-loop-spot
 invariant-loop-spot l = record {
