@@ -13,6 +13,10 @@ pub mod GrownLines
 pub mod Leads
 pub mod NextPlace
 pub mod FrozenFound
+pub mod LatestFound
+pub mod LatestStart
+pub mod LatestSend
+pub mod StartTold
 pub mod UnfrozenStart
 pub mod Begun
 pub mod GrownNext

@@ -19,12 +19,12 @@ use Rattle.cpg_expand.proofs.SendingNext.{chosen_told, all_sent}
 
 -- a process that begins and then sends all that it sends is gone over
 pub stepped : (g : Graph) (urgency : List ℕ) (guards : Guards) → IsAdmitted g urgency guards → (p : ℕ) → p < process_count g → (old mid new : ForestState) (before between after : List (Option ℕ)) (chooser : TreeState Bool) →
-    IsBegun g urgency p (tree_of guards p) old mid before between chooser → HasTrees g mid → AreItemsAdded g urgency chooser (queue_of g p) mid new between after → IsGrownBy g p before old after new
+    IsBegun g p (tree_of guards p) old mid before between chooser → HasTrees g mid → AreItemsAdded g chooser (queue_of g p) mid new between after → IsGrownBy g p before old after new
 stepped g urgency guards a p l old mid new before between after chooser begun trees added = λ order topological grown.
     let is_guard = a.guards.trees p l in
     let sending : IsSending g order p 0 between mid = begun_sends g urgency guards a order topological p l (tree_of guards p) is_guard old mid before between chooser grown trees begun in
     sent_grown g order topological p l after new
-    (all_sent g a.limits order topological urgency p l (a.limits.processes p _ l).node chooser (chosen_told g urgency a.urgency a.topological p (tree_of guards p) is_guard chooser begun.actives) mid new between after sending added)
+    (all_sent g a.limits order topological p l (a.limits.processes p _ l).node chooser (chosen_told g urgency a.urgency a.topological p (tree_of guards p) is_guard chooser begun.actives) mid new between after sending added)
 
 module _ (g : Graph) (order : List ℕ) (topological : IsTopological g order) where
   -- the process at a place is gone over

@@ -7,6 +7,7 @@ pub mod Later
 pub mod Ending
 pub mod Waiting
 pub mod Freezing
+pub mod Latest
 pub mod Sending
 pub mod MadeRows
 pub mod Told

@@ -2,17 +2,20 @@
 ghost use Rattle.std.specs.Prelude.{◌≡◌, ◌<◌, IfOk, length, slice_set};
 ghost use Rattle.cpg_base.specs.Graph.{item_count, process_count};
 ghost use Rattle.cpg_bus.specs.Plan.{plan_of};
-ghost use Rattle.cpg_expand.specs.Begun.{IsBegun};
-ghost use Rattle.cpg_expand.specs.Forest.{HasTrees};
+ghost use Rattle.cpg_expand.specs.Begun.{IsBegun, IsBegunFrozen, IsBegunThawed};
+ghost use Rattle.cpg_expand.specs.Agreeing.{IsTree};
+ghost use Rattle.cpg_expand.specs.Ending.{IsEndTree, IsReadyAfter, IsReadyTree, goes_on};
+ghost use Rattle.cpg_expand.specs.Forest.{HasTrees, IsWait, ready_by};
 ghost use Rattle.cpg_expand.specs.Grown.{IsGrownBy};
 ghost use Rattle.cpg_rules.specs.Guards.{tree_of};
 
 use crate::ending::{end, ready};
 use crate::forest::{Forest, Ready};
 use crate::guarded::active;
+use crate::latest::latest_start;
 use crate::sending::send;
-use crate::starting::{fixed_if, unfrozen_start, wait_for, waiting};
-use cpg_base::OutOfMemory;
+use crate::starting::{freeze, unfrozen_start, wait_for, waiting};
+use cpg_base::{OutOfMemory, Problem};
 use cpg_bus::Plan;
 use cpg_rules::Admitted;
 use cpg_run::Frozen;
@@ -38,6 +41,98 @@ fn put_begun(
     forest.ready[node as usize] = ready;
 }
 
+/// The ends of a process, and when its node goes on after it.
+#[derive(Drop)]
+struct EndAndReady {
+    end: Tree<Option<u64>>,
+    ready: Ready,
+}
+
+/// What follows of the starts of a process.
+fn follow(
+    alloc: Global,
+    problem: &Problem,
+    forest: &Forest,
+    active: &Tree<bool>,
+    start: &Tree<Option<u64>>,
+    wait: &Ready,
+    process: u32,
+) -> Result<EndAndReady, OutOfMemory>
+    requires process { process < process_count problem.now }
+    requires forest { HasTrees problem.now forest.now }
+    requires active { IsTree problem.now active.now }
+    requires start { IsTree problem.now start.now }
+    requires wait { IsWait problem.now wait.now }
+    ensures tree { IfOk result (λ e. IsTree problem.now e.end) }
+    ensures end { IfOk result (λ e. IsEndTree problem.now process start.now e.end) }
+    ensures of { IfOk result (λ e. IsReadyAfter problem.now process e.ready) }
+    ensures ready { IfOk result (λ e. IsReadyTree problem.now.faults active.now e.end (ready_by problem.now forest.now wait.now) (goes_on e.end e.ready)) }
+{
+    let end = end(alloc, problem, start, process)?;
+    let ready = ready(problem, forest, active, &end, wait, process)?;
+    Ok(EndAndReady { end, ready })
+}
+
+/// Adds the start and the end of a process that isn't frozen, and when its node goes on after it. Shows where it is active.
+fn begin_thawed(
+    alloc: Global,
+    admitted: &Admitted,
+    plan: &Plan,
+    forest: &mut Forest,
+    process: u32,
+) -> Result<Tree<bool>, OutOfMemory>
+    requires plan { plan.now ≡ plan_of admitted.now.graph }
+    requires process { process < process_count admitted.now.graph }
+    requires forest { HasTrees admitted.now.graph forest.old }
+    ensures trees { IfOk result (λ active. HasTrees admitted.now.graph forest.new) }
+    ensures begun { IfOk result (IsBegunThawed admitted.now.graph process (tree_of admitted.now.guards process) forest.old forest.new) }
+{
+    let problem = admitted.problem();
+    let guard = admitted.guards().guard_of(process);
+    let node = problem.node_of(process);
+    let inputs = plan.inputs(problem, process);
+    let active = active(alloc, problem, guard)?;
+    let heard = waiting(alloc, problem, forest, node, guard)?;
+    let wait = wait_for(problem, forest, node, &heard);
+    let start = unfrozen_start(alloc, problem, forest, wait, inputs, guard, process)?;
+    let next = follow(alloc, problem, forest, &active, &start, wait, process)?;
+    put_begun(forest, process, start, next.end, node, next.ready);
+    Ok(active)
+}
+
+/// Adds the start and the end of a frozen process, its frozen time, and when its node goes on after it. Shows where it is
+/// active.
+fn begin_frozen(
+    alloc: Global,
+    admitted: &Admitted,
+    plan: &Plan,
+    frozen: &mut Frozen,
+    forest: &mut Forest,
+    process: u32,
+) -> Result<Tree<bool>, OutOfMemory>
+    requires plan { plan.now ≡ plan_of admitted.now.graph }
+    requires process { process < process_count admitted.now.graph }
+    requires frozen { length frozen.old ≡ item_count admitted.now.graph }
+    requires forest { HasTrees admitted.now.graph forest.old }
+    ensures trees { IfOk result (λ active. HasTrees admitted.now.graph forest.new) }
+    ensures count { IfOk result (λ active. length frozen.new ≡ item_count admitted.now.graph) }
+    ensures begun { IfOk result (IsBegunFrozen admitted.now.graph process (tree_of admitted.now.guards process) forest.old forest.new frozen.old frozen.new) }
+{
+    let problem = admitted.problem();
+    let guard = admitted.guards().guard_of(process);
+    let node = problem.node_of(process);
+    let inputs = plan.inputs(problem, process);
+    let release = problem.release(process);
+    let active = active(alloc, problem, guard)?;
+    let heard = waiting(alloc, problem, forest, node, guard)?;
+    let wait = wait_for(problem, forest, node, &heard);
+    let latest = latest_start(problem, forest, wait, release, inputs, &active)?;
+    let start = freeze(problem, frozen, process, &active, latest)?;
+    let next = follow(alloc, problem, forest, &active, &start, wait, process)?;
+    put_begun(forest, process, start, next.end, node, next.ready);
+    Ok(active)
+}
+
 /// Adds the start and the end of a process, its frozen time, and when its node goes on after it. Shows where it is active.
 fn begin(
     alloc: Global,
@@ -53,27 +148,13 @@ fn begin(
     requires forest { HasTrees admitted.now.graph forest.old }
     ensures trees { IfOk result (λ active. HasTrees admitted.now.graph forest.new) }
     ensures count { IfOk result (λ active. length frozen.new ≡ item_count admitted.now.graph) }
-    ensures begun { IfOk result (IsBegun admitted.now.graph admitted.now.order process (tree_of admitted.now.guards process) forest.old forest.new frozen.old frozen.new) }
+    ensures begun { IfOk result (IsBegun admitted.now.graph process (tree_of admitted.now.guards process) forest.old forest.new frozen.old frozen.new) }
 {
-    let problem = admitted.problem();
-    let guard = admitted.guards().guard_of(process);
-    let node = problem.node_of(process);
-    let inputs = plan.inputs(problem, process);
-    let active = active(alloc, problem, guard)?;
-    let heard = waiting(alloc, problem, forest, node, guard)?;
-    let wait = wait_for(problem, forest, node, &heard);
-    let unfrozen = unfrozen_start(alloc, problem, forest, wait, inputs, guard, process)?;
-    let start = fixed_if(
-        problem,
-        admitted.order(),
-        frozen,
-        process,
-        &active,
-        unfrozen,
-    )?;
-    let end = end(alloc, problem, &start, process)?;
-    let ready = ready(problem, forest, &active, &end, wait, process)?;
-    put_begun(forest, process, start, end, node, ready);
+    if admitted.problem().is_frozen(process) {
+        let active = begin_frozen(alloc, admitted, plan, frozen, forest, process)?;
+        return Ok(active);
+    }
+    let active = begin_thawed(alloc, admitted, plan, forest, process)?;
     Ok(active)
 }
 

@@ -10,6 +10,7 @@ mod expanding;
 mod forest;
 mod growing;
 mod guarded;
+mod latest;
 mod measuring;
 mod rows;
 mod sending;

@@ -17,3 +17,4 @@ pub mod OnePath
 pub mod Most
 pub mod Gathered
 pub mod SliceLaws
+pub mod Meetings

@@ -101,7 +101,7 @@ module _ (test : ℕ → Bool) where
 
 -- ---- the variables of a graph
 
-variable_from : (g : Graph) (v : ℕ) → is_variable g v ≡ true → IsVariable g v
+pub variable_from : (g : Graph) (v : ℕ) → is_variable g v ≡ true → IsVariable g v
 variable_from g v h = elim (or_cases (nat_lt v (process_count g)) (nat_le 128 v && nat_lt v (value_variable (condition_count g))) h) [
   | inl l ↦ inl (ltb-true v (process_count g) l)
   | inr b ↦ let parts = and_parts (nat_le 128 v) (nat_lt v (value_variable (condition_count g))) b in inr (leb-true 128 v parts.0, ltb-true v (value_variable (condition_count g)) parts.1)

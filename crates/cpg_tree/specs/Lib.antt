@@ -11,3 +11,4 @@ pub mod Later
 pub mod Places
 pub mod Spots
 pub mod Slices
+pub mod Meeting

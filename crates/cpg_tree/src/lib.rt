@@ -5,6 +5,7 @@ mod columns;
 mod gathering;
 mod greater;
 mod greatest;
+mod meeting;
 mod node;
 mod places;
 mod reading;
