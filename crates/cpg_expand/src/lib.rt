@@ -5,6 +5,7 @@
 
 mod activity;
 mod along;
+mod descent;
 mod ending;
 mod expanding;
 mod forest;

@@ -1,6 +1,7 @@
 pub mod Spaces
 pub mod Forks
 pub mod Greatness
+pub mod BoundLaws
 pub mod Fits
 pub mod PathLaws
 pub mod Publics

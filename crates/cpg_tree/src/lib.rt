@@ -1,6 +1,7 @@
 //! Trees of values by scenarios.
 #![tactic(auto)]
 
+mod bounds;
 mod columns;
 mod gathering;
 mod greater;

@@ -4,31 +4,31 @@ use Rattle.cpg_tree.specs.declared.node.Node.{Node}
 use Rattle.cpg_tree.specs.Space.{Space, Lies}
 use Rattle.cpg_tree.specs.Decision.{value_at, low_at, high_at, DoForksPass}
 use Rattle.cpg_tree.specs.Results.{IsJoinOf, IsFillOf, IsForkOf, IsWithin}
-use Rattle.cpg_tree.specs.Greater.{IsAtLeast}
 use Rattle.cpg_tree.proofs.Spaces.{lies_reopened}
-use Rattle.cpg_tree.proofs.Forks.{two_below_of, two_above_of, two_fork_of, two_leaf_of, of_answer, from_false, from_true, passes_parts}
+use Rattle.cpg_tree.proofs.Forks.{two_below_of, two_above_of, two_fork_of, two_leaf_of, of_answer, from_false, passes_parts}
+use Rattle.cpg_tree.proofs.BoundLaws.{at_least_by}
 use Rattle.cpg_tree.proofs.Greatness.{first_greater, second_greater, greater_whole}
-use Rattle.cpg_tree.proofs.greater.Node+u64.+greater_of.Goals as goal
+use Rattle.cpg_tree.proofs.greater.Node+u64.+greater_by.Goals as goal
 
 pub returns-then-is_at_least-clause-made : goal.returns-then-is_at_least-clause-made
 returns-then-is_at_least-clause-made g t c =
     let room : Space = c.args.space.now in
     let number : g.row.U.Denot → ℕ = g.R.Reading.number c.args.read.now in
     let a : Node ℕ = c.args.self.now in
-    let b : Node g.row.U.Denot = c.part-other.result.now in
-    of_answer c.within.result (IsWithin room a) (IsJoinOf (λ (x : ℕ) (y : g.row.U.Denot) (z : ℕ). z ≡ max x (number y)) room a c.args.other.now) c.within.ensures.made
-    (λ r made. greater_whole number room a c.args.other.now r b c.part-other.ensures.same
-    (first_greater number room a b r (from_true {P = IsAtLeast (λ (x : ℕ). x) number a b} c.is_at_least.result c.if-is_at_least.true c.is_at_least.ensures.all) made))
+    let b : Node g.row.U.Denot = c.part-other.result.node.now in
+    of_answer c.within.result (IsWithin room a) (IsJoinOf (λ (x : ℕ) (y : g.row.U.Denot) (z : ℕ). z ≡ max x (number y)) room a c.args.other.node.now) c.within.ensures.made
+    (λ r made. greater_whole number room a c.args.other.node.now r b c.part-other.ensures.same
+    (first_greater number room a b r (at_least_by (λ (x : ℕ). x) number a b c.span-own.result c.span-others.result c.is_at_least.result c.span-own.ensures c.span-others.ensures c.is_at_least.ensures c.if-is_at_least.true) made))
 
 pub returns-then-is_at_least-2-clause-made : goal.returns-then-is_at_least-2-clause-made
 returns-then-is_at_least-2-clause-made g t c =
     let room : Space = c.args.space.now in
     let number : g.row.U.Denot → ℕ = g.R.Reading.number c.args.read.now in
     let a : Node ℕ = c.args.self.now in
-    let b : Node g.row.U.Denot = c.part-other.result.now in
-    of_answer c.at_least.result (IsFillOf (λ (x : ℕ) (y : g.row.U.Denot) (z : ℕ). z ≡ max x (number y)) room 0 b) (IsJoinOf (λ (x : ℕ) (y : g.row.U.Denot) (z : ℕ). z ≡ max x (number y)) room a c.args.other.now) c.at_least.ensures.made
-    (λ r made. greater_whole number room a c.args.other.now r b c.part-other.ensures.same
-    (second_greater number room a b r (from_true {P = IsAtLeast number (λ (x : ℕ). x) b a} c.is_at_least-2.result c.if-is_at_least-2.true c.is_at_least-2.ensures.all) made))
+    let b : Node g.row.U.Denot = c.part-other.result.node.now in
+    of_answer c.at_least.result (IsFillOf (λ (x : ℕ) (y : g.row.U.Denot) (z : ℕ). z ≡ max x (number y)) room 0 b) (IsJoinOf (λ (x : ℕ) (y : g.row.U.Denot) (z : ℕ). z ≡ max x (number y)) room a c.args.other.node.now) c.at_least.ensures.made
+    (λ r made. greater_whole number room a c.args.other.node.now r b c.part-other.ensures.same
+    (second_greater number room a b r (at_least_by number (λ (x : ℕ). x) b a c.span-others.result c.span-own.result c.is_at_least-2.result c.span-others.ensures c.span-own.ensures c.is_at_least-2.ensures c.if-is_at_least-2.true) made))
 
 pub returns-then-is_at_least-2-clause-pass : goal.returns-then-is_at_least-2-clause-pass
 returns-then-is_at_least-2-clause-pass g t c =
@@ -40,9 +40,9 @@ returns-in-Leaf-clause-made g t c =
     let room : Space = c.args.space.now in
     let number : g.row.U.Denot → ℕ = g.R.Reading.number c.args.read.now in
     let a : Node ℕ = c.args.self.now in
-    let b : Node g.row.U.Denot = c.part-other.result.now in
-    of_answer c.at_least-in-Leaf.result (IsFillOf (λ (x : ℕ) (y : g.row.U.Denot) (z : ℕ). z ≡ max x (number y)) room c.in-Leaf.value b) (IsJoinOf (λ (x : ℕ) (y : g.row.U.Denot) (z : ℕ). z ≡ max x (number y)) room a c.args.other.now) c.at_least-in-Leaf.ensures.made
-    (λ r made. greater_whole number room a c.args.other.now r b c.part-other.ensures.same
+    let b : Node g.row.U.Denot = c.part-other.result.node.now in
+    of_answer c.at_least-in-Leaf.result (IsFillOf (λ (x : ℕ) (y : g.row.U.Denot) (z : ℕ). z ≡ max x (number y)) room c.in-Leaf.value b) (IsJoinOf (λ (x : ℕ) (y : g.row.U.Denot) (z : ℕ). z ≡ max x (number y)) room a c.args.other.node.now) c.at_least-in-Leaf.ensures.made
+    (λ r made. greater_whole number room a c.args.other.node.now r b c.part-other.ensures.same
     (two_leaf_of (λ s x z. z ≡ max x (number (value_at b s))) (λ s x v. low_at b s v) (λ k s x v. high_at k b s v) (Lies room) c.in-Leaf.value a c.in-Leaf.is r made))
 
 pub returns-in-Leaf-clause-pass : goal.returns-in-Leaf-clause-pass
@@ -55,16 +55,16 @@ returns-then-not-is_open_below-clause-made g t c =
     let room : Space = c.args.space.now in
     let number : g.row.U.Denot → ℕ = g.R.Reading.number c.args.read.now in
     let a : Node ℕ = c.args.self.now in
-    let b : Node g.row.U.Denot = c.part-other.result.now in
-    of_answer c.greater_of.result (IsJoinOf (λ (x : ℕ) (y : g.row.U.Denot) (z : ℕ). z ≡ max x (number y)) room c.in-Fork.above.value b) (IsJoinOf (λ (x : ℕ) (y : g.row.U.Denot) (z : ℕ). z ≡ max x (number y)) room a c.args.other.now)
-    (subst (λ (n : Node ℕ). IfOk c.greater_of.result (IsJoinOf (λ (x : ℕ) (y : g.row.U.Denot) (z : ℕ). z ≡ max x (number y)) room n b)) c.deref.ensures c.greater_of.ensures.made)
-    (λ r made. greater_whole number room a c.args.other.now r b c.part-other.ensures.same
+    let b : Node g.row.U.Denot = c.part-other.result.node.now in
+    of_answer c.greater_by.result (IsJoinOf (λ (x : ℕ) (y : g.row.U.Denot) (z : ℕ). z ≡ max x (number y)) room c.in-Fork.above.value b) (IsJoinOf (λ (x : ℕ) (y : g.row.U.Denot) (z : ℕ). z ≡ max x (number y)) room a c.args.other.node.now)
+    (subst (λ (n : Node ℕ). IfOk c.greater_by.result (IsJoinOf (λ (x : ℕ) (y : g.row.U.Denot) (z : ℕ). z ≡ max x (number y)) room n b)) c.deref.ensures c.greater_by.ensures.made)
+    (λ r made. greater_whole number room a c.args.other.node.now r b c.part-other.ensures.same
     (two_above_of (λ s x z. z ≡ max x (number (value_at b s))) (λ s x v. low_at b s v) (λ k s x v. high_at k b s v) (Lies room) c.in-Fork.variable c.in-Fork.cut c.in-Fork.below.value c.in-Fork.above.value a c.in-Fork.is r made
     (from_false c.is_open_below.result c.if-not-is_open_below.true c.is_open_below.ensures.none)))
 
 pub returns-then-not-is_open_below-clause-pass : goal.returns-then-not-is_open_below-clause-pass
 returns-then-not-is_open_below-clause-pass g t c =
-    of_answer c.greater_of.result _ _ c.greater_of.ensures.pass
+    of_answer c.greater_by.result _ _ c.greater_by.ensures.pass
     (λ r over test first second.
     let parts = passes_parts test c.in-Fork.variable c.in-Fork.cut c.in-Fork.below.value c.in-Fork.above.value c.args.self.now c.in-Fork.is first in
     over test (subst (λ (n : Node ℕ). DoForksPass test n) (sym c.deref.ensures) parts.2) (c.part-other.ensures.pass test second))
@@ -74,16 +74,16 @@ returns-then-not-is_open_above-clause-made g t c =
     let room : Space = c.args.space.now in
     let number : g.row.U.Denot → ℕ = g.R.Reading.number c.args.read.now in
     let a : Node ℕ = c.args.self.now in
-    let b : Node g.row.U.Denot = c.part-other.result.now in
-    of_answer c.greater_of-then-not-is_open_above.result (IsJoinOf (λ (x : ℕ) (y : g.row.U.Denot) (z : ℕ). z ≡ max x (number y)) room c.in-Fork.below.value b) (IsJoinOf (λ (x : ℕ) (y : g.row.U.Denot) (z : ℕ). z ≡ max x (number y)) room a c.args.other.now)
-    (subst (λ (n : Node ℕ). IfOk c.greater_of-then-not-is_open_above.result (IsJoinOf (λ (x : ℕ) (y : g.row.U.Denot) (z : ℕ). z ≡ max x (number y)) room n b)) c.deref-then-not-is_open_above.ensures c.greater_of-then-not-is_open_above.ensures.made)
-    (λ r made. greater_whole number room a c.args.other.now r b c.part-other.ensures.same
+    let b : Node g.row.U.Denot = c.part-other.result.node.now in
+    of_answer c.greater_by-then-not-is_open_above.result (IsJoinOf (λ (x : ℕ) (y : g.row.U.Denot) (z : ℕ). z ≡ max x (number y)) room c.in-Fork.below.value b) (IsJoinOf (λ (x : ℕ) (y : g.row.U.Denot) (z : ℕ). z ≡ max x (number y)) room a c.args.other.node.now)
+    (subst (λ (n : Node ℕ). IfOk c.greater_by-then-not-is_open_above.result (IsJoinOf (λ (x : ℕ) (y : g.row.U.Denot) (z : ℕ). z ≡ max x (number y)) room n b)) c.deref-then-not-is_open_above.ensures c.greater_by-then-not-is_open_above.ensures.made)
+    (λ r made. greater_whole number room a c.args.other.node.now r b c.part-other.ensures.same
     (two_below_of (λ s x z. z ≡ max x (number (value_at b s))) (λ s x v. low_at b s v) (λ k s x v. high_at k b s v) (Lies room) c.in-Fork.variable c.in-Fork.cut c.in-Fork.below.value c.in-Fork.above.value a c.in-Fork.is r made
     (from_false c.is_open_above.result c.if-not-is_open_above.true c.is_open_above.ensures.none)))
 
 pub returns-then-not-is_open_above-clause-pass : goal.returns-then-not-is_open_above-clause-pass
 returns-then-not-is_open_above-clause-pass g t c =
-    of_answer c.greater_of-then-not-is_open_above.result _ _ c.greater_of-then-not-is_open_above.ensures.pass
+    of_answer c.greater_by-then-not-is_open_above.result _ _ c.greater_by-then-not-is_open_above.ensures.pass
     (λ r over test first second.
     let parts = passes_parts test c.in-Fork.variable c.in-Fork.cut c.in-Fork.below.value c.in-Fork.above.value c.args.self.now c.in-Fork.is first in
     over test (subst (λ (n : Node ℕ). DoForksPass test n) (sym c.deref-then-not-is_open_above.ensures) parts.1) (c.part-other.ensures.pass test second))
@@ -93,14 +93,14 @@ returns-in_ok-high-in-Fork-clause-made g t c =
     let room : Space = c.args.space.now in
     let number : g.row.U.Denot → ℕ = g.R.Reading.number c.args.read.now in
     let a : Node ℕ = c.args.self.now in
-    let b : Node g.row.U.Denot = c.part-other.result.now in
-    of_answer c.fork.result (IsForkOf c.in-Fork.variable c.in-Fork.cut c.in_ok-low-in-Fork.low c.in_ok-high-in-Fork.high) (IsJoinOf (λ (x : ℕ) (y : g.row.U.Denot) (z : ℕ). z ≡ max x (number y)) room a c.args.other.now) c.fork.ensures.made
-    (λ r fork. greater_whole number room a c.args.other.now r b c.part-other.ensures.same
+    let b : Node g.row.U.Denot = c.part-other.result.node.now in
+    of_answer c.fork.result (IsForkOf c.in-Fork.variable c.in-Fork.cut c.in_ok-low-in-Fork.low c.in_ok-high-in-Fork.high) (IsJoinOf (λ (x : ℕ) (y : g.row.U.Denot) (z : ℕ). z ≡ max x (number y)) room a c.args.other.node.now) c.fork.ensures.made
+    (λ r fork. greater_whole number room a c.args.other.node.now r b c.part-other.ensures.same
     (two_fork_of (λ s x z. z ≡ max x (number (value_at b s))) (λ s x v. low_at b s v) (λ k s x v. high_at k b s v) (Lies room) c.in-Fork.variable c.in-Fork.cut c.in-Fork.below.value c.in-Fork.above.value a c.in-Fork.is r (Lies c.close_above-most.new.self) (Lies c.close_below-least.new.self) c.in_ok-low-in-Fork.low c.in_ok-high-in-Fork.high
     (subst (λ (n : Node ℕ). IsJoinOf (λ (x : ℕ) (y : g.row.U.Denot) (z : ℕ). z ≡ max x (number y)) c.close_above-most.new.self n b c.in_ok-low-in-Fork.low) c.deref-in-Fork.ensures c.in_ok-low-in-Fork.ensures.made)
     (subst (λ (n : Node ℕ). IsJoinOf (λ (x : ℕ) (y : g.row.U.Denot) (z : ℕ). z ≡ max x (number y)) c.close_below-least.new.self n b c.in_ok-high-in-Fork.high) c.deref-in-Fork-2.ensures c.in_ok-high-in-Fork.ensures.made)
     fork c.close_above-most.ensures.lies
-    (lies_reopened room c.close_above-most.new.self c.greater_of-in-Fork.new.space c.reopen_above.new.self c.close_below-least.new.self c.in-Fork.variable c.close_above-most.result c.in-Fork.cut c.close_above-most.ensures.back c.in_ok-low-in-Fork.ensures.back c.reopen_above.ensures c.close_below-least.ensures.lies)))
+    (lies_reopened room c.close_above-most.new.self c.greater_by-in-Fork.new.space c.reopen_above.new.self c.close_below-least.new.self c.in-Fork.variable c.close_above-most.result c.in-Fork.cut c.close_above-most.ensures.back c.in_ok-low-in-Fork.ensures.back c.reopen_above.ensures c.close_below-least.ensures.lies)))
 
 pub returns-in_ok-high-in-Fork-clause-pass : goal.returns-in_ok-high-in-Fork-clause-pass
 returns-in_ok-high-in-Fork-clause-pass g t c =
