@@ -1,14 +1,14 @@
 -- The fewest faults of numbers that no cube of a list matches: by one cube, by steps of a variable, and by parts without common variables.
-use Rattle.std.proofs.Common.{ℕ, zero, suc, ◌+◌, ◌-◌, ◌<◌, ◌≤◌, ◌≡◌, ◌≢◌, min, max, Bool, true, false, cond, ◌&&◌, ◌||◌, ◌==◌, List, [], ◌∷◌, ◌++◌, length, get_or, take, sum_by, arith, refl, sym, ap, ap₂, ◌∙◌, ⊎_elim, le-leb, leb-true, eq-eqb, ne_eqb}
+use Rattle.std.proofs.Common.{slice_set, ℕ, zero, suc, ◌+◌, ◌-◌, ◌<◌, ◌≤◌, ◌≡◌, ◌≢◌, min, max, Bool, true, false, cond, ◌&&◌, ◌||◌, ◌==◌, List, [], ◌∷◌, ◌++◌, length, get_or, take, sum_by, arith, refl, sym, ap, ap₂, ◌∙◌, ⊎_elim, le-leb, leb-true, eq-eqb, ne_eqb}
 use Rattle.std.specs.Prelude.{nat_le}
 use Rattle.std.specs.List.{list_all, list_any, insert}
 use Rattle.std.proofs.Math.Bool.{or-false, and-true}
 use Rattle.std.proofs.lemmas.Bool.{cases_Bool, cases_eq, cases_lt, cond-true, cond-false, both_ways, and_parts, and_from, or_left, or_right, or_cases, false_from_ne_true}
 use Rattle.std.proofs.lemmas.List.{take_more}
-use Rattle.std.proofs.lemmas.List.Elements.{All-head, All-tail}
+use Rattle.std.proofs.lemmas.List.Elements.{All-head, All-tail, Contains-get_or}
 use Rattle.std.proofs.lemmas.List.Folds.{list_all-append, list_any-append}
 use Rattle.cpg_base.specs.Numbers.{numbers_below, same_bool}
-use Rattle.cpg_base.proofs.Lists.{Contains-numbers}
+use Rattle.cpg_base.proofs.Lists.{from_any_false, Contains-numbers}
 use Rattle.cpg_base.proofs.Sums.{same_sum_by, sum_by-le_each, sum_by-add, le-sum_by, sum_changed}
 use Rattle.cpg_cube.specs.Cube.{Literal}
 use Rattle.cpg_cube.specs.Fewest.{holds_at, matches_at, is_any_at, AreValues, Needs, NeedsOutside, NeedsWithout, after, IsStep, AreMarked}
@@ -230,3 +230,75 @@ needs_by cubes part r k f count e n values t = f count e n values (false_from_ne
 
 pub same_literal : (a b : Literal) → a.variable ≡ b.variable → a.low ≡ b.low → a.high ≡ b.high → a ≡ b
 same_literal a b v l h = ap (λ x. let r : Literal = record { variable = x; low = a.low; high = a.high } in r) v ∙ ap₂ (λ x y. let r : Literal = record { variable = b.variable; low = x; high = y } in r) l h
+
+-- ---- cubes without common variables
+
+-- the faults of the marked variables are as many at least
+abbrev pub NeedsOfMarked : List (List Literal) → List Bool → ℕ → Type 0
+NeedsOfMarked cubes marks r = (count : ℕ) → count ≡ 128 → (n : ℕ → ℕ) → AreValues n → is_any_at n cubes ≡ false → r ≤ sum_by (kept_at marks true n) (numbers_below count)
+
+-- the numbers of variables that are marked later and weren't before
+abbrev new_at : List Bool → List Bool → (ℕ → ℕ) → ℕ → ℕ
+new_at marks later n v = cond (same_bool (get_or later v false) true && same_bool (get_or marks v false) false) (n v) 0
+
+same_new_at : (marks later : List Bool) (n : ℕ → ℕ) (ls : List Literal) → list_all (λ l. same_bool (get_or marks l.variable false) false) ls ≡ true → list_all (λ l. same_bool (get_or later l.variable false) true) ls ≡ true → matches_at (new_at marks later n) ls ≡ matches_at n ls
+same_new_at marks later n [] t u = refl
+same_new_at marks later n (l ∷ ls) t u =
+    let r = and_parts (same_bool (get_or marks l.variable false) false) (list_all (λ m. same_bool (get_or marks m.variable false) false) ls) t in
+    let q = and_parts (same_bool (get_or later l.variable false) true) (list_all (λ m. same_bool (get_or later m.variable false) true) ls) u in
+    ap₂ ◌&&◌ (ap (λ x. nat_le l.low x && nat_le x l.high) (cond-true (same_bool (get_or later l.variable false) true && same_bool (get_or marks l.variable false) false) (n l.variable) 0 (and_from _ _ q.0 r.0))) (same_new_at marks later n ls r.1 q.1)
+
+both_marks : (m k : Bool) (x : ℕ) → (m ≡ true → k ≡ true) → cond (same_bool m true) x 0 + cond (same_bool k true && same_bool m false) x 0 ≤ cond (same_bool k true) x 0
+both_marks true true x h = omega arith
+both_marks true false x h = cc (h refl)
+both_marks false true x h = omega arith
+both_marks false false x h = omega arith
+
+pub marked_more : (cubes : List (List Literal)) (c : List Literal) (marks later : List Bool) (a b r : ℕ) → NeedsOfMarked cubes marks a → ((n : ℕ → ℕ) → is_any_at n cubes ≡ false → matches_at n c ≡ false) → NeedsOutside c b
+    → list_all (λ l. same_bool (get_or marks l.variable false) false) c ≡ true → ((v : ℕ) → get_or marks v false ≡ true → get_or later v false ≡ true) → list_all (λ l. same_bool (get_or later l.variable false) true) c ≡ true → r ≤ a + b
+    → NeedsOfMarked cubes later r
+marked_more cubes c marks later a b r f one g t h u l count e n values off =
+    let x = f count e n values off in
+    let y = g count e (new_at marks later n) (same_new_at marks later n c t u ∙ one n off) in
+    let z = sum_by-add (kept_at marks true n) (new_at marks later n) (numbers_below count) in
+    let w = sum_by-le_each (λ v. kept_at marks true n v + new_at marks later n v) (kept_at later true n) (numbers_below count) (λ v k. both_marks (get_or marks v false) (get_or later v false) (n v) (h v)) in
+    omega arith
+
+pub marked_all : (cubes : List (List Literal)) (marks : List Bool) (r : ℕ) → NeedsOfMarked cubes marks r → Needs cubes r
+marked_all cubes marks r f count e n values off =
+    let x = f count e n values off in
+    let w = sum_by-le_each (kept_at marks true n) n (numbers_below count) (λ v k. one (same_bool (get_or marks v false) true) (n v)) in
+    omega arith
+  where
+    one : (b : Bool) (x : ℕ) → cond b x 0 ≤ x
+    one true x = omega arith
+    one false x = omega arith
+
+pub one_is_off : (cubes : List (List Literal)) (i : ℕ) (d : List Literal) → i < length cubes → (n : ℕ → ℕ) → is_any_at n cubes ≡ false → matches_at n (get_or cubes i d) ≡ false
+one_is_off cubes i d h n off = from_any_false (matches_at n) cubes (get_or cubes i d) off (Contains-get_or cubes i d h)
+
+pub still_marked : (marks : List Bool) (i v : ℕ) → get_or marks v false ≡ true → get_or (slice_set marks i true) v false ≡ true
+still_marked [] i v t = cc
+still_marked (m ∷ ms) zero zero t = refl
+still_marked (m ∷ ms) zero (suc v) t = t
+still_marked (m ∷ ms) (suc i) zero t = t
+still_marked (m ∷ ms) (suc i) (suc v) t = still_marked ms i v t
+
+pub now_marked : (marks : List Bool) (i : ℕ) → i < length marks → get_or (slice_set marks i true) i false ≡ true
+now_marked [] i h = absurd (omega arith)
+now_marked (m ∷ ms) zero h = refl
+now_marked (m ∷ ms) (suc i) h = now_marked ms i (omega arith)
+
+pub all_still_marked : (marks later : List Bool) (ls : List Literal) → ((v : ℕ) → get_or marks v false ≡ true → get_or later v false ≡ true) → list_all (λ l. same_bool (get_or marks l.variable false) true) ls ≡ true → list_all (λ l. same_bool (get_or later l.variable false) true) ls ≡ true
+all_still_marked marks later [] h t = refl
+all_still_marked marks later (l ∷ ls) h t =
+    let r = and_parts (same_bool (get_or marks l.variable false) true) (list_all (λ m. same_bool (get_or marks m.variable false) true) ls) t in
+    and_from _ _ (is_marked (get_or later l.variable false) (h l.variable (was_marked (get_or marks l.variable false) r.0))) (all_still_marked marks later ls h r.1)
+  where
+    was_marked : (b : Bool) → same_bool b true ≡ true → b ≡ true
+    was_marked true e = refl
+    was_marked false e = cc
+
+    is_marked : (b : Bool) → b ≡ true → same_bool b true ≡ true
+    is_marked true e = refl
+    is_marked false e = cc

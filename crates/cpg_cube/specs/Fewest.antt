@@ -56,6 +56,11 @@ rest_holds n (Asked l) = holds_at n l
 abbrev pub AreMarked : List Bool → Bool → List (List Literal) → Type 0
 AreMarked marks wanted cubes = All (λ c. list_all (λ l. same_bool (get_or marks l.variable false) wanted) c ≡ true) cubes
 
+-- the later marks have the earlier ones and those of the variables of literals
+pub record AreMore (cube : List Literal) (marks later : List Bool) : Type 0 where
+  pub kept : (v : ℕ) → get_or marks v false ≡ true → get_or later v false ≡ true
+  pub marked : list_all (λ l. same_bool (get_or later l.variable false) true) cube ≡ true
+
 -- ---- numbers beyond the lows of a cube
 
 abbrev pub beyond : List ℕ → (ℕ → ℕ) → ℕ → ℕ

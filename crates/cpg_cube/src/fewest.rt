@@ -3,7 +3,7 @@ ghost use Rattle.std.specs.Prelude.{◌≡◌, ◌≤◌, ◌<◌, ℕ, IfOk, fa
 ghost use Rattle.cpg_cube.specs.Fewest.{Needs, NeedsOutside, NeedsWithout, holds_at};
 
 use crate::memory::{Fact, Memory};
-use crate::parting::{has_apart, joined_variables, parted};
+use crate::parting::{are_all, has_apart, joined_variables, mark_all, parted};
 use crate::stepping::{Step, stepped};
 use crate::{Cube, Literal};
 use cpg_base::{FIRST_VALUE, OutOfMemory};
@@ -52,6 +52,22 @@ fn fewest_of_each(cubes: &[Cube]) -> u8
         most = most.max(fewest_of_cube(cube));
     }
     most
+}
+
+/// How many faults it takes at least that none of the cubes matches, by some without common variables.
+fn fewest_of_apart(cubes: &[Cube]) -> u8
+    ensures { Needs cubes.now result }
+{
+    let mut marks = [false; 256];
+    let mut sum = 0u8;
+    for cube in cubes {
+        let few = fewest_of_cube(cube);
+        if few > 0 && are_all(cube.literals(), &marks, false) {
+            sum = sum.saturating_add(few);
+            mark_all(cube.literals(), &mut marks);
+        }
+    }
+    sum
 }
 
 /// Whether a cube matches where all numbers are 0.
@@ -207,6 +223,10 @@ pub(crate) fn fewest(
     let alone = fewest_of_each(cubes);
     if alone > bound.room || cubes.len() == 1 {
         return Ok(alone);
+    }
+    let apart = fewest_of_apart(cubes);
+    if apart > bound.room {
+        return Ok(apart);
     }
     if bound.depth == 0 || !cubes.iter().any(matches_zero) {
         return Ok(0);

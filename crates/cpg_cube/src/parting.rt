@@ -2,14 +2,14 @@
 ghost use Rattle.std.specs.Prelude.{◌≡◌, ℕ, IfOk, false, get_or, true};
 ghost use Rattle.std.specs.List.{list_all};
 ghost use Rattle.cpg_base.specs.Numbers.{same_bool};
-ghost use Rattle.cpg_cube.specs.Fewest.{AreMarked, is_any_at};
+ghost use Rattle.cpg_cube.specs.Fewest.{AreMarked, AreMore, is_any_at};
 
 use crate::{Cube, Literal};
 use cpg_base::OutOfMemory;
 use std::alloc::Global;
 
 /// Whether all literals are on variables that are marked as wanted.
-fn are_all(literals: &[Literal], marks: &[bool; 256], wanted: bool) -> bool
+pub(crate) fn are_all(literals: &[Literal], marks: &[bool; 256], wanted: bool) -> bool
     ensures { result ≡ list_all (λ l. same_bool (get_or marks.now l.variable false) wanted) literals.now }
 {
     literals
@@ -17,7 +17,10 @@ fn are_all(literals: &[Literal], marks: &[bool; 256], wanted: bool) -> bool
         .all(|literal| marks[literal.variable as usize] == wanted)
 }
 
-fn mark_all(literals: &[Literal], marks: &mut [bool; 256]) {
+/// Marks the variables of literals.
+pub(crate) fn mark_all(literals: &[Literal], marks: &mut [bool; 256])
+    ensures { AreMore literals.now marks.old marks.new }
+{
     for literal in literals {
         marks[literal.variable as usize] = true;
     }
