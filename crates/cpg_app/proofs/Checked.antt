@@ -22,9 +22,10 @@ use Rattle.cpg_log.specs.Log.{Log}
 use Rattle.cpg_log.specs.Reading.{IsBadLine, IsLogOf}
 use Rattle.cpg_log.specs.declared.fault.LogFault.{LogFault}
 use Rattle.cpg_log.proofs.ReadingLaws.{no_bad_line}
-use Rattle.cpg_app.specs.declared.halt.Halt.{Halt}
-use Rattle.cpg_app.specs.Halts.{halt_of_pack, halt_of_log, halt_of_scenario}
-use Rattle.cpg_app.specs.Lines.{status_of}
+use Rattle.cpg_refusal.specs.declared.halt.Halt.{Halt}
+use Rattle.cpg_refusal.specs.Halts.{halt_of_pack, halt_of_scenario}
+use Rattle.cpg_app.specs.Halts.{halt_of_log}
+use Rattle.cpg_refusal.specs.Lines.{status_of}
 use Rattle.cpg_app.specs.declared.reading.TheConstants.{PACK_LIMIT, LOG_LIMIT, SCENARIO_LIMIT}
 use Rattle.cpg_app.specs.Causes.{Seen, IsAfterReading, Admits, Spells, StopsPack, StopsGraph, StopsNaming, StopsTables, StopsVerdict, StopsAudit, StopsPlay, ShowsLogFault, ShowsPackFault, first_named}
 use Rattle.cpg_app.specs.Outputs.{AreJudgedSafe, IsChecked, IsNodeOf, IsAuditOf, IsPlayOf}

@@ -18,9 +18,10 @@ use Rattle.cpg_reach.specs.Wide.{IsWide, IsNarrow}
 use Rattle.cpg_core.specs.Compiled.{IsCompiled, IsLate}
 use Rattle.cpg_core.specs.Compilation.{ShowsCompileFault}
 use Rattle.cpg_core.proofs.CompiledLaws.{not_late_and_compiled}
-use Rattle.cpg_app.specs.declared.halt.Halt.{Halt}
-use Rattle.cpg_app.specs.Halts.{halt_of_reading, halt_of_rules, halt_of_compile}
-use Rattle.cpg_app.specs.Lines.{status_of}
+use Rattle.cpg_refusal.specs.declared.halt.Halt.{Halt}
+use Rattle.cpg_refusal.specs.Halts.{halt_of_reading, halt_of_rules}
+use Rattle.cpg_app.specs.Halts.{halt_of_compile}
+use Rattle.cpg_refusal.specs.Lines.{status_of}
 use Rattle.cpg_app.specs.declared.reading.TheConstants.{GRAPH_LIMIT}
 use Rattle.cpg_app.specs.Causes.{Seen, IsAfterReading, Says, Admits, StopsReading, BreaksRule, StopsGraph, IsUncompiled, IsOutOfMemory}
 use Rattle.cpg_app.specs.Outputs.{IsMade}

@@ -5,7 +5,7 @@ use Rattle.cpg_io.specs.Causes.{Rose}
 use Rattle.cpg_words.specs.Parts.{Text}
 use Rattle.cpg_rules.specs.Admission.{Admission}
 use Rattle.cpg_table.specs.Lawful.{Tables}
-use Rattle.cpg_app.specs.declared.halt.Halt.{Halt}
+use Rattle.cpg_refusal.specs.declared.halt.Halt.{Halt}
 use Rattle.cpg_app.specs.Causes.{Seen, StopsPlay, StopsAudit, StopsTables}
 
 -- what follows from a value, or from an error, of an answer

@@ -7,8 +7,8 @@ use Rattle.cpg_words.specs.declared.command.Command.TheVariants.{Show, Compile, 
 use Rattle.cpg_reader.specs.declared.place.ReadFault.TheVariants.{OutOfMemory}
 use Rattle.cpg_rules.specs.Admission.{Admission}
 use Rattle.cpg_codec.specs.declared.fault.PackFault.{PackFault}
-use Rattle.cpg_app.specs.declared.halt.Halt.{Halt}
-use Rattle.cpg_app.specs.declared.halt.Halt.TheVariants.{Memory}
+use Rattle.cpg_refusal.specs.declared.halt.Halt.{Halt}
+use Rattle.cpg_refusal.specs.declared.halt.Halt.TheVariants.{Memory}
 use Rattle.cpg_app.specs.declared.reading.TheConstants.{GRAPH_LIMIT, PACK_LIMIT}
 use Rattle.cpg_app.specs.Causes.{Seen, IsAfterReading, IsOutOfMemory, StopsGraph, IsUncompiled, StopsTables, StopsVerdict, StopsPlay, Stops, StopsAsked, StopsCommand, StopsAudit}
 

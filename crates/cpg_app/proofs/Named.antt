@@ -23,10 +23,11 @@ use Rattle.cpg_rules.specs.Faults.{ShowsFault}
 use Rattle.cpg_hyper.specs.declared.part.HyperFault.{HyperFault}
 use Rattle.cpg_core.specs.declared.fault.CompileFault.{CompileFault}
 use Rattle.cpg_core.specs.Compilation.{ShowsCompileFault}
-use Rattle.cpg_app.specs.declared.halt.Halt.{Halt}
-use Rattle.cpg_app.specs.declared.halt.Halt.TheVariants.{Words, Read, Unsafe, Memory}
-use Rattle.cpg_app.specs.Halts.{halt_of_reading, halt_of_pack, halt_of_rules, halt_of_scenario, halt_of_log, halt_of_compile, halt_of_parts}
-use Rattle.cpg_app.specs.Lines.{HasLengths, IsNamed}
+use Rattle.cpg_refusal.specs.declared.halt.Halt.{Halt}
+use Rattle.cpg_refusal.specs.declared.halt.Halt.TheVariants.{Words, Read, Unsafe, Memory}
+use Rattle.cpg_refusal.specs.Halts.{halt_of_reading, halt_of_pack, halt_of_rules, halt_of_scenario, halt_of_parts}
+use Rattle.cpg_app.specs.Halts.{halt_of_log, halt_of_compile}
+use Rattle.cpg_refusal.specs.Lines.{HasLengths, IsNamed}
 use Rattle.cpg_app.specs.declared.reading.TheConstants.{GRAPH_LIMIT, PACK_LIMIT}
 use Rattle.cpg_app.specs.Causes.{Seen, IsAfterReading, StopsReading, BreaksRule, StopsGraph, IsUncompiled, IsOutOfMemory, StopsTables, StopsNaming, StopsVerdict, StopsPlay, StopsParts, StopsCommand, StopsAsked, Stops, StopsAudit}
 

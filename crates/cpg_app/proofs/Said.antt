@@ -6,7 +6,7 @@ use Rattle.cpg_base.specs.Graph.{Graph}
 use Rattle.cpg_words.specs.Parts.{Text}
 use Rattle.cpg_words.specs.declared.command.Pair.{Pair}
 use Rattle.cpg_hyper.specs.declared.part.Part.{Part}
-use Rattle.cpg_app.specs.declared.halt.Halt.{Halt}
+use Rattle.cpg_refusal.specs.declared.halt.Halt.{Halt}
 use Rattle.cpg_app.specs.Causes.{Seen, Says, AreSaid, IsUnsaid, StopsReading}
 use Rattle.cpg_app.proofs.Later.{seen_from, rose_later}
 

@@ -14,10 +14,10 @@ use Rattle.cpg_rules.specs.Admission.{Admission}
 use Rattle.cpg_reach.specs.Wide.{IsNarrow, IsWide}
 use Rattle.cpg_core.specs.Compiled.{IsTimely, IsLate}
 use Rattle.cpg_core.proofs.CompiledLaws.{not_timely_and_late}
-use Rattle.cpg_app.specs.declared.halt.Refusal.{Refusal}
-use Rattle.cpg_app.specs.declared.halt.Halt.{Halt}
-use Rattle.cpg_app.specs.declared.halt.Halt.TheVariants.{Refused, Late, TooWide, Unsafe, Memory}
-use Rattle.cpg_app.specs.Lines.{status_of}
+use Rattle.cpg_refusal.specs.declared.halt.Refusal.{Refusal}
+use Rattle.cpg_refusal.specs.declared.halt.Halt.{Halt}
+use Rattle.cpg_refusal.specs.declared.halt.Halt.TheVariants.{Refused, Late, TooWide, Unsafe, Memory}
+use Rattle.cpg_refusal.specs.Lines.{status_of}
 use Rattle.cpg_app.specs.declared.reading.TheConstants.{GRAPH_LIMIT}
 use Rattle.cpg_app.specs.Causes.{Seen, IsAfterReading, Stops, StopsAsked, StopsGraph, IsUncompiled, first_named}
 use Rattle.cpg_app.specs.Outputs.{Prints, PrintsAsked, IsMade, shown, packed, IsFollowedOf}

@@ -16,12 +16,12 @@ use Rattle.cpg_codec.specs.Packs.{AreLawful}
 use Rattle.cpg_codec.specs.Spelling.{spelling}
 use Rattle.cpg_live.specs.declared.following.Broken.{Broken}
 use Rattle.cpg_live.specs.declared.following.StreamFault.{StreamFault}
-use Rattle.cpg_app.specs.declared.halt.Halt.TheVariants.{Read}
+use Rattle.cpg_refusal.specs.declared.halt.Halt.TheVariants.{Read}
 use Rattle.cpg_app.specs.Causes.{Seen, first_named}
 use Rattle.cpg_app.specs.Endings.{Ran, EndsInStream, Follows, IsSaid, stream_of, table_of}
 use Rattle.cpg_live.specs.Following.{Breaks}
 use Rattle.cpg_app.specs.Lawful.{AsksFor, AsksStream, AsksToJudge, IsLawful, IsRefusedStream, IsUnreadStream, status_of_end}
-use Rattle.cpg_app.specs.Lines.{line_of}
+use Rattle.cpg_refusal.specs.Lines.{line_of}
 use Rattle.cpg_app.specs.Outputs.{IsFollowedOf}
 use Rattle.cpg_live.specs.Streams.{AreBytesOf, IsClosed, IsRefused, fault_line, stream_end}
 use Rattle.cpg_app.specs.Told.{Sent, SinkSeen, Untouched}

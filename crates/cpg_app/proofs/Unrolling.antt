@@ -13,9 +13,9 @@ use Rattle.cpg_hyper.specs.declared.part.HyperFault.TheVariants.{OutOfMemory}
 use Rattle.cpg_hyper.specs.Hyperperiod.{IsHyperperiod}
 use Rattle.cpg_hyper.specs.Refusals.{Exceeds, FailsFirst, HasFewEnough, HasShortNames, HoldsOfEach, IsAlike, IsInRange, FitsPeriod, ShowsUnrolled}
 use Rattle.cpg_hyper.specs.Unrolled.{first_graph, unrolled}
-use Rattle.cpg_app.specs.declared.halt.Halt.{Halt}
-use Rattle.cpg_app.specs.Halts.{halt_of_parts}
-use Rattle.cpg_app.specs.Lines.{status_of}
+use Rattle.cpg_refusal.specs.declared.halt.Halt.{Halt}
+use Rattle.cpg_refusal.specs.Halts.{halt_of_parts}
+use Rattle.cpg_refusal.specs.Lines.{status_of}
 use Rattle.cpg_app.specs.Causes.{Seen, AreSaid, StopsParts}
 use Rattle.cpg_app.specs.Outputs.{IsUnrolledOf}
 use Rattle.cpg_app.specs.Lawful.{AreTold, TellsGraph}

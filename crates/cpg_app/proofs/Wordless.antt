@@ -6,12 +6,12 @@ use Rattle.cpg_words.specs.Forms.{command_of}
 use Rattle.cpg_words.specs.declared.command.Command.{Command}
 use Rattle.cpg_words.specs.declared.command.Command.TheVariants.{Show, Compile, Check, Play, Node, Trial, Live, Hyper, Tune, Audit}
 use Rattle.cpg_words.specs.declared.fault.WordsFault.{WordsFault}
-use Rattle.cpg_app.specs.declared.halt.Halt.TheVariants.{Words, Memory}
+use Rattle.cpg_refusal.specs.declared.halt.Halt.TheVariants.{Words, Memory}
 use Rattle.cpg_app.specs.Causes.{StopsAsked}
 use Rattle.cpg_app.specs.Endings.{Ran}
-use Rattle.cpg_app.specs.Halts.{halt_of_words}
+use Rattle.cpg_refusal.specs.Halts.{halt_of_words}
 use Rattle.cpg_app.specs.Lawful.{IsLawful}
-use Rattle.cpg_app.specs.Lines.{line_of, status_of}
+use Rattle.cpg_refusal.specs.Lines.{line_of, status_of}
 use Rattle.cpg_app.specs.Outputs.{PutsOutAtEnd}
 use Rattle.cpg_app.specs.Told.{Sent, Untouched}
 use Rattle.cpg_app.proofs.MemoryStops.{memory_stops}

@@ -3,8 +3,8 @@ use Rattle.std.proofs.Common.{ℕ, List, ◌≡◌, subst, inl, inr}
 use Rattle.std.specs.Prelude.{◌⊎◌, Err}
 use Rattle.std.proofs.lemmas.Bool.{cases_eq}
 use Rattle.cpg_codec.specs.declared.fault.WriteFault.{WriteFault}
-use Rattle.cpg_app.specs.declared.halt.Halt.{Halt}
-use Rattle.cpg_app.specs.Lines.{line_of, status_of}
+use Rattle.cpg_refusal.specs.declared.halt.Halt.{Halt}
+use Rattle.cpg_refusal.specs.Lines.{line_of, status_of}
 use Rattle.cpg_app.specs.Told.{SinkSeen, Sent, Part, Untouched, IsWritten}
 use Rattle.cpg_app.specs.Endings.{Ran, IsTold, IsMuted}
 

@@ -26,21 +26,21 @@ use Rattle.cpg_log.specs.declared.fault.LogFault.{LogFault}
 use Rattle.cpg_scenario.specs.File.{file_of}
 use Rattle.cpg_scenario.specs.declared.fault.ScenarioFault.{ScenarioFault}
 use Rattle.cpg_scenario.specs.declared.reading.Played.{Played}
-use Rattle.cpg_violation.specs.Heads.{IsHeadFor}
-use Rattle.cpg_check.specs.declared.heads.HeadPart.{HeadPart}
-use Rattle.cpg_check.specs.Heads.{IsFirstDifference}
+use Rattle.cpg_violation.specs.Heads.{IsFirstDifference, IsHeadFor}
+use Rattle.cpg_violation.specs.declared.heads.HeadPart.{HeadPart}
 use Rattle.cpg_check.specs.Verdict.{IsFirstFault}
 use Rattle.cpg_hyper.specs.declared.part.Part.{Part}
 use Rattle.cpg_hyper.specs.declared.part.HyperFault.{HyperFault}
 use Rattle.cpg_hyper.specs.Refusals.{ShowsUnrolled}
 use Rattle.cpg_core.specs.declared.fault.CompileFault.{CompileFault}
 use Rattle.cpg_core.specs.Compilation.{ShowsCompileFault}
-use Rattle.cpg_app.specs.declared.halt.Refusal.{Refusal}
-use Rattle.cpg_app.specs.declared.halt.Refusal.TheVariants.{LongGraph, LongPack, LongScenario, LongLog, OtherGraph, UnknownNode}
-use Rattle.cpg_app.specs.declared.halt.Halt.{Halt}
-use Rattle.cpg_app.specs.declared.halt.Halt.TheVariants.{Words, Read, Refused, Unsafe, Memory}
+use Rattle.cpg_refusal.specs.declared.halt.Refusal.{Refusal}
+use Rattle.cpg_refusal.specs.declared.halt.Refusal.TheVariants.{LongGraph, LongPack, LongScenario, LongLog, OtherGraph, UnknownNode}
+use Rattle.cpg_refusal.specs.declared.halt.Halt.{Halt}
+use Rattle.cpg_refusal.specs.declared.halt.Halt.TheVariants.{Words, Read, Refused, Unsafe, Memory}
 use Rattle.cpg_app.specs.declared.reading.TheConstants.{GRAPH_LIMIT, SCENARIO_LIMIT, LOG_LIMIT, PACK_LIMIT}
-use Rattle.cpg_app.specs.Halts.{halt_of_reading, halt_of_pack, halt_of_rules, halt_of_scenario, halt_of_log, halt_of_compile, halt_of_parts}
+use Rattle.cpg_refusal.specs.Halts.{halt_of_reading, halt_of_pack, halt_of_rules, halt_of_scenario, halt_of_parts}
+use Rattle.cpg_app.specs.Halts.{halt_of_log, halt_of_compile}
 
 -- what a run sees of its shelf: what stands under each name, how many bytes the last fetched name gave, and the count
 -- of faults before and after

@@ -6,12 +6,12 @@ use Rattle.cpg_words.specs.declared.command.Command.TheVariants.{Live}
 use Rattle.cpg_head.specs.Head.{Head}
 use Rattle.cpg_table.specs.Table.{NodeTable, table_at}
 use Rattle.cpg_table.specs.Lawful.{Tables}
-use Rattle.cpg_app.specs.declared.halt.Halt.{Halt}
-use Rattle.cpg_app.specs.declared.halt.Halt.TheVariants.{Read}
+use Rattle.cpg_refusal.specs.declared.halt.Halt.{Halt}
+use Rattle.cpg_refusal.specs.declared.halt.Halt.TheVariants.{Read}
 use Rattle.cpg_live.specs.declared.following.Broken.{Broken}
 use Rattle.cpg_app.specs.Causes.{Seen, Spells, Stops, first_named}
 use Rattle.cpg_live.specs.Following.{Breaks, Completes, Stream}
-use Rattle.cpg_app.specs.Lines.{line_of, status_of, write_fault_line}
+use Rattle.cpg_refusal.specs.Lines.{line_of, status_of, write_fault_line}
 use Rattle.cpg_app.specs.Outputs.{Prints}
 use Rattle.cpg_live.specs.Streams.{fault_line}
 use Rattle.cpg_app.specs.Told.{SinkSeen, Sent, Whole, Untouched, Part}

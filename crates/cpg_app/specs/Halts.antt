@@ -1,65 +1,15 @@
--- What a refusal of a layer stops a run with.
-use Rattle.cpg_base.specs.Graph.{Graph}
-use Rattle.cpg_words.specs.declared.fault.WordsFault.{WordsFault}
-use Rattle.cpg_reader.specs.declared.place.ReadFault.{ReadFault}
-use Rattle.cpg_codec.specs.declared.fault.PackFault.{PackFault}
-use Rattle.cpg_scenario.specs.declared.fault.ScenarioFault.{ScenarioFault}
+-- What a refusal of a layer stops a run with: of a log and of a compile.
 use Rattle.cpg_log.specs.declared.fault.LogFault.{LogFault}
 use Rattle.cpg_rules.specs.Admission.{Admission}
-use Rattle.cpg_rules.specs.declared.admission.RuleFault.{RuleFault}
 use Rattle.cpg_core.specs.declared.fault.CompileFault.{CompileFault}
-use Rattle.cpg_hyper.specs.declared.part.HyperFault.{HyperFault}
-use Rattle.cpg_app.specs.declared.halt.Refusal.TheVariants.{NotToml, BadField, DoubleName, UnknownName, OverLimit, Cycle, TwoAlternatives, NoSlot, TooBig, BadPack, BadScenario, BadLog, TooManyTracks, NoHypergraph}
-use Rattle.cpg_app.specs.declared.halt.Halt.{Halt}
-use Rattle.cpg_app.specs.declared.halt.Halt.TheVariants.{Words, Refused, Late, TooWide, Memory}
-
--- of the reading of the words
-abbrev pub halt_of_words : WordsFault → Halt
-halt_of_words WordsFault.Bad = Words
-halt_of_words WordsFault.OutOfMemory = Memory
-
--- of the reading of a graph file
-abbrev pub halt_of_reading : ReadFault → Halt
-halt_of_reading ReadFault.NotToml = Refused NotToml
-halt_of_reading (ReadFault.BadField place) = Refused (BadField place)
-halt_of_reading (ReadFault.DoubleName place) = Refused (DoubleName place)
-halt_of_reading (ReadFault.UnknownName place) = Refused (UnknownName place)
-halt_of_reading (ReadFault.OverLimit what) = Refused (OverLimit what)
-halt_of_reading ReadFault.OutOfMemory = Memory
-
--- of the reading of a pack
-abbrev pub halt_of_pack : PackFault → Halt
-halt_of_pack (PackFault.BadPack length) = Refused (BadPack length)
-halt_of_pack PackFault.OutOfMemory = Memory
-
--- of the reading of a scenario file
-abbrev pub halt_of_scenario : ScenarioFault → Halt
-halt_of_scenario (ScenarioFault.Bad cause) = Refused (BadScenario cause)
-halt_of_scenario ScenarioFault.OutOfMemory = Memory
+use Rattle.cpg_refusal.specs.declared.halt.Refusal.TheVariants.{BadLog}
+use Rattle.cpg_refusal.specs.declared.halt.Halt.{Halt}
+use Rattle.cpg_refusal.specs.declared.halt.Halt.TheVariants.{Refused, Late, TooWide, Memory}
 
 -- of the reading of a log
 abbrev pub halt_of_log : LogFault → Halt
 halt_of_log (LogFault.Bad line) = Refused (BadLog line)
 halt_of_log LogFault.OutOfMemory = Memory
-
--- of the admission of a graph
-abbrev pub halt_of_rules : Graph → RuleFault → Halt
-halt_of_rules g (RuleFault.Cycle walk) = Refused (Cycle g walk)
-halt_of_rules g RuleFault.TooManyTracks = Refused TooManyTracks
-halt_of_rules g (RuleFault.TwoAlternatives p s) = Refused (TwoAlternatives g p s)
-halt_of_rules g (RuleFault.NoSlot node) = Refused (NoSlot g node)
-halt_of_rules g (RuleFault.TooBig e) = Refused (TooBig e)
-halt_of_rules g RuleFault.OutOfMemory = Memory
-
--- of parts that have no graph together
-abbrev pub halt_of_parts : HyperFault → Halt
-halt_of_parts (HyperFault.Range p) = Refused (NoHypergraph (HyperFault.Range p))
-halt_of_parts (HyperFault.Differ p) = Refused (NoHypergraph (HyperFault.Differ p))
-halt_of_parts (HyperFault.Over p) = Refused (NoHypergraph (HyperFault.Over p))
-halt_of_parts HyperFault.Period = Refused (NoHypergraph HyperFault.Period)
-halt_of_parts (HyperFault.Count what) = Refused (NoHypergraph (HyperFault.Count what))
-halt_of_parts (HyperFault.LongName p) = Refused (NoHypergraph (HyperFault.LongName p))
-halt_of_parts HyperFault.OutOfMemory = Memory
 
 -- of the compile of a graph
 abbrev pub halt_of_compile : Admission → CompileFault → Halt

@@ -12,11 +12,11 @@ use Rattle.cpg_rules.specs.Admission.{Admission, IsAdmitted}
 use Rattle.cpg_base.specs.Scenario.{Scenario}
 use Rattle.cpg_reach.specs.Wide.{IsNarrow, IsWide}
 use Rattle.cpg_core.specs.Compiled.{IsTimely, IsLate}
-use Rattle.cpg_app.specs.declared.halt.Refusal.{Refusal}
+use Rattle.cpg_refusal.specs.declared.halt.Refusal.{Refusal}
 use Rattle.cpg_live.specs.declared.following.StreamFault.{StreamFault}
 use Rattle.cpg_live.specs.declared.following.StreamFault.TheVariants.{Long}
 use Rattle.cpg_live.specs.declared.following.TheConstants.{STREAM_LIMIT}
-use Rattle.cpg_app.specs.declared.halt.Halt.TheVariants.{Read, Refused, Late, TooWide, Unsafe}
+use Rattle.cpg_refusal.specs.declared.halt.Halt.TheVariants.{Read, Refused, Late, TooWide, Unsafe}
 use Rattle.cpg_table.specs.declared.fault.Fault.{Fault}
 use Rattle.cpg_table.specs.Lawful.{Tables}
 use Rattle.cpg_table.specs.Table.{table_at}
@@ -35,7 +35,7 @@ use Rattle.cpg_scenario.specs.declared.reading.Played.{Played}
 use Rattle.cpg_app.specs.declared.reading.TheConstants.{GRAPH_LIMIT, SCENARIO_LIMIT, LOG_LIMIT}
 use Rattle.cpg_app.specs.Causes.{Stops, first_named}
 use Rattle.cpg_app.specs.Endings.{Ran, Ends, Follows, IsPrinted, IsTold, table_of}
-use Rattle.cpg_app.specs.Lines.{line_of}
+use Rattle.cpg_refusal.specs.Lines.{line_of}
 use Rattle.cpg_app.specs.Outputs.{Prints}
 use Rattle.cpg_live.specs.Streams.{IsLawfulSoFar, IsRefused, fault_line, stream_end}
 use Rattle.cpg_app.specs.Told.{Untouched, Whole}

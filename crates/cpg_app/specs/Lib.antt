@@ -1,5 +1,4 @@
 pub mod Halts
-pub mod Lines
 pub mod Causes
 pub mod Told
 pub mod Plays

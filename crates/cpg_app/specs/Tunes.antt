@@ -13,7 +13,7 @@ use Rattle.cpg_core.specs.Compilation.{IsCompilation, ShowsCompileFault}
 use Rattle.cpg_tune.specs.declared.judge.Judged.{Judged}
 use Rattle.cpg_tune.specs.declared.judge.Judged.TheVariants.{Worst, Late, Wide}
 use Rattle.cpg_tune.specs.Tuned.{Tuning, IsTuning}
-use Rattle.cpg_app.specs.Lines.{item_text}
+use Rattle.cpg_refusal.specs.Lines.{item_text}
 
 -- what the compile of a graph says: the greatest finish of its tables, the end of a process that is late, or an item that is
 -- too wide

@@ -1,14 +1,13 @@
 //! The writing at the end of a run.
 ghost use Rattle.std.specs.Prelude.{◌≡◌, ◌≢◌, ◌⊎◌, Err, OnOk};
-ghost use Rattle.cpg_app.specs.Lines.{line_of, status_of, write_fault_line, IsNamed};
+ghost use Rattle.cpg_refusal.specs.Lines.{line_of, status_of, write_fault_line, IsNamed};
 ghost use Rattle.cpg_app.specs.Outputs.{bytes_of};
 ghost use Rattle.cpg_app.specs.Told.{IsWritten, Part, Sent, Untouched, Whole};
 
-use crate::halt::Halt;
-use crate::lines::line;
 use crate::output::Output;
 use cpg_codec::{WriteFault, write_pack};
 use cpg_io::{Failed, Sink, write_all};
+use cpg_refusal::{Halt, line};
 use std::alloc::Global;
 
 /// The status of a fault of a sink.

@@ -3,7 +3,7 @@ ghost use Rattle.std.specs.Prelude.{◌≡◌, IfOk, None, Some, string_bytes};
 ghost use Rattle.cpg_table.specs.Valid.{IsValid};
 ghost use Rattle.cpg_violation.specs.Heads.{IsHeadFor};
 ghost use Rattle.cpg_log.specs.Log.{IsLog};
-ghost use Rattle.cpg_app.specs.Lines.{HasLengths};
+ghost use Rattle.cpg_refusal.specs.Lines.{HasLengths};
 ghost use Rattle.cpg_app.specs.Outputs.{IsAuditText, given_text};
 
 use cpg_audit::audit;

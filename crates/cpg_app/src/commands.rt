@@ -9,7 +9,7 @@ ghost use Rattle.cpg_app.specs.Causes.{Admits, first_named, IsAfterReading, IsOu
 ghost use Rattle.cpg_app.specs.Outputs.{bytes_of, packed, shown, AreJudgedSafe, ArePackOf, AreSafe, IsMade, IsMadeOf, IsNodeOf, IsNodeText, IsChecked, IsPlayOf, IsPlayedText, IsSafeText, IsSpelled, IsTunedOf, IsOutputOf, IsAuditOf, IsAuditedText, PutsOutAtEnd, ReadsWithin};
 
 use crate::auditing::audit_text;
-use crate::halt::{Halt, Refusal};
+use crate::halt::halt_of_compile;
 use crate::output::Output;
 use crate::periods::hyper;
 use crate::playing::play_text;
@@ -22,6 +22,7 @@ use cpg_codec::tables_are_lawful;
 use cpg_core::{Compiled, compile};
 use cpg_head::Head;
 use cpg_io::Shelf;
+use cpg_refusal::{Halt, Refusal};
 use cpg_rules::Admitted;
 use cpg_run::Built;
 use cpg_show::{node_text, table_text};
@@ -50,7 +51,7 @@ fn compile_graph(alloc: Global, admitted: Admitted) -> Result<Made, Halt>
             tables_are_lawful(&compiled.built.tables);
             Ok(Made { admitted, compiled })
         }
-        Err(fault) => Err(Halt::of_compile(admitted, fault)),
+        Err(fault) => Err(halt_of_compile(admitted, fault)),
     }
 }
 

@@ -13,10 +13,10 @@ ghost use Rattle.cpg_app.specs.Outputs.{IsFollower, IsSpelled};
 
 use crate::answer::{cut, send, stop};
 use crate::commands::first_named;
-use crate::halt::{Halt, Refusal};
 use crate::reading::read_tables;
 use cpg_io::{Shelf, Sink};
 use cpg_live::{Broken, Follower};
+use cpg_refusal::{Halt, Refusal};
 use cpg_table::Tables;
 use std::alloc::Global;
 

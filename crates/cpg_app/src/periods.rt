@@ -1,16 +1,16 @@
 //! The graph of several periods that a command asks for.
 ghost use Rattle.std.specs.Prelude.{◌≡◌, ◌<◌, ◌≤◌, ◌++◌, ◌∷◌, [], All, IfOk, IfErr, OnOk, length, map};
-ghost use Rattle.cpg_app.specs.declared.halt.Halt.TheVariants.{Memory};
+ghost use Rattle.cpg_refusal.specs.declared.halt.Halt.TheVariants.{Memory};
 ghost use Rattle.cpg_app.specs.declared.reading.TheConstants.{GRAPH_LIMIT};
 ghost use Rattle.cpg_app.specs.Causes.{AreSaid, IsNotUnrolled, StopsParts, StopsReadingParts};
 ghost use Rattle.cpg_app.specs.Outputs.{bytes_of, IsUnrolledOf, IsUnrolledText};
 
-use crate::halt::Halt;
 use crate::output::Output;
 use crate::reading::read_graph;
 use cpg_base::Problem;
 use cpg_hyper::{Part, graph_text, unroll};
 use cpg_io::Shelf;
+use cpg_refusal::Halt;
 use cpg_words::Pair;
 use std::alloc::Global;
 

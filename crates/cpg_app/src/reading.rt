@@ -6,12 +6,13 @@ ghost use Rattle.cpg_app.specs.Causes.{BreaksRule, Says, SaysLog, SaysPlayed, Sp
 ghost use Rattle.cpg_log.specs.Log.{IsLog};
 ghost use Rattle.cpg_scenario.specs.File.{IsPlayed};
 
-use crate::halt::{Halt, Refusal};
+use crate::halt::halt_of_log;
 use cpg_base::Problem;
 use cpg_codec::read_pack;
 use cpg_io::{ReadAll, Shelf, read_all};
 use cpg_log::{Log, read_log};
 use cpg_reader::read_problem;
+use cpg_refusal::{Halt, Refusal};
 use cpg_rules::{Admitted, admit};
 use cpg_scenario::{Played, read_scenario};
 use cpg_table::Tables;
@@ -131,6 +132,6 @@ pub fn read_acts<S: Shelf>(
     };
     match read_log(alloc, problem, bytes.as_slice()) {
         Ok(log) => Ok(log),
-        Err(fault) => Err(Halt::of_log(fault)),
+        Err(fault) => Err(halt_of_log(fault)),
     }
 }

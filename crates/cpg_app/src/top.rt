@@ -3,18 +3,18 @@ ghost use Rattle.std.specs.Prelude.{◌≡◌, ◌⊎◌, All, List, Some, map, 
 ghost use Rattle.cpg_words.specs.FileWords.{file_words, file_words_of};
 ghost use Rattle.cpg_words.specs.Forms.{command_of};
 ghost use Rattle.cpg_words.specs.Parts.{Text};
-ghost use Rattle.cpg_app.specs.Halts.{halt_of_words};
+ghost use Rattle.cpg_refusal.specs.Halts.{halt_of_words};
 ghost use Rattle.cpg_app.specs.Lawful.{IsLawful};
-ghost use Rattle.cpg_app.specs.Lines.{line_of, status_of};
+ghost use Rattle.cpg_refusal.specs.Lines.{line_of, status_of};
 ghost use Rattle.cpg_app.specs.Outputs.{PutsOutAtEnd};
 ghost use Rattle.cpg_app.specs.Told.{Sent};
 
 use crate::answer::{cut, put, stop};
 use crate::commands::command_output;
-use crate::halt::Halt;
 use crate::living::live;
 use cpg_codec::WriteFault;
 use cpg_io::{Shelf, Sink};
+use cpg_refusal::Halt;
 use cpg_words::{Command, WordsFault, read_words};
 use std::alloc::Global;
 

@@ -1,12 +1,12 @@
 //! The trial that a command asks for.
 ghost use Rattle.std.specs.Prelude.{◌≡◌, ◌++◌, IfOk, IfErr, OnOk, string_bytes};
-ghost use Rattle.cpg_app.specs.declared.halt.Halt.TheVariants.{Memory};
+ghost use Rattle.cpg_refusal.specs.declared.halt.Halt.TheVariants.{Memory};
 ghost use Rattle.cpg_app.specs.Outputs.{bytes_of, IsTrialText};
 ghost use Rattle.cpg_app.specs.Trials.{ending_line, endings_text, sizes_text, tables_text, trial_text};
 
-use crate::halt::Halt;
 use crate::output::Output;
 use crate::{Ending, Endings, Trial, run_trial};
+use cpg_refusal::Halt;
 use std::alloc::{AllocError, Global};
 
 fn write_sizes(out: &mut String, trial: &Trial) -> Result<(), AllocError>

@@ -1,3 +1,2 @@
-pub mod ExtraLists
 pub mod Verdicts
 pub mod OneVerdict

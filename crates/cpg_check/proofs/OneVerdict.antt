@@ -19,10 +19,10 @@ use Rattle.cpg_table.specs.declared.rule.Rule.{Rule}
 use Rattle.cpg_violation.specs.Columns.{row_columns}
 use Rattle.cpg_violation.specs.Violation.{AllHold, Holds, IsFirstOf, IsFirstViolation, column_rules}
 use Rattle.cpg_check_rows.specs.Hears.{DifferFirstAt, IsFirstHear, IsFirstHearFault, IsHeardWell, due_columns}
-use Rattle.cpg_check.specs.Heads.{IsFirstDifference}
+use Rattle.cpg_violation.specs.Heads.{IsFirstDifference}
 use Rattle.cpg_check.specs.OneVerdict.{HaveOneVerdict}
 use Rattle.cpg_check.specs.Verdict.{IsFirstFault, ShowsVerdict}
-use Rattle.cpg_check.specs.declared.heads.HeadPart.{HeadPart}
+use Rattle.cpg_violation.specs.declared.heads.HeadPart.{HeadPart}
 use Rattle.cpg_check.specs.declared.verdict.Verdict.{Verdict}
 use Rattle.cpg_check.specs.declared.verdict.Verdict.TheVariants.{Yes, Other, No}
 use Rattle.cpg_check.proofs.Verdicts.{other_head, faulty_tables}

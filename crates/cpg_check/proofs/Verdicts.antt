@@ -10,13 +10,12 @@ use Rattle.cpg_cube.specs.Column.{Column}
 use Rattle.cpg_table.specs.Valid.{IsValid, hear_row}
 use Rattle.cpg_table.specs.declared.fault.Fault.{Fault}
 use Rattle.cpg_violation.specs.Columns.{row_columns}
-use Rattle.cpg_violation.specs.Heads.{IsHeadFor}
+use Rattle.cpg_violation.specs.Heads.{IsFirstDifference, IsHeadFor}
 use Rattle.cpg_violation.specs.Violation.{IsFirstViolation, column_rules}
 use Rattle.cpg_violation.proofs.Violations.{first_broken}
 use Rattle.cpg_check_rows.specs.Hears.{DifferFirstAt, IsFirstHear, due_columns}
-use Rattle.cpg_check.specs.Heads.{IsFirstDifference}
 use Rattle.cpg_check.specs.Verdict.{IsFirstFault}
-use Rattle.cpg_check.specs.declared.heads.HeadPart.{HeadPart}
+use Rattle.cpg_violation.specs.declared.heads.HeadPart.{HeadPart}
 
 -- a head with a difference isn't the graph's
 pub other_head : (g : Graph) (h : Head) (part : HeadPart) → IsFirstDifference g h part → IsHeadFor g h → ⊥

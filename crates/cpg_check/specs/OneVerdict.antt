@@ -6,9 +6,9 @@ use Rattle.cpg_head.specs.Head.{Head}
 use Rattle.cpg_table.specs.Lawful.{Tables}
 use Rattle.cpg_table.specs.Table.{NodeTable}
 use Rattle.cpg_table.specs.declared.fault.Fault.{Fault}
-use Rattle.cpg_check.specs.Heads.{IsFirstDifference}
+use Rattle.cpg_violation.specs.Heads.{IsFirstDifference}
 use Rattle.cpg_check.specs.Verdict.{IsFirstFault, ShowsVerdict}
-use Rattle.cpg_check.specs.declared.heads.HeadPart.{HeadPart}
+use Rattle.cpg_violation.specs.declared.heads.HeadPart.{HeadPart}
 use Rattle.cpg_check.specs.declared.verdict.Verdict.{Verdict}
 
 -- by a graph, an order of all its processes, and a table for each of its nodes

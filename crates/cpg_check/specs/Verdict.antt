@@ -5,10 +5,9 @@ use Rattle.cpg_table.specs.Lawful.{Tables}
 use Rattle.cpg_table.specs.Table.{NodeTable}
 use Rattle.cpg_table.specs.Valid.{IsValid}
 use Rattle.cpg_table.specs.declared.fault.Fault.{Fault}
-use Rattle.cpg_violation.specs.Heads.{IsHeadFor}
+use Rattle.cpg_violation.specs.Heads.{IsFirstDifference, IsHeadFor}
 use Rattle.cpg_violation.specs.Violation.{AllHold, IsFirstOf, column_rules}
 use Rattle.cpg_check_rows.specs.Hears.{IsFirstHearFault}
-use Rattle.cpg_check.specs.Heads.{IsFirstDifference}
 use Rattle.cpg_check.specs.declared.verdict.Verdict.{Verdict}
 use Rattle.cpg_check.specs.declared.verdict.Verdict.TheVariants.{Yes, Other, No}
 

@@ -3,10 +3,8 @@
 
 ghost use Rattle.cpg_check.specs.OneVerdict.{HaveOneVerdict};
 
-mod heads;
 mod verdict;
 
-pub use heads::HeadPart;
 pub use verdict::{Verdict, check};
 
 /// Tables have one verdict: one first part of the head that differs, or one first violation, or neither.

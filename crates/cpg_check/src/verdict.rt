@@ -9,7 +9,6 @@ ghost use Rattle.cpg_violation.specs.Violation.{AllHold, IsFirstOf, row_rules, t
 ghost use Rattle.cpg_sure.specs.Trees.{AreRowTrees};
 ghost use Rattle.cpg_check.specs.Verdict.{ShowsFault, ShowsVerdict};
 
-use crate::heads::{HeadPart, first_difference};
 use cpg_base::OutOfMemory;
 use cpg_check_heard::check_heard;
 use cpg_check_rows::{check_hears, check_rows};
@@ -18,7 +17,7 @@ use cpg_rules::Admitted;
 use cpg_sure::{row_marks, row_trees, time_marks};
 use cpg_table::{Fault, Tables};
 use cpg_tree::Places;
-use cpg_violation::{Line, TimeMarks, lines_of};
+use cpg_violation::{HeadPart, Line, TimeMarks, first_difference, lines_of};
 use std::alloc::Global;
 
 /// What a check answers.

@@ -3,6 +3,8 @@ pub mod Violations
 pub mod Marked
 pub mod ActiveWhere
 pub mod HeadLaws
+pub mod Differences
+pub mod ExtraLists
 pub mod Columnwise
 pub mod SieveLaws
 pub mod ApartLaws

@@ -1,8 +1,10 @@
--- Whether the head of a pack is that of a graph.
-use Rattle.std.specs.Prelude.{◌≡◌, IfSome, map}
+-- Whether the head of a pack is that of a graph, and else the first part in which it differs.
+use Rattle.std.specs.Prelude.{◌≡◌, ◌≢◌, IfSome, map}
 use Rattle.cpg_base.specs.Graph.{Graph}
 use Rattle.cpg_head.specs.GraphHead.{extra_of, head_of}
 use Rattle.cpg_head.specs.Head.{Head}
+use Rattle.cpg_violation.specs.declared.heads.HeadPart.{HeadPart}
+use Rattle.cpg_violation.specs.declared.heads.HeadPart.TheVariants.{Faults, Nodes, Processes, Edges}
 
 -- what it says of the processes is so, and in version 2 what it says beside
 pub record AreProcessesOf (g : Graph) (h : Head) : Type 0 where
@@ -15,3 +17,31 @@ pub record IsHeadFor (g : Graph) (h : Head) : Type 0 where
   pub nodes : h.nodes ≡ g.nodes
   pub processes : AreProcessesOf g h
   pub edges : h.edges ≡ (head_of g).edges
+
+-- another number of faults
+abbrev pub HasOtherFaults : Graph → Head → Type 0
+HasOtherFaults g h = h.faults ≢ g.faults
+
+-- other names of nodes, where that is the same
+pub record HasOtherNodes (g : Graph) (h : Head) : Type 0 where
+  pub faults : h.faults ≡ g.faults
+  pub nodes : h.nodes ≢ g.nodes
+
+-- other processes, where those are the same
+pub record HasOtherProcesses (g : Graph) (h : Head) : Type 0 where
+  pub faults : h.faults ≡ g.faults
+  pub nodes : h.nodes ≡ g.nodes
+  pub processes : AreProcessesOf g h → ⊥
+
+-- other edges, where all of that is the same
+pub record HasOtherEdges (g : Graph) (h : Head) : Type 0 where
+  pub faults : h.faults ≡ g.faults
+  pub nodes : h.nodes ≡ g.nodes
+  pub processes : AreProcessesOf g h
+  pub edges : h.edges ≢ (head_of g).edges
+
+abbrev pub IsFirstDifference : Graph → Head → HeadPart → Type 0
+IsFirstDifference g h Faults = HasOtherFaults g h
+IsFirstDifference g h Nodes = HasOtherNodes g h
+IsFirstDifference g h Processes = HasOtherProcesses g h
+IsFirstDifference g h Edges = HasOtherEdges g h

@@ -2,11 +2,11 @@
 use Rattle.std.specs.Prelude.{ℕ, ◌≡◌, ◌⊎◌, List}
 use Rattle.cpg_words.specs.Parts.{Text}
 use Rattle.cpg_words.specs.declared.fault.WordsFault.{WordsFault}
-use Rattle.cpg_app.specs.declared.halt.Halt.TheVariants.{Memory}
+use Rattle.cpg_refusal.specs.declared.halt.Halt.TheVariants.{Memory}
 use Rattle.cpg_app.specs.Endings.{Ran}
-use Rattle.cpg_app.specs.Halts.{halt_of_words}
+use Rattle.cpg_refusal.specs.Halts.{halt_of_words}
 use Rattle.cpg_app.specs.Lawful.{IsLawful}
-use Rattle.cpg_app.specs.Lines.{line_of, status_of}
+use Rattle.cpg_refusal.specs.Lines.{line_of, status_of}
 use Rattle.cpg_app.specs.Told.{SinkSeen, Sent}
 
 -- a lawful run of these words ends so

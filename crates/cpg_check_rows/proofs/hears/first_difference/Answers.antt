@@ -1,7 +1,7 @@
 use Rattle.std.proofs.Common.{rules, ◌≡◌, ◌∙◌, sym, ap, subst, map, min, take, length, arith}
 use Rattle.std.proofs.lemmas.List.{length-map}
 use Rattle.cpg_table.specs.Valid.{later_by}
-use Rattle.cpg_check_rows.proofs.Differences.{same_more_mapped, ends_differ}
+use Rattle.cpg_violation.proofs.Differences.{same_more_mapped, ends_differ}
 use Rattle.cpg_check_rows.proofs.hears.first_difference.Goals as goal
 
 pub loop-place-preserved : goal.loop-place-preserved

@@ -3,7 +3,7 @@ use Rattle.std.proofs.lemmas.List.FromFn.{length-map-range_with_len}
 use Rattle.cpg_base.specs.Graph.{process_count}
 use Rattle.cpg_head.specs.GraphHead.{head_process}
 use Rattle.cpg_head.specs.Head.{Head}
-use Rattle.cpg_check.proofs.heads.are_processes_of.Goals as goal
+use Rattle.cpg_violation.proofs.heads.are_processes_of.Goals as goal
 
 pub are_same_extras-requires : goal.are_same_extras-requires
 are_same_extras-requires c = ap length (sym c.processes.ensures.processes ∙ c.if-not-are_same_processes.ensures.0 refl ∙ c.processes-2.ensures.processes ∙ ap (λ (h : Head). h.processes) c.requires)

@@ -2,8 +2,8 @@ use Rattle.std.proofs.Common.{◌≤◌, List, length, ap, arith, subst, IfSome,
 use Rattle.cpg_base.specs.declared.process.Process.{Process}
 use Rattle.cpg_head.specs.GraphHead.{extra_of}
 use Rattle.cpg_head.specs.Head.{AreExtras}
-use Rattle.cpg_check.proofs.ExtraLists.{extras_more, extras_whole}
-use Rattle.cpg_check.proofs.heads.are_same_extras.Goals as goal
+use Rattle.cpg_violation.proofs.ExtraLists.{extras_more, extras_whole}
+use Rattle.cpg_violation.proofs.heads.are_same_extras.Goals as goal
 
 pub loop-process-preserved : goal.loop-process-preserved
 loop-process-preserved c = extras_more c.args.problem.now.processes c.loop-process.process c.in-Some.extra.now c.index-processes-process.result

@@ -9,7 +9,7 @@ use Rattle.cpg_base.specs.declared.process.Process.{Process}
 use Rattle.cpg_head.specs.GraphHead.{extra_of}
 use Rattle.cpg_head.specs.declared.head_parts.Extra.{Extra}
 use Rattle.cpg_head.specs.Head.{AreExtras}
-use Rattle.cpg_check_rows.proofs.Differences.{same_more, same_whole}
+use Rattle.cpg_violation.proofs.Differences.{same_more, same_whole}
 
 module _ (ps : List Process) (p : ℕ) (e : Extra) (d : Process) (l : p < length ps) where
   -- one more that is the same

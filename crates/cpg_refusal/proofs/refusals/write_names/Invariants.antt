@@ -1,6 +1,6 @@
 use Rattle.std.proofs.Common.{◌≡◌, ◌++◌, codes, drop, flat_map, string_bytes}
-use Rattle.cpg_app.specs.Lines.{name_of}
-use Rattle.cpg_app.proofs.refusals.write_names.Given as goal
+use Rattle.cpg_refusal.specs.Lines.{name_of}
+use Rattle.cpg_refusal.proofs.refusals.write_names.Given as goal
 
 abbrev pub invariant-loop-process : goal.invariant-loop-process
 invariant-loop-process l = string_bytes l.fn.out ++ flat_map (λ p. codes " " ++ name_of l.problem p) l.walk ≡ string_bytes l.out ++ flat_map (λ p. codes " " ++ name_of l.problem p) (drop l.process-index l.walk)

@@ -1,7 +1,7 @@
 use Rattle.std.proofs.Common.{◌++◌, ◌∙◌, ap, codes, string_bytes}
 use Rattle.std.proofs.lemmas.List.{append_assoc}
-use Rattle.cpg_app.specs.Lines.{case_text}
-use Rattle.cpg_app.proofs.refusals.write_alternatives.Goals as goal
+use Rattle.cpg_refusal.specs.Lines.{case_text}
+use Rattle.cpg_refusal.proofs.refusals.write_alternatives.Goals as goal
 
 pub returns : goal.returns
 returns c =

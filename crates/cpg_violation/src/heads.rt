@@ -2,8 +2,7 @@
 ghost use Rattle.std.specs.Prelude.{◌≡◌, ◌<◌, ◌↔◌, IfNone, IfOk, IfSome, IsTrue, length, map};
 ghost use Rattle.cpg_base.specs.Graph.{process_count};
 ghost use Rattle.cpg_head.specs.GraphHead.{extra_of, head_of};
-ghost use Rattle.cpg_violation.specs.Heads.{AreProcessesOf, IsHeadFor};
-ghost use Rattle.cpg_check.specs.Heads.{IsFirstDifference};
+ghost use Rattle.cpg_violation.specs.Heads.{AreProcessesOf, IsFirstDifference, IsHeadFor};
 
 use cpg_base::{Name, OutOfMemory, Problem, Process};
 use cpg_head::{Extra, Head, HeadProcess, head_of};

@@ -1,7 +1,7 @@
 //! The line of a run that stops without an output.
 ghost use Rattle.std.specs.Prelude.{◌≡◌, ◌<◌, ◌++◌, OnOk, IfOk, codes, string_bytes};
 ghost use Rattle.cpg_base.specs.Graph.{item_count};
-ghost use Rattle.cpg_app.specs.Lines.{case_text, column_text, item_text, unsafe_text, late_text, line_of, name_of, reason_text, IsNamed, HasLengths};
+ghost use Rattle.cpg_refusal.specs.Lines.{case_text, column_text, item_text, unsafe_text, late_text, line_of, name_of, reason_text, IsNamed, HasLengths};
 
 use crate::halt::Halt;
 use crate::refusals::write_refused;

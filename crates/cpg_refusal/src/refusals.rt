@@ -1,14 +1,14 @@
 //! The texts of refusals.
 ghost use Rattle.std.specs.Prelude.{◌≡◌, ◌++◌, OnOk, codes, flat_map, string_bytes};
-ghost use Rattle.cpg_app.specs.Lines.{alternatives_text, cause_text, cycle_text, key_text, name_of, node_name, part_text, parts_text, place_text, refusal_text, refused_text, table_text, what_text, HasLengths, IsNamedRefusal};
+ghost use Rattle.cpg_refusal.specs.Lines.{alternatives_text, cause_text, cycle_text, key_text, name_of, node_name, part_text, parts_text, place_text, refusal_text, refused_text, table_text, what_text, HasLengths, IsNamedRefusal};
 
 use crate::halt::Refusal;
 use crate::lines::{name_of, write_case};
 use cpg_base::{OutOfMemory, Problem, Scenario};
-use cpg_check::HeadPart;
 use cpg_hyper::HyperFault;
 use cpg_reader::{Key, Place, Table, What};
 use cpg_scenario::Cause;
+use cpg_violation::HeadPart;
 use std::alloc::AllocError;
 
 fn key_text(key: Key) -> &'static str
