@@ -1,8 +1,9 @@
 -- When a run stops for a reason: what is then true of the words and of the shelf.
-use Rattle.std.specs.Prelude.{ℕ, ◌≡◌, ◌≢◌, ◌<◌, ◌≤◌, ◌⊎◌, List, [], ◌∷◌, Option, Some, None, IfSome, Ok, Err, length, take, get_or, position, ⊤}
+use Rattle.std.specs.Prelude.{ℕ, ◌≡◌, ◌≢◌, ◌<◌, ◌≤◌, ◌+◌, ◌⊎◌, List, [], ◌∷◌, Option, Some, None, IfSome, Ok, Err, length, take, get_or, position, ⊤}
 use Rattle.std.specs.Str.{bytes_eq}
 use Rattle.cpg_base.specs.Graph.{Graph}
 use Rattle.cpg_io.specs.Causes.{Rose}
+use Rattle.cpg_io.specs.State.{ShelfState, given_count}
 use Rattle.cpg_words.specs.Parts.{Text}
 use Rattle.cpg_words.specs.Forms.{command_of}
 use Rattle.cpg_words.specs.declared.command.Pair.{Pair}
@@ -50,6 +51,10 @@ pub record Seen : Type 0 where
   pub before : ℕ
   pub now : ℕ
 
+-- by its states before and after
+abbrev pub seen : ShelfState → ShelfState → Seen
+seen old new = record { stands = old.stands; given = given_count new; before = old.faults; now = new.faults }
+
 -- a file, where the shelf tells its bytes, has so many at most
 abbrev pub IsShort : ℕ → Option Text → Type 0
 IsShort limit told = IfSome told (λ bytes. length bytes ≤ limit)
@@ -68,10 +73,11 @@ pub record IsUnread (seen : Seen) (halt : Halt) : Type 0 where
   pub halt_is : halt ≡ Read
   pub rose : Rose seen.before seen.now
 
--- a file gave more bytes than the limit
+-- a file gave more bytes than the limit, by one
 pub record IsLong (limit : ℕ) (refusal : Refusal) (seen : Seen) (told : Option Text) (halt : Halt) : Type 0 where
   pub halt_is : halt ≡ Refused refusal
   pub given : limit < seen.given
+  pub most : seen.given ≤ limit + 1
   pub long : IfSome told (λ bytes. limit < length bytes)
 
 -- its bytes, no more than the limit, are those of no graph, and this is the first refusal of them

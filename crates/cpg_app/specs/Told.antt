@@ -3,6 +3,7 @@ use Rattle.std.specs.Prelude.{ℕ, ◌≡◌, ◌≢◌, List, Option, Result, O
 use Rattle.std.specs.Io.KnownBytes.{Appends, Keeps}
 use Rattle.cpg_io.specs.Causes.{Rose}
 use Rattle.cpg_io.specs.Sink.{TookPrefix}
+use Rattle.cpg_io.specs.State.{SinkState}
 use Rattle.cpg_codec.specs.declared.fault.WriteFault.{WriteFault}
 
 -- what a run sees of a sink: its count of faults and its bytes, before and after
@@ -11,6 +12,10 @@ pub record SinkSeen : Type 0 where
   pub now : ℕ
   pub old : Option (List ℕ)
   pub new : Option (List ℕ)
+
+-- by its states before and after
+abbrev pub sent : SinkState → SinkState → SinkSeen
+sent old new = record { before = old.faults; now = new.faults; old = old.taken; new = new.taken }
 
 -- the bytes were taken whole
 abbrev pub Whole : SinkSeen → List ℕ → Type 0

@@ -2,7 +2,7 @@
 ghost use Rattle.std.specs.Prelude.{◌≡◌, ◌≢◌, ◌⊎◌, Err, OnOk};
 ghost use Rattle.cpg_refusal.specs.Lines.{line_of, status_of, write_fault_line, IsNamed};
 ghost use Rattle.cpg_app.specs.Outputs.{bytes_of};
-ghost use Rattle.cpg_app.specs.Told.{IsWritten, Part, Sent, Untouched, Whole};
+ghost use Rattle.cpg_app.specs.Told.{IsWritten, Part, Sent, Untouched, Whole, sent};
 
 use crate::output::Output;
 use cpg_codec::{WriteFault, write_pack};
@@ -16,7 +16,7 @@ const WRITE_FAULT: u8 = 3;
 /// Writes bytes, and answers the status, or that of a fault.
 pub fn send<O: Sink>(status: u8, bytes: &[u8], sink: &mut O) -> u8
     requires { status ≢ WRITE_FAULT }
-    ensures { Sent (record { before = O.faults sink.old; now = O.faults sink.new; old = O.taken sink.old; new = O.taken sink.new }) result status bytes.now }
+    ensures { Sent (sent (O.state sink.old) (O.state sink.new)) result status bytes.now }
 {
     match write_all(sink, bytes) {
         Ok(()) => status,
@@ -26,14 +26,14 @@ pub fn send<O: Sink>(status: u8, bytes: &[u8], sink: &mut O) -> u8
 
 /// Tries once to write the line of a fault of `out`.
 fn tell_fault<E: Sink>(err: &mut E)
-    ensures { Whole (record { before = E.faults err.old; now = E.faults err.new; old = E.taken err.old; new = E.taken err.new }) write_fault_line ⊎ Part (record { before = E.faults err.old; now = E.faults err.new; old = E.taken err.old; new = E.taken err.new }) write_fault_line }
+    ensures { Whole (sent (E.state err.old) (E.state err.new)) write_fault_line ⊎ Part (sent (E.state err.old) (E.state err.new)) write_fault_line }
 {
     let _tried = write_all(err, b"cpgc: write fault\n");
 }
 
 /// Writes an output.
 pub fn put<O: Sink>(alloc: Global, output: &Output, out: &mut O) -> Result<(), WriteFault>
-    ensures { IsWritten (record { before = O.faults out.old; now = O.faults out.new; old = O.taken out.old; new = O.taken out.new }) result (bytes_of output.now) }
+    ensures { IsWritten (sent (O.state out.old) (O.state out.new)) result (bytes_of output.now) }
 {
     match output {
         Output::Lines(text) => match write_all(out, text.as_bytes()) {
@@ -47,7 +47,7 @@ pub fn put<O: Sink>(alloc: Global, output: &Output, out: &mut O) -> Result<(), W
 /// Ends a run whose output met a fault: tries once to write the line of that.
 pub fn cut<E: Sink>(err: &mut E) -> u8
     ensures status { result ≡ WRITE_FAULT }
-    ensures told { Whole (record { before = E.faults err.old; now = E.faults err.new; old = E.taken err.old; new = E.taken err.new }) write_fault_line ⊎ Part (record { before = E.faults err.old; now = E.faults err.new; old = E.taken err.old; new = E.taken err.new }) write_fault_line }
+    ensures told { Whole (sent (E.state err.old) (E.state err.new)) write_fault_line ⊎ Part (sent (E.state err.old) (E.state err.new)) write_fault_line }
 {
     tell_fault(err);
     WRITE_FAULT
@@ -56,7 +56,7 @@ pub fn cut<E: Sink>(err: &mut E) -> u8
 /// Writes the line of a run that stops, or that of want of memory where there is none for the line.
 pub fn stop<E: Sink>(alloc: Global, halt: &Halt, err: &mut E) -> u8
     requires { IsNamed halt.now }
-    ensures { Sent (record { before = E.faults err.old; now = E.faults err.new; old = E.taken err.old; new = E.taken err.new }) result (status_of halt.now) (line_of halt.now) ⊎ Sent (record { before = E.faults err.old; now = E.faults err.new; old = E.taken err.old; new = E.taken err.new }) result (status_of Halt.Memory) (line_of Halt.Memory) }
+    ensures { Sent (sent (E.state err.old) (E.state err.new)) result (status_of halt.now) (line_of halt.now) ⊎ Sent (sent (E.state err.old) (E.state err.new)) result (status_of Halt.Memory) (line_of Halt.Memory) }
 {
     match line(alloc, halt) {
         Ok(line) => send(halt.status(), line.as_bytes(), err),

@@ -5,8 +5,9 @@ ghost use Rattle.cpg_words.specs.FileWords.{file_words};
 ghost use Rattle.cpg_io.specs.Shelf.{SameLeave, SameNames};
 ghost use Rattle.cpg_core.specs.Compilation.{IsCompilation};
 ghost use Rattle.cpg_app.specs.declared.reading.TheConstants.{GRAPH_LIMIT, LOG_LIMIT, PACK_LIMIT, SCENARIO_LIMIT};
-ghost use Rattle.cpg_app.specs.Causes.{Admits, first_named, IsAfterReading, IsOutOfMemory, IsUncompiled, Stops, StopsAdmission, StopsCommand, StopsGraph, StopsNaming, StopsPlay, StopsTables, StopsVerdict, StopsAudit};
+ghost use Rattle.cpg_app.specs.Causes.{Admits, first_named, IsAfterReading, IsOutOfMemory, IsUncompiled, Stops, StopsAdmission, StopsCommand, StopsGraph, StopsNaming, StopsPlay, StopsTables, StopsVerdict, StopsAudit, seen};
 ghost use Rattle.cpg_app.specs.Outputs.{bytes_of, packed, shown, AreJudgedSafe, ArePackOf, AreSafe, IsMade, IsMadeOf, IsNodeOf, IsNodeText, IsChecked, IsPlayOf, IsPlayedText, IsSafeText, IsSpelled, IsTunedOf, IsOutputOf, IsAuditOf, IsAuditedText, PutsOutAtEnd, ReadsWithin};
+ghost use Rattle.cpg_io.specs.State.{given_count};
 
 use crate::auditing::audit_text;
 use crate::halt::halt_of_compile;
@@ -83,12 +84,12 @@ fn pack_of(alloc: Global, admitted: Admitted) -> Result<Output, Halt>
 /// Reads and admits a graph file.
 fn admitted_file<S: Shelf>(alloc: Global, shelf: &mut S, name: &str) -> Result<Admitted, Halt>
     requires { S.may_fetch shelf.old name.now }
-    ensures names { SameNames (S.stands shelf.old) (S.stands shelf.new) }
+    ensures names { SameNames (S.state shelf.old) (S.state shelf.new) }
     ensures leave { SameLeave (S.may_fetch shelf.old) (S.may_fetch shelf.new) }
-    ensures later { S.faults shelf.old ≤ S.faults shelf.new }
-    ensures graph { IfOk result (Admits (S.stands shelf.old name.now)) }
-    ensures within { IfOk result (λ _. S.given shelf.new ≤ GRAPH_LIMIT) }
-    ensures halt { IfErr result (StopsAdmission (record { stands = S.stands shelf.old; given = S.given shelf.new; before = S.faults shelf.old; now = S.faults shelf.new }) (S.stands shelf.old name.now)) }
+    ensures later { (S.state shelf.old).faults ≤ (S.state shelf.new).faults }
+    ensures graph { IfOk result (Admits ((S.state shelf.old).stands name.now)) }
+    ensures within { IfOk result (λ _. given_count (S.state shelf.new) ≤ GRAPH_LIMIT) }
+    ensures halt { IfErr result (StopsAdmission (seen (S.state shelf.old) (S.state shelf.new)) ((S.state shelf.old).stands name.now)) }
 {
     let graph = read_graph(alloc, shelf, name)?;
     let admitted = admit_graph(alloc, graph)?;
@@ -98,9 +99,9 @@ fn admitted_file<S: Shelf>(alloc: Global, shelf: &mut S, name: &str) -> Result<A
 /// Shows the tables of a graph file.
 fn show<S: Shelf>(alloc: Global, shelf: &mut S, name: &str) -> Result<Output, Halt>
     requires { S.may_fetch shelf.old name.now }
-    ensures text { IfOk result (λ o. IsMade (S.stands shelf.old name.now) shown (bytes_of o)) }
-    ensures within { IfOk result (λ _. S.given shelf.new ≤ GRAPH_LIMIT) }
-    ensures halt { IfErr result (StopsGraph (record { stands = S.stands shelf.old; given = S.given shelf.new; before = S.faults shelf.old; now = S.faults shelf.new }) (S.stands shelf.old name.now) (IsAfterReading (S.given shelf.new) GRAPH_LIMIT IsUncompiled)) }
+    ensures text { IfOk result (λ o. IsMade ((S.state shelf.old).stands name.now) shown (bytes_of o)) }
+    ensures within { IfOk result (λ _. given_count (S.state shelf.new) ≤ GRAPH_LIMIT) }
+    ensures halt { IfErr result (StopsGraph (seen (S.state shelf.old) (S.state shelf.new)) ((S.state shelf.old).stands name.now) (IsAfterReading (given_count (S.state shelf.new)) GRAPH_LIMIT IsUncompiled)) }
 {
     let admitted = admitted_file(alloc, shelf, name)?;
     let text = text_of(alloc, admitted)?;
@@ -110,9 +111,9 @@ fn show<S: Shelf>(alloc: Global, shelf: &mut S, name: &str) -> Result<Output, Ha
 /// Packs the tables of a graph file.
 fn pack<S: Shelf>(alloc: Global, shelf: &mut S, name: &str) -> Result<Output, Halt>
     requires { S.may_fetch shelf.old name.now }
-    ensures pack { IfOk result (λ o. IsMade (S.stands shelf.old name.now) packed (bytes_of o)) }
-    ensures within { IfOk result (λ _. S.given shelf.new ≤ GRAPH_LIMIT) }
-    ensures halt { IfErr result (StopsGraph (record { stands = S.stands shelf.old; given = S.given shelf.new; before = S.faults shelf.old; now = S.faults shelf.new }) (S.stands shelf.old name.now) (IsAfterReading (S.given shelf.new) GRAPH_LIMIT IsUncompiled)) }
+    ensures pack { IfOk result (λ o. IsMade ((S.state shelf.old).stands name.now) packed (bytes_of o)) }
+    ensures within { IfOk result (λ _. given_count (S.state shelf.new) ≤ GRAPH_LIMIT) }
+    ensures halt { IfErr result (StopsGraph (seen (S.state shelf.old) (S.state shelf.new)) ((S.state shelf.old).stands name.now) (IsAfterReading (given_count (S.state shelf.new)) GRAPH_LIMIT IsUncompiled)) }
 {
     let admitted = admitted_file(alloc, shelf, name)?;
     let pack = pack_of(alloc, admitted)?;
@@ -122,9 +123,9 @@ fn pack<S: Shelf>(alloc: Global, shelf: &mut S, name: &str) -> Result<Output, Ha
 /// Tunes the graph of a file.
 fn tune_file<S: Shelf>(alloc: Global, shelf: &mut S, name: &str) -> Result<Output, Halt>
     requires { S.may_fetch shelf.old name.now }
-    ensures text { IfOk result (λ o. IsTunedOf (S.stands shelf.old name.now) (bytes_of o)) }
-    ensures within { IfOk result (λ _. S.given shelf.new ≤ GRAPH_LIMIT) }
-    ensures halt { IfErr result (StopsGraph (record { stands = S.stands shelf.old; given = S.given shelf.new; before = S.faults shelf.old; now = S.faults shelf.new }) (S.stands shelf.old name.now) (IsAfterReading (S.given shelf.new) GRAPH_LIMIT IsOutOfMemory)) }
+    ensures text { IfOk result (λ o. IsTunedOf ((S.state shelf.old).stands name.now) (bytes_of o)) }
+    ensures within { IfOk result (λ _. given_count (S.state shelf.new) ≤ GRAPH_LIMIT) }
+    ensures halt { IfErr result (StopsGraph (seen (S.state shelf.old) (S.state shelf.new)) ((S.state shelf.old).stands name.now) (IsAfterReading (given_count (S.state shelf.new)) GRAPH_LIMIT IsOutOfMemory)) }
 {
     let admitted = admitted_file(alloc, shelf, name)?;
     let text = tune_admitted(alloc, &admitted)?;
@@ -170,9 +171,9 @@ fn check_pack<S: Shelf>(
     pack: &str,
 ) -> Result<Output, Halt>
     requires { S.may_fetch shelf.old pack.now }
-    ensures text { IfOk result (λ o. IsSpelled (S.stands shelf.old pack.now) (λ t. IsSafeText admitted t (bytes_of o))) }
-    ensures within { IfOk result (λ _. S.given shelf.new ≤ PACK_LIMIT) }
-    ensures halt { IfErr result (StopsTables (record { stands = S.stands shelf.old; given = S.given shelf.new; before = S.faults shelf.old; now = S.faults shelf.new }) (S.stands shelf.old pack.now) (IsAfterReading (S.given shelf.new) PACK_LIMIT (StopsVerdict admitted))) }
+    ensures text { IfOk result (λ o. IsSpelled ((S.state shelf.old).stands pack.now) (λ t. IsSafeText admitted t (bytes_of o))) }
+    ensures within { IfOk result (λ _. given_count (S.state shelf.new) ≤ PACK_LIMIT) }
+    ensures halt { IfErr result (StopsTables (seen (S.state shelf.old) (S.state shelf.new)) ((S.state shelf.old).stands pack.now) (IsAfterReading (given_count (S.state shelf.new)) PACK_LIMIT (StopsVerdict admitted))) }
 {
     let tables = read_tables(alloc, shelf, pack)?;
     let output = verdict_of(alloc, admitted, &tables)?;
@@ -188,9 +189,9 @@ fn check_files<S: Shelf>(
 ) -> Result<Output, Halt>
     requires graph { S.may_fetch shelf.old graph.now }
     requires pack { S.may_fetch shelf.old pack.now }
-    ensures text { IfOk result (λ o. IsChecked (S.stands shelf.old graph.now) (S.stands shelf.old pack.now) (bytes_of o)) }
-    ensures within { IfOk result (λ _. S.given shelf.new ≤ PACK_LIMIT) }
-    ensures halt { IfErr result (StopsGraph (record { stands = S.stands shelf.old; given = S.given shelf.new; before = S.faults shelf.old; now = S.faults shelf.new }) (S.stands shelf.old graph.now) (λ a. StopsTables (record { stands = S.stands shelf.old; given = S.given shelf.new; before = S.faults shelf.old; now = S.faults shelf.new }) (S.stands shelf.old pack.now) (IsAfterReading (S.given shelf.new) PACK_LIMIT (StopsVerdict a)))) }
+    ensures text { IfOk result (λ o. IsChecked ((S.state shelf.old).stands graph.now) ((S.state shelf.old).stands pack.now) (bytes_of o)) }
+    ensures within { IfOk result (λ _. given_count (S.state shelf.new) ≤ PACK_LIMIT) }
+    ensures halt { IfErr result (StopsGraph (seen (S.state shelf.old) (S.state shelf.new)) ((S.state shelf.old).stands graph.now) (λ a. StopsTables (seen (S.state shelf.old) (S.state shelf.new)) ((S.state shelf.old).stands pack.now) (IsAfterReading (given_count (S.state shelf.new)) PACK_LIMIT (StopsVerdict a)))) }
 {
     let admitted = admitted_file(alloc, shelf, graph)?;
     check_pack(alloc, shelf, admitted, pack)
@@ -206,9 +207,9 @@ fn play_scenario<S: Shelf>(
     turns: u64,
 ) -> Result<Output, Halt>
     requires { S.may_fetch shelf.old scenario.now }
-    ensures text { IfOk result (λ o. IsPlayedText (S.stands shelf.old scenario.now) admitted tables turns (bytes_of o)) }
-    ensures within { IfOk result (λ _. S.given shelf.new ≤ SCENARIO_LIMIT) }
-    ensures halt { IfErr result (StopsPlay (record { stands = S.stands shelf.old; given = S.given shelf.new; before = S.faults shelf.old; now = S.faults shelf.new }) (S.stands shelf.old scenario.now) admitted tables) }
+    ensures text { IfOk result (λ o. IsPlayedText ((S.state shelf.old).stands scenario.now) admitted tables turns (bytes_of o)) }
+    ensures within { IfOk result (λ _. given_count (S.state shelf.new) ≤ SCENARIO_LIMIT) }
+    ensures halt { IfErr result (StopsPlay (seen (S.state shelf.old) (S.state shelf.new)) ((S.state shelf.old).stands scenario.now) admitted tables) }
 {
     let _head = tables.head();
     let played = read_played(alloc, shelf, scenario, admitted.problem())?;
@@ -230,9 +231,9 @@ fn play_pack<S: Shelf>(
 ) -> Result<Output, Halt>
     requires pack { S.may_fetch shelf.old pack.now }
     requires scenario { S.may_fetch shelf.old scenario.now }
-    ensures text { IfOk result (λ o. IsSpelled (S.stands shelf.old pack.now) (λ t. IsPlayedText (S.stands shelf.old scenario.now) admitted t turns (bytes_of o))) }
-    ensures within { IfOk result (λ _. S.given shelf.new ≤ SCENARIO_LIMIT) }
-    ensures halt { IfErr result (StopsTables (record { stands = S.stands shelf.old; given = S.given shelf.new; before = S.faults shelf.old; now = S.faults shelf.new }) (S.stands shelf.old pack.now) (StopsPlay (record { stands = S.stands shelf.old; given = S.given shelf.new; before = S.faults shelf.old; now = S.faults shelf.new }) (S.stands shelf.old scenario.now) admitted)) }
+    ensures text { IfOk result (λ o. IsSpelled ((S.state shelf.old).stands pack.now) (λ t. IsPlayedText ((S.state shelf.old).stands scenario.now) admitted t turns (bytes_of o))) }
+    ensures within { IfOk result (λ _. given_count (S.state shelf.new) ≤ SCENARIO_LIMIT) }
+    ensures halt { IfErr result (StopsTables (seen (S.state shelf.old) (S.state shelf.new)) ((S.state shelf.old).stands pack.now) (StopsPlay (seen (S.state shelf.old) (S.state shelf.new)) ((S.state shelf.old).stands scenario.now) admitted)) }
 {
     let tables = read_tables(alloc, shelf, pack)?;
     play_scenario(alloc, shelf, admitted, tables, scenario, turns)
@@ -250,9 +251,9 @@ fn play_files<S: Shelf>(
     requires graph { S.may_fetch shelf.old graph.now }
     requires pack { S.may_fetch shelf.old pack.now }
     requires scenario { S.may_fetch shelf.old scenario.now }
-    ensures text { IfOk result (λ o. IsPlayOf (S.stands shelf.old graph.now) (S.stands shelf.old pack.now) (S.stands shelf.old scenario.now) turns (bytes_of o)) }
-    ensures within { IfOk result (λ _. S.given shelf.new ≤ SCENARIO_LIMIT) }
-    ensures halt { IfErr result (StopsGraph (record { stands = S.stands shelf.old; given = S.given shelf.new; before = S.faults shelf.old; now = S.faults shelf.new }) (S.stands shelf.old graph.now) (λ a. StopsTables (record { stands = S.stands shelf.old; given = S.given shelf.new; before = S.faults shelf.old; now = S.faults shelf.new }) (S.stands shelf.old pack.now) (StopsPlay (record { stands = S.stands shelf.old; given = S.given shelf.new; before = S.faults shelf.old; now = S.faults shelf.new }) (S.stands shelf.old scenario.now) a))) }
+    ensures text { IfOk result (λ o. IsPlayOf ((S.state shelf.old).stands graph.now) ((S.state shelf.old).stands pack.now) ((S.state shelf.old).stands scenario.now) turns (bytes_of o)) }
+    ensures within { IfOk result (λ _. given_count (S.state shelf.new) ≤ SCENARIO_LIMIT) }
+    ensures halt { IfErr result (StopsGraph (seen (S.state shelf.old) (S.state shelf.new)) ((S.state shelf.old).stands graph.now) (λ a. StopsTables (seen (S.state shelf.old) (S.state shelf.new)) ((S.state shelf.old).stands pack.now) (StopsPlay (seen (S.state shelf.old) (S.state shelf.new)) ((S.state shelf.old).stands scenario.now) a))) }
 {
     let admitted = admitted_file(alloc, shelf, graph)?;
     play_pack(alloc, shelf, admitted, pack, scenario, turns)
@@ -267,9 +268,9 @@ fn audit_log<S: Shelf>(
     log: &str,
 ) -> Result<Output, Halt>
     requires { S.may_fetch shelf.old log.now }
-    ensures text { IfOk result (λ o. IsAuditedText (S.stands shelf.old log.now) admitted tables.now (bytes_of o)) }
-    ensures within { IfOk result (λ _. S.given shelf.new ≤ LOG_LIMIT) }
-    ensures halt { IfErr result (StopsAudit (record { stands = S.stands shelf.old; given = S.given shelf.new; before = S.faults shelf.old; now = S.faults shelf.new }) (S.stands shelf.old log.now) admitted tables.now) }
+    ensures text { IfOk result (λ o. IsAuditedText ((S.state shelf.old).stands log.now) admitted tables.now (bytes_of o)) }
+    ensures within { IfOk result (λ _. given_count (S.state shelf.new) ≤ LOG_LIMIT) }
+    ensures halt { IfErr result (StopsAudit (seen (S.state shelf.old) (S.state shelf.new)) ((S.state shelf.old).stands log.now) admitted tables.now) }
 {
     let acts = read_acts(alloc, shelf, log, admitted.problem())?;
     let admitted = judged(alloc, admitted, tables)?;
@@ -289,9 +290,9 @@ fn audit_pack<S: Shelf>(
 ) -> Result<Output, Halt>
     requires pack { S.may_fetch shelf.old pack.now }
     requires log { S.may_fetch shelf.old log.now }
-    ensures text { IfOk result (λ o. IsSpelled (S.stands shelf.old pack.now) (λ t. IsAuditedText (S.stands shelf.old log.now) admitted t (bytes_of o))) }
-    ensures within { IfOk result (λ _. S.given shelf.new ≤ LOG_LIMIT) }
-    ensures halt { IfErr result (StopsTables (record { stands = S.stands shelf.old; given = S.given shelf.new; before = S.faults shelf.old; now = S.faults shelf.new }) (S.stands shelf.old pack.now) (StopsAudit (record { stands = S.stands shelf.old; given = S.given shelf.new; before = S.faults shelf.old; now = S.faults shelf.new }) (S.stands shelf.old log.now) admitted)) }
+    ensures text { IfOk result (λ o. IsSpelled ((S.state shelf.old).stands pack.now) (λ t. IsAuditedText ((S.state shelf.old).stands log.now) admitted t (bytes_of o))) }
+    ensures within { IfOk result (λ _. given_count (S.state shelf.new) ≤ LOG_LIMIT) }
+    ensures halt { IfErr result (StopsTables (seen (S.state shelf.old) (S.state shelf.new)) ((S.state shelf.old).stands pack.now) (StopsAudit (seen (S.state shelf.old) (S.state shelf.new)) ((S.state shelf.old).stands log.now) admitted)) }
 {
     let tables = read_tables(alloc, shelf, pack)?;
     audit_log(alloc, shelf, admitted, &tables, log)
@@ -308,9 +309,9 @@ fn audit_files<S: Shelf>(
     requires graph { S.may_fetch shelf.old graph.now }
     requires pack { S.may_fetch shelf.old pack.now }
     requires log { S.may_fetch shelf.old log.now }
-    ensures text { IfOk result (λ o. IsAuditOf (S.stands shelf.old graph.now) (S.stands shelf.old pack.now) (S.stands shelf.old log.now) (bytes_of o)) }
-    ensures within { IfOk result (λ _. S.given shelf.new ≤ LOG_LIMIT) }
-    ensures halt { IfErr result (StopsGraph (record { stands = S.stands shelf.old; given = S.given shelf.new; before = S.faults shelf.old; now = S.faults shelf.new }) (S.stands shelf.old graph.now) (λ a. StopsTables (record { stands = S.stands shelf.old; given = S.given shelf.new; before = S.faults shelf.old; now = S.faults shelf.new }) (S.stands shelf.old pack.now) (StopsAudit (record { stands = S.stands shelf.old; given = S.given shelf.new; before = S.faults shelf.old; now = S.faults shelf.new }) (S.stands shelf.old log.now) a))) }
+    ensures text { IfOk result (λ o. IsAuditOf ((S.state shelf.old).stands graph.now) ((S.state shelf.old).stands pack.now) ((S.state shelf.old).stands log.now) (bytes_of o)) }
+    ensures within { IfOk result (λ _. given_count (S.state shelf.new) ≤ LOG_LIMIT) }
+    ensures halt { IfErr result (StopsGraph (seen (S.state shelf.old) (S.state shelf.new)) ((S.state shelf.old).stands graph.now) (λ a. StopsTables (seen (S.state shelf.old) (S.state shelf.new)) ((S.state shelf.old).stands pack.now) (StopsAudit (seen (S.state shelf.old) (S.state shelf.new)) ((S.state shelf.old).stands log.now) a))) }
 {
     let admitted = admitted_file(alloc, shelf, graph)?;
     audit_pack(alloc, shelf, admitted, pack, log)
@@ -349,9 +350,9 @@ fn node_lines(alloc: Global, tables: &Tables, name: &str) -> Result<Output, Halt
 /// Prints the table of the first node of a name in a pack.
 fn node<S: Shelf>(alloc: Global, shelf: &mut S, pack: &str, name: &str) -> Result<Output, Halt>
     requires { S.may_fetch shelf.old pack.now }
-    ensures text { IfOk result (λ o. IsNodeOf (S.stands shelf.old pack.now) name.now (bytes_of o)) }
-    ensures within { IfOk result (λ _. S.given shelf.new ≤ PACK_LIMIT) }
-    ensures halt { IfErr result (StopsTables (record { stands = S.stands shelf.old; given = S.given shelf.new; before = S.faults shelf.old; now = S.faults shelf.new }) (S.stands shelf.old pack.now) (IsAfterReading (S.given shelf.new) PACK_LIMIT (λ t. StopsNaming t name.now))) }
+    ensures text { IfOk result (λ o. IsNodeOf ((S.state shelf.old).stands pack.now) name.now (bytes_of o)) }
+    ensures within { IfOk result (λ _. given_count (S.state shelf.new) ≤ PACK_LIMIT) }
+    ensures halt { IfErr result (StopsTables (seen (S.state shelf.old) (S.state shelf.new)) ((S.state shelf.old).stands pack.now) (IsAfterReading (given_count (S.state shelf.new)) PACK_LIMIT (λ t. StopsNaming t name.now))) }
 {
     let tables = read_tables(alloc, shelf, pack)?;
     let lines = node_lines(alloc, &tables, name)?;
@@ -366,9 +367,9 @@ pub fn command_output<S: Shelf>(
 ) -> Result<Output, Halt>
     requires files { All (λ w. S.may_fetch shelf.old w) (file_words command.now) }
     requires at_end { PutsOutAtEnd command.now }
-    ensures text { IfOk result (λ o. IsOutputOf (record { stands = S.stands shelf.old; given = S.given shelf.new; before = S.faults shelf.old; now = S.faults shelf.new }) command.now (bytes_of o)) }
-    ensures within { IfOk result (λ _. ReadsWithin command.now (S.given shelf.new)) }
-    ensures halt { IfErr result (StopsCommand (record { stands = S.stands shelf.old; given = S.given shelf.new; before = S.faults shelf.old; now = S.faults shelf.new }) command.now) }
+    ensures text { IfOk result (λ o. IsOutputOf (seen (S.state shelf.old) (S.state shelf.new)) command.now (bytes_of o)) }
+    ensures within { IfOk result (λ _. ReadsWithin command.now (given_count (S.state shelf.new))) }
+    ensures halt { IfErr result (StopsCommand (seen (S.state shelf.old) (S.state shelf.new)) command.now) }
 {
     match command {
         Command::Show { graph } => show(alloc, shelf, graph.as_str()),

@@ -5,11 +5,14 @@ ghost use Rattle.cpg_words.specs.Forms.{command_of};
 ghost use Rattle.cpg_words.specs.Parts.{Text};
 ghost use Rattle.cpg_words.specs.declared.command.Command.TheVariants.{Live};
 ghost use Rattle.cpg_app.specs.declared.reading.TheConstants.{PACK_LIMIT};
-ghost use Rattle.cpg_app.specs.Causes.{IsAfterReading, StopsNaming, StopsTables};
+ghost use Rattle.cpg_app.specs.Causes.{IsAfterReading, StopsNaming, StopsTables, seen};
 ghost use Rattle.cpg_app.specs.Endings.{IsSaid, IsToldTo};
 ghost use Rattle.cpg_live.specs.Follower.{open_follower};
 ghost use Rattle.cpg_app.specs.Lawful.{IsLawful};
 ghost use Rattle.cpg_app.specs.Outputs.{IsFollower, IsSpelled};
+ghost use Rattle.cpg_app.specs.Told.{sent};
+ghost use Rattle.cpg_io.specs.State.{given_count};
+ghost use Rattle.cpg_live.specs.Following.{streamed};
 
 use crate::answer::{cut, send, stop};
 use crate::commands::first_named;
@@ -42,11 +45,11 @@ fn follower_of<S: Shelf>(
     name: &str,
 ) -> Result<Follower, Halt>
     requires { S.may_fetch shelf.old pack.now }
-    ensures names { SameNames (S.stands shelf.old) (S.stands shelf.new) }
+    ensures names { SameNames (S.state shelf.old) (S.state shelf.new) }
     ensures leave { SameLeave (S.may_fetch shelf.old) (S.may_fetch shelf.new) }
-    ensures later { S.faults shelf.old ≤ S.faults shelf.new }
-    ensures follower { IfOk result (λ f. IsSpelled (S.stands shelf.old pack.now) (λ t. IsFollower t name.now f)) }
-    ensures halt { IfErr result (StopsTables (record { stands = S.stands shelf.old; given = S.given shelf.new; before = S.faults shelf.old; now = S.faults shelf.new }) (S.stands shelf.old pack.now) (IsAfterReading (S.given shelf.new) PACK_LIMIT (λ t. StopsNaming t name.now))) }
+    ensures later { (S.state shelf.old).faults ≤ (S.state shelf.new).faults }
+    ensures follower { IfOk result (λ f. IsSpelled ((S.state shelf.old).stands pack.now) (λ t. IsFollower t name.now f)) }
+    ensures halt { IfErr result (StopsTables (seen (S.state shelf.old) (S.state shelf.new)) ((S.state shelf.old).stands pack.now) (IsAfterReading (given_count (S.state shelf.new)) PACK_LIMIT (λ t. StopsNaming t name.now))) }
 {
     let tables = read_tables(alloc, shelf, pack)?;
     let follower = named_follower(alloc, tables, name)?;
@@ -55,7 +58,7 @@ fn follower_of<S: Shelf>(
 
 /// Says why a stream isn't followed to its close.
 fn say<E: Sink>(follower: &mut Follower, broken: Broken, err: &mut E) -> u8
-    ensures { IsSaid (record { before = E.faults err.old; now = E.faults err.new; old = E.taken err.old; new = E.taken err.new }) result broken }
+    ensures { IsSaid (sent (E.state err.old) (E.state err.new)) result broken }
 {
     match broken {
         Broken::Shelf => send(2, b"cpgc: read fault\n", err),
@@ -74,7 +77,7 @@ fn follow_told<S: Shelf, O: Sink, E: Sink>(
 ) -> u8
     requires may { S.may_fetch shelf.old stream.now }
     requires opened { follower.old ≡ open_follower follower.old.head follower.old.table }
-    ensures { IsToldTo follower.old.head follower.old.table (record { told = S.stands shelf.old stream.now; given = S.given shelf.new; shelf_before = S.faults shelf.old; shelf_now = S.faults shelf.new; out_before = O.faults out.old; out_now = O.faults out.new; old = O.taken out.old; new = O.taken out.new }) (record { before = E.faults err.old; now = E.faults err.new; old = E.taken err.old; new = E.taken err.new }) result }
+    ensures { IsToldTo follower.old.head follower.old.table (streamed ((S.state shelf.old).stands stream.now) (O.state out.old).taken (S.state shelf.old) (S.state shelf.new) (O.state out.old) (O.state out.new)) (sent (E.state err.old) (E.state err.new)) result }
 {
     match follower.follow(shelf, stream, out) {
         Ok(()) => 0,
@@ -94,7 +97,7 @@ pub fn live<S: Shelf, O: Sink, E: Sink>(
 ) -> u8
     requires pack { S.may_fetch shelf.old pack.now }
     requires stream { S.may_fetch shelf.old stream.now }
-    ensures { (words : List Text) → command_of words ≡ Some (Live pack.now name.now stream.now) → IsLawful (record { words = words; shelf = record { stands = S.stands shelf.old; given = S.given shelf.new; before = S.faults shelf.old; now = S.faults shelf.new }; out = record { before = O.faults out.old; now = O.faults out.new; old = O.taken out.old; new = O.taken out.new }; err = record { before = E.faults err.old; now = E.faults err.new; old = E.taken err.old; new = E.taken err.new }; status = result }) }
+    ensures { (words : List Text) → command_of words ≡ Some (Live pack.now name.now stream.now) → IsLawful (record { words = words; shelf = seen (S.state shelf.old) (S.state shelf.new); out = sent (O.state out.old) (O.state out.new); err = sent (E.state err.old) (E.state err.new); status = result }) }
 {
     let mut follower = match follower_of(alloc, shelf, pack, name) {
         Ok(follower) => follower,

@@ -2,8 +2,9 @@
 ghost use Rattle.std.specs.Prelude.{◌≡◌, ◌<◌, ◌≤◌, ◌++◌, ◌∷◌, [], All, IfOk, IfErr, OnOk, length, map};
 ghost use Rattle.cpg_refusal.specs.declared.halt.Halt.TheVariants.{Memory};
 ghost use Rattle.cpg_app.specs.declared.reading.TheConstants.{GRAPH_LIMIT};
-ghost use Rattle.cpg_app.specs.Causes.{AreSaid, IsNotUnrolled, StopsParts, StopsReadingParts};
+ghost use Rattle.cpg_app.specs.Causes.{AreSaid, IsNotUnrolled, StopsParts, StopsReadingParts, seen};
 ghost use Rattle.cpg_app.specs.Outputs.{bytes_of, IsUnrolledOf, IsUnrolledText};
+ghost use Rattle.cpg_io.specs.State.{given_count};
 
 use crate::output::Output;
 use crate::reading::read_graph;
@@ -27,9 +28,9 @@ fn add(parts: &mut Vec<Part>, period: u64, problem: Problem) -> Result<(), Halt>
 /// Reads the graph files of the parts, in order.
 fn read_parts<S: Shelf>(alloc: Global, shelf: &mut S, pairs: &[Pair]) -> Result<Vec<Part>, Halt>
     requires { All (λ w. S.may_fetch shelf.old w) (map (λ pair. pair.graph) pairs.now) }
-    ensures parts { IfOk result (λ parts. AreSaid (S.stands shelf.old) pairs.now parts.items) }
-    ensures within { IfOk result (λ _. 0 < length pairs.now → S.given shelf.new ≤ GRAPH_LIMIT) }
-    ensures halt { IfErr result (StopsReadingParts (record { stands = S.stands shelf.old; given = S.given shelf.new; before = S.faults shelf.old; now = S.faults shelf.new }) pairs.now) }
+    ensures parts { IfOk result (λ parts. AreSaid (S.state shelf.old).stands pairs.now parts.items) }
+    ensures within { IfOk result (λ _. 0 < length pairs.now → given_count (S.state shelf.new) ≤ GRAPH_LIMIT) }
+    ensures halt { IfErr result (StopsReadingParts (seen (S.state shelf.old) (S.state shelf.new)) pairs.now) }
 {
     let mut parts = Vec::new(alloc);
     for pair in pairs {
@@ -61,9 +62,9 @@ pub fn hyper<S: Shelf>(alloc: Global, shelf: &mut S, pairs: &[Pair]) -> Result<O
     requires files { All (λ w. S.may_fetch shelf.old w) (map (λ pair. pair.graph) pairs.now) }
     requires some { 0 < length pairs.now }
     requires few { length pairs.now ≤ 4 }
-    ensures text { IfOk result (λ o. IsUnrolledOf (S.stands shelf.old) pairs.now (bytes_of o)) }
-    ensures within { IfOk result (λ _. S.given shelf.new ≤ GRAPH_LIMIT) }
-    ensures halt { IfErr result (StopsParts (record { stands = S.stands shelf.old; given = S.given shelf.new; before = S.faults shelf.old; now = S.faults shelf.new }) pairs.now) }
+    ensures text { IfOk result (λ o. IsUnrolledOf (S.state shelf.old).stands pairs.now (bytes_of o)) }
+    ensures within { IfOk result (λ _. given_count (S.state shelf.new) ≤ GRAPH_LIMIT) }
+    ensures halt { IfErr result (StopsParts (seen (S.state shelf.old) (S.state shelf.new)) pairs.now) }
 {
     let parts = read_parts(alloc, shelf, pairs)?;
     let text = unrolled_text(alloc, parts.as_slice())?;

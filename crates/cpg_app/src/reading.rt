@@ -2,9 +2,10 @@
 ghost use Rattle.std.specs.Prelude.{◌≡◌, ◌≤◌, IfOk, IfErr};
 ghost use Rattle.cpg_io.specs.Shelf.{SameLeave, SameNames};
 ghost use Rattle.cpg_rules.specs.Admission.{IsAdmitted};
-ghost use Rattle.cpg_app.specs.Causes.{BreaksRule, Says, SaysLog, SaysPlayed, Spells, StopsLog, StopsPack, StopsPlayed, StopsReading};
+ghost use Rattle.cpg_app.specs.Causes.{BreaksRule, Says, SaysLog, SaysPlayed, Spells, StopsLog, StopsPack, StopsPlayed, StopsReading, seen};
 ghost use Rattle.cpg_log.specs.Log.{IsLog};
 ghost use Rattle.cpg_scenario.specs.File.{IsPlayed};
+ghost use Rattle.cpg_io.specs.State.{given_count};
 
 use crate::halt::halt_of_log;
 use cpg_base::Problem;
@@ -33,12 +34,12 @@ const PACK_LIMIT: usize = 268_435_456;
 /// Reads a graph file whole, and the graph that it says.
 pub fn read_graph<S: Shelf>(alloc: Global, shelf: &mut S, name: &str) -> Result<Problem, Halt>
     requires { S.may_fetch shelf.old name.now }
-    ensures names { SameNames (S.stands shelf.old) (S.stands shelf.new) }
+    ensures names { SameNames (S.state shelf.old) (S.state shelf.new) }
     ensures leave { SameLeave (S.may_fetch shelf.old) (S.may_fetch shelf.new) }
-    ensures later { S.faults shelf.old ≤ S.faults shelf.new }
-    ensures graph { IfOk result (Says (S.stands shelf.old name.now)) }
-    ensures within { IfOk result (λ _. S.given shelf.new ≤ GRAPH_LIMIT) }
-    ensures halt { IfErr result (StopsReading (record { stands = S.stands shelf.old; given = S.given shelf.new; before = S.faults shelf.old; now = S.faults shelf.new }) (S.stands shelf.old name.now)) }
+    ensures later { (S.state shelf.old).faults ≤ (S.state shelf.new).faults }
+    ensures graph { IfOk result (Says ((S.state shelf.old).stands name.now)) }
+    ensures within { IfOk result (λ _. given_count (S.state shelf.new) ≤ GRAPH_LIMIT) }
+    ensures halt { IfErr result (StopsReading (seen (S.state shelf.old) (S.state shelf.new)) ((S.state shelf.old).stands name.now)) }
 {
     let bytes = match read_all(alloc, shelf, name, GRAPH_LIMIT) {
         Ok(bytes) => bytes,
@@ -67,12 +68,12 @@ pub fn admit_graph(alloc: Global, graph: Problem) -> Result<Admitted, Halt>
 /// Reads a pack whole, and the tables that it spells.
 pub fn read_tables<S: Shelf>(alloc: Global, shelf: &mut S, name: &str) -> Result<Tables, Halt>
     requires { S.may_fetch shelf.old name.now }
-    ensures names { SameNames (S.stands shelf.old) (S.stands shelf.new) }
+    ensures names { SameNames (S.state shelf.old) (S.state shelf.new) }
     ensures leave { SameLeave (S.may_fetch shelf.old) (S.may_fetch shelf.new) }
-    ensures later { S.faults shelf.old ≤ S.faults shelf.new }
-    ensures tables { IfOk result (Spells (S.stands shelf.old name.now)) }
-    ensures within { IfOk result (λ _. S.given shelf.new ≤ PACK_LIMIT) }
-    ensures halt { IfErr result (StopsPack (record { stands = S.stands shelf.old; given = S.given shelf.new; before = S.faults shelf.old; now = S.faults shelf.new }) (S.stands shelf.old name.now)) }
+    ensures later { (S.state shelf.old).faults ≤ (S.state shelf.new).faults }
+    ensures tables { IfOk result (Spells ((S.state shelf.old).stands name.now)) }
+    ensures within { IfOk result (λ _. given_count (S.state shelf.new) ≤ PACK_LIMIT) }
+    ensures halt { IfErr result (StopsPack (seen (S.state shelf.old) (S.state shelf.new)) ((S.state shelf.old).stands name.now)) }
 {
     let bytes = match read_all(alloc, shelf, name, PACK_LIMIT) {
         Ok(bytes) => bytes,
@@ -94,10 +95,10 @@ pub fn read_played<S: Shelf>(
     problem: &Problem,
 ) -> Result<Played, Halt>
     requires { S.may_fetch shelf.old name.now }
-    ensures says { IfOk result (SaysPlayed (S.stands shelf.old name.now) problem.now) }
+    ensures says { IfOk result (SaysPlayed ((S.state shelf.old).stands name.now) problem.now) }
     ensures played { IfOk result (IsPlayed problem.now) }
-    ensures within { IfOk result (λ _. S.given shelf.new ≤ SCENARIO_LIMIT) }
-    ensures halt { IfErr result (StopsPlayed (record { stands = S.stands shelf.old; given = S.given shelf.new; before = S.faults shelf.old; now = S.faults shelf.new }) (S.stands shelf.old name.now) problem.now) }
+    ensures within { IfOk result (λ _. given_count (S.state shelf.new) ≤ SCENARIO_LIMIT) }
+    ensures halt { IfErr result (StopsPlayed (seen (S.state shelf.old) (S.state shelf.new)) ((S.state shelf.old).stands name.now) problem.now) }
 {
     let bytes = match read_all(alloc, shelf, name, SCENARIO_LIMIT) {
         Ok(bytes) => bytes,
@@ -119,10 +120,10 @@ pub fn read_acts<S: Shelf>(
     problem: &Problem,
 ) -> Result<Log, Halt>
     requires { S.may_fetch shelf.old name.now }
-    ensures says { IfOk result (SaysLog (S.stands shelf.old name.now) problem.now) }
+    ensures says { IfOk result (SaysLog ((S.state shelf.old).stands name.now) problem.now) }
     ensures lawful { IfOk result (IsLog problem.now) }
-    ensures within { IfOk result (λ _. S.given shelf.new ≤ LOG_LIMIT) }
-    ensures halt { IfErr result (StopsLog (record { stands = S.stands shelf.old; given = S.given shelf.new; before = S.faults shelf.old; now = S.faults shelf.new }) (S.stands shelf.old name.now) problem.now) }
+    ensures within { IfOk result (λ _. given_count (S.state shelf.new) ≤ LOG_LIMIT) }
+    ensures halt { IfErr result (StopsLog (seen (S.state shelf.old) (S.state shelf.new)) ((S.state shelf.old).stands name.now) problem.now) }
 {
     let bytes = match read_all(alloc, shelf, name, LOG_LIMIT) {
         Ok(bytes) => bytes,

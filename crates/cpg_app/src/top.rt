@@ -7,7 +7,8 @@ ghost use Rattle.cpg_refusal.specs.Halts.{halt_of_words};
 ghost use Rattle.cpg_app.specs.Lawful.{IsLawful};
 ghost use Rattle.cpg_refusal.specs.Lines.{line_of, status_of};
 ghost use Rattle.cpg_app.specs.Outputs.{PutsOutAtEnd};
-ghost use Rattle.cpg_app.specs.Told.{Sent};
+ghost use Rattle.cpg_app.specs.Told.{Sent, sent};
+ghost use Rattle.cpg_app.specs.Causes.{seen};
 
 use crate::answer::{cut, put, stop};
 use crate::commands::command_output;
@@ -28,7 +29,7 @@ fn print<S: Shelf, O: Sink, E: Sink>(
 ) -> u8
     requires files { All (λ w. S.may_fetch shelf.old w) (file_words command.now) }
     requires at_end { PutsOutAtEnd command.now }
-    ensures { (words : List Text) → command_of words ≡ Some command.now → IsLawful (record { words = words; shelf = record { stands = S.stands shelf.old; given = S.given shelf.new; before = S.faults shelf.old; now = S.faults shelf.new }; out = record { before = O.faults out.old; now = O.faults out.new; old = O.taken out.old; new = O.taken out.new }; err = record { before = E.faults err.old; now = E.faults err.new; old = E.taken err.old; new = E.taken err.new }; status = result }) }
+    ensures { (words : List Text) → command_of words ≡ Some command.now → IsLawful (record { words = words; shelf = seen (S.state shelf.old) (S.state shelf.new); out = sent (O.state out.old) (O.state out.new); err = sent (E.state err.old) (E.state err.new); status = result }) }
 {
     match command_output(alloc, shelf, command) {
         Ok(output) => match put(alloc, &output, out) {
@@ -51,7 +52,7 @@ pub fn run<S: Shelf, O: Sink, E: Sink>(
     err: &mut E,
 ) -> u8
     requires { All (λ w. S.may_fetch shelf.old w) (file_words_of (map string_bytes words.now)) }
-    ensures { IsLawful (record { words = map string_bytes words.now; shelf = record { stands = S.stands shelf.old; given = S.given shelf.new; before = S.faults shelf.old; now = S.faults shelf.new }; out = record { before = O.faults out.old; now = O.faults out.new; old = O.taken out.old; new = O.taken out.new }; err = record { before = E.faults err.old; now = E.faults err.new; old = E.taken err.old; new = E.taken err.new }; status = result }) }
+    ensures { IsLawful (record { words = map string_bytes words.now; shelf = seen (S.state shelf.old) (S.state shelf.new); out = sent (O.state out.old) (O.state out.new); err = sent (E.state err.old) (E.state err.new); status = result }) }
 {
     let command = match read_words(alloc, words) {
         Ok(command) => command,
@@ -74,7 +75,7 @@ pub fn run<S: Shelf, O: Sink, E: Sink>(
 /// Ends a run whose words can't be had: one of them is no text, or memory ran out. Writes the line that says so to `err`, or
 /// that of want of memory where there is none for the line, and answers the exit status.
 pub fn run_without_words<E: Sink>(alloc: Global, fault: WordsFault, err: &mut E) -> u8
-    ensures { Sent (record { before = E.faults err.old; now = E.faults err.new; old = E.taken err.old; new = E.taken err.new }) result (status_of (halt_of_words fault)) (line_of (halt_of_words fault)) ⊎ Sent (record { before = E.faults err.old; now = E.faults err.new; old = E.taken err.old; new = E.taken err.new }) result (status_of Halt.Memory) (line_of Halt.Memory) }
+    ensures { Sent (sent (E.state err.old) (E.state err.new)) result (status_of (halt_of_words fault)) (line_of (halt_of_words fault)) ⊎ Sent (sent (E.state err.old) (E.state err.new)) result (status_of Halt.Memory) (line_of Halt.Memory) }
 {
     match fault {
         WordsFault::Bad => stop(alloc, &Halt::Words, err),

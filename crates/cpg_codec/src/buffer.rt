@@ -114,10 +114,10 @@ impl Buffer {
 
     /// Writes all that is held.
     pub fn write<O: Sink>(&mut self, sink: &mut O) -> Result<(), Failed>
-        ensures whole { OnOk result (Appends (O.taken sink.old) (O.taken sink.new) self.old) }
-        ensures part { OnErr result (TookPrefix (O.taken sink.old) (O.taken sink.new) self.old) }
+        ensures whole { OnOk result (Appends (O.state sink.old).taken (O.state sink.new).taken self.old) }
+        ensures part { OnErr result (TookPrefix (O.state sink.old).taken (O.state sink.new).taken self.old) }
         ensures empty { OnOk result (self.new ≡ []) }
-        ensures cause { HasCause (O.faults sink.old) (O.faults sink.new) result }
+        ensures cause { HasCause (O.state sink.old).faults (O.state sink.new).faults result }
     {
         write_all(sink, self.bytes.as_slice())?;
         self.bytes.clear();
@@ -127,8 +127,8 @@ impl Buffer {
     /// Adds a piece, and writes the buffer whole where that makes it full.
     pub fn put<O: Sink>(&mut self, sink: &mut O, piece: &[u8]) -> Result<(), Failed>
         requires { length piece.now ≤ 65536 }
-        ensures put { Puts (O.taken sink.old) (O.taken sink.new) self.old self.new result piece.now }
-        ensures cause { HasCause (O.faults sink.old) (O.faults sink.new) result }
+        ensures put { Puts (O.state sink.old).taken (O.state sink.new).taken self.old self.new result piece.now }
+        ensures cause { HasCause (O.state sink.old).faults (O.state sink.new).faults result }
     {
         let free = self.room();
         if piece.len() < free {

@@ -15,23 +15,23 @@ use cpg_io::{Failed, Sink};
 
 fn put_text<O: Sink>(buffer: &mut Buffer, sink: &mut O, text: &[u8]) -> Result<(), Failed>
     requires { length text.now ≤ 32 }
-    ensures put { Puts (O.taken sink.old) (O.taken sink.new) buffer.old buffer.new result (name_bytes text.now) }
-    ensures cause { HasCause (O.faults sink.old) (O.faults sink.new) result }
+    ensures put { Puts (O.state sink.old).taken (O.state sink.new).taken buffer.old buffer.new result (name_bytes text.now) }
+    ensures cause { HasCause (O.state sink.old).faults (O.state sink.new).faults result }
 {
     buffer.put(sink, &[text.len() as u8])?;
     buffer.put(sink, text)
 }
 
 fn put_name<O: Sink>(buffer: &mut Buffer, sink: &mut O, name: &Name) -> Result<(), Failed>
-    ensures put { Puts (O.taken sink.old) (O.taken sink.new) buffer.old buffer.new result (name_bytes name.now) }
-    ensures cause { HasCause (O.faults sink.old) (O.faults sink.new) result }
+    ensures put { Puts (O.state sink.old).taken (O.state sink.new).taken buffer.old buffer.new result (name_bytes name.now) }
+    ensures cause { HasCause (O.state sink.old).faults (O.state sink.new).faults result }
 {
     put_text(buffer, sink, name.as_str().as_bytes())
 }
 
 fn put_names<O: Sink>(buffer: &mut Buffer, sink: &mut O, names: &[Name]) -> Result<(), Failed>
-    ensures put { Puts (O.taken sink.old) (O.taken sink.new) buffer.old buffer.new result (flat_map name_bytes names.now) }
-    ensures cause { HasCause (O.faults sink.old) (O.faults sink.new) result }
+    ensures put { Puts (O.state sink.old).taken (O.state sink.new).taken buffer.old buffer.new result (flat_map name_bytes names.now) }
+    ensures cause { HasCause (O.state sink.old).faults (O.state sink.new).faults result }
 {
     for name in names {
         put_name(buffer, sink, name)?;
@@ -40,8 +40,8 @@ fn put_names<O: Sink>(buffer: &mut Buffer, sink: &mut O, names: &[Name]) -> Resu
 }
 
 fn put_times<O: Sink>(buffer: &mut Buffer, sink: &mut O, times: &[u64]) -> Result<(), Failed>
-    ensures put { Puts (O.taken sink.old) (O.taken sink.new) buffer.old buffer.new result (flat_map (to_be_bytes w64) times.now) }
-    ensures cause { HasCause (O.faults sink.old) (O.faults sink.new) result }
+    ensures put { Puts (O.state sink.old).taken (O.state sink.new).taken buffer.old buffer.new result (flat_map (to_be_bytes w64) times.now) }
+    ensures cause { HasCause (O.state sink.old).faults (O.state sink.new).faults result }
 {
     for time in times {
         put_long(buffer, sink, *time)?;
@@ -59,8 +59,8 @@ fn own_number(deadline: Option<u64>) -> u64
 }
 
 fn put_extra<O: Sink>(buffer: &mut Buffer, sink: &mut O, extra: Option<Extra>) -> Result<(), Failed>
-    ensures put { Puts (O.taken sink.old) (O.taken sink.new) buffer.old buffer.new result (extra_bytes extra) }
-    ensures cause { HasCause (O.faults sink.old) (O.faults sink.new) result }
+    ensures put { Puts (O.state sink.old).taken (O.state sink.new).taken buffer.old buffer.new result (extra_bytes extra) }
+    ensures cause { HasCause (O.state sink.old).faults (O.state sink.new).faults result }
 {
     let Some(extra) = extra else {
         return Ok(());
@@ -82,8 +82,8 @@ fn put_timing<O: Sink>(
     times: &[u64],
     extra: Option<Extra>,
 ) -> Result<(), Failed>
-    ensures put { Puts (O.taken sink.old) (O.taken sink.new) buffer.old buffer.new result (flat_map (to_be_bytes w64) times.now ++ extra_bytes extra) }
-    ensures cause { HasCause (O.faults sink.old) (O.faults sink.new) result }
+    ensures put { Puts (O.state sink.old).taken (O.state sink.new).taken buffer.old buffer.new result (flat_map (to_be_bytes w64) times.now ++ extra_bytes extra) }
+    ensures cause { HasCause (O.state sink.old).faults (O.state sink.new).faults result }
 {
     put_times(buffer, sink, times)?;
     put_extra(buffer, sink, extra)
@@ -96,8 +96,8 @@ fn put_process<O: Sink>(
     extra: Option<Extra>,
 ) -> Result<(), Failed>
     requires { process.now.node < 256 }
-    ensures put { Puts (O.taken sink.old) (O.taken sink.new) buffer.old buffer.new result (process_bytes (record { process = process.now; extra = extra })) }
-    ensures cause { HasCause (O.faults sink.old) (O.faults sink.new) result }
+    ensures put { Puts (O.state sink.old).taken (O.state sink.new).taken buffer.old buffer.new result (process_bytes (record { process = process.now; extra = extra })) }
+    ensures cause { HasCause (O.state sink.old).faults (O.state sink.new).faults result }
 {
     put_name(buffer, sink, &process.name)?;
     buffer.put(sink, &[process.node as u8, bit_of(process.condition)])?;
@@ -116,8 +116,8 @@ fn extra_of(head: &Head, process: u32) -> Option<Extra>
 }
 
 fn put_processes<O: Sink>(buffer: &mut Buffer, sink: &mut O, head: &Head) -> Result<(), Failed>
-    ensures put { Puts (O.taken sink.old) (O.taken sink.new) buffer.old buffer.new result (flat_map process_bytes (written head.now)) }
-    ensures cause { HasCause (O.faults sink.old) (O.faults sink.new) result }
+    ensures put { Puts (O.state sink.old).taken (O.state sink.new).taken buffer.old buffer.new result (flat_map process_bytes (written head.now)) }
+    ensures cause { HasCause (O.state sink.old).faults (O.state sink.new).faults result }
 {
     let processes = head.processes();
     let count = processes.len() as u32;
@@ -130,8 +130,8 @@ fn put_processes<O: Sink>(buffer: &mut Buffer, sink: &mut O, head: &Head) -> Res
 
 fn put_edges<O: Sink>(buffer: &mut Buffer, sink: &mut O, edges: &[(u32, u32)]) -> Result<(), Failed>
     requires { All IsShortEdge edges.now }
-    ensures put { Puts (O.taken sink.old) (O.taken sink.new) buffer.old buffer.new result (flat_map edge_bytes edges.now) }
-    ensures cause { HasCause (O.faults sink.old) (O.faults sink.new) result }
+    ensures put { Puts (O.state sink.old).taken (O.state sink.new).taken buffer.old buffer.new result (flat_map edge_bytes edges.now) }
+    ensures cause { HasCause (O.state sink.old).faults (O.state sink.new).faults result }
 {
     for (from, to) in edges {
         buffer.put(sink, &[*from as u8, *to as u8])?;
@@ -147,8 +147,8 @@ fn put_counted_edges<O: Sink>(
 ) -> Result<(), Failed>
     requires few { length edges.now ≤ 256 }
     requires short { All IsShortEdge edges.now }
-    ensures put { Puts (O.taken sink.old) (O.taken sink.new) buffer.old buffer.new result (to_be_bytes w16 (length edges.now) ++ flat_map edge_bytes edges.now) }
-    ensures cause { HasCause (O.faults sink.old) (O.faults sink.new) result }
+    ensures put { Puts (O.state sink.old).taken (O.state sink.new).taken buffer.old buffer.new result (to_be_bytes w16 (length edges.now) ++ flat_map edge_bytes edges.now) }
+    ensures cause { HasCause (O.state sink.old).faults (O.state sink.new).faults result }
 {
     put_short(buffer, sink, edges.len() as u16)?;
     put_edges(buffer, sink, edges)
@@ -156,8 +156,8 @@ fn put_counted_edges<O: Sink>(
 
 /// The processes and the edges.
 fn put_graph<O: Sink>(buffer: &mut Buffer, sink: &mut O, head: &Head) -> Result<(), Failed>
-    ensures put { Puts (O.taken sink.old) (O.taken sink.new) buffer.old buffer.new result (byte (length head.now.processes) ++ (flat_map process_bytes (written head.now) ++ (to_be_bytes w16 (length head.now.edges) ++ flat_map edge_bytes head.now.edges))) }
-    ensures cause { HasCause (O.faults sink.old) (O.faults sink.new) result }
+    ensures put { Puts (O.state sink.old).taken (O.state sink.new).taken buffer.old buffer.new result (byte (length head.now.processes) ++ (flat_map process_bytes (written head.now) ++ (to_be_bytes w16 (length head.now.edges) ++ flat_map edge_bytes head.now.edges))) }
+    ensures cause { HasCause (O.state sink.old).faults (O.state sink.new).faults result }
 {
     buffer.put(sink, &[head.processes().len() as u8])?;
     put_processes(buffer, sink, head)?;
@@ -166,8 +166,8 @@ fn put_graph<O: Sink>(buffer: &mut Buffer, sink: &mut O, head: &Head) -> Result<
 
 /// The head.
 pub fn put_head<O: Sink>(buffer: &mut Buffer, sink: &mut O, head: &Head) -> Result<(), Failed>
-    ensures put { Puts (O.taken sink.old) (O.taken sink.new) buffer.old buffer.new result (head_bytes head.now) }
-    ensures cause { HasCause (O.faults sink.old) (O.faults sink.new) result }
+    ensures put { Puts (O.state sink.old).taken (O.state sink.new).taken buffer.old buffer.new result (head_bytes head.now) }
+    ensures cause { HasCause (O.state sink.old).faults (O.state sink.new).faults result }
 {
     let nodes = head.nodes();
     let count = nodes.len() as u8;

@@ -13,24 +13,24 @@ use cpg_table::{NodeTable, Row};
 
 /// A number of eight bytes.
 pub fn put_long<O: Sink>(buffer: &mut Buffer, sink: &mut O, number: u64) -> Result<(), Failed>
-    ensures put { Puts (O.taken sink.old) (O.taken sink.new) buffer.old buffer.new result (to_be_bytes w64 number) }
-    ensures cause { HasCause (O.faults sink.old) (O.faults sink.new) result }
+    ensures put { Puts (O.state sink.old).taken (O.state sink.new).taken buffer.old buffer.new result (to_be_bytes w64 number) }
+    ensures cause { HasCause (O.state sink.old).faults (O.state sink.new).faults result }
 {
     buffer.put(sink, &number.to_be_bytes())
 }
 
 /// A number of two bytes.
 pub fn put_short<O: Sink>(buffer: &mut Buffer, sink: &mut O, number: u16) -> Result<(), Failed>
-    ensures put { Puts (O.taken sink.old) (O.taken sink.new) buffer.old buffer.new result (to_be_bytes w16 number) }
-    ensures cause { HasCause (O.faults sink.old) (O.faults sink.new) result }
+    ensures put { Puts (O.state sink.old).taken (O.state sink.new).taken buffer.old buffer.new result (to_be_bytes w16 number) }
+    ensures cause { HasCause (O.state sink.old).faults (O.state sink.new).faults result }
 {
     buffer.put(sink, &number.to_be_bytes())
 }
 
 /// Literals, one after another.
 fn put_each<O: Sink>(buffer: &mut Buffer, sink: &mut O, literals: &[Literal]) -> Result<(), Failed>
-    ensures put { Puts (O.taken sink.old) (O.taken sink.new) buffer.old buffer.new result (flat_map literal_bytes literals.now) }
-    ensures cause { HasCause (O.faults sink.old) (O.faults sink.new) result }
+    ensures put { Puts (O.state sink.old).taken (O.state sink.new).taken buffer.old buffer.new result (flat_map literal_bytes literals.now) }
+    ensures cause { HasCause (O.state sink.old).faults (O.state sink.new).faults result }
 {
     for literal in literals {
         buffer.put(sink, &[literal.variable, literal.low, literal.high])?;
@@ -44,8 +44,8 @@ fn put_literals<O: Sink>(
     sink: &mut O,
     literals: &[Literal],
 ) -> Result<(), Failed>
-    ensures put { Puts (O.taken sink.old) (O.taken sink.new) buffer.old buffer.new result (flat_map literal_bytes literals.now) }
-    ensures cause { HasCause (O.faults sink.old) (O.faults sink.new) result }
+    ensures put { Puts (O.state sink.old).taken (O.state sink.new).taken buffer.old buffer.new result (flat_map literal_bytes literals.now) }
+    ensures cause { HasCause (O.state sink.old).faults (O.state sink.new).faults result }
 {
     if literals.len() <= buffer.room() / 3 {
         buffer.hold_literals(literals);
@@ -61,8 +61,8 @@ fn put_counted<O: Sink>(
     literals: &[Literal],
 ) -> Result<(), Failed>
     requires { length literals.now ≤ 255 }
-    ensures put { Puts (O.taken sink.old) (O.taken sink.new) buffer.old buffer.new result (byte (length literals.now) ++ flat_map literal_bytes literals.now) }
-    ensures cause { HasCause (O.faults sink.old) (O.faults sink.new) result }
+    ensures put { Puts (O.state sink.old).taken (O.state sink.new).taken buffer.old buffer.new result (byte (length literals.now) ++ flat_map literal_bytes literals.now) }
+    ensures cause { HasCause (O.state sink.old).faults (O.state sink.new).faults result }
 {
     buffer.put(sink, &[literals.len() as u8])?;
     put_literals(buffer, sink, literals)
@@ -70,8 +70,8 @@ fn put_counted<O: Sink>(
 
 fn put_column<O: Sink>(buffer: &mut Buffer, sink: &mut O, column: &Entry) -> Result<(), Failed>
     requires { length column.now.cube ≤ 255 }
-    ensures put { Puts (O.taken sink.old) (O.taken sink.new) buffer.old buffer.new result (column_bytes column.now) }
-    ensures cause { HasCause (O.faults sink.old) (O.faults sink.new) result }
+    ensures put { Puts (O.state sink.old).taken (O.state sink.new).taken buffer.old buffer.new result (column_bytes column.now) }
+    ensures cause { HasCause (O.state sink.old).faults (O.state sink.new).faults result }
 {
     put_long(buffer, sink, column.time)?;
     put_counted(buffer, sink, column.cube.literals())
@@ -79,8 +79,8 @@ fn put_column<O: Sink>(buffer: &mut Buffer, sink: &mut O, column: &Entry) -> Res
 
 fn put_columns<O: Sink>(buffer: &mut Buffer, sink: &mut O, columns: &[Entry]) -> Result<(), Failed>
     requires { All (λ c. length c.cube ≤ 255) columns.now }
-    ensures put { Puts (O.taken sink.old) (O.taken sink.new) buffer.old buffer.new result (flat_map column_bytes columns.now) }
-    ensures cause { HasCause (O.faults sink.old) (O.faults sink.new) result }
+    ensures put { Puts (O.state sink.old).taken (O.state sink.new).taken buffer.old buffer.new result (flat_map column_bytes columns.now) }
+    ensures cause { HasCause (O.state sink.old).faults (O.state sink.new).faults result }
 {
     for column in columns {
         put_column(buffer, sink, column)?;
@@ -90,8 +90,8 @@ fn put_columns<O: Sink>(buffer: &mut Buffer, sink: &mut O, columns: &[Entry]) ->
 
 fn put_row<O: Sink>(buffer: &mut Buffer, sink: &mut O, row: &Row) -> Result<(), Failed>
     requires { IsShortRow row.now }
-    ensures put { Puts (O.taken sink.old) (O.taken sink.new) buffer.old buffer.new result (row_bytes row.now) }
-    ensures cause { HasCause (O.faults sink.old) (O.faults sink.new) result }
+    ensures put { Puts (O.state sink.old).taken (O.state sink.new).taken buffer.old buffer.new result (row_bytes row.now) }
+    ensures cause { HasCause (O.state sink.old).faults (O.state sink.new).faults result }
 {
     let columns = row.entries();
     put_short(buffer, sink, columns.len() as u16)?;
@@ -100,8 +100,8 @@ fn put_row<O: Sink>(buffer: &mut Buffer, sink: &mut O, row: &Row) -> Result<(), 
 
 fn put_rows<O: Sink>(buffer: &mut Buffer, sink: &mut O, rows: &[Row]) -> Result<(), Failed>
     requires { All IsShortRow rows.now }
-    ensures put { Puts (O.taken sink.old) (O.taken sink.new) buffer.old buffer.new result (flat_map row_bytes rows.now) }
-    ensures cause { HasCause (O.faults sink.old) (O.faults sink.new) result }
+    ensures put { Puts (O.state sink.old).taken (O.state sink.new).taken buffer.old buffer.new result (flat_map row_bytes rows.now) }
+    ensures cause { HasCause (O.state sink.old).faults (O.state sink.new).faults result }
 {
     for row in rows {
         put_row(buffer, sink, row)?;
@@ -115,8 +115,8 @@ pub fn put_table<O: Sink>(
     sink: &mut O,
     table: &NodeTable,
 ) -> Result<(), Failed>
-    ensures put { Puts (O.taken sink.old) (O.taken sink.new) buffer.old buffer.new result (table_bytes table.now) }
-    ensures cause { HasCause (O.faults sink.old) (O.faults sink.new) result }
+    ensures put { Puts (O.state sink.old).taken (O.state sink.new).taken buffer.old buffer.new result (table_bytes table.now) }
+    ensures cause { HasCause (O.state sink.old).faults (O.state sink.new).faults result }
 {
     put_rows(buffer, sink, table.starts())?;
     put_rows(buffer, sink, table.sends())?;

@@ -16,8 +16,8 @@ use cpg_table::Tables;
 use std::alloc::Global;
 
 fn put_nodes<O: Sink>(buffer: &mut Buffer, sink: &mut O, tables: &Tables) -> Result<(), Failed>
-    ensures put { Puts (O.taken sink.old) (O.taken sink.new) buffer.old buffer.new result (flat_map table_bytes tables.now.nodes) }
-    ensures cause { HasCause (O.faults sink.old) (O.faults sink.new) result }
+    ensures put { Puts (O.state sink.old).taken (O.state sink.new).taken buffer.old buffer.new result (flat_map table_bytes tables.now.nodes) }
+    ensures cause { HasCause (O.state sink.old).faults (O.state sink.new).faults result }
 {
     let count = tables.head().nodes().len() as u32;
     for node in 0..count {
@@ -27,8 +27,8 @@ fn put_nodes<O: Sink>(buffer: &mut Buffer, sink: &mut O, tables: &Tables) -> Res
 }
 
 fn put_tables<O: Sink>(buffer: &mut Buffer, sink: &mut O, tables: &Tables) -> Result<(), Failed>
-    ensures put { Puts (O.taken sink.old) (O.taken sink.new) buffer.old buffer.new result (spelling tables.now) }
-    ensures cause { HasCause (O.faults sink.old) (O.faults sink.new) result }
+    ensures put { Puts (O.state sink.old).taken (O.state sink.new).taken buffer.old buffer.new result (spelling tables.now) }
+    ensures cause { HasCause (O.state sink.old).faults (O.state sink.new).faults result }
 {
     put_head(buffer, sink, tables.head())?;
     put_nodes(buffer, sink, tables)
@@ -37,9 +37,9 @@ fn put_tables<O: Sink>(buffer: &mut Buffer, sink: &mut O, tables: &Tables) -> Re
 /// Writes tables through an empty buffer.
 fn write_through<O: Sink>(buffer: &mut Buffer, sink: &mut O, tables: &Tables) -> Result<(), Failed>
     requires { buffer.old ≡ [] }
-    ensures whole { OnOk result (Appends (O.taken sink.old) (O.taken sink.new) (spelling tables.now)) }
-    ensures part { OnErr result (TookPrefix (O.taken sink.old) (O.taken sink.new) (spelling tables.now)) }
-    ensures cause { HasCause (O.faults sink.old) (O.faults sink.new) result }
+    ensures whole { OnOk result (Appends (O.state sink.old).taken (O.state sink.new).taken (spelling tables.now)) }
+    ensures part { OnErr result (TookPrefix (O.state sink.old).taken (O.state sink.new).taken (spelling tables.now)) }
+    ensures cause { HasCause (O.state sink.old).faults (O.state sink.new).faults result }
 {
     put_tables(buffer, sink, tables)?;
     buffer.write(sink)
@@ -50,11 +50,11 @@ fn write_through<O: Sink>(buffer: &mut Buffer, sink: &mut O, tables: &Tables) ->
 /// `Failed` only where the sink's count of faults rose. The sink has taken a proper prefix of the spelling then. The
 /// buffer is taken before the first write, so on `OutOfMemory` the sink is as it was.
 pub fn write_pack<O: Sink>(alloc: Global, tables: &Tables, sink: &mut O) -> Result<(), WriteFault>
-    ensures whole { OnOk result (Appends (O.taken sink.old) (O.taken sink.new) (spelling tables.now)) }
-    ensures part { result ≡ Err WriteFault.Failed → TookPrefix (O.taken sink.old) (O.taken sink.new) (spelling tables.now) }
-    ensures cause { result ≡ Err WriteFault.Failed → Rose (O.faults sink.old) (O.faults sink.new) }
+    ensures whole { OnOk result (Appends (O.state sink.old).taken (O.state sink.new).taken (spelling tables.now)) }
+    ensures part { result ≡ Err WriteFault.Failed → TookPrefix (O.state sink.old).taken (O.state sink.new).taken (spelling tables.now) }
+    ensures cause { result ≡ Err WriteFault.Failed → Rose (O.state sink.old).faults (O.state sink.new).faults }
     ensures same { result ≡ Err WriteFault.OutOfMemory → sink.new ≡ sink.old }
-    ensures later { O.faults sink.old ≤ O.faults sink.new }
+    ensures later { (O.state sink.old).faults ≤ (O.state sink.new).faults }
 {
     let mut buffer = Buffer::new(alloc)?;
     write_through(&mut buffer, sink, tables)?;

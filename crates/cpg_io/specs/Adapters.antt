@@ -1,18 +1,28 @@
--- What contracts see of the adapters over files and over a writer: counts, whether a file is open, and what the file and the
--- writer tell of their bytes, which those of the machine don't.
+-- What contracts see of the adapters over files and over a writer: counts, whether a file is open, what the file and the writer
+-- tell of their bytes, which those of the machine don't, and what calls gave and took.
 use Rattle.std.specs.Prelude.{ℕ, Bool, List, [], Option, Some, None}
+use Rattle.cpg_tale.specs.Fetch.{Fetch}
+use Rattle.cpg_io.specs.State.{ShelfState, SinkState}
 
 pub record FileShelfState : Type 0 where
   pub is_open : Bool
   pub left : Option (List ℕ)
-  pub given : ℕ
   pub faults : ℕ
+  pub history : List Fetch
 
 -- what is left to read: nothing where no file is open, and else what the file tells
 abbrev pub left_in : {File : Type 0} → (File → Option (List ℕ)) → Option File → Option (List ℕ)
 left_in remaining None = Some []
 left_in remaining (Some file) = remaining file
 
+-- of what stands under names it tells nothing
+abbrev pub shelf_of : FileShelfState → ShelfState
+shelf_of s = record { stands = λ _. None; left = s.left; faults = s.faults; history = s.history }
+
 pub record StreamSinkState : Type 0 where
   pub contents : Option (List ℕ)
+  pub taken : List ℕ
   pub faults : ℕ
+
+abbrev pub sink_of : StreamSinkState → SinkState
+sink_of s = record { taken = Some s.taken; faults = s.faults }

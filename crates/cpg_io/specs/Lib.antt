@@ -5,3 +5,4 @@ pub mod MemorySink
 pub mod Reading
 pub mod Shelf
 pub mod Sink
+pub mod State

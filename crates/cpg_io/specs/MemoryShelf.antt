@@ -1,21 +1,24 @@
 -- A shelf in memory.
 use Rattle.std.specs.Prelude.{ℕ, ◌≡◌, ◌≢◌, ◌<◌, ◌≤◌, Bool, List, [], ◌∷◌, Option, Some, None, IfSome, length, slice_index_or, if◌then◌else◌}
 use Rattle.std.specs.Str.{bytes_eq}
+use Rattle.cpg_tale.specs.Fetch.{Fetch}
+use Rattle.cpg_io.specs.State.{ShelfState}
 
 -- bytes and the name that they stand under
 pub record File : Type 0 where
   pub name : List ℕ
   pub bytes : List ℕ
 
--- the files, what is left of the fetched one, how many bytes were given since the last fetch, how many faults there
--- were, the number of the next call, and the numbers of the calls that fail
+-- the files, what is left of the fetched one, the place in it, how many faults there were, the number of the next call, the
+-- numbers of the calls that fail, and all fetches
 pub record MemoryShelfState : Type 0 where
   pub files : List File
   pub left : List ℕ
-  pub given : ℕ
+  pub at : ℕ
   pub faults : ℕ
   pub calls : ℕ
   pub failing : List ℕ
+  pub history : List Fetch
 
 abbrev pub is_named : List ℕ → File → Bool
 is_named name file = bytes_eq file.name name
@@ -24,6 +27,9 @@ is_named name file = bytes_eq file.name name
 abbrev pub stands_in : List File → List ℕ → Option (List ℕ)
 stands_in [] name = None
 stands_in (file ∷ files) name = if is_named name file then Some file.bytes else stands_in files name
+
+abbrev pub shelf_of : MemoryShelfState → ShelfState
+shelf_of s = record { stands = stands_in s.files; left = Some s.left; faults = s.faults; history = s.history }
 
 -- the bytes stand under the name, and under every other name what stood there
 pub record PutsUnder (old new : List File) (name bytes : List ℕ) : Type 0 where
@@ -35,6 +41,6 @@ abbrev pub bytes_at : List File → Option ℕ → List ℕ
 bytes_at files None = []
 bytes_at files (Some place) = (slice_index_or files place (record { name = []; bytes = [] })).bytes
 
--- no more bytes were given than the fetched file has
+-- the place in the fetched file is no further than its end
 abbrev pub GivesWithin : List File → Option ℕ → ℕ → Type 0
-GivesWithin files fetched given = IfSome fetched (λ place. (place < length files) × (given ≤ length (bytes_at files (Some place))))
+GivesWithin files fetched at = IfSome fetched (λ place. (place < length files) × (at ≤ length (bytes_at files (Some place))))

@@ -1,6 +1,9 @@
--- One step of reading all that is left.
-use Rattle.std.specs.Prelude.{ℕ, ◌≡◌, ◌+◌, List, Option, length, take, drop}
+-- Reading all that a shelf gives of a name.
+use Rattle.std.specs.Prelude.{ℕ, ◌≡◌, ◌+◌, ◌≤◌, Bool, true, false, List, ◌∷◌, Option, Result, Ok, Err, length, take, drop}
 use Rattle.std.specs.Io.KnownBytes.{Consumes, IsAtEnd}
+use Rattle.cpg_tale.specs.Fetch.{Fetch, gave, failed}
+use Rattle.cpg_io.specs.declared.reading.ReadAll.{ReadAll}
+use Rattle.cpg_io.specs.declared.reading.ReadAll.TheVariants.{Failed, TooLong, OutOfMemory}
 
 -- n bytes of what was left came to the end of the read bytes, and none only at the end
 pub record ReadsOn (left left' : Option (List ℕ)) (old new : List ℕ) (n : ℕ) : Type 0 where
@@ -8,3 +11,33 @@ pub record ReadsOn (left left' : Option (List ℕ)) (old new : List ℕ) (n : �
   pub kept : take (length old) new ≡ old
   pub taken : Consumes left left' (drop (length old) new)
   pub end : n ≡ 0 → IsAtEnd left'
+
+-- a piece was given that isn't added to so many bytes: with it they are so many
+pub record IsLost (past now : List Fetch) (count : ℕ) : Type 0 where
+  pub piece : List ℕ
+  pub gave : now ≡ gave piece past
+  pub long : length piece ≡ count
+
+-- what one read gave: the bytes that came to the end of those that were read before; one byte past the limit; or what there is
+-- no memory for
+abbrev pub GivesPiece : ℕ → List Fetch → List Fetch → List ℕ → List ℕ → Result ℕ ReadAll → Type 0
+GivesPiece limit past now old new (Ok n) = now ≡ gave (drop (length old) new) past
+GivesPiece limit past now old new (Err Failed) = now ≡ failed past
+GivesPiece limit past now old new (Err TooLong) = (n : ℕ) × (length old + n ≡ limit + 1) × IsLost past now n
+GivesPiece limit past now old new (Err OutOfMemory) = (n : ℕ) × (length old + n ≤ limit) × IsLost past now n
+
+-- one fetch more, of the name, which gave these bytes
+pub record IsFetch (past now : List Fetch) (name given : List ℕ) (fails : Bool) : Type 0 where
+  pub ended : Bool
+  pub is : now ≡ record { name = name; given = given; ended = ended; failed = fails } ∷ past
+
+-- one fetch more, of the name, which gave these bytes to their end, at most so many
+pub record IsReadWhole (past now : List Fetch) (name : List ℕ) (limit : ℕ) (bytes : List ℕ) : Type 0 where
+  pub short : length bytes ≤ limit
+  pub is : now ≡ record { name = name; given = bytes; ended = true; failed = false } ∷ past
+
+-- one fetch more, of the name, not read whole: it failed, or gave one byte more than so many, or there is no memory
+abbrev pub IsReadInPart : List Fetch → List Fetch → List ℕ → ℕ → ReadAll → Type 0
+IsReadInPart past now name limit Failed = (given : List ℕ) × (length given ≤ limit) × IsFetch past now name given true
+IsReadInPart past now name limit TooLong = (given : List ℕ) × (length given ≡ limit + 1) × IsFetch past now name given false
+IsReadInPart past now name limit OutOfMemory = (given : List ℕ) × (length given ≤ limit) × IsFetch past now name given false

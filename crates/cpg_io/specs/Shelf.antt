@@ -1,5 +1,7 @@
--- What a shelf tells of its bytes.
-use Rattle.std.specs.Prelude.{ℕ, ◌≡◌, ◌↔◌, List, Option, Some, None, ⊤}
+-- What a shelf's calls do to what it tells.
+use Rattle.std.specs.Prelude.{ℕ, ◌≡◌, ◌↔◌, Bool, false, List, [], ◌∷◌, Option, Some, None, Result, MatchResult, take, ⊤}
+use Rattle.cpg_tale.specs.Fetch.{Fetch, gave, failed}
+use Rattle.cpg_io.specs.State.{ShelfState}
 
 -- after a fetch the bytes that are told of the name are left, from their start
 abbrev pub StartsAt : Option (List ℕ) → Option (List ℕ) → Type 0
@@ -7,9 +9,17 @@ StartsAt None left = ⊤
 StartsAt (Some bytes) left = left ≡ Some bytes
 
 -- what stands under each name is as it was
-abbrev pub SameNames : (List ℕ → Option (List ℕ)) → (List ℕ → Option (List ℕ)) → Type 0
-SameNames old new = (name : List ℕ) → new name ≡ old name
+abbrev pub SameNames : ShelfState → ShelfState → Type 0
+SameNames old new = (name : List ℕ) → new.stands name ≡ old.stands name
 
 -- the same names may be fetched
 abbrev pub SameLeave : (List ℕ → Type 0) → (List ℕ → Type 0) → Type 0
 SameLeave old new = (name : List ℕ) → old name ↔ new name
+
+-- a history after a fetch of a name, which gave nothing so far
+abbrev pub opened : List ℕ → Bool → List Fetch → List Fetch
+opened name fails past = record { name = name; given = []; ended = false; failed = fails } ∷ past
+
+-- a read gave the front of the buffer, or failed
+abbrev pub HasGiven : {E : Type 0} → List Fetch → List Fetch → Result ℕ E → List ℕ → Type 0
+HasGiven old new result buf = MatchResult result (λ n. new ≡ gave (take n buf) old) (λ _. new ≡ failed old)

@@ -1,11 +1,15 @@
 //! A shelf over the runtime's files.
-ghost use Rattle.std.specs.Prelude.{◌≡◌, ◌<◌, ◌≤◌, [], None, Some, Ok, false, ⊤, is_ok, length, MatchResult, OnErr, OnOk};
+ghost use Rattle.std.specs.Prelude.{◌≡◌, ◌<◌, ◌≤◌, [], None, Some, Ok, false, ⊤, is_err, is_ok, length, MatchResult, OnErr, OnOk};
 ghost use Rattle.std.specs.Io.{ReadsAtMost};
 ghost use Rattle.std.specs.Io.KnownBytes.{IsAtEnd, ReadConsumes};
 ghost use Rattle.cpg_io.specs.Causes.{HasCause, counted};
-ghost use Rattle.cpg_io.specs.Shelf.{StartsAt, SameNames, SameLeave};
+ghost use Rattle.cpg_io.specs.Shelf.{opened, HasGiven, StartsAt, SameNames, SameLeave};
+ghost use Rattle.cpg_io.specs.Adapters.{shelf_of};
+ghost use Rattle.cpg_tale.specs.Event.{after};
+ghost use Rattle.cpg_tale.specs.Fetch.{failed};
 
 use crate::{Failed, Shelf};
+use cpg_tale::{Event, History};
 use std::fs;
 use std::io::Read;
 use std::marker::Model;
@@ -13,12 +17,12 @@ use std::rt::Files;
 
 /// A shelf over the runtime's files, where a name is a path. It tells nothing of what stands under a name. What is left
 /// it tells as far as the open file does, which one of the machine doesn't, and that nothing is left where no file is
-/// open. Every name may be fetched.
+/// open. What its reads gave it tells in any case. Every name may be fetched.
 #[derive(Drop)]
 pub struct FileShelf<R: Files> {
     rt: R,
     file: Option<R::File>,
-    given: u64,
+    history: History,
     faults: u64,
 }
 
@@ -28,56 +32,58 @@ impl<R: Files> Model for FileShelf<R> {
 
     ghost Value = { FileShelfState };
 
-    ghost view = { λ s. record { is_open = is_some s.file; left = left_in R.File.Read.remaining s.file; given = s.given; faults = s.faults } };
+    ghost view = { λ s. record { is_open = is_some s.file; left = left_in R.File.Read.remaining s.file; faults = s.faults; history = s.history } };
 }
 
 impl<R: Files> FileShelf<R> {
     /// A shelf over the files of `rt`, with no file open.
     pub fn new(rt: R) -> FileShelf<R>
-        ensures { result ≡ record { is_open = false; left = Some []; given = 0; faults = 0 } }
+        ensures { result ≡ record { is_open = false; left = Some []; faults = 0; history = [] } }
     {
         FileShelf {
             rt,
             file: None,
-            given: 0,
+            history: History::new(),
             faults: 0,
         }
     }
 
-    /// Counts a fault.
+    /// Notes what a call did.
+    fn note(&mut self, event: &Event<'_>)
+        ensures { self.new ≡ record self.old { history = after event.now self.old.history } }
+    {
+        self.history = self.history.after(event);
+    }
+
+    /// Counts a fault, and notes it.
     fn count_fault(&mut self) -> Failed
-        ensures same { self.new ≡ record self.old { faults = counted self.old.faults 1 } }
+        ensures same { self.new ≡ record self.old { faults = counted self.old.faults 1; history = failed self.old.history } }
         ensures later { self.old.faults ≤ self.new.faults }
     {
         self.faults = self.faults.saturating_add(1);
+        self.note(&Event::Failed);
         Failed
     }
 }
 
 impl<R: Files> Shelf for FileShelf<R> {
-    ghost stands = { λ _ _. None };
-
-    ghost left = { λ s. s.left };
-
-    ghost given = { λ s. s.given };
-
-    ghost faults = { λ s. s.faults };
+    ghost state = { shelf_of };
 
     ghost may_fetch = { λ _ _. ⊤ };
 
     /// Opens the file. An error is a fault, and leaves no file open.
     fn fetch(&mut self, name: &str) -> Result<(), Failed>
-        ensures names { SameNames (λ _. None) (λ _. None) }
+        ensures names { SameNames (shelf_of self.old) (shelf_of self.new) }
         ensures leave { SameLeave (λ _. ⊤) (λ _. ⊤) }
         ensures started { OnOk result (StartsAt None self.new.left) }
         ensures spent { OnErr result (IsAtEnd self.new.left) }
-        ensures count { self.new.given ≡ 0 }
+        ensures history { self.new.history ≡ opened name.now (is_err result) self.old.history }
         ensures cause { HasCause self.old.faults self.new.faults result }
         ensures open { self.new.is_open ≡ is_ok result }
         ensures faults { MatchResult result (λ _. self.new.faults ≡ self.old.faults) (λ _. self.new.faults ≡ counted self.old.faults 1) }
     {
-        self.given = 0;
         self.file = None;
+        self.note(&Event::Fetched(name));
         match fs::open(&self.rt, name) {
             Ok(file) => {
                 self.file = Some(file);
@@ -90,11 +96,11 @@ impl<R: Files> Shelf for FileShelf<R> {
     /// Reads once, so that a large buffer is one large block. An error is a fault; with no file open this is the end.
     fn read(&mut self, buf: &mut [u8]) -> Result<usize, Failed>
         requires { 0 < length buf.old }
-        ensures names { SameNames (λ _. None) (λ _. None) }
+        ensures names { SameNames (shelf_of self.old) (shelf_of self.new) }
         ensures leave { SameLeave (λ _. ⊤) (λ _. ⊤) }
         ensures bound { ReadsAtMost result buf.new }
         ensures bytes { ReadConsumes self.old.left self.new.left result buf.new }
-        ensures count { MatchResult result (λ n. self.new.given ≡ counted self.old.given n) (λ _. self.new.given ≡ self.old.given) }
+        ensures history { HasGiven self.old.history self.new.history result buf.new }
         ensures cause { HasCause self.old.faults self.new.faults result }
         ensures open { self.new.is_open ≡ self.old.is_open }
         ensures end { self.old.is_open ≡ false → result ≡ Ok 0 }
@@ -106,7 +112,7 @@ impl<R: Files> Shelf for FileShelf<R> {
         };
         match read {
             Ok(count) => {
-                self.given = self.given.saturating_add(count as u64);
+                self.note(&Event::Gave(&buf[..count]));
                 Ok(count)
             }
             Err(_) => Err(self.count_fault()),

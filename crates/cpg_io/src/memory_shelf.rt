@@ -1,14 +1,17 @@
 //! A shelf in memory.
-ghost use Rattle.std.specs.Prelude.{◌≡◌, ◌+◌, ◌^◌, ◌<◌, ◌≤◌, ◌↔◌, ◌⊎◌, [], ◌∷◌, ◌++◌, Some, None, ⊤, Contains, IsTrue, IsErr, MatchBool, IfOk, OnOk, OnErr, MatchResult, drop, take, length, min, position};
+ghost use Rattle.std.specs.Prelude.{◌≡◌, ◌+◌, ◌^◌, ◌<◌, ◌≤◌, ◌↔◌, ◌⊎◌, [], ◌∷◌, ◌++◌, Some, None, ⊤, Contains, IsTrue, IsErr, MatchBool, is_err, IfOk, OnOk, OnErr, MatchResult, drop, take, length, min, position};
 ghost use Rattle.std.specs.Bool.{OnFalse};
 ghost use Rattle.std.specs.Io.{ReadsAtMost};
 ghost use Rattle.std.specs.Io.KnownBytes.{IsAtEnd, ReadConsumes};
 ghost use Rattle.cpg_io.specs.Causes.{HasCause, counted};
-ghost use Rattle.cpg_io.specs.Shelf.{StartsAt, SameNames, SameLeave};
-ghost use Rattle.cpg_io.specs.MemoryShelf.{PutsUnder, stands_in, is_named};
+ghost use Rattle.cpg_io.specs.Shelf.{opened, HasGiven, StartsAt, SameNames, SameLeave};
+ghost use Rattle.cpg_io.specs.MemoryShelf.{PutsUnder, shelf_of, stands_in, is_named};
+ghost use Rattle.cpg_tale.specs.Event.{after};
+ghost use Rattle.cpg_tale.specs.Fetch.{failed};
 
 use crate::{Failed, Shelf};
 use cpg_base::OutOfMemory;
+use cpg_tale::{Event, History};
 use std::alloc::Global;
 use std::marker::Model;
 
@@ -81,10 +84,11 @@ fn store(files: &mut Vec<MemoryFile>, name: &str, bytes: &[u8]) -> Result<(), Ou
 pub struct MemoryShelf {
     files: Vec<MemoryFile>,
     fetched: Option<usize>,
-    given: usize,
+    at: usize,
     faults: u64,
     calls: u64,
     failing: Vec<u64>,
+    history: History,
 }
 
 impl Model for MemoryShelf {
@@ -95,28 +99,30 @@ impl Model for MemoryShelf {
 
     ghost view = { λ s. record {
       files = s.files.items;
-      left = drop s.given (bytes_at s.files.items s.fetched);
-      given = s.given;
+      left = drop s.at (bytes_at s.files.items s.fetched);
+      at = s.at;
       faults = s.faults;
       calls = s.calls;
       failing = s.failing.items;
+      history = s.history;
     } };
 
-    ghost invariant = { λ s. GivesWithin s.files.items s.fetched s.given };
+    ghost invariant = { λ s. GivesWithin s.files.items s.fetched s.at };
 }
 
 impl MemoryShelf {
     /// A shelf with no files, of which no call fails by its number.
     pub fn new(alloc: Global) -> Result<MemoryShelf, OutOfMemory>
-        ensures { IfOk result (λ s. s ≡ record { files = []; left = []; given = 0; faults = 0; calls = 0; failing = [] }) }
+        ensures { IfOk result (λ s. s ≡ record { files = []; left = []; at = 0; faults = 0; calls = 0; failing = []; history = [] }) }
     {
         Ok(MemoryShelf {
             files: Vec::new(alloc),
             fetched: None,
-            given: 0,
+            at: 0,
             faults: 0,
             calls: 0,
             failing: Vec::new(alloc),
+            history: History::new(),
         })
     }
 
@@ -151,30 +157,38 @@ impl MemoryShelf {
         is_listed
     }
 
-    /// Counts a fault.
+    /// Notes what a call did.
+    fn note(&mut self, event: &Event<'_>)
+        ensures { self.new ≡ record self.old { history = after event.now self.old.history } }
+    {
+        self.history = self.history.after(event);
+    }
+
+    /// Counts a fault, and notes it.
     fn count_fault(&mut self) -> Failed
-        ensures same { self.new ≡ record self.old { faults = counted self.old.faults 1 } }
+        ensures same { self.new ≡ record self.old { faults = counted self.old.faults 1; history = failed self.old.history } }
         ensures later { self.old.faults ≤ self.new.faults }
     {
         self.faults = self.faults.saturating_add(1);
+        self.note(&Event::Failed);
         Failed
     }
 
     /// Leaves nothing to read.
     fn close(&mut self)
-        ensures { self.new ≡ record self.old { left = []; given = 0 } }
+        ensures { self.new ≡ record self.old { left = []; at = 0 } }
     {
         self.fetched = None;
-        self.given = 0;
+        self.at = 0;
     }
 
     /// Makes the file with the name the one that is read, from its start, and says whether there is one.
     fn open(&mut self, name: &str) -> bool
         ensures found { MatchBool result (stands_in self.old.files name.now ≡ Some self.new.left) (stands_in self.old.files name.now ≡ None) }
         ensures none { OnFalse result (self.new.left ≡ []) }
-        ensures same { self.new ≡ record self.old { left = self.new.left; given = 0 } }
+        ensures same { self.new ≡ record self.old { left = self.new.left; at = 0 } }
     {
-        self.given = 0;
+        self.at = 0;
         self.fetched = place_of(self.files.as_slice(), name);
         self.fetched.is_some()
     }
@@ -182,11 +196,11 @@ impl MemoryShelf {
     /// What is left of the fetched file.
     fn left(&self) -> &[u8]
         ensures left { result.now ≡ self.now.left }
-        ensures fits { self.now.given + length self.now.left < 2 ^ 64 }
+        ensures fits { self.now.at + length self.now.left < 2 ^ 64 }
     {
-        let given = self.given;
+        let at = self.at;
         match self.fetched {
-            Some(place) => &self.files[place].bytes()[given..],
+            Some(place) => &self.files[place].bytes()[at..],
             None => &[],
         }
     }
@@ -195,40 +209,35 @@ impl MemoryShelf {
     fn give(&mut self, buf: &mut [u8]) -> usize
         ensures fits { result ≡ min (length self.old.left) (length buf.old) }
         ensures given { take result buf.new ≡ take result self.old.left }
-        ensures same { self.new ≡ record self.old { left = drop result self.old.left; given = counted self.old.given result } }
+        ensures same { self.new ≡ record self.old { left = drop result self.old.left; at = counted self.old.at result } }
     {
         let left = self.left();
         let count = left.len().min(buf.len());
         buf[..count].copy_from_slice(&left[..count]);
-        self.given += count;
+        self.at += count;
         count
     }
 }
 
 impl Shelf for MemoryShelf {
-    ghost stands = { λ s name. stands_in s.files name };
-
-    ghost left = { λ s. Some s.left };
-
-    ghost given = { λ s. s.given };
-
-    ghost faults = { λ s. s.faults };
+    ghost state = { shelf_of };
 
     ghost may_fetch = { λ _ _. ⊤ };
 
     /// `Failed` exactly where the call's number is listed, or the name isn't there.
     fn fetch(&mut self, name: &str) -> Result<(), Failed>
-        ensures names { SameNames (stands_in self.old.files) (stands_in self.new.files) }
+        ensures names { SameNames (shelf_of self.old) (shelf_of self.new) }
         ensures leave { SameLeave (λ _. ⊤) (λ _. ⊤) }
         ensures started { OnOk result (StartsAt (stands_in self.old.files name.now) (Some self.new.left)) }
         ensures spent { OnErr result (IsAtEnd (Some self.new.left)) }
-        ensures count { self.new.given ≡ 0 }
+        ensures history { self.new.history ≡ opened name.now (is_err result) self.old.history }
         ensures cause { HasCause self.old.faults self.new.faults result }
         ensures fails { IsErr result ↔ (Contains self.old.failing self.old.calls ⊎ stands_in self.old.files name.now ≡ None) }
-        ensures same { self.new ≡ record self.old { left = self.new.left; given = 0; faults = self.new.faults; calls = counted self.old.calls 1 } }
+        ensures same { self.new ≡ record self.old { left = self.new.left; at = 0; faults = self.new.faults; history = self.new.history; calls = counted self.old.calls 1 } }
         ensures faults { MatchResult result (λ _. self.new.faults ≡ self.old.faults) (λ _. self.new.faults ≡ counted self.old.faults 1) }
     {
         self.close();
+        self.note(&Event::Fetched(name));
         if self.count_call() {
             return Err(self.count_fault());
         }
@@ -241,20 +250,22 @@ impl Shelf for MemoryShelf {
     /// `Failed` exactly where the call's number is listed.
     fn read(&mut self, buf: &mut [u8]) -> Result<usize, Failed>
         requires { 0 < length buf.old }
-        ensures names { SameNames (stands_in self.old.files) (stands_in self.new.files) }
+        ensures names { SameNames (shelf_of self.old) (shelf_of self.new) }
         ensures leave { SameLeave (λ _. ⊤) (λ _. ⊤) }
         ensures bound { ReadsAtMost result buf.new }
         ensures bytes { ReadConsumes (Some self.old.left) (Some self.new.left) result buf.new }
-        ensures count { MatchResult result (λ n. self.new.given ≡ counted self.old.given n) (λ _. self.new.given ≡ self.old.given) }
+        ensures history { HasGiven self.old.history self.new.history result buf.new }
         ensures cause { HasCause self.old.faults self.new.faults result }
         ensures fails { IsErr result ↔ Contains self.old.failing self.old.calls }
         ensures fits { IfOk result (λ n. n ≡ min (length self.old.left) (length buf.old)) }
-        ensures same { self.new ≡ record self.old { left = self.new.left; given = self.new.given; faults = self.new.faults; calls = counted self.old.calls 1 } }
+        ensures same { self.new ≡ record self.old { left = self.new.left; at = self.new.at; faults = self.new.faults; history = self.new.history; calls = counted self.old.calls 1 } }
         ensures faults { MatchResult result (λ _. self.new.faults ≡ self.old.faults) (λ _. self.new.faults ≡ counted self.old.faults 1) }
     {
         if self.count_call() {
             return Err(self.count_fault());
         }
-        Ok(self.give(buf))
+        let count = self.give(buf);
+        self.note(&Event::Gave(&buf[..count]));
+        Ok(count)
     }
 }

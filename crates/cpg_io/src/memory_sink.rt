@@ -2,6 +2,7 @@
 ghost use Rattle.std.specs.Prelude.{◌≡◌, ◌-◌, ◌<◌, ◌≤◌, ◌↔◌, [], min, Some, IfOk, IsErr, MatchResult, length};
 ghost use Rattle.std.specs.Io.KnownBytes.{WriteAppends};
 ghost use Rattle.cpg_io.specs.Causes.{HasCause, counted};
+ghost use Rattle.cpg_io.specs.MemorySink.{sink_of};
 
 use crate::{Failed, Sink};
 use cpg_base::OutOfMemory;
@@ -49,9 +50,7 @@ impl MemorySink {
 }
 
 impl Sink for MemorySink {
-    ghost taken = { λ s. Some s.taken };
-
-    ghost faults = { λ s. s.faults };
+    ghost state = { sink_of };
 
     /// Takes what there is room for, and no memory. `Failed` exactly where no room is left.
     fn write(&mut self, piece: &[u8]) -> Result<usize, Failed>

@@ -1,8 +1,9 @@
 //! Reading all of a name's bytes.
-ghost use Rattle.std.specs.Prelude.{◌≡◌, ◌+◌, ◌<◌, ◌≤◌, ◌↔◌, Err, IfOk, IfSome, length, vec_len};
+ghost use Rattle.std.specs.Prelude.{◌≡◌, ◌+◌, ◌<◌, ◌≤◌, ◌↔◌, Err, IfErr, IfOk, IfSome, length, vec_len};
 ghost use Rattle.cpg_io.specs.Causes.{Rose};
 ghost use Rattle.cpg_io.specs.Shelf.{SameNames, SameLeave};
-ghost use Rattle.cpg_io.specs.Reading.{ReadsOn};
+ghost use Rattle.cpg_io.specs.Reading.{GivesPiece, IsReadInPart, IsReadWhole, ReadsOn};
+ghost use Rattle.cpg_io.specs.State.{given_count};
 
 use crate::{Failed, Shelf};
 use std::alloc::{AllocError, Global};
@@ -57,17 +58,14 @@ fn read_piece<S: Shelf>(
     requires buffer { 0 < length buffer.old }
     requires piece { length buffer.old ≤ 65536 }
     requires room { vec_len bytes.old ≤ limit }
-    requires given { S.given shelf.old ≡ vec_len bytes.old }
-    ensures names { SameNames (S.stands shelf.old) (S.stands shelf.new) }
+    ensures names { SameNames (S.state shelf.old) (S.state shelf.new) }
     ensures leave { SameLeave (S.may_fetch shelf.old) (S.may_fetch shelf.new) }
-    ensures piece { IfOk result (λ n. ReadsOn (S.left shelf.old) (S.left shelf.new) bytes.old.items bytes.new.items n) }
-    ensures count { IfOk result (λ _. S.given shelf.new ≡ vec_len bytes.new) }
+    ensures piece { IfOk result (λ n. ReadsOn (S.state shelf.old).left (S.state shelf.new).left bytes.old.items bytes.new.items n) }
+    ensures history { GivesPiece limit (S.state shelf.old).history (S.state shelf.new).history bytes.old.items bytes.new.items result }
     ensures within { IfOk result (λ _. vec_len bytes.new ≤ limit) }
-    ensures long { result ≡ Err ReadAll.TooLong ↔ limit < S.given shelf.new }
-    ensures told { result ≡ Err ReadAll.TooLong → IfSome (S.left shelf.old) (λ left. limit < vec_len bytes.old + length left) }
-    ensures most { S.given shelf.new ≤ limit + 1 }
-    ensures failed { result ≡ Err ReadAll.Failed → Rose (S.faults shelf.old) (S.faults shelf.new) }
-    ensures later { S.faults shelf.old ≤ S.faults shelf.new }
+    ensures told { result ≡ Err ReadAll.TooLong → IfSome (S.state shelf.old).left (λ left. limit < vec_len bytes.old + length left) }
+    ensures failed { result ≡ Err ReadAll.Failed → Rose (S.state shelf.old).faults (S.state shelf.new).faults }
+    ensures later { (S.state shelf.old).faults ≤ (S.state shelf.new).faults }
 {
     let room = limit - bytes.len();
     let most = buffer.len().min(room.saturating_add(1));
@@ -83,7 +81,8 @@ fn read_piece<S: Shelf>(
 /// Reads all bytes that stand under a name, where there are at most `limit` of them, in large pieces.
 ///
 /// `Failed` only where the shelf's count of faults rose. `TooLong` exactly where the shelf has then given more than
-/// `limit` bytes since the fetch; it is asked for no more than `limit` plus one.
+/// `limit` bytes since the fetch; it is asked for no more than `limit` plus one. What is read at `Ok` is the whole of what
+/// the shelf gave, to the end of the name.
 pub fn read_all<S: Shelf>(
     alloc: Global,
     shelf: &mut S,
@@ -91,15 +90,17 @@ pub fn read_all<S: Shelf>(
     limit: usize,
 ) -> Result<Vec<u8>, ReadAll>
     requires may { S.may_fetch shelf.old name.now }
-    ensures names { SameNames (S.stands shelf.old) (S.stands shelf.new) }
+    ensures names { SameNames (S.state shelf.old) (S.state shelf.new) }
     ensures leave { SameLeave (S.may_fetch shelf.old) (S.may_fetch shelf.new) }
-    ensures whole { IfOk result (λ v. IfSome (S.stands shelf.old name.now) (λ bytes. v.items ≡ bytes)) }
-    ensures count { IfOk result (λ v. S.given shelf.new ≡ vec_len v) }
-    ensures long { result ≡ Err ReadAll.TooLong ↔ limit < S.given shelf.new }
-    ensures told { result ≡ Err ReadAll.TooLong → IfSome (S.stands shelf.old name.now) (λ bytes. limit < length bytes) }
-    ensures most { S.given shelf.new ≤ limit + 1 }
-    ensures failed { result ≡ Err ReadAll.Failed → Rose (S.faults shelf.old) (S.faults shelf.new) }
-    ensures later { S.faults shelf.old ≤ S.faults shelf.new }
+    ensures whole { IfOk result (λ v. IfSome ((S.state shelf.old).stands name.now) (λ bytes. v.items ≡ bytes)) }
+    ensures history { IfOk result (λ v. IsReadWhole (S.state shelf.old).history (S.state shelf.new).history name.now limit v.items) }
+    ensures part { IfErr result (IsReadInPart (S.state shelf.old).history (S.state shelf.new).history name.now limit) }
+    ensures count { IfOk result (λ v. given_count (S.state shelf.new) ≡ vec_len v) }
+    ensures long { result ≡ Err ReadAll.TooLong ↔ limit < given_count (S.state shelf.new) }
+    ensures told { result ≡ Err ReadAll.TooLong → IfSome ((S.state shelf.old).stands name.now) (λ bytes. limit < length bytes) }
+    ensures most { given_count (S.state shelf.new) ≤ limit + 1 }
+    ensures failed { result ≡ Err ReadAll.Failed → Rose (S.state shelf.old).faults (S.state shelf.new).faults }
+    ensures later { (S.state shelf.old).faults ≤ (S.state shelf.new).faults }
 {
     shelf.fetch(name)?;
     let mut buffer = [0; PIECE];

@@ -1,17 +1,21 @@
 //! A sink over a writer of std.
-ghost use Rattle.std.specs.Prelude.{◌≡◌, ◌<◌, ◌≤◌, None, IfOk, MatchResult, length, take};
+ghost use Rattle.std.specs.Prelude.{◌≡◌, ◌<◌, ◌≤◌, [], Some, IfOk, MatchResult, length, take};
 ghost use Rattle.std.specs.Io.KnownBytes.{Appends, WriteAppends};
+ghost use Rattle.cpg_io.specs.Adapters.{sink_of};
 ghost use Rattle.cpg_io.specs.Causes.{HasCause, counted};
 
 use crate::{Failed, Sink};
+use cpg_tale::Taken;
 use std::io::Write;
 use std::marker::Model;
 
-/// A sink over a writer of std, which it flushes after each write. It tells no bytes as a sink, since a flush may fail
-/// after bytes were taken; where none fails, the writer has taken what is answered.
+/// A sink over a writer of std, which it flushes after each write. It tells the bytes that a write took and the flush after it
+/// acknowledged. Where a write or its flush fails, the writer may have taken some of that piece all the same: those bytes
+/// the sink doesn't tell.
 #[derive(Drop)]
 pub struct StreamSink<W: Write> {
     writer: W,
+    taken: Taken,
     faults: u64,
 }
 
@@ -20,29 +24,31 @@ impl<W: Write> Model for StreamSink<W> {
 
     ghost Value = { StreamSinkState };
 
-    ghost view = { λ s. record { contents = W.contents s.writer; faults = s.faults } };
+    ghost view = { λ s. record { contents = W.contents s.writer; taken = s.taken; faults = s.faults } };
 }
 
 impl<W: Write> StreamSink<W> {
     /// A sink over the writer, which met no fault so far.
     pub fn new(writer: W) -> StreamSink<W>
-        ensures { result ≡ record { contents = W.contents writer; faults = 0 } }
+        ensures { result ≡ record { contents = W.contents writer; taken = []; faults = 0 } }
     {
-        StreamSink { writer, faults: 0 }
+        StreamSink {
+            writer,
+            taken: Taken::new(),
+            faults: 0,
+        }
     }
 }
 
 impl<W: Write> Sink for StreamSink<W> {
-    ghost taken = { λ _. None };
-
-    ghost faults = { λ s. s.faults };
+    ghost state = { sink_of };
 
     /// Writes and flushes once. An error of either, or a write of nothing, is a fault.
     fn write(&mut self, piece: &[u8]) -> Result<usize, Failed>
         requires { 0 < length piece.now }
         ensures some { IfOk result (λ n. 0 < n) }
         ensures bound { IfOk result (λ n. n ≤ length piece.now) }
-        ensures bytes { WriteAppends None None result piece.now }
+        ensures bytes { WriteAppends (Some self.old.taken) (Some self.new.taken) result piece.now }
         ensures passed { IfOk result (λ n. Appends self.old.contents self.new.contents (take n piece.now)) }
         ensures cause { HasCause self.old.faults self.new.faults result }
         ensures faults { MatchResult result (λ _. self.new.faults ≡ self.old.faults) (λ _. self.new.faults ≡ counted self.old.faults 1) }
@@ -52,6 +58,7 @@ impl<W: Write> Sink for StreamSink<W> {
             self.faults = self.faults.saturating_add(1);
             return Err(Failed);
         }
+        self.taken = self.taken.then(&piece[..count]);
         Ok(count)
     }
 }

@@ -10,9 +10,9 @@ use crate::{Failed, Sink};
 ///
 /// `Failed` only where the sink's count of faults rose. The sink has taken a proper prefix of the bytes then.
 pub fn write_all<O: Sink>(sink: &mut O, bytes: &[u8]) -> Result<(), Failed>
-    ensures whole { OnOk result (Appends (O.taken sink.old) (O.taken sink.new) bytes.now) }
-    ensures part { OnErr result (TookPrefix (O.taken sink.old) (O.taken sink.new) bytes.now) }
-    ensures cause { HasCause (O.faults sink.old) (O.faults sink.new) result }
+    ensures whole { OnOk result (Appends (O.state sink.old).taken (O.state sink.new).taken bytes.now) }
+    ensures part { OnErr result (TookPrefix (O.state sink.old).taken (O.state sink.new).taken bytes.now) }
+    ensures cause { HasCause (O.state sink.old).faults (O.state sink.new).faults result }
 {
     let mut at = 0;
     while at < bytes.len() {

@@ -1,12 +1,14 @@
 -- A follower along its stream.
-use Rattle.std.proofs.Common.{◌≡◌, ℕ, ◌+◌, ◌<◌, ◌≤◌, ◌-◌, List, [], ◌++◌, true, false, true≢false, length, take, drop, Option, Some, None, refl, sym, ap, ap₂, ◌∙◌, subst, arith}
+use Rattle.std.proofs.Common.{◌≡◌, ℕ, ◌+◌, ◌<◌, ◌≤◌, ◌-◌, Bool, ◌||◌, List, [], ◌++◌, true, false, true≢false, length, take, drop, Option, Some, None, refl, sym, ap, ap₂, ◌∙◌, subst, arith}
 use Rattle.std.specs.Prelude.{IfErr, IfOk, IfSome, Result, Ok, Err, MatchResult, OnErr, OnOk, is_err}
 use Rattle.std.specs.Io.KnownBytes.{Appends, Consumes, IsAtEnd}
 use Rattle.std.proofs.KnownBytes.{Appends-nil, Appends-trans, Consumes-trans}
 use Rattle.std.proofs.Math.Seq.{take-append_seam}
 use Rattle.std.proofs.lemmas.List.{length-append, length-drop, length-take, take_all}
-use Rattle.cpg_io.specs.Causes.{counted}
-use Rattle.cpg_io.specs.Shelf.{StartsAt}
+use Rattle.cpg_tale.specs.Fetch.{Fetch, failed, gave, is_none, newest_given}
+use Rattle.cpg_io.specs.Reading.{IsFetch}
+use Rattle.cpg_io.specs.State.{ShelfState, given_count}
+use Rattle.cpg_io.specs.Shelf.{StartsAt, opened as started}
 use Rattle.cpg_io.specs.Sink.{TookPrefix}
 use Rattle.cpg_head.specs.Head.{Head}
 use Rattle.cpg_table.specs.Table.{NodeTable}
@@ -41,13 +43,25 @@ none_came : (told left : Option (List ℕ)) → StartsAt told left → IfSome to
 none_came None left start = tt
 none_came (Some whole) left start = subst (λ l. Consumes (Some whole) l []) (sym start) refl
 
+-- ---- the fetch that gave them
+
+module _ (past now : List Fetch) (name fed : List ℕ) (fails : Bool) (f : IsFetch past now name fed fails) where
+  pub fetch_gave : (rest : List Fetch) (piece : List ℕ) → rest ≡ gave piece now → IsFetch past rest name (fed ++ piece) fails
+  fetch_gave rest piece e = record { ended = is_none piece || f.ended; is = e ∙ ap (gave piece) f.is }
+
+  pub fetch_failed : (rest : List Fetch) → rest ≡ failed now → IsFetch past rest name fed true
+  fetch_failed rest e = record { ended = f.ended; is = e ∙ ap failed f.is }
+
+  pub fetch_count : length (newest_given now) ≡ length fed
+  fetch_count = ap (λ (h : List Fetch). length (newest_given h)) f.is
+
 -- ---- a piece
 
 -- after a piece that was fed, whose lines aren't written
-pub record IsFed (told rest : Option (List ℕ)) (given : ℕ) (start now : Option (List ℕ)) (h : Head) (table : NodeTable) (before : List Act) (from : ℕ) (read : ℕ) (live : LiveState) : Type 0 where
+pub record IsFed (told : Option (List ℕ)) (name : List ℕ) (past : List Fetch) (rest : ShelfState) (start now : Option (List ℕ)) (h : Head) (table : NodeTable) (before : List Act) (from : ℕ) (read : ℕ) (live : LiveState) : Type 0 where
   pub fed : List ℕ
-  pub came : IfSome told (λ whole. Consumes (Some whole) rest fed)
-  pub count : given ≡ length fed
+  pub came : IfSome told (λ whole. Consumes (Some whole) rest.left fed)
+  pub gave : IsFetch past rest.history name fed false
   pub long : read ≡ length fed
   pub few : length fed ≤ STREAM_LIMIT + 1
   pub state : live ≡ after table fed
@@ -59,16 +73,16 @@ acts_grow table fed piece s t e d =
     let g = acts_more table fed piece in
     (g.0, ap (λ (s : LiveState). s.progress.acts) d ∙ g.1 ∙ ap (λ (s : LiveState). s.progress.acts ++ g.0) (sym e))
 
-pub fed_on : (told left rest : Option (List ℕ)) (given now_given count : ℕ) (start now : Option (List ℕ)) (f g : Follower) → IsAlong told left given start now f → TakesPiece left rest f g count → now_given ≡ counted given count →
-    IsFed told rest now_given start now f.head f.table f.live.progress.acts f.told g.read g.live
-fed_on told left rest given now_given count start now f g a t e =
+pub fed_on : (told : Option (List ℕ)) (name : List ℕ) (past : List Fetch) (shelf rest : ShelfState) (count : ℕ) (start now : Option (List ℕ)) (f g : Follower) → IsAlong told name past shelf start now f → TakesPiece shelf rest f g count →
+    IsFed told name past rest start now f.head f.table f.live.progress.acts f.told g.read g.live
+fed_on told name past shelf rest count start now f g a t =
     let live : g.live ≡ after f.table (a.fed ++ t.piece) = t.fed f.table a.fed a.live in
     let grown = acts_grow f.table a.fed t.piece f.live g.live a.live live in
     let read : g.read ≡ f.read + count = ap (λ (f : Follower). f.read) t.state in
     record {
       fed = a.fed ++ t.piece;
-      came = came_more told left rest a.fed t.piece a.came t.taken;
-      count = omega (arith, e, a.count, t.long, length-append a.fed t.piece, a.few, a.read, t.few, read);
+      came = came_more told shelf.left rest.left a.fed t.piece a.came t.taken;
+      gave = fetch_gave past shelf.history name a.fed false a.gave rest.history t.piece t.gave;
       long = omega (arith, read, a.read, t.long, length-append a.fed t.piece);
       few = omega (arith, read, a.read, t.long, t.few, length-append a.fed t.piece);
       state = live;
@@ -76,7 +90,7 @@ fed_on told left rest given now_given count start now f g a t e =
       lines = lines_more f.head f.live.progress.acts grown.0 g.live.progress.acts grown.1 ∙ ap (λ n. act_lines f.head f.live.progress.acts ++ act_lines f.head (drop n g.live.progress.acts)) (sym a.all_told);
     }
 
-module _ (told rest : Option (List ℕ)) (given : ℕ) (start now out : Option (List ℕ)) (h : Head) (table : NodeTable) (before : List Act) (from read : ℕ) (live : LiveState) (k : IsFed told rest given start now h table before from read live) where
+module _ (told : Option (List ℕ)) (name : List ℕ) (past : List Fetch) (rest : ShelfState) (start now out : Option (List ℕ)) (h : Head) (table : NodeTable) (before : List Act) (from read : ℕ) (live : LiveState) (k : IsFed told name past rest start now h table before from read live) where
   -- the lines of a state that is known
   same_lines : act_lines h (after table k.fed).progress.acts ≡ act_lines h live.progress.acts
   same_lines = ap (λ (s : LiveState). act_lines h s.progress.acts) (sym k.state)
@@ -86,22 +100,22 @@ module _ (told rest : Option (List ℕ)) (given : ℕ) (start now out : Option (
   wrote_all whole = subst (Appends start out) (sym k.lines) (Appends-trans start now out (act_lines h before) (act_lines h (drop from live.progress.acts)) k.wrote whole)
 
   pub fed_cut : TookPrefix now out (act_lines h (drop from live.progress.acts)) → IsCutOff h table told start out
-  fed_cut part = cut_off h table told rest k.fed k.came k.few start out
+  fed_cut part = cut_off h table told rest.left k.fed k.came k.few start out
       (subst (TookPrefix start out) (sym (same_lines ∙ k.lines)) (took_after start now out (act_lines h before) (act_lines h (drop from live.progress.acts)) k.wrote part))
 
   pub fed_lawless : (bad : Bad) → live.bad ≡ Some bad → IsRefused h table told (Lawless bad) (act_lines h live.progress.acts)
-  fed_lawless bad e = subst (IsRefused h table told (Lawless bad)) same_lines (lawless h table told rest k.fed k.came k.few bad (ap (λ (s : LiveState). s.bad) (sym k.state) ∙ e))
+  fed_lawless bad e = subst (IsRefused h table told (Lawless bad)) same_lines (lawless h table told rest.left k.fed k.came k.few bad (ap (λ (s : LiveState). s.bad) (sym k.state) ∙ e))
 
   pub fed_long : live.bad ≡ None → STREAM_LIMIT < read → IsRefused h table told Long (act_lines h live.progress.acts)
-  fed_long e l = subst (IsRefused h table told Long) same_lines (too_long h table told rest k.fed k.came k.few (ap (λ (s : LiveState). s.bad) (sym k.state) ∙ e) (omega (arith, l, k.long)))
+  fed_long e l = subst (IsRefused h table told Long) same_lines (too_long h table told rest.left k.fed k.came k.few (ap (λ (s : LiveState). s.bad) (sym k.state) ∙ e) (omega (arith, l, k.long)))
 
   -- more bytes were given
-  pub fed_over : STREAM_LIMIT < read → STREAM_LIMIT < given
-  fed_over l = omega (arith, l, k.long, k.count)
+  pub fed_over : STREAM_LIMIT < read → STREAM_LIMIT < given_count rest
+  fed_over l = omega (arith, l, k.long, fetch_count past rest.history name k.fed false k.gave)
 
   pub fed_along : live.bad ≡ None → read ≤ STREAM_LIMIT → Appends now out (act_lines h (drop from live.progress.acts)) →
-      IsAlong told rest given start out (record { head = h; table = table; live = live; told = length live.progress.acts; read = read })
-  fed_along e l whole = record { fed = k.fed; came = k.came; count = k.count; read = k.long; few = l; live = k.state; lawful = e; all_told = refl; wrote = wrote_all whole }
+      IsAlong told name past rest start out (record { head = h; table = table; live = live; told = length live.progress.acts; read = read })
+  fed_along e l whole = record { fed = k.fed; came = k.came; gave = k.gave; read = k.long; few = l; live = k.state; lawful = e; all_told = refl; wrote = wrote_all whole }
 
 -- ---- what is written
 
@@ -125,12 +139,12 @@ told_lines h k acts done told clear items e none same a =
     e ∙ ap (λ (front : List ℕ). front ++ act_lines k (take (length acts - told) (drop told acts))) none ∙ ap (act_lines k) (rest_is told acts) ∙ ap₂ (λ (h : Head) (acts : List Act). act_lines h (drop told acts)) same a
 
 -- of the same node
-pub lines_told : (left rest : Option (List ℕ)) (f n : Follower) (count : ℕ) → TakesPiece left rest f n count → act_lines n.head (drop n.told n.live.progress.acts) ≡ act_lines f.head (drop f.told n.live.progress.acts)
-lines_told left rest f n count t = ap (λ (f : Follower). act_lines f.head (drop f.told n.live.progress.acts)) t.state
+pub lines_told : (shelf rest : ShelfState) (f n : Follower) (count : ℕ) → TakesPiece shelf rest f n count → act_lines n.head (drop n.told n.live.progress.acts) ≡ act_lines f.head (drop f.told n.live.progress.acts)
+lines_told shelf rest f n count t = ap (λ (f : Follower). act_lines f.head (drop f.told n.live.progress.acts)) t.state
 
-pub told_as : (left rest : Option (List ℕ)) (f n s : Follower) (count : ℕ) → TakesPiece left rest f n count → s ≡ record n { told = length n.live.progress.acts } →
+pub told_as : (shelf rest : ShelfState) (f n s : Follower) (count : ℕ) → TakesPiece shelf rest f n count → s ≡ record n { told = length n.live.progress.acts } →
     record { head = f.head; table = f.table; live = n.live; told = length n.live.progress.acts; read = n.read } ≡ s
-told_as left rest f n s count t e = sym (e ∙ ap (λ (f : Follower). record { head = f.head; table = f.table; live = n.live; told = length n.live.progress.acts; read = n.read }) t.state)
+told_as shelf rest f n s count t e = sym (e ∙ ap (λ (f : Follower). record { head = f.head; table = f.table; live = n.live; told = length n.live.progress.acts; read = n.read }) t.state)
 
 -- before the first byte
 pub opened : (h : Head) (table : NodeTable) (live : LiveState) → live ≡ open_stream table → record { head = h; table = table; live = live; told = 0; read = 0 } ≡ open_follower h table
@@ -138,22 +152,23 @@ opened h table live e = ap (λ (s : LiveState). record { head = h; table = table
 
 -- ---- where the shelf met a fault
 
-pub unread : (told left : Option (List ℕ)) (given : ℕ) (start now : Option (List ℕ)) (f : Follower) → IsAlong told left given start now f → IsLawfulSoFar f.head f.table told given (act_lines f.head f.live.progress.acts)
-unread told left given start now f a = record {
-  bytes = a.fed;
-  count = a.count;
-  first = front_of told left a.fed given a.count a.came;
-  lawful = ap (λ (s : LiveState). s.bad) (sym a.live) ∙ a.lawful;
-  spelled = ap (λ (s : LiveState). act_lines f.head s.progress.acts) a.live;
-}
+pub unread : (told : Option (List ℕ)) (name : List ℕ) (past : List Fetch) (shelf rest : ShelfState) (start now : Option (List ℕ)) (f : Follower) → IsAlong told name past shelf start now f → rest.history ≡ failed shelf.history → IsLawfulSoFar f.head f.table told (given_count rest) (act_lines f.head f.live.progress.acts)
+unread told name past shelf rest start now f a e =
+    let count : given_count rest ≡ length a.fed = fetch_count past rest.history name a.fed true (fetch_failed past shelf.history name a.fed false a.gave rest.history e) in record {
+      bytes = a.fed;
+      count = count;
+      first = front_of told shelf.left a.fed (given_count rest) count a.came;
+      lawful = ap (λ (s : LiveState). s.bad) (sym a.live) ∙ a.lawful;
+      spelled = ap (λ (s : LiveState). act_lines f.head s.progress.acts) a.live;
+    }
 
 -- ---- the end
 
-pub along_open : (told left : Option (List ℕ)) (given : ℕ) (now : Option (List ℕ)) (h : Head) (table : NodeTable) → StartsAt told left → given ≡ 0 → IsAlong told left given now now (open_follower h table)
-along_open told left given now h table start e = record {
+pub along_open : (told : Option (List ℕ)) (name : List ℕ) (past : List Fetch) (shelf : ShelfState) (now : Option (List ℕ)) (h : Head) (table : NodeTable) → StartsAt told shelf.left → shelf.history ≡ started name false past → IsAlong told name past shelf now now (open_follower h table)
+along_open told name past shelf now h table start e = record {
   fed = [];
-  came = none_came told left start;
-  count = e;
+  came = none_came told shelf.left start;
+  gave = record { ended = false; is = e };
   read = refl;
   few = omega arith;
   live = refl;
@@ -163,29 +178,29 @@ along_open told left given now h table start e = record {
 }
 
 -- the lines of a stream that is lawful to its end
-pub ended_whole : (told left : Option (List ℕ)) (given : ℕ) (start now out : Option (List ℕ)) (f : Follower) → IsAlong told left given start now f → IsAtEnd left → (time : ℕ) → outcome f.live ≡ Ok time → Appends now out (closed_line time) →
-    (lines : List ℕ) × IsClosed f.head f.table told lines × Appends start out lines × (given ≤ STREAM_LIMIT)
-ended_whole told left given start now out f a end time e whole =
+pub ended_whole : (told : Option (List ℕ)) (name : List ℕ) (past : List Fetch) (shelf : ShelfState) (start now out : Option (List ℕ)) (f : Follower) → IsAlong told name past shelf start now f → IsAtEnd shelf.left → (time : ℕ) → outcome f.live ≡ Ok time → Appends now out (closed_line time) →
+    (lines : List ℕ) × IsClosed f.head f.table told lines × Appends start out lines × (given_count shelf ≤ STREAM_LIMIT)
+ended_whole told name past shelf start now out f a end time e whole =
     let acts = act_lines f.head f.live.progress.acts in
     let same : act_lines f.head (after f.table a.fed).progress.acts ++ closed_line time ≡ acts ++ closed_line time = ap (λ (s : LiveState). act_lines f.head s.progress.acts ++ closed_line time) (sym a.live) in
-    let is = closed f.head f.table told left a.fed a.came (omega (arith, a.few, a.read)) end (ap (λ (s : LiveState). s.bad) (sym a.live) ∙ a.lawful) (omega (arith, a.few, a.read)) time (ap outcome (sym a.live) ∙ e) in
-    (acts ++ closed_line time, subst (IsClosed f.head f.table told) same is, Appends-trans start now out acts (closed_line time) a.wrote whole, omega (arith, a.count, a.few, a.read))
+    let is = closed f.head f.table told shelf.left a.fed a.came (omega (arith, a.few, a.read)) end (ap (λ (s : LiveState). s.bad) (sym a.live) ∙ a.lawful) (omega (arith, a.few, a.read)) time (ap outcome (sym a.live) ∙ e) in
+    (acts ++ closed_line time, subst (IsClosed f.head f.table told) same is, Appends-trans start now out acts (closed_line time) a.wrote whole, omega (arith, fetch_count past shelf.history name a.fed false a.gave, a.few, a.read))
 
-pub ended_broken : (told left : Option (List ℕ)) (given : ℕ) (start now out : Option (List ℕ)) (f : Follower) (r : Stream) → IsAlong told left given start now f → IsAtEnd left → (broken : Broken) →
+pub ended_broken : (told : Option (List ℕ)) (name : List ℕ) (past : List Fetch) (shelf : ShelfState) (start now out : Option (List ℕ)) (f : Follower) (r : Stream) → IsAlong told name past shelf start now f → IsAtEnd shelf.left → (broken : Broken) →
     Closes f r.out_before r.out_now now out (Err broken) → r.told ≡ told → r.old ≡ start → r.new ≡ out → Breaks f.head f.table r broken
-ended_broken told left given start now out f r a end Shelf ends x y z = absurd ends
-ended_broken told left given start now out f r a end Sink ends x y z =
+ended_broken told name past shelf start now out f r a end Shelf ends x y z = absurd ends
+ended_broken told name past shelf start now out f r a end Sink ends x y z =
     let time = ends.1.0 in
     let acts = act_lines f.head f.live.progress.acts in
     let same : act_lines f.head (after f.table a.fed).progress.acts ++ closed_line time ≡ acts ++ closed_line time = ap (λ (s : LiveState). act_lines f.head s.progress.acts ++ closed_line time) (sym a.live) in
-    let is = closed f.head f.table told left a.fed a.came (omega (arith, a.few, a.read)) end (ap (λ (s : LiveState). s.bad) (sym a.live) ∙ a.lawful) (omega (arith, a.few, a.read)) time (ap outcome (sym a.live) ∙ ends.1.1) in
+    let is = closed f.head f.table told shelf.left a.fed a.came (omega (arith, a.few, a.read)) end (ap (λ (s : LiveState). s.bad) (sym a.live) ∙ a.lawful) (omega (arith, a.few, a.read)) time (ap outcome (sym a.live) ∙ ends.1.1) in
     let cut = cut_closed f.head f.table told start out (acts ++ closed_line time) (subst (IsClosed f.head f.table told) same is) (took_after start now out acts (closed_line time) a.wrote ends.1.2) in
     (ends.0, subst (λ o. IsCutOff f.head f.table o r.old r.new) (sym x) (subst (λ o. IsCutOff f.head f.table told o r.new) (sym y) (subst (λ o. IsCutOff f.head f.table told start o) (sym z) cut)))
-ended_broken told left given start now out f r a end (Refused Long) ends x y z = absurd ends
-ended_broken told left given start now out f r a end (Refused (Lawless bad)) ends x y z =
+ended_broken told name past shelf start now out f r a end (Refused Long) ends x y z = absurd ends
+ended_broken told name past shelf start now out f r a end (Refused (Lawless bad)) ends x y z =
     let acts = act_lines f.head f.live.progress.acts in
     let is = subst (IsRefused f.head f.table told (Lawless bad)) (ap (λ (s : LiveState). act_lines f.head s.progress.acts) (sym a.live))
-    (unclosed f.head f.table told left a.fed a.came (omega (arith, a.few, a.read)) end (ap (λ (s : LiveState). s.bad) (sym a.live) ∙ a.lawful) (omega (arith, a.few, a.read)) bad (ap outcome (sym a.live) ∙ ends.0)) in (
+    (unclosed f.head f.table told shelf.left a.fed a.came (omega (arith, a.few, a.read)) end (ap (λ (s : LiveState). s.bad) (sym a.live) ∙ a.lawful) (omega (arith, a.few, a.read)) bad (ap outcome (sym a.live) ∙ ends.0)) in (
       acts,
       subst (λ o. IsRefused f.head f.table o (Lawless bad) acts) (sym x) is,
       subst (λ o. Appends r.old o acts) (sym z) (subst (λ o. Appends o out acts) (sym y) (subst (λ o. Appends start o acts) (sym ends.1) a.wrote)),
@@ -218,18 +233,18 @@ pub breaks_on : (f n : Follower) (r : Stream) (shelf out : ℕ) (broken : Broken
 breaks_on f n r shelf out broken same l m b = breaks_later f.head f.table r shelf out broken l m (moved f n (record r { shelf_before = shelf; out_before = out }) broken same b)
 
 -- the end after all pieces
-pub end_of_all : (f n : Follower) (told left : Option (List ℕ)) (given : ℕ) (start now : Option (List ℕ)) (r : Stream) (before : ℕ) (result : Result Unit Broken) → IsOfSame f n → IsAlong told left given start now n → IsAtEnd left →
-    r.told ≡ told → r.given ≡ given → r.old ≡ start → r.out_before ≤ before → Closes n before r.out_now now r.new result → MatchResult result (λ _. Completes f.head f.table r) (Breaks f.head f.table r)
-end_of_all f n told left given start now r before (Ok done) same a end x g y l closes =
-    let all = ended_whole told left given start now r.new n a end closes.0 closes.1 closes.2 in (
+pub end_of_all : (f n : Follower) (told : Option (List ℕ)) (name : List ℕ) (past : List Fetch) (shelf : ShelfState) (start now : Option (List ℕ)) (r : Stream) (before : ℕ) (result : Result Unit Broken) → IsOfSame f n → IsAlong told name past shelf start now n → IsAtEnd shelf.left →
+    r.told ≡ told → r.given ≡ given_count shelf → r.old ≡ start → r.out_before ≤ before → Closes n before r.out_now now r.new result → MatchResult result (λ _. Completes f.head f.table r) (Breaks f.head f.table r)
+end_of_all f n told name past shelf start now r before (Ok done) same a end x g y l closes =
+    let all = ended_whole told name past shelf start now r.new n a end closes.0 closes.1 closes.2 in (
       all.0,
       subst (λ o. IsClosed f.head f.table o all.0) (sym x) (subst (λ h. IsClosed h f.table told all.0) same.head (subst (λ table. IsClosed n.head table told all.0) same.table all.1)),
       subst (λ o. Appends o r.new all.0) (sym y) all.2,
       omega (arith, g, all.3),
     )
-end_of_all f n told left given start now r before (Err broken) same a end x g y l closes =
+end_of_all f n told name past shelf start now r before (Err broken) same a end x g y l closes =
     breaks_on f n r r.shelf_before before broken same (omega arith) l
-    (ended_broken told left given start now r.new n (record r { shelf_before = r.shelf_before; out_before = before }) a end broken closes x y refl)
+    (ended_broken told name past shelf start now r.new n (record r { shelf_before = r.shelf_before; out_before = before }) a end broken closes x y refl)
 
 -- what follows for the answer of a run
 pub completed_of : (P : Type 0) (Q : Broken → Type 0) (result : Result Unit Broken) → MatchResult result (λ _. P) Q → IfOk result (λ _. P)

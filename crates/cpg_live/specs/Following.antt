@@ -1,7 +1,10 @@
 -- A node that follows a stream, piece by piece.
-use Rattle.std.specs.Prelude.{ℕ, ◌≡◌, ◌+◌, ◌<◌, ◌≤◌, List, Option, Some, None, IfSome, Result, Ok, Err, length}
+use Rattle.std.specs.Prelude.{ℕ, ◌≡◌, false, ◌+◌, ◌<◌, ◌≤◌, List, Option, Some, None, IfSome, Result, Ok, Err, length}
 use Rattle.std.specs.Io.KnownBytes.{Appends, Consumes, IsAtEnd}
+use Rattle.cpg_tale.specs.Fetch.{Fetch, gave}
 use Rattle.cpg_io.specs.Causes.{Rose}
+use Rattle.cpg_io.specs.Reading.{IsFetch}
+use Rattle.cpg_io.specs.State.{ShelfState, SinkState, given_count}
 use Rattle.cpg_io.specs.Sink.{TookPrefix}
 use Rattle.cpg_head.specs.Head.{Head}
 use Rattle.cpg_table.specs.Table.{NodeTable}
@@ -20,20 +23,22 @@ pub record IsOfSame (old new : Follower) : Type 0 where
   pub table : new.table ≡ old.table
 
 -- a piece of so many bytes was read and fed
-pub record TakesPiece (left rest : Option (List ℕ)) (old new : Follower) (count : ℕ) : Type 0 where
+pub record TakesPiece (shelf rest : ShelfState) (old new : Follower) (count : ℕ) : Type 0 where
   pub piece : List ℕ
   pub long : length piece ≡ count
-  pub taken : Consumes left rest piece
-  pub end : count ≡ 0 → IsAtEnd rest
+  pub taken : Consumes shelf.left rest.left piece
+  pub gave : rest.history ≡ gave piece shelf.history
+  pub end : count ≡ 0 → IsAtEnd rest.left
   pub state : new ≡ record old { live = new.live; read = old.read + count }
   pub few : new.read ≤ STREAM_LIMIT + 1
   pub fed : Feeds old.live piece new.live
 
--- A follower along a stream: what the shelf gave was fed and lawful, and all lines of it are written.
-pub record IsAlong (told left : Option (List ℕ)) (given : ℕ) (start now : Option (List ℕ)) (f : Follower) : Type 0 where
+-- A follower along a stream: what the shelf gave of its name, in one fetch more than before, was fed and lawful, and all lines of
+-- it are written.
+pub record IsAlong (told : Option (List ℕ)) (name : List ℕ) (past : List Fetch) (shelf : ShelfState) (start now : Option (List ℕ)) (f : Follower) : Type 0 where
   pub fed : List ℕ
-  pub came : IfSome told (λ whole. Consumes (Some whole) left fed)
-  pub count : given ≡ length fed
+  pub came : IfSome told (λ whole. Consumes (Some whole) shelf.left fed)
+  pub gave : IsFetch past shelf.history name fed false
   pub read : f.read ≡ length fed
   pub few : f.read ≤ STREAM_LIMIT
   pub live : f.live ≡ after f.table fed
@@ -52,6 +57,19 @@ pub record Stream : Type 0 where
   pub out_now : ℕ
   pub old : Option (List ℕ)
   pub new : Option (List ℕ)
+
+-- by the states of both, where the bytes taken before are known
+abbrev pub streamed : Option (List ℕ) → Option (List ℕ) → ShelfState → ShelfState → SinkState → SinkState → Stream
+streamed told start shelf shelf' out out' = record {
+  told = told;
+  given = given_count shelf';
+  shelf_before = shelf.faults;
+  shelf_now = shelf'.faults;
+  out_before = out.faults;
+  out_now = out'.faults;
+  old = start;
+  new = out'.taken;
+}
 
 -- a stream is followed to its close: all its lines are written, and no more bytes were given than those of as many records
 -- as are taken

@@ -1,13 +1,14 @@
 //! A node of a pack that follows a stream.
 ghost use Rattle.std.specs.Prelude.{ℕ, List, Option, ◌≡◌, ◌+◌, ◌*◌, ◌≤◌, ◌<◌, IfErr, IfOk, IfSome, MatchResult, OnErr, OnOk, drop, length};
 ghost use Rattle.std.specs.Io.KnownBytes.{Appends, IsAtEnd};
-ghost use Rattle.cpg_io.specs.Causes.{HasCause, Rose, counted};
+ghost use Rattle.cpg_tale.specs.Fetch.{Fetch, failed};
+ghost use Rattle.cpg_io.specs.Causes.{HasCause};
 ghost use Rattle.cpg_io.specs.Shelf.{SameNames};
 ghost use Rattle.cpg_io.specs.Sink.{TookPrefix};
 ghost use Rattle.cpg_table.specs.Lawful.{column_count};
 ghost use Rattle.cpg_table.specs.Table.{table_at};
 ghost use Rattle.cpg_live.specs.Follower.{open_follower};
-ghost use Rattle.cpg_live.specs.Following.{Breaks, Closes, Completes, IsAlong, IsOfSame, TakesPiece};
+ghost use Rattle.cpg_live.specs.Following.{Breaks, Closes, Completes, IsAlong, IsOfSame, TakesPiece, streamed};
 ghost use Rattle.cpg_live.specs.LinesKept.{entry_count};
 ghost use Rattle.cpg_live.specs.Streams.{act_lines, closed_line, fault_line};
 
@@ -123,12 +124,12 @@ impl Follower {
     fn feed_piece<S: Shelf>(&mut self, shelf: &mut S, buffer: &mut [u8]) -> Result<Fed, Failed>
         requires some { 0 < length buffer.old }
         requires few { self.old.read ≤ STREAM_LIMIT }
-        ensures names { SameNames (S.stands shelf.old) (S.stands shelf.new) }
-        ensures piece { IfOk result (λ fed. TakesPiece (S.left shelf.old) (S.left shelf.new) self.old self.new fed.count) }
+        ensures names { SameNames (S.state shelf.old) (S.state shelf.new) }
+        ensures piece { IfOk result (λ fed. TakesPiece (S.state shelf.old) (S.state shelf.new) self.old self.new fed.count) }
         ensures bad { IfOk result (λ fed. fed.bad ≡ self.new.live.bad) }
-        ensures given { MatchResult result (λ fed. S.given shelf.new ≡ counted (S.given shelf.old) fed.count) (λ _. S.given shelf.new ≡ S.given shelf.old) }
+        ensures failed { OnErr result ((S.state shelf.new).history ≡ failed (S.state shelf.old).history) }
         ensures same { OnErr result (self.new ≡ self.old) }
-        ensures cause { HasCause (S.faults shelf.old) (S.faults shelf.new) result }
+        ensures cause { HasCause (S.state shelf.old).faults (S.state shelf.new).faults result }
     {
         let most = buffer.len().min(STREAM_LIMIT + 1 - self.read);
         let piece = &mut buffer[..most];
@@ -143,10 +144,10 @@ impl Follower {
 
     /// Writes the lines of the acts that aren't told, in one write.
     fn tell<O: Sink>(&mut self, out: &mut O) -> Result<(), Failed>
-        ensures whole { OnOk result (Appends (O.taken out.old) (O.taken out.new) (act_lines self.old.head (drop self.old.told self.old.live.progress.acts))) }
-        ensures part { OnErr result (TookPrefix (O.taken out.old) (O.taken out.new) (act_lines self.old.head (drop self.old.told self.old.live.progress.acts))) }
+        ensures whole { OnOk result (Appends (O.state out.old).taken (O.state out.new).taken (act_lines self.old.head (drop self.old.told self.old.live.progress.acts))) }
+        ensures part { OnErr result (TookPrefix (O.state out.old).taken (O.state out.new).taken (act_lines self.old.head (drop self.old.told self.old.live.progress.acts))) }
         ensures state { self.new ≡ record self.old { told = length self.old.live.progress.acts } }
-        ensures cause { HasCause (O.faults out.old) (O.faults out.new) result }
+        ensures cause { HasCause (O.state out.old).faults (O.state out.new).faults result }
     {
         let told = self.told;
         let acts = self.live.acts();
@@ -166,13 +167,13 @@ impl Follower {
     ) -> Result<usize, Broken>
         requires some { 0 < length buffer.old }
         requires few { self.old.read ≤ STREAM_LIMIT }
-        ensures names { SameNames (S.stands shelf.old) (S.stands shelf.new) }
+        ensures names { SameNames (S.state shelf.old) (S.state shelf.new) }
         ensures same { IsOfSame self.old self.new }
-        ensures along { (told start : Option (List ℕ)) → IsAlong told (S.left shelf.old) (S.given shelf.old) start (O.taken out.old) self.old → MatchResult result (λ count. (count ≡ 0 → IsAtEnd (S.left shelf.new)) × IsAlong told (S.left shelf.new) (S.given shelf.new) start (O.taken out.new) self.new) (Breaks self.old.head self.old.table (record { told = told; given = S.given shelf.new; shelf_before = S.faults shelf.old; shelf_now = S.faults shelf.new; out_before = O.faults out.old; out_now = O.faults out.new; old = start; new = O.taken out.new })) }
+        ensures along { (told start : Option (List ℕ)) (name : List ℕ) (past : List Fetch) → IsAlong told name past (S.state shelf.old) start (O.state out.old).taken self.old → MatchResult result (λ count. (count ≡ 0 → IsAtEnd (S.state shelf.new).left) × IsAlong told name past (S.state shelf.new) start (O.state out.new).taken self.new) (Breaks self.old.head self.old.table (streamed told start (S.state shelf.old) (S.state shelf.new) (O.state out.old) (O.state out.new))) }
         ensures nearer { IfOk result (λ count. self.new.read ≡ self.old.read + count) }
         ensures within { IfOk result (λ _. self.new.read ≤ STREAM_LIMIT) }
-        ensures later { S.faults shelf.old ≤ S.faults shelf.new }
-        ensures out_later { O.faults out.old ≤ O.faults out.new }
+        ensures later { (S.state shelf.old).faults ≤ (S.state shelf.new).faults }
+        ensures out_later { (O.state out.old).faults ≤ (O.state out.new).faults }
     {
         let Ok(fed) = self.feed_piece(shelf, buffer) else {
             return Err(Broken::Shelf);
@@ -193,9 +194,9 @@ impl Follower {
     fn follow_pieces<S: Shelf, O: Sink>(&mut self, shelf: &mut S, out: &mut O) -> Result<(), Broken>
         requires { self.old.read ≤ STREAM_LIMIT }
         ensures same { IsOfSame self.old self.new }
-        ensures along { (told start : Option (List ℕ)) → IsAlong told (S.left shelf.old) (S.given shelf.old) start (O.taken out.old) self.old → MatchResult result (λ _. IsAtEnd (S.left shelf.new) × IsAlong told (S.left shelf.new) (S.given shelf.new) start (O.taken out.new) self.new) (Breaks self.old.head self.old.table (record { told = told; given = S.given shelf.new; shelf_before = S.faults shelf.old; shelf_now = S.faults shelf.new; out_before = O.faults out.old; out_now = O.faults out.new; old = start; new = O.taken out.new })) }
-        ensures later { S.faults shelf.old ≤ S.faults shelf.new }
-        ensures out_later { O.faults out.old ≤ O.faults out.new }
+        ensures along { (told start : Option (List ℕ)) (name : List ℕ) (past : List Fetch) → IsAlong told name past (S.state shelf.old) start (O.state out.old).taken self.old → MatchResult result (λ _. IsAtEnd (S.state shelf.new).left × IsAlong told name past (S.state shelf.new) start (O.state out.new).taken self.new) (Breaks self.old.head self.old.table (streamed told start (S.state shelf.old) (S.state shelf.new) (O.state out.old) (O.state out.new))) }
+        ensures later { (S.state shelf.old).faults ≤ (S.state shelf.new).faults }
+        ensures out_later { (O.state out.old).faults ≤ (O.state out.new).faults }
     {
         let mut buffer = [0; PIECE];
         loop {
@@ -211,9 +212,9 @@ impl Follower {
 
     /// Writes the line of a close.
     fn write_close<O: Sink>(&mut self, time: u64, out: &mut O) -> Result<(), Failed>
-        ensures whole { OnOk result (Appends (O.taken out.old) (O.taken out.new) (closed_line time)) }
-        ensures part { OnErr result (TookPrefix (O.taken out.old) (O.taken out.new) (closed_line time)) }
-        ensures cause { HasCause (O.faults out.old) (O.faults out.new) result }
+        ensures whole { OnOk result (Appends (O.state out.old).taken (O.state out.new).taken (closed_line time)) }
+        ensures part { OnErr result (TookPrefix (O.state out.old).taken (O.state out.new).taken (closed_line time)) }
+        ensures cause { HasCause (O.state out.old).faults (O.state out.new).faults result }
     {
         self.lines.clear();
         append_closed(&mut self.lines, time);
@@ -222,7 +223,7 @@ impl Follower {
 
     /// Closes a stream that has no more bytes: writes the line of its close.
     fn end<O: Sink>(&mut self, out: &mut O) -> Result<(), Broken>
-        ensures { Closes self.old (O.faults out.old) (O.faults out.new) (O.taken out.old) (O.taken out.new) result }
+        ensures { Closes self.old (O.state out.old).faults (O.state out.new).faults (O.state out.old).taken (O.state out.new).taken result }
     {
         let time = match self.live.closed() {
             Ok(time) => time,
@@ -237,8 +238,8 @@ impl Follower {
     /// Follows what is left of a stream to its close.
     fn follow_rest<S: Shelf, O: Sink>(&mut self, shelf: &mut S, out: &mut O) -> Result<(), Broken>
         requires { self.old.read ≤ STREAM_LIMIT }
-        ensures along { (told start : Option (List ℕ)) → IsAlong told (S.left shelf.old) (S.given shelf.old) start (O.taken out.old) self.old → MatchResult result (λ _. Completes self.old.head self.old.table (record { told = told; given = S.given shelf.new; shelf_before = S.faults shelf.old; shelf_now = S.faults shelf.new; out_before = O.faults out.old; out_now = O.faults out.new; old = start; new = O.taken out.new })) (Breaks self.old.head self.old.table (record { told = told; given = S.given shelf.new; shelf_before = S.faults shelf.old; shelf_now = S.faults shelf.new; out_before = O.faults out.old; out_now = O.faults out.new; old = start; new = O.taken out.new })) }
-        ensures later { S.faults shelf.old ≤ S.faults shelf.new }
+        ensures along { (told start : Option (List ℕ)) (name : List ℕ) (past : List Fetch) → IsAlong told name past (S.state shelf.old) start (O.state out.old).taken self.old → MatchResult result (λ _. Completes self.old.head self.old.table (streamed told start (S.state shelf.old) (S.state shelf.new) (O.state out.old) (O.state out.new))) (Breaks self.old.head self.old.table (streamed told start (S.state shelf.old) (S.state shelf.new) (O.state out.old) (O.state out.new))) }
+        ensures later { (S.state shelf.old).faults ≤ (S.state shelf.new).faults }
     {
         match self.follow_pieces(shelf, out) {
             Ok(()) => self.end(out),
@@ -256,8 +257,8 @@ impl Follower {
     ) -> Result<(), Broken>
         requires may { S.may_fetch shelf.old name.now }
         requires opened { self.old ≡ open_follower self.old.head self.old.table }
-        ensures whole { IfOk result (λ _. Completes self.old.head self.old.table (record { told = S.stands shelf.old name.now; given = S.given shelf.new; shelf_before = S.faults shelf.old; shelf_now = S.faults shelf.new; out_before = O.faults out.old; out_now = O.faults out.new; old = O.taken out.old; new = O.taken out.new })) }
-        ensures broken { IfErr result (Breaks self.old.head self.old.table (record { told = S.stands shelf.old name.now; given = S.given shelf.new; shelf_before = S.faults shelf.old; shelf_now = S.faults shelf.new; out_before = O.faults out.old; out_now = O.faults out.new; old = O.taken out.old; new = O.taken out.new })) }
+        ensures whole { IfOk result (λ _. Completes self.old.head self.old.table (streamed ((S.state shelf.old).stands name.now) (O.state out.old).taken (S.state shelf.old) (S.state shelf.new) (O.state out.old) (O.state out.new))) }
+        ensures broken { IfErr result (Breaks self.old.head self.old.table (streamed ((S.state shelf.old).stands name.now) (O.state out.old).taken (S.state shelf.old) (S.state shelf.new) (O.state out.old) (O.state out.new))) }
     {
         match shelf.fetch(name) {
             Ok(()) => self.follow_rest(shelf, out),

@@ -1,11 +1,14 @@
 //! `cpgc`, a design-time scheduler for time-triggered controllers.
 #![tactic(auto)]
 
-ghost use Rattle.std.specs.Prelude.{◌≡◌, ◌↔◌, None, IfOk, drop, map, string_bytes};
+ghost use Rattle.std.specs.Prelude.{◌≡◌, ◌↔◌, IfOk, drop, map, string_bytes};
 ghost use Rattle.std.specs.Vec.Iter.{into_iter_items};
 ghost use Rattle.std.specs.declared.io.ErrorKind.{ErrorKind};
 ghost use Rattle.cpg_words.specs.declared.fault.WordsFault.{WordsFault};
+ghost use Rattle.cpg_io.specs.Adapters.{shelf_of, sink_of};
+ghost use Rattle.cpg_app.specs.Causes.{seen};
 ghost use Rattle.cpg_app.specs.Lawful.{IsLawful};
+ghost use Rattle.cpg_app.specs.Told.{sent};
 ghost use Rattle.cpgc.specs.Statuses.{IsStatusOf, IsStatusWithout};
 
 use cpg_app::{run, run_without_words};
@@ -50,7 +53,7 @@ fn run_on(
     out: &mut StreamSink<Stdout>,
     err: &mut StreamSink<Stderr>,
 ) -> u8
-    ensures { IsLawful (record { words = map string_bytes words.now; shelf = record { stands = λ _. None; given = shelf.new.given; before = shelf.old.faults; now = shelf.new.faults }; out = record { before = out.old.faults; now = out.new.faults; old = None; new = None }; err = record { before = err.old.faults; now = err.new.faults; old = None; new = None }; status = result }) }
+    ensures { IsLawful (record { words = map string_bytes words.now; shelf = seen (shelf_of shelf.old) (shelf_of shelf.new); out = sent (sink_of out.old) (sink_of out.new); err = sent (sink_of err.old) (sink_of err.new); status = result }) }
 {
     run(alloc, words, shelf, out, err)
 }

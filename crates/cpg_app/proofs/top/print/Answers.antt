@@ -2,40 +2,41 @@ use Rattle.std.proofs.Common.{refl, sym, subst, inl, inr}
 use Rattle.std.proofs.KnownBytes.{Keeps-refl}
 use Rattle.cpg_refusal.specs.declared.halt.Halt.TheVariants.{Memory}
 use Rattle.cpg_app.specs.Endings.{Ran}
-use Rattle.cpg_app.specs.Causes.{StopsAsked}
+use Rattle.cpg_app.specs.Causes.{StopsAsked, seen}
 use Rattle.cpg_app.specs.Outputs.{PrintsAsked, bytes_of}
 use Rattle.cpg_app.proofs.MemoryStops.{memory_stops}
 use Rattle.cpg_app.proofs.Named.{command_named}
 use Rattle.cpg_app.proofs.Shown.{lawful_with, lawful_by}
 use Rattle.cpg_app.proofs.Written.{stopped, cut_of, none_of}
+use Rattle.cpg_app.specs.Told.{sent}
 use Rattle.cpg_app.proofs.top.print.Goals as goal
 
 pub stop-requires-in-Err : goal.stop-requires-in-Err
 stop-requires-in-Err g c =
-    command_named (record { stands = g.S.Shelf.stands c.args.shelf.now; given = g.S.Shelf.given c.command_output.new.shelf; before = g.S.Shelf.faults c.args.shelf.now; now = g.S.Shelf.faults c.command_output.new.shelf })
+    command_named (seen (g.S.Shelf.state c.args.shelf.now) (g.S.Shelf.state c.command_output.new.shelf))
     c.args.command.now c.in-Err.halt c.in-Err.ensures.halt
 
 pub returns-in-Ok-put : goal.returns-in-Ok-put
 returns-in-Ok-put g c words asked =
     let r : Ran = record {
       words = words;
-      shelf = record { stands = g.S.Shelf.stands c.args.shelf.now; given = g.S.Shelf.given c.command_output.new.shelf; before = g.S.Shelf.faults c.args.shelf.now; now = g.S.Shelf.faults c.command_output.new.shelf };
-      out = record { before = g.O.Sink.faults c.args.out.now; now = g.O.Sink.faults c.put.new.out; old = g.O.Sink.taken c.args.out.now; new = g.O.Sink.taken c.put.new.out };
-      err = record { before = g.E.Sink.faults c.args.err.now; now = g.E.Sink.faults c.args.err.now; old = g.E.Sink.taken c.args.err.now; new = g.E.Sink.taken c.args.err.now };
+      shelf = seen (g.S.Shelf.state c.args.shelf.now) (g.S.Shelf.state c.command_output.new.shelf);
+      out = sent (g.O.Sink.state c.args.out.now) (g.O.Sink.state c.put.new.out);
+      err = sent (g.E.Sink.state c.args.err.now) (g.E.Sink.state c.args.err.now);
       status = 0;
     } in
     lawful_with r (bytes_of c.in-Ok.output) (record {
       prints = subst (λ o. PrintsAsked r.shelf o (bytes_of c.in-Ok.output)) (sym asked) (record { output = c.in-Ok.ensures.text; within = c.in-Ok.ensures.within });
-      ending = inl (record { status = refl; out = c.in-Ok-put.ensures; err = Keeps-refl (g.E.Sink.taken c.args.err.now) });
+      ending = inl (record { status = refl; out = c.in-Ok-put.ensures; err = Keeps-refl (g.E.Sink.state c.args.err.now).taken });
     })
 
 pub returns-in-Err-Failed : goal.returns-in-Err-Failed
 returns-in-Err-Failed g c words asked =
     let r : Ran = record {
       words = words;
-      shelf = record { stands = g.S.Shelf.stands c.args.shelf.now; given = g.S.Shelf.given c.command_output.new.shelf; before = g.S.Shelf.faults c.args.shelf.now; now = g.S.Shelf.faults c.command_output.new.shelf };
-      out = record { before = g.O.Sink.faults c.args.out.now; now = g.O.Sink.faults c.put.new.out; old = g.O.Sink.taken c.args.out.now; new = g.O.Sink.taken c.put.new.out };
-      err = record { before = g.E.Sink.faults c.args.err.now; now = g.E.Sink.faults c.cut.new.err; old = g.E.Sink.taken c.args.err.now; new = g.E.Sink.taken c.cut.new.err };
+      shelf = seen (g.S.Shelf.state c.args.shelf.now) (g.S.Shelf.state c.command_output.new.shelf);
+      out = sent (g.O.Sink.state c.args.out.now) (g.O.Sink.state c.put.new.out);
+      err = sent (g.E.Sink.state c.args.err.now) (g.E.Sink.state c.cut.new.err);
       status = c.cut.result;
     } in
     lawful_with r (bytes_of c.in-Ok.output) (record {
@@ -47,9 +48,9 @@ pub returns-in-Ok : goal.returns-in-Ok
 returns-in-Ok g c words asked =
     let r : Ran = record {
       words = words;
-      shelf = record { stands = g.S.Shelf.stands c.args.shelf.now; given = g.S.Shelf.given c.command_output.new.shelf; before = g.S.Shelf.faults c.args.shelf.now; now = g.S.Shelf.faults c.command_output.new.shelf };
-      out = record { before = g.O.Sink.faults c.args.out.now; now = g.O.Sink.faults c.put.new.out; old = g.O.Sink.taken c.args.out.now; new = g.O.Sink.taken c.put.new.out };
-      err = record { before = g.E.Sink.faults c.args.err.now; now = g.E.Sink.faults c.stop.new.err; old = g.E.Sink.taken c.args.err.now; new = g.E.Sink.taken c.stop.new.err };
+      shelf = seen (g.S.Shelf.state c.args.shelf.now) (g.S.Shelf.state c.command_output.new.shelf);
+      out = sent (g.O.Sink.state c.args.out.now) (g.O.Sink.state c.put.new.out);
+      err = sent (g.E.Sink.state c.args.err.now) (g.E.Sink.state c.stop.new.err);
       status = c.stop.result;
     } in
     elim c.stop.ensures [
@@ -61,12 +62,12 @@ pub returns : goal.returns
 returns g c words asked =
     let r : Ran = record {
       words = words;
-      shelf = record { stands = g.S.Shelf.stands c.args.shelf.now; given = g.S.Shelf.given c.command_output.new.shelf; before = g.S.Shelf.faults c.args.shelf.now; now = g.S.Shelf.faults c.command_output.new.shelf };
-      out = record { before = g.O.Sink.faults c.args.out.now; now = g.O.Sink.faults c.args.out.now; old = g.O.Sink.taken c.args.out.now; new = g.O.Sink.taken c.args.out.now };
-      err = record { before = g.E.Sink.faults c.args.err.now; now = g.E.Sink.faults c.stop-in-Err.new.err; old = g.E.Sink.taken c.args.err.now; new = g.E.Sink.taken c.stop-in-Err.new.err };
+      shelf = seen (g.S.Shelf.state c.args.shelf.now) (g.S.Shelf.state c.command_output.new.shelf);
+      out = sent (g.O.Sink.state c.args.out.now) (g.O.Sink.state c.args.out.now);
+      err = sent (g.E.Sink.state c.args.err.now) (g.E.Sink.state c.stop-in-Err.new.err);
       status = c.stop-in-Err.result;
     } in
     elim c.stop-in-Err.ensures [
-      | inl sent ↦ lawful_by r c.in-Err.halt (record { stops = subst (λ o. StopsAsked r.shelf o c.in-Err.halt) (sym asked) c.in-Err.ensures.halt; ending = stopped r c.in-Err.halt (Keeps-refl (g.O.Sink.taken c.args.out.now)) sent })
-      | inr sent ↦ lawful_by r Memory (record { stops = memory_stops r.shelf r.words; ending = stopped r Memory (Keeps-refl (g.O.Sink.taken c.args.out.now)) sent })
+      | inl sent ↦ lawful_by r c.in-Err.halt (record { stops = subst (λ o. StopsAsked r.shelf o c.in-Err.halt) (sym asked) c.in-Err.ensures.halt; ending = stopped r c.in-Err.halt (Keeps-refl (g.O.Sink.state c.args.out.now).taken) sent })
+      | inr sent ↦ lawful_by r Memory (record { stops = memory_stops r.shelf r.words; ending = stopped r Memory (Keeps-refl (g.O.Sink.state c.args.out.now).taken) sent })
     ]

@@ -4,6 +4,8 @@ use Rattle.cpg_words.specs.declared.command.Command.{Command}
 use Rattle.cpg_words.specs.FileWords.{file_words, file_words_if}
 use Rattle.cpg_app.specs.Endings.{Ran}
 use Rattle.cpg_app.proofs.Wordless.{at_end, without_words}
+use Rattle.cpg_app.specs.Causes.{seen}
+use Rattle.cpg_app.specs.Told.{sent}
 use Rattle.cpg_app.proofs.top.run.Goals as goal
 
 pub live-requires-clause-pack : goal.live-requires-clause-pack
@@ -28,9 +30,9 @@ pub returns-in-Err : goal.returns-in-Err
 returns-in-Err g c =
     let r : Ran = record {
       words = map string_bytes c.args.words.now;
-      shelf = record { stands = g.S.Shelf.stands c.args.shelf.now; given = g.S.Shelf.given c.args.shelf.now; before = g.S.Shelf.faults c.args.shelf.now; now = g.S.Shelf.faults c.args.shelf.now };
-      out = record { before = g.O.Sink.faults c.args.out.now; now = g.O.Sink.faults c.args.out.now; old = g.O.Sink.taken c.args.out.now; new = g.O.Sink.taken c.args.out.now };
-      err = record { before = g.E.Sink.faults c.args.err.now; now = g.E.Sink.faults c.run_without_words.new.err; old = g.E.Sink.taken c.args.err.now; new = g.E.Sink.taken c.run_without_words.new.err };
+      shelf = seen (g.S.Shelf.state c.args.shelf.now) (g.S.Shelf.state c.args.shelf.now);
+      out = sent (g.O.Sink.state c.args.out.now) (g.O.Sink.state c.args.out.now);
+      err = sent (g.E.Sink.state c.args.err.now) (g.E.Sink.state c.run_without_words.new.err);
       status = c.run_without_words.result;
     } in
-    without_words r c.in-Err.fault (λ e. search rules) (Keeps-refl (g.O.Sink.taken c.args.out.now)) c.run_without_words.ensures
+    without_words r c.in-Err.fault (λ e. search rules) (Keeps-refl (g.O.Sink.state c.args.out.now).taken) c.run_without_words.ensures

@@ -6,6 +6,6 @@ use Rattle.cpg_codec.proofs.head_writing.put_edges.Given as goal
 
 abbrev pub invariant-loop-from : goal.invariant-loop-from
 invariant-loop-from g l = record {
-  put : IsPut (g.O.Sink.taken l.fn.sink) (g.O.Sink.taken l.sink) l.fn.buffer l.buffer (flat_map edge_bytes (take l.from-index l.fn.edges));
-  later : g.O.Sink.faults l.fn.sink ≤ g.O.Sink.faults l.sink;
+  put : IsPut (g.O.Sink.state l.fn.sink).taken (g.O.Sink.state l.sink).taken l.fn.buffer l.buffer (flat_map edge_bytes (take l.from-index l.fn.edges));
+  later : (g.O.Sink.state l.fn.sink).faults ≤ (g.O.Sink.state l.sink).faults;
 }

@@ -6,6 +6,6 @@ use Rattle.cpg_codec.proofs.head_writing.put_names.Given as goal
 
 abbrev pub invariant-loop-name : goal.invariant-loop-name
 invariant-loop-name g l = record {
-  put : IsPut (g.O.Sink.taken l.fn.sink) (g.O.Sink.taken l.sink) l.fn.buffer l.buffer (flat_map name_bytes (take l.name-index l.fn.names));
-  later : g.O.Sink.faults l.fn.sink ≤ g.O.Sink.faults l.sink;
+  put : IsPut (g.O.Sink.state l.fn.sink).taken (g.O.Sink.state l.sink).taken l.fn.buffer l.buffer (flat_map name_bytes (take l.name-index l.fn.names));
+  later : (g.O.Sink.state l.fn.sink).faults ≤ (g.O.Sink.state l.sink).faults;
 }

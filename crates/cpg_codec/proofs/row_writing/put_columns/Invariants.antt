@@ -6,6 +6,6 @@ use Rattle.cpg_codec.proofs.row_writing.put_columns.Given as goal
 
 abbrev pub invariant-loop-column : goal.invariant-loop-column
 invariant-loop-column g l = record {
-  put : IsPut (g.O.Sink.taken l.fn.sink) (g.O.Sink.taken l.sink) l.fn.buffer l.buffer (flat_map column_bytes (take l.column-index l.fn.columns));
-  later : g.O.Sink.faults l.fn.sink ≤ g.O.Sink.faults l.sink;
+  put : IsPut (g.O.Sink.state l.fn.sink).taken (g.O.Sink.state l.sink).taken l.fn.buffer l.buffer (flat_map column_bytes (take l.column-index l.fn.columns));
+  later : (g.O.Sink.state l.fn.sink).faults ≤ (g.O.Sink.state l.sink).faults;
 }

@@ -6,6 +6,6 @@ use Rattle.cpg_codec.proofs.writing.put_nodes.Given as goal
 
 abbrev pub invariant-loop-node : goal.invariant-loop-node
 invariant-loop-node g l = record {
-  put : IsPut (g.O.Sink.taken l.fn.sink) (g.O.Sink.taken l.sink) l.fn.buffer l.buffer (flat_map table_bytes (take l.node l.fn.tables.nodes));
-  later : g.O.Sink.faults l.fn.sink ≤ g.O.Sink.faults l.sink;
+  put : IsPut (g.O.Sink.state l.fn.sink).taken (g.O.Sink.state l.sink).taken l.fn.buffer l.buffer (flat_map table_bytes (take l.node l.fn.tables.nodes));
+  later : (g.O.Sink.state l.fn.sink).faults ≤ (g.O.Sink.state l.sink).faults;
 }

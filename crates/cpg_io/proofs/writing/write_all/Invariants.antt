@@ -5,8 +5,8 @@ use Rattle.cpg_io.proofs.writing.write_all.Given as goal
 abbrev pub invariant-loop-at : goal.invariant-loop-at
 invariant-loop-at g l = record {
   within : l.at ≤ length l.bytes;
-  taken : Appends (g.O.Sink.taken l.fn.sink) (g.O.Sink.taken l.sink) (take l.at l.bytes);
-  later : g.O.Sink.faults l.fn.sink ≤ g.O.Sink.faults l.sink;
+  taken : Appends (g.O.Sink.state l.fn.sink).taken (g.O.Sink.state l.sink).taken (take l.at l.bytes);
+  later : (g.O.Sink.state l.fn.sink).faults ≤ (g.O.Sink.state l.sink).faults;
 }
 
 abbrev pub decreases-loop-at : goal.decreases-loop-at

@@ -1,4 +1,5 @@
 use Rattle.std.proofs.Common.{ℕ, List, Option, ◌≤◌, ◌-◌}
+use Rattle.cpg_tale.specs.Fetch.{Fetch}
 use Rattle.cpg_live.specs.declared.following.TheConstants.{STREAM_LIMIT}
 use Rattle.cpg_live.specs.Following.{IsAlong, IsOfSame}
 use Rattle.cpg_live.proofs.following.Follower.follow_pieces.Given as goal
@@ -7,10 +8,10 @@ abbrev pub invariant-loop-count : goal.invariant-loop-count
 invariant-loop-count g l = record {
   few : l.self.read ≤ STREAM_LIMIT;
   same : IsOfSame l.fn.self l.self;
-  along : (told start : Option (List ℕ)) → IsAlong told (g.S.Shelf.left l.fn.shelf) (g.S.Shelf.given l.fn.shelf) start (g.O.Sink.taken l.fn.out) l.fn.self
-      → IsAlong told (g.S.Shelf.left l.shelf) (g.S.Shelf.given l.shelf) start (g.O.Sink.taken l.out) l.self;
-  later : g.S.Shelf.faults l.fn.shelf ≤ g.S.Shelf.faults l.shelf;
-  out_later : g.O.Sink.faults l.fn.out ≤ g.O.Sink.faults l.out;
+  along : (told start : Option (List ℕ)) (name : List ℕ) (past : List Fetch) → IsAlong told name past (g.S.Shelf.state l.fn.shelf) start (g.O.Sink.state l.fn.out).taken l.fn.self
+      → IsAlong told name past (g.S.Shelf.state l.shelf) start (g.O.Sink.state l.out).taken l.self;
+  later : (g.S.Shelf.state l.fn.shelf).faults ≤ (g.S.Shelf.state l.shelf).faults;
+  out_later : (g.O.Sink.state l.fn.out).faults ≤ (g.O.Sink.state l.out).faults;
 }
 
 abbrev pub decreases-loop-count : goal.decreases-loop-count

@@ -1,0 +1,32 @@
+-- What a shelf gave, fetch by fetch.
+use Rattle.std.specs.Prelude.{ℕ, ◌++◌, ◌||◌, Bool, true, false, List, [], ◌∷◌}
+
+-- a fetch: the name, the bytes that reads gave since, whether a read gave none, and whether the fetch or a read failed
+pub record Fetch : Type 0 where
+  pub name : List ℕ
+  pub given : List ℕ
+  pub ended : Bool
+  pub failed : Bool
+
+abbrev pub is_none : List ℕ → Bool
+is_none [] = true
+is_none (x ∷ xs) = false
+
+-- a history, newest fetch first, after a name is fetched
+abbrev pub fetched : List ℕ → List Fetch → List Fetch
+fetched name past = record { name = name; given = []; ended = false; failed = false } ∷ past
+
+-- after bytes are given, none at the end; before the first fetch none are noted
+abbrev pub gave : List ℕ → List Fetch → List Fetch
+gave piece [] = []
+gave piece (f ∷ past) = record { name = f.name; given = f.given ++ piece; ended = is_none piece || f.ended; failed = f.failed } ∷ past
+
+-- after a call failed
+abbrev pub failed : List Fetch → List Fetch
+failed [] = []
+failed (f ∷ past) = record f { failed = true } ∷ past
+
+-- the bytes of the newest fetch
+abbrev pub newest_given : List Fetch → List ℕ
+newest_given [] = []
+newest_given (f ∷ past) = f.given

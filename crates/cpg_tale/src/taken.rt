@@ -1,0 +1,39 @@
+//! What a sink took.
+ghost use Rattle.std.specs.Prelude.{◌≡◌, ◌++◌, [], List, ℕ};
+
+use std::marker::Model;
+
+/// All bytes that a sink took, in order.
+#[derive(Drop)]
+pub struct Taken {
+    made: (),
+    ghost bytes: { List ℕ },
+}
+
+impl Model for Taken {
+    ghost use base.Fml.{ftrue};
+    ghost use Rattle.std.specs.Prelude.{List, ℕ};
+
+    ghost also_owns = { λ _. ftrue };
+
+    ghost Value = { List ℕ };
+
+    ghost view = { λ t. t.bytes };
+}
+
+impl Taken {
+    /// Nothing was taken.
+    pub fn new() -> Taken
+        ensures { result ≡ [] }
+    {
+        Taken { made: () }
+    }
+
+    /// The bytes after a piece that was taken.
+    #[inline(always)]
+    pub fn then(&self, _piece: &[u8]) -> Taken
+        ensures { result ≡ self.now ++ _piece.now }
+    {
+        Taken { made: () }
+    }
+}
