@@ -29,20 +29,20 @@ module _ (seen : Seen) (stands : Text → Option Text) (middle : ℕ) (l : seen.
   -- a pack that stops a run from some moment on stops it from an earlier one on
   pub tables_later : (work more : Tables → Halt → Type 0) → ((t : Tables) (h : Halt) → work t h → more t h) → (h : Halt) → StopsTables (seen_from seen stands middle) told work h → StopsTables seen told more h
   tables_later work more goes h (inl (inl unread)) = inl (inl (record { halt_is = unread.halt_is; rose = rose_later seen.before middle seen.now l unread.rose }))
-  tables_later work more goes h (inl (inr (inl long))) = inl (inr (inl (record { halt_is = long.halt_is; given = long.given; long = long.long })))
+  tables_later work more goes h (inl (inr (inl long))) = inl (inr (inl (record { halt_is = long.halt_is; given = long.given; most = long.most; long = long.long })))
   tables_later work more goes h (inl (inr (inr none))) = inl (inr (inr (record { fault = none.fault; halt_is = none.halt_is; within = none.within; shows = none.shows })))
   tables_later work more goes h (inr worked) = inr (worked.0, worked.1, goes worked.0 h worked.2)
 
   -- so does a scenario file
   pub play_later : (a : Admission) (t : Tables) (h : Halt) → StopsPlay (seen_from seen stands middle) told a t h → StopsPlay seen told a t h
   play_later a t h (inl (inl unread)) = inl (inl (record { halt_is = unread.halt_is; rose = rose_later seen.before middle seen.now l unread.rose }))
-  play_later a t h (inl (inr (inl long))) = inl (inr (inl (record { halt_is = long.halt_is; given = long.given; long = long.long })))
+  play_later a t h (inl (inr (inl long))) = inl (inr (inl (record { halt_is = long.halt_is; given = long.given; most = long.most; long = long.long })))
   play_later a t h (inl (inr (inr none))) = inl (inr (inr (record { fault = none.fault; halt_is = none.halt_is; within = none.within; first = none.first })))
   play_later a t h (inr judged) = inr judged
 
   -- and so does a log
   pub audit_later : (a : Admission) (t : Tables) (h : Halt) → StopsAudit (seen_from seen stands middle) told a t h → StopsAudit seen told a t h
   audit_later a t h (inl (inl unread)) = inl (inl (record { halt_is = unread.halt_is; rose = rose_later seen.before middle seen.now l unread.rose }))
-  audit_later a t h (inl (inr (inl long))) = inl (inr (inl (record { halt_is = long.halt_is; given = long.given; long = long.long })))
+  audit_later a t h (inl (inr (inl long))) = inl (inr (inl (record { halt_is = long.halt_is; given = long.given; most = long.most; long = long.long })))
   audit_later a t h (inl (inr (inr none))) = inl (inr (inr (record { fault = none.fault; halt_is = none.halt_is; within = none.within; shows = none.shows })))
   audit_later a t h (inr judged) = inr judged

@@ -38,7 +38,7 @@ said_length stands (pair ∷ pairs) (part ∷ parts) said = omega (arith, said_l
 -- a graph file that stops a run from some moment on stops it from an earlier one on
 pub reading_later : (seen : Seen) (stands : Text → Option Text) (middle : ℕ) → seen.before ≤ middle → (told : Option Text) (h : Halt) → StopsReading (seen_from seen stands middle) told h → StopsReading seen told h
 reading_later seen stands middle l told h (inl unread) = inl (record { halt_is = unread.halt_is; rose = rose_later seen.before middle seen.now l unread.rose })
-reading_later seen stands middle l told h (inr (inl long)) = inr (inl (record { halt_is = long.halt_is; given = long.given; long = long.long }))
+reading_later seen stands middle l told h (inr (inl long)) = inr (inl (record { halt_is = long.halt_is; given = long.given; most = long.most; long = long.long }))
 reading_later seen stands middle l told h (inr (inr faulty)) = inr (inr (record { fault = faulty.fault; halt_is = faulty.halt_is; within = faulty.within; first = faulty.first }))
 
 -- a file that isn't read, after those that were
