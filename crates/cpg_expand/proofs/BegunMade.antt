@@ -1,12 +1,11 @@
 -- The trees of a process that begins, as the code finds them.
-use Rattle.std.proofs.Common.{ℕ, ◌+◌, ◌<◌, ◌≤◌, ◌≡◌, Bool, List, All, set, length-set, get_or, get_or-set_same, get_or-set_other, Option, arith, refl, sym, ap, ◌∙◌, subst, inl, inr}
+use Rattle.std.proofs.Common.{ℕ, ◌<◌, ◌≤◌, ◌≡◌, Bool, List, All, set, length-set, get_or, get_or-set_same, get_or-set_other, Option, arith, refl, sym, ap, ◌∙◌, subst, inl, inr}
 use Rattle.std.proofs.lemmas.Bool.{cases_eq}
 use Rattle.std.proofs.lemmas.List.Elements.{All-set}
 use Rattle.cpg_base.specs.Graph.{Graph, process_count, condition_count, edge_count, node_of, inputs}
 use Rattle.cpg_base.proofs.Inputs.{inputs_parts}
 use Rattle.cpg_rules.specs.Guards.{Guards, tree_of}
 use Rattle.cpg_rules.specs.Trees.{TestsBelow}
-use Rattle.cpg_base.specs.Order.{place}
 use Rattle.cpg_order.specs.Guard.{Guard, IsGuardOf}
 use Rattle.cpg_rules.specs.Admission.{IsAdmitted}
 use Rattle.cpg_table.proofs.NodeRows.{all_below}
@@ -18,7 +17,7 @@ use Rattle.cpg_expand.specs.Forest.{ForestState, HasTrees, IsWait, no_tree}
 use Rattle.cpg_expand.specs.declared.forest.Ready.{Ready}
 use Rattle.cpg_expand.specs.declared.forest.Ready.TheVariants.{After, At}
 use Rattle.cpg_expand.specs.Guarded.{IsActiveTree, LeadsBelow}
-use Rattle.cpg_expand.specs.Waited.{IsWaitedFor, IsReadyOnce}
+use Rattle.cpg_expand.specs.Waited.{IsReadyIfWaited}
 use Rattle.cpg_expand.proofs.Leads.{leads_below}
 
 -- ---- what is asked of a guard and of inputs
@@ -66,7 +65,7 @@ has_begun g f new p node times ends ready l at has of_times of_ends of_ready is 
 
 pub begun_made : (how : Graph → Guard → TreeState Bool → TreeState (Option ℕ) → Type 0) (g h : Graph) → h ≡ g → (order : List ℕ) (p : ℕ) (guard found : Guard) → found ≡ guard → (node : ℕ) → node ≡ node_of h p →
     (old new : ForestState) (chooser : TreeState Bool) → IsTree h chooser → IsActiveTree h.faults found chooser → (start : TreeState (Option ℕ)) → how h found chooser start →
-    (end : TreeState (Option ℕ)) → IsEndTree h p start end → (ready : Ready) → IsReadyAfter h p ready → (IsWaitedFor h order (place order p + 1) (node_of h p) → IsReadyOnce h old (node_of h p) found chooser end (goes_on end ready)) →
+    (end : TreeState (Option ℕ)) → IsEndTree h p start end → (ready : Ready) → IsReadyAfter h p ready → IsReadyIfWaited h order old p found chooser end (goes_on end ready) →
     new ≡ record { times = set old.times p start; ends = set old.ends p end; ready = set old.ready node ready; free = old.free } → IsBegunBy (how g guard) g order p guard old new chooser
 begun_made how g h same order p guard found the_guard node there old new chooser chooser_tree actives start starts end ends ready ready_after readies is =
     subst (λ k. IsBegunBy (how k guard) k order p guard old new chooser) same (subst (λ t. IsBegunBy (how h t) h order p t old new chooser) the_guard (record {

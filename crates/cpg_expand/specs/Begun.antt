@@ -1,7 +1,6 @@
 -- What is found of a process before it sends.
-use Rattle.std.specs.Prelude.{ℕ, ◌≡◌, ◌⊎◌, ◌+◌, Bool, true, false, List, Option, slice_set}
+use Rattle.std.specs.Prelude.{ℕ, ◌≡◌, ◌⊎◌, Bool, true, false, List, Option, slice_set}
 use Rattle.cpg_base.specs.Graph.{Graph, process_at, node_of, inputs, is_frozen}
-use Rattle.cpg_base.specs.Order.{place}
 use Rattle.cpg_order.specs.Guard.{Guard}
 use Rattle.cpg_tree.specs.Tree.{TreeState}
 use Rattle.cpg_expand.specs.Agreeing.{IsTree}
@@ -10,7 +9,7 @@ use Rattle.cpg_expand.specs.Forest.{ForestState}
 use Rattle.cpg_expand.specs.Freezing.{IsFrozenBy}
 use Rattle.cpg_expand.specs.Guarded.{IsActiveTree, IsStartTree}
 use Rattle.cpg_expand.specs.Latest.{IsLatestStart}
-use Rattle.cpg_expand.specs.Waited.{IsWaitedFor, IsReadyOnce}
+use Rattle.cpg_expand.specs.Waited.{IsReadyIfWaited}
 use Rattle.cpg_expand.specs.Waiting.{IsWaitTree}
 use Rattle.cpg_expand.specs.declared.forest.Ready.{Ready}
 
@@ -25,7 +24,7 @@ pub record IsBegunBy (how : TreeState Bool → TreeState (Option ℕ) → Type 0
   pub ends : IsEndTree g p start end
   pub ready : Ready
   pub ready_after : IsReadyAfter g p ready
-  pub readies : IsWaitedFor g order (place order p + 1) (node_of g p) → IsReadyOnce g old (node_of g p) guard chooser end (goes_on end ready)
+  pub readies : IsReadyIfWaited g order old p guard chooser end (goes_on end ready)
   pub is : new ≡ record { times = slice_set old.times p start; ends = slice_set old.ends p end; ready = slice_set old.ready (node_of g p) ready; free = old.free }
 
 -- by all that it waits for in each scenario

@@ -1,5 +1,5 @@
 -- What waits until a node is ready.
-use Rattle.std.specs.Prelude.{ℕ, ◌≡◌, ◌≤◌, ◌<◌, Bool, List, Option}
+use Rattle.std.specs.Prelude.{ℕ, ◌+◌, ◌≡◌, ◌≤◌, ◌<◌, Bool, List, Option}
 use Rattle.cpg_base.specs.Graph.{Graph, process_count, node_of}
 use Rattle.cpg_base.specs.Order.{place}
 use Rattle.cpg_order.specs.Guard.{Guard}
@@ -20,3 +20,7 @@ pub record IsReadyOnce (g : Graph) (f : ForestState) (node : ℕ) (guard : Guard
   pub wait : TreeState ℕ
   pub waits : IsWaitTree g f node guard wait
   pub is : IsReadyTree g.faults chooser end wait t
+
+-- it is one after a process p, if one behind p waits for the node
+abbrev pub IsReadyIfWaited : Graph → List ℕ → ForestState → ℕ → Guard → TreeState Bool → TreeState (Option ℕ) → TreeState ℕ → Type 0
+IsReadyIfWaited g order f p guard chooser end t = IsWaitedFor g order (place order p + 1) (node_of g p) → IsReadyOnce g f (node_of g p) guard chooser end t

@@ -1,15 +1,13 @@
 //! One process after another.
-ghost use Rattle.std.specs.Prelude.{ℕ, ◌+◌, ◌≡◌, ◌<◌, IfOk, List, length, slice_set};
-ghost use Rattle.cpg_base.specs.Graph.{item_count, node_of, process_count};
-ghost use Rattle.cpg_base.specs.Order.{place};
+ghost use Rattle.std.specs.Prelude.{ℕ, ◌≡◌, ◌<◌, IfOk, List, length, slice_set};
+ghost use Rattle.cpg_base.specs.Graph.{item_count, process_count};
 ghost use Rattle.cpg_bus.specs.Plan.{plan_of};
 ghost use Rattle.cpg_expand.specs.Begun.{IsBegun, IsBegunFrozen, IsBegunThawed};
 ghost use Rattle.cpg_expand.specs.Agreeing.{IsTree};
 ghost use Rattle.cpg_expand.specs.Ending.{IsEndTree, IsReadyAfter, IsReadyTree, goes_on};
 ghost use Rattle.cpg_expand.specs.Forest.{HasTrees, IsWait, ready_by};
 ghost use Rattle.cpg_expand.specs.Grown.{IsGrownBy};
-ghost use Rattle.cpg_expand.specs.Guarded.{IsActiveTree};
-ghost use Rattle.cpg_expand.specs.Waited.{IsReadyOnce, IsWaitedFor};
+ghost use Rattle.cpg_expand.specs.Waited.{IsReadyIfWaited};
 ghost use Rattle.cpg_rules.specs.Guards.{tree_of};
 
 use crate::ending::{end, ready};
@@ -121,7 +119,7 @@ fn ready_after(
     requires active { IsTree admitted.now.graph active.now }
     requires end { IsTree admitted.now.graph end.now }
     ensures of { IfOk result (IsReadyAfter admitted.now.graph process) }
-    ensures ready { IfOk result (λ ready. IsWaitedFor admitted.now.graph order.now (place order.now process + 1) (node_of admitted.now.graph process) → IsReadyOnce admitted.now.graph forest.now (node_of admitted.now.graph process) (tree_of admitted.now.guards process) active.now end.now (goes_on end.now ready)) }
+    ensures ready { IfOk result (λ ready. IsReadyIfWaited admitted.now.graph order.now forest.now process (tree_of admitted.now.guards process) active.now end.now (goes_on end.now ready)) }
 {
     let problem = admitted.problem();
     if active.is_true() {

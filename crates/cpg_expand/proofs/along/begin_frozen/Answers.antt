@@ -1,13 +1,12 @@
-use Rattle.std.proofs.Common.{◌+◌, ◌<◌, ◌≡◌, ◌∙◌, ap, sym, subst, length, arith}
+use Rattle.std.proofs.Common.{◌<◌, ◌≡◌, ◌∙◌, ap, sym, subst, length, arith}
 use Rattle.cpg_base.specs.Graph.{Graph, process_at, process_count, node_of}
-use Rattle.cpg_base.specs.Order.{place}
 use Rattle.cpg_order.specs.Guard.{Guard}
 use Rattle.cpg_rules.specs.Guards.{Guards, tree_of}
 use Rattle.cpg_expand.specs.Begun.{IsFrozenStart}
 use Rattle.cpg_expand.specs.Ending.{IsReadyAfter, goes_on}
 use Rattle.cpg_expand.specs.Forest.{HasTrees}
 use Rattle.cpg_expand.specs.Latest.{IsLatestStart}
-use Rattle.cpg_expand.specs.Waited.{IsWaitedFor, IsReadyOnce}
+use Rattle.cpg_expand.specs.Waited.{IsReadyIfWaited}
 use Rattle.cpg_expand.proofs.BegunMade.{few_here, tests_here, inputs_here, has_begun, begun_made}
 use Rattle.cpg_expand.proofs.FrozenFound.{set_count}
 use Rattle.cpg_expand.proofs.along.begin_frozen.Goals as goal
@@ -61,6 +60,6 @@ returns-clause-begun c =
       frozen = c.in_ok-start.ensures.frozen;
     })
     c.in_ok-end.end c.in_ok-end.ensures.end c.in_ok-ready.ready (subst (λ (g : Graph). IsReadyAfter g c.args.process c.in_ok-ready.ready) (sym same) c.in_ok-ready.ensures.of)
-    (subst (λ (k : Guard). IsWaitedFor h order (place order c.args.process + 1) (node_of h c.args.process) → IsReadyOnce h f (node_of h c.args.process) k c.in_ok-active.active c.in_ok-end.end (goes_on c.in_ok-end.end c.in_ok-ready.ready)) (sym is_found)
-    (subst (λ (g : Graph). IsWaitedFor g order (place order c.args.process + 1) (node_of g c.args.process) → IsReadyOnce g f (node_of g c.args.process) guard c.in_ok-active.active c.in_ok-end.end (goes_on c.in_ok-end.end c.in_ok-ready.ready)) (sym same) c.in_ok-ready.ensures.ready))
+    (subst (λ (k : Guard). IsReadyIfWaited h order f c.args.process k c.in_ok-active.active c.in_ok-end.end (goes_on c.in_ok-end.end c.in_ok-ready.ready)) (sym is_found)
+    (subst (λ (g : Graph). IsReadyIfWaited g order f c.args.process guard c.in_ok-active.active c.in_ok-end.end (goes_on c.in_ok-end.end c.in_ok-ready.ready)) (sym same) c.in_ok-ready.ensures.ready))
     c.put_begun.ensures
