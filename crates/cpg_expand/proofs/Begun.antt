@@ -40,6 +40,7 @@ use Rattle.cpg_expand.specs.declared.forest.Ready.{Ready}
 use Rattle.cpg_expand.specs.declared.forest.Ready.TheVariants.{After, At}
 use Rattle.cpg_expand.specs.Grown.{RowsHold, IsReadyLine, IsFreeLine, Lines, SendLines, LeavesUnsent, IsEarlier, IsDone, AreSettledOf, IsGrown, IsSending}
 use Rattle.cpg_expand.specs.Told.{HasTold}
+use Rattle.cpg_expand.specs.Waited.{IsWaitedFor, IsReadyOnce}
 use Rattle.cpg_expand.specs.Waiting.{ready_of, free_of}
 use Rattle.cpg_tree.proofs.OnePath.{scenario_few}
 use Rattle.cpg_expand.proofs.AgreeingTrees.{agrees_weaker}
@@ -75,9 +76,13 @@ own_rows_hold g order i f has = record {
     row x l = get_or-map (λ (t : TreeState (Option ℕ)). map path_column t.paths) f.times x (no_tree g.faults) [] (omega (arith, l, has.times))
 
 module _ (g : Graph) (urgency : List ℕ) (guards : Guards) (a : IsAdmitted g urgency guards) (order : List ℕ) (topological : IsTopological g order) (p : ℕ) (l : p < process_count g) (guard : Guard) (is_guard : IsGuardOf g urgency p guard)
-    (old new : ForestState) (before after : List (Option ℕ)) (chooser : TreeState Bool) (grown : IsGrown g order (place order p) before old) (trees : HasTrees g new) (b : IsBegun g p guard old new before after chooser) where
+    (old new : ForestState) (before after : List (Option ℕ)) (chooser : TreeState Bool) (grown : IsGrown g order (place order p) before old) (trees : HasTrees g new) (b : IsBegun g order p guard old new before after chooser) where
   nodes : (q : ℕ) → q < process_count g → node_of g q < length g.nodes
   nodes q k = (a.limits.processes q _ k).node
+
+  -- the process itself waits for its node
+  waits_here : IsWaitedFor g order (place order p) (node_of g p)
+  waits_here = record { other = p; within = l; there = refl; later = omega arith }
 
   its_producer : producer g p ≡ p
   its_producer = ap (producer_of_item g) (item_at-start g p l)
@@ -128,35 +133,35 @@ module _ (g : Graph) (urgency : List ℕ) (guards : Guards) (a : IsAdmitted g ur
     told = told_from_lines g order rows (place order p) old grown.trees hold fs s t run lines
 
     ready_line_before : IsReadyLine g order rows s t (place order p) (node_of g p) (ready_of g old (node_of g p))
-    ready_line_before = lines.ready (node_of g p) (nodes p l)
+    ready_line_before = lines.ready (node_of g p) (nodes p l) waits_here
 
     abbrev r : ℕ
     r = ready_line_before.time
 
     -- what the trees tell of its start
-    told_start : IsToldStart g order old b.wait chooser p s t
-    told_start = start_is_told g a.limits order topological a.joins urgency a.urgency a.topological rows s law fs t run small old grown.trees p l nodes told lines guard is_guard b.wait b.waits chooser b.actives ready_line_before
+    told_start : IsToldStart g order old guard chooser p s t
+    told_start = start_is_told g a.limits order topological a.joins urgency a.urgency a.topological rows s law fs t run small old grown.trees p l nodes told lines guard is_guard chooser b.actives ready_line_before
 
   early_before : AreEarly before
   early_before = early_from_low g order before a.limits topological grown.settled.count grown.settled.low
 
-  all_told : (s : Scenario) → IsScenario g s → (t : Times) → IsRun g order before s t → IsToldStart g order old b.wait chooser p s t
+  all_told : (s : Scenario) → IsScenario g s → (t : Times) → IsRun g order before s t → IsToldStart g order old guard chooser p s t
   all_told s law t run = told_start before (λ y h e. refl) early_before (own_rows old) (own_rows_hold g order (place order p) old grown.trees) s law t run
 
   acts_as : (values : List Bool) → item_active g values (item_at g p) ≡ active g values p
   acts_as values = ap (item_active g values) (item_at-start g p l)
 
-  found : IsFrozenStart g p old before after b.wait chooser b.start → IsFound g order before p after
+  found : IsFrozenStart g p old guard before after chooser b.start → IsFound g order before p after
   found f = frozen_found g order topological before p (omega (arith, p_item, grown.settled.count)) unset f.latest
-      (λ s law t run on. latest_above g order before old b.wait chooser b.chooser_tree p topological all_told f.latest f.top s law t run (sym (acts_as s.values) ∙ on))
-      (λ m e. let r = latest_reached g order before old b.wait chooser b.chooser_tree p topological all_told f.latest f.top m e in (r.0, r.1, acts_as r.0.values ∙ r.2, r.3)) after f.frozen.set
+      (λ s law t run on. latest_above g order before old guard chooser b.chooser_tree p topological all_told f.latest f.top s law t run (sym (acts_as s.values) ∙ on))
+      (λ m e. let r = latest_reached g order before old guard chooser b.chooser_tree p topological all_told f.latest f.top m e in (r.0, r.1, acts_as r.0.values ∙ r.2, r.3)) after f.frozen.set
 
   -- ---- the frozen times
 
   new_settled : AreSettledOf g order (IsDone g order p 0) after
   new_settled = by b.starts
     where
-      by : any_start g p old guard before after b.wait chooser b.start → AreSettledOf g order (IsDone g order p 0) after
+      by : any_start g p old guard before after chooser b.start → AreSettledOf g order (IsDone g order p 0) after
       by (inl th) = subst (AreSettledOf g order (IsDone g order p 0)) (sym th.1)
           (settled_idle g order topological a.limits (IsEarlier g order (place order p)) (IsDone g order p 0) before grown.settled p p_item later (λ y e. inl e) (inr (inl refl)) only th.0)
       by (inr f) =
@@ -166,7 +171,7 @@ module _ (g : Graph) (urgency : List ℕ) (guards : Guards) (a : IsAdmitted g ur
   same_earlier : (x : ℕ) → x < item_count g → IsEarlier g order (place order p) x → get_or before x None ≡ get_or after x None
   same_earlier x h e = by b.starts
     where
-      by : any_start g p old guard before after b.wait chooser b.start → get_or before x None ≡ get_or after x None
+      by : any_start g p old guard before after chooser b.start → get_or before x None ≡ get_or after x None
       by (inl th) = sym (ap (λ fs. get_or fs x None) th.1)
       by (inr f) = let k = found f.1 in sym (k.same x (early_apart x e))
 
@@ -229,7 +234,7 @@ module _ (g : Graph) (urgency : List ℕ) (guards : Guards) (a : IsAdmitted g ur
     told_before = told after same_earlier early_after rows held s law t run
 
     was_ready : IsReadyLine g order rows s t (place order p) (node_of g p) (ready_of g old (node_of g p))
-    was_ready = lines_before.ready (node_of g p) (nodes p l)
+    was_ready = lines_before.ready (node_of g p) (nodes p l) waits_here
 
     way_decides : (c : ℕ) → Contains (way guard s.values) c → Contains (deciding g s.values p) c
     way_decides = on_way g a.limits order topological a.joins urgency a.urgency a.topological rows s law.values few_faults t run_is_small old p l nodes told_before guard is_guard
@@ -252,10 +257,10 @@ module _ (g : Graph) (urgency : List ℕ) (guards : Guards) (a : IsAdmitted g ur
     started : Tells s (carried_at_start g order rows s p) (get_or t.times p None) b.start
     started = by b.starts
       where
-        by : any_start g p old guard before after b.wait chooser b.start → Tells s (carried_at_start g order rows s p) (get_or t.times p None) b.start
+        by : any_start g p old guard before after chooser b.start → Tells s (carried_at_start g order rows s p) (get_or t.times p None) b.start
         by (inl th) = subst (λ (o : Option ℕ). Tells s (carried_at_start g order rows s p) o b.start)
             (start_value g order topological urgency a.urgency a.topological after s law.values t run p l guard is_guard was_ready.time was_ready.is (ap (λ fs. get_or fs p None) th.1 ∙ unset))
-            (start_line g a.limits order topological a.joins urgency a.urgency a.topological rows s law.values few_faults t run_is_small old p l nodes told_before guard is_guard b.wait b.waits was_ready.time was_ready.is was_ready.tells b.start th.2 (thawed_start_of th.0))
+            (start_line g a.limits order topological a.joins urgency a.urgency a.topological rows s law.values few_faults t run_is_small old p l nodes told_before guard is_guard th.2.wait th.2.waits was_ready.time was_ready.is was_ready.tells b.start th.2.is (thawed_start_of th.0))
         by (inr f) = subst (λ (o : Option ℕ). Tells s (carried_at_start g order rows s p) o b.start)
             (frozen_time f.0 f.1.latest (ap (λ h. get_or h p None) f.1.frozen.set ∙ set_here before p f.1.latest (omega (arith, p_item, grown.settled.count)) unset))
             (frozen_line g order rows s few_faults p guard leads_there way_decides (frozen_start_of f.0) chooser b.start (unwrap_or f.1.latest 0) b.chooser_tree b.actives f.1.frozen.made)
@@ -266,12 +271,12 @@ module _ (g : Graph) (urgency : List ℕ) (guards : Guards) (a : IsAdmitted g ur
     ended : Tells s (carried_at_end g order rows s p) (get_or t.ends p None) b.end
     ended = end_line g a.limits order after s law t run run_is_small p l few_here rows b.start b.end few_faults b.ends started
 
-    readied : IsReadyLine g order rows s t (place order p + 1) (node_of g p) (goes_on b.end b.ready)
-    readied = ready_next g order topological (place order p) p l refl rows s after t run was_ready.time (greatest (map (heard_there g t (node_of g p)) (way guard s.values))) was_ready.is
+    readied : IsReadyOnce g old (node_of g p) guard chooser b.end (goes_on b.end b.ready) → IsReadyLine g order rows s t (place order p + 1) (node_of g p) (goes_on b.end b.ready)
+    readied made = ready_next g order topological (place order p) p l refl rows s after t run was_ready.time (greatest (map (heard_there g t (node_of g p)) (way guard s.values))) was_ready.is
         (most g order topological urgency a.urgency a.topological after s law.values t run p l guard is_guard was_ready.time was_ready.is)
         (waited_ends g order topological urgency a.urgency a.topological after s law.values t run p l guard is_guard was_ready.time was_ready.is) (goes_on b.end b.ready)
-        (ready_line g order topological rows s few_faults t run_is_small p guard leads_there way_decides chooser b.end b.wait (goes_on b.end b.ready) (max was_ready.time (greatest (map (heard_there g t (node_of g p)) (way guard s.values)))) b.actives b.readies ended
-        (wait_line g a.limits order topological a.joins urgency a.urgency a.topological rows s law.values few_faults t run_is_small old p l nodes told_before guard is_guard b.wait b.waits was_ready.time was_ready.is was_ready.tells))
+        (ready_line g order topological rows s few_faults t run_is_small p guard leads_there way_decides chooser b.end made.wait (goes_on b.end b.ready) (max was_ready.time (greatest (map (heard_there g t (node_of g p)) (way guard s.values)))) b.actives made.is ended
+        (wait_line g a.limits order topological a.joins urgency a.urgency a.topological rows s law.values few_faults t run_is_small old p l nodes told_before guard is_guard made.wait made.waits was_ready.time was_ready.is was_ready.tells))
 
     was_free : IsFreeLine g order rows s t (place order p) (node_of g p) (free_of g old (node_of g p))
     was_free = lines_before.free (node_of g p) (nodes p l)
@@ -303,10 +308,11 @@ module _ (g : Graph) (urgency : List ℕ) (guards : Guards) (a : IsAdmitted g ur
             (subst (λ (tree : TreeState (Option ℕ)). Tells s (carried_at_end g order rows s p) (get_or t.ends p None) tree) (sym new_end) ended)
         | inr other ↦ subst (λ (tree : TreeState (Option ℕ)). Tells s (carried_at_end g order rows s q) (get_or t.ends q None) tree) (sym (other_end q other)) (lines_before.ends q h (sooner_end q h less other))
       ];
-      ready = λ node h. elim (cases_eq node (node_of g p)) [
-        | inl e ↦ subst (λ n. IsReadyLine g order rows s t (place order p + 1) n (ready_of g new n)) (sym e) (subst (λ (tree : TreeState ℕ). IsReadyLine g order rows s t (place order p + 1) (node_of g p) tree) (sym new_ready) readied)
+      ready = λ node h w. elim (cases_eq node (node_of g p)) [
+        | inl e ↦ subst (λ n. IsReadyLine g order rows s t (place order p + 1) n (ready_of g new n)) (sym e)
+            (subst (λ (tree : TreeState ℕ). IsReadyLine g order rows s t (place order p + 1) (node_of g p) tree) (sym new_ready) (readied (b.readies (subst (IsWaitedFor g order (place order p + 1)) e w))))
         | inr other ↦ subst (λ (tree : TreeState ℕ). IsReadyLine g order rows s t (place order p + 1) node tree) (sym (other_ready node h other))
-            (ready_elsewhere g order topological (place order p) p l refl rows s after t run node other (ready_of g old node) (lines_before.ready node h))
+            (ready_elsewhere g order topological (place order p) p l refl rows s after t run node other (ready_of g old node) (lines_before.ready node h (record { other = w.other; within = w.within; there = w.there; later = omega (arith, w.later) })))
       ];
       here = freed;
       free = λ node h other. subst (λ (tree : TreeState ℕ). IsFreeLine g order rows s t (place order p) node tree) (sym (same_free node)) (lines_before.free node h);

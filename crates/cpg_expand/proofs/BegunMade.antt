@@ -12,12 +12,12 @@ use Rattle.cpg_table.proofs.NodeRows.{all_below}
 use Rattle.cpg_tree.specs.Tree.{TreeState}
 use Rattle.cpg_expand.specs.Agreeing.{IsTree}
 use Rattle.cpg_expand.specs.Begun.{IsBegunBy}
-use Rattle.cpg_expand.specs.Ending.{IsEndTree, IsReadyAfter, IsReadyTree, goes_on}
+use Rattle.cpg_expand.specs.Ending.{IsEndTree, IsReadyAfter, goes_on}
 use Rattle.cpg_expand.specs.Forest.{ForestState, HasTrees, IsWait, no_tree}
 use Rattle.cpg_expand.specs.declared.forest.Ready.{Ready}
 use Rattle.cpg_expand.specs.declared.forest.Ready.TheVariants.{After, At}
 use Rattle.cpg_expand.specs.Guarded.{IsActiveTree, LeadsBelow}
-use Rattle.cpg_expand.specs.Waiting.{IsWaitTree}
+use Rattle.cpg_expand.specs.Waited.{IsReadyIfWaited}
 use Rattle.cpg_expand.proofs.Leads.{leads_below}
 
 -- ---- what is asked of a guard and of inputs
@@ -63,16 +63,14 @@ has_begun g f new p node times ends ready l at has of_times of_ends of_ready is 
   ];
 })
 
-pub begun_made : (how : Graph → Guard → TreeState ℕ → TreeState Bool → TreeState (Option ℕ) → Type 0) (g h : Graph) → h ≡ g → (p : ℕ) (guard found : Guard) → found ≡ guard → (node : ℕ) → node ≡ node_of h p →
-    (old new : ForestState) (chooser : TreeState Bool) → IsTree h chooser → IsActiveTree h.faults found chooser → (wait : TreeState ℕ) → IsWaitTree h old node found wait → (start : TreeState (Option ℕ)) → how h found wait chooser start →
-    (end : TreeState (Option ℕ)) → IsEndTree h p start end → (ready : Ready) → IsReadyAfter h p ready → IsReadyTree h.faults chooser end wait (goes_on end ready) →
-    new ≡ record { times = set old.times p start; ends = set old.ends p end; ready = set old.ready node ready; free = old.free } → IsBegunBy (how g guard) g p guard old new chooser
-begun_made how g h same p guard found the_guard node there old new chooser chooser_tree actives wait waits start starts end ends ready ready_after readies is =
-    subst (λ k. IsBegunBy (how k guard) k p guard old new chooser) same (subst (λ t. IsBegunBy (how h t) h p t old new chooser) the_guard (record {
+pub begun_made : (how : Graph → Guard → TreeState Bool → TreeState (Option ℕ) → Type 0) (g h : Graph) → h ≡ g → (order : List ℕ) (p : ℕ) (guard found : Guard) → found ≡ guard → (node : ℕ) → node ≡ node_of h p →
+    (old new : ForestState) (chooser : TreeState Bool) → IsTree h chooser → IsActiveTree h.faults found chooser → (start : TreeState (Option ℕ)) → how h found chooser start →
+    (end : TreeState (Option ℕ)) → IsEndTree h p start end → (ready : Ready) → IsReadyAfter h p ready → IsReadyIfWaited h order old p found chooser end (goes_on end ready) →
+    new ≡ record { times = set old.times p start; ends = set old.ends p end; ready = set old.ready node ready; free = old.free } → IsBegunBy (how g guard) g order p guard old new chooser
+begun_made how g h same order p guard found the_guard node there old new chooser chooser_tree actives start starts end ends ready ready_after readies is =
+    subst (λ k. IsBegunBy (how k guard) k order p guard old new chooser) same (subst (λ t. IsBegunBy (how h t) h order p t old new chooser) the_guard (record {
       chooser_tree = chooser_tree;
       actives = actives;
-      wait = wait;
-      waits = subst (λ n. IsWaitTree h old n found wait) there waits;
       start = start;
       starts = starts;
       end = end;

@@ -41,3 +41,5 @@ pub mod GrownRows
 pub mod Stepped
 pub mod ActiveItems
 pub mod SlotTrees
+pub mod ReadyMade
+pub mod TestedTrees

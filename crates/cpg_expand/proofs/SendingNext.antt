@@ -220,7 +220,7 @@ module _ (g : Graph) (limits : IsWithinLimits g) (order : List ℕ) (topological
           | inr e ↦ subst (λ z. Tells s (carried g order rows s z) (get_or t.times z None) (times_of g new z)) (sym e) told_here
         ];
         ends = λ q h less. subst (λ (tree : TreeState (Option ℕ)). Tells s (carried_at_end g order rows s q) (get_or t.ends q None) tree) (sym (same_ends g chooser here old new before after added q)) (old_lines.ends q h less);
-        ready = λ node h. subst (λ (tree : TreeState ℕ). IsReadyLine g order rows s t (place order p + 1) node tree) (sym (same_ready g chooser here old new before after added node)) (old_lines.ready node h);
+        ready = λ node h w. subst (λ (tree : TreeState ℕ). IsReadyLine g order rows s t (place order p + 1) node tree) (sym (same_ready g chooser here old new before after added node)) (old_lines.ready node h w);
         here = freed;
         free = λ node h other. subst (λ (tree : TreeState ℕ). IsFreeLine g order rows s t (place order p) node tree)
             (sym (other_free g chooser here old new before after added node (λ e. other (e ∙ ap (node_of g) by_p)))) (old_lines.free node h other);

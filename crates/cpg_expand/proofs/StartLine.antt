@@ -57,6 +57,15 @@ idle_awaits inputs (By d) is e j = absurd (off is)
 pub message_at : (g : Graph) (p e : ℕ) → target g e ≡ p → (node_of g (source g e) ≡ node_of g p → ⊥) → is_message g e ≡ true
 message_at g p e to other = ap not (ne_eqb (node_of g (source g e)) (node_of g (target g e)) (λ same. other (same ∙ ap (node_of g) to)))
 
+-- a condition of an active process is sent to the other nodes
+pub frame_sent : (g : Graph) (s : Scenario) (p : ℕ) → p < process_count g → ((q : ℕ) → q < process_count g → node_of g q < length g.nodes) → (c : ℕ) → c < condition_count g → active g s.values (process_of g c) ≡ true →
+    (node_of g (process_of g c) == node_of g p) ≡ false → item_active g s.values (item_at g (broadcast_item g c)) ≡ true
+frame_sent g s p l nodes c low acts e = subst (λ x. item_active g s.values x ≡ true) (sym (item_at-broadcast g c)) (and_from (nat_lt 1 (length g.nodes)) (active g s.values (process_of g c))
+    (lt-ltb 1 (length g.nodes) (many_nodes (node_of g (process_of g c)) (node_of g p) (length g.nodes) (nodes (process_of g c) (process_of_below g c low)) (nodes p l) (λ i. apart (sym (eq-eqb (node_of g (process_of g c)) (node_of g p) i) ∙ e)))) acts)
+  where
+    apart : true ≡ false → ⊥
+    apart e = cc
+
 module _ (g : Graph) (limits : IsWithinLimits g) (order : List ℕ) (topological : IsTopological g order) (joins : HasSingleJoins g) (urgency : List ℕ) (is_urgency : IsUrgencyOrder g urgency) (urgent : IsTopological g urgency)
     (rows : List (List Column)) (s : Scenario) (long : length s.values ≡ condition_count g) (few : HasFew g.faults s) (t : Times) (small : AreSmall t) (f : ForestState)
     (p : ℕ) (l : p < process_count g) (nodes : (q : ℕ) → q < process_count g → node_of g q < length g.nodes) (told : HasTold g order rows s t (place order p) f) (guard : Guard) (is_guard : IsGuardOf g urgency p guard) where
@@ -67,7 +76,7 @@ module _ (g : Graph) (limits : IsWithinLimits g) (order : List ℕ) (topological
       Contains-filter (decides g s.values p) _ c r.1 (Contains-numbers (condition_count g) c (from_along g urgency c r.0).0)
 
   -- what tells when the node hears one of them
-  heard_told : (c : ℕ) → Contains (way guard s.values) c → Tells s (heard_tell g order topological rows s (node_of g p) c) (heard_time g limits t small (node_of g p) c) (heard_tree g f (node_of g p) c)
+  pub heard_told : (c : ℕ) → Contains (way guard s.values) c → Tells s (heard_tell g order topological rows s (node_of g p) c) (heard_time g limits t small (node_of g p) c) (heard_tree g f (node_of g p) c)
   heard_told c j = by (node_of g (process_of g c) == node_of g p) refl
     where
       decides_it : Contains (deciding g s.values p) c
@@ -83,11 +92,7 @@ module _ (g : Graph) (limits : IsWithinLimits g) (order : List ℕ) (topological
       acts = deciding_is_active g urgency is_urgency urgent s.values p c low decided_true
 
       sent_at : (node_of g (process_of g c) == node_of g p) ≡ false → item_active g s.values (item_at g (broadcast_item g c)) ≡ true
-      sent_at e = subst (λ x. item_active g s.values x ≡ true) (sym (item_at-broadcast g c)) (and_from (nat_lt 1 (length g.nodes)) (active g s.values (process_of g c))
-          (lt-ltb 1 (length g.nodes) (many_nodes (node_of g (process_of g c)) (node_of g p) (length g.nodes) (nodes (process_of g c) (process_of_below g c low)) (nodes p l) (λ i. apart (sym (eq-eqb (node_of g (process_of g c)) (node_of g p) i) ∙ e)))) acts)
-        where
-          apart : true ≡ false → ⊥
-          apart e = cc
+      sent_at e = frame_sent g s p l nodes c low acts e
 
       by : (b : Bool) → (node_of g (process_of g c) == node_of g p) ≡ b → Tells s (if b then carried_at_end g order rows s (process_of g c) else told_by rows s (broadcast_item g c)) (if b then get_or t.ends (process_of g c) None else get_or t.times (broadcast_item g c) None)
           (if b then ends_of g f (process_of g c) else times_of g f (broadcast_item g c))

@@ -1,15 +1,18 @@
 -- The latest time that a frozen item would have, by each thing that it waits for alone.
-use Rattle.std.specs.Prelude.{ℕ, ◌≡◌, ◌≤◌, ◌⊎◌, max, Bool, true, List, [], Option, Some, None, Contains}
-use Rattle.cpg_base.specs.Graph.{Graph, is_message}
+use Rattle.std.specs.Prelude.{ℕ, ◌≡◌, ◌≤◌, ◌<◌, ◌⊎◌, max, Bool, true, List, [], Option, Some, None, Contains}
+use Rattle.cpg_base.specs.Graph.{Graph, condition_count, is_message}
 use Rattle.cpg_base.specs.Scenario.{Scenario, IsScenario}
 use Rattle.cpg_bus.specs.Share.{ShareState}
+use Rattle.cpg_order.specs.Guard.{Guard}
+use Rattle.cpg_tree.specs.Greatest.{HasValue}
 use Rattle.cpg_tree.specs.Meeting.{HasWhere}
 use Rattle.cpg_tree.specs.Tree.{TreeState, IsMap}
 use Rattle.cpg_expand.specs.Agreeing.{IsTree}
-use Rattle.cpg_expand.specs.Forest.{ForestState, input_tree, input_delay}
-use Rattle.cpg_expand.specs.Guarded.{IsStartAfter}
+use Rattle.cpg_expand.specs.Forest.{ForestState, heard_tree, heard_delay, input_tree, input_delay}
+use Rattle.cpg_expand.specs.Guarded.{IsStartAfter, is_tested}
 use Rattle.cpg_expand.specs.Tops.{IsTop, IsTopAt}
 use Rattle.cpg_expand.specs.Values.{slot_at, time_later}
+use Rattle.cpg_expand.specs.Waiting.{ready_of}
 
 -- ---- starts
 
@@ -17,6 +20,25 @@ use Rattle.cpg_expand.specs.Values.{slot_at, time_later}
 abbrev pub or_later : ℕ → ℕ → Option ℕ → ℕ
 or_later latest delay None = latest
 or_later latest delay (Some time) = max latest (time_later delay (Some time))
+
+-- a scenario has a time of a tree where another one is true, and something is there a delay later
+pub record HasLater (tree : TreeState (Option ℕ)) (wanted : TreeState Bool) (delay n : ℕ) (s : Scenario) : Type 0 where
+  pub time : ℕ
+  pub has : HasWhere tree wanted time s
+  pub is : n ≡ time_later delay (Some time)
+
+-- in a scenario in which a process is active and its guard tests a condition a node has heard it
+pub record HasHeard (g : Graph) (f : ForestState) (node : ℕ) (guard : Guard) (c n : ℕ) (s : Scenario) : Type 0 where
+  pub tested : is_tested guard s.values c ≡ true
+  pub time : ℕ
+  pub has : HasValue (heard_tree g f node c).paths (Some time) s
+  pub is : n ≡ time_later (heard_delay g node c) (Some time)
+
+-- one of the first k conditions is
+pub record HasHeardOf (g : Graph) (f : ForestState) (node : ℕ) (guard : Guard) (k n : ℕ) (s : Scenario) : Type 0 where
+  pub condition : ℕ
+  pub below : condition < k
+  pub there : HasHeard g f node guard condition n s
 
 -- in a scenario in which a process is active an input from another node is there
 pub record HasInput (g : Graph) (f : ForestState) (active : TreeState Bool) (e n : ℕ) (s : Scenario) : Type 0 where
@@ -37,23 +59,25 @@ pub record IsRaised (g : Graph) (has : ℕ → Scenario → Type 0) (old new : �
   pub above : (n : ℕ) (s : Scenario) → IsScenario g s → has n s → n ≤ new
   pub found : (new ≡ old) ⊎ ((s : Scenario) × IsScenario g s × has new s)
 
--- the greatest of when the node is ready and of when each input is there
-pub record IsLatestAt (g : Graph) (f : ForestState) (ready : TreeState (Option ℕ)) (edges : List ℕ) (active : TreeState Bool) (latest : ℕ) : Type 0 where
+-- the greatest of when the node is ready, of when it has heard each condition and of when each input is there
+pub record IsLatestAt (g : Graph) (f : ForestState) (ready : TreeState (Option ℕ)) (node : ℕ) (guard : Guard) (edges : List ℕ) (active : TreeState Bool) (latest : ℕ) : Type 0 where
   pub first : ℕ
   pub top : IsTopAt g (HasWhere ready active) first
-  pub raised : IsRaised g (HasInputOf g f active edges) first latest
+  pub heard : ℕ
+  pub hears : IsRaised g (HasHeardOf g f node guard (condition_count g)) first heard
+  pub raised : IsRaised g (HasInputOf g f active edges) heard latest
 
 -- none where the process is never active
-abbrev pub IsLatestOf : Graph → ForestState → TreeState (Option ℕ) → List ℕ → TreeState Bool → Option ℕ → Type 0
-IsLatestOf g f ready edges active None = IsTop g (HasWhere ready active) None
-IsLatestOf g f ready edges active (Some latest) = IsLatestAt g f ready edges active latest
+abbrev pub IsLatestOf : Graph → ForestState → TreeState (Option ℕ) → ℕ → Guard → List ℕ → TreeState Bool → Option ℕ → Type 0
+IsLatestOf g f ready node guard edges active None = IsTop g (HasWhere ready active) None
+IsLatestOf g f ready node guard edges active (Some latest) = IsLatestAt g f ready node guard edges active latest
 
--- where the node is ready by a tree and a release
-pub record IsLatestStart (g : Graph) (f : ForestState) (wait : TreeState ℕ) (release : ℕ) (edges : List ℕ) (active : TreeState Bool) (latest : Option ℕ) : Type 0 where
+-- where the node is ready and at a release
+pub record IsLatestStart (g : Graph) (f : ForestState) (node : ℕ) (guard : Guard) (release : ℕ) (edges : List ℕ) (active : TreeState Bool) (latest : Option ℕ) : Type 0 where
   pub ready : TreeState (Option ℕ)
   pub of : IsTree g ready
-  pub after : IsStartAfter g f wait release [] ready
-  pub is : IsLatestOf g f ready edges active latest
+  pub after : IsStartAfter g f (ready_of g f node) release [] ready
+  pub is : IsLatestOf g f ready node guard edges active latest
 
 -- ---- sends
 

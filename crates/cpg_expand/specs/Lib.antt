@@ -19,3 +19,4 @@ pub mod Peaks
 pub mod Tops
 pub mod Active
 pub mod Measured
+pub mod Waited

@@ -3,7 +3,7 @@ ghost use Rattle.std.specs.Prelude.{⊤, ◌≡◌, ◌<◌, ◌≤◌, All, IfO
 ghost use Rattle.cpg_base.specs.Graph.{condition_count, edge_count};
 ghost use Rattle.cpg_expand.specs.Agreeing.{IsTree};
 ghost use Rattle.cpg_expand.specs.Forest.{HasTrees, IsWait, ready_by};
-ghost use Rattle.cpg_expand.specs.Guarded.{IsActiveTree, IsHeardTree, IsStartAfter, IsStartBy, IsStartTree, LeadsBelow, PicksByValue, IsByBelow};
+ghost use Rattle.cpg_expand.specs.Guarded.{IsActiveTree, IsHeardTree, IsStartAfter, IsStartBy, IsStartTree, IsTestedOn, LeadsBelow, PicksByValue, IsByBelow};
 ghost use Rattle.cpg_rules.specs.Trees.{TestsBelow};
 
 use crate::descent::{Descent, tree_down};
@@ -53,6 +53,36 @@ pub(crate) fn active(
         GuardTop::Test { condition, no, yes } => {
             let no = active(alloc, problem, no)?;
             let yes = active(alloc, problem, yes)?;
+            let picked = by_value(alloc, problem, condition, &yes, &no)?;
+            Ok(picked)
+        }
+    }
+}
+
+/// Where a guard tests a condition on the way to being active.
+pub(crate) fn tested_on(
+    alloc: Global,
+    problem: &Problem,
+    guard: &GuardTree,
+    wanted: u32,
+) -> Result<Tree<bool>, OutOfMemory>
+    requires few { condition_count problem.now ≤ 32 }
+    requires tests { TestsBelow (condition_count problem.now) guard.now }
+    ensures tree { IfOk result (IsTree problem.now) }
+    ensures tested { IfOk result (IsTestedOn problem.now.faults guard.now wanted) }
+{
+    match guard.top() {
+        GuardTop::Leaf(_) => {
+            let never = Tree::constant(alloc, false, problem.faults())?;
+            Ok(never)
+        }
+        GuardTop::Test { condition, no, yes } => {
+            if condition == wanted {
+                let here = active(alloc, problem, guard)?;
+                return Ok(here);
+            }
+            let no = tested_on(alloc, problem, no, wanted)?;
+            let yes = tested_on(alloc, problem, yes, wanted)?;
             let picked = by_value(alloc, problem, condition, &yes, &no)?;
             Ok(picked)
         }

@@ -18,6 +18,7 @@ mod sending;
 mod starting;
 mod tops;
 mod values;
+mod waited;
 
 pub use activity::active_item;
 pub use expanding::{expand, expand_better};

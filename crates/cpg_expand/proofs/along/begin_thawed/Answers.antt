@@ -1,5 +1,5 @@
 use Rattle.std.proofs.Common.{◌<◌, ◌∙◌, ap, sym, subst, length, arith}
-use Rattle.cpg_base.specs.Graph.{Graph, process_count, process_at}
+use Rattle.cpg_base.specs.Graph.{Graph, process_count, process_at, node_of}
 use Rattle.cpg_rules.specs.Guards.{Guards, tree_of}
 use Rattle.cpg_expand.specs.Begun.{thawed_start}
 use Rattle.cpg_expand.specs.Forest.{HasTrees, IsWait, ready_by}
@@ -42,15 +42,21 @@ returns-clause-trees c =
     (subst (λ (g : Graph). HasTrees g c.args.forest.now) (sym same) c.requires.forest) c.in_ok-start.ensures.tree c.in_ok-next.ensures.tree c.in_ok-next.ensures.of c.put_begun.ensures)
 
 pub returns-clause-begun : goal.returns-clause-begun
-returns-clause-begun c =
+returns-clause-begun c order =
     let h = c.problem-problem.result.now in
     let f = c.args.forest.now in
-    begun_made (λ h guard. thawed_start h c.args.process c.args.forest.now guard) c.args.admitted.now.graph h c.problem-problem.ensures.problem c.args.process
+    let wait = ready_by h f c.wait_for-wait.result.now in
+    let waits : IsWaitTree h f (node_of h c.args.process) c.guard_of-guard.result.now wait = subst (λ n. IsWaitTree h f n c.guard_of-guard.result.now wait) c.node_of-node.ensures.node
+    (subst (λ (r : Ready). IsWaitTree h f c.node_of-node.result c.guard_of-guard.result.now (ready_by h f r)) (sym c.wait_for-wait.ensures) c.in_ok-heard.ensures.wait) in
+    begun_made (λ h guard. thawed_start h c.args.process c.args.forest.now guard) c.args.admitted.now.graph h c.problem-problem.ensures.problem order c.args.process
     (tree_of c.args.admitted.now.guards c.args.process) c.guard_of-guard.result.now (c.guard_of-guard.ensures.tree ∙ ap (λ (x : Guards). tree_of x c.args.process) c.guards.ensures.guards)
-    c.node_of-node.result c.node_of-node.ensures.node f c.put_begun.new.forest c.in_ok-active.active c.in_ok-active.ensures.tree c.in_ok-active.ensures.active (ready_by h f c.wait_for-wait.result.now)
-    (subst (λ (r : Ready). IsWaitTree h f c.node_of-node.result c.guard_of-guard.result.now (ready_by h f r)) (sym c.wait_for-wait.ensures) c.in_ok-heard.ensures.wait)
-    c.in_ok-start.start (subst (λ es. IsStartTree h f (ready_by h f c.wait_for-wait.result.now) (process_at h c.args.process).release es c.guard_of-guard.result.now c.in_ok-start.start) c.inputs-inputs.ensures c.in_ok-start.ensures.start)
-    c.in_ok-next.next.end c.in_ok-next.ensures.end c.in_ok-next.next.ready c.in_ok-next.ensures.of c.in_ok-next.ensures.ready c.put_begun.ensures
+    c.node_of-node.result c.node_of-node.ensures.node f c.put_begun.new.forest c.in_ok-active.active c.in_ok-active.ensures.tree c.in_ok-active.ensures.active
+    c.in_ok-start.start (record {
+      wait = wait;
+      waits = waits;
+      is = subst (λ es. IsStartTree h f wait (process_at h c.args.process).release es c.guard_of-guard.result.now c.in_ok-start.start) c.inputs-inputs.ensures c.in_ok-start.ensures.start;
+    })
+    c.in_ok-next.next.end c.in_ok-next.ensures.end c.in_ok-next.next.ready c.in_ok-next.ensures.of (λ waited. record { wait = wait; waits = waits; is = c.in_ok-next.ensures.ready }) c.put_begun.ensures
 
 pub follow-requires-clause-wait : goal.follow-requires-clause-wait
 follow-requires-clause-wait c = subst (IsWait c.problem-problem.result.now) (sym c.wait_for-wait.ensures) c.in_ok-heard.ensures.of
