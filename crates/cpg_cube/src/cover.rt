@@ -13,15 +13,13 @@ ghost use Rattle.cpg_cube.specs.Parts.{range_below, range_above};
 
 use crate::bounds::{Bounds, VARIABLES, budget_left};
 use crate::covering::is_surely_covered;
+use crate::effort::{Effort, Stop};
 use crate::frequency::by_frequency;
 use crate::memory::Memory;
 use crate::sorting::variables_along;
 use crate::{Cube, Literal};
 use cpg_base::{Order, OutOfMemory, Problem, Scenario, is_before, top};
 use std::alloc::Global;
-
-/// Into how many parts a cube may be split without a look at what is covered.
-const PARTS: usize = 64;
 
 /// The earlier of two scenarios, where there are two.
 fn earlier(
@@ -154,7 +152,8 @@ fn left_of_part(
     cube: &Cube,
     literal: Option<Literal>,
     by: &[&Cube],
-) -> Result<Option<Scenario>, OutOfMemory>
+    effort: &mut Effort,
+) -> Result<Option<Scenario>, Stop>
     requires order { length order.now ≡ process_count problem.now }
     requires cube { IsKnown problem.now cube.now }
     requires literal { IfSome literal (λ l. IsVariable problem.now l.variable) }
@@ -169,7 +168,7 @@ fn left_of_part(
         return Ok(None);
     };
     let kept = meeting(alloc, problem, &part, by)?;
-    let found = left_of(alloc, problem, order, &part, kept)?;
+    let found = left_of(alloc, problem, order, &part, kept, effort)?;
     Ok(found)
 }
 
@@ -182,7 +181,8 @@ fn left_outside(
     cube: &Cube,
     literals: &[Literal],
     by: &[&Cube],
-) -> Result<Option<Scenario>, OutOfMemory>
+    effort: &mut Effort,
+) -> Result<Option<Scenario>, Stop>
     requires order { length order.now ≡ process_count problem.now }
     requires cube { IsKnown problem.now cube.now }
     requires literals { IsKnown problem.now literals.now }
@@ -194,8 +194,8 @@ fn left_outside(
         return Ok(None);
     };
     let k = problem.faults();
-    let low = left_of_part(alloc, problem, order, cube, below(literal), by)?;
-    let high = left_of_part(alloc, problem, order, cube, above(k, literal), by)?;
+    let low = left_of_part(alloc, problem, order, cube, below(literal), by, effort)?;
+    let high = left_of_part(alloc, problem, order, cube, above(k, literal), by, effort)?;
     let beside = earlier(problem, order, low, high);
     if rest.is_empty() {
         return Ok(beside);
@@ -204,7 +204,15 @@ fn left_outside(
         return Ok(beside);
     };
     let kept = meeting(alloc, problem, &within, by)?;
-    let found = left_outside(alloc, problem, order, &within, rest, kept.as_slice())?;
+    let found = left_outside(
+        alloc,
+        problem,
+        order,
+        &within,
+        rest,
+        kept.as_slice(),
+        effort,
+    )?;
     Ok(earlier(problem, order, beside, found))
 }
 
@@ -216,12 +224,14 @@ fn left_of(
     order: &Order,
     cube: &Cube,
     by: Vec<&Cube>,
-) -> Result<Option<Scenario>, OutOfMemory>
+    effort: &mut Effort,
+) -> Result<Option<Scenario>, Stop>
     requires order { length order.now ≡ process_count problem.now }
     requires cube { IsKnown problem.now cube.now }
     requires list { All (λ b. IsKnown problem.now b.now) by.items }
     ensures { IfOk result (λ r. IsFirst problem.now order.now (is_left (map (λ b. b.now) by.entry.items) cube.now) r) }
 {
+    effort.spend()?;
     if !cube.is_met(problem.faults()) {
         return Ok(None);
     }
@@ -240,17 +250,29 @@ fn left_of(
         cube,
         literals.as_slice(),
         others.as_slice(),
+        effort,
     )?;
     Ok(found)
 }
 
-/// Whether so few parts can come of splitting a cube by a list that it is split at once.
-fn is_soon_split(by: &[&Cube]) -> bool {
-    let mut parts = 1usize;
-    for other in by {
-        parts = parts.saturating_mul(other.literals().len().saturating_add(1));
+/// The least scenario that a list leaves of a cube, by as many splittings as that takes.
+fn left_at_last(
+    alloc: Global,
+    problem: &Problem,
+    order: &Order,
+    cube: &Cube,
+    by: Vec<&Cube>,
+) -> Result<Option<Scenario>, OutOfMemory>
+    requires order { length order.now ≡ process_count problem.now }
+    requires cube { IsKnown problem.now cube.now }
+    requires list { All (λ b. IsKnown problem.now b.now) by.items }
+    ensures { IfOk result (λ r. IsFirst problem.now order.now (is_left (map (λ b. b.now) by.entry.items) cube.now) r) }
+{
+    let mut effort = Effort::endless();
+    match left_of(alloc, problem, order, cube, by, &mut effort) {
+        Ok(found) => Ok(found),
+        Err(_) => Err(OutOfMemory),
     }
-    parts <= PARTS
 }
 
 fn mark(literals: &[Literal], marks: &mut [bool; VARIABLES]) {
@@ -363,7 +385,7 @@ fn least_by_number(
     ensures { IfOk result (λ r. IsFirst problem.now order.now (is_left (map (λ b. b.now) by.entry.items) cube.now) r) }
 {
     let Some((variable, others)) = variables.split_first() else {
-        let found = left_of(alloc, problem, order, cube, by)?;
+        let found = left_at_last(alloc, problem, order, cube, by)?;
         return Ok(found);
     };
     let mut found = None;
@@ -418,6 +440,34 @@ fn least_along(
     Ok(found)
 }
 
+/// The least scenario that a list leaves of a cube, by the variables along the order.
+fn left_along(
+    alloc: Global,
+    problem: &Problem,
+    order: &Order,
+    cube: &Cube,
+    by: &[&Cube],
+) -> Result<Option<Scenario>, OutOfMemory>
+    requires order { length order.now ≡ process_count problem.now }
+    requires cube { IsKnown problem.now cube.now }
+    requires list { All (λ b. IsKnown problem.now b.now) by.now }
+    ensures { IfOk result (λ r. IsFirst problem.now order.now (is_left (map (λ b. b.now) by.now) cube.now) r) }
+{
+    let kept = meeting(alloc, problem, cube, by)?;
+    let variables = variables_of(alloc, problem, order, kept.as_slice())?;
+    let mut memory = Memory::new(alloc);
+    let found = least_along(
+        alloc,
+        problem,
+        order,
+        cube,
+        kept,
+        variables.as_slice(),
+        &mut memory,
+    )?;
+    Ok(found)
+}
+
 /// The least scenario along an order that a cube matches and no cube of a list does; `None` exactly where every
 /// scenario within the problem's faults that matches the cube matches one of the list.
 pub fn uncovered(
@@ -433,22 +483,12 @@ pub fn uncovered(
     ensures first { IfOk result (λ r. IsFirst problem.now order.now (is_left (map (λ b. b.now) by.now) cube.now) r) }
 {
     let kept = meeting(alloc, problem, cube, by)?;
-    if is_soon_split(kept.as_slice()) {
-        let found = left_of(alloc, problem, order, cube, kept)?;
-        return Ok(found);
+    let mut effort = Effort::for_cubes(kept.len());
+    match left_of(alloc, problem, order, cube, kept, &mut effort) {
+        Ok(found) => Ok(found),
+        Err(Stop::Memory) => Err(OutOfMemory),
+        Err(Stop::Effort) => left_along(alloc, problem, order, cube, by),
     }
-    let variables = variables_of(alloc, problem, order, kept.as_slice())?;
-    let mut memory = Memory::new(alloc);
-    let found = least_along(
-        alloc,
-        problem,
-        order,
-        cube,
-        kept,
-        variables.as_slice(),
-        &mut memory,
-    )?;
-    Ok(found)
 }
 
 /// A reference to each cube.

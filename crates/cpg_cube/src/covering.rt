@@ -152,6 +152,7 @@ pub(crate) fn is_surely_covered(
         room: left,
         depth: DEPTH,
     };
+    memory.begin();
     let few = fewest(alloc, cubes.as_slice(), bound, memory)?;
     Ok(few > left)
 }

@@ -199,14 +199,17 @@ fn fewest_of_joined(
     if let Some(known) = memory.recall(cubes, bound.room) {
         return Ok(known);
     }
+    memory.spend(cubes.len());
     let variable = most_frequent(cubes);
     let few = if variable < FIRST_VALUE {
         fewest_by_count(alloc, cubes, variable, bound, memory)?
     } else {
         fewest_by_value(alloc, cubes, variable, bound, memory)?
     };
-    let fact = Fact::new(alloc, cubes, few, few <= bound.room)?;
-    memory.keep(fact)?;
+    if few > bound.room || !memory.is_spent() {
+        let fact = Fact::new(alloc, cubes, few, few <= bound.room)?;
+        memory.keep(fact)?;
+    }
     Ok(few)
 }
 
@@ -228,7 +231,7 @@ pub(crate) fn fewest(
     if apart > bound.room {
         return Ok(apart);
     }
-    if bound.depth == 0 || !cubes.iter().any(matches_zero) {
+    if bound.depth == 0 || memory.is_spent() || !cubes.iter().any(matches_zero) {
         return Ok(0);
     }
     let bound = Bound {

@@ -14,6 +14,12 @@ const BUCKETS: u32 = 1024;
 /// How many literals are kept at most, 3 bytes each.
 const MOST: usize = 1 << 22;
 
+/// How many cubes may be looked at for the first question.
+const FIRST: u64 = 1 << 22;
+
+/// How many for others at least.
+const OTHERS: u64 = 1 << 14;
+
 /// How many faults a scenario that none of the cubes matches has at least.
 #[derive(Drop)]
 pub(crate) struct Fact {
@@ -157,6 +163,10 @@ impl Fact {
 pub(crate) struct Memory {
     buckets: Vec<Vec<Fact>>,
     size: usize,
+    /// How many questions were asked.
+    questions: u64,
+    /// How many cubes may still be looked at for the present one.
+    left: u64,
 }
 
 impl Memory {
@@ -164,7 +174,30 @@ impl Memory {
         Memory {
             buckets: Vec::new(alloc),
             size: 0,
+            questions: 0,
+            left: 0,
         }
+    }
+
+    /// Begins a question. The first may take long. The others take little: each second one twice as much, each fourth one four
+    /// times, so that the whole is near linear in how many they are.
+    pub(crate) fn begin(&mut self) {
+        self.left = if self.questions == 0 {
+            FIRST
+        } else {
+            OTHERS << self.questions.trailing_zeros().min(20)
+        };
+        self.questions = self.questions.saturating_add(1);
+    }
+
+    /// Whether the present question has taken as much as it may.
+    pub(crate) fn is_spent(&self) -> bool {
+        self.left == 0
+    }
+
+    /// Takes a look at so many cubes from what is left.
+    pub(crate) fn spend(&mut self, cubes: usize) {
+        self.left = self.left.saturating_sub(cubes as u64);
     }
 
     /// The fewest faults of a list of cubes, as far as is remembered.
