@@ -14,6 +14,7 @@ pub mod EdgeGuards
 pub mod Below
 pub mod Composed
 pub mod Made
+pub mod Unions
 pub mod Searched
 pub mod Rested
 pub mod Outcome

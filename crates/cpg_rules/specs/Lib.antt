@@ -10,6 +10,7 @@ pub mod Steps
 pub mod Rested
 pub mod Growing
 pub mod Composing
+pub mod Apart
 pub mod Way
 pub mod Guards
 pub mod Laws

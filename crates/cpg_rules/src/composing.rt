@@ -30,7 +30,7 @@ pub fn ranks_of(alloc: Global, problem: &Problem, order: &Order) -> Result<Vec<u
 }
 
 /// The rank of a condition.
-fn rank(ranks: &[u32], condition: u32) -> u32
+pub fn rank(ranks: &[u32], condition: u32) -> u32
     ensures { result ≡ rank ranks.now condition }
 {
     match ranks.get(condition as usize) {
@@ -115,7 +115,7 @@ fn both(
 
 /// The first tree where it settles the matter, and else the second: both are walked down together, by rank.
 #[cycle(meeting)]
-fn met(
+pub fn met(
     alloc: Global,
     join: bool,
     ranks: &[u32],
@@ -163,7 +163,7 @@ fn by_input(join: bool, edge: u32) -> Activation
 }
 
 /// The tree that says whether an input is live.
-fn input_tree(
+pub fn input_tree(
     alloc: Global,
     problem: &Problem,
     join: bool,

@@ -4,6 +4,7 @@
 ghost use Rattle.cpg_rules.specs.Faults.{AdmittedShowNoFault};
 
 mod admission;
+mod apart;
 mod composing;
 mod edges;
 mod growing;

@@ -176,7 +176,7 @@ fn are_two_live(inputs: &[Input], standings: &[Option<bool>]) -> bool
 }
 
 /// The inputs of a process, by edge number.
-fn inputs_of(alloc: Global, problem: &Problem, process: u32) -> Result<Vec<Input>, OutOfMemory>
+pub fn inputs_of(alloc: Global, problem: &Problem, process: u32) -> Result<Vec<Input>, OutOfMemory>
     ensures { IfOk result (λ found. found.items ≡ map (input_of problem.now) (inputs problem.now process)) }
 {
     let mut found = Vec::new(alloc);

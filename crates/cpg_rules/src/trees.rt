@@ -90,6 +90,13 @@ pub fn guards(alloc: Global, problem: &Problem, order: &Order) -> Result<GuardTr
 }
 
 impl GuardTrees {
+    /// The trees, by process.
+    pub(crate) fn trees(&self) -> &[GuardTree]
+        ensures { result.now ≡ self.now.trees }
+    {
+        self.trees.as_slice()
+    }
+
     /// The tree of a process.
     pub fn guard_of(&self, process: u32) -> &GuardTree
         requires { process < length self.now.trees }
