@@ -12,16 +12,16 @@ use Rattle.cpg_tree.proofs.Forks.{value_below, value_above, made_weaker}
 module _ {T : Type 0} (number : T → ℕ) where
   pub least_under : (a : Node T) (s : Scenario) → least_in number a ≤ number (value_at a s)
   least_under (Leaf x) s = omega arith
-  least_under (Fork' v cut p below q above) s = elim (cases_lt cut (number_of s v)) [
-    | inl h ↦ omega (arith, least_under above s, ap number (value_above v cut p below q above s h))
-    | inr h ↦ omega (arith, least_under below s, ap number (value_below v cut p below q above s h))
+  least_under (Fork' v cut p below above) s = elim (cases_lt cut (number_of s v)) [
+    | inl h ↦ omega (arith, least_under above s, ap number (value_above v cut p below above s h))
+    | inr h ↦ omega (arith, least_under below s, ap number (value_below v cut p below above s h))
   ]
 
   pub most_over : (a : Node T) (s : Scenario) → number (value_at a s) ≤ most_in number a
   most_over (Leaf x) s = omega arith
-  most_over (Fork' v cut p below q above) s = elim (cases_lt cut (number_of s v)) [
-    | inl h ↦ omega (arith, most_over above s, ap number (value_above v cut p below q above s h))
-    | inr h ↦ omega (arith, most_over below s, ap number (value_below v cut p below q above s h))
+  most_over (Fork' v cut p below above) s = elim (cases_lt cut (number_of s v)) [
+    | inl h ↦ omega (arith, most_over above s, ap number (value_above v cut p below above s h))
+    | inr h ↦ omega (arith, most_over below s, ap number (value_below v cut p below above s h))
   ]
 
 module _ {U : Type 0} (number : U → ℕ) (room : Space) (a : Node ℕ) (b : Node U) (r : Node ℕ) where

@@ -224,12 +224,12 @@ pub leaf_met : (room : Space) (node : Node Bool) (b : Bool) → node ≡ Leaf b 
 leaf_met room node true is = true_leaf room node true is refl
 leaf_met room node false is = tt
 
-module _ (v cut : ℕ) (there : v < 256) (low high node : Node Bool) {p q : Box (Unit {0}) Global} (is : node ≡ Fork' v cut p low q high) (room : Space) where
+module _ (v cut : ℕ) (there : v < 256) (low high node : Node Bool) {p : Box (Unit {0}) Global} (is : node ≡ Fork' v cut p low high) (room : Space) where
   low_is : (s : Scenario) → number_of s v ≤ cut → value_at node s ≡ value_at low s
-  low_is s h = ap (λ (n : Node Bool). value_at n s) is ∙ value_below v cut p low q high s h
+  low_is s h = ap (λ (n : Node Bool). value_at n s) is ∙ value_below v cut p low high s h
 
   high_is : (s : Scenario) → cut < number_of s v → value_at node s ≡ value_at high s
-  high_is s h = ap (λ (n : Node Bool). value_at n s) is ∙ value_above v cut p low q high s h
+  high_is s h = ap (λ (n : Node Bool). value_at n s) is ∙ value_above v cut p low high s h
 
   low_parts : (g : Graph) → AreForksOf g node node → IsVariable g v × AreForksOf g low low
   low_parts g forks =
@@ -299,12 +299,12 @@ most_leaf room node wanted (Some number) best is some met = record {
     same_up : (m n : ℕ) → Some m ≡ Some n → n ≤ m
     same_up m n e = omega (arith, ap (λ o. unwrap_or o 0) e)
 
-module _ (v cut : ℕ) (there : v < 256) (low high node : Node (Option ℕ)) {p q : Box (Unit {0}) Global} (is : node ≡ Fork' v cut p low q high) (wanted : Node Bool) (room : Space) where
+module _ (v cut : ℕ) (there : v < 256) (low high node : Node (Option ℕ)) {p : Box (Unit {0}) Global} (is : node ≡ Fork' v cut p low high) (wanted : Node Bool) (room : Space) where
   low_value : (s : Scenario) → number_of s v ≤ cut → value_at node s ≡ value_at low s
-  low_value s h = ap (λ (n : Node (Option ℕ)). value_at n s) is ∙ value_below v cut p low q high s h
+  low_value s h = ap (λ (n : Node (Option ℕ)). value_at n s) is ∙ value_below v cut p low high s h
 
   high_value : (s : Scenario) → cut < number_of s v → value_at node s ≡ value_at high s
-  high_value s h = ap (λ (n : Node (Option ℕ)). value_at n s) is ∙ value_above v cut p low q high s h
+  high_value s h = ap (λ (n : Node (Option ℕ)). value_at n s) is ∙ value_above v cut p low high s h
 
   low_forks : (g : Graph) → AreForksOf g node wanted → IsVariable g v × AreForksOf g low wanted
   low_forks g forks =

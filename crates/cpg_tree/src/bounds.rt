@@ -82,7 +82,8 @@ impl<T: Copy> Node<T> {
     {
         match self {
             Node::Leaf(value) => Ok(Span::of(read.number(*value))),
-            Node::Fork { below, above, .. } => {
+            Node::Fork { sides, .. } => {
+                let (below, above) = &**sides;
                 let before = bounds.len();
                 let low = below.push_bounds(read, bounds)?;
                 let forks = bounds.len() - before;

@@ -47,9 +47,9 @@ impl Node<Option<u32>> {
             Node::Fork {
                 variable,
                 cut,
-                below,
-                above,
+                sides,
             } => {
+                let (below, above) = &**sides;
                 if !space.is_open_below(*variable, *cut) {
                     let all = above.gather_each(space, test, found)?;
                     return Ok(all);

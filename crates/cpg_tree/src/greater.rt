@@ -30,9 +30,9 @@ impl<T: Copy> Node<T> {
             Node::Fork {
                 variable,
                 cut,
-                below,
-                above,
+                sides,
             } => {
+                let (below, above) = &**sides;
                 if !space.is_open_below(*variable, *cut) {
                     return above.part(bounds_above(bounds), space);
                 }
@@ -98,9 +98,9 @@ impl Node<u64> {
             Node::Fork {
                 variable,
                 cut,
-                below,
-                above,
+                sides,
             } => {
+                let (below, above) = &**sides;
                 if !space.is_open_below(*variable, *cut) {
                     return above.greater_by(alloc, space, bounds_above(bounds), other, read);
                 }

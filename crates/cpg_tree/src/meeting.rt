@@ -22,9 +22,9 @@ impl Node<bool> {
             Node::Fork {
                 variable,
                 cut,
-                below,
-                above,
+                sides,
             } => {
+                let (below, above) = &**sides;
                 if !space.is_open_below(*variable, *cut) {
                     return above.holds_in(space);
                 }
@@ -80,9 +80,9 @@ impl Node<Option<u64>> {
             Node::Fork {
                 variable,
                 cut,
-                below,
-                above,
+                sides,
             } => {
+                let (below, above) = &**sides;
                 if !space.is_open_below(*variable, *cut) {
                     return above.most_in(space, wanted, best);
                 }

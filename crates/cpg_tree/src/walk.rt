@@ -29,9 +29,9 @@ impl Node<Option<u32>> {
             Node::Fork {
                 variable,
                 cut,
-                below,
-                above,
+                sides,
             } => {
+                let (below, above) = &**sides;
                 if !space.is_open_below(*variable, *cut) {
                     return above.do_pass_each(space, test);
                 }
@@ -71,9 +71,9 @@ impl Node<Option<u32>> {
             Node::Fork {
                 variable,
                 cut,
-                below,
-                above,
+                sides,
             } => {
+                let (below, above) = &**sides;
                 if !space.is_open_below(*variable, *cut) {
                     return above.do_pass(space, test);
                 }
