@@ -18,3 +18,4 @@ pub mod WholePack
 pub mod Records
 pub mod Lengths
 pub mod Taking
+pub mod Blocks

@@ -31,8 +31,26 @@ impl Model for Buffer {
     ghost invariant = { λ b. (vec_len b.bytes ≤ 65536) × (65536 ≤ vec_capacity b.bytes) };
 }
 
+/// Adds eight literals, three bytes each, for which there is room.
+fn push_eight(bytes: &mut Vec<u8>, literals: &[Literal; 8])
+    requires { vec_len bytes.old + 24 ≤ vec_capacity bytes.old }
+    ensures items { bytes.new.items ≡ bytes.old.items ++ flat_map literal_bytes literals.now }
+    ensures len { vec_len bytes.new ≡ vec_len bytes.old + 24 }
+    ensures capacity { vec_capacity bytes.old ≤ vec_capacity bytes.new }
+{
+    let [a, b, c, d, e, f, g, h] = *literals;
+    let block = [
+        a.variable, a.low, a.high, b.variable, b.low, b.high, c.variable, c.low, c.high,
+        d.variable, d.low, d.high, e.variable, e.low, e.high, f.variable, f.low, f.high,
+        g.variable, g.low, g.high, h.variable, h.low, h.high,
+    ];
+    if bytes.extend_from_slice(&block).is_err() {
+        unreachable!()
+    }
+}
+
 /// Adds literals, three bytes each, for which there is room.
-fn push_literals(bytes: &mut Vec<u8>, literals: &[Literal])
+fn push_each(bytes: &mut Vec<u8>, literals: &[Literal])
     requires { vec_len bytes.old + 3 * length literals.now ≤ vec_capacity bytes.old }
     ensures items { bytes.new.items ≡ bytes.old.items ++ flat_map literal_bytes literals.now }
     ensures len { vec_len bytes.new ≡ vec_len bytes.old + 3 * length literals.now }
@@ -43,6 +61,21 @@ fn push_literals(bytes: &mut Vec<u8>, literals: &[Literal])
         bytes.push_reserved(literal.low);
         bytes.push_reserved(literal.high);
     }
+}
+
+/// The same, eight at a time.
+fn push_literals(bytes: &mut Vec<u8>, literals: &[Literal])
+    requires { vec_len bytes.old + 3 * length literals.now ≤ vec_capacity bytes.old }
+    ensures items { bytes.new.items ≡ bytes.old.items ++ flat_map literal_bytes literals.now }
+    ensures len { vec_len bytes.new ≡ vec_len bytes.old + 3 * length literals.now }
+    ensures capacity { vec_capacity bytes.old ≤ vec_capacity bytes.new }
+{
+    let mut left = literals;
+    while let Some((block, rest)) = left.split_first_chunk::<8>() {
+        push_eight(bytes, block);
+        left = rest;
+    }
+    push_each(bytes, left);
 }
 
 impl Buffer {

@@ -47,10 +47,7 @@ fn tables_of(alloc: Global, bytes: &[u8]) -> Result<(Tables, &[u8]), ReadError>
     let (head, rest) = head_of(alloc, bytes)?;
     let space = Space::of(&head);
     let (nodes, rest) = nodes_of(alloc, rest, &head, &space)?;
-    match Tables::new(head, nodes) {
-        Some(tables) => Ok((tables, rest)),
-        None => unreachable!(),
-    }
+    Ok((Tables::of(head, nodes), rest))
 }
 
 #[tactic(auto, unfolding(crate::specs::Grammar::read))]

@@ -25,7 +25,53 @@ fn take_front(bytes: &[u8]) -> Result<(u64, u8, &[u8]), Untaken>
     Ok((time, *count, rest))
 }
 
-/// So many literals, in place of those that `held` had.
+fn literal_of(variable: u8, low: u8, high: u8) -> Literal
+    ensures { result ≡ record { variable = variable; low = low; high = high } }
+{
+    Literal {
+        variable,
+        low,
+        high,
+    }
+}
+
+/// Eight literals, of three bytes each.
+fn eight_of(bytes: [u8; 24]) -> [Literal; 8]
+    ensures { flat_map literal_bytes result ≡ bytes }
+{
+    [
+        literal_of(bytes[0], bytes[1], bytes[2]),
+        literal_of(bytes[3], bytes[4], bytes[5]),
+        literal_of(bytes[6], bytes[7], bytes[8]),
+        literal_of(bytes[9], bytes[10], bytes[11]),
+        literal_of(bytes[12], bytes[13], bytes[14]),
+        literal_of(bytes[15], bytes[16], bytes[17]),
+        literal_of(bytes[18], bytes[19], bytes[20]),
+        literal_of(bytes[21], bytes[22], bytes[23]),
+    ]
+}
+
+/// So many literals more.
+fn take_each<'a>(held: &mut Vec<Literal>, bytes: &'a [u8], count: u8) -> Result<&'a [u8], Untaken>
+    ensures taken { IfOk result (λ rest. flat_map literal_bytes held.old.items ++ bytes.now ≡ flat_map literal_bytes held.new.items ++ rest.now) }
+    ensures count { IfOk result (λ rest. length held.new.items ≡ length held.old.items + count) }
+{
+    let mut rest = bytes;
+    for _ in 0..count {
+        let [variable, low, high, behind @ ..] = rest else {
+            return Err(Untaken::Odd);
+        };
+        held.push(Literal {
+            variable: *variable,
+            low: *low,
+            high: *high,
+        })?;
+        rest = behind;
+    }
+    Ok(rest)
+}
+
+/// So many literals, in place of those that `held` had: eight at a time, as most columns have many.
 fn take_literals<'a>(
     held: &mut Vec<Literal>,
     bytes: &'a [u8],
@@ -35,20 +81,17 @@ fn take_literals<'a>(
     ensures count { IfOk result (λ rest. length held.new.items ≡ count) }
 {
     held.clear();
-    held.reserve(count as usize)?;
     let mut rest = bytes;
-    for _ in 0..count {
-        let [variable, low, high, behind @ ..] = rest else {
+    let mut left = count;
+    while left >= 8 {
+        let Some((block, behind)) = rest.split_first_chunk::<24>() else {
             return Err(Untaken::Odd);
         };
-        held.push_reserved(Literal {
-            variable: *variable,
-            low: *low,
-            high: *high,
-        });
+        held.extend_from_slice(&eight_of(*block))?;
+        left -= 8;
         rest = behind;
     }
-    Ok(rest)
+    take_each(held, rest, left)
 }
 
 /// A column. `held` is for its literals, which a cube has in memory of its own.

@@ -1,5 +1,6 @@
 //! What a list of cubes leaves of a cube.
 ghost use Rattle.std.specs.Prelude.{◌≡◌, ◌≤◌, ◌<◌, ◌↔◌, ◌&&◌, Bool, ℕ, All, IfNone, IfOk, IfSome, IsNone, IsPermutation, IsTrue, None, Some, false, length, map, not, true, vec_len};
+ghost use Rattle.std.specs.Bool.{OnTrue};
 ghost use Rattle.std.specs.List.{list_any};
 ghost use Rattle.cpg_base.specs.Graph.{IsVariable, process_count};
 ghost use Rattle.cpg_base.specs.First.{IsFirst, earlier};
@@ -7,10 +8,15 @@ ghost use Rattle.cpg_base.specs.Scenario.{Scenario, IsScenario, IsLeast};
 ghost use Rattle.cpg_cube.specs.Cube.{Literal, matches};
 ghost use Rattle.cpg_cube.specs.Fit.{IsKnown};
 ghost use Rattle.cpg_cube.specs.Cover.{is_left, narrowed_by};
+ghost use Rattle.cpg_cube.specs.Late.{IsLate};
 ghost use Rattle.cpg_cube.specs.Parts.{range_below, range_above};
 
-use crate::bounds::{Bounds, budget_left};
+use crate::bounds::{Bounds, VARIABLES, budget_left};
+use crate::covering::is_surely_covered;
+use crate::effort::{Effort, Stop};
 use crate::frequency::by_frequency;
+use crate::memory::Memory;
+use crate::sorting::variables_along;
 use crate::{Cube, Literal};
 use cpg_base::{Order, OutOfMemory, Problem, Scenario, is_before, top};
 use std::alloc::Global;
@@ -146,7 +152,8 @@ fn left_of_part(
     cube: &Cube,
     literal: Option<Literal>,
     by: &[&Cube],
-) -> Result<Option<Scenario>, OutOfMemory>
+    effort: &mut Effort,
+) -> Result<Option<Scenario>, Stop>
     requires order { length order.now ≡ process_count problem.now }
     requires cube { IsKnown problem.now cube.now }
     requires literal { IfSome literal (λ l. IsVariable problem.now l.variable) }
@@ -161,7 +168,7 @@ fn left_of_part(
         return Ok(None);
     };
     let kept = meeting(alloc, problem, &part, by)?;
-    let found = left_of(alloc, problem, order, &part, kept)?;
+    let found = left_of(alloc, problem, order, &part, kept, effort)?;
     Ok(found)
 }
 
@@ -174,7 +181,8 @@ fn left_outside(
     cube: &Cube,
     literals: &[Literal],
     by: &[&Cube],
-) -> Result<Option<Scenario>, OutOfMemory>
+    effort: &mut Effort,
+) -> Result<Option<Scenario>, Stop>
     requires order { length order.now ≡ process_count problem.now }
     requires cube { IsKnown problem.now cube.now }
     requires literals { IsKnown problem.now literals.now }
@@ -186,8 +194,8 @@ fn left_outside(
         return Ok(None);
     };
     let k = problem.faults();
-    let low = left_of_part(alloc, problem, order, cube, below(literal), by)?;
-    let high = left_of_part(alloc, problem, order, cube, above(k, literal), by)?;
+    let low = left_of_part(alloc, problem, order, cube, below(literal), by, effort)?;
+    let high = left_of_part(alloc, problem, order, cube, above(k, literal), by, effort)?;
     let beside = earlier(problem, order, low, high);
     if rest.is_empty() {
         return Ok(beside);
@@ -196,7 +204,15 @@ fn left_outside(
         return Ok(beside);
     };
     let kept = meeting(alloc, problem, &within, by)?;
-    let found = left_outside(alloc, problem, order, &within, rest, kept.as_slice())?;
+    let found = left_outside(
+        alloc,
+        problem,
+        order,
+        &within,
+        rest,
+        kept.as_slice(),
+        effort,
+    )?;
     Ok(earlier(problem, order, beside, found))
 }
 
@@ -208,12 +224,14 @@ fn left_of(
     order: &Order,
     cube: &Cube,
     by: Vec<&Cube>,
-) -> Result<Option<Scenario>, OutOfMemory>
+    effort: &mut Effort,
+) -> Result<Option<Scenario>, Stop>
     requires order { length order.now ≡ process_count problem.now }
     requires cube { IsKnown problem.now cube.now }
     requires list { All (λ b. IsKnown problem.now b.now) by.items }
     ensures { IfOk result (λ r. IsFirst problem.now order.now (is_left (map (λ b. b.now) by.entry.items) cube.now) r) }
 {
+    effort.spend()?;
     if !cube.is_met(problem.faults()) {
         return Ok(None);
     }
@@ -232,6 +250,220 @@ fn left_of(
         cube,
         literals.as_slice(),
         others.as_slice(),
+        effort,
+    )?;
+    Ok(found)
+}
+
+/// The least scenario that a list leaves of a cube, by as many splittings as that takes.
+fn left_at_last(
+    alloc: Global,
+    problem: &Problem,
+    order: &Order,
+    cube: &Cube,
+    by: Vec<&Cube>,
+) -> Result<Option<Scenario>, OutOfMemory>
+    requires order { length order.now ≡ process_count problem.now }
+    requires cube { IsKnown problem.now cube.now }
+    requires list { All (λ b. IsKnown problem.now b.now) by.items }
+    ensures { IfOk result (λ r. IsFirst problem.now order.now (is_left (map (λ b. b.now) by.entry.items) cube.now) r) }
+{
+    let mut effort = Effort::endless();
+    match left_of(alloc, problem, order, cube, by, &mut effort) {
+        Ok(found) => Ok(found),
+        Err(_) => Err(OutOfMemory),
+    }
+}
+
+fn mark(literals: &[Literal], marks: &mut [bool; VARIABLES]) {
+    for literal in literals {
+        marks[literal.variable as usize] = true;
+    }
+}
+
+/// The variables on which some cube has a literal.
+fn marked(by: &[&Cube]) -> [bool; VARIABLES] {
+    let mut marks = [false; VARIABLES];
+    for other in by {
+        mark(other.literals(), &mut marks);
+    }
+    marks
+}
+
+/// Whether a variable is one of a problem's.
+fn is_known(problem: &Problem, variable: u8) -> bool
+    ensures { OnTrue result (IsVariable problem.now variable) }
+{
+    let literal = Literal {
+        variable,
+        low: 0,
+        high: 0,
+    };
+    literal.is_known(problem.processes().len(), problem.conditions())
+}
+
+/// The variables along an order on which some cube has a literal.
+fn variables_of(
+    alloc: Global,
+    problem: &Problem,
+    order: &Order,
+    by: &[&Cube],
+) -> Result<Vec<u8>, OutOfMemory>
+    requires { length order.now ≡ process_count problem.now }
+    ensures { IfOk result (λ variables. All (IsVariable problem.now) variables.items) }
+{
+    let marks = marked(by);
+    let mut variables = Vec::new(alloc);
+    let all = variables_along(alloc, problem, order.processes())?;
+    for variable in all.as_slice() {
+        if marks[*variable as usize] && is_known(problem, *variable) {
+            variables.push(*variable)?;
+        }
+    }
+    Ok(variables)
+}
+
+/// Whether a part has no scenario before one that is found.
+fn is_late(
+    alloc: Global,
+    problem: &Problem,
+    order: &Order,
+    part: &Cube,
+    found: &Option<Scenario>,
+) -> Result<bool, OutOfMemory>
+    requires order { length order.now ≡ process_count problem.now }
+    requires part { IsKnown problem.now part.now }
+    requires found { IfSome found.now (IsScenario problem.now) }
+    ensures { IfOk result (λ late. OnTrue late (IsLate problem.now order.now part.now found.now)) }
+{
+    let Some(found) = found else {
+        return Ok(false);
+    };
+    let Some(least) = part.least(alloc, problem)? else {
+        return Ok(false);
+    };
+    Ok(!is_before(problem, order, &least, found))
+}
+
+/// The least scenario that a list leaves of a part of what it is asked about, if there is one.
+#[cycle(along)]
+fn least_of_part(
+    alloc: Global,
+    problem: &Problem,
+    order: &Order,
+    part: &Cube,
+    by: &[&Cube],
+    variables: &[u8],
+    memory: &mut Memory,
+) -> Result<Option<Scenario>, OutOfMemory>
+    requires order { length order.now ≡ process_count problem.now }
+    requires cube { IsKnown problem.now part.now }
+    requires list { All (λ b. IsKnown problem.now b.now) by.now }
+    requires variables { All (IsVariable problem.now) variables.now }
+    ensures { IfOk result (λ r. IsFirst problem.now order.now (is_left (map (λ b. b.now) by.now) part.now) r) }
+{
+    let kept = meeting(alloc, problem, part, by)?;
+    let found = least_along(alloc, problem, order, part, kept, variables, memory)?;
+    Ok(found)
+}
+
+/// The least scenario that a list leaves of a cube, by the numbers of the first of some variables, from 0 on.
+#[cycle(along)]
+fn least_by_number(
+    alloc: Global,
+    problem: &Problem,
+    order: &Order,
+    cube: &Cube,
+    by: Vec<&Cube>,
+    variables: &[u8],
+    memory: &mut Memory,
+) -> Result<Option<Scenario>, OutOfMemory>
+    requires order { length order.now ≡ process_count problem.now }
+    requires cube { IsKnown problem.now cube.now }
+    requires list { All (λ b. IsKnown problem.now b.now) by.items }
+    requires variables { All (IsVariable problem.now) variables.now }
+    ensures { IfOk result (λ r. IsFirst problem.now order.now (is_left (map (λ b. b.now) by.entry.items) cube.now) r) }
+{
+    let Some((variable, others)) = variables.split_first() else {
+        let found = left_at_last(alloc, problem, order, cube, by)?;
+        return Ok(found);
+    };
+    let mut found = None;
+    for number in 0..u32::from(top(problem.faults(), *variable)) + 1 {
+        let literal = Literal {
+            variable: *variable,
+            low: number as u8,
+            high: number as u8,
+        };
+        if let Some(part) = cube.with(literal)? {
+            let late = is_late(alloc, problem, order, &part, &found)?;
+            if !late {
+                let list = by.as_slice();
+                let next = least_of_part(alloc, problem, order, &part, list, others, memory)?;
+                found = earlier(problem, order, found, next);
+            }
+        }
+    }
+    Ok(found)
+}
+
+/// The least scenario that a list leaves of a cube, by variables along the order, if there is one. A part that is
+/// found to be covered isn't split, so that each split but for late parts has a scenario that is left.
+#[cycle(along)]
+fn least_along(
+    alloc: Global,
+    problem: &Problem,
+    order: &Order,
+    cube: &Cube,
+    by: Vec<&Cube>,
+    variables: &[u8],
+    memory: &mut Memory,
+) -> Result<Option<Scenario>, OutOfMemory>
+    requires order { length order.now ≡ process_count problem.now }
+    requires cube { IsKnown problem.now cube.now }
+    requires list { All (λ b. IsKnown problem.now b.now) by.items }
+    requires variables { All (IsVariable problem.now) variables.now }
+    ensures { IfOk result (λ r. IsFirst problem.now order.now (is_left (map (λ b. b.now) by.entry.items) cube.now) r) }
+{
+    if !cube.is_met(problem.faults()) {
+        return Ok(None);
+    }
+    let least = cube.lows(alloc, problem)?;
+    let Some(_) = place_of_match(by.as_slice(), &least) else {
+        return Ok(Some(least));
+    };
+    let covered = is_surely_covered(alloc, problem, cube, by.as_slice(), memory)?;
+    if covered {
+        return Ok(None);
+    }
+    let found = least_by_number(alloc, problem, order, cube, by, variables, memory)?;
+    Ok(found)
+}
+
+/// The least scenario that a list leaves of a cube, by the variables along the order.
+fn left_along(
+    alloc: Global,
+    problem: &Problem,
+    order: &Order,
+    cube: &Cube,
+    by: &[&Cube],
+) -> Result<Option<Scenario>, OutOfMemory>
+    requires order { length order.now ≡ process_count problem.now }
+    requires cube { IsKnown problem.now cube.now }
+    requires list { All (λ b. IsKnown problem.now b.now) by.now }
+    ensures { IfOk result (λ r. IsFirst problem.now order.now (is_left (map (λ b. b.now) by.now) cube.now) r) }
+{
+    let kept = meeting(alloc, problem, cube, by)?;
+    let variables = variables_of(alloc, problem, order, kept.as_slice())?;
+    let mut memory = Memory::new(alloc);
+    let found = least_along(
+        alloc,
+        problem,
+        order,
+        cube,
+        kept,
+        variables.as_slice(),
+        &mut memory,
     )?;
     Ok(found)
 }
@@ -251,8 +483,12 @@ pub fn uncovered(
     ensures first { IfOk result (λ r. IsFirst problem.now order.now (is_left (map (λ b. b.now) by.now) cube.now) r) }
 {
     let kept = meeting(alloc, problem, cube, by)?;
-    let found = left_of(alloc, problem, order, cube, kept)?;
-    Ok(found)
+    let mut effort = Effort::for_cubes(kept.len());
+    match left_of(alloc, problem, order, cube, kept, &mut effort) {
+        Ok(found) => Ok(found),
+        Err(Stop::Memory) => Err(OutOfMemory),
+        Err(Stop::Effort) => left_along(alloc, problem, order, cube, by),
+    }
 }
 
 /// A reference to each cube.

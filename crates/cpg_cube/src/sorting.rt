@@ -54,7 +54,11 @@ fn push_variables(
 }
 
 /// The variables along an order.
-fn variables_along(alloc: Global, problem: &Problem, order: &[u32]) -> Result<Vec<u8>, OutOfMemory>
+pub(crate) fn variables_along(
+    alloc: Global,
+    problem: &Problem,
+    order: &[u32],
+) -> Result<Vec<u8>, OutOfMemory>
     requires order { All (λ p. p < process_count problem.now) order.now }
     ensures { IfOk result (λ r. r.items ≡ variables_along problem.now order.now) }
 {

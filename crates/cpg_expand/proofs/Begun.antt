@@ -1,60 +1,58 @@
 -- Once the start, the end and the readiness of its node are set, a process has begun: trees that were grown before its place go on to tell the runs.
-use Rattle.std.proofs.Common.{ℕ, ◌+◌, ◌*◌, ◌<◌, ◌≤◌, ◌≡◌, ◌≢◌, max, Bool, true, false, if◌then◌else◌, List, [], ◌++◌, length, map, get_or, flat_map, Option, Some, None, unwrap_or, Contains, ◌⊎◌, arith, refl, sym, ap, ap₂, ◌∙◌, subst, inl, inr, get_or-set_same, get_or-set_other}
-use Rattle.std.proofs.lemmas.Bool.{cases_eq, cases_lt, cond-true, cond-false}
-use Rattle.std.proofs.lemmas.Option.{none-some}
+use Rattle.std.proofs.Common.{ℕ, ◌+◌, ◌*◌, ◌<◌, ◌≤◌, ◌≡◌, ◌≢◌, max, Bool, true, false, if◌then◌else◌, List, [], length, map, get_or, flat_map, Option, Some, None, unwrap_or, Contains, ◌⊎◌, arith, refl, sym, ap, ◌∙◌, subst, inl, inr, get_or-set_same, get_or-set_other}
+use Rattle.std.proofs.lemmas.Bool.{cases_eq, cases_lt, cond-false}
 use Rattle.std.proofs.lemmas.List.{get_or-map}
 use Rattle.std.proofs.lemmas.List.Sums.{get_or-le-sum_by}
-use Rattle.std.proofs.lemmas.List.Elements.{All-contains, Contains-append_left}
+use Rattle.std.proofs.lemmas.List.Elements.{Contains-append_left}
 use Rattle.cpg_base.specs.Numbers.{greatest}
 use Rattle.cpg_base.specs.Graph.{Graph, process_at, process_count, condition_count, item_count, item_at, node_of, is_frozen, is_frozen_item, producer, producer_of_item}
 use Rattle.cpg_base.specs.Activity.{active, activation, item_active}
 use Rattle.cpg_base.specs.declared.item.Item.{Item}
 use Rattle.cpg_base.proofs.Items.{item_at-start}
-use Rattle.cpg_base.proofs.Lists.{Contains-nil, Contains-map, Contains-flat_map, Contains-flat_map_parts, Contains-map_parts}
+use Rattle.cpg_base.proofs.Lists.{Contains-nil, Contains-map, Contains-flat_map, Contains-flat_map_parts}
 use Rattle.cpg_rules.specs.Guards.{Guards}
 use Rattle.cpg_rules.specs.Admission.{IsAdmitted}
 use Rattle.cpg_order.specs.Deciding.{deciding}
 use Rattle.cpg_order.specs.Guard.{Guard, outcome_at, way, IsGuardOf}
 use Rattle.cpg_base.specs.Scenario.{Scenario, IsScenario, fault_of}
 use Rattle.cpg_order.specs.Urgency.{IsTopological}
-use Rattle.cpg_base.specs.Order.{place, before_on_node}
+use Rattle.cpg_base.specs.Order.{place}
 use Rattle.cpg_order.proofs.Moments.{moment, moment_of_start, phase, phases, phase_below, sooner}
 use Rattle.cpg_base.proofs.Places.{Contains-order, same_place}
-use Rattle.cpg_cube.specs.declared.literal.Literal.{Literal}
 use Rattle.cpg_cube.specs.Column.{Column}
 use Rattle.cpg_run.specs.Run.{Times, IsRun, heard_there, unfrozen_time}
-use Rattle.cpg_run.specs.Carried.{row_at, decided, heard, received, carried, carried_by_item, carried_at_start, carried_at_end, passed, queued}
+use Rattle.cpg_run.specs.Carried.{row_at, carried, carried_by_item, carried_at_start, carried_at_end, queued}
 use Rattle.cpg_run.specs.Known.{AreEarly, AreSmall}
-use Rattle.cpg_run.specs.Latest.{IsUnfrozenTime}
+use Rattle.cpg_run.specs.Frozen.{WouldHave}
 use Rattle.cpg_run.specs.Progress.{IsSentBefore, IsSentBy, free_after}
 use Rattle.cpg_run.proofs.EarlyTimes.{early_from_low}
 use Rattle.cpg_run.proofs.Mosts.{most_same}
 use Rattle.cpg_run.proofs.Runs.{time_is}
 use Rattle.cpg_run.proofs.Small.{run_small}
 use Rattle.cpg_tree.specs.Space.{HasFew}
-use Rattle.cpg_tree.specs.Tree.{Path, TreeState, IsOn, IsConstant}
-use Rattle.cpg_expand.specs.Begun.{IsBegun}
+use Rattle.cpg_tree.specs.Tree.{Path, TreeState, IsConstant}
+use Rattle.cpg_expand.specs.Begun.{IsBegun, IsFrozenStart, any_start}
 use Rattle.cpg_expand.specs.Sent.{sent_before, sent_so_far, IsFreeOnce}
 use Rattle.cpg_expand.specs.Agreeing.{Tells}
 use Rattle.cpg_expand.specs.Forest.{ForestState, HasTrees, no_tree, times_of, ends_of, later_tree, ready_at, ready_by}
 use Rattle.cpg_expand.specs.Ending.{IsReadyAfter, goes_on}
 use Rattle.cpg_expand.specs.declared.forest.Ready.{Ready}
 use Rattle.cpg_expand.specs.declared.forest.Ready.TheVariants.{After, At}
-use Rattle.cpg_expand.specs.Freezing.{IsNeverFrozen, IsFrozenBy, IsFixed}
 use Rattle.cpg_expand.specs.Grown.{RowsHold, IsReadyLine, IsFreeLine, Lines, SendLines, LeavesUnsent, IsEarlier, IsDone, AreSettledOf, IsGrown, IsSending}
-use Rattle.cpg_expand.specs.Guarded.{value_known, values_known}
 use Rattle.cpg_expand.specs.Told.{HasTold}
+use Rattle.cpg_expand.specs.Waited.{IsWaitedFor, IsReadyOnce}
 use Rattle.cpg_expand.specs.Waiting.{ready_of, free_of}
-use Rattle.cpg_tree.proofs.OnePath.{scenario_few, the_path}
+use Rattle.cpg_tree.proofs.OnePath.{scenario_few}
 use Rattle.cpg_expand.proofs.AgreeingTrees.{agrees_weaker}
-use Rattle.cpg_expand.proofs.FrozenFound.{frozen_found}
+use Rattle.cpg_expand.proofs.FrozenFound.{IsFound, frozen_found, set_here}
 use Rattle.cpg_expand.proofs.FrozenLine.{frozen_line, frozen_value}
 use Rattle.cpg_expand.proofs.GrownLines.{told_from_lines, lines_over}
+use Rattle.cpg_expand.proofs.LatestStart.{IsToldStart, latest_above, latest_reached}
 use Rattle.cpg_expand.proofs.NextPlace.{ready_next, ready_elsewhere, settled_idle, settled_more}
 use Rattle.cpg_expand.proofs.ReadyLine.{ready_line}
-use Rattle.cpg_expand.proofs.StartLine.{on_way, wait_line, start_told, start_idle, start_line}
+use Rattle.cpg_expand.proofs.StartLine.{on_way, wait_line, start_line}
+use Rattle.cpg_expand.proofs.StartTold.{start_is_told}
 use Rattle.cpg_expand.proofs.StartValue.{most, start_value, waited_ends, end_line}
-use Rattle.cpg_expand.proofs.UnfrozenStart.{unfrozen_value}
 
 -- ---- rows that hold what the trees list
 
@@ -78,9 +76,13 @@ own_rows_hold g order i f has = record {
     row x l = get_or-map (λ (t : TreeState (Option ℕ)). map path_column t.paths) f.times x (no_tree g.faults) [] (omega (arith, l, has.times))
 
 module _ (g : Graph) (urgency : List ℕ) (guards : Guards) (a : IsAdmitted g urgency guards) (order : List ℕ) (topological : IsTopological g order) (p : ℕ) (l : p < process_count g) (guard : Guard) (is_guard : IsGuardOf g urgency p guard)
-    (old new : ForestState) (before after : List (Option ℕ)) (chooser : TreeState Bool) (grown : IsGrown g order (place order p) before old) (trees : HasTrees g new) (b : IsBegun g urgency p guard old new before after chooser) where
+    (old new : ForestState) (before after : List (Option ℕ)) (chooser : TreeState Bool) (grown : IsGrown g order (place order p) before old) (trees : HasTrees g new) (b : IsBegun g order p guard old new before after chooser) where
   nodes : (q : ℕ) → q < process_count g → node_of g q < length g.nodes
   nodes q k = (a.limits.processes q _ k).node
+
+  -- the process itself waits for its node
+  waits_here : IsWaitedFor g order (place order p) (node_of g p)
+  waits_here = record { other = p; within = l; there = refl; later = omega arith }
 
   its_producer : producer g p ≡ p
   its_producer = ap (producer_of_item g) (item_at-start g p l)
@@ -105,11 +107,11 @@ module _ (g : Graph) (urgency : List ℕ) (guards : Guards) (a : IsAdmitted g ur
   only y (inr (inl e)) = inr e
   only y (inr (inr c)) = absurd (Contains-nil y c)
 
-  thawed_start : is_frozen g p ≡ false → (process_at g p).frozen ≡ false
-  thawed_start e = sym (ap (is_frozen_item g) (item_at-start g p l)) ∙ e
+  thawed_start_of : is_frozen g p ≡ false → (process_at g p).frozen ≡ false
+  thawed_start_of e = sym (ap (is_frozen_item g) (item_at-start g p l)) ∙ e
 
-  frozen_start : is_frozen g p ≡ true → (process_at g p).frozen ≡ true
-  frozen_start e = sym (ap (is_frozen_item g) (item_at-start g p l)) ∙ e
+  frozen_start_of : is_frozen g p ≡ true → (process_at g p).frozen ≡ true
+  frozen_start_of e = sym (ap (is_frozen_item g) (item_at-start g p l)) ∙ e
 
   -- ---- in one scenario with its run under frozen times that are those so far for what is done
 
@@ -131,46 +133,47 @@ module _ (g : Graph) (urgency : List ℕ) (guards : Guards) (a : IsAdmitted g ur
     told = told_from_lines g order rows (place order p) old grown.trees hold fs s t run lines
 
     ready_line_before : IsReadyLine g order rows s t (place order p) (node_of g p) (ready_of g old (node_of g p))
-    ready_line_before = lines.ready (node_of g p) (nodes p l)
+    ready_line_before = lines.ready (node_of g p) (nodes p l) waits_here
 
     abbrev r : ℕ
     r = ready_line_before.time
 
-    -- the unfrozen tree tells what the start would be if it were not frozen
-    unfrozen_told : (x : Path (Option ℕ)) → IsOn b.unfrozen.paths s x → x.1 ≡ (if item_active g s.values (item_at g p) then Some (unfrozen_time g order s t p) else None)
-    unfrozen_told x on =
-        start_told g a.limits order topological a.joins urgency a.urgency a.topological rows s long few t small old p l nodes told guard is_guard b.wait b.waits r ready_line_before.is ready_line_before.tells b.unfrozen b.starts x on
-        ∙ ap₂ (λ (c : Bool) n. if c then Some n else None) (sym (ap (item_active g s.values) (item_at-start g p l)))
-        (sym (unfrozen_value g order topological urgency a.urgency a.topological s long t p l guard is_guard r ready_line_before.is))
+    -- what the trees tell of its start
+    told_start : IsToldStart g order old guard chooser p s t
+    told_start = start_is_told g a.limits order topological a.joins urgency a.urgency a.topological rows s law fs t run small old grown.trees p l nodes told lines guard is_guard chooser b.actives ready_line_before
 
   early_before : AreEarly before
   early_before = early_from_low g order before a.limits topological grown.settled.count grown.settled.low
 
-  found : is_frozen g p ≡ true → IsFrozenBy g urgency p b.unfrozen chooser before after b.start →
-      (IsUnfrozenTime g order before p (get_or after p None)) × ((y : ℕ) → y ≢ p → get_or after y None ≡ get_or before y None) × (length after ≡ length before)
-  found is f =
-      let r = frozen_found g order topological before p p_item grown.settled.count unset b.unfrozen b.unfrozen_tree
-      (λ s law t run x on. unfrozen_told before (λ y h e. refl) early_before (own_rows old) (own_rows_hold g order (place order p) old grown.trees) s law t run x on) urgency chooser after b.start f in
-      (r.is, r.same, r.long)
+  all_told : (s : Scenario) → IsScenario g s → (t : Times) → IsRun g order before s t → IsToldStart g order old guard chooser p s t
+  all_told s law t run = told_start before (λ y h e. refl) early_before (own_rows old) (own_rows_hold g order (place order p) old grown.trees) s law t run
+
+  acts_as : (values : List Bool) → item_active g values (item_at g p) ≡ active g values p
+  acts_as values = ap (item_active g values) (item_at-start g p l)
+
+  found : IsFrozenStart g p old guard before after chooser b.start → IsFound g order before p after
+  found f = frozen_found g order topological before p (omega (arith, p_item, grown.settled.count)) unset f.latest
+      (λ s law t run on. latest_above g order before old guard chooser b.chooser_tree p topological all_told f.latest f.top s law t run (sym (acts_as s.values) ∙ on))
+      (λ m e. let r = latest_reached g order before old guard chooser b.chooser_tree p topological all_told f.latest f.top m e in (r.0, r.1, acts_as r.0.values ∙ r.2, r.3)) after f.frozen.set
 
   -- ---- the frozen times
 
   new_settled : AreSettledOf g order (IsDone g order p 0) after
-  new_settled = by b.fixed
+  new_settled = by b.starts
     where
-      by : IsFixed g urgency p b.unfrozen chooser before after b.start → AreSettledOf g order (IsDone g order p 0) after
-      by (inl th) = subst (AreSettledOf g order (IsDone g order p 0)) (sym th.kept)
-          (settled_idle g order topological a.limits (IsEarlier g order (place order p)) (IsDone g order p 0) before grown.settled p p_item later (λ y e. inl e) (inr (inl refl)) only th.thawed)
+      by : any_start g p old guard before after chooser b.start → AreSettledOf g order (IsDone g order p 0) after
+      by (inl th) = subst (AreSettledOf g order (IsDone g order p 0)) (sym th.1)
+          (settled_idle g order topological a.limits (IsEarlier g order (place order p)) (IsDone g order p 0) before grown.settled p p_item later (λ y e. inl e) (inr (inl refl)) only th.0)
       by (inr f) =
-          let r = found f.0 f.1 in
-          settled_more g order topological a.limits (IsEarlier g order (place order p)) (IsDone g order p 0) before grown.settled p p_item later (λ y e. inl e) (inr (inl refl)) only f.0 after r.0 r.1 r.2
+          let r = found f.1 in
+          settled_more g order topological a.limits (IsEarlier g order (place order p)) (IsDone g order p 0) before grown.settled p p_item later (λ y e. inl e) (inr (inl refl)) only f.0 after r.is r.same r.long
 
   same_earlier : (x : ℕ) → x < item_count g → IsEarlier g order (place order p) x → get_or before x None ≡ get_or after x None
-  same_earlier x h e = by b.fixed
+  same_earlier x h e = by b.starts
     where
-      by : IsFixed g urgency p b.unfrozen chooser before after b.start → get_or before x None ≡ get_or after x None
-      by (inl th) = sym (ap (λ fs. get_or fs x None) th.kept)
-      by (inr f) = let k = found f.0 f.1 in sym (k.1 x (early_apart x e))
+      by : any_start g p old guard before after chooser b.start → get_or before x None ≡ get_or after x None
+      by (inl th) = sym (ap (λ fs. get_or fs x None) th.1)
+      by (inr f) = let k = found f.1 in sym (k.same x (early_apart x e))
 
   early_after : AreEarly after
   early_after = early_from_low g order after a.limits topological new_settled.count new_settled.low
@@ -231,7 +234,7 @@ module _ (g : Graph) (urgency : List ℕ) (guards : Guards) (a : IsAdmitted g ur
     told_before = told after same_earlier early_after rows held s law t run
 
     was_ready : IsReadyLine g order rows s t (place order p) (node_of g p) (ready_of g old (node_of g p))
-    was_ready = lines_before.ready (node_of g p) (nodes p l)
+    was_ready = lines_before.ready (node_of g p) (nodes p l) waits_here
 
     way_decides : (c : ℕ) → Contains (way guard s.values) c → Contains (deciding g s.values p) c
     way_decides = on_way g a.limits order topological a.joins urgency a.urgency a.topological rows s law.values few_faults t run_is_small old p l nodes told_before guard is_guard
@@ -239,43 +242,28 @@ module _ (g : Graph) (urgency : List ℕ) (guards : Guards) (a : IsAdmitted g ur
     leads_there : outcome_at guard s.values ≡ activation g s.values p
     leads_there = is_guard.is s.values law.values
 
-    in_decided : (x : Literal) → Contains (values_known s (way guard s.values)) x → Contains (decided g s p) x
-    in_decided x j = let m = Contains-map_parts (value_known s) (way guard s.values) x j in subst (Contains (decided g s p)) m.2 (Contains-map (value_known s) (deciding g s.values p) m.0 (way_decides m.0 m.1))
+    would : active g s.values p ≡ true → WouldHave g order after p (unfrozen_time g order s t p)
+    would on = record { scenario = s; lawful = law; times = t; run = run; active = acts_as s.values ∙ on; has = refl }
 
-    frozen_says : (process_at g p).frozen ≡ true → (x : Literal) → Contains (decided g s p) x → Contains (carried_at_start g order rows s p) x
-    frozen_says is x j = subst (λ (c : Bool). Contains (if c then decided g s p else flat_map (passed g rows s) (before_on_node g order p) ++ decided g s p ++ heard g rows s p ++ received g rows s p) x) (sym is) j
+    -- the frozen time is the run's
+    frozen_time : is_frozen g p ≡ true → (latest : Option ℕ) → get_or after p None ≡ latest → (if active g s.values p then Some (unwrap_or latest 0) else None) ≡ get_or t.times p None
+    frozen_time is (Some time) e = frozen_value g order after s t run p l time e (λ on. (new_settled.each p p_item is (inr (inl refl))).greatest time (unfrozen_time g order s t p) e (would on))
+    frozen_time is None e = by (active g s.values p) refl
+      where
+        by : (c : Bool) → active g s.values p ≡ c → (if active g s.values p then Some 0 else None) ≡ get_or t.times p None
+        by true on = absurd ((new_settled.each p p_item is (inr (inl refl))).none e (unfrozen_time g order s t p) (would on))
+        by false idle = cond-false _ _ _ idle ∙ sym (time_is g order after s t run p p_item ∙ cond-false _ _ _ (acts_as s.values ∙ idle))
 
     started : Tells s (carried_at_start g order rows s p) (get_or t.times p None) b.start
-    started = by b.fixed
+    started = by b.starts
       where
-        told_there : (x : Path (Option ℕ)) → IsOn b.unfrozen.paths s x → x.1 ≡ (if item_active g s.values (item_at g p) then Some (unfrozen_time g order s t p) else None)
-        told_there = unfrozen_told after same_earlier early_after rows held s law t run
-
-        its_path : (x : Path (Option ℕ)) × IsOn b.unfrozen.paths s x
-        its_path = the_path g.faults b.unfrozen.paths b.unfrozen_tree.each s few_faults
-
-        acts_item : active g s.values p ≡ true → item_active g s.values (item_at g p) ≡ true
-        acts_item on = ap (item_active g s.values) (item_at-start g p l) ∙ on
-
-        by_never : is_frozen g p ≡ true → IsNeverFrozen b.unfrozen before after b.start → (c : Bool) → active g s.values p ≡ c → Tells s (carried_at_start g order rows s p) (get_or t.times p None) b.start
-        by_never is n true on = absurd (none-some _ (sym (All-contains (λ (q : Path (Option ℕ)). q.1 ≡ None) b.unfrozen.paths its_path.0 n.none its_path.1.stands) ∙ told_there its_path.0 its_path.1
-            ∙ cond-true _ (Some (unfrozen_time g order s t p)) None (acts_item on)))
-        by_never is n false idle = subst (λ (tree : TreeState (Option ℕ)). Tells s (carried_at_start g order rows s p) (get_or t.times p None) tree) (sym n.same)
-            (agrees_weaker s b.unfrozen (values_known s (way guard s.values)) (carried_at_start g order rows s p) (λ z. z ≡ None) (λ z. z ≡ get_or t.times p None)
-            (λ x j. frozen_says (frozen_start is) x (in_decided x j))
-            (λ z e. e ∙ sym (time_is g order after s t run p p_item ∙ cond-false _ _ _ (ap (item_active g s.values) (item_at-start g p l) ∙ idle)))
-            (start_idle g a.limits order topological a.joins urgency a.urgency a.topological rows s law.values few_faults t run_is_small old p l nodes told_before guard is_guard b.wait b.waits was_ready.time was_ready.is was_ready.tells b.unfrozen b.starts idle))
-
-        by : IsFixed g urgency p b.unfrozen chooser before after b.start → Tells s (carried_at_start g order rows s p) (get_or t.times p None) b.start
-        by (inl th) = subst (λ (tree : TreeState (Option ℕ)). Tells s (carried_at_start g order rows s p) (get_or t.times p None) tree) (sym th.same)
-            (subst (λ (o : Option ℕ). Tells s (carried_at_start g order rows s p) o b.unfrozen)
-            (start_value g order topological urgency a.urgency a.topological after s law.values t run p l guard is_guard was_ready.time was_ready.is (ap (λ fs. get_or fs p None) th.kept ∙ unset))
-            (start_line g a.limits order topological a.joins urgency a.urgency a.topological rows s law.values few_faults t run_is_small old p l nodes told_before guard is_guard b.wait b.waits was_ready.time was_ready.is was_ready.tells b.unfrozen b.starts (thawed_start th.thawed)))
-        by (inr (is, inl n)) = by_never is n (active g s.values p) refl
-        by (inr (is, inr f)) = subst (λ (o : Option ℕ). Tells s (carried_at_start g order rows s p) o b.start)
-            (frozen_value g order after s t run p l f.time (ap (λ h. get_or h p None) f.set ∙ get_or-set_same before p (Some f.time) None (omega (arith, p_item, grown.settled.count)))
-            (λ on. f.is.most its_path.0 (unfrozen_time g order s t p) its_path.1.stands (told_there its_path.0 its_path.1 ∙ cond-true _ (Some (unfrozen_time g order s t p)) None (acts_item on))))
-            (frozen_line g order rows s few_faults p guard leads_there way_decides (frozen_start is) chooser b.start f.time b.chooser_tree b.actives f.made)
+        by : any_start g p old guard before after chooser b.start → Tells s (carried_at_start g order rows s p) (get_or t.times p None) b.start
+        by (inl th) = subst (λ (o : Option ℕ). Tells s (carried_at_start g order rows s p) o b.start)
+            (start_value g order topological urgency a.urgency a.topological after s law.values t run p l guard is_guard was_ready.time was_ready.is (ap (λ fs. get_or fs p None) th.1 ∙ unset))
+            (start_line g a.limits order topological a.joins urgency a.urgency a.topological rows s law.values few_faults t run_is_small old p l nodes told_before guard is_guard th.2.wait th.2.waits was_ready.time was_ready.is was_ready.tells b.start th.2.is (thawed_start_of th.0))
+        by (inr f) = subst (λ (o : Option ℕ). Tells s (carried_at_start g order rows s p) o b.start)
+            (frozen_time f.0 f.1.latest (ap (λ h. get_or h p None) f.1.frozen.set ∙ set_here before p f.1.latest (omega (arith, p_item, grown.settled.count)) unset))
+            (frozen_line g order rows s few_faults p guard leads_there way_decides (frozen_start_of f.0) chooser b.start (unwrap_or f.1.latest 0) b.chooser_tree b.actives f.1.frozen.made)
 
     few_here : fault_of s p ≤ g.faults
     few_here = omega (arith, get_or-le-sum_by (λ (n : ℕ). n) s.faults p 0 (omega (arith, law.faults, l)), law.budget)
@@ -283,12 +271,12 @@ module _ (g : Graph) (urgency : List ℕ) (guards : Guards) (a : IsAdmitted g ur
     ended : Tells s (carried_at_end g order rows s p) (get_or t.ends p None) b.end
     ended = end_line g a.limits order after s law t run run_is_small p l few_here rows b.start b.end few_faults b.ends started
 
-    readied : IsReadyLine g order rows s t (place order p + 1) (node_of g p) (goes_on b.end b.ready)
-    readied = ready_next g order topological (place order p) p l refl rows s after t run was_ready.time (greatest (map (heard_there g t (node_of g p)) (way guard s.values))) was_ready.is
+    readied : IsReadyOnce g old (node_of g p) guard chooser b.end (goes_on b.end b.ready) → IsReadyLine g order rows s t (place order p + 1) (node_of g p) (goes_on b.end b.ready)
+    readied made = ready_next g order topological (place order p) p l refl rows s after t run was_ready.time (greatest (map (heard_there g t (node_of g p)) (way guard s.values))) was_ready.is
         (most g order topological urgency a.urgency a.topological after s law.values t run p l guard is_guard was_ready.time was_ready.is)
         (waited_ends g order topological urgency a.urgency a.topological after s law.values t run p l guard is_guard was_ready.time was_ready.is) (goes_on b.end b.ready)
-        (ready_line g order topological rows s few_faults t run_is_small p guard leads_there way_decides chooser b.end b.wait (goes_on b.end b.ready) (max was_ready.time (greatest (map (heard_there g t (node_of g p)) (way guard s.values)))) b.actives b.readies ended
-        (wait_line g a.limits order topological a.joins urgency a.urgency a.topological rows s law.values few_faults t run_is_small old p l nodes told_before guard is_guard b.wait b.waits was_ready.time was_ready.is was_ready.tells))
+        (ready_line g order topological rows s few_faults t run_is_small p guard leads_there way_decides chooser b.end made.wait (goes_on b.end b.ready) (max was_ready.time (greatest (map (heard_there g t (node_of g p)) (way guard s.values)))) b.actives made.is ended
+        (wait_line g a.limits order topological a.joins urgency a.urgency a.topological rows s law.values few_faults t run_is_small old p l nodes told_before guard is_guard made.wait made.waits was_ready.time was_ready.is was_ready.tells))
 
     was_free : IsFreeLine g order rows s t (place order p) (node_of g p) (free_of g old (node_of g p))
     was_free = lines_before.free (node_of g p) (nodes p l)
@@ -320,10 +308,11 @@ module _ (g : Graph) (urgency : List ℕ) (guards : Guards) (a : IsAdmitted g ur
             (subst (λ (tree : TreeState (Option ℕ)). Tells s (carried_at_end g order rows s p) (get_or t.ends p None) tree) (sym new_end) ended)
         | inr other ↦ subst (λ (tree : TreeState (Option ℕ)). Tells s (carried_at_end g order rows s q) (get_or t.ends q None) tree) (sym (other_end q other)) (lines_before.ends q h (sooner_end q h less other))
       ];
-      ready = λ node h. elim (cases_eq node (node_of g p)) [
-        | inl e ↦ subst (λ n. IsReadyLine g order rows s t (place order p + 1) n (ready_of g new n)) (sym e) (subst (λ (tree : TreeState ℕ). IsReadyLine g order rows s t (place order p + 1) (node_of g p) tree) (sym new_ready) readied)
+      ready = λ node h w. elim (cases_eq node (node_of g p)) [
+        | inl e ↦ subst (λ n. IsReadyLine g order rows s t (place order p + 1) n (ready_of g new n)) (sym e)
+            (subst (λ (tree : TreeState ℕ). IsReadyLine g order rows s t (place order p + 1) (node_of g p) tree) (sym new_ready) (readied (b.readies (subst (IsWaitedFor g order (place order p + 1)) e w))))
         | inr other ↦ subst (λ (tree : TreeState ℕ). IsReadyLine g order rows s t (place order p + 1) node tree) (sym (other_ready node h other))
-            (ready_elsewhere g order topological (place order p) p l refl rows s after t run node other (ready_of g old node) (lines_before.ready node h))
+            (ready_elsewhere g order topological (place order p) p l refl rows s after t run node other (ready_of g old node) (lines_before.ready node h (record { other = w.other; within = w.within; there = w.there; later = omega (arith, w.later) })))
       ];
       here = freed;
       free = λ node h other. subst (λ (tree : TreeState ℕ). IsFreeLine g order rows s t (place order p) node tree) (sym (same_free node)) (lines_before.free node h);

@@ -2,7 +2,7 @@
 use Rattle.std.proofs.Common.{ℕ, ◌<◌, ◌≤◌, ◌≡◌, Bool, List, All, set, length-set, get_or, get_or-set_same, get_or-set_other, Option, arith, refl, sym, ap, ◌∙◌, subst, inl, inr}
 use Rattle.std.proofs.lemmas.Bool.{cases_eq}
 use Rattle.std.proofs.lemmas.List.Elements.{All-set}
-use Rattle.cpg_base.specs.Graph.{Graph, process_at, process_count, condition_count, edge_count, node_of, inputs}
+use Rattle.cpg_base.specs.Graph.{Graph, process_count, condition_count, edge_count, node_of, inputs}
 use Rattle.cpg_base.proofs.Inputs.{inputs_parts}
 use Rattle.cpg_rules.specs.Guards.{Guards, tree_of}
 use Rattle.cpg_rules.specs.Trees.{TestsBelow}
@@ -11,14 +11,13 @@ use Rattle.cpg_rules.specs.Admission.{IsAdmitted}
 use Rattle.cpg_table.proofs.NodeRows.{all_below}
 use Rattle.cpg_tree.specs.Tree.{TreeState}
 use Rattle.cpg_expand.specs.Agreeing.{IsTree}
-use Rattle.cpg_expand.specs.Begun.{IsBegun}
-use Rattle.cpg_expand.specs.Ending.{IsEndTree, IsReadyAfter, IsReadyTree, goes_on}
+use Rattle.cpg_expand.specs.Begun.{IsBegunBy}
+use Rattle.cpg_expand.specs.Ending.{IsEndTree, IsReadyAfter, goes_on}
 use Rattle.cpg_expand.specs.Forest.{ForestState, HasTrees, IsWait, no_tree}
 use Rattle.cpg_expand.specs.declared.forest.Ready.{Ready}
 use Rattle.cpg_expand.specs.declared.forest.Ready.TheVariants.{After, At}
-use Rattle.cpg_expand.specs.Freezing.{IsFixed}
-use Rattle.cpg_expand.specs.Guarded.{IsActiveTree, IsStartTree, LeadsBelow}
-use Rattle.cpg_expand.specs.Waiting.{IsWaitTree}
+use Rattle.cpg_expand.specs.Guarded.{IsActiveTree, LeadsBelow}
+use Rattle.cpg_expand.specs.Waited.{IsReadyIfWaited}
 use Rattle.cpg_expand.proofs.Leads.{leads_below}
 
 -- ---- what is asked of a guard and of inputs
@@ -64,28 +63,20 @@ has_begun g f new p node times ends ready l at has of_times of_ends of_ready is 
   ];
 })
 
-pub begun_made : (g h : Graph) → h ≡ g → (urgency order : List ℕ) → order ≡ urgency → (p : ℕ) (guard found : Guard) → found ≡ guard → (node : ℕ) → node ≡ node_of h p → (edges : List ℕ) → edges ≡ inputs h p →
-    (old new : ForestState) (before after : List (Option ℕ)) (chooser : TreeState Bool) → IsTree h chooser → IsActiveTree h.faults found chooser →
-    (wait : TreeState ℕ) → IsWaitTree h old node found wait →
-    (unfrozen : TreeState (Option ℕ)) → IsTree h unfrozen → IsStartTree h old wait (process_at h p).release edges found unfrozen →
-    (start : TreeState (Option ℕ)) → IsFixed h order p unfrozen chooser before after start →
-    (end : TreeState (Option ℕ)) → IsEndTree h p start end → (ready : Ready) → IsReadyAfter h p ready → IsReadyTree h.faults chooser end wait (goes_on end ready) →
-    new ≡ record { times = set old.times p start; ends = set old.ends p end; ready = set old.ready node ready; free = old.free } → IsBegun g urgency p guard old new before after chooser
-begun_made g h same urgency order ordered p guard found the_guard node there edges of_p old new before after chooser chooser_tree actives wait waits unfrozen unfrozen_tree starts start fixed end ends ready ready_after readies is =
-    subst (λ k. IsBegun k urgency p guard old new before after chooser) same (subst (λ o. IsBegun h o p guard old new before after chooser) ordered (subst (λ t. IsBegun h order p t old new before after chooser) the_guard (record {
+pub begun_made : (how : Graph → Guard → TreeState Bool → TreeState (Option ℕ) → Type 0) (g h : Graph) → h ≡ g → (order : List ℕ) (p : ℕ) (guard found : Guard) → found ≡ guard → (node : ℕ) → node ≡ node_of h p →
+    (old new : ForestState) (chooser : TreeState Bool) → IsTree h chooser → IsActiveTree h.faults found chooser → (start : TreeState (Option ℕ)) → how h found chooser start →
+    (end : TreeState (Option ℕ)) → IsEndTree h p start end → (ready : Ready) → IsReadyAfter h p ready → IsReadyIfWaited h order old p found chooser end (goes_on end ready) →
+    new ≡ record { times = set old.times p start; ends = set old.ends p end; ready = set old.ready node ready; free = old.free } → IsBegunBy (how g guard) g order p guard old new chooser
+begun_made how g h same order p guard found the_guard node there old new chooser chooser_tree actives start starts end ends ready ready_after readies is =
+    subst (λ k. IsBegunBy (how k guard) k order p guard old new chooser) same (subst (λ t. IsBegunBy (how h t) h order p t old new chooser) the_guard (record {
       chooser_tree = chooser_tree;
       actives = actives;
-      wait = wait;
-      waits = subst (λ n. IsWaitTree h old n found wait) there waits;
-      unfrozen = unfrozen;
-      unfrozen_tree = unfrozen_tree;
-      starts = subst (λ es. IsStartTree h old wait (process_at h p).release es found unfrozen) of_p starts;
       start = start;
-      fixed = fixed;
+      starts = starts;
       end = end;
       ends = ends;
       ready = ready;
       ready_after = ready_after;
       readies = readies;
       is = is ∙ ap (λ n. record { times = set old.times p start; ends = set old.ends p end; ready = set old.ready n ready; free = old.free }) there;
-    })))
+    }))

@@ -49,7 +49,7 @@ module _ (g : Graph) (order : List ℕ) (topological : IsTopological g order) (r
   lines_same t u a lines = record {
     times = λ x h l. subst (λ (o : Option ℕ). Tells s (carried g order rows s x) o (times_of g f x)) (a.items x h (item_before g order topological s t u i a x h l)) (lines.times x h l);
     ends = λ q h l. subst (λ (o : Option ℕ). Tells s (carried_at_end g order rows s q) o (ends_of g f q)) (a.ends q h (end_before g order topological s t u i a q l)) (lines.ends q h l);
-    ready = λ node l. let r = lines.ready node l in record { time = r.time; is = ready_same g order topological s t u i a node r.time r.is; tells = r.tells };
+    ready = λ node l w. let r = lines.ready node l w in record { time = r.time; is = ready_same g order topological s t u i a node r.time r.is; tells = r.tells };
     free = λ node l. let r = lines.free node l in record { time = r.time; is = free_same g order topological s t u i a node r.time r.is; tells = r.tells };
   }
 
@@ -88,7 +88,7 @@ module _ (g : Graph) (order : List ℕ) (f : ForestState) (bare : IsBare g f) (h
   lines_first = record {
     times = λ x l before. absurd (omega (arith, before));
     ends = λ q l before. absurd (omega (arith, before));
-    ready = ready_first;
+    ready = λ node l w. ready_first node l;
     free = free_first;
   }
 

@@ -1,6 +1,7 @@
 pub mod AgreeingTrees
 pub mod TreeColumns
 pub mod TreesTold
+pub mod PartsKnown
 pub mod CarriedOn
 pub mod StartTimes
 pub mod StartLine
@@ -13,6 +14,10 @@ pub mod GrownLines
 pub mod Leads
 pub mod NextPlace
 pub mod FrozenFound
+pub mod LatestFound
+pub mod LatestStart
+pub mod LatestSend
+pub mod StartTold
 pub mod UnfrozenStart
 pub mod Begun
 pub mod GrownNext
@@ -36,3 +41,5 @@ pub mod GrownRows
 pub mod Stepped
 pub mod ActiveItems
 pub mod SlotTrees
+pub mod ReadyMade
+pub mod TestedTrees

@@ -62,17 +62,3 @@ module _ (g : Graph) (order : List ℕ) (topological : IsTopological g order) (s
       go true on = slot_after (share_of g (node_of g p)) free (end_in t p) (get_or t.ends p None) (has_its_end (acts_by on)) (small.ends p)
           ∙ ap (λ n. Some n) (slot_is on) ∙ sym (has_time g order frozen s t run here within on)
       go false off = sym (time_is g order frozen s t run here within ∙ cond-false _ _ _ off)
-
-  -- what the trees tell if it is not frozen is what it would have
-  pub unfrozen_slot : AreSmall t → (item_active g s.values (item_at g here) ≡ true → active g s.values p ≡ true) →
-      (if item_active g s.values (item_at g here) then slot_from (share_of g (node_of g p)) free (get_or t.ends p None) else None) ≡ (if item_active g s.values (item_at g here) then Some (unfrozen_time g order s t here) else None)
-  unfrozen_slot small acts_by = go (item_active g s.values (item_at g here)) refl
-    where
-      its_end : active g s.values p ≡ true → get_or t.ends p None ≡ Some (end_in t p)
-      its_end acts =
-          let is = has_end g order frozen s t run p l acts in
-          is ∙ ap (λ n. Some n) (sym (ap (λ o. unwrap_or o 0) is))
-
-      go : (b : Bool) → item_active g s.values (item_at g here) ≡ b → (if b then slot_from (share_of g (node_of g p)) free (get_or t.ends p None) else None) ≡ (if b then Some (unfrozen_time g order s t here) else None)
-      go true on = slot_after (share_of g (node_of g p)) free (end_in t p) (get_or t.ends p None) (its_end (acts_by on)) (small.ends p) ∙ ap (λ n. Some n) (sym (unfrozen_send_value on))
-      go false off = refl

@@ -1,7 +1,7 @@
 -- The trees of an item that is added tell its time in the run, and from when on the slots of its node are free then.
-use Rattle.std.proofs.Common.{ℕ, ◌+◌, ◌<◌, ◌≡◌, Bool, true, false, if◌then◌else◌, List, [], ◌++◌, length, flat_map, get_or, set, Option, Some, None, Contains, ◌⊎◌, arith, refl, sym, ap, ◌∙◌, subst, inl, inr, get_or-set_same}
+use Rattle.std.proofs.Common.{ℕ, ◌+◌, ◌<◌, ◌≡◌, Bool, true, false, if◌then◌else◌, List, [], ◌++◌, length, flat_map, get_or, set, Option, Some, None, unwrap_or, Contains, ◌⊎◌, arith, refl, sym, ap, ◌∙◌, subst, inl, inr, get_or-set_same}
 use Rattle.std.proofs.lemmas.Bool.{cond-false, cases_Bool}
-use Rattle.std.proofs.lemmas.List.Elements.{Contains-append_cases, Contains-append_left, Contains-append_right}
+use Rattle.std.proofs.lemmas.List.Elements.{Contains-append_cases}
 use Rattle.cpg_base.specs.Bus.{round}
 use Rattle.cpg_base.specs.Limits.{IsWithinLimits}
 use Rattle.cpg_base.specs.Scenario.{IsScenario, Scenario}
@@ -29,11 +29,11 @@ use Rattle.cpg_tree.specs.Space.{HasFew}
 use Rattle.cpg_tree.specs.Tree.{TreeState}
 use Rattle.cpg_expand.specs.Agreeing.{Tells}
 use Rattle.cpg_expand.specs.Forest.{ForestState, HasTrees, times_of, ends_of, no_tree}
-use Rattle.cpg_expand.specs.Freezing.{IsThawed, IsNeverFrozen, IsFrozenAt, IsFixed}
-use Rattle.cpg_expand.specs.Sent.{IsFreeOnce, IsItemAdded, sent_so_far}
+use Rattle.cpg_expand.specs.Sent.{IsFreeOnce, IsItemAdded, IsSentFor, sent_so_far}
+use Rattle.cpg_expand.specs.Sending.{IsSentTree}
 use Rattle.cpg_expand.specs.Values.{slot_from, time_later}
 use Rattle.cpg_expand.specs.Waiting.{free_of}
-use Rattle.cpg_expand.proofs.AgreeingTrees.{agrees_weaker}
+use Rattle.cpg_expand.proofs.FrozenFound.{set_here}
 use Rattle.cpg_expand.proofs.FrozenSend.{frozen_send_line, frozen_send_value}
 use Rattle.cpg_expand.proofs.SendLine.{send_line, free_line}
 use Rattle.cpg_expand.proofs.SendValue.{send_value}
@@ -60,7 +60,7 @@ module _ (g : Graph) (limits : IsWithinLimits g) (order : List ℕ) (topological
   acts : item_active g s.values (item_at g here) ≡ true → active g s.values (producer g here) ≡ true
   acts = producer_active g s.values (item_at g here)
 
-  module _ (urgency : List ℕ) (chooser : TreeState Bool) (old new : ForestState) (before after : List (Option ℕ)) (trees : HasTrees g old) (added : IsItemAdded g urgency chooser here old new before after)
+  module _ (chooser : TreeState Bool) (old new : ForestState) (before after : List (Option ℕ)) (trees : HasTrees g old) (added : IsItemAdded g chooser here old new before after)
       (on_node : node_of g p < length g.nodes)
       (chosen : Tells s (decided g s p) (active g s.values p) chooser)
       (ended : active g s.values p ≡ true → Tells s (carried_at_end g order rows s p) (get_or t.ends p None) (ends_of g old p))
@@ -97,63 +97,33 @@ module _ (g : Graph) (limits : IsWithinLimits g) (order : List ℕ) (topological
 
     -- ---- its times
 
-    thawed : IsThawed g here added.unfrozen before after added.sent → get_or frozen here None ≡ None
-    thawed th = same ∙ ap (λ f. get_or f here None) th.kept ∙ unset
-
-    of_thawed : IsThawed g here added.unfrozen before after added.sent → Tells s (carried_at_send g order rows s here) (get_or t.times here None) added.sent
-    of_thawed th =
+    of_thawed : is_frozen g here ≡ false → after ≡ before → IsSentTree g.faults (share_of g (home g here)) added.goes (ends_of g old (producer g here)) (free_of g old (home g here)) added.sent → Tells s (carried_at_send g order rows s here) (get_or t.times here None) added.sent
+    of_thawed thawed kept slots =
         let share = ap (λ q. share_of g (node_of g q)) by in
         let value = ap (λ h. if item_active g s.values (item_at g here) then slot_from h once.time (get_or t.ends p None) else None) share
-        ∙ send_value g order topological s p l frozen t run k inside once.time once.is (thawed th) small (λ on. ap (active g s.values) (sym by) ∙ acts on) in
-        subst (λ (u : TreeState (Option ℕ)). Tells s (carried_at_send g order rows s here) (get_or t.times here None) u) (sym th.same)
-        (subst (λ (o : Option ℕ). Tells s (carried_at_send g order rows s here) o added.unfrozen) value
-        (send_line g order rows s few here acts says added.goes of_goes at_most th.thawed (share_of g (home g here)) (ends_of g old (producer g here)) (free_of g old (home g here)) added.unfrozen (get_or t.ends p None) once.time added.slots ends_told waits))
+        ∙ send_value g order topological s p l frozen t run k inside once.time once.is (same ∙ ap (λ f. get_or f here None) kept ∙ unset) small (λ on. ap (active g s.values) (sym by) ∙ acts on) in
+        subst (λ (o : Option ℕ). Tells s (carried_at_send g order rows s here) o added.sent) value
+        (send_line g order rows s few here acts says added.goes of_goes at_most thawed (share_of g (home g here)) (ends_of g old (producer g here)) (free_of g old (home g here)) added.sent (get_or t.ends p None) once.time slots ends_told waits)
 
     would : item_active g s.values (item_at g here) ≡ true → WouldHave g order frozen here (unfrozen_time g order s t here)
     would on = record { scenario = s; lawful = law; times = t; run = run; active = on; has = refl }
 
-    of_never : is_frozen g here ≡ true → IsNeverFrozen added.unfrozen before after added.sent → Tells s (carried_at_send g order rows s here) (get_or t.times here None) added.sent
-    of_never e never = elim (cases_Bool (item_active g s.values (item_at g here))) [
-      | inl on ↦ absurd ((settled e).none (same ∙ ap (λ f. get_or f here None) never.kept ∙ unset) (unfrozen_time g order s t here) (would on))
-      | inr off ↦
-          let all : List Literal = carried_at_end g order rows s (producer g here) ++ flat_map (queued g order rows s) (queued_before g order here) in
-          let told = added.slots s few (item_active g s.values (item_at g here)) says (carried_at_end g order rows s (producer g here)) (flat_map (queued g order rows s) (queued_before g order here)) (get_or t.ends p None) once.time of_goes (λ on. (ends_told on, waits)) in
-          let value : (if item_active g s.values (item_at g here) then slot_from (share_of g (home g here)) once.time (get_or t.ends p None) else None) ≡ get_or t.times here None =
-          cond-false _ _ None off ∙ sym (time_is g order frozen s t run here within ∙ cond-false _ _ _ off) in
-          subst (λ (u : TreeState (Option ℕ)). Tells s (carried_at_send g order rows s here) (get_or t.times here None) u) (sym never.same)
-          (agrees_weaker s added.unfrozen (says ++ (if item_active g s.values (item_at g here) then all else [])) (carried_at_send g order rows s here)
-          (λ z. z ≡ (if item_active g s.values (item_at g here) then slot_from (share_of g (home g here)) once.time (get_or t.ends p None) else None)) (λ z. z ≡ get_or t.times here None)
-          (λ m j. of_parts m (Contains-append_cases says (if item_active g s.values (item_at g here) then all else []) m j) off) (λ z f. f ∙ value) told)
+    -- the frozen time is the run's
+    frozen_time : is_frozen g here ≡ true → (latest : Option ℕ) → get_or frozen here None ≡ latest → (if item_active g s.values (item_at g here) then Some (unwrap_or latest 0) else None) ≡ get_or t.times here None
+    frozen_time e (Some time) is = frozen_send_value g order frozen s t run here within time is (λ on. (settled e).greatest time (unfrozen_time g order s t here) is (would on))
+    frozen_time e None is = elim (cases_Bool (item_active g s.values (item_at g here))) [
+      | inl on ↦ absurd ((settled e).none is (unfrozen_time g order s t here) (would on))
+      | inr off ↦ cond-false _ _ _ off ∙ sym (time_is g order frozen s t run here within ∙ cond-false _ _ _ off)
     ]
-      where
-        thawed_says : List Literal
-        thawed_says = flat_map (queued g order rows s) (queued_before g order here) ++ carried_at_end g order rows s (producer g here)
-
-        frozen_says : (m : Literal) → Contains (decided g s (producer g here) ++ sent_by_value g s here) m → Contains (carried_at_send g order rows s here) m
-        frozen_says m j = subst (λ (f : Bool). Contains ((if f then decided g s (producer g here) else thawed_says) ++ sent_by_value g s here) m) (sym e) j
-
-        of_parts : (m : Literal) → Contains says m ⊎ Contains (if item_active g s.values (item_at g here) then carried_at_end g order rows s (producer g here) ++ flat_map (queued g order rows s) (queued_before g order here) else []) m
-            → item_active g s.values (item_at g here) ≡ false → Contains (carried_at_send g order rows s here) m
-        of_parts m (inl j) off = elim (at_most m j) [
-          | inl i ↦ frozen_says m (Contains-append_left (decided g s (producer g here)) (sent_by_value g s here) m i)
-          | inr i ↦ frozen_says m (Contains-append_right (decided g s (producer g here)) (sent_by_value g s here) m i.1)
-        ]
-        of_parts m (inr j) off = absurd (Contains-nil m (subst (λ (b : Bool). Contains (if b then carried_at_end g order rows s (producer g here) ++ flat_map (queued g order rows s) (queued_before g order here) else []) m) off j))
-
-    of_frozen : is_frozen g here ≡ true → IsFrozenAt g urgency here added.unfrozen added.goes before after added.sent → Tells s (carried_at_send g order rows s here) (get_or t.times here None) added.sent
-    of_frozen e at =
-        let is : get_or frozen here None ≡ Some at.time = same ∙ ap (λ f. get_or f here None) at.set ∙ get_or-set_same before here (Some at.time) None long in
-        subst (λ (o : Option ℕ). Tells s (carried_at_send g order rows s here) o added.sent)
-        (frozen_send_value g order frozen s t run here within at.time is (λ on. (settled e).greatest at.time (unfrozen_time g order s t here) is (would on)))
-        (frozen_send_line g order rows s few here says added.goes of_goes at_most e added.sent at.time added.goes_tree at.made)
 
     sends_told : Tells s (carried_at_send g order rows s here) (get_or t.times here None) added.sent
-    sends_told = by added.fixed
+    sends_told = by added.sends
       where
-        by : IsFixed g urgency here added.unfrozen added.goes before after added.sent → Tells s (carried_at_send g order rows s here) (get_or t.times here None) added.sent
-        by (inl th) = of_thawed th
-        by (inr (e, inl never)) = of_never e never
-        by (inr (e, inr at)) = of_frozen e at
+        by : IsSentFor g added.goes here old before after added.sent → Tells s (carried_at_send g order rows s here) (get_or t.times here None) added.sent
+        by (inl th) = of_thawed th.0 th.1 th.2
+        by (inr f) = subst (λ (o : Option ℕ). Tells s (carried_at_send g order rows s here) o added.sent)
+            (frozen_time f.0 f.1.latest (same ∙ ap (λ h. get_or h here None) f.1.frozen.set ∙ set_here before here f.1.latest long unset))
+            (frozen_send_line g order rows s few here says added.goes of_goes at_most f.0 added.sent (unwrap_or f.1.latest 0) added.goes_tree f.1.frozen.made)
 
     times_is : times_of g new here ≡ added.sent
     times_is = ap (λ (f : ForestState). times_of g f here) added.is ∙ get_or-set_same old.times here added.sent (no_tree g.faults) (omega (arith, within, trees.times))

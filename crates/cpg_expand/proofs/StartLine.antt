@@ -31,7 +31,7 @@ use Rattle.cpg_run.specs.Known.{AreSmall}
 use Rattle.cpg_run.specs.Progress.{IsReady}
 use Rattle.cpg_run.proofs.Senders.{many_nodes}
 use Rattle.cpg_tree.specs.Space.{HasFew}
-use Rattle.cpg_tree.specs.Tree.{Path, TreeState, IsOn}
+use Rattle.cpg_tree.specs.Tree.{TreeState}
 use Rattle.cpg_expand.specs.Agreeing.{Tells}
 use Rattle.cpg_expand.specs.Forest.{ForestState, heard_tree, input_tree, heard_delay, input_delay, times_of, ends_of}
 use Rattle.cpg_expand.specs.Guarded.{AreThere, IsStartTree, awaited, start_says, start_at, value_known, values_known, told_of, latest_of}
@@ -54,8 +54,17 @@ idle_awaits inputs (By d) is e j = absurd (off is)
     off e = cc
 
 -- an input from another node is a message
-message_at : (g : Graph) (p e : ℕ) → target g e ≡ p → (node_of g (source g e) ≡ node_of g p → ⊥) → is_message g e ≡ true
+pub message_at : (g : Graph) (p e : ℕ) → target g e ≡ p → (node_of g (source g e) ≡ node_of g p → ⊥) → is_message g e ≡ true
 message_at g p e to other = ap not (ne_eqb (node_of g (source g e)) (node_of g (target g e)) (λ same. other (same ∙ ap (node_of g) to)))
+
+-- a condition of an active process is sent to the other nodes
+pub frame_sent : (g : Graph) (s : Scenario) (p : ℕ) → p < process_count g → ((q : ℕ) → q < process_count g → node_of g q < length g.nodes) → (c : ℕ) → c < condition_count g → active g s.values (process_of g c) ≡ true →
+    (node_of g (process_of g c) == node_of g p) ≡ false → item_active g s.values (item_at g (broadcast_item g c)) ≡ true
+frame_sent g s p l nodes c low acts e = subst (λ x. item_active g s.values x ≡ true) (sym (item_at-broadcast g c)) (and_from (nat_lt 1 (length g.nodes)) (active g s.values (process_of g c))
+    (lt-ltb 1 (length g.nodes) (many_nodes (node_of g (process_of g c)) (node_of g p) (length g.nodes) (nodes (process_of g c) (process_of_below g c low)) (nodes p l) (λ i. apart (sym (eq-eqb (node_of g (process_of g c)) (node_of g p) i) ∙ e)))) acts)
+  where
+    apart : true ≡ false → ⊥
+    apart e = cc
 
 module _ (g : Graph) (limits : IsWithinLimits g) (order : List ℕ) (topological : IsTopological g order) (joins : HasSingleJoins g) (urgency : List ℕ) (is_urgency : IsUrgencyOrder g urgency) (urgent : IsTopological g urgency)
     (rows : List (List Column)) (s : Scenario) (long : length s.values ≡ condition_count g) (few : HasFew g.faults s) (t : Times) (small : AreSmall t) (f : ForestState)
@@ -67,7 +76,7 @@ module _ (g : Graph) (limits : IsWithinLimits g) (order : List ℕ) (topological
       Contains-filter (decides g s.values p) _ c r.1 (Contains-numbers (condition_count g) c (from_along g urgency c r.0).0)
 
   -- what tells when the node hears one of them
-  heard_told : (c : ℕ) → Contains (way guard s.values) c → Tells s (heard_tell g order topological rows s (node_of g p) c) (heard_time g limits t small (node_of g p) c) (heard_tree g f (node_of g p) c)
+  pub heard_told : (c : ℕ) → Contains (way guard s.values) c → Tells s (heard_tell g order topological rows s (node_of g p) c) (heard_time g limits t small (node_of g p) c) (heard_tree g f (node_of g p) c)
   heard_told c j = by (node_of g (process_of g c) == node_of g p) refl
     where
       decides_it : Contains (deciding g s.values p) c
@@ -83,11 +92,7 @@ module _ (g : Graph) (limits : IsWithinLimits g) (order : List ℕ) (topological
       acts = deciding_is_active g urgency is_urgency urgent s.values p c low decided_true
 
       sent_at : (node_of g (process_of g c) == node_of g p) ≡ false → item_active g s.values (item_at g (broadcast_item g c)) ≡ true
-      sent_at e = subst (λ x. item_active g s.values x ≡ true) (sym (item_at-broadcast g c)) (and_from (nat_lt 1 (length g.nodes)) (active g s.values (process_of g c))
-          (lt-ltb 1 (length g.nodes) (many_nodes (node_of g (process_of g c)) (node_of g p) (length g.nodes) (nodes (process_of g c) (process_of_below g c low)) (nodes p l) (λ i. apart (sym (eq-eqb (node_of g (process_of g c)) (node_of g p) i) ∙ e)))) acts)
-        where
-          apart : true ≡ false → ⊥
-          apart e = cc
+      sent_at e = frame_sent g s p l nodes c low acts e
 
       by : (b : Bool) → (node_of g (process_of g c) == node_of g p) ≡ b → Tells s (if b then carried_at_end g order rows s (process_of g c) else told_by rows s (broadcast_item g c)) (if b then get_or t.ends (process_of g c) None else get_or t.times (broadcast_item g c) None)
           (if b then ends_of g f (process_of g c) else times_of g f (broadcast_item g c))
@@ -163,29 +168,6 @@ module _ (g : Graph) (limits : IsWithinLimits g) (order : List ℕ) (topological
         same_node : node_of g (source g e) ≡ node_of g p ⊎ (is_message g e ≡ true) → node_of g (source g e) ≡ node_of g p
         same_node (inl same) = same
         same_node (inr sends) = absurd (untrue (sym sends ∙ own))
-
-    -- the start, whether the process is frozen or not
-    pub start_told : (start : TreeState (Option ℕ)) → IsStartTree g f wait (process_at g p).release (inputs g p) guard start → (x : Path (Option ℕ)) → IsOn start.paths s x →
-        x.1 ≡ (if active g s.values p then Some (max (max waited (process_at g p).release) (greatest (input_bounds g s t p))) else None)
-    start_told start starts x on =
-        (starts s few wait_says waited wait_line (input_tell g order topological rows s) (input_time g limits t small) there (λ e j. let k = live_input e j in input_told e k.0 k.1)).value x on
-        ∙ ap (λ (a : Activation). start_at waited (process_at g p).release (input_delay g) (input_time g limits t small) (inputs g p) a) leads ∙ start_exact g limits order topological joins s long t small p l waited
-
-    -- where the process is inactive no more is told than what decides it
-    pub start_idle : (start : TreeState (Option ℕ)) → IsStartTree g f wait (process_at g p).release (inputs g p) guard start → active g s.values p ≡ false → Tells s (values_known s (way guard s.values)) None start
-    start_idle start starts idle = agrees_weaker s start (values_known s (way guard s.values) ++ start_says wait_says (input_tell g order topological rows s) (inputs g p) (outcome_at guard s.values)) (values_known s (way guard s.values))
-        (λ z. z ≡ start_at waited (process_at g p).release (input_delay g) (input_time g limits t small) (inputs g p) (outcome_at guard s.values)) (λ z. z ≡ None) within
-        (λ z e. e ∙ ap (λ (b : Bool). if b then Some (max (max waited (process_at g p).release) (latest_of (input_delay g) (input_time g limits t small) (awaited (inputs g p) (outcome_at guard s.values)))) else None) off)
-        (starts s few wait_says waited wait_line (input_tell g order topological rows s) (input_time g limits t small) there (λ e j. let k = live_input e j in input_told e k.0 k.1))
-      where
-        off : is_active (outcome_at guard s.values) ≡ false
-        off = ap is_active leads ∙ idle
-
-        within : (x : Literal) → Contains (values_known s (way guard s.values) ++ start_says wait_says (input_tell g order topological rows s) (inputs g p) (outcome_at guard s.values)) x → Contains (values_known s (way guard s.values)) x
-        within x j = elim (Contains-append_cases (values_known s (way guard s.values)) (start_says wait_says (input_tell g order topological rows s) (inputs g p) (outcome_at guard s.values)) x j) [
-          | inl i ↦ i
-          | inr i ↦ absurd (Contains-nil x (subst (λ (b : Bool). Contains (if b then wait_says ++ flat_map (input_tell g order topological rows s) (awaited (inputs g p) (outcome_at guard s.values)) else []) x) off i))
-        ]
 
     -- the line of a start that isn't frozen
     pub start_line : (start : TreeState (Option ℕ)) → IsStartTree g f wait (process_at g p).release (inputs g p) guard start → (process_at g p).frozen ≡ false →

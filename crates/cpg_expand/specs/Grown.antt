@@ -16,6 +16,7 @@ use Rattle.cpg_tree.specs.Tree.{Path, TreeState, IsConstant}
 use Rattle.cpg_expand.specs.Agreeing.{Tells}
 use Rattle.cpg_expand.specs.Forest.{ForestState, HasTrees, times_of, ends_of}
 use Rattle.cpg_expand.specs.Sent.{sent_before, IsFreeOnce}
+use Rattle.cpg_expand.specs.Waited.{IsWaitedFor}
 use Rattle.cpg_expand.specs.Waiting.{ready_of, free_of}
 use Rattle.cpg_expand.specs.declared.forest.Ready.{Ready}
 use Rattle.cpg_expand.specs.declared.forest.Ready.TheVariants.{After, At}
@@ -41,11 +42,12 @@ pub record IsFreeLine (g : Graph) (order : List ℕ) (rows : List (List Column))
   pub is : IsFree g order s t i node time
   pub tells : Tells s (flat_map (queued g order rows s) (sent_before g order i node)) time tree
 
--- in one scenario with its run the trees tell the times and ends before the place i, and what the nodes wait for there
+-- in one scenario with its run the trees tell the times and ends before the place i, and when the nodes that are waited for are ready
+-- there and the slots are free
 pub record Lines (g : Graph) (order : List ℕ) (rows : List (List Column)) (s : Scenario) (t : Times) (i : ℕ) (f : ForestState) : Type 0 where
   pub times : (x : ℕ) → x < item_count g → place order (producer g x) < i → Tells s (carried g order rows s x) (get_or t.times x None) (times_of g f x)
   pub ends : (q : ℕ) → q < process_count g → place order q < i → Tells s (carried_at_end g order rows s q) (get_or t.ends q None) (ends_of g f q)
-  pub ready : (node : ℕ) → node < length g.nodes → IsReadyLine g order rows s t i node (ready_of g f node)
+  pub ready : (node : ℕ) → node < length g.nodes → IsWaitedFor g order i node → IsReadyLine g order rows s t i node (ready_of g f node)
   pub free : (node : ℕ) → node < length g.nodes → IsFreeLine g order rows s t i node (free_of g f node)
 
 -- an item of a process before the place i
@@ -60,7 +62,7 @@ IsDone g order p k x = IsEarlier g order (place order p) x ⊎ ((x ≡ p) ⊎ Co
 pub record SendLines (g : Graph) (order : List ℕ) (rows : List (List Column)) (s : Scenario) (t : Times) (p k : ℕ) (f : ForestState) : Type 0 where
   pub times : (x : ℕ) → x < item_count g → IsDone g order p k x → Tells s (carried g order rows s x) (get_or t.times x None) (times_of g f x)
   pub ends : (q : ℕ) → q < process_count g → place order q < place order p + 1 → Tells s (carried_at_end g order rows s q) (get_or t.ends q None) (ends_of g f q)
-  pub ready : (node : ℕ) → node < length g.nodes → IsReadyLine g order rows s t (place order p + 1) node (ready_of g f node)
+  pub ready : (node : ℕ) → node < length g.nodes → IsWaitedFor g order (place order p + 1) node → IsReadyLine g order rows s t (place order p + 1) node (ready_of g f node)
   pub here : IsFreeOnce g order rows s t p k f
   pub free : (node : ℕ) → node < length g.nodes → node ≢ node_of g p → IsFreeLine g order rows s t (place order p) node (free_of g f node)
 
@@ -89,9 +91,9 @@ pub record IsSending (g : Graph) (order : List ℕ) (p k : ℕ) (frozen : List (
   pub settled : AreSettledOf g order (IsDone g order p k) frozen
   pub lines : (rows : List (List Column)) → RowsHold g order (place order p) f rows → (s : Scenario) → IsScenario g s → (t : Times) → IsRun g order frozen s t → SendLines g order rows s t p k f
 
--- a process whose place is next is gone over: the trees are grown up to the place behind it, under any order
-abbrev pub IsGrownBy : Graph → ℕ → List (Option ℕ) → ForestState → List (Option ℕ) → ForestState → Type 0
-IsGrownBy g p before old after new = (order : List ℕ) → IsTopological g order → IsGrown g order (place order p) before old → IsGrown g order (place order p + 1) after new
+-- a process whose place is next is gone over: the trees are grown up to the place behind it
+abbrev pub IsGrownBy : Graph → List ℕ → ℕ → List (Option ℕ) → ForestState → List (Option ℕ) → ForestState → Type 0
+IsGrownBy g order p before old after new = IsTopological g order → IsGrown g order (place order p) before old → IsGrown g order (place order p + 1) after new
 
 -- a node is ready from the beginning
 abbrev pub IsReadyFirst : ℕ → Ready → Type 0

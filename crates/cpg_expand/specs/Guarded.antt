@@ -1,6 +1,6 @@
 -- Trees down guards.
-use Rattle.std.specs.Prelude.{ℕ, ◌<◌, ◌≤◌, ◌≡◌, max, Bool, false, List, [], ◌∷◌, ◌++◌, Option, Some, None, map, if◌then◌else◌, Contains, get_or}
-use Rattle.std.specs.List.{flat_map}
+use Rattle.std.specs.Prelude.{ℕ, ◌<◌, ◌≤◌, ◌≡◌, ◌==◌, ◌&&◌, max, Bool, false, List, [], ◌∷◌, ◌++◌, Option, Some, None, map, if◌then◌else◌, Contains, get_or}
+use Rattle.std.specs.List.{flat_map, list_any}
 use Rattle.cpg_base.specs.Numbers.{greatest}
 use Rattle.cpg_base.specs.Graph.{Graph, is_message, value_variable}
 use Rattle.cpg_base.specs.Activity.{is_active}
@@ -31,6 +31,14 @@ PicksByValue {T} k c high low t = (s : Scenario) → HasFew k s → (literals : 
 -- where a guard comes to an activation
 abbrev pub IsActiveTree : ℕ → Guard → TreeState Bool → Type 0
 IsActiveTree k guard t = (s : Scenario) → HasFew k s → Tells s (values_known s (way guard s.values)) (is_active (outcome_at guard s.values)) t
+
+-- whether a guard tests a condition on the way to being active
+abbrev pub is_tested : Guard → List Bool → ℕ → Bool
+is_tested guard o c = list_any (λ d. d == c) (way guard o) && is_active (outcome_at guard o)
+
+-- where it does
+abbrev pub IsTestedOn : ℕ → Guard → ℕ → TreeState Bool → Type 0
+IsTestedOn k guard c t = (s : Scenario) → HasFew k s → Tells s (values_known s (way guard s.values)) (is_tested guard s.values c) t
 
 -- what is told of these conditions when their values are heard
 abbrev pub told_of : Scenario → (ℕ → List Literal) → List ℕ → List Literal

@@ -3,10 +3,12 @@ pub mod TreeRows
 pub mod Values
 pub mod Forest
 pub mod Guarded
+pub mod Descent
 pub mod Later
 pub mod Ending
 pub mod Waiting
 pub mod Freezing
+pub mod Latest
 pub mod Sending
 pub mod MadeRows
 pub mod Told
@@ -17,3 +19,4 @@ pub mod Peaks
 pub mod Tops
 pub mod Active
 pub mod Measured
+pub mod Waited

@@ -1,18 +1,23 @@
 //! One process after another.
-ghost use Rattle.std.specs.Prelude.{◌≡◌, ◌<◌, IfOk, length, slice_set};
+ghost use Rattle.std.specs.Prelude.{ℕ, ◌≡◌, ◌<◌, IfOk, List, length, slice_set};
 ghost use Rattle.cpg_base.specs.Graph.{item_count, process_count};
 ghost use Rattle.cpg_bus.specs.Plan.{plan_of};
-ghost use Rattle.cpg_expand.specs.Begun.{IsBegun};
-ghost use Rattle.cpg_expand.specs.Forest.{HasTrees};
+ghost use Rattle.cpg_expand.specs.Begun.{IsBegun, IsBegunFrozen, IsBegunThawed};
+ghost use Rattle.cpg_expand.specs.Agreeing.{IsTree};
+ghost use Rattle.cpg_expand.specs.Ending.{IsEndTree, IsReadyAfter, IsReadyTree, goes_on};
+ghost use Rattle.cpg_expand.specs.Forest.{HasTrees, IsWait, ready_by};
 ghost use Rattle.cpg_expand.specs.Grown.{IsGrownBy};
+ghost use Rattle.cpg_expand.specs.Waited.{IsReadyIfWaited};
 ghost use Rattle.cpg_rules.specs.Guards.{tree_of};
 
 use crate::ending::{end, ready};
 use crate::forest::{Forest, Ready};
 use crate::guarded::active;
+use crate::latest::latest_start;
 use crate::sending::send;
-use crate::starting::{fixed_if, unfrozen_start, wait_for, waiting};
-use cpg_base::OutOfMemory;
+use crate::starting::{freeze, unfrozen_start, wait_for, waiting};
+use crate::waited::is_waited_for;
+use cpg_base::{Order, OutOfMemory, Problem};
 use cpg_bus::Plan;
 use cpg_rules::Admitted;
 use cpg_run::Frozen;
@@ -38,22 +43,51 @@ fn put_begun(
     forest.ready[node as usize] = ready;
 }
 
-/// Adds the start and the end of a process, its frozen time, and when its node goes on after it. Shows where it is active.
-fn begin(
+/// The ends of a process, and when its node goes on after it.
+#[derive(Drop)]
+struct EndAndReady {
+    end: Tree<Option<u64>>,
+    ready: Ready,
+}
+
+/// What follows of the starts of a process.
+fn follow(
+    alloc: Global,
+    problem: &Problem,
+    forest: &Forest,
+    active: &Tree<bool>,
+    start: &Tree<Option<u64>>,
+    wait: &Ready,
+    process: u32,
+) -> Result<EndAndReady, OutOfMemory>
+    requires process { process < process_count problem.now }
+    requires forest { HasTrees problem.now forest.now }
+    requires active { IsTree problem.now active.now }
+    requires start { IsTree problem.now start.now }
+    requires wait { IsWait problem.now wait.now }
+    ensures tree { IfOk result (λ e. IsTree problem.now e.end) }
+    ensures end { IfOk result (λ e. IsEndTree problem.now process start.now e.end) }
+    ensures of { IfOk result (λ e. IsReadyAfter problem.now process e.ready) }
+    ensures ready { IfOk result (λ e. IsReadyTree problem.now.faults active.now e.end (ready_by problem.now forest.now wait.now) (goes_on e.end e.ready)) }
+{
+    let end = end(alloc, problem, start, process)?;
+    let ready = ready(problem, forest, active, &end, wait, process)?;
+    Ok(EndAndReady { end, ready })
+}
+
+/// Adds the start and the end of a process that isn't frozen, and when its node goes on after it. Shows where it is active.
+fn begin_thawed(
     alloc: Global,
     admitted: &Admitted,
     plan: &Plan,
-    frozen: &mut Frozen,
     forest: &mut Forest,
     process: u32,
 ) -> Result<Tree<bool>, OutOfMemory>
     requires plan { plan.now ≡ plan_of admitted.now.graph }
     requires process { process < process_count admitted.now.graph }
-    requires frozen { length frozen.old ≡ item_count admitted.now.graph }
     requires forest { HasTrees admitted.now.graph forest.old }
     ensures trees { IfOk result (λ active. HasTrees admitted.now.graph forest.new) }
-    ensures count { IfOk result (λ active. length frozen.new ≡ item_count admitted.now.graph) }
-    ensures begun { IfOk result (IsBegun admitted.now.graph admitted.now.order process (tree_of admitted.now.guards process) forest.old forest.new frozen.old frozen.new) }
+    ensures begun { IfOk result (λ active. (order : List ℕ) → IsBegunThawed admitted.now.graph order process (tree_of admitted.now.guards process) forest.old forest.new active) }
 {
     let problem = admitted.problem();
     let guard = admitted.guards().guard_of(process);
@@ -62,18 +96,104 @@ fn begin(
     let active = active(alloc, problem, guard)?;
     let heard = waiting(alloc, problem, forest, node, guard)?;
     let wait = wait_for(problem, forest, node, &heard);
-    let unfrozen = unfrozen_start(alloc, problem, forest, wait, inputs, guard, process)?;
-    let start = fixed_if(
-        problem,
-        admitted.order(),
-        frozen,
-        process,
-        &active,
-        unfrozen,
-    )?;
+    let start = unfrozen_start(alloc, problem, forest, wait, inputs, guard, process)?;
+    let next = follow(alloc, problem, forest, &active, &start, wait, process)?;
+    put_begun(forest, process, start, next.end, node, next.ready);
+    Ok(active)
+}
+
+/// When the node of a frozen process goes on after it. Made only where a process waits for that: a tree of all that its guard
+/// tests may be far wider than its row.
+fn ready_after(
+    alloc: Global,
+    admitted: &Admitted,
+    order: &Order,
+    forest: &Forest,
+    active: &Tree<bool>,
+    end: &Tree<Option<u64>>,
+    process: u32,
+) -> Result<Ready, OutOfMemory>
+    requires process { process < process_count admitted.now.graph }
+    requires order { length order.now ≡ process_count admitted.now.graph }
+    requires forest { HasTrees admitted.now.graph forest.now }
+    requires active { IsTree admitted.now.graph active.now }
+    requires end { IsTree admitted.now.graph end.now }
+    ensures of { IfOk result (IsReadyAfter admitted.now.graph process) }
+    ensures ready { IfOk result (λ ready. IsReadyIfWaited admitted.now.graph order.now forest.now process (tree_of admitted.now.guards process) active.now end.now (goes_on end.now ready)) }
+{
+    let problem = admitted.problem();
+    if active.is_true() {
+        return Ok(Ready::After(process));
+    }
+    if !is_waited_for(problem, order, process) {
+        let never = Tree::constant(alloc, 0, problem.faults())?;
+        return Ok(Ready::At(never));
+    }
+    let guard = admitted.guards().guard_of(process);
+    let node = problem.node_of(process);
+    let heard = waiting(alloc, problem, forest, node, guard)?;
+    let wait = wait_for(problem, forest, node, &heard);
+    let ready = ready(problem, forest, active, end, wait, process)?;
+    Ok(ready)
+}
+
+/// Adds the start and the end of a frozen process, its frozen time, and when its node goes on after it. Shows where it is
+/// active.
+fn begin_frozen(
+    alloc: Global,
+    admitted: &Admitted,
+    plan: &Plan,
+    order: &Order,
+    frozen: &mut Frozen,
+    forest: &mut Forest,
+    process: u32,
+) -> Result<Tree<bool>, OutOfMemory>
+    requires plan { plan.now ≡ plan_of admitted.now.graph }
+    requires process { process < process_count admitted.now.graph }
+    requires order { length order.now ≡ process_count admitted.now.graph }
+    requires frozen { length frozen.old ≡ item_count admitted.now.graph }
+    requires forest { HasTrees admitted.now.graph forest.old }
+    ensures trees { IfOk result (λ active. HasTrees admitted.now.graph forest.new) }
+    ensures count { IfOk result (λ active. length frozen.new ≡ item_count admitted.now.graph) }
+    ensures begun { IfOk result (IsBegunFrozen admitted.now.graph order.now process (tree_of admitted.now.guards process) forest.old forest.new frozen.old frozen.new) }
+{
+    let problem = admitted.problem();
+    let guard = admitted.guards().guard_of(process);
+    let node = problem.node_of(process);
+    let inputs = plan.inputs(problem, process);
+    let active = active(alloc, problem, guard)?;
+    let latest = latest_start(alloc, problem, forest, guard, inputs, &active, process)?;
+    let start = freeze(problem, frozen, process, &active, latest)?;
     let end = end(alloc, problem, &start, process)?;
-    let ready = ready(problem, forest, &active, &end, wait, process)?;
+    let ready = ready_after(alloc, admitted, order, forest, &active, &end, process)?;
     put_begun(forest, process, start, end, node, ready);
+    Ok(active)
+}
+
+/// Adds the start and the end of a process, its frozen time, and when its node goes on after it. Shows where it is active.
+fn begin(
+    alloc: Global,
+    admitted: &Admitted,
+    plan: &Plan,
+    order: &Order,
+    frozen: &mut Frozen,
+    forest: &mut Forest,
+    process: u32,
+) -> Result<Tree<bool>, OutOfMemory>
+    requires plan { plan.now ≡ plan_of admitted.now.graph }
+    requires process { process < process_count admitted.now.graph }
+    requires order { length order.now ≡ process_count admitted.now.graph }
+    requires frozen { length frozen.old ≡ item_count admitted.now.graph }
+    requires forest { HasTrees admitted.now.graph forest.old }
+    ensures trees { IfOk result (λ active. HasTrees admitted.now.graph forest.new) }
+    ensures count { IfOk result (λ active. length frozen.new ≡ item_count admitted.now.graph) }
+    ensures begun { IfOk result (IsBegun admitted.now.graph order.now process (tree_of admitted.now.guards process) forest.old forest.new frozen.old frozen.new) }
+{
+    if admitted.problem().is_frozen(process) {
+        let active = begin_frozen(alloc, admitted, plan, order, frozen, forest, process)?;
+        return Ok(active);
+    }
+    let active = begin_thawed(alloc, admitted, plan, forest, process)?;
     Ok(active)
 }
 
@@ -82,20 +202,22 @@ pub(crate) fn step(
     alloc: Global,
     admitted: &Admitted,
     plan: &Plan,
+    order: &Order,
     frozen: &mut Frozen,
     forest: &mut Forest,
     process: u32,
 ) -> Result<(), OutOfMemory>
     requires plan { plan.now ≡ plan_of admitted.now.graph }
     requires process { process < process_count admitted.now.graph }
+    requires order { length order.now ≡ process_count admitted.now.graph }
     requires frozen { length frozen.old ≡ item_count admitted.now.graph }
     requires forest { HasTrees admitted.now.graph forest.old }
     ensures trees { IfOk result (λ u. HasTrees admitted.now.graph forest.new) }
     ensures count { IfOk result (λ u. length frozen.new ≡ item_count admitted.now.graph) }
-    ensures grown { IfOk result (λ u. IsGrownBy admitted.now.graph process frozen.old forest.old frozen.new forest.new) }
+    ensures grown { IfOk result (λ u. IsGrownBy admitted.now.graph order.now process frozen.old forest.old frozen.new forest.new) }
 {
     let _problem = admitted.problem();
-    let active = begin(alloc, admitted, plan, frozen, forest, process)?;
+    let active = begin(alloc, admitted, plan, order, frozen, forest, process)?;
     send(alloc, admitted, plan, frozen, forest, &active, process)?;
     Ok(())
 }

@@ -56,7 +56,7 @@ fn build(
     }
     let times = grown.forest.times.as_slice();
     let rows = rows(alloc, problem, urgency, times)?;
-    let tables = tables_of(alloc, problem, rows.as_slice())?;
+    let tables = tables_of(alloc, problem, rows)?;
     Ok(Some(Built {
         tables,
         frozen: grown.frozen,

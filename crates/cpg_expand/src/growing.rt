@@ -33,7 +33,15 @@ pub(crate) fn grown(
     let mut frozen = Frozen::none(alloc, problem)?;
     let mut forest = Forest::none(alloc, problem)?;
     for process in order.processes() {
-        step(alloc, admitted, &plan, &mut frozen, &mut forest, *process)?;
+        step(
+            alloc,
+            admitted,
+            &plan,
+            order,
+            &mut frozen,
+            &mut forest,
+            *process,
+        )?;
     }
     Ok(GrownForest { frozen, forest })
 }

@@ -1,11 +1,12 @@
 //! Trees down guards.
-ghost use Rattle.std.specs.Prelude.{◌≡◌, ◌<◌, ◌≤◌, All, IfOk, true};
+ghost use Rattle.std.specs.Prelude.{⊤, ◌≡◌, ◌<◌, ◌≤◌, All, IfOk, true};
 ghost use Rattle.cpg_base.specs.Graph.{condition_count, edge_count};
 ghost use Rattle.cpg_expand.specs.Agreeing.{IsTree};
 ghost use Rattle.cpg_expand.specs.Forest.{HasTrees, IsWait, ready_by};
-ghost use Rattle.cpg_expand.specs.Guarded.{IsActiveTree, IsHeardTree, IsStartAfter, IsStartBy, IsStartTree, LeadsBelow, PicksByValue, IsByBelow};
+ghost use Rattle.cpg_expand.specs.Guarded.{IsActiveTree, IsHeardTree, IsStartAfter, IsStartBy, IsStartTree, IsTestedOn, LeadsBelow, PicksByValue, IsByBelow};
 ghost use Rattle.cpg_rules.specs.Trees.{TestsBelow};
 
+use crate::descent::{Descent, tree_down};
 use crate::forest::{Forest, Ready};
 use cpg_base::{Activation, OutOfMemory, Problem};
 use cpg_rules::{GuardTop, GuardTree};
@@ -58,6 +59,74 @@ pub(crate) fn active(
     }
 }
 
+/// Where a guard tests a condition on the way to being active.
+pub(crate) fn tested_on(
+    alloc: Global,
+    problem: &Problem,
+    guard: &GuardTree,
+    wanted: u32,
+) -> Result<Tree<bool>, OutOfMemory>
+    requires few { condition_count problem.now ≤ 32 }
+    requires tests { TestsBelow (condition_count problem.now) guard.now }
+    ensures tree { IfOk result (IsTree problem.now) }
+    ensures tested { IfOk result (IsTestedOn problem.now.faults guard.now wanted) }
+{
+    match guard.top() {
+        GuardTop::Leaf(_) => {
+            let never = Tree::constant(alloc, false, problem.faults())?;
+            Ok(never)
+        }
+        GuardTop::Test { condition, no, yes } => {
+            if condition == wanted {
+                let here = active(alloc, problem, guard)?;
+                return Ok(here);
+            }
+            let no = tested_on(alloc, problem, no, wanted)?;
+            let yes = tested_on(alloc, problem, yes, wanted)?;
+            let picked = by_value(alloc, problem, condition, &yes, &no)?;
+            Ok(picked)
+        }
+    }
+}
+
+/// When a node has heard what a guard tests.
+#[derive(Clone, Copy)]
+struct Hearing<'a> {
+    alloc: Global,
+    problem: &'a Problem,
+    forest: &'a Forest,
+    node: u32,
+}
+
+impl Descent<u64> for Hearing<'_> {
+    ghost begun = { λ h. (condition_count h.problem.now ≤ 32) × HasTrees h.problem.now h.forest.now };
+
+    ghost conditions = { λ h. condition_count h.problem.now };
+
+    ghost may = { λ h a. ⊤ };
+
+    ghost made = { λ h t. IsTree h.problem.now t };
+
+    ghost told = { λ h guard t. IsHeardTree h.problem.now h.forest.now h.node guard t };
+
+    fn leaf(&self, _activation: Activation) -> Result<Tree<u64>, OutOfMemory> {
+        let constant = Tree::constant(self.alloc, 0, self.problem.faults())?;
+        Ok(constant)
+    }
+
+    fn test(
+        &self,
+        condition: u32,
+        no: &Tree<u64>,
+        yes: &Tree<u64>,
+    ) -> Result<Tree<u64>, OutOfMemory> {
+        let further = by_value(self.alloc, self.problem, condition, yes, no)?;
+        let there = self.forest.heard_there(self.problem, self.node, condition)?;
+        let both = there.max(&further)?;
+        Ok(both)
+    }
+}
+
 /// When a node has heard each condition that a guard tests.
 pub(crate) fn heard(
     alloc: Global,
@@ -72,20 +141,14 @@ pub(crate) fn heard(
     ensures tree { IfOk result (IsTree problem.now) }
     ensures heard { IfOk result (IsHeardTree problem.now forest.now node guard.now) }
 {
-    match guard.top() {
-        GuardTop::Leaf(_) => {
-            let constant = Tree::constant(alloc, 0, problem.faults())?;
-            Ok(constant)
-        }
-        GuardTop::Test { condition, no, yes } => {
-            let no = heard(alloc, problem, forest, node, no)?;
-            let yes = heard(alloc, problem, forest, node, yes)?;
-            let further = by_value(alloc, problem, condition, &yes, &no)?;
-            let there = forest.heard_there(problem, node, condition)?;
-            let both = there.max(&further)?;
-            Ok(both)
-        }
-    }
+    let hearing = Hearing {
+        alloc,
+        problem,
+        forest,
+        node,
+    };
+    let heard = tree_down(alloc, &hearing, guard)?;
+    Ok(heard)
 }
 
 /// The starts of a process that waits until its node is ready, its release and for these inputs.
@@ -150,6 +213,50 @@ fn start_by(
     }
 }
 
+/// The starts of a process that waits until its node is ready, its release and for its inputs.
+#[derive(Clone, Copy)]
+struct Starting<'a> {
+    alloc: Global,
+    problem: &'a Problem,
+    forest: &'a Forest,
+    wait: &'a Ready,
+    release: u64,
+    inputs: &'a [u32],
+}
+
+impl Descent<Option<u64>> for Starting<'_> {
+    ghost begun = { λ s. (condition_count s.problem.now ≤ 32) × HasTrees s.problem.now s.forest.now × IsWait s.problem.now s.wait.now × All (λ e. e < edge_count s.problem.now) s.inputs.now };
+
+    ghost conditions = { λ s. condition_count s.problem.now };
+
+    ghost may = { λ s a. IsByBelow (edge_count s.problem.now) a };
+
+    ghost made = { λ s t. IsTree s.problem.now t };
+
+    ghost told = { λ s guard t. IsStartTree s.problem.now s.forest.now (ready_by s.problem.now s.forest.now s.wait.now) s.release s.inputs.now guard t };
+
+    fn leaf(&self, activation: Activation) -> Result<Tree<Option<u64>>, OutOfMemory> {
+        start_by(
+            self.alloc,
+            self.problem,
+            self.forest,
+            self.wait,
+            self.release,
+            self.inputs,
+            activation,
+        )
+    }
+
+    fn test(
+        &self,
+        condition: u32,
+        no: &Tree<Option<u64>>,
+        yes: &Tree<Option<u64>>,
+    ) -> Result<Tree<Option<u64>>, OutOfMemory> {
+        by_value(self.alloc, self.problem, condition, yes, no)
+    }
+}
+
 /// The starts of a process with a guard that waits until its node is ready, its release and for its inputs.
 pub(crate) fn start(
     alloc: Global,
@@ -169,15 +276,14 @@ pub(crate) fn start(
     ensures tree { IfOk result (IsTree problem.now) }
     ensures start { IfOk result (IsStartTree problem.now forest.now (ready_by problem.now forest.now wait.now) release inputs.now guard.now) }
 {
-    match guard.top() {
-        GuardTop::Leaf(activation) => start_by(
-            alloc, problem, forest, wait, release, inputs, activation,
-        ),
-        GuardTop::Test { condition, no, yes } => {
-            let no = start(alloc, problem, forest, wait, release, inputs, no)?;
-            let yes = start(alloc, problem, forest, wait, release, inputs, yes)?;
-            let picked = by_value(alloc, problem, condition, &yes, &no)?;
-            Ok(picked)
-        }
-    }
+    let starting = Starting {
+        alloc,
+        problem,
+        forest,
+        wait,
+        release,
+        inputs,
+    };
+    let start = tree_down(alloc, &starting, guard)?;
+    Ok(start)
 }

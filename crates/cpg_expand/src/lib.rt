@@ -5,17 +5,20 @@
 
 mod activity;
 mod along;
+mod descent;
 mod ending;
 mod expanding;
 mod forest;
 mod growing;
 mod guarded;
+mod latest;
 mod measuring;
 mod rows;
 mod sending;
 mod starting;
 mod tops;
 mod values;
+mod waited;
 
 pub use activity::active_item;
 pub use expanding::{expand, expand_better};

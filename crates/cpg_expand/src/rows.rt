@@ -8,7 +8,7 @@ ghost use Rattle.cpg_expand.specs.TreeRows.{as_column};
 
 use cpg_base::{Order, OutOfMemory, Problem};
 use cpg_cube::{Cube, Entry};
-use cpg_merging::merged;
+use cpg_merging::merged_tidy;
 use cpg_table::Row;
 use cpg_tree::Tree;
 use std::alloc::Global;
@@ -57,7 +57,7 @@ fn start_entries(
     // merging sorts them, so they need no order before
     let listed = tree.listed(problem)?;
     let entries = as_entries(alloc, listed)?;
-    let columns = merged(alloc, problem, urgency, entries)?;
+    let columns = merged_tidy(alloc, problem, urgency, entries)?;
     Ok(columns)
 }
 

@@ -8,11 +8,13 @@ ghost use Rattle.cpg_base.specs.Graph.{condition_count, edge_count, home, is_sen
 ghost use Rattle.cpg_bus.specs.Plan.{plan_of, queue_of};
 ghost use Rattle.cpg_expand.specs.Agreeing.{IsTree};
 ghost use Rattle.cpg_expand.specs.Forest.{HasTrees, ends_of};
-ghost use Rattle.cpg_expand.specs.Sent.{AreItemsAdded, IsItemAdded};
+ghost use Rattle.cpg_expand.specs.Latest.{IsLatestSend};
+ghost use Rattle.cpg_expand.specs.Sent.{AreItemsAdded, IsItemAdded, IsSentFor};
 ghost use Rattle.cpg_expand.specs.Sending.{IsFreeTree, IsGoesTree, IsLiveTree, IsSentTree, IsTestedTree, asked};
 
 use crate::forest::Forest;
-use crate::starting::fixed_if;
+use crate::latest::latest_send;
+use crate::starting::freeze;
 use crate::values::{later, same_as, slots};
 use cpg_base::{Item, OutOfMemory, Problem};
 use cpg_bus::{Plan, Share};
@@ -214,6 +216,59 @@ fn put(forest: &mut Forest, item: u32, times: Tree<Option<u64>>, node: u32, free
     forest.free[node as usize] = free;
 }
 
+/// The latest time at which an item would be sent, its frozen time aside, where it goes.
+fn latest_of(
+    problem: &Problem,
+    plan: &Plan,
+    forest: &Forest,
+    goes: &Tree<bool>,
+    item: u32,
+) -> Result<Option<u64>, OutOfMemory>
+    requires plan { plan.now ≡ plan_of problem.now }
+    requires slots { HasSenderSlots problem.now }
+    requires item { item < item_count problem.now }
+    requires sent { is_sent problem.now item ≡ true }
+    requires forest { HasTrees problem.now forest.now }
+    requires goes { IsTree problem.now goes.now }
+    ensures { IfOk result (IsLatestSend problem.now (share_of problem.now (home problem.now item)) goes.now (ends_of problem.now forest.now (producer problem.now item)) (free_of problem.now forest.now (home problem.now item))) }
+{
+    let node = problem.home(item);
+    let end = &forest.ends[problem.producer(item) as usize];
+    let free = &forest.free[node as usize];
+    let share = plan.share(problem, node);
+    let latest = latest_send(problem, share, goes, end, free)?;
+    Ok(latest)
+}
+
+/// The times of an item that is sent, its frozen time set if it is frozen.
+fn sent_of(
+    alloc: Global,
+    problem: &Problem,
+    plan: &Plan,
+    frozen: &mut Frozen,
+    forest: &Forest,
+    goes: &Tree<bool>,
+    item: u32,
+) -> Result<Tree<Option<u64>>, OutOfMemory>
+    requires plan { plan.now ≡ plan_of problem.now }
+    requires slots { HasSenderSlots problem.now }
+    requires item { item < item_count problem.now }
+    requires sent { is_sent problem.now item ≡ true }
+    requires frozen { length frozen.old ≡ item_count problem.now }
+    requires forest { HasTrees problem.now forest.now }
+    requires goes { IsTree problem.now goes.now }
+    ensures tree { IfOk result (IsTree problem.now) }
+    ensures sent { IfOk result (IsSentFor problem.now goes.now item forest.now frozen.old frozen.new) }
+{
+    if problem.is_frozen(item) {
+        let latest = latest_of(problem, plan, forest, goes, item)?;
+        let sent = freeze(problem, frozen, item, goes, latest)?;
+        return Ok(sent);
+    }
+    let sent = slots_of(alloc, problem, plan, forest, goes, item)?;
+    Ok(sent)
+}
+
 /// Adds the times of an item that a process sends, and when the slots of its node are free then.
 fn add(
     alloc: Global,
@@ -232,12 +287,11 @@ fn add(
     requires active { IsTree admitted.now.graph active.now }
     ensures trees { IfOk result (λ u. HasTrees admitted.now.graph forest.new) }
     ensures count { IfOk result (λ u. length frozen.new ≡ item_count admitted.now.graph) }
-    ensures added { IfOk result (λ u. IsItemAdded admitted.now.graph admitted.now.order active.now item forest.old forest.new frozen.old frozen.new) }
+    ensures added { IfOk result (λ u. IsItemAdded admitted.now.graph active.now item forest.old forest.new frozen.old frozen.new) }
 {
     let problem = admitted.problem();
     let goes = goes(alloc, problem, active, item)?;
-    let unfrozen = slots_of(alloc, problem, plan, forest, &goes, item)?;
-    let sent = fixed_if(problem, admitted.order(), frozen, item, &goes, unfrozen)?;
+    let sent = sent_of(alloc, problem, plan, frozen, forest, &goes, item)?;
     let free = free_then(problem, plan, forest, &goes, &sent, item)?;
     put(forest, item, sent, problem.home(item), free);
     Ok(())
@@ -260,7 +314,7 @@ pub(crate) fn send(
     requires active { IsTree admitted.now.graph active.now }
     ensures trees { IfOk result (λ u. HasTrees admitted.now.graph forest.new) }
     ensures count { IfOk result (λ u. length frozen.new ≡ item_count admitted.now.graph) }
-    ensures added { IfOk result (λ u. AreItemsAdded admitted.now.graph admitted.now.order active.now (queue_of admitted.now.graph process) forest.old forest.new frozen.old frozen.new) }
+    ensures added { IfOk result (λ u. AreItemsAdded admitted.now.graph active.now (queue_of admitted.now.graph process) forest.old forest.new frozen.old frozen.new) }
 {
     for item in plan.queue(admitted.problem(), process) {
         add(alloc, admitted, plan, frozen, forest, active, *item)?;

@@ -1,7 +1,6 @@
 //! Starts of processes.
-ghost use Rattle.std.specs.Prelude.{◌≡◌, ◌<◌, ◌≤◌, All, IfOk, IsPermutation, length};
-ghost use Rattle.cpg_base.specs.Numbers.{numbers_below};
-ghost use Rattle.cpg_expand.specs.Freezing.{IsFixed, IsFrozenBy};
+ghost use Rattle.std.specs.Prelude.{◌≡◌, ◌<◌, ◌≤◌, All, IfOk, length};
+ghost use Rattle.cpg_expand.specs.Freezing.{IsFrozenBy, set_if};
 ghost use Rattle.cpg_base.specs.Graph.{condition_count, edge_count, item_count, process_at, process_count};
 ghost use Rattle.cpg_expand.specs.Agreeing.{IsTree};
 ghost use Rattle.cpg_expand.specs.Forest.{HasTrees, IsWait, ready_by};
@@ -12,7 +11,7 @@ ghost use Rattle.cpg_rules.specs.Trees.{TestsBelow};
 use crate::forest::{Forest, Ready};
 use crate::guarded::{heard, start};
 use crate::values::fixed;
-use cpg_base::{Order, OutOfMemory, Problem};
+use cpg_base::{OutOfMemory, Problem};
 use cpg_rules::{GuardTop, GuardTree};
 use cpg_run::Frozen;
 use cpg_tree::Tree;
@@ -96,53 +95,31 @@ pub(crate) fn unfrozen_start(
     )
 }
 
-/// Sets the greatest time of a tree as the frozen time of an item, and gives the tree of that one time.
-fn freeze(
-    problem: &Problem,
-    urgency: &Order,
-    frozen: &mut Frozen,
-    item: u32,
-    goes: &Tree<bool>,
-    unfrozen: Tree<Option<u64>>,
-) -> Result<Tree<Option<u64>>, OutOfMemory>
-    requires order { IsPermutation (numbers_below (process_count problem.now)) urgency.now }
-    requires item { item < length frozen.old }
-    requires goes { IsTree problem.now goes.now }
-    requires unfrozen { IsTree problem.now unfrozen }
-    ensures tree { IfOk result (IsTree problem.now) }
-    ensures frozen { IfOk result (IsFrozenBy problem.now urgency.now item unfrozen goes.now frozen.old frozen.new) }
+/// Sets the frozen time of an item, if there is one.
+fn set_if(frozen: &mut Frozen, item: u32, latest: Option<u64>)
+    requires { item < length frozen.old }
+    ensures { frozen.new ≡ set_if frozen.old item latest }
 {
-    match unfrozen.greatest(problem, urgency)? {
-        Some(greatest) => {
-            let time = greatest.0;
-            let one = fixed(goes, time)?;
-            frozen.set(item, time);
-            Ok(one)
-        }
-        None => Ok(unfrozen),
+    if let Some(time) = latest {
+        frozen.set(item, time);
     }
 }
 
-/// The times of an item, by what they would be if it weren't frozen. Sets its frozen time, if it is frozen.
-pub(crate) fn fixed_if(
+/// Sets the latest time of an item as its frozen time, if there is one, and gives the tree of that one time.
+pub(crate) fn freeze(
     problem: &Problem,
-    urgency: &Order,
     frozen: &mut Frozen,
     item: u32,
     goes: &Tree<bool>,
-    unfrozen: Tree<Option<u64>>,
+    latest: Option<u64>,
 ) -> Result<Tree<Option<u64>>, OutOfMemory>
-    requires order { IsPermutation (numbers_below (process_count problem.now)) urgency.now }
     requires item { item < item_count problem.now }
     requires places { length frozen.old ≡ item_count problem.now }
     requires goes { IsTree problem.now goes.now }
-    requires unfrozen { IsTree problem.now unfrozen }
     ensures tree { IfOk result (IsTree problem.now) }
-    ensures fixed { IfOk result (IsFixed problem.now urgency.now item unfrozen goes.now frozen.old frozen.new) }
+    ensures frozen { IfOk result (IsFrozenBy item latest goes.now frozen.old frozen.new) }
 {
-    if problem.is_frozen(item) {
-        let one = freeze(problem, urgency, frozen, item, goes, unfrozen)?;
-        return Ok(one);
-    }
-    Ok(unfrozen)
+    let one = fixed(goes, latest.unwrap_or(0))?;
+    set_if(frozen, item, latest);
+    Ok(one)
 }

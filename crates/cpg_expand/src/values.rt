@@ -110,7 +110,7 @@ pub(crate) fn ends(
 }
 
 /// The first slot at the time or later, and 0 where none is asked for.
-fn slot_at(share: Share, time: Option<u64>) -> u64
+pub(crate) fn slot_at(share: Share, time: Option<u64>) -> u64
     ensures { result ≡ slot_at share time }
 {
     let Some(time) = time else {

@@ -48,7 +48,7 @@ fn tables(
 {
     let problem = admitted.problem();
     let rows = rows(alloc, admitted, order, plan, frozen, scenarios, runs)?;
-    let tables = tables_of(alloc, problem, rows.as_slice())?;
+    let tables = tables_of(alloc, problem, rows)?;
     Ok(tables)
 }
 

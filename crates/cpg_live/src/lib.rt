@@ -1,4 +1,4 @@
-//! One node on a stream of records, however the stream is cut.
+//! One node on a stream of records, however the stream is cut, and the lines of what it does.
 #![tactic(auto)]
 
 mod act_lines;

@@ -3,6 +3,7 @@ use Rattle.std.proofs.Common.{ℕ, ◌<◌, ◌≤◌, ◌≡◌, ◌≢◌, ◌
 use Rattle.std.specs.List.{list_any}
 use Rattle.std.proofs.lemmas.Bool.{cases_eq, and_parts, or_parts, not-true, eqb-false}
 use Rattle.std.proofs.lemmas.List.{get_or-take, get_or_default, length-take-le}
+use Rattle.std.proofs.lemmas.List.Folds.{list_any_none}
 use Rattle.std.proofs.lemmas.List.Elements.{All-contains, All-same, All-filter, All-map, All-weaker, Contains-get_or}
 use Rattle.cpg_base.proofs.Lists.{Contains-first, Contains-rest, Contains-filter_parts}
 use Rattle.cpg_base.proofs.Pairs.{AllPairs-map}
@@ -13,6 +14,7 @@ use Rattle.cpg_base.specs.Variable.{top}
 use Rattle.cpg_cube.proofs.Ranges.{IsNarrow, rising_rest, rising_first, low_in-here, high_in-here, high_in-later, high_in-none, range_of_literal, narrow}
 use Rattle.cpg_cube.proofs.CubeLows.{low_in-later, low_in-none}
 use Rattle.cpg_cube.specs.Column.{Column}
+use Rattle.cpg_merging.specs.Merged.{HaveNoWhole}
 use Rattle.cpg_merging.specs.Merging.{shorn, all_shorn, without, raised}
 
 -- where one literal leads two lists with the same ranges, the lists have the same ranges
@@ -50,6 +52,10 @@ module _ (k : ℕ) where
   columns_kept (c ∷ cs) e =
       let parts = or_parts (list_any (is_whole k) c.cube) (list_any (λ d. list_any (is_whole k) d.cube) cs) e in
       ap₂ (λ cube rest. record { time = c.time; cube = cube } ∷ rest) (cube_kept c.cube parts.0) (columns_kept cs parts.1)
+
+  pub tidy_kept : (columns : List Column) → HaveNoWhole k columns → all_shorn k columns ≡ columns
+  tidy_kept columns h = columns_kept columns (list_any_none (λ c. list_any (is_whole k) c.cube) columns
+      (All-weaker (λ c. All (λ l. is_whole k l ≡ false) c.cube) (λ c. list_any (is_whole k) c.cube ≡ false) (λ c all. list_any_none (is_whole k) c.cube all) columns h))
 
   -- a literal of the whole range may be left out
   left_out-low : (l : Literal) (ls : List Literal) (v : ℕ) → IsRising (l ∷ ls) → is_whole k l ≡ true → low_in ls v ≡ low_in (l ∷ ls) v

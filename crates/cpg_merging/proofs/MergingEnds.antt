@@ -1,5 +1,6 @@
 -- From settled columns in order to what merging columns gives.
-use Rattle.std.proofs.Common.{ℕ, ◌<◌, ◌≤◌, ◌≡◌, ◌≢◌, ◌⊎◌, true, false, List, [], ◌∷◌, length, filter, get_or, Contains, IsPermutation, arith, refl, sym, ap, ap₂, ◌∙◌, subst, subst₂, ⊎_elim, inl, inr}
+use Rattle.std.specs.Result.{IfOk}
+use Rattle.std.proofs.Common.{ℕ, ◌<◌, ◌≤◌, ◌≡◌, ◌≢◌, ◌⊎◌, true, false, Result, Ok, Err, List, [], ◌∷◌, length, filter, get_or, Contains, IsPermutation, arith, refl, sym, ap, ap₂, ◌∙◌, subst, subst₂, ⊎_elim, inl, inr}
 use Rattle.std.specs.Prelude.{IsTrue}
 use Rattle.std.proofs.lemmas.Bool.{cases_Bool, cases_eq, cases_lt}
 use Rattle.std.proofs.lemmas.List.{length-map}
@@ -183,3 +184,8 @@ merge_of g few order all entries columns ordered mergeable settled p up =
       merged = is_merged g few order all ordered good single (λ v known c d m n. settled.settled v known c d (back c m) (back d n));
       spoken = is_spoken g few order all ordered good single entries joins;
     }
+
+-- two facts of what is there if all went well
+pub if_ok_both : {T E : Type 0} (r : Result T E) (P Q R : T → Type 0) → ((x : T) → P x → Q x → R x) → IfOk r P → IfOk r Q → IfOk r R
+if_ok_both (Ok x) P Q R h p q = h x p q
+if_ok_both (Err e) P Q R h p q = tt

@@ -8,14 +8,14 @@ use Rattle.std.proofs.lemmas.List.{take_more, take_all, get_or-map, get_or-set_o
 use Rattle.std.proofs.lemmas.List.Sorted.{Contains-permutation, IsPermutation-sym}
 use Rattle.std.proofs.lemmas.List.Sums.{sum_by-cons}
 use Rattle.cpg_base.specs.Graph.{Graph, process_count, IsVariable}
-use Rattle.cpg_base.proofs.Lists.{Contains-first, Contains-rest, Contains-cases, Contains-nil, Contains-map, Contains-map_parts}
+use Rattle.cpg_base.proofs.Lists.{Contains-first, Contains-rest, Contains-cases, Contains-nil, Contains-map}
 use Rattle.cpg_cube.specs.declared.literal.Literal.{Literal}
 use Rattle.cpg_cube.specs.Cube.{IsRising, low_in, high_in}
 use Rattle.cpg_base.specs.Variable.{top}
 use Rattle.cpg_cube.proofs.Ranges.{rising_rest, rising_first}
 use Rattle.cpg_cube.specs.Column.{Column}
 use Rattle.cpg_merging.specs.Merging.{without, TouchAt, IsSettledOn}
-use Rattle.cpg_merging.specs.Totals.{mixed, hash_of, total_of, ended, HasNoPartner, IsMarked, AreMarkedBy, AreMarked}
+use Rattle.cpg_merging.specs.Totals.{mixed, hash_of, total_of, ended, HasNoPartner, IsMarked, AreMarkedBy, AreMarked, place_in}
 use Rattle.cpg_merging.proofs.MergingPairs.{IsGood, low-le-high, high_in-top}
 use Rattle.cpg_merging.proofs.MergingLists.{AreGood}
 use Rattle.cpg_merging.proofs.MergingSettled.{same_without}
@@ -80,8 +80,12 @@ sum_parts f v (m ∷ ms) rising l c e = elim (Contains-cases m ms l c) [
 mod_shift : (x r h i : ℕ) → (x + h) % 2 ^ 64 ≡ (r + h) % 2 ^ 64 → (x + i) % 2 ^ 64 ≡ (r + i) % 2 ^ 64
 mod_shift x r h i e = omega (arith, e)
 
-module _ (g : Graph) (few : process_count g ≤ 128) (v : ℕ) (known : IsVariable g v) where
-  touch_partner : (c d : Column) → IsGood g c.cube → IsGood g d.cube → c.time ≡ d.time → TouchAt g.faults v c.cube d.cube → (totals : List ℕ) → Contains totals (total_of c) → ((l : Literal) → Contains d.cube l → l.variable ≡ v → HasNoPartner totals (total_of d) l) → ⊥
+module _ (g : Graph) (few : process_count g ≤ 128) (asked : Bool) (v : ℕ) (known : IsVariable g v) where
+  abbrev hash : Literal → ℕ
+  hash l = hash_of asked l
+
+  touch_partner : (c d : Column) → IsGood g c.cube → IsGood g d.cube → c.time ≡ d.time → TouchAt g.faults v c.cube d.cube → (totals : List ℕ) → Contains totals (total_of asked c)
+      → ((l : Literal) → Contains d.cube l → l.variable ≡ v → HasNoPartner asked totals (total_of asked d) l) → ⊥
   touch_partner c d good_c good_d same touch totals there none =
       let k = g.faults in
       let next : high_in k c.cube v + 1 ≡ low_in d.cube v = touch.next in
@@ -90,36 +94,39 @@ module _ (g : Graph) (few : process_count g ≤ 128) (v : ℕ) (known : IsVariab
       let high_d = high_in-top k d.cube (λ i e l. (good_d.narrow i e l).1) v in
       let lc : Contains c.cube (of_range k c.cube v) = spoken k c.cube v (inr (omega (arith, next, low_d, high_d))) in
       let ld : Contains d.cube (of_range k d.cube v) = spoken k d.cube v (inl (omega (arith, next))) in
-      let rest : ℕ = mixed 0 d.time + sum_by hash_of (without v d.cube) in
-      let sum_c : mixed 0 c.time + sum_by hash_of c.cube ≡ rest + hash_of (of_range k c.cube v) =
-      add_parts (mixed 0 c.time) (sum_by hash_of c.cube) (mixed 0 d.time) (sum_by hash_of (without v d.cube)) (hash_of (of_range k c.cube v)) (ap (mixed 0) same)
-      (sum_parts hash_of v c.cube good_c.cube.rising (of_range k c.cube v) lc refl ∙ ap (λ ls. sum_by hash_of ls + hash_of (of_range k c.cube v)) (same_without g few v known c.cube d.cube good_c good_d touch.others)) in
-      let sum_d : mixed 0 d.time + sum_by hash_of d.cube ≡ rest + hash_of (of_range k d.cube v) =
-      add_parts (mixed 0 d.time) (sum_by hash_of d.cube) (mixed 0 d.time) (sum_by hash_of (without v d.cube)) (hash_of (of_range k d.cube v)) refl
-      (sum_parts hash_of v d.cube good_d.cube.rising (of_range k d.cube v) ld refl) in
+      let rest : ℕ = mixed 0 d.time + sum_by hash (without v d.cube) in
+      let sum_c : mixed 0 c.time + sum_by hash c.cube ≡ rest + hash (of_range k c.cube v) =
+      add_parts (mixed 0 c.time) (sum_by hash c.cube) (mixed 0 d.time) (sum_by hash (without v d.cube)) (hash (of_range k c.cube v)) (ap (mixed 0) same)
+      (sum_parts hash v c.cube good_c.cube.rising (of_range k c.cube v) lc refl ∙ ap (λ ls. sum_by hash ls + hash (of_range k c.cube v)) (same_without g few v known c.cube d.cube good_c good_d touch.others)) in
+      let sum_d : mixed 0 d.time + sum_by hash d.cube ≡ rest + hash (of_range k d.cube v) =
+      add_parts (mixed 0 d.time) (sum_by hash d.cube) (mixed 0 d.time) (sum_by hash (without v d.cube)) (hash (of_range k d.cube v)) refl
+      (sum_parts hash v d.cube good_d.cube.rising (of_range k d.cube v) ld refl) in
       let high : high_in k c.cube v ≡ low_in d.cube v - 1 = omega (arith, next) in
       let end : of_range k c.cube v ≡ ended (of_range k d.cube v) (low_in c.cube v) = ap (λ (n : ℕ). record { variable = v; low = low_in c.cube v; high = n }) high in
       none (of_range k d.cube v) ld refl (low_in c.cube v) rest (omega (arith, low_c, next)) (ap (λ n. n % 2 ^ 64) (sym sum_d))
-      (subst (Contains totals) (ap (λ n. n % 2 ^ 64) sum_c ∙ ap (λ (l : Literal). (rest + hash_of l) % 2 ^ 64) end) there)
+      (subst (Contains totals) (ap (λ n. n % 2 ^ 64) sum_c ∙ ap (λ (l : Literal). (rest + hash l) % 2 ^ 64) end) there)
     where
       add_parts : (s t r w h : ℕ) → s ≡ r → t ≡ w + h → s + t ≡ r + w + h
       add_parts s t r w h e f = omega (arith, e, f)
 
   -- so columns don't touch at a variable that isn't marked
-  pub settled_unmarked : (xs : List Column) → AreGood g xs → (marks : List Bool) → AreMarked marks xs → ¬ IsMarked marks v → IsSettledOn g.faults v xs
+  settled_unmarked : (xs : List Column) → AreGood g xs → (marks : List Bool) → AreMarkedBy asked (map (total_of asked) xs) marks xs → ¬ IsMarked marks v → IsSettledOn g.faults v xs
   settled_unmarked xs good marks all off c d m n e t = touch_partner c d (All-contains (λ (x : Column). IsGood g x.cube) xs c good m) (All-contains (λ (x : Column). IsGood g x.cube) xs d good n) e t
-      (map total_of xs) (Contains-map total_of xs c m) (λ l j i. all d l n j (λ on. off (subst (IsMarked marks) i on)))
+      (map (total_of asked) xs) (Contains-map (total_of asked) xs c m) (λ l j i. all d l n j (λ on. off (subst (IsMarked marks) i on)))
+
+-- marks by either sums tell where no two columns touch
+pub marked_by : (g : Graph) → process_count g ≤ 128 → (asked : Bool) (xs : List Column) → AreGood g xs → (marks : List Bool) → AreMarkedBy asked (map (total_of asked) xs) marks xs → AreMarked g marks xs
+marked_by g few asked xs good marks all v known off = settled_unmarked g few asked v known xs good marks all off
 
 -- marks by the sums are marks by the same sums sorted
-pub marked_sorted : (columns : List Column) (marks : List Bool) (sorted : List ℕ) → IsPermutation (map total_of columns) sorted → AreMarkedBy sorted marks columns → AreMarked marks columns
-marked_sorted columns marks sorted p h = λ d l m n off low rest less is there. h d l m n off low rest less is (Contains-permutation (map total_of columns) sorted _ p there)
+pub marked_sorted : (asked : Bool) (columns : List Column) (marks : List Bool) (sorted : List ℕ) → IsPermutation (map (total_of asked) columns) sorted → AreMarkedBy asked sorted marks columns
+    → AreMarkedBy asked (map (total_of asked) columns) marks columns
+marked_sorted asked columns marks sorted p h = λ d l m n off low rest less is there. h d l m n off low rest less is (Contains-permutation (map (total_of asked) columns) sorted _ p there)
 
 -- and columns have the marks that they have in another order
-pub marked_permuted : (xs ys : List Column) (marks : List Bool) → IsPermutation xs ys → AreMarked marks xs → AreMarked marks ys
-marked_permuted xs ys marks p h = λ d l m n off low rest less is there.
-    let r = Contains-map_parts total_of ys ((rest + hash_of (ended l low)) % 2 ^ 64) there in
-    let back = IsPermutation-sym xs ys p in
-    h d l (Contains-permutation ys xs d back m) n off low rest less is (subst (Contains (map total_of xs)) r.2 (Contains-map total_of xs r.0 (Contains-permutation ys xs r.0 back r.1)))
+pub marked_permuted : (g : Graph) (xs ys : List Column) (marks : List Bool) → IsPermutation xs ys → AreMarked g marks xs → AreMarked g marks ys
+marked_permuted g xs ys marks p h = λ v known off c d m n. let back = IsPermutation-sym xs ys p in
+    h v known off c d (Contains-permutation ys xs c back m) (Contains-permutation ys xs d back n)
 
 -- what is taken from a sum leaves one rest, up to whole rounds
 pub one_rest : (x r h i : ℕ) → (x + h) % 2 ^ 64 ≡ (r + h) % 2 ^ 64 → (x + i) % 2 ^ 64 ≡ (r + i) % 2 ^ 64
@@ -141,6 +148,21 @@ all_more P xs i d within before here m c = elim (Contains-push_cases (take i xs)
 pub all_of : {X : Type 0} (P : X → Type 0) (xs : List X) (i : ℕ) → length xs ≤ i → ((m : X) → Contains (take i xs) m → P m) → (m : X) → Contains xs m → P m
 all_of P xs i long before m c = before m (subst (λ ys. Contains ys m) (sym (take_all i xs long)) c)
 
+-- a mark more in a sieve
+pub sieve_more : (sieve : List Bool) (count place : ℕ) (numbers : List ℕ) (i d : ℕ) → i < length numbers → length sieve ≡ count → place ≡ place_in count (get_or numbers i d) → place < count
+    → ((n : ℕ) → Contains (take i numbers) n → IsMarked sieve (place_in count n)) → (n : ℕ) → Contains (take (i + 1) numbers) n → IsMarked (slice_set sieve place true) (place_in count n)
+sieve_more sieve count place numbers i d within long is inside before n c = all_more (λ (m : ℕ). IsMarked (slice_set sieve place true) (place_in count m)) numbers i d within
+    (λ m h. kept (place_in count m) (before m h)) (subst (IsMarked (slice_set sieve place true)) is here) n c
+  where
+    here : IsMarked (slice_set sieve place true) place
+    here = get_or-set_same sieve place true false (omega (arith, inside, long))
+
+    kept : (q : ℕ) → IsMarked sieve q → IsMarked (slice_set sieve place true) q
+    kept q on = elim (cases_eq q place) [
+      | inl e ↦ subst (IsMarked (slice_set sieve place true)) (sym e) here
+      | inr n ↦ get_or-set_other sieve place q true false n ∙ on
+    ]
+
 -- ---- marks of variables
 
 -- a mark set where there was none leaves the others
@@ -156,5 +178,5 @@ mark_off marks place true within off = absurd (off (get_or-set_same marks place 
 mark_off marks place false within off = refl
 
 -- the sum at a place is that of the column there
-pub total_at : (columns : List Column) (totals : List ℕ) (place : ℕ) (d : Column) (n : ℕ) → totals ≡ map total_of columns → place < length columns → get_or columns place d ≡ d → get_or totals place n ≡ total_of d
-total_at columns totals place d n e within is = ap (λ (ns : List ℕ). get_or ns place n) e ∙ get_or-map total_of columns place d n within ∙ ap total_of is
+pub total_at : (asked : Bool) (columns : List Column) (totals : List ℕ) (place : ℕ) (d : Column) (n : ℕ) → totals ≡ map (total_of asked) columns → place < length columns → get_or columns place d ≡ d → get_or totals place n ≡ total_of asked d
+total_at asked columns totals place d n e within is = ap (λ (ns : List ℕ). get_or ns place n) e ∙ get_or-map (total_of asked) columns place d n within ∙ ap (total_of asked) is

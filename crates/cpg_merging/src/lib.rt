@@ -6,4 +6,4 @@ mod marks;
 mod merging;
 mod totals;
 
-pub use merging::merged;
+pub use merging::{merged, merged_tidy};

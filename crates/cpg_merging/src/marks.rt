@@ -1,10 +1,11 @@
 //! Marks of the variables at which any two columns of a row may touch.
 ghost use Rattle.std.specs.Prelude.{ℕ, ◌≡◌, Contains, IfOk, map};
 ghost use Rattle.cpg_cube.specs.declared.literal.Literal.{Literal};
-ghost use Rattle.cpg_merging.specs.Totals.{AreMarked, AreMarkedBy, DoNotFall, HasNoPartner, IsMarked, total_of};
+ghost use Rattle.cpg_merging.specs.Totals.{AreMarked, AreMarkedBy, AreSums, HasNoPartner, IsMarked, total_of};
+ghost use Rattle.cpg_merging.specs.Merging.{IsShorn};
 
-use crate::totals::{has_partner, totals};
-use cpg_base::OutOfMemory;
+use crate::totals::{Sums, has_partner, sieve_of, totals};
+use cpg_base::{OutOfMemory, Problem};
 use cpg_cube::{Entry, Literal};
 use std::alloc::Global;
 
@@ -12,10 +13,10 @@ use std::alloc::Global;
 const VARIABLES: usize = 256;
 
 /// Marks the variable of a literal if a column with this sum may follow another at it.
-fn mark_at(sorted: &[u64], total: u64, literal: Literal, marks: &mut [bool; VARIABLES])
-    requires { DoNotFall sorted.now }
+fn mark_at(sums: Sums<'_>, total: u64, literal: Literal, marks: &mut [bool; VARIABLES])
+    requires { AreSums sums.sorted.now sums.sieve.now }
     ensures kept { (v : ℕ) → IsMarked marks.old v → IsMarked marks.new v }
-    ensures marked { ¬ IsMarked marks.new literal.variable → HasNoPartner sorted.now total literal }
+    ensures marked { ¬ IsMarked marks.new literal.variable → HasNoPartner sums.entry.asked sums.entry.sorted.now total literal }
 {
     // as most literals begin at 0, which nothing comes before
     if literal.low == 0 {
@@ -25,42 +26,71 @@ fn mark_at(sorted: &[u64], total: u64, literal: Literal, marks: &mut [bool; VARI
     if marks[place] {
         return;
     }
-    marks[place] = has_partner(sorted, total, literal);
+    marks[place] = has_partner(sums, total, literal);
 }
 
 /// Marks the variables of literals at which a column with this sum may follow another.
-fn mark(sorted: &[u64], total: u64, literals: &[Literal], marks: &mut [bool; VARIABLES])
-    requires { DoNotFall sorted.now }
+fn mark(sums: Sums<'_>, total: u64, literals: &[Literal], marks: &mut [bool; VARIABLES])
+    requires { AreSums sums.sorted.now sums.sieve.now }
     ensures kept { (v : ℕ) → IsMarked marks.old v → IsMarked marks.new v }
-    ensures marked { (l : Literal) → Contains literals.now l → ¬ IsMarked marks.new l.variable → HasNoPartner sorted.now total l }
+    ensures marked { (l : Literal) → Contains literals.now l → ¬ IsMarked marks.new l.variable → HasNoPartner sums.entry.asked sums.entry.sorted.now total l }
 {
     for literal in literals {
-        mark_at(sorted, total, *literal, marks);
+        mark_at(sums, total, *literal, marks);
     }
 }
 
 /// The variables at which some column may follow one with a sum among these, marked by number.
-fn marks_by(sorted: &[u64], totals: &[u64], columns: &[Entry]) -> [bool; VARIABLES]
-    requires sorted { DoNotFall sorted.now }
-    requires totals { totals.now ≡ map total_of columns.now }
-    ensures { AreMarkedBy sorted.now result columns.now }
+fn marks_by(sums: Sums<'_>, totals: &[u64], columns: &[Entry]) -> [bool; VARIABLES]
+    requires sums { AreSums sums.sorted.now sums.sieve.now }
+    requires totals { totals.now ≡ map (total_of sums.asked) columns.now }
+    ensures { AreMarkedBy sums.entry.asked sums.entry.sorted.now result columns.now }
 {
     let mut marks = [false; VARIABLES];
     for (place, column) in columns.iter().enumerate() {
-        mark(sorted, totals[place], column.cube.literals(), &mut marks);
+        mark(sums, totals[place], column.cube.literals(), &mut marks);
     }
     marks
 }
 
-/// The variables at which some column may follow another, marked by number.
-fn marks_of(alloc: Global, columns: &[Entry]) -> Result<[bool; VARIABLES], OutOfMemory>
-    ensures { IfOk result (λ marks. AreMarked marks columns.now) }
+/// The variables at which some column may follow another by the sums of what is asked above 0, or of all, marked by number.
+fn marks_over(
+    alloc: Global,
+    asked: bool,
+    columns: &[Entry],
+) -> Result<[bool; VARIABLES], OutOfMemory>
+    ensures { IfOk result (λ marks. AreMarkedBy asked (map (total_of asked) columns.now) marks columns.now) }
 {
-    let totals = totals(alloc, columns)?;
+    let totals = totals(alloc, asked, columns)?;
     let mut sorted = Vec::new(alloc);
     sorted.extend_from_slice(totals.as_slice())?;
     sorted.sort_unstable();
-    Ok(marks_by(sorted.as_slice(), totals.as_slice(), columns))
+    let sieve = sieve_of(alloc, sorted.as_slice())?;
+    let sums = Sums {
+        asked,
+        sorted: sorted.as_slice(),
+        sieve: sieve.as_slice(),
+    };
+    Ok(marks_by(sums, totals.as_slice(), columns))
+}
+
+/// The variables at which some column may follow another, marked by number.
+fn marks_of(
+    alloc: Global,
+    problem: &Problem,
+    columns: &[Entry],
+) -> Result<[bool; VARIABLES], OutOfMemory>
+    requires { IsShorn problem.now columns.now }
+    ensures { IfOk result (λ marks. AreMarked problem.now marks columns.now) }
+{
+    let _processes = problem.processes();
+    // few literals ask for more than 0, and mostly these tell already that no two columns touch
+    let marks = marks_over(alloc, true, columns)?;
+    if !marks.contains(&true) {
+        return Ok(marks);
+    }
+    let marks = marks_over(alloc, false, columns)?;
+    Ok(marks)
 }
 
 /// Columns, and the variables at which any two of them may touch.
@@ -73,11 +103,16 @@ pub(crate) struct Marked {
 
 impl Marked {
     /// The columns with their marks.
-    pub(crate) fn of(alloc: Global, columns: Vec<Entry>) -> Result<Marked, OutOfMemory>
+    pub(crate) fn of(
+        alloc: Global,
+        problem: &Problem,
+        columns: Vec<Entry>,
+    ) -> Result<Marked, OutOfMemory>
+        requires { IsShorn problem.now columns.items }
         ensures columns { IfOk result (λ marked. marked.columns ≡ columns) }
-        ensures marks { IfOk result (λ marked. AreMarked marked.marks marked.columns.items) }
+        ensures marks { IfOk result (λ marked. AreMarked problem.now marked.marks marked.columns.items) }
     {
-        let marks = marks_of(alloc, columns.as_slice())?;
+        let marks = marks_of(alloc, problem, columns.as_slice())?;
         Ok(Marked { columns, marks })
     }
 }

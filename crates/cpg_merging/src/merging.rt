@@ -2,7 +2,7 @@
 ghost use Rattle.std.specs.Prelude.{ℕ, ◌≡◌, ◌<◌, ◌≤◌, IfOk, IsPermutation};
 ghost use Rattle.cpg_base.specs.Numbers.{numbers_below};
 ghost use Rattle.cpg_base.specs.Graph.{IsVariable, process_count};
-ghost use Rattle.cpg_merging.specs.Merged.{AreMergeable, IsMergeOf};
+ghost use Rattle.cpg_merging.specs.Merged.{AreMergeable, HaveNoWhole, IsMergeOf};
 ghost use Rattle.cpg_merging.specs.Merging.{IsShorn, IsPassed, IsBetween, AreSettled};
 ghost use Rattle.cpg_merging.specs.Totals.{AreMarked};
 
@@ -38,10 +38,10 @@ fn joined_at(
     marked: Marked,
 ) -> Result<Marked, OutOfMemory>
     requires shorn { IsShorn problem.now marked.columns.items }
-    requires marked { AreMarked marked.marks marked.columns.items }
+    requires marked { AreMarked problem.now marked.marks marked.columns.items }
     requires known { IsVariable problem.now variable }
     ensures passed { IfOk result (λ r. IsPassed problem.now (λ v. v ≡ variable) marked.columns.items r.columns.items) }
-    ensures marked { IfOk result (λ r. AreMarked r.marks r.columns.items) }
+    ensures marked { IfOk result (λ r. AreMarked problem.now r.marks r.columns.items) }
 {
     let _processes = problem.processes();
     if !marked.marks[variable as usize] {
@@ -53,7 +53,7 @@ fn joined_at(
     if columns.len() == before {
         return Ok(Marked { columns, marks });
     }
-    Marked::of(alloc, columns)
+    Marked::of(alloc, problem, columns)
 }
 
 /// Joins columns where they touch at one of the variables from `first` up to `end`, which it leaves out.
@@ -65,10 +65,10 @@ fn joined_over(
     marked: Marked,
 ) -> Result<Marked, OutOfMemory>
     requires shorn { IsShorn problem.now marked.columns.items }
-    requires marked { AreMarked marked.marks marked.columns.items }
+    requires marked { AreMarked problem.now marked.marks marked.columns.items }
     requires known { (v : ℕ) → first ≤ v → v < end → IsVariable problem.now v }
     ensures passed { IfOk result (λ r. IsPassed problem.now (IsBetween first end) marked.columns.items r.columns.items) }
-    ensures marked { IfOk result (λ r. AreMarked r.marks r.columns.items) }
+    ensures marked { IfOk result (λ r. AreMarked problem.now r.marks r.columns.items) }
 {
     let mut marked = marked;
     for variable in first..end {
@@ -80,9 +80,9 @@ fn joined_over(
 /// Joins columns where they touch at any variable.
 fn joined_once(alloc: Global, problem: &Problem, marked: Marked) -> Result<Marked, OutOfMemory>
     requires shorn { IsShorn problem.now marked.columns.items }
-    requires marked { AreMarked marked.marks marked.columns.items }
+    requires marked { AreMarked problem.now marked.marks marked.columns.items }
     ensures passed { IfOk result (λ r. IsPassed problem.now (IsVariable problem.now) marked.columns.items r.columns.items) }
-    ensures marked { IfOk result (λ r. AreMarked r.marks r.columns.items) }
+    ensures marked { IfOk result (λ r. AreMarked problem.now r.marks r.columns.items) }
 {
     let processes = problem.processes().len() as u8;
     let marked = joined_over(alloc, problem, 0, processes, marked)?;
@@ -95,7 +95,7 @@ fn settled(alloc: Global, problem: &Problem, columns: Vec<Entry>) -> Result<Vec<
     requires { IsShorn problem.now columns.items }
     ensures { IfOk result (λ r. AreSettled problem.now columns.items r.items) }
 {
-    let mut marked = Marked::of(alloc, columns)?;
+    let mut marked = Marked::of(alloc, problem, columns)?;
     loop {
         let before = marked.columns.len();
         marked = joined_once(alloc, problem, marked)?;
@@ -124,5 +124,22 @@ pub fn merged(
 {
     let columns = shorn_columns(alloc, problem.faults(), entries)?;
     let columns = settled(alloc, problem, columns)?;
+    by_least_scenario(alloc, problem, order, columns)
+}
+
+/// What `merged` answers, of entries of which no literal has the whole range of its variable.
+pub fn merged_tidy(
+    alloc: Global,
+    problem: &Problem,
+    order: &Order,
+    entries: Vec<Entry>,
+) -> Result<Vec<Entry>, OutOfMemory>
+    requires order { IsPermutation (numbers_below (process_count problem.now)) order.now }
+    requires entries { AreMergeable problem.now entries.items }
+    requires tidy { HaveNoWhole problem.now.faults entries.items }
+    ensures { IfOk result (λ r. IsMergeOf problem.now order.now entries.items r.items) }
+{
+    let _processes = problem.processes();
+    let columns = settled(alloc, problem, entries)?;
     by_least_scenario(alloc, problem, order, columns)
 }

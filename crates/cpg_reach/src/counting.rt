@@ -95,6 +95,23 @@ fn free_counts(admitted: &Admitted, reached: &Variables, scenario: &Scenario) ->
     counts
 }
 
+/// How many views an outcome has: without faults it is one itself.
+fn views_of_outcome(
+    admitted: &Admitted,
+    ways: &[u64],
+    reached: &Variables,
+    scenario: &Scenario,
+) -> u64
+    requires ways { AreWays admitted.now.graph.faults ways.now }
+    requires values { length scenario.now.values ≡ condition_count admitted.now.graph }
+    ensures { result ≡ views_of_outcome admitted.now.graph reached.now scenario.now.values }
+{
+    if admitted.problem().faults() == 0 {
+        return 1;
+    }
+    ways[free_counts(admitted, reached, scenario)]
+}
+
 /// How many views there are with the values so far, where the conditions are still to choose; `most` where there are more.
 fn views_from(
     admitted: &Admitted,
@@ -111,7 +128,7 @@ fn views_from(
     ensures same { scenario.new ≡ scenario.old }
 {
     let Some((condition, left)) = conditions.split_first() else {
-        return ways[free_counts(admitted, reached, scenario)].min(most);
+        return views_of_outcome(admitted, ways, reached, scenario).min(most);
     };
     let first = views_from(admitted, ways, reached, left, scenario, most);
     if first == most {

@@ -1,4 +1,4 @@
-//! Reading of graph files.
+//! Graph files: reading and writing.
 #![tactic(auto)]
 
 mod building;

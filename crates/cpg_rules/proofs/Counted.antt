@@ -21,7 +21,7 @@ use Rattle.cpg_rules.specs.Growing.{activation_in, settled, choice, if_both, tra
 use Rattle.cpg_rules.specs.Way.{Follows, AreSettled}
 use Rattle.cpg_rules.proofs.Along.{rest_first, rest_more}
 use Rattle.cpg_rules.proofs.Standings.{activation_here, follows_on, settled_next}
-use Rattle.cpg_rules.proofs.Grown.{none_settled, all_follow}
+use Rattle.cpg_rules.proofs.Start.{none_settled, all_follow}
 
 module _ (g : Graph) (order : List ℕ) (topological : IsTopological g order) (few : process_count g ≤ 128) where
   -- an outcome on the way: the conditions that are left are false

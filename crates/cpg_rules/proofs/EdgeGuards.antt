@@ -47,23 +47,24 @@ module _ (g : Graph) (order : List ℕ) (topological : IsTopological g order) wh
       below (Some c) None f = tt
       below (Some c) (Some v) f = f c refl
 
+  -- a test passes where the edge takes the value
+  pub passed : (values : List Bool) (e : ℕ) → e < edge_count g → (x : Option ℕ) → condition_of g (source g e) ≡ x → (w : Option Bool) → (edge_at g e).when ≡ w → is_passed (test_of x w) values ≡ takes w (value_of g values (source g e))
+  passed values e h None is None when = refl
+  passed values e h (Some c) is None when = refl
+  passed values e h None is (Some v) when =
+      let d = condition_of_edge g e v h (source_in_order g order topological e h) when in
+      let there : condition_of g (source g e) ≡ Some d.0 = subst (λ q. condition_of g q ≡ Some d.0) d.2 (condition_of_process_of g d.0 d.1) in
+      let never : None ≡ Some d.0 = sym is ∙ there in cc
+  passed values e h (Some c) is (Some v) when = ap (λ x. same_bool v (get_or values (unwrap_or x 0) false)) (sym is)
+
   module _ (guards : Guards) (are : AreGuardsOf g order guards) (values : List Bool) (long : length values ≡ condition_count g) where
     pub active_by-is : (p : ℕ) → p < process_count g → active_by guards values p ≡ active g values p
     active_by-is p h = ap is_active ((are.trees p h).is values long)
 
-    passed : (e : ℕ) → e < edge_count g → (x : Option ℕ) → condition_of g (source g e) ≡ x → (w : Option Bool) → (edge_at g e).when ≡ w → is_passed (test_of x w) values ≡ takes w (value_of g values (source g e))
-    passed e h None is None when = refl
-    passed e h (Some c) is None when = refl
-    passed e h None is (Some v) when =
-        let d = condition_of_edge g e v h (source_in_order g order topological e h) when in
-        let there : condition_of g (source g e) ≡ Some d.0 = subst (λ q. condition_of g q ≡ Some d.0) d.2 (condition_of_process_of g d.0 d.1) in
-        let never : None ≡ Some d.0 = sym is ∙ there in cc
-    passed e h (Some c) is (Some v) when = ap (λ x. same_bool v (get_or values (unwrap_or x 0) false)) (sym is)
-
     pub live_by-is : (e : ℕ) → e < edge_count g → live_by guards values e ≡ live g values e
     live_by-is e h =
         ap (λ x. active_by guards values x.source && is_passed x.test values) (ap (λ xs. get_or xs e (record { source = 0; test = None })) are.edges ∙ get_or-map-below (edge_guard_of g) (edge_count g) e (record { source = 0; test = None }) h)
-        ∙ ap₂ ◌&&◌ (active_by-is (source g e) (source_in_order g order topological e h)) (passed e h (condition_of g (source g e)) refl (edge_at g e).when refl)
+        ∙ ap₂ ◌&&◌ (active_by-is (source g e) (source_in_order g order topological e h)) (passed values e h (condition_of g (source g e)) refl (edge_at g e).when refl)
 
 pub length-edges : (g : Graph) (order : List ℕ) (guards : Guards) → AreGuardsOf g order guards → length guards.edges ≡ edge_count g
 length-edges g order guards are = ap length are.edges ∙ length-map (numbers_below (edge_count g)) (edge_guard_of g) ∙ length-range_with_len 0 (edge_count g)

@@ -26,7 +26,7 @@ use Rattle.cpg_rules.specs.Way.{Follows, AreSettled}
 use Rattle.cpg_rules.specs.Alternatives.{has_two_live, are_two_live, first_some, if_other, found_from, is_set, scenario_of}
 use Rattle.cpg_rules.proofs.Along.{rest_first, rest_more, rest_none, in_take}
 use Rattle.cpg_rules.proofs.Standings.{is_live_edge, live_here, follows_one_way, follows_value, its_condition, settled_next, place_differs}
-use Rattle.cpg_rules.proofs.Grown.{none_settled, all_follow}
+use Rattle.cpg_rules.proofs.Start.{none_settled, all_follow}
 
 -- ---- scenarios that first differ at a process
 

@@ -1,12 +1,10 @@
--- How the trees are grown: along the order, and both ways where a process that has a condition is active.
-use Rattle.std.specs.Prelude.{ℕ, ◌+◌, Bool, true, false, if◌then◌else◌, List, [], ◌∷◌, Option, Some, None, get_or, slice_set, map, replicate}
-use Rattle.std.specs.List.{list_all, zip}
+-- How processes stand along the order, both ways where a process that has a condition is active.
+use Rattle.std.specs.Prelude.{ℕ, ◌+◌, Bool, true, false, if◌then◌else◌, List, [], ◌∷◌, Option, Some, None, get_or, slice_set}
+use Rattle.std.specs.List.{list_all}
 use Rattle.cpg_base.specs.declared.activation.Activation.{Activation}
 use Rattle.cpg_base.specs.declared.activation.Activation.TheVariants.{Inactive, Plain, By}
 use Rattle.cpg_base.specs.Activity.{is_active, takes}
-use Rattle.cpg_order.specs.Guard.{Guard, Leaf}
 use Rattle.cpg_rules.specs.declared.steps.Input.{Input}
-use Rattle.cpg_rules.specs.Trees.{tested}
 use Rattle.cpg_rules.specs.Steps.{Step}
 
 -- On the way each process so far has a standing: None where it is inactive, and else the value of its condition,
@@ -47,23 +45,6 @@ choice a condition = if is_active a then condition else None
 -- the standings with one more
 abbrev pub settled : List (Option Bool) → Step → Bool → List (Option Bool)
 settled standings step value = slice_set standings step.process (standing (activation_in standings step) value)
-
--- of each process a test with the trees of both ways
-abbrev pub merged : ℕ → List Guard → List Guard → List Guard
-merged c off on = map (λ arms. tested c arms.0 arms.1) (zip off on)
-
--- the trees of both ways, where there are two
-abbrev pub branched : Option ℕ → List Guard → List Guard → List Guard
-branched None off on = off
-branched (Some c) off on = merged c off on
-
--- the trees of the processes that are left, by process number
-abbrev pub grown : ℕ → List Step → List (Option Bool) → List Guard
-grown count [] standings = replicate count (Leaf Inactive)
-grown count (step ∷ steps) standings =
-    slice_set
-    (branched (choice (activation_in standings step) step.condition) (grown count steps (settled standings step false)) (grown count steps (settled standings step true)))
-    step.process (Leaf (activation_in standings step))
 
 -- the second number counts where there are two ways
 abbrev pub if_both : Option ℕ → ℕ → ℕ

@@ -7,7 +7,10 @@ pub mod TreeView
 pub mod TreeFalls
 pub mod TreeTop
 pub mod Steps
+pub mod Rested
 pub mod Growing
+pub mod Composing
+pub mod Apart
 pub mod Way
 pub mod Guards
 pub mod Laws

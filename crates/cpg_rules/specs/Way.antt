@@ -1,10 +1,8 @@
 -- What holds on the way along an order: of the standings so far, and of the outcomes that go that way.
-use Rattle.std.specs.Prelude.{ℕ, ◌≡◌, ◌<◌, ◌≤◌, Bool, false, List, Option, Some, None, is_some, get_or, length}
+use Rattle.std.specs.Prelude.{ℕ, ◌≡◌, ◌<◌, Bool, false, List, Option, Some, None, is_some, get_or, length}
 use Rattle.cpg_base.specs.Graph.{Graph, process_count, condition_count, process_of}
-use Rattle.cpg_base.specs.declared.activation.Activation.TheVariants.{Inactive}
-use Rattle.cpg_base.specs.Activity.{activation, active}
+use Rattle.cpg_base.specs.Activity.{active}
 use Rattle.cpg_base.specs.Order.{place}
-use Rattle.cpg_order.specs.Guard.{Guard, Leaf, outcome_at, IsOrderedFrom, IsReduced}
 
 -- the outcome has the values of the processes before a place that are active
 pub record Follows (g : Graph) (order : List ℕ) (k : ℕ) (standings : List (Option Bool)) (o : List Bool) : Type 0 where
@@ -14,9 +12,3 @@ pub record Follows (g : Graph) (order : List ℕ) (k : ℕ) (standings : List (O
 pub record AreSettled (g : Graph) (order : List ℕ) (k : ℕ) (standings : List (Option Bool)) : Type 0 where
   pub long : length standings ≡ 128
   pub right : (o : List Bool) → Follows g order k standings o → (p : ℕ) → p < process_count g → place order p < k → is_some (get_or standings p None) ≡ active g o p
-
--- the trees of the processes from a place on are right for the outcomes that go this way
-pub record AreRightFrom (g : Graph) (order : List ℕ) (k : ℕ) (standings : List (Option Bool)) (trees : List Guard) : Type 0 where
-  pub is : (p : ℕ) → p < process_count g → k ≤ place order p → (o : List Bool) → Follows g order k standings o → outcome_at (get_or trees p (Leaf Inactive)) o ≡ activation g o p
-  pub ordered : (p : ℕ) → p < process_count g → k ≤ place order p → IsOrderedFrom g order k (get_or trees p (Leaf Inactive))
-  pub reduced : (p : ℕ) → p < process_count g → k ≤ place order p → IsReduced (get_or trees p (Leaf Inactive))

@@ -8,8 +8,9 @@ ghost use Rattle.cpg_rules.specs.Rules.{AllFit};
 ghost use Rattle.cpg_rules.specs.Admission.{IsAdmitted};
 ghost use Rattle.cpg_rules.specs.Faults.{IsOrdered, HasFewTracks, HasFewInputs, ShowsFault};
 
+use crate::joins::least_alternatives;
 use crate::slots::{above_slot, without_slot};
-use crate::{GuardFault, GuardTrees, guards, two_alternatives};
+use crate::{GuardFault, GuardTrees, guards};
 use cpg_base::{Order, Problem, Scenario};
 use cpg_order::{OrderFault, Walk, urgency};
 use std::alloc::Global;
@@ -95,12 +96,18 @@ fn guarded(alloc: Global, problem: &Problem, order: &Order) -> Result<GuardTrees
 }
 
 /// That no outcome gives a join two live inputs.
-fn joined(alloc: Global, problem: &Problem, order: &Order) -> Result<(), RuleFault>
-    requires { HasFewTracks problem.now order.now }
+fn joined(
+    alloc: Global,
+    problem: &Problem,
+    order: &Order,
+    guards: &GuardTrees,
+) -> Result<(), RuleFault>
+    requires tracks { HasFewTracks problem.now order.now }
+    requires guards { AreGuardsOf problem.now order.now guards.now }
     ensures joins { IfOk result (λ _. HasFewInputs problem.now order.now) }
     ensures fault { IfErr result (ShowsFault problem.now) }
 {
-    match two_alternatives(alloc, problem, order) {
+    match least_alternatives(alloc, problem, order, guards) {
         Ok(None) => Ok(()),
         Ok(Some(found)) => Err(RuleFault::TwoAlternatives {
             process: found.process,
@@ -134,7 +141,7 @@ fn judged(alloc: Global, problem: &Problem) -> Result<(Order, GuardTrees), RuleF
 {
     let order = ordered(alloc, problem)?;
     let guards = guarded(alloc, problem, &order)?;
-    joined(alloc, problem, &order)?;
+    joined(alloc, problem, &order, &guards)?;
     slotted(problem)?;
     Ok((order, guards))
 }

@@ -22,7 +22,7 @@ pub struct EdgeGuard {
 }
 
 /// The test of a conditional edge, by the condition of its source.
-fn test_of(condition: Option<u32>, when: Option<bool>) -> Option<ValueTest>
+pub fn test_of(condition: Option<u32>, when: Option<bool>) -> Option<ValueTest>
     ensures { result ≡ test_of condition when }
 {
     let condition = condition?;

@@ -1,9 +1,11 @@
-//! Which graphs are admitted.
+//! Guards of processes, the rules of graphs, and which graphs are admitted.
 #![tactic(auto)]
 
 ghost use Rattle.cpg_rules.specs.Faults.{AdmittedShowNoFault};
 
 mod admission;
+mod apart;
+mod composing;
 mod edges;
 mod growing;
 mod joins;

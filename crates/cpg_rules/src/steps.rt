@@ -6,6 +6,7 @@ ghost use Rattle.cpg_order.specs.Urgency.{IsTopological};
 ghost use Rattle.cpg_rules.specs.Growing.{is_live_in, first_live, activation_in};
 ghost use Rattle.cpg_rules.specs.Alternatives.{are_two_live};
 ghost use Rattle.cpg_rules.specs.Steps.{Step, step_of, input_of};
+ghost use Rattle.cpg_rules.specs.Rested.{reads, is_aim, are_reading, is_rested, rested};
 
 use cpg_base::{Activation, Order, OutOfMemory, Problem};
 use std::alloc::Global;
@@ -97,6 +98,39 @@ impl Step {
         self.condition
     }
 
+    /// Whether it is a join.
+    pub fn is_join(&self) -> bool
+        ensures { result ≡ self.now.join }
+    {
+        self.join
+    }
+
+    /// Its inputs, by edge number.
+    pub fn inputs(&self) -> &[Input]
+        ensures { result.now ≡ self.now.inputs }
+    {
+        self.inputs.as_slice()
+    }
+
+    /// Whether an input comes from a process.
+    fn reads(&self, process: u32) -> bool
+        ensures { result ≡ reads process self.now }
+    {
+        self.inputs.iter().any(|input| input.source == process)
+    }
+
+    /// The same step.
+    fn copy(&self) -> Result<Step, OutOfMemory>
+        ensures { IfOk result (λ step. step ≡ self.now) }
+    {
+        Ok(Step {
+            process: self.process,
+            join: self.join,
+            inputs: self.inputs.clone()?,
+            condition: self.condition,
+        })
+    }
+
     /// The standings, where two of the inputs are live by them.
     pub fn two_live(&self, standings: Standings) -> Option<Standings>
         requires { All (λ input. input.source < 128) self.now.inputs }
@@ -142,7 +176,7 @@ fn are_two_live(inputs: &[Input], standings: &[Option<bool>]) -> bool
 }
 
 /// The inputs of a process, by edge number.
-fn inputs_of(alloc: Global, problem: &Problem, process: u32) -> Result<Vec<Input>, OutOfMemory>
+pub fn inputs_of(alloc: Global, problem: &Problem, process: u32) -> Result<Vec<Input>, OutOfMemory>
     ensures { IfOk result (λ found. found.items ≡ map (input_of problem.now) (inputs problem.now process)) }
 {
     let mut found = Vec::new(alloc);
@@ -182,4 +216,54 @@ pub fn steps_of(alloc: Global, problem: &Problem, order: &Order) -> Result<Vec<S
         steps.push(step_of(alloc, problem, *process)?)?;
     }
     Ok(steps)
+}
+
+/// What a walk along steps is to tell.
+#[derive(Clone, Copy, Debug, PartialEq, Eq)]
+pub enum Aim {
+    /// How the inputs of a process are live.
+    Process(u32),
+    /// Which conditions are chosen.
+    Conditions,
+}
+
+/// Whether a step is what the walk is for.
+fn is_aim(aim: Aim, step: &Step) -> bool
+    ensures { result ≡ is_aim aim step.now }
+{
+    match aim {
+        Aim::Process(process) => step.process == process,
+        Aim::Conditions => step.condition.is_some(),
+    }
+}
+
+/// Whether some step has an input from a process.
+fn are_reading(steps: &[Step], process: u32) -> bool
+    ensures { result ≡ are_reading steps.now process }
+{
+    steps.iter().any(|step| step.reads(process))
+}
+
+/// Whether a walk rests on a step, where these are the later steps that it rests on.
+fn is_rested(aim: Aim, step: &Step, later: &[Step]) -> bool
+    ensures { result ≡ is_rested aim step.now later.now }
+{
+    if is_aim(aim, step) {
+        return true;
+    }
+    are_reading(later, step.process)
+}
+
+/// Of these steps those that a walk rests on.
+pub fn rested(alloc: Global, aim: Aim, steps: &[Step]) -> Result<Vec<Step>, OutOfMemory>
+    ensures { IfOk result (λ kept. kept.items ≡ rested aim steps.now) }
+{
+    let Some((step, left)) = steps.split_first() else {
+        return Ok(Vec::new(alloc));
+    };
+    let mut kept = rested(alloc, aim, left)?;
+    if is_rested(aim, step, kept.as_slice()) {
+        kept.insert(0, step.copy()?)?;
+    }
+    Ok(kept)
 }

@@ -1,6 +1,6 @@
 //! Trees of tests.
 ghost use Rattle.std.specs.Prelude.{◌≡◌, ◌++◌, IfOk, OnOk, length};
-ghost use Rattle.cpg_order.specs.Guard.{Leaf, outcome_at, way};
+ghost use Rattle.cpg_order.specs.Guard.{Leaf, Test, outcome_at, way};
 ghost use Rattle.cpg_base.specs.Activity.{same_activation};
 ghost use Rattle.cpg_rules.specs.Trees.{TestsBelow, same_guard, tested};
 ghost use Rattle.cpg_rules.specs.TreeTop.{ShowsTop};
@@ -107,6 +107,36 @@ impl GuardTree {
         }
     }
 
+    /// The same tree.
+    pub(crate) fn copy(&self, alloc: Global) -> Result<GuardTree, OutOfMemory>
+        ensures { IfOk result (λ tree. tree ≡ self.now) }
+    {
+        match &self.node {
+            Node::Leaf(activation) => Ok(GuardTree::leaf(*activation)),
+            Node::Test { condition, no, yes } => {
+                let no = no.copy(alloc)?;
+                let yes = yes.copy(alloc)?;
+                GuardTree::test(alloc, *condition, no, yes)
+            }
+        }
+    }
+
+    /// A test of a condition.
+    fn test(
+        alloc: Global,
+        condition: u32,
+        no: GuardTree,
+        yes: GuardTree,
+    ) -> Result<GuardTree, OutOfMemory>
+        ensures { IfOk result (λ tree. tree ≡ Test condition no yes) }
+    {
+        let no = Box::new(alloc, no)?;
+        let yes = Box::new(alloc, yes)?;
+        Ok(GuardTree {
+            node: Node::Test { condition, no, yes },
+        })
+    }
+
     /// A test, or the one tree where both arms are equal.
     pub(crate) fn tested(
         alloc: Global,
@@ -119,11 +149,7 @@ impl GuardTree {
         if no.is_same(&yes) {
             return Ok(no);
         }
-        let no = Box::new(alloc, no)?;
-        let yes = Box::new(alloc, yes)?;
-        Ok(GuardTree {
-            node: Node::Test { condition, no, yes },
-        })
+        GuardTree::test(alloc, condition, no, yes)
     }
 
     /// How the process is active in a scenario.

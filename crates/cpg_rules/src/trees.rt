@@ -9,9 +9,10 @@ ghost use Rattle.cpg_rules.specs.Trees.{TestsBelow};
 ghost use Rattle.cpg_rules.specs.Guards.{AreGuardsOf, tree_of, active_by, live_by};
 
 use crate::GuardTree;
+use crate::composing::{composed_along, ranks_of, seeds};
 use crate::edges::{EdgeGuard, edge_guards};
-use crate::growing::{grown, tracks};
-use crate::steps::steps_of;
+use crate::growing::tracks;
+use crate::steps::{Aim, rested, steps_of};
 use cpg_base::{Order, OutOfMemory, Problem, Scenario};
 use std::alloc::{AllocError, AllocFailed, Global};
 use std::marker::Model;
@@ -73,10 +74,13 @@ pub fn guards(alloc: Global, problem: &Problem, order: &Order) -> Result<GuardTr
 {
     let count = problem.processes().len();
     let steps = steps_of(alloc, problem, order)?;
-    if tracks(steps.as_slice(), [None; 128], MOST_TRACKS + 1) > MOST_TRACKS {
+    let choosing = rested(alloc, Aim::Conditions, steps.as_slice())?;
+    if tracks(choosing.as_slice(), [None; 128], MOST_TRACKS + 1) > MOST_TRACKS {
         return Err(GuardFault::TooManyTracks);
     }
-    let trees = grown(alloc, count, steps.as_slice(), [None; 128])?;
+    let ranks = ranks_of(alloc, problem, order)?;
+    let seeds = seeds(alloc, count)?;
+    let trees = composed_along(alloc, problem, ranks.as_slice(), steps.as_slice(), seeds)?;
     let edges = edge_guards(alloc, problem)?;
     Ok(GuardTrees {
         conditions: problem.conditions(),
@@ -86,6 +90,13 @@ pub fn guards(alloc: Global, problem: &Problem, order: &Order) -> Result<GuardTr
 }
 
 impl GuardTrees {
+    /// The trees, by process.
+    pub(crate) fn trees(&self) -> &[GuardTree]
+        ensures { result.now ≡ self.now.trees }
+    {
+        self.trees.as_slice()
+    }
+
     /// The tree of a process.
     pub fn guard_of(&self, process: u32) -> &GuardTree
         requires { process < length self.now.trees }

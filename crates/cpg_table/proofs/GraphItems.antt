@@ -50,7 +50,7 @@ map-map : {X Y Z : Type 0} (g : Y → Z) (f : X → Y) (xs : List X) → map g (
 map-map g f [] = refl
 map-map g f (x ∷ xs) = ap (λ ys. g (f x) ∷ ys) (map-map g f xs)
 
-by_place : {X : Type 0} (xs : List X) (d : X) → xs ≡ map (λ k. get_or xs k d) (numbers_below (length xs))
+pub by_place : {X : Type 0} (xs : List X) (d : X) → xs ≡ map (λ k. get_or xs k d) (numbers_below (length xs))
 by_place xs d = fill_by_all (λ k. get_or xs k d) xs (length xs) d refl (λ k l. refl)
 
 -- ---- tests
@@ -99,7 +99,7 @@ module _ (g : Graph) (w : IsWithinLimits g) where
         ap₂ (numbers_where test) (ap₂ ◌+◌ process_number (length-map {B = ℕ × ℕ} g.edges (λ e. (e.from, e.to)))) conditioned_are
         ∙ where_is test (λ c. head_process g (process_of g c)) (process_count g + edge_count g) (condition_count g)
 
-    parts_are : (p : ℕ → Bool) → filter p (numbers_below (item_count g))
+    pub parts_are : (p : ℕ → Bool) → filter p (numbers_below (item_count g))
         ≡ filter p (numbers_below (process_count g)) ++ (filter p (range_with_len (process_count g) (edge_count g)) ++ filter p (range_with_len (process_count g + edge_count g) (condition_count g)))
     parts_are p =
         ap (filter p) (range-append 0 (process_count g + edge_count g) (condition_count g) ∙ ap₂ (λ xs a. xs ++ range_with_len a (condition_count g)) (range-append 0 (process_count g) (edge_count g) ∙ ap (λ a. numbers_below (process_count g) ++ range_with_len a (edge_count g)) (let e : 0 + process_count g ≡ process_count g = omega arith in e)) (let e : 0 + (process_count g + edge_count g) ≡ process_count g + edge_count g = omega arith in e))
@@ -126,7 +126,7 @@ module _ (g : Graph) (w : IsWithinLimits g) where
         let is : x ≡ broadcast_item g (x - (process_count g + edge_count g)) = omega (arith, r.0) in
         (l, ap (item_at g) is ∙ item_at-broadcast g (x - (process_count g + edge_count g)))
 
-    sent_messages : numbers_where (leaves (head_of g) node) (first_message (head_of g)) (head_of g).edges ≡ filter (λ x. is_sent g x && (home g x == node)) (range_with_len (process_count g) (edge_count g))
+    pub sent_messages : numbers_where (leaves (head_of g) node) (first_message (head_of g)) (head_of g).edges ≡ filter (λ x. is_sent g x && (home g x == node)) (range_with_len (process_count g) (edge_count g))
     sent_messages = messages_are (leaves (head_of g) node)
         ∙ same_filter (λ x. leaves (head_of g) node (source g (x - process_count g), target g (x - process_count g))) (λ x. is_sent g x && (home g x == node)) (range_with_len (process_count g) (edge_count g))
         (λ x c. let at = at_message x c in let e = edge_within (x - process_count g) at.0 in
@@ -134,7 +134,7 @@ module _ (g : Graph) (w : IsWithinLimits g) where
         ∙ sym (leaves_is (node_of g (source g (x - process_count g))) (node_of g (target g (x - process_count g))) node)
         ∙ ap (λ i. is_sent_item g i && (node_of g (producer_of_item g i) == node)) (sym at.1))
 
-    sent_broadcasts : cond (ltb 1 (length g.nodes)) (numbers_where (λ p. p.node == node) (first_broadcast (head_of g)) (conditioned (head_of g))) []
+    pub sent_broadcasts : cond (ltb 1 (length g.nodes)) (numbers_where (λ p. p.node == node) (first_broadcast (head_of g)) (conditioned (head_of g))) []
         ≡ filter (λ x. is_sent g x && (home g x == node)) (range_with_len (process_count g + edge_count g) (condition_count g))
     sent_broadcasts =
         let base : ℕ = process_count g + edge_count g in

@@ -1,5 +1,5 @@
 -- Rows of all items, and tables that are written from them.
-use Rattle.std.specs.Prelude.{ℕ, ◌*◌, ◌^◌, ◌≡◌, ◌≤◌, ◌<◌, false, List, [], ◌++◌, Some, length, map, get_or, sum_by, slice_get, All}
+use Rattle.std.specs.Prelude.{ℕ, ◌*◌, ◌^◌, ◌≡◌, ◌≤◌, ◌<◌, Bool, false, not, ◌&&◌, ◌||◌, ◌==◌, nat_lt, List, [], ◌++◌, Some, length, map, filter, get_or, sum_by, slice_get, All}
 use Rattle.cpg_base.specs.Numbers.{numbers_below}
 use Rattle.cpg_base.specs.declared.limits.TheConstants.{MOST_COLUMNS, MOST_LOAD}
 use Rattle.cpg_base.specs.Graph.{Graph, process_count, item_count, item_at, home, is_sent}
@@ -23,6 +23,22 @@ row_for rows x = get_or rows x (record { item = 0; columns = [] })
 -- what is heard of an item: its columns, each later by the sender's slot
 abbrev pub heard_row : Graph → List Row → ℕ → Row
 heard_row g rows x = record { item = x; columns = map (later_by (slot_length g (home g x))) (row_for rows x).columns }
+
+-- what a node hears
+abbrev pub hears_at : Graph → List Row → ℕ → List Row
+hears_at g rows node = map (heard_row g rows) (lists_of (head_of g) node).hears
+
+-- whether a node starts or sends an item
+abbrev pub has_own : Graph → ℕ → ℕ → Bool
+has_own g node x = (home g x == node) && (nat_lt x (process_count g) || is_sent g x)
+
+-- the rows of what a node starts and sends
+abbrev pub own_rows : Graph → ℕ → List Row → List Row
+own_rows g node rows = filter (λ row. has_own g node row.item) rows
+
+-- and the others
+abbrev pub other_rows : Graph → ℕ → List Row → List Row
+other_rows g node rows = filter (λ row. not (has_own g node row.item)) rows
 
 -- a column that a table may have, also where it is later by a slot
 pub record IsWritable (g : Graph) (c : Column) : Type 0 where

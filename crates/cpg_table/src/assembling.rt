@@ -1,11 +1,12 @@
 //! Tables of given rows.
 ghost use Rattle.std.specs.Prelude.{◌≡◌, ◌<◌, ◌^◌, ◌++◌, All, IfOk, length, map};
 ghost use Rattle.cpg_base.specs.Graph.{item_count};
+ghost use Rattle.cpg_base.specs.Numbers.{numbers_below};
 ghost use Rattle.cpg_base.specs.WellFormed.{WellFormed};
 ghost use Rattle.cpg_head.specs.GraphHead.{head_of};
+ghost use Rattle.cpg_table.specs.Lawful.{AreRowsOf, IsTableOf, rows_of};
 ghost use Rattle.cpg_table.specs.Valid.{later_by};
-ghost use Rattle.cpg_table.specs.Items.{lists_of};
-ghost use Rattle.cpg_table.specs.Writing.{row_for, heard_row, rows_of_items, AreWritable, IsTableWith, AreNodeTables, AreTablesWith};
+ghost use Rattle.cpg_table.specs.Writing.{heard_row, hears_at, has_own, own_rows, other_rows, AreWritable, AreNodeTables, AreTablesWith};
 
 use crate::counts::Counts;
 use crate::{NodeItems, NodeTable, Row, Tables};
@@ -44,116 +45,172 @@ fn heard(alloc: Global, problem: &Problem, rows: &[Row], item: u32) -> Result<Ro
     Ok(Row::new(item, entries))
 }
 
-/// Adds copies of the rows of these items.
-fn add_copies(rows: &[Row], items: &[u32], more: &mut Vec<Row>) -> Result<(), OutOfMemory>
-    requires { All (λ x. x < length rows.now) items.now }
-    ensures { IfOk result (λ _. more.new.items ≡ more.old.items ++ map (row_for rows.now) items.now) }
-{
-    for item in items {
-        let row = rows[*item as usize].copy()?;
-        more.push(row)?;
-    }
-    Ok(())
-}
-
-/// Adds what is heard of these items.
-fn add_heard(
+/// What is heard of these items.
+fn all_heard(
     alloc: Global,
     problem: &Problem,
     rows: &[Row],
     items: &[u32],
-    more: &mut Vec<Row>,
-) -> Result<(), OutOfMemory>
-    requires formed { WellFormed problem.now }
-    requires rows { AreWritable problem.now rows.now }
-    requires items { All (λ x. x < item_count problem.now) items.now }
-    ensures { IfOk result (λ _. more.new.items ≡ more.old.items ++ map (heard_row problem.now rows.now) items.now) }
-{
-    for item in items {
-        let row = heard(alloc, problem, rows, *item)?;
-        more.push(row)?;
-    }
-    Ok(())
-}
-
-/// The rows of a node: of what it starts, then of what it sends, then of what it hears.
-fn node_rows(
-    alloc: Global,
-    problem: &Problem,
-    rows: &[Row],
-    node: u32,
-    items: &NodeItems,
 ) -> Result<Vec<Row>, OutOfMemory>
     requires formed { WellFormed problem.now }
     requires rows { AreWritable problem.now rows.now }
+    requires items { All (λ x. x < item_count problem.now) items.now }
+    ensures { IfOk result (λ heard. heard.items ≡ map (heard_row problem.now rows.now) items.now) }
+{
+    let mut all = Vec::new(alloc);
+    all.reserve(items.len())?;
+    for item in items {
+        let row = heard(alloc, problem, rows, *item)?;
+        all.push(row)?;
+    }
+    Ok(all)
+}
+
+/// What a node hears.
+fn node_hears(
+    alloc: Global,
+    problem: &Problem,
+    head: &Head,
+    rows: &[Row],
+    node: u32,
+) -> Result<Vec<Row>, OutOfMemory>
+    requires formed { WellFormed problem.now }
+    requires head { head.now ≡ head_of problem.now }
+    requires rows { AreWritable problem.now rows.now }
     requires node { node < length problem.now.nodes }
-    requires items { items.now ≡ lists_of (head_of problem.now) node }
-    ensures { IfOk result (λ all. all.items ≡ rows_of_items problem.now rows.now (lists_of (head_of problem.now) node)) }
+    ensures { IfOk result (λ heard. heard.items ≡ hears_at problem.now rows.now node) }
 {
     let _nodes = problem.nodes();
+    let items = NodeItems::of(alloc, head, node)?;
+    let heard = all_heard(alloc, problem, rows, items.hears())?;
+    Ok(heard)
+}
+
+/// What each node hears.
+fn hears_of(
+    alloc: Global,
+    problem: &Problem,
+    head: &Head,
+    rows: &[Row],
+) -> Result<Vec<Vec<Row>>, OutOfMemory>
+    requires formed { WellFormed problem.now }
+    requires head { head.now ≡ head_of problem.now }
+    requires rows { AreWritable problem.now rows.now }
+    ensures { IfOk result (λ all. map (λ heard. heard.items) all.items ≡ map (hears_at problem.now rows.now) (numbers_below (length problem.now.nodes))) }
+{
+    let count = problem.nodes().len();
     let mut all = Vec::new(alloc);
-    all.reserve(items.all().len())?;
-    add_copies(rows, items.starts(), &mut all)?;
-    add_copies(rows, items.sends(), &mut all)?;
-    add_heard(alloc, problem, rows, items.hears(), &mut all)?;
+    all.reserve(count)?;
+    for node in 0..count as u32 {
+        let heard = node_hears(alloc, problem, head, rows, node)?;
+        all.push(heard)?;
+    }
     Ok(all)
+}
+
+/// Whether a node starts or sends an item.
+fn has_own(problem: &Problem, node: u32, item: u32) -> bool
+    requires { item < item_count problem.now }
+    ensures { result ≡ has_own problem.now node item }
+{
+    if problem.home(item) != node {
+        return false;
+    }
+    if (item as usize) < problem.processes().len() {
+        return true;
+    }
+    problem.is_sent(item)
+}
+
+/// Rows, those of what a node starts and sends apart from the others.
+#[derive(Drop)]
+struct Parts {
+    own: Vec<Row>,
+    others: Vec<Row>,
+}
+
+/// Parts the rows of what a node starts and sends from the others.
+fn parted(alloc: Global, problem: &Problem, node: u32, rows: Vec<Row>) -> Result<Parts, OutOfMemory>
+    requires { All (λ row. row.item < item_count problem.now) rows.items }
+    ensures own { IfOk result (λ p. p.own.items ≡ own_rows problem.now node rows.items) }
+    ensures others { IfOk result (λ p. p.others.items ≡ other_rows problem.now node rows.items) }
+{
+    let mut own = Vec::new(alloc);
+    let mut others = Vec::new(alloc);
+    for row in rows {
+        if has_own(problem, node, row.item()) {
+            own.push(row)?;
+        } else {
+            others.push(row)?;
+        }
+    }
+    Ok(Parts { own, others })
 }
 
 /// The table of a node.
 fn node_table(
     alloc: Global,
-    problem: &Problem,
     head: &Head,
-    rows: &[Row],
     node: u32,
+    own: Vec<Row>,
+    hears: Vec<Row>,
 ) -> Result<NodeTable, OutOfMemory>
-    requires formed { WellFormed problem.now }
-    requires head { head.now ≡ head_of problem.now }
-    requires rows { AreWritable problem.now rows.now }
-    requires node { node < length problem.now.nodes }
-    ensures { IfOk result (IsTableWith problem.now rows.now node) }
+    requires { AreRowsOf head.now node (own.items ++ hears.items) }
+    ensures table { IfOk result (λ t. IsTableOf head.now node t) }
+    ensures rows { IfOk result (λ t. rows_of t ≡ own.items ++ hears.items) }
 {
-    let _nodes = problem.nodes();
     let items = NodeItems::of(alloc, head, node)?;
-    let all = node_rows(alloc, problem, rows, node, &items)?;
     let counts = Counts {
         starts: items.starts().len(),
         sends: items.sends().len(),
     };
-    NodeTable::of(alloc, head, node, counts, all)
+    let mut rows = own;
+    rows.reserve(hears.len())?;
+    for row in hears {
+        rows.push(row)?;
+    }
+    NodeTable::of(alloc, head, node, counts, rows)
 }
 
-/// The tables of the nodes.
+/// The tables of the nodes, where each hears these.
 fn node_tables(
     alloc: Global,
     problem: &Problem,
     head: &Head,
-    rows: &[Row],
+    hears: Vec<Vec<Row>>,
+    rows: Vec<Row>,
 ) -> Result<Vec<NodeTable>, OutOfMemory>
     requires formed { WellFormed problem.now }
     requires head { head.now ≡ head_of problem.now }
-    requires rows { AreWritable problem.now rows.now }
-    ensures { IfOk result (λ tables. AreNodeTables problem.now rows.now (length problem.now.nodes) tables.items) }
+    requires rows { AreWritable problem.now rows.items }
+    requires hears { map (λ heard. heard.items) hears.items ≡ map (hears_at problem.now rows.items) (numbers_below (length problem.now.nodes)) }
+    ensures { IfOk result (λ tables. AreNodeTables problem.now rows.items (length problem.now.nodes) tables.items) }
 {
-    let count = problem.nodes().len();
+    let _nodes = problem.nodes();
     let mut tables = Vec::new(alloc);
-    tables.reserve(count)?;
-    for node in 0..count as u32 {
-        let table = node_table(alloc, problem, head, rows, node)?;
+    tables.reserve(hears.len())?;
+    let mut left = rows;
+    let mut node: u32 = 0;
+    for heard in hears {
+        let Parts { own, others } = parted(alloc, problem, node, left)?;
+        left = others;
+        let table = node_table(alloc, head, node, own, heard)?;
         tables.push(table)?;
+        node += 1;
     }
     Ok(tables)
 }
 
 /// The tables of all nodes with these rows, one for each item by number. Each node hears what others send to it, later by
 /// the sender's slot.
-pub fn tables_of(alloc: Global, problem: &Problem, rows: &[Row]) -> Result<Tables, OutOfMemory>
+pub fn tables_of(alloc: Global, problem: &Problem, rows: Vec<Row>) -> Result<Tables, OutOfMemory>
     requires formed { WellFormed problem.now }
-    requires rows { AreWritable problem.now rows.now }
-    ensures { IfOk result (AreTablesWith problem.now rows.now) }
+    requires rows { AreWritable problem.now rows.items }
+    ensures { IfOk result (AreTablesWith problem.now rows.items) }
 {
     let _nodes = problem.nodes();
     let head = head_of(alloc, problem)?;
-    let nodes = node_tables(alloc, problem, &head, rows)?;
+    let hears = hears_of(alloc, problem, &head, rows.as_slice())?;
+    let nodes = node_tables(alloc, problem, &head, hears, rows)?;
     Ok(Tables::of(head, nodes))
 }

@@ -1,5 +1,6 @@
 //! Which rows a table may have under a head.
 ghost use Rattle.std.specs.Prelude.{◌≡◌, ◌↔◌, ◌≤◌, ◌<◌, IsTrue, All};
+ghost use Rattle.std.specs.Bool.{OnTrue};
 ghost use Rattle.cpg_cube.specs.Cube.{IsRising};
 ghost use Rattle.cpg_table.specs.Lawful.{space_of, IsCountLiteral, IsValueLiteral, IsLawfulLiteral, IsLawfulColumn, IsLawfulRow};
 
@@ -34,13 +35,21 @@ pub fn space_of(head: &Head) -> Space
 fn is_count(space: Space, literal: Literal) -> bool
     ensures { IsTrue result ↔ IsCountLiteral space literal }
 {
-    if u32::from(literal.variable) >= space.processes {
-        return false;
+    let known = u32::from(literal.variable) < space.processes;
+    let within = (literal.low <= literal.high) & (literal.high <= space.faults);
+    let part = (literal.high < space.faults) | (literal.low > 0);
+    known & within & part
+}
+
+/// Whether each literal is such a part: without a way out before the last, as the compiler makes fast loops of such.
+fn are_counts(space: Space, literals: &[Literal]) -> bool
+    ensures { OnTrue result (All (IsCountLiteral space) literals.now) }
+{
+    let mut are = true;
+    for literal in literals {
+        are &= is_count(space, *literal);
     }
-    if literal.low > literal.high || literal.high > space.faults {
-        return false;
-    }
-    literal.high < space.faults || literal.low > 0
+    are
 }
 
 /// Whether a literal is one value of a condition.
@@ -65,6 +74,10 @@ fn is_literal(space: Space, literal: Literal) -> bool
 fn are_literals(space: Space, literals: &[Literal]) -> bool
     ensures { IsTrue result ↔ All (IsLawfulLiteral space) literals.now }
 {
+    // most cubes speak of fault counts alone
+    if are_counts(space, literals) {
+        return true;
+    }
     literals.iter().all(|literal| is_literal(space, *literal))
 }
 

@@ -82,8 +82,8 @@ fn are_columns_few(nodes: &[NodeTable]) -> bool
 }
 
 impl Tables {
-    /// The tables of all nodes under a head.
-    pub(crate) fn of(head: Head, nodes: Vec<NodeTable>) -> Tables
+    /// The tables of all nodes under a head, which were judged before.
+    pub fn of(head: Head, nodes: Vec<NodeTable>) -> Tables
         requires { AreTablesOf head nodes.items }
         ensures { result ≡ record { head = head; nodes = nodes.items } }
     {

@@ -60,7 +60,7 @@ module _ (room other : Space) (h : IsHigher room other) (v cut : ℕ) where
 
 fits_higher : {T : Type 0} (node : Node T) (room other : Space) → IsHigher room other → IsFit room node → IsFit other node
 fits_higher (Leaf x) room other h fit = fit
-fits_higher (Fork' v cut p below q above) room other h fit = (
+fits_higher (Fork' v cut p below above) room other h fit = (
   fit.0,
   open_below room other h v cut fit.1,
   open_above room other h v cut fit.2,
@@ -159,11 +159,11 @@ module _ (room : Space) (v cut far : ℕ) (less : cut < far) (below : is_open_be
   joined_above = record { low = set-set room.low v (cut + 1) (far + 1); left = joined_left; long = refl; high = λ u. omega arith }
 
 -- a fork with a fork on the same variable above it, whose side below is left out
-pub fits_joined : {T : Type 0} (below near far_above above : Node T) {p q : Box (Unit {0}) Global} (room : Space) (v cut next far : ℕ) → above ≡ Fork' next far p near q far_above → next ≡ v → cut < far →
+pub fits_joined : {T : Type 0} (below near far_above above : Node T) {p : Box (Unit {0}) Global} (room : Space) (v cut next far : ℕ) → above ≡ Fork' next far p near far_above → next ≡ v → cut < far →
     is_open_below room v cut ≡ true → IsFit (below_cut room v cut) below → IsFit (above_cut room v cut) above →
     (v < 256) × (is_open_below room v far ≡ true) × (is_open_above room v far ≡ true) × IsFit (below_cut room v far) below × IsFit (above_cut room v far) far_above
-fits_joined {T} below near far_above above {p} {q} room v cut next far is same less under fit_below fit_above =
-    let fit = subst (λ (u : ℕ). IsFit (above_cut room v cut) (Fork' u far p near q far_above)) same (subst (λ (n : Node T). IsFit (above_cut room v cut) n) is fit_above) in (
+fits_joined {T} below near far_above above {p} room v cut next far is same less under fit_below fit_above =
+    let fit = subst (λ (u : ℕ). IsFit (above_cut room v cut) (Fork' u far p near far_above)) same (subst (λ (n : Node T). IsFit (above_cut room v cut) n) is fit_above) in (
       fit.0,
       joined_open_below room v cut far less under,
       joined_open_above room v cut far less under fit.2,

@@ -1,6 +1,7 @@
 pub mod Spaces
 pub mod Forks
 pub mod Greatness
+pub mod BoundLaws
 pub mod Fits
 pub mod PathLaws
 pub mod Publics
@@ -17,3 +18,4 @@ pub mod OnePath
 pub mod Most
 pub mod Gathered
 pub mod SliceLaws
+pub mod Meetings

@@ -51,7 +51,7 @@ IsSpoken {T} paths v = (p : Path T) × Contains paths p × SpeaksOf p.0 v
 
 some_path : {T : Type 0} (k : ℕ) (node : Node T) (cube : List Literal) (v : ℕ) → SpeaksOf cube v → IsSpoken (paths_from k cube node) v
 some_path k (Leaf x) cube v speaks = ((cube, x), Contains-first (cube, x) [], speaks)
-some_path k (Fork' u cut p below q upper) cube v speaks =
+some_path k (Fork' u cut p below upper) cube v speaks =
     let old = speaks_of_old (up_to u cut) cube speaks.0 speaks.1 in
     let r = some_path k below (narrowed_by (up_to u cut) cube) v (old.0, old.1, old.2 ∙ speaks.2) in
     (r.0, Contains-append_left (paths_from k (narrowed_by (up_to u cut) cube) below) (paths_from k (narrowed_by (above k u cut) cube) upper) r.0 r.1, r.2)
@@ -62,7 +62,7 @@ module _ (test : ℕ → Bool) where
 
   forks_from : {T : Type 0} (k : ℕ) (node : Node T) (cube : List Literal) → ((p : Path T) → Contains (paths_from k cube node) p → Passes p.0) → DoForksPass test node
   forks_from k (Leaf x) cube h = tt
-  forks_from k (Fork' v cut p below q upper) cube h =
+  forks_from k (Fork' v cut p below upper) cube h =
       let lower = paths_from k (narrowed_by (up_to v cut) cube) below in
       let higher = paths_from k (narrowed_by (above k v cut) cube) upper in
       let some = some_path k below (narrowed_by (up_to v cut) cube) v (speaks_of_new (up_to v cut) cube) in (
@@ -84,7 +84,7 @@ module _ (test : ℕ → Bool) where
     | inl e ↦ subst (λ (z : Path T). Passes z.0) e on
     | inr none ↦ absurd (Contains-nil x none)
   ]
-  paths_pass k (Fork' v cut p below q upper) cube on pass x c = elim (Contains-append_cases (paths_from k (narrowed_by (up_to v cut) cube) below) (paths_from k (narrowed_by (above k v cut) cube) upper) x c) [
+  paths_pass k (Fork' v cut p below upper) cube on pass x c = elim (Contains-append_cases (paths_from k (narrowed_by (up_to v cut) cube) below) (paths_from k (narrowed_by (above k v cut) cube) upper) x c) [
     | inl i ↦ paths_pass k below (narrowed_by (up_to v cut) cube) (passes_narrowed (up_to v cut) cube pass.0 on) pass.1 x i
     | inr i ↦ paths_pass k upper (narrowed_by (above k v cut) cube) (passes_narrowed (above k v cut) cube pass.0 on) pass.2 x i
   ]
@@ -101,7 +101,7 @@ module _ (test : ℕ → Bool) where
 
 -- ---- the variables of a graph
 
-variable_from : (g : Graph) (v : ℕ) → is_variable g v ≡ true → IsVariable g v
+pub variable_from : (g : Graph) (v : ℕ) → is_variable g v ≡ true → IsVariable g v
 variable_from g v h = elim (or_cases (nat_lt v (process_count g)) (nat_le 128 v && nat_lt v (value_variable (condition_count g))) h) [
   | inl l ↦ inl (ltb-true v (process_count g) l)
   | inr b ↦ let parts = and_parts (nat_le 128 v) (nat_lt v (value_variable (condition_count g))) b in inr (leb-true 128 v parts.0, ltb-true v (value_variable (condition_count g)) parts.1)

@@ -71,6 +71,10 @@ module _ (cubes : List (List Literal)) (room one two : Space) (places low high :
     fewer = omega (arith, of_one.fewer, of_two.fewer);
   }
 
+-- where more nodes may be, so may as many as these
+pub sorted_fewer : (cubes : List (List Literal)) (room : Space) (places : List ℕ) (rest left : ℕ) (r : Sorted) → rest ≤ left → IsSorted cubes room places rest r → IsSorted cubes room places left r
+sorted_fewer cubes room places rest left r less h = record { told = h.told; fewer = omega (arith, h.fewer, less) }
+
 -- the cube at a place is the one that is lent there
 module _ (lent : List (Bor (List Literal))) (i : ℕ) (b : Bor (List Literal)) (there : i < length lent) (is : b ≡ get_or lent i b) where
   pub cube_here : cube_at (map (λ (x : Bor (List Literal)). x.now) lent) i ≡ b.now

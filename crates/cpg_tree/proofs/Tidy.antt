@@ -61,7 +61,7 @@ tidy_paths {T} k (Leaf y) room cube is told part fit x c = elim (Contains-cases 
   | inl e ↦ subst (λ (z : Path T). IsTidyPath k z.0) e (record { room = room; is = is; told = told; part = part })
   | inr none ↦ absurd (Contains-nil x none)
 ]
-tidy_paths k (Fork' v cut p below q upper) room cube is told part fit x c = elim (Contains-append_cases (paths_from k (narrowed_by (up_to v cut) cube) below) (paths_from k (narrowed_by (above k v cut) cube) upper) x c) [
+tidy_paths k (Fork' v cut p below upper) room cube is told part fit x c = elim (Contains-append_cases (paths_from k (narrowed_by (up_to v cut) cube) below) (paths_from k (narrowed_by (above k v cut) cube) upper) x c) [
   | inl i ↦ tidy_paths k below (below_cut room v cut) (narrowed_by (up_to v cut) cube) (room_below k room is v cut fit.0 fit.1 fit.2) (told_below k room is v cut fit.0 fit.1 fit.2 cube told)
       (part_narrowed k (up_to v cut) cube fit.0 (inr (omega (arith, high-same k (up_to v cut) cube told.rising (omega (arith, cut_under k room is v cut fit.0 fit.1 fit.2)), cut_under k room is v cut fit.0 fit.1 fit.2))) part) fit.3 x i
   | inr i ↦ tidy_paths k upper (above_cut room v cut) (narrowed_by (above k v cut) cube) (room_above k room is v cut fit.0 fit.1 fit.2) (told_above k room is v cut fit.0 fit.1 fit.2 cube told)

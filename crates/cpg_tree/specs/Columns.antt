@@ -24,7 +24,7 @@ columns_of_paths paths = flat_map (λ (p : Path (Option ℕ)). column_of p.0 p.1
 -- the columns on from a cube, as they are found: none where a range is empty
 abbrev pub columns_from : ℕ → List Literal → Node (Option ℕ) → List (ℕ × List Literal)
 columns_from k cube (Leaf x) = column_of cube x
-columns_from k cube (Fork' v cut p below q upper) =
+columns_from k cube (Fork' v cut p below upper) =
     option_map_or (λ c. columns_from k c below) (with_literal (up_to v cut) cube) []
     ++ option_map_or (λ c. columns_from k c upper) (with_literal (above k v cut) cube) []
 

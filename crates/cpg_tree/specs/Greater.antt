@@ -7,12 +7,12 @@ use Rattle.cpg_tree.specs.Decision.{value_at}
 -- the least number of a leaf
 abbrev pub least_in : {T : Type 0} → (T → ℕ) → Node T → ℕ
 least_in number (Leaf x) = number x
-least_in number (Fork' v cut p below q above) = min (least_in number below) (least_in number above)
+least_in number (Fork' v cut p below above) = min (least_in number below) (least_in number above)
 
 -- the greatest number of a leaf
 abbrev pub most_in : {T : Type 0} → (T → ℕ) → Node T → ℕ
 most_in number (Leaf x) = number x
-most_in number (Fork' v cut p below q above) = max (most_in number below) (most_in number above)
+most_in number (Fork' v cut p below above) = max (most_in number below) (most_in number above)
 
 -- each number of a tree is at least each number of another
 abbrev pub IsAtLeast : {T U : Type 0} → (T → ℕ) → (U → ℕ) → Node T → Node U → Type 0

@@ -43,7 +43,7 @@ greater (Some a) (Some b) = Some (max a b)
 -- the greatest number of a leaf
 abbrev pub most_of : Node (Option ℕ) → Option ℕ
 most_of (Leaf x) = x
-most_of (Fork' v cut p below q upper) = greater (most_of below) (most_of upper)
+most_of (Fork' v cut p below upper) = greater (most_of below) (most_of upper)
 
 -- a time, if it is this one
 abbrev pub kept : ℕ → Option ℕ → Option ℕ

@@ -7,7 +7,9 @@ pub mod Variables
 pub mod Columns
 pub mod Greatest
 pub mod Greater
+pub mod Bounds
 pub mod Later
 pub mod Places
 pub mod Spots
 pub mod Slices
+pub mod Meeting

@@ -34,9 +34,9 @@ impl Node<Option<u64>> {
             Node::Fork {
                 variable,
                 cut,
-                below,
-                above,
+                sides,
             } => {
+                let (below, above) = &**sides;
                 let low = cube.with(Literal {
                     variable: *variable,
                     low: 0,

@@ -1,11 +1,10 @@
 //! The places that scenarios of a space come to.
-ghost use Rattle.std.specs.Prelude.{◌≤◌, ◌<◌, ℕ, Contains, IfOk};
+ghost use Rattle.std.specs.Prelude.{◌≡◌, ℕ, Contains, IfOk};
 ghost use Rattle.std.specs.Bool.{OnTrue};
-ghost use Rattle.cpg_base.specs.Scenario.{Scenario, number_of};
+ghost use Rattle.cpg_base.specs.Scenario.{Scenario};
 ghost use Rattle.cpg_tree.specs.Space.{Lies};
 ghost use Rattle.cpg_tree.specs.Decision.{value_at};
 ghost use Rattle.cpg_tree.specs.Places.{IsAmong};
-ghost use Rattle.cpg_tree.specs.Spots.{AreOpen};
 
 use crate::node::Node;
 use crate::space::Space;
@@ -26,16 +25,16 @@ fn add_place(place: Option<u32>, found: &mut Vec<u32>) -> Result<bool, OutOfMemo
 
 impl Node<Option<u32>> {
     /// Adds the places that scenarios of a space come to, as long as there is one and a test passes at each; false where it
-    /// stopped before the last.
-    #[cycle(gathering)]
-    pub(crate) fn gather<J: Test>(
+    /// stopped before the last. The space is changed on the way, and is as before where it didn't stop.
+    fn gather_each<J: Test>(
         &self,
-        space: &Space,
+        space: &mut Space,
         test: &J,
         found: &mut Vec<u32>,
     ) -> Result<bool, OutOfMemory>
         ensures kept { IfOk result (λ _. (i : ℕ) → Contains found.old.items i → Contains found.new.items i) }
-        ensures found { IfOk result (λ all. OnTrue all ((s : Scenario) → Lies space.now s → J.tells test.now (value_at self.now s) s × IsAmong found.new.items (value_at self.now s))) }
+        ensures found { IfOk result (λ all. OnTrue all ((s : Scenario) → Lies space.old s → J.tells test.now (value_at self.now s) s × IsAmong found.new.items (value_at self.now s))) }
+        ensures same { IfOk result (λ all. OnTrue all (space.new ≡ space.old)) }
     {
         match self {
             Node::Leaf(place) => {
@@ -48,60 +47,47 @@ impl Node<Option<u32>> {
             Node::Fork {
                 variable,
                 cut,
-                below,
-                above,
+                sides,
             } => {
+                let (below, above) = &**sides;
                 if !space.is_open_below(*variable, *cut) {
-                    let all = above.gather(space, test, found)?;
+                    let all = above.gather_each(space, test, found)?;
                     return Ok(all);
                 }
                 if !space.is_open_above(*variable, *cut) {
-                    let all = below.gather(space, test, found)?;
+                    let all = below.gather_each(space, test, found)?;
                     return Ok(all);
                 }
-                let low = below.gather_under(*variable, *cut, space, test, found)?;
+                let most = space.close_above(*variable, *cut);
+                let low = below.gather_each(space, test, found)?;
                 if !low {
                     return Ok(false);
                 }
-                let high = above.gather_over(*variable, *cut, space, test, found)?;
-                Ok(high)
+                space.reopen_above(*variable, most);
+                let was = space.close_below(*variable, *cut);
+                let high = above.gather_each(space, test, found)?;
+                if !high {
+                    return Ok(false);
+                }
+                space.reopen_below(*variable, was);
+                Ok(true)
             }
         }
     }
 
-    /// The same for the scenarios up to a cut. In a function of its own, since a space of its own is cleared at each call,
-    /// and on the way down mostly one side of a fork is closed.
-    #[cycle(gathering)]
-    fn gather_under<J: Test>(
+    /// Adds the places that scenarios of a space come to, as long as there is one and a test passes at each; false where it
+    /// stopped before the last.
+    pub(crate) fn gather<J: Test>(
         &self,
-        variable: u8,
-        cut: u8,
         space: &Space,
         test: &J,
         found: &mut Vec<u32>,
     ) -> Result<bool, OutOfMemory>
         ensures kept { IfOk result (λ _. (i : ℕ) → Contains found.old.items i → Contains found.new.items i) }
-        ensures found { IfOk result (λ all. OnTrue all ((s : Scenario) → Lies space.now s → number_of s variable ≤ cut → J.tells test.now (value_at self.now s) s × IsAmong found.new.items (value_at self.now s))) }
+        ensures found { IfOk result (λ all. OnTrue all ((s : Scenario) → Lies space.now s → J.tells test.now (value_at self.now s) s × IsAmong found.new.items (value_at self.now s))) }
     {
-        let all = self.gather(&space.below(variable, cut), test, found)?;
-        Ok(all)
-    }
-
-    /// The same for the scenarios above a cut.
-    #[cycle(gathering)]
-    fn gather_over<J: Test>(
-        &self,
-        variable: u8,
-        cut: u8,
-        space: &Space,
-        test: &J,
-        found: &mut Vec<u32>,
-    ) -> Result<bool, OutOfMemory>
-        requires { AreOpen space.now variable cut }
-        ensures kept { IfOk result (λ _. (i : ℕ) → Contains found.old.items i → Contains found.new.items i) }
-        ensures found { IfOk result (λ all. OnTrue all ((s : Scenario) → Lies space.now s → cut < number_of s variable → J.tells test.now (value_at self.now s) s × IsAmong found.new.items (value_at self.now s))) }
-    {
-        let all = self.gather(&space.above(variable, cut), test, found)?;
+        let mut own = *space;
+        let all = self.gather_each(&mut own, test, found)?;
         Ok(all)
     }
 }

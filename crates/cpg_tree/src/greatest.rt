@@ -40,7 +40,10 @@ impl Node<Option<u64>> {
     {
         match self {
             Node::Leaf(time) => *time,
-            Node::Fork { below, above, .. } => greater(below.most(), above.most()),
+            Node::Fork { sides, .. } => {
+                let (below, above) = &**sides;
+                greater(below.most(), above.most())
+            }
         }
     }
 }

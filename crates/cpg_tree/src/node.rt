@@ -9,7 +9,7 @@ use crate::space::Space;
 use cpg_base::{OutOfMemory, Scenario};
 use std::alloc::Global;
 
-/// A value, or a fork by the number of a variable.
+/// A value, or a fork by the number of a variable: its sides, below and above, are one block of memory.
 #[cycle(node)]
 #[derive(Drop)]
 pub(crate) enum Node<T> {
@@ -17,8 +17,7 @@ pub(crate) enum Node<T> {
     Fork {
         variable: u8,
         cut: u8,
-        below: Box<Node<T>>,
-        above: Box<Node<T>>,
+        sides: Box<(Node<T>, Node<T>)>,
     },
 }
 
@@ -32,9 +31,9 @@ impl<T: Copy> Node<T> {
             Node::Fork {
                 variable,
                 cut,
-                below,
-                above,
+                sides,
             } => {
+                let (below, above) = &**sides;
                 if scenario.number(*variable) <= *cut {
                     below.at(scenario)
                 } else {
@@ -59,16 +58,16 @@ impl<T: Copy + Eq> Node<T> {
             Node::Fork {
                 variable,
                 cut,
-                below,
-                above,
+                sides,
             } => match other {
                 Node::Leaf(_) => false,
                 Node::Fork {
                     variable: other_variable,
                     cut: other_cut,
-                    below: other_below,
-                    above: other_above,
+                    sides: others,
                 } => {
+                    let (below, above) = &**sides;
+                    let (other_below, other_above) = &**others;
                     *variable == *other_variable
                         && *cut == *other_cut
                         && below.is_same(other_below)
@@ -105,13 +104,11 @@ impl<T: Copy + Eq> Node<T> {
         ensures fit { IfOk result (λ r. (room : Space) → variable < 256 → is_open_below room variable cut ≡ true → is_open_above room variable cut ≡ true → IsFit (below_cut room variable cut) below → IsFit (above_cut room variable cut) above → IsFit room r) }
         ensures pass { IfOk result (λ r. (test : ℕ → Bool) → test variable ≡ true → DoForksPass test below → DoForksPass test above → DoForksPass test r) }
     {
-        let below = Box::new(alloc, below)?;
-        let above = Box::new(alloc, above)?;
+        let sides = Box::new(alloc, (below, above))?;
         Ok(Node::Fork {
             variable,
             cut,
-            below,
-            above,
+            sides,
         })
     }
 
@@ -137,23 +134,20 @@ impl<T: Copy + Eq> Node<T> {
             Node::Fork {
                 variable: next,
                 cut: farther,
-                below: near,
-                above: far,
+                mut sides,
             } => {
-                if below.meets(variable, cut, next, farther, &near) {
-                    let below = Box::new(alloc, below)?;
+                if below.meets(variable, cut, next, farther, &sides.0) {
+                    sides.0 = below;
                     return Ok(Node::Fork {
                         variable,
                         cut: farther,
-                        below,
-                        above: far,
+                        sides,
                     });
                 }
                 let above = Node::Fork {
                     variable: next,
                     cut: farther,
-                    below: near,
-                    above: far,
+                    sides,
                 };
                 Node::fork_of(alloc, variable, cut, below, above)
             }
@@ -173,9 +167,9 @@ impl<T: Copy + Eq> Node<T> {
             Node::Fork {
                 variable,
                 cut,
-                below,
-                above,
+                sides,
             } => {
+                let (below, above) = &**sides;
                 if !space.is_open_below(*variable, *cut) {
                     return above.within(alloc, space);
                 }
@@ -212,9 +206,9 @@ impl<T: Copy> Node<T> {
             Node::Fork {
                 variable,
                 cut,
-                below,
-                above,
+                sides,
             } => {
+                let (below, above) = &**sides;
                 let low = below.map(alloc, f)?;
                 let high = above.map(alloc, f)?;
                 Node::fork(alloc, *variable, *cut, low, high)
@@ -242,9 +236,9 @@ impl<T: Copy> Node<T> {
             Node::Fork {
                 variable,
                 cut,
-                below,
-                above,
+                sides,
             } => {
+                let (below, above) = &**sides;
                 if !space.is_open_below(*variable, *cut) {
                     return above.fill(alloc, space, value, f);
                 }
@@ -282,9 +276,9 @@ impl<T: Copy> Node<T> {
             Node::Fork {
                 variable,
                 cut,
-                below,
-                above,
+                sides,
             } => {
+                let (below, above) = &**sides;
                 if !space.is_open_below(*variable, *cut) {
                     return above.join(alloc, space, other, f);
                 }
@@ -329,9 +323,9 @@ impl Node<bool> {
             Node::Fork {
                 variable,
                 cut,
-                below,
-                above,
+                sides,
             } => {
+                let (below, above) = &**sides;
                 if !space.is_open_below(*variable, *cut) {
                     return above.pick(alloc, space, on, off);
                 }

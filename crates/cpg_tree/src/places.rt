@@ -3,7 +3,7 @@ ghost use Rattle.std.specs.Prelude.{◌≡◌, ◌≤◌, ◌++◌, ℕ, Contain
 ghost use Rattle.std.specs.Bool.{OnFalse, OnTrue};
 ghost use Rattle.cpg_base.specs.Scenario.{Scenario};
 ghost use Rattle.cpg_cube.specs.Cube.{IsRising, matches};
-ghost use Rattle.cpg_tree.specs.Space.{Lies, HasFew};
+ghost use Rattle.cpg_tree.specs.Space.{Lies, HasFew, below_cut, above_cut};
 ghost use Rattle.cpg_tree.specs.Decision.{value_at};
 ghost use Rattle.cpg_tree.specs.Places.{IsAmong, IsMatched, place_at, tells_cube};
 ghost use Rattle.cpg_tree.specs.Spots.{IsSaidBy, IsTop, IsKept, IsSorted, KeepsMatches, AreOpen, places_of};
@@ -11,6 +11,7 @@ ghost use Rattle.cpg_tree.specs.Spots.{IsSaidBy, IsTop, IsKept, IsSorted, KeepsM
 use crate::node::Node;
 use crate::slices::led_out;
 use crate::space::Space;
+use crate::tally::Tally;
 use crate::walk::Test;
 use cpg_base::{FIRST_VALUE, OutOfMemory};
 use cpg_cube::{Cube, Literal};
@@ -20,6 +21,10 @@ use std::alloc::Global;
 const EACH: u32 = 6;
 /// How many nodes a tree of few cubes may have.
 const FEW: u32 = 64;
+/// The same for each cube where a cube that goes to both sides of a fork counts as a node, too.
+const EACH_SHARED: u32 = 8;
+/// And besides.
+const FEW_SHARED: u32 = 104;
 
 /// A place, and how many of its cube's first literals hold in the whole space where it stands: a hint where to look, that
 /// no clause speaks of.
@@ -185,7 +190,7 @@ fn keep(
 }
 
 /// The places whose cubes some scenario of each side's space may match.
-fn parted(
+fn parted_in(
     alloc: Global,
     under: &Space,
     over: &Space,
@@ -206,6 +211,38 @@ fn parted(
     Ok(Sides { low, high })
 }
 
+/// The places whose cubes some scenario of each side of a fork may match. In a function of its own, since the spaces of both
+/// sides aren't on the stack then where their trees are made.
+fn parted(
+    alloc: Global,
+    space: &Space,
+    cubes: &[&Cube],
+    spots: Vec<Spot>,
+    cut: Cut,
+) -> Result<Sides, OutOfMemory>
+    requires { AreOpen space.now cut.variable cut.most }
+    ensures low { IfOk result (λ r. KeepsMatches (map (λ b. b.now) cubes.now) (below_cut space.now cut.variable cut.most) (places_of spots.items) (places_of r.low.items)) }
+    ensures high { IfOk result (λ r. KeepsMatches (map (λ b. b.now) cubes.now) (above_cut space.now cut.variable cut.most) (places_of spots.items) (places_of r.high.items)) }
+{
+    let under = space.below(cut.variable, cut.most);
+    let over = space.above(cut.variable, cut.most);
+    let sides = parted_in(alloc, &under, &over, cubes, spots, cut.variable)?;
+    Ok(sides)
+}
+
+/// A cut that has numbers of the space on both sides.
+fn open_cut(space: &Space, variable: u8, most: u8) -> Option<Cut>
+    ensures { IfSome result (λ r. AreOpen space.now r.variable r.most) }
+{
+    if !space.is_open_below(variable, most) {
+        return None;
+    }
+    if !space.is_open_above(variable, most) {
+        return None;
+    }
+    Some(Cut { variable, most })
+}
+
 /// Where a literal parts a space, if it does.
 pub(crate) fn cut_of(space: &Space, literal: Literal) -> Option<Cut>
     ensures { IfSome result (λ r. AreOpen space.now r.variable r.most) }
@@ -215,16 +252,7 @@ pub(crate) fn cut_of(space: &Space, literal: Literal) -> Option<Cut>
     } else {
         literal.high
     };
-    if !space.is_open_below(literal.variable, most) {
-        return None;
-    }
-    if !space.is_open_above(literal.variable, most) {
-        return None;
-    }
-    Some(Cut {
-        variable: literal.variable,
-        most,
-    })
+    open_cut(space, literal.variable, most)
 }
 
 /// Whether literals hold in the whole space.
@@ -239,8 +267,67 @@ fn do_hold(space: &Space, literals: &[Literal]) -> bool
     true
 }
 
+/// The literals of a place's cube from the first on that may not hold in the whole space.
+fn open_literals<'a>(cubes: &[&'a Cube], spot: Spot) -> &'a [Literal] {
+    let Some(cube) = cubes.get(spot.place as usize) else {
+        return &[];
+    };
+    let literals = cube.literals();
+    let from = literals.len().min(spot.held as usize);
+    &literals[from..]
+}
+
+/// Counts the open literals of some places.
+fn count_all(cubes: &[&Cube], spots: &[Spot], tally: &mut Tally) {
+    for spot in spots {
+        tally.add(open_literals(cubes, *spot));
+    }
+}
+
+/// Takes these counts away.
+fn clear_all(cubes: &[&Cube], spots: &[Spot], tally: &mut Tally) {
+    for spot in spots {
+        tally.clear(open_literals(cubes, *spot));
+    }
+}
+
+/// The cut that parts some places best, by a tally that has tables.
+fn best_cut(space: &Space, cubes: &[&Cube], spots: &[Spot], tally: &mut Tally) -> Option<Cut>
+    ensures { IfSome result (λ r. AreOpen space.now r.variable r.most) }
+{
+    if !tally.is_kept() {
+        return None;
+    }
+    let first = *spots.first()?;
+    let count = u32::try_from(spots.len()).ok()?;
+    count_all(cubes, spots, tally);
+    let found = tally.best_by(open_literals(cubes, first), count);
+    clear_all(cubes, spots, tally);
+    let parting = found?;
+    open_cut(space, parting.variable, parting.most)
+}
+
+/// Where to part two or more places: where a tally says, or else at the first one's open literal.
+fn fork_at(
+    space: &Space,
+    cubes: &[&Cube],
+    spots: &[Spot],
+    literal: Literal,
+    tally: &mut Tally,
+) -> Option<Cut>
+    ensures { IfSome result (λ r. AreOpen space.now r.variable r.most) }
+{
+    if spots.len() > 1 {
+        let best = best_cut(space, cubes, spots, tally);
+        if best.is_some() {
+            return best;
+        }
+    }
+    cut_of(space, literal)
+}
+
 /// The top of the tree of some places for the scenarios of a space.
-fn top_of(space: &Space, cubes: &[&Cube], spots: &[Spot]) -> Top
+fn top_of(space: &Space, cubes: &[&Cube], spots: &[Spot], tally: &mut Tally) -> Top
     ensures { IsTop (map (λ b. b.now) cubes.now) space.now (places_of spots.now) result }
 {
     let Some((first, rest)) = spots.split_first() else {
@@ -251,7 +338,7 @@ fn top_of(space: &Space, cubes: &[&Cube], spots: &[Spot]) -> Top
     };
     let literals = cube.literals();
     if let Some(literal) = open_literal(space, literals, first.held as usize) {
-        return match cut_of(space, literal) {
+        return match fork_at(space, cubes, spots, literal, tally) {
             Some(cut) => Top::Fork(cut),
             None => Top::Unknown,
         };
@@ -265,28 +352,43 @@ fn top_of(space: &Space, cubes: &[&Cube], spots: &[Spot]) -> Top
     Top::Leaf(Some(first.place))
 }
 
-/// The tree of places that a fork parts.
+/// How many more nodes there may be where a fork parts so many places: each that goes to both sides counts as one.
+fn left_after(left: u32, count: usize, sides: &Sides) -> u32
+    ensures { result ≤ left }
+{
+    let both = sides.low.len().saturating_add(sides.high.len());
+    let shared = both.saturating_sub(count).min(u32::MAX as usize);
+    left.saturating_sub(shared as u32)
+}
+
+/// The tree of places that a fork parts. The space is as before where there is a tree.
 #[cycle(sorted)]
 fn forked(
     alloc: Global,
-    space: &Space,
+    space: &mut Space,
     cubes: &[&Cube],
     spots: Vec<Spot>,
     cut: Cut,
     left: u32,
+    tally: &mut Tally,
 ) -> Result<Option<Sorted>, OutOfMemory>
-    requires { AreOpen space.now cut.variable cut.most }
-    ensures { IfOk result (λ r. IfSome r (IsSorted (map (λ b. b.now) cubes.now) space.now (places_of spots.items) left)) }
+    requires { AreOpen space.old cut.variable cut.most }
+    ensures sorted { IfOk result (λ r. IfSome r (IsSorted (map (λ b. b.now) cubes.now) space.old (places_of spots.items) left)) }
+    ensures same { IfOk result (λ r. IfSome r (λ _. space.new ≡ space.old)) }
 {
-    let under = space.below(cut.variable, cut.most);
-    let over = space.above(cut.variable, cut.most);
-    let sides = parted(alloc, &under, &over, cubes, spots, cut.variable)?;
-    let Some(below) = sorted_out(alloc, &under, cubes, sides.low, left)? else {
+    let count = spots.len();
+    let sides = parted(alloc, space, cubes, spots, cut)?;
+    let rest = left_after(left, count, &sides);
+    let most = space.close_above(cut.variable, cut.most);
+    let Some(below) = sorted_out(alloc, space, cubes, sides.low, rest, tally)? else {
         return Ok(None);
     };
-    let Some(above) = sorted_out(alloc, &over, cubes, sides.high, below.left)? else {
+    space.reopen_above(cut.variable, most);
+    let was = space.close_below(cut.variable, cut.most);
+    let Some(above) = sorted_out(alloc, space, cubes, sides.high, below.left, tally)? else {
         return Ok(None);
     };
+    space.reopen_below(cut.variable, was);
     let node = Node::fork_of(alloc, cut.variable, cut.most, below.node, above.node)?;
     Ok(Some(Sorted {
         node,
@@ -295,27 +397,29 @@ fn forked(
 }
 
 /// The tree of these places for the scenarios of a space, with at most so many nodes; `None` where two cubes may match
-/// together, or where there would be more nodes.
+/// together, or where there would be more nodes. The space is as before where there is a tree.
 #[cycle(sorted)]
 fn sorted_out(
     alloc: Global,
-    space: &Space,
+    space: &mut Space,
     cubes: &[&Cube],
     spots: Vec<Spot>,
     left: u32,
+    tally: &mut Tally,
 ) -> Result<Option<Sorted>, OutOfMemory>
-    ensures { IfOk result (λ r. IfSome r (IsSorted (map (λ b. b.now) cubes.now) space.now (places_of spots.items) left)) }
+    ensures sorted { IfOk result (λ r. IfSome r (IsSorted (map (λ b. b.now) cubes.now) space.old (places_of spots.items) left)) }
+    ensures same { IfOk result (λ r. IfSome r (λ _. space.new ≡ space.old)) }
 {
     if left == 0 {
         return Ok(None);
     }
-    match top_of(space, cubes, spots.as_slice()) {
+    match top_of(space, cubes, spots.as_slice(), tally) {
         Top::Unknown => Ok(None),
         Top::Leaf(place) => Ok(Some(Sorted {
             node: Node::Leaf(place),
             left: left - 1,
         })),
-        Top::Fork(cut) => forked(alloc, space, cubes, spots, cut, left - 1),
+        Top::Fork(cut) => forked(alloc, space, cubes, spots, cut, left - 1, tally),
     }
 }
 
@@ -331,7 +435,28 @@ fn spots_of(alloc: Global, space: &Space, cubes: &[&Cube]) -> Result<Vec<Spot>, 
     Ok(spots)
 }
 
-/// The tree of places of cubes in any order, in the scenarios of at most `k` faults and with at most so many nodes.
+/// The tree of places of cubes in any order, in the scenarios of at most `k` faults and with at most so many nodes, by forks
+/// that a tally chooses.
+fn all_sorted_by(
+    alloc: Global,
+    k: u8,
+    cubes: &[&Cube],
+    nodes: u32,
+    tally: &mut Tally,
+) -> Result<Option<Node<Option<u32>>>, OutOfMemory>
+    requires { length cubes.now ≤ 524288 }
+    ensures { IfOk result (λ r. IfSome r (λ n. (s : Scenario) → HasFew k s → tells_cube (map (λ b. b.now) cubes.now) (value_at n s) s)) }
+{
+    let mut space = Space::whole(k);
+    let spots = spots_of(alloc, &space, cubes)?;
+    match sorted_out(alloc, &mut space, cubes, spots, nodes, tally)? {
+        Some(sorted) => Ok(Some(sorted.node)),
+        None => Ok(None),
+    }
+}
+
+/// The same by forks at the first literal that is open, or, if that leads to no tree, by those that part the cubes best. The
+/// first is mostly a way, and takes less time.
 fn all_sorted_out(
     alloc: Global,
     k: u8,
@@ -341,12 +466,13 @@ fn all_sorted_out(
     requires { length cubes.now ≤ 524288 }
     ensures { IfOk result (λ r. IfSome r (λ n. (s : Scenario) → HasFew k s → tells_cube (map (λ b. b.now) cubes.now) (value_at n s) s)) }
 {
-    let space = Space::whole(k);
-    let spots = spots_of(alloc, &space, cubes)?;
-    let Some(sorted) = sorted_out(alloc, &space, cubes, spots, nodes)? else {
-        return Ok(None);
-    };
-    Ok(Some(sorted.node))
+    let mut tally = Tally::new(alloc);
+    if let Some(root) = all_sorted_by(alloc, k, cubes, nodes, &mut tally)? {
+        return Ok(Some(root));
+    }
+    tally.keep(alloc)?;
+    let root = all_sorted_by(alloc, k, cubes, nodes, &mut tally)?;
+    Ok(root)
 }
 
 /// For each scenario the place of the one cube that it matches, if it matches one.
@@ -367,6 +493,7 @@ impl Places {
         if let Some(root) = led_out(alloc, k, cubes, nodes)? {
             return Ok(Some(Places { root }));
         }
+        let nodes = cubes.len() as u32 * EACH_SHARED + FEW_SHARED;
         let Some(root) = all_sorted_out(alloc, k, cubes, nodes)? else {
             return Ok(None);
         };

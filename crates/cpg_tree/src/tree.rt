@@ -44,7 +44,8 @@ impl<T> Node<T> {
     {
         match self {
             Node::Leaf(_) => Some(1),
-            Node::Fork { below, above, .. } => {
+            Node::Fork { sides, .. } => {
+                let (below, above) = &**sides;
                 let low = below.count()?;
                 let high = above.count()?;
                 low.checked_add(high)

@@ -1,10 +1,9 @@
 //! Whether a test passes wherever scenarios of a space come to.
-ghost use Rattle.std.specs.Prelude.{◌≤◌, ◌<◌, ℕ, Option};
+ghost use Rattle.std.specs.Prelude.{◌≡◌, ℕ, Option};
 ghost use Rattle.std.specs.Bool.{OnTrue};
-ghost use Rattle.cpg_base.specs.Scenario.{Scenario, number_of};
+ghost use Rattle.cpg_base.specs.Scenario.{Scenario};
 ghost use Rattle.cpg_tree.specs.Space.{Lies};
 ghost use Rattle.cpg_tree.specs.Decision.{value_at};
-ghost use Rattle.cpg_tree.specs.Spots.{AreOpen};
 
 use crate::node::Node;
 use crate::space::Space;
@@ -19,8 +18,51 @@ pub trait Test {
 }
 
 impl Node<Option<u32>> {
-    /// Whether a test passes at each place that scenarios of a space come to.
-    #[cycle(walk)]
+    /// Whether a test passes at each place that scenarios of a space come to. The space is changed on the way, and is as
+    /// before where it does.
+    fn do_pass_each<J: Test>(&self, space: &mut Space, test: &J) -> bool
+        ensures passed { OnTrue result ((s : Scenario) → Lies space.old s → J.tells test.now (value_at self.now s) s) }
+        ensures same { OnTrue result (space.new ≡ space.old) }
+    {
+        match self {
+            Node::Leaf(place) => test.passes(*place, space),
+            Node::Fork {
+                variable,
+                cut,
+                sides,
+            } => {
+                let (below, above) = &**sides;
+                if !space.is_open_below(*variable, *cut) {
+                    return above.do_pass_each(space, test);
+                }
+                if !space.is_open_above(*variable, *cut) {
+                    return below.do_pass_each(space, test);
+                }
+                let most = space.close_above(*variable, *cut);
+                if !below.do_pass_each(space, test) {
+                    return false;
+                }
+                space.reopen_above(*variable, most);
+                let was = space.close_below(*variable, *cut);
+                if !above.do_pass_each(space, test) {
+                    return false;
+                }
+                space.reopen_below(*variable, was);
+                true
+            }
+        }
+    }
+
+    /// The same with a space of its own to change. In a function of its own, since that is cleared at each call.
+    fn do_pass_in_all<J: Test>(&self, space: &Space, test: &J) -> bool
+        ensures { OnTrue result ((s : Scenario) → Lies space.now s → J.tells test.now (value_at self.now s) s) }
+    {
+        let mut own = *space;
+        self.do_pass_each(&mut own, test)
+    }
+
+    /// Whether a test passes at each place that scenarios of a space come to. The space isn't copied as long as one side of
+    /// each fork is closed, as mostly.
     pub(crate) fn do_pass<J: Test>(&self, space: &Space, test: &J) -> bool
         ensures { OnTrue result ((s : Scenario) → Lies space.now s → J.tells test.now (value_at self.now s) s) }
     {
@@ -29,38 +71,17 @@ impl Node<Option<u32>> {
             Node::Fork {
                 variable,
                 cut,
-                below,
-                above,
+                sides,
             } => {
+                let (below, above) = &**sides;
                 if !space.is_open_below(*variable, *cut) {
                     return above.do_pass(space, test);
                 }
                 if !space.is_open_above(*variable, *cut) {
                     return below.do_pass(space, test);
                 }
-                if !below.do_pass_under(*variable, *cut, space, test) {
-                    return false;
-                }
-                above.do_pass_over(*variable, *cut, space, test)
+                self.do_pass_in_all(space, test)
             }
         }
-    }
-
-    /// The same for the scenarios up to a cut. In a function of its own, since a space of its own is cleared at each call,
-    /// and on the way down mostly one side of a fork is closed.
-    #[cycle(walk)]
-    fn do_pass_under<J: Test>(&self, variable: u8, cut: u8, space: &Space, test: &J) -> bool
-        ensures { OnTrue result ((s : Scenario) → Lies space.now s → number_of s variable ≤ cut → J.tells test.now (value_at self.now s) s) }
-    {
-        self.do_pass(&space.below(variable, cut), test)
-    }
-
-    /// The same for the scenarios above a cut.
-    #[cycle(walk)]
-    fn do_pass_over<J: Test>(&self, variable: u8, cut: u8, space: &Space, test: &J) -> bool
-        requires { AreOpen space.now variable cut }
-        ensures { OnTrue result ((s : Scenario) → Lies space.now s → cut < number_of s variable → J.tells test.now (value_at self.now s) s) }
-    {
-        self.do_pass(&space.above(variable, cut), test)
     }
 }

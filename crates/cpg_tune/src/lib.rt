@@ -1,4 +1,5 @@
-//! The best number of parts of each process of a graph, and for each fault number what a judge says of the graph so tuned.
+//! The best number of parts of each process of a graph, for each fault number what a judge says of the graph so tuned, and the
+//! laws on both.
 #![tactic(auto)]
 
 ghost use Rattle.cpg_tune.specs.RetunedLaws.{RetunedKeepRules, RetunedShowNoFault, TunedShowNoFault};

@@ -10,4 +10,5 @@ pub mod PartedCode
 pub mod PartedView
 pub mod PartedFalls
 pub mod Sieves
+pub mod Parts
 pub mod Lines

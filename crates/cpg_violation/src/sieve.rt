@@ -1,15 +1,17 @@
 //! Columns sorted by the ranges of their literals, so that those that may match together with a cube are found without a
 //! look at each.
-ghost use Rattle.std.specs.Prelude.{◌≡◌, ◌≤◌, ◌<◌, ◌&&◌, ℕ, Bool, IfOk, Contains, false, length, nat_le, not, true};
+ghost use Rattle.std.specs.Prelude.{◌≡◌, ◌≤◌, ◌<◌, ◌&&◌, ℕ, Bool, IfOk, IfSome, Contains, false, length, nat_le, not, true};
 ghost use Rattle.std.specs.Bool.{OnFalse};
 ghost use Rattle.cpg_base.specs.declared.limits.TheConstants.{MOST_LOAD};
 ghost use Rattle.cpg_base.specs.Scenario.{Scenario, number_of};
 ghost use Rattle.cpg_cube.specs.Cube.{holds, matches};
 ghost use Rattle.cpg_violation.specs.Sieves.{IsSieveOf, Sifts, column_at, places_in};
+ghost use Rattle.cpg_violation.specs.Parts.{ArePartsOf};
 
 use crate::apart::may_meet;
 use cpg_base::OutOfMemory;
 use cpg_cube::{Cube, Entry, Literal};
+use cpg_tree::Tally;
 use std::alloc::Global;
 use std::marker::Model;
 
@@ -182,11 +184,12 @@ fn sample_of(alloc: Global, places: &[u32]) -> Result<Vec<u32>, OutOfMemory> {
     Ok(sample)
 }
 
-/// Where to part these places, if they are many and some cut parts them.
-fn cut_of(alloc: Global, columns: &[Entry], places: &[u32]) -> Result<Option<Cut>, OutOfMemory> {
-    if places.len() <= FEW {
-        return Ok(None);
-    }
+/// Where some of these places say to part them: it takes little time, and mostly there is such a cut.
+fn sampled_cut(
+    alloc: Global,
+    columns: &[Entry],
+    places: &[u32],
+) -> Result<Option<Cut>, OutOfMemory> {
     let Some(place) = places.get(places.len() / 2) else {
         return Ok(None);
     };
@@ -195,6 +198,41 @@ fn cut_of(alloc: Global, columns: &[Entry], places: &[u32]) -> Result<Option<Cut
     };
     let sample = sample_of(alloc, places)?;
     Ok(first_cut(columns, sample.as_slice(), column))
+}
+
+/// The literals of the column at a place, if there is one.
+fn literals_at(columns: &[Entry], place: u32) -> &[Literal] {
+    match columns.get(place as usize) {
+        Some(column) => column.cube.literals(),
+        None => &[],
+    }
+}
+
+/// Counts the literals of the columns at some places.
+fn count_all(columns: &[Entry], places: &[u32], tally: &mut Tally) {
+    for place in places {
+        tally.add(literals_at(columns, *place));
+    }
+}
+
+/// Takes these counts away.
+fn clear_all(columns: &[Entry], places: &[u32], tally: &mut Tally) {
+    for place in places {
+        tally.clear(literals_at(columns, *place));
+    }
+}
+
+/// The cut that parts these places best, by all their columns' literals.
+fn tallied_cut(columns: &[Entry], places: &[u32], tally: &mut Tally) -> Option<Cut> {
+    let count = u32::try_from(places.len()).ok()?;
+    count_all(columns, places, tally);
+    let found = tally.best(count);
+    clear_all(columns, places, tally);
+    let parting = found?;
+    Some(Cut {
+        variable: parting.variable,
+        most: parting.most,
+    })
 }
 
 /// The places that go to one side of a cut.
@@ -216,12 +254,90 @@ fn part(
     Ok(kept)
 }
 
+/// The places on both sides of a cut.
+#[derive(Drop)]
+struct Sides {
+    cut: Cut,
+    low: Vec<u32>,
+    high: Vec<u32>,
+}
+
+/// The sides of a cut, if it parts these places with few on both sides.
+fn sides_at(
+    alloc: Global,
+    columns: &[Entry],
+    places: &[u32],
+    cut: Cut,
+) -> Result<Option<Sides>, OutOfMemory>
+    ensures { IfOk result (λ r. IfSome r (ArePartsOf columns.now places.now)) }
+{
+    let low = part(alloc, columns, places, cut, true)?;
+    let high = part(alloc, columns, places, cut, false)?;
+    if !is_parted(places.len(), low.len(), high.len()) {
+        return Ok(None);
+    }
+    Ok(Some(Sides { cut, low, high }))
+}
+
+/// The sides of the cut that some of these places say, if it parts all of them with few on both sides.
+fn sampled_sides(
+    alloc: Global,
+    columns: &[Entry],
+    places: &[u32],
+) -> Result<Option<Sides>, OutOfMemory>
+    ensures { IfOk result (λ r. IfSome r (ArePartsOf columns.now places.now)) }
+{
+    let Some(cut) = sampled_cut(alloc, columns, places)? else {
+        return Ok(None);
+    };
+    let sides = sides_at(alloc, columns, places, cut)?;
+    Ok(sides)
+}
+
+/// The sides of the cut that parts these places best, if it leaves few on both sides.
+fn tallied_sides(
+    alloc: Global,
+    columns: &[Entry],
+    places: &[u32],
+    tally: &mut Tally,
+) -> Result<Option<Sides>, OutOfMemory>
+    ensures { IfOk result (λ r. IfSome r (ArePartsOf columns.now places.now)) }
+{
+    tally.keep(alloc)?;
+    let Some(cut) = tallied_cut(columns, places, tally) else {
+        return Ok(None);
+    };
+    let sides = sides_at(alloc, columns, places, cut)?;
+    Ok(sides)
+}
+
+/// The sides of a cut of these places, if they are many and one parts them with few on both sides.
+fn sides_of(
+    alloc: Global,
+    columns: &[Entry],
+    places: &[u32],
+    tally: &mut Tally,
+) -> Result<Option<Sides>, OutOfMemory>
+    ensures { IfOk result (λ r. IfSome r (ArePartsOf columns.now places.now)) }
+{
+    if places.len() <= FEW {
+        return Ok(None);
+    }
+    let sampled = sampled_sides(alloc, columns, places)?;
+    if sampled.is_some() {
+        return Ok(sampled);
+    }
+    let sides = tallied_sides(alloc, columns, places, tally)?;
+    Ok(sides)
+}
+
 /// These places, parted so many times at most.
 fn sifted(
     alloc: Global,
     columns: &[Entry],
     places: Vec<u32>,
     depth: u32,
+    tally: &mut Tally,
 ) -> Result<Sieve, OutOfMemory>
     ensures { IfOk result (Sifts columns.now places.items) }
 {
@@ -230,16 +346,14 @@ fn sifted(
             node: Node::Leaf(places),
         });
     }
-    let found = cut_of(alloc, columns, places.as_slice())?;
-    let Some(cut) = found else {
+    let Some(sides) = sides_of(alloc, columns, places.as_slice(), tally)? else {
         return Ok(Sieve {
             node: Node::Leaf(places),
         });
     };
-    let low = part(alloc, columns, places.as_slice(), cut, true)?;
-    let high = part(alloc, columns, places.as_slice(), cut, false)?;
-    let below = sifted(alloc, columns, low, depth - 1)?;
-    let above = sifted(alloc, columns, high, depth - 1)?;
+    let cut = sides.cut;
+    let below = sifted(alloc, columns, sides.low, depth - 1, tally)?;
+    let above = sifted(alloc, columns, sides.high, depth - 1, tally)?;
     let below = Box::new(alloc, below)?;
     let above = Box::new(alloc, above)?;
     Ok(Sieve {
@@ -290,7 +404,8 @@ impl Sieve {
         for place in 0..columns.len() as u32 {
             places.push(place)?;
         }
-        let sieve = sifted(alloc, columns, places, DEPTH)?;
+        let mut tally = Tally::new(alloc);
+        let sieve = sifted(alloc, columns, places, DEPTH, &mut tally)?;
         Ok(sieve)
     }
 

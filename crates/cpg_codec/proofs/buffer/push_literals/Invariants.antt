@@ -1,12 +1,15 @@
-use Rattle.std.proofs.Common.{◌≡◌, ◌+◌, ◌*◌, ◌++◌, take}
+use Rattle.std.proofs.Common.{◌≡◌, ◌+◌, ◌*◌, ◌≤◌, ◌++◌, length}
 use Rattle.std.specs.Prelude.{vec_len, vec_capacity}
 use Rattle.std.specs.List.{flat_map}
 use Rattle.cpg_codec.specs.Spelling.{literal_bytes}
 use Rattle.cpg_codec.proofs.buffer.push_literals.Given as goal
 
-abbrev pub invariant-loop-literal : goal.invariant-loop-literal
-invariant-loop-literal l = record {
-  items : l.bytes.items ≡ l.fn.bytes.items ++ flat_map literal_bytes (take l.literal-index l.fn.literals);
-  len : vec_len l.bytes ≡ vec_len l.fn.bytes + 3 * l.literal-index;
-  capacity : vec_capacity l.bytes ≡ vec_capacity l.fn.bytes;
+abbrev pub invariant-loop-block : goal.invariant-loop-block
+invariant-loop-block l = record {
+  items : l.fn.bytes.items ++ flat_map literal_bytes l.fn.literals ≡ l.bytes.items ++ flat_map literal_bytes l.left;
+  len : vec_len l.bytes + 3 * length l.left ≡ vec_len l.fn.bytes + 3 * length l.fn.literals;
+  capacity : vec_capacity l.fn.bytes ≤ vec_capacity l.bytes;
 }
+
+abbrev pub decreases-loop-block : goal.decreases-loop-block
+decreases-loop-block l = length l.left

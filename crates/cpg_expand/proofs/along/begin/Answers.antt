@@ -1,57 +1,19 @@
-use Rattle.std.proofs.Common.{◌<◌, ◌∙◌, ap, sym, subst, length, arith}
-use Rattle.cpg_base.specs.Graph.{Graph, process_count}
-use Rattle.cpg_rules.specs.Guards.{Guards, tree_of}
-use Rattle.cpg_expand.specs.Forest.{HasTrees, IsWait, ready_by}
-use Rattle.cpg_expand.specs.Waiting.{IsWaitTree}
-use Rattle.cpg_expand.specs.declared.forest.Ready.{Ready}
-use Rattle.cpg_expand.proofs.BegunMade.{few_here, tests_here, leads_here, inputs_here, has_begun, begun_made}
-use Rattle.cpg_expand.proofs.SentTrees.{fixed_count}
+use Rattle.std.proofs.Common.{◌≡◌, ◌∙◌, false, refl, sym, subst, inl}
+use Rattle.cpg_base.specs.Graph.{Graph, is_frozen}
 use Rattle.cpg_expand.proofs.along.begin.Goals as goal
-
-pub guard_of-guard-requires : goal.guard_of-guard-requires
-guard_of-guard-requires c =
-    let trees = c.guards.ensures.admitted.guards.count in
-    let guards = ap (λ (x : Guards). length x.trees) c.guards.ensures.guards in
-    let within = c.requires.process in
-    omega arith
-
-pub active-requires-clause-few : goal.active-requires-clause-few
-active-requires-clause-few c = few_here c.args.admitted.now.graph c.args.admitted.now.order c.args.admitted.now.guards c.guards.ensures.admitted c.problem-problem.result.now c.problem-problem.ensures.problem
-
-pub active-requires-clause-tests : goal.active-requires-clause-tests
-active-requires-clause-tests c = tests_here c.args.admitted.now.graph c.args.admitted.now.order c.args.admitted.now.guards c.guards.ensures.admitted c.problem-problem.result.now c.problem-problem.ensures.problem
-    c.guards.result.now c.guards.ensures.guards c.guard_of-guard.result.now c.guard_of-guard.ensures.below
-
-pub unfrozen_start-requires-clause-inputs : goal.unfrozen_start-requires-clause-inputs
-unfrozen_start-requires-clause-inputs c = inputs_here c.problem-problem.result.now c.args.process c.inputs-inputs.result.now c.inputs-inputs.ensures
-
-pub unfrozen_start-requires-clause-leaves : goal.unfrozen_start-requires-clause-leaves
-unfrozen_start-requires-clause-leaves c = leads_here c.args.admitted.now.graph c.args.admitted.now.order c.args.admitted.now.guards c.guards.ensures.admitted c.problem-problem.result.now c.problem-problem.ensures.problem
-    c.args.process c.requires.process c.guard_of-guard.result.now (c.guard_of-guard.ensures.tree ∙ ap (λ (x : Guards). tree_of x c.args.process) c.guards.ensures.guards)
-
-pub returns-clause-trees : goal.returns-clause-trees
-returns-clause-trees c =
-    let same = c.problem-problem.ensures.problem in
-    subst (λ (g : Graph). HasTrees g c.put_begun.new.forest) same
-    (has_begun c.problem-problem.result.now c.args.forest.now c.put_begun.new.forest c.args.process c.node_of-node.result c.in_ok-start.start c.in_ok-end.end c.in_ok-ready.ready
-    (subst (λ (g : Graph). c.args.process < process_count g) (sym same) c.requires.process) c.node_of-node.ensures.node
-    (subst (λ (g : Graph). HasTrees g c.args.forest.now) (sym same) c.requires.forest) c.in_ok-start.ensures.tree c.in_ok-end.ensures.tree c.in_ok-ready.ensures.of c.put_begun.ensures)
-
-pub returns-clause-count : goal.returns-clause-count
-returns-clause-count c =
-    fixed_count c.problem-problem.result.now c.order.result.now c.args.process c.in_ok-unfrozen.unfrozen c.in_ok-active.active c.args.frozen.now c.fixed_if.new.frozen c.in_ok-start.start c.in_ok-start.ensures.fixed ∙ c.requires.frozen
 
 pub returns-clause-begun : goal.returns-clause-begun
 returns-clause-begun c =
-    begun_made c.args.admitted.now.graph c.problem-problem.result.now c.problem-problem.ensures.problem c.args.admitted.now.order c.order.result.now c.order.ensures.order c.args.process
-    (tree_of c.args.admitted.now.guards c.args.process) c.guard_of-guard.result.now (c.guard_of-guard.ensures.tree ∙ ap (λ (x : Guards). tree_of x c.args.process) c.guards.ensures.guards)
-    c.node_of-node.result c.node_of-node.ensures.node c.inputs-inputs.result.now c.inputs-inputs.ensures c.args.forest.now c.put_begun.new.forest c.args.frozen.now c.fixed_if.new.frozen
-    c.in_ok-active.active c.in_ok-active.ensures.tree c.in_ok-active.ensures.active (ready_by c.problem-problem.result.now c.args.forest.now c.wait_for-wait.result.now)
-    (subst (λ (r : Ready). IsWaitTree c.problem-problem.result.now c.args.forest.now c.node_of-node.result c.guard_of-guard.result.now (ready_by c.problem-problem.result.now c.args.forest.now r)) (sym c.wait_for-wait.ensures) c.in_ok-heard.ensures.wait) c.in_ok-unfrozen.unfrozen c.in_ok-unfrozen.ensures.tree c.in_ok-unfrozen.ensures.start
-    c.in_ok-start.start c.in_ok-start.ensures.fixed c.in_ok-end.end c.in_ok-end.ensures.end c.in_ok-ready.ready c.in_ok-ready.ensures.of c.in_ok-ready.ensures.ready c.put_begun.ensures
-
-pub unfrozen_start-requires-clause-wait : goal.unfrozen_start-requires-clause-wait
-unfrozen_start-requires-clause-wait c = subst (IsWait c.problem-problem.result.now) (sym c.wait_for-wait.ensures) c.in_ok-heard.ensures.of
-
-pub ready-requires-clause-wait : goal.ready-requires-clause-wait
-ready-requires-clause-wait c = subst (IsWait c.problem-problem.result.now) (sym c.wait_for-wait.ensures) c.in_ok-heard.ensures.of
+    let b = c.in_ok-active-2.ensures.begun c.args.order.now in
+    record {
+      chooser_tree = b.chooser_tree;
+      actives = b.actives;
+      start = b.start;
+      starts = inl (subst (λ (g : Graph). is_frozen g c.args.process ≡ false) c.problem.ensures.problem (sym c.is_frozen.ensures ∙ c.if-is_frozen.false), refl, b.starts);
+      end = b.end;
+      ends = b.ends;
+      ready = b.ready;
+      ready_after = b.ready_after;
+      readies = b.readies;
+      is = b.is;
+    }

@@ -4,5 +4,5 @@ use Rattle.cpg_expand.proofs.along.step.Goals as goal
 pub returns-clause-grown : goal.returns-clause-grown
 returns-clause-grown c =
     let a = c.args.admitted.now in
-    stepped a.graph a.order a.guards c.problem-problem.ensures.admitted c.args.process c.requires.process c.args.forest.now c.begin.new.forest c.send.new.forest c.args.frozen.now c.begin.new.frozen c.send.new.frozen
+    stepped a.graph a.order a.guards c.problem-problem.ensures.admitted c.args.order.now c.args.process c.requires.process c.args.forest.now c.begin.new.forest c.send.new.forest c.args.frozen.now c.begin.new.frozen c.send.new.frozen
     c.in_ok-active.active c.in_ok-active.ensures.begun c.in_ok-active.ensures.trees c.in_ok-send.ensures.added

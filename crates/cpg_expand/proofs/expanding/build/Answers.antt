@@ -34,9 +34,7 @@ tables_of-requires-clause-rows c =
     let made : AreRowsOf g urgency forest.times rows = said_of (λ h us ts. AreRowsOf h us ts rows) g c.problem-problem.result.now urgency c.order-urgency.result.now forest.times c.as_slice-times.result.now
     c.problem-problem.ensures.problem c.order-urgency.ensures.order (c.as_slice-times.ensures.value ∙ ap (λ (m : GrownForest). m.forest.times) c.grown-2.view_is) c.in_ok-rows.ensures in
     let found : AreRowsFound g urgency order frozen rows = grown_rows_found g urgency c.args.admitted.now.guards a order c.requires.topological frozen forest c.in_ok-grown.ensures rows made in
-    subst (λ (h : Graph). AreWritable h c.as_slice-3.result.now) (sym c.problem-problem.ensures.problem)
-    (subst (AreWritable g) (sym c.as_slice-3.ensures.value)
-    (found_rows_are_writable g urgency order frozen rows a.limits admitted found (none_too_wide g order c.requires.narrow)))
+    subst (λ (h : Graph). AreWritable h rows) (sym c.problem-problem.ensures.problem) (found_rows_are_writable g urgency order frozen rows a.limits admitted found (none_too_wide g order c.requires.narrow))
 
 pub returns-then-not-is_under-clause-none : goal.returns-then-not-is_under-clause-none
 returns-then-not-is_under-clause-none c =
@@ -105,8 +103,7 @@ returns-clause-built c =
     a.limits (admitted_under g urgency order guards a c.requires.topological)
     (record {
       found = grown_rows_found g urgency guards a order c.requires.topological frozen forest grown rows made;
-      written = subst (λ (rs : List Row). AreTablesWith g rs c.in_ok-tables.tables) c.as_slice-3.ensures.value
-          (subst (λ (h : Graph). AreTablesWith h c.as_slice-3.result.now c.in_ok-tables.tables) c.problem-problem.ensures.problem c.in_ok-tables.ensures);
+      written = subst (λ (h : Graph). AreTablesWith h rows c.in_ok-tables.tables) c.problem-problem.ensures.problem c.in_ok-tables.ensures;
       worst = worst order frozen c.requires.topological tells;
       excess = excess order frozen c.requires.topological tells;
     })

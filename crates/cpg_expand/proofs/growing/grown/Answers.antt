@@ -31,3 +31,6 @@ pub returns : goal.returns
 returns c =
     all_grown c.args.admitted.now.graph c.args.order.now c.requires.topological c.loop-process.process-index
     (omega (arith, ap length c.processes-process-items.ensures.processes, c.loop-process-test.false, c.loop-process.auto.process-index-end)) c.loop-process.frozen c.loop-process.forest c.loop-process.invariant
+
+pub step-requires-clause-order : goal.step-requires-clause-order
+step-requires-clause-order c = length_order (process_count c.args.admitted.now.graph) c.args.order.now c.requires.topological.all

@@ -33,6 +33,6 @@ loop-item-preserved c =
     record {
       trees = c.in_ok-add.ensures.trees;
       count = c.in_ok-add.ensures.count;
-      added = next_added g c.args.admitted.now.order c.args.active.now qs c.loop-item.item-index inside c.args.forest.now c.loop-item.forest c.add.new.forest c.args.frozen.now c.loop-item.frozen c.add.new.frozen c.loop-item.invariant.added
-          (subst (λ x. IsItemAdded g c.args.admitted.now.order c.args.active.now x c.loop-item.forest c.add.new.forest c.loop-item.frozen c.add.new.frozen) here c.in_ok-add.ensures.added);
+      added = next_added g c.args.active.now qs c.loop-item.item-index inside c.args.forest.now c.loop-item.forest c.add.new.forest c.args.frozen.now c.loop-item.frozen c.add.new.frozen c.loop-item.invariant.added
+          (subst (λ x. IsItemAdded g c.args.active.now x c.loop-item.forest c.add.new.forest c.loop-item.frozen c.add.new.frozen) here c.in_ok-add.ensures.added);
     }

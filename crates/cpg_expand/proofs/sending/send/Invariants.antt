@@ -9,5 +9,5 @@ abbrev pub invariant-loop-item : goal.invariant-loop-item
 invariant-loop-item l = record {
   trees : HasTrees l.admitted.graph l.forest;
   count : length l.frozen ≡ item_count l.admitted.graph;
-  added : AreItemsAdded l.admitted.graph l.admitted.order l.active (take l.item-index (queue_of l.admitted.graph l.process)) l.fn.forest l.forest l.fn.frozen l.frozen;
+  added : AreItemsAdded l.admitted.graph l.active (take l.item-index (queue_of l.admitted.graph l.process)) l.fn.forest l.forest l.fn.frozen l.frozen;
 }

@@ -19,9 +19,8 @@ tables_of-requires-clause-rows c =
     let rows : List Row = c.in_ok-rows.rows.items in
     let timed : IsTimed g urgency order frozen = timed_of g urgency order c.args.admitted.now.guards frozen c.problem-problem.ensures.admitted c.requires.topological c.requires.frozen in
     let found : AreRowsFound g urgency order frozen rows = found_rows g urgency order frozen rows timed c.requires.early c.in_ok-rows.ensures.items c.in_ok-rows.ensures.rows in
-    subst (λ (h : Graph). AreWritable h c.as_slice.result.now) (sym c.problem-problem.ensures.problem)
-    (subst (AreWritable g) (sym c.as_slice.ensures.value)
-    (found_rows_are_writable g urgency order frozen rows c.problem-problem.ensures.admitted.limits timed.admitted found (none_too_wide g order c.requires.narrow)))
+    subst (λ (h : Graph). AreWritable h rows) (sym c.problem-problem.ensures.problem)
+    (found_rows_are_writable g urgency order frozen rows c.problem-problem.ensures.admitted.limits timed.admitted found (none_too_wide g order c.requires.narrow))
 
 pub returns : goal.returns
 returns c =
@@ -34,6 +33,5 @@ returns c =
     record {
       rows = rows;
       found = found_rows g urgency order frozen rows timed c.requires.early c.in_ok-rows.ensures.items c.in_ok-rows.ensures.rows;
-      written = subst (λ (rs : List Row). AreTablesWith g rs c.in_ok-tables.tables) c.as_slice.ensures.value
-          (subst (λ (h : Graph). AreTablesWith h c.as_slice.result.now c.in_ok-tables.tables) c.problem-problem.ensures.problem c.in_ok-tables.ensures);
+      written = subst (λ (h : Graph). AreTablesWith h rows c.in_ok-tables.tables) c.problem-problem.ensures.problem c.in_ok-tables.ensures;
     }

@@ -3,4 +3,4 @@ use Rattle.cpg_merging.specs.Totals.{AreMarkedBy}
 use Rattle.cpg_merging.proofs.marks.marks_by.Given as goal
 
 abbrev pub invariant-loop-place : goal.invariant-loop-place
-invariant-loop-place l = AreMarkedBy l.sorted l.marks (take l.place l.columns)
+invariant-loop-place l = AreMarkedBy l.sums.asked l.sums.sorted.now l.marks (take l.place l.columns)

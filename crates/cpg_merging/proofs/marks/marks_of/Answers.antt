@@ -1,13 +1,16 @@
-use Rattle.std.proofs.Common.{ℕ, List, map, IsPermutation, sym, subst, rules}
-use Rattle.std.proofs.lemmas.List.Sorted.{IsNonDecreasingBy-from_sort}
-use Rattle.cpg_merging.specs.Totals.{total_of, DoNotFall}
-use Rattle.cpg_merging.proofs.MergingTotals.{marked_sorted}
+use Rattle.std.proofs.Common.{true, false}
+use Rattle.cpg_merging.proofs.MergingSteps.{good_of}
+use Rattle.cpg_merging.proofs.MergingTotals.{marked_by}
 use Rattle.cpg_merging.proofs.marks.marks_of.Goals as goal
 
-pub marks_by-requires-clause-sorted : goal.marks_by-requires-clause-sorted
-marks_by-requires-clause-sorted c = subst DoNotFall (sym c.as_slice-2.ensures.value) (λ i j l k. IsNonDecreasingBy-from_sort (λ (n : ℕ). n) _ c.sort_unstable.ensures.sorted i j 0 l k)
+pub returns-then-not-contains : goal.returns-then-not-contains
+returns-then-not-contains c =
+    let g = c.args.problem.now in
+    let few = c.processes-processes.ensures.within.few_processes in
+    marked_by g few true c.args.columns.now (good_of g few c.args.columns.now c.requires) c.in_ok-marks.marks c.in_ok-marks.ensures
 
 pub returns : goal.returns
-returns c = marked_sorted c.args.columns.now c.marks_by.result c.as_slice-2.result.now
-    (subst (IsPermutation (map total_of c.args.columns.now)) (sym c.as_slice-2.ensures.value) (subst (λ (ns : List ℕ). IsPermutation ns c.sort_unstable.new.self.items) (search rules) c.sort_unstable.ensures.permutation))
-    c.marks_by.ensures
+returns c =
+    let g = c.args.problem.now in
+    let few = c.processes-processes.ensures.within.few_processes in
+    marked_by g few false c.args.columns.now (good_of g few c.args.columns.now c.requires) c.in_ok-marks-2.marks c.in_ok-marks-2.ensures

@@ -5,5 +5,5 @@ use Rattle.cpg_merging.proofs.merging.joined_over.Given as goal
 abbrev pub invariant-loop-variable : goal.invariant-loop-variable
 invariant-loop-variable l = record {
   passed : IsPassed l.problem (IsBetween l.first l.variable) l.fn.marked.columns.items l.marked.columns.items;
-  marked : AreMarked l.marked.marks l.marked.columns.items;
+  marked : AreMarked l.problem l.marked.marks l.marked.columns.items;
 }

@@ -1,16 +1,11 @@
-use Rattle.std.proofs.Common.{IsPermutation, Result, Ok, Err, sym, ap, ◌∙◌, subst}
-use Rattle.std.specs.Result.{IfOk}
+use Rattle.std.proofs.Common.{IsPermutation, sym, ap, ◌∙◌, subst}
 use Rattle.cpg_cube.specs.Keys.{AreByLows}
 use Rattle.cpg_cube.specs.Column.{Column}
 use Rattle.cpg_merging.specs.Merged.{IsMergeOf}
 use Rattle.cpg_merging.specs.Merging.{IsShorn, AreSettled, all_shorn}
 use Rattle.cpg_merging.proofs.MergingSteps.{shorn_columns}
-use Rattle.cpg_merging.proofs.MergingEnds.{merge_of}
+use Rattle.cpg_merging.proofs.MergingEnds.{merge_of, if_ok_both}
 use Rattle.cpg_merging.proofs.merging.merged.Goals as goal
-
-if_ok_both : {T E : Type 0} (r : Result T E) (P Q R : T → Type 0) → ((x : T) → P x → Q x → R x) → IfOk r P → IfOk r Q → IfOk r R
-if_ok_both (Ok x) P Q R h p q = h x p q
-if_ok_both (Err e) P Q R h p q = tt
 
 pub settled-requires : goal.settled-requires
 settled-requires c =

@@ -7,7 +7,7 @@ abbrev pub invariant-loop-marked : goal.invariant-loop-marked
 invariant-loop-marked l = record {
   good : IsShorn l.problem l.marked.columns.items;
   joins : IsJoinOf l.problem l.fn.columns.items l.marked.columns.items;
-  marked : AreMarked l.marked.marks l.marked.columns.items;
+  marked : AreMarked l.problem l.marked.marks l.marked.columns.items;
 }
 
 abbrev pub decreases-loop-marked : goal.decreases-loop-marked

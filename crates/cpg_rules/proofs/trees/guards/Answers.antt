@@ -1,9 +1,13 @@
 use Rattle.std.proofs.Common.{ℕ, ◌≡◌, ◌∙◌, ap, arith, length, List, None, map, replicate, min}
 use Rattle.cpg_base.specs.Graph.{process_count}
-use Rattle.cpg_order.specs.Guard.{Guard}
+use Rattle.cpg_base.specs.declared.activation.Activation.TheVariants.{Inactive}
+use Rattle.cpg_order.specs.Guard.{Guard, Leaf}
 use Rattle.cpg_base.proofs.Places.{length_order}
 use Rattle.cpg_rules.specs.declared.edges.EdgeGuard.{EdgeGuard}
-use Rattle.cpg_rules.specs.Steps.{Step, step_of}
+use Rattle.cpg_rules.specs.declared.steps.Aim.TheVariants.{Conditions}
+use Rattle.cpg_rules.specs.Steps.{Step, step_of, IsStepBelow}
+use Rattle.cpg_rules.specs.Rested.{rested}
+use Rattle.cpg_rules.proofs.Rested.{all_rested, tracks_rested}
 use Rattle.cpg_rules.specs.Growing.{tracks_from}
 use Rattle.cpg_rules.specs.Guards.{Guards}
 use Rattle.cpg_rules.proofs.Below.{steps_below, guards_below}
@@ -15,22 +19,28 @@ pub steps_of-requires : goal.steps_of-requires
 steps_of-requires c = length_order (process_count c.args.problem.now) c.args.order.now c.requires.all
 
 pub tracks-requires : goal.tracks-requires
-tracks-requires c = rw (c.as_slice.ensures.value, c.in_ok-steps.ensures) (steps_below c.args.problem.now c.args.order.now c.requires 128 c.processes-count.ensures.within.few_processes)
+tracks-requires c = rw (c.as_slice-2.ensures.value, c.in_ok-choosing.ensures, c.as_slice.ensures.value, c.in_ok-steps.ensures)
+    (all_rested (IsStepBelow 128) Conditions _ (steps_below c.args.problem.now c.args.order.now c.requires 128 c.processes-count.ensures.within.few_processes))
 
 -- the number of tracks, where it is not past the most that are counted
-counted : (steps whole : List Step) (result all : ℕ) → result ≡ min 16385 (tracks_from steps (replicate 128 None)) → steps ≡ whole → tracks_from whole (replicate 128 None) ≡ all → result ≡ min 16385 all
-counted steps whole result all is along are = is ∙ ap (λ s. min 16385 (tracks_from s (replicate 128 None))) along ∙ ap (min 16385) are
+counted : (steps whole : List Step) (result all : ℕ) → result ≡ min 16385 (tracks_from steps (replicate 128 None)) → steps ≡ rested Conditions whole → tracks_from whole (replicate 128 None) ≡ all
+    → result ≡ min 16385 all
+counted steps whole result all is along are = is ∙ ap (λ s. min 16385 (tracks_from s (replicate 128 None))) along ∙ ap (min 16385) (tracks_rested whole (replicate 128 None) ∙ are)
 
 pub returns-then-tracks-gt-MOST_TRACKS-clause-many :
     goal.returns-then-tracks-gt-MOST_TRACKS-clause-many
 returns-then-tracks-gt-MOST_TRACKS-clause-many c = λ e.
-    let is = counted c.as_slice.result.now (map (step_of c.args.problem.now) c.args.order.now) c.tracks.result _ c.tracks.ensures (c.as_slice.ensures.value ∙ c.in_ok-steps.ensures)
+    let is = counted c.as_slice-2.result.now (map (step_of c.args.problem.now) c.args.order.now) c.tracks.result _ c.tracks.ensures
+    (c.as_slice-2.ensures.value ∙ c.in_ok-choosing.ensures ∙ ap (rested Conditions) (c.as_slice.ensures.value ∙ c.in_ok-steps.ensures))
     (tracks_counted c.args.problem.now c.args.order.now c.requires c.processes-count.ensures.within.few_processes) in
     let over = c.if-tracks-gt-MOST_TRACKS.true in
     omega arith
 
-pub grown-requires-clause-steps : goal.grown-requires-clause-steps
-grown-requires-clause-steps c = rw (c.as_slice-2.ensures.value, c.in_ok-steps.ensures, c.processes-count.ensures.processes) (steps_below c.args.problem.now c.args.order.now c.requires (process_count c.args.problem.now) (omega arith))
+pub ranks_of-requires : goal.ranks_of-requires
+ranks_of-requires c = let long = length_order (process_count c.args.problem.now) c.args.order.now c.requires.all in omega (arith, long)
+
+pub composed_along-requires-clause-steps : goal.composed_along-requires-clause-steps
+composed_along-requires-clause-steps c = rw (c.as_slice-4.ensures.value, c.in_ok-steps.ensures) (steps_below c.args.problem.now c.args.order.now c.requires (process_count c.args.problem.now) (omega arith))
 
 -- the guards that are made
 abbrev made_guards : (conditions : ℕ) (trees : List Guard) (edges : List EdgeGuard) → Guards
@@ -38,17 +48,20 @@ made_guards conditions trees edges = record { conditions = conditions; trees = t
 
 pub invariant_of-result : goal.invariant_of-result
 invariant_of-result c = guards_below c.args.problem.now c.args.order.now c.requires (made_guards c.conditions.result c.in_ok-trees.trees.items c.in_ok-edges.edges.items)
-    (made c.args.problem.now c.args.order.now c.requires c.processes-count.ensures.within.few_processes (length c.processes-count.result.now) (ap length c.processes-count.ensures.processes)
-    c.as_slice-2.result.now (c.as_slice-2.ensures.value ∙ c.in_ok-steps.ensures) (made_guards c.conditions.result c.in_ok-trees.trees.items c.in_ok-edges.edges.items) c.conditions.ensures.count c.in_ok-trees.ensures c.in_ok-edges.ensures)
+    (made c.args.problem.now c.args.order.now c.requires c.as_slice-3.result.now (c.as_slice-3.ensures.value ∙ c.in_ok-ranks.ensures)
+    c.as_slice-4.result.now (c.as_slice-4.ensures.value ∙ c.in_ok-steps.ensures) c.in_ok-seeds.seeds.items
+    (c.in_ok-seeds.ensures ∙ ap (λ n. replicate n (Leaf Inactive)) (ap length c.processes-count.ensures.processes)) (made_guards c.conditions.result c.in_ok-trees.trees.items c.in_ok-edges.edges.items) c.conditions.ensures.count c.in_ok-trees.ensures c.in_ok-edges.ensures)
 
 pub returns-clause-guards : goal.returns-clause-guards
 returns-clause-guards c =
-    made c.args.problem.now c.args.order.now c.requires c.processes-count.ensures.within.few_processes (length c.processes-count.result.now) (ap length c.processes-count.ensures.processes)
-    c.as_slice-2.result.now (c.as_slice-2.ensures.value ∙ c.in_ok-steps.ensures) (made_guards c.conditions.result c.in_ok-trees.trees.items c.in_ok-edges.edges.items) c.conditions.ensures.count c.in_ok-trees.ensures c.in_ok-edges.ensures
+    made c.args.problem.now c.args.order.now c.requires c.as_slice-3.result.now (c.as_slice-3.ensures.value ∙ c.in_ok-ranks.ensures)
+    c.as_slice-4.result.now (c.as_slice-4.ensures.value ∙ c.in_ok-steps.ensures) c.in_ok-seeds.seeds.items
+    (c.in_ok-seeds.ensures ∙ ap (λ n. replicate n (Leaf Inactive)) (ap length c.processes-count.ensures.processes)) (made_guards c.conditions.result c.in_ok-trees.trees.items c.in_ok-edges.edges.items) c.conditions.ensures.count c.in_ok-trees.ensures c.in_ok-edges.ensures
 
 pub returns-clause-few : goal.returns-clause-few
 returns-clause-few c =
-    let is = counted c.as_slice.result.now (map (step_of c.args.problem.now) c.args.order.now) c.tracks.result _ c.tracks.ensures (c.as_slice.ensures.value ∙ c.in_ok-steps.ensures)
+    let is = counted c.as_slice-2.result.now (map (step_of c.args.problem.now) c.args.order.now) c.tracks.result _ c.tracks.ensures
+    (c.as_slice-2.ensures.value ∙ c.in_ok-choosing.ensures ∙ ap (rested Conditions) (c.as_slice.ensures.value ∙ c.in_ok-steps.ensures))
     (tracks_counted c.args.problem.now c.args.order.now c.requires c.processes-count.ensures.within.few_processes) in
     let under = c.if-tracks-gt-MOST_TRACKS.false in
     omega arith

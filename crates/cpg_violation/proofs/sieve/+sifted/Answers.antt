@@ -1,4 +1,7 @@
-use Rattle.std.proofs.Common.{rules, ◌≡◌}
+use Rattle.std.proofs.Common.{rules, ◌≡◌, Option, subst}
+use Rattle.std.specs.Prelude.{IfSome}
+use Rattle.cpg_violation.specs.declared.sieve.Sides.{Sides}
+use Rattle.cpg_violation.specs.Parts.{ArePartsOf}
 use Rattle.cpg_violation.proofs.SieveLaws.{sifts_cut}
 use Rattle.cpg_violation.proofs.sieve.+sifted.Goals as goal
 
@@ -6,5 +9,6 @@ pub returns : goal.returns
 returns t c =
     let low : c.in_ok-below-2.below.value ≡ c.in_ok-below.below = search rules in
     let high : c.in_ok-above-2.above.value ≡ c.in_ok-above.above = search rules in
-    rw (low, high) (sifts_cut c.args.columns.now c.in-Some.cut.variable c.in-Some.cut.most c.args.places.items c.in_ok-low.low.items c.in_ok-high.high.items c.in_ok-below.below c.in_ok-above.above
-    (rw c.as_slice-2.ensures.value at c.in_ok-low.ensures) (rw c.as_slice-3.ensures.value at c.in_ok-high.ensures) c.in_ok-below.ensures c.in_ok-above.ensures)
+    let parts : ArePartsOf c.args.columns.now c.as_slice.result.now c.in-Some.sides = subst (λ (o : Option Sides). IfSome o (ArePartsOf c.args.columns.now c.as_slice.result.now)) c.in-Some.is c.in_ok-sides.ensures in
+    rw (low, high) (sifts_cut c.args.columns.now c.in-Some.sides.cut.variable c.in-Some.sides.cut.most c.args.places.items c.in-Some.sides.low.items c.in-Some.sides.high.items c.in_ok-below.below c.in_ok-above.above
+    (rw c.as_slice.ensures.value at parts.low) (rw c.as_slice.ensures.value at parts.high) c.in_ok-below.ensures c.in_ok-above.ensures)

@@ -1,4 +1,4 @@
-use Rattle.std.proofs.Common.{ℕ, ◌<◌, ◌≡◌, refl, sym, subst}
+use Rattle.std.proofs.Common.{◌<◌, ◌≡◌, refl, sym, subst}
 use Rattle.cpg_base.specs.Graph.{process_count}
 use Rattle.cpg_tree.specs.Tree.{TreeState}
 use Rattle.cpg_tree.specs.Variables.{is_variable}

@@ -1,0 +1,189 @@
+-- What the code finds of latest times.
+use Rattle.std.proofs.Common.{ℕ, ◌+◌, suc, ◌<◌, ◌≤◌, ◌≡◌, ◌==◌, max, Bool, true, false, if◌then◌else◌, List, [], ◌∷◌, ◌++◌, length, take, get_or, Option, Some, None, Contains, arith, eq-eqb, refl, sym, ap, ◌∙◌, subst, inl, inr, ◌⊎◌}
+use Rattle.std.specs.Option.{IfNone, IfSome}
+use Rattle.std.proofs.Math.Seq.{take-suc}
+use Rattle.std.proofs.lemmas.Bool.{cases_lt, ne_eqb}
+use Rattle.std.proofs.lemmas.List.Elements.{Contains-append_cases}
+use Rattle.cpg_base.specs.Bus.{slot_length}
+use Rattle.cpg_base.specs.Graph.{Graph, process_count, process_of, node_of, source, home, is_message, message_item, broadcast_item}
+use Rattle.cpg_base.specs.Scenario.{Scenario, IsScenario}
+use Rattle.cpg_base.proofs.Lists.{Contains-cases, Contains-nil}
+use Rattle.cpg_order.specs.Guard.{Guard}
+use Rattle.cpg_run.proofs.Sends.{in_next}
+use Rattle.cpg_tree.specs.Meeting.{HasWhere, IsMostWhere, IsNowhere}
+use Rattle.cpg_tree.specs.Space.{HasFew}
+use Rattle.cpg_tree.specs.Tree.{TreeState}
+use Rattle.cpg_tree.proofs.OnePath.{scenario_few, the_path}
+use Rattle.cpg_expand.specs.Agreeing.{IsTree}
+use Rattle.cpg_expand.specs.Forest.{ForestState, times_of, ends_of, heard_tree, heard_delay, input_tree, input_delay}
+use Rattle.cpg_expand.specs.Guarded.{IsTestedOn}
+use Rattle.cpg_expand.specs.Latest.{HasHeard, HasHeardOf, HasInput, HasInputOf, HasLater, IsRaised, or_later}
+use Rattle.cpg_expand.specs.Tops.{IsTop}
+use Rattle.cpg_expand.specs.Values.{time_later}
+
+-- ---- the greatest time of a tree where another one is true
+
+pub top_where : (g : Graph) → process_count g ≤ 128 → (t : TreeState (Option ℕ)) (u : TreeState Bool) → IsTree g t → IsTree g u → (o : Option ℕ) → IfNone o (IsNowhere t u) → IfSome o (IsMostWhere t u) → IsTop g (HasWhere t u) o
+top_where g few t u of of_u None none some = λ time s law h. none s time (subst (λ n. HasFew n s) (sym of.faults) (scenario_few g s law)) h
+top_where g few t u of of_u (Some most) none some =
+    let r = some.reached g (record { few = few; faults = of.faults; known = of.known; known_too = of_u.known }) in
+    record {
+      above = λ time s law h. some.above s time (subst (λ n. HasFew n s) (sym of.faults) (scenario_few g s law)) h;
+      scenario = r.scenario;
+      lawful = r.lawful;
+      there = r.has;
+    }
+
+-- ---- one thing after another
+
+module _ (g : Graph) (A B : ℕ → Scenario → Type 0) where
+  -- by what comes to the same
+  pub raised_as : ((n : ℕ) (s : Scenario) → IsScenario g s → B n s → A n s) → ((n : ℕ) (s : Scenario) → IsScenario g s → A n s → B n s) → (old new : ℕ) → IsRaised g A old new → IsRaised g B old new
+  raised_as back forth old new r = record {
+    from = r.from;
+    above = λ n s law h. r.above n s law (back n s law h);
+    found = elim r.found [ inl e ↦ inl e | inr h ↦ inr (h.0, h.1, forth new h.0 h.1 h.2) ];
+  }
+
+  -- by nothing
+  pub raised_by_none : ((n : ℕ) (s : Scenario) → A n s → ⊥) → (old : ℕ) → IsRaised g A old old
+  raised_by_none none old = record { from = omega arith; above = λ n s law h. absurd (none n s h); found = inl refl }
+
+  -- by the one and then by the other
+  pub raised_on : (C : ℕ → Scenario → Type 0) → ((n : ℕ) (s : Scenario) → C n s → A n s ⊎ B n s) → ((n : ℕ) (s : Scenario) → A n s → C n s) → ((n : ℕ) (s : Scenario) → B n s → C n s) →
+      (first mid last : ℕ) → IsRaised g A first mid → IsRaised g B mid last → IsRaised g C first last
+  raised_on C split left right first mid last before one = record {
+    from = omega (arith, before.from, one.from);
+    above = λ n s law h. by n s law (split n s h);
+    found = elim one.found [
+      | inr h ↦ inr (h.0, h.1, right last h.0 h.2)
+      | inl same ↦ elim before.found [
+        | inl e ↦ inl (same ∙ e)
+        | inr h ↦ inr (h.0, h.1, subst (λ n. C n h.0) (sym same) (left mid h.0 h.2))
+      ]
+    ];
+  }
+    where
+      by : (n : ℕ) (s : Scenario) → IsScenario g s → A n s ⊎ B n s → n ≤ last
+      by n s law (inl h) = omega (arith, before.above n s law h, one.from)
+      by n s law (inr h) = one.above n s law h
+
+-- ---- what is there a delay after the time of a tree
+
+pub later_raised : (g : Graph) (tree : TreeState (Option ℕ)) (wanted : TreeState Bool) (latest delay : ℕ) (o : Option ℕ) → IsTop g (HasWhere tree wanted) o → IsRaised g (HasLater tree wanted delay) latest (or_later latest delay o)
+later_raised g tree wanted latest delay None none = record { from = omega arith; above = λ n s law h. absurd (none h.time s law h.has); found = inl refl }
+later_raised g tree wanted latest delay (Some time) top = record {
+  from = omega arith;
+  above = λ n s law h. no_later n (time_later delay (Some h.time)) (time_later delay (Some time)) latest h.is (delayed h.time time delay (top.above h.time s law h.has));
+  found = by (later_or latest (time_later delay (Some time)));
+}
+  where
+    no_later : (n a b latest : ℕ) → n ≡ a → a ≤ b → n ≤ max latest b
+    no_later n a b latest e l = omega (arith, e, l)
+
+    delayed : (a b d : ℕ) → a ≤ b → time_later d (Some a) ≤ time_later d (Some b)
+    delayed a b d l = omega (arith, l)
+
+    later_or : (a b : ℕ) → (max a b ≡ a) ⊎ (max a b ≡ b)
+    later_or a b = elim (cases_lt a b) [ inl l ↦ inr (let e : max a b ≡ b = omega (arith, l) in e) | inr l ↦ inl (let e : max a b ≡ a = omega (arith, l) in e) ]
+
+    by : (max latest (time_later delay (Some time)) ≡ latest) ⊎ (max latest (time_later delay (Some time)) ≡ time_later delay (Some time)) →
+        (max latest (time_later delay (Some time)) ≡ latest) ⊎ ((s : Scenario) × IsScenario g s × HasLater tree wanted delay (max latest (time_later delay (Some time))) s)
+    by (inl e) = inl e
+    by (inr same) = inr (top.scenario, top.lawful, record { time = time; has = top.there; is = same })
+
+-- ---- conditions
+
+module _ (g : Graph) (f : ForestState) (node c : ℕ) (wanted : TreeState Bool) (old new : ℕ) where
+  heard_if : (d : Bool) → (node_of g (process_of g c) == node) ≡ d →
+      IsRaised g (HasLater (if d then ends_of g f (process_of g c) else times_of g f (broadcast_item g c)) wanted (if d then 0 else slot_length g (home g (broadcast_item g c)))) old new →
+      IsRaised g (HasLater (heard_tree g f node c) wanted (heard_delay g node c)) old new
+  heard_if d e is = subst (λ (b : Bool). IsRaised g (HasLater (if b then ends_of g f (process_of g c) else times_of g f (broadcast_item g c)) wanted (if b then 0 else slot_length g (home g (broadcast_item g c)))) old new) (sym e) is
+
+  -- on its own node by the end of its process
+  pub heard_by_end : node_of g (process_of g c) ≡ node → IsRaised g (HasLater (ends_of g f (process_of g c)) wanted 0) old new → IsRaised g (HasLater (heard_tree g f node c) wanted (heard_delay g node c)) old new
+  heard_by_end e is = heard_if true (eq-eqb (node_of g (process_of g c)) node e) is
+
+  -- on others by its frame
+  pub heard_by_frame : (node_of g (process_of g c) ≡ node → ⊥) → IsRaised g (HasLater (times_of g f (broadcast_item g c)) wanted (slot_length g (home g (broadcast_item g c)))) old new →
+      IsRaised g (HasLater (heard_tree g f node c) wanted (heard_delay g node c)) old new
+  heard_by_frame e is = heard_if false (ne_eqb (node_of g (process_of g c)) node e) is
+
+module _ (g : Graph) (f : ForestState) (node : ℕ) (guard : Guard) where
+  -- the time is a condition's where the guard tests it
+  pub heard_raised : (c : ℕ) (wanted : TreeState Bool) → IsTree g wanted → IsTestedOn g.faults guard c wanted → (old new : ℕ) → IsRaised g (HasLater (heard_tree g f node c) wanted (heard_delay g node c)) old new → IsRaised g (HasHeard g f node guard c) old new
+  heard_raised c wanted of tested old new r = raised_as g (HasLater (heard_tree g f node c) wanted (heard_delay g node c)) (HasHeard g f node guard c)
+      (λ n s law h. let x = the_path g.faults wanted.paths of.each s (scenario_few g s law) in
+      record { time = h.time; has = record { has = h.has; there = (x.0, x.1, (tested s (scenario_few g s law)).value x.0 x.1 ∙ h.tested) }; is = h.is })
+      (λ n s law h. record { tested = sym ((tested s (scenario_few g s law)).value h.has.there.0 h.has.there.1) ∙ h.has.there.2; time = h.time; has = h.has.has; is = h.is })
+      old new r
+
+  pub none_heard : (first : ℕ) → IsRaised g (HasHeardOf g f node guard 0) first first
+  none_heard first = raised_by_none g (HasHeardOf g f node guard 0) (HasHeardOf g f node guard 0) (λ n s h. below n s h) first
+    where
+      below : (n : ℕ) (s : Scenario) → HasHeardOf g f node guard 0 n s → ⊥
+      below n s h = omega (arith, h.below)
+
+  pub next_heard : (c first mid last : ℕ) → IsRaised g (HasHeardOf g f node guard c) first mid → IsRaised g (HasHeard g f node guard c) mid last → IsRaised g (HasHeardOf g f node guard (c + 1)) first last
+  next_heard c first mid last = raised_on g (HasHeardOf g f node guard c) (HasHeard g f node guard c) (HasHeardOf g f node guard (c + 1)) split
+      (λ n s h. record { condition = h.condition; below = omega (arith, h.below); there = h.there }) (λ n s h. record { condition = c; below = omega arith; there = h }) first mid last
+    where
+      split : (n : ℕ) (s : Scenario) → HasHeardOf g f node guard (c + 1) n s → HasHeardOf g f node guard c n s ⊎ HasHeard g f node guard c n s
+      split n s h = elim (cases_lt h.condition c) [
+        | inl less ↦ inl (record { condition = h.condition; below = less; there = h.there })
+        | inr more ↦ inr (subst (λ d. HasHeard g f node guard d n s) (let e : h.condition ≡ c = omega (arith, h.below, more) in e) h.there)
+      ]
+
+-- ---- inputs
+
+module _ (g : Graph) (f : ForestState) (active : TreeState Bool) where
+  -- an input of the node itself raises nothing
+  pub not_raised : (e latest : ℕ) → is_message g e ≡ false → IsRaised g (HasInput g f active e) latest latest
+  not_raised e latest off = raised_by_none g (HasInput g f active e) (HasInput g f active e) (λ n s h. apart (sym h.message ∙ off)) latest
+    where
+      apart : true ≡ false → ⊥
+      apart i = cc
+
+  -- one from another node raises by its frame
+  pub input_raised : (e latest last : ℕ) → is_message g e ≡ true → IsRaised g (HasLater (times_of g f (message_item g e)) active (slot_length g (home g (message_item g e)))) latest last → IsRaised g (HasInput g f active e) latest last
+  input_raised e latest last on is = by_tree on
+      (subst (λ (b : Bool). IsRaised g (HasLater (if b then times_of g f (message_item g e) else ends_of g f (source g e)) active (if b then slot_length g (home g (message_item g e)) else 0)) latest last) (sym on) is)
+    where
+      by_tree : is_message g e ≡ true → IsRaised g (HasLater (input_tree g f e) active (input_delay g e)) latest last → IsRaised g (HasInput g f active e) latest last
+      by_tree m = raised_as g (HasLater (input_tree g f e) active (input_delay g e)) (HasInput g f active e)
+          (λ n s law h. record { time = h.time; has = h.has; is = h.is }) (λ n s law h. record { message = m; time = h.time; has = h.has; is = h.is }) latest last
+
+  -- ---- one input after another
+
+  pub none_raised : (first : ℕ) (edges : List ℕ) → IsRaised g (HasInputOf g f active (take 0 edges)) first first
+  none_raised first edges = record {
+    from = omega arith;
+    above = λ n s law h. absurd (Contains-nil h.edge h.of);
+    found = inl refl;
+  }
+
+  pub next_raised : (edges : List ℕ) (k e : ℕ) → k < length edges → e ≡ get_or edges k 0 → (first mid last : ℕ) → IsRaised g (HasInputOf g f active (take k edges)) first mid → IsRaised g (HasInput g f active e) mid last →
+      IsRaised g (HasInputOf g f active (take (k + 1) edges)) first last
+  next_raised edges k e inside at first mid last before one = record {
+    from = omega (arith, before.from, one.from);
+    above = λ n s law h. by n s law h.edge h.there (last_of h.edge h.of);
+    found = elim one.found [
+      | inr h ↦ inr (h.0, h.1, record { edge = e; of = in_next edges k e inside (inr at); there = h.2 })
+      | inl same ↦ elim before.found [
+        | inl e ↦ inl (same ∙ e)
+        | inr h ↦ inr (h.0, h.1, subst (λ n. HasInputOf g f active (take (k + 1) edges) n h.0) (sym same) (record { edge = h.2.edge; of = in_next edges k h.2.edge inside (inl h.2.of); there = h.2.there }))
+      ]
+    ];
+  }
+    where
+      last_of : (d : ℕ) → Contains (take (k + 1) edges) d → Contains (take k edges) d ⊎ (d ≡ e)
+      last_of d c =
+          let is : take (k + 1) edges ≡ take k edges ++ get_or edges k 0 ∷ [] = ap (λ n. take n edges) (let e : k + 1 ≡ suc k = omega arith in e) ∙ take-suc edges k 0 inside in
+          elim (Contains-append_cases (take k edges) (get_or edges k 0 ∷ []) d (subst (λ ds. Contains ds d) is c)) [
+            | inl i ↦ inl i
+            | inr i ↦ elim (Contains-cases (get_or edges k 0) [] d i) [ inl same ↦ inr (sym same ∙ sym at) | inr j ↦ absurd (Contains-nil d j) ]
+          ]
+
+      by : (n : ℕ) (s : Scenario) → IsScenario g s → (d : ℕ) → HasInput g f active d n s → Contains (take k edges) d ⊎ (d ≡ e) → n ≤ last
+      by n s law d h (inl c) = omega (arith, before.above n s law (record { edge = d; of = c; there = h }), one.from)
+      by n s law d h (inr same) = one.above n s law (subst (λ x. HasInput g f active x n s) same h)

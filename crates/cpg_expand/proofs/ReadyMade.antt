@@ -1,0 +1,42 @@
+-- When a node goes on after a frozen process, as the code finds it.
+use Rattle.std.proofs.Common.{ℕ, ◌+◌, ◌<◌, ◌≡◌, ◌==◌, ◌&&◌, nat_lt, Bool, true, false, List, Option, arith, eq-eqb, lt-ltb, inl, inr, sym, ap, ◌∙◌, subst}
+use Rattle.std.proofs.lemmas.Bool.{and_from, cases_lt}
+use Rattle.cpg_base.specs.Graph.{Graph, node_of}
+use Rattle.cpg_base.specs.Order.{place}
+use Rattle.cpg_base.specs.Scenario.{Scenario}
+use Rattle.cpg_base.proofs.Lists.{Contains-nil}
+use Rattle.cpg_cube.specs.declared.literal.Literal.{Literal}
+use Rattle.cpg_order.specs.Guard.{Guard}
+use Rattle.cpg_tree.specs.Tree.{TreeState, IsConstant}
+use Rattle.cpg_expand.specs.Agreeing.{Agrees}
+use Rattle.cpg_expand.specs.Forest.{ForestState, later_tree, no_tree}
+use Rattle.cpg_expand.specs.Waited.{IsReadyOnce}
+use Rattle.cpg_expand.proofs.TreesTold.{ready_always}
+
+-- a tree without paths tells anything
+none_tells : {T : Type 0} (k : ℕ) (s : Scenario) (literals : List Literal) (fact : T → Type 0) → Agrees s literals fact (no_tree k)
+none_tells k s literals fact = record { value = λ x on. absurd (Contains-nil x on.stands); says = λ x on. absurd (Contains-nil x on.stands) }
+
+-- where the process is active everywhere nothing is asked of what it waited for
+pub ready_everywhere : (g : Graph) (f : ForestState) (node : ℕ) (guard : Guard) (active : TreeState Bool) (end : TreeState (Option ℕ)) → IsConstant true active.faults active → IsReadyOnce g f node guard active end (later_tree end)
+ready_everywhere g f node guard active end always = record {
+  wait = no_tree g.faults;
+  waits = λ s few base x tells tell time told. none_tells g.faults s _ _;
+  is = ready_always g active end (no_tree g.faults) always;
+}
+
+-- ---- what waits
+
+-- one more process is no such one
+pub none_waits : (g : Graph) (order : List ℕ) (node at k : ℕ) (b : Bool) → ((q : ℕ) → q < k → node_of g q ≡ node → at < place order q → ⊥) → b ≡ (node_of g k == node && nat_lt at (place order k)) → b ≡ false →
+    (q : ℕ) → q < k + 1 → node_of g q ≡ node → at < place order q → ⊥
+none_waits g order node at k b before is off q below there behind = elim (cases_lt q k) [
+  | inl less ↦ before q less there behind
+  | inr more ↦ by (let e : q ≡ k = omega (arith, below, more) in e)
+]
+  where
+    apart : true ≡ false → ⊥
+    apart e = cc
+
+    by : q ≡ k → ⊥
+    by e = apart (sym (and_from (node_of g k == node) (nat_lt at (place order k)) (eq-eqb (node_of g k) node (ap (node_of g) (sym e) ∙ there)) (lt-ltb at (place order k) (subst (λ n. at < place order n) e behind))) ∙ sym is ∙ off)

@@ -1,0 +1,62 @@
+use Rattle.std.proofs.Common.{◌<◌, ◌∙◌, ap, sym, subst, length, arith}
+use Rattle.cpg_base.specs.Graph.{Graph, process_count, process_at, node_of}
+use Rattle.cpg_rules.specs.Guards.{Guards, tree_of}
+use Rattle.cpg_expand.specs.Begun.{thawed_start}
+use Rattle.cpg_expand.specs.Forest.{HasTrees, IsWait, ready_by}
+use Rattle.cpg_expand.specs.Guarded.{IsStartTree}
+use Rattle.cpg_expand.specs.Waiting.{IsWaitTree}
+use Rattle.cpg_expand.specs.declared.forest.Ready.{Ready}
+use Rattle.cpg_expand.proofs.BegunMade.{few_here, tests_here, leads_here, inputs_here, has_begun, begun_made}
+use Rattle.cpg_expand.proofs.along.begin_thawed.Goals as goal
+
+pub guard_of-guard-requires : goal.guard_of-guard-requires
+guard_of-guard-requires c =
+    let trees = c.guards.ensures.admitted.guards.count in
+    let guards = ap (λ (x : Guards). length x.trees) c.guards.ensures.guards in
+    let within = c.requires.process in
+    omega arith
+
+pub active-requires-clause-few : goal.active-requires-clause-few
+active-requires-clause-few c = few_here c.args.admitted.now.graph c.args.admitted.now.order c.args.admitted.now.guards c.guards.ensures.admitted c.problem-problem.result.now c.problem-problem.ensures.problem
+
+pub active-requires-clause-tests : goal.active-requires-clause-tests
+active-requires-clause-tests c = tests_here c.args.admitted.now.graph c.args.admitted.now.order c.args.admitted.now.guards c.guards.ensures.admitted c.problem-problem.result.now c.problem-problem.ensures.problem
+    c.guards.result.now c.guards.ensures.guards c.guard_of-guard.result.now c.guard_of-guard.ensures.below
+
+pub unfrozen_start-requires-clause-inputs : goal.unfrozen_start-requires-clause-inputs
+unfrozen_start-requires-clause-inputs c = inputs_here c.problem-problem.result.now c.args.process c.inputs-inputs.result.now c.inputs-inputs.ensures
+
+pub unfrozen_start-requires-clause-leaves : goal.unfrozen_start-requires-clause-leaves
+unfrozen_start-requires-clause-leaves c = leads_here c.args.admitted.now.graph c.args.admitted.now.order c.args.admitted.now.guards c.guards.ensures.admitted c.problem-problem.result.now c.problem-problem.ensures.problem
+    c.args.process c.requires.process c.guard_of-guard.result.now (c.guard_of-guard.ensures.tree ∙ ap (λ (x : Guards). tree_of x c.args.process) c.guards.ensures.guards)
+
+pub unfrozen_start-requires-clause-wait : goal.unfrozen_start-requires-clause-wait
+unfrozen_start-requires-clause-wait c = subst (IsWait c.problem-problem.result.now) (sym c.wait_for-wait.ensures) c.in_ok-heard.ensures.of
+
+pub returns-clause-trees : goal.returns-clause-trees
+returns-clause-trees c =
+    let same = c.problem-problem.ensures.problem in
+    subst (λ (g : Graph). HasTrees g c.put_begun.new.forest) same
+    (has_begun c.problem-problem.result.now c.args.forest.now c.put_begun.new.forest c.args.process c.node_of-node.result c.in_ok-start.start c.in_ok-next.next.end c.in_ok-next.next.ready
+    (subst (λ (g : Graph). c.args.process < process_count g) (sym same) c.requires.process) c.node_of-node.ensures.node
+    (subst (λ (g : Graph). HasTrees g c.args.forest.now) (sym same) c.requires.forest) c.in_ok-start.ensures.tree c.in_ok-next.ensures.tree c.in_ok-next.ensures.of c.put_begun.ensures)
+
+pub returns-clause-begun : goal.returns-clause-begun
+returns-clause-begun c order =
+    let h = c.problem-problem.result.now in
+    let f = c.args.forest.now in
+    let wait = ready_by h f c.wait_for-wait.result.now in
+    let waits : IsWaitTree h f (node_of h c.args.process) c.guard_of-guard.result.now wait = subst (λ n. IsWaitTree h f n c.guard_of-guard.result.now wait) c.node_of-node.ensures.node
+    (subst (λ (r : Ready). IsWaitTree h f c.node_of-node.result c.guard_of-guard.result.now (ready_by h f r)) (sym c.wait_for-wait.ensures) c.in_ok-heard.ensures.wait) in
+    begun_made (λ h guard. thawed_start h c.args.process c.args.forest.now guard) c.args.admitted.now.graph h c.problem-problem.ensures.problem order c.args.process
+    (tree_of c.args.admitted.now.guards c.args.process) c.guard_of-guard.result.now (c.guard_of-guard.ensures.tree ∙ ap (λ (x : Guards). tree_of x c.args.process) c.guards.ensures.guards)
+    c.node_of-node.result c.node_of-node.ensures.node f c.put_begun.new.forest c.in_ok-active.active c.in_ok-active.ensures.tree c.in_ok-active.ensures.active
+    c.in_ok-start.start (record {
+      wait = wait;
+      waits = waits;
+      is = subst (λ es. IsStartTree h f wait (process_at h c.args.process).release es c.guard_of-guard.result.now c.in_ok-start.start) c.inputs-inputs.ensures c.in_ok-start.ensures.start;
+    })
+    c.in_ok-next.next.end c.in_ok-next.ensures.end c.in_ok-next.next.ready c.in_ok-next.ensures.of (λ waited. record { wait = wait; waits = waits; is = c.in_ok-next.ensures.ready }) c.put_begun.ensures
+
+pub follow-requires-clause-wait : goal.follow-requires-clause-wait
+follow-requires-clause-wait c = subst (IsWait c.problem-problem.result.now) (sym c.wait_for-wait.ensures) c.in_ok-heard.ensures.of

@@ -1,0 +1,30 @@
+use Rattle.std.proofs.Common.{◌≡◌, ◌∙◌, ap, sym, subst}
+use Rattle.cpg_base.specs.Graph.{Graph, node_of}
+use Rattle.cpg_order.specs.Guard.{Guard}
+use Rattle.cpg_rules.specs.Guards.{Guards, tree_of}
+use Rattle.cpg_expand.specs.Ending.{goes_on}
+use Rattle.cpg_expand.specs.Forest.{ready_by}
+use Rattle.cpg_expand.specs.Waited.{IsReadyOnce}
+use Rattle.cpg_expand.specs.Waiting.{IsWaitTree}
+use Rattle.cpg_expand.specs.declared.forest.Ready.{Ready}
+use Rattle.cpg_expand.proofs.ReadyMade.{ready_everywhere}
+use Rattle.cpg_expand.proofs.along.ready_after.Goals as goal
+
+pub returns-then-is_true-clause-ready : goal.returns-then-is_true-clause-ready
+returns-then-is_true-clause-ready c waited =
+    ready_everywhere c.args.admitted.now.graph c.args.forest.now (node_of c.args.admitted.now.graph c.args.process) (tree_of c.args.admitted.now.guards c.args.process) c.args.active.now c.args.end.now c.if-is_true.ensures
+
+pub returns-clause-ready : goal.returns-clause-ready
+returns-clause-ready c waited =
+    let h = c.problem-problem.result.now in
+    let f = c.args.forest.now in
+    let p = c.args.process in
+    let found = c.guard_of-guard.result.now in
+    let wait = ready_by h f c.wait_for-wait.result.now in
+    let then = goes_on c.args.end.now c.in_ok-ready.ready in
+    let is_found : found ≡ tree_of c.args.admitted.now.guards p = c.guard_of-guard.ensures.tree ∙ ap (λ (x : Guards). tree_of x p) c.guards.ensures.guards in
+    let waits : IsWaitTree h f (node_of h p) found wait = subst (λ n. IsWaitTree h f n found wait) c.node_of-node.ensures.node
+    (subst (λ (r : Ready). IsWaitTree h f c.node_of-node.result found (ready_by h f r)) (sym c.wait_for-wait.ensures) c.in_ok-heard.ensures.wait) in
+    let made : IsReadyOnce h f (node_of h p) found c.args.active.now c.args.end.now then = record { wait = wait; waits = waits; is = c.in_ok-ready.ensures.ready } in
+    subst (λ (g : Graph). IsReadyOnce g f (node_of g p) (tree_of c.args.admitted.now.guards p) c.args.active.now c.args.end.now then) c.problem-problem.ensures.problem
+    (subst (λ (k : Guard). IsReadyOnce h f (node_of h p) k c.args.active.now c.args.end.now then) is_found made)

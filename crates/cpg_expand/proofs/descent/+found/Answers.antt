@@ -1,0 +1,51 @@
+use Rattle.std.proofs.Common.{sym, subst}
+use Rattle.cpg_order.specs.Guard.{Guard}
+use Rattle.cpg_tree.proofs.Forks.{of_answer}
+use Rattle.cpg_expand.proofs.PartsKnown.{added_found, added_kept, added_known, kept_still, still_tells, still_there}
+use Rattle.cpg_expand.proofs.descent.+found.Goals as goal
+
+pub tree_of-requires : goal.tree_of-requires
+tree_of-requires g t c =
+    still_there (g.D.Descent.made c.args.descent.now) (g.D.Descent.told c.args.descent.now) c.found.new.known.items c.found-in-Test.new.known.items c.as_slice-kept.result.now
+    c.in_ok-yes-in-Test.ensures.kept c.as_slice-kept.ensures.value c.in-Test.no.now c.in_ok-no-in-Test.no c.in_ok-no-in-Test.ensures.found
+
+pub test-requires-clause-no : goal.test-requires-clause-no
+test-requires-clause-no g t c =
+    let told = still_tells (g.D.Descent.made c.args.descent.now) (g.D.Descent.told c.args.descent.now) c.found.new.known.items c.found-in-Test.new.known.items c.as_slice-kept.result.now
+    c.in_ok-yes-in-Test.ensures.kept c.as_slice-kept.ensures.value c.in-Test.no.now c.in_ok-no-in-Test.no c.in_ok-no-in-Test.ensures.found c.in_ok-yes-in-Test.ensures.known c.tree_of.result.now c.tree_of.ensures in
+    told.0
+
+pub test-requires-clause-yes : goal.test-requires-clause-yes
+test-requires-clause-yes g t c =
+    let told = still_tells (g.D.Descent.made c.args.descent.now) (g.D.Descent.told c.args.descent.now) c.found-in-Test.new.known.items c.found-in-Test.new.known.items c.as_slice-kept.result.now
+    (λ i g at. at) c.as_slice-kept.ensures.value c.in-Test.yes.now c.in_ok-yes-in-Test.yes c.in_ok-yes-in-Test.ensures.found c.in_ok-yes-in-Test.ensures.known c.tree_of-in-Test.result.now c.tree_of-in-Test.ensures in
+    told.0
+
+pub returns-in_ok-tree-in-Test-clause-known : goal.returns-in_ok-tree-in-Test-clause-known
+returns-in_ok-tree-in-Test-clause-known g t c =
+    let low = still_tells (g.D.Descent.made c.args.descent.now) (g.D.Descent.told c.args.descent.now) c.found.new.known.items c.found-in-Test.new.known.items c.as_slice-kept.result.now
+    c.in_ok-yes-in-Test.ensures.kept c.as_slice-kept.ensures.value c.in-Test.no.now c.in_ok-no-in-Test.no c.in_ok-no-in-Test.ensures.found c.in_ok-yes-in-Test.ensures.known c.tree_of.result.now c.tree_of.ensures in
+    let high = still_tells (g.D.Descent.made c.args.descent.now) (g.D.Descent.told c.args.descent.now) c.found-in-Test.new.known.items c.found-in-Test.new.known.items c.as_slice-kept.result.now
+    (λ i g at. at) c.as_slice-kept.ensures.value c.in-Test.yes.now c.in_ok-yes-in-Test.yes c.in_ok-yes-in-Test.ensures.found c.in_ok-yes-in-Test.ensures.known c.tree_of-in-Test.result.now c.tree_of-in-Test.ensures in
+    of_answer c.keep-in-Test.result _ _ c.keep-in-Test.ensures
+    (λ found added. added_known (g.D.Descent.made c.args.descent.now) (g.D.Descent.told c.args.descent.now) c.found-in-Test.new.known.items c.keep-in-Test.new.known.items c.args.guard.now c.in_ok-tree-in-Test.tree found c.in_ok-yes-in-Test.ensures.known
+    c.in_ok-tree-in-Test.ensures.made
+    (subst (λ (h : Guard). g.D.Descent.told c.args.descent.now h c.in_ok-tree-in-Test.tree) (sym c.in-Test.ensures) (c.in_ok-tree-in-Test.ensures.told c.in-Test.no.now c.in-Test.yes.now low.1 high.1)) added)
+
+pub returns-in_ok-tree-in-Test-clause-kept : goal.returns-in_ok-tree-in-Test-clause-kept
+returns-in_ok-tree-in-Test-clause-kept g t c =
+    of_answer c.keep-in-Test.result _ _ c.keep-in-Test.ensures
+    (λ found added. kept_still c.args.known.now.items c.found.new.known.items c.keep-in-Test.new.known.items c.in_ok-no-in-Test.ensures.kept
+    (kept_still c.found.new.known.items c.found-in-Test.new.known.items c.keep-in-Test.new.known.items c.in_ok-yes-in-Test.ensures.kept
+    (added_kept (g.D.Descent.made c.args.descent.now) (g.D.Descent.told c.args.descent.now) c.found-in-Test.new.known.items c.keep-in-Test.new.known.items c.args.guard.now c.in_ok-tree-in-Test.tree found added)))
+
+pub returns-in_ok-tree-in-Test-clause-found : goal.returns-in_ok-tree-in-Test-clause-found
+returns-in_ok-tree-in-Test-clause-found g t c =
+    let low = still_tells (g.D.Descent.made c.args.descent.now) (g.D.Descent.told c.args.descent.now) c.found.new.known.items c.found-in-Test.new.known.items c.as_slice-kept.result.now
+    c.in_ok-yes-in-Test.ensures.kept c.as_slice-kept.ensures.value c.in-Test.no.now c.in_ok-no-in-Test.no c.in_ok-no-in-Test.ensures.found c.in_ok-yes-in-Test.ensures.known c.tree_of.result.now c.tree_of.ensures in
+    let high = still_tells (g.D.Descent.made c.args.descent.now) (g.D.Descent.told c.args.descent.now) c.found-in-Test.new.known.items c.found-in-Test.new.known.items c.as_slice-kept.result.now
+    (λ i g at. at) c.as_slice-kept.ensures.value c.in-Test.yes.now c.in_ok-yes-in-Test.yes c.in_ok-yes-in-Test.ensures.found c.in_ok-yes-in-Test.ensures.known c.tree_of-in-Test.result.now c.tree_of-in-Test.ensures in
+    of_answer c.keep-in-Test.result _ _ c.keep-in-Test.ensures
+    (λ found added. added_found (g.D.Descent.made c.args.descent.now) (g.D.Descent.told c.args.descent.now) c.found-in-Test.new.known.items c.keep-in-Test.new.known.items c.args.guard.now c.in_ok-tree-in-Test.tree found
+    c.in_ok-tree-in-Test.ensures.made
+    (subst (λ (h : Guard). g.D.Descent.told c.args.descent.now h c.in_ok-tree-in-Test.tree) (sym c.in-Test.ensures) (c.in_ok-tree-in-Test.ensures.told c.in-Test.no.now c.in-Test.yes.now low.1 high.1)) added)

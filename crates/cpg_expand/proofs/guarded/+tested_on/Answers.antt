@@ -1,0 +1,19 @@
+use Rattle.std.proofs.Common.{subst, sym}
+use Rattle.cpg_order.specs.Guard.{Guard}
+use Rattle.cpg_expand.specs.Guarded.{IsActiveTree, IsTestedOn}
+use Rattle.cpg_expand.proofs.TestedTrees.{tested_first, tested_further}
+use Rattle.cpg_expand.proofs.guarded.+tested_on.Goals as goal
+
+pub returns-then-condition-wanted-clause-tested : goal.returns-then-condition-wanted-clause-tested
+returns-then-condition-wanted-clause-tested t c =
+    let k = c.args.problem.now.faults in
+    subst (λ (guard : Guard). IsTestedOn k guard c.args.wanted c.in_ok-here-in-Test.here) (sym c.in-Test.ensures)
+    (tested_first k c.in-Test.condition c.in-Test.no.now c.in-Test.yes.now c.args.wanted c.in_ok-here-in-Test.here c.if-condition-wanted.true
+    (subst (λ (guard : Guard). IsActiveTree k guard c.in_ok-here-in-Test.here) c.in-Test.ensures c.in_ok-here-in-Test.ensures.active))
+
+pub returns-in_ok-picked-in-Test-clause-tested : goal.returns-in_ok-picked-in-Test-clause-tested
+returns-in_ok-picked-in-Test-clause-tested t c =
+    let k = c.args.problem.now.faults in
+    subst (λ (guard : Guard). IsTestedOn k guard c.args.wanted c.in_ok-picked-in-Test.picked) (sym c.in-Test.ensures)
+    (tested_further k c.in-Test.condition c.in-Test.no.now c.in-Test.yes.now c.args.wanted c.in_ok-no-in-Test.no c.in_ok-yes-in-Test.yes c.in_ok-picked-in-Test.picked c.if-condition-wanted.false
+    c.in_ok-no-in-Test.ensures.tested c.in_ok-yes-in-Test.ensures.tested c.in_ok-picked-in-Test.ensures.picks)

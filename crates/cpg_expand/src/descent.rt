@@ -1,0 +1,189 @@
+//! Trees down guards.
+ghost use Rattle.std.specs.Prelude.{◌≡◌, ◌<◌, ℕ, IfOk, IfSome};
+ghost use Rattle.std.specs.Bool.{OnTrue};
+ghost use Rattle.cpg_base.specs.declared.activation.Activation.{Activation};
+ghost use Rattle.cpg_order.specs.Guard.{Guard, Leaf, Test};
+ghost use Rattle.cpg_tree.specs.Tree.{TreeState};
+ghost use Rattle.cpg_expand.specs.Descent.{AreKept, AreKnown, AreLeaves, IsAdded, IsAt, IsFound, IsThere, IsTreeOf};
+ghost use Rattle.cpg_rules.specs.Trees.{TestsBelow};
+
+use cpg_base::{Activation, OutOfMemory};
+use cpg_rules::{GuardTop, GuardTree};
+use cpg_tree::Tree;
+use std::alloc::Global;
+
+/// Of so many parts of a guard at most the trees are kept, in case that an equal part comes again.
+const KEPT: usize = 64;
+
+/// What the tree of a guard tells, and how it is made of those of its sides.
+pub(crate) trait Descent<T> {
+    ghost begun: { Self → Type 0 };
+
+    ghost conditions: { Self → ℕ };
+
+    ghost may: { Self → Activation → Type 0 };
+
+    ghost made: { Self → TreeState T → Type 0 };
+
+    ghost told: { Self → Guard → TreeState T → Type 0 };
+
+    /// The tree of an activation.
+    fn leaf(&self, activation: Activation) -> Result<Tree<T>, OutOfMemory>
+        requires begun { begun self.now }
+        requires may { may self.now activation }
+        ensures made { IfOk result (made self.now) }
+        ensures told { IfOk result (told self.now (Leaf activation)) };
+
+    /// The tree of a test of a condition.
+    fn test(&self, condition: u32, no: &Tree<T>, yes: &Tree<T>) -> Result<Tree<T>, OutOfMemory>
+        requires begun { begun self.now }
+        requires condition { condition < conditions self.now }
+        requires no { made self.now no.now }
+        requires yes { made self.now yes.now }
+        ensures made { IfOk result (made self.now) }
+        ensures told { IfOk result (λ t. (off on : Guard) → told self.now off no.now → told self.now on yes.now → told self.now (Test condition off on) t) };
+}
+
+/// A guard with its tree.
+#[derive(Drop)]
+struct Known<'a, T> {
+    guard: &'a GuardTree,
+    tree: Tree<T>,
+}
+
+/// Where the tree of a guard is.
+#[derive(Drop)]
+enum Source<T> {
+    /// At a place among those that are kept.
+    At(usize),
+    /// Nowhere else.
+    Alone(Tree<T>),
+}
+
+/// Whether two activations are equal.
+fn are_equal(first: Activation, second: Activation) -> bool
+    ensures { OnTrue result (first ≡ second) }
+{
+    match first {
+        Activation::Inactive => matches!(second, Activation::Inactive),
+        Activation::Plain => matches!(second, Activation::Plain),
+        Activation::By(edge) => match second {
+            Activation::By(other) => edge == other,
+            _ => false,
+        },
+    }
+}
+
+/// Whether two guards are equal.
+fn is_same(guard: &GuardTree, other: &GuardTree) -> bool
+    ensures { OnTrue result (guard.now ≡ other.now) }
+{
+    match guard.top() {
+        GuardTop::Leaf(activation) => match other.top() {
+            GuardTop::Leaf(other) => are_equal(activation, other),
+            GuardTop::Test {
+                condition: _,
+                no: _,
+                yes: _,
+            } => false,
+        },
+        GuardTop::Test { condition, no, yes } => match other.top() {
+            GuardTop::Leaf(_) => false,
+            GuardTop::Test {
+                condition: tested,
+                no: low,
+                yes: high,
+            } => condition == tested && is_same(no, low) && is_same(yes, high),
+        },
+    }
+}
+
+/// The place of a guard that is equal to another.
+fn place_of<T>(known: &[Known<'_, T>], guard: &GuardTree) -> Option<usize>
+    ensures { IfSome result (λ i. IsAt known.now i guard.now) }
+{
+    for (place, one) in known.iter().enumerate() {
+        if is_same(one.guard, guard) {
+            return Some(place);
+        }
+    }
+    None
+}
+
+/// The tree that is found.
+fn tree_of<'a, T>(found: &'a Source<T>, known: &'a [Known<'_, T>]) -> &'a Tree<T>
+    requires { IsThere known.now found.now }
+    ensures { IsTreeOf known.now found.now result.now }
+{
+    match found {
+        Source::At(place) => &known[*place].tree,
+        Source::Alone(tree) => tree,
+    }
+}
+
+/// Keeps the tree of a guard, if there are few.
+fn keep<'a, T: Copy>(
+    known: &mut Vec<Known<'a, T>>,
+    guard: &'a GuardTree,
+    tree: Tree<T>,
+) -> Result<Source<T>, OutOfMemory>
+    ensures { IfOk result (IsAdded known.old.items known.new.items guard.now tree) }
+{
+    let place = known.len();
+    if place >= KEPT {
+        return Ok(Source::Alone(tree));
+    }
+    known.push(Known { guard, tree })?;
+    Ok(Source::At(place))
+}
+
+/// The tree of a guard, of whose equal parts it is made but once.
+fn found<'a, T: Copy + Eq, D: Descent<T>>(
+    descent: &D,
+    guard: &'a GuardTree,
+    known: &mut Vec<Known<'a, T>>,
+) -> Result<Source<T>, OutOfMemory>
+    requires begun { D.begun descent.now }
+    requires tests { TestsBelow (D.conditions descent.now) guard.now }
+    requires leaves { AreLeaves (D.may descent.now) guard.now }
+    requires known { AreKnown (D.made descent.now) (D.told descent.now) known.old.items }
+    ensures known { IfOk result (λ _. AreKnown (D.made descent.now) (D.told descent.now) known.new.items) }
+    ensures kept { IfOk result (λ _. AreKept known.old.items known.new.items) }
+    ensures found { IfOk result (IsFound (D.made descent.now) (D.told descent.now) known.new.items guard.now) }
+{
+    if let Some(place) = place_of(known.as_slice(), guard) {
+        return Ok(Source::At(place));
+    }
+    match guard.top() {
+        GuardTop::Leaf(activation) => {
+            let tree = descent.leaf(activation)?;
+            keep(known, guard, tree)
+        }
+        GuardTop::Test { condition, no, yes } => {
+            let no = found(descent, no, known)?;
+            let yes = found(descent, yes, known)?;
+            let kept = known.as_slice();
+            let tree = descent.test(condition, tree_of(&no, kept), tree_of(&yes, kept))?;
+            keep(known, guard, tree)
+        }
+    }
+}
+
+/// The tree of a guard.
+pub(crate) fn tree_down<T: Copy + Eq, D: Descent<T>>(
+    alloc: Global,
+    descent: &D,
+    guard: &GuardTree,
+) -> Result<Tree<T>, OutOfMemory>
+    requires begun { D.begun descent.now }
+    requires tests { TestsBelow (D.conditions descent.now) guard.now }
+    requires leaves { AreLeaves (D.may descent.now) guard.now }
+    ensures made { IfOk result (D.made descent.now) }
+    ensures told { IfOk result (D.told descent.now guard.now) }
+{
+    let mut known = Vec::new(alloc);
+    match found(descent, guard, &mut known)? {
+        Source::At(place) => Ok(known.swap_remove(place).tree),
+        Source::Alone(tree) => Ok(tree),
+    }
+}

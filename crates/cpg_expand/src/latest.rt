@@ -1,0 +1,230 @@
+//! The latest time that a frozen item would have, by each thing that it waits for alone: a tree of all of them together may be
+//! far wider than the item's row.
+ghost use Rattle.std.specs.Prelude.{◌≡◌, ◌<◌, ◌≤◌, All, IfOk, length, true};
+ghost use Rattle.cpg_base.specs.Bus.{slot_length};
+ghost use Rattle.cpg_base.specs.Graph.{condition_count, edge_count, home, item_count, node_of, process_at, process_count};
+ghost use Rattle.cpg_expand.specs.Agreeing.{IsTree};
+ghost use Rattle.cpg_expand.specs.Forest.{HasTrees, ends_of, heard_delay, heard_tree, times_of};
+ghost use Rattle.cpg_expand.specs.Latest.{HasHeardOf, HasInput, HasInputOf, HasLater, IsLatestSend, IsLatestSlot, IsLatestStart, IsRaised, or_later};
+ghost use Rattle.cpg_expand.specs.Tops.{IsTop};
+ghost use Rattle.cpg_rules.specs.Trees.{TestsBelow};
+ghost use Rattle.cpg_tree.specs.Meeting.{HasWhere};
+
+use crate::forest::Forest;
+use crate::guarded::tested_on;
+use crate::values::{slot_at, started};
+use cpg_base::{OutOfMemory, Problem};
+use cpg_bus::Share;
+use cpg_rules::GuardTree;
+use cpg_tree::{Tree, time_later};
+use std::alloc::Global;
+
+/// The greatest time of a tree in a scenario in which another one is true.
+fn most_where(problem: &Problem, tree: &Tree<Option<u64>>, wanted: &Tree<bool>) -> Option<u64>
+    requires tree { IsTree problem.now tree.now }
+    requires wanted { IsTree problem.now wanted.now }
+    ensures { IsTop problem.now (HasWhere tree.now wanted.now) result }
+{
+    let _processes = problem.processes();
+    tree.most_where(wanted)
+}
+
+/// A time, or another one later by a delay, whichever is greater.
+fn or_later(latest: u64, time: Option<u64>, delay: u64) -> u64
+    ensures { result ≡ or_later latest delay time }
+{
+    match time {
+        Some(time) => latest.max(time_later(Some(time), delay)),
+        None => latest,
+    }
+}
+
+/// A time, or when a frame is there at the latest where a tree is true, whichever is greater.
+fn after_frame(
+    problem: &Problem,
+    forest: &Forest,
+    item: u32,
+    wanted: &Tree<bool>,
+    latest: u64,
+) -> u64
+    requires forest { HasTrees problem.now forest.now }
+    requires item { item < item_count problem.now }
+    requires wanted { IsTree problem.now wanted.now }
+    ensures { IsRaised problem.now (HasLater (times_of problem.now forest.now item) wanted.now (slot_length problem.now (home problem.now item))) latest result }
+{
+    let time = most_where(problem, &forest.times[item as usize], wanted);
+    or_later(latest, time, problem.slot_length(problem.home(item)))
+}
+
+/// A time, or when a process has ended at the latest where a tree is true, whichever is greater.
+fn after_end(
+    problem: &Problem,
+    forest: &Forest,
+    process: u32,
+    wanted: &Tree<bool>,
+    latest: u64,
+) -> u64
+    requires forest { HasTrees problem.now forest.now }
+    requires process { process < process_count problem.now }
+    requires wanted { IsTree problem.now wanted.now }
+    ensures { IsRaised problem.now (HasLater (ends_of problem.now forest.now process) wanted.now 0) latest result }
+{
+    let time = most_where(problem, &forest.ends[process as usize], wanted);
+    or_later(latest, time, 0)
+}
+
+/// A time, or when a node has heard a condition at the latest where a tree is true, whichever is greater.
+fn after_condition(
+    problem: &Problem,
+    forest: &Forest,
+    node: u32,
+    condition: u32,
+    wanted: &Tree<bool>,
+    latest: u64,
+) -> u64
+    requires forest { HasTrees problem.now forest.now }
+    requires condition { condition < condition_count problem.now }
+    requires wanted { IsTree problem.now wanted.now }
+    ensures { IsRaised problem.now (HasLater (heard_tree problem.now forest.now node condition) wanted.now (heard_delay problem.now node condition)) latest result }
+{
+    let process = problem.process_of(condition);
+    if problem.node_of(process) == node {
+        return after_end(problem, forest, process, wanted, latest);
+    }
+    after_frame(
+        problem,
+        forest,
+        problem.broadcast_item(condition),
+        wanted,
+        latest,
+    )
+}
+
+/// A time, or when a node has heard at the latest what a guard tests on the way to being active, whichever is greater.
+fn after_guard(
+    alloc: Global,
+    problem: &Problem,
+    forest: &Forest,
+    node: u32,
+    guard: &GuardTree,
+    first: u64,
+) -> Result<u64, OutOfMemory>
+    requires few { condition_count problem.now ≤ 32 }
+    requires forest { HasTrees problem.now forest.now }
+    requires tests { TestsBelow (condition_count problem.now) guard.now }
+    ensures { IfOk result (IsRaised problem.now (HasHeardOf problem.now forest.now node guard.now (condition_count problem.now)) first) }
+{
+    let mut latest = first;
+    for condition in 0..problem.conditions() {
+        let wanted = tested_on(alloc, problem, guard, condition)?;
+        latest = after_condition(problem, forest, node, condition, &wanted, latest);
+    }
+    Ok(latest)
+}
+
+/// A time, or when an input from another node is there at the latest, whichever is greater.
+fn after_input(
+    problem: &Problem,
+    forest: &Forest,
+    active: &Tree<bool>,
+    edge: u32,
+    latest: u64,
+) -> u64
+    requires forest { HasTrees problem.now forest.now }
+    requires active { IsTree problem.now active.now }
+    requires edge { edge < edge_count problem.now }
+    ensures { IsRaised problem.now (HasInput problem.now forest.now active.now edge) latest result }
+{
+    // what comes from the node itself is there once the node is ready
+    if !problem.is_message(edge) {
+        return latest;
+    }
+    after_frame(problem, forest, problem.message_item(edge), active, latest)
+}
+
+/// A time, or when the last of these inputs is there at the latest, whichever is greater.
+fn after_inputs(
+    problem: &Problem,
+    forest: &Forest,
+    active: &Tree<bool>,
+    edges: &[u32],
+    first: u64,
+) -> u64
+    requires forest { HasTrees problem.now forest.now }
+    requires active { IsTree problem.now active.now }
+    requires edges { All (λ e. e < edge_count problem.now) edges.now }
+    ensures { IsRaised problem.now (HasInputOf problem.now forest.now active.now edges.now) first result }
+{
+    let mut latest = first;
+    for edge in edges {
+        latest = after_input(problem, forest, active, *edge, latest);
+    }
+    latest
+}
+
+/// The latest start of a process that waits until its node is ready and has heard what its guard tests, its release and for
+/// these inputs; `None` exactly where it is never active.
+pub(crate) fn latest_start(
+    alloc: Global,
+    problem: &Problem,
+    forest: &Forest,
+    guard: &GuardTree,
+    edges: &[u32],
+    active: &Tree<bool>,
+    process: u32,
+) -> Result<Option<u64>, OutOfMemory>
+    requires few { condition_count problem.now ≤ 32 }
+    requires forest { HasTrees problem.now forest.now }
+    requires tests { TestsBelow (condition_count problem.now) guard.now }
+    requires edges { All (λ e. e < edge_count problem.now) edges.now }
+    requires active { IsTree problem.now active.now }
+    requires process { process < process_count problem.now }
+    ensures { IfOk result (IsLatestStart problem.now forest.now (node_of problem.now process) guard.now (process_at problem.now process).release edges.now active.now) }
+{
+    let node = problem.node_of(process);
+    let ready = forest.started(
+        problem,
+        &forest.ready[node as usize],
+        problem.release(process),
+    )?;
+    let Some(first) = most_where(problem, &ready, active) else {
+        return Ok(None);
+    };
+    let heard = after_guard(alloc, problem, forest, node, guard, first)?;
+    Ok(Some(after_inputs(problem, forest, active, edges, heard)))
+}
+
+/// The first slot from the latest end on, or when the slots are free at the latest, whichever is later, where an item goes.
+fn latest_slot(
+    problem: &Problem,
+    share: Share,
+    goes: &Tree<bool>,
+    end: &Tree<Option<u64>>,
+    free: &Tree<Option<u64>>,
+) -> Option<u64>
+    requires goes { IsTree problem.now goes.now }
+    requires end { IsTree problem.now end.now }
+    requires free { IsTree problem.now free.now }
+    ensures { IsLatestSlot problem.now share goes.now end.now free.now result }
+{
+    let last = most_where(problem, end, goes)?;
+    let first = most_where(problem, free, goes)?;
+    Some(slot_at(share, Some(last)).max(first))
+}
+
+/// The latest time of an item that is sent once its producer has ended and its slots are free, where it goes.
+pub(crate) fn latest_send(
+    problem: &Problem,
+    share: Share,
+    goes: &Tree<bool>,
+    end: &Tree<Option<u64>>,
+    free: &Tree<u64>,
+) -> Result<Option<u64>, OutOfMemory>
+    requires goes { IsTree problem.now goes.now }
+    requires end { IsTree problem.now end.now }
+    requires free { IsTree problem.now free.now }
+    ensures { IfOk result (IsLatestSend problem.now share goes.now end.now free.now) }
+{
+    let free = started(free, 0)?;
+    Ok(latest_slot(problem, share, goes, end, &free))
+}

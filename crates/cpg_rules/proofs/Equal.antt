@@ -1,0 +1,22 @@
+-- Trees that compare as equal are equal.
+use Rattle.std.proofs.Common.{◌≡◌, true, ◌&&◌, ◌==◌, refl, ap, eq-eqb, eqb-true}
+use Rattle.std.proofs.lemmas.Bool.{and_parts, and_from}
+use Rattle.cpg_order.specs.Guard.{Guard, Leaf, Test}
+use Rattle.cpg_order.proofs.Outcomes.{same_activation_is, same_activation_refl}
+use Rattle.cpg_rules.specs.Trees.{same_guard}
+
+pub same_guard-is : (s t : Guard) → same_guard s t ≡ true → s ≡ t
+same_guard-is (Leaf a) (Leaf b) h = ap Leaf (same_activation_is a b h)
+same_guard-is (Leaf a) (Test d low high) h = cc
+same_guard-is (Test c off on) (Leaf b) h = cc
+same_guard-is (Test c off on) (Test d low high) h =
+    let r = and_parts (c == d) (same_guard off low && same_guard on high) h in
+    let q = and_parts (same_guard off low) (same_guard on high) r.1 in
+    let e = eqb-true c d r.0 in
+    let f = same_guard-is off low q.0 in
+    let j = same_guard-is on high q.1 in
+    λ i. Test (e i) (f i) (j i)
+
+pub same_guard-refl : (t : Guard) → same_guard t t ≡ true
+same_guard-refl (Leaf a) = same_activation_refl a
+same_guard-refl (Test c off on) = and_from (c == c) (same_guard off off && same_guard on on) (eq-eqb c c refl) (and_from (same_guard off off) (same_guard on on) (same_guard-refl off) (same_guard-refl on))

@@ -1,0 +1,8 @@
+use Rattle.std.proofs.Common.{◌≡◌, map}
+use Rattle.cpg_base.specs.Graph.{process_of}
+use Rattle.cpg_base.specs.Numbers.{numbers_below}
+use Rattle.cpg_base.specs.Order.{place}
+use Rattle.cpg_rules.proofs.composing.ranks_of.Given as goal
+
+abbrev pub invariant-loop-condition : goal.invariant-loop-condition
+invariant-loop-condition l = l.ranks.items ≡ map (λ c. place l.order (process_of l.problem c)) (numbers_below l.condition)

@@ -1,0 +1,5 @@
+use Rattle.std.proofs.Common.{◌≡◌, ◌++◌}
+use Rattle.cpg_table.proofs.assembling.node_table.Given as goal
+
+abbrev pub invariant-loop-row : goal.invariant-loop-row
+invariant-loop-row l = l.fn.own.items ++ l.fn.hears.items ≡ l.rows.items ++ l.row-iterator.rest.items

@@ -1,0 +1,113 @@
+use Rattle.std.proofs.Common.{ℕ, ◌≡◌, max, sym, subst}
+use Rattle.std.specs.Prelude.{IfOk}
+use Rattle.cpg_tree.specs.declared.node.Node.{Node}
+use Rattle.cpg_tree.specs.Space.{Space, Lies}
+use Rattle.cpg_tree.specs.Decision.{value_at, low_at, high_at, DoForksPass}
+use Rattle.cpg_tree.specs.Results.{IsJoinOf, IsFillOf, IsForkOf, IsWithin}
+use Rattle.cpg_tree.proofs.Spaces.{lies_reopened}
+use Rattle.cpg_tree.proofs.Forks.{two_below_of, two_above_of, two_fork_of, two_leaf_of, of_answer, from_false, passes_parts, same_below, same_above}
+use Rattle.cpg_tree.proofs.BoundLaws.{at_least_by}
+use Rattle.cpg_tree.proofs.Greatness.{first_greater, second_greater, greater_whole}
+use Rattle.cpg_tree.proofs.greater.Node+u64.+greater_by.Goals as goal
+
+pub returns-then-is_at_least-clause-made : goal.returns-then-is_at_least-clause-made
+returns-then-is_at_least-clause-made g t c =
+    let room : Space = c.args.space.now in
+    let number : g.row.U.Denot → ℕ = g.R.Reading.number c.args.read.now in
+    let a : Node ℕ = c.args.self.now in
+    let b : Node g.row.U.Denot = c.part-other.result.node.now in
+    of_answer c.within.result (IsWithin room a) (IsJoinOf (λ (x : ℕ) (y : g.row.U.Denot) (z : ℕ). z ≡ max x (number y)) room a c.args.other.node.now) c.within.ensures.made
+    (λ r made. greater_whole number room a c.args.other.node.now r b c.part-other.ensures.same
+    (first_greater number room a b r (at_least_by (λ (x : ℕ). x) number a b c.span-own.result c.span-others.result c.is_at_least.result c.span-own.ensures c.span-others.ensures c.is_at_least.ensures c.if-is_at_least.true) made))
+
+pub returns-then-is_at_least-2-clause-made : goal.returns-then-is_at_least-2-clause-made
+returns-then-is_at_least-2-clause-made g t c =
+    let room : Space = c.args.space.now in
+    let number : g.row.U.Denot → ℕ = g.R.Reading.number c.args.read.now in
+    let a : Node ℕ = c.args.self.now in
+    let b : Node g.row.U.Denot = c.part-other.result.node.now in
+    of_answer c.at_least.result (IsFillOf (λ (x : ℕ) (y : g.row.U.Denot) (z : ℕ). z ≡ max x (number y)) room 0 b) (IsJoinOf (λ (x : ℕ) (y : g.row.U.Denot) (z : ℕ). z ≡ max x (number y)) room a c.args.other.node.now) c.at_least.ensures.made
+    (λ r made. greater_whole number room a c.args.other.node.now r b c.part-other.ensures.same
+    (second_greater number room a b r (at_least_by number (λ (x : ℕ). x) b a c.span-others.result c.span-own.result c.is_at_least-2.result c.span-others.ensures c.span-own.ensures c.is_at_least-2.ensures c.if-is_at_least-2.true) made))
+
+pub returns-then-is_at_least-2-clause-pass : goal.returns-then-is_at_least-2-clause-pass
+returns-then-is_at_least-2-clause-pass g t c =
+    of_answer c.at_least.result _ _ c.at_least.ensures.pass
+    (λ r pass test first second. pass test (c.part-other.ensures.pass test second))
+
+pub returns-in-Leaf-clause-made : goal.returns-in-Leaf-clause-made
+returns-in-Leaf-clause-made g t c =
+    let room : Space = c.args.space.now in
+    let number : g.row.U.Denot → ℕ = g.R.Reading.number c.args.read.now in
+    let a : Node ℕ = c.args.self.now in
+    let b : Node g.row.U.Denot = c.part-other.result.node.now in
+    of_answer c.at_least-in-Leaf.result (IsFillOf (λ (x : ℕ) (y : g.row.U.Denot) (z : ℕ). z ≡ max x (number y)) room c.in-Leaf.value b) (IsJoinOf (λ (x : ℕ) (y : g.row.U.Denot) (z : ℕ). z ≡ max x (number y)) room a c.args.other.node.now) c.at_least-in-Leaf.ensures.made
+    (λ r made. greater_whole number room a c.args.other.node.now r b c.part-other.ensures.same
+    (two_leaf_of (λ s x z. z ≡ max x (number (value_at b s))) (λ s x v. low_at b s v) (λ k s x v. high_at k b s v) (Lies room) c.in-Leaf.value a c.in-Leaf.is r made))
+
+pub returns-in-Leaf-clause-pass : goal.returns-in-Leaf-clause-pass
+returns-in-Leaf-clause-pass g t c =
+    of_answer c.at_least-in-Leaf.result _ _ c.at_least-in-Leaf.ensures.pass
+    (λ r pass test first second. pass test (c.part-other.ensures.pass test second))
+
+pub returns-then-not-is_open_below-clause-made : goal.returns-then-not-is_open_below-clause-made
+returns-then-not-is_open_below-clause-made g t c =
+    let room : Space = c.args.space.now in
+    let number : g.row.U.Denot → ℕ = g.R.Reading.number c.args.read.now in
+    let a : Node ℕ = c.args.self.now in
+    let b : Node g.row.U.Denot = c.part-other.result.node.now in
+    of_answer c.greater_by.result (IsJoinOf (λ (x : ℕ) (y : g.row.U.Denot) (z : ℕ). z ≡ max x (number y)) room c.in-Fork.sides.value.1 b) (IsJoinOf (λ (x : ℕ) (y : g.row.U.Denot) (z : ℕ). z ≡ max x (number y)) room a c.args.other.node.now)
+    (subst (λ (n : Node ℕ). IfOk c.greater_by.result (IsJoinOf (λ (x : ℕ) (y : g.row.U.Denot) (z : ℕ). z ≡ max x (number y)) room n b)) (same_above c.deref.ensures) c.greater_by.ensures.made)
+    (λ r made. greater_whole number room a c.args.other.node.now r b c.part-other.ensures.same
+    (two_above_of (λ s x z. z ≡ max x (number (value_at b s))) (λ s x v. low_at b s v) (λ k s x v. high_at k b s v) (Lies room) c.in-Fork.variable c.in-Fork.cut c.in-Fork.sides.value.0 c.in-Fork.sides.value.1 a c.in-Fork.is r made
+    (from_false c.is_open_below.result c.if-not-is_open_below.true c.is_open_below.ensures.none)))
+
+pub returns-then-not-is_open_below-clause-pass : goal.returns-then-not-is_open_below-clause-pass
+returns-then-not-is_open_below-clause-pass g t c =
+    of_answer c.greater_by.result _ _ c.greater_by.ensures.pass
+    (λ r over test first second.
+    let parts = passes_parts test c.in-Fork.variable c.in-Fork.cut c.in-Fork.sides.value.0 c.in-Fork.sides.value.1 c.args.self.now c.in-Fork.is first in
+    over test (subst (λ (n : Node ℕ). DoForksPass test n) (sym (same_above c.deref.ensures)) parts.2) (c.part-other.ensures.pass test second))
+
+pub returns-then-not-is_open_above-clause-made : goal.returns-then-not-is_open_above-clause-made
+returns-then-not-is_open_above-clause-made g t c =
+    let room : Space = c.args.space.now in
+    let number : g.row.U.Denot → ℕ = g.R.Reading.number c.args.read.now in
+    let a : Node ℕ = c.args.self.now in
+    let b : Node g.row.U.Denot = c.part-other.result.node.now in
+    of_answer c.greater_by-then-not-is_open_above.result (IsJoinOf (λ (x : ℕ) (y : g.row.U.Denot) (z : ℕ). z ≡ max x (number y)) room c.in-Fork.sides.value.0 b) (IsJoinOf (λ (x : ℕ) (y : g.row.U.Denot) (z : ℕ). z ≡ max x (number y)) room a c.args.other.node.now)
+    (subst (λ (n : Node ℕ). IfOk c.greater_by-then-not-is_open_above.result (IsJoinOf (λ (x : ℕ) (y : g.row.U.Denot) (z : ℕ). z ≡ max x (number y)) room n b)) (same_below c.deref.ensures) c.greater_by-then-not-is_open_above.ensures.made)
+    (λ r made. greater_whole number room a c.args.other.node.now r b c.part-other.ensures.same
+    (two_below_of (λ s x z. z ≡ max x (number (value_at b s))) (λ s x v. low_at b s v) (λ k s x v. high_at k b s v) (Lies room) c.in-Fork.variable c.in-Fork.cut c.in-Fork.sides.value.0 c.in-Fork.sides.value.1 a c.in-Fork.is r made
+    (from_false c.is_open_above.result c.if-not-is_open_above.true c.is_open_above.ensures.none)))
+
+pub returns-then-not-is_open_above-clause-pass : goal.returns-then-not-is_open_above-clause-pass
+returns-then-not-is_open_above-clause-pass g t c =
+    of_answer c.greater_by-then-not-is_open_above.result _ _ c.greater_by-then-not-is_open_above.ensures.pass
+    (λ r over test first second.
+    let parts = passes_parts test c.in-Fork.variable c.in-Fork.cut c.in-Fork.sides.value.0 c.in-Fork.sides.value.1 c.args.self.now c.in-Fork.is first in
+    over test (subst (λ (n : Node ℕ). DoForksPass test n) (sym (same_below c.deref.ensures)) parts.1) (c.part-other.ensures.pass test second))
+
+pub returns-in_ok-high-in-Fork-clause-made : goal.returns-in_ok-high-in-Fork-clause-made
+returns-in_ok-high-in-Fork-clause-made g t c =
+    let room : Space = c.args.space.now in
+    let number : g.row.U.Denot → ℕ = g.R.Reading.number c.args.read.now in
+    let a : Node ℕ = c.args.self.now in
+    let b : Node g.row.U.Denot = c.part-other.result.node.now in
+    of_answer c.fork.result (IsForkOf c.in-Fork.variable c.in-Fork.cut c.in_ok-low-in-Fork.low c.in_ok-high-in-Fork.high) (IsJoinOf (λ (x : ℕ) (y : g.row.U.Denot) (z : ℕ). z ≡ max x (number y)) room a c.args.other.node.now) c.fork.ensures.made
+    (λ r fork. greater_whole number room a c.args.other.node.now r b c.part-other.ensures.same
+    (two_fork_of (λ s x z. z ≡ max x (number (value_at b s))) (λ s x v. low_at b s v) (λ k s x v. high_at k b s v) (Lies room) c.in-Fork.variable c.in-Fork.cut c.in-Fork.sides.value.0 c.in-Fork.sides.value.1 a c.in-Fork.is r (Lies c.close_above-most.new.self) (Lies c.close_below-least.new.self) c.in_ok-low-in-Fork.low c.in_ok-high-in-Fork.high
+    (subst (λ (n : Node ℕ). IsJoinOf (λ (x : ℕ) (y : g.row.U.Denot) (z : ℕ). z ≡ max x (number y)) c.close_above-most.new.self n b c.in_ok-low-in-Fork.low) (same_below c.deref.ensures) c.in_ok-low-in-Fork.ensures.made)
+    (subst (λ (n : Node ℕ). IsJoinOf (λ (x : ℕ) (y : g.row.U.Denot) (z : ℕ). z ≡ max x (number y)) c.close_below-least.new.self n b c.in_ok-high-in-Fork.high) (same_above c.deref.ensures) c.in_ok-high-in-Fork.ensures.made)
+    fork c.close_above-most.ensures.lies
+    (lies_reopened room c.close_above-most.new.self c.greater_by-in-Fork.new.space c.reopen_above.new.self c.close_below-least.new.self c.in-Fork.variable c.close_above-most.result c.in-Fork.cut c.close_above-most.ensures.back c.in_ok-low-in-Fork.ensures.back c.reopen_above.ensures c.close_below-least.ensures.lies)))
+
+pub returns-in_ok-high-in-Fork-clause-pass : goal.returns-in_ok-high-in-Fork-clause-pass
+returns-in_ok-high-in-Fork-clause-pass g t c =
+    of_answer c.fork.result _ _ c.fork.ensures.pass
+    (λ r fork test first second.
+    let others = c.part-other.ensures.pass test second in
+    let parts = passes_parts test c.in-Fork.variable c.in-Fork.cut c.in-Fork.sides.value.0 c.in-Fork.sides.value.1 c.args.self.now c.in-Fork.is first in
+    fork test parts.0
+    (c.in_ok-low-in-Fork.ensures.pass test (subst (λ (n : Node ℕ). DoForksPass test n) (sym (same_below c.deref.ensures)) parts.1) others)
+    (c.in_ok-high-in-Fork.ensures.pass test (subst (λ (n : Node ℕ). DoForksPass test n) (sym (same_above c.deref.ensures)) parts.2) others))

@@ -1,0 +1,124 @@
+//! The least and the greatest number below each fork of a tree whose leaves are read as numbers.
+ghost use Rattle.std.specs.Prelude.{◌≡◌, ◌++◌, max, min, nat_le, IfOk};
+ghost use Rattle.cpg_tree.specs.Bounds.{AreAbove, AreBelow, bounds_in, span_in};
+
+use crate::node::Node;
+use crate::reading::Reading;
+use cpg_base::OutOfMemory;
+use std::alloc::Global;
+
+/// The least and the greatest number of a tree.
+#[derive(Clone, Copy)]
+pub(crate) struct Span {
+    least: u64,
+    most: u64,
+}
+
+/// The numbers below a fork, and how many forks its side below has.
+#[derive(Clone, Copy)]
+pub(crate) struct Bound {
+    span: Span,
+    forks: usize,
+}
+
+impl Span {
+    /// The span of one number.
+    fn of(number: u64) -> Span
+        ensures { result ≡ record { least = number; most = number } }
+    {
+        Span {
+            least: number,
+            most: number,
+        }
+    }
+
+    /// The span of two trees.
+    fn with(self, other: Span) -> Span
+        ensures { result ≡ record { least = min self.least other.least; most = max self.most other.most } }
+    {
+        Span {
+            least: self.least.min(other.least),
+            most: self.most.max(other.most),
+        }
+    }
+
+    /// Whether each number is at least each number of another tree.
+    pub(crate) fn is_at_least(self, other: Span) -> bool
+        ensures { result ≡ nat_le other.most self.least }
+    {
+        other.most <= self.least
+    }
+}
+
+/// Of the bounds of a fork those of its side below.
+pub(crate) fn bounds_below(bounds: &[Bound]) -> &[Bound]
+    ensures { AreBelow bounds.now result.now }
+{
+    let Some((fork, sides)) = bounds.split_last() else {
+        return bounds;
+    };
+    sides.split_at(fork.forks.min(sides.len())).0
+}
+
+/// Of the bounds of a fork those of its side above.
+pub(crate) fn bounds_above(bounds: &[Bound]) -> &[Bound]
+    ensures { AreAbove bounds.now result.now }
+{
+    let Some((fork, sides)) = bounds.split_last() else {
+        return bounds;
+    };
+    sides.split_at(fork.forks.min(sides.len())).1
+}
+
+impl<T: Copy> Node<T> {
+    /// Adds a bound of each fork, behind those of its sides; the least and the greatest number.
+    fn push_bounds<R: Reading<T>>(
+        &self,
+        read: &R,
+        bounds: &mut Vec<Bound>,
+    ) -> Result<Span, OutOfMemory>
+        ensures bounds { IfOk result (λ _. bounds.new.items ≡ bounds.old.items ++ bounds_in (R.number read.now) self.now) }
+        ensures span { IfOk result (λ r. r ≡ span_in (R.number read.now) self.now) }
+    {
+        match self {
+            Node::Leaf(value) => Ok(Span::of(read.number(*value))),
+            Node::Fork { sides, .. } => {
+                let (below, above) = &**sides;
+                let before = bounds.len();
+                let low = below.push_bounds(read, bounds)?;
+                let forks = bounds.len() - before;
+                let high = above.push_bounds(read, bounds)?;
+                let span = low.with(high);
+                bounds.push(Bound { span, forks })?;
+                Ok(span)
+            }
+        }
+    }
+
+    /// A bound of each fork, behind those of its sides.
+    pub(crate) fn bounds<R: Reading<T>>(
+        &self,
+        alloc: Global,
+        read: &R,
+    ) -> Result<Vec<Bound>, OutOfMemory>
+        ensures { IfOk result (λ r. r.items ≡ bounds_in (R.number read.now) self.now) }
+    {
+        let mut bounds = Vec::new(alloc);
+        self.push_bounds(read, &mut bounds)?;
+        Ok(bounds)
+    }
+
+    /// The least and the greatest number, by the bounds of the forks.
+    pub(crate) fn span<R: Reading<T>>(&self, read: &R, bounds: &[Bound]) -> Span
+        requires { bounds.now ≡ bounds_in (R.number read.now) self.now }
+        ensures { result ≡ span_in (R.number read.now) self.now }
+    {
+        match self {
+            Node::Leaf(value) => Span::of(read.number(*value)),
+            Node::Fork { .. } => match bounds.last() {
+                Some(bound) => bound.span,
+                None => unreachable!(),
+            },
+        }
+    }
+}

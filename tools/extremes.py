@@ -1,0 +1,261 @@
+"""Small inputs within the limits whose answer is small too, and whose work is only where a program does too much of it.
+
+A case is the words of a run and its files. Each family says what it is hard for; its parameters let others be tried than those of CASES.
+"""
+import itertools, os, random, resource, subprocess
+from graphs import tool
+
+pack_tool = tool("pack")
+
+
+class Design:
+    """A graph, and tables for it that are written by hand."""
+
+    def __init__(self, faults, deadline=10**9):
+        self.faults, self.deadline, self.nodes, self.processes, self.edges, self.rows = faults, deadline, [], [], [], {}
+
+    def node(self):
+        self.nodes.append(f"N{len(self.nodes)}")
+        return len(self.nodes) - 1
+
+    def process(self, name, node=0, wcet=1, **more):
+        """Adds a process and returns its number."""
+        self.processes.append({"name": name, "node": node, "wcet": wcet, **more})
+        return len(self.processes) - 1
+
+    def edge(self, source, target, when=None, frozen=False):
+        """Adds an edge and returns its number."""
+        self.edges.append((source, target, when, frozen))
+        return len(self.edges) - 1
+
+    def text(self):
+        """The graph file."""
+        name = lambda p: self.processes[p]["name"]
+        lines = [f"faults = {self.faults}", f"deadline = {self.deadline}"]
+        lines += [f'[[node]]\nname = "{node}"' for node in self.nodes]
+        lines += [f'[[slot]]\nnode = "{node}"\nlength = 1\nbytes = 9' for node in self.nodes if len(self.nodes) > 1]
+        for it in self.processes:
+            lines.append(f'[[process]]\nname = "{it["name"]}"\nnode = "{self.nodes[it["node"]]}"\nwcet = {it["wcet"]}')
+            lines += [f"{key} = {str(it[key]).lower()}" for key in ("mu", "join", "frozen") if it.get(key)]
+        for source, target, when, frozen in self.edges:
+            lines.append(f'[[edge]]\nfrom = "{name(source)}"\nto = "{name(target)}"')
+            lines += [f"when = {str(when).lower()}"] * (when is not None) + ["frozen = true"] * frozen
+        return "\n".join([*lines, ""]).encode()
+
+    def pack(self):
+        """The pack of its rows, by item as tools/pack names them; what a node hears is what is sent, a slot of 1 later."""
+        deciding = {source for source, _, when, _ in self.edges if when is not None}
+        processes = [{"name": it["name"], "node": it["node"], "condition": int(p in deciding),
+                      "durations": [it["wcet"] + n * (it.get("mu", 0) + it["wcet"]) for n in range(self.faults + 1)]}
+                     for p, it in enumerate(self.processes)]
+        head = {"version": 1, "faults": self.faults, "nodes": self.nodes, "processes": processes, "edges": [edge[:2] for edge in self.edges]}
+
+        def row(item):
+            kind, what = item.split(" ", 1)
+            if kind != "hear":
+                return self.rows[item]
+            sent = self.rows.get(f"send {what}") or self.rows[f"tell {what}"]
+            return [[time + 1, literals] for time, literals in sent]
+
+        rows = [[{"item": item, "columns": row(item)} for item in pack_tool.items(head, node)] for node in range(len(self.nodes))]
+        return pack_tool.write({**head, "rows": rows})
+
+
+def first_with(members, top):
+    """For each member of a set the cube 'this one has a fault, and none before it': with that of no fault they part all scenarios."""
+    return [[[q, 0, 0] for q in members[:place]] + [[p, 1, top]] for place, p in enumerate(members)]
+
+
+def none_of(members):
+    return [[p, 0, 0] for p in members]
+
+
+def frozen_inputs(nodes, chain, faults, draw=None):
+    """A frozen process behind the ends of chains on many nodes: the times at which all inputs are there are a product."""
+    it, drawn = Design(faults), random.Random(draw)
+    ends = []
+    for _ in range(nodes):
+        node = it.node()
+        for place in range(chain):
+            number = len(it.processes)
+            more = {"wcet": drawn.randrange(500, 1000)} if draw is not None else {"mu": 10_000 + 20 * number}
+            p = it.process(f"p{number}", node, **more)
+            if place:
+                it.edge(p - 1, p)
+        ends.append(p)
+    last = it.process("x", it.node(), frozen=True)
+    for p in ends:
+        it.edge(p, last)
+    return {"graph": it.text()}
+
+
+def parity(conditions, faults, nodes=1):
+    """Joins that follow the parity of conditions: trees that fork on all of them, each in an order of its own."""
+    it = Design(faults)
+    for _ in range(nodes):
+        it.node()
+
+    def process(name, **more):
+        number = len(it.processes) + 1
+        return it.process(name, number % nodes, 1 + number % 7, **more)
+
+    deciding = [process(f"c{c}") for c in range(conditions)]
+    odd, even = process("x0"), process("n0")
+    it.edge(deciding[0], odd, True), it.edge(deciding[0], even, False)
+    for c in range(1, conditions):
+        sides = []
+        for name, source, when in (("a", odd, False), ("b", even, True), ("d", odd, True), ("e", even, False)):
+            side = process(f"{name}{c}")
+            it.edge(source, side), it.edge(deciding[c], side, when)
+            sides.append(side)
+        odd, even = process(f"x{c}", join=True), process(f"n{c}", join=True)
+        for joined, both in ((odd, sides[:2]), (even, sides[2:])):
+            for side in both:
+                it.edge(side, joined)
+    return {"graph": it.text()}
+
+
+def audited_sets(size, sets, faults):
+    """A log by which each of disjoint sets of processes had a fault, one set more than there are faults: no scenario gives it."""
+    it, step, now, log = Design(faults), faults + 2, 0, []
+    it.node()
+    members = [[it.process(f"p{i}_{j}") for j in range(size)] for i in range(sets)]
+    for p in itertools.chain(*members):
+        it.rows[f"start {it.processes[p]['name']}"] = [[now, []]]
+        log.append(f"{now} N0 start {it.processes[p]['name']}")
+        now += step
+    for number, own in enumerate(members):
+        late = now + step
+        it.process(f"x{number}")
+        it.rows[f"start x{number}"] = [[now, none_of(own)], *([late, cube] for cube in first_with(own, faults))]
+        log.append(f"{late} N0 start x{number}")
+        now += 2 * step
+    return {"graph": it.text(), "pack": it.pack(), "log": "\n".join([f"until {now}", *log, ""]).encode()}
+
+
+def heard_sets(size, sets, faults, conditions=0):
+    """Messages of which each tells a node something where no process of a set had a fault; not all sets can have one. With conditions
+    a message's column is parted by one of them."""
+    it, step, now = Design(faults), faults + 2, 0
+    near, far = it.node(), it.node()
+
+    def start(name, node, columns=None, wait=0):
+        nonlocal now
+        p = it.process(name, node)
+        it.rows[f"start {name}"] = columns or [[now, []]]
+        now += wait or step
+        return p
+
+    members = [[start(f"p{i}_{j}", near) for j in range(size)] for i in range(sets)]
+    told = start("v", near)
+    deciding = [start(f"c{c}", near) for c in range(conditions)]
+    if deciding:
+        both = start("y", near, [[now, [[128 + c, 1, 1] for c in range(conditions)]]])
+        for c in deciding:
+            it.edge(c, both, True)
+    senders = [start(f"y{i}", near) for i in range(sets)]
+    last = it.process("x", far)
+    now += step
+    now += now % 2
+    for c in deciding:
+        it.rows[f"tell {it.processes[c]['name']}"] = [[now, []]]
+        now += 2
+    for number, own in enumerate(members):
+        edge, deciding_one = it.edge(senders[number], last), 128 + number % max(conditions, 1)
+        values = [[[deciding_one, value, value]] for value in (0, 1)] if conditions else [[]]
+        columns = [[now, none_of(own) + [count] + value] for value in values for count in ([told, 0, 0], [told, 1, faults])]
+        columns += [[now, cube] for cube in first_with(own, faults)]
+        it.rows[f"send e{edge}"] = [[time, sorted(literals)] for time, literals in columns]
+        now += 2
+    now += 10
+    it.rows["start x"] = [[now, [[told, 0, 0]]], [now + 7, [[told, 1, faults]]]]
+    return {"graph": it.text(), "pack": it.pack()}
+
+
+def vectors(count, left):
+    """All lists of so many fault counts with at most so many faults."""
+    if count == 0:
+        yield ()
+        return
+    for first in range(left + 1):
+        for rest in vectors(count - 1, left - first):
+            yield (first, *rest)
+
+
+def long_rows(rows, columns, seed=5):
+    """Rows of many columns of which no single variable parts the most."""
+    faults, drawn = 8, random.Random(seed)
+    it, step, now = Design(faults), faults + 2, 0
+    it.node()
+    chained, forked = [it.process(f"a{i}") for i in range(12)], [it.process(f"b{i}") for i in range(9)]
+    parting, later = it.process("r"), [it.process(f"s{i}") for i in range(9)]
+    for process in it.processes:
+        it.rows[f"start {process['name']}"] = [[now, []]]
+        now += step
+    depth = next(depth for depth in range(1, 9) if sum(1 for _ in vectors(depth, 7)) >= columns)
+    cubes = [[[parting, 1, faults], *none_of(later), *([p, n, n] for p, n in zip(forked, counts))] for counts in vectors(depth, 7)]
+    drawn.shuffle(cubes)
+    chain = [none_of(chained), *first_with(chained, faults)]
+    front = [cube + [[parting, 0, 0]] for cube in chain]
+    middle = [[[parting, 1, faults]] + cube for cube in first_with(later, faults)]
+    place = (len(front) + len(cubes) + len(middle)) // 2 - len(front) - 7
+    cubes[place:place] = middle
+    for number in range(rows):
+        it.process(f"x{number}")
+        it.rows[f"start x{number}"] = [[now + number * step + (10**6 if cube is middle[0] else 0), sorted(cube)] for cube in front + cubes]
+    return {"graph": it.text(), "pack": it.pack()}
+
+
+def deep_row(processes):
+    """A row that forks one fault count at a time, as deep as there are processes and faults."""
+    faults, now = 8, 0
+    it = Design(faults)
+    it.node()
+    members = [it.process(f"p{i}") for i in range(processes)]
+    for p in members:
+        it.rows[f"start p{p}"] = [[now, []]]
+        now += faults + 2
+    it.process("x")
+    columns = [[now, none_of(members[:p]) + [[p, n, n]]] for p in members for n in range(faults, 0, -1)] + [[now, none_of(members)]]
+    middle = len(columns) // 2
+    columns[middle], columns[middle - 1] = columns[middle - 1], columns[middle]
+    it.rows["start x"] = columns
+    return {"graph": it.text(), "pack": it.pack()}
+
+
+# by name: what makes the files, the command, its status, and what a run may take: seconds, MiB of memory, and KiB of stack
+CASES = {
+    "a frozen process behind 15 chains of 3, k 8": (lambda: frozen_inputs(15, 3, 8), "show", 0, 1, 100, 1024),
+    "the same with drawn times, chains of 4": (lambda: frozen_inputs(15, 4, 8, 7), "compile", 0, 1, 150, 1024),
+    "the same, tuned": (lambda: frozen_inputs(15, 3, 1), "tune", 0, 2, 150, 1024),
+    "the parity of 14 conditions": (lambda: parity(14, 0), "show", 0, 2, 300, 1024),
+    "a log of 9 sets of 13 processes with a fault each, k 8": (lambda: audited_sets(13, 9, 8), "audit", 0, 1, 50, 1024),
+    "messages that 9 sets of 10 processes part, k 8": (lambda: heard_sets(10, 9, 8), "check", 0, 1, 50, 1024),
+    "the same, sets of 6, and 8 conditions": (lambda: heard_sets(6, 9, 8, 8), "check", 0, 1, 50, 1024),
+    "ten rows of 6,000 columns that nothing parts": (lambda: long_rows(10, 6000), "check", 0, 1, 60, 1024),
+    "a row that forks 1,017 times in turn": (lambda: deep_row(127), "check", 0, 1, 50, 1024),
+}
+ORDER = {"show": ("graph",), "compile": ("graph",), "tune": ("graph",), "check": ("graph", "pack"), "audit": ("graph", "pack", "log")}
+
+
+def written(name, file):
+    """Writes the files of a case, by a function of a name and bytes that returns a path: the words of its run."""
+    make, command, *_ = CASES[name]
+    files = make()
+    return [command, *(file(f"extreme.{kind}", files[kind]) for kind in ORDER[command])]
+
+
+def run(program, name, file):
+    """Runs a case with no more stack than it may take, and no more than four times its memory and some of its time: its status, its
+    line of an error, the seconds and the MiB that it took."""
+    _, _, _, seconds, memory, stack = CASES[name]
+
+    def begin():
+        resource.setrlimit(resource.RLIMIT_STACK, (stack << 10,) * 2)
+        resource.setrlimit(resource.RLIMIT_AS, ((4 * memory + 1024) << 20,) * 2)
+        resource.setrlimit(resource.RLIMIT_CPU, (4 * seconds + 20,) * 2)
+
+    child = subprocess.Popen([program, *written(name, file)], stdout=subprocess.DEVNULL, stderr=subprocess.PIPE, preexec_fn=begin)
+    line = child.stderr.read()
+    _, status, usage = os.wait4(child.pid, 0)
+    return os.waitstatus_to_exitcode(status), line, usage.ru_utime + usage.ru_stime, usage.ru_maxrss / 1024
