@@ -1,31 +1,23 @@
 -- A run that read the files of its words, and did the work on what they say, ends lawfully.
-use Rattle.std.proofs.Common.{ℕ, ◌≡◌, ◌∙◌, List, [], ◌∷◌, Option, Some, None, refl, sym, ap, subst, arith, inl, inr}
-use Rattle.std.specs.Prelude.{◌⊎◌, All}
+use Rattle.std.proofs.Common.{◌≡◌, ◌∙◌, List, [], ◌∷◌, Some, None, sym, ap, subst, arith, inl, inr}
+use Rattle.std.specs.Prelude.{All}
 use Rattle.cpg_tale.specs.Fetch.{Fetch}
-use Rattle.cpg_io.specs.State.{ShelfState}
 use Rattle.cpg_words.specs.FileWords.{file_words}
 use Rattle.cpg_words.specs.Parts.{Text}
 use Rattle.cpg_words.specs.Forms.{command_of}
 use Rattle.cpg_words.specs.declared.command.Command.{Command}
-use Rattle.cpg_words.specs.declared.command.Command.TheVariants.{Live}
-use Rattle.cpg_head.specs.Head.{Head}
 use Rattle.cpg_table.specs.Lawful.{Tables}
-use Rattle.cpg_table.specs.Table.{NodeTable, table_at}
+use Rattle.cpg_table.specs.Table.{table_at}
 use Rattle.cpg_refusal.specs.declared.halt.Halt.{Halt}
-use Rattle.cpg_refusal.specs.declared.halt.Halt.TheVariants.{Memory}
 use Rattle.cpg_refusal.specs.Lines.{IsNamed}
 use Rattle.cpg_inputs.specs.declared.kind.Kind.TheVariants.{PackFile}
-use Rattle.cpg_inputs.specs.declared.inputs.Inputs.{Inputs}
 use Rattle.cpg_inputs.specs.Files.{file, files_of}
-use Rattle.cpg_inputs.specs.Inputs.{AreInputs}
 use Rattle.cpg_inputs.specs.Says.{Value, tables_value}
 use Rattle.cpg_inputs.specs.Reading.{IsRead, Reads}
 use Rattle.cpg_live.specs.Follower.{Follower, open_follower}
-use Rattle.cpg_app.specs.declared.output.Output.{Output}
 use Rattle.cpg_app.specs.Causes.{OrMemory, StopsWork}
 use Rattle.cpg_app.specs.Outputs.{IsFollower}
-use Rattle.cpg_app.specs.Told.{Untouched}
-use Rattle.cpg_app.specs.Endings.{Follows, IsFollowedAt, IsToldTo, Ran, Stops, streamed}
+use Rattle.cpg_app.specs.Endings.{Follows, IsFollowedAt, IsToldTo, Ran, streamed}
 use Rattle.cpg_app.specs.Lawful.{IsLawful}
 use Rattle.cpg_app.proofs.Named.{work_named}
 use Rattle.cpg_app.proofs.Streamed.{lawful_closed, lawful_stream}

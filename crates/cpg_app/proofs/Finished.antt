@@ -1,5 +1,5 @@
 -- A run ends lawfully by what its work answered and its sinks took.
-use Rattle.std.proofs.Common.{ℕ, ◌≡◌, ◌≤◌, ◌+◌, List, [], ◌∷◌, Option, Some, None, length, refl, arith, inl, inr}
+use Rattle.std.proofs.Common.{◌≡◌, List, [], ◌∷◌, Option, None, refl, arith, inl, inr}
 use Rattle.std.specs.Prelude.{◌⊎◌, Result, Ok, Err}
 use Rattle.cpg_base.specs.Graph.{Graph}
 use Rattle.cpg_tale.specs.Fetch.{Fetch}
@@ -11,9 +11,9 @@ use Rattle.cpg_refusal.specs.declared.halt.Halt.{Halt}
 use Rattle.cpg_refusal.specs.declared.halt.Halt.TheVariants.{Words, Memory}
 use Rattle.cpg_refusal.specs.Halts.{halt_of_words}
 use Rattle.cpg_refusal.specs.Lines.{line_of, status_of}
-use Rattle.cpg_inputs.specs.Files.{File, limit_of}
+use Rattle.cpg_inputs.specs.Files.{File}
 use Rattle.cpg_inputs.specs.Says.{graph_after}
-use Rattle.cpg_inputs.specs.Reading.{IsFetchOf, IsWanting, IsWhole, StopsAt, StopsReading}
+use Rattle.cpg_inputs.specs.Reading.{IsFetchOf, IsWhole, StopsAt, StopsReading}
 use Rattle.cpg_app.specs.Told.{IsWritten, Sent, Untouched}
 use Rattle.cpg_app.specs.Endings.{IsEnded, Prints, Ran, Stops}
 use Rattle.cpg_app.specs.Lawful.{IsLawful}

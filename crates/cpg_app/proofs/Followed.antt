@@ -1,14 +1,12 @@
 -- What following a stream leaves of a shelf.
-use Rattle.std.proofs.Common.{ℕ, ◌≡◌, ◌∙◌, true, false, true≢false, List, [], ◌∷◌, Option, refl, sym, ap, inl, inr}
-use Rattle.std.specs.Prelude.{◌⊎◌, Result, Ok, Err}
+use Rattle.std.proofs.Common.{ℕ, ◌≡◌, ◌∙◌, true, true≢false, List, [], ◌∷◌, Option, refl, sym, ap}
 use Rattle.cpg_tale.specs.Fetch.{Fetch}
-use Rattle.cpg_io.specs.Causes.{Rose}
-use Rattle.cpg_io.specs.State.{ShelfState, SinkState}
+use Rattle.cpg_io.specs.State.{SinkState}
 use Rattle.cpg_head.specs.Head.{Head}
 use Rattle.cpg_table.specs.Table.{NodeTable}
 use Rattle.cpg_live.specs.declared.following.Broken.{Broken}
 use Rattle.cpg_live.specs.declared.following.Broken.TheVariants.{Shelf, Sink, Refused}
-use Rattle.cpg_live.specs.Following.{Breaks, Completes, IsStreamed, Stream}
+use Rattle.cpg_live.specs.Following.{Breaks, Completes, IsStreamed}
 
 head_or : Fetch → List Fetch → Fetch
 head_or d [] = d

@@ -1,6 +1,6 @@
 -- What a run packed, the others take, and it asks what `show` prints.
-use Rattle.std.proofs.Common.{ℕ, ◌≡◌, ◌<◌, ◌∙◌, Bool, true, false, List, [], ◌∷◌, ◌++◌, Option, Some, None, append-nil, get_or, length, refl, sym, ap, subst, arith, inl, inr, lt-ltb, true≢false}
-use Rattle.std.specs.Prelude.{◌⊎◌, position}
+use Rattle.std.proofs.Common.{ℕ, ◌≡◌, ◌<◌, ◌∙◌, Bool, true, false, List, [], ◌∷◌, ◌++◌, Some, None, append-nil, get_or, length, refl, sym, ap, subst, arith, inl, inr, lt-ltb, true≢false}
+use Rattle.std.specs.Prelude.{position}
 use Rattle.std.specs.List.{position_or_len}
 use Rattle.std.specs.Io.KnownBytes.{Appends}
 use Rattle.std.specs.Str.{bytes_eq}
@@ -11,7 +11,7 @@ use Rattle.std.proofs.lemmas.Slice.Eq.{bytes_eq-Decides}
 use Rattle.cpg_base.specs.Graph.{Graph}
 use Rattle.cpg_words.specs.Parts.{Text}
 use Rattle.cpg_words.specs.declared.command.Command.{Command}
-use Rattle.cpg_words.specs.declared.command.Command.TheVariants.{Show, Compile, Check, Play, Node, Audit}
+use Rattle.cpg_words.specs.declared.command.Command.TheVariants.{Show, Compile, Node}
 use Rattle.cpg_rules.specs.Admission.{Admission, IsAdmitted}
 use Rattle.cpg_head.specs.Head.{Head}
 use Rattle.cpg_table.specs.Lawful.{Tables}
@@ -40,8 +40,6 @@ use Rattle.cpg_app.specs.Joined.{Wrote, HasMade, HasShown, HasPacked, EndsWell, 
 use Rattle.cpg_app.proofs.Asked.{on_graph, printed}
 use Rattle.cpg_app.proofs.Shown.{tables_lawful}
 use Rattle.cpg_app.proofs.Streamed.{is_live, other_words}
-
--- NOT CHECKED YET
 
 -- ---- what was written
 

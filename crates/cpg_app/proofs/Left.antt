@@ -1,8 +1,6 @@
 -- Of what a command asks for, the halts that are left.
-use Rattle.std.proofs.Common.{ℕ, ◌≡◌, ◌≢◌, ◌∙◌, List, [], ◌∷◌, length, refl, sym, ap, subst, inl, inr}
-use Rattle.std.specs.Prelude.{◌⊎◌, Ok, Err}
-use Rattle.cpg_base.specs.Graph.{Graph}
-use Rattle.cpg_words.specs.Parts.{Text}
+use Rattle.std.proofs.Common.{ℕ, ◌≡◌, ◌≢◌, ◌∙◌, List, length, ap, inl, inr}
+use Rattle.std.specs.Prelude.{◌⊎◌, Err}
 use Rattle.cpg_rules.specs.Admission.{Admission}
 use Rattle.cpg_table.specs.Lawful.{Tables}
 use Rattle.cpg_table.specs.Valid.{IsValid}

@@ -20,9 +20,8 @@ use Rattle.cpg_rules.specs.Faults.{ShowsFault}
 use Rattle.cpg_hyper.specs.declared.part.HyperFault.{HyperFault}
 use Rattle.cpg_core.specs.declared.fault.CompileFault.{CompileFault}
 use Rattle.cpg_core.specs.Compilation.{ShowsCompileFault}
-use Rattle.cpg_refusal.specs.declared.halt.Refusal.{Refusal}
 use Rattle.cpg_refusal.specs.declared.halt.Halt.{Halt}
-use Rattle.cpg_refusal.specs.declared.halt.Halt.TheVariants.{Words, Read, Refused, Unsafe, Memory}
+use Rattle.cpg_refusal.specs.declared.halt.Halt.TheVariants.{Read, Refused, Unsafe, Memory}
 use Rattle.cpg_refusal.specs.Halts.{halt_of_reading, halt_of_rules, halt_of_scenario, halt_of_parts}
 use Rattle.cpg_refusal.specs.Lines.{HasLengths, IsNamed}
 use Rattle.cpg_inputs.specs.declared.kind.Kind.{Kind}

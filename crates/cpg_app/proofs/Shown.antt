@@ -1,5 +1,5 @@
 -- A run that ends by its output or by a reason to stop keeps what each status says.
-use Rattle.std.proofs.Common.{ℕ, ◌≡◌, ◌≢◌, ◌∙◌, true, false, true≢false, List, [], ◌∷◌, Option, Some, None, length, sym, ap, subst, arith, inl, inr}
+use Rattle.std.proofs.Common.{ℕ, ◌≡◌, ◌≢◌, ◌∙◌, List, [], ◌∷◌, Some, None, length, sym, ap, subst, arith, inl, inr}
 use Rattle.std.specs.Prelude.{◌⊎◌, Ok, Err}
 use Rattle.std.proofs.lemmas.Option.{none-some, same_Some}
 use Rattle.cpg_io.specs.Causes.{Rose}
@@ -23,31 +23,28 @@ use Rattle.cpg_table.specs.Lawful.{Tables}
 use Rattle.cpg_table.specs.Valid.{IsValid}
 use Rattle.cpg_violation.specs.Heads.{IsHeadFor}
 use Rattle.cpg_codec.specs.Packs.{AreLawful}
-use Rattle.cpg_log.specs.Log.{Log}
-use Rattle.cpg_scenario.specs.declared.reading.Played.{Played}
 use Rattle.cpg_hyper.specs.declared.part.Part.{Part}
 use Rattle.cpg_hyper.specs.declared.part.HyperFault.{HyperFault}
 use Rattle.cpg_hyper.specs.declared.part.HyperFault.TheVariants.{OutOfMemory}
 use Rattle.cpg_hyper.specs.Refusals.{ShowsUnrolled}
 use Rattle.cpg_refusal.specs.declared.halt.Refusal.{Refusal}
 use Rattle.cpg_refusal.specs.declared.halt.Halt.{Halt}
-use Rattle.cpg_refusal.specs.declared.halt.Halt.TheVariants.{Words, Read, Refused, Late, TooWide, Unsafe, Memory}
+use Rattle.cpg_refusal.specs.declared.halt.Halt.TheVariants.{Read, Refused, Late, TooWide, Unsafe, Memory}
 use Rattle.cpg_refusal.specs.Lines.{status_of}
 use Rattle.cpg_inputs.specs.declared.kind.Kind.TheVariants.{PackFile}
 use Rattle.cpg_inputs.specs.Files.{file, files_of}
 use Rattle.cpg_inputs.specs.Says.{Value, graph_value, tables_value, played_value, log_value}
 use Rattle.cpg_inputs.specs.Shapes.{HavePeriods, part_values}
 use Rattle.cpg_inputs.specs.Reading.{Reads, StopsReading}
-use Rattle.cpg_inputs.proofs.OneReading.{AllAlike, AreAlike, HasGrown, moved, reads_grown, stops_grown, values_lawful}
-use Rattle.cpg_live.specs.Streams.{stream_end}
+use Rattle.cpg_inputs.proofs.OneReading.{AreAlike, moved, values_lawful}
 use Rattle.cpg_app.specs.Causes.{IsNotUnrolled, IsUncompiled, StopsVerdict, StopsWork, first_named}
-use Rattle.cpg_app.specs.Outputs.{AreJudgedSafe, IsMadeOf, PutsOut, packed, shown}
+use Rattle.cpg_app.specs.Outputs.{IsMadeOf, PutsOut, packed, shown}
 use Rattle.cpg_app.specs.Told.{Untouched}
-use Rattle.cpg_app.specs.Endings.{Ran, EndsBy, EndsWith, Follows, Has, IsPrinted, IsTold, Prints, Stops, table_of}
-use Rattle.cpg_app.specs.Lawful.{Asks, AsksAudit, AsksForTables, AsksPlay, AsksVerdict, IsClosedStream, IsFailed, IsFaultless, IsLawful, IsUnreadStream, status_of_end}
+use Rattle.cpg_app.specs.Endings.{Ran, EndsBy, EndsWith, Follows, Has, IsPrinted, IsTold, Prints, Stops}
+use Rattle.cpg_app.specs.Lawful.{Asks, AsksForTables, AsksVerdict, IsClosedStream, IsFailed, IsFaultless, IsLawful, IsUnreadStream}
 use Rattle.cpg_app.proofs.Asked.{on_graph, on_judged, on_logged, on_parts, on_played, on_tables, printed, stopped_by}
 use Rattle.cpg_app.proofs.Left.{CheckLeft, CompileLeft, PartsLeft, check_left, compile_left, judged_is, parts_left}
-use Rattle.cpg_app.proofs.Statuses.{FailsLast, late_of, not_three, not_zero, of_files, of_work, read_of, refused_of, unsafe_of, wide_of, words_of}
+use Rattle.cpg_app.proofs.Statuses.{late_of, not_three, not_zero, of_files, of_work, read_of, refused_of, unsafe_of, wide_of}
 use Rattle.cpg_app.proofs.Unrolled.{not_both}
 
 -- ---- a stream isn't fetched

@@ -1,5 +1,5 @@
 -- What the status of a halt says.
-use Rattle.std.proofs.Common.{ℕ, ◌≡◌, ◌≤◌, ◌∙◌, true, List, [], ◌∷◌, Option, Some, None, refl, sym, ap, arith, inl, inr}
+use Rattle.std.proofs.Common.{ℕ, ◌≡◌, ◌≤◌, true, List, [], ◌∷◌, Option, Some, None, refl, ap, arith, inl, inr}
 use Rattle.std.specs.Prelude.{◌⊎◌}
 use Rattle.cpg_base.specs.Graph.{Graph}
 use Rattle.cpg_base.specs.Scenario.{Scenario}
@@ -22,7 +22,7 @@ use Rattle.cpg_refusal.specs.Halts.{halt_of_reading, halt_of_rules, halt_of_scen
 use Rattle.cpg_refusal.specs.Lines.{status_of}
 use Rattle.cpg_inputs.specs.declared.kind.Kind.{Kind}
 use Rattle.cpg_inputs.specs.declared.kind.Kind.TheVariants.{GraphFile, PartFile, PackFile, ScenarioFile, LogFile}
-use Rattle.cpg_inputs.specs.Files.{File, limit_of}
+use Rattle.cpg_inputs.specs.Files.{File}
 use Rattle.cpg_inputs.specs.Says.{Value, graph_after, Refuses}
 use Rattle.cpg_inputs.specs.Reading.{StopsAt, StopsReading}
 use Rattle.cpg_app.specs.Halts.{halt_of_compile}

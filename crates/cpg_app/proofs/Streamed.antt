@@ -1,6 +1,6 @@
 -- A run that follows a stream keeps what each status says.
 use Rattle.std.proofs.Common.{ℕ, ◌≡◌, ◌≢◌, ◌∙◌, Bool, true, false, true≢false, List, [], ◌∷◌, Option, Some, None, refl, sym, ap, subst, arith, inl, inr}
-use Rattle.std.specs.Prelude.{◌⊎◌, Ok, Err}
+use Rattle.std.specs.Prelude.{◌⊎◌}
 use Rattle.std.proofs.lemmas.Bool.{cases_eq}
 use Rattle.std.proofs.lemmas.Option.{none-some, same_Some}
 use Rattle.cpg_io.specs.Causes.{Rose}
@@ -16,16 +16,15 @@ use Rattle.cpg_table.specs.Table.{NodeTable, table_at}
 use Rattle.cpg_refusal.specs.declared.halt.Halt.TheVariants.{Read}
 use Rattle.cpg_refusal.specs.Lines.{line_of}
 use Rattle.cpg_inputs.specs.declared.kind.Kind.TheVariants.{PackFile}
-use Rattle.cpg_inputs.specs.Says.{Says, Value, tables_value}
+use Rattle.cpg_inputs.specs.Says.{Says, tables_value}
 use Rattle.cpg_inputs.proofs.OneReading.{says_alike}
 use Rattle.cpg_live.specs.declared.following.Broken.{Broken}
-use Rattle.cpg_live.specs.declared.following.StreamFault.{StreamFault}
 use Rattle.cpg_live.specs.Following.{Breaks}
 use Rattle.cpg_live.specs.Streams.{fault_line, stream_end}
 use Rattle.cpg_app.specs.Causes.{first_named}
 use Rattle.cpg_app.specs.Told.{Sent, SinkSeen, Untouched}
-use Rattle.cpg_app.specs.Endings.{Ran, EndsAtClose, EndsInStream, Follows, Has, IsSaid, stream_of, table_of}
-use Rattle.cpg_app.specs.Lawful.{Asks, AsksForTables, AsksVerdict, IsFailed, IsFaultless, IsLawful, IsRefusedStream, IsUnreadStream, status_of_end}
+use Rattle.cpg_app.specs.Endings.{Ran, EndsAtClose, EndsInStream, Follows, IsSaid, stream_of, table_of}
+use Rattle.cpg_app.specs.Lawful.{AsksForTables, AsksVerdict, IsFailed, IsFaultless, IsLawful, IsRefusedStream, IsUnreadStream, status_of_end}
 use Rattle.cpg_app.proofs.Shown.{one_file}
 
 -- ---- words

@@ -1,8 +1,7 @@
 -- What the work on inputs answers is the answer of the command whose files say them.
-use Rattle.std.proofs.Common.{ℕ, ◌≡◌, List, [], ◌∷◌, Option, Some, refl, sym, subst, inl, inr}
-use Rattle.std.specs.Prelude.{◌⊎◌, Result, Ok, Err, IfOk, IfErr, string_bytes}
+use Rattle.std.proofs.Common.{ℕ, ◌≡◌, List, [], ◌∷◌, refl, sym, subst, inl, inr}
+use Rattle.std.specs.Prelude.{Result, Ok, Err, IfOk, IfErr, string_bytes}
 use Rattle.cpg_words.specs.Parts.{Text}
-use Rattle.cpg_words.specs.declared.command.Pair.{Pair}
 use Rattle.cpg_words.specs.declared.command.Command.{Command}
 use Rattle.cpg_words.specs.declared.command.Command.TheVariants.{Show, Compile, Check, Play, Node, Trial, Live, Hyper, Tune, Audit}
 use Rattle.cpg_rules.specs.Admission.{Admission}

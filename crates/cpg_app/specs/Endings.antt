@@ -1,5 +1,5 @@
 -- The ways in which a run ends: its output or its line is taken whole, or the sink meets a fault; a stream has its own.
-use Rattle.std.specs.Prelude.{ℕ, ◌≡◌, ◌⊎◌, List, [], ◌∷◌, Option, Some, None, Result, Ok, Err, All}
+use Rattle.std.specs.Prelude.{ℕ, ◌≡◌, ◌⊎◌, List, ◌∷◌, Some, None, Result, Ok, Err, All}
 use Rattle.cpg_tale.specs.Fetch.{Fetch}
 use Rattle.cpg_io.specs.State.{ShelfState}
 use Rattle.cpg_words.specs.Parts.{Text}

@@ -40,10 +40,12 @@ fn finish<S: Shelf, O: Sink, E: Sink>(
     match work(alloc, inputs) {
         Ok(Output::Lines(text)) => end(alloc, put(text.as_str(), out), err),
         Ok(Output::Pack(tables)) => end(alloc, write_pack(alloc, &tables, out), err),
-        Ok(Output::Stream {
-            mut follower,
-            stream,
-        }) => follow(&mut follower, shelf, out, err, stream.as_str()),
+        Ok(
+            Output::Stream {
+                mut follower,
+                stream,
+            },
+        ) => follow(&mut follower, shelf, out, err, stream.as_str()),
         Err(halt) => stop(alloc, &halt, err),
     }
 }

@@ -1,10 +1,8 @@
-use Rattle.std.proofs.Common.{ℕ, List, ap, inr, refl, sym, subst, string_bytes}
+use Rattle.std.proofs.Common.{ℕ, List, ap, inr, sym, subst, string_bytes}
 use Rattle.std.proofs.KnownBytes.{Keeps-refl}
-use Rattle.cpg_tale.specs.Fetch.{Fetch}
 use Rattle.cpg_codec.specs.Spelling.{spelling}
-use Rattle.cpg_inputs.specs.declared.inputs.Inputs.{Inputs}
-use Rattle.cpg_app.specs.declared.output.Output.TheVariants.{Lines, Pack, Stream}
-use Rattle.cpg_app.specs.Endings.{Has, Prints, Ran, Stops, seen}
+use Rattle.cpg_app.specs.declared.output.Output.TheVariants.{Lines, Pack}
+use Rattle.cpg_app.specs.Endings.{Has, Prints, Ran, seen}
 use Rattle.cpg_app.specs.Outputs.{Answers}
 use Rattle.cpg_app.specs.Told.{IsWritten, sent}
 use Rattle.cpg_app.proofs.Answered.{followed_lawful, halt_named, is_open, may_follow}
@@ -12,8 +10,6 @@ use Rattle.cpg_app.proofs.Finished.{stopped_lawful, written_lawful}
 use Rattle.cpg_app.proofs.Worked.{IsLive, live_of, text_of}
 use Rattle.cpg_app.proofs.Written.{packed}
 use Rattle.cpg_app.proofs.top.finish.Goals as goal
-
--- NOT PROVED YET: of Lines and Pack, clause lawful was changed last and its check did not end
 
 pub follow-requires-clause-may : goal.follow-requires-clause-may
 follow-requires-clause-may g c =
@@ -44,7 +40,7 @@ returns-in-Ok-Lines-clause-lawful g c words start at =
     let has : Has r at.command at.has.values = record { words = at.words; reads = at.has.reads } in
     let puts = text_of at.command at.has.values (Lines c.in-Ok-Lines.text) tt (subst (Answers at.command at.has.values) c.in-Ok-Lines.field-0-is (c.in-Ok-Lines.ensures.output at.command at.has.values at.has.are)) in
     let prints : Prints r (string_bytes c.in-Ok-Lines.text) = record { command = at.command; values = at.has.values; has = has; puts = puts } in
-    written_lawful r (string_bytes c.in-Ok-Lines.text) c.put.result prints (subst (λ (bytes : List ℕ). IsWritten r.out c.put.result bytes) c.as_str.ensures c.put.ensures) c.end.ensures
+    written_lawful r (string_bytes c.in-Ok-Lines.text) c.put.result prints (subst (λ (bytes : List ℕ). IsWritten r.out c.put.result bytes) c.as_str.ensures.value c.put.ensures) c.end.ensures
 
 pub returns-in-Ok-Pack-clause-lawful : goal.returns-in-Ok-Pack-clause-lawful
 returns-in-Ok-Pack-clause-lawful g c words start at =

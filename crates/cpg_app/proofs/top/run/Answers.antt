@@ -1,10 +1,8 @@
-use Rattle.std.proofs.Common.{rules, All, List, None, ap, inl, inr, map, refl, string_bytes, subst}
+use Rattle.std.proofs.Common.{rules, All, None, ap, inl, inr, map, refl, string_bytes, subst}
 use Rattle.std.proofs.KnownBytes.{Keeps-refl}
-use Rattle.cpg_tale.specs.Fetch.{Fetch}
-use Rattle.cpg_words.specs.FileWords.{file_words, file_words_if}
+use Rattle.cpg_words.specs.FileWords.{file_words_if}
 use Rattle.cpg_inputs.specs.Files.{files_of}
 use Rattle.cpg_inputs.proofs.Fitting.{inputs_fit}
-use Rattle.cpg_inputs.proofs.Keeping.{keeps_on, keeps_same, leave_on}
 use Rattle.cpg_app.specs.Endings.{Ran, seen}
 use Rattle.cpg_app.specs.Told.{sent}
 use Rattle.cpg_app.proofs.Finished.{stopped_lawful, wordless_lawful}

@@ -1,8 +1,5 @@
-use Rattle.std.proofs.Common.{List, subst, sym}
-use Rattle.cpg_words.specs.declared.command.Command.{Command}
-use Rattle.cpg_inputs.specs.declared.inputs.Inputs.{Inputs}
-use Rattle.cpg_inputs.specs.Inputs.{AreFit, AreInputs}
-use Rattle.cpg_inputs.specs.Says.{Value}
+use Rattle.std.proofs.Common.{subst}
+use Rattle.cpg_inputs.specs.Inputs.{AreInputs}
 use Rattle.cpg_app.proofs.Worked.{of_audit, of_check, of_compile, of_hyper, of_live, of_node, of_play, of_show, of_trial, of_tune, stops_audit, stops_check, stops_compile, stops_hyper, stops_live, stops_memory, stops_node, stops_play, stops_show}
 use Rattle.cpg_app.proofs.work.work.Goals as goal
 
