@@ -151,6 +151,13 @@ apart_more g a b c count roots are input left inputs all n m y e h made =
     ∙ ap (λ trees. is_apart a.ranks (input_tree g true trees input) (union g a.ranks (trees_of a.parts roots) left)) (same_trees a b roots (union_extends a b (union g a.ranks (trees_of a.parts roots) left) y h) are.within)
     ∙ ap (are_apart g a.ranks (trees_of a.parts roots)) (sym all)
 
+-- a union stays
+pub union_stays : (a b c : Sharing) (x : Option Guard) (y : Option ℕ) → MakesUnion a b x y → Extends b c → MakesUnion a c x y
+union_stays a b c None None h e = extends_both a b c h e
+union_stays a b c None (Some n) h e = absurd h
+union_stays a b c (Some t) None h e = absurd h
+union_stays a b c (Some t) (Some n) h e = makes_extends a b c t n h e
+
 -- the trees of guards stay
 pub trees_stay : (g : Graph) (a b : Sharing) (roots : List ℕ) (count : ℕ) → Extends a b → AreRoots a.parts count roots → AreTreesOf g (trees_of a.parts roots) → AreTreesOf g (trees_of b.parts roots)
 trees_stay g a b roots count more are of = subst (AreTreesOf g) (sym (same_trees a b roots more are.within)) of

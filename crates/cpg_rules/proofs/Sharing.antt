@@ -8,10 +8,11 @@ use Rattle.cpg_rules.specs.declared.shared.Top.{Top}
 use Rattle.cpg_rules.specs.declared.shared.Top.TheVariants.{Leaf as LeafTop, Test as TestTop}
 use Rattle.cpg_rules.specs.declared.shared.Part.{Part}
 use Rattle.cpg_rules.specs.declared.shared.Ask.{Ask}
-use Rattle.cpg_rules.specs.declared.shared.Ask.TheVariants.{Live, Met}
+use Rattle.cpg_rules.specs.declared.shared.Ask.TheVariants.{Live, Met, Apart}
 use Rattle.cpg_rules.specs.declared.shared.Known.{Known}
 use Rattle.cpg_rules.specs.Trees.{tested}
 use Rattle.cpg_rules.specs.Composing.{live_tree, met}
+use Rattle.cpg_rules.specs.Apart.{are_both_live}
 use Rattle.cpg_rules.specs.Sharing.{Sharing, no_part, tree_at, IsTop, IsAnswer, IsKnown, IsSharing, Extends, Makes, trees_of, AreRoots}
 
 -- ---- one more part
@@ -29,6 +30,7 @@ module _ (xs ys : List Part) (longer : length xs ≤ length ys) (same : (n : ℕ
     omega (arith, h.2, longer),
     same n h.2 ∙ h.3 ∙ ap₂ (met join ranks) (sym (same first h.0)) (sym (same second h.1)),
   )
+  answer_stays ranks (Apart first second) n h = (omega (arith, h.0, longer), omega (arith, h.1, longer), ap₂ (are_both_live ranks) (same first h.0) (same second h.1) ∙ h.2)
 
   known_stays : (ranks : List ℕ) (k : Option Known) → IsKnown ranks xs k → IsKnown ranks ys k
   known_stays ranks None h = tt
@@ -105,6 +107,10 @@ makes_tested a b c d condition t u n m r first second last =
       within = last.within;
       is = last.is ∙ ap₂ (tested condition) whole.is second.is;
     }
+
+-- the same parts with other things known
+pub extends_known : (a b : Sharing) → b.parts ≡ a.parts → b.ranks ≡ a.ranks → Extends a b
+extends_known a b parts ranks = record { ranks = ranks; longer = omega (arith, ap length parts); same = λ n l. ap (λ ps. tree_at ps n) parts }
 
 -- ---- the trees of processes
 

@@ -1,5 +1,5 @@
 -- The parts of trees, each with its top, and what is known of them.
-use Rattle.std.specs.Prelude.{ℕ, ◌≡◌, ◌<◌, ◌≤◌, List, Option, Some, None, All, length, get_or, map}
+use Rattle.std.specs.Prelude.{ℕ, ◌≡◌, ◌<◌, ◌≤◌, false, List, Option, Some, None, All, length, get_or, map}
 use Rattle.cpg_base.specs.declared.activation.Activation.TheVariants.{Inactive}
 use Rattle.cpg_base.specs.Graph.{Graph}
 use Rattle.cpg_order.specs.Urgency.{IsTopological}
@@ -8,9 +8,10 @@ use Rattle.cpg_rules.specs.declared.shared.Top.{Top}
 use Rattle.cpg_rules.specs.declared.shared.Top.TheVariants.{Leaf as LeafTop, Test as TestTop}
 use Rattle.cpg_rules.specs.declared.shared.Part.{Part}
 use Rattle.cpg_rules.specs.declared.shared.Ask.{Ask}
-use Rattle.cpg_rules.specs.declared.shared.Ask.TheVariants.{Live, Met}
+use Rattle.cpg_rules.specs.declared.shared.Ask.TheVariants.{Live, Met, Apart}
 use Rattle.cpg_rules.specs.declared.shared.Known.{Known}
 use Rattle.cpg_rules.specs.Composing.{live_tree, met}
+use Rattle.cpg_rules.specs.Apart.{are_both_live}
 use Rattle.cpg_rules.specs.Guards.{Guards, AreGuardsOf}
 
 -- the ranks of the conditions, the parts, and what is known of them
@@ -31,11 +32,12 @@ abbrev pub IsTop : List Part → Top → Guard → Type 0
 IsTop parts (LeafTop a) tree = tree ≡ Leaf a
 IsTop parts (TestTop c off on) tree = (off < length parts) × (on < length parts) × (tree ≡ Test c (tree_at parts off) (tree_at parts on))
 
--- it is the answer to what is asked
+-- it is the answer to what is asked; that two are never active at once has none
 abbrev pub IsAnswer : List ℕ → List Part → Ask → ℕ → Type 0
 IsAnswer ranks parts (Live a x source) n = (source < length parts) × (n < length parts) × (tree_at parts n ≡ live_tree a x (tree_at parts source))
 IsAnswer ranks parts (Met join first second) n =
     (first < length parts) × (second < length parts) × (n < length parts) × (tree_at parts n ≡ met join ranks (tree_at parts first) (tree_at parts second))
+IsAnswer ranks parts (Apart first second) n = (first < length parts) × (second < length parts) × (are_both_live ranks (tree_at parts first) (tree_at parts second) ≡ false)
 
 abbrev pub IsKnown : List ℕ → List Part → Option Known → Type 0
 IsKnown ranks parts None = Unit {0}

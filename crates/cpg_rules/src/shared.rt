@@ -1,5 +1,5 @@
 //! The parts of trees, each made once, and what was found of them, so that it is found once.
-ghost use Rattle.std.specs.Prelude.{◌≡◌, ◌<◌, IfOk, IfSome, true, length};
+ghost use Rattle.std.specs.Prelude.{◌≡◌, ◌<◌, ◌||◌, IfOk, IfSome, true, length};
 ghost use Rattle.cpg_base.specs.declared.activation.Activation.TheVariants.{Inactive};
 ghost use Rattle.cpg_order.specs.Guard.{Leaf, Test};
 ghost use Rattle.cpg_rules.specs.Trees.{same_guard, tested};
@@ -48,9 +48,14 @@ pub enum Ask {
         first: usize,
         second: usize,
     },
+    /// That two are never active at once.
+    Apart {
+        first: usize,
+        second: usize,
+    },
 }
 
-/// What is asked, and the number of the part that is the answer, if one is.
+/// What is asked, and the number of the part that is the answer, where one is.
 #[derive(Clone, Copy, Debug, PartialEq, Eq)]
 pub struct Known {
     ask: Ask,
@@ -129,7 +134,7 @@ fn are_same_asks(a: Ask, b: Ask) -> bool
                 test: wanted,
                 source: from,
             } => are_same(activation, other) && are_same_tests(test, wanted) && source == from,
-            Ask::Met { .. } => false,
+            _ => false,
         },
         Ask::Met {
             join,
@@ -141,7 +146,14 @@ fn are_same_asks(a: Ask, b: Ask) -> bool
                 first: low,
                 second: high,
             } => join == other && first == low && second == high,
-            Ask::Live { .. } => false,
+            _ => false,
+        },
+        Ask::Apart { first, second } => match b {
+            Ask::Apart {
+                first: low,
+                second: high,
+            } => first == low && second == high,
+            _ => false,
         },
     }
 }
@@ -504,17 +516,42 @@ impl Parts {
         }
     }
 
-    /// Whether two parts are active at once in some outcome: both are walked down together, by rank.
-    pub fn are_both_live(&self, first: usize, second: usize) -> bool
-        requires { ArePairWithin self.now.parts first second }
-        ensures { result ≡ are_both_live self.now.ranks (tree_at self.now.parts first) (tree_at self.now.parts second) }
+    /// Whether one of two pairs is active at once in some outcome.
+    #[cycle(living)]
+    fn is_either_live(&mut self, no: (usize, usize), yes: (usize, usize)) -> bool
+        requires no { ArePairWithin self.old.parts no.0 no.1 }
+        requires yes { ArePairWithin self.old.parts yes.0 yes.1 }
+        ensures parts { self.new.parts ≡ self.old.parts }
+        ensures ranks { self.new.ranks ≡ self.old.ranks }
+        ensures live { result ≡ (are_both_live self.old.ranks (tree_at self.old.parts no.0) (tree_at self.old.parts no.1) || are_both_live self.old.ranks (tree_at self.old.parts yes.0) (tree_at self.old.parts yes.1)) }
+    {
+        if self.are_both_live(no.0, no.1) {
+            return true;
+        }
+        self.are_both_live(yes.0, yes.1)
+    }
+
+    /// As `are_both_live`, where it isn't known.
+    #[cycle(living)]
+    fn are_found_live(&mut self, first: usize, second: usize) -> bool
+        requires { ArePairWithin self.old.parts first second }
+        ensures parts { self.new.parts ≡ self.old.parts }
+        ensures ranks { self.new.ranks ≡ self.old.ranks }
+        ensures live { result ≡ are_both_live self.old.ranks (tree_at self.old.parts first) (tree_at self.old.parts second) }
     {
         match self.top(first) {
-            Top::Leaf(found) => found.is_active() && self.is_live_somewhere(second),
+            Top::Leaf(found) => {
+                if found.is_active() {
+                    return self.is_live_somewhere(second);
+                }
+                false
+            }
             Top::Test { condition, no, yes } => match self.top(second) {
                 Top::Leaf(found) => {
-                    found.is_active()
-                        && (self.are_both_live(no, second) || self.are_both_live(yes, second))
+                    if found.is_active() {
+                        return self.is_either_live((no, second), (yes, second));
+                    }
+                    false
                 }
                 Top::Test {
                     condition: other,
@@ -522,14 +559,34 @@ impl Parts {
                     yes: high,
                 } => {
                     if condition == other {
-                        return self.are_both_live(no, low) || self.are_both_live(yes, high);
+                        return self.is_either_live((no, low), (yes, high));
                     }
                     if rank(self.ranks.as_slice(), other) < rank(self.ranks.as_slice(), condition) {
-                        return self.are_both_live(first, low) || self.are_both_live(first, high);
+                        return self.is_either_live((first, low), (first, high));
                     }
-                    self.are_both_live(no, second) || self.are_both_live(yes, second)
+                    self.is_either_live((no, second), (yes, second))
                 }
             },
         }
+    }
+
+    /// Whether two parts are active at once in some outcome: both are walked down together, by rank.
+    #[cycle(living)]
+    pub fn are_both_live(&mut self, first: usize, second: usize) -> bool
+        requires { ArePairWithin self.old.parts first second }
+        ensures parts { self.new.parts ≡ self.old.parts }
+        ensures ranks { self.new.ranks ≡ self.old.ranks }
+        ensures live { result ≡ are_both_live self.old.ranks (tree_at self.old.parts first) (tree_at self.old.parts second) }
+    {
+        let ask = Ask::Apart { first, second };
+        let place = place_of(first, second, 2, self.known.len());
+        if self.answer(place, ask).is_some() {
+            return false;
+        }
+        let live = self.are_found_live(first, second);
+        if !live {
+            self.keep(place, ask, first);
+        }
+        live
     }
 }

@@ -1,7 +1,0 @@
-use Rattle.std.proofs.Common.{◌+◌}
-use Rattle.cpg_rules.specs.Trees.{size_of}
-use Rattle.cpg_rules.specs.Sharing.{tree_at}
-use Rattle.cpg_rules.proofs.shared.Parts.+are_both_live.Given as goal
-
-abbrev pub decreases-are_both_live : goal.decreases-are_both_live
-decreases-are_both_live l = size_of (tree_at l.self.now.parts l.first) + size_of (tree_at l.self.now.parts l.second)
