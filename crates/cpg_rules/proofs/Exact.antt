@@ -1,10 +1,9 @@
 -- A graph that keeps all rules shows no fault but want of memory.
-use Rattle.std.proofs.Common.{ℕ, ◌<◌, ◌≤◌, ◌≡◌, ◌≢◌, Bool, true, false, not, ◌&&◌, ◌==◌, List, length, filter, refl, sym, ap, ◌∙◌, subst, arith, inl, inr, eqb-true, ltb-true, ⊎_elim}
+use Rattle.std.proofs.Common.{ℕ, ◌<◌, ◌≤◌, ◌≡◌, Bool, true, false, not, ◌&&◌, ◌==◌, List, length, filter, refl, ap, ◌∙◌, subst, arith, inl, inr, eqb-true, ltb-true}
 use Rattle.std.specs.Prelude.{nat_lt}
-use Rattle.std.specs.List.{list_any}
 use Rattle.std.proofs.lemmas.Bool.{and_parts, or_cases, both_ways}
 use Rattle.cpg_base.specs.Numbers.{numbers_below}
-use Rattle.cpg_base.specs.Graph.{Graph, edge_count, condition_count, inputs, source, node_of, process_of, home, producer_of_item, is_message, is_sent_item, message_item, broadcast_item}
+use Rattle.cpg_base.specs.Graph.{Graph, edge_count, condition_count, inputs, source, node_of, process_of, producer_of_item, is_message, is_sent_item, message_item, broadcast_item}
 use Rattle.cpg_base.specs.Activity.{live}
 use Rattle.cpg_base.specs.WellFormed.{HasSenderSlots}
 use Rattle.cpg_base.proofs.Items.{item_at-message, item_at-broadcast}

@@ -18,3 +18,5 @@ pub mod Unions
 pub mod Searched
 pub mod Rested
 pub mod Outcome
+pub mod Sharing
+pub mod SharedSteps

@@ -11,6 +11,7 @@ pub mod Rested
 pub mod Growing
 pub mod Composing
 pub mod Apart
+pub mod Sharing
 pub mod Way
 pub mod Guards
 pub mod Laws

@@ -5,4 +5,4 @@ use Rattle.cpg_order.specs.Guard.{Guard, Leaf, Test}
 
 abbrev pub tree_of : Node → Guard
 tree_of (LeafNode a) = Leaf a
-tree_of (TestNode c off on) = Test c off.value on.value
+tree_of (TestNode c off on) = Test c off on

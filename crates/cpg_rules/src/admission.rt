@@ -5,12 +5,16 @@ ghost use Rattle.cpg_base.specs.WellFormed.{HasSenderSlots};
 ghost use Rattle.cpg_order.specs.Urgency.{IsTopological};
 ghost use Rattle.cpg_rules.specs.Guards.{AreGuardsOf};
 ghost use Rattle.cpg_rules.specs.Rules.{AllFit};
+ghost use Rattle.cpg_rules.specs.Sharing.{trees_of, AreRoots, AreTreesOf};
+ghost use Rattle.cpg_base.specs.Graph.{process_count};
 ghost use Rattle.cpg_rules.specs.Admission.{IsAdmitted};
 ghost use Rattle.cpg_rules.specs.Faults.{IsOrdered, HasFewTracks, HasFewInputs, ShowsFault};
 
 use crate::joins::least_alternatives;
+use crate::shared::Parts;
 use crate::slots::{above_slot, without_slot};
-use crate::{GuardFault, GuardTrees, guards};
+use crate::trees::{SharedGuards, shared_guards};
+use crate::{GuardFault, GuardTrees};
 use cpg_base::{Order, Problem, Scenario};
 use cpg_order::{OrderFault, Walk, urgency};
 use std::alloc::Global;
@@ -81,15 +85,17 @@ fn ordered(alloc: Global, problem: &Problem) -> Result<Order, RuleFault>
     }
 }
 
-/// The guards.
-fn guarded(alloc: Global, problem: &Problem, order: &Order) -> Result<GuardTrees, RuleFault>
+/// The guards, with the parts of their trees.
+fn guarded(alloc: Global, problem: &Problem, order: &Order) -> Result<SharedGuards, RuleFault>
     requires { IsOrdered problem.now order.now }
-    ensures guards { IfOk result (AreGuardsOf problem.now order.now) }
+    ensures guards { IfOk result (λ shared. AreGuardsOf problem.now order.now shared.guards) }
+    ensures roots { IfOk result (λ shared. AreRoots shared.parts.parts (process_count problem.now) shared.roots.items) }
+    ensures trees { IfOk result (λ shared. shared.guards.trees ≡ trees_of shared.parts.parts shared.roots.items) }
     ensures tracks { IfOk result (λ _. HasFewTracks problem.now order.now) }
     ensures fault { IfErr result (ShowsFault problem.now) }
 {
-    match guards(alloc, problem, order) {
-        Ok(guards) => Ok(guards),
+    match shared_guards(alloc, problem, order) {
+        Ok(shared) => Ok(shared),
         Err(GuardFault::TooManyTracks) => Err(RuleFault::TooManyTracks),
         Err(GuardFault::OutOfMemory) => Err(RuleFault::OutOfMemory),
     }
@@ -100,14 +106,16 @@ fn joined(
     alloc: Global,
     problem: &Problem,
     order: &Order,
-    guards: &GuardTrees,
+    parts: &mut Parts,
+    roots: &[usize],
 ) -> Result<(), RuleFault>
     requires tracks { HasFewTracks problem.now order.now }
-    requires guards { AreGuardsOf problem.now order.now guards.now }
+    requires roots { AreRoots parts.old.parts (process_count problem.now) roots.now }
+    requires guards { AreTreesOf problem.now (trees_of parts.old.parts roots.now) }
     ensures joins { IfOk result (λ _. HasFewInputs problem.now order.now) }
     ensures fault { IfErr result (ShowsFault problem.now) }
 {
-    match least_alternatives(alloc, problem, order, guards) {
+    match least_alternatives(alloc, problem, order, parts, roots) {
         Ok(None) => Ok(()),
         Ok(Some(found)) => Err(RuleFault::TwoAlternatives {
             process: found.process,
@@ -140,10 +148,11 @@ fn judged(alloc: Global, problem: &Problem) -> Result<(Order, GuardTrees), RuleF
     ensures fault { IfErr result (ShowsFault problem.now) }
 {
     let order = ordered(alloc, problem)?;
-    let guards = guarded(alloc, problem, &order)?;
-    joined(alloc, problem, &order, &guards)?;
+    let mut shared = guarded(alloc, problem, &order)?;
+    let roots = shared.roots.as_slice();
+    joined(alloc, problem, &order, &mut shared.parts, roots)?;
     slotted(problem)?;
-    Ok((order, guards))
+    Ok((order, shared.guards))
 }
 
 /// Admits a graph that keeps all rules: it has no cycle, at most 16,384 tracks, no join with two live inputs, a slot for

@@ -6,13 +6,13 @@ ghost use Rattle.cpg_base.specs.Order.{place};
 ghost use Rattle.cpg_order.specs.Guard.{Leaf};
 ghost use Rattle.cpg_base.specs.declared.activation.Activation.TheVariants.{Inactive};
 ghost use Rattle.cpg_rules.specs.Steps.{IsStepBelow};
-ghost use Rattle.cpg_rules.specs.Composing.{rank, passing, live_tree, settles, met, by_input, input_tree, composed, composed_along};
-ghost use Rattle.cpg_rules.specs.Trees.{tested};
+ghost use Rattle.cpg_rules.specs.Composing.{rank, settles, by_input, input_tree, composed, composed_along};
+ghost use Rattle.cpg_rules.specs.Sharing.{trees_of, AreRoots, Extends, Makes};
 
 use crate::GuardTree;
-use crate::edges::{ValueTest, test_of};
+use crate::edges::test_of;
+use crate::shared::Parts;
 use crate::steps::{Input, Step};
-use crate::tree::GuardTop;
 use cpg_base::{Activation, Order, OutOfMemory, Problem};
 use std::alloc::Global;
 
@@ -39,115 +39,15 @@ pub fn rank(ranks: &[u32], condition: u32) -> u32
     }
 }
 
-/// The tree that has the activation where a test passes.
-fn passing(
-    alloc: Global,
-    activation: Activation,
-    test: Option<ValueTest>,
-) -> Result<GuardTree, OutOfMemory>
-    ensures { IfOk result (λ tree. tree ≡ passing activation test) }
-{
-    let Some(test) = test else {
-        return Ok(GuardTree::leaf(activation));
-    };
-    let live = GuardTree::leaf(activation);
-    let other = GuardTree::leaf(Activation::Inactive);
-    if test.value {
-        GuardTree::tested(alloc, test.condition, other, live)
-    } else {
-        GuardTree::tested(alloc, test.condition, live, other)
-    }
-}
-
-/// The tree that has the activation where the source is active by its tree and the test passes.
-fn live_tree(
-    alloc: Global,
-    activation: Activation,
-    test: Option<ValueTest>,
-    source: &GuardTree,
-) -> Result<GuardTree, OutOfMemory>
-    ensures { IfOk result (λ tree. tree ≡ live_tree activation test source.now) }
-{
-    match source.top() {
-        GuardTop::Leaf(found) => {
-            if found.is_active() {
-                passing(alloc, activation, test)
-            } else {
-                Ok(GuardTree::leaf(Activation::Inactive))
-            }
-        }
-        GuardTop::Test { condition, no, yes } => {
-            let no = live_tree(alloc, activation, test, no)?;
-            let yes = live_tree(alloc, activation, test, yes)?;
-            GuardTree::tested(alloc, condition, no, yes)
-        }
-    }
-}
-
 /// Whether an input tells how the process is active, and the later inputs don't count: of a join a live one, and of
 /// another process one that isn't.
-fn settles(join: bool, input: Activation) -> bool
+pub fn settles(join: bool, input: Activation) -> bool
     ensures { result ≡ settles join input }
 {
     if join {
         input.is_active()
     } else {
         !input.is_active()
-    }
-}
-
-/// The test of both ways at a condition.
-#[cycle(meeting)]
-fn both(
-    alloc: Global,
-    join: bool,
-    ranks: &[u32],
-    condition: u32,
-    no: (&GuardTree, &GuardTree),
-    yes: (&GuardTree, &GuardTree),
-) -> Result<GuardTree, OutOfMemory>
-    ensures { IfOk result (λ tree. tree ≡ tested condition (met join ranks.now no.entry.0.now no.entry.1.now) (met join ranks.now yes.entry.0.now yes.entry.1.now)) }
-{
-    let no = met(alloc, join, ranks, no.0, no.1)?;
-    let yes = met(alloc, join, ranks, yes.0, yes.1)?;
-    GuardTree::tested(alloc, condition, no, yes)
-}
-
-/// The first tree where it settles the matter, and else the second: both are walked down together, by rank.
-#[cycle(meeting)]
-pub fn met(
-    alloc: Global,
-    join: bool,
-    ranks: &[u32],
-    first: &GuardTree,
-    second: &GuardTree,
-) -> Result<GuardTree, OutOfMemory>
-    ensures { IfOk result (λ tree. tree ≡ met join ranks.now first.now second.now) }
-{
-    match first.top() {
-        GuardTop::Leaf(found) => {
-            if settles(join, found) {
-                Ok(GuardTree::leaf(found))
-            } else {
-                second.copy(alloc)
-            }
-        }
-        GuardTop::Test { condition, no, yes } => match second.top() {
-            GuardTop::Leaf(_) => both(alloc, join, ranks, condition, (no, second), (yes, second)),
-            GuardTop::Test {
-                condition: other,
-                no: low,
-                yes: high,
-            } => {
-                if condition == other {
-                    return both(alloc, join, ranks, condition, (no, low), (yes, high));
-                }
-                if rank(ranks, other) < rank(ranks, condition) {
-                    return both(alloc, join, ranks, other, (first, low), (first, high));
-                }
-                both(alloc, join, ranks, condition, (no, second), (yes, second))
-            }
-        },
     }
 }
 
@@ -162,87 +62,105 @@ fn by_input(join: bool, edge: u32) -> Activation
     }
 }
 
-/// The tree that says whether an input is live.
-pub fn input_tree(
+/// The part that says whether an input is live.
+pub fn input_part(
     alloc: Global,
     problem: &Problem,
     join: bool,
-    trees: &[GuardTree],
+    parts: &mut Parts,
+    roots: &[usize],
     input: Input,
-) -> Result<GuardTree, OutOfMemory>
+) -> Result<usize, OutOfMemory>
     requires process { input.source < process_count problem.now }
-    requires tree { input.source < length trees.now }
-    ensures { IfOk result (λ tree. tree ≡ input_tree problem.now join trees.now input) }
+    requires roots { AreRoots parts.old.parts (process_count problem.now) roots.now }
+    ensures { IfOk result (Makes parts.old parts.new (input_tree problem.now join (trees_of parts.old.parts roots.now) input)) }
 {
     let test = test_of(problem.condition_of(input.source), input.when);
-    live_tree(
-        alloc,
-        by_input(join, input.edge),
-        test,
-        &trees[input.source as usize],
-    )
+    let root = roots[input.source as usize];
+    let made = parts.live(alloc, by_input(join, input.edge), test, root)?;
+    Ok(made)
 }
 
-/// The tree of a process with these inputs.
+/// The part of a process with these inputs.
 fn composed(
     alloc: Global,
     problem: &Problem,
     join: bool,
-    ranks: &[u32],
-    trees: &[GuardTree],
+    parts: &mut Parts,
+    roots: &[usize],
     inputs: &[Input],
-) -> Result<GuardTree, OutOfMemory>
-    requires count { length trees.now ≡ process_count problem.now }
+) -> Result<usize, OutOfMemory>
+    requires roots { AreRoots parts.old.parts (process_count problem.now) roots.now }
     requires inputs { All (λ input. input.source < process_count problem.now) inputs.now }
-    ensures { IfOk result (λ tree. tree ≡ composed problem.now join ranks.now trees.now inputs.now) }
+    ensures { IfOk result (Makes parts.old parts.new (composed problem.now join parts.old.ranks (trees_of parts.old.parts roots.now) inputs.now)) }
 {
     let Some((input, left)) = inputs.split_first() else {
-        return Ok(GuardTree::leaf(Activation::Plain));
+        let leaf = parts.leaf(alloc, Activation::Plain)?;
+        return Ok(leaf);
     };
-    let first = input_tree(alloc, problem, join, trees, *input)?;
+    let first = input_part(alloc, problem, join, parts, roots, *input)?;
     if left.is_empty() {
         return Ok(first);
     }
-    let later = composed(alloc, problem, join, ranks, trees, left)?;
-    met(alloc, join, ranks, &first, &later)
+    let later = composed(alloc, problem, join, parts, roots, left)?;
+    let made = parts.met(alloc, join, first, later)?;
+    Ok(made)
 }
 
-/// For each of so many processes the tree that says that it is inactive.
-pub fn seeds(alloc: Global, count: usize) -> Result<Vec<GuardTree>, OutOfMemory>
-    ensures { IfOk result (λ trees. trees.items ≡ replicate count (Leaf Inactive)) }
+/// For each of so many processes the part that says that it is inactive.
+pub fn seeds(alloc: Global, parts: &mut Parts, count: usize) -> Result<Vec<usize>, OutOfMemory>
+    ensures more { IfOk result (λ roots. Extends parts.old parts.new) }
+    ensures roots { IfOk result (λ roots. AreRoots parts.new.parts count roots.items) }
+    ensures trees { IfOk result (λ roots. trees_of parts.new.parts roots.items ≡ replicate count (Leaf Inactive)) }
 {
-    let mut trees = Vec::new(alloc);
-    trees.reserve(count)?;
-    for _ in 0..count {
-        trees.push(GuardTree::leaf(Activation::Inactive))?;
-    }
-    Ok(trees)
+    let leaf = parts.leaf(alloc, Activation::Inactive)?;
+    let roots = vec![in alloc; leaf; count]?;
+    Ok(roots)
 }
 
-/// The trees of the processes after the steps, by number, where these are those before.
+/// The parts of the processes after the steps, by number, where these are those before.
 pub fn composed_along(
     alloc: Global,
     problem: &Problem,
-    ranks: &[u32],
+    parts: &mut Parts,
     steps: &[Step],
-    trees: Vec<GuardTree>,
-) -> Result<Vec<GuardTree>, OutOfMemory>
-    requires count { length trees.items ≡ process_count problem.now }
+    roots: Vec<usize>,
+) -> Result<Vec<usize>, OutOfMemory>
+    requires roots { AreRoots parts.old.parts (process_count problem.now) roots.items }
     requires steps { All (IsStepBelow (process_count problem.now)) steps.now }
-    ensures { IfOk result (λ found. found.items ≡ composed_along problem.now ranks.now steps.now trees.items) }
+    ensures roots { IfOk result (λ found. AreRoots parts.new.parts (process_count problem.now) found.items) }
+    ensures ranks { IfOk result (λ found. parts.new.ranks ≡ parts.old.ranks) }
+    ensures trees { IfOk result (λ found. trees_of parts.new.parts found.items ≡ composed_along problem.now parts.old.ranks steps.now (trees_of parts.old.parts roots.items)) }
 {
-    let mut trees = trees;
+    let mut roots = roots;
     for step in steps {
         let inputs = step.inputs();
-        let tree = composed(
+        let part = composed(
             alloc,
             problem,
             step.is_join(),
-            ranks,
-            trees.as_slice(),
+            parts,
+            roots.as_slice(),
             inputs,
         )?;
-        trees[step.process() as usize] = tree;
+        roots[step.process() as usize] = part;
+    }
+    Ok(roots)
+}
+
+/// The trees of parts.
+pub fn trees_of(
+    alloc: Global,
+    parts: &Parts,
+    roots: &[usize],
+) -> Result<Vec<GuardTree>, OutOfMemory>
+    requires { All (λ n. n < length parts.now.parts) roots.now }
+    ensures { IfOk result (λ trees. trees.items ≡ trees_of parts.now.parts roots.now) }
+{
+    let mut trees = Vec::new(alloc);
+    trees.reserve(roots.len())?;
+    for root in roots {
+        trees.push(parts.tree(*root)?)?;
     }
     Ok(trees)
 }

@@ -4,14 +4,13 @@ ghost use Rattle.cpg_base.specs.Graph.{process_count, process_at};
 ghost use Rattle.cpg_base.specs.Scenario.{IsLeast};
 ghost use Rattle.cpg_order.specs.Urgency.{IsTopological};
 ghost use Rattle.cpg_base.specs.WellFormed.{HasSingleJoins};
-ghost use Rattle.cpg_rules.specs.Guards.{AreGuardsOf};
+ghost use Rattle.cpg_rules.specs.Sharing.{trees_of, AreRoots, AreTreesOf, Extends};
 ghost use Rattle.cpg_rules.specs.Steps.{IsStepBelow, step_of};
 ghost use Rattle.cpg_rules.specs.Alternatives.{AreAlternatives, IsSingleJoin, has_two_live, found_from, is_set, scenario_of};
 
-use crate::GuardTrees;
 use crate::apart::is_single_join;
-use crate::composing::ranks_of;
 use crate::growing::{choice, settled};
+use crate::shared::Parts;
 use crate::steps::{Aim, Standings, Step, rested, steps_of};
 use cpg_base::{Order, OutOfMemory, Problem, Scenario};
 use std::alloc::Global;
@@ -102,78 +101,61 @@ fn least_of(
     }
 }
 
-/// As `least_of`, where these are the guards: they are looked at first, and the search is made only where they don't tell
-/// that no two inputs are live.
+/// As `least_of`, where these are the parts of the guards: they are looked at first, and the search is made only where they
+/// don't tell that no two inputs are live.
 fn least_by(
     alloc: Global,
     problem: &Problem,
     order: &Order,
-    guards: &GuardTrees,
-    ranks: &[u32],
+    parts: &mut Parts,
+    roots: &[usize],
     steps: &[Step],
     process: u32,
 ) -> Result<Option<Scenario>, OutOfMemory>
     requires topological { IsTopological problem.now order.now }
-    requires guards { AreGuardsOf problem.now order.now guards.now }
+    requires roots { AreRoots parts.old.parts (process_count problem.now) roots.now }
+    requires guards { AreTreesOf problem.now (trees_of parts.old.parts roots.now) }
     requires steps { steps.now ≡ map (step_of problem.now) order.now }
     requires process { process < process_count problem.now }
+    ensures more { IfOk result (λ found. Extends parts.old parts.new) }
     ensures none { IfOk result (λ found. IfNone found (IsSingleJoin problem.now process)) }
     ensures join { IfOk result (λ found. IfSome found (λ _. IsTrue (process_at problem.now process).join)) }
     ensures some { IfOk result (λ found. IfSome found (IsLeast problem.now order.now (λ s. has_two_live problem.now s.values process ≡ true))) }
 {
-    if is_single_join(alloc, problem, ranks, guards, process)? {
+    if is_single_join(alloc, problem, parts, roots, process)? {
         return Ok(None);
     }
     least_of(alloc, problem, order, steps, process)
 }
 
-/// The same as `two_alternatives`, where these are the guards.
+/// The least join that some outcome gives two live inputs, with its least scenario; `None` exactly where no outcome gives
+/// a join two. These are the parts of the guards.
 pub fn least_alternatives(
     alloc: Global,
     problem: &Problem,
     order: &Order,
-    guards: &GuardTrees,
+    parts: &mut Parts,
+    roots: &[usize],
 ) -> Result<Option<Alternatives>, OutOfMemory>
     requires topological { IsTopological problem.now order.now }
-    requires guards { AreGuardsOf problem.now order.now guards.now }
+    requires roots { AreRoots parts.old.parts (process_count problem.now) roots.now }
+    requires guards { AreTreesOf problem.now (trees_of parts.old.parts roots.now) }
     ensures none { IfOk result (λ found. IfNone found (HasSingleJoins problem.now)) }
     ensures some { IfOk result (λ found. IfSome found (λ a. AreAlternatives problem.now order.now a.process a.least)) }
 {
     let count = problem.processes().len() as u32;
     let steps = steps_of(alloc, problem, order)?;
-    let ranks = ranks_of(alloc, problem, order)?;
     for process in 0..count {
         let found = least_by(
             alloc,
             problem,
             order,
-            guards,
-            ranks.as_slice(),
+            parts,
+            roots,
             steps.as_slice(),
             process,
         )?;
         if let Some(least) = found {
-            return Ok(Some(Alternatives { process, least }));
-        }
-    }
-    Ok(None)
-}
-
-/// The least join that some outcome gives two live inputs, with its least scenario; `None` exactly where no outcome gives
-/// a join two.
-pub fn two_alternatives(
-    alloc: Global,
-    problem: &Problem,
-    order: &Order,
-) -> Result<Option<Alternatives>, OutOfMemory>
-    requires { IsTopological problem.now order.now }
-    ensures none { IfOk result (λ found. IfNone found (HasSingleJoins problem.now)) }
-    ensures some { IfOk result (λ found. IfSome found (λ a. AreAlternatives problem.now order.now a.process a.least)) }
-{
-    let count = problem.processes().len() as u32;
-    let steps = steps_of(alloc, problem, order)?;
-    for process in 0..count {
-        if let Some(least) = least_of(alloc, problem, order, steps.as_slice(), process)? {
             return Ok(Some(Alternatives { process, least }));
         }
     }

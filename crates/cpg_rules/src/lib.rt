@@ -10,13 +10,13 @@ mod edges;
 mod growing;
 mod joins;
 mod laws;
+mod shared;
 mod slots;
 mod steps;
 mod tree;
 mod trees;
 
 pub use admission::{Admitted, Refused, RuleFault, admit};
-pub use joins::{Alternatives, two_alternatives};
 pub use laws::ways_are_deciding;
 pub use tree::{GuardTop, GuardTree};
 pub use trees::{GuardFault, GuardTrees, guards};

@@ -2,29 +2,31 @@
 ghost use Rattle.std.specs.Prelude.{◌≡◌, ◌++◌, IfOk, OnOk, length};
 ghost use Rattle.cpg_order.specs.Guard.{Leaf, Test, outcome_at, way};
 ghost use Rattle.cpg_base.specs.Activity.{same_activation};
-ghost use Rattle.cpg_rules.specs.Trees.{TestsBelow, same_guard, tested};
+ghost use Rattle.cpg_rules.specs.Trees.{TestsBelow};
 ghost use Rattle.cpg_rules.specs.TreeTop.{ShowsTop};
 
 use cpg_base::{Activation, OutOfMemory, Scenario};
 use std::alloc::Global;
 use std::marker::Model;
+use std::rc::Rc;
 
 /// How a process is active, by tests of conditions in urgency order: seen as a leaf with an activation, or as a test of
 /// a condition with the trees for false and for true.
 #[cycle(guard)]
 #[derive(Drop)]
 pub struct GuardTree {
-    node: Node,
+    node: Rc<Node>,
 }
 
+// A node is shared by all trees that have it, so that a copy of a tree takes no time.
 #[cycle(guard)]
 #[derive(Drop)]
 enum Node {
     Leaf(Activation),
     Test {
         condition: u32,
-        no: Box<GuardTree>,
-        yes: Box<GuardTree>,
+        no: GuardTree,
+        yes: GuardTree,
     },
 }
 
@@ -39,13 +41,13 @@ impl Model for GuardTree {
 
     ghost use Rattle.cpg_rules.specs.TreeView.{tree_of};
 
-    ghost view = { λ t. tree_of t.node };
+    ghost view = { λ t. tree_of t.node.value };
 
     ghost size = { size_of };
 
     ghost use Rattle.cpg_rules.specs.TreeFalls.{deep_le-size};
 
-    ghost size_decreases = { λ a h. deep_le-size a.node };
+    ghost size_decreases = { λ a h. deep_le-size a.node.value };
 }
 
 /// The top of a tree.
@@ -64,7 +66,7 @@ pub enum GuardTop<'a> {
 }
 
 /// Whether two activations are equal.
-fn is_same(a: Activation, b: Activation) -> bool
+pub fn are_same(a: Activation, b: Activation) -> bool
     ensures { result ≡ same_activation a b }
 {
     match a {
@@ -79,50 +81,23 @@ fn is_same(a: Activation, b: Activation) -> bool
 
 impl GuardTree {
     /// No test: the process is active in this way.
-    pub(crate) fn leaf(activation: Activation) -> GuardTree
-        ensures { result ≡ Leaf activation }
+    pub(crate) fn leaf(alloc: Global, activation: Activation) -> Result<GuardTree, OutOfMemory>
+        ensures { IfOk result (λ tree. tree ≡ Leaf activation) }
     {
-        GuardTree {
-            node: Node::Leaf(activation),
-        }
-    }
-
-    /// Whether two trees are equal.
-    fn is_same(&self, other: &GuardTree) -> bool
-        ensures { result ≡ same_guard self.now other.now }
-    {
-        match &self.node {
-            Node::Leaf(a) => match &other.node {
-                Node::Leaf(b) => is_same(*a, *b),
-                Node::Test { .. } => false,
-            },
-            Node::Test { condition, no, yes } => match &other.node {
-                Node::Leaf(_) => false,
-                Node::Test {
-                    condition: tested,
-                    no: low,
-                    yes: high,
-                } => *condition == *tested && no.is_same(low) && yes.is_same(high),
-            },
-        }
+        let node = Rc::new(alloc, Node::Leaf(activation))?;
+        Ok(GuardTree { node })
     }
 
     /// The same tree.
-    pub(crate) fn copy(&self, alloc: Global) -> Result<GuardTree, OutOfMemory>
+    pub(crate) fn copy(&self) -> Result<GuardTree, OutOfMemory>
         ensures { IfOk result (λ tree. tree ≡ self.now) }
     {
-        match &self.node {
-            Node::Leaf(activation) => Ok(GuardTree::leaf(*activation)),
-            Node::Test { condition, no, yes } => {
-                let no = no.copy(alloc)?;
-                let yes = yes.copy(alloc)?;
-                GuardTree::test(alloc, *condition, no, yes)
-            }
-        }
+        let node = self.node.clone()?;
+        Ok(GuardTree { node })
     }
 
     /// A test of a condition.
-    fn test(
+    pub(crate) fn test(
         alloc: Global,
         condition: u32,
         no: GuardTree,
@@ -130,26 +105,8 @@ impl GuardTree {
     ) -> Result<GuardTree, OutOfMemory>
         ensures { IfOk result (λ tree. tree ≡ Test condition no yes) }
     {
-        let no = Box::new(alloc, no)?;
-        let yes = Box::new(alloc, yes)?;
-        Ok(GuardTree {
-            node: Node::Test { condition, no, yes },
-        })
-    }
-
-    /// A test, or the one tree where both arms are equal.
-    pub(crate) fn tested(
-        alloc: Global,
-        condition: u32,
-        no: GuardTree,
-        yes: GuardTree,
-    ) -> Result<GuardTree, OutOfMemory>
-        ensures { IfOk result (λ tree. tree ≡ tested condition no yes) }
-    {
-        if no.is_same(&yes) {
-            return Ok(no);
-        }
-        GuardTree::test(alloc, condition, no, yes)
+        let node = Rc::new(alloc, Node::Test { condition, no, yes })?;
+        Ok(GuardTree { node })
     }
 
     /// How the process is active in a scenario.
@@ -157,7 +114,7 @@ impl GuardTree {
         requires { TestsBelow (length scenario.now.values) self.now }
         ensures { result ≡ outcome_at self.now scenario.now.values }
     {
-        match &self.node {
+        match self.node.as_ref() {
             Node::Leaf(activation) => *activation,
             Node::Test { condition, no, yes } => {
                 if scenario.value(*condition) {
@@ -173,7 +130,7 @@ impl GuardTree {
     pub fn top(&self) -> GuardTop<'_>
         ensures { ShowsTop result self.now }
     {
-        match &self.node {
+        match self.node.as_ref() {
             Node::Leaf(activation) => GuardTop::Leaf(*activation),
             Node::Test { condition, no, yes } => GuardTop::Test {
                 condition: *condition,
@@ -192,7 +149,7 @@ impl GuardTree {
         requires { TestsBelow (length scenario.now.values) self.now }
         ensures { OnOk result (tests.new.items ≡ tests.old.items ++ way self.now scenario.now.values) }
     {
-        match &self.node {
+        match self.node.as_ref() {
             Node::Leaf(_) => Ok(()),
             Node::Test { condition, no, yes } => {
                 tests.push(*condition)?;

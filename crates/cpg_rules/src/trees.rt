@@ -7,11 +7,13 @@ ghost use Rattle.cpg_order.specs.Urgency.{IsUrgencyOrder, IsTopological};
 ghost use Rattle.cpg_order.specs.Guard.{way, deciding_along};
 ghost use Rattle.cpg_rules.specs.Trees.{TestsBelow};
 ghost use Rattle.cpg_rules.specs.Guards.{AreGuardsOf, tree_of, active_by, live_by};
+ghost use Rattle.cpg_rules.specs.Sharing.{trees_of, AreRoots};
 
 use crate::GuardTree;
-use crate::composing::{composed_along, ranks_of, seeds};
+use crate::composing::{composed_along, ranks_of, seeds, trees_of};
 use crate::edges::{EdgeGuard, edge_guards};
 use crate::growing::tracks;
+use crate::shared::Parts;
 use crate::steps::{Aim, rested, steps_of};
 use cpg_base::{Order, OutOfMemory, Problem, Scenario};
 use std::alloc::{AllocError, AllocFailed, Global};
@@ -63,12 +65,25 @@ impl From<OutOfMemory> for GuardFault {
     }
 }
 
-/// The guards of a graph, by the trees along its urgency order.
-///
-/// `TooManyTracks` comes exactly where the graph has more than 16,384 tracks.
-pub fn guards(alloc: Global, problem: &Problem, order: &Order) -> Result<GuardTrees, GuardFault>
+/// The guards of a graph, with the parts of their trees.
+#[derive(Drop)]
+pub struct SharedGuards {
+    pub guards: GuardTrees,
+    pub parts: Parts,
+    /// The parts of the processes, by number.
+    pub roots: Vec<usize>,
+}
+
+/// As `guards`, with the parts.
+pub fn shared_guards(
+    alloc: Global,
+    problem: &Problem,
+    order: &Order,
+) -> Result<SharedGuards, GuardFault>
     requires { IsTopological problem.now order.now }
-    ensures guards { IfOk result (AreGuardsOf problem.now order.now) }
+    ensures guards { IfOk result (λ shared. AreGuardsOf problem.now order.now shared.guards) }
+    ensures roots { IfOk result (λ shared. AreRoots shared.parts.parts (process_count problem.now) shared.roots.items) }
+    ensures trees { IfOk result (λ shared. shared.guards.trees ≡ trees_of shared.parts.parts shared.roots.items) }
     ensures few { IfOk result (λ _. track_count problem.now ≤ most_tracks) }
     ensures many { result ≡ Err GuardFault.TooManyTracks → most_tracks < track_count problem.now }
 {
@@ -79,24 +94,37 @@ pub fn guards(alloc: Global, problem: &Problem, order: &Order) -> Result<GuardTr
         return Err(GuardFault::TooManyTracks);
     }
     let ranks = ranks_of(alloc, problem, order)?;
-    let seeds = seeds(alloc, count)?;
-    let trees = composed_along(alloc, problem, ranks.as_slice(), steps.as_slice(), seeds)?;
+    let mut parts = Parts::new(alloc, ranks)?;
+    let seeds = seeds(alloc, &mut parts, count)?;
+    let roots = composed_along(alloc, problem, &mut parts, steps.as_slice(), seeds)?;
+    let trees = trees_of(alloc, &parts, roots.as_slice())?;
     let edges = edge_guards(alloc, problem)?;
-    Ok(GuardTrees {
+    let guards = GuardTrees {
         conditions: problem.conditions(),
         trees,
         edges,
+    };
+    Ok(SharedGuards {
+        guards,
+        parts,
+        roots,
     })
 }
 
-impl GuardTrees {
-    /// The trees, by process.
-    pub(crate) fn trees(&self) -> &[GuardTree]
-        ensures { result.now ≡ self.now.trees }
-    {
-        self.trees.as_slice()
-    }
+/// The guards of a graph, by the trees along its urgency order.
+///
+/// `TooManyTracks` comes exactly where the graph has more than 16,384 tracks.
+pub fn guards(alloc: Global, problem: &Problem, order: &Order) -> Result<GuardTrees, GuardFault>
+    requires { IsTopological problem.now order.now }
+    ensures guards { IfOk result (AreGuardsOf problem.now order.now) }
+    ensures few { IfOk result (λ _. track_count problem.now ≤ most_tracks) }
+    ensures many { result ≡ Err GuardFault.TooManyTracks → most_tracks < track_count problem.now }
+{
+    let shared = shared_guards(alloc, problem, order)?;
+    Ok(shared.guards)
+}
 
+impl GuardTrees {
     /// The tree of a process.
     pub fn guard_of(&self, process: u32) -> &GuardTree
         requires { process < length self.now.trees }

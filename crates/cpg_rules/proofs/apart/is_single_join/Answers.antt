@@ -5,9 +5,10 @@ use Rattle.cpg_rules.proofs.apart.is_single_join.Goals as goal
 
 pub are_apart-requires-clause-inputs : goal.are_apart-requires-clause-inputs
 are_apart-requires-clause-inputs c = rw (c.as_slice.ensures.value, c.in_ok-inputs.ensures)
-    (inputs_within c.args.problem.now c.requires.guards.0 c.requires.guards.1 c.args.process)
+    (inputs_within c.args.problem.now c.requires.guards.order c.requires.guards.topological c.args.process)
 
-pub returns : goal.returns
-returns c = λ is values join long. apart_single c.args.problem.now c.requires.guards.0 c.requires.guards.1 c.args.guards.now c.requires.guards.2 c.args.ranks.now c.args.process values long
-    (sym (ap₂ (λ trees inputs. are_apart c.args.problem.now c.args.ranks.now trees inputs) c.trees.ensures (c.as_slice.ensures.value ∙ c.in_ok-inputs.ensures))
-    ∙ sym c.in_ok-apart.ensures ∙ is)
+pub returns-clause-single : goal.returns-clause-single
+returns-clause-single c = λ is values join long. apart_single c.args.problem.now c.requires.guards.order c.requires.guards.topological c.requires.guards.guards c.requires.guards.are
+    c.args.parts.now.ranks c.args.process values long
+    (sym (ap₂ (λ trees inputs. are_apart c.args.problem.now c.args.parts.now.ranks trees inputs) (sym c.requires.guards.same) (c.as_slice.ensures.value ∙ c.in_ok-inputs.ensures))
+    ∙ sym c.in_ok-apart.ensures.apart ∙ is)

@@ -1,10 +1,12 @@
-use Rattle.std.proofs.Common.{◌≡◌, length, drop}
+use Rattle.std.proofs.Common.{◌≡◌, drop}
 use Rattle.cpg_base.specs.Graph.{process_count}
 use Rattle.cpg_rules.specs.Composing.{composed_along}
+use Rattle.cpg_rules.specs.Sharing.{trees_of, AreRoots}
 use Rattle.cpg_rules.proofs.composing.composed_along.Given as goal
 
 abbrev pub invariant-loop-step : goal.invariant-loop-step
 invariant-loop-step l = record {
-  long : length l.trees.items ≡ process_count l.problem;
-  same : composed_along l.problem l.ranks l.steps l.fn.trees.items ≡ composed_along l.problem l.ranks (drop l.step-index l.steps) l.trees.items;
+  roots : AreRoots l.parts.parts (process_count l.problem) l.roots.items;
+  ranks : l.parts.ranks ≡ l.fn.parts.ranks;
+  same : composed_along l.problem l.fn.parts.ranks l.steps (trees_of l.fn.parts.parts l.fn.roots.items) ≡ composed_along l.problem l.parts.ranks (drop l.step-index l.steps) (trees_of l.parts.parts l.roots.items);
 }

@@ -1,10 +1,14 @@
-use Rattle.std.proofs.Common.{arith}
 use Rattle.cpg_base.specs.Graph.{process_count}
 use Rattle.cpg_base.proofs.Places.{length_order}
+use Rattle.cpg_rules.proofs.Sharing.{roots_stay}
+use Rattle.cpg_rules.proofs.SharedSteps.{trees_stay}
 use Rattle.cpg_rules.proofs.joins.least_alternatives.Goals as goal
 
 pub steps_of-requires : goal.steps_of-requires
 steps_of-requires c = length_order (process_count c.args.problem.now) c.args.order.now c.requires.topological.all
 
-pub ranks_of-requires : goal.ranks_of-requires
-ranks_of-requires c = let long = length_order (process_count c.args.problem.now) c.args.order.now c.requires.topological.all in omega (arith, long)
+pub least_by-requires-clause-roots : goal.least_by-requires-clause-roots
+least_by-requires-clause-roots c = roots_stay c.args.parts.now c.loop-process.parts (process_count c.args.problem.now) c.args.roots.now c.loop-process.invariant.more c.requires.roots
+
+pub least_by-requires-clause-guards : goal.least_by-requires-clause-guards
+least_by-requires-clause-guards c = trees_stay c.args.problem.now c.args.parts.now c.loop-process.parts c.args.roots.now (process_count c.args.problem.now) c.loop-process.invariant.more c.requires.roots c.requires.guards

@@ -1,6 +1,10 @@
 use Rattle.std.proofs.Common.{◌<◌, ℕ}
 use Rattle.cpg_rules.specs.Alternatives.{IsSingleJoin}
+use Rattle.cpg_rules.specs.Sharing.{Extends}
 use Rattle.cpg_rules.proofs.joins.least_alternatives.Given as goal
 
 abbrev pub invariant-loop-process : goal.invariant-loop-process
-invariant-loop-process l = (q : ℕ) → q < l.process → IsSingleJoin l.problem q
+invariant-loop-process l = record {
+  more : Extends l.fn.parts l.parts;
+  before : (q : ℕ) → q < l.process → IsSingleJoin l.problem q;
+}

@@ -10,10 +10,11 @@ use Rattle.cpg_rules.specs.Rested.{rested}
 use Rattle.cpg_rules.proofs.Rested.{all_rested, tracks_rested}
 use Rattle.cpg_rules.specs.Growing.{tracks_from}
 use Rattle.cpg_rules.specs.Guards.{Guards}
+use Rattle.cpg_rules.specs.Sharing.{trees_of}
 use Rattle.cpg_rules.proofs.Below.{steps_below, guards_below}
 use Rattle.cpg_rules.proofs.Counted.{tracks_counted}
 use Rattle.cpg_rules.proofs.Made.{made}
-use Rattle.cpg_rules.proofs.trees.guards.Goals as goal
+use Rattle.cpg_rules.proofs.trees.shared_guards.Goals as goal
 
 pub steps_of-requires : goal.steps_of-requires
 steps_of-requires c = length_order (process_count c.args.problem.now) c.args.order.now c.requires.all
@@ -40,23 +41,25 @@ pub ranks_of-requires : goal.ranks_of-requires
 ranks_of-requires c = let long = length_order (process_count c.args.problem.now) c.args.order.now c.requires.all in omega (arith, long)
 
 pub composed_along-requires-clause-steps : goal.composed_along-requires-clause-steps
-composed_along-requires-clause-steps c = rw (c.as_slice-4.ensures.value, c.in_ok-steps.ensures) (steps_below c.args.problem.now c.args.order.now c.requires (process_count c.args.problem.now) (omega arith))
+composed_along-requires-clause-steps c = rw (c.as_slice-3.ensures.value, c.in_ok-steps.ensures) (steps_below c.args.problem.now c.args.order.now c.requires (process_count c.args.problem.now) (omega arith))
 
 -- the guards that are made
 abbrev made_guards : (conditions : ℕ) (trees : List Guard) (edges : List EdgeGuard) → Guards
 made_guards conditions trees edges = record { conditions = conditions; trees = trees; edges = edges }
 
-pub invariant_of-result : goal.invariant_of-result
-invariant_of-result c = guards_below c.args.problem.now c.args.order.now c.requires (made_guards c.conditions.result c.in_ok-trees.trees.items c.in_ok-edges.edges.items)
-    (made c.args.problem.now c.args.order.now c.requires c.as_slice-3.result.now (c.as_slice-3.ensures.value ∙ c.in_ok-ranks.ensures)
-    c.as_slice-4.result.now (c.as_slice-4.ensures.value ∙ c.in_ok-steps.ensures) c.in_ok-seeds.seeds.items
-    (c.in_ok-seeds.ensures ∙ ap (λ n. replicate n (Leaf Inactive)) (ap length c.processes-count.ensures.processes)) (made_guards c.conditions.result c.in_ok-trees.trees.items c.in_ok-edges.edges.items) c.conditions.ensures.count c.in_ok-trees.ensures c.in_ok-edges.ensures)
+pub invariant_of-guards : goal.invariant_of-guards
+invariant_of-guards c = guards_below c.args.problem.now c.args.order.now c.requires (made_guards c.conditions.result c.in_ok-trees.trees.items c.in_ok-edges.edges.items)
+    (made c.args.problem.now c.args.order.now c.requires c.seeds.new.parts.ranks (c.in_ok-seeds.ensures.more.ranks ∙ c.in_ok-parts.ensures.ranks ∙ c.in_ok-ranks.ensures)
+    c.as_slice-3.result.now (c.as_slice-3.ensures.value ∙ c.in_ok-steps.ensures) (trees_of c.seeds.new.parts.parts c.in_ok-seeds.seeds.items)
+    (c.in_ok-seeds.ensures.trees ∙ ap (λ n. replicate n (Leaf Inactive)) (ap length c.processes-count.ensures.processes)) (made_guards c.conditions.result c.in_ok-trees.trees.items c.in_ok-edges.edges.items) c.conditions.ensures.count
+    (c.in_ok-trees.ensures ∙ ap (trees_of c.composed_along.new.parts.parts) c.as_slice-4.ensures.value ∙ c.in_ok-roots.ensures.trees) c.in_ok-edges.ensures)
 
 pub returns-clause-guards : goal.returns-clause-guards
 returns-clause-guards c =
-    made c.args.problem.now c.args.order.now c.requires c.as_slice-3.result.now (c.as_slice-3.ensures.value ∙ c.in_ok-ranks.ensures)
-    c.as_slice-4.result.now (c.as_slice-4.ensures.value ∙ c.in_ok-steps.ensures) c.in_ok-seeds.seeds.items
-    (c.in_ok-seeds.ensures ∙ ap (λ n. replicate n (Leaf Inactive)) (ap length c.processes-count.ensures.processes)) (made_guards c.conditions.result c.in_ok-trees.trees.items c.in_ok-edges.edges.items) c.conditions.ensures.count c.in_ok-trees.ensures c.in_ok-edges.ensures
+    made c.args.problem.now c.args.order.now c.requires c.seeds.new.parts.ranks (c.in_ok-seeds.ensures.more.ranks ∙ c.in_ok-parts.ensures.ranks ∙ c.in_ok-ranks.ensures)
+    c.as_slice-3.result.now (c.as_slice-3.ensures.value ∙ c.in_ok-steps.ensures) (trees_of c.seeds.new.parts.parts c.in_ok-seeds.seeds.items)
+    (c.in_ok-seeds.ensures.trees ∙ ap (λ n. replicate n (Leaf Inactive)) (ap length c.processes-count.ensures.processes)) (made_guards c.conditions.result c.in_ok-trees.trees.items c.in_ok-edges.edges.items) c.conditions.ensures.count
+    (c.in_ok-trees.ensures ∙ ap (trees_of c.composed_along.new.parts.parts) c.as_slice-4.ensures.value ∙ c.in_ok-roots.ensures.trees) c.in_ok-edges.ensures
 
 pub returns-clause-few : goal.returns-clause-few
 returns-clause-few c =

@@ -1,6 +1,0 @@
-use Rattle.std.proofs.Common.{◌<◌, ℕ}
-use Rattle.cpg_rules.specs.Alternatives.{IsSingleJoin}
-use Rattle.cpg_rules.proofs.joins.two_alternatives.Given as goal
-
-abbrev pub invariant-loop-process : goal.invariant-loop-process
-invariant-loop-process l = (q : ℕ) → q < l.process → IsSingleJoin l.problem q

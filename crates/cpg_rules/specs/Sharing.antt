@@ -1,0 +1,89 @@
+-- The parts of trees, each with its top, and what is known of them.
+use Rattle.std.specs.Prelude.{ℕ, ◌≡◌, ◌<◌, ◌≤◌, false, List, Option, Some, None, All, length, get_or, map}
+use Rattle.cpg_base.specs.declared.activation.Activation.TheVariants.{Inactive}
+use Rattle.cpg_base.specs.Graph.{Graph}
+use Rattle.cpg_order.specs.Urgency.{IsTopological}
+use Rattle.cpg_order.specs.Guard.{Guard, Leaf, Test}
+use Rattle.cpg_rules.specs.declared.shared.Top.{Top}
+use Rattle.cpg_rules.specs.declared.shared.Top.TheVariants.{Leaf as LeafTop, Test as TestTop}
+use Rattle.cpg_rules.specs.declared.shared.Part.{Part}
+use Rattle.cpg_rules.specs.declared.shared.Ask.{Ask}
+use Rattle.cpg_rules.specs.declared.shared.Ask.TheVariants.{Live, Met, Apart}
+use Rattle.cpg_rules.specs.declared.shared.Known.{Known}
+use Rattle.cpg_rules.specs.Composing.{live_tree, met}
+use Rattle.cpg_rules.specs.Apart.{are_both_live}
+use Rattle.cpg_rules.specs.Guards.{Guards, AreGuardsOf}
+
+-- the ranks of the conditions, the parts, and what is known of them
+pub record Sharing : Type 0 where
+  pub ranks : List ℕ
+  pub parts : List Part
+  pub known : List (Option Known)
+
+abbrev pub no_part : Part
+no_part = record { top = LeafTop Inactive; tree = Leaf Inactive }
+
+-- the tree of a part
+abbrev pub tree_at : List Part → ℕ → Guard
+tree_at parts n = (get_or parts n no_part).tree
+
+-- the top is that of the tree
+abbrev pub IsTop : List Part → Top → Guard → Type 0
+IsTop parts (LeafTop a) tree = tree ≡ Leaf a
+IsTop parts (TestTop c off on) tree = (off < length parts) × (on < length parts) × (tree ≡ Test c (tree_at parts off) (tree_at parts on))
+
+-- it is the answer to what is asked; that two are never active at once has none
+abbrev pub IsAnswer : List ℕ → List Part → Ask → ℕ → Type 0
+IsAnswer ranks parts (Live a x source) n = (source < length parts) × (n < length parts) × (tree_at parts n ≡ live_tree a x (tree_at parts source))
+IsAnswer ranks parts (Met join first second) n =
+    (first < length parts) × (second < length parts) × (n < length parts) × (tree_at parts n ≡ met join ranks (tree_at parts first) (tree_at parts second))
+IsAnswer ranks parts (Apart first second) n = (first < length parts) × (second < length parts) × (are_both_live ranks (tree_at parts first) (tree_at parts second) ≡ false)
+
+abbrev pub IsKnown : List ℕ → List Part → Option Known → Type 0
+IsKnown ranks parts None = Unit {0}
+IsKnown ranks parts (Some k) = IsAnswer ranks parts k.ask k.answer
+
+-- two parts that are there
+abbrev pub ArePairWithin : List Part → ℕ → ℕ → Type 0
+ArePairWithin parts first second = (first < length parts) × (second < length parts)
+
+-- what holds of parts
+pub record IsSharing (s : Sharing) : Type 0 where
+  pub tops : All (λ p. IsTop s.parts p.top p.tree) s.parts
+  pub known : All (IsKnown s.ranks s.parts) s.known
+
+-- parts that are there stay
+pub record Extends (before after : Sharing) : Type 0 where
+  pub ranks : after.ranks ≡ before.ranks
+  pub longer : length before.parts ≤ length after.parts
+  pub same : (n : ℕ) → n < length before.parts → tree_at after.parts n ≡ tree_at before.parts n
+
+-- and this one has the tree
+pub record Makes (before after : Sharing) (tree : Guard) (n : ℕ) : Type 0 where
+  pub more : Extends before after
+  pub within : n < length after.parts
+  pub is : tree_at after.parts n ≡ tree
+
+-- the trees of processes, whose parts these are
+abbrev pub trees_of : List Part → List ℕ → List Guard
+trees_of parts roots = map (tree_at parts) roots
+
+-- so many processes have parts that are there
+pub record AreRoots (parts : List Part) (count : ℕ) (roots : List ℕ) : Type 0 where
+  pub all : length roots ≡ count
+  pub within : All (λ n. n < length parts) roots
+
+-- the part has the tree, where there is one
+abbrev pub MakesUnion : Sharing → Sharing → Option Guard → Option ℕ → Type 0
+MakesUnion before after None None = Extends before after
+MakesUnion before after None (Some n) = ⊥
+MakesUnion before after (Some tree) None = ⊥
+MakesUnion before after (Some tree) (Some n) = Makes before after tree n
+
+-- these are the trees of the guards of a graph
+pub record AreTreesOf (g : Graph) (trees : List Guard) : Type 0 where
+  pub order : List ℕ
+  pub guards : Guards
+  pub topological : IsTopological g order
+  pub are : AreGuardsOf g order guards
+  pub same : guards.trees ≡ trees

@@ -1,0 +1,592 @@
+//! The parts of trees, each made once, and what was found of them, so that it is found once.
+ghost use Rattle.std.specs.Prelude.{◌≡◌, ◌<◌, ◌||◌, IfOk, IfSome, true, length};
+ghost use Rattle.cpg_base.specs.declared.activation.Activation.TheVariants.{Inactive};
+ghost use Rattle.cpg_order.specs.Guard.{Leaf, Test};
+ghost use Rattle.cpg_rules.specs.Trees.{same_guard, tested};
+ghost use Rattle.cpg_rules.specs.Composing.{passing, live_tree, met};
+ghost use Rattle.cpg_rules.specs.Apart.{is_live_somewhere, are_both_live};
+ghost use Rattle.cpg_rules.specs.Sharing.{tree_at, IsTop, IsAnswer, IsKnown, ArePairWithin, Makes};
+
+use crate::GuardTree;
+use crate::composing::{rank, settles};
+use crate::edges::ValueTest;
+use crate::tree::are_same;
+use cpg_base::{Activation, OutOfMemory};
+use std::alloc::Global;
+use std::marker::Model;
+
+/// The top of a part: an activation, or a test's condition with the numbers of the parts for its values.
+#[derive(Clone, Copy, Debug, PartialEq, Eq)]
+pub enum Top {
+    Leaf(Activation),
+    Test {
+        condition: u32,
+        no: usize,
+        yes: usize,
+    },
+}
+
+/// A tree with its top.
+#[derive(Drop)]
+pub struct Part {
+    top: Top,
+    tree: GuardTree,
+}
+
+/// What is asked of parts, by number.
+#[derive(Clone, Copy, Debug, PartialEq, Eq)]
+pub enum Ask {
+    /// The tree that has the activation where a source is active and a test passes.
+    Live {
+        activation: Activation,
+        test: Option<ValueTest>,
+        source: usize,
+    },
+    /// The tree of two that are walked down together.
+    Met {
+        join: bool,
+        first: usize,
+        second: usize,
+    },
+    /// That two are never active at once.
+    Apart {
+        first: usize,
+        second: usize,
+    },
+}
+
+/// What is asked, and the number of the part that is the answer, where one is.
+#[derive(Clone, Copy, Debug, PartialEq, Eq)]
+pub struct Known {
+    ask: Ask,
+    answer: usize,
+}
+
+/// All parts, with the ranks of the conditions. What is known has places by what is asked; something else may take the
+/// place, and then it is found again.
+#[derive(Drop)]
+pub struct Parts {
+    ranks: Vec<u32>,
+    parts: Vec<Part>,
+    known: Vec<Option<Known>>,
+    places: Vec<usize>,
+}
+
+impl Model for Parts {
+    ghost use Rattle.std.specs.Coded.{codes};
+    ghost use Rattle.cpg_rules.specs.TreeCode.{tree_code};
+    ghost use Rattle.cpg_rules.specs.Sharing.{Sharing, IsSharing};
+
+    ghost Value = { Sharing };
+
+    ghost coded = { Prim.hlevel (codes, tree_code) };
+
+    ghost view = { λ p. record { ranks = p.ranks.items; parts = p.parts.items; known = p.known.items } };
+
+    ghost invariant = { λ p. IsSharing (record { ranks = p.ranks.items; parts = p.parts.items; known = p.known.items }) };
+}
+
+/// Whether two tests are equal.
+fn are_same_tests(a: Option<ValueTest>, b: Option<ValueTest>) -> bool
+    ensures { result ≡ true → a ≡ b }
+{
+    match a {
+        None => b.is_none(),
+        Some(a) => match b {
+            None => false,
+            Some(b) => a.condition == b.condition && a.value == b.value,
+        },
+    }
+}
+
+/// Whether two tops are equal.
+fn are_same_tops(a: Top, b: Top) -> bool
+    ensures { result ≡ true → a ≡ b }
+{
+    match a {
+        Top::Leaf(a) => match b {
+            Top::Leaf(b) => are_same(a, b),
+            Top::Test { .. } => false,
+        },
+        Top::Test { condition, no, yes } => match b {
+            Top::Leaf(_) => false,
+            Top::Test {
+                condition: tested,
+                no: low,
+                yes: high,
+            } => condition == tested && no == low && yes == high,
+        },
+    }
+}
+
+/// Whether the same is asked.
+fn are_same_asks(a: Ask, b: Ask) -> bool
+    ensures { result ≡ true → a ≡ b }
+{
+    match a {
+        Ask::Live {
+            activation,
+            test,
+            source,
+        } => match b {
+            Ask::Live {
+                activation: other,
+                test: wanted,
+                source: from,
+            } => are_same(activation, other) && are_same_tests(test, wanted) && source == from,
+            _ => false,
+        },
+        Ask::Met {
+            join,
+            first,
+            second,
+        } => match b {
+            Ask::Met {
+                join: other,
+                first: low,
+                second: high,
+            } => join == other && first == low && second == high,
+            _ => false,
+        },
+        Ask::Apart { first, second } => match b {
+            Ask::Apart {
+                first: low,
+                second: high,
+            } => first == low && second == high,
+            _ => false,
+        },
+    }
+}
+
+/// A place for three numbers, of so many.
+fn place_of(first: usize, second: usize, third: usize, count: usize) -> usize {
+    let mixed = first
+        .wrapping_mul(0x9E37_79B9_7F4A_7C15)
+        .wrapping_add(second)
+        .wrapping_mul(0x9E37_79B9_7F4A_7C15)
+        .wrapping_add(third)
+        .wrapping_mul(0x9E37_79B9_7F4A_7C15);
+    if count == 0 { 0 } else { (mixed >> 32) % count }
+}
+
+/// A number for an activation.
+fn number_of(activation: Activation) -> usize {
+    match activation {
+        Activation::Inactive => 0,
+        Activation::Plain => 1,
+        Activation::By(edge) => edge as usize,
+    }
+}
+
+impl Parts {
+    /// No parts yet.
+    pub fn new(alloc: Global, ranks: Vec<u32>) -> Result<Parts, OutOfMemory>
+        ensures ranks { IfOk result (λ parts. parts.ranks ≡ ranks.items) }
+    {
+        let count = 64usize << ranks.len().min(6);
+        let known = vec![in alloc; None; count]?;
+        let places = vec![in alloc; 0usize; count]?;
+        Ok(Parts {
+            ranks,
+            parts: Vec::new(alloc),
+            known,
+            places,
+        })
+    }
+
+    /// The top of a part.
+    fn top(&self, part: usize) -> Top
+        requires { part < length self.now.parts }
+        ensures { IsTop self.now.parts result (tree_at self.now.parts part) }
+    {
+        self.parts[part].top
+    }
+
+    /// The same tree as a part.
+    pub fn tree(&self, part: usize) -> Result<GuardTree, OutOfMemory>
+        requires { part < length self.now.parts }
+        ensures { IfOk result (λ tree. tree ≡ tree_at self.now.parts part) }
+    {
+        self.parts[part].tree.copy()
+    }
+
+    /// Whether two parts have equal trees.
+    fn are_equal(&self, first: usize, second: usize) -> bool
+        requires first { first < length self.now.parts }
+        requires second { second < length self.now.parts }
+        ensures { result ≡ same_guard (tree_at self.now.parts first) (tree_at self.now.parts second) }
+    {
+        if first == second {
+            return true;
+        }
+        match self.top(first) {
+            Top::Leaf(a) => match self.top(second) {
+                Top::Leaf(b) => are_same(a, b),
+                Top::Test { .. } => false,
+            },
+            Top::Test { condition, no, yes } => match self.top(second) {
+                Top::Leaf(_) => false,
+                Top::Test {
+                    condition: tested,
+                    no: low,
+                    yes: high,
+                } => condition == tested && self.are_equal(no, low) && self.are_equal(yes, high),
+            },
+        }
+    }
+
+    /// The part at a place, where its top is this one.
+    fn found(&self, place: usize, top: Top) -> Option<usize>
+        ensures within { IfSome result (λ n. n < length self.now.parts) }
+        ensures top { IfSome result (λ n. IsTop self.now.parts top (tree_at self.now.parts n)) }
+    {
+        let number = *self.places.get(place)?;
+        if number >= self.parts.len() {
+            return None;
+        }
+        if are_same_tops(self.parts[number].top, top) {
+            Some(number)
+        } else {
+            None
+        }
+    }
+
+    /// Adds a part, whose number has the place.
+    fn push(&mut self, place: usize, top: Top, tree: GuardTree) -> Result<usize, OutOfMemory>
+        requires { IsTop self.old.parts top tree }
+        ensures { IfOk result (Makes self.old self.new tree) }
+    {
+        let number = self.parts.len();
+        self.parts.push(Part { top, tree })?;
+        if place < self.places.len() {
+            self.places[place] = number;
+        }
+        Ok(number)
+    }
+
+    /// What is known at a place.
+    fn known_at(&self, place: usize) -> Option<Known>
+        ensures { IsKnown self.now.ranks self.now.parts result }
+    {
+        match self.known.get(place) {
+            None => None,
+            Some(known) => *known,
+        }
+    }
+
+    /// The answer at a place to what is asked, if it is there.
+    fn answer(&self, place: usize, ask: Ask) -> Option<usize>
+        ensures { IfSome result (IsAnswer self.now.ranks self.now.parts ask) }
+    {
+        let known = self.known_at(place)?;
+        if are_same_asks(known.ask, ask) {
+            Some(known.answer)
+        } else {
+            None
+        }
+    }
+
+    /// Keeps an answer at a place.
+    fn keep(&mut self, place: usize, ask: Ask, answer: usize)
+        requires { IsAnswer self.old.ranks self.old.parts ask answer }
+        ensures parts { self.new.parts ≡ self.old.parts }
+        ensures ranks { self.new.ranks ≡ self.old.ranks }
+    {
+        if place < self.known.len() {
+            self.known[place] = Some(Known { ask, answer });
+        }
+    }
+
+    /// The part that is a leaf.
+    pub fn leaf(&mut self, alloc: Global, activation: Activation) -> Result<usize, OutOfMemory>
+        ensures { IfOk result (Makes self.old self.new (Leaf activation)) }
+    {
+        let top = Top::Leaf(activation);
+        let place = place_of(number_of(activation), 0, 0, self.places.len());
+        if let Some(found) = self.found(place, top) {
+            return Ok(found);
+        }
+        let tree = GuardTree::leaf(alloc, activation)?;
+        let made = self.push(place, top, tree)?;
+        Ok(made)
+    }
+
+    /// The part that is a test.
+    fn test(
+        &mut self,
+        alloc: Global,
+        condition: u32,
+        no: usize,
+        yes: usize,
+    ) -> Result<usize, OutOfMemory>
+        requires no { no < length self.old.parts }
+        requires yes { yes < length self.old.parts }
+        ensures { IfOk result (Makes self.old self.new (Test condition (tree_at self.old.parts no) (tree_at self.old.parts yes))) }
+    {
+        let top = Top::Test { condition, no, yes };
+        let place = place_of(condition as usize, no, yes, self.places.len());
+        if let Some(found) = self.found(place, top) {
+            return Ok(found);
+        }
+        let low = self.tree(no)?;
+        let high = self.tree(yes)?;
+        let tree = GuardTree::test(alloc, condition, low, high)?;
+        let made = self.push(place, top, tree)?;
+        Ok(made)
+    }
+
+    /// The part that is a test, or the one part where both have equal trees.
+    fn tested(
+        &mut self,
+        alloc: Global,
+        condition: u32,
+        no: usize,
+        yes: usize,
+    ) -> Result<usize, OutOfMemory>
+        requires no { no < length self.old.parts }
+        requires yes { yes < length self.old.parts }
+        ensures { IfOk result (Makes self.old self.new (tested condition (tree_at self.old.parts no) (tree_at self.old.parts yes))) }
+    {
+        if self.are_equal(no, yes) {
+            return Ok(no);
+        }
+        let made = self.test(alloc, condition, no, yes)?;
+        Ok(made)
+    }
+
+    /// The part that has the activation where a test passes.
+    fn passing(
+        &mut self,
+        alloc: Global,
+        activation: Activation,
+        test: Option<ValueTest>,
+    ) -> Result<usize, OutOfMemory>
+        ensures { IfOk result (Makes self.old self.new (passing activation test)) }
+    {
+        let Some(test) = test else {
+            let leaf = self.leaf(alloc, activation)?;
+            return Ok(leaf);
+        };
+        let live = self.leaf(alloc, activation)?;
+        let other = self.leaf(alloc, Activation::Inactive)?;
+        if test.value {
+            let made = self.tested(alloc, test.condition, other, live)?;
+            return Ok(made);
+        }
+        let made = self.tested(alloc, test.condition, live, other)?;
+        Ok(made)
+    }
+
+    /// The part that has the activation where the source is active and the test passes.
+    pub fn live(
+        &mut self,
+        alloc: Global,
+        activation: Activation,
+        test: Option<ValueTest>,
+        source: usize,
+    ) -> Result<usize, OutOfMemory>
+        requires { source < length self.old.parts }
+        ensures { IfOk result (Makes self.old self.new (live_tree activation test (tree_at self.old.parts source))) }
+    {
+        match self.top(source) {
+            Top::Leaf(found) => {
+                if found.is_active() {
+                    let made = self.passing(alloc, activation, test)?;
+                    return Ok(made);
+                }
+                let leaf = self.leaf(alloc, Activation::Inactive)?;
+                Ok(leaf)
+            }
+            Top::Test { condition, no, yes } => {
+                let ask = Ask::Live {
+                    activation,
+                    test,
+                    source,
+                };
+                let place = place_of(source, number_of(activation), 3, self.known.len());
+                if let Some(answer) = self.answer(place, ask) {
+                    return Ok(answer);
+                }
+                let low = self.live(alloc, activation, test, no)?;
+                let high = self.live(alloc, activation, test, yes)?;
+                let made = self.tested(alloc, condition, low, high)?;
+                self.keep(place, ask, made);
+                Ok(made)
+            }
+        }
+    }
+
+    /// The test of both ways at a condition.
+    #[cycle(meeting)]
+    fn both(
+        &mut self,
+        alloc: Global,
+        join: bool,
+        condition: u32,
+        no: (usize, usize),
+        yes: (usize, usize),
+    ) -> Result<usize, OutOfMemory>
+        requires no { ArePairWithin self.old.parts no.0 no.1 }
+        requires yes { ArePairWithin self.old.parts yes.0 yes.1 }
+        ensures { IfOk result (Makes self.old self.new (tested condition (met join self.old.ranks (tree_at self.old.parts no.0) (tree_at self.old.parts no.1)) (met join self.old.ranks (tree_at self.old.parts yes.0) (tree_at self.old.parts yes.1)))) }
+    {
+        let low = self.met(alloc, join, no.0, no.1)?;
+        let high = self.met(alloc, join, yes.0, yes.1)?;
+        let made = self.tested(alloc, condition, low, high)?;
+        Ok(made)
+    }
+
+    /// As `met`, where it isn't known.
+    #[cycle(meeting)]
+    fn walked(
+        &mut self,
+        alloc: Global,
+        join: bool,
+        first: usize,
+        second: usize,
+    ) -> Result<usize, OutOfMemory>
+        requires { ArePairWithin self.old.parts first second }
+        ensures { IfOk result (Makes self.old self.new (met join self.old.ranks (tree_at self.old.parts first) (tree_at self.old.parts second))) }
+    {
+        match self.top(first) {
+            Top::Leaf(found) => {
+                if settles(join, found) {
+                    Ok(first)
+                } else {
+                    Ok(second)
+                }
+            }
+            Top::Test { condition, no, yes } => match self.top(second) {
+                Top::Leaf(_) => self.both(alloc, join, condition, (no, second), (yes, second)),
+                Top::Test {
+                    condition: other,
+                    no: low,
+                    yes: high,
+                } => {
+                    if condition == other {
+                        return self.both(alloc, join, condition, (no, low), (yes, high));
+                    }
+                    if rank(self.ranks.as_slice(), other) < rank(self.ranks.as_slice(), condition) {
+                        return self.both(alloc, join, other, (first, low), (first, high));
+                    }
+                    self.both(alloc, join, condition, (no, second), (yes, second))
+                }
+            },
+        }
+    }
+
+    /// The first part where it settles the matter, and else the second: both are walked down together, by rank.
+    #[cycle(meeting)]
+    pub fn met(
+        &mut self,
+        alloc: Global,
+        join: bool,
+        first: usize,
+        second: usize,
+    ) -> Result<usize, OutOfMemory>
+        requires { ArePairWithin self.old.parts first second }
+        ensures { IfOk result (Makes self.old self.new (met join self.old.ranks (tree_at self.old.parts first) (tree_at self.old.parts second))) }
+    {
+        let ask = Ask::Met {
+            join,
+            first,
+            second,
+        };
+        let place = place_of(first, second, usize::from(join), self.known.len());
+        if let Some(answer) = self.answer(place, ask) {
+            return Ok(answer);
+        }
+        let made = self.walked(alloc, join, first, second)?;
+        self.keep(place, ask, made);
+        Ok(made)
+    }
+
+    /// Whether some leaf of a part is active.
+    fn is_live_somewhere(&self, part: usize) -> bool
+        requires { part < length self.now.parts }
+        ensures { result ≡ is_live_somewhere (tree_at self.now.parts part) }
+    {
+        match self.top(part) {
+            Top::Leaf(found) => found.is_active(),
+            Top::Test {
+                condition: _,
+                no,
+                yes,
+            } => self.is_live_somewhere(no) || self.is_live_somewhere(yes),
+        }
+    }
+
+    /// Whether one of two pairs is active at once in some outcome.
+    #[cycle(living)]
+    fn is_either_live(&mut self, no: (usize, usize), yes: (usize, usize)) -> bool
+        requires no { ArePairWithin self.old.parts no.0 no.1 }
+        requires yes { ArePairWithin self.old.parts yes.0 yes.1 }
+        ensures parts { self.new.parts ≡ self.old.parts }
+        ensures ranks { self.new.ranks ≡ self.old.ranks }
+        ensures live { result ≡ (are_both_live self.old.ranks (tree_at self.old.parts no.0) (tree_at self.old.parts no.1) || are_both_live self.old.ranks (tree_at self.old.parts yes.0) (tree_at self.old.parts yes.1)) }
+    {
+        if self.are_both_live(no.0, no.1) {
+            return true;
+        }
+        self.are_both_live(yes.0, yes.1)
+    }
+
+    /// As `are_both_live`, where it isn't known.
+    #[cycle(living)]
+    fn are_found_live(&mut self, first: usize, second: usize) -> bool
+        requires { ArePairWithin self.old.parts first second }
+        ensures parts { self.new.parts ≡ self.old.parts }
+        ensures ranks { self.new.ranks ≡ self.old.ranks }
+        ensures live { result ≡ are_both_live self.old.ranks (tree_at self.old.parts first) (tree_at self.old.parts second) }
+    {
+        match self.top(first) {
+            Top::Leaf(found) => {
+                if found.is_active() {
+                    return self.is_live_somewhere(second);
+                }
+                false
+            }
+            Top::Test { condition, no, yes } => match self.top(second) {
+                Top::Leaf(found) => {
+                    if found.is_active() {
+                        return self.is_either_live((no, second), (yes, second));
+                    }
+                    false
+                }
+                Top::Test {
+                    condition: other,
+                    no: low,
+                    yes: high,
+                } => {
+                    if condition == other {
+                        return self.is_either_live((no, low), (yes, high));
+                    }
+                    if rank(self.ranks.as_slice(), other) < rank(self.ranks.as_slice(), condition) {
+                        return self.is_either_live((first, low), (first, high));
+                    }
+                    self.is_either_live((no, second), (yes, second))
+                }
+            },
+        }
+    }
+
+    /// Whether two parts are active at once in some outcome: both are walked down together, by rank.
+    #[cycle(living)]
+    pub fn are_both_live(&mut self, first: usize, second: usize) -> bool
+        requires { ArePairWithin self.old.parts first second }
+        ensures parts { self.new.parts ≡ self.old.parts }
+        ensures ranks { self.new.ranks ≡ self.old.ranks }
+        ensures live { result ≡ are_both_live self.old.ranks (tree_at self.old.parts first) (tree_at self.old.parts second) }
+    {
+        let ask = Ask::Apart { first, second };
+        let place = place_of(first, second, 2, self.known.len());
+        if self.answer(place, ask).is_some() {
+            return false;
+        }
+        let live = self.are_found_live(first, second);
+        if !live {
+            self.keep(place, ask, first);
+        }
+        live
+    }
+}
