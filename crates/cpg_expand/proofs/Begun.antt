@@ -10,7 +10,7 @@ use Rattle.cpg_base.specs.Activity.{active, activation, item_active}
 use Rattle.cpg_base.specs.declared.item.Item.{Item}
 use Rattle.cpg_base.proofs.Items.{item_at-start}
 use Rattle.cpg_base.proofs.Lists.{Contains-nil, Contains-map, Contains-flat_map, Contains-flat_map_parts}
-use Rattle.cpg_rules.specs.Guards.{Guards}
+use Rattle.cpg_rules.specs.Guards.{Guards, tree_of}
 use Rattle.cpg_rules.specs.Admission.{IsAdmitted}
 use Rattle.cpg_order.specs.Deciding.{deciding}
 use Rattle.cpg_order.specs.Guard.{Guard, outcome_at, way, IsGuardOf}
@@ -32,6 +32,7 @@ use Rattle.cpg_run.proofs.Small.{run_small}
 use Rattle.cpg_tree.specs.Space.{HasFew}
 use Rattle.cpg_tree.specs.Tree.{Path, TreeState, IsConstant}
 use Rattle.cpg_expand.specs.Begun.{IsBegun, IsFrozenStart, any_start}
+use Rattle.cpg_expand.specs.Earlier.{IsCut}
 use Rattle.cpg_expand.specs.Sent.{sent_before, sent_so_far, IsFreeOnce}
 use Rattle.cpg_expand.specs.Agreeing.{Tells}
 use Rattle.cpg_expand.specs.Forest.{ForestState, HasTrees, no_tree, times_of, ends_of, later_tree, ready_at, ready_by}
@@ -75,14 +76,23 @@ own_rows_hold g order i f has = record {
     row : (x : ℕ) → x < item_count g → row_at (own_rows f) x ≡ map path_column (times_of g f x).paths
     row x l = get_or-map (λ (t : TreeState (Option ℕ)). map path_column t.paths) f.times x (no_tree g.faults) [] (omega (arith, l, has.times))
 
-module _ (g : Graph) (urgency : List ℕ) (guards : Guards) (a : IsAdmitted g urgency guards) (order : List ℕ) (topological : IsTopological g order) (p : ℕ) (l : p < process_count g) (guard : Guard) (is_guard : IsGuardOf g urgency p guard)
-    (old new : ForestState) (before after : List (Option ℕ)) (chooser : TreeState Bool) (grown : IsGrown g order (place order p) before old) (trees : HasTrees g new) (b : IsBegun g order p guard old new before after chooser) where
+module _ (g : Graph) (urgency : List ℕ) (guards : Guards) (a : IsAdmitted g urgency guards) (order : List ℕ) (topological : IsTopological g order) (p : ℕ) (l : p < process_count g) (old new : ForestState) (before after : List (Option ℕ)) (chooser : TreeState Bool) (grown : IsGrown g order (place order p) before old) (trees : HasTrees g new) (b : IsBegun g order guards p old new before after chooser) where
+  abbrev guard : Guard
+  guard = tree_of guards p
+
+  is_guard : IsGuardOf g urgency p (tree_of guards p)
+  is_guard = a.guards.trees p l
+
   nodes : (q : ℕ) → q < process_count g → node_of g q < length g.nodes
   nodes q k = (a.limits.processes q _ k).node
 
-  -- the process itself waits for its node
-  waits_here : IsWaitedFor g order (place order p) (node_of g p)
-  waits_here = record { other = p; within = l; there = refl; later = omega arith }
+  -- the process itself waits for its node, if it isn't frozen
+  waits_here : is_frozen g p ≡ false → IsWaitedFor g order (place order p) (node_of g p)
+  waits_here thawed = record { other = p; within = l; there = refl; later = omega arith; thawed = thawed }
+
+  -- and so does one behind it
+  waits_before : (node : ℕ) → IsWaitedFor g order (place order p + 1) node → IsWaitedFor g order (place order p) node
+  waits_before node w = record { other = w.other; within = w.within; there = w.there; later = omega (arith, w.later); thawed = w.thawed }
 
   its_producer : producer g p ≡ p
   its_producer = ap (producer_of_item g) (item_at-start g p l)
@@ -132,36 +142,30 @@ module _ (g : Graph) (urgency : List ℕ) (guards : Guards) (a : IsAdmitted g ur
     told : HasTold g order rows s t (place order p) old
     told = told_from_lines g order rows (place order p) old grown.trees hold fs s t run lines
 
-    ready_line_before : IsReadyLine g order rows s t (place order p) (node_of g p) (ready_of g old (node_of g p))
-    ready_line_before = lines.ready (node_of g p) (nodes p l) waits_here
-
-    abbrev r : ℕ
-    r = ready_line_before.time
-
     -- what the trees tell of its start
-    told_start : IsToldStart g order old guard chooser p s t
-    told_start = start_is_told g a.limits order topological a.joins urgency a.urgency a.topological rows s law fs t run small old grown.trees p l nodes told lines guard is_guard chooser b.actives ready_line_before
+    told_start : (from : ℕ) → IsCut g order guards (node_of g p) (place order p) from → IsToldStart g order guards old chooser from p s t
+    told_start from cut = start_is_told g a.limits order topological a.joins urgency a.urgency a.topological rows s law fs t run small old grown.trees p l nodes told lines guards (λ q k. a.guards.trees q k) chooser b.actives from cut
 
   early_before : AreEarly before
   early_before = early_from_low g order before a.limits topological grown.settled.count grown.settled.low
 
-  all_told : (s : Scenario) → IsScenario g s → (t : Times) → IsRun g order before s t → IsToldStart g order old guard chooser p s t
-  all_told s law t run = told_start before (λ y h e. refl) early_before (own_rows old) (own_rows_hold g order (place order p) old grown.trees) s law t run
+  all_told : (from : ℕ) → IsCut g order guards (node_of g p) (place order p) from → (s : Scenario) → IsScenario g s → (t : Times) → IsRun g order before s t → IsToldStart g order guards old chooser from p s t
+  all_told from cut s law t run = told_start before (λ y h e. refl) early_before (own_rows old) (own_rows_hold g order (place order p) old grown.trees) s law t run from cut
 
   acts_as : (values : List Bool) → item_active g values (item_at g p) ≡ active g values p
   acts_as values = ap (item_active g values) (item_at-start g p l)
 
-  found : IsFrozenStart g p old guard before after chooser b.start → IsFound g order before p after
+  found : IsFrozenStart g order guards p old before after chooser b.start → IsFound g order before p after
   found f = frozen_found g order topological before p (omega (arith, p_item, grown.settled.count)) unset f.latest
-      (λ s law t run on. latest_above g order before old guard chooser b.chooser_tree p topological all_told f.latest f.top s law t run (sym (acts_as s.values) ∙ on))
-      (λ m e. let r = latest_reached g order before old guard chooser b.chooser_tree p topological all_told f.latest f.top m e in (r.0, r.1, acts_as r.0.values ∙ r.2, r.3)) after f.frozen.set
+      (λ s law t run on. latest_above g order guards before old chooser b.chooser_tree f.from p topological (all_told f.from f.cut) f.latest f.top s law t run (sym (acts_as s.values) ∙ on))
+      (λ m e. let r = latest_reached g order guards before old chooser b.chooser_tree f.from p topological (all_told f.from f.cut) f.latest f.top m e in (r.0, r.1, acts_as r.0.values ∙ r.2, r.3)) after f.frozen.set
 
   -- ---- the frozen times
 
   new_settled : AreSettledOf g order (IsDone g order p 0) after
   new_settled = by b.starts
     where
-      by : any_start g p old guard before after chooser b.start → AreSettledOf g order (IsDone g order p 0) after
+      by : any_start g order guards p old before after chooser b.start → AreSettledOf g order (IsDone g order p 0) after
       by (inl th) = subst (AreSettledOf g order (IsDone g order p 0)) (sym th.1)
           (settled_idle g order topological a.limits (IsEarlier g order (place order p)) (IsDone g order p 0) before grown.settled p p_item later (λ y e. inl e) (inr (inl refl)) only th.0)
       by (inr f) =
@@ -171,7 +175,7 @@ module _ (g : Graph) (urgency : List ℕ) (guards : Guards) (a : IsAdmitted g ur
   same_earlier : (x : ℕ) → x < item_count g → IsEarlier g order (place order p) x → get_or before x None ≡ get_or after x None
   same_earlier x h e = by b.starts
     where
-      by : any_start g p old guard before after chooser b.start → get_or before x None ≡ get_or after x None
+      by : any_start g order guards p old before after chooser b.start → get_or before x None ≡ get_or after x None
       by (inl th) = sym (ap (λ fs. get_or fs x None) th.1)
       by (inr f) = let k = found f.1 in sym (k.same x (early_apart x e))
 
@@ -233,8 +237,8 @@ module _ (g : Graph) (urgency : List ℕ) (guards : Guards) (a : IsAdmitted g ur
     told_before : HasTold g order rows s t (place order p) old
     told_before = told after same_earlier early_after rows held s law t run
 
-    was_ready : IsReadyLine g order rows s t (place order p) (node_of g p) (ready_of g old (node_of g p))
-    was_ready = lines_before.ready (node_of g p) (nodes p l) waits_here
+    was_ready : IsWaitedFor g order (place order p) (node_of g p) → IsReadyLine g order rows s t (place order p) (node_of g p) (ready_of g old (node_of g p))
+    was_ready waited = lines_before.ready (node_of g p) (nodes p l) waited
 
     way_decides : (c : ℕ) → Contains (way guard s.values) c → Contains (deciding g s.values p) c
     way_decides = on_way g a.limits order topological a.joins urgency a.urgency a.topological rows s law.values few_faults t run_is_small old p l nodes told_before guard is_guard
@@ -257,10 +261,12 @@ module _ (g : Graph) (urgency : List ℕ) (guards : Guards) (a : IsAdmitted g ur
     started : Tells s (carried_at_start g order rows s p) (get_or t.times p None) b.start
     started = by b.starts
       where
-        by : any_start g p old guard before after chooser b.start → Tells s (carried_at_start g order rows s p) (get_or t.times p None) b.start
-        by (inl th) = subst (λ (o : Option ℕ). Tells s (carried_at_start g order rows s p) o b.start)
-            (start_value g order topological urgency a.urgency a.topological after s law.values t run p l guard is_guard was_ready.time was_ready.is (ap (λ fs. get_or fs p None) th.1 ∙ unset))
-            (start_line g a.limits order topological a.joins urgency a.urgency a.topological rows s law.values few_faults t run_is_small old p l nodes told_before guard is_guard th.2.wait th.2.waits was_ready.time was_ready.is was_ready.tells b.start th.2.is (thawed_start_of th.0))
+        by : any_start g order guards p old before after chooser b.start → Tells s (carried_at_start g order rows s p) (get_or t.times p None) b.start
+        by (inl th) =
+            let was = was_ready (waits_here th.0) in
+            subst (λ (o : Option ℕ). Tells s (carried_at_start g order rows s p) o b.start)
+            (start_value g order topological urgency a.urgency a.topological after s law.values t run p l guard is_guard was.time was.is (ap (λ fs. get_or fs p None) th.1 ∙ unset))
+            (start_line g a.limits order topological a.joins urgency a.urgency a.topological rows s law.values few_faults t run_is_small old p l nodes told_before guard is_guard th.2.wait th.2.waits was.time was.is was.tells b.start th.2.is (thawed_start_of th.0))
         by (inr f) = subst (λ (o : Option ℕ). Tells s (carried_at_start g order rows s p) o b.start)
             (frozen_time f.0 f.1.latest (ap (λ h. get_or h p None) f.1.frozen.set ∙ set_here before p f.1.latest (omega (arith, p_item, grown.settled.count)) unset))
             (frozen_line g order rows s few_faults p guard leads_there way_decides (frozen_start_of f.0) chooser b.start (unwrap_or f.1.latest 0) b.chooser_tree b.actives f.1.frozen.made)
@@ -271,12 +277,14 @@ module _ (g : Graph) (urgency : List ℕ) (guards : Guards) (a : IsAdmitted g ur
     ended : Tells s (carried_at_end g order rows s p) (get_or t.ends p None) b.end
     ended = end_line g a.limits order after s law t run run_is_small p l few_here rows b.start b.end few_faults b.ends started
 
-    readied : IsReadyOnce g old (node_of g p) guard chooser b.end (goes_on b.end b.ready) → IsReadyLine g order rows s t (place order p + 1) (node_of g p) (goes_on b.end b.ready)
-    readied made = ready_next g order topological (place order p) p l refl rows s after t run was_ready.time (greatest (map (heard_there g t (node_of g p)) (way guard s.values))) was_ready.is
-        (most g order topological urgency a.urgency a.topological after s law.values t run p l guard is_guard was_ready.time was_ready.is)
-        (waited_ends g order topological urgency a.urgency a.topological after s law.values t run p l guard is_guard was_ready.time was_ready.is) (goes_on b.end b.ready)
-        (ready_line g order topological rows s few_faults t run_is_small p guard leads_there way_decides chooser b.end made.wait (goes_on b.end b.ready) (max was_ready.time (greatest (map (heard_there g t (node_of g p)) (way guard s.values)))) b.actives made.is ended
-        (wait_line g a.limits order topological a.joins urgency a.urgency a.topological rows s law.values few_faults t run_is_small old p l nodes told_before guard is_guard made.wait made.waits was_ready.time was_ready.is was_ready.tells))
+    readied : IsWaitedFor g order (place order p) (node_of g p) → IsReadyOnce g old (node_of g p) guard chooser b.end (goes_on b.end b.ready) → IsReadyLine g order rows s t (place order p + 1) (node_of g p) (goes_on b.end b.ready)
+    readied waited made =
+        let was = was_ready waited in
+        ready_next g order topological (place order p) p l refl rows s after t run was.time (greatest (map (heard_there g t (node_of g p)) (way guard s.values))) was.is
+        (most g order topological urgency a.urgency a.topological after s law.values t run p l guard is_guard was.time was.is)
+        (waited_ends g order topological urgency a.urgency a.topological after s law.values t run p l guard is_guard was.time was.is) (goes_on b.end b.ready)
+        (ready_line g order topological rows s few_faults t run_is_small p guard leads_there way_decides chooser b.end made.wait (goes_on b.end b.ready) (max was.time (greatest (map (heard_there g t (node_of g p)) (way guard s.values)))) b.actives made.is ended
+        (wait_line g a.limits order topological a.joins urgency a.urgency a.topological rows s law.values few_faults t run_is_small old p l nodes told_before guard is_guard made.wait made.waits was.time was.is was.tells))
 
     was_free : IsFreeLine g order rows s t (place order p) (node_of g p) (free_of g old (node_of g p))
     was_free = lines_before.free (node_of g p) (nodes p l)
@@ -310,9 +318,9 @@ module _ (g : Graph) (urgency : List ℕ) (guards : Guards) (a : IsAdmitted g ur
       ];
       ready = λ node h w. elim (cases_eq node (node_of g p)) [
         | inl e ↦ subst (λ n. IsReadyLine g order rows s t (place order p + 1) n (ready_of g new n)) (sym e)
-            (subst (λ (tree : TreeState ℕ). IsReadyLine g order rows s t (place order p + 1) (node_of g p) tree) (sym new_ready) (readied (b.readies (subst (IsWaitedFor g order (place order p + 1)) e w))))
+            (subst (λ (tree : TreeState ℕ). IsReadyLine g order rows s t (place order p + 1) (node_of g p) tree) (sym new_ready) (let waits = subst (IsWaitedFor g order (place order p + 1)) e w in readied (waits_before (node_of g p) waits) (b.readies waits)))
         | inr other ↦ subst (λ (tree : TreeState ℕ). IsReadyLine g order rows s t (place order p + 1) node tree) (sym (other_ready node h other))
-            (ready_elsewhere g order topological (place order p) p l refl rows s after t run node other (ready_of g old node) (lines_before.ready node h (record { other = w.other; within = w.within; there = w.there; later = omega (arith, w.later) })))
+            (ready_elsewhere g order topological (place order p) p l refl rows s after t run node other (ready_of g old node) (lines_before.ready node h (waits_before node w)))
       ];
       here = freed;
       free = λ node h other. subst (λ (tree : TreeState ℕ). IsFreeLine g order rows s t (place order p) node tree) (sym (same_free node)) (lines_before.free node h);

@@ -1,8 +1,9 @@
 -- The trees of a process that begins, as the code finds them.
-use Rattle.std.proofs.Common.{ℕ, ◌<◌, ◌≤◌, ◌≡◌, Bool, List, All, set, length-set, get_or, get_or-set_same, get_or-set_other, Option, arith, refl, sym, ap, ◌∙◌, subst, inl, inr}
+use Rattle.std.proofs.Common.{ℕ, ◌<◌, ◌≤◌, ◌≡◌, Bool, List, All, set, length-set, get_or, get_or-set_same, get_or-set_other, Option, length, arith, refl, sym, ap, ◌∙◌, subst, inl, inr}
 use Rattle.std.proofs.lemmas.Bool.{cases_eq}
 use Rattle.std.proofs.lemmas.List.Elements.{All-set}
-use Rattle.cpg_base.specs.Graph.{Graph, process_count, condition_count, edge_count, node_of, inputs}
+use Rattle.cpg_base.specs.Graph.{Graph, process_at, process_count, condition_count, edge_count, node_of, inputs}
+use Rattle.cpg_base.specs.Order.{place}
 use Rattle.cpg_base.proofs.Inputs.{inputs_parts}
 use Rattle.cpg_rules.specs.Guards.{Guards, tree_of}
 use Rattle.cpg_rules.specs.Trees.{TestsBelow}
@@ -12,11 +13,13 @@ use Rattle.cpg_table.proofs.NodeRows.{all_below}
 use Rattle.cpg_tree.specs.Tree.{TreeState}
 use Rattle.cpg_expand.specs.Agreeing.{IsTree}
 use Rattle.cpg_expand.specs.Begun.{IsBegunBy}
+use Rattle.cpg_expand.specs.Earlier.{AreAlong}
 use Rattle.cpg_expand.specs.Ending.{IsEndTree, IsReadyAfter, goes_on}
 use Rattle.cpg_expand.specs.Forest.{ForestState, HasTrees, IsWait, no_tree}
 use Rattle.cpg_expand.specs.declared.forest.Ready.{Ready}
 use Rattle.cpg_expand.specs.declared.forest.Ready.TheVariants.{After, At}
 use Rattle.cpg_expand.specs.Guarded.{IsActiveTree, LeadsBelow}
+use Rattle.cpg_expand.specs.Latest.{IsLatestStart}
 use Rattle.cpg_expand.specs.Waited.{IsReadyIfWaited}
 use Rattle.cpg_expand.proofs.Leads.{leads_below}
 
@@ -33,8 +36,27 @@ module _ (g : Graph) (order : List ℕ) (guards : Guards) (admitted : IsAdmitted
   leads_here p l guard is = subst (λ (k : Graph). LeadsBelow (edge_count k) guard) (sym same)
       (leads_below g order admitted.topological p l guard (subst (IsGuardOf g order p) (sym is) (admitted.guards.trees p l)))
 
+-- and of the guards and an order
+pub along_here : (g : Graph) (urgency : List ℕ) (guards : Guards) → IsAdmitted g urgency guards → (h : Graph) → h ≡ g → (found : Guards) → found ≡ guards → (order : List ℕ) → length order ≡ process_count g → AreAlong h found order
+along_here g urgency guards admitted h same found is order long = subst (λ (k : Graph). AreAlong k found order) (sym same) (subst (λ (x : Guards). AreAlong g x order) (sym is) (record {
+  few = admitted.well_formed.few_conditions;
+  trees = admitted.guards.count;
+  conditions = admitted.guards.conditions;
+  places = long;
+}))
+
 pub inputs_here : (h : Graph) (p : ℕ) (edges : List ℕ) → edges ≡ inputs h p → All (λ e. e < edge_count h) edges
 inputs_here h p edges is = all_below (edge_count h) (edge_count h) edges (inputs h p) refl is (λ e c. (inputs_parts h p e c).0)
+
+-- the latest start is that of the same graph, order, guards, node and inputs
+pub latest_as : (f : ForestState) (from p : ℕ) (active : TreeState Bool) (latest : Option ℕ) (h k : Graph) → k ≡ h → (order other : List ℕ) → other ≡ order → (guards found : Guards) → found ≡ guards → (node at : ℕ) → at ≡ node → (edges es : List ℕ) → es ≡ edges →
+    IsLatestStart k other found f at from (place other p) (process_at k p).release es active latest → IsLatestStart h order guards f node from (place order p) (process_at h p).release edges active latest
+latest_as f from p active latest h k same order other in_order guards found is node at there edges es into start =
+    subst (λ (g : Graph). IsLatestStart g order guards f node from (place order p) (process_at g p).release edges active latest) same
+    (subst (λ o. IsLatestStart k o guards f node from (place o p) (process_at k p).release edges active latest) in_order
+    (subst (λ (x : Guards). IsLatestStart k other x f node from (place other p) (process_at k p).release edges active latest) is
+    (subst (λ n. IsLatestStart k other found f n from (place other p) (process_at k p).release edges active latest) there
+    (subst (λ ds. IsLatestStart k other found f at from (place other p) (process_at k p).release ds active latest) into start))))
 
 -- ---- what is put
 

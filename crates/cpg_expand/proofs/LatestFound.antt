@@ -2,13 +2,13 @@
 use Rattle.std.proofs.Common.{ℕ, ◌+◌, suc, ◌<◌, ◌≤◌, ◌≡◌, ◌==◌, max, Bool, true, false, if◌then◌else◌, List, [], ◌∷◌, ◌++◌, length, take, get_or, Option, Some, None, Contains, arith, eq-eqb, refl, sym, ap, ◌∙◌, subst, inl, inr, ◌⊎◌}
 use Rattle.std.specs.Option.{IfNone, IfSome}
 use Rattle.std.proofs.Math.Seq.{take-suc}
-use Rattle.std.proofs.lemmas.Bool.{cases_lt, ne_eqb}
+use Rattle.std.proofs.lemmas.Bool.{and_from, and_parts, cases_lt, ne_eqb}
 use Rattle.std.proofs.lemmas.List.Elements.{Contains-append_cases}
 use Rattle.cpg_base.specs.Bus.{slot_length}
 use Rattle.cpg_base.specs.Graph.{Graph, process_count, process_of, node_of, source, home, is_message, message_item, broadcast_item}
 use Rattle.cpg_base.specs.Scenario.{Scenario, IsScenario}
 use Rattle.cpg_base.proofs.Lists.{Contains-cases, Contains-nil}
-use Rattle.cpg_order.specs.Guard.{Guard}
+use Rattle.cpg_rules.specs.Guards.{Guards}
 use Rattle.cpg_run.proofs.Sends.{in_next}
 use Rattle.cpg_tree.specs.Meeting.{HasWhere, IsMostWhere, IsNowhere}
 use Rattle.cpg_tree.specs.Space.{HasFew}
@@ -16,8 +16,8 @@ use Rattle.cpg_tree.specs.Tree.{TreeState}
 use Rattle.cpg_tree.proofs.OnePath.{scenario_few, the_path}
 use Rattle.cpg_expand.specs.Agreeing.{IsTree}
 use Rattle.cpg_expand.specs.Forest.{ForestState, times_of, ends_of, heard_tree, heard_delay, input_tree, input_delay}
-use Rattle.cpg_expand.specs.Guarded.{IsTestedOn}
-use Rattle.cpg_expand.specs.Latest.{HasHeard, HasHeardOf, HasInput, HasInputOf, HasLater, IsRaised, or_later}
+use Rattle.cpg_expand.specs.Earlier.{IsBetween, IsAskedTree, IsBothTree}
+use Rattle.cpg_expand.specs.Latest.{HasEnded, HasEndedOf, HasHeard, HasHeardOf, HasInput, HasInputOf, HasLater, IsRaised, or_later}
 use Rattle.cpg_expand.specs.Tops.{IsTop}
 use Rattle.cpg_expand.specs.Values.{time_later}
 
@@ -109,29 +109,73 @@ module _ (g : Graph) (f : ForestState) (node c : ℕ) (wanted : TreeState Bool) 
       IsRaised g (HasLater (heard_tree g f node c) wanted (heard_delay g node c)) old new
   heard_by_frame e is = heard_if false (ne_eqb (node_of g (process_of g c)) node e) is
 
-module _ (g : Graph) (f : ForestState) (node : ℕ) (guard : Guard) where
-  -- the time is a condition's where the guard tests it
-  pub heard_raised : (c : ℕ) (wanted : TreeState Bool) → IsTree g wanted → IsTestedOn g.faults guard c wanted → (old new : ℕ) → IsRaised g (HasLater (heard_tree g f node c) wanted (heard_delay g node c)) old new → IsRaised g (HasHeard g f node guard c) old new
-  heard_raised c wanted of tested old new r = raised_as g (HasLater (heard_tree g f node c) wanted (heard_delay g node c)) (HasHeard g f node guard c)
-      (λ n s law h. let x = the_path g.faults wanted.paths of.each s (scenario_few g s law) in
-      record { time = h.time; has = record { has = h.has; there = (x.0, x.1, (tested s (scenario_few g s law)).value x.0 x.1 ∙ h.tested) }; is = h.is })
-      (λ n s law h. record { tested = sym ((tested s (scenario_few g s law)).value h.has.there.0 h.has.there.1) ∙ h.has.there.2; time = h.time; has = h.has.has; is = h.is })
-      old new r
+-- ---- what the processes of a node test
 
-  pub none_heard : (first : ℕ) → IsRaised g (HasHeardOf g f node guard 0) first first
-  none_heard first = raised_by_none g (HasHeardOf g f node guard 0) (HasHeardOf g f node guard 0) (λ n s h. below n s h) first
+module _ (g : Graph) (order : List ℕ) (guards : Guards) (f : ForestState) (active : TreeState Bool) (of_active : IsTree g active) (node from to : ℕ) where
+  -- the time is a condition's where one of them tests it and the process is active
+  pub heard_raised : (c : ℕ) (asked wanted : TreeState Bool) → IsTree g asked → IsTree g wanted → IsAskedTree g order guards node from to c (process_count g) asked → IsBothTree g.faults asked active wanted →
+      (old new : ℕ) → IsRaised g (HasLater (heard_tree g f node c) wanted (heard_delay g node c)) old new → IsRaised g (HasHeard g order guards f active node from to c) old new
+  heard_raised c asked wanted of_asked of_wanted asks both old new r = raised_as g (HasLater (heard_tree g f node c) wanted (heard_delay g node c)) (HasHeard g order guards f active node from to c) back forth old new r
     where
-      below : (n : ℕ) (s : Scenario) → HasHeardOf g f node guard 0 n s → ⊥
+      back : (n : ℕ) (s : Scenario) → IsScenario g s → HasHeard g order guards f active node from to c n s → HasLater (heard_tree g f node c) wanted (heard_delay g node c) n s
+      back n s law h =
+          let few = scenario_few g s law in
+          let x = the_path g.faults asked.paths of_asked.each s few in
+          let z = the_path g.faults wanted.paths of_wanted.each s few in
+          record {
+            time = h.time;
+            has = record { has = h.has; there = (z.0, z.1, both s few x.0 h.acts.0 z.0 x.1 h.acts.1 z.1 ∙ and_from x.0.1 h.acts.0.1 ((asks s few x.0 x.1).1 h.asked) h.acts.2) };
+            is = h.is;
+          }
+
+      forth : (n : ℕ) (s : Scenario) → IsScenario g s → HasLater (heard_tree g f node c) wanted (heard_delay g node c) n s → HasHeard g order guards f active node from to c n s
+      forth n s law h =
+          let few = scenario_few g s law in
+          let x = the_path g.faults asked.paths of_asked.each s few in
+          let y = the_path g.faults active.paths of_active.each s few in
+          let parts = and_parts x.0.1 y.0.1 (sym (both s few x.0 y.0 h.has.there.0 x.1 y.1 h.has.there.1) ∙ h.has.there.2) in
+          record { asked = (asks s few x.0 x.1).0 parts.0; acts = (y.0, y.1, parts.1); time = h.time; has = h.has.has; is = h.is }
+
+  pub none_heard : (first : ℕ) → IsRaised g (HasHeardOf g order guards f active node from to 0) first first
+  none_heard first = raised_by_none g (HasHeardOf g order guards f active node from to 0) (HasHeardOf g order guards f active node from to 0) (λ n s h. below n s h) first
+    where
+      below : (n : ℕ) (s : Scenario) → HasHeardOf g order guards f active node from to 0 n s → ⊥
       below n s h = omega (arith, h.below)
 
-  pub next_heard : (c first mid last : ℕ) → IsRaised g (HasHeardOf g f node guard c) first mid → IsRaised g (HasHeard g f node guard c) mid last → IsRaised g (HasHeardOf g f node guard (c + 1)) first last
-  next_heard c first mid last = raised_on g (HasHeardOf g f node guard c) (HasHeard g f node guard c) (HasHeardOf g f node guard (c + 1)) split
+  pub next_heard : (c first mid last : ℕ) → IsRaised g (HasHeardOf g order guards f active node from to c) first mid → IsRaised g (HasHeard g order guards f active node from to c) mid last → IsRaised g (HasHeardOf g order guards f active node from to (c + 1)) first last
+  next_heard c first mid last = raised_on g (HasHeardOf g order guards f active node from to c) (HasHeard g order guards f active node from to c) (HasHeardOf g order guards f active node from to (c + 1)) split
       (λ n s h. record { condition = h.condition; below = omega (arith, h.below); there = h.there }) (λ n s h. record { condition = c; below = omega arith; there = h }) first mid last
     where
-      split : (n : ℕ) (s : Scenario) → HasHeardOf g f node guard (c + 1) n s → HasHeardOf g f node guard c n s ⊎ HasHeard g f node guard c n s
+      split : (n : ℕ) (s : Scenario) → HasHeardOf g order guards f active node from to (c + 1) n s → HasHeardOf g order guards f active node from to c n s ⊎ HasHeard g order guards f active node from to c n s
       split n s h = elim (cases_lt h.condition c) [
         | inl less ↦ inl (record { condition = h.condition; below = less; there = h.there })
-        | inr more ↦ inr (subst (λ d. HasHeard g f node guard d n s) (let e : h.condition ≡ c = omega (arith, h.below, more) in e) h.there)
+        | inr more ↦ inr (subst (λ d. HasHeard g order guards f active node from to d n s) (let e : h.condition ≡ c = omega (arith, h.below, more) in e) h.there)
+      ]
+
+-- ---- the ends of the processes of a node
+
+module _ (g : Graph) (order : List ℕ) (f : ForestState) (active : TreeState Bool) (node from to : ℕ) where
+  -- another process raises nothing
+  pub not_ended : (q latest : ℕ) → (IsBetween g order node from to q → ⊥) → IsRaised g (HasEnded g order f active node from to q) latest latest
+  not_ended q latest off = raised_by_none g (HasEnded g order f active node from to q) (HasEnded g order f active node from to q) (λ n s h. off h.between) latest
+
+  pub one_ended : (q old new : ℕ) → IsBetween g order node from to q → IsRaised g (HasLater (ends_of g f q) active 0) old new → IsRaised g (HasEnded g order f active node from to q) old new
+  one_ended q old new on = raised_as g (HasLater (ends_of g f q) active 0) (HasEnded g order f active node from to q) (λ n s law h. h.there) (λ n s law h. record { between = on; there = h }) old new
+
+  pub none_ended : (first : ℕ) → IsRaised g (HasEndedOf g order f active node from to 0) first first
+  none_ended first = raised_by_none g (HasEndedOf g order f active node from to 0) (HasEndedOf g order f active node from to 0) (λ n s h. below n s h) first
+    where
+      below : (n : ℕ) (s : Scenario) → HasEndedOf g order f active node from to 0 n s → ⊥
+      below n s h = omega (arith, h.below)
+
+  pub next_ended : (q first mid last : ℕ) → IsRaised g (HasEndedOf g order f active node from to q) first mid → IsRaised g (HasEnded g order f active node from to q) mid last → IsRaised g (HasEndedOf g order f active node from to (q + 1)) first last
+  next_ended q first mid last = raised_on g (HasEndedOf g order f active node from to q) (HasEnded g order f active node from to q) (HasEndedOf g order f active node from to (q + 1)) split
+      (λ n s h. record { process = h.process; below = omega (arith, h.below); there = h.there }) (λ n s h. record { process = q; below = omega arith; there = h }) first mid last
+    where
+      split : (n : ℕ) (s : Scenario) → HasEndedOf g order f active node from to (q + 1) n s → HasEndedOf g order f active node from to q n s ⊎ HasEnded g order f active node from to q n s
+      split n s h = elim (cases_lt h.process q) [
+        | inl less ↦ inl (record { process = h.process; below = less; there = h.there })
+        | inr more ↦ inr (subst (λ d. HasEnded g order f active node from to d n s) (let e : h.process ≡ q = omega (arith, h.below, more) in e) h.there)
       ]
 
 -- ---- inputs

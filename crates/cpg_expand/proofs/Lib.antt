@@ -43,3 +43,4 @@ pub mod ActiveItems
 pub mod SlotTrees
 pub mod ReadyMade
 pub mod TestedTrees
+pub mod EarlierFound

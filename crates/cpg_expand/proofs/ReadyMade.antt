@@ -1,7 +1,7 @@
 -- When a node goes on after a frozen process, as the code finds it.
-use Rattle.std.proofs.Common.{ℕ, ◌+◌, ◌<◌, ◌≡◌, ◌==◌, ◌&&◌, nat_lt, Bool, true, false, List, Option, arith, eq-eqb, lt-ltb, inl, inr, sym, ap, ◌∙◌, subst}
+use Rattle.std.proofs.Common.{ℕ, ◌+◌, ◌<◌, ◌≡◌, ◌==◌, ◌&&◌, nat_lt, not, Bool, true, false, List, Option, arith, eq-eqb, lt-ltb, inl, inr, sym, ap, ◌∙◌, subst}
 use Rattle.std.proofs.lemmas.Bool.{and_from, cases_lt}
-use Rattle.cpg_base.specs.Graph.{Graph, node_of}
+use Rattle.cpg_base.specs.Graph.{Graph, node_of, is_frozen}
 use Rattle.cpg_base.specs.Order.{place}
 use Rattle.cpg_base.specs.Scenario.{Scenario}
 use Rattle.cpg_base.proofs.Lists.{Contains-nil}
@@ -28,10 +28,10 @@ ready_everywhere g f node guard active end always = record {
 -- ---- what waits
 
 -- one more process is no such one
-pub none_waits : (g : Graph) (order : List ℕ) (node at k : ℕ) (b : Bool) → ((q : ℕ) → q < k → node_of g q ≡ node → at < place order q → ⊥) → b ≡ (node_of g k == node && nat_lt at (place order k)) → b ≡ false →
-    (q : ℕ) → q < k + 1 → node_of g q ≡ node → at < place order q → ⊥
-none_waits g order node at k b before is off q below there behind = elim (cases_lt q k) [
-  | inl less ↦ before q less there behind
+pub none_waits : (g : Graph) (order : List ℕ) (node at k : ℕ) (b : Bool) → ((q : ℕ) → q < k → node_of g q ≡ node → at < place order q → is_frozen g q ≡ false → ⊥) →
+    b ≡ (node_of g k == node && (nat_lt at (place order k) && not (is_frozen g k))) → b ≡ false → (q : ℕ) → q < k + 1 → node_of g q ≡ node → at < place order q → is_frozen g q ≡ false → ⊥
+none_waits g order node at k b before is off q below there behind thawed = elim (cases_lt q k) [
+  | inl less ↦ before q less there behind thawed
   | inr more ↦ by (let e : q ≡ k = omega (arith, below, more) in e)
 ]
   where
@@ -39,4 +39,5 @@ none_waits g order node at k b before is off q below there behind = elim (cases_
     apart e = cc
 
     by : q ≡ k → ⊥
-    by e = apart (sym (and_from (node_of g k == node) (nat_lt at (place order k)) (eq-eqb (node_of g k) node (ap (node_of g) (sym e) ∙ there)) (lt-ltb at (place order k) (subst (λ n. at < place order n) e behind))) ∙ sym is ∙ off)
+    by e = apart (sym (and_from (node_of g k == node) (nat_lt at (place order k) && not (is_frozen g k)) (eq-eqb (node_of g k) node (ap (node_of g) (sym e) ∙ there))
+        (and_from (nat_lt at (place order k)) (not (is_frozen g k)) (lt-ltb at (place order k) (subst (λ n. at < place order n) e behind)) (ap not (ap (is_frozen g) (sym e) ∙ thawed)))) ∙ sym is ∙ off)

@@ -1,23 +1,23 @@
--- Where a guard tests a condition on the way to being active.
-use Rattle.std.proofs.Common.{ℕ, ◌≡◌, ◌==◌, ◌&&◌, ◌||◌, Bool, true, false, if◌then◌else◌, List, ◌∷◌, get_or, Contains, eq-eqb, eqb-true, refl, sym, ap, subst}
+-- Where a guard tests a condition.
+use Rattle.std.proofs.Common.{ℕ, ◌≡◌, ◌==◌, ◌||◌, Bool, true, false, if◌then◌else◌, List, ◌∷◌, [], get_or, Contains, eq-eqb, eqb-true, refl, sym, ap, subst}
 use Rattle.std.specs.List.{list_any}
-use Rattle.std.proofs.lemmas.Bool.{and_from, and_parts, ne_eqb}
-use Rattle.cpg_base.specs.Activity.{is_active}
+use Rattle.std.proofs.lemmas.Bool.{ne_eqb}
 use Rattle.cpg_base.specs.declared.activation.Activation.{Activation}
-use Rattle.cpg_base.proofs.Lists.{list_any_parts, list_any_true}
-use Rattle.cpg_order.specs.Guard.{Guard, Leaf, Test, outcome_at, way}
+use Rattle.cpg_base.proofs.Lists.{list_any_parts, list_any_true, Contains-nil}
+use Rattle.cpg_order.specs.Guard.{Guard, Leaf, Test, way}
 use Rattle.cpg_tree.specs.Tree.{TreeState, IsConstant}
 use Rattle.cpg_expand.specs.Agreeing.{Tells}
-use Rattle.cpg_expand.specs.Guarded.{IsActiveTree, IsTestedOn, PicksByValue, is_tested, values_known}
-use Rattle.cpg_expand.proofs.AgreeingTrees.{agrees_constant}
+use Rattle.cpg_expand.specs.Guarded.{IsTestedOn, PicksByValue, is_tested, values_known}
+use Rattle.cpg_expand.proofs.AgreeingTrees.{agrees_constant, agrees_weaker}
 
 pub tested_leaf : (k : ℕ) (a : Activation) (c : ℕ) (t : TreeState Bool) → IsConstant false k t → IsTestedOn k (Leaf a) c t
 tested_leaf k a c t is s few = agrees_constant s false k t (λ y. y ≡ false) refl is
 
--- where the first test is of the condition, wherever it is active
-pub tested_first : (k c : ℕ) (off on : Guard) (wanted : ℕ) (t : TreeState Bool) → c ≡ wanted → IsActiveTree k (Test c off on) t → IsTestedOn k (Test c off on) wanted t
-tested_first k c off on wanted t same acts s few =
-    subst (λ (b : Bool). Tells s (values_known s (way (Test c off on) s.values)) (b && is_active (outcome_at (Test c off on) s.values)) t) (sym found) (acts s few)
+-- where the first test is of the condition, everywhere
+pub tested_first : (k c : ℕ) (off on : Guard) (wanted : ℕ) (t : TreeState Bool) → c ≡ wanted → IsConstant true k t → IsTestedOn k (Test c off on) wanted t
+tested_first k c off on wanted t same always s few =
+    agrees_weaker s t [] (values_known s (way (Test c off on) s.values)) (λ y. y ≡ is_tested (Test c off on) s.values wanted) (λ y. y ≡ is_tested (Test c off on) s.values wanted) (λ l j. absurd (Contains-nil l j)) (λ y e. e)
+    (agrees_constant s true k t (λ y. y ≡ is_tested (Test c off on) s.values wanted) (sym found) always)
   where
     found : list_any (λ d. d == wanted) (way (Test c off on) s.values) ≡ true
     found = ap (λ (b : Bool). b || list_any (λ d. d == wanted) (if get_or s.values c false then way on s.values else way off s.values)) (eq-eqb c wanted same)
@@ -27,19 +27,18 @@ pub tested_further : (k c : ℕ) (off on : Guard) (wanted : ℕ) (f y t : TreeSt
 tested_further k c off on wanted f y t other of_off of_on picks s few = go (get_or s.values c false) refl
   where
     go : (d : Bool) → get_or s.values c false ≡ d →
-        Tells s (values_known s (c ∷ (if d then way on s.values else way off s.values))) (list_any (λ e. e == wanted) (c ∷ (if d then way on s.values else way off s.values)) && is_active (if d then outcome_at on s.values else outcome_at off s.values)) t
-    go true e = subst (λ (b : Bool). Tells s (values_known s (c ∷ way on s.values)) ((b || list_any (λ e. e == wanted) (way on s.values)) && is_active (outcome_at on s.values)) t) (sym (ne_eqb c wanted other))
+        Tells s (values_known s (c ∷ (if d then way on s.values else way off s.values))) (list_any (λ e. e == wanted) (c ∷ (if d then way on s.values else way off s.values))) t
+    go true e = subst (λ (b : Bool). Tells s (values_known s (c ∷ way on s.values)) (b || list_any (λ e. e == wanted) (way on s.values)) t) (sym (ne_eqb c wanted other))
         (picks s few (values_known s (way on s.values)) (is_tested on s.values wanted) (subst (λ (d : Bool). Tells s (values_known s (way on s.values)) (is_tested on s.values wanted) (if d then y else f)) (sym e) (of_on s few)))
-    go false e = subst (λ (b : Bool). Tells s (values_known s (c ∷ way off s.values)) ((b || list_any (λ e. e == wanted) (way off s.values)) && is_active (outcome_at off s.values)) t) (sym (ne_eqb c wanted other))
+    go false e = subst (λ (b : Bool). Tells s (values_known s (c ∷ way off s.values)) (b || list_any (λ e. e == wanted) (way off s.values)) t) (sym (ne_eqb c wanted other))
         (picks s few (values_known s (way off s.values)) (is_tested off s.values wanted) (subst (λ (d : Bool). Tells s (values_known s (way off s.values)) (is_tested off s.values wanted) (if d then y else f)) (sym e) (of_off s few)))
 
--- ---- what is tested is on the way of an active process
+-- ---- what is tested is on the way
 
-pub tested_parts : (guard : Guard) (o : List Bool) (c : ℕ) → is_tested guard o c ≡ true → Contains (way guard o) c × (is_active (outcome_at guard o) ≡ true)
+pub tested_parts : (guard : Guard) (o : List Bool) (c : ℕ) → is_tested guard o c ≡ true → Contains (way guard o) c
 tested_parts guard o c is =
-    let both = and_parts (list_any (λ d. d == c) (way guard o)) (is_active (outcome_at guard o)) is in
-    let found = list_any_parts (λ d. d == c) (way guard o) both.0 in
-    (subst (Contains (way guard o)) (eqb-true found.0 c found.2) found.1, both.1)
+    let found = list_any_parts (λ d. d == c) (way guard o) is in
+    subst (Contains (way guard o)) (eqb-true found.0 c found.2) found.1
 
-pub tested_from : (guard : Guard) (o : List Bool) (c : ℕ) → Contains (way guard o) c → is_active (outcome_at guard o) ≡ true → is_tested guard o c ≡ true
-tested_from guard o c there on = and_from (list_any (λ d. d == c) (way guard o)) (is_active (outcome_at guard o)) (list_any_true (λ d. d == c) (way guard o) c there (eq-eqb c c refl)) on
+pub tested_from : (guard : Guard) (o : List Bool) (c : ℕ) → Contains (way guard o) c → is_tested guard o c ≡ true
+tested_from guard o c there = list_any_true (λ d. d == c) (way guard o) c there (eq-eqb c c refl)

@@ -1,9 +1,12 @@
 -- What is found of a process before it sends.
 use Rattle.std.specs.Prelude.{ℕ, ◌≡◌, ◌⊎◌, Bool, true, false, List, Option, slice_set}
 use Rattle.cpg_base.specs.Graph.{Graph, process_at, node_of, inputs, is_frozen}
+use Rattle.cpg_base.specs.Order.{place}
 use Rattle.cpg_order.specs.Guard.{Guard}
+use Rattle.cpg_rules.specs.Guards.{Guards, tree_of}
 use Rattle.cpg_tree.specs.Tree.{TreeState}
 use Rattle.cpg_expand.specs.Agreeing.{IsTree}
+use Rattle.cpg_expand.specs.Earlier.{IsCut}
 use Rattle.cpg_expand.specs.Ending.{IsEndTree, IsReadyAfter, goes_on}
 use Rattle.cpg_expand.specs.Forest.{ForestState}
 use Rattle.cpg_expand.specs.Freezing.{IsFrozenBy}
@@ -37,20 +40,22 @@ abbrev pub thawed_start : Graph → ℕ → ForestState → Guard → TreeState 
 thawed_start g p f guard chooser start = IsThawedStart g p f guard start
 
 -- at the latest time of all
-pub record IsFrozenStart (g : Graph) (p : ℕ) (f : ForestState) (guard : Guard) (before after : List (Option ℕ)) (chooser : TreeState Bool) (start : TreeState (Option ℕ)) : Type 0 where
+pub record IsFrozenStart (g : Graph) (order : List ℕ) (guards : Guards) (p : ℕ) (f : ForestState) (before after : List (Option ℕ)) (chooser : TreeState Bool) (start : TreeState (Option ℕ)) : Type 0 where
+  pub from : ℕ
+  pub cut : IsCut g order guards (node_of g p) (place order p) from
   pub latest : Option ℕ
-  pub top : IsLatestStart g f (node_of g p) guard (process_at g p).release (inputs g p) chooser latest
+  pub top : IsLatestStart g order guards f (node_of g p) from (place order p) (process_at g p).release (inputs g p) chooser latest
   pub frozen : IsFrozenBy p latest chooser before after start
 
-abbrev pub any_start : Graph → ℕ → ForestState → Guard → List (Option ℕ) → List (Option ℕ) → TreeState Bool → TreeState (Option ℕ) → Type 0
-any_start g p f guard before after chooser start =
-    ((is_frozen g p ≡ false) × (after ≡ before) × thawed_start g p f guard chooser start) ⊎ ((is_frozen g p ≡ true) × IsFrozenStart g p f guard before after chooser start)
+abbrev pub any_start : Graph → List ℕ → Guards → ℕ → ForestState → List (Option ℕ) → List (Option ℕ) → TreeState Bool → TreeState (Option ℕ) → Type 0
+any_start g order guards p f before after chooser start =
+    ((is_frozen g p ≡ false) × (after ≡ before) × thawed_start g p f (tree_of guards p) chooser start) ⊎ ((is_frozen g p ≡ true) × IsFrozenStart g order guards p f before after chooser start)
 
 abbrev pub IsBegunThawed : Graph → List ℕ → ℕ → Guard → ForestState → ForestState → TreeState Bool → Type 0
 IsBegunThawed g order p guard old new chooser = IsBegunBy (thawed_start g p old guard) g order p guard old new chooser
 
-abbrev pub IsBegunFrozen : Graph → List ℕ → ℕ → Guard → ForestState → ForestState → List (Option ℕ) → List (Option ℕ) → TreeState Bool → Type 0
-IsBegunFrozen g order p guard old new before after chooser = IsBegunBy (IsFrozenStart g p old guard before after) g order p guard old new chooser
+abbrev pub IsBegunFrozen : Graph → List ℕ → Guards → ℕ → ForestState → ForestState → List (Option ℕ) → List (Option ℕ) → TreeState Bool → Type 0
+IsBegunFrozen g order guards p old new before after chooser = IsBegunBy (IsFrozenStart g order guards p old before after) g order p (tree_of guards p) old new chooser
 
-abbrev pub IsBegun : Graph → List ℕ → ℕ → Guard → ForestState → ForestState → List (Option ℕ) → List (Option ℕ) → TreeState Bool → Type 0
-IsBegun g order p guard old new before after chooser = IsBegunBy (any_start g p old guard before after) g order p guard old new chooser
+abbrev pub IsBegun : Graph → List ℕ → Guards → ℕ → ForestState → ForestState → List (Option ℕ) → List (Option ℕ) → TreeState Bool → Type 0
+IsBegun g order guards p old new before after chooser = IsBegunBy (any_start g order guards p old before after) g order p (tree_of guards p) old new chooser

@@ -1,5 +1,5 @@
 -- Trees down guards.
-use Rattle.std.specs.Prelude.{ℕ, ◌<◌, ◌≤◌, ◌≡◌, ◌==◌, ◌&&◌, max, Bool, false, List, [], ◌∷◌, ◌++◌, Option, Some, None, map, if◌then◌else◌, Contains, get_or}
+use Rattle.std.specs.Prelude.{ℕ, ◌<◌, ◌≤◌, ◌≡◌, ◌==◌, max, Bool, false, List, [], ◌∷◌, ◌++◌, Option, Some, None, map, if◌then◌else◌, Contains, get_or}
 use Rattle.std.specs.List.{flat_map, list_any}
 use Rattle.cpg_base.specs.Numbers.{greatest}
 use Rattle.cpg_base.specs.Graph.{Graph, is_message, value_variable}
@@ -32,9 +32,9 @@ PicksByValue {T} k c high low t = (s : Scenario) → HasFew k s → (literals : 
 abbrev pub IsActiveTree : ℕ → Guard → TreeState Bool → Type 0
 IsActiveTree k guard t = (s : Scenario) → HasFew k s → Tells s (values_known s (way guard s.values)) (is_active (outcome_at guard s.values)) t
 
--- whether a guard tests a condition on the way to being active
+-- whether a guard tests a condition on an outcome's way
 abbrev pub is_tested : Guard → List Bool → ℕ → Bool
-is_tested guard o c = list_any (λ d. d == c) (way guard o) && is_active (outcome_at guard o)
+is_tested guard o c = list_any (λ d. d == c) (way guard o)
 
 -- where it does
 abbrev pub IsTestedOn : ℕ → Guard → ℕ → TreeState Bool → Type 0

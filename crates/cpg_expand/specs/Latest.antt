@@ -1,18 +1,17 @@
 -- The latest time that a frozen item would have, by each thing that it waits for alone.
-use Rattle.std.specs.Prelude.{ℕ, ◌≡◌, ◌≤◌, ◌<◌, ◌⊎◌, max, Bool, true, List, [], Option, Some, None, Contains}
-use Rattle.cpg_base.specs.Graph.{Graph, condition_count, is_message}
+use Rattle.std.specs.Prelude.{ℕ, ◌+◌, ◌≡◌, ◌≤◌, ◌<◌, ◌⊎◌, max, Bool, true, List, Option, Some, None, Contains}
+use Rattle.cpg_base.specs.Graph.{Graph, condition_count, process_count, is_message}
 use Rattle.cpg_base.specs.Scenario.{Scenario, IsScenario}
 use Rattle.cpg_bus.specs.Share.{ShareState}
-use Rattle.cpg_order.specs.Guard.{Guard}
+use Rattle.cpg_rules.specs.Guards.{Guards}
 use Rattle.cpg_tree.specs.Greatest.{HasValue}
 use Rattle.cpg_tree.specs.Meeting.{HasWhere}
-use Rattle.cpg_tree.specs.Tree.{TreeState, IsMap}
+use Rattle.cpg_tree.specs.Tree.{TreeState, HasOnePathEach, IsConstant, IsMap}
 use Rattle.cpg_expand.specs.Agreeing.{IsTree}
-use Rattle.cpg_expand.specs.Forest.{ForestState, heard_tree, heard_delay, input_tree, input_delay}
-use Rattle.cpg_expand.specs.Guarded.{IsStartAfter, is_tested}
+use Rattle.cpg_expand.specs.Earlier.{IsBetween, IsAskedOf}
+use Rattle.cpg_expand.specs.Forest.{ForestState, ends_of, heard_tree, heard_delay, input_tree, input_delay}
 use Rattle.cpg_expand.specs.Tops.{IsTop, IsTopAt}
 use Rattle.cpg_expand.specs.Values.{slot_at, time_later}
-use Rattle.cpg_expand.specs.Waiting.{ready_of}
 
 -- ---- starts
 
@@ -27,18 +26,30 @@ pub record HasLater (tree : TreeState (Option ℕ)) (wanted : TreeState Bool) (d
   pub has : HasWhere tree wanted time s
   pub is : n ≡ time_later delay (Some time)
 
--- in a scenario in which a process is active and its guard tests a condition a node has heard it
-pub record HasHeard (g : Graph) (f : ForestState) (node : ℕ) (guard : Guard) (c n : ℕ) (s : Scenario) : Type 0 where
-  pub tested : is_tested guard s.values c ≡ true
+-- in a scenario in which a process is active one of a node between two places has ended
+pub record HasEnded (g : Graph) (order : List ℕ) (f : ForestState) (active : TreeState Bool) (node from to q n : ℕ) (s : Scenario) : Type 0 where
+  pub between : IsBetween g order node from to q
+  pub there : HasLater (ends_of g f q) active 0 n s
+
+-- one of the first k processes has
+pub record HasEndedOf (g : Graph) (order : List ℕ) (f : ForestState) (active : TreeState Bool) (node from to k n : ℕ) (s : Scenario) : Type 0 where
+  pub process : ℕ
+  pub below : process < k
+  pub there : HasEnded g order f active node from to process n s
+
+-- in a scenario in which a process is active a node has heard a condition that a guard of one of its processes between two places tests
+pub record HasHeard (g : Graph) (order : List ℕ) (guards : Guards) (f : ForestState) (active : TreeState Bool) (node from to c n : ℕ) (s : Scenario) : Type 0 where
+  pub asked : IsAskedOf g order guards node from to c (process_count g) s.values
+  pub acts : HasValue active.paths true s
   pub time : ℕ
   pub has : HasValue (heard_tree g f node c).paths (Some time) s
   pub is : n ≡ time_later (heard_delay g node c) (Some time)
 
--- one of the first k conditions is
-pub record HasHeardOf (g : Graph) (f : ForestState) (node : ℕ) (guard : Guard) (k n : ℕ) (s : Scenario) : Type 0 where
+-- one of the first k conditions
+pub record HasHeardOf (g : Graph) (order : List ℕ) (guards : Guards) (f : ForestState) (active : TreeState Bool) (node from to k n : ℕ) (s : Scenario) : Type 0 where
   pub condition : ℕ
   pub below : condition < k
-  pub there : HasHeard g f node guard condition n s
+  pub there : HasHeard g order guards f active node from to condition n s
 
 -- in a scenario in which a process is active an input from another node is there
 pub record HasInput (g : Graph) (f : ForestState) (active : TreeState Bool) (e n : ℕ) (s : Scenario) : Type 0 where
@@ -59,25 +70,28 @@ pub record IsRaised (g : Graph) (has : ℕ → Scenario → Type 0) (old new : �
   pub above : (n : ℕ) (s : Scenario) → IsScenario g s → has n s → n ≤ new
   pub found : (new ≡ old) ⊎ ((s : Scenario) × IsScenario g s × has new s)
 
--- the greatest of when the node is ready, of when it has heard each condition and of when each input is there
-pub record IsLatestAt (g : Graph) (f : ForestState) (ready : TreeState (Option ℕ)) (node : ℕ) (guard : Guard) (edges : List ℕ) (active : TreeState Bool) (latest : ℕ) : Type 0 where
+-- the greatest of a release, of when each process before the place i has ended, of when the node has heard each condition that such a
+-- one or the process itself tests, and of when each input is there
+pub record IsLatestAt (g : Graph) (order : List ℕ) (guards : Guards) (f : ForestState) (node from i : ℕ) (ready : TreeState (Option ℕ)) (edges : List ℕ) (active : TreeState Bool) (latest : ℕ) : Type 0 where
   pub first : ℕ
   pub top : IsTopAt g (HasWhere ready active) first
+  pub ended : ℕ
+  pub ends : IsRaised g (HasEndedOf g order f active node from i (process_count g)) first ended
   pub heard : ℕ
-  pub hears : IsRaised g (HasHeardOf g f node guard (condition_count g)) first heard
+  pub hears : IsRaised g (HasHeardOf g order guards f active node from (i + 1) (condition_count g)) ended heard
   pub raised : IsRaised g (HasInputOf g f active edges) heard latest
 
 -- none where the process is never active
-abbrev pub IsLatestOf : Graph → ForestState → TreeState (Option ℕ) → ℕ → Guard → List ℕ → TreeState Bool → Option ℕ → Type 0
-IsLatestOf g f ready node guard edges active None = IsTop g (HasWhere ready active) None
-IsLatestOf g f ready node guard edges active (Some latest) = IsLatestAt g f ready node guard edges active latest
+abbrev pub IsLatestOf : Graph → List ℕ → Guards → ForestState → ℕ → ℕ → ℕ → TreeState (Option ℕ) → List ℕ → TreeState Bool → Option ℕ → Type 0
+IsLatestOf g order guards f node from i ready edges active None = IsTop g (HasWhere ready active) None
+IsLatestOf g order guards f node from i ready edges active (Some latest) = IsLatestAt g order guards f node from i ready edges active latest
 
--- where the node is ready and at a release
-pub record IsLatestStart (g : Graph) (f : ForestState) (node : ℕ) (guard : Guard) (release : ℕ) (edges : List ℕ) (active : TreeState Bool) (latest : Option ℕ) : Type 0 where
+-- by a tree of a release
+pub record IsLatestStart (g : Graph) (order : List ℕ) (guards : Guards) (f : ForestState) (node from i release : ℕ) (edges : List ℕ) (active : TreeState Bool) (latest : Option ℕ) : Type 0 where
   pub ready : TreeState (Option ℕ)
-  pub of : IsTree g ready
-  pub after : IsStartAfter g f (ready_of g f node) release [] ready
-  pub is : IsLatestOf g f ready node guard edges active latest
+  pub each : HasOnePathEach g.faults ready.paths
+  pub at : IsConstant (Some release) g.faults ready
+  pub is : IsLatestOf g order guards f node from i ready edges active latest
 
 -- ---- sends
 

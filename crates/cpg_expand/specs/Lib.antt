@@ -3,6 +3,7 @@ pub mod TreeRows
 pub mod Values
 pub mod Forest
 pub mod Guarded
+pub mod Earlier
 pub mod Descent
 pub mod Later
 pub mod Ending

@@ -10,6 +10,7 @@ ghost use Rattle.cpg_expand.specs.Grown.{IsGrownBy};
 ghost use Rattle.cpg_expand.specs.Waited.{IsReadyIfWaited};
 ghost use Rattle.cpg_rules.specs.Guards.{tree_of};
 
+use crate::earlier::span_before;
 use crate::ending::{end, ready};
 use crate::forest::{Forest, Ready};
 use crate::guarded::active;
@@ -155,14 +156,15 @@ fn begin_frozen(
     requires forest { HasTrees admitted.now.graph forest.old }
     ensures trees { IfOk result (λ active. HasTrees admitted.now.graph forest.new) }
     ensures count { IfOk result (λ active. length frozen.new ≡ item_count admitted.now.graph) }
-    ensures begun { IfOk result (IsBegunFrozen admitted.now.graph order.now process (tree_of admitted.now.guards process) forest.old forest.new frozen.old frozen.new) }
+    ensures begun { IfOk result (IsBegunFrozen admitted.now.graph order.now admitted.now.guards process forest.old forest.new frozen.old frozen.new) }
 {
     let problem = admitted.problem();
-    let guard = admitted.guards().guard_of(process);
+    let guards = admitted.guards();
     let node = problem.node_of(process);
     let inputs = plan.inputs(problem, process);
-    let active = active(alloc, problem, guard)?;
-    let latest = latest_start(alloc, problem, forest, guard, inputs, &active, process)?;
+    let active = active(alloc, problem, guards.guard_of(process))?;
+    let span = span_before(problem, guards, order, node, order.place(process));
+    let latest = latest_start(alloc, &span, forest, inputs, &active, process)?;
     let start = freeze(problem, frozen, process, &active, latest)?;
     let end = end(alloc, problem, &start, process)?;
     let ready = ready_after(alloc, admitted, order, forest, &active, &end, process)?;
@@ -187,7 +189,7 @@ fn begin(
     requires forest { HasTrees admitted.now.graph forest.old }
     ensures trees { IfOk result (λ active. HasTrees admitted.now.graph forest.new) }
     ensures count { IfOk result (λ active. length frozen.new ≡ item_count admitted.now.graph) }
-    ensures begun { IfOk result (IsBegun admitted.now.graph order.now process (tree_of admitted.now.guards process) forest.old forest.new frozen.old frozen.new) }
+    ensures begun { IfOk result (IsBegun admitted.now.graph order.now admitted.now.guards process forest.old forest.new frozen.old frozen.new) }
 {
     if admitted.problem().is_frozen(process) {
         let active = begin_frozen(alloc, admitted, plan, order, frozen, forest, process)?;

@@ -59,7 +59,7 @@ pub(crate) fn active(
     }
 }
 
-/// Where a guard tests a condition on the way to being active.
+/// Where a guard tests a condition.
 pub(crate) fn tested_on(
     alloc: Global,
     problem: &Problem,
@@ -78,8 +78,8 @@ pub(crate) fn tested_on(
         }
         GuardTop::Test { condition, no, yes } => {
             if condition == wanted {
-                let here = active(alloc, problem, guard)?;
-                return Ok(here);
+                let always = Tree::constant(alloc, true, problem.faults())?;
+                return Ok(always);
             }
             let no = tested_on(alloc, problem, no, wanted)?;
             let yes = tested_on(alloc, problem, yes, wanted)?;

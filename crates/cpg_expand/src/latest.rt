@@ -1,21 +1,21 @@
 //! The latest time that a frozen item would have, by each thing that it waits for alone: a tree of all of them together may be
 //! far wider than the item's row.
-ghost use Rattle.std.specs.Prelude.{◌≡◌, ◌<◌, ◌≤◌, All, IfOk, length, true};
+ghost use Rattle.std.specs.Prelude.{◌≡◌, ◌<◌, ◌≤◌, All, IfOk};
 ghost use Rattle.cpg_base.specs.Bus.{slot_length};
-ghost use Rattle.cpg_base.specs.Graph.{condition_count, edge_count, home, item_count, node_of, process_at, process_count};
+ghost use Rattle.cpg_base.specs.Graph.{condition_count, edge_count, home, item_count, process_at, process_count};
+ghost use Rattle.cpg_base.specs.Order.{place};
+ghost use Rattle.cpg_expand.specs.Earlier.{AreAlong, IsBothTree};
 ghost use Rattle.cpg_expand.specs.Agreeing.{IsTree};
 ghost use Rattle.cpg_expand.specs.Forest.{HasTrees, ends_of, heard_delay, heard_tree, times_of};
-ghost use Rattle.cpg_expand.specs.Latest.{HasHeardOf, HasInput, HasInputOf, HasLater, IsLatestSend, IsLatestSlot, IsLatestStart, IsRaised, or_later};
+ghost use Rattle.cpg_expand.specs.Latest.{HasEnded, HasEndedOf, HasHeardOf, HasInput, HasInputOf, HasLater, IsLatestSend, IsLatestSlot, IsLatestStart, IsRaised, or_later};
 ghost use Rattle.cpg_expand.specs.Tops.{IsTop};
-ghost use Rattle.cpg_rules.specs.Trees.{TestsBelow};
 ghost use Rattle.cpg_tree.specs.Meeting.{HasWhere};
 
+use crate::earlier::{Span, asked, stands_between};
 use crate::forest::Forest;
-use crate::guarded::tested_on;
 use crate::values::{slot_at, started};
 use cpg_base::{OutOfMemory, Problem};
 use cpg_bus::Share;
-use cpg_rules::GuardTree;
 use cpg_tree::{Tree, time_later};
 use std::alloc::Global;
 
@@ -100,24 +100,80 @@ fn after_condition(
     )
 }
 
-/// A time, or when a node has heard at the latest what a guard tests on the way to being active, whichever is greater.
-fn after_guard(
-    alloc: Global,
-    problem: &Problem,
+/// A time, or when a process has ended at the latest where a tree is true, whichever is greater, if it is one of a span before a
+/// place.
+fn after_one(
+    span: &Span<'_>,
     forest: &Forest,
-    node: u32,
-    guard: &GuardTree,
-    first: u64,
-) -> Result<u64, OutOfMemory>
-    requires few { condition_count problem.now ≤ 32 }
-    requires forest { HasTrees problem.now forest.now }
-    requires tests { TestsBelow (condition_count problem.now) guard.now }
-    ensures { IfOk result (IsRaised problem.now (HasHeardOf problem.now forest.now node guard.now (condition_count problem.now)) first) }
+    active: &Tree<bool>,
+    to: u32,
+    other: u32,
+    latest: u64,
+) -> u64
+    requires along { AreAlong span.now.problem.now span.now.guards.now span.now.order.now }
+    requires forest { HasTrees span.now.problem.now forest.now }
+    requires active { IsTree span.now.problem.now active.now }
+    requires other { other < process_count span.now.problem.now }
+    ensures { IsRaised span.now.problem.now (HasEnded span.now.problem.now span.now.order.now forest.now active.now span.now.node span.now.from to other) latest result }
+{
+    if !stands_between(span, span.from, to, other) {
+        return latest;
+    }
+    after_end(span.problem, forest, other, active, latest)
+}
+
+/// A time, or when the last of the processes of a span before a place has ended at the latest, whichever is greater.
+fn after_ends(span: &Span<'_>, forest: &Forest, active: &Tree<bool>, to: u32, first: u64) -> u64
+    requires along { AreAlong span.now.problem.now span.now.guards.now span.now.order.now }
+    requires forest { HasTrees span.now.problem.now forest.now }
+    requires active { IsTree span.now.problem.now active.now }
+    ensures { IsRaised span.now.problem.now (HasEndedOf span.now.problem.now span.now.order.now forest.now active.now span.now.node span.now.from to (process_count span.now.problem.now)) first result }
 {
     let mut latest = first;
+    for other in 0..span.problem.processes().len() as u32 {
+        latest = after_one(span, forest, active, to, other, latest);
+    }
+    latest
+}
+
+/// Where two trees are true.
+fn both(
+    alloc: Global,
+    problem: &Problem,
+    first: &Tree<bool>,
+    second: &Tree<bool>,
+) -> Result<Tree<bool>, OutOfMemory>
+    requires first { IsTree problem.now first.now }
+    requires second { IsTree problem.now second.now }
+    ensures tree { IfOk result (IsTree problem.now) }
+    ensures both { IfOk result (IsBothTree problem.now.faults first.now second.now) }
+{
+    let never = Tree::constant(alloc, false, problem.faults())?;
+    let both = Tree::pick(first, second, &never)?;
+    Ok(both)
+}
+
+/// A time, or when a node has heard at the latest what a guard of a span tests, before a place and where a tree is true,
+/// whichever is greater.
+fn after_hearing(
+    alloc: Global,
+    span: &Span<'_>,
+    forest: &Forest,
+    active: &Tree<bool>,
+    to: u32,
+    first: u64,
+) -> Result<u64, OutOfMemory>
+    requires along { AreAlong span.now.problem.now span.now.guards.now span.now.order.now }
+    requires forest { HasTrees span.now.problem.now forest.now }
+    requires active { IsTree span.now.problem.now active.now }
+    ensures { IfOk result (IsRaised span.now.problem.now (HasHeardOf span.now.problem.now span.now.order.now span.now.guards.now forest.now active.now span.now.node span.now.from to (condition_count span.now.problem.now)) first) }
+{
+    let problem = span.problem;
+    let mut latest = first;
     for condition in 0..problem.conditions() {
-        let wanted = tested_on(alloc, problem, guard, condition)?;
-        latest = after_condition(problem, forest, node, condition, &wanted, latest);
+        let asked = asked(alloc, span, to, condition)?;
+        let wanted = both(alloc, problem, &asked, active)?;
+        latest = after_condition(problem, forest, span.node, condition, &wanted, latest);
     }
     Ok(latest)
 }
@@ -162,35 +218,31 @@ fn after_inputs(
     latest
 }
 
-/// The latest start of a process that waits until its node is ready and has heard what its guard tests, its release and for
-/// these inputs; `None` exactly where it is never active.
+/// The latest start of a process that waits until those before it on its node have ended and the node has heard what their
+/// guards test and its own, its release and for these inputs; `None` exactly where it is never active.
 pub(crate) fn latest_start(
     alloc: Global,
-    problem: &Problem,
+    span: &Span<'_>,
     forest: &Forest,
-    guard: &GuardTree,
     edges: &[u32],
     active: &Tree<bool>,
     process: u32,
 ) -> Result<Option<u64>, OutOfMemory>
-    requires few { condition_count problem.now ≤ 32 }
-    requires forest { HasTrees problem.now forest.now }
-    requires tests { TestsBelow (condition_count problem.now) guard.now }
-    requires edges { All (λ e. e < edge_count problem.now) edges.now }
-    requires active { IsTree problem.now active.now }
-    requires process { process < process_count problem.now }
-    ensures { IfOk result (IsLatestStart problem.now forest.now (node_of problem.now process) guard.now (process_at problem.now process).release edges.now active.now) }
+    requires along { AreAlong span.now.problem.now span.now.guards.now span.now.order.now }
+    requires forest { HasTrees span.now.problem.now forest.now }
+    requires edges { All (λ e. e < edge_count span.now.problem.now) edges.now }
+    requires active { IsTree span.now.problem.now active.now }
+    requires process { process < process_count span.now.problem.now }
+    ensures { IfOk result (IsLatestStart span.now.problem.now span.now.order.now span.now.guards.now forest.now span.now.node span.now.from (place span.now.order.now process) (process_at span.now.problem.now process).release edges.now active.now) }
 {
-    let node = problem.node_of(process);
-    let ready = forest.started(
-        problem,
-        &forest.ready[node as usize],
-        problem.release(process),
-    )?;
+    let problem = span.problem;
+    let at = span.order.place(process);
+    let ready = Tree::constant(alloc, Some(problem.release(process)), problem.faults())?;
     let Some(first) = most_where(problem, &ready, active) else {
         return Ok(None);
     };
-    let heard = after_guard(alloc, problem, forest, node, guard, first)?;
+    let ended = after_ends(span, forest, active, at, first);
+    let heard = after_hearing(alloc, span, forest, active, at + 1, ended)?;
     Ok(Some(after_inputs(problem, forest, active, edges, heard)))
 }
 

@@ -6,6 +6,7 @@
 mod activity;
 mod along;
 mod descent;
+mod earlier;
 mod ending;
 mod expanding;
 mod forest;

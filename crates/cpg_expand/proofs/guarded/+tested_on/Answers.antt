@@ -1,15 +1,16 @@
-use Rattle.std.proofs.Common.{subst, sym}
+use Rattle.std.proofs.Common.{true, subst, sym}
+use Rattle.cpg_tree.specs.Tree.{IsConstant}
 use Rattle.cpg_order.specs.Guard.{Guard}
-use Rattle.cpg_expand.specs.Guarded.{IsActiveTree, IsTestedOn}
+use Rattle.cpg_expand.specs.Guarded.{IsTestedOn}
 use Rattle.cpg_expand.proofs.TestedTrees.{tested_first, tested_further}
 use Rattle.cpg_expand.proofs.guarded.+tested_on.Goals as goal
 
 pub returns-then-condition-wanted-clause-tested : goal.returns-then-condition-wanted-clause-tested
 returns-then-condition-wanted-clause-tested t c =
     let k = c.args.problem.now.faults in
-    subst (λ (guard : Guard). IsTestedOn k guard c.args.wanted c.in_ok-here-in-Test.here) (sym c.in-Test.ensures)
-    (tested_first k c.in-Test.condition c.in-Test.no.now c.in-Test.yes.now c.args.wanted c.in_ok-here-in-Test.here c.if-condition-wanted.true
-    (subst (λ (guard : Guard). IsActiveTree k guard c.in_ok-here-in-Test.here) c.in-Test.ensures c.in_ok-here-in-Test.ensures.active))
+    subst (λ (guard : Guard). IsTestedOn k guard c.args.wanted c.in_ok-always-in-Test.always) (sym c.in-Test.ensures)
+    (tested_first k c.in-Test.condition c.in-Test.no.now c.in-Test.yes.now c.args.wanted c.in_ok-always-in-Test.always c.if-condition-wanted.true
+    (subst (λ n. IsConstant true n c.in_ok-always-in-Test.always) c.faults-then-condition-wanted.ensures.faults c.in_ok-always-in-Test.ensures.is))
 
 pub returns-in_ok-picked-in-Test-clause-tested : goal.returns-in_ok-picked-in-Test-clause-tested
 returns-in_ok-picked-in-Test-clause-tested t c =

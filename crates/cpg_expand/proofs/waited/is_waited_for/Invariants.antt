@@ -1,7 +1,7 @@
-use Rattle.std.specs.Prelude.{ℕ, ◌≡◌, ◌<◌}
-use Rattle.cpg_base.specs.Graph.{node_of}
+use Rattle.std.specs.Prelude.{ℕ, ◌≡◌, ◌<◌, false}
+use Rattle.cpg_base.specs.Graph.{node_of, is_frozen}
 use Rattle.cpg_base.specs.Order.{place}
 use Rattle.cpg_expand.proofs.waited.is_waited_for.Given as goal
 
 abbrev pub invariant-loop-other : goal.invariant-loop-other
-invariant-loop-other l = (q : ℕ) → q < l.other → node_of l.problem q ≡ l.node → l.at < place l.order q → ⊥
+invariant-loop-other l = (q : ℕ) → q < l.other → node_of l.problem q ≡ l.node → l.at < place l.order q → is_frozen l.problem q ≡ false → ⊥

@@ -1,0 +1,151 @@
+//! The processes that stand before one on its node, and what their guards test.
+ghost use Rattle.std.specs.Prelude.{◌+◌, ◌≡◌, ◌==◌, ◌&&◌, ◌<◌, ◌≤◌, IfOk, length, nat_le, nat_lt};
+ghost use Rattle.cpg_base.specs.Graph.{condition_count, node_of, process_count};
+ghost use Rattle.cpg_base.specs.Order.{place};
+ghost use Rattle.cpg_expand.specs.Agreeing.{IsTree};
+ghost use Rattle.cpg_expand.specs.Earlier.{AreAlong, IsAskedTree, IsCut, is_always};
+
+use crate::guarded::tested_on;
+use cpg_base::{Order, OutOfMemory, Problem};
+use cpg_rules::{GuardTop, GuardTree, GuardTrees};
+use cpg_tree::Tree;
+use std::alloc::Global;
+
+/// The processes of a node from a place of an order on, with the guards of the graph.
+#[derive(Clone, Copy)]
+pub(crate) struct Span<'a> {
+    pub(crate) problem: &'a Problem,
+    pub(crate) guards: &'a GuardTrees,
+    pub(crate) order: &'a Order,
+    pub(crate) node: u32,
+    pub(crate) from: u32,
+}
+
+/// Whether a process is on the node of a span, and stands from a place on and before another one.
+pub(crate) fn stands_between(span: &Span<'_>, from: u32, to: u32, other: u32) -> bool
+    requires other { other < process_count span.now.problem.now }
+    requires order { length span.now.order.now ≡ process_count span.now.problem.now }
+    ensures { result ≡ (node_of span.now.problem.now other == span.now.node && (nat_le from (place span.now.order.now other) && nat_lt (place span.now.order.now other) to)) }
+{
+    let at = span.order.place(other);
+    span.problem.node_of(other) == span.node && (from <= at && at < to)
+}
+
+/// Whether a guard comes to being active on each way.
+fn is_always(guard: &GuardTree) -> bool
+    ensures { result ≡ is_always guard.now }
+{
+    match guard.top() {
+        GuardTop::Leaf(activation) => activation.is_active(),
+        GuardTop::Test {
+            condition: _,
+            no,
+            yes,
+        } => is_always(no) && is_always(yes),
+    }
+}
+
+/// The place of a process that is always active, if it is one from a place on and before another one, or else the first of these.
+fn later_cut(span: &Span<'_>, from: u32, to: u32, other: u32) -> u32
+    requires along { AreAlong span.now.problem.now span.now.guards.now span.now.order.now }
+    requires other { other < process_count span.now.problem.now }
+    ensures { IsCut span.now.problem.now span.now.order.now span.now.guards.now span.now.node to from → IsCut span.now.problem.now span.now.order.now span.now.guards.now span.now.node to result }
+{
+    if !stands_between(span, from, to, other) {
+        return from;
+    }
+    if !is_always(span.guards.guard_of(other)) {
+        return from;
+    }
+    span.order.place(other)
+}
+
+/// The place before another one from which on the processes of a node need be looked at.
+fn cut(span: &Span<'_>, to: u32) -> u32
+    requires along { AreAlong span.now.problem.now span.now.guards.now span.now.order.now }
+    ensures { IsCut span.now.problem.now span.now.order.now span.now.guards.now span.now.node to result }
+{
+    let mut from = 0;
+    for other in 0..span.problem.processes().len() as u32 {
+        from = later_cut(span, from, to, other);
+    }
+    from
+}
+
+/// The processes of a node that need be looked at before a place.
+pub(crate) fn span_before<'a>(
+    problem: &'a Problem,
+    guards: &'a GuardTrees,
+    order: &'a Order,
+    node: u32,
+    to: u32,
+) -> Span<'a>
+    requires along { AreAlong problem.now guards.now order.now }
+    ensures problem { result.problem.now ≡ problem.now }
+    ensures guards { result.guards.now ≡ guards.now }
+    ensures order { result.order.now ≡ order.now }
+    ensures node { result.node ≡ node }
+    ensures cut { IsCut problem.now order.now guards.now node to result.from }
+{
+    let span = Span {
+        problem,
+        guards,
+        order,
+        node,
+        from: 0,
+    };
+    Span {
+        problem,
+        guards,
+        order,
+        node,
+        from: cut(&span, to),
+    }
+}
+
+/// A tree, or where a process of a span tests a condition too.
+fn or_asked(
+    alloc: Global,
+    span: &Span<'_>,
+    to: u32,
+    condition: u32,
+    other: u32,
+    asked: Tree<bool>,
+) -> Result<Tree<bool>, OutOfMemory>
+    requires along { AreAlong span.now.problem.now span.now.guards.now span.now.order.now }
+    requires other { other < process_count span.now.problem.now }
+    requires tree { IsTree span.now.problem.now asked }
+    requires asked { IsAskedTree span.now.problem.now span.now.order.now span.now.guards.now span.now.node span.now.from to condition other asked }
+    ensures tree { IfOk result (IsTree span.now.problem.now) }
+    ensures asked { IfOk result (IsAskedTree span.now.problem.now span.now.order.now span.now.guards.now span.now.node span.now.from to condition (other + 1)) }
+{
+    if !stands_between(span, span.from, to, other) {
+        return Ok(asked);
+    }
+    let problem = span.problem;
+    let tested = tested_on(alloc, problem, span.guards.guard_of(other), condition)?;
+    let always = Tree::constant(alloc, true, problem.faults())?;
+    let either = Tree::pick(&tested, &always, &asked)?;
+    Ok(either)
+}
+
+/// Where a process of a span before a place tests a condition.
+pub(crate) fn asked(
+    alloc: Global,
+    span: &Span<'_>,
+    to: u32,
+    condition: u32,
+) -> Result<Tree<bool>, OutOfMemory>
+    requires along { AreAlong span.now.problem.now span.now.guards.now span.now.order.now }
+    ensures tree { IfOk result (IsTree span.now.problem.now) }
+    ensures asked { IfOk result (IsAskedTree span.now.problem.now span.now.order.now span.now.guards.now span.now.node span.now.from to condition (process_count span.now.problem.now)) }
+{
+    let mut asked = Tree::constant(alloc, false, span.problem.faults())?;
+    for other in 0..span.problem.processes().len() as u32 {
+        if asked.is_true() {
+            return Ok(asked);
+        }
+        asked = or_asked(alloc, span, to, condition, other, asked)?;
+    }
+    Ok(asked)
+}
