@@ -24,7 +24,6 @@ use cpg_log::Log;
 use cpg_rules::Admitted;
 use cpg_table::Tables;
 use cpg_tree::Space;
-use cpg_violation::columns_of;
 use std::alloc::Global;
 
 /// Whether a log excludes a time of an item, by when the item is logged.
@@ -72,7 +71,7 @@ fn excluded<'a>(
     let ordered = in_log_order(alloc, problem, log)?;
     let mut kept = Vec::new(alloc);
     for timed in ordered.as_slice() {
-        let columns = columns_of(tables, timed.item);
+        let columns = tables.columns_of(timed.item);
         let by = excluded_cubes(alloc, log.until(), log.time_of(timed.item), columns)?;
         let first = kept.len();
         take_off_all(space, by.as_slice(), &mut kept)?;

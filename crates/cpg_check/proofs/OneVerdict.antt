@@ -16,7 +16,7 @@ use Rattle.cpg_cube.specs.Column.{Column}
 use Rattle.cpg_table.specs.Valid.{breaks, breaks_at}
 use Rattle.cpg_table.specs.declared.fault.Fault.{Fault}
 use Rattle.cpg_table.specs.declared.rule.Rule.{Rule}
-use Rattle.cpg_violation.specs.Columns.{row_columns}
+use Rattle.cpg_table.specs.Found.{row_columns}
 use Rattle.cpg_violation.specs.Violation.{AllHold, Holds, IsFirstOf, IsFirstViolation, column_rules}
 use Rattle.cpg_check_rows.specs.Hears.{DifferFirstAt, IsFirstHear, IsFirstHearFault, IsHeardWell, due_columns}
 use Rattle.cpg_violation.specs.Heads.{IsFirstDifference}

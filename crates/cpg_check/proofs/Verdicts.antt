@@ -9,7 +9,7 @@ use Rattle.cpg_table.specs.Table.{NodeTable, table_at, empty_table}
 use Rattle.cpg_cube.specs.Column.{Column}
 use Rattle.cpg_table.specs.Valid.{IsValid, hear_row}
 use Rattle.cpg_table.specs.declared.fault.Fault.{Fault}
-use Rattle.cpg_violation.specs.Columns.{row_columns}
+use Rattle.cpg_table.specs.Found.{row_columns}
 use Rattle.cpg_violation.specs.Heads.{IsFirstDifference, IsHeadFor}
 use Rattle.cpg_violation.specs.Violation.{IsFirstViolation, column_rules}
 use Rattle.cpg_violation.proofs.Violations.{first_broken}

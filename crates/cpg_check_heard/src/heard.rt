@@ -19,7 +19,7 @@ use cpg_base::{OutOfMemory, Scenario};
 use cpg_cube::Entry;
 use cpg_rules::Admitted;
 use cpg_table::{Fault, NodeItems, Rule, Tables};
-use cpg_violation::{Line, columns_of, is_marked};
+use cpg_violation::{Line, is_marked};
 use std::alloc::Global;
 
 /// The first column of an item's row that matches in a scenario in which the item's node hasn't heard one of its literals
@@ -80,7 +80,7 @@ pub fn check_heard(
         if is_marked(marks, item) {
             continue;
         }
-        let columns = columns_of(tables, item);
+        let columns = tables.columns_of(item);
         let unheard = first_unheard(alloc, &hearing, item, columns)?;
         if let Some((column, scenario)) = unheard {
             return Ok(Some(Fault {

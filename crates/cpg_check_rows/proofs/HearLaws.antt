@@ -14,7 +14,7 @@ use Rattle.cpg_head.specs.GraphHead.{head_of}
 use Rattle.cpg_table.specs.Lawful.{AreTablesOf}
 use Rattle.cpg_table.specs.Valid.{hear_row, hear_rows}
 use Rattle.cpg_table.proofs.GraphTables.{suits_graph}
-use Rattle.cpg_violation.specs.Columns.{row_columns}
+use Rattle.cpg_table.specs.Found.{row_columns}
 use Rattle.cpg_check_rows.specs.Hears.{HearsHold, IsHeardWell, due_columns}
 
 -- where items rise, each row is the first of its item

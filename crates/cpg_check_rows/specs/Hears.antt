@@ -8,7 +8,7 @@ use Rattle.cpg_table.specs.Valid.{hear_row, hear_rows}
 use Rattle.cpg_table.specs.Rules.{number_of_rule}
 use Rattle.cpg_table.specs.declared.fault.Fault.{Fault}
 use Rattle.cpg_table.specs.declared.rule.Rule.{Rule}
-use Rattle.cpg_violation.specs.Columns.{row_columns}
+use Rattle.cpg_table.specs.Found.{row_columns}
 
 -- the first place at which two lists differ: the length of the shorter one where it begins the other
 pub record DifferFirstAt (xs ys : List Column) (i : ℕ) : Type 0 where

@@ -20,7 +20,7 @@ use cpg_base::{Item, OutOfMemory, Problem, Scenario};
 use cpg_cube::{Cube, Entry, Literal};
 use cpg_rules::Admitted;
 use cpg_table::{Fault, Rule, Tables};
-use cpg_violation::{columns_of, earlier, is_marked, least_at, value_literal};
+use cpg_violation::{earlier, is_marked, least_at, value_literal};
 use std::alloc::Global;
 
 /// The least scenario that a cube matches and in which a process isn't active, if there is one.
@@ -237,7 +237,7 @@ pub fn check_activity(
         if is_marked(marks, item) {
             continue;
         }
-        let columns = columns_of(tables, item);
+        let columns = tables.columns_of(item);
         let idle = first_idle(alloc, admitted, item, columns)?;
         if let Some((column, scenario)) = idle {
             return Ok(Some(Fault {

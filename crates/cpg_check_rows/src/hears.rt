@@ -6,15 +6,14 @@ ghost use Rattle.cpg_base.specs.Graph.{home, item_count, producer};
 ghost use Rattle.cpg_base.specs.WellFormed.{WellFormed};
 ghost use Rattle.cpg_table.specs.Table.{table_at};
 ghost use Rattle.cpg_table.specs.Valid.{later_by};
-ghost use Rattle.cpg_violation.specs.Columns.{row_columns};
+ghost use Rattle.cpg_table.specs.Found.{row_columns};
 ghost use Rattle.cpg_violation.specs.Heads.{IsHeadFor};
 ghost use Rattle.cpg_check_rows.specs.Hears.{DifferFirstAt, HearsAt, HearsHold, IsFirstHear, IsFirstHearFault};
 
 use cpg_base::{OutOfMemory, Scenario};
 use cpg_cube::{Entry, Literal};
 use cpg_rules::Admitted;
-use cpg_table::{Fault, Rule, Tables};
-use cpg_violation::{columns_of, row_columns};
+use cpg_table::{Fault, Rule, Tables, row_columns};
 use std::alloc::Global;
 
 fn is_same(literal: &Literal, other: &Literal) -> bool
@@ -112,7 +111,7 @@ pub fn check_hears(
     let problem = admitted.problem();
     let nodes = tables.head().nodes().len() as u32;
     for item in 0..problem.item_count() {
-        let sent = columns_of(tables, item);
+        let sent = tables.columns_of(item);
         let delay = problem.slot_length(problem.home(item));
         if let Some(place) = first_hear(tables, nodes, item, sent, delay) {
             let scenario = Scenario::zero(alloc, problem)?;

@@ -17,7 +17,7 @@ use cpg_base::{Item, OutOfMemory, Scenario};
 use cpg_cube::{Cube, Entry};
 use cpg_rules::Admitted;
 use cpg_table::{Fault, Rule, Tables};
-use cpg_violation::{columns_of, cubes_of, edge_cube, is_marked, least_at};
+use cpg_violation::{cubes_of, edge_cube, is_marked, least_at};
 use std::alloc::Global;
 
 /// The least scenario that a cube matches and no column does, and in which a process is active; if there is one.
@@ -135,7 +135,7 @@ pub fn check_present(
         if is_marked(marks, item) {
             continue;
         }
-        let columns = columns_of(tables, item);
+        let columns = tables.columns_of(item);
         let absent = least_absent(alloc, admitted, item, columns)?;
         if let Some(scenario) = absent {
             return Ok(Some(Fault {

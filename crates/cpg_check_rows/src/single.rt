@@ -20,7 +20,7 @@ use cpg_base::{Order, OutOfMemory, Problem, Scenario};
 use cpg_cube::{Cube, Entry};
 use cpg_rules::Admitted;
 use cpg_table::{Fault, Rule, Tables};
-use cpg_violation::{Line, Sieve, columns_of, earlier, is_marked, met};
+use cpg_violation::{Line, Sieve, earlier, is_marked, met};
 use std::alloc::Global;
 
 /// The least scenario that a cube matches together with the column at a place, if there is one.
@@ -133,7 +133,7 @@ pub(crate) fn single_by(
         if is_marked(marks, item) {
             continue;
         }
-        let columns = columns_of(tables, item);
+        let columns = tables.columns_of(item);
         let line = &lines[item as usize];
         let double = first_double(alloc, problem, order, columns, &line.sieve)?;
         if let Some((column, scenario)) = double {

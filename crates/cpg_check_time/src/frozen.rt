@@ -16,7 +16,6 @@ use cpg_base::{OutOfMemory, Problem, Scenario};
 use cpg_cube::Entry;
 use cpg_rules::Admitted;
 use cpg_table::{Fault, Rule, Tables};
-use cpg_violation::columns_of;
 use std::alloc::Global;
 
 /// The time of the first column that matches in any scenario, if there is one.
@@ -42,7 +41,7 @@ fn frozen_time(admitted: &Admitted, tables: &Tables, item: u32) -> Option<u64>
     if !problem.is_frozen(item) {
         return None;
     }
-    possible_time(problem, columns_of(tables, item))
+    possible_time(problem, tables.columns_of(item))
 }
 
 /// That a frozen item has one time: for each item, what that time is.

@@ -18,7 +18,7 @@ use cpg_base::{OutOfMemory, Scenario};
 use cpg_cube::Entry;
 use cpg_rules::Admitted;
 use cpg_table::{Fault, Rule, Tables};
-use cpg_violation::{columns_of, is_marked};
+use cpg_violation::is_marked;
 use std::alloc::Global;
 
 /// A rule on single columns, with what its questions need to know of the tables.
@@ -61,7 +61,7 @@ fn first_in_row<J: Judge>(
     ensures none { IfOk result (λ r. IfNone r ((i : ℕ) (s : Scenario) → IsScenario admitted.now.graph s → breaks J.rule admitted.now.graph tables.now.nodes s item (Some i) ≡ false)) }
     ensures first { IfOk result (λ r. IfSome r (IsFirstColumn admitted.now.graph admitted.now.order (λ i s. breaks J.rule admitted.now.graph tables.now.nodes s item (Some i)))) }
 {
-    let columns = columns_of(tables, item);
+    let columns = tables.columns_of(item);
     for (column, entry) in columns.iter().enumerate() {
         let least = judge.least(alloc, admitted, tables, item, entry)?;
         if let Some(scenario) = least {

@@ -20,7 +20,7 @@ use cpg_cube::{Entry, Literal};
 use cpg_rules::Admitted;
 use cpg_table::Tables;
 use cpg_tree::Space;
-use cpg_violation::{are_all, columns_of, is_marked};
+use cpg_violation::{are_all, is_marked};
 use std::alloc::Global;
 
 /// Whether a process is active in each scenario of a space. Most are active in every scenario.
@@ -105,7 +105,7 @@ fn is_sure(admitted: &Admitted, tables: &Tables, always: &[bool], all: bool, ite
     ensures { OnTrue result (IsSure admitted.now.graph tables.now.nodes Rule.Activity item) }
 {
     let _problem = admitted.problem();
-    let columns = columns_of(tables, item);
+    let columns = tables.columns_of(item);
     if is_plain(admitted, all, item) {
         return true;
     }

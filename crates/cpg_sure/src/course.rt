@@ -14,7 +14,6 @@ use cpg_cube::Entry;
 use cpg_rules::Admitted;
 use cpg_table::Tables;
 use cpg_tree::{Places, Space};
-use cpg_violation::columns_of;
 use std::alloc::Global;
 
 /// The columns of an item with their tree.
@@ -52,7 +51,7 @@ fn course_of<'a>(
     requires item { item < item_count admitted.now.graph }
     ensures { (lasts : Scenario → ℕ) → IsSpan admitted.now.graph lasts span → IsCourse admitted.now.graph tables.now.nodes lasts item result }
 {
-    let columns = columns_of(tables, item);
+    let columns = tables.columns_of(item);
     let everywhere = Space::whole(admitted.problem().faults());
     Course {
         columns,

@@ -14,7 +14,6 @@ use cpg_cube::Entry;
 use cpg_rules::Admitted;
 use cpg_table::Tables;
 use cpg_tree::Space;
-use cpg_violation::columns_of;
 use std::alloc::Global;
 
 /// Whether an execution that a column starts ends by its process's due.
@@ -58,7 +57,7 @@ fn is_sure(problem: &Problem, tables: &Tables, item: u32) -> bool
     if item as usize >= problem.processes().len() {
         return true;
     }
-    all_end_in_time(problem, item, columns_of(tables, item))
+    all_end_in_time(problem, item, tables.columns_of(item))
 }
 
 /// The items whose executions all end by their dues.

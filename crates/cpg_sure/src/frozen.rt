@@ -9,7 +9,6 @@ use cpg_base::{OutOfMemory, Problem};
 use cpg_cube::Entry;
 use cpg_rules::Admitted;
 use cpg_table::Tables;
-use cpg_violation::columns_of;
 use std::alloc::Global;
 
 /// Whether all these columns are at one time, also those that match in no scenario.
@@ -36,7 +35,7 @@ fn is_sure(problem: &Problem, tables: &Tables, item: u32) -> bool
     if !problem.is_frozen(item) {
         return true;
     }
-    is_one_time(columns_of(tables, item))
+    is_one_time(tables.columns_of(item))
 }
 
 /// The items that aren't frozen, or have one time.

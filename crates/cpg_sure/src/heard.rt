@@ -18,7 +18,7 @@ use cpg_base::{Item, OutOfMemory, Problem};
 use cpg_cube::Entry;
 use cpg_rules::Admitted;
 use cpg_table::Tables;
-use cpg_violation::{columns_of, is_marked};
+use cpg_violation::is_marked;
 use std::alloc::Global;
 use std::cmp::Reverse;
 
@@ -172,7 +172,7 @@ pub(crate) fn heard_marks(
     marks.reserve(count as usize)?;
     for item in 0..count {
         let is_in_time = is_marked(inputs, item);
-        let sure = hall.is_sure(alloc, item, is_in_time, columns_of(tables, item))?;
+        let sure = hall.is_sure(alloc, item, is_in_time, tables.columns_of(item))?;
         marks.push(sure)?;
     }
     Ok(marks)

@@ -20,7 +20,6 @@ use cpg_cube::Entry;
 use cpg_order::Links;
 use cpg_rules::Admitted;
 use cpg_table::Tables;
-use cpg_violation::columns_of;
 use std::alloc::Global;
 
 /// Whether the columns of a start are no earlier than its release and its live inputs.
@@ -82,7 +81,7 @@ pub(crate) fn inputs_marks(
     let mut marks = Vec::new(alloc);
     marks.reserve(count as usize)?;
     for item in 0..count {
-        let sure = is_sure(alloc, &waiting, item, columns_of(tables, item))?;
+        let sure = is_sure(alloc, &waiting, item, tables.columns_of(item))?;
         marks.push(sure)?;
     }
     Ok(marks)

@@ -23,7 +23,6 @@ use cpg_cube::Entry;
 use cpg_rules::Admitted;
 use cpg_table::Tables;
 use cpg_tree::{Places, Space};
-use cpg_violation::columns_of;
 use std::alloc::Global;
 
 /// Whether a node's slot starts at a time.
@@ -162,7 +161,7 @@ fn has_own_slots(
         return Ok(true);
     }
     let node = problem.home(item);
-    if !are_in_slots(problem, node, columns_of(tables, item)) {
+    if !are_in_slots(problem, node, tables.columns_of(item)) {
         return Ok(false);
     }
     let lower = lower_sent(alloc, problem, item)?;

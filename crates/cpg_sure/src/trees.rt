@@ -9,7 +9,7 @@ use cpg_base::{OutOfMemory, Problem};
 use cpg_cube::Entry;
 use cpg_table::Tables;
 use cpg_tree::Places;
-use cpg_violation::{columns_of, cubes_of};
+use cpg_violation::cubes_of;
 use std::alloc::Global;
 
 /// The tree of a row's columns, if it has one: not where two columns may match together, or where it would be too large.
@@ -38,7 +38,7 @@ pub fn row_trees(
     let mut trees = Vec::new(alloc);
     trees.reserve(count as usize)?;
     for item in 0..count {
-        let tree = tree_of(alloc, problem, columns_of(tables, item))?;
+        let tree = tree_of(alloc, problem, tables.columns_of(item))?;
         trees.push(tree)?;
     }
     Ok(trees)

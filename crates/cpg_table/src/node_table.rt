@@ -2,14 +2,17 @@
 ghost use Rattle.std.specs.Prelude.{◌≡◌, ◌↔◌, ◌++◌, ◌<◌, IsTrue, IfOk, IfSome, IfNone, length, All};
 ghost use Rattle.cpg_table.specs.Shape.{items_of};
 ghost use Rattle.cpg_table.specs.Items.{first_broadcast, own_of, starts_of, sends_of, hears_of};
+ghost use Rattle.cpg_table.specs.Table.{columns_in};
 ghost use Rattle.cpg_table.specs.Lawful.{IsTable, IsTableOf, AreRowsOf, IsLawfulRow, rows_of, space_of};
 
 use crate::counts::{Counts, counts_of, have_hears, have_sends, have_starts};
+use crate::found::row_columns;
 use crate::items::first_broadcast;
 use crate::own::{is_own_of, own_of};
 use crate::space::{Space, are_rows, space_of};
 use crate::{Own, Row};
 use cpg_base::OutOfMemory;
+use cpg_cube::Entry;
 use cpg_head::Head;
 use std::alloc::{AllocError, Global};
 use std::marker::Model;
@@ -135,6 +138,16 @@ impl NodeTable {
         ensures made { IsTable self.now }
     {
         self.hears.as_slice()
+    }
+
+    /// The columns of an item that the node hears; none where it doesn't hear it.
+    pub fn heard_columns(&self, item: u32) -> &[Entry]
+        ensures { result.now ≡ columns_in self.now.hears item }
+    {
+        match row_columns(self.hears(), item) {
+            Some(columns) => columns,
+            None => &[],
+        }
     }
 
     /// An equal table.

@@ -1,11 +1,13 @@
 //! The tables of all nodes.
 ghost use Rattle.std.specs.Prelude.{◌≡◌, ◌↔◌, ◌≤◌, ◌<◌, ◌+◌, ℕ, IsTrue, IfOk, IfSome, IfNone, length, sum_by};
-ghost use Rattle.cpg_table.specs.Table.{table_at};
+ghost use Rattle.cpg_table.specs.Table.{columns_of, table_at};
 ghost use Rattle.cpg_table.specs.Lawful.{IsTableOf, AreTablesOf, column_count, rows_of};
 
+use crate::found::row_columns;
 use crate::node_table::is_table_of;
 use crate::{NodeTable, Row};
 use cpg_base::{MOST_LOAD, MOST_NODES, OutOfMemory};
+use cpg_cube::Entry;
 use cpg_head::Head;
 use std::marker::Model;
 
@@ -124,6 +126,22 @@ impl Tables {
         ensures lawful { IsTableOf self.now.head number result.now }
     {
         &self.nodes[number as usize]
+    }
+
+    /// The columns of an item's start row or send row; none where it has no row.
+    pub fn columns_of(&self, item: u32) -> &[Entry]
+        ensures columns { result.now ≡ columns_of self.now.nodes item }
+        ensures lawful { AreTablesOf self.now.head self.now.nodes }
+    {
+        for table in self.nodes.as_slice() {
+            if let Some(columns) = row_columns(table.starts(), item) {
+                return columns;
+            }
+            if let Some(columns) = row_columns(table.sends(), item) {
+                return columns;
+            }
+        }
+        &[]
     }
 
     /// The tables of the nodes, by node.

@@ -1,4 +1,3 @@
-pub mod RowColumns
 pub mod Violations
 pub mod Marked
 pub mod ActiveWhere

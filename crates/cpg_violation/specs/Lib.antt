@@ -1,4 +1,3 @@
-pub mod Columns
 pub mod Violation
 pub mod Sure
 pub mod Activity

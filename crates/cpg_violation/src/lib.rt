@@ -1,9 +1,8 @@
-//! What the checks of the rules of valid tables share: the first violation, the columns of an item, and least scenarios.
+//! What the checks of the rules of valid tables share: the first violation, and least scenarios.
 #![tactic(auto)]
 
 mod activity;
 mod apart;
-mod columns;
 mod earliest;
 mod edges;
 mod heads;
@@ -13,7 +12,6 @@ mod meeting;
 mod sieve;
 
 pub use activity::{least_at, value_literal};
-pub use columns::{columns_of, row_columns};
 pub use earliest::earlier;
 pub use edges::{cubes_of, edge_cube};
 pub use heads::{HeadPart, first_difference};

@@ -4,7 +4,6 @@ ghost use Rattle.cpg_base.specs.declared.limits.TheConstants.{MOST_LOAD};
 ghost use Rattle.cpg_base.specs.Graph.{item_count};
 ghost use Rattle.cpg_violation.specs.Lines.{AreLines, IsLine};
 
-use crate::columns::columns_of;
 use crate::sieve::Sieve;
 use cpg_base::{OutOfMemory, Problem};
 use cpg_cube::Entry;
@@ -70,7 +69,7 @@ pub fn lines_of<'a>(
     let mut lines = Vec::new(alloc);
     lines.reserve(count as usize)?;
     for item in 0..count {
-        let line = line_of(alloc, columns_of(tables, item))?;
+        let line = line_of(alloc, tables.columns_of(item))?;
         lines.push(line)?;
     }
     Ok(lines)

@@ -8,7 +8,7 @@ use Rattle.cpg_table.specs.Lawful.{AreTablesOf}
 use Rattle.cpg_table.specs.Table.{columns_of}
 use Rattle.cpg_table.specs.declared.rule.Rule.{Rule}
 use Rattle.cpg_violation.specs.Violation.{IsFirstColumn}
-use Rattle.cpg_violation.proofs.RowColumns.{columns_few}
+use Rattle.cpg_table.proofs.RowColumns.{columns_few}
 use Rattle.cpg_violation.proofs.Matching.{literal_active}
 use Rattle.cpg_violation.proofs.Marked.{marked_more}
 use Rattle.cpg_violation.proofs.Violations.{columns_known, none_more, first_violation}

@@ -7,7 +7,7 @@ use Rattle.cpg_table.specs.Lawful.{AreTablesOf}
 use Rattle.cpg_cube.specs.Column.{Column}
 use Rattle.cpg_table.specs.Valid.{later_by}
 use Rattle.cpg_check_rows.specs.Hears.{IsFirstHear, IsHeardWell, due_columns}
-use Rattle.cpg_violation.proofs.RowColumns.{columns_few}
+use Rattle.cpg_table.proofs.RowColumns.{columns_few}
 use Rattle.cpg_check_rows.proofs.HearLaws.{hears_hold, heard_more}
 use Rattle.cpg_check_rows.proofs.hears.check_hears.Goals as goal
 

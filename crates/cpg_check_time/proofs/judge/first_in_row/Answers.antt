@@ -1,7 +1,7 @@
 use Rattle.cpg_violation.proofs.HeadLaws.{tables_of_graph}
 use Rattle.std.proofs.Common.{length, arith, ap, subst}
 use Rattle.cpg_base.specs.First.{IsFirst}
-use Rattle.cpg_violation.proofs.RowColumns.{columns_few}
+use Rattle.cpg_table.proofs.RowColumns.{columns_few}
 use Rattle.cpg_check_time.specs.Columns.{breaks_column}
 use Rattle.cpg_check_time.proofs.Judging.{place_there, first_here, none_here, column_is}
 use Rattle.cpg_check_time.proofs.judge.first_in_row.Goals as goal

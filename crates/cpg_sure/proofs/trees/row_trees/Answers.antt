@@ -1,5 +1,5 @@
 use Rattle.std.proofs.Common.{arith, ap, length}
-use Rattle.cpg_violation.proofs.RowColumns.{columns_few}
+use Rattle.cpg_table.proofs.RowColumns.{columns_few}
 use Rattle.cpg_sure.proofs.trees.row_trees.Goals as goal
 
 pub tree_of-requires : goal.tree_of-requires

@@ -1,5 +1,5 @@
 use Rattle.std.proofs.Common.{arith, ap, length}
-use Rattle.cpg_violation.proofs.RowColumns.{columns_few}
+use Rattle.cpg_table.proofs.RowColumns.{columns_few}
 use Rattle.cpg_violation.proofs.lines.lines_of.Goals as goal
 
 pub line_of-requires : goal.line_of-requires

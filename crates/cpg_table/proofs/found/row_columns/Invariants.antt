@@ -1,6 +1,6 @@
 use Rattle.std.proofs.Common.{◌≡◌, drop}
-use Rattle.cpg_violation.specs.Columns.{row_columns}
-use Rattle.cpg_violation.proofs.columns.row_columns.Given as goal
+use Rattle.cpg_table.specs.Found.{row_columns}
+use Rattle.cpg_table.proofs.found.row_columns.Given as goal
 
 abbrev pub invariant-loop-row : goal.invariant-loop-row
 invariant-loop-row l = row_columns l.rows l.item ≡ row_columns (drop l.row-index l.rows) l.item

@@ -1,8 +1,9 @@
--- The columns of the first row of an item, where there is a row.
+-- The columns of an item, where it has a row.
 use Rattle.std.specs.Prelude.{ℕ, ◌==◌, if◌then◌else◌, List, [], ◌∷◌, Option, Some, None}
-use Rattle.cpg_table.specs.Table.{Row}
 use Rattle.cpg_cube.specs.Column.{Column}
+use Rattle.cpg_table.specs.Table.{Row}
 
+-- the columns of an item's first row
 abbrev pub row_columns : List Row → ℕ → Option (List Column)
 row_columns [] x = None
 row_columns (row ∷ rows) x = if row.item == x then Some row.columns else row_columns rows x

@@ -9,9 +9,18 @@ use Rattle.cpg_cube.specs.Column.{Column}
 use Rattle.cpg_table.specs.Lawful.{column_count, rows_of, AreTablesOf}
 use Rattle.cpg_head.specs.Head.{Head}
 use Rattle.cpg_base.specs.declared.limits.TheConstants.{MOST_LOAD}
-use Rattle.cpg_violation.specs.Columns.{row_columns}
+use Rattle.cpg_table.specs.Found.{row_columns}
 
 module _ (x : ℕ) where
+  -- none where there is no row
+  pub columns_in_row : (rows : List Row) → columns_in rows x ≡ unwrap_or (row_columns rows x) []
+  columns_in_row [] = refl
+  columns_in_row (r ∷ rs) = go (r.item == x) (columns_in_row rs)
+    where
+      go : (b : Bool) → columns_in rs x ≡ unwrap_or (row_columns rs x) [] → cond b r.columns (columns_in rs x) ≡ unwrap_or (cond b (Some r.columns) (row_columns rs x)) []
+      go true ih = refl
+      go false ih = ih
+
   -- the row is among the first of two lists, or else among the second
   columns_in-append : (rows more : List Row) → columns_in (rows ++ more) x ≡ unwrap_or (row_columns rows x) (columns_in more x)
   columns_in-append [] more = refl
