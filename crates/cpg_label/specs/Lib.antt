@@ -2,3 +2,4 @@ pub mod Labels
 pub mod CubeText
 pub mod Phrases
 pub mod ItemText
+pub mod Lines

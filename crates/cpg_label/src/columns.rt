@@ -1,10 +1,13 @@
 //! The lines of columns.
-ghost use Rattle.std.specs.Prelude.{◌≡◌, ◌++◌, OnOk, codes, flat_map, string_bytes};
-ghost use Rattle.cpg_label.specs.CubeText.{column_line, columns_text, cube_text, literal_text, range_text, value_text};
+ghost use Rattle.std.specs.Prelude.{◌≡◌, ◌++◌, OnOk, codes, string_bytes};
+ghost use Rattle.std.specs.Fmt.{decimal};
+ghost use Rattle.cpg_label.specs.CubeText.{columns_text, cube_text, literal_text, range_text, value_text};
+ghost use Rattle.cpg_label.specs.Lines.{IsLine};
 
 use crate::labels::Labels;
+use crate::line::Line;
 use cpg_base::Variable;
-use cpg_cube::{Cube, Entry, Literal};
+use cpg_cube::{Entry, Literal};
 use std::alloc::AllocError;
 
 /// A range of fault counts.
@@ -63,45 +66,20 @@ pub(crate) fn write_later(
     write_literal(out, labels, literal)
 }
 
-/// The first literal, by its text where that is at hand.
-fn write_first(out: &mut String, labels: &Labels<'_>, literal: Literal) -> Result<(), AllocError>
-    ensures { OnOk result (string_bytes out.new ≡ string_bytes out.old ++ literal_text labels.now literal) }
+fn write_column(
+    out: &mut String,
+    labels: &Labels<'_>,
+    line: &Line,
+    time: u64,
+) -> Result<(), AllocError>
+    requires { IsLine labels.now line.now }
+    ensures { OnOk result (string_bytes out.new ≡ string_bytes out.old ++ codes "  " ++ decimal time ++ codes ": " ++ cube_text labels.now line.now.literals.items ++ codes "\n") }
 {
-    match labels.phrase(literal) {
-        Some(phrase) => out.push_str(phrase.first.as_str()),
-        None => write_literal(out, labels, literal),
-    }
-}
-
-/// The literals after the first one, by their texts where those are at hand.
-fn write_rest(out: &mut String, labels: &Labels<'_>, literals: &[Literal]) -> Result<(), AllocError>
-    ensures { OnOk result (string_bytes out.new ≡ string_bytes out.old ++ flat_map (λ l. codes ", " ++ literal_text labels.now l) literals.now) }
-{
-    for literal in literals {
-        match labels.phrase(*literal) {
-            Some(phrase) => out.push_str(phrase.later.as_str())?,
-            None => write_later(out, labels, *literal)?,
-        }
-    }
-    Ok(())
-}
-
-fn write_cube(out: &mut String, labels: &Labels<'_>, cube: &Cube) -> Result<(), AllocError>
-    ensures { OnOk result (string_bytes out.new ≡ string_bytes out.old ++ cube_text labels.now cube.now) }
-{
-    let Some((first, rest)) = cube.literals().split_first() else {
-        return out.push_str("always");
-    };
-    write_first(out, labels, *first)?;
-    write_rest(out, labels, rest)
-}
-
-fn write_column(out: &mut String, labels: &Labels<'_>, column: &Entry) -> Result<(), AllocError>
-    ensures { OnOk result (string_bytes out.new ≡ string_bytes out.old ++ column_line labels.now column.now) }
-{
-    let time = column.time;
     write!(out, "  {time}: ")?;
-    write_cube(out, labels, &column.cube)?;
+    if line.literals.is_empty() {
+        return out.push_str("always\n");
+    }
+    out.push_str(line.text.as_str())?;
     out.push_str("\n")
 }
 
@@ -113,8 +91,10 @@ pub fn write_columns(
 ) -> Result<(), AllocError>
     ensures { OnOk result (string_bytes out.new ≡ string_bytes out.old ++ columns_text labels.now columns.now) }
 {
+    let mut line = Line::new(*out.allocator())?;
     for column in columns {
-        write_column(out, labels, column)?;
+        line.turn_into(labels, column.cube.literals())?;
+        write_column(out, labels, &line, column.time)?;
     }
     Ok(())
 }

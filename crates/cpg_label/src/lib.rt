@@ -4,6 +4,7 @@
 mod columns;
 mod items;
 mod labels;
+mod line;
 mod phrases;
 
 pub use columns::{write_columns, write_value};

@@ -1,0 +1,84 @@
+-- Lines with a literal more, and with fewer.
+use Rattle.std.proofs.Common.{◌≡◌, ℕ, ◌+◌, suc, ◌<◌, ◌≤◌, List, [], ◌∷◌, ◌++◌, inl, inr, refl, zero, append-nil, arith, drop, get_or, length, sym, take, ap, ◌∙◌}
+use Rattle.std.specs.List.{flat_map}
+use Rattle.std.proofs.Math.ListN.{get_or-append}
+use Rattle.std.proofs.Math.Seq.{get_or-append_seam, take-append_seam, take-length}
+use Rattle.std.proofs.lemmas.Bool.{cases_lt}
+use Rattle.std.proofs.lemmas.Grind.{flat_map-append}
+use Rattle.std.proofs.lemmas.List.{append_assoc, get_or-append-add, get_or-take, length-append, length-take-le, take-append-drop, take-append-le}
+use Rattle.cpg_cube.specs.declared.literal.Literal.{Literal}
+use Rattle.cpg_label.specs.CubeText.{literal_text}
+use Rattle.cpg_label.specs.Labels.{Labels}
+use Rattle.cpg_label.specs.Lines.{AreLine, IsCutAt, added_text, front_text, piece_text, rest_text}
+
+-- the text of two lists
+pub front-append : (labels : Labels) (xs ys : List Literal) → front_text labels (xs ++ ys) ≡ front_text labels xs ++ rest_text labels xs ys
+front-append labels [] ys = refl
+front-append labels (x ∷ xs) ys = ap (λ t. literal_text labels x ++ t) (flat_map-append (piece_text labels) xs ys)
+    ∙ sym (append_assoc (literal_text labels x) (flat_map (piece_text labels) xs) (flat_map (piece_text labels) ys))
+
+rest_of_one : (labels : Labels) (xs : List Literal) (l : Literal) → rest_text labels xs (l ∷ []) ≡ added_text labels xs l
+rest_of_one labels [] l = append-nil (literal_text labels l)
+rest_of_one labels (x ∷ xs) l = append-nil (piece_text labels l)
+
+pub front_more : (labels : Labels) (xs : List Literal) (l : Literal) → front_text labels (xs ++ l ∷ []) ≡ front_text labels xs ++ added_text labels xs l
+front_more labels xs l = front-append labels xs (l ∷ []) ∙ ap (λ t. front_text labels xs ++ t) (rest_of_one labels xs l)
+
+-- a list is its first elements and the rest
+front_parted : (labels : Labels) (ls : List Literal) (n : ℕ) → front_text labels ls ≡ front_text labels (take n ls) ++ rest_text labels (take n ls) (drop n ls)
+front_parted labels ls n = ap (front_text labels) (sym (take-append-drop n ls)) ∙ front-append labels (take n ls) (drop n ls)
+
+comma_after : (labels : Labels) (xs ys : List Literal) → 0 < length (front_text labels xs) → 0 < length (rest_text labels xs ys) → get_or (rest_text labels xs ys) 0 0 ≡ 44
+comma_after labels [] ys z h = absurd (omega arith)
+comma_after labels (x ∷ xs) [] z h = absurd (omega arith)
+comma_after labels (x ∷ xs) (y ∷ ys) z h = refl
+
+-- where the text of the first ones ends it can be cut
+cut_between : (labels : Labels) (xs ys : List Literal) → IsCutAt (front_text labels xs ++ rest_text labels xs ys) (length (front_text labels xs))
+cut_between labels xs ys =
+    let long = length-append (front_text labels xs) (rest_text labels xs ys) in
+    record {
+      within = omega (arith, long);
+      comma = λ z h. ap (λ i. get_or (front_text labels xs ++ rest_text labels xs ys) i 0) (omega arith) ∙ get_or-append-add (front_text labels xs) (rest_text labels xs ys) 0 0
+          ∙ comma_after labels xs ys z (omega (arith, long, h));
+    }
+
+pub line_cut : (labels : Labels) (ls : List Literal) (text ends : List ℕ) (n : ℕ) → AreLine labels ls text ends → n ≤ length ls → IsCutAt text (get_or ends n 0)
+line_cut labels ls text ends n h le = rw h.text (rw (h.ends n le) (rw (front_parted labels ls n) (cut_between labels (take n ls) (drop n ls))))
+
+-- no literals
+pub line_none : (labels : Labels) → AreLine labels [] [] (0 ∷ [])
+line_none labels = record { text = refl; count = refl; ends = λ n le. none n le }
+  where
+    none : (n : ℕ) → n ≤ 0 → get_or (0 ∷ []) n 0 ≡ length (front_text labels (take n []))
+    none zero le = refl
+    none (suc n) le = absurd (omega (arith, le))
+
+-- one more
+pub line_more : (labels : Labels) (ls : List Literal) (text ends : List ℕ) (l : Literal) (now : List ℕ) → AreLine labels ls text ends → now ≡ text ++ added_text labels ls l → AreLine labels (ls ++ l ∷ []) now (ends ++ length now ∷ [])
+line_more labels ls text ends l now h is = record { text = text_is; count = omega (arith, length-append ends (length now ∷ []), long, h.count); ends = λ n le. elim (cases_lt (length ls) n) [ inl lt ↦ last n le lt | inr ge ↦ before n ge ] }
+  where
+    long : length (ls ++ l ∷ []) ≡ length ls + 1
+    long = length-append ls (l ∷ [])
+
+    text_is : now ≡ front_text labels (ls ++ l ∷ [])
+    text_is = is ∙ ap (λ t. t ++ added_text labels ls l) h.text ∙ sym (front_more labels ls l)
+
+    before : (n : ℕ) → n ≤ length ls → get_or (ends ++ length now ∷ []) n 0 ≡ length (front_text labels (take n (ls ++ l ∷ [])))
+    before n le = get_or-append ends (length now ∷ []) 0 n (omega (arith, h.count)) ∙ h.ends n le ∙ ap (λ xs. length (front_text labels xs)) (sym (take-append-le n ls (l ∷ []) le))
+
+    last : (n : ℕ) → n ≤ length (ls ++ l ∷ []) → length ls < n → get_or (ends ++ length now ∷ []) n 0 ≡ length (front_text labels (take n (ls ++ l ∷ [])))
+    last n le lt = ap (λ i. get_or (ends ++ length now ∷ []) i 0) (omega (arith, long, h.count)) ∙ get_or-append_seam ends (length now) [] 0 ∙ ap length text_is
+        ∙ ap (λ xs. length (front_text labels xs)) (sym (ap (λ i. take i (ls ++ l ∷ [])) (omega (arith, long)) ∙ take-length (ls ++ l ∷ [])))
+
+-- the first ones
+pub line_less : (labels : Labels) (ls : List Literal) (text ends : List ℕ) (count : ℕ) → AreLine labels ls text ends → count ≤ length ls → AreLine labels (take count ls) (take (get_or ends count 0) text) (take (count + 1) ends)
+line_less labels ls text ends count h le = record { text = text_is; count = omega (arith, length-take-le (count + 1) ends (omega (arith, h.count)), length-take-le count ls le); ends = ends_are }
+  where
+    text_is : take (get_or ends count 0) text ≡ front_text labels (take count ls)
+    text_is = ap (λ n. take n text) (h.ends count le) ∙ ap (take (length (front_text labels (take count ls)))) (h.text ∙ front_parted labels ls count)
+        ∙ take-append_seam (front_text labels (take count ls)) (rest_text labels (take count ls) (drop count ls))
+
+    ends_are : (n : ℕ) → n ≤ length (take count ls) → get_or (take (count + 1) ends) n 0 ≡ length (front_text labels (take n (take count ls)))
+    ends_are n few = get_or-take (count + 1) ends n 0 (omega (arith, length-take-le count ls le)) ∙ h.ends n (omega (arith, length-take-le count ls le))
+        ∙ ap (λ xs. length (front_text labels xs)) (ap (take n) (sym (take-append-drop count ls)) ∙ take-append-le n (take count ls) (drop count ls) few)
