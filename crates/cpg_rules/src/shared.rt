@@ -158,7 +158,7 @@ fn are_same_asks(a: Ask, b: Ask) -> bool
     }
 }
 
-/// A place for three numbers, of so many.
+/// A place for three numbers, of so many: each is spread over all bits (by 2^64 over the golden ratio), and the high bits count.
 fn place_of(first: usize, second: usize, third: usize, count: usize) -> usize {
     let mixed = first
         .wrapping_mul(0x9E37_79B9_7F4A_7C15)
