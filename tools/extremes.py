@@ -89,8 +89,9 @@ def frozen_inputs(nodes, chain, faults, draw=None):
     return {"graph": it.text()}
 
 
-def parity(conditions, faults, nodes=1):
-    """Joins that follow the parity of conditions: trees that fork on all of them, each in an order of its own."""
+def parities(conditions, faults, nodes=1):
+    """Joins that follow the parity of conditions: trees that fork on all of them, each in an order of its own. Also what adds a
+    process, and the joins of an odd and of an even number."""
     it = Design(faults)
     for _ in range(nodes):
         it.node()
@@ -112,6 +113,42 @@ def parity(conditions, faults, nodes=1):
         for joined, both in ((odd, sides[:2]), (even, sides[2:])):
             for side in both:
                 it.edge(side, joined)
+    return it, process, odd, even
+
+
+def parity(conditions, faults, nodes=1):
+    """The parity of conditions alone."""
+    return {"graph": parities(conditions, faults, nodes)[0].text()}
+
+
+def joined_parities(conditions, joins):
+    """Joins of both parities: each is always active, by one of two edges, and its guard tests all conditions."""
+    it, process, odd, even = parities(conditions, 0)
+    for number in range(joins):
+        both = process(f"j{number}", join=True)
+        it.edge(odd, both), it.edge(even, both)
+    return {"graph": it.text()}
+
+
+def meshed_parity(conditions, followers, sources):
+    """Processes behind a parity's join, each with inputs from so many of those before it."""
+    it, process, odd, _ = parities(conditions, 0)
+    made = [odd]
+    for number in range(followers):
+        made.append(process(f"f{number}"))
+        for source in made[-1 - sources:-1]:
+            it.edge(source, made[-1])
+    return {"graph": it.text()}
+
+
+def late_alternatives(conditions):
+    """A join of both parities and of a process that is active only where all conditions are true."""
+    it, process, odd, even = parities(conditions, 0)
+    every, both = process("t"), process("both", join=True)
+    for condition in range(conditions):
+        it.edge(condition, every, True)
+    for source in (odd, even, every):
+        it.edge(source, both)
     return {"graph": it.text()}
 
 
@@ -229,6 +266,10 @@ CASES = {
     "the same with drawn times, chains of 4": (lambda: frozen_inputs(15, 4, 8, 7), "compile", 0, 1, 150, 1024),
     "the same, tuned": (lambda: frozen_inputs(15, 3, 1), "tune", 0, 2, 150, 1024),
     "the parity of 14 conditions": (lambda: parity(14, 0), "show", 0, 2, 300, 1024),
+    "34 joins of both parities of 14 conditions": (lambda: joined_parities(14, 34), "show", 6, 0.1, 30, 1024),
+    "such joins, tuned": (lambda: joined_parities(14, 34), "tune", 0, 0.3, 30, 1024),
+    "20 processes behind a parity, with 4 inputs each": (lambda: meshed_parity(14, 20, 4), "show", 6, 0.1, 30, 1024),
+    "a join with two live inputs in the last outcomes": (lambda: late_alternatives(14), "show", 4, 0.2, 30, 1024),
     "a log of 9 sets of 13 processes with a fault each, k 8": (lambda: audited_sets(13, 9, 8), "audit", 0, 1, 50, 1024),
     "messages that 9 sets of 10 processes part, k 8": (lambda: heard_sets(10, 9, 8), "check", 0, 1, 50, 1024),
     "the same, sets of 6, and 8 conditions": (lambda: heard_sets(6, 9, 8, 8), "check", 0, 1, 50, 1024),
@@ -253,7 +294,7 @@ def run(program, name, file):
     def begin():
         resource.setrlimit(resource.RLIMIT_STACK, (stack << 10,) * 2)
         resource.setrlimit(resource.RLIMIT_AS, ((4 * memory + 1024) << 20,) * 2)
-        resource.setrlimit(resource.RLIMIT_CPU, (4 * seconds + 20,) * 2)
+        resource.setrlimit(resource.RLIMIT_CPU, (int(4 * seconds) + 20,) * 2)
 
     child = subprocess.Popen([program, *written(name, file)], stdout=subprocess.DEVNULL, stderr=subprocess.PIPE, preexec_fn=begin)
     line = child.stderr.read()

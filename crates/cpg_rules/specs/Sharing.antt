@@ -1,5 +1,5 @@
 -- The parts of trees, each with its top, and what is known of them.
-use Rattle.std.specs.Prelude.{ℕ, ◌≡◌, ◌<◌, ◌≤◌, false, List, Option, Some, None, All, length, get_or, map}
+use Rattle.std.specs.Prelude.{ℕ, ◌≡◌, ◌<◌, ◌≤◌, Bool, false, List, Option, Some, None, All, length, get_or, map}
 use Rattle.cpg_base.specs.declared.activation.Activation.TheVariants.{Inactive}
 use Rattle.cpg_base.specs.Graph.{Graph}
 use Rattle.cpg_order.specs.Urgency.{IsTopological}
@@ -46,6 +46,14 @@ IsKnown ranks parts (Some k) = IsAnswer ranks parts k.ask k.answer
 -- two parts that are there
 abbrev pub ArePairWithin : List Part → ℕ → ℕ → Type 0
 ArePairWithin parts first second = (first < length parts) × (second < length parts)
+
+-- the tree that two meet in
+abbrev pub met_of : Bool → Sharing → ℕ → ℕ → Guard
+met_of join s first second = met join s.ranks (tree_at s.parts first) (tree_at s.parts second)
+
+-- whether two are active at once in some outcome
+abbrev pub are_live_of : Sharing → ℕ → ℕ → Bool
+are_live_of s first second = are_both_live s.ranks (tree_at s.parts first) (tree_at s.parts second)
 
 -- what holds of parts
 pub record IsSharing (s : Sharing) : Type 0 where

@@ -3,9 +3,9 @@ ghost use Rattle.std.specs.Prelude.{◌≡◌, ◌<◌, ◌||◌, IfOk, IfSome, 
 ghost use Rattle.cpg_base.specs.declared.activation.Activation.TheVariants.{Inactive};
 ghost use Rattle.cpg_order.specs.Guard.{Leaf, Test};
 ghost use Rattle.cpg_rules.specs.Trees.{same_guard, tested};
-ghost use Rattle.cpg_rules.specs.Composing.{passing, live_tree, met};
-ghost use Rattle.cpg_rules.specs.Apart.{is_live_somewhere, are_both_live};
-ghost use Rattle.cpg_rules.specs.Sharing.{tree_at, IsTop, IsAnswer, IsKnown, ArePairWithin, Makes};
+ghost use Rattle.cpg_rules.specs.Composing.{passing, live_tree};
+ghost use Rattle.cpg_rules.specs.Apart.{is_live_somewhere};
+ghost use Rattle.cpg_rules.specs.Sharing.{tree_at, met_of, are_live_of, IsTop, IsAnswer, IsKnown, ArePairWithin, Makes};
 
 use crate::GuardTree;
 use crate::composing::{rank, settles};
@@ -158,7 +158,7 @@ fn are_same_asks(a: Ask, b: Ask) -> bool
     }
 }
 
-/// A place for three numbers, of so many.
+/// A place for three numbers, of so many: each is spread over all bits (by 2^64 over the golden ratio), and the high bits count.
 fn place_of(first: usize, second: usize, third: usize, count: usize) -> usize {
     let mixed = first
         .wrapping_mul(0x9E37_79B9_7F4A_7C15)
@@ -428,7 +428,7 @@ impl Parts {
     ) -> Result<usize, OutOfMemory>
         requires no { ArePairWithin self.old.parts no.0 no.1 }
         requires yes { ArePairWithin self.old.parts yes.0 yes.1 }
-        ensures { IfOk result (Makes self.old self.new (tested condition (met join self.old.ranks (tree_at self.old.parts no.0) (tree_at self.old.parts no.1)) (met join self.old.ranks (tree_at self.old.parts yes.0) (tree_at self.old.parts yes.1)))) }
+        ensures { IfOk result (Makes self.old self.new (tested condition (met_of join self.old no.0 no.1) (met_of join self.old yes.0 yes.1))) }
     {
         let low = self.met(alloc, join, no.0, no.1)?;
         let high = self.met(alloc, join, yes.0, yes.1)?;
@@ -446,7 +446,7 @@ impl Parts {
         second: usize,
     ) -> Result<usize, OutOfMemory>
         requires { ArePairWithin self.old.parts first second }
-        ensures { IfOk result (Makes self.old self.new (met join self.old.ranks (tree_at self.old.parts first) (tree_at self.old.parts second))) }
+        ensures { IfOk result (Makes self.old self.new (met_of join self.old first second)) }
     {
         match self.top(first) {
             Top::Leaf(found) => {
@@ -485,7 +485,7 @@ impl Parts {
         second: usize,
     ) -> Result<usize, OutOfMemory>
         requires { ArePairWithin self.old.parts first second }
-        ensures { IfOk result (Makes self.old self.new (met join self.old.ranks (tree_at self.old.parts first) (tree_at self.old.parts second))) }
+        ensures { IfOk result (Makes self.old self.new (met_of join self.old first second)) }
     {
         let ask = Ask::Met {
             join,
@@ -523,7 +523,7 @@ impl Parts {
         requires yes { ArePairWithin self.old.parts yes.0 yes.1 }
         ensures parts { self.new.parts ≡ self.old.parts }
         ensures ranks { self.new.ranks ≡ self.old.ranks }
-        ensures live { result ≡ (are_both_live self.old.ranks (tree_at self.old.parts no.0) (tree_at self.old.parts no.1) || are_both_live self.old.ranks (tree_at self.old.parts yes.0) (tree_at self.old.parts yes.1)) }
+        ensures live { result ≡ (are_live_of self.old no.0 no.1 || are_live_of self.old yes.0 yes.1) }
     {
         if self.are_both_live(no.0, no.1) {
             return true;
@@ -537,7 +537,7 @@ impl Parts {
         requires { ArePairWithin self.old.parts first second }
         ensures parts { self.new.parts ≡ self.old.parts }
         ensures ranks { self.new.ranks ≡ self.old.ranks }
-        ensures live { result ≡ are_both_live self.old.ranks (tree_at self.old.parts first) (tree_at self.old.parts second) }
+        ensures live { result ≡ are_live_of self.old first second }
     {
         match self.top(first) {
             Top::Leaf(found) => {
@@ -576,7 +576,7 @@ impl Parts {
         requires { ArePairWithin self.old.parts first second }
         ensures parts { self.new.parts ≡ self.old.parts }
         ensures ranks { self.new.ranks ≡ self.old.ranks }
-        ensures live { result ≡ are_both_live self.old.ranks (tree_at self.old.parts first) (tree_at self.old.parts second) }
+        ensures live { result ≡ are_live_of self.old first second }
     {
         let ask = Ask::Apart { first, second };
         let place = place_of(first, second, 2, self.known.len());
