@@ -138,26 +138,30 @@ fn unfrozen_sent(
     Ok(sent)
 }
 
-/// When the slots are free once an item is sent, if that is waited for.
+/// When the slots are free once an item is sent. Made only where an item waits for that: behind a frozen one the tree of that may
+/// be far wider than its row.
 fn freed(
     problem: &Problem,
+    order: &Order,
     round: u64,
-    waited: bool,
     goes: &Tree<bool>,
     sent: &Tree<Option<u64>>,
     free: &Tree<u64>,
+    item: u32,
 ) -> Result<Tree<u64>, OutOfMemory>
+    requires order { length order.now ≡ process_count problem.now }
     requires goes { IsTree problem.now goes.now }
     requires sent { IsTree problem.now sent.now }
     requires free { IsTree problem.now free.now }
+    requires item { item < item_count problem.now }
     ensures tree { IfOk result (IsTree problem.now) }
-    ensures free { IfOk result (λ t. waited ≡ true → IsFreeTree problem.now.faults round goes.now sent.now free.now t) }
+    ensures free { IfOk result (λ t. IsQueuedFor problem.now order.now (place order.now (producer problem.now item)) (home problem.now item) → IsFreeTree problem.now.faults round goes.now sent.now free.now t) }
 {
     let after = later(sent, round)?;
     if goes.is_true() {
         return Ok(after);
     }
-    if !waited {
+    if !is_queued_for(problem, order, item) {
         return Ok(after);
     }
     let freed = Tree::pick(goes, &after, free)?;
@@ -190,8 +194,7 @@ fn slots_of(
     Ok(sent)
 }
 
-/// When the slots of an item's node are free once it is sent. Made only where an item waits for that: behind a frozen one the tree
-/// of that may be far wider than its row.
+/// When the slots of an item's node are free once it is sent, if an item waits for that.
 fn free_then(
     problem: &Problem,
     plan: &Plan,
@@ -211,8 +214,7 @@ fn free_then(
     ensures free { IfOk result (λ t. IsQueuedFor problem.now order.now (place order.now (producer problem.now item)) (home problem.now item) → IsFreeTree problem.now.faults (round problem.now) goes.now sent.now (free_of problem.now forest.now (home problem.now item)) t) }
 {
     let free = &forest.free[problem.home(item) as usize];
-    let waited = is_queued_for(problem, order, item);
-    let freed = freed(problem, plan.round(problem), waited, goes, sent, free)?;
+    let freed = freed(problem, order, plan.round(problem), goes, sent, free, item)?;
     Ok(freed)
 }
 
