@@ -89,6 +89,43 @@ def frozen_inputs(nodes, chain, faults, draw=None):
     return {"graph": it.text()}
 
 
+def decided(conditions, chain, frozen, later, faults, draw=1):
+    """Frozen processes one after another on a node, each decided by conditions of other nodes behind chains of faults, and more of
+    them that nothing decides: when the node has heard all conditions is a product."""
+    it, drawn = Design(faults), random.Random(draw)
+    here = it.node()
+    deciding = []
+    for _ in range(conditions):
+        node = it.node()
+        for place in range(chain + 1):
+            p = it.process(f"p{len(it.processes)}", node, drawn.randrange(500, 1000))
+            if place:
+                it.edge(p - 1, p)
+        deciding.append(p)
+    for number in range(frozen + later):
+        p = it.process(f"x{number}", here, drawn.randrange(5, 10), frozen=True)
+        for source in deciding if number < frozen else ():
+            it.edge(source, p, bool(drawn.randrange(2)))
+    return {"graph": it.text()}
+
+
+def followed_parity(process, it, deciding, **more):
+    """Processes that follow the parity of conditions, by a function that adds one: those of odd and of even parity of all."""
+    odd, even = process("x0", **more), process("n0", **more)
+    it.edge(deciding[0], odd, True), it.edge(deciding[0], even, False)
+    for c in range(1, len(deciding)):
+        sides = []
+        for name, source, when in (("a", odd, False), ("b", even, True), ("d", odd, True), ("e", even, False)):
+            side = process(f"{name}{c}", **more)
+            it.edge(source, side), it.edge(deciding[c], side, when)
+            sides.append(side)
+        odd, even = process(f"x{c}", join=True, **more), process(f"n{c}", join=True, **more)
+        for joined, both in ((odd, sides[:2]), (even, sides[2:])):
+            for side in both:
+                it.edge(side, joined)
+    return odd, even
+
+
 def parities(conditions, faults, nodes=1):
     """Joins that follow the parity of conditions: trees that fork on all of them, each in an order of its own. Also what adds a
     process, and the joins of an odd and of an even number."""
@@ -100,19 +137,7 @@ def parities(conditions, faults, nodes=1):
         number = len(it.processes) + 1
         return it.process(name, number % nodes, 1 + number % 7, **more)
 
-    deciding = [process(f"c{c}") for c in range(conditions)]
-    odd, even = process("x0"), process("n0")
-    it.edge(deciding[0], odd, True), it.edge(deciding[0], even, False)
-    for c in range(1, conditions):
-        sides = []
-        for name, source, when in (("a", odd, False), ("b", even, True), ("d", odd, True), ("e", even, False)):
-            side = process(f"{name}{c}")
-            it.edge(source, side), it.edge(deciding[c], side, when)
-            sides.append(side)
-        odd, even = process(f"x{c}", join=True), process(f"n{c}", join=True)
-        for joined, both in ((odd, sides[:2]), (even, sides[2:])):
-            for side in both:
-                it.edge(side, joined)
+    odd, even = followed_parity(process, it, [process(f"c{c}") for c in range(conditions)])
     return it, process, odd, even
 
 
@@ -149,6 +174,24 @@ def late_alternatives(conditions):
         it.edge(condition, every, True)
     for source in (odd, even, every):
         it.edge(source, both)
+    return {"graph": it.text()}
+
+
+def parity_sent(conditions, before, faults, draw=3):
+    """A frozen message that is sent where the parity of conditions is odd, behind messages of its node that depend on faults: when
+    the slots are free then is a product."""
+    it, drawn = Design(faults), random.Random(draw)
+    here, there = it.node(), it.node()
+    for number in range(before):
+        it.edge(it.process(f"p{number}", here, drawn.randrange(500, 1000)), it.process(f"q{number}", there, frozen=True))
+    deciding = [it.process(f"c{c}", it.node() if c < 8 else 2 + c % 8, 1 + c) for c in range(conditions)]
+
+    def process(name, **more):
+        return it.process(name, here if name == f"x{conditions - 1}" else there, 1 + len(it.processes) % 7, **more)
+
+    odd, _ = followed_parity(process, it, deciding, frozen=True)
+    it.edge(odd, it.process("last", there, frozen=True), frozen=True)
+    it.edge(odd, it.process("behind", here, frozen=True))
     return {"graph": it.text()}
 
 
@@ -264,7 +307,11 @@ def deep_row(processes):
 CASES = {
     "a frozen process behind 15 chains of 3, k 8": (lambda: frozen_inputs(15, 3, 8), "show", 0, 1, 100, 1024),
     "the same with drawn times, chains of 4": (lambda: frozen_inputs(15, 4, 8, 7), "compile", 0, 1, 150, 1024),
-    "the same, tuned": (lambda: frozen_inputs(15, 3, 1), "tune", 0, 2, 150, 1024),
+    "the frozen process behind 15 chains of 3, tuned": (lambda: frozen_inputs(15, 3, 1), "tune", 0, 2, 150, 1024),
+    "2 frozen processes that 8 conditions behind chains decide, k 8": (lambda: decided(8, 2, 2, 0, 8), "show", 0, 1, 50, 1024),
+    "20 such by 6 conditions, and 20 behind them": (lambda: decided(6, 1, 20, 20, 8), "compile", 0, 1, 50, 1024),
+    "the same, tuned": (lambda: decided(6, 1, 20, 20, 1), "tune", 0, 2, 50, 1024),
+    "a frozen message by the parity of 10 conditions, k 8": (lambda: parity_sent(10, 8, 8), "show", 0, 1, 100, 1024),
     "the parity of 14 conditions": (lambda: parity(14, 0), "show", 0, 2, 300, 1024),
     "34 joins of both parities of 14 conditions": (lambda: joined_parities(14, 34), "show", 6, 0.1, 30, 1024),
     "such joins, tuned": (lambda: joined_parities(14, 34), "tune", 0, 0.3, 30, 1024),

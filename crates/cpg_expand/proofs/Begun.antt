@@ -41,7 +41,7 @@ use Rattle.cpg_expand.specs.declared.forest.Ready.{Ready}
 use Rattle.cpg_expand.specs.declared.forest.Ready.TheVariants.{After, At}
 use Rattle.cpg_expand.specs.Grown.{RowsHold, IsReadyLine, IsFreeLine, Lines, SendLines, LeavesUnsent, IsEarlier, IsDone, AreSettledOf, IsGrown, IsSending}
 use Rattle.cpg_expand.specs.Told.{HasTold}
-use Rattle.cpg_expand.specs.Waited.{IsWaitedFor, IsReadyOnce}
+use Rattle.cpg_expand.specs.Waited.{IsQueuedFor, IsWaitedFor, IsReadyOnce}
 use Rattle.cpg_expand.specs.Waiting.{ready_of, free_of}
 use Rattle.cpg_tree.proofs.OnePath.{scenario_few}
 use Rattle.cpg_expand.proofs.AgreeingTrees.{agrees_weaker}
@@ -286,11 +286,8 @@ module _ (g : Graph) (urgency : List ℕ) (guards : Guards) (a : IsAdmitted g ur
         (ready_line g order topological rows s few_faults t run_is_small p guard leads_there way_decides chooser b.end made.wait (goes_on b.end b.ready) (max was.time (greatest (map (heard_there g t (node_of g p)) (way guard s.values)))) b.actives made.is ended
         (wait_line g a.limits order topological a.joins urgency a.urgency a.topological rows s law.values few_faults t run_is_small old p l nodes told_before guard is_guard made.wait made.waits was.time was.is was.tells))
 
-    was_free : IsFreeLine g order rows s t (place order p) (node_of g p) (free_of g old (node_of g p))
-    was_free = lines_before.free (node_of g p) (nodes p l)
-
-    freed : IsFreeOnce g order rows s t p 0 new
-    freed = record {
+    freed_by : IsFreeLine g order rows s t (place order p) (node_of g p) (free_of g old (node_of g p)) → IsFreeOnce g order rows s t p 0 new
+    freed_by was_free = record {
       time = was_free.time;
       is = most_same (free_after g t) (IsSentBefore g order s (node_of g p) (place order p)) (IsSentBy g order s p 0) was_free.time
           (λ y h. (h.0, inl h.1)) (λ y h. (h.0, elim h.1 [ inl less ↦ less | inr c ↦ absurd (Contains-nil y c) ])) was_free.is;
@@ -300,6 +297,9 @@ module _ (g : Graph) (urgency : List ℕ) (guards : Guards) (a : IsAdmitted g ur
           Contains-flat_map (queued g order rows s) (sent_so_far g order p 0) m.0 x (Contains-append_left (sent_before g order (place order p) (node_of g p)) [] m.0 m.1) m.2)
           (λ z e. e) was_free.tells);
     }
+
+    freed : IsQueuedFor g order (place order p) (node_of g p) → IsFreeOnce g order rows s t p 0 new
+    freed q = freed_by (lines_before.free (node_of g p) (nodes p l) q)
 
     time_here : Tells s (carried g order rows s p) (get_or t.times p None) (times_of g new p)
     time_here = subst (λ (tree : TreeState (Option ℕ)). Tells s (carried g order rows s p) (get_or t.times p None) tree) (sym new_time)
@@ -323,7 +323,7 @@ module _ (g : Graph) (urgency : List ℕ) (guards : Guards) (a : IsAdmitted g ur
             (ready_elsewhere g order topological (place order p) p l refl rows s after t run node other (ready_of g old node) (lines_before.ready node h (waits_before node w)))
       ];
       here = freed;
-      free = λ node h other. subst (λ (tree : TreeState ℕ). IsFreeLine g order rows s t (place order p) node tree) (sym (same_free node)) (lines_before.free node h);
+      free = λ node h other q. subst (λ (tree : TreeState ℕ). IsFreeLine g order rows s t (place order p) node tree) (sym (same_free node)) (lines_before.free node h q);
     }
       where
         sooner_end : (q : ℕ) → q < process_count g → place order q < place order p + 1 → q ≢ p → place order q < place order p

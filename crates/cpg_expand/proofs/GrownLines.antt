@@ -50,7 +50,7 @@ module _ (g : Graph) (order : List ℕ) (topological : IsTopological g order) (r
     times = λ x h l. subst (λ (o : Option ℕ). Tells s (carried g order rows s x) o (times_of g f x)) (a.items x h (item_before g order topological s t u i a x h l)) (lines.times x h l);
     ends = λ q h l. subst (λ (o : Option ℕ). Tells s (carried_at_end g order rows s q) o (ends_of g f q)) (a.ends q h (end_before g order topological s t u i a q l)) (lines.ends q h l);
     ready = λ node l w. let r = lines.ready node l w in record { time = r.time; is = ready_same g order topological s t u i a node r.time r.is; tells = r.tells };
-    free = λ node l. let r = lines.free node l in record { time = r.time; is = free_same g order topological s t u i a node r.time r.is; tells = r.tells };
+    free = λ node l q. let r = lines.free node l q in record { time = r.time; is = free_same g order topological s t u i a node r.time r.is; tells = r.tells };
   }
 
   -- lines go over to a list of frozen times that is the same for what is made before the place
@@ -89,7 +89,7 @@ module _ (g : Graph) (order : List ℕ) (f : ForestState) (bare : IsBare g f) (h
     times = λ x l before. absurd (omega (arith, before));
     ends = λ q l before. absurd (omega (arith, before));
     ready = λ node l w. ready_first node l;
-    free = free_first;
+    free = λ node l q. free_first node l;
   }
 
 pub settled_first : (g : Graph) (order : List ℕ) → AreSettledOf g order (IsEarlier g order 0) (nothing_frozen g)

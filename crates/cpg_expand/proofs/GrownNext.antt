@@ -23,7 +23,8 @@ use Rattle.cpg_run.proofs.Steps.{free_here, free_other}
 use Rattle.cpg_expand.specs.Agreeing.{Tells}
 use Rattle.cpg_expand.specs.Forest.{ForestState, times_of}
 use Rattle.cpg_expand.specs.Grown.{RowsHold, IsFreeLine, Lines, SendLines, IsEarlier, IsDone, AreSettledOf, IsGrown, IsSending, on_node}
-use Rattle.cpg_expand.specs.Sent.{sent_before, sent_so_far}
+use Rattle.cpg_expand.specs.Sent.{IsFreeOnce, sent_before, sent_so_far}
+use Rattle.cpg_expand.specs.Waited.{IsQueuedFor}
 use Rattle.cpg_expand.specs.Waiting.{free_of}
 use Rattle.cpg_expand.proofs.AgreeingTrees.{agrees_constant, agrees_weaker}
 use Rattle.cpg_expand.proofs.NextPlace.{kept_on, here_on}
@@ -83,14 +84,17 @@ module _ (g : Graph) (order : List ℕ) (topological : IsTopological g order) (p
       ]
     ]
 
-    free_line_here : IsFreeLine g order rows s t (place order p + 1) (node_of g p) (free_of g f (node_of g p))
-    free_line_here = record {
-      time = lines.here.time;
-      is = free_here g order topological frozen s t run (place order p) p l refl lines.here.time lines.here.is;
+    queued_before_it : (node : ℕ) → IsQueuedFor g order (place order p + 1) node → IsQueuedFor g order (place order p) node
+    queued_before_it node q = record { other = q.other; within = q.within; sent = q.sent; there = q.there; later = omega (arith, q.later); thawed = q.thawed }
+
+    free_line_here : IsFreeOnce g order rows s t p (length (queue_of g p)) f → IsFreeLine g order rows s t (place order p + 1) (node_of g p) (free_of g f (node_of g p))
+    free_line_here once = record {
+      time = once.time;
+      is = free_here g order topological frozen s t run (place order p) p l refl once.time once.is;
       tells = agrees_weaker s (free_of g f (node_of g p)) (flat_map (queued g order rows s) (sent_so_far g order p (length (queue_of g p)))) (flat_map (queued g order rows s) (sent_before g order (place order p + 1) (node_of g p)))
-          (λ z. z ≡ lines.here.time) (λ z. z ≡ lines.here.time)
+          (λ z. z ≡ once.time) (λ z. z ≡ once.time)
           (λ y j. let r = Contains-flat_map_parts (queued g order rows s) (sent_so_far g order p (length (queue_of g p))) y j in Contains-flat_map (queued g order rows s) (sent_before g order (place order p + 1) (node_of g p)) r.0 y (more r.0 r.1) r.2)
-          (λ z e. e) lines.here.tells;
+          (λ z e. e) once.tells;
     }
       where
         more : (y : ℕ) → Contains (sent_so_far g order p (length (queue_of g p))) y → Contains (sent_before g order (place order p + 1) (node_of g p)) y
@@ -100,9 +104,9 @@ module _ (g : Graph) (order : List ℕ) (topological : IsTopological g order) (p
           | inr i ↦ Contains-flat_map (queue_of g) (on_node g order (place order p + 1) (node_of g p)) p y (here_on g order topological (place order p) p l refl) (Contains-take (length (queue_of g p)) (queue_of g p) y i)
         ]
 
-    free_line_other : (node : ℕ) → node < length g.nodes → node ≢ node_of g p → IsFreeLine g order rows s t (place order p + 1) node (free_of g f node)
-    free_line_other node h other =
-        let line = lines.free node h other in
+    free_line_other : (node : ℕ) → node < length g.nodes → node ≢ node_of g p → IsQueuedFor g order (place order p) node → IsFreeLine g order rows s t (place order p + 1) node (free_of g f node)
+    free_line_other node h other q =
+        let line = lines.free node h other q in
         record {
           time = line.time;
           is = free_other g order topological frozen s t run (place order p) p l refl node line.time other line.is;
@@ -119,9 +123,9 @@ module _ (g : Graph) (order : List ℕ) (topological : IsTopological g order) (p
       times = time_line;
       ends = lines.ends;
       ready = lines.ready;
-      free = λ node h. elim (cases_eq node (node_of g p)) [
-        | inl e ↦ subst (λ n. IsFreeLine g order rows s t (place order p + 1) n (free_of g f n)) (sym e) free_line_here
-        | inr other ↦ free_line_other node h other
+      free = λ node h q. elim (cases_eq node (node_of g p)) [
+        | inl e ↦ subst (λ n. IsFreeLine g order rows s t (place order p + 1) n (free_of g f n)) (sym e) (free_line_here (lines.here (subst (IsQueuedFor g order (place order p)) e (queued_before_it node q))))
+        | inr other ↦ free_line_other node h other (queued_before_it node q)
       ];
     }
 

@@ -8,7 +8,7 @@ use Rattle.cpg_expand.specs.declared.forest.Ready.TheVariants.{After, At}
 use Rattle.cpg_expand.specs.Sent.{IsItemAdded}
 use Rattle.cpg_expand.specs.Waiting.{ready_of, free_of}
 
-module _ (g : Graph) (chooser : TreeState Bool) (x : ℕ) (old new : ForestState) (before after : List (Option ℕ)) (added : IsItemAdded g chooser x old new before after) where
+module _ (g : Graph) (order : List ℕ) (chooser : TreeState Bool) (x : ℕ) (old new : ForestState) (before after : List (Option ℕ)) (added : IsItemAdded g order chooser x old new before after) where
   pub other_times : (y : ℕ) → y ≢ x → times_of g new y ≡ times_of g old y
   other_times y other = ap (λ (f : ForestState). times_of g f y) added.is ∙ get_or-set_other old.times x y added.sent (no_tree g.faults) other
 

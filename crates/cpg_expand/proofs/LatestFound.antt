@@ -4,7 +4,7 @@ use Rattle.std.specs.Option.{IfNone, IfSome}
 use Rattle.std.proofs.Math.Seq.{take-suc}
 use Rattle.std.proofs.lemmas.Bool.{and_from, and_parts, cases_lt, ne_eqb}
 use Rattle.std.proofs.lemmas.List.Elements.{Contains-append_cases}
-use Rattle.cpg_base.specs.Bus.{slot_length}
+use Rattle.cpg_base.specs.Bus.{round, slot_length}
 use Rattle.cpg_base.specs.Graph.{Graph, process_count, process_of, node_of, source, home, is_message, message_item, broadcast_item}
 use Rattle.cpg_base.specs.Scenario.{Scenario, IsScenario}
 use Rattle.cpg_base.proofs.Lists.{Contains-cases, Contains-nil}
@@ -17,9 +17,10 @@ use Rattle.cpg_tree.proofs.OnePath.{scenario_few, the_path}
 use Rattle.cpg_expand.specs.Agreeing.{IsTree}
 use Rattle.cpg_expand.specs.Forest.{ForestState, times_of, ends_of, heard_tree, heard_delay, input_tree, input_delay}
 use Rattle.cpg_expand.specs.Earlier.{IsBetween, IsAskedTree, IsBothTree}
-use Rattle.cpg_expand.specs.Latest.{HasEnded, HasEndedOf, HasHeard, HasHeardOf, HasInput, HasInputOf, HasLater, IsRaised, or_later}
+use Rattle.cpg_expand.specs.Latest.{HasEnded, HasEndedOf, HasHeard, HasHeardOf, HasInput, HasInputOf, HasLater, HasQueued, HasQueuedOf, IsRaised, or_later}
 use Rattle.cpg_expand.specs.Tops.{IsTop}
 use Rattle.cpg_expand.specs.Values.{time_later}
+use Rattle.cpg_expand.specs.Waited.{stands_before}
 
 -- ---- the greatest time of a tree where another one is true
 
@@ -176,6 +177,34 @@ module _ (g : Graph) (order : List ℕ) (f : ForestState) (active : TreeState Bo
       split n s h = elim (cases_lt h.process q) [
         | inl less ↦ inl (record { process = h.process; below = less; there = h.there })
         | inr more ↦ inr (subst (λ d. HasEnded g order f active node from to d n s) (let e : h.process ≡ q = omega (arith, h.below, more) in e) h.there)
+      ]
+
+-- ---- what stands before an item in the queue of its node
+
+module _ (g : Graph) (order : List ℕ) (f : ForestState) (goes : TreeState Bool) (x : ℕ) where
+  pub not_queued : (y latest : ℕ) → stands_before g order y x ≡ false → IsRaised g (HasQueued g order f goes x y) latest latest
+  not_queued y latest off = raised_by_none g (HasQueued g order f goes x y) (HasQueued g order f goes x y) (λ n s h. apart (sym h.before ∙ off)) latest
+    where
+      apart : true ≡ false → ⊥
+      apart e = cc
+
+  pub one_queued : (y old new : ℕ) → stands_before g order y x ≡ true → IsRaised g (HasLater (times_of g f y) goes (round g)) old new → IsRaised g (HasQueued g order f goes x y) old new
+  one_queued y old new on = raised_as g (HasLater (times_of g f y) goes (round g)) (HasQueued g order f goes x y) (λ n s law h. h.there) (λ n s law h. record { before = on; there = h }) old new
+
+  pub none_queued : (first : ℕ) → IsRaised g (HasQueuedOf g order f goes x 0) first first
+  none_queued first = raised_by_none g (HasQueuedOf g order f goes x 0) (HasQueuedOf g order f goes x 0) (λ n s h. below n s h) first
+    where
+      below : (n : ℕ) (s : Scenario) → HasQueuedOf g order f goes x 0 n s → ⊥
+      below n s h = omega (arith, h.below)
+
+  pub next_queued : (y first mid last : ℕ) → IsRaised g (HasQueuedOf g order f goes x y) first mid → IsRaised g (HasQueued g order f goes x y) mid last → IsRaised g (HasQueuedOf g order f goes x (y + 1)) first last
+  next_queued y first mid last = raised_on g (HasQueuedOf g order f goes x y) (HasQueued g order f goes x y) (HasQueuedOf g order f goes x (y + 1)) split
+      (λ n s h. record { item = h.item; below = omega (arith, h.below); there = h.there }) (λ n s h. record { item = y; below = omega arith; there = h }) first mid last
+    where
+      split : (n : ℕ) (s : Scenario) → HasQueuedOf g order f goes x (y + 1) n s → HasQueuedOf g order f goes x y n s ⊎ HasQueued g order f goes x y n s
+      split n s h = elim (cases_lt h.item y) [
+        | inl less ↦ inl (record { item = h.item; below = less; there = h.there })
+        | inr more ↦ inr (subst (λ d. HasQueued g order f goes x d n s) (let e : h.item ≡ y = omega (arith, h.below, more) in e) h.there)
       ]
 
 -- ---- inputs

@@ -1,7 +1,7 @@
 -- When a node goes on after a frozen process, as the code finds it.
-use Rattle.std.proofs.Common.{ℕ, ◌+◌, ◌<◌, ◌≡◌, ◌==◌, ◌&&◌, nat_lt, not, Bool, true, false, List, Option, arith, eq-eqb, lt-ltb, inl, inr, sym, ap, ◌∙◌, subst}
-use Rattle.std.proofs.lemmas.Bool.{and_from, cases_lt}
-use Rattle.cpg_base.specs.Graph.{Graph, node_of, is_frozen}
+use Rattle.std.proofs.Common.{ℕ, ◌+◌, ◌<◌, ◌≡◌, ◌==◌, ◌&&◌, ◌≤◌, nat_le, nat_lt, not, Bool, true, false, List, Option, arith, eq-eqb, lt-ltb, inl, inr, sym, ap, ◌∙◌, subst}
+use Rattle.std.proofs.lemmas.Bool.{and_from, cases_lt, le-leb}
+use Rattle.cpg_base.specs.Graph.{Graph, node_of, home, producer, is_frozen, is_sent}
 use Rattle.cpg_base.specs.Order.{place}
 use Rattle.cpg_base.specs.Scenario.{Scenario}
 use Rattle.cpg_base.proofs.Lists.{Contains-nil}
@@ -41,3 +41,19 @@ none_waits g order node at k b before is off q below there behind thawed = elim 
     by : q ≡ k → ⊥
     by e = apart (sym (and_from (node_of g k == node) (nat_lt at (place order k) && not (is_frozen g k)) (eq-eqb (node_of g k) node (ap (node_of g) (sym e) ∙ there))
         (and_from (nat_lt at (place order k)) (not (is_frozen g k)) (lt-ltb at (place order k) (subst (λ n. at < place order n) e behind)) (ap not (ap (is_frozen g) (sym e) ∙ thawed)))) ∙ sym is ∙ off)
+
+-- one more item is none that goes by when slots are free
+pub none_goes_by : (g : Graph) (order : List ℕ) (node at k : ℕ) (b : Bool) → ((y : ℕ) → y < k → is_sent g y ≡ true → home g y ≡ node → at ≤ place order (producer g y) → is_frozen g y ≡ false → ⊥) →
+    b ≡ ((is_sent g k && not (is_frozen g k)) && ((home g k == node) && nat_le at (place order (producer g k)))) → b ≡ false → (y : ℕ) → y < k + 1 → is_sent g y ≡ true → home g y ≡ node → at ≤ place order (producer g y) → is_frozen g y ≡ false → ⊥
+none_goes_by g order node at k b before is off y below sent there behind thawed = elim (cases_lt y k) [
+  | inl less ↦ before y less sent there behind thawed
+  | inr more ↦ by (let e : y ≡ k = omega (arith, below, more) in e)
+]
+  where
+    apart : true ≡ false → ⊥
+    apart e = cc
+
+    by : y ≡ k → ⊥
+    by e = apart (sym (and_from (is_sent g k && not (is_frozen g k)) ((home g k == node) && nat_le at (place order (producer g k)))
+        (and_from (is_sent g k) (not (is_frozen g k)) (ap (is_sent g) (sym e) ∙ sent) (ap not (ap (is_frozen g) (sym e) ∙ thawed)))
+        (and_from (home g k == node) (nat_le at (place order (producer g k))) (eq-eqb (home g k) node (ap (home g) (sym e) ∙ there)) (le-leb at (place order (producer g k)) (subst (λ n. at ≤ place order (producer g n)) e behind)))) ∙ sym is ∙ off)

@@ -1,22 +1,20 @@
--- The time of what a process sends, where it isn't frozen, is the run's; and what it would be if it weren't frozen.
-use Rattle.std.proofs.Common.{ℕ, ◌^◌, ◌<◌, ◌≡◌, max, Bool, true, false, if◌then◌else◌, List, length, get_or, Option, Some, None, unwrap_or, option_to_list, arith, lt-ltb, refl, sym, ap, ◌∙◌}
+-- The time of what a process sends, where it isn't frozen, is the run's.
+use Rattle.std.proofs.Common.{ℕ, ◌^◌, ◌<◌, ◌≡◌, max, Bool, true, false, if◌then◌else◌, List, length, get_or, Option, Some, None, unwrap_or, arith, lt-ltb, refl, sym, ap, ◌∙◌}
 use Rattle.std.proofs.lemmas.Bool.{cond-true, cond-false}
 use Rattle.cpg_base.specs.Graph.{Graph, process_count, item_count, item_at, node_of}
 use Rattle.cpg_base.specs.Activity.{active, item_active}
 use Rattle.cpg_base.specs.Bus.{next_slot}
-use Rattle.cpg_base.proofs.Lists.{greatest-cons}
 use Rattle.cpg_bus.specs.Plan.{queue_of}
 use Rattle.cpg_bus.specs.Share.{ShareState, share_of, next_of}
 use Rattle.cpg_bus.proofs.Queued.{in_queue}
 use Rattle.cpg_order.specs.Urgency.{IsTopological}
 use Rattle.cpg_base.specs.Scenario.{Scenario}
-use Rattle.cpg_run.specs.Run.{Times, IsRun, time_in, end_in, unfrozen_time}
+use Rattle.cpg_run.specs.Run.{Times, IsRun, time_in, end_in}
 use Rattle.cpg_run.specs.Known.{AreSmall, frozen_in}
 use Rattle.cpg_run.specs.Most.{IsMost}
 use Rattle.cpg_run.specs.Progress.{IsSentBy, free_after}
-use Rattle.cpg_run.proofs.Runs.{time_is, time_in_active, has_time, has_end}
+use Rattle.cpg_run.proofs.Runs.{time_is, has_time, has_end}
 use Rattle.cpg_run.proofs.Sends.{send_is, here_sent}
-use Rattle.cpg_run.proofs.Starts.{greatest_option}
 use Rattle.cpg_expand.specs.Values.{slot_from}
 
 -- the slot after an end
@@ -34,17 +32,6 @@ module _ (g : Graph) (order : List ℕ) (topological : IsTopological g order) (s
       let is = send_is g order topological s p l k inside frozen t run free is_free acts in
       let none : frozen_in frozen here ≡ 0 = ap (λ o. unwrap_or o 0) thawed in
       omega (arith, is, none)
-
-  -- which is the time that the item would have if it were not frozen
-  pub unfrozen_send_value : item_active g s.values (item_at g here) ≡ true → unfrozen_time g order s t here ≡ max (next_slot g (node_of g p) (end_in t p)) free
-  unfrozen_send_value acts =
-      let x = in_queue g p here (here_sent g order topological s p l k inside) in
-      let found = slot_is acts in
-      let of_run = time_in_active g order frozen s t run here x.within acts in
-      let both = greatest-cons (unfrozen_time g order s t here) (option_to_list (get_or frozen here None)) in
-      let last = greatest_option (get_or frozen here None) in
-      let none : unwrap_or (get_or frozen here None) 0 ≡ 0 = ap (λ o. unwrap_or o 0) thawed in
-      omega (arith, found, of_run, both, last, none)
 
   -- the time that the trees tell is the run's
   pub send_value : AreSmall t → (item_active g s.values (item_at g here) ≡ true → active g s.values p ≡ true) → (if item_active g s.values (item_at g here) then slot_from (share_of g (node_of g p)) free (get_or t.ends p None) else None) ≡ get_or t.times here None

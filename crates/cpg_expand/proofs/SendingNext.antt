@@ -1,15 +1,21 @@
 -- One item after another is sent, until the process has sent all that it sends.
-use Rattle.std.proofs.Common.{ℕ, ◌+◌, suc, ◌<◌, ◌≡◌, ◌≢◌, max, Bool, true, false, List, [], ◌∷◌, ◌++◌, length, take, get_or, flat_map, Option, Some, None, unwrap_or, Contains, ◌⊎◌, arith, refl, sym, ap, ◌∙◌, subst, inl, inr}
+use Rattle.std.proofs.Common.{ℕ, ◌+◌, suc, ◌<◌, ◌≡◌, ◌≢◌, ◌&&◌, ◌==◌, nat_lt, Bool, true, false, List, [], ◌∷◌, ◌++◌, length, filter, take, get_or, Option, Some, None, unwrap_or, Contains, ◌⊎◌, arith, ⊎_elim, lt-ltb, ltb-true, refl, sym, ap, ◌∙◌, subst, inl, inr}
 use Rattle.std.proofs.Math.Seq.{take-suc}
 use Rattle.std.proofs.lemmas.List.Elements.{Contains-append_cases}
 use Rattle.cpg_base.specs.Graph.{Graph, process_count, item_count, item_at, node_of, home, producer, is_sent, is_sent_item}
-use Rattle.cpg_base.specs.Bus.{next_slot}
+use Rattle.std.proofs.lemmas.Bool.{and_from, and_parts, or_cases, or_left, or_right}
+use Rattle.cpg_base.specs.Bus.{round}
+use Rattle.cpg_base.specs.Numbers.{numbers_below}
+use Rattle.cpg_base.proofs.Bounds.{round-le}
+use Rattle.cpg_base.proofs.Places.{Contains-order, on_node_before, places_from_comes_before, comes_before_from_places}
+use Rattle.cpg_order.specs.Queue.{is_queued_before, queued_before}
+use Rattle.cpg_order.proofs.Queues.{queued_from}
 use Rattle.cpg_base.specs.Activity.{active, is_active, item_active}
 use Rattle.cpg_base.specs.declared.activation.Activation.{Activation}
 use Rattle.cpg_base.specs.declared.item.Item.{Item}
 use Rattle.cpg_base.specs.declared.item.Item.TheVariants.{Start, Message, Broadcast}
 use Rattle.cpg_base.specs.Limits.{IsWithinLimits}
-use Rattle.cpg_base.proofs.Lists.{Contains-cases, Contains-nil, Contains-filter, Contains-filter_parts, Contains-numbers, Contains-map, Contains-map_parts}
+use Rattle.cpg_base.proofs.Lists.{greatest_above, numbers-Contains, Contains-cases, Contains-rest, Contains-nil, Contains-filter, Contains-filter_parts, Contains-flat_map_parts, Contains-numbers, Contains-map, Contains-map_parts}
 use Rattle.cpg_bus.specs.Plan.{queue_of}
 use Rattle.cpg_bus.proofs.Queued.{in_queue}
 use Rattle.cpg_rules.proofs.Ways.{ways_are_deciding}
@@ -18,16 +24,16 @@ use Rattle.cpg_order.specs.Deciding.{decides, deciding}
 use Rattle.cpg_order.specs.Guard.{Guard, way, outcome_at, IsGuardOf}
 use Rattle.cpg_base.specs.Scenario.{Scenario, IsScenario}
 use Rattle.cpg_order.specs.Urgency.{IsTopological, IsUrgencyOrder}
-use Rattle.cpg_base.specs.Order.{place}
+use Rattle.cpg_base.specs.Order.{place, before_on_node, comes_before}
 use Rattle.cpg_order.proofs.Along.{from_along}
-use Rattle.cpg_order.proofs.Moments.{moment}
+use Rattle.cpg_order.proofs.Moments.{moment, producer_in_range}
 use Rattle.cpg_cube.specs.Column.{Column}
-use Rattle.cpg_run.specs.Run.{Times, IsRun, end_in}
-use Rattle.cpg_run.specs.Carried.{decided, carried, carried_by_item, carried_at_end, carried_at_send, queued}
+use Rattle.cpg_run.specs.Run.{Times, IsRun, end_in, time_in, send_bounds}
+use Rattle.cpg_run.specs.Carried.{decided, carried, carried_by_item, carried_at_end, carried_at_send}
 use Rattle.cpg_run.specs.Known.{AreEarly, AreSmall}
 use Rattle.cpg_run.proofs.EarlyTimes.{early_from_low}
 use Rattle.cpg_run.proofs.RunExists.{a_run}
-use Rattle.cpg_run.proofs.Runs.{has_end}
+use Rattle.cpg_run.proofs.Runs.{has_end, has_time, time_parts, unfrozen_sent}
 use Rattle.cpg_run.proofs.RunUnique.{agree_before}
 use Rattle.cpg_run.proofs.SameSends.{producer_active}
 use Rattle.cpg_run.proofs.Sends.{here_sent, in_next}
@@ -37,20 +43,21 @@ use Rattle.cpg_expand.specs.Agreeing.{IsTree, Tells}
 use Rattle.cpg_expand.specs.Forest.{ForestState, HasTrees, times_of, ends_of}
 use Rattle.cpg_expand.specs.Grown.{RowsHold, IsReadyLine, IsFreeLine, SendLines, LeavesUnsent, IsDone, AreSettledOf, IsSending}
 use Rattle.cpg_expand.specs.Guarded.{IsActiveTree, value_known, values_known}
-use Rattle.cpg_expand.specs.Sent.{IsFrozenSend, IsItemAdded, IsSentFor, AreItemsAdded, IsFreeOnce, sent_so_far}
-use Rattle.cpg_expand.specs.Waiting.{free_of}
-use Rattle.cpg_tree.proofs.OnePath.{scenario_few}
+use Rattle.cpg_expand.specs.Sent.{IsFrozenSend, IsItemAdded, IsSentFor, AreItemsAdded, IsFreeOnce, sent_before}
+use Rattle.cpg_expand.specs.Waited.{IsQueuedFor, stands_before}
+use Rattle.cpg_tree.proofs.OnePath.{scenario_few, the_path}
 use Rattle.cpg_expand.proofs.AgreeingTrees.{agrees_weaker}
 use Rattle.cpg_expand.proofs.Begun.{own_rows, own_rows_hold}
-use Rattle.cpg_expand.proofs.FreeRead.{free_tree, has_put}
+use Rattle.cpg_expand.proofs.FreeRead.{has_put}
 use Rattle.cpg_expand.proofs.FrozenFound.{IsFound, frozen_found}
 use Rattle.cpg_expand.proofs.ItemKept.{other_times, same_ends, same_ready, other_free}
 use Rattle.cpg_expand.proofs.LatestSend.{IsToldSend, send_above, send_reached}
 use Rattle.cpg_expand.proofs.NextPlace.{settled_idle, settled_more}
 use Rattle.cpg_expand.proofs.SendingOver.{done_sooner, send_lines_over}
-use Rattle.cpg_expand.proofs.SendValue.{unfrozen_send_value}
+use Rattle.cpg_expand.proofs.SentBefore.{queued_so_far}
+use Rattle.cpg_expand.proofs.StartTimes.{later_exact}
 use Rattle.cpg_expand.proofs.SentOne.{item_told, free_once}
-use Rattle.cpg_expand.proofs.TreesTold.{ends_tree}
+use Rattle.cpg_expand.proofs.TreesTold.{ends_tree, times_tree}
 
 -- the tree of a guard tells where its process is active, and no more than what decides it
 pub chosen_told : (g : Graph) (urgency : List ℕ) → IsUrgencyOrder g urgency → IsTopological g urgency → (p : ℕ) (guard : Guard) → IsGuardOf g urgency p guard → (chooser : TreeState Bool) → IsActiveTree g.faults guard chooser →
@@ -73,7 +80,7 @@ carried_sent g order rows s x (Broadcast c) is = refl
 module _ (g : Graph) (limits : IsWithinLimits g) (order : List ℕ) (topological : IsTopological g order) (p : ℕ) (l : p < process_count g) (on_node : node_of g p < length g.nodes) (chooser : TreeState Bool)
     (chosen : (s : Scenario) → IsScenario g s → Tells s (decided g s p) (active g s.values p) chooser) where
   module _ (k : ℕ) (inside : k < length (queue_of g p)) (old new : ForestState) (before after : List (Option ℕ)) (sending : IsSending g order p k before old)
-      (added : IsItemAdded g chooser (get_or (queue_of g p) k 0) old new before after) where
+      (added : IsItemAdded g order chooser (get_or (queue_of g p) k 0) old new before after) where
     abbrev here : ℕ
     here = get_or (queue_of g p) k 0
 
@@ -131,44 +138,81 @@ module _ (g : Graph) (limits : IsWithinLimits g) (order : List ℕ) (topological
     early_before : AreEarly before
     early_before = early_from_low g order before limits topological sending.settled.count sending.settled.low
 
+    -- what stands before it is done
+    done_before : (y : ℕ) → Contains (queued_before g order here) y → IsDone g order p k y
+    done_before y c = elim (Contains-append_cases (sent_before g order (place order p) (node_of g p)) (take k (queue_of g p)) y (queued_so_far g order topological (record { faults = []; values = [] }) p l k inside y c)) [
+      | inl i ↦
+          let r = Contains-flat_map_parts (queue_of g) (before_on_node g order p) y i in
+          let q = in_queue g r.0 y r.2 in
+          inl (omega (arith, (on_node_before g order p r.0 r.1).1, ap (place order) q.by))
+      | inr i ↦ inr (inr i)
+    ]
+
+    within_before : (y : ℕ) → Contains (queued_before g order here) y → y < item_count g
+    within_before y c = numbers-Contains (item_count g) y (Contains-filter_parts (λ y. is_queued_before g order y here) (numbers_below (item_count g)) y c).0
+
+    by_places : (y : ℕ) → Contains (queued_before g order here) y → stands_before g order y here ≡ true
+    by_places y c =
+        let b = and_parts (is_sent g y && (home g y == home g here)) _ (Contains-filter_parts (λ y. is_queued_before g order y here) (numbers_below (item_count g)) y c).1 in
+        and_from (is_sent g y && (home g y == home g here)) _ b.0 (⊎_elim
+        (λ (e : comes_before order (producer g y) (producer g here) ≡ true). or_left _ _ (lt-ltb _ _ (places_from_comes_before order (producer g y) (producer g here) e)))
+        (λ e. or_right _ _ e)
+        (or_cases _ _ b.1))
+
+    from_places : (y : ℕ) → y < item_count g → stands_before g order y here ≡ true → Contains (queued_before g order here) y
+    from_places y h is =
+        let b = and_parts (is_sent g y && (home g y == home g here)) _ is in
+        queued_from g order topological here y h (and_from (is_sent g y && (home g y == home g here)) _ b.0 (⊎_elim
+        (λ (e : nat_lt (place order (producer g y)) (place order (producer g here)) ≡ true). or_left _ _ (comes_before_from_places order (producer g y) (producer g here) (Contains-order (process_count g) order topological.all (producer g y) (producer_in_range g order topological y h)) (ltb-true _ _ e)))
+        (λ e. or_right _ _ e)
+        (or_cases _ _ b.1)))
+
     -- what the trees tell of it
-    told_send : (s : Scenario) → IsScenario g s → (t : Times) → IsRun g order before s t → IsToldSend g order added.goes (ends_of g old (producer g here)) (free_of g old (home g here)) p here s t
+    told_send : (s : Scenario) → IsScenario g s → (t : Times) → IsRun g order before s t → IsToldSend g order old added.goes (ends_of g old (producer g here)) here s t
     told_send s law t run =
         let rows : List (List Column) = own_rows old in
         let few = scenario_few g s law in
         let lines = sending.lines rows (own_rows_hold g order (place order p) old sending.trees) s law t run in
         let small = run_small g order before s t limits topological law early_before run in
         let goes = added.goes_where s few (decided g s (producer g here)) (subst (λ q. Tells s (decided g s q) (active g s.values q) chooser) (sym by_p) (chosen s law)) in
-        let ends = subst (λ q. Tells s (carried_at_end g order rows s p) (get_or t.ends p None) (ends_of g old q)) (sym by_p) (lines.ends p l p_ends) in
-        let frees = subst (λ q. Tells s (flat_map (queued g order rows s) (sent_so_far g order p k)) lines.here.time (free_of g old (node_of g q))) (sym by_p) lines.here.tells in
+        let ends = subst (λ q. Tells s (carried_at_end g order rows s q) (get_or t.ends q None) (ends_of g old q)) (sym by_p) (lines.ends p l p_ends) in
         record {
           acts = λ c on. goes.value c on;
           ends = λ e on. ends.value e on;
-          ended = λ on. let is = has_end g order before s t run p l (acts s on) in is ∙ ap (λ n. Some n) (sym (ap (λ o. unwrap_or o 0) is));
-          early = small.ends p;
-          time = lines.here.time;
-          frees = λ y on. frees.value y on;
-          value = λ on. unfrozen_send_value g order topological s p l before t run k inside lines.here.time lines.here.is unset on
-              ∙ ap (λ q. max (next_slot g (node_of g q) (end_in t p)) lines.here.time) (sym by_p);
+          ended = λ on. subst (λ q. get_or t.ends q None ≡ Some (end_in t q)) (sym by_p) (let is = has_end g order before s t run p l (acts s on) in is ∙ ap (λ n. Some n) (sym (ap (λ o. unwrap_or o 0) is)));
+          early = small.ends (producer g here);
+          value = unfrozen_sent g order before s t run here goes_over;
+          sent = λ y c a.
+              let h = within_before y c in
+              let w = the_path g.faults (times_of g old y).paths (times_tree g old sending.trees y h).each s few in (
+                time_in t y,
+                (w.0, w.1, (lines.times y h (done_before y c)).value w.0 w.1 ∙ has_time g order before s t run y h a),
+                sym (later_exact (Some (time_in t y)) (round g) (small.times y) (round-le g limits)),
+                h,
+                by_places y c,
+              );
+          came = λ y time h is v.
+              let c = from_places y h is in
+              let r = time_parts g order before s t run y time (sym ((lines.times y h (done_before y c)).value v.0 v.1) ∙ v.2) in
+              let bound = greatest_above (send_bounds g order s t here) (time_in t y + round g) (Contains-rest _ _ _ (Contains-map (λ z. time_in t z + round g) (filter (λ z. item_active g s.values (item_at g z)) (queued_before g order here)) y
+              (Contains-filter (λ z. item_active g s.values (item_at g z)) (queued_before g order here) y r.1 c))) in
+              omega (arith, r.2, bound);
         }
 
     of_ends : IsTree g (ends_of g old (producer g here))
     of_ends = subst (λ q. IsTree g (ends_of g old q)) (sym by_p) (ends_tree g old sending.trees p l)
 
-    of_free : IsTree g (free_of g old (home g here))
-    of_free = subst (λ q. IsTree g (free_of g old (node_of g q))) (sym by_p) (free_tree g old sending.trees (node_of g p) on_node)
-
-    found : IsFrozenSend g added.goes here old before after added.sent → IsFound g order before here after
+    found : IsFrozenSend g order added.goes here old before after added.sent → IsFound g order before here after
     found f = frozen_found g order topological before here (omega (arith, within, sending.settled.count)) unset f.latest
-        (send_above g order before topological added.goes added.goes_tree (ends_of g old (producer g here)) of_ends (free_of g old (home g here)) of_free p here told_send f.latest f.top)
-        (send_reached g order before topological added.goes added.goes_tree (ends_of g old (producer g here)) of_ends (free_of g old (home g here)) of_free p here told_send f.latest f.top) after f.frozen.set
+        (send_above g order before topological old added.goes added.goes_tree (ends_of g old (producer g here)) of_ends here told_send f.latest f.top)
+        (send_reached g order before topological old added.goes added.goes_tree (ends_of g old (producer g here)) of_ends here told_send f.latest f.top) after f.frozen.set
 
     -- ---- the frozen times
 
     settled_then : AreSettledOf g order (IsDone g order p (k + 1)) after
     settled_then = by added.sends
       where
-        by : IsSentFor g added.goes here old before after added.sent → AreSettledOf g order (IsDone g order p (k + 1)) after
+        by : IsSentFor g order added.goes here old before after added.sent → AreSettledOf g order (IsDone g order p (k + 1)) after
         by (inl th) = subst (AreSettledOf g order (IsDone g order p (k + 1))) (sym th.1)
             (settled_idle g order topological limits (IsDone g order p k) (IsDone g order p (k + 1)) before sending.settled here within later grows one_more only th.0)
         by (inr f) =
@@ -178,7 +222,7 @@ module _ (g : Graph) (limits : IsWithinLimits g) (order : List ℕ) (topological
     same_others : (x : ℕ) → x ≢ here → get_or before x None ≡ get_or after x None
     same_others x other = by added.sends
       where
-        by : IsSentFor g added.goes here old before after added.sent → get_or before x None ≡ get_or after x None
+        by : IsSentFor g order added.goes here old before after added.sent → get_or before x None ≡ get_or after x None
         by (inl th) = sym (ap (λ fs. get_or fs x None) th.1)
         by (inr f) = let r = found f.1 in sym (r.same x other)
 
@@ -190,7 +234,7 @@ module _ (g : Graph) (limits : IsWithinLimits g) (order : List ℕ) (topological
     hold_old : (rows : List (List Column)) → RowsHold g order (place order p) new rows → RowsHold g order (place order p) old rows
     hold_old rows hold = record {
       sends = λ x h sent sooner path time j is. hold.sends x h sent sooner path time
-          (subst (λ (tree : TreeState (Option ℕ)). Contains tree.paths path) (sym (other_times g chooser here old new before after added x (apart x h (inl sooner)))) j) is;
+          (subst (λ (tree : TreeState (Option ℕ)). Contains tree.paths path) (sym (other_times g order chooser here old new before after added x (apart x h (inl sooner)))) j) is;
     }
 
     module _ (rows : List (List Column)) (hold : RowsHold g order (place order p) new rows) (s : Scenario) (law : IsScenario g s) (t : Times) (run : IsRun g order after s t) where
@@ -209,26 +253,26 @@ module _ (g : Graph) (limits : IsWithinLimits g) (order : List ℕ) (topological
           (item_told g limits order topological rows s law (scenario_few g s law) after t run small p l k inside chooser old new before after sending.trees added on_node (chosen s law)
           (λ on. old_lines.ends p l p_ends) old_lines.here refl (omega (arith, within, sending.settled.count)) unset (λ is. settled_then.each here within is one_more))
 
-      freed : IsFreeOnce g order rows s t p (k + 1) new
-      freed = free_once g limits order topological rows s law (scenario_few g s law) after t run small p l k inside chooser old new before after sending.trees added on_node (chosen s law)
-          (λ on. old_lines.ends p l p_ends) old_lines.here refl (omega (arith, within, sending.settled.count)) unset (λ is. settled_then.each here within is one_more)
+      freed : IsQueuedFor g order (place order p) (node_of g p) → IsFreeOnce g order rows s t p (k + 1) new
+      freed q = free_once g limits order topological rows s law (scenario_few g s law) after t run small p l k inside chooser old new before after sending.trees added on_node (chosen s law)
+          (λ on. old_lines.ends p l p_ends) old_lines.here refl (omega (arith, within, sending.settled.count)) unset (λ is. settled_then.each here within is one_more) q
 
       send_lines : SendLines g order rows s t p (k + 1) new
       send_lines = record {
         times = λ x h done. elim (only x done) [
-          | inl d ↦ subst (λ (tree : TreeState (Option ℕ)). Tells s (carried g order rows s x) (get_or t.times x None) tree) (sym (other_times g chooser here old new before after added x (apart x h d))) (old_lines.times x h d)
+          | inl d ↦ subst (λ (tree : TreeState (Option ℕ)). Tells s (carried g order rows s x) (get_or t.times x None) tree) (sym (other_times g order chooser here old new before after added x (apart x h d))) (old_lines.times x h d)
           | inr e ↦ subst (λ z. Tells s (carried g order rows s z) (get_or t.times z None) (times_of g new z)) (sym e) told_here
         ];
-        ends = λ q h less. subst (λ (tree : TreeState (Option ℕ)). Tells s (carried_at_end g order rows s q) (get_or t.ends q None) tree) (sym (same_ends g chooser here old new before after added q)) (old_lines.ends q h less);
-        ready = λ node h w. subst (λ (tree : TreeState ℕ). IsReadyLine g order rows s t (place order p + 1) node tree) (sym (same_ready g chooser here old new before after added node)) (old_lines.ready node h w);
+        ends = λ q h less. subst (λ (tree : TreeState (Option ℕ)). Tells s (carried_at_end g order rows s q) (get_or t.ends q None) tree) (sym (same_ends g order chooser here old new before after added q)) (old_lines.ends q h less);
+        ready = λ node h w. subst (λ (tree : TreeState ℕ). IsReadyLine g order rows s t (place order p + 1) node tree) (sym (same_ready g order chooser here old new before after added node)) (old_lines.ready node h w);
         here = freed;
-        free = λ node h other. subst (λ (tree : TreeState ℕ). IsFreeLine g order rows s t (place order p) node tree)
-            (sym (other_free g chooser here old new before after added node (λ e. other (e ∙ ap (node_of g) by_p)))) (old_lines.free node h other);
+        free = λ node h other q. subst (λ (tree : TreeState ℕ). IsFreeLine g order rows s t (place order p) node tree)
+            (sym (other_free g order chooser here old new before after added node (λ e. other (e ∙ ap (node_of g) by_p)))) (old_lines.free node h other q);
       }
 
     unsent_then : LeavesUnsent g new
     unsent_then x big h is =
-        subst (λ (tree : TreeState (Option ℕ)). IsConstant None g.faults tree) (sym (other_times g chooser here old new before after added x (λ e. absurd (not_both (sym (ap (is_sent g) e ∙ goes_over) ∙ is))))) (sending.unsent x big h is)
+        subst (λ (tree : TreeState (Option ℕ)). IsConstant None g.faults tree) (sym (other_times g order chooser here old new before after added x (λ e. absurd (not_both (sym (ap (is_sent g) e ∙ goes_over) ∙ is))))) (sending.unsent x big h is)
       where
         not_both : true ≡ false → ⊥
         not_both e = cc
@@ -239,7 +283,7 @@ module _ (g : Graph) (limits : IsWithinLimits g) (order : List ℕ) (topological
 
   -- and so all of them
   rest_sent : (xs : List ℕ) (k : ℕ) → k + length xs ≡ length (queue_of g p) → ((i : ℕ) → i < length xs → get_or xs i 0 ≡ get_or (queue_of g p) (k + i) 0) → (old new : ForestState) (before after : List (Option ℕ)) →
-      IsSending g order p k before old → AreItemsAdded g chooser xs old new before after → IsSending g order p (length (queue_of g p)) after new
+      IsSending g order p k before old → AreItemsAdded g order chooser xs old new before after → IsSending g order p (length (queue_of g p)) after new
   rest_sent [] k count is old new before after sending none =
       let all : k ≡ length (queue_of g p) = omega (arith, count) in
       subst (λ n. IsSending g order p n after new) all (subst (λ f. IsSending g order p k after f) (sym none.0) (subst (λ h. IsSending g order p k h old) (sym none.1) sending))
@@ -247,7 +291,7 @@ module _ (g : Graph) (limits : IsWithinLimits g) (order : List ℕ) (topological
       let inside : k < length (queue_of g p) = omega (arith, count) in
       let first : x ≡ get_or (queue_of g p) k 0 = is 0 (omega arith) ∙ ap (λ n. get_or (queue_of g p) n 0) (let e : k + 0 ≡ k = omega arith in e) in
       rest_sent xs (k + 1) (omega (arith, count)) (λ i h. is (suc i) (omega (arith, h)) ∙ ap (λ n. get_or (queue_of g p) n 0) (let e : k + suc i ≡ k + 1 + i = omega arith in e)) more.0 new more.1 after
-      (next_sent k inside old more.0 before more.1 sending (subst (λ y. IsItemAdded g chooser y old more.0 before more.1) first more.2)) more.3
+      (next_sent k inside old more.0 before more.1 sending (subst (λ y. IsItemAdded g order chooser y old more.0 before more.1) first more.2)) more.3
 
-  pub all_sent : (old new : ForestState) (before after : List (Option ℕ)) → IsSending g order p 0 before old → AreItemsAdded g chooser (queue_of g p) old new before after → IsSending g order p (length (queue_of g p)) after new
+  pub all_sent : (old new : ForestState) (before after : List (Option ℕ)) → IsSending g order p 0 before old → AreItemsAdded g order chooser (queue_of g p) old new before after → IsSending g order p (length (queue_of g p)) after new
   all_sent old new before after sending added = rest_sent (queue_of g p) 0 (omega arith) (λ i h. let first : ℕ = 0 in ap (λ n. get_or (queue_of g p) n 0) (let e : i ≡ first + i = omega arith in e)) old new before after sending added

@@ -103,6 +103,6 @@ module _ (g : Graph) (order : List ℕ) (topological : IsTopological g order) (p
       times = λ x h done. subst (λ (o : Option ℕ). Tells s (carried g order rows s x) o (times_of g f x)) (a.items x h (done_sooner x h done)) (lines.times x h done);
       ends = λ q h less. subst (λ (o : Option ℕ). Tells s (carried_at_end g order rows s q) o (ends_of g f q)) (a.ends q h (end_before q less)) (lines.ends q h less);
       ready = λ node h w. let r = lines.ready node h w in record { time = r.time; is = ready_over node r.time r.is; tells = r.tells };
-      here = record { time = lines.here.time; is = free_over lines.here.time lines.here.is; tells = lines.here.tells };
-      free = λ node h other. let r = lines.free node h other in record { time = r.time; is = free_same g order topological s t u (place order p) before_place node r.time r.is; tells = r.tells };
+      here = λ q. let h = lines.here q in record { time = h.time; is = free_over h.time h.is; tells = h.tells };
+      free = λ node h other q. let r = lines.free node h other q in record { time = r.time; is = free_same g order topological s t u (place order p) before_place node r.time r.is; tells = r.tells };
     }

@@ -14,6 +14,7 @@ use Rattle.cpg_bus.specs.Share.{share_of}
 use Rattle.cpg_bus.proofs.Queued.{in_queue}
 use Rattle.cpg_cube.specs.declared.literal.Literal.{Literal}
 use Rattle.cpg_order.specs.Queue.{queued_before}
+use Rattle.cpg_base.specs.Order.{place}
 use Rattle.cpg_order.specs.Urgency.{IsTopological}
 use Rattle.cpg_cube.specs.Column.{Column}
 use Rattle.cpg_run.specs.Run.{Times, IsRun, unfrozen_time}
@@ -30,8 +31,9 @@ use Rattle.cpg_tree.specs.Tree.{TreeState}
 use Rattle.cpg_expand.specs.Agreeing.{Tells}
 use Rattle.cpg_expand.specs.Forest.{ForestState, HasTrees, times_of, ends_of, no_tree}
 use Rattle.cpg_expand.specs.Sent.{IsFreeOnce, IsItemAdded, IsSentFor, sent_so_far}
-use Rattle.cpg_expand.specs.Sending.{IsSentTree}
+use Rattle.cpg_expand.specs.Sending.{IsSentTree, IsFreeTree}
 use Rattle.cpg_expand.specs.Values.{slot_from, time_later}
+use Rattle.cpg_expand.specs.Waited.{IsQueuedFor}
 use Rattle.cpg_expand.specs.Waiting.{free_of}
 use Rattle.cpg_expand.proofs.FrozenFound.{set_here}
 use Rattle.cpg_expand.proofs.FrozenSend.{frozen_send_line, frozen_send_value}
@@ -60,11 +62,11 @@ module _ (g : Graph) (limits : IsWithinLimits g) (order : List ℕ) (topological
   acts : item_active g s.values (item_at g here) ≡ true → active g s.values (producer g here) ≡ true
   acts = producer_active g s.values (item_at g here)
 
-  module _ (chooser : TreeState Bool) (old new : ForestState) (before after : List (Option ℕ)) (trees : HasTrees g old) (added : IsItemAdded g chooser here old new before after)
+  module _ (chooser : TreeState Bool) (old new : ForestState) (before after : List (Option ℕ)) (trees : HasTrees g old) (added : IsItemAdded g order chooser here old new before after)
       (on_node : node_of g p < length g.nodes)
       (chosen : Tells s (decided g s p) (active g s.values p) chooser)
       (ended : active g s.values p ≡ true → Tells s (carried_at_end g order rows s p) (get_or t.ends p None) (ends_of g old p))
-      (once : IsFreeOnce g order rows s t p k old)
+      (once : IsQueuedFor g order (place order p) (node_of g p) → IsFreeOnce g order rows s t p k old)
       (same : get_or frozen here None ≡ get_or after here None)
       (long : here < length before)
       (unset : get_or before here None ≡ None)
@@ -91,19 +93,19 @@ module _ (g : Graph) (limits : IsWithinLimits g) (order : List ℕ) (topological
     ends_told : item_active g s.values (item_at g here) ≡ true → Tells s (carried_at_end g order rows s (producer g here)) (get_or t.ends p None) (ends_of g old (producer g here))
     ends_told on = subst (λ q. Tells s (carried_at_end g order rows s q) (get_or t.ends p None) (ends_of g old q)) (sym by) (ended (ap (active g s.values) (sym by) ∙ acts on))
 
-    waits : Tells s (flat_map (queued g order rows s) (queued_before g order here)) once.time (free_of g old (home g here))
-    waits = subst (λ q. Tells s (flat_map (queued g order rows s) (queued_before g order here)) once.time (free_of g old (node_of g q))) (sym by)
-        (tells_before g order topological s p l k inside rows once.time (free_of g old (node_of g p)) once.tells)
+    waits : (o : IsFreeOnce g order rows s t p k old) → Tells s (flat_map (queued g order rows s) (queued_before g order here)) o.time (free_of g old (home g here))
+    waits o = subst (λ q. Tells s (flat_map (queued g order rows s) (queued_before g order here)) o.time (free_of g old (node_of g q))) (sym by)
+        (tells_before g order topological s p l k inside rows o.time (free_of g old (node_of g p)) o.tells)
 
     -- ---- its times
 
-    of_thawed : is_frozen g here ≡ false → after ≡ before → IsSentTree g.faults (share_of g (home g here)) added.goes (ends_of g old (producer g here)) (free_of g old (home g here)) added.sent → Tells s (carried_at_send g order rows s here) (get_or t.times here None) added.sent
-    of_thawed thawed kept slots =
+    of_thawed : IsFreeOnce g order rows s t p k old → is_frozen g here ≡ false → after ≡ before → IsSentTree g.faults (share_of g (home g here)) added.goes (ends_of g old (producer g here)) (free_of g old (home g here)) added.sent → Tells s (carried_at_send g order rows s here) (get_or t.times here None) added.sent
+    of_thawed o thawed kept slots =
         let share = ap (λ q. share_of g (node_of g q)) by in
-        let value = ap (λ h. if item_active g s.values (item_at g here) then slot_from h once.time (get_or t.ends p None) else None) share
-        ∙ send_value g order topological s p l frozen t run k inside once.time once.is (same ∙ ap (λ f. get_or f here None) kept ∙ unset) small (λ on. ap (active g s.values) (sym by) ∙ acts on) in
+        let value = ap (λ h. if item_active g s.values (item_at g here) then slot_from h o.time (get_or t.ends p None) else None) share
+        ∙ send_value g order topological s p l frozen t run k inside o.time o.is (same ∙ ap (λ f. get_or f here None) kept ∙ unset) small (λ on. ap (active g s.values) (sym by) ∙ acts on) in
         subst (λ (o : Option ℕ). Tells s (carried_at_send g order rows s here) o added.sent) value
-        (send_line g order rows s few here acts says added.goes of_goes at_most thawed (share_of g (home g here)) (ends_of g old (producer g here)) (free_of g old (home g here)) added.sent (get_or t.ends p None) once.time slots ends_told waits)
+        (send_line g order rows s few here acts says added.goes of_goes at_most thawed (share_of g (home g here)) (ends_of g old (producer g here)) (free_of g old (home g here)) added.sent (get_or t.ends p None) o.time slots ends_told (waits o))
 
     would : item_active g s.values (item_at g here) ≡ true → WouldHave g order frozen here (unfrozen_time g order s t here)
     would on = record { scenario = s; lawful = law; times = t; run = run; active = on; has = refl }
@@ -116,11 +118,15 @@ module _ (g : Graph) (limits : IsWithinLimits g) (order : List ℕ) (topological
       | inr off ↦ cond-false _ _ _ off ∙ sym (time_is g order frozen s t run here within ∙ cond-false _ _ _ off)
     ]
 
+    -- the item itself goes by when its slots are free, if it isn't frozen
+    queued_here : is_frozen g here ≡ false → IsQueuedFor g order (place order p) (node_of g p)
+    queued_here thawed = record { other = here; within = within; sent = (in_queue g p here in_here).sent; there = ap (node_of g) by; later = (let e = ap (place order) by in omega (arith, e)); thawed = thawed }
+
     sends_told : Tells s (carried_at_send g order rows s here) (get_or t.times here None) added.sent
     sends_told = by added.sends
       where
-        by : IsSentFor g added.goes here old before after added.sent → Tells s (carried_at_send g order rows s here) (get_or t.times here None) added.sent
-        by (inl th) = of_thawed th.0 th.1 th.2
+        by : IsSentFor g order added.goes here old before after added.sent → Tells s (carried_at_send g order rows s here) (get_or t.times here None) added.sent
+        by (inl th) = of_thawed (once (queued_here th.0)) th.0 th.1 th.2
         by (inr f) = subst (λ (o : Option ℕ). Tells s (carried_at_send g order rows s here) o added.sent)
             (frozen_time f.0 f.1.latest (same ∙ ap (λ h. get_or h here None) f.1.frozen.set ∙ set_here before here f.1.latest long unset))
             (frozen_send_line g order rows s few here says added.goes of_goes at_most f.0 added.sent (unwrap_or f.1.latest 0) added.goes_tree f.1.frozen.made)
@@ -139,21 +145,24 @@ module _ (g : Graph) (limits : IsWithinLimits g) (order : List ℕ) (topological
         ∙ ap (λ n. get_or (set old.free n added.freed) (node_of g p) (no_tree g.faults)) (ap (node_of g) by)
         ∙ get_or-set_same old.free (node_of g p) added.freed (no_tree g.faults) (omega (arith, on_node, trees.free))
 
-    abbrev free_then : ℕ
-    free_then = if item_active g s.values (item_at g here) then time_later (round g) (get_or t.times here None) else once.time
+    abbrev free_then : IsFreeOnce g order rows s t p k old → ℕ
+    free_then o = if item_active g s.values (item_at g here) then time_later (round g) (get_or t.times here None) else o.time
 
-    free_tells : Tells s (flat_map (queued g order rows s) (sent_so_far g order p (k + 1))) free_then added.freed
-    free_tells = tells_after g order topological s p l k inside rows free_then added.freed
-        (free_line g order rows s few here acts says added.goes of_goes at_most (round g) added.sent (free_of g old (home g here)) added.freed (get_or t.times here None) once.time added.frees sends_told waits)
+    frees_here : IsQueuedFor g order (place order p) (node_of g p) → IsFreeTree g.faults (round g) added.goes added.sent (free_of g old (home g here)) added.freed
+    frees_here q = added.frees (subst (λ r. IsQueuedFor g order (place order r) (node_of g r)) (sym by) q)
 
-    most_then : (b : Bool) → item_active g s.values (item_at g here) ≡ b → IsMost (IsSentBy g order s p (k + 1)) (free_after g t) (if b then time_later (round g) (get_or t.times here None) else once.time)
-    most_then true on = subst (IsMost (IsSentBy g order s p (k + 1)) (free_after g t)) (sym (later_exact (get_or t.times here None) (round g) (small.times here) (round-le g limits)))
-        (free_next g order topological s p l k inside frozen t run once.time once.is on)
-    most_then false off = free_same g order topological s p l k inside t once.time off once.is
+    free_tells : (o : IsFreeOnce g order rows s t p k old) → IsQueuedFor g order (place order p) (node_of g p) → Tells s (flat_map (queued g order rows s) (sent_so_far g order p (k + 1))) (free_then o) added.freed
+    free_tells o q = tells_after g order topological s p l k inside rows (free_then o) added.freed
+        (free_line g order rows s few here acts says added.goes of_goes at_most (round g) added.sent (free_of g old (home g here)) added.freed (get_or t.times here None) o.time (frees_here q) sends_told (waits o))
 
-    pub free_once : IsFreeOnce g order rows s t p (k + 1) new
-    free_once = record {
-      time = free_then;
-      is = most_then (item_active g s.values (item_at g here)) refl;
-      tells = subst (λ (u : TreeState ℕ). Tells s (flat_map (queued g order rows s) (sent_so_far g order p (k + 1))) free_then u) (sym free_is) free_tells;
+    most_then : (o : IsFreeOnce g order rows s t p k old) (b : Bool) → item_active g s.values (item_at g here) ≡ b → IsMost (IsSentBy g order s p (k + 1)) (free_after g t) (if b then time_later (round g) (get_or t.times here None) else o.time)
+    most_then o true on = subst (IsMost (IsSentBy g order s p (k + 1)) (free_after g t)) (sym (later_exact (get_or t.times here None) (round g) (small.times here) (round-le g limits)))
+        (free_next g order topological s p l k inside frozen t run o.time o.is on)
+    most_then o false off = free_same g order topological s p l k inside t o.time off o.is
+
+    pub free_once : IsQueuedFor g order (place order p) (node_of g p) → IsFreeOnce g order rows s t p (k + 1) new
+    free_once q = record {
+      time = free_then (once q);
+      is = most_then (once q) (item_active g s.values (item_at g here)) refl;
+      tells = subst (λ (u : TreeState ℕ). Tells s (flat_map (queued g order rows s) (sent_so_far g order p (k + 1))) (free_then (once q)) u) (sym free_is) (free_tells (once q) q);
     }

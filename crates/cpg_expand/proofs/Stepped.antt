@@ -19,7 +19,7 @@ use Rattle.cpg_expand.proofs.SendingNext.{chosen_told, all_sent}
 
 -- a process that begins and then sends all that it sends is gone over
 pub stepped : (g : Graph) (urgency : List ℕ) (guards : Guards) → IsAdmitted g urgency guards → (order : List ℕ) (p : ℕ) → p < process_count g → (old mid new : ForestState) (before between after : List (Option ℕ)) (chooser : TreeState Bool) →
-    IsBegun g order guards p old mid before between chooser → HasTrees g mid → AreItemsAdded g chooser (queue_of g p) mid new between after → IsGrownBy g order p before old after new
+    IsBegun g order guards p old mid before between chooser → HasTrees g mid → AreItemsAdded g order chooser (queue_of g p) mid new between after → IsGrownBy g order p before old after new
 stepped g urgency guards a order p l old mid new before between after chooser begun trees added = λ topological grown.
     let is_guard = a.guards.trees p l in
     let sending : IsSending g order p 0 between mid = begun_sends g urgency guards a order topological p l old mid before between chooser grown trees begun in

@@ -16,7 +16,7 @@ use Rattle.cpg_tree.specs.Tree.{Path, TreeState, IsConstant}
 use Rattle.cpg_expand.specs.Agreeing.{Tells}
 use Rattle.cpg_expand.specs.Forest.{ForestState, HasTrees, times_of, ends_of}
 use Rattle.cpg_expand.specs.Sent.{sent_before, IsFreeOnce}
-use Rattle.cpg_expand.specs.Waited.{IsWaitedFor}
+use Rattle.cpg_expand.specs.Waited.{IsQueuedFor, IsWaitedFor}
 use Rattle.cpg_expand.specs.Waiting.{ready_of, free_of}
 use Rattle.cpg_expand.specs.declared.forest.Ready.{Ready}
 use Rattle.cpg_expand.specs.declared.forest.Ready.TheVariants.{After, At}
@@ -42,13 +42,13 @@ pub record IsFreeLine (g : Graph) (order : List ℕ) (rows : List (List Column))
   pub is : IsFree g order s t i node time
   pub tells : Tells s (flat_map (queued g order rows s) (sent_before g order i node)) time tree
 
--- in one scenario with its run the trees tell the times and ends before the place i, and when the nodes that are waited for are ready
--- there and the slots are free
+-- in one scenario with its run the trees tell the times and ends before the place i, and when nodes are ready there and slots are free,
+-- where that is waited for
 pub record Lines (g : Graph) (order : List ℕ) (rows : List (List Column)) (s : Scenario) (t : Times) (i : ℕ) (f : ForestState) : Type 0 where
   pub times : (x : ℕ) → x < item_count g → place order (producer g x) < i → Tells s (carried g order rows s x) (get_or t.times x None) (times_of g f x)
   pub ends : (q : ℕ) → q < process_count g → place order q < i → Tells s (carried_at_end g order rows s q) (get_or t.ends q None) (ends_of g f q)
   pub ready : (node : ℕ) → node < length g.nodes → IsWaitedFor g order i node → IsReadyLine g order rows s t i node (ready_of g f node)
-  pub free : (node : ℕ) → node < length g.nodes → IsFreeLine g order rows s t i node (free_of g f node)
+  pub free : (node : ℕ) → node < length g.nodes → IsQueuedFor g order i node → IsFreeLine g order rows s t i node (free_of g f node)
 
 -- an item of a process before the place i
 abbrev pub IsEarlier : Graph → List ℕ → ℕ → ℕ → Type 0
@@ -63,8 +63,8 @@ pub record SendLines (g : Graph) (order : List ℕ) (rows : List (List Column)) 
   pub times : (x : ℕ) → x < item_count g → IsDone g order p k x → Tells s (carried g order rows s x) (get_or t.times x None) (times_of g f x)
   pub ends : (q : ℕ) → q < process_count g → place order q < place order p + 1 → Tells s (carried_at_end g order rows s q) (get_or t.ends q None) (ends_of g f q)
   pub ready : (node : ℕ) → node < length g.nodes → IsWaitedFor g order (place order p + 1) node → IsReadyLine g order rows s t (place order p + 1) node (ready_of g f node)
-  pub here : IsFreeOnce g order rows s t p k f
-  pub free : (node : ℕ) → node < length g.nodes → node ≢ node_of g p → IsFreeLine g order rows s t (place order p) node (free_of g f node)
+  pub here : IsQueuedFor g order (place order p) (node_of g p) → IsFreeOnce g order rows s t p k f
+  pub free : (node : ℕ) → node < length g.nodes → node ≢ node_of g p → IsQueuedFor g order (place order p) node → IsFreeLine g order rows s t (place order p) node (free_of g f node)
 
 -- the frozen items of these have their frozen times, and no other item has one
 pub record AreSettledOf (g : Graph) (order : List ℕ) (Done : ℕ → Type 0) (frozen : List (Option ℕ)) : Type 0 where

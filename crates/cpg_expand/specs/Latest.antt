@@ -1,17 +1,18 @@
 -- The latest time that a frozen item would have, by each thing that it waits for alone.
 use Rattle.std.specs.Prelude.{ℕ, ◌+◌, ◌≡◌, ◌≤◌, ◌<◌, ◌⊎◌, max, Bool, true, List, Option, Some, None, Contains}
-use Rattle.cpg_base.specs.Graph.{Graph, condition_count, process_count, is_message}
+use Rattle.cpg_base.specs.Graph.{Graph, condition_count, item_count, process_count, is_message}
+use Rattle.cpg_base.specs.Bus.{round}
 use Rattle.cpg_base.specs.Scenario.{Scenario, IsScenario}
 use Rattle.cpg_bus.specs.Share.{ShareState}
 use Rattle.cpg_rules.specs.Guards.{Guards}
 use Rattle.cpg_tree.specs.Greatest.{HasValue}
 use Rattle.cpg_tree.specs.Meeting.{HasWhere}
-use Rattle.cpg_tree.specs.Tree.{TreeState, HasOnePathEach, IsConstant, IsMap}
-use Rattle.cpg_expand.specs.Agreeing.{IsTree}
+use Rattle.cpg_tree.specs.Tree.{TreeState, HasOnePathEach, IsConstant}
 use Rattle.cpg_expand.specs.Earlier.{IsBetween, IsAskedOf}
-use Rattle.cpg_expand.specs.Forest.{ForestState, ends_of, heard_tree, heard_delay, input_tree, input_delay}
+use Rattle.cpg_expand.specs.Forest.{ForestState, ends_of, times_of, heard_tree, heard_delay, input_tree, input_delay}
 use Rattle.cpg_expand.specs.Tops.{IsTop, IsTopAt}
 use Rattle.cpg_expand.specs.Values.{slot_at, time_later}
+use Rattle.cpg_expand.specs.Waited.{stands_before}
 
 -- ---- starts
 
@@ -95,20 +96,23 @@ pub record IsLatestStart (g : Graph) (order : List ℕ) (guards : Guards) (f : F
 
 -- ---- sends
 
--- the first slot from the greatest end on, or when the slots are free at the latest, whichever is later
-pub record IsSlotAt (g : Graph) (share : ShareState) (goes : TreeState Bool) (end free : TreeState (Option ℕ)) (latest : ℕ) : Type 0 where
+-- in a scenario in which an item goes one that stands before it in the queue of its node was sent a round before
+pub record HasQueued (g : Graph) (order : List ℕ) (f : ForestState) (goes : TreeState Bool) (x y n : ℕ) (s : Scenario) : Type 0 where
+  pub before : stands_before g order y x ≡ true
+  pub there : HasLater (times_of g f y) goes (round g) n s
+
+-- one of the first k items
+pub record HasQueuedOf (g : Graph) (order : List ℕ) (f : ForestState) (goes : TreeState Bool) (x k n : ℕ) (s : Scenario) : Type 0 where
+  pub item : ℕ
+  pub below : item < k
+  pub there : HasQueued g order f goes x item n s
+
+-- the first slot from the greatest end on, or a round after what stands before it, whichever is later
+pub record IsSlotAt (g : Graph) (order : List ℕ) (f : ForestState) (share : ShareState) (goes : TreeState Bool) (end : TreeState (Option ℕ)) (x latest : ℕ) : Type 0 where
   pub last : ℕ
   pub ends : IsTopAt g (HasWhere end goes) last
-  pub first : ℕ
-  pub frees : IsTopAt g (HasWhere free goes) first
-  pub is : latest ≡ max (slot_at share (Some last)) first
+  pub raised : IsRaised g (HasQueuedOf g order f goes x (item_count g)) (slot_at share (Some last)) latest
 
-abbrev pub IsLatestSlot : Graph → ShareState → TreeState Bool → TreeState (Option ℕ) → TreeState (Option ℕ) → Option ℕ → Type 0
-IsLatestSlot g share goes end free None = IsTop g (HasWhere end goes) None ⊎ IsTop g (HasWhere free goes) None
-IsLatestSlot g share goes end free (Some latest) = IsSlotAt g share goes end free latest
-
-pub record IsLatestSend (g : Graph) (share : ShareState) (goes : TreeState Bool) (end : TreeState (Option ℕ)) (free : TreeState ℕ) (latest : Option ℕ) : Type 0 where
-  pub frees : TreeState (Option ℕ)
-  pub of : IsTree g frees
-  pub made : IsMap (λ x z. z ≡ Some (max x 0)) free frees
-  pub is : IsLatestSlot g share goes end frees latest
+abbrev pub IsLatestSend : Graph → List ℕ → ForestState → ShareState → TreeState Bool → TreeState (Option ℕ) → ℕ → Option ℕ → Type 0
+IsLatestSend g order f share goes end x None = IsTop g (HasWhere end goes) None
+IsLatestSend g order f share goes end x (Some latest) = IsSlotAt g order f share goes end x latest

@@ -18,6 +18,7 @@ use Rattle.cpg_expand.specs.Forest.{ForestState, ends_of}
 use Rattle.cpg_expand.specs.Freezing.{IsFrozenBy}
 use Rattle.cpg_expand.specs.Latest.{IsLatestSend}
 use Rattle.cpg_expand.specs.Sending.{IsGoesTree, IsSentTree, IsFreeTree}
+use Rattle.cpg_expand.specs.Waited.{IsQueuedFor}
 use Rattle.cpg_expand.specs.Waiting.{free_of}
 
 -- for the processes before the place i
@@ -35,31 +36,31 @@ pub record IsFreeOnce (g : Graph) (order : List ℕ) (rows : List (List Column))
   pub tells : Tells s (flat_map (queued g order rows s) (sent_so_far g order p k)) time (free_of g f (node_of g p))
 
 -- the times of a frozen item that is sent: the latest of all
-pub record IsFrozenSend (g : Graph) (goes : TreeState Bool) (x : ℕ) (f : ForestState) (before after : List (Option ℕ)) (sent : TreeState (Option ℕ)) : Type 0 where
+pub record IsFrozenSend (g : Graph) (order : List ℕ) (goes : TreeState Bool) (x : ℕ) (f : ForestState) (before after : List (Option ℕ)) (sent : TreeState (Option ℕ)) : Type 0 where
   pub latest : Option ℕ
-  pub top : IsLatestSend g (share_of g (home g x)) goes (ends_of g f (producer g x)) (free_of g f (home g x)) latest
+  pub top : IsLatestSend g order f (share_of g (home g x)) goes (ends_of g f (producer g x)) x latest
   pub frozen : IsFrozenBy x latest goes before after sent
 
 -- or by its producer's end and when its slots are free in each scenario
-abbrev pub IsSentFor : Graph → TreeState Bool → ℕ → ForestState → List (Option ℕ) → List (Option ℕ) → TreeState (Option ℕ) → Type 0
-IsSentFor g goes x f before after sent =
+abbrev pub IsSentFor : Graph → List ℕ → TreeState Bool → ℕ → ForestState → List (Option ℕ) → List (Option ℕ) → TreeState (Option ℕ) → Type 0
+IsSentFor g order goes x f before after sent =
     ((is_frozen g x ≡ false) × (after ≡ before) × IsSentTree g.faults (share_of g (home g x)) goes (ends_of g f (producer g x)) (free_of g f (home g x)) sent)
-    ⊎ ((is_frozen g x ≡ true) × IsFrozenSend g goes x f before after sent)
+    ⊎ ((is_frozen g x ≡ true) × IsFrozenSend g order goes x f before after sent)
 
--- an item is added to the trees: its times, and when the slots of its node are free then
-pub record IsItemAdded (g : Graph) (chooser : TreeState Bool) (x : ℕ) (old new : ForestState) (before after : List (Option ℕ)) : Type 0 where
+-- an item is added to the trees: its times, and when the slots of its node are free then, if one waits for that
+pub record IsItemAdded (g : Graph) (order : List ℕ) (chooser : TreeState Bool) (x : ℕ) (old new : ForestState) (before after : List (Option ℕ)) : Type 0 where
   pub goes : TreeState Bool
   pub goes_tree : IsTree g goes
   pub goes_where : IsGoesTree g x chooser goes
   pub sent : TreeState (Option ℕ)
   pub sent_tree : IsTree g sent
-  pub sends : IsSentFor g goes x old before after sent
+  pub sends : IsSentFor g order goes x old before after sent
   pub freed : TreeState ℕ
   pub freed_tree : IsTree g freed
-  pub frees : IsFreeTree g.faults (round g) goes sent (free_of g old (home g x)) freed
+  pub frees : IsQueuedFor g order (place order (producer g x)) (home g x) → IsFreeTree g.faults (round g) goes sent (free_of g old (home g x)) freed
   pub is : new ≡ record { times = slice_set old.times x sent; ends = old.ends; ready = old.ready; free = slice_set old.free (home g x) freed }
 
 -- these are added one after another
-abbrev pub AreItemsAdded : Graph → TreeState Bool → List ℕ → ForestState → ForestState → List (Option ℕ) → List (Option ℕ) → Type 0
-AreItemsAdded g chooser [] old new before after = (new ≡ old) × (after ≡ before)
-AreItemsAdded g chooser (x ∷ xs) old new before after = (mid : ForestState) × (between : List (Option ℕ)) × IsItemAdded g chooser x old mid before between × AreItemsAdded g chooser xs mid new between after
+abbrev pub AreItemsAdded : Graph → List ℕ → TreeState Bool → List ℕ → ForestState → ForestState → List (Option ℕ) → List (Option ℕ) → Type 0
+AreItemsAdded g order chooser [] old new before after = (new ≡ old) × (after ≡ before)
+AreItemsAdded g order chooser (x ∷ xs) old new before after = (mid : ForestState) × (between : List (Option ℕ)) × IsItemAdded g order chooser x old mid before between × AreItemsAdded g order chooser xs mid new between after

@@ -1,8 +1,9 @@
--- What waits until a node is ready.
-use Rattle.std.specs.Prelude.{ℕ, ◌+◌, ◌≡◌, ◌≤◌, ◌<◌, Bool, false, List, Option}
-use Rattle.cpg_base.specs.Graph.{Graph, process_count, node_of, is_frozen}
+-- What waits until a node is ready or its slots are free.
+use Rattle.std.specs.Prelude.{ℕ, ◌+◌, ◌≡◌, ◌==◌, ◌≤◌, ◌<◌, ◌&&◌, ◌||◌, nat_lt, Bool, true, false, List, Option}
+use Rattle.cpg_base.specs.Graph.{Graph, process_count, item_count, item_at, node_of, home, producer, is_frozen, is_sent}
 use Rattle.cpg_base.specs.Order.{place}
 use Rattle.cpg_order.specs.Guard.{Guard}
+use Rattle.cpg_order.specs.Queue.{rank_of_item}
 use Rattle.cpg_tree.specs.Tree.{TreeState}
 use Rattle.cpg_expand.specs.Ending.{IsReadyTree}
 use Rattle.cpg_expand.specs.Forest.{ForestState}
@@ -15,6 +16,20 @@ pub record IsWaitedFor (g : Graph) (order : List ℕ) (i node : ℕ) : Type 0 wh
   pub there : node_of g other ≡ node
   pub later : i ≤ place order other
   pub thawed : is_frozen g other ≡ false
+
+-- an item of the node that is sent and isn't frozen is of a process at the place i or later
+pub record IsQueuedFor (g : Graph) (order : List ℕ) (i node : ℕ) : Type 0 where
+  pub other : ℕ
+  pub within : other < item_count g
+  pub sent : is_sent g other ≡ true
+  pub there : home g other ≡ node
+  pub later : i ≤ place order (producer g other)
+  pub thawed : is_frozen g other ≡ false
+
+-- whether an item is sent before another one by the same node, by their places
+abbrev pub stands_before : Graph → List ℕ → ℕ → ℕ → Bool
+stands_before g order y x = (is_sent g y && (home g y == home g x))
+    && (nat_lt (place order (producer g y)) (place order (producer g x)) || ((producer g y == producer g x) && nat_lt (rank_of_item (item_at g y)) (rank_of_item (item_at g x))))
 
 -- a tree of when a node is ready after a process with a guard, by what that one waited for
 pub record IsReadyOnce (g : Graph) (f : ForestState) (node : ℕ) (guard : Guard) (chooser : TreeState Bool) (end : TreeState (Option ℕ)) (t : TreeState ℕ) : Type 0 where

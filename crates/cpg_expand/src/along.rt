@@ -15,7 +15,7 @@ use crate::ending::{end, ready};
 use crate::forest::{Forest, Ready};
 use crate::guarded::active;
 use crate::latest::latest_start;
-use crate::sending::send;
+use crate::sending::{Course, send};
 use crate::starting::{freeze, unfrozen_start, wait_for, waiting};
 use crate::waited::is_waited_for;
 use cpg_base::{Order, OutOfMemory, Problem};
@@ -218,8 +218,13 @@ pub(crate) fn step(
     ensures count { IfOk result (λ u. length frozen.new ≡ item_count admitted.now.graph) }
     ensures grown { IfOk result (λ u. IsGrownBy admitted.now.graph order.now process frozen.old forest.old frozen.new forest.new) }
 {
-    let _problem = admitted.problem();
+    let problem = admitted.problem();
     let active = begin(alloc, admitted, plan, order, frozen, forest, process)?;
-    send(alloc, admitted, plan, frozen, forest, &active, process)?;
+    let course = Course {
+        problem,
+        plan,
+        order,
+    };
+    send(alloc, &course, frozen, forest, &active, process)?;
     Ok(())
 }

@@ -1,20 +1,21 @@
 //! The latest time that a frozen item would have, by each thing that it waits for alone: a tree of all of them together may be
 //! far wider than the item's row.
-ghost use Rattle.std.specs.Prelude.{◌≡◌, ◌<◌, ◌≤◌, All, IfOk};
-ghost use Rattle.cpg_base.specs.Bus.{slot_length};
+ghost use Rattle.std.specs.Prelude.{◌≡◌, ◌<◌, ◌≤◌, All, IfOk, length};
+ghost use Rattle.cpg_base.specs.Bus.{round, slot_length};
 ghost use Rattle.cpg_base.specs.Graph.{condition_count, edge_count, home, item_count, process_at, process_count};
 ghost use Rattle.cpg_base.specs.Order.{place};
 ghost use Rattle.cpg_expand.specs.Earlier.{AreAlong, IsBothTree};
 ghost use Rattle.cpg_expand.specs.Agreeing.{IsTree};
 ghost use Rattle.cpg_expand.specs.Forest.{HasTrees, ends_of, heard_delay, heard_tree, times_of};
-ghost use Rattle.cpg_expand.specs.Latest.{HasEnded, HasEndedOf, HasHeardOf, HasInput, HasInputOf, HasLater, IsLatestSend, IsLatestSlot, IsLatestStart, IsRaised, or_later};
+ghost use Rattle.cpg_expand.specs.Latest.{HasEnded, HasEndedOf, HasHeardOf, HasInput, HasInputOf, HasLater, HasQueued, HasQueuedOf, IsLatestSend, IsLatestStart, IsRaised, or_later};
 ghost use Rattle.cpg_expand.specs.Tops.{IsTop};
 ghost use Rattle.cpg_tree.specs.Meeting.{HasWhere};
 
 use crate::earlier::{Span, asked, stands_between};
 use crate::forest::Forest;
-use crate::values::{slot_at, started};
-use cpg_base::{OutOfMemory, Problem};
+use crate::values::slot_at;
+use crate::waited::stands_before;
+use cpg_base::{Order, OutOfMemory, Problem};
 use cpg_bus::Share;
 use cpg_tree::{Tree, time_later};
 use std::alloc::Global;
@@ -246,37 +247,80 @@ pub(crate) fn latest_start(
     Ok(Some(after_inputs(problem, forest, active, edges, heard)))
 }
 
-/// The first slot from the latest end on, or when the slots are free at the latest, whichever is later, where an item goes.
-fn latest_slot(
-    problem: &Problem,
-    share: Share,
-    goes: &Tree<bool>,
-    end: &Tree<Option<u64>>,
-    free: &Tree<Option<u64>>,
-) -> Option<u64>
-    requires goes { IsTree problem.now goes.now }
-    requires end { IsTree problem.now end.now }
-    requires free { IsTree problem.now free.now }
-    ensures { IsLatestSlot problem.now share goes.now end.now free.now result }
-{
-    let last = most_where(problem, end, goes)?;
-    let first = most_where(problem, free, goes)?;
-    Some(slot_at(share, Some(last)).max(first))
+/// What is sent, and where: the item, where it goes, and the length of a round.
+#[derive(Clone, Copy)]
+pub(crate) struct Sent<'a> {
+    pub(crate) item: u32,
+    pub(crate) goes: &'a Tree<bool>,
+    pub(crate) round: u64,
 }
 
-/// The latest time of an item that is sent once its producer has ended and its slots are free, where it goes.
+/// A time, or a round after an item was sent at the latest where another one goes, whichever is greater, if it stands before that one
+/// in the queue of its node.
+fn after_queued(
+    problem: &Problem,
+    order: &Order,
+    forest: &Forest,
+    sent: &Sent<'_>,
+    other: u32,
+    latest: u64,
+) -> u64
+    requires order { length order.now ≡ process_count problem.now }
+    requires forest { HasTrees problem.now forest.now }
+    requires item { sent.now.item < item_count problem.now }
+    requires goes { IsTree problem.now sent.now.goes.now }
+    requires round { sent.now.round ≡ round problem.now }
+    requires other { other < item_count problem.now }
+    ensures { IsRaised problem.now (HasQueued problem.now order.now forest.now sent.now.goes.now sent.now.item other) latest result }
+{
+    if !stands_before(problem, order, other, sent.item) {
+        return latest;
+    }
+    let time = most_where(problem, &forest.times[other as usize], sent.goes);
+    or_later(latest, time, sent.round)
+}
+
+/// A time, or a round after the last of those that stand before an item in the queue of its node, whichever is greater.
+fn after_queue(
+    problem: &Problem,
+    order: &Order,
+    forest: &Forest,
+    sent: &Sent<'_>,
+    first: u64,
+) -> u64
+    requires order { length order.now ≡ process_count problem.now }
+    requires forest { HasTrees problem.now forest.now }
+    requires item { sent.now.item < item_count problem.now }
+    requires goes { IsTree problem.now sent.now.goes.now }
+    requires round { sent.now.round ≡ round problem.now }
+    ensures { IsRaised problem.now (HasQueuedOf problem.now order.now forest.now sent.now.goes.now sent.now.item (item_count problem.now)) first result }
+{
+    let mut latest = first;
+    for other in 0..problem.item_count() {
+        latest = after_queued(problem, order, forest, sent, other, latest);
+    }
+    latest
+}
+
+/// The latest time of an item that is sent once its producer has ended and its slots are free, where it goes: the first slot from
+/// the latest end on, or a round after what stands before it, whichever is later.
 pub(crate) fn latest_send(
     problem: &Problem,
+    order: &Order,
+    forest: &Forest,
     share: Share,
-    goes: &Tree<bool>,
+    sent: &Sent<'_>,
     end: &Tree<Option<u64>>,
-    free: &Tree<u64>,
-) -> Result<Option<u64>, OutOfMemory>
-    requires goes { IsTree problem.now goes.now }
+) -> Option<u64>
+    requires order { length order.now ≡ process_count problem.now }
+    requires forest { HasTrees problem.now forest.now }
+    requires item { sent.now.item < item_count problem.now }
+    requires goes { IsTree problem.now sent.now.goes.now }
+    requires round { sent.now.round ≡ round problem.now }
     requires end { IsTree problem.now end.now }
-    requires free { IsTree problem.now free.now }
-    ensures { IfOk result (IsLatestSend problem.now share goes.now end.now free.now) }
+    ensures { IsLatestSend problem.now order.now forest.now share sent.now.goes.now end.now sent.now.item result }
 {
-    let free = started(free, 0)?;
-    Ok(latest_slot(problem, share, goes, end, &free))
+    let last = most_where(problem, end, sent.goes)?;
+    let first = slot_at(share, Some(last));
+    Some(after_queue(problem, order, forest, sent, first))
 }

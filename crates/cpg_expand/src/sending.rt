@@ -1,7 +1,9 @@
 //! What a process sends.
 ghost use Rattle.std.specs.Prelude.{◌≡◌, ◌<◌, ◌≤◌, IfOk, IfSome, length, slice_set, true};
 ghost use Rattle.cpg_base.specs.Bus.{round};
+ghost use Rattle.cpg_base.specs.Order.{place};
 ghost use Rattle.cpg_base.specs.WellFormed.{HasSenderSlots};
+ghost use Rattle.cpg_expand.specs.Waited.{IsQueuedFor};
 ghost use Rattle.cpg_bus.specs.Share.{share_of};
 ghost use Rattle.cpg_expand.specs.Waiting.{free_of};
 ghost use Rattle.cpg_base.specs.Graph.{condition_count, edge_count, home, is_sent, item_count, process_count, producer, source};
@@ -13,12 +15,12 @@ ghost use Rattle.cpg_expand.specs.Sent.{AreItemsAdded, IsItemAdded, IsSentFor};
 ghost use Rattle.cpg_expand.specs.Sending.{IsFreeTree, IsGoesTree, IsLiveTree, IsSentTree, IsTestedTree, asked};
 
 use crate::forest::Forest;
-use crate::latest::latest_send;
+use crate::latest::{Sent, latest_send};
 use crate::starting::freeze;
 use crate::values::{later, same_as, slots};
-use cpg_base::{Item, OutOfMemory, Problem};
+use crate::waited::is_queued_for;
+use cpg_base::{Item, Order, OutOfMemory, Problem};
 use cpg_bus::{Plan, Share};
-use cpg_rules::Admitted;
 use cpg_run::Frozen;
 use cpg_tree::{Tree, value};
 use std::alloc::Global;
@@ -136,22 +138,30 @@ fn unfrozen_sent(
     Ok(sent)
 }
 
-/// When the slots are free once an item is sent.
+/// When the slots are free once an item is sent. Made only where an item waits for that: behind a frozen one the tree of that may
+/// be far wider than its row.
 fn freed(
     problem: &Problem,
+    order: &Order,
     round: u64,
     goes: &Tree<bool>,
     sent: &Tree<Option<u64>>,
     free: &Tree<u64>,
+    item: u32,
 ) -> Result<Tree<u64>, OutOfMemory>
+    requires order { length order.now ≡ process_count problem.now }
     requires goes { IsTree problem.now goes.now }
     requires sent { IsTree problem.now sent.now }
     requires free { IsTree problem.now free.now }
+    requires item { item < item_count problem.now }
     ensures tree { IfOk result (IsTree problem.now) }
-    ensures free { IfOk result (IsFreeTree problem.now.faults round goes.now sent.now free.now) }
+    ensures free { IfOk result (λ t. IsQueuedFor problem.now order.now (place order.now (producer problem.now item)) (home problem.now item) → IsFreeTree problem.now.faults round goes.now sent.now free.now t) }
 {
     let after = later(sent, round)?;
     if goes.is_true() {
+        return Ok(after);
+    }
+    if !is_queued_for(problem, order, item) {
         return Ok(after);
     }
     let freed = Tree::pick(goes, &after, free)?;
@@ -184,25 +194,27 @@ fn slots_of(
     Ok(sent)
 }
 
-/// When the slots of an item's node are free once it is sent.
+/// When the slots of an item's node are free once it is sent, if an item waits for that.
 fn free_then(
     problem: &Problem,
     plan: &Plan,
+    order: &Order,
     forest: &Forest,
     goes: &Tree<bool>,
     sent: &Tree<Option<u64>>,
     item: u32,
 ) -> Result<Tree<u64>, OutOfMemory>
     requires plan { plan.now ≡ plan_of problem.now }
+    requires order { length order.now ≡ process_count problem.now }
     requires item { item < item_count problem.now }
     requires forest { HasTrees problem.now forest.now }
     requires goes { IsTree problem.now goes.now }
     requires sent { IsTree problem.now sent.now }
     ensures tree { IfOk result (IsTree problem.now) }
-    ensures free { IfOk result (IsFreeTree problem.now.faults (round problem.now) goes.now sent.now (free_of problem.now forest.now (home problem.now item))) }
+    ensures free { IfOk result (λ t. IsQueuedFor problem.now order.now (place order.now (producer problem.now item)) (home problem.now item) → IsFreeTree problem.now.faults (round problem.now) goes.now sent.now (free_of problem.now forest.now (home problem.now item)) t) }
 {
     let free = &forest.free[problem.home(item) as usize];
-    let freed = freed(problem, plan.round(problem), goes, sent, free)?;
+    let freed = freed(problem, order, plan.round(problem), goes, sent, free, item)?;
     Ok(freed)
 }
 
@@ -216,83 +228,101 @@ fn put(forest: &mut Forest, item: u32, times: Tree<Option<u64>>, node: u32, free
     forest.free[node as usize] = free;
 }
 
+/// A graph, its plan and an order of its processes.
+#[derive(Clone, Copy)]
+pub(crate) struct Course<'a> {
+    pub(crate) problem: &'a Problem,
+    pub(crate) plan: &'a Plan,
+    pub(crate) order: &'a Order,
+}
+
 /// The latest time at which an item would be sent, its frozen time aside, where it goes.
-fn latest_of(
-    problem: &Problem,
-    plan: &Plan,
-    forest: &Forest,
-    goes: &Tree<bool>,
-    item: u32,
-) -> Result<Option<u64>, OutOfMemory>
-    requires plan { plan.now ≡ plan_of problem.now }
-    requires slots { HasSenderSlots problem.now }
-    requires item { item < item_count problem.now }
-    requires sent { is_sent problem.now item ≡ true }
-    requires forest { HasTrees problem.now forest.now }
-    requires goes { IsTree problem.now goes.now }
-    ensures { IfOk result (IsLatestSend problem.now (share_of problem.now (home problem.now item)) goes.now (ends_of problem.now forest.now (producer problem.now item)) (free_of problem.now forest.now (home problem.now item))) }
+fn latest_of(course: &Course<'_>, forest: &Forest, goes: &Tree<bool>, item: u32) -> Option<u64>
+    requires plan { course.now.plan.now ≡ plan_of course.now.problem.now }
+    requires order { length course.now.order.now ≡ process_count course.now.problem.now }
+    requires slots { HasSenderSlots course.now.problem.now }
+    requires item { item < item_count course.now.problem.now }
+    requires sent { is_sent course.now.problem.now item ≡ true }
+    requires forest { HasTrees course.now.problem.now forest.now }
+    requires goes { IsTree course.now.problem.now goes.now }
+    ensures { IsLatestSend course.now.problem.now course.now.order.now forest.now (share_of course.now.problem.now (home course.now.problem.now item)) goes.now (ends_of course.now.problem.now forest.now (producer course.now.problem.now item)) item result }
 {
-    let node = problem.home(item);
+    let problem = course.problem;
+    let plan = course.plan;
     let end = &forest.ends[problem.producer(item) as usize];
-    let free = &forest.free[node as usize];
-    let share = plan.share(problem, node);
-    let latest = latest_send(problem, share, goes, end, free)?;
-    Ok(latest)
+    let share = plan.share(problem, problem.home(item));
+    let sent = Sent {
+        item,
+        goes,
+        round: plan.round(problem),
+    };
+    latest_send(problem, course.order, forest, share, &sent, end)
 }
 
 /// The times of an item that is sent, its frozen time set if it is frozen.
 fn sent_of(
     alloc: Global,
-    problem: &Problem,
-    plan: &Plan,
+    course: &Course<'_>,
     frozen: &mut Frozen,
     forest: &Forest,
     goes: &Tree<bool>,
     item: u32,
 ) -> Result<Tree<Option<u64>>, OutOfMemory>
-    requires plan { plan.now ≡ plan_of problem.now }
-    requires slots { HasSenderSlots problem.now }
-    requires item { item < item_count problem.now }
-    requires sent { is_sent problem.now item ≡ true }
-    requires frozen { length frozen.old ≡ item_count problem.now }
-    requires forest { HasTrees problem.now forest.now }
-    requires goes { IsTree problem.now goes.now }
-    ensures tree { IfOk result (IsTree problem.now) }
-    ensures sent { IfOk result (IsSentFor problem.now goes.now item forest.now frozen.old frozen.new) }
+    requires plan { course.now.plan.now ≡ plan_of course.now.problem.now }
+    requires order { length course.now.order.now ≡ process_count course.now.problem.now }
+    requires slots { HasSenderSlots course.now.problem.now }
+    requires item { item < item_count course.now.problem.now }
+    requires sent { is_sent course.now.problem.now item ≡ true }
+    requires frozen { length frozen.old ≡ item_count course.now.problem.now }
+    requires forest { HasTrees course.now.problem.now forest.now }
+    requires goes { IsTree course.now.problem.now goes.now }
+    ensures tree { IfOk result (IsTree course.now.problem.now) }
+    ensures sent { IfOk result (IsSentFor course.now.problem.now course.now.order.now goes.now item forest.now frozen.old frozen.new) }
 {
+    let problem = course.problem;
     if problem.is_frozen(item) {
-        let latest = latest_of(problem, plan, forest, goes, item)?;
+        let latest = latest_of(course, forest, goes, item);
         let sent = freeze(problem, frozen, item, goes, latest)?;
         return Ok(sent);
     }
-    let sent = slots_of(alloc, problem, plan, forest, goes, item)?;
+    let sent = slots_of(alloc, problem, course.plan, forest, goes, item)?;
     Ok(sent)
 }
 
 /// Adds the times of an item that a process sends, and when the slots of its node are free then.
 fn add(
     alloc: Global,
-    admitted: &Admitted,
-    plan: &Plan,
+    course: &Course<'_>,
     frozen: &mut Frozen,
     forest: &mut Forest,
     active: &Tree<bool>,
     item: u32,
 ) -> Result<(), OutOfMemory>
-    requires plan { plan.now ≡ plan_of admitted.now.graph }
-    requires item { item < item_count admitted.now.graph }
-    requires sent { is_sent admitted.now.graph item ≡ true }
-    requires frozen { length frozen.old ≡ item_count admitted.now.graph }
-    requires forest { HasTrees admitted.now.graph forest.old }
-    requires active { IsTree admitted.now.graph active.now }
-    ensures trees { IfOk result (λ u. HasTrees admitted.now.graph forest.new) }
-    ensures count { IfOk result (λ u. length frozen.new ≡ item_count admitted.now.graph) }
-    ensures added { IfOk result (λ u. IsItemAdded admitted.now.graph active.now item forest.old forest.new frozen.old frozen.new) }
+    requires plan { course.now.plan.now ≡ plan_of course.now.problem.now }
+    requires order { length course.now.order.now ≡ process_count course.now.problem.now }
+    requires few { condition_count course.now.problem.now ≤ 32 }
+    requires slots { HasSenderSlots course.now.problem.now }
+    requires item { item < item_count course.now.problem.now }
+    requires sent { is_sent course.now.problem.now item ≡ true }
+    requires frozen { length frozen.old ≡ item_count course.now.problem.now }
+    requires forest { HasTrees course.now.problem.now forest.old }
+    requires active { IsTree course.now.problem.now active.now }
+    ensures trees { IfOk result (λ u. HasTrees course.now.problem.now forest.new) }
+    ensures count { IfOk result (λ u. length frozen.new ≡ item_count course.now.problem.now) }
+    ensures added { IfOk result (λ u. IsItemAdded course.now.problem.now course.now.order.now active.now item forest.old forest.new frozen.old frozen.new) }
 {
-    let problem = admitted.problem();
+    let problem = course.problem;
     let goes = goes(alloc, problem, active, item)?;
-    let sent = sent_of(alloc, problem, plan, frozen, forest, &goes, item)?;
-    let free = free_then(problem, plan, forest, &goes, &sent, item)?;
+    let sent = sent_of(alloc, course, frozen, forest, &goes, item)?;
+    let free = free_then(
+        problem,
+        course.plan,
+        course.order,
+        forest,
+        &goes,
+        &sent,
+        item,
+    )?;
     put(forest, item, sent, problem.home(item), free);
     Ok(())
 }
@@ -300,24 +330,26 @@ fn add(
 /// Adds what a process sends, in its order.
 pub(crate) fn send(
     alloc: Global,
-    admitted: &Admitted,
-    plan: &Plan,
+    course: &Course<'_>,
     frozen: &mut Frozen,
     forest: &mut Forest,
     active: &Tree<bool>,
     process: u32,
 ) -> Result<(), OutOfMemory>
-    requires plan { plan.now ≡ plan_of admitted.now.graph }
-    requires process { process < process_count admitted.now.graph }
-    requires frozen { length frozen.old ≡ item_count admitted.now.graph }
-    requires forest { HasTrees admitted.now.graph forest.old }
-    requires active { IsTree admitted.now.graph active.now }
-    ensures trees { IfOk result (λ u. HasTrees admitted.now.graph forest.new) }
-    ensures count { IfOk result (λ u. length frozen.new ≡ item_count admitted.now.graph) }
-    ensures added { IfOk result (λ u. AreItemsAdded admitted.now.graph active.now (queue_of admitted.now.graph process) forest.old forest.new frozen.old frozen.new) }
+    requires plan { course.now.plan.now ≡ plan_of course.now.problem.now }
+    requires order { length course.now.order.now ≡ process_count course.now.problem.now }
+    requires few { condition_count course.now.problem.now ≤ 32 }
+    requires slots { HasSenderSlots course.now.problem.now }
+    requires process { process < process_count course.now.problem.now }
+    requires frozen { length frozen.old ≡ item_count course.now.problem.now }
+    requires forest { HasTrees course.now.problem.now forest.old }
+    requires active { IsTree course.now.problem.now active.now }
+    ensures trees { IfOk result (λ u. HasTrees course.now.problem.now forest.new) }
+    ensures count { IfOk result (λ u. length frozen.new ≡ item_count course.now.problem.now) }
+    ensures added { IfOk result (λ u. AreItemsAdded course.now.problem.now course.now.order.now active.now (queue_of course.now.problem.now process) forest.old forest.new frozen.old frozen.new) }
 {
-    for item in plan.queue(admitted.problem(), process) {
-        add(alloc, admitted, plan, frozen, forest, active, *item)?;
+    for item in course.plan.queue(course.problem, process) {
+        add(alloc, course, frozen, forest, active, *item)?;
     }
     Ok(())
 }

@@ -1,3 +1,7 @@
+use Rattle.std.proofs.Common.{subst}
+use Rattle.cpg_base.specs.Graph.{Graph}
+use Rattle.cpg_bus.specs.Plan.{queue_of}
+use Rattle.cpg_expand.specs.Sent.{AreItemsAdded}
 use Rattle.cpg_expand.proofs.Stepped.{stepped}
 use Rattle.cpg_expand.proofs.along.step.Goals as goal
 
@@ -5,4 +9,5 @@ pub returns-clause-grown : goal.returns-clause-grown
 returns-clause-grown c =
     let a = c.args.admitted.now in
     stepped a.graph a.order a.guards c.problem-problem.ensures.admitted c.args.order.now c.args.process c.requires.process c.args.forest.now c.begin.new.forest c.send.new.forest c.args.frozen.now c.begin.new.frozen c.send.new.frozen
-    c.in_ok-active.active c.in_ok-active.ensures.begun c.in_ok-active.ensures.trees c.in_ok-send.ensures.added
+    c.in_ok-active.active c.in_ok-active.ensures.begun c.in_ok-active.ensures.trees
+    (subst (λ (g : Graph). AreItemsAdded g c.args.order.now c.in_ok-active.active (queue_of g c.args.process) c.begin.new.forest c.send.new.forest c.begin.new.frozen c.send.new.frozen) c.problem-problem.ensures.problem c.in_ok-send.ensures.added)

@@ -1,3 +1,4 @@
+use Rattle.std.proofs.Common.{◌≡◌, ◌∙◌, true, false, sym}
 use Rattle.cpg_tree.specs.Variables.{is_variable}
 use Rattle.cpg_expand.proofs.TreesTold.{free_told, free_always, same_tree}
 use Rattle.cpg_expand.proofs.sending.freed.Goals as goal
@@ -7,10 +8,19 @@ returns-clause-tree c = same_tree c.args.problem.now c.args.goes.now c.in_ok-fre
     (c.in_ok-freed.ensures.pass (is_variable c.args.problem.now) c.requires.goes.known (c.in_ok-after.ensures.pass (is_variable c.args.problem.now) c.requires.sent.known) c.requires.free.known)
 
 pub returns-clause-free : goal.returns-clause-free
-returns-clause-free c = free_told c.args.problem.now c.args.round c.args.goes.now c.args.sent.now c.args.free.now c.in_ok-after.after c.in_ok-freed.freed c.requires.goes c.requires.sent c.requires.free c.in_ok-after.ensures.is c.in_ok-after.ensures.each (c.in_ok-after.ensures.pass (is_variable c.args.problem.now) c.requires.sent.known) c.in_ok-freed.ensures.is
+returns-clause-free c waited = free_told c.args.problem.now c.args.round c.args.goes.now c.args.sent.now c.args.free.now c.in_ok-after.after c.in_ok-freed.freed c.requires.goes c.requires.sent c.requires.free c.in_ok-after.ensures.is c.in_ok-after.ensures.each (c.in_ok-after.ensures.pass (is_variable c.args.problem.now) c.requires.sent.known) c.in_ok-freed.ensures.is
 
 pub returns-then-is_true-clause-tree : goal.returns-then-is_true-clause-tree
 returns-then-is_true-clause-tree c = same_tree c.args.problem.now c.args.sent.now c.in_ok-after.after c.requires.sent.faults c.in_ok-after.ensures.is.faults c.in_ok-after.ensures.each (c.in_ok-after.ensures.pass (is_variable c.args.problem.now) c.requires.sent.known)
 
 pub returns-then-is_true-clause-free : goal.returns-then-is_true-clause-free
-returns-then-is_true-clause-free c = free_always c.args.problem.now c.args.round c.args.goes.now c.args.sent.now c.args.free.now c.in_ok-after.after c.if-is_true.ensures c.requires.sent c.in_ok-after.ensures.is
+returns-then-is_true-clause-free c waited = free_always c.args.problem.now c.args.round c.args.goes.now c.args.sent.now c.args.free.now c.in_ok-after.after c.if-is_true.ensures c.requires.sent c.in_ok-after.ensures.is
+
+pub returns-then-not-is_queued_for-clause-tree : goal.returns-then-not-is_queued_for-clause-tree
+returns-then-not-is_queued_for-clause-tree c = same_tree c.args.problem.now c.args.sent.now c.in_ok-after.after c.requires.sent.faults c.in_ok-after.ensures.is.faults c.in_ok-after.ensures.each (c.in_ok-after.ensures.pass (is_variable c.args.problem.now) c.requires.sent.known)
+
+apart : true ≡ false → ⊥
+apart e = cc
+
+pub returns-then-not-is_queued_for-clause-free : goal.returns-then-not-is_queued_for-clause-free
+returns-then-not-is_queued_for-clause-free c queued = absurd (apart (sym (c.is_queued_for.ensures queued) ∙ c.if-not-is_queued_for.true))

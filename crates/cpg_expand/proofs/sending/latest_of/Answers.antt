@@ -2,20 +2,17 @@ use Rattle.std.proofs.Common.{◌∙◌, ap, arith}
 use Rattle.cpg_base.specs.Graph.{home, producer}
 use Rattle.cpg_bus.specs.Share.{share_of}
 use Rattle.cpg_expand.specs.Forest.{ForestState, ends_of}
-use Rattle.cpg_expand.specs.Waiting.{free_of}
-use Rattle.cpg_expand.proofs.FreeRead.{free_read}
 use Rattle.cpg_expand.proofs.SentTrees.{latest_read}
 use Rattle.cpg_expand.proofs.TreesTold.{ends_read}
 use Rattle.cpg_expand.proofs.sending.latest_of.Goals as goal
 
 pub returns : goal.returns
 returns c =
-    let g = c.args.problem.now in
+    let g = c.args.course.now.problem.now in
     let f = c.args.forest.now in
     let x = c.args.item in
     let inside : ForestState = record { times = c.forest.inside.times.items; ends = c.forest.inside.ends.items; ready = c.forest.inside.ready.items; free = c.forest.inside.free.items } in
-    latest_read g c.share-share.result (share_of g (home g x)) c.args.goes.now c.index-end.result.now (ends_of g f (producer g x)) c.index-free.result.now (free_of g f (home g x)) c.in_ok-latest.latest
-    (c.share-share.ensures ∙ ap (share_of g) c.home-node.ensures.home)
+    latest_read g c.args.course.now.order.now f c.share-share.result (share_of g (home g x)) c.args.goes.now c.index-end.result.now (ends_of g f (producer g x)) x c.latest_send.result
+    (c.share-share.ensures ∙ ap (share_of g) c.home.ensures.home)
     (ends_read g f c.requires.forest inside c.forest.view_is c.index-end.result.now c.producer.result (producer g x) c.index-end.ensures c.producer.ensures.producer (omega (arith, c.producer.ensures.producer, c.producer.ensures.within)))
-    (free_read g f c.requires.forest inside c.forest.view_is c.index-free.result.now c.home-node.result (home g x) c.index-free.ensures c.home-node.ensures.home (omega (arith, c.home-node.ensures.home, c.home-node.ensures.within)))
-    c.in_ok-latest.ensures
+    c.latest_send.ensures

@@ -1,6 +1,5 @@
-use Rattle.std.proofs.Common.{◌≡◌, ◌∙◌, ℕ, ◌<◌, List, length, get_or, Contains, ap, subst, arith}
+use Rattle.std.proofs.Common.{◌≡◌, ℕ, ◌<◌, List, length, get_or, Contains, ap, subst, arith}
 use Rattle.std.proofs.lemmas.List.Elements.{Contains-get_or}
-use Rattle.cpg_base.specs.Graph.{Graph}
 use Rattle.cpg_bus.specs.Plan.{queue_of}
 use Rattle.cpg_bus.proofs.Queued.{in_queue}
 use Rattle.cpg_expand.specs.Sent.{IsItemAdded}
@@ -13,26 +12,26 @@ item_queued xs qs k l is = subst (λ ys. Contains ys (get_or xs k 0)) is (Contai
 
 pub add-requires-clause-item : goal.add-requires-clause-item
 add-requires-clause-item c =
-    let g = c.args.admitted.now.graph in
-    let is = c.queue-item-items.ensures ∙ ap (λ (h : Graph). queue_of h c.args.process) c.problem.ensures.problem in
+    let g = c.args.course.now.problem.now in
+    let is = c.queue-item-items.ensures in
     (in_queue g c.args.process (get_or c.queue-item-items.result.now c.loop-item.item-index 0) (item_queued c.queue-item-items.result.now (queue_of g c.args.process) c.loop-item.item-index c.loop-item-test.true is)).within
 
 pub add-requires-clause-sent : goal.add-requires-clause-sent
 add-requires-clause-sent c =
-    let g = c.args.admitted.now.graph in
-    let is = c.queue-item-items.ensures ∙ ap (λ (h : Graph). queue_of h c.args.process) c.problem.ensures.problem in
+    let g = c.args.course.now.problem.now in
+    let is = c.queue-item-items.ensures in
     (in_queue g c.args.process (get_or c.queue-item-items.result.now c.loop-item.item-index 0) (item_queued c.queue-item-items.result.now (queue_of g c.args.process) c.loop-item.item-index c.loop-item-test.true is)).sent
 
 pub loop-item-preserved : goal.loop-item-preserved
 loop-item-preserved c =
-    let g = c.args.admitted.now.graph in
+    let g = c.args.course.now.problem.now in
     let qs = queue_of g c.args.process in
-    let is = c.queue-item-items.ensures ∙ ap (λ (h : Graph). queue_of h c.args.process) c.problem.ensures.problem in
+    let is = c.queue-item-items.ensures in
     let here = ap (λ (xs : List ℕ). get_or xs c.loop-item.item-index 0) is in
     let inside : c.loop-item.item-index < length qs = omega (arith, ap length is, c.loop-item-test.true) in
     record {
       trees = c.in_ok-add.ensures.trees;
       count = c.in_ok-add.ensures.count;
-      added = next_added g c.args.active.now qs c.loop-item.item-index inside c.args.forest.now c.loop-item.forest c.add.new.forest c.args.frozen.now c.loop-item.frozen c.add.new.frozen c.loop-item.invariant.added
-          (subst (λ x. IsItemAdded g c.args.active.now x c.loop-item.forest c.add.new.forest c.loop-item.frozen c.add.new.frozen) here c.in_ok-add.ensures.added);
+      added = next_added g c.args.course.now.order.now c.args.active.now qs c.loop-item.item-index inside c.args.forest.now c.loop-item.forest c.add.new.forest c.args.frozen.now c.loop-item.frozen c.add.new.frozen c.loop-item.invariant.added
+          (subst (λ x. IsItemAdded g c.args.course.now.order.now c.args.active.now x c.loop-item.forest c.add.new.forest c.loop-item.frozen c.add.new.frozen) here c.in_ok-add.ensures.added);
     }

@@ -7,7 +7,7 @@ use Rattle.cpg_expand.proofs.sending.send.Given as goal
 
 abbrev pub invariant-loop-item : goal.invariant-loop-item
 invariant-loop-item l = record {
-  trees : HasTrees l.admitted.graph l.forest;
-  count : length l.frozen ≡ item_count l.admitted.graph;
-  added : AreItemsAdded l.admitted.graph l.active (take l.item-index (queue_of l.admitted.graph l.process)) l.fn.forest l.forest l.fn.frozen l.frozen;
+  trees : HasTrees l.course.problem.now l.forest;
+  count : length l.frozen ≡ item_count l.course.problem.now;
+  added : AreItemsAdded l.course.problem.now l.course.order.now l.active (take l.item-index (queue_of l.course.problem.now l.process)) l.fn.forest l.forest l.fn.frozen l.frozen;
 }

@@ -1,0 +1,12 @@
+use Rattle.cpg_expand.proofs.LatestFound.{next_queued, none_queued}
+use Rattle.cpg_expand.proofs.latest.after_queue.Goals as goal
+
+pub loop-other-init : goal.loop-other-init
+loop-other-init c =
+    let sent = c.args.sent.now in
+    none_queued c.args.problem.now c.args.order.now c.args.forest.now sent.goes.now sent.item c.args.first
+
+pub loop-other-preserved : goal.loop-other-preserved
+loop-other-preserved c =
+    let sent = c.args.sent.now in
+    next_queued c.args.problem.now c.args.order.now c.args.forest.now sent.goes.now sent.item c.loop-other.other c.args.first c.loop-other.latest c.after_queued-latest.result c.loop-other.invariant c.after_queued-latest.ensures
