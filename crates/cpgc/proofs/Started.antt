@@ -1,0 +1,19 @@
+-- A run that begins with nothing read and nothing written.
+use Rattle.std.proofs.Common.{ℕ, ◌≡◌, false, List, [], Option, Some, subst}
+use Rattle.cpg_io.specs.Adapters.{FileShelfState, StreamSinkState, shelf_of, sink_of}
+use Rattle.cpg_words.specs.Parts.{Text}
+use Rattle.cpg_app.specs.Endings.{Ran, seen}
+use Rattle.cpg_app.specs.Lawful.{IsLawful}
+use Rattle.cpg_app.specs.Told.{sent}
+use Rattle.cpgc.specs.Statuses.{program_run}
+
+module _ (words : List Text) (shelf : FileShelfState) (out err : StreamSinkState) (status : ℕ) where
+  abbrev between : FileShelfState → StreamSinkState → StreamSinkState → Ran
+  between s o e = record { words = words; shelf = seen (shelf_of s) (shelf_of shelf); out = sent (sink_of o) (sink_of out); err = sent (sink_of e) (sink_of err); status = status }
+
+  pub started : (s : FileShelfState) (o e : StreamSinkState) (p q : Option (List ℕ)) → s ≡ record { is_open = false; left = Some []; faults = 0; history = [] } → o ≡ record { contents = p; taken = []; faults = 0 } →
+      e ≡ record { contents = q; taken = []; faults = 0 } → IsLawful (between s o e) → IsLawful (program_run words (shelf_of shelf) (sink_of out) (sink_of err) status)
+  started s o e p q of_s of_o of_e lawful =
+      let s0 : FileShelfState = record { is_open = false; left = Some []; faults = 0; history = [] } in
+      let o0 : StreamSinkState = record { contents = p; taken = []; faults = 0 } in
+      subst (λ x. IsLawful (between s0 o0 x)) of_e (subst (λ x. IsLawful (between s0 x e)) of_o (subst (λ x. IsLawful (between x o e)) of_s lawful))
