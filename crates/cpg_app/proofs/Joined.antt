@@ -1,5 +1,5 @@
 -- What a run packed, the others take, and it asks what `show` prints.
-use Rattle.std.proofs.Common.{ℕ, ◌≡◌, ◌<◌, ◌∙◌, Bool, true, false, List, [], ◌∷◌, ◌++◌, Some, None, append-nil, get_or, length, refl, sym, ap, subst, arith, inl, inr, lt-ltb, true≢false}
+use Rattle.std.proofs.Common.{ℕ, ◌≡◌, ◌<◌, ◌≤◌, ◌∙◌, Bool, true, false, List, [], ◌∷◌, ◌++◌, Option, Some, None, append-nil, get_or, length, refl, sym, ap, subst, arith, inl, inr, lt-ltb, true≢false}
 use Rattle.std.specs.Prelude.{position}
 use Rattle.std.specs.List.{position_or_len}
 use Rattle.std.specs.Io.KnownBytes.{Appends}
@@ -9,6 +9,7 @@ use Rattle.std.proofs.lemmas.List.{append_cancel_left}
 use Rattle.std.proofs.lemmas.List.Sums.{fails_before_first}
 use Rattle.std.proofs.lemmas.Slice.Eq.{bytes_eq-Decides}
 use Rattle.cpg_base.specs.Graph.{Graph}
+use Rattle.cpg_tale.specs.Fetch.{Fetch}
 use Rattle.cpg_words.specs.Parts.{Text}
 use Rattle.cpg_words.specs.declared.command.Command.{Command}
 use Rattle.cpg_words.specs.declared.command.Command.TheVariants.{Show, Compile, Node}
@@ -26,17 +27,19 @@ use Rattle.cpg_core.specs.Compilation.{IsCompilation}
 use Rattle.cpg_core.proofs.OneCompilation.{ask_the_same}
 use Rattle.cpg_order.proofs.Urgent.{one_urgency_order}
 use Rattle.cpg_order.specs.Urgency.{IsUrgencyOrder}
-use Rattle.cpg_inputs.specs.declared.kind.Kind.TheVariants.{GraphFile}
-use Rattle.cpg_inputs.specs.Files.{file, files_of}
+use Rattle.cpg_refusal.specs.declared.halt.Halt.{Halt}
+use Rattle.cpg_refusal.specs.declared.halt.Halt.TheVariants.{Memory}
+use Rattle.cpg_inputs.specs.declared.kind.Kind.TheVariants.{GraphFile, PackFile}
+use Rattle.cpg_inputs.specs.Files.{file, files_of, limit_of}
 use Rattle.cpg_inputs.specs.Says.{Value, graph_value, tables_value}
 use Rattle.cpg_inputs.specs.Shapes.{OnGraph}
-use Rattle.cpg_inputs.specs.Reading.{Reads}
-use Rattle.cpg_inputs.proofs.OneReading.{AreAlike, moved, values_lawful}
+use Rattle.cpg_inputs.specs.Reading.{IsRead, Reads, StopsAt}
+use Rattle.cpg_inputs.proofs.OneReading.{AreAlike, moved, stops_memory, values_lawful}
 use Rattle.cpg_app.specs.Causes.{first_named}
 use Rattle.cpg_app.specs.Outputs.{ArePackOf, AreSafe, IsMadeOf, PutsOut, shown, packed as packed_of}
 use Rattle.cpg_app.specs.Endings.{Ran}
 use Rattle.cpg_app.specs.Lawful.{Asks, AsksVerdict, IsLawful}
-use Rattle.cpg_app.specs.Joined.{Wrote, HasMade, HasShown, HasPacked, EndsWell, PacksAreTaken, ShowAndCompileAgree}
+use Rattle.cpg_app.specs.Joined.{GaveAll, Wrote, HasMade, HasShown, HasPacked, EndsWell, PacksAreTaken, ShowAndCompileAgree}
 use Rattle.cpg_app.proofs.Asked.{on_graph, printed}
 use Rattle.cpg_app.proofs.Shown.{tables_lawful}
 use Rattle.cpg_app.proofs.Streamed.{is_live, other_words}
@@ -129,8 +132,20 @@ module _ (g : Graph) (pack : Text) (is : IsOutputFor packed_of g pack) where
       let named = node_named t.head node (let count : length t.head.nodes ≡ length g.nodes = ap length nodes in omega (arith, count, l)) in
       lawful.named path (get_or g.nodes node []) t named.0 asks (subst (λ (ns : List Text). first_named t.head (get_or ns node []) ≡ Some named.0) nodes named.1)
 
+  -- however it is read
+  read : (o : Option Graph) (fetch : Fetch) → GaveAll fetch pack → (t : Tables) × IsRead o (file PackFile fetch.name) fetch (tables_value t) × (pack ≡ spelling t)
+  read o fetch gave =
+      let e : fetch.given ≡ spelling tables = gave.given ∙ is.made_of.spelled in
+      let short : length fetch.given ≤ limit_of PackFile = subst (λ (bytes : Text). length bytes ≤ limit_of PackFile) (sym e) is.made_of.pack.short in
+      (tables, record { whole = record { named = refl; ended = gave.ended; sound = gave.sound; short = short }; says = (tables, refl, record { spelled = e; lawful = is.made_of.pack.lawful }) }, is.made_of.spelled)
+
+  unstopped : (o : Option Graph) (fetch : Fetch) (halt : Halt) → GaveAll fetch pack → StopsAt o (file PackFile fetch.name) fetch halt → halt ≡ Memory
+  unstopped o fetch halt gave stops =
+      let all = read o fetch gave in
+      stops_memory o (file PackFile fetch.name ∷ []) [] (fetch ∷ []) (tables_value all.0 ∷ []) halt (fetch, all.1, refl) (fetch, inl (stops, refl))
+
 pub packs_are_taken : PacksAreTaken
-packs_are_taken r g pack has = let is = pack_of r g pack has in record { judged = judged g pack is; printed = taken g pack is }
+packs_are_taken r g pack has = let is = pack_of r g pack has in record { read = read g pack is; unstopped = unstopped g pack is; judged = judged g pack is; printed = taken g pack is }
 
 -- ---- what is shown is what is packed
 

@@ -1,6 +1,7 @@
 -- Runs one after another: what one wrote, the others read; and runs for one graph.
-use Rattle.std.specs.Prelude.{ℕ, ◌≡◌, ◌<◌, ◌⊎◌, [], ◌∷◌, ◌++◌, Some, get_or, length}
+use Rattle.std.specs.Prelude.{ℕ, ◌≡◌, ◌<◌, ◌⊎◌, true, false, [], ◌∷◌, ◌++◌, Option, Some, get_or, length}
 use Rattle.cpg_base.specs.Graph.{Graph}
+use Rattle.cpg_tale.specs.Fetch.{Fetch}
 use Rattle.cpg_words.specs.Parts.{Text}
 use Rattle.cpg_words.specs.declared.command.Command.{Command}
 use Rattle.cpg_words.specs.declared.command.Command.TheVariants.{Show, Compile, Node}
@@ -8,7 +9,12 @@ use Rattle.cpg_rules.specs.Admission.{Admission, IsAdmitted}
 use Rattle.cpg_table.specs.Lawful.{Tables}
 use Rattle.cpg_codec.specs.Spelling.{spelling}
 use Rattle.cpg_core.specs.CompileLaws.{AskTheSame}
+use Rattle.cpg_refusal.specs.declared.halt.Halt.{Halt}
+use Rattle.cpg_refusal.specs.declared.halt.Halt.TheVariants.{Memory}
+use Rattle.cpg_inputs.specs.declared.kind.Kind.TheVariants.{PackFile}
+use Rattle.cpg_inputs.specs.Files.{file}
 use Rattle.cpg_inputs.specs.Says.{graph_value, tables_value}
+use Rattle.cpg_inputs.specs.Reading.{IsRead, StopsAt}
 use Rattle.cpg_app.specs.Endings.{Has, Ran}
 use Rattle.cpg_app.specs.Lawful.{Asks, AsksVerdict, IsLawful}
 use Rattle.cpg_app.specs.Outputs.{IsMadeOf, shown, packed as packed_of}
@@ -41,8 +47,17 @@ HasPacked r g pack = HasMade Compile r g pack
 abbrev pub EndsWell : Ran → Type 0
 EndsWell r = (r.status ≡ 0) ⊎ (r.status ≡ 8)
 
+-- a fetch gave these bytes, and they are the whole of its file
+pub record GaveAll (fetch : Fetch) (bytes : Text) : Type 0 where
+  pub given : fetch.given ≡ bytes
+  pub ended : fetch.ended ≡ true
+  pub sound : fetch.failed ≡ false
+
 -- a pack of a graph is taken by the commands that read packs, where no sink meets a fault
 pub record IsTaken (g : Graph) (pack : Text) : Type 0 where
+  -- a fetch that gave all of it is read as its tables, and stops no run but for want of memory
+  pub read : (o : Option Graph) (fetch : Fetch) → GaveAll fetch pack → (t : Tables) × IsRead o (file PackFile fetch.name) fetch (tables_value t) × (pack ≡ spelling t)
+  pub unstopped : (o : Option Graph) (fetch : Fetch) (halt : Halt) → GaveAll fetch pack → StopsAt o (file PackFile fetch.name) fetch halt → halt ≡ Memory
   -- with a file that says the graph it is found safe, played as each scenario file of the graph says, and each log of the graph
   -- audited by it
   pub judged : (r : Ran) (a : Admission) (t : Tables) → IsLawful r → a.graph ≡ g → pack ≡ spelling t → AsksVerdict r a t → EndsWell r
