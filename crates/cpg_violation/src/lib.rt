@@ -11,6 +11,7 @@ mod lines;
 mod marks;
 mod meeting;
 mod sieve;
+mod trees;
 
 pub use activity::{least_at, value_literal};
 pub use columns::{columns_of, row_columns};
@@ -21,3 +22,4 @@ pub use lines::{Line, lines_of};
 pub use marks::{RowMarks, TimeMarks, are_all, is_marked};
 pub use meeting::met;
 pub use sieve::Sieve;
+pub use trees::tree_of;
