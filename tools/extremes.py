@@ -286,6 +286,38 @@ def long_rows(rows, columns, seed=5):
     return {"graph": it.text(), "pack": it.pack()}
 
 
+def by_threshold(members, least, faults):
+    """Cubes that part all scenarios by which members have so many faults at least. None has a literal where no faults are left, so
+    that of most two no single variable says that they can't match together."""
+    most = faults // least
+    for count in range(most + 1):
+        for chosen in itertools.combinations(members, count):
+            held = chosen if count == most else members
+            yield [[p, least, faults] if p in chosen else [p, 0, least - 1] for p in held]
+
+
+def threshold_row(processes, least, faults, damage):
+    """A row of such columns, of which one stands twice, is too wide or is missing."""
+    it, step, now = Design(faults), faults + 2, 0
+    it.node()
+    members = [it.process(f"p{i}") for i in range(processes)]
+    for p in members:
+        it.rows[f"start p{p}"] = [[now, []]]
+        now += step
+    cubes = list(by_threshold(members, least, faults))
+    place = len(cubes) - 1 - processes
+    if damage == "double":
+        cubes.append(cubes[place])
+    elif damage == "wide":
+        (variable, low, high), *others = cubes[-1]
+        cubes[-1] = [[variable, low - 1, high], *others]
+    else:
+        del cubes[place]
+    it.process("x")
+    it.rows["start x"] = [[now, cube] for cube in cubes]
+    return {"graph": it.text(), "pack": it.pack()}
+
+
 def deep_row(processes):
     """A row that forks one fault count at a time, as deep as there are processes and faults."""
     faults, now = 8, 0
@@ -321,6 +353,9 @@ CASES = {
     "messages that 9 sets of 10 processes part, k 8": (lambda: heard_sets(10, 9, 8), "check", 0, 1, 50, 1024),
     "the same, sets of 6, and 8 conditions": (lambda: heard_sets(6, 9, 8, 8), "check", 0, 1, 50, 1024),
     "ten rows of 6,000 columns that nothing parts": (lambda: long_rows(10, 6000), "check", 0, 1, 60, 1024),
+    "a row of 15,226 columns and one of them again, 45 processes, k 3": (lambda: threshold_row(45, 1, 3, "double"), "check", 7, 1, 60, 1024),
+    "a row of 8,002 columns, the last too wide, 126 processes, k 8": (lambda: threshold_row(126, 3, 8, "wide"), "check", 7, 1, 60, 1024),
+    "the same with one missing": (lambda: threshold_row(126, 3, 8, "missing"), "check", 7, 1, 60, 1024),
     "a row that forks 1,017 times in turn": (lambda: deep_row(127), "check", 0, 1, 50, 1024),
 }
 ORDER = {"show": ("graph",), "compile": ("graph",), "tune": ("graph",), "check": ("graph", "pack"), "audit": ("graph", "pack", "log")}

@@ -1,4 +1,5 @@
 pub mod Doubles
+pub mod TreeDoubles
 pub mod HearLaws
 pub mod PresentLaws
 pub mod ActivityLaws

@@ -1,5 +1,6 @@
 //! V2: no two columns of a row match in one scenario.
 ghost use Rattle.std.specs.Prelude.{◌≡◌, ◌≤◌, ◌<◌, ◌&&◌, ℕ, All, IfNone, IfOk, IfSome, List, false, length};
+ghost use Rattle.std.specs.Bool.{OnTrue};
 ghost use Rattle.std.specs.List.{list_any};
 ghost use Rattle.cpg_base.specs.declared.limits.TheConstants.{MOST_LOAD};
 ghost use Rattle.cpg_base.specs.Graph.{item_count, process_count};
@@ -20,7 +21,7 @@ use cpg_base::{Order, OutOfMemory, Problem, Scenario};
 use cpg_cube::{Cube, Entry};
 use cpg_rules::Admitted;
 use cpg_table::{Fault, Rule, Tables};
-use cpg_violation::{Line, Sieve, earlier, is_marked, met};
+use cpg_violation::{Line, Sieve, earlier, is_marked, met, tree_of};
 use std::alloc::Global;
 
 /// The least scenario that a cube matches together with the column at a place, if there is one.
@@ -89,6 +90,45 @@ fn shared_before(
     Ok(found)
 }
 
+/// Whether so many first columns of a row have a tree, so that no two of them match together.
+fn have_tree(
+    alloc: Global,
+    problem: &Problem,
+    columns: &[Entry],
+    count: usize,
+) -> Result<bool, OutOfMemory>
+    requires within { count ≤ length columns.now }
+    requires few { length columns.now ≤ MOST_LOAD }
+    ensures { IfOk result (λ have. OnTrue have ((i : ℕ) (s : Scenario) → i < count → IsScenario problem.now s → is_double columns.now i s ≡ false)) }
+{
+    let tree = tree_of(alloc, problem, &columns[..count])?;
+    Ok(tree.is_some())
+}
+
+/// How many first columns of a row are found to have a tree, by halving: where not all have one, mostly the next column is the
+/// first that matches together with an earlier one, and a long row's columns needn't be held against one another.
+fn first_with_tree(
+    alloc: Global,
+    problem: &Problem,
+    columns: &[Entry],
+) -> Result<usize, OutOfMemory>
+    requires { length columns.now ≤ MOST_LOAD }
+    ensures { IfOk result (λ count. (i : ℕ) (s : Scenario) → i < count → IsScenario problem.now s → is_double columns.now i s ≡ false) }
+{
+    let mut count = 0;
+    let mut end = columns.len();
+    while end - count > 1 {
+        let middle = count + (end - count) / 2;
+        let have = have_tree(alloc, problem, columns, middle)?;
+        if have {
+            count = middle;
+            continue;
+        }
+        end = middle;
+    }
+    Ok(count)
+}
+
 /// The first column of a row that matches together with an earlier one, and the least scenario in which it does.
 fn first_double(
     alloc: Global,
@@ -104,7 +144,8 @@ fn first_double(
     ensures none { IfOk result (λ r. IfNone r ((i : ℕ) (s : Scenario) → IsScenario problem.now s → is_double columns.now i s ≡ false)) }
     ensures first { IfOk result (λ r. IfSome r (IsFirstColumn problem.now order.now (is_double columns.now))) }
 {
-    for column in 0..columns.len() {
+    let first = first_with_tree(alloc, problem, columns)?;
+    for column in first..columns.len() {
         let met = shared_before(alloc, problem, order, sieve, columns, column)?;
         if let Some(scenario) = met {
             return Ok(Some((column as u32, scenario)));

@@ -10,3 +10,5 @@ pub mod ApartLaws
 pub mod LineLaws
 pub mod Matching
 pub mod Moments
+pub mod Few
+pub mod TreeLaws

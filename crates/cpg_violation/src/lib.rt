@@ -10,6 +10,7 @@ mod lines;
 mod marks;
 mod meeting;
 mod sieve;
+mod trees;
 
 pub use activity::{least_at, value_literal};
 pub use earliest::earlier;
@@ -19,3 +20,4 @@ pub use lines::{Line, lines_of};
 pub use marks::{RowMarks, TimeMarks, are_all, is_marked};
 pub use meeting::met;
 pub use sieve::Sieve;
+pub use trees::tree_of;

@@ -1,0 +1,45 @@
+-- Columns that have a tree: none of them matches together with an earlier one.
+use Rattle.std.proofs.Common.{ℕ, ◌<◌, ◌≡◌, Bool, true, false, ◌&&◌, List, [], Option, None, Some, length, get_or, take, arith, refl, sym, ap, ◌∙◌, inl, inr}
+use Rattle.std.specs.Prelude.{IfSome, is_some}
+use Rattle.std.specs.Bool.{OnTrue}
+use Rattle.std.proofs.lemmas.Bool.{cases_lt}
+use Rattle.std.proofs.lemmas.List.{get_or-take, length-take, take-take}
+use Rattle.cpg_base.specs.Graph.{Graph}
+use Rattle.cpg_base.specs.Scenario.{Scenario, IsScenario}
+use Rattle.cpg_cube.specs.Cube.{matches}
+use Rattle.cpg_cube.specs.Column.{Column}
+use Rattle.cpg_table.specs.Valid.{breaks_single}
+use Rattle.cpg_tree.specs.declared.places.Places.{Places}
+use Rattle.cpg_violation.specs.Sieves.{column_at}
+use Rattle.cpg_violation.specs.Trees.{IsRowTree}
+use Rattle.cpg_violation.proofs.TreeLaws.{none_earlier}
+use Rattle.cpg_check_rows.specs.Single.{is_double}
+use Rattle.cpg_check_rows.proofs.Doubles.{double_at, double_past}
+
+only_where : (a b : Bool) → (a ≡ true → b ≡ false) → (a && b) ≡ false
+only_where true b h = h refl
+only_where false b h = refl
+
+-- what holds of the first columns by themselves holds of them in the row
+front_as : (columns : List Column) (n i : ℕ) (s : Scenario) → i < n → is_double (take n columns) i s ≡ false → is_double columns i s ≡ false
+front_as columns n i s less none = elim (cases_lt i (length columns)) [
+  | inl l ↦
+      let d : Column = record { time = 0; cube = [] } in
+      let here : i < length (take n columns) = omega (arith, l, less, length-take n columns) in
+      sym (double_at columns i d s l)
+      ∙ ap (λ (c : Column). matches c.cube s && breaks_single s (take i columns)) (sym (get_or-take n columns i d less))
+      ∙ ap (λ cs. matches (get_or (take n columns) i d).cube s && breaks_single s cs) (sym (take-take i n columns (omega (arith, less))))
+      ∙ double_at (take n columns) i d s here ∙ none
+  | inr past ↦ double_past columns i s past
+]
+
+none_double : (g : Graph) (columns : List Column) (tree : Places) → IsRowTree g columns tree → (i : ℕ) (s : Scenario) → IsScenario g s → is_double columns i s ≡ false
+none_double g columns tree is i s law = elim (cases_lt i (length columns)) [
+  | inl l ↦ sym (double_at columns i (record { time = 0; cube = [] }) s l) ∙ only_where (matches (column_at columns i).cube s) (breaks_single s (take i columns)) (λ m. none_earlier is s law i l m)
+  | inr past ↦ double_past columns i s past
+]
+
+pub none_by_tree : (g : Graph) (columns : List Column) (n : ℕ) (o : Option Places) → IfSome o (IsRowTree g (take n columns))
+    → OnTrue (is_some o) ((i : ℕ) (s : Scenario) → i < n → IsScenario g s → is_double columns i s ≡ false)
+none_by_tree g columns n None is = tt
+none_by_tree g columns n (Some tree) is = λ i s less law. front_as columns n i s less (none_double g (take n columns) tree is i s law)

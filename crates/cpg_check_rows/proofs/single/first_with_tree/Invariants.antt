@@ -1,0 +1,14 @@
+use Rattle.std.proofs.Common.{ℕ, ◌-◌, ◌<◌, ◌≤◌, ◌≡◌, false, length}
+use Rattle.cpg_base.specs.Scenario.{Scenario, IsScenario}
+use Rattle.cpg_check_rows.specs.Single.{is_double}
+use Rattle.cpg_check_rows.proofs.single.first_with_tree.Given as goal
+
+abbrev pub invariant-loop-end : goal.invariant-loop-end
+invariant-loop-end l = record {
+  order : l.count ≤ l.end;
+  within : l.end ≤ length l.columns;
+  none : (i : ℕ) (s : Scenario) → i < l.count → IsScenario l.problem s → is_double l.columns i s ≡ false;
+}
+
+abbrev pub decreases-loop-end : goal.decreases-loop-end
+decreases-loop-end l = l.end - l.count
