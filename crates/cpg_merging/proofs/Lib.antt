@@ -6,3 +6,4 @@ pub mod MergingPairs
 pub mod MergingSettled
 pub mod MergingSteps
 pub mod MergingTotals
+pub mod MergingBlocks

@@ -4,7 +4,7 @@ ghost use Rattle.cpg_cube.specs.declared.literal.Literal.{Literal};
 ghost use Rattle.cpg_merging.specs.Totals.{AreMarked, AreMarkedBy, AreSums, HasNoPartner, IsMarked, total_of};
 ghost use Rattle.cpg_merging.specs.Merging.{IsShorn};
 
-use crate::totals::{Sums, has_partner, sieve_of, totals};
+use crate::totals::{BLOCK, Sums, begin_at_zero, has_partner, sieve_of, totals};
 use cpg_base::{OutOfMemory, Problem};
 use cpg_cube::{Entry, Literal};
 use std::alloc::Global;
@@ -30,7 +30,7 @@ fn mark_at(sums: Sums<'_>, total: u64, literal: Literal, marks: &mut [bool; VARI
 }
 
 /// Marks the variables of literals at which a column with this sum may follow another.
-fn mark(sums: Sums<'_>, total: u64, literals: &[Literal], marks: &mut [bool; VARIABLES])
+fn mark_each(sums: Sums<'_>, total: u64, literals: &[Literal], marks: &mut [bool; VARIABLES])
     requires { AreSums sums.sorted.now sums.sieve.now }
     ensures kept { (v : ℕ) → IsMarked marks.old v → IsMarked marks.new v }
     ensures marked { (l : Literal) → Contains literals.now l → ¬ IsMarked marks.new l.variable → HasNoPartner sums.entry.asked sums.entry.sorted.now total l }
@@ -38,6 +38,37 @@ fn mark(sums: Sums<'_>, total: u64, literals: &[Literal], marks: &mut [bool; VAR
     for literal in literals {
         mark_at(sums, total, *literal, marks);
     }
+}
+
+/// The same, at once where all begin at 0.
+fn mark_block(
+    sums: Sums<'_>,
+    total: u64,
+    literals: &[Literal; BLOCK],
+    marks: &mut [bool; VARIABLES],
+)
+    requires { AreSums sums.sorted.now sums.sieve.now }
+    ensures kept { (v : ℕ) → IsMarked marks.old v → IsMarked marks.new v }
+    ensures marked { (l : Literal) → Contains literals.now l → ¬ IsMarked marks.new l.variable → HasNoPartner sums.entry.asked sums.entry.sorted.now total l }
+{
+    if begin_at_zero(literals) {
+        return;
+    }
+    mark_each(sums, total, literals, marks);
+}
+
+/// The same, of any number of literals.
+fn mark(sums: Sums<'_>, total: u64, literals: &[Literal], marks: &mut [bool; VARIABLES])
+    requires { AreSums sums.sorted.now sums.sieve.now }
+    ensures kept { (v : ℕ) → IsMarked marks.old v → IsMarked marks.new v }
+    ensures marked { (l : Literal) → Contains literals.now l → ¬ IsMarked marks.new l.variable → HasNoPartner sums.entry.asked sums.entry.sorted.now total l }
+{
+    let mut left = literals;
+    while let Some((block, rest)) = left.split_first_chunk::<BLOCK>() {
+        mark_block(sums, total, block, marks);
+        left = rest;
+    }
+    mark_each(sums, total, left, marks);
 }
 
 /// The variables at which some column may follow one with a sum among these, marked by number.

@@ -1,5 +1,6 @@
 //! Sums over literals by which it is found whether any two columns touch.
-ghost use Rattle.std.specs.Prelude.{◌≡◌, ◌+◌, ◌%◌, ◌^◌, ◌<◌, Contains, IfOk, length, map};
+ghost use Rattle.std.specs.Prelude.{◌≡◌, ◌+◌, ◌%◌, ◌^◌, ◌<◌, ◌==◌, Contains, IfOk, length, map, sum_by};
+ghost use Rattle.std.specs.List.{list_all};
 ghost use Rattle.std.specs.Bool.{OnFalse};
 ghost use Rattle.cpg_merging.specs.Totals.{AreSums, HasNoPartner, IsSieve, hash_of, mixed, number_of, place_in, total_of};
 
@@ -45,15 +46,50 @@ fn hash_of(asked: bool, literal: Literal) -> u64
     first.wrapping_mul(first / HALF)
 }
 
+/// How many literals are looked at together.
+pub(crate) const BLOCK: usize = 8;
+
+/// Whether all literals begin at 0, as most do.
+pub(crate) fn begin_at_zero(literals: &[Literal; BLOCK]) -> bool
+    ensures { result ≡ list_all (λ l. l.low == 0) literals.now }
+{
+    literals.iter().all(|literal| literal.low == 0)
+}
+
+/// A sum with those of literals.
+fn sum_with(asked: bool, first: u64, literals: &[Literal]) -> u64
+    ensures { result ≡ (first + sum_by (hash_of asked) literals.now) % 2 ^ 64 }
+{
+    let mut total = first;
+    for literal in literals {
+        total = total.wrapping_add(hash_of(asked, *literal));
+    }
+    total
+}
+
+/// The same, at once where nothing counts.
+fn sum_with_block(asked: bool, first: u64, literals: &[Literal; BLOCK]) -> u64
+    ensures { result ≡ (first + sum_by (hash_of asked) literals.now) % 2 ^ 64 }
+{
+    if asked {
+        if begin_at_zero(literals) {
+            return first;
+        }
+    }
+    sum_with(asked, first, literals)
+}
+
 /// The sum of a column.
 fn total_of(asked: bool, column: &Entry) -> u64
     ensures { result ≡ total_of asked column.now }
 {
     let mut total = mixed(0, column.time);
-    for literal in column.cube.literals() {
-        total = total.wrapping_add(hash_of(asked, *literal));
+    let mut left = column.cube.literals();
+    while let Some((block, rest)) = left.split_first_chunk::<BLOCK>() {
+        total = sum_with_block(asked, total, block);
+        left = rest;
     }
-    total
+    sum_with(asked, total, left)
 }
 
 /// The sums of columns.

@@ -1,17 +1,20 @@
-use Rattle.std.proofs.Common.{arith}
+use Rattle.std.proofs.Common.{rules, ◌≡◌, ◌++◌, inl, inr}
 use Rattle.cpg_cube.specs.declared.literal.Literal.{Literal}
 use Rattle.cpg_merging.specs.Totals.{HasNoPartner, IsMarked}
-use Rattle.cpg_merging.proofs.MergingTotals.{all_more, all_of}
+use Rattle.cpg_merging.proofs.MergingBlocks.{all_marked, marked_on}
 use Rattle.cpg_merging.proofs.marks.mark.Goals as goal
 
-pub loop-literal-preserved : goal.loop-literal-preserved
-loop-literal-preserved c =
-    let old = c.loop-literal.invariant in
+pub loop-block-preserved : goal.loop-block-preserved
+loop-block-preserved c =
+    let old = c.loop-block.invariant in
+    let parted : c.loop-block.left.now ≡ c.in-Some.block.now ++ c.in-Some.rest.now = search rules in
     record {
-      kept = λ v on. c.mark_at.ensures.kept v (old.kept v on);
-      marked = all_more (λ (m : Literal). ¬ IsMarked c.mark_at.new.marks m.variable → HasNoPartner c.args.sums.asked c.args.sums.sorted.now c.args.total m) c.args.literals.now c.loop-literal.literal-index _ (omega arith)
-          (λ m h off. old.marked m h (λ on. off (c.mark_at.ensures.kept m.variable on))) c.mark_at.ensures.marked;
+      kept = λ v on. c.mark_block.ensures.kept v (old.kept v on);
+      marked = marked_on (λ (m : Literal). ¬ IsMarked c.loop-block.marks m.variable → HasNoPartner c.args.sums.asked c.args.sums.sorted.now c.args.total m)
+          (λ (m : Literal). ¬ IsMarked c.mark_block.new.marks m.variable → HasNoPartner c.args.sums.asked c.args.sums.sorted.now c.args.total m) c.args.literals.now c.loop-block.left.now c.in-Some.block.now c.in-Some.rest.now parted
+          (λ m h off. h (λ on. off (c.mark_block.ensures.kept m.variable on))) c.mark_block.ensures.marked old.marked;
     }
 
 pub returns-clause-marked : goal.returns-clause-marked
-returns-clause-marked c = all_of (λ (m : Literal). ¬ IsMarked c.loop-literal.marks m.variable → HasNoPartner c.args.sums.asked c.args.sums.sorted.now c.args.total m) c.args.literals.now c.loop-literal.literal-index (omega arith) c.loop-literal.invariant.marked
+returns-clause-marked c = all_marked (λ (m : Literal). ¬ IsMarked c.mark_each.new.marks m.variable → HasNoPartner c.args.sums.asked c.args.sums.sorted.now c.args.total m) c.args.literals.now c.loop-block.left.now
+    (λ m h. elim (c.loop-block.invariant.marked m h) [ inl there ↦ inl there | inr done ↦ inr (λ off. done (λ on. off (c.mark_each.ensures.kept m.variable on))) ]) c.mark_each.ensures.marked

@@ -1,0 +1,45 @@
+-- Literals that all begin at 0: sums of what is asked above 0 have nothing of them, and no column ends where one of them begins.
+use Rattle.std.proofs.Common.{ℕ, ◌≡◌, ◌⊎◌, ◌==◌, Bool, true, List, [], ◌∷◌, ◌++◌, Contains, arith, refl, subst, sum_by, inl, inr}
+use Rattle.std.specs.List.{list_all}
+use Rattle.std.proofs.lemmas.Bool.{and_parts, cond-true, eqb-true}
+use Rattle.std.proofs.lemmas.List.Elements.{Contains-append_cases}
+use Rattle.std.proofs.lemmas.List.Sums.{sum_by-cons}
+use Rattle.cpg_base.proofs.Lists.{Contains-cases, Contains-nil}
+use Rattle.cpg_cube.specs.declared.literal.Literal.{Literal}
+use Rattle.cpg_merging.specs.Totals.{HasNoPartner, hash_of, number_of, spread}
+
+abbrev pub AllAtZero : List Literal → Type 0
+AllAtZero ls = list_all (λ (l : Literal). l.low == 0) ls ≡ true
+
+pub none_asked : (ls : List Literal) → AllAtZero ls → sum_by (hash_of true) ls ≡ 0
+none_asked [] h = refl
+none_asked (l ∷ ls) h =
+    let parts = and_parts (l.low == 0) (list_all (λ (m : Literal). m.low == 0) ls) h in
+    let here : hash_of true l ≡ 0 = cond-true (l.low == 0) 0 (spread (number_of l)) parts.0 in
+    omega (arith, sum_by-cons (hash_of true) l ls, here, none_asked ls parts.1)
+
+pub zero_in : (ls : List Literal) → AllAtZero ls → (l : Literal) → Contains ls l → l.low ≡ 0
+zero_in [] h l c = absurd (Contains-nil l c)
+zero_in (m ∷ ls) h l c =
+    let parts = and_parts (m.low == 0) (list_all (λ (x : Literal). x.low == 0) ls) h in
+    elim (Contains-cases m ls l c) [
+      | inl e ↦ subst (λ (x : Literal). x.low ≡ 0) e (eqb-true m.low 0 parts.0)
+      | inr d ↦ zero_in ls parts.1 l d
+    ]
+
+pub none_before : (asked : Bool) (sums : List ℕ) (total : ℕ) (ls : List Literal) → AllAtZero ls → (l : Literal) → Contains ls l → HasNoPartner asked sums total l
+none_before asked sums total ls h l c low rest lt e there = absurd (omega (arith, zero_in ls h l c, lt))
+
+-- literals of which a block was marked
+pub marked_on : (P : Literal → Type 0) (Q : Literal → Type 0) (all left block rest : List Literal) → left ≡ block ++ rest → ((l : Literal) → P l → Q l) → ((l : Literal) → Contains block l → Q l) → ((l : Literal) → Contains all l → Contains left l ⊎ P l)
+    → (l : Literal) → Contains all l → Contains rest l ⊎ Q l
+marked_on P Q all left block rest is kept here before l c = elim (before l c) [
+  | inl there ↦ elim (Contains-append_cases block rest l (subst (λ ls. Contains ls l) is there)) [
+    | inl now ↦ inr (here l now)
+    | inr later ↦ inl later
+  ]
+  | inr done ↦ inr (kept l done)
+]
+
+pub all_marked : (P : Literal → Type 0) (all left : List Literal) → ((l : Literal) → Contains all l → Contains left l ⊎ P l) → ((l : Literal) → Contains left l → P l) → (l : Literal) → Contains all l → P l
+all_marked P all left before here l c = elim (before l c) [ inl there ↦ here l there | inr done ↦ done ]

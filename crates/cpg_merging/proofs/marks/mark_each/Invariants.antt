@@ -1,0 +1,10 @@
+use Rattle.std.proofs.Common.{ℕ, Contains, take}
+use Rattle.cpg_cube.specs.declared.literal.Literal.{Literal}
+use Rattle.cpg_merging.specs.Totals.{HasNoPartner, IsMarked}
+use Rattle.cpg_merging.proofs.marks.mark_each.Given as goal
+
+abbrev pub invariant-loop-literal : goal.invariant-loop-literal
+invariant-loop-literal l = record {
+  kept : (v : ℕ) → IsMarked l.fn.marks v → IsMarked l.marks v;
+  marked : (m : Literal) → Contains (take l.literal-index l.literals) m → ¬ IsMarked l.marks m.variable → HasNoPartner l.sums.asked l.sums.sorted.now l.total m;
+}
