@@ -4,7 +4,6 @@ ghost use Rattle.std.specs.List.{list_all, list_any};
 ghost use Rattle.std.specs.Bool.{OnTrue, OnFalse};
 ghost use Rattle.cpg_base.specs.Graph.{value_variable};
 ghost use Rattle.cpg_base.specs.Numbers.{numbers_below};
-ghost use Rattle.cpg_table.specs.Table.{columns_in};
 ghost use Rattle.cpg_node.specs.Dispatcher.{know, cut, cut_all, has_heard, own_of, hear_end, hear_frame, is_contradicted, no_column, whole_range, variable_count};
 ghost use Rattle.cpg_node.specs.State.{arrives};
 
@@ -12,7 +11,7 @@ use crate::range::Range;
 use crate::{Ended, Frame};
 use cpg_base::{FIRST_VALUE, MOST_CONDITIONS, OutOfMemory, top};
 use cpg_cube::{Entry, Literal};
-use cpg_table::{NodeTable, Row};
+use cpg_table::NodeTable;
 use std::alloc::Global;
 
 /// How many variables there may be.
@@ -130,18 +129,6 @@ fn hear_ends(table: &NodeTable, heard: &mut [Range], ended: &[Ended])
     }
 }
 
-/// The columns of an item's row, none where it has no row.
-fn columns_in(rows: &[Row], item: u32) -> &[Entry]
-    ensures { result.now ≡ columns_in rows.now item }
-{
-    for row in rows {
-        if row.item() == item {
-            return row.entries();
-        }
-    }
-    &[]
-}
-
 /// The literals of a column hold.
 fn cut_column(heard: &mut [Range], columns: &[Entry], column: u32)
     ensures { heard.new ≡ cut_all heard.old (get_or columns.now column no_column).cube }
@@ -155,7 +142,7 @@ fn cut_column(heard: &mut [Range], columns: &[Entry], column: u32)
 fn hear_frame(table: &NodeTable, heard: &mut [Range], frame: &Frame)
     ensures { heard.new ≡ hear_frame table.now heard.old frame.now }
 {
-    let columns = columns_in(table.hears(), frame.item);
+    let columns = table.heard_columns(frame.item);
     cut_column(heard, columns, frame.column);
     if frame.item >= table.first_broadcast() {
         let condition = frame.item - table.first_broadcast();
@@ -195,21 +182,11 @@ fn are_contradicted(heard: &[Range]) -> bool
     heard.iter().any(|range| range.high < range.low)
 }
 
-/// Whether an item has a row.
-fn has_row(rows: &[Row], item: u32) -> bool
-    ensures { result ≡ list_any (λ row. row.item == item) rows.now }
-{
-    rows.iter().any(|row| row.item() == item)
-}
-
 /// Whether the node hears the item of a frame, and by such a column then.
 pub fn arrives(table: &NodeTable, arrival: u64, frame: &Frame) -> bool
     ensures { result ≡ arrives table.now arrival frame.now }
 {
-    if !has_row(table.hears(), frame.item) {
-        return false;
-    }
-    match columns_in(table.hears(), frame.item).get(frame.column as usize) {
+    match table.heard_columns(frame.item).get(frame.column as usize) {
         Some(entry) => entry.time == arrival,
         None => false,
     }
