@@ -26,7 +26,7 @@ use Rattle.cpg_table.specs.Shape.{items_of}
 use Rattle.cpg_table.specs.Table.{Row}
 use Rattle.cpg_cube.specs.Column.{Column}
 use Rattle.cpg_run.specs.Carried.{row_at}
-use Rattle.cpg_list.specs.Learning.{AreTold}
+use Rattle.cpg_list.specs.Learning.{EarlierTell}
 use Rattle.cpg_list.specs.Made.{AreMade, IsRowSet}
 use Rattle.cpg_run.specs.Found.{columns_of_rows}
 use Rattle.cpg_run.specs.RowLaws.{IsTimed, SameRowsBefore, AreRowsBefore}
@@ -71,7 +71,7 @@ module _ (g : Graph) (urgency order : List ℕ) (frozen : List (Option ℕ)) (ti
   before_are : (bound : ℕ) → ((y : ℕ) → place order (producer g y) < bound → made y) → AreRowsBefore g order frozen bound (columns_of_rows rows)
   before_are bound there = rows_before g urgency order frozen timed (columns_of_rows rows) bound (λ y e. are.each y e.0 (there y e.1))
 
-  pub told_from : (p : ℕ) → ((y : ℕ) → place order (producer g y) < place order p → made y) → (s : Scenario) (t : Times) → IsScenario g s → IsRun g order frozen s t → AreTold g order (columns_of_rows rows) s t p
+  pub told_from : (p : ℕ) → ((y : ℕ) → place order (producer g y) < place order p → made y) → (s : Scenario) (t : Times) → IsScenario g s → IsRun g order frozen s t → EarlierTell g order (columns_of_rows rows) s t p
   told_from p there s t law run x l h = record {
     there = omega (arith, l, length-map rows (λ (r : Row). r.columns), count_of rows (item_count g) are.items);
     times = (before_are (place order p) there).times x (l, h) s t law run;

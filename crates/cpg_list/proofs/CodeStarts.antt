@@ -23,7 +23,7 @@ use Rattle.cpg_cube.specs.Column.{Column}
 use Rattle.cpg_run.specs.Carried.{number_known, decided, heard, received, executed, passed, carried, carried_by_item}
 use Rattle.cpg_list.specs.Learning.{IsTimedIfActive, start_after, received_unless_frozen}
 use Rattle.cpg_list.specs.Made.{AreCubesOf, AreCubesUpTo, passed_by}
-use Rattle.cpg_list.specs.Narrowing.{IsNarrowed, IsKept, IsKeptOf, IsKeptAt}
+use Rattle.cpg_list.specs.Narrowing.{IsNarrowed, IsLeastEntry, IsKeptOf, IsKeptAt}
 use Rattle.cpg_run.specs.Rows.{IsCubeOf}
 use Rattle.cpg_list.proofs.CodeCubes.{whole_cube}
 use Rattle.cpg_run.proofs.CubesOf.{same_least, cube_of, cube_there}
@@ -31,7 +31,7 @@ use Rattle.cpg_run.proofs.EntriesFound.{AreEntriesAmong, not_before_place, passe
 
 -- ---- entries that are kept
 
-pub kept_of : (g : Graph) (s : Scenario) (time : ℕ) (literals cube : List Literal) → IsCubeOf g.faults literals cube → (r : Option Column) → IsKept g s time cube r → IsKeptOf g s time literals r
+pub kept_of : (g : Graph) (s : Scenario) (time : ℕ) (literals cube : List Literal) → IsCubeOf g.faults literals cube → (r : Option Column) → IsLeastEntry g s time cube r → IsKeptOf g s time literals r
 kept_of g s time literals cube is None h = λ other same least. h (same_least g literals cube other is same ∙ least)
 kept_of g s time literals cube is (Some e) h = (h.0, subst (IsCubeOf g.faults literals) (sym h.1) is, ap (lows g) h.1 ∙ h.2)
 

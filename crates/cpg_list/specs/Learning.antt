@@ -15,14 +15,14 @@ use Rattle.cpg_run.specs.Rows.{IsCubeOf}
 use Rattle.cpg_run.specs.Carried.{row_at, told_by, decided, heard, received, sent_by_value}
 
 -- the columns of an item that match in a scenario have its time there, and no range goes past the whole one
-pub record IsTold (g : Graph) (rows : List (List Column)) (s : Scenario) (t : Times) (x : ℕ) : Type 0 where
+pub record RowTells (g : Graph) (rows : List (List Column)) (s : Scenario) (t : Times) (x : ℕ) : Type 0 where
   pub there : x < length rows
   pub times : times_in (row_at rows x) s ≡ option_to_list (get_or t.times x None)
   pub within : AreWithin g.faults (row_at rows x)
 
 -- those of each item from an earlier process than this
-abbrev pub AreTold : Graph → List ℕ → List (List Column) → Scenario → Times → ℕ → Type 0
-AreTold g order rows s t p = (x : ℕ) → x < item_count g → place order (producer g x) < place order p → IsTold g rows s t x
+abbrev pub EarlierTell : Graph → List ℕ → List (List Column) → Scenario → Times → ℕ → Type 0
+EarlierTell g order rows s t p = (x : ℕ) → x < item_count g → place order (producer g x) < place order p → RowTells g rows s t x
 
 -- the conditions are those that decide a process, in any order
 pub record AreDeciding (g : Graph) (s : Scenario) (p : ℕ) (conditions : List ℕ) : Type 0 where

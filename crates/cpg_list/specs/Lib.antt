@@ -7,6 +7,8 @@ pub mod Placed
 pub mod Runs
 pub mod Sweep
 pub mod Learning
+pub mod Frames
 pub mod Made
+pub mod Listed
 pub mod Narrowing
 pub mod TimeOrder

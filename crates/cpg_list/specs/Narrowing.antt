@@ -38,9 +38,9 @@ abbrev pub as_number : ℕ → ℕ → ℕ
 as_number v low = if nat_lt v 128 then low else min low 1
 
 -- the entry of a time and a cube, where the scenario is the least of the cube
-abbrev pub IsKept : Graph → Scenario → ℕ → List Literal → Option Column → Type 0
-IsKept g s time cube None = lows g cube ≢ s
-IsKept g s time cube (Some e) = (e.time ≡ time) × (e.cube ≡ cube) × (lows g cube ≡ s)
+abbrev pub IsLeastEntry : Graph → Scenario → ℕ → List Literal → Option Column → Type 0
+IsLeastEntry g s time cube None = lows g cube ≢ s
+IsLeastEntry g s time cube (Some e) = (e.time ≡ time) × (e.cube ≡ cube) × (lows g cube ≡ s)
 
 -- the same of whatever cube the literals have
 abbrev pub IsKeptOf : Graph → Scenario → ℕ → List Literal → Option Column → Type 0

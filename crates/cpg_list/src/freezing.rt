@@ -7,6 +7,7 @@ ghost use Rattle.cpg_run.specs.Known.{AreEarly};
 ghost use Rattle.cpg_bus.specs.Plan.{plan_of};
 ghost use Rattle.cpg_run.specs.FrozenItems.{frozen_items_of, frozen_along};
 ghost use Rattle.cpg_run.specs.Latest.{IsUnfrozenTime};
+ghost use Rattle.cpg_run.specs.Setting.{IsSetting};
 ghost use Rattle.cpg_list.specs.Active.{AreExamples};
 ghost use Rattle.cpg_list.specs.FirstAlike.{AreFirstAlike};
 ghost use Rattle.cpg_list.specs.Listing.{AreScenarios};
@@ -18,7 +19,7 @@ use crate::sweeping::{advance, beginnings};
 use cpg_base::{Order, OutOfMemory, Problem, Scenario};
 use cpg_bus::Plan;
 use cpg_rules::Admitted;
-use cpg_run::{Frozen, Progress};
+use cpg_run::{Frozen, Progress, Setting};
 use std::alloc::Global;
 
 /// Adds an item, if it is frozen.
@@ -71,32 +72,27 @@ fn frozen_items(
 /// Finds and sets the time of a frozen item of the process at a place, if it is active in some scenario.
 fn settle(
     alloc: Global,
-    admitted: &Admitted,
-    order: &Order,
-    plan: &Plan,
+    setting: &Setting<'_>,
     frozen: &mut Frozen,
     scenarios: &[Scenario],
     found: &[Progress],
     place: u32,
     item: u32,
 ) -> Result<(), OutOfMemory>
-    requires topological { IsTopological admitted.now.graph order.now }
-    requires plan { plan.now ≡ plan_of admitted.now.graph }
-    requires frozen { length frozen.old ≡ item_count admitted.now.graph }
+    requires setting { IsSetting setting.now }
+    requires frozen { length frozen.old ≡ item_count setting.now.problem.now }
     requires early { AreEarly frozen.old }
-    requires scenarios { AreExamples admitted.now.graph scenarios.now }
-    requires place { place < process_count admitted.now.graph }
-    requires along { AreAlong admitted.now.graph order.now frozen.old place scenarios.now found.now }
-    requires item { item < item_count admitted.now.graph }
-    requires there { place_of admitted.now.graph order.now item ≡ place }
+    requires scenarios { AreExamples setting.now.problem.now scenarios.now }
+    requires place { place < process_count setting.now.problem.now }
+    requires along { AreAlong setting.now.problem.now setting.now.order.now frozen.old place scenarios.now found.now }
+    requires item { item < item_count setting.now.problem.now }
+    requires there { place_of setting.now.problem.now setting.now.order.now item ≡ place }
     requires unset { get_or frozen.old item None ≡ None }
-    ensures item { IfOk result (λ _. IsUnfrozenTime admitted.now.graph order.now frozen.old item (get_or frozen.new item None)) }
+    ensures item { IfOk result (λ _. IsUnfrozenTime setting.now.problem.now setting.now.order.now frozen.old item (get_or frozen.new item None)) }
     ensures others { IfOk result (λ _. (other : ℕ) → other ≢ item → get_or frozen.new other None ≡ get_or frozen.old other None) }
     ensures count { IfOk result (λ _. length frozen.new ≡ length frozen.old) }
 {
-    let time = unfrozen_time(
-        alloc, admitted, order, plan, frozen, scenarios, found, place, item,
-    )?;
+    let time = unfrozen_time(alloc, setting, frozen, scenarios, found, place, item)?;
     if let Some(time) = time {
         frozen.set(item, time);
     }
@@ -108,33 +104,26 @@ fn settle(
 /// its place.
 fn sweep(
     alloc: Global,
-    admitted: &Admitted,
-    order: &Order,
-    plan: &Plan,
+    setting: &Setting<'_>,
     scenarios: &[Scenario],
     items: &[u32],
 ) -> Result<Frozen, OutOfMemory>
-    requires topological { IsTopological admitted.now.graph order.now }
-    requires plan { plan.now ≡ plan_of admitted.now.graph }
-    requires scenarios { AreExamples admitted.now.graph scenarios.now }
-    requires items { items.now ≡ frozen_along admitted.now.graph order.now }
-    ensures frozen { IfOk result (λ frozen. AreFrozenTimes admitted.now.graph order.now frozen) }
+    requires setting { IsSetting setting.now }
+    requires scenarios { AreExamples setting.now.problem.now scenarios.now }
+    requires items { items.now ≡ frozen_along setting.now.problem.now setting.now.order.now }
+    ensures frozen { IfOk result (λ frozen. AreFrozenTimes setting.now.problem.now setting.now.order.now frozen) }
     ensures early { IfOk result (λ frozen. AreEarly frozen) }
 {
-    let problem = admitted.problem();
+    let problem = setting.problem;
     let mut frozen = Frozen::none(alloc, problem)?;
     let mut found = beginnings(alloc, problem, scenarios)?;
     let mut place = 0;
     for item in items {
-        let next = order.place(problem.producer(*item));
-        advance(
-            alloc, admitted, order, plan, &frozen, scenarios, &mut found, place, next,
-        )?;
+        let next = setting.order.place(problem.producer(*item));
+        advance(alloc, setting, &frozen, scenarios, &mut found, place, next)?;
         settle(
             alloc,
-            admitted,
-            order,
-            plan,
+            setting,
             &mut frozen,
             scenarios,
             found.as_slice(),
@@ -171,13 +160,7 @@ pub fn frozen_times(
         return Ok(frozen);
     }
     let examples = examples(alloc, scenarios, firsts)?;
-    let frozen = sweep(
-        alloc,
-        admitted,
-        order,
-        plan,
-        examples.as_slice(),
-        items.as_slice(),
-    )?;
+    let setting = Setting::of(admitted, order, plan);
+    let frozen = sweep(alloc, &setting, examples.as_slice(), items.as_slice())?;
     Ok(frozen)
 }

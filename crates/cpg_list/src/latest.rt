@@ -2,19 +2,16 @@
 ghost use Rattle.std.specs.Prelude.{◌≡◌, ◌<◌, ℕ, IfOk, None, get_or, length};
 ghost use Rattle.cpg_base.specs.Graph.{process_count, item_count};
 ghost use Rattle.cpg_base.specs.Scenario.{IsScenario};
-ghost use Rattle.cpg_order.specs.Urgency.{IsTopological};
 ghost use Rattle.cpg_run.specs.Known.{AreEarly};
 ghost use Rattle.cpg_run.specs.Run.{Times, IsRun};
-ghost use Rattle.cpg_bus.specs.Plan.{plan_of};
 ghost use Rattle.cpg_run.specs.Progress.{IsAlong};
+ghost use Rattle.cpg_run.specs.Setting.{IsSetting};
 ghost use Rattle.cpg_list.specs.Active.{AreExamples};
 ghost use Rattle.cpg_run.specs.Latest.{later, IsUnfrozenTime};
 ghost use Rattle.cpg_list.specs.Sweep.{AreAlong, place_of};
 
-use cpg_base::{Order, OutOfMemory, Scenario};
-use cpg_bus::Plan;
-use cpg_rules::Admitted;
-use cpg_run::{Frozen, Progress};
+use cpg_base::{OutOfMemory, Scenario};
+use cpg_run::{Frozen, Progress, Setting};
 use std::alloc::Global;
 
 /// The later of two times that may be missing.
@@ -33,28 +30,26 @@ fn later(first: Option<u64>, second: Option<u64>) -> Option<u64>
 /// The time in a scenario of an item of the process at the place that the scenario's run is found before.
 fn time_there(
     alloc: Global,
-    admitted: &Admitted,
-    order: &Order,
-    plan: &Plan,
+    setting: &Setting<'_>,
     frozen: &Frozen,
     scenario: &Scenario,
     progress: &Progress,
     place: u32,
     item: u32,
 ) -> Result<Option<u64>, OutOfMemory>
-    requires topological { IsTopological admitted.now.graph order.now }
-    requires plan { plan.now ≡ plan_of admitted.now.graph }
-    requires frozen { length frozen.now ≡ item_count admitted.now.graph }
+    requires setting { IsSetting setting.now }
+    requires frozen { length frozen.now ≡ item_count setting.now.problem.now }
     requires early { AreEarly frozen.now }
-    requires scenario { IsScenario admitted.now.graph scenario.now }
-    requires place { place < process_count admitted.now.graph }
-    requires along { IsAlong admitted.now.graph order.now frozen.now scenario.now place progress.now }
-    requires item { item < item_count admitted.now.graph }
-    requires there { place_of admitted.now.graph order.now item ≡ place }
-    ensures { IfOk result (λ time. (t : Times) → IsRun admitted.now.graph order.now frozen.now scenario.now t → time ≡ get_or t.times item None) }
+    requires scenario { IsScenario setting.now.problem.now scenario.now }
+    requires place { place < process_count setting.now.problem.now }
+    requires along { IsAlong setting.now.problem.now setting.now.order.now frozen.now scenario.now place progress.now }
+    requires item { item < item_count setting.now.problem.now }
+    requires there { place_of setting.now.problem.now setting.now.order.now item ≡ place }
+    ensures { IfOk result (λ time. (t : Times) → IsRun setting.now.problem.now setting.now.order.now frozen.now scenario.now t
+        → time ≡ get_or t.times item None) }
 {
     let mut next = progress.copy()?;
-    next.step(alloc, admitted, order, plan, frozen, scenario, place)?;
+    next.step(alloc, setting, frozen, scenario, place)?;
     Ok(next.time(item))
 }
 
@@ -63,34 +58,29 @@ fn time_there(
 /// times that leave the item out.
 pub(crate) fn unfrozen_time(
     alloc: Global,
-    admitted: &Admitted,
-    order: &Order,
-    plan: &Plan,
+    setting: &Setting<'_>,
     frozen: &Frozen,
     scenarios: &[Scenario],
     found: &[Progress],
     place: u32,
     item: u32,
 ) -> Result<Option<u64>, OutOfMemory>
-    requires topological { IsTopological admitted.now.graph order.now }
-    requires plan { plan.now ≡ plan_of admitted.now.graph }
-    requires frozen { length frozen.now ≡ item_count admitted.now.graph }
+    requires setting { IsSetting setting.now }
+    requires frozen { length frozen.now ≡ item_count setting.now.problem.now }
     requires early { AreEarly frozen.now }
-    requires scenarios { AreExamples admitted.now.graph scenarios.now }
-    requires place { place < process_count admitted.now.graph }
-    requires along { AreAlong admitted.now.graph order.now frozen.now place scenarios.now found.now }
-    requires item { item < item_count admitted.now.graph }
-    requires there { place_of admitted.now.graph order.now item ≡ place }
+    requires scenarios { AreExamples setting.now.problem.now scenarios.now }
+    requires place { place < process_count setting.now.problem.now }
+    requires along { AreAlong setting.now.problem.now setting.now.order.now frozen.now place scenarios.now found.now }
+    requires item { item < item_count setting.now.problem.now }
+    requires there { place_of setting.now.problem.now setting.now.order.now item ≡ place }
     requires unset { get_or frozen.now item None ≡ None }
-    ensures { IfOk result (IsUnfrozenTime admitted.now.graph order.now frozen.now item) }
+    ensures { IfOk result (IsUnfrozenTime setting.now.problem.now setting.now.order.now frozen.now item) }
 {
     let mut latest = None;
     for at in 0..scenarios.len() {
         let time = time_there(
             alloc,
-            admitted,
-            order,
-            plan,
+            setting,
             frozen,
             &scenarios[at],
             &found[at],

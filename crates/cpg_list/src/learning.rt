@@ -2,15 +2,14 @@
 ghost use Rattle.std.specs.Prelude.{◌≡◌, ◌<◌, ◌==◌, ◌&&◌, ◌∷◌, [], ℕ, Contains, IfOk, OnOk, map, position};
 ghost use Rattle.std.specs.List.{flat_map};
 ghost use Rattle.std.specs.Option.{option_to_list};
-ghost use Rattle.cpg_base.specs.Graph.{process_count, condition_count, edge_count, value_variable, node_of, inputs, message_item, broadcast_item};
+ghost use Rattle.cpg_base.specs.Graph.{process_count, condition_count, edge_count, value_variable, message_item, broadcast_item};
 ghost use Rattle.cpg_base.specs.Scenario.{IsScenario};
 ghost use Rattle.cpg_bus.specs.Plan.{plan_of};
 ghost use Rattle.cpg_cube.specs.Cube.{matches};
-ghost use Rattle.cpg_order.specs.Deciding.{deciding};
 ghost use Rattle.cpg_cube.specs.Column.{times_in};
-ghost use Rattle.cpg_run.specs.Carried.{told_by, number_known, decided, heard, received};
-ghost use Rattle.cpg_list.specs.Learning.{IsTold, AreDeciding, heard_of, received_by};
-ghost use Rattle.cpg_run.specs.Found.{columns_of_rows};
+ghost use Rattle.cpg_run.specs.Carried.{told_by, number_known, decided};
+ghost use Rattle.cpg_list.specs.Frames.{IsNarrowedIn, Tells, TellsDeciding, TellsInputs, heard_at, heard_in, received_at, received_in, rows_in};
+ghost use Rattle.cpg_list.specs.Learning.{AreDeciding};
 ghost use Rattle.cpg_list.specs.Narrowing.{IsNarrowed, met, told_in};
 
 use crate::cubes::{narrow, narrow_to_number};
@@ -23,6 +22,16 @@ use cpg_rules::Admitted;
 use cpg_run::RunTimes;
 use std::alloc::Global;
 
+/// What frames tell in a scenario: the rows that are made so far, and the scenario's run.
+#[derive(Clone, Copy)]
+pub(crate) struct Frames<'a> {
+    pub(crate) problem: &'a Problem,
+    pub(crate) plan: &'a Plan,
+    pub(crate) rows: &'a [TimedRow],
+    pub(crate) scenario: &'a Scenario,
+    pub(crate) times: &'a RunTimes,
+}
+
 /// The conditions that decide a process.
 pub(crate) fn deciding(
     alloc: Global,
@@ -34,6 +43,7 @@ pub(crate) fn deciding(
     requires process { process < process_count admitted.now.graph }
     ensures { IfOk result (λ conditions. AreDeciding admitted.now.graph scenario.now process conditions.items) }
 {
+    // its clause tells that the graph is admitted
     let _order = admitted.order();
     let guards = admitted.guards();
     let conditions = guards.deciding(alloc, process, scenario)?;
@@ -127,66 +137,57 @@ fn narrow_by_told(
 /// Narrows a cube by what the frame of an item tells.
 fn narrow_by_frame(
     alloc: Global,
-    problem: &Problem,
-    rows: &[TimedRow],
-    scenario: &Scenario,
-    times: &RunTimes,
+    frames: &Frames<'_>,
     hints: &mut Hints,
     item: u32,
     cube: &mut Cube,
 ) -> Result<(), OutOfMemory>
-    requires { IsTold problem.now (columns_of_rows rows.now) scenario.now times.now item }
-    ensures { OnOk result (IsNarrowed problem.now.faults (told_by (columns_of_rows rows.now) scenario.now item) cube.old cube.new) }
+    requires { Tells frames.now.problem.now frames.now item }
+    ensures { OnOk result (IsNarrowedIn frames.now (told_by (rows_in frames.now) frames.now.scenario.now item) cube.old cube.new) }
 {
-    let row = row_of(rows, item);
-    narrow_by_told(alloc, row, item, times.time(item), scenario, hints, cube)?;
+    let row = row_of(frames.rows, item);
+    let time = frames.times.time(item);
+    narrow_by_told(alloc, row, item, time, frames.scenario, hints, cube)?;
     Ok(())
 }
 
 /// Narrows a cube by what a node hears of a condition.
 fn narrow_by_condition(
     alloc: Global,
-    problem: &Problem,
-    rows: &[TimedRow],
-    scenario: &Scenario,
-    times: &RunTimes,
+    frames: &Frames<'_>,
     hints: &mut Hints,
     node: u32,
     condition: u32,
     cube: &mut Cube,
 ) -> Result<(), OutOfMemory>
-    requires condition { condition < condition_count problem.now }
-    requires told { IsTold problem.now (columns_of_rows rows.now) scenario.now times.now (broadcast_item problem.now condition) }
-    ensures { OnOk result (IsNarrowed problem.now.faults (heard_of problem.now (columns_of_rows rows.now) scenario.now node condition) cube.old cube.new) }
+    requires condition { condition < condition_count frames.now.problem.now }
+    requires told { Tells frames.now.problem.now frames.now (broadcast_item frames.now.problem.now condition) }
+    ensures { OnOk result (IsNarrowedIn frames.now (heard_in frames.now node condition) cube.old cube.new) }
 {
+    let problem = frames.problem;
     if problem.node_of(problem.process_of(condition)) == node {
         return Ok(());
     }
     let item = problem.broadcast_item(condition);
-    narrow_by_frame(alloc, problem, rows, scenario, times, hints, item, cube)?;
+    narrow_by_frame(alloc, frames, hints, item, cube)?;
     Ok(())
 }
 
 /// Narrows a cube by what a node hears of conditions.
 fn narrow_by_conditions(
     alloc: Global,
-    problem: &Problem,
-    rows: &[TimedRow],
-    scenario: &Scenario,
-    times: &RunTimes,
+    frames: &Frames<'_>,
     hints: &mut Hints,
     node: u32,
     conditions: &[u32],
     cube: &mut Cube,
 ) -> Result<(), OutOfMemory>
-    requires conditions { (c : ℕ) → Contains conditions.now c → c < condition_count problem.now }
-    requires told { (c : ℕ) → Contains conditions.now c → IsTold problem.now (columns_of_rows rows.now) scenario.now times.now (broadcast_item problem.now c) }
-    ensures { OnOk result (IsNarrowed problem.now.faults (flat_map (heard_of problem.now (columns_of_rows rows.now) scenario.now node) conditions.now) cube.old cube.new) }
+    requires conditions { (c : ℕ) → Contains conditions.now c → c < condition_count frames.now.problem.now }
+    requires told { (c : ℕ) → Contains conditions.now c → Tells frames.now.problem.now frames.now (broadcast_item frames.now.problem.now c) }
+    ensures { OnOk result (IsNarrowedIn frames.now (flat_map (heard_in frames.now node) conditions.now) cube.old cube.new) }
 {
     for condition in conditions {
-        narrow_by_condition(
-            alloc, problem, rows, scenario, times, hints, node, *condition, cube,
-        )?;
+        narrow_by_condition(alloc, frames, hints, node, *condition, cube)?;
     }
     Ok(())
 }
@@ -194,67 +195,57 @@ fn narrow_by_conditions(
 /// Narrows a cube by what the broadcasts of the conditions that decide a process tell.
 pub(crate) fn narrow_by_heard(
     alloc: Global,
-    problem: &Problem,
-    rows: &[TimedRow],
-    scenario: &Scenario,
-    times: &RunTimes,
+    frames: &Frames<'_>,
     hints: &mut Hints,
     process: u32,
     conditions: &[u32],
     cube: &mut Cube,
 ) -> Result<(), OutOfMemory>
-    requires process { process < process_count problem.now }
-    requires conditions { AreDeciding problem.now scenario.now process conditions.now }
-    requires told { (c : ℕ) → Contains (deciding problem.now scenario.now.values process) c → IsTold problem.now (columns_of_rows rows.now) scenario.now times.now (broadcast_item problem.now c) }
-    ensures { OnOk result (IsNarrowed problem.now.faults (heard problem.now (columns_of_rows rows.now) scenario.now process) cube.old cube.new) }
+    requires process { process < process_count frames.now.problem.now }
+    requires conditions { AreDeciding frames.now.problem.now frames.now.scenario.now process conditions.now }
+    requires told { TellsDeciding frames.now.problem.now frames.now process }
+    ensures { OnOk result (IsNarrowedIn frames.now (heard_at frames.now process) cube.old cube.new) }
 {
-    let node = problem.node_of(process);
-    narrow_by_conditions(
-        alloc, problem, rows, scenario, times, hints, node, conditions, cube,
-    )?;
+    let node = frames.problem.node_of(process);
+    narrow_by_conditions(alloc, frames, hints, node, conditions, cube)?;
     Ok(())
 }
 
 /// Narrows a cube by what an input tells.
 fn narrow_by_input(
     alloc: Global,
-    problem: &Problem,
-    rows: &[TimedRow],
-    scenario: &Scenario,
-    times: &RunTimes,
+    frames: &Frames<'_>,
     hints: &mut Hints,
     edge: u32,
     cube: &mut Cube,
 ) -> Result<(), OutOfMemory>
-    requires edge { edge < edge_count problem.now }
-    requires told { IsTold problem.now (columns_of_rows rows.now) scenario.now times.now (message_item problem.now edge) }
-    ensures { OnOk result (IsNarrowed problem.now.faults (received_by problem.now (columns_of_rows rows.now) scenario.now edge) cube.old cube.new) }
+    requires edge { edge < edge_count frames.now.problem.now }
+    requires told { Tells frames.now.problem.now frames.now (message_item frames.now.problem.now edge) }
+    ensures { OnOk result (IsNarrowedIn frames.now (received_in frames.now edge) cube.old cube.new) }
 {
+    let problem = frames.problem;
     if !problem.is_message(edge) {
         return Ok(());
     }
     let item = problem.message_item(edge);
-    narrow_by_frame(alloc, problem, rows, scenario, times, hints, item, cube)?;
+    narrow_by_frame(alloc, frames, hints, item, cube)?;
     Ok(())
 }
 
 /// Narrows a cube by what inputs tell.
 fn narrow_by_inputs(
     alloc: Global,
-    problem: &Problem,
-    rows: &[TimedRow],
-    scenario: &Scenario,
-    times: &RunTimes,
+    frames: &Frames<'_>,
     hints: &mut Hints,
     edges: &[u32],
     cube: &mut Cube,
 ) -> Result<(), OutOfMemory>
-    requires edges { (e : ℕ) → Contains edges.now e → e < edge_count problem.now }
-    requires told { (e : ℕ) → Contains edges.now e → IsTold problem.now (columns_of_rows rows.now) scenario.now times.now (message_item problem.now e) }
-    ensures { OnOk result (IsNarrowed problem.now.faults (flat_map (received_by problem.now (columns_of_rows rows.now) scenario.now) edges.now) cube.old cube.new) }
+    requires edges { (e : ℕ) → Contains edges.now e → e < edge_count frames.now.problem.now }
+    requires told { (e : ℕ) → Contains edges.now e → Tells frames.now.problem.now frames.now (message_item frames.now.problem.now e) }
+    ensures { OnOk result (IsNarrowedIn frames.now (flat_map (received_in frames.now) edges.now) cube.old cube.new) }
 {
     for edge in edges {
-        narrow_by_input(alloc, problem, rows, scenario, times, hints, *edge, cube)?;
+        narrow_by_input(alloc, frames, hints, *edge, cube)?;
     }
     Ok(())
 }
@@ -262,21 +253,17 @@ fn narrow_by_inputs(
 /// Narrows a cube by what the messages to a process tell.
 pub(crate) fn narrow_by_received(
     alloc: Global,
-    problem: &Problem,
-    plan: &Plan,
-    rows: &[TimedRow],
-    scenario: &Scenario,
-    times: &RunTimes,
+    frames: &Frames<'_>,
     hints: &mut Hints,
     process: u32,
     cube: &mut Cube,
 ) -> Result<(), OutOfMemory>
-    requires plan { plan.now ≡ plan_of problem.now }
-    requires process { process < process_count problem.now }
-    requires told { (e : ℕ) → Contains (inputs problem.now process) e → IsTold problem.now (columns_of_rows rows.now) scenario.now times.now (message_item problem.now e) }
-    ensures { OnOk result (IsNarrowed problem.now.faults (received problem.now (columns_of_rows rows.now) scenario.now process) cube.old cube.new) }
+    requires plan { frames.now.plan.now ≡ plan_of frames.now.problem.now }
+    requires process { process < process_count frames.now.problem.now }
+    requires told { TellsInputs frames.now.problem.now frames.now process }
+    ensures { OnOk result (IsNarrowedIn frames.now (received_at frames.now process) cube.old cube.new) }
 {
-    let edges = plan.inputs(problem, process);
-    narrow_by_inputs(alloc, problem, rows, scenario, times, hints, edges, cube)?;
+    let edges = frames.plan.inputs(frames.problem, process);
+    narrow_by_inputs(alloc, frames, hints, edges, cube)?;
     Ok(())
 }

@@ -4,7 +4,7 @@ ghost use Rattle.std.specs.Option.{option_to_list};
 ghost use Rattle.cpg_base.specs.Scenario.{IsScenario, number_of};
 ghost use Rattle.cpg_cube.specs.Cube.{IsRising, low_in};
 ghost use Rattle.cpg_cube.specs.Fit.{lows};
-ghost use Rattle.cpg_list.specs.Narrowing.{from_variable, front_low, as_number, IsKept};
+ghost use Rattle.cpg_list.specs.Narrowing.{from_variable, front_low, as_number, IsLeastEntry};
 
 use cpg_base::{FIRST_VALUE, OutOfMemory, Problem, Scenario};
 use cpg_cube::{Cube, Entry, Literal};
@@ -78,7 +78,7 @@ pub(crate) fn kept(
     cube: &Cube,
 ) -> Result<Option<Entry>, OutOfMemory>
     requires { IsScenario problem.now scenario.now }
-    ensures { IfOk result (IsKept problem.now scenario.now time cube.now) }
+    ensures { IfOk result (IsLeastEntry problem.now scenario.now time cube.now) }
 {
     if !is_least(problem, cube, scenario) {
         return Ok(None);

@@ -18,6 +18,7 @@ mod making;
 mod peaks;
 mod placing;
 mod running;
+mod scenario_runs;
 mod search;
 mod sends;
 mod starts;

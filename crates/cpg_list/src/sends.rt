@@ -5,27 +5,32 @@ ghost use Rattle.cpg_base.specs.Graph.{process_count, item_at, is_frozen};
 ghost use Rattle.cpg_base.specs.Scenario.{IsScenario};
 ghost use Rattle.cpg_cube.specs.declared.literal.Literal.{Literal};
 ghost use Rattle.cpg_list.specs.Listing.{AreScenarios};
-ghost use Rattle.cpg_order.specs.Queue.{queued_before};
-ghost use Rattle.cpg_order.specs.Urgency.{IsTopological};
 ghost use Rattle.cpg_bus.specs.Plan.{queue_of};
 ghost use Rattle.cpg_run.specs.Carried.{decided, number_known, sent_by_value};
 ghost use Rattle.cpg_list.specs.Learning.{IsEndOf, Within, send_after, queued_after, IsTimedIfActive, IsSentValue};
-ghost use Rattle.cpg_list.specs.Made.{queued_by, AreCubesOf, AreEndsOf};
-ghost use Rattle.cpg_run.specs.Found.{columns_of_rows};
+ghost use Rattle.cpg_list.specs.Listed.{HasEnds, HasEntries, HasQueuedBefore, HasQueuedBy, IsListed, graph_of};
+ghost use Rattle.cpg_list.specs.Made.{AreCubesOf};
 ghost use Rattle.cpg_list.specs.Narrowing.{IsNarrowed, IsKeptOf, IsKeptAt};
-ghost use Rattle.cpg_run.specs.Rows.{IsCubeOf, AreEntriesOf};
-ghost use Rattle.cpg_list.specs.Runs.{AreRuns};
+ghost use Rattle.cpg_run.specs.Rows.{IsCubeOf};
 
 use crate::cubes::{narrow_by_cube, narrow_to_number};
 use crate::learning::{deciding, narrow_by_decided, narrow_by_value};
 use crate::least::{kept, push_entry};
+use crate::scenario_runs::Listed;
 use crate::state::Cubes;
 use crate::timed::TimedRow;
-use cpg_base::{Item, Order, OutOfMemory, Problem, Scenario};
+use cpg_base::{Item, OutOfMemory, Problem, Scenario};
 use cpg_cube::{Cube, Entry};
 use cpg_rules::Admitted;
-use cpg_run::{Frozen, RunTimes};
+use cpg_run::RunTimes;
 use std::alloc::Global;
+
+/// An item and the process that sends it.
+#[derive(Clone, Copy)]
+struct Sending {
+    process: u32,
+    item: u32,
+}
 
 /// The condition whose value decides whether an item that a process sends is sent, if there is one.
 fn deciding_value(problem: &Problem, process: u32, item: u32) -> Option<u32>
@@ -75,7 +80,8 @@ fn narrow_by_sending(
     requires scenario { IsScenario admitted.now.graph scenario.now }
     requires process { process < process_count admitted.now.graph }
     requires item { Contains (queue_of admitted.now.graph process) item }
-    ensures { OnOk result (IsNarrowed admitted.now.graph.faults (decided admitted.now.graph scenario.now process ++ sent_by_value admitted.now.graph scenario.now item) cube.old cube.new) }
+    ensures { OnOk result (IsNarrowed admitted.now.graph.faults
+        (decided admitted.now.graph scenario.now process ++ sent_by_value admitted.now.graph scenario.now item) cube.old cube.new) }
 {
     let problem = admitted.problem();
     let conditions = deciding(alloc, admitted, scenario, process)?;
@@ -106,7 +112,8 @@ fn pass_over(
     requires item { Contains (queue_of admitted.now.graph process) item }
     requires active { IsTimedIfActive admitted.now.graph scenario.now times.now process }
     requires idle { item_active admitted.now.graph scenario.now.values (item_at admitted.now.graph item) ≡ false }
-    ensures { OnOk result ((ends : List Literal) → IsNarrowed admitted.now.graph.faults (queued_after admitted.now.graph scenario.now item ends) sent.old sent.new) }
+    ensures { OnOk result ((ends : List Literal) → IsNarrowed admitted.now.graph.faults
+        (queued_after admitted.now.graph scenario.now item ends) sent.old sent.new) }
 {
     let Some(_) = times.time(process) else {
         let conditions = deciding(alloc, admitted, scenario, process)?;
@@ -139,8 +146,10 @@ fn send_frozen(
     requires item { Contains (queue_of admitted.now.graph process) item }
     requires frozen { is_frozen admitted.now.graph item ≡ true }
     requires active { item_active admitted.now.graph scenario.now.values (item_at admitted.now.graph item) ≡ true }
-    ensures entry { IfOk result (λ r. (queue ends : List Literal) → IsKeptOf admitted.now.graph scenario.now time (send_after admitted.now.graph scenario.now item queue ends) r) }
-    ensures sent { OnOk result ((ends : List Literal) → IsNarrowed admitted.now.graph.faults (queued_after admitted.now.graph scenario.now item ends) sent.old sent.new) }
+    ensures entry { IfOk result (λ r. (queue ends : List Literal)
+        → IsKeptOf admitted.now.graph scenario.now time (send_after admitted.now.graph scenario.now item queue ends) r) }
+    ensures sent { OnOk result ((ends : List Literal) → IsNarrowed admitted.now.graph.faults
+        (queued_after admitted.now.graph scenario.now item ends) sent.old sent.new) }
 {
     let mut cube = Cube::whole(alloc);
     narrow_by_sending(alloc, admitted, scenario, process, item, &mut cube)?;
@@ -155,19 +164,23 @@ fn send_plain(
     problem: &Problem,
     scenario: &Scenario,
     time: u64,
-    process: u32,
-    item: u32,
+    sending: Sending,
     end: &Cube,
     sent: &mut Cube,
 ) -> Result<Option<Entry>, OutOfMemory>
     requires scenario { IsScenario problem.now scenario.now }
-    requires process { process < process_count problem.now }
-    requires item { Contains (queue_of problem.now process) item }
-    requires plain { is_frozen problem.now item ≡ false }
-    requires active { item_active problem.now scenario.now.values (item_at problem.now item) ≡ true }
-    ensures entry { IfOk result (λ r. (queue ends : List Literal) → IsCubeOf problem.now.faults queue sent.old → IsCubeOf problem.now.faults ends end.now → IsKeptOf problem.now scenario.now time (send_after problem.now scenario.now item queue ends) r) }
-    ensures sent { OnOk result ((ends : List Literal) → IsCubeOf problem.now.faults ends end.now → Within (decided problem.now scenario.now process) ends → IsNarrowed problem.now.faults (queued_after problem.now scenario.now item ends) sent.old sent.new) }
+    requires process { sending.process < process_count problem.now }
+    requires item { Contains (queue_of problem.now sending.process) sending.item }
+    requires plain { is_frozen problem.now sending.item ≡ false }
+    requires active { item_active problem.now scenario.now.values (item_at problem.now sending.item) ≡ true }
+    ensures entry { IfOk result (λ r. (queue ends : List Literal) → IsCubeOf problem.now.faults queue sent.old
+        → IsCubeOf problem.now.faults ends end.now
+        → IsKeptOf problem.now scenario.now time (send_after problem.now scenario.now sending.item queue ends) r) }
+    ensures sent { OnOk result ((ends : List Literal) → IsCubeOf problem.now.faults ends end.now
+        → Within (decided problem.now scenario.now sending.process) ends
+        → IsNarrowed problem.now.faults (queued_after problem.now scenario.now sending.item ends) sent.old sent.new) }
 {
+    let Sending { process, item } = sending;
     narrow_by_cube(alloc, end, sent)?;
     narrow_by_sent_value(alloc, problem, scenario, process, item, sent)?;
     let entry = kept(problem, scenario, time, sent)?;
@@ -181,19 +194,24 @@ fn send_in(
     admitted: &Admitted,
     scenario: &Scenario,
     times: &RunTimes,
-    process: u32,
-    item: u32,
+    sending: Sending,
     end: &Cube,
     sent: &mut Cube,
 ) -> Result<Option<Entry>, OutOfMemory>
     requires scenario { IsScenario admitted.now.graph scenario.now }
-    requires process { process < process_count admitted.now.graph }
-    requires item { Contains (queue_of admitted.now.graph process) item }
-    requires process_active { IsTimedIfActive admitted.now.graph scenario.now times.now process }
-    requires item_active { IsTimedIfActive admitted.now.graph scenario.now times.now item }
-    ensures entry { IfOk result (λ r. (queue ends : List Literal) → IsCubeOf admitted.now.graph.faults queue sent.old → IsEndOf admitted.now.graph scenario.now process ends end.now → IsKeptAt admitted.now.graph scenario.now (get_or times.now.times item None) (send_after admitted.now.graph scenario.now item queue ends) r) }
-    ensures sent { OnOk result ((ends : List Literal) → IsEndOf admitted.now.graph scenario.now process ends end.now → IsNarrowed admitted.now.graph.faults (queued_after admitted.now.graph scenario.now item ends) sent.old sent.new) }
+    requires process { sending.process < process_count admitted.now.graph }
+    requires item { Contains (queue_of admitted.now.graph sending.process) sending.item }
+    requires process_active { IsTimedIfActive admitted.now.graph scenario.now times.now sending.process }
+    requires item_active { IsTimedIfActive admitted.now.graph scenario.now times.now sending.item }
+    ensures entry { IfOk result (λ r. (queue ends : List Literal) → IsCubeOf admitted.now.graph.faults queue sent.old
+        → IsEndOf admitted.now.graph scenario.now sending.process ends end.now
+        → IsKeptAt admitted.now.graph scenario.now (get_or times.now.times sending.item None)
+        (send_after admitted.now.graph scenario.now sending.item queue ends) r) }
+    ensures sent { OnOk result ((ends : List Literal) → IsEndOf admitted.now.graph scenario.now sending.process ends end.now
+        → IsNarrowed admitted.now.graph.faults
+        (queued_after admitted.now.graph scenario.now sending.item ends) sent.old sent.new) }
 {
+    let Sending { process, item } = sending;
     let problem = admitted.problem();
     let Some(time) = times.time(item) else {
         pass_over(alloc, admitted, scenario, times, process, item, sent)?;
@@ -203,34 +221,30 @@ fn send_in(
         let entry = send_frozen(alloc, admitted, scenario, time, process, item, sent)?;
         return Ok(entry);
     }
-    let entry = send_plain(alloc, problem, scenario, time, process, item, end, sent)?;
+    let entry = send_plain(alloc, problem, scenario, time, sending, end, sent)?;
     Ok(entry)
 }
 
 /// The entries of an item that a process sends, for the scenarios that are the least of what is carried there.
 pub(crate) fn send_entries(
     alloc: Global,
-    admitted: &Admitted,
-    order: &Order,
-    frozen: &Frozen,
-    scenarios: &[Scenario],
-    runs: &[RunTimes],
+    listed: &Listed<'_>,
     rows: &[TimedRow],
     process: u32,
     item: u32,
     ends: &Cubes,
     sent: &mut Cubes,
 ) -> Result<Vec<Entry>, OutOfMemory>
-    requires topological { IsTopological admitted.now.graph order.now }
-    requires scenarios { AreScenarios admitted.now.graph scenarios.now }
-    requires runs { AreRuns admitted.now.graph order.now frozen.now scenarios.now runs.now }
-    requires process { process < process_count admitted.now.graph }
-    requires item { Contains (queue_of admitted.now.graph process) item }
-    requires ends { AreEndsOf admitted.now.graph order.now (columns_of_rows rows.now) scenarios.now process ends.now }
-    requires sent { AreCubesOf admitted.now.graph.faults scenarios.now (queued_by admitted.now.graph order.now (columns_of_rows rows.now) (queued_before admitted.now.graph order.now item)) sent.old }
-    ensures entries { IfOk result (λ entries. AreEntriesOf admitted.now.graph order.now frozen.now (columns_of_rows rows.now) item entries.items) }
-    ensures sent { OnOk result (AreCubesOf admitted.now.graph.faults scenarios.now (queued_by admitted.now.graph order.now (columns_of_rows rows.now) (queued_before admitted.now.graph order.now item ++ item ∷ [])) sent.new) }
+    requires listed { IsListed listed.now }
+    requires process { process < process_count (graph_of listed.now) }
+    requires item { Contains (queue_of (graph_of listed.now) process) item }
+    requires ends { HasEnds listed.now rows.now process ends.now }
+    requires sent { HasQueuedBefore listed.now rows.now item sent.old }
+    ensures entries { IfOk result (λ entries. HasEntries listed.now rows.now item entries.items) }
+    ensures sent { OnOk result (HasQueuedBy listed.now rows.now item sent.new) }
 {
+    let (admitted, scenarios, runs) = (listed.admitted, listed.scenarios, listed.runs);
+    let sending = Sending { process, item };
     let mut entries = Vec::new(alloc);
     for at in 0..scenarios.len() {
         let entry = send_in(
@@ -238,8 +252,7 @@ pub(crate) fn send_entries(
             admitted,
             &scenarios[at],
             &runs[at],
-            process,
-            item,
+            sending,
             &ends.cubes[at],
             &mut sent.cubes[at],
         )?;

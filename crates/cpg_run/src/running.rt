@@ -5,34 +5,30 @@ ghost use Rattle.cpg_base.specs.Scenario.{IsScenario};
 ghost use Rattle.cpg_order.specs.Urgency.{IsTopological};
 ghost use Rattle.cpg_run.specs.Run.{IsRun};
 ghost use Rattle.cpg_run.specs.Known.{AreEarly};
-ghost use Rattle.cpg_bus.specs.Plan.{plan_of};
+ghost use Rattle.cpg_run.specs.Setting.{IsRunOf, IsSetting};
 
-use crate::{Frozen, Progress, RunTimes};
+use crate::{Frozen, Progress, RunTimes, Setting};
 use cpg_base::{Order, OutOfMemory, Scenario};
 use cpg_bus::Plan;
 use cpg_rules::Admitted;
 use std::alloc::Global;
 
-/// The run of a scenario, with a plan that is made once for many: the start of each active process, the start of the slot
-/// of each active message and broadcast, and the ends, in time units.
+/// The run of a scenario in a setting that is made once for many.
 pub fn run_by(
     alloc: Global,
-    admitted: &Admitted,
-    order: &Order,
-    plan: &Plan,
+    setting: &Setting<'_>,
     frozen: &Frozen,
     scenario: &Scenario,
 ) -> Result<RunTimes, OutOfMemory>
-    requires topological { IsTopological admitted.now.graph order.now }
-    requires plan { plan.now ≡ plan_of admitted.now.graph }
-    requires frozen { length frozen.now ≡ item_count admitted.now.graph }
+    requires setting { IsSetting setting.now }
+    requires frozen { length frozen.now ≡ item_count setting.now.problem.now }
     requires early { AreEarly frozen.now }
-    requires scenario { IsScenario admitted.now.graph scenario.now }
-    ensures { IfOk result (IsRun admitted.now.graph order.now frozen.now scenario.now) }
+    requires scenario { IsScenario setting.now.problem.now scenario.now }
+    ensures { IfOk result (IsRunOf setting.now frozen.now scenario.now) }
 {
-    let mut progress = Progress::none(alloc, admitted.problem())?;
-    for place in 0..admitted.problem().processes().len() as u32 {
-        progress.step(alloc, admitted, order, plan, frozen, scenario, place)?;
+    let mut progress = Progress::none(alloc, setting.problem)?;
+    for place in 0..setting.problem.processes().len() as u32 {
+        progress.step(alloc, setting, frozen, scenario, place)?;
     }
     Ok(progress.finished())
 }
@@ -53,6 +49,7 @@ pub fn run(
     ensures { IfOk result (IsRun admitted.now.graph order.now frozen.now scenario.now) }
 {
     let plan = Plan::of(alloc, admitted.problem())?;
-    let times = run_by(alloc, admitted, order, &plan, frozen, scenario)?;
+    let setting = Setting::of(admitted, order, &plan);
+    let times = run_by(alloc, &setting, frozen, scenario)?;
     Ok(times)
 }

@@ -5,78 +5,70 @@ ghost use Rattle.std.specs.Prelude.{◌≡◌, ◌+◌, ◌<◌, ℕ, List, Opti
 ghost use Rattle.cpg_base.specs.Graph.{process_count, item_count};
 ghost use Rattle.cpg_base.specs.Numbers.{greatest};
 ghost use Rattle.cpg_base.specs.Scenario.{Scenario, IsScenario};
-ghost use Rattle.cpg_order.specs.Urgency.{IsTopological};
-ghost use Rattle.cpg_run.specs.Run.{Times, IsRun};
-ghost use Rattle.cpg_run.specs.Admitted.{AreAdmitted};
 ghost use Rattle.cpg_run.specs.Known.{AreEarly};
-ghost use Rattle.cpg_bus.specs.Plan.{plan_of};
-ghost use Rattle.cpg_run.specs.Progress.{HasPlaces, IsAt, IsAlong};
+ghost use Rattle.cpg_run.specs.Progress.{IsAlong};
+ghost use Rattle.cpg_run.specs.Setting.{AreAt, HavePlaces, IsSetting};
 
 use crate::activity::is_active;
 use crate::known::Known;
 use crate::sending::send;
 use crate::waiting::{decided_there, start};
-use crate::{Frozen, RunTimes};
-use cpg_base::{Order, OutOfMemory, Problem, Scenario};
-use cpg_bus::Plan;
-use cpg_rules::{Admitted, GuardTrees};
+use crate::{Frozen, RunTimes, Setting};
+use cpg_base::{OutOfMemory, Problem, Scenario};
 use std::alloc::Global;
 use std::marker::Model;
 
-/// Sets the times of the process at a place, and of what it sends: `ready` and `free` tell by node when it is ready for its
-/// next process but for what decides that one, and from when on its slots are free.
+/// By node when it is ready for its next process but for what decides that one, and from when on its slots are free.
+#[derive(Drop)]
+struct Nodes {
+    ready: Vec<u64>,
+    free: Vec<u64>,
+}
+
+/// Sets the times of the process at a place, and of what it sends.
 fn step(
     alloc: Global,
-    problem: &Problem,
-    guards: &GuardTrees,
-    order: &Order,
-    plan: &Plan,
+    setting: &Setting<'_>,
     frozen: &Frozen,
     scenario: &Scenario,
     known: &mut Known,
-    readies: &mut Vec<u64>,
-    frees: &mut Vec<u64>,
+    nodes: &mut Nodes,
     place: u32,
 ) -> Result<(), OutOfMemory>
-    requires admitted { AreAdmitted problem.now guards.now }
-    requires topological { IsTopological problem.now order.now }
-    requires plan { plan.now ≡ plan_of problem.now }
-    requires frozen { length frozen.now ≡ item_count problem.now }
+    requires setting { IsSetting setting.now }
+    requires frozen { length frozen.now ≡ item_count setting.now.problem.now }
     requires early { AreEarly frozen.now }
-    requires scenario { IsScenario problem.now scenario.now }
-    requires place { place < process_count problem.now }
-    requires places { HasPlaces problem.now known.old readies.old.items frees.old.items }
-    requires at { (t : Times) → IsRun problem.now order.now frozen.now scenario.now t → IsAt problem.now order.now scenario.now t place known.old readies.old.items frees.old.items }
-    ensures places { OnOk result (HasPlaces problem.now known.new readies.new.items frees.new.items) }
-    ensures at { OnOk result ((t : Times) → IsRun problem.now order.now frozen.now scenario.now t → IsAt problem.now order.now scenario.now t (place + 1) known.new readies.new.items frees.new.items) }
-    ensures stays { OnErr result ((known.new ≡ known.old) × (readies.new ≡ readies.old) × (frees.new ≡ frees.old)) }
+    requires scenario { IsScenario setting.now.problem.now scenario.now }
+    requires place { place < process_count setting.now.problem.now }
+    requires places { HavePlaces setting.now known.old nodes.old }
+    requires at { AreAt setting.now frozen.now scenario.now place known.old nodes.old }
+    ensures places { OnOk result (HavePlaces setting.now known.new nodes.new) }
+    ensures at { OnOk result (AreAt setting.now frozen.now scenario.now (place + 1) known.new nodes.new) }
+    ensures stays { OnErr result ((known.new ≡ known.old) × (nodes.new ≡ nodes.old)) }
 {
-    let process = order.at(place);
+    let problem = setting.problem;
+    let process = setting.order.at(place);
     let node = problem.node_of(process) as usize;
-    let heard = decided_there(alloc, problem, guards, plan, known, scenario, process)?;
-    let ready = readies[node].max(heard);
-    if !is_active(problem, guards, scenario, process) {
-        readies[node] = ready;
+    let heard = decided_there(
+        alloc,
+        problem,
+        setting.guards,
+        setting.plan,
+        known,
+        scenario,
+        process,
+    )?;
+    let ready = nodes.ready[node].max(heard);
+    if !is_active(problem, setting.guards, scenario, process) {
+        nodes.ready[node] = ready;
         return Ok(());
     }
-    let start = start(
-        problem, guards, plan, frozen, known, scenario, process, ready,
-    );
+    let start = start(setting, frozen, known, scenario, process, ready);
     let end = start + problem.duration(process, scenario.fault(process));
     known.set_time(process, start);
     known.set_end(process, end);
-    readies[node] = end;
-    frees[node] = send(
-        problem,
-        guards,
-        order,
-        plan,
-        frozen,
-        scenario,
-        known,
-        process,
-        frees[node],
-    );
+    nodes.ready[node] = end;
+    nodes.free[node] = send(setting, frozen, scenario, known, process, nodes.free[node]);
     Ok(())
 }
 
@@ -84,8 +76,7 @@ fn step(
 #[derive(Drop)]
 pub struct Progress {
     known: Known,
-    ready: Vec<u64>,
-    free: Vec<u64>,
+    nodes: Nodes,
 }
 
 impl Model for Progress {
@@ -93,7 +84,7 @@ impl Model for Progress {
 
     ghost Value = { ProgressState };
 
-    ghost view = { λ p. record { known = p.known; ready = p.ready.items; free = p.free.items } };
+    ghost view = { λ p. record { known = p.known; ready = p.nodes.ready.items; free = p.nodes.free.items } };
 }
 
 impl Progress {
@@ -104,8 +95,10 @@ impl Progress {
         let nodes = problem.nodes().len();
         Ok(Progress {
             known: Known::none(alloc, problem)?,
-            ready: vec![in alloc; 0u64; nodes]?,
-            free: vec![in alloc; 0u64; nodes]?,
+            nodes: Nodes {
+                ready: vec![in alloc; 0u64; nodes]?,
+                free: vec![in alloc; 0u64; nodes]?,
+            },
         })
     }
 
@@ -115,8 +108,10 @@ impl Progress {
     {
         Ok(Progress {
             known: self.known.copy()?,
-            ready: self.ready.clone()?,
-            free: self.free.clone()?,
+            nodes: Nodes {
+                ready: self.nodes.ready.clone()?,
+                free: self.nodes.free.clone()?,
+            },
         })
     }
 
@@ -131,36 +126,22 @@ impl Progress {
     pub fn step(
         &mut self,
         alloc: Global,
-        admitted: &Admitted,
-        order: &Order,
-        plan: &Plan,
+        setting: &Setting<'_>,
         frozen: &Frozen,
         scenario: &Scenario,
         place: u32,
     ) -> Result<(), OutOfMemory>
-        requires topological { IsTopological admitted.now.graph order.now }
-        requires plan { plan.now ≡ plan_of admitted.now.graph }
-        requires frozen { length frozen.now ≡ item_count admitted.now.graph }
+        requires setting { IsSetting setting.now }
+        requires frozen { length frozen.now ≡ item_count setting.now.problem.now }
         requires early { AreEarly frozen.now }
-        requires scenario { IsScenario admitted.now.graph scenario.now }
-        requires place { place < process_count admitted.now.graph }
-        requires along { IsAlong admitted.now.graph order.now frozen.now scenario.now place self.old }
-        ensures along { OnOk result (IsAlong admitted.now.graph order.now frozen.now scenario.now (place + 1) self.new) }
+        requires scenario { IsScenario setting.now.problem.now scenario.now }
+        requires place { place < process_count setting.now.problem.now }
+        requires along { IsAlong setting.now.problem.now setting.now.order.now frozen.now scenario.now place self.old }
+        ensures along { OnOk result (IsAlong setting.now.problem.now setting.now.order.now frozen.now scenario.now (place + 1) self.new) }
         ensures stays { OnErr result (self.new ≡ self.old) }
     {
-        step(
-            alloc,
-            admitted.problem(),
-            admitted.guards(),
-            order,
-            plan,
-            frozen,
-            scenario,
-            &mut self.known,
-            &mut self.ready,
-            &mut self.free,
-            place,
-        )?;
+        let (known, nodes) = (&mut self.known, &mut self.nodes);
+        step(alloc, setting, frozen, scenario, known, nodes, place)?;
         Ok(())
     }
 

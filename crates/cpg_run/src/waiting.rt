@@ -1,7 +1,7 @@
 //! What a start waits for.
-ghost use Rattle.std.specs.Prelude.{◌≡◌, ◌<◌, max, IfOk, if◌then◌else◌, true, ℕ, Contains, length, map};
+ghost use Rattle.std.specs.Prelude.{◌≡◌, ◌<◌, IfOk, if◌then◌else◌, true, ℕ, Contains, length, map};
 ghost use Rattle.cpg_base.specs.Numbers.{greatest};
-ghost use Rattle.cpg_base.specs.Graph.{process_count, edge_count, condition_count, process_at, node_of, home};
+ghost use Rattle.cpg_base.specs.Graph.{process_count, edge_count, condition_count, node_of, home};
 ghost use Rattle.cpg_base.specs.Activity.{live};
 ghost use Rattle.cpg_base.specs.Scenario.{IsScenario};
 ghost use Rattle.cpg_base.specs.WellFormed.{HasSenderSlots};
@@ -10,12 +10,13 @@ ghost use Rattle.cpg_order.specs.Deciding.{decides};
 ghost use Rattle.cpg_run.specs.Run.{frame_there, input_there, heard_there, input_bounds};
 ghost use Rattle.cpg_run.specs.Admitted.{AreAdmitted};
 ghost use Rattle.cpg_run.specs.Known.{AreSmall, frozen_in};
+ghost use Rattle.cpg_run.specs.Setting.{IsSetting, start_at};
 ghost use Rattle.cpg_run.specs.Most.{IsMost};
 ghost use Rattle.cpg_bus.specs.Plan.{plan_of};
 
-use crate::Frozen;
 use crate::activity::{deciding, is_live};
 use crate::known::Known;
+use crate::{Frozen, Setting};
 use cpg_base::{OutOfMemory, Problem, Scenario};
 use cpg_bus::Plan;
 use cpg_rules::GuardTrees;
@@ -205,24 +206,22 @@ pub(crate) fn frozen_time(frozen: &Frozen, item: u32) -> u64
 
 /// The start of an active process whose node is ready for it at a time.
 pub(crate) fn start(
-    problem: &Problem,
-    guards: &GuardTrees,
-    plan: &Plan,
+    setting: &Setting<'_>,
     frozen: &Frozen,
     known: &Known,
     scenario: &Scenario,
     process: u32,
     ready: u64,
 ) -> u64
-    requires admitted { AreAdmitted problem.now guards.now }
-    requires plan { plan.now ≡ plan_of problem.now }
+    requires setting { IsSetting setting.now }
     requires frozen { process < length frozen.now }
-    requires scenario { IsScenario problem.now scenario.now }
-    requires process { process < process_count problem.now }
+    requires scenario { IsScenario setting.now.problem.now scenario.now }
+    requires process { process < process_count setting.now.problem.now }
     requires small { AreSmall known.now }
-    ensures { result ≡ max (max (max ready (process_at problem.now process).release) (greatest (input_bounds problem.now scenario.now known.now process))) (frozen_in frozen.now process) }
+    ensures { result ≡ start_at setting.now.problem.now scenario.now known.now frozen.now process ready }
 {
-    let inputs = inputs_there(problem, guards, plan, known, scenario, process);
+    let (problem, plan) = (setting.problem, setting.plan);
+    let inputs = inputs_there(problem, setting.guards, plan, known, scenario, process);
     let released = ready.max(problem.release(process));
     released.max(inputs).max(frozen_time(frozen, process))
 }

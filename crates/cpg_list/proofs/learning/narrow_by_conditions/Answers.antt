@@ -1,13 +1,15 @@
-use Rattle.std.proofs.Common.{get_or}
+use Rattle.std.proofs.Common.{get_or, flat_map, subst}
+use Rattle.std.proofs.lemmas.List.{take_all}
 use Rattle.std.proofs.lemmas.List.Elements.{Contains-get_or}
 use Rattle.cpg_list.specs.Learning.{heard_of}
+use Rattle.cpg_list.specs.Frames.{IsNarrowedIn, heard_in}
 use Rattle.cpg_run.specs.Found.{columns_of_rows}
 use Rattle.cpg_list.proofs.CodeCubes.{narrowed_none}
 use Rattle.cpg_list.proofs.CodeTold.{narrowed_flat_map}
 use Rattle.cpg_list.proofs.learning.narrow_by_conditions.Goals as goal
 
 pub loop-condition-init : goal.loop-condition-init
-loop-condition-init c = narrowed_none c.args.problem.now.faults c.args.cube.now
+loop-condition-init c = narrowed_none c.args.frames.now.problem.now.faults c.args.cube.now
 
 pub narrow_by_condition-requires-clause-condition : goal.narrow_by_condition-requires-clause-condition
 narrow_by_condition-requires-clause-condition c = c.requires.conditions (get_or c.args.conditions.now c.loop-condition.condition-index 0) (Contains-get_or c.args.conditions.now c.loop-condition.condition-index 0 c.loop-condition-test.true)
@@ -16,5 +18,8 @@ pub narrow_by_condition-requires-clause-told : goal.narrow_by_condition-requires
 narrow_by_condition-requires-clause-told c = c.requires.told (get_or c.args.conditions.now c.loop-condition.condition-index 0) (Contains-get_or c.args.conditions.now c.loop-condition.condition-index 0 c.loop-condition-test.true)
 
 pub loop-condition-preserved : goal.loop-condition-preserved
-loop-condition-preserved c = narrowed_flat_map c.args.problem.now.faults c.args.cube.now c.loop-condition.cube c.narrow_by_condition.new.cube
-    (heard_of c.args.problem.now (columns_of_rows c.args.rows.now) c.args.scenario.now c.args.node) c.args.conditions.now c.loop-condition.condition-index 0 c.loop-condition-test.true c.loop-condition.invariant c.in_ok-narrow_by_condition.ensures
+loop-condition-preserved c = narrowed_flat_map c.args.frames.now.problem.now.faults c.args.cube.now c.loop-condition.cube c.narrow_by_condition.new.cube
+    (heard_of c.args.frames.now.problem.now (columns_of_rows c.args.frames.now.rows.now) c.args.frames.now.scenario.now c.args.node) c.args.conditions.now c.loop-condition.condition-index 0 c.loop-condition-test.true c.loop-condition.invariant c.in_ok-narrow_by_condition.ensures
+
+pub returns : goal.returns
+returns c = subst (λ xs. IsNarrowedIn c.args.frames.now (flat_map (heard_in c.args.frames.now c.args.node) xs) c.args.cube.now c.loop-condition.cube) (take_all c.loop-condition.condition-index c.args.conditions.now c.loop-condition-test.false) c.loop-condition.invariant

@@ -8,8 +8,8 @@ use Rattle.cpg_list.proofs.learning.narrow_by_frame.Goals as goal
 
 pub returns : goal.returns
 returns c =
-    let k = c.args.problem.now.faults in
-    let s = c.args.scenario.now in
-    let row = row_at (columns_of_rows c.args.rows.now) c.args.item in
+    let k = c.args.frames.now.problem.now.faults in
+    let s = c.args.frames.now.scenario.now in
+    let row = row_at (columns_of_rows c.args.frames.now.rows.now) c.args.item in
     subst (IsNarrowed k (told_in row s) c.args.cube.now) (sym (c.in_ok-narrow_by_told.ensures ∙ ap (λ cs. met c.args.cube.now (told_in cs s)) c.row_of-row.ensures))
     (met_narrowed k (told_in row s) c.args.cube.now (told_highs row s k c.requires.within))

@@ -12,17 +12,17 @@ use Rattle.cpg_list.proofs.learning.narrow_by_heard.Goals as goal
 
 pub narrow_by_conditions-requires-clause-conditions : goal.narrow_by_conditions-requires-clause-conditions
 narrow_by_conditions-requires-clause-conditions c d j =
-    let g = c.args.problem.now in
-    numbers-Contains (condition_count g) d (Contains-filter_parts (decides g c.args.scenario.now.values c.args.process) (numbers_below (condition_count g)) d (c.requires.conditions.each d j)).0
+    let g = c.args.frames.now.problem.now in
+    numbers-Contains (condition_count g) d (Contains-filter_parts (decides g c.args.frames.now.scenario.now.values c.args.process) (numbers_below (condition_count g)) d (c.requires.conditions.each d j)).0
 
 pub narrow_by_conditions-requires-clause-told : goal.narrow_by_conditions-requires-clause-told
 narrow_by_conditions-requires-clause-told c d j = c.requires.told d (c.requires.conditions.each d j)
 
 pub returns : goal.returns
 returns c =
-    let g = c.args.problem.now in
-    let s = c.args.scenario.now in
-    let rows = columns_of_rows c.args.rows.now in
+    let g = c.args.frames.now.problem.now in
+    let s = c.args.frames.now.scenario.now in
+    let rows = columns_of_rows c.args.frames.now.rows.now in
     let node = c.node_of-node.result in
     let all = deciding g s.values c.args.process in
     let f = heard_of g rows s node in

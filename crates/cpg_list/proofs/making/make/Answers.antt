@@ -11,55 +11,55 @@ use Rattle.cpg_list.proofs.CodeSame.{passed_cubes, queued_cubes}
 use Rattle.cpg_list.proofs.making.make.Goals as goal
 
 pub at-process-requires : goal.at-process-requires
-at-process-requires c = omega (arith, c.requires.place, length_order (process_count c.args.admitted.now.graph) c.args.order.now c.requires.topological.all)
+at-process-requires c = omega (arith, c.requires.place, length_order (process_count c.args.listed.now.admitted.now.graph) c.args.listed.now.order.now c.requires.listed.topological.all)
 
 pub node_of-node-requires : goal.node_of-node-requires
-node_of-node-requires c = omega (arith, ap (λ (h : Graph). process_count h) c.problem.ensures.problem, c.at-process.ensures.within, length_order (process_count c.args.admitted.now.graph) c.args.order.now c.requires.topological.all)
+node_of-node-requires c = omega (arith, ap (λ (h : Graph). process_count h) c.problem.ensures.problem, c.at-process.ensures.within, length_order (process_count c.args.listed.now.admitted.now.graph) c.args.listed.now.order.now c.requires.listed.topological.all)
 
 pub make_start-requires-clause-process : goal.make_start-requires-clause-process
-make_start-requires-clause-process c = omega (arith, c.at-process.ensures.within, length_order (process_count c.args.admitted.now.graph) c.args.order.now c.requires.topological.all)
+make_start-requires-clause-process c = omega (arith, c.at-process.ensures.within, length_order (process_count c.args.listed.now.admitted.now.graph) c.args.listed.now.order.now c.requires.listed.topological.all)
 
 pub make_sends_after-requires-clause-process : goal.make_sends_after-requires-clause-process
-make_sends_after-requires-clause-process c = omega (arith, c.at-process.ensures.within, length_order (process_count c.args.admitted.now.graph) c.args.order.now c.requires.topological.all)
+make_sends_after-requires-clause-process c = omega (arith, c.at-process.ensures.within, length_order (process_count c.args.listed.now.admitted.now.graph) c.args.listed.now.order.now c.requires.listed.topological.all)
 
 pub make_start-requires-clause-known : goal.make_start-requires-clause-known
 make_start-requires-clause-known c =
-    let g = c.args.admitted.now.graph in
-    let order = c.args.order.now in
+    let g = c.args.listed.now.admitted.now.graph in
+    let order = c.args.listed.now.order.now in
     let p = c.at-process.result in
     let rows = columns_of_rows c.args.rows.now.items in
     let node : c.node_of-node.result ≡ node_of g p = c.node_of-node.ensures.node ∙ ap (λ (h : Graph). node_of h p) c.problem.ensures.problem in
     let on : node_of g p < length g.nodes = omega (arith, node, c.node_of-node.ensures.within, ap (λ (h : Graph). length h.nodes) c.problem.ensures.problem) in
     let read : get_or c.args.known.now.items (node_of g p) [] ≡ c.index_mut.result.now =
     ap (λ n. get_or c.args.known.now.items n []) (sym node) ∙ sym (c.index_mut.ensures.value ∙ get_or_default c.args.known.now.items c.node_of-node.result c.index_mut.result.now [] (omega (arith, node, on, c.requires.carried.known_count))) in
-    subst (AreCubesOf g.faults c.args.scenarios.now (passed_by g rows (before_on_node g order p))) read
-    (subst (λ i. AreCubesOf g.faults c.args.scenarios.now (passed_by g rows (node_before g order (node_of g p) i)) (get_or c.args.known.now.items (node_of g p) [])) (sym c.at-process.ensures.back) (c.requires.carried.carries (node_of g p) on))
+    subst (AreCubesOf g.faults c.args.listed.now.scenarios.now (passed_by g rows (before_on_node g order p))) read
+    (subst (λ i. AreCubesOf g.faults c.args.listed.now.scenarios.now (passed_by g rows (node_before g order (node_of g p) i)) (get_or c.args.known.now.items (node_of g p) [])) (sym c.at-process.ensures.back) (c.requires.carried.carries (node_of g p) on))
 
 pub make_sends_after-requires-clause-sent : goal.make_sends_after-requires-clause-sent
 make_sends_after-requires-clause-sent c =
-    let g = c.args.admitted.now.graph in
-    let order = c.args.order.now in
+    let g = c.args.listed.now.admitted.now.graph in
+    let order = c.args.listed.now.order.now in
     let p = c.at-process.result in
-    let l : p < process_count g = omega (arith, c.at-process.ensures.within, length_order (process_count g) order c.requires.topological.all) in
+    let l : p < process_count g = omega (arith, c.at-process.ensures.within, length_order (process_count g) order c.requires.listed.topological.all) in
     let rows = columns_of_rows c.args.rows.now.items in
     let next = columns_of_rows c.make_start.new.rows.items in
     let node : c.node_of-node.result ≡ node_of g p = c.node_of-node.ensures.node ∙ ap (λ (h : Graph). node_of h p) c.problem.ensures.problem in
     let on : node_of g p < length g.nodes = omega (arith, node, c.node_of-node.ensures.within, ap (λ (h : Graph). length h.nodes) c.problem.ensures.problem) in
     let read : get_or c.args.sent.now.items (node_of g p) [] ≡ c.index_mut-2.result.now =
     ap (λ n. get_or c.args.sent.now.items n []) (sym node) ∙ sym (c.index_mut-2.ensures.value ∙ get_or_default c.args.sent.now.items c.node_of-node.result c.index_mut-2.result.now [] (omega (arith, node, on, c.requires.carried.sent_count))) in
-    subst (AreCubesOf g.faults c.args.scenarios.now (queued_by g order next (sent_before g order (node_of g p) (place order p)))) read
-    (queued_cubes g order c.requires.topological rows next (place order p) c.in_ok-make_start.ensures.same g.faults c.args.scenarios.now (get_or c.args.sent.now.items (node_of g p) []) (sent_before g order (node_of g p) (place order p))
-    (sent_early g order c.requires.topological p l (node_of g p))
-    (subst (λ i. AreCubesOf g.faults c.args.scenarios.now (queued_by g order rows (sent_before g order (node_of g p) i)) (get_or c.args.sent.now.items (node_of g p) [])) (sym c.at-process.ensures.back) (c.requires.carried.queues (node_of g p) on)))
+    subst (AreCubesOf g.faults c.args.listed.now.scenarios.now (queued_by g order next (sent_before g order (node_of g p) (place order p)))) read
+    (queued_cubes g order c.requires.listed.topological rows next (place order p) c.in_ok-make_start.ensures.same g.faults c.args.listed.now.scenarios.now (get_or c.args.sent.now.items (node_of g p) []) (sent_before g order (node_of g p) (place order p))
+    (sent_early g order c.requires.listed.topological p l (node_of g p))
+    (subst (λ i. AreCubesOf g.faults c.args.listed.now.scenarios.now (queued_by g order rows (sent_before g order (node_of g p) i)) (get_or c.args.sent.now.items (node_of g p) [])) (sym c.at-process.ensures.back) (c.requires.carried.queues (node_of g p) on)))
 
 pub returns-clause-carried : goal.returns-clause-carried
 returns-clause-carried c =
-    let g = c.args.admitted.now.graph in
-    let order = c.args.order.now in
+    let g = c.args.listed.now.admitted.now.graph in
+    let order = c.args.listed.now.order.now in
     let p = c.at-process.result in
-    let l : p < process_count g = omega (arith, c.at-process.ensures.within, length_order (process_count g) order c.requires.topological.all) in
-    let top = c.requires.topological in
-    let scenarios = c.args.scenarios.now in
+    let l : p < process_count g = omega (arith, c.at-process.ensures.within, length_order (process_count g) order c.requires.listed.topological.all) in
+    let top = c.requires.listed.topological in
+    let scenarios = c.args.listed.now.scenarios.now in
     let rows = columns_of_rows c.args.rows.now.items in
     let next = columns_of_rows c.make_start.new.rows.items in
     let last = columns_of_rows c.make_sends_after.new.rows.items in

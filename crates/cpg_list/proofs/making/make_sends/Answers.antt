@@ -15,28 +15,28 @@ use Rattle.cpg_list.proofs.making.make_sends.Goals as goal
 
 pub send_entries-requires-clause-item : goal.send_entries-requires-clause-item
 send_entries-requires-clause-item c =
-    let g = c.args.admitted.now.graph in
+    let g = c.args.listed.now.admitted.now.graph in
     let p = c.args.process in
     let m = c.loop-item.item-index in
     let all : c.queue-item-items.result.now ≡ queue_of g p = c.queue-item-items.ensures ∙ ap (λ (h : Graph). queue_of h p) c.problem.ensures.problem in
     let inside : m < length (queue_of g p) = omega (arith, ap length all, c.loop-item-test.true) in
-    subst (Contains (queue_of g p)) (ap (λ xs. get_or xs m 0) (sym all)) (nth_queued g c.args.order.now c.requires.topological p c.requires.process m inside)
+    subst (Contains (queue_of g p)) (ap (λ xs. get_or xs m 0) (sym all)) (nth_queued g c.args.listed.now.order.now c.requires.listed.topological p c.requires.process m inside)
 
 pub send_entries-requires-clause-ends : goal.send_entries-requires-clause-ends
 send_entries-requires-clause-ends c =
-    let g = c.args.admitted.now.graph in
-    let order = c.args.order.now in
+    let g = c.args.listed.now.admitted.now.graph in
+    let order = c.args.listed.now.order.now in
     let p = c.args.process in
-    subst (λ (rs : List Row). AreEndsOf g order (columns_of_rows rs) c.args.scenarios.now p c.args.ends.now) (sym c.as_slice.ensures.value)
-    (ends_cubes g order c.requires.topological (columns_of_rows c.args.rows.now.items) (columns_of_rows c.loop-item.rows.items) (place order p) c.loop-item.invariant.same c.args.scenarios.now p c.args.ends.now (omega arith) c.requires.ends)
+    subst (λ (rs : List Row). AreEndsOf g order (columns_of_rows rs) c.args.listed.now.scenarios.now p c.args.ends.now) (sym c.as_slice.ensures.value)
+    (ends_cubes g order c.requires.listed.topological (columns_of_rows c.args.rows.now.items) (columns_of_rows c.loop-item.rows.items) (place order p) c.loop-item.invariant.same c.args.listed.now.scenarios.now p c.args.ends.now (omega arith) c.requires.ends)
 
 pub send_entries-requires-clause-sent : goal.send_entries-requires-clause-sent
 send_entries-requires-clause-sent c =
-    let g = c.args.admitted.now.graph in
-    let order = c.args.order.now in
+    let g = c.args.listed.now.admitted.now.graph in
+    let order = c.args.listed.now.order.now in
     let p = c.args.process in
     let m = c.loop-item.item-index in
-    let scenarios = c.args.scenarios.now in
+    let scenarios = c.args.listed.now.scenarios.now in
     let all : c.queue-item-items.result.now ≡ queue_of g p = c.queue-item-items.ensures ∙ ap (λ (h : Graph). queue_of h p) c.problem.ensures.problem in
     let inside : m < length (queue_of g p) = omega (arith, ap length all, c.loop-item-test.true) in
     let rows = columns_of_rows c.loop-item.rows.items in
@@ -44,46 +44,46 @@ send_entries-requires-clause-sent c =
     subst (λ (rs : List Row). AreCubesOf g.faults scenarios (queued_by g order (columns_of_rows rs) (queued_before g order (get_or c.queue-item-items.result.now m 0))) c.loop-item.sent) (sym c.as_slice.ensures.value)
     (subst (λ x. AreCubesOf g.faults scenarios (queued_by g order rows (queued_before g order x)) c.loop-item.sent) (ap (λ xs. get_or xs m 0) (sym all))
     (queued_members g.faults g order rows scenarios c.loop-item.sent (sent_before g order (node_of g p) (place order p) ++ take m (queue_of g p)) (queued_before g order nth)
-    (before_from g order c.requires.topological p c.requires.process m inside) (before_to g order c.requires.topological p c.requires.process m inside) c.loop-item.invariant.queue))
+    (before_from g order c.requires.listed.topological p c.requires.process m inside) (before_to g order c.requires.listed.topological p c.requires.process m inside) c.loop-item.invariant.queue))
 
 pub set_row-requires-clause-item : goal.set_row-requires-clause-item
 set_row-requires-clause-item c =
-    let g = c.args.admitted.now.graph in
+    let g = c.args.listed.now.admitted.now.graph in
     let p = c.args.process in
     let m = c.loop-item.item-index in
     let all : c.queue-item-items.result.now ≡ queue_of g p = c.queue-item-items.ensures ∙ ap (λ (h : Graph). queue_of h p) c.problem.ensures.problem in
     let inside : m < length (queue_of g p) = omega (arith, ap length all, c.loop-item-test.true) in
-    omega (arith, ap (λ xs. get_or xs m 0) all, nth_within g c.args.order.now c.requires.topological p c.requires.process m inside, count_of c.loop-item.rows.items (item_count g) c.loop-item.invariant.made.items)
+    omega (arith, ap (λ xs. get_or xs m 0) all, nth_within g c.args.listed.now.order.now c.requires.listed.topological p c.requires.process m inside, count_of c.loop-item.rows.items (item_count g) c.loop-item.invariant.made.items)
 
 pub set_row-requires-clause-entries : goal.set_row-requires-clause-entries
 set_row-requires-clause-entries c =
-    let a = c.args.admitted.now in
+    let a = c.args.listed.now.admitted.now in
     let g = a.graph in
-    let order = c.args.order.now in
-    let frozen = c.args.frozen.now in
+    let order = c.args.listed.now.order.now in
+    let frozen = c.args.listed.now.frozen.now in
     let p = c.args.process in
     let m = c.loop-item.item-index in
     let entries = c.in_ok-entries.entries.items in
     let all : c.queue-item-items.result.now ≡ queue_of g p = c.queue-item-items.ensures ∙ ap (λ (h : Graph). queue_of h p) c.problem.ensures.problem in
     let inside : m < length (queue_of g p) = omega (arith, ap length all, c.loop-item-test.true) in
     let nth = get_or (queue_of g p) m 0 in
-    let timed = timed_of g a.order order a.guards frozen c.problem.ensures.admitted c.requires.topological c.requires.frozen in
+    let timed = timed_of g a.order order a.guards frozen c.problem.ensures.admitted c.requires.listed.topological c.requires.listed.frozen in
     let found = subst (λ x. AreEntriesOf g order frozen (columns_of_rows c.loop-item.rows.items) x entries) (ap (λ xs. get_or xs m 0) all)
     (subst (λ (rs : List Row). AreEntriesOf g order frozen (columns_of_rows rs) (get_or c.queue-item-items.result.now m 0) entries) c.as_slice.ensures.value c.in_ok-entries.ensures.entries) in
-    mergeable g a.order order frozen timed (IsSent g order p m) c.loop-item.rows.items c.loop-item.invariant.made nth (nth_within g order c.requires.topological p c.requires.process m inside)
-    (nth_earlier g order c.requires.topological p c.requires.process m inside) entries found
+    mergeable g a.order order frozen timed (IsSent g order p m) c.loop-item.rows.items c.loop-item.invariant.made nth (nth_within g order c.requires.listed.topological p c.requires.process m inside)
+    (nth_earlier g order c.requires.listed.topological p c.requires.process m inside) entries found
 
 pub loop-item-preserved : goal.loop-item-preserved
 loop-item-preserved c =
-    let a = c.args.admitted.now in
+    let a = c.args.listed.now.admitted.now in
     let g = a.graph in
-    let order = c.args.order.now in
-    let frozen = c.args.frozen.now in
+    let order = c.args.listed.now.order.now in
+    let frozen = c.args.listed.now.frozen.now in
     let p = c.args.process in
     let m = c.loop-item.item-index in
-    let scenarios = c.args.scenarios.now in
+    let scenarios = c.args.listed.now.scenarios.now in
     let entries = c.in_ok-entries.entries.items in
-    let top = c.requires.topological in
+    let top = c.requires.listed.topological in
     let l = c.requires.process in
     let rows = c.loop-item.rows.items in
     let next = c.set_row.new.rows.items in
@@ -91,7 +91,7 @@ loop-item-preserved c =
     let inside : m < length (queue_of g p) = omega (arith, ap length all, c.loop-item-test.true) in
     let nth = get_or (queue_of g p) m 0 in
     let here : get_or c.queue-item-items.result.now m 0 ≡ nth = ap (λ xs. get_or xs m 0) all in
-    let timed = timed_of g a.order order a.guards frozen c.problem.ensures.admitted top c.requires.frozen in
+    let timed = timed_of g a.order order a.guards frozen c.problem.ensures.admitted top c.requires.listed.frozen in
     let found = subst (λ x. AreEntriesOf g order frozen (columns_of_rows rows) x entries) here
     (subst (λ (rs : List Row). AreEntriesOf g order frozen (columns_of_rows rs) (get_or c.queue-item-items.result.now m 0) entries) c.as_slice.ensures.value c.in_ok-entries.ensures.entries) in
     let is = subst (λ x. IsRowSet g a.order x entries rows next) here c.in_ok-set_row.ensures in
@@ -114,12 +114,12 @@ loop-item-preserved c =
 
 pub returns-clause-sent : goal.returns-clause-sent
 returns-clause-sent c =
-    let g = c.args.admitted.now.graph in
-    let order = c.args.order.now in
+    let g = c.args.listed.now.admitted.now.graph in
+    let order = c.args.listed.now.order.now in
     let p = c.args.process in
     let m = c.loop-item.item-index in
-    let scenarios = c.args.scenarios.now in
-    let top = c.requires.topological in
+    let scenarios = c.args.listed.now.scenarios.now in
+    let top = c.requires.listed.topological in
     let l = c.requires.process in
     let rows = columns_of_rows c.loop-item.rows.items in
     let before = sent_before g order (node_of g p) (place order p) in
@@ -130,11 +130,11 @@ returns-clause-sent c =
 
 pub returns-clause-made : goal.returns-clause-made
 returns-clause-made c =
-    let a = c.args.admitted.now in
+    let a = c.args.listed.now.admitted.now in
     let g = a.graph in
-    let order = c.args.order.now in
+    let order = c.args.listed.now.order.now in
     let p = c.args.process in
     let all : c.queue-item-items.result.now ≡ queue_of g p = c.queue-item-items.ensures ∙ ap (λ (h : Graph). queue_of h p) c.problem.ensures.problem in
     let last : c.loop-item.item-index ≡ length (queue_of g p) = omega (arith, ap length all, c.loop-item-test.false, c.loop-item.auto.item-index-end) in
-    made_next g order c.requires.topological p c.requires.process a.order c.args.frozen.now c.loop-item.rows.items
-    (subst (λ n. AreMade g a.order order c.args.frozen.now (IsSent g order p n) c.loop-item.rows.items) last c.loop-item.invariant.made)
+    made_next g order c.requires.listed.topological p c.requires.process a.order c.args.listed.now.frozen.now c.loop-item.rows.items
+    (subst (λ n. AreMade g a.order order c.args.listed.now.frozen.now (IsSent g order p n) c.loop-item.rows.items) last c.loop-item.invariant.made)

@@ -9,8 +9,8 @@ use Rattle.cpg_list.proofs.making.make_sends.Given as goal
 
 abbrev pub invariant-loop-item : goal.invariant-loop-item
 invariant-loop-item l = record {
-  made : AreMade l.admitted.graph l.admitted.order l.order l.frozen (IsSent l.admitted.graph l.order l.process l.item-index) l.rows.items;
-  queue : AreCubesOf l.admitted.graph.faults l.scenarios
-      (queued_by l.admitted.graph l.order (columns_of_rows l.rows.items) (sent_before l.admitted.graph l.order (node_of l.admitted.graph l.process) (place l.order l.process) ++ take l.item-index (queue_of l.admitted.graph l.process))) l.sent;
-  same : SameRowsBefore l.admitted.graph l.order (place l.order l.process) (columns_of_rows l.fn.rows.items) (columns_of_rows l.rows.items);
+  made : AreMade l.listed.admitted.now.graph l.listed.admitted.now.order l.listed.order.now l.listed.frozen.now (IsSent l.listed.admitted.now.graph l.listed.order.now l.process l.item-index) l.rows.items;
+  queue : AreCubesOf l.listed.admitted.now.graph.faults l.listed.scenarios.now
+      (queued_by l.listed.admitted.now.graph l.listed.order.now (columns_of_rows l.rows.items) (sent_before l.listed.admitted.now.graph l.listed.order.now (node_of l.listed.admitted.now.graph l.process) (place l.listed.order.now l.process) ++ take l.item-index (queue_of l.listed.admitted.now.graph l.process))) l.sent;
+  same : SameRowsBefore l.listed.admitted.now.graph l.listed.order.now (place l.listed.order.now l.process) (columns_of_rows l.fn.rows.items) (columns_of_rows l.rows.items);
 }

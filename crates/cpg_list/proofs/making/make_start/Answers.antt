@@ -4,7 +4,7 @@ use Rattle.cpg_base.specs.Scenario.{Scenario, IsScenario}
 use Rattle.cpg_base.specs.Order.{place, before_on_node}
 use Rattle.cpg_run.specs.Run.{Times, IsRun}
 use Rattle.cpg_table.specs.Table.{Row}
-use Rattle.cpg_list.specs.Learning.{AreTold}
+use Rattle.cpg_list.specs.Learning.{EarlierTell}
 use Rattle.cpg_list.specs.Made.{passed_by, AreCubesOf, IsBefore}
 use Rattle.cpg_run.specs.Found.{columns_of_rows}
 use Rattle.cpg_run.specs.Rows.{AreEntriesOf}
@@ -15,58 +15,58 @@ use Rattle.cpg_list.proofs.making.make_start.Goals as goal
 
 pub start_entries-requires-clause-told : goal.start_entries-requires-clause-told
 start_entries-requires-clause-told c =
-    let a = c.args.admitted.now in
-    let order = c.args.order.now in
-    let frozen = c.args.frozen.now in
+    let a = c.args.listed.now.admitted.now in
+    let order = c.args.listed.now.order.now in
+    let frozen = c.args.listed.now.frozen.now in
     let p = c.args.process in
-    let timed = timed_of a.graph a.order order a.guards frozen c.problem-problem.ensures.admitted c.requires.topological c.requires.frozen in
-    subst (λ (rs : List Row). (s : Scenario) (t : Times) → IsScenario a.graph s → IsRun a.graph order frozen s t → AreTold a.graph order (columns_of_rows rs) s t p) (sym c.as_slice.ensures.value)
+    let timed = timed_of a.graph a.order order a.guards frozen c.problem-problem.ensures.admitted c.requires.listed.topological c.requires.listed.frozen in
+    subst (λ (rs : List Row). (s : Scenario) (t : Times) → IsScenario a.graph s → IsRun a.graph order frozen s t → EarlierTell a.graph order (columns_of_rows rs) s t p) (sym c.as_slice.ensures.value)
     (told_from a.graph a.order order frozen timed (IsBefore a.graph order (place order p)) c.args.rows.now.items c.requires.made p (λ y h. h))
 
 pub set_row-requires-clause-item : goal.set_row-requires-clause-item
-set_row-requires-clause-item c = omega (arith, c.requires.process, count_of c.args.rows.now.items (item_count c.args.admitted.now.graph) c.requires.made.items)
+set_row-requires-clause-item c = omega (arith, c.requires.process, count_of c.args.rows.now.items (item_count c.args.listed.now.admitted.now.graph) c.requires.made.items)
 
 pub set_row-requires-clause-entries : goal.set_row-requires-clause-entries
 set_row-requires-clause-entries c =
-    let a = c.args.admitted.now in
-    let order = c.args.order.now in
-    let frozen = c.args.frozen.now in
+    let a = c.args.listed.now.admitted.now in
+    let order = c.args.listed.now.order.now in
+    let frozen = c.args.listed.now.frozen.now in
     let p = c.args.process in
-    let timed = timed_of a.graph a.order order a.guards frozen c.problem-problem.ensures.admitted c.requires.topological c.requires.frozen in
-    let by = start_by a.graph order c.requires.topological p c.requires.process in
+    let timed = timed_of a.graph a.order order a.guards frozen c.problem-problem.ensures.admitted c.requires.listed.topological c.requires.listed.frozen in
+    let by = start_by a.graph order c.requires.listed.topological p c.requires.process in
     mergeable a.graph a.order order frozen timed (IsBefore a.graph order (place order p)) c.args.rows.now.items c.requires.made p (omega (arith, c.requires.process)) (λ y h. omega (arith, h, by)) c.in_ok-entries.entries.items
     (subst (λ (rs : List Row). AreEntriesOf a.graph order frozen (columns_of_rows rs) p c.in_ok-entries.entries.items) c.as_slice.ensures.value c.in_ok-entries.ensures.entries)
 
 pub returns-clause-same : goal.returns-clause-same
 returns-clause-same c =
-    let a = c.args.admitted.now in
-    let order = c.args.order.now in
-    let frozen = c.args.frozen.now in
+    let a = c.args.listed.now.admitted.now in
+    let order = c.args.listed.now.order.now in
+    let frozen = c.args.listed.now.frozen.now in
     let p = c.args.process in
-    let timed = timed_of a.graph a.order order a.guards frozen c.problem-problem.ensures.admitted c.requires.topological c.requires.frozen in
-    let by = start_by a.graph order c.requires.topological p c.requires.process in
+    let timed = timed_of a.graph a.order order a.guards frozen c.problem-problem.ensures.admitted c.requires.listed.topological c.requires.listed.frozen in
+    let by = start_by a.graph order c.requires.listed.topological p c.requires.process in
     let found = subst (λ (rs : List Row). AreEntriesOf a.graph order frozen (columns_of_rows rs) p c.in_ok-entries.entries.items) c.as_slice.ensures.value c.in_ok-entries.ensures.entries in
     same_before a.graph a.order order frozen timed (IsBefore a.graph order (place order p)) c.args.rows.now.items c.requires.made p (omega (arith, c.requires.process)) (λ y h. omega (arith, h, by)) c.in_ok-entries.entries.items found
     (λ h. omega (arith, h, by)) (λ y h. omega (arith, h, by)) c.set_row.new.rows.items c.in_ok-set_row.ensures (place order p) (omega (arith, by))
 
 pub returns-clause-made : goal.returns-clause-made
 returns-clause-made c =
-    let a = c.args.admitted.now in
-    let order = c.args.order.now in
-    let frozen = c.args.frozen.now in
+    let a = c.args.listed.now.admitted.now in
+    let order = c.args.listed.now.order.now in
+    let frozen = c.args.listed.now.frozen.now in
     let p = c.args.process in
-    let timed = timed_of a.graph a.order order a.guards frozen c.problem-problem.ensures.admitted c.requires.topological c.requires.frozen in
-    let by = start_by a.graph order c.requires.topological p c.requires.process in
+    let timed = timed_of a.graph a.order order a.guards frozen c.problem-problem.ensures.admitted c.requires.listed.topological c.requires.listed.frozen in
+    let by = start_by a.graph order c.requires.listed.topological p c.requires.process in
     let found = subst (λ (rs : List Row). AreEntriesOf a.graph order frozen (columns_of_rows rs) p c.in_ok-entries.entries.items) c.as_slice.ensures.value c.in_ok-entries.ensures.entries in
     one_made a.graph a.order order frozen timed (IsBefore a.graph order (place order p)) c.args.rows.now.items c.requires.made p (omega (arith, c.requires.process)) (λ y h. omega (arith, h, by)) c.in_ok-entries.entries.items found
     (λ h. omega (arith, h, by)) (λ y h. omega (arith, h, by)) c.set_row.new.rows.items c.in_ok-set_row.ensures
 
 pub returns-clause-known : goal.returns-clause-known
 returns-clause-known c =
-    let a = c.args.admitted.now in
-    let order = c.args.order.now in
+    let a = c.args.listed.now.admitted.now in
+    let order = c.args.listed.now.order.now in
     let p = c.args.process in
     let after = before_on_node a.graph order p ++ p ∷ [] in
-    passed_cubes a.graph order c.requires.topological (columns_of_rows c.args.rows.now.items) (columns_of_rows c.set_row.new.rows.items) (place order p) (returns-clause-same c)
-    a.graph.faults c.args.scenarios.now c.start_entries.new.known after (own_early a.graph order c.requires.topological p c.requires.process)
-    (subst (λ (rs : List Row). AreCubesOf a.graph.faults c.args.scenarios.now (passed_by a.graph (columns_of_rows rs) after) c.start_entries.new.known) c.as_slice.ensures.value c.in_ok-entries.ensures.known)
+    passed_cubes a.graph order c.requires.listed.topological (columns_of_rows c.args.rows.now.items) (columns_of_rows c.set_row.new.rows.items) (place order p) (returns-clause-same c)
+    a.graph.faults c.args.listed.now.scenarios.now c.start_entries.new.known after (own_early a.graph order c.requires.listed.topological p c.requires.process)
+    (subst (λ (rs : List Row). AreCubesOf a.graph.faults c.args.listed.now.scenarios.now (passed_by a.graph (columns_of_rows rs) after) c.start_entries.new.known) c.as_slice.ensures.value c.in_ok-entries.ensures.known)

@@ -13,8 +13,8 @@ pub returns-clause-entry : goal.returns-clause-entry
 returns-clause-entry c queue ends is_queue is_ends =
     let g = c.args.problem.now in
     let s = c.args.scenario.now in
-    let p = c.args.process in
-    let x = c.args.item in
+    let p = c.args.sending.process in
+    let x = c.args.sending.item in
     let first = (c.in_ok-narrow_by_cube.ensures g.faults ends is_ends).by queue is_queue in
     let both = c.in_ok-narrow_by_sent_value.ensures.by (queue ++ ends) first in
     subst (λ ls. IsKeptOf g s c.args.time ls c.in_ok-entry.entry) (sym (sends_plain g s p x (queue_by g p x c.requires.item) ends queue c.requires.plain))
@@ -24,8 +24,8 @@ pub returns-clause-sent : goal.returns-clause-sent
 returns-clause-sent c ends is_ends within =
     let g = c.args.problem.now in
     let s = c.args.scenario.now in
-    let p = c.args.process in
-    let x = c.args.item in
+    let p = c.args.sending.process in
+    let x = c.args.sending.item in
     let by = queue_by g p x c.requires.item in
     let on : active g s.values p ≡ true = ap (active g s.values) (sym by) ∙ producer_active g s.values (item_at g x) c.requires.active in
     subst (λ ls. IsNarrowed g.faults ls c.args.sent.now c.narrow_by_sent_value.new.cube) (sym (left_plain g s p x by ends on c.requires.active c.requires.plain))

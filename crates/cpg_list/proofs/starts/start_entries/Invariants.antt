@@ -7,7 +7,7 @@ use Rattle.cpg_list.proofs.starts.start_entries.Given as goal
 
 abbrev pub invariant-loop-at : goal.invariant-loop-at
 invariant-loop-at l = record {
-  found : AreEntriesAmong l.admitted.graph l.order l.frozen (columns_of_rows l.rows) l.process (take l.at l.scenarios) l.entries.items;
-  carried : AreCubesUpTo l.admitted.graph.faults l.scenarios (passed_by l.admitted.graph (columns_of_rows l.rows) (before_on_node l.admitted.graph l.order l.process))
-      (passed_by l.admitted.graph (columns_of_rows l.rows) (before_on_node l.admitted.graph l.order l.process ++ l.process ∷ [])) l.at l.known-inside.cubes.items;
+  found : AreEntriesAmong l.listed.admitted.now.graph l.listed.order.now l.listed.frozen.now (columns_of_rows l.rows) l.process (take l.at l.listed.scenarios.now) l.entries.items;
+  carried : AreCubesUpTo l.listed.admitted.now.graph.faults l.listed.scenarios.now (passed_by l.listed.admitted.now.graph (columns_of_rows l.rows) (before_on_node l.listed.admitted.now.graph l.listed.order.now l.process))
+      (passed_by l.listed.admitted.now.graph (columns_of_rows l.rows) (before_on_node l.listed.admitted.now.graph l.listed.order.now l.process ++ l.process ∷ [])) l.at l.known-inside.cubes.items;
 }

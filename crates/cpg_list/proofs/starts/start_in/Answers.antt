@@ -3,7 +3,7 @@ use Rattle.cpg_base.specs.Graph.{Graph, inputs, broadcast_item, message_item}
 use Rattle.cpg_base.specs.Activity.{active}
 use Rattle.cpg_order.specs.Deciding.{deciding}
 use Rattle.cpg_run.specs.Carried.{decided, heard, number_known}
-use Rattle.cpg_list.specs.Learning.{IsTold, start_after, received_unless_frozen}
+use Rattle.cpg_list.specs.Learning.{RowTells, start_after, received_unless_frozen}
 use Rattle.cpg_run.specs.Found.{columns_of_rows}
 use Rattle.cpg_list.specs.Narrowing.{IsNarrowed, IsKeptOf, IsKeptAt}
 use Rattle.cpg_run.specs.Rows.{IsCubeOf}
@@ -13,32 +13,32 @@ use Rattle.cpg_list.proofs.starts.start_in.Goals as goal
 
 pub narrow_by_heard-requires-clause-told : goal.narrow_by_heard-requires-clause-told
 narrow_by_heard-requires-clause-told c =
-    subst (λ (h : Graph). (d : ℕ) → Contains (deciding h c.args.scenario.now.values c.args.process) d → IsTold h (columns_of_rows c.args.rows.now) c.args.scenario.now c.args.times.now (broadcast_item h d)) (sym c.problem-problem.ensures.problem) c.requires.heard
+    subst (λ (h : Graph). (d : ℕ) → Contains (deciding h c.args.frames.now.scenario.now.values c.args.process) d → RowTells h (columns_of_rows c.args.frames.now.rows.now) c.args.frames.now.scenario.now c.args.frames.now.times.now (broadcast_item h d)) (sym c.requires.graph) c.requires.heard
 
 pub started-requires-clause-told : goal.started-requires-clause-told
 started-requires-clause-told c =
-    subst (λ (h : Graph). (e : ℕ) → Contains (inputs h c.args.process) e → IsTold h (columns_of_rows c.args.rows.now) c.args.scenario.now c.args.times.now (message_item h e)) (sym c.problem-problem.ensures.problem) c.requires.received
+    subst (λ (h : Graph). (e : ℕ) → Contains (inputs h c.args.process) e → RowTells h (columns_of_rows c.args.frames.now.rows.now) c.args.frames.now.scenario.now c.args.frames.now.times.now (message_item h e)) (sym c.requires.graph) c.requires.received
 
 pub returns-in_default-clause-carried : goal.returns-in_default-clause-carried
 returns-in_default-clause-carried c =
     let g = c.args.admitted.now.graph in
-    let s = c.args.scenario.now in
+    let s = c.args.frames.now.scenario.now in
     let p = c.args.process in
-    let rows = columns_of_rows c.args.rows.now in
-    let e = c.problem-problem.ensures.problem in
+    let rows = columns_of_rows c.args.frames.now.rows.now in
+    let e = c.requires.graph in
     let first = subst (λ (h : Graph). IsNarrowed h.faults (decided h s p) c.args.cube.now c.narrow_by_decided.new.cube) e c.in_ok-narrow_by_decided.ensures in
     let second = subst (λ (h : Graph). IsNarrowed h.faults (heard h rows s p) c.narrow_by_decided.new.cube c.narrow_by_heard.new.cube) e c.in_ok-narrow_by_heard.ensures in
-    let off : active g s.values p ≡ false = sym (process_active g rows s p c.requires.process c.args.times.now c.requires.active) ∙ ap is_some (sym c.time.ensures ∙ c.in_default.is) in
+    let off : active g s.values p ≡ false = sym (process_active g rows s p c.requires.process c.args.frames.now.times.now c.requires.active) ∙ ap is_some (sym c.time.ensures ∙ c.in_default.is) in
     subst (λ ls. IsNarrowed g.faults ls c.args.cube.now c.narrow_by_heard.new.cube) (sym (passed_idle g rows s p off))
     (narrowed_then g.faults (decided g s p) (heard g rows s p) c.args.cube.now c.narrow_by_decided.new.cube c.narrow_by_heard.new.cube first second)
 
 pub returns-clause-entry : goal.returns-clause-entry
 returns-clause-entry c earlier is =
     let g = c.args.admitted.now.graph in
-    let s = c.args.scenario.now in
+    let s = c.args.frames.now.scenario.now in
     let p = c.args.process in
-    let rows = columns_of_rows c.args.rows.now in
-    let e = c.problem-problem.ensures.problem in
+    let rows = columns_of_rows c.args.frames.now.rows.now in
+    let e = c.requires.graph in
     let first = subst (λ (h : Graph). IsNarrowed h.faults (decided h s p) c.args.cube.now c.narrow_by_decided.new.cube) e c.in_ok-narrow_by_decided.ensures in
     let second = subst (λ (h : Graph). IsNarrowed h.faults (heard h rows s p) c.narrow_by_decided.new.cube c.narrow_by_heard.new.cube) e c.in_ok-narrow_by_heard.ensures in
     let before = second.by (earlier ++ decided g s p) (first.by earlier is) in
@@ -48,15 +48,15 @@ returns-clause-entry c earlier is =
 pub returns-clause-carried : goal.returns-clause-carried
 returns-clause-carried c =
     let g = c.args.admitted.now.graph in
-    let s = c.args.scenario.now in
+    let s = c.args.frames.now.scenario.now in
     let p = c.args.process in
-    let rows = columns_of_rows c.args.rows.now in
-    let e = c.problem-problem.ensures.problem in
+    let rows = columns_of_rows c.args.frames.now.rows.now in
+    let e = c.requires.graph in
     let first = subst (λ (h : Graph). IsNarrowed h.faults (decided h s p) c.args.cube.now c.narrow_by_decided.new.cube) e c.in_ok-narrow_by_decided.ensures in
     let second = subst (λ (h : Graph). IsNarrowed h.faults (heard h rows s p) c.narrow_by_decided.new.cube c.narrow_by_heard.new.cube) e c.in_ok-narrow_by_heard.ensures in
     let third = subst (λ (h : Graph). IsNarrowed h.faults (received_unless_frozen h rows s p) c.narrow_by_heard.new.cube c.started.new.cube) e c.in_ok-entry.ensures.carried in
     let fourth = subst (λ (h : Graph). IsNarrowed h.faults (number_known s p ∷ []) c.started.new.cube c.narrow_to_number.new.cube) e c.in_ok-narrow_to_number.ensures in
-    let on : active g s.values p ≡ true = sym (process_active g rows s p c.requires.process c.args.times.now c.requires.active) ∙ ap is_some (sym c.time.ensures ∙ c.in-Some.is) in
+    let on : active g s.values p ≡ true = sym (process_active g rows s p c.requires.process c.args.frames.now.times.now c.requires.active) ∙ ap is_some (sym c.time.ensures ∙ c.in-Some.is) in
     subst (λ ls. IsNarrowed g.faults ls c.args.cube.now c.narrow_to_number.new.cube) (sym (passed_active g rows s p on))
     (narrowed_then g.faults (decided g s p ++ heard g rows s p) (received_unless_frozen g rows s p ++ number_known s p ∷ []) c.args.cube.now c.narrow_by_heard.new.cube c.narrow_to_number.new.cube
     (narrowed_then g.faults (decided g s p) (heard g rows s p) c.args.cube.now c.narrow_by_decided.new.cube c.narrow_by_heard.new.cube first second)

@@ -8,10 +8,10 @@ use Rattle.cpg_list.proofs.starts.started.Goals as goal
 
 pub returns-clause-entry : goal.returns-clause-entry
 returns-clause-entry c earlier is =
-    let g = c.args.problem.now in
-    let s = c.args.scenario.now in
+    let g = c.args.frames.now.problem.now in
+    let s = c.args.frames.now.scenario.now in
     let p = c.args.process in
-    let rows = columns_of_rows c.args.rows.now in
+    let rows = columns_of_rows c.args.frames.now.rows.now in
     let before = earlier ++ decided g s p ++ heard g rows s p in
     let plain : (process_at g p).frozen ≡ false = sym (c.is_frozen.ensures ∙ frozen_start g p c.requires.process) ∙ c.if-is_frozen.false in
     subst (λ ls. IsKeptOf g s c.args.time ls c.in_ok-entry-2.entry) (sym (start_plain g rows s p earlier plain))

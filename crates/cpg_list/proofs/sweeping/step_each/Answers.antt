@@ -9,19 +9,19 @@ loop-at-init c = let a = c.requires.along in record { count = a.count; stepped =
 
 pub step-requires-clause-along : goal.step-requires-clause-along
 step-requires-clause-along c =
-    let g = c.args.admitted.now.graph in
+    let g = c.args.setting.now.problem.now in
     let s = c.index-scenarios-at.result in
     let p = c.index_mut.result.now in
-    subst (λ r. IsAlong g c.args.order.now c.args.frozen.now r c.args.place p) (sym c.index-scenarios-at.is)
-    (subst (IsAlong g c.args.order.now c.args.frozen.now _ c.args.place) (sym c.index_mut.ensures.value) (c.loop-at.invariant.others c.loop-at.at s p (omega arith) c.loop-at-test.true))
+    subst (λ r. IsAlong g c.args.setting.now.order.now c.args.frozen.now r c.args.place p) (sym c.index-scenarios-at.is)
+    (subst (IsAlong g c.args.setting.now.order.now c.args.frozen.now _ c.args.place) (sym c.index_mut.ensures.value) (c.loop-at.invariant.others c.loop-at.at s p (omega arith) c.loop-at-test.true))
 
 pub loop-at-preserved : goal.loop-at-preserved
 loop-at-preserved c =
-    let g = c.args.admitted.now.graph in
+    let g = c.args.setting.now.problem.now in
     let list = c.args.scenarios.now in
-    stepped_more g c.args.order.now c.args.frozen.now c.args.place list c.loop-at.at c.loop-at.found.items _ c.step.new.self c.loop-at.invariant c.loop-at-test.true
-    (λ d. subst (λ s. IsAlong g c.args.order.now c.args.frozen.now s (c.args.place + 1) c.step.new.self)
+    stepped_more g c.args.setting.now.order.now c.args.frozen.now c.args.place list c.loop-at.at c.loop-at.found.items _ c.step.new.self c.loop-at.invariant c.loop-at-test.true
+    (λ d. subst (λ s. IsAlong g c.args.setting.now.order.now c.args.frozen.now s (c.args.place + 1) c.step.new.self)
     (c.index-scenarios-at.is ∙ get_or_default list c.loop-at.at c.index-scenarios-at.result d c.loop-at-test.true) c.in_ok-step.ensures.along) refl
 
 pub returns : goal.returns
-returns c = stepped_all c.args.admitted.now.graph c.args.order.now c.args.frozen.now c.args.place c.args.scenarios.now c.loop-at.at c.loop-at.found.items c.loop-at.invariant (omega (arith, c.loop-at-test.false, c.loop-at.auto.at-end))
+returns c = stepped_all c.args.setting.now.problem.now c.args.setting.now.order.now c.args.frozen.now c.args.place c.args.scenarios.now c.loop-at.at c.loop-at.found.items c.loop-at.invariant (omega (arith, c.loop-at-test.false, c.loop-at.auto.at-end))

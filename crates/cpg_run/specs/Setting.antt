@@ -1,0 +1,46 @@
+-- What the runs of all scenarios rest on: an admitted graph, a topological order of its processes and the graph's plan.
+use Rattle.std.specs.Prelude.{ℕ, ◌≡◌, max, List, Option}
+use Rattle.cpg_base.specs.Graph.{Graph, process_at}
+use Rattle.cpg_base.specs.Numbers.{greatest}
+use Rattle.cpg_base.specs.Scenario.{Scenario}
+use Rattle.cpg_bus.specs.Plan.{plan_of}
+use Rattle.cpg_order.specs.Urgency.{IsTopological}
+use Rattle.cpg_run.specs.Admitted.{AreAdmitted}
+use Rattle.cpg_run.specs.Progress.{CanSend, HasPlaces, HasSent, IsAt}
+use Rattle.cpg_run.specs.Known.{frozen_in}
+use Rattle.cpg_run.specs.Run.{Times, IsRun, input_bounds}
+use Rattle.cpg_run.specs.declared.setting.Setting.{Setting}
+use Rattle.cpg_run.specs.declared.stepping.Nodes.{Nodes}
+
+pub record IsSetting (setting : Setting) : Type 0 where
+  pub admitted : AreAdmitted setting.problem.now setting.guards.now
+  pub topological : IsTopological setting.problem.now setting.order.now
+  pub plan : setting.plan.now ≡ plan_of setting.problem.now
+
+-- the run of a scenario
+abbrev pub IsRunOf : Setting → List (Option ℕ) → Scenario → Times → Type 0
+IsRunOf setting frozen s t = IsRun setting.problem.now setting.order.now frozen s t
+
+-- a place for all that is known of a run
+abbrev pub HavePlaces : Setting → Times → Nodes → Type 0
+HavePlaces setting known nodes = HasPlaces setting.problem.now known nodes.ready.items nodes.free.items
+
+-- what is known is that of the run before the place i
+abbrev pub AreAt : Setting → List (Option ℕ) → Scenario → ℕ → Times → Nodes → Type 0
+AreAt setting frozen s i known nodes =
+    (t : Times) → IsRunOf setting frozen s t → IsAt setting.problem.now setting.order.now s t i known nodes.ready.items nodes.free.items
+
+-- what is known is that of the run before a process sends
+abbrev pub CanSendIn : Setting → List (Option ℕ) → Scenario → ℕ → Times → ℕ → Type 0
+CanSendIn setting frozen s p known free =
+    (t : Times) → IsRunOf setting frozen s t → CanSend setting.problem.now setting.order.now s t p known free
+
+-- the first n of what a process sends have their times of the run
+abbrev pub HasSentIn : Setting → List (Option ℕ) → Scenario → ℕ → ℕ → Times → Times → ℕ → Type 0
+HasSentIn setting frozen s p n old new free =
+    (t : Times) → IsRunOf setting frozen s t → HasSent setting.problem.now setting.order.now s t p n old new free
+
+-- the start of a process whose node is ready for it at a time
+abbrev pub start_at : Graph → Scenario → Times → List (Option ℕ) → ℕ → ℕ → ℕ
+start_at g s known frozen p ready =
+    max (max (max ready (process_at g p).release) (greatest (input_bounds g s known p))) (frozen_in frozen p)
