@@ -64,7 +64,8 @@ fn excluded<'a>(
     space: &mut Space,
 ) -> Result<Vec<&'a Cube>, OutOfMemory>
     requires { (x : ℕ) → All (λ c. IsKnown problem.now c.cube) (columns_of tables.now.nodes x) }
-    ensures same { IfOk result (λ kept. (s : Scenario) → Lies space.old s → list_any (λ b. matches b.now s) kept.items ≡ list_any (λ b. matches b s) (flat_map (excluded_of tables.entry.now.nodes log.now) (numbers_below (item_count problem.now)))) }
+    ensures same { IfOk result (λ kept. (s : Scenario) → Lies space.old s → list_any (λ b. matches b.now s) kept.items ≡ list_any (λ b.
+        matches b s) (flat_map (excluded_of tables.entry.now.nodes log.now) (numbers_below (item_count problem.now)))) }
     ensures space { IfOk result (λ kept. (s : Scenario) → Lies space.old s → Leaves space.new kept.items s) }
     ensures known { IfOk result (λ kept. All (λ b. IsKnown problem.now b.now) kept.items) }
 {

@@ -42,7 +42,8 @@ fn idle_columns(
 ) -> Result<Vec<(u64, Cube)>, OutOfMemory>
     requires { is_act admitted.now.graph item ≡ true }
     ensures known { IfOk result (λ columns. All (λ c. IsKnown admitted.now.graph c.1) columns.items) }
-    ensures idle { IfOk result (λ columns. (s : Scenario) → IsScenario admitted.now.graph s → list_any (λ c. matches c.1 s) columns.items ≡ not (item_active admitted.now.graph s.values (item_at admitted.now.graph item))) }
+    ensures idle { IfOk result (λ columns. (s : Scenario) → IsScenario admitted.now.graph s →
+        list_any (λ c. matches c.1 s) columns.items ≡ not (item_active admitted.now.graph s.values (item_at admitted.now.graph item))) }
 {
     let active = active_item(alloc, admitted, item)?;
     let idle = idle(&active)?;
@@ -58,7 +59,8 @@ pub fn all_idle(
 ) -> Result<Vec<(u64, Cube)>, OutOfMemory>
     requires { (until : ℕ) × All (IsActBy admitted.now.graph until) acts.now }
     ensures known { IfOk result (λ columns. All (λ c. IsKnown admitted.now.graph c.1) columns.items) }
-    ensures idle { IfOk result (λ columns. (s : Scenario) → IsScenario admitted.now.graph s → list_any (λ c. matches c.1 s) columns.items ≡ is_some_idle admitted.now.graph acts.now s) }
+    ensures idle { IfOk result (λ columns. (s : Scenario) → IsScenario admitted.now.graph s →
+        list_any (λ c. matches c.1 s) columns.items ≡ is_some_idle admitted.now.graph acts.now s) }
 {
     let mut all = Vec::new(alloc);
     for act in acts {

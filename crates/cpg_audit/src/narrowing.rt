@@ -97,10 +97,12 @@ fn take_off<'a>(
     cube: &'a Cube,
     kept: &mut Vec<&'a Cube>,
 ) -> Result<(), OutOfMemory>
-    ensures same { IfOk result (λ _. (s : Scenario) → Leaves space.old kept.old.items s → list_any (λ b. matches b.now s) kept.new.items ≡ (list_any (λ b. matches b.now s) kept.old.items || matches cube.now s)) }
+    ensures same { IfOk result (λ _. (s : Scenario) → Leaves space.old kept.old.items s →
+        list_any (λ b. matches b.now s) kept.new.items ≡ (list_any (λ b. matches b.now s) kept.old.items || matches cube.now s)) }
     ensures space { IfOk result (λ _. (s : Scenario) → Leaves space.old kept.old.items s → Leaves space.new kept.new.items s) }
     ensures grows { IfOk result (λ _. length kept.old.items ≤ length kept.new.items) }
-    ensures known { IfOk result (λ _. (g : Graph) → IsKnown g cube.now → All (λ b. IsKnown g b.now) kept.old.items → All (λ b. IsKnown g b.now) kept.new.items) }
+    ensures known { IfOk result (λ _. (g : Graph) → IsKnown g cube.now → All (λ b. IsKnown g b.now) kept.old.items →
+        All (λ b. IsKnown g b.now) kept.new.items) }
 {
     match extent_of(space, cube.literals()) {
         Extent::Nowhere => return Ok(()),
@@ -119,10 +121,12 @@ pub fn take_off_all<'a>(
     by: &[&'a Cube],
     kept: &mut Vec<&'a Cube>,
 ) -> Result<(), OutOfMemory>
-    ensures same { IfOk result (λ _. (s : Scenario) → Leaves space.old kept.old.items s → list_any (λ b. matches b.now s) kept.new.items ≡ (list_any (λ b. matches b.now s) kept.old.items || list_any (λ b. matches b.now s) by.now)) }
+    ensures same { IfOk result (λ _. (s : Scenario) → Leaves space.old kept.old.items s →
+        list_any (λ b. matches b.now s) kept.new.items ≡ (list_any (λ b. matches b.now s) kept.old.items || list_any (λ b. matches b.now s) by.now)) }
     ensures space { IfOk result (λ _. (s : Scenario) → Leaves space.old kept.old.items s → Leaves space.new kept.new.items s) }
     ensures grows { IfOk result (λ _. length kept.old.items ≤ length kept.new.items) }
-    ensures known { IfOk result (λ _. (g : Graph) → All (λ b. IsKnown g b.now) by.now → All (λ b. IsKnown g b.now) kept.old.items → All (λ b. IsKnown g b.now) kept.new.items) }
+    ensures known { IfOk result (λ _. (g : Graph) → All (λ b. IsKnown g b.now) by.now → All (λ b. IsKnown g b.now) kept.old.items →
+        All (λ b. IsKnown g b.now) kept.new.items) }
 {
     let mut place = by.len();
     while place > 0 {

@@ -12,7 +12,8 @@ fn at_process(problem: &Problem, process: u32, first: &Scenario, second: &Scenar
     requires first { IsScenario problem.now first.now }
     requires second { IsScenario problem.now second.now }
     ensures differ { IfSome result (λ before. (rest : List ℕ) → is_before problem.now (process ∷ rest) first.now second.now ≡ before) }
-    ensures same { IfNone result ((rest : List ℕ) → is_before problem.now (process ∷ rest) first.now second.now ≡ is_before problem.now rest first.now second.now) }
+    ensures same { IfNone result ((rest : List ℕ) →
+        is_before problem.now (process ∷ rest) first.now second.now ≡ is_before problem.now rest first.now second.now) }
 {
     let faults = first.fault(process);
     let others = second.fault(process);

@@ -33,9 +33,23 @@ impl Model for Problem {
 
     ghost Value = { Graph };
 
-    ghost view = { λ p. record { faults = p.faults; deadline = p.deadline; nodes = p.nodes.items; slots = p.slots.items; processes = p.processes.items; edges = p.edges.items } };
+    ghost view = { λ p. record {
+      faults = p.faults;
+      deadline = p.deadline;
+      nodes = p.nodes.items;
+      slots = p.slots.items;
+      processes = p.processes.items;
+      edges = p.edges.items;
+    } };
 
-    ghost invariant = { λ p. let g : Graph = record { faults = p.faults; deadline = p.deadline; nodes = p.nodes.items; slots = p.slots.items; processes = p.processes.items; edges = p.edges.items } in IsWithinLimits g × (p.conditions ≡ disjunctions g) };
+    ghost invariant = { λ p. let g : Graph = record {
+      faults = p.faults;
+      deadline = p.deadline;
+      nodes = p.nodes.items;
+      slots = p.slots.items;
+      processes = p.processes.items;
+      edges = p.edges.items;
+    } in IsWithinLimits g × (p.conditions ≡ disjunctions g) };
 }
 
 /// Whether there are few enough of each, and the single numbers are in range.
@@ -47,7 +61,8 @@ fn are_counts_within(
     processes: usize,
     edges: usize,
 ) -> bool
-    ensures { IsTrue result ↔ ((faults ≤ MOST_FAULTS) × (deadline ≤ LONGEST) × (nodes ≤ MOST_NODES) × (slots ≤ MOST_NODES) × (processes ≤ MOST_PROCESSES) × (edges ≤ MOST_EDGES)) }
+    ensures { IsTrue result ↔ ((faults ≤ MOST_FAULTS) × (deadline ≤ LONGEST) × (nodes ≤ MOST_NODES) × (slots ≤ MOST_NODES) ×
+        (processes ≤ MOST_PROCESSES) × (edges ≤ MOST_EDGES)) }
 {
     if faults > MOST_FAULTS || deadline > LONGEST || nodes > MOST_NODES || slots > MOST_NODES {
         return false;
@@ -73,9 +88,23 @@ impl Problem {
         processes: Vec<Process>,
         edges: Vec<Edge>,
     ) -> Option<Problem>
-        ensures problem { IfSome result (λ g. g ≡ record { faults = faults; deadline = deadline; nodes = nodes.items; slots = slots.items; processes = processes.items; edges = edges.items }) }
+        ensures problem { IfSome result (λ g. g ≡ record {
+          faults = faults;
+          deadline = deadline;
+          nodes = nodes.items;
+          slots = slots.items;
+          processes = processes.items;
+          edges = edges.items;
+        }) }
         ensures within { IfSome result IsWithinLimits }
-        ensures refused { IfNone result (¬ IsWithinLimits (record { faults = faults; deadline = deadline; nodes = nodes.items; slots = slots.items; processes = processes.items; edges = edges.items })) }
+        ensures refused { IfNone result (¬ IsWithinLimits (record {
+          faults = faults;
+          deadline = deadline;
+          nodes = nodes.items;
+          slots = slots.items;
+          processes = processes.items;
+          edges = edges.items;
+        })) }
     {
         if !are_counts_within(
             faults,
@@ -128,8 +157,22 @@ impl Problem {
         processes: Vec<Process>,
         edges: Vec<Edge>,
     ) -> Problem
-        requires { IsWithinLimits (record { faults = faults; deadline = deadline; nodes = nodes.items; slots = slots.items; processes = processes.items; edges = edges.items }) }
-        ensures { result ≡ record { faults = faults; deadline = deadline; nodes = nodes.items; slots = slots.items; processes = processes.items; edges = edges.items } }
+        requires { IsWithinLimits (record {
+          faults = faults;
+          deadline = deadline;
+          nodes = nodes.items;
+          slots = slots.items;
+          processes = processes.items;
+          edges = edges.items;
+        }) }
+        ensures { result ≡ record {
+          faults = faults;
+          deadline = deadline;
+          nodes = nodes.items;
+          slots = slots.items;
+          processes = processes.items;
+          edges = edges.items;
+        } }
     {
         let Some(conditions) = Conditions::of(processes.len(), edges.as_slice()) else {
             unreachable!()

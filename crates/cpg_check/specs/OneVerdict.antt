@@ -16,6 +16,8 @@ pub record HaveOneVerdict : Type 0 where
   -- a head differs first in one part
   pub parts : (g : Graph) (h : Head) (p q : HeadPart) → IsFirstDifference g h p → IsFirstDifference g h q → p ≡ q
   -- tables have one first violation
-  pub faults : (g : Graph) (order : List ℕ) (tables : List NodeTable) (e f : Fault) → IsTopological g order → IsFirstFault g order tables e → IsFirstFault g order tables f → e ≡ f
+  pub faults : (g : Graph) (order : List ℕ) (tables : List NodeTable) (e f : Fault) → IsTopological g order →
+      IsFirstFault g order tables e → IsFirstFault g order tables f → e ≡ f
   -- and no two verdicts
-  pub verdicts : (g : Graph) (order : List ℕ) (t : Tables) (v w : Verdict) → IsTopological g order → length t.nodes ≡ length g.nodes → ShowsVerdict g order t v → ShowsVerdict g order t w → v ≡ w
+  pub verdicts : (g : Graph) (order : List ℕ) (t : Tables) (v w : Verdict) → IsTopological g order → length t.nodes ≡ length g.nodes →
+      ShowsVerdict g order t v → ShowsVerdict g order t w → v ≡ w

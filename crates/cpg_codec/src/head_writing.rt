@@ -82,7 +82,8 @@ fn put_timing<O: Sink>(
     times: &[u64],
     extra: Option<Extra>,
 ) -> Result<(), Failed>
-    ensures put { Puts (O.state sink.old).taken (O.state sink.new).taken buffer.old buffer.new result (flat_map (to_be_bytes w64) times.now ++ extra_bytes extra) }
+    ensures put { Puts (O.state sink.old).taken (O.state sink.new).taken buffer.old buffer.new result (flat_map (to_be_bytes w64)
+        times.now ++ extra_bytes extra) }
     ensures cause { HasCause (O.state sink.old).faults (O.state sink.new).faults result }
 {
     put_times(buffer, sink, times)?;
@@ -96,7 +97,10 @@ fn put_process<O: Sink>(
     extra: Option<Extra>,
 ) -> Result<(), Failed>
     requires { process.now.node < 256 }
-    ensures put { Puts (O.state sink.old).taken (O.state sink.new).taken buffer.old buffer.new result (process_bytes (record { process = process.now; extra = extra })) }
+    ensures put { Puts (O.state sink.old).taken (O.state sink.new).taken buffer.old buffer.new result (process_bytes (record {
+      process = process.now;
+      extra = extra;
+    })) }
     ensures cause { HasCause (O.state sink.old).faults (O.state sink.new).faults result }
 {
     put_name(buffer, sink, &process.name)?;
@@ -147,7 +151,8 @@ fn put_counted_edges<O: Sink>(
 ) -> Result<(), Failed>
     requires few { length edges.now ≤ 256 }
     requires short { All IsShortEdge edges.now }
-    ensures put { Puts (O.state sink.old).taken (O.state sink.new).taken buffer.old buffer.new result (to_be_bytes w16 (length edges.now) ++ flat_map edge_bytes edges.now) }
+    ensures put { Puts (O.state sink.old).taken (O.state sink.new).taken buffer.old buffer.new result (to_be_bytes w16 (length edges.now)
+        ++ flat_map edge_bytes edges.now) }
     ensures cause { HasCause (O.state sink.old).faults (O.state sink.new).faults result }
 {
     put_short(buffer, sink, edges.len() as u16)?;
@@ -156,7 +161,8 @@ fn put_counted_edges<O: Sink>(
 
 /// The processes and the edges.
 fn put_graph<O: Sink>(buffer: &mut Buffer, sink: &mut O, head: &Head) -> Result<(), Failed>
-    ensures put { Puts (O.state sink.old).taken (O.state sink.new).taken buffer.old buffer.new result (byte (length head.now.processes) ++ (flat_map process_bytes (written head.now) ++ (to_be_bytes w16 (length head.now.edges) ++ flat_map edge_bytes head.now.edges))) }
+    ensures put { Puts (O.state sink.old).taken (O.state sink.new).taken buffer.old buffer.new result (byte (length head.now.processes) ++
+        (flat_map process_bytes (written head.now) ++ (to_be_bytes w16 (length head.now.edges) ++ flat_map edge_bytes head.now.edges))) }
     ensures cause { HasCause (O.state sink.old).faults (O.state sink.new).faults result }
 {
     buffer.put(sink, &[head.processes().len() as u8])?;

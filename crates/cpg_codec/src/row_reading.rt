@@ -101,7 +101,8 @@ fn literal_by_fields<'a>(
 /// Whether a literal may stand here, with `left` more behind it.
 fn is_next(space: &Space, left: u32, least: u32, literal: Literal) -> bool
     requires { IsSpace space.now }
-    ensures { IsTrue result → (variable_may space.now least left literal.variable ≡ true) × (literal.low ≤ low_end space.now literal.variable) × (literal.low ≤ literal.high) × (literal.high ≤ high_end space.now literal.variable literal.low) }
+    ensures { IsTrue result → (variable_may space.now least left literal.variable ≡ true) ×
+        (literal.low ≤ low_end space.now literal.variable) × (literal.low ≤ literal.high) × (literal.high ≤ high_end space.now literal.variable literal.low) }
 {
     if !variable_may(space, least, left, literal.variable) {
         return false;

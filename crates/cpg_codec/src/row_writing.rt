@@ -61,7 +61,8 @@ fn put_counted<O: Sink>(
     literals: &[Literal],
 ) -> Result<(), Failed>
     requires { length literals.now ≤ 255 }
-    ensures put { Puts (O.state sink.old).taken (O.state sink.new).taken buffer.old buffer.new result (byte (length literals.now) ++ flat_map literal_bytes literals.now) }
+    ensures put { Puts (O.state sink.old).taken (O.state sink.new).taken buffer.old buffer.new result (byte (length literals.now)
+        ++ flat_map literal_bytes literals.now) }
     ensures cause { HasCause (O.state sink.old).faults (O.state sink.new).faults result }
 {
     buffer.put(sink, &[literals.len() as u8])?;

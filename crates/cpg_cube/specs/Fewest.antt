@@ -33,7 +33,8 @@ Needs cubes r = (count : ℕ) → count ≡ 128 → (n : ℕ → ℕ) → AreVal
 
 -- nor with fewer faults than a room has and none of one process
 abbrev pub NeedsWithout : List (List Literal) → ℕ → ℕ → ℕ → Type 0
-NeedsWithout cubes variable room r = (count : ℕ) → count ≡ 128 → (n : ℕ → ℕ) → AreValues n → n variable ≡ 0 → sum_by n (numbers_below count) ≤ room → is_any_at n cubes ≡ false → r ≤ sum_by n (numbers_below count)
+NeedsWithout cubes variable room r = (count : ℕ) → count ≡ 128 → (n : ℕ → ℕ) → AreValues n → n variable ≡ 0 →
+    sum_by n (numbers_below count) ≤ room → is_any_at n cubes ≡ false → r ≤ sum_by n (numbers_below count)
 
 -- the numbers with one less of a variable
 abbrev pub after : ℕ → (ℕ → ℕ) → ℕ → ℕ

@@ -20,12 +20,14 @@ lows_along g order low = flat_map (lows_of g low) order
 
 -- no column has the lows of its cube before those of an earlier one
 abbrev pub AreByLows : {T : Type 0} → (T → List Literal) → Graph → List ℕ → List T → Type 0
-AreByLows {T} cube g order columns = AllPairs (λ (c d : T). is_below (lows_along g order (low_in (cube d))) (lows_along g order (low_in (cube c))) ≡ false) columns
+AreByLows {T} cube g order columns = AllPairs (λ (c d : T).
+    is_below (lows_along g order (low_in (cube d))) (lows_along g order (low_in (cube c))) ≡ false) columns
 
 -- no column has the lows of its cube before those of the column at a place
 pub record IsFirstByLows {T : Type 0} (cube : T → List Literal) (g : Graph) (order : List ℕ) (columns : List T) (at : ℕ) : Type 0 where
   pub there : at < length columns
-  pub first : (j : ℕ) (d : T) → j < length columns → is_below (lows_along g order (low_in (cube (get_or columns j d)))) (lows_along g order (low_in (cube (get_or columns at d)))) ≡ false
+  pub first : (j : ℕ) (d : T) → j < length columns →
+      is_below (lows_along g order (low_in (cube (get_or columns j d)))) (lows_along g order (low_in (cube (get_or columns at d)))) ≡ false
 
 -- ---- the code asks for them by variable
 

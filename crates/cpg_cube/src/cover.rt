@@ -68,7 +68,8 @@ fn meeting<'a>(
 ) -> Result<Vec<&'a Cube>, OutOfMemory>
     requires cube { IsKnown problem.now cube.now }
     requires list { All (λ b. IsKnown problem.now b.now) by.now }
-    ensures same { IfOk result (λ kept. (s : Scenario) → IsScenario problem.now s → is_left (map (λ b. b.now) kept.items) cube.now s ≡ is_left (map (λ b. b.now) by.now) cube.now s) }
+    ensures same { IfOk result (λ kept. (s : Scenario) → IsScenario problem.now s →
+        is_left (map (λ b. b.now) kept.items) cube.now s ≡ is_left (map (λ b. b.now) by.now) cube.now s) }
     ensures known { IfOk result (λ kept. All (λ b. IsKnown problem.now b.now) kept.items) }
     ensures few { IfOk result (λ kept. vec_len kept ≤ length by.now) }
 {
@@ -515,7 +516,8 @@ pub fn covers(
     requires order { length order.now ≡ process_count problem.now }
     requires cube { IsKnown problem.now cube.now }
     requires list { All (IsKnown problem.now) by.now }
-    ensures covered { IfOk result (λ r. IfNone r ((s : Scenario) → IsScenario problem.now s → matches cube.now s ≡ true → list_any (λ b. matches b s) by.now ≡ true)) }
+    ensures covered { IfOk result (λ r. IfNone r ((s : Scenario) → IsScenario problem.now s → matches cube.now s ≡ true →
+        list_any (λ b. matches b s) by.now ≡ true)) }
     ensures least { IfOk result (λ r. IfSome r (IsLeast problem.now order.now (λ s. IsTrue (matches cube.now s && not (list_any (λ b. matches b s) by.now))))) }
 {
     let cubes = lent(alloc, by)?;

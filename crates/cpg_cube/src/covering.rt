@@ -34,7 +34,8 @@ struct Ground {
 impl Ground {
     /// What a literal asks beyond the low of its variable, if it may hold.
     fn beyond(&self, literal: &Literal) -> Option<Literal>
-        ensures { IfSome result (λ l. (s : ℕ → ℕ) → get_or self.now.bounds.low literal.now.variable 0 ≤ s literal.now.variable → holds_at (beyond self.now.bounds.low s) l ≡ true → holds_at s literal.now ≡ true) }
+        ensures { IfSome result (λ l. (s : ℕ → ℕ) → get_or self.now.bounds.low literal.now.variable 0 ≤ s literal.now.variable →
+            holds_at (beyond self.now.bounds.low s) l ≡ true → holds_at s literal.now ≡ true) }
     {
         let low = self.bounds.low[literal.variable as usize];
         if literal.high < low {
@@ -57,7 +58,8 @@ impl Ground {
         alloc: Global,
         literals: &[Literal],
     ) -> Result<Option<Vec<Literal>>, OutOfMemory>
-        ensures { IfOk result (λ r. IfSome r (λ asked. (s : ℕ → ℕ) → IsOn self.now.bounds.low self.now.bounds.high self.now.left s → matches_at (beyond self.now.bounds.low s) asked.items ≡ true → matches_at s literals.now ≡ true)) }
+        ensures { IfOk result (λ r. IfSome r (λ asked. (s : ℕ → ℕ) → IsOn self.now.bounds.low self.now.bounds.high self.now.left s →
+            matches_at (beyond self.now.bounds.low s) asked.items ≡ true → matches_at s literals.now ≡ true)) }
     {
         let mut asked = Vec::new(alloc);
         for literal in literals {
@@ -78,7 +80,9 @@ impl Ground {
         other: &Cube,
         cubes: &mut Vec<Cube>,
     ) -> Result<(), OutOfMemory>
-        ensures { IfOk result (λ _. (s : ℕ → ℕ) → IsOn self.now.bounds.low self.now.bounds.high self.now.left s → is_any_at (beyond self.now.bounds.low s) cubes.new.items ≡ true → (is_any_at (beyond self.now.bounds.low s) cubes.old.items || matches_at s other.now) ≡ true) }
+        ensures { IfOk result (λ _. (s : ℕ → ℕ) → IsOn self.now.bounds.low self.now.bounds.high self.now.left s →
+            is_any_at (beyond self.now.bounds.low s) cubes.new.items ≡ true →
+            (is_any_at (beyond self.now.bounds.low s) cubes.old.items || matches_at s other.now) ≡ true) }
     {
         if let Some(asked) = self.asked(alloc, other.literals())? {
             add_asked(alloc, cubes, asked.as_slice())?;
@@ -88,7 +92,8 @@ impl Ground {
 
     /// What the cubes of a list ask beyond the lows.
     fn cubes(&self, alloc: Global, by: &[&Cube]) -> Result<Vec<Cube>, OutOfMemory>
-        ensures { IfOk result (λ cubes. (s : ℕ → ℕ) → IsOn self.now.bounds.low self.now.bounds.high self.now.left s → is_any_at (beyond self.now.bounds.low s) cubes.items ≡ true → list_any (λ b. matches_at s b.now) by.now ≡ true) }
+        ensures { IfOk result (λ cubes. (s : ℕ → ℕ) → IsOn self.now.bounds.low self.now.bounds.high self.now.left s →
+            is_any_at (beyond self.now.bounds.low s) cubes.items ≡ true → list_any (λ b. matches_at s b.now) by.now ≡ true) }
     {
         let mut cubes = Vec::new(alloc);
         for other in by {
@@ -119,7 +124,8 @@ impl Ground {
         literals: &[Literal],
         cubes: &mut Vec<Cube>,
     ) -> Result<(), OutOfMemory>
-        ensures { IfOk result (λ _. (s : ℕ → ℕ) → IsNarrow self.now.bounds.low s literals.now → is_any_at (beyond self.now.bounds.low s) cubes.new.items ≡ true → is_any_at (beyond self.now.bounds.low s) cubes.old.items ≡ true) }
+        ensures { IfOk result (λ _. (s : ℕ → ℕ) → IsNarrow self.now.bounds.low s literals.now →
+            is_any_at (beyond self.now.bounds.low s) cubes.new.items ≡ true → is_any_at (beyond self.now.bounds.low s) cubes.old.items ≡ true) }
     {
         for literal in literals {
             if let Some(over) = self.over(literal) {
@@ -139,7 +145,8 @@ pub(crate) fn is_surely_covered(
     memory: &mut Memory,
 ) -> Result<bool, OutOfMemory>
     requires { IsKnown problem.now cube.now }
-    ensures { IfOk result (λ covered. OnTrue covered ((s : Scenario) → IsScenario problem.now s → matches cube.now s ≡ true → list_any (λ b. matches b.now s) by.now ≡ true)) }
+    ensures { IfOk result (λ covered. OnTrue covered ((s : Scenario) → IsScenario problem.now s → matches cube.now s ≡ true →
+        list_any (λ b. matches b.now s) by.now ≡ true)) }
 {
     let Some(left) = budget_left(problem.faults(), cube.literals()) else {
         return Ok(false);

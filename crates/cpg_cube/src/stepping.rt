@@ -116,7 +116,8 @@ fn asked_after(
     step: Step,
     room: u8,
 ) -> Result<Option<Vec<Literal>>, OutOfMemory>
-    ensures { IfOk result (λ r. IfSome r (λ asked. (n : ℕ → ℕ) → IsStep step.variable step.more room n → matches_at (after step.variable n) asked.items ≡ true → matches_at n literals.now ≡ true)) }
+    ensures { IfOk result (λ r. IfSome r (λ asked. (n : ℕ → ℕ) → IsStep step.variable step.more room n →
+        matches_at (after step.variable n) asked.items ≡ true → matches_at n literals.now ≡ true)) }
 {
     let mut asked = Vec::new(alloc);
     for literal in literals {
@@ -180,7 +181,8 @@ pub(crate) fn stepped(
     step: Step,
     room: u8,
 ) -> Result<Vec<Cube>, OutOfMemory>
-    ensures { IfOk result (λ rest. (n : ℕ → ℕ) → IsStep step.variable step.more room n → is_any_at (after step.variable n) rest.items ≡ true → is_any_at n cubes.now ≡ true) }
+    ensures { IfOk result (λ rest. (n : ℕ → ℕ) → IsStep step.variable step.more room n →
+        is_any_at (after step.variable n) rest.items ≡ true → is_any_at n cubes.now ≡ true) }
 {
     let mut rest = Vec::new(alloc);
     for cube in cubes {

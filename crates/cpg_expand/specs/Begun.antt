@@ -18,7 +18,8 @@ use Rattle.cpg_expand.specs.declared.forest.Ready.{Ready}
 
 -- where it is active, its start and its end, and when its node goes on after it, if a later process waits for that; the start comes
 -- about somehow, by where it is active
-pub record IsBegunBy (how : TreeState Bool → TreeState (Option ℕ) → Type 0) (g : Graph) (order : List ℕ) (p : ℕ) (guard : Guard) (old new : ForestState) (chooser : TreeState Bool) : Type 0 where
+pub record IsBegunBy (how : TreeState Bool → TreeState (Option ℕ) → Type 0) (g : Graph) (order : List ℕ) (p : ℕ) (guard : Guard)
+    (old new : ForestState) (chooser : TreeState Bool) : Type 0 where
   pub chooser_tree : IsTree g chooser
   pub actives : IsActiveTree g.faults guard chooser
   pub start : TreeState (Option ℕ)
@@ -40,7 +41,8 @@ abbrev pub thawed_start : Graph → ℕ → ForestState → Guard → TreeState 
 thawed_start g p f guard chooser start = IsThawedStart g p f guard start
 
 -- at the latest time of all
-pub record IsFrozenStart (g : Graph) (order : List ℕ) (guards : Guards) (p : ℕ) (f : ForestState) (before after : List (Option ℕ)) (chooser : TreeState Bool) (start : TreeState (Option ℕ)) : Type 0 where
+pub record IsFrozenStart (g : Graph) (order : List ℕ) (guards : Guards) (p : ℕ) (f : ForestState) (before after : List (Option ℕ))
+    (chooser : TreeState Bool) (start : TreeState (Option ℕ)) : Type 0 where
   pub from : ℕ
   pub cut : IsCut g order guards (node_of g p) (place order p) from
   pub latest : Option ℕ
@@ -49,7 +51,8 @@ pub record IsFrozenStart (g : Graph) (order : List ℕ) (guards : Guards) (p : �
 
 abbrev pub any_start : Graph → List ℕ → Guards → ℕ → ForestState → List (Option ℕ) → List (Option ℕ) → TreeState Bool → TreeState (Option ℕ) → Type 0
 any_start g order guards p f before after chooser start =
-    ((is_frozen g p ≡ false) × (after ≡ before) × thawed_start g p f (tree_of guards p) chooser start) ⊎ ((is_frozen g p ≡ true) × IsFrozenStart g order guards p f before after chooser start)
+    ((is_frozen g p ≡ false) × (after ≡ before) × thawed_start g p f (tree_of guards p) chooser start) ⊎ ((is_frozen g p ≡ true) ×
+    IsFrozenStart g order guards p f before after chooser start)
 
 abbrev pub IsBegunThawed : Graph → List ℕ → ℕ → Guard → ForestState → ForestState → TreeState Bool → Type 0
 IsBegunThawed g order p guard old new chooser = IsBegunBy (thawed_start g p old guard) g order p guard old new chooser

@@ -20,7 +20,8 @@ durations_of g p = map (duration g p) (numbers_below (g.faults + 1))
 
 -- the ends of a process, by its starts and its count
 abbrev pub IsEndTree : Graph → ℕ → TreeState (Option ℕ) → TreeState (Option ℕ) → Type 0
-IsEndTree g p start t = (s : Scenario) → HasFew g.faults s → (literals : List Literal) (x : Option ℕ) → Tells s literals x start → Tells s (literals ++ number_known s p ∷ []) (ended (durations_of g p) (number_of s p) x) t
+IsEndTree g p start t = (s : Scenario) → HasFew g.faults s → (literals : List Literal) (x : Option ℕ) → Tells s literals x start →
+    Tells s (literals ++ number_known s p ∷ []) (ended (durations_of g p) (number_of s p) x) t
 
 -- the end where a process is active, and else the time for which it would have waited
 abbrev pub IsReadyTree : ℕ → TreeState Bool → TreeState (Option ℕ) → TreeState ℕ → TreeState ℕ → Type 0

@@ -27,7 +27,8 @@ on_node g order i node = filter (λ q. node_of g q == node) (take i order)
 
 -- rows in which what is sent for the processes before the place i has the columns that its tree lists
 pub record RowsHold (g : Graph) (order : List ℕ) (i : ℕ) (f : ForestState) (rows : List (List Column)) : Type 0 where
-  pub sends : (x : ℕ) → x < item_count g → process_count g ≤ x → place order (producer g x) < i → (path : Path (Option ℕ)) (time : ℕ) → Contains (times_of g f x).paths path → path.1 ≡ Some time →
+  pub sends : (x : ℕ) → x < item_count g → process_count g ≤ x → place order (producer g x) < i → (path : Path (Option ℕ)) (time : ℕ) →
+      Contains (times_of g f x).paths path → path.1 ≡ Some time →
       (c : Column) × Contains (row_at rows x) c × (c.cube ≡ path.0)
 
 -- a tree tells when a node is ready, and no more than what the node carries on
@@ -61,10 +62,13 @@ IsDone g order p k x = IsEarlier g order (place order p) x ⊎ ((x ≡ p) ⊎ Co
 -- and they tell the start and the end of a process and the times of the first k items that it sends
 pub record SendLines (g : Graph) (order : List ℕ) (rows : List (List Column)) (s : Scenario) (t : Times) (p k : ℕ) (f : ForestState) : Type 0 where
   pub times : (x : ℕ) → x < item_count g → IsDone g order p k x → Tells s (carried g order rows s x) (get_or t.times x None) (times_of g f x)
-  pub ends : (q : ℕ) → q < process_count g → place order q < place order p + 1 → Tells s (carried_at_end g order rows s q) (get_or t.ends q None) (ends_of g f q)
-  pub ready : (node : ℕ) → node < length g.nodes → IsWaitedFor g order (place order p + 1) node → IsReadyLine g order rows s t (place order p + 1) node (ready_of g f node)
+  pub ends : (q : ℕ) → q < process_count g → place order q < place order p + 1 →
+      Tells s (carried_at_end g order rows s q) (get_or t.ends q None) (ends_of g f q)
+  pub ready : (node : ℕ) → node < length g.nodes → IsWaitedFor g order (place order p + 1) node →
+      IsReadyLine g order rows s t (place order p + 1) node (ready_of g f node)
   pub here : IsQueuedFor g order (place order p) (node_of g p) → IsFreeOnce g order rows s t p k f
-  pub free : (node : ℕ) → node < length g.nodes → node ≢ node_of g p → IsQueuedFor g order (place order p) node → IsFreeLine g order rows s t (place order p) node (free_of g f node)
+  pub free : (node : ℕ) → node < length g.nodes → node ≢ node_of g p → IsQueuedFor g order (place order p) node →
+      IsFreeLine g order rows s t (place order p) node (free_of g f node)
 
 -- the frozen items of these have their frozen times, and no other item has one
 pub record AreSettledOf (g : Graph) (order : List ℕ) (Done : ℕ → Type 0) (frozen : List (Option ℕ)) : Type 0 where
@@ -82,14 +86,16 @@ pub record IsGrown (g : Graph) (order : List ℕ) (i : ℕ) (frozen : List (Opti
   pub trees : HasTrees g f
   pub unsent : LeavesUnsent g f
   pub settled : AreSettledOf g order (IsEarlier g order i) frozen
-  pub lines : (rows : List (List Column)) → RowsHold g order i f rows → (s : Scenario) → IsScenario g s → (t : Times) → IsRun g order frozen s t → Lines g order rows s t i f
+  pub lines : (rows : List (List Column)) → RowsHold g order i f rows → (s : Scenario) → IsScenario g s → (t : Times) →
+      IsRun g order frozen s t → Lines g order rows s t i f
 
 -- and a process has begun and sent the first k of its items
 pub record IsSending (g : Graph) (order : List ℕ) (p k : ℕ) (frozen : List (Option ℕ)) (f : ForestState) : Type 0 where
   pub trees : HasTrees g f
   pub unsent : LeavesUnsent g f
   pub settled : AreSettledOf g order (IsDone g order p k) frozen
-  pub lines : (rows : List (List Column)) → RowsHold g order (place order p) f rows → (s : Scenario) → IsScenario g s → (t : Times) → IsRun g order frozen s t → SendLines g order rows s t p k f
+  pub lines : (rows : List (List Column)) → RowsHold g order (place order p) f rows → (s : Scenario) → IsScenario g s → (t : Times) →
+      IsRun g order frozen s t → SendLines g order rows s t p k f
 
 -- a process whose place is next is gone over: the trees are grown up to the place behind it
 abbrev pub IsGrownBy : Graph → List ℕ → ℕ → List (Option ℕ) → ForestState → List (Option ℕ) → ForestState → Type 0

@@ -26,7 +26,8 @@ values_known s cs = map (value_known s) cs
 
 -- the tree that the value of a condition picks
 abbrev pub PicksByValue : {T : Type 0} → ℕ → ℕ → TreeState T → TreeState T → TreeState T → Type 0
-PicksByValue {T} k c high low t = (s : Scenario) → HasFew k s → (literals : List Literal) (x : T) → Tells s literals x (if get_or s.values c false then high else low) → Tells s (value_known s c ∷ literals) x t
+PicksByValue {T} k c high low t = (s : Scenario) → HasFew k s → (literals : List Literal) (x : T) →
+    Tells s literals x (if get_or s.values c false then high else low) → Tells s (value_known s c ∷ literals) x t
 
 -- where a guard comes to an activation
 abbrev pub IsActiveTree : ℕ → Guard → TreeState Bool → Type 0
@@ -60,7 +61,8 @@ AreThere g time ready edges = (e : ℕ) → Contains edges e → is_message g e 
 
 -- the starts after a release and after these inputs are there too
 abbrev pub IsStartAfter : Graph → ForestState → TreeState ℕ → ℕ → List ℕ → TreeState (Option ℕ) → Type 0
-IsStartAfter g f wait release edges t = (s : Scenario) → HasFew g.faults s → (base : List Literal) (x : ℕ) → Tells s base x wait → (tell : ℕ → List Literal) (time : ℕ → Option ℕ) → AreThere g time x edges →
+IsStartAfter g f wait release edges t = (s : Scenario) → HasFew g.faults s → (base : List Literal) (x : ℕ) → Tells s base x wait →
+    (tell : ℕ → List Literal) (time : ℕ → Option ℕ) → AreThere g time x edges →
     ((e : ℕ) → Contains edges e → Tells s (tell e) (time e) (input_tree g f e)) →
     Tells s (base ++ flat_map tell edges) (Some (max (max x release) (latest_of (input_delay g) time edges))) t
 
@@ -78,13 +80,15 @@ abbrev pub start_at : ℕ → ℕ → (ℕ → ℕ) → (ℕ → Option ℕ) →
 start_at wait release delay time inputs a = if is_active a then Some (max (max wait release) (latest_of delay time (awaited inputs a))) else None
 
 abbrev pub IsStartBy : Graph → ForestState → TreeState ℕ → ℕ → List ℕ → Activation → TreeState (Option ℕ) → Type 0
-IsStartBy g f wait release inputs a t = (s : Scenario) → HasFew g.faults s → (base : List Literal) (x : ℕ) → Tells s base x wait → (tell : ℕ → List Literal) (time : ℕ → Option ℕ) → AreThere g time x (awaited inputs a) →
+IsStartBy g f wait release inputs a t = (s : Scenario) → HasFew g.faults s → (base : List Literal) (x : ℕ) → Tells s base x wait →
+    (tell : ℕ → List Literal) (time : ℕ → Option ℕ) → AreThere g time x (awaited inputs a) →
     ((e : ℕ) → Contains (awaited inputs a) e → Tells s (tell e) (time e) (input_tree g f e)) →
     Tells s (start_says base tell inputs a) (start_at x release (input_delay g) time inputs a) t
 
 -- the starts of a process with a guard
 abbrev pub IsStartTree : Graph → ForestState → TreeState ℕ → ℕ → List ℕ → Guard → TreeState (Option ℕ) → Type 0
-IsStartTree g f wait release inputs guard t = (s : Scenario) → HasFew g.faults s → (base : List Literal) (x : ℕ) → Tells s base x wait → (tell : ℕ → List Literal) (time : ℕ → Option ℕ) → AreThere g time x (awaited inputs (outcome_at guard s.values)) →
+IsStartTree g f wait release inputs guard t = (s : Scenario) → HasFew g.faults s → (base : List Literal) (x : ℕ) → Tells s base x wait →
+    (tell : ℕ → List Literal) (time : ℕ → Option ℕ) → AreThere g time x (awaited inputs (outcome_at guard s.values)) →
     ((e : ℕ) → Contains (awaited inputs (outcome_at guard s.values)) e → Tells s (tell e) (time e) (input_tree g f e)) →
     Tells s (values_known s (way guard s.values) ++ start_says base tell inputs (outcome_at guard s.values)) (start_at x release (input_delay g) time inputs (outcome_at guard s.values)) t
 

@@ -8,7 +8,8 @@ use Rattle.cpg_expand.specs.Agreeing.{Tells}
 use Rattle.cpg_expand.specs.Values.{time_later}
 
 abbrev pub IsLaterTree : ℕ → ℕ → TreeState (Option ℕ) → TreeState ℕ → Type 0
-IsLaterTree k delay tree t = (s : Scenario) → HasFew k s → (literals : List Literal) (x : Option ℕ) → Tells s literals x tree → Tells s literals (time_later delay x) t
+IsLaterTree k delay tree t = (s : Scenario) → HasFew k s → (literals : List Literal) (x : Option ℕ) → Tells s literals x tree →
+    Tells s literals (time_later delay x) t
 
 -- a tree tells what another one does
 abbrev pub IsNoMore : ℕ → TreeState ℕ → TreeState ℕ → Type 0
@@ -16,4 +17,5 @@ IsNoMore k tree t = (s : Scenario) → HasFew k s → (literals : List Literal) 
 
 -- the later of the times of two trees
 abbrev pub IsLatest : ℕ → TreeState ℕ → TreeState ℕ → TreeState ℕ → Type 0
-IsLatest k one two t = (s : Scenario) → HasFew k s → (first second : List Literal) (x y : ℕ) → Tells s first x one → Tells s second y two → Tells s (first ++ second) (max x y) t
+IsLatest k one two t = (s : Scenario) → HasFew k s → (first second : List Literal) (x y : ℕ) → Tells s first x one → Tells s second y two →
+    Tells s (first ++ second) (max x y) t

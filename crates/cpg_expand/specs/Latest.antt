@@ -39,7 +39,8 @@ pub record HasEndedOf (g : Graph) (order : List ℕ) (f : ForestState) (active :
   pub there : HasEnded g order f active node from to process n s
 
 -- in a scenario in which a process is active a node has heard a condition that a guard of one of its processes between two places tests
-pub record HasHeard (g : Graph) (order : List ℕ) (guards : Guards) (f : ForestState) (active : TreeState Bool) (node from to c n : ℕ) (s : Scenario) : Type 0 where
+pub record HasHeard (g : Graph) (order : List ℕ) (guards : Guards) (f : ForestState) (active : TreeState Bool) (node from to c n : ℕ)
+    (s : Scenario) : Type 0 where
   pub asked : IsAskedOf g order guards node from to c (process_count g) s.values
   pub acts : HasValue active.paths true s
   pub time : ℕ
@@ -47,7 +48,8 @@ pub record HasHeard (g : Graph) (order : List ℕ) (guards : Guards) (f : Forest
   pub is : n ≡ time_later (heard_delay g node c) (Some time)
 
 -- one of the first k conditions
-pub record HasHeardOf (g : Graph) (order : List ℕ) (guards : Guards) (f : ForestState) (active : TreeState Bool) (node from to k n : ℕ) (s : Scenario) : Type 0 where
+pub record HasHeardOf (g : Graph) (order : List ℕ) (guards : Guards) (f : ForestState) (active : TreeState Bool) (node from to k n : ℕ)
+    (s : Scenario) : Type 0 where
   pub condition : ℕ
   pub below : condition < k
   pub there : HasHeard g order guards f active node from to condition n s
@@ -73,7 +75,8 @@ pub record IsRaised (g : Graph) (has : ℕ → Scenario → Type 0) (old new : �
 
 -- the greatest of a release, of when each process before the place i has ended, of when the node has heard each condition that such a
 -- one or the process itself tests, and of when each input is there
-pub record IsLatestAt (g : Graph) (order : List ℕ) (guards : Guards) (f : ForestState) (node from i : ℕ) (ready : TreeState (Option ℕ)) (edges : List ℕ) (active : TreeState Bool) (latest : ℕ) : Type 0 where
+pub record IsLatestAt (g : Graph) (order : List ℕ) (guards : Guards) (f : ForestState) (node from i : ℕ) (ready : TreeState (Option ℕ))
+    (edges : List ℕ) (active : TreeState Bool) (latest : ℕ) : Type 0 where
   pub first : ℕ
   pub top : IsTopAt g (HasWhere ready active) first
   pub ended : ℕ
@@ -88,7 +91,8 @@ IsLatestOf g order guards f node from i ready edges active None = IsTop g (HasWh
 IsLatestOf g order guards f node from i ready edges active (Some latest) = IsLatestAt g order guards f node from i ready edges active latest
 
 -- by a tree of a release
-pub record IsLatestStart (g : Graph) (order : List ℕ) (guards : Guards) (f : ForestState) (node from i release : ℕ) (edges : List ℕ) (active : TreeState Bool) (latest : Option ℕ) : Type 0 where
+pub record IsLatestStart (g : Graph) (order : List ℕ) (guards : Guards) (f : ForestState) (node from i release : ℕ) (edges : List ℕ)
+    (active : TreeState Bool) (latest : Option ℕ) : Type 0 where
   pub ready : TreeState (Option ℕ)
   pub each : HasOnePathEach g.faults ready.paths
   pub at : IsConstant (Some release) g.faults ready
@@ -108,7 +112,8 @@ pub record HasQueuedOf (g : Graph) (order : List ℕ) (f : ForestState) (goes : 
   pub there : HasQueued g order f goes x item n s
 
 -- the first slot from the greatest end on, or a round after what stands before it, whichever is later
-pub record IsSlotAt (g : Graph) (order : List ℕ) (f : ForestState) (share : ShareState) (goes : TreeState Bool) (end : TreeState (Option ℕ)) (x latest : ℕ) : Type 0 where
+pub record IsSlotAt (g : Graph) (order : List ℕ) (f : ForestState) (share : ShareState) (goes : TreeState Bool) (end : TreeState (Option ℕ))
+    (x latest : ℕ) : Type 0 where
   pub last : ℕ
   pub ends : IsTopAt g (HasWhere end goes) last
   pub raised : IsRaised g (HasQueuedOf g order f goes x (item_count g)) (slot_at share (Some last)) latest

@@ -28,7 +28,8 @@ EndsPast g trees q excess s = (end : ℕ) × EndsAt g trees q end s × (time_pas
 
 -- each tree tells when its process ends in every run
 abbrev pub TellEnds : Graph → List ℕ → List (Option ℕ) → List (TreeState (Option ℕ)) → Type 0
-TellEnds g order frozen trees = (s : Scenario) (t : Times) → IsScenario g s → IsRun g order frozen s t → (q : ℕ) → q < process_count g → (x : Path (Option ℕ)) → IsOn (tree_at g trees q).paths s x → x.1 ≡ get_or t.ends q None
+TellEnds g order frozen trees = (s : Scenario) (t : Times) → IsScenario g s → IsRun g order frozen s t → (q : ℕ) → q < process_count g →
+    (x : Path (Option ℕ)) → IsOn (tree_at g trees q).paths s x → x.1 ≡ get_or t.ends q None
 
 -- ---- peaks
 
@@ -98,8 +99,10 @@ pub record IsNextExcess (g : Graph) (urgency : List ℕ) (end : TreeState (Optio
 
 -- the greatest finish, under any order and frozen times whose runs end as the trees tell
 abbrev pub IsWorstOfTrees : Graph → List ℕ → List (TreeState (Option ℕ)) → Peak → Type 0
-IsWorstOfTrees g urgency trees peak = (order : List ℕ) (frozen : List (Option ℕ)) → IsTopological g order → TellEnds g order frozen trees → IsWorst g urgency order frozen peak.time peak.scenario peak.process
+IsWorstOfTrees g urgency trees peak = (order : List ℕ) (frozen : List (Option ℕ)) → IsTopological g order → TellEnds g order frozen trees →
+    IsWorst g urgency order frozen peak.time peak.scenario peak.process
 
 -- the greatest excess, likewise
 abbrev pub IsExcessOfTrees : Graph → List ℕ → List (TreeState (Option ℕ)) → Peak → Type 0
-IsExcessOfTrees g urgency trees peak = (order : List ℕ) (frozen : List (Option ℕ)) → IsTopological g order → TellEnds g order frozen trees → IsExcess g urgency order frozen peak.time peak.scenario peak.process
+IsExcessOfTrees g urgency trees peak = (order : List ℕ) (frozen : List (Option ℕ)) → IsTopological g order → TellEnds g order frozen trees →
+    IsExcess g urgency order frozen peak.time peak.scenario peak.process

@@ -40,8 +40,10 @@ IsGoesTree g x chooser t = (s : Scenario) → HasFew g.faults s → (first : Lis
 
 -- the first free slots where an item is sent
 abbrev pub IsSentTree : ℕ → ShareState → TreeState Bool → TreeState (Option ℕ) → TreeState ℕ → TreeState (Option ℕ) → Type 0
-IsSentTree k share goes end free t = (s : Scenario) → HasFew k s → (b : Bool) (first second third : List Literal) (x : Option ℕ) (y : ℕ) → Tells s first b goes →
-    (b ≡ true → Tells s second x end × Tells s third y free) → Tells s (first ++ (if b then second ++ third else [])) (if b then slot_from share y x else None) t
+IsSentTree k share goes end free t = (s : Scenario) → HasFew k s → (b : Bool) (first second third : List Literal) (x : Option ℕ) (y : ℕ) →
+    Tells s first b goes →
+    (b ≡ true → Tells s second x end × Tells s third y free) →
+    Tells s (first ++ (if b then second ++ third else [])) (if b then slot_from share y x else None) t
 
 -- when the slots are free then: a round after what is sent
 abbrev pub IsFreeTree : ℕ → ℕ → TreeState Bool → TreeState (Option ℕ) → TreeState ℕ → TreeState ℕ → Type 0

@@ -36,7 +36,8 @@ pub record IsFreeOnce (g : Graph) (order : List ℕ) (rows : List (List Column))
   pub tells : Tells s (flat_map (queued g order rows s) (sent_so_far g order p k)) time (free_of g f (node_of g p))
 
 -- the times of a frozen item that is sent: the latest of all
-pub record IsFrozenSend (g : Graph) (order : List ℕ) (goes : TreeState Bool) (x : ℕ) (f : ForestState) (before after : List (Option ℕ)) (sent : TreeState (Option ℕ)) : Type 0 where
+pub record IsFrozenSend (g : Graph) (order : List ℕ) (goes : TreeState Bool) (x : ℕ) (f : ForestState) (before after : List (Option ℕ))
+    (sent : TreeState (Option ℕ)) : Type 0 where
   pub latest : Option ℕ
   pub top : IsLatestSend g order f (share_of g (home g x)) goes (ends_of g f (producer g x)) x latest
   pub frozen : IsFrozenBy x latest goes before after sent
@@ -63,4 +64,5 @@ pub record IsItemAdded (g : Graph) (order : List ℕ) (chooser : TreeState Bool)
 -- these are added one after another
 abbrev pub AreItemsAdded : Graph → List ℕ → TreeState Bool → List ℕ → ForestState → ForestState → List (Option ℕ) → List (Option ℕ) → Type 0
 AreItemsAdded g order chooser [] old new before after = (new ≡ old) × (after ≡ before)
-AreItemsAdded g order chooser (x ∷ xs) old new before after = (mid : ForestState) × (between : List (Option ℕ)) × IsItemAdded g order chooser x old mid before between × AreItemsAdded g order chooser xs mid new between after
+AreItemsAdded g order chooser (x ∷ xs) old new before after = (mid : ForestState) × (between : List (Option ℕ)) ×
+    IsItemAdded g order chooser x old mid before between × AreItemsAdded g order chooser xs mid new between after

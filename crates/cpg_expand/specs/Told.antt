@@ -12,5 +12,7 @@ use Rattle.cpg_expand.specs.Forest.{ForestState, times_of, ends_of}
 
 -- of the active processes before the place i, and of what they send
 pub record HasTold (g : Graph) (order : List ℕ) (rows : List (List Column)) (s : Scenario) (t : Times) (i : ℕ) (f : ForestState) : Type 0 where
-  pub ends : (q : ℕ) → q < process_count g → place order q < i → active g s.values q ≡ true → Tells s (carried_at_end g order rows s q) (get_or t.ends q None) (ends_of g f q)
-  pub sends : (x : ℕ) → x < item_count g → process_count g ≤ x → place order (producer g x) < i → item_active g s.values (item_at g x) ≡ true → Tells s (told_by rows s x) (get_or t.times x None) (times_of g f x)
+  pub ends : (q : ℕ) → q < process_count g → place order q < i → active g s.values q ≡ true →
+      Tells s (carried_at_end g order rows s q) (get_or t.ends q None) (ends_of g f q)
+  pub sends : (x : ℕ) → x < item_count g → process_count g ≤ x → place order (producer g x) < i →
+      item_active g s.values (item_at g x) ≡ true → Tells s (told_by rows s x) (get_or t.times x None) (times_of g f x)

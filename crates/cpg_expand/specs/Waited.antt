@@ -32,7 +32,8 @@ stands_before g order y x = (is_sent g y && (home g y == home g x))
     && (nat_lt (place order (producer g y)) (place order (producer g x)) || ((producer g y == producer g x) && nat_lt (rank_of_item (item_at g y)) (rank_of_item (item_at g x))))
 
 -- a tree of when a node is ready after a process with a guard, by what that one waited for
-pub record IsReadyOnce (g : Graph) (f : ForestState) (node : ℕ) (guard : Guard) (chooser : TreeState Bool) (end : TreeState (Option ℕ)) (t : TreeState ℕ) : Type 0 where
+pub record IsReadyOnce (g : Graph) (f : ForestState) (node : ℕ) (guard : Guard) (chooser : TreeState Bool) (end : TreeState (Option ℕ))
+    (t : TreeState ℕ) : Type 0 where
   pub wait : TreeState ℕ
   pub waits : IsWaitTree g f node guard wait
   pub is : IsReadyTree g.faults chooser end wait t

@@ -24,6 +24,7 @@ wait_of g f node (Some wait) = wait
 
 -- until the node is ready and has heard all that a guard tests
 abbrev pub IsWaitTree : Graph → ForestState → ℕ → Guard → TreeState ℕ → Type 0
-IsWaitTree g f node guard t = (s : Scenario) → HasFew g.faults s → (base : List Literal) (x : ℕ) → Tells s base x (ready_of g f node) → (tell : ℕ → List Literal) (time : ℕ → Option ℕ) →
+IsWaitTree g f node guard t = (s : Scenario) → HasFew g.faults s → (base : List Literal) (x : ℕ) → Tells s base x (ready_of g f node) →
+    (tell : ℕ → List Literal) (time : ℕ → Option ℕ) →
     ((c : ℕ) → Contains (way guard s.values) c → Tells s (tell c) (time c) (heard_tree g f node c)) →
     Tells s (base ++ told_of s tell (way guard s.values)) (max x (latest_of (heard_delay g node) time (way guard s.values))) t

@@ -37,7 +37,12 @@ fn put_begun(
     requires times { process < length forest.old.times }
     requires ends { process < length forest.old.ends }
     requires node { node < length forest.old.ready }
-    ensures { forest.new ≡ record { times = slice_set forest.old.times process times; ends = slice_set forest.old.ends process ends; ready = slice_set forest.old.ready node ready; free = forest.old.free } }
+    ensures { forest.new ≡ record {
+      times = slice_set forest.old.times process times;
+      ends = slice_set forest.old.ends process ends;
+      ready = slice_set forest.old.ready node ready;
+      free = forest.old.free;
+    } }
 {
     forest.times[process as usize] = times;
     forest.ends[process as usize] = ends;
@@ -88,7 +93,8 @@ fn begin_thawed(
     requires process { process < process_count admitted.now.graph }
     requires forest { HasTrees admitted.now.graph forest.old }
     ensures trees { IfOk result (λ active. HasTrees admitted.now.graph forest.new) }
-    ensures begun { IfOk result (λ active. (order : List ℕ) → IsBegunThawed admitted.now.graph order process (tree_of admitted.now.guards process) forest.old forest.new active) }
+    ensures begun { IfOk result (λ active. (order : List ℕ) →
+        IsBegunThawed admitted.now.graph order process (tree_of admitted.now.guards process) forest.old forest.new active) }
 {
     let problem = admitted.problem();
     let guard = admitted.guards().guard_of(process);
@@ -120,7 +126,8 @@ fn ready_after(
     requires active { IsTree admitted.now.graph active.now }
     requires end { IsTree admitted.now.graph end.now }
     ensures of { IfOk result (IsReadyAfter admitted.now.graph process) }
-    ensures ready { IfOk result (λ ready. IsReadyIfWaited admitted.now.graph order.now forest.now process (tree_of admitted.now.guards process) active.now end.now (goes_on end.now ready)) }
+    ensures ready { IfOk result (λ ready.
+        IsReadyIfWaited admitted.now.graph order.now forest.now process (tree_of admitted.now.guards process) active.now end.now (goes_on end.now ready)) }
 {
     let problem = admitted.problem();
     if active.is_true() {

@@ -25,7 +25,8 @@ pub(crate) struct Span<'a> {
 pub(crate) fn stands_between(span: &Span<'_>, from: u32, to: u32, other: u32) -> bool
     requires other { other < process_count span.now.problem.now }
     requires order { length span.now.order.now ≡ process_count span.now.problem.now }
-    ensures { result ≡ (node_of span.now.problem.now other == span.now.node && (nat_le from (place span.now.order.now other) && nat_lt (place span.now.order.now other) to)) }
+    ensures { result ≡ (node_of span.now.problem.now other == span.now.node && (nat_le from (place span.now.order.now other) && nat_lt
+        (place span.now.order.now other) to)) }
 {
     let at = span.order.place(other);
     span.problem.node_of(other) == span.node && (from <= at && at < to)
@@ -49,7 +50,8 @@ fn is_always(guard: &GuardTree) -> bool
 fn later_cut(span: &Span<'_>, from: u32, to: u32, other: u32) -> u32
     requires along { AreAlong span.now.problem.now span.now.guards.now span.now.order.now }
     requires other { other < process_count span.now.problem.now }
-    ensures { IsCut span.now.problem.now span.now.order.now span.now.guards.now span.now.node to from → IsCut span.now.problem.now span.now.order.now span.now.guards.now span.now.node to result }
+    ensures { IsCut span.now.problem.now span.now.order.now span.now.guards.now span.now.node to from →
+        IsCut span.now.problem.now span.now.order.now span.now.guards.now span.now.node to result }
 {
     if !stands_between(span, from, to, other) {
         return from;
@@ -138,7 +140,9 @@ pub(crate) fn asked(
 ) -> Result<Tree<bool>, OutOfMemory>
     requires along { AreAlong span.now.problem.now span.now.guards.now span.now.order.now }
     ensures tree { IfOk result (IsTree span.now.problem.now) }
-    ensures asked { IfOk result (IsAskedTree span.now.problem.now span.now.order.now span.now.guards.now span.now.node span.now.from to condition (process_count span.now.problem.now)) }
+    ensures asked { IfOk result
+        (IsAskedTree span.now.problem.now span.now.order.now span.now.guards.now span.now.node span.now.from to condition
+        (process_count span.now.problem.now)) }
 {
     let mut asked = Tree::constant(alloc, false, span.problem.faults())?;
     for other in 0..span.problem.processes().len() as u32 {

@@ -105,7 +105,8 @@ pub(crate) fn ready(
     requires end { IsTree problem.now end.now }
     requires wait { IsWait problem.now wait.now }
     ensures of { IfOk result (IsReadyAfter problem.now process) }
-    ensures ready { IfOk result (λ ready. IsReadyTree problem.now.faults active.now end.now (ready_by problem.now forest.now wait.now) (goes_on end.now ready)) }
+    ensures ready { IfOk result (λ ready.
+        IsReadyTree problem.now.faults active.now end.now (ready_by problem.now forest.now wait.now) (goes_on end.now ready)) }
 {
     if active.is_true() {
         return Ok(Ready::After(process));

@@ -225,7 +225,8 @@ struct Starting<'a> {
 }
 
 impl Descent<Option<u64>> for Starting<'_> {
-    ghost begun = { λ s. (condition_count s.problem.now ≤ 32) × HasTrees s.problem.now s.forest.now × IsWait s.problem.now s.wait.now × All (λ e. e < edge_count s.problem.now) s.inputs.now };
+    ghost begun = { λ s. (condition_count s.problem.now ≤ 32) × HasTrees s.problem.now s.forest.now × IsWait s.problem.now s.wait.now ×
+        All (λ e. e < edge_count s.problem.now) s.inputs.now };
 
     ghost conditions = { λ s. condition_count s.problem.now };
 

@@ -51,7 +51,8 @@ fn after_frame(
     requires forest { HasTrees problem.now forest.now }
     requires item { item < item_count problem.now }
     requires wanted { IsTree problem.now wanted.now }
-    ensures { IsRaised problem.now (HasLater (times_of problem.now forest.now item) wanted.now (slot_length problem.now (home problem.now item))) latest result }
+    ensures { IsRaised problem.now (HasLater (times_of problem.now forest.now item) wanted.now
+        (slot_length problem.now (home problem.now item))) latest result }
 {
     let time = most_where(problem, &forest.times[item as usize], wanted);
     or_later(latest, time, problem.slot_length(problem.home(item)))
@@ -86,7 +87,8 @@ fn after_condition(
     requires forest { HasTrees problem.now forest.now }
     requires condition { condition < condition_count problem.now }
     requires wanted { IsTree problem.now wanted.now }
-    ensures { IsRaised problem.now (HasLater (heard_tree problem.now forest.now node condition) wanted.now (heard_delay problem.now node condition)) latest result }
+    ensures { IsRaised problem.now (HasLater (heard_tree problem.now forest.now node condition) wanted.now
+        (heard_delay problem.now node condition)) latest result }
 {
     let process = problem.process_of(condition);
     if problem.node_of(process) == node {
@@ -115,7 +117,8 @@ fn after_one(
     requires forest { HasTrees span.now.problem.now forest.now }
     requires active { IsTree span.now.problem.now active.now }
     requires other { other < process_count span.now.problem.now }
-    ensures { IsRaised span.now.problem.now (HasEnded span.now.problem.now span.now.order.now forest.now active.now span.now.node span.now.from to other) latest result }
+    ensures { IsRaised span.now.problem.now
+        (HasEnded span.now.problem.now span.now.order.now forest.now active.now span.now.node span.now.from to other) latest result }
 {
     if !stands_between(span, span.from, to, other) {
         return latest;
@@ -128,7 +131,9 @@ fn after_ends(span: &Span<'_>, forest: &Forest, active: &Tree<bool>, to: u32, fi
     requires along { AreAlong span.now.problem.now span.now.guards.now span.now.order.now }
     requires forest { HasTrees span.now.problem.now forest.now }
     requires active { IsTree span.now.problem.now active.now }
-    ensures { IsRaised span.now.problem.now (HasEndedOf span.now.problem.now span.now.order.now forest.now active.now span.now.node span.now.from to (process_count span.now.problem.now)) first result }
+    ensures { IsRaised span.now.problem.now
+        (HasEndedOf span.now.problem.now span.now.order.now forest.now active.now span.now.node span.now.from to
+        (process_count span.now.problem.now)) first result }
 {
     let mut latest = first;
     for other in 0..span.problem.processes().len() as u32 {
@@ -167,7 +172,9 @@ fn after_hearing(
     requires along { AreAlong span.now.problem.now span.now.guards.now span.now.order.now }
     requires forest { HasTrees span.now.problem.now forest.now }
     requires active { IsTree span.now.problem.now active.now }
-    ensures { IfOk result (IsRaised span.now.problem.now (HasHeardOf span.now.problem.now span.now.order.now span.now.guards.now forest.now active.now span.now.node span.now.from to (condition_count span.now.problem.now)) first) }
+    ensures { IfOk result (IsRaised span.now.problem.now
+        (HasHeardOf span.now.problem.now span.now.order.now span.now.guards.now forest.now active.now span.now.node span.now.from to
+        (condition_count span.now.problem.now)) first) }
 {
     let problem = span.problem;
     let mut latest = first;
@@ -234,7 +241,8 @@ pub(crate) fn latest_start(
     requires edges { All (λ e. e < edge_count span.now.problem.now) edges.now }
     requires active { IsTree span.now.problem.now active.now }
     requires process { process < process_count span.now.problem.now }
-    ensures { IfOk result (IsLatestStart span.now.problem.now span.now.order.now span.now.guards.now forest.now span.now.node span.now.from (place span.now.order.now process) (process_at span.now.problem.now process).release edges.now active.now) }
+    ensures { IfOk result (IsLatestStart span.now.problem.now span.now.order.now span.now.guards.now forest.now span.now.node span.now.from
+        (place span.now.order.now process) (process_at span.now.problem.now process).release edges.now active.now) }
 {
     let problem = span.problem;
     let at = span.order.place(process);

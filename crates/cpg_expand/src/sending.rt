@@ -155,7 +155,9 @@ fn freed(
     requires free { IsTree problem.now free.now }
     requires item { item < item_count problem.now }
     ensures tree { IfOk result (IsTree problem.now) }
-    ensures free { IfOk result (λ t. IsQueuedFor problem.now order.now (place order.now (producer problem.now item)) (home problem.now item) → IsFreeTree problem.now.faults round goes.now sent.now free.now t) }
+    ensures free { IfOk result (λ t.
+        IsQueuedFor problem.now order.now (place order.now (producer problem.now item)) (home problem.now item) →
+        IsFreeTree problem.now.faults round goes.now sent.now free.now t) }
 {
     let after = later(sent, round)?;
     if goes.is_true() {
@@ -184,7 +186,8 @@ fn slots_of(
     requires forest { HasTrees problem.now forest.now }
     requires goes { IsTree problem.now goes.now }
     ensures tree { IfOk result (IsTree problem.now) }
-    ensures slots { IfOk result (IsSentTree problem.now.faults (share_of problem.now (home problem.now item)) goes.now (ends_of problem.now forest.now (producer problem.now item)) (free_of problem.now forest.now (home problem.now item))) }
+    ensures slots { IfOk result (IsSentTree problem.now.faults (share_of problem.now (home problem.now item)) goes.now
+        (ends_of problem.now forest.now (producer problem.now item)) (free_of problem.now forest.now (home problem.now item))) }
 {
     let node = problem.home(item);
     let end = &forest.ends[problem.producer(item) as usize];
@@ -211,7 +214,9 @@ fn free_then(
     requires goes { IsTree problem.now goes.now }
     requires sent { IsTree problem.now sent.now }
     ensures tree { IfOk result (IsTree problem.now) }
-    ensures free { IfOk result (λ t. IsQueuedFor problem.now order.now (place order.now (producer problem.now item)) (home problem.now item) → IsFreeTree problem.now.faults (round problem.now) goes.now sent.now (free_of problem.now forest.now (home problem.now item)) t) }
+    ensures free { IfOk result (λ t.
+        IsQueuedFor problem.now order.now (place order.now (producer problem.now item)) (home problem.now item) →
+        IsFreeTree problem.now.faults (round problem.now) goes.now sent.now (free_of problem.now forest.now (home problem.now item)) t) }
 {
     let free = &forest.free[problem.home(item) as usize];
     let freed = freed(problem, order, plan.round(problem), goes, sent, free, item)?;
@@ -222,7 +227,12 @@ fn free_then(
 fn put(forest: &mut Forest, item: u32, times: Tree<Option<u64>>, node: u32, free: Tree<u64>)
     requires item { item < length forest.old.times }
     requires node { node < length forest.old.free }
-    ensures { forest.new ≡ record { times = slice_set forest.old.times item times; ends = forest.old.ends; ready = forest.old.ready; free = slice_set forest.old.free node free } }
+    ensures { forest.new ≡ record {
+      times = slice_set forest.old.times item times;
+      ends = forest.old.ends;
+      ready = forest.old.ready;
+      free = slice_set forest.old.free node free;
+    } }
 {
     forest.times[item as usize] = times;
     forest.free[node as usize] = free;
@@ -245,7 +255,8 @@ fn latest_of(course: &Course<'_>, forest: &Forest, goes: &Tree<bool>, item: u32)
     requires sent { is_sent course.now.problem.now item ≡ true }
     requires forest { HasTrees course.now.problem.now forest.now }
     requires goes { IsTree course.now.problem.now goes.now }
-    ensures { IsLatestSend course.now.problem.now course.now.order.now forest.now (share_of course.now.problem.now (home course.now.problem.now item)) goes.now (ends_of course.now.problem.now forest.now (producer course.now.problem.now item)) item result }
+    ensures { IsLatestSend course.now.problem.now course.now.order.now forest.now (share_of course.now.problem.now
+        (home course.now.problem.now item)) goes.now (ends_of course.now.problem.now forest.now (producer course.now.problem.now item)) item result }
 {
     let problem = course.problem;
     let plan = course.plan;
@@ -346,7 +357,9 @@ pub(crate) fn send(
     requires active { IsTree course.now.problem.now active.now }
     ensures trees { IfOk result (λ u. HasTrees course.now.problem.now forest.new) }
     ensures count { IfOk result (λ u. length frozen.new ≡ item_count course.now.problem.now) }
-    ensures added { IfOk result (λ u. AreItemsAdded course.now.problem.now course.now.order.now active.now (queue_of course.now.problem.now process) forest.old forest.new frozen.old frozen.new) }
+    ensures added { IfOk result (λ u.
+        AreItemsAdded course.now.problem.now course.now.order.now active.now (queue_of course.now.problem.now process)
+        forest.old forest.new frozen.old frozen.new) }
 {
     for item in course.plan.queue(course.problem, process) {
         add(alloc, course, frozen, forest, active, *item)?;

@@ -31,7 +31,8 @@ pub(crate) fn waiting(
     requires node { node < length problem.now.nodes }
     requires tests { TestsBelow (condition_count problem.now) guard.now }
     ensures of { IfOk result (λ heard. IsWait problem.now (wait_of problem.now forest.now node heard)) }
-    ensures wait { IfOk result (λ heard. IsWaitTree problem.now forest.now node guard.now (ready_by problem.now forest.now (wait_of problem.now forest.now node heard))) }
+    ensures wait { IfOk result (λ heard.
+        IsWaitTree problem.now forest.now node guard.now (ready_by problem.now forest.now (wait_of problem.now forest.now node heard))) }
 {
     match guard.top() {
         GuardTop::Leaf(_) => Ok(None),
@@ -82,7 +83,8 @@ pub(crate) fn unfrozen_start(
     requires inputs { All (λ e. e < edge_count problem.now) inputs.now }
     requires leaves { LeadsBelow (edge_count problem.now) guard.now }
     ensures tree { IfOk result (IsTree problem.now) }
-    ensures start { IfOk result (IsStartTree problem.now forest.now (ready_by problem.now forest.now wait.now) (process_at problem.now process).release inputs.now guard.now) }
+    ensures start { IfOk result (IsStartTree problem.now forest.now (ready_by problem.now forest.now wait.now)
+        (process_at problem.now process).release inputs.now guard.now) }
 {
     start(
         alloc,

@@ -36,7 +36,8 @@ pub(crate) fn is_waited_for(problem: &Problem, order: &Order, process: u32) -> b
 fn is_sent_later(problem: &Problem, order: &Order, node: u32, at: u32, other: u32) -> bool
     requires other { other < item_count problem.now }
     requires order { length order.now ≡ process_count problem.now }
-    ensures { result ≡ ((is_sent problem.now other && not (is_frozen problem.now other)) && ((home problem.now other == node) && nat_le at (place order.now (producer problem.now other)))) }
+    ensures { result ≡ ((is_sent problem.now other && not (is_frozen problem.now other)) && ((home problem.now other == node) && nat_le at
+        (place order.now (producer problem.now other)))) }
 {
     (problem.is_sent(other) && !problem.is_frozen(other))
         && (problem.home(other) == node && at <= order.place(problem.producer(other)))

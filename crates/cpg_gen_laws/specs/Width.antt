@@ -17,11 +17,13 @@ GeneratedHaveFewViews = (number : ℕ) (reached : List ℕ) → views (generated
 
 -- a message is frozen, so only values tell its times apart
 abbrev pub GeneratedMessagesHaveFewViews : Type 0
-GeneratedMessagesHaveFewViews = (number : ℕ) (order : List ℕ) (r : Reach) → IsReach (generated number) order r → (e : ℕ) → e < edge_count (generated number) → views (generated number) (reach_of r (message_item (generated number) e)) ≤ 4
+GeneratedMessagesHaveFewViews = (number : ℕ) (order : List ℕ) (r : Reach) → IsReach (generated number) order r → (e : ℕ) →
+    e < edge_count (generated number) → views (generated number) (reach_of r (message_item (generated number) e)) ≤ 4
 
 -- 60 processes with one row, 60 messages with two, and two broadcasts with four
 abbrev pub GeneratedHaveSmallLoads : Type 0
-GeneratedHaveSmallLoads = (number : ℕ) (order : List ℕ) (r : Reach) → IsReach (generated number) order r → sum_by (load (generated number) r) (numbers_below (item_count (generated number))) ≤ 514832
+GeneratedHaveSmallLoads = (number : ℕ) (order : List ℕ) (r : Reach) → IsReach (generated number) order r →
+    sum_by (load (generated number) r) (numbers_below (item_count (generated number))) ≤ 514832
 
 -- so nothing is too wide
 abbrev pub GeneratedAreNarrow : Type 0

@@ -32,9 +32,21 @@ impl Model for Head {
 
     ghost Value = { Head };
 
-    ghost view = { λ h. record { faults = h.faults; nodes = h.nodes.items; processes = h.processes.items; edges = h.edges.items; extras = option_map (λ v. v.items) h.extras } };
+    ghost view = { λ h. record {
+      faults = h.faults;
+      nodes = h.nodes.items;
+      processes = h.processes.items;
+      edges = h.edges.items;
+      extras = option_map (λ v. v.items) h.extras;
+    } };
 
-    ghost invariant = { λ h. IsHead (record { faults = h.faults; nodes = h.nodes.items; processes = h.processes.items; edges = h.edges.items; extras = option_map (λ v. v.items) h.extras }) };
+    ghost invariant = { λ h. IsHead (record {
+      faults = h.faults;
+      nodes = h.nodes.items;
+      processes = h.processes.items;
+      edges = h.edges.items;
+      extras = option_map (λ v. v.items) h.extras;
+    }) };
 }
 
 /// Whether there are few enough of each.
@@ -126,9 +138,21 @@ impl Head {
         processes: Vec<HeadProcess>,
         edges: Vec<(u32, u32)>,
     ) -> Option<Head>
-        ensures head { IfSome result (λ h. h ≡ record { faults = faults; nodes = nodes.items; processes = processes.items; edges = edges.items; extras = None }) }
+        ensures head { IfSome result (λ h. h ≡ record {
+          faults = faults;
+          nodes = nodes.items;
+          processes = processes.items;
+          edges = edges.items;
+          extras = None;
+        }) }
         ensures within { IfSome result IsHead }
-        ensures refused { IfNone result (¬ IsHead (record { faults = faults; nodes = nodes.items; processes = processes.items; edges = edges.items; extras = None })) }
+        ensures refused { IfNone result (¬ IsHead (record {
+          faults = faults;
+          nodes = nodes.items;
+          processes = processes.items;
+          edges = edges.items;
+          extras = None;
+        })) }
     {
         if !are_counts_within(faults, nodes.len(), processes.len(), edges.len()) {
             return None;

@@ -81,7 +81,8 @@ ranges_of tables.Edge = range Bytes 1 LARGEST ∷ []
 
 -- an integer stands there that is outside its range
 abbrev pub IsOutOfRange : Members → Place → Type 0
-IsOutOfRange ms place = (r : Range) × Contains (ranges_of place.table) r × (r.key ≡ place.key) × (z : ℤ) × (found_at ms place.table place.index place.key ≡ Some (integer z)) × (is_within r.low r.high z ≡ false)
+IsOutOfRange ms place = (r : Range) × Contains (ranges_of place.table) r × (r.key ≡ place.key) × (z : ℤ) ×
+    (found_at ms place.table place.index place.key ≡ Some (integer z)) × (is_within r.low r.high z ≡ false)
 
 -- the edges that have a `when`, and what they say at `from`
 abbrev pub conditional_edges : Members → List Members
@@ -109,7 +110,9 @@ is_own_name table key = false
 
 -- the name stands earlier in its kind
 abbrev pub IsDouble : Members → Place → Type 0
-IsDouble ms place = (is_own_name place.table place.key ≡ true) × (name : List ℕ) × (found_at ms place.table place.index place.key ≡ Some (string name)) × (j : ℕ) × (j < place.index) × (found_at ms place.table j place.key ≡ Some (string name))
+IsDouble ms place = (is_own_name place.table place.key ≡ true) × (name : List ℕ) ×
+    (found_at ms place.table place.index place.key ≡ Some (string name)) × (j : ℕ) × (j < place.index) ×
+    (found_at ms place.table j place.key ≡ Some (string name))
 
 -- the table that has what a name names
 abbrev pub named_in : Table → Key → Option Table
@@ -121,7 +124,8 @@ named_in table key = None
 
 -- none there has the name
 abbrev pub IsUnknown : Members → Place → Type 0
-IsUnknown ms place = (others : Table) × (named_in place.table place.key ≡ Some others) × (name : List ℕ) × (found_at ms place.table place.index place.key ≡ Some (string name)) × ((j : ℕ) → found_at ms others j Name ≢ Some (string name))
+IsUnknown ms place = (others : Table) × (named_in place.table place.key ≡ Some others) × (name : List ℕ) ×
+    (found_at ms place.table place.index place.key ≡ Some (string name)) × ((j : ℕ) → found_at ms others j Name ≢ Some (string name))
 
 -- ---- all
 

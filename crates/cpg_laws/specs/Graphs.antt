@@ -58,8 +58,10 @@ IsFirstCause g OutOfMemory = ⊤
 -- a refusal tells the first cause, of which a graph has one at most; of cycles it may have several
 pub record AreFirstCauses (g : Graph) : Type 0 where
   pub first : (fault : RuleFault) → ShowsFault g fault → IsFirstCause g fault
-  pub one : (fault other : RuleFault) → fault ≢ OutOfMemory → other ≢ OutOfMemory → IsFirstCause g fault → IsFirstCause g other → place_of fault ≡ place_of other
-  pub same : (fault other : RuleFault) → fault ≢ OutOfMemory → other ≢ OutOfMemory → 0 < place_of fault → IsFirstCause g fault → IsFirstCause g other → fault ≡ other
+  pub one : (fault other : RuleFault) → fault ≢ OutOfMemory → other ≢ OutOfMemory → IsFirstCause g fault → IsFirstCause g other →
+      place_of fault ≡ place_of other
+  pub same : (fault other : RuleFault) → fault ≢ OutOfMemory → other ≢ OutOfMemory → 0 < place_of fault → IsFirstCause g fault →
+      IsFirstCause g other → fault ≡ other
 
 -- so does the refusal of each graph
 abbrev pub GraphsShowFirstCauses : Type 0

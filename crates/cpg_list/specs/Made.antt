@@ -45,7 +45,8 @@ abbrev pub sent_before : Graph → List ℕ → ℕ → ℕ → List ℕ
 sent_before g order node i = filter (λ y. is_sent g y && (home g y == node) && nat_lt (place order (producer g y)) i) (numbers_below (item_count g))
 
 -- for each node and scenario the cube of what its processes before the place i carry on, and of what stands in its queue
-pub record AreCarried (g : Graph) (order : List ℕ) (rows : List (List Column)) (scenarios : List Scenario) (i : ℕ) (known sent : List (List (List Literal))) : Type 0 where
+pub record AreCarried (g : Graph) (order : List ℕ) (rows : List (List Column)) (scenarios : List Scenario) (i : ℕ)
+    (known sent : List (List (List Literal))) : Type 0 where
   pub known_count : length known ≡ length g.nodes
   pub sent_count : length sent ≡ length g.nodes
   pub carries : (node : ℕ) → node < length g.nodes → AreCubesOf g.faults scenarios (passed_by g rows (node_before g order node i)) (get_or known node [])
@@ -78,4 +79,5 @@ pub record IsRowSet (g : Graph) (urgency : List ℕ) (x : ℕ) (entries : List C
 -- for each scenario in which a process is active the cube of what is carried at its end
 pub record AreEndsOf (g : Graph) (order : List ℕ) (rows : List (List Column)) (scenarios : List Scenario) (p : ℕ) (cubes : List (List Literal)) : Type 0 where
   pub count : length cubes ≡ length scenarios
-  pub each : (i : ℕ) (s : Scenario) → i < length scenarios → active g (get_or scenarios i s).values p ≡ true → IsCubeOf g.faults (carried_at_end g order rows (get_or scenarios i s) p) (get_or cubes i [])
+  pub each : (i : ℕ) (s : Scenario) → i < length scenarios → active g (get_or scenarios i s).values p ≡ true →
+      IsCubeOf g.faults (carried_at_end g order rows (get_or scenarios i s) p) (get_or cubes i [])

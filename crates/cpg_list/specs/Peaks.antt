@@ -25,10 +25,12 @@ pub record IsFirstExceeding (g : Graph) (t : Times) (excess p : ℕ) : Type 0 wh
 
 -- the greatest finish, under any order and frozen times that give the scenarios these runs
 abbrev pub IsWorstOfRuns : Graph → List ℕ → List Scenario → List Times → ℕ → Scenario → Option ℕ → Type 0
-IsWorstOfRuns g urgency list runs worst worst_in worst_by = (order : List ℕ) (frozen : List (Option ℕ)) → IsTopological g order → AreRuns g order frozen list runs
+IsWorstOfRuns g urgency list runs worst worst_in worst_by = (order : List ℕ) (frozen : List (Option ℕ)) → IsTopological g order →
+    AreRuns g order frozen list runs
     → IsWorst g urgency order frozen worst worst_in worst_by
 
 -- the greatest excess, under any order and frozen times that give the scenarios these runs
 abbrev pub IsExcessOfRuns : Graph → List ℕ → List Scenario → List Times → ℕ → Scenario → Option ℕ → Type 0
-IsExcessOfRuns g urgency list runs excess excess_in excess_by = (order : List ℕ) (frozen : List (Option ℕ)) → IsTopological g order → AreRuns g order frozen list runs
+IsExcessOfRuns g urgency list runs excess excess_in excess_by = (order : List ℕ) (frozen : List (Option ℕ)) → IsTopological g order →
+    AreRuns g order frozen list runs
     → IsExcess g urgency order frozen excess excess_in excess_by

@@ -8,8 +8,10 @@ pub use Rattle.cpg_list.specs.declared.timed.Timed.{Timed}
 -- the times rise, and each column has its time and place once
 pub record IsTimeOrder (columns : List Column) (by_time : List Timed) : Type 0 where
   pub rising : (i j : ℕ) (d : Timed) → i ≤ j → j < length by_time → (get_or by_time i d).time ≤ (get_or by_time j d).time
-  pub each : (i : ℕ) (d : Timed) (c : Column) → i < length by_time → ((get_or by_time i d).place < length columns) × ((get_or columns (get_or by_time i d).place c).time ≡ (get_or by_time i d).time)
-  pub all : (k : ℕ) (c : Column) → k < length columns → (i : ℕ) × (i < length by_time) × ((d : Timed) → ((get_or by_time i d).place ≡ k) × ((get_or by_time i d).time ≡ (get_or columns k c).time))
+  pub each : (i : ℕ) (d : Timed) (c : Column) → i < length by_time → ((get_or by_time i d).place < length columns) ×
+      ((get_or columns (get_or by_time i d).place c).time ≡ (get_or by_time i d).time)
+  pub all : (k : ℕ) (c : Column) → k < length columns → (i : ℕ) × (i < length by_time) × ((d : Timed) → ((get_or by_time i d).place ≡ k) ×
+      ((get_or by_time i d).time ≡ (get_or columns k c).time))
 
 -- from a place on the times are no less than this, and before it they are less
 pub record StartsAt (by_time : List Timed) (time at : ℕ) : Type 0 where

@@ -61,4 +61,5 @@ pub record IsMergeOf (g : Graph) (order : List ℕ) (entries columns : List Colu
   pub merged : IsMerged g columns
   -- a literal of a column is on a variable of which some entry that matches together with it has a literal
   pub spoken : (c : Column) (l : Literal) → Contains columns c → Contains c.cube l →
-      (s : Scenario) × (e : Column) × (m : Literal) × IsScenario g s × Contains entries e × IsTrue (matches e.cube s) × IsTrue (matches c.cube s) × Contains e.cube m × (m.variable ≡ l.variable)
+      (s : Scenario) × (e : Column) × (m : Literal) × IsScenario g s × Contains entries e × IsTrue (matches e.cube s) ×
+      IsTrue (matches c.cube s) × Contains e.cube m × (m.variable ≡ l.variable)

@@ -31,7 +31,8 @@ ended l low = record { variable = l.variable; low = low; high = l.low - 1 }
 
 -- none of the sums is that of a column with the literal changed so
 abbrev pub HasNoPartner : Bool → List ℕ → ℕ → Literal → Type 0
-HasNoPartner asked totals total l = (low rest : ℕ) → low < l.low → (rest + hash_of asked l) % 2 ^ 64 ≡ total → Contains totals ((rest + hash_of asked (ended l low)) % 2 ^ 64) → ⊥
+HasNoPartner asked totals total l = (low rest : ℕ) → low < l.low → (rest + hash_of asked l) % 2 ^ 64 ≡ total →
+    Contains totals ((rest + hash_of asked (ended l low)) % 2 ^ 64) → ⊥
 
 -- whether a number is marked
 abbrev pub IsMarked : List Bool → ℕ → Type 0
@@ -39,7 +40,8 @@ IsMarked marks v = get_or marks v false ≡ true
 
 -- nor of any column with a literal changed that is on a variable which isn't marked
 abbrev pub AreMarkedBy : Bool → List ℕ → List Bool → List Column → Type 0
-AreMarkedBy asked totals marks columns = (d : Column) (l : Literal) → Contains columns d → Contains d.cube l → ¬ IsMarked marks l.variable → HasNoPartner asked totals (total_of asked d) l
+AreMarkedBy asked totals marks columns = (d : Column) (l : Literal) → Contains columns d → Contains d.cube l → ¬ IsMarked marks l.variable →
+    HasNoPartner asked totals (total_of asked d) l
 
 -- no two columns of one time touch at a variable that isn't marked
 abbrev pub AreMarked : Graph → List Bool → List Column → Type 0

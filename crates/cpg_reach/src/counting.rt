@@ -124,7 +124,8 @@ fn views_from(
     requires ways { AreWays admitted.now.graph.faults ways.now }
     requires conditions { All (λ c. c < condition_count admitted.now.graph) conditions.now }
     requires values { length scenario.old.values ≡ condition_count admitted.now.graph }
-    ensures views { result ≡ min most (sum_by (views_of_outcome admitted.now.graph reached.now) (chosen admitted.now.graph reached.now conditions.now scenario.old.values)) }
+    ensures views { result ≡ min most (sum_by (views_of_outcome admitted.now.graph reached.now)
+        (chosen admitted.now.graph reached.now conditions.now scenario.old.values)) }
     ensures same { scenario.new ≡ scenario.old }
 {
     let Some((condition, left)) = conditions.split_first() else {

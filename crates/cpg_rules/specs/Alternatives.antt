@@ -54,4 +54,8 @@ is_set (Some value) = value
 
 -- the outcome of the standings, without faults
 abbrev pub scenario_of : Graph → List (Option Bool) → Scenario
-scenario_of g standings = record { values = map (λ c. is_set (get_or standings (process_of g c) None)) (numbers_below (condition_count g)); faults = replicate (process_count g) 0 }
+scenario_of g standings = record {
+  values = map (λ c.
+      is_set (get_or standings (process_of g c) None)) (numbers_below (condition_count g));
+  faults = replicate (process_count g) 0;
+}

@@ -37,7 +37,8 @@ abbrev pub IsAnswer : List ℕ → List Part → Ask → ℕ → Type 0
 IsAnswer ranks parts (Live a x source) n = (source < length parts) × (n < length parts) × (tree_at parts n ≡ live_tree a x (tree_at parts source))
 IsAnswer ranks parts (Met join first second) n =
     (first < length parts) × (second < length parts) × (n < length parts) × (tree_at parts n ≡ met join ranks (tree_at parts first) (tree_at parts second))
-IsAnswer ranks parts (Apart first second) n = (first < length parts) × (second < length parts) × (are_both_live ranks (tree_at parts first) (tree_at parts second) ≡ false)
+IsAnswer ranks parts (Apart first second) n = (first < length parts) × (second < length parts) ×
+    (are_both_live ranks (tree_at parts first) (tree_at parts second) ≡ false)
 
 abbrev pub IsKnown : List ℕ → List Part → Option Known → Type 0
 IsKnown ranks parts None = Unit {0}

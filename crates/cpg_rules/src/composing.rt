@@ -130,7 +130,8 @@ pub fn composed_along(
     requires steps { All (IsStepBelow (process_count problem.now)) steps.now }
     ensures roots { IfOk result (λ found. AreRoots parts.new.parts (process_count problem.now) found.items) }
     ensures ranks { IfOk result (λ found. parts.new.ranks ≡ parts.old.ranks) }
-    ensures trees { IfOk result (λ found. trees_of parts.new.parts found.items ≡ composed_along problem.now parts.old.ranks steps.now (trees_of parts.old.parts roots.items)) }
+    ensures trees { IfOk result (λ found.
+        trees_of parts.new.parts found.items ≡ composed_along problem.now parts.old.ranks steps.now (trees_of parts.old.parts roots.items)) }
 {
     let mut roots = roots;
     for step in steps {

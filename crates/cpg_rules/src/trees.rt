@@ -181,7 +181,8 @@ impl GuardTrees {
         requires process { process < length self.now.trees }
         requires scenario { length scenario.now.values ≡ self.now.conditions }
         ensures way { IfOk result (λ conditions. conditions.items ≡ way (tree_of self.now process) scenario.now.values) }
-        ensures deciding { IfOk result (λ conditions. (g : Graph) (order : List ℕ) → IsUrgencyOrder g order → IsTopological g order → AreGuardsOf g order self.now → conditions.items ≡ deciding_along g order scenario.now.values process) }
+        ensures deciding { IfOk result (λ conditions. (g : Graph) (order : List ℕ) → IsUrgencyOrder g order → IsTopological g order →
+            AreGuardsOf g order self.now → conditions.items ≡ deciding_along g order scenario.now.values process) }
     {
         let conditions = self.way(alloc, process, scenario)?;
         Ok(conditions)

@@ -26,7 +26,8 @@ pub record ContainsKept (k : ℕ) (cube literals : List Literal) : Type 0 where
 -- the columns of an item have the times of the runs, and where one matches it says no more than what is carried there
 pub record IsCarryingRow (g : Graph) (urgency order : List ℕ) (frozen : List (Option ℕ)) (rows : List (List Column)) (x : ℕ) : Type 0 where
   pub times : HaveTimesOf g order frozen x (row_at rows x)
-  pub carries : (s : Scenario) (c : Column) → IsScenario g s → Contains (row_at rows x) c → IsTrue (matches c.cube s) → ContainsKept g.faults c.cube (carried g order rows s x)
+  pub carries : (s : Scenario) (c : Column) → IsScenario g s → Contains (row_at rows x) c → IsTrue (matches c.cube s) →
+      ContainsKept g.faults c.cube (carried g order rows s x)
   pub cubes : All (λ c. IsCube g c.cube) (row_at rows x)
   pub within : AreWithin g.faults (row_at rows x)
   pub not_whole : HaveNoWhole g.faults (row_at rows x)
@@ -40,7 +41,8 @@ pub record AreCarrying (g : Graph) (urgency order : List ℕ) (frozen : List (Op
   pub merged : (p : ℕ) → p < process_count g → IsMerged g (row_at rows p)
 
 -- tables that have such rows as their columns
-pub record AreTablesCarrying (g : Graph) (urgency order : List ℕ) (frozen : List (Option ℕ)) (rows : List (List Column)) (tables : List NodeTable) : Type 0 where
+pub record AreTablesCarrying (g : Graph) (urgency order : List ℕ) (frozen : List (Option ℕ)) (rows : List (List Column))
+    (tables : List NodeTable) : Type 0 where
   pub timed : IsTimed g urgency order frozen
   pub found : AreCarrying g urgency order frozen rows
   pub columns : (x : ℕ) → columns_of tables x ≡ row_at rows x
@@ -59,4 +61,5 @@ CarryingTablesAreLawful = (g : Graph) (urgency order : List ℕ) (frozen : List 
 
 -- the rows of groups of listed scenarios are carrying
 abbrev pub ListedRowsCarry : Type 0
-ListedRowsCarry = (g : Graph) (urgency order : List ℕ) (frozen : List (Option ℕ)) (rows : List (List Column)) → IsTimed g urgency order frozen → AreRows g urgency order frozen rows → AreCarrying g urgency order frozen rows
+ListedRowsCarry = (g : Graph) (urgency order : List ℕ) (frozen : List (Option ℕ)) (rows : List (List Column)) →
+    IsTimed g urgency order frozen → AreRows g urgency order frozen rows → AreCarrying g urgency order frozen rows

@@ -14,7 +14,8 @@ time_of tables x s = slice_get (at tables x s) 0
 
 -- of a planned end: when it was, the count and the value
 abbrev pub end_seen : Graph → List NodeTable → Scenario → ℕ → ℕ → List ℕ
-end_seen g tables s time p = seen time (option_map (λ start. start + duration g p (fault_of s p)) (time_of tables p s)) (fault_of s p ∷ value_in_key s.values (condition_of g p))
+end_seen g tables s time p = seen time (option_map (λ start.
+    start + duration g p (fault_of s p)) (time_of tables p s)) (fault_of s p ∷ value_in_key s.values (condition_of g p))
 
 -- of a frame: when it arrived and, of a broadcast, the value
 abbrev pub frame_seen : Graph → List NodeTable → Scenario → ℕ → ℕ → List ℕ

@@ -37,10 +37,12 @@ IsFree g order s t i node v = IsMost (IsSentBefore g order s node i) (free_after
 -- processes there, by this time
 pub record IsReady (g : Graph) (order : List ℕ) (s : Scenario) (t : Times) (i node v : ℕ) : Type 0 where
   pub ends : (q : ℕ) → q < process_count g → place order q < i → node_of g q ≡ node → active g s.values q ≡ true → end_in t q ≤ v
-  pub heard : (q c : ℕ) → q < process_count g → place order q < i → node_of g q ≡ node → c < condition_count g → decides g s.values q c ≡ true → heard_there g t node c ≤ v
+  pub heard : (q c : ℕ) → q < process_count g → place order q < i → node_of g q ≡ node → c < condition_count g →
+      decides g s.values q c ≡ true → heard_there g t node c ≤ v
   pub least : (b : ℕ)
       → ((q : ℕ) → q < process_count g → place order q < i → node_of g q ≡ node → active g s.values q ≡ true → end_in t q ≤ b)
-      → ((q c : ℕ) → q < process_count g → place order q < i → node_of g q ≡ node → c < condition_count g → decides g s.values q c ≡ true → heard_there g t node c ≤ b)
+      → ((q c : ℕ) → q < process_count g → place order q < i → node_of g q ≡ node → c < condition_count g → decides g s.values q c ≡ true →
+      heard_there g t node c ≤ b)
       → v ≤ b
 
 -- what is known is that of the run as far as it is settled before the place i, and nothing else

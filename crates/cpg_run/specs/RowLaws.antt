@@ -22,7 +22,8 @@ pub record IsTimed (g : Graph) (urgency order : List ℕ) (frozen : List (Option
 
 -- in every scenario the columns have the one time of an item in the run, and none where it is inactive
 abbrev pub HaveTimesOf : Graph → List ℕ → List (Option ℕ) → ℕ → List Column → Type 0
-HaveTimesOf g order frozen x columns = (s : Scenario) (t : Times) → IsScenario g s → IsRun g order frozen s t → times_in columns s ≡ option_to_list (get_or t.times x None)
+HaveTimesOf g order frozen x columns = (s : Scenario) (t : Times) → IsScenario g s → IsRun g order frozen s t →
+    times_in columns s ≡ option_to_list (get_or t.times x None)
 
 -- an item from a process that has an earlier place than this
 abbrev pub IsEarlier : Graph → List ℕ → ℕ → ℕ → Type 0
@@ -54,17 +55,21 @@ CarriedRestsOnEarlier = (g : Graph) (order : List ℕ) (rows others : List (List
 
 -- it decides the time: where it holds in another scenario, the item is the same there
 abbrev pub CarriedDecides : Type 0
-CarriedDecides = (g : Graph) (urgency order : List ℕ) (frozen : List (Option ℕ)) (rows : List (List Column)) (s u : Scenario) (x : ℕ) → IsTimed g urgency order frozen →
+CarriedDecides = (g : Graph) (urgency order : List ℕ) (frozen : List (Option ℕ)) (rows : List (List Column)) (s u : Scenario) (x : ℕ) →
+    IsTimed g urgency order frozen →
     x < item_count g → AreRowsFor g order frozen x rows → IsScenario g s → IsScenario g u →
     IsTrue (item_active g s.values (item_at g x)) → IsTrue (matches (carried g order rows s x) u) → IsSameIn g order frozen rows x s u
 
 -- entries can be merged, and have the times of the runs
 abbrev pub EntriesHaveTimes : Type 0
-EntriesHaveTimes = (g : Graph) (urgency order : List ℕ) (frozen : List (Option ℕ)) (rows : List (List Column)) (x : ℕ) (entries : List Column) → IsTimed g urgency order frozen →
-    x < item_count g → AreRowsFor g order frozen x rows → AreEntriesOf g order frozen rows x entries → AreMergeable g entries × HaveTimesOf g order frozen x entries
+EntriesHaveTimes = (g : Graph) (urgency order : List ℕ) (frozen : List (Option ℕ)) (rows : List (List Column)) (x : ℕ) (entries : List Column) →
+    IsTimed g urgency order frozen →
+    x < item_count g → AreRowsFor g order frozen x rows → AreEntriesOf g order frozen rows x entries → AreMergeable g entries ×
+    HaveTimesOf g order frozen x entries
 
 -- rows have the times of the runs, and an item that is never active has no column
 abbrev pub RowsHaveTimes : Type 0
-RowsHaveTimes = (g : Graph) (urgency order : List ℕ) (frozen : List (Option ℕ)) (rows : List (List Column)) → IsTimed g urgency order frozen → AreRows g urgency order frozen rows → (x : ℕ) →
+RowsHaveTimes = (g : Graph) (urgency order : List ℕ) (frozen : List (Option ℕ)) (rows : List (List Column)) →
+    IsTimed g urgency order frozen → AreRows g urgency order frozen rows → (x : ℕ) →
     HaveTimesOf g order frozen x (row_at rows x)
     × (((s : Scenario) → IsScenario g s → item_active g s.values (item_at g x) ≡ false) → row_at rows x ≡ [])

@@ -50,7 +50,8 @@ pub(crate) fn deciding(
     requires admitted { AreAdmitted problem.now guards.now }
     requires scenario { IsScenario problem.now scenario.now }
     requires process { process < process_count problem.now }
-    ensures { IfOk result (λ conditions. (urgency : List ℕ) → IsAdmitted problem.now urgency guards.now → conditions.items ≡ deciding_along problem.now urgency scenario.now.values process) }
+    ensures { IfOk result (λ conditions. (urgency : List ℕ) → IsAdmitted problem.now urgency guards.now →
+        conditions.items ≡ deciding_along problem.now urgency scenario.now.values process) }
 {
     let conditions = guards.deciding(alloc, process, scenario)?;
     Ok(conditions)

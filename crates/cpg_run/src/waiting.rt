@@ -183,7 +183,8 @@ pub(crate) fn decided_there(
     requires scenario { IsScenario problem.now scenario.now }
     requires process { process < process_count problem.now }
     requires small { AreSmall known.now }
-    ensures { IfOk result (IsMost (λ c. (c < condition_count problem.now) × (decides problem.now scenario.now.values process c ≡ true)) (heard_there problem.now known.now (node_of problem.now process))) }
+    ensures { IfOk result (IsMost (λ c. (c < condition_count problem.now) ×
+        (decides problem.now scenario.now.values process c ≡ true)) (heard_there problem.now known.now (node_of problem.now process))) }
 {
     let conditions = deciding(alloc, problem, guards, scenario, process)?;
     let heard = latest_heard(

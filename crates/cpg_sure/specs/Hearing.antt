@@ -36,7 +36,8 @@ pub record IsOwner (g : Graph) (v p : ℕ) : Type 0 where
 
 -- wherever a column of an item matches and a process is active, it has ended by the column's time
 abbrev pub IsEndedBy : Graph → List NodeTable → ℕ → ℕ → Type 0
-IsEndedBy g tables q x = (s : Scenario) (c : Column) → IsScenario g s → Contains (columns_of tables x) c → matches c.cube s ≡ true → active g s.values q ≡ true → is_by c.time (ends_of g tables s q) ≡ true
+IsEndedBy g tables q x = (s : Scenario) (c : Column) → IsScenario g s → Contains (columns_of tables x) c → matches c.cube s ≡ true →
+    active g s.values q ≡ true → is_by c.time (ends_of g tables s q) ≡ true
 
 -- a variable of a process on the item's node that has always ended by the item's columns
 pub record IsOwnEnded (g : Graph) (tables : List NodeTable) (x v : ℕ) : Type 0 where

@@ -39,7 +39,8 @@ fn is_active(admitted: &Admitted, always: &[bool], process: u32, space: &Space) 
 fn are_active(admitted: &Admitted, always: &[bool], literals: &[Literal], space: &Space) -> bool
     requires literals { IsKnown admitted.now.graph literals.now }
     requires always { AreAlways admitted.now.graph always.now }
-    ensures { OnTrue result ((s : Scenario) → IsScenario admitted.now.graph s → Lies space.now s → list_any (λ l. not (active admitted.now.graph s.values (process_of_variable admitted.now.graph l.variable))) literals.now ≡ false) }
+    ensures { OnTrue result ((s : Scenario) → IsScenario admitted.now.graph s → Lies space.now s →
+        list_any (λ l. not (active admitted.now.graph s.values (process_of_variable admitted.now.graph l.variable))) literals.now ≡ false) }
 {
     for literal in literals {
         let process = admitted.problem().process_of_variable(literal.variable);
@@ -55,7 +56,8 @@ fn is_lawful(admitted: &Admitted, always: &[bool], item: u32, column: &Entry) ->
     requires item { item < item_count admitted.now.graph }
     requires column { IsKnown admitted.now.graph column.now.cube }
     requires always { AreAlways admitted.now.graph always.now }
-    ensures { OnTrue result ((s : Scenario) → IsScenario admitted.now.graph s → matches column.now.cube s ≡ true → breaks_activity admitted.now.graph s item column.now ≡ false) }
+    ensures { OnTrue result ((s : Scenario) → IsScenario admitted.now.graph s → matches column.now.cube s ≡ true →
+        breaks_activity admitted.now.graph s item column.now ≡ false) }
 {
     let literals = column.cube.literals();
     let Some(space) = Space::of(admitted.problem().faults(), literals) else {
@@ -72,7 +74,8 @@ fn are_lawful(admitted: &Admitted, always: &[bool], item: u32, columns: &[Entry]
     requires item { item < item_count admitted.now.graph }
     requires columns { All (λ c. IsKnown admitted.now.graph c.cube) columns.now }
     requires always { AreAlways admitted.now.graph always.now }
-    ensures { OnTrue result (All (λ c. (s : Scenario) → IsScenario admitted.now.graph s → matches c.cube s ≡ true → breaks_activity admitted.now.graph s item c ≡ false) columns.now) }
+    ensures { OnTrue result (All (λ c. (s : Scenario) → IsScenario admitted.now.graph s → matches c.cube s ≡ true →
+        breaks_activity admitted.now.graph s item c ≡ false) columns.now) }
 {
     for column in columns {
         if !is_lawful(admitted, always, item, column) {

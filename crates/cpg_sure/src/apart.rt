@@ -29,7 +29,8 @@ struct Parts<'a> {
 }
 
 impl<'a> Test for Parts<'a> {
-    ghost tells = { λ test place s. IfSome place (λ i. IsPast test.span (column_at test.columns.now i).time test.time s ⊎ IsPast test.other test.time (column_at test.columns.now i).time s) };
+    ghost tells = { λ test place s. IfSome place (λ i. IsPast test.span (column_at test.columns.now i).time test.time s ⊎
+        IsPast test.other test.time (column_at test.columns.now i).time s) };
 
     fn passes(&self, place: Option<u32>, space: &Space) -> bool {
         let Some(place) = place else {
@@ -48,7 +49,9 @@ impl<'a> Test for Parts<'a> {
 impl<'a> Course<'a> {
     /// Whether all columns are so early or so late that the item and another, which is at a time, are apart.
     fn is_clear(&self, other: &Course<'_>, time: u64) -> bool
-        ensures { OnTrue result ((g : Graph) (tables : List NodeTable) (lasts : ℕ → Scenario → ℕ) (y x : ℕ) (s : Scenario) → IsCourse g tables (lasts y) y self.now → IsCourse g tables (lasts x) x other.now → IsScenario g s → IsApartAt tables (lasts y s) y (lasts x s) time s) }
+        ensures { OnTrue result ((g : Graph) (tables : List NodeTable) (lasts : ℕ → Scenario → ℕ) (y x : ℕ) (s : Scenario) →
+            IsCourse g tables (lasts y) y self.now → IsCourse g tables (lasts x) x other.now → IsScenario g s →
+            IsApartAt tables (lasts y s) y (lasts x s) time s) }
     {
         if self.is_early(time) {
             return true;
@@ -61,7 +64,9 @@ impl<'a> Course<'a> {
 
     /// Whether the item and another, which is at a time, are apart in the scenarios of a space.
     fn is_apart(&self, other: &Course<'_>, space: &Space, time: u64) -> bool
-        ensures { OnTrue result ((g : Graph) (tables : List NodeTable) (lasts : ℕ → Scenario → ℕ) (y x : ℕ) (s : Scenario) → IsCourse g tables (lasts y) y self.now → IsCourse g tables (lasts x) x other.now → IsScenario g s → Lies space.now s → IsApartAt tables (lasts y s) y (lasts x s) time s) }
+        ensures { OnTrue result ((g : Graph) (tables : List NodeTable) (lasts : ℕ → Scenario → ℕ) (y x : ℕ) (s : Scenario) →
+            IsCourse g tables (lasts y) y self.now → IsCourse g tables (lasts x) x other.now → IsScenario g s → Lies space.now s →
+            IsApartAt tables (lasts y s) y (lasts x s) time s) }
     {
         if self.is_clear(other, time) {
             return true;
@@ -83,7 +88,9 @@ impl<'a> Courses<'a> {
     /// Whether all columns of each of these items are so early or so late that it and another, which is at a time, are
     /// apart.
     fn are_clear(&self, items: &[u32], other: &Course<'_>, time: u64) -> bool
-        ensures { OnTrue result ((g : Graph) (tables : List NodeTable) (lasts : ℕ → Scenario → ℕ) (x : ℕ) (s : Scenario) → AreCourses lasts g tables self.now → IsCourse g tables (lasts x) x other.now → IsScenario g s → All (λ y. IsApartAt tables (lasts y s) y (lasts x s) time s) items.now) }
+        ensures { OnTrue result ((g : Graph) (tables : List NodeTable) (lasts : ℕ → Scenario → ℕ) (x : ℕ) (s : Scenario) →
+            AreCourses lasts g tables self.now → IsCourse g tables (lasts x) x other.now → IsScenario g s →
+            All (λ y. IsApartAt tables (lasts y s) y (lasts x s) time s) items.now) }
     {
         for item in items {
             let Some(course) = self.list.get(*item as usize) else {
@@ -98,7 +105,9 @@ impl<'a> Courses<'a> {
 
     /// Whether each of these items and another, which is at a time, are apart in the scenarios of a space.
     fn are_apart_in(&self, items: &[u32], other: &Course<'_>, space: &Space, time: u64) -> bool
-        ensures { OnTrue result ((g : Graph) (tables : List NodeTable) (lasts : ℕ → Scenario → ℕ) (x : ℕ) (s : Scenario) → AreCourses lasts g tables self.now → IsCourse g tables (lasts x) x other.now → IsScenario g s → Lies space.now s → All (λ y. IsApartAt tables (lasts y s) y (lasts x s) time s) items.now) }
+        ensures { OnTrue result ((g : Graph) (tables : List NodeTable) (lasts : ℕ → Scenario → ℕ) (x : ℕ) (s : Scenario) →
+            AreCourses lasts g tables self.now → IsCourse g tables (lasts x) x other.now → IsScenario g s → Lies space.now s →
+            All (λ y. IsApartAt tables (lasts y s) y (lasts x s) time s) items.now) }
     {
         for item in items {
             let Some(course) = self.list.get(*item as usize) else {
@@ -113,7 +122,9 @@ impl<'a> Courses<'a> {
 
     /// Whether each of these items and another at one of its columns are apart, wherever that matches.
     fn are_apart_at(&self, items: &[u32], other: &Course<'_>, column: &Entry) -> bool
-        ensures { OnTrue result ((g : Graph) (tables : List NodeTable) (lasts : ℕ → Scenario → ℕ) (x : ℕ) (s : Scenario) → AreCourses lasts g tables self.now → IsCourse g tables (lasts x) x other.now → IsScenario g s → matches column.now.cube s ≡ true → All (λ y. IsApartAt tables (lasts y s) y (lasts x s) column.now.time s) items.now) }
+        ensures { OnTrue result ((g : Graph) (tables : List NodeTable) (lasts : ℕ → Scenario → ℕ) (x : ℕ) (s : Scenario) →
+            AreCourses lasts g tables self.now → IsCourse g tables (lasts x) x other.now → IsScenario g s →
+            matches column.now.cube s ≡ true → All (λ y. IsApartAt tables (lasts y s) y (lasts x s) column.now.time s) items.now) }
     {
         if self.are_clear(items, other, column.time) {
             return true;
@@ -126,7 +137,8 @@ impl<'a> Courses<'a> {
 
     /// Whether each of these items and another are apart wherever a column of each matches.
     fn are_apart(&self, items: &[u32], other: &Course<'_>) -> bool
-        ensures { OnTrue result ((g : Graph) (tables : List NodeTable) (lasts : ℕ → Scenario → ℕ) (x : ℕ) → AreCourses lasts g tables self.now → IsCourse g tables (lasts x) x other.now → All (λ y. IsApart lasts g tables y x) items.now) }
+        ensures { OnTrue result ((g : Graph) (tables : List NodeTable) (lasts : ℕ → Scenario → ℕ) (x : ℕ) →
+            AreCourses lasts g tables self.now → IsCourse g tables (lasts x) x other.now → All (λ y. IsApart lasts g tables y x) items.now) }
     {
         for column in other.columns {
             if !self.are_apart_at(items, other, column) {
@@ -146,7 +158,8 @@ impl<'a> Turns<'a> {
         items: &[u32],
         other: u32,
     ) -> Result<Vec<u32>, OutOfMemory>
-        ensures { IfOk result (λ left. (g : Graph) (tables : List NodeTable) (lasts : ℕ → Scenario → ℕ) → AreTurns lasts g tables self.now → All (λ y. Contains left.items y ⊎ IsApart lasts g tables y other) items.now) }
+        ensures { IfOk result (λ left. (g : Graph) (tables : List NodeTable) (lasts : ℕ → Scenario → ℕ) → AreTurns lasts g tables self.now →
+            All (λ y. Contains left.items y ⊎ IsApart lasts g tables y other) items.now) }
     {
         let mut left = Vec::new(alloc);
         for item in items {
@@ -169,7 +182,8 @@ impl<'a> Turns<'a> {
         items: &[u32],
         other: u32,
     ) -> Result<bool, OutOfMemory>
-        ensures { IfOk result (λ r. OnTrue r ((g : Graph) (tables : List NodeTable) (lasts : ℕ → Scenario → ℕ) → AreTurns lasts g tables self.now → All (λ y. IsApart lasts g tables y other) items.now)) }
+        ensures { IfOk result (λ r. OnTrue r ((g : Graph) (tables : List NodeTable) (lasts : ℕ → Scenario → ℕ) →
+            AreTurns lasts g tables self.now → All (λ y. IsApart lasts g tables y other) items.now)) }
     {
         let left = self.untold(alloc, node, items, other)?;
         match self.courses.list.get(other as usize) {

@@ -40,7 +40,8 @@ impl<'a> Test for Ends<'a> {
 impl<'a> Course<'a> {
     /// Whether the item is over by a time in every scenario, by its last column.
     pub(crate) fn is_early(&self, time: u64) -> bool
-        ensures { OnTrue result ((g : Graph) (tables : List NodeTable) (lasts : Scenario → ℕ) (x : ℕ) (s : Scenario) → IsCourse g tables lasts x self.now → IsScenario g s → IsOverBy tables (lasts s) x time s) }
+        ensures { OnTrue result ((g : Graph) (tables : List NodeTable) (lasts : Scenario → ℕ) (x : ℕ) (s : Scenario) →
+            IsCourse g tables lasts x self.now → IsScenario g s → IsOverBy tables (lasts s) x time s) }
     {
         if time < self.last {
             return false;
@@ -50,7 +51,8 @@ impl<'a> Course<'a> {
 
     /// Whether the item is over by a time in the scenarios of a space, by the columns that match there.
     pub(crate) fn is_over(&self, space: &Space, time: u64) -> bool
-        ensures { OnTrue result ((g : Graph) (tables : List NodeTable) (lasts : Scenario → ℕ) (x : ℕ) (s : Scenario) → IsCourse g tables lasts x self.now → IsScenario g s → Lies space.now s → IsOverBy tables (lasts s) x time s) }
+        ensures { OnTrue result ((g : Graph) (tables : List NodeTable) (lasts : Scenario → ℕ) (x : ℕ) (s : Scenario) →
+            IsCourse g tables lasts x self.now → IsScenario g s → Lies space.now s → IsOverBy tables (lasts s) x time s) }
     {
         if self.is_early(time) {
             return true;
@@ -70,7 +72,8 @@ impl<'a> Course<'a> {
 impl<'a> Courses<'a> {
     /// Whether each of these items is over by a time in every scenario, by its last column.
     fn are_early(&self, items: &[u32], time: u64) -> bool
-        ensures { OnTrue result ((g : Graph) (tables : List NodeTable) (lasts : ℕ → Scenario → ℕ) (s : Scenario) → AreCourses lasts g tables self.now → IsScenario g s → All (λ y. IsOverBy tables (lasts y s) y time s) items.now) }
+        ensures { OnTrue result ((g : Graph) (tables : List NodeTable) (lasts : ℕ → Scenario → ℕ) (s : Scenario) →
+            AreCourses lasts g tables self.now → IsScenario g s → All (λ y. IsOverBy tables (lasts y s) y time s) items.now) }
     {
         for item in items {
             let Some(course) = self.list.get(*item as usize) else {
@@ -85,7 +88,8 @@ impl<'a> Courses<'a> {
 
     /// Whether each of these items is over by a time in the scenarios of a space, by the columns that match there.
     fn are_over(&self, items: &[u32], space: &Space, time: u64) -> bool
-        ensures { OnTrue result ((g : Graph) (tables : List NodeTable) (lasts : ℕ → Scenario → ℕ) (s : Scenario) → AreCourses lasts g tables self.now → IsScenario g s → Lies space.now s → All (λ y. IsOverBy tables (lasts y s) y time s) items.now) }
+        ensures { OnTrue result ((g : Graph) (tables : List NodeTable) (lasts : ℕ → Scenario → ℕ) (s : Scenario) →
+            AreCourses lasts g tables self.now → IsScenario g s → Lies space.now s → All (λ y. IsOverBy tables (lasts y s) y time s) items.now) }
     {
         for item in items {
             let Some(course) = self.list.get(*item as usize) else {
@@ -100,7 +104,9 @@ impl<'a> Courses<'a> {
 
     /// Whether each of these items is over by the time of a column, wherever that matches.
     pub(crate) fn are_over_at(&self, items: &[u32], column: &Entry) -> bool
-        ensures { OnTrue result ((g : Graph) (tables : List NodeTable) (lasts : ℕ → Scenario → ℕ) (s : Scenario) → AreCourses lasts g tables self.now → IsScenario g s → matches column.now.cube s ≡ true → All (λ y. IsOverBy tables (lasts y s) y column.now.time s) items.now) }
+        ensures { OnTrue result ((g : Graph) (tables : List NodeTable) (lasts : ℕ → Scenario → ℕ) (s : Scenario) →
+            AreCourses lasts g tables self.now → IsScenario g s → matches column.now.cube s ≡ true →
+            All (λ y. IsOverBy tables (lasts y s) y column.now.time s) items.now) }
     {
         if self.are_early(items, column.time) {
             return true;
@@ -113,7 +119,8 @@ impl<'a> Courses<'a> {
 
     /// Whether each of these items is over before another, which has these columns: wherever a column of each matches.
     pub(crate) fn come_before(&self, items: &[u32], columns: &[Entry]) -> bool
-        ensures { OnTrue result ((g : Graph) (tables : List NodeTable) (lasts : ℕ → Scenario → ℕ) (x : ℕ) → AreCourses lasts g tables self.now → columns.now ≡ columns_of tables x → All (λ y. IsOver lasts g tables y x) items.now) }
+        ensures { OnTrue result ((g : Graph) (tables : List NodeTable) (lasts : ℕ → Scenario → ℕ) (x : ℕ) →
+            AreCourses lasts g tables self.now → columns.now ≡ columns_of tables x → All (λ y. IsOver lasts g tables y x) items.now) }
     {
         for column in columns {
             if !self.are_over_at(items, column) {

@@ -19,7 +19,8 @@ use std::alloc::Global;
 /// Whether an execution that a column starts ends by its process's due.
 fn ends_in_time(problem: &Problem, process: u32, column: &Entry) -> bool
     requires { process < process_count problem.now }
-    ensures { OnTrue result ((s : Scenario) → IsScenario problem.now s → matches column.now.cube s ≡ true → column.now.time + duration problem.now process (fault_of s process) ≤ due problem.now process) }
+    ensures { OnTrue result ((s : Scenario) → IsScenario problem.now s → matches column.now.cube s ≡ true →
+        column.now.time + duration problem.now process (fault_of s process) ≤ due problem.now process) }
 {
     let Some(space) = Space::of(problem.faults(), column.cube.literals()) else {
         return true;
@@ -33,7 +34,8 @@ fn ends_in_time(problem: &Problem, process: u32, column: &Entry) -> bool
 /// Whether an execution ends by its process's due whichever of these columns starts it.
 fn all_end_in_time(problem: &Problem, process: u32, columns: &[Entry]) -> bool
     requires { process < process_count problem.now }
-    ensures { OnTrue result (All (λ c. (s : Scenario) → IsScenario problem.now s → matches c.cube s ≡ true → c.time + duration problem.now process (fault_of s process) ≤ due problem.now process) columns.now) }
+    ensures { OnTrue result (All (λ c. (s : Scenario) → IsScenario problem.now s → matches c.cube s ≡ true →
+        c.time + duration problem.now process (fault_of s process) ≤ due problem.now process) columns.now) }
 {
     let most = longest(problem, process, &Space::whole(problem.faults()));
     let due = problem.due(process);

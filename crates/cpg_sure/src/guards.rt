@@ -86,7 +86,8 @@ fn edge_of(problem: &Problem, edge: u32) -> Edge
 /// Whether the source of an edge has the value that the edge asks for in no scenario of a space.
 pub(crate) fn is_refused(problem: &Problem, edge: u32, space: &Space) -> bool
     requires { edge < edge_count problem.now }
-    ensures { OnTrue result ((s : Scenario) → Lies space.now s → takes (edge_at problem.now edge).when (value_of problem.now s.values (source problem.now edge)) ≡ false) }
+    ensures { OnTrue result ((s : Scenario) → Lies space.now s →
+        takes (edge_at problem.now edge).when (value_of problem.now s.values (source problem.now edge)) ≡ false) }
 {
     let edge = edge_of(problem, edge);
     let Some(value) = edge.when else {
@@ -101,7 +102,8 @@ pub(crate) fn is_refused(problem: &Problem, edge: u32, space: &Space) -> bool
 /// Whether the source of an edge has the value that the edge asks for in each scenario of a space.
 fn is_taken(problem: &Problem, edge: u32, space: &Space) -> bool
     requires { edge < edge_count problem.now }
-    ensures { OnTrue result ((s : Scenario) → Lies space.now s → takes (edge_at problem.now edge).when (value_of problem.now s.values (source problem.now edge)) ≡ true) }
+    ensures { OnTrue result ((s : Scenario) → Lies space.now s →
+        takes (edge_at problem.now edge).when (value_of problem.now s.values (source problem.now edge)) ≡ true) }
 {
     let edge = edge_of(problem, edge);
     let Some(value) = edge.when else {
@@ -116,7 +118,8 @@ fn is_taken(problem: &Problem, edge: u32, space: &Space) -> bool
 /// Whether an edge's message is active in no scenario of a space.
 fn is_message_idle(admitted: &Admitted, edge: u32, space: &Space) -> bool
     requires { edge < edge_count admitted.now.graph }
-    ensures { OnTrue result ((s : Scenario) → IsScenario admitted.now.graph s → Lies space.now s → item_active admitted.now.graph s.values (Item.Message edge) ≡ false) }
+    ensures { OnTrue result ((s : Scenario) → IsScenario admitted.now.graph s → Lies space.now s →
+        item_active admitted.now.graph s.values (Item.Message edge) ≡ false) }
 {
     let problem = admitted.problem();
     if !problem.is_message(edge) {
@@ -131,7 +134,8 @@ fn is_message_idle(admitted: &Admitted, edge: u32, space: &Space) -> bool
 /// Whether an edge's message is active in each scenario of a space.
 fn is_message_running(admitted: &Admitted, edge: u32, space: &Space) -> bool
     requires { edge < edge_count admitted.now.graph }
-    ensures { OnTrue result ((s : Scenario) → IsScenario admitted.now.graph s → Lies space.now s → item_active admitted.now.graph s.values (Item.Message edge) ≡ true) }
+    ensures { OnTrue result ((s : Scenario) → IsScenario admitted.now.graph s → Lies space.now s →
+        item_active admitted.now.graph s.values (Item.Message edge) ≡ true) }
 {
     let problem = admitted.problem();
     if !problem.is_message(edge) {
@@ -146,7 +150,8 @@ fn is_message_running(admitted: &Admitted, edge: u32, space: &Space) -> bool
 /// Whether a condition's broadcast is active in no scenario of a space.
 fn is_broadcast_idle(admitted: &Admitted, condition: u32, space: &Space) -> bool
     requires { condition < condition_count admitted.now.graph }
-    ensures { OnTrue result ((s : Scenario) → IsScenario admitted.now.graph s → Lies space.now s → item_active admitted.now.graph s.values (Item.Broadcast condition) ≡ false) }
+    ensures { OnTrue result ((s : Scenario) → IsScenario admitted.now.graph s → Lies space.now s →
+        item_active admitted.now.graph s.values (Item.Broadcast condition) ≡ false) }
 {
     let problem = admitted.problem();
     if problem.nodes().len() < 2 {
@@ -158,7 +163,8 @@ fn is_broadcast_idle(admitted: &Admitted, condition: u32, space: &Space) -> bool
 /// Whether a condition's broadcast is active in each scenario of a space.
 fn is_broadcast_running(admitted: &Admitted, condition: u32, space: &Space) -> bool
     requires { condition < condition_count admitted.now.graph }
-    ensures { OnTrue result ((s : Scenario) → IsScenario admitted.now.graph s → Lies space.now s → item_active admitted.now.graph s.values (Item.Broadcast condition) ≡ true) }
+    ensures { OnTrue result ((s : Scenario) → IsScenario admitted.now.graph s → Lies space.now s →
+        item_active admitted.now.graph s.values (Item.Broadcast condition) ≡ true) }
 {
     let problem = admitted.problem();
     if problem.nodes().len() < 2 {
@@ -170,7 +176,8 @@ fn is_broadcast_running(admitted: &Admitted, condition: u32, space: &Space) -> b
 /// Whether an item is active in no scenario of a space.
 pub(crate) fn is_item_idle(admitted: &Admitted, item: u32, space: &Space) -> bool
     requires { item < item_count admitted.now.graph }
-    ensures { OnTrue result ((s : Scenario) → IsScenario admitted.now.graph s → Lies space.now s → item_active admitted.now.graph s.values (item_at admitted.now.graph item) ≡ false) }
+    ensures { OnTrue result ((s : Scenario) → IsScenario admitted.now.graph s → Lies space.now s →
+        item_active admitted.now.graph s.values (item_at admitted.now.graph item) ≡ false) }
 {
     match admitted.problem().item(item) {
         Item::Start(process) => is_idle(admitted, process, space),
@@ -182,7 +189,8 @@ pub(crate) fn is_item_idle(admitted: &Admitted, item: u32, space: &Space) -> boo
 /// Whether an item is active in each scenario of a space.
 pub(crate) fn is_item_running(admitted: &Admitted, item: u32, space: &Space) -> bool
     requires { item < item_count admitted.now.graph }
-    ensures { OnTrue result ((s : Scenario) → IsScenario admitted.now.graph s → Lies space.now s → item_active admitted.now.graph s.values (item_at admitted.now.graph item) ≡ true) }
+    ensures { OnTrue result ((s : Scenario) → IsScenario admitted.now.graph s → Lies space.now s →
+        item_active admitted.now.graph s.values (item_at admitted.now.graph item) ≡ true) }
 {
     match admitted.problem().item(item) {
         Item::Start(process) => is_running(admitted, process, space),

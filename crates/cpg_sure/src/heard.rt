@@ -121,7 +121,12 @@ impl<'a> Hall<'a> {
         columns: &[Entry],
     ) -> Result<bool, OutOfMemory>
         requires item { item < item_count self.now.admitted.now.graph }
-        ensures { IfOk result (λ sure. OnTrue sure ((tables : List NodeTable) → AreTurns (execution self.now.admitted.now.graph) self.now.admitted.now.graph tables self.now.turns.now → AreCourses (frame self.now.admitted.now.graph) self.now.admitted.now.graph tables self.now.frames.now → AllHold self.now.admitted.now.graph tables row_rules → (is_sent_in_time ≡ true → IsSure self.now.admitted.now.graph tables Rule.Inputs item) → columns.now ≡ columns_of tables item → IsSure self.now.admitted.now.graph tables Rule.Heard item)) }
+        ensures { IfOk result (λ sure. OnTrue sure ((tables : List NodeTable) →
+            AreTurns (execution self.now.admitted.now.graph) self.now.admitted.now.graph tables self.now.turns.now →
+            AreCourses (frame self.now.admitted.now.graph) self.now.admitted.now.graph tables self.now.frames.now →
+            AllHold self.now.admitted.now.graph tables row_rules → (is_sent_in_time ≡ true →
+            IsSure self.now.admitted.now.graph tables Rule.Inputs item) → columns.now ≡ columns_of tables item →
+            IsSure self.now.admitted.now.graph tables Rule.Heard item)) }
     {
         let problem = self.admitted.problem();
         let known = own_ended(self.admitted, self.turns, item, is_sent_in_time);

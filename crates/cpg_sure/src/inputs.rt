@@ -31,7 +31,9 @@ fn is_start_sure(
 ) -> Result<bool, OutOfMemory>
     requires links { waiting.now.links ≡ links_of waiting.now.admitted.now.graph }
     requires process { process < process_count waiting.now.admitted.now.graph }
-    ensures { IfOk result (λ sure. OnTrue sure ((tables : List NodeTable) → IsWaiting waiting.now.admitted.now.graph tables waiting.now → AllHold waiting.now.admitted.now.graph tables row_rules → columns.now ≡ columns_of tables process → IsSure waiting.now.admitted.now.graph tables Rule.Inputs process)) }
+    ensures { IfOk result (λ sure. OnTrue sure ((tables : List NodeTable) → IsWaiting waiting.now.admitted.now.graph tables waiting.now →
+        AllHold waiting.now.admitted.now.graph tables row_rules → columns.now ≡ columns_of tables process →
+        IsSure waiting.now.admitted.now.graph tables Rule.Inputs process)) }
 {
     let edges = waiting.links.inputs(process);
     let others = waiting.others(alloc, edges, process)?;
@@ -48,7 +50,9 @@ fn is_sure(
 ) -> Result<bool, OutOfMemory>
     requires links { waiting.now.links ≡ links_of waiting.now.admitted.now.graph }
     requires item { item < item_count waiting.now.admitted.now.graph }
-    ensures { IfOk result (λ sure. OnTrue sure ((tables : List NodeTable) → IsWaiting waiting.now.admitted.now.graph tables waiting.now → AllHold waiting.now.admitted.now.graph tables row_rules → columns.now ≡ columns_of tables item → IsSure waiting.now.admitted.now.graph tables Rule.Inputs item)) }
+    ensures { IfOk result (λ sure. OnTrue sure ((tables : List NodeTable) → IsWaiting waiting.now.admitted.now.graph tables waiting.now →
+        AllHold waiting.now.admitted.now.graph tables row_rules → columns.now ≡ columns_of tables item →
+        IsSure waiting.now.admitted.now.graph tables Rule.Inputs item)) }
 {
     if item as usize >= waiting.admitted.problem().processes().len() {
         return Ok(waiting.is_after_producer(item, columns));

@@ -60,7 +60,9 @@ fn has_ended(
 ) -> bool
     requires item { item < item_count admitted.now.graph }
     requires process { process < process_count admitted.now.graph }
-    ensures { OnTrue result ((tables : List NodeTable) → AreTurns (execution admitted.now.graph) admitted.now.graph tables turns.now → AllHold admitted.now.graph tables row_rules → (is_sent_in_time ≡ true → IsSure admitted.now.graph tables Rule.Inputs item) → IsEndedBy admitted.now.graph tables process item) }
+    ensures { OnTrue result ((tables : List NodeTable) → AreTurns (execution admitted.now.graph) admitted.now.graph tables turns.now →
+        AllHold admitted.now.graph tables row_rules → (is_sent_in_time ≡ true → IsSure admitted.now.graph tables Rule.Inputs item) →
+        IsEndedBy admitted.now.graph tables process item) }
 {
     let problem = admitted.problem();
     let node = problem.node_of(process);
@@ -86,7 +88,9 @@ fn is_own_ended(
     variable: u8,
 ) -> bool
     requires item { item < item_count admitted.now.graph }
-    ensures { OnTrue result ((tables : List NodeTable) → AreTurns (execution admitted.now.graph) admitted.now.graph tables turns.now → AllHold admitted.now.graph tables row_rules → (is_sent_in_time ≡ true → IsSure admitted.now.graph tables Rule.Inputs item) → IsOwnEnded admitted.now.graph tables item variable) }
+    ensures { OnTrue result ((tables : List NodeTable) → AreTurns (execution admitted.now.graph) admitted.now.graph tables turns.now →
+        AllHold admitted.now.graph tables row_rules → (is_sent_in_time ≡ true → IsSure admitted.now.graph tables Rule.Inputs item) →
+        IsOwnEnded admitted.now.graph tables item variable) }
 {
     let problem = admitted.problem();
     let Some(process) = owner(problem, variable) else {
@@ -106,7 +110,9 @@ pub(crate) fn own_ended(
     is_sent_in_time: bool,
 ) -> [bool; VARIABLES]
     requires item { item < item_count admitted.now.graph }
-    ensures { (tables : List NodeTable) → AreTurns (execution admitted.now.graph) admitted.now.graph tables turns.now → AllHold admitted.now.graph tables row_rules → (is_sent_in_time ≡ true → IsSure admitted.now.graph tables Rule.Inputs item) → AreOwnEnded admitted.now.graph tables item result }
+    ensures { (tables : List NodeTable) → AreTurns (execution admitted.now.graph) admitted.now.graph tables turns.now →
+        AllHold admitted.now.graph tables row_rules → (is_sent_in_time ≡ true → IsSure admitted.now.graph tables Rule.Inputs item) →
+        AreOwnEnded admitted.now.graph tables item result }
 {
     let mut known = [false; VARIABLES];
     for variable in 0..VARIABLES {
@@ -180,7 +186,9 @@ pub(crate) struct Listener<'a> {
 impl<'a> Listener<'a> {
     /// Whether a process is over by a time in the scenarios of a space.
     fn is_over(&self, process: u32, space: &Space, time: u64) -> bool
-        ensures { OnTrue result ((tables : List NodeTable) (s : Scenario) → AreTurns (execution self.now.admitted.now.graph) self.now.admitted.now.graph tables self.now.turns.now → IsScenario self.now.admitted.now.graph s → Lies space.now s → IsOverBy tables (execution self.now.admitted.now.graph process s) process time s) }
+        ensures { OnTrue result ((tables : List NodeTable) (s : Scenario) →
+            AreTurns (execution self.now.admitted.now.graph) self.now.admitted.now.graph tables self.now.turns.now →
+            IsScenario self.now.admitted.now.graph s → Lies space.now s → IsOverBy tables (execution self.now.admitted.now.graph process s) process time s) }
     {
         let Some(course) = self.turns.courses.list.get(process as usize) else {
             return false;
@@ -193,7 +201,9 @@ impl<'a> Listener<'a> {
 
     /// Whether the process of a variable is on the node, and over by a time in the scenarios of a space.
     fn is_own_over(&self, variable: u8, space: &Space, time: u64) -> bool
-        ensures { OnTrue result ((tables : List NodeTable) (s : Scenario) → AreTurns (execution self.now.admitted.now.graph) self.now.admitted.now.graph tables self.now.turns.now → IsScenario self.now.admitted.now.graph s → Lies space.now s → IsOwnOver self.now.admitted.now.graph tables self.now.node variable time s) }
+        ensures { OnTrue result ((tables : List NodeTable) (s : Scenario) →
+            AreTurns (execution self.now.admitted.now.graph) self.now.admitted.now.graph tables self.now.turns.now →
+            IsScenario self.now.admitted.now.graph s → Lies space.now s → IsOwnOver self.now.admitted.now.graph tables self.now.node variable time s) }
     {
         let problem = self.admitted.problem();
         let Some(process) = owner(problem, variable) else {
@@ -208,7 +218,10 @@ impl<'a> Listener<'a> {
 
     /// Whether a literal is marked, or this is so of its variable.
     fn is_known(&self, is_marked: bool, variable: u8, space: &Space, time: u64) -> bool
-        ensures { OnTrue result ((tables : List NodeTable) (s : Scenario) → AreTurns (execution self.now.admitted.now.graph) self.now.admitted.now.graph tables self.now.turns.now → IsScenario self.now.admitted.now.graph s → Lies space.now s → (is_marked ≡ true) ⊎ IsOwnOver self.now.admitted.now.graph tables self.now.node variable time s) }
+        ensures { OnTrue result ((tables : List NodeTable) (s : Scenario) →
+            AreTurns (execution self.now.admitted.now.graph) self.now.admitted.now.graph tables self.now.turns.now →
+            IsScenario self.now.admitted.now.graph s → Lies space.now s → (is_marked ≡ true) ⊎
+            IsOwnOver self.now.admitted.now.graph tables self.now.node variable time s) }
     {
         if is_marked {
             return true;
@@ -219,7 +232,10 @@ impl<'a> Listener<'a> {
     /// Whether this is so of the variables of all literals that aren't marked.
     fn are_others_over(&self, literals: &[Literal], told: &[bool], space: &Space, time: u64) -> bool
         requires long { length told.now ≡ length literals.now }
-        ensures { OnTrue result ((tables : List NodeTable) (s : Scenario) (i : ℕ) → AreTurns (execution self.now.admitted.now.graph) self.now.admitted.now.graph tables self.now.turns.now → IsScenario self.now.admitted.now.graph s → Lies space.now s → i < length literals.now → (get_or told.now i false ≡ true) ⊎ IsOwnOver self.now.admitted.now.graph tables self.now.node (literal_at literals.now i).variable time s) }
+        ensures { OnTrue result ((tables : List NodeTable) (s : Scenario) (i : ℕ) →
+            AreTurns (execution self.now.admitted.now.graph) self.now.admitted.now.graph tables self.now.turns.now →
+            IsScenario self.now.admitted.now.graph s → Lies space.now s → i < length literals.now → (get_or told.now i false ≡ true) ⊎
+            IsOwnOver self.now.admitted.now.graph tables self.now.node (literal_at literals.now i).variable time s) }
     {
         for (place, literal) in literals.iter().enumerate() {
             if !self.is_known(told[place], literal.variable, space, time) {
@@ -241,7 +257,10 @@ impl<'a> Listener<'a> {
     ) -> Result<(), OutOfMemory>
         requires long { length told.old.items ≡ length wanted.now }
         ensures long { IfOk result (λ _. length told.new.items ≡ length wanted.now) }
-        ensures heard { IfOk result (λ _. (g : Graph) (tables : List NodeTable) → All (IsSpeaker g tables self.now.node) self.now.speakers.items → All (IsToldIn column.now.cube) wanted.now → ((s : Scenario) → IsScenario g s → matches column.now.cube s ≡ true → Lies space.now s) → AreHeardIn g tables self.now.node column.now wanted.now told.old.items → AreHeardIn g tables self.now.node column.now wanted.now told.new.items) }
+        ensures heard { IfOk result (λ _. (g : Graph) (tables : List NodeTable) →
+            All (IsSpeaker g tables self.now.node) self.now.speakers.items → All (IsToldIn column.now.cube) wanted.now →
+            ((s : Scenario) → IsScenario g s → matches column.now.cube s ≡ true → Lies space.now s) →
+            AreHeardIn g tables self.now.node column.now wanted.now told.old.items → AreHeardIn g tables self.now.node column.now wanted.now told.new.items) }
     {
         for speaker in self.speakers.as_slice() {
             if are_marked(told.as_slice()) {
@@ -261,7 +280,9 @@ impl<'a> Listener<'a> {
         places: &mut Vec<u32>,
         told: &mut Vec<bool>,
     ) -> Result<bool, OutOfMemory>
-        ensures { IfOk result (λ all. OnTrue all ((tables : List NodeTable) (x : ℕ) → IsListener tables x self.now → AllHold self.now.admitted.now.graph tables row_rules → Contains (columns_of tables x) column.now → IsAllHeard self.now.admitted.now.graph tables self.now.node column.now)) }
+        ensures { IfOk result (λ all. OnTrue all ((tables : List NodeTable) (x : ℕ) → IsListener tables x self.now →
+            AllHold self.now.admitted.now.graph tables row_rules → Contains (columns_of tables x) column.now →
+            IsAllHeard self.now.admitted.now.graph tables self.now.node column.now)) }
     {
         let literals = column.cube.literals();
         let problem = self.admitted.problem();
@@ -277,7 +298,9 @@ impl<'a> Listener<'a> {
 
     /// Whether it has heard all literals of all of the item's columns.
     pub(crate) fn hears_all(&self, alloc: Global, columns: &[Entry]) -> Result<bool, OutOfMemory>
-        ensures { IfOk result (λ all. OnTrue all ((tables : List NodeTable) (x : ℕ) → IsListener tables x self.now → AllHold self.now.admitted.now.graph tables row_rules → columns.now ≡ columns_of tables x → All (IsAllHeard self.now.admitted.now.graph tables self.now.node) columns.now)) }
+        ensures { IfOk result (λ all. OnTrue all ((tables : List NodeTable) (x : ℕ) → IsListener tables x self.now →
+            AllHold self.now.admitted.now.graph tables row_rules → columns.now ≡ columns_of tables x →
+            All (IsAllHeard self.now.admitted.now.graph tables self.now.node) columns.now)) }
     {
         let mut wanted = Vec::new(alloc);
         let mut places = Vec::new(alloc);

@@ -55,7 +55,8 @@ pub(crate) fn present_marks(
     admitted: &Admitted,
     trees: &[Option<Places>],
 ) -> Result<Vec<bool>, OutOfMemory>
-    ensures { IfOk result (λ marks. (tables : List NodeTable) → AreRowTrees admitted.now.graph tables trees.now → AreSure admitted.now.graph tables Rule.Present marks.items) }
+    ensures { IfOk result (λ marks. (tables : List NodeTable) → AreRowTrees admitted.now.graph tables trees.now →
+        AreSure admitted.now.graph tables Rule.Present marks.items) }
 {
     let count = admitted.problem().item_count();
     let mut marks = Vec::new(alloc);

@@ -36,7 +36,8 @@ fn is_alone(
     turns: &Turns<'_>,
     item: u32,
 ) -> Result<bool, OutOfMemory>
-    ensures { IfOk result (λ r. OnTrue r ((tables : List NodeTable) → AreTurns (execution problem.now) problem.now tables turns.now → IsSure problem.now tables Rule.Processor item)) }
+    ensures { IfOk result (λ r. OnTrue r ((tables : List NodeTable) → AreTurns (execution problem.now) problem.now tables turns.now →
+        IsSure problem.now tables Rule.Processor item)) }
 {
     if item as usize >= problem.processes().len() {
         return Ok(true);
@@ -52,7 +53,8 @@ pub(crate) fn processor_marks(
     problem: &Problem,
     turns: &Turns<'_>,
 ) -> Result<Vec<bool>, OutOfMemory>
-    ensures { IfOk result (λ marks. (tables : List NodeTable) → AreTurns (execution problem.now) problem.now tables turns.now → AreSure problem.now tables Rule.Processor marks.items) }
+    ensures { IfOk result (λ marks. (tables : List NodeTable) → AreTurns (execution problem.now) problem.now tables turns.now →
+        AreSure problem.now tables Rule.Processor marks.items) }
 {
     let count = problem.item_count();
     let mut marks = Vec::new(alloc);

@@ -42,7 +42,8 @@ fn is_slot_start(problem: &Problem, node: u32, time: u64) -> bool
 /// Whether a node's slot starts at the time of a column, where the column matches.
 fn is_in_slot(problem: &Problem, node: u32, column: &Entry) -> bool
     requires { HasSlot problem.now node }
-    ensures { OnTrue result ((s : Scenario) → IsScenario problem.now s → matches column.now.cube s ≡ true → next_slot problem.now node column.now.time ≡ column.now.time) }
+    ensures { OnTrue result ((s : Scenario) → IsScenario problem.now s → matches column.now.cube s ≡ true →
+        next_slot problem.now node column.now.time ≡ column.now.time) }
 {
     if is_slot_start(problem, node, column.time) {
         return true;
@@ -57,7 +58,8 @@ fn is_in_slot(problem: &Problem, node: u32, column: &Entry) -> bool
 /// The same for each of these columns.
 fn are_in_slots(problem: &Problem, node: u32, columns: &[Entry]) -> bool
     requires { HasSlot problem.now node }
-    ensures { OnTrue result (All (λ c. (s : Scenario) → IsScenario problem.now s → matches c.cube s ≡ true → next_slot problem.now node c.time ≡ c.time) columns.now) }
+    ensures { OnTrue result (All (λ c. (s : Scenario) → IsScenario problem.now s → matches c.cube s ≡ true →
+        next_slot problem.now node c.time ≡ c.time) columns.now) }
 {
     for column in columns {
         if !is_in_slot(problem, node, column) {

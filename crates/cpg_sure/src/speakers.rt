@@ -153,7 +153,8 @@ impl<'a> Speaker<'a> {
     fn mark(&self, places: &[u32], literals: &[Literal], told: &mut Vec<bool>)
         requires long { length told.old.items ≡ length literals.now }
         ensures long { length told.new.items ≡ length literals.now }
-        ensures told { (i : ℕ) → get_or told.new.items i false ≡ true → (get_or told.old.items i false ≡ true) ⊎ IsTold self.now.value self.now.columns.now places.now (literal_at literals.now i) }
+        ensures told { (i : ℕ) → get_or told.new.items i false ≡ true → (get_or told.old.items i false ≡ true) ⊎
+            IsTold self.now.value self.now.columns.now places.now (literal_at literals.now i) }
     {
         for (place, literal) in literals.iter().enumerate() {
             told[place] = self.is_told(told[place], places, literal);
@@ -173,7 +174,9 @@ impl<'a> Speaker<'a> {
     ) -> Result<(), OutOfMemory>
         requires long { length told.old.items ≡ length wanted.now }
         ensures long { IfOk result (λ _. length told.new.items ≡ length wanted.now) }
-        ensures heard { IfOk result (λ _. (g : Graph) (tables : List NodeTable) (node : ℕ) → IsSpeaker g tables node self.now → All (IsToldIn column.now.cube) wanted.now → ((s : Scenario) → IsScenario g s → matches column.now.cube s ≡ true → Lies space.now s) → AreHeardIn g tables node column.now wanted.now told.old.items → AreHeardIn g tables node column.now wanted.now told.new.items) }
+        ensures heard { IfOk result (λ _. (g : Graph) (tables : List NodeTable) (node : ℕ) → IsSpeaker g tables node self.now →
+            All (IsToldIn column.now.cube) wanted.now → ((s : Scenario) → IsScenario g s → matches column.now.cube s ≡ true →
+            Lies space.now s) → AreHeardIn g tables node column.now wanted.now told.old.items → AreHeardIn g tables node column.now wanted.now told.new.items) }
     {
         if !has_come(self.first, self.delay, column.time) {
             return Ok(());
@@ -249,7 +252,8 @@ pub(crate) fn speakers<'a>(
     node: u32,
     items: &[u32],
 ) -> Result<Vec<Speaker<'a>>, OutOfMemory>
-    ensures { IfOk result (λ found. (tables : List NodeTable) → AreCourses (frame problem.now) problem.now tables frames.now → All (IsSpeaker problem.now tables node) found.items) }
+    ensures { IfOk result (λ found. (tables : List NodeTable) → AreCourses (frame problem.now) problem.now tables frames.now →
+        All (IsSpeaker problem.now tables node) found.items) }
 {
     let mut found = Vec::new(alloc);
     for item in items {

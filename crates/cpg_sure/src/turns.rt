@@ -36,7 +36,8 @@ impl<'a> Courses<'a> {
     /// Whether each of these items is over before each later one. Only those are compared that stand after the last that
     /// is active in every scenario: all others are over before it begins.
     fn are_in_turn(&self, items: &[u32]) -> bool
-        ensures { OnTrue result ((g : Graph) (tables : List NodeTable) (lasts : ℕ → Scenario → ℕ) → AreCourses lasts g tables self.now → Holds g tables Rule.Present → IsInTurn lasts g tables items.now) }
+        ensures { OnTrue result ((g : Graph) (tables : List NodeTable) (lasts : ℕ → Scenario → ℕ) → AreCourses lasts g tables self.now →
+            Holds g tables Rule.Present → IsInTurn lasts g tables items.now) }
     {
         let mut start = 0;
         for (place, item) in items.iter().enumerate() {
@@ -93,7 +94,8 @@ impl<'a> Courses<'a> {
     /// The items in an order in which each is over before each later one: as they are, or by their first times. None of
     /// them where neither is known to be such an order.
     fn in_turn(&self, alloc: Global, items: &[u32]) -> Result<Vec<u32>, OutOfMemory>
-        ensures { IfOk result (λ order. (g : Graph) (tables : List NodeTable) (lasts : ℕ → Scenario → ℕ) → AreCourses lasts g tables self.now → Holds g tables Rule.Present → IsInTurn lasts g tables order.items) }
+        ensures { IfOk result (λ order. (g : Graph) (tables : List NodeTable) (lasts : ℕ → Scenario → ℕ) →
+            AreCourses lasts g tables self.now → Holds g tables Rule.Present → IsInTurn lasts g tables order.items) }
     {
         let mut order = Vec::new(alloc);
         if self.are_in_turn(items) {
@@ -109,7 +111,8 @@ impl<'a> Courses<'a> {
 
     /// For each of these groups of items the order in which each is over before each later one, where one is known.
     fn orders(&self, alloc: Global, groups: &[Vec<u32>]) -> Result<Vec<Vec<u32>>, OutOfMemory>
-        ensures { IfOk result (λ orders. (g : Graph) (tables : List NodeTable) (lasts : ℕ → Scenario → ℕ) → AreCourses lasts g tables self.now → Holds g tables Rule.Present → All (λ order. IsInTurn lasts g tables order.items) orders.items) }
+        ensures { IfOk result (λ orders. (g : Graph) (tables : List NodeTable) (lasts : ℕ → Scenario → ℕ) →
+            AreCourses lasts g tables self.now → Holds g tables Rule.Present → All (λ order. IsInTurn lasts g tables order.items) orders.items) }
     {
         let mut orders = Vec::new(alloc);
         orders.reserve(groups.len())?;
@@ -135,7 +138,8 @@ impl<'a> Turns<'a> {
         courses: Courses<'a>,
         groups: &[Vec<u32>],
     ) -> Result<Turns<'a>, OutOfMemory>
-        ensures turns { IfOk result (λ turns. (g : Graph) (tables : List NodeTable) (lasts : ℕ → Scenario → ℕ) → AreCourses lasts g tables courses.entry → Holds g tables Rule.Present → AreTurns lasts g tables turns) }
+        ensures turns { IfOk result (λ turns. (g : Graph) (tables : List NodeTable) (lasts : ℕ → Scenario → ℕ) →
+            AreCourses lasts g tables courses.entry → Holds g tables Rule.Present → AreTurns lasts g tables turns) }
         ensures count { IfOk result (λ turns. turns.courses ≡ courses.entry) }
     {
         let orders = courses.orders(alloc, groups)?;
@@ -145,7 +149,8 @@ impl<'a> Turns<'a> {
     /// Whether of two items of a node the first is known to be over by the second's time, wherever a column of each
     /// matches.
     pub(crate) fn is_before(&self, node: u32, first: u32, second: u32) -> bool
-        ensures { OnTrue result ((g : Graph) (tables : List NodeTable) (lasts : ℕ → Scenario → ℕ) → AreTurns lasts g tables self.now → IsOver lasts g tables first second) }
+        ensures { OnTrue result ((g : Graph) (tables : List NodeTable) (lasts : ℕ → Scenario → ℕ) → AreTurns lasts g tables self.now →
+            IsOver lasts g tables first second) }
     {
         match self.orders.get(node as usize) {
             Some(order) => stands_before(order.as_slice(), first, second),

@@ -33,7 +33,8 @@ impl<'a> Waiting<'a> {
     /// The row of what an input comes from: the message, or the start of the source on the same node.
     fn course(&self, edge: u32) -> Option<&Course<'a>>
         requires edge { edge < edge_count self.now.admitted.now.graph }
-        ensures { (tables : List NodeTable) → IsWaiting self.now.admitted.now.graph tables self.now → IfSome result (λ c. IsInputCourse self.now.admitted.now.graph tables edge c.now) }
+        ensures { (tables : List NodeTable) → IsWaiting self.now.admitted.now.graph tables self.now →
+            IfSome result (λ c. IsInputCourse self.now.admitted.now.graph tables edge c.now) }
     {
         let problem = self.admitted.problem();
         if problem.is_message(edge) {
@@ -46,7 +47,8 @@ impl<'a> Waiting<'a> {
     /// Whether what an input comes from is over by a time, by its last column.
     fn is_early(&self, edge: u32, time: u64) -> bool
         requires edge { edge < edge_count self.now.admitted.now.graph }
-        ensures { OnTrue result ((tables : List NodeTable) (s : Scenario) → IsWaiting self.now.admitted.now.graph tables self.now → IsScenario self.now.admitted.now.graph s → IsInputOver self.now.admitted.now.graph tables edge time s) }
+        ensures { OnTrue result ((tables : List NodeTable) (s : Scenario) → IsWaiting self.now.admitted.now.graph tables self.now →
+            IsScenario self.now.admitted.now.graph s → IsInputOver self.now.admitted.now.graph tables edge time s) }
     {
         match self.course(edge) {
             Some(course) => course.is_early(time),
@@ -57,7 +59,9 @@ impl<'a> Waiting<'a> {
     /// Whether what an input comes from is over by a time in those scenarios of a space in which the input is live.
     fn is_over(&self, edge: u32, space: &Space, time: u64) -> bool
         requires edge { edge < edge_count self.now.admitted.now.graph }
-        ensures { OnTrue result ((tables : List NodeTable) (s : Scenario) → IsWaiting self.now.admitted.now.graph tables self.now → IsScenario self.now.admitted.now.graph s → Lies space.now s → live self.now.admitted.now.graph s.values edge ≡ true → IsInputOver self.now.admitted.now.graph tables edge time s) }
+        ensures { OnTrue result ((tables : List NodeTable) (s : Scenario) → IsWaiting self.now.admitted.now.graph tables self.now →
+            IsScenario self.now.admitted.now.graph s → Lies space.now s → live self.now.admitted.now.graph s.values edge ≡ true →
+            IsInputOver self.now.admitted.now.graph tables edge time s) }
     {
         if is_refused(self.admitted.problem(), edge, space) {
             return true;
@@ -71,7 +75,8 @@ impl<'a> Waiting<'a> {
     /// Whether this is so of each of these inputs, by its last column.
     fn are_early(&self, edges: &[u32], time: u64) -> bool
         requires edges { All (λ e. e < edge_count self.now.admitted.now.graph) edges.now }
-        ensures { OnTrue result ((tables : List NodeTable) (s : Scenario) → IsWaiting self.now.admitted.now.graph tables self.now → IsScenario self.now.admitted.now.graph s → All (λ e. IsInputOver self.now.admitted.now.graph tables e time s) edges.now) }
+        ensures { OnTrue result ((tables : List NodeTable) (s : Scenario) → IsWaiting self.now.admitted.now.graph tables self.now →
+            IsScenario self.now.admitted.now.graph s → All (λ e. IsInputOver self.now.admitted.now.graph tables e time s) edges.now) }
     {
         for edge in edges {
             if !self.is_early(*edge, time) {
@@ -84,7 +89,9 @@ impl<'a> Waiting<'a> {
     /// Whether it is so of each that is live in the scenarios of a space.
     fn are_over(&self, edges: &[u32], space: &Space, time: u64) -> bool
         requires edges { All (λ e. e < edge_count self.now.admitted.now.graph) edges.now }
-        ensures { OnTrue result ((tables : List NodeTable) (s : Scenario) → IsWaiting self.now.admitted.now.graph tables self.now → IsScenario self.now.admitted.now.graph s → Lies space.now s → All (λ e. live self.now.admitted.now.graph s.values e ≡ true → IsInputOver self.now.admitted.now.graph tables e time s) edges.now) }
+        ensures { OnTrue result ((tables : List NodeTable) (s : Scenario) → IsWaiting self.now.admitted.now.graph tables self.now →
+            IsScenario self.now.admitted.now.graph s → Lies space.now s → All (λ e. live self.now.admitted.now.graph s.values e ≡ true →
+            IsInputOver self.now.admitted.now.graph tables e time s) edges.now) }
     {
         for edge in edges {
             if !self.is_over(*edge, space, time) {
@@ -97,7 +104,8 @@ impl<'a> Waiting<'a> {
     /// Whether these inputs are there by the time of a column wherever it matches and they are live.
     fn are_there(&self, edges: &[u32], column: &Entry) -> bool
         requires edges { All (λ e. e < edge_count self.now.admitted.now.graph) edges.now }
-        ensures { OnTrue result ((tables : List NodeTable) → IsWaiting self.now.admitted.now.graph tables self.now → AllHold self.now.admitted.now.graph tables row_rules → All (IsInputThere self.now.admitted.now.graph tables column.now) edges.now) }
+        ensures { OnTrue result ((tables : List NodeTable) → IsWaiting self.now.admitted.now.graph tables self.now →
+            AllHold self.now.admitted.now.graph tables row_rules → All (IsInputThere self.now.admitted.now.graph tables column.now) edges.now) }
     {
         let problem = self.admitted.problem();
         if self.are_early(edges, column.time) {
@@ -112,7 +120,8 @@ impl<'a> Waiting<'a> {
     /// Whether each of these columns is no earlier than a release, nor than these inputs.
     pub(crate) fn are_late_enough(&self, edges: &[u32], release: u64, columns: &[Entry]) -> bool
         requires edges { All (λ e. e < edge_count self.now.admitted.now.graph) edges.now }
-        ensures { OnTrue result ((tables : List NodeTable) → IsWaiting self.now.admitted.now.graph tables self.now → AllHold self.now.admitted.now.graph tables row_rules → All (IsLateEnough self.now.admitted.now.graph tables edges.now release) columns.now) }
+        ensures { OnTrue result ((tables : List NodeTable) → IsWaiting self.now.admitted.now.graph tables self.now →
+            AllHold self.now.admitted.now.graph tables row_rules → All (IsLateEnough self.now.admitted.now.graph tables edges.now release) columns.now) }
     {
         for column in columns {
             if column.time < release {
@@ -129,7 +138,8 @@ impl<'a> Waiting<'a> {
     fn is_from_before(&self, edge: u32, process: u32) -> bool
         requires edge { edge < edge_count self.now.admitted.now.graph }
         requires process { process < process_count self.now.admitted.now.graph }
-        ensures { OnTrue result ((tables : List NodeTable) → IsWaiting self.now.admitted.now.graph tables self.now → IsFromBefore self.now.admitted.now.graph tables edge process) }
+        ensures { OnTrue result ((tables : List NodeTable) → IsWaiting self.now.admitted.now.graph tables self.now →
+            IsFromBefore self.now.admitted.now.graph tables edge process) }
     {
         let problem = self.admitted.problem();
         if problem.is_message(edge) {
@@ -149,7 +159,8 @@ impl<'a> Waiting<'a> {
         requires edges { All (λ e. e < edge_count self.now.admitted.now.graph) edges.now }
         requires process { process < process_count self.now.admitted.now.graph }
         ensures edges { IfOk result (λ others. All (λ e. e < edge_count self.now.admitted.now.graph) others.items) }
-        ensures known { IfOk result (λ others. (tables : List NodeTable) (e : ℕ) → IsWaiting self.now.admitted.now.graph tables self.now → Contains edges.now e → Contains others.items e ⊎ IsFromBefore self.now.admitted.now.graph tables e process) }
+        ensures known { IfOk result (λ others. (tables : List NodeTable) (e : ℕ) → IsWaiting self.now.admitted.now.graph tables self.now →
+            Contains edges.now e → Contains others.items e ⊎ IsFromBefore self.now.admitted.now.graph tables e process) }
     {
         let mut others = Vec::new(alloc);
         for edge in edges {
@@ -164,7 +175,8 @@ impl<'a> Waiting<'a> {
     /// Whether the producer of a send is always over before each of its columns.
     pub(crate) fn is_after_producer(&self, item: u32, columns: &[Entry]) -> bool
         requires item { item < item_count self.now.admitted.now.graph }
-        ensures { OnTrue result ((tables : List NodeTable) → IsWaiting self.now.admitted.now.graph tables self.now → columns.now ≡ columns_of tables item → IsBefore self.now.admitted.now.graph tables (producer self.now.admitted.now.graph item) item) }
+        ensures { OnTrue result ((tables : List NodeTable) → IsWaiting self.now.admitted.now.graph tables self.now →
+            columns.now ≡ columns_of tables item → IsBefore self.now.admitted.now.graph tables (producer self.now.admitted.now.graph item) item) }
     {
         let producer = self.admitted.problem().producer(item);
         self.turns.courses.come_before(&[producer], columns)

@@ -20,4 +20,5 @@ pub record SuitsGraph (g : Graph) (node : ℕ) (t : NodeTable) : Type 0 where
   pub hears : items_of t.hears ≡ heard_by g node
 
 abbrev pub TablesSuitGraph : Type 0
-TablesSuitGraph = (g : Graph) (tables : List NodeTable) → IsWithinLimits g → AreTablesOf (head_of g) tables → (node : ℕ) → node < length g.nodes → SuitsGraph g node (table_at tables node)
+TablesSuitGraph = (g : Graph) (tables : List NodeTable) → IsWithinLimits g → AreTablesOf (head_of g) tables → (node : ℕ) →
+    node < length g.nodes → SuitsGraph g node (table_at tables node)

@@ -52,7 +52,8 @@ pub fn is_crossing(head: &Head, node: u32, edge: (u32, u32), out: bool) -> bool
 
 /// The rows after those of the messages from a node to others, or to it from others.
 fn after_messages<'a>(head: &Head, node: u32, out: bool, rows: &'a [Row]) -> Option<&'a [Row]>
-    ensures { option_map (λ r. r.now) result ≡ after_items (numbers_where (λ e. if out then leaves head.now node e else enters head.now node e) (first_message head.now) head.now.edges) rows.now }
+    ensures { option_map (λ r. r.now) result ≡ after_items (numbers_where (λ e.
+        if out then leaves head.now node e else enters head.now node e) (first_message head.now) head.now.edges) rows.now }
 {
     let mut rest = rows;
     let mut item = head.processes().len() as u32;
@@ -97,7 +98,8 @@ pub fn next_number(number: u32, condition: bool) -> u32
 
 /// The rows after those of the broadcasts of a node's own conditions, or of the other nodes'.
 fn after_broadcasts<'a>(head: &Head, node: u32, own: bool, rows: &'a [Row]) -> Option<&'a [Row]>
-    ensures { option_map (λ r. r.now) result ≡ after_items (numbers_where (λ p. if own then p.node == node else not (p.node == node)) (first_broadcast head.now) (conditioned head.now)) rows.now }
+    ensures { option_map (λ r. r.now) result ≡ after_items (numbers_where (λ p.
+        if own then p.node == node else not (p.node == node)) (first_broadcast head.now) (conditioned head.now)) rows.now }
 {
     let mut rest = rows;
     let mut item = first_broadcast(head);

@@ -23,7 +23,11 @@ impl Model for NodeItems {
 
     ghost Value = { ItemLists };
 
-    ghost view = { λ n. record { starts = take n.starts n.items.items; sends = take n.sends (drop n.starts n.items.items); hears = drop n.sends (drop n.starts n.items.items) } };
+    ghost view = { λ n. record {
+      starts = take n.starts n.items.items;
+      sends = take n.sends (drop n.starts n.items.items);
+      hears = drop n.sends (drop n.starts n.items.items);
+    } };
 
     ghost invariant = { λ n. n.starts + n.sends ≤ length n.items.items };
 }
@@ -52,7 +56,8 @@ fn push_starts(items: &mut Vec<u32>, head: &Head, node: u32) -> Result<(), OutOf
 
 /// Adds the messages from a node to others, or to it from others.
 fn push_messages(items: &mut Vec<u32>, head: &Head, node: u32, out: bool) -> Result<(), OutOfMemory>
-    ensures { OnOk result (items.new.items ≡ items.old.items ++ numbers_where (λ e. if out then leaves head.now node e else enters head.now node e) (first_message head.now) head.now.edges) }
+    ensures { OnOk result (items.new.items ≡ items.old.items ++ numbers_where (λ e.
+        if out then leaves head.now node e else enters head.now node e) (first_message head.now) head.now.edges) }
 {
     let mut item = head.processes().len() as u32;
     for edge in head.edges() {
@@ -69,7 +74,8 @@ fn push_broadcasts(
     node: u32,
     own: bool,
 ) -> Result<(), OutOfMemory>
-    ensures { OnOk result (items.new.items ≡ items.old.items ++ numbers_where (λ p. if own then p.node == node else not (p.node == node)) (first_broadcast head.now) (conditioned head.now)) }
+    ensures { OnOk result (items.new.items ≡ items.old.items ++ numbers_where (λ p.
+        if own then p.node == node else not (p.node == node)) (first_broadcast head.now) (conditioned head.now)) }
 {
     let mut item = first_broadcast(head);
     for process in head.processes() {

@@ -36,9 +36,23 @@ impl Model for NodeTable {
 
     ghost Value = { NodeTable };
 
-    ghost view = { λ t. record { faults = t.faults; first_broadcast = t.first_broadcast; own = t.own.items; starts = t.starts.items; sends = t.sends.items; hears = t.hears.items } };
+    ghost view = { λ t. record {
+      faults = t.faults;
+      first_broadcast = t.first_broadcast;
+      own = t.own.items;
+      starts = t.starts.items;
+      sends = t.sends.items;
+      hears = t.hears.items;
+    } };
 
-    ghost invariant = { λ t. IsTable (record { faults = t.faults; first_broadcast = t.first_broadcast; own = t.own.items; starts = t.starts.items; sends = t.sends.items; hears = t.hears.items }) };
+    ghost invariant = { λ t. IsTable (record {
+      faults = t.faults;
+      first_broadcast = t.first_broadcast;
+      own = t.own.items;
+      starts = t.starts.items;
+      sends = t.sends.items;
+      hears = t.hears.items;
+    }) };
 }
 
 impl NodeTable {
@@ -189,7 +203,8 @@ fn are_table_rows(space: Space, table: &NodeTable) -> bool
 
 /// Whether the rows of a table are those of a node's items.
 fn has_items(head: &Head, node: u32, table: &NodeTable) -> bool
-    ensures { IsTrue result ↔ ((items_of table.now.starts ≡ starts_of head.now node) × (items_of table.now.sends ≡ sends_of head.now node) × (items_of table.now.hears ≡ hears_of head.now node)) }
+    ensures { IsTrue result ↔ ((items_of table.now.starts ≡ starts_of head.now node) × (items_of table.now.sends ≡ sends_of head.now node) ×
+        (items_of table.now.hears ≡ hears_of head.now node)) }
 {
     if !have_starts(head, node, table.starts()) {
         return false;
@@ -202,7 +217,8 @@ fn has_items(head: &Head, node: u32, table: &NodeTable) -> bool
 
 /// Whether a table has what its node needs of the head.
 fn has_numbers(head: &Head, node: u32, table: &NodeTable) -> bool
-    ensures { IsTrue result ↔ ((table.now.faults ≡ head.now.faults) × (table.now.first_broadcast ≡ first_broadcast head.now) × (table.now.own ≡ own_of head.now node)) }
+    ensures { IsTrue result ↔ ((table.now.faults ≡ head.now.faults) × (table.now.first_broadcast ≡ first_broadcast head.now) ×
+        (table.now.own ≡ own_of head.now node)) }
 {
     if table.faults() != head.faults() {
         return false;

@@ -24,7 +24,8 @@ high_at k (Fork' u cut p below above) s v = if nat_le (number_of s u) cut then (
 -- each side of each fork is met by some scenario of the space that comes there
 abbrev pub IsFit : {T : Type 0} → Space → Node T → Type 0
 IsFit room (Leaf x) = Unit {0}
-IsFit room (Fork' v cut p below above) = (v < 256) × (is_open_below room v cut ≡ true) × (is_open_above room v cut ≡ true) × IsFit (below_cut room v cut) below × IsFit (above_cut room v cut) above
+IsFit room (Fork' v cut p below above) = (v < 256) × (is_open_below room v cut ≡ true) × (is_open_above room v cut ≡ true) ×
+    IsFit (below_cut room v cut) below × IsFit (above_cut room v cut) above
 
 -- so in the space of all scenarios of at most k faults
 abbrev pub IsGood : {T : Type 0} → ℕ → Node T → Type 0

@@ -23,7 +23,8 @@ pub record IsForkOf {T : Type 0} (v cut : ℕ) (below above r : Node T) : Type 0
   pub high_above : (k : ℕ) (s : Scenario) (u : ℕ) → cut < number_of s v → high_at k above s u ≤ high_at k r s u
 
 -- in the scenarios of a domain the tree's value has a fact, and its range of each variable contains a given one
-pub record IsMade {T : Type 0} (domain : Scenario → Type 0) (fact : Scenario → T → Type 0) (low : Scenario → ℕ → ℕ) (high : ℕ → Scenario → ℕ → ℕ) (r : Node T) : Type 0 where
+pub record IsMade {T : Type 0} (domain : Scenario → Type 0) (fact : Scenario → T → Type 0) (low : Scenario → ℕ → ℕ)
+    (high : ℕ → Scenario → ℕ → ℕ) (r : Node T) : Type 0 where
   pub value : (s : Scenario) → domain s → fact s (value_at r s)
   pub lows : (s : Scenario) (v : ℕ) → domain s → low_at r s v ≤ low s v
   pub highs : (k : ℕ) (s : Scenario) (v : ℕ) → domain s → high k s v ≤ high_at k r s v

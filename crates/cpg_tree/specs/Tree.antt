@@ -59,14 +59,18 @@ pub record IsMap {T U : Type 0} (answers : T → U → Type 0) (a : TreeState T)
 -- in each scenario an answer of the function to the values there
 pub record IsJoin {T U V : Type 0} (answers : T → U → V → Type 0) (a : TreeState T) (b : TreeState U) (r : TreeState V) : Type 0 where
   pub faults : r.faults ≡ a.faults
-  pub value : (s : Scenario) (x : Path T) (y : Path U) (z : Path V) → HasFew a.faults s → IsOn a.paths s x → IsOn b.paths s y → IsOn r.paths s z → answers x.1 y.1 z.1
-  pub ranges : (s : Scenario) (x : Path T) (y : Path U) (z : Path V) → HasFew a.faults s → IsOn a.paths s x → IsOn b.paths s y → IsOn r.paths s z → IsAsWideAsBoth a.faults z.0 x.0 y.0
+  pub value : (s : Scenario) (x : Path T) (y : Path U) (z : Path V) → HasFew a.faults s → IsOn a.paths s x → IsOn b.paths s y →
+      IsOn r.paths s z → answers x.1 y.1 z.1
+  pub ranges : (s : Scenario) (x : Path T) (y : Path U) (z : Path V) → HasFew a.faults s → IsOn a.paths s x → IsOn b.paths s y →
+      IsOn r.paths s z → IsAsWideAsBoth a.faults z.0 x.0 y.0
 
 -- in each scenario the value of the tree that the chooser picks there
 pub record IsPick {T : Type 0} (chooser : TreeState Bool) (on off r : TreeState T) : Type 0 where
   pub faults : r.faults ≡ chooser.faults
-  pub value : (s : Scenario) (c : Path Bool) (x z : Path T) → HasFew chooser.faults s → IsOn chooser.paths s c → IsOn (if c.1 then on.paths else off.paths) s x → IsOn r.paths s z → z.1 ≡ x.1
-  pub ranges : (s : Scenario) (c : Path Bool) (x z : Path T) → HasFew chooser.faults s → IsOn chooser.paths s c → IsOn (if c.1 then on.paths else off.paths) s x → IsOn r.paths s z → IsAsWideAsBoth chooser.faults z.0 c.0 x.0
+  pub value : (s : Scenario) (c : Path Bool) (x z : Path T) → HasFew chooser.faults s → IsOn chooser.paths s c →
+      IsOn (if c.1 then on.paths else off.paths) s x → IsOn r.paths s z → z.1 ≡ x.1
+  pub ranges : (s : Scenario) (c : Path Bool) (x z : Path T) → HasFew chooser.faults s → IsOn chooser.paths s c →
+      IsOn (if c.1 then on.paths else off.paths) s x → IsOn r.paths s z → IsAsWideAsBoth chooser.faults z.0 c.0 x.0
 
 -- in each scenario the number of a variable, by forks on that variable alone
 pub record IsNumber {T : Type 0} (v k : ℕ) (number : T → ℕ) (t : TreeState T) : Type 0 where

@@ -33,7 +33,8 @@ impl Node<Option<u32>> {
         found: &mut Vec<u32>,
     ) -> Result<bool, OutOfMemory>
         ensures kept { IfOk result (λ _. (i : ℕ) → Contains found.old.items i → Contains found.new.items i) }
-        ensures found { IfOk result (λ all. OnTrue all ((s : Scenario) → Lies space.old s → J.tells test.now (value_at self.now s) s × IsAmong found.new.items (value_at self.now s))) }
+        ensures found { IfOk result (λ all. OnTrue all ((s : Scenario) → Lies space.old s → J.tells test.now (value_at self.now s) s ×
+            IsAmong found.new.items (value_at self.now s))) }
         ensures same { IfOk result (λ all. OnTrue all (space.new ≡ space.old)) }
     {
         match self {
@@ -84,7 +85,8 @@ impl Node<Option<u32>> {
         found: &mut Vec<u32>,
     ) -> Result<bool, OutOfMemory>
         ensures kept { IfOk result (λ _. (i : ℕ) → Contains found.old.items i → Contains found.new.items i) }
-        ensures found { IfOk result (λ all. OnTrue all ((s : Scenario) → Lies space.now s → J.tells test.now (value_at self.now s) s × IsAmong found.new.items (value_at self.now s))) }
+        ensures found { IfOk result (λ all. OnTrue all ((s : Scenario) → Lies space.now s → J.tells test.now (value_at self.now s) s ×
+            IsAmong found.new.items (value_at self.now s))) }
     {
         let mut own = *space;
         let all = self.gather_each(&mut own, test, found)?;

@@ -101,7 +101,8 @@ impl<T: Copy + Eq> Node<T> {
         above: Node<T>,
     ) -> Result<Node<T>, OutOfMemory>
         ensures made { IfOk result (IsForkOf variable cut below above) }
-        ensures fit { IfOk result (λ r. (room : Space) → variable < 256 → is_open_below room variable cut ≡ true → is_open_above room variable cut ≡ true → IsFit (below_cut room variable cut) below → IsFit (above_cut room variable cut) above → IsFit room r) }
+        ensures fit { IfOk result (λ r. (room : Space) → variable < 256 → is_open_below room variable cut ≡ true →
+            is_open_above room variable cut ≡ true → IsFit (below_cut room variable cut) below → IsFit (above_cut room variable cut) above → IsFit room r) }
         ensures pass { IfOk result (λ r. (test : ℕ → Bool) → test variable ≡ true → DoForksPass test below → DoForksPass test above → DoForksPass test r) }
     {
         let sides = Box::new(alloc, (below, above))?;
@@ -123,7 +124,8 @@ impl<T: Copy + Eq> Node<T> {
     ) -> Result<Node<T>, OutOfMemory>
         requires { (x y : T) → T.eq x y ≡ true → x ≡ y }
         ensures made { IfOk result (IsForkOf variable cut below above) }
-        ensures fit { IfOk result (λ r. (room : Space) → is_open_below room variable cut ≡ true → is_open_above room variable cut ≡ true → IsFit (below_cut room variable cut) below → IsFit (above_cut room variable cut) above → IsFit room r) }
+        ensures fit { IfOk result (λ r. (room : Space) → is_open_below room variable cut ≡ true → is_open_above room variable cut ≡ true →
+            IsFit (below_cut room variable cut) below → IsFit (above_cut room variable cut) above → IsFit room r) }
         ensures pass { IfOk result (λ r. (test : ℕ → Bool) → test variable ≡ true → DoForksPass test below → DoForksPass test above → DoForksPass test r) }
     {
         if below.is_same(&above) {
@@ -310,7 +312,8 @@ impl Node<bool> {
         ensures made { IfOk result (IsPickOf space.old self.now on.now off.now) }
         ensures back { IfOk result (λ _. space.new ≡ space.old) }
         ensures fit { IfOk result (IsFit space.old) }
-        ensures pass { IfOk result (λ r. (test : ℕ → Bool) → DoForksPass test self.now → DoForksPass test on.now → DoForksPass test off.now → DoForksPass test r) }
+        ensures pass { IfOk result (λ r. (test : ℕ → Bool) → DoForksPass test self.now → DoForksPass test on.now →
+            DoForksPass test off.now → DoForksPass test r) }
     {
         match self {
             Node::Leaf(is_on) => {

@@ -221,8 +221,10 @@ fn parted(
     cut: Cut,
 ) -> Result<Sides, OutOfMemory>
     requires { AreOpen space.now cut.variable cut.most }
-    ensures low { IfOk result (λ r. KeepsMatches (map (λ b. b.now) cubes.now) (below_cut space.now cut.variable cut.most) (places_of spots.items) (places_of r.low.items)) }
-    ensures high { IfOk result (λ r. KeepsMatches (map (λ b. b.now) cubes.now) (above_cut space.now cut.variable cut.most) (places_of spots.items) (places_of r.high.items)) }
+    ensures low { IfOk result (λ r.
+        KeepsMatches (map (λ b. b.now) cubes.now) (below_cut space.now cut.variable cut.most) (places_of spots.items) (places_of r.low.items)) }
+    ensures high { IfOk result (λ r.
+        KeepsMatches (map (λ b. b.now) cubes.now) (above_cut space.now cut.variable cut.most) (places_of spots.items) (places_of r.high.items)) }
 {
     let under = space.below(cut.variable, cut.most);
     let over = space.above(cut.variable, cut.most);
@@ -515,7 +517,8 @@ impl Places {
         test: &J,
         found: &mut Vec<u32>,
     ) -> Result<bool, OutOfMemory>
-        ensures { IfOk result (λ all. OnTrue all ((s : Scenario) → Lies space.now s → J.tells test.now (place_at self.now s) s × IsAmong found.new.items (place_at self.now s))) }
+        ensures { IfOk result (λ all. OnTrue all ((s : Scenario) → Lies space.now s → J.tells test.now (place_at self.now s) s ×
+            IsAmong found.new.items (place_at self.now s))) }
     {
         let all = self.root.gather(space, test, found)?;
         Ok(all)

@@ -135,7 +135,8 @@ impl<T: Copy + Eq> Tree<T> {
         requires second { chooser.now.faults ≡ no.now.faults }
         ensures is { IfOk result (IsPick chooser.now yes.now no.now) }
         ensures each { IfOk result (λ t. HasOnePathEach t.faults t.paths) }
-        ensures pass { IfOk result (λ t. (test : ℕ → Bool) → DoPathsPass test chooser.now.paths → DoPathsPass test yes.now.paths → DoPathsPass test no.now.paths → DoPathsPass test t.paths) }
+        ensures pass { IfOk result (λ t. (test : ℕ → Bool) → DoPathsPass test chooser.now.paths → DoPathsPass test yes.now.paths →
+            DoPathsPass test no.now.paths → DoPathsPass test t.paths) }
     {
         let mut space = Space::whole(chooser.faults);
         let root = chooser
