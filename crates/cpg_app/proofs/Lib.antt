@@ -6,6 +6,7 @@ pub mod Unrolled
 pub mod Written
 pub mod Shown
 pub mod Streamed
+pub mod StreamFetch
 pub mod Finished
 pub mod Followed
 pub mod Safe

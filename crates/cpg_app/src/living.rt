@@ -1,7 +1,6 @@
 //! The node that a command lets follow a stream.
 ghost use Rattle.std.specs.Prelude.{◌≡◌};
-ghost use Rattle.cpg_io.specs.Shelf.{SameLeave};
-ghost use Rattle.cpg_inputs.specs.Steps.{KeepsShelf};
+ghost use Rattle.cpg_io.specs.Shelf.{KeepsShelf, SameLeave};
 ghost use Rattle.cpg_live.specs.Follower.{open_follower};
 ghost use Rattle.cpg_app.specs.Endings.{IsFollowedAt, IsSaid};
 ghost use Rattle.cpg_app.specs.Told.{sent};

@@ -1,13 +1,12 @@
 //! The top call.
 ghost use Rattle.std.specs.Prelude.{◌≡◌, ◌⊎◌, All, List, map, string_bytes};
-ghost use Rattle.cpg_io.specs.Shelf.{SameLeave};
+ghost use Rattle.cpg_io.specs.Shelf.{KeepsShelf, SameLeave};
 ghost use Rattle.cpg_io.specs.State.{ShelfState};
 ghost use Rattle.cpg_words.specs.FileWords.{file_words_of};
 ghost use Rattle.cpg_words.specs.Parts.{Text};
 ghost use Rattle.cpg_refusal.specs.Halts.{halt_of_words};
 ghost use Rattle.cpg_refusal.specs.Lines.{line_of, status_of};
 ghost use Rattle.cpg_inputs.specs.Inputs.{AreFit};
-ghost use Rattle.cpg_inputs.specs.Steps.{KeepsShelf};
 ghost use Rattle.cpg_app.specs.Endings.{seen, HasAt, MayRun};
 ghost use Rattle.cpg_app.specs.Lawful.{IsLawful};
 ghost use Rattle.cpg_app.specs.Told.{sent, Sent};

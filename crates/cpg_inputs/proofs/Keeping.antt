@@ -3,9 +3,9 @@ use Rattle.std.proofs.Common.{ℕ, ◌≡◌, ◌∙◌, List, ◌∷◌, true, 
 use Rattle.std.specs.Prelude.{◌⊎◌}
 use Rattle.cpg_tale.specs.Fetch.{Fetch}
 use Rattle.cpg_io.specs.Causes.{Rose}
-use Rattle.cpg_io.specs.Shelf.{SameLeave}
+use Rattle.cpg_io.specs.Shelf.{KeepsShelf, SameLeave}
 use Rattle.cpg_io.specs.State.{ShelfState}
-use Rattle.cpg_inputs.specs.Steps.{KeepsShelf}
+use Rattle.cpg_io.proofs.Agreeing.{fetched_on, fetched_same}
 
 module _ (old mid new : ShelfState) (a : KeepsShelf old mid) (b : KeepsShelf mid new) where
   counted_rose : (fetch : Fetch) (past : List Fetch) → new.history ≡ fetch ∷ past → fetch.failed ≡ true → (new.history ≡ old.history) ⊎ Rose old.faults new.faults
@@ -18,11 +18,11 @@ module _ (old mid new : ShelfState) (a : KeepsShelf old mid) (b : KeepsShelf mid
   ]
 
   pub keeps_on : KeepsShelf old new
-  keeps_on = record { names = λ name. b.names name ∙ a.names name; later = (let l = a.later in let m = b.later in omega (arith, l, m)); rose = counted_rose }
+  keeps_on = record { names = λ name. b.names name ∙ a.names name; fetched = fetched_on old mid a.names new a.fetched b.fetched; later = (let l = a.later in let m = b.later in omega (arith, l, m)); rose = counted_rose }
 
 -- nothing was read
 pub keeps_same : (s : ShelfState) → KeepsShelf s s
-keeps_same s = record { names = λ name. refl; later = omega arith; rose = λ fetch past is failed. inl refl }
+keeps_same s = record { names = λ name. refl; fetched = fetched_same s; later = omega arith; rose = λ fetch past is failed. inl refl }
 
 -- the same names may be fetched after two steps
 pub leave_on : (a b c : List ℕ → Type 0) → SameLeave a b → SameLeave b c → SameLeave a c

@@ -85,7 +85,7 @@ says_alike None ScenarioFile bytes v w x y = absurd x
 says_alike None LogFile bytes v w x y = absurd x
 
 -- the same graph comes after them
-says_after : (g : Option Graph) (k : Kind) (bytes : Text) (v w : Value) → Says g k bytes v → Says g k bytes w → graph_after g w ≡ graph_after g v
+pub says_after : (g : Option Graph) (k : Kind) (bytes : Text) (v w : Value) → Says g k bytes v → Says g k bytes w → graph_after g w ≡ graph_after g v
 says_after g GraphFile bytes v w (a, e, x) (b, f, y) = ap (graph_after g) f ∙ (ap Some (admitted_alike bytes a b x y).graph ∙ sym (ap (graph_after g) e))
 says_after g PartFile bytes v w (a, e, x) (b, f, y) = ap (graph_after g) f ∙ sym (ap (graph_after g) e)
 says_after g PackFile bytes v w (t, e, x) (u, f, y) = ap (graph_after g) f ∙ sym (ap (graph_after g) e)
@@ -96,7 +96,7 @@ says_after None LogFile bytes v w x y = absurd x
 
 -- ---- no file that is read stops a run
 
-not_refused : (g : Option Graph) (k : Kind) (bytes : Text) (v : Value) (h : Halt) → Says g k bytes v → Refuses g k bytes h → h ≡ Memory
+pub not_refused : (g : Option Graph) (k : Kind) (bytes : Text) (v : Value) (h : Halt) → Says g k bytes v → Refuses g k bytes h → h ≡ Memory
 not_refused g GraphFile bytes v h (a, e, x) (inl faulty) = absurd (not_both (problem_of bytes) a.graph faulty.fault x.says faulty.first)
 not_refused g GraphFile bytes v h (a, e, x) (inr none) =
     let b = none.breaks in

@@ -1,22 +1,13 @@
--- The steps of reading, one file each, and what they leave of a shelf.
-use Rattle.std.specs.Prelude.{◌≡◌, ◌≤◌, ◌⊎◌, true, List, ◌∷◌, Option}
+-- The steps of reading, one file each.
+use Rattle.std.specs.Prelude.{◌≡◌, ◌⊎◌, List, ◌∷◌, Option}
 use Rattle.cpg_base.specs.Graph.{Graph}
 use Rattle.cpg_tale.specs.Fetch.{Fetch}
-use Rattle.cpg_io.specs.Causes.{Rose}
-use Rattle.cpg_io.specs.Shelf.{SameNames}
-use Rattle.cpg_io.specs.State.{ShelfState}
 use Rattle.cpg_words.specs.Parts.{Text}
 use Rattle.cpg_refusal.specs.declared.halt.Halt.{Halt}
 use Rattle.cpg_refusal.specs.declared.halt.Halt.TheVariants.{Memory}
 use Rattle.cpg_inputs.specs.Files.{File}
 use Rattle.cpg_inputs.specs.Says.{Value, AreFaulty, AreOfNone}
 use Rattle.cpg_inputs.specs.Reading.{IsRead, IsUnread, IsLong, IsWanting, IsWhole, StopsAt}
-
--- Names stand for what they stood for, and no count fell. Where files were fetched, and the last one failed, the count rose.
-pub record KeepsShelf (old new : ShelfState) : Type 0 where
-  pub names : SameNames old new
-  pub later : old.faults ≤ new.faults
-  pub rose : (fetch : Fetch) (past : List Fetch) → new.history ≡ fetch ∷ past → fetch.failed ≡ true → (new.history ≡ old.history) ⊎ Rose old.faults new.faults
 
 -- a file was fetched and read whole, with these bytes
 pub record Gives (file : File) (past now : List Fetch) (bytes : Text) : Type 0 where

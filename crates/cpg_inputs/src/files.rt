@@ -1,11 +1,11 @@
 //! One file: its bytes, and what they say by its kind.
 ghost use Rattle.std.specs.Prelude.{◌≡◌, IfErr, IfOk, None, Option, Some};
 ghost use Rattle.cpg_base.specs.Graph.{Graph};
-ghost use Rattle.cpg_io.specs.Shelf.{SameLeave};
+ghost use Rattle.cpg_io.specs.Shelf.{KeepsShelf, SameLeave};
 ghost use Rattle.cpg_inputs.specs.declared.kind.Kind.TheVariants.{GraphFile, LogFile, PackFile, PartFile, ScenarioFile};
 ghost use Rattle.cpg_inputs.specs.Files.{file};
 ghost use Rattle.cpg_inputs.specs.Says.{graph_value, log_value, part_value, played_value, tables_value, AreAdmitted};
-ghost use Rattle.cpg_inputs.specs.Steps.{Gives, GivesNone, KeepsShelf, ReadsNext, RefusesGraph, StopsNext};
+ghost use Rattle.cpg_inputs.specs.Steps.{Gives, GivesNone, ReadsNext, RefusesGraph, StopsNext};
 
 use crate::halt::halt_of_log;
 use crate::kind::Kind;

@@ -1,6 +1,6 @@
 //! The files of a command, one after the other in the order of the words.
 ghost use Rattle.std.specs.Prelude.{◌≡◌, ◌<◌, ◌≤◌, ◌∷◌, ◌++◌, [], All, IfErr, IfOk, None, OnOk, length, map};
-ghost use Rattle.cpg_io.specs.Shelf.{SameLeave};
+ghost use Rattle.cpg_io.specs.Shelf.{KeepsShelf, SameLeave};
 ghost use Rattle.cpg_words.specs.FileWords.{file_words};
 ghost use Rattle.cpg_words.specs.declared.command.Command.TheVariants.{Audit, Check, Compile, Hyper, Live, Node, Play, Show, Tune};
 ghost use Rattle.cpg_refusal.specs.declared.halt.Halt.TheVariants.{Memory};
@@ -10,7 +10,6 @@ ghost use Rattle.cpg_inputs.specs.Inputs.{ReadsInputs};
 ghost use Rattle.cpg_inputs.specs.Reading.{Reads, StopsReading};
 ghost use Rattle.cpg_inputs.specs.Says.{graph_value, tables_value};
 ghost use Rattle.cpg_inputs.specs.Shapes.{part_values, HavePeriods};
-ghost use Rattle.cpg_inputs.specs.Steps.{KeepsShelf};
 
 use crate::files::{read_acts, read_graph, read_part, read_played, read_tables};
 use crate::inputs::Inputs;

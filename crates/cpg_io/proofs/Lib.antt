@@ -1,2 +1,4 @@
+pub mod Agreeing
+pub mod PiecesRead
 pub mod Standing
 pub mod Writes

@@ -1,3 +1,4 @@
+pub mod Agreement
 pub mod Adapters
 pub mod Causes
 pub mod MemoryShelf

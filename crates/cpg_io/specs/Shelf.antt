@@ -1,6 +1,8 @@
 -- What a shelf's calls do to what it tells.
-use Rattle.std.specs.Prelude.{ℕ, ◌≡◌, ◌↔◌, Bool, false, List, [], ◌∷◌, Option, Some, None, Result, MatchResult, take, ⊤}
+use Rattle.std.specs.Prelude.{ℕ, ◌≡◌, ◌≤◌, ◌↔◌, ◌⊎◌, Bool, true, false, List, [], ◌∷◌, Option, Some, None, Result, MatchResult, take, ⊤}
 use Rattle.cpg_tale.specs.Fetch.{Fetch, gave, failed}
+use Rattle.cpg_io.specs.Agreement.{AreFetched}
+use Rattle.cpg_io.specs.Causes.{Rose}
 use Rattle.cpg_io.specs.State.{ShelfState}
 
 -- after a fetch the bytes that are told of the name are left, from their start
@@ -23,3 +25,11 @@ opened name fails past = record { name = name; given = []; ended = false; failed
 -- a read gave the front of the buffer, or failed
 abbrev pub HasGiven : {E : Type 0} → List Fetch → List Fetch → Result ℕ E → List ℕ → Type 0
 HasGiven old new result buf = MatchResult result (λ n. new ≡ gave (take n buf) old) (λ _. new ≡ failed old)
+
+-- Names stand for what they stood for, and no count fell. Each fetch gave what stands under its name, where the shelf tells that.
+-- Where files were fetched, and the last one failed, the count rose.
+pub record KeepsShelf (old new : ShelfState) : Type 0 where
+  pub names : SameNames old new
+  pub fetched : AreFetched old new
+  pub later : old.faults ≤ new.faults
+  pub rose : (fetch : Fetch) (past : List Fetch) → new.history ≡ fetch ∷ past → fetch.failed ≡ true → (new.history ≡ old.history) ⊎ Rose old.faults new.faults

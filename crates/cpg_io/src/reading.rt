@@ -1,5 +1,6 @@
 //! Reading all of a name's bytes.
 ghost use Rattle.std.specs.Prelude.{◌≡◌, ◌+◌, ◌<◌, ◌≤◌, ◌↔◌, Err, IfErr, IfOk, IfSome, length, vec_len};
+ghost use Rattle.cpg_io.specs.Agreement.{AreFetched, LeavesRest};
 ghost use Rattle.cpg_io.specs.Causes.{Rose};
 ghost use Rattle.cpg_io.specs.Shelf.{SameNames, SameLeave};
 ghost use Rattle.cpg_io.specs.Reading.{GivesPiece, IsReadInPart, IsReadWhole, ReadsOn};
@@ -60,6 +61,7 @@ fn read_piece<S: Shelf>(
     requires room { vec_len bytes.old ≤ limit }
     ensures names { SameNames (S.state shelf.old) (S.state shelf.new) }
     ensures leave { SameLeave (S.may_fetch shelf.old) (S.may_fetch shelf.new) }
+    ensures rest { LeavesRest (S.state shelf.old) → LeavesRest (S.state shelf.new) }
     ensures piece { IfOk result (λ n. ReadsOn (S.state shelf.old).left (S.state shelf.new).left bytes.old.items bytes.new.items n) }
     ensures history { GivesPiece limit (S.state shelf.old).history (S.state shelf.new).history bytes.old.items bytes.new.items result }
     ensures within { IfOk result (λ _. vec_len bytes.new ≤ limit) }
@@ -82,7 +84,7 @@ fn read_piece<S: Shelf>(
 ///
 /// `Failed` only where the shelf's count of faults rose. `TooLong` exactly where the shelf has then given more than
 /// `limit` bytes since the fetch; it is asked for no more than `limit` plus one. What is read at `Ok` is the whole of what
-/// the shelf gave, to the end of the name.
+/// the shelf gave, to the end of the name; and what it gave is of what stands under the name, where it tells that.
 pub fn read_all<S: Shelf>(
     alloc: Global,
     shelf: &mut S,
@@ -92,6 +94,7 @@ pub fn read_all<S: Shelf>(
     requires may { S.may_fetch shelf.old name.now }
     ensures names { SameNames (S.state shelf.old) (S.state shelf.new) }
     ensures leave { SameLeave (S.may_fetch shelf.old) (S.may_fetch shelf.new) }
+    ensures fetched { AreFetched (S.state shelf.old) (S.state shelf.new) }
     ensures whole { IfOk result (λ v. IfSome ((S.state shelf.old).stands name.now) (λ bytes. v.items ≡ bytes)) }
     ensures history { IfOk result (λ v. IsReadWhole (S.state shelf.old).history (S.state shelf.new).history name.now limit v.items) }
     ensures part { IfErr result (IsReadInPart (S.state shelf.old).history (S.state shelf.new).history name.now limit) }

@@ -1,5 +1,5 @@
 -- How a stream ends, by the part of it that was read.
-use Rattle.std.proofs.Common.{◌≡◌, ◌≢◌, ℕ, ◌+◌, ◌<◌, ◌≤◌, Bool, true, false, cond, ◌&&◌, List, ◌++◌, length, take, drop, Option, Some, None, refl, sym, ap, ap₂, ◌∙◌, subst, arith, append-nil, lt-ltb, le-ltb, true≢false}
+use Rattle.std.proofs.Common.{◌≡◌, ◌≢◌, ℕ, ◌+◌, ◌<◌, ◌≤◌, Bool, true, false, cond, ◌&&◌, List, ◌++◌, length, take, drop, Option, Some, None, refl, sym, ap, ap₂, ◌∙◌, subst, arith, inl, inr, append-nil, lt-ltb, le-ltb, true≢false}
 use Rattle.std.specs.Prelude.{is_none, nat_lt, Result, Ok, Err}
 use Rattle.std.specs.Io.KnownBytes.{Appends}
 use Rattle.std.proofs.KnownBytes.{Appends-trans}
@@ -129,11 +129,11 @@ module _ (h : Head) (table : NodeTable) (fetch : Fetch) (sound : fetch.failed �
   cut_off a b took =
       let lines = act_lines h (after table fetch.given).progress.acts in
       let all : stream_lines h table fetch.given ≡ lines ++ close_of (stream_end table fetch.given) = ap (λ (bytes : List ℕ). act_lines h (after table bytes).progress.acts ++ close_of (stream_end table fetch.given)) read_all in
-      record { sound = sound; few = few; front = subst (TookPrefix a b) (sym all) (took_more a b lines (close_of (stream_end table fetch.given)) took) }
+      record { sound = sound; few = few; front = subst (TookPrefix a b) (sym all) (took_more a b lines (close_of (stream_end table fetch.given)) took); so_far = inr took }
 
 -- a front of all lines, in the last of which the sink met a fault
 pub cut_closed : (h : Head) (table : NodeTable) (fetch : Fetch) (a b : Option (List ℕ)) (lines : List ℕ) → IsClosed h table fetch lines → TookPrefix a b lines → IsCutOff h table fetch a b
-cut_closed h table fetch a b lines closed took = let s = closed.short in record { sound = closed.sound; few = omega (arith, s); front = subst (TookPrefix a b) closed.spelled took }
+cut_closed h table fetch a b lines closed took = let s = closed.short in record { sound = closed.sound; few = omega (arith, s); front = subst (TookPrefix a b) closed.spelled took; so_far = inl closed.ended }
 
 -- the lines of acts that are added
 pub lines_more : (h : Head) (acts more all : List Act) → all ≡ acts ++ more → act_lines h all ≡ act_lines h acts ++ act_lines h (drop (length acts) all)

@@ -2,6 +2,7 @@
 ghost use Rattle.std.specs.Prelude.{ℕ, List, Option, ◌≡◌, ◌+◌, ◌*◌, ◌≤◌, ◌<◌, Err, IfErr, IfOk, IfSome, MatchResult, OnErr, OnOk, drop, length};
 ghost use Rattle.std.specs.Io.KnownBytes.{Appends};
 ghost use Rattle.cpg_tale.specs.Fetch.{Fetch, failed};
+ghost use Rattle.cpg_io.specs.Agreement.{LeavesRest};
 ghost use Rattle.cpg_io.specs.Causes.{HasCause, Rose};
 ghost use Rattle.cpg_io.specs.Shelf.{SameLeave, SameNames};
 ghost use Rattle.cpg_io.specs.Sink.{TookPrefix};
@@ -129,6 +130,7 @@ impl Follower {
         requires few { self.old.read ≤ STREAM_LIMIT }
         ensures names { SameNames (S.state shelf.old) (S.state shelf.new) }
         ensures leave { SameLeave (S.may_fetch shelf.old) (S.may_fetch shelf.new) }
+        ensures rest { LeavesRest (S.state shelf.old) → LeavesRest (S.state shelf.new) }
         ensures piece { IfOk result (λ fed. TakesPiece (S.state shelf.old) (S.state shelf.new) self.old self.new fed.count) }
         ensures bad { IfOk result (λ fed. fed.bad ≡ self.new.live.bad) }
         ensures failed { OnErr result ((S.state shelf.new).history ≡ failed (S.state shelf.old).history) }
@@ -173,6 +175,7 @@ impl Follower {
         requires few { self.old.read ≤ STREAM_LIMIT }
         ensures names { SameNames (S.state shelf.old) (S.state shelf.new) }
         ensures leave { SameLeave (S.may_fetch shelf.old) (S.may_fetch shelf.new) }
+        ensures rest { LeavesRest (S.state shelf.old) → LeavesRest (S.state shelf.new) }
         ensures same { IsOfSame self.old self.new }
         ensures along { (start : Option (List ℕ)) (name : List ℕ) (past : List Fetch) → IsAlong name past (S.state shelf.old).history start (O.state out.old).taken self.old → MatchResult result (λ count. IsAlongAt count name past (S.state shelf.new).history start (O.state out.new).taken self.new) (λ broken. IsStreamed (λ s. Breaks self.old.head self.old.table s broken) name past (S.state shelf.new).history start (O.state out.old) (O.state out.new)) }
         ensures nearer { IfOk result (λ count. self.new.read ≡ self.old.read + count) }

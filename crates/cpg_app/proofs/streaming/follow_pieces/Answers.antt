@@ -22,8 +22,15 @@ loop-count-preserved g c =
       few = after.within;
       names = λ name. after.names name ∙ before.names name;
       leave = λ name. (λ may. (after.leave name).0 ((before.leave name).0 may), λ may. (before.leave name).1 ((after.leave name).1 may));
+      rest = λ r. after.rest (before.rest r);
       same = record { head = after.same.head ∙ before.same.head; table = after.same.table ∙ before.same.table };
       along = λ start name past a. (after.along start name past (before.along start name past a)).along;
       later = omega (arith, before.later, after.later);
       out_later = omega (arith, before.out_later, after.out_later);
     }
+
+pub returns-in-Err-clause-rest : goal.returns-in-Err-clause-rest
+returns-in-Err-clause-rest g c r = c.in-Err.ensures.rest (c.loop-count.invariant.rest r)
+
+pub returns-then-count-eq0-clause-rest : goal.returns-then-count-eq0-clause-rest
+returns-then-count-eq0-clause-rest g c r = c.in-Ok.ensures.rest (c.loop-count.invariant.rest r)

@@ -1,6 +1,7 @@
 use Rattle.std.proofs.Common.{ℕ, List, ap, inr, sym, subst, string_bytes}
 use Rattle.std.proofs.KnownBytes.{Keeps-refl}
 use Rattle.cpg_codec.specs.Spelling.{spelling}
+use Rattle.cpg_inputs.proofs.Keeping.{keeps_same}
 use Rattle.cpg_app.specs.declared.output.Output.TheVariants.{Lines, Pack}
 use Rattle.cpg_app.specs.Endings.{Has, Prints, Ran, seen}
 use Rattle.cpg_app.specs.Outputs.{Answers}
@@ -79,3 +80,12 @@ returns-in-Err-clause-lawful g c words start at =
     } in
     let has : Has r at.command at.has.values = record { words = at.words; reads = at.has.reads } in
     stopped_lawful r c.in-Err.halt (inr (inr (record { command = at.command; values = at.has.values; has = has; stops = c.in-Err.ensures.halt at.command at.has.values at.has.are }))) (Keeps-refl (g.O.Sink.state c.args.out.now).taken) c.stop.ensures
+
+pub returns-in-Ok-Lines-clause-keeps : goal.returns-in-Ok-Lines-clause-keeps
+returns-in-Ok-Lines-clause-keeps g c = keeps_same (g.S.Shelf.state c.args.shelf.now)
+
+pub returns-in-Ok-Pack-clause-keeps : goal.returns-in-Ok-Pack-clause-keeps
+returns-in-Ok-Pack-clause-keeps g c = keeps_same (g.S.Shelf.state c.args.shelf.now)
+
+pub returns-in-Err-clause-keeps : goal.returns-in-Err-clause-keeps
+returns-in-Err-clause-keeps g c = keeps_same (g.S.Shelf.state c.args.shelf.now)

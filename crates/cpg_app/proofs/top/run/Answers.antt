@@ -3,6 +3,7 @@ use Rattle.std.proofs.KnownBytes.{Keeps-refl}
 use Rattle.cpg_words.specs.FileWords.{file_words_if}
 use Rattle.cpg_inputs.specs.Files.{files_of}
 use Rattle.cpg_inputs.proofs.Fitting.{inputs_fit}
+use Rattle.cpg_inputs.proofs.Keeping.{keeps_on, keeps_same}
 use Rattle.cpg_app.specs.Endings.{Ran, seen}
 use Rattle.cpg_app.specs.Told.{sent}
 use Rattle.cpg_app.proofs.Finished.{stopped_lawful, wordless_lawful}
@@ -49,3 +50,10 @@ returns-in-Err-clause-lawful g c =
       status = c.run_without_words.result;
     } in
     wordless_lawful r c.in-Err.fault (λ e. search rules) refl (Keeps-refl (g.O.Sink.state c.args.out.now).taken) c.run_without_words.ensures
+
+pub returns-in-Ok-read_inputs-clause-keeps : goal.returns-in-Ok-read_inputs-clause-keeps
+returns-in-Ok-read_inputs-clause-keeps g c =
+    keeps_on (g.S.Shelf.state c.args.shelf.now) (g.S.Shelf.state c.read_inputs.new.shelf) (g.S.Shelf.state c.finish.new.shelf) c.in-Ok-read_inputs.ensures.keeps c.finish.ensures.keeps
+
+pub returns-in-Err-clause-keeps : goal.returns-in-Err-clause-keeps
+returns-in-Err-clause-keeps g c = keeps_same (g.S.Shelf.state c.args.shelf.now)

@@ -4,6 +4,7 @@ use Rattle.cpg_tale.specs.Fetch.{Fetch}
 use Rattle.cpg_inputs.specs.declared.kind.Kind.TheVariants.{GraphFile, PackFile}
 use Rattle.cpg_inputs.specs.Files.{file}
 use Rattle.cpg_inputs.specs.Says.{graph_value, tables_value}
+use Rattle.cpg_inputs.proofs.Keeping.{keeps_on}
 use Rattle.cpg_inputs.proofs.Readings.{reads_more, reads_one, stops_after, stops_one}
 use Rattle.cpg_inputs.proofs.reading.read_judged.Goals as goal
 
@@ -34,3 +35,13 @@ returns-clause-read g c =
     let pack = file PackFile c.args.pack.now in
     reads_more None (graph ∷ []) (pack ∷ []) past mid now (graph_value a ∷ []) (tables_value t ∷ []) (reads_one None graph past mid (graph_value a) c.in_ok-graph.ensures.graph)
     (reads_one (Some a.graph) pack mid now (tables_value t) (c.in_ok-tables.ensures.tables (Some a.graph)))
+
+pub returns-in_err-tables-clause-keeps : goal.returns-in_err-tables-clause-keeps
+returns-in_err-tables-clause-keeps g c =
+    let S = g.S.Shelf in
+    keeps_on (S.state c.args.shelf.now) (S.state c.read_graph.new.shelf) (S.state c.read_tables.new.shelf) c.in_ok-graph.ensures.keeps c.in_err-tables.ensures.keeps
+
+pub returns-clause-keeps : goal.returns-clause-keeps
+returns-clause-keeps g c =
+    let S = g.S.Shelf in
+    keeps_on (S.state c.args.shelf.now) (S.state c.read_graph.new.shelf) (S.state c.read_tables.new.shelf) c.in_ok-graph.ensures.keeps c.in_ok-tables.ensures.keeps

@@ -1,7 +1,7 @@
-use Rattle.std.proofs.Common.{List, subst, sym}
+use Rattle.std.proofs.Common.{rules, List, subst, sym}
 use Rattle.std.proofs.lemmas.Result.{err_from_is_err_and}
 use Rattle.cpg_tale.specs.Fetch.{Fetch}
-use Rattle.cpg_inputs.proofs.Keeping.{keeps_on, leave_on}
+use Rattle.cpg_inputs.proofs.Keeping.{keeps_on, keeps_same, leave_on}
 use Rattle.cpg_inputs.proofs.PartsRead.{may_at, periods_next, read_next, stops_next, wants_next}
 use Rattle.cpg_inputs.proofs.reading.read_parts.Goals as goal
 
@@ -41,3 +41,16 @@ returns-in_err-add-clause-halt g c =
     let now : List Fetch = (S.state c.read_part.new.shelf).history in
     let p = err_from_is_err_and c.from_residual-in_err-add.result c.from_residual-in_err-add.ensures.1 in
     rw (p.1, p.2) (wants_next c.args.pairs.now c.loop-pair.pair-index c.pair-item.result c.loop-pair-test.true c.pair-item.is c.loop-pair.parts.items past mid now c.loop-pair.invariant.read c.in_ok-problem.problem c.in_err-add.field-0.0 (rw c.as_str.ensures at c.in_ok-problem.ensures.graph) c.in_err-add.ensures.halt)
+
+pub returns-in_err-problem-clause-keeps : goal.returns-in_err-problem-clause-keeps
+returns-in_err-problem-clause-keeps g c =
+    let S = g.S.Shelf in
+    keeps_on (S.state c.args.shelf.now) (S.state c.loop-pair.shelf) (S.state c.read_part.new.shelf) c.loop-pair.invariant.keeps c.in_err-problem.ensures.keeps
+
+pub returns-in_err-add-clause-keeps : goal.returns-in_err-add-clause-keeps
+returns-in_err-add-clause-keeps g c =
+    let S = g.S.Shelf in
+    keeps_on (S.state c.args.shelf.now) (S.state c.loop-pair.shelf) (S.state c.read_part.new.shelf) c.loop-pair.invariant.keeps c.in_ok-problem.ensures.keeps
+
+pub loop-pair-init : goal.loop-pair-init
+loop-pair-init g c = record { keeps = keeps_same (g.S.Shelf.state c.args.shelf.now); leave = λ name. (λ may. may, λ may. may); read = search rules; periods = search rules }

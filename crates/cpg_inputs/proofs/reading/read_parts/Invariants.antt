@@ -1,9 +1,8 @@
 use Rattle.std.proofs.Common.{take, None}
-use Rattle.cpg_io.specs.Shelf.{SameLeave}
+use Rattle.cpg_io.specs.Shelf.{KeepsShelf, SameLeave}
 use Rattle.cpg_inputs.specs.Files.{part_files}
 use Rattle.cpg_inputs.specs.Reading.{Reads}
 use Rattle.cpg_inputs.specs.Shapes.{HavePeriods, part_values}
-use Rattle.cpg_inputs.specs.Steps.{KeepsShelf}
 use Rattle.cpg_inputs.proofs.reading.read_parts.Given as goal
 
 abbrev pub invariant-loop-pair : goal.invariant-loop-pair

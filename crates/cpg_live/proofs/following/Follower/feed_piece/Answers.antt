@@ -1,5 +1,6 @@
 use Rattle.std.proofs.Common.{rules, ◌++◌, List, arith, ap, length, take}
 use Rattle.std.proofs.lemmas.List.{length-append}
+use Rattle.cpg_io.proofs.Agreeing.{read_rest}
 use Rattle.cpg_node.specs.Dispatcher.{Act}
 use Rattle.cpg_live.specs.LinesKept.{table_in}
 use Rattle.cpg_live.proofs.following.Follower.feed_piece.Goals as goal
@@ -19,3 +20,11 @@ invariant_of-self g c =
       told = omega (arith, old.told, ap (λ (done : List Act). length done) grown.1, length-append c.self.inside.live.progress.acts grown.0);
       room = old.room;
     }
+
+pub returns-in_err-count-clause-rest : goal.returns-in_err-count-clause-rest
+returns-in_err-count-clause-rest g c r =
+    read_rest (g.S.Shelf.state c.args.shelf.now) (g.S.Shelf.state c.read.new.self) c.read.ensures.names c.read.result c.read.new.buf (search rules) c.read.ensures.history c.read.ensures.bytes r
+
+pub returns-clause-rest : goal.returns-clause-rest
+returns-clause-rest g c r =
+    read_rest (g.S.Shelf.state c.args.shelf.now) (g.S.Shelf.state c.read.new.self) c.read.ensures.names c.read.result c.read.new.buf (search rules) c.read.ensures.history c.read.ensures.bytes r

@@ -1,0 +1,5 @@
+use Rattle.cpg_inputs.proofs.Keeping.{keeps_same}
+use Rattle.cpg_inputs.proofs.reading.read_inputs.Goals as goal
+
+pub returns-in-Trial-clause-keeps : goal.returns-in-Trial-clause-keeps
+returns-in-Trial-clause-keeps g c = keeps_same (g.S.Shelf.state c.args.shelf.now)
