@@ -56,13 +56,15 @@ pub record GaveAll (fetch : Fetch) (bytes : Text) : Type 0 where
 -- a pack of a graph is taken by the commands that read packs, where no sink meets a fault
 pub record IsTaken (g : Graph) (pack : Text) : Type 0 where
   -- a fetch that gave all of it is read as its tables, and stops no run but for want of memory
-  pub read : (o : Option Graph) (fetch : Fetch) → GaveAll fetch pack → (t : Tables) × IsRead o (file PackFile fetch.name) fetch (tables_value t) × (pack ≡ spelling t)
+  pub read : (o : Option Graph) (fetch : Fetch) → GaveAll fetch pack → (t : Tables) ×
+      IsRead o (file PackFile fetch.name) fetch (tables_value t) × (pack ≡ spelling t)
   pub unstopped : (o : Option Graph) (fetch : Fetch) (halt : Halt) → GaveAll fetch pack → StopsAt o (file PackFile fetch.name) fetch halt → halt ≡ Memory
   -- with a file that says the graph it is found safe, played as each scenario file of the graph says, and each log of the graph
   -- audited by it
   pub judged : (r : Ran) (a : Admission) (t : Tables) → IsLawful r → a.graph ≡ g → pack ≡ spelling t → AsksVerdict r a t → EndsWell r
   -- and the table of each of its nodes is printed
-  pub printed : (r : Ran) (name : Text) (t : Tables) (node : ℕ) → IsLawful r → pack ≡ spelling t → node < length g.nodes → Asks r (Node name (get_or g.nodes node [])) (tables_value t ∷ []) → EndsWell r
+  pub printed : (r : Ran) (name : Text) (t : Tables) (node : ℕ) → IsLawful r → pack ≡ spelling t → node < length g.nodes →
+      Asks r (Node name (get_or g.nodes node [])) (tables_value t ∷ []) → EndsWell r
 
 -- What `compile` wrote for a graph, `check` with that graph finds safe, `play` plays for each scenario file of the graph, `audit`
 -- audits each log of the graph by, and `node` prints for each of its nodes, want of memory aside.

@@ -60,7 +60,8 @@ pub record AsksAudit (r : Ran) (graph pack : Text) (a : Admission) (t : Tables) 
   pub asks : Asks r (Audit graph pack path) (graph_value a ∷ tables_value t ∷ log_value log ∷ [])
 
 abbrev pub AsksVerdict : Ran → Admission → Tables → Type 0
-AsksVerdict r a t = (graph : Text) × (pack : Text) × (Asks r (Check graph pack) (graph_value a ∷ tables_value t ∷ []) ⊎ (AsksPlay r graph pack a t ⊎ AsksAudit r graph pack a t))
+AsksVerdict r a t = (graph : Text) × (pack : Text) × (Asks r (Check graph pack) (graph_value a ∷ tables_value t ∷ []) ⊎
+    (AsksPlay r graph pack a t ⊎ AsksAudit r graph pack a t))
 
 -- the last fetched file failed
 pub record IsFailed (r : Ran) : Type 0 where
@@ -135,16 +136,21 @@ pub record IsLawful (r : Ran) : Type 0 where
   pub safe : (a : Admission) (t : Tables) → AsksVerdict r a t → IsHeadFor a.graph t.head → IsValid a.graph t.nodes → (r.status ≡ 0) ⊎ (r.status ≡ 8)
   pub broken : (a : Admission) (t : Tables) → AsksVerdict r a t → IsHeadFor a.graph t.head → (IsValid a.graph t.nodes → ⊥) → (r.status ≡ 7) ⊎ (r.status ≡ 8)
   -- the table of the first node of a name is printed, and a name that no node has is refused, but for want of memory
-  pub named : (pack name : Text) (t : Tables) (node : ℕ) → Asks r (Node pack name) (tables_value t ∷ []) → first_named t.head name ≡ Some node → (r.status ≡ 0) ⊎ (r.status ≡ 8)
-  pub nameless : (pack name : Text) (t : Tables) → Asks r (Node pack name) (tables_value t ∷ []) → first_named t.head name ≡ None → (r.status ≡ 4) ⊎ (r.status ≡ 8)
+  pub named : (pack name : Text) (t : Tables) (node : ℕ) → Asks r (Node pack name) (tables_value t ∷ []) →
+      first_named t.head name ≡ Some node → (r.status ≡ 0) ⊎ (r.status ≡ 8)
+  pub nameless : (pack name : Text) (t : Tables) → Asks r (Node pack name) (tables_value t ∷ []) → first_named t.head name ≡ None →
+      (r.status ≡ 4) ⊎ (r.status ≡ 8)
   -- a trial of a number writes its figures, but for a fault of a sink and want of memory
   pub tried : (number : ℕ) → command_of r.words ≡ Some (Trial number) → (r.status ≡ 0) ⊎ ((r.status ≡ 3) ⊎ (r.status ≡ 8))
   -- an admitted graph is tuned, however late or wide it is, but for want of memory
   pub tuned : (graph : Text) (a : Admission) → Asks r (Tune graph) (graph_value a ∷ []) → (r.status ≡ 0) ⊎ (r.status ≡ 8)
   -- the graph of all instances of parts is written where they have one, and they are refused where they have none, but for
   -- want of memory
-  pub unrolled : (pairs : List Pair) (parts : List Part) (g : Graph) → Asks r (Hyper pairs) (part_values parts) → HavePeriods pairs parts → ShowsUnrolled parts (Ok g) → (r.status ≡ 0) ⊎ (r.status ≡ 8)
-  pub apart : (pairs : List Pair) (parts : List Part) (fault : HyperFault) → Asks r (Hyper pairs) (part_values parts) → HavePeriods pairs parts → ShowsUnrolled parts (Err fault) → fault ≢ OutOfMemory → (r.status ≡ 4) ⊎ (r.status ≡ 8)
+  pub unrolled : (pairs : List Pair) (parts : List Part) (g : Graph) → Asks r (Hyper pairs) (part_values parts) → HavePeriods pairs parts →
+      ShowsUnrolled parts (Ok g) → (r.status ≡ 0) ⊎ (r.status ≡ 8)
+  pub apart : (pairs : List Pair) (parts : List Part) (fault : HyperFault) → Asks r (Hyper pairs) (part_values parts) →
+      HavePeriods pairs parts → ShowsUnrolled parts (Err fault) → fault ≢ OutOfMemory → (r.status ≡ 4) ⊎ (r.status ≡ 8)
   -- such a node follows a stream to its close, and else the stream is refused, but for want of memory
   pub followed : (f : Follows r) → IsFaultless r → f.fetch.failed ≡ false → (r.status ≡ status_of_end (stream_end (table_of f) f.fetch.given)) ⊎ (r.status ≡ 8)
-  pub unfollowed : (pack name stream : Text) (t : Tables) → Asks r (Live pack name stream) (tables_value t ∷ []) → first_named t.head name ≡ None → (r.status ≡ 4) ⊎ (r.status ≡ 8)
+  pub unfollowed : (pack name stream : Text) (t : Tables) → Asks r (Live pack name stream) (tables_value t ∷ []) →
+      first_named t.head name ≡ None → (r.status ≡ 4) ⊎ (r.status ≡ 8)

@@ -52,7 +52,8 @@ pub fn cut<E: Sink>(err: &mut E) -> u8
 /// Writes the line of a run that stops, or that of want of memory where there is none for the line.
 pub fn stop<E: Sink>(alloc: Global, halt: &Halt, err: &mut E) -> u8
     requires { IsNamed halt.now }
-    ensures { Sent (sent (E.state err.old) (E.state err.new)) result (status_of halt.now) (line_of halt.now) ⊎ Sent (sent (E.state err.old) (E.state err.new)) result (status_of Halt.Memory) (line_of Halt.Memory) }
+    ensures { Sent (sent (E.state err.old) (E.state err.new)) result (status_of halt.now) (line_of halt.now) ⊎
+        Sent (sent (E.state err.old) (E.state err.new)) result (status_of Halt.Memory) (line_of Halt.Memory) }
 {
     match line(alloc, halt) {
         Ok(line) => send(halt.status(), line.as_bytes(), err),

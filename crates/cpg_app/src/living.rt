@@ -33,7 +33,8 @@ pub fn follow<S: Shelf, O: Sink, E: Sink>(
     requires opened { follower.old ≡ open_follower follower.old.head follower.old.table }
     ensures keeps { KeepsShelf (S.state shelf.old) (S.state shelf.new) }
     ensures leave { SameLeave (S.may_fetch shelf.old) (S.may_fetch shelf.new) }
-    ensures followed { IsFollowedAt follower.old.head follower.old.table stream.now (S.state shelf.old).history (S.state shelf.new).history (sent (O.state out.old) (O.state out.new)) (sent (E.state err.old) (E.state err.new)) result }
+    ensures followed { IsFollowedAt follower.old.head follower.old.table stream.now (S.state shelf.old).history (S.state shelf.new).history
+        (sent (O.state out.old) (O.state out.new)) (sent (E.state err.old) (E.state err.new)) result }
 {
     match streaming::follow(follower, shelf, stream, out) {
         Ok(()) => 0,

@@ -26,7 +26,11 @@ fn follow_pieces<S: Shelf, O: Sink>(
     ensures leave { SameLeave (S.may_fetch shelf.old) (S.may_fetch shelf.new) }
     ensures rest { LeavesRest (S.state shelf.old) → LeavesRest (S.state shelf.new) }
     ensures same { IsOfSame follower.old follower.new }
-    ensures along { (start : Option (List ℕ)) (name : List ℕ) (past : List Fetch) → IsAlong name past (S.state shelf.old).history start (O.state out.old).taken follower.old → MatchResult result (λ _. IsAlongAt 0 name past (S.state shelf.new).history start (O.state out.new).taken follower.new) (λ broken. IsStreamed (λ s. Breaks follower.old.head follower.old.table s broken) name past (S.state shelf.new).history start (O.state out.old) (O.state out.new)) }
+    ensures along { (start : Option (List ℕ)) (name : List ℕ) (past : List Fetch) →
+        IsAlong name past (S.state shelf.old).history start (O.state out.old).taken follower.old →
+        MatchResult result (λ _. IsAlongAt 0 name past (S.state shelf.new).history start (O.state out.new).taken follower.new) (λ broken.
+        IsStreamed (λ s. Breaks follower.old.head follower.old.table s broken) name past (S.state shelf.new).history start (O.state out.old)
+        (O.state out.new)) }
     ensures rose { result ≡ Err Broken.Shelf → Rose (S.state shelf.old).faults (S.state shelf.new).faults }
     ensures later { (S.state shelf.old).faults ≤ (S.state shelf.new).faults }
     ensures out_later { (O.state out.old).faults ≤ (O.state out.new).faults }
@@ -53,7 +57,12 @@ fn follow_rest<S: Shelf, O: Sink>(
     ensures names { SameNames (S.state shelf.old) (S.state shelf.new) }
     ensures leave { SameLeave (S.may_fetch shelf.old) (S.may_fetch shelf.new) }
     ensures rest { LeavesRest (S.state shelf.old) → LeavesRest (S.state shelf.new) }
-    ensures along { (start : Option (List ℕ)) (name : List ℕ) (past : List Fetch) → IsAlong name past (S.state shelf.old).history start (O.state out.old).taken follower.old → MatchResult result (λ _. IsStreamed (Completes follower.old.head follower.old.table) name past (S.state shelf.new).history start (O.state out.old) (O.state out.new)) (λ broken. IsStreamed (λ s. Breaks follower.old.head follower.old.table s broken) name past (S.state shelf.new).history start (O.state out.old) (O.state out.new)) }
+    ensures along { (start : Option (List ℕ)) (name : List ℕ) (past : List Fetch) →
+        IsAlong name past (S.state shelf.old).history start (O.state out.old).taken follower.old →
+        MatchResult result (λ _.
+        IsStreamed (Completes follower.old.head follower.old.table) name past (S.state shelf.new).history start (O.state out.old) (O.state out.new)) (λ broken.
+        IsStreamed (λ s. Breaks follower.old.head follower.old.table s broken) name past (S.state shelf.new).history start (O.state out.old)
+        (O.state out.new)) }
     ensures rose { result ≡ Err Broken.Shelf → Rose (S.state shelf.old).faults (S.state shelf.new).faults }
     ensures later { (S.state shelf.old).faults ≤ (S.state shelf.new).faults }
 {
@@ -76,8 +85,12 @@ pub fn follow<S: Shelf, O: Sink>(
     ensures names { SameNames (S.state shelf.old) (S.state shelf.new) }
     ensures leave { SameLeave (S.may_fetch shelf.old) (S.may_fetch shelf.new) }
     ensures fetched { AreFetched (S.state shelf.old) (S.state shelf.new) }
-    ensures whole { IfOk result (λ _. IsStreamed (Completes follower.old.head follower.old.table) name.now (S.state shelf.old).history (S.state shelf.new).history (O.state out.old).taken (O.state out.old) (O.state out.new)) }
-    ensures broken { IfErr result (λ broken. IsStreamed (λ s. Breaks follower.old.head follower.old.table s broken) name.now (S.state shelf.old).history (S.state shelf.new).history (O.state out.old).taken (O.state out.old) (O.state out.new)) }
+    ensures whole { IfOk result (λ _.
+        IsStreamed (Completes follower.old.head follower.old.table) name.now (S.state shelf.old).history (S.state shelf.new).history
+        (O.state out.old).taken (O.state out.old) (O.state out.new)) }
+    ensures broken { IfErr result (λ broken.
+        IsStreamed (λ s. Breaks follower.old.head follower.old.table s broken) name.now (S.state shelf.old).history
+        (S.state shelf.new).history (O.state out.old).taken (O.state out.old) (O.state out.new)) }
     ensures rose { result ≡ Err Broken.Shelf → Rose (S.state shelf.old).faults (S.state shelf.new).faults }
     ensures later { (S.state shelf.old).faults ≤ (S.state shelf.new).faults }
 {

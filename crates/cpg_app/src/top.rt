@@ -34,7 +34,14 @@ fn finish<S: Shelf, O: Sink, E: Sink>(
     requires fit { AreFit inputs }
     ensures keeps { KeepsShelf (S.state shelf.old) (S.state shelf.new) }
     ensures leave { SameLeave (S.may_fetch shelf.old) (S.may_fetch shelf.new) }
-    ensures lawful { (words : List Text) (start : ShelfState) → HasAt words start (S.state shelf.old) inputs → IsLawful (record { words = words; shelf = seen start (S.state shelf.new); out = sent (O.state out.old) (O.state out.new); err = sent (E.state err.old) (E.state err.new); status = result }) }
+    ensures lawful { (words : List Text) (start : ShelfState) → HasAt words start (S.state shelf.old) inputs →
+        IsLawful (record {
+          words = words;
+          shelf = seen start (S.state shelf.new);
+          out = sent (O.state out.old) (O.state out.new);
+          err = sent (E.state err.old) (E.state err.new);
+          status = result;
+        }) }
 {
     match work(alloc, inputs) {
         Ok(Output::Lines(text)) => end(alloc, put(text.as_str(), out), err),
@@ -62,7 +69,13 @@ pub fn run<S: Shelf, O: Sink, E: Sink>(
     requires { All (λ w. S.may_fetch shelf.old w) (file_words_of (map string_bytes words.now)) }
     ensures keeps { KeepsShelf (S.state shelf.old) (S.state shelf.new) }
     ensures leave { SameLeave (S.may_fetch shelf.old) (S.may_fetch shelf.new) }
-    ensures lawful { IsLawful (record { words = map string_bytes words.now; shelf = seen (S.state shelf.old) (S.state shelf.new); out = sent (O.state out.old) (O.state out.new); err = sent (E.state err.old) (E.state err.new); status = result }) }
+    ensures lawful { IsLawful (record {
+      words = map string_bytes words.now;
+      shelf = seen (S.state shelf.old) (S.state shelf.new);
+      out = sent (O.state out.old) (O.state out.new);
+      err = sent (E.state err.old) (E.state err.new);
+      status = result;
+    }) }
 {
     let command = match read_words(alloc, words) {
         Ok(command) => command,
@@ -77,7 +90,8 @@ pub fn run<S: Shelf, O: Sink, E: Sink>(
 /// Ends a run whose words can't be had: one of them is no text, or memory ran out. Writes the line that says so to `err`, or
 /// that of want of memory where there is none for the line, and answers the exit status.
 pub fn run_without_words<E: Sink>(alloc: Global, fault: WordsFault, err: &mut E) -> u8
-    ensures { Sent (sent (E.state err.old) (E.state err.new)) result (status_of (halt_of_words fault)) (line_of (halt_of_words fault)) ⊎ Sent (sent (E.state err.old) (E.state err.new)) result (status_of Halt.Memory) (line_of Halt.Memory) }
+    ensures { Sent (sent (E.state err.old) (E.state err.new)) result (status_of (halt_of_words fault)) (line_of (halt_of_words fault)) ⊎
+        Sent (sent (E.state err.old) (E.state err.new)) result (status_of Halt.Memory) (line_of Halt.Memory) }
 {
     match fault {
         WordsFault::Bad => stop(alloc, &Halt::Words, err),

@@ -44,7 +44,13 @@ pub(crate) fn slot(node: u32) -> Slot
 }
 
 fn draw_costs(draws: &mut Draws) -> Costs
-    ensures costs { result ≡ record { wcet = 1 + nth_draw draws.old.number 1 50; parts = 1 + nth_draw draws.old.number 2 3; alpha = nth_draw draws.old.number 3 3; chi = nth_draw draws.old.number 4 3; mu = nth_draw draws.old.number 5 5 } }
+    ensures costs { result ≡ record {
+      wcet = 1 + nth_draw draws.old.number 1 50;
+      parts = 1 + nth_draw draws.old.number 2 3;
+      alpha = nth_draw draws.old.number 3 3;
+      chi = nth_draw draws.old.number 4 3;
+      mu = nth_draw draws.old.number 5 5;
+    } }
     ensures number { draws.new.number ≡ number_after draws.old.number 5 }
 {
     Costs {
@@ -105,7 +111,8 @@ fn edge(source: u32, target: u32, when: Option<bool>) -> Edge
 /// The edge to a process from its predecessor, by the next draw.
 fn drawn_edge(draws: &mut Draws, target: u32) -> Edge
     requires { 0 < target }
-    ensures edge { result ≡ edge_of (predecessor_by (next_number draws.old.number) target) target (when_of (predecessor_by (next_number draws.old.number) target) target) }
+    ensures edge { result ≡ edge_of (predecessor_by (next_number draws.old.number) target) target
+        (when_of (predecessor_by (next_number draws.old.number) target) target) }
     ensures number { draws.new.number ≡ next_number draws.old.number }
 {
     let source = target - 1 - draws.next(u64::from(target.min(6))) as u32;

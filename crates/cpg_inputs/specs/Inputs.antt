@@ -21,8 +21,10 @@ AreInputs command values (Inputs.Show a) = (graph : Text) × (command ≡ Show g
 AreInputs command values (Inputs.Compile a) = (graph : Text) × (command ≡ Compile graph) × (values ≡ graph_value a ∷ [])
 AreInputs command values (Inputs.Tune a) = (graph : Text) × (command ≡ Tune graph) × (values ≡ graph_value a ∷ [])
 AreInputs command values (Inputs.Check a t) = (graph : Text) × (pack : Text) × (command ≡ Check graph pack) × (values ≡ graph_value a ∷ tables_value t ∷ [])
-AreInputs command values (Inputs.Play a t p turns) = (graph : Text) × (pack : Text) × (scenario : Text) × (command ≡ Play graph pack scenario turns) × (values ≡ graph_value a ∷ tables_value t ∷ played_value p ∷ [])
-AreInputs command values (Inputs.Audit a t l) = (graph : Text) × (pack : Text) × (log : Text) × (command ≡ Audit graph pack log) × (values ≡ graph_value a ∷ tables_value t ∷ log_value l ∷ [])
+AreInputs command values (Inputs.Play a t p turns) = (graph : Text) × (pack : Text) × (scenario : Text) ×
+    (command ≡ Play graph pack scenario turns) × (values ≡ graph_value a ∷ tables_value t ∷ played_value p ∷ [])
+AreInputs command values (Inputs.Audit a t l) = (graph : Text) × (pack : Text) × (log : Text) × (command ≡ Audit graph pack log) ×
+    (values ≡ graph_value a ∷ tables_value t ∷ log_value l ∷ [])
 AreInputs command values (Inputs.Node t name) = (pack : Text) × (command ≡ Node pack name) × (values ≡ tables_value t ∷ [])
 AreInputs command values (Inputs.Live t name stream) = (pack : Text) × (command ≡ Live pack name stream) × (values ≡ tables_value t ∷ [])
 AreInputs command values (Inputs.Hyper parts) = (pairs : List Pair) × (command ≡ Hyper pairs) × (values ≡ part_values parts) × HavePeriods pairs parts

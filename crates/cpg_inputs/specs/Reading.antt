@@ -63,4 +63,5 @@ Reads g (file ∷ files) past now (value ∷ values) = (fetch : Fetch) × IsRead
 abbrev pub StopsReading : Option Graph → List File → List Fetch → List Fetch → Halt → Type 0
 StopsReading g [] past now halt = ⊥
 StopsReading g (file ∷ files) past now halt = (fetch : Fetch)
-    × ((StopsAt g file fetch halt × (now ≡ fetch ∷ past)) ⊎ ((value : Value) × IsRead g file fetch value × StopsReading (graph_after g value) files (fetch ∷ past) now halt))
+    × ((StopsAt g file fetch halt × (now ≡ fetch ∷ past)) ⊎ ((value : Value) × IsRead g file fetch value ×
+    StopsReading (graph_after g value) files (fetch ∷ past) now halt))

@@ -76,7 +76,8 @@ pub fn read_graph<S: Shelf>(alloc: Global, shelf: &mut S, name: &str) -> Result<
     requires { S.may_fetch shelf.old name.now }
     ensures keeps { KeepsShelf (S.state shelf.old) (S.state shelf.new) }
     ensures leave { SameLeave (S.may_fetch shelf.old) (S.may_fetch shelf.new) }
-    ensures graph { IfOk result (λ admitted. ReadsNext None (file GraphFile name.now) (S.state shelf.old).history (S.state shelf.new).history (graph_value admitted)) }
+    ensures graph { IfOk result (λ admitted.
+        ReadsNext None (file GraphFile name.now) (S.state shelf.old).history (S.state shelf.new).history (graph_value admitted)) }
     ensures halt { IfErr result (StopsNext None (file GraphFile name.now) (S.state shelf.old).history (S.state shelf.new).history) }
 {
     let bytes = read_file(alloc, shelf, Kind::GraphFile, name)?;
@@ -89,7 +90,8 @@ pub fn read_tables<S: Shelf>(alloc: Global, shelf: &mut S, name: &str) -> Result
     requires { S.may_fetch shelf.old name.now }
     ensures keeps { KeepsShelf (S.state shelf.old) (S.state shelf.new) }
     ensures leave { SameLeave (S.may_fetch shelf.old) (S.may_fetch shelf.new) }
-    ensures tables { (g : Option Graph) → IfOk result (λ tables. ReadsNext g (file PackFile name.now) (S.state shelf.old).history (S.state shelf.new).history (tables_value tables)) }
+    ensures tables { (g : Option Graph) →
+        IfOk result (λ tables. ReadsNext g (file PackFile name.now) (S.state shelf.old).history (S.state shelf.new).history (tables_value tables)) }
     ensures halt { (g : Option Graph) → IfErr result (StopsNext g (file PackFile name.now) (S.state shelf.old).history (S.state shelf.new).history) }
 {
     let bytes = read_file(alloc, shelf, Kind::PackFile, name)?;
@@ -109,7 +111,8 @@ pub fn read_played<S: Shelf>(
     requires { S.may_fetch shelf.old name.now }
     ensures keeps { KeepsShelf (S.state shelf.old) (S.state shelf.new) }
     ensures leave { SameLeave (S.may_fetch shelf.old) (S.may_fetch shelf.new) }
-    ensures played { IfOk result (λ played. ReadsNext (Some problem.now) (file ScenarioFile name.now) (S.state shelf.old).history (S.state shelf.new).history (played_value played)) }
+    ensures played { IfOk result (λ played.
+        ReadsNext (Some problem.now) (file ScenarioFile name.now) (S.state shelf.old).history (S.state shelf.new).history (played_value played)) }
     ensures halt { IfErr result (StopsNext (Some problem.now) (file ScenarioFile name.now) (S.state shelf.old).history (S.state shelf.new).history) }
 {
     let bytes = read_file(alloc, shelf, Kind::ScenarioFile, name)?;
@@ -129,7 +132,8 @@ pub fn read_acts<S: Shelf>(
     requires { S.may_fetch shelf.old name.now }
     ensures keeps { KeepsShelf (S.state shelf.old) (S.state shelf.new) }
     ensures leave { SameLeave (S.may_fetch shelf.old) (S.may_fetch shelf.new) }
-    ensures log { IfOk result (λ log. ReadsNext (Some problem.now) (file LogFile name.now) (S.state shelf.old).history (S.state shelf.new).history (log_value log)) }
+    ensures log { IfOk result (λ log.
+        ReadsNext (Some problem.now) (file LogFile name.now) (S.state shelf.old).history (S.state shelf.new).history (log_value log)) }
     ensures halt { IfErr result (StopsNext (Some problem.now) (file LogFile name.now) (S.state shelf.old).history (S.state shelf.new).history) }
 {
     let bytes = read_file(alloc, shelf, Kind::LogFile, name)?;

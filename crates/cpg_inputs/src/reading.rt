@@ -41,8 +41,11 @@ fn read_judged<S: Shelf>(
     requires pack { S.may_fetch shelf.old pack.now }
     ensures keeps { KeepsShelf (S.state shelf.old) (S.state shelf.new) }
     ensures leave { SameLeave (S.may_fetch shelf.old) (S.may_fetch shelf.new) }
-    ensures read { IfOk result (λ j. Reads None (file GraphFile graph.now ∷ file PackFile pack.now ∷ []) (S.state shelf.old).history (S.state shelf.new).history (graph_value j.graph ∷ tables_value j.tables ∷ [])) }
-    ensures halt { IfErr result (StopsReading None (file GraphFile graph.now ∷ file PackFile pack.now ∷ []) (S.state shelf.old).history (S.state shelf.new).history) }
+    ensures read { IfOk result (λ j.
+        Reads None (file GraphFile graph.now ∷ file PackFile pack.now ∷ []) (S.state shelf.old).history (S.state shelf.new).history
+        (graph_value j.graph ∷ tables_value j.tables ∷ [])) }
+    ensures halt { IfErr result (StopsReading None (file GraphFile graph.now ∷ file PackFile pack.now ∷ []) (S.state shelf.old).history
+        (S.state shelf.new).history) }
 {
     let graph = read_graph(alloc, shelf, graph)?;
     let tables = read_tables(alloc, shelf, pack)?;

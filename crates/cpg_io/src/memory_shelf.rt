@@ -233,7 +233,13 @@ impl Shelf for MemoryShelf {
         ensures history { self.new.history ≡ opened name.now (is_err result) self.old.history }
         ensures cause { HasCause self.old.faults self.new.faults result }
         ensures fails { IsErr result ↔ (Contains self.old.failing self.old.calls ⊎ stands_in self.old.files name.now ≡ None) }
-        ensures same { self.new ≡ record self.old { left = self.new.left; at = 0; faults = self.new.faults; history = self.new.history; calls = counted self.old.calls 1 } }
+        ensures same { self.new ≡ record self.old {
+          left = self.new.left;
+          at = 0;
+          faults = self.new.faults;
+          history = self.new.history;
+          calls = counted self.old.calls 1;
+        } }
         ensures faults { MatchResult result (λ _. self.new.faults ≡ self.old.faults) (λ _. self.new.faults ≡ counted self.old.faults 1) }
     {
         self.close();
@@ -258,7 +264,13 @@ impl Shelf for MemoryShelf {
         ensures cause { HasCause self.old.faults self.new.faults result }
         ensures fails { IsErr result ↔ Contains self.old.failing self.old.calls }
         ensures fits { IfOk result (λ n. n ≡ min (length self.old.left) (length buf.old)) }
-        ensures same { self.new ≡ record self.old { left = self.new.left; at = self.new.at; faults = self.new.faults; history = self.new.history; calls = counted self.old.calls 1 } }
+        ensures same { self.new ≡ record self.old {
+          left = self.new.left;
+          at = self.new.at;
+          faults = self.new.faults;
+          history = self.new.history;
+          calls = counted self.old.calls 1;
+        } }
         ensures faults { MatchResult result (λ _. self.new.faults ≡ self.old.faults) (λ _. self.new.faults ≡ counted self.old.faults 1) }
     {
         if self.count_call() {

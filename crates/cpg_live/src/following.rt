@@ -150,8 +150,10 @@ impl Follower {
 
     /// Writes the lines of the acts that aren't told, in one write.
     fn tell<O: Sink>(&mut self, out: &mut O) -> Result<(), Failed>
-        ensures whole { OnOk result (Appends (O.state out.old).taken (O.state out.new).taken (act_lines self.old.head (drop self.old.told self.old.live.progress.acts))) }
-        ensures part { OnErr result (TookPrefix (O.state out.old).taken (O.state out.new).taken (act_lines self.old.head (drop self.old.told self.old.live.progress.acts))) }
+        ensures whole { OnOk result (Appends (O.state out.old).taken (O.state out.new).taken
+            (act_lines self.old.head (drop self.old.told self.old.live.progress.acts))) }
+        ensures part { OnErr result (TookPrefix (O.state out.old).taken (O.state out.new).taken
+            (act_lines self.old.head (drop self.old.told self.old.live.progress.acts))) }
         ensures state { self.new ≡ record self.old { told = length self.old.live.progress.acts } }
         ensures cause { HasCause (O.state out.old).faults (O.state out.new).faults result }
     {
@@ -177,7 +179,11 @@ impl Follower {
         ensures leave { SameLeave (S.may_fetch shelf.old) (S.may_fetch shelf.new) }
         ensures rest { LeavesRest (S.state shelf.old) → LeavesRest (S.state shelf.new) }
         ensures same { IsOfSame self.old self.new }
-        ensures along { (start : Option (List ℕ)) (name : List ℕ) (past : List Fetch) → IsAlong name past (S.state shelf.old).history start (O.state out.old).taken self.old → MatchResult result (λ count. IsAlongAt count name past (S.state shelf.new).history start (O.state out.new).taken self.new) (λ broken. IsStreamed (λ s. Breaks self.old.head self.old.table s broken) name past (S.state shelf.new).history start (O.state out.old) (O.state out.new)) }
+        ensures along { (start : Option (List ℕ)) (name : List ℕ) (past : List Fetch) →
+            IsAlong name past (S.state shelf.old).history start (O.state out.old).taken self.old →
+            MatchResult result (λ count.
+            IsAlongAt count name past (S.state shelf.new).history start (O.state out.new).taken self.new) (λ broken.
+            IsStreamed (λ s. Breaks self.old.head self.old.table s broken) name past (S.state shelf.new).history start (O.state out.old) (O.state out.new)) }
         ensures nearer { IfOk result (λ count. self.new.read ≡ self.old.read + count) }
         ensures within { IfOk result (λ _. self.new.read ≤ STREAM_LIMIT) }
         ensures rose { result ≡ Err Broken.Shelf → Rose (S.state shelf.old).faults (S.state shelf.new).faults }

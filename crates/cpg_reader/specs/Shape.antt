@@ -130,7 +130,15 @@ pub record Tops : Type 0 where
   pub edges : List Members
 
 abbrev pub tops_view : TopsOfCode → Tops
-tops_view t = record { faults = t.faults; deadline = t.deadline; nodes = map (λ m. table_view m.now) t.nodes.items; slots = map (λ m. table_view m.now) t.slots.items; processes = map (λ m. table_view m.now) t.processes.items; edges = map (λ m. table_view m.now) t.edges.items }
+tops_view t = record {
+  faults = t.faults;
+  deadline = t.deadline;
+  nodes = map (λ m. table_view m.now) t.nodes.items;
+  slots = map (λ m.
+      table_view m.now) t.slots.items;
+  processes = map (λ m. table_view m.now) t.processes.items;
+  edges = map (λ m. table_view m.now) t.edges.items;
+}
 
 -- the tables of each list, and the end of the top
 unfoldable pub lists_at : Row → ℤ → ℤ → Reading Tops

@@ -6,7 +6,8 @@ ghost use Rattle.cpg_base.specs.Numbers.{numbers_below};
 ghost use Rattle.cpg_base.specs.Graph.{process_count, condition_count};
 ghost use Rattle.cpg_base.specs.Duration.{duration};
 ghost use Rattle.cpg_base.specs.Limits.{IsWithinLimits};
-ghost use Rattle.cpg_scenario.specs.File.{value_given, may_have_value, has_conditions, values_of, count_given, count_of, natural, is_natural, keeps_budget, length_given, length_or, is_length_if, keeps_lengths, lengths_of, played_of, file_of, IsPlayed};
+ghost use Rattle.cpg_base.specs.Natural.{natural};
+ghost use Rattle.cpg_scenario.specs.File.{value_given, may_have_value, has_conditions, values_of, count_given, count_of, is_natural, keeps_budget, length_given, length_or, is_length_if, keeps_lengths, lengths_of, played_of, file_of, IsPlayed};
 
 use crate::entries::{flag_at, has_fields, has_names, integer_at};
 use crate::fault::{Cause, ScenarioFault};
@@ -94,7 +95,10 @@ fn count_within(count: i64, left: u8) -> Option<u8>
 fn set_faults(problem: &Problem, document: &Table, scenario: &mut Scenario) -> bool
     requires { length scenario.old.faults ≡ process_count problem.now }
     ensures kept { result ≡ keeps_budget problem.now (table_view document.now) }
-    ensures faults { OnTrue result (scenario.new ≡ record scenario.old { faults = map (count_of problem.now (table_view document.now)) (numbers_below (process_count problem.now)) }) }
+    ensures faults { OnTrue result (scenario.new ≡ record scenario.old {
+      faults = map (count_of problem.now (table_view document.now))
+          (numbers_below (process_count problem.now));
+    }) }
 {
     let mut left = problem.faults();
     for process in 0..problem.processes().len() as u32 {

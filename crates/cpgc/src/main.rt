@@ -53,7 +53,13 @@ fn run_on(
     out: &mut StreamSink<Stdout>,
     err: &mut StreamSink<Stderr>,
 ) -> u8
-    ensures { IsLawful (record { words = map string_bytes words.now; shelf = seen (shelf_of shelf.old) (shelf_of shelf.new); out = sent (sink_of out.old) (sink_of out.new); err = sent (sink_of err.old) (sink_of err.new); status = result }) }
+    ensures { IsLawful (record {
+      words = map string_bytes words.now;
+      shelf = seen (shelf_of shelf.old) (shelf_of shelf.new);
+      out = sent (sink_of out.old) (sink_of out.new);
+      err = sent (sink_of err.old) (sink_of err.new);
+      status = result;
+    }) }
 {
     run(alloc, words, shelf, out, err)
 }
