@@ -1,5 +1,6 @@
 -- Marks of the processes that have a conditional output, and the list of their numbers.
 use Rattle.std.proofs.Common.{ℕ, ◌+◌, ◌<◌, ◌≤◌, ◌≡◌, Bool, true, false, ◌&&◌, ◌||◌, ◌==◌, cond, List, [], ◌∷◌, ◌++◌, length, get_or, take, filter, is_some, replicate, set, refl, sym, ap, ap₂, ◌∙◌, inl, inr, arith, zero, suc, ◌-◌, subst, length-append}
+use Rattle.std.proofs.lemmas.Bool.{and_right, or_right}
 use Rattle.std.proofs.lemmas.Bool.Decides.{eqb_tells}
 use Rattle.std.proofs.lemmas.List.{get_or-set_same, get_or-set_other, get_or-replicate}
 use Rattle.std.proofs.lemmas.List.Folds.{list_any_more}
@@ -16,27 +17,19 @@ or_false : (a b : Bool) → b ≡ false → (a || b) ≡ a
 or_false true b h = refl
 or_false false b h = h
 
-or_true : (a b : Bool) → b ≡ true → (a || b) ≡ true
-or_true true b h = refl
-or_true false b h = h
-
-and_false : (a b : Bool) → b ≡ false → (a && b) ≡ false
-and_false true b s = s
-and_false false b s = refl
-
 module _ (edges : List Edge) (i : ℕ) (d : Edge) (within : i < length edges) where
   more : (p : ℕ) → has_conditional_output (take (i + 1) edges) p ≡ (has_conditional_output (take i edges) p || is_conditional_output p (get_or edges i d))
   more p = list_any_more (is_conditional_output p) edges i d within
 
   -- a simple edge marks nothing
   pub marks_keep : (marks : List Bool) → AreMarks marks (take i edges) → is_some (get_or edges i d).when ≡ false → AreMarks marks (take (i + 1) edges)
-  marks_keep marks h simple p l = h p l ∙ sym (more p ∙ or_false (has_conditional_output (take i edges) p) (is_conditional_output p (get_or edges i d)) (and_false ((get_or edges i d).from == p) (is_some (get_or edges i d).when) simple))
+  marks_keep marks h simple p l = h p l ∙ sym (more p ∙ or_false (has_conditional_output (take i edges) p) (is_conditional_output p (get_or edges i d)) (and_right ((get_or edges i d).from == p) (is_some (get_or edges i d).when) simple))
 
   -- another edge marks its source
   pub marks_set : (marks : List Bool) → AreMarks marks (take i edges) → is_some (get_or edges i d).when ≡ true → (get_or edges i d).from < length marks → AreMarks (set marks (get_or edges i d).from true) (take (i + 1) edges)
   marks_set marks h taken inside p l = let e = get_or edges i d in elim (eqb_tells e.from p) [
     | inl same ↦ ap (λ q. get_or (set marks e.from true) q false) (sym same.1) ∙ get_or-set_same marks e.from true false inside
-        ∙ sym (more p ∙ or_true (has_conditional_output (take i edges) p) (is_conditional_output p e) (ap₂ (λ a b. a && b) same.0 taken))
+        ∙ sym (more p ∙ or_right (has_conditional_output (take i edges) p) (is_conditional_output p e) (ap₂ (λ a b. a && b) same.0 taken))
     | inr apart ↦ get_or-set_other marks e.from p true false (λ q. apart.1 (sym q)) ∙ h p l
         ∙ sym (more p ∙ or_false (has_conditional_output (take i edges) p) (is_conditional_output p e) (ap (λ a. a && is_some e.when) apart.0))
   ]

@@ -68,6 +68,28 @@ impl Name {
     }
 }
 
+/// Names are equal where their texts are.
+impl PartialEq for Name {
+    ghost use Rattle.std.specs.Prelude.{bytes_eq};
+    ghost use Rattle.std.specs.Cmp.Rules.{comparing};
+    ghost use Rattle.std.proofs.Common.{rules};
+
+    ghost eq = { bytes_eq };
+
+    ghost laws = { Prim.search (comparing, rules) };
+
+    fn eq(&self, other: &Name) -> bool {
+        self.text.as_str() == other.text.as_str()
+    }
+}
+
+/// Whether two lists of names are equal.
+pub fn are_same_names(names: &[Name], others: &[Name]) -> bool
+    ensures { IsTrue result ↔ (names.now ≡ others.now) }
+{
+    names == others
+}
+
 /// A clone is an equal name.
 impl Clone for Name {
     ghost is_clone = { λ name copy. copy ≡ name };

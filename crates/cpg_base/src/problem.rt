@@ -119,6 +119,32 @@ impl Problem {
         })
     }
 
+    /// The graph of these parts, which were judged before.
+    pub fn of(
+        faults: u8,
+        deadline: u64,
+        nodes: Vec<Name>,
+        slots: Vec<Slot>,
+        processes: Vec<Process>,
+        edges: Vec<Edge>,
+    ) -> Problem
+        requires { IsWithinLimits (record { faults = faults; deadline = deadline; nodes = nodes.items; slots = slots.items; processes = processes.items; edges = edges.items }) }
+        ensures { result ≡ record { faults = faults; deadline = deadline; nodes = nodes.items; slots = slots.items; processes = processes.items; edges = edges.items } }
+    {
+        let Some(conditions) = Conditions::of(processes.len(), edges.as_slice()) else {
+            unreachable!()
+        };
+        Problem {
+            faults,
+            deadline,
+            nodes,
+            slots,
+            processes,
+            edges,
+            conditions,
+        }
+    }
+
     /// The greatest number of faults in a cycle.
     pub fn faults(&self) -> u8
         ensures faults { result ≡ self.now.faults }

@@ -59,8 +59,5 @@ pub fn generate(alloc: Global, number: u64) -> Result<Problem, OutOfMemory>
     let nodes = nodes(alloc)?;
     let slots = slots(alloc)?;
     let drawn = draw_all(alloc, number)?;
-    match Problem::new(2, 1_000_000_000, nodes, slots, drawn.processes, drawn.edges) {
-        Some(problem) => Ok(problem),
-        None => unreachable!(),
-    }
+    Ok(Problem::of(2, 1_000_000_000, nodes, slots, drawn.processes, drawn.edges))
 }

@@ -12,7 +12,8 @@ use Rattle.cpg_reader.specs.declared.ranges.Bounded.{Bounded}
 use Rattle.cpg_reader.specs.Reading.{Reading, done}
 use Rattle.cpg_reader.specs.Shape.{RawGraph}
 use Rattle.cpg_reader.specs.Ranges.{top_numbers, slot_numbers, process_numbers, edge_numbers, is_within, in_range, all_in_range, at_most, sources, different, limits}
-use Rattle.cpg_reader.specs.Names.{natural, process_names}
+use Rattle.cpg_base.specs.Natural.{natural}
+use Rattle.cpg_reader.specs.Names.{process_names}
 use Rattle.cpg_reader.proofs.Steps.{then-parts}
 
 -- numbers in their ranges

@@ -23,7 +23,8 @@ use Rattle.cpg_reader.specs.declared.place.Key.TheVariants.{Name, Node, From, To
 use Rattle.cpg_reader.specs.Reading.{each}
 use Rattle.cpg_reader.specs.Shape.{RawGraph}
 use Rattle.cpg_reader.specs.Ranges.{sources, different, limits}
-use Rattle.cpg_reader.specs.Names.{place, natural, number_of, slot_of, process_of, edge_of, slot_names, process_names, graph_with, resolved, graph_of}
+use Rattle.cpg_base.specs.Natural.{natural}
+use Rattle.cpg_reader.specs.Names.{place, number_of, slot_of, process_of, edge_of, slot_names, process_names, graph_with, resolved, graph_of}
 use Rattle.cpg_reader.proofs.Steps.{then-parts, bind-parts, same_ok, each-length, each-at}
 use Rattle.cpg_reader.proofs.Limits.{AreLimits, are_limits}
 use Rattle.cpg_reader.proofs.Numbering.{number-is, apart-pairs, different-Contains}

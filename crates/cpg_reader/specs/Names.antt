@@ -1,6 +1,7 @@
 -- What names stand for: the refusals of a double name and of an unknown one.
-use Rattle.std.specs.Prelude.{ℕ, ◌+◌, ℤ, pos, negsuc, List, [], ◌∷◌, ◌++◌, Option, Some, None, option_map, Err, map, position, bytes_eq, if◌then◌else◌}
+use Rattle.std.specs.Prelude.{ℕ, ◌+◌, List, [], ◌∷◌, ◌++◌, Option, Some, None, option_map, Err, map, position, bytes_eq, if◌then◌else◌}
 use Rattle.std.specs.List.{list_any}
+use Rattle.cpg_base.specs.Natural.{natural}
 use Rattle.cpg_base.specs.Graph.{Graph}
 use Rattle.cpg_base.specs.declared.process.Process.{Process}
 use Rattle.cpg_base.specs.declared.process.Edge.{Edge}
@@ -37,11 +38,6 @@ known place None = Err (UnknownName place)
 -- the number of a name among names
 unfoldable pub number_of : List (List ℕ) → Place → List ℕ → Reading ℕ
 number_of names place name = known place (position (bytes_eq name) names)
-
--- an integer that isn't negative
-abbrev pub natural : ℤ → ℕ
-natural (pos n) = n
-natural (negsuc n) = 0
 
 unfoldable pub slot_of : List (List ℕ) → ℕ → RawSlot → Reading Slot
 slot_of nodes i s = do

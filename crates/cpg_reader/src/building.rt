@@ -3,7 +3,8 @@ ghost use Rattle.std.specs.Prelude.{◌≡◌, ◌≤◌, length, Ok, IfOk, opti
 ghost use Rattle.cpg_reader.specs.Reading.{Gives, each};
 ghost use Rattle.cpg_reader.specs.Shape.{raw_view};
 ghost use Rattle.cpg_reader.specs.Ranges.{limits};
-ghost use Rattle.cpg_reader.specs.Names.{natural, slot_of, process_of, edge_of, slot_names, process_names, apart, graph_with, resolved, named, graph_of};
+ghost use Rattle.cpg_base.specs.Natural.{natural};
+ghost use Rattle.cpg_reader.specs.Names.{slot_of, process_of, edge_of, slot_names, process_names, apart, graph_with, resolved, named, graph_of};
 
 use crate::names::Names;
 use crate::place::{Key, Place, ReadFault, Table};
@@ -233,13 +234,12 @@ pub fn problem_of(alloc: Global, raw: RawProblem) -> Result<Problem, ReadFault>
     let parts = parts_of(alloc, &raw)?;
     let faults = faults_of(&raw);
     let deadline = natural(raw.deadline);
-    let problem = Problem::new(
+    Ok(Problem::of(
         faults,
         deadline,
         raw.nodes,
         parts.slots,
         parts.processes,
         parts.edges,
-    );
-    Ok(problem.unwrap())
+    ))
 }

@@ -14,7 +14,8 @@ use Rattle.cpg_base.specs.Graph.{Graph, process_count, condition_count, process_
 use Rattle.cpg_base.specs.Duration.{duration}
 use Rattle.cpg_base.specs.Scenario.{Scenario, IsScenario, fault_of, full_lengths}
 use Rattle.cpg_base.proofs.Lists.{same_map, numbers-Contains, get_or-map-below, from_all, Contains-numbers}
-use Rattle.cpg_scenario.specs.File.{natural, is_natural, count_given, count_of, keeps_budget, scenario_of, keeps_lengths, lengths_of, length_or, length_given, is_length_if, IsPlayed}
+use Rattle.cpg_base.specs.Natural.{natural}
+use Rattle.cpg_scenario.specs.File.{is_natural, count_given, count_of, keeps_budget, scenario_of, keeps_lengths, lengths_of, length_or, length_given, is_length_if, IsPlayed}
 use Rattle.cpg_scenario.proofs.Filling.{all_pass, one_fails, over_budget}
 
 pub scenario_is : (s : Scenario) (values : List Bool) (faults : List ℕ) → s.values ≡ values → s.faults ≡ faults → s ≡ record { values = values; faults = faults }

@@ -4,8 +4,10 @@ use Rattle.std.specs.List.{list_any, list_all}
 use Rattle.std.specs.Str.{is_utf8}
 use Rattle.toml.specs.Data.{Data, Members, no_members, member, get_member, as_integer, as_bool, as_table}
 use Rattle.toml.specs.Parse.{parse_document}
+use Rattle.cpg_base.specs.Natural.{natural}
+use Rattle.cpg_base.specs.Called.{name_of}
 use Rattle.cpg_base.specs.Numbers.{numbers_below}
-use Rattle.cpg_base.specs.Graph.{Graph, process_count, condition_count, process_at, condition_of, process_of}
+use Rattle.cpg_base.specs.Graph.{Graph, process_count, condition_count, condition_of, process_of}
 use Rattle.cpg_base.specs.Duration.{duration}
 use Rattle.cpg_base.specs.Scenario.{Scenario, IsScenario, fault_of}
 use Rattle.cpg_scenario.specs.declared.fault.Cause.TheVariants.{Toml, Field, Unknown, Condition, Budget, Length}
@@ -54,9 +56,6 @@ has_fields ms = are_among top_keys ms
 abbrev pub entry_at : Members → List ℕ → List ℕ → Option Data
 entry_at ms key name = option_and_then (get_member name) (option_and_then as_table (get_member key ms))
 
-abbrev pub name_of : Graph → ℕ → List ℕ
-name_of g p = (process_at g p).name
-
 abbrev pub process_names : Graph → List (List ℕ)
 process_names g = map (λ p. p.name) g.processes
 
@@ -87,10 +86,6 @@ abbrev pub values_of : Graph → Members → List Bool
 values_of g ms = map (λ c. unwrap_or (value_given g ms (process_of g c)) false) (numbers_below (condition_count g))
 
 -- ---- faults
-
-abbrev pub natural : ℤ → ℕ
-natural (pos n) = n
-natural (negsuc n) = 0
 
 abbrev pub is_natural : ℤ → Bool
 is_natural (pos n) = true

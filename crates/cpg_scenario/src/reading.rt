@@ -6,7 +6,8 @@ ghost use Rattle.cpg_base.specs.Numbers.{numbers_below};
 ghost use Rattle.cpg_base.specs.Graph.{process_count, condition_count};
 ghost use Rattle.cpg_base.specs.Duration.{duration};
 ghost use Rattle.cpg_base.specs.Limits.{IsWithinLimits};
-ghost use Rattle.cpg_scenario.specs.File.{value_given, may_have_value, has_conditions, values_of, count_given, count_of, natural, is_natural, keeps_budget, length_given, length_or, is_length_if, keeps_lengths, lengths_of, played_of, file_of, IsPlayed};
+ghost use Rattle.cpg_base.specs.Natural.{natural};
+ghost use Rattle.cpg_scenario.specs.File.{value_given, may_have_value, has_conditions, values_of, count_given, count_of, is_natural, keeps_budget, length_given, length_or, is_length_if, keeps_lengths, lengths_of, played_of, file_of, IsPlayed};
 
 use crate::entries::{flag_at, has_fields, has_names, integer_at};
 use crate::fault::{Cause, ScenarioFault};

@@ -1,7 +1,6 @@
 use Rattle.cpg_gen.proofs.Limits.{parts_within}
 use Rattle.cpg_gen.proofs.generation.generate.Goals as goal
 
-pub unreachable-requires : goal.unreachable-requires
-unreachable-requires c = c.in-None.ensures.refused
-    (parts_within c.args.number c.in_ok-nodes.nodes.items c.in_ok-slots.slots.items c.in_ok-drawn.drawn.processes.items c.in_ok-drawn.drawn.edges.items
-    c.in_ok-nodes.ensures c.in_ok-slots.ensures c.in_ok-drawn.ensures.processes c.in_ok-drawn.ensures.edges)
+pub of-requires : goal.of-requires
+of-requires c = parts_within c.args.number c.in_ok-nodes.nodes.items c.in_ok-slots.slots.items c.in_ok-drawn.drawn.processes.items c.in_ok-drawn.drawn.edges.items
+    c.in_ok-nodes.ensures c.in_ok-slots.ensures c.in_ok-drawn.ensures.processes c.in_ok-drawn.ensures.edges

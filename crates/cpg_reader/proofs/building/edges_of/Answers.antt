@@ -1,6 +1,6 @@
 use Rattle.std.proofs.Common.{◌≤◌}
 use Rattle.cpg_reader.specs.Shape.{raw_view}
-use Rattle.cpg_reader.specs.Names.{natural}
+use Rattle.cpg_base.specs.Natural.{natural}
 use Rattle.cpg_reader.specs.declared.shape.RawEdge.{RawEdge}
 use Rattle.cpg_reader.proofs.Limits.{few_processes, small_edges, all_at}
 use Rattle.cpg_reader.proofs.building.edges_of.Goals as goal

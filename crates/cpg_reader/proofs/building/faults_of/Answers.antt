@@ -1,6 +1,6 @@
 use Rattle.std.proofs.Common.{◌≡◌, arith, rules}
 use Rattle.cpg_reader.specs.Shape.{raw_view}
-use Rattle.cpg_reader.specs.Names.{natural}
+use Rattle.cpg_base.specs.Natural.{natural}
 use Rattle.cpg_reader.proofs.Limits.{small_faults}
 use Rattle.cpg_reader.proofs.building.faults_of.Goals as goal
 

@@ -1,6 +1,6 @@
 use Rattle.std.proofs.Common.{◌≤◌}
 use Rattle.cpg_reader.specs.Shape.{raw_view}
-use Rattle.cpg_reader.specs.Names.{natural}
+use Rattle.cpg_base.specs.Natural.{natural}
 use Rattle.cpg_reader.specs.declared.shape.RawSlot.{RawSlot}
 use Rattle.cpg_reader.proofs.Limits.{few_nodes, small_slots, all_at}
 use Rattle.cpg_reader.proofs.building.slots_of.Goals as goal

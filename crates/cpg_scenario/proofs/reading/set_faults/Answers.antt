@@ -3,7 +3,8 @@ use Rattle.toml.specs.View.{table_view}
 use Rattle.cpg_base.specs.Numbers.{numbers_below}
 use Rattle.cpg_base.specs.Graph.{process_count}
 use Rattle.cpg_base.specs.Scenario.{Scenario}
-use Rattle.cpg_scenario.specs.File.{count_given, count_of, natural, is_natural}
+use Rattle.cpg_base.specs.Natural.{natural}
+use Rattle.cpg_scenario.specs.File.{count_given, count_of, is_natural}
 use Rattle.cpg_scenario.proofs.Filling.{FilledTo, filled_next, filled_all, below_next, sum_next}
 use Rattle.cpg_scenario.proofs.Budget.{scenario_is, budget_broken, budget_kept}
 use Rattle.std.proofs.lemmas.Int.{to_z-of_z}

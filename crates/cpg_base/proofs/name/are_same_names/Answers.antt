@@ -1,0 +1,8 @@
+use Rattle.std.proofs.Common.{sym, ◌∙◌}
+use Rattle.std.specs.Cmp.Lexicographic.{bytes_decides, pointwise_decides}
+use Rattle.cpg_base.proofs.name.are_same_names.Goals as goal
+
+pub returns : goal.returns
+returns c =
+    let decides = pointwise_decides bytes_decides c.args.names.now c.args.others.now in
+    (λ same. decides.0 (sym c.eq.ensures ∙ same), λ is. c.eq.ensures ∙ decides.1 is)

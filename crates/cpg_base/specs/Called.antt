@@ -1,0 +1,11 @@
+-- What the parts of a graph are called.
+use Rattle.std.specs.Prelude.{ℕ, List, [], get_or}
+use Rattle.cpg_base.specs.Graph.{Graph, process_at}
+
+-- what a process is called
+abbrev pub name_of : Graph → ℕ → List ℕ
+name_of g p = (process_at g p).name
+
+-- what a node is called
+abbrev pub node_name : Graph → ℕ → List ℕ
+node_name g node = get_or g.nodes node []
