@@ -1,7 +1,7 @@
 -- Scenarios of instances, how long executions last in them, and when they start and end in valid tables.
 use Rattle.std.proofs.Common.{map, not, None, ◌≡◌, ℕ, ◌+◌, ◌*◌, ◌<◌, ◌≤◌, Bool, true, false, ◌&&◌, ◌||◌, nat_lt, List, [], ◌∷◌, take, drop, filter, sum, Some, Contains, refl, sym, ap, ◌∙◌, subst, arith, lt-ltb, ⊎_elim}
 use Rattle.std.specs.List.{list_any}
-use Rattle.std.proofs.lemmas.Bool.{cases_lt, true≢false}
+use Rattle.std.proofs.lemmas.Bool.{cases_lt, or_parts, true≢false}
 use Rattle.std.proofs.lemmas.List.{length-map, length-take, length-drop, get_or-take, get_or-drop, drop_more}
 use Rattle.std.proofs.lemmas.List.Sums.{sum_by-take-drop, sum_by-take-le}
 use Rattle.cpg_base.specs.Graph.{Graph, process_count, item_at, process_at, disjunctions}
@@ -52,10 +52,6 @@ both_false true true h e = h
 both_false true false h e = refl
 both_false false b h e = cc
 
-first_false : (a b : Bool) → (a || b) ≡ false → a ≡ false
-first_false true b h = h
-first_false false b h = refl
-
 at_least : (a b : ℕ) → nat_lt a b ≡ false → b ≤ a
 at_least a b h = ⊎_elim (λ (l : a < b). absurd (true≢false (sym (lt-ltb a b l) ∙ h))) (λ (m : b ≤ a). m) (cases_lt a b)
 
@@ -69,7 +65,7 @@ module _ (g : Graph) (tables : List NodeTable) (s : Scenario) (x : ℕ) (is : Is
       let rule : breaks Inputs g tables s x (Some there.0) ≡ false = valid.rules Inputs x (Some there.0) s is (omega (arith, l)) in
       let inputs : breaks_inputs g tables s x c ≡ false = both_false (matches c.cube s) (breaks_inputs g tables s x c) (rw here at rule) match in
       let released : breaks_inputs_of g tables s c.time (Start x) ≡ false = rw start at inputs in
-      at_least c.time (process_at g x).release (first_false (nat_lt c.time (process_at g x).release) _ released)
+      at_least c.time (process_at g x).release (or_parts (nat_lt c.time (process_at g x).release) _ released).0
 
   ended : c.time + duration g x (fault_of s x) ≤ due g x
   ended =

@@ -1,6 +1,5 @@
 -- The answers of unrolling.
-use Rattle.std.proofs.Common.{◌≡◌, ℕ, ◌≤◌, List, length, get_or, filter, Option, Some, None, Err, refl, ap, ap₂, ◌∙◌}
-use Rattle.std.specs.Prelude.{IsSome, IfNone}
+use Rattle.std.proofs.Common.{◌≡◌, ℕ, ◌≤◌, List, length, get_or, filter, Err, ap, ap₂, ◌∙◌}
 use Rattle.cpg_base.specs.Numbers.{numbers_below}
 use Rattle.cpg_base.specs.Graph.{Graph, process_count, condition_count}
 use Rattle.cpg_base.specs.Conditions.{has_conditional_output}
@@ -15,10 +14,6 @@ use Rattle.cpg_hyper.specs.declared.part.HyperFault.TheVariants.{Range, Differ, 
 use Rattle.cpg_hyper.specs.Unrolled.{processes_from, edges_from, first_graph, unrolled}
 use Rattle.cpg_hyper.specs.Refusals.{HoldsOfEach, HasFewEnough, AreOver, ShowsProcesses, ShowsUnrolled}
 use Rattle.cpg_hyper.proofs.Whole.{unrolled_within, first_there}
-
-pub some_from : {X : Type 0} (r : Option X) (P : Type 0) → IfNone r (P → ⊥) → P → IsSome r
-some_from None P h p = absurd (h p)
-some_from (Some x) P h p = refl
 
 -- the parts of which the graph is made
 pub made_within : (whole : ℕ) (parts : List Part) → 1 ≤ length parts → length parts ≤ 4 → AreOver parts whole → HoldsOfEach (λ p part. IsWithinLimits part.problem) parts → HasFewEnough (unrolled whole parts)

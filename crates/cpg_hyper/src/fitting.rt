@@ -4,7 +4,7 @@ ghost use Rattle.cpg_base.specs.Limits.{IsWithinLimits};
 ghost use Rattle.cpg_hyper.specs.Refusals.{IsInRange, IsAlike, FitsPeriod, HoldsOfEach, FailsFirst};
 
 use crate::Part;
-use cpg_base::{LONGEST, Name, Problem, Process, Slot};
+use cpg_base::{LONGEST, Problem, Process, Slot, are_same_names};
 
 fn is_in_range(part: &Part) -> bool
     ensures { IsTrue result ↔ IsInRange part.now }
@@ -24,26 +24,6 @@ pub fn first_out_of_range(parts: &[Part]) -> Option<u32>
         }
     }
     None
-}
-
-fn is_same_name(name: &Name, other: &Name) -> bool
-    ensures { IsTrue result ↔ (name.now ≡ other.now) }
-{
-    name.as_str() == other.as_str()
-}
-
-fn are_same_names(names: &[Name], others: &[Name]) -> bool
-    ensures { IsTrue result ↔ (names.now ≡ others.now) }
-{
-    if names.len() != others.len() {
-        return false;
-    }
-    for place in 0..names.len() {
-        if !is_same_name(&names[place], &others[place]) {
-            return false;
-        }
-    }
-    true
 }
 
 fn is_same_slot(slot: &Slot, other: &Slot) -> bool

@@ -9,7 +9,7 @@ use crate::fitting::{first_different, first_out_of_range, first_over};
 use crate::period::hyperperiod;
 use crate::processes::unrolled_processes;
 use crate::{HyperFault, Part};
-use cpg_base::{Edge, Name, OutOfMemory, Problem, Process, Slot};
+use cpg_base::{Edge, OutOfMemory, Problem, Process};
 use cpg_reader::What;
 use std::alloc::Global;
 
@@ -21,26 +21,6 @@ const MOST_EDGES: u64 = cpg_base::MOST_EDGES as u64;
 
 /// How many conditions there are at most.
 const MOST_CONDITIONS: u32 = cpg_base::MOST_CONDITIONS as u32;
-
-fn copied_nodes(alloc: Global, nodes: &[Name]) -> Result<Vec<Name>, OutOfMemory>
-    ensures { IfOk result (λ copy. copy.items ≡ nodes.now) }
-{
-    let mut copy = Vec::new(alloc);
-    for name in nodes {
-        copy.push(name.copy()?)?;
-    }
-    Ok(copy)
-}
-
-fn copied_slots(alloc: Global, slots: &[Slot]) -> Result<Vec<Slot>, OutOfMemory>
-    ensures { IfOk result (λ copy. copy.items ≡ slots.now) }
-{
-    let mut copy = Vec::new(alloc);
-    for slot in slots {
-        copy.push(*slot)?;
-    }
-    Ok(copy)
-}
 
 /// The graph of the processes and edges of all instances.
 fn built(
@@ -61,10 +41,9 @@ fn built(
     ensures { IfOk result (λ g. g ≡ unrolled whole parts.now) }
 {
     let first = &parts[0].problem;
-    let nodes = copied_nodes(alloc, first.nodes())?;
-    let slots = copied_slots(alloc, first.slots())?;
-    let problem = Problem::new(first.faults(), whole, nodes, slots, processes, edges);
-    Ok(problem.unwrap())
+    let nodes = Vec::from_clones(alloc, first.nodes())?;
+    let slots = Vec::from_slice(alloc, first.slots())?;
+    Ok(Problem::of(first.faults(), whole, nodes, slots, processes, edges))
 }
 
 /// The graph over a hyperperiod, where there are few enough of each and the made names are short.
