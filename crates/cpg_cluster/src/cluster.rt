@@ -111,7 +111,10 @@ impl Cluster {
         requires tables { AreTablesOf (head_of admitted.now.graph) tables.nodes }
         requires valid { IsValid admitted.now.graph tables.nodes }
         requires scenario { IsScenario admitted.now.graph scenario.now }
-        ensures opened { IfOk result (λ c. c ≡ opened admitted.now.graph tables.nodes (record { scenario = scenario.now; lengths = full_lengths admitted.now.graph scenario.now })) }
+        ensures opened { IfOk result (λ c. c ≡ opened admitted.now.graph tables.nodes (record {
+          scenario = scenario.now;
+          lengths = full_lengths admitted.now.graph scenario.now;
+        })) }
         ensures correct { IfOk result (λ _. IsCorrect admitted.now.graph tables.nodes) }
     {
         let lengths = Lengths::full(alloc, admitted.problem(), scenario)?;
@@ -230,9 +233,13 @@ impl Cluster {
     /// Asks the nodes from one on, round the circle, until one takes its turn; answers how many of them waited.
     fn choose(&mut self, first: u32) -> u64
         requires { first < length self.old.graph.nodes }
-        ensures state { self.new ≡ record self.old { cluster = (choose self.old.graph self.old.world self.old.cluster (circle (length self.old.graph.nodes) first)).cluster } }
+        ensures state { self.new ≡ record self.old {
+          cluster = (choose self.old.graph self.old.world self.old.cluster
+              (circle (length self.old.graph.nodes) first)).cluster;
+        } }
         ensures waits { result ≡ (choose self.old.graph self.old.world self.old.cluster (circle (length self.old.graph.nodes) first)).waits }
-        ensures nearer { IsTrue (choose self.old.graph self.old.world self.old.cluster (circle (length self.old.graph.nodes) first)).took → remaining self.new.cluster < remaining self.old.cluster }
+        ensures nearer { IsTrue (choose self.old.graph self.old.world self.old.cluster (circle (length self.old.graph.nodes) first)).took →
+            remaining self.new.cluster < remaining self.old.cluster }
     {
         let nodes = self.members.len() as u32;
         let mut waits: u64 = 0;

@@ -89,16 +89,22 @@ pub fn take_turn(
     requires finish { AllFinish member.old.node.dispatcher (reports_of problem.now scenario.now lengths.now time member.old.node.dispatcher) }
     requires turn { MayTurn (ready problem.now scenario.now lengths.now time member.old.node.dispatcher) [] frames.now }
     requires next { next (ready problem.now scenario.now lengths.now time member.old.node.dispatcher) ≡ Some time }
-    requires reports_fit { length (member.old.reports.items ++ reports_of problem.now scenario.now lengths.now time member.old.node.dispatcher) ≤ vec_capacity member.old.reports }
-    requires ends_fit { length (member.old.ends.items ++ ends_of time (ready problem.now scenario.now lengths.now time member.old.node.dispatcher)) ≤ vec_capacity member.old.ends }
-    requires acts_fit { length (member.old.acts.items ++ acts_of_turn (ready problem.now scenario.now lengths.now time member.old.node.dispatcher) time [] frames.now) ≤ vec_capacity member.old.acts }
+    requires reports_fit { length
+        (member.old.reports.items ++ reports_of problem.now scenario.now lengths.now time member.old.node.dispatcher) ≤ vec_capacity member.old.reports }
+    requires ends_fit { length (member.old.ends.items ++ ends_of time
+        (ready problem.now scenario.now lengths.now time member.old.node.dispatcher)) ≤ vec_capacity member.old.ends }
+    requires acts_fit { length (member.old.acts.items ++ acts_of_turn
+        (ready problem.now scenario.now lengths.now time member.old.node.dispatcher) time [] frames.now) ≤ vec_capacity member.old.acts }
     ensures node { member.new.node.dispatcher ≡ turn (ready problem.now scenario.now lengths.now time member.old.node.dispatcher) time [] frames.now }
-    ensures acts { member.new.acts.items ≡ member.old.acts.items ++ acts_of_turn (ready problem.now scenario.now lengths.now time member.old.node.dispatcher) time [] frames.now }
-    ensures noted { member.new.noted.items ≡ fold note member.old.noted.items (acts_of_turn (ready problem.now scenario.now lengths.now time member.old.node.dispatcher) time [] frames.now) }
+    ensures acts { member.new.acts.items ≡ member.old.acts.items ++ acts_of_turn
+        (ready problem.now scenario.now lengths.now time member.old.node.dispatcher) time [] frames.now }
+    ensures noted { member.new.noted.items ≡ fold note member.old.noted.items
+        (acts_of_turn (ready problem.now scenario.now lengths.now time member.old.node.dispatcher) time [] frames.now) }
     ensures ends { member.new.ends.items ≡ member.old.ends.items ++ ends_of time (ready problem.now scenario.now lengths.now time member.old.node.dispatcher) }
     ensures reports { member.new.reports.items ≡ member.old.reports.items ++ reports_of problem.now scenario.now lengths.now time member.old.node.dispatcher }
     ensures same { (member.new.senders ≡ member.old.senders) × (member.new.slot ≡ member.old.slot) × (member.new.arrivals ≡ member.old.arrivals) }
-    ensures room { (vec_capacity member.new.acts ≡ vec_capacity member.old.acts) × (vec_capacity member.new.ends ≡ vec_capacity member.old.ends) × (vec_capacity member.new.reports ≡ vec_capacity member.old.reports) }
+    ensures room { (vec_capacity member.new.acts ≡ vec_capacity member.old.acts) ×
+        (vec_capacity member.new.ends ≡ vec_capacity member.old.ends) × (vec_capacity member.new.reports ≡ vec_capacity member.old.reports) }
 {
     let first = member.reports.len();
     let own = member.node.table().own();

@@ -137,8 +137,14 @@ pub fn gather_reports(
     requires own { All (IsOwnOf problem.now) own.now }
     requires lengths { length lengths.now ≡ process_count problem.now }
     requires same { length own.now ≡ length running.now }
-    requires room { length (reports.old.items ++ reports_by problem.now (record { scenario = scenario.now; lengths = lengths.now }) time own.now running.now) ≤ vec_capacity reports.old }
-    ensures reports { reports.new.items ≡ reports.old.items ++ reports_by problem.now (record { scenario = scenario.now; lengths = lengths.now }) time own.now running.now }
+    requires room { length (reports.old.items ++ reports_by problem.now (record {
+      scenario = scenario.now;
+      lengths = lengths.now;
+    }) time own.now running.now) ≤ vec_capacity reports.old }
+    ensures reports { reports.new.items ≡ reports.old.items ++ reports_by problem.now (record {
+      scenario = scenario.now;
+      lengths = lengths.now;
+    }) time own.now running.now }
     ensures room { vec_capacity reports.new ≡ vec_capacity reports.old }
 {
     for (place, own) in own.iter().enumerate() {

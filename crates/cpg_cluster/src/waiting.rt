@@ -49,7 +49,8 @@ fn waits_between(member: &Member, time: u64, other: u32, sender: &Member) -> boo
 pub fn waited_on(members: &[Member], member: &Member, time: u64) -> Option<u32>
     requires indexed { AreIndexed member.now.node.dispatcher.table.hears member.now.senders.items (length members.now) member.now.arrivals.items }
     requires few { length members.now ≤ 16 }
-    ensures { (d : Member) → answer_if result ≡ answer_by (filter (λ b. waits_between time member.now b (get_or members.now b d)) (numbers_below (length members.now))) }
+    ensures { (d : Member) →
+        answer_if result ≡ answer_by (filter (λ b. waits_between time member.now b (get_or members.now b d)) (numbers_below (length members.now))) }
 {
     let mut other: u32 = 0;
     for sender in members {

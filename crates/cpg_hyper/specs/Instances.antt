@@ -39,7 +39,11 @@ first_edge_of whole parts p i = edges_before whole parts p + i * length (part_at
 -- the values and counts of a scenario on one instance
 abbrev pub scenario_of : ℕ → List Part → ℕ → ℕ → Scenario → Scenario
 scenario_of whole parts p i s =
-    record { values = map (λ q. value_of (unrolled whole parts) s.values (first_of whole parts p i + q)) (disjunctions (part_at parts p).problem); faults = take (size_of (part_at parts p)) (drop (first_of whole parts p i) s.faults) }
+    record {
+      values = map (λ q.
+          value_of (unrolled whole parts) s.values (first_of whole parts p i + q)) (disjunctions (part_at parts p).problem);
+      faults = take (size_of (part_at parts p)) (drop (first_of whole parts p i) s.faults);
+    }
 
 -- an activation in a part as that of the copy, where the instance's first edge has this number
 abbrev pub copied_activation : ℕ → Activation → Activation

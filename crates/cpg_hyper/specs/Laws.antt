@@ -20,12 +20,14 @@ InstancesAreCopies = (whole : ℕ) (parts : List Part) (p i q : ℕ) → IsInsta
 
 -- a scenario's values and counts on an instance are a scenario of its part
 abbrev pub InstancesHaveScenarios : Type 0
-InstancesHaveScenarios = (whole : ℕ) (parts : List Part) (p i : ℕ) (s : Scenario) → AreOver parts whole → IsInstance whole parts p i → IsScenario (unrolled whole parts) s
+InstancesHaveScenarios = (whole : ℕ) (parts : List Part) (p i : ℕ) (s : Scenario) → AreOver parts whole → IsInstance whole parts p i →
+    IsScenario (unrolled whole parts) s
     → IsScenario (part_at parts p).problem (scenario_of whole parts p i s)
 
 -- executions last as long as the part's in that scenario
 abbrev pub InstancesLastAsLong : Type 0
-InstancesLastAsLong = (whole : ℕ) (parts : List Part) (p i q : ℕ) (s : Scenario) → IsInstance whole parts p i → q < size_of (part_at parts p) → IsScenario (unrolled whole parts) s
+InstancesLastAsLong = (whole : ℕ) (parts : List Part) (p i q : ℕ) (s : Scenario) → IsInstance whole parts p i →
+    q < size_of (part_at parts p) → IsScenario (unrolled whole parts) s
     → duration (unrolled whole parts) (first_of whole parts p i + q) (fault_of s (first_of whole parts p i + q)) ≡ duration (part_at parts p).problem q (fault_of (scenario_of whole parts p i s) q)
 
 -- an instance's edges are the copies of its part's, from its first process on
@@ -44,17 +46,20 @@ InstancesHaveConditions = (whole : ℕ) (parts : List Part) (p i q : ℕ) → Ar
 
 -- where the graph of all instances has a topological order, a process of an instance is activated as in its part in that scenario
 abbrev pub InstancesAreActivatedAlike : Type 0
-InstancesAreActivatedAlike = (whole : ℕ) (parts : List Part) (p i q : ℕ) (s : Scenario) (order : List ℕ) → AreWithinLimits parts → IsInstance whole parts p i → q < size_of (part_at parts p) → IsTopological (unrolled whole parts) order
+InstancesAreActivatedAlike = (whole : ℕ) (parts : List Part) (p i q : ℕ) (s : Scenario) (order : List ℕ) → AreWithinLimits parts →
+    IsInstance whole parts p i → q < size_of (part_at parts p) → IsTopological (unrolled whole parts) order
     → activation (unrolled whole parts) s.values (first_of whole parts p i + q) ≡ copied_activation (first_edge_of whole parts p i) (activation (part_at parts p).problem (scenario_of whole parts p i s).values q)
 
 -- and so it is active in the same scenarios
 abbrev pub InstancesAreActiveAlike : Type 0
-InstancesAreActiveAlike = (whole : ℕ) (parts : List Part) (p i q : ℕ) (s : Scenario) (order : List ℕ) → AreWithinLimits parts → IsInstance whole parts p i → q < size_of (part_at parts p) → IsTopological (unrolled whole parts) order
+InstancesAreActiveAlike = (whole : ℕ) (parts : List Part) (p i q : ℕ) (s : Scenario) (order : List ℕ) → AreWithinLimits parts →
+    IsInstance whole parts p i → q < size_of (part_at parts p) → IsTopological (unrolled whole parts) order
     → active (unrolled whole parts) s.values (first_of whole parts p i + q) ≡ active (part_at parts p).problem (scenario_of whole parts p i s).values q
 
 -- and its edges are live in the same
 abbrev pub InstancesAreLiveAlike : Type 0
-InstancesAreLiveAlike = (whole : ℕ) (parts : List Part) (p i e : ℕ) (s : Scenario) (order : List ℕ) → AreWithinLimits parts → IsInstance whole parts p i → e < length (part_at parts p).problem.edges → IsTopological (unrolled whole parts) order
+InstancesAreLiveAlike = (whole : ℕ) (parts : List Part) (p i e : ℕ) (s : Scenario) (order : List ℕ) → AreWithinLimits parts →
+    IsInstance whole parts p i → e < length (part_at parts p).problem.edges → IsTopological (unrolled whole parts) order
     → live (unrolled whole parts) s.values (first_edge_of whole parts p i + e) ≡ live (part_at parts p).problem (scenario_of whole parts p i s).values e
 
 -- a start and its end, within the release and the due of a process of a part, from the begin of its instance
@@ -64,11 +69,13 @@ pub record KeepsPeriod (part : Part) (i q start end : ℕ) : Type 0 where
 
 -- in valid tables an active process of an instance has a start
 abbrev pub ValidTablesStartInstances : Type 0
-ValidTablesStartInstances = (whole : ℕ) (parts : List Part) (p i q : ℕ) (s : Scenario) (tables : List NodeTable) → IsInstance whole parts p i → q < size_of (part_at parts p) → IsScenario (unrolled whole parts) s → IsValid (unrolled whole parts) tables
+ValidTablesStartInstances = (whole : ℕ) (parts : List Part) (p i q : ℕ) (s : Scenario) (tables : List NodeTable) →
+    IsInstance whole parts p i → q < size_of (part_at parts p) → IsScenario (unrolled whole parts) s → IsValid (unrolled whole parts) tables
     → active (unrolled whole parts) s.values (first_of whole parts p i + q) ≡ true → (start : ℕ) × Contains (at tables (first_of whole parts p i + q) s) start
 
 -- in valid tables each start of an instance comes at its release or later, and its end comes by its due
 abbrev pub ValidTablesKeepPeriods : Type 0
-ValidTablesKeepPeriods = (whole : ℕ) (parts : List Part) (p i q : ℕ) (s : Scenario) (tables : List NodeTable) (start : ℕ) → IsInstance whole parts p i → q < size_of (part_at parts p) → IsScenario (unrolled whole parts) s → IsValid (unrolled whole parts) tables
+ValidTablesKeepPeriods = (whole : ℕ) (parts : List Part) (p i q : ℕ) (s : Scenario) (tables : List NodeTable) (start : ℕ) →
+    IsInstance whole parts p i → q < size_of (part_at parts p) → IsScenario (unrolled whole parts) s → IsValid (unrolled whole parts) tables
     → Contains (at tables (first_of whole parts p i + q) s) start
     → KeepsPeriod (part_at parts p) i q start (start + duration (unrolled whole parts) (first_of whole parts p i + q) (fault_of s (first_of whole parts p i + q)))

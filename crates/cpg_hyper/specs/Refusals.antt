@@ -82,7 +82,8 @@ ShowsUnrolled parts (Err Period) = AreFitting parts × ((whole : ℕ) → IsHype
 ShowsUnrolled parts (Err (Count what)) = (whole : ℕ) × AreOver parts whole × Exceeds what (unrolled whole parts)
 ShowsUnrolled parts (Err (LongName p)) = (whole : ℕ) × AreOver parts whole × HasFewEnough (unrolled whole parts) × FailsFirst (HasShortNames whole) parts p
 ShowsUnrolled parts (Err OutOfMemory) = ⊤
-ShowsUnrolled parts (Ok g) = (whole : ℕ) × AreOver parts whole × HasFewEnough (unrolled whole parts) × HoldsOfEach (HasShortNames whole) parts × (g ≡ unrolled whole parts)
+ShowsUnrolled parts (Ok g) = (whole : ℕ) × AreOver parts whole × HasFewEnough (unrolled whole parts) ×
+    HoldsOfEach (HasShortNames whole) parts × (g ≡ unrolled whole parts)
 
 -- the made names of one instance are short enough
 abbrev pub AreShort : ℕ → Part → ℕ → Type 0

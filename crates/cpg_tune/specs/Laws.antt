@@ -15,7 +15,8 @@ BestPartsAreBest = (p : Process) (faults : ℕ) → IsBest p faults (best_of p f
 
 -- so each process of the tuned graph lasts at most as long as in the graph in any other parts
 abbrev pub TunedLastLeast : Type 0
-TunedLastLeast = (g : Graph) (parts : List ℕ) → ArePartsOf g parts → (p : ℕ) → p < process_count g → duration (row_graph g g.faults) p g.faults ≤ duration (retuned g parts g.faults) p g.faults
+TunedLastLeast = (g : Graph) (parts : List ℕ) → ArePartsOf g parts → (p : ℕ) → p < process_count g →
+    duration (row_graph g g.faults) p g.faults ≤ duration (retuned g parts g.faults) p g.faults
 
 -- what is tolerated is the greatest fault number whose row is accepted
 abbrev pub ToleratedIsGreatest : Type 0

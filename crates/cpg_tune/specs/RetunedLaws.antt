@@ -31,7 +31,8 @@ ShowsNoFault g = (fault : RuleFault) → ShowsFault g fault → fault ≡ OutOfM
 
 -- so an admitted graph is not refused with other parts and another fault number
 abbrev pub RetunedShowNoFault : Type 0
-RetunedShowNoFault = (g : Graph) (order : List ℕ) (guards : Guards) → IsAdmitted g order guards → (parts : List ℕ) (faults : ℕ) → length parts ≡ process_count g → ShowsNoFault (retuned g parts faults)
+RetunedShowNoFault = (g : Graph) (order : List ℕ) (guards : Guards) → IsAdmitted g order guards → (parts : List ℕ) (faults : ℕ) →
+    length parts ≡ process_count g → ShowsNoFault (retuned g parts faults)
 
 -- nor with its best parts
 abbrev pub TunedShowNoFault : Type 0
