@@ -50,8 +50,11 @@ fn add_column<'a>(
     time: u64,
     arrivals: &mut Vec<Arrival<'a>>,
 ) -> Result<(), OutOfMemory>
-    ensures each { IfOk result (λ _. (g : Graph) → All (λ c. IsKnown g c.cube) columns.now → ((b : Bound) → CanTell g b telling) → All (IsArrival g) arrivals.old.items → All (IsArrival g) arrivals.new.items) }
-    ensures told { IfOk result (λ _. (g : Graph) (b : Bound) (s : Scenario) → do_tell g time b arrivals.new.items s ≡ (do_tell g time b arrivals.old.items s || is_telling_at g telling time b columns.now s place)) }
+    ensures each { IfOk result (λ _. (g : Graph) → All (λ c. IsKnown g c.cube) columns.now → ((b : Bound) → CanTell g b telling)
+        → All (IsArrival g) arrivals.old.items → All (IsArrival g) arrivals.new.items) }
+    ensures told { IfOk result (λ _. (g : Graph) (b : Bound) (s : Scenario)
+        → do_tell g time b arrivals.new.items s ≡ (do_tell g time b arrivals.old.items s
+        || is_telling_at g telling time b columns.now s place)) }
 {
     let Some(column) = columns.get(place as usize) else {
         return Ok(());
@@ -72,8 +75,12 @@ fn add_row<'a>(
     arrivals: &mut Vec<Arrival<'a>>,
 ) -> Result<(), OutOfMemory>
     requires { IsSieveOf teller.now.line.now.columns.now teller.now.line.now.sieve }
-    ensures each { IfOk result (λ _. (g : Graph) → All (λ c. IsKnown g c.cube) teller.now.line.now.columns.now → ((b : Bound) → CanTell g b teller.now.telling) → All (IsArrival g) arrivals.old.items → All (IsArrival g) arrivals.new.items) }
-    ensures told { IfOk result (λ _. (g : Graph) (b : Bound) (s : Scenario) → matches cube.now s ≡ true → do_tell g time b arrivals.new.items s ≡ (do_tell g time b arrivals.old.items s || row_tells g teller.now.telling time b teller.now.line.now.columns.now s)) }
+    ensures each { IfOk result (λ _. (g : Graph) → All (λ c. IsKnown g c.cube) teller.now.line.now.columns.now
+        → ((b : Bound) → CanTell g b teller.now.telling) → All (IsArrival g) arrivals.old.items
+        → All (IsArrival g) arrivals.new.items) }
+    ensures told { IfOk result (λ _. (g : Graph) (b : Bound) (s : Scenario) → matches cube.now s ≡ true
+        → do_tell g time b arrivals.new.items s ≡ (do_tell g time b arrivals.old.items s
+        || row_tells g teller.now.telling time b teller.now.line.now.columns.now s)) }
 {
     let line = teller.line;
     let places = line.sieve.candidates(alloc, line.columns, cube)?;
@@ -117,7 +124,8 @@ fn tells_whole(
 ) -> bool
     requires cube { IsKnown problem.now cube.now }
     requires column { IsKnown problem.now arrival.now.column.now.cube }
-    ensures { OnTrue result ((s : Scenario) → IsScenario problem.now s → matches cube.now s ≡ true → is_telling problem.now arrival.now.telling time bound s arrival.now.column.now ≡ true) }
+    ensures { OnTrue result ((s : Scenario) → IsScenario problem.now s → matches cube.now s ≡ true
+        → is_telling problem.now arrival.now.telling time bound s arrival.now.column.now ≡ true) }
 {
     let Telling::Frame { delay, .. } = arrival.telling else {
         return false;
@@ -142,7 +150,8 @@ pub(crate) fn tells_one_whole(
 ) -> bool
     requires cube { IsKnown problem.now cube.now }
     requires arrivals { All (IsArrival problem.now) arrivals.now }
-    ensures { OnTrue result ((s : Scenario) → IsScenario problem.now s → matches cube.now s ≡ true → do_tell problem.now time bound arrivals.now s ≡ true) }
+    ensures { OnTrue result ((s : Scenario) → IsScenario problem.now s → matches cube.now s ≡ true
+        → do_tell problem.now time bound arrivals.now s ≡ true) }
 {
     arrivals
         .iter()
@@ -161,7 +170,9 @@ pub(crate) fn add_told(
     requires arrivals { All (IsArrival problem.now) arrivals.now }
     requires told { All (IsKnown problem.now) told.old.items }
     ensures known { IfOk result (λ _. All (IsKnown problem.now) told.new.items) }
-    ensures told { IfOk result (λ _. (s : Scenario) → IsScenario problem.now s → list_any (λ b. matches b s) told.new.items ≡ (list_any (λ b. matches b s) told.old.items || do_tell problem.now time bound arrivals.now s)) }
+    ensures told { IfOk result (λ _. (s : Scenario) → IsScenario problem.now s
+        → list_any (λ b. matches b s) told.new.items
+        ≡ (list_any (λ b. matches b s) told.old.items || do_tell problem.now time bound arrivals.now s)) }
 {
     for arrival in arrivals {
         let part = part_of(problem, arrival.telling, arrival.column, time, bound)?;

@@ -39,7 +39,10 @@ fn left_open(
     requires arrivals { All (IsArrival problem.now) arrivals.now }
     requires bounds { All (λ b. IsVariable problem.now (variable_of b)) bounds.now }
     ensures known { IfOk result (λ left. All (λ b. IsVariable problem.now (variable_of b)) left.items) }
-    ensures left { IfOk result (λ left. (s : Scenario) (test : Bound → Bool) → IsScenario problem.now s → matches column.now.cube s ≡ true → ((b : Bound) → IsVariable problem.now (variable_of b) → do_tell problem.now column.now.time b arrivals.now s ≡ true → test b ≡ false) → list_any test left.items ≡ list_any test bounds.now) }
+    ensures left { IfOk result (λ left. (s : Scenario) (test : Bound → Bool) → IsScenario problem.now s
+        → matches column.now.cube s ≡ true → ((b : Bound) → IsVariable problem.now (variable_of b)
+        → do_tell problem.now column.now.time b arrivals.now s ≡ true → test b ≡ false)
+        → list_any test left.items ≡ list_any test bounds.now) }
 {
     let mut left = Vec::new(alloc);
     for bound in bounds {
@@ -89,7 +92,10 @@ impl Hearing<'_> {
         requires cube { IsKnown self.now.admitted.now.graph column.now.cube }
         requires bounds { All (λ b. IsVariable self.now.admitted.now.graph (variable_of b)) bounds.items }
         ensures known { IfOk result (λ left. All (λ b. IsVariable self.now.admitted.now.graph (variable_of b)) left.items) }
-        ensures untold { IfOk result (λ left. (s : Scenario) → IsScenario self.now.admitted.now.graph s → matches column.now.cube s ≡ true → is_one_untold self.now.admitted.now.graph self.now.tables.now.nodes node column.now.time left.items s ≡ is_one_untold self.now.admitted.now.graph self.now.tables.now.nodes node column.now.time bounds.items s) }
+        ensures untold { IfOk result (λ left. (s : Scenario) → IsScenario self.now.admitted.now.graph s
+            → matches column.now.cube s ≡ true
+            → is_one_untold self.now.admitted.now.graph self.now.tables.now.nodes node column.now.time left.items s
+            ≡ is_one_untold self.now.admitted.now.graph self.now.tables.now.nodes node column.now.time bounds.items s) }
     {
         let problem = self.admitted.problem();
         let (cube, time) = (&column.cube, column.time);

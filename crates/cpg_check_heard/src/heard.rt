@@ -35,8 +35,10 @@ fn first_unheard(
     requires columns { All (λ c. IsKnown hearing.now.admitted.now.graph c.cube) columns.now }
     requires active { All (HasActive hearing.now.admitted.now.graph) columns.now }
     requires few { length columns.now ≤ MOST_LOAD }
-    ensures none { IfOk result (λ r. IfNone r ((i : ℕ) (s : Scenario) → IsScenario hearing.now.admitted.now.graph s → is_unheard hearing.now.admitted.now.graph hearing.now.tables.now.nodes item columns.now i s ≡ false)) }
-    ensures first { IfOk result (λ r. IfSome r (IsFirstColumn hearing.now.admitted.now.graph hearing.now.admitted.now.order (is_unheard hearing.now.admitted.now.graph hearing.now.tables.now.nodes item columns.now))) }
+    ensures none { IfOk result (λ r. IfNone r ((i : ℕ) (s : Scenario) → IsScenario hearing.now.admitted.now.graph s
+        → is_unheard hearing.now.admitted.now.graph hearing.now.tables.now.nodes item columns.now i s ≡ false)) }
+    ensures first { IfOk result (λ r. IfSome r (IsFirstColumn hearing.now.admitted.now.graph hearing.now.admitted.now.order
+        (is_unheard hearing.now.admitted.now.graph hearing.now.tables.now.nodes item columns.now))) }
 {
     let problem = hearing.admitted.problem();
     let node = problem.home(item);

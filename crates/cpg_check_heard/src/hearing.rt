@@ -71,7 +71,8 @@ fn may_leave(
 ) -> Result<bool, OutOfMemory>
     requires cube { IsKnown admitted.now.graph cube.now }
     requires told { All (IsKnown admitted.now.graph) told.now }
-    ensures { IfOk result (λ left. OnFalse left ((s : Scenario) → IsScenario admitted.now.graph s → matches cube.now s ≡ true → list_any (λ b. matches b s) told.now ≡ true)) }
+    ensures { IfOk result (λ left. OnFalse left ((s : Scenario) → IsScenario admitted.now.graph s → matches cube.now s ≡ true
+        → list_any (λ b. matches b s) told.now ≡ true)) }
 {
     if is_within_one(admitted.problem(), cube, told) {
         return Ok(false);
@@ -96,7 +97,10 @@ impl Hearing<'_> {
         requires variable { IsVariable self.now.admitted.now.graph (variable_of bound) }
         requires told { All (IsKnown self.now.admitted.now.graph) told.old.items }
         ensures known { IfOk result (λ _. All (IsKnown self.now.admitted.now.graph) told.new.items) }
-        ensures told { IfOk result (λ _. (s : Scenario) → IsScenario self.now.admitted.now.graph s → matches cube.now s ≡ true → list_any (λ b. matches b s) told.new.items ≡ (list_any (λ b. matches b s) told.old.items || own_tells self.now.admitted.now.graph self.now.tables.now.nodes node time bound s)) }
+        ensures told { IfOk result (λ _. (s : Scenario) → IsScenario self.now.admitted.now.graph s → matches cube.now s ≡ true
+            → list_any (λ b. matches b s) told.new.items
+            ≡ (list_any (λ b. matches b s) told.old.items
+            || own_tells self.now.admitted.now.graph self.now.tables.now.nodes node time bound s)) }
     {
         let problem = self.admitted.problem();
         let process = problem.process_of_variable(bound.variable());
@@ -120,7 +124,9 @@ impl Hearing<'_> {
         requires hearing { IsHearing self.now }
         requires variable { IsVariable self.now.admitted.now.graph (variable_of bound) }
         requires cube { IsKnown self.now.admitted.now.graph cube.now }
-        ensures { IfOk result (λ left. OnFalse left ((s : Scenario) → IsScenario self.now.admitted.now.graph s → matches cube.now s ≡ true → is_told self.now.admitted.now.graph self.now.tables.now.nodes node time bound s ≡ true)) }
+        ensures { IfOk result (λ left. OnFalse left ((s : Scenario) → IsScenario self.now.admitted.now.graph s
+            → matches cube.now s ≡ true → is_told self.now.admitted.now.graph self.now.tables.now.nodes node time bound s
+            ≡ true)) }
     {
         if bound.is_free(self.admitted.problem().faults()) {
             return Ok(false);
@@ -148,7 +154,11 @@ impl Hearing<'_> {
         requires cube { IsKnown self.now.admitted.now.graph column.now.cube }
         requires bounds { All (λ b. IsVariable self.now.admitted.now.graph (variable_of b)) bounds.old.items }
         ensures known { IfOk result (λ _. All (λ b. IsVariable self.now.admitted.now.graph (variable_of b)) bounds.new.items) }
-        ensures untold { IfOk result (λ _. (s : Scenario) → IsScenario self.now.admitted.now.graph s → matches column.now.cube s ≡ true → is_one_untold self.now.admitted.now.graph self.now.tables.now.nodes node column.now.time bounds.new.items s ≡ (is_one_untold self.now.admitted.now.graph self.now.tables.now.nodes node column.now.time bounds.old.items s || not (is_told self.now.admitted.now.graph self.now.tables.now.nodes node column.now.time bound s))) }
+        ensures untold { IfOk result (λ _. (s : Scenario) → IsScenario self.now.admitted.now.graph s
+            → matches column.now.cube s ≡ true
+            → is_one_untold self.now.admitted.now.graph self.now.tables.now.nodes node column.now.time bounds.new.items s
+            ≡ (is_one_untold self.now.admitted.now.graph self.now.tables.now.nodes node column.now.time bounds.old.items s
+            || not (is_told self.now.admitted.now.graph self.now.tables.now.nodes node column.now.time bound s))) }
     {
         if self.is_open(alloc, node, &column.cube, column.time, bound)? {
             bounds.push(bound)?;
@@ -172,7 +182,11 @@ impl Hearing<'_> {
         requires variable { IsVariable self.now.admitted.now.graph literal.now.variable }
         requires bounds { All (λ b. IsVariable self.now.admitted.now.graph (variable_of b)) bounds.old.items }
         ensures known { IfOk result (λ _. All (λ b. IsVariable self.now.admitted.now.graph (variable_of b)) bounds.new.items) }
-        ensures unheard { IfOk result (λ _. (s : Scenario) → IsScenario self.now.admitted.now.graph s → matches column.now.cube s ≡ true → is_one_untold self.now.admitted.now.graph self.now.tables.now.nodes node column.now.time bounds.new.items s ≡ (is_one_untold self.now.admitted.now.graph self.now.tables.now.nodes node column.now.time bounds.old.items s || is_literal_unheard self.now.admitted.now.graph self.now.tables.now.nodes node column.now.time s literal.now)) }
+        ensures unheard { IfOk result (λ _. (s : Scenario) → IsScenario self.now.admitted.now.graph s
+            → matches column.now.cube s ≡ true
+            → is_one_untold self.now.admitted.now.graph self.now.tables.now.nodes node column.now.time bounds.new.items s
+            ≡ (is_one_untold self.now.admitted.now.graph self.now.tables.now.nodes node column.now.time bounds.old.items s
+            || is_literal_unheard self.now.admitted.now.graph self.now.tables.now.nodes node column.now.time s literal.now)) }
     {
         if self.has_ended(node, literal.variable, column.time) {
             return Ok(());
@@ -193,7 +207,10 @@ impl Hearing<'_> {
         requires cube { IsKnown self.now.admitted.now.graph column.now.cube }
         requires active { HasActive self.now.admitted.now.graph column.now }
         ensures known { IfOk result (λ bounds. All (λ b. IsVariable self.now.admitted.now.graph (variable_of b)) bounds.items) }
-        ensures untold { IfOk result (λ bounds. (s : Scenario) → IsScenario self.now.admitted.now.graph s → matches column.now.cube s ≡ true → is_one_untold self.now.admitted.now.graph self.now.tables.now.nodes node column.now.time bounds.items s ≡ is_column_unheard self.now.admitted.now.graph self.now.tables.now.nodes node s column.now) }
+        ensures untold { IfOk result (λ bounds. (s : Scenario) → IsScenario self.now.admitted.now.graph s
+            → matches column.now.cube s ≡ true
+            → is_one_untold self.now.admitted.now.graph self.now.tables.now.nodes node column.now.time bounds.items s
+            ≡ is_column_unheard self.now.admitted.now.graph self.now.tables.now.nodes node s column.now) }
     {
         let mut bounds = Vec::new(alloc);
         for literal in column.cube.literals() {
@@ -202,25 +219,26 @@ impl Hearing<'_> {
         Ok(bounds)
     }
 
-    /// The least scenario that a cube matches and in which a node hasn't been told a bound by a time, if there is one.
+    /// The least scenario that a column matches and in which a node hasn't been told a bound by its time, if there is one.
     fn least_untold(
         &self,
         alloc: Global,
         node: u32,
         items: &[u32],
         arrivals: &[Arrival<'_>],
-        cube: &Cube,
-        time: u64,
+        column: &Entry,
         bound: Bound,
     ) -> Result<Option<Scenario>, OutOfMemory>
         requires hearing { IsHearing self.now }
         requires items { items.now ≡ heard_by self.now.admitted.now.graph node }
-        requires arrivals { AreArrivals self.now.admitted.now.graph self.now.tables.now.nodes time cube.now items.now arrivals.now }
+        requires arrivals { AreArrivals self.now.admitted.now.graph self.now.tables.now.nodes column.now.time column.now.cube items.now arrivals.now }
         requires variable { IsVariable self.now.admitted.now.graph (variable_of bound) }
-        requires cube { IsKnown self.now.admitted.now.graph cube.now }
-        ensures { IfOk result (IsFirst self.now.admitted.now.graph self.now.admitted.now.order (λ s. matches cube.now s && not (is_told self.now.admitted.now.graph self.now.tables.now.nodes node time bound s))) }
+        requires cube { IsKnown self.now.admitted.now.graph column.now.cube }
+        ensures { IfOk result (IsFirst self.now.admitted.now.graph self.now.admitted.now.order (λ s. matches column.now.cube s
+            && not (is_told self.now.admitted.now.graph self.now.tables.now.nodes node column.now.time bound s))) }
     {
         let problem = self.admitted.problem();
+        let (cube, time) = (&column.cube, column.time);
         if bound.is_free(problem.faults()) {
             return Ok(None);
         }
@@ -250,15 +268,14 @@ impl Hearing<'_> {
         requires arrivals { AreArrivals self.now.admitted.now.graph self.now.tables.now.nodes column.now.time column.now.cube items.now arrivals.now }
         requires cube { IsKnown self.now.admitted.now.graph column.now.cube }
         requires bounds { All (λ b. IsVariable self.now.admitted.now.graph (variable_of b)) bounds.now }
-        ensures { IfOk result (IsFirst self.now.admitted.now.graph self.now.admitted.now.order (λ s. matches column.now.cube s && is_one_untold self.now.admitted.now.graph self.now.tables.now.nodes node column.now.time bounds.now s)) }
+        ensures { IfOk result (IsFirst self.now.admitted.now.graph self.now.admitted.now.order (λ s. matches column.now.cube s
+            && is_one_untold self.now.admitted.now.graph self.now.tables.now.nodes node column.now.time bounds.now s)) }
     {
         let problem = self.admitted.problem();
         let order = self.admitted.order();
-        let cube = &column.cube;
-        let time = column.time;
         let mut found: Option<Scenario> = None;
         for bound in bounds {
-            let next = self.least_untold(alloc, node, items, arrivals, cube, time, *bound)?;
+            let next = self.least_untold(alloc, node, items, arrivals, column, *bound)?;
             found = earlier(problem, order, found, next);
         }
         Ok(found)
@@ -279,7 +296,8 @@ impl Hearing<'_> {
         requires ranks { All (λ r. Contains (heard_by self.now.admitted.now.graph node) r.item) ranks.now }
         requires cube { IsKnown self.now.admitted.now.graph column.now.cube }
         requires active { HasActive self.now.admitted.now.graph column.now }
-        ensures { IfOk result (IsFirst self.now.admitted.now.graph self.now.admitted.now.order (λ s. matches column.now.cube s && is_column_unheard self.now.admitted.now.graph self.now.tables.now.nodes node s column.now)) }
+        ensures { IfOk result (IsFirst self.now.admitted.now.graph self.now.admitted.now.order (λ s. matches column.now.cube s
+            && is_column_unheard self.now.admitted.now.graph self.now.tables.now.nodes node s column.now)) }
     {
         let bounds = self.open_bounds(alloc, node, column)?;
         let left = self.unframed(alloc, node, ranks, column, bounds)?;

@@ -180,7 +180,10 @@ pub(crate) fn add_row(
     requires sieve { IsSieveOf teller.now.line.now.columns.now teller.now.line.now.sieve }
     requires told { All (IsKnown problem.now) told.old.items }
     ensures known { IfOk result (λ _. All (IsKnown problem.now) told.new.items) }
-    ensures told { IfOk result (λ _. (s : Scenario) → IsScenario problem.now s → matches cube.now s ≡ true → list_any (λ b. matches b s) told.new.items ≡ (list_any (λ b. matches b s) told.old.items || row_tells problem.now teller.now.telling time bound teller.now.line.now.columns.now s)) }
+    ensures told { IfOk result (λ _. (s : Scenario) → IsScenario problem.now s → matches cube.now s ≡ true
+        → list_any (λ b. matches b s) told.new.items
+        ≡ (list_any (λ b. matches b s) told.old.items
+        || row_tells problem.now teller.now.telling time bound teller.now.line.now.columns.now s)) }
 {
     let line = teller.line;
     let places = line.sieve.candidates(alloc, line.columns, cube)?;

@@ -70,7 +70,8 @@ pub(crate) fn tellers<'a>(
     lines: &'a [Line<'a>],
 ) -> Result<Vec<Teller<'a>>, OutOfMemory>
     requires { length lines.now ≡ item_count admitted.now.graph }
-    ensures { IfOk result (λ tellers. (tables : List NodeTable) → AreLines tables (item_count admitted.now.graph) lines.now → AreTellers admitted.now.graph tables (item_count admitted.now.graph) tellers.items) }
+    ensures { IfOk result (λ tellers. (tables : List NodeTable) → AreLines tables (item_count admitted.now.graph) lines.now
+        → AreTellers admitted.now.graph tables (item_count admitted.now.graph) tellers.items) }
 {
     let problem = admitted.problem();
     let mut tellers = Vec::new(alloc);

@@ -46,8 +46,11 @@ fn other_value(problem: &Problem, edge: u32) -> Option<Literal>
     requires edge { edge < edge_count problem.now }
     requires source { source problem.now edge < process_count problem.now }
     ensures known { IfSome result (λ l. IsVariable problem.now l.variable) }
-    ensures none { IfNone result ((s : Scenario) → is_passed (test_of (condition_of problem.now (source problem.now edge)) (edge_at problem.now edge).when) s.values ≡ true) }
-    ensures some { IfSome result (λ l. (s : Scenario) → holds s l ≡ not (is_passed (test_of (condition_of problem.now (source problem.now edge)) (edge_at problem.now edge).when) s.values)) }
+    ensures none { IfNone result ((s : Scenario) → is_passed
+        (test_of (condition_of problem.now (source problem.now edge)) (edge_at problem.now edge).when) s.values ≡ true) }
+    ensures some { IfSome result (λ l. (s : Scenario) → holds s l
+        ≡ not (is_passed (test_of (condition_of problem.now (source problem.now edge))
+        (edge_at problem.now edge).when) s.values)) }
 {
     let edge = problem.edges()[edge as usize];
     let Some(condition) = problem.condition_of(edge.from) else {
@@ -109,7 +112,8 @@ fn least_unsent(
 ) -> Result<Option<Scenario>, OutOfMemory>
     requires edge { edge < edge_count admitted.now.graph }
     requires cube { IsKnown admitted.now.graph cube.now }
-    ensures { IfOk result (IsFirst admitted.now.graph admitted.now.order (λ s. matches cube.now s && not (item_active admitted.now.graph s.values (item_at admitted.now.graph (message_item admitted.now.graph edge))))) }
+    ensures { IfOk result (IsFirst admitted.now.graph admitted.now.order (λ s. matches cube.now s
+        && not (item_active admitted.now.graph s.values (item_at admitted.now.graph (message_item admitted.now.graph edge))))) }
 {
     let problem = admitted.problem();
     if !problem.is_message(edge) {
@@ -129,7 +133,9 @@ fn least_untold(
 ) -> Result<Option<Scenario>, OutOfMemory>
     requires condition { condition < condition_count admitted.now.graph }
     requires cube { IsKnown admitted.now.graph cube.now }
-    ensures { IfOk result (IsFirst admitted.now.graph admitted.now.order (λ s. matches cube.now s && not (item_active admitted.now.graph s.values (item_at admitted.now.graph (broadcast_item admitted.now.graph condition))))) }
+    ensures { IfOk result (IsFirst admitted.now.graph admitted.now.order (λ s. matches cube.now s
+        && not (item_active admitted.now.graph s.values
+        (item_at admitted.now.graph (broadcast_item admitted.now.graph condition))))) }
 {
     let problem = admitted.problem();
     if problem.nodes().len() < 2 {
@@ -149,7 +155,8 @@ fn least_inactive(
 ) -> Result<Option<Scenario>, OutOfMemory>
     requires item { item < item_count admitted.now.graph }
     requires cube { IsKnown admitted.now.graph cube.now }
-    ensures { IfOk result (IsFirst admitted.now.graph admitted.now.order (λ s. matches cube.now s && not (item_active admitted.now.graph s.values (item_at admitted.now.graph item)))) }
+    ensures { IfOk result (IsFirst admitted.now.graph admitted.now.order (λ s. matches cube.now s
+        && not (item_active admitted.now.graph s.values (item_at admitted.now.graph item)))) }
 {
     let found = match admitted.problem().item(item) {
         Item::Start(process) => least_idle(alloc, admitted, process, cube)?,
@@ -166,7 +173,9 @@ fn least_unrun(
     cube: &Cube,
 ) -> Result<Option<Scenario>, OutOfMemory>
     requires { IsKnown admitted.now.graph cube.now }
-    ensures { IfOk result (IsFirst admitted.now.graph admitted.now.order (λ s. matches cube.now s && list_any (λ l. not (active admitted.now.graph s.values (process_of_variable admitted.now.graph l.variable))) cube.now)) }
+    ensures { IfOk result (IsFirst admitted.now.graph admitted.now.order (λ s. matches cube.now s
+        && list_any (λ l. not (active admitted.now.graph s.values
+        (process_of_variable admitted.now.graph l.variable))) cube.now)) }
 {
     let problem = admitted.problem();
     let order = admitted.order();
@@ -189,7 +198,8 @@ fn least_unlawful(
 ) -> Result<Option<Scenario>, OutOfMemory>
     requires item { item < item_count admitted.now.graph }
     requires cube { IsKnown admitted.now.graph column.now.cube }
-    ensures { IfOk result (IsFirst admitted.now.graph admitted.now.order (λ s. matches column.now.cube s && breaks_activity admitted.now.graph s item column.now)) }
+    ensures { IfOk result (IsFirst admitted.now.graph admitted.now.order (λ s. matches column.now.cube s
+        && breaks_activity admitted.now.graph s item column.now)) }
 {
     let inactive = least_inactive(alloc, admitted, item, &column.cube)?;
     let unrun = least_unrun(alloc, admitted, &column.cube)?;
@@ -207,7 +217,8 @@ fn first_idle(
     requires item { item < item_count admitted.now.graph }
     requires columns { All (λ c. IsKnown admitted.now.graph c.cube) columns.now }
     requires few { length columns.now ≤ MOST_LOAD }
-    ensures none { IfOk result (λ r. IfNone r ((i : ℕ) (s : Scenario) → IsScenario admitted.now.graph s → is_idle admitted.now.graph item columns.now i s ≡ false)) }
+    ensures none { IfOk result (λ r. IfNone r ((i : ℕ) (s : Scenario) → IsScenario admitted.now.graph s
+        → is_idle admitted.now.graph item columns.now i s ≡ false)) }
     ensures first { IfOk result (λ r. IfSome r (IsFirstColumn admitted.now.graph admitted.now.order (is_idle admitted.now.graph item columns.now))) }
 {
     for (place, column) in columns.iter().enumerate() {
@@ -222,7 +233,7 @@ fn first_idle(
 /// The first violation of V1, by item and column, with the least scenario in the urgency order in which it stands: the
 /// column matches, and the item or the process of one of the column's literals isn't active. `None` exactly where the
 /// rule holds. Items at which it is marked as sure are left out.
-pub fn check_activity(
+pub(crate) fn check_activity(
     alloc: Global,
     admitted: &Admitted,
     tables: &Tables,

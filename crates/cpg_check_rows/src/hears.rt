@@ -72,7 +72,8 @@ fn difference_at(tables: &Tables, node: u32, item: u32, sent: &[Entry], delay: u
     requires node { node < length tables.now.head.nodes }
     requires few { length sent.now ≤ MOST_LOAD }
     ensures same { IfNone result (HearsAt tables.now.nodes item (map (later_by delay) sent.now) node) }
-    ensures differ { IfSome result (λ place. IsSomeAnd (row_columns (table_at tables.now.nodes node).hears item) (λ cs. DifferFirstAt cs (map (later_by delay) sent.now) place)) }
+    ensures differ { IfSome result (λ place. IsSomeAnd (row_columns (table_at tables.now.nodes node).hears item)
+        (λ cs. DifferFirstAt cs (map (later_by delay) sent.now) place)) }
 {
     let table = tables.node(node);
     let Some(heard) = row_columns(table.hears(), item) else {

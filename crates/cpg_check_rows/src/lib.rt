@@ -7,7 +7,5 @@ mod present;
 mod rows;
 mod single;
 
-pub use activity::check_activity;
 pub use hears::check_hears;
-pub use present::check_present;
 pub use rows::check_rows;

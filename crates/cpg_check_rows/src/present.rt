@@ -31,7 +31,8 @@ fn least_without(
     requires process { process < process_count admitted.now.graph }
     requires cube { IsKnown admitted.now.graph cube.now }
     requires columns { All (λ c. IsKnown admitted.now.graph c.cube) columns.now }
-    ensures { IfOk result (IsFirst admitted.now.graph admitted.now.order (λ s. is_left (map (λ c. c.cube) columns.now) cube.now s && active admitted.now.graph s.values process)) }
+    ensures { IfOk result (IsFirst admitted.now.graph admitted.now.order (λ s. is_left (map (λ c. c.cube) columns.now) cube.now s
+        && active admitted.now.graph s.values process)) }
 {
     let problem = admitted.problem();
     let order = admitted.order();
@@ -71,7 +72,8 @@ fn least_unstarted(
 ) -> Result<Option<Scenario>, OutOfMemory>
     requires process { process < process_count admitted.now.graph }
     requires columns { All (λ c. IsKnown admitted.now.graph c.cube) columns.now }
-    ensures { IfOk result (IsFirst admitted.now.graph admitted.now.order (λ s. is_left (map (λ c. c.cube) columns.now) [] s && active admitted.now.graph s.values process)) }
+    ensures { IfOk result (IsFirst admitted.now.graph admitted.now.order (λ s. is_left (map (λ c. c.cube) columns.now) [] s
+        && active admitted.now.graph s.values process)) }
 {
     let whole = Cube::whole(alloc);
     let found = least_without(alloc, admitted, process, &whole, columns)?;
@@ -87,7 +89,8 @@ fn least_untold(
 ) -> Result<Option<Scenario>, OutOfMemory>
     requires condition { condition < condition_count admitted.now.graph }
     requires columns { All (λ c. IsKnown admitted.now.graph c.cube) columns.now }
-    ensures { IfOk result (IsFirst admitted.now.graph admitted.now.order (is_absent admitted.now.graph columns.now (broadcast_item admitted.now.graph condition))) }
+    ensures { IfOk result (IsFirst admitted.now.graph admitted.now.order
+        (is_absent admitted.now.graph columns.now (broadcast_item admitted.now.graph condition))) }
 {
     let problem = admitted.problem();
     if problem.nodes().len() < 2 {
@@ -119,7 +122,7 @@ fn least_absent(
 /// The first violation of V3, by item, with the least scenario in the urgency order in which it stands: the item is
 /// active and no column of its row matches. `None` exactly where the rule holds. Items at which it is marked as sure are
 /// left out.
-pub fn check_present(
+pub(crate) fn check_present(
     alloc: Global,
     admitted: &Admitted,
     tables: &Tables,

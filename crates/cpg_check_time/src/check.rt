@@ -9,12 +9,14 @@ ghost use Rattle.cpg_violation.specs.Sure.{AreTimeMarks};
 
 use crate::due::check_due;
 use crate::frozen::check_frozen;
-use crate::inputs::inputs_by;
-use crate::processor::processors_by;
-use crate::slots::slots_by;
+use crate::inputs::Inputs;
+use crate::judge::first_violation;
+use crate::processor::Processors;
+use crate::slots::Slots;
 use cpg_base::OutOfMemory;
+use cpg_order::Links;
 use cpg_rules::Admitted;
-use cpg_table::{Fault, Tables};
+use cpg_table::{Fault, Rule, Tables};
 use cpg_violation::{Line, TimeMarks};
 use std::alloc::Global;
 
@@ -35,14 +37,27 @@ pub fn check_time(
     ensures none { IfOk result (λ r. IfNone r (AllHold admitted.now.graph tables.now.nodes time_rules)) }
     ensures first { IfOk result (λ r. IfSome r (IsFirstOf admitted.now.graph admitted.now.order tables.now.nodes time_rules)) }
 {
-    if let Some(fault) = inputs_by(alloc, admitted, tables, lines, marks.inputs.as_slice())? {
+    let links = Links::of(alloc, admitted.problem())?;
+    let inputs = Inputs { links, lines };
+    let sure = marks.inputs.as_slice();
+    if let Some(fault) = first_violation(alloc, admitted, tables, Rule::Inputs, &inputs, sure)? {
         return Ok(Some(fault));
     }
-    let processor = marks.processor.as_slice();
-    if let Some(fault) = processors_by(alloc, admitted, tables, lines, processor)? {
+    let processors = Processors { lines };
+    let sure = marks.processor.as_slice();
+    if let Some(fault) = first_violation(
+        alloc,
+        admitted,
+        tables,
+        Rule::Processor,
+        &processors,
+        sure,
+    )? {
         return Ok(Some(fault));
     }
-    if let Some(fault) = slots_by(alloc, admitted, tables, lines, marks.slot.as_slice())? {
+    let slots = Slots { lines };
+    let sure = marks.slot.as_slice();
+    if let Some(fault) = first_violation(alloc, admitted, tables, Rule::Slot, &slots, sure)? {
         return Ok(Some(fault));
     }
     if let Some(fault) = check_frozen(alloc, admitted, tables, marks.frozen.as_slice())? {

@@ -58,7 +58,8 @@ fn least_after(
     requires delay { IsDelay problem.now delay }
     requires room { HasRoom problem.now room.old }
     ensures room { HasRoom problem.now room.new }
-    ensures first { IfOk result (λ r. (order : List ℕ) → IsFirst problem.now order (λ s. matches cube.now s && is_late problem.now delay time column.now s) r) }
+    ensures first { IfOk result (λ r. (order : List ℕ)
+        → IsFirst problem.now order (λ s. matches cube.now s && is_late problem.now delay time column.now s) r) }
 {
     match delay {
         Delay::Execution(process) => {
@@ -100,27 +101,28 @@ fn least_of_late(
     Ok(found)
 }
 
-/// The least scenario that a cube matches, and in which what some column of an item begins is done after a time; if there is
-/// one. Only columns that may match together with the cube are looked at, and none where even the last is early enough.
+/// The least scenario that a column matches, and in which what some column of an item begins is done after its time; if there is
+/// one. Only columns that may match together with it are looked at, and none where even the last is early enough.
 pub(crate) fn least_delay(
     alloc: Global,
     admitted: &Admitted,
     tables: &Tables,
     lines: &[Line<'_>],
     item: u32,
-    cube: &Cube,
+    column: &Entry,
     delay: Delay,
-    time: u64,
 ) -> Result<Option<Scenario>, OutOfMemory>
     requires lawful { AreTablesOf (head_of admitted.now.graph) tables.now.nodes }
     requires lines { AreLines tables.now.nodes (item_count admitted.now.graph) lines.now }
     requires item { item < item_count admitted.now.graph }
-    requires cube { IsKnown admitted.now.graph cube.now }
+    requires cube { IsKnown admitted.now.graph column.now.cube }
     requires delay { IsDelay admitted.now.graph delay }
-    requires time { time < 2 ^ 60 }
-    ensures { IfOk result (IsFirst admitted.now.graph admitted.now.order (λ s. matches cube.now s && list_any (λ d. is_late admitted.now.graph delay time d s) (columns_of tables.now.nodes item))) }
+    requires time { column.now.time < 2 ^ 60 }
+    ensures { IfOk result (IsFirst admitted.now.graph admitted.now.order (λ s. matches column.now.cube s
+        && list_any (λ d. is_late admitted.now.graph delay column.now.time d s) (columns_of tables.now.nodes item))) }
 {
     let problem = admitted.problem();
+    let (cube, time) = (&column.cube, column.time);
     let line = &lines[item as usize];
     if line.last.saturating_add(most(problem, delay)) <= time {
         return Ok(None);

@@ -10,21 +10,18 @@ ghost use Rattle.cpg_base.specs.Scenario.{Scenario};
 ghost use Rattle.cpg_table.specs.declared.rule.Rule.{Rule};
 ghost use Rattle.cpg_head.specs.GraphHead.{head_of};
 ghost use Rattle.cpg_table.specs.Lawful.{AreTablesOf};
-ghost use Rattle.cpg_violation.specs.Heads.{IsHeadFor};
-ghost use Rattle.cpg_violation.specs.Sure.{AreSure};
-ghost use Rattle.cpg_violation.specs.Violation.{AllHold, Holds, IsFirstViolation, row_rules};
 ghost use Rattle.cpg_check_time.specs.Columns.{IsColumn};
 ghost use Rattle.cpg_check_time.specs.Inputs.{lacks_input};
 ghost use Rattle.cpg_violation.specs.Lines.{AreLines};
 ghost use Rattle.cpg_check_time.specs.Ready.{IsReady};
 
 use crate::delays::{Delay, least_delay};
-use crate::judge::{Judge, first_violation};
+use crate::judge::Judge;
 use cpg_base::{OutOfMemory, Scenario};
 use cpg_cube::{Cube, Entry};
 use cpg_order::Links;
 use cpg_rules::Admitted;
-use cpg_table::{Fault, Rule, Tables};
+use cpg_table::Tables;
 use cpg_violation::{Line, earlier, edge_cube};
 use std::alloc::Global;
 
@@ -63,17 +60,7 @@ fn least_lacking(
     if problem.is_message(edge) {
         let item = problem.processes().len() as u32 + edge;
         let slot = Delay::Slot(problem.slot_length(problem.home(item)));
-        let time = column.time;
-        let found = least_delay(
-            alloc,
-            admitted,
-            tables,
-            lines,
-            item,
-            &column.cube,
-            slot,
-            time,
-        )?;
+        let found = least_delay(alloc, admitted, tables, lines, item, column, slot)?;
         return Ok(found);
     }
     let process = problem.source(edge);
@@ -82,10 +69,11 @@ fn least_lacking(
     let Some(part) = common(&column.cube, &asked)? else {
         return Ok(None);
     };
-    let time = column.time;
-    let found = least_delay(
-        alloc, admitted, tables, lines, process, &part, execution, time,
-    )?;
+    let part = Entry {
+        time: column.time,
+        cube: part,
+    };
+    let found = least_delay(alloc, admitted, tables, lines, process, &part, execution)?;
     Ok(found)
 }
 
@@ -102,7 +90,8 @@ fn least_of_lacking(
     requires lines { AreLines tables.now.nodes (item_count admitted.now.graph) lines.now }
     requires edges { All (λ e. e < edge_count admitted.now.graph) edges.now }
     requires column { IsColumn admitted.now.graph column.now }
-    ensures { IfOk result (IsFirst admitted.now.graph admitted.now.order (λ s. list_any (λ e. lacks_input admitted.now.graph tables.now.nodes column.now e s) edges.now)) }
+    ensures { IfOk result (IsFirst admitted.now.graph admitted.now.order
+        (λ s. list_any (λ e. lacks_input admitted.now.graph tables.now.nodes column.now e s) edges.now)) }
 {
     let problem = admitted.problem();
     let order = admitted.order();
@@ -116,9 +105,9 @@ fn least_of_lacking(
 
 /// That all that an item waits for is there: the inputs of each process, and the columns of each item.
 #[derive(Drop)]
-struct Inputs<'a> {
-    links: Links,
-    lines: &'a [Line<'a>],
+pub(crate) struct Inputs<'a> {
+    pub(crate) links: Links,
+    pub(crate) lines: &'a [Line<'a>],
 }
 
 impl<'a> Judge for Inputs<'a> {
@@ -139,8 +128,7 @@ impl<'a> Judge for Inputs<'a> {
         if item as usize >= problem.processes().len() {
             let process = problem.producer(item);
             let end = Delay::Execution(process);
-            let (cube, time) = (&column.cube, column.time);
-            let least = least_delay(alloc, admitted, tables, lines, process, cube, end, time)?;
+            let least = least_delay(alloc, admitted, tables, lines, process, column, end)?;
             return Ok(least);
         }
         if column.time < problem.release(item) {
@@ -153,31 +141,4 @@ impl<'a> Judge for Inputs<'a> {
     }
 
     ghost alone = { refl };
-}
-
-/// The first violation of V5, by the columns of each item. Items at which the rule is marked as sure are left out.
-pub(crate) fn inputs_by(
-    alloc: Global,
-    admitted: &Admitted,
-    tables: &Tables,
-    lines: &[Line<'_>],
-    marks: &[bool],
-) -> Result<Option<Fault>, OutOfMemory>
-    requires head { IsHeadFor admitted.now.graph tables.now.head }
-    requires rules { AllHold admitted.now.graph tables.now.nodes row_rules }
-    requires lines { AreLines tables.now.nodes (item_count admitted.now.graph) lines.now }
-    requires marks { AreSure admitted.now.graph tables.now.nodes Rule.Inputs marks.now }
-    ensures none { IfOk result (λ r. IfNone r (Holds admitted.now.graph tables.now.nodes Rule.Inputs)) }
-    ensures first { IfOk result (λ r. IfSome r (IsFirstViolation admitted.now.graph admitted.now.order tables.now.nodes Rule.Inputs)) }
-{
-    let links = Links::of(alloc, admitted.problem())?;
-    let found = first_violation(
-        alloc,
-        admitted,
-        tables,
-        Rule::Inputs,
-        &Inputs { links, lines },
-        marks,
-    )?;
-    Ok(found)
 }

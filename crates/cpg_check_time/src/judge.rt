@@ -58,8 +58,10 @@ fn first_in_row<J: Judge>(
     requires admitted { IsAdmitted admitted.now.graph admitted.now.order admitted.now.guards }
     requires suits { J.suits judge.now admitted.now.graph tables.now.nodes }
     requires item { item < item_count admitted.now.graph }
-    ensures none { IfOk result (λ r. IfNone r ((i : ℕ) (s : Scenario) → IsScenario admitted.now.graph s → breaks J.rule admitted.now.graph tables.now.nodes s item (Some i) ≡ false)) }
-    ensures first { IfOk result (λ r. IfSome r (IsFirstColumn admitted.now.graph admitted.now.order (λ i s. breaks J.rule admitted.now.graph tables.now.nodes s item (Some i)))) }
+    ensures none { IfOk result (λ r. IfNone r ((i : ℕ) (s : Scenario) → IsScenario admitted.now.graph s
+        → breaks J.rule admitted.now.graph tables.now.nodes s item (Some i) ≡ false)) }
+    ensures first { IfOk result (λ r. IfSome r (IsFirstColumn admitted.now.graph admitted.now.order
+        (λ i s. breaks J.rule admitted.now.graph tables.now.nodes s item (Some i)))) }
 {
     let columns = tables.columns_of(item);
     for (column, entry) in columns.iter().enumerate() {

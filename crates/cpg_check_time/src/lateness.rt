@@ -43,9 +43,11 @@ pub(crate) fn late_part(
     requires process { process < process_count problem.now }
     requires start { start < 2 ^ 60 }
     requires cube { IsKnown problem.now cube.now }
-    ensures part { IfOk result (λ r. IfSome r (λ part. (s : Scenario) → IsScenario problem.now s → matches part s ≡ (matches cube.now s && ends_after problem.now process start time s))) }
+    ensures part { IfOk result (λ r. IfSome r (λ part. (s : Scenario) → IsScenario problem.now s
+        → matches part s ≡ (matches cube.now s && ends_after problem.now process start time s))) }
     ensures known { IfOk result (λ r. IfSome r (IsKnown problem.now)) }
-    ensures none { IfOk result (λ r. IfNone r ((s : Scenario) → IsScenario problem.now s → (matches cube.now s && ends_after problem.now process start time s) ≡ false)) }
+    ensures none { IfOk result (λ r. IfNone r ((s : Scenario) → IsScenario problem.now s
+        → (matches cube.now s && ends_after problem.now process start time s) ≡ false)) }
 {
     let Some(low) = least_count(problem, process, start, time) else {
         return Ok(None);
@@ -74,7 +76,8 @@ pub(crate) fn least_late(
     requires process { process < process_count problem.now }
     requires room { HasRoom problem.now room.old }
     ensures room { HasRoom problem.now room.new }
-    ensures first { IfOk result (λ r. (order : List ℕ) → IsFirst problem.now order (λ s. matches cube.now s && (matches column.now.cube s && ends_after problem.now process column.now.time time s)) r) }
+    ensures first { IfOk result (λ r. (order : List ℕ) → IsFirst problem.now order (λ s. matches cube.now s
+        && (matches column.now.cube s && ends_after problem.now process column.now.time time s)) r) }
 {
     // most columns never match together, and no part is made of them
     if !cube.meets(&column.cube, problem, room) {

@@ -9,9 +9,8 @@ mod inputs;
 mod judge;
 mod lateness;
 mod lines;
+mod pairs;
 mod processor;
 mod slots;
 
 pub use check::check_time;
-pub use due::check_due;
-pub use frozen::check_frozen;

@@ -18,7 +18,8 @@ fn push_column<'a>(
     place: u32,
     found: &mut Vec<&'a Entry>,
 ) -> Result<(), OutOfMemory>
-    ensures there { IfOk result (λ _. place < length columns.now → map (λ b. b.now) found.new.items ≡ map (λ b. b.now) found.old.items ++ column_at columns.now place ∷ []) }
+    ensures there { IfOk result (λ _. place < length columns.now
+        → map (λ b. b.now) found.new.items ≡ map (λ b. b.now) found.old.items ++ column_at columns.now place ∷ []) }
     ensures none { IfOk result (λ _. length columns.now ≤ place → found.new.items ≡ found.old.items) }
 {
     if let Some(column) = columns.get(place as usize) {
@@ -34,7 +35,9 @@ pub(crate) fn meeting<'a>(
     cube: &Cube,
 ) -> Result<Vec<&'a Entry>, OutOfMemory>
     requires { IsLine line.now.columns.now line.now }
-    ensures same { IfOk result (λ found. (s : Scenario) (test : Column → Bool) → ((d : Column) → test d ≡ true → (matches cube.now s ≡ true) × (matches d.cube s ≡ true)) → list_any test (map (λ b. b.now) found.items) ≡ list_any test line.now.columns.now) }
+    ensures same { IfOk result (λ found. (s : Scenario) (test : Column → Bool)
+        → ((d : Column) → test d ≡ true → (matches cube.now s ≡ true) × (matches d.cube s ≡ true))
+        → list_any test (map (λ b. b.now) found.items) ≡ list_any test line.now.columns.now) }
     ensures among { IfOk result (λ found. All (λ d. Contains line.now.columns.now d) (map (λ b. b.now) found.items)) }
 {
     let places = line.sieve.candidates(alloc, line.columns, cube)?;

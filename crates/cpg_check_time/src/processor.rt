@@ -1,29 +1,24 @@
 //! V6: no two executions on a processor overlap.
-ghost use Rattle.std.specs.Prelude.{◌≡◌, ◌<◌, ℕ, All, IfNone, IfOk, IfSome, List, length, map};
+ghost use Rattle.std.specs.Prelude.{◌≡◌, ◌<◌, ℕ, All, IfOk, List, length, map};
 ghost use Rattle.std.specs.List.{list_any};
 ghost use Rattle.std.proofs.Common.{refl};
 ghost use Rattle.cpg_base.specs.Graph.{item_count, process_count};
 ghost use Rattle.cpg_base.specs.Limits.{IsWithinLimits};
-ghost use Rattle.cpg_base.specs.Numbers.{numbers_below};
 ghost use Rattle.cpg_base.specs.First.{IsFirst};
 ghost use Rattle.cpg_table.specs.declared.rule.Rule.{Rule};
-ghost use Rattle.cpg_head.specs.GraphHead.{head_of};
-ghost use Rattle.cpg_table.specs.Lawful.{AreTablesOf};
-ghost use Rattle.cpg_violation.specs.Heads.{IsHeadFor};
-ghost use Rattle.cpg_violation.specs.Sure.{AreSure};
 ghost use Rattle.cpg_violation.specs.Room.{HasRoom};
-ghost use Rattle.cpg_violation.specs.Violation.{Holds, IsFirstViolation};
 ghost use Rattle.cpg_check_time.specs.Clashes.{overlaps, overlaps_some};
 ghost use Rattle.cpg_check_time.specs.Columns.{IsColumn};
 ghost use Rattle.cpg_violation.specs.Lines.{AreLines};
 
-use crate::judge::{Judge, first_violation};
+use crate::judge::Judge;
 use crate::lateness::least_late;
 use crate::lines::meeting;
+use crate::pairs::{Pairs, least_of_lower};
 use cpg_base::{Order, OutOfMemory, Problem, Scenario};
 use cpg_cube::Entry;
 use cpg_rules::Admitted;
-use cpg_table::{Fault, Rule, Tables};
+use cpg_table::Tables;
 use cpg_violation::{Line, earlier};
 use std::alloc::Global;
 
@@ -70,7 +65,8 @@ fn least_of_overlaps(
     requires column { IsColumn problem.now column.now }
     requires other { other < process_count problem.now }
     requires columns { All (λ b. IsColumn problem.now b.now) columns.now }
-    ensures { IfOk result (IsFirst problem.now order.now (λ s. list_any (λ d. overlaps problem.now process column.now other d s) (map (λ b. b.now) columns.now))) }
+    ensures { IfOk result (IsFirst problem.now order.now
+        (λ s. list_any (λ d. overlaps problem.now process column.now other d s) (map (λ b. b.now) columns.now))) }
 {
     let mut room = Scenario::zero(alloc, problem)?;
     let mut found: Option<Scenario> = None;
@@ -81,72 +77,49 @@ fn least_of_overlaps(
     Ok(found)
 }
 
-/// The least scenario in which the execution that a column starts overlaps one of another process of its node, if there is
-/// one. Only columns that may match together with this one are looked at, and none where all are too early or too late.
-fn least_with(
-    alloc: Global,
-    admitted: &Admitted,
-    tables: &Tables,
-    lines: &[Line<'_>],
-    process: u32,
-    column: &Entry,
-    other: u32,
-) -> Result<Option<Scenario>, OutOfMemory>
-    requires lawful { AreTablesOf (head_of admitted.now.graph) tables.now.nodes }
-    requires lines { AreLines tables.now.nodes (item_count admitted.now.graph) lines.now }
-    requires process { process < process_count admitted.now.graph }
-    requires column { IsColumn admitted.now.graph column.now }
-    requires other { other < process_count admitted.now.graph }
-    ensures { IfOk result (IsFirst admitted.now.graph admitted.now.order (overlaps_some admitted.now.graph tables.now.nodes process column.now other)) }
-{
-    let problem = admitted.problem();
-    let line = &lines[other as usize];
-    if problem.node_of(other) != problem.node_of(process) {
-        return Ok(None);
-    }
-    if line.first >= column.time + problem.duration(process, problem.faults()) {
-        return Ok(None);
-    }
-    let longest = problem.duration(other, problem.faults());
-    if line.last.saturating_add(longest) <= column.time {
-        return Ok(None);
-    }
-    let order = admitted.order();
-    let near = meeting(alloc, line, &column.cube)?;
-    let beside = near.as_slice();
-    let found = least_of_overlaps(alloc, problem, order, process, column, other, beside)?;
-    Ok(found)
-}
-
-/// The same for all processes with lower numbers.
-fn least_of_lower(
-    alloc: Global,
-    admitted: &Admitted,
-    tables: &Tables,
-    lines: &[Line<'_>],
-    process: u32,
-    column: &Entry,
-) -> Result<Option<Scenario>, OutOfMemory>
-    requires lawful { AreTablesOf (head_of admitted.now.graph) tables.now.nodes }
-    requires lines { AreLines tables.now.nodes (item_count admitted.now.graph) lines.now }
-    requires process { process < process_count admitted.now.graph }
-    requires column { IsColumn admitted.now.graph column.now }
-    ensures { IfOk result (IsFirst admitted.now.graph admitted.now.order (λ s. list_any (λ q. overlaps_some admitted.now.graph tables.now.nodes process column.now q s) (numbers_below process))) }
-{
-    let problem = admitted.problem();
-    let order = admitted.order();
-    let mut found: Option<Scenario> = None;
-    for other in 0..process {
-        let next = least_with(alloc, admitted, tables, lines, process, column, other)?;
-        found = earlier(problem, order, found, next);
-    }
-    Ok(found)
-}
-
 /// That no two executions on a processor overlap: the columns of each item.
 #[derive(Drop)]
-struct Processors<'a> {
-    lines: &'a [Line<'a>],
+pub(crate) struct Processors<'a> {
+    pub(crate) lines: &'a [Line<'a>],
+}
+
+impl<'a> Pairs for Processors<'a> {
+    ghost fits = { λ pairs g tables. AreLines tables (item_count g) pairs.lines.now };
+
+    ghost count = { process_count };
+
+    ghost clash = { overlaps_some };
+
+    /// The least scenario in which the execution that a column starts overlaps one of another process of its node, if there is
+    /// one. Only columns that may match together with this one are looked at, and none where all are too early or too late.
+    fn least_with(
+        &self,
+        alloc: Global,
+        admitted: &Admitted,
+        tables: &Tables,
+        item: u32,
+        column: &Entry,
+        other: u32,
+    ) -> Result<Option<Scenario>, OutOfMemory> {
+        let problem = admitted.problem();
+        let lines = self.lines;
+        let line = &lines[other as usize];
+        if problem.node_of(other) != problem.node_of(item) {
+            return Ok(None);
+        }
+        if line.first >= column.time + problem.duration(item, problem.faults()) {
+            return Ok(None);
+        }
+        let longest = problem.duration(other, problem.faults());
+        if line.last.saturating_add(longest) <= column.time {
+            return Ok(None);
+        }
+        let order = admitted.order();
+        let near = meeting(alloc, line, &column.cube)?;
+        let beside = near.as_slice();
+        let found = least_of_overlaps(alloc, problem, order, item, column, other, beside)?;
+        Ok(found)
+    }
 }
 
 impl<'a> Judge for Processors<'a> {
@@ -165,35 +138,9 @@ impl<'a> Judge for Processors<'a> {
         if item as usize >= admitted.problem().processes().len() {
             return Ok(None);
         }
-        let lines = self.lines;
-        let least = least_of_lower(alloc, admitted, tables, lines, item, column)?;
+        let least = least_of_lower(alloc, admitted, tables, self, item, column)?;
         Ok(least)
     }
 
     ghost alone = { refl };
-}
-
-/// The first violation of V6, by the columns of each item. Items at which the rule is marked as sure are left out.
-pub(crate) fn processors_by(
-    alloc: Global,
-    admitted: &Admitted,
-    tables: &Tables,
-    lines: &[Line<'_>],
-    marks: &[bool],
-) -> Result<Option<Fault>, OutOfMemory>
-    requires head { IsHeadFor admitted.now.graph tables.now.head }
-    requires lines { AreLines tables.now.nodes (item_count admitted.now.graph) lines.now }
-    requires marks { AreSure admitted.now.graph tables.now.nodes Rule.Processor marks.now }
-    ensures none { IfOk result (λ r. IfNone r (Holds admitted.now.graph tables.now.nodes Rule.Processor)) }
-    ensures first { IfOk result (λ r. IfSome r (IsFirstViolation admitted.now.graph admitted.now.order tables.now.nodes Rule.Processor)) }
-{
-    let found = first_violation(
-        alloc,
-        admitted,
-        tables,
-        Rule::Processor,
-        &Processors { lines },
-        marks,
-    )?;
-    Ok(found)
 }

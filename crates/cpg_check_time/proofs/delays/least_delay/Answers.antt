@@ -25,8 +25,8 @@ returns-then-saturating_add-time c =
     let g = c.args.admitted.now.graph in
     let line : IsLine (columns_of c.args.tables.now.nodes c.args.item) c.index-lines-item.result = subst (IsLine (columns_of c.args.tables.now.nodes c.args.item)) (sym c.index-lines-item.is) (c.requires.lines.each c.args.item c.index-lines-item.result c.requires.item) in
     let most : IsMost g c.args.delay c.most.result = rw (← c.problem-problem.ensures.problem) c.most.ensures.most in
-    let early : c.index-lines-item.result.last + c.most.result ≤ c.args.time = omega (arith, c.if-saturating_add-time.true, c.saturating_add.ensures, c.requires.time) in
-    never_delays g c.args.cube.now c.args.delay c.args.time c.most.result c.index-lines-item.result.last most (columns_of c.args.tables.now.nodes c.args.item) line.last early
+    let early : c.index-lines-item.result.last + c.most.result ≤ c.args.column.now.time = omega (arith, c.if-saturating_add-time.true, c.saturating_add.ensures, c.requires.time) in
+    never_delays g c.args.column.now.cube c.args.delay c.args.column.now.time c.most.result c.index-lines-item.result.last most (columns_of c.args.tables.now.nodes c.args.item) line.last early
 
 pub least_of_late-requires-clause-columns : goal.least_of_late-requires-clause-columns
 least_of_late-requires-clause-columns c =
@@ -42,6 +42,6 @@ returns c =
     let order = c.args.admitted.now.order in
     let line : IsLine (columns_of c.args.tables.now.nodes c.args.item) c.index-lines-item.result = subst (IsLine (columns_of c.args.tables.now.nodes c.args.item)) (sym c.index-lines-item.is) (c.requires.lines.each c.args.item c.index-lines-item.result c.requires.item) in
     let same = rw line.all at c.in_ok-columns.ensures.same in
-    let first : IsFirst g order (λ s. list_any (λ d. delays g c.args.cube.now c.args.delay c.args.time d s) (map at c.in_ok-columns.columns.items)) c.in_ok-found.found =
+    let first : IsFirst g order (λ s. list_any (λ d. delays g c.args.column.now.cube c.args.delay c.args.column.now.time d s) (map at c.in_ok-columns.columns.items)) c.in_ok-found.found =
     rw (← c.problem-problem.ensures.problem, ← c.order-order.ensures.order, ← c.as_slice.ensures.value) c.in_ok-found.ensures in
-    first_delay g c.args.cube.now c.args.delay c.args.time order (map at c.in_ok-columns.columns.items) (columns_of c.args.tables.now.nodes c.args.item) same c.in_ok-found.found first
+    first_delay g c.args.column.now.cube c.args.delay c.args.column.now.time order (map at c.in_ok-columns.columns.items) (columns_of c.args.tables.now.nodes c.args.item) same c.in_ok-found.found first

@@ -12,7 +12,7 @@ use Rattle.cpg_check_time.specs.Clashes.{shares}
 use Rattle.cpg_violation.specs.Lines.{IsLine}
 use Rattle.cpg_check_time.proofs.Judging.{column_is}
 use Rattle.cpg_check_time.proofs.SlotLaws.{all_later, all_earlier, other_item}
-use Rattle.cpg_check_time.proofs.slots.least_with.Goals as goal
+use Rattle.cpg_check_time.proofs.slots.SlotsPairs.least_with.Goals as goal
 
 -- what a reference points to
 abbrev at : Bor Column → Column
@@ -20,12 +20,12 @@ at b = b.now
 
 pub returns-then-column-line : goal.returns-then-column-line
 returns-then-column-line c = λ s _.
-    let line : IsLine (columns_of c.args.tables.now.nodes c.args.other) c.index-lines-other.result = subst (IsLine (columns_of c.args.tables.now.nodes c.args.other)) (sym c.index-lines-other.is) (c.requires.lines.each c.args.other c.index-lines-other.result c.requires.other) in
+    let line : IsLine (columns_of c.args.tables.now.nodes c.args.other) c.index-lines-other.result = subst (IsLine (columns_of c.args.tables.now.nodes c.args.other)) (sym c.index-lines-other.is) (c.requires.fits.each c.args.other c.index-lines-other.result c.requires.other) in
     all_later c.args.admitted.now.graph c.args.tables.now.nodes c.args.item c.args.column.now c.args.other c.index-lines-other.result.first line.first c.if-column-line.true s
 
 pub returns-then-line-column : goal.returns-then-line-column
 returns-then-line-column c = λ s _.
-    let line : IsLine (columns_of c.args.tables.now.nodes c.args.other) c.index-lines-other.result = subst (IsLine (columns_of c.args.tables.now.nodes c.args.other)) (sym c.index-lines-other.is) (c.requires.lines.each c.args.other c.index-lines-other.result c.requires.other) in
+    let line : IsLine (columns_of c.args.tables.now.nodes c.args.other) c.index-lines-other.result = subst (IsLine (columns_of c.args.tables.now.nodes c.args.other)) (sym c.index-lines-other.is) (c.requires.fits.each c.args.other c.index-lines-other.result c.requires.other) in
     all_earlier c.args.admitted.now.graph c.args.tables.now.nodes c.args.item c.args.column.now c.args.other c.index-lines-other.result.last line.last c.if-line-column.true s
 
 pub least_of_shared-requires-clause-order : goal.least_of_shared-requires-clause-order
@@ -33,7 +33,7 @@ least_of_shared-requires-clause-order c = rw (c.order-order.ensures.order, c.pro
 
 pub least_of_shared-requires-clause-columns : goal.least_of_shared-requires-clause-columns
 least_of_shared-requires-clause-columns c =
-    let line : IsLine (columns_of c.args.tables.now.nodes c.args.other) c.index-lines-other.result = subst (IsLine (columns_of c.args.tables.now.nodes c.args.other)) (sym c.index-lines-other.is) (c.requires.lines.each c.args.other c.index-lines-other.result c.requires.other) in
+    let line : IsLine (columns_of c.args.tables.now.nodes c.args.other) c.index-lines-other.result = subst (IsLine (columns_of c.args.tables.now.nodes c.args.other)) (sym c.index-lines-other.is) (c.requires.fits.each c.args.other c.index-lines-other.result c.requires.other) in
     rw (c.problem-problem.ensures.problem, c.as_slice.ensures.value)
     (all_unmapped (λ (d : Column). IsKnown c.args.admitted.now.graph d.cube) at c.in_ok-near.near.items
     (All-weaker (λ d. Contains c.index-lines-other.result.columns.now d) (λ (d : Column). IsKnown c.args.admitted.now.graph d.cube)
@@ -43,7 +43,7 @@ pub returns : goal.returns
 returns c =
     let g = c.args.admitted.now.graph in
     let order = c.args.admitted.now.order in
-    let line : IsLine (columns_of c.args.tables.now.nodes c.args.other) c.index-lines-other.result = subst (IsLine (columns_of c.args.tables.now.nodes c.args.other)) (sym c.index-lines-other.is) (c.requires.lines.each c.args.other c.index-lines-other.result c.requires.other) in
+    let line : IsLine (columns_of c.args.tables.now.nodes c.args.other) c.index-lines-other.result = subst (IsLine (columns_of c.args.tables.now.nodes c.args.other)) (sym c.index-lines-other.is) (c.requires.fits.each c.args.other c.index-lines-other.result c.requires.other) in
     let sent : is_sent g c.args.other ≡ true = rw (← c.problem-problem.ensures.problem) (sym c.if-not-is_sent.ensures) in
     let node : home g c.args.other ≡ home g c.args.item = rw (← c.problem-problem.ensures.problem) (sym c.home.ensures.home ∙ c.if-home.false ∙ c.home-2.ensures.home) in
     let same = rw line.all at c.in_ok-near.ensures.same in

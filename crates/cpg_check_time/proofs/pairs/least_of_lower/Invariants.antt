@@ -1,0 +1,7 @@
+use Rattle.std.specs.List.{list_any}
+use Rattle.cpg_base.specs.Numbers.{numbers_below}
+use Rattle.cpg_base.specs.First.{IsFirst}
+use Rattle.cpg_check_time.proofs.pairs.least_of_lower.Given as goal
+
+abbrev pub invariant-loop-other : goal.invariant-loop-other
+invariant-loop-other g l = IsFirst l.admitted.graph l.admitted.order (λ s. list_any (λ y. g.P.Pairs.clash l.admitted.graph l.tables.nodes l.item l.column y s) (numbers_below l.other)) l.found
