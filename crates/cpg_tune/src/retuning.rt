@@ -46,7 +46,5 @@ pub fn retuned(
     let slots = Vec::from_slice(alloc, problem.slots())?;
     let processes = in_parts_each(alloc, problem.processes(), parts)?;
     let edges = Vec::from_slice(alloc, problem.edges())?;
-    let made = Problem::new(faults, problem.deadline(), nodes, slots, processes, edges);
-    let Some(made) = made else { unreachable!() };
-    Ok(made)
+    Ok(Problem::of(faults, problem.deadline(), nodes, slots, processes, edges))
 }
