@@ -11,9 +11,11 @@ use Rattle.cpg_cube.specs.Column.{Column}
 
 -- where a column matches, the processes of its literals are active
 abbrev pub HasActive : Graph → Column → Type 0
-HasActive g c = (s : Scenario) (l : Literal) → IsScenario g s → matches c.cube s ≡ true → Contains c.cube l → active g s.values (process_of_variable g l.variable) ≡ true
+HasActive g c = (s : Scenario) (l : Literal) → IsScenario g s → matches c.cube s ≡ true → Contains c.cube l →
+    active g s.values (process_of_variable g l.variable) ≡ true
 
 -- the process of a variable is on a node, and no execution of it ends after a time
 pub record HasEnded (g : Graph) (tables : List NodeTable) (node v time : ℕ) : Type 0 where
   pub home : node_of g (process_of_variable g v) ≡ node
-  pub ends : (c : Column) (n : ℕ) → Contains (columns_of tables (process_of_variable g v)) c → n ≤ g.faults → c.time + duration g (process_of_variable g v) n ≤ time
+  pub ends : (c : Column) (n : ℕ) → Contains (columns_of tables (process_of_variable g v)) c → n ≤ g.faults →
+      c.time + duration g (process_of_variable g v) n ≤ time

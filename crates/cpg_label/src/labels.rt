@@ -32,7 +32,11 @@ impl<'a> Model for Labels<'a> {
 
     ghost view = { λ l. record { processes = map (λ n. n.now) l.processes.items; conditions = map (λ n. n.now) l.conditions.items; edges = l.edges.items } };
 
-    ghost invariant = { λ l. All (IsPhrase (record { processes = map (λ n. n.now) l.processes.items; conditions = map (λ n. n.now) l.conditions.items; edges = l.edges.items })) l.phrases.items };
+    ghost invariant = { λ l. All (IsPhrase (record {
+      processes = map (λ n. n.now) l.processes.items;
+      conditions = map (λ n. n.now) l.conditions.items;
+      edges = l.edges.items;
+    })) l.phrases.items };
 }
 
 fn process_names<'a>(alloc: Global, processes: &'a [Process]) -> Result<Vec<&'a str>, OutOfMemory>

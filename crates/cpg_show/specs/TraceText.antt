@@ -51,4 +51,5 @@ finish_line g ends = codes "finish " ++ decimal (finish_of g ends) ++ codes "\n"
 
 -- the text of what the nodes did, of executions with these lengths by process
 abbrev pub IsTraceText : Graph → List ℕ → List (List Act) → List (List (ℕ × Ended)) → List ℕ → Type 0
-IsTraceText g lengths acts ends text = (events : List Event) × AreToldInOrder g acts ends events × (text ≡ flat_map (event_line g lengths) events ++ finish_line g ends)
+IsTraceText g lengths acts ends text = (events : List Event) × AreToldInOrder g acts ends events ×
+    (text ≡ flat_map (event_line g lengths) events ++ finish_line g ends)

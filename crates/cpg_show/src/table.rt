@@ -101,7 +101,8 @@ fn write_items(
     tables: &Tables,
 ) -> Result<(), AllocError>
     requires { labels.now ≡ labels_of problem.now }
-    ensures { OnOk result (string_bytes out.new ≡ string_bytes out.old ++ flat_map (item_text problem.now tables.now.nodes) (numbers_below (item_count problem.now))) }
+    ensures { OnOk result (string_bytes out.new ≡ string_bytes out.old ++ flat_map (item_text problem.now tables.now.nodes)
+        (numbers_below (item_count problem.now))) }
 {
     for item in 0..problem.item_count() {
         write_item(out, problem, labels, tables, item)?;

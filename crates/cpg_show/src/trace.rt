@@ -168,7 +168,8 @@ pub fn trace_text(
     cluster: &Cluster,
 ) -> Result<String, OutOfMemory>
     requires { cluster.now.graph ≡ admitted.now.graph }
-    ensures { IfOk result (λ text. IsTraceText cluster.now.graph cluster.now.world.lengths cluster.now.cluster.acts cluster.now.cluster.ends (string_bytes text)) }
+    ensures { IfOk result (λ text.
+        IsTraceText cluster.now.graph cluster.now.world.lengths cluster.now.cluster.acts cluster.now.cluster.ends (string_bytes text)) }
 {
     let problem = admitted.problem();
     let lengths = cluster.lengths();

@@ -26,4 +26,5 @@ parted_from-pieces (Cut v most below above) rest ts =
 
 abbrev pub parted_code : Coded Parted
 parted_code =
-    code_by (List Piece) (coded_list (coded⊎ (coded_list coded_ℕ) (coded_list coded_ℕ))) (λ t. pieces_of t []) (λ ps. parted_from ps []) (λ t. parted_from-pieces t [] [])
+    code_by (List Piece) (coded_list (coded⊎ (coded_list coded_ℕ) (coded_list coded_ℕ))) (λ t. pieces_of t []) (λ ps.
+    parted_from ps []) (λ t. parted_from-pieces t [] [])

@@ -46,7 +46,8 @@ fn least_where(
     requires cube { IsKnown problem.now cube.now }
     requires literal { IsVariable problem.now literal.variable }
     requires list { All (λ b. IsKnown problem.now b.now) by.now }
-    ensures { IfOk result (IsFirst problem.now order.now (λ s. holds s literal && (is_left (map (λ b. b.now) by.now) cube.now s && comes_to tree.now wanted s))) }
+    ensures { IfOk result (IsFirst problem.now order.now (λ s.
+        holds s literal && (is_left (map (λ b. b.now) by.now) cube.now s && comes_to tree.now wanted s))) }
 {
     let Some(part) = cube.with(literal)? else {
         return Ok(None);

@@ -28,7 +28,8 @@ pub fn edge_cube(alloc: Global, problem: &Problem, edge: u32) -> Result<Cube, Ou
     requires edge { edge < edge_count problem.now }
     requires source { source problem.now edge < process_count problem.now }
     ensures known { IfOk result (IsKnown problem.now) }
-    ensures passed { IfOk result (λ cube. (s : Scenario) → matches cube s ≡ is_passed (test_of (condition_of problem.now (source problem.now edge)) (edge_at problem.now edge).when) s.values) }
+    ensures passed { IfOk result (λ cube. (s : Scenario) →
+        matches cube s ≡ is_passed (test_of (condition_of problem.now (source problem.now edge)) (edge_at problem.now edge).when) s.values) }
 {
     let edge = problem.edges()[edge as usize];
     let mut cube = Cube::whole(alloc);

@@ -93,7 +93,8 @@ impl TimeMarks {
 
     /// Whether each of so many items has all marks, so that the six rules hold.
     pub fn are_all(&self, items: u32) -> bool
-        ensures { OnTrue result ((g : Graph) (tables : List NodeTable) → items ≡ item_count g → AreTimeMarks g tables self.now → AllHold g tables (Rule.Heard ∷ time_rules)) }
+        ensures { OnTrue result ((g : Graph) (tables : List NodeTable) → items ≡ item_count g → AreTimeMarks g tables self.now →
+            AllHold g tables (Rule.Heard ∷ time_rules)) }
     {
         if !are_all(self.heard.as_slice(), items) {
             return false;

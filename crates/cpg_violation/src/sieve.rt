@@ -91,7 +91,8 @@ fn goes(cube: &Cube, variable: u8, most: u8, below: bool) -> bool
 
 /// Whether the column at a place lets a variable be at most a number, or else above it; not where there is no column.
 fn column_goes(columns: &[Entry], place: u32, variable: u8, most: u8, below: bool) -> bool
-    ensures { OnFalse result ((s : Scenario) → place < length columns.now → matches (column_at columns.now place).cube s ≡ true → nat_le (number_of s variable) most ≡ not below) }
+    ensures { OnFalse result ((s : Scenario) → place < length columns.now → matches (column_at columns.now place).cube s ≡ true →
+        nat_le (number_of s variable) most ≡ not below) }
 {
     let Some(column) = columns.get(place as usize) else {
         return false;
@@ -243,7 +244,8 @@ fn part(
     cut: Cut,
     below: bool,
 ) -> Result<Vec<u32>, OutOfMemory>
-    ensures { IfOk result (λ kept. (s : Scenario) (i : ℕ) → Contains places.now i → i < length columns.now → matches (column_at columns.now i).cube s ≡ true → nat_le (number_of s cut.variable) cut.most ≡ below → Contains kept.items i) }
+    ensures { IfOk result (λ kept. (s : Scenario) (i : ℕ) → Contains places.now i → i < length columns.now →
+        matches (column_at columns.now i).cube s ≡ true → nat_le (number_of s cut.variable) cut.most ≡ below → Contains kept.items i) }
 {
     let mut kept = Vec::new(alloc);
     for place in places {
@@ -383,7 +385,8 @@ fn meeting(
     places: &[u32],
     cube: &Cube,
 ) -> Result<Vec<u32>, OutOfMemory>
-    ensures { IfOk result (λ kept. (s : Scenario) (i : ℕ) → Contains places.now i → i < length columns.now → matches (column_at columns.now i).cube s ≡ true → matches cube.now s ≡ true → Contains kept.items i) }
+    ensures { IfOk result (λ kept. (s : Scenario) (i : ℕ) → Contains places.now i → i < length columns.now →
+        matches (column_at columns.now i).cube s ≡ true → matches cube.now s ≡ true → Contains kept.items i) }
 {
     let mut kept = Vec::new(alloc);
     for place in places {
@@ -419,7 +422,8 @@ impl Sieve {
         found: &mut Vec<u32>,
     ) -> Result<(), OutOfMemory>
         ensures old { IfOk result (λ _. (i : ℕ) → Contains found.old.items i → Contains found.new.items i) }
-        ensures all { IfOk result (λ _. (s : Scenario) (i : ℕ) → matches cube.now s ≡ true → nat_le (number_of s cut.variable) cut.most ≡ below → Contains (places_in self.now s) i → Contains found.new.items i) }
+        ensures all { IfOk result (λ _. (s : Scenario) (i : ℕ) → matches cube.now s ≡ true →
+            nat_le (number_of s cut.variable) cut.most ≡ below → Contains (places_in self.now s) i → Contains found.new.items i) }
     {
         if !goes(cube, cut.variable, cut.most, below) {
             return Ok(());
@@ -465,7 +469,8 @@ impl Sieve {
         cube: &Cube,
     ) -> Result<Vec<u32>, OutOfMemory>
         requires { IsSieveOf columns.now self.now }
-        ensures { IfOk result (λ kept. (s : Scenario) (i : ℕ) → i < length columns.now → matches (column_at columns.now i).cube s ≡ true → matches cube.now s ≡ true → Contains kept.items i) }
+        ensures { IfOk result (λ kept. (s : Scenario) (i : ℕ) → i < length columns.now → matches (column_at columns.now i).cube s ≡ true →
+            matches cube.now s ≡ true → Contains kept.items i) }
     {
         let mut found = Vec::new(alloc);
         self.search(cube, &mut found)?;
