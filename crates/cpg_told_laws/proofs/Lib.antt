@@ -1,0 +1,12 @@
+pub mod Fetched
+pub mod Values
+pub mod Stops
+pub mod Parts
+pub mod Commands
+pub mod Streams
+pub mod Endings
+pub mod Faults
+pub mod Telling
+pub mod Complete
+pub mod Followed
+pub mod Kept

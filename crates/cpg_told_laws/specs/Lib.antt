@@ -1,0 +1,6 @@
+pub mod Causes
+pub mod Streams
+pub mod Outputs
+pub mod Endings
+pub mod Lawful
+pub mod Told

@@ -1,0 +1,14 @@
+-- A run, as it was seen while its contract spoke of what the shelf tells of the names; and that it keeps that contract too.
+use Rattle.cpg_io.specs.Shelf.{KeepsShelf}
+use Rattle.cpg_app.specs.Endings.{Ran as Run}
+use Rattle.cpg_app.specs.Lawful.{IsLawful as IsLawfulRun}
+use Rattle.cpg_told_laws.specs.Causes.{seen}
+use Rattle.cpg_told_laws.specs.Endings.{Ran}
+use Rattle.cpg_told_laws.specs.Lawful.{IsLawful}
+
+abbrev pub told_of : Run → Ran
+told_of r = record { words = r.words; shelf = seen r.shelf.old r.shelf.new; out = r.out; err = r.err; status = r.status }
+
+-- what a run says of the bytes that its fetches gave says so of what stands under their names, where the shelf tells that
+abbrev pub RunsKeepWhatWasTold : Type 0
+RunsKeepWhatWasTold = (r : Run) → IsLawfulRun r → KeepsShelf r.shelf.old r.shelf.new → IsLawful (told_of r)
