@@ -152,7 +152,8 @@ StopsPlayed seen told g halt = IsUnread seen halt ⊎ (IsLong SCENARIO_LIMIT Lon
 
 -- a scenario file stops a run: as it is read, or by the check that comes before its play
 abbrev pub StopsPlay : Seen → Option Text → Admission → Tables → Halt → Type 0
-StopsPlay seen told a t halt = StopsPlayed seen told a.graph halt ⊎ ((p : Played) × SaysPlayed told a.graph p × IsAfterReading seen.given SCENARIO_LIMIT (StopsVerdict a) t halt)
+StopsPlay seen told a t halt = StopsPlayed seen told a.graph halt ⊎ ((p : Played) × SaysPlayed told a.graph p ×
+    IsAfterReading seen.given SCENARIO_LIMIT (StopsVerdict a) t halt)
 
 -- the bytes of a log, where the shelf tells them, are those of a log of the graph
 abbrev pub SaysLog : Option Text → Graph → Log → Type 0
@@ -174,7 +175,8 @@ StopsLog seen told g halt = IsUnread seen halt ⊎ (IsLong LOG_LIMIT LongLog see
 
 -- a log stops a run: as it is read, or by the check that comes before its audit
 abbrev pub StopsAudit : Seen → Option Text → Admission → Tables → Halt → Type 0
-StopsAudit seen told a t halt = StopsLog seen told a.graph halt ⊎ ((log : Log) × SaysLog told a.graph log × IsAfterReading seen.given LOG_LIMIT (StopsVerdict a) t halt)
+StopsAudit seen told a t halt = StopsLog seen told a.graph halt ⊎ ((log : Log) × SaysLog told a.graph log ×
+    IsAfterReading seen.given LOG_LIMIT (StopsVerdict a) t halt)
 
 -- no node has the name
 abbrev pub StopsNaming : Tables → Text → Halt → Type 0
@@ -200,7 +202,8 @@ StopsReadingParts seen pairs halt = IsUnsaid seen pairs halt ⊎ (halt ≡ Memor
 
 -- to unroll the parts of the words
 abbrev pub StopsParts : Seen → List Pair → Halt → Type 0
-StopsParts seen pairs halt = StopsReadingParts seen pairs halt ⊎ ((parts : List Part) × AreSaid seen.stands pairs parts × IsAfterReading seen.given GRAPH_LIMIT IsNotUnrolled parts halt)
+StopsParts seen pairs halt = StopsReadingParts seen pairs halt ⊎ ((parts : List Part) × AreSaid seen.stands pairs parts ×
+    IsAfterReading seen.given GRAPH_LIMIT IsNotUnrolled parts halt)
 
 -- what a command does with an admitted graph stops it for want of memory alone
 abbrev pub IsOutOfMemory : Admission → Halt → Type 0
@@ -209,14 +212,17 @@ IsOutOfMemory a halt = halt ≡ Memory
 abbrev pub StopsCommand : Seen → Command → Halt → Type 0
 StopsCommand seen (Show graph) halt = StopsGraph seen (seen.stands graph) (IsAfterReading seen.given GRAPH_LIMIT IsUncompiled) halt
 StopsCommand seen (Compile graph) halt = StopsGraph seen (seen.stands graph) (IsAfterReading seen.given GRAPH_LIMIT IsUncompiled) halt
-StopsCommand seen (Check graph pack) halt = StopsGraph seen (seen.stands graph) (λ a. StopsTables seen (seen.stands pack) (IsAfterReading seen.given PACK_LIMIT (StopsVerdict a))) halt
-StopsCommand seen (Play graph pack scenario turns) halt = StopsGraph seen (seen.stands graph) (λ a. StopsTables seen (seen.stands pack) (StopsPlay seen (seen.stands scenario) a)) halt
+StopsCommand seen (Check graph pack) halt = StopsGraph seen (seen.stands graph) (λ a.
+    StopsTables seen (seen.stands pack) (IsAfterReading seen.given PACK_LIMIT (StopsVerdict a))) halt
+StopsCommand seen (Play graph pack scenario turns) halt = StopsGraph seen (seen.stands graph) (λ a.
+    StopsTables seen (seen.stands pack) (StopsPlay seen (seen.stands scenario) a)) halt
 StopsCommand seen (Node pack name) halt = StopsTables seen (seen.stands pack) (IsAfterReading seen.given PACK_LIMIT (λ t. StopsNaming t name)) halt
 StopsCommand seen (Trial number) halt = halt ≡ Memory
 StopsCommand seen (Live pack name stream) halt = StopsTables seen (seen.stands pack) (IsAfterReading seen.given PACK_LIMIT (λ t. StopsNaming t name)) halt
 StopsCommand seen (Hyper parts) halt = StopsParts seen parts halt
 StopsCommand seen (Tune graph) halt = StopsGraph seen (seen.stands graph) (IsAfterReading seen.given GRAPH_LIMIT IsOutOfMemory) halt
-StopsCommand seen (Audit graph pack log) halt = StopsGraph seen (seen.stands graph) (λ a. StopsTables seen (seen.stands pack) (StopsAudit seen (seen.stands log) a)) halt
+StopsCommand seen (Audit graph pack log) halt = StopsGraph seen (seen.stands graph) (λ a.
+    StopsTables seen (seen.stands pack) (StopsAudit seen (seen.stands log) a)) halt
 
 -- words without a form stop a run as such, or for want of memory
 abbrev pub StopsAsked : Seen → Option Command → Halt → Type 0

@@ -189,7 +189,8 @@ pub record IsLawful (r : Ran) : Type 0 where
   -- 4: a refusal whose cause is true, and whose line was written whole
   pub refused : r.status ≡ 4 → ((refusal : Refusal) × Stops r.shelf r.words (Refused refusal) × IsTold r (Refused refusal)) ⊎ IsRefusedStream r
   -- 5: a process is late, as the line says
-  pub is_late : r.status ≡ 5 → (a : Admission) × (s : Scenario) × (p : ℕ) × (finish : ℕ) × Stops r.shelf r.words (Late a s p finish) × IsTold r (Late a s p finish)
+  pub is_late : r.status ≡ 5 → (a : Admission) × (s : Scenario) × (p : ℕ) × (finish : ℕ) × Stops r.shelf r.words (Late a s p finish) ×
+      IsTold r (Late a s p finish)
   -- 6: an item is too wide, as the line says
   pub is_wide : r.status ≡ 6 → (a : Admission) × (x : ℕ) × Stops r.shelf r.words (TooWide a x) × IsTold r (TooWide a x)
   -- 7: the tables of a pack break a rule, as the line says
@@ -218,7 +219,9 @@ pub record IsLawful (r : Ran) : Type 0 where
   -- the graph of all instances of parts is written where they have one, and they are refused where they have none, but for
   -- want of memory
   pub unrolled : (parts : List Part) (g : Graph) → AsksUnrolling r parts → ShowsUnrolled parts (Ok g) → (r.status ≡ 0) ⊎ (r.status ≡ 8)
-  pub apart : (parts : List Part) (fault : HyperFault) → AsksUnrolling r parts → ShowsUnrolled parts (Err fault) → fault ≢ OutOfMemory → (r.status ≡ 4) ⊎ (r.status ≡ 8)
+  pub apart : (parts : List Part) (fault : HyperFault) → AsksUnrolling r parts → ShowsUnrolled parts (Err fault) → fault ≢ OutOfMemory →
+      (r.status ≡ 4) ⊎ (r.status ≡ 8)
   -- such a node follows a stream to its close, and else the stream is refused, but for want of memory
-  pub followed : (t : Tables) (name bytes : Text) (node : ℕ) → AsksStream r t name bytes → first_named t.head name ≡ Some node → (r.status ≡ status_of_end (stream_end (table_at t.nodes node) bytes)) ⊎ (r.status ≡ 8)
+  pub followed : (t : Tables) (name bytes : Text) (node : ℕ) → AsksStream r t name bytes → first_named t.head name ≡ Some node →
+      (r.status ≡ status_of_end (stream_end (table_at t.nodes node) bytes)) ⊎ (r.status ≡ 8)
   pub unfollowed : (t : Tables) (name bytes : Text) → AsksStream r t name bytes → first_named t.head name ≡ None → (r.status ≡ 4) ⊎ (r.status ≡ 8)
