@@ -1,5 +1,5 @@
 -- A run ends lawfully by what its work answered and its sinks took.
-use Rattle.std.proofs.Common.{◌≡◌, List, [], ◌∷◌, Option, None, refl, arith, inl, inr}
+use Rattle.std.proofs.Common.{◌≡◌, List, [], ◌∷◌, Option, None, refl, inl, inr}
 use Rattle.std.specs.Prelude.{◌⊎◌, Result, Ok, Err}
 use Rattle.cpg_base.specs.Graph.{Graph}
 use Rattle.cpg_tale.specs.Fetch.{Fetch}
@@ -13,7 +13,7 @@ use Rattle.cpg_refusal.specs.Halts.{halt_of_words}
 use Rattle.cpg_refusal.specs.Lines.{line_of, status_of}
 use Rattle.cpg_inputs.specs.Files.{File}
 use Rattle.cpg_inputs.specs.Says.{graph_after}
-use Rattle.cpg_inputs.specs.Reading.{IsFetchOf, IsWhole, StopsAt, StopsReading}
+use Rattle.cpg_inputs.specs.Reading.{IsFetchOf, IsWanting, IsWhole, StopsAt, StopsReading}
 use Rattle.cpg_app.specs.Told.{IsWritten, Sent, Untouched}
 use Rattle.cpg_app.specs.Endings.{IsEnded, Prints, Ran, Stops}
 use Rattle.cpg_app.specs.Lawful.{IsLawful}
@@ -23,17 +23,17 @@ use Rattle.cpg_app.proofs.Written.{stopped}
 -- ---- memory may want wherever a run stops
 
 of_whole : (f : File) (fetch : Fetch) → IsWhole f fetch → IsFetchOf f fetch
-of_whole f fetch w = let s = w.short in record { named = w.named; few = omega (arith, s) }
+of_whole f fetch w = record { named = w.named }
 
-fetch_of : (g : Option Graph) (f : File) (fetch : Fetch) (h : Halt) → StopsAt g f fetch h → IsFetchOf f fetch
-fetch_of g f fetch h (inl unread) = unread.of
-fetch_of g f fetch h (inr (inl long)) = long.of
-fetch_of g f fetch h (inr (inr (inl refused))) = of_whole f fetch refused.whole
-fetch_of g f fetch h (inr (inr (inr wanting))) = wanting.of
+wants_too : (g : Option Graph) (f : File) (fetch : Fetch) (h : Halt) → StopsAt g f fetch h → IsWanting f fetch Memory
+wants_too g f fetch h (inl unread) = record { of = unread.of; few = inl unread.few; halt_is = refl }
+wants_too g f fetch h (inr (inl long)) = record { of = long.of; few = inr (long.over, long.sound); halt_is = refl }
+wants_too g f fetch h (inr (inr (inl refused))) = record { of = of_whole f fetch refused.whole; few = inl refused.whole.short; halt_is = refl }
+wants_too g f fetch h (inr (inr (inr wanting))) = record { of = wanting.of; few = wanting.few; halt_is = refl }
 
 files_memory : (g : Option Graph) (files : List File) (past now : List Fetch) (h : Halt) → StopsReading g files past now h → StopsReading g files past now Memory
 files_memory g [] past now h s = absurd s
-files_memory g (f ∷ fs) past now h (fetch, inl here) = (fetch, inl (inr (inr (inr (record { of = fetch_of g f fetch h here.0; halt_is = refl }))), here.1))
+files_memory g (f ∷ fs) past now h (fetch, inl here) = (fetch, inl (inr (inr (inr (wants_too g f fetch h here.0))), here.1))
 files_memory g (f ∷ fs) past now h (fetch, inr (v, read, there)) = (fetch, inr (v, read, files_memory (graph_after g v) fs (fetch ∷ past) now h there))
 
 module _ (r : Ran) where

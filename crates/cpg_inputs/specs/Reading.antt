@@ -1,6 +1,6 @@
 -- What a run has read: its files one after another, each fetched once, in the order of the words. A history is that of a shelf:
 -- its fetches, the newest first.
-use Rattle.std.specs.Prelude.{◌≡◌, ◌<◌, ◌≤◌, ◌+◌, ◌⊎◌, true, false, List, [], ◌∷◌, Option, length}
+use Rattle.std.specs.Prelude.{◌≡◌, ◌≤◌, ◌+◌, ◌⊎◌, true, false, List, [], ◌∷◌, Option, length}
 use Rattle.cpg_base.specs.Graph.{Graph}
 use Rattle.cpg_tale.specs.Fetch.{Fetch}
 use Rattle.cpg_refusal.specs.declared.halt.Halt.{Halt}
@@ -8,10 +8,9 @@ use Rattle.cpg_refusal.specs.declared.halt.Halt.TheVariants.{Read, Refused, Memo
 use Rattle.cpg_inputs.specs.Files.{File, limit_of, long_of}
 use Rattle.cpg_inputs.specs.Says.{Value, graph_after, Says, Refuses}
 
--- a fetch is of the file, and gave at most a byte more than its limit
+-- a fetch is of the file
 pub record IsFetchOf (file : File) (fetch : Fetch) : Type 0 where
   pub named : fetch.name ≡ file.name
-  pub few : length fetch.given ≤ limit_of file.kind + 1
 
 -- it gave the whole of it, within its limit
 pub record IsWhole (file : File) (fetch : Fetch) : Type 0 where
@@ -25,17 +24,18 @@ pub record IsRead (g : Option Graph) (file : File) (fetch : Fetch) (value : Valu
   pub whole : IsWhole file fetch
   pub says : Says g file.kind fetch.given value
 
--- the shelf met a fault as the file was fetched or read
+-- the shelf met a fault as the file was fetched or read, before it gave more than the limit
 pub record IsUnread (file : File) (fetch : Fetch) (halt : Halt) : Type 0 where
   pub of : IsFetchOf file fetch
+  pub few : length fetch.given ≤ limit_of file.kind
   pub failed : fetch.failed ≡ true
   pub halt_is : halt ≡ Read
 
--- it gave more bytes than the limit
+-- it gave a byte more than the limit, and was asked for no more
 pub record IsLong (file : File) (fetch : Fetch) (halt : Halt) : Type 0 where
   pub of : IsFetchOf file fetch
   pub sound : fetch.failed ≡ false
-  pub over : limit_of file.kind < length fetch.given
+  pub over : length fetch.given ≡ limit_of file.kind + 1
   pub halt_is : halt ≡ Refused (long_of file.kind)
 
 -- it was read whole, and is refused for its bytes
@@ -43,9 +43,10 @@ pub record IsRefused (g : Option Graph) (file : File) (fetch : Fetch) (halt : Ha
   pub whole : IsWhole file fetch
   pub refuses : Refuses g file.kind fetch.given halt
 
--- memory was wanting
+-- memory was wanting: before it gave more than the limit, or for the line of a file that is too long
 pub record IsWanting (file : File) (fetch : Fetch) (halt : Halt) : Type 0 where
   pub of : IsFetchOf file fetch
+  pub few : (length fetch.given ≤ limit_of file.kind) ⊎ ((length fetch.given ≡ limit_of file.kind + 1) × (fetch.failed ≡ false))
   pub halt_is : halt ≡ Memory
 
 -- a file stops a run
