@@ -1,5 +1,5 @@
 -- What a fetch gave is what the shelf tells, where it does.
-use Rattle.std.proofs.Common.{ℕ, ◌≡◌, ◌<◌, ◌≤◌, ◌∙◌, true, List, [], ◌∷◌, ◌++◌, All, Option, Some, None, IfSome, length, sym, ap, subst, arith, append-nil, inl, inr}
+use Rattle.std.proofs.Common.{ℕ, ◌≡◌, ◌+◌, ◌<◌, ◌≤◌, ◌∙◌, true, List, [], ◌∷◌, ◌++◌, All, Option, Some, None, IfSome, length, sym, ap, subst, arith, append-nil, inl, inr}
 use Rattle.std.proofs.lemmas.List.{append_assoc, append_cancel_right, length-append}
 use Rattle.std.proofs.lemmas.List.Elements.{All-head, All-tail}
 use Rattle.cpg_tale.specs.Fetch.{Fetch, newest_given}
@@ -71,6 +71,10 @@ tells_whole stands file f w agrees = subst (λ name. TellsAs (stands name) f.giv
 
 long_front : (bytes : Text) (f : Fetch) (limit : ℕ) → limit < length f.given → IsFrontOf bytes f → limit < length bytes
 long_front bytes f limit over h = let l = ap (λ (b : Text). length b) h.front in let k = length-append f.given h.rest in omega (arith, over, l, k)
+
+-- a byte more than a limit is more than it
+pub more : (count limit : ℕ) → count ≡ limit + 1 → limit < count
+more count limit is = omega (arith, is)
 
 pub tells_long : (stands : Text → Option Text) (file : File) (f : Fetch) → IsFetchOf file f → limit_of file.kind < length f.given → Agrees stands f → IfSome (stands file.name) (λ bytes. limit_of file.kind < length bytes)
 tells_long stands file f of over agrees =

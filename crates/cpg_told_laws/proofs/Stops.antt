@@ -27,7 +27,7 @@ use Rattle.cpg_inputs.specs.Files.{file, limit_of, long_of}
 use Rattle.cpg_inputs.specs.Reading.{IsWhole, StopsAt, IsLong as IsLongFile, IsUnread as IsUnreadFile}
 use Rattle.cpg_inputs.specs.Says.{AreAdmitted, AreFaulty, AreOfNone, AreSpelled, ArePlayed, AreLogged}
 use Rattle.cpg_told_laws.specs.Causes.{Admits, IsFaulty, IsLong, IsUnread, Says, SaysLog, SaysPlayed, Spells, StopsAdmission, StopsLog, StopsPack, StopsPlayed, StopsReading, seen}
-use Rattle.cpg_told_laws.proofs.Fetched.{IsLast, TellsAs, tells_long, tells_whole, told_says, told_short}
+use Rattle.cpg_told_laws.proofs.Fetched.{IsLast, TellsAs, more, tells_long, tells_whole, told_says, told_short}
 
 -- ---- what files say
 
@@ -59,8 +59,8 @@ module _ (old new : ShelfState) (f : Fetch) (is : IsLast old new f) (name : Text
   long kind halt l = record {
     halt_is = l.halt_is;
     given = (let c = is.count in let o = l.over in omega (arith, c, o));
-    most = (let c = is.count in let o = l.of.few in omega (arith, c, o));
-    long = tells_long old.stands (file kind name) f l.of l.over is.agrees;
+    most = (let c = is.count in let o = l.over in omega (arith, c, o));
+    long = tells_long old.stands (file kind name) f l.of (more (length f.given) (limit_of kind) l.over) is.agrees;
   }
 
   tells : (kind : Kind) → IsWhole (file kind name) f → TellsAs (old.stands name) f.given

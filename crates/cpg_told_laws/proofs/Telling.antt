@@ -18,7 +18,7 @@ use Rattle.cpg_inputs.specs.Files.{File, limit_of}
 use Rattle.cpg_inputs.specs.Says.{Value, played_value, graph_after, Refuses, Says}
 use Rattle.cpg_inputs.specs.Reading.{IsWhole, Reads, StopsReading}
 use Rattle.cpg_inputs.proofs.OneReading.{AllAlike, IsAlike, not_both, not_refused, reads_grown, same_value, says_after, says_alike, stops_grown}
-use Rattle.cpg_told_laws.proofs.Fetched.{agreed, last, tells_long, tells_whole}
+use Rattle.cpg_told_laws.proofs.Fetched.{agreed, last, more, tells_long, tells_whole}
 
 -- bytes say a value, of a scenario without what follows of it
 abbrev pub Tells : Option Graph → Kind → Text → Value → Type 0
@@ -75,7 +75,7 @@ module _ (old new : ShelfState) (k : KeepsShelf old new) where
       elim stops [
         | inl u ↦ absurd (still (l.rose u.failed))
         | inr rest ↦ elim rest [
-          | inl long ↦ absurd (let o = known (old.stands f.name) t.0 (λ b. limit_of f.kind < length b) t.1 (tells_long old.stands f fetch long.of long.over l.agrees) in let s = t.2 in omega (arith, o, s))
+          | inl long ↦ absurd (let o = known (old.stands f.name) t.0 (λ b. limit_of f.kind < length b) t.1 (tells_long old.stands f fetch long.of (more (length fetch.given) (limit_of f.kind) long.over) l.agrees) in let s = t.2 in omega (arith, o, s))
           | inr other ↦ elim other [
             | inl r ↦ tells_no_refusal g f.kind fetch.given v h (subst (λ b. Tells g f.kind b v) (given_is f fetch t.0 t.1 r.whole l.agrees) t.3) r.refuses
             | inr w ↦ w.halt_is
