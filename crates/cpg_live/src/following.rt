@@ -207,6 +207,7 @@ impl Follower {
 
     /// Writes the line of a close.
     fn write_close<O: Sink>(&mut self, time: u64, out: &mut O) -> Result<(), Failed>
+        ensures same { self.new ≡ self.old }
         ensures whole { OnOk result (Appends (O.state out.old).taken (O.state out.new).taken (closed_line time)) }
         ensures part { OnErr result (TookPrefix (O.state out.old).taken (O.state out.new).taken (closed_line time)) }
         ensures cause { HasCause (O.state out.old).faults (O.state out.new).faults result }
@@ -218,7 +219,8 @@ impl Follower {
 
     /// Closes a stream that has no more bytes: writes the line of its close.
     pub fn end<O: Sink>(&mut self, out: &mut O) -> Result<(), Broken>
-        ensures { Closes self.old (O.state out.old).faults (O.state out.new).faults (O.state out.old).taken (O.state out.new).taken result }
+        ensures same { self.new ≡ self.old }
+        ensures closes { Closes self.old (O.state out.old).faults (O.state out.new).faults (O.state out.old).taken (O.state out.new).taken result }
     {
         let time = match self.live.closed() {
             Ok(time) => time,

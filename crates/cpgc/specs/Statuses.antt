@@ -7,7 +7,7 @@ use Rattle.cpg_refusal.specs.declared.halt.Halt.TheVariants.{Memory}
 use Rattle.cpg_app.specs.Endings.{Ran, seen}
 use Rattle.cpg_refusal.specs.Halts.{halt_of_words}
 use Rattle.cpg_refusal.specs.Lines.{line_of, status_of}
-use Rattle.cpg_app.specs.Told.{SinkSeen, Sent, sent}
+use Rattle.cpg_app.specs.Told.{Sent, sent}
 
 -- the program's run of these words: no file was fetched before, and nothing was written
 abbrev pub program_run : List Text → ShelfState → SinkState → SinkState → ℕ → Ran
@@ -19,7 +19,9 @@ program_run words shelf out err status = record {
   status = status;
 }
 
--- the line of the fault, or that of want of memory, was sent so
-pub record IsStatusWithout (fault : WordsFault) (status : ℕ) : Type 0 where
-  pub err : SinkSeen
-  pub sent : Sent err status (status_of (halt_of_words fault)) (line_of (halt_of_words fault)) ⊎ Sent err status (status_of Memory) (line_of Memory)
+-- the program's run without words, which has no text for them: the line of the fault, or that of want of memory, was sent to the
+-- standard error, of which nothing was taken before
+abbrev pub EndsWithout : WordsFault → SinkState → ℕ → Type 0
+EndsWithout fault err status =
+    let seen_of = sent (record { taken = Some []; faults = 0 }) err in
+    Sent seen_of status (status_of (halt_of_words fault)) (line_of (halt_of_words fault)) ⊎ Sent seen_of status (status_of Memory) (line_of Memory)

@@ -9,7 +9,7 @@ ghost use Rattle.cpg_io.specs.Adapters.{shelf_of, sink_of};
 ghost use Rattle.cpg_app.specs.Endings.{seen};
 ghost use Rattle.cpg_app.specs.Lawful.{IsLawful};
 ghost use Rattle.cpg_app.specs.Told.{sent};
-ghost use Rattle.cpgc.specs.Statuses.{program_run, IsStatusWithout};
+ghost use Rattle.cpgc.specs.Statuses.{program_run, EndsWithout};
 
 use cpg_app::{run, run_without_words};
 use cpg_io::{FileShelf, StreamSink};
@@ -89,18 +89,26 @@ fn run_of<'a>(rt: &'a HostRuntime, words: &[String]) -> Ended<'a>
     }
 }
 
-/// The exit status where there are no words.
-fn status_without(rt: &HostRuntime, fault: WordsFault) -> u8
-    ensures { IsStatusWithout fault result }
+/// What a run without words leaves of the standard error, and its exit status.
+#[derive(Drop)]
+struct EndedWithout {
+    err: StreamSink<Stderr>,
+    status: u8,
+}
+
+/// A run that has no words: a line that says why goes to the standard error, to which nothing was written before.
+fn run_without(rt: &HostRuntime, fault: WordsFault) -> EndedWithout
+    ensures { EndsWithout fault (sink_of result.err) result.status }
 {
     let mut err = StreamSink::new(rt.stderr());
-    run_without_words(rt.alloc(), fault, &mut err)
+    let status = run_without_words(rt.alloc(), fault, &mut err);
+    EndedWithout { err, status }
 }
 
 fn status(rt: &HostRuntime) -> u8 {
     match words(rt) {
         Ok(words) => run_of(rt, words.as_slice()).status,
-        Err(fault) => status_without(rt, fault),
+        Err(fault) => run_without(rt, fault).status,
     }
 }
 
