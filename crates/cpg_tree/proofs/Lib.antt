@@ -8,6 +8,7 @@ pub mod Publics
 pub mod Numbers
 pub mod Rooms
 pub mod Tidy
+pub mod TidyPaths
 pub mod Leasts
 pub mod Passing
 pub mod Passes

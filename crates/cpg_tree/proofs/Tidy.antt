@@ -1,4 +1,4 @@
--- Each path of a tree that fits is met by a scenario of at most k faults, and has no literal of a whole range.
+-- Each path of a tree that fits is met by a scenario of at most k faults, and has no literal of a whole range: for paths and columns.
 use Rattle.std.proofs.Common.{ℕ, zero, suc, Option, None, Some, IsPermutation, ◌+◌, ◌-◌, ◌<◌, ◌≤◌, ◌≡◌, ◌≢◌, ◌==◌, true, false, List, [], get_or, sum_by, Contains, arith, ap, ◌∙◌, subst, inl, inr, ◌⊎◌}
 use Rattle.std.specs.Prelude.{nat_le, All}
 use Rattle.std.proofs.lemmas.Bool.{cases_eq, and_from, le-leb, and_parts, false_from_ne_true, eqb-true}
@@ -50,15 +50,15 @@ part_narrowed k l cube there says part x c = elim (cases_eq l.variable x.variabl
     still v n (inr high) = inr (omega (arith, high-other k l cube v n, high))
 
 -- what a path of a tree that fits is
-pub record IsTidyPath (k : ℕ) (cube : List Literal) : Type 0 where
+pub record IsToldPath (k : ℕ) (cube : List Literal) : Type 0 where
   pub room : Space
   pub is : IsRoom k room
   pub told : IsTold k room cube
   pub part : (l : Literal) → Contains cube l → (l.variable < 256) × ((0 < low_in cube l.variable) ⊎ (high_in k cube l.variable < top k l.variable))
 
-pub tidy_paths : {T : Type 0} (k : ℕ) (node : Node T) (room : Space) (cube : List Literal) → IsRoom k room → IsTold k room cube → IsPart k cube → IsFit room node → (x : Path T) → Contains (paths_from k cube node) x → IsTidyPath k x.0
+pub tidy_paths : {T : Type 0} (k : ℕ) (node : Node T) (room : Space) (cube : List Literal) → IsRoom k room → IsTold k room cube → IsPart k cube → IsFit room node → (x : Path T) → Contains (paths_from k cube node) x → IsToldPath k x.0
 tidy_paths {T} k (Leaf y) room cube is told part fit x c = elim (Contains-cases (cube, y) [] x c) [
-  | inl e ↦ subst (λ (z : Path T). IsTidyPath k z.0) e (record { room = room; is = is; told = told; part = part })
+  | inl e ↦ subst (λ (z : Path T). IsToldPath k z.0) e (record { room = room; is = is; told = told; part = part })
   | inr none ↦ absurd (Contains-nil x none)
 ]
 tidy_paths k (Fork' v cut p below upper) room cube is told part fit x c = elim (Contains-append_cases (paths_from k (narrowed_by (up_to v cut) cube) below) (paths_from k (narrowed_by (above k v cut) cube) upper) x c) [
@@ -68,7 +68,7 @@ tidy_paths k (Fork' v cut p below upper) room cube is told part fit x c = elim (
       (part_narrowed k (above k v cut) cube fit.0 (inl (omega (arith, low-same k (above k v cut) cube told.rising))) part) fit.4 x i
 ]
 
-pub tidy_of : {T : Type 0} (k : ℕ) (node : Node T) → IsGood k node → (x : Path T) → Contains (paths_of k node) x → IsTidyPath k x.0
+pub tidy_of : {T : Type 0} (k : ℕ) (node : Node T) → IsGood k node → (x : Path T) → Contains (paths_of k node) x → IsToldPath k x.0
 tidy_of k node good = tidy_paths k node good.0 [] (room_whole k good.0 good.1) (told_whole k good.0 good.1) (λ l c. absurd (Contains-nil l c)) good.2
 
 -- a sum over fewer numbers is no greater
@@ -85,7 +85,7 @@ sum_by_fewer f n m l = subst (λ i. sum_by f (numbers_below n) ≤ sum_by f (num
 
 -- ---- so it has no whole literal, none past the whole range, and some scenario meets it
 
-module _ (k : ℕ) (cube : List Literal) (tidy : IsTidyPath k cube) where
+module _ (k : ℕ) (cube : List Literal) (tidy : IsToldPath k cube) where
   module _ (l : Literal) (c : Contains cube l) where
     range : (low_in cube l.variable ≡ l.low) × (high_in k cube l.variable ≡ l.high)
     range = range_of_literal k cube l tidy.told.rising c
@@ -107,7 +107,7 @@ module _ (k : ℕ) (cube : List Literal) (tidy : IsTidyPath k cube) where
         let less : l.low ≤ l.high = omega (arith, range.0, range.1, tidy.told.low l.variable there, tidy.is.opens l.variable there, tidy.told.high l.variable there) in
         and_from (nat_le l.low l.high) _ (le-leb l.low l.high less) (le-leb l.low (top k l.variable) (omega (arith, less, within)))
 
-module _ (g : Graph) (few : process_count g ≤ 128) (cube : List Literal) (tidy : IsTidyPath g.faults cube) (known : All (λ l. IsVariable g l.variable) cube) where
+module _ (g : Graph) (few : process_count g ≤ 128) (cube : List Literal) (tidy : IsToldPath g.faults cube) (known : All (λ l. IsVariable g l.variable) cube) where
   pub path_cube : IsCube g cube
   path_cube = record { rising = tidy.told.rising; known = known }
 

@@ -1,8 +1,8 @@
 -- What callers see of a tree: its paths, each a cube and a value; and what the operations answer.
-use Rattle.std.specs.Prelude.{ℕ, ◌≡◌, ◌≢◌, ◌≤◌, max, min, Bool, true, List, [], ◌∷◌, All, length, filter, IsTrue, Contains, if◌then◌else◌}
+use Rattle.std.specs.Prelude.{ℕ, ◌≡◌, ◌≢◌, ◌≤◌, max, min, Bool, true, false, List, [], ◌∷◌, All, length, filter, IsTrue, Contains, if◌then◌else◌}
 use Rattle.cpg_base.specs.Scenario.{Scenario, number_of}
 use Rattle.cpg_cube.specs.declared.literal.Literal.{Literal}
-use Rattle.cpg_cube.specs.Cube.{matches, low_in, high_in}
+use Rattle.cpg_cube.specs.Cube.{IsRising, matches, low_in, high_in, is_whole}
 use Rattle.cpg_base.specs.Variable.{top}
 use Rattle.cpg_tree.specs.Space.{HasFew}
 
@@ -27,6 +27,14 @@ pub record IsOn {T : Type 0} (paths : List (Path T)) (s : Scenario) (path : Path
 -- one path for each scenario of at most k faults
 abbrev pub HasOnePathEach : {T : Type 0} → ℕ → List (Path T) → Type 0
 HasOnePathEach k paths = (s : Scenario) → HasFew k s → length (filter (is_on s) paths) ≡ 1
+
+-- a path whose literals' variables rise, of which each literal's range is a part of the whole one and not all of it, and which
+-- some scenario of at most k faults is on
+pub record IsTidyPath {T : Type 0} (k : ℕ) (path : Path T) : Type 0 where
+  pub rising : IsRising path.0
+  pub not_whole : All (λ (l : Literal). is_whole k l ≡ false) path.0
+  pub within : All (λ (l : Literal). l.high ≤ top k l.variable) path.0
+  pub met : (s : Scenario) × HasFew k s × IsTrue (is_on s path)
 
 -- each variable of a path passes a test
 abbrev pub DoPathsPass : {T : Type 0} → (ℕ → Bool) → List (Path T) → Type 0

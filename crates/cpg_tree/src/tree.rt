@@ -1,11 +1,11 @@
 //! Trees of values by scenarios.
-ghost use Rattle.std.specs.Prelude.{◌≡◌, ◌≤◌, ◌<◌, max, ℕ, Bool, List, IfOk, IfSome, length, true};
+ghost use Rattle.std.specs.Prelude.{◌≡◌, ◌≤◌, ◌<◌, max, ℕ, Bool, List, All, IfOk, IfSome, length, true};
 ghost use Rattle.std.specs.Bool.{OnTrue};
 ghost use Rattle.cpg_cube.specs.declared.literal.Literal.{Literal};
 ghost use Rattle.cpg_tree.specs.Decision.{IsGood};
 ghost use Rattle.cpg_tree.specs.Later.{time_later};
 ghost use Rattle.cpg_tree.specs.Paths.{paths_from, paths_of};
-ghost use Rattle.cpg_tree.specs.Tree.{HasOnePathEach, DoPathsPass, IsConstant, IsMap, IsJoin, IsPick, IsValueAt};
+ghost use Rattle.cpg_tree.specs.Tree.{HasOnePathEach, IsTidyPath, DoPathsPass, IsConstant, IsMap, IsJoin, IsPick, IsValueAt};
 
 use crate::node::Node;
 use crate::reading::{AsIs, Later, Reading};
@@ -60,6 +60,7 @@ impl<T: Copy> Tree<T> {
         requires { IsGood faults root }
         ensures is { IfOk result (λ t. t ≡ record { faults = faults; paths = paths_of faults root }) }
         ensures each { IfOk result (λ t. HasOnePathEach t.faults t.paths) }
+        ensures tidy { IfOk result (λ t. All (IsTidyPath t.faults) t.paths) }
     {
         let Some(leaves) = root.count() else {
             return Err(OutOfMemory);
@@ -77,6 +78,7 @@ impl<T: Copy> Tree<T> {
         requires { k ≤ 8 }
         ensures is { IfOk result (IsConstant value k) }
         ensures each { IfOk result (λ t. HasOnePathEach t.faults t.paths) }
+        ensures tidy { IfOk result (λ t. All (IsTidyPath t.faults) t.paths) }
         ensures pass { IfOk result (λ t. (test : ℕ → Bool) → DoPathsPass test t.paths) }
     {
         Tree::of(alloc, k, Node::Leaf(value))
@@ -107,6 +109,7 @@ impl<T: Copy> Tree<T> {
         requires same { self.now.faults ≡ other.now.faults }
         ensures is { IfOk result (IsJoin (F.post f.now) self.now other.now) }
         ensures each { IfOk result (λ t. HasOnePathEach t.faults t.paths) }
+        ensures tidy { IfOk result (λ t. All (IsTidyPath t.faults) t.paths) }
         ensures pass { IfOk result (λ t. (test : ℕ → Bool) → DoPathsPass test self.now.paths → DoPathsPass test other.now.paths → DoPathsPass test t.paths) }
     {
         let mut space = Space::whole(self.faults);
@@ -120,6 +123,7 @@ impl<T: Copy> Tree<T> {
         requires equal { (x y : U) → U.eq x y ≡ true → x ≡ y }
         ensures is { IfOk result (IsMap (F.post f.now) self.now) }
         ensures each { IfOk result (λ t. HasOnePathEach t.faults t.paths) }
+        ensures tidy { IfOk result (λ t. All (IsTidyPath t.faults) t.paths) }
         ensures pass { IfOk result (λ t. (test : ℕ → Bool) → DoPathsPass test self.now.paths → DoPathsPass test t.paths) }
     {
         let root = self.root.map(self.alloc, f)?;
@@ -135,6 +139,7 @@ impl<T: Copy + Eq> Tree<T> {
         requires second { chooser.now.faults ≡ no.now.faults }
         ensures is { IfOk result (IsPick chooser.now yes.now no.now) }
         ensures each { IfOk result (λ t. HasOnePathEach t.faults t.paths) }
+        ensures tidy { IfOk result (λ t. All (IsTidyPath t.faults) t.paths) }
         ensures pass { IfOk result (λ t. (test : ℕ → Bool) → DoPathsPass test chooser.now.paths → DoPathsPass test yes.now.paths →
             DoPathsPass test no.now.paths → DoPathsPass test t.paths) }
     {
@@ -168,6 +173,7 @@ impl Tree<u64> {
         requires same { self.now.faults ≡ other.now.faults }
         ensures is { IfOk result (IsJoin (λ x y z. z ≡ max x (R.number read.now y)) self.now other.now) }
         ensures each { IfOk result (λ t. HasOnePathEach t.faults t.paths) }
+        ensures tidy { IfOk result (λ t. All (IsTidyPath t.faults) t.paths) }
         ensures pass { IfOk result (λ t. (test : ℕ → Bool) → DoPathsPass test self.now.paths → DoPathsPass test other.now.paths → DoPathsPass test t.paths) }
     {
         let mut space = Space::whole(self.faults);
@@ -182,6 +188,7 @@ impl Tree<u64> {
         requires same { self.now.faults ≡ other.now.faults }
         ensures is { IfOk result (IsJoin (λ x y z. z ≡ max x y) self.now other.now) }
         ensures each { IfOk result (λ t. HasOnePathEach t.faults t.paths) }
+        ensures tidy { IfOk result (λ t. All (IsTidyPath t.faults) t.paths) }
         ensures pass { IfOk result (λ t. (test : ℕ → Bool) → DoPathsPass test self.now.paths → DoPathsPass test other.now.paths → DoPathsPass test t.paths) }
     {
         self.greater(other, &AsIs)
@@ -192,6 +199,7 @@ impl Tree<u64> {
         requires same { self.now.faults ≡ other.now.faults }
         ensures is { IfOk result (IsJoin (λ x y z. z ≡ max x (time_later delay y)) self.now other.now) }
         ensures each { IfOk result (λ t. HasOnePathEach t.faults t.paths) }
+        ensures tidy { IfOk result (λ t. All (IsTidyPath t.faults) t.paths) }
         ensures pass { IfOk result (λ t. (test : ℕ → Bool) → DoPathsPass test self.now.paths → DoPathsPass test other.now.paths → DoPathsPass test t.paths) }
     {
         self.greater(other, &Later { delay })

@@ -1,9 +1,9 @@
 //! Trees of the numbers of variables.
-ghost use Rattle.std.specs.Prelude.{◌≡◌, ◌≤◌, ◌<◌, ◌+◌, ℕ, Bool, true, IfOk};
+ghost use Rattle.std.specs.Prelude.{◌≡◌, ◌≤◌, ◌<◌, ◌+◌, ℕ, Bool, true, All, IfOk};
 ghost use Rattle.cpg_base.specs.Scenario.{number_of_value};
 ghost use Rattle.cpg_tree.specs.Decision.{DoForksPass, IsFit};
 ghost use Rattle.cpg_tree.specs.Space.{Space, IsWhole};
-ghost use Rattle.cpg_tree.specs.Tree.{HasOnePathEach, DoPathsPass, IsNumber};
+ghost use Rattle.cpg_tree.specs.Tree.{HasOnePathEach, IsTidyPath, DoPathsPass, IsNumber};
 ghost use Rattle.cpg_tree.specs.Variables.{AreCountsFrom, LeavesCounts, IsValueNode};
 
 use crate::Tree;
@@ -49,6 +49,7 @@ pub fn fault(alloc: Global, process: u32, k: u8) -> Result<Tree<u8>, OutOfMemory
     requires k { k ≤ 8 }
     ensures is { IfOk result (IsNumber process k (λ n. n)) }
     ensures each { IfOk result (λ t. HasOnePathEach t.faults t.paths) }
+    ensures tidy { IfOk result (λ t. All (IsTidyPath t.faults) t.paths) }
     ensures pass { IfOk result (λ t. (test : ℕ → Bool) → test process ≡ true → DoPathsPass test t.paths) }
 {
     let root = counts_from(alloc, process as u8, 0, k)?;
@@ -61,6 +62,7 @@ pub fn value(alloc: Global, condition: u32, k: u8) -> Result<Tree<bool>, OutOfMe
     requires k { k ≤ 8 }
     ensures is { IfOk result (IsNumber (128 + condition) k number_of_value) }
     ensures each { IfOk result (λ t. HasOnePathEach t.faults t.paths) }
+    ensures tidy { IfOk result (λ t. All (IsTidyPath t.faults) t.paths) }
     ensures pass { IfOk result (λ t. (test : ℕ → Bool) → test (128 + condition) ≡ true → DoPathsPass test t.paths) }
 {
     let root = value_node(alloc, condition as u8)?;
