@@ -51,7 +51,7 @@ fn processes(alloc: Global, ranks: &[Rank]) -> Result<Vec<u32>, OutOfMemory>
 }
 
 /// The processes by falling length of their ways, then by number.
-fn ranked(alloc: Global, tails: &[u64]) -> Result<Vec<u32>, OutOfMemory>
+pub fn ranked(alloc: Global, tails: &[u64]) -> Result<Vec<u32>, OutOfMemory>
     requires { length tails.now ≤ 128 }
     ensures { IfOk result (λ order. AreRanked tails.now order.items) }
 {

@@ -10,7 +10,8 @@ use Rattle.cpg_base.proofs.Lists.{filter_below_push, same_filter, same_truth, nu
 use Rattle.cpg_order.specs.Deciding.{outcomes, decides, conditions_of}
 use Rattle.cpg_order.specs.Reach.{is_in, source_value}
 use Rattle.cpg_order.proofs.Along.{is_in_from, from_is_in}
-use Rattle.cpg_reach.specs.Variables.{Adds, HasSame}
+use Rattle.cpg_order.specs.Elements.{SameElements}
+use Rattle.cpg_reach.specs.Variables.{Adds}
 use Rattle.cpg_reach.specs.Tested.{AreDecidingValues}
 
 or_assoc : (a b c : Bool) → ((a || b) || c) ≡ (a || (b || c))
@@ -36,14 +37,14 @@ adds_nothing a v = or_none (is_in a v)
 pub adds_two : (a xs b ys c : List ℕ) → Adds a xs b → Adds b ys c → Adds a (xs ++ ys) c
 adds_two a xs b ys c h k v = k v ∙ ap (λ t. t || is_in ys v) (h v) ∙ or_assoc (is_in a v) (is_in xs v) (is_in ys v) ∙ ap (λ t. is_in a v || t) (sym (in_append xs ys v))
 
-pub adds_same : (a xs ys b : List ℕ) → HasSame xs ys → Adds a xs b → Adds a ys b
+pub adds_same : (a xs ys b : List ℕ) → SameElements xs ys → Adds a xs b → Adds a ys b
 adds_same a xs ys b s h v = h v ∙ ap (λ t. is_in a v || t) (s v)
 
 -- what was there before goes first, or last
-pub same_after : (a b xs c : List ℕ) → HasSame a b → Adds a xs c → HasSame c (b ++ xs)
+pub same_after : (a b xs c : List ℕ) → SameElements a b → Adds a xs c → SameElements c (b ++ xs)
 same_after a b xs c s h v = h v ∙ ap (λ t. t || is_in xs v) (s v) ∙ sym (in_append b xs v)
 
-pub same_before : (a b xs c : List ℕ) → HasSame a b → Adds a xs c → HasSame c (xs ++ b)
+pub same_before : (a b xs c : List ℕ) → SameElements a b → Adds a xs c → SameElements c (xs ++ b)
 same_before a b xs c s h v = h v ∙ ap (λ t. t || is_in xs v) (s v) ∙ or_commutes (is_in b v) (is_in xs v) ∙ sym (in_append xs b v)
 
 -- ---- a loop over the numbers that pass a test

@@ -13,20 +13,21 @@ use Rattle.cpg_order.specs.Reach.{Reach, is_in, reach_of}
 use Rattle.cpg_order.proofs.Along.{is_in_from, from_is_in}
 use Rattle.cpg_base.proofs.Places.{same_place, Contains-order}
 use Rattle.cpg_order.proofs.Moments.{phase, phases, moment, producer_in_range, phase_below, sooner}
-use Rattle.cpg_reach.specs.Variables.{Adds, HasSame}
+use Rattle.cpg_order.specs.Elements.{SameElements}
+use Rattle.cpg_reach.specs.Variables.{Adds}
 use Rattle.cpg_reach.specs.Walked.{sent_before, AgreesUntil}
 use Rattle.cpg_reach.proofs.Adding.{in_append}
 
 -- ---- lists with the same in them
 
-pub same_append : (xs ys zs ws : List ℕ) → HasSame xs zs → HasSame ys ws → HasSame (xs ++ ys) (zs ++ ws)
+pub same_append : (xs ys zs ws : List ℕ) → SameElements xs zs → SameElements ys ws → SameElements (xs ++ ys) (zs ++ ws)
 same_append xs ys zs ws h k v = in_append xs ys v ∙ ap₂ ◌||◌ (h v) (k v) ∙ sym (in_append zs ws v)
 
-pub same_flat_map : (f h : ℕ → List ℕ) (xs : List ℕ) → ((x : ℕ) → Contains xs x → HasSame (f x) (h x)) → HasSame (flat_map f xs) (flat_map h xs)
+pub same_flat_map : (f h : ℕ → List ℕ) (xs : List ℕ) → ((x : ℕ) → Contains xs x → SameElements (f x) (h x)) → SameElements (flat_map f xs) (flat_map h xs)
 same_flat_map f h [] e = λ v. refl
 same_flat_map f h (x ∷ xs) e = same_append (f x) (flat_map f xs) (h x) (flat_map h xs) (e x (Contains-first x xs)) (same_flat_map f h xs (λ y k. e y (Contains-rest x xs y k)))
 
-pub same_cond : (b : Bool) (xs ys zs ws : List ℕ) → (b ≡ true → HasSame xs zs) → (b ≡ false → HasSame ys ws) → HasSame (cond b xs ys) (cond b zs ws)
+pub same_cond : (b : Bool) (xs ys zs ws : List ℕ) → (b ≡ true → SameElements xs zs) → (b ≡ false → SameElements ys ws) → SameElements (cond b xs ys) (cond b zs ws)
 same_cond true xs ys zs ws h k = h refl
 same_cond false xs ys zs ws h k = k refl
 
@@ -146,7 +147,7 @@ module _ (g : Graph) (order : List ℕ) (top : IsTopological g order) where
         (λ (s : is_in (sent_reach m node) v ≡ false). in_sent (m + 1) node x v (sent_by (m + 1) node x l e h (omega arith)) (sym (ap (λ b. b || is_in (reach_of r x) v) s) ∙ t))
         (cases_Bool (is_in (sent_reach m node) v)))
 
-    other_node : (x m node : ℕ) → x < item_count g → moment g order x ≡ m → (home g x ≡ node → ⊥) → HasSame (sent_reach (m + 1) node) (sent_reach m node)
+    other_node : (x m node : ℕ) → x < item_count g → moment g order x ≡ m → (home g x ≡ node → ⊥) → SameElements (sent_reach (m + 1) node) (sent_reach m node)
     other_node x m node l is h v = same_truth (is_in (sent_reach (m + 1) node) v) (is_in (sent_reach m node) v)
         (λ t. let a = from_sent (m + 1) node v t in let b = sent_parts (m + 1) node a.0 a.1 in ⊎_elim
         (λ (k : moment g order a.0 < m). in_sent m node a.0 v (sent_by m node a.0 b.0 b.1 b.2 k) a.2)
@@ -168,8 +169,8 @@ module _ (g : Graph) (order : List ℕ) (top : IsTopological g order) where
         sends = λ node l v. agrees.sends node l v ∙ ap (λ ys. is_in (flat_map (reach_of r) ys) v) (sym (sent_kept m node (λ y i e d. none y i d)));
       }
 
-      module _ (x : ℕ) (within : x < item_count g) (at : moment g order x ≡ m) (reach : List ℕ) (right : HasSame reach (reach_of r x)) where
-        reached_next : (y : ℕ) → y < item_count g → moment g order y < m + 1 → HasSame (reach_of (set rs x reach) y) (reach_of r y)
+      module _ (x : ℕ) (within : x < item_count g) (at : moment g order x ≡ m) (reach : List ℕ) (right : SameElements reach (reach_of r x)) where
+        reached_next : (y : ℕ) → y < item_count g → moment g order y < m + 1 → SameElements (reach_of (set rs x reach) y) (reach_of r y)
         reached_next y l h v = ⊎_elim
             (λ (e : y ≡ x). ap (λ z. is_in (reach_of (set rs x reach) z) v) e ∙ ap (λ zs. is_in zs v) (get_or-set_same rs x reach [] (let i = agrees.items in omega arith)) ∙ right v ∙ ap (λ z. is_in (reach_of r z) v) (sym e))
             (λ (e : y ≡ x → ⊥). ap (λ zs. is_in zs v) (get_or-set_other rs x y reach [] e) ∙ agrees.reached y l (before_it e) v)

@@ -6,7 +6,8 @@ use Rattle.cpg_base.specs.Graph.{Graph, process_count, process_at, node_of, inpu
 use Rattle.cpg_base.specs.declared.process.Process.{Process}
 use Rattle.cpg_order.specs.Deciding.{conditions_of}
 use Rattle.cpg_order.specs.Reach.{Reach, is_in, input_reach}
-use Rattle.cpg_reach.specs.Variables.{Adds, HasSame}
+use Rattle.cpg_order.specs.Elements.{SameElements}
+use Rattle.cpg_reach.specs.Variables.{Adds}
 use Rattle.cpg_reach.specs.Walked.{heard_by, start_by}
 use Rattle.cpg_reach.proofs.Adding.{same_after}
 
@@ -17,10 +18,10 @@ module _ (g : Graph) (r : Reach) (known : List (List ℕ)) (p : ℕ) where
   abbrev by_test : Bool → List ℕ
   by_test b = cond b (map value_variable (conditions_of g p)) (get_or known (node_of g p) [] ++ heard_by g r (node_of g p) (conditions_of g p) ++ flat_map (input_reach g r) (inputs g p))
 
-  pub start_frozen : (xs : List ℕ) → (process_at g p).frozen ≡ true → HasSame xs (map value_variable (conditions_of g p)) → HasSame xs (start_by g r known p)
+  pub start_frozen : (xs : List ℕ) → (process_at g p).frozen ≡ true → SameElements xs (map value_variable (conditions_of g p)) → SameElements xs (start_by g r known p)
   start_frozen xs e h v = h v ∙ ap (λ b. is_in (by_test b) v) (sym e)
 
-  pub start_plain : (a b c : List ℕ) (node : ℕ) → (process_at g p).frozen ≡ false → node ≡ node_of g p → a ≡ get_or known node [] → Adds a (heard_by g r node (conditions_of g p)) b → Adds b (flat_map (input_reach g r) (inputs g p)) c → HasSame c (start_by g r known p)
+  pub start_plain : (a b c : List ℕ) (node : ℕ) → (process_at g p).frozen ≡ false → node ≡ node_of g p → a ≡ get_or known node [] → Adds a (heard_by g r node (conditions_of g p)) b → Adds b (flat_map (input_reach g r) (inputs g p)) c → SameElements c (start_by g r known p)
   start_plain a b c node e n is heard ins v =
       same_after b (get_or known node [] ++ heard_by g r node (conditions_of g p)) (flat_map (input_reach g r) (inputs g p)) c
       (same_after a (get_or known node []) (heard_by g r node (conditions_of g p)) b (λ u. ap (λ xs. is_in xs u) is) heard) ins v

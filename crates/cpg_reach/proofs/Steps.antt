@@ -23,7 +23,8 @@ use Rattle.cpg_order.proofs.Moments.{phase, phases, moment, message_sooner, broa
 use Rattle.cpg_order.proofs.Acyclic.{input_goes_up, source_in_order}
 use Rattle.cpg_order.proofs.DecidingLaws.{decides_earlier}
 use Rattle.cpg_order.proofs.ReachExists.{some_reach}
-use Rattle.cpg_reach.specs.Variables.{Adds, HasSame}
+use Rattle.cpg_order.specs.Elements.{SameElements}
+use Rattle.cpg_reach.specs.Variables.{Adds}
 use Rattle.cpg_reach.specs.Walked.{heard_by, start_by, send_by, known_after, on_node, sent_before, AgreesUntil, AreEmpty}
 use Rattle.cpg_reach.proofs.Adding.{in_append}
 use Rattle.cpg_reach.proofs.Settling.{same_append, same_flat_map, same_cond, same_moment, sent_kept, nothing_at_end}
@@ -54,16 +55,16 @@ module _ (g : Graph) (order : List ℕ) (top : IsTopological g order) (r : Reach
       (l, decides_earlier g order top o.0 p c l o.2)
 
   module _ (k m : ℕ) (rs known sent : List (List ℕ)) (agrees : AgreesUntil g order r k m rs known sent) where
-    end_right : (q : ℕ) → q < process_count g → place order q * phases g + 0 < m → HasSame (end_reach rs q) (end_reach r q)
+    end_right : (q : ℕ) → q < process_count g → place order q * phases g + 0 < m → SameElements (end_reach rs q) (end_reach r q)
     end_right q l h = same_append (reach_of rs q) (q ∷ []) (reach_of r q) (q ∷ []) (agrees.reached q (omega arith) (let e = moment_of_start g order top q l in omega arith)) (λ v. refl)
 
-    hearing_right : (p c node : ℕ) → place order p * phases g ≤ m → c < condition_count g → place order (process_of g c) < place order p → HasSame (hearing_reach g rs node c) (hearing_reach g r node c)
+    hearing_right : (p c node : ℕ) → place order p * phases g ≤ m → c < condition_count g → place order (process_of g c) < place order p → SameElements (hearing_reach g rs node c) (hearing_reach g r node c)
     hearing_right p c node d n l = let b = end_sooner g order top p (process_of g c) l in
         same_cond (node_of g (process_of g c) == node) (end_reach rs (process_of g c)) (reach_of rs (broadcast_item g c)) (end_reach r (process_of g c)) (reach_of r (broadcast_item g c))
         (λ t. end_right (process_of g c) (process_of_below g c n) (omega arith))
         (λ t. agrees.reached (broadcast_item g c) (omega arith) (omega (arith, broadcast_sooner g order top p c l)))
 
-    input_right : (p e : ℕ) → place order p * phases g ≤ m → Contains (inputs g p) e → HasSame (input_reach g rs e) (input_reach g r e)
+    input_right : (p e : ℕ) → place order p * phases g ≤ m → Contains (inputs g p) e → SameElements (input_reach g rs e) (input_reach g r e)
     input_right p e d i =
         let l : e < edge_count g = (inputs_parts g p e i).0 in
         let up = input_goes_up g order top p e i in
@@ -92,12 +93,12 @@ module _ (g : Graph) (order : List ℕ) (top : IsTopological g order) (r : Reach
     abbrev ends_earlier : List ℕ
     ends_earlier = flat_map (end_reach r) earlier
 
-    heard_right : HasSame (heard_own rs) (heard_own r)
+    heard_right : SameElements (heard_own rs) (heard_own r)
     heard_right = same_flat_map (λ c. value_variable c ∷ hearing_reach g rs (node_of g p) c) (λ c. value_variable c ∷ hearing_reach g r (node_of g p) c) (conditions_of g p)
         (λ c i. let b = decides_before p c i in same_append (value_variable c ∷ []) (hearing_reach g rs (node_of g p) c) (value_variable c ∷ []) (hearing_reach g r (node_of g p) c) (λ v. refl)
         (hearing_right (place order p) (place order p * phases g) rs known sent agrees p c (node_of g p) (omega arith) b.0 b.1))
 
-    ins_right : HasSame (ins rs) (ins r)
+    ins_right : SameElements (ins rs) (ins r)
     ins_right = same_flat_map (input_reach g rs) (input_reach g r) (inputs g p) (λ e i. input_right (place order p) (place order p * phases g) rs known sent agrees p e (omega arith) i)
 
     -- what the processes up to this one let hear
@@ -105,7 +106,7 @@ module _ (g : Graph) (order : List ℕ) (top : IsTopological g order) (r : Reach
     heard_up_to = ap (heard_by g r (node_of g p)) (flat_map-append (conditions_of g) earlier (p ∷ []) ∙ ap (λ cs. flat_map (conditions_of g) earlier ++ cs) (append-nil (conditions_of g p)))
         ∙ flat_map-append (λ c. value_variable c ∷ hearing_reach g r (node_of g p) c) (flat_map (conditions_of g) earlier) (conditions_of g p)
 
-    plain_right : HasSame (get_or known (node_of g p) [] ++ heard_own rs ++ ins rs) (heard_by g r (node_of g p) (flat_map (conditions_of g) (earlier ++ p ∷ [])) ++ ends_earlier ++ ins r)
+    plain_right : SameElements (get_or known (node_of g p) [] ++ heard_own rs ++ ins rs) (heard_by g r (node_of g p) (flat_map (conditions_of g) (earlier ++ p ∷ [])) ++ ends_earlier ++ ins r)
     plain_right v =
         in_append (get_or known (node_of g p) [] ++ heard_own rs) (ins rs) v
         ∙ ap₂ ◌||◌ (in_append (get_or known (node_of g p) []) (heard_own rs) v ∙ ap₂ ◌||◌ (agrees.knows (node_of g p) there v ∙ in_append heard_earlier ends_earlier v) (heard_right v)) (ins_right v)
@@ -114,10 +115,10 @@ module _ (g : Graph) (order : List ℕ) (top : IsTopological g order) (r : Reach
         ∙ sym (in_append (heard_by g r (node_of g p) (flat_map (conditions_of g) (earlier ++ p ∷ []))) ends_earlier v))
         ∙ sym (in_append (heard_by g r (node_of g p) (flat_map (conditions_of g) (earlier ++ p ∷ [])) ++ ends_earlier) (ins r) v)
 
-    start_is : HasSame (start_reach g order r p) (reach_of r p)
+    start_is : SameElements (start_reach g order r p) (reach_of r p)
     start_is v = sym (is.each p v (omega arith) ∙ ap (λ i. is_in (reach_by_item g order r p i) v) (item_at-start g p within))
 
-    pub start_right : (reach : List ℕ) → HasSame reach (start_by g rs known p) → HasSame reach (reach_of r p)
+    pub start_right : (reach : List ℕ) → SameElements reach (start_by g rs known p) → SameElements reach (reach_of r p)
     start_right reach h v = h v
         ∙ same_cond (process_at g p).frozen (map value_variable (conditions_of g p)) (get_or known (node_of g p) [] ++ heard_own rs ++ ins rs) (map value_variable (conditions_of g p))
         (heard_by g r (node_of g p) (flat_map (conditions_of g) (earlier ++ p ∷ [])) ++ ends_earlier ++ ins r) (λ t u. refl) (λ t. plain_right) v
@@ -129,18 +130,18 @@ module _ (g : Graph) (order : List ℕ) (top : IsTopological g order) (r : Reach
         ap (filter (λ q. node_of g q == node)) (take_more order (place order p) p (place-lt order p c) ∙ ap (λ q. take (place order p) order ++ q ∷ []) (get_or-place order p p c))
         ∙ filter-append (λ q. node_of g q == node) (take (place order p) order) (p ∷ [])
 
-    module _ (reach a b d : List ℕ) (right : HasSame reach (reach_of r p)) (heard : Adds (get_or known (node_of g p) []) (heard_own rs) a) (started : Adds a reach b) (ended : Adds b (p ∷ []) d) where
+    module _ (reach a b d : List ℕ) (right : SameElements reach (reach_of r p)) (heard : Adds (get_or known (node_of g p) []) (heard_own rs) a) (started : Adds a reach b) (ended : Adds b (p ∷ []) d) where
       known_after_here : known_after g r (node_of g p) (earlier ++ p ∷ []) ≡ (heard_earlier ++ heard_own r) ++ (ends_earlier ++ end_reach r p)
       known_after_here = ap₂ ◌++◌ heard_up_to (flat_map-append (end_reach r) earlier (p ∷ []) ∙ ap (λ xs. ends_earlier ++ xs) (append-nil (end_reach r p)))
 
-      here : HasSame d (known_after g r (node_of g p) (earlier ++ p ∷ []))
+      here : SameElements d (known_after g r (node_of g p) (earlier ++ p ∷ []))
       here v = ended v ∙ ap (λ t. t || is_in (p ∷ []) v) (started v ∙ ap₂ ◌||◌ (heard v ∙ ap₂ ◌||◌ (agrees.knows (node_of g p) there v ∙ in_append heard_earlier ends_earlier v) (heard_right v)) (right v))
           ∙ known_parts (is_in heard_earlier v) (is_in ends_earlier v) (is_in (heard_own r) v) (is_in (reach_of r p) v) (is_in (p ∷ []) v)
           ∙ ap₂ ◌||◌ (sym (in_append heard_earlier (heard_own r) v)) (ap (λ t. is_in ends_earlier v || t) (sym (in_append (reach_of r p) (p ∷ []) v)) ∙ sym (in_append ends_earlier (end_reach r p) v))
           ∙ sym (in_append (heard_earlier ++ heard_own r) (ends_earlier ++ end_reach r p) v)
           ∙ ap (λ xs. is_in xs v) (sym known_after_here)
 
-      knows_next : (node : ℕ) → node < length g.nodes → HasSame (get_or (set known (node_of g p) d) node []) (known_after g r node (on_node g order (place order p + 1) node))
+      knows_next : (node : ℕ) → node < length g.nodes → SameElements (get_or (set known (node_of g p) d) node []) (known_after g r node (on_node g order (place order p + 1) node))
       knows_next node l v = elim (eqb_tells (node_of g p) node) [
         | inl same ↦ ap (λ n. is_in (get_or (set known (node_of g p) d) n []) v) (sym same.1)
             ∙ ap (λ zs. is_in zs v) (get_or-set_same known (node_of g p) d [] (let i = agrees.known_nodes in omega arith))
@@ -152,7 +153,7 @@ module _ (g : Graph) (order : List ℕ) (top : IsTopological g order) (r : Reach
             ∙ ap (λ qs. is_in (known_after g r node qs) v) (sym (append-nil (on_node g order (place order p) node)) ∙ ap (λ t. on_node g order (place order p) node ++ cond t (p ∷ []) []) (sym other.0) ∙ sym (on_node_next node))
       ]
 
-      reached_start : (y : ℕ) → y < item_count g → moment g order y < place order p * phases g + 2 → HasSame (reach_of (set rs p reach) y) (reach_of r y)
+      reached_start : (y : ℕ) → y < item_count g → moment g order y < place order p * phases g + 2 → SameElements (reach_of (set rs p reach) y) (reach_of r y)
       reached_start y l h v = ⊎_elim
           (λ (e : y ≡ p). ap (λ z. is_in (reach_of (set rs p reach) z) v) e ∙ ap (λ zs. is_in zs v) (get_or-set_same rs p reach [] (let i = agrees.items in omega arith)) ∙ right v ∙ ap (λ z. is_in (reach_of r z) v) (sym e))
           (λ (e : y ≡ p → ⊥). ap (λ zs. is_in zs v) (get_or-set_other rs p y reach [] e) ∙ agrees.reached y l (sooner_than e) v)
@@ -211,7 +212,7 @@ module _ (g : Graph) (order : List ℕ) (top : IsTopological g order) (r : Reach
     abbrev values : List ℕ
     values = map value_variable (conditions_of g (producer g x))
 
-    sent_right : is_sent g x ≡ true → HasSame ((cond (is_frozen g x) values (end_reach rs (producer g x) ++ get_or sent (home g x) [])) ++ sent_value g (item_at g x)) (send_reach g order r x)
+    sent_right : is_sent g x ≡ true → SameElements ((cond (is_frozen g x) values (end_reach rs (producer g x) ++ get_or sent (home g x) [])) ++ sent_value g (item_at g x)) (send_reach g order r x)
     sent_right t = same_append (cond (is_frozen g x) values (end_reach rs (producer g x) ++ get_or sent (home g x) [])) (sent_value g (item_at g x))
         (cond (is_frozen g x) values (end_reach r (producer g x) ++ flat_map (reach_of r) (queued_before g order x))) (sent_value g (item_at g x))
         (same_cond (is_frozen g x) values (end_reach rs (producer g x) ++ get_or sent (home g x) []) values (end_reach r (producer g x) ++ flat_map (reach_of r) (queued_before g order x)) (λ e v. refl)
@@ -224,13 +225,13 @@ module _ (g : Graph) (order : List ℕ) (top : IsTopological g order) (r : Reach
     abbrev if_sent : Item → List ℕ
     if_sent i = cond (is_sent_item g i) (send_reach g order r x) []
 
-    any_right : HasSame (send_by g rs sent (item_at g x)) (if_sent (item_at g x))
+    any_right : SameElements (send_by g rs sent (item_at g x)) (if_sent (item_at g x))
     any_right = same_cond (is_sent g x) ((cond (is_frozen g x) values (end_reach rs (producer g x) ++ get_or sent (home g x) [])) ++ sent_value g (item_at g x)) [] (send_reach g order r x) [] sent_right (λ e v. refl)
 
     module _ (i : Item) (at : item_at g x ≡ i) (rule : reach_by_item g order r x i ≡ if_sent i) where
-      pub send_right : (reach : List ℕ) → HasSame reach (send_by g rs sent i) → HasSame reach (reach_of r x)
+      pub send_right : (reach : List ℕ) → SameElements reach (send_by g rs sent i) → SameElements reach (reach_of r x)
       send_right reach h v = h v
-          ∙ subst (λ j. HasSame (send_by g rs sent j) (if_sent j)) at any_right v
+          ∙ subst (λ j. SameElements (send_by g rs sent j) (if_sent j)) at any_right v
           ∙ ap (λ xs. is_in xs v) (sym rule)
           ∙ sym (is.each x v within ∙ ap (λ j. is_in (reach_by_item g order r x j) v) at)
 

@@ -18,7 +18,8 @@ use Rattle.cpg_order.proofs.Outcomes.{Contains-outcomes, length_of_outcome}
 use Rattle.cpg_order.proofs.GuardLaw.{way_is_deciding}
 use Rattle.cpg_rules.specs.Guards.{Guards, tree_of}
 use Rattle.cpg_rules.specs.Admission.{IsAdmitted}
-use Rattle.cpg_reach.specs.Variables.{HasSame, Adds}
+use Rattle.cpg_order.specs.Elements.{SameElements}
+use Rattle.cpg_reach.specs.Variables.{Adds}
 use Rattle.cpg_rules.specs.Trees.{TestsBelow}
 use Rattle.cpg_reach.specs.Tested.{tested, tested_values, AreDecidingUntil}
 
@@ -105,7 +106,7 @@ module _ (g : Graph) (order : List ℕ) where
         let r = Contains-map_parts value_variable xs v (from_is_in (map value_variable xs) v e) in
         is_in_from (map value_variable ys) v (subst (Contains (map value_variable ys)) r.2 (Contains-map value_variable ys r.0 (h r.0 r.1)))
 
-    pub tests_are_deciding : HasSame (tested_values t) (map value_variable (conditions_of g p))
+    pub tests_are_deciding : SameElements (tested_values t) (map value_variable (conditions_of g p))
     tests_are_deciding v = same_truth _ _ (values_moved (tested t) (conditions_of g p) v from_tested) (values_moved (conditions_of g p) (tested t) v to_tested)
 
 -- ---- one process after another
@@ -117,7 +118,7 @@ tests_below n m (Test c off on) l h = (omega (arith, h.0), tests_below n m off l
 pub deciding_first : (g : Graph) → AreDecidingUntil g 0 []
 deciding_first g = record { count = refl; each = λ p l. absurd (omega arith) }
 
-pub deciding_next : (g : Graph) (n : ℕ) (values : List (List ℕ)) (more : List ℕ) → HasSame more (map value_variable (conditions_of g n)) → AreDecidingUntil g n values → AreDecidingUntil g (n + 1) (values ++ more ∷ [])
+pub deciding_next : (g : Graph) (n : ℕ) (values : List (List ℕ)) (more : List ℕ) → SameElements more (map value_variable (conditions_of g n)) → AreDecidingUntil g n values → AreDecidingUntil g (n + 1) (values ++ more ∷ [])
 deciding_next g n values more same h = let c = h.count in record {
   count = let e = length-append values (more ∷ []) in omega arith;
   each = λ p l v. ⊎_elim
@@ -133,5 +134,5 @@ module _ (g : Graph) (order : List ℕ) (guards : Guards) (admitted : IsAdmitted
   pub tests_fit : (t : Guard) → TestsBelow guards.conditions t → TestsBelow 32 t
   tests_fit t h = let a = admitted.guards.conditions in let b = admitted.limits.few_conditions in tests_below guards.conditions 32 t (omega arith) h
 
-  pub tree_decides : (p : ℕ) → p < process_count g → (t : Guard) → t ≡ tree_of guards p → (found : List ℕ) → Adds [] (tested_values t) found → HasSame found (map value_variable (conditions_of g p))
+  pub tree_decides : (p : ℕ) → p < process_count g → (t : Guard) → t ≡ tree_of guards p → (found : List ℕ) → Adds [] (tested_values t) found → SameElements found (map value_variable (conditions_of g p))
   tree_decides p l t is found adds v = adds v ∙ ap (λ u. is_in (tested_values u) v) is ∙ tests_are_deciding g order admitted.urgency p (tree_of guards p) (admitted.guards.trees p l) v

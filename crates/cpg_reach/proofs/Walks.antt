@@ -11,7 +11,8 @@ use Rattle.cpg_order.specs.Reach.{Reach, IsReach, send_reach, reach_by_item}
 use Rattle.cpg_base.proofs.ConditionProcesses.{condition_of_process_of, process_of_condition_of, condition_of_below}
 use Rattle.cpg_order.proofs.Moments.{phases, moment, moment_of_item, moment_before_last}
 use Rattle.cpg_base.proofs.Standing.{place_at}
-use Rattle.cpg_reach.specs.Variables.{Adds, HasSame}
+use Rattle.cpg_order.specs.Elements.{SameElements}
+use Rattle.cpg_reach.specs.Variables.{Adds}
 use Rattle.cpg_reach.specs.Walked.{heard_by, start_by, send_by, AgreesUntil, AreEmpty, AreReaches}
 use Rattle.cpg_reach.proofs.Settling.{skipped, settled, broadcast_at, message_at}
 use Rattle.cpg_reach.proofs.Steps.{start_right, started_next, send_right, unsent_empty, walk_begins, walked_some}
@@ -26,11 +27,11 @@ agrees_as g order r k m n rs us known knows sent sents e a b c h =
 
 module _ (g : Graph) (order : List ℕ) (top : IsTopological g order) where
   pub start_settled : (p : ℕ) → p < process_count g → (rs first second known starts sent : List (List ℕ)) → first ≡ rs → second ≡ rs → starts ≡ known → Agrees g order (place order p) (place order p * phases g) rs known sent
-      → (node : ℕ) → node ≡ node_of g p → node < length g.nodes → (reach a b c d : List ℕ) → HasSame reach (start_by g first starts p) → a ≡ get_or known node [] → Adds a (heard_by g second node (conditions_of g p)) b → Adds b reach c → Adds c (p ∷ []) d
+      → (node : ℕ) → node ≡ node_of g p → node < length g.nodes → (reach a b c d : List ℕ) → SameElements reach (start_by g first starts p) → a ≡ get_or known node [] → Adds a (heard_by g second node (conditions_of g p)) b → Adds b reach c → Adds c (p ∷ []) d
       → Agrees g order (place order p + 1) (place order p * phases g + 2) (set rs p reach) (set known node d) sent
   start_settled p within rs first second known starts sent same again knows walked node at there reach a b c d right was heard started ended r is =
       let n : node_of g p < length g.nodes = subst (λ x. x < length g.nodes) at there in
-      let right_by : HasSame reach (start_by g rs known p) = subst (λ us. HasSame reach (start_by g us known p)) same (subst (λ us. HasSame reach (start_by g first us p)) knows right) in
+      let right_by : SameElements reach (start_by g rs known p) = subst (λ us. SameElements reach (start_by g us known p)) same (subst (λ us. SameElements reach (start_by g first us p)) knows right) in
       let heard_here : Adds (get_or known (node_of g p) []) (heard_by g rs (node_of g p) (conditions_of g p)) b =
       subst (λ x. Adds (get_or known x []) (heard_by g rs x (conditions_of g p)) b) at (subst (λ us. Adds (get_or known node []) (heard_by g us node (conditions_of g p)) b) again (subst (λ xs. Adds xs (heard_by g second node (conditions_of g p)) b) was heard)) in
       let reach_is = start_right g order top r is p within rs known sent (walked r is) n reach right_by in
@@ -40,10 +41,10 @@ module _ (g : Graph) (order : List ℕ) (top : IsTopological g order) where
   -- an item that may be sent
   pub send_settled : (k m x : ℕ) (rs first known sent sends us knows sents : List (List ℕ)) → first ≡ rs → sends ≡ sent → Agrees g order k m rs known sent → x < item_count g → (i : Item) → item_at g x ≡ i → moment g order x ≡ m
       → ((r : Reach) → reach_by_item g order r x i ≡ cond (is_sent_item g i) (send_reach g order r x) []) → (node : ℕ) → node ≡ home g x → node < length g.nodes
-      → (reach b : List ℕ) → HasSame reach (send_by g first sends i) → us ≡ set rs x reach → knows ≡ known → sents ≡ set sent node b → Adds (get_or sent node []) reach b → Agrees g order k (m + 1) us knows sents
+      → (reach b : List ℕ) → SameElements reach (send_by g first sends i) → us ≡ set rs x reach → knows ≡ known → sents ≡ set sent node b → Adds (get_or sent node []) reach b → Agrees g order k (m + 1) us knows sents
   send_settled k m x rs first known sent sends us knows sents same again walked within i at when rule node here there reach b right us_is knows_is sents_is adds r is =
       let n : home g x < length g.nodes = subst (λ y. y < length g.nodes) here there in
-      let right_by : HasSame reach (send_by g rs sent i) = subst (λ vs. HasSame reach (send_by g vs sent i)) same (subst (λ vs. HasSame reach (send_by g first vs i)) again right) in
+      let right_by : SameElements reach (send_by g rs sent i) = subst (λ vs. SameElements reach (send_by g vs sent i)) same (subst (λ vs. SameElements reach (send_by g first vs i)) again right) in
       let now : AgreesUntil g order r k (moment g order x) rs known sent = subst (λ y. AgreesUntil g order r k y rs known sent) (sym when) (walked r is) in
       let reach_is = send_right g order top r is k x within rs known sent now n i at (rule r) reach right_by in
       agrees_as g order r k (m + 1) (m + 1) (set rs x reach) us known knows (set sent (home g x) b) sents refl (sym us_is) (sym knows_is) (ap (λ y. set sent y b) (sym here) ∙ sym sents_is)
@@ -52,7 +53,7 @@ module _ (g : Graph) (order : List ℕ) (top : IsTopological g order) where
 
   pub broadcast_settled : (p c : ℕ) (rs first known sent sends us knows sents : List (List ℕ)) → first ≡ rs → sends ≡ sent → condition_of g p ≡ Some c → Agrees g order (place order p + 1) (place order p * phases g + 2) rs known sent
       → (node : ℕ) → node ≡ node_of g p → node < length g.nodes
-      → (reach b : List ℕ) → HasSame reach (send_by g first sends (Broadcast c)) → us ≡ set rs (broadcast_item g c) reach → knows ≡ known → sents ≡ set sent node b → Adds (get_or sent node []) reach b
+      → (reach b : List ℕ) → SameElements reach (send_by g first sends (Broadcast c)) → us ≡ set rs (broadcast_item g c) reach → knows ≡ known → sents ≡ set sent node b → Adds (get_or sent node []) reach b
       → Agrees g order (place order p + 1) (place order p * phases g + 3) us knows sents
   broadcast_settled p c rs first known sent sends us knows sents same again own walked node here there reach b right us_is knows_is sents_is adds r is =
       let q = process_of_condition_of g p c own in
@@ -72,7 +73,7 @@ module _ (g : Graph) (order : List ℕ) (top : IsTopological g order) where
 
   pub message_settled : (p e : ℕ) (rs first known sent sends us knows sents : List (List ℕ)) → first ≡ rs → sends ≡ sent → e < edge_count g → source g e ≡ p → Agrees g order (place order p + 1) (place order p * phases g + 3 + e) rs known sent
       → (node : ℕ) → node ≡ node_of g p → node < length g.nodes
-      → (reach b : List ℕ) → HasSame reach (send_by g first sends (Message e)) → us ≡ set rs (message_item g e) reach → knows ≡ known → sents ≡ set sent node b → Adds (get_or sent node []) reach b
+      → (reach b : List ℕ) → SameElements reach (send_by g first sends (Message e)) → us ≡ set rs (message_item g e) reach → knows ≡ known → sents ≡ set sent node b → Adds (get_or sent node []) reach b
       → Agrees g order (place order p + 1) (place order p * phases g + 3 + (e + 1)) us knows sents
   message_settled p e rs first known sent sends us knows sents same again l q walked node here there reach b right us_is knows_is sents_is adds r is =
       agrees_as g order r (place order p + 1) (place order p * phases g + 3 + e + 1) (place order p * phases g + 3 + (e + 1)) us us knows knows sents sents (omega arith) refl refl refl

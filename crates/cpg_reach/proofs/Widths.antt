@@ -15,12 +15,12 @@ use Rattle.cpg_order.proofs.TrackLists.{tracks_exist, count_of_tracks}
 use Rattle.cpg_order.proofs.TrackViews.{views_fit}
 use Rattle.cpg_rules.specs.Guards.{Guards}
 use Rattle.cpg_rules.specs.Admission.{IsAdmitted}
-use Rattle.cpg_reach.specs.Variables.{HasSame}
+use Rattle.cpg_order.specs.Elements.{SameElements}
 use Rattle.cpg_reach.specs.Walked.{AreReaches}
 use Rattle.cpg_reach.specs.Wide.{HasViews, IsLeastWide, IsNarrow, is_wide_by, HasLoads}
 use Rattle.cpg_reach.proofs.Adding.{set_at}
 
-pub same_views : (g : Graph) (xs ys : List ℕ) → HasSame xs ys → views g xs ≡ views g ys
+pub same_views : (g : Graph) (xs ys : List ℕ) → SameElements xs ys → views g xs ≡ views g ys
 same_views g xs ys h =
     let a = views_grow g xs ys (λ v t. sym (h v) ∙ t) in
     let b = views_grow g ys xs (λ v t. h v ∙ t) in

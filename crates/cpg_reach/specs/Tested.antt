@@ -3,7 +3,7 @@ use Rattle.std.specs.Prelude.{ℕ, ◌≡◌, ◌<◌, List, [], ◌∷◌, ◌+
 use Rattle.cpg_base.specs.Graph.{Graph, process_count, value_variable}
 use Rattle.cpg_order.specs.Deciding.{conditions_of}
 use Rattle.cpg_order.specs.Guard.{Guard, Leaf, Test}
-use Rattle.cpg_reach.specs.Variables.{HasSame}
+use Rattle.cpg_order.specs.Elements.{SameElements}
 
 -- all conditions that a tree tests
 abbrev pub tested : Guard → List ℕ
@@ -17,7 +17,7 @@ tested_values t = map value_variable (tested t)
 -- for each of the first processes the values of the conditions that decide it in some scenario
 pub record AreDecidingUntil (g : Graph) (n : ℕ) (values : List (List ℕ)) : Type 0 where
   pub count : length values ≡ n
-  pub each : (p : ℕ) → p < n → HasSame (get_or values p []) (map value_variable (conditions_of g p))
+  pub each : (p : ℕ) → p < n → SameElements (get_or values p []) (map value_variable (conditions_of g p))
 
 -- for each process
 abbrev pub AreDecidingValues : Graph → List (List ℕ) → Type 0

@@ -7,10 +7,6 @@ use Rattle.cpg_order.specs.Reach.{is_in}
 abbrev pub members : List Bool → List ℕ
 members marks = filter (λ v. get_or marks v false) (numbers_below (length marks))
 
--- two lists have the same in them
-abbrev pub HasSame : List ℕ → List ℕ → Type 0
-HasSame xs ys = (v : ℕ) → is_in xs v ≡ is_in ys v
-
 -- afterwards there is what was there before, and more, and nothing else
 abbrev pub Adds : (before more after : List ℕ) → Type 0
 Adds before more after = (v : ℕ) → is_in after v ≡ (is_in before v || is_in more v)

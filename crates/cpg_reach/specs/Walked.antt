@@ -8,7 +8,7 @@ use Rattle.cpg_order.specs.Deciding.{conditions_of}
 use Rattle.cpg_order.specs.Reach.{Reach, IsReach, reach_of, end_reach, hearing_reach, input_reach, sent_value}
 use Rattle.cpg_order.proofs.Moments.{moment}
 use Rattle.cpg_reach.specs.declared.reaches.Walk.{Walk}
-use Rattle.cpg_reach.specs.Variables.{HasSame}
+use Rattle.cpg_order.specs.Elements.{SameElements}
 
 -- what hearing these conditions on a node depends on, and their values
 abbrev pub heard_by : Graph → Reach → ℕ → List ℕ → List ℕ
@@ -44,9 +44,9 @@ pub record AgreesUntil (g : Graph) (order : List ℕ) (r : Reach) (k m : ℕ) (r
   pub items : length reaches ≡ item_count g
   pub known_nodes : length known ≡ length g.nodes
   pub sent_nodes : length sent ≡ length g.nodes
-  pub reached : (x : ℕ) → x < item_count g → moment g order x < m → HasSame (reach_of reaches x) (reach_of r x)
-  pub knows : (node : ℕ) → node < length g.nodes → HasSame (get_or known node []) (known_after g r node (on_node g order k node))
-  pub sends : (node : ℕ) → node < length g.nodes → HasSame (get_or sent node []) (flat_map (reach_of r) (sent_before g order m node))
+  pub reached : (x : ℕ) → x < item_count g → moment g order x < m → SameElements (reach_of reaches x) (reach_of r x)
+  pub knows : (node : ℕ) → node < length g.nodes → SameElements (get_or known node []) (known_after g r node (on_node g order k node))
+  pub sends : (node : ℕ) → node < length g.nodes → SameElements (get_or sent node []) (flat_map (reach_of r) (sent_before g order m node))
 
 -- a walk has come so far
 abbrev pub IsWalkedTo : Graph → List ℕ → ℕ → ℕ → Walk → Type 0
@@ -55,9 +55,9 @@ IsWalkedTo g order k m w = (r : Reach) → IsReach g order r → AgreesUntil g o
 -- these are the reaches of all items
 pub record AreReaches (g : Graph) (order : List ℕ) (reaches : Reach) : Type 0 where
   pub count : length reaches ≡ item_count g
-  pub each : (r : Reach) → IsReach g order r → (x : ℕ) → x < item_count g → HasSame (reach_of reaches x) (reach_of r x)
+  pub each : (r : Reach) → IsReach g order r → (x : ℕ) → x < item_count g → SameElements (reach_of reaches x) (reach_of r x)
 
 -- as many sets, and nothing in any
 pub record AreEmpty (n : ℕ) (sets : List (List ℕ)) : Type 0 where
   pub count : length sets ≡ n
-  pub each : (i : ℕ) → HasSame (get_or sets i []) []
+  pub each : (i : ℕ) → SameElements (get_or sets i []) []

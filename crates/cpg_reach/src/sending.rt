@@ -3,7 +3,7 @@ ghost use Rattle.std.specs.Prelude.{◌≡◌, ◌<◌, ◌++◌, [], length, ge
 ghost use Rattle.cpg_base.specs.Graph.{edge_count, condition_count, item_count};
 ghost use Rattle.cpg_base.specs.declared.item.Item.TheVariants.{Message, Broadcast};
 ghost use Rattle.cpg_order.specs.Reach.{end_reach};
-ghost use Rattle.cpg_reach.specs.Variables.{HasSame};
+ghost use Rattle.cpg_order.specs.Elements.{SameElements};
 ghost use Rattle.cpg_reach.specs.Tested.{AreDecidingValues};
 ghost use Rattle.cpg_reach.specs.Walked.{send_by};
 
@@ -24,7 +24,7 @@ pub fn message_of(
     requires deciding { AreDecidingValues problem.now deciding.now }
     requires items { length reaches.now ≡ item_count problem.now }
     requires nodes { length sent.now ≡ length problem.now.nodes }
-    ensures { HasSame result (send_by problem.now reaches.now sent.now (Message edge)) }
+    ensures { SameElements result (send_by problem.now reaches.now sent.now (Message edge)) }
 {
     let ends = problem.edges()[edge as usize];
     let node = problem.node_of(ends.from);
@@ -45,7 +45,7 @@ fn after_end(reaches: &[Variables], sent: &[Variables], process: u32, node: u32)
     requires process { process < length reaches.now }
     requires variable { process < 128 }
     requires node { node < length sent.now }
-    ensures { HasSame result (end_reach reaches.now process ++ get_or sent.now node []) }
+    ensures { SameElements result (end_reach reaches.now process ++ get_or sent.now node []) }
 {
     let mut reach = sent[node as usize].copy();
     add_end(reaches, process, &mut reach);
@@ -63,7 +63,7 @@ pub fn broadcast_of(
     requires condition { condition < condition_count problem.now }
     requires items { length reaches.now ≡ item_count problem.now }
     requires nodes { length sent.now ≡ length problem.now.nodes }
-    ensures { HasSame result (send_by problem.now reaches.now sent.now (Broadcast condition)) }
+    ensures { SameElements result (send_by problem.now reaches.now sent.now (Broadcast condition)) }
 {
     if problem.nodes().len() <= 1 {
         return Variables::none();

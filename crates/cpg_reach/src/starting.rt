@@ -4,7 +4,8 @@ ghost use Rattle.std.specs.List.{flat_map};
 ghost use Rattle.cpg_base.specs.Graph.{process_count, edge_count, condition_count, item_count, node_of, inputs};
 ghost use Rattle.cpg_order.specs.Deciding.{conditions_of};
 ghost use Rattle.cpg_order.specs.Reach.{end_reach, hearing_reach, input_reach, source_value};
-ghost use Rattle.cpg_reach.specs.Variables.{Adds, HasSame};
+ghost use Rattle.cpg_order.specs.Elements.{SameElements};
+ghost use Rattle.cpg_reach.specs.Variables.{Adds};
 ghost use Rattle.cpg_reach.specs.Tested.{AreDecidingValues};
 ghost use Rattle.cpg_reach.specs.Walked.{heard_by, start_by};
 
@@ -118,7 +119,7 @@ pub fn start_of(
     requires deciding { AreDecidingValues problem.now deciding.now }
     requires items { length reaches.now ≡ item_count problem.now }
     requires nodes { length known.now ≡ length problem.now.nodes }
-    ensures { HasSame result (start_by problem.now reaches.now known.now process) }
+    ensures { SameElements result (start_by problem.now reaches.now known.now process) }
 {
     if problem.processes()[process as usize].frozen {
         return deciding[process as usize].copy();

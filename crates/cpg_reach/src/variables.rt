@@ -1,7 +1,8 @@
 //! Sets of variables.
 ghost use Rattle.std.specs.Prelude.{◌≡◌, ◌<◌, ◌≤◌, ◌∷◌, [], ◌||◌, ℕ, false, length, get_or};
 ghost use Rattle.cpg_order.specs.Reach.{is_in};
-ghost use Rattle.cpg_reach.specs.Variables.{Adds, HasSame};
+ghost use Rattle.cpg_order.specs.Elements.{SameElements};
+ghost use Rattle.cpg_reach.specs.Variables.{Adds};
 
 use cpg_base::{MOST_CONDITIONS, MOST_PROCESSES};
 use std::marker::Model;

@@ -1,5 +1,6 @@
 pub mod Rules
 pub mod Admission
+pub mod Admitted
 pub mod Faults
 pub mod Trees
 pub mod TreeCode

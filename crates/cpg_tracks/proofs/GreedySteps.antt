@@ -22,7 +22,7 @@ use Rattle.cpg_tracks.specs.Placing.{has_start, free_at, would_start, IsFed, IsS
 use Rattle.cpg_tracks.specs.Track.{Track, IsTrackOf, AreBy}
 use Rattle.cpg_tracks.specs.declared.timing.Timing.{Timing}
 use Rattle.cpg_tracks.specs.declared.schedule.Candidate.{Candidate}
-use Rattle.cpg_tracks.specs.Timing.{outcome_of, IsTiming, IsOpen, AreFree, IsCandidate, IsBestOf, ComesFirst, IsBetterOf}
+use Rattle.cpg_tracks.specs.Timing.{outcome_of, IsTiming, IsOnTheWay, AreFree, IsCandidate, IsBestOf, ComesFirst, IsBetterOf}
 use Rattle.cpg_tracks.proofs.GreedyUnique.{live_source}
 use Rattle.cpg_tracks.proofs.Placing.{free_cases, free_here, free_elsewhere, place_next}
 use Rattle.cpg_tracks.proofs.GreedyExists.{unplaced_count, fewer, none_left, at_first, nothing_there, none_placed, place_none, sooner_chain, greedy_from_placing}
@@ -312,7 +312,7 @@ pub placed_first : (g : Graph) (o : List Bool) → HavePlaced g o (replicate (pr
 placed_first g o = record { placing = place_none g o; left = left_first g o; free = free_first g o; early = early_first g o (1000000000 + 0 * 616000000000) }
 
 module _ (g : Graph) (within : IsWithinLimits g) (w : WellFormed g) (o : List Bool) (starts : List (Option ℕ)) (free : List ℕ) (n : ℕ) (h : HavePlaced g o starts free n) where
-  pub placed_open : n < process_count g → IsOpen g starts
+  pub placed_open : n < process_count g → IsOnTheWay g starts
   placed_open l = record { count = h.placing.count; early = λ p. omega (arith, h.early p, within.few_processes) }
 
   pub placed_early : n ≤ process_count g → AreBy (2 ^ 60) starts

@@ -23,13 +23,13 @@ pub record IsTiming (g : Graph) (t : Timing) : Type 0 where
   pub limits : IsWithinLimits g
   pub well_formed : WellFormed g
   pub track : IsTrackOf g t.track.now
-  pub links : t.links ≡ links_of g
+  pub links : t.links.now ≡ links_of g
   pub live : t.live.items ≡ map (live g (outcome_of t)) (numbers_below (edge_count g))
   pub durations : t.durations.items ≡ map (λ p. duration g p g.faults) (numbers_below (process_count g))
   pub round : t.round ≡ round g
 
 -- a schedule on the way: a start or none for each process, early enough to go on
-pub record IsOpen (g : Graph) (starts : List (Option ℕ)) : Type 0 where
+pub record IsOnTheWay (g : Graph) (starts : List (Option ℕ)) : Type 0 where
   pub count : length starts ≡ process_count g
   pub early : AreBy (2 ^ 60) starts
 

@@ -4,8 +4,6 @@ use Rattle.cpg_base.specs.Numbers.{numbers_below}
 use Rattle.cpg_base.specs.Graph.{Graph, process_count, condition_count}
 use Rattle.cpg_base.specs.Scenario.{Scenario}
 use Rattle.cpg_base.specs.Activity.{active}
-use Rattle.cpg_rules.specs.Guards.{Guards}
-use Rattle.cpg_rules.specs.Admission.{IsAdmitted}
 use Rattle.cpg_tracks.specs.Tracks.{start_in, most_scheduled_tracks}
 use Rattle.cpg_order.specs.Track.{AreTracks}
 
@@ -36,7 +34,3 @@ outcomes_of scenarios = map (λ s. s.values) scenarios
 -- a scenario has a value for each condition
 abbrev pub HasValues : Graph → Scenario → Type 0
 HasValues g s = length s.values ≡ condition_count g
-
--- the guards of an admitted graph
-abbrev pub AreAdmitted : Graph → Guards → Type 0
-AreAdmitted g guards = (order : List ℕ) × IsAdmitted g order guards

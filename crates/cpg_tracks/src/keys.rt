@@ -45,17 +45,18 @@ fn key_of(problem: &Problem, links: &Links, schedules: &[Starts], keys: &[u64], 
 pub fn keys(
     alloc: Global,
     problem: &Problem,
+    links: &Links,
     order: &Order,
     schedules: &[Starts],
 ) -> Result<Vec<u64>, OutOfMemory>
+    requires links { links.now ≡ links_of problem.now }
     requires order { IsTopological problem.now order.now }
     requires early { All (AreBy (2 ^ 60)) schedules.now }
     ensures { IfOk result (λ keys. AreKeys problem.now schedules.now keys.items) }
 {
-    let links = Links::of(alloc, problem)?;
     let mut keys = vec![in alloc; 0u64; problem.processes().len()]?;
     for process in order.processes() {
-        let key = key_of(problem, &links, schedules, keys.as_slice(), *process);
+        let key = key_of(problem, links, schedules, keys.as_slice(), *process);
         keys[*process as usize] = key;
     }
     Ok(keys)

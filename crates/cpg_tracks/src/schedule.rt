@@ -1,17 +1,19 @@
 //! The greedy schedule of a track.
-ghost use Rattle.std.specs.Prelude.{◌≡◌, ◌<◌, ◌≤◌, ◌^◌, ◌⊎◌, IfOk, IfSome, IfNone, None, true, length, get_or, option_map};
+ghost use Rattle.std.specs.Prelude.{◌≡◌, ◌<◌, ◌≤◌, ◌^◌, ◌⊎◌, All, IfOk, IfSome, IfNone, None, true, length, get_or, map, option_map};
 ghost use Rattle.cpg_base.specs.Graph.{process_count, edge_count, source};
 ghost use Rattle.cpg_base.specs.Activity.{active};
+ghost use Rattle.cpg_order.specs.Links.{links_of};
 ghost use Rattle.cpg_order.specs.Urgency.{IsUrgencyOrder};
 ghost use Rattle.cpg_rules.specs.Admission.{IsAdmitted};
-ghost use Rattle.cpg_tracks.specs.Tracks.{IsGreedy, input_ready, ready_at};
+ghost use Rattle.cpg_tracks.specs.Tracks.{AreSchedules, IsGreedy, input_ready, ready_at};
 ghost use Rattle.cpg_tracks.specs.Placing.{IsFed, IsNext, IsDone, would_start};
 ghost use Rattle.cpg_tracks.specs.Track.{IsTrackOf, AreBy};
-ghost use Rattle.cpg_tracks.specs.Timing.{IsTiming, IsOpen, AreFree, IsCandidate, ComesFirst, IsBetterOf, outcome_of};
+ghost use Rattle.cpg_tracks.specs.Timing.{IsTiming, IsOnTheWay, AreFree, IsCandidate, ComesFirst, IsBetterOf, outcome_of};
 
 use crate::Track;
 use crate::timing::Timing;
 use cpg_base::{Order, OutOfMemory, Problem};
+use cpg_order::Links;
 use cpg_rules::{Admitted, GuardTrees};
 use std::alloc::Global;
 use std::marker::Model;
@@ -57,7 +59,7 @@ fn input_time(
     edge: u32,
 ) -> Option<u64>
     requires timing { IsTiming problem.now timing.now }
-    requires starts { IsOpen problem.now starts.now }
+    requires starts { IsOnTheWay problem.now starts.now }
     requires edge { edge < edge_count problem.now }
     ensures { result ≡ option_map (λ _. input_ready problem.now starts.now edge) (get_or starts.now (source problem.now edge) None) }
 {
@@ -80,7 +82,7 @@ fn ready_time(
     process: u32,
 ) -> Option<u64>
     requires timing { IsTiming problem.now timing.now }
-    requires starts { IsOpen problem.now starts.now }
+    requires starts { IsOnTheWay problem.now starts.now }
     requires process { process < process_count problem.now }
     requires active { active problem.now (outcome_of timing.now) process ≡ true }
     ensures none { IfNone result (IsFed problem.now (outcome_of timing.now) starts.now process → ⊥) }
@@ -111,7 +113,7 @@ fn candidate_of(
     process: u32,
 ) -> Option<Candidate>
     requires timing { IsTiming problem.now timing.now }
-    requires starts { IsOpen problem.now starts.now }
+    requires starts { IsOnTheWay problem.now starts.now }
     requires free { AreFree problem.now starts.now free.now }
     requires process { process < process_count problem.now }
     requires active { active problem.now (outcome_of timing.now) process ≡ true }
@@ -170,7 +172,7 @@ fn next(
 ) -> Option<Candidate>
     requires order { IsUrgencyOrder problem.now order.now }
     requires timing { IsTiming problem.now timing.now }
-    requires starts { IsOpen problem.now starts.now }
+    requires starts { IsOnTheWay problem.now starts.now }
     requires free { AreFree problem.now starts.now free.now }
     ensures none { IfNone result (IsDone problem.now (outcome_of timing.now) starts.now) }
     ensures next { IfSome result (λ c. IsNext problem.now (outcome_of timing.now) starts.now c.process) }
@@ -190,14 +192,16 @@ fn place_all(
     problem: &Problem,
     guards: &GuardTrees,
     order: &Order,
+    links: &Links,
     track: &Track,
 ) -> Result<Vec<Option<u64>>, OutOfMemory>
     requires admitted { IsAdmitted problem.now order.now guards.now }
+    requires links { links.now ≡ links_of problem.now }
     requires track { IsTrackOf problem.now track.now }
     ensures greedy { IfOk result (λ starts. IsGreedy problem.now track.now.outcome starts.items) }
     ensures early { IfOk result (λ starts. AreBy (2 ^ 60) starts.items) }
 {
-    let timing = Timing::of(alloc, problem, guards, track)?;
+    let timing = Timing::of(alloc, problem, guards, links, track)?;
     let count = problem.processes().len();
     let mut starts: Vec<Option<u64>> = vec![in alloc; None; count]?;
     let mut free = vec![in alloc; 0u64; problem.nodes().len()]?;
@@ -212,10 +216,15 @@ fn place_all(
     Ok(starts)
 }
 
-/// The greedy schedule of a track: an execution is as long as with all the faults and a message takes a round, no node
-/// idles while a process on it is ready, and no ready process is passed over by one that is less urgent.
-pub fn greedy(alloc: Global, admitted: &Admitted, track: &Track) -> Result<Starts, OutOfMemory>
-    requires { IsTrackOf admitted.now.graph track.now }
+/// The greedy schedule of a track of a graph with these links.
+fn greedy_by(
+    alloc: Global,
+    admitted: &Admitted,
+    links: &Links,
+    track: &Track,
+) -> Result<Starts, OutOfMemory>
+    requires links { links.now ≡ links_of admitted.now.graph }
+    requires track { IsTrackOf admitted.now.graph track.now }
     ensures greedy { IfOk result (λ starts. IsGreedy admitted.now.graph track.now.outcome starts) }
     ensures early { IfOk result (AreBy (2 ^ 60)) }
 {
@@ -224,7 +233,40 @@ pub fn greedy(alloc: Global, admitted: &Admitted, track: &Track) -> Result<Start
         admitted.problem(),
         admitted.guards(),
         admitted.order(),
+        links,
         track,
     )?;
     Ok(Starts { starts })
+}
+
+/// The greedy schedule of a track: an execution is as long as with all the faults and a message takes a round, no node
+/// idles while a process on it is ready, and no ready process is passed over by one that is less urgent.
+pub fn greedy(alloc: Global, admitted: &Admitted, track: &Track) -> Result<Starts, OutOfMemory>
+    requires { IsTrackOf admitted.now.graph track.now }
+    ensures greedy { IfOk result (λ starts. IsGreedy admitted.now.graph track.now.outcome starts) }
+    ensures early { IfOk result (AreBy (2 ^ 60)) }
+{
+    let links = Links::of(alloc, admitted.problem())?;
+    let starts = greedy_by(alloc, admitted, &links, track)?;
+    Ok(starts)
+}
+
+/// The schedule of each track of a graph with these links.
+pub(crate) fn schedules(
+    alloc: Global,
+    admitted: &Admitted,
+    links: &Links,
+    tracks: &[Track],
+) -> Result<Vec<Starts>, OutOfMemory>
+    requires links { links.now ≡ links_of admitted.now.graph }
+    requires tracks { All (IsTrackOf admitted.now.graph) tracks.now }
+    ensures greedy { IfOk result (λ schedules. AreSchedules admitted.now.graph (map (λ t. t.outcome) tracks.now) schedules.items) }
+    ensures early { IfOk result (λ schedules. All (AreBy (2 ^ 60)) schedules.items) }
+{
+    let mut schedules = Vec::new(alloc);
+    schedules.reserve(tracks.len())?;
+    for track in tracks {
+        schedules.push(greedy_by(alloc, admitted, links, track)?)?;
+    }
+    Ok(schedules)
 }

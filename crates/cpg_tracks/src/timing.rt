@@ -4,7 +4,9 @@ ghost use Rattle.cpg_base.specs.Numbers.{numbers_below};
 ghost use Rattle.cpg_base.specs.Graph.{process_count, edge_count};
 ghost use Rattle.cpg_base.specs.Activity.{live};
 ghost use Rattle.cpg_base.specs.Duration.{duration};
-ghost use Rattle.cpg_tracks.specs.Track.{HasValues, IsTrackOf, AreAdmitted};
+ghost use Rattle.cpg_order.specs.Links.{links_of};
+ghost use Rattle.cpg_rules.specs.Admitted.{AreAdmitted};
+ghost use Rattle.cpg_tracks.specs.Track.{HasValues, IsTrackOf};
 ghost use Rattle.cpg_tracks.specs.Timing.{IsTiming};
 
 use crate::Track;
@@ -19,7 +21,7 @@ pub(crate) struct Timing<'a> {
     /// The track.
     pub(crate) track: &'a Track,
     /// The edges of each process.
-    pub(crate) links: Links,
+    pub(crate) links: &'a Links,
     /// By edge, whether it is live.
     pub(crate) live: Vec<bool>,
     /// By process, how long an execution with all the faults takes, in time units.
@@ -68,9 +70,11 @@ impl<'a> Timing<'a> {
         alloc: Global,
         problem: &Problem,
         guards: &GuardTrees,
+        links: &'a Links,
         track: &'a Track,
     ) -> Result<Timing<'a>, OutOfMemory>
         requires admitted { AreAdmitted problem.now guards.now }
+        requires links { links.now ≡ links_of problem.now }
         requires track { IsTrackOf problem.now track.now }
         ensures timing { IfOk result (IsTiming problem.now) }
         ensures track { IfOk result (λ timing. timing.track.now ≡ track.now) }
@@ -78,7 +82,7 @@ impl<'a> Timing<'a> {
         let scenario = track.scenario();
         Ok(Timing {
             track,
-            links: Links::of(alloc, problem)?,
+            links,
             live: live_edges(alloc, problem, guards, scenario)?,
             durations: durations(alloc, problem)?,
             round: problem.round(),

@@ -8,7 +8,8 @@ ghost use Rattle.cpg_rules.specs.Admission.{IsAdmitted};
 ghost use Rattle.cpg_tracks.specs.Tracks.{HasManyTracks, most_scheduled_tracks};
 ghost use Rattle.cpg_order.specs.Track.{AreTracks};
 ghost use Rattle.cpg_tracks.specs.Walks.{both_ways_at};
-ghost use Rattle.cpg_tracks.specs.Track.{IsTrackOf, AreAllTracks, outcomes_of, HasValues, AreAdmitted};
+ghost use Rattle.cpg_rules.specs.Admitted.{AreAdmitted};
+ghost use Rattle.cpg_tracks.specs.Track.{IsTrackOf, AreAllTracks, outcomes_of, HasValues};
 
 use cpg_base::{Order, OutOfMemory, Problem, Scenario};
 use cpg_rules::{Admitted, GuardTrees};

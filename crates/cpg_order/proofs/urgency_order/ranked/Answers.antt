@@ -1,6 +1,6 @@
 use Rattle.std.proofs.Common.{◌∙◌, sym, ap, subst, map, IsPermutation, arith}
 use Rattle.cpg_order.specs.Ranking.{AreRanked}
-use Rattle.cpg_order.proofs.Ranked.{in_order, ranked_from_sorted}
+use Rattle.cpg_order.proofs.RankOrders.{in_order, ranked_from_sorted}
 use Rattle.cpg_order.proofs.urgency_order.ranked.Goals as goal
 
 pub returns : goal.returns

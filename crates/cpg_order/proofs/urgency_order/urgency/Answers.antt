@@ -5,7 +5,7 @@ use Rattle.cpg_order.specs.Urgency.{tail, IsTopological, IsUrgencyOrder}
 use Rattle.cpg_order.specs.Ranking.{AreRanked}
 use Rattle.cpg_order.proofs.UrgencyIsTopological.{work_within, urgency_goes_forward}
 use Rattle.cpg_order.proofs.Cycles.{no_cycle}
-use Rattle.cpg_order.proofs.Ranked.{urgency_from_ranks}
+use Rattle.cpg_order.proofs.RankOrders.{urgency_from_ranks}
 use Rattle.cpg_base.proofs.Standing.{order_of_all}
 use Rattle.cpg_order.proofs.urgency_order.urgency.Goals as goal
 

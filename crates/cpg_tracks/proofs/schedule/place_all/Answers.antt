@@ -2,8 +2,8 @@ use Rattle.std.proofs.Common.{◌≡◌, ◌≤◌, ◌∙◌, None, replicate, 
 use Rattle.cpg_base.specs.Graph.{process_count}
 use Rattle.cpg_base.proofs.Bounds.{duration-le}
 use Rattle.cpg_tracks.specs.Placing.{IsDone, IsNext, would_start}
-use Rattle.cpg_tracks.specs.Timing.{IsOpen}
-use Rattle.cpg_tracks.proofs.GreedySteps.{HavePlaced, placed_first, placed_open, placed_early, placed_late, placed_more, placed_whole, placed_greedy, duration_at}
+use Rattle.cpg_tracks.specs.Timing.{IsOnTheWay}
+use Rattle.cpg_tracks.proofs.GreedySteps.{HavePlaced, placed_first, placed_open, placed_early, placed_late, placed_more, placed_whole, placed_greedy, duration_at, durations_long}
 use Rattle.cpg_tracks.proofs.schedule.place_all.Goals as goal
 
 pub loop-placed-init : goal.loop-placed-init
@@ -20,7 +20,7 @@ pub next-requires-clause-starts : goal.next-requires-clause-starts
 next-requires-clause-starts c =
     let g = c.args.problem.now in
     let a = c.requires.admitted in
-    subst (IsOpen g) (sym c.as_slice.ensures.value)
+    subst (IsOnTheWay g) (sym c.as_slice.ensures.value)
     (placed_open g a.limits a.well_formed c.args.track.now.outcome c.loop-placed.starts.items c.loop-placed.free.items c.loop-placed._placed c.loop-placed.invariant (omega (arith, ap length c.processes-count.ensures.processes, c.loop-placed-test.true)))
 
 pub returns-in_default-clause-greedy : goal.returns-in_default-clause-greedy
@@ -30,6 +30,12 @@ returns-in_default-clause-greedy c =
     let o = ap (λ t. t.outcome) c.in_ok-timing.ensures.track in
     placed_greedy g a.limits a.well_formed c.args.track.now.outcome c.loop-placed.starts.items c.loop-placed.free.items c.loop-placed._placed c.loop-placed.invariant c.args.order.now a.topological
     (subst (λ x. IsDone g x c.loop-placed.starts.items) o (rw c.as_slice.ensures.value at c.in_default.ensures.none))
+
+pub index-requires : goal.index-requires
+index-requires c =
+    let o = ap (λ t. t.outcome) c.in_ok-timing.ensures.track in
+    let next = subst (λ x. IsNext c.args.problem.now x c.loop-placed.starts.items c.in-Some.chosen.process) o (rw c.as_slice.ensures.value at c.in-Some.ensures.next) in
+    omega (arith, next.fed.within, durations_long c.args.problem.now c.in_ok-timing.timing c.in_ok-timing.ensures.timing)
 
 pub overflow_add-end : goal.overflow_add-end
 overflow_add-end c =

@@ -1,7 +1,7 @@
 use Rattle.std.proofs.Common.{◌^◌, All, map, take}
 use Rattle.cpg_tracks.specs.Tracks.{AreSchedules}
 use Rattle.cpg_tracks.specs.Track.{AreBy}
-use Rattle.cpg_tracks.proofs.starts_of_tracks.schedules.Given as goal
+use Rattle.cpg_tracks.proofs.schedule.schedules.Given as goal
 
 abbrev pub invariant-loop-track : goal.invariant-loop-track
 invariant-loop-track l = record {

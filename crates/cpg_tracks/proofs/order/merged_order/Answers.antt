@@ -3,10 +3,10 @@ use Rattle.cpg_order.specs.Urgency.{IsTopological}
 use Rattle.cpg_tracks.specs.Tracks.{HasTrackOrder}
 use Rattle.cpg_tracks.proofs.TrackLaws.{order_of_tracks_topological}
 use Rattle.cpg_tracks.proofs.Keyed.{keys_long, has_order}
-use Rattle.cpg_tracks.proofs.merged_order_of.merged_order.Goals as goal
+use Rattle.cpg_tracks.proofs.order.merged_order.Goals as goal
 
-pub ranked-requires : goal.ranked-requires
-ranked-requires c =
+pub by_key-requires : goal.by_key-requires
+by_key-requires c =
     let g = c.args.admitted.now.graph in
     let by = rw (c.as_slice-2.ensures.value, c.problem-problem.ensures.problem) at c.in_ok-keys.ensures in
     omega (arith, ap length c.as_slice-3.ensures.value, keys_long g c.in_ok-schedules.schedules.items c.in_ok-keys.keys.items by, c.problem-problem.ensures.admitted.limits.few_processes)

@@ -1,7 +1,0 @@
-use Rattle.std.proofs.Common.{refl}
-use Rattle.cpg_base.proofs.Lists.{map_below_push}
-use Rattle.cpg_tracks.specs.Ranks.{rank_of}
-use Rattle.cpg_tracks.proofs.merged_order_of.ranks.Goals as goal
-
-pub loop-process-preserved : goal.loop-process-preserved
-loop-process-preserved c = map_below_push (rank_of c.args.keys.now) c.loop-process.ranks.items c.push.new.self.items _ c.loop-process.process c.loop-process.invariant refl c.in_ok-push.ensures.items

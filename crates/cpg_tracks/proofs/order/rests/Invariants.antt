@@ -1,0 +1,5 @@
+use Rattle.cpg_tracks.specs.Rests.{AreRestsUpTo}
+use Rattle.cpg_tracks.proofs.order.rests.Given as goal
+
+abbrev pub invariant-loop-key : goal.invariant-loop-key
+invariant-loop-key l = AreRestsUpTo l.keys l.key-index l.rests.items

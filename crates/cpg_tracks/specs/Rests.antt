@@ -1,0 +1,10 @@
+-- How far numbers are from the greatest one.
+use Rattle.std.specs.Prelude.{ℕ, ◌+◌, ◌-◌, ◌^◌, ◌≡◌, ◌<◌, List, length, get_or}
+
+-- those of the first n
+pub record AreRestsUpTo (keys : List ℕ) (n : ℕ) (rests : List ℕ) : Type 0 where
+  pub count : length rests ≡ n
+  pub each : (p : ℕ) → p < n → get_or rests p 0 + get_or keys p 0 ≡ 2 ^ 64 - 1
+
+abbrev pub AreRests : List ℕ → List ℕ → Type 0
+AreRests keys rests = AreRestsUpTo keys (length keys) rests
