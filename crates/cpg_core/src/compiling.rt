@@ -42,6 +42,7 @@ fn late(problem: &Problem, order: &Order, built: Built) -> CompileFault
     requires helpless { IsHelpless problem.now order.now }
     ensures { ShowsCompileFault problem.now order.now result }
 {
+    // its clause tells that no process is twice in the order
     let _places = order.len();
     let Built {
         worst,
@@ -81,6 +82,7 @@ fn better(
     ensures tables { IfOk result (λ found. IfSome found (IsPreferredTo admitted.now.graph admitted.now.order urgent.now)) }
     ensures none { IfOk result (λ found. IfNone found (HasNoBetter admitted.now.graph admitted.now.order urgent.now)) }
 {
+    // its clause tells that the graph is admitted
     let _order = admitted.order();
     match expand_better(alloc, admitted, &order, urgent.excess, urgent.worst) {
         Ok(Some(built)) => Ok(Some(Compiled { built, order })),

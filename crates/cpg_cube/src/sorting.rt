@@ -62,6 +62,7 @@ pub(crate) fn variables_along(
     requires order { All (λ p. p < process_count problem.now) order.now }
     ensures { IfOk result (λ r. r.items ≡ variables_along problem.now order.now) }
 {
+    // its clause tells that the graph is within its limits
     let _processes = problem.processes();
     let mut variables = Vec::new(alloc);
     for process in order {
@@ -196,6 +197,7 @@ pub fn by_least_scenario<T: Cubed + Drop>(
     ensures permutation { IfOk result (λ r. IsPermutation columns.items r.items) }
     ensures by_lows { IfOk result (λ r. AreByLows T.cubed problem.now order.now r.items) }
 {
+    // its clause tells that the graph is within its limits
     let _processes = problem.processes();
     let variables = variables_along(alloc, problem, order.processes())?;
     let mut ranked = with_keys(alloc, variables.as_slice(), columns)?;
@@ -257,6 +259,7 @@ pub fn first_by_least_scenario<T: Cubed>(
     ensures none { IfOk result (λ r. IfNone r (columns.now ≡ [])) }
     ensures first { IfOk result (λ r. IfSome r (IsFirstByLows T.cubed problem.now order.now columns.now)) }
 {
+    // its clause tells that the graph is within its limits
     let _processes = problem.processes();
     let variables = variables_along(alloc, problem, order.processes())?;
     let place = first_by_key(alloc, variables.as_slice(), columns)?;

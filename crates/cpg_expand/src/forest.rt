@@ -180,6 +180,7 @@ impl Forest {
     {
         match ready {
             Ready::After(process) => {
+                // its clause tells that the graph is within its limits
                 let _processes = problem.processes();
                 let both = there.max_later(&self.ends[*process as usize], 0)?;
                 Ok(both)
@@ -205,6 +206,7 @@ impl Forest {
     {
         match ready {
             Ready::After(process) => {
+                // its clause tells that the graph is within its limits
                 let _processes = problem.processes();
                 let start = started_after(&self.ends[*process as usize], release)?;
                 Ok(start)

@@ -26,6 +26,7 @@ fn most_where(problem: &Problem, tree: &Tree<Option<u64>>, wanted: &Tree<bool>) 
     requires wanted { IsTree problem.now wanted.now }
     ensures { IsTop problem.now (HasWhere tree.now wanted.now) result }
 {
+    // its clause tells that the graph is within its limits
     let _processes = problem.processes();
     tree.most_where(wanted)
 }

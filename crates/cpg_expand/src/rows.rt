@@ -53,6 +53,7 @@ fn start_entries(
     requires tree { IsTree problem.now tree.now }
     ensures { IfOk result (λ entries. AreMergedOf problem.now urgency.now tree.now entries.items) }
 {
+    // its clause tells that the graph is within its limits
     let _processes = problem.processes();
     // merging sorts them, so they need no order before
     let listed = tree.listed(problem)?;

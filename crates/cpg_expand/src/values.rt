@@ -117,6 +117,7 @@ pub(crate) fn slot_at(share: Share, time: Option<u64>) -> u64
         return 0;
     };
     if time < LATE {
+        // its clause tells that the share is lawful
         let _length = share.length();
         share.next_slot(time)
     } else {

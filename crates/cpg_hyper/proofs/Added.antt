@@ -1,12 +1,12 @@
 -- Processes that are added, instance by instance.
 use Rattle.std.proofs.Common.{◌≡◌, ℕ, ◌+◌, ◌<◌, ◌≤◌, Bool, true, false, List, [], ◌∷◌, ◌++◌, length, append-nil, append_assoc, get_or, take, map, refl, sym, ap, ◌∙◌, subst, arith, inl, inr, ⊎_elim, ◌⊎◌}
-use Rattle.std.specs.List.{flat_map}
 use Rattle.std.proofs.lemmas.List.{map_push, get_or_default}
 use Rattle.std.proofs.lemmas.Bool.{cases_lt}
 use Rattle.cpg_base.specs.declared.process.Process.{Process}
 use Rattle.cpg_hyper.specs.declared.part.Part.{Part}
 use Rattle.cpg_hyper.specs.Unrolled.{size_of, instances, processes_in, processes_of}
 use Rattle.cpg_hyper.specs.Refusals.{AddsShort, HasShortNames, FailsFirst, HoldsBefore}
+use Rattle.cpg_hyper.proofs.Counted.{empty_pieces}
 use Rattle.cpg_hyper.proofs.Taken.{more}
 
 -- one more element made
@@ -29,10 +29,6 @@ last_or_before i n l = ⊎_elim (λ (lt : i < n). inl lt) (λ (le : n ≤ i). in
 pub below_more : (P : ℕ → Type 0) (n : ℕ) → ((i : ℕ) → i < n → P i) → P n → (i : ℕ) → i < n + 1 → P i
 below_more P n h p i l = ⊎_elim (λ (lt : i < n). h i lt) (λ (e : i ≡ n). subst P (sym e) p) (last_or_before i n l)
 
-no_pieces : {X Y : Type 0} (f : X → List Y) → ((x : X) → f x ≡ []) → (xs : List X) → flat_map f xs ≡ []
-no_pieces f h [] = refl
-no_pieces f h (x ∷ xs) = rw (h x) (no_pieces f h xs)
-
 nil_of : {X : Type 0} (xs : List X) → length xs ≡ 0 → xs ≡ []
 nil_of [] e = refl
 nil_of (x ∷ xs) e = absurd (omega (arith, e))
@@ -41,7 +37,7 @@ nil_of (x ∷ xs) e = absurd (omega (arith, e))
 pub nothing_added : (out : List Process) (whole p : ℕ) (part : Part) → size_of part ≡ 0 → AddsShort true out out (processes_of whole p part) (HasShortNames whole p part)
 nothing_added out whole p part e =
     let none = nil_of part.problem.processes e in (
-      sym (ap (λ xs. out ++ xs) (no_pieces (processes_in p part) (λ i. rw none refl) (instances whole part)) ∙ append-nil out),
+      sym (ap (λ xs. out ++ xs) (empty_pieces (processes_in p part) (λ i. rw none refl) (instances whole part)) ∙ append-nil out),
       λ i l k d m. absurd (omega (arith, m, e)),
     )
 

@@ -15,6 +15,7 @@ use Rattle.cpg_hyper.specs.Unrolled.{copied_edge, size_of, first_in, after_part,
 use Rattle.cpg_hyper.specs.Instances.{part_at, IsInstance, before, first_of, edges_before, first_edge_of}
 use Rattle.cpg_hyper.proofs.Counted.{constant_pieces, edges_size}
 use Rattle.cpg_hyper.proofs.Copies.{product_le}
+use Rattle.cpg_hyper.proofs.CopiedEdges.{next_first, same_first}
 use Rattle.cpg_hyper.proofs.Whole.{contained}
 
 -- both ends of an edge lie between two numbers
@@ -105,14 +106,8 @@ around_later n own first size mine new rest long below a = record {
   later = a.later;
 }
 
-same_first : (first a : ℕ) → first + a ≡ first + (0 + a)
-same_first first a = omega arith
-
 same_edges : (a : ℕ) → a ≡ 0 + a
 same_edges a = omega arith
-
-next_first : (first own b a : ℕ) → first + own + (b + a) ≡ first + (own + b + a)
-next_first first own b a = omega arith
 
 next_edges : (own b a : ℕ) → own + (b + a) ≡ own + b + a
 next_edges own b a = omega arith

@@ -11,12 +11,10 @@ use Rattle.cpg_hyper.specs.Instances.{part_at, IsInstance, before, first_of, edg
 use Rattle.cpg_hyper.specs.Laws.{InstancesHaveEdges}
 use Rattle.cpg_hyper.proofs.Counted.{constant_pieces, edges_size}
 use Rattle.cpg_hyper.proofs.Copies.{within_pieces, take_count}
+use Rattle.cpg_hyper.proofs.Whole.{nothing_before}
 
 abbrev pub no_edge : Edge
 no_edge = record { from = 0; to = 0; size = 0; when = None; frozen = false }
-
-nothing_before : (n : ℕ) → 0 + n ≡ n
-nothing_before n = omega arith
 
 in_part : (whole first i e : ℕ) (part : Part) → i < whole / part.period → e < length part.problem.edges → get_or (edges_of whole first part) (i * length part.problem.edges + e) no_edge ≡ copied_edge (first_in first part i) (get_or part.problem.edges e no_edge)
 in_part whole first i e part l h =
@@ -34,13 +32,13 @@ in_part whole first i e part l h =
 drop_zero : (a b : ℕ) → 0 + a + b ≡ a + b
 drop_zero a b = omega arith
 
-same_first : (first a : ℕ) → first + a ≡ first + (0 + a)
+pub same_first : (first a : ℕ) → first + a ≡ first + (0 + a)
 same_first first a = omega arith
 
 moved : (own b c e all : ℕ) → all ≡ own → own + b + c + e ≡ all + (b + c + e)
 moved own b c e all is = omega (arith, is)
 
-next_first : (first own b a : ℕ) → first + own + (b + a) ≡ first + (own + b + a)
+pub next_first : (first own b a : ℕ) → first + own + (b + a) ≡ first + (own + b + a)
 next_first first own b a = omega arith
 
 pub edge_copy_at : (whole first : ℕ) (parts : List Part) (p i e : ℕ) → IsInstance whole parts p i → e < length (part_at parts p).problem.edges

@@ -66,7 +66,7 @@ no_edges : (n : ℕ) (es : List Edge) → n ≡ 0 → All (IsEdgeWithin n) es �
 no_edges n [] e h = refl
 no_edges n (d ∷ es) e h = absurd (omega (arith, (h 0 d (omega arith)).from, e))
 
-empty_pieces : {X Y : Type 0} (f : X → List Y) → ((x : X) → f x ≡ []) → (xs : List X) → flat_map f xs ≡ []
+pub empty_pieces : {X Y : Type 0} (f : X → List Y) → ((x : X) → f x ≡ []) → (xs : List X) → flat_map f xs ≡ []
 empty_pieces f h [] = refl
 empty_pieces f h (x ∷ xs) = rw (h x) (empty_pieces f h xs)
 

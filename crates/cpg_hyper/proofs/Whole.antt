@@ -3,7 +3,6 @@ use Rattle.std.proofs.Common.{◌≡◌, ◌≢◌, ℕ, suc, ◌+◌, ◌*◌, 
 use Rattle.std.specs.Prelude.{All}
 use Rattle.std.proofs.Math.Nat.{div-le_self, div-mul-le_self}
 use Rattle.std.proofs.lemmas.List.Elements.{Contains-get_or, Contains-append_cases}
-use Rattle.std.proofs.lemmas.Grind.{common_steps}
 use Rattle.cpg_base.specs.Duration.{lesser_due}
 use Rattle.cpg_base.specs.Limits.{IsProcessWithin, IsEdgeWithin, IsWithinLimits}
 use Rattle.cpg_base.specs.declared.process.Process.{Process}
@@ -14,6 +13,7 @@ use Rattle.cpg_hyper.specs.declared.part.Part.{Part}
 use Rattle.cpg_hyper.specs.Unrolled.{copied_process, copied_edge, size_of, instances, first_in, after_part, processes_in, processes_of, processes_from, edges_in, edges_of, edges_from, first_graph, unrolled}
 use Rattle.cpg_hyper.specs.Refusals.{IsAlike, FitsPeriod, HoldsOfEach, HasFewEnough, AreOver}
 use Rattle.cpg_hyper.proofs.Counted.{processes_size}
+use Rattle.cpg_hyper.proofs.Copies.{product_le}
 use Rattle.cpg_hyper.proofs.Texts.{same_copy}
 
 same_sum : (p : ℕ) → p ≡ p + 0
@@ -25,11 +25,8 @@ next_sum p n = omega arith
 moved : (first own rest all : ℕ) → all ≡ own + rest → first + own + rest ≡ first + all
 moved first own rest all e = omega (arith, e)
 
-nothing_before : (n : ℕ) → 0 + n ≡ n
+pub nothing_before : (n : ℕ) → 0 + n ≡ n
 nothing_before n = omega arith
-
-product_le : (a b c : ℕ) → a ≤ b → a * c ≤ b * c
-product_le a b c h = grind (arith, common_steps)
 
 -- ---- where a process of the whole comes from
 

@@ -11,7 +11,8 @@ use Rattle.cpg_cube.specs.Cover.{meet_literal, narrowed_by}
 use Rattle.cpg_cube.specs.declared.literal.Literal.{Literal}
 use Rattle.cpg_cube.proofs.Narrowed.{low-other, low-same, high-other, high-same}
 use Rattle.cpg_cube.proofs.Narrow.{narrowed-before, narrowed-here, narrowed-after, rising-narrowed, variables_of_narrowed}
-use Rattle.cpg_cube.proofs.Ranges.{rising_rest, rising_first, range_of_literal}
+use Rattle.cpg_cube.proofs.Ranges.{rising_rest, rising_first}
+use Rattle.cpg_run.proofs.CubesOf.{cube_within}
 use Rattle.cpg_run.proofs.Hearing.{low_kept, high_kept, high_kept_top, kept_low_below, kept_high_above, kept_grows}
 use Rattle.cpg_table.specs.Heard.{kept_low, kept_high}
 use Rattle.cpg_list.specs.Learning.{Within}
@@ -173,12 +174,9 @@ module _ (l : Literal) (ls : List Literal) (m : Literal) (ms : List Literal) (r 
 pub rising_cube : (k : ℕ) (b : List Literal) → IsRising b → ((l : Literal) → Contains b l → l.high ≤ top k l.variable) → IsCubeOf k b b
 rising_cube k b r w = subst (IsCubeOf k b) (met-nil b r) ((met_narrowed k b [] w).by [] (whole_cube k))
 
-pub cube_highs : (k : ℕ) (literals cube : List Literal) → IsCubeOf k literals cube → (l : Literal) → Contains cube l → l.high ≤ top k l.variable
-cube_highs k literals cube is l j = omega (arith, (range_of_literal k cube l is.rising j).1, is.high l.variable, high_kept_top literals l.variable k)
-
 pub cube_narrowed : (k : ℕ) (literals b cube : List Literal) → IsCubeOf k literals b → IsNarrowed k literals cube (met cube b)
 cube_narrowed k literals b cube is =
-    let highs = cube_highs k literals b is in
+    let highs = cube_within k literals b is in
     let own = rising_cube k b is.rising highs in
     record {
       by = λ known was.

@@ -1,7 +1,7 @@
 -- What is made and carried on as one process after another, and one item of its queue after another, is done.
-use Rattle.std.proofs.Common.{◌≡◌, ◌≢◌, ◌∙◌, ℕ, ◌+◌, ◌<◌, ◌≤◌, ◌⊎◌, true, false, ◌&&◌, ◌==◌, ltb, List, [], ◌∷◌, ◌++◌, length, get_or, set, take, filter, flat_map, Contains, Option, arith, refl, sym, ap, inl, inr, subst, append_assoc, eq-eqb, eqb-true, ne_eqb, lt-ltb, ltb-true, length-take, get_or-set_same, get_or-set_other, length-set}
+use Rattle.std.proofs.Common.{◌≡◌, ◌≢◌, ◌∙◌, ℕ, ◌+◌, ◌<◌, ◌≤◌, ◌⊎◌, true, false, ◌&&◌, ◌==◌, ltb, List, [], ◌∷◌, ◌++◌, length, get_or, set, take, filter, flat_map, Contains, Option, arith, refl, sym, ap, inl, inr, subst, append_assoc, eq-eqb, eqb-true, ne_eqb, lt-ltb, ltb-true, get_or-set_same, get_or-set_other, length-set}
 use Rattle.std.proofs.lemmas.Bool.{cases_eq, cases_lt, cases_Bool, cond-true, cond-false, both_ways, and_parts, and_from, or_cases, or_left, or_right}
-use Rattle.std.proofs.lemmas.List.{append-nil, get_or-take, take_more, take_all}
+use Rattle.std.proofs.lemmas.List.{append-nil, take_more, take_all}
 use Rattle.std.proofs.lemmas.List.Elements.{Contains-append_left, Contains-append_right, Contains-append_cases, Contains-get_or, filter-append}
 use Rattle.cpg_base.specs.Numbers.{numbers_below}
 use Rattle.cpg_base.specs.Graph.{Graph, process_count, item_count, node_of, home, is_sent, producer, producer_of_item, process_at}
@@ -29,12 +29,7 @@ use Rattle.cpg_list.proofs.CodeSame.{passed_cubes, queued_cubes}
 use Rattle.cpg_list.proofs.CodeStarts.{passed_active, received_plain, flat_map_push}
 use Rattle.cpg_list.proofs.CodeTold.{within_flat_map}
 use Rattle.cpg_run.proofs.SameInRows.{only_one}
-
-from_take : (k : ℕ) (xs : List ℕ) (y : ℕ) → Contains (take k xs) y → Contains xs y
-from_take k xs y c =
-    let n = length-take k xs in
-    let l : c.0 < k = omega (arith, c.1, n) in
-    (c.0, omega (arith, c.1, n), sym (get_or-take k xs c.0 y l) ∙ c.2)
+use Rattle.cpg_run.proofs.Sends.{Contains-take}
 
 -- a sent item from a process before a place
 module _ (g : Graph) (order : List ℕ) (node i y : ℕ) where
@@ -118,7 +113,7 @@ module _ (g : Graph) (order : List ℕ) (topological : IsTopological g order) (p
           (and_from _ _ (and_from _ _ h.sent (eq-eqb _ _ (h.at ∙ ap (node_of g) (sym nth_by))))
           (or_left _ _ (comes_before_from_places order (producer g y) (producer g nth) (produced y h.within) (omega (arith, h.early, ap (place order) nth_by))))) h.within
       | inr i ↦
-          let q = in_queue g p y (from_take m (queue_of g p) y i) in
+          let q = in_queue g p y (Contains-take m (queue_of g p) y i) in
           Contains-filter (λ y. is_queued_before g order y nth) (numbers_below (item_count g)) y
           (and_from _ _ (and_from _ _ q.sent (eq-eqb _ _ (ap (node_of g) (q.by ∙ sym nth_by))))
           (or_right _ _ (and_from _ _ (eq-eqb _ _ (q.by ∙ sym nth_by)) (lt-ltb _ _ (below_first (rank_at g) (queue_of g p) (queue_rises g p) m inside y i)))))
@@ -157,7 +152,7 @@ module _ (g : Graph) (order : List ℕ) (topological : IsTopological g order) (p
 
     pub nth_late : (y : ℕ) → IsSent g order p m y → place order (producer g y) ≤ place order (producer g nth)
     nth_late y (inl h) = omega (arith, started_late y h, ap (place order) nth_by)
-    nth_late y (inr c) = omega (arith, ap (place order) ((in_queue g p y (from_take m (queue_of g p) y c)).by), ap (place order) nth_by)
+    nth_late y (inr c) = omega (arith, ap (place order) ((in_queue g p y (Contains-take m (queue_of g p) y c)).by), ap (place order) nth_by)
 
     pub nth_new : IsSent g order p m nth → ⊥
     nth_new (inl (inl h)) = omega (arith, h, ap (place order) nth_by)
@@ -233,7 +228,7 @@ module _ (g : Graph) (order : List ℕ) (topological : IsTopological g order) (p
       below : (x : ℕ) → IsSent g order p (length (queue_of g p)) x → place order (producer g x) < place order p + 1
       below x (inl (inl h)) = omega (arith, h)
       below x (inl (inr e)) = omega (arith, ap (λ z. place order (producer g z)) e, start_by)
-      below x (inr c) = omega (arith, ap (place order) ((in_queue g p x (from_take (length (queue_of g p)) (queue_of g p) x c)).by))
+      below x (inr c) = omega (arith, ap (place order) ((in_queue g p x (Contains-take (length (queue_of g p)) (queue_of g p) x c)).by))
 
       of_sent : (x : ℕ) (m : x < item_count g) → producer g x ≡ p → process_count g ≤ x → (IsSent g order p (length (queue_of g p)) x → IsRowOf g urgency order frozen (columns_of_rows rows) x)
           → ((IsSent g order p (length (queue_of g p)) x → ⊥) → row_at (columns_of_rows rows) x ≡ []) → IsRowOf g urgency order frozen (columns_of_rows rows) x
@@ -245,7 +240,7 @@ module _ (g : Graph) (order : List ℕ) (topological : IsTopological g order) (p
           not_sent : is_sent g x ≡ false → IsSent g order p (length (queue_of g p)) x → ⊥
           not_sent off (inl (inl h)) = omega (arith, h, ap (place order) e)
           not_sent off (inl (inr same)) = omega (arith, same, l, above)
-          not_sent off (inr c) = both_ways (is_sent g x) off ((in_queue g p x (from_take (length (queue_of g p)) (queue_of g p) x c)).sent)
+          not_sent off (inr c) = both_ways (is_sent g x) off ((in_queue g p x (Contains-take (length (queue_of g p)) (queue_of g p) x c)).sent)
 
   -- ---- the processes of a node
 
@@ -278,7 +273,7 @@ module _ (g : Graph) (order : List ℕ) (topological : IsTopological g order) (p
   pub queue_early : (m y : ℕ) → Contains (sent_before g order (node_of g p) (place order p) ++ take m (queue_of g p)) y → place order (producer g y) ≤ place order p
   queue_early m y j = elim (Contains-append_cases (sent_before g order (node_of g p) (place order p)) (take m (queue_of g p)) y j) [
     | inl i ↦ sent_early (node_of g p) y i
-    | inr i ↦ omega (arith, ap (place order) (in_queue g p y (from_take m (queue_of g p) y i)).by)
+    | inr i ↦ omega (arith, ap (place order) (in_queue g p y (Contains-take m (queue_of g p) y i)).by)
   ]
 
   -- ---- all nodes at the next place

@@ -39,6 +39,7 @@ fn heard(alloc: Global, problem: &Problem, rows: &[Row], item: u32) -> Result<Ro
     requires item { item < item_count problem.now }
     ensures { IfOk result (λ row. row ≡ heard_row problem.now rows.now item) }
 {
+    // its clause tells that the graph is within its limits
     let _nodes = problem.nodes();
     let delay = problem.slot_length(problem.home(item));
     let entries = later(alloc, rows[item as usize].entries(), delay)?;
@@ -80,6 +81,7 @@ fn node_hears(
     requires node { node < length problem.now.nodes }
     ensures { IfOk result (λ heard. heard.items ≡ hears_at problem.now rows.now node) }
 {
+    // its clause tells that the graph is within its limits
     let _nodes = problem.nodes();
     let items = NodeItems::of(alloc, head, node)?;
     let heard = all_heard(alloc, problem, rows, items.hears())?;
@@ -186,6 +188,7 @@ fn node_tables(
     requires hears { map (λ heard. heard.items) hears.items ≡ map (hears_at problem.now rows.items) (numbers_below (length problem.now.nodes)) }
     ensures { IfOk result (λ tables. AreNodeTables problem.now rows.items (length problem.now.nodes) tables.items) }
 {
+    // its clause tells that the graph is within its limits
     let _nodes = problem.nodes();
     let mut tables = Vec::new(alloc);
     tables.reserve(hears.len())?;
@@ -208,6 +211,7 @@ pub fn tables_of(alloc: Global, problem: &Problem, rows: Vec<Row>) -> Result<Tab
     requires rows { AreWritable problem.now rows.items }
     ensures { IfOk result (AreTablesWith problem.now rows.items) }
 {
+    // its clause tells that the graph is within its limits
     let _nodes = problem.nodes();
     let head = head_of(alloc, problem)?;
     let hears = hears_of(alloc, problem, &head, rows.as_slice())?;
