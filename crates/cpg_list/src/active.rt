@@ -3,7 +3,7 @@ ghost use Rattle.std.specs.Prelude.{◌≡◌, ◌<◌, IfOk, map};
 ghost use Rattle.cpg_base.specs.Numbers.{numbers_below};
 ghost use Rattle.cpg_base.specs.Graph.{process_count, condition_count};
 ghost use Rattle.cpg_base.specs.Scenario.{IsScenario};
-ghost use Rattle.cpg_run.specs.Admitted.{AreAdmitted};
+ghost use Rattle.cpg_rules.specs.Admitted.{AreAdmitted};
 ghost use Rattle.cpg_list.specs.Active.{active_fault, active_value, active_numbers};
 
 use cpg_base::{OutOfMemory, Problem, Scenario};

@@ -5,7 +5,7 @@ use Rattle.cpg_base.specs.Numbers.{greatest}
 use Rattle.cpg_base.specs.Scenario.{Scenario}
 use Rattle.cpg_bus.specs.Plan.{plan_of}
 use Rattle.cpg_order.specs.Urgency.{IsTopological}
-use Rattle.cpg_run.specs.Admitted.{AreAdmitted}
+use Rattle.cpg_rules.specs.Admitted.{AreAdmitted}
 use Rattle.cpg_run.specs.Progress.{CanSend, HasPlaces, HasSent, IsAt}
 use Rattle.cpg_run.specs.Known.{frozen_in}
 use Rattle.cpg_run.specs.Run.{Times, IsRun, input_bounds}

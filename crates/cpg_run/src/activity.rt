@@ -5,7 +5,7 @@ ghost use Rattle.cpg_base.specs.Activity.{active, live, item_active};
 ghost use Rattle.cpg_base.specs.Scenario.{IsScenario};
 ghost use Rattle.cpg_order.specs.Guard.{deciding_along};
 ghost use Rattle.cpg_rules.specs.Admission.{IsAdmitted};
-ghost use Rattle.cpg_run.specs.Admitted.{AreAdmitted};
+ghost use Rattle.cpg_rules.specs.Admitted.{AreAdmitted};
 ghost use Rattle.cpg_bus.specs.Plan.{queue_of};
 
 use cpg_base::{OutOfMemory, Problem, Scenario};

@@ -8,7 +8,7 @@ ghost use Rattle.cpg_base.specs.WellFormed.{HasSenderSlots};
 ghost use Rattle.cpg_bus.specs.Share.{HasSlot};
 ghost use Rattle.cpg_order.specs.Deciding.{decides};
 ghost use Rattle.cpg_run.specs.Run.{frame_there, input_there, heard_there, input_bounds};
-ghost use Rattle.cpg_run.specs.Admitted.{AreAdmitted};
+ghost use Rattle.cpg_rules.specs.Admitted.{AreAdmitted};
 ghost use Rattle.cpg_run.specs.Known.{AreSmall, frozen_in};
 ghost use Rattle.cpg_run.specs.Setting.{IsSetting, start_at};
 ghost use Rattle.cpg_run.specs.Most.{IsMost};

@@ -1,8 +1,0 @@
--- The guards of an admitted graph.
-use Rattle.std.specs.Prelude.{ℕ, List}
-use Rattle.cpg_base.specs.Graph.{Graph}
-use Rattle.cpg_rules.specs.Guards.{Guards}
-use Rattle.cpg_rules.specs.Admission.{IsAdmitted}
-
-abbrev pub AreAdmitted : Graph → Guards → Type 0
-AreAdmitted g guards = (urgency : List ℕ) × IsAdmitted g urgency guards
