@@ -1,18 +1,17 @@
 -- What a buffer in front of a sink does.
-use Rattle.std.specs.Prelude.{◌≡◌, ◌≤◌, ◌<◌, ℕ, List, ◌++◌, length, All, Option, Result, Ok, Err}
-use Rattle.std.specs.Io.KnownBytes.{Appends}
+use Rattle.std.specs.Prelude.{◌≡◌, ◌≤◌, ◌<◌, ℕ, List, ◌++◌, length, All, Result, Ok, Err}
 use Rattle.cpg_base.specs.declared.limits.TheConstants.{MOST_COLUMNS}
-use Rattle.cpg_io.specs.Sink.{TookPrefix}
+use Rattle.cpg_io.specs.Sink.{Took, TookPrefix}
 use Rattle.cpg_table.specs.Table.{Row}
 
 -- the held bytes and a piece after them are in part taken, in part left in the buffer
-pub record IsPut (before after : Option (List ℕ)) (held left piece : List ℕ) : Type 0 where
+pub record IsPut (before after held left piece : List ℕ) : Type 0 where
   pub written : List ℕ
-  pub taken : Appends before after written
+  pub taken : Took before after written
   pub same : held ++ piece ≡ written ++ left
 
 -- they are so at Ok, and the sink took a proper front of them at Err
-abbrev pub Puts : {E : Type 0} → Option (List ℕ) → Option (List ℕ) → List ℕ → List ℕ → Result Unit E → List ℕ → Type 0
+abbrev pub Puts : {E : Type 0} → List ℕ → List ℕ → List ℕ → List ℕ → Result Unit E → List ℕ → Type 0
 Puts before after held left (Ok _) piece = IsPut before after held left piece
 Puts before after held left (Err _) piece = TookPrefix before after (held ++ piece)
 

@@ -1,9 +1,8 @@
 //! A buffer in front of a sink.
 ghost use Rattle.std.specs.Prelude.{◌≡◌, ◌≤◌, ◌+◌, ◌*◌, ◌++◌, [], IfOk, OnOk, OnErr, length, vec_len, vec_capacity};
 ghost use Rattle.std.specs.List.{flat_map};
-ghost use Rattle.std.specs.Io.KnownBytes.{Appends};
 ghost use Rattle.cpg_io.specs.Causes.{HasCause};
-ghost use Rattle.cpg_io.specs.Sink.{TookPrefix};
+ghost use Rattle.cpg_io.specs.Sink.{Took, TookPrefix};
 ghost use Rattle.cpg_codec.specs.Spelling.{literal_bytes};
 ghost use Rattle.cpg_codec.specs.Writing.{Puts};
 
@@ -114,7 +113,7 @@ impl Buffer {
 
     /// Writes all that is held.
     pub fn write<O: Sink>(&mut self, sink: &mut O) -> Result<(), Failed>
-        ensures whole { OnOk result (Appends (O.state sink.old).taken (O.state sink.new).taken self.old) }
+        ensures whole { OnOk result (Took (O.state sink.old).taken (O.state sink.new).taken self.old) }
         ensures part { OnErr result (TookPrefix (O.state sink.old).taken (O.state sink.new).taken self.old) }
         ensures empty { OnOk result (self.new ≡ []) }
         ensures cause { HasCause (O.state sink.old).faults (O.state sink.new).faults result }

@@ -1,9 +1,8 @@
 //! Tables, written.
 ghost use Rattle.std.specs.Prelude.{◌≡◌, ◌≤◌, [], Err, OnOk, OnErr};
 ghost use Rattle.std.specs.List.{flat_map};
-ghost use Rattle.std.specs.Io.KnownBytes.{Appends};
 ghost use Rattle.cpg_io.specs.Causes.{HasCause, Rose};
-ghost use Rattle.cpg_io.specs.Sink.{TookPrefix};
+ghost use Rattle.cpg_io.specs.Sink.{Took, TookPrefix};
 ghost use Rattle.cpg_codec.specs.Spelling.{table_bytes, spelling};
 ghost use Rattle.cpg_codec.specs.Writing.{Puts};
 
@@ -37,7 +36,7 @@ fn put_tables<O: Sink>(buffer: &mut Buffer, sink: &mut O, tables: &Tables) -> Re
 /// Writes tables through an empty buffer.
 fn write_through<O: Sink>(buffer: &mut Buffer, sink: &mut O, tables: &Tables) -> Result<(), Failed>
     requires { buffer.old ≡ [] }
-    ensures whole { OnOk result (Appends (O.state sink.old).taken (O.state sink.new).taken (spelling tables.now)) }
+    ensures whole { OnOk result (Took (O.state sink.old).taken (O.state sink.new).taken (spelling tables.now)) }
     ensures part { OnErr result (TookPrefix (O.state sink.old).taken (O.state sink.new).taken (spelling tables.now)) }
     ensures cause { HasCause (O.state sink.old).faults (O.state sink.new).faults result }
 {
@@ -50,7 +49,7 @@ fn write_through<O: Sink>(buffer: &mut Buffer, sink: &mut O, tables: &Tables) ->
 /// `Failed` only where the sink's count of faults rose. The sink has taken a proper prefix of the spelling then. The
 /// buffer is taken before the first write, so on `OutOfMemory` the sink is as it was.
 pub fn write_pack<O: Sink>(alloc: Global, tables: &Tables, sink: &mut O) -> Result<(), WriteFault>
-    ensures whole { OnOk result (Appends (O.state sink.old).taken (O.state sink.new).taken (spelling tables.now)) }
+    ensures whole { OnOk result (Took (O.state sink.old).taken (O.state sink.new).taken (spelling tables.now)) }
     ensures part { result ≡ Err WriteFault.Failed → TookPrefix (O.state sink.old).taken (O.state sink.new).taken (spelling tables.now) }
     ensures cause { result ≡ Err WriteFault.Failed → Rose (O.state sink.old).faults (O.state sink.new).faults }
     ensures same { result ≡ Err WriteFault.OutOfMemory → sink.new ≡ sink.old }

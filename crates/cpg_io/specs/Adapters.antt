@@ -25,4 +25,4 @@ pub record StreamSinkState : Type 0 where
   pub faults : ℕ
 
 abbrev pub sink_of : StreamSinkState → SinkState
-sink_of s = record { taken = Some s.taken; faults = s.faults }
+sink_of s = record { taken = s.taken; faults = s.faults }

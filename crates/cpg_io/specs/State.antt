@@ -14,7 +14,7 @@ pub record ShelfState : Type 0 where
 abbrev pub given_count : ShelfState → ℕ
 given_count s = length (newest_given s.history)
 
--- the bytes taken, where the sink tells them, and how many faults there were
+-- the bytes taken, and how many faults there were
 pub record SinkState : Type 0 where
-  pub taken : Option (List ℕ)
+  pub taken : List ℕ
   pub faults : ℕ

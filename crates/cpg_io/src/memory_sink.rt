@@ -1,8 +1,8 @@
 //! A sink in memory.
-ghost use Rattle.std.specs.Prelude.{◌≡◌, ◌-◌, ◌<◌, ◌≤◌, ◌↔◌, [], min, Some, IfOk, IsErr, MatchResult, length};
-ghost use Rattle.std.specs.Io.KnownBytes.{WriteAppends};
+ghost use Rattle.std.specs.Prelude.{◌≡◌, ◌-◌, ◌<◌, ◌≤◌, ◌↔◌, [], min, IfOk, IsErr, MatchResult, length};
 ghost use Rattle.cpg_io.specs.Causes.{HasCause, counted};
 ghost use Rattle.cpg_io.specs.MemorySink.{sink_of};
+ghost use Rattle.cpg_io.specs.Sink.{WriteTook};
 
 use crate::{Failed, Sink};
 use cpg_base::OutOfMemory;
@@ -57,7 +57,7 @@ impl Sink for MemorySink {
         requires { 0 < length piece.now }
         ensures some { IfOk result (λ n. 0 < n) }
         ensures bound { IfOk result (λ n. n ≤ length piece.now) }
-        ensures bytes { WriteAppends (Some self.old.taken) (Some self.new.taken) result piece.now }
+        ensures bytes { WriteTook self.old.taken self.new.taken result piece.now }
         ensures cause { HasCause self.old.faults self.new.faults result }
         ensures full { IsErr result ↔ (length self.old.taken ≡ self.old.room) }
         ensures fits { IfOk result (λ n. n ≡ min (self.old.room - length self.old.taken) (length piece.now)) }

@@ -1,14 +1,14 @@
 //! Where bytes go.
 ghost use Rattle.std.specs.Prelude.{◌<◌, ◌≤◌, length, IfOk};
-ghost use Rattle.std.specs.Io.KnownBytes.{WriteAppends};
 ghost use Rattle.cpg_io.specs.Causes.{HasCause};
+ghost use Rattle.cpg_io.specs.Sink.{WriteTook};
 ghost use Rattle.cpg_io.specs.State.{SinkState};
 
 use crate::Failed;
 
 /// Takes bytes, and counts its faults by 64 bits, where the count stands still at its end.
 pub trait Sink {
-    /// The bytes taken, where the sink tells them, and how many faults there were.
+    /// The bytes taken, and how many faults there were.
     ghost state: { Self → SinkState };
 
     /// Takes at least one byte of the front of `piece`, and says how many.
@@ -18,6 +18,6 @@ pub trait Sink {
         requires { 0 < length piece.now }
         ensures some { IfOk result (λ n. 0 < n) }
         ensures bound { IfOk result (λ n. n ≤ length piece.now) }
-        ensures bytes { WriteAppends (state self.old).taken (state self.new).taken result piece.now }
+        ensures bytes { WriteTook (state self.old).taken (state self.new).taken result piece.now }
         ensures cause { HasCause (state self.old).faults (state self.new).faults result };
 }

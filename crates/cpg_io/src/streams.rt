@@ -1,8 +1,9 @@
 //! A sink over a writer of std.
-ghost use Rattle.std.specs.Prelude.{◌≡◌, ◌<◌, ◌≤◌, [], Some, IfOk, MatchResult, length, take};
-ghost use Rattle.std.specs.Io.KnownBytes.{Appends, WriteAppends};
+ghost use Rattle.std.specs.Prelude.{◌≡◌, ◌<◌, ◌≤◌, [], IfOk, MatchResult, length, take};
+ghost use Rattle.std.specs.Io.KnownBytes.{Appends};
 ghost use Rattle.cpg_io.specs.Adapters.{sink_of};
 ghost use Rattle.cpg_io.specs.Causes.{HasCause, counted};
+ghost use Rattle.cpg_io.specs.Sink.{WriteTook};
 
 use crate::{Failed, Sink};
 use cpg_tale::Taken;
@@ -48,7 +49,7 @@ impl<W: Write> Sink for StreamSink<W> {
         requires { 0 < length piece.now }
         ensures some { IfOk result (λ n. 0 < n) }
         ensures bound { IfOk result (λ n. n ≤ length piece.now) }
-        ensures bytes { WriteAppends (Some self.old.taken) (Some self.new.taken) result piece.now }
+        ensures bytes { WriteTook self.old.taken self.new.taken result piece.now }
         ensures passed { IfOk result (λ n. Appends self.old.contents self.new.contents (take n piece.now)) }
         ensures cause { HasCause self.old.faults self.new.faults result }
         ensures faults { MatchResult result (λ _. self.new.faults ≡ self.old.faults) (λ _. self.new.faults ≡ counted self.old.faults 1) }

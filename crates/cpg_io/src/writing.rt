@@ -1,8 +1,7 @@
 //! Writing a whole piece.
 ghost use Rattle.std.specs.Prelude.{OnOk, OnErr};
-ghost use Rattle.std.specs.Io.KnownBytes.{Appends};
 ghost use Rattle.cpg_io.specs.Causes.{HasCause};
-ghost use Rattle.cpg_io.specs.Sink.{TookPrefix};
+ghost use Rattle.cpg_io.specs.Sink.{Took, TookPrefix};
 
 use crate::{Failed, Sink};
 
@@ -10,7 +9,7 @@ use crate::{Failed, Sink};
 ///
 /// `Failed` only where the sink's count of faults rose. The sink has taken a proper prefix of the bytes then.
 pub fn write_all<O: Sink>(sink: &mut O, bytes: &[u8]) -> Result<(), Failed>
-    ensures whole { OnOk result (Appends (O.state sink.old).taken (O.state sink.new).taken bytes.now) }
+    ensures whole { OnOk result (Took (O.state sink.old).taken (O.state sink.new).taken bytes.now) }
     ensures part { OnErr result (TookPrefix (O.state sink.old).taken (O.state sink.new).taken bytes.now) }
     ensures cause { HasCause (O.state sink.old).faults (O.state sink.new).faults result }
 {

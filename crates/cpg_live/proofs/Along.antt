@@ -1,13 +1,12 @@
 -- A follower along its stream.
-use Rattle.std.proofs.Common.{◌≡◌, ℕ, ◌+◌, ◌<◌, ◌≤◌, ◌-◌, ◌||◌, List, [], ◌∷◌, ◌++◌, true, false, true≢false, length, take, drop, Option, Some, None, refl, sym, ap, ap₂, ◌∙◌, subst, arith}
+use Rattle.std.proofs.Common.{◌≡◌, ℕ, ◌+◌, ◌<◌, ◌≤◌, ◌-◌, ◌||◌, List, [], ◌∷◌, ◌++◌, true, false, true≢false, length, take, drop, Some, None, refl, sym, ap, ap₂, ◌∙◌, subst, arith}
 use Rattle.std.specs.Prelude.{IfErr, IfOk, Result, Ok, Err, MatchResult, OnErr, OnOk, is_err}
-use Rattle.std.specs.Io.KnownBytes.{Appends}
-use Rattle.std.proofs.KnownBytes.{Appends-nil, Appends-trans}
 use Rattle.std.proofs.lemmas.List.{length-append, length-drop, length-take, take_all}
 use Rattle.cpg_tale.specs.Fetch.{Fetch, failed, gave, is_none}
 use Rattle.cpg_io.specs.State.{ShelfState, SinkState}
 use Rattle.cpg_io.specs.Shelf.{opened as started}
-use Rattle.cpg_io.specs.Sink.{TookPrefix}
+use Rattle.cpg_io.specs.Sink.{Took, TookPrefix}
+use Rattle.cpg_io.proofs.Writes.{Took-none, Took-trans}
 use Rattle.cpg_head.specs.Head.{Head}
 use Rattle.cpg_table.specs.Table.{NodeTable}
 use Rattle.cpg_node.specs.Dispatcher.{Act}
@@ -26,7 +25,7 @@ use Rattle.cpg_live.proofs.Streams.{acts_more, closed, cut_closed, cut_off, lawl
 -- ---- a piece
 
 -- after a piece that was fed, whose lines aren't written
-pub record IsFed (name : List ℕ) (past rest : List Fetch) (start now : Option (List ℕ)) (h : Head) (table : NodeTable) (before : List Act) (from : ℕ) (read : ℕ) (live : LiveState) : Type 0 where
+pub record IsFed (name : List ℕ) (past rest : List Fetch) (start now : List ℕ) (h : Head) (table : NodeTable) (before : List Act) (from : ℕ) (read : ℕ) (live : LiveState) : Type 0 where
   pub fetch : Fetch
   pub named : fetch.name ≡ name
   pub sound : fetch.failed ≡ false
@@ -34,7 +33,7 @@ pub record IsFed (name : List ℕ) (past rest : List Fetch) (start now : Option 
   pub long : read ≡ length fetch.given
   pub few : length fetch.given ≤ STREAM_LIMIT + 1
   pub state : live ≡ after table fetch.given
-  pub wrote : Appends start now (act_lines h before)
+  pub wrote : Took start now (act_lines h before)
   pub lines : act_lines h live.progress.acts ≡ act_lines h before ++ act_lines h (drop from live.progress.acts)
 
 acts_grow : (table : NodeTable) (fed piece : List ℕ) (s t : LiveState) → s ≡ after table fed → t ≡ after table (fed ++ piece) → Grows s.progress.acts t.progress.acts
@@ -46,7 +45,7 @@ acts_grow table fed piece s t e d =
 abbrev pub grown_by : List ℕ → Fetch → Fetch
 grown_by piece f = record { name = f.name; given = f.given ++ piece; ended = is_none piece || f.ended; failed = f.failed }
 
-pub fed_on : (name : List ℕ) (past : List Fetch) (shelf rest : ShelfState) (count : ℕ) (start now : Option (List ℕ)) (f g : Follower) → IsAlong name past shelf.history start now f → TakesPiece shelf rest f g count →
+pub fed_on : (name : List ℕ) (past : List Fetch) (shelf rest : ShelfState) (count : ℕ) (start now : List ℕ) (f g : Follower) → IsAlong name past shelf.history start now f → TakesPiece shelf rest f g count →
     IsFed name past rest.history start now f.head f.table f.live.progress.acts f.told g.read g.live
 fed_on name past shelf rest count start now f g a t =
     let live : g.live ≡ after f.table (a.fetch.given ++ t.piece) = t.fed f.table a.fetch.given a.live in
@@ -69,18 +68,18 @@ no_bytes [] e = refl
 no_bytes (b ∷ bs) e = absurd (omega (arith, e))
 
 -- a piece of no bytes is the end
-pub fed_end : (name : List ℕ) (past : List Fetch) (shelf rest : ShelfState) (count : ℕ) (start now : Option (List ℕ)) (f g : Follower) (a : IsAlong name past shelf.history start now f) (t : TakesPiece shelf rest f g count) → count ≡ 0 → (fed_on name past shelf rest count start now f g a t).fetch.ended ≡ true
+pub fed_end : (name : List ℕ) (past : List Fetch) (shelf rest : ShelfState) (count : ℕ) (start now : List ℕ) (f g : Follower) (a : IsAlong name past shelf.history start now f) (t : TakesPiece shelf rest f g count) → count ≡ 0 → (fed_on name past shelf rest count start now f g a t).fetch.ended ≡ true
 unfolding fed_on
 fed_end name past shelf rest count start now f g a t none = ap (λ b. b || a.fetch.ended) (no_bytes t.piece (t.long ∙ none))
 
-module _ (name : List ℕ) (past rest : List Fetch) (start now out : Option (List ℕ)) (h : Head) (table : NodeTable) (before : List Act) (from read : ℕ) (live : LiveState) (k : IsFed name past rest start now h table before from read live) where
+module _ (name : List ℕ) (past rest : List Fetch) (start now out : List ℕ) (h : Head) (table : NodeTable) (before : List Act) (from read : ℕ) (live : LiveState) (k : IsFed name past rest start now h table before from read live) where
   -- the lines of a state that is known
   same_lines : act_lines h (after table k.fetch.given).progress.acts ≡ act_lines h live.progress.acts
   same_lines = ap (λ (s : LiveState). act_lines h s.progress.acts) (sym k.state)
 
   -- all lines are written
-  pub wrote_all : Appends now out (act_lines h (drop from live.progress.acts)) → Appends start out (act_lines h live.progress.acts)
-  wrote_all whole = subst (Appends start out) (sym k.lines) (Appends-trans start now out (act_lines h before) (act_lines h (drop from live.progress.acts)) k.wrote whole)
+  pub wrote_all : Took now out (act_lines h (drop from live.progress.acts)) → Took start out (act_lines h live.progress.acts)
+  wrote_all whole = subst (Took start out) (sym k.lines) (Took-trans start now out (act_lines h before) (act_lines h (drop from live.progress.acts)) k.wrote whole)
 
   pub fed_cut : TookPrefix now out (act_lines h (drop from live.progress.acts)) → IsCutOff h table k.fetch start out
   fed_cut part = cut_off h table k.fetch k.sound k.few start out
@@ -92,7 +91,7 @@ module _ (name : List ℕ) (past rest : List Fetch) (start now out : Option (Lis
   pub fed_long : live.bad ≡ None → STREAM_LIMIT < read → IsRefused h table k.fetch Long (act_lines h live.progress.acts)
   fed_long e l = subst (IsRefused h table k.fetch Long) same_lines (too_long h table k.fetch k.sound k.few (ap (λ (s : LiveState). s.bad) (sym k.state) ∙ e) (omega (arith, l, k.long)))
 
-  pub fed_along : live.bad ≡ None → read ≤ STREAM_LIMIT → Appends now out (act_lines h (drop from live.progress.acts)) →
+  pub fed_along : live.bad ≡ None → read ≤ STREAM_LIMIT → Took now out (act_lines h (drop from live.progress.acts)) →
       IsAlong name past rest start out (record { head = h; table = table; live = live; told = length live.progress.acts; read = read })
   fed_along e l whole = record { fetch = k.fetch; named = k.named; sound = k.sound; history_is = k.history_is; read = k.long; few = l; live = k.state; lawful = e; all_told = refl; wrote = wrote_all whole }
 
@@ -126,8 +125,8 @@ pub told_as : (shelf rest : ShelfState) (f n s : Follower) (count : ℕ) → Tak
 told_as shelf rest f n s count t e = sym (e ∙ ap (λ (f : Follower). record { head = f.head; table = f.table; live = n.live; told = length n.live.progress.acts; read = n.read }) t.state)
 
 -- a piece was fed, and all its lines are written
-pub along_at : (name : List ℕ) (past : List Fetch) (shelf rest : ShelfState) (count : ℕ) (start now out : Option (List ℕ)) (f n s : Follower) (a : IsAlong name past shelf.history start now f) (t : TakesPiece shelf rest f n count) → n.live.bad ≡ None → n.read ≤ STREAM_LIMIT →
-    Appends now out (act_lines f.head (drop f.told n.live.progress.acts)) → s ≡ record n { told = length n.live.progress.acts } → IsAlongAt count name past rest.history start out s
+pub along_at : (name : List ℕ) (past : List Fetch) (shelf rest : ShelfState) (count : ℕ) (start now out : List ℕ) (f n s : Follower) (a : IsAlong name past shelf.history start now f) (t : TakesPiece shelf rest f n count) → n.live.bad ≡ None → n.read ≤ STREAM_LIMIT →
+    Took now out (act_lines f.head (drop f.told n.live.progress.acts)) → s ≡ record n { told = length n.live.progress.acts } → IsAlongAt count name past rest.history start out s
 unfolding fed_along fed_on
 along_at name past shelf rest count start now out f n s a t none within whole e =
     let k = fed_on name past shelf rest count start now f n a t in
@@ -144,7 +143,7 @@ opened h table live e = ap (λ (s : LiveState). record { head = h; table = table
 abbrev pub broken_off : Fetch → Fetch
 broken_off f = record { name = f.name; given = f.given; ended = f.ended; failed = true }
 
-pub unread : (name : List ℕ) (past history rest : List Fetch) (start now : Option (List ℕ)) (f : Follower) (old new : SinkState) → (a : IsAlong name past history start now f) → rest ≡ failed history → now ≡ new.taken →
+pub unread : (name : List ℕ) (past history rest : List Fetch) (start now : List ℕ) (f : Follower) (old new : SinkState) → (a : IsAlong name past history start now f) → rest ≡ failed history → now ≡ new.taken →
     IsStreamed (λ s. Breaks f.head f.table s Shelf) name past rest start old new
 unread name past history rest start now f old new a e same = record {
   fetch = broken_off a.fetch;
@@ -158,7 +157,7 @@ unread name past history rest start now f old new a e same = record {
       lawful = ap (λ (s : LiveState). s.bad) (sym a.live) ∙ a.lawful;
       spelled = ap (λ (s : LiveState). act_lines f.head s.progress.acts) a.live;
     },
-    subst (λ o. Appends start o (act_lines f.head f.live.progress.acts)) same a.wrote,
+    subst (λ o. Took start o (act_lines f.head f.live.progress.acts)) same a.wrote,
   );
 }
 
@@ -168,12 +167,12 @@ unfetched name past rest h table old e = record {
   fetch = record { name = name; given = []; ended = false; failed = true };
   named = refl;
   history_is = e;
-  is = ([], record { failed = refl; few = omega arith; lawful = refl; spelled = refl }, Appends-nil old.taken);
+  is = ([], record { failed = refl; few = omega arith; lawful = refl; spelled = refl }, Took-none old.taken);
 }
 
 -- ---- the end
 
-pub along_open : (name : List ℕ) (past history : List Fetch) (now : Option (List ℕ)) (h : Head) (table : NodeTable) → history ≡ started name false past → IsAlong name past history now now (open_follower h table)
+pub along_open : (name : List ℕ) (past history : List Fetch) (now : List ℕ) (h : Head) (table : NodeTable) → history ≡ started name false past → IsAlong name past history now now (open_follower h table)
 along_open name past history now h table e = record {
   fetch = record { name = name; given = []; ended = false; failed = false };
   named = refl;
@@ -184,10 +183,10 @@ along_open name past history now h table e = record {
   live = refl;
   lawful = refl;
   all_told = refl;
-  wrote = Appends-nil now;
+  wrote = Took-none now;
 }
 
-module _ (name : List ℕ) (past history : List Fetch) (start now : Option (List ℕ)) (f : Follower) (a : IsAlong name past history start now f) (ended : a.fetch.ended ≡ true) (old new : SinkState) where
+module _ (name : List ℕ) (past history : List Fetch) (start now : List ℕ) (f : Follower) (a : IsAlong name past history start now f) (ended : a.fetch.ended ≡ true) (old new : SinkState) where
   acts : List ℕ
   acts = act_lines f.head f.live.progress.acts
 
@@ -200,13 +199,13 @@ module _ (name : List ℕ) (past history : List Fetch) (start now : Option (List
       (closed f.head f.table a.fetch a.sound (omega (arith, a.few, a.read)) ended lawful (omega (arith, a.few, a.read)) time (ap outcome (sym a.live) ∙ e))
 
   -- the lines of a stream that is lawful to its end
-  pub ended_whole : (time : ℕ) → outcome f.live ≡ Ok time → Appends now new.taken (closed_line time) → IsStreamed (Completes f.head f.table) name past history start old new
+  pub ended_whole : (time : ℕ) → outcome f.live ≡ Ok time → Took now new.taken (closed_line time) → IsStreamed (Completes f.head f.table) name past history start old new
   unfolding acts
   ended_whole time e whole = record {
     fetch = a.fetch;
     named = a.named;
     history_is = a.history_is;
-    is = (acts ++ closed_line time, all_closed time e, Appends-trans start now new.taken acts (closed_line time) a.wrote whole);
+    is = (acts ++ closed_line time, all_closed time e, Took-trans start now new.taken acts (closed_line time) a.wrote whole);
   }
 
   pub ended_broken : (broken : Broken) (before : ℕ) → old.faults ≤ before → Closes f before new.faults now new.taken (Err broken) → IsStreamed (λ s. Breaks f.head f.table s broken) name past history start old new
@@ -220,7 +219,7 @@ module _ (name : List ℕ) (past history : List Fetch) (start now : Option (List
   ended_broken (Refused (Lawless bad)) before l ends =
       let is = subst (IsRefused f.head f.table a.fetch (Lawless bad)) (ap (λ (s : LiveState). act_lines f.head s.progress.acts) (sym a.live))
       (unclosed f.head f.table a.fetch a.sound (omega (arith, a.few, a.read)) ended lawful (omega (arith, a.few, a.read)) bad (ap outcome (sym a.live) ∙ ends.0)) in
-      record { fetch = a.fetch; named = a.named; history_is = a.history_is; is = (acts, is, subst (λ o. Appends start o acts) (sym ends.1) a.wrote) }
+      record { fetch = a.fetch; named = a.named; history_is = a.history_is; is = (acts, is, subst (λ o. Took start o acts) (sym ends.1) a.wrote) }
 
 -- ---- a fault later in a run is one of the run
 
@@ -230,14 +229,14 @@ breaks_later h table s before Sink l b = (omega (arith, l, b.0), b.1)
 breaks_later h table s before (Refused fault) l b = b
 
 -- the same of an equal pack and table, from an earlier state of the sink on
-pub breaks_on : (f n : Follower) (name : List ℕ) (past history : List Fetch) (start : Option (List ℕ)) (first old new : SinkState) (broken : Broken) → IsOfSame f n → first.faults ≤ old.faults →
+pub breaks_on : (f n : Follower) (name : List ℕ) (past history : List Fetch) (start : List ℕ) (first old new : SinkState) (broken : Broken) → IsOfSame f n → first.faults ≤ old.faults →
     IsStreamed (λ s. Breaks n.head n.table s broken) name past history start old new → IsStreamed (λ s. Breaks f.head f.table s broken) name past history start first new
 breaks_on f n name past history start first old new broken same l b =
     let s : Stream = record { fetch = b.fetch; before = old.faults; now = new.faults; old = start; new = new.taken } in
     let here : Breaks f.head f.table s broken = subst (λ h. Breaks h f.table s broken) same.head (subst (λ table. Breaks n.head table s broken) same.table b.is) in
     record { fetch = b.fetch; named = b.named; history_is = b.history_is; is = breaks_later f.head f.table s first.faults broken l here }
 
-pub completes_on : (f n : Follower) (name : List ℕ) (past history : List Fetch) (start : Option (List ℕ)) (first old new : SinkState) → IsOfSame f n →
+pub completes_on : (f n : Follower) (name : List ℕ) (past history : List Fetch) (start : List ℕ) (first old new : SinkState) → IsOfSame f n →
     IsStreamed (Completes n.head n.table) name past history start old new → IsStreamed (Completes f.head f.table) name past history start first new
 completes_on f n name past history start first old new same b = record {
   fetch = b.fetch;
@@ -251,7 +250,7 @@ completes_on f n name past history start first old new same b = record {
 }
 
 -- what the end of all pieces answers
-pub end_of_all : (f n : Follower) (name : List ℕ) (past history : List Fetch) (start now : Option (List ℕ)) (first old new : SinkState) (result : Result Unit Broken) → IsOfSame f n → first.faults ≤ old.faults → (at : IsAlongAt 0 name past history start now n) →
+pub end_of_all : (f n : Follower) (name : List ℕ) (past history : List Fetch) (start now : List ℕ) (first old new : SinkState) (result : Result Unit Broken) → IsOfSame f n → first.faults ≤ old.faults → (at : IsAlongAt 0 name past history start now n) →
     Closes n old.faults new.faults now new.taken result → MatchResult result (λ _. IsStreamed (Completes f.head f.table) name past history start first new) (λ b. IsStreamed (λ s. Breaks f.head f.table s b) name past history start first new)
 end_of_all f n name past history start now first old new (Ok done) same l at closes =
     completes_on f n name past history start first old new same (ended_whole name past history start now n at.along (at.end refl) old new closes.0 closes.1 closes.2)

@@ -1,13 +1,12 @@
 -- How a stream ends, by the part of it that was read.
-use Rattle.std.proofs.Common.{◌≡◌, ◌≢◌, ℕ, ◌+◌, ◌<◌, ◌≤◌, Bool, true, false, cond, ◌&&◌, List, ◌++◌, length, take, drop, Option, Some, None, refl, sym, ap, ap₂, ◌∙◌, subst, arith, inl, inr, append-nil, lt-ltb, le-ltb, true≢false}
+use Rattle.std.proofs.Common.{◌≡◌, ◌≢◌, ℕ, ◌+◌, ◌<◌, ◌≤◌, Bool, true, false, cond, ◌&&◌, List, ◌++◌, length, take, drop, Some, None, refl, sym, ap, ap₂, ◌∙◌, subst, arith, inl, inr, append-nil, lt-ltb, le-ltb, true≢false}
 use Rattle.std.specs.Prelude.{is_none, nat_lt, Result, Ok, Err}
-use Rattle.std.specs.Io.KnownBytes.{Appends}
-use Rattle.std.proofs.KnownBytes.{Appends-trans}
 use Rattle.std.proofs.Math.Seq.{take-append-add, drop-append_seam}
 use Rattle.std.proofs.lemmas.Grind.{flat_map-append}
 use Rattle.std.proofs.lemmas.List.{length-append, take-append-le, take_all}
 use Rattle.cpg_tale.specs.Fetch.{Fetch}
-use Rattle.cpg_io.specs.Sink.{TookPrefix}
+use Rattle.cpg_io.specs.Sink.{Took, TookPrefix}
+use Rattle.cpg_io.proofs.Writes.{Took-trans}
 use Rattle.cpg_head.specs.Head.{Head}
 use Rattle.cpg_table.specs.Table.{NodeTable}
 use Rattle.cpg_node.specs.Dispatcher.{Act}
@@ -26,16 +25,16 @@ use Rattle.cpg_live.specs.Streams.{act_line, act_lines, closed_line, read_part, 
 -- ---- what a sink took
 
 -- a proper front of some bytes is one of more
-pub took_more : (a b : Option (List ℕ)) (p q : List ℕ) → TookPrefix a b p → TookPrefix a b (p ++ q)
+pub took_more : (a b : List ℕ) (p q : List ℕ) → TookPrefix a b p → TookPrefix a b (p ++ q)
 took_more a b p q took =
     let n = took.0 in
-    (n, omega (arith, took.1, length-append p q), subst (Appends a b) (sym (take-append-le n p q (omega (arith, took.1)))) took.2)
+    (n, omega (arith, took.1, length-append p q), subst (Took a b) (sym (take-append-le n p q (omega (arith, took.1)))) took.2)
 
 -- so it is behind bytes that were taken whole
-pub took_after : (a b c : Option (List ℕ)) (p q : List ℕ) → Appends a b p → TookPrefix b c q → TookPrefix a c (p ++ q)
+pub took_after : (a b c : List ℕ) (p q : List ℕ) → Took a b p → TookPrefix b c q → TookPrefix a c (p ++ q)
 took_after a b c p q whole took =
     let n = took.0 in
-    (length p + n, omega (arith, took.1, length-append p q), subst (Appends a c) (sym (take-append-add p q n)) (Appends-trans a b c p (take n q) whole took.2))
+    (length p + n, omega (arith, took.1, length-append p q), subst (Took a c) (sym (take-append-add p q n)) (Took-trans a b c p (take n q) whole took.2))
 
 -- ---- more bytes of a stream
 
@@ -125,14 +124,14 @@ module _ (h : Head) (table : NodeTable) (fetch : Fetch) (sound : fetch.failed �
         record { ended = ended; sound = sound; short = short; time = time; ends = ends; spelled = sym (lines_of h table fetch.given (after table fetch.given) (Ok time) (ap (after table) read_all) ends) }
 
   -- where a sink took a front of the lines so far
-  pub cut_off : (a b : Option (List ℕ)) → TookPrefix a b (act_lines h (after table fetch.given).progress.acts) → IsCutOff h table fetch a b
+  pub cut_off : (a b : List ℕ) → TookPrefix a b (act_lines h (after table fetch.given).progress.acts) → IsCutOff h table fetch a b
   cut_off a b took =
       let lines = act_lines h (after table fetch.given).progress.acts in
       let all : stream_lines h table fetch.given ≡ lines ++ close_of (stream_end table fetch.given) = ap (λ (bytes : List ℕ). act_lines h (after table bytes).progress.acts ++ close_of (stream_end table fetch.given)) read_all in
       record { sound = sound; few = few; front = subst (TookPrefix a b) (sym all) (took_more a b lines (close_of (stream_end table fetch.given)) took); so_far = inr took }
 
 -- a front of all lines, in the last of which the sink met a fault
-pub cut_closed : (h : Head) (table : NodeTable) (fetch : Fetch) (a b : Option (List ℕ)) (lines : List ℕ) → IsClosed h table fetch lines → TookPrefix a b lines → IsCutOff h table fetch a b
+pub cut_closed : (h : Head) (table : NodeTable) (fetch : Fetch) (a b : List ℕ) (lines : List ℕ) → IsClosed h table fetch lines → TookPrefix a b lines → IsCutOff h table fetch a b
 cut_closed h table fetch a b lines closed took = let s = closed.short in record { sound = closed.sound; few = omega (arith, s); front = subst (TookPrefix a b) closed.spelled took; so_far = inl closed.ended }
 
 -- the lines of acts that are added

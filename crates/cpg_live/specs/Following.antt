@@ -1,10 +1,9 @@
 -- A node that follows a stream, piece by piece.
-use Rattle.std.specs.Prelude.{ℕ, ◌≡◌, true, false, ◌+◌, ◌≤◌, List, ◌∷◌, Option, None, Result, Ok, Err, length}
-use Rattle.std.specs.Io.KnownBytes.{Appends}
+use Rattle.std.specs.Prelude.{ℕ, ◌≡◌, true, false, ◌+◌, ◌≤◌, List, ◌∷◌, None, Result, Ok, Err, MatchResult, length}
 use Rattle.cpg_tale.specs.Fetch.{Fetch, gave}
 use Rattle.cpg_io.specs.Causes.{Rose}
 use Rattle.cpg_io.specs.State.{ShelfState, SinkState}
-use Rattle.cpg_io.specs.Sink.{TookPrefix}
+use Rattle.cpg_io.specs.Sink.{Took, TookPrefix}
 use Rattle.cpg_head.specs.Head.{Head}
 use Rattle.cpg_table.specs.Table.{NodeTable}
 use Rattle.cpg_live.specs.Stream.{after, outcome}
@@ -30,9 +29,21 @@ pub record TakesPiece (shelf rest : ShelfState) (old new : Follower) (count : �
   pub few : new.read ≤ STREAM_LIMIT + 1
   pub fed : Feeds old.live piece new.live
 
+-- so, and the lines of all acts were told
+pub record TakesAndTells (shelf rest : ShelfState) (old new : Follower) : Type 0 where
+  pub count : ℕ
+  pub fed : Follower
+  pub piece : TakesPiece shelf rest old fed count
+  pub told : new ≡ record fed { told = length fed.live.progress.acts }
+
+-- what is left of a follower by a call for the next piece: where the shelf met a fault, what it was
+abbrev pub IsLeftBy : Result ℕ Broken → ShelfState → ShelfState → Follower → Follower → Type 0
+IsLeftBy (Err Shelf) shelf rest old new = new ≡ old
+IsLeftBy other shelf rest old new = TakesAndTells shelf rest old new
+
 -- A follower along a stream: what the shelf gave of its name, in one fetch more than before, was fed and lawful, and all lines of
 -- it are written.
-pub record IsAlong (name : List ℕ) (past history : List Fetch) (start now : Option (List ℕ)) (f : Follower) : Type 0 where
+pub record IsAlong (name : List ℕ) (past history : List Fetch) (start now : List ℕ) (f : Follower) : Type 0 where
   pub fetch : Fetch
   pub named : fetch.name ≡ name
   pub sound : fetch.failed ≡ false
@@ -42,10 +53,10 @@ pub record IsAlong (name : List ℕ) (past history : List Fetch) (start now : Op
   pub live : f.live ≡ after f.table fetch.given
   pub lawful : f.live.bad ≡ None
   pub all_told : f.told ≡ length f.live.progress.acts
-  pub wrote : Appends start now (act_lines f.head f.live.progress.acts)
+  pub wrote : Took start now (act_lines f.head f.live.progress.acts)
 
 -- so after a piece of so many bytes, of which none ends the stream
-pub record IsAlongAt (count : ℕ) (name : List ℕ) (past history : List Fetch) (start now : Option (List ℕ)) (f : Follower) : Type 0 where
+pub record IsAlongAt (count : ℕ) (name : List ℕ) (past history : List Fetch) (start now : List ℕ) (f : Follower) : Type 0 where
   pub along : IsAlong name past history start now f
   pub end : count ≡ 0 → along.fetch.ended ≡ true
 
@@ -54,29 +65,36 @@ pub record Stream : Type 0 where
   pub fetch : Fetch
   pub before : ℕ
   pub now : ℕ
-  pub old : Option (List ℕ)
-  pub new : Option (List ℕ)
+  pub old : List ℕ
+  pub new : List ℕ
 
 -- a stream is followed to its close, and all its lines are written
 abbrev pub Completes : Head → NodeTable → Stream → Type 0
-Completes h table s = (lines : List ℕ) × IsClosed h table s.fetch lines × Appends s.old s.new lines
+Completes h table s = (lines : List ℕ) × IsClosed h table s.fetch lines × Took s.old s.new lines
 
 -- it isn't
 abbrev pub Breaks : Head → NodeTable → Stream → Broken → Type 0
-Breaks h table s Shelf = (lines : List ℕ) × IsLawfulSoFar h table s.fetch lines × Appends s.old s.new lines
+Breaks h table s Shelf = (lines : List ℕ) × IsLawfulSoFar h table s.fetch lines × Took s.old s.new lines
 Breaks h table s Sink = Rose s.before s.now × IsCutOff h table s.fetch s.old s.new
-Breaks h table s (Refused fault) = (lines : List ℕ) × IsRefused h table s.fetch fault lines × Appends s.old s.new lines
+Breaks h table s (Refused fault) = (lines : List ℕ) × IsRefused h table s.fetch fault lines × Took s.old s.new lines
 
 -- a stream of the name, which was fetched once, with what was taken since a start
-pub record IsStreamed (Is : Stream → Type 0) (name : List ℕ) (past history : List Fetch) (start : Option (List ℕ)) (old new : SinkState) : Type 0 where
+pub record IsStreamed (Is : Stream → Type 0) (name : List ℕ) (past history : List Fetch) (start : List ℕ) (old new : SinkState) : Type 0 where
   pub fetch : Fetch
   pub named : fetch.name ≡ name
   pub history_is : history ≡ fetch ∷ past
   pub is : Is (record { fetch = fetch; before = old.faults; now = new.faults; old = start; new = new.taken })
 
+-- What an answer says of each stream that a follower was along, by its start, its name and what was fetched before: at Ok as is
+-- handed, and at Err how the stream broke.
+abbrev pub GoesOn : {T : Type 0} → Follower → ShelfState → ShelfState → SinkState → SinkState →
+    (T → List ℕ → List ℕ → List Fetch → Type 0) → Result T Broken → Type 0
+GoesOn f shelf rest old new Is result = (start name : List ℕ) (past : List Fetch) → IsAlong name past shelf.history start old.taken f →
+    MatchResult result (λ x. Is x start name past) (λ broken. IsStreamed (λ s. Breaks f.head f.table s broken) name past rest.history start old new)
+
 -- a stream that has no more bytes ends: its close is written, or it is refused
-abbrev pub Closes : Follower → ℕ → ℕ → Option (List ℕ) → Option (List ℕ) → Result Unit Broken → Type 0
-Closes f before now old new (Ok done) = (time : ℕ) × (outcome f.live ≡ Ok time) × Appends old new (closed_line time)
+abbrev pub Closes : Follower → ℕ → ℕ → List ℕ → List ℕ → Result Unit Broken → Type 0
+Closes f before now old new (Ok done) = (time : ℕ) × (outcome f.live ≡ Ok time) × Took old new (closed_line time)
 Closes f before now old new (Err Sink) = Rose before now × ((time : ℕ) × (outcome f.live ≡ Ok time) × TookPrefix old new (closed_line time))
 Closes f before now old new (Err (Refused (Lawless bad))) = (outcome f.live ≡ Err bad) × (new ≡ old)
 Closes f before now old new (Err (Refused Long)) = ⊥

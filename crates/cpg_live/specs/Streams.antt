@@ -1,5 +1,5 @@
 -- A stream that a node of a pack follows: the lines of what it does, and how the stream ends.
-use Rattle.std.specs.Prelude.{ℕ, ◌+◌, ◌≡◌, ◌≢◌, ◌<◌, ◌≤◌, ◌⊎◌, true, false, ◌&&◌, nat_lt, if◌then◌else◌, List, [], ◌++◌, Option, None, is_none, Result, Ok, Err, codes, length, take}
+use Rattle.std.specs.Prelude.{ℕ, ◌+◌, ◌≡◌, ◌≢◌, ◌<◌, ◌≤◌, ◌⊎◌, true, false, ◌&&◌, nat_lt, if◌then◌else◌, List, [], ◌++◌, None, is_none, Result, Ok, Err, codes, length, take}
 use Rattle.std.specs.List.{flat_map}
 use Rattle.std.specs.Fmt.{decimal}
 use Rattle.cpg_tale.specs.Fetch.{Fetch}
@@ -105,7 +105,7 @@ pub record IsLawfulSoFar (h : Head) (table : NodeTable) (fetch : Fetch) (lines :
   pub spelled : lines ≡ act_lines h (after table fetch.given).progress.acts
 
 -- A proper front of all lines of the bytes that came was written; of the close something only where they came to their end.
-pub record IsCutOff (h : Head) (table : NodeTable) (fetch : Fetch) (old new : Option (List ℕ)) : Type 0 where
+pub record IsCutOff (h : Head) (table : NodeTable) (fetch : Fetch) (old new : List ℕ) : Type 0 where
   pub sound : fetch.failed ≡ false
   pub few : length fetch.given ≤ STREAM_LIMIT + 1
   pub front : TookPrefix old new (stream_lines h table fetch.given)

@@ -1,15 +1,14 @@
 //! A node of a pack that follows a stream.
-ghost use Rattle.std.specs.Prelude.{ℕ, List, Option, ◌≡◌, ◌+◌, ◌*◌, ◌≤◌, ◌<◌, Err, IfErr, IfOk, IfSome, MatchResult, OnErr, OnOk, drop, length};
-ghost use Rattle.std.specs.Io.KnownBytes.{Appends};
-ghost use Rattle.cpg_tale.specs.Fetch.{Fetch, failed};
+ghost use Rattle.std.specs.Prelude.{◌≡◌, ◌+◌, ◌*◌, ◌≤◌, ◌<◌, Err, IfErr, IfOk, IfSome, OnErr, OnOk, drop, length};
+ghost use Rattle.cpg_tale.specs.Fetch.{failed};
 ghost use Rattle.cpg_io.specs.Agreement.{LeavesRest};
 ghost use Rattle.cpg_io.specs.Causes.{HasCause, Rose};
 ghost use Rattle.cpg_io.specs.Shelf.{SameLeave, SameNames};
-ghost use Rattle.cpg_io.specs.Sink.{TookPrefix};
+ghost use Rattle.cpg_io.specs.Sink.{Took, TookPrefix};
 ghost use Rattle.cpg_table.specs.Lawful.{column_count};
 ghost use Rattle.cpg_table.specs.Table.{table_at};
 ghost use Rattle.cpg_live.specs.Follower.{open_follower};
-ghost use Rattle.cpg_live.specs.Following.{Breaks, Closes, Completes, IsAlong, IsAlongAt, IsOfSame, IsStreamed, TakesPiece};
+ghost use Rattle.cpg_live.specs.Following.{Closes, GoesOn, IsAlongAt, IsLeftBy, IsOfSame, TakesPiece};
 ghost use Rattle.cpg_live.specs.LinesKept.{entry_count};
 ghost use Rattle.cpg_live.specs.Streams.{act_lines, closed_line, fault_line};
 
@@ -150,7 +149,7 @@ impl Follower {
 
     /// Writes the lines of the acts that aren't told, in one write.
     fn tell<O: Sink>(&mut self, out: &mut O) -> Result<(), Failed>
-        ensures whole { OnOk result (Appends (O.state out.old).taken (O.state out.new).taken
+        ensures whole { OnOk result (Took (O.state out.old).taken (O.state out.new).taken
             (act_lines self.old.head (drop self.old.told self.old.live.progress.acts))) }
         ensures part { OnErr result (TookPrefix (O.state out.old).taken (O.state out.new).taken
             (act_lines self.old.head (drop self.old.told self.old.live.progress.acts))) }
@@ -179,11 +178,9 @@ impl Follower {
         ensures leave { SameLeave (S.may_fetch shelf.old) (S.may_fetch shelf.new) }
         ensures rest { LeavesRest (S.state shelf.old) → LeavesRest (S.state shelf.new) }
         ensures same { IsOfSame self.old self.new }
-        ensures along { (start : Option (List ℕ)) (name : List ℕ) (past : List Fetch) →
-            IsAlong name past (S.state shelf.old).history start (O.state out.old).taken self.old →
-            MatchResult result (λ count.
-            IsAlongAt count name past (S.state shelf.new).history start (O.state out.new).taken self.new) (λ broken.
-            IsStreamed (λ s. Breaks self.old.head self.old.table s broken) name past (S.state shelf.new).history start (O.state out.old) (O.state out.new)) }
+        ensures along { GoesOn self.old (S.state shelf.old) (S.state shelf.new) (O.state out.old) (O.state out.new)
+            (λ count start name past. IsAlongAt count name past (S.state shelf.new).history start (O.state out.new).taken self.new) result }
+        ensures left { IsLeftBy result (S.state shelf.old) (S.state shelf.new) self.old self.new }
         ensures nearer { IfOk result (λ count. self.new.read ≡ self.old.read + count) }
         ensures within { IfOk result (λ _. self.new.read ≤ STREAM_LIMIT) }
         ensures rose { result ≡ Err Broken.Shelf → Rose (S.state shelf.old).faults (S.state shelf.new).faults }
@@ -208,7 +205,7 @@ impl Follower {
     /// Writes the line of a close.
     fn write_close<O: Sink>(&mut self, time: u64, out: &mut O) -> Result<(), Failed>
         ensures same { self.new ≡ self.old }
-        ensures whole { OnOk result (Appends (O.state out.old).taken (O.state out.new).taken (closed_line time)) }
+        ensures whole { OnOk result (Took (O.state out.old).taken (O.state out.new).taken (closed_line time)) }
         ensures part { OnErr result (TookPrefix (O.state out.old).taken (O.state out.new).taken (closed_line time)) }
         ensures cause { HasCause (O.state out.old).faults (O.state out.new).faults result }
     {
@@ -232,12 +229,15 @@ impl Follower {
         }
     }
 
-    /// The line of a stream that is refused.
-    pub fn refused_line(&mut self, fault: StreamFault) -> &[u8]
-        ensures { result.now ≡ fault_line fault }
+    /// Writes the line of a stream that is refused.
+    pub fn write_refused<E: Sink>(&mut self, fault: StreamFault, err: &mut E) -> Result<(), Failed>
+        ensures same { self.new ≡ self.old }
+        ensures whole { OnOk result (Took (E.state err.old).taken (E.state err.new).taken (fault_line fault)) }
+        ensures part { OnErr result (TookPrefix (E.state err.old).taken (E.state err.new).taken (fault_line fault)) }
+        ensures cause { HasCause (E.state err.old).faults (E.state err.new).faults result }
     {
         self.lines.clear();
         append_refused(&mut self.lines, fault);
-        self.lines.as_slice()
+        write_all(err, self.lines.as_slice())
     }
 }

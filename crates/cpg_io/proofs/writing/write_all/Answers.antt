@@ -1,10 +1,13 @@
 use Rattle.std.proofs.Common.{rules}
-use Rattle.cpg_io.proofs.Writes.{Appends-next, rest_of}
+use Rattle.cpg_io.proofs.Writes.{Took-next, Took-part, rest_of}
 use Rattle.cpg_io.proofs.writing.write_all.Goals as goal
 
 pub loop-at-preserved : goal.loop-at-preserved
 loop-at-preserved g c = record {
   within = search rules;
-  taken = Appends-next _ _ _ _ _ _ c.loop-at.invariant.taken (rw rest_of at c.in_ok-at.ensures.bytes);
+  taken = Took-next _ _ _ _ _ _ c.loop-at.invariant.taken (rw rest_of at c.in_ok-at.ensures.bytes);
   later = search rules;
 }
+
+pub returns-in_err-at-clause-part : goal.returns-in_err-at-clause-part
+returns-in_err-at-clause-part g c = Took-part c.from_residual.result _ _ _ _ c.loop-at.at (search rules) c.loop-at.invariant.taken c.in_err-at.ensures.bytes

@@ -1,7 +1,6 @@
 use Rattle.std.proofs.Common.{rules, ◌≡◌, ◌∙◌, ◌<◌, ◌≤◌, true, false, None, Some, arith, ap, refl, subst}
 use Rattle.std.specs.Prelude.{is_err}
-use Rattle.std.specs.Io.KnownBytes.{Appends}
-use Rattle.cpg_io.specs.Sink.{TookPrefix}
+use Rattle.cpg_io.specs.Sink.{Took, TookPrefix}
 use Rattle.cpg_live.specs.declared.following.TheConstants.{STREAM_LIMIT}
 use Rattle.cpg_live.specs.Follower.{Follower}
 use Rattle.cpg_live.specs.Streams.{act_lines}
@@ -55,7 +54,7 @@ returns-in-Some-clause-along g c start name past a =
         act_lines f.head n.live.progress.acts,
         fed_lawless name past rest.history start now out f.head f.table f.live.progress.acts f.told n.read n.live k c.in-Some.bad bad,
         wrote_all name past rest.history start now out f.head f.table f.live.progress.acts f.told n.read n.live k
-            (subst (Appends now out) (lines_told shelf rest f n c.in-Ok.fed.count c.in-Ok.ensures.piece) (on_ok c.tell.result told_all c.tell.ensures.whole)),
+            (subst (Took now out) (lines_told shelf rest f n c.in-Ok.fed.count c.in-Ok.ensures.piece) (on_ok c.tell.result told_all c.tell.ensures.whole)),
       );
     }
 
@@ -80,7 +79,7 @@ returns-then-self-gt-STREAM_LIMIT-clause-along g c start name past a =
         act_lines f.head n.live.progress.acts,
         fed_long name past rest.history start now out f.head f.table f.live.progress.acts f.told n.read n.live k none over,
         wrote_all name past rest.history start now out f.head f.table f.live.progress.acts f.told n.read n.live k
-            (subst (Appends now out) (lines_told shelf rest f n c.in-Ok.fed.count c.in-Ok.ensures.piece) (on_ok c.tell.result told_all c.tell.ensures.whole)),
+            (subst (Took now out) (lines_told shelf rest f n c.in-Ok.fed.count c.in-Ok.ensures.piece) (on_ok c.tell.result told_all c.tell.ensures.whole)),
       );
     }
 
@@ -97,4 +96,19 @@ returns-clause-along g c start name past a =
     let read : c.self.inside.read ≡ n.read = ap (λ (f : Follower). f.read) (c.self.view_is ∙ c.tell.ensures.state) in
     let within : n.read ≤ STREAM_LIMIT = omega (arith, c.if-self-gt-STREAM_LIMIT.false, read) in
     along_at name past shelf rest c.in-Ok.fed.count start now out f n c.tell.new.self a c.in-Ok.ensures.piece none within
-    (subst (Appends now out) (lines_told shelf rest f n c.in-Ok.fed.count c.in-Ok.ensures.piece) (on_ok c.tell.result told_all c.tell.ensures.whole)) c.tell.ensures.state
+    (subst (Took now out) (lines_told shelf rest f n c.in-Ok.fed.count c.in-Ok.ensures.piece) (on_ok c.tell.result told_all c.tell.ensures.whole)) c.tell.ensures.state
+
+pub returns-in_default-clause-left : goal.returns-in_default-clause-left
+returns-in_default-clause-left g c = c.in_default.ensures.same
+
+pub returns-then-is_err-clause-left : goal.returns-then-is_err-clause-left
+returns-then-is_err-clause-left g c = record { count = c.in-Ok.fed.count; fed = c.feed_piece.new.self; piece = c.in-Ok.ensures.piece; told = c.tell.ensures.state }
+
+pub returns-in-Some-clause-left : goal.returns-in-Some-clause-left
+returns-in-Some-clause-left g c = record { count = c.in-Ok.fed.count; fed = c.feed_piece.new.self; piece = c.in-Ok.ensures.piece; told = c.tell.ensures.state }
+
+pub returns-then-self-gt-STREAM_LIMIT-clause-left : goal.returns-then-self-gt-STREAM_LIMIT-clause-left
+returns-then-self-gt-STREAM_LIMIT-clause-left g c = record { count = c.in-Ok.fed.count; fed = c.feed_piece.new.self; piece = c.in-Ok.ensures.piece; told = c.tell.ensures.state }
+
+pub returns-clause-left : goal.returns-clause-left
+returns-clause-left g c = record { count = c.in-Ok.fed.count; fed = c.feed_piece.new.self; piece = c.in-Ok.ensures.piece; told = c.tell.ensures.state }
