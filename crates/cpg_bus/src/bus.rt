@@ -1,5 +1,5 @@
 //! The same for one question: each call finds the node's slot first.
-ghost use Rattle.std.specs.Prelude.{◌≡◌, ◌<◌, ◌^◌};
+ghost use Rattle.std.specs.Prelude.{◌≡◌, ◌<◌, ◌==◌, ◌^◌};
 ghost use Rattle.cpg_base.specs.Bus.{occurrence, arrival, first_from, next_slot};
 ghost use Rattle.cpg_bus.specs.Share.{HasSlot};
 
@@ -39,4 +39,12 @@ pub fn next_slot(problem: &Problem, node: u32, time: u64) -> u64
     ensures { result ≡ next_slot problem.now node time }
 {
     Share::of(problem, node).next_slot(time)
+}
+
+/// Whether a node's slot starts at the time.
+pub fn is_slot_start(problem: &Problem, node: u32, time: u64) -> bool
+    requires { HasSlot problem.now node }
+    ensures { result ≡ (next_slot problem.now node time == time) }
+{
+    Share::of(problem, node).is_start(time)
 }

@@ -6,6 +6,6 @@ mod bus;
 mod plan;
 mod share;
 
-pub use bus::{arrival, first_from, next_slot, occurrence};
+pub use bus::{arrival, first_from, is_slot_start, next_slot, occurrence};
 pub use plan::Plan;
 pub use share::Share;

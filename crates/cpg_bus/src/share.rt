@@ -102,4 +102,14 @@ impl Share {
     {
         self.occurrence(self.first_from(time))
     }
+
+    /// Whether the slot starts at the time.
+    pub fn is_start(&self, time: u64) -> bool
+        ensures { result ≡ (next_of self.now time == time) }
+    {
+        if time < self.offset {
+            return false;
+        }
+        (time - self.offset) % self.round == 0
+    }
 }
