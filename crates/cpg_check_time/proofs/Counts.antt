@@ -1,27 +1,17 @@
--- An execution takes the longer the more faults it has.
-use Rattle.std.proofs.Common.{ℕ, ◌+◌, ◌*◌, ◌<◌, ◌≤◌, ◌≡◌, List, Option, Some, None, arith, sym, subst, inl, inr}
-use Rattle.std.specs.Int.{div_ceil}
+-- The least count of faults with which an execution ends after a time, and the part of a cube with so many.
+use Rattle.std.proofs.Common.{ℕ, ◌+◌, ◌<◌, ◌≤◌, ◌≡◌, List, Option, Some, None, arith, sym, subst, inl, inr}
 use Rattle.std.specs.Prelude.{IfSome}
-use Rattle.std.proofs.Math.Nat.{mul-le-mul_right}
 use Rattle.std.proofs.lemmas.Bool.{cases_lt}
 use Rattle.cpg_base.specs.Graph.{Graph, process_count, process_at}
 use Rattle.cpg_base.specs.Duration.{duration}
 use Rattle.cpg_base.specs.Limits.{IsWithinLimits}
-use Rattle.cpg_base.specs.Scenario.{Scenario, IsScenario, fault_of}
-use Rattle.cpg_base.proofs.NumbersOf.{number_of-fault}
 use Rattle.cpg_cube.specs.declared.literal.Literal.{Literal}
 use Rattle.cpg_cube.specs.Fit.{IsKnown}
 use Rattle.cpg_cube.specs.Cover.{with_literal}
-use Rattle.cpg_cube.proofs.Boxes.{number_within, top_of_count}
 use Rattle.cpg_cube.proofs.CubeLaws.{with-is}
 use Rattle.cpg_cube.proofs.Narrow.{known-narrowed}
+use Rattle.cpg_violation.proofs.Durations.{duration_grows}
 use Rattle.cpg_check_time.specs.Lateness.{IsLeastCount}
-
-pub duration_grows : (g : Graph) (p m n : ℕ) → m ≤ n → duration g p m ≤ duration g p n
-duration_grows g p m n h =
-    let more : m * ((process_at g p).mu + div_ceil (process_at g p).wcet (process_at g p).parts + (process_at g p).alpha) ≤ n * ((process_at g p).mu + div_ceil (process_at g p).wcet (process_at g p).parts + (process_at g p).alpha) =
-    mul-le-mul_right ((process_at g p).mu + div_ceil (process_at g p).wcet (process_at g p).parts + (process_at g p).alpha) h in
-    omega arith
 
 pub duration_some : (g : Graph) → IsWithinLimits g → (p n : ℕ) → p < process_count g → 1 ≤ duration g p n
 duration_some g within p n l = let works : 1 ≤ (process_at g p).wcet = (within.processes p _ l).works in omega arith
@@ -33,13 +23,9 @@ first_is_least g p start time f below here = λ n. (
   λ m. omega (arith, here, duration_grows g p f n m),
 )
 
-module _ (g : Graph) (few : process_count g ≤ 128) (p : ℕ) (l : p < process_count g) where
-  -- a process fails no more often than there may be faults
-  pub fault_within : (s : Scenario) → IsScenario g s → fault_of s p ≤ g.faults
-  fault_within s i = omega (arith, number_within g few s i p (inl l), number_of-fault s p (omega arith), top_of_count g.faults p (omega arith))
-
-  pub part_known : (cube : List Literal) (low high : ℕ) (o : Option (List Literal)) → IsKnown g cube → o ≡ with_literal (record { variable = p; low = low; high = high }) cube → IfSome o (IsKnown g)
-  part_known cube low high None known is = tt
-  part_known cube low high (Some part) known is =
-      let literal : Literal = record { variable = p; low = low; high = high } in
-      subst (IsKnown g) (with-is literal cube part (sym is)) (known-narrowed g literal cube (inl l) known)
+-- the part of a cube is the graph's
+pub part_known : (g : Graph) (p : ℕ) → p < process_count g → (cube : List Literal) (low high : ℕ) (o : Option (List Literal)) → IsKnown g cube → o ≡ with_literal (record { variable = p; low = low; high = high }) cube → IfSome o (IsKnown g)
+part_known g p l cube low high None known is = tt
+part_known g p l cube low high (Some part) known is =
+    let literal : Literal = record { variable = p; low = low; high = high } in
+    subst (IsKnown g) (with-is literal cube part (sym is)) (known-narrowed g literal cube (inl l) known)

@@ -1,5 +1,5 @@
 -- Delays: how long they take, and the columns that are late by them.
-use Rattle.std.proofs.Common.{ℕ, ◌+◌, ◌<◌, ◌≤◌, ◌≡◌, ◌^◌, Bool, true, false, ◌&&◌, List, length, Option, arith, refl, sym, ap, ◌∙◌, inl, inr, lt-ltb, le-ltb, All}
+use Rattle.std.proofs.Common.{ℕ, ◌+◌, ◌<◌, ◌≤◌, ◌≡◌, ◌^◌, true, false, ◌&&◌, List, length, Option, arith, ap, inl, inr, lt-ltb, le-ltb, All}
 use Rattle.std.specs.Prelude.{nat_lt}
 use Rattle.std.specs.List.{list_any}
 use Rattle.std.proofs.lemmas.Bool.{cases_lt, and_parts, and_right}
@@ -20,7 +20,8 @@ use Rattle.cpg_cube.specs.Column.{Column}
 use Rattle.cpg_check_time.specs.declared.delays.Delay.{Delay}
 use Rattle.cpg_check_time.specs.Delays.{IsMost, done_at, is_late, delays}
 use Rattle.cpg_check_time.proofs.Seeking.{both_any}
-use Rattle.cpg_check_time.proofs.Counts.{duration_grows, fault_within}
+use Rattle.cpg_violation.proofs.Tests.{with_true}
+use Rattle.cpg_violation.proofs.Durations.{duration_grows, fault_within}
 
 -- a slot is short
 pub slot_short : (g : Graph) → IsWithinLimits g → (node : ℕ) → slot_length g node < 2 ^ 40
@@ -38,10 +39,6 @@ pub slot_first : (g : Graph) (order : List ℕ) (cube : List Literal) (c : Colum
     → IsFirst g order (λ s. matches cube s && (matches c.cube s && nat_lt time (c.time + length))) o
 slot_first g order cube c length time late o f = first_same g order (λ s. matches cube s && matches c.cube s) (λ s. matches cube s && (matches c.cube s && nat_lt time (c.time + length))) o
     (λ s _. ap (λ b. matches cube s && b) (with_true (matches c.cube s) _ (lt-ltb time (c.time + length) late))) f
-  where
-    with_true : (a b : Bool) → b ≡ true → a ≡ (a && b)
-    with_true true b e = sym e
-    with_true false b e = refl
 
 module _ (g : Graph) (cube : List Literal) (delay : Delay) (time : ℕ) where
   -- a column that delays matches together with the cube
@@ -50,11 +47,10 @@ module _ (g : Graph) (cube : List Literal) (delay : Delay) (time : ℕ) where
       let p = and_parts (matches cube s) (is_late g delay time d s) t in
       (p.0, (and_parts (matches d.cube s) (nat_lt time (done_at g s delay d.time)) p.1).0)
 
-  -- the columns that may delay in place of all
-  pub first_delay : (order : List ℕ) (found columns : List Column) → ((s : Scenario) (test : Column → Bool) → ((d : Column) → test d ≡ true → (matches cube s ≡ true) × (matches d.cube s ≡ true)) → list_any test found ≡ list_any test columns)
-      → (o : Option Scenario) → IsFirst g order (λ s. list_any (λ d. delays g cube delay time d s) found) o → IsFirst g order (λ s. matches cube s && list_any (λ d. is_late g delay time d s) columns) o
-  first_delay order found columns same o f = first_same g order (λ s. list_any (λ d. delays g cube delay time d s) found) (λ s. matches cube s && list_any (λ d. is_late g delay time d s) columns) o
-      (λ s _. same s (λ d. delays g cube delay time d s) (delays_both s) ∙ both_any (matches cube s) (λ d. is_late g delay time d s) columns) f
+  -- the cube's test is asked once
+  pub first_delay : (order : List ℕ) (columns : List Column) (o : Option Scenario) → IsFirst g order (λ s. list_any (λ d. delays g cube delay time d s) columns) o → IsFirst g order (λ s. matches cube s && list_any (λ d. is_late g delay time d s) columns) o
+  first_delay order columns o f = first_same g order (λ s. list_any (λ d. delays g cube delay time d s) columns) (λ s. matches cube s && list_any (λ d. is_late g delay time d s) columns) o
+      (λ s _. both_any (matches cube s) (λ d. is_late g delay time d s) columns) f
 
   -- where the last is early enough, all are
   pub never_delays : (most last : ℕ) → IsMost g delay most → (columns : List Column) → All (λ d. d.time ≤ last) columns → last + most ≤ time → (s : Scenario) → IsScenario g s → (matches cube s && list_any (λ d. is_late g delay time d s) columns) ≡ false

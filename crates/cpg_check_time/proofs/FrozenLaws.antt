@@ -17,6 +17,7 @@ use Rattle.cpg_cube.specs.Column.{Column}
 use Rattle.cpg_table.specs.Valid.{is_possible, differs_from}
 use Rattle.cpg_table.specs.declared.rule.Rule.{Rule}
 use Rattle.cpg_table.proofs.Possible.{possible-is_met}
+use Rattle.cpg_violation.proofs.Tests.{with_true}
 use Rattle.cpg_check_time.specs.Columns.{breaks_column, IsColumn}
 use Rattle.cpg_check_time.specs.Frozen.{frozen_time, possible_time}
 
@@ -58,10 +59,6 @@ module _ (g : Graph) (order : List ℕ) (tables : List NodeTable) (x : ℕ) (c :
 
   frozen_other : (t : ℕ) → frozen_time g tables x ≡ Some t → t ≢ c.time → (s : Scenario) → matches c.cube s ≡ breaks_column Rule.Frozen g tables x c s
   frozen_other t e other s = with_true (matches c.cube s) _ (differs_some c.time t (is_frozen g x) (find (is_possible g) (columns_of tables x)) e ∙ ap not (ne_eqb t c.time other))
-    where
-      with_true : (a b : Bool) → b ≡ true → a ≡ (a && b)
-      with_true true b e = sym e
-      with_true false b e = refl
 
   pub frozen_first : (t : ℕ) → frozen_time g tables x ≡ Some t → t ≢ c.time → (o : Option Scenario) → IsFirst g order (matches c.cube) o → IsFirst g order (breaks_column Rule.Frozen g tables x c) o
   frozen_first t e other o f = first_same g order (matches c.cube) (breaks_column Rule.Frozen g tables x c) o (λ s _. frozen_other t e other s) f

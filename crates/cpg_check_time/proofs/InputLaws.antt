@@ -1,23 +1,20 @@
 -- V5 at one column: the release, an input, or the end of the producer comes after its time.
-use Rattle.std.proofs.Common.{ℕ, ◌+◌, ◌<◌, ◌≤◌, ◌≡◌, Bool, true, false, cond, not, ◌&&◌, ◌||◌, ◌==◌, List, get_or, filter, Contains, Option, None, refl, sym, ap, ◌∙◌, arith, inl, inr, lt-ltb, le-ltb}
+use Rattle.std.proofs.Common.{ℕ, ◌+◌, ◌<◌, ◌≤◌, ◌≡◌, Bool, true, false, cond, not, ◌&&◌, ◌||◌, ◌==◌, List, filter, Contains, Option, refl, sym, ap, ◌∙◌, arith, lt-ltb, le-ltb}
 use Rattle.std.specs.Prelude.{nat_lt}
 use Rattle.std.specs.List.{list_any}
 use Rattle.std.proofs.Math.Bool.{and_assoc, and_comm}
-use Rattle.std.proofs.lemmas.Bool.{and_parts}
 use Rattle.cpg_base.specs.Activity.{active, live, item_active}
 use Rattle.cpg_base.specs.Bus.{slot_length}
 use Rattle.cpg_base.specs.Duration.{duration}
-use Rattle.cpg_base.specs.Graph.{Graph, process_count, edge_count, item_count, item_at, message_item, producer, producer_of_item, home, inputs, is_message, is_sent_item, process_at, source, target}
-use Rattle.cpg_base.specs.declared.item.Item.TheVariants.{Message, Broadcast}
+use Rattle.cpg_base.specs.Graph.{Graph, process_count, edge_count, item_count, item_at, message_item, producer, home, inputs, is_message, process_at, source, target}
 use Rattle.cpg_base.specs.Numbers.{numbers_below}
-use Rattle.cpg_base.proofs.Items.{item_at-start, item_at-message, item_cases, producer_within}
-use Rattle.cpg_base.proofs.Lists.{same_any, Contains-filter_parts, numbers-Contains, get_or-map-below}
+use Rattle.cpg_base.proofs.Items.{item_at-start, item_at-message, producer_within}
+use Rattle.cpg_base.proofs.Lists.{same_any, Contains-filter_parts, numbers-Contains}
 use Rattle.cpg_base.specs.Scenario.{Scenario, IsScenario, fault_of}
 use Rattle.cpg_base.specs.First.{IsFirst}
 use Rattle.cpg_order.proofs.Acyclic.{source_in_order}
 use Rattle.cpg_base.proofs.First.{first_same}
-use Rattle.cpg_rules.specs.Guards.{Guards, AreGuardsOf, is_passed, active_by, edge_guard, edge_guard_of}
-use Rattle.cpg_rules.proofs.EdgeGuards.{active_by-is, live_by-is}
+use Rattle.cpg_rules.specs.Guards.{Guards}
 use Rattle.cpg_cube.specs.Cube.{matches}
 use Rattle.cpg_cube.specs.declared.literal.Literal.{Literal}
 use Rattle.cpg_rules.specs.Admission.{IsAdmitted}
@@ -27,25 +24,22 @@ use Rattle.cpg_table.specs.Valid.{ends_of, arrivals_of, is_by, input_is_there, b
 use Rattle.cpg_table.specs.declared.rule.Rule.{Rule}
 use Rattle.cpg_violation.specs.Violation.{AllHold, row_rules}
 use Rattle.cpg_violation.proofs.Matching.{active_where}
+use Rattle.cpg_violation.proofs.LiveEdges.{live_tested}
+use Rattle.cpg_violation.proofs.Tests.{with_true, same_where}
+use Rattle.cpg_violation.proofs.Columnwise.{any_filter}
 use Rattle.cpg_violation.proofs.Moments.{made, waits}
 use Rattle.cpg_check_time.specs.declared.delays.Delay.TheVariants.{Execution, Slot}
 use Rattle.cpg_check_time.specs.Columns.{breaks_column}
 use Rattle.cpg_check_time.specs.Delays.{is_late}
 use Rattle.cpg_check_time.specs.Inputs.{is_asked, is_input_late, lacks_input}
-use Rattle.cpg_check_time.proofs.Seeking.{any_filter, both_any}
+use Rattle.cpg_check_time.proofs.Seeking.{both_any}
 use Rattle.cpg_check_time.proofs.Waits.{late_where}
 
 -- ---- live edges
 
-guard_at : (g : Graph) (order : List ℕ) (guards : Guards) → AreGuardsOf g order guards → (e : ℕ) → e < edge_count g → edge_guard guards e ≡ edge_guard_of g e
-guard_at g order guards are e l = ap (λ xs. get_or xs e (record { source = 0; test = None })) are.edges ∙ get_or-map-below (edge_guard_of g) (edge_count g) e (record { source = 0; test = None }) l
-
 -- an edge is live where its source is active and has the value that it asks for
 live_asked : {g : Graph} {order : List ℕ} {guards : Guards} → IsAdmitted g order guards → (s : Scenario) → IsScenario g s → (e : ℕ) → e < edge_count g → live g s.values e ≡ (active g s.values (source g e) && is_asked g e s)
-live_asked {g} {order} {guards} a s i e l =
-    sym (live_by-is g order a.topological guards a.guards s.values i.values e l)
-    ∙ ap (λ x. active_by guards s.values x.source && is_passed x.test s.values) (guard_at g order guards a.guards e l)
-    ∙ ap (λ b. b && is_asked g e s) (active_by-is g order a.topological guards a.guards s.values i.values (source g e) (source_in_order g order a.topological e l))
+live_asked {g} {order} {guards} a s i e l = live_tested g order a.topological guards a.guards s.values i.values e l
 
 module _ {g : Graph} {order : List ℕ} {guards : Guards} (admitted : IsAdmitted g order guards) (tables : List NodeTable) (rules : AllHold g tables row_rules) (s : Scenario) (law : IsScenario g s) where
   -- where a process is active and hasn't ended by a time, one of its columns is late
@@ -76,11 +70,7 @@ module _ {g : Graph} {order : List ℕ} {guards : Guards} (admitted : IsAdmitted
     at_start = ap (λ i. matches c.cube s && breaks_inputs_of g tables s c.time i) (item_at-start g p l)
 
     too_early : c.time < (process_at g p).release → matches c.cube s ≡ breaks_column Rule.Inputs g tables p c s
-    too_early early = with_true (matches c.cube s) ∙ sym (at_start ∙ ap (λ b. matches c.cube s && (b || list_any (λ e. not (input_is_there g tables s c.time e)) (filter (live g s.values) (inputs g p)))) (lt-ltb c.time (process_at g p).release early))
-      where
-        with_true : (a : Bool) → a ≡ (a && true)
-        with_true true = refl
-        with_true false = refl
+    too_early early = with_true (matches c.cube s) true refl ∙ sym (at_start ∙ ap (λ b. matches c.cube s && (b || list_any (λ e. not (input_is_there g tables s c.time e)) (filter (live g s.values) (inputs g p)))) (lt-ltb c.time (process_at g p).release early))
 
     inputs_only : (process_at g p).release ≤ c.time → list_any (λ e. lacks_input g tables c e s) (inputs g p) ≡ breaks_column Rule.Inputs g tables p c s
     inputs_only released =
@@ -95,14 +85,10 @@ module _ {g : Graph} {order : List ℕ} {guards : Guards} (admitted : IsAdmitted
   module _ (x : ℕ) (l : x < item_count g) (send : process_count g ≤ x) (c : Column) (k : Contains (columns_of tables x) c) where
     at_send : (matches c.cube s && list_any (λ d. is_late g (Execution (producer g x)) c.time d s) (columns_of tables (producer g x))) ≡ breaks_column Rule.Inputs g tables x c s
     at_send =
-        when (matches c.cube s) (list_any (λ d. is_late g (Execution (producer g x)) c.time d s) (columns_of tables (producer g x))) (not (is_by c.time (ends_of g tables s (producer g x))))
+        same_where (matches c.cube s) (list_any (λ d. is_late g (Execution (producer g x)) c.time d s) (columns_of tables (producer g x))) (not (is_by c.time (ends_of g tables s (producer g x))))
         (λ m. sym (end_late (producer g x) (producer_within g admitted.well_formed x l) c.time)
         ∙ ap (λ b. b && not (is_by c.time (ends_of g tables s (producer g x)))) (made g s x l send (active_where g tables s law x l rules c k m)))
         ∙ ap (λ b. matches c.cube s && b) (sym (waits g s x l send tables c.time))
-      where
-        when : (m a b : Bool) → (m ≡ true → a ≡ b) → (m && a) ≡ (m && b)
-        when true a b h = h refl
-        when false a b h = refl
 
 -- ---- an input by its kind
 

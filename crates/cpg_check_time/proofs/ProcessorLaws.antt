@@ -1,9 +1,8 @@
 -- V6 at one column: another execution on the processor overlaps that of the column.
-use Rattle.std.proofs.Common.{ℕ, ◌+◌, ◌<◌, ◌≤◌, ◌≡◌, Bool, true, false, ◌&&◌, ◌==◌, List, filter, All, Option, arith, refl, sym, ap, ◌∙◌, lt-ltb, le-ltb, ltb, eq-eqb}
+use Rattle.std.proofs.Common.{ℕ, ◌+◌, ◌<◌, ◌≤◌, ◌≡◌, Bool, true, false, ◌&&◌, ◌==◌, List, filter, All, Option, arith, sym, ap, ◌∙◌, lt-ltb, le-ltb, ltb, eq-eqb}
 use Rattle.std.specs.List.{list_any}
 use Rattle.std.proofs.lemmas.Bool.{and_left, and_parts, and_right}
 use Rattle.std.proofs.lemmas.List.Elements.{All-contains}
-use Rattle.std.proofs.Math.Bool.{and_assoc, and_comm}
 use Rattle.cpg_base.specs.Graph.{Graph, process_count, node_of}
 use Rattle.cpg_base.specs.Duration.{duration}
 use Rattle.cpg_base.specs.Limits.{IsWithinLimits}
@@ -20,17 +19,13 @@ use Rattle.cpg_table.specs.declared.rule.Rule.{Rule}
 use Rattle.cpg_check_time.specs.Columns.{breaks_column}
 use Rattle.cpg_check_time.specs.Clashes.{overlaps, overlaps_some}
 use Rattle.cpg_check_time.specs.Lateness.{ends_after}
-use Rattle.cpg_check_time.proofs.Counts.{duration_grows, duration_some, fault_within}
-use Rattle.cpg_check_time.proofs.Seeking.{any_filter, any_at, both_any}
+use Rattle.cpg_violation.proofs.Tests.{with_true}
+use Rattle.cpg_violation.proofs.Columnwise.{any_filter}
+use Rattle.cpg_violation.proofs.Durations.{duration_grows, fault_within}
+use Rattle.cpg_check_time.proofs.Counts.{duration_some}
+use Rattle.cpg_check_time.proofs.Seeking.{and_swap, any_at, both_any}
 
 -- ---- two columns
-
-with_true : (o w : Bool) → w ≡ true → o ≡ (o && w)
-with_true true w e = sym e
-with_true false w e = refl
-
-pub and_swap : (a b c : Bool) → (a && (b && c)) ≡ (b && (a && c))
-and_swap a b c = sym (and_assoc a b c) ∙ ap (λ d. d && c) (and_comm a b) ∙ and_assoc b a c
 
 module _ (g : Graph) (within : IsWithinLimits g) (p : ℕ) (l : p < process_count g) (c : Column) (q : ℕ) (d : Column) where
   -- the other one starts first
@@ -54,10 +49,9 @@ module _ (g : Graph) (within : IsWithinLimits g) (p : ℕ) (l : p < process_coun
 -- ---- the columns of another process
 
 module _ (g : Graph) (tables : List NodeTable) (p : ℕ) (c : Column) (q : ℕ) where
-  pub other_node : node_of g q ≡ node_of g p → (order : List ℕ) (found : List Column) → ((s : Scenario) (test : Column → Bool) → ((d : Column) → test d ≡ true → (matches c.cube s ≡ true) × (matches d.cube s ≡ true)) → list_any test found ≡ list_any test (columns_of tables q)) → IsWithinLimits g → p < process_count g
-      → (o : Option Scenario) → IsFirst g order (λ s. list_any (λ d. overlaps g p c q d s) found) o → IsFirst g order (overlaps_some g tables p c q) o
-  other_node same order found all within l o f = first_same g order (λ s. list_any (λ d. overlaps g p c q d s) found) (overlaps_some g tables p c q) o
-      (λ s _. all s (λ d. overlaps g p c q d s) (λ d. overlaps_both g within p l c q d s) ∙ sym (ap (λ b. b && list_any (λ d. overlaps g p c q d s) (columns_of tables q)) (eq-eqb (node_of g q) (node_of g p) same))) f
+  pub other_node : node_of g q ≡ node_of g p → (order : List ℕ) (o : Option Scenario) → IsFirst g order (λ s. list_any (λ d. overlaps g p c q d s) (columns_of tables q)) o → IsFirst g order (overlaps_some g tables p c q) o
+  other_node same order o f = first_same g order (λ s. list_any (λ d. overlaps g p c q d s) (columns_of tables q)) (overlaps_some g tables p c q) o
+      (λ s _. sym (ap (λ b. b && list_any (λ d. overlaps g p c q d s) (columns_of tables q)) (eq-eqb (node_of g q) (node_of g p) same))) f
 
   module _ (few : process_count g ≤ 128) (s : Scenario) (i : IsScenario g s) where
     -- all start too late

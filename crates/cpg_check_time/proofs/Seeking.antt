@@ -1,11 +1,11 @@
--- Tests of lists: of what passes another, and with a premise; the least scenario of one element more.
-use Rattle.std.proofs.Common.{ℕ, ◌+◌, ◌<◌, ◌≡◌, Bool, true, false, cond, ◌&&◌, ◌||◌, List, [], ◌∷◌, length, get_or, take, map, filter, Contains, Option, refl, sym, ap, ◌∙◌}
+-- Tests of lists with a premise; the least scenario of one element more.
+use Rattle.std.proofs.Common.{ℕ, ◌+◌, ◌<◌, ◌≡◌, Bool, true, false, ◌&&◌, ◌||◌, List, [], ◌∷◌, length, get_or, take, map, filter, Option, refl, sym, ap, ◌∙◌}
 use Rattle.std.specs.List.{list_any}
-use Rattle.std.proofs.Math.Bool.{or-false}
+use Rattle.std.proofs.Math.Bool.{and_assoc, and_comm, or-false}
 use Rattle.std.proofs.lemmas.List.Folds.{list_any_more, list_any-append}
 use Rattle.cpg_base.specs.Graph.{Graph}
 use Rattle.cpg_base.specs.Numbers.{numbers_below}
-use Rattle.cpg_base.proofs.Lists.{Contains-map, Contains-map_parts, Contains-filter, Contains-filter_parts, below_push}
+use Rattle.cpg_base.proofs.Lists.{below_push}
 use Rattle.cpg_base.specs.Scenario.{Scenario}
 use Rattle.cpg_base.specs.First.{IsFirst, earlier}
 use Rattle.cpg_base.proofs.First.{first_same, first_or}
@@ -13,15 +13,10 @@ use Rattle.cpg_cube.specs.Cube.{matches}
 use Rattle.cpg_cube.proofs.Kept.{any_map}
 use Rattle.cpg_table.specs.Table.{NodeTable, columns_of, at}
 use Rattle.cpg_cube.specs.Column.{Column}
+use Rattle.cpg_violation.proofs.Columnwise.{any_filter}
 
--- a test of what passes another
-pub any_filter : {X : Type 0} (test keep : X → Bool) (xs : List X) → list_any test (filter keep xs) ≡ list_any (λ x. keep x && test x) xs
-any_filter test keep [] = refl
-any_filter test keep (x ∷ xs) = go (keep x) (any_filter test keep xs)
-  where
-    go : (b : Bool) → list_any test (filter keep xs) ≡ list_any (λ x. keep x && test x) xs → list_any test (cond b (x ∷ filter keep xs) (filter keep xs)) ≡ ((b && test x) || list_any (λ x. keep x && test x) xs)
-    go true ih = ap (λ r. test x || r) ih
-    go false ih = ih
+pub and_swap : (a b c : Bool) → (a && (b && c)) ≡ (b && (a && c))
+and_swap a b c = sym (and_assoc a b c) ∙ ap (λ d. d && c) (and_comm a b) ∙ and_assoc b a c
 
 -- a test with a premise
 pub both_any : {X : Type 0} (m : Bool) (test : X → Bool) (xs : List X) → list_any (λ x. m && test x) xs ≡ (m && list_any test xs)

@@ -1,5 +1,5 @@
 -- V7 at one column: the time is no start of a slot, or a lower item of the node has it too.
-use Rattle.std.proofs.Common.{ℕ, ◌<◌, ◌≤◌, ◌≡◌, ◌≢◌, Bool, true, false, not, ◌&&◌, ◌||◌, ◌==◌, List, All, Contains, Option, arith, refl, sym, ap, ◌∙◌, eq-eqb, ne_eqb}
+use Rattle.std.proofs.Common.{ℕ, ◌<◌, ◌≤◌, ◌≡◌, ◌≢◌, Bool, true, false, not, ◌&&◌, ◌||◌, ◌==◌, List, All, Contains, Option, arith, sym, ap, ◌∙◌, eq-eqb, ne_eqb}
 use Rattle.std.specs.List.{list_any}
 use Rattle.std.proofs.lemmas.Bool.{and_parts, and_right}
 use Rattle.std.proofs.lemmas.List.Elements.{All-contains}
@@ -16,8 +16,8 @@ use Rattle.cpg_cube.specs.Column.{Column}
 use Rattle.cpg_table.specs.declared.rule.Rule.{Rule}
 use Rattle.cpg_check_time.specs.Columns.{breaks_column}
 use Rattle.cpg_check_time.specs.Clashes.{shares, shares_some}
-use Rattle.cpg_check_time.proofs.ProcessorLaws.{and_swap}
-use Rattle.cpg_check_time.proofs.Seeking.{any_at, both_any}
+use Rattle.cpg_violation.proofs.Tests.{with_true}
+use Rattle.cpg_check_time.proofs.Seeking.{and_swap, any_at, both_any}
 
 -- ---- two columns, and those of another item
 
@@ -25,22 +25,16 @@ use Rattle.cpg_check_time.proofs.Seeking.{any_at, both_any}
 pub share_where : (g : Graph) (c d : Column) → d.time ≡ c.time → (order : List ℕ) (o : Option Scenario) → IsFirst g order (λ s. matches c.cube s && matches d.cube s) o → IsFirst g order (shares c d) o
 share_where g c d same order o f = first_same g order (λ s. matches c.cube s && matches d.cube s) (shares c d) o
     (λ s _. ap (λ b. matches c.cube s && b) (with_true (matches d.cube s) (d.time == c.time) (eq-eqb d.time c.time same))) f
-  where
-    with_true : (o w : Bool) → w ≡ true → o ≡ (o && w)
-    with_true true w e = sym e
-    with_true false w e = refl
 
-shares_both : (c : Column) (s : Scenario) (d : Column) → shares c d s ≡ true → (matches c.cube s ≡ true) × (matches d.cube s ≡ true)
+pub shares_both : (c : Column) (s : Scenario) (d : Column) → shares c d s ≡ true → (matches c.cube s ≡ true) × (matches d.cube s ≡ true)
 shares_both c s d t =
     let r = and_parts (matches c.cube s) (matches d.cube s && (d.time == c.time)) t in
     (r.0, (and_parts (matches d.cube s) (d.time == c.time) r.1).0)
 
 module _ (g : Graph) (tables : List NodeTable) (x : ℕ) (c : Column) (y : ℕ) where
-  pub other_item : is_sent g y ≡ true → home g y ≡ home g x → (order : List ℕ) (found : List Column) → ((s : Scenario) (test : Column → Bool) → ((d : Column) → test d ≡ true → (matches c.cube s ≡ true) × (matches d.cube s ≡ true)) → list_any test found ≡ list_any test (columns_of tables y))
-      → (o : Option Scenario) → IsFirst g order (λ s. list_any (λ d. shares c d s) found) o → IsFirst g order (shares_some g tables x c y) o
-  other_item sent node order found all o f = first_same g order (λ s. list_any (λ d. shares c d s) found) (shares_some g tables x c y) o
-      (λ s _. all s (λ d. shares c d s) (shares_both c s)
-      ∙ sym (ap (λ b. (b && (home g y == home g x)) && list_any (λ d. shares c d s) (columns_of tables y)) sent ∙ ap (λ b. b && list_any (λ d. shares c d s) (columns_of tables y)) (eq-eqb (home g y) (home g x) node))) f
+  pub other_item : is_sent g y ≡ true → home g y ≡ home g x → (order : List ℕ) (o : Option Scenario) → IsFirst g order (λ s. list_any (λ d. shares c d s) (columns_of tables y)) o → IsFirst g order (shares_some g tables x c y) o
+  other_item sent node order o f = first_same g order (λ s. list_any (λ d. shares c d s) (columns_of tables y)) (shares_some g tables x c y) o
+      (λ s _. sym (ap (λ b. (b && (home g y == home g x)) && list_any (λ d. shares c d s) (columns_of tables y)) sent ∙ ap (λ b. b && list_any (λ d. shares c d s) (columns_of tables y)) (eq-eqb (home g y) (home g x) node))) f
 
   -- none has the time
   never_shares : ((d : Column) → Contains (columns_of tables y) d → d.time ≢ c.time) → (s : Scenario) → shares_some g tables x c y s ≡ false
@@ -68,10 +62,6 @@ module _ (g : Graph) (order : List ℕ) (tables : List NodeTable) (x : ℕ) (c :
     no_start n s =
         let starts : (next_slot g (home g x) c.time == c.time) ≡ false = ne_eqb (next_slot g (home g x) c.time) c.time n in
         with_true (matches c.cube s) _ (ap (λ b. b && (not (next_slot g (home g x) c.time == c.time) || list_any (other_at s) (numbers_below x))) sent ∙ ap (λ b. not b || list_any (other_at s) (numbers_below x)) starts)
-      where
-        with_true : (a b : Bool) → b ≡ true → a ≡ (a && b)
-        with_true true b e = sym e
-        with_true false b e = refl
 
     pub first_no_start : next_slot g (home g x) c.time ≢ c.time → (o : Option Scenario) → IsFirst g order (matches c.cube) o → IsFirst g order (breaks_column Rule.Slot g tables x c) o
     first_no_start n o f = first_same g order (matches c.cube) (breaks_column Rule.Slot g tables x c) o (λ s _. no_start n s) f

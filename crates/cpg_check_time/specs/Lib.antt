@@ -5,3 +5,4 @@ pub mod Clashes
 pub mod Delays
 pub mod Inputs
 pub mod Ready
+pub mod Questions

@@ -1,25 +1,24 @@
 //! Columns that are too early for what they wait for.
-ghost use Rattle.std.specs.Prelude.{◌≡◌, ◌<◌, ◌^◌, ◌&&◌, ℕ, All, IfOk, List, length, map};
+ghost use Rattle.std.specs.Prelude.{◌<◌, ◌^◌, ◌&&◌, IfOk};
 ghost use Rattle.std.specs.List.{list_any};
-ghost use Rattle.cpg_base.specs.Graph.{item_count, process_count};
+ghost use Rattle.cpg_base.specs.Graph.{item_count};
 ghost use Rattle.cpg_cube.specs.Cube.{matches};
 ghost use Rattle.cpg_cube.specs.Fit.{IsKnown};
 ghost use Rattle.cpg_base.specs.First.{IsFirst};
 ghost use Rattle.cpg_head.specs.GraphHead.{head_of};
 ghost use Rattle.cpg_table.specs.Lawful.{AreTablesOf};
 ghost use Rattle.cpg_table.specs.Table.{columns_of};
-ghost use Rattle.cpg_violation.specs.Room.{HasRoom};
-ghost use Rattle.cpg_check_time.specs.Columns.{IsColumn};
 ghost use Rattle.cpg_check_time.specs.Delays.{IsDelay, IsMost, delays, is_late};
+ghost use Rattle.cpg_check_time.specs.Questions.{FitsLate};
 ghost use Rattle.cpg_violation.specs.Lines.{AreLines};
 
 use crate::lateness::least_late;
-use crate::lines::meeting;
-use cpg_base::{Order, OutOfMemory, Problem, Scenario};
+use crate::questions::{Question, least_near};
+use cpg_base::{OutOfMemory, Problem, Scenario};
 use cpg_cube::{Cube, Entry};
 use cpg_rules::Admitted;
 use cpg_table::Tables;
-use cpg_violation::{Line, earlier, met};
+use cpg_violation::{Line, met};
 use std::alloc::Global;
 
 /// How long it takes from a column's time until what it begins is done.
@@ -43,62 +42,40 @@ fn most(problem: &Problem, delay: Delay) -> u64
     }
 }
 
-/// The least scenario that a cube and a column match, and in which what the column begins is done after a time; if there is
-/// one.
-fn least_after(
-    problem: &Problem,
-    cube: &Cube,
-    column: &Entry,
-    delay: Delay,
-    time: u64,
-    room: &mut Scenario,
-) -> Result<Option<Scenario>, OutOfMemory>
-    requires cube { IsKnown problem.now cube.now }
-    requires column { IsColumn problem.now column.now }
-    requires delay { IsDelay problem.now delay }
-    requires room { HasRoom problem.now room.old }
-    ensures room { HasRoom problem.now room.new }
-    ensures first { IfOk result (λ r. (order : List ℕ)
-        → IsFirst problem.now order (λ s. matches cube.now s && is_late problem.now delay time column.now s) r) }
-{
-    match delay {
-        Delay::Execution(process) => {
-            let found = least_late(problem, cube, column, process, time, room)?;
-            Ok(found)
-        }
-        Delay::Slot(length) => {
-            if column.time + length <= time {
-                return Ok(None);
-            }
-            let found = met(problem, cube, &column.cube, room)?;
-            Ok(found)
-        }
-    }
+/// That what a column begins is done after a time, in a scenario that a cube matches.
+#[derive(Drop)]
+pub(crate) struct Late<'a> {
+    pub(crate) cube: &'a Cube,
+    pub(crate) delay: Delay,
+    pub(crate) time: u64,
 }
 
-/// The same for several columns.
-fn least_of_late(
-    alloc: Global,
-    problem: &Problem,
-    order: &Order,
-    cube: &Cube,
-    delay: Delay,
-    time: u64,
-    columns: &[&Entry],
-) -> Result<Option<Scenario>, OutOfMemory>
-    requires order { length order.now ≡ process_count problem.now }
-    requires cube { IsKnown problem.now cube.now }
-    requires delay { IsDelay problem.now delay }
-    requires columns { All (λ b. IsColumn problem.now b.now) columns.now }
-    ensures { IfOk result (IsFirst problem.now order.now (λ s. list_any (λ d. delays problem.now cube.now delay time d s) (map (λ b. b.now) columns.now))) }
-{
-    let mut room = Scenario::zero(alloc, problem)?;
-    let mut found: Option<Scenario> = None;
-    for column in columns {
-        let next = least_after(problem, cube, column, delay, time, &mut room)?;
-        found = earlier(problem, order, found, next);
+impl<'a> Question for Late<'a> {
+    ghost fits = { λ late g. FitsLate g late };
+
+    ghost asks = { λ late g. delays g late.cube.now late.delay late.time };
+
+    fn least(
+        &self,
+        problem: &Problem,
+        beside: &Entry,
+        room: &mut Scenario,
+    ) -> Result<Option<Scenario>, OutOfMemory> {
+        let (cube, time) = (self.cube, self.time);
+        match self.delay {
+            Delay::Execution(process) => {
+                let found = least_late(problem, cube, beside, process, time, room)?;
+                Ok(found)
+            }
+            Delay::Slot(length) => {
+                if beside.time + length <= time {
+                    return Ok(None);
+                }
+                let found = met(problem, cube, &beside.cube, room)?;
+                Ok(found)
+            }
+        }
     }
-    Ok(found)
 }
 
 /// The least scenario that a column matches, and in which what some column of an item begins is done after its time; if there is
@@ -127,8 +104,7 @@ pub(crate) fn least_delay(
     if line.last.saturating_add(most(problem, delay)) <= time {
         return Ok(None);
     }
-    let order = admitted.order();
-    let columns = meeting(alloc, line, cube)?;
-    let found = least_of_late(alloc, problem, order, cube, delay, time, columns.as_slice())?;
+    let late = Late { cube, delay, time };
+    let found = least_near(alloc, admitted, line, cube, &late)?;
     Ok(found)
 }

@@ -1,5 +1,5 @@
 //! V5: at a start the release has come and the live inputs are there, and at a send the producer has ended.
-ghost use Rattle.std.specs.Prelude.{◌≡◌, ◌≤◌, ◌<◌, ◌&&◌, ℕ, All, IfNone, IfOk, IfSome, false};
+ghost use Rattle.std.specs.Prelude.{◌≡◌, ◌≤◌, ◌<◌, ◌&&◌, All, IfNone, IfOk, IfSome, false};
 ghost use Rattle.std.specs.List.{list_any};
 ghost use Rattle.std.proofs.Common.{refl};
 ghost use Rattle.cpg_base.specs.Graph.{Graph, edge_count, item_count};

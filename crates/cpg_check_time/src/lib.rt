@@ -11,6 +11,7 @@ mod lateness;
 mod lines;
 mod pairs;
 mod processor;
+mod questions;
 mod slots;
 
 pub use check::check_time;

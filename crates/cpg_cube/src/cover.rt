@@ -22,7 +22,7 @@ use cpg_base::{Order, OutOfMemory, Problem, Scenario, is_before, top};
 use std::alloc::Global;
 
 /// The earlier of two scenarios, where there are two.
-fn earlier(
+pub fn earlier(
     problem: &Problem,
     order: &Order,
     first: Option<Scenario>,

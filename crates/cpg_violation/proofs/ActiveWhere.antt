@@ -1,29 +1,25 @@
 -- The least scenario by a tree of tests: at a leaf, and from those of both arms of a test.
-use Rattle.std.proofs.Common.{ℕ, ◌-◌, ◌≤◌, ◌≡◌, Bool, true, false, cond, not, ◌&&◌, ◌||◌, List, get_or, Option, None, arith, refl, sym, ap, ◌∙◌, le-ltb}
+use Rattle.std.proofs.Common.{ℕ, ◌≡◌, Bool, true, false, cond, not, ◌&&◌, ◌||◌, List, get_or, Option, None, refl, ap, ◌∙◌}
 use Rattle.std.specs.Prelude.{nat_le}
 use Rattle.std.specs.List.{list_any}
 use Rattle.std.proofs.Math.Bool.{or-false}
-use Rattle.std.proofs.lemmas.Bool.{cond-false}
+use Rattle.std.proofs.lemmas.Bool.{and_right}
 use Rattle.cpg_base.specs.Numbers.{same_bool}
-use Rattle.cpg_base.specs.Graph.{Graph, value_variable}
+use Rattle.cpg_base.specs.Graph.{Graph}
 use Rattle.cpg_base.specs.declared.activation.Activation.{Activation}
 use Rattle.cpg_base.specs.Activity.{is_active}
 use Rattle.cpg_order.specs.Guard.{Guard, Leaf, Test, outcome_at}
-use Rattle.cpg_base.specs.Scenario.{Scenario, number_of, number_of_value}
+use Rattle.cpg_base.specs.Scenario.{Scenario, number_of_value}
+use Rattle.cpg_base.proofs.NumbersOf.{number_of-value}
 use Rattle.cpg_base.specs.First.{IsFirst, earlier}
 use Rattle.cpg_base.proofs.First.{first_same, first_or}
 use Rattle.cpg_cube.specs.Cube.{matches, holds}
 use Rattle.cpg_cube.specs.declared.literal.Literal.{Literal}
 use Rattle.cpg_cube.specs.Cover.{is_left}
 use Rattle.cpg_violation.specs.Activity.{comes_to, value_literal}
+use Rattle.cpg_violation.proofs.Tests.{with_true}
 
 -- ---- a value's literal
-
-value_number : (s : Scenario) (c : ℕ) → number_of s (value_variable c) ≡ number_of_value (get_or s.values c false)
-value_number s c =
-    let above : 128 ≤ value_variable c = omega arith in
-    let back : value_variable c - 128 ≡ c = omega arith in
-    cond-false _ _ _ (le-ltb (value_variable c) 128 above) ∙ ap (λ k. number_of_value (get_or s.values k false)) back
 
 same_value : (b v : Bool) → (nat_le (number_of_value b) (number_of_value v) && nat_le (number_of_value v) (number_of_value b)) ≡ same_bool b v
 same_value true true = refl
@@ -32,21 +28,13 @@ same_value false true = refl
 same_value false false = refl
 
 pub value_holds : (s : Scenario) (c : ℕ) (b : Bool) → holds s (value_literal c b) ≡ same_bool b (get_or s.values c false)
-value_holds s c b = ap (λ n. nat_le (number_of_value b) n && nat_le n (number_of_value b)) (value_number s c) ∙ same_value b (get_or s.values c false)
+value_holds s c b = ap (λ n. nat_le (number_of_value b) n && nat_le n (number_of_value b)) (number_of-value s c) ∙ same_value b (get_or s.values c false)
 
 -- ---- the steps
 
 of_arms : (v m : Bool) (wanted : Bool) (off on : Activation) → ((same_bool false v && (m && same_bool wanted (is_active off))) || (same_bool true v && (m && same_bool wanted (is_active on)))) ≡ (m && same_bool wanted (is_active (cond v on off)))
 of_arms true m wanted off on = refl
 of_arms false m wanted off on = or-false (m && same_bool wanted (is_active off))
-
-and_true : (m b : Bool) → b ≡ true → m ≡ (m && b)
-and_true true b e = sym e
-and_true false b e = refl
-
-and_false : (m b : Bool) → b ≡ false → (m && b) ≡ false
-and_false true b e = e
-and_false false b e = refl
 
 moved : (h m n x : Bool) → (((h && m) && n) && x) ≡ (h && ((m && n) && x))
 moved true m n x = refl
@@ -58,10 +46,10 @@ never false m n x e = refl
 
 module _ (g : Graph) (order : List ℕ) (by : List (List Literal)) (wanted : Bool) (cube : List Literal) where
   pub at_leaf : (a : Activation) (o : Option Scenario) → same_bool wanted (is_active a) ≡ true → IsFirst g order (is_left by cube) o → IsFirst g order (λ s. is_left by cube s && comes_to (Leaf a) wanted s) o
-  at_leaf a o e f = first_same g order (is_left by cube) (λ s. is_left by cube s && comes_to (Leaf a) wanted s) o (λ s _. and_true (is_left by cube s) (same_bool wanted (is_active a)) e) f
+  at_leaf a o e f = first_same g order (is_left by cube) (λ s. is_left by cube s && comes_to (Leaf a) wanted s) o (λ s _. with_true (is_left by cube s) (same_bool wanted (is_active a)) e) f
 
   pub at_other_leaf : (a : Activation) → same_bool wanted (is_active a) ≡ false → IsFirst g order (λ s. is_left by cube s && comes_to (Leaf a) wanted s) None
-  at_other_leaf a e = λ s _. and_false (is_left by cube s) (same_bool wanted (is_active a)) e
+  at_other_leaf a e = λ s _. and_right (is_left by cube s) (same_bool wanted (is_active a)) e
 
   pub at_test : (c : ℕ) (off on : Guard) (a b : Option Scenario)
       → IsFirst g order (λ s. holds s (value_literal c false) && (is_left by cube s && comes_to off wanted s)) a

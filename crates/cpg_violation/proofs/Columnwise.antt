@@ -1,9 +1,9 @@
 -- Going over the elements of a list, and over the columns of a row, by the least scenario that breaks each.
-use Rattle.std.proofs.Common.{ℕ, ◌+◌, ◌<◌, ◌≤◌, ◌≡◌, Bool, true, false, ◌&&◌, ◌||◌, List, [], ◌∷◌, length, get_or, take, Option, refl, sym, ap, ◌∙◌}
+use Rattle.std.proofs.Common.{ℕ, ◌+◌, ◌<◌, ◌≤◌, ◌≡◌, Bool, true, false, cond, ◌&&◌, ◌||◌, List, [], ◌∷◌, length, get_or, take, filter, Option, refl, sym, ap, ◌∙◌}
 use Rattle.std.specs.List.{list_any}
 use Rattle.std.proofs.Math.Bool.{or-false}
-use Rattle.std.proofs.lemmas.List.{take_more, drop_more, drop_all}
-use Rattle.std.proofs.lemmas.List.Folds.{list_any-append}
+use Rattle.std.proofs.lemmas.List.{drop_more, drop_all}
+use Rattle.std.proofs.lemmas.List.Folds.{list_any_more}
 use Rattle.cpg_base.specs.Graph.{Graph}
 use Rattle.cpg_base.specs.Scenario.{Scenario}
 use Rattle.cpg_base.specs.First.{IsFirst, earlier}
@@ -16,9 +16,14 @@ both_or : (m a b : Bool) → ((m && a) || (m && b)) ≡ (m && (a || b))
 both_or true a b = refl
 both_or false a b = refl
 
--- one element more
-pub any_more : {X : Type 0} (test : X → Bool) (xs : List X) (i : ℕ) (d : X) → i < length xs → (list_any test (take i xs) || test (get_or xs i d)) ≡ list_any test (take (i + 1) xs)
-any_more test xs i d h = ap (λ b. list_any test (take i xs) || b) (sym (or-false (test (get_or xs i d)))) ∙ sym (list_any-append test (take i xs) (get_or xs i d ∷ [])) ∙ sym (ap (list_any test) (take_more xs i d h))
+-- a test of what passes another
+pub any_filter : {X : Type 0} (test keep : X → Bool) (xs : List X) → list_any test (filter keep xs) ≡ list_any (λ x. keep x && test x) xs
+any_filter test keep [] = refl
+any_filter test keep (x ∷ xs) = go (keep x) (any_filter test keep xs)
+  where
+    go : (b : Bool) → list_any test (filter keep xs) ≡ list_any (λ x. keep x && test x) xs → list_any test (cond b (x ∷ filter keep xs) (filter keep xs)) ≡ ((b && test x) || list_any (λ x. keep x && test x) xs)
+    go true ih = ap (λ r. test x || r) ih
+    go false ih = ih
 
 module _ {X : Type 0} (g : Graph) (order : List ℕ) (fact : Scenario → Bool) (test : Scenario → X → Bool) (xs : List X) where
   -- one element more that may fail
@@ -26,7 +31,7 @@ module _ {X : Type 0} (g : Graph) (order : List ℕ) (fact : Scenario → Bool) 
       → IsFirst g order (λ s. fact s && test s (get_or xs i d)) b → IsFirst g order (λ s. fact s && list_any (test s) (take (i + 1) xs)) (earlier g order a b)
   first_any_more i d h a b f k = first_same g order
       (λ s. (fact s && list_any (test s) (take i xs)) || (fact s && test s (get_or xs i d))) (λ s. fact s && list_any (test s) (take (i + 1) xs)) (earlier g order a b)
-      (λ s _. both_or (fact s) (list_any (test s) (take i xs)) (test s (get_or xs i d)) ∙ ap (λ m. fact s && m) (any_more (test s) xs i d h))
+      (λ s _. both_or (fact s) (list_any (test s) (take i xs)) (test s (get_or xs i d)) ∙ ap (λ m. fact s && m) (sym (list_any_more (test s) xs i d h)))
       (first_or g order (λ s. fact s && list_any (test s) (take i xs)) (λ s. fact s && test s (get_or xs i d)) a b f k)
 
 -- either of two failures

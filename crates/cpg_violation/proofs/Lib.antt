@@ -10,5 +10,7 @@ pub mod ApartLaws
 pub mod LineLaws
 pub mod Matching
 pub mod Moments
-pub mod Few
+pub mod Tests
+pub mod LiveEdges
+pub mod Durations
 pub mod TreeLaws

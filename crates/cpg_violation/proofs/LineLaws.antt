@@ -1,7 +1,13 @@
 -- The first and the last time of columns.
-use Rattle.std.proofs.Common.{ℕ, ◌+◌, ◌<◌, ◌≤◌, ◌≡◌, List, length, get_or, take, All, arith, subst}
+use Rattle.std.proofs.Common.{ℕ, ◌+◌, ◌<◌, ◌≤◌, ◌≡◌, List, length, get_or, take, drop, All, arith, ap, ◌∙◌, sym, subst}
+use Rattle.std.specs.List.{fold}
+use Rattle.std.proofs.lemmas.List.{drop_more}
 use Rattle.std.proofs.lemmas.List.Elements.{All-weaker, All-more}
 use Rattle.cpg_cube.specs.Column.{Column}
+
+-- a walk takes one element more
+pub fold_more : {X : Type 0} (f : ℕ → X → ℕ) (value next : ℕ) (xs : List X) (i : ℕ) (d x : X) → i < length xs → x ≡ get_or xs i d → next ≡ f value x → fold f next (drop (i + 1) xs) ≡ fold f value (drop i xs)
+fold_more f value next xs i d x l is by = ap (λ v. fold f v (drop (i + 1) xs)) (by ∙ ap (f value) is) ∙ sym (ap (fold f value) (drop_more xs i d l))
 
 -- times that none is before or after
 pub not_before_more : (columns : List Column) (k : ℕ) (c : Column) (first less : ℕ) → k < length columns → c ≡ get_or columns k c → All (λ (d : Column). first ≤ d.time) (take k columns) → less ≤ first → less ≤ c.time → All (λ (d : Column). less ≤ d.time) (take (k + 1) columns)

@@ -1,5 +1,5 @@
 -- The moments of an item in a scenario, by the columns that match; and what a send waits for.
-use Rattle.std.proofs.Common.{ℕ, ◌+◌, ◌<◌, ◌≤◌, ◌≡◌, true, not, List, map, filter, Contains, sym, ap, ◌∙◌, arith, inl, inr}
+use Rattle.std.proofs.Common.{ℕ, ◌<◌, ◌≤◌, ◌≡◌, true, not, List, filter, Contains, sym, ap, ◌∙◌, arith, inl, inr}
 use Rattle.std.proofs.lemmas.Bool.{and_parts}
 use Rattle.cpg_base.specs.Activity.{active, live, item_active}
 use Rattle.cpg_base.specs.Graph.{Graph, process_count, item_count, item_at, producer, producer_of_item, is_sent_item, source}

@@ -6,7 +6,7 @@ use Rattle.std.proofs.lemmas.Bool.{and_from, and_parts}
 use Rattle.std.proofs.lemmas.Option.{slice_get_within, get_or_from_slice_get}
 use Rattle.std.proofs.lemmas.List.{take_more, take_all, get_or_default, get_or-take, length-take}
 use Rattle.std.proofs.lemmas.List.Elements.{Contains-push_cases, Contains-append_left, Contains-push, Contains-get_or}
-use Rattle.cpg_base.proofs.Lists.{list_any_parts, list_any_true}
+use Rattle.cpg_base.proofs.Lists.{list_any_parts, list_any_true, same_truth}
 use Rattle.cpg_base.specs.Scenario.{Scenario, number_of}
 use Rattle.cpg_cube.specs.Cube.{matches}
 use Rattle.cpg_cube.specs.Column.{Column}
@@ -61,16 +61,10 @@ sifts_cut columns v most places low high below above h k f g = record {
   found = λ s i c l m. side_found (nat_le (number_of s v) most) (places_in below s) (places_in above s) i (λ e. f.found s i (h s i c l m e) l m) (λ e. g.found s i (k s i c l m e) l m);
 }
 
--- two tests of which each passes where the other does
-pub both_same : (a b : Bool) → (a ≡ true → b ≡ true) → (b ≡ true → a ≡ true) → a ≡ b
-both_same true b h k = sym (h refl)
-both_same false true h k = sym (sym (k refl))
-both_same false false h k = refl
-
 -- a test of some column, by places among which each is that passes
 pub any_at : (test : Column → Bool) (columns : List Column) (places : List ℕ) → ((i : ℕ) → i < length columns → test (column_at columns i) ≡ true → Contains places i)
     → list_any test columns ≡ list_any (λ i. nat_lt i (length columns) && test (column_at columns i)) places
-any_at test columns places among = both_same (list_any test columns) (list_any (λ i. nat_lt i (length columns) && test (column_at columns i)) places)
+any_at test columns places among = same_truth (list_any test columns) (list_any (λ i. nat_lt i (length columns) && test (column_at columns i)) places)
     (λ e. let found = list_any_parts test columns e in
     let i : ℕ = found.1.0 in
     let at : column_at columns i ≡ found.0 = get_or_default columns i _ found.0 found.1.1 ∙ found.1.2 in
@@ -79,11 +73,6 @@ any_at test columns places among = both_same (list_any test columns) (list_any (
     (λ e. let found = list_any_parts (λ i. nat_lt i (length columns) && test (column_at columns i)) places e in
     let parts = and_parts (nat_lt found.0 (length columns)) (test (column_at columns found.0)) found.2 in
     list_any_true test columns (column_at columns found.0) (Contains-get_or columns found.0 _ (ltb-true _ _ parts.0)) parts.1)
-
--- where the first test passes, the second ones are equal
-pub same_where : (m a b : Bool) → (m ≡ true → a ≡ b) → (m && a) ≡ (m && b)
-same_where true a b h = h refl
-same_where false a b h = refl
 
 -- the columns before a place that match where a cube does, by the places that a sieve finds
 pub before_at : (columns : List Column) (j : ℕ) (places : List ℕ) (s : Scenario) → j ≤ length columns → ((i : ℕ) → i < length columns → matches (column_at columns i).cube s ≡ true → Contains places i)

@@ -9,12 +9,12 @@ use Rattle.cpg_base.specs.Scenario.{Scenario, IsScenario}
 use Rattle.cpg_cube.specs.Cube.{matches}
 use Rattle.cpg_cube.specs.declared.literal.Literal.{Literal}
 use Rattle.cpg_cube.specs.Column.{Column}
+use Rattle.cpg_tree.proofs.OnePath.{scenario_few}
 use Rattle.cpg_tree.specs.declared.places.Places.{Places}
 use Rattle.cpg_tree.specs.Space.{HasFew}
 use Rattle.cpg_tree.specs.Places.{IsMatched, cube_at, place_at, tells_cube}
 use Rattle.cpg_violation.specs.Sieves.{column_at}
 use Rattle.cpg_violation.specs.Trees.{IsRowTree}
-use Rattle.cpg_violation.proofs.Few.{scenario_few}
 
 -- the cubes of columns
 abbrev cubes_in : List Column → List (List Literal)

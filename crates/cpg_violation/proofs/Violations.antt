@@ -1,10 +1,9 @@
 -- Going over the items: what is known of the columns of each, and where the first violation is.
-use Rattle.std.proofs.Common.{ℕ, ◌+◌, ◌<◌, ◌≡◌, Bool, false, List, [], ◌∷◌, Option, Some, None, Contains, All, IfSome, length, arith, subst, inl, inr}
+use Rattle.std.proofs.Common.{ℕ, ◌+◌, ◌<◌, ◌≡◌, false, List, [], ◌∷◌, Option, Some, None, Contains, All, length, arith, subst, inl, inr}
 use Rattle.std.proofs.lemmas.Bool.{cases_lt}
 use Rattle.std.proofs.lemmas.List.Elements.{All-weaker, All-contains_itself}
 use Rattle.cpg_base.specs.Graph.{Graph, process_count, item_count, IsVariable}
 use Rattle.cpg_base.proofs.Places.{length_order}
-use Rattle.cpg_base.specs.First.{IsFirst}
 use Rattle.cpg_base.specs.Scenario.{Scenario, IsScenario}
 use Rattle.cpg_cube.specs.declared.literal.Literal.{Literal}
 use Rattle.cpg_cube.specs.Fit.{IsKnown}
@@ -32,11 +31,6 @@ module _ {g : Graph} {order : List ℕ} {guards : Guards} (admitted : IsAdmitted
       (λ c k. All-weaker (Contains c.cube) (λ (l : Literal). IsVariable g l.variable)
       (λ l m. variables_exist admitted.well_formed (has_shape g admitted.limits tables are) x c l k m) c.cube (All-contains_itself c.cube))
       (columns_of tables x) (All-contains_itself (columns_of tables x))
-
--- a scenario that is found is one of the graph's
-pub first_lawful : (g : Graph) (order : List ℕ) (test : Scenario → Bool) (o : Option Scenario) → IsFirst g order test o → IfSome o (IsScenario g)
-first_lawful g order test None f = tt
-first_lawful g order test (Some s) f = f.lawful
 
 -- a rule that speaks of columns alone
 module _ (rule : Rule) (g : Graph) (tables : List NodeTable) (x : ℕ) (never : (y : ℕ) (s : Scenario) → breaks rule g tables s y None ≡ false) where

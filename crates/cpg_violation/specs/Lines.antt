@@ -1,9 +1,18 @@
 -- The columns of an item, as they are looked for.
-use Rattle.std.specs.Prelude.{ℕ, ◌≡◌, ◌<◌, ◌≤◌, List, All, length, get_or}
+use Rattle.std.specs.Prelude.{ℕ, ◌≡◌, ◌<◌, ◌≤◌, ◌^◌, ◌-◌, List, All, length, get_or, min, max}
+use Rattle.std.specs.List.{fold}
 use Rattle.cpg_table.specs.Table.{NodeTable, columns_of}
 use Rattle.cpg_cube.specs.Column.{Column}
 use Rattle.cpg_violation.specs.Sieves.{IsSieveOf}
 use Rattle.cpg_violation.specs.declared.lines.Line.{Line}
+
+-- the least time of columns; the greatest number where there is none
+abbrev pub first_time : List Column → ℕ
+first_time columns = fold (λ time d. min time d.time) (2 ^ 64 - 1) columns
+
+-- the greatest time of columns; 0 where there is none
+abbrev pub last_time : List Column → ℕ
+last_time columns = fold (λ time d. max time d.time) 0 columns
 
 -- these columns, with a sieve of them, and times that none is before or after
 pub record IsLine (columns : List Column) (line : Line) : Type 0 where

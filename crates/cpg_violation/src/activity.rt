@@ -1,7 +1,7 @@
 //! The least scenario in which a process is active, or isn't, of those that a cube matches and others don't.
-ghost use Rattle.std.specs.Prelude.{◌≡◌, ◌<◌, ◌≤◌, ◌&&◌, All, IfOk, length, map};
+ghost use Rattle.std.specs.Prelude.{◌≡◌, ◌<◌, ◌&&◌, All, IfOk, map};
 ghost use Rattle.cpg_base.specs.declared.limits.TheConstants.{MOST_CONDITIONS};
-ghost use Rattle.cpg_base.specs.Graph.{IsVariable, condition_count, process_count};
+ghost use Rattle.cpg_base.specs.Graph.{IsVariable, condition_count};
 ghost use Rattle.cpg_rules.specs.Trees.{TestsBelow};
 ghost use Rattle.cpg_base.specs.First.{IsFirst};
 ghost use Rattle.cpg_cube.specs.Cube.{holds};
@@ -10,9 +10,9 @@ ghost use Rattle.cpg_cube.specs.Fit.{IsKnown};
 ghost use Rattle.cpg_violation.specs.Activity.{comes_to, value_literal};
 
 use crate::earliest::earlier;
-use cpg_base::{FIRST_VALUE, Order, OutOfMemory, Problem, Scenario};
+use cpg_base::{FIRST_VALUE, OutOfMemory, Scenario};
 use cpg_cube::{Cube, Literal, uncovered};
-use cpg_rules::{GuardTop, GuardTree};
+use cpg_rules::{Admitted, GuardTop, GuardTree};
 use std::alloc::Global;
 
 /// The literal that a condition has a value.
@@ -32,27 +32,24 @@ pub fn value_literal(condition: u32, value: bool) -> Literal
 #[cycle(activity)]
 fn least_where(
     alloc: Global,
-    problem: &Problem,
-    order: &Order,
+    admitted: &Admitted,
     tree: &GuardTree,
     wanted: bool,
     cube: &Cube,
     literal: Literal,
     by: &[&Cube],
 ) -> Result<Option<Scenario>, OutOfMemory>
-    requires order { length order.now ≡ process_count problem.now }
-    requires conditions { condition_count problem.now ≤ MOST_CONDITIONS }
-    requires tree { TestsBelow (condition_count problem.now) tree.now }
-    requires cube { IsKnown problem.now cube.now }
-    requires literal { IsVariable problem.now literal.variable }
-    requires list { All (λ b. IsKnown problem.now b.now) by.now }
-    ensures { IfOk result (IsFirst problem.now order.now (λ s.
+    requires tree { TestsBelow (condition_count admitted.now.graph) tree.now }
+    requires cube { IsKnown admitted.now.graph cube.now }
+    requires literal { IsVariable admitted.now.graph literal.variable }
+    requires list { All (λ b. IsKnown admitted.now.graph b.now) by.now }
+    ensures { IfOk result (IsFirst admitted.now.graph admitted.now.order (λ s.
         holds s literal && (is_left (map (λ b. b.now) by.now) cube.now s && comes_to tree.now wanted s))) }
 {
     let Some(part) = cube.with(literal)? else {
         return Ok(None);
     };
-    let found = least_at(alloc, problem, order, tree, wanted, &part, by)?;
+    let found = least_at(alloc, admitted, tree, wanted, &part, by)?;
     Ok(found)
 }
 
@@ -61,20 +58,20 @@ fn least_where(
 #[cycle(activity)]
 pub fn least_at(
     alloc: Global,
-    problem: &Problem,
-    order: &Order,
+    admitted: &Admitted,
     tree: &GuardTree,
     wanted: bool,
     cube: &Cube,
     by: &[&Cube],
 ) -> Result<Option<Scenario>, OutOfMemory>
-    requires order { length order.now ≡ process_count problem.now }
-    requires conditions { condition_count problem.now ≤ MOST_CONDITIONS }
-    requires tree { TestsBelow (condition_count problem.now) tree.now }
-    requires cube { IsKnown problem.now cube.now }
-    requires list { All (λ b. IsKnown problem.now b.now) by.now }
-    ensures { IfOk result (IsFirst problem.now order.now (λ s. is_left (map (λ b. b.now) by.now) cube.now s && comes_to tree.now wanted s)) }
+    requires tree { TestsBelow (condition_count admitted.now.graph) tree.now }
+    requires cube { IsKnown admitted.now.graph cube.now }
+    requires list { All (λ b. IsKnown admitted.now.graph b.now) by.now }
+    ensures { IfOk result (IsFirst admitted.now.graph admitted.now.order
+        (λ s. is_left (map (λ b. b.now) by.now) cube.now s && comes_to tree.now wanted s)) }
 {
+    let problem = admitted.problem();
+    let order = admitted.order();
     match tree.top() {
         GuardTop::Leaf(activation) => {
             if activation.is_active() != wanted {
@@ -86,8 +83,8 @@ pub fn least_at(
         GuardTop::Test { condition, no, yes } => {
             let off = value_literal(condition, false);
             let on = value_literal(condition, true);
-            let first = least_where(alloc, problem, order, no, wanted, cube, off, by)?;
-            let second = least_where(alloc, problem, order, yes, wanted, cube, on, by)?;
+            let first = least_where(alloc, admitted, no, wanted, cube, off, by)?;
+            let second = least_where(alloc, admitted, yes, wanted, cube, on, by)?;
             Ok(earlier(problem, order, first, second))
         }
     }

@@ -1,10 +1,10 @@
 //! The first part in which the head of a pack differs from a graph's.
-ghost use Rattle.std.specs.Prelude.{◌≡◌, ◌<◌, ◌↔◌, IfNone, IfOk, IfSome, IsTrue, length, map};
+ghost use Rattle.std.specs.Prelude.{◌≡◌, ◌↔◌, IfNone, IfOk, IfSome, IsTrue, length, map};
 ghost use Rattle.cpg_base.specs.Graph.{process_count};
 ghost use Rattle.cpg_head.specs.GraphHead.{extra_of, head_of};
 ghost use Rattle.cpg_violation.specs.Heads.{AreProcessesOf, IsFirstDifference, IsHeadFor};
 
-use cpg_base::{Name, OutOfMemory, Problem, Process};
+use cpg_base::{OutOfMemory, Problem, Process, are_same_names};
 use cpg_head::{Extra, Head, HeadProcess, head_of};
 use std::alloc::Global;
 
@@ -21,30 +21,10 @@ pub enum HeadPart {
     Edges,
 }
 
-fn is_same_name(name: &Name, other: &Name) -> bool
-    ensures { IsTrue result ↔ (name.now ≡ other.now) }
-{
-    name.as_str() == other.as_str()
-}
-
-fn are_same_names(names: &[Name], others: &[Name]) -> bool
-    ensures { IsTrue result ↔ (names.now ≡ others.now) }
-{
-    if names.len() != others.len() {
-        return false;
-    }
-    for place in 0..names.len() {
-        if !is_same_name(&names[place], &others[place]) {
-            return false;
-        }
-    }
-    true
-}
-
 fn is_same_process(process: &HeadProcess, other: &HeadProcess) -> bool
     ensures { IsTrue result ↔ (process.now ≡ other.now) }
 {
-    if !is_same_name(&process.name, &other.name) {
+    if process.name != other.name {
         return false;
     }
     if process.node != other.node {
@@ -102,6 +82,7 @@ fn are_same_extras(problem: &Problem, head: &Head) -> bool
     ensures { IsTrue result ↔ IfSome head.now.extras (λ extras. extras ≡ map extra_of problem.now.processes) }
 {
     let processes = problem.processes();
+    // for `within`: where the head says more of the processes, it does of each
     let _described = head.processes();
     for process in 0..processes.len() {
         let Some(extra) = head.extra(process as u32) else {

@@ -16,7 +16,7 @@ pub use activity::{least_at, value_literal};
 pub use earliest::earlier;
 pub use edges::{cubes_of, edge_cube};
 pub use heads::{HeadPart, first_difference};
-pub use lines::{Line, lines_of};
+pub use lines::{Line, first_time, last_time, lines_of};
 pub use marks::{RowMarks, TimeMarks, are_all, is_marked};
 pub use meeting::met;
 pub use sieve::Sieve;

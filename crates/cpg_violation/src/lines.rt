@@ -1,8 +1,8 @@
 //! The rows of all items, each with a sieve of its columns and the range of their times.
-ghost use Rattle.std.specs.Prelude.{◌≤◌, All, IfOk, length};
+ghost use Rattle.std.specs.Prelude.{◌≡◌, ◌≤◌, All, IfOk, length};
 ghost use Rattle.cpg_base.specs.declared.limits.TheConstants.{MOST_LOAD};
 ghost use Rattle.cpg_base.specs.Graph.{item_count};
-ghost use Rattle.cpg_violation.specs.Lines.{AreLines, IsLine};
+ghost use Rattle.cpg_violation.specs.Lines.{AreLines, IsLine, first_time, last_time};
 
 use crate::sieve::Sieve;
 use cpg_base::{OutOfMemory, Problem};
@@ -22,8 +22,9 @@ pub struct Line<'a> {
 }
 
 /// The least time of these columns; the greatest number where there is none.
-fn first_time(columns: &[Entry]) -> u64
-    ensures { All (λ d. result ≤ d.time) columns.now }
+pub fn first_time(columns: &[Entry]) -> u64
+    ensures first { result ≡ first_time columns.now }
+    ensures all { All (λ d. result ≤ d.time) columns.now }
 {
     let mut first = u64::MAX;
     for column in columns {
@@ -33,12 +34,13 @@ fn first_time(columns: &[Entry]) -> u64
 }
 
 /// The greatest time of these columns; 0 where there is none.
-fn last_time(columns: &[Entry]) -> u64
-    ensures { All (λ d. d.time ≤ result) columns.now }
+pub fn last_time(columns: &[Entry]) -> u64
+    ensures last { result ≡ last_time columns.now }
+    ensures all { All (λ d. d.time ≤ result) columns.now }
 {
-    let mut last = 0;
+    let mut last: u64 = 0;
     for column in columns {
-        last = column.time.max(last);
+        last = last.max(column.time);
     }
     last
 }

@@ -7,8 +7,6 @@ ghost use Rattle.cpg_table.specs.declared.rule.Rule.{Rule};
 ghost use Rattle.cpg_violation.specs.Sure.{AreRowMarks, AreTimeMarks};
 ghost use Rattle.cpg_violation.specs.Violation.{AllHold, row_rules, time_rules};
 
-use std::alloc::Global;
-
 /// The marks of V1 to V3, by item. Items past the end of a list aren't marked.
 #[derive(Drop)]
 pub struct RowMarks {
@@ -51,17 +49,6 @@ pub fn are_all(marks: &[bool], items: u32) -> bool
 }
 
 impl RowMarks {
-    /// No item is marked.
-    pub fn none(alloc: Global) -> RowMarks
-        ensures { (g : Graph) (tables : List NodeTable) → AreRowMarks g tables result }
-    {
-        RowMarks {
-            activity: Vec::new(alloc),
-            single: Vec::new(alloc),
-            present: Vec::new(alloc),
-        }
-    }
-
     /// Whether each of so many items has all marks, so that the three rules hold.
     pub fn are_all(&self, items: u32) -> bool
         ensures { OnTrue result ((g : Graph) (tables : List NodeTable) → items ≡ item_count g → AreRowMarks g tables self.now → AllHold g tables row_rules) }
@@ -77,20 +64,6 @@ impl RowMarks {
 }
 
 impl TimeMarks {
-    /// No item is marked.
-    pub fn none(alloc: Global) -> TimeMarks
-        ensures { (g : Graph) (tables : List NodeTable) → AreTimeMarks g tables result }
-    {
-        TimeMarks {
-            heard: Vec::new(alloc),
-            inputs: Vec::new(alloc),
-            processor: Vec::new(alloc),
-            slot: Vec::new(alloc),
-            frozen: Vec::new(alloc),
-            due: Vec::new(alloc),
-        }
-    }
-
     /// Whether each of so many items has all marks, so that the six rules hold.
     pub fn are_all(&self, items: u32) -> bool
         ensures { OnTrue result ((g : Graph) (tables : List NodeTable) → items ≡ item_count g → AreTimeMarks g tables self.now →

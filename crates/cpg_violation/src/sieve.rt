@@ -1,6 +1,6 @@
 //! Columns sorted by the ranges of their literals, so that those that may match together with a cube are found without a
 //! look at each.
-ghost use Rattle.std.specs.Prelude.{◌≡◌, ◌≤◌, ◌<◌, ◌&&◌, ℕ, Bool, IfOk, IfSome, Contains, false, length, nat_le, not, true};
+ghost use Rattle.std.specs.Prelude.{◌≡◌, ◌≤◌, ◌<◌, ◌&&◌, ℕ, IfOk, IfSome, Contains, false, length, nat_le, not, true};
 ghost use Rattle.std.specs.Bool.{OnFalse};
 ghost use Rattle.cpg_base.specs.declared.limits.TheConstants.{MOST_LOAD};
 ghost use Rattle.cpg_base.specs.Scenario.{Scenario, number_of};

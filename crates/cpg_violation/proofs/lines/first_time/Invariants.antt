@@ -1,5 +1,10 @@
-use Rattle.std.proofs.Common.{◌≤◌, All, take}
+use Rattle.std.proofs.Common.{◌≡◌, ◌≤◌, All, take, drop, min}
+use Rattle.std.specs.List.{fold}
+use Rattle.cpg_violation.specs.Lines.{first_time}
 use Rattle.cpg_violation.proofs.lines.first_time.Given as goal
 
 abbrev pub invariant-loop-column : goal.invariant-loop-column
-invariant-loop-column l = All (λ d. l.first ≤ d.time) (take l.column-index l.columns)
+invariant-loop-column l = record {
+  first : fold (λ time d. min time d.time) l.first (drop l.column-index l.columns) ≡ first_time l.columns;
+  all : All (λ d. l.first ≤ d.time) (take l.column-index l.columns);
+}

@@ -1,5 +1,10 @@
-use Rattle.std.proofs.Common.{◌≤◌, All, take}
+use Rattle.std.proofs.Common.{◌≡◌, ◌≤◌, All, take, drop, max}
+use Rattle.std.specs.List.{fold}
+use Rattle.cpg_violation.specs.Lines.{last_time}
 use Rattle.cpg_violation.proofs.lines.last_time.Given as goal
 
 abbrev pub invariant-loop-column : goal.invariant-loop-column
-invariant-loop-column l = All (λ d. d.time ≤ l.last) (take l.column-index l.columns)
+invariant-loop-column l = record {
+  last : fold (λ time d. max time d.time) l.last (drop l.column-index l.columns) ≡ last_time l.columns;
+  all : All (λ d. d.time ≤ l.last) (take l.column-index l.columns);
+}
