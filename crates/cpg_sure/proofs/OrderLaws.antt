@@ -131,6 +131,10 @@ module _ {g : Graph} {tables : List NodeTable} {last : Scenario → ℕ} {x : �
       each_told its_tree s law (λ (c : Column). All (λ y. IsOverBy tables (lasts y s) y c.time s) items)
       (subst (λ (columns : List Column). IfSome (place_at tree s) (λ i. All (λ y. IsOverBy tables (lasts y s) y (column_at columns i).time s) items)) is.columns (all s law)) c here m k d l
 
+-- what is told of the column that a look-up finds
+pub told_at : (fact : Column → Type 0) (columns : List Column) (i : ℕ) (c : Column) → i < length columns → c ≡ get_or columns i c → fact c → fact (column_at columns i)
+told_at fact columns i c l is h = subst fact (is ∙ sym (get_or_default columns i (record { time = 0; cube = [] }) c l)) h
+
 -- what is told in some place, of what is told there
 pub told_so : {P Q : ℕ → Type 0} (o : Option ℕ) → IfSome o P → ((i : ℕ) → P i → Q i) → IfSome o Q
 told_so None h f = tt

@@ -18,5 +18,5 @@ pub returns : goal.returns
 returns c = of_true c.do_pass.result c.do_pass.ensures (λ all g tables lasts x are is.
     told_before is c.in-Some.tree c.in-Some.is lasts c.args.items.now (λ s law.
     told_so {P = λ i. (g : Graph) (tables : List NodeTable) (lasts : ℕ → Scenario → ℕ) → AreCourses lasts g tables c.args.self.now → IsScenario g s → All (λ y. IsOverBy tables (lasts y s) y (column_at c.args.course.now.columns.now i).time s) c.args.items.now}
-        {Q = λ i. All (λ y. IsOverBy tables (lasts y s) y (column_at c.args.course.now.columns.now i).time s) c.args.items.now}
-        (place_at c.in-Some.tree s) (all s (c.whole-everywhere.ensures.lies s (few_of g c.args.self.now.faults are.faults s law))) (λ i told. told g tables lasts are law)))
+    {Q = λ i. All (λ y. IsOverBy tables (lasts y s) y (column_at c.args.course.now.columns.now i).time s) c.args.items.now}
+    (place_at c.in-Some.tree s) (all s (c.whole-everywhere.ensures.lies s (few_of g c.args.self.now.faults are.faults s law))) (λ i told. told g tables lasts are law)))
