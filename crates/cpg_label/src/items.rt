@@ -1,5 +1,5 @@
 //! What is done with an item, and where.
-ghost use Rattle.std.specs.Prelude.{◌≡◌, ◌<◌, ◌++◌, OnErr, OnOk, string_bytes};
+ghost use Rattle.std.specs.Prelude.{◌≡◌, ◌<◌, ◌++◌, OnErr, OnOk, codes, string_bytes};
 ghost use Rattle.cpg_base.specs.Graph.{condition_count, item_at, item_count};
 ghost use Rattle.cpg_base.specs.Called.{name_of, node_name};
 ghost use Rattle.cpg_label.specs.Front.{IsFrontOf};
@@ -11,6 +11,16 @@ use crate::text::{write_both, write_number};
 use cpg_base::{Item, Problem};
 use std::alloc::AllocError;
 
+/// The ends of an edge.
+fn write_ends(out: &mut String, from: &str, to: &str) -> Result<(), AllocError>
+    ensures text { OnOk result (string_bytes out.new ≡ string_bytes out.old ++ from.now ++ codes ">" ++ to.now) }
+    ensures front { OnErr result (IsFrontOf (string_bytes out.old) (string_bytes out.new)) }
+{
+    out.push_str(from)?;
+    write_both(out, ">", to)
+}
+
+/// An edge, with its ends.
 fn write_edge(out: &mut String, labels: &Labels<'_>, edge: u32) -> Result<(), AllocError>
     ensures text { OnOk result (string_bytes out.new ≡ string_bytes out.old ++ edge_text labels.now edge) }
     ensures front { OnErr result (IsFrontOf (string_bytes out.old) (string_bytes out.new)) }
@@ -18,8 +28,8 @@ fn write_edge(out: &mut String, labels: &Labels<'_>, edge: u32) -> Result<(), Al
     let (from, to) = labels.ends(edge);
     out.push_str("e")?;
     write_number(out, u64::from(edge))?;
-    write_both(out, " ", labels.process(from))?;
-    write_both(out, ">", labels.process(to))
+    out.push_str(" ")?;
+    write_ends(out, labels.process(from), labels.process(to))
 }
 
 /// What a node does with an item.
