@@ -1,3 +1,4 @@
 pub mod Called
 pub mod Steps
 pub mod Lines
+pub mod Fronts

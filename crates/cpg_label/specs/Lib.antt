@@ -1,3 +1,4 @@
+pub mod Front
 pub mod Labels
 pub mod CubeText
 pub mod Phrases

@@ -1,29 +1,34 @@
 //! The lines of columns.
-ghost use Rattle.std.specs.Prelude.{◌≡◌, ◌++◌, OnOk, codes, string_bytes};
+ghost use Rattle.std.specs.Prelude.{◌≡◌, ◌++◌, OnErr, OnOk, codes, string_bytes};
 ghost use Rattle.std.specs.Fmt.{decimal};
 ghost use Rattle.cpg_label.specs.CubeText.{columns_text, cube_text, literal_text, range_text, value_text};
+ghost use Rattle.cpg_label.specs.Front.{IsFrontOf};
 ghost use Rattle.cpg_label.specs.Lines.{IsLine};
 
 use crate::labels::Labels;
 use crate::line::Line;
+use crate::text::{write_both, write_number};
 use cpg_base::Variable;
 use cpg_cube::{Entry, Literal};
 use std::alloc::AllocError;
 
 /// A range of fault counts.
 fn write_range(out: &mut String, low: u8, high: u8) -> Result<(), AllocError>
-    ensures { OnOk result (string_bytes out.new ≡ string_bytes out.old ++ range_text low high) }
+    ensures text { OnOk result (string_bytes out.new ≡ string_bytes out.old ++ range_text low high) }
+    ensures front { OnErr result (IsFrontOf (string_bytes out.old) (string_bytes out.new)) }
 {
+    write_number(out, u64::from(low))?;
     if low == high {
-        write!(out, "{low}")
-    } else {
-        write!(out, "{low}..{high}")
+        return Ok(());
     }
+    out.push_str("..")?;
+    write_number(out, u64::from(high))
 }
 
 /// A value, by its number.
 pub fn write_value(out: &mut String, number: u8) -> Result<(), AllocError>
-    ensures { OnOk result (string_bytes out.new ≡ string_bytes out.old ++ value_text number) }
+    ensures text { OnOk result (string_bytes out.new ≡ string_bytes out.old ++ value_text number) }
+    ensures front { OnErr result (IsFrontOf (string_bytes out.old) (string_bytes out.new)) }
 {
     if number == 0 {
         out.push_str("false")
@@ -38,17 +43,16 @@ pub(crate) fn write_literal(
     labels: &Labels<'_>,
     literal: Literal,
 ) -> Result<(), AllocError>
-    ensures { OnOk result (string_bytes out.new ≡ string_bytes out.old ++ literal_text labels.now literal) }
+    ensures text { OnOk result (string_bytes out.new ≡ string_bytes out.old ++ literal_text labels.now literal) }
+    ensures front { OnErr result (IsFrontOf (string_bytes out.old) (string_bytes out.new)) }
 {
     match Variable::of(literal.variable) {
         Variable::Count(process) => {
-            let name = labels.process(process);
-            write!(out, "{name} faults ")?;
+            write_both(out, labels.process(process), " faults ")?;
             write_range(out, literal.low, literal.high)
         }
         Variable::Value(condition) => {
-            let name = labels.condition(condition);
-            write!(out, "{name} ")?;
+            write_both(out, labels.condition(condition), " ")?;
             write_value(out, literal.low)
         }
     }
@@ -60,7 +64,8 @@ pub(crate) fn write_later(
     labels: &Labels<'_>,
     literal: Literal,
 ) -> Result<(), AllocError>
-    ensures { OnOk result (string_bytes out.new ≡ string_bytes out.old ++ codes ", " ++ literal_text labels.now literal) }
+    ensures text { OnOk result (string_bytes out.new ≡ string_bytes out.old ++ codes ", " ++ literal_text labels.now literal) }
+    ensures front { OnErr result (IsFrontOf (string_bytes out.old) (string_bytes out.new)) }
 {
     out.push_str(", ")?;
     write_literal(out, labels, literal)
@@ -73,14 +78,16 @@ fn write_column(
     time: u64,
 ) -> Result<(), AllocError>
     requires { IsLine labels.now line.now }
-    ensures { OnOk result (string_bytes out.new ≡ string_bytes out.old ++ codes "  " ++ decimal time ++ codes ": " ++ cube_text labels.now line.now.literals.items ++ codes "\n") }
+    ensures text { OnOk result (string_bytes out.new ≡ string_bytes out.old ++ codes "  " ++ decimal time ++ codes ": " ++ cube_text labels.now line.now.literals.items ++ codes "\n") }
+    ensures front { OnErr result (IsFrontOf (string_bytes out.old) (string_bytes out.new)) }
 {
-    write!(out, "  {time}: ")?;
+    out.push_str("  ")?;
+    write_number(out, time)?;
+    out.push_str(": ")?;
     if line.literals.is_empty() {
         return out.push_str("always\n");
     }
-    out.push_str(line.text.as_str())?;
-    out.push_str("\n")
+    write_both(out, line.text.as_str(), "\n")
 }
 
 /// A line of each column.
@@ -89,7 +96,8 @@ pub fn write_columns(
     labels: &Labels<'_>,
     columns: &[Entry],
 ) -> Result<(), AllocError>
-    ensures { OnOk result (string_bytes out.new ≡ string_bytes out.old ++ columns_text labels.now columns.now) }
+    ensures text { OnOk result (string_bytes out.new ≡ string_bytes out.old ++ columns_text labels.now columns.now) }
+    ensures front { OnErr result (IsFrontOf (string_bytes out.old) (string_bytes out.new)) }
 {
     let mut line = Line::new(*out.allocator())?;
     for column in columns {

@@ -1,45 +1,56 @@
 //! What is done with an item, and where.
-ghost use Rattle.std.specs.Prelude.{◌≡◌, ◌<◌, ◌++◌, OnOk, string_bytes};
-ghost use Rattle.cpg_base.specs.Graph.{condition_count, item_at, item_count, process_at};
+ghost use Rattle.std.specs.Prelude.{◌≡◌, ◌<◌, ◌++◌, OnErr, OnOk, codes, string_bytes};
+ghost use Rattle.cpg_base.specs.Graph.{condition_count, item_at, item_count};
+ghost use Rattle.cpg_base.specs.Called.{name_of, node_name};
+ghost use Rattle.cpg_label.specs.Front.{IsFrontOf};
 ghost use Rattle.cpg_label.specs.ItemText.{act_text, edge_text, hear_text, done_text};
 ghost use Rattle.cpg_label.specs.Labels.{condition_name, labels_of, process_name};
 
 use crate::labels::Labels;
+use crate::text::{write_both, write_number};
 use cpg_base::{Item, Problem};
 use std::alloc::AllocError;
 
+/// The ends of an edge.
+fn write_ends(out: &mut String, from: &str, to: &str) -> Result<(), AllocError>
+    ensures text { OnOk result (string_bytes out.new ≡ string_bytes out.old ++ from.now ++ codes ">" ++ to.now) }
+    ensures front { OnErr result (IsFrontOf (string_bytes out.old) (string_bytes out.new)) }
+{
+    out.push_str(from)?;
+    write_both(out, ">", to)
+}
+
+/// An edge, with its ends.
 fn write_edge(out: &mut String, labels: &Labels<'_>, edge: u32) -> Result<(), AllocError>
-    ensures { OnOk result (string_bytes out.new ≡ string_bytes out.old ++ edge_text labels.now edge) }
+    ensures text { OnOk result (string_bytes out.new ≡ string_bytes out.old ++ edge_text labels.now edge) }
+    ensures front { OnErr result (IsFrontOf (string_bytes out.old) (string_bytes out.new)) }
 {
     let (from, to) = labels.ends(edge);
-    let from = labels.process(from);
-    let to = labels.process(to);
-    write!(out, "e{edge} {from}>{to}")
+    out.push_str("e")?;
+    write_number(out, u64::from(edge))?;
+    out.push_str(" ")?;
+    write_ends(out, labels.process(from), labels.process(to))
 }
 
 /// What a node does with an item.
 pub fn write_act(out: &mut String, labels: &Labels<'_>, item: Item) -> Result<(), AllocError>
-    ensures { OnOk result (string_bytes out.new ≡ string_bytes out.old ++ act_text labels.now item) }
+    ensures text { OnOk result (string_bytes out.new ≡ string_bytes out.old ++ act_text labels.now item) }
+    ensures front { OnErr result (IsFrontOf (string_bytes out.old) (string_bytes out.new)) }
 {
     match item {
-        Item::Start(process) => {
-            let name = labels.process(process);
-            write!(out, "start {name}")
-        }
+        Item::Start(process) => write_both(out, "start ", labels.process(process)),
         Item::Message(edge) => {
             out.push_str("send ")?;
             write_edge(out, labels, edge)
         }
-        Item::Broadcast(condition) => {
-            let name = labels.condition(condition);
-            write!(out, "tell {name}")
-        }
+        Item::Broadcast(condition) => write_both(out, "tell ", labels.condition(condition)),
     }
 }
 
 /// What a node hears of an item.
 pub fn write_heard(out: &mut String, labels: &Labels<'_>, item: Item) -> Result<(), AllocError>
-    ensures { OnOk result (string_bytes out.new ≡ string_bytes out.old ++ hear_text labels.now item) }
+    ensures text { OnOk result (string_bytes out.new ≡ string_bytes out.old ++ hear_text labels.now item) }
+    ensures front { OnErr result (IsFrontOf (string_bytes out.old) (string_bytes out.new)) }
 {
     out.push_str("hear ")?;
     match item {
@@ -49,8 +60,10 @@ pub fn write_heard(out: &mut String, labels: &Labels<'_>, item: Item) -> Result<
     }
 }
 
-fn name_of(problem: &Problem, process: u32) -> &str
-    ensures { result.now ≡ (process_at problem.now process).name }
+/// What a process is called, and nothing where there is no such process.
+pub fn name_of(problem: &Problem, process: u32) -> &str
+    ensures name { result.now ≡ name_of problem.now process }
+    ensures label { result.now ≡ process_name (labels_of problem.now) process }
 {
     match problem.processes().get(process as usize) {
         Some(process) => process.name.as_str(),
@@ -58,15 +71,18 @@ fn name_of(problem: &Problem, process: u32) -> &str
     }
 }
 
-/// What a process is called, and nothing where there is no such process.
-fn process_label(problem: &Problem, process: u32) -> &str
-    ensures { result.now ≡ process_name (labels_of problem.now) process }
+/// What a node is called, and nothing where there is no such node.
+pub fn node_name(problem: &Problem, node: u32) -> &str
+    ensures { result.now ≡ node_name problem.now node }
 {
-    name_of(problem, process)
+    match problem.nodes().get(node as usize) {
+        Some(name) => name.as_str(),
+        None => "",
+    }
 }
 
 /// What the process of a condition is called.
-fn condition_label(problem: &Problem, condition: u32) -> &str
+fn condition_name(problem: &Problem, condition: u32) -> &str
     requires { condition < condition_count problem.now }
     ensures { result.now ≡ condition_name (labels_of problem.now) condition }
 {
@@ -76,17 +92,15 @@ fn condition_label(problem: &Problem, condition: u32) -> &str
 /// What is done with an item of a graph, as a trace says it.
 pub fn write_item(out: &mut String, problem: &Problem, item: u32) -> Result<(), AllocError>
     requires { item < item_count problem.now }
-    ensures { OnOk result (string_bytes out.new ≡ string_bytes out.old ++ done_text (labels_of problem.now) (item_at problem.now item)) }
+    ensures text { OnOk result (string_bytes out.new ≡ string_bytes out.old ++ done_text (labels_of problem.now) (item_at problem.now item)) }
+    ensures front { OnErr result (IsFrontOf (string_bytes out.old) (string_bytes out.new)) }
 {
     match problem.item(item) {
-        Item::Start(process) => {
-            let name = process_label(problem, process);
-            write!(out, "start {name}")
+        Item::Start(process) => write_both(out, "start ", name_of(problem, process)),
+        Item::Message(edge) => {
+            out.push_str("send e")?;
+            write_number(out, u64::from(edge))
         }
-        Item::Message(edge) => write!(out, "send e{edge}"),
-        Item::Broadcast(condition) => {
-            let name = condition_label(problem, condition);
-            write!(out, "tell {name}")
-        }
+        Item::Broadcast(condition) => write_both(out, "tell ", condition_name(problem, condition)),
     }
 }

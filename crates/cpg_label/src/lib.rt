@@ -6,7 +6,8 @@ mod items;
 mod labels;
 mod line;
 mod phrases;
+mod text;
 
 pub use columns::{write_columns, write_value};
-pub use items::{write_act, write_heard, write_item};
+pub use items::{name_of, node_name, write_act, write_heard, write_item};
 pub use labels::Labels;

@@ -1,9 +1,9 @@
 use Rattle.std.proofs.Common.{ap, sym, ◌∙◌}
 use Rattle.cpg_base.specs.Graph.{process_at}
 use Rattle.cpg_label.proofs.Called.{condition_called}
-use Rattle.cpg_label.proofs.items.condition_label.Goals as goal
+use Rattle.cpg_label.proofs.items.condition_name.Goals as goal
 
 pub returns : goal.returns
 returns c =
     let g = c.args.problem.now in
-    c.name_of.ensures ∙ ap (λ p. (process_at g p).name) c.process_of.ensures.process ∙ sym (condition_called g c.args.condition c.requires)
+    c.name_of.ensures.name ∙ ap (λ p. (process_at g p).name) c.process_of.ensures.process ∙ sym (condition_called g c.args.condition c.requires)
