@@ -1,13 +1,10 @@
-//! The lines of columns.
+//! The texts of literals.
 ghost use Rattle.std.specs.Prelude.{◌≡◌, ◌++◌, OnOk, codes, string_bytes};
-ghost use Rattle.std.specs.Fmt.{decimal};
-ghost use Rattle.cpg_label.specs.CubeText.{columns_text, cube_text, literal_text, range_text, value_text};
-ghost use Rattle.cpg_label.specs.Lines.{IsLine};
+ghost use Rattle.cpg_label.specs.CubeText.{literal_text, range_text, value_text};
 
 use crate::labels::Labels;
-use crate::line::Line;
 use cpg_base::Variable;
-use cpg_cube::{Entry, Literal};
+use cpg_cube::Literal;
 use std::alloc::AllocError;
 
 /// A range of fault counts.
@@ -64,37 +61,4 @@ pub(crate) fn write_later(
 {
     out.push_str(", ")?;
     write_literal(out, labels, literal)
-}
-
-fn write_column(
-    out: &mut String,
-    labels: &Labels<'_>,
-    line: &Line,
-    time: u64,
-) -> Result<(), AllocError>
-    requires { IsLine labels.now line.now }
-    ensures { OnOk result (string_bytes out.new ≡ string_bytes out.old ++ codes "  " ++ decimal time ++ codes ": " ++ cube_text labels.now line.now.literals.items ++ codes "\n") }
-{
-    write!(out, "  {time}: ")?;
-    if line.literals.is_empty() {
-        return out.push_str("always\n");
-    }
-    out.push_str(line.text.as_str())?;
-    out.push_str("\n")
-}
-
-/// A line of each column.
-pub fn write_columns(
-    out: &mut String,
-    labels: &Labels<'_>,
-    columns: &[Entry],
-) -> Result<(), AllocError>
-    ensures { OnOk result (string_bytes out.new ≡ string_bytes out.old ++ columns_text labels.now columns.now) }
-{
-    let mut line = Line::new(*out.allocator())?;
-    for column in columns {
-        line.turn_into(labels, column.cube.literals())?;
-        write_column(out, labels, &line, column.time)?;
-    }
-    Ok(())
 }

@@ -7,6 +7,7 @@ mod labels;
 mod line;
 mod phrases;
 
-pub use columns::{write_columns, write_value};
+pub use columns::write_value;
 pub use items::{write_act, write_heard, write_item};
 pub use labels::Labels;
+pub use line::{Line, turned};
