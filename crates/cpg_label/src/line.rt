@@ -121,11 +121,7 @@ impl Line {
     }
 
     /// Turns into the line of other literals.
-    fn turn_into(
-        &mut self,
-        labels: &Labels<'_>,
-        literals: &[Literal],
-    ) -> Result<(), AllocError>
+    fn turn_into(&mut self, labels: &Labels<'_>, literals: &[Literal]) -> Result<(), AllocError>
         requires { IsLine labels.now self.old }
         ensures line { OnOk result (IsLine labels.now self.new) }
         ensures literals { OnOk result (self.new.literals.items ≡ literals.now) }

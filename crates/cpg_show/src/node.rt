@@ -100,7 +100,7 @@ fn name_line(alloc: Global, head: &Head, node: u32) -> Result<String, OutOfMemor
 
 /// The sheet of a node's table.
 fn sheet_of<'a>(alloc: Global, tables: &'a Tables, node: u32) -> Result<Sheet<'a>, OutOfMemory>
-    requires { node < length tables.entry.now.head.nodes }
+    requires { node < length tables.now.head.nodes }
     ensures { IfOk result (λ sheet. sheet_text sheet ≡ node_text tables.entry.now node) }
 {
     let labels = Labels::ready_of_head(alloc, tables.head())?;

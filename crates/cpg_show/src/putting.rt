@@ -1,5 +1,5 @@
 //! Texts of columns, put into a buffer in front of a sink. No memory is asked for that has to be there.
-ghost use Rattle.std.specs.Prelude.{◌≡◌, IfSome, flat_map};
+ghost use Rattle.std.specs.Prelude.{◌≡◌, ◌++◌, IfSome, codes, flat_map};
 ghost use Rattle.std.specs.Fmt.{decimal};
 ghost use Rattle.cpg_io.specs.Causes.{HasCause};
 ghost use Rattle.cpg_codec.specs.Writing.{Puts};
@@ -15,35 +15,44 @@ use itoa::Buffer as Digits;
 use std::alloc::Global;
 
 /// A text.
-pub(crate) fn put_text<O: Sink>(
-    buffer: &mut Buffer,
-    sink: &mut O,
-    text: &str,
-) -> Result<(), Failed>
+pub(crate) fn put_text<O: Sink>(buffer: &mut Buffer, sink: &mut O, text: &str) -> Result<(), Failed>
     ensures put { Puts (O.state sink.old).taken (O.state sink.new).taken buffer.old buffer.new result text.now }
     ensures cause { HasCause (O.state sink.old).faults (O.state sink.new).faults result }
 {
     buffer.put_any(sink, text.as_bytes())
 }
 
-/// Texts, one after another.
-fn put_texts<O: Sink>(buffer: &mut Buffer, sink: &mut O, texts: &[&str]) -> Result<(), Failed>
-    ensures put { Puts (O.state sink.old).taken (O.state sink.new).taken buffer.old buffer.new result (flat_map (λ t. t.now) texts.now) }
+/// Two texts.
+fn put_two<O: Sink>(
+    buffer: &mut Buffer,
+    sink: &mut O,
+    first: &str,
+    second: &str,
+) -> Result<(), Failed>
+    ensures put { Puts (O.state sink.old).taken (O.state sink.new).taken buffer.old buffer.new result (first.now ++ second.now) }
     ensures cause { HasCause (O.state sink.old).faults (O.state sink.new).faults result }
 {
-    for text in texts {
-        put_text(buffer, sink, text)?;
-    }
-    Ok(())
+    put_text(buffer, sink, first)?;
+    put_text(buffer, sink, second)
+}
+
+/// Three texts.
+fn put_three<O: Sink>(
+    buffer: &mut Buffer,
+    sink: &mut O,
+    first: &str,
+    second: &str,
+    third: &str,
+) -> Result<(), Failed>
+    ensures put { Puts (O.state sink.old).taken (O.state sink.new).taken buffer.old buffer.new result (first.now ++ second.now ++ third.now) }
+    ensures cause { HasCause (O.state sink.old).faults (O.state sink.new).faults result }
+{
+    put_two(buffer, sink, first, second)?;
+    put_text(buffer, sink, third)
 }
 
 /// A range of fault counts.
-fn put_range<O: Sink>(
-    buffer: &mut Buffer,
-    sink: &mut O,
-    low: u8,
-    high: u8,
-) -> Result<(), Failed>
+fn put_range<O: Sink>(buffer: &mut Buffer, sink: &mut O, low: u8, high: u8) -> Result<(), Failed>
     ensures put { Puts (O.state sink.old).taken (O.state sink.new).taken buffer.old buffer.new result (range_text low high) }
     ensures cause { HasCause (O.state sink.old).faults (O.state sink.new).faults result }
 {
@@ -53,7 +62,23 @@ fn put_range<O: Sink>(
         return put_text(buffer, sink, low_text);
     }
     let mut second = Digits::new();
-    put_texts(buffer, sink, &[low_text, "..", second.format(high)])
+    let high_text = second.format(high);
+    put_three(buffer, sink, low_text, "..", high_text)
+}
+
+/// A range of the faults of a process.
+fn put_count<O: Sink>(
+    buffer: &mut Buffer,
+    sink: &mut O,
+    name: &str,
+    low: u8,
+    high: u8,
+) -> Result<(), Failed>
+    ensures put { Puts (O.state sink.old).taken (O.state sink.new).taken buffer.old buffer.new result (name.now ++ codes " faults " ++ range_text low high) }
+    ensures cause { HasCause (O.state sink.old).faults (O.state sink.new).faults result }
+{
+    put_two(buffer, sink, name, " faults ")?;
+    put_range(buffer, sink, low, high)
 }
 
 /// A value, by its number.
@@ -75,12 +100,12 @@ fn put_literal<O: Sink>(
 {
     match Variable::of(literal.variable) {
         Variable::Count(process) => {
-            put_texts(buffer, sink, &[labels.process(process), " faults "])?;
-            put_range(buffer, sink, literal.low, literal.high)
+            let name = labels.process(process);
+            put_count(buffer, sink, name, literal.low, literal.high)
         }
         Variable::Value(condition) => {
             let name = labels.condition(condition);
-            put_texts(buffer, sink, &[name, " ", value_name(literal.low)])
+            put_three(buffer, sink, name, " ", value_name(literal.low))
         }
     }
 }
@@ -155,6 +180,33 @@ fn put_cube<O: Sink>(
     }
 }
 
+/// What stands before the literals of a column.
+fn put_time<O: Sink>(buffer: &mut Buffer, sink: &mut O, time: u64) -> Result<(), Failed>
+    ensures put { Puts (O.state sink.old).taken (O.state sink.new).taken buffer.old buffer.new result (codes "  " ++ decimal time ++ codes ": ") }
+    ensures cause { HasCause (O.state sink.old).faults (O.state sink.new).faults result }
+{
+    let mut digits = Digits::new();
+    let text = digits.format(time);
+    put_three(buffer, sink, "  ", text, ": ")
+}
+
+/// The line of a column but its end.
+fn put_timed<O: Sink>(
+    buffer: &mut Buffer,
+    sink: &mut O,
+    labels: &Labels<'_>,
+    line: Option<&Line>,
+    column: &Entry,
+) -> Result<(), Failed>
+    requires { IfSome line (λ l. IsLineOf labels.now column.now.cube l.now) }
+    ensures put { Puts (O.state sink.old).taken (O.state sink.new).taken buffer.old buffer.new result (codes "  " ++ decimal column.now.time ++ codes ": "
+        ++ cube_text labels.now column.now.cube) }
+    ensures cause { HasCause (O.state sink.old).faults (O.state sink.new).faults result }
+{
+    put_time(buffer, sink, column.time)?;
+    put_cube(buffer, sink, labels, line, column.cube.literals())
+}
+
 /// The line of a column.
 fn put_column<O: Sink>(
     buffer: &mut Buffer,
@@ -167,9 +219,7 @@ fn put_column<O: Sink>(
     ensures put { Puts (O.state sink.old).taken (O.state sink.new).taken buffer.old buffer.new result (column_line labels.now column.now) }
     ensures cause { HasCause (O.state sink.old).faults (O.state sink.new).faults result }
 {
-    let mut digits = Digits::new();
-    put_texts(buffer, sink, &["  ", digits.format(column.time), ": "])?;
-    put_cube(buffer, sink, labels, line, column.cube.literals())?;
+    put_timed(buffer, sink, labels, line, column)?;
     put_text(buffer, sink, "\n")
 }
 
