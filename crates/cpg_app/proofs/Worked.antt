@@ -16,8 +16,9 @@ use Rattle.cpg_inputs.specs.declared.inputs.Inputs.{Inputs}
 use Rattle.cpg_inputs.specs.Inputs.{AreInputs}
 use Rattle.cpg_inputs.specs.Says.{Value, tables_value}
 use Rattle.cpg_live.specs.Follower.{Follower}
+use Rattle.cpg_show.specs.NodeText.{node_text}
 use Rattle.cpg_app.specs.declared.output.Output.{Output}
-use Rattle.cpg_app.specs.declared.output.Output.TheVariants.{Lines, Pack, Stream}
+use Rattle.cpg_app.specs.declared.output.Output.TheVariants.{Lines, Table as Shown, NodeTable as OfNode, Pack, Stream}
 use Rattle.cpg_app.specs.Causes.{IsNotUnrolled, IsUncompiled, OrMemory, StopsNaming, StopsVerdict, StopsWork}
 use Rattle.cpg_app.specs.Outputs.{Answers, IsAuditedText, IsFollower, IsMadeOf, IsNodeText, IsPlayedText, IsSafeText, IsTrialText, IsUnrolledText, Opens, Puts, PutsOut, packed, shown}
 use Rattle.cpg_app.specs.Tunes.{IsTuningText}
@@ -34,6 +35,8 @@ if_err (Err e) f p = f e p
 
 put_on : {P Q : Text → Type 0} (o : Output) → ((text : Text) → P text → Q text) → Puts o P → Puts o Q
 put_on (Lines text) f p = f (string_bytes text) p
+put_on (Shown made) f p = f (shown made.admitted.graph made.compiled) p
+put_on (OfNode tables node) f p = f (node_text tables node) p
 put_on (Pack tables) f p = f (spelling tables) p
 put_on (Stream follower path) f p = p
 
@@ -119,11 +122,15 @@ module _ (c : Command) (vs : List Value) (r : Result Output Halt) where
 
 abbrev pub IsText : Output → Type 0
 IsText (Lines text) = Unit {0}
+IsText (Shown made) = Unit {0}
+IsText (OfNode tables node) = Unit {0}
 IsText (Pack tables) = Unit {0}
 IsText (Stream follower path) = ⊥
 
 not_opened : (t : Tables) (name stream : Text) (o : Output) → IsText o → Opens t name stream o → ⊥
 not_opened t name stream (Lines text) is opens = opens
+not_opened t name stream (Shown made) is opens = opens
+not_opened t name stream (OfNode tables node) is opens = opens
 not_opened t name stream (Pack tables) is opens = opens
 not_opened t name stream (Stream follower path) is opens = is
 

@@ -1,5 +1,5 @@
 -- What a command puts out, by what its files say.
-use Rattle.std.specs.Prelude.{ℕ, ◌≡◌, ◌≤◌, ◌++◌, List, Option, Some, None, IfNone, IfSome, Ok, codes, length, string_bytes}
+use Rattle.std.specs.Prelude.{ℕ, ◌≡◌, ◌<◌, ◌≤◌, ◌++◌, List, Option, Some, None, IfNone, IfSome, Ok, codes, length, string_bytes}
 use Rattle.cpg_base.specs.Graph.{Graph}
 use Rattle.cpg_base.specs.Scenario.{Scenario, IsScenario, IsLeast}
 use Rattle.cpg_words.specs.Parts.{Text}
@@ -32,7 +32,7 @@ use Rattle.cpg_inputs.specs.Says.{Value}
 use Rattle.cpg_inputs.specs.Shapes.{OnGraph, OnJudged, OnLogged, OnParts, OnPlayed, OnTables}
 use Rattle.cpg_app.specs.declared.trial_figures.Trial.{Trial as Figures}
 use Rattle.cpg_app.specs.declared.output.Output.{Output}
-use Rattle.cpg_app.specs.declared.output.Output.TheVariants.{Lines, Pack, Stream}
+use Rattle.cpg_app.specs.declared.output.Output.TheVariants.{Lines, Table as Shown, NodeTable as OfNode, Pack, Stream}
 use Rattle.cpg_app.specs.Causes.{first_named}
 use Rattle.cpg_app.specs.Plays.{IsPlayText, world_of}
 use Rattle.cpg_app.specs.Trial.{IsTrial}
@@ -142,8 +142,15 @@ PutsOut (Audit graph pack log) values text = OnLogged values (λ a t l. IsAudite
 -- a text or a pack is put out
 abbrev pub Puts : Output → (Text → Type 0) → Type 0
 Puts (Lines text) Is = Is (string_bytes text)
+Puts (Shown made) Is = Is (shown made.admitted.graph made.compiled)
+Puts (OfNode tables node) Is = Is (node_text tables node)
 Puts (Pack tables) Is = Is (spelling tables)
 Puts (Stream follower path) Is = ⊥
+
+-- a node is one of its tables
+abbrev pub IsFit : Output → Type 0
+IsFit (OfNode tables node) = node < length tables.head.nodes
+IsFit output = Unit
 
 -- the first node of a name is to follow a stream
 abbrev pub Opens : Tables → Text → Text → Output → Type 0

@@ -2,11 +2,14 @@
 ghost use Rattle.std.specs.Prelude.{◌≡◌, ◌≢◌, ◌⊎◌, Err, OnOk, string_bytes};
 ghost use Rattle.cpg_refusal.specs.Lines.{line_of, status_of, write_fault_line, IsNamed};
 ghost use Rattle.cpg_app.specs.Endings.{IsEnded};
+ghost use Rattle.cpg_app.specs.Outputs.{shown};
 ghost use Rattle.cpg_app.specs.Told.{IsWritten, Part, Sent, Untouched, Whole, sent};
 
+use crate::output::Made;
 use cpg_codec::WriteFault;
 use cpg_io::{Failed, Sink, write_all};
 use cpg_refusal::{Halt, line};
+use cpg_show::write_table;
 use std::alloc::Global;
 
 /// The status of a fault of a sink.
@@ -38,6 +41,14 @@ pub fn put<O: Sink>(text: &str, out: &mut O) -> Result<(), WriteFault>
         Ok(()) => Ok(()),
         Err(Failed) => Err(WriteFault::Failed),
     }
+}
+
+/// Writes the tables of a graph as a text.
+pub fn put_tables<O: Sink>(alloc: Global, made: &Made, out: &mut O) -> Result<(), WriteFault>
+    ensures { IsWritten (sent (O.state out.old) (O.state out.new)) result (shown made.now.admitted.graph made.now.compiled) }
+{
+    let compiled = &made.compiled;
+    write_table(alloc, &made.admitted, &compiled.built, &compiled.order, out)
 }
 
 /// Ends a run whose output met a fault: tries once to write the line of that.

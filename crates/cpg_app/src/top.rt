@@ -11,7 +11,7 @@ ghost use Rattle.cpg_app.specs.Endings.{seen, HasAt, MayRun};
 ghost use Rattle.cpg_app.specs.Lawful.{IsLawful};
 ghost use Rattle.cpg_app.specs.Told.{sent, Sent};
 
-use crate::answer::{end, put, stop};
+use crate::answer::{end, put, put_tables, stop};
 use crate::living::follow;
 use crate::output::Output;
 use crate::work::work;
@@ -19,6 +19,7 @@ use cpg_codec::write_pack;
 use cpg_inputs::{Inputs, read_inputs};
 use cpg_io::{Shelf, Sink};
 use cpg_refusal::Halt;
+use cpg_show::write_node;
 use cpg_words::{WordsFault, read_words};
 use std::alloc::Global;
 
@@ -45,6 +46,8 @@ fn finish<S: Shelf, O: Sink, E: Sink>(
 {
     match work(alloc, inputs) {
         Ok(Output::Lines(text)) => end(alloc, put(text.as_str(), out), err),
+        Ok(Output::Table(made)) => end(alloc, put_tables(alloc, &made, out), err),
+        Ok(Output::NodeTable { tables, node }) => end(alloc, write_node(alloc, &tables, node, out), err),
         Ok(Output::Pack(tables)) => end(alloc, write_pack(alloc, &tables, out), err),
         Ok(
             Output::Stream {

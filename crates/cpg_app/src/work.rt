@@ -8,11 +8,11 @@ ghost use Rattle.cpg_words.specs.declared.command.Command.{Command};
 ghost use Rattle.cpg_inputs.specs.Inputs.{AreFit, AreInputs};
 ghost use Rattle.cpg_inputs.specs.Says.{Value};
 ghost use Rattle.cpg_app.specs.Causes.{first_named, IsUncompiled, OrMemory, StopsNaming, StopsVerdict, StopsWork};
-ghost use Rattle.cpg_app.specs.Outputs.{packed, shown, Answers, AreJudgedSafe, ArePackOf, AreSafe, IsAuditedText, IsMadeOf, IsNodeText, IsPlayedText, IsSafeText, Opens, Puts};
+ghost use Rattle.cpg_app.specs.Outputs.{packed, shown, Answers, AreJudgedSafe, ArePackOf, AreSafe, IsAuditedText, IsFit, IsMadeOf, IsNodeText, IsPlayedText, IsSafeText, Opens, Puts};
 
 use crate::auditing::audit_text;
 use crate::halt::halt_of_compile;
-use crate::output::Output;
+use crate::output::{Made, Output};
 use crate::periods::unrolled_text;
 use crate::playing::play_text;
 use crate::trials::trial;
@@ -29,17 +29,9 @@ use cpg_refusal::{Halt, Refusal};
 use cpg_rules::Admitted;
 use cpg_run::Built;
 use cpg_scenario::Played;
-use cpg_show::{node_text, table_text};
 use cpg_table::Tables;
 use cpg_words::Word;
 use std::alloc::Global;
-
-/// An admitted graph, and what its compile answers.
-#[derive(Drop)]
-struct Made {
-    admitted: Admitted,
-    compiled: Compiled,
-}
 
 /// Compiles an admitted graph.
 fn compile_graph(alloc: Global, admitted: Admitted) -> Result<Made, Halt>
@@ -65,11 +57,7 @@ fn text_of(alloc: Global, admitted: Admitted) -> Result<Output, Halt>
     ensures halt { IfErr result (IsUncompiled admitted) }
 {
     let made = compile_graph(alloc, admitted)?;
-    let built = &made.compiled.built;
-    match table_text(alloc, &made.admitted, built, &made.compiled.order) {
-        Ok(text) => Ok(Output::Lines(text)),
-        Err(_) => Err(Halt::Memory),
-    }
+    Ok(Output::Table(made))
 }
 
 /// The pack of an admitted graph.
@@ -165,17 +153,16 @@ fn first_named(head: &Head, name: &str) -> Option<usize>
 }
 
 /// The text of the table of the first node of a name.
-fn node_lines(alloc: Global, tables: &Tables, name: &str) -> Result<Output, Halt>
-    ensures text { IfOk result (λ o. Puts o (IsNodeText tables.now name.now)) }
-    ensures halt { IfErr result (OrMemory (StopsNaming tables.now name.now)) }
+fn node_named(tables: Tables, name: &str) -> Result<Output, Halt>
+    ensures text { IfOk result (λ o. Puts o (IsNodeText tables name.now)) }
+    ensures fit { IfOk result IsFit }
+    ensures halt { IfErr result (OrMemory (StopsNaming tables name.now)) }
 {
     let Some(node) = first_named(tables.head(), name) else {
         return Err(Halt::Refused(Refusal::UnknownNode));
     };
-    match node_text(alloc, tables, node as u32) {
-        Ok(text) => Ok(Output::Lines(text)),
-        Err(_) => Err(Halt::Memory),
-    }
+    let node = node as u32;
+    Ok(Output::NodeTable { tables, node })
 }
 
 /// The first node of a name, before its stream.
@@ -196,6 +183,7 @@ fn opened(alloc: Global, tables: Tables, name: &str, stream: Word) -> Result<Out
 pub fn work(alloc: Global, inputs: Inputs) -> Result<Output, Halt>
     requires { AreFit inputs }
     ensures output { (command : Command) (values : List Value) → AreInputs command values inputs → IfOk result (Answers command values) }
+    ensures fit { IfOk result IsFit }
     ensures halt { (command : Command) (values : List Value) → AreInputs command values inputs → IfErr result (OrMemory (StopsWork command values)) }
 {
     match inputs {
@@ -210,7 +198,7 @@ pub fn work(alloc: Global, inputs: Inputs) -> Result<Output, Halt>
             turns,
         } => play(alloc, graph, tables, &played, turns),
         Inputs::Audit { graph, tables, log } => audited(alloc, graph, &tables, &log),
-        Inputs::Node { tables, name } => node_lines(alloc, &tables, name.as_str()),
+        Inputs::Node { tables, name } => node_named(tables, name.as_str()),
         Inputs::Live {
             tables,
             name,

@@ -1,6 +1,6 @@
 -- Pieces put into a buffer one after another.
 use Rattle.std.proofs.Common.{◌≡◌, ℕ, ◌+◌, ◌<◌, ◌≤◌, List, [], ◌∷◌, ◌++◌, length, get_or, take, drop, Result, Ok, Err, sym, ap, subst, ◌∙◌, append_assoc, arith, take-append-drop}
-use Rattle.std.specs.Prelude.{OnErr}
+use Rattle.std.specs.Prelude.{OnErr, OnOk}
 use Rattle.std.specs.List.{flat_map}
 use Rattle.std.proofs.lemmas.List.{append-nil, length-append, take_more, take-append-le, take_all}
 use Rattle.std.proofs.lemmas.List.Concat.{flat_map-append}
@@ -81,3 +81,8 @@ rest_fails a b c h l x (Ok u) e p q = tt
 rest_fails a b c h l x (Err f) e p q =
     let k : IsPut a b [] l x = subst (λ (t : List ℕ). IsPut a b t l x) e p in
     subst (TookPrefix a c) (append-nil x) (fails_second a b c [] l x [] k (subst (TookPrefix b c) (sym (append-nil l)) q))
+
+-- what was held is written, and then a piece that passes the buffer by
+pub Puts-past : {E : Type 0} (a b c : List ℕ) (h l x : List ℕ) (r : Result Unit E) → Took a b h → l ≡ [] → OnOk r (Took b c x) → OnErr r (TookPrefix b c x) → Puts a c h l r x
+Puts-past a b c h l x (Ok u) p e q f = record { written = h ++ x; taken = Took-trans a b c h x p q; same = sym (append-nil (h ++ x)) ∙ ap (λ (t : List ℕ). (h ++ x) ++ t) (sym e) }
+Puts-past a b c h l x (Err f) p e q o = fails_second a b c [] [] h x (record { written = h; taken = p; same = sym (append-nil h) }) o

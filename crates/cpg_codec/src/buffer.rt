@@ -140,4 +140,16 @@ impl Buffer {
         self.hold(rest);
         Ok(())
     }
+
+    /// Adds a piece of any length. What the buffer can't hold passes it by.
+    pub fn put_any<O: Sink>(&mut self, sink: &mut O, piece: &[u8]) -> Result<(), Failed>
+        ensures put { Puts (O.state sink.old).taken (O.state sink.new).taken self.old self.new result piece.now }
+        ensures cause { HasCause (O.state sink.old).faults (O.state sink.new).faults result }
+    {
+        if piece.len() <= SIZE {
+            return self.put(sink, piece);
+        }
+        self.write(sink)?;
+        write_all(sink, piece)
+    }
 }

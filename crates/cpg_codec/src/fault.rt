@@ -38,6 +38,17 @@ impl From<AllocError> for WriteFault {
     }
 }
 
+impl From<NoMemory> for WriteFault {
+    ghost use Rattle.std.specs.Prelude.{◌≡◌};
+    ghost use Rattle.cpg_codec.specs.declared.fault.WriteFault.{WriteFault};
+
+    ghost from_gives = { λ _ e. e ≡ WriteFault.OutOfMemory };
+
+    fn from(_: NoMemory) -> WriteFault {
+        WriteFault::OutOfMemory
+    }
+}
+
 /// Why no tables came of bytes.
 #[derive(Clone, Copy, Debug, PartialEq, Eq, Error)]
 pub enum PackFault {

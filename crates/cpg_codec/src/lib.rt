@@ -20,6 +20,7 @@ mod row_writing;
 mod space;
 mod writing;
 
+pub use buffer::Buffer;
 pub use fault::{PackFault, WriteFault};
 pub use fixed::{
     Fixed, column_literals, column_time, edge_from, edge_to, literal_high, literal_low,

@@ -39,3 +39,7 @@ pub record AreLine (labels : Labels) (ls : List Literal) (t es : List ℕ) : Typ
 -- those of a line
 abbrev pub IsLine : Labels → Line → Type 0
 IsLine labels line = AreLine labels line.literals.items (string_bytes line.text) line.ends.items
+
+-- that of these literals
+abbrev pub IsLineOf : Labels → List Literal → Line → Type 0
+IsLineOf labels ls line = IsLine labels line × (line.literals.items ≡ ls)

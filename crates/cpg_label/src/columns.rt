@@ -1,15 +1,12 @@
-//! The lines of columns.
+//! The texts of literals.
 ghost use Rattle.std.specs.Prelude.{◌≡◌, ◌++◌, OnErr, OnOk, codes, string_bytes};
-ghost use Rattle.std.specs.Fmt.{decimal};
-ghost use Rattle.cpg_label.specs.CubeText.{columns_text, cube_text, literal_text, range_text, value_text};
+ghost use Rattle.cpg_label.specs.CubeText.{literal_text, range_text, value_text};
 ghost use Rattle.cpg_label.specs.Front.{IsFrontOf};
-ghost use Rattle.cpg_label.specs.Lines.{IsLine};
 
 use crate::labels::Labels;
-use crate::line::Line;
 use crate::text::{write_both, write_number};
 use cpg_base::Variable;
-use cpg_cube::{Entry, Literal};
+use cpg_cube::Literal;
 use std::alloc::AllocError;
 
 /// A range of fault counts.
@@ -69,40 +66,4 @@ pub(crate) fn write_later(
 {
     out.push_str(", ")?;
     write_literal(out, labels, literal)
-}
-
-fn write_column(
-    out: &mut String,
-    labels: &Labels<'_>,
-    line: &Line,
-    time: u64,
-) -> Result<(), AllocError>
-    requires { IsLine labels.now line.now }
-    ensures text { OnOk result (string_bytes out.new ≡ string_bytes out.old ++ codes "  " ++ decimal time ++ codes ": " ++ cube_text labels.now line.now.literals.items ++ codes "\n") }
-    ensures front { OnErr result (IsFrontOf (string_bytes out.old) (string_bytes out.new)) }
-{
-    out.push_str("  ")?;
-    write_number(out, time)?;
-    out.push_str(": ")?;
-    if line.literals.is_empty() {
-        return out.push_str("always\n");
-    }
-    write_both(out, line.text.as_str(), "\n")
-}
-
-/// A line of each column.
-pub fn write_columns(
-    out: &mut String,
-    labels: &Labels<'_>,
-    columns: &[Entry],
-) -> Result<(), AllocError>
-    ensures text { OnOk result (string_bytes out.new ≡ string_bytes out.old ++ columns_text labels.now columns.now) }
-    ensures front { OnErr result (IsFrontOf (string_bytes out.old) (string_bytes out.new)) }
-{
-    let mut line = Line::new(*out.allocator())?;
-    for column in columns {
-        line.turn_into(labels, column.cube.literals())?;
-        write_column(out, labels, &line, column.time)?;
-    }
-    Ok(())
 }

@@ -8,6 +8,7 @@ mod line;
 mod phrases;
 mod text;
 
-pub use columns::{write_columns, write_value};
+pub use columns::write_value;
 pub use items::{name_of, node_name, write_act, write_heard, write_item};
 pub use labels::Labels;
+pub use line::{Line, turned};

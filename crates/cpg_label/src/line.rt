@@ -1,8 +1,8 @@
 //! The text of a column's literals, made of that of the column before where both begin alike.
-ghost use Rattle.std.specs.Prelude.{◌≡◌, ◌+◌, ◌<◌, ◌≤◌, ◌++◌, ◌∷◌, [], IfOk, OnOk, get_or, length, string_bytes, take};
+ghost use Rattle.std.specs.Prelude.{◌≡◌, ◌+◌, ◌<◌, ◌≤◌, ◌++◌, ◌∷◌, [], IfOk, IfSome, OnOk, get_or, length, string_bytes, take};
 ghost use Rattle.cpg_label.specs.CubeText.{literal_text};
 ghost use Rattle.cpg_label.specs.Labels.{Labels};
-ghost use Rattle.cpg_label.specs.Lines.{IsCutAt, IsLine, added_text, piece_text};
+ghost use Rattle.cpg_label.specs.Lines.{IsCutAt, IsLine, IsLineOf, added_text, piece_text};
 
 use crate::columns::{write_later, write_literal};
 use crate::labels::Labels;
@@ -11,10 +11,10 @@ use std::alloc::{AllocError, Global};
 
 /// Literals with their text, and how long that of the first ones is, for each number of these.
 #[derive(Drop)]
-pub(crate) struct Line {
-    pub(crate) literals: Vec<Literal>,
-    pub(crate) text: String,
-    pub(crate) ends: Vec<usize>,
+pub struct Line {
+    literals: Vec<Literal>,
+    text: String,
+    ends: Vec<usize>,
 }
 
 /// The first literal, by its text where that is at hand.
@@ -71,7 +71,7 @@ fn common_front(first: &[Literal], second: &[Literal]) -> usize
 
 impl Line {
     /// The line of no literals.
-    pub(crate) fn new(alloc: Global) -> Result<Line, AllocError>
+    pub fn new(alloc: Global) -> Result<Line, AllocError>
         ensures { IfOk result (λ line. (labels : Labels) → IsLine labels line) }
     {
         let mut ends = Vec::new(alloc);
@@ -121,11 +121,7 @@ impl Line {
     }
 
     /// Turns into the line of other literals.
-    pub(crate) fn turn_into(
-        &mut self,
-        labels: &Labels<'_>,
-        literals: &[Literal],
-    ) -> Result<(), AllocError>
+    fn turn_into(&mut self, labels: &Labels<'_>, literals: &[Literal]) -> Result<(), AllocError>
         requires { IsLine labels.now self.old }
         ensures line { OnOk result (IsLine labels.now self.new) }
         ensures literals { OnOk result (self.new.literals.items ≡ literals.now) }
@@ -133,5 +129,24 @@ impl Line {
         let count = common_front(self.literals.as_slice(), literals);
         self.keep(count);
         self.add_all(labels, &literals[count..])
+    }
+
+    /// The text of its literals, and nothing of none.
+    pub fn text(&self) -> &str
+        ensures { result.now ≡ string_bytes self.now.text }
+    {
+        self.text.as_str()
+    }
+}
+
+/// A line turned into that of other literals, and `None` where there was none, or there is no memory for it.
+pub fn turned(line: Option<Line>, labels: &Labels<'_>, literals: &[Literal]) -> Option<Line>
+    requires { IfSome line (IsLine labels.now) }
+    ensures { IfSome result (IsLineOf labels.now literals.now) }
+{
+    let mut line = line?;
+    match line.turn_into(labels, literals) {
+        Ok(()) => Some(line),
+        Err(_) => None,
     }
 }

@@ -1,5 +1,5 @@
 pub mod TableText
 pub mod NodeText
-pub mod Found
+pub mod Sheet
 pub mod TraceEvents
 pub mod TraceText

@@ -3,12 +3,12 @@
 
 mod event;
 mod events;
-mod found;
 mod node;
-mod room;
+mod putting;
+mod sheet;
 mod table;
 mod trace;
 
-pub use node::node_text;
-pub use table::table_text;
+pub use node::write_node;
+pub use table::write_table;
 pub use trace::{finish, trace_text};

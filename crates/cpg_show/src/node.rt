@@ -1,71 +1,134 @@
 //! The text of a node's table.
-ghost use Rattle.std.specs.Prelude.{◌≡◌, ◌<◌, ◌++◌, IfOk, OnOk, codes, flat_map, length, string_bytes};
+ghost use Rattle.std.specs.Prelude.{◌≡◌, ◌<◌, ◌≤◌, ◌++◌, Err, IfOk, OnOk, codes, flat_map, length, string_bytes};
+ghost use Rattle.cpg_io.specs.Causes.{Rose};
+ghost use Rattle.cpg_io.specs.Sink.{Took, TookPrefix};
+ghost use Rattle.cpg_label.specs.ItemText.{act_text, hear_text, item_of};
 ghost use Rattle.cpg_show.specs.NodeText.{act_row, hear_row, name_line, node_text, rows_text};
+ghost use Rattle.cpg_show.specs.Sheet.{part_text, sheet_text};
 
+use crate::sheet::{Part, Sheet, write_sheet};
 use cpg_base::OutOfMemory;
+use cpg_codec::WriteFault;
 use cpg_head::Head;
-use cpg_label::{Labels, write_act, write_columns, write_heard};
+use cpg_io::Sink;
+use cpg_label::{Labels, write_act, write_heard};
 use cpg_table::{NodeTable, Row, Tables};
-use std::alloc::{AllocError, Global};
+use std::alloc::Global;
 
-fn write_act_row(out: &mut String, labels: &Labels<'_>, row: &Row) -> Result<(), AllocError>
-    ensures { OnOk result (string_bytes out.new ≡ string_bytes out.old ++ act_row labels.now row.now) }
+/// The line of what a node starts or sends.
+fn act_line(alloc: Global, labels: &Labels<'_>, item: u32) -> Result<String, OutOfMemory>
+    ensures { IfOk result (λ line. string_bytes line ≡ act_text labels.now (item_of labels.now item) ++ codes "\n") }
 {
-    write_act(out, labels, labels.item(row.item()))?;
-    out.push_str("\n")?;
-    write_columns(out, labels, row.entries())
+    let mut line = String::new(alloc);
+    write_act(&mut line, labels, labels.item(item))?;
+    line.push_str("\n")?;
+    Ok(line)
 }
 
-fn write_act_rows(out: &mut String, labels: &Labels<'_>, rows: &[Row]) -> Result<(), AllocError>
-    ensures { OnOk result (string_bytes out.new ≡ string_bytes out.old ++ flat_map (act_row labels.now) rows.now) }
+/// The line of what a node hears.
+fn hear_line(alloc: Global, labels: &Labels<'_>, item: u32) -> Result<String, OutOfMemory>
+    ensures { IfOk result (λ line. string_bytes line ≡ hear_text labels.now (item_of labels.now item) ++ codes "\n") }
 {
+    let mut line = String::new(alloc);
+    write_heard(&mut line, labels, labels.item(item))?;
+    line.push_str("\n")?;
+    Ok(line)
+}
+
+/// Adds rows of what a node starts or sends.
+fn add_acts<'a>(
+    parts: &mut Vec<Part<'a>>,
+    labels: &Labels<'_>,
+    rows: &'a [Row],
+) -> Result<(), OutOfMemory>
+    ensures { OnOk result (flat_map (part_text labels.now) parts.new.items ≡ flat_map (part_text labels.now) parts.old.items ++ flat_map (act_row labels.now) rows.entry.now) }
+{
+    let alloc = *parts.allocator();
     for row in rows {
-        write_act_row(out, labels, row)?;
+        parts.push(Part {
+            head: act_line(alloc, labels, row.item())?,
+            columns: row.entries(),
+        })?;
     }
     Ok(())
 }
 
-fn write_hear_row(out: &mut String, labels: &Labels<'_>, row: &Row) -> Result<(), AllocError>
-    ensures { OnOk result (string_bytes out.new ≡ string_bytes out.old ++ hear_row labels.now row.now) }
+/// Adds rows of what a node hears.
+fn add_hears<'a>(
+    parts: &mut Vec<Part<'a>>,
+    labels: &Labels<'_>,
+    rows: &'a [Row],
+) -> Result<(), OutOfMemory>
+    ensures { OnOk result (flat_map (part_text labels.now) parts.new.items ≡ flat_map (part_text labels.now) parts.old.items ++ flat_map (hear_row labels.now) rows.entry.now) }
 {
-    write_heard(out, labels, labels.item(row.item()))?;
-    out.push_str("\n")?;
-    write_columns(out, labels, row.entries())
-}
-
-fn write_hear_rows(out: &mut String, labels: &Labels<'_>, rows: &[Row]) -> Result<(), AllocError>
-    ensures { OnOk result (string_bytes out.new ≡ string_bytes out.old ++ flat_map (hear_row labels.now) rows.now) }
-{
+    let alloc = *parts.allocator();
     for row in rows {
-        write_hear_row(out, labels, row)?;
+        parts.push(Part {
+            head: hear_line(alloc, labels, row.item())?,
+            columns: row.entries(),
+        })?;
     }
     Ok(())
 }
 
-fn write_rows(out: &mut String, labels: &Labels<'_>, table: &NodeTable) -> Result<(), AllocError>
-    ensures { OnOk result (string_bytes out.new ≡ string_bytes out.old ++ rows_text labels.now table.now) }
+/// The rows of a node's table.
+fn rows_of<'a>(
+    alloc: Global,
+    labels: &Labels<'_>,
+    table: &'a NodeTable,
+) -> Result<Vec<Part<'a>>, OutOfMemory>
+    ensures { IfOk result (λ parts. flat_map (part_text labels.now) parts.items ≡ rows_text labels.now table.entry.now) }
 {
-    write_act_rows(out, labels, table.starts())?;
-    write_act_rows(out, labels, table.sends())?;
-    write_hear_rows(out, labels, table.hears())
+    let mut parts = Vec::new(alloc);
+    add_acts(&mut parts, labels, table.starts())?;
+    add_acts(&mut parts, labels, table.sends())?;
+    add_hears(&mut parts, labels, table.hears())?;
+    Ok(parts)
 }
 
-fn write_name(out: &mut String, head: &Head, node: u32) -> Result<(), AllocError>
+/// The line of a node's name.
+fn name_line(alloc: Global, head: &Head, node: u32) -> Result<String, OutOfMemory>
     requires { node < length head.now.nodes }
-    ensures { OnOk result (string_bytes out.new ≡ string_bytes out.old ++ name_line head.now node) }
+    ensures { IfOk result (λ line. string_bytes line ≡ name_line head.now node) }
 {
     let name = head.nodes()[node as usize].as_str();
-    write!(out, "node {name}\n")
+    let mut line = String::new(alloc);
+    write!(line, "node {name}\n")?;
+    Ok(line)
 }
 
-/// The name of a node, and the rows of what it starts, sends and hears.
-pub fn node_text(alloc: Global, tables: &Tables, node: u32) -> Result<String, OutOfMemory>
+/// The sheet of a node's table.
+fn sheet_of<'a>(alloc: Global, tables: &'a Tables, node: u32) -> Result<Sheet<'a>, OutOfMemory>
     requires { node < length tables.now.head.nodes }
-    ensures { IfOk result (λ text. string_bytes text ≡ node_text tables.now node) }
+    ensures { IfOk result (λ sheet. sheet_text sheet ≡ node_text tables.entry.now node) }
 {
     let labels = Labels::ready_of_head(alloc, tables.head())?;
-    let mut out = String::new(alloc);
-    write_name(&mut out, tables.head(), node)?;
-    write_rows(&mut out, &labels, tables.node(node))?;
-    Ok(out)
+    let front = name_line(alloc, tables.head(), node)?;
+    let parts = rows_of(alloc, &labels, tables.node(node))?;
+    Ok(Sheet {
+        labels,
+        front,
+        parts,
+    })
+}
+
+/// Writes the name of a node, and the rows of what it starts, sends and hears.
+///
+/// `Failed` only where the sink's count of faults rose. The sink has taken a proper prefix of the text then. On
+/// `OutOfMemory` the sink is as it was.
+pub fn write_node<O: Sink>(
+    alloc: Global,
+    tables: &Tables,
+    node: u32,
+    sink: &mut O,
+) -> Result<(), WriteFault>
+    requires { node < length tables.now.head.nodes }
+    ensures whole { OnOk result (Took (O.state sink.old).taken (O.state sink.new).taken (node_text tables.now node)) }
+    ensures part { result ≡ Err WriteFault.Failed → TookPrefix (O.state sink.old).taken (O.state sink.new).taken (node_text tables.now node) }
+    ensures cause { result ≡ Err WriteFault.Failed → Rose (O.state sink.old).faults (O.state sink.new).faults }
+    ensures same { result ≡ Err WriteFault.OutOfMemory → sink.new ≡ sink.old }
+    ensures later { (O.state sink.old).faults ≤ (O.state sink.new).faults }
+{
+    let sheet = sheet_of(alloc, tables, node)?;
+    write_sheet(alloc, &sheet, sink)
 }

@@ -1,16 +1,18 @@
 //! The text of tables.
-ghost use Rattle.std.specs.Prelude.{◌≡◌, ◌<◌, ◌++◌, [], IfOk, OnOk, codes, flat_map, string_bytes};
+ghost use Rattle.std.specs.Prelude.{◌≡◌, ◌<◌, ◌≤◌, ◌++◌, Err, IfOk, OnOk, codes, flat_map, string_bytes};
 ghost use Rattle.cpg_base.specs.Graph.{item_count};
 ghost use Rattle.cpg_base.specs.Numbers.{numbers_below};
-ghost use Rattle.cpg_table.specs.Table.{columns_of};
-ghost use Rattle.cpg_label.specs.CubeText.{columns_text};
+ghost use Rattle.cpg_io.specs.Causes.{Rose};
+ghost use Rattle.cpg_io.specs.Sink.{Took, TookPrefix};
 ghost use Rattle.cpg_label.specs.Labels.{labels_of, process_name};
-ghost use Rattle.cpg_show.specs.TableText.{head_line, is_shown, item_text, table_text};
+ghost use Rattle.cpg_show.specs.Sheet.{part_text, sheet_text};
+ghost use Rattle.cpg_show.specs.TableText.{head_line, is_shown, item_text, order_line, table_text, worst_line};
 
-use crate::found::find_columns;
-use crate::room::room_of;
+use crate::sheet::{Part, Sheet, write_sheet};
 use cpg_base::{Item, Order, OutOfMemory, Problem};
-use cpg_label::{Labels, write_act, write_columns};
+use cpg_codec::WriteFault;
+use cpg_io::Sink;
+use cpg_label::{Labels, write_act};
 use cpg_rules::Admitted;
 use cpg_run::Built;
 use cpg_table::Tables;
@@ -61,82 +63,97 @@ fn write_head_line(
     write!(out, " on {name}\n")
 }
 
-/// The columns of an item.
-fn write_rows(
-    out: &mut String,
-    labels: &Labels<'_>,
-    tables: &Tables,
-    item: u32,
-) -> Result<(), AllocError>
-    ensures { OnOk result (string_bytes out.new ≡ string_bytes out.old ++ columns_text labels.now (columns_of tables.now.nodes item)) }
-{
-    if let Some(columns) = find_columns(tables, item) {
-        write_columns(out, labels, columns)?;
-    }
-    Ok(())
-}
-
-fn write_item(
-    out: &mut String,
+/// The line of what is done with an item, and where.
+fn head_line_of(
+    alloc: Global,
     problem: &Problem,
     labels: &Labels<'_>,
-    tables: &Tables,
     item: u32,
-) -> Result<(), AllocError>
+) -> Result<String, OutOfMemory>
     requires item { item < item_count problem.now }
     requires labels { labels.now ≡ labels_of problem.now }
-    ensures { OnOk result (string_bytes out.new ≡ string_bytes out.old ++ item_text problem.now tables.now.nodes item) }
+    ensures { IfOk result (λ line. string_bytes line ≡ head_line problem.now item) }
 {
-    if !is_shown(problem, item) {
-        return Ok(());
-    }
-    write_head_line(out, problem, labels, item)?;
-    write_rows(out, labels, tables, item)
+    let mut line = String::new(alloc);
+    write_head_line(&mut line, problem, labels, item)?;
+    Ok(line)
 }
 
-fn write_items(
-    out: &mut String,
+/// The rows of what is started and sent, by number of the item.
+fn rows_of<'a>(
+    alloc: Global,
     problem: &Problem,
     labels: &Labels<'_>,
-    tables: &Tables,
-) -> Result<(), AllocError>
+    tables: &'a Tables,
+) -> Result<Vec<Part<'a>>, OutOfMemory>
     requires { labels.now ≡ labels_of problem.now }
-    ensures { OnOk result (string_bytes out.new ≡ string_bytes out.old ++ flat_map (item_text problem.now tables.now.nodes)
+    ensures { IfOk result (λ parts. flat_map (part_text labels.now) parts.items ≡ flat_map (item_text problem.now tables.entry.now.nodes)
         (numbers_below (item_count problem.now))) }
 {
+    let mut rows = Vec::new(alloc);
     for item in 0..problem.item_count() {
-        write_item(out, problem, labels, tables, item)?;
+        if is_shown(problem, item) {
+            rows.push(Part {
+                head: head_line_of(alloc, problem, labels, item)?,
+                columns: tables.columns_of(item),
+            })?;
+        }
     }
-    Ok(())
+    Ok(rows)
 }
 
-/// An empty text with room for the lines of all columns. Where there is no memory for that, it has to grow as it is
-/// written.
-fn roomy(alloc: Global, labels: &Labels<'_>, tables: &Tables) -> String
-    ensures { string_bytes result ≡ [] }
+/// The order, and the greatest finish in time units.
+fn front_of(
+    alloc: Global,
+    labels: &Labels<'_>,
+    order: &[u32],
+    worst: u64,
+) -> Result<String, OutOfMemory>
+    ensures { IfOk result (λ front. string_bytes front ≡ codes "order" ++ flat_map (λ p. codes " " ++ process_name labels.now p) order.now ++ codes "\n" ++ worst_line worst) }
 {
-    let mut out = String::new(alloc);
-    let _reserved = out.reserve(room_of(tables, labels.longest()));
-    out
+    let mut front = String::new(alloc);
+    write_order(&mut front, labels, order)?;
+    write!(front, "worst {worst}\n")?;
+    Ok(front)
 }
 
-/// The order, the greatest finish in time units, and the rows of what is started and sent, by number of the item. Of
-/// tables that weren't made for the graph it shows the rows of its items, and leaves out names that it doesn't have. The
-/// one error is want of memory.
-pub fn table_text(
+/// The sheet of the table text.
+fn sheet_of<'a>(
+    alloc: Global,
+    problem: &'a Problem,
+    built: &'a Built,
+    order: &Order,
+) -> Result<Sheet<'a>, OutOfMemory>
+    ensures { IfOk result (λ sheet. sheet_text sheet ≡ table_text problem.entry.now order.now built.entry.now.tables.nodes built.entry.now.worst) }
+{
+    let labels = Labels::ready(alloc, problem)?;
+    let front = front_of(alloc, &labels, order.processes(), built.worst)?;
+    let parts = rows_of(alloc, problem, &labels, &built.tables)?;
+    Ok(Sheet {
+        labels,
+        front,
+        parts,
+    })
+}
+
+/// Writes the order, the greatest finish in time units, and the rows of what is started and sent, by number of the item.
+/// Of tables that weren't made for the graph it writes the rows of its items, and leaves out names that it doesn't have.
+///
+/// `Failed` only where the sink's count of faults rose. The sink has taken a proper prefix of the text then. On
+/// `OutOfMemory` the sink is as it was.
+pub fn write_table<O: Sink>(
     alloc: Global,
     admitted: &Admitted,
     built: &Built,
     order: &Order,
-) -> Result<String, OutOfMemory>
-    ensures { IfOk result (λ text. string_bytes text ≡ table_text admitted.now.graph order.now built.now.tables.nodes built.now.worst) }
+    sink: &mut O,
+) -> Result<(), WriteFault>
+    ensures whole { OnOk result (Took (O.state sink.old).taken (O.state sink.new).taken (table_text admitted.now.graph order.now built.now.tables.nodes built.now.worst)) }
+    ensures part { result ≡ Err WriteFault.Failed → TookPrefix (O.state sink.old).taken (O.state sink.new).taken (table_text admitted.now.graph order.now built.now.tables.nodes built.now.worst) }
+    ensures cause { result ≡ Err WriteFault.Failed → Rose (O.state sink.old).faults (O.state sink.new).faults }
+    ensures same { result ≡ Err WriteFault.OutOfMemory → sink.new ≡ sink.old }
+    ensures later { (O.state sink.old).faults ≤ (O.state sink.new).faults }
 {
-    let problem = admitted.problem();
-    let labels = Labels::ready(alloc, problem)?;
-    let mut out = roomy(alloc, &labels, &built.tables);
-    write_order(&mut out, &labels, order.processes())?;
-    let worst = built.worst;
-    write!(out, "worst {worst}\n")?;
-    write_items(&mut out, problem, &labels, &built.tables)?;
-    Ok(out)
+    let sheet = sheet_of(alloc, admitted.problem(), built, order)?;
+    write_sheet(alloc, &sheet, sink)
 }

@@ -1,10 +1,11 @@
 use Rattle.std.proofs.Common.{ℕ, List, ap, inr, sym, subst, string_bytes}
 use Rattle.std.proofs.KnownBytes.{Keeps-refl}
 use Rattle.cpg_codec.specs.Spelling.{spelling}
+use Rattle.cpg_show.specs.NodeText.{node_text}
 use Rattle.cpg_inputs.proofs.Keeping.{keeps_same}
-use Rattle.cpg_app.specs.declared.output.Output.TheVariants.{Lines, Pack}
+use Rattle.cpg_app.specs.declared.output.Output.TheVariants.{Lines, Table as Shown, NodeTable as OfNode, Pack}
 use Rattle.cpg_app.specs.Endings.{Has, Prints, Ran, seen}
-use Rattle.cpg_app.specs.Outputs.{Answers}
+use Rattle.cpg_app.specs.Outputs.{Answers, shown}
 use Rattle.cpg_app.specs.Told.{IsWritten, sent}
 use Rattle.cpg_app.proofs.Answered.{followed_lawful, halt_named, is_open, may_follow}
 use Rattle.cpg_app.proofs.Finished.{stopped_lawful, written_lawful}
@@ -42,6 +43,34 @@ returns-in-Ok-Lines-clause-lawful g c words start at =
     let puts = text_of at.command at.has.values (Lines c.in-Ok-Lines.text) tt (subst (Answers at.command at.has.values) c.in-Ok-Lines.field-0-is (c.in-Ok-Lines.ensures.output at.command at.has.values at.has.are)) in
     let prints : Prints r (string_bytes c.in-Ok-Lines.text) = record { command = at.command; values = at.has.values; has = has; puts = puts } in
     written_lawful r (string_bytes c.in-Ok-Lines.text) c.put.result prints (subst (λ (bytes : List ℕ). IsWritten r.out c.put.result bytes) c.as_str.ensures.value c.put.ensures) c.end.ensures
+
+pub returns-in-Ok-Table-clause-lawful : goal.returns-in-Ok-Table-clause-lawful
+returns-in-Ok-Table-clause-lawful g c words start at =
+    let r : Ran = record {
+      words = words;
+      shelf = seen start (g.S.Shelf.state c.args.shelf.now);
+      out = sent (g.O.Sink.state c.args.out.now) (g.O.Sink.state c.put_tables.new.out);
+      err = sent (g.E.Sink.state c.args.err.now) (g.E.Sink.state c.end-in-Ok-Table.new.err);
+      status = c.end-in-Ok-Table.result;
+    } in
+    let has : Has r at.command at.has.values = record { words = at.words; reads = at.has.reads } in
+    let puts = text_of at.command at.has.values (Shown c.in-Ok-Table.made) tt (subst (Answers at.command at.has.values) c.in-Ok-Table.field-0-is (c.in-Ok-Table.ensures.output at.command at.has.values at.has.are)) in
+    let prints : Prints r (shown c.in-Ok-Table.made.admitted.graph c.in-Ok-Table.made.compiled) = record { command = at.command; values = at.has.values; has = has; puts = puts } in
+    written_lawful r (shown c.in-Ok-Table.made.admitted.graph c.in-Ok-Table.made.compiled) c.put_tables.result prints (c.put_tables.ensures) c.end-in-Ok-Table.ensures
+
+pub returns-in-Ok-NodeTable-clause-lawful : goal.returns-in-Ok-NodeTable-clause-lawful
+returns-in-Ok-NodeTable-clause-lawful g c words start at =
+    let r : Ran = record {
+      words = words;
+      shelf = seen start (g.S.Shelf.state c.args.shelf.now);
+      out = sent (g.O.Sink.state c.args.out.now) (g.O.Sink.state c.write_node.new.sink);
+      err = sent (g.E.Sink.state c.args.err.now) (g.E.Sink.state c.end-in-Ok-NodeTable.new.err);
+      status = c.end-in-Ok-NodeTable.result;
+    } in
+    let has : Has r at.command at.has.values = record { words = at.words; reads = at.has.reads } in
+    let puts = text_of at.command at.has.values (OfNode c.in-Ok-NodeTable.tables c.in-Ok-NodeTable.node) tt (subst (Answers at.command at.has.values) c.in-Ok-NodeTable.field-0-is (c.in-Ok-NodeTable.ensures.output at.command at.has.values at.has.are)) in
+    let prints : Prints r (node_text c.in-Ok-NodeTable.tables c.in-Ok-NodeTable.node) = record { command = at.command; values = at.has.values; has = has; puts = puts } in
+    written_lawful r (node_text c.in-Ok-NodeTable.tables c.in-Ok-NodeTable.node) c.write_node.result prints (packed (g.O.Sink.state c.args.out.now) (g.O.Sink.state c.write_node.new.sink) (node_text c.in-Ok-NodeTable.tables c.in-Ok-NodeTable.node) c.write_node.result c.write_node.ensures.whole c.write_node.ensures.part c.write_node.ensures.cause (λ e. ap g.O.Sink.state (c.write_node.ensures.same e))) c.end-in-Ok-NodeTable.ensures
 
 pub returns-in-Ok-Pack-clause-lawful : goal.returns-in-Ok-Pack-clause-lawful
 returns-in-Ok-Pack-clause-lawful g c words start at =
@@ -83,6 +112,12 @@ returns-in-Err-clause-lawful g c words start at =
 
 pub returns-in-Ok-Lines-clause-keeps : goal.returns-in-Ok-Lines-clause-keeps
 returns-in-Ok-Lines-clause-keeps g c = keeps_same (g.S.Shelf.state c.args.shelf.now)
+
+pub returns-in-Ok-Table-clause-keeps : goal.returns-in-Ok-Table-clause-keeps
+returns-in-Ok-Table-clause-keeps g c = keeps_same (g.S.Shelf.state c.args.shelf.now)
+
+pub returns-in-Ok-NodeTable-clause-keeps : goal.returns-in-Ok-NodeTable-clause-keeps
+returns-in-Ok-NodeTable-clause-keeps g c = keeps_same (g.S.Shelf.state c.args.shelf.now)
 
 pub returns-in-Ok-Pack-clause-keeps : goal.returns-in-Ok-Pack-clause-keeps
 returns-in-Ok-Pack-clause-keeps g c = keeps_same (g.S.Shelf.state c.args.shelf.now)

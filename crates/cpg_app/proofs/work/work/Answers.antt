@@ -40,10 +40,10 @@ pub returns-in-Audit-clause-halt : goal.returns-in-Audit-clause-halt
 returns-in-Audit-clause-halt c command values are = stops_audit command values c.audited.result c.in-Audit.graph c.in-Audit.tables c.in-Audit.log (subst (AreInputs command values) c.in-Audit.is are) c.audited.ensures.halt
 
 pub returns-in-Node-clause-output : goal.returns-in-Node-clause-output
-returns-in-Node-clause-output c command values are = of_node command values c.node_lines.result c.in-Node.tables c.in-Node.name (subst (AreInputs command values) c.in-Node.is are) (rw c.as_str.ensures at c.node_lines.ensures.text)
+returns-in-Node-clause-output c command values are = of_node command values c.node_named.result c.in-Node.tables c.in-Node.name (subst (AreInputs command values) c.in-Node.is are) (rw c.as_str.ensures at c.node_named.ensures.text)
 
 pub returns-in-Node-clause-halt : goal.returns-in-Node-clause-halt
-returns-in-Node-clause-halt c command values are = stops_node command values c.node_lines.result c.in-Node.tables c.in-Node.name (subst (AreInputs command values) c.in-Node.is are) (rw c.as_str.ensures at c.node_lines.ensures.halt)
+returns-in-Node-clause-halt c command values are = stops_node command values c.node_named.result c.in-Node.tables c.in-Node.name (subst (AreInputs command values) c.in-Node.is are) (rw c.as_str.ensures at c.node_named.ensures.halt)
 
 pub returns-in-Live-clause-output : goal.returns-in-Live-clause-output
 returns-in-Live-clause-output c command values are = of_live command values c.opened.result c.in-Live.tables c.in-Live.name c.in-Live.stream (subst (AreInputs command values) c.in-Live.is are) (rw c.as_str-in-Live.ensures at c.opened.ensures.opens)

@@ -1,0 +1,18 @@
+use Rattle.std.proofs.Common.{arith}
+use Rattle.std.proofs.lemmas.Result.{err_from_is_err_and}
+use Rattle.cpg_label.specs.CubeText.{column_line}
+use Rattle.cpg_codec.proofs.Puts.{item_more, item_fails, Puts-failed}
+use Rattle.cpg_show.proofs.Rows.{line_still}
+use Rattle.cpg_show.proofs.putting.put_columns.Goals as goal
+
+pub loop-column-preserved : goal.loop-column-preserved
+loop-column-preserved g c = record {
+  put = item_more (column_line c.args.labels.now) _ _ _ _ _ _ c.args.columns.now c.loop-column.column-index c.column-item.result c.column-item.is c.loop-column-test.true c.loop-column.invariant.put c.in_ok-put_column.ensures.put;
+  later = omega (arith, c.loop-column.invariant.later, c.put_column.ensures.cause.later);
+  line = line_still c.args.labels.now c.literals.result.now c.turned-line.result c.turned-line.ensures;
+}
+
+pub returns-in_err-put_column-clause-put : goal.returns-in_err-put_column-clause-put
+returns-in_err-put_column-clause-put g c =
+    let p = err_from_is_err_and c.from_residual.result c.from_residual.ensures.1 in
+    Puts-failed _ _ _ _ _ c.from_residual.result p.0 p.1 (item_fails (column_line c.args.labels.now) _ _ _ _ _ c.args.columns.now c.loop-column.column-index c.column-item.result c.column-item.is c.loop-column-test.true c.loop-column.invariant.put c.in_err-put_column.ensures.put)

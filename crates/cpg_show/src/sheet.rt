@@ -1,0 +1,107 @@
+//! Texts of rows, written row by row.
+ghost use Rattle.std.specs.Prelude.{◌≡◌, ◌≤◌, ◌++◌, [], Err, OnErr, OnOk, flat_map};
+ghost use Rattle.cpg_io.specs.Causes.{HasCause, Rose};
+ghost use Rattle.cpg_io.specs.Sink.{Took, TookPrefix};
+ghost use Rattle.cpg_codec.specs.Writing.{Puts};
+ghost use Rattle.cpg_show.specs.Sheet.{part_text, sheet_text};
+
+use crate::putting::{put_columns, put_text};
+use cpg_codec::{Buffer, WriteFault};
+use cpg_cube::Entry;
+use cpg_io::{Failed, Sink};
+use cpg_label::Labels;
+use std::alloc::Global;
+
+/// A line, and the columns below it.
+#[derive(Drop)]
+pub(crate) struct Part<'a> {
+    pub head: String,
+    pub columns: &'a [Entry],
+}
+
+/// A text of rows, of which all is at hand but the lines of their columns.
+#[derive(Drop)]
+pub(crate) struct Sheet<'a> {
+    pub labels: Labels<'a>,
+    pub front: String,
+    pub parts: Vec<Part<'a>>,
+}
+
+fn put_part<O: Sink>(
+    alloc: Global,
+    buffer: &mut Buffer,
+    sink: &mut O,
+    labels: &Labels<'_>,
+    part: &Part<'_>,
+) -> Result<(), Failed>
+    ensures put { Puts (O.state sink.old).taken (O.state sink.new).taken buffer.old buffer.new result (part_text labels.now part.now) }
+    ensures cause { HasCause (O.state sink.old).faults (O.state sink.new).faults result }
+{
+    put_text(buffer, sink, part.head.as_str())?;
+    put_columns(alloc, buffer, sink, labels, part.columns)
+}
+
+fn put_parts<O: Sink>(
+    alloc: Global,
+    buffer: &mut Buffer,
+    sink: &mut O,
+    labels: &Labels<'_>,
+    parts: &[Part<'_>],
+) -> Result<(), Failed>
+    ensures put { Puts (O.state sink.old).taken (O.state sink.new).taken buffer.old buffer.new result (flat_map (part_text labels.now) parts.now) }
+    ensures cause { HasCause (O.state sink.old).faults (O.state sink.new).faults result }
+{
+    for part in parts {
+        put_part(alloc, buffer, sink, labels, part)?;
+    }
+    Ok(())
+}
+
+fn put_sheet<O: Sink>(
+    alloc: Global,
+    buffer: &mut Buffer,
+    sink: &mut O,
+    sheet: &Sheet<'_>,
+) -> Result<(), Failed>
+    ensures put { Puts (O.state sink.old).taken (O.state sink.new).taken buffer.old buffer.new result (sheet_text sheet.now) }
+    ensures cause { HasCause (O.state sink.old).faults (O.state sink.new).faults result }
+{
+    put_text(buffer, sink, sheet.front.as_str())?;
+    put_parts(alloc, buffer, sink, &sheet.labels, sheet.parts.as_slice())
+}
+
+/// Writes a sheet through an empty buffer.
+fn write_through<O: Sink>(
+    alloc: Global,
+    buffer: &mut Buffer,
+    sink: &mut O,
+    sheet: &Sheet<'_>,
+) -> Result<(), Failed>
+    requires { buffer.old ≡ [] }
+    ensures whole { OnOk result (Took (O.state sink.old).taken (O.state sink.new).taken (sheet_text sheet.now)) }
+    ensures part { OnErr result (TookPrefix (O.state sink.old).taken (O.state sink.new).taken (sheet_text sheet.now)) }
+    ensures cause { HasCause (O.state sink.old).faults (O.state sink.new).faults result }
+{
+    put_sheet(alloc, buffer, sink, sheet)?;
+    buffer.write(sink)
+}
+
+/// Writes a sheet.
+///
+/// `Failed` only where the sink's count of faults rose. The sink has taken a proper prefix of the text then. The buffer is
+/// taken before the first write, so on `OutOfMemory` the sink is as it was.
+pub(crate) fn write_sheet<O: Sink>(
+    alloc: Global,
+    sheet: &Sheet<'_>,
+    sink: &mut O,
+) -> Result<(), WriteFault>
+    ensures whole { OnOk result (Took (O.state sink.old).taken (O.state sink.new).taken (sheet_text sheet.now)) }
+    ensures part { result ≡ Err WriteFault.Failed → TookPrefix (O.state sink.old).taken (O.state sink.new).taken (sheet_text sheet.now) }
+    ensures cause { result ≡ Err WriteFault.Failed → Rose (O.state sink.old).faults (O.state sink.new).faults }
+    ensures same { result ≡ Err WriteFault.OutOfMemory → sink.new ≡ sink.old }
+    ensures later { (O.state sink.old).faults ≤ (O.state sink.new).faults }
+{
+    let mut buffer = Buffer::new(alloc)?;
+    write_through(alloc, &mut buffer, sink, sheet)?;
+    Ok(())
+}
