@@ -1,6 +1,5 @@
 //! Sums over literals by which it is found whether any two columns touch.
-ghost use Rattle.std.specs.Prelude.{◌≡◌, ◌+◌, ◌%◌, ◌^◌, ◌<◌, ◌==◌, Contains, IfOk, length, map, sum_by};
-ghost use Rattle.std.specs.List.{list_all};
+ghost use Rattle.std.specs.Prelude.{◌≡◌, ◌+◌, ◌%◌, ◌^◌, ◌<◌, Contains, IfOk, length, map, sum_by};
 ghost use Rattle.std.specs.Bool.{OnFalse};
 ghost use Rattle.cpg_merging.specs.Totals.{AreSums, HasNoPartner, IsSieve, hash_of, mixed, number_of, place_in, total_of};
 
@@ -49,11 +48,17 @@ fn hash_of(asked: bool, literal: Literal) -> u64
 /// How many literals are looked at together.
 pub(crate) const BLOCK: usize = 8;
 
-/// Whether all literals begin at 0, as most do.
-pub(crate) fn begin_at_zero(literals: &[Literal; BLOCK]) -> bool
-    ensures { result ≡ list_all (λ l. l.low == 0) literals.now }
+/// A sum with that of a literal.
+#[inline(always)]
+fn sum_on(asked: bool, first: u64, literal: Literal) -> u64
+    ensures { result ≡ (first + hash_of asked literal) % 2 ^ 64 }
 {
-    literals.iter().all(|literal| literal.low == 0)
+    if asked {
+        if literal.low == 0 {
+            return first;
+        }
+    }
+    first.wrapping_add(hash_of(asked, literal))
 }
 
 /// A sum with those of literals.
@@ -62,21 +67,24 @@ fn sum_with(asked: bool, first: u64, literals: &[Literal]) -> u64
 {
     let mut total = first;
     for literal in literals {
-        total = total.wrapping_add(hash_of(asked, *literal));
+        total = sum_on(asked, total, *literal);
     }
     total
 }
 
-/// The same, at once where nothing counts.
+/// The same of so many, without a loop.
 fn sum_with_block(asked: bool, first: u64, literals: &[Literal; BLOCK]) -> u64
     ensures { result ≡ (first + sum_by (hash_of asked) literals.now) % 2 ^ 64 }
 {
-    if asked {
-        if begin_at_zero(literals) {
-            return first;
-        }
-    }
-    sum_with(asked, first, literals)
+    let [a, b, c, d, e, f, g, h] = *literals;
+    let total = sum_on(asked, first, a);
+    let total = sum_on(asked, total, b);
+    let total = sum_on(asked, total, c);
+    let total = sum_on(asked, total, d);
+    let total = sum_on(asked, total, e);
+    let total = sum_on(asked, total, f);
+    let total = sum_on(asked, total, g);
+    sum_on(asked, total, h)
 }
 
 /// The sum of a column.
