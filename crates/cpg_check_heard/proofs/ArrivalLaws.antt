@@ -3,7 +3,7 @@ use Rattle.std.proofs.Common.{ℕ, zero, suc, ◌+◌, ◌<◌, ◌≡◌, Bool,
 use Rattle.std.specs.Prelude.{nat_le}
 use Rattle.std.specs.List.{list_any}
 use Rattle.std.proofs.Math.Bool.{or-false}
-use Rattle.std.proofs.lemmas.Bool.{and_from, lt-leb}
+use Rattle.std.proofs.lemmas.Bool.{and_from, and_right, lt-leb}
 use Rattle.std.proofs.lemmas.List.Elements.{All-append}
 use Rattle.std.proofs.lemmas.List.Folds.{list_any-append}
 use Rattle.cpg_base.specs.Graph.{Graph}
@@ -20,12 +20,11 @@ use Rattle.cpg_check_heard.specs.declared.tellers.Telling.TheVariants.{Frame}
 use Rattle.cpg_check_heard.specs.Arrivals.{IsArrival, do_tell}
 use Rattle.cpg_check_heard.specs.Bounds.{tells}
 use Rattle.cpg_check_heard.specs.Tellings.{column_tells, is_telling, is_telling_at}
-use Rattle.cpg_check_heard.proofs.Sides.{off_last}
 
 module _ (g : Graph) (time : ℕ) (b : Bound) (s : Scenario) where
   -- a frame that comes later tells nothing
   pub late_frame : (delay : ℕ) (o : Option ℕ) (c : Column) → time < c.time + delay → is_telling g (Frame delay o) time b s c ≡ false
-  late_frame delay o c l = off_last (matches c.cube s) (column_tells g (Frame delay o) time b s c) (ap (λ t. t && list_any (tells b) (c.cube ++ value_fact s o)) (lt-leb (c.time + delay) time l))
+  late_frame delay o c l = and_right (matches c.cube s) (column_tells g (Frame delay o) time b s c) (ap (λ t. t && list_any (tells b) (c.cube ++ value_fact s o)) (lt-leb (c.time + delay) time l))
 
   -- one that has come tells what its column's literals do
   pub whole_frame : (delay : ℕ) (o : Option ℕ) (c : Column) → nat_le (c.time + delay) time ≡ true → list_any (tells b) c.cube ≡ true → matches c.cube s ≡ true → is_telling g (Frame delay o) time b s c ≡ true

@@ -1,17 +1,13 @@
 -- A literal is heard where its low is told and its high is told.
-use Rattle.std.proofs.Common.{ℕ, ◌≡◌, ◌==◌, Bool, true, false, cond, not, ◌&&◌, ◌||◌, List, [], ◌∷◌, filter, map, fold, max, min, arith, refl, sym, ap, ◌∙◌}
+use Rattle.std.proofs.Common.{ℕ, ◌≡◌, ◌==◌, Bool, true, false, cond, ◌&&◌, ◌||◌, List, [], ◌∷◌, filter, map, fold, max, min, arith, sym, ap, ◌∙◌}
 use Rattle.std.specs.Prelude.{nat_le}
 use Rattle.std.specs.List.{list_any}
 use Rattle.std.proofs.lemmas.Bool.Decides.{nat_tests}
-use Rattle.std.proofs.Math.Bool.{or-false}
+use Rattle.std.proofs.Math.Bool.{or-false, or_assoc}
 use Rattle.cpg_base.specs.Variable.{top}
 use Rattle.cpg_cube.specs.declared.literal.Literal.{Literal}
 use Rattle.cpg_table.specs.Heard.{kept_high, is_heard}
 use Rattle.cpg_check_heard.specs.Bounds.{tells, is_free, low_of, high_of}
-
-or_turned : (a b c : Bool) → ((a || b) || c) ≡ (a || (b || c))
-or_turned true b c = refl
-or_turned false b c = refl
 
 below_max : (n a b : ℕ) → nat_le n (max a b) ≡ (nat_le n a || nat_le n b)
 below_max n a b = grind (arith, nat_tests)
@@ -22,7 +18,7 @@ above_min n a b = grind (arith, nat_tests)
 module _ {X : Type 0} (p : X → Bool) (f : X → ℕ) (n : ℕ) where
   max_step : (b : Bool) (x : X) (xs : List X) (a : ℕ) → ((c : ℕ) → nat_le n (fold max c (map f (filter p xs))) ≡ (nat_le n c || list_any (λ x. p x && nat_le n (f x)) xs))
       → nat_le n (fold max a (map f (cond b (x ∷ filter p xs) (filter p xs)))) ≡ (nat_le n a || ((b && nat_le n (f x)) || list_any (λ x. p x && nat_le n (f x)) xs))
-  max_step true x xs a ih = ih (max a (f x)) ∙ ap (λ t. t || list_any (λ x. p x && nat_le n (f x)) xs) (below_max n a (f x)) ∙ or_turned (nat_le n a) (nat_le n (f x)) (list_any (λ x. p x && nat_le n (f x)) xs)
+  max_step true x xs a ih = ih (max a (f x)) ∙ ap (λ t. t || list_any (λ x. p x && nat_le n (f x)) xs) (below_max n a (f x)) ∙ or_assoc (nat_le n a) (nat_le n (f x)) (list_any (λ x. p x && nat_le n (f x)) xs)
   max_step false x xs a ih = ih a
 
   any_max : (xs : List X) (a : ℕ) → nat_le n (fold max a (map f (filter p xs))) ≡ (nat_le n a || list_any (λ x. p x && nat_le n (f x)) xs)
@@ -31,7 +27,7 @@ module _ {X : Type 0} (p : X → Bool) (f : X → ℕ) (n : ℕ) where
 
   min_step : (b : Bool) (x : X) (xs : List X) (a : ℕ) → ((c : ℕ) → nat_le (fold min c (map f (filter p xs))) n ≡ (nat_le c n || list_any (λ x. p x && nat_le (f x) n) xs))
       → nat_le (fold min a (map f (cond b (x ∷ filter p xs) (filter p xs)))) n ≡ (nat_le a n || ((b && nat_le (f x) n) || list_any (λ x. p x && nat_le (f x) n) xs))
-  min_step true x xs a ih = ih (min a (f x)) ∙ ap (λ t. t || list_any (λ x. p x && nat_le (f x) n) xs) (above_min n a (f x)) ∙ or_turned (nat_le a n) (nat_le (f x) n) (list_any (λ x. p x && nat_le (f x) n) xs)
+  min_step true x xs a ih = ih (min a (f x)) ∙ ap (λ t. t || list_any (λ x. p x && nat_le (f x) n) xs) (above_min n a (f x)) ∙ or_assoc (nat_le a n) (nat_le (f x) n) (list_any (λ x. p x && nat_le (f x) n) xs)
   min_step false x xs a ih = ih a
 
   any_min : (xs : List X) (a : ℕ) → nat_le (fold min a (map f (filter p xs))) n ≡ (nat_le a n || list_any (λ x. p x && nat_le (f x) n) xs)
@@ -46,10 +42,6 @@ heard_is k known l = ap (λ t. t && nat_le (kept_high k known l.variable) l.high
     ∙ ap (λ t. t || list_any (tells (low_of l)) known) (none_below l.low))
     ∙ ap (λ t. (is_free k (low_of l) || list_any (tells (low_of l)) known) && t) (any_min (λ (m : Literal). m.variable == l.variable) (λ (m : Literal). m.high) l.high known (top k l.variable))
 
-pub not_both : (a b : Bool) → (not a || not b) ≡ not (a && b)
-not_both true b = refl
-not_both false b = refl
-
 -- the low and the high of one literal more
 pub literal_more : (old one two low high both : Bool) → one ≡ (old || low) → two ≡ (one || high) → (low || high) ≡ both → two ≡ (old || both)
-literal_more old one two low high both a b c = b ∙ ap (λ t. t || high) a ∙ or_turned old low high ∙ ap (λ t. old || t) c
+literal_more old one two low high both a b c = b ∙ ap (λ t. t || high) a ∙ or_assoc old low high ∙ ap (λ t. old || t) c

@@ -28,7 +28,7 @@ use Rattle.cpg_check_heard.specs.Tellings.{is_telling, item_telling, row_tells}
 use Rattle.cpg_check_heard.specs.Unheard.{is_literal_unheard}
 use Rattle.cpg_check_heard.specs.Untold.{are_told_by, own_tells}
 use Rattle.cpg_check_heard.proofs.Bounded.{heard_is}
-use Rattle.cpg_check_heard.proofs.Counts.{duration_rises}
+use Rattle.cpg_violation.proofs.Durations.{duration_grows}
 use Rattle.cpg_check_heard.proofs.Facts.{facts_told}
 use Rattle.cpg_check_heard.proofs.Sides.{count_within, end_side, side, variable_within}
 use Rattle.cpg_check_heard.proofs.Untolds.{own_told}
@@ -67,5 +67,5 @@ ended_by g tables node v time last longest true is home most before =
     record {
       home = home;
       ends = λ c n k l. let start = All-contains (λ (d : Column). d.time ≤ last) (columns_of tables (process_of_variable g v)) c before k in
-          let more = duration_rises g (process_of_variable g v) n g.faults l in omega (arith, come, start, more, most);
+          let more = duration_grows g (process_of_variable g v) n g.faults l in omega (arith, come, start, more, most);
     }

@@ -2,9 +2,9 @@
 use Rattle.std.proofs.Common.{ℕ, ◌+◌, ◌-◌, ◌<◌, ◌≤◌, ◌≡◌, ◌≢◌, ◌==◌, Bool, true, false, cond, ◌&&◌, ◌||◌, List, [], ◌∷◌, ◌++◌, filter, flat_map, Contains, Option, Some, None, arith, refl, sym, ap, ◌∙◌, subst, inl, inr, lt-ltb, le-ltb, true≢false}
 use Rattle.std.specs.Prelude.{nat_le}
 use Rattle.std.specs.List.{list_any}
-use Rattle.std.proofs.lemmas.Bool.{and_from, and_parts, both_ways, cases_order, ne_eqb, cond-true, cond-false}
+use Rattle.std.proofs.lemmas.Bool.{and_from, and_parts, and_right, both_ways, cases_order, ne_eqb, cond-true, cond-false}
 use Rattle.std.proofs.lemmas.List.Folds.{list_any-append}
-use Rattle.cpg_base.proofs.Lists.{Contains-first, Contains-rest, list_any_false, list_any_true, list_any_parts, Contains-filter, Contains-filter_parts, Contains-numbers, numbers-Contains}
+use Rattle.cpg_base.proofs.Lists.{Contains-first, Contains-rest, list_any_false, list_any_true, list_any_parts, Contains-filter, Contains-filter_parts, Contains-numbers, numbers-Contains, same_truth}
 use Rattle.cpg_base.proofs.Items.{item_at-start}
 use Rattle.cpg_base.specs.Bus.{slot_length}
 use Rattle.cpg_base.specs.Duration.{duration}
@@ -19,27 +19,19 @@ use Rattle.cpg_table.specs.Table.{NodeTable, columns_of}
 use Rattle.cpg_cube.specs.Column.{Column}
 use Rattle.cpg_table.specs.Shape.{heard_by}
 use Rattle.cpg_table.specs.Heard.{exactly, value_fact, matching, facts_of_end, frame_value, facts_of_frame, facts}
-use Rattle.cpg_violation.proofs.SieveLaws.{both_same}
+use Rattle.cpg_violation.proofs.Columnwise.{any_filter}
 use Rattle.cpg_check_heard.specs.declared.bound.Bound.{Bound}
 use Rattle.cpg_check_heard.specs.declared.tellers.Telling.TheVariants.{End, Frame}
 use Rattle.cpg_check_heard.specs.Bounds.{tells, variable_of}
 use Rattle.cpg_check_heard.specs.Tellings.{column_tells, is_telling, row_tells, telling_of, item_telling, carried, is_value, CanTell}
 use Rattle.cpg_check_heard.specs.Untold.{item_tells, are_told_by, own_tells}
-use Rattle.cpg_check_heard.proofs.Sides.{off_last, side, tells_exactly, value_side}
+use Rattle.cpg_check_heard.proofs.Sides.{side, tells_exactly, value_side}
 
 -- ---- tests of lists that are made of others
 
 any_flat_map : {X Y : Type 0} (test : Y → Bool) (f : X → List Y) (xs : List X) → list_any test (flat_map f xs) ≡ list_any (λ x. list_any test (f x)) xs
 any_flat_map test f [] = refl
 any_flat_map test f (x ∷ xs) = list_any-append test (f x) (flat_map f xs) ∙ ap (λ t. list_any test (f x) || t) (any_flat_map test f xs)
-
-any_filter : {X : Type 0} (test p : X → Bool) (xs : List X) → list_any test (filter p xs) ≡ list_any (λ x. p x && test x) xs
-any_filter test p [] = refl
-any_filter test p (x ∷ xs) = go (p x) (any_filter test p xs)
-  where
-    go : (b : Bool) → list_any test (filter p xs) ≡ list_any (λ x. p x && test x) xs → list_any test (cond b (x ∷ filter p xs) (filter p xs)) ≡ ((b && test x) || list_any (λ x. p x && test x) xs)
-    go true ih = ap (λ t. test x || t) ih
-    go false ih = ih
 
 any_cond : {X : Type 0} (test : X → Bool) (b : Bool) (xs : List X) → list_any test (cond b xs []) ≡ (b && list_any test xs)
 any_cond test true xs = refl
@@ -55,7 +47,7 @@ any_within p q (x ∷ xs) h = ap (λ t. t || list_any p xs) (h x (Contains-first
 
 -- where one number alone may pass
 any_one : (f t : ℕ → Bool) (n one : ℕ) → one < n → ((q : ℕ) → q < n → q ≢ one → f q ≡ false) → list_any f (filter t (numbers_below n)) ≡ (t one && f one)
-any_one f t n one l off = both_same (list_any f (filter t (numbers_below n))) (t one && f one)
+any_one f t n one l off = same_truth (list_any f (filter t (numbers_below n))) (t one && f one)
     (λ e. let found = list_any_parts f (filter t (numbers_below n)) e in
     let parts = Contains-filter_parts t (numbers_below n) found.0 found.1 in
     let within = numbers-Contains n found.0 parts.0 in
@@ -102,7 +94,7 @@ module _ (g : Graph) (tables : List NodeTable) (time : ℕ) (b : Bound) (s : Sce
 
   other_row : process_count g ≤ 128 → (q : ℕ) → q < process_count g → q ≢ process_of_variable g (variable_of b) → list_any (tells b) (facts_of_end g tables s time q) ≡ false
   other_row few q l n = end_row q ∙ list_any_false (is_telling g (End q) time b s) (columns_of tables q)
-      (λ c _. off_last (matches c.cube s) (column_tells g (End q) time b s c) (off_last (nat_le (c.time + duration g q (number_of s q)) time) (list_any (tells b) (exactly q (number_of s q) ∷ value_fact s (condition_of g q))) (other_end few q l n)))
+      (λ c _. and_right (matches c.cube s) (column_tells g (End q) time b s c) (and_right (nat_le (c.time + duration g q (number_of s q)) time) (list_any (tells b) (exactly q (number_of s q) ∷ value_fact s (condition_of g q))) (other_end few q l n)))
 
   -- ---- what a node hears
 

@@ -2,10 +2,10 @@
 use Rattle.std.proofs.Common.{ℕ, zero, suc, ◌+◌, ◌-◌, ◌<◌, ◌≤◌, ◌≡◌, Bool, true, false, true≢false, ◌&&◌, ◌||◌, List, [], ◌∷◌, ◌++◌, get_or, length, take, Contains, All, Option, Some, None, arith, refl, sym, ap, ◌∙◌, subst, le-ltb}
 use Rattle.std.specs.Prelude.{nat_le, nat_lt, IfSome, IfNone, option_to_list}
 use Rattle.std.specs.List.{list_any}
-use Rattle.std.proofs.Math.Bool.{or-false}
-use Rattle.std.proofs.lemmas.Bool.{and_parts}
+use Rattle.std.proofs.Math.Bool.{and_comm, or-false, or_assoc}
+use Rattle.std.proofs.lemmas.Bool.{and_parts, and_right}
 use Rattle.std.proofs.lemmas.List.Elements.{All-append}
-use Rattle.std.proofs.lemmas.List.Folds.{list_any-append}
+use Rattle.std.proofs.lemmas.List.Folds.{list_any-append, list_any_more}
 use Rattle.cpg_base.specs.Graph.{Graph, IsVariable, process_count, condition_of}
 use Rattle.cpg_base.specs.Duration.{duration}
 use Rattle.cpg_base.specs.Scenario.{Scenario, IsScenario, number_of}
@@ -18,7 +18,7 @@ use Rattle.cpg_cube.proofs.Narrow.{known-narrowed}
 use Rattle.cpg_cube.specs.Column.{Column}
 use Rattle.cpg_table.specs.Heard.{exactly, value_fact}
 use Rattle.cpg_violation.specs.Sieves.{column_at}
-use Rattle.cpg_violation.proofs.Columnwise.{any_more}
+use Rattle.cpg_violation.proofs.Tests.{with_true}
 use Rattle.cpg_violation.proofs.SieveLaws.{any_at}
 use Rattle.cpg_check_heard.specs.declared.bound.Bound.{Bound}
 use Rattle.cpg_check_heard.specs.declared.bound.Bound.TheVariants.{Low, High}
@@ -26,7 +26,7 @@ use Rattle.cpg_check_heard.specs.declared.tellers.Telling.{Telling}
 use Rattle.cpg_check_heard.specs.declared.tellers.Telling.TheVariants.{End, Frame}
 use Rattle.cpg_check_heard.specs.Bounds.{tells, range_of, variable_of}
 use Rattle.cpg_check_heard.specs.Tellings.{CanTell, IsPart, is_telling, is_telling_at, is_value, column_tells, row_tells}
-use Rattle.cpg_check_heard.proofs.Sides.{off_last, side, range_holds, end_side, value_side, count_within, come_holds}
+use Rattle.cpg_check_heard.proofs.Sides.{side, range_holds, end_side, value_side, count_within, come_holds}
 
 -- ---- parts
 
@@ -49,15 +49,11 @@ range_variable k (High v most) = refl
 
 -- ---- of ends
 
-last_true : (m : Bool) → m ≡ (m && true)
-last_true true = refl
-last_true false = refl
-
 turned : (h r m : Bool) → (r && (h && m)) ≡ (m && (h && r))
-turned true true m = last_true m
-turned true false m = sym (off_last m false refl)
-turned false true m = sym (off_last m false refl)
-turned false false m = sym (off_last m false refl)
+turned true true m = with_true m true refl
+turned true false m = sym (and_right m false refl)
+turned false true m = sym (and_right m false refl)
+turned false false m = sym (and_right m false refl)
 
 off_both : (m h r : Bool) → (h && m) ≡ false → (m && (h && r)) ≡ false
 off_both true true r e = absurd (true≢false e)
@@ -72,7 +68,7 @@ module _ (g : Graph) (few : process_count g ≤ 128) (p : ℕ) (c : Column) (tim
       ∙ ap (λ t. nat_lt (number_of s p) counts && t) (end_side g few s i b p known can.0 can.1 ∙ sym (range_holds g few s i b known))
 
   pub end_none : counts ≡ 0 → (s : Scenario) → IsScenario g s → is_telling g (End p) time b s c ≡ false
-  end_none e s i = off_last (matches c.cube s) (column_tells g (End p) time b s c) (end_is s i ∙ ap (λ n. nat_lt (number_of s p) n && holds s (range_of g.faults b)) e ∙ ap (λ t. t && holds s (range_of g.faults b)) (le-ltb (number_of s p) 0 (omega arith)))
+  end_none e s i = and_right (matches c.cube s) (column_tells g (End p) time b s c) (end_is s i ∙ ap (λ n. nat_lt (number_of s p) n && holds s (range_of g.faults b)) e ∙ ap (λ t. t && holds s (range_of g.faults b)) (le-ltb (number_of s p) 0 (omega arith)))
 
   module _ (some : 0 < counts) where
     come_is : (s : Scenario) → holds s (record { variable = p; low = 0; high = counts - 1 }) ≡ nat_lt (number_of s p) counts
@@ -96,28 +92,22 @@ module _ (g : Graph) (few : process_count g ≤ 128) (delay : ℕ) (o : Option �
   frame_is s e = ap (λ t. t && list_any (tells b) (c.cube ++ value_fact s o)) e ∙ list_any-append (tells b) c.cube (value_fact s o) ∙ ap (λ t. list_any (tells b) c.cube || t) (value_side s b o)
 
   pub frame_late : nat_le (c.time + delay) time ≡ false → (s : Scenario) → IsScenario g s → is_telling g (Frame delay o) time b s c ≡ false
-  frame_late e s i = off_last (matches c.cube s) (column_tells g (Frame delay o) time b s c) (ap (λ t. t && list_any (tells b) (c.cube ++ value_fact s o)) e)
+  frame_late e s i = and_right (matches c.cube s) (column_tells g (Frame delay o) time b s c) (ap (λ t. t && list_any (tells b) (c.cube ++ value_fact s o)) e)
 
   module _ (come : nat_le (c.time + delay) time ≡ true) where
     pub frame_whole : list_any (tells b) c.cube ≡ true → (cube : List Literal) → cube ≡ c.cube → IsPart g (λ s. is_telling g (Frame delay o) time b s c) (Some cube)
-    frame_whole told cube e = λ s i. ap (λ (d : List Literal). matches d s) e ∙ last_true (matches c.cube s)
+    frame_whole told cube e = λ s i. ap (λ (d : List Literal). matches d s) e ∙ with_true (matches c.cube s) true refl
         ∙ ap (λ t. matches c.cube s && t) (sym (frame_is s come ∙ ap (λ t. t || (is_value o (variable_of b) && side b (number_of s (variable_of b)))) told))
 
     pub frame_none : list_any (tells b) c.cube ≡ false → is_value o (variable_of b) ≡ false → (s : Scenario) → IsScenario g s → is_telling g (Frame delay o) time b s c ≡ false
-    frame_none off none s i = off_last (matches c.cube s) (column_tells g (Frame delay o) time b s c)
+    frame_none off none s i = and_right (matches c.cube s) (column_tells g (Frame delay o) time b s c)
         (frame_is s come ∙ ap (λ t. t || (is_value o (variable_of b) && side b (number_of s (variable_of b)))) off ∙ ap (λ t. t && side b (number_of s (variable_of b))) none)
 
     pub frame_value : list_any (tells b) c.cube ≡ false → is_value o (variable_of b) ≡ true → (r : Option (List Literal)) → IsPart g (λ s. holds s (range_of g.faults b) && matches c.cube s) r
         → IsPart g (λ s. is_telling g (Frame delay o) time b s c) r
     frame_value off value r f = part_same g (λ s. holds s (range_of g.faults b) && matches c.cube s) (λ s. is_telling g (Frame delay o) time b s c) r
-        (λ s i. ap (λ t. t && matches c.cube s) (range_holds g few s i b known) ∙ swap (side b (number_of s (variable_of b))) (matches c.cube s)
+        (λ s i. ap (λ t. t && matches c.cube s) (range_holds g few s i b known) ∙ and_comm (side b (number_of s (variable_of b))) (matches c.cube s)
         ∙ ap (λ t. matches c.cube s && t) (sym (frame_is s come ∙ ap (λ t. t || (is_value o (variable_of b) && side b (number_of s (variable_of b)))) off ∙ ap (λ t. t && side b (number_of s (variable_of b))) value))) f
-      where
-        swap : (x y : Bool) → (x && y) ≡ (y && x)
-        swap true true = refl
-        swap true false = refl
-        swap false true = refl
-        swap false false = refl
 
 -- ---- what is told by a list of parts
 
@@ -137,11 +127,7 @@ known_add g told (Some cube) h k = All-append (IsKnown g) told (cube ∷ []) h (
 
 -- one place more of a row, one item or one column
 pub row_more : {X : Type 0} (test : X → Bool) (places : List X) (i : ℕ) (d : X) → i < length places → (a r n : Bool) → r ≡ (a || list_any test (take i places)) → n ≡ (r || test (get_or places i d)) → n ≡ (a || list_any test (take (i + 1) places))
-row_more test places i d h a r n e f = f ∙ ap (λ t. t || test (get_or places i d)) e ∙ or_turned a (list_any test (take i places)) (test (get_or places i d)) ∙ ap (λ t. a || t) (any_more test places i d h)
-  where
-    or_turned : (a b c : Bool) → ((a || b) || c) ≡ (a || (b || c))
-    or_turned true b c = refl
-    or_turned false b c = refl
+row_more test places i d h a r n e f = f ∙ ap (λ t. t || test (get_or places i d)) e ∙ or_assoc a (list_any test (take i places)) (test (get_or places i d)) ∙ ap (λ t. a || t) (sym (list_any_more test places i d h))
 
 -- a row's places among which each column is that matches together with a cube tell what the row does
 pub row_all : (g : Graph) (telling : Telling) (time : ℕ) (b : Bound) (columns : List Column) (places : List ℕ) (s : Scenario)

@@ -1,5 +1,5 @@
 -- When ends and frames tell a bound: where the variable's number is within it.
-use Rattle.std.proofs.Common.{ℕ, ◌-◌, ◌<◌, ◌≤◌, ◌≡◌, ◌==◌, Bool, true, false, ◌&&◌, ◌||◌, ◌⊎◌, ◌∷◌, Option, Some, None, arith, refl, sym, ap, ◌∙◌, inl, inr, subst, eqb-true, eq-eqb, le-leb, lt-ltb, le-ltb}
+use Rattle.std.proofs.Common.{ℕ, ◌-◌, ◌<◌, ◌≤◌, ◌≡◌, ◌==◌, Bool, false, ◌&&◌, ◌||◌, ◌⊎◌, ◌∷◌, Option, Some, None, arith, refl, sym, ap, ◌∙◌, inl, inr, subst, eqb-true, eq-eqb, le-leb, lt-ltb, le-ltb}
 use Rattle.std.specs.Prelude.{nat_le, nat_lt}
 use Rattle.std.specs.List.{list_any}
 use Rattle.std.proofs.Math.Bool.{or-false}
@@ -12,7 +12,7 @@ use Rattle.cpg_cube.specs.Cube.{holds}
 use Rattle.cpg_base.specs.Variable.{top}
 use Rattle.cpg_cube.proofs.Boxes.{number_within, top_of_count}
 use Rattle.cpg_table.specs.Heard.{exactly, value_fact}
-use Rattle.cpg_violation.proofs.SieveLaws.{same_where}
+use Rattle.cpg_violation.proofs.Tests.{same_where, with_true}
 use Rattle.cpg_check_heard.specs.declared.bound.Bound.{Bound}
 use Rattle.cpg_check_heard.specs.declared.bound.Bound.TheVariants.{Low, High}
 use Rattle.cpg_check_heard.specs.Bounds.{tells, range_of, variable_of}
@@ -22,14 +22,6 @@ use Rattle.cpg_check_heard.specs.Tellings.{is_value}
 abbrev pub side : Bound → ℕ → Bool
 side (Low v least) n = nat_le least n
 side (High v most) n = nat_le n most
-
-pub off_last : (m t : Bool) → t ≡ false → (m && t) ≡ false
-off_last true t e = e
-off_last false t e = refl
-
-and_true : (a b : Bool) → b ≡ true → (a && b) ≡ a
-and_true true b e = e
-and_true false b e = refl
 
 pub tells_exactly : (b : Bound) (w n : ℕ) → tells b (exactly w n) ≡ ((w == variable_of b) && side b n)
 tells_exactly (Low v least) w n = refl
@@ -67,7 +59,7 @@ variable_within g v few known = elim (variable_parts g v few known) as (λ _. pr
 
 module _ (g : Graph) (few : process_count g ≤ 128) (s : Scenario) (i : IsScenario g s) where
   pub range_holds : (b : Bound) → IsVariable g (variable_of b) → holds s (range_of g.faults b) ≡ side b (number_of s (variable_of b))
-  range_holds (Low v least) known = and_true (nat_le least (number_of s v)) (nat_le (number_of s v) (top g.faults v)) (le-leb (number_of s v) (top g.faults v) (number_within g few s i v known))
+  range_holds (Low v least) known = sym (with_true (nat_le least (number_of s v)) (nat_le (number_of s v) (top g.faults v)) (le-leb (number_of s v) (top g.faults v) (number_within g few s i v known)))
   range_holds (High v most) known = ap (λ b. b && nat_le (number_of s v) most) (le-leb 0 (number_of s v) (omega arith))
 
   pub count_within : (p : ℕ) → p < process_count g → number_of s p ≤ g.faults

@@ -1,8 +1,9 @@
 -- The least scenario in which a bound isn't told, by what is left of a cube.
-use Rattle.std.proofs.Common.{ℕ, ◌≡◌, Bool, true, false, not, ◌&&◌, ◌||◌, List, [], Option, Some, None, refl, sym, ap, ◌∙◌}
+use Rattle.std.proofs.Common.{ℕ, ◌≡◌, Bool, true, false, not, ◌&&◌, ◌||◌, List, [], Option, Some, None, sym, ap, ◌∙◌}
 use Rattle.std.specs.Bool.{OnFalse}
 use Rattle.std.specs.Prelude.{IfSome, IfNone, IsTrue, is_some}
 use Rattle.std.specs.List.{list_any}
+use Rattle.std.proofs.lemmas.Bool.{not-false, or_right}
 use Rattle.cpg_base.specs.Graph.{Graph}
 use Rattle.cpg_base.proofs.First.{first_same}
 use Rattle.cpg_base.specs.First.{IsFirst}
@@ -10,15 +11,7 @@ use Rattle.cpg_base.specs.Scenario.{Scenario, IsScenario, IsLeast}
 use Rattle.cpg_cube.specs.Cover.{is_left}
 use Rattle.cpg_cube.specs.Cube.{matches}
 use Rattle.cpg_cube.specs.declared.literal.Literal.{Literal}
-use Rattle.cpg_violation.proofs.SieveLaws.{same_where}
-
-off_where : (m a : Bool) → (m ≡ true → a ≡ false) → (m && a) ≡ false
-off_where true a h = h refl
-off_where false a h = refl
-
-turned_off : (a : Bool) → not a ≡ false → a ≡ true
-turned_off true e = refl
-turned_off false e = sym e
+use Rattle.cpg_violation.proofs.Tests.{off_where, same_where}
 
 module _ (g : Graph) (order : List ℕ) (cube : List Literal) (told : List (List Literal)) where
   -- what covers answers is what is left first
@@ -39,21 +32,17 @@ module _ (start : List (List Literal)) (s : Scenario) where
   pub told_all : (first last own heard all : Bool) → start ≡ [] → first ≡ (list_any (λ b. matches b s) start || own) → last ≡ (first || heard) → all ≡ (own || heard) → last ≡ all
   told_all first last own heard all none e f is = f ∙ ap (λ x. x || heard) (e ∙ ap (λ xs. list_any (λ b. matches b s) xs || own) none) ∙ sym is
 
-pub or_true : (a b : Bool) → b ≡ true → (a || b) ≡ true
-or_true true b e = refl
-or_true false b e = e
-
 -- what is heard is told
 pub told_heard : (own heard all : Bool) → all ≡ (own || heard) → heard ≡ true → all ≡ true
-told_heard own heard all is t = is ∙ or_true own heard t
+told_heard own heard all is t = is ∙ or_right own heard t
 
 -- where a bound is told all over a cube, it isn't open there
 pub untold_nowhere : (g : Graph) (cube : List Literal) (facts : Scenario → Bool) (free : Bool) → ((s : Scenario) → IsScenario g s → matches cube s ≡ true → facts s ≡ true) → (s : Scenario) → IsScenario g s → (matches cube s && not (free || facts s)) ≡ false
-untold_nowhere g cube facts free h s i = off_where (matches cube s) (not (free || facts s)) (λ m. ap not (or_true free (facts s) (h s i m)))
+untold_nowhere g cube facts free h s i = off_where (matches cube s) (not (free || facts s)) (λ m. ap not (or_right free (facts s) (h s i m)))
 
 -- what a node's own ends tell is told
 pub own_told : (free first own heard all : Bool) → first ≡ own → all ≡ (own || heard) → first ≡ true → (free || all) ≡ true
-own_told free first own heard all f is t = or_true free all (is ∙ ap (λ x. x || heard) (sym f ∙ t))
+own_told free first own heard all f is t = or_right free all (is ∙ ap (λ x. x || heard) (sym f ∙ t))
 
 -- what isn't so where nothing is left follows from what is less
 pub fewer_left : {A B : Type 0} (left : Bool) → (A → B) → OnFalse left A → OnFalse left B
@@ -64,5 +53,5 @@ fewer_left true f a = tt
 pub left_nowhere : (g : Graph) (order : List ℕ) (cube : List Literal) (told : List (List Literal)) (o : Option Scenario) (facts : Scenario → Bool)
     → ((s : Scenario) → IsScenario g s → matches cube s ≡ true → list_any (λ b. matches b s) told ≡ true → facts s ≡ true)
     → IsFirst g order (is_left told cube) o → OnFalse (is_some o) ((s : Scenario) → IsScenario g s → matches cube s ≡ true → facts s ≡ true)
-left_nowhere g order cube told None facts h f = λ s i m. h s i m (turned_off (list_any (λ b. matches b s) told) (sym (ap (λ t. t && not (list_any (λ b. matches b s) told)) m) ∙ f s i))
+left_nowhere g order cube told None facts h f = λ s i m. h s i m (not-false (list_any (λ b. matches b s) told) (sym (ap (λ t. t && not (list_any (λ b. matches b s) told)) m) ∙ f s i))
 left_nowhere g order cube told (Some least) facts h f = tt

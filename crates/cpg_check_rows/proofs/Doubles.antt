@@ -11,7 +11,8 @@ use Rattle.cpg_cube.specs.Cube.{matches}
 use Rattle.cpg_cube.specs.Column.{Column}
 use Rattle.cpg_table.specs.Valid.{breaks_single}
 use Rattle.cpg_violation.specs.Sieves.{column_at, is_at}
-use Rattle.cpg_violation.proofs.SieveLaws.{before_at, same_where}
+use Rattle.cpg_violation.proofs.SieveLaws.{before_at}
+use Rattle.cpg_violation.proofs.Tests.{same_where}
 use Rattle.cpg_check_rows.specs.Single.{is_double}
 
 -- the column at a place

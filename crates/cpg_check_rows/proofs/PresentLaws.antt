@@ -1,20 +1,17 @@
 -- When items are active, by the source of an edge and the cube of its value; and the least scenario without a column.
-use Rattle.std.proofs.Common.{ℕ, zero, suc, ◌∷◌, All, ◌+◌, ◌<◌, ◌≤◌, ◌≡◌, Bool, true, false, not, ◌&&◌, List, [], get_or, length, map, Option, Some, None, arith, refl, sym, ap, ◌∙◌, subst, inl, inr, lt-ltb}
+use Rattle.std.proofs.Common.{ℕ, zero, suc, ◌∷◌, All, ◌+◌, ◌<◌, ◌≤◌, ◌≡◌, Bool, true, false, not, ◌&&◌, List, [], length, map, Option, Some, None, arith, refl, sym, ap, ◌∙◌, subst, inl, inr, lt-ltb}
 use Rattle.std.specs.Prelude.{nat_lt, take, drop}
 use Rattle.std.specs.List.{list_any}
-use Rattle.std.proofs.lemmas.Bool.{cases_lt}
-use Rattle.cpg_base.specs.Graph.{Graph, process_count, edge_count, condition_count, item_at, message_item, broadcast_item, is_message, source, edge_at, condition_of, process_of}
+use Rattle.std.proofs.lemmas.Bool.{and_right, cases_lt}
+use Rattle.cpg_base.specs.Graph.{Graph, process_count, edge_count, item_at, message_item, broadcast_item, is_message, source, edge_at, condition_of, process_of}
 use Rattle.cpg_base.specs.declared.item.Item.TheVariants.{Broadcast}
 use Rattle.cpg_base.specs.Activity.{active, is_active, live, item_active}
-use Rattle.cpg_base.proofs.Lists.{list_any_false, get_or-map-below}
+use Rattle.cpg_base.proofs.Lists.{list_any_false}
 use Rattle.cpg_base.proofs.Items.{item_at-start, item_at-message, item_at-broadcast}
-use Rattle.cpg_order.specs.Urgency.{IsTopological}
 use Rattle.cpg_base.specs.Scenario.{Scenario, IsScenario}
 use Rattle.cpg_base.specs.First.{IsFirst}
 use Rattle.cpg_base.proofs.First.{first_same}
-use Rattle.cpg_order.proofs.Acyclic.{source_in_order}
-use Rattle.cpg_rules.specs.Guards.{Guards, AreGuardsOf, is_passed, test_of, active_by, edge_guard, edge_guard_of, tree_of}
-use Rattle.cpg_rules.proofs.EdgeGuards.{active_by-is, live_by-is}
+use Rattle.cpg_rules.specs.Guards.{Guards, is_passed, test_of, tree_of}
 use Rattle.cpg_cube.specs.Cube.{matches}
 use Rattle.cpg_cube.specs.declared.literal.Literal.{Literal}
 use Rattle.cpg_cube.specs.Cover.{is_left}
@@ -26,6 +23,8 @@ use Rattle.cpg_table.specs.Valid.{breaks, breaks_at}
 use Rattle.cpg_table.specs.declared.rule.Rule.{Rule}
 use Rattle.cpg_check_rows.specs.Present.{is_absent}
 use Rattle.cpg_violation.specs.Activity.{comes_to}
+use Rattle.cpg_violation.proofs.LiveEdges.{live_tested}
+use Rattle.cpg_violation.proofs.Tests.{with_true}
 
 turned : (a m n : Bool) → ((m && n) && a) ≡ ((a && m) && n)
 turned true true true = refl
@@ -37,14 +36,6 @@ turned false false n = refl
 
 and_off : (a n : Bool) → a ≡ false → (a && n) ≡ false
 and_off a n e = ap (λ b. b && n) e
-
-and_last : (a : Bool) → (a && false) ≡ false
-and_last true = refl
-and_last false = refl
-
-with_true : (a : Bool) → a ≡ (a && true)
-with_true true = refl
-with_true false = refl
 
 module _ (g : Graph) (order : List ℕ) (columns : List Column) (x : ℕ) where
   -- the item is active where a process is and a cube matches
@@ -59,26 +50,15 @@ module _ (g : Graph) (order : List ℕ) (columns : List Column) (x : ℕ) where
   pub absent_never : ((s : Scenario) → IsScenario g s → item_active g s.values (item_at g x) ≡ false) → IsFirst g order (is_absent g columns x) None
   absent_never off = λ s i. and_off (item_active g s.values (item_at g x)) (not (list_any (λ (d : Column). matches d.cube s) columns)) (off s i)
 
-guard_at : (g : Graph) (order : List ℕ) (guards : Guards) → AreGuardsOf g order guards → (e : ℕ) → e < edge_count g → edge_guard guards e ≡ edge_guard_of g e
-guard_at g order guards are e l = ap (λ xs. get_or xs e (record { source = 0; test = None })) are.edges ∙ get_or-map-below (edge_guard_of g) (edge_count g) e (record { source = 0; test = None }) l
-
--- an edge is live where its source is active and its test passes
-pub live_tested : (g : Graph) (order : List ℕ) → IsTopological g order → (guards : Guards) → AreGuardsOf g order guards → (values : List Bool) → length values ≡ condition_count g → (e : ℕ) → e < edge_count g
-    → live g values e ≡ (active g values (source g e) && is_passed (test_of (condition_of g (source g e)) (edge_at g e).when) values)
-live_tested g order topological guards are values long e l =
-    sym (live_by-is g order topological guards are values long e l)
-    ∙ ap (λ x. active_by guards values x.source && is_passed x.test values) (guard_at g order guards are e l)
-    ∙ ap (λ a. a && is_passed (test_of (condition_of g (source g e)) (edge_at g e).when) values) (active_by-is g order topological guards are values long (source g e) (source_in_order g order topological e l))
-
 module _ (g : Graph) (s : Scenario) where
   pub start_active : (x : ℕ) → x < process_count g → item_active g s.values (item_at g x) ≡ (active g s.values x && matches [] s)
-  start_active x l = ap (item_active g s.values) (item_at-start g x l) ∙ with_true (active g s.values x)
+  start_active x l = ap (item_active g s.values) (item_at-start g x l) ∙ with_true (active g s.values x) true refl
 
   at_broadcast : (x c : ℕ) → x ≡ broadcast_item g c → item_at g x ≡ Broadcast c
   at_broadcast x c e = ap (item_at g) e ∙ item_at-broadcast g c
 
   pub broadcast_active : (x c : ℕ) → x ≡ broadcast_item g c → 2 ≤ length g.nodes → item_active g s.values (item_at g x) ≡ (active g s.values (process_of g c) && matches [] s)
-  broadcast_active x c e two = ap (item_active g s.values) (at_broadcast x c e) ∙ ap (λ b. b && active g s.values (process_of g c)) (lt-ltb 1 (length g.nodes) (omega arith)) ∙ with_true (active g s.values (process_of g c))
+  broadcast_active x c e two = ap (item_active g s.values) (at_broadcast x c e) ∙ ap (λ b. b && active g s.values (process_of g c)) (lt-ltb 1 (length g.nodes) (omega arith)) ∙ with_true (active g s.values (process_of g c)) true refl
 
   pub broadcast_never : (x c : ℕ) → x ≡ broadcast_item g c → nat_lt 1 (length g.nodes) ≡ false → item_active g s.values (item_at g x) ≡ false
   broadcast_never x c e one = ap (item_active g s.values) (at_broadcast x c e) ∙ ap (λ b. b && active g s.values (process_of g c)) one
@@ -103,7 +83,7 @@ present_more g tables x before here y column s l i = elim (cases_lt y x) [
   where
     at_item : (column : Option ℕ) → breaks Rule.Present g tables s x column ≡ false
     at_item None = here s i
-    at_item (Some k) = list_any_false (breaks_at Rule.Present g tables s x (take k (columns_of tables x))) (take 1 (drop k (columns_of tables x))) (λ c _. and_last (matches c.cube s))
+    at_item (Some k) = list_any_false (breaks_at Rule.Present g tables s x (take k (columns_of tables x))) (take 1 (drop k (columns_of tables x))) (λ c _. and_right (matches c.cube s) false refl)
 
 pub all_mapped : {X Y : Type 0} (P : Y → Type 0) (f : X → Y) (xs : List X) → All (λ x. P (f x)) xs → All P (map f xs)
 all_mapped P f [] h k d l = absurd (omega arith)

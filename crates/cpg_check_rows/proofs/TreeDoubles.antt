@@ -1,5 +1,5 @@
 -- Columns that have a tree: none of them matches together with an earlier one.
-use Rattle.std.proofs.Common.{ℕ, ◌<◌, ◌≡◌, Bool, true, false, ◌&&◌, List, [], Option, None, Some, length, get_or, take, arith, refl, sym, ap, ◌∙◌, inl, inr}
+use Rattle.std.proofs.Common.{ℕ, ◌<◌, ◌≡◌, false, ◌&&◌, List, [], Option, None, Some, length, get_or, take, arith, sym, ap, ◌∙◌, inl, inr}
 use Rattle.std.specs.Prelude.{IfSome, is_some}
 use Rattle.std.specs.Bool.{OnTrue}
 use Rattle.std.proofs.lemmas.Bool.{cases_lt}
@@ -12,13 +12,10 @@ use Rattle.cpg_table.specs.Valid.{breaks_single}
 use Rattle.cpg_tree.specs.declared.places.Places.{Places}
 use Rattle.cpg_violation.specs.Sieves.{column_at}
 use Rattle.cpg_violation.specs.Trees.{IsRowTree}
+use Rattle.cpg_violation.proofs.Tests.{off_where}
 use Rattle.cpg_violation.proofs.TreeLaws.{none_earlier}
 use Rattle.cpg_check_rows.specs.Single.{is_double}
 use Rattle.cpg_check_rows.proofs.Doubles.{double_at, double_past}
-
-only_where : (a b : Bool) → (a ≡ true → b ≡ false) → (a && b) ≡ false
-only_where true b h = h refl
-only_where false b h = refl
 
 -- what holds of the first columns by themselves holds of them in the row
 front_as : (columns : List Column) (n i : ℕ) (s : Scenario) → i < n → is_double (take n columns) i s ≡ false → is_double columns i s ≡ false
@@ -35,7 +32,7 @@ front_as columns n i s less none = elim (cases_lt i (length columns)) [
 
 none_double : (g : Graph) (columns : List Column) (tree : Places) → IsRowTree g columns tree → (i : ℕ) (s : Scenario) → IsScenario g s → is_double columns i s ≡ false
 none_double g columns tree is i s law = elim (cases_lt i (length columns)) [
-  | inl l ↦ sym (double_at columns i (record { time = 0; cube = [] }) s l) ∙ only_where (matches (column_at columns i).cube s) (breaks_single s (take i columns)) (λ m. none_earlier is s law i l m)
+  | inl l ↦ sym (double_at columns i (record { time = 0; cube = [] }) s l) ∙ off_where (matches (column_at columns i).cube s) (breaks_single s (take i columns)) (λ m. none_earlier is s law i l m)
   | inr past ↦ double_past columns i s past
 ]
 

@@ -34,10 +34,8 @@ fn least_idle(
     requires cube { IsKnown admitted.now.graph cube.now }
     ensures { IfOk result (IsFirst admitted.now.graph admitted.now.order (λ s. matches cube.now s && not (active admitted.now.graph s.values process))) }
 {
-    let problem = admitted.problem();
-    let order = admitted.order();
     let tree = admitted.guards().guard_of(process);
-    let found = least_at(alloc, problem, order, tree, false, cube, &[])?;
+    let found = least_at(alloc, admitted, tree, false, cube, &[])?;
     Ok(found)
 }
 

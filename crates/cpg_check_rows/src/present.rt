@@ -34,11 +34,9 @@ fn least_without(
     ensures { IfOk result (IsFirst admitted.now.graph admitted.now.order (λ s. is_left (map (λ c. c.cube) columns.now) cube.now s
         && active admitted.now.graph s.values process)) }
 {
-    let problem = admitted.problem();
-    let order = admitted.order();
     let tree = admitted.guards().guard_of(process);
     let by = cubes_of(alloc, columns)?;
-    let found = least_at(alloc, problem, order, tree, true, cube, by.as_slice())?;
+    let found = least_at(alloc, admitted, tree, true, cube, by.as_slice())?;
     Ok(found)
 }
 

@@ -3,17 +3,13 @@ use Rattle.cpg_base.specs.First.{IsFirst}
 use Rattle.cpg_cube.specs.Cover.{is_left}
 use Rattle.cpg_rules.specs.Guards.{tree_of}
 use Rattle.cpg_violation.specs.Activity.{comes_to}
-use Rattle.cpg_violation.proofs.Violations.{long_order}
 use Rattle.cpg_check_rows.proofs.ActivityLaws.{idle_found}
 use Rattle.cpg_check_rows.proofs.activity.least_idle.Goals as goal
-
-pub least_at-requires-clause-order : goal.least_at-requires-clause-order
-least_at-requires-clause-order c = rw (c.order-order.ensures.order, c.problem-problem.ensures.problem) (long_order c.order-order.ensures.admitted)
 
 pub returns : goal.returns
 returns c =
     let g = c.args.admitted.now.graph in
     let tree : c.guard_of-tree.result.now ≡ tree_of c.args.admitted.now.guards c.args.process = c.guard_of-tree.ensures.tree ∙ ap (λ guards. tree_of guards c.args.process) c.guards.ensures.guards in
     let found : IsFirst g c.args.admitted.now.order (λ s. is_left [] c.args.cube.now s && comes_to (tree_of c.args.admitted.now.guards c.args.process) false s) c.in_ok-found.found =
-    rw (← c.problem-problem.ensures.problem, ← c.order-order.ensures.order, ← tree) c.in_ok-found.ensures in
-    idle_found c.order-order.ensures.admitted c.args.cube.now c.args.process c.requires.process c.in_ok-found.found found
+    rw (← tree) c.in_ok-found.ensures in
+    idle_found c.guards.ensures.admitted c.args.cube.now c.args.process c.requires.process c.in_ok-found.found found

@@ -4,8 +4,9 @@ use Rattle.cpg_base.specs.Graph.{condition_of, edge_at, source}
 use Rattle.cpg_rules.specs.Guards.{is_passed, test_of}
 use Rattle.cpg_base.specs.First.{IsFirst}
 use Rattle.cpg_cube.specs.Cube.{matches, holds}
-use Rattle.cpg_violation.proofs.Violations.{long_order, first_lawful}
-use Rattle.cpg_check_rows.proofs.PresentLaws.{live_tested}
+use Rattle.cpg_cube.proofs.AlongLaws.{lawful_if_some}
+use Rattle.cpg_violation.proofs.LiveEdges.{live_tested}
+use Rattle.cpg_violation.proofs.Violations.{long_order}
 use Rattle.cpg_check_rows.proofs.ActivityLaws.{unlive_idle, unlive_either}
 use Rattle.cpg_check_rows.proofs.activity.least_unlive.Goals as goal
 
@@ -25,7 +26,7 @@ pub earlier-requires-clause-order : goal.earlier-requires-clause-order
 earlier-requires-clause-order c = rw (c.order-order.ensures.order, c.problem-problem.ensures.problem) (long_order c.order-order.ensures.admitted)
 
 pub earlier-requires-clause-second : goal.earlier-requires-clause-second
-earlier-requires-clause-second c = first_lawful c.problem-problem.result.now c.order-order.result.now (λ s. matches c.args.cube.now s && holds s c.in-Some.literal) c.in_ok-other.other (c.in_ok-other.ensures c.order-order.result.now)
+earlier-requires-clause-second c = lawful_if_some c.problem-problem.result.now c.order-order.result.now (λ s. matches c.args.cube.now s && holds s c.in-Some.literal) c.in_ok-other.other (c.in_ok-other.ensures c.order-order.result.now)
 
 pub returns : goal.returns
 returns c =

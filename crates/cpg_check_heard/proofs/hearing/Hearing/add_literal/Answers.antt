@@ -5,7 +5,8 @@ use Rattle.cpg_cube.specs.Cube.{holds}
 use Rattle.cpg_table.specs.Heard.{facts}
 use Rattle.cpg_check_heard.specs.Bounds.{is_told, high_of, low_of}
 use Rattle.cpg_check_heard.specs.Unheard.{is_literal_unheard, is_one_untold}
-use Rattle.cpg_check_heard.proofs.Bounded.{heard_is, literal_more, not_both}
+use Rattle.cpg_violation.proofs.Tests.{not_both}
+use Rattle.cpg_check_heard.proofs.Bounded.{heard_is, literal_more}
 use Rattle.cpg_check_heard.proofs.Endings.{ended_heard}
 use Rattle.cpg_check_heard.proofs.hearing.Hearing.add_literal.Goals as goal
 

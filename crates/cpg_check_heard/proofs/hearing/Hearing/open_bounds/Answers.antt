@@ -1,6 +1,6 @@
-use Rattle.std.proofs.Common.{◌<◌, ◌||◌, ◌∙◌, ap, arith, length, get_or}
+use Rattle.std.proofs.Common.{◌<◌, ◌||◌, ◌∙◌, ap, sym, arith, length, get_or}
 use Rattle.std.proofs.lemmas.List.Elements.{Contains-get_or}
-use Rattle.cpg_violation.proofs.Columnwise.{any_more}
+use Rattle.std.proofs.lemmas.List.Folds.{list_any_more}
 use Rattle.cpg_check_heard.specs.Unheard.{is_literal_unheard}
 use Rattle.cpg_check_heard.proofs.hearing.Hearing.open_bounds.Goals as goal
 
@@ -25,5 +25,5 @@ loop-literal-preserved c =
       known = c.in_ok-add_literal.ensures.known;
       unheard = λ s law m. rw c.literals-literal-items.ensures.literals at c.in_ok-add_literal.ensures.unheard s law m
           ∙ ap (λ x. x || is_literal_unheard g tables node time s l) (c.loop-literal.invariant.unheard s law m)
-          ∙ any_more (is_literal_unheard g tables node time s) cube i (record { variable = 0; low = 0; high = 0 }) within;
+          ∙ sym (list_any_more (is_literal_unheard g tables node time s) cube i (record { variable = 0; low = 0; high = 0 }) within);
     }
