@@ -1,4 +1,6 @@
 //! What a dispatcher does.
+ghost use Rattle.std.specs.Prelude.{◌≡◌, ◌≤◌, ◌++◌, length};
+ghost use Rattle.std.specs.Vec.{vec_capacity};
 
 /// A start or a send.
 #[derive(Clone, Copy, Debug, PartialEq, Eq)]
@@ -9,4 +11,15 @@ pub struct Act {
     pub item: u32,
     /// The place in the item's row of the column by which it is.
     pub column: u32,
+}
+
+/// Adds acts to those so far.
+pub fn append_acts(acts: &mut Vec<Act>, more: &[Act])
+    requires { length (acts.old.items ++ more.now) ≤ vec_capacity acts.old }
+    ensures acts { acts.new.items ≡ acts.old.items ++ more.now }
+    ensures room { vec_capacity acts.new ≡ vec_capacity acts.old }
+{
+    for act in more {
+        acts.push_reserved(*act);
+    }
 }

@@ -78,7 +78,7 @@ pub fn plan_of(alloc: Global, table: &NodeTable) -> Result<Vec<Planned>, OutOfMe
 }
 
 /// Adds the times of a row.
-fn add_times(times: &mut Vec<u64>, columns: &[Entry]) -> Result<(), OutOfMemory>
+pub fn add_times(times: &mut Vec<u64>, columns: &[Entry]) -> Result<(), OutOfMemory>
     ensures { OnOk result (times.new.items ≡ times.old.items ++ map (λ c. c.time) columns.now) }
 {
     for entry in columns {

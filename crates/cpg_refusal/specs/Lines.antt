@@ -1,8 +1,9 @@
 -- The exit status of a run that stops without an output, and the line that it writes.
-use Rattle.std.specs.Prelude.{ℕ, ◌≡◌, ◌<◌, List, [], ◌++◌, Option, Some, None, length, get_or, codes, ⊤}
+use Rattle.std.specs.Prelude.{ℕ, ◌≡◌, ◌<◌, List, ◌++◌, Option, Some, None, length, codes, ⊤}
 use Rattle.std.specs.List.{flat_map}
 use Rattle.std.specs.Fmt.{decimal}
-use Rattle.cpg_base.specs.Graph.{Graph, condition_count, process_count, item_at, item_count, process_at}
+use Rattle.cpg_base.specs.Called.{name_of, node_name}
+use Rattle.cpg_base.specs.Graph.{Graph, condition_count, process_count, item_at, item_count}
 use Rattle.cpg_base.specs.Scenario.{Scenario}
 use Rattle.cpg_scenario.specs.Text.{scenario_text}
 use Rattle.cpg_reader.specs.declared.place.Table.{Table}
@@ -57,14 +58,6 @@ what_text Processes = codes "processes"
 what_text Edges = codes "edges"
 what_text (Number place) = place_text place
 what_text Conditions = codes "conditions"
-
--- what a process is called
-abbrev pub name_of : Graph → ℕ → List ℕ
-name_of g p = (process_at g p).name
-
--- what a node is called
-abbrev pub node_name : Graph → ℕ → List ℕ
-node_name g node = get_or g.nodes node []
 
 -- a process and a scenario
 abbrev pub case_text : Graph → ℕ → Scenario → List ℕ

@@ -1,25 +1,15 @@
 //! The line of a run that stops without an output.
 ghost use Rattle.std.specs.Prelude.{◌≡◌, ◌<◌, ◌++◌, OnOk, IfOk, codes, string_bytes};
 ghost use Rattle.cpg_base.specs.Graph.{item_count};
-ghost use Rattle.cpg_refusal.specs.Lines.{case_text, column_text, item_text, unsafe_text, late_text, line_of, name_of, reason_text, IsNamed, HasLengths};
+ghost use Rattle.cpg_refusal.specs.Lines.{case_text, column_text, item_text, unsafe_text, late_text, line_of, reason_text, IsNamed, HasLengths};
 
 use crate::halt::Halt;
 use crate::refusals::write_refused;
 use cpg_base::{OutOfMemory, Problem, Scenario};
-use cpg_label::write_item;
+use cpg_label::{name_of, write_item};
 use cpg_scenario::scenario_text;
 use cpg_table::Fault;
 use std::alloc::{AllocError, Global};
-
-/// The name of a process, or nothing where there is no such process.
-pub fn name_of(problem: &Problem, process: u32) -> &str
-    ensures { result.now ≡ name_of problem.now process }
-{
-    match problem.processes().get(process as usize) {
-        Some(process) => process.name.as_str(),
-        None => "",
-    }
-}
 
 /// A process and a scenario.
 pub fn write_case(

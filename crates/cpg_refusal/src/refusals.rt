@@ -1,11 +1,13 @@
 //! The texts of refusals.
 ghost use Rattle.std.specs.Prelude.{◌≡◌, ◌++◌, OnOk, codes, flat_map, string_bytes};
-ghost use Rattle.cpg_refusal.specs.Lines.{alternatives_text, cause_text, cycle_text, key_text, name_of, node_name, part_text, parts_text, place_text, refusal_text, refused_text, table_text, what_text, HasLengths, IsNamedRefusal};
+ghost use Rattle.cpg_base.specs.Called.{name_of, node_name};
+ghost use Rattle.cpg_refusal.specs.Lines.{alternatives_text, cause_text, cycle_text, key_text, part_text, parts_text, place_text, refusal_text, refused_text, table_text, what_text, HasLengths, IsNamedRefusal};
 
 use crate::halt::Refusal;
-use crate::lines::{name_of, write_case};
+use crate::lines::write_case;
 use cpg_base::{OutOfMemory, Problem, Scenario};
 use cpg_hyper::HyperFault;
+use cpg_label::{name_of, node_name};
 use cpg_reader::{Key, Place, Table, What};
 use cpg_scenario::Cause;
 use cpg_violation::HeadPart;
@@ -97,16 +99,6 @@ fn write_alternatives(
     out.push_str("7 alternatives ")?;
     write_case(out, problem, process, scenario)?;
     Ok(())
-}
-
-/// The name of a node, or nothing where there is no such node.
-fn node_name(problem: &Problem, node: u32) -> &str
-    ensures { result.now ≡ node_name problem.now node }
-{
-    match problem.nodes().get(node as usize) {
-        Some(name) => name.as_str(),
-        None => "",
-    }
 }
 
 fn write_slot(out: &mut String, problem: &Problem, node: u32) -> Result<(), AllocError>

@@ -1,5 +1,5 @@
 use Rattle.std.proofs.Common.{◌≡◌, ◌++◌, codes, drop, flat_map, string_bytes}
-use Rattle.cpg_refusal.specs.Lines.{name_of}
+use Rattle.cpg_base.specs.Called.{name_of}
 use Rattle.cpg_refusal.proofs.refusals.write_names.Given as goal
 
 abbrev pub invariant-loop-process : goal.invariant-loop-process
