@@ -22,10 +22,9 @@ use crate::frames::Rank;
 use crate::parts::add_row;
 use crate::tellers::Teller;
 use cpg_base::{OutOfMemory, Problem, Scenario};
-use cpg_cube::{Cube, Entry, Literal, covers};
+use cpg_cube::{Cube, Entry, Literal, covers, earlier};
 use cpg_rules::Admitted;
 use cpg_table::Tables;
-use cpg_violation::earlier;
 use std::alloc::Global;
 
 /// The rows of a graph's tables, ready to be asked what they tell.

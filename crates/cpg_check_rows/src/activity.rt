@@ -17,10 +17,10 @@ ghost use Rattle.cpg_violation.specs.Sure.{AreSure};
 ghost use Rattle.cpg_violation.specs.Violation.{Holds, IsFirstColumn, IsFirstViolation};
 
 use cpg_base::{Item, OutOfMemory, Problem, Scenario};
-use cpg_cube::{Cube, Entry, Literal};
+use cpg_cube::{Cube, Entry, Literal, earlier};
 use cpg_rules::Admitted;
 use cpg_table::{Fault, Rule, Tables};
-use cpg_violation::{earlier, is_marked, least_at, value_literal};
+use cpg_violation::{is_marked, least_at, value_literal};
 use std::alloc::Global;
 
 /// The least scenario that a cube matches and in which a process isn't active, if there is one.

@@ -18,11 +18,11 @@ ghost use Rattle.cpg_check_time.specs.Ready.{IsReady};
 use crate::delays::{Delay, least_delay};
 use crate::judge::Judge;
 use cpg_base::{OutOfMemory, Scenario};
-use cpg_cube::{Cube, Entry};
+use cpg_cube::{Cube, Entry, earlier};
 use cpg_order::Links;
 use cpg_rules::Admitted;
 use cpg_table::Tables;
-use cpg_violation::{Line, earlier, edge_cube};
+use cpg_violation::{Line, edge_cube};
 use std::alloc::Global;
 
 /// The scenarios that two cubes match; `None` exactly where there are none.

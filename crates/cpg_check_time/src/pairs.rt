@@ -12,10 +12,9 @@ ghost use Rattle.cpg_table.specs.Table.{NodeTable};
 ghost use Rattle.cpg_check_time.specs.Columns.{IsColumn};
 
 use cpg_base::{OutOfMemory, Scenario};
-use cpg_cube::Entry;
+use cpg_cube::{Entry, earlier};
 use cpg_rules::Admitted;
 use cpg_table::Tables;
-use cpg_violation::earlier;
 use std::alloc::Global;
 
 /// A rule on pairs of items of a node, with what its questions need to know of the tables.

@@ -12,9 +12,9 @@ ghost use Rattle.cpg_check_time.specs.Columns.{IsColumn};
 
 use crate::lines::meeting;
 use cpg_base::{Order, OutOfMemory, Problem, Scenario};
-use cpg_cube::{Cube, Entry};
+use cpg_cube::{Cube, Entry, earlier};
 use cpg_rules::Admitted;
-use cpg_violation::{Line, earlier};
+use cpg_violation::Line;
 use std::alloc::Global;
 
 /// What is asked of a column in a scenario.

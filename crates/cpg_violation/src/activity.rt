@@ -9,9 +9,8 @@ ghost use Rattle.cpg_cube.specs.Cover.{is_left};
 ghost use Rattle.cpg_cube.specs.Fit.{IsKnown};
 ghost use Rattle.cpg_violation.specs.Activity.{comes_to, value_literal};
 
-use crate::earliest::earlier;
 use cpg_base::{FIRST_VALUE, OutOfMemory, Scenario};
-use cpg_cube::{Cube, Literal, uncovered};
+use cpg_cube::{Cube, Literal, earlier, uncovered};
 use cpg_rules::{Admitted, GuardTop, GuardTree};
 use std::alloc::Global;
 

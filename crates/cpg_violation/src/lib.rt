@@ -3,7 +3,6 @@
 
 mod activity;
 mod apart;
-mod earliest;
 mod edges;
 mod heads;
 mod lines;
@@ -13,7 +12,6 @@ mod sieve;
 mod trees;
 
 pub use activity::{least_at, value_literal};
-pub use earliest::earlier;
 pub use edges::{cubes_of, edge_cube};
 pub use heads::{HeadPart, first_difference};
 pub use lines::{Line, first_time, last_time, lines_of};
