@@ -120,7 +120,6 @@ fn put_low(left: u16, low: u16, key: &mut SmallVec<u16, SHORT>) -> Result<(), Ou
 }
 
 /// Puts a literal's low, if its variable has a place.
-#[inline(never)]
 fn put_asked(
     places: &[u16; VARIABLES],
     literal: Literal,
@@ -136,7 +135,6 @@ fn put_asked(
 }
 
 /// The same, if the low isn't 0.
-#[inline(always)]
 fn put_low_of(
     places: &[u16; VARIABLES],
     literal: Literal,

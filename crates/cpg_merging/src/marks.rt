@@ -4,7 +4,7 @@ ghost use Rattle.cpg_cube.specs.declared.literal.Literal.{Literal};
 ghost use Rattle.cpg_merging.specs.Totals.{AreMarked, AreMarkedBy, AreSums, HasNoPartner, IsMarked, total_of};
 ghost use Rattle.cpg_merging.specs.Merging.{IsShorn};
 
-use crate::totals::{BLOCK, Sums, has_partner, sieve_of, totals};
+use crate::totals::{BLOCK, Sums, begin_at_zero, has_partner, sieve_of, totals};
 use cpg_base::{OutOfMemory, Problem};
 use cpg_cube::{Entry, Literal};
 use std::alloc::Global;
@@ -13,30 +13,20 @@ use std::alloc::Global;
 const VARIABLES: usize = 256;
 
 /// Marks the variable of a literal if a column with this sum may follow another at it.
-#[inline(never)]
-fn mark_asked(sums: Sums<'_>, total: u64, literal: Literal, marks: &mut [bool; VARIABLES])
-    requires { AreSums sums.sorted.now sums.sieve.now }
-    ensures kept { (v : ℕ) → IsMarked marks.old v → IsMarked marks.new v }
-    ensures marked { ¬ IsMarked marks.new literal.variable → HasNoPartner sums.entry.asked sums.entry.sorted.now total literal }
-{
-    let place = literal.variable as usize;
-    if marks[place] {
-        return;
-    }
-    marks[place] = has_partner(sums, total, literal);
-}
-
-/// The same, at once where the literal begins at 0, which nothing comes before, as most do.
-#[inline(always)]
 fn mark_at(sums: Sums<'_>, total: u64, literal: Literal, marks: &mut [bool; VARIABLES])
     requires { AreSums sums.sorted.now sums.sieve.now }
     ensures kept { (v : ℕ) → IsMarked marks.old v → IsMarked marks.new v }
     ensures marked { ¬ IsMarked marks.new literal.variable → HasNoPartner sums.entry.asked sums.entry.sorted.now total literal }
 {
+    // as most literals begin at 0, which nothing comes before
     if literal.low == 0 {
         return;
     }
-    mark_asked(sums, total, literal, marks);
+    let place = literal.variable as usize;
+    if marks[place] {
+        return;
+    }
+    marks[place] = has_partner(sums, total, literal);
 }
 
 /// Marks the variables of literals at which a column with this sum may follow another.
@@ -50,7 +40,7 @@ fn mark_each(sums: Sums<'_>, total: u64, literals: &[Literal], marks: &mut [bool
     }
 }
 
-/// The same of so many, without a loop.
+/// The same, at once where all begin at 0.
 fn mark_block(
     sums: Sums<'_>,
     total: u64,
@@ -61,15 +51,10 @@ fn mark_block(
     ensures kept { (v : ℕ) → IsMarked marks.old v → IsMarked marks.new v }
     ensures marked { (l : Literal) → Contains literals.now l → ¬ IsMarked marks.new l.variable → HasNoPartner sums.entry.asked sums.entry.sorted.now total l }
 {
-    let [a, b, c, d, e, f, g, h] = *literals;
-    mark_at(sums, total, a, marks);
-    mark_at(sums, total, b, marks);
-    mark_at(sums, total, c, marks);
-    mark_at(sums, total, d, marks);
-    mark_at(sums, total, e, marks);
-    mark_at(sums, total, f, marks);
-    mark_at(sums, total, g, marks);
-    mark_at(sums, total, h, marks);
+    if begin_at_zero(literals) {
+        return;
+    }
+    mark_each(sums, total, literals, marks);
 }
 
 /// The same, of any number of literals.

@@ -1,5 +1,6 @@
 //! Sums over literals by which it is found whether any two columns touch.
-ghost use Rattle.std.specs.Prelude.{◌≡◌, ◌+◌, ◌%◌, ◌^◌, ◌<◌, Contains, IfOk, length, map, sum_by};
+ghost use Rattle.std.specs.Prelude.{◌≡◌, ◌+◌, ◌%◌, ◌^◌, ◌<◌, ◌==◌, Contains, IfOk, length, map, sum_by};
+ghost use Rattle.std.specs.List.{list_all};
 ghost use Rattle.std.specs.Bool.{OnFalse};
 ghost use Rattle.cpg_merging.specs.Totals.{AreSums, HasNoPartner, IsSieve, hash_of, mixed, number_of, place_in, total_of};
 
@@ -48,17 +49,11 @@ fn hash_of(asked: bool, literal: Literal) -> u64
 /// How many literals are looked at together.
 pub(crate) const BLOCK: usize = 8;
 
-/// A sum with that of a literal.
-#[inline(always)]
-fn sum_on(asked: bool, first: u64, literal: Literal) -> u64
-    ensures { result ≡ (first + hash_of asked literal) % 2 ^ 64 }
+/// Whether all literals begin at 0, as most do.
+pub(crate) fn begin_at_zero(literals: &[Literal; BLOCK]) -> bool
+    ensures { result ≡ list_all (λ l. l.low == 0) literals.now }
 {
-    if asked {
-        if literal.low == 0 {
-            return first;
-        }
-    }
-    first.wrapping_add(hash_of(asked, literal))
+    literals.iter().all(|literal| literal.low == 0)
 }
 
 /// A sum with those of literals.
@@ -67,24 +62,21 @@ fn sum_with(asked: bool, first: u64, literals: &[Literal]) -> u64
 {
     let mut total = first;
     for literal in literals {
-        total = sum_on(asked, total, *literal);
+        total = total.wrapping_add(hash_of(asked, *literal));
     }
     total
 }
 
-/// The same of so many, without a loop.
+/// The same, at once where nothing counts.
 fn sum_with_block(asked: bool, first: u64, literals: &[Literal; BLOCK]) -> u64
     ensures { result ≡ (first + sum_by (hash_of asked) literals.now) % 2 ^ 64 }
 {
-    let [a, b, c, d, e, f, g, h] = *literals;
-    let total = sum_on(asked, first, a);
-    let total = sum_on(asked, total, b);
-    let total = sum_on(asked, total, c);
-    let total = sum_on(asked, total, d);
-    let total = sum_on(asked, total, e);
-    let total = sum_on(asked, total, f);
-    let total = sum_on(asked, total, g);
-    sum_on(asked, total, h)
+    if asked {
+        if begin_at_zero(literals) {
+            return first;
+        }
+    }
+    sum_with(asked, first, literals)
 }
 
 /// The sum of a column.

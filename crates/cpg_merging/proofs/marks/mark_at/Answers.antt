@@ -1,6 +1,6 @@
 use Rattle.std.proofs.Common.{rules}
 use Rattle.cpg_merging.proofs.MergingTotals.{mark_kept, mark_off, from_off}
-use Rattle.cpg_merging.proofs.marks.mark_asked.Goals as goal
+use Rattle.cpg_merging.proofs.marks.mark_at.Goals as goal
 
 pub returns-clause-kept : goal.returns-clause-kept
 returns-clause-kept c = mark_kept c.args.marks.now c.args.literal.variable c.has_partner.result c.if-marks-place.false
