@@ -95,10 +95,6 @@ abbrev pub with_lows_of : List ℕ → List Literal → List ℕ → List ℕ
 with_lows_of places [] key = key
 with_lows_of places (l ∷ ls) key = with_lows_of places ls (with_low_of places l key)
 
--- no column has a key before that of an earlier one
-abbrev pub AreByKeys : {T : Type 0} → (T → List Literal) → List ℕ → List T → Type 0
-AreByKeys {T} cube variables columns = AllPairs (λ (c d : T). is_below (key_by variables (cube d)) (key_by variables (cube c)) ≡ false) columns
-
 -- none of the first n columns has a key before that of the column at a place
 pub record IsFirstByKeys {T : Type 0} (cube : T → List Literal) (variables : List ℕ) (n : ℕ) (columns : List T) (at : ℕ) : Type 0 where
   pub there : at < n

@@ -1,9 +1,8 @@
 //! Columns by the least scenario that they match.
-ghost use Rattle.std.specs.Prelude.{◌≡◌, ◌≢◌, ◌++◌, ◌<◌, ◌≤◌, ℕ, [], All, AllPairs, IfNone, IfOk, IfSome, IsPermutation, List, OnOk, get_or, if◌then◌else◌, length, map};
-ghost use Rattle.std.specs.Bool.{OnTrue};
+ghost use Rattle.std.specs.Prelude.{◌≡◌, ◌≢◌, ◌++◌, ◌<◌, ◌≤◌, ℕ, [], All, AllPairs, IfNone, IfOk, IfSome, IsPermutation, List, OnOk, if◌then◌else◌, length, map};
 ghost use Rattle.cpg_base.specs.Graph.{condition_count, process_count};
 ghost use Rattle.cpg_base.specs.Numbers.{is_below, numbers_below};
-ghost use Rattle.cpg_cube.specs.Keys.{AreByKeys, AreByLows, ArePlaces, IsFirstByKeys, IsFirstByLows, key_by, place_in, variables_along, variables_of, with_any_asked, with_asked, with_low_of, with_lows_of};
+ghost use Rattle.cpg_cube.specs.Keys.{AreByLows, ArePlaces, IsFirstByKeys, IsFirstByLows, key_by, place_in, variables_along, variables_of, with_asked, with_low_of};
 
 use crate::bounds::VARIABLES;
 use crate::{Cube, Literal};
@@ -13,9 +12,6 @@ use std::alloc::Global;
 
 /// How many numbers of a key need no memory of their own: two for each of eight faults.
 const SHORT: usize = 16;
-
-/// How many literals are looked at together.
-const BLOCK: usize = 8;
 
 /// More than there may be processes and conditions.
 const PLACES: u16 = 256;
@@ -119,22 +115,7 @@ fn put_low(left: u16, low: u16, key: &mut SmallVec<u16, SHORT>) -> Result<(), Ou
     Ok(())
 }
 
-/// Puts a literal's low, if its variable has a place.
-fn put_asked(
-    places: &[u16; VARIABLES],
-    literal: Literal,
-    key: &mut SmallVec<u16, SHORT>,
-) -> Result<(), OutOfMemory>
-    ensures { OnOk result (key.new.items ≡ with_any_asked (get_or places.now literal.variable 0) literal.low key.old.items) }
-{
-    let left = places[literal.variable as usize];
-    if left == 0 {
-        return Ok(());
-    }
-    put_low(left, u16::from(literal.low), key)
-}
-
-/// The same, if the low isn't 0.
+/// Puts a literal's low, if it isn't 0 and its variable has a place.
 fn put_low_of(
     places: &[u16; VARIABLES],
     literal: Literal,
@@ -145,41 +126,11 @@ fn put_low_of(
     if literal.low == 0 {
         return Ok(());
     }
-    put_asked(places, literal, key)
-}
-
-/// Puts the lows of literals, one after another.
-fn put_lows(
-    places: &[u16; VARIABLES],
-    literals: &[Literal],
-    key: &mut SmallVec<u16, SHORT>,
-) -> Result<(), OutOfMemory>
-    ensures { OnOk result (key.new.items ≡ with_lows_of places.now literals.now key.old.items) }
-{
-    for literal in literals {
-        put_low_of(places, *literal, key)?;
+    let left = places[literal.variable as usize];
+    if left == 0 {
+        return Ok(());
     }
-    Ok(())
-}
-
-/// The same of so many, without a loop.
-fn put_lows_of_block(
-    places: &[u16; VARIABLES],
-    literals: &[Literal; BLOCK],
-    key: &mut SmallVec<u16, SHORT>,
-) -> Result<(), OutOfMemory>
-    ensures { OnOk result (key.new.items ≡ with_lows_of places.now literals.now key.old.items) }
-{
-    let [a, b, c, d, e, f, g, h] = *literals;
-    put_low_of(places, a, key)?;
-    put_low_of(places, b, key)?;
-    put_low_of(places, c, key)?;
-    put_low_of(places, d, key)?;
-    put_low_of(places, e, key)?;
-    put_low_of(places, f, key)?;
-    put_low_of(places, g, key)?;
-    put_low_of(places, h, key)?;
-    Ok(())
+    put_low(left, u16::from(literal.low), key)
 }
 
 /// What a cube stands by: the lows along some variables that aren't 0, each after how many places are left.
@@ -192,12 +143,9 @@ fn key_of(
 {
     let mut key = SmallVec::new(alloc);
     // few literals of a cube have a low above 0
-    let mut left = cube.literals();
-    while let Some((block, rest)) = left.split_first_chunk::<BLOCK>() {
-        put_lows_of_block(places, block, &mut key)?;
-        left = rest;
+    for literal in cube.literals() {
+        put_low_of(places, *literal, &mut key)?;
     }
-    put_lows(places, left, &mut key)?;
     Ok(key)
 }
 
@@ -237,38 +185,6 @@ fn without_keys<T: Drop>(alloc: Global, ranked: Vec<Ranked<T>>) -> Result<Vec<T>
     Ok(columns)
 }
 
-/// Whether a key comes before another.
-fn is_before(key: &[u16], other: &[u16]) -> bool
-    ensures { result ≡ is_below key.now other.now }
-{
-    key.cmp(&other).is_lt()
-}
-
-/// Whether no column's key is before that of an earlier one.
-fn are_by_keys<T: Cubed>(
-    alloc: Global,
-    variables: &[u8],
-    columns: &[T],
-) -> Result<bool, OutOfMemory>
-    requires few { length variables.now ≤ 256 }
-    requires apart { AllPairs (λ u v. u ≢ v) variables.now }
-    ensures { IfOk result (λ r. OnTrue r (AreByKeys T.cubed variables.now columns.now)) }
-{
-    if columns.is_empty() {
-        return Ok(true);
-    }
-    let places = places_of(variables);
-    let mut last = key_of(alloc, &places, columns[0].cube())?;
-    for place in 1..columns.len() {
-        let key = key_of(alloc, &places, columns[place].cube())?;
-        if is_before(key.as_slice(), last.as_slice()) {
-            return Ok(false);
-        }
-        last = key;
-    }
-    Ok(true)
-}
-
 /// The columns by the least scenario along the order that they match: none has the lows of its cube before those of an
 /// earlier one. The one error is want of memory.
 pub fn by_least_scenario<T: Cubed + Drop>(
@@ -284,11 +200,6 @@ pub fn by_least_scenario<T: Cubed + Drop>(
     // its clause tells that the graph is within its limits
     let _processes = problem.processes();
     let variables = variables_along(alloc, problem, order.processes())?;
-    // columns of a tree by this order stand so already
-    let up = are_by_keys(alloc, variables.as_slice(), columns.as_slice())?;
-    if up {
-        return Ok(columns);
-    }
     let mut ranked = with_keys(alloc, variables.as_slice(), columns)?;
     ranked.sort_unstable_by(|a, b| a.key.as_slice().cmp(&b.key.as_slice()));
     without_keys(alloc, ranked)

@@ -10,44 +10,22 @@ use Rattle.cpg_cube.specs.Cube.{low_in}
 use Rattle.cpg_cube.specs.Keys.{AreByLows, key_along, variables_along}
 use Rattle.cpg_cube.specs.declared.sorting.Ranked.{Ranked}
 use Rattle.cpg_cube.proofs.KeyOrder.{is_key_below, is_total, by_lows, few_variables, key_is, within_order}
-use Rattle.cpg_cube.proofs.KeyBlocks.{from_on, lows_from_up}
 use Rattle.cpg_cube.proofs.KeyPlaces.{variables_apart}
 use Rattle.cpg_cube.proofs.sorting.by_least_scenario.Goals as goal
 
 pub variables_along-requires : goal.variables_along-requires
 variables_along-requires g c = let n = process_count c.args.problem.now in record { order = subst (All (λ p. p < n)) (sym c.processes.ensures.processes) (within_order n c.args.order.now c.requires) }
 
-pub are_by_keys-requires : goal.are_by_keys-requires
-are_by_keys-requires g c =
-    let problem = c.args.problem.now in
-    let order = c.args.order.now in
-    let few : length order ≤ 128 = omega (arith, length_order (process_count problem) order c.requires, c.processes-processes.ensures.within.few_processes) in
-    let along : c.as_slice.result.now ≡ variables_along problem order = c.as_slice.ensures.value ∙ c.in_ok-variables.ensures ∙ ap (variables_along problem) c.processes.ensures.processes in
-    record {
-      few = subst (λ (vs : List ℕ). length vs ≤ 256) (sym along) (few_variables problem order few);
-      apart = subst (AllPairs (λ u v. u ≢ v)) (sym along) (variables_apart problem c.processes-processes.ensures.within.few_processes order c.requires);
-    }
-
 pub with_keys-requires : goal.with_keys-requires
 with_keys-requires g c =
     let problem = c.args.problem.now in
     let order = c.args.order.now in
     let few : length order ≤ 128 = omega (arith, length_order (process_count problem) order c.requires, c.processes-processes.ensures.within.few_processes) in
-    let along : c.as_slice-3.result.now ≡ variables_along problem order = c.as_slice-3.ensures.value ∙ c.in_ok-variables.ensures ∙ ap (variables_along problem) c.processes.ensures.processes in
+    let along : c.as_slice.result.now ≡ variables_along problem order = c.as_slice.ensures.value ∙ c.in_ok-variables.ensures ∙ ap (variables_along problem) c.processes.ensures.processes in
     record {
       few = subst (λ (vs : List ℕ). length vs ≤ 256) (sym along) (few_variables problem order few);
       apart = subst (AllPairs (λ u v. u ≢ v)) (sym along) (variables_apart problem c.processes-processes.ensures.within.few_processes order c.requires);
     }
-
-pub returns-then-up-clause-by_lows : goal.returns-then-up-clause-by_lows
-returns-then-up-clause-by_lows g c =
-    let problem = c.args.problem.now in
-    let order = c.args.order.now in
-    let columns = c.as_slice-2.result.now in
-    let few : length order ≤ 128 = omega (arith, length_order (process_count problem) order c.requires, c.processes-processes.ensures.within.few_processes) in
-    let along : c.as_slice.result.now ≡ variables_along problem order = c.as_slice.ensures.value ∙ c.in_ok-variables.ensures ∙ ap (variables_along problem) c.processes.ensures.processes in
-    subst (AreByLows g.T.Cubed.cubed problem order) c.as_slice-2.ensures.value
-    (lows_from_up g.T.Cubed.cubed columns problem order c.as_slice.result.now few along (from_on c.in_ok-up.up c.if-up.true c.in_ok-up.ensures))
 
 pub returns-clause-permutation : goal.returns-clause-permutation
 returns-clause-permutation g c =
@@ -67,9 +45,9 @@ returns-clause-by_lows g c =
     let problem = c.args.problem.now in
     let order = c.args.order.now in
     let few : length order ≤ 128 = omega (arith, length_order (process_count problem) order c.requires, c.processes-processes.ensures.within.few_processes) in
-    let along : c.as_slice-3.result.now ≡ variables_along problem order = c.as_slice-3.ensures.value ∙ c.in_ok-variables.ensures ∙ ap (variables_along problem) c.processes.ensures.processes in
+    let along : c.as_slice.result.now ≡ variables_along problem order = c.as_slice.ensures.value ∙ c.in_ok-variables.ensures ∙ ap (variables_along problem) c.processes.ensures.processes in
     let keys : All (λ (x : Ranked g.row.T.Denot). x.key.items ≡ key_along problem order (low_in (g.T.Cubed.cubed x.column))) before = λ k d l.
-    c.in_ok-ranked.ensures.keys k d l ∙ key_is problem order c.as_slice-3.result.now along (g.T.Cubed.cubed (get_or before k d).column) in
+    c.in_ok-ranked.ensures.keys k d l ∙ key_is problem order c.as_slice.result.now along (g.T.Cubed.cubed (get_or before k d).column) in
     let up : IsSortedBy is_key_below after = c.sort_unstable_by.ensures.sorted is_key_below is_total (always_returns_same _ _ _ (λ a r f k. search rules)) in
     IfOk-weaker _ (λ r. r.items ≡ map column after) (λ r. AreByLows g.T.Cubed.cubed problem order r.items)
     (λ r e. subst (AreByLows g.T.Cubed.cubed problem order) (sym e) (by_lows g.T.Cubed.cubed problem order few before after
