@@ -77,6 +77,7 @@ fn compiled_of(alloc: Global, admitted: &Admitted) -> Result<Compiled, OutOfMemo
     requires { IsGenerated admitted.now.graph }
     ensures { IfOk result (IsCompilation admitted.now.graph admitted.now.order) }
 {
+    // its clause tells that the graph is admitted
     let _graph = admitted.problem();
     match compile(alloc, admitted) {
         Ok(compiled) => Ok(compiled),
@@ -88,6 +89,7 @@ fn compiled_of(alloc: Global, admitted: &Admitted) -> Result<Compiled, OutOfMemo
 fn are_valid(alloc: Global, admitted: &Admitted, tables: &Tables) -> Result<bool, OutOfMemory>
     ensures { IfOk result (λ found. IsTrue found ↔ (IsHeadFor admitted.now.graph tables.now.head × IsValid admitted.now.graph tables.now.nodes)) }
 {
+    // its clause tells that the tables are lawful under their head
     let _head = tables.head();
     match check(alloc, admitted, tables)? {
         Verdict::Yes => Ok(true),

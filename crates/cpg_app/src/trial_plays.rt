@@ -48,6 +48,7 @@ fn ending_of(
     requires scenario { IsScenario admitted.now.graph scenario.now }
     ensures { IfOk result (IsEnding admitted.now.graph tables.now.nodes scenario.now number) }
 {
+    // its clause tells that the tables are lawful under their head
     let _head = tables.head();
     let mut cluster = Cluster::new(alloc, admitted, tables.copy()?, scenario)?;
     let waits = cluster.drive(number);

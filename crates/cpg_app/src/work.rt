@@ -41,6 +41,7 @@ fn compile_graph(alloc: Global, admitted: Admitted) -> Result<Made, Halt>
     ensures safe { IfOk result (λ made. AreSafe admitted.graph made.compiled.built.tables.nodes) }
     ensures halt { IfErr result (IsUncompiled admitted) }
 {
+    // its clause tells that the graph is admitted
     let _graph = admitted.problem();
     match compile(alloc, &admitted) {
         Ok(compiled) => {
@@ -78,6 +79,7 @@ fn judged(alloc: Global, admitted: Admitted, tables: &Tables) -> Result<Admitted
     ensures safe { IfOk result (λ _. AreJudgedSafe admitted tables.now) }
     ensures halt { IfErr result (OrMemory (StopsVerdict admitted tables.now)) }
 {
+    // its clause tells that the graph is admitted
     let _graph = admitted.problem();
     let _head = tables.head();
     match check(alloc, &admitted, tables) {
@@ -115,6 +117,7 @@ fn play(
     ensures text { IfOk result (λ o. Puts o (IsPlayedText admitted tables played.now turns)) }
     ensures halt { IfErr result (OrMemory (StopsVerdict admitted tables)) }
 {
+    // its clause tells that the tables are lawful under their head
     let _head = tables.head();
     let admitted = judged(alloc, admitted, &tables)?;
     match play_text(alloc, &admitted, tables, played, turns) {

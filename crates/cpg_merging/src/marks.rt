@@ -114,6 +114,7 @@ fn marks_of(
     requires { IsShorn problem.now columns.now }
     ensures { IfOk result (λ marks. AreMarked problem.now marks columns.now) }
 {
+    // its clause tells that the graph is within its limits
     let _processes = problem.processes();
     // few literals ask for more than 0, and mostly these tell already that no two columns touch
     let marks = marks_over(alloc, true, columns)?;

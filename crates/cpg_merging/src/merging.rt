@@ -43,6 +43,7 @@ fn joined_at(
     ensures passed { IfOk result (λ r. IsPassed problem.now (λ v. v ≡ variable) marked.columns.items r.columns.items) }
     ensures marked { IfOk result (λ r. AreMarked problem.now r.marks r.columns.items) }
 {
+    // its clause tells that the graph is within its limits
     let _processes = problem.processes();
     if !marked.marks[variable as usize] {
         return Ok(marked);
@@ -139,6 +140,7 @@ pub fn merged_tidy(
     requires tidy { HaveNoWhole problem.now.faults entries.items }
     ensures { IfOk result (λ r. IsMergeOf problem.now order.now entries.items r.items) }
 {
+    // its clause tells that the graph is within its limits
     let _processes = problem.processes();
     let columns = settled(alloc, problem, entries)?;
     by_least_scenario(alloc, problem, order, columns)

@@ -107,6 +107,7 @@ fn is_sure(admitted: &Admitted, tables: &Tables, always: &[bool], all: bool, ite
     requires all { OnTrue all (AllAlways admitted.now.graph) }
     ensures { OnTrue result (IsSure admitted.now.graph tables.now.nodes Rule.Activity item) }
 {
+    // its clause tells that the graph is admitted
     let _problem = admitted.problem();
     let columns = tables.columns_of(item);
     if is_plain(admitted, all, item) {

@@ -67,6 +67,7 @@ impl Tree<Option<u64>> {
         ensures tidy { IfOk result (λ r. All (IsTidyColumn problem.now) r.items) }
         ensures all { IfOk result (λ r. IsPermutation (columns_of_paths self.now.paths) r.items) }
     {
+        // its clause tells that the graph is within its limits
         let _processes = problem.processes();
         let whole = Cube::whole(self.alloc);
         let mut columns = Vec::new(self.alloc);

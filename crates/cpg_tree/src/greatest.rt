@@ -70,6 +70,7 @@ impl Tree<Option<u64>> {
         ensures none { IfOk result (λ r. IfNone r (All (λ p. p.1 ≡ None) self.now.paths)) }
         ensures some { IfOk result (λ r. IfSome r (IsLeast problem.now order.now (HasNumber self.now.paths))) }
     {
+        // its clause tells that the graph is within its limits
         let _processes = problem.processes();
         let columns = self.listed(problem)?;
         let columns = columns.as_slice();
@@ -102,6 +103,7 @@ impl Tree<Option<u64>> {
         ensures none { IfOk result (λ r. IfNone r (All (λ p. p.1 ≡ None) self.now.paths)) }
         ensures some { IfOk result (λ r. IfSome r (λ x. IsGreatestOf problem.now order.now self.now.paths x.0 x.1)) }
     {
+        // its clause tells that the graph is within its limits
         let _processes = problem.processes();
         let Some(most) = self.root.most() else {
             return Ok(None);
