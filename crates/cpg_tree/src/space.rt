@@ -118,7 +118,7 @@ impl Space {
         ensures is { result ≡ above_cut self.now variable cut }
         ensures lies { (s : Scenario) → Lies self.now s → cut < number_of s variable → Lies result s }
     {
-        // so that the invariant is seen, which says that no low is above its high
+        // that the high fits its type tells that `cut + 1` does
         let _high = self.high[variable as usize];
         let low = cut + 1;
         let mut space = *self;
@@ -221,7 +221,7 @@ impl Space {
         ensures is { self.new ≡ above_cut self.old variable cut }
         ensures lies { (s : Scenario) → Lies self.old s → cut < number_of s variable → Lies self.new s }
     {
-        // so that the invariant is seen, which says that no low is above its high
+        // that the high fits its type tells that `cut + 1` does
         let _high = self.high[variable as usize];
         let low = cut + 1;
         self.left -= faults_of(variable, low - self.low[variable as usize]);
