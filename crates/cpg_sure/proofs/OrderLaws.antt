@@ -119,6 +119,27 @@ module _ {g : Graph} {tables : List NodeTable} {lasts : Scenario → ℕ} {x : �
           | inr p ↦ inr (past_over by law time d.time p)
         ]
 
+-- what is over by the time of the column at each place of an item's tree is over before the item
+module _ {g : Graph} {tables : List NodeTable} {last : Scenario → ℕ} {x : ℕ} {course : Course} (is : IsCourse g tables last x course) (tree : Places) (there : course.tree.now ≡ Some tree) where
+  its_tree : IsRowTree g (columns_of tables x) tree
+  its_tree = subst (λ (o : Option Places). IfSome o (λ (t : Places). IsRowTree g (columns_of tables x) t)) there is.tree
+
+  pub told_before : (lasts : ℕ → Scenario → ℕ) (items : List ℕ)
+      → ((s : Scenario) → IsScenario g s → IfSome (place_at tree s) (λ i. All (λ y. IsOverBy tables (lasts y s) y (column_at course.columns.now i).time s) items))
+      → All (λ y. IsOver lasts g tables y x) items
+  told_before lasts items all k d l s c law here m =
+      each_told its_tree s law (λ (c : Column). All (λ y. IsOverBy tables (lasts y s) y c.time s) items)
+      (subst (λ (columns : List Column). IfSome (place_at tree s) (λ i. All (λ y. IsOverBy tables (lasts y s) y (column_at columns i).time s) items)) is.columns (all s law)) c here m k d l
+
+-- what is told of the column that a look-up finds
+pub told_at : (fact : Column → Type 0) (columns : List Column) (i : ℕ) (c : Column) → i < length columns → c ≡ get_or columns i c → fact c → fact (column_at columns i)
+told_at fact columns i c l is h = subst fact (is ∙ sym (get_or_default columns i (record { time = 0; cube = [] }) c l)) h
+
+-- what is told in some place, of what is told there
+pub told_so : {P Q : ℕ → Type 0} (o : Option ℕ) → IfSome o P → ((i : ℕ) → P i → Q i) → IfSome o Q
+told_so None h f = tt
+told_so (Some i) h f = f i h
+
 -- ---- columns one after another
 
 module _ (lasts : ℕ → Scenario → ℕ) (g : Graph) (tables : List NodeTable) where

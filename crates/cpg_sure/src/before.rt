@@ -37,6 +37,30 @@ impl<'a> Test for Ends<'a> {
     }
 }
 
+/// That items are over by the time of another's column, from the column at each place of the other.
+#[derive(Drop)]
+struct Before<'a> {
+    courses: &'a Courses<'a>,
+    items: &'a [u32],
+    columns: &'a [Entry],
+}
+
+impl<'a> Test for Before<'a> {
+    ghost tells = { λ test place s. IfSome place (λ i. (g : Graph) (tables : List NodeTable) (lasts : ℕ → Scenario → ℕ) →
+        AreCourses lasts g tables test.courses.now → IsScenario g s →
+        All (λ y. IsOverBy tables (lasts y s) y (column_at test.columns.now i).time s) test.items.now) };
+
+    fn passes(&self, place: Option<u32>, space: &Space) -> bool {
+        let Some(place) = place else {
+            return true;
+        };
+        let Some(column) = self.columns.get(place as usize) else {
+            return false;
+        };
+        self.courses.are_over(self.items, space, column.time)
+    }
+}
+
 impl<'a> Course<'a> {
     /// Whether the item is over by a time in every scenario, by its last column.
     pub(crate) fn is_early(&self, time: u64) -> bool
@@ -128,5 +152,21 @@ impl<'a> Courses<'a> {
             }
         }
         true
+    }
+    /// The same by the other's tree, if it has one: a walk down it has the scenarios of each column.
+    pub(crate) fn precede(&self, items: &[u32], course: &Course<'_>) -> bool
+        ensures { OnTrue result ((g : Graph) (tables : List NodeTable) (lasts : ℕ → Scenario → ℕ) (x : ℕ) →
+            AreCourses lasts g tables self.now → IsCourse g tables (lasts x) x course.now → All (λ y. IsOver lasts g tables y x) items.now) }
+    {
+        let Some(tree) = course.tree else {
+            return self.come_before(items, course.columns);
+        };
+        let test = Before {
+            courses: self,
+            items,
+            columns: course.columns,
+        };
+        let everywhere = Space::whole(self.faults);
+        tree.do_pass(&everywhere, &test)
     }
 }

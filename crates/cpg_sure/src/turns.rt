@@ -44,7 +44,7 @@ impl<'a> Courses<'a> {
             let Some(course) = self.list.get(*item as usize) else {
                 return false;
             };
-            if !self.come_before(&items[start..place], course.columns) {
+            if !self.precede(&items[start..place], course) {
                 return false;
             }
             start = next_start(course.is_always, place, start);
