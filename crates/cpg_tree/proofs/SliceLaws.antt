@@ -1,10 +1,12 @@
 -- A tree over slices leads each scenario to the cube that it matches.
-use Rattle.std.proofs.Common.{arith, cond, ℕ, ◌+◌, ◌<◌, ◌≤◌, ◌≡◌, ◌==◌, Bool, true, false, ◌&&◌, ◌||◌, nat_lt, List, get_or, length, take, Contains, sum_by, Option, None, Some, refl, sym, ap, ◌∙◌, subst, ⊎_elim, inl, inr, lt-ltb, le-ltb, eq-eqb}
-use Rattle.std.specs.Prelude.{nat_le}
+use Rattle.std.proofs.Common.{arith, cond, zero, suc, [], ◌∷◌, ◌++◌, max, min, ℕ, ◌+◌, ◌-◌, ◌<◌, ◌≤◌, ◌≡◌, ◌==◌, Bool, true, false, ◌&&◌, ◌||◌, nat_lt, List, get_or, length, take, Contains, sum_by, Option, None, Some, refl, sym, ap, ◌∙◌, subst, ⊎_elim, inl, inr, lt-ltb, le-ltb, eq-eqb}
+use Rattle.std.specs.Prelude.{nat_le, slice_set}
 use Rattle.std.specs.List.{list_any}
 use Rattle.std.proofs.lemmas.Bool.{cases_lt, cases_eq, and_parts, and_from, or_parts, ltb-true, leb-true, cond-true, cond-false, both_ways, eqb-true}
 use Rattle.std.proofs.Math.Bool.{and-false}
-use Rattle.std.proofs.lemmas.List.{take_more}
+use Rattle.std.proofs.lemmas.Bool.Decides.{nat_tests}
+use Rattle.std.proofs.lemmas.List.Folds.{list_all-append}
+use Rattle.std.proofs.lemmas.List.{length-append, take_more}
 use Rattle.std.proofs.lemmas.List.Elements.{Contains-push_cases}
 use Rattle.std.proofs.lemmas.List.Sums.{sum_by_more}
 use Rattle.cpg_base.specs.Numbers.{numbers_below}
@@ -14,7 +16,7 @@ use Rattle.cpg_base.proofs.Sums.{sum_changed, sum_by_zeros}
 use Rattle.cpg_base.specs.Scenario.{Scenario, number_of}
 use Rattle.cpg_cube.specs.declared.literal.Literal.{Literal}
 use Rattle.cpg_cube.specs.Cube.{IsRising, holds, matches}
-use Rattle.cpg_cube.proofs.CubeLows.{holds-low, holds-high}
+use Rattle.cpg_cube.proofs.CubeLows.{holds-low, holds-high, holds-from}
 use Rattle.cpg_tree.specs.declared.node.Node.{Node}
 use Rattle.cpg_tree.specs.declared.places.Sorted.{Sorted}
 use Rattle.cpg_tree.specs.declared.space.Lifted.{Lifted}
@@ -23,7 +25,7 @@ use Rattle.cpg_tree.specs.Decision.{value_at}
 use Rattle.cpg_tree.specs.Results.{IsForkOf}
 use Rattle.cpg_tree.specs.Places.{IsMatched, cube_at, tells_cube}
 use Rattle.cpg_tree.specs.Spots.{AreOpen}
-use Rattle.cpg_tree.specs.Slices.{IsInRange, IsReached, IsInside, AreBounds, IsOwn, Leads, IsLed, is_narrow, narrowed}
+use Rattle.cpg_tree.specs.Slices.{IsInRange, IsReached, IsInside, AreBounds, IsOwn, IsLastOn, IsEntered, Leads, IsLed, is_narrow, met_by, narrowed}
 use Rattle.cpg_tree.proofs.Spaces.{not_less, set_other, set_same, number_le_top}
 use Rattle.cpg_tree.proofs.Holding.{matches_more}
 use Rattle.cpg_tree.proofs.Demands.{weights_le, without, without_here, without_other}
@@ -166,7 +168,7 @@ module _ (k : ℕ) (room : Space) (ls : List Literal) (narrow found : ℕ) (risi
     comes_here = reached.by_ranges s few (record { low = λ v l. (at_each v l (is_narrow k room v) refl).0; high = λ v l. (at_each v l (is_narrow k room v) refl).1 })
 
   pub own : IsOwn k room ls
-  own = record { hold = bounds.hold; come = comes_here }
+  own = record { hold = λ s few lies. bounds.hold s lies; come = comes_here }
 
 module _ (k : ℕ) (room : Space) (ls : List Literal) (i found : ℕ) (d : Literal) (there : i < length ls) (before : AreBounds k room (take i ls) found) where
   pub bounds_more : ((s : Scenario) → Lies room s → holds s (get_or ls i d) ≡ true) → IsInside room (get_or ls i d) → (n : ℕ) → n ≤ found + narrowed k room (get_or ls i d).variable → AreBounds k room (take (i + 1) ls) n
@@ -181,7 +183,7 @@ module _ (k : ℕ) (room : Space) (ls : List Literal) (i found : ℕ) (d : Liter
 
 pub leads_nowhere : (cubes : List (List Literal)) (k : ℕ) (room : Space) (from to : ℕ) → to ≤ from → Leads cubes k room from to (λ s. None)
 leads_nowhere cubes k room from to none = record {
-  is = λ s i lies e. cc;
+  is = λ s i few lies e. cc;
   lies = λ s j few after before m. absurd (omega (arith, none, after, before));
   comes = λ s j few after before m. absurd (omega (arith, none, after, before));
 }
@@ -195,7 +197,7 @@ module _ (cubes : List (List Literal)) (k : ℕ) (room : Space) (from to : ℕ) 
 
   pub leads_here : Leads cubes k room from to (λ s. Some from)
   leads_here = record {
-    is = λ s i lies e. subst (λ (j : ℕ). IsMatched cubes s j) (some_is from i e) (record { there = there; matched = is_own.hold s lies });
+    is = λ s i few lies e. subst (λ (j : ℕ). IsMatched cubes s j) (some_is from i e) (record { there = there; matched = is_own.hold s few lies });
     lies = λ s j few after before m. is_own.come s few (subst (λ (i : ℕ). matches (cube_at cubes i) s ≡ true) (only_place j after before) m.matched);
     comes = λ s j few after before m. ap Some (sym (only_place j after before));
   }
@@ -209,9 +211,9 @@ module _ (cubes : List (List Literal)) (k : ℕ) (room one two : Space) (from bo
     (at_most : (s : Scenario) → Lies one s → number_of s v ≤ cut) (at_least : (s : Scenario) → Lies two s → cut < number_of s v) where
   pub leads_apart : Leads cubes k room from to (value_at r)
   leads_apart = record {
-    is = λ s i lies e. elim (cases_lt cut (number_of s v)) [
-      | inl h ↦ high.is s i (goes_two s lies h) (sym (fork.value_above s h) ∙ e)
-      | inr h ↦ low.is s i (goes_one s lies h) (sym (fork.value_below s h) ∙ e)
+    is = λ s i few lies e. elim (cases_lt cut (number_of s v)) [
+      | inl h ↦ high.is s i few (goes_two s lies h) (sym (fork.value_above s h) ∙ e)
+      | inr h ↦ low.is s i few (goes_one s lies h) (sym (fork.value_below s h) ∙ e)
     ];
     lies = λ s j few after before m. elim (cases_lt j border) [
       | inl h ↦ back_one s few (low.lies s j few after h m)
@@ -262,6 +264,97 @@ module _ (cubes : List (List Literal)) (k : ℕ) (room under over : Space) (from
     fewer = omega (arith, low.fewer, high.fewer);
   }
 
+-- ---- what the literals of a path say
+
+with_true : (b : Bool) → (b && true) ≡ b
+with_true true = refl
+with_true false = refl
+
+together : (a b c : Bool) → (a && (b && c)) ≡ ((a && b) && c)
+together true b c = refl
+together false b c = refl
+
+swapped : (a b c : Bool) → ((a && b) && c) ≡ ((a && c) && b)
+swapped true true c = sym (with_true c)
+swapped true false c = sym (and-false c)
+swapped false b c = refl
+
+met_parts : (n a b c d : ℕ) → (nat_le (max a c) n && nat_le n (min b d)) ≡ ((nat_le a n && nat_le n b) && (nat_le c n && nat_le n d))
+met_parts n a b c d = grind (arith, nat_tests)
+
+module _ (s : Scenario) (l : Literal) where
+  -- one more
+  matches_push : (ls : List Literal) → matches (ls ++ l ∷ []) s ≡ (matches ls s && holds s l)
+  matches_push ls = list_all-append (holds s) ls (l ∷ []) ∙ ap (λ b. matches ls s && b) (with_true (holds s l))
+
+  -- one met with it
+  met_holds : (m : Literal) → m.variable ≡ l.variable → holds s (met_by m l) ≡ (holds s m && holds s l)
+  met_holds m same = met_parts (number_of s m.variable) m.low m.high l.low l.high
+      ∙ ap (λ v. (nat_le m.low (number_of s m.variable) && nat_le (number_of s m.variable) m.high) && (nat_le l.low (number_of s v) && nat_le (number_of s v) l.high)) same
+
+  matches_met : (ls : List Literal) (i : ℕ) (m : Literal) → i < length ls → get_or ls i m ≡ m → m.variable ≡ l.variable → matches (slice_set ls i (met_by m l)) s ≡ (matches ls s && holds s l)
+  matches_met [] i m there is same = absurd (omega (arith, there))
+  matches_met (x ∷ xs) zero m there is same = ap (λ b. b && matches xs s) (met_holds m same) ∙ swapped (holds s m) (holds s l) (matches xs s) ∙ ap (λ (y : Literal). (holds s y && matches xs s) && holds s l) (sym is)
+  matches_met (x ∷ xs) (suc i) m there is same = ap (λ b. holds s x && b) (matches_met xs i m (omega (arith, there)) is same) ∙ together (holds s x) (matches xs s) (holds s l)
+
+last_back : (ls : List Literal) (i : ℕ) (m l : Literal) → get_or ls i m ≡ m → slice_set (slice_set ls i l) i m ≡ ls
+last_back [] i m l is = refl
+last_back (x ∷ xs) zero m l is = ap (λ (y : Literal). y ∷ xs) (sym is)
+last_back (x ∷ xs) (suc i) m l is = ap (λ (ys : List Literal). x ∷ ys) (last_back xs i m l is)
+
+as_long : (ls : List Literal) (i : ℕ) (l : Literal) → length (slice_set ls i l) ≡ length ls
+as_long [] i l = refl
+as_long (x ∷ xs) zero l = refl
+as_long (x ∷ xs) (suc i) l = ap suc (as_long xs i l)
+
+before_last : (ls : List Literal) (l : Literal) → take (length (ls ++ l ∷ []) - 1) (ls ++ l ∷ []) ≡ ls
+before_last ls l = ap (λ n. take n (ls ++ l ∷ [])) (omega (arith, length-append ls (l ∷ []))) ∙ front ls
+  where
+    front : (xs : List Literal) → take (length xs) (xs ++ l ∷ []) ≡ xs
+    front [] = refl
+    front (x ∷ xs) = ap (λ (ys : List Literal). x ∷ ys) (front xs)
+
+pub entered_more : (ls : List Literal) (l : Literal) → IsEntered ls l (ls ++ l ∷ []) None
+entered_more ls l = record {
+  both = λ s. matches_push s l ls;
+  back = before_last ls l;
+  some = omega (arith, length-append ls (l ∷ []));
+}
+
+pub entered_last : (ls new : List Literal) (l m : Literal) → IsLastOn ls l.variable m → new ≡ slice_set ls (length ls - 1) (met_by m l) → IsEntered ls l new (Some m)
+entered_last ls new l m last is = subst (λ (xs : List Literal). IsEntered ls l xs (Some m)) (sym is) (record {
+  both = λ s. matches_met s l ls (length ls - 1) m (omega (arith, last.some)) last.last last.on;
+  back = ap (λ n. slice_set (slice_set ls (length ls - 1) (met_by m l)) (n - 1) m) (as_long ls (length ls - 1) (met_by m l)) ∙ last_back ls (length ls - 1) m (met_by m l) last.last;
+  some = omega (arith, as_long ls (length ls - 1) (met_by m l), last.some);
+})
+
+-- a side of a fork
+module _ (k : ℕ) (room side : Space) (v cut narrow n : ℕ) (there : v < 256) (reached : IsReached k room narrow) (open_ : AreOpen room v cut) (more : narrow + 1 ≤ n + narrowed k room v) (old new : List Literal) (is_own : IsOwn k room old) where
+  pub own_under : length room.high ≡ 256 → side ≡ below_cut room v cut → ((s : Scenario) → Lies room s → number_of s v ≤ cut → Lies side s)
+      → (l : Literal) → l ≡ record { variable = v; low = 0; high = cut } → ((s : Scenario) → matches new s ≡ (matches old s && holds s l)) → IsOwn k side new
+  own_under long is goes l says both = record {
+    hold = λ s few lies. both s ∙ and_from (matches old s) (holds s l) (is_own.hold s few (back_from_under k room side v cut narrow n there long reached open_ more is goes s few lies))
+        (ap (holds s) says ∙ holds-from s (record { variable = v; low = 0; high = cut }) (omega arith) (under_cut k room side v cut narrow n there long reached open_ more is goes s lies));
+    come = λ s few all.
+        let parts = and_parts (matches old s) (holds s l) (sym (both s) ∙ all) in
+        goes s (is_own.come s few parts.0) (holds-high s (record { variable = v; low = 0; high = cut }) (ap (holds s) (sym says) ∙ parts.1));
+  }
+
+  pub own_over : length room.low ≡ 256 → side ≡ above_cut room v cut → ((s : Scenario) → Lies room s → cut < number_of s v → Lies side s)
+      → (l : Literal) → l ≡ record { variable = v; low = cut + 1; high = top k v } → ((s : Scenario) → matches new s ≡ (matches old s && holds s l)) → IsOwn k side new
+  own_over long is goes l says both = record {
+    hold = λ s few lies. both s ∙ and_from (matches old s) (holds s l) (is_own.hold s few (back_from_over k room side v cut narrow n there long reached open_ more is goes s few lies))
+        (ap (holds s) says ∙ holds-from s (record { variable = v; low = cut + 1; high = top k v }) (omega (arith, over_cut k room side v cut narrow n there long reached open_ more is goes s lies)) (number_le_top k s few v));
+    come = λ s few all.
+        let parts = and_parts (matches old s) (holds s l) (sym (both s) ∙ all) in
+        let low : cut + 1 ≤ number_of s v = holds-low s (record { variable = v; low = cut + 1; high = top k v }) (ap (holds s) (sym says) ∙ parts.1) in
+        goes s (is_own.come s few parts.0) (omega (arith, low));
+  }
+
+-- a space of all scenarios, and no literal
+pub whole_own : (k : ℕ) (room : Space) → ((s : Scenario) → HasFew k s → Lies room s) → IsOwn k room []
+whole_own k room lies = record { hold = λ s few in_room. refl; come = λ s few all. lies s few }
+
 -- ---- a side that was closed and is put back
 
 module _ (room closed after now : Space) (v : ℕ) (same : after ≡ closed) where
@@ -289,7 +382,7 @@ module _ (cubes : List (List Literal)) (k : ℕ) (room : Space) (s : Scenario) (
 
   tells_led : (place : Scenario → Option ℕ) → Leads cubes k room 0 to place → (x : Option ℕ) → place s ≡ x → tells_cube cubes x s
   tells_led place leads None e = λ j m. none_some j (place s) e (comes_to place leads j m)
-  tells_led place leads (Some i) e = (leads.is s i lies e, λ j m. sym (some_is i j (sym e ∙ comes_to place leads j m)))
+  tells_led place leads (Some i) e = (leads.is s i few lies e, λ j m. sym (some_is i j (sym e ∙ comes_to place leads j m)))
 
   pub tells_of_leads : (n : Node (Option ℕ)) → Leads cubes k room 0 to (value_at n) → tells_cube cubes (value_at n s) s
   tells_of_leads n leads = tells_led (value_at n) leads (value_at n s) refl

@@ -1,14 +1,14 @@
 //! The tree of the places of cubes that stand as a tree lists them: each fork parts the cubes in two slices, so that no cube
 //! is visited but at its own leaf, and where a border is looked for.
-ghost use Rattle.std.specs.Prelude.{◌+◌, ◌≡◌, ◌≤◌, IfOk, IfSome, length, map, true};
+ghost use Rattle.std.specs.Prelude.{◌+◌, ◌≡◌, ◌≤◌, ◌<◌, IfOk, IfSome, Some, length, map, true};
 ghost use Rattle.std.specs.Bool.{OnTrue};
 ghost use Rattle.cpg_base.specs.Scenario.{Scenario};
 ghost use Rattle.cpg_cube.specs.Cube.{IsRising, holds};
-ghost use Rattle.cpg_tree.specs.Space.{Lies, HasFew};
+ghost use Rattle.cpg_tree.specs.Space.{Lies, HasFew, is_open_above};
 ghost use Rattle.cpg_tree.specs.Decision.{value_at};
 ghost use Rattle.cpg_tree.specs.Places.{tells_cube};
 ghost use Rattle.cpg_tree.specs.Spots.{AreOpen};
-ghost use Rattle.cpg_tree.specs.Slices.{IsReached, IsLead, IsLed, IsInside, IsOwn, AreBounds, is_narrow, narrowed};
+ghost use Rattle.cpg_tree.specs.Slices.{IsReached, IsLead, IsLed, IsInside, IsLastOn, IsEntered, IsOwn, AreBounds, AreSides, is_narrow, left_by, met_by, narrowed};
 
 use crate::node::Node;
 use crate::places::{Cut, Sorted, cut_of, literal_from, literal_up_to, open_value};
@@ -42,6 +42,13 @@ struct Slice {
 struct Part {
     cut: Cut,
     held: usize,
+}
+
+/// What a fork says of its sides.
+#[derive(Clone, Copy)]
+struct Sides {
+    below: Literal,
+    above: Literal,
 }
 
 /// What stands at the top of the tree of a slice.
@@ -138,6 +145,133 @@ fn is_their_own(k: u8, space: &Space, narrow: u32, literals: &[Literal]) -> bool
     }
 }
 
+/// What a fork says of its sides.
+fn sides_of(k: u8, space: &Space, cut: Cut) -> Sides
+    requires { is_open_above space.now cut.variable cut.most ≡ true }
+    ensures { AreSides k cut.variable cut.most result }
+{
+    let _high = space.high[cut.variable as usize];
+    Sides {
+        below: Literal {
+            variable: cut.variable,
+            low: 0,
+            high: cut.most,
+        },
+        above: Literal {
+            variable: cut.variable,
+            low: cut.most + 1,
+            high: top(k, cut.variable),
+        },
+    }
+}
+
+/// What two ranges of a variable have in common.
+fn met_by(last: Literal, literal: Literal) -> Literal
+    ensures { result ≡ met_by last literal }
+{
+    Literal {
+        variable: last.variable,
+        low: last.low.max(literal.low),
+        high: last.high.min(literal.high),
+    }
+}
+
+/// The last of some literals, if it is on this variable.
+fn last_on(literals: &[Literal], variable: u8) -> Option<Literal>
+    ensures { IfSome result (IsLastOn literals.now variable) }
+{
+    let last = *literals.last()?;
+    if last.variable != variable {
+        return None;
+    }
+    Some(last)
+}
+
+/// Puts a literal in place of the last.
+fn put_last(path: &mut Vec<Literal>, literal: Literal)
+    requires { 0 < length path.old.items }
+    ensures { path.new.items ≡ left_by (Some literal) path.old.items }
+{
+    let last = path.len() - 1;
+    path[last] = literal;
+}
+
+/// Adds to the literals of a path what a fork says of a side: to the last one, if that is on its variable. What that was is
+/// for `leave`.
+fn enter(path: &mut Vec<Literal>, literal: Literal) -> Result<Option<Literal>, OutOfMemory>
+    ensures { IfOk result (IsEntered path.old.items literal path.new.items) }
+{
+    match last_on(path.as_slice(), literal.variable) {
+        Some(last) => {
+            put_last(path, met_by(last, literal));
+            Ok(Some(last))
+        }
+        None => {
+            path.push(literal)?;
+            Ok(None)
+        }
+    }
+}
+
+/// Takes back what `enter` added.
+fn leave(path: &mut Vec<Literal>, was: Option<Literal>)
+    requires { 0 < length path.old.items }
+    ensures { path.new.items ≡ left_by was path.old.items }
+{
+    match was {
+        Some(literal) => put_last(path, literal),
+        None => path.truncate(path.len() - 1),
+    }
+}
+
+fn is_same(literal: Literal, other: Literal) -> bool
+    ensures { OnTrue result (literal ≡ other) }
+{
+    (literal.variable == other.variable) & (literal.low == other.low) & (literal.high == other.high)
+}
+
+/// Whether eight literals are the same: without a way out before the last, so that the compiler compares them at once.
+fn are_eight_same(literals: &[Literal; 8], others: &[Literal; 8]) -> bool
+    ensures { OnTrue result (literals.now ≡ others.now) }
+{
+    let mut are = true;
+    for at in 0..8 {
+        are &= is_same(literals[at], others[at]);
+    }
+    are
+}
+
+/// Whether literals are the same, one after another.
+fn are_each_same(literals: &[Literal], others: &[Literal]) -> bool
+    ensures { OnTrue result (literals.now ≡ others.now) }
+{
+    if literals.len() != others.len() {
+        return false;
+    }
+    for at in 0..literals.len() {
+        if !is_same(literals[at], others[at]) {
+            return false;
+        }
+    }
+    true
+}
+
+/// Whether literals are the same.
+fn are_same(literals: &[Literal], others: &[Literal]) -> bool
+    ensures { OnTrue result (literals.now ≡ others.now) }
+{
+    let Some((block, rest)) = literals.split_first_chunk::<8>() else {
+        return are_each_same(literals, others);
+    };
+    let Some((other, behind)) = others.split_first_chunk::<8>() else {
+        return false;
+    };
+    if !are_eight_same(block, other) {
+        return false;
+    }
+    are_same(rest, behind)
+}
+
 /// The first literal from a place on that doesn't hold in the whole space, as a part of it.
 fn part_from(space: &Space, literals: &[Literal], from: usize) -> Option<Part>
     ensures { IfSome result (λ r. AreOpen space.now r.cut.variable r.cut.most) }
@@ -226,9 +360,10 @@ fn part_of(space: &Space, cubes: &[&Cube], literals: &[Literal], slice: Slice) -
     part_from(space, literals, 0)
 }
 
-/// The top of the tree of a slice for the scenarios of a space.
-fn lead_of(k: u8, space: &Space, cubes: &[&Cube], slice: Slice) -> Lead
-    requires { IsReached k space.now slice.narrow }
+/// The top of the tree of a slice for the scenarios of a space, which are those that the literals of a path match.
+fn lead_of(k: u8, space: &Space, path: &[Literal], cubes: &[&Cube], slice: Slice) -> Lead
+    requires reached { IsReached k space.now slice.narrow }
+    requires own { IsOwn k space.now path.now }
     ensures { IsLead (map (λ b. b.now) cubes.now) k space.now slice.from slice.to result }
 {
     if slice.to <= slice.from {
@@ -239,6 +374,10 @@ fn lead_of(k: u8, space: &Space, cubes: &[&Cube], slice: Slice) -> Lead
     };
     let literals = cube.literals();
     if slice.to - slice.from == 1 {
+        // mostly so where the cubes stand by the numbers of the variables
+        if are_same(path, literals) {
+            return Lead::Leaf(Some(slice.from));
+        }
         if is_their_own(k, space, slice.narrow, literals) {
             return Lead::Leaf(Some(slice.from));
         }
@@ -275,12 +414,12 @@ fn border_of(cubes: &[&Cube], slice: Slice, part: Part) -> u32 {
     first
 }
 
-/// The tree of a slice that a fork parts. The space is as before where there is a tree.
+/// The tree of a slice that a fork parts. The space and the path are as before where there is a tree.
 #[cycle(led)]
 fn led_apart(
-    alloc: Global,
     k: u8,
     space: &mut Space,
+    path: &mut Vec<Literal>,
     cubes: &[&Cube],
     slice: Slice,
     part: Part,
@@ -288,10 +427,13 @@ fn led_apart(
 ) -> Result<Option<Sorted>, OutOfMemory>
     requires open { AreOpen space.old part.cut.variable part.cut.most }
     requires reached { IsReached k space.old slice.narrow }
+    requires own { IsOwn k space.old path.old.items }
     ensures led { IfOk result (λ r. IfSome r (IsLed (map (λ b. b.now) cubes.now) k space.old slice.from slice.to left)) }
     ensures same { IfOk result (λ r. IfSome r (λ _. space.new ≡ space.old)) }
+    ensures path { IfOk result (λ r. IfSome r (λ _. path.new.items ≡ path.old.items)) }
 {
     let cut = part.cut;
+    let sides = sides_of(k, space, cut);
     let Some(narrow) = narrow_with(k, space, cut.variable, slice.narrow) else {
         return Ok(None);
     };
@@ -311,15 +453,20 @@ fn led_apart(
         way: slice.way,
     };
     let most = space.close_above(cut.variable, cut.most);
-    let Some(below) = led(alloc, k, space, cubes, low, left)? else {
+    let under = enter(path, sides.below)?;
+    let Some(below) = led(k, space, path, cubes, low, left)? else {
         return Ok(None);
     };
+    leave(path, under);
     space.reopen_above(cut.variable, most);
     let was = space.close_below(cut.variable, cut.most);
-    let Some(above) = led(alloc, k, space, cubes, high, below.left)? else {
+    let over = enter(path, sides.above)?;
+    let Some(above) = led(k, space, path, cubes, high, below.left)? else {
         return Ok(None);
     };
+    leave(path, over);
     space.reopen_below(cut.variable, was);
+    let alloc = *path.allocator();
     let node = Node::fork_of(alloc, cut.variable, cut.most, below.node, above.node)?;
     Ok(Some(Sorted {
         node,
@@ -327,31 +474,34 @@ fn led_apart(
     }))
 }
 
-/// The tree of a slice for the scenarios of a space, with at most so many nodes; `None` where the cubes don't stand as a
-/// tree lists them, or where there would be more nodes. The space is as before where there is a tree.
+/// The tree of a slice for the scenarios of a space, which are those that the literals of a path match, with at most so many
+/// nodes; `None` where the cubes don't stand as a tree lists them, or where there would be more nodes. The space and the path
+/// are as before where there is a tree.
 #[cycle(led)]
 fn led(
-    alloc: Global,
     k: u8,
     space: &mut Space,
+    path: &mut Vec<Literal>,
     cubes: &[&Cube],
     slice: Slice,
     left: u32,
 ) -> Result<Option<Sorted>, OutOfMemory>
-    requires { IsReached k space.old slice.narrow }
+    requires reached { IsReached k space.old slice.narrow }
+    requires own { IsOwn k space.old path.old.items }
     ensures led { IfOk result (λ r. IfSome r (IsLed (map (λ b. b.now) cubes.now) k space.old slice.from slice.to left)) }
     ensures same { IfOk result (λ r. IfSome r (λ _. space.new ≡ space.old)) }
+    ensures path { IfOk result (λ r. IfSome r (λ _. path.new.items ≡ path.old.items)) }
 {
     if left == 0 {
         return Ok(None);
     }
-    match lead_of(k, space, cubes, slice) {
+    match lead_of(k, space, path.as_slice(), cubes, slice) {
         Lead::Unknown => Ok(None),
         Lead::Leaf(place) => Ok(Some(Sorted {
             node: Node::Leaf(place),
             left: left - 1,
         })),
-        Lead::Fork(part) => led_apart(alloc, k, space, cubes, slice, part, left - 1),
+        Lead::Fork(part) => led_apart(k, space, path, cubes, slice, part, left - 1),
     }
 }
 
@@ -375,7 +525,8 @@ fn led_by(
         held: 0,
         way,
     };
-    match led(alloc, k, &mut space, cubes, slice, nodes)? {
+    let mut path = Vec::new(alloc);
+    match led(k, &mut space, &mut path, cubes, slice, nodes)? {
         Some(sorted) => Ok(Some(sorted.node)),
         None => Ok(None),
     }

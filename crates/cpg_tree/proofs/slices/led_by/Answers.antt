@@ -1,14 +1,17 @@
-use Rattle.std.proofs.Common.{arith, map, Bor, List, Option, subst, length}
+use Rattle.std.proofs.Common.{arith, map, Bor, List, Option, subst, sym, length}
 use Rattle.std.specs.Prelude.{IfSome}
 use Rattle.std.proofs.lemmas.List.{length-map}
 use Rattle.cpg_cube.specs.declared.literal.Literal.{Literal}
 use Rattle.cpg_tree.specs.declared.places.Sorted.{Sorted}
-use Rattle.cpg_tree.specs.Slices.{IsLed}
-use Rattle.cpg_tree.proofs.SliceLaws.{whole_reached, tells_of_leads}
+use Rattle.cpg_tree.specs.Slices.{IsLed, IsOwn}
+use Rattle.cpg_tree.proofs.SliceLaws.{whole_reached, whole_own, tells_of_leads}
 use Rattle.cpg_tree.proofs.slices.led_by.Goals as goal
 
 pub led-requires : goal.led-requires
-led-requires c = whole_reached c.args.k c.whole-space.result c.whole-space.ensures.is c.whole-space.ensures.lies
+led-requires c = record {
+  reached = whole_reached c.args.k c.whole-space.result c.whole-space.ensures.is c.whole-space.ensures.lies;
+  own = subst (λ (ls : List Literal). IsOwn c.args.k c.whole-space.result ls) (sym c.new-path.ensures.items) (whole_own c.args.k c.whole-space.result c.whole-space.ensures.lies);
+}
 
 pub returns-in-Some : goal.returns-in-Some
 returns-in-Some c s few =
