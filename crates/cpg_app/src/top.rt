@@ -44,8 +44,8 @@ fn finish<S: Shelf, O: Sink, E: Sink>(
         }) }
 {
     match work(alloc, inputs) {
-        Ok(Output::Lines(text)) => end(alloc, put(text.as_str(), out), err),
-        Ok(Output::Pack(tables)) => end(alloc, write_pack(alloc, &tables, out), err),
+        Ok(Output::Lines(text)) => end(put(text.as_str(), out), err),
+        Ok(Output::Pack(tables)) => end(write_pack(alloc, &tables, out), err),
         Ok(
             Output::Stream {
                 mut follower,
