@@ -56,7 +56,7 @@ module _ (r : Ran) where
   written_lawful text (Err WriteFault.Failed) prints out ended = lawful_with r text (record { prints = prints; ending = inr (record { status = ended.0; out = out; err = ended.1 }) })
   written_lawful text (Err WriteFault.OutOfMemory) prints out ended =
       let stops : Stops r Memory = inr (inr (record { command = prints.command; values = prints.values; has = prints.has; stops = inr refl })) in
-      elim ended [ inl sent ↦ by_memory stops out sent | inr sent ↦ by_memory stops out sent ]
+      by_memory stops out ended
 
   -- its words can't be had
   pub wordless_lawful : (fault : WordsFault) → (fault ≡ WordsFault.Bad → command_of r.words ≡ None) → r.shelf.new.history ≡ r.shelf.old.history → Untouched r.out →

@@ -2,7 +2,6 @@
 use Rattle.std.proofs.Common.{ℕ, ◌≡◌, ◌<◌, ◌≤◌, ◌∙◌, Bool, true, false, List, [], ◌∷◌, ◌++◌, Option, Some, None, append-nil, get_or, length, refl, sym, ap, subst, arith, inl, inr, lt-ltb, true≢false}
 use Rattle.std.specs.Prelude.{position}
 use Rattle.std.specs.List.{position_or_len}
-use Rattle.std.specs.Io.KnownBytes.{Appends}
 use Rattle.std.specs.Str.{bytes_eq}
 use Rattle.std.proofs.lemmas.Bool.{cases_lt, cond-true}
 use Rattle.std.proofs.lemmas.List.{append_cancel_left}
@@ -39,7 +38,8 @@ use Rattle.cpg_app.specs.Causes.{first_named}
 use Rattle.cpg_app.specs.Outputs.{ArePackOf, AreSafe, IsMadeOf, PutsOut, shown, packed as packed_of}
 use Rattle.cpg_app.specs.Endings.{Ran}
 use Rattle.cpg_app.specs.Lawful.{Asks, AsksVerdict, IsLawful}
-use Rattle.cpg_app.specs.Joined.{GaveAll, Wrote, HasMade, HasShown, HasPacked, EndsWell, PacksAreTaken, ShowAndCompileAgree}
+use Rattle.cpg_app.specs.Told.{Whole}
+use Rattle.cpg_app.specs.Joined.{GaveAll, HasMade, HasShown, HasPacked, EndsWell, PacksAreTaken, ShowAndCompileAgree}
 use Rattle.cpg_app.proofs.Asked.{on_graph, printed}
 use Rattle.cpg_app.proofs.Shown.{tables_lawful}
 use Rattle.cpg_app.proofs.Streamed.{is_live, other_words}
@@ -47,10 +47,8 @@ use Rattle.cpg_app.proofs.Streamed.{is_live, other_words}
 -- ---- what was written
 
 -- what a sink took is what was put out
-put_out : (r : Ran) (bytes text : Text) → Wrote r bytes → Appends r.out.old r.out.new text → bytes ≡ text
-put_out r bytes text w took =
-    let grown : w.before ++ bytes ≡ w.before ++ text = subst (λ new. Appends (Some w.before) new text) w.new (subst (λ old. Appends old r.out.new text) w.old took) in
-    append_cancel_left w.before bytes text grown
+put_out : (r : Ran) (bytes text : Text) → Whole r.out bytes → Whole r.out text → bytes ≡ text
+put_out r bytes text wrote took = append_cancel_left r.out.old bytes text (sym wrote ∙ took)
 
 -- what is made of a graph is made of it as it is admitted once more
 made_again : (a b : Admission) → AreAlike a b → (spell : Graph → Compiled → Text) (bytes : Text) → IsMadeOf b spell bytes → IsMadeOf a spell bytes

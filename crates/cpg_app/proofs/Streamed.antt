@@ -126,7 +126,7 @@ module _ (r : Ran) (ends : EndsAtClose r) where
     tuned = λ graph a asks. absurd (other_words r closed_stream (Some (Tune graph)) refl asks.has.words);
     unrolled = λ pairs parts g asks periods shows. absurd (other_words r closed_stream (Some (Hyper pairs)) refl asks.has.words);
     apart = λ pairs parts fault asks periods shows other. absurd (other_words r closed_stream (Some (Hyper pairs)) refl asks.has.words);
-    followed = λ g faultless sound. inl (closes g);
+    followed = λ g faultless sound. closes g;
     unfollowed = λ pack name stream t asks none. absurd (one_file r closed_stream (tables_value t ∷ []) asks.has);
   }
 
@@ -184,12 +184,12 @@ module _ (r : Ran) (ends : EndsInStream r) where
     | inr (inr four) ↦ inr (inr (four, refused_stream ends.broken ends.breaks ends.said four))
   ]
 
-  ended : (g : Follows r) → IsFaultless r → g.fetch.failed ≡ false → (broken : Broken) → Breaks head table (stream_of r stream) broken → IsSaid r.err r.status broken → (r.status ≡ status_of_end (stream_end (table_of g) g.fetch.given)) ⊎ (r.status ≡ 8)
+  ended : (g : Follows r) → IsFaultless r → g.fetch.failed ≡ false → (broken : Broken) → Breaks head table (stream_of r stream) broken → IsSaid r.err r.status broken → r.status ≡ status_of_end (stream_end (table_of g) g.fetch.given)
   ended g faultless sound Broken.Shelf breaks said = absurd (true≢false (sym breaks.1.failed ∙ (ap (λ (e : Fetch). e.failed) (same_fetch r stream g) ∙ sound)))
   ended g faultless sound Broken.Sink breaks said = absurd (faultless.out breaks.0)
   ended g faultless sound (Broken.Refused fault) breaks said = elim (cases_eq r.status 3) [
     | inl three ↦ absurd (faultless.err (said.part three).rose)
-    | inr other ↦ inl ((said.whole other).0 ∙ sym (ap status_of_end (same_end r stream g ∙ breaks.1.ends)))
+    | inr other ↦ (said.whole other).0 ∙ sym (ap status_of_end (same_end r stream g ∙ breaks.1.ends))
   ]
 
   pub lawful_stream : IsLawful r

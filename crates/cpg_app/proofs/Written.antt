@@ -1,11 +1,9 @@
 -- How a run ends, by what was written.
-use Rattle.std.proofs.Common.{ℕ, List, ◌≡◌, refl, subst, sym, inl, inr}
+use Rattle.std.proofs.Common.{ℕ, List, ◌≡◌, refl, ap, subst, inl, inr}
 use Rattle.std.specs.Prelude.{◌⊎◌, Result, Ok, Err, OnOk}
-use Rattle.std.specs.Io.KnownBytes.{Appends, Keeps}
-use Rattle.std.proofs.KnownBytes.{Keeps-refl}
 use Rattle.std.proofs.lemmas.Bool.{cases_eq}
 use Rattle.cpg_io.specs.Causes.{Rose}
-use Rattle.cpg_io.specs.Sink.{TookPrefix}
+use Rattle.cpg_io.specs.Sink.{Took, TookPrefix}
 use Rattle.cpg_io.specs.State.{SinkState}
 use Rattle.cpg_codec.specs.declared.fault.WriteFault.{WriteFault}
 use Rattle.cpg_refusal.specs.declared.halt.Halt.{Halt}
@@ -26,8 +24,8 @@ pub none_of : (sink : SinkSeen) (bytes : List ℕ) (fault : WriteFault) → faul
 none_of sink bytes fault is written = subst (λ f. IsWritten sink (Err f) bytes) is written
 
 -- a pack was written
-pub packed : (old new : SinkState) (bytes : List ℕ) (result : Result Unit WriteFault) → OnOk result (Appends old.taken new.taken bytes) → (result ≡ Err WriteFault.Failed → TookPrefix old.taken new.taken bytes) →
+pub packed : (old new : SinkState) (bytes : List ℕ) (result : Result Unit WriteFault) → OnOk result (Took old.taken new.taken bytes) → (result ≡ Err WriteFault.Failed → TookPrefix old.taken new.taken bytes) →
     (result ≡ Err WriteFault.Failed → Rose old.faults new.faults) → (result ≡ Err WriteFault.OutOfMemory → new ≡ old) → IsWritten (sent old new) result bytes
 packed old new bytes (Ok done) whole part cause same = whole
 packed old new bytes (Err WriteFault.Failed) whole part cause same = record { rose = cause refl; prefix = part refl }
-packed old new bytes (Err WriteFault.OutOfMemory) whole part cause same = subst (λ (s : SinkState). Keeps old.taken s.taken) (sym (same refl)) (Keeps-refl old.taken)
+packed old new bytes (Err WriteFault.OutOfMemory) whole part cause same = ap (λ (s : SinkState). s.taken) (same refl)

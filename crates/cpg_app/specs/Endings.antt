@@ -122,7 +122,7 @@ pub record IsMuted (r : Ran) (halt : Halt) : Type 0 where
 abbrev pub IsEnded : Result Unit WriteFault → SinkSeen → ℕ → Type 0
 IsEnded (Ok done) err status = (status ≡ 0) × Untouched err
 IsEnded (Err WriteFault.Failed) err status = (status ≡ 3) × (Whole err write_fault_line ⊎ Part err write_fault_line)
-IsEnded (Err WriteFault.OutOfMemory) err status = Sent err status (status_of Memory) (line_of Memory) ⊎ Sent err status (status_of Memory) (line_of Memory)
+IsEnded (Err WriteFault.OutOfMemory) err status = Sent err status (status_of Memory) (line_of Memory)
 
 -- a run with an output
 pub record EndsWith (r : Ran) (text : Text) : Type 0 where

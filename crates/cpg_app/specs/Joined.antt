@@ -1,5 +1,5 @@
 -- Runs one after another: what one wrote, the others read; and runs for one graph.
-use Rattle.std.specs.Prelude.{ℕ, ◌≡◌, ◌<◌, ◌⊎◌, true, false, [], ◌∷◌, ◌++◌, Option, Some, get_or, length}
+use Rattle.std.specs.Prelude.{ℕ, ◌≡◌, ◌<◌, ◌⊎◌, true, false, [], ◌∷◌, ◌++◌, Option, get_or, length}
 use Rattle.cpg_base.specs.Graph.{Graph}
 use Rattle.cpg_tale.specs.Fetch.{Fetch}
 use Rattle.cpg_words.specs.Parts.{Text}
@@ -18,14 +18,9 @@ use Rattle.cpg_inputs.specs.Reading.{IsRead, StopsAt}
 use Rattle.cpg_app.specs.Endings.{Has, Ran}
 use Rattle.cpg_app.specs.Lawful.{Asks, AsksVerdict, IsLawful}
 use Rattle.cpg_app.specs.Outputs.{IsMadeOf, shown, packed as packed_of}
+use Rattle.cpg_app.specs.Told.{Whole}
 
--- a run wrote these bytes, behind what its output had
-pub record Wrote (r : Ran) (bytes : Text) : Type 0 where
-  pub before : Text
-  pub old : r.out.old ≡ Some before
-  pub new : r.out.new ≡ Some (before ++ bytes)
-
--- it wrote them as a command asked of a graph file that says this graph
+-- a run wrote these bytes, whole, as a command asked of a graph file that says this graph
 pub record HasMade (asked : Text → Command) (r : Ran) (g : Graph) (made : Text) : Type 0 where
   pub lawful : IsLawful r
   pub graph : Text
@@ -33,7 +28,7 @@ pub record HasMade (asked : Text → Command) (r : Ran) (g : Graph) (made : Text
   pub of : admission.graph ≡ g
   pub has : Has r (asked graph) (graph_value admission ∷ [])
   pub done : r.status ≡ 0
-  pub wrote : Wrote r made
+  pub wrote : Whole r.out made
 
 -- the text of its tables
 abbrev pub HasShown : Ran → Graph → Text → Type 0

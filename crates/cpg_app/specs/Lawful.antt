@@ -150,7 +150,8 @@ pub record IsLawful (r : Ran) : Type 0 where
       ShowsUnrolled parts (Ok g) → (r.status ≡ 0) ⊎ (r.status ≡ 8)
   pub apart : (pairs : List Pair) (parts : List Part) (fault : HyperFault) → Asks r (Hyper pairs) (part_values parts) →
       HavePeriods pairs parts → ShowsUnrolled parts (Err fault) → fault ≢ OutOfMemory → (r.status ≡ 4) ⊎ (r.status ≡ 8)
-  -- such a node follows a stream to its close, and else the stream is refused, but for want of memory
-  pub followed : (f : Follows r) → IsFaultless r → f.fetch.failed ≡ false → (r.status ≡ status_of_end (stream_end (table_of f) f.fetch.given)) ⊎ (r.status ≡ 8)
+  -- a stream that a node follows, and of which nothing failed, it follows to its close, and else the stream is refused
+  pub followed : (f : Follows r) → IsFaultless r → f.fetch.failed ≡ false → r.status ≡ status_of_end (stream_end (table_of f) f.fetch.given)
+  -- a name that no node has is refused, but for want of memory
   pub unfollowed : (pack name stream : Text) (t : Tables) → Asks r (Live pack name stream) (tables_value t ∷ []) →
       first_named t.head name ≡ None → (r.status ≡ 4) ⊎ (r.status ≡ 8)

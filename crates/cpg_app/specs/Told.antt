@@ -1,8 +1,7 @@
 -- What was written to a sink.
-use Rattle.std.specs.Prelude.{ℕ, ◌≡◌, ◌≢◌, List, Option, Result, Ok, Err}
-use Rattle.std.specs.Io.KnownBytes.{Appends, Keeps}
+use Rattle.std.specs.Prelude.{ℕ, ◌≡◌, ◌≢◌, List, Result, Ok, Err}
 use Rattle.cpg_io.specs.Causes.{Rose}
-use Rattle.cpg_io.specs.Sink.{TookPrefix}
+use Rattle.cpg_io.specs.Sink.{Took, TookPrefix}
 use Rattle.cpg_io.specs.State.{SinkState}
 use Rattle.cpg_codec.specs.declared.fault.WriteFault.{WriteFault}
 
@@ -10,8 +9,8 @@ use Rattle.cpg_codec.specs.declared.fault.WriteFault.{WriteFault}
 pub record SinkSeen : Type 0 where
   pub before : ℕ
   pub now : ℕ
-  pub old : Option (List ℕ)
-  pub new : Option (List ℕ)
+  pub old : List ℕ
+  pub new : List ℕ
 
 -- by its states before and after
 abbrev pub sent : SinkState → SinkState → SinkSeen
@@ -19,11 +18,11 @@ sent old new = record { before = old.faults; now = new.faults; old = old.taken; 
 
 -- the bytes were taken whole
 abbrev pub Whole : SinkSeen → List ℕ → Type 0
-Whole sink bytes = Appends sink.old sink.new bytes
+Whole sink bytes = Took sink.old sink.new bytes
 
 -- nothing was taken
 abbrev pub Untouched : SinkSeen → Type 0
-Untouched sink = Keeps sink.old sink.new
+Untouched sink = sink.new ≡ sink.old
 
 -- the sink met a fault, and took a proper prefix of the bytes
 pub record Part (sink : SinkSeen) (bytes : List ℕ) : Type 0 where

@@ -13,7 +13,7 @@ use cpg_show::write_table;
 use std::alloc::Global;
 
 /// The status of a fault of a sink.
-const WRITE_FAULT: u8 = 3;
+pub const WRITE_FAULT: u8 = 3;
 
 /// Writes bytes, and answers the status, or that of a fault.
 pub fn send<O: Sink>(status: u8, bytes: &[u8], sink: &mut O) -> u8
@@ -60,6 +60,13 @@ pub fn cut<E: Sink>(err: &mut E) -> u8
     WRITE_FAULT
 }
 
+/// Writes the line of want of memory.
+fn want<E: Sink>(err: &mut E) -> u8
+    ensures { Sent (sent (E.state err.old) (E.state err.new)) result (status_of Halt.Memory) (line_of Halt.Memory) }
+{
+    send(Halt::Memory.status(), b"cpgc: memory\n", err)
+}
+
 /// Writes the line of a run that stops, or that of want of memory where there is none for the line.
 pub fn stop<E: Sink>(alloc: Global, halt: &Halt, err: &mut E) -> u8
     requires { IsNamed halt.now }
@@ -68,17 +75,17 @@ pub fn stop<E: Sink>(alloc: Global, halt: &Halt, err: &mut E) -> u8
 {
     match line(alloc, halt) {
         Ok(line) => send(halt.status(), line.as_bytes(), err),
-        Err(_) => send(Halt::Memory.status(), b"cpgc: memory\n", err),
+        Err(_) => want(err),
     }
 }
 
 /// Ends a run whose output was written, or wasn't.
-pub fn end<E: Sink>(alloc: Global, written: Result<(), WriteFault>, err: &mut E) -> u8
+pub fn end<E: Sink>(written: Result<(), WriteFault>, err: &mut E) -> u8
     ensures { IsEnded written (sent (E.state err.old) (E.state err.new)) result }
 {
     match written {
         Ok(()) => 0,
         Err(WriteFault::Failed) => cut(err),
-        Err(WriteFault::OutOfMemory) => stop(alloc, &Halt::Memory, err),
+        Err(WriteFault::OutOfMemory) => want(err),
     }
 }

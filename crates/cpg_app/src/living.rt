@@ -2,13 +2,24 @@
 ghost use Rattle.std.specs.Prelude.{◌≡◌};
 ghost use Rattle.cpg_io.specs.Shelf.{KeepsShelf, SameLeave};
 ghost use Rattle.cpg_live.specs.Follower.{open_follower};
+ghost use Rattle.cpg_live.specs.Streams.{fault_line};
 ghost use Rattle.cpg_app.specs.Endings.{IsFollowedAt, IsSaid};
-ghost use Rattle.cpg_app.specs.Told.{sent};
+ghost use Rattle.cpg_app.specs.Told.{Sent, sent};
 
-use crate::answer::{cut, send};
+use crate::answer::{WRITE_FAULT, cut, send};
 use crate::streaming;
-use cpg_io::{Shelf, Sink};
-use cpg_live::{Broken, Follower};
+use cpg_io::{Failed, Shelf, Sink};
+use cpg_live::{Broken, Follower, StreamFault};
+
+/// Says that a stream is refused.
+fn refuse<E: Sink>(follower: &mut Follower, fault: StreamFault, err: &mut E) -> u8
+    ensures { Sent (sent (E.state err.old) (E.state err.new)) result 4 (fault_line fault) }
+{
+    match follower.write_refused(fault, err) {
+        Ok(()) => 4,
+        Err(Failed) => WRITE_FAULT,
+    }
+}
 
 /// Says why a stream isn't followed to its close.
 fn say<E: Sink>(follower: &mut Follower, broken: Broken, err: &mut E) -> u8
@@ -17,7 +28,7 @@ fn say<E: Sink>(follower: &mut Follower, broken: Broken, err: &mut E) -> u8
     match broken {
         Broken::Shelf => send(2, b"cpgc: read fault\n", err),
         Broken::Sink => cut(err),
-        Broken::Refused(fault) => send(4, follower.refused_line(fault), err),
+        Broken::Refused(fault) => refuse(follower, fault, err),
     }
 }
 

@@ -1,11 +1,10 @@
 //! A stream that is followed, piece by piece.
-ghost use Rattle.std.specs.Prelude.{ℕ, List, Option, ◌≡◌, ◌≤◌, Err, IfErr, IfOk, MatchResult};
-ghost use Rattle.cpg_tale.specs.Fetch.{Fetch};
+ghost use Rattle.std.specs.Prelude.{◌≡◌, ◌≤◌, Err, IfErr, IfOk};
 ghost use Rattle.cpg_io.specs.Agreement.{AreFetched, LeavesRest};
 ghost use Rattle.cpg_io.specs.Causes.{Rose};
 ghost use Rattle.cpg_io.specs.Shelf.{SameLeave, SameNames};
 ghost use Rattle.cpg_live.specs.Follower.{open_follower};
-ghost use Rattle.cpg_live.specs.Following.{Breaks, Completes, IsAlong, IsAlongAt, IsOfSame, IsStreamed};
+ghost use Rattle.cpg_live.specs.Following.{Breaks, Completes, GoesOn, IsAlongAt, IsOfSame, IsStreamed};
 ghost use Rattle.cpg_live.specs.declared.following.TheConstants.{STREAM_LIMIT};
 ghost use Rattle.cpg_live.specs.declared.following.Broken.{Broken};
 
@@ -26,11 +25,8 @@ fn follow_pieces<S: Shelf, O: Sink>(
     ensures leave { SameLeave (S.may_fetch shelf.old) (S.may_fetch shelf.new) }
     ensures rest { LeavesRest (S.state shelf.old) → LeavesRest (S.state shelf.new) }
     ensures same { IsOfSame follower.old follower.new }
-    ensures along { (start : Option (List ℕ)) (name : List ℕ) (past : List Fetch) →
-        IsAlong name past (S.state shelf.old).history start (O.state out.old).taken follower.old →
-        MatchResult result (λ _. IsAlongAt 0 name past (S.state shelf.new).history start (O.state out.new).taken follower.new) (λ broken.
-        IsStreamed (λ s. Breaks follower.old.head follower.old.table s broken) name past (S.state shelf.new).history start (O.state out.old)
-        (O.state out.new)) }
+    ensures along { GoesOn follower.old (S.state shelf.old) (S.state shelf.new) (O.state out.old) (O.state out.new)
+        (λ _ start name past. IsAlongAt 0 name past (S.state shelf.new).history start (O.state out.new).taken follower.new) result }
     ensures rose { result ≡ Err Broken.Shelf → Rose (S.state shelf.old).faults (S.state shelf.new).faults }
     ensures later { (S.state shelf.old).faults ≤ (S.state shelf.new).faults }
     ensures out_later { (O.state out.old).faults ≤ (O.state out.new).faults }
@@ -57,12 +53,9 @@ fn follow_rest<S: Shelf, O: Sink>(
     ensures names { SameNames (S.state shelf.old) (S.state shelf.new) }
     ensures leave { SameLeave (S.may_fetch shelf.old) (S.may_fetch shelf.new) }
     ensures rest { LeavesRest (S.state shelf.old) → LeavesRest (S.state shelf.new) }
-    ensures along { (start : Option (List ℕ)) (name : List ℕ) (past : List Fetch) →
-        IsAlong name past (S.state shelf.old).history start (O.state out.old).taken follower.old →
-        MatchResult result (λ _.
-        IsStreamed (Completes follower.old.head follower.old.table) name past (S.state shelf.new).history start (O.state out.old) (O.state out.new)) (λ broken.
-        IsStreamed (λ s. Breaks follower.old.head follower.old.table s broken) name past (S.state shelf.new).history start (O.state out.old)
-        (O.state out.new)) }
+    ensures along { GoesOn follower.old (S.state shelf.old) (S.state shelf.new) (O.state out.old) (O.state out.new)
+        (λ _ start name past. IsStreamed (Completes follower.old.head follower.old.table) name past (S.state shelf.new).history start
+        (O.state out.old) (O.state out.new)) result }
     ensures rose { result ≡ Err Broken.Shelf → Rose (S.state shelf.old).faults (S.state shelf.new).faults }
     ensures later { (S.state shelf.old).faults ≤ (S.state shelf.new).faults }
 {

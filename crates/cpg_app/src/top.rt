@@ -45,10 +45,10 @@ fn finish<S: Shelf, O: Sink, E: Sink>(
         }) }
 {
     match work(alloc, inputs) {
-        Ok(Output::Lines(text)) => end(alloc, put(text.as_str(), out), err),
-        Ok(Output::Table(made)) => end(alloc, put_tables(alloc, &made, out), err),
-        Ok(Output::NodeTable { tables, node }) => end(alloc, write_node(alloc, &tables, node, out), err),
-        Ok(Output::Pack(tables)) => end(alloc, write_pack(alloc, &tables, out), err),
+        Ok(Output::Lines(text)) => end(put(text.as_str(), out), err),
+        Ok(Output::Table(made)) => end(put_tables(alloc, &made, out), err),
+        Ok(Output::NodeTable { tables, node }) => end(write_node(alloc, &tables, node, out), err),
+        Ok(Output::Pack(tables)) => end(write_pack(alloc, &tables, out), err),
         Ok(
             Output::Stream {
                 mut follower,

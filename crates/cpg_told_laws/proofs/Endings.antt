@@ -8,6 +8,7 @@ use Rattle.cpg_words.specs.Forms.{command_of}
 use Rattle.cpg_words.specs.declared.command.Command.{Command}
 use Rattle.cpg_refusal.specs.declared.halt.Halt.{Halt}
 use Rattle.cpg_refusal.specs.declared.halt.Halt.TheVariants.{Memory}
+use Rattle.cpg_refusal.specs.Lines.{line_of, write_fault_line}
 use Rattle.cpg_live.specs.declared.following.Broken.{Broken}
 use Rattle.cpg_live.specs.declared.following.Broken.TheVariants.{Shelf, Sink, Refused}
 use Rattle.cpg_live.specs.declared.following.StreamFault.{StreamFault}
@@ -25,6 +26,7 @@ use Rattle.cpg_told_laws.specs.Lawful.{IsRefusedStream, IsUnreadStream}
 use Rattle.cpg_told_laws.specs.Told.{told_of}
 use Rattle.cpg_told_laws.proofs.Commands.{memory_stops, prints, spelled_by, stops_files, stops_work}
 use Rattle.cpg_told_laws.proofs.Fetched.{IsLast, agreed, last}
+use Rattle.cpg_told_laws.proofs.Sinks.{either_told, part_told, said_told}
 use Rattle.cpg_told_laws.proofs.Streams.{closed_told, cut_told, lawful_told, refused_told}
 
 asked_memory : (r : Run) (c : Option Command) (halt : Halt) → halt ≡ Memory → StopsAsked (seen r.shelf.old r.shelf.new) c halt
@@ -53,13 +55,13 @@ module _ (r : Run) (k : KeepsShelf r.shelf.old r.shelf.new) where
   told halt t = record { status = t.status; out = t.out; err = t.err }
 
   muted : (halt : Halt) → IsMutedRun r halt → IsMuted (told_of r) halt
-  muted halt t = record { status = t.status; out = t.out; err = t.err }
+  muted halt t = record { status = t.status; out = t.out; err = part_told r.err (line_of halt) t.err }
 
   pub printed : (text : Text) → IsPrintedRun r text → IsPrinted (told_of r) text
   printed text t = record { status = t.status; out = t.out; err = t.err }
 
   cut : (text : Text) → IsCutRun r text → IsCut (told_of r) text
-  cut text t = record { status = t.status; out = t.out; err = t.err }
+  cut text t = record { status = t.status; out = part_told r.out text t.out; err = either_told r.err write_fault_line t.err }
 
   -- ---- a stream
 
@@ -119,4 +121,4 @@ module _ (r : Run) (k : KeepsShelf r.shelf.old r.shelf.new) where
   ends_told (inl (text, e)) = inl (text, record { prints = prints_told text e.prints; ending = elim e.ending [ inl p ↦ inl (printed text p) | inr c ↦ inr (cut text c) ] })
   ends_told (inr (inl (halt, e))) = inr (inl (halt, record { stops = stops_told halt e.stops; ending = elim e.ending [ inl t ↦ inl (told halt t) | inr m ↦ inr (muted halt m) ] }))
   ends_told (inr (inr (inl e))) = let c = e.completes in inl (c.0, record { prints = closed_prints e.follows c.0 c.1; ending = inl (record { status = e.status; out = c.2; err = e.err }) })
-  ends_told (inr (inr (inr e))) = inr (inr (record { follows = follows_told e.follows; broken = e.broken; breaks = breaks_told e.follows e.broken e.breaks; said = e.said }))
+  ends_told (inr (inr (inr e))) = inr (inr (record { follows = follows_told e.follows; broken = e.broken; breaks = breaks_told e.follows e.broken e.breaks; said = said_told r.err r.status e.broken e.said }))

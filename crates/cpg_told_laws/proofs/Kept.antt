@@ -10,11 +10,11 @@ use Rattle.cpg_refusal.specs.declared.halt.Refusal.{Refusal}
 use Rattle.cpg_refusal.specs.declared.halt.Halt.TheVariants.{Refused, Late, TooWide, Unsafe}
 use Rattle.cpg_app.specs.Endings.{Ran as Run}
 use Rattle.cpg_app.specs.Lawful.{IsLawful as IsLawfulRun}
-use Rattle.cpg_app.specs.Told.{Untouched}
 use Rattle.cpg_told_laws.specs.Causes.{Stops, seen}
 use Rattle.cpg_told_laws.specs.Endings.{IsPrinted, IsTold}
 use Rattle.cpg_told_laws.specs.Lawful.{IsLawful, IsRefusedStream, IsUnreadStream}
 use Rattle.cpg_told_laws.specs.Outputs.{Prints}
+use Rattle.cpg_told_laws.specs.Sinks.{Untouched, telling}
 use Rattle.cpg_told_laws.specs.Told.{told_of}
 use Rattle.cpg_told_laws.proofs.Complete.{apart, broken, late, made, named, nameless, other, safe, tuned, unrolled, wide}
 use Rattle.cpg_told_laws.proofs.Endings.{closed_prints, ends_told, printed, prints_told, refused_stream_told, stops_told, told, unread_told}
@@ -45,7 +45,7 @@ module _ (r : Run) (w : IsLawfulRun r) (k : KeepsShelf r.shelf.old r.shelf.new) 
   is_unsafe : r.status ≡ 7 → (a : Admission) × (fault : Fault) × Stops (seen r.shelf.old r.shelf.new) r.words (Unsafe a fault) × IsTold (told_of r) (Unsafe a fault)
   is_unsafe e = let p = w.is_unsafe e in (p.0, p.1, stops_told r k (Unsafe p.0 p.1) p.2, told r k (Unsafe p.0 p.1) p.3)
 
-  silent : r.status ≢ 0 → r.status ≢ 3 → Untouched r.out ⊎ (((r.status ≡ 2) × IsUnreadStream (told_of r)) ⊎ ((r.status ≡ 4) × IsRefusedStream (told_of r)))
+  silent : r.status ≢ 0 → r.status ≢ 3 → Untouched (telling r.out) ⊎ (((r.status ≡ 2) × IsUnreadStream (told_of r)) ⊎ ((r.status ≡ 4) × IsRefusedStream (told_of r)))
   silent n m = elim (w.silent n m) [
     | inl untouched ↦ inl untouched
     | inr rest ↦ elim rest [

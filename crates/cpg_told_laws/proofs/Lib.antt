@@ -1,5 +1,6 @@
 pub mod Fetched
 pub mod Values
+pub mod Sinks
 pub mod Stops
 pub mod Parts
 pub mod Commands

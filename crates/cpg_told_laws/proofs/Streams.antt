@@ -89,7 +89,7 @@ module _ (h : Head) (table : NodeTable) (f : Fetch) (whole : List ℕ) (w : IsFr
   by_bad fault lines c (Some bad) e = refused_bad fault lines bad c e
 
   -- a front of the lines so far is one of all lines
-  cut_lines : (a b : Option (List ℕ)) → TookPrefix a b (act_lines h (after table f.given).progress.acts) → TookPrefix a b (stream_lines h table whole)
+  cut_lines : (a b : List ℕ) → TookPrefix a b (act_lines h (after table f.given).progress.acts) → TookPrefix a b (stream_lines h table whole)
   cut_lines a b took =
       let acts : List Act = (after table f.given).progress.acts in
       let g = acts_more table f.given (take (STREAM_LIMIT + 1 - length f.given) w.rest) in
@@ -132,7 +132,7 @@ module _ (h : Head) (table : NodeTable) (f : Fetch) where
   pub lawful_told : (told : Option (List ℕ)) (count : ℕ) (lines : List ℕ) → count ≡ length f.given → IfSome told (λ whole. IsFrontOf whole f) → IsLawfulFetch h table f lines → IsLawfulSoFar h table told count lines
   lawful_told told count lines e w c = record { bytes = f.given; count = e; first = given_first told count e w; lawful = c.lawful; spelled = c.spelled }
 
-  pub cut_told : (told a b : Option (List ℕ)) → IfSome told (λ whole. IsFrontOf whole f) → IsCutFetch h table f a b → IsCutOff h table told a b
+  pub cut_told : (told : Option (List ℕ)) (a b : List ℕ) → IfSome told (λ whole. IsFrontOf whole f) → IsCutFetch h table f a b → IsCutOff h table told (Some a) (Some b)
   cut_told None a b w c = record { bytes = f.given; of = tt; front = c.front }
   cut_told (Some whole) a b w c = elim c.so_far [
     | inl ended ↦ record { bytes = f.given; of = ended_whole f whole ended w; front = c.front }

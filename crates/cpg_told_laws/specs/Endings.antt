@@ -14,7 +14,7 @@ use Rattle.cpg_told_laws.specs.Streams.{Breaks, Stream}
 use Rattle.cpg_refusal.specs.Lines.{line_of, status_of, write_fault_line}
 use Rattle.cpg_told_laws.specs.Outputs.{Prints}
 use Rattle.cpg_live.specs.Streams.{fault_line}
-use Rattle.cpg_app.specs.Told.{SinkSeen, Sent, Whole, Untouched, Part}
+use Rattle.cpg_told_laws.specs.Sinks.{SinkSeen, Sent, Whole, Untouched, Part}
 
 -- a run: its words, what it saw of its shelf and its sinks, and its exit status
 pub record Ran : Type 0 where

@@ -39,7 +39,7 @@ use Rattle.cpg_refusal.specs.Lines.{line_of}
 use Rattle.cpg_told_laws.specs.Outputs.{Prints}
 use Rattle.cpg_live.specs.Streams.{fault_line, stream_end}
 use Rattle.cpg_told_laws.specs.Streams.{IsLawfulSoFar, IsRefused}
-use Rattle.cpg_app.specs.Told.{Untouched, Whole}
+use Rattle.cpg_told_laws.specs.Sinks.{Untouched, Whole}
 
 -- no count of faults rose
 pub record IsFaultless (r : Ran) : Type 0 where

@@ -1,4 +1,5 @@
 pub mod Causes
+pub mod Sinks
 pub mod Streams
 pub mod Outputs
 pub mod Endings

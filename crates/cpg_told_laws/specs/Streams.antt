@@ -2,7 +2,6 @@
 use Rattle.std.specs.Prelude.{ℕ, ◌≡◌, ◌<◌, ◌≤◌, List, Option, None, IfSome, Ok, Err, length, take}
 use Rattle.std.specs.Io.KnownBytes.{Appends}
 use Rattle.cpg_io.specs.Causes.{Rose}
-use Rattle.cpg_io.specs.Sink.{TookPrefix}
 use Rattle.cpg_head.specs.Head.{Head}
 use Rattle.cpg_table.specs.Table.{NodeTable}
 use Rattle.cpg_live.specs.Stream.{after}
@@ -12,6 +11,7 @@ use Rattle.cpg_live.specs.declared.following.Broken.TheVariants.{Shelf, Sink, Re
 use Rattle.cpg_live.specs.declared.following.StreamFault.{StreamFault}
 use Rattle.cpg_live.specs.declared.following.StreamFault.TheVariants.{Long}
 use Rattle.cpg_live.specs.declared.following.TheConstants.{STREAM_LIMIT}
+use Rattle.cpg_told_laws.specs.Sinks.{TookPrefix}
 
 -- the bytes of a file, where the shelf tells them
 abbrev pub AreBytesOf : Option (List ℕ) → List ℕ → Type 0

@@ -5,9 +5,10 @@ use Rattle.cpg_app.specs.Lawful.{IsLawful as IsLawfulRun}
 use Rattle.cpg_told_laws.specs.Causes.{seen}
 use Rattle.cpg_told_laws.specs.Endings.{Ran}
 use Rattle.cpg_told_laws.specs.Lawful.{IsLawful}
+use Rattle.cpg_told_laws.specs.Sinks.{telling}
 
 abbrev pub told_of : Run → Ran
-told_of r = record { words = r.words; shelf = seen r.shelf.old r.shelf.new; out = r.out; err = r.err; status = r.status }
+told_of r = record { words = r.words; shelf = seen r.shelf.old r.shelf.new; out = telling r.out; err = telling r.err; status = r.status }
 
 -- what a run says of the bytes that its fetches gave says so of what stands under their names, where the shelf tells that
 abbrev pub RunsKeepWhatWasTold : Type 0

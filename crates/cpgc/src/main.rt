@@ -1,7 +1,7 @@
 //! `cpgc`, a design-time scheduler for time-triggered controllers.
 #![tactic(auto)]
 
-ghost use Rattle.std.specs.Prelude.{◌≡◌, ◌↔◌, IfOk, drop, map, string_bytes};
+ghost use Rattle.std.specs.Prelude.{◌≡◌, ◌↔◌, IfErr, IfOk, drop, map, string_bytes};
 ghost use Rattle.std.specs.Vec.Iter.{into_iter_items};
 ghost use Rattle.std.specs.declared.io.ErrorKind.{ErrorKind};
 ghost use Rattle.cpg_words.specs.declared.fault.WordsFault.{WordsFault};
@@ -89,29 +89,34 @@ fn run_of<'a>(rt: &'a HostRuntime, words: &[String]) -> Ended<'a>
     }
 }
 
-/// What a run without words leaves of the standard error, and its exit status.
-#[derive(Drop)]
-struct EndedWithout {
-    err: StreamSink<Stderr>,
-    status: u8,
-}
-
 /// A run that has no words: a line that says why goes to the standard error, to which nothing was written before.
-fn run_without(rt: &HostRuntime, fault: WordsFault) -> EndedWithout
-    ensures { EndsWithout fault (sink_of result.err) result.status }
+fn run_without<'a>(rt: &'a HostRuntime, fault: WordsFault) -> Ended<'a>
+    ensures { EndsWithout fault (shelf_of result.shelf) (sink_of result.out) (sink_of result.err) result.status }
 {
+    let out = StreamSink::new(rt.stdout());
     let mut err = StreamSink::new(rt.stderr());
+    let shelf = FileShelf::new(rt);
     let status = run_without_words(rt.alloc(), fault, &mut err);
-    EndedWithout { err, status }
+    Ended {
+        shelf,
+        out,
+        err,
+        status,
+    }
 }
 
-fn status(rt: &HostRuntime) -> u8 {
-    match words(rt) {
-        Ok(words) => run_of(rt, words.as_slice()).status,
-        Err(fault) => run_without(rt, fault).status,
+/// A run of these words, or, where there are none, one that says why.
+fn ended<'a>(rt: &'a HostRuntime, words: Result<Vec<String>, WordsFault>) -> Ended<'a>
+    ensures of_words { IfOk words (λ all. IsLawful (program_run (map string_bytes all.items) (shelf_of result.shelf) (sink_of result.out)
+        (sink_of result.err) result.status)) }
+    ensures without { IfErr words (λ fault. EndsWithout fault (shelf_of result.shelf) (sink_of result.out) (sink_of result.err) result.status) }
+{
+    match words {
+        Ok(words) => run_of(rt, words.as_slice()),
+        Err(fault) => run_without(rt, fault),
     }
 }
 
 fn main(rt: HostRuntime) -> ExitCode {
-    ExitCode::from(status(&rt))
+    ExitCode::from(ended(&rt, words(&rt)).status)
 }

@@ -1,6 +1,5 @@
 use Rattle.std.proofs.Common.{◌≡◌, ◌∙◌, ap, inl, inr, refl}
 use Rattle.std.specs.Prelude.{◌⊎◌, Err}
-use Rattle.std.proofs.KnownBytes.{Keeps-refl}
 use Rattle.cpg_io.specs.Causes.{Rose}
 use Rattle.cpg_live.specs.declared.following.Broken.{Broken}
 use Rattle.cpg_app.proofs.Followed.{closed_sound, failed_rose}
@@ -14,7 +13,7 @@ returns-in-Ok-clause-keeps g c =
 pub returns-in-Ok-clause-followed : goal.returns-in-Ok-clause-followed
 returns-in-Ok-clause-followed g c =
     let s = c.in-Ok.ensures.whole in
-    record { fetch = s.fetch; named = s.named; history = s.history_is; ends = inl (s.is, refl, Keeps-refl (g.E.Sink.state c.args.err.now).taken) }
+    record { fetch = s.fetch; named = s.named; history = s.history_is; ends = inl (s.is, refl, refl) }
 
 pub returns-in-Err-clause-followed : goal.returns-in-Err-clause-followed
 returns-in-Err-clause-followed g c =

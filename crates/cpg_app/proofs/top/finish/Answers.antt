@@ -1,5 +1,4 @@
-use Rattle.std.proofs.Common.{ℕ, List, ap, inr, sym, subst, string_bytes}
-use Rattle.std.proofs.KnownBytes.{Keeps-refl}
+use Rattle.std.proofs.Common.{ℕ, List, ap, inr, refl, sym, subst, string_bytes}
 use Rattle.cpg_codec.specs.Spelling.{spelling}
 use Rattle.cpg_show.specs.NodeText.{node_text}
 use Rattle.cpg_inputs.proofs.Keeping.{keeps_same}
@@ -108,7 +107,7 @@ returns-in-Err-clause-lawful g c words start at =
       status = c.stop.result;
     } in
     let has : Has r at.command at.has.values = record { words = at.words; reads = at.has.reads } in
-    stopped_lawful r c.in-Err.halt (inr (inr (record { command = at.command; values = at.has.values; has = has; stops = c.in-Err.ensures.halt at.command at.has.values at.has.are }))) (Keeps-refl (g.O.Sink.state c.args.out.now).taken) c.stop.ensures
+    stopped_lawful r c.in-Err.halt (inr (inr (record { command = at.command; values = at.has.values; has = has; stops = c.in-Err.ensures.halt at.command at.has.values at.has.are }))) refl c.stop.ensures
 
 pub returns-in-Ok-Lines-clause-keeps : goal.returns-in-Ok-Lines-clause-keeps
 returns-in-Ok-Lines-clause-keeps g c = keeps_same (g.S.Shelf.state c.args.shelf.now)

@@ -1,0 +1,38 @@
+-- What a run saw of its sinks while a sink might tell nothing of what it took: then nothing is asked of that.
+use Rattle.std.specs.Prelude.{ℕ, ◌≡◌, ◌≢◌, ◌<◌, List, Option, Some, length, take}
+use Rattle.std.specs.Io.KnownBytes.{Appends, Keeps}
+use Rattle.cpg_io.specs.Causes.{Rose}
+use Rattle.cpg_app.specs.Told.{SinkSeen as SinkSeenRun}
+
+-- the known bytes grew by a proper front of the piece
+abbrev pub TookPrefix : Option (List ℕ) → Option (List ℕ) → List ℕ → Type 0
+TookPrefix old new piece = (n : ℕ) × (n < length piece) × Appends old new (take n piece)
+
+-- what a run sees of a sink: its count of faults and its bytes, before and after
+pub record SinkSeen : Type 0 where
+  pub before : ℕ
+  pub now : ℕ
+  pub old : Option (List ℕ)
+  pub new : Option (List ℕ)
+
+-- the bytes were taken whole
+abbrev pub Whole : SinkSeen → List ℕ → Type 0
+Whole sink bytes = Appends sink.old sink.new bytes
+
+-- nothing was taken
+abbrev pub Untouched : SinkSeen → Type 0
+Untouched sink = Keeps sink.old sink.new
+
+-- the sink met a fault, and took a proper prefix of the bytes
+pub record Part (sink : SinkSeen) (bytes : List ℕ) : Type 0 where
+  pub rose : Rose sink.before sink.now
+  pub prefix : TookPrefix sink.old sink.new bytes
+
+-- Bytes were sent to a sink for a status: status 3 is that of a fault, and under each other one they were taken whole.
+pub record Sent (sink : SinkSeen) (status wanted : ℕ) (bytes : List ℕ) : Type 0 where
+  pub whole : status ≢ 3 → (status ≡ wanted) × Whole sink bytes
+  pub part : status ≡ 3 → Part sink bytes
+
+-- a sink of today, which always tells what it took
+abbrev pub telling : SinkSeenRun → SinkSeen
+telling s = record { before = s.before; now = s.now; old = Some s.old; new = Some s.new }
