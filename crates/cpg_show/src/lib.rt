@@ -3,7 +3,6 @@
 
 mod event;
 mod events;
-mod found;
 mod node;
 mod room;
 mod table;

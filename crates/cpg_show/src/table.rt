@@ -2,12 +2,9 @@
 ghost use Rattle.std.specs.Prelude.{◌≡◌, ◌<◌, ◌++◌, [], IfOk, OnOk, codes, flat_map, string_bytes};
 ghost use Rattle.cpg_base.specs.Graph.{item_count};
 ghost use Rattle.cpg_base.specs.Numbers.{numbers_below};
-ghost use Rattle.cpg_table.specs.Table.{columns_of};
-ghost use Rattle.cpg_label.specs.CubeText.{columns_text};
 ghost use Rattle.cpg_label.specs.Labels.{labels_of, process_name};
 ghost use Rattle.cpg_show.specs.TableText.{head_line, is_shown, item_text, table_text};
 
-use crate::found::find_columns;
 use crate::room::room_of;
 use cpg_base::{Item, Order, OutOfMemory, Problem};
 use cpg_label::{Labels, write_act, write_columns};
@@ -61,21 +58,6 @@ fn write_head_line(
     write!(out, " on {name}\n")
 }
 
-/// The columns of an item.
-fn write_rows(
-    out: &mut String,
-    labels: &Labels<'_>,
-    tables: &Tables,
-    item: u32,
-) -> Result<(), AllocError>
-    ensures { OnOk result (string_bytes out.new ≡ string_bytes out.old ++ columns_text labels.now (columns_of tables.now.nodes item)) }
-{
-    if let Some(columns) = find_columns(tables, item) {
-        write_columns(out, labels, columns)?;
-    }
-    Ok(())
-}
-
 fn write_item(
     out: &mut String,
     problem: &Problem,
@@ -91,7 +73,7 @@ fn write_item(
         return Ok(());
     }
     write_head_line(out, problem, labels, item)?;
-    write_rows(out, labels, tables, item)
+    write_columns(out, labels, tables.columns_of(item))
 }
 
 fn write_items(
