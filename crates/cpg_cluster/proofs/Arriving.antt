@@ -4,7 +4,7 @@ use Rattle.std.specs.Prelude.{nat_le, option_to_list}
 use Rattle.std.specs.List.{list_any}
 use Rattle.std.specs.List.Sorted.{IsNonDecreasingBy}
 use Rattle.std.specs.Global.{Vec}
-use Rattle.std.proofs.lemmas.Bool.{cases_eq, cases_lt, le-leb, lt-leb, leb-false}
+use Rattle.std.proofs.lemmas.Bool.{and_right, cases_eq, cases_lt, le-leb, lt-leb, leb-false}
 use Rattle.std.proofs.lemmas.List.{get_or_append_left, get_or_push, length-append}
 use Rattle.std.proofs.lemmas.List.Folds.{list_any-append, list_any_none, list_any_at}
 use Rattle.std.proofs.lemmas.List.Sorted.{list_any-IsPermutation}
@@ -44,15 +44,11 @@ sent_before (Some u) slot a b l h = ap (λ x. x || false) (lt-leb (u + slot) a (
     or_false true = refl
     or_false false = refl
 
-and_false : (b : Bool) → (b && false) ≡ false
-and_false true = refl
-and_false false = refl
-
 -- what may not be sent any more to arrive by the time isn't waited for
 pub none_sent : (time : ℕ) (comes : Option ℕ) (slot : ℕ) (times : List ℕ) → list_any (λ u. nat_le (u + slot) time) (option_to_list comes) ≡ false → false ≡ list_any (waits_until time comes slot) times
 none_sent time comes slot times h = sym (list_any_none (waits_until time comes slot) times (λ i d l. elim (cases_lt time (get_or times i d)) [
   | inl after ↦ ap (λ b. b && list_any (λ u. nat_le (u + slot) (get_or times i d)) (option_to_list comes)) (lt-leb (get_or times i d) time after)
-  | inr early ↦ ap (λ b. nat_le (get_or times i d) time && b) (sent_before comes slot (get_or times i d) time early h) ∙ and_false (nat_le (get_or times i d) time)
+  | inr early ↦ ap (λ b. nat_le (get_or times i d) time && b) (sent_before comes slot (get_or times i d) time early h) ∙ and_right (nat_le (get_or times i d) time) false refl
 ]))
 
 -- nothing has arrived
@@ -77,7 +73,7 @@ last_until time comes slot times place x rises l before past is = go (list_any (
     go false e = sym (list_any_none p times (λ i d k. elim (cases_lt place i) [
       | inl after ↦ ap (λ b. b && list_any (λ u. nat_le (u + slot) (get_or times i d)) (option_to_list comes)) (lt-leb (get_or times i d) time (past i d (omega arith) k))
       | inr early ↦ ap (λ b. nat_le (get_or times i d) time && b) (sent_before comes slot (get_or times i d) (get_or times place d) (rises i place d (omega arith) l)
-          (subst (λ t. list_any (λ u. nat_le (u + slot) t) (option_to_list comes) ≡ false) (sym (is d)) e)) ∙ and_false (nat_le (get_or times i d) time)
+          (subst (λ t. list_any (λ u. nat_le (u + slot) t) (option_to_list comes) ≡ false) (sym (is d)) e)) ∙ and_right (nat_le (get_or times i d) time) false refl
     ]))
 
 -- one more sender is indexed

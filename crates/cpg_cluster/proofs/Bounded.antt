@@ -16,7 +16,8 @@ use Rattle.cpg_table.specs.Lawful.{column_count, rows_of}
 use Rattle.cpg_table.specs.Shape.{processes_on}
 use Rattle.cpg_table.specs.Table.{NodeTable}
 use Rattle.cpg_node.specs.Dispatcher.{Dispatcher, Ended, Frame, Own, next, opening, turn}
-use Rattle.cpg_cluster.specs.Cluster.{World, Cluster, Answer, Took, Waits, Done, answer, dispatcher_at, own_process, reported, reports_now}
+use Rattle.cpg_table.specs.Items.{own_process}
+use Rattle.cpg_cluster.specs.Cluster.{World, Cluster, Answer, Took, Waits, Done, answer, dispatcher_at, reported, reports_now}
 use Rattle.cpg_cluster.specs.Driving.{choose, chosen, circle, remaining}
 use Rattle.cpg_node.specs.Instants.{instants_left}
 use Rattle.cpg_cluster.proofs.Finishing.{next_finished, table_finished}

@@ -17,7 +17,8 @@ use Rattle.cpg_node.specs.Dispatcher.{Dispatcher, Own, OwnTable, Range, Running,
 use Rattle.cpg_node.specs.State.{running_in, time_of, MayFinish, MayTurn, EndsAt, ArrivesAt}
 use Rattle.cpg_node.proofs.Next.{zip_with-map, next_is}
 use Rattle.cpg_node.proofs.Turning.{next_reported}
-use Rattle.cpg_cluster.specs.Cluster.{World, Cluster, dispatcher_at, own_process, own_table, ended_of, report_of, reports_now, reported, frames_now}
+use Rattle.cpg_table.specs.Items.{own_process}
+use Rattle.cpg_cluster.specs.Cluster.{World, Cluster, dispatcher_at, own_table, ended_of, report_of, reports_now, reported, frames_now}
 use Rattle.cpg_cluster.specs.Taking.{IsOwnOf, AllFinish}
 use Rattle.cpg_cluster.proofs.Nodes.{Played, node_state, planned, own_of_node}
 use Rattle.cpg_cluster.proofs.Executions.{on_node, few_faults}

@@ -15,7 +15,8 @@ use Rattle.cpg_table.specs.Shape.{processes_on}
 use Rattle.cpg_table.proofs.Settings.{Match, match_once}
 use Rattle.cpg_node.specs.Dispatcher.{Dispatcher, Own, Range, Running, Ended, next}
 use Rattle.cpg_node.proofs.Next.{by, not_by, still_by, zip_with-map, NextIs, next_is}
-use Rattle.cpg_cluster.specs.Cluster.{World, Cluster, Answer, Took, Waits, Done as IsDone, own_process, ended_of, report_of, reports_now, open_cluster, dispatcher_at, take_turn, step_by, step, play, answer, IsPlayed}
+use Rattle.cpg_table.specs.Items.{own_process}
+use Rattle.cpg_cluster.specs.Cluster.{World, Cluster, Answer, Took, Waits, Done as IsDone, ended_of, report_of, reports_now, open_cluster, dispatcher_at, take_turn, step_by, step, play, answer, IsPlayed}
 use Rattle.cpg_cluster.proofs.Nodes.{Played, node_state, planned, own_of_node}
 use Rattle.cpg_cluster.proofs.Lawful.{runs_since, unreported}
 use Rattle.cpg_cluster.proofs.Reached.{Reached, reached_open, reached_step, free_from, turn_is}

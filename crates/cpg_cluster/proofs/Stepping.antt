@@ -13,7 +13,8 @@ use Rattle.cpg_table.specs.Table.{NodeTable, Row, table_at, empty_table}
 use Rattle.cpg_table.specs.Shape.{processes_on}
 use Rattle.cpg_node.specs.Dispatcher.{opening, Dispatcher, Own, OwnTable, Ended, Frame, Act, next, turn, acts_of_turn, due_reports}
 use Rattle.cpg_node.specs.State.{MayTurn}
-use Rattle.cpg_cluster.specs.Cluster.{World, Cluster, Answer, Took, Waits, Done, dispatcher_at, answer_by, answer_at, answer, own_process, reported, reports_now, frames_now, take_turn, step_by, step, IsPlayed}
+use Rattle.cpg_table.specs.Items.{own_process}
+use Rattle.cpg_cluster.specs.Cluster.{World, Cluster, Answer, Took, Waits, Done, dispatcher_at, answer_by, answer_at, answer, reported, reports_now, frames_now, take_turn, step_by, step, IsPlayed}
 use Rattle.cpg_cluster.specs.Playing.{Playing, IsPlaying, stepped}
 use Rattle.cpg_cluster.specs.Taking.{IsOwnOf, AllFinish, reports_of, ends_of, ready}
 use Rattle.cpg_cluster.specs.Keeping.{AreIndexed, waits_between, frames_by, note, noted_of, Fits, AllFit}

@@ -1,22 +1,12 @@
 //! When frames arrive that a node hears, by the node that sends them.
-ghost use Rattle.std.specs.Prelude.{◌≡◌, ◌<◌, ◌≤◌, ◌++◌, IfOk, IsPermutation, OnOk, ℕ, get_or, length, map};
+ghost use Rattle.std.specs.Prelude.{◌≡◌, ◌<◌, ◌≤◌, ◌++◌, IfOk, IsPermutation, OnOk, ℕ, get_or, length};
 ghost use Rattle.std.specs.List.Sorted.{IsNonDecreasingBy};
 ghost use Rattle.cpg_cluster.specs.Keeping.{arrival_times, AreIndexed};
 
 use cpg_base::OutOfMemory;
-use cpg_cube::Entry;
+use cpg_node::add_times;
 use cpg_table::Row;
 use std::alloc::Global;
-
-/// Adds the times of a row.
-fn add_times(times: &mut Vec<u64>, columns: &[Entry]) -> Result<(), OutOfMemory>
-    ensures { OnOk result (times.new.items ≡ times.old.items ++ map (λ c. c.time) columns.now) }
-{
-    for entry in columns {
-        times.push(entry.time)?;
-    }
-    Ok(())
-}
 
 /// Adds the times of the rows of a sender.
 fn add_times_of(

@@ -13,9 +13,9 @@ ghost use Rattle.cpg_cluster.specs.Taking.{IsOwnOf, AllFinish, reports_of, ends_
 
 use crate::arrivals::arrivals_of;
 use crate::senders::senders_of;
-use crate::told::{append_acts, finish_all, gather_ends, gather_reports, note_acts};
+use crate::told::{finish_all, gather_ends, gather_reports, note_acts};
 use cpg_base::{Lengths, OutOfMemory, Problem, Scenario};
-use cpg_node::{Act, Ended, Frame, Node};
+use cpg_node::{Act, Ended, Frame, Node, append_acts};
 use cpg_table::{NodeTable, Tables};
 use std::alloc::Global;
 

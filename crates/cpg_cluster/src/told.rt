@@ -215,17 +215,6 @@ pub fn finish_all(node: &mut Node, ended: &[(u64, Ended)])
     }
 }
 
-/// Adds acts to those so far.
-pub fn append_acts(acts: &mut Vec<Act>, more: &[Act])
-    requires { length (acts.old.items ++ more.now) ≤ vec_capacity acts.old }
-    ensures acts { acts.new.items ≡ acts.old.items ++ more.now }
-    ensures room { vec_capacity acts.new ≡ vec_capacity acts.old }
-{
-    for act in more {
-        acts.push_reserved(*act);
-    }
-}
-
 /// Notes an act at its item.
 fn note_act(noted: &mut Vec<Option<Act>>, act: Act)
     ensures { noted.new.items ≡ note noted.old.items act }

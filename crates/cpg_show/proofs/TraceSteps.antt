@@ -1,12 +1,12 @@
 -- One more node of a trace, and that all of its events are of items of the graph.
-use Rattle.std.proofs.Common.{◌≡◌, ℕ, ◌+◌, ◌<◌, List, [], ◌++◌, length, get_or, map, flat_map, fold, max, All, refl, sym, ap, ◌∙◌}
+use Rattle.std.proofs.Common.{◌≡◌, ℕ, ◌+◌, ◌<◌, List, [], ◌++◌, length, get_or, map, flat_map, fold, max, All, refl, sym, ap, ◌∙◌, subst, inl, inr}
 use Rattle.std.proofs.lemmas.List.{append_assoc}
 use Rattle.std.proofs.lemmas.List.Elements.{All-append, All-contains, All-map, Contains-get_or}
 use Rattle.std.proofs.lemmas.List.Sums.{fold-append}
 use Rattle.cpg_base.specs.Numbers.{greatest, numbers_below}
 use Rattle.cpg_base.specs.Graph.{Graph, item_at, item_count}
 use Rattle.cpg_base.specs.declared.item.Item.{Item}
-use Rattle.cpg_base.specs.declared.item.Item.TheVariants.{Start, Message, Broadcast}
+use Rattle.cpg_base.proofs.Items.{item_cases}
 use Rattle.cpg_base.proofs.Lists.{Contains-flat_map_parts, numbers-Contains}
 use Rattle.cpg_node.specs.Dispatcher.{Act, Ended}
 use Rattle.cpg_show.specs.TraceEvents.{Event, IsActWithin, IsDeedWithin, IsEndWithin, all_events, deed_of, event_of_act, event_of_end, node_events}
@@ -19,14 +19,16 @@ module _ (g : Graph) (acts : List (List Act)) (ends : List (List (ℕ × Ended))
   one_node i before middle after is m a = sym (next_piece (node_events g acts ends) i [] before after (sym is)
       (a ∙ ap (λ xs. xs ++ map (event_of_end i) (get_or ends i [])) m ∙ append_assoc before (map (event_of_act g i) (get_or acts i [])) (map (event_of_end i) (get_or ends i []))))
 
-  deed_within : (i : Item) (x : ℕ) → x < item_count g → IsDeedWithin g (deed_of i x)
-  deed_within (Start p) x l = tt
-  deed_within (Message e) x l = l
-  deed_within (Broadcast c) x l = l
+  deed_within : (x : ℕ) → x < item_count g → IsDeedWithin g (deed_of (item_at g x) x)
+  deed_within x l = elim (item_cases g x l) [
+    | inl c ↦ subst (λ (i : Item). IsDeedWithin g (deed_of i x)) (sym c.1) c.0
+    | inr (inl c) ↦ subst (λ (i : Item). IsDeedWithin g (deed_of i x)) (sym c.3) l
+    | inr (inr c) ↦ subst (λ (i : Item). IsDeedWithin g (deed_of i x)) (sym c.3) l
+  ]
 
   node_within : (i : ℕ) → All (IsActWithin g) (get_or acts i []) → All (IsEndWithin g) (get_or ends i []) → All (λ e. IsDeedWithin g e.deed) (node_events g acts ends i)
   node_within i a h = All-append (λ (e : Event). IsDeedWithin g e.deed) (map (event_of_act g i) (get_or acts i [])) (map (event_of_end i) (get_or ends i []))
-      (All-map (λ (e : Event). IsDeedWithin g e.deed) (event_of_act g i) (get_or acts i []) (λ k d l. deed_within (item_at g (get_or (get_or acts i []) k d).item) (get_or (get_or acts i []) k d).item (a k d l)))
+      (All-map (λ (e : Event). IsDeedWithin g e.deed) (event_of_act g i) (get_or acts i []) (λ k d l. deed_within (get_or (get_or acts i []) k d).item (a k d l)))
       (All-map (λ (e : Event). IsDeedWithin g e.deed) (event_of_end i) (get_or ends i []) (λ k d l. ((h k d l).process, (h k d l).faults)))
 
   pub all_within : ((i : ℕ) → i < length g.nodes → All (IsActWithin g) (get_or acts i [])) → ((i : ℕ) → i < length g.nodes → All (IsEndWithin g) (get_or ends i [])) → All (λ e. IsDeedWithin g e.deed) (all_events g acts ends)

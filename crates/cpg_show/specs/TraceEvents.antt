@@ -1,5 +1,5 @@
 -- What the nodes did, as events, and the order in which a trace tells these.
-use Rattle.std.specs.Prelude.{ℕ, ⊤, ◌≡◌, ◌≤◌, ◌<◌, false, List, [], ◌∷◌, ◌++◌, map, get_or, length, IsPermutation, AllPairs}
+use Rattle.std.specs.Prelude.{ℕ, ◌≡◌, ◌≤◌, ◌<◌, false, List, [], ◌∷◌, ◌++◌, map, get_or, length, IsPermutation, AllPairs}
 use Rattle.std.specs.List.{flat_map}
 use Rattle.cpg_base.specs.Numbers.{numbers_below, is_below}
 use Rattle.cpg_base.specs.Graph.{Graph, item_at, item_count, process_count}
@@ -68,4 +68,4 @@ IsActWithin g a = a.item < item_count g
 abbrev pub IsDeedWithin : Graph → Deed → Type 0
 IsDeedWithin g (End process faults value) = (process < process_count g) × (faults ≤ g.faults)
 IsDeedWithin g (Send item) = item < item_count g
-IsDeedWithin g (Start process) = ⊤
+IsDeedWithin g (Start process) = process < process_count g

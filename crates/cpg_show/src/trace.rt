@@ -1,36 +1,17 @@
 //! The text of a trace.
-ghost use Rattle.std.specs.Prelude.{◌≡◌, ◌<◌, ◌++◌, [], All, IfOk, OnOk, codes, flat_map, fold, get_or, length, map, max, string_bytes};
+ghost use Rattle.std.specs.Prelude.{◌≡◌, ◌<◌, ◌++◌, All, IfOk, OnOk, flat_map, fold, length, map, max, string_bytes};
 ghost use Rattle.cpg_base.specs.Graph.{process_count};
-ghost use Rattle.cpg_label.specs.Labels.{labels_of};
 ghost use Rattle.cpg_show.specs.TraceEvents.{IsDeedWithin};
 ghost use Rattle.cpg_show.specs.TraceText.{IsTraceText, deed_text, event_line, finish_of, outcome_text, ran_text};
-ghost use Rattle.cpg_label.specs.ItemText.{done_text};
 
 use crate::event::{Deed, Event};
 use crate::events::events_in_order;
-use cpg_base::{Item, Lengths, OutOfMemory, Problem};
+use cpg_base::{Lengths, OutOfMemory, Problem};
 use cpg_cluster::Cluster;
-use cpg_label::{Labels, write_value};
+use cpg_label::{name_of, node_name, write_item, write_value};
 use cpg_node::Ended;
 use cpg_rules::Admitted;
 use std::alloc::{AllocError, Global};
-
-/// What a node did with an item.
-fn write_done(out: &mut String, labels: &Labels<'_>, item: Item) -> Result<(), AllocError>
-    ensures { OnOk result (string_bytes out.new ≡ string_bytes out.old ++ done_text labels.now item) }
-{
-    match item {
-        Item::Start(process) => {
-            let name = labels.process(process);
-            write!(out, "start {name}")
-        }
-        Item::Message(edge) => write!(out, "send e{edge}"),
-        Item::Broadcast(condition) => {
-            let name = labels.condition(condition);
-            write!(out, "tell {name}")
-        }
-    }
-}
 
 /// The value of a process's condition, if it has one.
 fn write_outcome(
@@ -62,24 +43,22 @@ fn write_ran(out: &mut String, length: u64, full: u64) -> Result<(), AllocError>
 fn write_deed(
     out: &mut String,
     problem: &Problem,
-    labels: &Labels<'_>,
     lengths: &Lengths,
     deed: Deed,
 ) -> Result<(), AllocError>
-    requires labels { labels.now ≡ labels_of problem.now }
     requires lengths { length lengths.now ≡ process_count problem.now }
     requires within { IsDeedWithin problem.now deed }
     ensures { OnOk result (string_bytes out.new ≡ string_bytes out.old ++ deed_text problem.now lengths.now deed) }
 {
     match deed {
-        Deed::Start { process } => write_done(out, labels, Item::Start(process)),
-        Deed::Send { item } => write_done(out, labels, problem.item(item)),
+        Deed::Start { process } => write_item(out, problem, process),
+        Deed::Send { item } => write_item(out, problem, item),
         Deed::End {
             process,
             faults,
             value,
         } => {
-            let name = labels.process(process);
+            let name = name_of(problem, process);
             write!(out, "end {name} faults {faults}")?;
             write_outcome(out, problem, process, value)?;
             let full = problem.duration(process, faults);
@@ -88,24 +67,12 @@ fn write_deed(
     }
 }
 
-/// What a node is called, and nothing where there is no such node.
-fn node_name(problem: &Problem, node: u32) -> &str
-    ensures { result.now ≡ get_or problem.now.nodes node [] }
-{
-    match problem.nodes().get(node as usize) {
-        Some(name) => name.as_str(),
-        None => "",
-    }
-}
-
 fn write_event(
     out: &mut String,
     problem: &Problem,
-    labels: &Labels<'_>,
     lengths: &Lengths,
     event: &Event,
 ) -> Result<(), AllocError>
-    requires labels { labels.now ≡ labels_of problem.now }
     requires lengths { length lengths.now ≡ process_count problem.now }
     requires within { IsDeedWithin problem.now event.now.deed }
     ensures { OnOk result (string_bytes out.new ≡ string_bytes out.old ++ event_line problem.now lengths.now event.now) }
@@ -113,24 +80,22 @@ fn write_event(
     let time = event.time;
     let name = node_name(problem, event.node);
     write!(out, "{time} {name} ")?;
-    write_deed(out, problem, labels, lengths, event.deed)?;
+    write_deed(out, problem, lengths, event.deed)?;
     out.push_str("\n")
 }
 
 fn write_events(
     out: &mut String,
     problem: &Problem,
-    labels: &Labels<'_>,
     lengths: &Lengths,
     events: &[Event],
 ) -> Result<(), AllocError>
-    requires labels { labels.now ≡ labels_of problem.now }
     requires lengths { length lengths.now ≡ process_count problem.now }
     requires within { All (λ e. IsDeedWithin problem.now e.deed) events.now }
     ensures { OnOk result (string_bytes out.new ≡ string_bytes out.old ++ flat_map (event_line problem.now lengths.now) events.now) }
 {
     for event in events {
-        write_event(out, problem, labels, lengths, event)?;
+        write_event(out, problem, lengths, event)?;
     }
     Ok(())
 }
@@ -173,10 +138,9 @@ pub fn trace_text(
 {
     let problem = admitted.problem();
     let lengths = cluster.lengths();
-    let labels = Labels::of(alloc, problem)?;
     let events = events_in_order(alloc, problem, cluster)?;
     let mut out = String::new(alloc);
-    write_events(&mut out, problem, &labels, lengths, events.as_slice())?;
+    write_events(&mut out, problem, lengths, events.as_slice())?;
     let finish = finish(problem, cluster);
     write!(out, "finish {finish}\n")?;
     Ok(out)

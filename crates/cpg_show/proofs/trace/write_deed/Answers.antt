@@ -14,5 +14,8 @@ duration-full-requires-clause-faults c = (subst (IsDeedWithin c.args.problem.now
 pub of-requires : goal.of-requires
 of-requires c = omega (arith, (subst (IsDeedWithin c.args.problem.now) c.in-End.is c.requires.within).0, c.requires.lengths)
 
-pub item-requires : goal.item-requires
-item-requires c = subst (IsDeedWithin c.args.problem.now) c.in-Send.is c.requires.within
+pub write_item-requires : goal.write_item-requires
+write_item-requires c = omega (arith, subst (IsDeedWithin c.args.problem.now) c.in-Start.is c.requires.within)
+
+pub write_item-requires-in-Send : goal.write_item-requires-in-Send
+write_item-requires-in-Send c = subst (IsDeedWithin c.args.problem.now) c.in-Send.is c.requires.within

@@ -1,5 +1,0 @@
-use Rattle.std.proofs.Common.{◌≡◌, ◌++◌, map, drop}
-use Rattle.cpg_cluster.proofs.arrivals.add_times.Given as goal
-
-abbrev pub invariant-loop-entry : goal.invariant-loop-entry
-invariant-loop-entry l = l.times.items ++ map (λ c. c.time) (drop l.entry-index l.columns) ≡ l.fn.times.items ++ map (λ c. c.time) l.columns
