@@ -1,7 +1,8 @@
 //! `cpgc`, a design-time scheduler for time-triggered controllers.
 #![tactic(auto)]
 
-ghost use Rattle.std.specs.Prelude.{◌≡◌, ◌↔◌, IfErr, IfOk, drop, map, string_bytes};
+ghost use Rattle.std.specs.Prelude.{◌≡◌, ◌↔◌, IfErr, IfOk, IsErr, drop, map, string_bytes};
+ghost use Rattle.std.specs.IoError.{error_kind};
 ghost use Rattle.std.specs.Vec.Iter.{into_iter_items};
 ghost use Rattle.std.specs.declared.io.ErrorKind.{ErrorKind};
 ghost use Rattle.cpg_words.specs.declared.fault.WordsFault.{WordsFault};
@@ -17,7 +18,7 @@ use cpg_words::WordsFault;
 use std::alloc::{AllocError, Global};
 use std::env;
 use std::env::Args;
-use std::io::{ErrorKind, Stderr, Stdout};
+use std::io::{self, ErrorKind, Stderr, Stdout};
 use std::process::ExitCode;
 
 /// The arguments after the first, which is the program's name.
@@ -37,10 +38,18 @@ fn fault_of(kind: ErrorKind) -> WordsFault
     }
 }
 
-/// The words after the program's name, as the runtime gives them.
-fn words(rt: &HostRuntime) -> Result<Vec<String>, WordsFault> {
-    match env::args(rt) {
-        Ok(args) => after_name(rt.alloc(), args).map_err(|_| WordsFault::OutOfMemory),
+/// The words after the program's name, of the arguments that the runtime gave, or why there are none.
+fn words(alloc: Global, given: io::Result<Args>) -> Result<Vec<String>, WordsFault>
+    ensures words { IfOk given (λ args. IfOk result (λ words. words.items ≡ drop 1 (into_iter_items args))) }
+    ensures wanting { IfOk given (λ _. IfErr result (λ fault. fault ≡ WordsFault.OutOfMemory)) }
+    ensures none { IfErr given (λ _. IsErr result) }
+    ensures fault { IfErr given (λ error. IfErr result (λ fault. fault ≡ WordsFault.OutOfMemory ↔ error_kind error ≡ ErrorKind.OutOfMemory)) }
+{
+    match given {
+        Ok(args) => match after_name(alloc, args) {
+            Ok(words) => Ok(words),
+            Err(_) => Err(WordsFault::OutOfMemory),
+        },
         Err(error) => Err(fault_of(error.kind())),
     }
 }
@@ -118,5 +127,6 @@ fn ended<'a>(rt: &'a HostRuntime, words: Result<Vec<String>, WordsFault>) -> End
 }
 
 fn main(rt: HostRuntime) -> ExitCode {
-    ExitCode::from(ended(&rt, words(&rt)).status)
+    let words = words(rt.alloc(), env::args(&rt));
+    ExitCode::from(ended(&rt, words).status)
 }
