@@ -139,18 +139,13 @@ PutsOut (Hyper pairs) values text = OnParts pairs values (λ parts. IsUnrolledTe
 PutsOut (Tune graph) values text = OnGraph values (λ a. IsTuningText a.graph text)
 PutsOut (Audit graph pack log) values text = OnLogged values (λ a t l. IsAuditedText a t l text)
 
--- a text or a pack is put out
+-- a text or a pack is put out; a node whose table is, is one of its tables
 abbrev pub Puts : Output → (Text → Type 0) → Type 0
 Puts (Lines text) Is = Is (string_bytes text)
 Puts (Shown made) Is = Is (shown made.admitted.graph made.compiled)
-Puts (OfNode tables node) Is = Is (node_text tables node)
+Puts (OfNode tables node) Is = (node < length tables.head.nodes) × Is (node_text tables node)
 Puts (Pack tables) Is = Is (spelling tables)
 Puts (Stream follower path) Is = ⊥
-
--- a node is one of its tables
-abbrev pub IsFit : Output → Type 0
-IsFit (OfNode tables node) = node < length tables.head.nodes
-IsFit output = Unit
 
 -- the first node of a name is to follow a stream
 abbrev pub Opens : Tables → Text → Text → Output → Type 0

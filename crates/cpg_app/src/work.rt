@@ -8,7 +8,7 @@ ghost use Rattle.cpg_words.specs.declared.command.Command.{Command};
 ghost use Rattle.cpg_inputs.specs.Inputs.{AreFit, AreInputs};
 ghost use Rattle.cpg_inputs.specs.Says.{Value};
 ghost use Rattle.cpg_app.specs.Causes.{first_named, IsUncompiled, OrMemory, StopsNaming, StopsVerdict, StopsWork};
-ghost use Rattle.cpg_app.specs.Outputs.{packed, shown, Answers, AreJudgedSafe, ArePackOf, AreSafe, IsAuditedText, IsFit, IsMadeOf, IsNodeText, IsPlayedText, IsSafeText, Opens, Puts};
+ghost use Rattle.cpg_app.specs.Outputs.{packed, shown, Answers, AreJudgedSafe, ArePackOf, AreSafe, IsAuditedText, IsMadeOf, IsNodeText, IsPlayedText, IsSafeText, Opens, Puts};
 
 use crate::auditing::audit_text;
 use crate::halt::halt_of_compile;
@@ -158,7 +158,6 @@ fn first_named(head: &Head, name: &str) -> Option<usize>
 /// The text of the table of the first node of a name.
 fn node_named(tables: Tables, name: &str) -> Result<Output, Halt>
     ensures text { IfOk result (λ o. Puts o (IsNodeText tables name.now)) }
-    ensures fit { IfOk result IsFit }
     ensures halt { IfErr result (OrMemory (StopsNaming tables name.now)) }
 {
     let Some(node) = first_named(tables.head(), name) else {
@@ -186,7 +185,6 @@ fn opened(alloc: Global, tables: Tables, name: &str, stream: Word) -> Result<Out
 pub fn work(alloc: Global, inputs: Inputs) -> Result<Output, Halt>
     requires { AreFit inputs }
     ensures output { (command : Command) (values : List Value) → AreInputs command values inputs → IfOk result (Answers command values) }
-    ensures fit { IfOk result IsFit }
     ensures halt { (command : Command) (values : List Value) → AreInputs command values inputs → IfErr result (OrMemory (StopsWork command values)) }
 {
     match inputs {

@@ -29,6 +29,11 @@ stop-requires g c =
     let asked = c.requires.may in
     halt_named asked.command asked.values c.in-Err.halt (c.in-Err.ensures.halt asked.command asked.values asked.are)
 
+pub write_node-requires : goal.write_node-requires
+write_node-requires g c =
+    let asked = c.requires.may in
+    (text_of asked.command asked.values (OfNode c.in-Ok-NodeTable.tables c.in-Ok-NodeTable.node) tt (subst (Answers asked.command asked.values) c.in-Ok-NodeTable.field-0-is (c.in-Ok-NodeTable.ensures.output asked.command asked.values asked.are))).0
+
 pub returns-in-Ok-Lines-clause-lawful : goal.returns-in-Ok-Lines-clause-lawful
 returns-in-Ok-Lines-clause-lawful g c words start at =
     let r : Ran = record {
@@ -68,7 +73,7 @@ returns-in-Ok-NodeTable-clause-lawful g c words start at =
     } in
     let has : Has r at.command at.has.values = record { words = at.words; reads = at.has.reads } in
     let puts = text_of at.command at.has.values (OfNode c.in-Ok-NodeTable.tables c.in-Ok-NodeTable.node) tt (subst (Answers at.command at.has.values) c.in-Ok-NodeTable.field-0-is (c.in-Ok-NodeTable.ensures.output at.command at.has.values at.has.are)) in
-    let prints : Prints r (node_text c.in-Ok-NodeTable.tables c.in-Ok-NodeTable.node) = record { command = at.command; values = at.has.values; has = has; puts = puts } in
+    let prints : Prints r (node_text c.in-Ok-NodeTable.tables c.in-Ok-NodeTable.node) = record { command = at.command; values = at.has.values; has = has; puts = puts.1 } in
     written_lawful r (node_text c.in-Ok-NodeTable.tables c.in-Ok-NodeTable.node) c.write_node.result prints (packed (g.O.Sink.state c.args.out.now) (g.O.Sink.state c.write_node.new.sink) (node_text c.in-Ok-NodeTable.tables c.in-Ok-NodeTable.node) c.write_node.result c.write_node.ensures.whole c.write_node.ensures.part c.write_node.ensures.cause (λ e. ap g.O.Sink.state (c.write_node.ensures.same e))) c.end-in-Ok-NodeTable.ensures
 
 pub returns-in-Ok-Pack-clause-lawful : goal.returns-in-Ok-Pack-clause-lawful
