@@ -115,7 +115,7 @@ fn run_without<'a>(rt: &'a HostRuntime, fault: WordsFault) -> Ended<'a>
 }
 
 /// A run of these words, or, where there are none, one that says why.
-fn ended<'a>(rt: &'a HostRuntime, words: Result<Vec<String>, WordsFault>) -> Ended<'a>
+fn outcome<'a>(rt: &'a HostRuntime, words: Result<Vec<String>, WordsFault>) -> Ended<'a>
     ensures of_words { IfOk words (λ all. IsLawful (program_run (map string_bytes all.items) (shelf_of result.shelf) (sink_of result.out)
         (sink_of result.err) result.status)) }
     ensures without { IfErr words (λ fault. EndsWithout fault (shelf_of result.shelf) (sink_of result.out) (sink_of result.err) result.status) }
@@ -128,5 +128,5 @@ fn ended<'a>(rt: &'a HostRuntime, words: Result<Vec<String>, WordsFault>) -> End
 
 fn main(rt: HostRuntime) -> ExitCode {
     let words = words(rt.alloc(), env::args(&rt));
-    ExitCode::from(ended(&rt, words).status)
+    ExitCode::from(outcome(&rt, words).status)
 }
