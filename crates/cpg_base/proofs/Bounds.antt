@@ -3,12 +3,12 @@ use Rattle.std.proofs.Common.{ℕ, ◌+◌, ◌*◌, ◌<◌, ◌≤◌, ◌≡�
 use Rattle.std.proofs.lemmas.Bool.{cases_lt}
 use Rattle.std.proofs.lemmas.List.{get_or_past}
 use Rattle.std.specs.Int.{div_ceil}
-use Rattle.std.proofs.lemmas.Grind.{common_steps}
 use Rattle.std.proofs.lemmas.List.Sums.{sum_by-le, get_or-le-sum_by}
 use Rattle.cpg_base.specs.Graph.{Graph, Process, Slot, process_count, process_at}
 use Rattle.cpg_base.specs.Bus.{round, slot_place, slot_length}
 use Rattle.cpg_base.specs.Duration.{duration_of, duration}
 use Rattle.cpg_base.specs.Limits.{IsProcessWithin, IsWithinLimits}
+use Rattle.cpg_base.proofs.Durations.{product_within, part_within}
 
 pub round-le : (g : Graph) → IsWithinLimits g → round g ≤ 16000000000
 round-le g within = omega (arith, sum_by-le (λ (s : Slot). s.length) 1000000000 g.slots (λ k d l. (within.slots k d l).length), within.few_slots)
@@ -20,17 +20,11 @@ slot_length-le g node = elim (cases_lt (slot_place g node) (length g.slots)) [
   | inr l ↦ let e : slot_length g node ≡ 0 = ap (λ (s : Slot). s.length) (get_or_past g.slots (slot_place g node) _ l) in omega arith
 ]
 
-product-le : (a b c d : ℕ) → a ≤ c → b ≤ d → a * b ≤ c * d
-product-le a b c d h k = grind (arith, common_steps)
-
-part-le : (w p : ℕ) → 1 ≤ p → div_ceil w p ≤ w
-part-le w p h = grind (arith, common_steps)
-
 pub duration_of-le : (nodes : ℕ) (p : Process) (f : ℕ) → IsProcessWithin nodes p → f ≤ 8 → duration_of p f ≤ 600000000000
 duration_of-le nodes p f within few =
-    let checks = product-le p.parts (p.alpha + p.chi) 255 2000000000 within.parts (omega (arith, within.alpha, within.chi)) in
-    let part = part-le p.wcet p.parts within.divided in
-    let again = product-le f (p.mu + div_ceil p.wcet p.parts + p.alpha) 8 3000000000 few (omega (arith, within.mu, within.alpha, within.wcet)) in
+    let checks = product_within p.parts (p.alpha + p.chi) 255 2000000000 within.parts (omega (arith, within.alpha, within.chi)) in
+    let part = part_within p.wcet p.parts within.divided in
+    let again = product_within f (p.mu + div_ceil p.wcet p.parts + p.alpha) 8 3000000000 few (omega (arith, within.mu, within.alpha, within.wcet)) in
     omega (arith, within.wcet)
 
 pub duration-le : (g : Graph) (p f : ℕ) → IsWithinLimits g → p < process_count g → f ≤ 8 → duration g p f ≤ 600000000000

@@ -8,10 +8,10 @@ use Rattle.cpg_base.specs.Graph.{Graph, process_count, process_at}
 use Rattle.cpg_base.specs.Duration.{duration}
 use Rattle.cpg_base.specs.Limits.{IsProcessWithin, IsWithinLimits}
 
-product_within : (a b m n : ℕ) → a ≤ m → b ≤ n → a * b ≤ m * n
+pub product_within : (a b m n : ℕ) → a ≤ m → b ≤ n → a * b ≤ m * n
 product_within a b m n h k = mul-le-mul h k
 
-part_within : (work parts : ℕ) → 1 ≤ parts → div_ceil work parts ≤ work
+pub part_within : (work parts : ℕ) → 1 ≤ parts → div_ceil work parts ≤ work
 part_within work parts h = elim (cases_lt work (div_ceil work parts)) [
   | inl l ↦
       let whole = (div_ceil_times work parts h).1 in

@@ -2,7 +2,6 @@
 use Rattle.std.proofs.Common.{ℕ, zero, suc, ◌+◌, ◌-◌, ◌*◌, ◌^◌, ◌<◌, ◌≤◌, ◌≡◌, ◌==◌, inl, inr, Bool, true, false, cond, ◌&&◌, ◌||◌, List, [], ◌++◌, length, filter, map, sum_by, is_some, option_to_list, Contains, refl, sym, ap, ap₂, ◌∙◌, subst, arith, ne_eqb, ⊎_elim}
 use Rattle.std.specs.Prelude.{nat_lt}
 use Rattle.std.specs.List.{flat_map}
-use Rattle.std.proofs.Math.Nat.{mul-le-mul}
 use Rattle.std.proofs.lemmas.Bool.{and_from, and_right, both_ways, lt-ltb, le-ltb, cond-true, cond-false}
 use Rattle.std.proofs.lemmas.List.Elements.{Contains-append_cases}
 use Rattle.std.proofs.lemmas.List.Sums.{sum_by_push, length-filter}
@@ -26,6 +25,7 @@ use Rattle.cpg_reach.specs.Wide.{IsNarrow}
 use Rattle.cpg_gen.specs.Generated.{generated}
 use Rattle.cpg_gen.proofs.Limits.{edge_there, processes_count, edges_count, few_conditions}
 use Rattle.cpg_gen_laws.proofs.Kept.{filter_long, powers_few, outcomes_few}
+use Rattle.cpg_base.proofs.Durations.{product_within}
 
 -- ---- numbers
 
@@ -38,9 +38,6 @@ ways_of_processes =
 
 product_few : (p w : ℕ) → p ≤ 4 → w ≡ 1891 → p * w ≤ 7564
 product_few p w l e = subst (λ v. p * v ≤ 7564) (sym e) (omega (arith, l))
-
-times : (a b m n : ℕ) → a ≤ m → b ≤ n → a * b ≤ m * n
-times a b m n l h = mul-le-mul l h
 
 -- ---- lists of values alone
 
@@ -180,18 +177,18 @@ module _ (number : ℕ) where
         let all = few_views (reach_of r x) in
         elim (item_cases (generated number) x l) [
           | inl c ↦ (let rows = ap (rows_of_item (generated number)) c.1 in
-              let product = times (views (generated number) (reach_of r x)) (rows_of_item (generated number) (item_at (generated number) x)) 7564 1 all (omega (arith, rows)) in
+              let product = product_within (views (generated number) (reach_of r x)) (rows_of_item (generated number) (item_at (generated number) x)) 7564 1 all (omega (arith, rows)) in
               let most = bound_of_start x (omega (arith, c.0, count)) in
               omega (arith, product, most))
           | inr (inl c) ↦ (let rows = ap (rows_of_item (generated number)) c.3 in
               let two = few_rows (is_message (generated number) c.0) 2 in
               let four : views (generated number) (reach_of r x) ≤ 4 = subst (λ y. views (generated number) (reach_of r y) ≤ 4) (sym c.2) (message_views c.0 c.1) in
-              let product = times (views (generated number) (reach_of r x)) (rows_of_item (generated number) (item_at (generated number) x)) 4 2 four (omega (arith, rows, two)) in
+              let product = product_within (views (generated number) (reach_of r x)) (rows_of_item (generated number) (item_at (generated number) x)) 4 2 four (omega (arith, rows, two)) in
               let most = bound_of_message x (omega (arith, c.2, count)) (omega (arith, c.1, c.2, count, edges)) in
               omega (arith, product, most))
           | inr (inr c) ↦ (let rows = ap (rows_of_item (generated number)) c.3 in
               let four = few_rows (nat_lt 1 4) 4 in
-              let product = times (views (generated number) (reach_of r x)) (rows_of_item (generated number) (item_at (generated number) x)) 7564 4 all (omega (arith, rows, four)) in
+              let product = product_within (views (generated number) (reach_of r x)) (rows_of_item (generated number) (item_at (generated number) x)) 7564 4 all (omega (arith, rows, four)) in
               let most = bound_of_broadcast x (omega (arith, c.2, count, edges)) in
               omega (arith, product, most))
         ]

@@ -9,7 +9,12 @@ use Rattle.cpg_head.specs.Head.{Head, HeadProcess, Extra}
 
 -- what a head says of a process
 abbrev pub head_process : Graph → ℕ → HeadProcess
-head_process g p = record { name = (process_at g p).name; node = node_of g p; condition = is_some (condition_of g p); times = map (duration g p) (numbers_below (g.faults + 1)) }
+head_process g p = record {
+  name = (process_at g p).name;
+  node = node_of g p;
+  condition = is_some (condition_of g p);
+  times = map (duration g p) (numbers_below (g.faults + 1));
+}
 
 -- what it says beside in version 2
 abbrev pub extra_of : Process → Extra

@@ -28,7 +28,8 @@ InstancesHaveScenarios = (whole : ℕ) (parts : List Part) (p i : ℕ) (s : Scen
 abbrev pub InstancesLastAsLong : Type 0
 InstancesLastAsLong = (whole : ℕ) (parts : List Part) (p i q : ℕ) (s : Scenario) → IsInstance whole parts p i →
     q < size_of (part_at parts p) → IsScenario (unrolled whole parts) s
-    → duration (unrolled whole parts) (first_of whole parts p i + q) (fault_of s (first_of whole parts p i + q)) ≡ duration (part_at parts p).problem q (fault_of (scenario_of whole parts p i s) q)
+    → duration (unrolled whole parts) (first_of whole parts p i + q) (fault_of s (first_of whole parts p i + q))
+    ≡ duration (part_at parts p).problem q (fault_of (scenario_of whole parts p i s) q)
 
 -- an instance's edges are the copies of its part's, from its first process on
 abbrev pub InstancesHaveEdges : Type 0
@@ -48,7 +49,8 @@ InstancesHaveConditions = (whole : ℕ) (parts : List Part) (p i q : ℕ) → Ar
 abbrev pub InstancesAreActivatedAlike : Type 0
 InstancesAreActivatedAlike = (whole : ℕ) (parts : List Part) (p i q : ℕ) (s : Scenario) (order : List ℕ) → AreWithinLimits parts →
     IsInstance whole parts p i → q < size_of (part_at parts p) → IsTopological (unrolled whole parts) order
-    → activation (unrolled whole parts) s.values (first_of whole parts p i + q) ≡ copied_activation (first_edge_of whole parts p i) (activation (part_at parts p).problem (scenario_of whole parts p i s).values q)
+    → activation (unrolled whole parts) s.values (first_of whole parts p i + q)
+    ≡ copied_activation (first_edge_of whole parts p i) (activation (part_at parts p).problem (scenario_of whole parts p i s).values q)
 
 -- and so it is active in the same scenarios
 abbrev pub InstancesAreActiveAlike : Type 0
@@ -78,4 +80,5 @@ abbrev pub ValidTablesKeepPeriods : Type 0
 ValidTablesKeepPeriods = (whole : ℕ) (parts : List Part) (p i q : ℕ) (s : Scenario) (tables : List NodeTable) (start : ℕ) →
     IsInstance whole parts p i → q < size_of (part_at parts p) → IsScenario (unrolled whole parts) s → IsValid (unrolled whole parts) tables
     → Contains (at tables (first_of whole parts p i + q) s) start
-    → KeepsPeriod (part_at parts p) i q start (start + duration (unrolled whole parts) (first_of whole parts p i + q) (fault_of s (first_of whole parts p i + q)))
+    → KeepsPeriod (part_at parts p) i q start
+    (start + duration (unrolled whole parts) (first_of whole parts p i + q) (fault_of s (first_of whole parts p i + q)))

@@ -15,7 +15,11 @@ name_in p i name = decimal p ++ codes "." ++ decimal i ++ codes "." ++ name
 
 -- the copy of a process, whose times count from the begin of its instance
 abbrev pub copied_process : ℕ → ℕ → Part → Process → Process
-copied_process p i part q = record q { name = name_in p i q.name; release = i * part.period + q.release; deadline = Some (i * part.period + lesser_due part.problem.deadline q.deadline) }
+copied_process p i part q = record q {
+  name = name_in p i q.name;
+  release = i * part.period + q.release;
+  deadline = Some (i * part.period + lesser_due part.problem.deadline q.deadline);
+}
 
 -- the copy of an edge, whose instance's first process has this number
 abbrev pub copied_edge : ℕ → Edge → Edge
@@ -67,4 +71,11 @@ first_graph (part ∷ parts) = part.problem
 -- all parts over the whole: the first part's faults, nodes and slots, and the whole as deadline
 abbrev pub unrolled : ℕ → List Part → Graph
 unrolled whole parts =
-    record { faults = (first_graph parts).faults; deadline = whole; nodes = (first_graph parts).nodes; slots = (first_graph parts).slots; processes = processes_from whole 0 parts; edges = edges_from whole 0 parts }
+    record {
+      faults = (first_graph parts).faults;
+      deadline = whole;
+      nodes = (first_graph parts).nodes;
+      slots = (first_graph parts).slots;
+      processes = processes_from whole 0 parts;
+      edges = edges_from whole 0 parts;
+    }

@@ -76,7 +76,8 @@ abbrev pub ranges_of : Table → List Range
 ranges_of tables.Top = range Faults 0 MOST_FAULTS ∷ range Deadline 0 LONGEST ∷ []
 ranges_of tables.Node = []
 ranges_of tables.Slot = range Length 1 LONGEST ∷ range Bytes 1 LARGEST ∷ []
-ranges_of tables.Process = range Wcet 1 LONGEST ∷ range Parts 1 MOST_PARTS ∷ range Alpha 0 LONGEST ∷ range Chi 0 LONGEST ∷ range Mu 0 LONGEST ∷ range Release 0 LONGEST ∷ range Deadline 0 LONGEST ∷ []
+ranges_of tables.Process = range Wcet 1 LONGEST ∷ range Parts 1 MOST_PARTS ∷ range Alpha 0 LONGEST ∷ range Chi 0 LONGEST ∷ range Mu 0 LONGEST
+    ∷ range Release 0 LONGEST ∷ range Deadline 0 LONGEST ∷ []
 ranges_of tables.Edge = range Bytes 1 LARGEST ∷ []
 
 -- an integer stands there that is outside its range

@@ -78,7 +78,8 @@ abbrev pub slot_fields : List Field
 slot_fields = needed_name Node ∷ needed_integer Length ∷ needed_integer Bytes ∷ []
 
 abbrev pub process_fields : List Field
-process_fields = needed_name Name ∷ needed_name Node ∷ needed_integer Wcet ∷ integer Parts ∷ integer Alpha ∷ integer Chi ∷ integer Mu ∷ flag Join ∷ flag Frozen ∷ integer Release ∷ integer Deadline ∷ []
+process_fields = needed_name Name ∷ needed_name Node ∷ needed_integer Wcet ∷ integer Parts ∷ integer Alpha ∷ integer Chi ∷ integer Mu
+    ∷ flag Join ∷ flag Frozen ∷ integer Release ∷ integer Deadline ∷ []
 
 abbrev pub edge_fields : List Field
 edge_fields = needed_name From ∷ needed_name To ∷ integer Bytes ∷ flag When ∷ flag Frozen ∷ []
@@ -116,7 +117,8 @@ too_many limit what xs = unless (nat_le (length xs) limit) (OverLimit what)
 
 abbrev pub out_of_range : Table → ℕ → List Bounded → List ReadFault
 out_of_range table i [] = []
-out_of_range table i (n ∷ ns) = unless (is_within n.low n.high n.value) (OverLimit (Number (record { table = table; index = i; key = n.key }))) ++ out_of_range table i ns
+out_of_range table i (n ∷ ns) = unless (is_within n.low n.high n.value)
+    (OverLimit (Number (record { table = table; index = i; key = n.key }))) ++ out_of_range table i ns
 
 abbrev pub all_out_of_range : {T : Type 0} → Table → (T → List Bounded) → List T → List ReadFault
 all_out_of_range table numbers_of xs = of_each (λ i x. out_of_range table i (numbers_of x)) 0 xs
@@ -137,10 +139,12 @@ limit_faults g = too_many MOST_NODES Nodes g.nodes
 -- a name that stands among those before it
 abbrev pub doubles_from : Table → Key → ℕ → List (List ℕ) → List (List ℕ) → List ReadFault
 doubles_from table key i earlier [] = []
-doubles_from table key i earlier (name ∷ names) = unless (not (list_any (bytes_eq name) earlier)) (DoubleName (place table i key)) ++ doubles_from table key (i + 1) (earlier ++ name ∷ []) names
+doubles_from table key i earlier (name ∷ names) = unless (not (list_any (bytes_eq name) earlier)) (DoubleName (place table i key))
+    ++ doubles_from table key (i + 1) (earlier ++ name ∷ []) names
 
 abbrev pub double_faults : RawGraph → List ReadFault
-double_faults g = doubles_from tables.Node Name 0 [] g.nodes ++ (doubles_from tables.Slot Node 0 [] (slot_names g.slots) ++ doubles_from tables.Process Name 0 [] (process_names g.processes))
+double_faults g = doubles_from tables.Node Name 0 [] g.nodes
+    ++ (doubles_from tables.Slot Node 0 [] (slot_names g.slots) ++ doubles_from tables.Process Name 0 [] (process_names g.processes))
 
 -- ---- names that name nothing
 

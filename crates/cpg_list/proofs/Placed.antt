@@ -16,17 +16,13 @@ use Rattle.cpg_base.specs.Numbers.{numbers_below}
 use Rattle.cpg_base.proofs.Lists.{map_below_push}
 use Rattle.cpg_list.specs.FirstAlike.{AreFirstPlaces}
 use Rattle.cpg_list.specs.Placed.{place_in, with_place, GetsPlace}
+use Rattle.cpg_merging.proofs.MergingOrder.{equal_from}
 
 -- numbers are told one after another behind others
 pub map_below_after : (f : ℕ → ℕ) (before xs more : List ℕ) (v n : ℕ) → xs ≡ before ++ map f (numbers_below n) → v ≡ f n → more ≡ xs ++ v ∷ [] → more ≡ before ++ map f (numbers_below (n + 1))
 map_below_after f before xs more v n is new pushed =
     pushed ∙ ap (λ ys. ys ++ v ∷ []) is ∙ append_assoc before (map f (numbers_below n)) (v ∷ [])
     ∙ ap (λ ys. before ++ ys) (map_below_push f (map f (numbers_below n)) (map f (numbers_below n) ++ v ∷ []) v n refl new refl)
-
-equal_at : (o : Ordering) → is_eq o ≡ true → o ≡ Equal
-equal_at Less e = cc
-equal_at Equal e = refl
-equal_at Greater e = cc
 
 same_some : (a b : ℕ) → Some a ≡ Some b → a ≡ b
 same_some a b e = cc
@@ -35,7 +31,7 @@ module _ (P : Vec ℕ × ℕ → Type 0) where
   placed_found : (f : Vec ℕ → Ordering) (es : List (Vec ℕ × ℕ)) (i : ℕ) → All P es → lookup (is_at f) es ≡ Some i → (k : Vec ℕ) × (f k ≡ Equal) × P (k, i)
   placed_found f [] i a e = absurd (none-some i e)
   placed_found f (x ∷ es) i a e = elim (cases_Bool (is_at f x.0)) [
-    | inl t ↦ (x.0, equal_at (f x.0) t, subst (λ n. P (x.0, n)) (same_some x.1 i (sym (lookup_head (is_at f) x es t) ∙ e)) (All-head P x es a))
+    | inl t ↦ (x.0, equal_from (f x.0) t, subst (λ n. P (x.0, n)) (same_some x.1 i (sym (lookup_head (is_at f) x es t) ∙ e)) (All-head P x es a))
     | inr t ↦ placed_found f es i (All-tail P x es a) (sym (lookup_tail (is_at f) x es t) ∙ e)
   ]
 

@@ -39,5 +39,6 @@ DecidingIsActive = (g : Graph) (order : List ℕ) → IsUrgencyOrder g order →
 
 -- two outcomes that agree on each condition that decides a process in the first give it the same activation
 abbrev pub DecidingFixesActivation : Type 0
-DecidingFixesActivation = (g : Graph) (order : List ℕ) → IsUrgencyOrder g order → (a b : List Bool) (p : ℕ) → length a ≡ condition_count g → length b ≡ condition_count g →
+DecidingFixesActivation = (g : Graph) (order : List ℕ) → IsUrgencyOrder g order → (a b : List Bool) (p : ℕ) →
+    length a ≡ condition_count g → length b ≡ condition_count g →
     agree_on (deciding g a p) a b ≡ true → activation g a p ≡ activation g b p

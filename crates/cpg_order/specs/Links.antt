@@ -11,4 +11,8 @@ pub record EdgeLists : Type 0 where
 
 -- those of a graph
 abbrev pub links_of : Graph → EdgeLists
-links_of g = record { count = process_count g; inputs = map (inputs g) (numbers_below (process_count g)); outputs = map (outputs g) (numbers_below (process_count g)) }
+links_of g = record {
+  count = process_count g;
+  inputs = map (inputs g) (numbers_below (process_count g));
+  outputs = map (outputs g) (numbers_below (process_count g));
+}

@@ -21,7 +21,8 @@ most_tracks = MOST_TRACKS
 
 -- at the first condition in urgency order at which they differ, the first outcome is false
 abbrev pub is_outcome_before : Graph → List Bool → List Bool → Bool
-is_outcome_before g o p = list_any (λ c. not (get_or o c false) && get_or p c false && agree_on (earlier_conditions g c) o p) (numbers_below (condition_count g))
+is_outcome_before g o p = list_any
+    (λ c. not (get_or o c false) && get_or p c false && agree_on (earlier_conditions g c) o p) (numbers_below (condition_count g))
 
 -- every track once, in order
 pub record AreTracks (g : Graph) (tracks : List (List Bool)) : Type 0 where

@@ -29,7 +29,8 @@ fn has_each(alloc: Global, list: &[u32]) -> Result<bool, OutOfMemory>
 /// Whether each edge leads to a later place.
 fn is_forward(problem: &Problem, order: &Order) -> bool
     requires { length order.now ≡ process_count problem.now }
-    ensures { IsTrue result ↔ ((e : ℕ) → Contains (numbers_below (edge_count problem.now)) e → IsTrue (comes_before order.now (source problem.now e) (target problem.now e))) }
+    ensures { IsTrue result ↔ ((e : ℕ) → Contains (numbers_below (edge_count problem.now)) e →
+        IsTrue (comes_before order.now (source problem.now e) (target problem.now e))) }
 {
     for edge in problem.edges() {
         if order.place(edge.from) >= order.place(edge.to) {

@@ -75,7 +75,8 @@ fn release_all(
     requires ready { AreReady waiting.old.items ready.old.items }
     ensures ready { OnOk result (AreReady waiting.new.items ready.new.items) }
     ensures long { OnOk result (length waiting.new.items ≡ length waiting.old.items) }
-    ensures waiting { OnOk result ((p : ℕ) → get_or waiting.new.items p 0 + length (filter (λ e. target problem.now e == p) edges.now) ≡ get_or waiting.old.items p 0) }
+    ensures waiting { OnOk result ((p : ℕ) →
+        get_or waiting.new.items p 0 + length (filter (λ e. target problem.now e == p) edges.now) ≡ get_or waiting.old.items p 0) }
     ensures longer { OnOk result ((more : List ℕ) × (ready.new.items ≡ ready.old.items ++ more)) }
 {
     for edge in edges {

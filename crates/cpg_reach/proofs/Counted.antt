@@ -47,9 +47,6 @@ module _ (g : Graph) (reached : List ℕ) where
 pub set_back : (o : List Bool) (c : ℕ) (a b : Bool) → b ≡ get_or o c false → set (set o c a) c b ≡ o
 set_back o c a b e = set-set o c a b ∙ ap (set o c) e ∙ set-get_or o c false
 
-pub all_parts : {X : Type 0} (P : X → Type 0) (x : X) (whole rest : List X) → whole ≡ x ∷ rest → All P whole → P x × All P rest
-all_parts P x whole rest is h = let k : All P (x ∷ rest) = subst (All P) is h in (k 0 x (omega arith), λ i d l. k (suc i) d (omega arith))
-
 -- a scenario whose value is set, and then as it was
 pub scenario_back : (s a b d e : Scenario) (c : ℕ) (on was : Bool) → a ≡ s → b ≡ record a { values = set a.values c on } → d ≡ b → was ≡ get_or a.values c false → e ≡ record d { values = set d.values c was } → e ≡ s
 scenario_back s a b d e c on was first set_on stays old last = last

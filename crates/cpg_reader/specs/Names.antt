@@ -47,7 +47,19 @@ slot_of nodes i s = do
 unfoldable pub process_of : List (List ℕ) → ℕ → RawProcess → Reading Process
 process_of nodes i p = do
   node ← number_of nodes (place tables.Process i Node) p.node
-  pure (record { name = p.name; node = node; wcet = natural p.wcet; parts = natural p.parts; alpha = natural p.alpha; chi = natural p.chi; mu = natural p.mu; join = p.join; frozen = p.frozen; release = natural p.release; deadline = option_map natural p.deadline })
+  pure (record {
+    name = p.name;
+    node = node;
+    wcet = natural p.wcet;
+    parts = natural p.parts;
+    alpha = natural p.alpha;
+    chi = natural p.chi;
+    mu = natural p.mu;
+    join = p.join;
+    frozen = p.frozen;
+    release = natural p.release;
+    deadline = option_map natural p.deadline;
+  })
 
 unfoldable pub edge_of : List (List ℕ) → ℕ → RawEdge → Reading Edge
 edge_of processes i e = do
@@ -62,7 +74,14 @@ abbrev pub process_names : List RawProcess → List (List ℕ)
 process_names processes = map (λ p. p.name) processes
 
 abbrev pub graph_with : RawGraph → List Slot → List Process → List Edge → Graph
-graph_with g slots processes edges = record { faults = natural g.faults; deadline = natural g.deadline; nodes = g.nodes; slots = slots; processes = processes; edges = edges }
+graph_with g slots processes edges = record {
+  faults = natural g.faults;
+  deadline = natural g.deadline;
+  nodes = g.nodes;
+  slots = slots;
+  processes = processes;
+  edges = edges;
+}
 
 -- the graph of a document in which no name is double: each names something
 unfoldable pub resolved : RawGraph → Reading Graph

@@ -13,7 +13,19 @@ abbrev pub raw_slot : List (List ℕ) → Slot → RawSlot
 raw_slot nodes s = record { node = get_or nodes s.node []; length = pos s.length; bytes = pos s.bytes }
 
 abbrev pub raw_process : List (List ℕ) → Process → RawProcess
-raw_process nodes p = record { name = p.name; node = get_or nodes p.node []; wcet = pos p.wcet; parts = pos p.parts; alpha = pos p.alpha; chi = pos p.chi; mu = pos p.mu; join = p.join; frozen = p.frozen; release = pos p.release; deadline = option_map pos p.deadline }
+raw_process nodes p = record {
+  name = p.name;
+  node = get_or nodes p.node [];
+  wcet = pos p.wcet;
+  parts = pos p.parts;
+  alpha = pos p.alpha;
+  chi = pos p.chi;
+  mu = pos p.mu;
+  join = p.join;
+  frozen = p.frozen;
+  release = pos p.release;
+  deadline = option_map pos p.deadline;
+}
 
 abbrev pub raw_edge : List (List ℕ) → Edge → RawEdge
 raw_edge names e = record { from = get_or names e.from []; to = get_or names e.to []; bytes = pos e.size; when = e.when; frozen = e.frozen }
@@ -23,4 +35,11 @@ abbrev pub names_of : List Process → List (List ℕ)
 names_of processes = map (λ p. p.name) processes
 
 abbrev pub raw_of : Graph → RawGraph
-raw_of g = record { faults = pos g.faults; deadline = pos g.deadline; nodes = g.nodes; slots = map (raw_slot g.nodes) g.slots; processes = map (raw_process g.nodes) g.processes; edges = map (raw_edge (names_of g.processes)) g.edges }
+raw_of g = record {
+  faults = pos g.faults;
+  deadline = pos g.deadline;
+  nodes = g.nodes;
+  slots = map (raw_slot g.nodes) g.slots;
+  processes = map (raw_process g.nodes) g.processes;
+  edges = map (raw_edge (names_of g.processes)) g.edges;
+}

@@ -43,7 +43,19 @@ process_at row = do
   release ← integer_or (pos 0) row Release
   deadline ← optional as_integer row Deadline
   only (Name ∷ Node ∷ Wcet ∷ Parts ∷ Alpha ∷ Chi ∷ Mu ∷ Join ∷ Frozen ∷ Release ∷ Deadline ∷ []) row
-  pure (record { name = name; node = node; wcet = wcet; parts = parts; alpha = alpha; chi = chi; mu = mu; join = join; frozen = frozen; release = release; deadline = deadline })
+  pure (record {
+    name = name;
+    node = node;
+    wcet = wcet;
+    parts = parts;
+    alpha = alpha;
+    chi = chi;
+    mu = mu;
+    join = join;
+    frozen = frozen;
+    release = release;
+    deadline = deadline;
+  })
 
 -- what a process has beside its names, and the end of its table
 unfoldable pub work_at : Row → Reading RawWork
@@ -62,7 +74,19 @@ work_at row = do
 
 -- a process of these names
 abbrev pub process_with : List ℕ → List ℕ → RawWork → RawProcess
-process_with name node w = record { name = name; node = node; wcet = w.wcet; parts = w.parts; alpha = w.alpha; chi = w.chi; mu = w.mu; join = w.join; frozen = w.frozen; release = w.release; deadline = w.deadline }
+process_with name node w = record {
+  name = name;
+  node = node;
+  wcet = w.wcet;
+  parts = w.parts;
+  alpha = w.alpha;
+  chi = w.chi;
+  mu = w.mu;
+  join = w.join;
+  frozen = w.frozen;
+  release = w.release;
+  deadline = w.deadline;
+}
 
 unfoldable pub edge_at : Row → Reading RawEdge
 edge_at row = do
@@ -101,7 +125,14 @@ pub record RawGraph : Type 0 where
   pub edges : List RawEdge
 
 abbrev pub raw_view : RawProblem → RawGraph
-raw_view p = record { faults = p.faults; deadline = p.deadline; nodes = p.nodes.items; slots = p.slots.items; processes = p.processes.items; edges = p.edges.items }
+raw_view p = record {
+  faults = p.faults;
+  deadline = p.deadline;
+  nodes = p.nodes.items;
+  slots = p.slots.items;
+  processes = p.processes.items;
+  edges = p.edges.items;
+}
 
 -- the whole document: first the keys of the top, then each element of each list
 unfoldable pub raw_graph_at : Members → Reading RawGraph

@@ -32,11 +32,13 @@ slot_members nodes s =
 -- the end of a process's table
 abbrev pub process_low : List (List ℕ) → Process → Members
 process_low nodes p =
-    member (codes "node") (string (get_or nodes p.node [])) (member (codes "parts") (number p.parts) (member (codes "release") (number p.release) (member (codes "wcet") (number p.wcet) no_members)))
+    member (codes "node") (string (get_or nodes p.node []))
+    (member (codes "parts") (number p.parts) (member (codes "release") (number p.release) (member (codes "wcet") (number p.wcet) no_members)))
 
 abbrev pub process_middle : List (List ℕ) → Process → Members
 process_middle nodes p =
-    member (codes "frozen") (boolean p.frozen) (member (codes "join") (boolean p.join) (member (codes "mu") (number p.mu) (member (codes "name") (string p.name) (process_low nodes p))))
+    member (codes "frozen") (boolean p.frozen)
+    (member (codes "join") (boolean p.join) (member (codes "mu") (number p.mu) (member (codes "name") (string p.name) (process_low nodes p))))
 
 -- an own deadline, where there is one
 abbrev pub with_deadline : Option ℕ → Members → Members
@@ -58,8 +60,10 @@ edge_members processes e =
 
 -- the end of the document, after its numbers and its edges
 abbrev pub list_members : Graph → Members
-list_members g = member (codes "node") (tables node_members g.nodes) (member (codes "process") (tables (process_members g.nodes) g.processes) (member (codes "slot") (tables (slot_members g.nodes) g.slots) no_members))
+list_members g = member (codes "node") (tables node_members g.nodes)
+    (member (codes "process") (tables (process_members g.nodes) g.processes) (member (codes "slot") (tables (slot_members g.nodes) g.slots) no_members))
 
 -- the whole document
 abbrev pub graph_members : Graph → Members
-graph_members g = member (codes "deadline") (number g.deadline) (member (codes "edge") (tables (edge_members g.processes) g.edges) (member (codes "faults") (number g.faults) (list_members g)))
+graph_members g = member (codes "deadline") (number g.deadline)
+    (member (codes "edge") (tables (edge_members g.processes) g.edges) (member (codes "faults") (number g.faults) (list_members g)))

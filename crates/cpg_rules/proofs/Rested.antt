@@ -3,7 +3,7 @@ use Rattle.std.proofs.Common.{ℕ, zero, suc, ◌+◌, ◌<◌, ◌≤◌, ◌�
 use Rattle.std.specs.Bool.{nat_lt}
 use Rattle.std.specs.Prelude.{count_by}
 use Rattle.std.specs.List.{list_any, list_all}
-use Rattle.std.proofs.lemmas.Bool.{cases_eq, cases_lt}
+use Rattle.std.proofs.lemmas.Bool.{cases_eq, cases_lt, or_left, or_right, or_parts}
 use Rattle.std.proofs.lemmas.List.{get_or_past, get_or-replicate, length-replicate}
 use Rattle.std.proofs.lemmas.List.Sums.{length-filter}
 use Rattle.cpg_base.specs.declared.activation.Activation.{Activation}
@@ -23,18 +23,6 @@ use Rattle.cpg_rules.specs.Alternatives.{are_two_live, first_some, if_other, fou
 use Rattle.cpg_rules.proofs.Parts.{all_parts}
 use Rattle.cpg_rules.proofs.Along.{rest_first, rest_more}
 use Rattle.cpg_rules.proofs.Searched.{search_none, search_some}
-
-or_left : (a b : Bool) → a ≡ true → (a || b) ≡ true
-or_left true b h = refl
-or_left false b h = cc
-
-or_right : (a b : Bool) → b ≡ true → (a || b) ≡ true
-or_right true b h = refl
-or_right false b h = h
-
-or_none : (a b : Bool) → (a || b) ≡ false → (a ≡ false) × (b ≡ false)
-or_none true b h = cc
-or_none false b h = (refl, h)
 
 true_false : (a : Bool) → a ≡ true → a ≡ false → ⊥
 true_false true h k = cc
@@ -136,7 +124,7 @@ tracks_alike (step ∷ steps) s u alike = go (is_rested Conditions step (rested 
         (ap₂ (λ a n. if_both (choice a step.condition) n) (here_alike step (rested Conditions steps) s u alike)
         (later (settled s step true) (settled u step true) (next_alike step (rested Conditions steps) s u alike true)))
     go false e alike later =
-        let none = or_none (is_some step.condition) (are_reading (rested Conditions steps) step.process) e in
+        let none = or_parts (is_some step.condition) (are_reading (rested Conditions steps) step.process) e in
         let same = later (settled s step false) u (passed_alike step (rested Conditions steps) s u alike none.1 false) in
         let zero = not_chosen (activation_in s step) step.condition (tracks_from steps (settled s step true)) none.0 in
         omega (arith, same, zero)

@@ -1,7 +1,7 @@
 -- Inputs whose trees tell that no two of them are live at once never are.
 use Rattle.std.proofs.Common.{ℕ, zero, suc, ◌<◌, ◌≡◌, Bool, true, false, not, ◌&&◌, ◌||◌, ◌==◌, if◌then◌else◌, List, [], ◌∷◌, length, get_or, map, filter, Option, Some, None, Contains, All, arith, refl, sym, ap, ap₂, ◌∙◌, subst, eqb-true}
 use Rattle.std.specs.Bool.{nat_lt}
-use Rattle.std.proofs.lemmas.Bool.{both_ways, lt-ltb}
+use Rattle.std.proofs.lemmas.Bool.{both_ways, and_from, lt-ltb}
 use Rattle.std.proofs.lemmas.List.Elements.{Contains-get_or}
 use Rattle.cpg_base.specs.declared.activation.Activation.{Activation}
 use Rattle.cpg_base.specs.declared.activation.Activation.TheVariants.{Inactive, By}
@@ -28,10 +28,6 @@ either v true b f h = refl
 either true false b f h = h refl
 either false false b f h = absurd (both_ways false refl (f refl))
 
-both : (a b : Bool) → a ≡ true → b ≡ true → (a && b) ≡ true
-both true b h k = k
-both false b h k = cc
-
 module _ (o : List Bool) where
   -- whether a tree is active in the outcome
   abbrev on_in : Guard → Bool
@@ -56,7 +52,7 @@ module _ (o : List Bool) where
       own t h = either (get_or o c false) (off t) (on t) (λ e. at_off e t h) (λ e. at_on e t h)
 
       beside_at : (t : Guard) → on_in t ≡ true → beside ranks c off on t ≡ true
-      beside_at (Leaf b) h = both (is_active b) (off (Leaf b) || on (Leaf b)) h (own (Leaf b) h)
+      beside_at (Leaf b) h = and_from (is_active b) (off (Leaf b) || on (Leaf b)) h (own (Leaf b) h)
       beside_at (Test d low high) h = go (c == d) (nat_lt (rank ranks d) (rank ranks c)) refl
           (λ e. beside_at low (way_off d low high h e)) (λ e. beside_at high (way_on d low high h e))
         where
@@ -70,7 +66,7 @@ module _ (o : List Bool) where
           go false false e f k = own (Test d low high) h
 
     both_at : (s t : Guard) → on_in s ≡ true → on_in t ≡ true → are_both_live ranks s t ≡ true
-    both_at (Leaf a) t h k = both (is_active a) (is_live_somewhere t) h (somewhere_at t k)
+    both_at (Leaf a) t h k = and_from (is_active a) (is_live_somewhere t) h (somewhere_at t k)
     both_at (Test c off on) t h k = beside_at c (are_both_live ranks off) (are_both_live ranks on)
         (λ e u l. both_at off u (way_off c off on h e) l) (λ e u l. both_at on u (way_on c off on h e) l) t k
 

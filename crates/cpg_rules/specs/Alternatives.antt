@@ -45,7 +45,8 @@ found_from p [] standings = None
 found_from p (step ∷ steps) standings =
     if step.process == p
     then (if are_two_live standings step.inputs then Some standings else None)
-    else first_some (found_from p steps (settled standings step false)) (if_other (choice (activation_in standings step) step.condition) (found_from p steps (settled standings step true)))
+    else first_some (found_from p steps (settled standings step false))
+    (if_other (choice (activation_in standings step) step.condition) (found_from p steps (settled standings step true)))
 
 -- whether a process stands as active with a true condition
 abbrev pub is_set : Option Bool → Bool

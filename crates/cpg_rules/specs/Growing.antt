@@ -55,4 +55,5 @@ if_both (Some c) n = n
 abbrev pub tracks_from : List Step → List (Option Bool) → ℕ
 tracks_from [] standings = 1
 tracks_from (step ∷ steps) standings =
-    tracks_from steps (settled standings step false) + if_both (choice (activation_in standings step) step.condition) (tracks_from steps (settled standings step true))
+    tracks_from steps (settled standings step false)
+    + if_both (choice (activation_in standings step) step.condition) (tracks_from steps (settled standings step true))

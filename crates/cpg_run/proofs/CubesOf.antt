@@ -16,7 +16,7 @@ use Rattle.cpg_base.specs.Variable.{top}
 use Rattle.cpg_cube.specs.Fit.{lows}
 use Rattle.cpg_cube.proofs.Boxes.{number_within}
 use Rattle.cpg_cube.proofs.CubeLows.{holds-low, holds-high, holds-from, low_in-le, low_in-none}
-use Rattle.cpg_cube.proofs.Ranges.{range_of_literal}
+use Rattle.cpg_cube.proofs.Ranges.{range_of_literal, high_in-none}
 use Rattle.cpg_cube.proofs.Within.{high_in-ge}
 use Rattle.cpg_table.specs.Heard.{kept_low, kept_high}
 use Rattle.cpg_run.proofs.Hearing.{low_kept, high_kept, high_kept_top, kept_low_below, kept_high_above}
@@ -96,10 +96,6 @@ pub same_least : (g : Graph) (xs a b : List Literal) → IsCubeOf g.faults xs a 
 same_least g xs a b is other = same_lows g a b (λ v. is.low v ∙ sym (other.low v))
 
 -- ---- there is one
-
-high_in-none : (k : ℕ) (ls : List Literal) (v : ℕ) → ((l : Literal) → Contains ls l → l.variable ≢ v) → high_in k ls v ≡ top k v
-high_in-none k [] v h = refl
-high_in-none k (l ∷ ls) v h = cond-false (l.variable == v) l.high (high_in k ls v) (ne_eqb l.variable v (h l (Contains-first l ls))) ∙ high_in-none k ls v (λ m c. h m (Contains-rest l ls m c))
 
 module _ (k : ℕ) (literals : List Literal) where
   -- what is kept of a variable

@@ -25,7 +25,7 @@ use Rattle.cpg_run.specs.Progress.{IsSentBefore, IsSentBy, free_after, CanSend, 
 use Rattle.cpg_run.proofs.Bounded.{send_bounds_le}
 use Rattle.cpg_run.proofs.Mosts.{most_same}
 use Rattle.cpg_bus.proofs.Queued.{in_queue, queue-Contains, queue_rises, below_first, in_first, rank_at}
-use Rattle.cpg_run.proofs.Starts.{greatest_option}
+use Rattle.cpg_run.proofs.Starts.{greatest_option, both_ways_equal}
 
 -- the first k + 1 elements
 pub take_next : (xs : List ℕ) (k y : ℕ) → k < length xs → Contains (take (k + 1) xs) y → Contains (take k xs) y ⊎ (y ≡ get_or xs k 0)
@@ -46,9 +46,6 @@ in_next xs k y l c =
 
 pub Contains-take : (n : ℕ) (xs : List ℕ) (x : ℕ) → Contains (take n xs) x → Contains xs x
 Contains-take n xs x c = subst (λ ys. Contains ys x) (take-append-drop n xs) (Contains-append_left (take n xs) (drop n xs) x c)
-
-both_ways_equal : (a b : ℕ) → a ≤ b → b ≤ a → a ≡ b
-both_ways_equal a b h k = omega arith
 
 module _ (g : Graph) (order : List ℕ) (topological : IsTopological g order) (s : Scenario) (p : ℕ) (l : p < process_count g) where
   -- ---- what a node has sent before an item

@@ -30,7 +30,7 @@ greatest_option None = refl
 greatest_option (Some n) = greatest-cons n [] ∙ omega arith
 
 -- over plain numbers
-both_ways_equal : (a b : ℕ) → a ≤ b → b ≤ a → a ≡ b
+pub both_ways_equal : (a b : ℕ) → a ≤ b → b ≤ a → a ≡ b
 both_ways_equal a b h k = omega arith
 
 module _ (g : Graph) (order : List ℕ) (t : Times) (i : ℕ) (known : Times) (knows : Knows g order t i known) where

@@ -47,7 +47,8 @@ HasBadTable flags key ms = IsSomeAnd (get_member key ms) (IsNoTableOf flags)
 
 -- another key at the top, something else than a table at one, or an entry of another type
 abbrev pub HasBadField : Members → Type 0
-HasBadField ms = HasOtherKey top_keys ms ⊎ (HasBadTable false (codes "faults") ms ⊎ (HasBadTable true (codes "values") ms ⊎ HasBadTable false (codes "lengths") ms))
+HasBadField ms = HasOtherKey top_keys ms ⊎ (HasBadTable false (codes "faults") ms
+    ⊎ (HasBadTable true (codes "values") ms ⊎ HasBadTable false (codes "lengths") ms))
 
 -- a key of the table at a key is no process name
 abbrev pub HasBadName : Graph → List ℕ → Members → Type 0

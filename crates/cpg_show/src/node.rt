@@ -41,7 +41,8 @@ fn add_acts<'a>(
     labels: &Labels<'_>,
     rows: &'a [Row],
 ) -> Result<(), OutOfMemory>
-    ensures { OnOk result (flat_map (part_text labels.now) parts.new.items ≡ flat_map (part_text labels.now) parts.old.items ++ flat_map (act_row labels.now) rows.entry.now) }
+    ensures { OnOk result (flat_map (part_text labels.now) parts.new.items ≡ flat_map (part_text labels.now) parts.old.items
+        ++ flat_map (act_row labels.now) rows.entry.now) }
 {
     let alloc = *parts.allocator();
     for row in rows {
@@ -59,7 +60,8 @@ fn add_hears<'a>(
     labels: &Labels<'_>,
     rows: &'a [Row],
 ) -> Result<(), OutOfMemory>
-    ensures { OnOk result (flat_map (part_text labels.now) parts.new.items ≡ flat_map (part_text labels.now) parts.old.items ++ flat_map (hear_row labels.now) rows.entry.now) }
+    ensures { OnOk result (flat_map (part_text labels.now) parts.new.items ≡ flat_map (part_text labels.now) parts.old.items
+        ++ flat_map (hear_row labels.now) rows.entry.now) }
 {
     let alloc = *parts.allocator();
     for row in rows {

@@ -40,7 +40,8 @@ fn write_names(out: &mut String, labels: &Labels<'_>, order: &[u32]) -> Result<(
 }
 
 fn write_order(out: &mut String, labels: &Labels<'_>, order: &[u32]) -> Result<(), AllocError>
-    ensures { OnOk result (string_bytes out.new ≡ string_bytes out.old ++ (codes "order" ++ flat_map (λ p. codes " " ++ process_name labels.now p) order.now ++ codes "\n")) }
+    ensures { OnOk result (string_bytes out.new ≡ string_bytes out.old
+        ++ (codes "order" ++ flat_map (λ p. codes " " ++ process_name labels.now p) order.now ++ codes "\n")) }
 {
     out.push_str("order")?;
     write_names(out, labels, order)?;
@@ -109,7 +110,8 @@ fn front_of(
     order: &[u32],
     worst: u64,
 ) -> Result<String, OutOfMemory>
-    ensures { IfOk result (λ front. string_bytes front ≡ codes "order" ++ flat_map (λ p. codes " " ++ process_name labels.now p) order.now ++ codes "\n" ++ worst_line worst) }
+    ensures { IfOk result (λ front. string_bytes front ≡ codes "order" ++ flat_map (λ p. codes " " ++ process_name labels.now p) order.now
+        ++ codes "\n" ++ worst_line worst) }
 {
     let mut front = String::new(alloc);
     write_order(&mut front, labels, order)?;
@@ -148,8 +150,10 @@ pub fn write_table<O: Sink>(
     order: &Order,
     sink: &mut O,
 ) -> Result<(), WriteFault>
-    ensures whole { OnOk result (Took (O.state sink.old).taken (O.state sink.new).taken (table_text admitted.now.graph order.now built.now.tables.nodes built.now.worst)) }
-    ensures part { result ≡ Err WriteFault.Failed → TookPrefix (O.state sink.old).taken (O.state sink.new).taken (table_text admitted.now.graph order.now built.now.tables.nodes built.now.worst) }
+    ensures whole { OnOk result (Took (O.state sink.old).taken (O.state sink.new).taken
+        (table_text admitted.now.graph order.now built.now.tables.nodes built.now.worst)) }
+    ensures part { result ≡ Err WriteFault.Failed →
+        TookPrefix (O.state sink.old).taken (O.state sink.new).taken (table_text admitted.now.graph order.now built.now.tables.nodes built.now.worst) }
     ensures cause { result ≡ Err WriteFault.Failed → Rose (O.state sink.old).faults (O.state sink.new).faults }
     ensures same { result ≡ Err WriteFault.OutOfMemory → sink.new ≡ sink.old }
     ensures later { (O.state sink.old).faults ≤ (O.state sink.new).faults }

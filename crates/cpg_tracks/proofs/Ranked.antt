@@ -1,5 +1,5 @@
 -- The order by rests is the order by keys.
-use Rattle.std.proofs.Common.{ℕ, ◌+◌, ◌-◌, ◌^◌, ◌≡◌, ◌<◌, ◌++◌, ◌∷◌, [], ◌⊎◌, inl, inr, true, List, length, get_or, Contains, IsPermutation, arith, sym, ap, ◌∙◌, subst, ltb, ◌||◌, ◌&&◌, ◌==◌, ltb-true, eqb-true}
+use Rattle.std.proofs.Common.{ℕ, ◌+◌, ◌-◌, ◌^◌, ◌≡◌, ◌<◌, ◌++◌, ◌∷◌, [], inl, inr, true, List, length, get_or, Contains, IsPermutation, arith, sym, ap, ◌∙◌, subst, ltb, ◌||◌, ◌&&◌, ◌==◌, ltb-true, eqb-true}
 use Rattle.std.specs.List.{AllPairs}
 use Rattle.std.proofs.lemmas.Grind.{common_steps}
 use Rattle.std.proofs.lemmas.Bool.{cases_order, or_cases, and_parts}

@@ -1,6 +1,7 @@
 use Rattle.std.proofs.Common.{◌∙◌, ◌<◌, ap, length, length-set, arith, true}
 use Rattle.cpg_base.specs.Graph.{condition_count}
-use Rattle.cpg_reach.proofs.Counted.{all_parts, scenario_back}
+use Rattle.cpg_rules.proofs.Parts.{all_parts}
+use Rattle.cpg_reach.proofs.Counted.{scenario_back}
 use Rattle.cpg_reach.proofs.counting.+views_from.Goals as goal
 
 pub views_from-second-requires : goal.views_from-second-requires
