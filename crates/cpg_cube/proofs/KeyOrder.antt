@@ -13,7 +13,8 @@ use Rattle.std.proofs.lemmas.List.{length-map, map-append}
 use Rattle.cpg_cube.specs.Cube.{Literal, low_in}
 use Rattle.cpg_base.specs.Graph.{Graph, condition_of}
 use Rattle.cpg_base.specs.Numbers.{is_below, numbers_below}
-use Rattle.cpg_base.proofs.Below.{below_irreflexive, below_one_way, not_below_transitive}
+use Rattle.cpg_base.proofs.Below.{below_irreflexive, below_one_way, not_below_transitive, below-cons_less}
+use Rattle.cpg_base.proofs.Keyed.{cmp_less, cmp_same}
 use Rattle.cpg_base.proofs.Pairs.{AllPairs-map}
 use Rattle.cpg_cube.specs.Keys.{low_of_value, lows_of, lows_along, AreByLows, IsFirstByLows, IsFirstByKeys, variable_of_value, variables_of, variables_along, asked_from, key_along, key_by}
 use Rattle.cpg_cube.specs.declared.sorting.Ranked.{Ranked}
@@ -28,12 +29,6 @@ is_total {T} = ranks_by nat_list_cmp_total (λ (r : Ranked T). r.key.items)
 
 -- ---- keys tell the order of the lows that they are made of
 
-cmp_less : (x y : ℕ) → x < y → nat_cmp x y ≡ Less
-cmp_less x y l = cond-true (nat_lt x y) Less _ (lt-ltb x y l)
-
-cmp_same : (x : ℕ) → nat_cmp x x ≡ Equal
-cmp_same x = cond-false (nat_lt x x) Less _ (le-ltb x x (omega arith)) ∙ cond-true (x == x) Equal Greater (eq-eqb x x refl)
-
 cmp_more : (x y : ℕ) → y < x → nat_cmp x y ≡ Greater
 cmp_more x y l = cond-false (nat_lt x y) Less _ (le-ltb x y (omega (arith, l))) ∙ cond-false (x == y) Equal Greater (ne_eqb x y (λ e. omega (arith, e, l)))
 
@@ -45,10 +40,7 @@ asked_some left x xs n = cond-false (x == 0) _ _ (ne_eqb x 0 n)
 
 -- the first of two equal ones tell nothing
 same_first : (x : ℕ) (xs ys : List ℕ) → is_below (x ∷ xs) (x ∷ ys) ≡ is_below xs ys
-same_first x xs ys = ap (λ (o : Ordering). is_lt (ordering_then o (slice_cmp nat_cmp xs ys))) (cmp_same x)
-
-less_first : (x y : ℕ) (xs ys : List ℕ) → x < y → is_below (x ∷ xs) (y ∷ ys) ≡ true
-less_first x y xs ys l = ap (λ (o : Ordering). is_lt (ordering_then o (slice_cmp nat_cmp xs ys))) (cmp_less x y l)
+same_first x xs ys = ap (λ (o : Ordering). is_lt (ordering_then o (slice_cmp nat_cmp xs ys))) (cmp_same x x refl)
 
 more_first : (x y : ℕ) (xs ys : List ℕ) → y < x → is_below (x ∷ xs) (y ∷ ys) ≡ false
 more_first x y xs ys l = ap (λ (o : Ordering). is_lt (ordering_then o (slice_cmp nat_cmp xs ys))) (cmp_more x y l)
@@ -58,7 +50,7 @@ later_below : (left : ℕ) (xs : List ℕ) (first : ℕ) (rest : List ℕ) → l
 later_below left [] first rest l = refl
 later_below left (x ∷ xs) first rest l = elim (cases_eq x 0) [
   | inl e ↦ ap (λ (k : List ℕ). is_below k (first ∷ rest)) (asked_zero left x xs e) ∙ later_below (left - 1) xs first rest (omega (arith, l))
-  | inr n ↦ ap (λ (k : List ℕ). is_below k (first ∷ rest)) (asked_some left x xs n) ∙ less_first left first (x ∷ asked_from (left - 1) xs) rest l
+  | inr n ↦ ap (λ (k : List ℕ). is_below k (first ∷ rest)) (asked_some left x xs n) ∙ below-cons_less left first (x ∷ asked_from (left - 1) xs) rest l
 ]
 
 asked_below : (left : ℕ) (xs ys : List ℕ) → length xs ≡ length ys → length xs ≤ left → is_below xs ys ≡ true → is_below (asked_from left xs) (asked_from left ys) ≡ true
@@ -78,7 +70,7 @@ asked_below left (x ∷ xs) (y ∷ ys) long few h = elim (cases_order x y) [
       let there : asked_from left (y ∷ ys) ≡ left ∷ y ∷ asked_from (left - 1) ys = asked_some left y ys (λ z. omega (arith, l, z)) in
       elim (cases_eq x 0) [
         | inl z ↦ ap₂ is_below (asked_zero left x xs z) there ∙ later_below (left - 1) xs left (y ∷ asked_from (left - 1) ys) (omega (arith, few))
-        | inr n ↦ ap₂ is_below (asked_some left x xs n) there ∙ same_first left (x ∷ asked_from (left - 1) xs) (y ∷ asked_from (left - 1) ys) ∙ less_first x y (asked_from (left - 1) xs) (asked_from (left - 1) ys) l
+        | inr n ↦ ap₂ is_below (asked_some left x xs n) there ∙ same_first left (x ∷ asked_from (left - 1) xs) (y ∷ asked_from (left - 1) ys) ∙ below-cons_less x y (asked_from (left - 1) xs) (asked_from (left - 1) ys) l
       ]
   | inr (inr l) ↦ absurd (both_ways (is_below (x ∷ xs) (y ∷ ys)) (more_first x y xs ys l) h)
 ]

@@ -1,5 +1,5 @@
 -- A column of a row: a time, for the scenarios that its cube matches.
-use Rattle.std.specs.Prelude.{ℕ, List, map, filter}
+use Rattle.std.specs.Prelude.{ℕ, List, [], map, filter, get_or}
 use Rattle.cpg_base.specs.Scenario.{Scenario}
 use Rattle.cpg_cube.specs.Cube.{matches}
 use Rattle.cpg_cube.specs.declared.entry.Entry.{Entry}
@@ -11,3 +11,7 @@ Column = Entry
 -- the times of the columns that match in a scenario
 abbrev pub times_in : List Column → Scenario → List ℕ
 times_in columns s = map (λ c. c.time) (filter (λ c. matches c.cube s) columns)
+
+-- the column at a place
+abbrev pub column_at : List Column → ℕ → Column
+column_at columns i = get_or columns i (record { time = 0; cube = [] })

@@ -9,6 +9,7 @@ ghost use Rattle.cpg_cube.specs.Cube.{IsRising, holds, matches};
 ghost use Rattle.cpg_cube.specs.Rising.{rises_from};
 ghost use Rattle.cpg_cube.specs.Fit.{IsCube, IsKnown, is_met, lows, do_meet, both_lows, is_within, scenario_of};
 ghost use Rattle.cpg_cube.specs.Cover.{narrowed_by, range_left, with_literal};
+ghost use Rattle.cpg_cube.specs.Undo.{IsUndo, restored};
 
 use crate::Literal;
 use crate::bounds::{Bounds, budget_left};
@@ -36,6 +37,13 @@ impl Model for Cube {
     ghost view = { λ c. c.literals.items };
 
     ghost invariant = { λ c. IsRising c.literals.items };
+}
+
+/// What narrowed a cube: the place of the literal, and the one on its variable that was there.
+#[derive(Clone, Copy)]
+pub struct Narrowing {
+    place: usize,
+    was: Option<Literal>,
 }
 
 /// Whether each variable is greater than the one before.
@@ -74,30 +82,39 @@ fn is_above(literals: &[Literal], variable: u8) -> bool
 }
 
 /// Puts a literal in its place, or meets the one on its variable with it.
-fn narrow(literals: &mut SmallVec<Literal, FEW>, literal: Literal) -> Result<(), OutOfMemory>
-    ensures { IfOk result (λ _. literals.new.items ≡ narrowed_by literal literals.old.items) }
+fn narrow(literals: &mut SmallVec<Literal, FEW>, literal: Literal) -> Result<Narrowing, OutOfMemory>
+    ensures narrowed { IfOk result (λ _. literals.new.items ≡ narrowed_by literal literals.old.items) }
+    ensures undo { IfOk result (λ n. IsUndo n literals.new.items literals.old.items) }
+    ensures same { IfErr result (λ _. literals.new.items ≡ literals.old.items) }
 {
     let Some(place) = place_of(literals.as_slice(), literal.variable) else {
+        let place = literals.len();
         literals.push(literal)?;
-        return Ok(());
+        return Ok(Narrowing { place, was: None });
     };
     let other = literals.as_slice()[place];
     if other.variable == literal.variable {
         literals.as_mut_slice()[place] = literal.met(other);
-        return Ok(());
+        return Ok(Narrowing {
+            place,
+            was: Some(other),
+        });
     }
     literals.insert(place, literal)?;
-    Ok(())
+    Ok(Narrowing { place, was: None })
 }
 
 /// What `narrow` does, at once where the variable is above all others, as it mostly is along a path.
-fn put(literals: &mut SmallVec<Literal, FEW>, literal: Literal) -> Result<(), OutOfMemory>
+fn put(literals: &mut SmallVec<Literal, FEW>, literal: Literal) -> Result<Narrowing, OutOfMemory>
     requires { IsRising literals.old.items }
-    ensures { IfOk result (λ _. literals.new.items ≡ narrowed_by literal literals.old.items) }
+    ensures narrowed { IfOk result (λ _. literals.new.items ≡ narrowed_by literal literals.old.items) }
+    ensures undo { IfOk result (λ n. IsUndo n literals.new.items literals.old.items) }
+    ensures same { IfErr result (λ _. literals.new.items ≡ literals.old.items) }
 {
     if is_above(literals.as_slice(), literal.variable) {
+        let place = literals.len();
         literals.push(literal)?;
-        return Ok(());
+        return Ok(Narrowing { place, was: None });
     }
     narrow(literals, literal)
 }
@@ -221,17 +238,34 @@ impl Cube {
         Ok(Some(cube))
     }
 
-    /// What `with` answers, of a cube that isn't needed any more.
-    pub fn into_with(self, literal: Literal) -> Result<Option<Cube>, OutOfMemory>
-        ensures { IfOk result (λ r. r ≡ with_literal literal self) }
+    /// Becomes what `with` answers, and `None` exactly where that is none: then it stays as it is.
+    pub fn narrow(&mut self, literal: Literal) -> Result<Option<Narrowing>, OutOfMemory>
+        ensures narrowed { IfOk result (λ r. IfSome r (λ _. with_literal literal self.old ≡ Some self.new)) }
+        ensures undo { IfOk result (λ r. IfSome r (λ n. IsUndo n self.new self.old)) }
+        ensures none { IfOk result (λ r. IfNone r (with_literal literal self.old ≡ None)) }
+        ensures same { IfOk result (λ r. IfNone r (self.new ≡ self.old)) }
+        ensures rising { IsRising self.old }
     {
         let left = self.range_with(literal);
         if left.high < left.low {
             return Ok(None);
         }
-        let Cube { mut literals } = self;
-        put(&mut literals, literal)?;
-        Ok(Some(Cube { literals }))
+        let narrowed = put(&mut self.literals, literal)?;
+        Ok(Some(narrowed))
+    }
+
+    /// Becomes what it was before it was narrowed.
+    pub fn restore(&mut self, narrowed: Narrowing)
+        requires place { narrowed.place < length self.old }
+        requires rising { IsRising (restored narrowed self.old) }
+        ensures { self.new ≡ restored narrowed self.old }
+    {
+        match narrowed.was {
+            Some(literal) => self.literals.as_mut_slice()[narrowed.place] = literal,
+            None => {
+                self.literals.remove(narrowed.place);
+            }
+        }
     }
 
     /// Whether the cube matches some scenario of at most `k` faults.

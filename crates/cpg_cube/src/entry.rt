@@ -1,9 +1,9 @@
 //! A time with the scenarios that it is for.
-ghost use Rattle.std.specs.Prelude.{◌≡◌, IfOk};
+ghost use Rattle.std.specs.Prelude.{◌≡◌, IfOk, map};
 
 use crate::{Cube, Cubed};
 use cpg_base::OutOfMemory;
-use std::alloc::AllocError;
+use std::alloc::{AllocError, Global};
 
 /// A column of a row.
 #[derive(Drop)]
@@ -41,4 +41,16 @@ impl Cubed for Entry {
     fn cube(&self) -> &Cube {
         &self.cube
     }
+}
+
+/// A reference to the cube of each column.
+pub fn cubes_of<'a>(alloc: Global, columns: &'a [Entry]) -> Result<Vec<&'a Cube>, OutOfMemory>
+    ensures { IfOk result (λ cubes. map (λ b. b.now) cubes.items ≡ map (λ c. c.cube) columns.now) }
+{
+    let mut cubes = Vec::new(alloc);
+    cubes.reserve(columns.len())?;
+    for column in columns {
+        cubes.push(&column.cube)?;
+    }
+    Ok(cubes)
 }

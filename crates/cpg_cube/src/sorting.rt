@@ -27,14 +27,6 @@ pub trait Cubed {
         ensures { result.now ≡ cubed self.now };
 }
 
-impl<T> Cubed for (T, Cube) {
-    ghost cubed = { λ x. x.1 };
-
-    fn cube(&self) -> &Cube {
-        &self.1
-    }
-}
-
 /// Adds a process's count and then its value, if it has a condition.
 fn push_variables(
     problem: &Problem,

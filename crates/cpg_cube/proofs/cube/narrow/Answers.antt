@@ -1,22 +1,27 @@
-use Rattle.std.proofs.Common.{rules, ◌≡◌, ◌∙◌, sym, Some, None, refl, length-set}
+use Rattle.std.proofs.Common.{rules, ◌≡◌, ◌<◌, ◌∙◌, sym, length, Some, None, refl, length-set}
 use Rattle.std.specs.Prelude.{position, slice_index_or, slice_set}
 use Rattle.smallvec.proofs.SmallVecLemmas.{items-with_items}
 use Rattle.cpg_cube.specs.Cube.{Literal}
 use Rattle.cpg_cube.specs.Cover.{meet_literal}
 use Rattle.cpg_cube.proofs.NarrowSteps.{from_variable, place_found, narrowed-last, narrowed-set, narrowed-in}
+use Rattle.cpg_cube.proofs.Undone.{undo_last, undo_in, undo_set}
 use Rattle.cpg_cube.proofs.cube.narrow.Goals as goal
 
-pub returns-in_default : goal.returns-in_default
-returns-in_default c =
+pub returns-in_default-clause-narrowed : goal.returns-in_default-clause-narrowed
+returns-in_default-clause-narrowed c =
     let e : position (from_variable c.args.literal.variable) c.args.literals.now.items ≡ None = search rules in
     c.in_ok-push.ensures.ok ∙ sym (narrowed-last c.args.literal c.args.literals.now.items e)
+
+pub returns-in_default-clause-undo : goal.returns-in_default-clause-undo
+returns-in_default-clause-undo c =
+    undo_last c.args.literal c.args.literals.now.items _ _ (search rules) c.in_ok-push.ensures.ok
 
 -- what an index past the end would show
 abbrev blank : Literal
 blank = record { variable = 0; low = 0; high = 0 }
 
-pub returns-then-other-literal : goal.returns-then-other-literal
-returns-then-other-literal c =
+pub returns-then-other-literal-clause-narrowed : goal.returns-then-other-literal-clause-narrowed
+returns-then-other-literal-clause-narrowed c =
     let e : position (from_variable c.args.literal.variable) c.args.literals.now.items ≡ Some c.in-Some.place = search rules in
     let xs = c.args.literals.now.items in
     let other = slice_index_or xs c.in-Some.place blank in
@@ -25,8 +30,21 @@ returns-then-other-literal c =
     rw written (items-with_items c.args.literals.now _ (length-set xs c.in-Some.place _))
     ∙ sym (narrowed-set c.args.literal xs c.in-Some.place blank (place_found c.args.literal.variable xs c.in-Some.place e) (rw c.as_slice-2.ensures at c.if-other-literal.true))
 
-pub returns : goal.returns
-returns c =
+pub returns-then-other-literal-clause-undo : goal.returns-then-other-literal-clause-undo
+returns-then-other-literal-clause-undo c =
+    let xs = c.args.literals.now.items in
+    let within : c.in-Some.place < length xs = search rules in
+    let there : slice_index_or c.as_slice-2.result.now c.in-Some.place blank ≡ slice_index_or xs c.in-Some.place blank = rw c.as_slice-2.ensures refl in
+    let written : slice_set c.as_mut_slice.result.now c.in-Some.place c.met.result ≡ slice_set xs c.in-Some.place c.met.result = rw c.as_mut_slice.ensures.value refl in
+    undo_set c.met.result xs _ c.in-Some.place _ blank within there (rw written (items-with_items c.args.literals.now _ (length-set xs c.in-Some.place _)))
+
+pub returns-clause-narrowed : goal.returns-clause-narrowed
+returns-clause-narrowed c =
     let e : position (from_variable c.args.literal.variable) c.args.literals.now.items ≡ Some c.in-Some.place = search rules in
     let xs = c.args.literals.now.items in
     c.in_ok-insert.ensures.ok ∙ sym (narrowed-in c.args.literal xs c.in-Some.place blank (place_found c.args.literal.variable xs c.in-Some.place e) (rw c.as_slice-2.ensures at c.if-other-literal.false))
+
+pub returns-clause-undo : goal.returns-clause-undo
+returns-clause-undo c =
+    let within : c.in-Some.place < length c.args.literals.now.items = search rules in
+    undo_in c.args.literal c.args.literals.now.items _ c.in-Some.place within c.in_ok-insert.ensures.ok

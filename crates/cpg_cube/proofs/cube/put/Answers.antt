@@ -1,9 +1,14 @@
-use Rattle.std.proofs.Common.{◌<◌, All, ◌∙◌, sym}
+use Rattle.std.proofs.Common.{rules, ◌<◌, All, ◌∙◌, sym}
 use Rattle.cpg_cube.specs.Cube.{Literal}
 use Rattle.cpg_cube.proofs.Above.{narrowed_above}
+use Rattle.cpg_cube.proofs.Undone.{undo_last}
 use Rattle.cpg_cube.proofs.cube.put.Goals as goal
 
-pub returns-then-is_above : goal.returns-then-is_above
-returns-then-is_above c =
+pub returns-then-is_above-clause-narrowed : goal.returns-then-is_above-clause-narrowed
+returns-then-is_above-clause-narrowed c =
     let under : All (λ (l : Literal). l.variable < c.args.literal.variable) c.args.literals.now.items = rw c.as_slice.ensures at c.if-is_above.ensures in
     c.in_ok-push.ensures.ok ∙ sym (narrowed_above c.args.literal c.args.literals.now.items under)
+
+pub returns-then-is_above-clause-undo : goal.returns-then-is_above-clause-undo
+returns-then-is_above-clause-undo c =
+    undo_last c.args.literal c.args.literals.now.items _ _ (search rules) c.in_ok-push.ensures.ok
