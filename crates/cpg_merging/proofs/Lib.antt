@@ -7,3 +7,4 @@ pub mod MergingSettled
 pub mod MergingSteps
 pub mod MergingTotals
 pub mod MergingBlocks
+pub mod MergingDemands

@@ -16,6 +16,7 @@ use Rattle.cpg_cube.proofs.CubeLows.{low_in-later, low_in-none}
 use Rattle.cpg_cube.specs.Column.{Column}
 use Rattle.cpg_merging.specs.Merged.{HaveNoWhole}
 use Rattle.cpg_merging.specs.Merging.{shorn, all_shorn, without, raised}
+use Rattle.cpg_cube.proofs.FewestLaws.{same_literal}
 
 -- where one literal leads two lists with the same ranges, the lists have the same ranges
 same_low : (l : Literal) (xs ys : List Literal) (v : ℕ) → low_in xs v ≡ low_in ys v → low_in (l ∷ xs) v ≡ low_in (l ∷ ys) v
@@ -174,10 +175,6 @@ module _ (v : ℕ) where
         go l w false e = w
 
 -- ---- cubes in the one form that their ranges have
-
-pub same_literal : (l m : Literal) → l.variable ≡ m.variable → l.low ≡ m.low → l.high ≡ m.high → l ≡ m
-same_literal l m e p q = ap (λ (v : ℕ). let r : Literal = record { variable = v; low = l.low; high = l.high } in r) e
-    ∙ ap₂ (λ (x y : ℕ). let r : Literal = record { variable = m.variable; low = x; high = y } in r) p q
 
 module _ (k : ℕ) (a b : List Literal) (rise_a : IsRising a) (rise_b : IsRising b) (narrow_a : IsNarrow k a)
     (lows : (v : ℕ) → low_in a v ≡ low_in b v) (highs : (v : ℕ) → high_in k a v ≡ high_in k b v) where

@@ -12,7 +12,7 @@ use Rattle.cpg_cube.specs.declared.literal.Literal.{Literal}
 use Rattle.cpg_cube.specs.Cube.{low_in}
 use Rattle.cpg_cube.specs.Column.{Column}
 use Rattle.cpg_merging.specs.Merging.{without, literal_cmp, beside_cmp, column_cmp}
-use Rattle.cpg_merging.proofs.MergingCubes.{same_literal}
+use Rattle.cpg_cube.proofs.FewestLaws.{same_literal}
 
 -- ---- one comparison after another
 
@@ -25,9 +25,6 @@ pub then_not_less : (o r : Ordering) → is_lt (ordering_then o r) ≡ false →
 then_not_less Less r h = h
 then_not_less Equal r h = refl
 then_not_less Greater r h = refl
-
-pub then_next : (o r : Ordering) → o ≡ Equal → is_lt (ordering_then o r) ≡ false → is_lt r ≡ false
-then_next o r e h = subst (λ x. is_lt (ordering_then x r) ≡ false) e h
 
 pub equal_from : (o : Ordering) → is_eq o ≡ true → o ≡ Equal
 equal_from Less h = cc

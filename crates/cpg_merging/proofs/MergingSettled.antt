@@ -22,7 +22,8 @@ use Rattle.cpg_cube.specs.Column.{Column, times_in}
 use Rattle.cpg_merging.specs.Merging.{without, beside_cmp, column_cmp, is_followed, joined, walked, IsSettledOn}
 use Rattle.cpg_merging.proofs.MergingCubes.{without-low, without-high, without-low_here, without-high_here, same_cube}
 use Rattle.cpg_merging.proofs.MergingPairs.{IsGood, low-le-high, both-low, both-high, both-high_here, matches_in_ranges, ranges_of_match, high_in-top}
-use Rattle.cpg_merging.proofs.MergingOrder.{beside_total, beside_equal, beside_from, between, then_not_less, then_next, not_less-le, sorted_pairs}
+use Rattle.cpg_base.proofs.Keyed.{next_of}
+use Rattle.cpg_merging.proofs.MergingOrder.{beside_total, beside_equal, beside_from, between, then_not_less, not_less-le, sorted_pairs}
 use Rattle.cpg_merging.proofs.MergingLists.{AreGood, followed_parts, ranges_beside, touch_of, good_joined, walk}
 
 -- ---- of two columns that match a scenario the list has two
@@ -84,7 +85,7 @@ module _ (g : Graph) (few : process_count g ≤ 128) where
           later = λ e.
               let same = beside_equal v c d e in
               let back = beside_from v d c (sym same.0) (sym same.1) in
-              let l = not_less-le (low_in c.cube v) (low_in d.cube v) (then_next (beside_cmp v d c) (nat_cmp (low_in d.cube v) (low_in c.cube v)) back h) in
+              let l = not_less-le (low_in c.cube v) (low_in d.cube v) (next_of (beside_cmp v d c) (nat_cmp (low_in d.cube v) (low_in c.cube v)) back h) in
               ⊎_elim
               (λ (x : high_in g.faults c.cube v < low_in d.cube v). x)
               (λ (x : low_in d.cube v ≤ high_in g.faults c.cube v).

@@ -21,7 +21,7 @@ use Rattle.cpg_merging.proofs.MergingLists.{AreGood}
 use Rattle.cpg_merging.proofs.MergingSettled.{same_without}
 
 -- the literal that a cube's range of a variable comes of
-abbrev of_range : ℕ → List Literal → ℕ → Literal
+abbrev pub of_range : ℕ → List Literal → ℕ → Literal
 of_range k cube v = record { variable = v; low = low_in cube v; high = high_in k cube v }
 
 range_here : (k : ℕ) (l : Literal) (ls : List Literal) (v : ℕ) → l.variable ≡ v → l ≡ of_range k (l ∷ ls) v
@@ -32,7 +32,7 @@ range_later : (k : ℕ) (l : Literal) (ls : List Literal) (v : ℕ) → l.variab
 range_later k l ls v n = ap₂ (λ low high. record { variable = v; low = low; high = high }) (sym (cond-false (l.variable == v) l.low (low_in ls v) (ne_eqb _ _ n))) (sym (cond-false (l.variable == v) l.high (high_in k ls v) (ne_eqb _ _ n)))
 
 -- a range that isn't the whole one is a literal's
-spoken : (k : ℕ) (cube : List Literal) (v : ℕ) → (0 < low_in cube v) ⊎ (high_in k cube v < top k v) → Contains cube (of_range k cube v)
+pub spoken : (k : ℕ) (cube : List Literal) (v : ℕ) → (0 < low_in cube v) ⊎ (high_in k cube v < top k v) → Contains cube (of_range k cube v)
 spoken k [] v (inl h) = absurd (omega (arith, h))
 spoken k [] v (inr h) = absurd (omega (arith, h))
 spoken k (l ∷ ls) v h = elim (cases_eq l.variable v) [
@@ -56,7 +56,7 @@ without_none : (v : ℕ) (ls : List Literal) → ((m : Literal) → Contains ls 
 without_none v [] h = refl
 without_none v (l ∷ ls) h = without_other v l ls (h l (Contains-first l ls)) ∙ ap (λ ms. l ∷ ms) (without_none v ls (λ m c. h m (Contains-rest l ls m c)))
 
-sum_parts : (f : Literal → ℕ) (v : ℕ) (cube : List Literal) → IsRising cube → (l : Literal) → Contains cube l → l.variable ≡ v → sum_by f cube ≡ sum_by f (without v cube) + f l
+pub sum_parts : (f : Literal → ℕ) (v : ℕ) (cube : List Literal) → IsRising cube → (l : Literal) → Contains cube l → l.variable ≡ v → sum_by f cube ≡ sum_by f (without v cube) + f l
 sum_parts f v [] rising l c e = absurd (Contains-nil l c)
 sum_parts f v (m ∷ ms) rising l c e = elim (Contains-cases m ms l c) [
   | inl s ↦ omega (
@@ -77,8 +77,8 @@ sum_parts f v (m ∷ ms) rising l c e = elim (Contains-cases m ms l c) [
 
 -- ---- so sums of columns that touch differ in one literal
 
-mod_shift : (x r h i : ℕ) → (x + h) % 2 ^ 64 ≡ (r + h) % 2 ^ 64 → (x + i) % 2 ^ 64 ≡ (r + i) % 2 ^ 64
-mod_shift x r h i e = omega (arith, e)
+pub one_rest : (x r h i : ℕ) → (x + h) % 2 ^ 64 ≡ (r + h) % 2 ^ 64 → (x + i) % 2 ^ 64 ≡ (r + i) % 2 ^ 64
+one_rest x r h i e = omega (arith, e)
 
 module _ (g : Graph) (few : process_count g ≤ 128) (asked : Bool) (v : ℕ) (known : IsVariable g v) where
   abbrev hash : Literal → ℕ
@@ -129,9 +129,6 @@ marked_permuted g xs ys marks p h = λ v known off c d m n. let back = IsPermuta
     h v known off c d (Contains-permutation ys xs c back m) (Contains-permutation ys xs d back n)
 
 -- what is taken from a sum leaves one rest, up to whole rounds
-pub one_rest : (x r h i : ℕ) → (x + h) % 2 ^ 64 ≡ (r + h) % 2 ^ 64 → (x + i) % 2 ^ 64 ≡ (r + i) % 2 ^ 64
-one_rest x r h i e = mod_shift x r h i e
-
 -- what a test that failed tells
 pub from_off : {P : Type 0} (b : Bool) → b ≡ false → OnFalse b P → P
 from_off true e h = cc

@@ -1,3 +1,4 @@
 pub mod Merged
 pub mod Merging
 pub mod Totals
+pub mod Demands

@@ -1,4 +1,5 @@
--- How rows are merged: columns are sorted so that those which differ in one variable alone stand side by side, and neighbours that touch are made one, variable by variable.
+-- How rows are merged: columns are sorted so that those which differ in one variable alone stand side by side, and neighbours
+-- that touch are made one, variable by variable.
 use Rattle.std.specs.Prelude.{ℕ, ◌+◌, ◌≡◌, ◌≢◌, ◌<◌, ◌≤◌, ◌⊎◌, Bool, false, not, ◌&&◌, ◌||◌, ◌==◌, if◌then◌else◌, List, [], ◌∷◌, map, filter, length, Contains, IsPermutation}
 use Rattle.std.specs.declared.cmp.Ordering.{Ordering}
 use Rattle.std.specs.Ordering.{nat_cmp, ordering_then, is_eq}

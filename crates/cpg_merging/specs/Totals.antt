@@ -1,4 +1,6 @@
--- Numbers of columns, each a sum over its literals, by which it is found whether any two of a row touch: where two do, the later one's sum with one literal changed is the sum of the other. So is it for sums over all literals, and for those over the literals that begin above 0, which are few.
+-- Numbers of columns, each a sum over its literals, by which it is found whether any two of a row touch: where two do, the later
+-- one's sum with one literal changed is the sum of the other. So is it for sums over all literals, and for those over the
+-- literals that begin above 0, which are few.
 use Rattle.std.specs.Prelude.{ℕ, ◌+◌, ◌-◌, ◌*◌, ◌/◌, ◌^◌, ◌%◌, ◌<◌, ◌≤◌, ◌≡◌, ◌&&◌, ◌==◌, if◌then◌else◌, Bool, true, false, List, length, get_or, sum_by, Contains}
 use Rattle.cpg_base.specs.Graph.{Graph, IsVariable}
 use Rattle.cpg_cube.specs.declared.literal.Literal.{Literal}

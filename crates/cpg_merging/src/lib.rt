@@ -1,6 +1,7 @@
 //! Rows of columns that are as few as can be.
 #![tactic(auto)]
 
+mod demands;
 mod joins;
 mod marks;
 mod merging;

@@ -4,6 +4,7 @@ ghost use Rattle.cpg_cube.specs.declared.literal.Literal.{Literal};
 ghost use Rattle.cpg_merging.specs.Totals.{AreMarked, AreMarkedBy, AreSums, HasNoPartner, IsMarked, total_of};
 ghost use Rattle.cpg_merging.specs.Merging.{IsShorn};
 
+use crate::demands::have_many_demands;
 use crate::totals::{BLOCK, Sums, begin_at_zero, has_partner, sieve_of, totals};
 use cpg_base::{OutOfMemory, Problem};
 use cpg_cube::{Entry, Literal};
@@ -116,7 +117,12 @@ fn marks_of(
 {
     // its clause tells that the graph is within its limits
     let _processes = problem.processes();
-    // few literals ask for more than 0, and mostly these tell already that no two columns touch
+    // mostly this tells already that no two columns touch
+    let many = have_many_demands(alloc, columns)?;
+    if !many {
+        return Ok([false; VARIABLES]);
+    }
+    // and else what few literals ask for more than 0
     let marks = marks_over(alloc, true, columns)?;
     if !marks.contains(&true) {
         return Ok(marks);

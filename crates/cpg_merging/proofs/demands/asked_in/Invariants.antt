@@ -1,0 +1,6 @@
+use Rattle.std.proofs.Common.{◌≡◌, ◌%◌, take, sum_by}
+use Rattle.cpg_merging.specs.Demands.{low_of}
+use Rattle.cpg_merging.proofs.demands.asked_in.Given as goal
+
+abbrev pub invariant-loop-literal : goal.invariant-loop-literal
+invariant-loop-literal l = l.asked ≡ sum_by low_of (take l.literal-index l.literals) % 256

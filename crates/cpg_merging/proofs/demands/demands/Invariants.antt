@@ -1,0 +1,6 @@
+use Rattle.std.proofs.Common.{◌≡◌, map, take}
+use Rattle.cpg_merging.specs.Demands.{demand_of}
+use Rattle.cpg_merging.proofs.demands.demands.Given as goal
+
+abbrev pub invariant-loop-column : goal.invariant-loop-column
+invariant-loop-column l = l.demands.items ≡ map demand_of (take l.column-index l.columns)

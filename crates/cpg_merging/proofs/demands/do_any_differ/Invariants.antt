@@ -1,0 +1,5 @@
+use Rattle.cpg_merging.proofs.MergingDemands.{NeighboursAgree}
+use Rattle.cpg_merging.proofs.demands.do_any_differ.Given as goal
+
+abbrev pub invariant-loop-place : goal.invariant-loop-place
+invariant-loop-place l = NeighboursAgree l.sorted l.place

@@ -1,0 +1,73 @@
+//! How much columns ask above 0 in all, by which it is mostly found at once that no two of them touch.
+ghost use Rattle.std.specs.Prelude.{◌≡◌, ◌/◌, ◌%◌, IfOk, length, map, sum_by};
+ghost use Rattle.std.specs.Bool.{OnFalse};
+ghost use Rattle.cpg_merging.specs.Demands.{AgreeByTime, demand_of, low_of};
+ghost use Rattle.cpg_merging.specs.Totals.{DoNotFall};
+
+use cpg_base::OutOfMemory;
+use cpg_cube::{Entry, Literal};
+use std::alloc::Global;
+
+/// What parts a demand's time from how much is asked.
+const ASKED: u64 = 256;
+
+/// The sum of the lows, in a byte.
+fn asked_in(literals: &[Literal]) -> u8
+    ensures { result ≡ sum_by low_of literals.now % 256 }
+{
+    let mut asked: u8 = 0;
+    for literal in literals {
+        asked = asked.wrapping_add(literal.low);
+    }
+    asked
+}
+
+/// A column's time with how much it asks above 0 in all.
+fn demand_of(column: &Entry) -> u64
+    ensures { result ≡ demand_of column.now }
+{
+    let asked = u64::from(asked_in(column.cube.literals()));
+    column.time.wrapping_mul(ASKED).wrapping_add(asked)
+}
+
+/// The demands of columns.
+fn demands(alloc: Global, columns: &[Entry]) -> Result<Vec<u64>, OutOfMemory>
+    ensures { IfOk result (λ demands. demands.items ≡ map demand_of columns.now) }
+{
+    let mut demands = Vec::new(alloc);
+    demands.reserve(columns.len())?;
+    for column in columns {
+        demands.push(demand_of(column))?;
+    }
+    Ok(demands)
+}
+
+/// Whether two demands of one time differ.
+fn do_differ(first: u64, second: u64) -> bool
+    ensures { OnFalse result (first / 256 ≡ second / 256 → first ≡ second) }
+{
+    first != second && first / ASKED == second / ASKED
+}
+
+/// Whether any two of one time differ.
+fn do_any_differ(sorted: &[u64]) -> bool
+    requires { DoNotFall sorted.now }
+    ensures { OnFalse result (AgreeByTime sorted.now) }
+{
+    for place in 1..sorted.len() {
+        if do_differ(sorted[place - 1], sorted[place]) {
+            return true;
+        }
+    }
+    false
+}
+
+/// Whether any two columns of one time differ in how much they ask, as those do that touch.
+pub(crate) fn have_many_demands(alloc: Global, columns: &[Entry]) -> Result<bool, OutOfMemory>
+    ensures { IfOk result (λ r. OnFalse r (AgreeByTime (map demand_of columns.now))) }
+{
+    let mut demands = demands(alloc, columns)?;
+    // most rows have few, so that this takes little
+    demands.sort_unstable();
+    Ok(do_any_differ(demands.as_slice()))
+}
