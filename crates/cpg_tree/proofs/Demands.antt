@@ -4,6 +4,7 @@ use Rattle.std.proofs.lemmas.Bool.{cases_lt, cond-true, cond-false}
 use Rattle.std.proofs.lemmas.List.Sums.{sum_by-cons, sum_by-take-drop, sum_by-drop_more}
 use Rattle.cpg_base.specs.Numbers.{numbers_below}
 use Rattle.cpg_base.proofs.Lists.{Contains-first, Contains-rest, from_all}
+use Rattle.cpg_base.proofs.NumbersOf.{number_of-fault}
 use Rattle.cpg_base.proofs.Sums.{sum_changed}
 use Rattle.cpg_base.specs.Scenario.{Scenario}
 use Rattle.cpg_cube.specs.declared.literal.Literal.{Literal}
@@ -11,7 +12,6 @@ use Rattle.cpg_cube.specs.Cube.{IsRising, holds, matches}
 use Rattle.cpg_cube.proofs.CubeLows.{holds-low}
 use Rattle.cpg_cube.proofs.Ranges.{rising_rest, rising_first}
 use Rattle.cpg_tree.specs.Space.{Space, Lies, beyond, faults_of, more_asked}
-use Rattle.cpg_tree.proofs.Spaces.{count_is}
 
 -- the numbers of a function but for one
 abbrev pub without : ℕ → (ℕ → ℕ) → ℕ → ℕ
@@ -42,7 +42,7 @@ module _ (room : Space) where
     beyond_le : (l : Literal) → Contains ls l → l.variable < 128 → more_asked room l ≤ beyond room s l.variable
     beyond_le l c few =
         let low = holds-low s l (from_all (holds s) ls l all c) in
-        omega (arith, low, count_is s l.variable few, cond-true (nat_lt l.variable 128) (l.low - get_or room.low l.variable 0) 0 (lt-ltb l.variable 128 few))
+        omega (arith, low, number_of-fault s l.variable few, cond-true (nat_lt l.variable 128) (l.low - get_or room.low l.variable 0) 0 (lt-ltb l.variable 128 few))
 
     pub demands_left : (from : ℕ) → sum_by (more_asked room) (drop from ls) ≤ room.left
     demands_left from =

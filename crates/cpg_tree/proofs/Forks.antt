@@ -6,7 +6,8 @@ use Rattle.std.proofs.lemmas.Bool.{cases_lt, cases_eq, cond-true, cond-false, le
 use Rattle.cpg_base.specs.Scenario.{Scenario, number_of}
 use Rattle.cpg_tree.specs.declared.node.Node.{Node, Leaf, Fork'}
 use Rattle.cpg_tree.specs.Decision.{value_at, low_at, high_at, DoForksPass}
-use Rattle.cpg_tree.specs.Results.{IsForkOf, IsMade}
+use Rattle.cpg_tree.specs.Space.{Space, Lies}
+use Rattle.cpg_tree.specs.Results.{IsForkOf, IsJoinOf, IsMade, IsWithin}
 
 -- ---- what a scenario finds
 
@@ -94,6 +95,13 @@ made_weaker domain fact other_fact low other_low high other_high r made tells lo
   lows = λ s u d. omega (arith, made.lows s u d, lows s u d);
   highs = λ k s u d. omega (arith, made.highs k s u d, highs k s u d);
 }
+
+-- what is made with the part of a tree that a space comes to is made with the tree
+pub join_whole : {T U V : Type 0} (answers : T → U → V → Type 0) (room : Space) (a : Node T) (b part : Node U) (r : Node V) → IsWithin room b part →
+    IsJoinOf answers room a part r → IsJoinOf answers room a b r
+join_whole answers room a b part r same made = made_weaker (Lies room) _ _ _ _ _ _ r made
+    (λ s z d t. subst (λ y. answers (value_at a s) y z) (same.value s d) t)
+    (λ s u d. omega (arith, same.lows s u d)) (λ k s u d. omega (arith, same.highs k s u d))
 
 -- ---- of one tree
 
@@ -199,6 +207,10 @@ module _ {T U : Type 0} (fact : Scenario → T → U → Type 0) (more_low : Sce
 pub of_answer : {T E : Type 0} (r : Result T E) (P Q : T → Type 0) → IfOk r P → ((x : T) → P x → Q x) → IfOk r Q
 of_answer (Ok x) P Q h f = f x h
 of_answer (Err e) P Q h f = h
+
+pub of_both : {T E : Type 0} (r : Result T E) (P Q : T → Type 0) → IfOk r P → IfOk r Q → IfOk r (λ x. P x × Q x)
+of_both (Ok x) P Q p q = (p, q)
+of_both (Err e) P Q p q = p
 
 -- what a test that failed tells
 pub from_false : {P : Type 0} (b : Bool) → b ≡ false → OnFalse b P → P

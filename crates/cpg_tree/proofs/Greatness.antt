@@ -33,11 +33,6 @@ module _ {U : Type 0} (number : U → ℕ) (room : Space) (a : Node ℕ) (b : No
   second_greater least made = made_weaker (Lies room) _ _ _ _ _ _ r made
       (λ s z d e. omega (arith, e, least s s)) (λ s u d. omega arith) (λ k s u d. omega arith)
 
-  -- what is made with the part of a tree that a space comes to is made with the tree
-  pub greater_whole : (part : Node U) → IsWithin room b part → IsJoinOf (λ x y z. z ≡ max x (number y)) room a part r → IsJoinOf (λ x y z. z ≡ max x (number y)) room a b r
-  greater_whole part same made = made_weaker (Lies room) _ _ _ _ _ _ r made
-      (λ s z d e. omega (arith, e, ap number (same.value s d))) (λ s u d. omega (arith, same.lows s u d)) (λ k s u d. omega (arith, same.highs k s u d))
-
   -- beside one number
   pub other_leaf : (x : U) → b ≡ Leaf x → IsFillOf (λ x y z. z ≡ max x y) room (number x) a r → IsJoinOf (λ x y z. z ≡ max x (number y)) room a b r
   other_leaf x is made = made_weaker (Lies room) _ _ _ _ _ _ r made

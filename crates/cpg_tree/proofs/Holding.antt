@@ -1,9 +1,9 @@
 -- Where literals hold.
-use Rattle.std.proofs.Common.{arith, Option, None, Some, take, ◌+◌, List, get_or, length, ◌-◌, ℕ, ◌≡◌, ◌≤◌, ◌<◌, ◌&&◌, true, false, ap, ◌∙◌, inl, inr}
+use Rattle.std.proofs.Common.{arith, Option, None, Some, List, get_or, length, ◌-◌, ℕ, ◌≡◌, ◌≤◌, ◌<◌, ◌&&◌, true, false, ap, ◌∙◌, inl, inr}
 use Rattle.std.specs.Prelude.{nat_le, IfNone}
 use Rattle.std.proofs.Math.Bool.{and-false}
-use Rattle.std.proofs.lemmas.Bool.{cases_lt, lt-leb, and_from, both_ways, false_from_ne_true, true_from_ne_false}
-use Rattle.std.proofs.lemmas.List.Folds.{list_all_at, list_all_more}
+use Rattle.std.proofs.lemmas.Bool.{cases_lt, lt-leb, both_ways, true_from_ne_false}
+use Rattle.std.proofs.lemmas.List.Folds.{list_all_at}
 use Rattle.cpg_base.specs.Scenario.{Scenario, number_of}
 use Rattle.cpg_cube.specs.declared.literal.Literal.{Literal}
 use Rattle.cpg_cube.specs.Cube.{holds, matches}
@@ -29,14 +29,6 @@ module _ (s : Scenario) (ls : List Literal) (i : ℕ) (d : Literal) (there : i <
 
   pub each_holds : matches ls s ≡ true → holds s (get_or ls i d) ≡ true
   each_holds all = true_from_ne_false (holds s (get_or ls i d)) (λ h. both_ways (matches ls s) (unmatched h) all)
-
--- the literals so far
-pub matches_more : (s : Scenario) (ls : List Literal) (i : ℕ) (d : Literal) → i < length ls → matches (take i ls) s ≡ true → holds s (get_or ls i d) ≡ true → matches (take (i + 1) ls) s ≡ true
-matches_more s ls i d there before h = list_all_more (holds s) ls i d there ∙ and_from (matches (take i ls) s) (holds s (get_or ls i d)) before h
-
--- what doesn't hold where a literal of those that match must
-pub unsaid : (s : Scenario) (ls : List Literal) (l : Literal) → (matches ls s ≡ true → holds s l ≡ true) → holds s l ≡ false → matches ls s ≡ false
-unsaid s ls l said off = false_from_ne_true (matches ls s) (λ all. both_ways (holds s l) off (said all))
 
 -- what the lack of an answer tells
 pub of_none : {X P Q : Type 0} (r : Option X) → IfNone r P → (P → Q) → IfNone r Q

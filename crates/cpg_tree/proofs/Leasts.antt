@@ -14,31 +14,32 @@ use Rattle.cpg_cube.specs.Fit.{lows, is_met}
 use Rattle.cpg_cube.specs.Keys.{lows_along, IsFirstByLows}
 use Rattle.cpg_cube.proofs.CubeLows.{lows-least}
 use Rattle.cpg_cube.proofs.KeyLows.{lows_are_key}
+use Rattle.cpg_cube.specs.Column.{Column}
 use Rattle.cpg_tree.specs.Columns.{column_of, columns_of_paths, IsTidyColumn}
 use Rattle.cpg_tree.specs.Tree.{Path}
 use Rattle.cpg_tree.specs.Greatest.{HasNumber}
 
-least_of_column : (g : Graph) → process_count g ≤ 128 → (c : ℕ × List Literal) → IsTidyColumn g c → (order : List ℕ) → IsLeast g order (λ s. matches c.1 s ≡ true) (lows g c.1)
-least_of_column g few c tidy order = lows-least g few c.1 tidy.cube tidy.met order
+least_of_column : (g : Graph) → process_count g ≤ 128 → (c : Column) → IsTidyColumn g c → (order : List ℕ) → IsLeast g order (λ s. matches c.cube s ≡ true) (lows g c.cube)
+least_of_column g few c tidy order = lows-least g few c.cube tidy.cube tidy.met order
 
 -- ---- paths and columns
 
-of_time : (cube : List Literal) (time : ℕ) → Contains (column_of cube (Some time)) (time, cube)
-of_time cube time = Contains-first (time, cube) []
+of_time : (cube : List Literal) (time : ℕ) → Contains (column_of cube (Some time)) (record { time = time; cube = cube })
+of_time cube time = Contains-first (record { time = time; cube = cube }) []
 
-from_time : (cube : List Literal) (x : Option ℕ) (c : ℕ × List Literal) → Contains (column_of cube x) c → (x ≡ Some c.0) × (cube ≡ c.1)
+from_time : (cube : List Literal) (x : Option ℕ) (c : Column) → Contains (column_of cube x) c → (x ≡ Some c.time) × (cube ≡ c.cube)
 from_time cube None c j = absurd (Contains-nil c j)
-from_time cube (Some t) c j = elim (Contains-cases (t, cube) [] c j) [
-  | inl e ↦ (ap (λ (d : ℕ × List Literal). Some d.0) e, ap (λ (d : ℕ × List Literal). d.1) e)
+from_time cube (Some t) c j = elim (Contains-cases (record { time = t; cube = cube }) [] c j) [
+  | inl e ↦ (ap (λ (d : Column). Some d.time) e, ap (λ (d : Column). d.cube) e)
   | inr n ↦ absurd (Contains-nil c n)
 ]
 
-module _ (paths : List (Path (Option ℕ))) (columns : List (ℕ × List Literal)) (p : IsPermutation (columns_of_paths paths) columns) where
-  column_there : (x : Path (Option ℕ)) (time : ℕ) → Contains paths x → x.1 ≡ Some time → Contains columns (time, x.0)
-  column_there x time j e = Contains-permutation (columns_of_paths paths) columns (time, x.0) p
-      (Contains-flat_map (λ (p : Path (Option ℕ)). column_of p.0 p.1) paths x (time, x.0) j (subst (λ o. Contains (column_of x.0 o) (time, x.0)) (sym e) (of_time x.0 time)))
+module _ (paths : List (Path (Option ℕ))) (columns : List Column) (p : IsPermutation (columns_of_paths paths) columns) where
+  column_there : (x : Path (Option ℕ)) (time : ℕ) → Contains paths x → x.1 ≡ Some time → Contains columns (record { time = time; cube = x.0 })
+  column_there x time j e = Contains-permutation (columns_of_paths paths) columns (record { time = time; cube = x.0 }) p
+      (Contains-flat_map (λ (p : Path (Option ℕ)). column_of p.0 p.1) paths x (record { time = time; cube = x.0 }) j (subst (λ o. Contains (column_of x.0 o) (record { time = time; cube = x.0 })) (sym e) (of_time x.0 time)))
 
-  path_there : (c : ℕ × List Literal) → Contains columns c → (x : Path (Option ℕ)) × Contains paths x × (x.1 ≡ Some c.0) × (x.0 ≡ c.1)
+  path_there : (c : Column) → Contains columns c → (x : Path (Option ℕ)) × Contains paths x × (x.1 ≡ Some c.time) × (x.0 ≡ c.cube)
   path_there c j =
       let back = Contains-permutation columns (columns_of_paths paths) c (IsPermutation-sym (columns_of_paths paths) columns p) j in
       let f = Contains-flat_map_parts (λ (p : Path (Option ℕ)). column_of p.0 p.1) paths c back in
@@ -50,37 +51,37 @@ module _ (paths : List (Path (Option ℕ))) (columns : List (ℕ × List Literal
     where
       by_value : (o : Option ℕ) → x.1 ≡ o → o ≡ None
       by_value None e = refl
-      by_value (Some t) e = absurd (Contains-nil (t, x.0) (subst (λ (cs : List (ℕ × List Literal)). Contains cs (t, x.0)) none (column_there x t j e)))
+      by_value (Some t) e = absurd (Contains-nil (record { time = t; cube = x.0 }) (subst (λ (cs : List Column). Contains cs (record { time = t; cube = x.0 })) none (column_there x t j e)))
 
   module _ (g : Graph) (few : process_count g ≤ 128) (order : List ℕ) (all : IsPermutation (numbers_below (process_count g)) order) (tidy : All (IsTidyColumn g) columns)
-      (at : ℕ) (first : IsFirstByLows (λ (c : ℕ × List Literal). c.1) g order columns at) (c : ℕ × List Literal) (is : get_or columns at c ≡ c) where
+      (at : ℕ) (first : IsFirstByLows (λ (c : Column). c.cube) g order columns at) (c : Column) (is : get_or columns at c ≡ c) where
     here : Contains columns c
     here = subst (Contains columns) is (Contains-get_or columns at c first.there)
 
-    tidy_at : (d : ℕ × List Literal) → Contains columns d → IsTidyColumn g d
+    tidy_at : (d : Column) → Contains columns d → IsTidyColumn g d
     tidy_at d j = All-contains (IsTidyColumn g) columns d tidy j
 
-    pub column_met : is_met g.faults c.1 ≡ true
+    pub column_met : is_met g.faults c.cube ≡ true
     column_met = (tidy_at c here).met
 
     -- a scenario of a column is not before the column's least
-    not_earlier : (u : Scenario) → IsScenario g u → (d : ℕ × List Literal) → Contains columns d → matches d.1 u ≡ true → is_before g order u (lows g c.1) ≡ false
+    not_earlier : (u : Scenario) → IsScenario g u → (d : Column) → Contains columns d → matches d.cube u ≡ true → is_before g order u (lows g c.cube) ≡ false
     not_earlier u law d k m =
-        let below : is_below (lows_along g order (low_in d.1)) (lows_along g order (low_in c.1)) ≡ false =
-        subst (λ (b : ℕ × List Literal). is_below (lows_along g order (low_in b.1)) (lows_along g order (low_in c.1)) ≡ false) k.2
-        (subst (λ (b : ℕ × List Literal). is_below (lows_along g order (low_in (get_or columns k.0 d).1)) (lows_along g order (low_in b.1)) ≡ false) (get_or_default columns at d c first.there ∙ is) (first.first k.0 d k.1)) in
-        let order_of : is_before g order (lows g d.1) (lows g c.1) ≡ false =
-        ap₂ is_below (sym (lows_are_key g few d.1 (tidy_at d k).met order all)) (sym (lows_are_key g few c.1 (tidy_at c here).met order all)) ∙ below in
-        not_before_transitive g order (lows g c.1) (lows g d.1) u order_of ((least_of_column g few d (tidy_at d k) order).least u law m)
+        let below : is_below (lows_along g order (low_in d.cube)) (lows_along g order (low_in c.cube)) ≡ false =
+        subst (λ (b : Column). is_below (lows_along g order (low_in b.cube)) (lows_along g order (low_in c.cube)) ≡ false) k.2
+        (subst (λ (b : Column). is_below (lows_along g order (low_in (get_or columns k.0 d).cube)) (lows_along g order (low_in b.cube)) ≡ false) (get_or_default columns at d c first.there ∙ is) (first.first k.0 d k.1)) in
+        let order_of : is_before g order (lows g d.cube) (lows g c.cube) ≡ false =
+        ap₂ is_below (sym (lows_are_key g few d.cube (tidy_at d k).met order all)) (sym (lows_are_key g few c.cube (tidy_at c here).met order all)) ∙ below in
+        not_before_transitive g order (lows g c.cube) (lows g d.cube) u order_of ((least_of_column g few d (tidy_at d k) order).least u law m)
 
-    pub least_of_columns : IsLeast g order (HasNumber paths) (lows g c.1)
+    pub least_of_columns : IsLeast g order (HasNumber paths) (lows g c.cube)
     least_of_columns = record {
       lawful = (least_of_column g few c (tidy_at c here) order).lawful;
       holds =
           let x = path_there c here in
           record {
-            number = c.0;
-            has = (x.0, record { stands = x.1; matched = subst (λ (ls : List Literal). matches ls (lows g c.1) ≡ true) (sym x.3) (least_of_column g few c (tidy_at c here) order).holds }, x.2);
+            number = c.time;
+            has = (x.0, record { stands = x.1; matched = subst (λ (ls : List Literal). matches ls (lows g c.cube) ≡ true) (sym x.3) (least_of_column g few c (tidy_at c here) order).holds }, x.2);
           };
-      least = λ u law h. not_earlier u law (h.number, h.has.0.0) (column_there h.has.0 h.number h.has.1.stands h.has.2) h.has.1.matched;
+      least = λ u law h. not_earlier u law (record { time = h.number; cube = h.has.0.0 }) (column_there h.has.0 h.number h.has.1.stands h.has.2) h.has.1.matched;
     }

@@ -14,9 +14,7 @@ pub mod Passing
 pub mod Passes
 pub mod Holding
 pub mod Demands
-pub mod SpotLaws
 pub mod OnePath
+pub mod AtLeast
 pub mod Most
-pub mod Gathered
-pub mod SliceLaws
 pub mod Meetings

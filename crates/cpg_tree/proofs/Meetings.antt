@@ -1,5 +1,5 @@
 -- A scenario that two trees come to in a space, and the greatest number of the one where the other is true.
-use Rattle.std.proofs.Common.{ℕ, ◌+◌, ◌-◌, ◌<◌, ◌≤◌, ◌≡◌, zero, suc, Bool, true, false, nat_lt, Option, Some, None, unwrap_or, get_or, length, sum_by, arith, refl, sym, ap, ◌∙◌, subst, inl, inr, ◌⊎◌, lt-ltb, le-ltb, Box, Global}
+use Rattle.std.proofs.Common.{ℕ, ◌+◌, ◌-◌, ◌<◌, ◌≤◌, ◌≡◌, Bool, true, false, nat_lt, Option, Some, None, unwrap_or, get_or, length, sum_by, arith, refl, sym, ap, ◌∙◌, subst, inl, inr, ◌⊎◌, lt-ltb, le-ltb, Box, Global}
 use Rattle.std.specs.Prelude.{nat_le}
 use Rattle.std.specs.Option.{IfNone, IfSome}
 use Rattle.std.specs.Bool.{OnTrue}
@@ -9,7 +9,8 @@ use Rattle.std.proofs.lemmas.List.{get_or_past}
 use Rattle.cpg_base.specs.Graph.{Graph, process_count, condition_count, IsVariable}
 use Rattle.cpg_base.specs.Numbers.{numbers_below}
 use Rattle.cpg_base.proofs.Lists.{numbers-Contains}
-use Rattle.cpg_base.proofs.Sums.{sum_changed, same_sum_by, sum_by_zeros, sum_by-below_first}
+use Rattle.cpg_base.proofs.NumbersOf.{number_of-fault, variable_or_not}
+use Rattle.cpg_base.proofs.Sums.{sum_changed, same_sum_by, sum_by_zeros}
 use Rattle.cpg_base.specs.Scenario.{Scenario, IsScenario, number_of, fault_of, number_of_value}
 use Rattle.cpg_cube.specs.Fit.{scenario_of}
 use Rattle.cpg_cube.proofs.Boxes.{made_number, made_lawful}
@@ -26,31 +27,13 @@ use Rattle.cpg_tree.proofs.Passing.{variable_from, forks_of_paths}
 use Rattle.cpg_tree.proofs.PathLaws.{one_path}
 use Rattle.cpg_tree.proofs.Publics.{state, value_path}
 use Rattle.cpg_tree.proofs.Rooms.{IsRoom, room_below, room_above, room_whole}
-use Rattle.cpg_tree.proofs.Spaces.{set_other, set_same, count_is}
+use Rattle.cpg_tree.proofs.Spaces.{set_other, set_same}
+use Rattle.cpg_tree.proofs.Tidy.{sum_by_fewer}
 
 -- ---- the scenario of the lows
 
--- a sum over fewer numbers is no greater
-sum_fewer : (f : ℕ → ℕ) (n m : ℕ) → n ≤ m → sum_by f (numbers_below n) ≤ sum_by f (numbers_below m)
-sum_fewer f zero m l = omega arith
-sum_fewer f (suc n) zero l = absurd (omega (arith, l))
-sum_fewer f (suc n) (suc m) l = omega (arith, sum_by-below_first f n, sum_by-below_first f m, sum_fewer (λ i. f (i + 1)) n m (omega (arith, l)))
-
 as_room : (g : Graph) (room : Space) → IsRoomOf g room → IsRoom g.faults room
 as_room g room is = record { lows = is.lows; highs = is.highs; opens = is.opens; tops = is.tops; budget = is.budget }
-
--- a number is a variable of a graph or not
-variable_or : (g : Graph) (v : ℕ) → IsVariable g v ⊎ (IsVariable g v → ⊥)
-variable_or g v = elim (cases_lt v (process_count g)) [
-  | inl l ↦ inl (inl l)
-  | inr l ↦ elim (cases_lt v 128) [
-    | inl small ↦ inr (λ is. elim is [ inl k ↦ absurd (omega (arith, k, l)) | inr k ↦ absurd (omega (arith, k.0, small)) ])
-    | inr big ↦ elim (cases_lt v (128 + condition_count g)) [
-      | inl k ↦ inl (inr (big, k))
-      | inr k ↦ inr (λ is. elim is [ inl m ↦ absurd (omega (arith, m, l)) | inr m ↦ absurd (omega (arith, m.1, k)) ])
-    ]
-  ]
-]
 
 module _ (g : Graph) (few : process_count g ≤ 128) (room : Space) (is : IsRoomOf g room) where
   abbrev low : ℕ → ℕ
@@ -60,7 +43,7 @@ module _ (g : Graph) (few : process_count g ≤ 128) (room : Space) (is : IsRoom
   lowest = scenario_of g low
 
   lawful : IsScenario g lowest
-  lawful = made_lawful g few low (omega (arith, is.budget, sum_fewer low (process_count g) 128 few))
+  lawful = made_lawful g few low (omega (arith, is.budget, sum_by_fewer low (process_count g) 128 few))
 
   known_number : (v : ℕ) → v < 256 → IsVariable g v → number_of lowest v ≡ low v
   known_number v l h = made_number g few low v h (omega (arith, is.opens v l, is.tops v l))
@@ -68,13 +51,13 @@ module _ (g : Graph) (few : process_count g ≤ 128) (room : Space) (is : IsRoom
   -- a number that is no variable is 0
   other_number : (v : ℕ) → (IsVariable g v → ⊥) → number_of lowest v ≡ 0
   other_number v none = elim (cases_lt v 128) [
-    | inl l ↦ count_is lowest v l ∙ get_or_past lowest.faults v 0 (elim (cases_lt v (process_count g)) [ inl k ↦ absurd (none (inl k)) | inr k ↦ omega (arith, k, lawful.faults) ])
+    | inl l ↦ number_of-fault lowest v l ∙ get_or_past lowest.faults v 0 (elim (cases_lt v (process_count g)) [ inl k ↦ absurd (none (inl k)) | inr k ↦ omega (arith, k, lawful.faults) ])
     | inr l ↦ cond-false (nat_lt v 128) (fault_of lowest v) (number_of_value (get_or lowest.values (v - 128) false)) (le-ltb v 128 l)
         ∙ ap number_of_value (get_or_past lowest.values (v - 128) false (elim (cases_lt v (128 + condition_count g)) [ inl k ↦ absurd (none (inr (l, k))) | inr k ↦ omega (arith, k, l, lawful.values) ]))
   ]
 
   number_is : (v : ℕ) → v < 256 → number_of lowest v ≡ low v
-  number_is v l = elim (variable_or g v) [
+  number_is v l = elim (variable_or_not g v) [
     | inl h ↦ known_number v l h
     | inr none ↦ other_number v none ∙ sym (is.known v none)
   ]
@@ -86,7 +69,7 @@ module _ (g : Graph) (few : process_count g ≤ 128) (room : Space) (is : IsRoom
   lies_lowest = record {
     low = λ v l. omega (arith, number_is v l);
     high = λ v l. omega (arith, number_is v l, is.opens v l);
-    left = omega (arith, sum_by_zeros (beyond room lowest) (numbers_below 128) (λ p c. let l = numbers-Contains 128 p c in nothing_beyond (fault_of lowest p) (low p) (number_of lowest p) (count_is lowest p l) (number_is p (omega (arith, l)))));
+    left = omega (arith, sum_by_zeros (beyond room lowest) (numbers_below 128) (λ p c. let l = numbers-Contains 128 p c in nothing_beyond (fault_of lowest p) (low p) (number_of lowest p) (number_of-fault lowest p l) (number_is p (omega (arith, l)))));
   }
 
   -- a space of a graph has a scenario
@@ -130,7 +113,7 @@ module _ (room : Space) (lows : length room.low ≡ 256) (highs : length room.hi
             let here = ap (λ m. fault_of s v - m) (set_same room.low v (cut + 1) v (omega (arith, lows, there)) refl) in
             more_left (sum_by (beyond room s) (numbers_below 128)) (sum_by (beyond (above_cut room v cut) s) (numbers_below 128)) (get_or room.low v 0) cut (fault_of s v) room.left
             (turned _ _ _ _ _ changed here) (subst (λ n. sum_by (beyond (above_cut room v cut) s) (numbers_below 128) ≤ room.left - n) (cond-true (nat_lt v 128) (cut + 1 - get_or room.low v 0) 0 (lt-ltb v 128 l)) lies.left)
-            under (subst (λ n. cut < n) (count_is s v l) at) (allows l)
+            under (subst (λ n. cut < n) (number_of-fault s v l) at) (allows l)
         | inr l ↦
             let same = same_sum_by (beyond room s) (beyond (above_cut room v cut) s) (numbers_below 128) (λ u c. ap (λ m. fault_of s u - m) (sym (set_other room.low v (cut + 1) u (λ e. absurd (omega (arith, numbers-Contains 128 u c, e, l)))))) in
             as_much _ _ _ _ same lies.left (cond-false (nat_lt v 128) (cut + 1 - get_or room.low v 0) 0 (le-ltb v 128 l))

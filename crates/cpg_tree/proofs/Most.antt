@@ -84,8 +84,8 @@ most_reached : (g : Graph) (node : Node (Option ℕ)) → IsGood g.faults node �
 most_reached g node good m most processes known =
     let paths = paths_of g.faults node in
     let x = most_there g.faults node [] m most in
-    let column : Contains (columns_of_paths paths) (m, x.0.0) = Contains-flat_map (λ (p : Path (Option ℕ)). column_of p.0 p.1) paths x.0 (m, x.0.0) x.1 (subst (λ o. Contains (column_of x.0.0 o) (m, x.0.0)) (sym x.2) (Contains-first (m, x.0.0) [])) in
-    let tidy = All-contains (IsTidyColumn g) (columns_of_paths paths) (m, x.0.0) (tidy_columns g processes node good known (columns_of_paths paths) (IsPermutation-refl (columns_of_paths paths))) column in
+    let column : Contains (columns_of_paths paths) (record { time = m; cube = x.0.0 }) = Contains-flat_map (λ (p : Path (Option ℕ)). column_of p.0 p.1) paths x.0 (record { time = m; cube = x.0.0 }) x.1 (subst (λ o. Contains (column_of x.0.0 o) (record { time = m; cube = x.0.0 })) (sym x.2) (Contains-first (record { time = m; cube = x.0.0 }) [])) in
+    let tidy = All-contains (IsTidyColumn g) (columns_of_paths paths) (record { time = m; cube = x.0.0 }) (tidy_columns g processes node good known (columns_of_paths paths) (IsPermutation-refl (columns_of_paths paths))) column in
     let least = lows-least g processes x.0.0 tidy.cube tidy.met [] in
     record { scenario = lows g x.0.0; lawful = least.lawful; has = (x.0, record { stands = x.1; matched = least.holds }, x.2) }
 

@@ -65,13 +65,10 @@ whole_counts k room p count whole = record { long = whole.long; low = whole.lows
 
 -- ---- values
 
-one_value : (n : ℕ) → n ≤ 1 → 0 < n → 1 ≡ n
-one_value n h l = omega arith
-
 pub value_is : (v : ℕ) (r : Node Bool) → IsForkOf v 0 (Leaf false) (Leaf true) r → IsValueNode v r
 value_is v r fork = record {
   value = λ s few. elim (cases_lt 0 (number_of s v)) [
-    | inl gt ↦ ap number_of_value (fork.value_above s gt) ∙ one_value (number_of s v) few gt
+    | inl gt ↦ ap number_of_value (fork.value_above s gt) ∙ omega (arith, few, gt)
     | inr le ↦ ap number_of_value (fork.value_below s le) ∙ omega (arith, le)
   ];
   only = fork_only v 0 (Leaf false) (Leaf true) r (leaf_only v false) (leaf_only v true) fork;

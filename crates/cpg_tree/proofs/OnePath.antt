@@ -1,14 +1,15 @@
 -- The one path of a scenario of a graph.
-use Rattle.std.proofs.Common.{ℕ, zero, suc, ◌+◌, ◌≤◌, ◌≡◌, List, [], ◌∷◌, length, filter, get_or, sum, sum_by, Contains, arith, refl}
+use Rattle.std.proofs.Common.{ℕ, zero, suc, ◌+◌, ◌≤◌, ◌≡◌, ◌∙◌, List, [], ◌∷◌, length, filter, get_or, sum, sum_by, All, Contains, arith, refl, sym, subst, inl, inr}
 use Rattle.std.proofs.lemmas.Grind.{common_steps}
+use Rattle.std.proofs.lemmas.List.Elements.{All-contains}
 use Rattle.std.proofs.lemmas.List.Sums.{sum_by-cons}
 use Rattle.cpg_base.specs.Graph.{Graph}
 use Rattle.cpg_base.specs.Numbers.{numbers_below}
-use Rattle.cpg_base.proofs.Lists.{Contains-first, Contains-filter_parts}
+use Rattle.cpg_base.proofs.Lists.{Contains-first, Contains-cases, Contains-nil, Contains-filter, Contains-filter_parts}
 use Rattle.cpg_base.proofs.Sums.{sum_by-below_first, same_sum_by, sum_by_zeros}
 use Rattle.cpg_base.specs.Scenario.{Scenario, IsScenario}
 use Rattle.cpg_tree.specs.Space.{HasFew}
-use Rattle.cpg_tree.specs.Tree.{Path, is_on, IsOn, HasOnePathEach}
+use Rattle.cpg_tree.specs.Tree.{Path, TreeState, is_on, IsOn, IsAsWide, IsMap, HasOnePathEach}
 
 -- ---- a scenario of the graph has at most its faults
 
@@ -40,3 +41,28 @@ the_path k paths each s few =
     let f = first_of_one (filter (is_on s) paths) (each s few) in
     let parts = Contains-filter_parts (is_on s) paths f.0 f.1 in
     (f.0, record { stands = parts.0; matched = parts.1 })
+
+the_only : {X : Type 0} (z x : X) → Contains (z ∷ []) x → z ≡ x
+the_only z x c = elim (Contains-cases z [] x c) [
+  | inl same ↦ same
+  | inr none ↦ absurd (Contains-nil x none)
+]
+
+same_of_one : {X : Type 0} (xs : List X) → length xs ≡ 1 → (x y : X) → Contains xs x → Contains xs y → x ≡ y
+same_of_one [] e x y a b = absurd (Contains-nil x a)
+same_of_one (z ∷ []) e x y a b = sym (the_only z x a) ∙ the_only z y b
+same_of_one (z ∷ w ∷ zs) e x y a b = absurd (omega (arith, e))
+
+pub same_path : {T : Type 0} (k : ℕ) (paths : List (Path T)) → HasOnePathEach k paths → (s : Scenario) → HasFew k s → (x y : Path T) → IsOn paths s x → IsOn paths s y → x ≡ y
+same_path k paths each s few x y on_x on_y =
+    same_of_one (filter (is_on s) paths) (each s few) x y (Contains-filter (is_on s) paths x on_x.matched on_x.stands) (Contains-filter (is_on s) paths y on_y.matched on_y.stands)
+
+-- a tree whose values are answers to themselves
+pub own_map : {T : Type 0} (answers : T → T → Type 0) (t : TreeState T) → HasOnePathEach t.faults t.paths → All (λ (p : Path T). answers p.1 p.1) t.paths → IsMap answers t t
+own_map {T} answers t each own = record {
+  faults = refl;
+  value = λ s x z few on_x on_z.
+      subst (λ (y : Path T). answers x.1 y.1) (same_path t.faults t.paths each s few x z on_x on_z) (All-contains (λ (p : Path T). answers p.1 p.1) t.paths x own on_x.stands);
+  ranges = λ s x z few on_x on_z.
+      subst (λ (y : Path T). IsAsWide t.faults y.0 x.0) (same_path t.faults t.paths each s few x z on_x on_z) (record { low = λ v. omega arith; high = λ v. omega arith });
+}

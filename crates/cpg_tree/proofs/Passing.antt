@@ -1,7 +1,7 @@
 -- The variables of forks are those of the literals of paths.
 use Rattle.std.proofs.Common.{ℕ, ◌≡◌, Bool, true, false, ◌&&◌, ◌||◌, nat_lt, List, [], ◌∷◌, get_or, All, Contains, refl, sym, ap, ◌∙◌, subst, inl, inr, lt-ltb}
 use Rattle.std.specs.Prelude.{nat_le}
-use Rattle.std.proofs.lemmas.Bool.{cases_order, or_cases, and_parts, and_from, leb-true, ltb-true, le-leb}
+use Rattle.std.proofs.lemmas.Bool.{cases_order, or_cases, or_left, or_right, and_parts, and_from, leb-true, ltb-true, le-leb}
 use Rattle.std.proofs.lemmas.List.Elements.{All-contains, Contains-get_or, Contains-append_left, Contains-append_right, Contains-append_cases}
 use Rattle.cpg_base.specs.Graph.{Graph, process_count, condition_count, value_variable, IsVariable}
 use Rattle.cpg_base.proofs.Lists.{Contains-first, Contains-rest, Contains-cases, Contains-nil}
@@ -106,14 +106,6 @@ variable_from g v h = elim (or_cases (nat_lt v (process_count g)) (nat_le 128 v 
   | inl l ↦ inl (ltb-true v (process_count g) l)
   | inr b ↦ let parts = and_parts (nat_le 128 v) (nat_lt v (value_variable (condition_count g))) b in inr (leb-true 128 v parts.0, ltb-true v (value_variable (condition_count g)) parts.1)
 ]
-
-or_left : (a b : Bool) → a ≡ true → (a || b) ≡ true
-or_left true b e = refl
-or_left false b e = cc
-
-or_right : (a b : Bool) → b ≡ true → (a || b) ≡ true
-or_right true b e = refl
-or_right false b e = e
 
 variable_passes : (g : Graph) (v : ℕ) → IsVariable g v → is_variable g v ≡ true
 variable_passes g v (inl l) = or_left (nat_lt v (process_count g)) _ (lt-ltb v (process_count g) l)

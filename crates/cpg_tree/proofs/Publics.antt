@@ -16,6 +16,14 @@ use Rattle.cpg_tree.proofs.Passing.{forks_of_paths, paths_of_forks}
 abbrev pub state : {T : Type 0} → ℕ → Node T → TreeState T
 state k node = record { faults = k; paths = paths_of k node }
 
+-- what is known of a root is known of what a reference to it shows
+module _ {T : Type 0} (k : ℕ) (a root : Node T) (same : a ≡ root) where
+  pub root_seen : (t : TreeState T) → state k root ≡ t → state k a ≡ t
+  root_seen t is = ap (λ (n : Node T). state k n) same ∙ is
+
+  pub root_good : IsGood k root → IsGood k a
+  root_good good = subst (λ (n : Node T). IsGood k n) (sym same) good
+
 module _ (k : ℕ) (room : Space) (all : (s : Scenario) → HasFew k s → Lies room s) where
   pub join_paths : {T U V : Type 0} (answers : T → U → V → Type 0) (a : Node T) (b : Node U) (r : Node V) → IsGood k a → IsGood k b → IsGood k r → IsJoinOf answers room a b r →
       IsJoin answers (state k a) (state k b) (state k r)

@@ -7,6 +7,7 @@ use Rattle.std.proofs.lemmas.List.{get_or-set_same, get_or-set_other}
 use Rattle.cpg_base.specs.Numbers.{numbers_below}
 use Rattle.cpg_base.specs.Scenario.{number_of_value, Scenario, number_of, fault_of}
 use Rattle.cpg_base.proofs.Lists.{numbers-Contains, Contains-numbers}
+use Rattle.cpg_base.proofs.NumbersOf.{number_of-fault, number_of_value-le}
 use Rattle.cpg_base.proofs.Sums.{le-sum_by, sum_changed, same_sum_by}
 use Rattle.cpg_base.specs.Variable.{top}
 use Rattle.cpg_tree.specs.Space.{Space, Lies, HasFew, beyond, is_open_below, below_cut, above_cut}
@@ -15,15 +16,12 @@ use Rattle.cpg_tree.specs.Space.{Space, Lies, HasFew, beyond, is_open_below, bel
 pub not_less : (a b : ℕ) → nat_lt a b ≡ false → b ≤ a
 not_less a b h = elim (cases_lt a b) [ inl l ↦ absurd (both_ways (nat_lt a b) h (lt-ltb a b l)) | inr l ↦ l ]
 
-pub count_is : (s : Scenario) (v : ℕ) → v < 128 → number_of s v ≡ fault_of s v
-count_is s v l = cond-true (nat_lt v 128) (fault_of s v) _ (lt-ltb v 128 l)
-
 module _ (room : Space) (s : Scenario) (lies : Lies room s) (v cut : ℕ) (there : v < 256) where
   -- a count goes no further beyond its low than faults are left
   pub count_le : v < 128 → number_of s v ≤ get_or room.low v 0 + room.left
   count_le l =
       let one = le-sum_by (beyond room s) (numbers_below 128) v (Contains-numbers 128 v l) in
-      omega (arith, one, lies.left, count_is s v l)
+      omega (arith, one, lies.left, number_of-fault s v l)
 
   pub none_below : is_open_below room v cut ≡ false → cut < number_of s v
   none_below h = let l = lies.low v there in elim (cases_lt cut (get_or room.low v 0)) [
@@ -87,7 +85,7 @@ module _ (room : Space) (s : Scenario) (lies : Lies room s) (v cut : ℕ) (there
           let changed = sum_changed (beyond (above_cut room v cut) s) (beyond room s) 128 v l (λ u n. ap (λ m. fault_of s u - m) (set_other room.low v (cut + 1) u n)) in
           let here = ap (λ m. sum_by (beyond room s) (numbers_below 128) + (fault_of s v - m)) (set_same room.low v (cut + 1) v (omega (arith, long, there)) refl) in
           subst (λ n. sum_by (beyond (above_cut room v cut) s) (numbers_below 128) ≤ room.left - n) (sym (cond-true (nat_lt v 128) (cut + 1 - get_or room.low v 0) 0 (lt-ltb v 128 l)))
-          (fewer_left _ _ (get_or room.low v 0) cut (fault_of s v) room.left (changed ∙ here) lies.left (leb-true (get_or room.low v 0) cut under) (subst (λ n. cut < n) (count_is s v l) h))
+          (fewer_left _ _ (get_or room.low v 0) cut (fault_of s v) room.left (changed ∙ here) lies.left (leb-true (get_or room.low v 0) cut under) (subst (λ n. cut < n) (number_of-fault s v l) h))
       | inr l ↦
           let same = same_sum_by (beyond (above_cut room v cut) s) (beyond room s) (numbers_below 128) (λ u c. ap (λ m. fault_of s u - m) (set_other room.low v (cut + 1) u (λ e. omega (arith, numbers-Contains 128 u c, e, l)))) in
           subst (λ n. sum_by (beyond (above_cut room v cut) s) (numbers_below 128) ≤ room.left - n) (sym (cond-false (nat_lt v 128) (cut + 1 - get_or room.low v 0) 0 (le-ltb v 128 l)))
@@ -103,10 +101,6 @@ lies_reopened room shut inner opened upper v high cut back same put lies_upper s
 
 -- ---- all scenarios of at most k faults
 
-pub value_le : (b : Bool) → number_of_value b ≤ 1
-value_le true = omega arith
-value_le false = omega arith
-
 module _ (k : ℕ) (s : Scenario) (few : HasFew k s) where
   count_few : (p : ℕ) → p < 128 → fault_of s p ≤ k
   count_few p l = omega (arith, le-sum_by (fault_of s) (numbers_below 128) p (Contains-numbers 128 p l), few)
@@ -114,16 +108,16 @@ module _ (k : ℕ) (s : Scenario) (few : HasFew k s) where
   -- no number is above the greatest of its variable
   pub number_le_top : (v : ℕ) → number_of s v ≤ top k v
   number_le_top v = elim (cases_lt v 128) [
-    | inl l ↦ omega (arith, count_is s v l, count_few v l, cond-true (nat_lt v 128) k 1 (lt-ltb v 128 l))
-    | inr l ↦ omega (arith, cond-false (nat_lt v 128) (fault_of s v) (number_of_value (get_or s.values (v - 128) false)) (le-ltb v 128 l), value_le (get_or s.values (v - 128) false), cond-false (nat_lt v 128) k 1 (le-ltb v 128 l))
+    | inl l ↦ omega (arith, number_of-fault s v l, count_few v l, cond-true (nat_lt v 128) k 1 (lt-ltb v 128 l))
+    | inr l ↦ omega (arith, cond-false (nat_lt v 128) (fault_of s v) (number_of_value (get_or s.values (v - 128) false)) (le-ltb v 128 l), number_of_value-le (get_or s.values (v - 128) false), cond-false (nat_lt v 128) k 1 (le-ltb v 128 l))
   ]
 
   pub lies_whole : (room : Space) → ((v : ℕ) → v < 256 → get_or room.low v 0 ≡ 0) → ((v : ℕ) → v < 128 → get_or room.high v 0 ≡ k) → ((v : ℕ) → 128 ≤ v → v < 256 → get_or room.high v 0 ≡ 1) → room.left ≡ k → Lies room s
   lies_whole room lows counts values left = record {
     low = λ v l. omega (arith, lows v l);
     high = λ v l. elim (cases_lt v 128) [
-      | inl m ↦ omega (arith, counts v m, count_is s v m, count_few v m)
-      | inr m ↦ omega (arith, values v m l, cond-false (nat_lt v 128) (fault_of s v) (number_of_value (get_or s.values (v - 128) false)) (le-ltb v 128 m), value_le (get_or s.values (v - 128) false))
+      | inl m ↦ omega (arith, counts v m, number_of-fault s v m, count_few v m)
+      | inr m ↦ omega (arith, values v m l, cond-false (nat_lt v 128) (fault_of s v) (number_of_value (get_or s.values (v - 128) false)) (le-ltb v 128 m), number_of_value-le (get_or s.values (v - 128) false))
     ];
     left = omega (arith, same_sum_by (beyond room s) (fault_of s) (numbers_below 128) (λ p c. omega (arith, lows p (omega (arith, numbers-Contains 128 p c)))), few, left);
   }

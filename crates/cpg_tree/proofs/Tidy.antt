@@ -4,11 +4,10 @@ use Rattle.std.specs.Prelude.{nat_le, All}
 use Rattle.std.proofs.lemmas.Bool.{cases_eq, and_from, le-leb, and_parts, false_from_ne_true, eqb-true}
 use Rattle.std.proofs.lemmas.List.Elements.{Contains-append_cases, Contains-get_or, All-contains}
 use Rattle.std.proofs.lemmas.List.Sorted.{All-permutation}
-use Rattle.std.proofs.lemmas.List.Sums.{sum_by_push}
 use Rattle.cpg_base.specs.Graph.{Graph, process_count, IsVariable}
 use Rattle.cpg_base.specs.Numbers.{numbers_below}
-use Rattle.cpg_base.proofs.Lists.{Contains-cases, Contains-nil, all_from, numbers-Contains, below_push, Contains-flat_map_parts}
-use Rattle.cpg_base.proofs.Sums.{sum_by-le_each}
+use Rattle.cpg_base.proofs.Lists.{Contains-cases, Contains-nil, all_from, numbers-Contains, Contains-flat_map_parts}
+use Rattle.cpg_base.proofs.Sums.{sum_by-below_first, sum_by-le_each}
 use Rattle.cpg_cube.specs.declared.literal.Literal.{Literal}
 use Rattle.cpg_cube.specs.Cube.{low_in, high_in, is_whole}
 use Rattle.cpg_base.specs.Variable.{top}
@@ -22,6 +21,7 @@ use Rattle.cpg_tree.specs.Space.{Space, below_cut, above_cut}
 use Rattle.cpg_tree.specs.Decision.{IsFit, IsGood}
 use Rattle.cpg_tree.specs.Paths.{up_to, above, paths_from, paths_of}
 use Rattle.cpg_tree.specs.Tree.{Path}
+use Rattle.cpg_cube.specs.Column.{Column}
 use Rattle.cpg_tree.specs.Columns.{column_of, columns_of_paths, IsTidyColumn}
 use Rattle.cpg_cube.proofs.Narrowed.{low-other, low-same, high-other, high-same}
 use Rattle.cpg_tree.proofs.Rooms.{IsRoom, IsTold, room_below, room_above, told_below, told_above, room_whole, told_whole, cut_under}
@@ -72,16 +72,10 @@ pub tidy_of : {T : Type 0} (k : ℕ) (node : Node T) → IsGood k node → (x : 
 tidy_of k node good = tidy_paths k node good.0 [] (room_whole k good.0 good.1) (told_whole k good.0 good.1) (λ l c. absurd (Contains-nil l c)) good.2
 
 -- a sum over fewer numbers is no greater
-sum_step : (f : ℕ → ℕ) (n : ℕ) → sum_by f (numbers_below n) ≤ sum_by f (numbers_below (n + 1))
-sum_step f n = omega (arith, ap (sum_by f) (below_push n), sum_by_push f (numbers_below n) n)
-
-sum_more : (f : ℕ → ℕ) (n more : ℕ) → sum_by f (numbers_below n) ≤ sum_by f (numbers_below (n + more))
-sum_more f n zero = subst (λ m. sum_by f (numbers_below n) ≤ sum_by f (numbers_below m)) (let e : n ≡ n + 0 = omega arith in e) (omega arith)
-sum_more f n (suc more) = subst (λ m. sum_by f (numbers_below n) ≤ sum_by f (numbers_below m)) (let e : n + more + 1 ≡ n + suc more = omega arith in e)
-    (omega (arith, sum_more f n more, sum_step f (n + more)))
-
-sum_by_fewer : (f : ℕ → ℕ) (n m : ℕ) → n ≤ m → sum_by f (numbers_below n) ≤ sum_by f (numbers_below m)
-sum_by_fewer f n m l = subst (λ i. sum_by f (numbers_below n) ≤ sum_by f (numbers_below i)) (let e : n + (m - n) ≡ m = omega (arith, l) in e) (sum_more f n (m - n))
+pub sum_by_fewer : (f : ℕ → ℕ) (n m : ℕ) → n ≤ m → sum_by f (numbers_below n) ≤ sum_by f (numbers_below m)
+sum_by_fewer f zero m l = omega arith
+sum_by_fewer f (suc n) zero l = absurd (omega (arith, l))
+sum_by_fewer f (suc n) (suc m) l = omega (arith, sum_by-below_first f n, sum_by-below_first f m, sum_by_fewer (λ i. f (i + 1)) n m (omega (arith, l)))
 
 -- ---- so it has no whole literal, none past the whole range, and some scenario meets it
 
@@ -127,7 +121,7 @@ module _ (g : Graph) (few : process_count g ≤ 128) (cube : List Literal) (tidy
 -- ---- columns
 
 module _ (g : Graph) (few : process_count g ≤ 128) (node : Node (Option ℕ)) (good : IsGood g.faults node) (known : All (λ (p : Path (Option ℕ)). IsKnown g p.0) (paths_of g.faults node)) where
-  of_path : (p : Path (Option ℕ)) → Contains (paths_of g.faults node) p → IsTidyColumn g (0, p.0)
+  of_path : (p : Path (Option ℕ)) → Contains (paths_of g.faults node) p → IsTidyColumn g (record { time = 0; cube = p.0 })
   of_path p j =
       let tidy = tidy_of g.faults node good p j in
       let variables = All-contains (λ (p : Path (Option ℕ)). IsKnown g p.0) (paths_of g.faults node) p known j in
@@ -138,14 +132,14 @@ module _ (g : Graph) (few : process_count g ≤ 128) (node : Node (Option ℕ)) 
         within = λ i d h. within g.faults p.0 tidy (get_or p.0 i d) (Contains-get_or p.0 i d h);
       }
 
-  of_column : (cube : List Literal) (x : Option ℕ) (c : ℕ × List Literal) → Contains (column_of cube x) c → cube ≡ c.1
+  of_column : (cube : List Literal) (x : Option ℕ) (c : Column) → Contains (column_of cube x) c → cube ≡ c.cube
   of_column cube None c j = absurd (Contains-nil c j)
-  of_column cube (Some t) c j = elim (Contains-cases (t, cube) [] c j) [
-    | inl e ↦ ap (λ (d : ℕ × List Literal). d.1) e
+  of_column cube (Some t) c j = elim (Contains-cases (record { time = t; cube = cube }) [] c j) [
+    | inl e ↦ ap (λ (d : Column). d.cube) e
     | inr n ↦ absurd (Contains-nil c n)
   ]
 
-  tidy_column : (c : ℕ × List Literal) → Contains (columns_of_paths (paths_of g.faults node)) c → IsTidyColumn g c
+  tidy_column : (c : Column) → Contains (columns_of_paths (paths_of g.faults node)) c → IsTidyColumn g c
   tidy_column c j =
       let f = Contains-flat_map_parts (λ (p : Path (Option ℕ)). column_of p.0 p.1) (paths_of g.faults node) c j in
       let is = of_path f.0 f.1 in
@@ -157,6 +151,6 @@ module _ (g : Graph) (few : process_count g ≤ 128) (node : Node (Option ℕ)) 
         within = subst (λ (ls : List Literal). All (λ (l : Literal). l.high ≤ top g.faults l.variable) ls) same is.within;
       }
 
-  pub tidy_columns : (columns : List (ℕ × List Literal)) → IsPermutation (columns_of_paths (paths_of g.faults node)) columns → All (IsTidyColumn g) columns
+  pub tidy_columns : (columns : List Column) → IsPermutation (columns_of_paths (paths_of g.faults node)) columns → All (IsTidyColumn g) columns
   tidy_columns columns p = All-permutation (IsTidyColumn g) (columns_of_paths (paths_of g.faults node)) columns p
       (λ i d h. tidy_column (get_or (columns_of_paths (paths_of g.faults node)) i d) (Contains-get_or (columns_of_paths (paths_of g.faults node)) i d h))

@@ -5,11 +5,11 @@ use Rattle.std.proofs.lemmas.Bool.{cases_lt, cond-true, cond-false}
 use Rattle.std.proofs.lemmas.List.Elements.{Contains-get_or}
 use Rattle.cpg_base.specs.Numbers.{numbers_below}
 use Rattle.cpg_base.specs.Scenario.{Scenario, fault_of, number_of, number_of_value}
-use Rattle.cpg_base.specs.Variable.{top}
 use Rattle.cpg_base.proofs.Lists.{all_from, get_or-map-below, numbers-Contains}
 use Rattle.cpg_base.proofs.Sums.{same_sum_by}
 use Rattle.cpg_cube.specs.declared.literal.Literal.{Literal}
 use Rattle.cpg_cube.specs.Cube.{holds, matches}
+use Rattle.cpg_cube.proofs.Boxes.{top_of_value}
 use Rattle.cpg_cube.proofs.CubeLows.{holds-from}
 use Rattle.cpg_cube.proofs.Ranges.{range_of_literal}
 use Rattle.cpg_tree.specs.declared.node.Node.{Node}
@@ -33,9 +33,6 @@ bit zero h = refl
 bit (suc zero) h = refl
 bit (suc (suc n)) h = absurd (omega (arith, h))
 
-value_top : (k v : ℕ) → 128 ≤ v → top k v ≡ 1
-value_top k v m = cond-false (nat_lt v 128) k 1 (le-ltb v 128 m)
-
 back : (v : ℕ) → 128 ≤ v → 128 + (v - 128) ≡ v
 back v m = omega (arith, m)
 
@@ -55,7 +52,7 @@ module _ (k : ℕ) (room : Space) (is : IsRoom k room) where
   lowest_is v l = elim (cases_lt v 128) [
     | inl m ↦ cond-true (nat_lt v 128) (fault_of (lowest room) v) (number_of_value (get_or (lowest room).values (v - 128) false)) (lt-ltb v 128 m) ∙ lowest_faults room v m
     | inr m ↦ cond-false (nat_lt v 128) (fault_of (lowest room) v) (number_of_value (get_or (lowest room).values (v - 128) false)) (le-ltb v 128 m)
-        ∙ lowest_values room v m l (omega (arith, is.opens v l, is.tops v l, value_top k v m))
+        ∙ lowest_values room v m l (omega (arith, is.opens v l, is.tops v l, top_of_value k v m))
   ]
 
   lowest_few : HasFew k (lowest room)

@@ -19,7 +19,8 @@ low_at (Fork' u cut p below above) s v = if nat_le (number_of s u) cut then low_
 -- and the greatest
 abbrev pub high_at : {T : Type 0} → ℕ → Node T → Scenario → ℕ → ℕ
 high_at k (Leaf x) s v = top k v
-high_at k (Fork' u cut p below above) s v = if nat_le (number_of s u) cut then (if u == v then min cut (high_at k below s v) else high_at k below s v) else high_at k above s v
+high_at k (Fork' u cut p below above) s v = if nat_le (number_of s u) cut
+    then (if u == v then min cut (high_at k below s v) else high_at k below s v) else high_at k above s v
 
 -- each side of each fork is met by some scenario of the space that comes there
 abbrev pub IsFit : {T : Type 0} → Space → Node T → Type 0

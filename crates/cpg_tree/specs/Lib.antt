@@ -9,7 +9,4 @@ pub mod Greatest
 pub mod Greater
 pub mod Bounds
 pub mod Later
-pub mod Places
-pub mod Spots
-pub mod Slices
 pub mod Meeting

@@ -10,24 +10,28 @@ ghost use Rattle.cpg_tree.specs.Decision.{HasCuts};
 use crate::Tree;
 use crate::node::Node;
 use cpg_base::{Order, OutOfMemory, Problem, top};
-use cpg_cube::{Cube, Literal, by_least_scenario};
+use cpg_cube::{Cube, Entry, Literal, by_least_scenario};
 use std::alloc::Global;
 
 impl Node<Option<u64>> {
-    /// Adds the columns on from a cube.
+    /// Adds the columns on from a cube, which is narrowed on the way down and restored on the way up.
     fn push_columns(
         &self,
         k: u8,
-        cube: Cube,
-        columns: &mut Vec<(u64, Cube)>,
+        cube: &mut Cube,
+        columns: &mut Vec<Entry>,
     ) -> Result<(), OutOfMemory>
         requires { HasCuts k self.now }
-        ensures { OnOk result (columns.new.items ≡ columns.old.items ++ columns_from k cube self.now) }
+        ensures columns { OnOk result (columns.new.items ≡ columns.old.items ++ columns_from k cube.old self.now) }
+        ensures cube { OnOk result (cube.new ≡ cube.old) }
     {
         match self {
             Node::Leaf(time) => {
                 if let Some(time) = time {
-                    columns.push((*time, cube))?;
+                    columns.push(Entry {
+                        time: *time,
+                        cube: cube.copy()?,
+                    })?;
                 }
                 Ok(())
             }
@@ -37,21 +41,23 @@ impl Node<Option<u64>> {
                 sides,
             } => {
                 let (below, above) = &**sides;
-                let low = cube.with(Literal {
+                let low = cube.narrow(Literal {
                     variable: *variable,
                     low: 0,
                     high: *cut,
                 })?;
                 if let Some(low) = low {
-                    below.push_columns(k, low, columns)?;
+                    below.push_columns(k, cube, columns)?;
+                    cube.restore(low);
                 }
-                let high = cube.into_with(Literal {
+                let high = cube.narrow(Literal {
                     variable: *variable,
                     low: *cut + 1,
                     high: top(k, *variable),
                 })?;
                 if let Some(high) = high {
-                    above.push_columns(k, high, columns)?;
+                    above.push_columns(k, cube, columns)?;
+                    cube.restore(high);
                 }
                 Ok(())
             }
@@ -61,7 +67,7 @@ impl Node<Option<u64>> {
 
 impl Tree<Option<u64>> {
     /// The paths with a number, each with its own cube, in no order.
-    pub fn listed(&self, problem: &Problem) -> Result<Vec<(u64, Cube)>, OutOfMemory>
+    pub fn listed(&self, problem: &Problem) -> Result<Vec<Entry>, OutOfMemory>
         requires faults { self.now.faults ≡ problem.now.faults }
         requires known { All (λ p. IsKnown problem.now p.0) self.now.paths }
         ensures tidy { IfOk result (λ r. All (IsTidyColumn problem.now) r.items) }
@@ -69,20 +75,21 @@ impl Tree<Option<u64>> {
     {
         // its clause tells that the graph is within its limits
         let _processes = problem.processes();
-        let whole = Cube::whole(self.alloc);
+        let mut whole = Cube::whole(self.alloc);
         let mut columns = Vec::new(self.alloc);
-        self.root.push_columns(self.faults, whole, &mut columns)?;
+        self.root
+            .push_columns(self.faults, &mut whole, &mut columns)?;
         Ok(columns)
     }
 
     /// The paths with a number, each with its own cube, by the least scenario that it matches.
-    pub fn columns(&self, problem: &Problem, order: &Order) -> Result<Vec<(u64, Cube)>, OutOfMemory>
+    pub fn columns(&self, problem: &Problem, order: &Order) -> Result<Vec<Entry>, OutOfMemory>
         requires faults { self.now.faults ≡ problem.now.faults }
         requires known { All (λ p. IsKnown problem.now p.0) self.now.paths }
         requires order { IsPermutation (numbers_below (process_count problem.now)) order.now }
         ensures tidy { IfOk result (λ r. All (IsTidyColumn problem.now) r.items) }
         ensures all { IfOk result (λ r. IsPermutation (columns_of_paths self.now.paths) r.items) }
-        ensures by_lows { IfOk result (λ r. AreByLows (λ c. c.1) problem.now order.now r.items) }
+        ensures by_lows { IfOk result (λ r. AreByLows (λ c. c.cube) problem.now order.now r.items) }
     {
         let listed = self.listed(problem)?;
         by_least_scenario(self.alloc, problem, order, listed)

@@ -44,6 +44,14 @@ impl<T: Copy> Node<T> {
         }
     }
 
+    /// The same part without bounds.
+    pub(crate) fn part_in(&self, space: &Space) -> &Node<T>
+        ensures same { IsWithin space.now self.now result.now }
+        ensures pass { (test : ℕ → Bool) → DoForksPass test self.now → DoForksPass test result.now }
+    {
+        self.part(&[], space).node
+    }
+
     /// In each scenario of a space a value or the tree's number, whichever is greater.
     fn at_least<R: Reading<T>>(
         &self,

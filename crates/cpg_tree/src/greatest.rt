@@ -77,7 +77,7 @@ impl Tree<Option<u64>> {
         let Some(place) = first_by_least_scenario(self.alloc, problem, order, columns)? else {
             return Ok(None);
         };
-        match columns[place].1.least(self.alloc, problem)? {
+        match columns[place].cube.least(self.alloc, problem)? {
             Some(least) => Ok(Some(least)),
             None => unreachable!(),
         }

@@ -12,7 +12,7 @@ use std::alloc::Global;
 /// A value, or a fork by the number of a variable: its sides, below and above, are one block of memory.
 #[cycle(node)]
 #[derive(Drop)]
-pub(crate) enum Node<T> {
+pub enum Node<T> {
     Leaf(T),
     Fork {
         variable: u8,
@@ -93,7 +93,7 @@ impl<T: Copy + Eq> Node<T> {
     }
 
     /// A fork.
-    pub(crate) fn fork_of(
+    pub fn fork_of(
         alloc: Global,
         variable: u8,
         cut: u8,
@@ -273,6 +273,8 @@ impl<T: Copy> Node<T> {
         ensures fit { IfOk result (IsFit space.old) }
         ensures pass { IfOk result (λ r. (test : ℕ → Bool) → DoForksPass test self.now → DoForksPass test other.now → DoForksPass test r) }
     {
+        // so that no leaf goes through the other tree from its top
+        let other = other.part_in(space);
         match self {
             Node::Leaf(value) => other.fill(alloc, space, *value, f),
             Node::Fork {

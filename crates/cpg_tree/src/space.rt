@@ -21,14 +21,16 @@ fn faults_of(variable: u8, count: u8) -> u8
 /// A range for each variable, and how many faults there may be beyond the lows.
 #[derive(Clone, Copy)]
 pub struct Space {
-    pub(crate) low: [u8; VARIABLES],
-    pub(crate) high: [u8; VARIABLES],
-    pub(crate) left: u8,
+    /// The least number of each variable.
+    pub low: [u8; VARIABLES],
+    /// The greatest, but for the faults that are left.
+    pub high: [u8; VARIABLES],
+    left: u8,
 }
 
 /// What a variable's low and the faults left were before numbers were closed.
 #[derive(Clone, Copy)]
-pub(crate) struct Lifted {
+pub struct Lifted {
     low: u8,
     left: u8,
 }
@@ -51,7 +53,7 @@ impl Space {
     }
 
     /// Whether a number up to the cut is in range.
-    pub(crate) fn is_open_below(&self, variable: u8, cut: u8) -> bool
+    pub fn is_open_below(&self, variable: u8, cut: u8) -> bool
         ensures is { result ≡ is_open_below self.now variable cut }
         ensures none { OnFalse result ((s : Scenario) → Lies self.now s → cut < number_of s variable) }
     {
@@ -69,7 +71,7 @@ impl Space {
     }
 
     /// Whether a number above the cut is in range, and the faults that are left allow it.
-    pub(crate) fn is_open_above(&self, variable: u8, cut: u8) -> bool
+    pub fn is_open_above(&self, variable: u8, cut: u8) -> bool
         ensures is { result ≡ is_open_above self.now variable cut }
         ensures none { OnFalse result ((s : Scenario) → Lies self.now s → number_of s variable ≤ cut) }
     {
@@ -102,7 +104,7 @@ impl Space {
     }
 
     /// With the numbers up to the cut, where there are others.
-    pub(crate) fn below(&self, variable: u8, cut: u8) -> Space
+    pub fn below(&self, variable: u8, cut: u8) -> Space
         ensures is { result ≡ below_cut self.now variable cut }
         ensures lies { (s : Scenario) → Lies self.now s → number_of s variable ≤ cut → Lies result s }
     {
@@ -112,7 +114,7 @@ impl Space {
     }
 
     /// With the numbers above the cut, where there are others.
-    pub(crate) fn above(&self, variable: u8, cut: u8) -> Space
+    pub fn above(&self, variable: u8, cut: u8) -> Space
         requires below { is_open_below self.now variable cut ≡ true }
         requires above { is_open_above self.now variable cut ≡ true }
         ensures is { result ≡ above_cut self.now variable cut }
@@ -128,7 +130,7 @@ impl Space {
     }
 
     /// Leaves the numbers up to the cut, where there are others; the high of before, for `reopen_above`.
-    pub(crate) fn close_above(&mut self, variable: u8, cut: u8) -> u8
+    pub fn close_above(&mut self, variable: u8, cut: u8) -> u8
         ensures is { self.new ≡ below_cut self.old variable cut }
         ensures back { below_cut self.new variable result ≡ self.old }
         ensures lies { (s : Scenario) → Lies self.old s → number_of s variable ≤ cut → Lies self.new s }
@@ -139,14 +141,14 @@ impl Space {
     }
 
     /// Puts a high back.
-    pub(crate) fn reopen_above(&mut self, variable: u8, high: u8)
+    pub fn reopen_above(&mut self, variable: u8, high: u8)
         ensures { self.new ≡ below_cut self.old variable high }
     {
         self.high[variable as usize] = high;
     }
 
     /// Leaves the numbers above the cut, where there are others; what was before, for `reopen_below`.
-    pub(crate) fn close_below(&mut self, variable: u8, cut: u8) -> Lifted
+    pub fn close_below(&mut self, variable: u8, cut: u8) -> Lifted
         requires below { is_open_below self.old variable cut ≡ true }
         requires above { is_open_above self.old variable cut ≡ true }
         ensures is { self.new ≡ above_cut self.old variable cut }
@@ -162,7 +164,7 @@ impl Space {
     }
 
     /// Puts a low and the faults left back.
-    pub(crate) fn reopen_below(&mut self, variable: u8, was: Lifted)
+    pub fn reopen_below(&mut self, variable: u8, was: Lifted)
         ensures { self.new ≡ reopened_below self.old variable was }
     {
         self.low[variable as usize] = was.low;
@@ -239,7 +241,7 @@ impl Space {
     }
 
     /// Whether some number of a literal's range is in range.
-    pub(crate) fn meets(&self, literal: &Literal) -> bool
+    pub fn meets(&self, literal: &Literal) -> bool
         ensures { OnFalse result ((s : Scenario) → Lies self.now s → holds s literal.now ≡ false) }
     {
         if self.high[literal.variable as usize] < literal.low {
@@ -249,7 +251,7 @@ impl Space {
     }
 
     /// Whether the faults that are left suffice for the lows of literals from a place on.
-    pub(crate) fn affords(&self, literals: &[Literal], from: usize) -> bool
+    pub fn affords(&self, literals: &[Literal], from: usize) -> bool
         requires { IsRising literals.now }
         ensures { OnFalse result ((s : Scenario) → Lies self.now s → matches literals.now s ≡ false) }
     {

@@ -113,7 +113,7 @@ impl Tally {
     }
 
     /// Whether it has tables.
-    pub(crate) fn is_kept(&self) -> bool {
+    pub fn is_kept(&self) -> bool {
         !self.lows.is_empty()
     }
 
@@ -190,7 +190,7 @@ impl Tally {
 
     /// The same, by the literals of one of the columns: a fork that no column stands on both sides of is on one of their
     /// variables.
-    pub(crate) fn best_by(&self, literals: &[Literal], count: u32) -> Option<Parting> {
+    pub fn best_by(&self, literals: &[Literal], count: u32) -> Option<Parting> {
         let best = self.best_among(literals, count);
         if count <= FEW {
             return best;

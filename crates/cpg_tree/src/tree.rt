@@ -1,27 +1,27 @@
 //! Trees of values by scenarios.
-ghost use Rattle.std.specs.Prelude.{◌≡◌, ◌≤◌, ◌<◌, max, ℕ, Bool, List, All, IfOk, IfSome, length, true};
+ghost use Rattle.std.specs.Prelude.{◌≡◌, ◌≤◌, ◌<◌, ◌^◌, max, ℕ, Bool, List, Some, All, IfNone, IfOk, IfSome, length, true};
 ghost use Rattle.std.specs.Bool.{OnTrue};
 ghost use Rattle.cpg_cube.specs.declared.literal.Literal.{Literal};
 ghost use Rattle.cpg_tree.specs.Decision.{IsGood};
-ghost use Rattle.cpg_tree.specs.Later.{time_later};
+ghost use Rattle.cpg_tree.specs.Later.{IsAtLeast, time_later};
 ghost use Rattle.cpg_tree.specs.Paths.{paths_from, paths_of};
 ghost use Rattle.cpg_tree.specs.Tree.{HasOnePathEach, IsTidyPath, DoPathsPass, IsConstant, IsMap, IsJoin, IsPick, IsValueAt};
 
 use crate::node::Node;
-use crate::reading::{AsIs, Later, Reading};
+use crate::reading::{AsIs, Later, Reading, time_later};
 use crate::space::Space;
 use cpg_base::{OutOfMemory, Scenario};
 use std::alloc::Global;
 use std::marker::Model;
+use std::rc::Rc;
 
 /// A value for each scenario of at most `k` faults: seen as its paths, each a cube and the value in the scenarios that
-/// the cube matches.
+/// the cube matches. Equal trees may share their nodes.
 #[derive(Drop)]
 pub struct Tree<T> {
     pub(crate) alloc: Global,
     pub(crate) faults: u8,
-    leaves: u64,
-    pub(crate) root: Node<T>,
+    pub(crate) root: Rc<Node<T>>,
 }
 
 impl<T> Model for Tree<T> {
@@ -32,15 +32,16 @@ impl<T> Model for Tree<T> {
 
     ghost Value = { TreeState T };
 
-    ghost view = { λ t. record { faults = t.faults; paths = paths_of t.faults t.root } };
+    ghost view = { λ t. record { faults = t.faults; paths = paths_of t.faults t.root.value } };
 
-    ghost invariant = { λ t. IsGood t.faults t.root × (t.leaves ≡ length (paths_of t.faults t.root)) };
+    ghost invariant = { λ t. IsGood t.faults t.root.value };
 }
 
 impl<T> Node<T> {
     /// How many leaves there are.
     fn count(&self) -> Option<u64>
-        ensures { IfSome result (λ n. (k : ℕ) (cube : List Literal) → n ≡ length (paths_from k cube self.now)) }
+        ensures some { IfSome result (λ n. (k : ℕ) (cube : List Literal) → n ≡ length (paths_from k cube self.now)) }
+        ensures none { IfNone result ((k : ℕ) (cube : List Literal) → 2 ^ 64 ≤ length (paths_from k cube self.now)) }
     {
         match self {
             Node::Leaf(_) => Some(1),
@@ -62,13 +63,10 @@ impl<T: Copy> Tree<T> {
         ensures each { IfOk result (λ t. HasOnePathEach t.faults t.paths) }
         ensures tidy { IfOk result (λ t. All (IsTidyPath t.faults) t.paths) }
     {
-        let Some(leaves) = root.count() else {
-            return Err(OutOfMemory);
-        };
+        let root = Rc::new(alloc, root)?;
         Ok(Tree {
             alloc,
             faults,
-            leaves,
             root,
         })
     }
@@ -91,11 +89,25 @@ impl<T: Copy> Tree<T> {
         self.root.at(scenario)
     }
 
-    /// How many paths there are.
-    pub fn leaves(&self) -> u64
-        ensures { result ≡ length self.now.paths }
+    /// An equal tree that shares the nodes.
+    fn share(&self) -> Result<Tree<T>, OutOfMemory>
+        ensures is { IfOk result (λ t. t ≡ self.now) }
+        ensures each { IfOk result (λ t. HasOnePathEach t.faults t.paths) }
     {
-        self.leaves
+        let root = self.root.clone()?;
+        Ok(Tree {
+            alloc: self.alloc,
+            faults: self.faults,
+            root,
+        })
+    }
+
+    /// How many paths there are, and `None` exactly where a number of 64 bits can't tell it.
+    pub fn leaves(&self) -> Option<u64>
+        ensures some { IfSome result (λ n. n ≡ length self.now.paths) }
+        ensures none { IfNone result (2 ^ 64 ≤ length self.now.paths) }
+    {
+        self.root.count()
     }
 
     /// The answers of a function to the values of two trees.
@@ -156,9 +168,76 @@ impl Tree<bool> {
     pub fn is_true(&self) -> bool
         ensures { OnTrue result (IsConstant true self.now.faults self.now) }
     {
-        match &self.root {
+        match &*self.root {
             Node::Leaf(value) => *value,
             Node::Fork { .. } => false,
+        }
+    }
+}
+
+/// Whether it is a time of at least this.
+fn is_time_from(time: Option<u64>, least: u64) -> bool
+    ensures { OnTrue result (time ≡ Some (max (time_later 0 time) least)) }
+{
+    let Some(time) = time else {
+        return false;
+    };
+    least <= time
+}
+
+impl Node<Option<u64>> {
+    /// Whether each value is a time of at least this.
+    fn is_at_least(&self, least: u64) -> bool
+        ensures { OnTrue result (IsAtLeast least self.now) }
+    {
+        match self {
+            Node::Leaf(time) => is_time_from(*time, least),
+            Node::Fork { sides, .. } => {
+                let (below, above) = &**sides;
+                if !below.is_at_least(least) {
+                    return false;
+                }
+                above.is_at_least(least)
+            }
+        }
+    }
+}
+
+/// A time, 0 where there is none, or another, whichever is later.
+fn time_or(time: Option<u64>, least: u64) -> u64
+    ensures { result ≡ max (time_later 0 time) least }
+{
+    time_later(time, 0).max(least)
+}
+
+impl Tree<Option<u64>> {
+    /// Whether each value is a time of at least this.
+    fn is_at_least(&self, least: u64) -> bool
+        ensures { OnTrue result (All (λ p. p.1 ≡ Some (max (time_later 0 p.1) least)) self.now.paths) }
+    {
+        self.root.is_at_least(least)
+    }
+
+    /// The times, 0 where there are none, or another, whichever is later, as times in all scenarios.
+    fn raised(&self, least: u64) -> Result<Tree<Option<u64>>, OutOfMemory>
+        ensures is { IfOk result (λ t. IsMap (λ x z. z ≡ Some (max (time_later 0 x) least)) self.now t) }
+        ensures each { IfOk result (λ t. HasOnePathEach t.faults t.paths) }
+        ensures pass { IfOk result (λ t. (test : ℕ → Bool) → DoPathsPass test self.now.paths → DoPathsPass test t.paths) }
+    {
+        self.map(&|time: Option<u64>| Some(time_or(time, least)))
+    }
+
+    /// The times, 0 where there are none, or another, whichever is later, as times in all scenarios. A tree that has no
+    /// other values is shared.
+    pub fn no_earlier(&self, least: u64) -> Result<Tree<Option<u64>>, OutOfMemory>
+        ensures is { IfOk result (λ t. IsMap (λ x z. z ≡ Some (max (time_later 0 x) least)) self.now t) }
+        ensures each { IfOk result (λ t. HasOnePathEach t.faults t.paths) }
+        ensures pass { IfOk result (λ t. (test : ℕ → Bool) → DoPathsPass test self.now.paths → DoPathsPass test t.paths) }
+    {
+        if self.is_at_least(least) {
+            self.share()
+        } else {
+            self.raised(least)
         }
     }
 }

@@ -5,9 +5,9 @@ use Rattle.cpg_tree.specs.Space.{Space, Lies}
 use Rattle.cpg_tree.specs.Decision.{value_at, low_at, high_at, DoForksPass}
 use Rattle.cpg_tree.specs.Results.{IsJoinOf, IsFillOf, IsForkOf, IsWithin}
 use Rattle.cpg_tree.proofs.Spaces.{lies_reopened}
-use Rattle.cpg_tree.proofs.Forks.{two_below_of, two_above_of, two_fork_of, two_leaf_of, of_answer, from_false, passes_parts, same_below, same_above}
+use Rattle.cpg_tree.proofs.Forks.{join_whole, two_below_of, two_above_of, two_fork_of, two_leaf_of, of_answer, from_false, passes_parts, same_below, same_above}
 use Rattle.cpg_tree.proofs.BoundLaws.{at_least_by}
-use Rattle.cpg_tree.proofs.Greatness.{first_greater, second_greater, greater_whole}
+use Rattle.cpg_tree.proofs.Greatness.{first_greater, second_greater}
 use Rattle.cpg_tree.proofs.greater.Node+u64.+greater_by.Goals as goal
 
 pub returns-then-is_at_least-clause-made : goal.returns-then-is_at_least-clause-made
@@ -17,7 +17,7 @@ returns-then-is_at_least-clause-made g t c =
     let a : Node ℕ = c.args.self.now in
     let b : Node g.row.U.Denot = c.part-other.result.node.now in
     of_answer c.within.result (IsWithin room a) (IsJoinOf (λ (x : ℕ) (y : g.row.U.Denot) (z : ℕ). z ≡ max x (number y)) room a c.args.other.node.now) c.within.ensures.made
-    (λ r made. greater_whole number room a c.args.other.node.now r b c.part-other.ensures.same
+    (λ r made. join_whole (λ (x : ℕ) (y : g.row.U.Denot) (z : ℕ). z ≡ max x (number y)) room a c.args.other.node.now b r c.part-other.ensures.same
     (first_greater number room a b r (at_least_by (λ (x : ℕ). x) number a b c.span-own.result c.span-others.result c.is_at_least.result c.span-own.ensures c.span-others.ensures c.is_at_least.ensures c.if-is_at_least.true) made))
 
 pub returns-then-is_at_least-2-clause-made : goal.returns-then-is_at_least-2-clause-made
@@ -27,7 +27,7 @@ returns-then-is_at_least-2-clause-made g t c =
     let a : Node ℕ = c.args.self.now in
     let b : Node g.row.U.Denot = c.part-other.result.node.now in
     of_answer c.at_least.result (IsFillOf (λ (x : ℕ) (y : g.row.U.Denot) (z : ℕ). z ≡ max x (number y)) room 0 b) (IsJoinOf (λ (x : ℕ) (y : g.row.U.Denot) (z : ℕ). z ≡ max x (number y)) room a c.args.other.node.now) c.at_least.ensures.made
-    (λ r made. greater_whole number room a c.args.other.node.now r b c.part-other.ensures.same
+    (λ r made. join_whole (λ (x : ℕ) (y : g.row.U.Denot) (z : ℕ). z ≡ max x (number y)) room a c.args.other.node.now b r c.part-other.ensures.same
     (second_greater number room a b r (at_least_by number (λ (x : ℕ). x) b a c.span-others.result c.span-own.result c.is_at_least-2.result c.span-others.ensures c.span-own.ensures c.is_at_least-2.ensures c.if-is_at_least-2.true) made))
 
 pub returns-then-is_at_least-2-clause-pass : goal.returns-then-is_at_least-2-clause-pass
@@ -42,7 +42,7 @@ returns-in-Leaf-clause-made g t c =
     let a : Node ℕ = c.args.self.now in
     let b : Node g.row.U.Denot = c.part-other.result.node.now in
     of_answer c.at_least-in-Leaf.result (IsFillOf (λ (x : ℕ) (y : g.row.U.Denot) (z : ℕ). z ≡ max x (number y)) room c.in-Leaf.value b) (IsJoinOf (λ (x : ℕ) (y : g.row.U.Denot) (z : ℕ). z ≡ max x (number y)) room a c.args.other.node.now) c.at_least-in-Leaf.ensures.made
-    (λ r made. greater_whole number room a c.args.other.node.now r b c.part-other.ensures.same
+    (λ r made. join_whole (λ (x : ℕ) (y : g.row.U.Denot) (z : ℕ). z ≡ max x (number y)) room a c.args.other.node.now b r c.part-other.ensures.same
     (two_leaf_of (λ s x z. z ≡ max x (number (value_at b s))) (λ s x v. low_at b s v) (λ k s x v. high_at k b s v) (Lies room) c.in-Leaf.value a c.in-Leaf.is r made))
 
 pub returns-in-Leaf-clause-pass : goal.returns-in-Leaf-clause-pass
@@ -58,7 +58,7 @@ returns-then-not-is_open_below-clause-made g t c =
     let b : Node g.row.U.Denot = c.part-other.result.node.now in
     of_answer c.greater_by.result (IsJoinOf (λ (x : ℕ) (y : g.row.U.Denot) (z : ℕ). z ≡ max x (number y)) room c.in-Fork.sides.value.1 b) (IsJoinOf (λ (x : ℕ) (y : g.row.U.Denot) (z : ℕ). z ≡ max x (number y)) room a c.args.other.node.now)
     (subst (λ (n : Node ℕ). IfOk c.greater_by.result (IsJoinOf (λ (x : ℕ) (y : g.row.U.Denot) (z : ℕ). z ≡ max x (number y)) room n b)) (same_above c.deref.ensures) c.greater_by.ensures.made)
-    (λ r made. greater_whole number room a c.args.other.node.now r b c.part-other.ensures.same
+    (λ r made. join_whole (λ (x : ℕ) (y : g.row.U.Denot) (z : ℕ). z ≡ max x (number y)) room a c.args.other.node.now b r c.part-other.ensures.same
     (two_above_of (λ s x z. z ≡ max x (number (value_at b s))) (λ s x v. low_at b s v) (λ k s x v. high_at k b s v) (Lies room) c.in-Fork.variable c.in-Fork.cut c.in-Fork.sides.value.0 c.in-Fork.sides.value.1 a c.in-Fork.is r made
     (from_false c.is_open_below.result c.if-not-is_open_below.true c.is_open_below.ensures.none)))
 
@@ -77,7 +77,7 @@ returns-then-not-is_open_above-clause-made g t c =
     let b : Node g.row.U.Denot = c.part-other.result.node.now in
     of_answer c.greater_by-then-not-is_open_above.result (IsJoinOf (λ (x : ℕ) (y : g.row.U.Denot) (z : ℕ). z ≡ max x (number y)) room c.in-Fork.sides.value.0 b) (IsJoinOf (λ (x : ℕ) (y : g.row.U.Denot) (z : ℕ). z ≡ max x (number y)) room a c.args.other.node.now)
     (subst (λ (n : Node ℕ). IfOk c.greater_by-then-not-is_open_above.result (IsJoinOf (λ (x : ℕ) (y : g.row.U.Denot) (z : ℕ). z ≡ max x (number y)) room n b)) (same_below c.deref.ensures) c.greater_by-then-not-is_open_above.ensures.made)
-    (λ r made. greater_whole number room a c.args.other.node.now r b c.part-other.ensures.same
+    (λ r made. join_whole (λ (x : ℕ) (y : g.row.U.Denot) (z : ℕ). z ≡ max x (number y)) room a c.args.other.node.now b r c.part-other.ensures.same
     (two_below_of (λ s x z. z ≡ max x (number (value_at b s))) (λ s x v. low_at b s v) (λ k s x v. high_at k b s v) (Lies room) c.in-Fork.variable c.in-Fork.cut c.in-Fork.sides.value.0 c.in-Fork.sides.value.1 a c.in-Fork.is r made
     (from_false c.is_open_above.result c.if-not-is_open_above.true c.is_open_above.ensures.none)))
 
@@ -95,7 +95,7 @@ returns-in_ok-high-in-Fork-clause-made g t c =
     let a : Node ℕ = c.args.self.now in
     let b : Node g.row.U.Denot = c.part-other.result.node.now in
     of_answer c.fork.result (IsForkOf c.in-Fork.variable c.in-Fork.cut c.in_ok-low-in-Fork.low c.in_ok-high-in-Fork.high) (IsJoinOf (λ (x : ℕ) (y : g.row.U.Denot) (z : ℕ). z ≡ max x (number y)) room a c.args.other.node.now) c.fork.ensures.made
-    (λ r fork. greater_whole number room a c.args.other.node.now r b c.part-other.ensures.same
+    (λ r fork. join_whole (λ (x : ℕ) (y : g.row.U.Denot) (z : ℕ). z ≡ max x (number y)) room a c.args.other.node.now b r c.part-other.ensures.same
     (two_fork_of (λ s x z. z ≡ max x (number (value_at b s))) (λ s x v. low_at b s v) (λ k s x v. high_at k b s v) (Lies room) c.in-Fork.variable c.in-Fork.cut c.in-Fork.sides.value.0 c.in-Fork.sides.value.1 a c.in-Fork.is r (Lies c.close_above-most.new.self) (Lies c.close_below-least.new.self) c.in_ok-low-in-Fork.low c.in_ok-high-in-Fork.high
     (subst (λ (n : Node ℕ). IsJoinOf (λ (x : ℕ) (y : g.row.U.Denot) (z : ℕ). z ≡ max x (number y)) c.close_above-most.new.self n b c.in_ok-low-in-Fork.low) (same_below c.deref.ensures) c.in_ok-low-in-Fork.ensures.made)
     (subst (λ (n : Node ℕ). IsJoinOf (λ (x : ℕ) (y : g.row.U.Denot) (z : ℕ). z ≡ max x (number y)) c.close_below-least.new.self n b c.in_ok-high-in-Fork.high) (same_above c.deref.ensures) c.in_ok-high-in-Fork.ensures.made)

@@ -2,10 +2,10 @@ use Rattle.std.proofs.Common.{ℕ, ◌≡◌, ◌∙◌, List, Option, Some, IsP
 use Rattle.std.proofs.lemmas.Bool.{cond-true}
 use Rattle.std.proofs.lemmas.List.{get_or_default}
 use Rattle.std.proofs.lemmas.List.Elements.{Contains-get_or}
-use Rattle.cpg_cube.specs.declared.literal.Literal.{Literal}
 use Rattle.cpg_base.specs.Scenario.{Scenario, IsLeast}
 use Rattle.cpg_cube.specs.Fit.{lows}
 use Rattle.cpg_cube.specs.Keys.{IsFirstByLows}
+use Rattle.cpg_cube.specs.Column.{Column}
 use Rattle.cpg_tree.specs.Columns.{columns_of_paths, IsTidyColumn}
 use Rattle.cpg_tree.specs.Greatest.{HasNumber}
 use Rattle.cpg_tree.specs.Tree.{Path}
@@ -21,16 +21,16 @@ returns-clause-some c =
     let g = c.args.problem.now in
     let order = c.args.order.now in
     let paths : List (Path (Option ℕ)) = c.args.self.now.paths in
-    let columns : List (ℕ × List Literal) = c.as_slice-columns.result.now in
+    let columns : List Column = c.as_slice-columns.result.now in
     let at : ℕ = c.in-Some.place in
-    let first : IsFirstByLows (λ (c : ℕ × List Literal). c.1) g order columns at = rw c.in-Some.is at c.in_ok-place.ensures.first in
-    let column : ℕ × List Literal = get_or columns at c.index-columns-place.result in
+    let first : IsFirstByLows (λ (c : Column). c.cube) g order columns at = rw c.in-Some.is at c.in_ok-place.ensures.first in
+    let column : Column = get_or columns at c.index-columns-place.result in
     let same = sym c.as_slice-columns.ensures.value in
     let few = c.processes-processes.ensures.within.few_processes in
     let all : IsPermutation (columns_of_paths paths) columns = subst (IsPermutation (columns_of_paths paths)) same c.in_ok-columns.ensures.all in
     let tidy : All (IsTidyColumn g) columns = subst (All (IsTidyColumn g)) same c.in_ok-columns.ensures.tidy in
     let is : get_or columns at column ≡ column = get_or_default columns at column c.index-columns-place.result first.there in
-    let least : Some c.in-Some-2.least ≡ Some (lows g column.1) = sym c.in-Some-2.is ∙ c.in_ok-least.ensures.exact
+    let least : Some c.in-Some-2.least ≡ Some (lows g column.cube) = sym c.in-Some-2.is ∙ c.in_ok-least.ensures.exact
     ∙ cond-true _ _ _ (column_met paths columns all g few order c.requires.order tidy at first column is) in
     subst (IsLeast g order (HasNumber paths)) (sym (ap (λ (o : Option Scenario). unwrap_or o c.in-Some-2.least) least))
     (least_of_columns paths columns all g few order c.requires.order tidy at first column is)
