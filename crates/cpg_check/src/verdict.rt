@@ -13,10 +13,10 @@ use cpg_base::OutOfMemory;
 use cpg_check_heard::check_heard;
 use cpg_check_rows::{check_hears, check_rows};
 use cpg_check_time::check_time;
+use cpg_places::Places;
 use cpg_rules::Admitted;
 use cpg_sure::{row_marks, row_trees, time_marks};
 use cpg_table::{Fault, Tables};
-use cpg_tree::Places;
 use cpg_violation::{HeadPart, Line, TimeMarks, first_difference, lines_of};
 use std::alloc::Global;
 

@@ -10,9 +10,8 @@ use Rattle.cpg_base.specs.Graph.{Graph}
 use Rattle.cpg_base.specs.Scenario.{Scenario}
 use Rattle.cpg_cube.specs.Cube.{matches}
 use Rattle.cpg_cube.specs.Fit.{IsKnown}
-use Rattle.cpg_cube.specs.Column.{Column}
+use Rattle.cpg_cube.specs.Column.{Column, column_at}
 use Rattle.cpg_table.specs.Heard.{value_fact}
-use Rattle.cpg_violation.specs.Sieves.{column_at}
 use Rattle.cpg_check_heard.specs.declared.arrivals.Arrival.{Arrival}
 use Rattle.cpg_check_heard.specs.declared.bound.Bound.{Bound}
 use Rattle.cpg_check_heard.specs.declared.tellers.Telling.{Telling}

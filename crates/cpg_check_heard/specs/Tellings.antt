@@ -10,10 +10,9 @@ use Rattle.cpg_base.specs.Scenario.{Scenario, IsScenario, number_of}
 use Rattle.cpg_cube.specs.Cube.{matches}
 use Rattle.cpg_cube.specs.declared.literal.Literal.{Literal}
 use Rattle.cpg_table.specs.Table.{NodeTable, columns_of}
-use Rattle.cpg_cube.specs.Column.{Column}
+use Rattle.cpg_cube.specs.Column.{Column, column_at}
 use Rattle.cpg_table.specs.Heard.{exactly, value_fact}
 use Rattle.cpg_violation.specs.Lines.{IsLine}
-use Rattle.cpg_violation.specs.Sieves.{column_at}
 use Rattle.cpg_check_heard.specs.declared.bound.Bound.{Bound}
 use Rattle.cpg_check_heard.specs.declared.tellers.Telling.{Telling}
 use Rattle.cpg_check_heard.specs.declared.tellers.Telling.TheVariants.{End, Frame}
@@ -22,7 +21,8 @@ use Rattle.cpg_check_heard.specs.Bounds.{tells, variable_of}
 
 -- whether an end or a frame by a column has come by a time and tells a bound
 abbrev pub column_tells : Graph → Telling → ℕ → Bound → Scenario → Column → Bool
-column_tells g (End p) time b s c = nat_le (c.time + duration g p (number_of s p)) time && list_any (tells b) (exactly p (number_of s p) ∷ value_fact s (condition_of g p))
+column_tells g (End p) time b s c = nat_le (c.time + duration g p (number_of s p)) time
+    && list_any (tells b) (exactly p (number_of s p) ∷ value_fact s (condition_of g p))
 column_tells g (Frame delay condition) time b s c = nat_le (c.time + delay) time && list_any (tells b) (c.cube ++ value_fact s condition)
 
 -- whether a column matches, and its end or frame tells a bound by a time

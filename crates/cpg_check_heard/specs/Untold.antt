@@ -18,4 +18,5 @@ are_told_by g tables time b items s = list_any (item_tells g tables time b s) it
 
 -- whether the node's own ends do: those of the variable's process, if it is on the node
 abbrev pub own_tells : Graph → List NodeTable → ℕ → ℕ → Bound → Scenario → Bool
-own_tells g tables node time b s = (node_of g (process_of_variable g (variable_of b)) == node) && item_tells g tables time b s (process_of_variable g (variable_of b))
+own_tells g tables node time b s = (node_of g (process_of_variable g (variable_of b)) == node)
+    && item_tells g tables time b s (process_of_variable g (variable_of b))

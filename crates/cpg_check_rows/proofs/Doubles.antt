@@ -8,9 +8,9 @@ use Rattle.cpg_base.specs.Scenario.{Scenario}
 use Rattle.cpg_base.specs.First.{IsFirst}
 use Rattle.cpg_base.proofs.First.{first_same}
 use Rattle.cpg_cube.specs.Cube.{matches}
-use Rattle.cpg_cube.specs.Column.{Column}
+use Rattle.cpg_cube.specs.Column.{Column, column_at}
 use Rattle.cpg_table.specs.Valid.{breaks_single}
-use Rattle.cpg_violation.specs.Sieves.{column_at, is_at}
+use Rattle.cpg_violation.specs.Sieves.{is_at}
 use Rattle.cpg_violation.proofs.SieveLaws.{before_at}
 use Rattle.cpg_violation.proofs.Tests.{same_where}
 use Rattle.cpg_check_rows.specs.Single.{is_double}

@@ -2,7 +2,7 @@
 use Rattle.std.proofs.Common.{ℕ, zero, suc, ◌∷◌, All, ◌+◌, ◌<◌, ◌≤◌, ◌≡◌, Bool, true, false, not, ◌&&◌, List, [], length, map, Option, Some, None, arith, refl, sym, ap, ◌∙◌, subst, inl, inr, lt-ltb}
 use Rattle.std.specs.Prelude.{nat_lt, take, drop}
 use Rattle.std.specs.List.{list_any}
-use Rattle.std.proofs.lemmas.Bool.{and_right, cases_lt}
+use Rattle.std.proofs.lemmas.Bool.{and_left, and_right, cases_lt}
 use Rattle.cpg_base.specs.Graph.{Graph, process_count, edge_count, item_at, message_item, broadcast_item, is_message, source, edge_at, condition_of, process_of}
 use Rattle.cpg_base.specs.declared.item.Item.TheVariants.{Broadcast}
 use Rattle.cpg_base.specs.Activity.{active, is_active, live, item_active}
@@ -34,9 +34,6 @@ turned false true true = refl
 turned false true false = refl
 turned false false n = refl
 
-and_off : (a n : Bool) → a ≡ false → (a && n) ≡ false
-and_off a n e = ap (λ b. b && n) e
-
 module _ (g : Graph) (order : List ℕ) (columns : List Column) (x : ℕ) where
   -- the item is active where a process is and a cube matches
   pub absent_from : (p : ℕ) (cube : List Literal) → ((s : Scenario) → IsScenario g s → item_active g s.values (item_at g x) ≡ (active g s.values p && matches cube s)) → (o : Option Scenario)
@@ -48,7 +45,7 @@ module _ (g : Graph) (order : List ℕ) (columns : List Column) (x : ℕ) where
 
   -- the item is never active
   pub absent_never : ((s : Scenario) → IsScenario g s → item_active g s.values (item_at g x) ≡ false) → IsFirst g order (is_absent g columns x) None
-  absent_never off = λ s i. and_off (item_active g s.values (item_at g x)) (not (list_any (λ (d : Column). matches d.cube s) columns)) (off s i)
+  absent_never off = λ s i. and_left (item_active g s.values (item_at g x)) (not (list_any (λ (d : Column). matches d.cube s) columns)) (off s i)
 
 module _ (g : Graph) (s : Scenario) where
   pub start_active : (x : ℕ) → x < process_count g → item_active g s.values (item_at g x) ≡ (active g s.values x && matches [] s)

@@ -14,10 +14,10 @@ ghost use Rattle.cpg_violation.specs.Sure.{AreSure};
 ghost use Rattle.cpg_violation.specs.Violation.{Holds, IsFirstViolation};
 
 use cpg_base::{Item, OutOfMemory, Scenario};
-use cpg_cube::{Cube, Entry};
+use cpg_cube::{Cube, Entry, cubes_of};
 use cpg_rules::Admitted;
 use cpg_table::{Fault, Rule, Tables};
-use cpg_violation::{cubes_of, edge_cube, is_marked, least_at};
+use cpg_violation::{edge_cube, is_marked, least_at};
 use std::alloc::Global;
 
 /// The least scenario that a cube matches and no column does, and in which a process is active; if there is one.

@@ -19,9 +19,10 @@ ghost use Rattle.cpg_check_rows.specs.Single.{is_double};
 
 use cpg_base::{Order, OutOfMemory, Problem, Scenario};
 use cpg_cube::{Cube, Entry, earlier};
+use cpg_places::tree_of;
 use cpg_rules::Admitted;
 use cpg_table::{Fault, Rule, Tables};
-use cpg_violation::{Line, Sieve, is_marked, met, tree_of};
+use cpg_violation::{Line, Sieve, is_marked, met};
 use std::alloc::Global;
 
 /// The least scenario that a cube matches together with the column at a place, if there is one.

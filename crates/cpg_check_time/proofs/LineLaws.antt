@@ -8,8 +8,7 @@ use Rattle.cpg_base.proofs.Lists.{same_truth, list_any_true, list_any_parts, Con
 use Rattle.cpg_base.specs.Scenario.{Scenario}
 use Rattle.cpg_cube.specs.Cube.{matches}
 use Rattle.cpg_cube.specs.declared.literal.Literal.{Literal}
-use Rattle.cpg_cube.specs.Column.{Column}
-use Rattle.cpg_violation.specs.Sieves.{column_at}
+use Rattle.cpg_cube.specs.Column.{Column, column_at}
 
 -- the columns at these places are found
 abbrev pub AreFound : List Column → List Column → List ℕ → Type 0

@@ -3,9 +3,8 @@ ghost use Rattle.std.specs.Prelude.{◌≡◌, ◌≤◌, ◌<◌, ◌++◌, ◌
 ghost use Rattle.std.specs.List.{list_any};
 ghost use Rattle.cpg_cube.specs.Cube.{matches};
 ghost use Rattle.cpg_base.specs.Scenario.{Scenario};
-ghost use Rattle.cpg_cube.specs.Column.{Column};
+ghost use Rattle.cpg_cube.specs.Column.{Column, column_at};
 ghost use Rattle.cpg_violation.specs.Lines.{IsLine};
-ghost use Rattle.cpg_violation.specs.Sieves.{column_at};
 
 use cpg_base::OutOfMemory;
 use cpg_cube::{Cube, Entry};

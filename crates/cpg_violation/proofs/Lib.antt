@@ -13,4 +13,3 @@ pub mod Moments
 pub mod Tests
 pub mod LiveEdges
 pub mod Durations
-pub mod TreeLaws

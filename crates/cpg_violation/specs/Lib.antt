@@ -11,4 +11,3 @@ pub mod PartedFalls
 pub mod Sieves
 pub mod Parts
 pub mod Lines
-pub mod Trees

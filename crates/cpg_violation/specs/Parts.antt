@@ -2,9 +2,8 @@
 use Rattle.std.specs.Prelude.{ℕ, ◌≡◌, ◌<◌, true, false, List, Contains, length, nat_le}
 use Rattle.cpg_base.specs.Scenario.{Scenario, number_of}
 use Rattle.cpg_cube.specs.Cube.{matches}
-use Rattle.cpg_cube.specs.Column.{Column}
+use Rattle.cpg_cube.specs.Column.{Column, column_at}
 use Rattle.cpg_violation.specs.declared.sieve.Sides.{Sides}
-use Rattle.cpg_violation.specs.Sieves.{column_at}
 
 -- of some places those at which scenarios up to a cut match are on the low side, and those above it on the high side
 pub record ArePartsOf (columns : List Column) (places : List ℕ) (sides : Sides) : Type 0 where

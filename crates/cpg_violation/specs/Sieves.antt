@@ -1,9 +1,9 @@
 -- Sieves: parted places of columns, among which each column is found by each scenario that it matches.
-use Rattle.std.specs.Prelude.{ℕ, ◌≡◌, ◌<◌, Bool, true, ◌&&◌, nat_lt, nat_le, if◌then◌else◌, List, [], Contains, length, get_or}
+use Rattle.std.specs.Prelude.{ℕ, ◌≡◌, ◌<◌, Bool, true, ◌&&◌, nat_lt, nat_le, if◌then◌else◌, List, Contains, length}
 use Rattle.cpg_base.specs.Scenario.{Scenario, number_of}
 use Rattle.cpg_cube.specs.Cube.{matches}
 use Rattle.cpg_cube.specs.declared.literal.Literal.{Literal}
-use Rattle.cpg_cube.specs.Column.{Column}
+use Rattle.cpg_cube.specs.Column.{Column, column_at}
 use Rattle.cpg_violation.specs.Parted.{Parted, Leaf, Cut}
 
 -- whether two ranges have a number in common
@@ -14,10 +14,6 @@ touch l m = nat_le l.low m.high && nat_le m.low l.high
 abbrev pub places_in : Parted → Scenario → List ℕ
 places_in (Leaf places) s = places
 places_in (Cut v most below above) s = if nat_le (number_of s v) most then places_in below s else places_in above s
-
--- the column at a place
-abbrev pub column_at : List Column → ℕ → Column
-column_at columns i = get_or columns i (record { time = 0; cube = [] })
 
 -- whether there is a column at a place and it matches
 abbrev pub is_at : List Column → Scenario → ℕ → Bool

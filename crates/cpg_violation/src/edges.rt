@@ -1,5 +1,5 @@
-//! The cubes of columns, and the scenarios that let edges be live.
-ghost use Rattle.std.specs.Prelude.{◌≡◌, ◌<◌, IfOk, map};
+//! The scenarios that let edges be live.
+ghost use Rattle.std.specs.Prelude.{◌≡◌, ◌<◌, IfOk};
 ghost use Rattle.cpg_base.specs.Graph.{condition_of, edge_at, edge_count, process_count, source};
 ghost use Rattle.cpg_rules.specs.Guards.{is_passed, test_of};
 ghost use Rattle.cpg_base.specs.Scenario.{Scenario};
@@ -8,20 +8,8 @@ ghost use Rattle.cpg_cube.specs.Fit.{IsKnown};
 
 use crate::activity::value_literal;
 use cpg_base::{OutOfMemory, Problem};
-use cpg_cube::{Cube, Entry};
+use cpg_cube::Cube;
 use std::alloc::Global;
-
-/// A reference to the cube of each column.
-pub fn cubes_of<'a>(alloc: Global, columns: &'a [Entry]) -> Result<Vec<&'a Cube>, OutOfMemory>
-    ensures { IfOk result (λ cubes. map (λ b. b.now) cubes.items ≡ map (λ c. c.cube) columns.now) }
-{
-    let mut cubes = Vec::new(alloc);
-    cubes.reserve(columns.len())?;
-    for column in columns {
-        cubes.push(&column.cube)?;
-    }
-    Ok(cubes)
-}
 
 /// The cube of the scenarios in which the source of an edge has the value that the edge asks for.
 pub fn edge_cube(alloc: Global, problem: &Problem, edge: u32) -> Result<Cube, OutOfMemory>

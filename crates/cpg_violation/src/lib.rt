@@ -9,13 +9,11 @@ mod lines;
 mod marks;
 mod meeting;
 mod sieve;
-mod trees;
 
 pub use activity::{least_at, value_literal};
-pub use edges::{cubes_of, edge_cube};
+pub use edges::edge_cube;
 pub use heads::{HeadPart, first_difference};
 pub use lines::{Line, first_time, last_time, lines_of};
 pub use marks::{RowMarks, TimeMarks, are_all, is_marked};
 pub use meeting::met;
 pub use sieve::Sieve;
-pub use trees::tree_of;

@@ -5,7 +5,8 @@ ghost use Rattle.std.specs.Bool.{OnFalse};
 ghost use Rattle.cpg_base.specs.declared.limits.TheConstants.{MOST_LOAD};
 ghost use Rattle.cpg_base.specs.Scenario.{Scenario, number_of};
 ghost use Rattle.cpg_cube.specs.Cube.{holds, matches};
-ghost use Rattle.cpg_violation.specs.Sieves.{IsSieveOf, Sifts, column_at, places_in};
+ghost use Rattle.cpg_cube.specs.Column.{column_at};
+ghost use Rattle.cpg_violation.specs.Sieves.{IsSieveOf, Sifts, places_in};
 ghost use Rattle.cpg_violation.specs.Parts.{ArePartsOf};
 
 use crate::apart::may_meet;

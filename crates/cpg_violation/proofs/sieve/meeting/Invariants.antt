@@ -1,7 +1,7 @@
 use Rattle.std.proofs.Common.{◌≡◌, ◌<◌, ℕ, Contains, length, true, take}
 use Rattle.cpg_base.specs.Scenario.{Scenario}
 use Rattle.cpg_cube.specs.Cube.{matches}
-use Rattle.cpg_violation.specs.Sieves.{column_at}
+use Rattle.cpg_cube.specs.Column.{column_at}
 use Rattle.cpg_violation.proofs.sieve.meeting.Given as goal
 
 abbrev pub invariant-loop-place : goal.invariant-loop-place

@@ -1,0 +1,15 @@
+-- Where literals hold.
+use Rattle.std.proofs.Common.{take, ◌+◌, List, get_or, length, ℕ, ◌≡◌, ◌<◌, true, false, ◌∙◌}
+use Rattle.std.proofs.lemmas.Bool.{and_from, both_ways, false_from_ne_true}
+use Rattle.std.proofs.lemmas.List.Folds.{list_all_more}
+use Rattle.cpg_base.specs.Scenario.{Scenario}
+use Rattle.cpg_cube.specs.declared.literal.Literal.{Literal}
+use Rattle.cpg_cube.specs.Cube.{holds, matches}
+
+-- the literals so far
+pub matches_more : (s : Scenario) (ls : List Literal) (i : ℕ) (d : Literal) → i < length ls → matches (take i ls) s ≡ true → holds s (get_or ls i d) ≡ true → matches (take (i + 1) ls) s ≡ true
+matches_more s ls i d there before h = list_all_more (holds s) ls i d there ∙ and_from (matches (take i ls) s) (holds s (get_or ls i d)) before h
+
+-- what doesn't hold where a literal of those that match must
+pub unsaid : (s : Scenario) (ls : List Literal) (l : Literal) → (matches ls s ≡ true → holds s l ≡ true) → holds s l ≡ false → matches ls s ≡ false
+unsaid s ls l said off = false_from_ne_true (matches ls s) (λ all. both_ways (holds s l) off (said all))

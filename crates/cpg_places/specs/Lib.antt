@@ -1,0 +1,4 @@
+pub mod Places
+pub mod Spots
+pub mod Slices
+pub mod Trees

@@ -1,0 +1,92 @@
+//! The places that scenarios of a space come to.
+ghost use Rattle.std.specs.Prelude.{◌≡◌, ℕ, Contains, IfOk};
+ghost use Rattle.std.specs.Bool.{OnTrue};
+ghost use Rattle.cpg_base.specs.Scenario.{Scenario};
+ghost use Rattle.cpg_tree.specs.Space.{Lies};
+ghost use Rattle.cpg_tree.specs.Decision.{value_at};
+ghost use Rattle.cpg_places.specs.Places.{IsAmong};
+
+use crate::walk::Test;
+use cpg_base::OutOfMemory;
+use cpg_tree::{Node, Space};
+
+/// Adds a place, if there is one; whether there is.
+fn add_place(place: Option<u32>, found: &mut Vec<u32>) -> Result<bool, OutOfMemory>
+    ensures kept { IfOk result (λ _. (i : ℕ) → Contains found.old.items i → Contains found.new.items i) }
+    ensures found { IfOk result (λ there. OnTrue there (IsAmong found.new.items place)) }
+{
+    let Some(one) = place else {
+        return Ok(false);
+    };
+    found.push(one)?;
+    Ok(true)
+}
+
+/// Adds the places that scenarios of a space come to, as long as there is one and a test passes at each; false where it
+/// stopped before the last. The space is changed on the way, and is as before where it didn't stop.
+fn gather_each<J: Test>(
+    node: &Node<Option<u32>>,
+    space: &mut Space,
+    test: &J,
+    found: &mut Vec<u32>,
+) -> Result<bool, OutOfMemory>
+    ensures kept { IfOk result (λ _. (i : ℕ) → Contains found.old.items i → Contains found.new.items i) }
+    ensures found { IfOk result (λ all. OnTrue all ((s : Scenario) → Lies space.old s → J.tells test.now (value_at node.now s) s ×
+        IsAmong found.new.items (value_at node.now s))) }
+    ensures same { IfOk result (λ all. OnTrue all (space.new ≡ space.old)) }
+{
+    match node {
+        Node::Leaf(place) => {
+            if !test.passes(*place, space) {
+                return Ok(false);
+            }
+            let there = add_place(*place, found)?;
+            Ok(there)
+        }
+        Node::Fork {
+            variable,
+            cut,
+            sides,
+        } => {
+            let (below, above) = &**sides;
+            if !space.is_open_below(*variable, *cut) {
+                let all = gather_each(above, space, test, found)?;
+                return Ok(all);
+            }
+            if !space.is_open_above(*variable, *cut) {
+                let all = gather_each(below, space, test, found)?;
+                return Ok(all);
+            }
+            let most = space.close_above(*variable, *cut);
+            let low = gather_each(below, space, test, found)?;
+            if !low {
+                return Ok(false);
+            }
+            space.reopen_above(*variable, most);
+            let was = space.close_below(*variable, *cut);
+            let high = gather_each(above, space, test, found)?;
+            if !high {
+                return Ok(false);
+            }
+            space.reopen_below(*variable, was);
+            Ok(true)
+        }
+    }
+}
+
+/// Adds the places that scenarios of a space come to, as long as there is one and a test passes at each; false where it
+/// stopped before the last.
+pub(crate) fn gather<J: Test>(
+    node: &Node<Option<u32>>,
+    space: &Space,
+    test: &J,
+    found: &mut Vec<u32>,
+) -> Result<bool, OutOfMemory>
+    ensures kept { IfOk result (λ _. (i : ℕ) → Contains found.old.items i → Contains found.new.items i) }
+    ensures found { IfOk result (λ all. OnTrue all ((s : Scenario) → Lies space.now s → J.tells test.now (value_at node.now s) s ×
+        IsAmong found.new.items (value_at node.now s))) }
+{
+    let mut own = *space;
+    let all = gather_each(node, &mut own, test, found)?;
+    Ok(all)
+}

@@ -1,0 +1,12 @@
+//! Trees of the places of cubes: the place of the one that a scenario matches.
+#![tactic(auto)]
+
+mod gathering;
+mod places;
+mod slices;
+mod trees;
+mod walk;
+
+pub use places::Places;
+pub use trees::tree_of;
+pub use walk::Test;

@@ -1,0 +1,84 @@
+//! Whether a test passes wherever scenarios of a space come to.
+ghost use Rattle.std.specs.Prelude.{◌≡◌, ℕ, Option};
+ghost use Rattle.std.specs.Bool.{OnTrue};
+ghost use Rattle.cpg_base.specs.Scenario.{Scenario};
+ghost use Rattle.cpg_tree.specs.Space.{Lies};
+ghost use Rattle.cpg_tree.specs.Decision.{value_at};
+
+use cpg_tree::{Node, Space};
+
+/// A test of the places that scenarios come to: what it tells where it passes.
+pub trait Test {
+    ghost tells: { Self → Option ℕ → Scenario → Type 0 };
+
+    /// Whether a place passes, as far as scenarios of a space come to it.
+    fn passes(&self, place: Option<u32>, space: &Space) -> bool
+        ensures { OnTrue result ((s : Scenario) → Lies space.now s → tells self.now place s) };
+}
+
+/// Whether a test passes at each place that scenarios of a space come to. The space is changed on the way, and is as
+/// before where it does.
+fn do_pass_each<J: Test>(node: &Node<Option<u32>>, space: &mut Space, test: &J) -> bool
+    ensures passed { OnTrue result ((s : Scenario) → Lies space.old s → J.tells test.now (value_at node.now s) s) }
+    ensures same { OnTrue result (space.new ≡ space.old) }
+{
+    match node {
+        Node::Leaf(place) => test.passes(*place, space),
+        Node::Fork {
+            variable,
+            cut,
+            sides,
+        } => {
+            let (below, above) = &**sides;
+            if !space.is_open_below(*variable, *cut) {
+                return do_pass_each(above, space, test);
+            }
+            if !space.is_open_above(*variable, *cut) {
+                return do_pass_each(below, space, test);
+            }
+            let most = space.close_above(*variable, *cut);
+            if !do_pass_each(below, space, test) {
+                return false;
+            }
+            space.reopen_above(*variable, most);
+            let was = space.close_below(*variable, *cut);
+            if !do_pass_each(above, space, test) {
+                return false;
+            }
+            space.reopen_below(*variable, was);
+            true
+        }
+    }
+}
+
+/// The same with a space of its own to change. In a function of its own, since that is cleared at each call.
+fn do_pass_in_all<J: Test>(node: &Node<Option<u32>>, space: &Space, test: &J) -> bool
+    ensures { OnTrue result ((s : Scenario) → Lies space.now s → J.tells test.now (value_at node.now s) s) }
+{
+    let mut own = *space;
+    do_pass_each(node, &mut own, test)
+}
+
+/// Whether a test passes at each place that scenarios of a space come to. The space isn't copied as long as one side of
+/// each fork is closed, as mostly.
+pub(crate) fn do_pass<J: Test>(node: &Node<Option<u32>>, space: &Space, test: &J) -> bool
+    ensures { OnTrue result ((s : Scenario) → Lies space.now s → J.tells test.now (value_at node.now s) s) }
+{
+    match node {
+        Node::Leaf(place) => test.passes(*place, space),
+        Node::Fork {
+            variable,
+            cut,
+            sides,
+        } => {
+            let (below, above) = &**sides;
+            if !space.is_open_below(*variable, *cut) {
+                return do_pass(above, space, test);
+            }
+            if !space.is_open_above(*variable, *cut) {
+                return do_pass(below, space, test);
+            }
+            do_pass_in_all(node, space, test)
+        }
+    }
+}

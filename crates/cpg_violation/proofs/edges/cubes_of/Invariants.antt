@@ -1,5 +1,0 @@
-use Rattle.std.proofs.Common.{◌≡◌, take, map}
-use Rattle.cpg_violation.proofs.edges.cubes_of.Given as goal
-
-abbrev pub invariant-loop-column : goal.invariant-loop-column
-invariant-loop-column l = map (λ b. b.now) l.cubes.items ≡ map (λ c. c.cube) (take l.column-index l.columns)
