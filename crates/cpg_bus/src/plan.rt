@@ -186,6 +186,7 @@ impl Plan {
         requires { self.now ≡ plan_of problem.now }
         ensures { result ≡ round problem.now }
     {
+        // that the graph is within its limits is told with its slots
         let _slots = problem.slots();
         self.round
     }

@@ -104,7 +104,7 @@ impl Share {
     }
 
     /// Whether the slot starts at the time.
-    pub fn is_start(&self, time: u64) -> bool
+    pub(crate) fn is_start(&self, time: u64) -> bool
         ensures { result ≡ (next_of self.now time == time) }
     {
         if time < self.offset {

@@ -2,10 +2,10 @@
 use Rattle.std.proofs.Common.{◌≡◌, ℕ, zero, suc, ◌+◌, ◌*◌, ◌-◌, ◌/◌, ◌^◌, ◌<◌, ◌≤◌, true, false, ltb, leb, List, [], ◌∷◌, ◌++◌, length, get_or, take, drop, Ok, Err, refl, sym, ap, subst, ◌∙◌, arith}
 use Rattle.std.specs.Int.{w64, from_be_bytes, to_be_bytes}
 use Rattle.std.proofs.lemmas.Bool.{lt-ltb, le-ltb, le-leb, lt-leb, and_from, and_left, and_right}
-use Rattle.std.proofs.lemmas.List.{length-drop}
 use Rattle.std.proofs.lemmas.Nat.{be_bytes_8, mul-le, pow-add}
 use Rattle.std.proofs.Math.Nat.{one-le-pow, div-mul-le_self, lt-div-mul-add, pow-suc}
 use Rattle.std.proofs.Math.Seq.{take-length}
+use Rattle.cpg_io.proofs.Writes.{rest_of}
 use Rattle.cpg_codec.specs.Reading.{digit_may, digits_at, number_at, within}
 use Rattle.cpg_codec.specs.Fields.{field}
 use Rattle.cpg_codec.proofs.Numbers.{field_reads}
@@ -128,9 +128,6 @@ first_fits bytes fits (suc (suc (suc (suc (suc zero))))) = fits 5
 first_fits bytes fits (suc (suc (suc (suc (suc (suc zero)))))) = fits 6
 first_fits bytes fits (suc (suc (suc (suc (suc (suc (suc zero))))))) = fits 7
 first_fits bytes fits (suc (suc (suc (suc (suc (suc (suc (suc i)))))))) = omega arith
-
-rest_of : (at : ℕ) (bytes : List ℕ) → take (length bytes - at) (drop at bytes) ≡ drop at bytes
-rest_of at bytes = let e : length bytes - at ≡ length (drop at bytes) = sym (length-drop at bytes) in rw e (take-length (drop at bytes))
 
 pub long_found : (low high n : ℕ) (bytes : List ℕ) → low ≤ high → high < 2 ^ 64 → 8 ≤ length bytes → IsBytes bytes → n ≡ from_be_bytes w64 (first_8 bytes) → (low ≤ n) × (n ≤ high)
     → number_at 8 (within low high) bytes ≡ Ok (n, take (length bytes - 8) (drop 8 bytes))

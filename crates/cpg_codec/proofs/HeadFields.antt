@@ -1,6 +1,6 @@
 -- The fields of a head.
 use Rattle.std.proofs.Common.{◌≡◌, ℕ, zero, suc, ◌+◌, ◌-◌, ◌^◌, ◌<◌, ◌≤◌, Bool, true, false, cond, eqb, ltb, List, [], ◌∷◌, ◌++◌, length, Option, Some, None, refl, sym, ap, subst, ◌∙◌, append_assoc, arith, inl, inr, ◌⊎◌, ◌↔◌}
-use Rattle.std.specs.Prelude.{IfSome, IsTrue, unwrap_or}
+use Rattle.std.specs.Prelude.{IfSome, IsTrue}
 use Rattle.std.specs.List.{flat_map, AllByRecursion}
 use Rattle.std.specs.Int.{w16, w32, w64, to_be_bytes}
 use Rattle.std.proofs.lemmas.Bool.{eqb-true, ne_eqb, ltb-true, ltb-false, cases_Bool, or_cases, or_left, or_right}
@@ -16,7 +16,7 @@ use Rattle.cpg_codec.specs.Packs.{IsPackHead}
 use Rattle.cpg_codec.proofs.Laws.{Reads, pure_reads, seq, adapt, byte_reads}
 use Rattle.cpg_codec.proofs.Numbers.{IsChoice, within_chooses, number_reads, field_reads, small_reads}
 use Rattle.cpg_codec.proofs.Lists.{each_reads, times_reads, down_is}
-use Rattle.cpg_codec.proofs.WrittenHeads.{IsExtraOf, IsWritten, none_of, AreProcesses, version_made, written_made, made_lawful, written_count, head_again, head_processes, version_within, limit_some, limit_most, processes_limit, edges_limit}
+use Rattle.cpg_codec.proofs.WrittenHeads.{IsExtraOf, IsWritten, none_of, AreProcesses, version_made, written_made, made_lawful, written_length, head_again, head_processes, version_within, limit_some, limit_most, processes_limit, edges_limit}
 
 -- ---- names
 
@@ -260,9 +260,6 @@ edge_reads processes some few =
 head_spell : (h : Head) → to_be_bytes w32 magic ++ (byte (version_of h) ++ (byte h.faults ++ (byte (length h.nodes) ++ (flat_map name_bytes h.nodes ++ (byte (length h.processes) ++ (flat_map process_bytes (written h) ++ (to_be_bytes w16 (length h.edges) ++ (flat_map edge_bytes h.edges ++ [])))))))) ≡ head_bytes h
 head_spell h = regroup_9 (to_be_bytes w32 magic) (byte (version_of h)) (byte h.faults) (byte (length h.nodes)) (flat_map name_bytes h.nodes) (byte (length h.processes)) (flat_map process_bytes (written h)) (to_be_bytes w16 (length h.edges)) (flat_map edge_bytes h.edges)
 
-written_is : (h : Head) → length (written h) ≡ length h.processes
-written_is h = written_count h.processes (unwrap_or h.extras [])
-
 -- the fields in their order, as they stand in a head
 record Parts (h : Head) : Type 0 where
   version : (1 ≤ version_of h) × (version_of h ≤ 2)
@@ -277,7 +274,7 @@ record Parts (h : Head) : Type 0 where
 
 from_parts : (h : Head) → Parts h → IsPackHead h
 from_parts h p =
-    let n = written_is h in
+    let n = written_length h in
     subst IsPackHead (sym p.same)
     (made_lawful (version_of h) h.faults h.nodes (written h) h.edges p.version.1 p.faults p.few_nodes p.nodes (omega (arith, n, p.few, limit_most (length h.nodes) 128))
     (subst (λ (c : ℕ). AreProcesses (version_of h) h.faults (length h.nodes) c 0 (written h)) (sym n) p.processes)
@@ -314,7 +311,7 @@ head_reads =
     (λ es h fes q. ap (λ (x : Head). x.edges) q))
     (λ e h fe q. q.0.0))
     (λ ws h fws q. ap written q.1.1 ∙ written_made v k n ns ws h.edges fv.0 fv.1 fws.each))
-    (λ c h fc q. sym (written_is h) ∙ q.0.count_is))
+    (λ c h fc q. sym (written_length h) ∙ q.0.count_is))
     (λ ns h fns q. ap (λ (x : Head). x.nodes) q.1.1.1.1))
     (λ n h fn q. q.0.0))
     (λ k h fk q. ap (λ (x : Head). x.faults) q.1.1.1.1.1.1))

@@ -18,4 +18,5 @@ pub mod WholePack
 pub mod Records
 pub mod Lengths
 pub mod Taking
+pub mod Rests
 pub mod Blocks

@@ -51,7 +51,8 @@ abbrev pub written : Head → List Written
 written h = written_by h.processes (unwrap_or h.extras [])
 
 abbrev pub process_bytes : Written → List ℕ
-process_bytes w = name_bytes w.process.name ++ byte w.process.node ++ byte (bit w.process.condition) ++ flat_map (to_be_bytes w64) w.process.times ++ extra_bytes w.extra
+process_bytes w = name_bytes w.process.name ++ byte w.process.node ++ byte (bit w.process.condition)
+    ++ flat_map (to_be_bytes w64) w.process.times ++ extra_bytes w.extra
 
 abbrev pub edge_bytes : ℕ × ℕ → List ℕ
 edge_bytes e = byte e.0 ++ byte e.1

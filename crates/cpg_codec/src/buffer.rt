@@ -94,7 +94,7 @@ impl Buffer {
     }
 
     /// Adds literals, three bytes each, for which there is room.
-    pub fn hold_literals(&mut self, literals: &[Literal])
+    pub(crate) fn hold_literals(&mut self, literals: &[Literal])
         requires { length self.old + 3 * length literals.now ≤ 65536 }
         ensures { self.new ≡ self.old ++ flat_map literal_bytes literals.now }
     {

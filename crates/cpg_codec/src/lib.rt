@@ -18,6 +18,7 @@ mod row_reading;
 mod row_taking;
 mod row_writing;
 mod space;
+mod unread;
 mod writing;
 
 pub use buffer::Buffer;

@@ -12,16 +12,14 @@ use crate::field_reading::{number_of, small_of, time_of};
 use crate::fixed::{
     Fixed, column_literals, column_time, literal_high, literal_low, literal_variable,
 };
-use crate::row_taking::take_table;
-use crate::space::Space;
+use crate::row_taking::take_lawful;
+use crate::space::{is_variable, room};
+use crate::unread::Unread;
 use cpg_base::{FIRST_VALUE, MOST_COLUMNS, MOST_LOAD, OutOfMemory, top};
 use cpg_cube::{Cube, Entry, Literal};
-use cpg_head::Head;
-use cpg_table::{NodeTable, Row};
+use cpg_head::{Head, TIME_END};
+use cpg_table::{NodeTable, Row, Space};
 use std::alloc::Global;
-
-/// Times are below this, in time units of the graph file.
-const TIME_END: u64 = 1 << 60;
 
 /// Whether a literal may be on a variable, after those below `least` and with `left` more after it.
 fn variable_may(space: &Space, least: u32, left: u32, variable: u8) -> bool
@@ -29,7 +27,7 @@ fn variable_may(space: &Space, least: u32, left: u32, variable: u8) -> bool
     ensures { result ≡ variable_may space.now least left variable }
 {
     let variable = variable as u32;
-    (least <= variable && space.has(variable)) && left <= space.room(variable + 1)
+    (least <= variable && is_variable(space, variable)) && left <= room(space, variable + 1)
 }
 
 fn variable_of<'a>(
@@ -178,7 +176,7 @@ fn front_by_fields<'a>(bytes: &'a [u8], space: &Space) -> Result<(u64, u8, &'a [
     ensures { Gives (λ x. ((x.0, x.1), x.2.now)) result (front_at space.now bytes.now) }
 {
     let (time, rest) = time_of(bytes)?;
-    let (count, rest) = small_of(rest, 0, space.room(0) as u8)?;
+    let (count, rest) = small_of(rest, 0, room(space, 0) as u8)?;
     Ok((time, count, rest))
 }
 
@@ -186,7 +184,7 @@ fn is_front(space: &Space, time: u64, count: u8) -> bool
     requires { IsSpace space.now }
     ensures { IsTrue result → (time < 2 ^ 60) × (count ≤ room space.now 0) }
 {
-    time < TIME_END && u32::from(count) <= space.room(0)
+    time < TIME_END && u32::from(count) <= room(space, 0)
 }
 
 /// The time of a column, and how many literals it has.
@@ -242,9 +240,9 @@ fn columns_of<'a>(
     Ok((columns, rest))
 }
 
-/// A row, where `before` columns were read before, and how many were read up to its end.
+/// A row, field by field.
 #[tactic(auto, unfolding(crate::specs::Grammar::row_at))]
-fn row_of<'a>(
+fn row_by_fields<'a>(
     alloc: Global,
     bytes: &'a [u8],
     space: &Space,
@@ -262,78 +260,91 @@ fn row_of<'a>(
     Ok((Row::new(item, columns), before + count, rest))
 }
 
-/// The rows of these items, where `before` columns were read before, and how many were read up to their end.
-fn rows_of<'a>(
+/// A row, where `before` columns were read before, and how many were read up to its end. `held` is for literals.
+fn row_of<'a>(
     alloc: Global,
+    held: &mut Vec<Literal>,
     bytes: &'a [u8],
     space: &Space,
-    items: &[u32],
+    item: u32,
     before: u64,
-) -> Result<(Vec<Row>, u64, &'a [u8]), ReadError>
+) -> Result<(Row, u64, &'a [u8]), ReadError>
     requires space { IsSpace space.now }
     requires before { before ≤ MOST_LOAD }
-    ensures gives { Gives (λ x. (x.0.items, x.2.now)) result (rows_at space.now items.now before bytes.now) }
-    ensures total { IfOk result (λ x. (x.1 ≡ before + column_count x.0.items) × (x.1 ≤ MOST_LOAD)) }
+    ensures gives { Gives (λ x. (x.0, x.2.now)) result (row_at space.now item before bytes.now) }
+    ensures total { IfOk result (λ x. (x.1 ≡ before + length x.0.columns) × (x.1 ≤ MOST_LOAD)) }
 {
-    let mut rows = Vec::with_capacity(alloc, items.len())?;
-    let mut rest = bytes;
-    let mut total = before;
-    for item in items {
-        let (row, now, after) = row_of(alloc, rest, space, *item, total)?;
-        total = now;
-        rows.push(row)?;
-        rest = after;
+    match take_lawful(alloc, held, bytes, space, item, before) {
+        Ok(taken) => Ok(taken),
+        Err(Untaken::Memory) => Err(ReadError::Memory),
+        Err(Untaken::Odd) => row_by_fields(alloc, bytes, space, item, before),
     }
-    Ok((rows, total, rest))
 }
 
-/// The table of a node, field by field.
-#[tactic(auto, unfolding(crate::specs::Grammar::node_table_at))]
-fn table_by_fields<'a>(
+/// The next row, which is read then.
+fn next_row(
     alloc: Global,
-    bytes: &'a [u8],
-    head: &Head,
+    held: &mut Vec<Literal>,
+    unread: &mut Unread,
     space: &Space,
-    node: u32,
+    item: u32,
+    before: u64,
+) -> Result<(Row, u64), ReadError>
+    requires space { IsSpace space.now }
+    requires before { before ≤ MOST_LOAD }
+    ensures gives { Gives (λ x. (x.0, unread.new)) result (row_at space.now item before unread.old) }
+    ensures total { IfOk result (λ x. (x.1 ≡ before + length x.0.columns) × (x.1 ≤ MOST_LOAD)) }
+{
+    let (row, total, rest) = row_of(alloc, held, unread.rest(), space, item, before)?;
+    let left = rest.len();
+    unread.read_to(left);
+    Ok((row, total))
+}
+
+/// The rows of these items, where `before` columns were read before, and how many were read up to their end.
+fn rows_of(
+    alloc: Global,
+    unread: &mut Unread,
+    space: &Space,
     items: &[u32],
     before: u64,
-) -> Result<(NodeTable, u64, &'a [u8]), ReadError>
-    requires space { space.now ≡ space_of head.now }
-    requires within { IsSpace space.now }
+) -> Result<(Vec<Row>, u64), ReadError>
+    requires space { IsSpace space.now }
     requires before { before ≤ MOST_LOAD }
-    requires items { items.now ≡ items_of_node head.now node }
-    ensures gives { Gives (λ x. (x.0, x.2.now)) result (node_table_at head.now node before bytes.now) }
-    ensures total { IfOk result (λ x. (x.1 ≡ before + column_count (rows_of x.0)) × (x.1 ≤ MOST_LOAD)) }
+    ensures gives { Gives (λ x. (x.0.items, unread.new)) result (rows_at space.now items.now before unread.old) }
+    ensures total { IfOk result (λ x. (x.1 ≡ before + column_count x.0.items) × (x.1 ≤ MOST_LOAD)) }
 {
-    let (rows, total, rest) = rows_of(alloc, bytes, space, items, before)?;
-    let table = NodeTable::new(alloc, head, node, rows)?;
-    match table {
-        Some(table) => Ok((table, total, rest)),
-        None => unreachable!(),
+    let mut held = Vec::new(alloc);
+    let mut rows = Vec::with_capacity(alloc, items.len())?;
+    let mut total = before;
+    for item in items {
+        let (row, now) = next_row(alloc, &mut held, unread, space, *item, total)?;
+        total = now;
+        rows.push(row)?;
     }
+    Ok((rows, total))
 }
 
 /// The table of a node, where `before` columns were read before, and how many were read up to its end. `items` are
 /// those of its rows.
-pub fn table_of<'a>(
+#[tactic(auto, unfolding(crate::specs::Grammar::node_table_at))]
+pub fn table_of(
     alloc: Global,
-    bytes: &'a [u8],
+    unread: &mut Unread,
     head: &Head,
     space: &Space,
     node: u32,
     items: &[u32],
     before: u64,
-) -> Result<(NodeTable, u64, &'a [u8]), ReadError>
+) -> Result<(NodeTable, u64), ReadError>
     requires space { space.now ≡ space_of head.now }
     requires within { IsSpace space.now }
     requires before { before ≤ MOST_LOAD }
     requires items { items.now ≡ items_of_node head.now node }
-    ensures gives { Gives (λ x. (x.0, x.2.now)) result (node_table_at head.now node before bytes.now) }
+    ensures gives { Gives (λ x. (x.0, unread.new)) result (node_table_at head.now node before unread.old) }
     ensures total { IfOk result (λ x. (x.1 ≡ before + column_count (rows_of x.0)) × (x.1 ≤ MOST_LOAD)) }
 {
-    match take_table(alloc, bytes, head, node, items, before) {
-        Ok(taken) => Ok(taken),
-        Err(Untaken::Memory) => Err(ReadError::Memory),
-        Err(Untaken::Odd) => table_by_fields(alloc, bytes, head, space, node, items, before),
-    }
+    let (rows, total) = rows_of(alloc, unread, space, items, before)?;
+    let table = NodeTable::of_rows(alloc, head, node, rows)?;
+    Ok((table, total))
 }

@@ -1,17 +1,15 @@
-//! Rows taken from bytes as they stand: their literals are judged once, where a whole table is made of them. Reading
-//! field by field tells where bytes that make no table go wrong.
+//! Rows taken from bytes as they stand: their literals are judged once, where a whole row is made of them. Reading field by
+//! field tells where bytes that make no row go wrong.
 ghost use Rattle.std.specs.Prelude.{◌≡◌, ◌≤◌, ◌+◌, ◌++◌, ◌∷◌, length, Ok, IfOk};
 ghost use Rattle.std.specs.List.{flat_map};
 ghost use Rattle.std.specs.Int.{w64, to_be_bytes};
-ghost use Rattle.cpg_table.specs.Lawful.{space_of, column_count, rows_of};
 ghost use Rattle.cpg_codec.specs.Spelling.{literal_bytes, column_bytes, row_bytes};
-ghost use Rattle.cpg_codec.specs.Grammar.{IsSpace, node_table_at};
+ghost use Rattle.cpg_codec.specs.Grammar.{IsSpace, row_at};
 
 use crate::fault::Untaken;
 use cpg_base::MOST_LOAD;
 use cpg_cube::{Cube, Entry, Literal};
-use cpg_head::Head;
-use cpg_table::{NodeTable, Row};
+use cpg_table::{Row, Space, is_row};
 use std::alloc::Global;
 
 /// The time of a column, in time units of the graph file, and how many literals it has.
@@ -139,6 +137,7 @@ fn take_row<'a>(
     most: u64,
 ) -> Result<(Row, &'a [u8]), Untaken>
     ensures taken { IfOk result (λ x. bytes.now ≡ row_bytes x.0 ++ x.1.now) }
+    ensures item { IfOk result (λ x. x.0.item ≡ item) }
     ensures few { IfOk result (λ x. length x.0.columns ≤ most) }
 {
     let [high, low, rest @ ..] = bytes else {
@@ -152,48 +151,24 @@ fn take_row<'a>(
     Ok((Row::new(item, columns), rest))
 }
 
-/// The rows of these items, where `before` columns were read before, and how many were read up to their end.
-fn take_rows<'a>(
+/// A lawful row, where `before` columns were read before, and how many were read up to its end.
+pub fn take_lawful<'a>(
     alloc: Global,
+    held: &mut Vec<Literal>,
     bytes: &'a [u8],
-    items: &[u32],
+    space: &Space,
+    item: u32,
     before: u64,
-) -> Result<(Vec<Row>, u64, &'a [u8]), Untaken>
-    requires { before ≤ MOST_LOAD }
-    ensures taken { IfOk result (λ x. bytes.now ≡ flat_map row_bytes x.0.items ++ x.2.now) }
-    ensures total { IfOk result (λ x. (x.1 ≡ before + column_count x.0.items) × (x.1 ≤ MOST_LOAD)) }
-{
-    let mut held = Vec::new(alloc);
-    let mut rows = Vec::with_capacity(alloc, items.len())?;
-    let mut rest = bytes;
-    let mut total = before;
-    for item in items {
-        let (row, after) = take_row(alloc, &mut held, rest, *item, MOST_LOAD - total)?;
-        total += row.entries().len() as u64;
-        rows.push(row)?;
-        rest = after;
-    }
-    Ok((rows, total, rest))
-}
-
-/// The table of a node, where `before` columns were read before, and how many were read up to its end. `items` are
-/// those of its rows.
-pub fn take_table<'a>(
-    alloc: Global,
-    bytes: &'a [u8],
-    head: &Head,
-    node: u32,
-    items: &[u32],
-    before: u64,
-) -> Result<(NodeTable, u64, &'a [u8]), Untaken>
-    requires within { IsSpace (space_of head.now) }
+) -> Result<(Row, u64, &'a [u8]), Untaken>
+    requires space { IsSpace space.now }
     requires before { before ≤ MOST_LOAD }
-    ensures taken { IfOk result (λ x. node_table_at head.now node before bytes.now ≡ Ok (x.0, x.2.now)) }
-    ensures total { IfOk result (λ x. (x.1 ≡ before + column_count (rows_of x.0)) × (x.1 ≤ MOST_LOAD)) }
+    ensures taken { IfOk result (λ x. row_at space.now item before bytes.now ≡ Ok (x.0, x.2.now)) }
+    ensures total { IfOk result (λ x. (x.1 ≡ before + length x.0.columns) × (x.1 ≤ MOST_LOAD)) }
 {
-    let (rows, total, rest) = take_rows(alloc, bytes, items, before)?;
-    match NodeTable::new(alloc, head, node, rows)? {
-        Some(table) => Ok((table, total, rest)),
-        None => Err(Untaken::Odd),
+    let (row, rest) = take_row(alloc, held, bytes, item, MOST_LOAD - before)?;
+    if !is_row(*space, &row) {
+        return Err(Untaken::Odd);
     }
+    let total = before + row.entries().len() as u64;
+    Ok((row, total, rest))
 }

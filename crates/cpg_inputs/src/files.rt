@@ -95,7 +95,7 @@ pub fn read_tables<S: Shelf>(alloc: Global, shelf: &mut S, name: &str) -> Result
     ensures halt { (g : Option Graph) → IfErr result (StopsNext g (file PackFile name.now) (S.state shelf.old).history (S.state shelf.new).history) }
 {
     let bytes = read_file(alloc, shelf, Kind::PackFile, name)?;
-    match read_pack(alloc, bytes.as_slice()) {
+    match read_pack(alloc, bytes) {
         Ok(tables) => Ok(tables),
         Err(fault) => Err(Halt::of_pack(fault)),
     }

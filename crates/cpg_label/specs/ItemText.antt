@@ -9,11 +9,13 @@ use Rattle.cpg_label.specs.Labels.{Labels, process_name, condition_name, edge_en
 -- what the item of a number is, where nothing but the labels is known of the graph
 abbrev pub item_of : Labels → ℕ → Item
 item_of labels x = if nat_lt x (length labels.processes) then Start x else
-    if nat_lt x (length labels.processes + length labels.edges) then Message (x - length labels.processes) else Broadcast (x - length labels.processes - length labels.edges)
+    if nat_lt x (length labels.processes + length labels.edges) then Message (x - length labels.processes)
+    else Broadcast (x - length labels.processes - length labels.edges)
 
 -- an edge, with its number and the names of its ends
 abbrev pub edge_text : Labels → ℕ → List ℕ
-edge_text labels e = codes "e" ++ decimal e ++ codes " " ++ process_name labels (edge_ends labels e).0 ++ codes ">" ++ process_name labels (edge_ends labels e).1
+edge_text labels e = codes "e" ++ decimal e ++ codes " " ++ process_name labels (edge_ends labels e).0 ++ codes ">"
+    ++ process_name labels (edge_ends labels e).1
 
 -- what the node of an item does with it
 abbrev pub act_text : Labels → Item → List ℕ

@@ -175,7 +175,7 @@ impl<'a> Labels<'a> {
     }
 
     /// The text of a literal, where it is at hand.
-    pub fn phrase(&self, literal: Literal) -> Option<&Phrase>
+    pub(crate) fn phrase(&self, literal: Literal) -> Option<&Phrase>
         ensures { IfSome result (λ p. IsPhraseOf self.now literal p.now) }
     {
         match self.phrases.get(self.counts.place_of(literal)) {

@@ -106,6 +106,23 @@ impl NodeTable {
         Ok(Some(table))
     }
 
+    /// The table of a node with the lawful rows of its items, which were judged before.
+    pub fn of_rows(
+        alloc: Global,
+        head: &Head,
+        node: u32,
+        rows: Vec<Row>,
+    ) -> Result<NodeTable, OutOfMemory>
+        requires { AreRowsOf head.now node rows.items }
+        ensures table { IfOk result (λ t. IsTableOf head.now node t) }
+        ensures rows { IfOk result (λ t. rows_of t ≡ rows.items) }
+    {
+        match counts_of(head, node, rows.as_slice()) {
+            Some(counts) => NodeTable::of(alloc, head, node, counts, rows),
+            None => unreachable!(),
+        }
+    }
+
     /// How many faults the table bears.
     pub fn faults(&self) -> u8
         ensures faults { result ≡ self.now.faults }

@@ -93,7 +93,8 @@ fn are_columns(space: Space, columns: &[Entry]) -> bool
     columns.iter().all(|column| is_column(space, column))
 }
 
-fn is_row(space: Space, row: &Row) -> bool
+/// Whether a row is lawful.
+pub fn is_row(space: Space, row: &Row) -> bool
     ensures { IsTrue result ↔ IsLawfulRow space row.now }
 {
     let columns = row.entries();

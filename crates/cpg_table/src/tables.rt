@@ -1,11 +1,12 @@
 //! The tables of all nodes.
-ghost use Rattle.std.specs.Prelude.{◌≡◌, ◌↔◌, ◌≤◌, ◌<◌, ◌+◌, ℕ, IsTrue, IfOk, IfSome, IfNone, length, sum_by};
+ghost use Rattle.std.specs.Prelude.{◌≡◌, ◌↔◌, ◌≤◌, ◌<◌, ℕ, IsTrue, IfOk, IfSome, IfNone, length, sum_by};
 ghost use Rattle.cpg_table.specs.Table.{columns_of, table_at};
 ghost use Rattle.cpg_table.specs.Lawful.{IsTableOf, AreTablesOf, column_count, rows_of};
 
+use crate::NodeTable;
+use crate::column_counts::count_table;
 use crate::found::row_columns;
 use crate::node_table::is_table_of;
-use crate::{NodeTable, Row};
 use cpg_base::{MOST_LOAD, MOST_NODES, OutOfMemory};
 use cpg_cube::Entry;
 use cpg_head::Head;
@@ -43,44 +44,18 @@ fn are_tables_of(head: &Head, nodes: &[NodeTable]) -> bool
     true
 }
 
-/// What is left of a number of columns after those of these rows; `None` exactly where these are more.
-fn columns_left(rows: &[Row], most: usize) -> Option<usize>
-    ensures few { IfSome result (λ left. left + column_count rows.now ≡ most) }
-    ensures many { IfNone result (most < column_count rows.now) }
-{
-    let mut left = most;
-    for row in rows {
-        let columns = row.entries().len();
-        if columns > left {
-            return None;
-        }
-        left -= columns;
-    }
-    Some(left)
-}
-
-/// What is left of a number of columns after those of a table; `None` exactly where these are more.
-fn table_left(table: &NodeTable, most: usize) -> Option<usize>
-    ensures few { IfSome result (λ left. left + column_count (rows_of table.now) ≡ most) }
-    ensures many { IfNone result (most < column_count (rows_of table.now)) }
-{
-    let left = columns_left(table.starts(), most)?;
-    let left = columns_left(table.sends(), left)?;
-    columns_left(table.hears(), left)
-}
-
 /// Whether the tables have not too many columns.
 fn are_columns_few(nodes: &[NodeTable]) -> bool
     ensures { IsTrue result ↔ (sum_by (λ t. column_count (rows_of t)) nodes.now ≤ MOST_LOAD) }
 {
-    let mut left = MOST_LOAD as usize;
+    let mut total = 0;
     for table in nodes {
-        let Some(rest) = table_left(table, left) else {
+        let Some(count) = count_table(table, total) else {
             return false;
         };
-        left = rest;
+        total = count;
     }
-    true
+    total as u64 <= MOST_LOAD
 }
 
 impl Tables {
@@ -149,6 +124,18 @@ impl Tables {
         ensures nodes { result.items ≡ self.nodes }
     {
         self.nodes
+    }
+
+    /// The head, and the table of a node.
+    pub fn into_node(self, number: u32) -> (Head, NodeTable)
+        requires { number < length self.head.nodes }
+        ensures head { result.0 ≡ self.head }
+        ensures table { result.1 ≡ table_at self.nodes number }
+    {
+        let Tables { head, nodes } = self;
+        let mut tables = nodes;
+        let table = tables.swap_remove(number as usize);
+        (head, table)
     }
 
     /// Equal tables.

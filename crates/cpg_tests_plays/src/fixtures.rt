@@ -41,7 +41,8 @@ fn problem(alloc: Global) -> Result<Problem, Fail> {
 }
 
 fn tables(alloc: Global) -> Result<Tables, Fail> {
-    Ok(read_pack(alloc, &PACK).map_err(|_| "pack")?)
+    let bytes = Vec::from_slice(alloc, &PACK)?;
+    Ok(read_pack(alloc, bytes).map_err(|_| "pack")?)
 }
 
 /// The graph, if it has two nodes.

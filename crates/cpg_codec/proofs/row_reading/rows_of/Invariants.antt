@@ -9,8 +9,8 @@ use Rattle.cpg_codec.proofs.row_reading.rows_of.Given as goal
 
 abbrev pub invariant-loop-item : goal.invariant-loop-item
 invariant-loop-item l = record {
-  so_far : with_front l.rows.items (each_at (λ (c : ℕ) (r : Row). c + length r.columns) (row_at l.fn.space) (drop l.item-index l.fn.items) l.total l.rest)
-      ≡ rows_at l.fn.space l.fn.items l.fn.before l.fn.bytes;
+  so_far : with_front l.rows.items (each_at (λ (c : ℕ) (r : Row). c + length r.columns) (row_at l.fn.space) (drop l.item-index l.fn.items) l.total l.unread)
+      ≡ rows_at l.fn.space l.fn.items l.fn.before l.fn.unread;
   total : l.total ≡ l.fn.before + column_count l.rows.items;
   few : l.total ≤ MOST_LOAD;
 }

@@ -1,7 +1,6 @@
 use Rattle.std.proofs.Common.{◌≡◌, ◌+◌, drop, sum_by}
-use Rattle.cpg_base.specs.declared.limits.TheConstants.{MOST_LOAD}
 use Rattle.cpg_table.specs.Lawful.{column_count, rows_of}
 use Rattle.cpg_table.proofs.tables.are_columns_few.Given as goal
 
 abbrev pub invariant-loop-table : goal.invariant-loop-table
-invariant-loop-table l = sum_by (λ t. column_count (rows_of t)) l.nodes + l.left ≡ MOST_LOAD + sum_by (λ t. column_count (rows_of t)) (drop l.table-index l.nodes)
+invariant-loop-table l = l.total + sum_by (λ t. column_count (rows_of t)) (drop l.table-index l.nodes) ≡ sum_by (λ t. column_count (rows_of t)) l.nodes

@@ -1,0 +1,18 @@
+-- What a reader leaves of bytes is their last part.
+use Rattle.std.proofs.Common.{◌≡◌, ℕ, ◌-◌, ◌≤◌, List, ◌++◌, length, drop, Ok, sym, ap, ap₂, ◌∙◌, arith}
+use Rattle.std.proofs.lemmas.List.{length-append}
+use Rattle.std.proofs.Math.Seq.{drop-append_seam}
+use Rattle.cpg_codec.specs.Reading.{Reader}
+use Rattle.cpg_codec.proofs.Laws.{Reads}
+
+last_part : (bytes front rest : List ℕ) → bytes ≡ front ++ rest → drop (length bytes - length rest) bytes ≡ rest
+last_part bytes front rest e =
+    let n : length bytes - length rest ≡ length front = omega (arith, ap length e, length-append front rest) in
+    ap₂ (λ (n : ℕ) (bs : List ℕ). drop n bs) n e ∙ drop-append_seam front rest
+
+module _ {A : Type 0} {Fits : A → Type 0} {spell : A → List ℕ} {read : Reader A} (reads : Reads Fits spell read) where
+  pub left_within : (bytes : List ℕ) (x : A) (rest : List ℕ) → read bytes ≡ Ok (x, rest) → length rest ≤ length bytes
+  left_within bytes x rest e = let p = (reads.takes bytes x rest e).1 in omega (arith, ap length p, length-append (spell x) rest)
+
+  pub left_is : (bytes : List ℕ) (x : A) (rest : List ℕ) → read bytes ≡ Ok (x, rest) → read bytes ≡ Ok (x, drop (length bytes - length rest) bytes)
+  left_is bytes x rest e = e ∙ ap (λ (t : List ℕ). Ok (x, t)) (sym (last_part bytes (spell x) rest (reads.takes bytes x rest e).1))
