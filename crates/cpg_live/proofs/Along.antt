@@ -134,8 +134,10 @@ along_at name past shelf rest count start now out f n s a t none within whole e 
     subst (IsAlongAt count name past rest.history start out) (told_as shelf rest f n s count t e) (record { along = along; end = fed_end name past shelf rest count start now f n a t })
 
 -- before the first byte
-pub opened : (h : Head) (table : NodeTable) (live : LiveState) → live ≡ open_stream table → record { head = h; table = table; live = live; told = 0; read = 0 } ≡ open_follower h table
-opened h table live e = ap (λ (s : LiveState). record { head = h; table = table; live = s; told = 0; read = 0 }) e
+pub opened : (h k : Head) (table made : NodeTable) (live : LiveState) → k ≡ h → made ≡ table → live ≡ open_stream made →
+    record { head = k; table = live.progress.dispatcher.table; live = live; told = 0; read = 0 } ≡ open_follower h table
+opened h k table made live same is e =
+    ap₂ (λ (h : Head) (s : LiveState). record { head = h; table = s.progress.dispatcher.table; live = s; told = 0; read = 0 }) same (e ∙ ap open_stream is)
 
 -- ---- where the shelf met a fault
 

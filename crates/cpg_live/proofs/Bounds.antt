@@ -1,5 +1,5 @@
 -- How many acts a node can do in all: each entry of its table is taken at most once.
-use Rattle.std.proofs.Common.{◌≡◌, ℕ, zero, suc, ◌+◌, ◌≤◌, Bool, true, false, cond, List, [], ◌∷◌, length, fold, Option, Some, None, refl, arith, ◌&&◌}
+use Rattle.std.proofs.Common.{◌≡◌, ℕ, zero, suc, ◌+◌, ◌≤◌, Bool, true, false, cond, List, [], ◌∷◌, length, fold, Option, Some, None, refl, ap, ◌∙◌, arith, ◌&&◌}
 use Rattle.std.specs.Prelude.{is_some, nat_lt}
 use Rattle.std.proofs.lemmas.List.{length-append}
 use Rattle.cpg_table.specs.Table.{NodeTable}
@@ -87,11 +87,17 @@ module _ (table : NodeTable) (most : ℕ) where
       go false true = h
       go false false = h
 
--- the acts after bytes are at most as many as the columns of what the node sends and starts
-pub few_acts : (table : NodeTable) (bytes : List ℕ) → length (after table bytes).progress.acts ≤ column_count table.sends + column_count table.starts
-few_acts table bytes =
+after_few : (table : NodeTable) (bytes : List ℕ) → HasFew table (column_count table.sends + column_count table.starts) (after table bytes).progress
+after_few table bytes =
     let most = column_count table.sends + column_count table.starts in
     let first : HasFew table most (start table) = record { same = refl; few = omega (arith, room_open (opening table)) } in
     let s : LiveState = fold take_record (open_stream table) (cut bytes).whole in
-    let h = rest_few table most s (cut bytes).rest (records_few table most (open_stream table) (cut bytes).whole first) in
-    omega (arith, h.few)
+    rest_few table most s (cut bytes).rest (records_few table most (open_stream table) (cut bytes).whole first)
+
+-- the acts after bytes are at most as many as the columns of what the node sends and starts
+pub few_acts : (table : NodeTable) (bytes : List ℕ) → length (after table bytes).progress.acts ≤ column_count table.sends + column_count table.starts
+few_acts table bytes = let h = after_few table bytes in omega (arith, h.few)
+
+-- the table stays
+pub table_after : (table : NodeTable) (bytes : List ℕ) (s : LiveState) → s ≡ after table bytes → s.progress.dispatcher.table ≡ table
+table_after table bytes s e = ap (λ (s : LiveState). s.progress.dispatcher.table) e ∙ (after_few table bytes).same

@@ -1,7 +1,7 @@
 -- What a follower keeps for its calls.
 use Rattle.std.specs.Prelude.{ℕ, ◌≡◌, ◌+◌, ◌*◌, ◌≤◌, List, length}
 use Rattle.std.specs.Vec.{vec_capacity}
-use Rattle.cpg_table.specs.Table.{NodeTable, table_at}
+use Rattle.cpg_table.specs.Table.{NodeTable}
 use Rattle.cpg_table.specs.Lawful.{column_count}
 use Rattle.cpg_live.specs.Stream.{after}
 use Rattle.cpg_live.specs.declared.act_lines.TheConstants.{MOST_LINE}
@@ -11,11 +11,11 @@ use Rattle.cpg_live.specs.Follower.{Follower}
 
 -- the table of its node
 abbrev pub table_in : Inside → NodeTable
-table_in f = table_at f.tables.nodes f.node
+table_in f = f.live.progress.dispatcher.table
 
 -- the fields as they are seen
 abbrev pub follower_of : Inside → Follower
-follower_of f = record { head = f.tables.head; table = table_in f; live = f.live; told = f.told; read = f.read }
+follower_of f = record { head = f.head; table = table_in f; live = f.live; told = f.told; read = f.read }
 
 -- how many acts a node can do: one for each column of what it sends and starts
 abbrev pub entry_count : NodeTable → ℕ

@@ -5,7 +5,6 @@ ghost use Rattle.cpg_io.specs.Agreement.{LeavesRest};
 ghost use Rattle.cpg_io.specs.Causes.{HasCause, Rose};
 ghost use Rattle.cpg_io.specs.Shelf.{SameLeave, SameNames};
 ghost use Rattle.cpg_io.specs.Sink.{Took, TookPrefix};
-ghost use Rattle.cpg_table.specs.Lawful.{column_count};
 ghost use Rattle.cpg_table.specs.Table.{table_at};
 ghost use Rattle.cpg_live.specs.Follower.{open_follower};
 ghost use Rattle.cpg_live.specs.Following.{Closes, GoesOn, IsAlongAt, IsLeftBy, IsOfSame, TakesPiece};
@@ -13,10 +12,12 @@ ghost use Rattle.cpg_live.specs.LinesKept.{entry_count};
 ghost use Rattle.cpg_live.specs.Streams.{act_lines, closed_line, fault_line};
 
 use crate::act_lines::{MOST_LINE, append_acts, append_closed, append_refused};
+use crate::progress::count_entries;
 use crate::{Bad, Live};
 use cpg_base::OutOfMemory;
+use cpg_head::Head;
 use cpg_io::{Failed, Shelf, Sink, write_all};
-use cpg_table::{NodeTable, Row, Tables};
+use cpg_table::{NodeTable, Tables};
 use std::alloc::Global;
 use std::marker::Model;
 
@@ -60,8 +61,7 @@ struct Fed {
 /// node's table and state, how many of its acts are told, and how many bytes were fed.
 #[derive(Drop)]
 pub struct Follower {
-    tables: Tables,
-    node: u32,
+    head: Head,
     live: Live,
     lines: Vec<u8>,
     told: usize,
@@ -79,23 +79,11 @@ impl Model for Follower {
     ghost invariant = { IsFollowing };
 }
 
-/// How many columns rows have, and how many came before. No memory could hold more than are counted.
-fn count_columns(rows: &[Row], before: usize) -> Option<usize>
-    ensures { IfSome result (λ count. count ≡ before + column_count rows.now) }
-{
-    let mut count = before;
-    for row in rows {
-        count = count.checked_add(row.entries().len())?;
-    }
-    Some(count)
-}
-
 /// The bytes of the lines of all acts that a node can do, and of one more.
 fn room_of(table: &NodeTable) -> Option<usize>
     ensures { IfSome result (λ room. room ≡ MOST_LINE * (entry_count table.now + 1)) }
 {
-    let sends = count_columns(table.sends(), 0)?;
-    let entries = count_columns(table.starts(), sends)?;
+    let entries = count_entries(table)?;
     let lines = entries.checked_add(1)?;
     lines.checked_mul(MOST_LINE)
 }
@@ -106,7 +94,7 @@ impl Follower {
         requires { node < length tables.head.nodes }
         ensures { IfOk result (λ f. f ≡ open_follower tables.head (table_at tables.nodes node)) }
     {
-        let table = tables.node(node).copy()?;
+        let (head, table) = tables.into_node(node);
         let Some(room) = room_of(&table) else {
             return Err(OutOfMemory);
         };
@@ -114,8 +102,7 @@ impl Follower {
         lines.reserve(room)?;
         let live = Live::new(alloc, table)?;
         Ok(Follower {
-            tables,
-            node,
+            head,
             live,
             lines,
             told: 0,
@@ -159,7 +146,7 @@ impl Follower {
         let told = self.told;
         let acts = self.live.acts();
         self.lines.clear();
-        append_acts(&mut self.lines, self.tables.head(), &acts[told..]);
+        append_acts(&mut self.lines, &self.head, &acts[told..]);
         self.told = acts.len();
         write_all(out, self.lines.as_slice())
     }

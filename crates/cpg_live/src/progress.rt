@@ -1,7 +1,6 @@
 //! A node, and the acts of all its turns.
-ghost use Rattle.std.specs.Prelude.{◌≡◌, ◌≤◌, ◌<◌, ◌+◌, ◌++◌, Some, true, IfOk, length};
-ghost use Rattle.std.specs.Vec.{vec_capacity};
-ghost use Rattle.cpg_table.specs.Lawful.{column_count};
+ghost use Rattle.std.specs.Prelude.{◌≡◌, ◌<◌, ◌≤◌, ◌+◌, ◌^◌, Some, true, IfOk, IfSome, IfNone};
+ghost use Rattle.cpg_table.specs.Lawful.{column_count, IsTable};
 ghost use Rattle.cpg_node.specs.Dispatcher.{next, is_after};
 ghost use Rattle.cpg_node.specs.Instants.{instants_left};
 ghost use Rattle.cpg_live.specs.Feeding.{IsTurned, AreFewTurns};
@@ -11,8 +10,8 @@ use crate::Why;
 use crate::ending::{count_within, may_end};
 use crate::event::Event;
 use cpg_base::OutOfMemory;
-use cpg_node::{Act, Ended, Frame, Node};
-use cpg_table::{NodeTable, Row};
+use cpg_node::{Act, Ended, Frame, Node, append_acts};
+use cpg_table::{NodeTable, count_columns};
 use std::alloc::Global;
 use std::marker::Model;
 
@@ -34,29 +33,15 @@ impl Model for Progress {
     ghost invariant = { HasRoom };
 }
 
-/// How many columns rows have, and how many came before. No memory could hold more than are counted.
-fn count_columns(rows: &[Row], before: usize) -> Result<usize, OutOfMemory>
-    ensures { IfOk result (λ count. count ≡ before + column_count rows.now) }
+/// How many acts the node of a table can do: one for each column of what it sends and starts. `None` exactly where a machine
+/// word can't hold so many.
+pub fn count_entries(table: &NodeTable) -> Option<usize>
+    ensures count { IfSome result (λ count. count ≡ column_count table.now.sends + column_count table.now.starts) }
+    ensures many { IfNone result (2 ^ 64 ≤ column_count table.now.sends + column_count table.now.starts) }
+    ensures made { IsTable table.now }
 {
-    let mut count = before;
-    for row in rows {
-        let Some(more) = count.checked_add(row.entries().len()) else {
-            return Err(OutOfMemory);
-        };
-        count = more;
-    }
-    Ok(count)
-}
-
-/// Adds acts to those so far.
-fn append_acts(acts: &mut Vec<Act>, more: &[Act])
-    requires { length (acts.old.items ++ more.now) ≤ vec_capacity acts.old }
-    ensures acts { acts.new.items ≡ acts.old.items ++ more.now }
-    ensures room { vec_capacity acts.new ≡ vec_capacity acts.old }
-{
-    for act in more {
-        acts.push_reserved(*act);
-    }
+    let sends = count_columns(table.sends(), 0)?;
+    count_columns(table.starts(), sends)
 }
 
 impl Progress {
@@ -64,8 +49,9 @@ impl Progress {
     pub fn new(alloc: Global, table: NodeTable) -> Result<Progress, OutOfMemory>
         ensures { IfOk result (λ progress. progress ≡ start table) }
     {
-        let sends = count_columns(table.sends(), 0)?;
-        let entries = count_columns(table.starts(), sends)?;
+        let Some(entries) = count_entries(&table) else {
+            return Err(OutOfMemory);
+        };
         let mut acts = Vec::new(alloc);
         acts.reserve(entries)?;
         let node = Node::new(alloc, table)?;

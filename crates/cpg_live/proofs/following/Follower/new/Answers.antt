@@ -1,24 +1,22 @@
-use Rattle.std.proofs.Common.{◌≡◌, ◌∙◌, [], refl, ap, arith}
+use Rattle.std.proofs.Common.{◌≡◌, ◌∙◌, [], refl, sym, ap, arith}
 use Rattle.cpg_table.specs.Table.{table_at}
-use Rattle.cpg_live.specs.Stream.{open_stream}
+use Rattle.cpg_live.specs.Stream.{LiveState, open_stream}
 use Rattle.cpg_live.specs.LinesKept.{entry_count}
 use Rattle.cpg_live.proofs.Along.{opened}
 use Rattle.cpg_live.proofs.following.Follower.new.Goals as goal
 
 pub invariant_of-result : goal.invariant_of-result
 invariant_of-result c =
-    let same : c.in_ok-table.table ≡ table_at c.args.tables.nodes c.args.node = c.in_ok-table.ensures ∙ c.node.ensures.table in
-    let count = ap entry_count same in
+    let is = c.in_ok-live.ensures in
+    let same = ap (λ (s : LiveState). s.progress.dispatcher.table) is in
     record {
       fed = [];
-      live = c.in_ok-live.ensures ∙ ap open_stream same;
+      live = is ∙ ap open_stream (sym same);
       read = refl;
       few = omega arith;
       told = omega arith;
-      room = omega (arith, c.in_ok-reserve.ensures.ok, c.in-Some.ensures, count);
+      room = omega (arith, c.in_ok-reserve.ensures.ok, c.in-Some.ensures, ap entry_count same);
     }
 
 pub returns : goal.returns
-returns c =
-    let same : c.in_ok-table.table ≡ table_at c.args.tables.nodes c.args.node = c.in_ok-table.ensures ∙ c.node.ensures.table in
-    opened c.args.tables.head (table_at c.args.tables.nodes c.args.node) c.in_ok-live.live (c.in_ok-live.ensures ∙ ap open_stream same)
+returns c = opened c.args.tables.head c.into_node-head.result.0 (table_at c.args.tables.nodes c.args.node) c.into_node-head.result.1 c.in_ok-live.live c.into_node-head.ensures.head c.into_node-head.ensures.table c.in_ok-live.ensures

@@ -1,9 +1,0 @@
-use Rattle.std.proofs.Common.{◌≡◌, ◌++◌, drop}
-use Rattle.std.specs.Vec.{vec_capacity}
-use Rattle.cpg_live.proofs.progress.append_acts.Given as goal
-
-abbrev pub invariant-loop-act : goal.invariant-loop-act
-invariant-loop-act l = record {
-  acts : l.acts.items ++ drop l.act-index l.more ≡ l.fn.acts.items ++ l.more;
-  room : vec_capacity l.acts ≡ vec_capacity l.fn.acts;
-}

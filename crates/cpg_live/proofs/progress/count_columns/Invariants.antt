@@ -1,6 +1,0 @@
-use Rattle.std.proofs.Common.{◌≡◌, ◌+◌, drop}
-use Rattle.cpg_table.specs.Lawful.{column_count}
-use Rattle.cpg_live.proofs.progress.count_columns.Given as goal
-
-abbrev pub invariant-loop-row : goal.invariant-loop-row
-invariant-loop-row l = l.count + column_count (drop l.row-index l.rows) ≡ l.before + column_count l.rows
