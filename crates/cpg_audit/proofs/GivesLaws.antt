@@ -113,10 +113,10 @@ module _ {g : Graph} {tables : List NodeTable} {s : Scenario} (k : Setting g tab
 
   -- ---- the cubes
 
-  module _ (idle : List (ℕ × List Literal)) (told : list_any (λ (c : ℕ × List Literal). matches c.1 s) idle ≡ is_some_idle g log.acts s) where
-    pub fits_left : Fits g tables log s → list_any (λ b. matches b s) (flat_map (excluded_of tables log) (numbers_below (item_count g)) ++ map (λ (c : ℕ × List Literal). c.1) idle) ≡ false
-    fits_left fits = list_any_false (λ b. matches b s) (flat_map (excluded_of tables log) (numbers_below (item_count g)) ++ map (λ (c : ℕ × List Literal). c.1) idle) (λ b c.
-        elim (Contains-append_cases (flat_map (excluded_of tables log) (numbers_below (item_count g))) (map (λ (c : ℕ × List Literal). c.1) idle) b c) [
+  module _ (idle : List Column) (told : list_any (λ (c : Column). matches c.cube s) idle ≡ is_some_idle g log.acts s) where
+    pub fits_left : Fits g tables log s → list_any (λ b. matches b s) (flat_map (excluded_of tables log) (numbers_below (item_count g)) ++ map (λ (c : Column). c.cube) idle) ≡ false
+    fits_left fits = list_any_false (λ b. matches b s) (flat_map (excluded_of tables log) (numbers_below (item_count g)) ++ map (λ (c : Column). c.cube) idle) (λ b c.
+        elim (Contains-append_cases (flat_map (excluded_of tables log) (numbers_below (item_count g))) (map (λ (c : Column). c.cube) idle) b c) [
           | inl h ↦ of_column b h
           | inr h ↦ of_idle b h
         ])
@@ -131,24 +131,24 @@ module _ {g : Graph} {tables : List NodeTable} {s : Scenario} (k : Setting g tab
         none_idle : is_some_idle g log.acts s ≡ false
         none_idle = list_any_false (λ (l : Logged). not (item_active g s.values (item_at g l.item))) log.acts (λ l c. ap not (fits.active l c))
 
-        of_idle : (b : List Literal) → Contains (map (λ (c : ℕ × List Literal). c.1) idle) b → matches b s ≡ false
-        of_idle b h = from_any_false (λ b. matches b s) (map (λ (c : ℕ × List Literal). c.1) idle) b (any_map (λ b. matches b s) (λ (c : ℕ × List Literal). c.1) idle ∙ told ∙ none_idle) h
+        of_idle : (b : List Literal) → Contains (map (λ (c : Column). c.cube) idle) b → matches b s ≡ false
+        of_idle b h = from_any_false (λ b. matches b s) (map (λ (c : Column). c.cube) idle) b (any_map (λ b. matches b s) (λ (c : Column). c.cube) idle ∙ told ∙ none_idle) h
 
-    pub left_fits : list_any (λ b. matches b s) (flat_map (excluded_of tables log) (numbers_below (item_count g)) ++ map (λ (c : ℕ × List Literal). c.1) idle) ≡ false → Fits g tables log s
+    pub left_fits : list_any (λ b. matches b s) (flat_map (excluded_of tables log) (numbers_below (item_count g)) ++ map (λ (c : Column). c.cube) idle) ≡ false → Fits g tables log s
     left_fits none = record {
       times = λ x c m. false_from_ne_true (is_excluded log.until (logged_time log.acts x) c.time) (λ e.
-          true≢false (sym m.holds ∙ from_any_false (λ b. matches b s) (flat_map (excluded_of tables log) (numbers_below (item_count g)) ++ map (λ (c : ℕ × List Literal). c.1) idle) c.cube none
-          (Contains-append_left (flat_map (excluded_of tables log) (numbers_below (item_count g))) (map (λ (c : ℕ × List Literal). c.1) idle) c.cube
+          true≢false (sym m.holds ∙ from_any_false (λ b. matches b s) (flat_map (excluded_of tables log) (numbers_below (item_count g)) ++ map (λ (c : Column). c.cube) idle) c.cube none
+          (Contains-append_left (flat_map (excluded_of tables log) (numbers_below (item_count g))) (map (λ (c : Column). c.cube) idle) c.cube
           (Contains-flat_map (excluded_of tables log) (numbers_below (item_count g)) x c.cube (Contains-numbers (item_count g) x (item_within k x c m.there))
           (Contains-map (λ (c : Column). c.cube) (filter (λ (c : Column). is_excluded log.until (logged_time log.acts x) c.time) (columns_of tables x)) c
           (Contains-filter (λ (c : Column). is_excluded log.until (logged_time log.acts x) c.time) (columns_of tables x) c e m.there))))));
       active = λ l c. not-false (item_active g s.values (item_at g l.item)) (from_any_false (λ (l : Logged). not (item_active g s.values (item_at g l.item))) log.acts l (sym told ∙ none_idle) c);
     }
       where
-        none_idle : list_any (λ (c : ℕ × List Literal). matches c.1 s) idle ≡ false
-        none_idle = sym (any_map (λ b. matches b s) (λ (c : ℕ × List Literal). c.1) idle) ∙ list_any_false (λ b. matches b s) (map (λ (c : ℕ × List Literal). c.1) idle) (λ b h.
-            from_any_false (λ b. matches b s) (flat_map (excluded_of tables log) (numbers_below (item_count g)) ++ map (λ (c : ℕ × List Literal). c.1) idle) b none
-            (Contains-append_right (flat_map (excluded_of tables log) (numbers_below (item_count g))) (map (λ (c : ℕ × List Literal). c.1) idle) b h))
+        none_idle : list_any (λ (c : Column). matches c.cube s) idle ≡ false
+        none_idle = sym (any_map (λ b. matches b s) (λ (c : Column). c.cube) idle) ∙ list_any_false (λ b. matches b s) (map (λ (c : Column). c.cube) idle) (λ b h.
+            from_any_false (λ b. matches b s) (flat_map (excluded_of tables log) (numbers_below (item_count g)) ++ map (λ (c : Column). c.cube) idle) b none
+            (Contains-append_right (flat_map (excluded_of tables log) (numbers_below (item_count g))) (map (λ (c : Column). c.cube) idle) b h))
 
 -- ---- the least scenario that is left
 
@@ -157,8 +157,8 @@ left_is false e = refl
 left_is true e = absurd (true≢false (sym e))
 
 module _ (g : Graph) (order : List ℕ) (tables : List NodeTable) (setting : (s : Scenario) → IsScenario g s → Setting g tables s) (log : Log) (is : IsLog g log)
-    (idle : List (ℕ × List Literal)) (told : (s : Scenario) → IsScenario g s → list_any (λ (c : ℕ × List Literal). matches c.1 s) idle ≡ is_some_idle g log.acts s)
-    (by : List (List Literal)) (are : by ≡ flat_map (excluded_of tables log) (numbers_below (item_count g)) ++ map (λ (c : ℕ × List Literal). c.1) idle) where
+    (idle : List Column) (told : (s : Scenario) → IsScenario g s → list_any (λ (c : Column). matches c.cube s) idle ≡ is_some_idle g log.acts s)
+    (by : List (List Literal)) (are : by ≡ flat_map (excluded_of tables log) (numbers_below (item_count g)) ++ map (λ (c : Column). c.cube) idle) where
   left_gives : (s : Scenario) → IsScenario g s → is_left by [] s ≡ true → Gives g tables log s
   left_gives s law e = fits_gives (setting s law) log is (left_fits (setting s law) log is idle (told s law)
       (ap (list_any (λ b. matches b s)) (sym are) ∙ left_is (list_any (λ b. matches b s) by) e))
@@ -184,5 +184,5 @@ excluded_known g tables log x known =
     let excluded : Column → Bool = λ c. is_excluded log.until (logged_time log.acts x) c.time in
     All-map (IsKnown g) (λ (c : Column). c.cube) (filter excluded (columns_of tables x)) (All-filter excluded (λ (c : Column). IsKnown g c.cube) (columns_of tables x) known)
 
-pub idle_known : (g : Graph) (kept : List (List Literal)) (idle : List (ℕ × List Literal)) → All (IsKnown g) kept → All (λ (c : ℕ × List Literal). IsKnown g c.1) idle → All (IsKnown g) (kept ++ map (λ (c : ℕ × List Literal). c.1) idle)
-idle_known g kept idle first then = All-append (IsKnown g) kept (map (λ (c : ℕ × List Literal). c.1) idle) first (All-map (IsKnown g) (λ (c : ℕ × List Literal). c.1) idle then)
+pub idle_known : (g : Graph) (kept : List (List Literal)) (idle : List Column) → All (IsKnown g) kept → All (λ (c : Column). IsKnown g c.cube) idle → All (IsKnown g) (kept ++ map (λ (c : Column). c.cube) idle)
+idle_known g kept idle first then = All-append (IsKnown g) kept (map (λ (c : Column). c.cube) idle) first (All-map (IsKnown g) (λ (c : Column). c.cube) idle then)

@@ -82,11 +82,11 @@ fn excluded<'a>(
 }
 
 /// Adds the cubes of columns.
-fn push_cubes<'a>(columns: &'a [(u64, Cube)], by: &mut Vec<&'a Cube>) -> Result<(), OutOfMemory>
-    ensures { IfOk result (λ _. map (λ b. b.now) by.new.items ≡ map (λ b. b.now) by.old.items ++ map (λ c. c.1) columns.now) }
+fn push_cubes<'a>(columns: &'a [Entry], by: &mut Vec<&'a Cube>) -> Result<(), OutOfMemory>
+    ensures { IfOk result (λ _. map (λ b. b.now) by.new.items ≡ map (λ b. b.now) by.old.items ++ map (λ c. c.cube) columns.now) }
 {
     for column in columns {
-        by.push(&column.1)?;
+        by.push(&column.cube)?;
     }
     Ok(())
 }

@@ -11,7 +11,7 @@ ghost use Rattle.cpg_audit.specs.Excluded.{idle_time, is_some_idle};
 ghost use Rattle.cpg_log.specs.Log.{IsActBy, is_act};
 
 use cpg_base::OutOfMemory;
-use cpg_cube::Cube;
+use cpg_cube::Entry;
 use cpg_expand::active_item;
 use cpg_log::Logged;
 use cpg_rules::Admitted;
@@ -35,15 +35,11 @@ fn idle(active: &Tree<bool>) -> Result<Tree<Option<u64>>, OutOfMemory>
 }
 
 /// The cubes of the scenarios in which an item isn't active.
-fn idle_columns(
-    alloc: Global,
-    admitted: &Admitted,
-    item: u32,
-) -> Result<Vec<(u64, Cube)>, OutOfMemory>
+fn idle_columns(alloc: Global, admitted: &Admitted, item: u32) -> Result<Vec<Entry>, OutOfMemory>
     requires { is_act admitted.now.graph item ≡ true }
-    ensures known { IfOk result (λ columns. All (λ c. IsKnown admitted.now.graph c.1) columns.items) }
+    ensures known { IfOk result (λ columns. All (λ c. IsKnown admitted.now.graph c.cube) columns.items) }
     ensures idle { IfOk result (λ columns. (s : Scenario) → IsScenario admitted.now.graph s →
-        list_any (λ c. matches c.1 s) columns.items ≡ not (item_active admitted.now.graph s.values (item_at admitted.now.graph item))) }
+        list_any (λ c. matches c.cube s) columns.items ≡ not (item_active admitted.now.graph s.values (item_at admitted.now.graph item))) }
 {
     let active = active_item(alloc, admitted, item)?;
     let idle = idle(&active)?;
@@ -56,11 +52,11 @@ pub fn all_idle(
     alloc: Global,
     admitted: &Admitted,
     acts: &[Logged],
-) -> Result<Vec<(u64, Cube)>, OutOfMemory>
+) -> Result<Vec<Entry>, OutOfMemory>
     requires { (until : ℕ) × All (IsActBy admitted.now.graph until) acts.now }
-    ensures known { IfOk result (λ columns. All (λ c. IsKnown admitted.now.graph c.1) columns.items) }
+    ensures known { IfOk result (λ columns. All (λ c. IsKnown admitted.now.graph c.cube) columns.items) }
     ensures idle { IfOk result (λ columns. (s : Scenario) → IsScenario admitted.now.graph s →
-        list_any (λ c. matches c.1 s) columns.items ≡ is_some_idle admitted.now.graph acts.now s) }
+        list_any (λ c. matches c.cube s) columns.items ≡ is_some_idle admitted.now.graph acts.now s) }
 {
     let mut all = Vec::new(alloc);
     for act in acts {

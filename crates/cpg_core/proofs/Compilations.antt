@@ -16,9 +16,12 @@ use Rattle.cpg_reach.specs.Wide.{IsNarrow}
 use Rattle.cpg_tracks.specs.Tracks.{HasTrackOrder}
 use Rattle.cpg_core.specs.declared.compiling.Compiled.{Compiled}
 use Rattle.cpg_core.specs.Compiled.{IsCompileOrder, IsMeasured, IsLateUnder, IsInTimeUnder, IsBetter, IsHelpless}
-use Rattle.cpg_core.specs.Compilation.{IsCompilation, HasNoTables, IsPreferredTo, HasNoBetter}
+use Rattle.cpg_core.specs.Compilation.{IsCompilation, HasNoTables, IsMadeOf, IsPreferredTo, HasNoBetter}
 use Rattle.cpg_core.proofs.CompiledLaws.{not_preferred_many, not_preferred_wide, not_preferred_worse, preferred}
 use Rattle.cpg_core.proofs.Local.{know_locally}
+use Rattle.cpg_expand.specs.declared.expanding.Grown.{Grown}
+use Rattle.cpg_expand.specs.declared.measuring.Peak.{Peak}
+use Rattle.cpg_expand.specs.GrownFor.{IsGrownFor}
 use Rattle.cpg_run.specs.declared.built.Built.{Built}
 use Rattle.cpg_run.specs.Built.{IsBuiltFor}
 use Rattle.cpg_run.specs.Laws.{Keeps}
@@ -37,14 +40,10 @@ built_valid g urgency order b is none = record {
     kept rule = is.rules rule (λ e. cc)
 
 -- nothing is late where no process is shown
-pub nothing_late : (g : Graph) (urgency order : List ℕ) (frozen : List (Option ℕ)) (b : Built) → IsExcess g urgency order frozen b.excess b.excess_in b.excess_by → b.excess_by ≡ None → b.excess ≡ 0
-nothing_late g urgency order frozen b is none =
+pub nothing_late : (g : Graph) (urgency order : List ℕ) (frozen : List (Option ℕ)) (peak : Peak) → IsExcess g urgency order frozen peak.time peak.scenario peak.process → peak.process ≡ None → peak.time ≡ 0
+nothing_late g urgency order frozen peak is none =
     let run = is.least.holds in
-    subst (IsLeastExceeding g run.0 b.excess) none (is.by run.0 run.1)
-
-pub none_of : (o : Option ℕ) → ((x : ℕ) → o ≡ Some x → ⊥) → o ≡ None
-none_of None h = refl
-none_of (Some x) h = absurd (h x refl)
+    subst (IsLeastExceeding g run.0 peak.time) none (is.by run.0 run.1)
 
 -- an end is one of all
 end_listed : (os : List (Option ℕ)) (p e : ℕ) → get_or os p None ≡ Some e → Contains (flat_map option_to_list os) e
@@ -53,39 +52,39 @@ end_listed (o ∷ os) zero e h = Contains-append_left (option_to_list o) (flat_m
 end_listed (o ∷ os) (suc p) e h = Contains-append_right (option_to_list o) (flat_map option_to_list os) e (end_listed os p e h)
 
 -- the end of the process that is shown, in the scenario that is shown
-module _ (g : Graph) (urgency order : List ℕ) (b : Built) (is : IsBuiltFor g urgency order b) (p : ℕ) (late : b.excess_by ≡ Some p) where
+module _ (g : Graph) (urgency order : List ℕ) (b : Grown) (is : IsGrownFor g urgency order b) (p : ℕ) (late : b.excess.process ≡ Some p) where
   abbrev pub late_times : Times
   late_times = is.excess.least.holds.0
 
-  pub late_run : IsRun g order b.frozen b.excess_in late_times
+  pub late_run : IsRun g order b.trees.frozen b.excess.scenario late_times
   late_run = is.excess.least.holds.1
 
-  exceeds : IsLeastExceeding g late_times b.excess (Some p)
-  exceeds = subst (IsLeastExceeding g late_times b.excess) late (is.excess.by late_times late_run)
+  exceeds : IsLeastExceeding g late_times b.excess.time (Some p)
+  exceeds = subst (IsLeastExceeding g late_times b.excess.time) late (is.excess.by late_times late_run)
 
   some_end : (o : Option ℕ) (d : ℕ) → 0 < unwrap_or o 0 - d → o ≡ Some (unwrap_or o 0)
   some_end None d h = absurd (omega (arith, h))
   some_end (Some e) d h = refl
 
-  end_is : end_in late_times p ≡ due g p + b.excess
+  end_is : end_in late_times p ≡ due g p + b.excess.time
   end_is = omega (arith, exceeds.0, exceeds.1)
 
-  pub late_end : get_or late_times.ends p None ≡ Some (due g p + b.excess)
+  pub late_end : get_or late_times.ends p None ≡ Some (due g p + b.excess.time)
   late_end = some_end (get_or late_times.ends p None) (due g p) (omega (arith, exceeds.0, exceeds.1)) ∙ ap Some end_is
 
   -- it is a process
   pub late_process : p < process_count g
   late_process = elim (cases_lt p (length late_times.ends)) [
-    | inl lt ↦ omega (arith, lt, ap length late_run.ends, length-map-range_with_len (end_by g b.excess_in late_times) 0 (process_count g))
-    | inr ge ↦ absurd (none-some (due g p + b.excess) (sym (get_or_past late_times.ends p None ge) ∙ late_end))
+    | inl lt ↦ omega (arith, lt, ap length late_run.ends, length-map-range_with_len (end_by g b.excess.scenario late_times) 0 (process_count g))
+    | inr ge ↦ absurd (none-some (due g p + b.excess.time) (sym (get_or_past late_times.ends p None ge) ∙ late_end))
   ]
 
   -- and its end is no later than the greatest finish
-  pub late_small : due g p + b.excess ≤ b.worst
+  pub late_small : due g p + b.excess.time ≤ b.worst.time
   late_small = omega (
     arith,
-    is.worst.greatest b.excess_in late_times is.excess.least.lawful late_run,
-    greatest_above (flat_map option_to_list late_times.ends) (due g p + b.excess) (end_listed late_times.ends p (due g p + b.excess) late_end),
+    is.worst.greatest b.excess.scenario late_times is.excess.least.lawful late_run,
+    greatest_above (flat_map option_to_list late_times.ends) (due g p + b.excess.time) (end_listed late_times.ends p (due g p + b.excess.time) late_end),
     late_run.finish,
   )
 
@@ -104,35 +103,48 @@ measured g urgency order b is = record {
   is_worst = is.worst;
 }
 
-pub late_under : (g : Graph) (urgency order : List ℕ) (b : Built) → IsBuiltFor g urgency order b → 0 < b.excess → IsLateUnder g urgency order
-late_under g urgency order b is l = (b.excess, b.worst, measured g urgency order b is, l)
+-- and what is found before its tables are made
+pub found_measured : (g : Graph) (urgency order : List ℕ) (t : Grown) → IsGrownFor g urgency order t → IsMeasured g urgency order t.excess.time t.worst.time
+found_measured g urgency order t is = record {
+  frozen = t.trees.frozen;
+  frozen_times = is.frozen;
+  excess_in = t.excess.scenario;
+  excess_by = t.excess.process;
+  is_excess = is.excess;
+  worst_in = t.worst.scenario;
+  worst_by = t.worst.process;
+  is_worst = is.worst;
+}
+
+pub late_under : (g : Graph) (urgency order : List ℕ) (t : Grown) → IsGrownFor g urgency order t → 0 < t.excess.time → IsLateUnder g urgency order
+late_under g urgency order t is l = (t.excess.time, t.worst.time, found_measured g urgency order t is, l)
 
 pub in_time_under : (g : Graph) (urgency order : List ℕ) (b : Built) → IsBuiltFor g urgency order b → b.excess ≡ 0 → IsInTimeUnder g urgency order
 in_time_under g urgency order b is e = (b.worst, subst (λ n. IsMeasured g urgency order n b.worst) e (measured g urgency order b is))
 
 -- some process is shown where the excess is above 0
-pub some_shown : (g : Graph) (urgency order : List ℕ) (b : Built) → IsBuiltFor g urgency order b → 0 < b.excess → b.excess_by ≡ None → ⊥
-some_shown g urgency order b is l e = omega (arith, nothing_late g urgency order b.frozen b is.excess e)
+pub some_shown : (g : Graph) (urgency order : List ℕ) (t : Grown) → IsGrownFor g urgency order t → 0 < t.excess.time → t.excess.process ≡ None → ⊥
+some_shown g urgency order t is l e = omega (arith, nothing_late g urgency order t.trees.frozen t.excess is.excess e)
 
-module _ (g : Graph) (w : WellFormed g) (urgency : List ℕ) (top : IsTopological g urgency) (narrow : IsNarrow g urgency) (urgent : Built) (is : IsBuiltFor g urgency urgency urgent) where
+module _ (g : Graph) (w : WellFormed g) (urgency : List ℕ) (top : IsTopological g urgency) (narrow : IsNarrow g urgency) (urgent : Grown) (is : IsGrownFor g urgency urgency urgent) where
   -- without tables of the track order none is better
   pub no_tables : HasNoTables g → HasNoBetter g urgency urgent
   no_tables h = elim h [
     | inl many ↦ record {
-      none = not_preferred_many g w urgency top narrow urgent.excess urgent.worst (measured g urgency urgency urgent is) many;
+      none = not_preferred_many g w urgency top narrow urgent.excess.time urgent.worst.time (found_measured g urgency urgency urgent is) many;
       late = inl (inl many);
     }
     | inr x ↦ record {
-      none = not_preferred_wide g w urgency top narrow urgent.excess urgent.worst (measured g urgency urgency urgent is) x.0 x.1 x.2 x.3;
+      none = not_preferred_wide g w urgency top narrow urgent.excess.time urgent.worst.time (found_measured g urgency urgency urgent is) x.0 x.1 x.2 x.3;
       late = inl (inr (x.0, x.1, inl (x.2, x.3)));
     }
   ]
 
   -- nor where its measures are no better
-  pub no_better : (order : List ℕ) → HasTrackOrder g order → IsNarrow g order → (excess worst : ℕ) → IsMeasured g urgency order excess worst → (IsBetter excess worst urgent.excess urgent.worst → ⊥) → HasNoBetter g urgency urgent
+  pub no_better : (order : List ℕ) → HasTrackOrder g order → IsNarrow g order → (excess worst : ℕ) → IsMeasured g urgency order excess worst → (IsBetter excess worst urgent.excess.time urgent.worst.time → ⊥) → HasNoBetter g urgency urgent
   no_better order track own_narrow excess worst own worse = record {
-    none = not_preferred_worse g w urgency top narrow urgent.excess urgent.worst (measured g urgency urgency urgent is) order track own_narrow excess worst own worse;
-    late = elim (cases_eq urgent.excess 0) [
+    none = not_preferred_worse g w urgency top narrow urgent.excess.time urgent.worst.time (found_measured g urgency urgency urgent is) order track own_narrow excess worst own worse;
+    late = elim (cases_eq urgent.excess.time 0) [
       | inl e ↦ inr e
       | inr some ↦ inl (inr (
         order,
@@ -141,7 +153,7 @@ module _ (g : Graph) (w : WellFormed g) (urgency : List ℕ) (top : IsTopologica
           excess,
           worst,
           own,
-          elim (cases_lt excess urgent.excess) [
+          elim (cases_lt excess urgent.excess.time) [
             | inl less ↦ absurd (worse (inl less))
             | inr more ↦ omega (arith, some)
           ],
@@ -152,14 +164,14 @@ module _ (g : Graph) (w : WellFormed g) (urgency : List ℕ) (top : IsTopologica
 
   -- nor where the track order is the urgency order
   pub same_order : (order : List ℕ) → HasTrackOrder g order → order ≡ urgency → HasNoBetter g urgency urgent
-  same_order order track same = no_better urgency (subst (HasTrackOrder g) same track) narrow urgent.excess urgent.worst (measured g urgency urgency urgent is)
+  same_order order track same = no_better urgency (subst (HasTrackOrder g) same track) narrow urgent.excess.time urgent.worst.time (found_measured g urgency urgency urgent is)
       (λ better. elim better [ inl less ↦ omega (arith, less) | inr earlier ↦ omega (arith, earlier.1) ])
 
   -- where the better ones are late, so are the others, and nothing helps
-  pub late_too : (c : Compiled) → IsPreferredTo g urgency urgent c → 0 < c.built.excess → (0 < urgent.excess) × IsHelpless g urgency
-  late_too c h l = (
+  pub late_too : (t : Grown) → IsPreferredTo g urgency urgent t → 0 < t.excess.time → (0 < urgent.excess.time) × IsHelpless g urgency
+  late_too t h l = (
     elim h.better [ inl less ↦ omega arith | inr same ↦ omega (arith, same.0) ],
-    inr (c.order, h.tracked.track, inr (late_under g urgency c.order c.built h.tracked.built l)),
+    inr (t.order, h.tracked.track, inr (late_under g urgency t.order t h.tracked.grown l)),
   )
 
   -- nothing is late
@@ -173,10 +185,13 @@ module _ (g : Graph) (w : WellFormed g) (urgency : List ℕ) (top : IsTopologica
       local = know_locally g w joins urgency by top order taken b built;
     }
 
-    pub compiled_by_tracks : (c : Compiled) → IsPreferredTo g urgency urgent c → c.built.excess ≡ 0 → IsCompilation g urgency c
-    compiled_by_tracks c h e = compilation c.order
-        (inl (preferred g w urgency top narrow urgent.excess urgent.worst (measured g urgency urgency urgent is) c.order h.tracked.track h.tracked.narrow c.built.excess c.built.worst (measured g urgency c.order c.built h.tracked.built) h.better))
-        c.built h.tracked.built e
+    -- the tables of what is found under an order that compiles the graph
+    made : (t : Grown) (c : Compiled) → IsMadeOf g urgency t c → t.excess.time ≡ 0 → IsCompileOrder g urgency c.order → IsCompilation g urgency c
+    made t c is_made e taken = compilation c.order taken c.built (subst (λ o. IsBuiltFor g urgency o c.built) (sym is_made.order) is_made.built) (is_made.excess ∙ e)
 
-    pub compiled_by_urgency : HasNoBetter g urgency urgent → urgent.excess ≡ 0 → (order : List ℕ) → order ≡ urgency → IsCompilation g urgency (record { built = urgent; order = order })
-    compiled_by_urgency h e order same = subst (λ o. IsCompilation g urgency (record { built = urgent; order = o })) (sym same) (compilation urgency (inr (refl, h.none)) urgent is e)
+    pub compiled_by_tracks : (t : Grown) → IsPreferredTo g urgency urgent t → t.excess.time ≡ 0 → (c : Compiled) → IsMadeOf g urgency t c → IsCompilation g urgency c
+    compiled_by_tracks t h e c is_made = made t c is_made e (subst (IsCompileOrder g urgency) (sym is_made.order)
+        (inl (preferred g w urgency top narrow urgent.excess.time urgent.worst.time (found_measured g urgency urgency urgent is) t.order h.tracked.track h.tracked.narrow t.excess.time t.worst.time (found_measured g urgency t.order t h.tracked.grown) h.better)))
+
+    pub compiled_by_urgency : HasNoBetter g urgency urgent → urgent.excess.time ≡ 0 → (c : Compiled) → IsMadeOf g urgency urgent c → IsCompilation g urgency c
+    compiled_by_urgency h e c is_made = made urgent c is_made e (inr (is_made.order ∙ is.same, h.none))

@@ -1,8 +1,10 @@
 -- What a compile answers: tables of the compile's order, or why there are none.
 use Rattle.std.specs.Prelude.{ℕ, ◌≡◌, ◌⊎◌, List, ⊤}
 use Rattle.cpg_base.specs.Graph.{Graph}
+use Rattle.cpg_order.specs.Urgency.{IsTopological}
 use Rattle.cpg_table.specs.Valid.{IsValid}
-use Rattle.cpg_run.specs.declared.built.Built.{Built}
+use Rattle.cpg_expand.specs.declared.expanding.Grown.{Grown}
+use Rattle.cpg_expand.specs.GrownFor.{IsGrownFor}
 use Rattle.cpg_run.specs.Built.{IsBuiltFor}
 use Rattle.cpg_run.specs.Knowledge.{KnowLocally}
 use Rattle.cpg_core.specs.declared.compiling.Compiled.{Compiled}
@@ -30,22 +32,30 @@ ShowsCompileFault g urgency OutOfMemory = ⊤
 
 -- ---- on the way
 
--- the tables of the track order, under which nothing is too wide
-pub record IsTracked (g : Graph) (urgency : List ℕ) (c : Compiled) : Type 0 where
-  pub track : HasTrackOrder g c.order
-  pub narrow : IsNarrow g c.order
-  pub built : IsBuiltFor g urgency c.order c.built
+-- what is found under the track order, under which nothing is too wide
+pub record IsTracked (g : Graph) (urgency : List ℕ) (t : Grown) : Type 0 where
+  pub track : HasTrackOrder g t.order
+  pub topological : IsTopological g t.order
+  pub narrow : IsNarrow g t.order
+  pub grown : IsGrownFor g urgency t.order t
 
 -- there is no track order, or an item is too wide under it
 abbrev pub HasNoTables : Graph → Type 0
 HasNoTables g = HasManyTracks g ⊎ ((order : List ℕ) × HasTrackOrder g order × (x : ℕ) × IsWide g order x)
 
--- they are better than those of the urgency order
-pub record IsPreferredTo (g : Graph) (urgency : List ℕ) (urgent : Built) (c : Compiled) : Type 0 where
-  pub tracked : IsTracked g urgency c
-  pub better : IsBetter c.built.excess c.built.worst urgent.excess urgent.worst
+-- it is better than the urgency order
+pub record IsPreferredTo (g : Graph) (urgency : List ℕ) (urgent : Grown) (t : Grown) : Type 0 where
+  pub tracked : IsTracked g urgency t
+  pub better : IsBetter t.excess.time t.worst.time urgent.excess.time urgent.worst.time
 
 -- no order is better than the urgency order, and none helps where that is late
-pub record HasNoBetter (g : Graph) (urgency : List ℕ) (urgent : Built) : Type 0 where
+pub record HasNoBetter (g : Graph) (urgency : List ℕ) (urgent : Grown) : Type 0 where
   pub none : (other : List ℕ) → IsPreferred g urgency other → ⊥
-  pub late : IsHelpless g urgency ⊎ (urgent.excess ≡ 0)
+  pub late : IsHelpless g urgency ⊎ (urgent.excess.time ≡ 0)
+
+-- the tables of what is found under an order
+pub record IsMadeOf (g : Graph) (urgency : List ℕ) (grown : Grown) (c : Compiled) : Type 0 where
+  pub order : c.order ≡ grown.order
+  pub built : IsBuiltFor g urgency grown.order c.built
+  pub excess : c.built.excess ≡ grown.excess.time
+  pub worst : c.built.worst ≡ grown.worst.time

@@ -23,6 +23,7 @@ use Rattle.cpg_run.specs.Frozen.{AreFrozenTimes}
 use Rattle.cpg_run.specs.RowLaws.{IsTimed}
 use Rattle.cpg_run.proofs.BuiltTables.{admitted_under}
 use Rattle.cpg_run.proofs.EarlyTimes.{early_from_low}
+use Rattle.cpg_tree.specs.Tree.{TreeState}
 use Rattle.cpg_expand.specs.Forest.{ForestState, times_of}
 use Rattle.cpg_expand.specs.Grown.{RowsHold, IsEarlier, IsGrown}
 use Rattle.cpg_expand.specs.MadeRows.{AreEntriesOf, AreMergedOf, IsRowOf, AreRowsOf}
@@ -31,6 +32,10 @@ use Rattle.cpg_expand.specs.TreeRows.{IsTreeOf}
 use Rattle.cpg_expand.proofs.Begun.{own_rows, own_rows_hold}
 use Rattle.cpg_expand.proofs.TreeColumns.{column_there, tree_row_carries, merged_row_carries}
 use Rattle.cpg_expand.proofs.TreesTold.{times_tree}
+
+-- what is said of a problem, an order and a slice of trees is said of the graph, the list and the trees that they are
+pub said_of : (P : Graph → List ℕ → List (TreeState (Option ℕ)) → Type 0) (g h : Graph) (us vs : List ℕ) (ts rs : List (TreeState (Option ℕ))) → h ≡ g → vs ≡ us → rs ≡ ts → P h vs rs → P g us ts
+said_of P g h us vs ts rs e f i holds = subst (λ x. P x us ts) e (subst (λ x. P h x ts) f (subst (λ x. P h vs x) i holds))
 
 module _ (g : Graph) (urgency : List ℕ) (guards : Guards) (a : IsAdmitted g urgency guards) (order : List ℕ) (topological : IsTopological g order) (frozen : List (Option ℕ)) (f : ForestState)
     (grown : IsGrown g order (process_count g) frozen f) where
@@ -81,7 +86,7 @@ module _ (g : Graph) (urgency : List ℕ) (guards : Guards) (a : IsAdmitted g ur
       sends = λ x l big sooner path time j is.
           let r = sent_row x big l in (
             record { time = time; cube = path.0 },
-            subst (λ (cs : List Column). Contains cs (record { time = time; cube = path.0 })) (sym r.is) (column_there g a.limits.few_processes urgency a.topological.all (times_of g f x) r.columns r.are path time j is),
+            column_there g a.limits.few_processes urgency a.topological.all (times_of g f x) (row_at columns x) r.are path time j is,
             refl,
           );
     }
@@ -96,7 +101,7 @@ module _ (g : Graph) (urgency : List ℕ) (guards : Guards) (a : IsAdmitted g ur
           merged_row_carries g a.limits.few_processes urgency a.topological.all (times_of g f x) r.columns r.are order frozen timed columns x (tree x l) (faults_of x l) r.merge
       | inr send ↦
           let r = sent_row x send l in
-          tree_row_carries g a.limits.few_processes urgency a.topological.all (times_of g f x) r.columns r.are order frozen timed columns x (tree x l) (faults_of x l) r.by_lows r.is
+          tree_row_carries g a.limits.few_processes urgency a.topological.all (times_of g f x) (row_at columns x) r.are order frozen timed columns x (tree x l) (faults_of x l) r.by_lows refl
     ]
 
     carrying : AreCarrying g urgency order frozen columns

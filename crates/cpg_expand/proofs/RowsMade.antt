@@ -1,5 +1,5 @@
 -- Rows of items one after another.
-use Rattle.std.proofs.Common.{ℕ, ◌+◌, ◌≡◌, List, [], ◌∷◌, ◌++◌, length, get_or, Option, arith, sym, ap, ap₂, ◌∙◌, subst, inl, inr, length-append}
+use Rattle.std.proofs.Common.{ℕ, ◌+◌, ◌≡◌, List, [], ◌∷◌, ◌++◌, length, get_or, drop, zero, suc, Option, arith, sym, ap, ap₂, ◌∙◌, subst, inl, inr, length-append}
 use Rattle.std.proofs.lemmas.Bool.{cases_lt}
 use Rattle.std.proofs.lemmas.List.{get_or_append_left}
 use Rattle.std.proofs.Math.Seq.{get_or-append_seam}
@@ -22,3 +22,16 @@ rows_more g urgency times n rows more row a new is = record {
         subst (IsRowOf g urgency (get_or times x (no_tree g.faults)) x) (sym (ap₂ (λ rs j. get_or rs j d) is at ∙ get_or-append_seam rows row [] d)) (subst (λ j. IsRowOf g urgency (get_or times j (no_tree g.faults)) j row) same new)
   ];
 }
+
+cons_nil : {T : Type 0} (x : T) (rest : List T) → x ∷ rest ≡ [] → ⊥
+cons_nil x rest e = cc
+
+-- what is left of a list after one element more
+pub next_left : {T : Type 0} (xs rest : List T) (x d : T) (n : ℕ) → x ∷ rest ≡ drop n xs → (get_or xs n d ≡ x) × (rest ≡ drop (n + 1) xs)
+next_left [] rest x d zero e = absurd (cons_nil x rest e)
+next_left [] rest x d (suc n) e = absurd (cons_nil x rest e)
+next_left (y ∷ ys) rest x d zero e = (ap (λ zs. get_or zs 0 d) (sym e), ap (λ zs. drop 1 zs) e)
+next_left (y ∷ ys) rest x d (suc n) e =
+    let next = next_left ys rest x d n e in
+    let same : suc (n + 1) ≡ suc n + 1 = omega arith in
+    (next.0, subst (λ k. rest ≡ drop k (y ∷ ys)) same next.1)

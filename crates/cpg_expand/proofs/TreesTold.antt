@@ -1,6 +1,6 @@
 -- What the trees down guards tell.
 use Rattle.std.proofs.Common.{ℕ, ◌+◌, ◌-◌, ◌<◌, ◌≡◌, ◌==◌, ◌&&◌, ◌||◌, nat_lt, max, length, Bool, true, false, if◌then◌else◌, List, [], ◌∷◌, ◌++◌, map, flat_map, get_or, Option, Some, None, All, Contains, ◌⊎◌, arith, le-ltb, lt-ltb, eq-eqb, refl, sym, ap, ap₂, ◌∙◌, subst, inl, inr}
-use Rattle.std.proofs.lemmas.Bool.{cond-false, ne_eqb, and_from, le-leb}
+use Rattle.std.proofs.lemmas.Bool.{cond-false, ne_eqb, and_from, or_right, le-leb}
 use Rattle.std.specs.Prelude.{nat_le, IsTrue, ◌≤◌}
 use Rattle.std.proofs.lemmas.List.{get_or_read_under}
 use Rattle.std.proofs.lemmas.List.Elements.{All-contains, All-contains_itself, All-get_or, All-weaker, Contains-append_cases, Contains-append_left, Contains-append_right}
@@ -10,6 +10,7 @@ use Rattle.cpg_base.specs.Activity.{is_active}
 use Rattle.cpg_base.specs.declared.activation.Activation.{Activation}
 use Rattle.cpg_base.specs.declared.activation.Activation.TheVariants.{Inactive}
 use Rattle.cpg_base.specs.Scenario.{number_of_value, Scenario, number_of, fault_of}
+use Rattle.cpg_base.proofs.NumbersOf.{one_value}
 use Rattle.cpg_base.proofs.Lists.{Contains-first, Contains-rest, Contains-cases, Contains-map, Contains-map_parts, greatest-cons}
 use Rattle.cpg_order.specs.Guard.{Guard, Leaf, Test, outcome_at, way}
 use Rattle.cpg_cube.specs.declared.literal.Literal.{Literal}
@@ -48,10 +49,6 @@ pub each_of : {T : Type 0} (g : Graph) (m : ℕ) (t : TreeState T) → m ≡ g.f
 each_of g m t e is = subst (λ n. HasOnePathEach n t.paths) (sym e) is.each
 
 -- ---- variables of a graph
-
-or_right : (a b : Bool) → b ≡ true → (a || b) ≡ true
-or_right true b e = refl
-or_right false b e = e
 
 pub count_passes : (g : Graph) (p : ℕ) → p < process_count g → is_variable g p ≡ true
 count_passes g p l = ap (λ b. b || (nat_le 128 p && nat_lt p (value_variable (condition_count g)))) (lt-ltb p (process_count g) l)
@@ -123,12 +120,6 @@ number_at : (s : Scenario) (c : ℕ) → number_of s (128 + c) ≡ number_of_val
 number_at s c = cond-false _ (fault_of s (128 + c)) (number_of_value (get_or s.values (128 + c - 128) false)) (le-ltb (128 + c) 128 (omega arith))
     ∙ ap (λ d. number_of_value (get_or s.values d false)) (let e : 128 + c - 128 ≡ c = omega arith in e)
 
-same_value : (x b : Bool) → number_of_value x ≡ number_of_value b → x ≡ b
-same_value true true e = refl
-same_value false false e = refl
-same_value true false e = absurd (omega (arith, e))
-same_value false true e = absurd (omega (arith, e))
-
 pub value_picks : {T : Type 0} (g : Graph) (c : ℕ) (value : TreeState Bool) (yes_tree off_tree t : TreeState T) → IsNumber (128 + c) g.faults number_of_value value → HasOnePathEach value.faults value.paths →
     IsTree g yes_tree → IsTree g off_tree → IsPick value yes_tree off_tree t → PicksByValue g.faults c yes_tree off_tree t
 value_picks g c value y f t is each of_y of_f made s few ls x tells =
@@ -137,7 +128,7 @@ value_picks g c value y f t is each of_y of_f made s few ls x tells =
     agrees_number s (128 + c) g.faults number_of_value value few (number_le_top g.faults s few (128 + c)) is in
     let chosen : Agrees s (exactly (128 + c) (number_of s (128 + c)) ∷ []) (λ (d : Bool). d ≡ b) value =
     agrees_weaker s value (exactly (128 + c) (number_of s (128 + c)) ∷ []) (exactly (128 + c) (number_of s (128 + c)) ∷ []) (λ (d : Bool). number_of_value d ≡ number_of s (128 + c)) (λ (d : Bool). d ≡ b)
-    (λ l j. j) (λ d e. same_value d b (e ∙ number_at s c)) told in
+    (λ l j. j) (λ d e. one_value d b (e ∙ number_at s c)) told in
     agrees_pick s value y f t b (exactly (128 + c) (number_of s (128 + c)) ∷ []) ls (λ z. z ≡ x) (few_of g.faults value.faults s is.faults few)
     (of_y.faults ∙ sym is.faults) (of_f.faults ∙ sym is.faults) each (each_of g value.faults y is.faults of_y) (each_of g value.faults f is.faults of_f) made chosen tells
 
@@ -409,7 +400,7 @@ tested_told g c wanted active value is never t of_active number each same each_i
     agrees_number s (128 + c) g.faults number_of_value value few (number_le_top g.faults s few (128 + c)) number in
     let here : Tells s (value_known s c ∷ []) (same_bool wanted v) is =
     agrees_map s (λ x z. z ≡ same_bool wanted x) value is (value_known s c ∷ []) (λ (d : Bool). number_of_value d ≡ number_of s (128 + c)) (λ (d : Bool). d ≡ same_bool wanted v) (few_of g.faults value.faults s number.faults few) each same
-    (λ x z e f. f ∙ ap (same_bool wanted) (same_value x v (e ∙ number_at s c))) told in
+    (λ x z e f. f ∙ ap (same_bool wanted) (one_value x v (e ∙ number_at s c))) told in
     subst (λ (d : Bool). Tells s (first ++ (if b then value_known s c ∷ [] else [])) d t) (and_if b (same_bool wanted v))
     (picked_tells g active of_active s few b first of_b is never t (value_known s c ∷ []) (same_bool wanted v) false (same_tree g value is number.faults same.faults each_is known_is) (constant_tree g false g.faults never refl each_never none known_never) made
     (λ e. here) (agrees_constant s false g.faults never (λ y. y ≡ false) refl none))

@@ -29,7 +29,12 @@ pub record IsBegunBy (how : TreeState Bool → TreeState (Option ℕ) → Type 0
   pub ready : Ready
   pub ready_after : IsReadyAfter g p ready
   pub readies : IsReadyIfWaited g order old p guard chooser end (goes_on end ready)
-  pub is : new ≡ record { times = slice_set old.times p start; ends = slice_set old.ends p end; ready = slice_set old.ready (node_of g p) ready; free = old.free }
+  pub is : new ≡ record {
+    times = slice_set old.times p start;
+    ends = slice_set old.ends p end;
+    ready = slice_set old.ready (node_of g p) ready;
+    free = old.free;
+  }
 
 -- by all that it waits for in each scenario
 pub record IsThawedStart (g : Graph) (p : ℕ) (f : ForestState) (guard : Guard) (start : TreeState (Option ℕ)) : Type 0 where
@@ -58,7 +63,8 @@ abbrev pub IsBegunThawed : Graph → List ℕ → ℕ → Guard → ForestState 
 IsBegunThawed g order p guard old new chooser = IsBegunBy (thawed_start g p old guard) g order p guard old new chooser
 
 abbrev pub IsBegunFrozen : Graph → List ℕ → Guards → ℕ → ForestState → ForestState → List (Option ℕ) → List (Option ℕ) → TreeState Bool → Type 0
-IsBegunFrozen g order guards p old new before after chooser = IsBegunBy (IsFrozenStart g order guards p old before after) g order p (tree_of guards p) old new chooser
+IsBegunFrozen g order guards p old new before after chooser =
+    IsBegunBy (IsFrozenStart g order guards p old before after) g order p (tree_of guards p) old new chooser
 
 abbrev pub IsBegun : Graph → List ℕ → Guards → ℕ → ForestState → ForestState → List (Option ℕ) → List (Option ℕ) → TreeState Bool → Type 0
 IsBegun g order guards p old new before after chooser = IsBegunBy (any_start g order guards p old before after) g order p (tree_of guards p) old new chooser

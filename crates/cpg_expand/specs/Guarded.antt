@@ -90,7 +90,8 @@ abbrev pub IsStartTree : Graph → ForestState → TreeState ℕ → ℕ → Lis
 IsStartTree g f wait release inputs guard t = (s : Scenario) → HasFew g.faults s → (base : List Literal) (x : ℕ) → Tells s base x wait →
     (tell : ℕ → List Literal) (time : ℕ → Option ℕ) → AreThere g time x (awaited inputs (outcome_at guard s.values)) →
     ((e : ℕ) → Contains (awaited inputs (outcome_at guard s.values)) e → Tells s (tell e) (time e) (input_tree g f e)) →
-    Tells s (values_known s (way guard s.values) ++ start_says base tell inputs (outcome_at guard s.values)) (start_at x release (input_delay g) time inputs (outcome_at guard s.values)) t
+    Tells s (values_known s (way guard s.values) ++ start_says base tell inputs (outcome_at guard s.values))
+    (start_at x release (input_delay g) time inputs (outcome_at guard s.values)) t
 
 -- an activation by an input below a number, if by one
 abbrev pub IsByBelow : ℕ → Activation → Type 0

@@ -20,4 +20,5 @@ pub mod Peaks
 pub mod Tops
 pub mod Active
 pub mod Measured
+pub mod GrownFor
 pub mod Waited

@@ -1,27 +1,24 @@
 -- The rows that are made of trees.
-use Rattle.std.specs.Prelude.{ℕ, ◌≡◌, ◌<◌, ◌≤◌, List, Option, length, map, get_or}
+use Rattle.std.specs.Prelude.{ℕ, ◌≡◌, ◌<◌, ◌≤◌, List, Option, length, get_or}
 use Rattle.cpg_base.specs.Graph.{Graph, item_count, process_count}
-use Rattle.cpg_cube.specs.declared.literal.Literal.{Literal}
 use Rattle.cpg_cube.specs.Keys.{AreByLows}
 use Rattle.cpg_merging.specs.Merged.{IsMergeOf}
 use Rattle.cpg_table.specs.Table.{Row}
 use Rattle.cpg_cube.specs.Column.{Column}
 use Rattle.cpg_tree.specs.Tree.{TreeState}
 use Rattle.cpg_expand.specs.Forest.{no_tree}
-use Rattle.cpg_expand.specs.TreeRows.{as_column, AreListedOf}
+use Rattle.cpg_expand.specs.TreeRows.{AreListedOf}
 
 -- the columns of a tree, by their least scenarios
 pub record AreEntriesOf (g : Graph) (urgency : List ℕ) (t : TreeState (Option ℕ)) (entries : List Column) : Type 0 where
-  pub columns : List (ℕ × List Literal)
-  pub are : AreListedOf g t columns
-  pub by_lows : AreByLows (λ (c : ℕ × List Literal). c.1) g urgency columns
-  pub is : entries ≡ map as_column columns
+  pub are : AreListedOf g t entries
+  pub by_lows : AreByLows (λ (c : Column). c.cube) g urgency entries
 
 -- the columns of a tree, merged
 pub record AreMergedOf (g : Graph) (urgency : List ℕ) (t : TreeState (Option ℕ)) (entries : List Column) : Type 0 where
-  pub columns : List (ℕ × List Literal)
+  pub columns : List Column
   pub are : AreListedOf g t columns
-  pub merge : IsMergeOf g urgency (map as_column columns) entries
+  pub merge : IsMergeOf g urgency columns entries
 
 -- the row of an item, merged where it is a start
 pub record IsRowOf (g : Graph) (urgency : List ℕ) (t : TreeState (Option ℕ)) (x : ℕ) (row : Row) : Type 0 where

@@ -1,5 +1,5 @@
 -- The measures of an order: its greatest excess and its greatest finish, and whether they are better than others.
-use Rattle.std.specs.Prelude.{ℕ, ◌≡◌, ◌<◌, ◌⊎◌, ⊤, List, Option, None, Some}
+use Rattle.std.specs.Prelude.{ℕ, ◌≡◌, ◌<◌, ◌⊎◌, List, Option}
 use Rattle.cpg_base.specs.Graph.{Graph}
 use Rattle.cpg_base.specs.Scenario.{Scenario}
 use Rattle.cpg_run.specs.Frozen.{AreFrozenTimes}
@@ -19,12 +19,3 @@ pub record IsMeasured (g : Graph) (urgency order : List ℕ) (excess worst : ℕ
 -- less excess, or as much and an earlier finish
 abbrev pub IsBetter : (excess worst : ℕ) → (other_excess other_worst : ℕ) → Type 0
 IsBetter e w f v = (e < f) ⊎ ((e ≡ f) × (w < v))
-
--- better than measures that are given, if any are
-abbrev pub IsUnder : Option (ℕ × ℕ) → ℕ → ℕ → Type 0
-IsUnder None excess worst = ⊤
-IsUnder (Some bar) excess worst = IsBetter excess worst bar.0 bar.1
-
--- the order's own measures are not
-abbrev pub IsNotUnder : Graph → List ℕ → List ℕ → Option (ℕ × ℕ) → Type 0
-IsNotUnder g urgency order bar = (excess worst : ℕ) × IsMeasured g urgency order excess worst × (IsUnder bar excess worst → ⊥)

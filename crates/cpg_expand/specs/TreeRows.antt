@@ -2,7 +2,6 @@
 use Rattle.std.specs.Prelude.{ℕ, ◌≡◌, List, Option, None, get_or, All, IsPermutation}
 use Rattle.cpg_base.specs.Graph.{Graph}
 use Rattle.cpg_base.specs.Scenario.{Scenario, IsScenario}
-use Rattle.cpg_cube.specs.declared.literal.Literal.{Literal}
 use Rattle.cpg_cube.specs.Column.{Column}
 use Rattle.cpg_run.specs.Run.{Times, IsRun}
 use Rattle.cpg_run.specs.Carried.{carried}
@@ -10,12 +9,8 @@ use Rattle.cpg_tree.specs.Columns.{columns_of_paths, IsTidyColumn}
 use Rattle.cpg_tree.specs.Tree.{TreeState, HasOnePathEach}
 use Rattle.cpg_expand.specs.Agreeing.{Agrees}
 
--- a column of a table
-abbrev pub as_column : ℕ × List Literal → Column
-as_column c = record { time = c.0; cube = c.1 }
-
 -- what the columns of a tree are, in any order
-pub record AreListedOf (g : Graph) (t : TreeState (Option ℕ)) (columns : List (ℕ × List Literal)) : Type 0 where
+pub record AreListedOf (g : Graph) (t : TreeState (Option ℕ)) (columns : List Column) : Type 0 where
   pub each : HasOnePathEach g.faults t.paths
   pub all : IsPermutation (columns_of_paths t.paths) columns
   pub tidy : All (IsTidyColumn g) columns

@@ -29,7 +29,8 @@ pub record IsQueuedFor (g : Graph) (order : List ℕ) (i node : ℕ) : Type 0 wh
 -- whether an item is sent before another one by the same node, by their places
 abbrev pub stands_before : Graph → List ℕ → ℕ → ℕ → Bool
 stands_before g order y x = (is_sent g y && (home g y == home g x))
-    && (nat_lt (place order (producer g y)) (place order (producer g x)) || ((producer g y == producer g x) && nat_lt (rank_of_item (item_at g y)) (rank_of_item (item_at g x))))
+    && (nat_lt (place order (producer g y)) (place order (producer g x))
+    || ((producer g y == producer g x) && nat_lt (rank_of_item (item_at g y)) (rank_of_item (item_at g x))))
 
 -- a tree of when a node is ready after a process with a guard, by what that one waited for
 pub record IsReadyOnce (g : Graph) (f : ForestState) (node : ℕ) (guard : Guard) (chooser : TreeState Bool) (end : TreeState (Option ℕ))

@@ -9,7 +9,7 @@ ghost use Rattle.cpg_expand.specs.Later.{IsLaterTree, IsLatest, IsNoMore};
 ghost use Rattle.cpg_base.specs.Bus.{slot_length};
 ghost use Rattle.cpg_tree.specs.Tree.{IsConstant};
 
-use crate::values::{later, started, started_after};
+use crate::values::{later, started};
 use cpg_base::{OutOfMemory, Problem};
 use cpg_tree::Tree;
 use std::alloc::Global;
@@ -102,6 +102,13 @@ impl Forest {
             ready: ready_first(alloc, problem, nodes)?,
             free: zeros(alloc, problem, nodes)?,
         })
+    }
+
+    /// The times of the items, without all else.
+    pub(crate) fn into_times(self) -> Vec<Tree<Option<u64>>>
+        ensures { result.items ≡ self.times }
+    {
+        self.times
     }
 
     /// The times at which a frame is there, 0 where it isn't sent.
@@ -208,7 +215,7 @@ impl Forest {
             Ready::After(process) => {
                 // its clause tells that the graph is within its limits
                 let _processes = problem.processes();
-                let start = started_after(&self.ends[*process as usize], release)?;
+                let start = self.ends[*process as usize].no_earlier(release)?;
                 Ok(start)
             }
             Ready::At(tree) => {

@@ -22,4 +22,5 @@ mod values;
 mod waited;
 
 pub use activity::active_item;
-pub use expanding::{expand, expand_better};
+pub use expanding::{Grown, expand, grow};
+pub use measuring::Peak;

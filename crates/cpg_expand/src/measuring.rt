@@ -16,10 +16,13 @@ use std::alloc::Global;
 /// The greatest of a number of time units over all scenarios, the least scenario that has it, and the least process that
 /// has it there.
 #[derive(Drop)]
-pub(crate) struct Peak {
-    pub(crate) time: u64,
-    pub(crate) scenario: Scenario,
-    pub(crate) process: Option<u32>,
+pub struct Peak {
+    /// The number.
+    pub time: u64,
+    /// The scenario.
+    pub scenario: Scenario,
+    /// The process.
+    pub process: Option<u32>,
 }
 
 impl Peak {

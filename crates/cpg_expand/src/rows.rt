@@ -1,34 +1,19 @@
 //! Rows of trees.
-ghost use Rattle.std.specs.Prelude.{◌≡◌, All, IfOk, IsPermutation, length, map};
+ghost use Rattle.std.specs.Prelude.{◌≡◌, All, IfOk, IsPermutation, length};
 ghost use Rattle.cpg_base.specs.Graph.{item_count, process_count};
 ghost use Rattle.cpg_base.specs.Numbers.{numbers_below};
 ghost use Rattle.cpg_expand.specs.Agreeing.{IsTree};
 ghost use Rattle.cpg_expand.specs.MadeRows.{AreEntriesOf, AreMergedOf, AreRowsOf, IsRowOf};
-ghost use Rattle.cpg_expand.specs.TreeRows.{as_column};
 
 use cpg_base::{Order, OutOfMemory, Problem};
-use cpg_cube::{Cube, Entry};
+use cpg_cube::Entry;
 use cpg_merging::merged_tidy;
 use cpg_table::Row;
 use cpg_tree::Tree;
 use std::alloc::Global;
 
-/// These columns as entries of a row.
-fn as_entries(alloc: Global, columns: Vec<(u64, Cube)>) -> Result<Vec<Entry>, OutOfMemory>
-    ensures { IfOk result (λ entries. entries.items ≡ map as_column columns.items) }
-{
-    let mut entries = Vec::new(alloc);
-    entries.reserve(columns.len())?;
-    for column in columns {
-        let (time, cube) = column;
-        entries.push(Entry { time, cube })?;
-    }
-    Ok(entries)
-}
-
 /// The columns of a tree, by their least scenarios.
 fn entries(
-    alloc: Global,
     problem: &Problem,
     urgency: &Order,
     tree: &Tree<Option<u64>>,
@@ -38,8 +23,7 @@ fn entries(
     ensures { IfOk result (λ entries. AreEntriesOf problem.now urgency.now tree.now entries.items) }
 {
     let columns = tree.columns(problem, urgency)?;
-    let entries = as_entries(alloc, columns)?;
-    Ok(entries)
+    Ok(columns)
 }
 
 /// The columns of a start, merged.
@@ -57,8 +41,7 @@ fn start_entries(
     let _processes = problem.processes();
     // merging sorts them, so they need no order before
     let listed = tree.listed(problem)?;
-    let entries = as_entries(alloc, listed)?;
-    let columns = merged_tidy(alloc, problem, urgency, entries)?;
+    let columns = merged_tidy(alloc, problem, urgency, listed)?;
     Ok(columns)
 }
 
@@ -79,28 +62,30 @@ fn row(
         let columns = start_entries(alloc, problem, urgency, tree)?;
         return Ok(Row::new(item, columns));
     }
-    let columns = entries(alloc, problem, urgency, tree)?;
+    let columns = entries(problem, urgency, tree)?;
     Ok(Row::new(item, columns))
 }
 
-/// A row for each item.
+/// A row for each item. Its tree, which is the larger, isn't kept beside it.
 pub(crate) fn rows(
     alloc: Global,
     problem: &Problem,
     urgency: &Order,
-    times: &[Tree<Option<u64>>],
+    times: Vec<Tree<Option<u64>>>,
 ) -> Result<Vec<Row>, OutOfMemory>
     requires order { IsPermutation (numbers_below (process_count problem.now)) urgency.now }
-    requires count { length times.now ≡ item_count problem.now }
-    requires trees { All (IsTree problem.now) times.now }
-    ensures { IfOk result (λ rows. AreRowsOf problem.now urgency.now times.now rows.items) }
+    requires count { length times.items ≡ item_count problem.now }
+    requires trees { All (IsTree problem.now) times.items }
+    ensures { IfOk result (λ rows. AreRowsOf problem.now urgency.now times.items rows.items) }
 {
     let count = problem.item_count();
     let mut rows = Vec::new(alloc);
     rows.reserve(count as usize)?;
-    for item in 0..count {
-        let row = row(alloc, problem, urgency, &times[item as usize], item)?;
+    let mut item = 0;
+    for tree in times {
+        let row = row(alloc, problem, urgency, &tree, item)?;
         rows.push(row)?;
+        item += 1;
     }
     Ok(rows)
 }

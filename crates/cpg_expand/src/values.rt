@@ -29,25 +29,6 @@ pub(crate) fn started(tree: &Tree<u64>, release: u64) -> Result<Tree<Option<u64>
     tree.map(&|time: u64| Some(time.max(release)))
 }
 
-/// A time, 0 where there is none, or a release, whichever is later.
-fn time_or(time: Option<u64>, release: u64) -> u64
-    ensures { result ≡ max (time_later 0 time) release }
-{
-    time_later(time, 0).max(release)
-}
-
-/// The times of a tree, 0 where there are none, or a release, whichever is later, as starts in all scenarios.
-pub(crate) fn started_after(
-    tree: &Tree<Option<u64>>,
-    release: u64,
-) -> Result<Tree<Option<u64>>, OutOfMemory>
-    ensures is { IfOk result (λ t. IsMap (λ x z. z ≡ Some (max (time_later 0 x) release)) tree.now t) }
-    ensures each { IfOk result (λ t. HasOnePathEach t.faults t.paths) }
-    ensures pass { IfOk result (λ t. (test : ℕ → Bool) → DoPathsPass test tree.now.paths → DoPathsPass test t.paths) }
-{
-    tree.map(&|time: Option<u64>| Some(time_or(time, release)))
-}
-
 /// Where a tree has a value.
 pub(crate) fn same_as(tree: &Tree<bool>, wanted: bool) -> Result<Tree<bool>, OutOfMemory>
     ensures is { IfOk result (IsMap (λ x z. z ≡ same_bool wanted x) tree.now) }

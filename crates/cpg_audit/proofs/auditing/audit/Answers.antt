@@ -4,6 +4,7 @@ use Rattle.cpg_base.specs.Numbers.{numbers_below}
 use Rattle.cpg_base.specs.Graph.{item_count}
 use Rattle.cpg_base.specs.Scenario.{Scenario, IsScenario}
 use Rattle.cpg_base.proofs.First.{first_same}
+use Rattle.cpg_cube.specs.Column.{Column}
 use Rattle.cpg_cube.specs.Cover.{is_left}
 use Rattle.cpg_cube.specs.declared.literal.Literal.{Literal}
 use Rattle.cpg_cube.specs.Fit.{IsKnown}
@@ -52,7 +53,7 @@ returns-clause-least c =
     let are = tables_of_graph g c.args.tables.now.head nodes c.requires.head c.head-head.ensures.lawful in
     let setting : (s : Scenario) → IsScenario g s → Setting g nodes s = λ s law. record { formed = a.well_formed; shape = has_shape g a.limits nodes are; valid = c.requires.valid; law = law } in
     let told = rw c.acts.ensures at c.in_ok-idle.ensures.idle in
-    let idle = map (λ (d : ℕ × List Literal). d.1) c.in_ok-idle.idle.items in
+    let idle = map (λ (d : Column). d.cube) c.in_ok-idle.idle.items in
     let all = flat_map (excluded_of nodes log) (numbers_below (item_count g)) in
     let by = rw c.as_slice.ensures.value at c.in_ok-push_cubes.ensures in
     let same : (s : Scenario) → IsScenario g s → is_left (map seen c.push_cubes.new.by.items) c.in_ok-cube.cube s ≡ is_left (all ++ idle) [] s = λ s law.
@@ -72,7 +73,7 @@ returns-clause-none c =
     let are = tables_of_graph g c.args.tables.now.head nodes c.requires.head c.head-head.ensures.lawful in
     let setting : (s : Scenario) → IsScenario g s → Setting g nodes s = λ s law. record { formed = a.well_formed; shape = has_shape g a.limits nodes are; valid = c.requires.valid; law = law } in
     let told = rw c.acts.ensures at c.in_ok-idle.ensures.idle in
-    let idle = map (λ (d : ℕ × List Literal). d.1) c.in_ok-idle.idle.items in
+    let idle = map (λ (d : Column). d.cube) c.in_ok-idle.idle.items in
     let all = flat_map (excluded_of nodes log) (numbers_below (item_count g)) in
     let by = rw c.as_slice.ensures.value at c.in_ok-push_cubes.ensures in
     let same : (s : Scenario) → IsScenario g s → is_left (map seen c.push_cubes.new.by.items) c.in_ok-cube.cube s ≡ is_left (all ++ idle) [] s = λ s law.

@@ -1,8 +1,8 @@
-use Rattle.std.proofs.Common.{ℕ, List, All, sym, ap, ◌∙◌, subst}
+use Rattle.std.proofs.Common.{All, sym, ap, ◌∙◌, subst}
 use Rattle.std.specs.List.{list_any}
 use Rattle.std.proofs.lemmas.List.Elements.{All-append}
 use Rattle.cpg_cube.specs.Cube.{matches}
-use Rattle.cpg_cube.specs.declared.literal.Literal.{Literal}
+use Rattle.cpg_cube.specs.Column.{Column}
 use Rattle.cpg_cube.specs.Fit.{IsKnown}
 use Rattle.cpg_audit.proofs.IdleLaws.{idle_more}
 use Rattle.cpg_audit.proofs.idle.all_idle.Goals as goal
@@ -13,7 +13,7 @@ loop-act-preserved c =
     let old = c.loop-act.all.items in
     let columns = c.in_ok-columns.columns.items in
     record {
-      known = subst (All (λ (d : ℕ × List Literal). IsKnown g d.1)) (sym c.in_ok-append.ensures.items) (All-append (λ (d : ℕ × List Literal). IsKnown g d.1) old columns c.loop-act.invariant.known c.in_ok-columns.ensures.known);
-      idle = λ s law. ap (list_any (λ (d : ℕ × List Literal). matches d.1 s)) c.in_ok-append.ensures.items
+      known = subst (All (λ (d : Column). IsKnown g d.cube)) (sym c.in_ok-append.ensures.items) (All-append (λ (d : Column). IsKnown g d.cube) old columns c.loop-act.invariant.known c.in_ok-columns.ensures.known);
+      idle = λ s law. ap (list_any (λ (d : Column). matches d.cube s)) c.in_ok-append.ensures.items
           ∙ idle_more g s c.args.acts.now c.loop-act.act-index _ c.loop-act-test.true old columns (c.loop-act.invariant.idle s law) (c.in_ok-columns.ensures.idle s law);
     }

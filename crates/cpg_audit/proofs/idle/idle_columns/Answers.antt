@@ -1,7 +1,7 @@
-use Rattle.std.proofs.Common.{ℕ, List, subst}
+use Rattle.std.proofs.Common.{subst}
 use Rattle.std.proofs.lemmas.List.Elements.{All-weaker}
 use Rattle.cpg_base.specs.Graph.{Graph}
-use Rattle.cpg_cube.specs.declared.literal.Literal.{Literal}
+use Rattle.cpg_cube.specs.Column.{Column}
 use Rattle.cpg_cube.specs.Fit.{IsKnown}
 use Rattle.cpg_tree.specs.Columns.{IsTidyColumn}
 use Rattle.cpg_tree.specs.Variables.{is_variable}
@@ -17,7 +17,7 @@ columns-requires-clause-known c =
 pub returns-clause-known : goal.returns-clause-known
 returns-clause-known c =
     let g = c.args.admitted.now.graph in
-    All-weaker (IsTidyColumn c.problem.result.now) (λ (column : ℕ × List Literal). IsKnown g column.1) (λ column tidy. subst (λ (h : Graph). IsKnown h column.1) c.problem.ensures.problem tidy.cube.known)
+    All-weaker (IsTidyColumn c.problem.result.now) (λ (column : Column). IsKnown g column.cube) (λ column tidy. subst (λ (h : Graph). IsKnown h column.cube) c.problem.ensures.problem tidy.cube.known)
     c.in_ok-columns.columns.items c.in_ok-columns.ensures.tidy
 
 pub returns-clause-idle : goal.returns-clause-idle

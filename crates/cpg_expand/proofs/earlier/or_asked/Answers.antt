@@ -3,7 +3,7 @@ use Rattle.cpg_order.specs.Guard.{Guard}
 use Rattle.cpg_tree.specs.Tree.{IsConstant}
 use Rattle.cpg_tree.specs.Variables.{is_variable}
 use Rattle.cpg_expand.specs.Guarded.{IsTestedOn}
-use Rattle.cpg_expand.proofs.EarlierFound.{asked_too, between_from}
+use Rattle.cpg_expand.proofs.EarlierFound.{asked_same, asked_too, between_from, not_between}
 use Rattle.cpg_expand.proofs.TreesTold.{constant_tree, same_tree}
 use Rattle.cpg_expand.proofs.earlier.or_asked.Goals as goal
 
@@ -24,3 +24,10 @@ returns-clause-asked c =
     (constant_tree g true c.faults.result c.in_ok-always.always c.faults.ensures.faults c.in_ok-always.ensures.each c.in_ok-always.ensures.is (c.in_ok-always.ensures.pass (is_variable g)))
     c.requires.tree (subst (λ (guard : Guard). IsTestedOn g.faults guard c.args.condition c.in_ok-tested.tested) c.guard_of.ensures.tree c.in_ok-tested.ensures.tested)
     (subst (λ n. IsConstant true n c.in_ok-always.always) c.faults.ensures.faults c.in_ok-always.ensures.is) c.in_ok-either.ensures.is c.requires.asked
+
+pub returns-then-not-stands_between-clause-asked : goal.returns-then-not-stands_between-clause-asked
+returns-then-not-stands_between-clause-asked c =
+    let g = c.args.span.now.problem.now in
+    let span = c.args.span.now in
+    asked_same g span.order.now span.guards.now span.node span.from c.args.to c.args.condition c.args.other c.args.asked
+    (not_between g span.order.now span.node span.from c.args.to c.args.other (sym c.stands_between.ensures ∙ c.if-not-stands_between.true)) c.requires.asked

@@ -6,12 +6,10 @@ columns-requires-clause-known c = known_from c.args.problem.now c.args.tree.now.
 
 pub returns : goal.returns
 returns c = record {
-  columns = c.in_ok-columns.columns.items;
   are = record {
     each = c.requires.tree.each;
     all = c.in_ok-columns.ensures.all;
     tidy = c.in_ok-columns.ensures.tidy;
   };
   by_lows = c.in_ok-columns.ensures.by_lows;
-  is = c.in_ok-entries.ensures;
 }

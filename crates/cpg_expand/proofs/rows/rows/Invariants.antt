@@ -1,5 +1,10 @@
+use Rattle.std.proofs.Common.{◌≡◌, ◌+◌, drop, length}
 use Rattle.cpg_expand.specs.MadeRows.{AreFirstRows}
 use Rattle.cpg_expand.proofs.rows.rows.Given as goal
 
-abbrev pub invariant-loop-item : goal.invariant-loop-item
-invariant-loop-item l = AreFirstRows l.problem l.urgency l.times l.item l.rows.items
+abbrev pub invariant-loop-tree : goal.invariant-loop-tree
+invariant-loop-tree l = record {
+  count : l.item + length l.tree-iterator.rest.items ≡ length l.fn.times.items;
+  left : l.tree-iterator.rest.items ≡ drop l.item l.fn.times.items;
+  rows : AreFirstRows l.problem l.urgency l.fn.times.items l.item l.rows.items;
+}
