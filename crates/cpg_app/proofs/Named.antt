@@ -5,6 +5,7 @@ use Rattle.cpg_base.specs.Scenario.{Scenario, IsScenario, zero_scenario}
 use Rattle.cpg_tale.specs.Fetch.{Fetch}
 use Rattle.cpg_table.specs.declared.fault.Fault.{Fault}
 use Rattle.cpg_check.specs.Verdict.{IsFirstFault}
+use Rattle.cpg_violation.specs.Room.{HasRoom}
 use Rattle.cpg_violation.specs.Violation.{IsFirstViolation, column_rules}
 use Rattle.cpg_violation.proofs.Violations.{first_broken}
 use Rattle.cpg_run.proofs.ZeroScenario.{zero_lawful}
@@ -23,7 +24,7 @@ use Rattle.cpg_core.specs.Compilation.{ShowsCompileFault}
 use Rattle.cpg_refusal.specs.declared.halt.Halt.{Halt}
 use Rattle.cpg_refusal.specs.declared.halt.Halt.TheVariants.{Read, Refused, Unsafe, Memory}
 use Rattle.cpg_refusal.specs.Halts.{halt_of_reading, halt_of_rules, halt_of_scenario, halt_of_parts}
-use Rattle.cpg_refusal.specs.Lines.{HasLengths, IsNamed}
+use Rattle.cpg_refusal.specs.Lines.{IsNamed}
 use Rattle.cpg_inputs.specs.declared.kind.Kind.{Kind}
 use Rattle.cpg_inputs.specs.declared.kind.Kind.TheVariants.{GraphFile, PartFile, PackFile, ScenarioFile, LogFile}
 use Rattle.cpg_inputs.specs.Files.{File, long_of}
@@ -32,8 +33,8 @@ use Rattle.cpg_inputs.specs.Reading.{StopsAt, StopsReading}
 use Rattle.cpg_app.specs.Halts.{halt_of_compile}
 use Rattle.cpg_app.specs.Causes.{IsUncompiled, StopsVerdict, StopsWork}
 
-lengths_of : (g : Graph) (s : Scenario) → IsScenario g s → HasLengths g s
-lengths_of g s is = record { values = is.values; faults = is.faults }
+room_of : (g : Graph) (s : Scenario) → IsScenario g s → HasRoom g s
+room_of g s is = record { values = is.values; faults = is.faults }
 
 of_reading : (fault : ReadFault) → IsNamed (halt_of_reading fault)
 of_reading ReadFault.NotToml = tt
@@ -46,14 +47,14 @@ of_reading ReadFault.OutOfMemory = tt
 of_rules : (g : Graph) (fault : RuleFault) → ShowsFault g fault → IsNamed (halt_of_rules g fault)
 of_rules g (RuleFault.Cycle walk) shows = tt
 of_rules g RuleFault.TooManyTracks shows = tt
-of_rules g (RuleFault.TwoAlternatives p s) shows = lengths_of g s shows.2.least.lawful
+of_rules g (RuleFault.TwoAlternatives p s) shows = room_of g s shows.2.least.lawful
 of_rules g (RuleFault.NoSlot node) shows = tt
 of_rules g (RuleFault.TooBig e) shows = tt
 of_rules g RuleFault.OutOfMemory shows = tt
 
 of_compile : (a : Admission) (fault : CompileFault) → ShowsCompileFault a.graph a.order fault → IsNamed (halt_of_compile a fault)
 of_compile a (CompileFault.TooWide x) shows = shows.wide.within
-of_compile a (CompileFault.Late s p time) shows = lengths_of a.graph s shows.1.is_excess.least.lawful
+of_compile a (CompileFault.Late s p time) shows = room_of a.graph s shows.1.is_excess.least.lawful
 of_compile a CompileFault.OutOfMemory shows = tt
 
 named_as : (h k : Halt) → h ≡ k → IsNamed k → IsNamed h
@@ -98,8 +99,8 @@ fault_named : (a : Admission) (t : Tables) (f : Fault) → IsFirstFault a.graph 
 fault_named a t f (inl broken) =
     let shown = first_broken a.graph a.order t.nodes f column_rules broken in
     let first : IsFirstViolation a.graph a.order t.nodes shown.0 f = shown.1 in
-    (first.item, lengths_of a.graph f.scenario first.least.lawful)
-fault_named a t f (inr heard) = (heard.1.item, subst (HasLengths a.graph) (sym heard.1.scenario) (lengths_of a.graph (zero_scenario a.graph) (zero_lawful a.graph)))
+    (first.item, room_of a.graph f.scenario first.least.lawful)
+fault_named a t f (inr heard) = (heard.1.item, subst (HasRoom a.graph) (sym heard.1.scenario) (room_of a.graph (zero_scenario a.graph) (zero_lawful a.graph)))
 
 verdict_named : (a : Admission) (t : Tables) (h : Halt) → StopsVerdict a t h → IsNamed h
 verdict_named a t h (inl other) = named_as h _ other.halt_is tt

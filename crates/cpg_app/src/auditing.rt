@@ -2,8 +2,8 @@
 ghost use Rattle.std.specs.Prelude.{◌≡◌, IfOk, None, Some, string_bytes};
 ghost use Rattle.cpg_table.specs.Valid.{IsValid};
 ghost use Rattle.cpg_violation.specs.Heads.{IsHeadFor};
+ghost use Rattle.cpg_violation.specs.Room.{HasRoom};
 ghost use Rattle.cpg_log.specs.Log.{IsLog};
-ghost use Rattle.cpg_refusal.specs.Lines.{HasLengths};
 ghost use Rattle.cpg_app.specs.Outputs.{IsAuditText, given_text};
 
 use cpg_audit::audit;
@@ -20,7 +20,7 @@ fn scenario_line(
     problem: &Problem,
     scenario: &Scenario,
 ) -> Result<String, OutOfMemory>
-    requires { HasLengths problem.now scenario.now }
+    requires { HasRoom problem.now scenario.now }
     ensures { IfOk result (λ text. string_bytes text ≡ given_text problem.now (Some scenario.now)) }
 {
     let scenario = scenario_text(alloc, problem, scenario)?;

@@ -1,9 +1,9 @@
 -- The exit status of a run that stops without an output, and the line that it writes.
-use Rattle.std.specs.Prelude.{ℕ, ◌≡◌, ◌<◌, List, ◌++◌, Option, Some, None, length, codes, ⊤}
+use Rattle.std.specs.Prelude.{ℕ, ◌<◌, List, ◌++◌, Option, Some, None, codes, ⊤}
 use Rattle.std.specs.List.{flat_map}
 use Rattle.std.specs.Fmt.{decimal}
 use Rattle.cpg_base.specs.Called.{name_of, node_name}
-use Rattle.cpg_base.specs.Graph.{Graph, condition_count, process_count, item_at, item_count}
+use Rattle.cpg_base.specs.Graph.{Graph, item_at, item_count}
 use Rattle.cpg_base.specs.Scenario.{Scenario}
 use Rattle.cpg_scenario.specs.Text.{scenario_text}
 use Rattle.cpg_reader.specs.declared.place.Table.{Table}
@@ -15,6 +15,7 @@ use Rattle.cpg_reader.specs.declared.place.What.{What}
 use Rattle.cpg_reader.specs.declared.place.What.TheVariants.{Nodes, Slots, Processes, Edges, Number, Conditions}
 use Rattle.cpg_reader.specs.Rows.{text_of}
 use Rattle.cpg_scenario.specs.declared.fault.Cause.{Cause}
+use Rattle.cpg_violation.specs.Room.{HasRoom}
 use Rattle.cpg_violation.specs.declared.heads.HeadPart.{HeadPart}
 use Rattle.cpg_violation.specs.declared.heads.HeadPart.TheVariants.{Faults}
 use Rattle.cpg_hyper.specs.declared.part.HyperFault.{HyperFault}
@@ -138,7 +139,8 @@ column_text (Some column) = decimal column
 
 -- a violation of a rule: the rule, the item and its column, and the scenario
 abbrev pub unsafe_text : Graph → Fault → List ℕ
-unsafe_text g f = codes "unsafe V" ++ decimal f.rule ++ codes " " ++ item_text g f.item ++ codes " column " ++ column_text f.column ++ codes " in " ++ scenario_text g f.scenario
+unsafe_text g f = codes "unsafe V" ++ decimal f.rule ++ codes " " ++ item_text g f.item ++ codes " column " ++ column_text f.column
+    ++ codes " in " ++ scenario_text g f.scenario
 
 abbrev pub reason_text : Halt → List ℕ
 reason_text Words = codes "words"
@@ -159,17 +161,13 @@ write_fault_line = codes "cpgc: write fault\n"
 
 -- What a line names is there: a scenario has the graph's lengths, and an item is one of its items.
 
-pub record HasLengths (g : Graph) (s : Scenario) : Type 0 where
-  pub values : length s.values ≡ condition_count g
-  pub faults : length s.faults ≡ process_count g
-
 abbrev pub IsNamedRefusal : Refusal → Type 0
-IsNamedRefusal (TwoAlternatives g p s) = HasLengths g s
+IsNamedRefusal (TwoAlternatives g p s) = HasRoom g s
 IsNamedRefusal refusal = ⊤
 
 abbrev pub IsNamed : Halt → Type 0
 IsNamed (Refused refusal) = IsNamedRefusal refusal
-IsNamed (Late a s p time) = HasLengths a.graph s
+IsNamed (Late a s p time) = HasRoom a.graph s
 IsNamed (TooWide a x) = x < item_count a.graph
-IsNamed (Unsafe a f) = (f.item < item_count a.graph) × HasLengths a.graph f.scenario
+IsNamed (Unsafe a f) = (f.item < item_count a.graph) × HasRoom a.graph f.scenario
 IsNamed halt = ⊤

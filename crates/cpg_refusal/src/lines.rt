@@ -1,7 +1,8 @@
 //! The line of a run that stops without an output.
 ghost use Rattle.std.specs.Prelude.{◌≡◌, ◌<◌, ◌++◌, OnOk, IfOk, codes, string_bytes};
 ghost use Rattle.cpg_base.specs.Graph.{item_count};
-ghost use Rattle.cpg_refusal.specs.Lines.{case_text, column_text, item_text, unsafe_text, late_text, line_of, reason_text, IsNamed, HasLengths};
+ghost use Rattle.cpg_violation.specs.Room.{HasRoom};
+ghost use Rattle.cpg_refusal.specs.Lines.{case_text, column_text, item_text, unsafe_text, late_text, line_of, reason_text, IsNamed};
 
 use crate::halt::Halt;
 use crate::refusals::write_refused;
@@ -18,7 +19,7 @@ pub fn write_case(
     process: u32,
     scenario: &Scenario,
 ) -> Result<(), OutOfMemory>
-    requires { HasLengths problem.now scenario.now }
+    requires { HasRoom problem.now scenario.now }
     ensures { OnOk result (string_bytes out.new ≡ string_bytes out.old ++ case_text problem.now process scenario.now) }
 {
     let name = name_of(problem, process);
@@ -35,7 +36,7 @@ fn write_late(
     process: u32,
     finish: u64,
 ) -> Result<(), OutOfMemory>
-    requires { HasLengths problem.now scenario.now }
+    requires { HasRoom problem.now scenario.now }
     ensures { OnOk result (string_bytes out.new ≡ string_bytes out.old ++ late_text problem.now scenario.now process finish) }
 {
     write!(out, "late {finish} by ")?;
@@ -63,7 +64,7 @@ fn write_column(out: &mut String, column: Option<u32>) -> Result<(), AllocError>
 /// A violation of a rule.
 fn write_unsafe(out: &mut String, problem: &Problem, fault: &Fault) -> Result<(), OutOfMemory>
     requires item { fault.now.item < item_count problem.now }
-    requires scenario { HasLengths problem.now fault.now.scenario }
+    requires scenario { HasRoom problem.now fault.now.scenario }
     ensures { OnOk result (string_bytes out.new ≡ string_bytes out.old ++ unsafe_text problem.now fault.now) }
 {
     let rule = fault.rule;

@@ -1,7 +1,8 @@
 //! The texts of refusals.
 ghost use Rattle.std.specs.Prelude.{◌≡◌, ◌++◌, OnOk, codes, flat_map, string_bytes};
 ghost use Rattle.cpg_base.specs.Called.{name_of, node_name};
-ghost use Rattle.cpg_refusal.specs.Lines.{alternatives_text, cause_text, cycle_text, key_text, part_text, parts_text, place_text, refusal_text, refused_text, table_text, what_text, HasLengths, IsNamedRefusal};
+ghost use Rattle.cpg_violation.specs.Room.{HasRoom};
+ghost use Rattle.cpg_refusal.specs.Lines.{alternatives_text, cause_text, cycle_text, key_text, part_text, parts_text, place_text, refusal_text, refused_text, table_text, what_text, IsNamedRefusal};
 
 use crate::halt::Refusal;
 use crate::lines::write_case;
@@ -93,7 +94,7 @@ fn write_alternatives(
     process: u32,
     scenario: &Scenario,
 ) -> Result<(), AllocError>
-    requires { HasLengths problem.now scenario.now }
+    requires { HasRoom problem.now scenario.now }
     ensures { OnOk result (string_bytes out.new ≡ string_bytes out.old ++ alternatives_text problem.now process scenario.now) }
 {
     out.push_str("7 alternatives ")?;

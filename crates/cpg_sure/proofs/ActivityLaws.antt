@@ -15,7 +15,7 @@ use Rattle.cpg_cube.specs.Column.{Column}
 use Rattle.cpg_table.specs.Valid.{breaks_activity}
 use Rattle.cpg_table.specs.declared.rule.Rule.{Rule}
 use Rattle.cpg_violation.specs.Sure.{IsSure}
-use Rattle.cpg_sure.specs.Always.{AllAlways, IsItemAlways}
+use Rattle.cpg_sure.specs.Always.{AllAlways, IsUnconditional}
 use Rattle.cpg_sure.proofs.SureLaws.{sure_of}
 
 -- the item is active, and no literal's process is inactive
@@ -32,7 +32,7 @@ module _ (g : Graph) (tables : List NodeTable) (x : ℕ) where
       (λ s c earlier law k m. All-contains (λ (c : Column). (s : Scenario) → IsScenario g s → matches c.cube s ≡ true → breaks_activity g s x c ≡ false) (columns_of tables x) c all k s law m)
 
   pub always_sure : process_count g ≤ 128 → AllAlways g → All (λ (c : Column). IsKnown g c.cube) (columns_of tables x)
-      → IsItemAlways g x → IsSure g tables Rule.Activity x
+      → IsUnconditional g x → IsSure g tables Rule.Activity x
   always_sure few always known item = sure_of g tables Rule.Activity x refl (λ s c earlier law k m. both_active _ _ (item s law)
       (list_any_false (λ (l : Literal). not (active g s.values (process_of_variable g l.variable))) c.cube
       (λ l j. ap not (always (process_of_variable g l.variable)

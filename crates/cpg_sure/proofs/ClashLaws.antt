@@ -16,6 +16,7 @@ use Rattle.cpg_cube.specs.Column.{Column}
 use Rattle.cpg_table.specs.Valid.{overlap}
 use Rattle.cpg_table.specs.declared.rule.Rule.{Rule}
 use Rattle.cpg_violation.specs.Sure.{IsSure}
+use Rattle.cpg_violation.proofs.Tests.{off_where}
 use Rattle.cpg_sure.specs.Order.{IsApart, execution, sending}
 use Rattle.cpg_sure.proofs.SureLaws.{sure_of}
 
@@ -64,17 +65,13 @@ module _ (g : Graph) (tables : List NodeTable) (x : ℕ) where
   other_time a c (inl h) = ne_eqb a c (λ e. omega (arith, h, e))
   other_time a c (inr h) = ne_eqb a c (λ e. omega (arith, h, e))
 
-  false_where : (b c : Bool) → (b ≡ true → c ≡ false) → (b && c) ≡ false
-  false_where true c h = h refl
-  false_where false c h = refl
-
   lower_apart : All (λ (c : Column). (s : Scenario) → IsScenario g s → matches c.cube s ≡ true → next_slot g (home g x) c.time ≡ c.time) (columns_of tables x)
       → All (λ y. IsApart sending g tables y x) (filter (λ y. is_sent g y && (home g y == home g x)) (numbers_below x)) → IsSure g tables Rule.Slot x
   lower_apart starts apart = sure_of g tables Rule.Slot x refl (λ s c earlier law there m.
       let start : next_slot g (home g x) c.time ≡ c.time = All-contains (λ (c : Column). (s : Scenario) → IsScenario g s → matches c.cube s ≡ true → next_slot g (home g x) c.time ≡ c.time) (columns_of tables x) c starts there s law m in
       and_right (is_sent g x) _ (ap (λ b. not b || list_any (λ y. is_sent g y && (home g y == home g x) && list_any (λ t. t == c.time) (at tables y s)) (numbers_below x)) (eq-eqb (next_slot g (home g x) c.time) c.time start)
       ∙ list_any_false (λ y. is_sent g y && (home g y == home g x) && list_any (λ t. t == c.time) (at tables y s)) (numbers_below x) (λ y k.
-      false_where (is_sent g y && (home g y == home g x)) (list_any (λ t. t == c.time) (at tables y s)) (λ e.
+      off_where (is_sent g y && (home g y == home g x)) (list_any (λ t. t == c.time) (at tables y s)) (λ e.
       none_at tables y s (λ t. t == c.time) (λ d at n. other_time d.time c.time
       (All-contains (λ y. IsApart sending g tables y x) (filter (λ y. is_sent g y && (home g y == home g x)) (numbers_below x)) y apart (Contains-filter (λ y. is_sent g y && (home g y == home g x)) (numbers_below x) y e k) s c law there m d at n))))))
 

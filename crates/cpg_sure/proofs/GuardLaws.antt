@@ -13,9 +13,9 @@ use Rattle.cpg_cube.specs.Cube.{holds}
 use Rattle.cpg_rules.specs.Admission.{IsAdmitted}
 use Rattle.cpg_tree.specs.declared.space.Space.{Space}
 use Rattle.cpg_tree.specs.Space.{Lies}
+use Rattle.cpg_tree.proofs.Passes.{of_true}
 use Rattle.cpg_violation.specs.Activity.{comes_to, value_literal}
 use Rattle.cpg_violation.proofs.ActiveWhere.{value_holds}
-use Rattle.cpg_sure.proofs.SureLaws.{of_true}
 
 -- a test comes to nothing wanted where the sides that are open do
 module _ (wanted : Bool) (c : ℕ) (off on : Guard) (s : Scenario) where

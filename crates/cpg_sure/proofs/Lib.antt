@@ -1,8 +1,6 @@
-pub mod Few
 pub mod OrderLaws
 pub mod ClashLaws
 pub mod SpaceLaws
-pub mod TreeLaws
 pub mod SureLaws
 pub mod RowLaws
 pub mod TimeLaws

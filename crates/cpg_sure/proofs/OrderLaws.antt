@@ -13,20 +13,20 @@ use Rattle.cpg_base.specs.Scenario.{Scenario, IsScenario, fault_of, number_of}
 use Rattle.cpg_base.proofs.NumbersOf.{number_of-fault}
 use Rattle.cpg_cube.specs.Cube.{matches}
 use Rattle.cpg_table.specs.Table.{NodeTable, columns_of}
-use Rattle.cpg_cube.specs.Column.{Column}
+use Rattle.cpg_cube.specs.Column.{Column, column_at}
 use Rattle.cpg_table.specs.declared.rule.Rule.{Rule}
-use Rattle.cpg_tree.specs.declared.places.Places.{Places}
-use Rattle.cpg_tree.specs.Places.{place_at}
-use Rattle.cpg_violation.specs.Sieves.{column_at}
+use Rattle.cpg_places.specs.declared.places.Places.{Places}
+use Rattle.cpg_places.specs.Places.{place_at}
+use Rattle.cpg_places.specs.Trees.{IsRowTree}
+use Rattle.cpg_places.proofs.TreeLaws.{none_matches, place_only}
 use Rattle.cpg_violation.specs.Violation.{Holds}
+use Rattle.cpg_violation.proofs.Durations.{duration_grows, fault_within}
+use Rattle.cpg_sure.specs.Always.{IsUnconditional}
 use Rattle.cpg_sure.specs.declared.course.Course.{Course}
 use Rattle.cpg_sure.specs.declared.course.Courses.{Courses}
 use Rattle.cpg_sure.specs.declared.span.Span.{Span}
 use Rattle.cpg_sure.specs.Courses.{AreCourses, IsCourse, IsPast, IsSpan}
-use Rattle.cpg_sure.specs.Order.{execution, IsApart, IsApartAt, IsInTurn, IsOver, IsOverBy, IsUnconditional, StandsBefore}
-use Rattle.cpg_sure.specs.Trees.{AreRowTrees, IsRowTree}
-use Rattle.cpg_sure.proofs.TimeLaws.{duration_grows, fault_few}
-use Rattle.cpg_sure.proofs.TreeLaws.{none_matches, place_only}
+use Rattle.cpg_sure.specs.Order.{execution, IsApart, IsApartAt, IsInTurn, IsOver, IsOverBy, StandsBefore}
 
 -- ---- spans
 
@@ -36,16 +36,12 @@ pub span_of : (g : Graph) → process_count g ≤ 128 → (p : ℕ) → p < proc
 span_of g few p l span is lengths longest = record {
   enough = λ s n law h k.
       let counted : fault_of s p ≤ n = omega (arith, number_of-fault s p (omega (arith, few, l)), subst (λ v. number_of s v ≤ n) is h) in
-      let most : fault_of s p ≤ min g.faults n = omega (arith, fault_few g few p l s law, counted) in
+      let most : fault_of s p ≤ min g.faults n = omega (arith, fault_within g few p l s law, counted) in
       omega (arith, duration_grows g p (fault_of s p) (min g.faults n) most, lengths n k);
-  longest = λ s law. omega (arith, duration_grows g p (fault_of s p) g.faults (fault_few g few p l s law), longest);
+  longest = λ s law. omega (arith, duration_grows g p (fault_of s p) g.faults (fault_within g few p l s law), longest);
 }
 
 -- ---- courses
-
--- the tree of an item's row, if it has one
-pub tree_of_row : (g : Graph) (tables : List NodeTable) (trees : List (Option Places)) (x : ℕ) → AreRowTrees g tables trees → x < item_count g → (o : Option Places) → o ≡ get_or trees x o → IfSome o (IsRowTree g (columns_of tables x))
-tree_of_row g tables trees x are l o is = subst (λ (p : Option Places). IfSome p (IsRowTree g (columns_of tables x))) (get_or_default trees x None o (omega (arith, l, are.count)) ∙ sym is) (are.each x l)
 
 -- the course that a look-up finds is its item's
 pub course_at : {lasts : ℕ → Scenario → ℕ} {g : Graph} {tables : List NodeTable} {courses : Courses} → AreCourses lasts g tables courses

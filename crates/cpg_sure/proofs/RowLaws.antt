@@ -1,47 +1,28 @@
 -- Rows with trees keep V2, and V3 where the tree has no place only where the item is inactive.
-use Rattle.std.proofs.Common.{ℕ, ◌<◌, ◌≡◌, Bool, true, false, not, ◌&&◌, List, [], Option, None, Some, Contains, length, get_or, take, arith, refl, sym, ap, ◌∙◌, subst, inl, inr}
+use Rattle.std.proofs.Common.{ℕ, ◌<◌, ◌≡◌, false, not, ◌&&◌, List, [], Option, None, Some, length, get_or, take, arith, refl, sym, ap, ◌∙◌, subst, inl, inr}
 use Rattle.std.specs.List.{list_any}
 use Rattle.std.specs.Prelude.{IfSome, is_some}
-use Rattle.std.proofs.Math.Bool.{or-false}
+use Rattle.std.proofs.Math.Bool.{and-false, or-false}
 use Rattle.std.proofs.lemmas.Bool.{cases_lt}
 use Rattle.std.specs.Bool.{OnTrue}
-use Rattle.std.proofs.lemmas.List.{drop_more, drop_all, get_or-take, get_or_default, length-take}
-use Rattle.cpg_base.specs.Graph.{Graph, item_at}
+use Rattle.std.proofs.lemmas.List.{drop_more, drop_all, get_or_default}
+use Rattle.cpg_base.specs.Graph.{Graph, item_at, item_count}
 use Rattle.cpg_base.specs.Activity.{item_active}
-use Rattle.cpg_base.proofs.Lists.{list_any_false, list_any_true, list_any_at_place}
+use Rattle.cpg_base.proofs.Lists.{list_any_true, list_any_at_place}
 use Rattle.cpg_base.specs.Scenario.{Scenario, IsScenario}
 use Rattle.cpg_cube.specs.Cube.{matches}
 use Rattle.cpg_table.specs.Table.{NodeTable, columns_of}
-use Rattle.cpg_cube.specs.Column.{Column}
+use Rattle.cpg_cube.specs.Column.{Column, column_at}
 use Rattle.cpg_table.specs.Valid.{breaks_at, breaks_present}
 use Rattle.cpg_table.specs.declared.rule.Rule.{Rule}
-use Rattle.cpg_tree.specs.declared.places.Places.{Places}
-use Rattle.cpg_tree.specs.Places.{place_at}
-use Rattle.cpg_violation.specs.Sieves.{column_at}
+use Rattle.cpg_places.specs.declared.places.Places.{Places}
+use Rattle.cpg_places.specs.Places.{place_at}
+use Rattle.cpg_places.specs.Trees.{IsRowTree}
+use Rattle.cpg_places.proofs.TreeLaws.{none_earlier, place_there, place_matches}
 use Rattle.cpg_violation.specs.Sure.{IsSure}
-use Rattle.cpg_sure.specs.Trees.{AreRowTrees, IsRowTree}
+use Rattle.cpg_violation.proofs.Tests.{off_where}
+use Rattle.cpg_sure.specs.Trees.{AreRowTrees}
 use Rattle.cpg_sure.specs.Absent.{IsIdleWhere}
-use Rattle.cpg_sure.proofs.TreeLaws.{one_place, place_there, place_matches}
-use Rattle.cpg_sure.proofs.SureLaws.{only_where}
-
-and_last : (a : Bool) → (a && false) ≡ false
-and_last true = refl
-and_last false = refl
-
-module _ {g : Graph} {columns : List Column} {tree : Places} (is : IsRowTree g columns tree) (s : Scenario) (law : IsScenario g s) (i : ℕ) (there : i < length columns) (m : matches (column_at columns i).cube s ≡ true) where
-  -- no earlier column matches where one does
-  none_earlier : list_any (λ (d : Column). matches d.cube s) (take i columns) ≡ false
-  none_earlier = list_any_false (λ (d : Column). matches d.cube s) (take i columns) (λ d k. false_unless (matches d.cube s) (λ n. apart d k n))
-    where
-      false_unless : (b : Bool) → (b ≡ true → ⊥) → b ≡ false
-      false_unless true h = absurd (h refl)
-      false_unless false h = refl
-
-      apart : (d : Column) → Contains (take i columns) d → matches d.cube s ≡ true → ⊥
-      apart d k n =
-          let less : k.0 < i = omega (arith, k.1, length-take i columns) in
-          let at : column_at columns k.0 ≡ d = get_or_default columns k.0 (record { time = 0; cube = [] }) d (omega (arith, less, there)) ∙ sym (get_or-take i columns k.0 d less) ∙ k.2 in
-          omega (arith, less, one_place is s law k.0 i (omega (arith, less, there)) there (ap (λ (x : Column). matches x.cube s) at ∙ n) m)
 
 module _ (g : Graph) (tables : List NodeTable) (x : ℕ) {tree : Places} (is : IsRowTree g (columns_of tables x) tree) where
   -- V2
@@ -50,13 +31,13 @@ module _ (g : Graph) (tables : List NodeTable) (x : ℕ) {tree : Places} (is : I
   single_sure (Some i) s law = elim (cases_lt i (length (columns_of tables x))) [
     | inl l ↦ ap (λ cs. list_any (breaks_at Rule.Single g tables s x (take i (columns_of tables x))) (take 1 cs)) (drop_more (columns_of tables x) i (record { time = 0; cube = [] }) l)
         ∙ or-false (breaks_at Rule.Single g tables s x (take i (columns_of tables x)) (column_at (columns_of tables x) i))
-        ∙ only_where (matches (column_at (columns_of tables x) i).cube s) (list_any (λ (d : Column). matches d.cube s) (take i (columns_of tables x))) (λ m. none_earlier is s law i l m)
+        ∙ off_where (matches (column_at (columns_of tables x) i).cube s) (list_any (λ (d : Column). matches d.cube s) (take i (columns_of tables x))) (λ m. none_earlier is s law i l m)
     | inr past ↦ ap (λ cs. list_any (breaks_at Rule.Single g tables s x (take i (columns_of tables x))) (take 1 cs)) (drop_all i (columns_of tables x) past)
   ]
 
   -- V3
   pub present_sure : ((s : Scenario) → IsScenario g s → IsIdleWhere g x (place_at tree s) s) → IsSure g tables Rule.Present x
-  present_sure idle (Some i) s law = list_any_at_place (breaks_at Rule.Present g tables s x (take i (columns_of tables x))) (columns_of tables x) i (λ c k. and_last (matches c.cube s))
+  present_sure idle (Some i) s law = list_any_at_place (breaks_at Rule.Present g tables s x (take i (columns_of tables x))) (columns_of tables x) i (λ c k. and-false (matches c.cube s))
   present_sure idle None s law = go (place_at tree s) refl
     where
       go : (o : Option ℕ) → place_at tree s ≡ o → breaks_present g tables s x ≡ false
@@ -64,11 +45,15 @@ module _ (g : Graph) (tables : List NodeTable) (x : ℕ) {tree : Places} (is : I
       go (Some i) e =
           let there : i < length (columns_of tables x) = place_there is s law i e in
           let some = list_any_true (λ (d : Column). matches d.cube s) (columns_of tables x) (column_at (columns_of tables x) i) (i, there, get_or_default (columns_of tables x) i (column_at (columns_of tables x) i) (record { time = 0; cube = [] }) there) (place_matches is s law i e) in
-          ap (λ b. item_active g s.values (item_at g x) && not b) some ∙ and_last (item_active g s.values (item_at g x))
+          ap (λ b. item_active g s.values (item_at g x) && not b) some ∙ and-false (item_active g s.values (item_at g x))
+
+-- the tree of an item's row, if it has one
+pub tree_of_row : (g : Graph) (tables : List NodeTable) (trees : List (Option Places)) (x : ℕ) → AreRowTrees g tables trees → x < item_count g → (o : Option Places) → o ≡ get_or trees x o → IfSome o (IsRowTree g (columns_of tables x))
+tree_of_row g tables trees x are l o is = subst (λ (p : Option Places). IfSome p (IsRowTree g (columns_of tables x))) (get_or_default trees x None o (omega (arith, l, are.count)) ∙ sym is) (are.each x l)
 
 module _ (g : Graph) (tables : List NodeTable) (trees : List (Option Places)) (x : ℕ) (o : Option Places) where
   here : x < length trees → o ≡ get_or trees x o → AreRowTrees g tables trees → IfSome o (IsRowTree g (columns_of tables x))
-  here there is are = subst (λ p. IfSome p (IsRowTree g (columns_of tables x))) (get_or_default trees x None o there ∙ sym is) (are.each x (omega (arith, there, are.count)))
+  here there is are = tree_of_row g tables trees x are (omega (arith, there, are.count)) o is
 
   -- the tree of an item's row
   pub tree_at : (tree : Places) → x < length trees → o ≡ get_or trees x o → o ≡ Some tree → AreRowTrees g tables trees → IsRowTree g (columns_of tables x) tree

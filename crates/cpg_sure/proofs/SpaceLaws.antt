@@ -9,7 +9,7 @@ use Rattle.cpg_cube.specs.Cube.{matches}
 use Rattle.cpg_cube.specs.declared.literal.Literal.{Literal}
 use Rattle.cpg_tree.specs.declared.space.Space.{Space}
 use Rattle.cpg_tree.specs.Space.{HasFew, Lies}
-use Rattle.cpg_sure.proofs.Few.{scenario_few}
+use Rattle.cpg_tree.proofs.OnePath.{scenario_few}
 
 module _ (g : Graph) (k : ℕ) (faults : k ≡ g.faults) (s : Scenario) (law : IsScenario g s) where
   pub few_of : HasFew k s

@@ -1,5 +1,5 @@
 -- What frames that reach a node tell it.
-use Rattle.std.proofs.Common.{ℕ, ◌+◌, ◌<◌, ◌≤◌, ◌≡◌, ◌⊎◌, Bool, true, false, List, [], ◌++◌, Option, None, Some, All, Contains, IfSome, get_or, length, refl, sym, ap, ◌∙◌, subst, arith, inl, inr, leb-true}
+use Rattle.std.proofs.Common.{ℕ, ◌+◌, ◌<◌, ◌≤◌, ◌≡◌, ◌⊎◌, Bool, true, false, List, [], Option, None, Some, All, Contains, IfSome, get_or, length, refl, sym, ap, ◌∙◌, subst, arith, inl, inr, leb-true}
 use Rattle.std.specs.Bool.{OnTrue}
 use Rattle.std.specs.Prelude.{slice_set}
 use Rattle.std.proofs.lemmas.Bool.{OnTrue_at, and_parts, cases_eq}
@@ -13,14 +13,13 @@ use Rattle.cpg_cube.specs.Cube.{holds, matches}
 use Rattle.cpg_cube.specs.declared.literal.Literal.{Literal}
 use Rattle.cpg_table.specs.Heard.{exactly, facts, frame_value, is_heard}
 use Rattle.cpg_table.specs.Table.{NodeTable, columns_of}
-use Rattle.cpg_cube.specs.Column.{Column}
-use Rattle.cpg_tree.specs.Places.{IsAmong, place_at}
-use Rattle.cpg_violation.specs.Sieves.{column_at}
+use Rattle.cpg_cube.specs.Column.{Column, column_at}
+use Rattle.cpg_places.specs.Places.{IsAmong, place_at}
+use Rattle.cpg_places.proofs.TreeLaws.{place_matches, place_there}
 use Rattle.cpg_sure.specs.Hearing.{AreHeardIn, IsHeardIn, literal_at}
 use Rattle.cpg_sure.specs.Speakers.{HasCome, IsSpeaker, IsTold, IsToldIn}
 use Rattle.cpg_sure.specs.declared.speakers.Speaker.{Speaker}
 use Rattle.cpg_sure.proofs.HeardLaws.{heard_frame}
-use Rattle.cpg_sure.proofs.TreeLaws.{place_matches, place_there}
 
 module _ {g : Graph} {tables : List NodeTable} {node : ℕ} {speaker : Speaker} (is : IsSpeaker g tables node speaker) (places : List ℕ) (c : Column) (l : Literal) (h : IsToldIn c.cube l) where
   told_by : (s : Scenario) → IsScenario g s → matches c.cube s ≡ true → IsTold speaker.value speaker.columns.now places l → (o : Option ℕ) → place_at speaker.tree.now s ≡ o

@@ -13,19 +13,12 @@ use Rattle.cpg_table.specs.Table.{NodeTable, columns_of}
 use Rattle.cpg_cube.specs.Column.{Column}
 use Rattle.cpg_table.specs.Valid.{asks_for_one, breaks_at, breaks_present, breaks_rule}
 use Rattle.cpg_table.specs.declared.rule.Rule.{Rule}
+use Rattle.cpg_tree.proofs.Passes.{of_true}
 use Rattle.cpg_violation.specs.Sure.{AreSure, IsSure}
-
--- what a test that held tells
-pub of_true : {P Q : Type 0} (b : Bool) → OnTrue b P → (P → Q) → OnTrue b Q
-of_true true h f = f h
-of_true false h f = tt
+use Rattle.cpg_violation.proofs.Tests.{off_where}
 
 pub on_le : {P : Type 0} (a b : ℕ) → (a ≤ b → P) → OnTrue (nat_le a b) P
 on_le {P} a b f = OnTrue_from (nat_le a b) P (λ e. f (leb-true a b e))
-
-pub only_where : (m b : Bool) → (m ≡ true → b ≡ false) → (m && b) ≡ false
-only_where true b h = h refl
-only_where false b h = refl
 
 module _ (g : Graph) (tables : List NodeTable) (rule : Rule) (x : ℕ) where
   -- no column breaks the rule where it matches
@@ -34,7 +27,7 @@ module _ (g : Graph) (tables : List NodeTable) (rule : Rule) (x : ℕ) where
       → IsSure g tables rule x
   sure_of alone each None s law = ap (λ b. b && breaks_present g tables s x) alone
   sure_of alone each (Some i) s law = list_any_at_place (breaks_at rule g tables s x (take i (columns_of tables x))) (columns_of tables x) i
-      (λ c k. only_where (matches c.cube s) (breaks_rule rule g tables s x (take i (columns_of tables x)) c) (λ m. each s c (take i (columns_of tables x)) law k m))
+      (λ c k. off_where (matches c.cube s) (breaks_rule rule g tables s x (take i (columns_of tables x)) c) (λ m. each s c (take i (columns_of tables x)) law k m))
 
 -- no item is marked
 pub none_sure : (g : Graph) (tables : List NodeTable) (rule : Rule) → AreSure g tables rule []

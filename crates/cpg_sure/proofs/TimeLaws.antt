@@ -1,8 +1,7 @@
 -- Rows that are at one time keep V8, and V9 where each end is early enough.
-use Rattle.std.proofs.Common.{ℕ, ◌+◌, ◌-◌, ◌*◌, ◌^◌, ◌<◌, ◌≤◌, ◌≡◌, Bool, true, false, not, ◌&&◌, List, Option, None, Some, Contains, All, find, min, arith, refl, sym, ap, ◌∙◌, inl, le-ltb}
+use Rattle.std.proofs.Common.{ℕ, ◌+◌, ◌-◌, ◌^◌, ◌≤◌, ◌≡◌, true, false, not, ◌&&◌, List, Option, None, Some, Contains, All, find, min, arith, refl, sym, ap, ◌∙◌, le-ltb}
 use Rattle.std.specs.Prelude.{nat_lt}
-use Rattle.std.specs.Int.{div_ceil}
-use Rattle.std.proofs.Math.Nat.{mul-le-mul_right}
+use Rattle.std.proofs.Math.Bool.{and-false}
 use Rattle.std.proofs.lemmas.Bool.{eq-eqb}
 use Rattle.std.proofs.lemmas.List.Elements.{All-contains}
 use Rattle.cpg_base.specs.Duration.{duration, due, lesser_due}
@@ -10,30 +9,13 @@ use Rattle.cpg_base.specs.Graph.{Graph, is_frozen, process_at, process_count}
 use Rattle.cpg_base.specs.Limits.{IsWithinLimits}
 use Rattle.cpg_base.proofs.Lists.{find_parts}
 use Rattle.cpg_base.specs.Scenario.{Scenario, IsScenario, fault_of}
-use Rattle.cpg_base.proofs.NumbersOf.{number_of-fault}
 use Rattle.cpg_cube.specs.Cube.{matches}
-use Rattle.cpg_cube.proofs.Boxes.{number_within, top_of_count}
 use Rattle.cpg_table.specs.Table.{NodeTable, columns_of}
 use Rattle.cpg_cube.specs.Column.{Column}
 use Rattle.cpg_table.specs.Valid.{differs_from, is_possible}
 use Rattle.cpg_table.specs.declared.rule.Rule.{Rule}
 use Rattle.cpg_violation.specs.Sure.{IsSure}
 use Rattle.cpg_sure.proofs.SureLaws.{sure_of}
-
-and_last : (a : Bool) → (a && false) ≡ false
-and_last true = refl
-and_last false = refl
-
--- an execution takes the longer the more faults it has
-pub duration_grows : (g : Graph) (p m n : ℕ) → m ≤ n → duration g p m ≤ duration g p n
-duration_grows g p m n h =
-    let more : m * ((process_at g p).mu + div_ceil (process_at g p).wcet (process_at g p).parts + (process_at g p).alpha) ≤ n * ((process_at g p).mu + div_ceil (process_at g p).wcet (process_at g p).parts + (process_at g p).alpha) =
-    mul-le-mul_right ((process_at g p).mu + div_ceil (process_at g p).wcet (process_at g p).parts + (process_at g p).alpha) h in
-    omega arith
-
--- a process fails no more often than there may be faults
-pub fault_few : (g : Graph) → process_count g ≤ 128 → (p : ℕ) → p < process_count g → (s : Scenario) → IsScenario g s → fault_of s p ≤ g.faults
-fault_few g few p l s law = omega (arith, number_within g few s law p (inl l), number_of-fault s p (omega (arith, few, l)), top_of_count g.faults p (omega (arith, few, l)))
 
 -- a due is at most the deadline
 due_le : (g : Graph) (p : ℕ) → due g p ≤ g.deadline
@@ -53,7 +35,7 @@ module _ (g : Graph) (tables : List NodeTable) (x : ℕ) where
   loose_sure loose = sure_of g tables Rule.Frozen x refl (λ s c earlier law k m. ap (λ b. b && differs_from c.time (find (is_possible g) (columns_of tables x))) loose)
 
   pub frozen_sure : (time : ℕ) → All (λ (c : Column). c.time ≡ time) (columns_of tables x) → IsSure g tables Rule.Frozen x
-  frozen_sure time all = sure_of g tables Rule.Frozen x refl (λ s c earlier law k m. ap (λ b. is_frozen g x && b) (same c k (find (is_possible g) (columns_of tables x)) refl) ∙ and_last (is_frozen g x))
+  frozen_sure time all = sure_of g tables Rule.Frozen x refl (λ s c earlier law k m. ap (λ b. is_frozen g x && b) (same c k (find (is_possible g) (columns_of tables x)) refl) ∙ and-false (is_frozen g x))
     where
       same : (c : Column) → Contains (columns_of tables x) c → (o : Option Column) → find (is_possible g) (columns_of tables x) ≡ o → differs_from c.time o ≡ false
       same c k None e = refl
@@ -68,4 +50,4 @@ module _ (g : Graph) (tables : List NodeTable) (x : ℕ) where
   pub due_sure : All (λ (c : Column). (s : Scenario) → IsScenario g s → matches c.cube s ≡ true → c.time + duration g x (fault_of s x) ≤ due g x) (columns_of tables x) → IsSure g tables Rule.Due x
   due_sure all = sure_of g tables Rule.Due x refl (λ s c earlier law k m.
       ap (λ b. nat_lt x (process_count g) && b) (le-ltb (due g x) (c.time + duration g x (fault_of s x)) (All-contains (λ (c : Column). (s : Scenario) → IsScenario g s → matches c.cube s ≡ true → c.time + duration g x (fault_of s x) ≤ due g x) (columns_of tables x) c all k s law m))
-      ∙ and_last (nat_lt x (process_count g)))
+      ∙ and-false (nat_lt x (process_count g)))

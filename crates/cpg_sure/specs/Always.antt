@@ -17,5 +17,5 @@ abbrev pub AllAlways : Graph → Type 0
 AllAlways g = (p : ℕ) → p < process_count g → IsAlways g p
 
 -- an item is
-abbrev pub IsItemAlways : Graph → ℕ → Type 0
-IsItemAlways g x = (s : Scenario) → IsScenario g s → item_active g s.values (item_at g x) ≡ true
+abbrev pub IsUnconditional : Graph → ℕ → Type 0
+IsUnconditional g x = (s : Scenario) → IsScenario g s → item_active g s.values (item_at g x) ≡ true

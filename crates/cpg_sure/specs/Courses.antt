@@ -4,8 +4,8 @@ use Rattle.cpg_base.specs.Graph.{Graph, item_count}
 use Rattle.cpg_base.specs.declared.limits.TheConstants.{MOST_FAULTS}
 use Rattle.cpg_base.specs.Scenario.{Scenario, IsScenario, number_of}
 use Rattle.cpg_table.specs.Table.{NodeTable, columns_of}
-use Rattle.cpg_sure.specs.Order.{IsUnconditional}
-use Rattle.cpg_sure.specs.Trees.{IsRowTree}
+use Rattle.cpg_places.specs.Trees.{IsRowTree}
+use Rattle.cpg_sure.specs.Always.{IsUnconditional}
 use Rattle.cpg_sure.specs.declared.span.Span.{Span}
 use Rattle.cpg_sure.specs.declared.course.Course.{Course}
 use Rattle.cpg_sure.specs.declared.course.Courses.{Courses}

@@ -1,8 +1,7 @@
 -- Which items are always over before others begin.
 use Rattle.std.specs.Prelude.{ℕ, ◌+◌, ◌≡◌, ◌≤◌, ◌<◌, ◌⊎◌, true, List, Contains, length, get_or}
 use Rattle.cpg_base.specs.Bus.{slot_length}
-use Rattle.cpg_base.specs.Graph.{Graph, home, item_at}
-use Rattle.cpg_base.specs.Activity.{item_active}
+use Rattle.cpg_base.specs.Graph.{Graph, home}
 use Rattle.cpg_base.specs.Duration.{duration}
 use Rattle.cpg_base.specs.Scenario.{Scenario, IsScenario, fault_of}
 use Rattle.cpg_cube.specs.Cube.{matches}
@@ -40,10 +39,6 @@ pub record StandsBefore (order : List ℕ) (first second : ℕ) : Type 0 where
   pub there : to < length order
   pub is_first : get_or order from 0 ≡ first
   pub is_second : get_or order to 0 ≡ second
-
--- the item is active in every scenario
-abbrev pub IsUnconditional : Graph → ℕ → Type 0
-IsUnconditional g x = (s : Scenario) → IsScenario g s → item_active g s.values (item_at g x) ≡ true
 
 -- an execution lasts as long as its faults make it
 abbrev pub execution : Graph → ℕ → Scenario → ℕ

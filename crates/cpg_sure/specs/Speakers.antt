@@ -6,9 +6,8 @@ use Rattle.cpg_base.specs.Scenario.{Scenario, number_of}
 use Rattle.cpg_cube.specs.declared.literal.Literal.{Literal}
 use Rattle.cpg_table.specs.Heard.{exactly, frame_value}
 use Rattle.cpg_table.specs.Table.{NodeTable, columns_of}
-use Rattle.cpg_cube.specs.Column.{Column}
-use Rattle.cpg_violation.specs.Sieves.{column_at}
-use Rattle.cpg_sure.specs.Trees.{IsRowTree}
+use Rattle.cpg_cube.specs.Column.{Column, column_at}
+use Rattle.cpg_places.specs.Trees.{IsRowTree}
 use Rattle.cpg_sure.specs.declared.speakers.Speaker.{Speaker}
 
 -- an item that a node hears: its columns, their tree, how long its frames take, and the variable of the value that they carry

@@ -12,7 +12,7 @@ ghost use Rattle.cpg_table.specs.declared.rule.Rule.{Rule};
 ghost use Rattle.cpg_tree.specs.Space.{Lies};
 ghost use Rattle.cpg_violation.specs.Heads.{IsHeadFor};
 ghost use Rattle.cpg_violation.specs.Sure.{AreSure, IsSure};
-ghost use Rattle.cpg_sure.specs.Always.{AllAlways, AreAlways, IsItemAlways};
+ghost use Rattle.cpg_sure.specs.Always.{AllAlways, AreAlways, IsUnconditional};
 
 use crate::guards::{always_active, is_item_running, is_running};
 use cpg_base::OutOfMemory;
@@ -90,7 +90,7 @@ fn is_plain(admitted: &Admitted, all: bool, item: u32) -> bool
     requires item { item < item_count admitted.now.graph }
     requires all { OnTrue all (AllAlways admitted.now.graph) }
     ensures all { OnTrue result (AllAlways admitted.now.graph) }
-    ensures item { OnTrue result (IsItemAlways admitted.now.graph item) }
+    ensures item { OnTrue result (IsUnconditional admitted.now.graph item) }
 {
     if !all {
         return false;

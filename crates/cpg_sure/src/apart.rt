@@ -6,7 +6,7 @@ ghost use Rattle.cpg_base.specs.Scenario.{Scenario, IsScenario};
 ghost use Rattle.cpg_cube.specs.Cube.{matches};
 ghost use Rattle.cpg_table.specs.Table.{NodeTable};
 ghost use Rattle.cpg_tree.specs.Space.{Lies};
-ghost use Rattle.cpg_violation.specs.Sieves.{column_at};
+ghost use Rattle.cpg_cube.specs.Column.{column_at};
 ghost use Rattle.cpg_sure.specs.Courses.{AreCourses, IsCourse, IsPast};
 ghost use Rattle.cpg_sure.specs.Order.{IsApart, IsApartAt};
 ghost use Rattle.cpg_sure.specs.Turns.{AreTurns};
@@ -16,7 +16,8 @@ use crate::span::Span;
 use crate::turns::Turns;
 use cpg_base::OutOfMemory;
 use cpg_cube::Entry;
-use cpg_tree::{Space, Test};
+use cpg_places::Test;
+use cpg_tree::Space;
 use std::alloc::Global;
 
 /// That what lasts so long is over by a time, from the column at each place, or what is at that time by the column's.

@@ -6,14 +6,15 @@ ghost use Rattle.cpg_base.specs.Scenario.{Scenario, IsScenario};
 ghost use Rattle.cpg_cube.specs.Cube.{matches};
 ghost use Rattle.cpg_table.specs.Table.{NodeTable, columns_of};
 ghost use Rattle.cpg_tree.specs.Space.{Lies};
-ghost use Rattle.cpg_violation.specs.Sieves.{column_at};
+ghost use Rattle.cpg_cube.specs.Column.{column_at};
 ghost use Rattle.cpg_sure.specs.Courses.{AreCourses, IsCourse, IsPast};
 ghost use Rattle.cpg_sure.specs.Order.{IsOver, IsOverBy};
 
 use crate::course::{Course, Courses};
 use crate::span::Span;
 use cpg_cube::Entry;
-use cpg_tree::{Space, Test};
+use cpg_places::Test;
+use cpg_tree::Space;
 
 /// That what lasts so long is over by a time, from the column at each place.
 #[derive(Drop)]

@@ -7,13 +7,14 @@ ghost use Rattle.cpg_sure.specs.Order.{execution, frame, sending};
 ghost use Rattle.cpg_sure.specs.Trees.{AreRowTrees};
 
 use crate::guards::is_item_running;
-use crate::range::{first_time, last_time};
 use crate::span::Span;
 use cpg_base::OutOfMemory;
 use cpg_cube::Entry;
+use cpg_places::Places;
 use cpg_rules::Admitted;
 use cpg_table::Tables;
-use cpg_tree::{Places, Space};
+use cpg_tree::Space;
+use cpg_violation::{first_time, last_time};
 use std::alloc::Global;
 
 /// The columns of an item with their tree.

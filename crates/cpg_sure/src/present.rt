@@ -10,8 +10,9 @@ ghost use Rattle.cpg_sure.specs.Absent.{IsIdleWhere};
 
 use crate::guards::is_item_idle;
 use cpg_base::OutOfMemory;
+use cpg_places::{Places, Test};
 use cpg_rules::Admitted;
-use cpg_tree::{Places, Space, Test};
+use cpg_tree::Space;
 use std::alloc::Global;
 
 /// That a column is there, or an item is inactive.

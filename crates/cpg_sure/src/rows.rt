@@ -8,9 +8,9 @@ use crate::activity::activity_marks;
 use crate::present::present_marks;
 use crate::single::single_marks;
 use cpg_base::OutOfMemory;
+use cpg_places::Places;
 use cpg_rules::Admitted;
 use cpg_table::Tables;
-use cpg_tree::Places;
 use cpg_violation::RowMarks;
 use std::alloc::Global;
 

@@ -7,7 +7,7 @@ ghost use Rattle.cpg_violation.specs.Sure.{AreSure};
 ghost use Rattle.cpg_sure.specs.Trees.{AreRowTrees};
 
 use cpg_base::OutOfMemory;
-use cpg_tree::Places;
+use cpg_places::Places;
 use std::alloc::Global;
 
 /// The items whose rows have trees: no two of their columns match together.

@@ -18,26 +18,13 @@ ghost use Rattle.cpg_sure.specs.Turns.{AreTurns};
 use crate::course::sends;
 use crate::turns::Turns;
 use cpg_base::{OutOfMemory, Problem};
-use cpg_bus::Share;
+use cpg_bus::is_slot_start;
 use cpg_cube::Entry;
+use cpg_places::Places;
 use cpg_rules::Admitted;
 use cpg_table::Tables;
-use cpg_tree::{Places, Space};
+use cpg_tree::Space;
 use std::alloc::Global;
-
-/// Whether a node's slot starts at a time.
-fn is_slot_start(problem: &Problem, node: u32, time: u64) -> bool
-    requires { HasSlot problem.now node }
-    ensures { result ≡ (next_slot problem.now node time == time) }
-{
-    let share = Share::of(problem, node);
-    let round = share.round();
-    let offset = share.occurrence(0);
-    if time < offset {
-        return false;
-    }
-    (time - offset) % round == 0
-}
 
 /// Whether a node's slot starts at the time of a column, where the column matches.
 fn is_in_slot(problem: &Problem, node: u32, column: &Entry) -> bool

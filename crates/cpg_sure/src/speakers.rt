@@ -7,7 +7,7 @@ ghost use Rattle.cpg_cube.specs.Cube.{matches};
 ghost use Rattle.cpg_table.specs.Heard.{exactly, frame_value};
 ghost use Rattle.cpg_table.specs.Table.{NodeTable};
 ghost use Rattle.cpg_tree.specs.Space.{Lies};
-ghost use Rattle.cpg_violation.specs.Sieves.{column_at};
+ghost use Rattle.cpg_cube.specs.Column.{column_at};
 ghost use Rattle.cpg_sure.specs.Courses.{AreCourses};
 ghost use Rattle.cpg_sure.specs.Hearing.{AreHeardIn, literal_at};
 ghost use Rattle.cpg_sure.specs.Order.{frame};
@@ -16,7 +16,8 @@ ghost use Rattle.cpg_sure.specs.Speakers.{HasCome, IsSpeaker, IsTold, IsToldIn};
 use crate::course::Courses;
 use cpg_base::{FIRST_VALUE, Item, OutOfMemory, Problem};
 use cpg_cube::{Entry, Literal};
-use cpg_tree::{Places, Space, Test};
+use cpg_places::{Places, Test};
+use cpg_tree::Space;
 use std::alloc::Global;
 
 /// An item that a node hears.
@@ -74,6 +75,12 @@ fn is_as_close(literal: &Literal, wanted: &Literal) -> bool
 
 /// Where a variable's literal stands among literals by rising variable, if there is one.
 fn place_of(literals: &[Literal], variable: u8) -> usize {
+    // mostly there: where all variables before have literals too
+    if let Some(literal) = literals.get(variable as usize) {
+        if literal.variable == variable {
+            return variable as usize;
+        }
+    }
     let mut first = 0;
     let mut end = literals.len();
     while first < end {

@@ -14,9 +14,9 @@ use crate::processor::processor_marks;
 use crate::slots::slot_marks;
 use crate::turns::turns_of;
 use cpg_base::OutOfMemory;
+use cpg_places::Places;
 use cpg_rules::Admitted;
 use cpg_table::Tables;
-use cpg_tree::Places;
 use cpg_violation::TimeMarks;
 use std::alloc::Global;
 

@@ -1,30 +1,11 @@
 //! The trees of all rows.
-ghost use Rattle.std.specs.Prelude.{◌≤◌, IfOk, IfSome, length};
-ghost use Rattle.cpg_base.specs.Graph.{Graph};
-ghost use Rattle.cpg_base.specs.declared.limits.TheConstants.{MOST_LOAD};
-ghost use Rattle.cpg_rules.specs.Admission.{IsAdmitted};
-ghost use Rattle.cpg_sure.specs.Trees.{AreRowTrees, IsRowTree};
+ghost use Rattle.std.specs.Prelude.{IfOk};
+ghost use Rattle.cpg_sure.specs.Trees.{AreRowTrees};
 
 use cpg_base::{OutOfMemory, Problem};
-use cpg_cube::Entry;
+use cpg_places::{Places, tree_of};
 use cpg_table::Tables;
-use cpg_tree::Places;
-use cpg_violation::cubes_of;
 use std::alloc::Global;
-
-/// The tree of a row's columns, if it has one: not where two columns may match together, or where it would be too large.
-fn tree_of(
-    alloc: Global,
-    problem: &Problem,
-    columns: &[Entry],
-) -> Result<Option<Places>, OutOfMemory>
-    requires { length columns.now ≤ MOST_LOAD }
-    ensures { IfOk result (λ r. IfSome r (IsRowTree problem.now columns.now)) }
-{
-    let cubes = cubes_of(alloc, columns)?;
-    let places = Places::of(alloc, problem.faults(), cubes.as_slice())?;
-    Ok(places)
-}
 
 /// For each item the tree of its row, if it has one: for each scenario the place of the one column that matches.
 pub fn row_trees(

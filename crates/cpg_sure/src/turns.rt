@@ -13,9 +13,9 @@ ghost use Rattle.cpg_sure.specs.Trees.{AreRowTrees};
 
 use crate::course::{Courses, executions};
 use cpg_base::OutOfMemory;
+use cpg_places::Places;
 use cpg_rules::Admitted;
 use cpg_table::Tables;
-use cpg_tree::Places;
 use std::alloc::Global;
 
 /// The first time of an item's row, then the item's number.

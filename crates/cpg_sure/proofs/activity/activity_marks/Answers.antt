@@ -1,7 +1,8 @@
 use Rattle.std.proofs.Common.{◌≡◌, ap, arith, false, get_or, length, subst, true}
 use Rattle.cpg_base.specs.Graph.{process_count}
 use Rattle.cpg_table.specs.declared.rule.Rule.{Rule}
-use Rattle.cpg_sure.proofs.SureLaws.{of_true, one_more}
+use Rattle.cpg_tree.proofs.Passes.{of_true}
+use Rattle.cpg_sure.proofs.SureLaws.{one_more}
 use Rattle.cpg_sure.proofs.activity.activity_marks.Goals as goal
 
 pub loop-item-preserved : goal.loop-item-preserved

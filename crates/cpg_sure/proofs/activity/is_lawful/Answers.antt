@@ -4,9 +4,9 @@ use Rattle.std.proofs.lemmas.Bool.{OnTrue_at}
 use Rattle.cpg_base.specs.Activity.{active, item_active}
 use Rattle.cpg_base.specs.Graph.{Graph, item_at, process_of_variable}
 use Rattle.cpg_cube.specs.declared.literal.Literal.{Literal}
+use Rattle.cpg_tree.proofs.Passes.{of_true}
 use Rattle.cpg_sure.proofs.ActivityLaws.{both_active}
 use Rattle.cpg_sure.proofs.SpaceLaws.{lies_in, not_none}
-use Rattle.cpg_sure.proofs.SureLaws.{of_true}
 use Rattle.cpg_sure.proofs.activity.is_lawful.Goals as goal
 
 pub returns-in_default : goal.returns-in_default

@@ -1,9 +1,9 @@
 use Rattle.std.proofs.Common.{◌≡◌, ◌∙◌, ap}
 use Rattle.std.proofs.lemmas.Bool.{OnTrue_at, OnTrue_from}
 use Rattle.cpg_base.specs.Graph.{Graph}
+use Rattle.cpg_tree.proofs.Passes.{of_true}
 use Rattle.cpg_sure.specs.Always.{AllAlways}
 use Rattle.cpg_sure.proofs.SpaceLaws.{few_of}
-use Rattle.cpg_sure.proofs.SureLaws.{of_true}
 use Rattle.cpg_sure.proofs.activity.is_plain.Goals as goal
 
 pub returns-clause-all : goal.returns-clause-all

@@ -6,10 +6,10 @@ use Rattle.cpg_head.specs.GraphHead.{head_of}
 use Rattle.cpg_table.specs.Lawful.{AreTablesOf}
 use Rattle.cpg_cube.specs.Column.{Column}
 use Rattle.cpg_table.specs.Valid.{breaks_activity}
+use Rattle.cpg_tree.proofs.Passes.{of_true}
 use Rattle.cpg_violation.proofs.HeadLaws.{tables_of_graph}
 use Rattle.cpg_violation.proofs.Violations.{columns_known}
 use Rattle.cpg_sure.proofs.ActivityLaws.{always_sure, lawful_sure}
-use Rattle.cpg_sure.proofs.SureLaws.{of_true}
 use Rattle.cpg_sure.proofs.activity.is_sure.Goals as goal
 
 pub are_lawful-requires-clause-columns : goal.are_lawful-requires-clause-columns

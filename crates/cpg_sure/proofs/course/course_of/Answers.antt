@@ -3,7 +3,7 @@ use Rattle.std.proofs.lemmas.Bool.{OnTrue_at}
 use Rattle.cpg_base.specs.Graph.{Graph}
 use Rattle.cpg_cube.specs.Column.{Column}
 use Rattle.cpg_sure.proofs.SpaceLaws.{few_of}
-use Rattle.cpg_sure.proofs.OrderLaws.{tree_of_row}
+use Rattle.cpg_sure.proofs.RowLaws.{tree_of_row}
 use Rattle.cpg_sure.proofs.course.course_of.Goals as goal
 
 pub returns : goal.returns
@@ -15,8 +15,8 @@ returns c =
       item = c.requires.item;
       columns = same;
       tree = tree_of_row g c.args.tables.now.nodes c.args.trees.now c.args.item c.requires.trees c.requires.item c.index-trees-item.result c.index-trees-item.is;
-      first = subst (λ (columns : List Column). All (λ (d : Column). c.first_time.result ≤ d.time) columns) same c.first_time.ensures;
-      last = subst (λ (columns : List Column). All (λ (d : Column). d.time ≤ c.last_time.result) columns) same c.last_time.ensures;
+      first = subst (λ (columns : List Column). All (λ (d : Column). c.first_time.result ≤ d.time) columns) same c.first_time.ensures.all;
+      last = subst (λ (columns : List Column). All (λ (d : Column). d.time ≤ c.last_time.result) columns) same c.last_time.ensures.all;
       span = span;
       always = λ e s law. OnTrue_at e c.is_item_running.ensures s law (c.whole-everywhere.ensures.lies s (few_of g c.faults.result faults s law));
     }

@@ -3,7 +3,7 @@ use Rattle.cpg_base.specs.Duration.{duration, due}
 use Rattle.cpg_base.specs.Scenario.{Scenario, IsScenario, fault_of}
 use Rattle.cpg_cube.specs.Cube.{matches}
 use Rattle.cpg_cube.specs.Column.{Column}
-use Rattle.cpg_sure.proofs.SureLaws.{of_true}
+use Rattle.cpg_tree.proofs.Passes.{of_true}
 use Rattle.cpg_sure.proofs.TimeLaws.{due_sure}
 use Rattle.cpg_sure.proofs.due.is_sure.Goals as goal
 

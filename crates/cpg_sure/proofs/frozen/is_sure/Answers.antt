@@ -1,6 +1,6 @@
 use Rattle.std.proofs.Common.{◌≡◌, All, subst}
 use Rattle.cpg_cube.specs.Column.{Column}
-use Rattle.cpg_sure.proofs.SureLaws.{of_true}
+use Rattle.cpg_tree.proofs.Passes.{of_true}
 use Rattle.cpg_sure.proofs.TimeLaws.{frozen_sure}
 use Rattle.cpg_sure.proofs.frozen.is_sure.Goals as goal
 

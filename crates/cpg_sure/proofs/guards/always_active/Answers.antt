@@ -1,9 +1,10 @@
 use Rattle.std.proofs.Common.{◌≡◌, ◌∙◌, arith, ap, ◌∷◌, []}
 use Rattle.std.proofs.lemmas.List.{length-append}
 use Rattle.cpg_base.specs.Graph.{Graph}
+use Rattle.cpg_tree.proofs.Passes.{of_true}
 use Rattle.cpg_sure.specs.Always.{IsAlways}
 use Rattle.cpg_sure.proofs.SpaceLaws.{few_of}
-use Rattle.cpg_sure.proofs.SureLaws.{marked_more, of_true}
+use Rattle.cpg_sure.proofs.SureLaws.{marked_more}
 use Rattle.cpg_sure.proofs.guards.always_active.Goals as goal
 
 pub loop-process-preserved : goal.loop-process-preserved

@@ -1,8 +1,8 @@
 use Rattle.std.proofs.Common.{◌≡◌, ◌≤◌, ◌∙◌, ap, arith}
 use Rattle.cpg_base.specs.declared.limits.TheConstants.{MOST_CONDITIONS}
 use Rattle.cpg_rules.specs.Guards.{Guards, tree_of}
+use Rattle.cpg_tree.proofs.Passes.{of_true}
 use Rattle.cpg_sure.proofs.GuardLaws.{idle_of}
-use Rattle.cpg_sure.proofs.SureLaws.{of_true}
 use Rattle.cpg_sure.proofs.guards.is_idle.Goals as goal
 
 pub is_never-requires : goal.is_never-requires

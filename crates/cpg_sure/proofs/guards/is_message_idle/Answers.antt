@@ -1,8 +1,8 @@
 use Rattle.std.proofs.lemmas.Bool.{OnTrue_at}
 use Rattle.cpg_base.specs.Activity.{active, takes, value_of}
 use Rattle.cpg_base.specs.Graph.{edge_at, is_message, source}
+use Rattle.cpg_tree.proofs.Passes.{of_true}
 use Rattle.cpg_sure.proofs.GuardLaws.{idle_source, other_value}
-use Rattle.cpg_sure.proofs.SureLaws.{of_true}
 use Rattle.cpg_sure.proofs.guards.is_message_idle.Goals as goal
 
 pub returns-then-is_refused : goal.returns-then-is_refused

@@ -2,8 +2,8 @@ use Rattle.std.proofs.Common.{rules, ◌≡◌, true, subst}
 use Rattle.std.proofs.lemmas.Bool.{OnTrue_at}
 use Rattle.cpg_base.specs.Activity.{active, takes, value_of}
 use Rattle.cpg_base.specs.Graph.{edge_at, is_message, source}
+use Rattle.cpg_tree.proofs.Passes.{of_true}
 use Rattle.cpg_sure.proofs.GuardLaws.{all_three}
-use Rattle.cpg_sure.proofs.SureLaws.{of_true}
 use Rattle.cpg_sure.proofs.guards.is_message_running.Goals as goal
 
 pub returns : goal.returns

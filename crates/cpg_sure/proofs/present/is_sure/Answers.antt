@@ -1,8 +1,8 @@
 use Rattle.std.proofs.Common.{◌≡◌, ◌∙◌, ap}
 use Rattle.cpg_base.specs.Graph.{Graph}
+use Rattle.cpg_tree.proofs.Passes.{of_true}
 use Rattle.cpg_sure.proofs.RowLaws.{present_sure, tree_at}
 use Rattle.cpg_sure.proofs.SpaceLaws.{few_of}
-use Rattle.cpg_sure.proofs.SureLaws.{of_true}
 use Rattle.cpg_sure.proofs.present.is_sure.Goals as goal
 
 pub returns : goal.returns

@@ -1,7 +1,7 @@
 use Rattle.std.proofs.Common.{◌∙◌}
+use Rattle.cpg_tree.proofs.Passes.{of_true}
 use Rattle.cpg_sure.specs.Order.{execution}
 use Rattle.cpg_sure.proofs.ClashLaws.{sure_alone}
-use Rattle.cpg_sure.proofs.SureLaws.{of_true}
 use Rattle.cpg_sure.proofs.processor.is_alone.Goals as goal
 
 pub returns : goal.returns

@@ -6,9 +6,9 @@ use Rattle.cpg_base.specs.Scenario.{Scenario, IsScenario}
 use Rattle.cpg_cube.specs.Cube.{matches}
 use Rattle.cpg_table.specs.Table.{columns_of}
 use Rattle.cpg_cube.specs.Column.{Column}
+use Rattle.cpg_tree.proofs.Passes.{of_true}
 use Rattle.cpg_sure.specs.Order.{sending}
 use Rattle.cpg_sure.proofs.ClashLaws.{sure_own_slots}
-use Rattle.cpg_sure.proofs.SureLaws.{of_true}
 use Rattle.cpg_sure.proofs.slots.has_own_slots.Goals as goal
 
 pub returns : goal.returns

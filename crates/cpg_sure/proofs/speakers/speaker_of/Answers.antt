@@ -1,7 +1,7 @@
 use Rattle.std.proofs.Common.{IfSome, ap, ◌∙◌, sym, subst, arith}
 use Rattle.cpg_base.specs.Bus.{slot_length}
 use Rattle.cpg_table.specs.Table.{columns_of}
-use Rattle.cpg_sure.specs.Trees.{IsRowTree}
+use Rattle.cpg_places.specs.Trees.{IsRowTree}
 use Rattle.cpg_sure.proofs.OrderLaws.{course_at}
 use Rattle.cpg_sure.proofs.speakers.speaker_of.Goals as goal
 

@@ -1,6 +1,6 @@
 use Rattle.std.proofs.lemmas.Bool.{OnTrue_at}
 use Rattle.std.proofs.lemmas.List.Elements.{All-more}
-use Rattle.cpg_violation.specs.Sieves.{column_at}
+use Rattle.cpg_cube.specs.Column.{column_at}
 use Rattle.cpg_sure.specs.Speakers.{IsToldIn}
 use Rattle.cpg_sure.proofs.SureLaws.{each_all}
 use Rattle.cpg_sure.proofs.speakers.tell_at_all.Goals as goal

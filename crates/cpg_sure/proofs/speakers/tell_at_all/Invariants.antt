@@ -1,5 +1,5 @@
 use Rattle.std.proofs.Common.{All, take}
-use Rattle.cpg_violation.specs.Sieves.{column_at}
+use Rattle.cpg_cube.specs.Column.{column_at}
 use Rattle.cpg_sure.specs.Speakers.{IsToldIn}
 use Rattle.cpg_sure.proofs.speakers.tell_at_all.Given as goal
 

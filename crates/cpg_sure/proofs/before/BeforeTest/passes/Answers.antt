@@ -2,13 +2,12 @@ use Rattle.std.proofs.Common.{ℕ, List, All, Option, subst, sym}
 use Rattle.std.specs.Prelude.{IfSome}
 use Rattle.cpg_base.specs.Graph.{Graph}
 use Rattle.cpg_base.specs.Scenario.{Scenario, IsScenario}
-use Rattle.cpg_cube.specs.Column.{Column}
+use Rattle.cpg_cube.specs.Column.{Column, column_at}
 use Rattle.cpg_table.specs.Table.{NodeTable}
-use Rattle.cpg_violation.specs.Sieves.{column_at}
+use Rattle.cpg_tree.proofs.Passes.{of_true}
 use Rattle.cpg_sure.specs.Courses.{AreCourses}
 use Rattle.cpg_sure.specs.Order.{IsOverBy}
 use Rattle.cpg_sure.proofs.OrderLaws.{told_at}
-use Rattle.cpg_sure.proofs.SureLaws.{of_true}
 use Rattle.cpg_sure.proofs.before.BeforeTest.passes.Goals as goal
 
 pub returns : goal.returns

@@ -1,6 +1,6 @@
 use Rattle.std.proofs.lemmas.Bool.{OnTrue_at}
+use Rattle.cpg_tree.proofs.Passes.{of_true}
 use Rattle.cpg_sure.proofs.OrderLaws.{told_over}
-use Rattle.cpg_sure.proofs.SureLaws.{of_true}
 use Rattle.cpg_sure.proofs.course.Course.is_over.Goals as goal
 
 pub returns-then-is_early : goal.returns-then-is_early

@@ -2,13 +2,13 @@ use Rattle.std.proofs.Common.{ℕ, List, All}
 use Rattle.cpg_base.specs.Graph.{Graph}
 use Rattle.cpg_base.specs.Scenario.{Scenario, IsScenario}
 use Rattle.cpg_table.specs.Table.{NodeTable}
-use Rattle.cpg_tree.specs.Places.{place_at}
-use Rattle.cpg_violation.specs.Sieves.{column_at}
+use Rattle.cpg_cube.specs.Column.{column_at}
+use Rattle.cpg_tree.proofs.Passes.{of_true}
+use Rattle.cpg_places.specs.Places.{place_at}
 use Rattle.cpg_sure.specs.Courses.{AreCourses}
 use Rattle.cpg_sure.specs.Order.{IsOverBy}
 use Rattle.cpg_sure.proofs.OrderLaws.{told_before, told_so}
 use Rattle.cpg_sure.proofs.SpaceLaws.{few_of}
-use Rattle.cpg_sure.proofs.SureLaws.{of_true}
 use Rattle.cpg_sure.proofs.course.Courses.precede.Goals as goal
 
 pub returns-in_default : goal.returns-in_default

@@ -1,14 +1,14 @@
-use Rattle.std.proofs.Common.{◌≡◌, true, true≢false, All, List, flat_map, sym, ◌∙◌, ap, map, subst}
+use Rattle.std.proofs.Common.{◌≡◌, true, true≢false, All, List, flat_map, sym, ◌∙◌, subst}
 use Rattle.cpg_cube.specs.Cube.{matches}
 use Rattle.cpg_cube.specs.declared.literal.Literal.{Literal}
 use Rattle.cpg_base.specs.Scenario.{Scenario, IsScenario}
 use Rattle.cpg_tree.specs.Space.{Lies}
 use Rattle.cpg_tree.proofs.Passes.{of_true}
+use Rattle.cpg_tree.proofs.OnePath.{scenario_few}
 use Rattle.cpg_sure.specs.Bounds.{bounds_of}
 use Rattle.cpg_sure.specs.Hearing.{AreHeardIn, IsAllHeard}
 use Rattle.cpg_sure.specs.Speakers.{IsToldIn}
 use Rattle.cpg_sure.proofs.BoundLaws.{all_wider, column_heard}
-use Rattle.cpg_sure.proofs.Few.{scenario_few}
 use Rattle.cpg_sure.proofs.OwnLaws.{all_heard, known_heard}
 use Rattle.cpg_sure.proofs.listening.Listener.hears.Goals as goal
 

@@ -1,7 +1,7 @@
 use Rattle.std.proofs.Common.{All, subst}
+use Rattle.cpg_tree.proofs.Passes.{of_true}
 use Rattle.cpg_sure.specs.Order.{IsApart}
 use Rattle.cpg_sure.proofs.OrderLaws.{course_at, known_apart}
-use Rattle.cpg_sure.proofs.SureLaws.{of_true}
 use Rattle.cpg_sure.proofs.turns.Turns.are_apart.Goals as goal
 
 pub returns-in-Some : goal.returns-in-Some

@@ -1,7 +1,7 @@
 use Rattle.std.proofs.Common.{subst}
+use Rattle.cpg_tree.proofs.Passes.{of_true}
 use Rattle.cpg_sure.proofs.OrderLaws.{before_in, order_at}
 use Rattle.cpg_sure.specs.Order.{StandsBefore}
-use Rattle.cpg_sure.proofs.SureLaws.{of_true}
 use Rattle.cpg_sure.proofs.turns.Turns.is_before.Goals as goal
 
 pub returns-in-Some : goal.returns-in-Some

@@ -1,10 +1,7 @@
-use Rattle.std.proofs.Common.{ℕ, ◌≡◌, false, true, true≢false, ap, sym, ◌∙◌, subst}
+use Rattle.std.proofs.Common.{ℕ, false, true, true≢false, sym, ◌∙◌}
 use Rattle.std.proofs.lemmas.Bool.{OnTrue_at}
-use Rattle.cpg_base.specs.Scenario.{Scenario, IsScenario}
-use Rattle.cpg_cube.specs.Cube.{matches}
-use Rattle.cpg_tree.specs.Space.{HasFew}
 use Rattle.cpg_tree.proofs.Passes.{of_true}
-use Rattle.cpg_sure.proofs.Few.{scenario_few}
+use Rattle.cpg_tree.proofs.OnePath.{scenario_few}
 use Rattle.cpg_sure.proofs.InputLaws.{inputs_there}
 use Rattle.cpg_sure.proofs.waiting.Waiting.are_there.Goals as goal
 
