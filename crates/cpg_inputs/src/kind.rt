@@ -33,7 +33,7 @@ pub enum Kind {
 
 impl Kind {
     /// The most bytes of such a file.
-    pub fn limit(self) -> usize
+    pub(crate) fn limit(self) -> usize
         ensures { result ≡ limit_of self }
     {
         match self {

@@ -5,7 +5,7 @@ ghost use Rattle.cpg_label.specs.ItemText.{item_of};
 ghost use Rattle.cpg_label.specs.Labels.{condition_name, edge_ends, head_labels, labels_of, process_name};
 ghost use Rattle.cpg_label.specs.Phrases.{IsPhraseOf};
 
-use crate::phrases::{Counts, Phrase, longest_of, phrases_of};
+use crate::phrases::{Counts, Phrase, phrases_of};
 use cpg_base::{Edge, Item, OutOfMemory, Problem, Process};
 use cpg_cube::Literal;
 use cpg_head::{Head, HeadProcess};
@@ -182,11 +182,6 @@ impl<'a> Labels<'a> {
             Some(phrase) if phrase.literal == literal => Some(phrase),
             _ => None,
         }
-    }
-
-    /// How many bytes the longest text that is at hand has.
-    pub fn longest(&self) -> usize {
-        longest_of(self.phrases.as_slice())
     }
 
     /// What a process is called, and nothing where there is no such process.

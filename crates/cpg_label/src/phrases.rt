@@ -124,12 +124,3 @@ pub(crate) fn phrases_of(
     }
     Ok(phrases)
 }
-
-/// How many bytes the longest text has.
-pub(crate) fn longest_of(phrases: &[Phrase]) -> usize {
-    let mut longest = 0;
-    for phrase in phrases {
-        longest = phrase.later.len().max(longest);
-    }
-    longest
-}
