@@ -1,20 +1,20 @@
 -- A key made of a cube's literals one by one, by the places of their variables, is that of the lows along the variables.
-use Rattle.std.proofs.Common.{ℕ, suc, ◌-◌, ◌+◌, ◌<◌, ◌≤◌, ◌≡◌, ◌≢◌, ◌⊎◌, ◌==◌, true, false, zero, List, [], ◌∷◌, ◌++◌, length, map, take, drop, get_or, replicate, Contains, Option, Some, None, IsPermutation, nat_lt, arith, refl, sym, ap, ap₂, ◌∙◌, subst, inl, inr, eq-eqb, ne_eqb, lt-ltb, le-ltb, append_assoc}
+use Rattle.std.proofs.Common.{ℕ, suc, ◌-◌, ◌+◌, ◌*◌, ◌<◌, ◌≤◌, ◌≡◌, ◌≢◌, ◌⊎◌, ◌==◌, true, false, zero, List, [], ◌∷◌, ◌++◌, length, map, take, drop, get_or, replicate, Contains, Option, Some, None, IsPermutation, nat_lt, arith, refl, sym, ap, ap₂, ◌∙◌, subst, inl, inr, eq-eqb, ne_eqb, lt-ltb, le-ltb, append_assoc}
 use Rattle.std.specs.Prelude.{slice_set, slice_index_or, insert}
-use Rattle.std.specs.List.{AllPairs}
-use Rattle.std.proofs.lemmas.Bool.{cases_eq, cases_lt, cond-true, cond-false}
+use Rattle.std.specs.List.{AllPairs, list_all}
+use Rattle.std.proofs.lemmas.Bool.{and_parts, cases_eq, cases_lt, cond-true, cond-false, eqb-true}
 use Rattle.std.proofs.lemmas.List.{append-nil, get_or-replicate, get_or_past, get_or-set_same, get_or-set_other, get_or-take, get_or_default, length-take-le, take_more, drop_more}
-use Rattle.std.proofs.lemmas.List.Elements.{All-contains, Contains-push_cases}
+use Rattle.std.proofs.lemmas.List.Elements.{All-contains, All-nil, All-push, All-tail, Contains-get_or, Contains-push_cases}
 use Rattle.cpg_base.specs.Graph.{Graph, process_count, process_of, condition_of, value_variable}
 use Rattle.cpg_base.specs.Numbers.{numbers_below}
-use Rattle.cpg_base.proofs.Lists.{Contains-first, Contains-rest, Contains-cases, Contains-nil, same_map}
+use Rattle.cpg_base.proofs.Lists.{Contains-first, Contains-rest, Contains-cases, Contains-nil, from_all, same_map}
 use Rattle.cpg_base.proofs.Pairs.{AllPairs-first, AllPairs-rest, AllPairs-nil, AllPairs-cons_by, AllPairs-flat_map_in, order_apart}
 use Rattle.cpg_base.proofs.ConditionProcesses.{process_of_condition_of}
 use Rattle.cpg_cube.specs.Cube.{Literal, IsRising, low_in}
-use Rattle.cpg_cube.specs.Keys.{asked_from, key_by, left_at, ArePlaces, place_in, with_asked, with_any_asked, with_low_of, with_lows_of, variable_of_value, variables_of, variables_along}
+use Rattle.cpg_cube.specs.Keys.{asked_from, key_by, left_at, AreBytes, ArePlaces, place_in, with_number, with_any_asked, with_low_of, with_lows_of, variable_of_value, variables_of, variables_along}
 use Rattle.cpg_cube.proofs.BoundSteps.{low_in-last, low_in-before}
 use Rattle.cpg_cube.proofs.CubeLows.{low_in-none}
-use Rattle.cpg_cube.proofs.KeyOrder.{asked_zero, asked_some, within_order}
+use Rattle.cpg_cube.proofs.KeyOrder.{asked_zero, asked_some, low_in-byte, within_order}
 use Rattle.cpg_cube.proofs.Ranges.{rising_first, rising_rest}
 
 -- ---- places, variable by variable
@@ -69,89 +69,69 @@ places_more vs apart i d left within is places long small h v =
     count : (vs : List ℕ) (i left : ℕ) → i < length vs → left + i ≡ 256 → 256 - length (take i vs) ≡ left
     count vs i left within is = omega (arith, length-take-le i vs (omega (arith, within)), is)
 
--- ---- the place of a low, pair by pair
+-- ---- the place of a number
 
-stop_at : (left a : ℕ) (key : List ℕ) → nat_lt a left ≡ true → place_in left (a ∷ key) ≡ 0
-stop_at left a [] t = cond-true (nat_lt a left) 0 2 t
-stop_at left a (b ∷ key) t = cond-true (nat_lt a left) 0 (suc (suc (place_in left key))) t
+stop_at : (number a : ℕ) (key : List ℕ) → nat_lt a number ≡ true → place_in number (a ∷ key) ≡ 0
+stop_at number a key t = cond-true (nat_lt a number) 0 (suc (place_in number key)) t
 
-go_on : (left a : ℕ) (key : List ℕ) → nat_lt a left ≡ false → place_in left (a ∷ key) ≡ suc (suc (place_in left (drop 1 key)))
-go_on left a [] f = cond-false (nat_lt a left) 0 2 f
-go_on left a (b ∷ key) f = cond-false (nat_lt a left) 0 (suc (suc (place_in left key))) f
+go_on : (number a : ℕ) (key : List ℕ) → nat_lt a number ≡ false → place_in number (a ∷ key) ≡ suc (place_in number key)
+go_on number a key f = cond-false (nat_lt a number) 0 (suc (place_in number key)) f
 
-drop_next : (i : ℕ) (key : List ℕ) → drop 1 (drop i key) ≡ drop (suc i) key
-drop_next i [] = nothing i
-  where
-    nothing : (i : ℕ) → drop 1 (drop i (let xs : List ℕ = [] in xs)) ≡ []
-    nothing zero = refl
-    nothing (suc i) = refl
-drop_next zero (a ∷ key) = refl
-drop_next (suc i) (a ∷ key) = drop_next i key
-
-pub place_here : (left at all : ℕ) (key : List ℕ) → at < length key → nat_lt (slice_index_or key at 0) left ≡ true → all ≡ at + place_in left (drop at key) → at ≡ all
-place_here left at all key within t is =
-    let none : place_in left (drop at key) ≡ 0 = ap (place_in left) (drop_more key at 0 within) ∙ stop_at left (slice_index_or key at 0) (drop (at + 1) key) t in
+pub place_here : (number at all : ℕ) (key : List ℕ) → at < length key → nat_lt (slice_index_or key at 0) number ≡ true → all ≡ at + place_in number (drop at key) → at ≡ all
+place_here number at all key within t is =
+    let none : place_in number (drop at key) ≡ 0 = ap (place_in number) (drop_more key at 0 within) ∙ stop_at number (slice_index_or key at 0) (drop (at + 1) key) t in
     omega (arith, none, is)
 
-pub place_next : (left at all : ℕ) (key : List ℕ) → at < length key → nat_lt (slice_index_or key at 0) left ≡ false → all ≡ at + place_in left (drop at key) → all ≡ at + 2 + place_in left (drop (at + 2) key)
-place_next left at all key within f is =
-    let two : drop 1 (drop (at + 1) key) ≡ drop (at + 2) key = drop_next (at + 1) key ∙ ap (λ n. drop n key) (let e : suc (at + 1) ≡ at + 2 = omega arith in e) in
-    let on : place_in left (drop at key) ≡ suc (suc (place_in left (drop (at + 2) key))) =
-    ap (place_in left) (drop_more key at 0 within) ∙ go_on left (slice_index_or key at 0) (drop (at + 1) key) f ∙ ap (λ ks. suc (suc (place_in left ks))) two in
+pub place_next : (number at all : ℕ) (key : List ℕ) → at < length key → nat_lt (slice_index_or key at 0) number ≡ false → all ≡ at + place_in number (drop at key) → all ≡ at + 1 + place_in number (drop (at + 1) key)
+place_next number at all key within f is =
+    let on : place_in number (drop at key) ≡ suc (place_in number (drop (at + 1) key)) = ap (place_in number) (drop_more key at 0 within) ∙ go_on number (slice_index_or key at 0) (drop (at + 1) key) f in
     omega (arith, on, is)
 
--- a low put in its place, number by number
-pub insert_two : (key : List ℕ) (i x y : ℕ) → i ≤ length key → insert (insert key i x) (suc i) y ≡ take i key ++ x ∷ y ∷ drop i key
-insert_two key zero x y l = refl
-insert_two [] (suc i) x y l = absurd (omega (arith, l))
-insert_two (k ∷ key) (suc i) x y l = ap (λ ks. k ∷ ks) (insert_two key i x y (omega (arith, l)))
+-- ---- a number put in its place
 
--- ---- a low put in its place
+pub insert_at : (key : List ℕ) (i x : ℕ) → i ≤ length key → insert key i x ≡ take i key ++ x ∷ drop i key
+insert_at key zero x l = refl
+insert_at [] (suc i) x l = absurd (omega (arith, l))
+insert_at (k ∷ key) (suc i) x l = ap (λ ks. k ∷ ks) (insert_at key i x (omega (arith, l)))
 
-past : (left a b : ℕ) (key : List ℕ) → left ≤ a → place_in left (a ∷ b ∷ key) ≡ suc (suc (place_in left key))
-past left a b key l = cond-false (nat_lt a left) 0 (suc (suc (place_in left key))) (le-ltb a left l)
+put_front : (number : ℕ) (key : List ℕ) → place_in number key ≡ 0 → with_number number key ≡ number ∷ key
+put_front number key e = ap (λ n. take n key ++ number ∷ drop n key) e
 
-stop : (left a b : ℕ) (key : List ℕ) → a < left → place_in left (a ∷ b ∷ key) ≡ 0
-stop left a b key l = cond-true (nat_lt a left) 0 (suc (suc (place_in left key))) (lt-ltb a left l)
-
--- before all that have fewer places left
-front : (p left : ℕ) (xs : List ℕ) → left < p → place_in p (asked_from left xs) ≡ 0
-front p left [] l = refl
-front p left (x ∷ xs) l = elim (cases_eq x 0) [
-  | inl z ↦ ap (place_in p) (asked_zero left x xs z) ∙ front p (left - 1) xs (omega (arith, l))
-  | inr n ↦ ap (place_in p) (asked_some left x xs n) ∙ stop p left x (asked_from (left - 1) xs) l
-]
-
-put_front : (p low : ℕ) (key : List ℕ) → place_in p key ≡ 0 → with_asked p low key ≡ p ∷ low ∷ key
-put_front p low key e = ap (λ n. take n key ++ p ∷ low ∷ drop n key) e
-
-put_past : (p low a b : ℕ) (key : List ℕ) → p ≤ a → with_any_asked p low (a ∷ b ∷ key) ≡ a ∷ b ∷ with_any_asked p low key
-put_past p low a b key l = elim (cases_eq p 0) [
-  | inl z ↦ none (a ∷ b ∷ key) z ∙ ap (λ k. a ∷ b ∷ k) (sym (none key z))
-  | inr n ↦ some (a ∷ b ∷ key) n ∙ ap (λ m. take m (a ∷ b ∷ key) ++ p ∷ low ∷ drop m (a ∷ b ∷ key)) (past p a b key l) ∙ ap (λ k. a ∷ b ∷ k) (sym (some key n))
+put_past : (p low a : ℕ) (key : List ℕ) → p * 256 + low ≤ a → with_any_asked p low (a ∷ key) ≡ a ∷ with_any_asked p low key
+put_past p low a key l = elim (cases_eq p 0) [
+  | inl z ↦ none (a ∷ key) z ∙ ap (λ k. a ∷ k) (sym (none key z))
+  | inr n ↦ some (a ∷ key) n ∙ ap (λ m. take m (a ∷ key) ++ (p * 256 + low) ∷ drop m (a ∷ key)) (go_on (p * 256 + low) a key (le-ltb a (p * 256 + low) l)) ∙ ap (λ k. a ∷ k) (sym (some key n))
 ]
   where
     none : (key : List ℕ) → p ≡ 0 → with_any_asked p low key ≡ key
-    none key z = cond-true (p == 0) key (with_asked p low key) (eq-eqb p 0 z)
+    none key z = cond-true (p == 0) key (with_number (p * 256 + low) key) (eq-eqb p 0 z)
 
-    some : (key : List ℕ) → p ≢ 0 → with_any_asked p low key ≡ with_asked p low key
-    some key n = cond-false (p == 0) key (with_asked p low key) (ne_eqb p 0 n)
+    some : (key : List ℕ) → p ≢ 0 → with_any_asked p low key ≡ with_number (p * 256 + low) key
+    some key n = cond-false (p == 0) key (with_number (p * 256 + low) key) (ne_eqb p 0 n)
+
+-- before all that have fewer places left
+front : (f : ℕ → ℕ) → ((u : ℕ) → f u < 256) → (number left : ℕ) (vs : List ℕ) → left * 256 + 255 < number → place_in number (asked_from left (map f vs)) ≡ 0
+front f bytes number left [] l = refl
+front f bytes number left (v ∷ vs) l = elim (cases_eq (f v) 0) [
+  | inl z ↦ ap (place_in number) (asked_zero left (f v) (map f vs) z) ∙ front f bytes number (left - 1) vs (omega (arith, l))
+  | inr n ↦ ap (place_in number) (asked_some left (f v) (map f vs) n) ∙ stop_at number (left * 256 + f v) (asked_from (left - 1) (map f vs)) (lt-ltb (left * 256 + f v) number (omega (arith, l, bytes v)))
+]
 
 -- lows that differ at one variable, where the first has none
-module _ (v : ℕ) (f g : ℕ → ℕ) (nothing : f v ≡ 0) (something : g v ≢ 0) (others : (u : ℕ) → u ≢ v → g u ≡ f u) where
+module _ (v : ℕ) (f g : ℕ → ℕ) (nothing : f v ≡ 0) (something : g v ≢ 0) (others : (u : ℕ) → u ≢ v → g u ≡ f u) (bytes : (u : ℕ) → f u < 256) (byte : g v < 256) where
   inserted : (left : ℕ) (vs : List ℕ) → AllPairs (λ u w. u ≢ w) vs → length vs ≤ left → with_any_asked (left_at left vs v) (g v) (asked_from left (map f vs)) ≡ asked_from left (map g vs)
   inserted left [] apart few = refl
   inserted left (u ∷ us) apart few =
       let rest = AllPairs-rest (λ u w. u ≢ w) u us apart in
       let few_rest : length us ≤ left - 1 = omega (arith, few) in
+      let key = asked_from (left - 1) (map f us) in
       elim (cases_eq u v) [
         | inl e ↦
-            let key = asked_from (left - 1) (map f us) in
             let same : map g us ≡ map f us = same_map g f us (λ w c. others w (λ d. AllPairs-first (λ u w. u ≢ w) u us apart w c (e ∙ sym d))) in
             ap₂ (λ p k. with_any_asked p (g v) k) (left_here left u v us e) (asked_zero left (f u) (map f us) (ap f e ∙ nothing))
-            ∙ cond-false (left == 0) key (with_asked left (g v) key) (ne_eqb left 0 (λ z. omega (arith, z, few)))
-            ∙ put_front left (g v) key (front left (left - 1) (map f us) (omega (arith, few)))
-            ∙ ap₂ (λ w xs. left ∷ w ∷ asked_from (left - 1) xs) (ap g (sym e)) (sym same)
+            ∙ cond-false (left == 0) key (with_number (left * 256 + g v) key) (ne_eqb left 0 (λ z. omega (arith, z, few)))
+            ∙ put_front (left * 256 + g v) key (front f bytes (left * 256 + g v) (left - 1) us (omega (arith, few, something)))
+            ∙ ap₂ (λ w xs. (left * 256 + w) ∷ asked_from (left - 1) xs) (ap g (sym e)) (sym same)
             ∙ sym (asked_some left (g u) (map g us) (λ z. something (ap g (sym e) ∙ z)))
         | inr n ↦
             let p = left_at (left - 1) us v in
@@ -160,8 +140,8 @@ module _ (v : ℕ) (f g : ℕ → ℕ) (nothing : f v ≡ 0) (something : g v �
             ∙ elim (cases_eq (f u) 0) [
               | inl z ↦ ap (with_any_asked p (g v)) (asked_zero left (f u) (map f us) z) ∙ within ∙ sym (asked_zero left (g u) (map g us) (others u n ∙ z))
               | inr m ↦ ap (with_any_asked p (g v)) (asked_some left (f u) (map f us) m)
-                  ∙ put_past p (g v) left (f u) (asked_from (left - 1) (map f us)) (omega (arith, left_le (left - 1) us v))
-                  ∙ ap₂ (λ w k. left ∷ w ∷ k) (sym (others u n)) within
+                  ∙ put_past p (g v) (left * 256 + f u) key (omega (arith, left_le (left - 1) us v, few, byte))
+                  ∙ ap₂ (λ w k. (left * 256 + w) ∷ k) (sym (others u n)) within
                   ∙ sym (asked_some left (g u) (map g us) (λ z. m (sym (others u n) ∙ z)))
             ]
       ]
@@ -170,8 +150,8 @@ module _ (v : ℕ) (f g : ℕ → ℕ) (nothing : f v ≡ 0) (something : g v �
 
 module _ (variables places : List ℕ) (are : ArePlaces variables places) where
   -- the low of a literal above the others
-  one_more : (done : List Literal) (l : Literal) → ((m : Literal) → Contains done m → m.variable < l.variable) → with_low_of places l (key_by variables done) ≡ key_by variables (done ++ l ∷ [])
-  one_more done l lower =
+  one_more : (done : List Literal) (l : Literal) → AreBytes done → l.low < 256 → ((m : Literal) → Contains done m → m.variable < l.variable) → with_low_of places l (key_by variables done) ≡ key_by variables (done ++ l ∷ [])
+  one_more done l bytes byte lower =
       let new : low_in (done ++ l ∷ []) l.variable ≡ l.low = low_in-last done l lower in
       let old : low_in done l.variable ≡ 0 = low_in-none done l.variable (λ m c e. omega (arith, lower m c, e)) in
       let others : (u : ℕ) → u ≢ l.variable → low_in (done ++ l ∷ []) u ≡ low_in done u = λ u n. low_in-before done l u (λ e. n (sym e)) in
@@ -181,7 +161,7 @@ module _ (variables places : List ℕ) (are : ArePlaces variables places) where
             ∙ ap (asked_from 256) (same_map (low_in done) (low_in (done ++ l ∷ [])) variables (λ u c. same done l u old (new ∙ z) others))
         | inr n ↦ cond-false (l.low == 0) key (with_any_asked (get_or places l.variable 0) l.low key) (ne_eqb l.low 0 n)
             ∙ ap₂ (λ p w. with_any_asked p w key) (are.left l.variable) (sym new)
-            ∙ inserted l.variable (low_in done) (low_in (done ++ l ∷ [])) old (λ z. n (sym new ∙ z)) others 256 variables are.apart are.few
+            ∙ inserted l.variable (low_in done) (low_in (done ++ l ∷ [])) old (λ z. n (sym new ∙ z)) others (low_in-byte done bytes) (omega (arith, new, byte)) 256 variables are.apart are.few
       ]
     where
       same : (done : List Literal) (l : Literal) (u : ℕ) → low_in done l.variable ≡ 0 → low_in (done ++ l ∷ []) l.variable ≡ 0 → ((u : ℕ) → u ≢ l.variable → low_in (done ++ l ∷ []) u ≡ low_in done u) → low_in done u ≡ low_in (done ++ l ∷ []) u
@@ -190,22 +170,40 @@ module _ (variables places : List ℕ) (are : ArePlaces variables places) where
         | inr n ↦ sym (others u n)
       ]
 
-  all_more : (done ls : List Literal) → IsRising ls → ((m l : Literal) → Contains done m → Contains ls l → m.variable < l.variable) → with_lows_of places ls (key_by variables done) ≡ key_by variables (done ++ ls)
-  all_more done [] rising lower = ap (key_by variables) (sym (append-nil done))
-  all_more done (l ∷ ls) rising lower =
-      ap (with_lows_of places ls) (one_more done l (λ m c. lower m l c (Contains-first l ls)))
-      ∙ all_more (done ++ l ∷ []) ls (rising_rest l ls rising) (λ m n c d. elim (Contains-push_cases done l m c) [
+  all_more : (done ls : List Literal) → AreBytes done → AreBytes ls → IsRising ls → ((m l : Literal) → Contains done m → Contains ls l → m.variable < l.variable) → with_lows_of places ls (key_by variables done) ≡ key_by variables (done ++ ls)
+  all_more done [] before bytes rising lower = ap (key_by variables) (sym (append-nil done))
+  all_more done (l ∷ ls) before bytes rising lower =
+      ap (with_lows_of places ls) (one_more done l before (bytes 0 l (omega arith)) (λ m c. lower m l c (Contains-first l ls)))
+      ∙ all_more (done ++ l ∷ []) ls (All-push is_byte done l before (bytes 0 l (omega arith))) (All-tail is_byte l ls bytes) (rising_rest l ls rising) (λ m n c d. elim (Contains-push_cases done l m c) [
         | inl k ↦ lower m n k (Contains-rest l ls n d)
         | inr e ↦ subst (λ (x : Literal). x.variable < n.variable) e (rising_first l n ls rising d)
       ])
       ∙ ap (key_by variables) (append_assoc done (l ∷ []) ls)
+    where
+      is_byte : Literal → Type 0
+      is_byte m = m.low < 256
 
-  pub key_made : (cube : List Literal) → IsRising cube → (key : List ℕ) → with_lows_of places cube [] ≡ key → key ≡ key_by variables cube
-  key_made cube rising key is = sym is ∙ ap (with_lows_of places cube) (sym (empty 256 variables)) ∙ all_more [] cube rising (λ m l c d. absurd (Contains-nil m c))
+  pub key_made : (cube : List Literal) → AreBytes cube → IsRising cube → (key : List ℕ) → with_lows_of places cube [] ≡ key → key ≡ key_by variables cube
+  key_made cube bytes rising key is = sym is ∙ ap (with_lows_of places cube) (sym (empty 256 variables)) ∙ all_more [] cube (All-nil (λ (l : Literal). l.low < 256)) bytes rising (λ m l c d. absurd (Contains-nil m c))
     where
       empty : (left : ℕ) (vs : List ℕ) → asked_from left (map (low_in []) vs) ≡ []
       empty left [] = refl
       empty left (v ∷ vs) = empty (left - 1) vs
+
+-- ---- a key block by block
+
+pub lows_after : (places : List ℕ) (block rest : List Literal) (key : List ℕ) → with_lows_of places (block ++ rest) key ≡ with_lows_of places rest (with_lows_of places block key)
+lows_after places [] rest key = refl
+lows_after places (l ∷ block) rest key = lows_after places block rest (with_low_of places l key)
+
+pub none_put : (places : List ℕ) (ls : List Literal) (key : List ℕ) → list_all (λ (l : Literal). l.low == 0) ls ≡ true → with_lows_of places ls key ≡ key
+none_put places [] key h = refl
+none_put places (l ∷ ls) key h =
+    let parts = and_parts (l.low == 0) (list_all (λ (m : Literal). m.low == 0) ls) h in
+    ap (with_lows_of places ls) (cond-true (l.low == 0) key (with_any_asked (get_or places l.variable 0) l.low key) parts.0) ∙ none_put places ls key parts.1
+
+pub bytes_of_none : (ls : List Literal) → list_all (λ (l : Literal). l.low == 0) ls ≡ true → AreBytes ls
+bytes_of_none ls h k d l = omega (arith, eqb-true (get_or ls k d).low 0 (from_all (λ (m : Literal). m.low == 0) ls (get_or ls k d) h (Contains-get_or ls k d l)))
 
 -- ---- the variables along an order are each there once
 

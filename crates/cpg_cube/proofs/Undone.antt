@@ -1,8 +1,9 @@
 -- What undoes a narrowing.
-use Rattle.std.proofs.Common.{ℕ, zero, suc, ◌<◌, ◌≡◌, List, [], ◌∷◌, ◌++◌, length, Some, None, arith, refl, ap}
+use Rattle.std.proofs.Common.{ℕ, zero, suc, ◌<◌, ◌≡◌, List, [], ◌∷◌, ◌++◌, length, Some, None, arith, refl, sym, ap, ◌∙◌, get_or}
 use Rattle.std.specs.Prelude.{slice_index_or, slice_set, insert, remove}
+use Rattle.std.proofs.lemmas.List.{get_or-set_same}
 use Rattle.cpg_cube.specs.Cube.{Literal}
-use Rattle.cpg_cube.specs.Undo.{IsUndo}
+use Rattle.cpg_cube.specs.Undo.{IsOn, IsUndo}
 
 module _ {T : Type 0} (x : T) where
   removed_last : (xs : List T) → remove (xs ++ x ∷ []) (length xs) ≡ xs
@@ -33,6 +34,15 @@ module _ {T : Type 0} (x : T) where
   set_there (y ∷ ys) zero h = omega arith
   set_there (y ∷ ys) (suc i) h = omega (arith, set_there ys i (omega (arith, h)))
 
+  last_is : (xs : List T) (d : T) → get_or (xs ++ x ∷ []) (length xs) d ≡ x
+  last_is [] d = refl
+  last_is (y ∷ ys) d = last_is ys d
+
+  in_is : (xs : List T) (i : ℕ) (d : T) → i < length xs → get_or (insert xs i x) i d ≡ x
+  in_is [] i d h = absurd (omega (arith, h))
+  in_is (y ∷ ys) zero d h = refl
+  in_is (y ∷ ys) (suc i) d h = in_is ys i d (omega (arith, h))
+
 module _ (l : Literal) (xs : List Literal) where
   pub undo_last : (new : List Literal) (place : ℕ) → place ≡ length xs → new ≡ xs ++ l ∷ [] → IsUndo (record { place = place; was = None }) new xs
   undo_last new place at is = record {
@@ -51,4 +61,25 @@ module _ (l : Literal) (xs : List Literal) where
   undo_set new place was d h there is = record {
     place = rw is (set_there l xs place h);
     back = rw (is, there) (set_back l xs place d h);
+  }
+
+  -- ---- the literal there is on the variable
+
+  pub on_last : (new : List Literal) (place : ℕ) → place ≡ length xs → new ≡ xs ++ l ∷ [] → IsOn l.variable (record { place = place; was = None }) new
+  on_last new place at is = record {
+    now = λ d. let e : get_or new place d ≡ l = rw (is, at) (last_is l xs d) in ap (λ (m : Literal). m.variable) e;
+    before = tt;
+  }
+
+  pub on_in : (new : List Literal) (place : ℕ) → place < length xs → new ≡ insert xs place l → IsOn l.variable (record { place = place; was = None }) new
+  on_in new place h is = record {
+    now = λ d. let e : get_or new place d ≡ l = rw is (in_is l xs place d h) in ap (λ (m : Literal). m.variable) e;
+    before = tt;
+  }
+
+  pub on_set : (new : List Literal) (place v : ℕ) (was : Literal) → place < length xs → was.variable ≡ v → l.variable ≡ v → new ≡ slice_set xs place l →
+      IsOn v (record { place = place; was = Some was }) new
+  on_set new place v was h before now is = record {
+    now = λ d. let e : get_or new place d ≡ l = rw is (get_or-set_same xs place l d h) in ap (λ (m : Literal). m.variable) e ∙ now;
+    before = before;
   }

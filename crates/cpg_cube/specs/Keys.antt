@@ -1,5 +1,5 @@
 -- What columns stand by: the lows of their cubes along an order, of each process that of its count and then that of its value.
-use Rattle.std.specs.Prelude.{ℕ, suc, ◌-◌, ◌<◌, ◌≤◌, ◌≡◌, ◌≢◌, ◌==◌, nat_lt, if◌then◌else◌, false, List, [], ◌∷◌, ◌++◌, get_or, length, map, take, drop, Option, None, Some, AllPairs}
+use Rattle.std.specs.Prelude.{ℕ, suc, ◌+◌, ◌-◌, ◌*◌, ◌<◌, ◌≤◌, ◌≡◌, ◌≢◌, ◌==◌, nat_lt, if◌then◌else◌, false, List, [], ◌∷◌, ◌++◌, get_or, length, map, take, drop, Option, None, Some, All, AllPairs}
 use Rattle.std.specs.List.{flat_map}
 use Rattle.cpg_base.specs.Graph.{Graph, value_variable, condition_of}
 use Rattle.cpg_base.specs.Numbers.{is_below}
@@ -44,12 +44,13 @@ variables_of g p = p ∷ variable_of_value (condition_of g p)
 abbrev pub variables_along : Graph → List ℕ → List ℕ
 variables_along g order = flat_map (variables_of g) order
 
--- What the code sorts by: of those lows the ones that aren't 0, each after how many places are left. An earlier place counts for more.
+-- What the code sorts by: of those lows the ones that aren't 0, each as one number with how many places are left. An earlier
+-- place counts for more.
 
--- the numbers that aren't 0, each after how many places are left
+-- the numbers that aren't 0, each with how many places are left
 abbrev pub asked_from : ℕ → List ℕ → List ℕ
 asked_from left [] = []
-asked_from left (x ∷ xs) = if x == 0 then asked_from (left - 1) xs else left ∷ x ∷ asked_from (left - 1) xs
+asked_from left (x ∷ xs) = if x == 0 then asked_from (left - 1) xs else (left * 256 + x) ∷ asked_from (left - 1) xs
 
 -- so of the lows along an order
 abbrev pub key_along : Graph → List ℕ → (ℕ → ℕ) → List ℕ
@@ -72,19 +73,18 @@ pub record ArePlaces (variables places : List ℕ) : Type 0 where
   pub apart : AllPairs (λ u v. u ≢ v) variables
   pub left : (v : ℕ) → get_or places v 0 ≡ left_at 256 variables v
 
--- how many numbers of a key stand before a low with so many places left: those of lows with as many or more
+-- how many numbers of a key stand before one: those that are as much or more
 abbrev pub place_in : ℕ → List ℕ → ℕ
-place_in left [] = 0
-place_in left (more ∷ []) = if nat_lt more left then 0 else 2
-place_in left (more ∷ low ∷ key) = if nat_lt more left then 0 else suc (suc (place_in left key))
+place_in number [] = 0
+place_in number (more ∷ key) = if nat_lt more number then 0 else suc (place_in number key)
 
--- a key with a low and how many places are left, in its place
-abbrev pub with_asked : ℕ → ℕ → List ℕ → List ℕ
-with_asked left low key = take (place_in left key) key ++ left ∷ low ∷ drop (place_in left key) key
+-- a key with a number, in its place
+abbrev pub with_number : ℕ → List ℕ → List ℕ
+with_number number key = take (place_in number key) key ++ number ∷ drop (place_in number key) key
 
--- so, where places are left
+-- so with that of a low, where places are left
 abbrev pub with_any_asked : ℕ → ℕ → List ℕ → List ℕ
-with_any_asked left low key = if left == 0 then key else with_asked left low key
+with_any_asked left low key = if left == 0 then key else with_number (left * 256 + low) key
 
 -- a key with the low of a literal, if it isn't 0
 abbrev pub with_low_of : List ℕ → Literal → List ℕ → List ℕ
@@ -95,7 +95,17 @@ abbrev pub with_lows_of : List ℕ → List Literal → List ℕ → List ℕ
 with_lows_of places [] key = key
 with_lows_of places (l ∷ ls) key = with_lows_of places ls (with_low_of places l key)
 
+-- the low of each literal is that of a byte, so that it counts for less than a place
+abbrev pub AreBytes : List Literal → Type 0
+AreBytes cube = All (λ (l : Literal). l.low < 256) cube
+
+-- what a cube stands by
+pub record IsKeyOf (variables : List ℕ) (cube : List Literal) (key : List ℕ) : Type 0 where
+  pub is : key ≡ key_by variables cube
+  pub bytes : AreBytes cube
+
 -- none of the first n columns has a key before that of the column at a place
 pub record IsFirstByKeys {T : Type 0} (cube : T → List Literal) (variables : List ℕ) (n : ℕ) (columns : List T) (at : ℕ) : Type 0 where
   pub there : at < n
   pub first : (j : ℕ) (d : T) → j < n → is_below (key_by variables (cube (get_or columns j d))) (key_by variables (cube (get_or columns at d))) ≡ false
+  pub bytes : (j : ℕ) (d : T) → j < n → AreBytes (cube (get_or columns j d))

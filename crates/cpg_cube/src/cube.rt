@@ -9,7 +9,7 @@ ghost use Rattle.cpg_cube.specs.Cube.{IsRising, holds, matches};
 ghost use Rattle.cpg_cube.specs.Rising.{rises_from};
 ghost use Rattle.cpg_cube.specs.Fit.{IsCube, IsKnown, is_met, lows, do_meet, both_lows, is_within, scenario_of};
 ghost use Rattle.cpg_cube.specs.Cover.{narrowed_by, range_left, with_literal};
-ghost use Rattle.cpg_cube.specs.Undo.{IsUndo, restored};
+ghost use Rattle.cpg_cube.specs.Undo.{IsOn, IsUndo, left_of, restored};
 
 use crate::Literal;
 use crate::bounds::{Bounds, budget_left};
@@ -46,18 +46,30 @@ pub struct Narrowing {
     was: Option<Literal>,
 }
 
-/// Whether each variable is greater than the one before.
+impl Narrowing {
+    /// The range of a literal's variable that is left where it and what was there match.
+    fn left(&self, literal: Literal) -> Literal
+        ensures { result ≡ left_of literal self.now.was }
+    {
+        match self.was {
+            Some(was) => literal.met(was),
+            None => literal,
+        }
+    }
+}
+
+/// Whether each variable is greater than the one before: without a way out before the last, so that the compiler compares
+/// several at once.
 fn do_variables_rise(literals: &[Literal]) -> bool
     ensures { result ≡ rises_from 0 literals.now }
 {
-    let mut least = 0;
+    let mut do_rise = true;
+    let mut least: u32 = 0;
     for literal in literals {
-        if u32::from(literal.variable) < least {
-            return false;
-        }
+        do_rise &= least <= u32::from(literal.variable);
         least = u32::from(literal.variable) + 1;
     }
-    true
+    do_rise
 }
 
 /// The place of the first literal on this variable or on one above.
@@ -85,6 +97,7 @@ fn is_above(literals: &[Literal], variable: u8) -> bool
 fn narrow(literals: &mut SmallVec<Literal, FEW>, literal: Literal) -> Result<Narrowing, OutOfMemory>
     ensures narrowed { IfOk result (λ _. literals.new.items ≡ narrowed_by literal literals.old.items) }
     ensures undo { IfOk result (λ n. IsUndo n literals.new.items literals.old.items) }
+    ensures on { IfOk result (λ n. IsOn literal.variable n literals.new.items) }
     ensures same { IfErr result (λ _. literals.new.items ≡ literals.old.items) }
 {
     let Some(place) = place_of(literals.as_slice(), literal.variable) else {
@@ -109,6 +122,7 @@ fn put(literals: &mut SmallVec<Literal, FEW>, literal: Literal) -> Result<Narrow
     requires { IsRising literals.old.items }
     ensures narrowed { IfOk result (λ _. literals.new.items ≡ narrowed_by literal literals.old.items) }
     ensures undo { IfOk result (λ n. IsUndo n literals.new.items literals.old.items) }
+    ensures on { IfOk result (λ n. IsOn literal.variable n literals.new.items) }
     ensures same { IfErr result (λ _. literals.new.items ≡ literals.old.items) }
 {
     if is_above(literals.as_slice(), literal.variable) {
@@ -117,6 +131,19 @@ fn put(literals: &mut SmallVec<Literal, FEW>, literal: Literal) -> Result<Narrow
         return Ok(Narrowing { place, was: None });
     }
     narrow(literals, literal)
+}
+
+/// The same literals. A list of its own takes many at once.
+fn copied(alloc: Global, literals: &[Literal]) -> Result<SmallVec<Literal, FEW>, OutOfMemory>
+    ensures { IfOk result (λ copy. copy.items ≡ literals.now) }
+{
+    if literals.len() <= FEW {
+        let copy = SmallVec::from_slice(alloc, literals)?;
+        return Ok(copy);
+    }
+    let mut copy = Vec::with_capacity(alloc, literals.len())?;
+    copy.extend_from_slice(literals)?;
+    Ok(SmallVec::from_vec(copy))
 }
 
 impl Cube {
@@ -138,7 +165,7 @@ impl Cube {
         if !do_variables_rise(literals) {
             return Ok(None);
         }
-        let literals = SmallVec::from_slice(alloc, literals)?;
+        let literals = copied(alloc, literals)?;
         Ok(Some(Cube { literals }))
     }
 
@@ -164,7 +191,7 @@ impl Cube {
     pub fn copy(&self) -> Result<Cube, OutOfMemory>
         ensures { IfOk result (λ cube. cube ≡ self.now) }
     {
-        let literals = SmallVec::from_slice(*self.literals.allocator(), self.literals.as_slice())?;
+        let literals = copied(*self.literals.allocator(), self.literals.as_slice())?;
         Ok(Cube { literals })
     }
 
@@ -242,8 +269,10 @@ impl Cube {
     pub fn narrow(&mut self, literal: Literal) -> Result<Option<Narrowing>, OutOfMemory>
         ensures narrowed { IfOk result (λ r. IfSome r (λ _. with_literal literal self.old ≡ Some self.new)) }
         ensures undo { IfOk result (λ r. IfSome r (λ n. IsUndo n self.new self.old)) }
+        ensures on { IfOk result (λ r. IfSome r (λ n. IsOn literal.variable n self.new)) }
         ensures none { IfOk result (λ r. IfNone r (with_literal literal self.old ≡ None)) }
         ensures same { IfOk result (λ r. IfNone r (self.new ≡ self.old)) }
+        ensures kept { IfErr result (λ _. self.new ≡ self.old) }
         ensures rising { IsRising self.old }
     {
         let left = self.range_with(literal);
@@ -258,7 +287,8 @@ impl Cube {
     pub fn restore(&mut self, narrowed: Narrowing)
         requires place { narrowed.place < length self.old }
         requires rising { IsRising (restored narrowed self.old) }
-        ensures { self.new ≡ restored narrowed self.old }
+        ensures back { self.new ≡ restored narrowed self.old }
+        ensures rising { IsRising self.old }
     {
         match narrowed.was {
             Some(literal) => self.literals.as_mut_slice()[narrowed.place] = literal,
@@ -266,6 +296,26 @@ impl Cube {
                 self.literals.remove(narrowed.place);
             }
         }
+    }
+
+    /// Becomes what it was before it was narrowed, narrowed by another literal on the variable. False exactly where that
+    /// leaves the variable an empty range: then it is what it was before.
+    pub fn exchange(&mut self, narrowed: Narrowing, literal: Literal) -> bool
+        requires place { narrowed.place < length self.old }
+        requires rising { IsRising (restored narrowed self.old) }
+        requires on { IsOn literal.variable narrowed self.old }
+        ensures narrowed { OnTrue result (with_literal literal (restored narrowed self.old) ≡ Some self.new) }
+        ensures undo { OnTrue result (IsUndo narrowed self.new (restored narrowed self.old)) }
+        ensures none { OnFalse result (with_literal literal (restored narrowed self.old) ≡ None) }
+        ensures same { OnFalse result (self.new ≡ restored narrowed self.old) }
+    {
+        let left = narrowed.left(literal);
+        if left.high < left.low {
+            self.restore(narrowed);
+            return false;
+        }
+        self.literals.as_mut_slice()[narrowed.place] = left;
+        true
     }
 
     /// Whether the cube matches some scenario of at most `k` faults.

@@ -1,5 +1,6 @@
 //! Ranges of variables.
-ghost use Rattle.std.specs.Prelude.{◌≡◌, ◌<◌, ◌≤◌, ◌+◌, ◌↔◌, ◌⊎◌, IsTrue};
+ghost use Rattle.std.specs.Prelude.{◌≡◌, ◌==◌, ◌<◌, ◌≤◌, ◌+◌, ◌↔◌, ◌⊎◌, IsTrue};
+ghost use Rattle.std.specs.List.{list_all};
 ghost use Rattle.cpg_cube.specs.Cube.{holds};
 ghost use Rattle.cpg_cube.specs.Fit.{asked_of_literal, is_open};
 ghost use Rattle.cpg_cube.specs.Cover.{meet_literal};
@@ -17,9 +18,20 @@ pub struct Literal {
     pub high: u8,
 }
 
+/// How many literals are looked at together.
+pub const BLOCK: usize = 4;
+
+/// Whether all literals begin at 0, as most do: without a way out before the last, so that it is one test.
+pub fn begin_at_zero(literals: &[Literal; BLOCK]) -> bool
+    ensures { result ≡ list_all (λ l. l.low == 0) literals.now }
+{
+    let [a, b, c, d] = *literals;
+    (a.low == 0) & (b.low == 0) & (c.low == 0) & (d.low == 0)
+}
+
 impl Literal {
     /// Whether the variable is in range in a scenario.
-    pub fn holds(&self, scenario: &Scenario) -> bool
+    pub(crate) fn holds(&self, scenario: &Scenario) -> bool
         ensures { result ≡ holds scenario.now self.now }
     {
         let number = scenario.number(self.variable);

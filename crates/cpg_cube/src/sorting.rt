@@ -2,19 +2,22 @@
 ghost use Rattle.std.specs.Prelude.{◌≡◌, ◌≢◌, ◌++◌, ◌<◌, ◌≤◌, ℕ, [], All, AllPairs, IfNone, IfOk, IfSome, IsPermutation, List, OnOk, if◌then◌else◌, length, map};
 ghost use Rattle.cpg_base.specs.Graph.{condition_count, process_count};
 ghost use Rattle.cpg_base.specs.Numbers.{is_below, numbers_below};
-ghost use Rattle.cpg_cube.specs.Keys.{AreByLows, ArePlaces, IsFirstByKeys, IsFirstByLows, key_by, place_in, variables_along, variables_of, with_asked, with_low_of};
+ghost use Rattle.cpg_cube.specs.Keys.{AreByLows, AreBytes, ArePlaces, IsFirstByKeys, IsFirstByLows, IsKeyOf, key_by, place_in, variables_along, variables_of, with_low_of, with_lows_of, with_number};
 
 use crate::bounds::VARIABLES;
-use crate::{Cube, Literal};
+use crate::{BLOCK, Cube, Literal, begin_at_zero};
 use cpg_base::{FIRST_VALUE, Order, OutOfMemory, Problem};
 use smallvec::SmallVec;
 use std::alloc::Global;
 
-/// How many numbers of a key need no memory of their own: two for each of eight faults.
-const SHORT: usize = 16;
+/// How many numbers of a key need no memory of their own: one for each of eight faults.
+const SHORT: usize = 8;
 
 /// More than there may be processes and conditions.
 const PLACES: u16 = 256;
+
+/// More than a low may be.
+const LOWS: u32 = 256;
 
 /// What is for the scenarios that a cube matches.
 pub trait Cubed {
@@ -78,32 +81,30 @@ fn places_of(variables: &[u8]) -> [u16; VARIABLES]
     places
 }
 
-/// How many numbers of a key stand before a low with so many places left.
-fn place_in(left: u16, key: &[u16]) -> usize
-    ensures { result ≡ place_in left key.now }
+/// How many numbers of a key stand before one.
+fn place_in(number: u32, key: &[u32]) -> usize
+    ensures { result ≡ place_in number key.now }
 {
     let mut place = 0;
     while place < key.len() {
-        if key[place] < left {
+        if key[place] < number {
             return place;
         }
-        place += 2;
+        place += 1;
     }
     place
 }
 
-/// Puts a low with how many places are left before those with fewer.
-fn put_low(left: u16, low: u16, key: &mut SmallVec<u16, SHORT>) -> Result<(), OutOfMemory>
-    ensures { OnOk result (key.new.items ≡ with_asked left low key.old.items) }
+/// Puts a number before the lesser ones.
+fn put_number(number: u32, key: &mut SmallVec<u32, SHORT>) -> Result<(), OutOfMemory>
+    ensures { OnOk result (key.new.items ≡ with_number number key.old.items) }
 {
-    let place = place_in(left, key.as_slice());
+    let place = place_in(number, key.as_slice());
     if place >= key.len() {
-        key.push(left)?;
-        key.push(low)?;
+        key.push(number)?;
         return Ok(());
     }
-    key.insert(place, left)?;
-    key.insert(place + 1, low)?;
+    key.insert(place, number)?;
     Ok(())
 }
 
@@ -111,9 +112,10 @@ fn put_low(left: u16, low: u16, key: &mut SmallVec<u16, SHORT>) -> Result<(), Ou
 fn put_low_of(
     places: &[u16; VARIABLES],
     literal: Literal,
-    key: &mut SmallVec<u16, SHORT>,
+    key: &mut SmallVec<u32, SHORT>,
 ) -> Result<(), OutOfMemory>
-    ensures { OnOk result (key.new.items ≡ with_low_of places.now literal key.old.items) }
+    ensures key { OnOk result (key.new.items ≡ with_low_of places.now literal key.old.items) }
+    ensures byte { literal.low < 256 }
 {
     if literal.low == 0 {
         return Ok(());
@@ -122,29 +124,63 @@ fn put_low_of(
     if left == 0 {
         return Ok(());
     }
-    put_low(left, u16::from(literal.low), key)
+    put_number(u32::from(left) * LOWS + u32::from(literal.low), key)
 }
 
-/// What a cube stands by: the lows along some variables that aren't 0, each after how many places are left.
+/// Puts the lows of literals.
+fn put_lows_of(
+    places: &[u16; VARIABLES],
+    literals: &[Literal],
+    key: &mut SmallVec<u32, SHORT>,
+) -> Result<(), OutOfMemory>
+    ensures key { OnOk result (key.new.items ≡ with_lows_of places.now literals.now key.old.items) }
+    ensures bytes { OnOk result (AreBytes literals.now) }
+{
+    for literal in literals {
+        put_low_of(places, *literal, key)?;
+    }
+    Ok(())
+}
+
+/// The same, at once where all begin at 0.
+fn put_block(
+    places: &[u16; VARIABLES],
+    literals: &[Literal; BLOCK],
+    key: &mut SmallVec<u32, SHORT>,
+) -> Result<(), OutOfMemory>
+    ensures key { OnOk result (key.new.items ≡ with_lows_of places.now literals.now key.old.items) }
+    ensures bytes { OnOk result (AreBytes literals.now) }
+{
+    if begin_at_zero(literals) {
+        return Ok(());
+    }
+    put_lows_of(places, literals, key)
+}
+
+/// What a cube stands by: the lows along some variables that aren't 0, each with how many places are left.
 fn key_of(
     alloc: Global,
     places: &[u16; VARIABLES],
     cube: &Cube,
-) -> Result<SmallVec<u16, SHORT>, OutOfMemory>
-    ensures { IfOk result (λ key. (variables : List ℕ) → ArePlaces variables places.now → key.items ≡ key_by variables cube.now) }
+) -> Result<SmallVec<u32, SHORT>, OutOfMemory>
+    ensures key { IfOk result (λ key. (variables : List ℕ) → ArePlaces variables places.now → key.items ≡ key_by variables cube.now) }
+    ensures bytes { IfOk result (λ _. AreBytes cube.now) }
 {
     let mut key = SmallVec::new(alloc);
+    let mut left = cube.literals();
     // few literals of a cube have a low above 0
-    for literal in cube.literals() {
-        put_low_of(places, *literal, &mut key)?;
+    while let Some((block, rest)) = left.split_first_chunk::<BLOCK>() {
+        put_block(places, block, &mut key)?;
+        left = rest;
     }
+    put_lows_of(places, left, &mut key)?;
     Ok(key)
 }
 
 /// A column with what it stands by.
 #[derive(Drop)]
 struct Ranked<T> {
-    key: SmallVec<u16, SHORT>,
+    key: SmallVec<u32, SHORT>,
     column: T,
 }
 
@@ -157,7 +193,7 @@ fn with_keys<T: Cubed + Drop>(
     requires few { length variables.now ≤ 256 }
     requires apart { AllPairs (λ u v. u ≢ v) variables.now }
     ensures columns { IfOk result (λ r. map (λ x. x.column) r.items ≡ columns.items) }
-    ensures keys { IfOk result (λ r. All (λ x. x.key.items ≡ key_by variables.now (T.cubed x.column)) r.items) }
+    ensures keys { IfOk result (λ r. All (λ x. IsKeyOf variables.now (T.cubed x.column) x.key.items) r.items) }
 {
     let places = places_of(variables);
     let mut ranked = Vec::new(alloc);
@@ -200,7 +236,7 @@ pub fn by_least_scenario<T: Cubed + Drop>(
 /// A column's place with what it stands by.
 #[derive(Drop)]
 struct Placed {
-    key: SmallVec<u16, SHORT>,
+    key: SmallVec<u32, SHORT>,
     place: usize,
 }
 

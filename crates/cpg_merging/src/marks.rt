@@ -5,9 +5,9 @@ ghost use Rattle.cpg_merging.specs.Totals.{AreMarked, AreMarkedBy, AreSums, HasN
 ghost use Rattle.cpg_merging.specs.Merging.{IsShorn};
 
 use crate::demands::have_many_demands;
-use crate::totals::{BLOCK, Sums, begin_at_zero, has_partner, sieve_of, totals};
+use crate::totals::{Sums, has_partner, sieve_of, totals};
 use cpg_base::{OutOfMemory, Problem};
-use cpg_cube::{Entry, Literal};
+use cpg_cube::{BLOCK, Entry, Literal, begin_at_zero};
 use std::alloc::Global;
 
 /// How many variables there may be.

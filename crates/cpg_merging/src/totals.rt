@@ -1,11 +1,10 @@
 //! Sums over literals by which it is found whether any two columns touch.
-ghost use Rattle.std.specs.Prelude.{◌≡◌, ◌+◌, ◌%◌, ◌^◌, ◌<◌, ◌==◌, Contains, IfOk, length, map, sum_by};
-ghost use Rattle.std.specs.List.{list_all};
+ghost use Rattle.std.specs.Prelude.{◌≡◌, ◌+◌, ◌%◌, ◌^◌, ◌<◌, Contains, IfOk, length, map, sum_by};
 ghost use Rattle.std.specs.Bool.{OnFalse};
 ghost use Rattle.cpg_merging.specs.Totals.{AreSums, HasNoPartner, IsSieve, hash_of, mixed, number_of, place_in, total_of};
 
 use cpg_base::OutOfMemory;
-use cpg_cube::{Entry, Literal};
+use cpg_cube::{BLOCK, Entry, Literal, begin_at_zero};
 use std::alloc::Global;
 
 /// The multiplier of Knuth's linear congruential generator of 64 bits.
@@ -44,16 +43,6 @@ fn hash_of(asked: bool, literal: Literal) -> u64
     }
     let first = mixed(1, number_of(literal));
     first.wrapping_mul(first / HALF)
-}
-
-/// How many literals are looked at together.
-pub(crate) const BLOCK: usize = 8;
-
-/// Whether all literals begin at 0, as most do.
-pub(crate) fn begin_at_zero(literals: &[Literal; BLOCK]) -> bool
-    ensures { result ≡ list_all (λ l. l.low == 0) literals.now }
-{
-    literals.iter().all(|literal| literal.low == 0)
 }
 
 /// A sum with those of literals.

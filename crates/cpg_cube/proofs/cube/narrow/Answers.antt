@@ -1,10 +1,10 @@
-use Rattle.std.proofs.Common.{rules, ◌≡◌, ◌<◌, ◌∙◌, sym, length, Some, None, refl, length-set}
+use Rattle.std.proofs.Common.{rules, ◌≡◌, ◌<◌, ◌∙◌, sym, ap, length, Some, None, refl, length-set}
 use Rattle.std.specs.Prelude.{position, slice_index_or, slice_set}
 use Rattle.smallvec.proofs.SmallVecLemmas.{items-with_items}
 use Rattle.cpg_cube.specs.Cube.{Literal}
 use Rattle.cpg_cube.specs.Cover.{meet_literal}
 use Rattle.cpg_cube.proofs.NarrowSteps.{from_variable, place_found, narrowed-last, narrowed-set, narrowed-in}
-use Rattle.cpg_cube.proofs.Undone.{undo_last, undo_in, undo_set}
+use Rattle.cpg_cube.proofs.Undone.{undo_last, undo_in, undo_set, on_last, on_in, on_set}
 use Rattle.cpg_cube.proofs.cube.narrow.Goals as goal
 
 pub returns-in_default-clause-narrowed : goal.returns-in_default-clause-narrowed
@@ -48,3 +48,21 @@ pub returns-clause-undo : goal.returns-clause-undo
 returns-clause-undo c =
     let within : c.in-Some.place < length c.args.literals.now.items = search rules in
     undo_in c.args.literal c.args.literals.now.items _ c.in-Some.place within c.in_ok-insert.ensures.ok
+
+pub returns-in_default-clause-on : goal.returns-in_default-clause-on
+returns-in_default-clause-on c =
+    on_last c.args.literal c.args.literals.now.items _ _ (search rules) c.in_ok-push.ensures.ok
+
+pub returns-then-other-literal-clause-on : goal.returns-then-other-literal-clause-on
+returns-then-other-literal-clause-on c =
+    let xs = c.args.literals.now.items in
+    let within : c.in-Some.place < length xs = search rules in
+    let same : (slice_index_or c.as_slice-2.result.now c.in-Some.place blank).variable ≡ c.args.literal.variable = c.if-other-literal.true in
+    let met : c.met.result.variable ≡ c.args.literal.variable = ap (λ (m : Literal). m.variable) c.met.ensures ∙ same in
+    let written : slice_set c.as_mut_slice.result.now c.in-Some.place c.met.result ≡ slice_set xs c.in-Some.place c.met.result = rw c.as_mut_slice.ensures.value refl in
+    on_set c.met.result xs _ c.in-Some.place c.args.literal.variable _ within same met (rw written (items-with_items c.args.literals.now _ (length-set xs c.in-Some.place _)))
+
+pub returns-clause-on : goal.returns-clause-on
+returns-clause-on c =
+    let within : c.in-Some.place < length c.args.literals.now.items = search rules in
+    on_in c.args.literal c.args.literals.now.items _ c.in-Some.place within c.in_ok-insert.ensures.ok

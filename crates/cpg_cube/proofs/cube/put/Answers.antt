@@ -1,7 +1,7 @@
 use Rattle.std.proofs.Common.{rules, ◌<◌, All, ◌∙◌, sym}
 use Rattle.cpg_cube.specs.Cube.{Literal}
 use Rattle.cpg_cube.proofs.Above.{narrowed_above}
-use Rattle.cpg_cube.proofs.Undone.{undo_last}
+use Rattle.cpg_cube.proofs.Undone.{undo_last, on_last}
 use Rattle.cpg_cube.proofs.cube.put.Goals as goal
 
 pub returns-then-is_above-clause-narrowed : goal.returns-then-is_above-clause-narrowed
@@ -12,3 +12,7 @@ returns-then-is_above-clause-narrowed c =
 pub returns-then-is_above-clause-undo : goal.returns-then-is_above-clause-undo
 returns-then-is_above-clause-undo c =
     undo_last c.args.literal c.args.literals.now.items _ _ (search rules) c.in_ok-push.ensures.ok
+
+pub returns-then-is_above-clause-on : goal.returns-then-is_above-clause-on
+returns-then-is_above-clause-on c =
+    on_last c.args.literal c.args.literals.now.items _ _ (search rules) c.in_ok-push.ensures.ok

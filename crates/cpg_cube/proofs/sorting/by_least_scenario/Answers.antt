@@ -6,10 +6,9 @@ use Rattle.std.proofs.lemmas.List.Sorted.{IsPermutation-map}
 use Rattle.std.proofs.lemmas.Result.{IfOk-weaker}
 use Rattle.cpg_base.specs.Graph.{process_count}
 use Rattle.cpg_base.proofs.Places.{length_order}
-use Rattle.cpg_cube.specs.Cube.{low_in}
-use Rattle.cpg_cube.specs.Keys.{AreByLows, key_along, variables_along}
+use Rattle.cpg_cube.specs.Keys.{AreByLows, variables_along}
 use Rattle.cpg_cube.specs.declared.sorting.Ranked.{Ranked}
-use Rattle.cpg_cube.proofs.KeyOrder.{is_key_below, is_total, by_lows, few_variables, key_is, within_order}
+use Rattle.cpg_cube.proofs.KeyOrder.{is_key_below, is_total, by_lows, few_variables, within_order}
 use Rattle.cpg_cube.proofs.KeyPlaces.{variables_apart}
 use Rattle.cpg_cube.proofs.sorting.by_least_scenario.Goals as goal
 
@@ -46,10 +45,8 @@ returns-clause-by_lows g c =
     let order = c.args.order.now in
     let few : length order ≤ 128 = omega (arith, length_order (process_count problem) order c.requires, c.processes-processes.ensures.within.few_processes) in
     let along : c.as_slice.result.now ≡ variables_along problem order = c.as_slice.ensures.value ∙ c.in_ok-variables.ensures ∙ ap (variables_along problem) c.processes.ensures.processes in
-    let keys : All (λ (x : Ranked g.row.T.Denot). x.key.items ≡ key_along problem order (low_in (g.T.Cubed.cubed x.column))) before = λ k d l.
-    c.in_ok-ranked.ensures.keys k d l ∙ key_is problem order c.as_slice.result.now along (g.T.Cubed.cubed (get_or before k d).column) in
     let up : IsSortedBy is_key_below after = c.sort_unstable_by.ensures.sorted is_key_below is_total (always_returns_same _ _ _ (λ a r f k. search rules)) in
     IfOk-weaker _ (λ r. r.items ≡ map column after) (λ r. AreByLows g.T.Cubed.cubed problem order r.items)
-    (λ r e. subst (AreByLows g.T.Cubed.cubed problem order) (sym e) (by_lows g.T.Cubed.cubed problem order few before after
-    keys c.sort_unstable_by.ensures.permutation up))
+    (λ r e. subst (AreByLows g.T.Cubed.cubed problem order) (sym e) (by_lows g.T.Cubed.cubed problem order c.as_slice.result.now few along before after
+    c.in_ok-ranked.ensures.keys c.sort_unstable_by.ensures.permutation up))
     (search rules)

@@ -1,7 +1,7 @@
-use Rattle.std.proofs.Common.{◌<◌, ◌∙◌, arith, length, refl, ap}
+use Rattle.std.proofs.Common.{◌<◌, ◌≡◌, ◌∙◌, arith, get_or, length, refl, rules, ap, subst}
 use Rattle.std.proofs.lemmas.Grind.{common_steps}
 use Rattle.std.proofs.lemmas.List.{get_or_default}
-use Rattle.cpg_cube.specs.Keys.{key_by}
+use Rattle.cpg_cube.specs.Keys.{AreBytes, key_by}
 use Rattle.cpg_cube.proofs.KeyOrder.{first_alone, best_next}
 use Rattle.cpg_cube.proofs.sorting.first_by_key.Goals as goal
 
@@ -10,10 +10,10 @@ loop-place-init g c =
     let columns = c.args.columns.now in
     let variables = c.args.variables.now in
     let within : 0 < length columns = grind (arith, common_steps) in
+    let of_first : (d : g.row.T.Denot) → c.cube.result.now ≡ g.T.Cubed.cubed (get_or columns 0 d) = λ d. c.cube.ensures ∙ ap g.T.Cubed.cubed (c.index-columns-0.is ∙ get_or_default columns 0 c.index-columns-0.result d within) in
     record {
-      first = first_alone g.T.Cubed.cubed columns variables;
-      key = λ d. c.in_ok-key.ensures variables c.places_of-places.ensures ∙ ap (key_by variables) c.cube.ensures
-          ∙ ap (λ (x : g.row.T.Denot). key_by variables (g.T.Cubed.cubed x)) (c.index-columns-0.is ∙ get_or_default columns 0 c.index-columns-0.result d within);
+      first = first_alone g.T.Cubed.cubed columns variables (λ d. subst AreBytes (of_first d) c.in_ok-key.ensures.bytes);
+      key = λ d. c.in_ok-key.ensures.key variables c.places_of-places.ensures ∙ ap (key_by variables) (of_first d);
     }
 
 pub loop-place-preserved : goal.loop-place-preserved
@@ -23,6 +23,12 @@ loop-place-preserved g c =
     let n = c.loop-place.place in
     let within : n < length columns = omega (arith, c.loop-place-test.true) in
     best_next g.T.Cubed.cubed columns variables n c.loop-place.best (record { key = c.in_ok-key-2.key; place = n }) c.loop-place.invariant refl
-    (λ d. c.in_ok-key-2.ensures variables c.places_of-places.ensures ∙ ap (key_by variables) c.cube-in-loop-place.ensures
-    ∙ ap (λ (x : g.row.T.Denot). key_by variables (g.T.Cubed.cubed x)) (c.index-columns-place.is ∙ get_or_default columns n c.index-columns-place.result d within))
+    (λ d.
+    let is : c.cube-in-loop-place.result.now ≡ g.T.Cubed.cubed (get_or columns n d) = c.cube-in-loop-place.ensures ∙ ap g.T.Cubed.cubed (c.index-columns-place.is ∙ get_or_default columns n c.index-columns-place.result d within) in
+    record { is = c.in_ok-key-2.ensures.key variables c.places_of-places.ensures ∙ ap (key_by variables) is; bytes = subst AreBytes is c.in_ok-key-2.ensures.bytes })
     c.lesser-best.result c.lesser-best.ensures
+
+pub returns-clause-first : goal.returns-clause-first
+returns-clause-first g c =
+    let h = c.loop-place.invariant.first in
+    record { there = search rules; first = λ j d l. h.first j d (omega (arith, l)); bytes = λ j d l. h.bytes j d (omega (arith, l)) }

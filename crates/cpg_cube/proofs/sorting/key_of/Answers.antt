@@ -1,13 +1,28 @@
-use Rattle.std.proofs.Common.{◌≡◌, ◌≤◌, ◌∙◌, [], length, ap, arith}
-use Rattle.std.proofs.lemmas.List.{drop_all}
-use Rattle.cpg_cube.specs.Keys.{with_lows_of}
-use Rattle.cpg_cube.proofs.KeyPlaces.{key_made}
+use Rattle.std.proofs.Common.{◌≡◌, ◌<◌, ◌++◌, ◌∙◌, [], List, All, ap, sym, subst, rules}
+use Rattle.std.proofs.lemmas.List.Elements.{All-append}
+use Rattle.cpg_cube.specs.Cube.{Literal}
+use Rattle.cpg_cube.specs.Keys.{AreBytes, with_lows_of}
+use Rattle.cpg_cube.proofs.KeyPlaces.{key_made, lows_after}
 use Rattle.cpg_cube.proofs.sorting.key_of.Goals as goal
 
-pub returns : goal.returns
-returns c variables are =
-    let cube = c.args.cube.now in
-    let past : length cube ≤ c.loop-literal.literal-index = omega (arith, ap length c.literals-literal-items.ensures.literals) in
-    let made : with_lows_of c.args.places.now cube [] ≡ c.loop-literal.key.items =
-    c.loop-literal.invariant ∙ ap (λ ls. with_lows_of c.args.places.now ls c.loop-literal.key.items) (drop_all c.loop-literal.literal-index cube past) in
-    key_made variables c.args.places.now are cube c.literals-literal-items.ensures.rising c.loop-literal.key.items made
+pub loop-block-preserved : goal.loop-block-preserved
+loop-block-preserved c =
+    let old = c.loop-block.invariant in
+    let places = c.args.places.now in
+    let block = c.in-Some.block.now in
+    let rest = c.in-Some.rest.now in
+    let parted : c.loop-block.left.now ≡ block ++ rest = search rules in
+    record {
+      key = old.key ∙ ap (λ ls. with_lows_of places ls c.loop-block.key.items) parted ∙ lows_after places block rest c.loop-block.key.items
+          ∙ ap (with_lows_of places rest) (sym c.in_ok-put_block.ensures.key);
+      bytes = λ later. old.bytes (subst AreBytes (sym parted) (All-append (λ (l : Literal). l.low < 256) block rest c.in_ok-put_block.ensures.bytes later));
+    }
+
+pub returns-clause-key : goal.returns-clause-key
+returns-clause-key c variables are =
+    let bytes : AreBytes c.args.cube.now = c.loop-block.invariant.bytes c.in_ok-put_lows_of.ensures.bytes in
+    let made : with_lows_of c.args.places.now c.args.cube.now [] ≡ c.put_lows_of.new.key.items = c.loop-block.invariant.key ∙ sym c.in_ok-put_lows_of.ensures.key in
+    key_made variables c.args.places.now are c.args.cube.now bytes c.literals-left.ensures.rising c.put_lows_of.new.key.items made
+
+pub returns-clause-bytes : goal.returns-clause-bytes
+returns-clause-bytes c = c.loop-block.invariant.bytes c.in_ok-put_lows_of.ensures.bytes

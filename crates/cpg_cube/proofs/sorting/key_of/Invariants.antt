@@ -1,6 +1,12 @@
-use Rattle.std.proofs.Common.{◌≡◌, [], drop}
-use Rattle.cpg_cube.specs.Keys.{with_lows_of}
+use Rattle.std.proofs.Common.{◌≡◌, [], length}
+use Rattle.cpg_cube.specs.Keys.{AreBytes, with_lows_of}
 use Rattle.cpg_cube.proofs.sorting.key_of.Given as goal
 
-abbrev pub invariant-loop-literal : goal.invariant-loop-literal
-invariant-loop-literal l = with_lows_of l.places l.cube [] ≡ with_lows_of l.places (drop l.literal-index l.cube) l.key.items
+abbrev pub invariant-loop-block : goal.invariant-loop-block
+invariant-loop-block l = record {
+  key : with_lows_of l.places l.cube [] ≡ with_lows_of l.places l.left l.key.items;
+  bytes : AreBytes l.left → AreBytes l.cube;
+}
+
+abbrev pub decreases-loop-block : goal.decreases-loop-block
+decreases-loop-block l = length l.left

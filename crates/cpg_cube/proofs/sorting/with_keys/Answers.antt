@@ -2,18 +2,21 @@ use Rattle.std.proofs.Common.{◌≡◌, ◌∙◌, List, [], All, arith, rules,
 use Rattle.std.proofs.lemmas.Grind.{common_steps}
 use Rattle.std.proofs.lemmas.List.Elements.{All-push}
 use Rattle.cpg_cube.specs.Cube.{Literal}
-use Rattle.cpg_cube.specs.Keys.{key_by}
+use Rattle.cpg_cube.specs.Keys.{AreBytes, IsKeyOf, key_by}
 use Rattle.cpg_cube.specs.declared.sorting.Ranked.{Ranked}
 use Rattle.cpg_cube.proofs.sorting.with_keys.Goals as goal
 
 pub loop-column-preserved : goal.loop-column-preserved
 loop-column-preserved g c =
     let i = c.loop-column.invariant in
-    let has_key = λ (x : Ranked g.row.T.Denot). x.key.items ≡ key_by c.args.variables.now (g.T.Cubed.cubed x.column) in
+    let has_key = λ (x : Ranked g.row.T.Denot). IsKeyOf c.args.variables.now (g.T.Cubed.cubed x.column) x.key.items in
     record {
       columns = grind (arith, common_steps);
       keys = subst (All has_key) (sym c.in_ok-push.ensures.items) (All-push has_key c.loop-column.ranked.items _ i.keys
-          (c.in_ok-key.ensures c.args.variables.now c.places_of-places.ensures ∙ ap (λ (ls : List Literal). key_by c.args.variables.now ls) c.cube.ensures));
+          (record {
+            is = c.in_ok-key.ensures.key c.args.variables.now c.places_of-places.ensures ∙ ap (λ (ls : List Literal). key_by c.args.variables.now ls) c.cube.ensures;
+            bytes = subst AreBytes c.cube.ensures c.in_ok-key.ensures.bytes;
+          }));
     }
 
 pub loop-column-init : goal.loop-column-init
@@ -21,7 +24,7 @@ loop-column-init g c =
     let none : c.reserve.new.self.items ≡ [] = c.in_ok-reserve.ensures.items ∙ c.new-ranked.ensures.items in
     record {
       columns = search rules;
-      keys = subst (All (λ (x : Ranked g.row.T.Denot). x.key.items ≡ key_by c.args.variables.now (g.T.Cubed.cubed x.column))) (sym none) (λ k d l. absurd (omega (arith, l)));
+      keys = subst (All (λ (x : Ranked g.row.T.Denot). IsKeyOf c.args.variables.now (g.T.Cubed.cubed x.column) x.key.items)) (sym none) (λ k d l. absurd (omega (arith, l)));
     }
 
 pub returns-clause-columns : goal.returns-clause-columns

@@ -10,4 +10,4 @@ pub returns-clause-rising : goal.returns-clause-rising
 returns-clause-rising c = rising_from 0 c.args.literals.now (sym c.do_variables_rise.ensures ∙ c.if-not-do_variables_rise.false)
 
 pub invariant_of-result : goal.invariant_of-result
-invariant_of-result c = rw c.in_ok-literals.ensures.ok (returns-clause-rising c)
+invariant_of-result c = rw c.in_ok-literals.ensures (returns-clause-rising c)
