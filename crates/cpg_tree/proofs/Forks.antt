@@ -7,7 +7,7 @@ use Rattle.cpg_base.specs.Scenario.{Scenario, number_of}
 use Rattle.cpg_tree.specs.declared.node.Node.{Node, Leaf, Fork'}
 use Rattle.cpg_tree.specs.Decision.{value_at, low_at, high_at, DoForksPass}
 use Rattle.cpg_tree.specs.Space.{Space, Lies}
-use Rattle.cpg_tree.specs.Results.{IsForkOf, IsJoinOf, IsMade, IsWithin}
+use Rattle.cpg_tree.specs.Results.{IsForkOf, IsJoinOf, IsPickOf, IsMade, IsWithin, picked}
 
 -- ---- what a scenario finds
 
@@ -102,6 +102,25 @@ pub join_whole : {T U V : Type 0} (answers : T → U → V → Type 0) (room : S
 join_whole answers room a b part r same made = made_weaker (Lies room) _ _ _ _ _ _ r made
     (λ s z d t. subst (λ y. answers (value_at a s) y z) (same.value s d) t)
     (λ s u d. omega (arith, same.lows s u d)) (λ k s u d. omega (arith, same.highs k s u d))
+
+-- and so is what a chooser picks
+pub pick_whole : {T : Type 0} (room : Space) (chooser : Node Bool) (on off on_part off_part r : Node T) → IsWithin room on on_part → IsWithin room off off_part →
+    IsPickOf room chooser on_part off_part r → IsPickOf room chooser on off r
+pick_whole {T} room chooser on off on_part off_part r same_on same_off made = made_weaker (Lies room) _ _ _ _ _ _ r made
+    (λ s z d t. t ∙ same_value (value_at chooser s) s d)
+    (λ s u d. omega (arith, same_low (value_at chooser s) s u d)) (λ k s u d. omega (arith, same_high (value_at chooser s) k s u d))
+  where
+    same_value : (b : Bool) (s : Scenario) → Lies room s → value_at (picked b on_part off_part) s ≡ value_at (picked b on off) s
+    same_value true s d = same_on.value s d
+    same_value false s d = same_off.value s d
+
+    same_low : (b : Bool) (s : Scenario) (u : ℕ) → Lies room s → low_at (picked b on_part off_part) s u ≤ low_at (picked b on off) s u
+    same_low true s u d = same_on.lows s u d
+    same_low false s u d = same_off.lows s u d
+
+    same_high : (b : Bool) (k : ℕ) (s : Scenario) (u : ℕ) → Lies room s → high_at k (picked b on off) s u ≤ high_at k (picked b on_part off_part) s u
+    same_high true k s u d = same_on.highs k s u d
+    same_high false k s u d = same_off.highs k s u d
 
 -- ---- of one tree
 

@@ -18,3 +18,4 @@ pub mod OnePath
 pub mod AtLeast
 pub mod Most
 pub mod Meetings
+pub mod Readings

@@ -10,3 +10,4 @@ pub mod Greater
 pub mod Bounds
 pub mod Later
 pub mod Meeting
+pub mod Read

@@ -41,23 +41,32 @@ impl Node<Option<u64>> {
                 sides,
             } => {
                 let (below, above) = &**sides;
+                let upper = Literal {
+                    variable: *variable,
+                    low: *cut + 1,
+                    high: top(k, *variable),
+                };
                 let low = cube.narrow(Literal {
                     variable: *variable,
                     low: 0,
                     high: *cut,
                 })?;
-                if let Some(low) = low {
-                    below.push_columns(k, cube, columns)?;
-                    cube.restore(low);
-                }
-                let high = cube.narrow(Literal {
-                    variable: *variable,
-                    low: *cut + 1,
-                    high: top(k, *variable),
-                })?;
-                if let Some(high) = high {
-                    above.push_columns(k, cube, columns)?;
-                    cube.restore(high);
+                match low {
+                    Some(low) => {
+                        below.push_columns(k, cube, columns)?;
+                        // in place, which is less work than the way back and down again
+                        if cube.exchange(low, upper) {
+                            above.push_columns(k, cube, columns)?;
+                            cube.restore(low);
+                        }
+                    }
+                    None => {
+                        let high = cube.narrow(upper)?;
+                        if let Some(high) = high {
+                            above.push_columns(k, cube, columns)?;
+                            cube.restore(high);
+                        }
+                    }
                 }
                 Ok(())
             }
@@ -77,6 +86,8 @@ impl Tree<Option<u64>> {
         let _processes = problem.processes();
         let mut whole = Cube::whole(self.alloc);
         let mut columns = Vec::new(self.alloc);
+        // room for all at once, as there are no more than leaves
+        columns.reserve(self.leaves().unwrap_or(0) as usize)?;
         self.root
             .push_columns(self.faults, &mut whole, &mut columns)?;
         Ok(columns)

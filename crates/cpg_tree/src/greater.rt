@@ -53,7 +53,7 @@ impl<T: Copy> Node<T> {
     }
 
     /// In each scenario of a space a value or the tree's number, whichever is greater.
-    fn at_least<R: Reading<T>>(
+    pub(crate) fn at_least<R: Reading<T>>(
         &self,
         alloc: Global,
         space: &mut Space,

@@ -7,6 +7,7 @@ mod greater;
 mod greatest;
 mod meeting;
 mod node;
+mod picking;
 mod reading;
 mod space;
 mod tally;

@@ -317,6 +317,9 @@ impl Node<bool> {
         ensures pass { IfOk result (λ r. (test : ℕ → Bool) → DoForksPass test self.now → DoForksPass test on.now →
             DoForksPass test off.now → DoForksPass test r) }
     {
+        // so that no leaf goes through them from their tops
+        let on = on.part_in(space);
+        let off = off.part_in(space);
         match self {
             Node::Leaf(is_on) => {
                 if *is_on {

@@ -103,32 +103,6 @@ impl Space {
         self.low[variable as usize]
     }
 
-    /// With the numbers up to the cut, where there are others.
-    pub fn below(&self, variable: u8, cut: u8) -> Space
-        ensures is { result ≡ below_cut self.now variable cut }
-        ensures lies { (s : Scenario) → Lies self.now s → number_of s variable ≤ cut → Lies result s }
-    {
-        let mut space = *self;
-        space.high[variable as usize] = cut;
-        space
-    }
-
-    /// With the numbers above the cut, where there are others.
-    pub fn above(&self, variable: u8, cut: u8) -> Space
-        requires below { is_open_below self.now variable cut ≡ true }
-        requires above { is_open_above self.now variable cut ≡ true }
-        ensures is { result ≡ above_cut self.now variable cut }
-        ensures lies { (s : Scenario) → Lies self.now s → cut < number_of s variable → Lies result s }
-    {
-        // that the high fits its type tells that `cut + 1` does
-        let _high = self.high[variable as usize];
-        let low = cut + 1;
-        let mut space = *self;
-        space.left -= faults_of(variable, low - self.low[variable as usize]);
-        space.low[variable as usize] = low;
-        space
-    }
-
     /// Leaves the numbers up to the cut, where there are others; the high of before, for `reopen_above`.
     pub fn close_above(&mut self, variable: u8, cut: u8) -> u8
         ensures is { self.new ≡ below_cut self.old variable cut }

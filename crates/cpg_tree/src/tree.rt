@@ -93,6 +93,7 @@ impl<T: Copy> Tree<T> {
     fn share(&self) -> Result<Tree<T>, OutOfMemory>
         ensures is { IfOk result (λ t. t ≡ self.now) }
         ensures each { IfOk result (λ t. HasOnePathEach t.faults t.paths) }
+        ensures tidy { IfOk result (λ t. All (IsTidyPath t.faults) t.paths) }
     {
         let root = self.root.clone()?;
         Ok(Tree {
@@ -222,6 +223,7 @@ impl Tree<Option<u64>> {
     fn raised(&self, least: u64) -> Result<Tree<Option<u64>>, OutOfMemory>
         ensures is { IfOk result (λ t. IsMap (λ x z. z ≡ Some (max (time_later 0 x) least)) self.now t) }
         ensures each { IfOk result (λ t. HasOnePathEach t.faults t.paths) }
+        ensures tidy { IfOk result (λ t. All (IsTidyPath t.faults) t.paths) }
         ensures pass { IfOk result (λ t. (test : ℕ → Bool) → DoPathsPass test self.now.paths → DoPathsPass test t.paths) }
     {
         self.map(&|time: Option<u64>| Some(time_or(time, least)))
@@ -232,6 +234,7 @@ impl Tree<Option<u64>> {
     pub fn no_earlier(&self, least: u64) -> Result<Tree<Option<u64>>, OutOfMemory>
         ensures is { IfOk result (λ t. IsMap (λ x z. z ≡ Some (max (time_later 0 x) least)) self.now t) }
         ensures each { IfOk result (λ t. HasOnePathEach t.faults t.paths) }
+        ensures tidy { IfOk result (λ t. All (IsTidyPath t.faults) t.paths) }
         ensures pass { IfOk result (λ t. (test : ℕ → Bool) → DoPathsPass test self.now.paths → DoPathsPass test t.paths) }
     {
         if self.is_at_least(least) {

@@ -1,0 +1,18 @@
+-- Trees whose leaves are read as numbers.
+use Rattle.std.specs.Prelude.{ℕ, Option, map}
+use Rattle.cpg_tree.specs.declared.node.Node.{Node, Leaf, Fork'}
+use Rattle.cpg_tree.specs.Later.{time_later}
+use Rattle.cpg_tree.specs.Tree.{Path, TreeState}
+
+-- the same forks with the number of each leaf
+abbrev pub read_by : {T : Type 0} → (T → ℕ) → Node T → Node ℕ
+read_by number (Leaf x) = Leaf (number x)
+read_by number (Fork' v cut p below above) = Fork' v cut p (read_by number below) (read_by number above)
+
+-- a path with its time or 0, later by a delay
+abbrev pub later_path : ℕ → Path (Option ℕ) → Path ℕ
+later_path delay path = (path.0, time_later delay path.1)
+
+-- the times of a tree, 0 where there are none, later by a delay
+abbrev pub later_by : ℕ → TreeState (Option ℕ) → TreeState ℕ
+later_by delay t = record { faults = t.faults; paths = map (later_path delay) t.paths }
