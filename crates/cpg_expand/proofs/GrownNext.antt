@@ -15,6 +15,7 @@ use Rattle.cpg_base.specs.Order.{place}
 use Rattle.cpg_order.proofs.Moments.{producer_in_range}
 use Rattle.cpg_base.proofs.Places.{Contains-order, same_place}
 use Rattle.cpg_cube.specs.Column.{Column}
+use Rattle.cpg_reach.specs.Walked.{on_node}
 use Rattle.cpg_run.specs.Run.{Times, IsRun}
 use Rattle.cpg_run.specs.Carried.{carried, queued}
 use Rattle.cpg_run.proofs.Runs.{time_is}
@@ -22,7 +23,7 @@ use Rattle.cpg_run.proofs.Sends.{Contains-take}
 use Rattle.cpg_run.proofs.Steps.{free_here, free_other}
 use Rattle.cpg_expand.specs.Agreeing.{Tells}
 use Rattle.cpg_expand.specs.Forest.{ForestState, times_of}
-use Rattle.cpg_expand.specs.Grown.{RowsHold, IsFreeLine, Lines, SendLines, IsEarlier, IsDone, AreSettledOf, IsGrown, IsSending, on_node}
+use Rattle.cpg_expand.specs.Grown.{RowsHold, IsFreeLine, Lines, SendLines, IsEarlier, IsDone, AreSettledOf, IsGrown, IsSending}
 use Rattle.cpg_expand.specs.Sent.{IsFreeOnce, sent_before, sent_so_far}
 use Rattle.cpg_expand.specs.Waited.{IsQueuedFor}
 use Rattle.cpg_expand.specs.Waiting.{free_of}

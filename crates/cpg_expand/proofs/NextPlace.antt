@@ -14,6 +14,7 @@ use Rattle.cpg_order.proofs.Moments.{moment}
 use Rattle.cpg_base.proofs.Places.{Contains-order, get_or-place, place-lt}
 use Rattle.cpg_cube.specs.declared.literal.Literal.{Literal}
 use Rattle.cpg_cube.specs.Column.{Column}
+use Rattle.cpg_reach.specs.Walked.{on_node}
 use Rattle.cpg_run.specs.Run.{Times, IsRun, end_in, heard_there}
 use Rattle.cpg_run.specs.Carried.{passed}
 use Rattle.cpg_run.specs.Frozen.{IsFrozenTime}
@@ -26,7 +27,7 @@ use Rattle.cpg_run.proofs.Settled.{frozen_time_kept, frozen_time_set}
 use Rattle.cpg_run.proofs.Steps.{ready_other, ready_idle, ready_active}
 use Rattle.cpg_tree.specs.Tree.{TreeState}
 use Rattle.cpg_expand.specs.Agreeing.{Tells}
-use Rattle.cpg_expand.specs.Grown.{on_node, IsReadyLine, AreSettledOf}
+use Rattle.cpg_expand.specs.Grown.{IsReadyLine, AreSettledOf}
 use Rattle.cpg_expand.proofs.AgreeingTrees.{agrees_weaker}
 
 module _ (g : Graph) (order : List ℕ) (topological : IsTopological g order) (i p : ℕ) (l : p < process_count g) (at : place order p ≡ i) where

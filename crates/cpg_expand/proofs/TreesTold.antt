@@ -16,6 +16,7 @@ use Rattle.cpg_order.specs.Guard.{Guard, Leaf, Test, outcome_at, way}
 use Rattle.cpg_cube.specs.declared.literal.Literal.{Literal}
 use Rattle.cpg_table.specs.Heard.{exactly}
 use Rattle.cpg_tree.specs.Space.{HasFew}
+use Rattle.cpg_tree.specs.Read.{later_path, later_by}
 use Rattle.cpg_tree.specs.Tree.{Path, TreeState, is_on, IsOn, HasOnePathEach, DoPathsPass, IsConstant, IsMap, IsJoin, IsPick, IsNumber}
 use Rattle.cpg_tree.specs.Variables.{is_variable}
 use Rattle.cpg_tree.proofs.Spaces.{number_le_top}
@@ -29,7 +30,7 @@ use Rattle.cpg_expand.specs.Sending.{IsTestedTree, IsSentTree, IsFreeTree}
 use Rattle.cpg_expand.specs.Ending.{durations_of, IsEndTree, IsReadyTree}
 use Rattle.cpg_expand.specs.Waiting.{ready_of, IsWaitTree}
 use Rattle.cpg_expand.specs.Later.{IsLaterTree, IsNoMore, IsLatest}
-use Rattle.cpg_expand.specs.Forest.{ForestState, HasTrees, IsWait, no_tree, times_of, ends_of, as_times, later_tree, ready_at, heard_tree, heard_delay, input_tree, input_delay}
+use Rattle.cpg_expand.specs.Forest.{ForestState, HasTrees, IsWait, no_tree, times_of, ends_of, later_tree, ready_at, heard_tree, heard_delay, input_tree, input_delay}
 use Rattle.cpg_expand.specs.declared.forest.Ready.{Ready}
 use Rattle.cpg_expand.specs.declared.forest.Ready.TheVariants.{At}
 use Rattle.cpg_expand.specs.Guarded.{value_known, values_known, PicksByValue, IsActiveTree, told_of, latest_of, IsHeardTree, IsStartAfter, awaited, start_says, start_at, IsStartBy, IsStartTree}
@@ -67,33 +68,48 @@ later_tells g delay tree t is made s few ls x tells =
     agrees_map s (λ y z. z ≡ time_later delay y) tree t ls (λ y. y ≡ x) (λ y. y ≡ time_later delay x) (few_of g.faults tree.faults s is.faults few) (each_of g tree.faults tree is.faults is) made
     (λ y z e f. f ∙ ap (time_later delay) e) tells
 
--- ---- ends that tell when a node is ready
+-- ---- times that are later tell when a node is ready
 
-module _ (s : Scenario) (t : TreeState (Option ℕ)) (ls : List Literal) where
-  on_times : (z : Path (Option ℕ)) → IsOn t.paths s z → IsOn (later_tree t).paths s (as_times z)
-  on_times z on = record { stands = Contains-map as_times t.paths z on.stands; matched = on.matched }
+module _ (delay : ℕ) (s : Scenario) (t : TreeState (Option ℕ)) (ls : List Literal) where
+  on_times : (z : Path (Option ℕ)) → IsOn t.paths s z → IsOn (later_by delay t).paths s (later_path delay z)
+  on_times z on = record { stands = Contains-map (later_path delay) t.paths z on.stands; matched = on.matched }
 
-  of_times : (z : Path ℕ) → IsOn (later_tree t).paths s z → (x : Path (Option ℕ)) × IsOn t.paths s x × (as_times x ≡ z)
+  of_times : (z : Path ℕ) → IsOn (later_by delay t).paths s z → (x : Path (Option ℕ)) × IsOn t.paths s x × (later_path delay x ≡ z)
   of_times z on =
-      let r = Contains-map_parts as_times t.paths z on.stands in
+      let r = Contains-map_parts (later_path delay) t.paths z on.stands in
       (r.0, record { stands = r.1; matched = subst (λ (w : Path ℕ). IsTrue (is_on s w)) (sym r.2) on.matched }, r.2)
 
-  pub from_ends : (x : ℕ) → Tells s ls x (later_tree t) → Agrees s ls (λ y. time_later 0 y ≡ x) t
-  from_ends x tells = record {
-    value = λ z on. tells.value (as_times z) (on_times z on);
-    says = λ z on. tells.says (as_times z) (on_times z on);
+  pub from_times : (x : ℕ) → Tells s ls x (later_by delay t) → Agrees s ls (λ y. time_later delay y ≡ x) t
+  from_times x tells = record {
+    value = λ z on. tells.value (later_path delay z) (on_times z on);
+    says = λ z on. tells.says (later_path delay z) (on_times z on);
   }
 
-  pub to_ends : (y : Option ℕ) → Tells s ls y t → Tells s ls (time_later 0 y) (later_tree t)
-  to_ends y tells = record {
-    value = λ z on. let r = of_times z on in subst (λ (w : Path ℕ). w.1 ≡ time_later 0 y) r.2 (ap (time_later 0) (tells.value r.0 r.1));
+  pub to_times : (y : Option ℕ) → Tells s ls y t → Tells s ls (time_later delay y) (later_by delay t)
+  to_times y tells = record {
+    value = λ z on. let r = of_times z on in subst (λ (w : Path ℕ). w.1 ≡ time_later delay y) r.2 (ap (time_later delay) (tells.value r.0 r.1));
     says = λ z on. let r = of_times z on in subst (λ (w : Path ℕ). ContainsKept t.faults w.0 ls) r.2 (tells.says r.0 r.1);
   }
 
+pub later_is : (g : Graph) (delay : ℕ) (tree : TreeState (Option ℕ)) → IsLaterTree g.faults delay tree (later_by delay tree)
+later_is g delay tree s few ls x tells = to_times delay s tree ls x tells
+
+no_more_by : (g : Graph) (delay : ℕ) (tree : TreeState (Option ℕ)) (t : TreeState ℕ) → IsTree g tree → IsMap (λ x z. z ≡ time_later delay x) tree t → IsNoMore g.faults (later_by delay tree) t
+no_more_by g delay tree t is made s few ls x tells =
+    agrees_map s (λ y z. z ≡ time_later delay y) tree t ls (λ y. time_later delay y ≡ x) (λ z. z ≡ x) (few_of g.faults tree.faults s is.faults few) (each_of g tree.faults tree is.faults is) made
+    (λ y z e f. f ∙ e) (from_times delay s tree ls x tells)
+
+-- ---- ends that tell when a node is ready
+
+module _ (s : Scenario) (t : TreeState (Option ℕ)) (ls : List Literal) where
+  pub from_ends : (x : ℕ) → Tells s ls x (later_tree t) → Agrees s ls (λ y. time_later 0 y ≡ x) t
+  from_ends x tells = from_times 0 s t ls x tells
+
+  pub to_ends : (y : Option ℕ) → Tells s ls y t → Tells s ls (time_later 0 y) (later_tree t)
+  to_ends y tells = to_times 0 s t ls y tells
+
 pub no_more : (g : Graph) (tree : TreeState (Option ℕ)) (t : TreeState ℕ) → IsTree g tree → IsMap (λ x z. z ≡ time_later 0 x) tree t → IsNoMore g.faults (later_tree tree) t
-no_more g tree t is made s few ls x tells =
-    agrees_map s (λ y z. z ≡ time_later 0 y) tree t ls (λ y. time_later 0 y ≡ x) (λ z. z ≡ x) (few_of g.faults tree.faults s is.faults few) (each_of g tree.faults tree is.faults is) made
-    (λ y z e f. f ∙ e) (from_ends s tree ls x tells)
+no_more g tree t is made = no_more_by g 0 tree t is made
 
 pub later_from : (k : ℕ) (tree : TreeState (Option ℕ)) (t : TreeState ℕ) → IsNoMore k (later_tree tree) t → IsLaterTree k 0 tree t
 later_from k tree t none s few ls x tells = none s few ls (time_later 0 x) (to_ends s tree ls x tells)
@@ -113,6 +129,33 @@ latest_ends g end there t of_end of_there made s few first second x y tells othe
     (λ z e. omega (arith, e))
     (agrees_join s (λ a b z. z ≡ max a (time_later 0 b)) there end t second first (λ z. z ≡ y) (λ z. time_later 0 z ≡ x) (λ z. z ≡ max y x) (few_of g.faults there.faults s of_there.faults few) (of_end.faults ∙ sym of_there.faults)
     (each_of g there.faults there of_there.faults of_there) (each_of g there.faults end of_there.faults of_end) made (λ a b z d e i. i ∙ ap₂ max d e) other (from_ends s end first x tells))
+
+-- where one is a frame
+pub latest_frame : (g : Graph) (delay : ℕ) (ready : TreeState ℕ) (times : TreeState (Option ℕ)) (t : TreeState ℕ) → IsTree g ready → IsTree g times → IsJoin (λ x y z. z ≡ max x (time_later delay y)) ready times t →
+    IsLatest g.faults ready (later_by delay times) t
+latest_frame g delay ready times t of_ready of_times made s few first second x y tells other =
+    agrees_join s (λ a b z. z ≡ max a (time_later delay b)) ready times t first second (λ z. z ≡ x) (λ z. time_later delay z ≡ y) (λ z. z ≡ max x y) (few_of g.faults ready.faults s of_ready.faults few) (of_times.faults ∙ sym of_ready.faults)
+    (each_of g ready.faults ready of_ready.faults of_ready) (each_of g ready.faults times of_ready.faults of_times) made (λ a b z d e i. i ∙ ap₂ max d e) tells (from_times delay s times second y other)
+
+-- and the other are ends
+pub latest_ends_frame : (g : Graph) (delay : ℕ) (end times : TreeState (Option ℕ)) (there t : TreeState ℕ) → IsTree g end → IsTree g times → IsTree g there → IsMap (λ x z. z ≡ time_later delay x) times there →
+    IsJoin (λ x y z. z ≡ max x (time_later 0 y)) there end t → IsLatest g.faults (later_tree end) (later_by delay times) t
+latest_ends_frame g delay end times there t of_end of_times of_there later made s few first second x y tells other =
+    latest_ends g end there t of_end of_there made s few first second x y tells (no_more_by g delay times there of_times later s few second y other)
+
+-- trees that are read of a forest
+pub read_and_frame : (g : Graph) (delay d : ℕ) (ready : TreeState ℕ) (times read : TreeState (Option ℕ)) (t : TreeState ℕ) → delay ≡ d → times ≡ read → IsTree g ready → IsTree g times →
+    IsJoin (λ x y z. z ≡ max x (time_later delay y)) ready times t → IsLatest g.faults ready (later_by d read) t
+read_and_frame g delay d ready times read t e is of_ready of_times made =
+    subst (λ (n : ℕ). IsLatest g.faults ready (later_by n read) t) e (subst (λ (u : TreeState (Option ℕ)). IsLatest g.faults ready (later_by delay u) t) is (latest_frame g delay ready times t of_ready of_times made))
+
+pub ends_and_frame : (g : Graph) (delay d : ℕ) (end read_end times read : TreeState (Option ℕ)) (there t : TreeState ℕ) → delay ≡ d → end ≡ read_end → times ≡ read → IsTree g end → IsTree g times → IsTree g there →
+    IsMap (λ x z. z ≡ time_later delay x) times there → IsJoin (λ x y z. z ≡ max x (time_later 0 y)) there end t → IsLatest g.faults (later_tree read_end) (later_by d read) t
+ends_and_frame g delay d end read_end times read there t e is_end is of_end of_times of_there later made =
+    subst (λ (n : ℕ). IsLatest g.faults (later_tree read_end) (later_by n read) t) e
+    (subst (λ (u : TreeState (Option ℕ)). IsLatest g.faults (later_tree read_end) (later_by delay u) t) is
+    (subst (λ (u : TreeState (Option ℕ)). IsLatest g.faults (later_tree u) (later_by delay times) t) is_end
+    (latest_ends_frame g delay end times there t of_end of_times of_there later made)))
 
 -- ---- the tree that a condition's value picks
 
@@ -306,13 +349,11 @@ module _ (g : Graph) (f : ForestState) (node c : ℕ) (t : TreeState ℕ) where
   pub heard_other : (node_of g (process_of g c) ≡ node → ⊥) → IsLaterTree g.faults (slot_length g (home g (broadcast_item g c))) (times_of g f (broadcast_item g c)) t → IsLaterTree g.faults (heard_delay g node c) (heard_tree g f node c) t
   heard_other e is = heard_if false (ne_eqb (node_of g (process_of g c)) node e) is
 
-module _ (g : Graph) (f : ForestState) (e : ℕ) (t : TreeState ℕ) where
-  input_if : (d : Bool) → is_message g e ≡ d → IsLaterTree g.faults (if d then slot_length g (home g (message_item g e)) else 0) (if d then times_of g f (message_item g e) else ends_of g f (source g e)) t →
-      IsLaterTree g.faults (input_delay g e) (input_tree g f e) t
-  input_if d i is = subst (λ (b : Bool). IsLaterTree g.faults (if b then slot_length g (home g (message_item g e)) else 0) (if b then times_of g f (message_item g e) else ends_of g f (source g e)) t) (sym i) is
-
-  pub input_message : is_message g e ≡ true → IsLaterTree g.faults (slot_length g (home g (message_item g e))) (times_of g f (message_item g e)) t → IsLaterTree g.faults (input_delay g e) (input_tree g f e) t
-  input_message i is = input_if true i is
+-- a frame that brings an input
+pub latest_input : (g : Graph) (f : ForestState) (e : ℕ) (wait t : TreeState ℕ) → is_message g e ≡ true →
+    IsLatest g.faults wait (later_by (slot_length g (home g (message_item g e))) (times_of g f (message_item g e))) t → IsLatest g.faults wait (later_by (input_delay g e) (input_tree g f e)) t
+latest_input g f e wait t message latest =
+    subst (λ (d : Bool). IsLatest g.faults wait (later_by (if d then slot_length g (home g (message_item g e)) else 0) (if d then times_of g f (message_item g e) else ends_of g f (source g e))) t) (sym message) latest
 
 -- ---- what holds of all of a list holds of its parts
 

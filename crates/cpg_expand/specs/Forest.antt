@@ -1,10 +1,10 @@
 -- The trees that are found along an order.
-use Rattle.std.specs.Prelude.{ℕ, ◌≡◌, ◌==◌, List, [], Option, length, get_or, map, All, ◌<◌, if◌then◌else◌}
+use Rattle.std.specs.Prelude.{ℕ, ◌≡◌, ◌==◌, List, [], Option, length, get_or, All, ◌<◌, if◌then◌else◌}
 use Rattle.cpg_base.specs.Bus.{slot_length}
 use Rattle.cpg_base.specs.Graph.{Graph, process_count, item_count, node_of, source, process_of, is_message, message_item, broadcast_item, home}
-use Rattle.cpg_tree.specs.Tree.{Path, TreeState}
+use Rattle.cpg_tree.specs.Read.{later_by}
+use Rattle.cpg_tree.specs.Tree.{TreeState}
 use Rattle.cpg_expand.specs.Agreeing.{IsTree}
-use Rattle.cpg_expand.specs.Values.{time_later}
 use Rattle.cpg_expand.specs.declared.forest.Ready.{Ready}
 use Rattle.cpg_expand.specs.declared.forest.Ready.TheVariants.{After, At}
 
@@ -46,11 +46,8 @@ abbrev pub ends_of : Graph → ForestState → ℕ → TreeState (Option ℕ)
 ends_of g f p = get_or f.ends p (no_tree g.faults)
 
 -- the times of a tree, 0 where there are none
-abbrev pub as_times : Path (Option ℕ) → Path ℕ
-as_times path = (path.0, time_later 0 path.1)
-
 abbrev pub later_tree : TreeState (Option ℕ) → TreeState ℕ
-later_tree t = record { faults = t.faults; paths = map as_times t.paths }
+later_tree t = later_by 0 t
 
 abbrev pub ready_by : Graph → ForestState → Ready → TreeState ℕ
 ready_by g f (After q) = later_tree (ends_of g f q)

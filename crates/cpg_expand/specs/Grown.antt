@@ -1,5 +1,5 @@
 -- What is kept along an order: the trees so far tell each run under the frozen times so far, whatever rows hold what they list.
-use Rattle.std.specs.Prelude.{ℕ, ◌+◌, ◌≡◌, ◌≢◌, ◌<◌, ◌≤◌, ◌==◌, ◌⊎◌, true, false, List, Option, Some, None, All, Contains, filter, take, length, get_or}
+use Rattle.std.specs.Prelude.{ℕ, ◌+◌, ◌≡◌, ◌≢◌, ◌<◌, ◌≤◌, ◌⊎◌, true, false, List, Option, Some, None, All, Contains, take, length, get_or}
 use Rattle.std.specs.List.{flat_map}
 use Rattle.cpg_base.specs.Graph.{Graph, process_count, item_count, node_of, is_frozen, is_sent, producer}
 use Rattle.cpg_base.specs.Scenario.{Scenario, IsScenario}
@@ -7,6 +7,7 @@ use Rattle.cpg_order.specs.Urgency.{IsTopological}
 use Rattle.cpg_base.specs.Order.{place}
 use Rattle.cpg_bus.specs.Plan.{queue_of}
 use Rattle.cpg_cube.specs.Column.{Column}
+use Rattle.cpg_reach.specs.Walked.{on_node}
 use Rattle.cpg_run.specs.Run.{Times, IsRun}
 use Rattle.cpg_run.specs.Frozen.{IsFrozenTime}
 use Rattle.cpg_run.specs.Progress.{IsReady, IsFree}
@@ -20,10 +21,6 @@ use Rattle.cpg_expand.specs.Waited.{IsQueuedFor, IsWaitedFor}
 use Rattle.cpg_expand.specs.Waiting.{ready_of, free_of}
 use Rattle.cpg_expand.specs.declared.forest.Ready.{Ready}
 use Rattle.cpg_expand.specs.declared.forest.Ready.TheVariants.{After, At}
-
--- the processes before the place i that are on a node
-abbrev pub on_node : Graph → List ℕ → ℕ → ℕ → List ℕ
-on_node g order i node = filter (λ q. node_of g q == node) (take i order)
 
 -- rows in which what is sent for the processes before the place i has the columns that its tree lists
 pub record RowsHold (g : Graph) (order : List ℕ) (i : ℕ) (f : ForestState) (rows : List (List Column)) : Type 0 where

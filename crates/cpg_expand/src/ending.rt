@@ -8,7 +8,7 @@ ghost use Rattle.cpg_expand.specs.Ending.{IsEndTree, IsReadyAfter, IsReadyTree, 
 ghost use Rattle.cpg_expand.specs.Forest.{HasTrees, IsWait, ready_by};
 
 use crate::forest::{Forest, Ready};
-use crate::values::{ends, later};
+use crate::values::ends;
 use cpg_base::{OutOfMemory, Problem};
 use cpg_tree::{Tree, fault};
 use std::alloc::Global;
@@ -59,8 +59,7 @@ fn end_or(
     ensures tree { IfOk result (IsTree problem.now) }
     ensures ready { IfOk result (IsReadyTree problem.now.faults active.now end.now wait.now) }
 {
-    let after = later(end, 0)?;
-    let ready = Tree::pick(active, &after, wait)?;
+    let ready = active.pick_later(end, 0, wait)?;
     Ok(ready)
 }
 

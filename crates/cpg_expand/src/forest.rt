@@ -7,6 +7,7 @@ ghost use Rattle.cpg_expand.specs.Grown.{IsBare, IsReadyFirst};
 ghost use Rattle.cpg_expand.specs.Guarded.{IsStartAfter};
 ghost use Rattle.cpg_expand.specs.Later.{IsLaterTree, IsLatest, IsNoMore};
 ghost use Rattle.cpg_base.specs.Bus.{slot_length};
+ghost use Rattle.cpg_tree.specs.Read.{later_by};
 ghost use Rattle.cpg_tree.specs.Tree.{IsConstant};
 
 use crate::values::{later, started};
@@ -123,18 +124,6 @@ impl Forest {
         Ok(there)
     }
 
-    /// The times at which an input from another node is there.
-    pub(crate) fn input_there(&self, problem: &Problem, edge: u32) -> Result<Tree<u64>, OutOfMemory>
-        requires forest { HasTrees problem.now self.now }
-        requires edge { edge < edge_count problem.now }
-        requires message { is_message problem.now edge ≡ true }
-        ensures tree { IfOk result (IsTree problem.now) }
-        ensures later { IfOk result (IsLaterTree problem.now.faults (input_delay problem.now edge) (input_tree problem.now self.now edge)) }
-    {
-        let there = self.frame_there(problem, problem.message_item(edge))?;
-        Ok(there)
-    }
-
     /// The ends of a process, 0 where it isn't active.
     pub(crate) fn end_there(
         &self,
@@ -197,6 +186,54 @@ impl Forest {
                 Ok(both)
             }
         }
+    }
+
+    /// The times from which on a node is ready and a frame is there.
+    fn ready_and_frame(
+        &self,
+        problem: &Problem,
+        ready: &Ready,
+        item: u32,
+    ) -> Result<Tree<u64>, OutOfMemory>
+        requires forest { HasTrees problem.now self.now }
+        requires ready { IsWait problem.now ready.now }
+        requires item { item < item_count problem.now }
+        ensures tree { IfOk result (IsTree problem.now) }
+        ensures both { IfOk result (IsLatest problem.now.faults (ready_by problem.now self.now ready.now)
+            (later_by (slot_length problem.now (home problem.now item)) (times_of problem.now self.now item))) }
+    {
+        let delay = problem.slot_length(problem.home(item));
+        let times = &self.times[item as usize];
+        match ready {
+            Ready::After(process) => {
+                let there = later(times, delay)?;
+                let both = there.max_later(&self.ends[*process as usize], 0)?;
+                Ok(both)
+            }
+            Ready::At(tree) => {
+                let both = tree.max_later(times, delay)?;
+                Ok(both)
+            }
+        }
+    }
+
+    /// The times from which on a node is ready and an input from another node is there.
+    pub(crate) fn ready_and_input(
+        &self,
+        problem: &Problem,
+        ready: &Ready,
+        edge: u32,
+    ) -> Result<Tree<u64>, OutOfMemory>
+        requires forest { HasTrees problem.now self.now }
+        requires ready { IsWait problem.now ready.now }
+        requires edge { edge < edge_count problem.now }
+        requires message { is_message problem.now edge ≡ true }
+        ensures tree { IfOk result (IsTree problem.now) }
+        ensures both { IfOk result (IsLatest problem.now.faults (ready_by problem.now self.now ready.now)
+            (later_by (input_delay problem.now edge) (input_tree problem.now self.now edge))) }
+    {
+        let both = self.ready_and_frame(problem, ready, problem.message_item(edge))?;
+        Ok(both)
     }
 
     /// The starts of a process on a node once it is ready and at a release or later.

@@ -174,8 +174,7 @@ fn start_after(
         let start = start_after(problem, forest, wait, release, others)?;
         return Ok(start);
     }
-    let there = forest.input_there(problem, *edge)?;
-    let both = Ready::At(forest.ready_and(problem, wait, &there)?);
+    let both = Ready::At(forest.ready_and_input(problem, wait, *edge)?);
     let start = start_after(problem, forest, &both, release, others)?;
     Ok(start)
 }

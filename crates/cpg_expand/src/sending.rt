@@ -159,14 +159,15 @@ fn freed(
         IsQueuedFor problem.now order.now (place order.now (producer problem.now item)) (home problem.now item) →
         IsFreeTree problem.now.faults round goes.now sent.now free.now t) }
 {
-    let after = later(sent, round)?;
     if goes.is_true() {
+        let after = later(sent, round)?;
         return Ok(after);
     }
     if !is_queued_for(problem, order, item) {
+        let after = later(sent, round)?;
         return Ok(after);
     }
-    let freed = Tree::pick(goes, &after, free)?;
+    let freed = goes.pick_later(sent, round, free)?;
     Ok(freed)
 }
 

@@ -2,9 +2,10 @@ use Rattle.std.proofs.Common.{ℕ, ◌<◌, ◌∙◌, List, arith, sym, subst}
 use Rattle.std.proofs.lemmas.List.{nil_from_length}
 use Rattle.std.proofs.lemmas.Option.{MatchOption-at_none}
 use Rattle.cpg_base.specs.Graph.{edge_count}
-use Rattle.cpg_expand.specs.Forest.{ready_by}
+use Rattle.cpg_tree.specs.Read.{later_by}
+use Rattle.cpg_expand.specs.Forest.{input_delay, input_tree, ready_by}
 use Rattle.cpg_expand.specs.Guarded.{IsStartAfter}
-use Rattle.cpg_expand.proofs.TreesTold.{all_parts, one_input, own_input}
+use Rattle.cpg_expand.proofs.TreesTold.{all_parts, later_is, one_input, own_input}
 use Rattle.cpg_expand.proofs.guarded.+start_after.Goals as goal
 
 pub returns-in_default-clause-start : goal.returns-in_default-clause-start
@@ -24,7 +25,7 @@ start_after-requires-2 t c =
     let below = all_parts (λ e. e < edge_count c.args.problem.now) c.args.edges.now c.in-Some.edge.now c.in-Some.others.now c.in-Some.ensures.cases.0 c.requires.edges in
     let shorter = c.in-Some.ensures.cases.1 in
     let at = c.decreases in
-    (omega arith, (c.requires.forest, (c.in_ok-ready_and.ensures.tree, below.1)))
+    (omega arith, (c.requires.forest, (c.in_ok-ready_and_input.ensures.tree, below.1)))
 
 pub returns-clause-start : goal.returns-clause-start
 returns-clause-start t c =
@@ -32,4 +33,5 @@ returns-clause-start t c =
     let f = c.args.forest.now in
     let wait = ready_by g f c.args.wait.now in
     subst (λ (es : List ℕ). IsStartAfter g f wait c.args.release es c.in_ok-start-3.start) (sym c.in-Some.ensures.cases.0)
-    (one_input g f wait c.in_ok-there.there c.in_ok-ready_and.field-0 c.in_ok-start-3.start c.args.release c.in-Some.edge.now c.in-Some.others.now c.in_ok-there.ensures.later c.in_ok-ready_and.ensures.both c.in_ok-start-3.ensures.start)
+    (one_input g f wait (later_by (input_delay g c.in-Some.edge.now) (input_tree g f c.in-Some.edge.now)) c.in_ok-ready_and_input.field-0 c.in_ok-start-3.start c.args.release c.in-Some.edge.now c.in-Some.others.now
+    (later_is g (input_delay g c.in-Some.edge.now) (input_tree g f c.in-Some.edge.now)) c.in_ok-ready_and_input.ensures.both c.in_ok-start-3.ensures.start)

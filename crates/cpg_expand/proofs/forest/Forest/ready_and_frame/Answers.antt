@@ -1,0 +1,55 @@
+use Rattle.std.proofs.Common.{ℕ, ◌<◌, ◌≡◌, ◌∙◌, Option, refl, sym, ap, subst}
+use Rattle.cpg_base.specs.Bus.{slot_length}
+use Rattle.cpg_base.specs.Graph.{home, process_count}
+use Rattle.cpg_tree.specs.Read.{later_by}
+use Rattle.cpg_tree.specs.Variables.{is_variable}
+use Rattle.cpg_expand.specs.Agreeing.{IsTree}
+use Rattle.cpg_expand.specs.Forest.{ForestState, IsWait, ends_of, ready_by, times_of}
+use Rattle.cpg_expand.specs.Later.{IsLatest}
+use Rattle.cpg_expand.specs.declared.forest.Ready.{Ready}
+use Rattle.cpg_expand.proofs.TreesTold.{ends_and_frame, ends_read, ends_tree, read_and_frame, same_tree, times_read, times_tree}
+use Rattle.cpg_expand.proofs.forest.Forest.ready_and_frame.Goals as goal
+
+pub returns-in_ok-both-in-After : goal.returns-in_ok-both-in-After
+returns-in_ok-both-in-After c =
+    let g = c.args.problem.now in
+    let f = c.args.self.now in
+    let x = c.args.item in
+    let p = c.in-After.process in
+    let times = c.index-times.result.now in
+    let end = c.index.result.now in
+    let there = c.in_ok-there-in-After.there in
+    let both = c.in_ok-both-in-After.both in
+    let delay = c.slot_length-delay.result in
+    let l : p < process_count g = subst (IsWait g) c.in-After.is c.requires.ready in
+    let inside : ForestState = record { times = c.self.inside.times.items; ends = c.self.inside.ends.items; ready = c.self.inside.ready.items; free = c.self.inside.free.items } in
+    let same : times ≡ times_of g f x = times_read g f c.requires.forest inside c.self.view_is times x x c.index-times.ensures refl c.requires.item in
+    let same_end : end ≡ ends_of g f p = ends_read g f c.requires.forest inside c.self.view_is end p p c.index.ensures refl l in
+    let of_times : IsTree g times = subst (IsTree g) (sym same) (times_tree g f c.requires.forest x c.requires.item) in
+    let of_end : IsTree g end = subst (IsTree g) (sym same_end) (ends_tree g f c.requires.forest p l) in
+    let of_there : IsTree g there = same_tree g times there of_times.faults c.in_ok-there-in-After.ensures.is.faults c.in_ok-there-in-After.ensures.each (c.in_ok-there-in-After.ensures.pass (is_variable g) of_times.known) in
+    record {
+      tree = same_tree g there both of_there.faults c.in_ok-both-in-After.ensures.is.faults c.in_ok-both-in-After.ensures.each (c.in_ok-both-in-After.ensures.pass (is_variable g) of_there.known of_end.known);
+      both = subst (λ (r : Ready). IsLatest g.faults (ready_by g f r) (later_by (slot_length g (home g x)) (times_of g f x)) both) (sym c.in-After.is)
+          (ends_and_frame g delay (slot_length g (home g x)) end (ends_of g f p) times (times_of g f x) there both (c.slot_length-delay.ensures ∙ ap (slot_length g) c.home.ensures.home) same_end same of_end of_times of_there
+          c.in_ok-there-in-After.ensures.is c.in_ok-both-in-After.ensures.is);
+    }
+
+pub returns-in_ok-both-in-At : goal.returns-in_ok-both-in-At
+returns-in_ok-both-in-At c =
+    let g = c.args.problem.now in
+    let f = c.args.self.now in
+    let x = c.args.item in
+    let times = c.index-times.result.now in
+    let ready = c.in-At.tree in
+    let both = c.in_ok-both-in-At.both in
+    let delay = c.slot_length-delay.result in
+    let of : IsTree g ready = subst (IsWait g) c.in-At.is c.requires.ready in
+    let inside : ForestState = record { times = c.self.inside.times.items; ends = c.self.inside.ends.items; ready = c.self.inside.ready.items; free = c.self.inside.free.items } in
+    let same : times ≡ times_of g f x = times_read g f c.requires.forest inside c.self.view_is times x x c.index-times.ensures refl c.requires.item in
+    let of_times : IsTree g times = subst (IsTree g) (sym same) (times_tree g f c.requires.forest x c.requires.item) in
+    record {
+      tree = same_tree g ready both of.faults c.in_ok-both-in-At.ensures.is.faults c.in_ok-both-in-At.ensures.each (c.in_ok-both-in-At.ensures.pass (is_variable g) of.known of_times.known);
+      both = subst (λ (r : Ready). IsLatest g.faults (ready_by g f r) (later_by (slot_length g (home g x)) (times_of g f x)) both) (sym c.in-At.is)
+          (read_and_frame g delay (slot_length g (home g x)) ready times (times_of g f x) both (c.slot_length-delay.ensures ∙ ap (slot_length g) c.home.ensures.home) same of of_times c.in_ok-both-in-At.ensures.is);
+    }
