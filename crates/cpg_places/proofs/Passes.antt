@@ -24,3 +24,8 @@ module _ {T : Type 0} (fact : T → Scenario → Type 0) (room : Space) (v cut :
     | inl h ↦ from_side s (value_at above s) (value_at (Fork' v cut p below above) s) (value_above v cut p below above s h) (of_above s lies h)
     | inr h ↦ from_side s (value_at below s) (value_at (Fork' v cut p below above) s) (value_below v cut p below above s h) (of_below s lies h)
   ])
+
+-- what is told beside a tree that has the same values in the space
+pub told_beside : {T U : Type 0} (fact : T → U → Scenario → Type 0) (room : Space) (first : Node T) (part second : Node U) → ((s : Scenario) → Lies room s → value_at part s ≡ value_at second s) →
+    IsToldAll (λ x s. fact x (value_at part s) s) room first → IsToldAll (λ x s. fact x (value_at second s) s) room first
+told_beside fact room first part second same all s lies = subst (λ y. fact (value_at first s) y s) (same s lies) (all s lies)

@@ -6,7 +6,7 @@ ghost use Rattle.cpg_tree.specs.Space.{Lies};
 ghost use Rattle.cpg_tree.specs.Decision.{value_at};
 ghost use Rattle.cpg_places.specs.Places.{IsAmong};
 
-use crate::walk::Test;
+use crate::walk::{Test, part_of};
 use cpg_base::OutOfMemory;
 use cpg_tree::{Node, Space};
 
@@ -86,7 +86,9 @@ pub(crate) fn gather<J: Test>(
     ensures found { IfOk result (λ all. OnTrue all ((s : Scenario) → Lies space.now s → J.tells test.now (value_at node.now s) s ×
         IsAmong found.new.items (value_at node.now s))) }
 {
+    // mostly it comes to one place
+    let part = part_of(node, space);
     let mut own = *space;
-    let all = gather_each(node, &mut own, test, found)?;
+    let all = gather_each(part, &mut own, test, found)?;
     Ok(all)
 }

@@ -9,4 +9,4 @@ mod walk;
 
 pub use places::Places;
 pub use trees::tree_of;
-pub use walk::Test;
+pub use walk::{PairTest, Test};

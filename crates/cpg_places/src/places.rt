@@ -1,6 +1,7 @@
 //! The tree of the places of cubes of which no scenario matches two.
 ghost use Rattle.std.specs.Prelude.{◌≡◌, ◌≤◌, ℕ, Contains, IfOk, IfSome, OnOk, false, length, map, true};
 ghost use Rattle.std.specs.Bool.{OnFalse, OnTrue};
+ghost use Rattle.cpg_base.specs.Numbers.{numbers_below};
 ghost use Rattle.cpg_base.specs.Scenario.{Scenario};
 ghost use Rattle.cpg_base.specs.declared.limits.TheConstants.{MOST_LOAD};
 ghost use Rattle.cpg_cube.specs.Cube.{IsRising, matches};
@@ -11,7 +12,7 @@ ghost use Rattle.cpg_places.specs.Spots.{IsSaidBy, IsTop, IsKept, IsSorted, Keep
 
 use crate::gathering::gather;
 use crate::slices::led_out;
-use crate::walk::{Test, do_pass};
+use crate::walk::{PairTest, Test, do_pass, do_pass_with};
 use cpg_base::{FIRST_VALUE, OutOfMemory};
 use cpg_cube::{Cube, Literal};
 use cpg_tree::{Node, Space, Tally};
@@ -25,6 +26,8 @@ const FEW: u32 = 64;
 const EACH_SHARED: u32 = 8;
 /// And besides.
 const FEW_SHARED: u32 = 104;
+/// Room is made at once for so many of the places that go to a side of a fork: for all of them, mostly.
+const AT_ONCE: usize = 32;
 
 /// A place, and how many of its cube's first literals hold in the whole space where it stands: a hint where to look, that
 /// no clause speaks of.
@@ -189,47 +192,49 @@ fn keep(
     Ok(())
 }
 
-/// The places whose cubes some scenario of each side's space may match.
-fn parted_in(
-    alloc: Global,
-    under: &Space,
-    over: &Space,
-    cubes: &[&Cube],
-    spots: Vec<Spot>,
-    variable: u8,
-) -> Result<Sides, OutOfMemory>
-    ensures low { IfOk result (λ r. KeepsMatches (map (λ b. b.now) cubes.now) under.now (places_of spots.items) (places_of r.low.items)) }
-    ensures high { IfOk result (λ r. KeepsMatches (map (λ b. b.now) cubes.now) over.now (places_of spots.items) (places_of r.high.items)) }
-{
-    let mut low = Vec::new(alloc);
-    let mut high = Vec::new(alloc);
-    let has_fewer = variable < FIRST_VALUE;
-    for spot in spots.as_slice() {
-        keep(&mut low, under, cubes, *spot, variable, false)?;
-        keep(&mut high, over, cubes, *spot, variable, has_fewer)?;
-    }
-    Ok(Sides { low, high })
-}
-
-/// The places whose cubes some scenario of each side of a fork may match. In a function of its own, since the spaces of both
-/// sides aren't on the stack then where their trees are made.
-fn parted(
+/// Those of some places whose cubes some scenario of a space may match, a part of the space where they stood.
+fn kept_in(
     alloc: Global,
     space: &Space,
+    cubes: &[&Cube],
+    spots: &[Spot],
+    variable: u8,
+    has_fewer: bool,
+) -> Result<Vec<Spot>, OutOfMemory>
+    ensures { IfOk result (λ r. KeepsMatches (map (λ b. b.now) cubes.now) space.now (places_of spots.now) (places_of r.items)) }
+{
+    let mut kept = Vec::with_capacity(alloc, spots.len().min(AT_ONCE))?;
+    for spot in spots {
+        keep(&mut kept, space, cubes, *spot, variable, has_fewer)?;
+    }
+    Ok(kept)
+}
+
+/// The places whose cubes some scenario of each side of a fork may match. The space is changed on the way, and is as before
+/// where it answers.
+fn parted(
+    alloc: Global,
+    space: &mut Space,
     cubes: &[&Cube],
     spots: Vec<Spot>,
     cut: Cut,
 ) -> Result<Sides, OutOfMemory>
-    requires { AreOpen space.now cut.variable cut.most }
+    requires { AreOpen space.old cut.variable cut.most }
     ensures low { IfOk result (λ r.
-        KeepsMatches (map (λ b. b.now) cubes.now) (below_cut space.now cut.variable cut.most) (places_of spots.items) (places_of r.low.items)) }
+        KeepsMatches (map (λ b. b.now) cubes.now) (below_cut space.old cut.variable cut.most) (places_of spots.items) (places_of r.low.items)) }
     ensures high { IfOk result (λ r.
-        KeepsMatches (map (λ b. b.now) cubes.now) (above_cut space.now cut.variable cut.most) (places_of spots.items) (places_of r.high.items)) }
+        KeepsMatches (map (λ b. b.now) cubes.now) (above_cut space.old cut.variable cut.most) (places_of spots.items) (places_of r.high.items)) }
+    ensures same { IfOk result (λ _. space.new ≡ space.old) }
 {
-    let under = space.below(cut.variable, cut.most);
-    let over = space.above(cut.variable, cut.most);
-    let sides = parted_in(alloc, &under, &over, cubes, spots, cut.variable)?;
-    Ok(sides)
+    let Cut { variable, most } = cut;
+    let most_was = space.close_above(variable, most);
+    let low = kept_in(alloc, space, cubes, spots.as_slice(), variable, false)?;
+    space.reopen_above(variable, most_was);
+    let least_was = space.close_below(variable, most);
+    let has_fewer = variable < FIRST_VALUE;
+    let high = kept_in(alloc, space, cubes, spots.as_slice(), variable, has_fewer)?;
+    space.reopen_below(variable, least_was);
+    Ok(Sides { low, high })
 }
 
 /// A cut that has numbers of the space on both sides.
@@ -425,15 +430,24 @@ fn sorted_out(
     }
 }
 
+/// So many places, of whose cubes nothing is known.
+fn all_spots(alloc: Global, count: u32) -> Result<Vec<Spot>, OutOfMemory>
+    ensures { IfOk result (λ r. places_of r.items ≡ numbers_below count) }
+{
+    let mut spots = Vec::with_capacity(alloc, count as usize)?;
+    for place in 0..count {
+        spots.push(Spot { place, held: 0 })?;
+    }
+    Ok(spots)
+}
+
 /// The places whose cubes some scenario of a space may match.
 fn spots_of(alloc: Global, space: &Space, cubes: &[&Cube]) -> Result<Vec<Spot>, OutOfMemory>
     requires { length cubes.now ≤ MOST_LOAD }
     ensures { IfOk result (λ r. (s : Scenario) (i : ℕ) → Lies space.now s → IsMatched (map (λ b. b.now) cubes.now) s i → Contains (places_of r.items) i) }
 {
-    let mut spots = Vec::new(alloc);
-    for place in 0..cubes.len() as u32 {
-        keep(&mut spots, space, cubes, Spot { place, held: 0 }, 0, true)?;
-    }
+    let all = all_spots(alloc, cubes.len() as u32)?;
+    let spots = kept_in(alloc, space, cubes, all.as_slice(), 0, true)?;
     Ok(spots)
 }
 
@@ -507,6 +521,13 @@ impl Places {
         ensures { OnTrue result ((s : Scenario) → Lies space.now s → J.tells test.now (place_at self.now s) s) }
     {
         do_pass(&self.root, space, test)
+    }
+
+    /// Whether a test passes at each two places that scenarios of a space come to here and in another tree.
+    pub fn do_pass_with<J: PairTest>(&self, other: &Places, space: &Space, test: &J) -> bool
+        ensures { OnTrue result ((s : Scenario) → Lies space.now s → J.tells test.now (place_at self.now s) (place_at other.now s) s) }
+    {
+        do_pass_with(&self.root, &other.root, space, test)
     }
 
     /// Adds the places that scenarios of a space come to, as long as there is one and a test passes at each; false where it

@@ -152,9 +152,8 @@ fn sides_of(k: u8, space: &Space, cut: Cut) -> Sides
     ensures lows { length space.now.low ≡ 256 }
     ensures highs { length space.now.high ≡ 256 }
 {
-    // its length is said
+    // each read tells that its list has 256 numbers, and that the high fits its type tells that `cut.most + 1` does
     let _low = space.low[cut.variable as usize];
-    // that the high fits its type tells that `cut + 1` does
     let _high = space.high[cut.variable as usize];
     Sides {
         below: Literal {

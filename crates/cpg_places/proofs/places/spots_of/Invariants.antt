@@ -1,7 +1,0 @@
-use Rattle.std.proofs.Common.{map}
-use Rattle.cpg_base.specs.Numbers.{numbers_below}
-use Rattle.cpg_places.specs.Spots.{KeepsMatches, places_of}
-use Rattle.cpg_places.proofs.places.spots_of.Given as goal
-
-abbrev pub invariant-loop-place : goal.invariant-loop-place
-invariant-loop-place l = KeepsMatches (map (λ b. b.now) l.cubes) l.space (numbers_below l.place) (places_of l.spots.items)
