@@ -25,7 +25,7 @@ use Rattle.cpg_sure.specs.Always.{IsUnconditional}
 use Rattle.cpg_sure.specs.declared.course.Course.{Course}
 use Rattle.cpg_sure.specs.declared.course.Courses.{Courses}
 use Rattle.cpg_sure.specs.declared.span.Span.{Span}
-use Rattle.cpg_sure.specs.Courses.{AreCourses, IsCourse, IsPast, IsSpan}
+use Rattle.cpg_sure.specs.Courses.{AreCourses, IsCourse, IsOverAt, IsPast, IsSpan}
 use Rattle.cpg_sure.specs.Order.{execution, IsApart, IsApartAt, IsInTurn, IsOver, IsOverBy, StandsBefore}
 
 -- ---- spans
@@ -115,17 +115,10 @@ module _ {g : Graph} {tables : List NodeTable} {lasts : Scenario → ℕ} {x : �
           | inr p ↦ inr (past_over by law time d.time p)
         ]
 
--- what is over by the time of the column at each place of an item's tree is over before the item
+-- the tree of an item's columns
 module _ {g : Graph} {tables : List NodeTable} {last : Scenario → ℕ} {x : ℕ} {course : Course} (is : IsCourse g tables last x course) (tree : Places) (there : course.tree.now ≡ Some tree) where
   its_tree : IsRowTree g (columns_of tables x) tree
   its_tree = subst (λ (o : Option Places). IfSome o (λ (t : Places). IsRowTree g (columns_of tables x) t)) there is.tree
-
-  pub told_before : (lasts : ℕ → Scenario → ℕ) (items : List ℕ)
-      → ((s : Scenario) → IsScenario g s → IfSome (place_at tree s) (λ i. All (λ y. IsOverBy tables (lasts y s) y (column_at course.columns.now i).time s) items))
-      → All (λ y. IsOver lasts g tables y x) items
-  told_before lasts items all k d l s c law here m =
-      each_told its_tree s law (λ (c : Column). All (λ y. IsOverBy tables (lasts y s) y c.time s) items)
-      (subst (λ (columns : List Column). IfSome (place_at tree s) (λ i. All (λ y. IsOverBy tables (lasts y s) y (column_at columns i).time s) items)) is.columns (all s law)) c here m k d l
 
 -- what is told of the column that a look-up finds
 pub told_at : (fact : Column → Type 0) (columns : List Column) (i : ℕ) (c : Column) → i < length columns → c ≡ get_or columns i c → fact c → fact (column_at columns i)
@@ -135,6 +128,28 @@ told_at fact columns i c l is h = subst fact (is ∙ sym (get_or_default columns
 pub told_so : {P Q : ℕ → Type 0} (o : Option ℕ) → IfSome o P → ((i : ℕ) → P i → Q i) → IfSome o Q
 told_so None h f = tt
 told_so (Some i) h f = f i h
+
+-- ---- two trees
+
+module _ {g : Graph} {tables : List NodeTable} {lasts : Scenario → ℕ} {y : ℕ} {one : Course} (is : IsCourse g tables lasts y one) {s : Scenario} (law : IsScenario g s) (own : Places) (there : one.tree.now ≡ Some own) where
+  over_at : (time : ℕ) → IsOverAt one time (place_at own s) s → IsOverBy tables (lasts s) y time s
+  over_at time h = elim h [
+    | inl early ↦ early_over is law time early
+    | inr past ↦ told_over is law own there time past
+  ]
+
+module _ {g : Graph} {tables : List NodeTable} (lasts : ℕ → Scenario → ℕ) {y x : ℕ} {one other : Course} (is : IsCourse g tables (lasts y) y one) (by : IsCourse g tables (lasts x) x other) where
+  -- what is over by the first column of another is over before it
+  pub early_before : one.last + one.span.longest ≤ other.first → IsOver lasts g tables y x
+  early_before h s c law here m = early_over is law c.time (omega (arith, h, All-contains (λ (d : Column). other.first ≤ d.time) (columns_of tables x) c by.first here))
+
+  -- and so is what is over by the time of the column at each place of the other's tree
+  pub walked_before : (own tree : Places) → one.tree.now ≡ Some own → other.tree.now ≡ Some tree
+      → ((s : Scenario) → IsScenario g s → IfSome (place_at tree s) (λ i. IsOverAt one (column_at other.columns.now i).time (place_at own s) s)) → IsOver lasts g tables y x
+  walked_before own tree has there all s c law here m =
+      each_told (its_tree by tree there) s law (λ (c : Column). IsOverBy tables (lasts y s) y c.time s)
+      (subst (λ (columns : List Column). IfSome (place_at tree s) (λ i. IsOverBy tables (lasts y s) y (column_at columns i).time s)) by.columns
+      (told_so (place_at tree s) (all s law) (λ i. over_at is law own has (column_at other.columns.now i).time))) c here m
 
 -- ---- columns one after another
 

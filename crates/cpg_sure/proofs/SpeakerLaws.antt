@@ -1,9 +1,9 @@
 -- What frames that reach a node tell it.
-use Rattle.std.proofs.Common.{ℕ, ◌+◌, ◌<◌, ◌≤◌, ◌≡◌, ◌⊎◌, Bool, true, false, List, [], Option, None, Some, All, Contains, IfSome, get_or, length, refl, sym, ap, ◌∙◌, subst, arith, inl, inr, leb-true}
+use Rattle.std.proofs.Common.{ℕ, ◌+◌, ◌<◌, ◌≤◌, ◌≡◌, ◌⊎◌, Bool, true, false, List, Option, None, Some, All, Contains, IfSome, get_or, length, refl, sym, ap, ◌∙◌, subst, arith, inl, inr, leb-true}
 use Rattle.std.specs.Bool.{OnTrue}
 use Rattle.std.specs.Prelude.{slice_set}
 use Rattle.std.proofs.lemmas.Bool.{OnTrue_at, and_parts, cases_eq}
-use Rattle.std.proofs.lemmas.List.{get_or-set_other, get_or-set_same}
+use Rattle.std.proofs.lemmas.List.{get_or_default, get_or-set_other, get_or-set_same}
 use Rattle.std.proofs.lemmas.List.Elements.{All-contains, Contains-append_left, Contains-append_right, Contains-get_or}
 use Rattle.cpg_base.specs.Bus.{slot_length}
 use Rattle.cpg_base.specs.Graph.{Graph, home, item_at}
@@ -71,4 +71,16 @@ mark_step fact old marks k b within before here i t = elim (cases_eq i k) [
   | inl same ↦ subst (λ j. (get_or old j false ≡ true) ⊎ fact j) (sym same)
       (elim (OnTrue_at (sym (get_or-set_same marks k b false within) ∙ ap (λ j. get_or (slice_set marks k b) j false) (sym same) ∙ t) here) [ inl o ↦ before k o | inr f ↦ inr f ])
   | inr other ↦ before i (sym (get_or-set_other marks k i b false other) ∙ t)
+]
+
+-- the column at the only place is that at all
+pub only_place : (columns : List Column) (places : List ℕ) (c : Column) → length places ≡ 1 → column_at columns (get_or places 0 0) ≡ c → All (λ i. column_at columns i ≡ c) places
+only_place columns places c one is k d l = subst (λ i. column_at columns i ≡ c) (get_or_default places 0 0 d (omega (arith, one)) ∙ ap (λ j. get_or places j d) (omega (arith, l, one))) is
+
+-- what the frames of the column at all places tell
+pub told_alone : {value : Option ℕ} (columns : List Column) (places : List ℕ) (c : Column) (l : Literal) → All (λ i. column_at columns i ≡ c) places
+    → (value ≡ Some l.variable) ⊎ IsToldIn c.cube l → IsTold value columns places l
+told_alone columns places c l all h = elim h [
+  | inl value ↦ inl value
+  | inr by ↦ inr (λ k d r. subst (λ (c : Column). IsToldIn c.cube l) (sym (all k d r)) by)
 ]

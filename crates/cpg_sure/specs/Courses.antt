@@ -1,8 +1,9 @@
 -- What is known of the rows of items before their columns are compared.
-use Rattle.std.specs.Prelude.{ℕ, ◌+◌, ◌≡◌, ◌≤◌, ◌<◌, true, List, All, IfSome, length, get_or}
+use Rattle.std.specs.Prelude.{ℕ, ◌+◌, ◌≡◌, ◌≤◌, ◌<◌, ◌⊎◌, true, List, Option, All, IfSome, length, get_or}
 use Rattle.cpg_base.specs.Graph.{Graph, item_count}
 use Rattle.cpg_base.specs.declared.limits.TheConstants.{MOST_FAULTS}
 use Rattle.cpg_base.specs.Scenario.{Scenario, IsScenario, number_of}
+use Rattle.cpg_cube.specs.Column.{column_at}
 use Rattle.cpg_table.specs.Table.{NodeTable, columns_of}
 use Rattle.cpg_places.specs.Trees.{IsRowTree}
 use Rattle.cpg_sure.specs.Always.{IsUnconditional}
@@ -21,6 +22,10 @@ pub record IsPast (span : Span) (start time : ℕ) (s : Scenario) : Type 0 where
   pub most : number_of s span.variable ≤ count
   pub known : count ≤ MOST_FAULTS
   pub over : start + get_or span.lengths count 0 ≤ time
+
+-- an item is over by a time: by its last column, or from that at a place, if there is one
+abbrev pub IsOverAt : Course → ℕ → Option ℕ → Scenario → Type 0
+IsOverAt course time place s = (course.last + course.span.longest ≤ time) ⊎ IfSome place (λ i. IsPast course.span (column_at course.columns.now i).time time s)
 
 -- the columns of an item, their tree, the range of their times, how long it lasts, and whether it is always active
 pub record IsCourse (g : Graph) (tables : List NodeTable) (lasts : Scenario → ℕ) (x : ℕ) (course : Course) : Type 0 where

@@ -7,13 +7,14 @@ ghost use Rattle.cpg_cube.specs.Cube.{matches};
 ghost use Rattle.cpg_table.specs.Table.{NodeTable, columns_of};
 ghost use Rattle.cpg_tree.specs.Space.{Lies};
 ghost use Rattle.cpg_cube.specs.Column.{column_at};
-ghost use Rattle.cpg_sure.specs.Courses.{AreCourses, IsCourse, IsPast};
+ghost use Rattle.cpg_sure.specs.Courses.{AreCourses, IsCourse, IsOverAt, IsPast};
 ghost use Rattle.cpg_sure.specs.Order.{IsOver, IsOverBy};
 
 use crate::course::{Course, Courses};
 use crate::span::Span;
+use crate::speakers::has_come;
 use cpg_cube::Entry;
-use cpg_places::Test;
+use cpg_places::{PairTest, Places, Test};
 use cpg_tree::Space;
 
 /// That what lasts so long is over by a time, from the column at each place.
@@ -38,27 +39,34 @@ impl<'a> Test for Ends<'a> {
     }
 }
 
-/// That items are over by the time of another's column, from the column at each place of the other.
+/// That an item is over by the time of another's column, from the columns at a place of each.
 #[derive(Drop)]
 struct Before<'a> {
-    courses: &'a Courses<'a>,
-    items: &'a [u32],
+    course: &'a Course<'a>,
     columns: &'a [Entry],
 }
 
-impl<'a> Test for Before<'a> {
-    ghost tells = { λ test place s. IfSome place (λ i. (g : Graph) (tables : List NodeTable) (lasts : ℕ → Scenario → ℕ) →
-        AreCourses lasts g tables test.courses.now → IsScenario g s →
-        All (λ y. IsOverBy tables (lasts y s) y (column_at test.columns.now i).time s) test.items.now) };
+impl<'a> PairTest for Before<'a> {
+    ghost tells = { λ test place own s. IfSome place (λ i. IsOverAt test.course.now (column_at test.columns.now i).time own s) };
 
-    fn passes(&self, place: Option<u32>, space: &Space) -> bool {
-        let Some(place) = place else {
+    fn passes_with_any(&self, first: Option<u32>) -> bool {
+        let Some(place) = first else {
             return true;
         };
         let Some(column) = self.columns.get(place as usize) else {
             return false;
         };
-        self.courses.are_over(self.items, space, column.time)
+        has_come(self.course.last, self.course.span.longest, column.time)
+    }
+
+    fn passes(&self, first: Option<u32>, second: Option<u32>, space: &Space) -> bool {
+        let Some(place) = first else {
+            return true;
+        };
+        let Some(column) = self.columns.get(place as usize) else {
+            return false;
+        };
+        self.course.is_over_from(second, space, column.time)
     }
 }
 
@@ -68,10 +76,39 @@ impl<'a> Course<'a> {
         ensures { OnTrue result ((g : Graph) (tables : List NodeTable) (lasts : Scenario → ℕ) (x : ℕ) (s : Scenario) →
             IsCourse g tables lasts x self.now → IsScenario g s → IsOverBy tables (lasts s) x time s) }
     {
-        if time < self.last {
-            return false;
+        has_come(self.last, self.span.longest, time)
+    }
+
+    /// Whether the item is over by a time in the scenarios of a space, from its column at a place.
+    fn is_over_from(&self, place: Option<u32>, space: &Space, time: u64) -> bool
+        ensures { OnTrue result ((s : Scenario) → Lies space.now s → IsOverAt self.now time place s) }
+    {
+        let test = Ends {
+            columns: self.columns,
+            span: self.span,
+            time,
+        };
+        test.passes(place, space)
+    }
+
+    /// Whether the item is over before another that has a tree: a walk down it and the own tree has the scenarios of each two
+    /// columns.
+    fn ends_before(&self, faults: u8, other: &Course<'_>, tree: &Places) -> bool
+        ensures { OnTrue result ((g : Graph) (tables : List NodeTable) (lasts : ℕ → Scenario → ℕ) (y x : ℕ) → faults ≡ g.faults →
+            IsCourse g tables (lasts y) y self.now → IsCourse g tables (lasts x) x other.now → other.now.tree.now ≡ Some tree.now → IsOver lasts g tables y x) }
+    {
+        if has_come(self.last, self.span.longest, other.first) {
+            return true;
         }
-        self.span.longest <= time - self.last
+        let Some(own) = self.tree else {
+            return false;
+        };
+        let test = Before {
+            course: self,
+            columns: other.columns,
+        };
+        let everywhere = Space::whole(faults);
+        tree.do_pass_with(own, &everywhere, &test)
     }
 
     /// Whether the item is over by a time in the scenarios of a space, by the columns that match there.
@@ -154,7 +191,24 @@ impl<'a> Courses<'a> {
         }
         true
     }
-    /// The same by the other's tree, if it has one: a walk down it has the scenarios of each column.
+
+    /// The same of another that has a tree.
+    fn end_before(&self, items: &[u32], course: &Course<'_>, tree: &Places) -> bool
+        ensures { OnTrue result ((g : Graph) (tables : List NodeTable) (lasts : ℕ → Scenario → ℕ) (x : ℕ) → AreCourses lasts g tables self.now →
+            IsCourse g tables (lasts x) x course.now → course.now.tree.now ≡ Some tree.now → All (λ y. IsOver lasts g tables y x) items.now) }
+    {
+        for item in items {
+            let Some(one) = self.list.get(*item as usize) else {
+                return false;
+            };
+            if !one.ends_before(self.faults, course, tree) {
+                return false;
+            }
+        }
+        true
+    }
+
+    /// The same by the other's tree, if it has one.
     pub(crate) fn precede(&self, items: &[u32], course: &Course<'_>) -> bool
         ensures { OnTrue result ((g : Graph) (tables : List NodeTable) (lasts : ℕ → Scenario → ℕ) (x : ℕ) →
             AreCourses lasts g tables self.now → IsCourse g tables (lasts x) x course.now → All (λ y. IsOver lasts g tables y x) items.now) }
@@ -162,12 +216,6 @@ impl<'a> Courses<'a> {
         let Some(tree) = course.tree else {
             return self.come_before(items, course.columns);
         };
-        let test = Before {
-            courses: self,
-            items,
-            columns: course.columns,
-        };
-        let everywhere = Space::whole(self.faults);
-        tree.do_pass(&everywhere, &test)
+        self.end_before(items, course, tree)
     }
 }

@@ -121,16 +121,15 @@ pub(crate) fn own_ended(
     known
 }
 
-/// Whether all literals are on marked variables.
+/// Whether all literals are on marked variables: without a way out before the last, so that the loop is taken in larger steps.
 fn are_known(known: &[bool; VARIABLES], literals: &[Literal]) -> bool
     ensures { OnTrue result (All (λ l. get_or known.now l.variable false ≡ true) literals.now) }
 {
+    let mut are_known = true;
     for literal in literals {
-        if !known[literal.variable as usize] {
-            return false;
-        }
+        are_known &= known[literal.variable as usize];
     }
-    true
+    are_known
 }
 
 /// Whether all literals of all these columns are.

@@ -35,7 +35,7 @@ pub(crate) struct Speaker<'a> {
 }
 
 /// Whether what takes so long from a start has come by a time.
-fn has_come(start: u64, delay: u64, time: u64) -> bool
+pub(crate) fn has_come(start: u64, delay: u64, time: u64) -> bool
     ensures { OnTrue result (start + delay ≤ time) }
 {
     if start > time {
@@ -93,14 +93,31 @@ fn place_of(literals: &[Literal], variable: u8) -> usize {
     first
 }
 
+/// The first place from one on where literals by rising variable are on none below this one.
+fn place_from(literals: &[Literal], from: usize, variable: u8) -> usize {
+    for at in from..literals.len() {
+        if literals[at].variable >= variable {
+            return at;
+        }
+    }
+    literals.len()
+}
+
+/// Whether the literal at a place does.
+fn tells_there(literals: &[Literal], at: usize, wanted: &Literal) -> bool
+    ensures { OnTrue result (IsToldIn literals.now wanted.now) }
+{
+    match literals.get(at) {
+        Some(literal) => is_as_close(literal, wanted),
+        None => false,
+    }
+}
+
 /// Whether one of these literals, by rising variable, does.
 fn tells(literals: &[Literal], wanted: &Literal) -> bool
     ensures { OnTrue result (IsToldIn literals.now wanted.now) }
 {
-    match literals.get(place_of(literals, wanted.variable)) {
-        Some(literal) => is_as_close(literal, wanted),
-        None => false,
-    }
+    tells_there(literals, place_of(literals, wanted.variable), wanted)
 }
 
 /// Whether the literals of the column at a place do.
@@ -123,6 +140,19 @@ fn tell_at_all(columns: &[Entry], places: &[u32], wanted: &Literal) -> bool
         }
     }
     true
+}
+
+/// The column at the only place, if there is one.
+fn alone<'a>(columns: &'a [Entry], places: &[u32]) -> Option<&'a Entry>
+    ensures { IfSome result (λ column. All (λ i. column_at columns.now i ≡ column.now) places.now) }
+{
+    if places.len() != 1 {
+        return None;
+    }
+    let Some(column) = columns.get(places[0] as usize) else {
+        return None;
+    };
+    Some(column)
 }
 
 impl<'a> Speaker<'a> {
@@ -156,8 +186,35 @@ impl<'a> Speaker<'a> {
         self.tells(places, wanted)
     }
 
+    /// Whether a literal is told already, or by the frames of a column, by its literal at a place.
+    fn is_told_there(&self, already: bool, own: &[Literal], at: usize, wanted: &Literal) -> bool
+        ensures { OnTrue result ((already ≡ true) ⊎ ((self.now.value ≡ Some wanted.now.variable) ⊎ IsToldIn own.now wanted.now)) }
+    {
+        if already {
+            return true;
+        }
+        if self.carries(wanted.variable) {
+            return true;
+        }
+        tells_there(own, at, wanted)
+    }
+
+    /// Marks the literals that the frames of one column tell, which has these literals: both go by rising variable.
+    fn mark_by(&self, own: &[Literal], literals: &[Literal], told: &mut Vec<bool>)
+        requires long { length told.old.items ≡ length literals.now }
+        ensures long { length told.new.items ≡ length literals.now }
+        ensures told { (i : ℕ) → get_or told.new.items i false ≡ true → (get_or told.old.items i false ≡ true) ⊎
+            ((self.now.value ≡ Some (literal_at literals.now i).variable) ⊎ IsToldIn own.now (literal_at literals.now i)) }
+    {
+        let mut at = 0;
+        for (place, literal) in literals.iter().enumerate() {
+            at = place_from(own, at, literal.variable);
+            told[place] = self.is_told_there(told[place], own, at, literal);
+        }
+    }
+
     /// Marks the literals that the frames of the columns at these places tell.
-    fn mark(&self, places: &[u32], literals: &[Literal], told: &mut Vec<bool>)
+    fn mark_each(&self, places: &[u32], literals: &[Literal], told: &mut Vec<bool>)
         requires long { length told.old.items ≡ length literals.now }
         ensures long { length told.new.items ≡ length literals.now }
         ensures told { (i : ℕ) → get_or told.new.items i false ≡ true → (get_or told.old.items i false ≡ true) ⊎
@@ -165,6 +222,19 @@ impl<'a> Speaker<'a> {
     {
         for (place, literal) in literals.iter().enumerate() {
             told[place] = self.is_told(told[place], places, literal);
+        }
+    }
+
+    /// The same, where there is mostly one column.
+    fn mark(&self, places: &[u32], literals: &[Literal], told: &mut Vec<bool>)
+        requires long { length told.old.items ≡ length literals.now }
+        ensures long { length told.new.items ≡ length literals.now }
+        ensures told { (i : ℕ) → get_or told.new.items i false ≡ true → (get_or told.old.items i false ≡ true) ⊎
+            IsTold self.now.value self.now.columns.now places.now (literal_at literals.now i) }
+    {
+        match alone(self.columns, places) {
+            Some(column) => self.mark_by(column.cube.literals(), literals, told),
+            None => self.mark_each(places, literals, told),
         }
     }
 

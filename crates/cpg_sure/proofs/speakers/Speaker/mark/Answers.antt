@@ -1,17 +1,13 @@
-use Rattle.std.proofs.Common.{◌<◌, ◌≡◌, ◌⊎◌, ◌∙◌, true, false, length, subst, arith}
-use Rattle.std.specs.Bool.{OnTrue}
-use Rattle.std.proofs.lemmas.List.{get_or_default, length-set}
+use Rattle.std.proofs.Common.{◌≡◌, ◌⊎◌, List, Some, inl, inr, subst}
+use Rattle.cpg_cube.specs.declared.literal.Literal.{Literal}
 use Rattle.cpg_sure.specs.Hearing.{literal_at}
-use Rattle.cpg_sure.specs.Speakers.{IsTold}
-use Rattle.cpg_sure.proofs.SpeakerLaws.{mark_step}
+use Rattle.cpg_sure.specs.Speakers.{IsToldIn}
+use Rattle.cpg_sure.proofs.SpeakerLaws.{told_alone}
 use Rattle.cpg_sure.proofs.speakers.Speaker.mark.Goals as goal
 
-pub loop-place-preserved : goal.loop-place-preserved
-loop-place-preserved c =
-    let within : c.loop-place.place < length c.loop-place.told.items = omega (arith, c.loop-place-test.true, c.loop-place.invariant.long) in
-    let is = c.index.ensures ∙ get_or_default c.loop-place.told.items c.loop-place.place c.index.result.now false within in
-    record {
-      long = length-set c.loop-place.told.items c.loop-place.place c.is_told.result ∙ c.loop-place.invariant.long;
-      told = mark_step (λ i. IsTold c.args.self.now.value c.args.self.now.columns.now c.args.places.now (literal_at c.args.literals.now i)) c.args.told.now.items c.loop-place.told.items c.loop-place.place c.is_told.result within c.loop-place.invariant.told
-          (subst (λ b. OnTrue c.is_told.result ((b ≡ true) ⊎ IsTold c.args.self.now.value c.args.self.now.columns.now c.args.places.now (literal_at c.args.literals.now c.loop-place.place))) is c.is_told.ensures);
-    }
+pub returns-in-Some-clause-told : goal.returns-in-Some-clause-told
+returns-in-Some-clause-told c i new = elim (c.mark_by.ensures.told i new) [
+  | inl old ↦ inl old
+  | inr told ↦ inr (told_alone c.args.self.now.columns.now c.args.places.now c.in-Some.column.now (literal_at c.args.literals.now i) c.in-Some.ensures
+      (subst (λ (own : List Literal). (c.args.self.now.value ≡ Some (literal_at c.args.literals.now i).variable) ⊎ IsToldIn own (literal_at c.args.literals.now i)) c.literals.ensures.literals told))
+]

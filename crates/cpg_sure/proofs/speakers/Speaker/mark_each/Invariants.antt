@@ -1,7 +1,7 @@
 use Rattle.std.proofs.Common.{ℕ, ◌≡◌, ◌⊎◌, length, get_or, true, false}
 use Rattle.cpg_sure.specs.Hearing.{literal_at}
 use Rattle.cpg_sure.specs.Speakers.{IsTold}
-use Rattle.cpg_sure.proofs.speakers.Speaker.mark.Given as goal
+use Rattle.cpg_sure.proofs.speakers.Speaker.mark_each.Given as goal
 
 abbrev pub invariant-loop-place : goal.invariant-loop-place
 invariant-loop-place l = record {
