@@ -24,3 +24,6 @@ appended old new piece b e on = e ∙ ap (λ c. cond c (old ++ piece) old) on
 
 pub eight_bytes : (ls : List Literal) (d : Literal) → length ls ≡ 8 → flat_map literal_bytes (map (λ k. get_or ls k d) (numbers_below 8)) ≡ flat_map literal_bytes ls
 eight_bytes ls d e = ap (flat_map literal_bytes) (sym (elements ls 8 d e))
+
+pub four_bytes : (ls : List Literal) (d : Literal) → length ls ≡ 4 → flat_map literal_bytes (map (λ k. get_or ls k d) (numbers_below 4)) ≡ flat_map literal_bytes ls
+four_bytes ls d e = ap (flat_map literal_bytes) (sym (elements ls 4 d e))

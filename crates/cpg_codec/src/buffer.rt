@@ -1,9 +1,10 @@
 //! A buffer in front of a sink.
 ghost use Rattle.std.specs.Prelude.{◌≡◌, ◌≤◌, ◌+◌, ◌*◌, ◌++◌, [], IfOk, OnOk, OnErr, length, vec_len, vec_capacity};
 ghost use Rattle.std.specs.List.{flat_map};
+ghost use Rattle.std.specs.Int.{w64, to_be_bytes};
 ghost use Rattle.cpg_io.specs.Causes.{HasCause};
 ghost use Rattle.cpg_io.specs.Sink.{Took, TookPrefix};
-ghost use Rattle.cpg_codec.specs.Spelling.{literal_bytes};
+ghost use Rattle.cpg_codec.specs.Spelling.{byte, literal_bytes};
 ghost use Rattle.cpg_codec.specs.Writing.{Puts};
 
 use cpg_cube::Literal;
@@ -48,6 +49,23 @@ fn push_eight(bytes: &mut Vec<u8>, literals: &[Literal; 8])
     }
 }
 
+/// Adds four literals.
+fn push_four(bytes: &mut Vec<u8>, literals: &[Literal; 4])
+    requires { vec_len bytes.old + 12 ≤ vec_capacity bytes.old }
+    ensures items { bytes.new.items ≡ bytes.old.items ++ flat_map literal_bytes literals.now }
+    ensures len { vec_len bytes.new ≡ vec_len bytes.old + 12 }
+    ensures capacity { vec_capacity bytes.old ≤ vec_capacity bytes.new }
+{
+    let [a, b, c, d] = *literals;
+    let block = [
+        a.variable, a.low, a.high, b.variable, b.low, b.high, c.variable, c.low, c.high,
+        d.variable, d.low, d.high,
+    ];
+    if bytes.extend_from_slice(&block).is_err() {
+        unreachable!()
+    }
+}
+
 /// Adds literals, three bytes each, for which there is room.
 fn push_each(bytes: &mut Vec<u8>, literals: &[Literal])
     requires { vec_len bytes.old + 3 * length literals.now ≤ vec_capacity bytes.old }
@@ -62,6 +80,21 @@ fn push_each(bytes: &mut Vec<u8>, literals: &[Literal])
     }
 }
 
+/// The same, four at once.
+fn push_few(bytes: &mut Vec<u8>, literals: &[Literal])
+    requires { vec_len bytes.old + 3 * length literals.now ≤ vec_capacity bytes.old }
+    ensures items { bytes.new.items ≡ bytes.old.items ++ flat_map literal_bytes literals.now }
+    ensures len { vec_len bytes.new ≡ vec_len bytes.old + 3 * length literals.now }
+    ensures capacity { vec_capacity bytes.old ≤ vec_capacity bytes.new }
+{
+    let Some((block, rest)) = literals.split_first_chunk::<4>() else {
+        push_each(bytes, literals);
+        return;
+    };
+    push_four(bytes, block);
+    push_each(bytes, rest);
+}
+
 /// The same, eight at a time.
 fn push_literals(bytes: &mut Vec<u8>, literals: &[Literal])
     requires { vec_len bytes.old + 3 * length literals.now ≤ vec_capacity bytes.old }
@@ -74,7 +107,20 @@ fn push_literals(bytes: &mut Vec<u8>, literals: &[Literal])
         push_eight(bytes, block);
         left = rest;
     }
-    push_each(bytes, left);
+    push_few(bytes, left);
+}
+
+/// Adds a column's time and how many literals it has, for which there is room.
+fn push_head(bytes: &mut Vec<u8>, time: u64, count: u8)
+    requires { vec_len bytes.old + 9 ≤ vec_capacity bytes.old }
+    ensures items { bytes.new.items ≡ bytes.old.items ++ to_be_bytes w64 time ++ byte count }
+    ensures len { vec_len bytes.new ≡ vec_len bytes.old + 9 }
+    ensures capacity { vec_capacity bytes.old ≤ vec_capacity bytes.new }
+{
+    if bytes.extend_from_slice(&time.to_be_bytes()).is_err() {
+        unreachable!()
+    }
+    bytes.push_reserved(count);
 }
 
 impl Buffer {
@@ -91,6 +137,16 @@ impl Buffer {
         ensures { length self.now + result ≡ 65536 }
     {
         SIZE - self.bytes.len()
+    }
+
+    /// Adds a column for which there is room.
+    pub(crate) fn hold_column(&mut self, time: u64, literals: &[Literal])
+        requires few { length literals.now ≤ 255 }
+        requires room { length self.old + (9 + 3 * length literals.now) ≤ 65536 }
+        ensures { self.new ≡ self.old ++ (to_be_bytes w64 time ++ byte (length literals.now) ++ flat_map literal_bytes literals.now) }
+    {
+        push_head(&mut self.bytes, time, literals.len() as u8);
+        push_literals(&mut self.bytes, literals);
     }
 
     /// Adds literals, three bytes each, for which there is room.

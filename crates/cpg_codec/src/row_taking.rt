@@ -49,6 +49,18 @@ fn eight_of(bytes: [u8; 24]) -> [Literal; 8]
     ]
 }
 
+/// Four literals.
+fn four_of(bytes: [u8; 12]) -> [Literal; 4]
+    ensures { flat_map literal_bytes result ≡ bytes }
+{
+    [
+        literal_of(bytes[0], bytes[1], bytes[2]),
+        literal_of(bytes[3], bytes[4], bytes[5]),
+        literal_of(bytes[6], bytes[7], bytes[8]),
+        literal_of(bytes[9], bytes[10], bytes[11]),
+    ]
+}
+
 /// So many literals more.
 fn take_each<'a>(held: &mut Vec<Literal>, bytes: &'a [u8], count: u8) -> Result<&'a [u8], Untaken>
     ensures taken { IfOk result (λ rest. flat_map literal_bytes held.old.items ++ bytes.now ≡ flat_map literal_bytes held.new.items ++ rest.now) }
@@ -67,6 +79,21 @@ fn take_each<'a>(held: &mut Vec<Literal>, bytes: &'a [u8], count: u8) -> Result<
         rest = behind;
     }
     Ok(rest)
+}
+
+/// So many literals more, four of them at once if there are as many.
+fn take_few<'a>(held: &mut Vec<Literal>, bytes: &'a [u8], count: u8) -> Result<&'a [u8], Untaken>
+    ensures taken { IfOk result (λ rest. flat_map literal_bytes held.old.items ++ bytes.now ≡ flat_map literal_bytes held.new.items ++ rest.now) }
+    ensures count { IfOk result (λ rest. length held.new.items ≡ length held.old.items + count) }
+{
+    if count < 4 {
+        return take_each(held, bytes, count);
+    }
+    let Some((block, behind)) = bytes.split_first_chunk::<12>() else {
+        return Err(Untaken::Odd);
+    };
+    held.extend_from_slice(&four_of(*block))?;
+    take_each(held, behind, count - 4)
 }
 
 /// So many literals, in place of those that `held` had: eight at a time, as most columns have many.
@@ -89,7 +116,7 @@ fn take_literals<'a>(
         left -= 8;
         rest = behind;
     }
-    take_each(held, rest, left)
+    take_few(held, rest, left)
 }
 
 /// A column. `held` is for its literals, which a cube has in memory of its own.

@@ -69,13 +69,28 @@ fn put_counted<O: Sink>(
     put_literals(buffer, sink, literals)
 }
 
-fn put_column<O: Sink>(buffer: &mut Buffer, sink: &mut O, column: &Entry) -> Result<(), Failed>
+/// A column, part by part.
+fn put_parts<O: Sink>(buffer: &mut Buffer, sink: &mut O, column: &Entry) -> Result<(), Failed>
     requires { length column.now.cube ≤ 255 }
     ensures put { Puts (O.state sink.old).taken (O.state sink.new).taken buffer.old buffer.new result (column_bytes column.now) }
     ensures cause { HasCause (O.state sink.old).faults (O.state sink.new).faults result }
 {
     put_long(buffer, sink, column.time)?;
     put_counted(buffer, sink, column.cube.literals())
+}
+
+/// The same, all at once where the buffer has room for it, as it mostly has.
+fn put_column<O: Sink>(buffer: &mut Buffer, sink: &mut O, column: &Entry) -> Result<(), Failed>
+    requires { length column.now.cube ≤ 255 }
+    ensures put { Puts (O.state sink.old).taken (O.state sink.new).taken buffer.old buffer.new result (column_bytes column.now) }
+    ensures cause { HasCause (O.state sink.old).faults (O.state sink.new).faults result }
+{
+    let literals = column.cube.literals();
+    if 9 + 3 * literals.len() <= buffer.room() {
+        buffer.hold_column(column.time, literals);
+        return Ok(());
+    }
+    put_parts(buffer, sink, column)
 }
 
 fn put_columns<O: Sink>(buffer: &mut Buffer, sink: &mut O, columns: &[Entry]) -> Result<(), Failed>

@@ -4,7 +4,7 @@ use Rattle.std.proofs.lemmas.Result.{err_from_is_err_and}
 use Rattle.cpg_codec.specs.Spelling.{byte, literal_bytes}
 use Rattle.std.specs.Int.{w64, to_be_bytes}
 use Rattle.cpg_codec.proofs.Puts.{Puts-then, Puts-first}
-use Rattle.cpg_codec.proofs.row_writing.put_column.Goals as goal
+use Rattle.cpg_codec.proofs.row_writing.put_parts.Goals as goal
 
 pub returns-in_err-put_long-clause-put : goal.returns-in_err-put_long-clause-put
 returns-in_err-put_long-clause-put g c =

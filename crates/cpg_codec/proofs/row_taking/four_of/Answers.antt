@@ -1,0 +1,13 @@
+use Rattle.std.proofs.Common.{◌≡◌, ◌∙◌, ◌∷◌, [], length, ap, ap₂, rules, sym}
+use Rattle.std.specs.List.{flat_map}
+use Rattle.cpg_cube.specs.declared.literal.Literal.{Literal}
+use Rattle.cpg_codec.specs.Spelling.{literal_bytes}
+use Rattle.cpg_codec.proofs.Blocks.{elements}
+use Rattle.cpg_codec.proofs.row_taking.four_of.Goals as goal
+
+pub returns : goal.returns
+returns c =
+    let many : length c.args.bytes ≡ 12 = search rules in
+    ap (flat_map literal_bytes)
+    (ap₂ ◌∷◌ c.literal_of.ensures (ap₂ ◌∷◌ c.literal_of-2.ensures (ap₂ ◌∷◌ c.literal_of-3.ensures (ap (λ (l : Literal). l ∷ []) c.literal_of-4.ensures))))
+    ∙ sym (elements c.args.bytes 12 _ many)
