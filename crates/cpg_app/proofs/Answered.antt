@@ -17,7 +17,8 @@ use Rattle.cpg_inputs.specs.Reading.{IsRead, Reads}
 use Rattle.cpg_live.specs.Follower.{Follower, open_follower}
 use Rattle.cpg_app.specs.Causes.{OrMemory, StopsWork}
 use Rattle.cpg_app.specs.Outputs.{IsFollower}
-use Rattle.cpg_app.specs.Endings.{Follows, IsFollowedAt, IsToldTo, Ran, streamed}
+use Rattle.cpg_app.specs.Endings.{Follows, Ran}
+use Rattle.cpg_outputs.specs.Said.{IsFollowedAt, IsToldTo, streamed}
 use Rattle.cpg_app.specs.Lawful.{IsLawful}
 use Rattle.cpg_app.proofs.Named.{work_named}
 use Rattle.cpg_app.proofs.Streamed.{lawful_closed, lawful_stream}

@@ -31,8 +31,8 @@ use Rattle.cpg_cluster.specs.Driving.{IsDriven}
 use Rattle.cpg_cluster.specs.Playing.{Playing, opened}
 use Rattle.cpg_cluster.specs.Whole.{IsWholePlay}
 use Rattle.cpg_show.specs.TraceText.{finish_of}
-use Rattle.cpg_app.specs.declared.trial_plays.Ending.{Ending}
-use Rattle.cpg_app.specs.declared.trial_figures.Trial.{Trial}
+use Rattle.cpg_outputs.specs.declared.figures.Ending.{Ending}
+use Rattle.cpg_outputs.specs.declared.figures.Trial.{Trial}
 use Rattle.cpg_app.specs.Trial.{AreFiguresOf, IsEnding, IsGenerated, IsTrial, planned_world}
 use Rattle.cpg_app.proofs.Finishes.{finish_is}
 

@@ -14,8 +14,9 @@ use Rattle.cpg_refusal.specs.Lines.{line_of, status_of}
 use Rattle.cpg_inputs.specs.Files.{File}
 use Rattle.cpg_inputs.specs.Says.{graph_after}
 use Rattle.cpg_inputs.specs.Reading.{IsFetchOf, IsWanting, IsWhole, StopsAt, StopsReading}
-use Rattle.cpg_app.specs.Told.{IsWritten, Sent, Untouched}
-use Rattle.cpg_app.specs.Endings.{IsEnded, Prints, Ran, Stops}
+use Rattle.cpg_outputs.specs.Told.{IsWritten, Sent, Untouched}
+use Rattle.cpg_app.specs.Endings.{Prints, Ran, Stops}
+use Rattle.cpg_outputs.specs.Said.{IsEnded}
 use Rattle.cpg_app.specs.Lawful.{IsLawful}
 use Rattle.cpg_app.proofs.Shown.{lawful_by, lawful_with}
 use Rattle.cpg_app.proofs.Written.{stopped}

@@ -38,7 +38,7 @@ use Rattle.cpg_app.specs.Causes.{first_named}
 use Rattle.cpg_app.specs.Outputs.{ArePackOf, AreSafe, IsMadeOf, PutsOut, shown, packed as packed_of}
 use Rattle.cpg_app.specs.Endings.{Ran}
 use Rattle.cpg_app.specs.Lawful.{Asks, AsksVerdict, IsLawful}
-use Rattle.cpg_app.specs.Told.{Whole}
+use Rattle.cpg_outputs.specs.Told.{Whole}
 use Rattle.cpg_app.specs.Joined.{GaveAll, HasMade, HasShown, HasPacked, EndsWell, PacksAreTaken, ShowAndCompileAgree}
 use Rattle.cpg_app.proofs.Asked.{on_graph, printed}
 use Rattle.cpg_app.proofs.Shown.{tables_lawful}

@@ -6,14 +6,12 @@ pub mod Unrolled
 pub mod Written
 pub mod Shown
 pub mod Streamed
-pub mod StreamFetch
 pub mod Finished
-pub mod Followed
 pub mod Safe
 pub mod Worked
 pub mod Answered
 pub mod Joined
-pub mod TunedLines
+pub mod TunedRows
 pub mod Finishes
 pub mod Figures
 pub mod Values

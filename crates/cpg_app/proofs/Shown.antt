@@ -39,7 +39,7 @@ use Rattle.cpg_inputs.specs.Reading.{Reads, StopsReading}
 use Rattle.cpg_inputs.proofs.OneReading.{AreAlike, moved, values_lawful}
 use Rattle.cpg_app.specs.Causes.{IsNotUnrolled, IsUncompiled, StopsVerdict, StopsWork, first_named}
 use Rattle.cpg_app.specs.Outputs.{IsMadeOf, PutsOut, packed, shown}
-use Rattle.cpg_app.specs.Told.{Untouched}
+use Rattle.cpg_outputs.specs.Told.{Untouched}
 use Rattle.cpg_app.specs.Endings.{Ran, EndsBy, EndsWith, Follows, Has, IsPrinted, IsTold, Prints, Stops}
 use Rattle.cpg_app.specs.Lawful.{Asks, AsksForTables, AsksVerdict, IsClosedStream, IsFailed, IsFaultless, IsLawful, IsUnreadStream}
 use Rattle.cpg_app.proofs.Asked.{on_graph, on_judged, on_logged, on_parts, on_played, on_tables, printed, stopped_by}

@@ -22,8 +22,9 @@ use Rattle.cpg_live.specs.declared.following.Broken.{Broken}
 use Rattle.cpg_live.specs.Following.{Breaks}
 use Rattle.cpg_live.specs.Streams.{fault_line, stream_end}
 use Rattle.cpg_app.specs.Causes.{first_named}
-use Rattle.cpg_app.specs.Told.{Sent, SinkSeen, Untouched}
-use Rattle.cpg_app.specs.Endings.{Ran, EndsAtClose, EndsInStream, Follows, IsSaid, stream_of, table_of}
+use Rattle.cpg_outputs.specs.Told.{Sent, SinkSeen, Untouched}
+use Rattle.cpg_app.specs.Endings.{Ran, EndsAtClose, EndsInStream, Follows, stream_of, table_of}
+use Rattle.cpg_outputs.specs.Said.{IsSaid}
 use Rattle.cpg_app.specs.Lawful.{AsksForTables, AsksVerdict, IsFailed, IsFaultless, IsLawful, IsRefusedStream, IsUnreadStream, status_of_end}
 use Rattle.cpg_app.proofs.Shown.{one_file}
 

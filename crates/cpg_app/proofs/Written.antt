@@ -8,7 +8,7 @@ use Rattle.cpg_io.specs.State.{SinkState}
 use Rattle.cpg_codec.specs.declared.fault.WriteFault.{WriteFault}
 use Rattle.cpg_refusal.specs.declared.halt.Halt.{Halt}
 use Rattle.cpg_refusal.specs.Lines.{line_of, status_of}
-use Rattle.cpg_app.specs.Told.{SinkSeen, Sent, Part, Untouched, IsWritten, sent}
+use Rattle.cpg_outputs.specs.Told.{SinkSeen, Sent, Part, Untouched, IsWritten, sent}
 use Rattle.cpg_app.specs.Endings.{Ran, IsTold, IsMuted}
 
 pub stopped : (r : Ran) (h : Halt) → Untouched r.out → Sent r.err r.status (status_of h) (line_of h) → IsTold r h ⊎ IsMuted r h

@@ -1,5 +1,5 @@
 -- The ways in which a run ends: its output or its line is taken whole, or the sink meets a fault; a stream has its own.
-use Rattle.std.specs.Prelude.{ℕ, ◌≡◌, ◌⊎◌, List, ◌∷◌, Some, None, Result, Ok, Err, All}
+use Rattle.std.specs.Prelude.{ℕ, ◌≡◌, ◌⊎◌, List, ◌∷◌, Some, None, All}
 use Rattle.cpg_tale.specs.Fetch.{Fetch}
 use Rattle.cpg_io.specs.State.{ShelfState}
 use Rattle.cpg_words.specs.Parts.{Text}
@@ -7,12 +7,10 @@ use Rattle.cpg_words.specs.FileWords.{file_words}
 use Rattle.cpg_words.specs.Forms.{command_of}
 use Rattle.cpg_words.specs.declared.command.Command.{Command}
 use Rattle.cpg_words.specs.declared.command.Command.TheVariants.{Live}
-use Rattle.cpg_head.specs.Head.{Head}
 use Rattle.cpg_table.specs.Table.{NodeTable, table_at}
 use Rattle.cpg_table.specs.Lawful.{Tables}
-use Rattle.cpg_codec.specs.declared.fault.WriteFault.{WriteFault}
 use Rattle.cpg_refusal.specs.declared.halt.Halt.{Halt}
-use Rattle.cpg_refusal.specs.declared.halt.Halt.TheVariants.{Words, Read, Memory}
+use Rattle.cpg_refusal.specs.declared.halt.Halt.TheVariants.{Words, Memory}
 use Rattle.cpg_refusal.specs.Lines.{line_of, status_of, write_fault_line}
 use Rattle.cpg_inputs.specs.declared.kind.Kind.TheVariants.{PackFile}
 use Rattle.cpg_inputs.specs.Files.{file, files_of}
@@ -22,10 +20,10 @@ use Rattle.cpg_inputs.specs.Says.{Value, tables_value}
 use Rattle.cpg_inputs.specs.Reading.{IsRead, Reads, StopsReading}
 use Rattle.cpg_live.specs.declared.following.Broken.{Broken}
 use Rattle.cpg_live.specs.Following.{Breaks, Completes, Stream}
-use Rattle.cpg_live.specs.Streams.{fault_line}
 use Rattle.cpg_app.specs.Causes.{OrMemory, StopsWork, first_named}
 use Rattle.cpg_app.specs.Outputs.{PutsOut}
-use Rattle.cpg_app.specs.Told.{SinkSeen, Sent, Whole, Untouched, Part}
+use Rattle.cpg_outputs.specs.Said.{IsSaid, streamed}
+use Rattle.cpg_outputs.specs.Told.{SinkSeen, Whole, Untouched, Part}
 
 -- what a run sees of its shelf, before and after
 pub record ShelfSeen : Type 0 where
@@ -118,12 +116,6 @@ pub record IsMuted (r : Ran) (halt : Halt) : Type 0 where
   pub out : Untouched r.out
   pub err : Part r.err (line_of halt)
 
--- what `err` and the status say of an output that was written, or wasn't
-abbrev pub IsEnded : Result Unit WriteFault → SinkSeen → ℕ → Type 0
-IsEnded (Ok done) err status = (status ≡ 0) × Untouched err
-IsEnded (Err WriteFault.Failed) err status = (status ≡ 3) × (Whole err write_fault_line ⊎ Part err write_fault_line)
-IsEnded (Err WriteFault.OutOfMemory) err status = Sent err status (status_of Memory) (line_of Memory)
-
 -- a run with an output
 pub record EndsWith (r : Ran) (text : Text) : Type 0 where
   pub prints : Prints r text
@@ -154,29 +146,9 @@ pub record Follows (r : Ran) : Type 0 where
 abbrev pub table_of : {r : Ran} → Follows r → NodeTable
 table_of f = table_at f.tables.nodes f.node
 
--- what a run sees of a stream and of `out`
-abbrev pub streamed : Fetch → SinkSeen → Stream
-streamed fetch out = record { fetch = fetch; before = out.before; now = out.now; old = out.old; new = out.new }
-
+-- what a run sees of its stream
 abbrev pub stream_of : (r : Ran) → Follows r → Stream
 stream_of r f = streamed f.fetch r.out
-
--- what `err` and the status say of a stream that isn't followed to its close
-abbrev pub IsSaid : SinkSeen → ℕ → Broken → Type 0
-IsSaid err status Broken.Shelf = Sent err status 2 (line_of Read)
-IsSaid err status Broken.Sink = (status ≡ 3) × (Whole err write_fault_line ⊎ Part err write_fault_line)
-IsSaid err status (Broken.Refused fault) = Sent err status 4 (fault_line fault)
-
--- a stream is followed to its close, and nothing said, or it isn't, and what is wrong is said
-abbrev pub IsToldTo : Head → NodeTable → Stream → SinkSeen → ℕ → Type 0
-IsToldTo h table s err status = (Completes h table s × (status ≡ 0) × Untouched err) ⊎ ((broken : Broken) × Breaks h table s broken × IsSaid err status broken)
-
--- how a stream that a node follows ends, which is fetched once
-pub record IsFollowedAt (h : Head) (table : NodeTable) (name : Text) (past now : List Fetch) (out err : SinkSeen) (status : ℕ) : Type 0 where
-  pub fetch : Fetch
-  pub named : fetch.name ≡ name
-  pub history : now ≡ fetch ∷ past
-  pub ends : IsToldTo h table (streamed fetch out) err status
 
 -- a run that follows its stream to the close, and has written all its lines
 pub record EndsAtClose (r : Ran) : Type 0 where

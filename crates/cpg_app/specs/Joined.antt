@@ -18,7 +18,7 @@ use Rattle.cpg_inputs.specs.Reading.{IsRead, StopsAt}
 use Rattle.cpg_app.specs.Endings.{Has, Ran}
 use Rattle.cpg_app.specs.Lawful.{Asks, AsksVerdict, IsLawful}
 use Rattle.cpg_app.specs.Outputs.{IsMadeOf, shown, packed as packed_of}
-use Rattle.cpg_app.specs.Told.{Whole}
+use Rattle.cpg_outputs.specs.Told.{Whole}
 
 -- a run wrote these bytes, whole, as a command asked of a graph file that says this graph
 pub record HasMade (asked : Text → Command) (r : Ran) (g : Graph) (made : Text) : Type 0 where

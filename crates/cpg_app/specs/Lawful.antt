@@ -31,7 +31,7 @@ use Rattle.cpg_live.specs.declared.following.StreamFault.{StreamFault}
 use Rattle.cpg_live.specs.Streams.{IsClosed, IsLawfulSoFar, IsRefused, fault_line, stream_end}
 use Rattle.cpg_app.specs.Causes.{first_named}
 use Rattle.cpg_app.specs.Endings.{Ran, Ends, Follows, Has, IsPrinted, IsTold, Prints, Stops, table_of}
-use Rattle.cpg_app.specs.Told.{Untouched, Whole}
+use Rattle.cpg_outputs.specs.Told.{Untouched, Whole}
 
 -- no sink met a fault
 pub record IsFaultless (r : Ran) : Type 0 where

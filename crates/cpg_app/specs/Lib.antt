@@ -1,8 +1,6 @@
 pub mod Halts
 pub mod Causes
-pub mod Told
 pub mod Plays
-pub mod Trials
 pub mod Tunes
 pub mod OneJudged
 pub mod Outputs

@@ -30,13 +30,13 @@ use Rattle.cpg_inputs.specs.declared.kind.Kind.TheVariants.{PackFile}
 use Rattle.cpg_inputs.specs.Files.{limit_of}
 use Rattle.cpg_inputs.specs.Says.{Value}
 use Rattle.cpg_inputs.specs.Shapes.{OnGraph, OnJudged, OnLogged, OnParts, OnPlayed, OnTables}
-use Rattle.cpg_app.specs.declared.trial_figures.Trial.{Trial as Figures}
+use Rattle.cpg_outputs.specs.declared.figures.Trial.{Trial as Figures}
 use Rattle.cpg_app.specs.declared.output.Output.{Output}
 use Rattle.cpg_app.specs.declared.output.Output.TheVariants.{Lines, Table as Shown, NodeTable as OfNode, Pack, Stream}
 use Rattle.cpg_app.specs.Causes.{first_named}
 use Rattle.cpg_app.specs.Plays.{IsPlayText, world_of}
 use Rattle.cpg_app.specs.Trial.{IsTrial}
-use Rattle.cpg_app.specs.Trials.{trial_text}
+use Rattle.cpg_outputs.specs.Trials.{trial_text}
 use Rattle.cpg_app.specs.Tunes.{IsTuningText}
 
 -- Tables that keep the ten rules, and what follows for the nodes that have them: in every scenario, with all lengths of

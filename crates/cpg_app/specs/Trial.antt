@@ -12,9 +12,9 @@ use Rattle.cpg_cluster.specs.Cluster.{World, Cluster, open_cluster}
 use Rattle.cpg_cluster.specs.Driving.{IsDriven}
 use Rattle.cpg_cluster.specs.Whole.{IsWholePlay}
 use Rattle.cpg_show.specs.TraceText.{finish_of}
-use Rattle.cpg_app.specs.declared.trial_plays.Ending.{Ending}
-use Rattle.cpg_app.specs.declared.trial_plays.Endings.{Endings}
-use Rattle.cpg_app.specs.declared.trial_figures.Trial.{Trial}
+use Rattle.cpg_outputs.specs.declared.figures.Ending.{Ending}
+use Rattle.cpg_outputs.specs.declared.figures.Endings.{Endings}
+use Rattle.cpg_outputs.specs.declared.figures.Trial.{Trial}
 
 -- some number generates the graph
 abbrev pub IsGenerated : Graph → Type 0

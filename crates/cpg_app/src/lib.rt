@@ -3,15 +3,12 @@
 
 ghost use Rattle.cpg_app.specs.Joined.{PacksAreTaken, ShowAndCompileAgree};
 
-mod answer;
 mod auditing;
 mod column_counts;
 mod halt;
-mod living;
 mod output;
 mod periods;
 mod playing;
-mod streaming;
 mod top;
 mod trial_figures;
 mod trial_plays;
@@ -20,8 +17,7 @@ mod tuning;
 mod work;
 
 pub use top::{run, run_without_words};
-pub use trial_figures::{Trial, run_trial};
-pub use trial_plays::{Ending, Endings};
+pub use trial_figures::run_trial;
 
 /// What `compile` wrote for a graph, `check` with that graph finds safe, `play` plays for each scenario file of the graph,
 /// `audit` audits each log of the graph by, and `node` prints for each of its nodes, want of memory aside.

@@ -1,10 +1,20 @@
 //! What a command puts out.
+ghost use Rattle.std.specs.Prelude.{◌<◌, length};
+ghost use Rattle.cpg_codec.specs.Spelling.{spelling};
+ghost use Rattle.cpg_show.specs.NodeText.{node_text};
+ghost use Rattle.cpg_app.specs.Outputs.{shown};
+ghost use Rattle.cpg_outputs.specs.Told.{IsWritten, sent};
 
+use cpg_codec::{WriteFault, write_pack};
 use cpg_core::Compiled;
+use cpg_io::Sink;
 use cpg_live::Follower;
 use cpg_rules::Admitted;
+use cpg_show::{write_node, write_table};
 use cpg_table::Tables;
 use cpg_words::Word;
+use std::alloc::Global;
+use std::mem::forget;
 
 /// An admitted graph, and what its compile answers.
 #[derive(Drop)]
@@ -38,4 +48,41 @@ pub enum Output {
         /// The file of its records.
         stream: Word,
     },
+}
+
+// The run ends by what it writes, and the system takes its memory back at once. So the tables are forgotten: a drop would go
+// through all their columns.
+
+/// Writes the tables of a graph as a text.
+pub fn put_tables<O: Sink>(alloc: Global, made: Made, out: &mut O) -> Result<(), WriteFault>
+    ensures { IsWritten (sent (O.state out.old) (O.state out.new)) result (shown made.admitted.graph made.compiled) }
+{
+    let compiled = &made.compiled;
+    let written = write_table(alloc, &made.admitted, &compiled.built, &compiled.order, out);
+    forget(made);
+    written
+}
+
+/// Writes the table of a node as a text.
+pub fn put_node_table<O: Sink>(
+    alloc: Global,
+    tables: Tables,
+    node: u32,
+    out: &mut O,
+) -> Result<(), WriteFault>
+    requires { node < length tables.head.nodes }
+    ensures { IsWritten (sent (O.state out.old) (O.state out.new)) result (node_text tables node) }
+{
+    let written = write_node(alloc, &tables, node, out);
+    forget(tables);
+    written
+}
+
+/// Writes tables as a pack.
+pub fn put_pack<O: Sink>(alloc: Global, tables: Tables, out: &mut O) -> Result<(), WriteFault>
+    ensures { IsWritten (sent (O.state out.old) (O.state out.new)) result (spelling tables) }
+{
+    let written = write_pack(alloc, &tables, out);
+    forget(tables);
+    written
 }

@@ -9,17 +9,14 @@ ghost use Rattle.cpg_refusal.specs.Lines.{line_of, status_of};
 ghost use Rattle.cpg_inputs.specs.Inputs.{AreFit};
 ghost use Rattle.cpg_app.specs.Endings.{seen, HasAt, MayRun};
 ghost use Rattle.cpg_app.specs.Lawful.{IsLawful};
-ghost use Rattle.cpg_app.specs.Told.{sent, Sent};
+ghost use Rattle.cpg_outputs.specs.Told.{sent, Sent};
 
-use crate::answer::{end, put, put_tables, stop};
-use crate::living::follow;
-use crate::output::Output;
+use crate::output::{Output, put_node_table, put_pack, put_tables};
 use crate::work::work;
-use cpg_codec::write_pack;
 use cpg_inputs::{Inputs, read_inputs};
 use cpg_io::{Shelf, Sink};
+use cpg_outputs::{end, follow, put, stop};
 use cpg_refusal::Halt;
-use cpg_show::write_node;
 use cpg_words::{WordsFault, read_words};
 use std::alloc::Global;
 
@@ -46,9 +43,12 @@ fn finish<S: Shelf, O: Sink, E: Sink>(
 {
     match work(alloc, inputs) {
         Ok(Output::Lines(text)) => end(put(text.as_str(), out), err),
-        Ok(Output::Table(made)) => end(put_tables(alloc, &made, out), err),
-        Ok(Output::NodeTable { tables, node }) => end(write_node(alloc, &tables, node, out), err),
-        Ok(Output::Pack(tables)) => end(write_pack(alloc, &tables, out), err),
+        Ok(Output::Table(made)) => end(put_tables(alloc, made, out), err),
+        Ok(Output::NodeTable { tables, node }) => end(
+            put_node_table(alloc, tables, node, out),
+            err,
+        ),
+        Ok(Output::Pack(tables)) => end(put_pack(alloc, tables, out), err),
         Ok(
             Output::Stream {
                 mut follower,

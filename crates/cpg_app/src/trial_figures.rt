@@ -10,32 +10,15 @@ ghost use Rattle.cpg_core.specs.Compilation.{IsCompilation};
 ghost use Rattle.cpg_app.specs.Trial.{AreFiguresOf, IsGenerated, IsTrial};
 
 use crate::column_counts::column_total;
-use crate::trial_plays::{Endings, endings_of};
+use crate::trial_plays::endings_of;
 use cpg_base::OutOfMemory;
 use cpg_check::{Verdict, check};
 use cpg_core::{CompileFault, Compiled, compile};
 use cpg_gen::generate;
+use cpg_outputs::Trial;
 use cpg_rules::{Admitted, Refused, RuleFault, admit};
 use cpg_table::Tables;
 use std::alloc::Global;
-
-/// The figures of a trial: how large the graph of its number and the tables of that are, and what three plays of them come
-/// to.
-#[derive(Clone, Copy)]
-pub struct Trial {
-    /// How many processes there are.
-    pub processes: u32,
-    /// How many edges.
-    pub edges: u32,
-    /// How many conditions.
-    pub conditions: u32,
-    /// How many columns all tables have, those of what is heard among them.
-    pub columns: u64,
-    /// The greatest finish of all scenarios, in time units.
-    pub worst: u64,
-    /// What the plays come to.
-    pub endings: Endings,
-}
 
 /// The want of memory that an admission tells.
 fn unadmitted(fault: RuleFault) -> OutOfMemory

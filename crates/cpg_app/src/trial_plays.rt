@@ -10,30 +10,11 @@ ghost use Rattle.cpg_app.specs.Trial.{AreEndings, IsEnding, true_scenario};
 use cpg_base::{OutOfMemory, Problem, Scenario};
 use cpg_cluster::Cluster;
 use cpg_core::Compiled;
+use cpg_outputs::{Ending, Endings};
 use cpg_rules::Admitted;
 use cpg_show::finish;
 use cpg_table::Tables;
 use std::alloc::Global;
-
-/// What a play comes to.
-#[derive(Clone, Copy)]
-pub struct Ending {
-    /// The greatest end of an execution, in time units; 0 where there is none.
-    pub finish: u64,
-    /// How many of the asks waited.
-    pub waits: u64,
-}
-
-/// What the plays of a trial come to.
-#[derive(Clone, Copy)]
-pub struct Endings {
-    /// The play without faults and with every value false.
-    pub fault_free: Ending,
-    /// The play of the least scenario of the greatest finish.
-    pub worst_case: Ending,
-    /// The play with every value true and two faults of the first process.
-    pub all_true: Ending,
-}
 
 /// Plays valid tables in a scenario to the end as a number drives it, each execution as long as planned.
 fn ending_of(

@@ -1,22 +1,21 @@
 //! The tuning that a command asks for.
-ghost use Rattle.std.specs.Prelude.{◌≡◌, ◌<◌, ◌++◌, All, IfOk, IfErr, OnOk, codes, string_bytes};
-ghost use Rattle.cpg_base.specs.Graph.{item_count};
+ghost use Rattle.std.specs.Prelude.{◌≡◌, All, IfOk, IfErr, string_bytes};
 ghost use Rattle.cpg_rules.specs.Admission.{IsAdmitted};
 ghost use Rattle.cpg_tune.specs.Tuned.{IsTuning};
 ghost use Rattle.cpg_tune.specs.RetunedLaws.{ShowsNoFault};
 ghost use Rattle.cpg_refusal.specs.declared.halt.Halt.TheVariants.{Memory};
-ghost use Rattle.cpg_refusal.specs.Lines.{item_text};
 ghost use Rattle.cpg_app.specs.Outputs.{Puts};
-ghost use Rattle.cpg_app.specs.Tunes.{judged_text, parts_line, parts_lines, row_line, row_lines, tolerates_line, tuning_text, IsCompileAnswer, IsJudged, IsNamedRow, IsTuningText};
+ghost use Rattle.cpg_app.specs.Tunes.{IsCompileAnswer, IsJudged, IsTuningText};
+ghost use Rattle.cpg_outputs.specs.Tunes.{IsNamedRow};
 
 use crate::output::Output;
-use cpg_base::{OutOfMemory, Problem, Process};
+use cpg_base::{OutOfMemory, Problem};
 use cpg_core::{CompileFault, compile};
-use cpg_label::write_item;
+use cpg_outputs::tuning_text;
 use cpg_refusal::Halt;
 use cpg_rules::{Admitted, RuleFault, admit};
 use cpg_tune::{Judge, Judged, Tuned, tune};
-use std::alloc::{AllocError, Global};
+use std::alloc::Global;
 
 /// Admits a graph that breaks no rule.
 fn admit_again(alloc: Global, problem: &Problem) -> Result<Admitted, OutOfMemory>
@@ -66,89 +65,6 @@ impl Judge for Compiler {
     }
 
     ghost one_answer = { λ _ g a b _ x y. one_judged g a b x y };
-}
-
-fn write_part(out: &mut String, process: &Process, parts: u32) -> Result<(), AllocError>
-    ensures { OnOk result (string_bytes out.new ≡ string_bytes out.old ++ parts_line process.now parts) }
-{
-    let name = process.name.as_str();
-    write!(out, "{name} parts {parts}\n")
-}
-
-/// The best parts of each process.
-fn write_parts(out: &mut String, problem: &Problem, parts: &[u32]) -> Result<(), AllocError>
-    ensures { OnOk result (string_bytes out.new ≡ string_bytes out.old ++ parts_lines problem.now.processes parts.now) }
-{
-    for (process, parts) in problem.processes().iter().zip(parts) {
-        write_part(out, process, *parts)?;
-    }
-    Ok(())
-}
-
-fn write_wide(out: &mut String, problem: &Problem, item: u32) -> Result<(), AllocError>
-    requires { item < item_count problem.now }
-    ensures { OnOk result (string_bytes out.new ≡ string_bytes out.old ++ (codes "wide " ++ item_text problem.now item)) }
-{
-    out.push_str("wide ")?;
-    write_item(out, problem, item)
-}
-
-fn write_judged(out: &mut String, problem: &Problem, judged: Judged) -> Result<(), AllocError>
-    requires { IsNamedRow problem.now judged }
-    ensures { OnOk result (string_bytes out.new ≡ string_bytes out.old ++ judged_text problem.now judged) }
-{
-    match judged {
-        Judged::Worst(finish) => write!(out, "worst {finish}"),
-        Judged::Late(finish) => write!(out, "late {finish}"),
-        Judged::Wide(item) => write_wide(out, problem, item),
-    }
-}
-
-fn write_row(
-    out: &mut String,
-    problem: &Problem,
-    faults: usize,
-    judged: Judged,
-) -> Result<(), AllocError>
-    requires { IsNamedRow problem.now judged }
-    ensures { OnOk result (string_bytes out.new ≡ string_bytes out.old ++ row_line problem.now faults judged) }
-{
-    write!(out, "k {faults} ")?;
-    write_judged(out, problem, judged)?;
-    out.push_str("\n")
-}
-
-/// What was said of the graph, by fault number.
-fn write_rows(out: &mut String, problem: &Problem, rows: &[Judged]) -> Result<(), AllocError>
-    requires { All (IsNamedRow problem.now) rows.now }
-    ensures { OnOk result (string_bytes out.new ≡ string_bytes out.old ++ row_lines problem.now 0 rows.now) }
-{
-    for (faults, judged) in rows.iter().enumerate() {
-        write_row(out, problem, faults, *judged)?;
-    }
-    Ok(())
-}
-
-/// How many faults are tolerated.
-fn write_tolerates(out: &mut String, tolerates: Option<u8>) -> Result<(), AllocError>
-    ensures { OnOk result (string_bytes out.new ≡ string_bytes out.old ++ tolerates_line tolerates) }
-{
-    match tolerates {
-        Some(faults) => write!(out, "tolerates {faults}\n"),
-        None => out.push_str("tolerates none\n"),
-    }
-}
-
-/// The text of a tuning.
-fn tuning_text(alloc: Global, problem: &Problem, tuned: &Tuned) -> Result<String, OutOfMemory>
-    requires { All (IsNamedRow problem.now) tuned.now.rows }
-    ensures { IfOk result (λ text. string_bytes text ≡ tuning_text problem.now tuned.now) }
-{
-    let mut text = String::new(alloc);
-    write_parts(&mut text, problem, tuned.parts())?;
-    write_rows(&mut text, problem, tuned.rows())?;
-    write_tolerates(&mut text, tuned.tolerates())?;
-    Ok(text)
 }
 
 /// The tuning of an admitted graph by its compiles.

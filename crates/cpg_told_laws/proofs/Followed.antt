@@ -25,7 +25,8 @@ use Rattle.cpg_live.specs.declared.following.StreamFault.{StreamFault}
 use Rattle.cpg_live.specs.Following.{Breaks}
 use Rattle.cpg_live.specs.Streams.{stream_end}
 use Rattle.cpg_app.specs.Causes.{StopsNaming, StopsWork, first_named}
-use Rattle.cpg_app.specs.Endings.{Ran as Run, Ends as EndsRun, Follows as FollowsRun, Has, IsMuted as IsMutedRun, IsSaid, IsTold as IsToldRun, Stops as StopsRun, StopsInFiles, StopsInWords, StopsInWork, stream_of, table_of}
+use Rattle.cpg_app.specs.Endings.{Ran as Run, Ends as EndsRun, Follows as FollowsRun, Has, IsMuted as IsMutedRun, IsTold as IsToldRun, Stops as StopsRun, StopsInFiles, StopsInWords, StopsInWork, stream_of, table_of}
+use Rattle.cpg_outputs.specs.Said.{IsSaid}
 use Rattle.cpg_app.specs.Lawful.{IsLawful as IsLawfulRun}
 use Rattle.cpg_app.specs.Outputs.{PutsOut}
 use Rattle.cpg_told_laws.specs.Lawful.{AsksStream, status_of_end}

@@ -5,8 +5,8 @@ use Rattle.cpg_refusal.specs.declared.halt.Halt.TheVariants.{Read}
 use Rattle.cpg_refusal.specs.Lines.{line_of, write_fault_line}
 use Rattle.cpg_live.specs.declared.following.Broken.{Broken}
 use Rattle.cpg_live.specs.Streams.{fault_line}
-use Rattle.cpg_app.specs.Endings.{IsSaid as IsSaidRun}
-use Rattle.cpg_app.specs.Told.{SinkSeen as SinkSeenRun, Part as PartRun, Sent as SentRun, Whole as WholeRun}
+use Rattle.cpg_outputs.specs.Said.{IsSaid as IsSaidRun}
+use Rattle.cpg_outputs.specs.Told.{SinkSeen as SinkSeenRun, Part as PartRun, Sent as SentRun, Whole as WholeRun}
 use Rattle.cpg_told_laws.specs.Endings.{IsSaid}
 use Rattle.cpg_told_laws.specs.Sinks.{Part, Sent, Whole, telling}
 

@@ -2,7 +2,7 @@
 use Rattle.std.specs.Prelude.{ℕ, ◌≡◌, ◌≢◌, ◌<◌, List, Option, Some, length, take}
 use Rattle.std.specs.Io.KnownBytes.{Appends, Keeps}
 use Rattle.cpg_io.specs.Causes.{Rose}
-use Rattle.cpg_app.specs.Told.{SinkSeen as SinkSeenRun}
+use Rattle.cpg_outputs.specs.Told.{SinkSeen as SinkSeenRun}
 
 -- the known bytes grew by a proper front of the piece
 abbrev pub TookPrefix : Option (List ℕ) → Option (List ℕ) → List ℕ → Type 0

@@ -9,7 +9,7 @@ use Rattle.cpg_refusal.specs.Halts.{halt_of_words}
 use Rattle.cpg_refusal.specs.Lines.{line_of, status_of}
 use Rattle.cpg_app.specs.Endings.{Ran, seen}
 use Rattle.cpg_app.specs.Lawful.{IsLawful}
-use Rattle.cpg_app.specs.Told.{Sent, sent}
+use Rattle.cpg_outputs.specs.Told.{Sent, sent}
 use Rattle.cpgc.specs.Statuses.{program_run, EndsWithout}
 
 module _ (words : List Text) (shelf : FileShelfState) (out err : StreamSinkState) (status : ℕ) where

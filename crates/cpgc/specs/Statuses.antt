@@ -7,7 +7,7 @@ use Rattle.cpg_refusal.specs.declared.halt.Halt.TheVariants.{Memory}
 use Rattle.cpg_app.specs.Endings.{Ran, seen}
 use Rattle.cpg_refusal.specs.Halts.{halt_of_words}
 use Rattle.cpg_refusal.specs.Lines.{line_of, status_of}
-use Rattle.cpg_app.specs.Told.{Sent, sent}
+use Rattle.cpg_outputs.specs.Told.{Sent, sent}
 
 -- a shelf of which no file was fetched, and a sink to which nothing was written
 abbrev pub unread : ShelfState

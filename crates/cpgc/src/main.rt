@@ -9,7 +9,7 @@ ghost use Rattle.cpg_words.specs.declared.fault.WordsFault.{WordsFault};
 ghost use Rattle.cpg_io.specs.Adapters.{shelf_of, sink_of};
 ghost use Rattle.cpg_app.specs.Endings.{seen};
 ghost use Rattle.cpg_app.specs.Lawful.{IsLawful};
-ghost use Rattle.cpg_app.specs.Told.{sent};
+ghost use Rattle.cpg_outputs.specs.Told.{sent};
 ghost use Rattle.cpgc.specs.Statuses.{program_run, EndsWithout};
 
 use cpg_app::{run, run_without_words};

@@ -1,15 +1,14 @@
-use Rattle.std.proofs.Common.{ℕ, List, ap, inr, refl, sym, subst, string_bytes}
+use Rattle.std.proofs.Common.{ℕ, List, inr, refl, sym, subst, string_bytes}
 use Rattle.cpg_codec.specs.Spelling.{spelling}
 use Rattle.cpg_show.specs.NodeText.{node_text}
 use Rattle.cpg_inputs.proofs.Keeping.{keeps_same}
 use Rattle.cpg_app.specs.declared.output.Output.TheVariants.{Lines, Table as Shown, NodeTable as OfNode, Pack}
 use Rattle.cpg_app.specs.Endings.{Has, Prints, Ran, seen}
 use Rattle.cpg_app.specs.Outputs.{Answers, shown}
-use Rattle.cpg_app.specs.Told.{IsWritten, sent}
+use Rattle.cpg_outputs.specs.Told.{IsWritten, sent}
 use Rattle.cpg_app.proofs.Answered.{followed_lawful, halt_named, is_open, may_follow}
 use Rattle.cpg_app.proofs.Finished.{stopped_lawful, written_lawful}
 use Rattle.cpg_app.proofs.Worked.{IsLive, live_of, text_of}
-use Rattle.cpg_app.proofs.Written.{packed}
 use Rattle.cpg_app.proofs.top.finish.Goals as goal
 
 pub follow-requires-clause-may : goal.follow-requires-clause-may
@@ -29,8 +28,8 @@ stop-requires g c =
     let asked = c.requires.may in
     halt_named asked.command asked.values c.in-Err.halt (c.in-Err.ensures.halt asked.command asked.values asked.are)
 
-pub write_node-requires : goal.write_node-requires
-write_node-requires g c =
+pub put_node_table-requires : goal.put_node_table-requires
+put_node_table-requires g c =
     let asked = c.requires.may in
     (text_of asked.command asked.values (OfNode c.in-Ok-NodeTable.tables c.in-Ok-NodeTable.node) tt (subst (Answers asked.command asked.values) c.in-Ok-NodeTable.field-0-is (c.in-Ok-NodeTable.ensures.output asked.command asked.values asked.are))).0
 
@@ -67,28 +66,28 @@ returns-in-Ok-NodeTable-clause-lawful g c words start at =
     let r : Ran = record {
       words = words;
       shelf = seen start (g.S.Shelf.state c.args.shelf.now);
-      out = sent (g.O.Sink.state c.args.out.now) (g.O.Sink.state c.write_node.new.sink);
+      out = sent (g.O.Sink.state c.args.out.now) (g.O.Sink.state c.put_node_table.new.out);
       err = sent (g.E.Sink.state c.args.err.now) (g.E.Sink.state c.end-in-Ok-NodeTable.new.err);
       status = c.end-in-Ok-NodeTable.result;
     } in
     let has : Has r at.command at.has.values = record { words = at.words; reads = at.has.reads } in
     let puts = text_of at.command at.has.values (OfNode c.in-Ok-NodeTable.tables c.in-Ok-NodeTable.node) tt (subst (Answers at.command at.has.values) c.in-Ok-NodeTable.field-0-is (c.in-Ok-NodeTable.ensures.output at.command at.has.values at.has.are)) in
     let prints : Prints r (node_text c.in-Ok-NodeTable.tables c.in-Ok-NodeTable.node) = record { command = at.command; values = at.has.values; has = has; puts = puts.1 } in
-    written_lawful r (node_text c.in-Ok-NodeTable.tables c.in-Ok-NodeTable.node) c.write_node.result prints (packed (g.O.Sink.state c.args.out.now) (g.O.Sink.state c.write_node.new.sink) (node_text c.in-Ok-NodeTable.tables c.in-Ok-NodeTable.node) c.write_node.result c.write_node.ensures.whole c.write_node.ensures.part c.write_node.ensures.cause (λ e. ap g.O.Sink.state (c.write_node.ensures.same e))) c.end-in-Ok-NodeTable.ensures
+    written_lawful r (node_text c.in-Ok-NodeTable.tables c.in-Ok-NodeTable.node) c.put_node_table.result prints c.put_node_table.ensures c.end-in-Ok-NodeTable.ensures
 
 pub returns-in-Ok-Pack-clause-lawful : goal.returns-in-Ok-Pack-clause-lawful
 returns-in-Ok-Pack-clause-lawful g c words start at =
     let r : Ran = record {
       words = words;
       shelf = seen start (g.S.Shelf.state c.args.shelf.now);
-      out = sent (g.O.Sink.state c.args.out.now) (g.O.Sink.state c.write_pack.new.sink);
+      out = sent (g.O.Sink.state c.args.out.now) (g.O.Sink.state c.put_pack.new.out);
       err = sent (g.E.Sink.state c.args.err.now) (g.E.Sink.state c.end-in-Ok-Pack.new.err);
       status = c.end-in-Ok-Pack.result;
     } in
     let has : Has r at.command at.has.values = record { words = at.words; reads = at.has.reads } in
     let puts = text_of at.command at.has.values (Pack c.in-Ok-Pack.tables) tt (subst (Answers at.command at.has.values) c.in-Ok-Pack.field-0-is (c.in-Ok-Pack.ensures.output at.command at.has.values at.has.are)) in
     let prints : Prints r (spelling c.in-Ok-Pack.tables) = record { command = at.command; values = at.has.values; has = has; puts = puts } in
-    written_lawful r (spelling c.in-Ok-Pack.tables) c.write_pack.result prints (packed (g.O.Sink.state c.args.out.now) (g.O.Sink.state c.write_pack.new.sink) (spelling c.in-Ok-Pack.tables) c.write_pack.result c.write_pack.ensures.whole c.write_pack.ensures.part c.write_pack.ensures.cause (λ e. ap g.O.Sink.state (c.write_pack.ensures.same e))) c.end-in-Ok-Pack.ensures
+    written_lawful r (spelling c.in-Ok-Pack.tables) c.put_pack.result prints c.put_pack.ensures c.end-in-Ok-Pack.ensures
 
 pub returns-in-Ok-Stream-clause-lawful : goal.returns-in-Ok-Stream-clause-lawful
 returns-in-Ok-Stream-clause-lawful g c words start at =

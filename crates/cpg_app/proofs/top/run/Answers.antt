@@ -4,7 +4,7 @@ use Rattle.cpg_inputs.specs.Files.{files_of}
 use Rattle.cpg_inputs.proofs.Fitting.{inputs_fit}
 use Rattle.cpg_inputs.proofs.Keeping.{keeps_on, keeps_same}
 use Rattle.cpg_app.specs.Endings.{Ran, seen}
-use Rattle.cpg_app.specs.Told.{sent}
+use Rattle.cpg_outputs.specs.Told.{sent}
 use Rattle.cpg_app.proofs.Finished.{stopped_lawful, wordless_lawful}
 use Rattle.cpg_app.proofs.Named.{files_named}
 use Rattle.cpg_app.proofs.top.run.Goals as goal

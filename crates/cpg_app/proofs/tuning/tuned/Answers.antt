@@ -5,9 +5,10 @@ use Rattle.cpg_tune.specs.Asked.{MayAskRows}
 use Rattle.cpg_tune.specs.Tuned.{IsTuning}
 use Rattle.cpg_tune.specs.RetunedLaws.{ShowsNoFault}
 use Rattle.cpg_tune.proofs.Kept.{tuned_no_fault}
-use Rattle.cpg_app.specs.Tunes.{IsJudged, IsNamedRow}
+use Rattle.cpg_outputs.specs.Tunes.{IsNamedRow}
+use Rattle.cpg_app.specs.Tunes.{IsJudged}
 use Rattle.cpg_app.proofs.Worked.{if_ok}
-use Rattle.cpg_app.proofs.TunedLines.{rows_named}
+use Rattle.cpg_app.proofs.TunedRows.{rows_named}
 use Rattle.cpg_app.proofs.tuning.tuned.Goals as goal
 
 pub tune-requires : goal.tune-requires

@@ -1,0 +1,3 @@
+pub mod StreamFetch
+pub mod Followed
+pub mod TunedLines

@@ -1,0 +1,13 @@
+-- The lines of a tuning: where one list is used up.
+use Rattle.std.proofs.Common.{ℕ, ◌≡◌, ◌⊎◌, ◌∙◌, List, [], ◌∷◌, ◌++◌, length, refl, sym, ap, inl, inr, arith, append-nil}
+use Rattle.cpg_base.specs.declared.process.Process.{Process}
+use Rattle.cpg_outputs.specs.Tunes.{parts_lines}
+
+parts_done : (ps : List Process) (parts : List ℕ) → (ps ≡ []) ⊎ (parts ≡ []) → parts_lines ps parts ≡ []
+parts_done [] parts e = refl
+parts_done (p ∷ ps) [] e = refl
+parts_done (p ∷ ps) (n ∷ parts) (inl e) = absurd (let l = ap length e in omega (arith, l))
+parts_done (p ∷ ps) (n ∷ parts) (inr e) = absurd (let l = ap length e in omega (arith, l))
+
+pub parts_whole : (ps : List Process) (parts whole now : List ℕ) → whole ≡ now ++ parts_lines ps parts → (ps ≡ []) ⊎ (parts ≡ []) → now ≡ whole
+parts_whole ps parts whole now h e = sym (h ∙ (ap (λ rest. now ++ rest) (parts_done ps parts e) ∙ append-nil now))

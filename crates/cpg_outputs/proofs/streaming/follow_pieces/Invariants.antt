@@ -1,0 +1,23 @@
+use Rattle.std.proofs.Common.{ℕ, List, ◌≤◌, ◌-◌}
+use Rattle.cpg_tale.specs.Fetch.{Fetch}
+use Rattle.cpg_io.specs.Agreement.{LeavesRest}
+use Rattle.cpg_io.specs.Shelf.{SameLeave, SameNames}
+use Rattle.cpg_live.specs.declared.following.TheConstants.{STREAM_LIMIT}
+use Rattle.cpg_live.specs.Following.{IsAlong, IsOfSame}
+use Rattle.cpg_outputs.proofs.streaming.follow_pieces.Given as goal
+
+abbrev pub invariant-loop-count : goal.invariant-loop-count
+invariant-loop-count g l = record {
+  few : l.follower.read ≤ STREAM_LIMIT;
+  names : SameNames (g.S.Shelf.state l.fn.shelf) (g.S.Shelf.state l.shelf);
+  leave : SameLeave (g.S.Shelf.may_fetch l.fn.shelf) (g.S.Shelf.may_fetch l.shelf);
+  rest : LeavesRest (g.S.Shelf.state l.fn.shelf) → LeavesRest (g.S.Shelf.state l.shelf);
+  same : IsOfSame l.fn.follower l.follower;
+  along : (start name : List ℕ) (past : List Fetch) → IsAlong name past (g.S.Shelf.state l.fn.shelf).history start (g.O.Sink.state l.fn.out).taken l.fn.follower
+      → IsAlong name past (g.S.Shelf.state l.shelf).history start (g.O.Sink.state l.out).taken l.follower;
+  later : (g.S.Shelf.state l.fn.shelf).faults ≤ (g.S.Shelf.state l.shelf).faults;
+  out_later : (g.O.Sink.state l.fn.out).faults ≤ (g.O.Sink.state l.out).faults;
+}
+
+abbrev pub decreases-loop-count : goal.decreases-loop-count
+decreases-loop-count g l = STREAM_LIMIT - l.follower.read

@@ -1,0 +1,4 @@
+pub mod Told
+pub mod Said
+pub mod Trials
+pub mod Tunes

@@ -1,0 +1,40 @@
+-- What `err` and the status say at the end of a run.
+use Rattle.std.specs.Prelude.{ℕ, ◌≡◌, ◌⊎◌, List, ◌∷◌, Result, Ok, Err}
+use Rattle.cpg_tale.specs.Fetch.{Fetch}
+use Rattle.cpg_words.specs.Parts.{Text}
+use Rattle.cpg_head.specs.Head.{Head}
+use Rattle.cpg_table.specs.Table.{NodeTable}
+use Rattle.cpg_codec.specs.declared.fault.WriteFault.{WriteFault}
+use Rattle.cpg_refusal.specs.declared.halt.Halt.TheVariants.{Read, Memory}
+use Rattle.cpg_refusal.specs.Lines.{line_of, status_of, write_fault_line}
+use Rattle.cpg_live.specs.declared.following.Broken.{Broken}
+use Rattle.cpg_live.specs.Following.{Breaks, Completes, Stream}
+use Rattle.cpg_live.specs.Streams.{fault_line}
+use Rattle.cpg_outputs.specs.Told.{SinkSeen, Sent, Whole, Untouched, Part}
+
+-- what `err` and the status say of an output that was written, or wasn't
+abbrev pub IsEnded : Result Unit WriteFault → SinkSeen → ℕ → Type 0
+IsEnded (Ok done) err status = (status ≡ 0) × Untouched err
+IsEnded (Err WriteFault.Failed) err status = (status ≡ 3) × (Whole err write_fault_line ⊎ Part err write_fault_line)
+IsEnded (Err WriteFault.OutOfMemory) err status = Sent err status (status_of Memory) (line_of Memory)
+
+-- what a run sees of a stream and of `out`
+abbrev pub streamed : Fetch → SinkSeen → Stream
+streamed fetch out = record { fetch = fetch; before = out.before; now = out.now; old = out.old; new = out.new }
+
+-- what `err` and the status say of a stream that isn't followed to its close
+abbrev pub IsSaid : SinkSeen → ℕ → Broken → Type 0
+IsSaid err status Broken.Shelf = Sent err status 2 (line_of Read)
+IsSaid err status Broken.Sink = (status ≡ 3) × (Whole err write_fault_line ⊎ Part err write_fault_line)
+IsSaid err status (Broken.Refused fault) = Sent err status 4 (fault_line fault)
+
+-- a stream is followed to its close, and nothing said, or it isn't, and what is wrong is said
+abbrev pub IsToldTo : Head → NodeTable → Stream → SinkSeen → ℕ → Type 0
+IsToldTo h table s err status = (Completes h table s × (status ≡ 0) × Untouched err) ⊎ ((broken : Broken) × Breaks h table s broken × IsSaid err status broken)
+
+-- how a stream that a node follows ends, which is fetched once
+pub record IsFollowedAt (h : Head) (table : NodeTable) (name : Text) (past now : List Fetch) (out err : SinkSeen) (status : ℕ) : Type 0 where
+  pub fetch : Fetch
+  pub named : fetch.name ≡ name
+  pub history : now ≡ fetch ∷ past
+  pub ends : IsToldTo h table (streamed fetch out) err status
