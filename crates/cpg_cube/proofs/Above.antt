@@ -6,7 +6,7 @@ use Rattle.std.proofs.lemmas.Option.{get_or_from_slice_get}
 use Rattle.std.proofs.lemmas.List.Elements.{All-contains}
 use Rattle.cpg_base.proofs.Lists.{Contains-first}
 use Rattle.cpg_cube.specs.Cube.{Literal, IsRising}
-use Rattle.cpg_cube.specs.Cover.{meet_literal, narrowed_by, range_left}
+use Rattle.cpg_cube.specs.Narrow.{meet_literal, narrowed_by, range_left}
 use Rattle.cpg_cube.proofs.Narrow.{narrowed-after}
 
 pub all_under : (ms : List Literal) (v : ℕ) (m : Literal) → IsRising ms → slice_get ms (length ms - 1) ≡ Some m → m.variable < v → All (λ l. l.variable < v) ms

@@ -6,7 +6,7 @@ use Rattle.cpg_base.proofs.Lists.{Contains-first, Contains-rest}
 use Rattle.cpg_base.proofs.Pairs.{AllPairs-first, AllPairs-rest}
 use Rattle.cpg_cube.specs.declared.cube.Narrowing.{Narrowing}
 use Rattle.cpg_cube.specs.Cube.{Literal, IsRising}
-use Rattle.cpg_cube.specs.Cover.{meet_literal, narrowed_by, range_left, with_literal}
+use Rattle.cpg_cube.specs.Narrow.{meet_literal, narrowed_by, range_left, with_literal}
 use Rattle.cpg_cube.specs.Undo.{IsOn, IsUndo, left_of, restored_at, restored}
 use Rattle.cpg_cube.proofs.Narrow.{narrowed-before, narrowed-here, narrowed-after, rising-narrowed}
 

@@ -8,7 +8,7 @@ use Rattle.std.specs.Cmp.{IsStrictWeakOrder}
 use Rattle.std.specs.Cmp.Lexicographic.{slice_cmp}
 use Rattle.std.specs.List.Sorted.{IsSortedBy}
 use Rattle.std.proofs.lemmas.Cmp.{nat_list_cmp_total}
-use Rattle.std.proofs.lemmas.List.Sorted.{ranks_by, sorted_far, All-permutation}
+use Rattle.std.proofs.lemmas.List.Sorted.{ranks_by, sorted_far, All-permutation, IsPermutation-refl}
 use Rattle.std.proofs.lemmas.List.{length-map, map-append}
 use Rattle.cpg_cube.specs.Cube.{Literal, low_in}
 use Rattle.cpg_base.specs.Graph.{Graph, condition_of}
@@ -39,10 +39,10 @@ pub asked_some : (left x : ℕ) (xs : List ℕ) → x ≢ 0 → asked_from left 
 asked_some left x xs n = cond-false (x == 0) _ _ (ne_eqb x 0 n)
 
 -- the first of two equal ones tell nothing
-same_first : (x : ℕ) (xs ys : List ℕ) → is_below (x ∷ xs) (x ∷ ys) ≡ is_below xs ys
+pub same_first : (x : ℕ) (xs ys : List ℕ) → is_below (x ∷ xs) (x ∷ ys) ≡ is_below xs ys
 same_first x xs ys = ap (λ (o : Ordering). is_lt (ordering_then o (slice_cmp nat_cmp xs ys))) (cmp_same x x refl)
 
-more_first : (x y : ℕ) (xs ys : List ℕ) → y < x → is_below (x ∷ xs) (y ∷ ys) ≡ false
+pub more_first : (x y : ℕ) (xs ys : List ℕ) → y < x → is_below (x ∷ xs) (y ∷ ys) ≡ false
 more_first x y xs ys l = ap (λ (o : Ordering). is_lt (ordering_then o (slice_cmp nat_cmp xs ys))) (cmp_more x y l)
 
 -- lows of bytes and others
@@ -214,3 +214,7 @@ by_lows {T} cube g order variables few along before after keys p up = AllPairs-m
 -- each process of an order is below how many there are
 pub within_order : (n : ℕ) (order : List ℕ) → IsPermutation (numbers_below n) order → All (λ p. p < n) order
 within_order n order p = All-permutation (λ p. p < n) (numbers_below n) order p (λ k d l. numbers-Contains n (get_or (numbers_below n) k d) (Contains-get_or (numbers_below n) k d l))
+
+-- equal lists are permutations
+pub permutation_of_equal : {T : Type 0} (xs ys : List T) → xs ≡ ys → IsPermutation xs ys
+permutation_of_equal xs ys e = subst (IsPermutation xs) e (IsPermutation-refl xs)

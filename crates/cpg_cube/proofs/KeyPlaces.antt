@@ -6,15 +6,15 @@ use Rattle.std.proofs.lemmas.Bool.{and_parts, cases_eq, cases_lt, cond-true, con
 use Rattle.std.proofs.lemmas.List.{append-nil, get_or-replicate, get_or_past, get_or-set_same, get_or-set_other, get_or-take, get_or_default, length-take-le, take_more, drop_more}
 use Rattle.std.proofs.lemmas.List.Elements.{All-contains, All-nil, All-push, All-tail, Contains-get_or, Contains-push_cases}
 use Rattle.cpg_base.specs.Graph.{Graph, process_count, process_of, condition_of, value_variable}
-use Rattle.cpg_base.specs.Numbers.{numbers_below}
+use Rattle.cpg_base.specs.Numbers.{is_below, numbers_below}
 use Rattle.cpg_base.proofs.Lists.{Contains-first, Contains-rest, Contains-cases, Contains-nil, from_all, same_map}
 use Rattle.cpg_base.proofs.Pairs.{AllPairs-first, AllPairs-rest, AllPairs-nil, AllPairs-cons_by, AllPairs-flat_map_in, order_apart}
 use Rattle.cpg_base.proofs.ConditionProcesses.{process_of_condition_of}
 use Rattle.cpg_cube.specs.Cube.{Literal, IsRising, low_in}
-use Rattle.cpg_cube.specs.Keys.{asked_from, key_by, left_at, AreBytes, ArePlaces, place_in, with_number, with_any_asked, with_low_of, with_lows_of, variable_of_value, variables_of, variables_along}
+use Rattle.cpg_cube.specs.Keys.{asked_from, key_by, left_at, AreBytes, ArePlaces, place_in, with_number, with_any_asked, with_low_of, with_lows_of, variable_of_value, variables_of, variables_along, lows_along}
 use Rattle.cpg_cube.proofs.BoundSteps.{low_in-last, low_in-before}
 use Rattle.cpg_cube.proofs.CubeLows.{low_in-none}
-use Rattle.cpg_cube.proofs.KeyOrder.{asked_zero, asked_some, low_in-byte, within_order}
+use Rattle.cpg_cube.proofs.KeyOrder.{asked_zero, asked_some, low_in-byte, lows_by_variable, more_first, same_first, within_order}
 use Rattle.cpg_cube.proofs.Ranges.{rising_first, rising_rest}
 
 -- ---- places, variable by variable
@@ -254,3 +254,26 @@ module _ (g : Graph) (few : process_count g ≤ 128) where
       let within = within_order (process_count g) order all in
       let below : (p : ℕ) → Contains order p → p < process_count g = λ p c. All-contains (λ p. p < process_count g) order p within c in
       AllPairs-flat_map_in (λ p q. p ≢ q) (λ u v. u ≢ v) (variables_of g) order (λ p c. own_apart p (below p c)) (λ p q u v c d n j k. across p q u v (below p c) (below q d) n j k) (order_apart (process_count g) order all)
+
+-- ---- two lists of lows that first differ at a variable
+
+lows_above : (f h : ℕ → ℕ) (v left : ℕ) (vs : List ℕ) → length vs ≤ left → left_at left vs v ≢ 0 → ((u : ℕ) → left_at left vs v < left_at left vs u → f u ≡ h u) → f v < h v → is_below (map h vs) (map f vs) ≡ false
+lows_above f h v left [] few there same less = absurd (there refl)
+lows_above f h v left (u ∷ us) few there same less = elim (cases_eq u v) [
+  | inl e ↦ more_first (h u) (f u) (map h us) (map f us) (subst (λ w. f w < h w) (sym e) less)
+  | inr n ↦
+      let later : left_at left (u ∷ us) v ≡ left_at (left - 1) us v = left_later left u v us n in
+      let equal : f u ≡ h u = same u (omega (arith, later, left_here left u u us refl, left_le (left - 1) us v, few)) in
+      ap (λ x. is_below (h u ∷ map h us) (x ∷ map f us)) equal ∙ same_first (h u) (map h us) (map f us)
+      ∙ lows_above f h v (left - 1) us (omega (arith, few)) (λ z. there (later ∙ z)) (λ w l. elim (cases_eq u w) [
+        | inl e ↦ subst (λ x. f x ≡ h x) e equal
+        | inr m ↦ same w (omega (arith, later, left_later left u w us m, l))
+      ]) less
+]
+
+-- of two cubes whose lows first differ at a variable along an order the one with the greater low isn't before the other
+pub first_differ : (g : Graph) (order places : List ℕ) → ArePlaces (variables_along g order) places → (a b : List Literal) (v : ℕ) → get_or places v 0 ≢ 0 → ((u : ℕ) → get_or places v 0 < get_or places u 0 → low_in a u ≡ low_in b u) →
+    low_in a v < low_in b v → is_below (lows_along g order (low_in b)) (lows_along g order (low_in a)) ≡ false
+first_differ g order places is a b v there same less =
+    ap₂ is_below (sym (lows_by_variable g order (low_in b))) (sym (lows_by_variable g order (low_in a)))
+    ∙ lows_above (low_in a) (low_in b) v 256 (variables_along g order) is.few (λ z. there (is.left v ∙ z)) (λ u l. same u (omega (arith, is.left v, is.left u, l))) less

@@ -4,7 +4,7 @@ use Rattle.std.specs.Prelude.{nat_le, nat_lt, position, slice_index_or, slice_se
 use Rattle.std.specs.List.{position_or_len, AllByRecursion}
 use Rattle.std.proofs.lemmas.Bool.{cases_lt, lt-leb}
 use Rattle.cpg_cube.specs.Cube.{Literal}
-use Rattle.cpg_cube.specs.Cover.{meet_literal, narrowed_by}
+use Rattle.cpg_cube.specs.Narrow.{meet_literal, narrowed_by}
 use Rattle.cpg_cube.proofs.Narrow.{narrowed-before, narrowed-here, narrowed-after}
 
 -- whether a literal's variable is at least this

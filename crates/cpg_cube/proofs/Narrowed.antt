@@ -4,7 +4,7 @@ use Rattle.std.proofs.lemmas.Bool.{cases_eq, cases_order}
 use Rattle.cpg_base.proofs.Lists.{Contains-cases}
 use Rattle.cpg_cube.specs.Cube.{Literal, IsRising, low_in, high_in}
 use Rattle.cpg_base.specs.Variable.{top}
-use Rattle.cpg_cube.specs.Cover.{meet_literal, narrowed_by}
+use Rattle.cpg_cube.specs.Narrow.{meet_literal, narrowed_by}
 use Rattle.cpg_cube.proofs.CubeLows.{low_in-later, low_in-none}
 use Rattle.cpg_cube.proofs.Narrow.{narrowed-before, narrowed-here, narrowed-after}
 use Rattle.cpg_cube.proofs.Ranges.{rising_rest, rising_first, low_in-here, high_in-here, high_in-later, high_in-none}

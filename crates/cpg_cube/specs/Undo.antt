@@ -2,7 +2,7 @@
 use Rattle.std.specs.Prelude.{ℕ, ◌<◌, ◌≡◌, List, Option, None, Some, IfSome, get_or, length, remove, slice_set}
 use Rattle.cpg_cube.specs.declared.literal.Literal.{Literal}
 use Rattle.cpg_cube.specs.declared.cube.Narrowing.{Narrowing}
-use Rattle.cpg_cube.specs.Cover.{meet_literal}
+use Rattle.cpg_cube.specs.Narrow.{meet_literal}
 
 -- the literals with another one at a place again, or without the one there
 abbrev pub restored_at : ℕ → Option Literal → List Literal → List Literal

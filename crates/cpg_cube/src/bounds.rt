@@ -105,14 +105,14 @@ impl Bounds {
     }
 
     /// Whether the ranges of all literals have all numbers of their variables where so many faults are left.
-    pub fn span_all(&self, left: u8, literals: &[Literal]) -> bool
+    pub(crate) fn span_all(&self, left: u8, literals: &[Literal]) -> bool
         ensures { result ≡ list_all (spans self.now.low self.now.high left) literals.now }
     {
         literals.iter().all(|literal| self.spans(left, literal))
     }
 
     /// Raises the least numbers to those of a cube, where they are greater.
-    pub fn raise(&mut self, literals: &[Literal])
+    pub(crate) fn raise(&mut self, literals: &[Literal])
         requires { IsRising literals.now }
         ensures { AreRaised literals.now self.old.low self.new.low }
     {
@@ -144,7 +144,7 @@ impl Bounds {
     }
 
     /// Writes the scenario in which each variable is the least number of its range.
-    pub fn write_lows(&self, problem: &Problem, least: &mut Scenario)
+    pub(crate) fn write_lows(&self, problem: &Problem, least: &mut Scenario)
         requires values { length least.old.values ≡ condition_count problem.now }
         requires faults { length least.old.faults ≡ process_count problem.now }
         ensures lows { least.new ≡ scenario_of problem.now (λ v. get_or self.now.low v 0) }

@@ -8,7 +8,7 @@ ghost use Rattle.cpg_base.specs.Scenario.{Scenario, IsScenario, IsLeast};
 ghost use Rattle.cpg_cube.specs.Cube.{IsRising, holds, matches};
 ghost use Rattle.cpg_cube.specs.Rising.{rises_from};
 ghost use Rattle.cpg_cube.specs.Fit.{IsCube, IsKnown, is_met, lows, do_meet, both_lows, is_within, scenario_of};
-ghost use Rattle.cpg_cube.specs.Cover.{narrowed_by, range_left, with_literal};
+ghost use Rattle.cpg_cube.specs.Narrow.{narrowed_by, range_left, with_literal};
 ghost use Rattle.cpg_cube.specs.Undo.{IsOn, IsUndo, left_of, restored};
 
 use crate::Literal;
@@ -327,7 +327,7 @@ impl Cube {
     }
 
     /// The scenario in which each variable is the least number of its range.
-    pub(crate) fn lows(&self, alloc: Global, problem: &Problem) -> Result<Scenario, OutOfMemory>
+    fn lows(&self, alloc: Global, problem: &Problem) -> Result<Scenario, OutOfMemory>
         ensures { IfOk result (λ s. s ≡ lows problem.now self.now) }
     {
         let mut least = Scenario::zero(alloc, problem)?;

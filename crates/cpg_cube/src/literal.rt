@@ -3,7 +3,7 @@ ghost use Rattle.std.specs.Prelude.{◌≡◌, ◌==◌, ◌<◌, ◌≤◌, ◌
 ghost use Rattle.std.specs.List.{list_all};
 ghost use Rattle.cpg_cube.specs.Cube.{holds};
 ghost use Rattle.cpg_cube.specs.Fit.{asked_of_literal, is_open};
-ghost use Rattle.cpg_cube.specs.Cover.{meet_literal};
+ghost use Rattle.cpg_cube.specs.Narrow.{meet_literal};
 
 use cpg_base::{FIRST_VALUE, Scenario, top};
 

@@ -13,7 +13,7 @@ use std::alloc::Global;
 /// How many numbers of a key need no memory of their own: one for each of eight faults.
 const SHORT: usize = 8;
 
-/// More than there may be processes and conditions.
+/// How many places are left at the first variable along an order: more than there may be processes and conditions.
 const PLACES: u16 = 256;
 
 /// More than a low may be.
@@ -48,8 +48,9 @@ fn push_variables(
     Ok(())
 }
 
-/// The variables along an order.
-pub(crate) fn variables_along(
+/// The variables along an order: of each process that of its count and then that of its value, if it has a condition. The one
+/// error is want of memory.
+pub fn variables_along(
     alloc: Global,
     problem: &Problem,
     order: &[u32],
@@ -79,6 +80,22 @@ fn places_of(variables: &[u8]) -> [u16; VARIABLES]
         left -= 1;
     }
     places
+}
+
+/// How many places are left at each variable along an order, a process's count and then its value: 256 at the first, and 0
+/// at what is no variable of the problem. The one error is want of memory.
+pub fn places_along(
+    alloc: Global,
+    problem: &Problem,
+    order: &Order,
+) -> Result<[u16; VARIABLES], OutOfMemory>
+    requires { IsPermutation (numbers_below (process_count problem.now)) order.now }
+    ensures { IfOk result (ArePlaces (variables_along problem.now order.now)) }
+{
+    // its clause tells that the graph is within its limits
+    let _processes = problem.processes();
+    let variables = variables_along(alloc, problem, order.processes())?;
+    Ok(places_of(variables.as_slice()))
 }
 
 /// How many numbers of a key stand before one.

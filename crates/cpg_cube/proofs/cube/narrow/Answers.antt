@@ -2,7 +2,7 @@ use Rattle.std.proofs.Common.{rules, ◌≡◌, ◌<◌, ◌∙◌, sym, ap, len
 use Rattle.std.specs.Prelude.{position, slice_index_or, slice_set}
 use Rattle.smallvec.proofs.SmallVecLemmas.{items-with_items}
 use Rattle.cpg_cube.specs.Cube.{Literal}
-use Rattle.cpg_cube.specs.Cover.{meet_literal}
+use Rattle.cpg_cube.specs.Narrow.{meet_literal}
 use Rattle.cpg_cube.proofs.NarrowSteps.{from_variable, place_found, narrowed-last, narrowed-set, narrowed-in}
 use Rattle.cpg_cube.proofs.Undone.{undo_last, undo_in, undo_set, on_last, on_in, on_set}
 use Rattle.cpg_cube.proofs.cube.narrow.Goals as goal

@@ -1,5 +1,5 @@
 use Rattle.std.proofs.Common.{◌≡◌, drop}
-use Rattle.cpg_cube.specs.Cover.{range_left}
+use Rattle.cpg_cube.specs.Narrow.{range_left}
 use Rattle.cpg_cube.proofs.cube.Cube.range_left.Given as goal
 
 abbrev pub invariant-loop-other : goal.invariant-loop-other

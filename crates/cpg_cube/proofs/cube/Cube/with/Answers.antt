@@ -1,5 +1,5 @@
 use Rattle.std.proofs.Common.{rules, ◌≡◌, None}
-use Rattle.cpg_cube.specs.Cover.{with_literal}
+use Rattle.cpg_cube.specs.Narrow.{with_literal}
 use Rattle.cpg_cube.proofs.Narrow.{with-none, matches-narrowed}
 use Rattle.cpg_cube.proofs.cube.Cube.with.Goals as goal
 

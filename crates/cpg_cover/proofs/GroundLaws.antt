@@ -1,0 +1,107 @@
+-- Numbers beyond the lows of a cube: where no cube of a list is matched by them but with more faults than are left, the list covers the cube.
+use Rattle.std.proofs.Common.{ℕ, zero, suc, ◌+◌, ◌-◌, ◌<◌, ◌≤◌, ◌≡◌, true, false, List, Some, length, get_or, sum_by, arith, refl, sym, ap, ◌∙◌, ⊎_elim, le-ltb, leb-true, Contains, add-one}
+use Rattle.std.specs.Prelude.{nat_le, nat_lt}
+use Rattle.std.specs.List.{list_any}
+use Rattle.std.proofs.lemmas.Bool.{cases_Bool, cases_lt, cond-false, both_ways, and_parts, false_from_ne_true}
+use Rattle.std.proofs.lemmas.List.{get_or_past}
+use Rattle.std.proofs.lemmas.List.Elements.{All-contains, Contains-get_or}
+use Rattle.std.proofs.lemmas.List.Sums.{sum_by_push}
+use Rattle.cpg_base.specs.Numbers.{numbers_below}
+use Rattle.cpg_base.specs.Graph.{Graph, process_count, IsVariable}
+use Rattle.cpg_base.specs.Limits.{IsWithinLimits}
+use Rattle.cpg_base.specs.Scenario.{Scenario, IsScenario, number_of, number_of_value, fault_of}
+use Rattle.cpg_base.proofs.Lists.{below_push, numbers-Contains, from_all}
+use Rattle.cpg_base.proofs.NumbersOf.{variable_or_not, unknown-zero, number_of_value-le}
+use Rattle.cpg_base.proofs.Sums.{same_sum_by, sum_by-add}
+use Rattle.cpg_cube.specs.Cube.{low_in, holds, matches}
+use Rattle.cpg_cube.specs.declared.literal.Literal.{Literal}
+use Rattle.cpg_cube.specs.Fit.{IsCube, asked_of_literal, is_open}
+use Rattle.cpg_cube.specs.Bounds.{AreBounds, budget_left}
+use Rattle.cpg_cover.specs.Fewest.{is_any_at, AreValues, Needs, beyond, IsOn, IsNarrow}
+use Rattle.cpg_cube.proofs.Ranges.{range_of_literal}
+use Rattle.cpg_cube.proofs.Boxes.{sum_of_counts}
+use Rattle.cpg_cube.proofs.Budgets.{budget_some}
+use Rattle.cpg_cube.proofs.CubeLows.{holds-high, low_in-le, budget_of_cube}
+use Rattle.cpg_cube.proofs.Meeting.{small_variable, holds_where_spanned}
+use Rattle.cpg_cover.proofs.FewestLaws.{held}
+
+-- a sum up to numbers from which on all is 0
+sum_short : (f : ℕ → ℕ) (a b : ℕ) → a ≤ b → ((v : ℕ) → a ≤ v → v < b → f v ≡ 0) → sum_by f (numbers_below b) ≡ sum_by f (numbers_below a)
+sum_short f a zero l h = let e : a ≡ 0 = omega arith in ap (λ m. sum_by f (numbers_below m)) (sym e)
+sum_short f a (suc b) l h = ⊎_elim
+    (λ (p : b < a). let e : suc b ≡ a = omega arith in ap (λ m. sum_by f (numbers_below m)) e)
+    (λ (p : a ≤ b).
+    let x : sum_by f (numbers_below (suc b)) ≡ sum_by f (numbers_below b) + f b = ap (λ m. sum_by f (numbers_below m)) (sym (add-one b)) ∙ ap (sum_by f) (below_push b) ∙ sum_by_push f (numbers_below b) b in
+    let y = sum_short f a b p (λ v k m. h v k (omega arith)) in
+    let z = h b p (omega arith) in
+    let r : sum_by f (numbers_below (suc b)) ≡ sum_by f (numbers_below a) = omega arith in r)
+    (cases_lt b a)
+
+module _ (g : Graph) (limits : IsWithinLimits g) (cube : List Literal) (is : IsCube g cube) (low high : List ℕ) (are : AreBounds cube low high) (long : length low ≡ 256) (left : ℕ)
+    (some : budget_left (is_open g.faults) asked_of_literal g.faults cube ≡ Some left) (s : Scenario) (i : IsScenario g s) (t : matches cube s ≡ true) where
+  low_le : (v : ℕ) → get_or low v 0 ≤ number_of s v
+  low_le v = ⊎_elim
+      (λ (h : v < 256). let a = are.low v h in let b = low_in-le cube s v t in omega arith)
+      (λ (h : 256 ≤ v). let a = get_or_past low v 0 (omega arith) in omega arith)
+      (cases_lt v 256)
+
+  pub is_on : IsOn low high left (number_of s)
+  is_on = record {
+    lows = low_le;
+    spanned = λ l h. ⊎_elim
+        (λ (k : IsVariable g l.variable). holds_where_spanned g limits cube is low high are left some l k h s i t)
+        (λ (n : IsVariable g l.variable → ⊥).
+        let e = unknown-zero g s i l.variable n in
+        let a = leb-true l.low (get_or low l.variable 0) (and_parts (nat_le l.low (get_or low l.variable 0)) _ h).0 in
+        let b = low_le l.variable in
+        held (number_of s) l (omega arith) (omega arith))
+        (variable_or_not g l.variable);
+  }
+
+  narrow_at : (l : Literal) → Contains cube l → beyond low (number_of s) l.variable ≤ l.high - l.low
+  narrow_at l c =
+      let a = are.low l.variable (small_variable g limits l.variable (All-contains (λ m. IsVariable g m.variable) cube l is.known c)) in
+      let b = (range_of_literal g.faults cube l is.rising c).0 in
+      let d = holds-high s l (from_all (holds s) cube l t c) in
+      omega arith
+
+  pub is_narrow : IsNarrow low (number_of s) cube
+  is_narrow k d h = narrow_at (get_or cube k d) (Contains-get_or cube k d h)
+
+  beyond_values : AreValues (beyond low (number_of s))
+  beyond_values v h =
+      let a = cond-false (nat_lt v 128) (fault_of s v) (number_of_value (get_or s.values (v - 128) false)) (le-ltb v 128 h) in
+      let b = number_of_value-le (get_or s.values (v - 128) false) in
+      let e : number_of s v ≡ number_of_value (get_or s.values (v - 128) false) = a in
+      omega arith
+
+  beyond_faults : (count : ℕ) → count ≡ 128 → sum_by (beyond low (number_of s)) (numbers_below count) ≤ left
+  beyond_faults count e =
+      let n = process_count g in
+      let few = limits.few_processes in
+      let a = sum_of_counts g few s i in
+      let b = i.budget in
+      let c = budget_of_cube g few cube is in
+      let d = (budget_some (is_open g.faults) asked_of_literal g.faults left cube some).1 in
+      let x = sum_by-add (beyond low (number_of s)) (low_in cube) (numbers_below n) in
+      let y = same_sum_by (λ v. beyond low (number_of s) v + low_in cube v) (number_of s) (numbers_below n)
+      (λ v k. let h = numbers-Contains n v k in let p = are.low v (omega arith) in let q = low_le v in let r : beyond low (number_of s) v + low_in cube v ≡ number_of s v = omega arith in r) in
+      let z = sum_short (beyond low (number_of s)) n count (omega arith) (λ v k m.
+      let u = unknown-zero g s i v (⊎_elim (λ (p : v < n). absurd (omega arith)) (λ p. absurd (let w = p.0 in omega arith))) in
+      let r : beyond low (number_of s) v ≡ 0 = omega arith in r) in
+      omega arith
+
+  pub is_covered : {X : Type 0} (seen : X → List Literal) (by : List X) (cubes : List (List Literal)) (few : ℕ) → Needs cubes few → left < few
+      → (is_any_at (beyond low (number_of s)) cubes ≡ true → list_any (λ b. matches (seen b) s) by ≡ true) → list_any (λ b. matches (seen b) s) by ≡ true
+  is_covered seen by cubes few needs more keeps = ⊎_elim
+      (λ (p : list_any (λ b. matches (seen b) s) by ≡ true). p)
+      (λ (p : list_any (λ b. matches (seen b) s) by ≡ false).
+      let off = false_from_ne_true (is_any_at (beyond low (number_of s)) cubes) (λ k. both_ways _ p (keeps k)) in
+      absurd (too_many 128 refl off))
+      (cases_Bool (list_any (λ b. matches (seen b) s) by))
+    where
+      too_many : (count : ℕ) → count ≡ 128 → is_any_at (beyond low (number_of s)) cubes ≡ false → ⊥
+      too_many count e off =
+          let x = needs count e (beyond low (number_of s)) beyond_values off in
+          let y = beyond_faults count e in
+          omega arith

@@ -1,0 +1,19 @@
+use Rattle.std.proofs.Common.{◌+◌, ◌*◌, ◌&&◌, length, map}
+use Rattle.std.specs.Prelude.{nat_lt}
+use Rattle.cpg_base.specs.First.{IsFirst}
+use Rattle.cpg_base.specs.Scenario.{number_of}
+use Rattle.cpg_cover.specs.Cover.{is_left}
+use Rattle.cpg_cover.proofs.cover.+along.Given as goal
+
+abbrev pub decreases-least_along : goal.decreases-least_along
+decreases-least_along l = length l.variables.now * 3 + 1
+
+abbrev pub decreases-least_by_number : goal.decreases-least_by_number
+decreases-least_by_number l = length l.variables.now * 3
+
+abbrev pub decreases-least_of_part : goal.decreases-least_of_part
+decreases-least_of_part l = length l.variables.now * 3 + 2
+
+-- the first of those with a lesser number of the variable
+abbrev pub invariant-least_by_number-loop-number : goal.invariant-least_by_number-loop-number
+invariant-least_by_number-loop-number l = IsFirst l.problem l.order (λ s. is_left (map (λ b. b.now) l.by.items) l.cube s && nat_lt (number_of s l.variable) l.number) l.found

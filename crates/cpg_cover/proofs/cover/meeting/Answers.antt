@@ -1,0 +1,57 @@
+use Rattle.std.proofs.Common.{rules, ◌≡◌, ◌∙◌, sym, ap, false, None, Some, ◌&&◌, arith, List, Bor}
+use Rattle.std.specs.Prelude.{is_some}
+use Rattle.std.specs.List.{list_any}
+use Rattle.std.proofs.lemmas.Bool.{both_ways}
+use Rattle.std.proofs.lemmas.List.{take_all}
+use Rattle.std.proofs.lemmas.List.Elements.{All-push}
+use Rattle.cpg_cube.specs.Cube.{matches}
+use Rattle.cpg_cube.specs.declared.literal.Literal.{Literal}
+use Rattle.cpg_cube.specs.Fit.{IsCube, IsKnown, asked_of_literal, is_open}
+use Rattle.cpg_cube.specs.Bounds.{AreBounds, budget_left, touches, more_asked}
+use Rattle.cpg_cube.proofs.CubeLaws.{apart_from_meet}
+use Rattle.cpg_cube.proofs.Meeting.{met_from_none, unmatched, meet_from_fit}
+use Rattle.cpg_cover.proofs.Kept.{left_same, kept_push, kept_skip}
+use Rattle.cpg_cover.proofs.cover.meeting.Goals as goal
+use Rattle.cpg_cover.proofs.cover.meeting.Goals.{then-fits+in_ok-push, else-fits}
+
+pub returns-in_default-clause-same : goal.returns-in_default-clause-same
+returns-in_default-clause-same c s i =
+    let g = c.args.problem.now in
+    let a = c.args.cube.now in
+    let is : IsCube g a = record { rising = c.literals.ensures.rising; known = c.requires.cube } in
+    let none : budget_left (is_open g.faults) asked_of_literal g.faults a ≡ None = search rules in
+    left_same (λ (b : Bor (List Literal)). b.now) c.new-kept.result.items c.args.by.now a s (λ t. absurd (both_ways (matches a s) (unmatched g c.faults-k.ensures.within a is (met_from_none g.faults a none) s i) t))
+
+pub loop-other-preserved : goal.loop-other-preserved
+loop-other-preserved c =
+    let g = c.args.problem.now in
+    let a = c.args.cube.now in
+    let b = c.other-item.result.now in
+    let by = c.args.by.now in
+    let at = c.loop-other.other-index in
+    let inv = c.loop-other.invariant in
+    let known : IsKnown g b = rw c.other-item.is (c.requires.list at c.other-item.result (omega arith)) in
+    elim c.if-fits.branch [
+      | then-fits+in_ok-push w ↦ record {
+        same = λ s i t. rw (w.kept-is, w.in_ok-push.ensures.items, c.other-item.is) (kept_push (λ b. matches b.now s) c.loop-other.kept.items by at c.other-item.result (omega arith) (inv.same s i t));
+        known = rw (w.kept-is, w.in_ok-push.ensures.items) (All-push (λ b. IsKnown g b.now) c.loop-other.kept.items c.other-item.result inv.known known);
+        few = search rules;
+      }
+      | else-fits w ↦
+          let is_a : IsCube g a = record { rising = c.literals.ensures.rising; known = c.requires.cube } in
+          let is_b : IsCube g b = record { rising = c.literals-literals.ensures.rising; known = known } in
+          let some : budget_left (is_open g.faults) asked_of_literal g.faults a ≡ Some c.in-Some.left = search rules in
+          let are : AreBounds a c.of-bounds.result.low c.of-bounds.result.high = search rules in
+          let unfit : is_some (budget_left (touches g.faults c.of-bounds.result.low c.of-bounds.result.high) (more_asked c.of-bounds.result.low) c.in-Some.left b) ≡ false = search rules in
+          let apart = sym (meet_from_fit g c.faults-k.ensures.within a is_a b is_b c.of-bounds.result.low c.of-bounds.result.high are c.in-Some.left some) ∙ unfit in
+          record {
+            same = λ s i t.
+                let off : matches b s ≡ false = sym (ap (λ m. m && matches b s) t) ∙ apart_from_meet g c.faults-k.ensures.within.few_processes a b is_a is_b apart s i in
+                rw w.kept-is (kept_skip (λ b. matches b.now s) c.loop-other.kept.items by at c.other-item.result (omega arith) (rw c.other-item.is at off) (inv.same s i t));
+            known = rw w.kept-is inv.known;
+            few = search rules;
+          }
+    ]
+
+pub returns-clause-same : goal.returns-clause-same
+returns-clause-same c s i = left_same (λ (b : Bor (List Literal)). b.now) c.loop-other.kept.items c.args.by.now c.args.cube.now s (λ t. c.loop-other.invariant.same s i t ∙ ap (list_any (λ b. matches b.now s)) (take_all c.loop-other.other-index c.args.by.now (omega arith)))

@@ -1,0 +1,18 @@
+use Rattle.std.proofs.Common.{◌∷◌, [], arith}
+use Rattle.std.proofs.lemmas.Bool.{both_ways, and_parts}
+use Rattle.cpg_cover.specs.Fewest.{beyond, holds_at, is_any_at, matches_at}
+use Rattle.cpg_cover.proofs.FewestLaws.{carried}
+use Rattle.cpg_cover.proofs.covering.Ground.add_over.Goals as goal
+use Rattle.cpg_cover.proofs.covering.Ground.add_over.Goals.{in-Some+in_ok-single+in_ok-add, in_default}
+
+pub loop-literal-preserved : goal.loop-literal-preserved
+loop-literal-preserved c s narrow t =
+    let n = beyond c.args.self.now.bounds.low s in
+    elim c.match-over.branch [
+      | in-Some+in_ok-single+in_ok-add w ↦
+          let over = w.in-Some.over in
+          carried (is_any_at n c.loop-literal.cubes.items) (matches_at n (over ∷ [])) _ (rw w.in_ok-single.ensures at (w.in_ok-add.ensures n (rw w.cubes-is at t)))
+          (λ a. c.loop-literal.invariant s narrow a)
+          (λ b. absurd (both_ways (holds_at n over) (w.in-Some.ensures n (narrow c.loop-literal.literal-index _ (omega arith))) (and_parts _ _ b).0))
+      | in_default w ↦ c.loop-literal.invariant s narrow (rw w.cubes-is at t)
+    ]

@@ -1,0 +1,23 @@
+use Rattle.std.proofs.Common.{rules, ◌≡◌, get_or, true, arith}
+use Rattle.cpg_cube.specs.Bounds.{spans}
+use Rattle.cpg_cube.specs.declared.literal.Literal.{Literal}
+use Rattle.cpg_cover.specs.Fewest.{beyond, holds_at}
+use Rattle.cpg_cover.proofs.FewestLaws.{all_before_last, all_one_more}
+use Rattle.cpg_cover.proofs.covering.Ground.asked.Goals as goal
+use Rattle.cpg_cover.proofs.covering.Ground.asked.Goals.{then-not-spans+in-Some+in_ok-push, else-not-spans}
+
+pub loop-literal-preserved : goal.loop-literal-preserved
+loop-literal-preserved c s on t =
+    let low = c.args.self.now.bounds.low in
+    let ls = c.args.literals.now in
+    let at = c.loop-literal.literal-index in
+    elim c.if-not-spans.branch [
+      | then-not-spans+in-Some+in_ok-push w ↦
+          let r = all_before_last (holds_at (beyond low s)) c.loop-literal.asked.items w.in-Some.beyond (rw (w.asked-is, w.in_ok-push.ensures.items) at t) in
+          all_one_more (holds_at s) ls at _ (omega arith) (c.loop-literal.invariant s on r.0) (w.in-Some.ensures s (on.lows _) r.1)
+      | else-not-spans w ↦
+          let blank : Literal = record { variable = 0; low = 0; high = 0 } in
+          let l = get_or ls at blank in
+          let span : spans low c.args.self.now.bounds.high c.args.self.now.left l ≡ true = search rules in
+          all_one_more (holds_at s) ls at blank (omega arith) (c.loop-literal.invariant s on (rw w.asked-is at t)) (on.spanned l span)
+    ]

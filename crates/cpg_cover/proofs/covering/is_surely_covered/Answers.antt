@@ -1,0 +1,28 @@
+use Rattle.std.proofs.Common.{rules, ◌≡◌, Bor, List, Some, length, ltb-true}
+use Rattle.std.specs.Prelude.{nat_lt}
+use Rattle.std.proofs.lemmas.Bool.{OnTrue_from}
+use Rattle.cpg_base.specs.Scenario.{number_of}
+use Rattle.cpg_cube.specs.declared.literal.Literal.{Literal}
+use Rattle.cpg_cube.specs.Fit.{IsCube, is_open, asked_of_literal}
+use Rattle.cpg_cube.specs.Bounds.{AreBounds, budget_left}
+use Rattle.cpg_cover.specs.Fewest.{Needs}
+use Rattle.cpg_cover.proofs.GroundLaws.{is_on, is_narrow, is_covered}
+use Rattle.cpg_cover.proofs.covering.is_surely_covered.Goals as goal
+
+pub returns : goal.returns
+returns c =
+    let g = c.args.problem.now in
+    let cube = c.args.cube.now in
+    let limits = c.faults.ensures.within in
+    let is : IsCube g cube = record { rising = c.literals.ensures.rising; known = c.requires } in
+    let low = c.of-bounds.result.low in
+    let high = c.of-bounds.result.high in
+    let left = c.in-Some.left in
+    let are : AreBounds cube low high = search rules in
+    let long : length low ≡ 256 = search rules in
+    let some : budget_left (is_open g.faults) asked_of_literal g.faults cube ≡ Some left = search rules in
+    let needs : Needs c.add_over.new.cubes.items c.in_ok-few.few = rw c.as_slice.ensures.value at c.in_ok-few.ensures in
+    OnTrue_from (nat_lt left c.in_ok-few.few) _ (λ b s i t.
+    is_covered g limits cube is low high are long left some s i t (λ (d : Bor (List Literal)). d.now) c.args.by.now c.add_over.new.cubes.items c.in_ok-few.few needs (ltb-true left c.in_ok-few.few b)
+    (λ k. c.in_ok-cubes.ensures (number_of s) (is_on g limits cube is low high are long left some s i t)
+    (c.in_ok-add_over.ensures (number_of s) (rw c.literals-3.ensures.literals (is_narrow g limits cube is low high are long left some s i t)) k)))

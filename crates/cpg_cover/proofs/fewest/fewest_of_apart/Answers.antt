@@ -1,0 +1,26 @@
+use Rattle.std.proofs.Common.{◌∙◌, sym, arith}
+use Rattle.cpg_cover.specs.Fewest.{AreMore}
+use Rattle.cpg_cover.proofs.FewestLaws.{marked_all, marked_more, one_is_off}
+use Rattle.cpg_cover.proofs.fewest.fewest_of_apart.Goals as goal
+use Rattle.cpg_cover.proofs.fewest.fewest_of_apart.Goals.{then-few-gt0+then-are_all, else-few-gt0}
+
+pub loop-cube-preserved : goal.loop-cube-preserved
+loop-cube-preserved c =
+    let cubes = c.args.cubes.now in
+    let at = c.loop-cube.cube-index in
+    let item = c.cube-item.result in
+    let marks = c.loop-cube.marks in
+    let inv = c.loop-cube.invariant in
+    elim c.if-few-gt0.branch [
+      | then-few-gt0+then-are_all w ↦
+          let sum = w.saturating_add-sum.ensures in
+          let later = w.mark_all.new.marks in
+          let more : AreMore item marks later = rw w.literals-then-are_all.ensures.literals at w.mark_all.ensures in
+          rw (w.marks-is, w.sum-is) (marked_more cubes item marks later c.loop-cube.sum c.fewest_of_cube-few.result w.saturating_add-sum.result inv
+          (λ n off. rw c.cube-item.is (one_is_off cubes at item (omega arith) n off)) c.fewest_of_cube-few.ensures
+          (rw w.literals.ensures.literals at (sym w.are_all.ensures ∙ w.if-are_all.true)) more.kept more.marked (omega arith))
+      | else-few-gt0 w ↦ rw (w.marks-is, w.sum-is) inv
+    ]
+
+pub returns : goal.returns
+returns c = marked_all c.args.cubes.now c.loop-cube.marks c.loop-cube.sum c.loop-cube.invariant

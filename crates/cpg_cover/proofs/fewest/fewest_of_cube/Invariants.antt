@@ -1,0 +1,6 @@
+use Rattle.std.proofs.Common.{take}
+use Rattle.cpg_cover.specs.Fewest.{NeedsOutside}
+use Rattle.cpg_cover.proofs.fewest.fewest_of_cube.Given as goal
+
+abbrev pub invariant-loop-literal : goal.invariant-loop-literal
+invariant-loop-literal l = NeedsOutside (take l.literal-index l.literal-items) l.fewest

@@ -1,0 +1,5 @@
+use Rattle.std.proofs.Common.{◌≡◌, take}
+use Rattle.cpg_cover.proofs.memory.copy_of.Given as goal
+
+abbrev pub invariant-loop-cube : goal.invariant-loop-cube
+invariant-loop-cube l = l.copies.items ≡ take l.cube-index l.cubes

@@ -1,0 +1,22 @@
+use Rattle.std.proofs.Common.{rules, ◌<◌, get_or, slice_set, take, length, true, false, ap, arith}
+use Rattle.cpg_base.specs.Numbers.{same_bool}
+use Rattle.cpg_cube.specs.declared.literal.Literal.{Literal}
+use Rattle.cpg_cover.proofs.FewestLaws.{all_one_more, all_still_marked, now_marked, still_marked}
+use Rattle.cpg_cover.proofs.parting.mark_all.Goals as goal
+
+pub loop-literal-preserved : goal.loop-literal-preserved
+loop-literal-preserved c =
+    let blank : Literal = record { variable = 0; low = 0; high = 0 } in
+    let ls = c.args.literals.now in
+    let at = c.loop-literal.literal-index in
+    let l = get_or ls at blank in
+    let marks = c.loop-literal.marks in
+    let later = slice_set marks l.variable true in
+    let inv = c.loop-literal.invariant in
+    let within : l.variable < length marks = search rules in
+    record {
+      kept = λ v t. still_marked marks l.variable v (inv.kept v t);
+      marked = all_one_more (λ m. same_bool (get_or later m.variable false) true) ls at blank (omega arith)
+          (all_still_marked marks later (take at ls) (λ v t. still_marked marks l.variable v t) inv.marked)
+          (ap (λ b. same_bool b true) (now_marked marks l.variable within));
+    }

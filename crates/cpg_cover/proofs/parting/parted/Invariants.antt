@@ -1,0 +1,9 @@
+use Rattle.std.proofs.Common.{◌≡◌, ℕ, take, true}
+use Rattle.cpg_cover.specs.Fewest.{AreMarked, is_any_at}
+use Rattle.cpg_cover.proofs.parting.parted.Given as goal
+
+abbrev pub invariant-loop-cube : goal.invariant-loop-cube
+invariant-loop-cube l = record {
+  marked : AreMarked l.marks l.wanted l.part.items;
+  kept : (n : ℕ → ℕ) → is_any_at n l.part.items ≡ true → is_any_at n (take l.cube-index l.cubes) ≡ true;
+}

@@ -1,0 +1,4 @@
+pub mod Cover
+pub mod Parts
+pub mod Fewest
+pub mod Late

@@ -1,0 +1,164 @@
+//! Whether a list of cubes covers a cube, by the fewest faults of what it leaves.
+ghost use Rattle.std.specs.Prelude.{◌≡◌, ◌≤◌, ◌-◌, ◌||◌, ◌∷◌, [], ℕ, IfOk, IfSome, false, get_or, true};
+ghost use Rattle.std.specs.Bool.{OnTrue};
+ghost use Rattle.std.specs.List.{list_any};
+ghost use Rattle.cpg_base.specs.Scenario.{Scenario, IsScenario};
+ghost use Rattle.cpg_cube.specs.Cube.{matches};
+ghost use Rattle.cpg_cube.specs.Fit.{IsKnown};
+ghost use Rattle.cpg_cover.specs.Fewest.{IsNarrow, IsOn, beyond, holds_at, is_any_at, matches_at};
+
+use crate::fewest::{Bound, DEPTH, fewest};
+use crate::memory::Memory;
+use crate::stepping::{add, add_asked};
+use cpg_base::{FIRST_VALUE, OutOfMemory, Problem};
+use cpg_cube::{Bounds, Cube, Literal, budget_left};
+use std::alloc::Global;
+
+/// The cube of one literal.
+fn single(alloc: Global, literal: Literal) -> Result<Cube, OutOfMemory>
+    ensures { IfOk result (λ cube. cube ≡ literal ∷ []) }
+{
+    let mut cube = Cube::whole(alloc);
+    cube.push(literal)?;
+    Ok(cube)
+}
+
+/// The ranges of a cube, and the faults that it leaves.
+#[derive(Drop)]
+struct Ground {
+    bounds: Bounds,
+    left: u8,
+}
+
+impl Ground {
+    /// What a literal asks beyond the low of its variable, if it may hold.
+    fn beyond(&self, literal: &Literal) -> Option<Literal>
+        ensures { IfSome result (λ l. (s : ℕ → ℕ) → get_or self.now.bounds.low literal.now.variable 0 ≤ s literal.now.variable →
+            holds_at (beyond self.now.bounds.low s) l ≡ true → holds_at s literal.now ≡ true) }
+    {
+        let low = self.bounds.low[literal.variable as usize];
+        if literal.high < low {
+            return None;
+        }
+        let mut high = literal.high - low;
+        if literal.variable < FIRST_VALUE {
+            high = high.min(self.left);
+        }
+        Some(Literal {
+            variable: literal.variable,
+            low: literal.low.saturating_sub(low),
+            high,
+        })
+    }
+
+    /// What literals ask beyond the lows, but for those that hold everywhere; `None` where one can't hold.
+    fn asked(
+        &self,
+        alloc: Global,
+        literals: &[Literal],
+    ) -> Result<Option<Vec<Literal>>, OutOfMemory>
+        ensures { IfOk result (λ r. IfSome r (λ asked. (s : ℕ → ℕ) → IsOn self.now.bounds.low self.now.bounds.high self.now.left s →
+            matches_at (beyond self.now.bounds.low s) asked.items ≡ true → matches_at s literals.now ≡ true)) }
+    {
+        let mut asked = Vec::new(alloc);
+        for literal in literals {
+            if !self.bounds.spans(self.left, literal) {
+                let Some(beyond) = self.beyond(literal) else {
+                    return Ok(None);
+                };
+                asked.push(beyond)?;
+            }
+        }
+        Ok(Some(asked))
+    }
+
+    /// Adds what a cube asks beyond the lows, if it may match.
+    fn add_cube(
+        &self,
+        alloc: Global,
+        other: &Cube,
+        cubes: &mut Vec<Cube>,
+    ) -> Result<(), OutOfMemory>
+        ensures { IfOk result (λ _. (s : ℕ → ℕ) → IsOn self.now.bounds.low self.now.bounds.high self.now.left s →
+            is_any_at (beyond self.now.bounds.low s) cubes.new.items ≡ true →
+            (is_any_at (beyond self.now.bounds.low s) cubes.old.items || matches_at s other.now) ≡ true) }
+    {
+        if let Some(asked) = self.asked(alloc, other.literals())? {
+            add_asked(alloc, cubes, asked.as_slice())?;
+        }
+        Ok(())
+    }
+
+    /// What the cubes of a list ask beyond the lows.
+    fn cubes(&self, alloc: Global, by: &[&Cube]) -> Result<Vec<Cube>, OutOfMemory>
+        ensures { IfOk result (λ cubes. (s : ℕ → ℕ) → IsOn self.now.bounds.low self.now.bounds.high self.now.left s →
+            is_any_at (beyond self.now.bounds.low s) cubes.items ≡ true → list_any (λ b. matches_at s b.now) by.now ≡ true) }
+    {
+        let mut cubes = Vec::new(alloc);
+        for other in by {
+            self.add_cube(alloc, other, &mut cubes)?;
+        }
+        Ok(cubes)
+    }
+
+    /// What is beyond the width of a literal's range, if so many faults are left.
+    fn over(&self, literal: &Literal) -> Option<Literal>
+        ensures { IfSome result (λ l. (n : ℕ → ℕ) → n literal.now.variable ≤ literal.now.high - literal.now.low → holds_at n l ≡ false) }
+    {
+        let width = literal.high.saturating_sub(literal.low);
+        if width == 0 || width >= self.left || literal.variable >= FIRST_VALUE {
+            return None;
+        }
+        Some(Literal {
+            variable: literal.variable,
+            low: width + 1,
+            high: self.left,
+        })
+    }
+
+    /// Adds what is beyond the ranges of literals: the numbers there needn't be matched.
+    fn add_over(
+        &self,
+        alloc: Global,
+        literals: &[Literal],
+        cubes: &mut Vec<Cube>,
+    ) -> Result<(), OutOfMemory>
+        ensures { IfOk result (λ _. (s : ℕ → ℕ) → IsNarrow self.now.bounds.low s literals.now →
+            is_any_at (beyond self.now.bounds.low s) cubes.new.items ≡ true → is_any_at (beyond self.now.bounds.low s) cubes.old.items ≡ true) }
+    {
+        for literal in literals {
+            if let Some(over) = self.over(literal) {
+                add(cubes, single(alloc, over)?)?;
+            }
+        }
+        Ok(())
+    }
+}
+
+/// Whether it is found that a list covers a cube.
+pub(crate) fn is_surely_covered(
+    alloc: Global,
+    problem: &Problem,
+    cube: &Cube,
+    by: &[&Cube],
+    memory: &mut Memory,
+) -> Result<bool, OutOfMemory>
+    requires { IsKnown problem.now cube.now }
+    ensures { IfOk result (λ covered. OnTrue covered ((s : Scenario) → IsScenario problem.now s → matches cube.now s ≡ true →
+        list_any (λ b. matches b.now s) by.now ≡ true)) }
+{
+    let Some(left) = budget_left(problem.faults(), cube.literals()) else {
+        return Ok(false);
+    };
+    let bounds = Bounds::of(cube.literals());
+    let ground = Ground { bounds, left };
+    let mut cubes = ground.cubes(alloc, by)?;
+    ground.add_over(alloc, cube.literals(), &mut cubes)?;
+    let bound = Bound {
+        room: left,
+        depth: DEPTH,
+    };
+    memory.begin();
+    let few = fewest(alloc, cubes.as_slice(), bound, memory)?;
+    Ok(few > left)
+}

@@ -1,0 +1,67 @@
+//! Literals by how often their variables occur.
+ghost use Rattle.std.specs.Prelude.{◌≡◌, IfOk, IsPermutation, map};
+
+use cpg_base::OutOfMemory;
+use cpg_cube::{Cube, Literal};
+use std::alloc::Global;
+use std::cmp::Reverse;
+
+/// A literal, and how many cubes have one on its variable.
+#[derive(Clone, Copy, Debug, PartialEq, Eq, PartialOrd, Ord)]
+struct Rank {
+    count: Reverse<u32>,
+    literal: Literal,
+}
+
+/// Counts the variables of literals.
+pub(crate) fn count_in(counts: &mut [u32; 256], literals: &[Literal]) {
+    for literal in literals {
+        let place = literal.variable as usize;
+        counts[place] = counts[place].saturating_add(1);
+    }
+}
+
+/// How many of the cubes have a literal on each variable.
+fn frequencies(by: &[&Cube]) -> [u32; 256] {
+    let mut counts = [0; 256];
+    for cube in by {
+        count_in(&mut counts, cube.literals());
+    }
+    counts
+}
+
+fn ranks(alloc: Global, literals: &[Literal], counts: &[u32; 256]) -> Result<Vec<Rank>, OutOfMemory>
+    ensures { IfOk result (λ ranks. map (λ r. r.literal) ranks.items ≡ literals.now) }
+{
+    let mut ranks = Vec::new(alloc);
+    ranks.reserve(literals.len())?;
+    for literal in literals {
+        ranks.push(Rank {
+            count: Reverse(counts[literal.variable as usize]),
+            literal: *literal,
+        })?;
+    }
+    Ok(ranks)
+}
+
+fn unranked(alloc: Global, ranks: &[Rank]) -> Result<Vec<Literal>, OutOfMemory>
+    ensures { IfOk result (λ literals. literals.items ≡ map (λ r. r.literal) ranks.now) }
+{
+    let literals = ranks.iter().map(|rank| rank.literal).collect(alloc)?;
+    Ok(literals)
+}
+
+/// The literals of a list, first those on variables that most cubes of another list have a literal on.
+pub fn by_frequency(
+    alloc: Global,
+    literals: &[Literal],
+    by: &[&Cube],
+) -> Result<Vec<Literal>, OutOfMemory>
+    ensures { IfOk result (λ ranked. IsPermutation literals.now ranked.items) }
+{
+    let counts = frequencies(by);
+    let mut ranks = ranks(alloc, literals, &counts)?;
+    ranks.sort_unstable();
+    let ranked = unranked(alloc, ranks.as_slice())?;
+    Ok(ranked)
+}

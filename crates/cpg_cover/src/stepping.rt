@@ -1,0 +1,194 @@
+//! What cubes ask where one variable is settled, or has one fault.
+ghost use Rattle.std.specs.Prelude.{◌≡◌, ◌≤◌, ◌<◌, ◌||◌, ℕ, IfOk, IfSome, false, length, true};
+ghost use Rattle.cpg_cover.specs.Fewest.{IsStep, after, holds_at, is_any_at, matches_at, rest_holds};
+
+use cpg_base::{FIRST_VALUE, OutOfMemory};
+use cpg_cube::{Cube, Literal};
+use std::alloc::Global;
+use std::cmp::Ordering;
+
+/// From how many cubes on a list isn't sorted.
+const LONG: usize = 256;
+
+/// A variable is 0, or more.
+#[derive(Clone, Copy)]
+pub(crate) struct Step {
+    pub(crate) variable: u8,
+    pub(crate) more: bool,
+}
+
+impl Step {
+    /// The variable is 0.
+    pub(crate) fn none(variable: u8) -> Step
+        ensures variable { result.variable ≡ variable }
+        ensures more { result.more ≡ false }
+    {
+        Step {
+            variable,
+            more: false,
+        }
+    }
+
+    /// It is more.
+    pub(crate) fn more(variable: u8) -> Step
+        ensures variable { result.variable ≡ variable }
+        ensures more { result.more ≡ true }
+    {
+        Step {
+            variable,
+            more: true,
+        }
+    }
+}
+
+/// What a literal asks after a step.
+enum Rest {
+    /// It holds.
+    Held,
+    /// It doesn't.
+    Missed,
+    Asked(Literal),
+}
+
+/// A literal on another variable, or one that is left, with no more faults than there is room for.
+fn within_room(literal: Literal, room: u8) -> Rest
+    ensures { (n : ℕ → ℕ) → ((v : ℕ) → v < 128 → n v ≤ room) → rest_holds n result ≡ true → holds_at n literal ≡ true }
+{
+    if literal.variable >= FIRST_VALUE {
+        return Rest::Asked(literal);
+    }
+    if literal.low > room {
+        return Rest::Missed;
+    }
+    if literal.low == 0 && literal.high >= room {
+        return Rest::Held;
+    }
+    Rest::Asked(Literal {
+        variable: literal.variable,
+        low: literal.low,
+        high: literal.high.min(room),
+    })
+}
+
+/// What a literal on the variable asks after the step.
+fn after_more(literal: Literal, room: u8) -> Rest
+    ensures { (n : ℕ → ℕ) → IsStep literal.variable true room n → rest_holds (after literal.variable n) result ≡ true → holds_at n literal ≡ true }
+{
+    if literal.high == 0 {
+        return Rest::Missed;
+    }
+    if literal.variable >= FIRST_VALUE {
+        return if literal.low > 1 {
+            Rest::Missed
+        } else {
+            Rest::Held
+        };
+    }
+    let less = Literal {
+        variable: literal.variable,
+        low: literal.low.saturating_sub(1),
+        high: literal.high - 1,
+    };
+    within_room(less, room)
+}
+
+/// What a literal asks after the step.
+fn rest_of(literal: Literal, step: Step, room: u8) -> Rest
+    ensures { (n : ℕ → ℕ) → IsStep step.variable step.more room n → rest_holds (after step.variable n) result ≡ true → holds_at n literal ≡ true }
+{
+    if literal.variable != step.variable {
+        return within_room(literal, room);
+    }
+    if step.more {
+        return after_more(literal, room);
+    }
+    if literal.low > 0 {
+        Rest::Missed
+    } else {
+        Rest::Held
+    }
+}
+
+/// What the literals ask after the step; `None` where they can't all hold.
+fn asked_after(
+    alloc: Global,
+    literals: &[Literal],
+    step: Step,
+    room: u8,
+) -> Result<Option<Vec<Literal>>, OutOfMemory>
+    ensures { IfOk result (λ r. IfSome r (λ asked. (n : ℕ → ℕ) → IsStep step.variable step.more room n →
+        matches_at (after step.variable n) asked.items ≡ true → matches_at n literals.now ≡ true)) }
+{
+    let mut asked = Vec::new(alloc);
+    for literal in literals {
+        match rest_of(*literal, step, room) {
+            Rest::Held => {}
+            Rest::Missed => return Ok(None),
+            Rest::Asked(rest) => asked.push(rest)?,
+        }
+    }
+    Ok(Some(asked))
+}
+
+/// Where a cube belongs in a list that is sorted, and `None` where it stands there already. A long list isn't kept sorted: it is
+/// at its end there.
+fn place_of(cubes: &[Cube], cube: &Cube) -> Option<usize>
+    ensures { IfSome result (λ place. place ≤ length cubes.now) }
+{
+    let mut place = cubes.len();
+    if place >= LONG {
+        return Some(place);
+    }
+    while place > 0 {
+        match cubes[place - 1].literals().cmp(&cube.literals()) {
+            Ordering::Less => return Some(place),
+            Ordering::Equal => return None,
+            Ordering::Greater => {}
+        }
+        place -= 1;
+    }
+    Some(0)
+}
+
+/// Adds a cube to a list, unless it is found there.
+pub(crate) fn add(cubes: &mut Vec<Cube>, cube: Cube) -> Result<(), OutOfMemory>
+    ensures { IfOk result (λ _. (n : ℕ → ℕ) → is_any_at n cubes.new.items ≡ true → (is_any_at n cubes.old.items || matches_at n cube) ≡ true) }
+{
+    if let Some(place) = place_of(cubes.as_slice(), &cube) {
+        cubes.insert(place, cube)?;
+    }
+    Ok(())
+}
+
+/// The cube of what literals ask, if the variables rise.
+pub(crate) fn add_asked(
+    alloc: Global,
+    cubes: &mut Vec<Cube>,
+    asked: &[Literal],
+) -> Result<(), OutOfMemory>
+    ensures { IfOk result (λ _. (n : ℕ → ℕ) → is_any_at n cubes.new.items ≡ true → (is_any_at n cubes.old.items || matches_at n asked.now) ≡ true) }
+{
+    if let Some(cube) = Cube::new(alloc, asked)? {
+        add(cubes, cube)?;
+    }
+    Ok(())
+}
+
+/// What the cubes ask after the step, those that may match.
+pub(crate) fn stepped(
+    alloc: Global,
+    cubes: &[Cube],
+    step: Step,
+    room: u8,
+) -> Result<Vec<Cube>, OutOfMemory>
+    ensures { IfOk result (λ rest. (n : ℕ → ℕ) → IsStep step.variable step.more room n →
+        is_any_at (after step.variable n) rest.items ≡ true → is_any_at n cubes.now ≡ true) }
+{
+    let mut rest = Vec::new(alloc);
+    for cube in cubes {
+        if let Some(asked) = asked_after(alloc, cube.literals(), step, room)? {
+            add_asked(alloc, &mut rest, asked.as_slice())?;
+        }
+    }
+    Ok(rest)
+}

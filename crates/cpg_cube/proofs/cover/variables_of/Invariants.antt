@@ -1,6 +1,0 @@
-use Rattle.std.specs.Prelude.{All}
-use Rattle.cpg_base.specs.Graph.{IsVariable}
-use Rattle.cpg_cube.proofs.cover.variables_of.Given as goal
-
-abbrev pub invariant-loop-variable : goal.invariant-loop-variable
-invariant-loop-variable l = All (IsVariable l.problem) l.variables.items

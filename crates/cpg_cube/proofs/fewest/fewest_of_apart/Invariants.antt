@@ -1,5 +1,0 @@
-use Rattle.cpg_cube.proofs.FewestLaws.{NeedsOfMarked}
-use Rattle.cpg_cube.proofs.fewest.fewest_of_apart.Given as goal
-
-abbrev pub invariant-loop-cube : goal.invariant-loop-cube
-invariant-loop-cube l = NeedsOfMarked l.cubes l.marks l.sum

@@ -1,9 +1,0 @@
-use Rattle.std.proofs.Common.{rules, arith}
-use Rattle.std.proofs.lemmas.List.{take_more_same}
-use Rattle.cpg_cube.specs.Cube.{Literal}
-use Rattle.cpg_cube.proofs.memory.are_equal.Goals as goal
-
-pub loop-place-preserved : goal.loop-place-preserved
-loop-place-preserved c =
-    let blank : Literal = record { variable = 0; low = 0; high = 0 } in
-    take_more_same c.args.literals.now c.args.others.now c.loop-place.place blank (omega arith) (omega arith) c.loop-place.invariant (search rules)

@@ -1,6 +1,0 @@
-use Rattle.std.proofs.Common.{arith}
-use Rattle.cpg_cube.proofs.FewestLaws.{same_literal}
-use Rattle.cpg_cube.proofs.memory.is_same.Goals as goal
-
-pub returns : goal.returns
-returns c = same_literal c.args.literal.now c.args.other.now (omega arith) (omega arith) (omega arith)

@@ -1,6 +1,0 @@
-use Rattle.std.proofs.Common.{take}
-use Rattle.cpg_cube.specs.Fewest.{AreMore}
-use Rattle.cpg_cube.proofs.parting.mark_all.Given as goal
-
-abbrev pub invariant-loop-literal : goal.invariant-loop-literal
-invariant-loop-literal l = AreMore (take l.literal-index l.literals) l.fn.marks l.marks

@@ -1,6 +1,0 @@
-use Rattle.std.proofs.Common.{◌≡◌, ℕ, take, true}
-use Rattle.cpg_cube.specs.Fewest.{IsStep, after, is_any_at}
-use Rattle.cpg_cube.proofs.stepping.stepped.Given as goal
-
-abbrev pub invariant-loop-cube : goal.invariant-loop-cube
-invariant-loop-cube l = (n : ℕ → ℕ) → IsStep l.step.variable l.step.more l.room n → is_any_at (after l.step.variable n) l.rest.items ≡ true → is_any_at n (take l.cube-index l.cubes) ≡ true

@@ -1,0 +1,41 @@
+//! Columns that may stand by their least scenarios already.
+ghost use Rattle.std.specs.Prelude.{IfOk, IsPermutation};
+ghost use Rattle.std.specs.Bool.{OnTrue};
+ghost use Rattle.cpg_base.specs.Graph.{process_count};
+ghost use Rattle.cpg_base.specs.Numbers.{numbers_below};
+ghost use Rattle.cpg_cube.specs.Keys.{AreByLows};
+
+use crate::{Entry, by_least_scenario};
+use cpg_base::{Order, OutOfMemory, Problem};
+use std::alloc::Global;
+
+/// The columns of a row, and whether they are known to stand by the least scenario along an order that they match.
+#[derive(Drop)]
+pub struct Listing {
+    /// The columns.
+    pub columns: Vec<Entry>,
+    /// Whether they are known to stand so.
+    pub is_sorted: bool,
+}
+
+impl Listing {
+    /// The columns by the least scenario along the order that they match: none has the lows of its cube before those of an
+    /// earlier one. The one error is want of memory.
+    pub fn sorted(
+        self,
+        alloc: Global,
+        problem: &Problem,
+        order: &Order,
+    ) -> Result<Vec<Entry>, OutOfMemory>
+        requires order { IsPermutation (numbers_below (process_count problem.now)) order.now }
+        requires sorted { OnTrue self.is_sorted (AreByLows (λ c. c.cube) problem.now order.now self.columns.items) }
+        ensures permutation { IfOk result (λ r. IsPermutation self.columns.items r.items) }
+        ensures by_lows { IfOk result (λ r. AreByLows (λ c. c.cube) problem.now order.now r.items) }
+    {
+        let Listing { columns, is_sorted } = self;
+        if is_sorted {
+            return Ok(columns);
+        }
+        by_least_scenario(alloc, problem, order, columns)
+    }
+}
