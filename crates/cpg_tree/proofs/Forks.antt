@@ -5,7 +5,7 @@ use Rattle.std.specs.Bool.{OnFalse, OnTrue}
 use Rattle.std.proofs.lemmas.Bool.{cases_lt, cases_eq, cond-true, cond-false, le-leb, lt-leb}
 use Rattle.cpg_base.specs.Scenario.{Scenario, number_of}
 use Rattle.cpg_tree.specs.declared.node.Node.{Node, Leaf, Fork'}
-use Rattle.cpg_tree.specs.Decision.{value_at, low_at, high_at, DoForksPass}
+use Rattle.cpg_tree.specs.Decision.{value_at, low_at, high_at, DoForksPass, IsFit}
 use Rattle.cpg_tree.specs.Space.{Space, Lies}
 use Rattle.cpg_tree.specs.Results.{IsForkOf, IsJoinOf, IsPickOf, IsMade, IsWithin, picked}
 
@@ -273,6 +273,10 @@ module _ {T U : Type 0} (fact : Scenario → T → U → Type 0) (more_low : Sce
 -- where the forks of a tree that is a fork pass a test, so do those of its sides
 pub passes_parts : {T : Type 0} (test : ℕ → Bool) (v cut : ℕ) (below above n : Node T) {p : Box (Unit {0}) Global} → n ≡ Fork' v cut p below above → DoForksPass test n → (test v ≡ true) × DoForksPass test below × DoForksPass test above
 passes_parts test v cut below above n is pass = subst (DoForksPass test) is pass
+
+-- where such a tree fits, so do its sides
+pub fit_parts : {T : Type 0} (room : Space) (v cut : ℕ) (below above n : Node T) {p : Box (Unit {0}) Global} → n ≡ Fork' v cut p below above → IsFit room n → IsFit room (Fork' v cut p below above)
+fit_parts room v cut below above n is fit = subst (IsFit room) is fit
 
 -- where two pairs of sides are the same, so are their sides
 module _ {T : Type 0} {one other : Node T × Node T} (same : one ≡ other) where

@@ -1,11 +1,11 @@
 -- Where a tree is at least another everywhere, it is the greater of the two.
-use Rattle.std.proofs.Common.{ℕ, ◌≤◌, ◌≡◌, max, inl, inr, arith, ap}
+use Rattle.std.proofs.Common.{ℕ, ◌≤◌, ◌≡◌, max, inl, inr, arith, ap, subst}
 use Rattle.std.proofs.lemmas.Bool.{cases_lt}
 use Rattle.cpg_base.specs.Scenario.{Scenario, number_of}
 use Rattle.cpg_tree.specs.declared.node.Node.{Node, Leaf, Fork'}
 use Rattle.cpg_tree.specs.Space.{Space, Lies}
 use Rattle.cpg_tree.specs.Decision.{value_at}
-use Rattle.cpg_tree.specs.Results.{IsWithin, IsFillOf, IsJoinOf}
+use Rattle.cpg_tree.specs.Results.{IsFillOf, IsJoinOf}
 use Rattle.cpg_tree.specs.Greater.{IsAtLeast, least_in, most_in}
 use Rattle.cpg_tree.proofs.Forks.{value_below, value_above, made_weaker}
 
@@ -24,16 +24,21 @@ module _ {T : Type 0} (number : T → ℕ) where
     | inr h ↦ omega (arith, most_over below s, ap number (value_below v cut p below above s h))
   ]
 
-module _ {U : Type 0} (number : U → ℕ) (room : Space) (a : Node ℕ) (b : Node U) (r : Node ℕ) where
-  pub first_greater : IsAtLeast (λ x. x) number a b → IsWithin room a r → IsJoinOf (λ x y z. z ≡ max x (number y)) room a b r
+-- what is made of the greater number of two trees
+module _ {T U V : Type 0} (number : T → ℕ) (other_number : U → ℕ) (makes : ℕ → V → Type 0) (room : Space) (a : Node T) (b : Node U) (r : Node V) where
+  pub first_greater : IsAtLeast number other_number a b → IsFillOf (λ x y z. makes (max x (number y)) z) room 0 a r → IsJoinOf (λ x y z. makes (max (number x) (other_number y)) z) room a b r
   first_greater least made = made_weaker (Lies room) _ _ _ _ _ _ r made
-      (λ s z d e. omega (arith, e, least s s)) (λ s u d. omega arith) (λ k s u d. omega arith)
+      (λ s z d e. subst (λ (n : ℕ). makes n z) (omega (arith, least s s)) e) (λ s u d. omega arith) (λ k s u d. omega arith)
 
-  pub second_greater : IsAtLeast number (λ x. x) b a → IsFillOf (λ x y z. z ≡ max x (number y)) room 0 b r → IsJoinOf (λ x y z. z ≡ max x (number y)) room a b r
+  pub second_greater : IsAtLeast other_number number b a → IsFillOf (λ x y z. makes (max x (other_number y)) z) room 0 b r → IsJoinOf (λ x y z. makes (max (number x) (other_number y)) z) room a b r
   second_greater least made = made_weaker (Lies room) _ _ _ _ _ _ r made
-      (λ s z d e. omega (arith, e, least s s)) (λ s u d. omega arith) (λ k s u d. omega arith)
+      (λ s z d e. subst (λ (n : ℕ). makes n z) (omega (arith, least s s)) e) (λ s u d. omega arith) (λ k s u d. omega arith)
 
-  -- beside one number
-  pub other_leaf : (x : U) → b ≡ Leaf x → IsFillOf (λ x y z. z ≡ max x y) room (number x) a r → IsJoinOf (λ x y z. z ≡ max x (number y)) room a b r
-  other_leaf x is made = made_weaker (Lies room) _ _ _ _ _ _ r made
-      (λ s z d e. omega (arith, e, ap (λ (n : Node U). number (value_at n s)) is)) (λ s u d. omega arith) (λ k s u d. omega arith)
+  -- of one number and a tree
+  pub first_leaf : (x : T) (n : ℕ) → a ≡ Leaf x → n ≡ number x → IsFillOf (λ x y z. makes (max x (other_number y)) z) room n b r → IsJoinOf (λ x y z. makes (max (number x) (other_number y)) z) room a b r
+  first_leaf x n is at made = made_weaker (Lies room) _ _ _ _ _ _ r made
+      (λ s z d e. subst (λ (m : ℕ). makes m z) (omega (arith, at, ap (λ (c : Node T). number (value_at c s)) is)) e) (λ s u d. omega arith) (λ k s u d. omega arith)
+
+  pub second_leaf : (y : U) (n : ℕ) → b ≡ Leaf y → n ≡ other_number y → IsFillOf (λ x y z. makes (max x (number y)) z) room n a r → IsJoinOf (λ x y z. makes (max (number x) (other_number y)) z) room a b r
+  second_leaf y n is at made = made_weaker (Lies room) _ _ _ _ _ _ r made
+      (λ s z d e. subst (λ (m : ℕ). makes m z) (omega (arith, at, ap (λ (c : Node U). other_number (value_at c s)) is)) e) (λ s u d. omega arith) (λ k s u d. omega arith)

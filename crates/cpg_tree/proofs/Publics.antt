@@ -1,5 +1,5 @@
 -- What the operations make of decision trees, said of their paths.
-use Rattle.std.proofs.Common.{ℕ, ◌≡◌, min, Bool, true, false, if◌then◌else◌, arith, refl, sym, ap, ◌∙◌, subst}
+use Rattle.std.proofs.Common.{ℕ, ◌≡◌, min, Bool, true, false, List, if◌then◌else◌, arith, refl, sym, ap, ◌∙◌, subst}
 use Rattle.cpg_base.specs.Scenario.{Scenario}
 use Rattle.cpg_cube.specs.Cube.{low_in, high_in}
 use Rattle.cpg_base.specs.Variable.{top}
@@ -23,6 +23,17 @@ module _ {T : Type 0} (k : ℕ) (a root : Node T) (same : a ≡ root) where
 
   pub root_good : IsGood k root → IsGood k a
   root_good good = subst (λ (n : Node T). IsGood k n) (sym same) good
+
+  -- as a caller sees it
+  pub good_seen : (t : TreeState T) → state k root ≡ t → IsGood k root → IsGood t.faults a
+  good_seen t is good = subst (λ (u : TreeState T). IsGood u.faults a) (root_seen t is) (root_good good)
+
+  pub paths_seen : (t : TreeState T) → state k root ≡ t → t.paths ≡ paths_of t.faults a
+  paths_seen t is = subst (λ (u : TreeState T). u.paths ≡ paths_of u.faults a) (root_seen t is) refl
+
+-- a tree with the paths of a node is the node's
+pub state_seen : {T : Type 0} (t : TreeState T) (a : Node T) → t.paths ≡ paths_of t.faults a → state t.faults a ≡ t
+state_seen {T} t a paths = ap (λ (ps : List (Path T)). record { faults = t.faults; paths = ps }) (sym paths)
 
 module _ (k : ℕ) (room : Space) (all : (s : Scenario) → HasFew k s → Lies room s) where
   pub join_paths : {T U V : Type 0} (answers : T → U → V → Type 0) (a : Node T) (b : Node U) (r : Node V) → IsGood k a → IsGood k b → IsGood k r → IsJoinOf answers room a b r →

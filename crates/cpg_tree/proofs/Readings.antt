@@ -7,7 +7,7 @@ use Rattle.cpg_base.proofs.Lists.{Contains-map_parts}
 use Rattle.cpg_base.proofs.Sums.{filter-map}
 use Rattle.cpg_base.specs.Scenario.{Scenario, number_of}
 use Rattle.cpg_cube.specs.declared.literal.Literal.{Literal}
-use Rattle.cpg_cube.specs.Cover.{narrowed_by}
+use Rattle.cpg_cube.specs.Narrow.{narrowed_by}
 use Rattle.cpg_tree.specs.declared.node.Node.{Node, Leaf, Fork'}
 use Rattle.cpg_tree.specs.Decision.{value_at, low_at, high_at, IsFit, IsGood, DoForksPass}
 use Rattle.cpg_tree.specs.Later.{time_later}

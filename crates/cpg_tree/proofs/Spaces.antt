@@ -99,6 +99,11 @@ pub lies_reopened : (room shut inner opened upper : Space) (v high cut : ℕ) �
 lies_reopened room shut inner opened upper v high cut back same put lies_upper s lies h =
     lies_upper s (subst (λ r. Lies r s) (sym (put ∙ ap (λ r. below_cut r v high) same ∙ back)) lies) h
 
+-- what is left above the cut then
+pub above_reopened : (room shut inner opened upper : Space) (v high cut : ℕ) → below_cut shut v high ≡ room → inner ≡ shut → opened ≡ below_cut inner v high → upper ≡ above_cut opened v cut → upper ≡ above_cut room v cut
+above_reopened room shut inner opened upper v high cut back same reopened closed =
+    closed ∙ ap (λ (r : Space). above_cut r v cut) (reopened ∙ ap (λ (r : Space). below_cut r v high) same ∙ back)
+
 -- ---- all scenarios of at most k faults
 
 module _ (k : ℕ) (s : Scenario) (few : HasFew k s) where

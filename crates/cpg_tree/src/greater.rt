@@ -1,15 +1,23 @@
 //! The greater of two trees whose leaves are read as numbers.
-ghost use Rattle.std.specs.Prelude.{◌≡◌, max, ℕ, Bool, IfOk};
+ghost use Rattle.std.specs.Prelude.{◌≡◌, max, ℕ, Bool, IfOk, true};
 ghost use Rattle.cpg_tree.specs.Results.{IsWithin, IsFillOf, IsJoinOf};
 ghost use Rattle.cpg_tree.specs.Decision.{DoForksPass, IsFit};
 ghost use Rattle.cpg_tree.specs.Bounds.{bounds_in};
 
 use crate::bounds::{Bound, bounds_above, bounds_below};
 use crate::node::Node;
-use crate::reading::{AsIs, Reading};
+use crate::reading::Reading;
 use crate::space::Space;
 use cpg_base::OutOfMemory;
 use std::alloc::Global;
+
+/// How the leaves of two trees are read as numbers, and what is made of the greater one.
+#[derive(Clone, Copy)]
+pub(crate) struct Greater<'a, R, S, F> {
+    pub(crate) read: &'a R,
+    pub(crate) also: &'a S,
+    pub(crate) made: &'a F,
+}
 
 /// A tree with the bounds of its forks.
 #[derive(Clone, Copy)]
@@ -74,35 +82,69 @@ impl<T: Copy> Node<T> {
     }
 }
 
-impl Node<u64> {
-    /// In each scenario of a space the greater number of two trees with the bounds of their forks. Where one is at least the
-    /// other everywhere, nothing of the other is tested.
-    fn greater_by<U: Copy, R: Reading<U>>(
+impl<T: Copy> Node<T> {
+    /// In each scenario of a space what is made of a value or the tree's number, whichever is greater.
+    fn made_at_least<V: Copy + Eq, R: Reading<T>, F: Fn(u64) -> V>(
+        &self,
+        alloc: Global,
+        space: &mut Space,
+        value: u64,
+        read: &R,
+        made: &F,
+    ) -> Result<Node<V>, OutOfMemory>
+        requires callable { F.IsAlwaysCallable made.now }
+        requires equal { (x y : V) → V.eq x y ≡ true → x ≡ y }
+        ensures made { IfOk result (IsFillOf (λ x y z. F.post made.now (max x (R.number read.now y)) z) space.old value self.now) }
+        ensures back { IfOk result (λ _. space.new ≡ space.old) }
+        ensures fit { IfOk result (IsFit space.old) }
+        ensures pass { IfOk result (λ r. (test : ℕ → Bool) → DoForksPass test self.now → DoForksPass test r) }
+    {
+        self.fill(
+            alloc,
+            space,
+            value,
+            &|first: u64, second: T| made(first.max(read.number(second))),
+        )
+    }
+
+    /// In each scenario of a space what is made of the greater number of two trees with the bounds of their forks. Where one is
+    /// at least the other everywhere, nothing of the other is tested.
+    fn greater_by<U: Copy, V: Copy + Eq, R: Reading<T>, S: Reading<U>, F: Fn(u64) -> V>(
         &self,
         alloc: Global,
         space: &mut Space,
         bounds: &[Bound],
         other: Bounded<'_, U>,
-        read: &R,
-    ) -> Result<Node<u64>, OutOfMemory>
-        requires own { bounds.now ≡ bounds_in (λ x. x) self.now }
-        requires others { other.bounds.now ≡ bounds_in (R.number read.now) other.node.now }
-        ensures made { IfOk result (IsJoinOf (λ x y z. z ≡ max x (R.number read.now y)) space.old self.now other.entry.node.now) }
+        how: &Greater<'_, R, S, F>,
+    ) -> Result<Node<V>, OutOfMemory>
+        requires callable { F.IsAlwaysCallable how.now.made.now }
+        requires equal { (x y : V) → V.eq x y ≡ true → x ≡ y }
+        requires own { bounds.now ≡ bounds_in (R.number how.now.read.now) self.now }
+        requires others { other.bounds.now ≡ bounds_in (S.number how.now.also.now) other.node.now }
+        ensures made { IfOk result (IsJoinOf (λ x y z. F.post how.now.made.now (max (R.number how.now.read.now x) (S.number how.now.also.now y)) z)
+            space.old self.now other.entry.node.now) }
         ensures back { IfOk result (λ _. space.new ≡ space.old) }
         ensures fit { IfOk result (IsFit space.old) }
         ensures pass { IfOk result (λ r. (test : ℕ → Bool) → DoForksPass test self.now → DoForksPass test other.entry.node.now → DoForksPass test r) }
     {
         let other = other.node.part(other.bounds, space);
-        let own = self.span(&AsIs, bounds);
-        let others = other.node.span(read, other.bounds);
+        let own = self.span(how.read, bounds);
+        let others = other.node.span(how.also, other.bounds);
         if own.is_at_least(others) {
-            return self.within(alloc, space);
+            return self.made_at_least(alloc, space, 0, how.read, how.made);
         }
         if others.is_at_least(own) {
-            return other.node.at_least(alloc, space, 0, read);
+            return other
+                .node
+                .made_at_least(alloc, space, 0, how.also, how.made);
         }
         match self {
-            Node::Leaf(value) => other.node.at_least(alloc, space, *value, read),
+            Node::Leaf(value) => {
+                let number = how.read.number(*value);
+                other
+                    .node
+                    .made_at_least(alloc, space, number, how.also, how.made)
+            }
             Node::Fork {
                 variable,
                 cut,
@@ -110,47 +152,52 @@ impl Node<u64> {
             } => {
                 let (below, above) = &**sides;
                 if !space.is_open_below(*variable, *cut) {
-                    return above.greater_by(alloc, space, bounds_above(bounds), other, read);
+                    return above.greater_by(alloc, space, bounds_above(bounds), other, how);
                 }
                 if !space.is_open_above(*variable, *cut) {
-                    return below.greater_by(alloc, space, bounds_below(bounds), other, read);
+                    return below.greater_by(alloc, space, bounds_below(bounds), other, how);
                 }
                 let most = space.close_above(*variable, *cut);
-                let low = below.greater_by(alloc, space, bounds_below(bounds), other, read)?;
+                let low = below.greater_by(alloc, space, bounds_below(bounds), other, how)?;
                 space.reopen_above(*variable, most);
                 let least = space.close_below(*variable, *cut);
-                let high = above.greater_by(alloc, space, bounds_above(bounds), other, read)?;
+                let high = above.greater_by(alloc, space, bounds_above(bounds), other, how)?;
                 space.reopen_below(*variable, least);
                 Node::fork(alloc, *variable, *cut, low, high)
             }
         }
     }
 
-    /// In each scenario of a space the greater number of two trees.
-    pub(crate) fn greater_of<U: Copy, R: Reading<U>>(
+    /// In each scenario of a space what is made of the greater number of two trees.
+    pub(crate) fn greater_of<U: Copy, V: Copy + Eq, R: Reading<T>, S: Reading<U>, F: Fn(u64) -> V>(
         &self,
         alloc: Global,
         space: &mut Space,
         other: &Node<U>,
-        read: &R,
-    ) -> Result<Node<u64>, OutOfMemory>
-        ensures made { IfOk result (IsJoinOf (λ x y z. z ≡ max x (R.number read.now y)) space.old self.now other.now) }
+        how: &Greater<'_, R, S, F>,
+    ) -> Result<Node<V>, OutOfMemory>
+        requires callable { F.IsAlwaysCallable how.now.made.now }
+        requires equal { (x y : V) → V.eq x y ≡ true → x ≡ y }
+        ensures made { IfOk result (IsJoinOf (λ x y z. F.post how.now.made.now (max (R.number how.now.read.now x) (S.number how.now.also.now y)) z)
+            space.old self.now other.now) }
         ensures back { IfOk result (λ _. space.new ≡ space.old) }
         ensures fit { IfOk result (IsFit space.old) }
         ensures pass { IfOk result (λ r. (test : ℕ → Bool) → DoForksPass test self.now → DoForksPass test other.now → DoForksPass test r) }
     {
         if let Node::Leaf(value) = self {
-            return other.at_least(alloc, space, *value, read);
+            let number = how.read.number(*value);
+            return other.made_at_least(alloc, space, number, how.also, how.made);
         }
         if let Node::Leaf(value) = other {
-            return self.at_least(alloc, space, read.number(*value), &AsIs);
+            let number = how.also.number(*value);
+            return self.made_at_least(alloc, space, number, how.read, how.made);
         }
-        let own = self.bounds(alloc, &AsIs)?;
-        let others = other.bounds(alloc, read)?;
+        let own = self.bounds(alloc, how.read)?;
+        let others = other.bounds(alloc, how.also)?;
         let other = Bounded {
             node: other,
             bounds: others.as_slice(),
         };
-        self.greater_by(alloc, space, own.as_slice(), other, read)
+        self.greater_by(alloc, space, own.as_slice(), other, how)
     }
 }

@@ -2,10 +2,7 @@
 #![tactic(auto)]
 
 mod bounds;
-mod columns;
 mod greater;
-mod greatest;
-mod meeting;
 mod node;
 mod picking;
 mod reading;
@@ -15,7 +12,7 @@ mod tree;
 mod variables;
 
 pub use node::Node;
-pub use reading::time_later;
+pub use reading::{AsIs, Later, Reading, time_later};
 pub use space::Space;
 pub use tally::{Parting, Tally};
 pub use tree::Tree;

@@ -3,16 +3,17 @@ ghost use Rattle.std.specs.Prelude.{ℕ, ◌≡◌};
 ghost use Rattle.cpg_tree.specs.Later.{time_later};
 
 /// How a leaf is read as a number.
-pub(crate) trait Reading<T> {
+pub trait Reading<T> {
     ghost number: { Self → T → ℕ };
 
+    /// The number.
     fn number(&self, leaf: T) -> u64
         ensures { result ≡ number self.now leaf };
 }
 
 /// A number, as it stands.
 #[derive(Clone, Copy)]
-pub(crate) struct AsIs;
+pub struct AsIs;
 
 impl Reading<u64> for AsIs {
     ghost number = { λ _ x. x };
@@ -24,8 +25,9 @@ impl Reading<u64> for AsIs {
 
 /// A time or 0, later by a delay.
 #[derive(Clone, Copy)]
-pub(crate) struct Later {
-    pub(crate) delay: u64,
+pub struct Later {
+    /// The delay, in time units of the graph file.
+    pub delay: u64,
 }
 
 impl Reading<Option<u64>> for Later {

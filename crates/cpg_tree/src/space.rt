@@ -211,6 +211,9 @@ impl Space {
         if self.low[literal.variable as usize] < literal.low {
             return false;
         }
+        if self.high[literal.variable as usize] <= literal.high {
+            return true;
+        }
         self.most(literal.variable) <= literal.high
     }
 
@@ -242,16 +245,27 @@ impl Space {
         true
     }
 
+    /// Leaves the scenarios that literals match; false only where there are none, and then it is any space.
+    pub fn narrow_to(&mut self, literals: &[Literal]) -> bool
+        ensures lies { OnTrue result ((s : Scenario) → Lies self.old s → matches literals.now s ≡ true → Lies self.new s) }
+        ensures none { OnFalse result ((s : Scenario) → Lies self.old s → matches literals.now s ≡ false) }
+    {
+        for literal in literals {
+            if !self.narrow(*literal) {
+                return false;
+            }
+        }
+        true
+    }
+
     /// The scenarios of the space that literals match; `None` only where there are none.
     pub fn within(&self, literals: &[Literal]) -> Option<Space>
         ensures lies { IfSome result (λ r. (s : Scenario) → Lies self.now s → matches literals.now s ≡ true → Lies r s) }
         ensures none { IfNone result ((s : Scenario) → Lies self.now s → matches literals.now s ≡ false) }
     {
         let mut space = *self;
-        for literal in literals {
-            if !space.narrow(*literal) {
-                return None;
-            }
+        if !space.narrow_to(literals) {
+            return None;
         }
         Some(space)
     }
@@ -261,6 +275,10 @@ impl Space {
         ensures lies { IfSome result (λ r. (s : Scenario) → HasFew k s → matches literals.now s ≡ true → Lies r s) }
         ensures none { IfNone result ((s : Scenario) → HasFew k s → matches literals.now s ≡ false) }
     {
-        Space::whole(k).within(literals)
+        let mut space = Space::whole(k);
+        if !space.narrow_to(literals) {
+            return None;
+        }
+        Some(space)
     }
 }

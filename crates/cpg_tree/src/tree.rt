@@ -7,6 +7,7 @@ ghost use Rattle.cpg_tree.specs.Later.{IsAtLeast, time_later};
 ghost use Rattle.cpg_tree.specs.Paths.{paths_from, paths_of};
 ghost use Rattle.cpg_tree.specs.Tree.{HasOnePathEach, IsTidyPath, DoPathsPass, IsConstant, IsMap, IsJoin, IsPick, IsValueAt};
 
+use crate::greater::Greater;
 use crate::node::Node;
 use crate::reading::{AsIs, Later, Reading, time_later};
 use crate::space::Space;
@@ -52,6 +53,28 @@ impl<T> Node<T> {
                 low.checked_add(high)
             }
         }
+    }
+}
+
+impl<T> Tree<T> {
+    /// The allocator of its nodes.
+    pub fn alloc(&self) -> Global {
+        self.alloc
+    }
+
+    /// The most faults of a scenario that it has a value for.
+    pub fn faults(&self) -> u8
+        ensures { result ≡ self.now.faults }
+    {
+        self.faults
+    }
+
+    /// The decision tree whose paths they are.
+    pub fn root(&self) -> &Node<T>
+        ensures good { IsGood self.now.faults result.now }
+        ensures paths { self.now.paths ≡ paths_of self.now.faults result.now }
+    {
+        &self.root
     }
 }
 
@@ -127,6 +150,32 @@ impl<T: Copy> Tree<T> {
     {
         let mut space = Space::whole(self.faults);
         let root = self.root.join(self.alloc, &mut space, &other.root, f)?;
+        Tree::of(self.alloc, self.faults, root)
+    }
+
+    /// What a function makes in each scenario of the greater number of two trees whose leaves are read as numbers. Where one
+    /// tree's numbers are at least the other's everywhere, nothing of the other is tested, which no clause asks for. The one
+    /// error is want of memory.
+    pub fn greater<U: Copy, V: Copy + Eq, R: Reading<T>, S: Reading<U>, F: Fn(u64) -> V>(
+        &self,
+        read: &R,
+        other: &Tree<U>,
+        also: &S,
+        made: &F,
+    ) -> Result<Tree<V>, OutOfMemory>
+        requires callable { F.IsAlwaysCallable made.now }
+        requires equal { (x y : V) → V.eq x y ≡ true → x ≡ y }
+        requires same { self.now.faults ≡ other.now.faults }
+        ensures is { IfOk result (IsJoin (λ x y z. F.post made.now (max (R.number read.now x) (S.number also.now y)) z) self.now other.now) }
+        ensures each { IfOk result (λ t. HasOnePathEach t.faults t.paths) }
+        ensures tidy { IfOk result (λ t. All (IsTidyPath t.faults) t.paths) }
+        ensures pass { IfOk result (λ t. (test : ℕ → Bool) → DoPathsPass test self.now.paths → DoPathsPass test other.now.paths → DoPathsPass test t.paths) }
+    {
+        let mut space = Space::whole(self.faults);
+        let how = Greater { read, also, made };
+        let root = self
+            .root
+            .greater_of(self.alloc, &mut space, &other.root, &how)?;
         Tree::of(self.alloc, self.faults, root)
     }
 
@@ -246,25 +295,6 @@ impl Tree<Option<u64>> {
 }
 
 impl Tree<u64> {
-    /// In each scenario the greater number of two trees.
-    fn greater<U: Copy, R: Reading<U>>(
-        &self,
-        other: &Tree<U>,
-        read: &R,
-    ) -> Result<Tree<u64>, OutOfMemory>
-        requires same { self.now.faults ≡ other.now.faults }
-        ensures is { IfOk result (IsJoin (λ x y z. z ≡ max x (R.number read.now y)) self.now other.now) }
-        ensures each { IfOk result (λ t. HasOnePathEach t.faults t.paths) }
-        ensures tidy { IfOk result (λ t. All (IsTidyPath t.faults) t.paths) }
-        ensures pass { IfOk result (λ t. (test : ℕ → Bool) → DoPathsPass test self.now.paths → DoPathsPass test other.now.paths → DoPathsPass test t.paths) }
-    {
-        let mut space = Space::whole(self.faults);
-        let root = self
-            .root
-            .greater_of(self.alloc, &mut space, &other.root, read)?;
-        Tree::of(self.alloc, self.faults, root)
-    }
-
     /// In each scenario the greater value of two trees.
     pub fn max(&self, other: &Tree<u64>) -> Result<Tree<u64>, OutOfMemory>
         requires same { self.now.faults ≡ other.now.faults }
@@ -273,7 +303,7 @@ impl Tree<u64> {
         ensures tidy { IfOk result (λ t. All (IsTidyPath t.faults) t.paths) }
         ensures pass { IfOk result (λ t. (test : ℕ → Bool) → DoPathsPass test self.now.paths → DoPathsPass test other.now.paths → DoPathsPass test t.paths) }
     {
-        self.greater(other, &AsIs)
+        self.greater(&AsIs, other, &AsIs, &|number: u64| number)
     }
 
     /// In each scenario the greater of this tree's number and another's, 0 where that has none, later by a delay.
@@ -284,6 +314,6 @@ impl Tree<u64> {
         ensures tidy { IfOk result (λ t. All (IsTidyPath t.faults) t.paths) }
         ensures pass { IfOk result (λ t. (test : ℕ → Bool) → DoPathsPass test self.now.paths → DoPathsPass test other.now.paths → DoPathsPass test t.paths) }
     {
-        self.greater(other, &Later { delay })
+        self.greater(&AsIs, other, &Later { delay }, &|number: u64| number)
     }
 }

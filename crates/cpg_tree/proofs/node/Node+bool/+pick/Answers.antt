@@ -4,9 +4,9 @@ use Rattle.cpg_tree.specs.declared.node.Node.{Node, Leaf}
 use Rattle.cpg_tree.specs.Space.{Space, Lies}
 use Rattle.cpg_tree.specs.Decision.{value_at, low_at, high_at}
 use Rattle.cpg_tree.specs.Results.{IsPickOf, picked, IsWithin, IsForkOf}
-use Rattle.cpg_tree.proofs.Spaces.{lies_reopened}
+use Rattle.cpg_tree.proofs.Spaces.{above_reopened, lies_reopened}
 use Rattle.cpg_tree.proofs.Forks.{pick_whole, two_below_of, two_above_of, two_fork_of, two_leaf_of, of_answer, from_false, same_below, same_above}
-use Rattle.cpg_tree.specs.Decision.{DoForksPass}
+use Rattle.cpg_tree.specs.Decision.{DoForksPass, IsFit}
 use Rattle.cpg_tree.proofs.Forks.{passes_parts}
 use Rattle.cpg_tree.proofs.node.Node+bool.+pick.Goals as goal
 
@@ -99,3 +99,13 @@ returns-then-not-is_open_above-clause-pass g t c =
     (λ r over test first on_pass off_pass.
     let parts = passes_parts test c.in-Fork.variable c.in-Fork.cut c.in-Fork.sides.value.0 c.in-Fork.sides.value.1 c.args.self.now c.in-Fork.is first in
     over test (subst (λ (n : Node Bool). DoForksPass test n) (sym (same_below c.deref.ensures)) parts.1) (c.part_in-on.ensures.pass test on_pass) (c.part_in-off.ensures.pass test off_pass))
+
+pub returns-in_ok-high-in-Fork-clause-fit : goal.returns-in_ok-high-in-Fork-clause-fit
+returns-in_ok-high-in-Fork-clause-fit g t c =
+    let room : Space = c.args.space.now in
+    of_answer c.fork.result _ _ c.fork.ensures.fit
+    (λ r fit. fit room (sym c.is_open_below.ensures.is ∙ c.if-not-is_open_below.false) (sym c.is_open_above.ensures.is ∙ c.if-not-is_open_above.false)
+    (subst (λ (r : Space). IsFit r c.in_ok-low-in-Fork.low) c.close_above-most.ensures.is c.in_ok-low-in-Fork.ensures.fit)
+    (subst (λ (r : Space). IsFit r c.in_ok-high-in-Fork.high)
+    (above_reopened room c.close_above-most.new.self c.pick-in-Fork.new.space c.reopen_above.new.self c.close_below-least.new.self c.in-Fork.variable c.close_above-most.result c.in-Fork.cut c.close_above-most.ensures.back c.in_ok-low-in-Fork.ensures.back c.reopen_above.ensures c.close_below-least.ensures.is)
+    c.in_ok-high-in-Fork.ensures.fit))

@@ -3,8 +3,9 @@ use Rattle.std.specs.Prelude.{⊤}
 use Rattle.cpg_tree.specs.declared.node.Node.{Node}
 use Rattle.cpg_tree.proofs.Forks.{of_answer, one_fork_of, same_below, same_above}
 use Rattle.cpg_tree.specs.Results.{IsForkOf, IsMapOf}
-use Rattle.cpg_tree.specs.Decision.{DoForksPass}
-use Rattle.cpg_tree.proofs.Forks.{passes_parts}
+use Rattle.cpg_tree.specs.Decision.{DoForksPass, IsFit}
+use Rattle.cpg_tree.specs.Space.{below_cut, above_cut}
+use Rattle.cpg_tree.proofs.Forks.{fit_parts, passes_parts}
 use Rattle.cpg_tree.proofs.node.Node.+map.Goals as goal
 
 pub returns-in_ok-high-in-Fork-clause-made : goal.returns-in_ok-high-in-Fork-clause-made
@@ -23,3 +24,12 @@ returns-in_ok-high-in-Fork-clause-pass g t c =
     fork test parts.0
     (c.in_ok-low-in-Fork.ensures.pass test (subst (λ (n : Node g.row.T.Denot). DoForksPass test n) (sym (same_below c.deref.ensures)) parts.1))
     (c.in_ok-high-in-Fork.ensures.pass test (subst (λ (n : Node g.row.T.Denot). DoForksPass test n) (sym (same_above c.deref.ensures)) parts.2)))
+
+pub returns-in_ok-high-in-Fork-clause-fit : goal.returns-in_ok-high-in-Fork-clause-fit
+returns-in_ok-high-in-Fork-clause-fit g t c =
+    of_answer c.fork.result _ _ c.fork.ensures.fit
+    (λ r fork room fit.
+    let parts = fit_parts room c.in-Fork.variable c.in-Fork.cut c.in-Fork.sides.value.0 c.in-Fork.sides.value.1 c.args.self.now c.in-Fork.is fit in
+    fork room parts.1 parts.2
+    (c.in_ok-low-in-Fork.ensures.fit (below_cut room c.in-Fork.variable c.in-Fork.cut) (subst (λ (n : Node g.row.T.Denot). IsFit (below_cut room c.in-Fork.variable c.in-Fork.cut) n) (sym (same_below c.deref.ensures)) parts.3))
+    (c.in_ok-high-in-Fork.ensures.fit (above_cut room c.in-Fork.variable c.in-Fork.cut) (subst (λ (n : Node g.row.T.Denot). IsFit (above_cut room c.in-Fork.variable c.in-Fork.cut) n) (sym (same_above c.deref.ensures)) parts.4)))

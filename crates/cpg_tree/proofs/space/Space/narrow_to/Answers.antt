@@ -2,7 +2,7 @@ use Rattle.cpg_cube.specs.Cube.{matches}
 use Rattle.std.proofs.lemmas.Bool.{both_ways, false_from_ne_true}
 use Rattle.cpg_tree.proofs.Forks.{from_false, from_true}
 use Rattle.cpg_tree.proofs.Holding.{unmatched, each_holds}
-use Rattle.cpg_tree.proofs.space.Space.within.Goals as goal
+use Rattle.cpg_tree.proofs.space.Space.narrow_to.Goals as goal
 
 pub returns-then-not-narrow-clause-none : goal.returns-then-not-narrow-clause-none
 returns-then-not-narrow-clause-none c s few = false_from_ne_true (matches c.args.literals.now s)

@@ -1,0 +1,31 @@
+use Rattle.std.proofs.Common.{ℕ, max}
+use Rattle.cpg_tree.specs.declared.node.Node.{Node}
+use Rattle.cpg_tree.specs.Space.{Space}
+use Rattle.cpg_tree.specs.Results.{IsFillOf, IsJoinOf}
+use Rattle.cpg_tree.proofs.Forks.{of_answer}
+use Rattle.cpg_tree.proofs.Greatness.{first_leaf, second_leaf}
+use Rattle.cpg_tree.proofs.node.Node.greater_of.Goals as goal
+
+pub returns-in-Leaf-clause-made : goal.returns-in-Leaf-clause-made
+returns-in-Leaf-clause-made g c =
+    let room : Space = c.args.space.now in
+    let number : g.row.T.Denot → ℕ = g.R.Reading.number c.args.how.now.read.now in
+    let other_number : g.row.U.Denot → ℕ = g.S.Reading.number c.args.how.now.also.now in
+    let makes : ℕ → g.row.V.Denot → Type 0 = λ n z. g.F.Fn.post c.args.how.now.made.now (n, tt) z in
+    let a : Node g.row.T.Denot = c.args.self.now in
+    let b : Node g.row.U.Denot = c.args.other.now in
+    of_answer c.made_at_least.result (IsFillOf (λ (x : ℕ) (y : g.row.U.Denot) (z : g.row.V.Denot). makes (max x (other_number y)) z) room c.number-number.result b)
+    (IsJoinOf (λ (x : g.row.T.Denot) (y : g.row.U.Denot) (z : g.row.V.Denot). makes (max (number x) (other_number y)) z) room a b) c.made_at_least.ensures.made
+    (λ r made. first_leaf number other_number makes room a b r c.in-Leaf.value c.number-number.result c.in-Leaf.is c.number-number.ensures made)
+
+pub returns-in-Leaf-other-clause-made : goal.returns-in-Leaf-other-clause-made
+returns-in-Leaf-other-clause-made g c =
+    let room : Space = c.args.space.now in
+    let number : g.row.T.Denot → ℕ = g.R.Reading.number c.args.how.now.read.now in
+    let other_number : g.row.U.Denot → ℕ = g.S.Reading.number c.args.how.now.also.now in
+    let makes : ℕ → g.row.V.Denot → Type 0 = λ n z. g.F.Fn.post c.args.how.now.made.now (n, tt) z in
+    let a : Node g.row.T.Denot = c.args.self.now in
+    let b : Node g.row.U.Denot = c.args.other.now in
+    of_answer c.made_at_least-in-Leaf-other.result (IsFillOf (λ (x : ℕ) (y : g.row.T.Denot) (z : g.row.V.Denot). makes (max x (number y)) z) room c.number-number-in-Leaf-other.result a)
+    (IsJoinOf (λ (x : g.row.T.Denot) (y : g.row.U.Denot) (z : g.row.V.Denot). makes (max (number x) (other_number y)) z) room a b) c.made_at_least-in-Leaf-other.ensures.made
+    (λ r made. second_leaf number other_number makes room a b r c.in-Leaf-other.value c.number-number-in-Leaf-other.result c.in-Leaf-other.is c.number-number-in-Leaf-other.ensures made)
