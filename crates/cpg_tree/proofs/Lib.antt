@@ -9,13 +9,10 @@ pub mod Numbers
 pub mod Rooms
 pub mod Tidy
 pub mod TidyPaths
-pub mod Leasts
 pub mod Passing
 pub mod Passes
 pub mod Holding
 pub mod Demands
 pub mod OnePath
 pub mod AtLeast
-pub mod Most
-pub mod Meetings
 pub mod Readings

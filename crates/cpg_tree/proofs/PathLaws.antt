@@ -9,7 +9,7 @@ use Rattle.cpg_base.specs.Scenario.{Scenario, number_of}
 use Rattle.cpg_cube.specs.declared.literal.Literal.{Literal}
 use Rattle.cpg_cube.specs.Cube.{IsRising, holds, matches, low_in, high_in}
 use Rattle.cpg_base.specs.Variable.{top}
-use Rattle.cpg_cube.specs.Cover.{narrowed_by}
+use Rattle.cpg_cube.specs.Narrow.{narrowed_by}
 use Rattle.cpg_cube.proofs.CubeLows.{holds-low, holds-high, holds-from}
 use Rattle.cpg_cube.proofs.Narrow.{matches-narrowed, rising-narrowed}
 use Rattle.cpg_tree.specs.declared.node.Node.{Node, Leaf, Fork'}

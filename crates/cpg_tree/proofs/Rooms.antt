@@ -1,24 +1,18 @@
 -- Spaces that some scenario lies in, and cubes that say no more than a space.
-use Rattle.std.proofs.Common.{ℕ, ◌+◌, ◌-◌, ◌<◌, ◌≤◌, ◌≡◌, ◌≢◌, max, min, ◌==◌, true, nat_lt, List, [], ◌∷◌, ◌++◌, get_or, sum_by, length, Some, Option, arith, sym, ap, ap₂, ◌∙◌, subst, inl, inr, ◌⊎◌, lt-ltb, le-ltb, eq-eqb, ne_eqb}
+use Rattle.std.proofs.Common.{ℕ, ◌+◌, ◌-◌, ◌<◌, ◌≤◌, ◌≡◌, ◌≢◌, true, nat_lt, List, [], get_or, sum_by, length, arith, sym, ap, ◌∙◌, subst, inl, inr, ◌⊎◌, lt-ltb, le-ltb}
 use Rattle.std.specs.Prelude.{nat_le, slice_set}
-use Rattle.std.specs.Option.{option_map_or}
-use Rattle.std.proofs.lemmas.Bool.{cases_lt, cases_eq, cond-true, cond-false, and_parts, or_cases, leb-true, le-leb, ltb-true}
-use Rattle.std.proofs.lemmas.List.{get_or-set_same, get_or-set_other, length-set, append-nil}
-use Rattle.std.proofs.lemmas.Grind.{flat_map-append}
+use Rattle.std.proofs.lemmas.Bool.{cases_lt, cases_eq, cond-true, cond-false, and_parts, or_cases, leb-true, ltb-true}
+use Rattle.std.proofs.lemmas.List.{get_or-set_same, get_or-set_other, length-set}
 use Rattle.cpg_base.specs.Numbers.{numbers_below}
 use Rattle.cpg_base.proofs.Lists.{numbers-Contains}
 use Rattle.cpg_base.proofs.Sums.{sum_changed, same_sum_by, sum_by_zeros}
 use Rattle.cpg_cube.specs.declared.literal.Literal.{Literal}
 use Rattle.cpg_cube.specs.Cube.{IsRising, low_in, high_in}
 use Rattle.cpg_base.specs.Variable.{top}
-use Rattle.cpg_cube.specs.Cover.{narrowed_by, meet_literal, range_left, with_literal}
+use Rattle.cpg_cube.specs.Narrow.{narrowed_by}
 use Rattle.cpg_cube.proofs.Narrow.{rising-narrowed}
-use Rattle.cpg_tree.specs.declared.node.Node.{Node, Leaf, Fork'}
 use Rattle.cpg_tree.specs.Space.{Space, IsWhole, is_open_below, is_open_above, below_cut, above_cut}
-use Rattle.cpg_tree.specs.Decision.{IsFit, IsGood}
-use Rattle.cpg_tree.specs.Paths.{up_to, above, paths_from}
-use Rattle.cpg_tree.specs.Tree.{Path}
-use Rattle.cpg_tree.specs.Columns.{column_of, columns_of_paths, columns_from}
+use Rattle.cpg_tree.specs.Paths.{up_to, above}
 use Rattle.cpg_cube.proofs.Narrowed.{low-other, low-same, high-other, high-same}
 
 -- each range has a number, and the lows are no more faults than there may be
@@ -36,31 +30,14 @@ pub record IsTold (k : ℕ) (room : Space) (cube : List Literal) : Type 0 where
   pub high : (v : ℕ) → v < 256 → get_or room.high v 0 ≤ high_in k cube v
   pub within : (v : ℕ) → high_in k cube v ≤ top k v
 
--- the range of a literal's variable after narrowing
-range_low : (l : Literal) (cube : List Literal) → (range_left l cube).low ≡ max l.low (low_in cube l.variable)
-range_low l [] = omega arith
-range_low l (m ∷ ms) = elim (cases_eq l.variable m.variable) [
-  | inl e ↦ ap (λ (x : Literal). x.low) (cond-true (l.variable == m.variable) (meet_literal l m) (range_left l ms) (eq-eqb _ _ e)) ∙ ap (max l.low) (sym (cond-true (m.variable == l.variable) m.low (low_in ms l.variable) (eq-eqb _ _ (sym e))))
-  | inr n ↦ ap (λ (x : Literal). x.low) (cond-false (l.variable == m.variable) (meet_literal l m) (range_left l ms) (ne_eqb _ _ n)) ∙ range_low l ms
-      ∙ ap (max l.low) (sym (cond-false (m.variable == l.variable) m.low (low_in ms l.variable) (ne_eqb _ _ (λ e. n (sym e)))))
-]
-
-range_high : (k : ℕ) (l : Literal) (cube : List Literal) → l.high ≤ top k l.variable → (range_left l cube).high ≡ min l.high (high_in k cube l.variable)
-range_high k l [] h = omega (arith, h)
-range_high k l (m ∷ ms) h = elim (cases_eq l.variable m.variable) [
-  | inl e ↦ ap (λ (x : Literal). x.high) (cond-true (l.variable == m.variable) (meet_literal l m) (range_left l ms) (eq-eqb _ _ e)) ∙ ap (min l.high) (sym (cond-true (m.variable == l.variable) m.high (high_in k ms l.variable) (eq-eqb _ _ (sym e))))
-  | inr n ↦ ap (λ (x : Literal). x.high) (cond-false (l.variable == m.variable) (meet_literal l m) (range_left l ms) (ne_eqb _ _ n)) ∙ range_high k l ms h
-      ∙ ap (min l.high) (sym (cond-false (m.variable == l.variable) m.high (high_in k ms l.variable) (ne_eqb _ _ (λ e. n (sym e)))))
-]
-
 more_asked : (new old low cut left k : ℕ) → new + low ≡ old + (cut + 1) → old + left ≤ k → low ≤ cut → cut < low + left → new + (left - (cut + 1 - low)) ≤ k
 more_asked new old low cut left k changed most below allows = omega arith
 
 module _ (k : ℕ) (room : Space) (is : IsRoom k room) (v cut : ℕ) (there : v < 256) (below : is_open_below room v cut ≡ true) (upper : is_open_above room v cut ≡ true) where
-  low_at_most : get_or room.low v 0 ≤ cut
+  pub low_at_most : get_or room.low v 0 ≤ cut
   low_at_most = leb-true (get_or room.low v 0) cut below
 
-  cut_less : cut < get_or room.high v 0
+  pub cut_less : cut < get_or room.high v 0
   cut_less = ltb-true cut (get_or room.high v 0) (and_parts (nat_lt cut (get_or room.high v 0)) _ upper).0
 
   pub cut_under : cut < top k v
@@ -161,29 +138,6 @@ module _ (k : ℕ) (room : Space) (is : IsRoom k room) (v cut : ℕ) (there : v 
       ];
     }
 
-    -- ---- neither side's range is empty
-
-    pub some_below : with_literal (up_to v cut) cube ≡ Some (narrowed_by (up_to v cut) cube)
-    some_below = cond-true _ _ _ (le-leb (range_left (up_to v cut) cube).low (range_left (up_to v cut) cube).high (omega (arith, range_low (up_to v cut) cube, range_high k (up_to v cut) cube (omega (arith, cut_under)), told.low v there, told.high v there, low_at_most, is.opens v there)))
-
-    pub some_above : with_literal (above k v cut) cube ≡ Some (narrowed_by (above k v cut) cube)
-    some_above = cond-true _ _ _ (le-leb (range_left (above k v cut) cube).low (range_left (above k v cut) cube).high (omega (arith, range_low (above k v cut) cube, range_high k (above k v cut) cube (omega arith), told.low v there, told.high v there, cut_under, cut_less, is.opens v there, is.tops v there)))
-
--- ---- the columns that are found are those of the paths
-
-flat_both : (xs ys : List (Path (Option ℕ))) → columns_of_paths (xs ++ ys) ≡ columns_of_paths xs ++ columns_of_paths ys
-flat_both xs ys = flat_map-append (λ (p : Path (Option ℕ)). column_of p.0 p.1) xs ys
-
-pub columns_are : (k : ℕ) (node : Node (Option ℕ)) (room : Space) (cube : List Literal) → IsRoom k room → IsTold k room cube → IsFit room node → columns_from k cube node ≡ columns_of_paths (paths_from k cube node)
-columns_are k (Leaf x) room cube is told fit = sym (append-nil (column_of cube x))
-columns_are k (Fork' v cut p below upper) room cube is told fit =
-    ap₂ ◌++◌
-    (ap (λ (o : Option (List Literal)). option_map_or (λ c. columns_from k c below) o []) (some_below k room is v cut fit.0 fit.1 fit.2 cube told)
-    ∙ columns_are k below (below_cut room v cut) (narrowed_by (up_to v cut) cube) (room_below k room is v cut fit.0 fit.1 fit.2) (told_below k room is v cut fit.0 fit.1 fit.2 cube told) fit.3)
-    (ap (λ (o : Option (List Literal)). option_map_or (λ c. columns_from k c upper) o []) (some_above k room is v cut fit.0 fit.1 fit.2 cube told)
-    ∙ columns_are k upper (above_cut room v cut) (narrowed_by (above k v cut) cube) (room_above k room is v cut fit.0 fit.1 fit.2) (told_above k room is v cut fit.0 fit.1 fit.2 cube told) fit.4)
-    ∙ sym (flat_both (paths_from k (narrowed_by (up_to v cut) cube) below) (paths_from k (narrowed_by (above k v cut) cube) upper))
-
 -- ---- the space of all scenarios
 
 pub room_whole : (k : ℕ) (room : Space) → IsWhole k room → IsRoom k room
@@ -205,6 +159,3 @@ told_whole k room whole = record {
   high = λ v l. (room_whole k room whole).tops v l;
   within = λ v. omega arith;
 }
-
-pub all_columns : (k : ℕ) (node : Node (Option ℕ)) → IsGood k node → columns_from k [] node ≡ columns_of_paths (paths_from k [] node)
-all_columns k node good = columns_are k node good.0 [] (room_whole k good.0 good.1) (told_whole k good.0 good.1) good.2

@@ -4,10 +4,7 @@ pub mod Results
 pub mod Paths
 pub mod Tree
 pub mod Variables
-pub mod Columns
-pub mod Greatest
 pub mod Greater
 pub mod Bounds
 pub mod Later
-pub mod Meeting
 pub mod Read

@@ -2,7 +2,7 @@
 use Rattle.std.specs.Prelude.{ℕ, ◌+◌, List, [], ◌∷◌, ◌++◌}
 use Rattle.cpg_cube.specs.declared.literal.Literal.{Literal}
 use Rattle.cpg_base.specs.Variable.{top}
-use Rattle.cpg_cube.specs.Cover.{narrowed_by}
+use Rattle.cpg_cube.specs.Narrow.{narrowed_by}
 use Rattle.cpg_tree.specs.declared.node.Node.{Node, Leaf, Fork'}
 
 -- the numbers up to a cut

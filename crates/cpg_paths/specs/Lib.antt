@@ -1,0 +1,4 @@
+pub mod Columns
+pub mod Greatest
+pub mod Meeting
+pub mod Along
