@@ -16,7 +16,7 @@ use Rattle.cpg_cube.proofs.CubeLows.{low_in-later, low_in-none}
 use Rattle.cpg_cube.specs.Column.{Column}
 use Rattle.cpg_merging.specs.Merged.{HaveNoWhole}
 use Rattle.cpg_merging.specs.Merging.{shorn, all_shorn, without, raised}
-use Rattle.cpg_cube.proofs.FewestLaws.{same_literal}
+use Rattle.cpg_cube.proofs.Ranges.{same_literal}
 
 -- where one literal leads two lists with the same ranges, the lists have the same ranges
 same_low : (l : Literal) (xs ys : List Literal) (v : ℕ) → low_in xs v ≡ low_in ys v → low_in (l ∷ xs) v ≡ low_in (l ∷ ys) v

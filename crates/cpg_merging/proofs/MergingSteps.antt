@@ -16,7 +16,9 @@ use Rattle.cpg_cube.specs.Fit.{IsCube, lows}
 use Rattle.cpg_cube.proofs.CubeLows.{met_by, lows-lawful, lows-match}
 use Rattle.cpg_cube.specs.Column.{Column, times_in}
 use Rattle.cpg_merging.specs.Merged.{AreMergeable}
-use Rattle.cpg_merging.specs.Merging.{shorn, is_followed, is_any_followed_from, is_any_followed, joined, column_cmp, walked, walked_over, all_shorn, IsShorn, IsJoinOf, IsSettledOn, IsPassed}
+use Rattle.cpg_merging.specs.Merging.{shorn, is_followed, is_any_followed_from, is_any_followed, joined, column_cmp, walked, walked_over, all_shorn, IsShorn, IsJoinOf, IsSettledOn, IsPassed, IsSortedAs}
+use Rattle.cpg_cube.specs.Keys.{AreByLows}
+use Rattle.cpg_cube.specs.declared.listing.Listing.{Listing}
 use Rattle.cpg_merging.proofs.MergingCubes.{All-from_each}
 use Rattle.cpg_merging.proofs.MergingPairs.{IsGood, wider_itself, shorn_wider, matches_shorn, good_shorn}
 use Rattle.cpg_merging.proofs.MergingLists.{AreGood, times_first, joins_itself, joins_through, walk}
@@ -230,3 +232,16 @@ module _ (g : Graph) where
       (λ (l : length ys < length xs). l)
       (λ (l : IsPermutation xs ys × ((v : ℕ) → P v → IsSettledOn g.faults v ys)). absurd (n (length_permutation xs ys l.0)))
       k.fewer
+
+-- ---- columns that are known to be sorted
+
+pub sorted_through : (before middle after : Listing) → IsSortedAs before middle → IsSortedAs middle after → IsSortedAs before after
+sorted_through before middle after h k t =
+    let later = k t in
+    let earlier = h later.0 in
+    (earlier.0, later.1 ∙ earlier.1)
+
+-- so columns stand by lows where they're known to, if those of before did
+pub sorted_still : (g : Graph) (order : List ℕ) (before after : Listing) → (before.is_sorted ≡ true → AreByLows (λ (c : Column). c.cube) g order before.columns.items) → IsSortedAs before after →
+    after.is_sorted ≡ true → AreByLows (λ (c : Column). c.cube) g order after.columns.items
+sorted_still g order before after stood same t = let is = same t in subst (AreByLows (λ (c : Column). c.cube) g order) (sym is.1) (stood is.0)

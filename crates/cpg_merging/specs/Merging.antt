@@ -1,6 +1,6 @@
 -- How rows are merged: columns are sorted so that those which differ in one variable alone stand side by side, and neighbours
 -- that touch are made one, variable by variable.
-use Rattle.std.specs.Prelude.{ℕ, ◌+◌, ◌≡◌, ◌≢◌, ◌<◌, ◌≤◌, ◌⊎◌, Bool, false, not, ◌&&◌, ◌||◌, ◌==◌, if◌then◌else◌, List, [], ◌∷◌, map, filter, length, Contains, IsPermutation}
+use Rattle.std.specs.Prelude.{ℕ, ◌+◌, ◌≡◌, ◌≢◌, ◌<◌, ◌≤◌, ◌⊎◌, Bool, true, false, not, ◌&&◌, ◌||◌, ◌==◌, if◌then◌else◌, List, [], ◌∷◌, map, filter, length, Contains, IsPermutation}
 use Rattle.std.specs.declared.cmp.Ordering.{Ordering}
 use Rattle.std.specs.Ordering.{nat_cmp, ordering_then, is_eq}
 use Rattle.std.specs.Cmp.Lexicographic.{slice_cmp}
@@ -9,6 +9,7 @@ use Rattle.cpg_base.specs.Scenario.{Scenario, IsScenario}
 use Rattle.cpg_cube.specs.declared.literal.Literal.{Literal}
 use Rattle.cpg_cube.specs.Cube.{low_in, high_in, is_whole}
 use Rattle.cpg_cube.specs.Column.{Column, times_in}
+use Rattle.cpg_cube.specs.declared.listing.Listing.{Listing}
 use Rattle.cpg_merging.specs.Merged.{IsWider, AreMergeable, HaveNoWhole}
 
 -- the literals but those of the whole range
@@ -100,3 +101,7 @@ pub record AreSettled (g : Graph) (before after : List Column) : Type 0 where
   pub joins : IsJoinOf g before after
   pub good : IsShorn g after
   pub settled : (v : ℕ) → IsVariable g v → IsSettledOn g.faults v after
+
+-- columns that are known to be sorted are those of before, which were so
+abbrev pub IsSortedAs : Listing → Listing → Type 0
+IsSortedAs before after = after.is_sorted ≡ true → (before.is_sorted ≡ true) × (after.columns.items ≡ before.columns.items)

@@ -7,7 +7,7 @@ ghost use Rattle.cpg_merging.specs.Merging.{IsShorn};
 use crate::demands::have_many_demands;
 use crate::totals::{Sums, has_partner, sieve_of, totals};
 use cpg_base::{OutOfMemory, Problem};
-use cpg_cube::{BLOCK, Entry, Literal, begin_at_zero};
+use cpg_cube::{BLOCK, Entry, Listing, Literal, begin_at_zero};
 use std::alloc::Global;
 
 /// How many variables there may be.
@@ -134,7 +134,7 @@ fn marks_of(
 /// Columns, and the variables at which any two of them may touch.
 #[derive(Drop)]
 pub(crate) struct Marked {
-    pub(crate) columns: Vec<Entry>,
+    pub(crate) listing: Listing,
     /// Whether each variable is one, by number.
     pub(crate) marks: [bool; VARIABLES],
 }
@@ -144,13 +144,13 @@ impl Marked {
     pub(crate) fn of(
         alloc: Global,
         problem: &Problem,
-        columns: Vec<Entry>,
+        listing: Listing,
     ) -> Result<Marked, OutOfMemory>
-        requires { IsShorn problem.now columns.items }
-        ensures columns { IfOk result (λ marked. marked.columns ≡ columns) }
-        ensures marks { IfOk result (λ marked. AreMarked problem.now marked.marks marked.columns.items) }
+        requires { IsShorn problem.now listing.columns.items }
+        ensures listing { IfOk result (λ marked. marked.listing ≡ listing) }
+        ensures marks { IfOk result (λ marked. AreMarked problem.now marked.marks marked.listing.columns.items) }
     {
-        let marks = marks_of(alloc, problem, columns.as_slice())?;
-        Ok(Marked { columns, marks })
+        let marks = marks_of(alloc, problem, listing.columns.as_slice())?;
+        Ok(Marked { listing, marks })
     }
 }

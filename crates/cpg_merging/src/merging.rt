@@ -1,15 +1,17 @@
 //! Rows with as few columns as can be.
-ghost use Rattle.std.specs.Prelude.{ℕ, ◌≡◌, ◌<◌, ◌≤◌, IfOk, IsPermutation};
+ghost use Rattle.std.specs.Prelude.{ℕ, ◌≡◌, ◌<◌, ◌≤◌, IfOk, IsPermutation, false};
 ghost use Rattle.cpg_base.specs.Numbers.{numbers_below};
 ghost use Rattle.cpg_base.specs.Graph.{IsVariable, process_count};
 ghost use Rattle.cpg_merging.specs.Merged.{AreMergeable, HaveNoWhole, IsMergeOf};
-ghost use Rattle.cpg_merging.specs.Merging.{IsShorn, IsPassed, IsBetween, AreSettled};
+ghost use Rattle.cpg_cube.specs.Keys.{AreByLows};
+ghost use Rattle.cpg_merging.specs.Merging.{IsShorn, IsPassed, IsBetween, IsSortedAs, AreSettled};
+ghost use Rattle.std.specs.Bool.{OnTrue};
 ghost use Rattle.cpg_merging.specs.Totals.{AreMarked};
 
 use crate::joins::{compare, joined_columns, shorn_columns};
 use crate::marks::Marked;
 use cpg_base::{FIRST_VALUE, Order, OutOfMemory, Problem};
-use cpg_cube::{Entry, by_least_scenario};
+use cpg_cube::{Entry, Listing};
 use std::alloc::Global;
 
 /// Joins columns where they touch at a variable.
@@ -30,6 +32,16 @@ fn joined_on(
     joined_columns(alloc, k, variable, columns)
 }
 
+/// Columns that aren't known to stand by their least scenarios.
+fn unsorted(columns: Vec<Entry>) -> Listing
+    ensures { result ≡ record { columns = columns; is_sorted = false } }
+{
+    Listing {
+        columns,
+        is_sorted: false,
+    }
+}
+
 /// Joins columns where they touch at a variable, if it is marked.
 fn joined_at(
     alloc: Global,
@@ -37,24 +49,28 @@ fn joined_at(
     variable: u8,
     marked: Marked,
 ) -> Result<Marked, OutOfMemory>
-    requires shorn { IsShorn problem.now marked.columns.items }
-    requires marked { AreMarked problem.now marked.marks marked.columns.items }
+    requires shorn { IsShorn problem.now marked.listing.columns.items }
+    requires marked { AreMarked problem.now marked.marks marked.listing.columns.items }
     requires known { IsVariable problem.now variable }
-    ensures passed { IfOk result (λ r. IsPassed problem.now (λ v. v ≡ variable) marked.columns.items r.columns.items) }
-    ensures marked { IfOk result (λ r. AreMarked problem.now r.marks r.columns.items) }
+    ensures passed { IfOk result (λ r. IsPassed problem.now (λ v. v ≡ variable) marked.listing.columns.items r.listing.columns.items) }
+    ensures marked { IfOk result (λ r. AreMarked problem.now r.marks r.listing.columns.items) }
+    ensures sorted { IfOk result (λ r. IsSortedAs marked.listing r.listing) }
 {
     // its clause tells that the graph is within its limits
     let _processes = problem.processes();
     if !marked.marks[variable as usize] {
         return Ok(marked);
     }
-    let marks = marked.marks;
-    let before = marked.columns.len();
-    let columns = joined_on(alloc, problem, variable, marked.columns)?;
+    let Marked { listing, marks } = marked;
+    let before = listing.columns.len();
+    let columns = joined_on(alloc, problem, variable, listing.columns)?;
     if columns.len() == before {
-        return Ok(Marked { columns, marks });
+        return Ok(Marked {
+            listing: unsorted(columns),
+            marks,
+        });
     }
-    Marked::of(alloc, problem, columns)
+    Marked::of(alloc, problem, unsorted(columns))
 }
 
 /// Joins columns where they touch at one of the variables from `first` up to `end`, which it leaves out.
@@ -65,11 +81,12 @@ fn joined_over(
     end: u8,
     marked: Marked,
 ) -> Result<Marked, OutOfMemory>
-    requires shorn { IsShorn problem.now marked.columns.items }
-    requires marked { AreMarked problem.now marked.marks marked.columns.items }
+    requires shorn { IsShorn problem.now marked.listing.columns.items }
+    requires marked { AreMarked problem.now marked.marks marked.listing.columns.items }
     requires known { (v : ℕ) → first ≤ v → v < end → IsVariable problem.now v }
-    ensures passed { IfOk result (λ r. IsPassed problem.now (IsBetween first end) marked.columns.items r.columns.items) }
-    ensures marked { IfOk result (λ r. AreMarked problem.now r.marks r.columns.items) }
+    ensures passed { IfOk result (λ r. IsPassed problem.now (IsBetween first end) marked.listing.columns.items r.listing.columns.items) }
+    ensures marked { IfOk result (λ r. AreMarked problem.now r.marks r.listing.columns.items) }
+    ensures sorted { IfOk result (λ r. IsSortedAs marked.listing r.listing) }
 {
     let mut marked = marked;
     for variable in first..end {
@@ -80,10 +97,11 @@ fn joined_over(
 
 /// Joins columns where they touch at any variable.
 fn joined_once(alloc: Global, problem: &Problem, marked: Marked) -> Result<Marked, OutOfMemory>
-    requires shorn { IsShorn problem.now marked.columns.items }
-    requires marked { AreMarked problem.now marked.marks marked.columns.items }
-    ensures passed { IfOk result (λ r. IsPassed problem.now (IsVariable problem.now) marked.columns.items r.columns.items) }
-    ensures marked { IfOk result (λ r. AreMarked problem.now r.marks r.columns.items) }
+    requires shorn { IsShorn problem.now marked.listing.columns.items }
+    requires marked { AreMarked problem.now marked.marks marked.listing.columns.items }
+    ensures passed { IfOk result (λ r. IsPassed problem.now (IsVariable problem.now) marked.listing.columns.items r.listing.columns.items) }
+    ensures marked { IfOk result (λ r. AreMarked problem.now r.marks r.listing.columns.items) }
+    ensures sorted { IfOk result (λ r. IsSortedAs marked.listing r.listing) }
 {
     let processes = problem.processes().len() as u8;
     let marked = joined_over(alloc, problem, 0, processes, marked)?;
@@ -91,17 +109,19 @@ fn joined_once(alloc: Global, problem: &Problem, marked: Marked) -> Result<Marke
     joined_over(alloc, problem, FIRST_VALUE, end, marked)
 }
 
-/// Joins columns until no two of one time touch at any variable.
-fn settled(alloc: Global, problem: &Problem, columns: Vec<Entry>) -> Result<Vec<Entry>, OutOfMemory>
-    requires { IsShorn problem.now columns.items }
-    ensures { IfOk result (λ r. AreSettled problem.now columns.items r.items) }
+/// Joins columns until no two of one time touch at any variable. They stand by their least scenarios only where they did and
+/// none was joined or moved.
+fn settled(alloc: Global, problem: &Problem, listing: Listing) -> Result<Listing, OutOfMemory>
+    requires { IsShorn problem.now listing.columns.items }
+    ensures settled { IfOk result (λ r. AreSettled problem.now listing.columns.items r.columns.items) }
+    ensures sorted { IfOk result (λ r. IsSortedAs listing r) }
 {
-    let mut marked = Marked::of(alloc, problem, columns)?;
+    let mut marked = Marked::of(alloc, problem, listing)?;
     loop {
-        let before = marked.columns.len();
+        let before = marked.listing.columns.len();
         marked = joined_once(alloc, problem, marked)?;
-        if marked.columns.len() == before {
-            return Ok(marked.columns);
+        if marked.listing.columns.len() == before {
+            return Ok(marked.listing);
         }
     }
 }
@@ -124,24 +144,26 @@ pub fn merged(
     ensures { IfOk result (λ r. IsMergeOf problem.now order.now entries.items r.items) }
 {
     let columns = shorn_columns(alloc, problem.faults(), entries)?;
-    let columns = settled(alloc, problem, columns)?;
-    by_least_scenario(alloc, problem, order, columns)
+    let listing = settled(alloc, problem, unsorted(columns))?;
+    listing.sorted(alloc, problem, order)
 }
 
-/// What `merged` answers, of entries of which no literal has the whole range of its variable.
+/// What `merged` answers, of entries of which no literal has the whole range of its variable. Where they are known to stand by
+/// the least scenario that they match, and no two may touch at any variable, they aren't sorted.
 pub fn merged_tidy(
     alloc: Global,
     problem: &Problem,
     order: &Order,
-    entries: Vec<Entry>,
+    listing: Listing,
 ) -> Result<Vec<Entry>, OutOfMemory>
     requires order { IsPermutation (numbers_below (process_count problem.now)) order.now }
-    requires entries { AreMergeable problem.now entries.items }
-    requires tidy { HaveNoWhole problem.now.faults entries.items }
-    ensures { IfOk result (λ r. IsMergeOf problem.now order.now entries.items r.items) }
+    requires entries { AreMergeable problem.now listing.columns.items }
+    requires tidy { HaveNoWhole problem.now.faults listing.columns.items }
+    requires sorted { OnTrue listing.is_sorted (AreByLows (λ c. c.cube) problem.now order.now listing.columns.items) }
+    ensures { IfOk result (λ r. IsMergeOf problem.now order.now listing.columns.items r.items) }
 {
     // its clause tells that the graph is within its limits
     let _processes = problem.processes();
-    let columns = settled(alloc, problem, entries)?;
-    by_least_scenario(alloc, problem, order, columns)
+    let listing = settled(alloc, problem, listing)?;
+    listing.sorted(alloc, problem, order)
 }

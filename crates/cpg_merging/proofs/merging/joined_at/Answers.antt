@@ -1,5 +1,7 @@
-use Rattle.std.proofs.Common.{ℕ, ◌≡◌, ◌∙◌, length, sym, arith, rules, true≢false}
+use Rattle.std.proofs.Common.{ℕ, ◌≡◌, ◌∙◌, length, sym, subst, arith, rules, true≢false}
 use Rattle.std.specs.Vec.{vec_len}
+use Rattle.cpg_cube.specs.declared.listing.Listing.{Listing}
+use Rattle.cpg_merging.specs.Totals.{AreMarked}
 use Rattle.cpg_merging.proofs.MergingSteps.{passed_settled, permuted_same}
 use Rattle.cpg_merging.proofs.MergingTotals.{marked_permuted}
 use Rattle.cpg_merging.proofs.merging.joined_at.Goals as goal
@@ -8,13 +10,14 @@ pub returns-then-not-marked-variable-clause-passed : goal.returns-then-not-marke
 returns-then-not-marked-variable-clause-passed c =
     let g = c.args.problem.now in
     let v = c.args.variable in
-    let columns = c.args.marked.columns.items in
+    let columns = c.args.marked.listing.columns.items in
     passed_settled g v columns c.requires.shorn (c.requires.marked v c.requires.known (λ on. true≢false (sym on ∙ c.if-not-marked-variable.true)))
 
 pub returns-then-len-before-clause-marked : goal.returns-then-len-before-clause-marked
 returns-then-len-before-clause-marked c =
-    let old = c.args.marked.columns in
+    let old = c.args.marked.listing.columns in
     let new = c.in_ok-columns.columns in
     let m : length old.items ≡ vec_len old = search rules in
     let n : length new.items ≡ vec_len new = search rules in
-    marked_permuted c.args.problem.now old.items new.items c.args.marked.marks (permuted_same c.args.problem.now (λ (u : ℕ). u ≡ c.args.variable) old.items new.items c.in_ok-columns.ensures (omega arith)) c.requires.marked
+    subst (λ (l : Listing). AreMarked c.args.problem.now c.args.marked.marks l.columns.items) (sym c.unsorted.ensures)
+    (marked_permuted c.args.problem.now old.items new.items c.args.marked.marks (permuted_same c.args.problem.now (λ (u : ℕ). u ≡ c.args.variable) old.items new.items c.in_ok-columns.ensures (omega arith)) c.requires.marked)

@@ -1,20 +1,26 @@
 use Rattle.std.proofs.Common.{◌+◌, ◌<◌, ◌≤◌, length, ⊎_elim, inl, inr, ap, arith, rules}
 use Rattle.std.proofs.lemmas.Result.{IfOk-weaker}
 use Rattle.cpg_base.specs.Graph.{IsVariable, process_count, condition_count, value_variable}
-use Rattle.cpg_merging.specs.Merging.{IsBetween, IsPassed}
-use Rattle.cpg_merging.proofs.MergingSteps.{passed_through}
+use Rattle.cpg_merging.specs.Merging.{IsBetween, IsPassed, IsSortedAs}
+use Rattle.cpg_merging.proofs.MergingSteps.{passed_through, sorted_through}
 use Rattle.cpg_merging.proofs.merging.joined_once.Goals as goal
 
 pub returns-clause-passed : goal.returns-clause-passed
 returns-clause-passed c =
     let g = c.args.problem.now in
-    let columns = c.args.marked.columns.items in
-    let middle = c.in_ok-marked.marked.columns.items in
+    let columns = c.args.marked.listing.columns.items in
+    let middle = c.in_ok-marked.marked.listing.columns.items in
     let few = c.processes.ensures.within in
-    IfOk-weaker _ (λ r. IsPassed g (IsBetween 128 (128 + c.conditions.result)) middle r.columns.items) (λ r. IsPassed g (IsVariable g) columns r.columns.items)
+    IfOk-weaker _ (λ r. IsPassed g (IsBetween 128 (128 + c.conditions.result)) middle r.listing.columns.items) (λ r. IsPassed g (IsVariable g) columns r.listing.columns.items)
     (λ r p. passed_through g (IsBetween 0 (length c.processes.result.now)) (IsBetween 128 (128 + c.conditions.result)) (IsVariable g)
     (λ v known. ⊎_elim
     (λ (l : v < process_count g). let e = ap length c.processes.ensures.processes in inl (omega arith, omega arith))
     (λ (l : (128 ≤ v) × (v < value_variable (condition_count g))). let e = c.conditions.ensures.count in inr (l.0, omega arith))
-    known) columns middle r.columns.items c.in_ok-marked.ensures.passed p)
+    known) columns middle r.listing.columns.items c.in_ok-marked.ensures.passed p)
+    (search rules)
+
+pub returns-clause-sorted : goal.returns-clause-sorted
+returns-clause-sorted c =
+    IfOk-weaker _ (λ r. IsSortedAs c.in_ok-marked.marked.listing r.listing) (λ r. IsSortedAs c.args.marked.listing r.listing)
+    (λ r h. sorted_through c.args.marked.listing c.in_ok-marked.marked.listing r.listing c.in_ok-marked.ensures.sorted h)
     (search rules)

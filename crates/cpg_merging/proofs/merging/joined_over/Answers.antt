@@ -1,7 +1,7 @@
-use Rattle.std.proofs.Common.{◌≡◌, ◌+◌, ◌<◌, ◌≤◌, ⊎_elim, inl, inr, arith}
+use Rattle.std.proofs.Common.{◌≡◌, ◌+◌, ◌<◌, ◌≤◌, ⊎_elim, inl, inr, arith, refl}
 use Rattle.std.proofs.lemmas.Bool.{cases_lt}
 use Rattle.cpg_merging.specs.Merging.{IsBetween}
-use Rattle.cpg_merging.proofs.MergingSteps.{passed_none, passed_through, passed_wider}
+use Rattle.cpg_merging.proofs.MergingSteps.{passed_none, passed_through, passed_wider, sorted_through}
 use Rattle.cpg_merging.proofs.merging.joined_over.Goals as goal
 
 pub joined_at-requires : goal.joined_at-requires
@@ -13,8 +13,9 @@ joined_at-requires c = record {
 
 pub loop-variable-init : goal.loop-variable-init
 loop-variable-init c = record {
-  passed = passed_none c.args.problem.now (IsBetween c.args.first c.args.first) (λ v o. omega arith) c.args.marked.columns.items c.requires.shorn;
+  passed = passed_none c.args.problem.now (IsBetween c.args.first c.args.first) (λ v o. omega arith) c.args.marked.listing.columns.items c.requires.shorn;
   marked = c.requires.marked;
+  sorted = λ t. (t, refl);
 }
 
 pub loop-variable-preserved : goal.loop-variable-preserved
@@ -23,12 +24,14 @@ loop-variable-preserved c =
     record {
       passed = passed_through c.args.problem.now (IsBetween c.args.first v) (λ u. u ≡ v) (IsBetween c.args.first (v + 1))
           (λ u h. ⊎_elim (λ (l : u < v). inl (omega arith, l)) (λ (l : v ≤ u). inr (omega arith)) (cases_lt u v))
-          c.args.marked.columns.items c.loop-variable.marked.columns.items c.in_ok-marked.marked.columns.items c.loop-variable.invariant.passed c.in_ok-marked.ensures.passed;
+          c.args.marked.listing.columns.items c.loop-variable.marked.listing.columns.items c.in_ok-marked.marked.listing.columns.items c.loop-variable.invariant.passed c.in_ok-marked.ensures.passed;
       marked = c.in_ok-marked.ensures.marked;
+      sorted = sorted_through c.args.marked.listing c.loop-variable.marked.listing c.in_ok-marked.marked.listing c.loop-variable.invariant.sorted c.in_ok-marked.ensures.sorted;
     }
 
 pub returns : goal.returns
 returns c = record {
-  passed = passed_wider c.args.problem.now (IsBetween c.args.first c.loop-variable.variable) (IsBetween c.args.first c.args.end) (λ v o. (o.0, omega arith)) c.args.marked.columns.items c.loop-variable.marked.columns.items c.loop-variable.invariant.passed;
+  passed = passed_wider c.args.problem.now (IsBetween c.args.first c.loop-variable.variable) (IsBetween c.args.first c.args.end) (λ v o. (o.0, omega arith)) c.args.marked.listing.columns.items c.loop-variable.marked.listing.columns.items c.loop-variable.invariant.passed;
   marked = c.loop-variable.invariant.marked;
+  sorted = c.loop-variable.invariant.sorted;
 }

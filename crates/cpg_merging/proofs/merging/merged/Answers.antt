@@ -1,4 +1,6 @@
-use Rattle.std.proofs.Common.{IsPermutation, sym, ap, ◌∙◌, subst}
+use Rattle.std.proofs.Common.{IsPermutation, sym, ap, ◌∙◌, subst, true≢false}
+use Rattle.std.proofs.lemmas.Bool.{OnTrue_from}
+use Rattle.cpg_cube.specs.declared.listing.Listing.{Listing}
 use Rattle.cpg_cube.specs.Keys.{AreByLows}
 use Rattle.cpg_cube.specs.Column.{Column}
 use Rattle.cpg_merging.specs.Merged.{IsMergeOf}
@@ -10,7 +12,7 @@ use Rattle.cpg_merging.proofs.merging.merged.Goals as goal
 pub settled-requires : goal.settled-requires
 settled-requires c =
     let g = c.args.problem.now in
-    subst (IsShorn g) (sym (c.in_ok-columns.ensures ∙ ap (λ k. all_shorn k c.args.entries.items) c.faults.ensures.faults))
+    subst (IsShorn g) (sym (ap (λ (l : Listing). l.columns.items) c.unsorted.ensures ∙ c.in_ok-columns.ensures ∙ ap (λ k. all_shorn k c.args.entries.items) c.faults.ensures.faults))
     (shorn_columns g c.faults.ensures.within.few_processes c.args.entries.items c.requires.entries)
 
 pub returns : goal.returns
@@ -18,9 +20,12 @@ returns c =
     let g = c.args.problem.now in
     let order = c.args.order.now in
     let entries = c.args.entries.items in
-    let columns = c.in_ok-columns-2.columns.items in
+    let columns = c.in_ok-listing.listing.columns.items in
     let settled : AreSettled g (all_shorn g.faults entries) columns =
-    subst (λ before. AreSettled g before columns) (c.in_ok-columns.ensures ∙ ap (λ k. all_shorn k c.args.entries.items) c.faults.ensures.faults) c.in_ok-columns-2.ensures in
-    if_ok_both c.by_least_scenario.result (λ r. IsPermutation columns r.items) (λ r. AreByLows (λ (e : Column). e.cube) g order r.items) (λ r. IsMergeOf g order entries r.items)
+    subst (λ before. AreSettled g before columns) (ap (λ (l : Listing). l.columns.items) c.unsorted.ensures ∙ c.in_ok-columns.ensures ∙ ap (λ k. all_shorn k c.args.entries.items) c.faults.ensures.faults) c.in_ok-listing.ensures.settled in
+    if_ok_both c.sorted.result (λ r. IsPermutation columns r.items) (λ r. AreByLows (λ (e : Column). e.cube) g order r.items) (λ r. IsMergeOf g order entries r.items)
     (λ r p up. merge_of g c.faults.ensures.within.few_processes order c.requires.order entries columns r.items c.requires.entries settled p up)
-    c.by_least_scenario.ensures.permutation c.by_least_scenario.ensures.by_lows
+    c.sorted.ensures.permutation c.sorted.ensures.by_lows
+
+pub sorted-requires-clause-sorted : goal.sorted-requires-clause-sorted
+sorted-requires-clause-sorted c = OnTrue_from c.in_ok-listing.listing.is_sorted _ (λ t. absurd (true≢false (sym (c.in_ok-listing.ensures.sorted t).0 ∙ ap (λ (l : Listing). l.is_sorted) c.unsorted.ensures)))

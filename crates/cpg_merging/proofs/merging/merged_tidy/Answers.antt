@@ -1,22 +1,28 @@
 use Rattle.std.proofs.Common.{IsPermutation, sym, subst}
+use Rattle.std.proofs.lemmas.Bool.{OnTrue_at, OnTrue_from}
 use Rattle.cpg_cube.specs.Keys.{AreByLows}
 use Rattle.cpg_cube.specs.Column.{Column}
 use Rattle.cpg_merging.specs.Merged.{IsMergeOf}
 use Rattle.cpg_merging.specs.Merging.{AreSettled}
 use Rattle.cpg_merging.proofs.MergingCubes.{tidy_kept}
 use Rattle.cpg_merging.proofs.MergingEnds.{merge_of, if_ok_both}
+use Rattle.cpg_merging.proofs.MergingSteps.{sorted_still}
 use Rattle.cpg_merging.proofs.merging.merged_tidy.Goals as goal
 
 pub settled-requires : goal.settled-requires
 settled-requires c = record { good = c.requires.entries; not_whole = c.requires.tidy }
 
+pub sorted-requires-clause-sorted : goal.sorted-requires-clause-sorted
+sorted-requires-clause-sorted c = OnTrue_from c.in_ok-listing.listing.is_sorted _
+    (sorted_still c.args.problem.now c.args.order.now c.args.listing c.in_ok-listing.listing (λ t. OnTrue_at t c.requires.sorted) c.in_ok-listing.ensures.sorted)
+
 pub returns : goal.returns
 returns c =
     let g = c.args.problem.now in
     let order = c.args.order.now in
-    let entries = c.args.entries.items in
-    let columns = c.in_ok-columns.columns.items in
-    let settled = subst (λ before. AreSettled g before columns) (sym (tidy_kept g.faults entries c.requires.tidy)) c.in_ok-columns.ensures in
-    if_ok_both c.by_least_scenario.result (λ r. IsPermutation columns r.items) (λ r. AreByLows (λ (e : Column). e.cube) g order r.items) (λ r. IsMergeOf g order entries r.items)
+    let entries = c.args.listing.columns.items in
+    let columns = c.in_ok-listing.listing.columns.items in
+    let settled = subst (λ before. AreSettled g before columns) (sym (tidy_kept g.faults entries c.requires.tidy)) c.in_ok-listing.ensures.settled in
+    if_ok_both c.sorted.result (λ r. IsPermutation columns r.items) (λ r. AreByLows (λ (e : Column). e.cube) g order r.items) (λ r. IsMergeOf g order entries r.items)
     (λ r p up. merge_of g c.processes-processes.ensures.within.few_processes order c.requires.order entries columns r.items c.requires.entries settled p up)
-    c.by_least_scenario.ensures.permutation c.by_least_scenario.ensures.by_lows
+    c.sorted.ensures.permutation c.sorted.ensures.by_lows

@@ -1,14 +1,15 @@
 use Rattle.std.proofs.Common.{vec_len}
-use Rattle.cpg_merging.specs.Merging.{IsShorn, IsJoinOf}
+use Rattle.cpg_merging.specs.Merging.{IsShorn, IsJoinOf, IsSortedAs}
 use Rattle.cpg_merging.specs.Totals.{AreMarked}
 use Rattle.cpg_merging.proofs.merging.settled.Given as goal
 
 abbrev pub invariant-loop-marked : goal.invariant-loop-marked
 invariant-loop-marked l = record {
-  good : IsShorn l.problem l.marked.columns.items;
-  joins : IsJoinOf l.problem l.fn.columns.items l.marked.columns.items;
-  marked : AreMarked l.problem l.marked.marks l.marked.columns.items;
+  good : IsShorn l.problem l.marked.listing.columns.items;
+  joins : IsJoinOf l.problem l.fn.listing.columns.items l.marked.listing.columns.items;
+  sorted : IsSortedAs l.fn.listing l.marked.listing;
+  marked : AreMarked l.problem l.marked.marks l.marked.listing.columns.items;
 }
 
 abbrev pub decreases-loop-marked : goal.decreases-loop-marked
-decreases-loop-marked l = vec_len l.marked.columns
+decreases-loop-marked l = vec_len l.marked.listing.columns
