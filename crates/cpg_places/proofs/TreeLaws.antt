@@ -1,19 +1,20 @@
 -- What the tree of a row tells of the columns that match.
-use Rattle.std.proofs.Common.{Bor, ℕ, ◌<◌, ◌≡◌, Bool, true, false, List, [], Option, None, Some, Contains, length, map, take, arith, refl, sym, ap, ◌∙◌, subst}
+use Rattle.std.proofs.Common.{Bor, ℕ, ◌<◌, ◌≡◌, Bool, true, false, List, [], Option, None, Some, Contains, length, get_or, map, take, arith, refl, sym, ap, ◌∙◌, subst}
 use Rattle.std.specs.List.{list_any}
 use Rattle.std.specs.Prelude.{IfSome}
 use Rattle.std.proofs.lemmas.List.{get_or-map, get_or-take, get_or_default, length-map, length-take}
 use Rattle.cpg_base.proofs.Lists.{list_any_false}
-use Rattle.cpg_base.specs.Graph.{Graph}
+use Rattle.cpg_base.specs.Graph.{Graph, item_count}
 use Rattle.cpg_base.specs.Scenario.{Scenario, IsScenario}
 use Rattle.cpg_cube.specs.Cube.{matches}
 use Rattle.cpg_cube.specs.declared.literal.Literal.{Literal}
 use Rattle.cpg_cube.specs.Column.{Column, column_at}
+use Rattle.cpg_table.specs.Table.{NodeTable, columns_of}
 use Rattle.cpg_tree.proofs.OnePath.{scenario_few}
 use Rattle.cpg_places.specs.declared.places.Places.{Places}
 use Rattle.cpg_tree.specs.Space.{HasFew}
 use Rattle.cpg_places.specs.Places.{IsMatched, cube_at, place_at, tells_cube}
-use Rattle.cpg_places.specs.Trees.{IsRowTree}
+use Rattle.cpg_places.specs.Trees.{AreRowTrees, IsRowTree}
 
 -- the cubes of columns
 abbrev cubes_in : List Column → List (List Literal)
@@ -89,3 +90,7 @@ module _ {g : Graph} {columns : List Column} {tree : Places} (is : IsRowTree g c
           let less : k.0 < i = omega (arith, k.1, length-take i columns) in
           let at : column_at columns k.0 ≡ d = get_or_default columns k.0 (record { time = 0; cube = [] }) d (omega (arith, less, there)) ∙ sym (get_or-take i columns k.0 d less) ∙ k.2 in
           omega (arith, less, one_place is s law k.0 i (omega (arith, less, there)) there (ap (λ (x : Column). matches x.cube s) at ∙ n) m)
+
+-- the tree of an item's row, if it has one
+pub tree_of_row : (g : Graph) (tables : List NodeTable) (trees : List (Option Places)) (x : ℕ) → AreRowTrees g tables trees → x < item_count g → (o : Option Places) → o ≡ get_or trees x o → IfSome o (IsRowTree g (columns_of tables x))
+tree_of_row g tables trees x are l o is = subst (λ (p : Option Places). IfSome p (IsRowTree g (columns_of tables x))) (get_or_default trees x None o (omega (arith, l, are.count)) ∙ sym is) (are.each x l)

@@ -1,8 +1,9 @@
 -- Some places of cubes, sorted out by a tree.
-use Rattle.std.specs.Prelude.{ℕ, ◌≡◌, ◌≤◌, true, List, Option, None, Some, Contains, map}
-use Rattle.cpg_base.specs.Scenario.{Scenario}
+use Rattle.std.specs.Prelude.{ℕ, ◌≡◌, ◌≤◌, ◌<◌, true, List, Option, None, Some, Contains, map}
+use Rattle.cpg_base.specs.Scenario.{Scenario, number_of}
 use Rattle.cpg_cube.specs.Cube.{holds, matches}
 use Rattle.cpg_cube.specs.declared.literal.Literal.{Literal}
+use Rattle.cpg_places.specs.declared.places.Said.{Said}
 use Rattle.cpg_places.specs.declared.places.Spot.{Spot}
 use Rattle.cpg_places.specs.declared.places.Top.{Top}
 use Rattle.cpg_places.specs.declared.places.Top.TheVariants.{Leaf, Fork, Unknown}
@@ -29,14 +30,19 @@ abbrev pub tells_place : List (List Literal) → List ℕ → Option ℕ → Sce
 tells_place cubes places None s = (j : ℕ) → Contains places j → IsMatched cubes s j → ⊥
 tells_place cubes places (Some i) s = IsOnlyMatch cubes places s i
 
--- of a list of places those that scenarios of a space match are in another
-abbrev pub KeepsMatches : List (List Literal) → Space → List ℕ → List ℕ → Type 0
-KeepsMatches cubes room places kept = (s : Scenario) (i : ℕ) → Lies room s → Contains places i → IsMatched cubes s i → Contains kept i
+-- of a list of places those that such scenarios match are in another
+abbrev pub KeepsWhere : List (List Literal) → (Scenario → Type 0) → List ℕ → List ℕ → Type 0
+KeepsWhere cubes fits places kept = (s : Scenario) (i : ℕ) → fits s → Contains places i → IsMatched cubes s i → Contains kept i
 
--- a place is among others, if scenarios of the space match its cube, with all that were there before
-pub record IsKept (cubes : List (List Literal)) (room : Space) (place : ℕ) (before now : List Spot) : Type 0 where
+-- a place is among others, if there is such a scenario, with all that were there before
+pub record IsKept (fits : Scenario → Type 0) (place : ℕ) (before now : List Spot) : Type 0 where
   pub earlier : (i : ℕ) → Contains (places_of before) i → Contains (places_of now) i
-  pub this : (s : Scenario) → Lies room s → IsMatched cubes s place → Contains (places_of now) place
+  pub this : (s : Scenario) → fits s → Contains (places_of now) place
+
+-- where literals match, the number of a variable is in what they say of it: a high of 255 says nothing
+pub record IsSaid (literals : List Literal) (v : ℕ) (said : Said) : Type 0 where
+  pub low : (s : Scenario) → matches literals s ≡ true → said.low ≤ number_of s v
+  pub high : (s : Scenario) → matches literals s ≡ true → said.high < 255 → number_of s v ≤ said.high
 
 -- a cut has numbers of the space on both sides
 pub record AreOpen (room : Space) (v cut : ℕ) : Type 0 where

@@ -74,6 +74,39 @@ fn gather_each<J: Test>(
     }
 }
 
+/// The same with a space of its own to change. In a function of its own, since that is cleared at each call.
+fn gather_in_all<J: Test>(
+    node: &Node<Option<u32>>,
+    space: &Space,
+    test: &J,
+    found: &mut Vec<u32>,
+) -> Result<bool, OutOfMemory>
+    ensures kept { IfOk result (λ _. (i : ℕ) → Contains found.old.items i → Contains found.new.items i) }
+    ensures found { IfOk result (λ all. OnTrue all ((s : Scenario) → Lies space.now s → J.tells test.now (value_at node.now s) s ×
+        IsAmong found.new.items (value_at node.now s))) }
+{
+    let mut own = *space;
+    let all = gather_each(node, &mut own, test, found)?;
+    Ok(all)
+}
+
+/// Adds a place that scenarios of a space come to, if there is one and a test passes there; whether it did.
+fn gather_one<J: Test>(
+    place: Option<u32>,
+    space: &Space,
+    test: &J,
+    found: &mut Vec<u32>,
+) -> Result<bool, OutOfMemory>
+    ensures kept { IfOk result (λ _. (i : ℕ) → Contains found.old.items i → Contains found.new.items i) }
+    ensures found { IfOk result (λ all. OnTrue all ((s : Scenario) → Lies space.now s → J.tells test.now place s × IsAmong found.new.items place)) }
+{
+    if !test.passes(place, space) {
+        return Ok(false);
+    }
+    let there = add_place(place, found)?;
+    Ok(there)
+}
+
 /// Adds the places that scenarios of a space come to, as long as there is one and a test passes at each; false where it
 /// stopped before the last.
 pub(crate) fn gather<J: Test>(
@@ -86,9 +119,16 @@ pub(crate) fn gather<J: Test>(
     ensures found { IfOk result (λ all. OnTrue all ((s : Scenario) → Lies space.now s → J.tells test.now (value_at node.now s) s ×
         IsAmong found.new.items (value_at node.now s))) }
 {
-    // mostly it comes to one place
+    // mostly it comes to one place, and then the space isn't copied
     let part = part_of(node, space);
-    let mut own = *space;
-    let all = gather_each(part, &mut own, test, found)?;
-    Ok(all)
+    match part {
+        Node::Leaf(place) => {
+            let there = gather_one(*place, space, test, found)?;
+            Ok(there)
+        }
+        Node::Fork { .. } => {
+            let all = gather_in_all(part, space, test, found)?;
+            Ok(all)
+        }
+    }
 }

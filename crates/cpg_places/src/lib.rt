@@ -8,5 +8,5 @@ mod trees;
 mod walk;
 
 pub use places::Places;
-pub use trees::tree_of;
+pub use trees::{row_trees, tree_of};
 pub use walk::{PairTest, Test};

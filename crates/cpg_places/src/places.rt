@@ -1,14 +1,13 @@
 //! The tree of the places of cubes of which no scenario matches two.
-ghost use Rattle.std.specs.Prelude.{◌≡◌, ◌≤◌, ℕ, Contains, IfOk, IfSome, OnOk, false, length, map, true};
+ghost use Rattle.std.specs.Prelude.{◌≡◌, ◌≤◌, ◌<◌, ℕ, Contains, IfOk, IfSome, OnOk, false, length, map, true};
 ghost use Rattle.std.specs.Bool.{OnFalse, OnTrue};
-ghost use Rattle.cpg_base.specs.Numbers.{numbers_below};
-ghost use Rattle.cpg_base.specs.Scenario.{Scenario};
+ghost use Rattle.cpg_base.specs.Scenario.{Scenario, number_of};
 ghost use Rattle.cpg_base.specs.declared.limits.TheConstants.{MOST_LOAD};
 ghost use Rattle.cpg_cube.specs.Cube.{IsRising, matches};
-ghost use Rattle.cpg_tree.specs.Space.{Lies, HasFew, below_cut, above_cut};
+ghost use Rattle.cpg_tree.specs.Space.{Lies, HasFew};
 ghost use Rattle.cpg_tree.specs.Decision.{value_at};
 ghost use Rattle.cpg_places.specs.Places.{IsAmong, IsMatched, place_at, tells_cube};
-ghost use Rattle.cpg_places.specs.Spots.{IsSaidBy, IsTop, IsKept, IsSorted, KeepsMatches, AreOpen, places_of};
+ghost use Rattle.cpg_places.specs.Spots.{IsSaid, IsSaidBy, IsTop, IsKept, IsSorted, KeepsWhere, AreOpen, places_of};
 
 use crate::gathering::gather;
 use crate::slices::led_out;
@@ -29,12 +28,14 @@ const FEW_SHARED: u32 = 104;
 /// Room is made at once for so many of the places that go to a side of a fork: for all of them, mostly.
 const AT_ONCE: usize = 32;
 
-/// A place, and how many of its cube's first literals hold in the whole space where it stands: a hint where to look, that
-/// no clause speaks of.
+/// A place, with what is known of its cube in the space where it stands: hints, that no clause speaks of.
 #[derive(Clone, Copy)]
 struct Spot {
     place: u32,
-    held: u32,
+    /// So many of the first literals hold in the whole space, at least.
+    held: u16,
+    /// So many faults are left beyond those that the cube asks for.
+    spare: u8,
 }
 
 /// A fork by whether a variable is at most a number.
@@ -42,6 +43,27 @@ struct Spot {
 pub(crate) struct Cut {
     pub(crate) variable: u8,
     pub(crate) most: u8,
+}
+
+/// A cut, with the numbers of its variable that a space leaves on both sides.
+#[derive(Clone, Copy)]
+struct Span {
+    cut: Cut,
+    least: u8,
+    /// The least number above the cut.
+    next: u8,
+    greatest: u8,
+    /// How many faults a scenario above the cut has on the variable, at least.
+    faults: u8,
+}
+
+/// What literals say of a variable: no number below `low`, and none above `high` but where that is the last of all.
+#[derive(Clone, Copy)]
+struct Said {
+    low: u8,
+    high: u8,
+    /// Whether the first literal says it that isn't known to hold in the whole space.
+    is_first: bool,
 }
 
 /// What stands at the top of the tree of some places.
@@ -124,116 +146,230 @@ pub(crate) fn open_value(space: &Space, literals: &[Literal]) -> Option<Literal>
     None
 }
 
-/// A literal that doesn't hold in the whole space, a value if there is one, or else the first that may be one.
-fn open_literal(space: &Space, literals: &[Literal], held: usize) -> Option<Literal> {
+/// How many of the first literals hold in the whole space, so many being known to, up to the first that doesn't.
+fn held_on(space: &Space, literals: &[Literal], held: usize) -> usize {
+    for at in held..literals.len() {
+        if !space.tells(&literals[at]) {
+            return at;
+        }
+    }
+    literals.len()
+}
+
+/// A literal that doesn't hold in the whole space, a value if there is one, or else the first.
+fn open_literal(space: &Space, literals: &[Literal], held: u16) -> Option<Literal> {
     let value = open_value(space, literals);
     if value.is_some() {
         return value;
     }
-    literals.get(held).copied()
+    literals
+        .get(held_on(space, literals, held as usize))
+        .copied()
 }
 
-/// How many literals hold in the whole space, those before a place being known to, up to the first that doesn't.
-fn held_on(space: &Space, literals: &[Literal], held: u32) -> u32 {
-    let mut known = held;
-    for at in held as usize..literals.len() {
-        if !space.tells(&literals[at]) {
-            return known;
-        }
-        known = known.saturating_add(1);
-    }
-    known
-}
-
-/// Whether some scenario of a space may match literals, by the one on this variable, and by the faults if there are fewer left.
-fn may_match(
-    space: &Space,
-    literals: &[Literal],
-    held: usize,
-    variable: u8,
-    has_fewer: bool,
-) -> bool
-    requires { IsRising literals.now }
-    ensures { OnFalse result ((s : Scenario) → Lies space.now s → matches literals.now s ≡ false) }
+/// The literal at a place, if it is on this variable.
+fn literal_at(literals: &[Literal], place: usize, variable: u8) -> Option<Literal>
+    ensures said { IfSome result (IsSaidBy literals.now) }
+    ensures on { IfSome result (λ l. l.variable ≡ variable) }
 {
+    if place >= literals.len() {
+        return None;
+    }
+    if literals[place].variable != variable {
+        return None;
+    }
+    Some(literals[place])
+}
+
+/// What a literal says of its variable.
+fn said_by(literal: Literal, is_first: bool) -> Said
+    ensures { result ≡ record { low = literal.low; high = literal.high; is_first = is_first } }
+{
+    Said {
+        low: literal.low,
+        high: literal.high,
+        is_first,
+    }
+}
+
+/// What literals say of a variable, but for the first, so many of which hold in the whole space.
+fn said_on(literals: &[Literal], held: usize, variable: u8) -> Said
+    ensures { IsSaid literals.now variable result }
+{
+    // mostly the first of them
+    if let Some(first) = literal_at(literals, held, variable) {
+        return said_by(first, true);
+    }
     if let Some(literal) = literal_on(literals, held, variable) {
-        if !space.meets(&literal) {
-            return false;
+        if literal.variable == variable {
+            return said_by(literal, false);
         }
     }
-    if !has_fewer {
+    Said {
+        low: 0,
+        high: u8::MAX,
+        is_first: false,
+    }
+}
+
+/// How many of the first literals hold in the whole space, so many being known to: counted on where one before a variable is
+/// next, so that the way to that is short.
+fn held_at(space: &Space, literals: &[Literal], held: u16, variable: u8) -> u16 {
+    match literals.get(held as usize) {
+        Some(literal) if literal.variable < variable && variable < FIRST_VALUE => {
+            held_on(space, literals, held as usize).min(u16::MAX as usize) as u16
+        }
+        _ => held,
+    }
+}
+
+/// How many of the first literals hold where a variable is in this range, so many being known to in the whole space.
+fn held_with(held: u16, said: Said, least: u8, greatest: u8) -> u16 {
+    if said.is_first && said.low <= least && greatest <= said.high {
+        held.saturating_add(1)
+    } else {
+        held
+    }
+}
+
+/// Adds a place as it stands up to a cut, unless what is said of the variable is above it.
+fn keep_below(low: &mut Vec<Spot>, said: Said, spot: Spot, span: Span) -> Result<(), OutOfMemory>
+    ensures { OnOk result (IsKept (λ s. (number_of s span.cut.variable ≤ span.cut.most) × (said.low ≤ number_of s span.cut.variable))
+        spot.place low.old.items low.new.items) }
+{
+    if said.low > span.cut.most {
+        return Ok(());
+    }
+    low.push(Spot {
+        place: spot.place,
+        held: held_with(spot.held, said, span.least, span.cut.most),
+        spare: spot.spare,
+    })?;
+    Ok(())
+}
+
+/// Whether the faults that are left above a cut suffice for literals: mostly it is known. The space is as before.
+fn do_suffice_above(
+    space: &mut Space,
+    literals: &[Literal],
+    spot: Spot,
+    taken: u8,
+    cut: Cut,
+) -> bool
+    requires rising { IsRising literals.now }
+    requires open { AreOpen space.old cut.variable cut.most }
+    ensures none { OnFalse result ((s : Scenario) → Lies space.old s → cut.most < number_of s cut.variable → matches literals.now s ≡ false) }
+    ensures same { space.new ≡ space.old }
+{
+    if taken <= spot.spare {
         return true;
     }
-    space.affords(literals, held)
+    let was = space.close_below(cut.variable, cut.most);
+    let do_suffice = space.affords(literals, spot.held as usize);
+    space.reopen_below(cut.variable, was);
+    do_suffice
 }
 
-/// Adds a place as it stands in a space, a part of the space where it stood, unless no scenario of it matches the cube.
+/// Adds a place as it stands above a cut, unless what is said of the variable is up to the cut, or there are too few faults
+/// left. The space is as before.
+fn keep_above(
+    high: &mut Vec<Spot>,
+    space: &mut Space,
+    literals: &[Literal],
+    said: Said,
+    spot: Spot,
+    span: Span,
+) -> Result<(), OutOfMemory>
+    requires rising { IsRising literals.now }
+    requires said { IsSaid literals.now span.cut.variable said }
+    requires open { AreOpen space.old span.cut.variable span.cut.most }
+    ensures kept { OnOk result (IsKept (λ s. (Lies space.old s × (span.cut.most < number_of s span.cut.variable)) × (matches literals.now s ≡ true))
+        spot.place high.old.items high.new.items) }
+    ensures same { space.new ≡ space.old }
+{
+    if said.high < span.cut.most.saturating_add(1) {
+        return Ok(());
+    }
+    // the fork takes those faults that the literal doesn't ask for
+    let taken = span.faults.saturating_sub(said.low.max(span.least));
+    if !do_suffice_above(space, literals, spot, taken, span.cut) {
+        return Ok(());
+    }
+    high.push(Spot {
+        place: spot.place,
+        held: held_with(spot.held, said, span.next, span.greatest),
+        spare: spot.spare.saturating_sub(taken),
+    })?;
+    Ok(())
+}
+
+/// Adds a place to the sides of a fork that have scenarios which match its cube. The space is as before.
 fn keep(
-    spots: &mut Vec<Spot>,
-    space: &Space,
+    low: &mut Vec<Spot>,
+    high: &mut Vec<Spot>,
+    space: &mut Space,
     cubes: &[&Cube],
     spot: Spot,
-    variable: u8,
-    has_fewer: bool,
+    span: Span,
 ) -> Result<(), OutOfMemory>
-    ensures { OnOk result (IsKept (map (λ b. b.now) cubes.now) space.now spot.place spots.old.items spots.new.items) }
+    requires { AreOpen space.old span.cut.variable span.cut.most }
+    ensures low { OnOk result (IsKept (λ s. (number_of s span.cut.variable ≤ span.cut.most) × IsMatched (map (λ b. b.now) cubes.now) s spot.place)
+        spot.place low.old.items low.new.items) }
+    ensures high { OnOk result (IsKept (λ s. (Lies space.old s × (span.cut.most < number_of s span.cut.variable)) ×
+        IsMatched (map (λ b. b.now) cubes.now) s spot.place) spot.place high.old.items high.new.items) }
+    ensures same { OnOk result (space.new ≡ space.old) }
 {
     let Some(cube) = cubes.get(spot.place as usize) else {
         return Ok(());
     };
     let literals = cube.literals();
-    if !may_match(space, literals, spot.held as usize, variable, has_fewer) {
-        return Ok(());
-    }
-    spots.push(Spot {
+    let held = held_at(space, literals, spot.held, span.cut.variable);
+    let said = said_on(literals, held as usize, span.cut.variable);
+    let here = Spot {
         place: spot.place,
-        held: held_on(space, literals, spot.held),
-    })?;
+        held,
+        spare: spot.spare,
+    };
+    keep_below(low, said, here, span)?;
+    keep_above(high, space, literals, said, here, span)?;
     Ok(())
 }
 
-/// Those of some places whose cubes some scenario of a space may match, a part of the space where they stood.
-fn kept_in(
-    alloc: Global,
-    space: &Space,
-    cubes: &[&Cube],
-    spots: &[Spot],
-    variable: u8,
-    has_fewer: bool,
-) -> Result<Vec<Spot>, OutOfMemory>
-    ensures { IfOk result (λ r. KeepsMatches (map (λ b. b.now) cubes.now) space.now (places_of spots.now) (places_of r.items)) }
+/// A cut, with the numbers that a space leaves.
+fn span_of(space: &Space, cut: Cut) -> Span
+    ensures { result.cut ≡ cut }
 {
-    let mut kept = Vec::with_capacity(alloc, spots.len().min(AT_ONCE))?;
-    for spot in spots {
-        keep(&mut kept, space, cubes, *spot, variable, has_fewer)?;
+    let next = cut.most.saturating_add(1);
+    Span {
+        cut,
+        least: space.least(cut.variable),
+        next,
+        greatest: space.most(cut.variable),
+        faults: if cut.variable < FIRST_VALUE { next } else { 0 },
     }
-    Ok(kept)
 }
 
-/// The places whose cubes some scenario of each side of a fork may match. The space is changed on the way, and is as before
-/// where it answers.
+/// The places whose cubes some scenario of each side of a fork may match. The space is as before where it answers.
 fn parted(
     alloc: Global,
     space: &mut Space,
     cubes: &[&Cube],
-    spots: Vec<Spot>,
-    cut: Cut,
+    spots: &[Spot],
+    span: Span,
 ) -> Result<Sides, OutOfMemory>
-    requires { AreOpen space.old cut.variable cut.most }
-    ensures low { IfOk result (λ r.
-        KeepsMatches (map (λ b. b.now) cubes.now) (below_cut space.old cut.variable cut.most) (places_of spots.items) (places_of r.low.items)) }
-    ensures high { IfOk result (λ r.
-        KeepsMatches (map (λ b. b.now) cubes.now) (above_cut space.old cut.variable cut.most) (places_of spots.items) (places_of r.high.items)) }
+    requires { AreOpen space.old span.cut.variable span.cut.most }
+    ensures low { IfOk result (λ r. KeepsWhere (map (λ b. b.now) cubes.now) (λ s. number_of s span.cut.variable ≤ span.cut.most)
+        (places_of spots.now) (places_of r.low.items)) }
+    ensures high { IfOk result (λ r. KeepsWhere (map (λ b. b.now) cubes.now) (λ s. Lies space.old s × (span.cut.most < number_of s span.cut.variable))
+        (places_of spots.now) (places_of r.high.items)) }
     ensures same { IfOk result (λ _. space.new ≡ space.old) }
 {
-    let Cut { variable, most } = cut;
-    let most_was = space.close_above(variable, most);
-    let low = kept_in(alloc, space, cubes, spots.as_slice(), variable, false)?;
-    space.reopen_above(variable, most_was);
-    let least_was = space.close_below(variable, most);
-    let has_fewer = variable < FIRST_VALUE;
-    let high = kept_in(alloc, space, cubes, spots.as_slice(), variable, has_fewer)?;
-    space.reopen_below(variable, least_was);
+    let count = spots.len().min(AT_ONCE);
+    let mut low = Vec::with_capacity(alloc, count)?;
+    let mut high = Vec::with_capacity(alloc, count)?;
+    for spot in spots {
+        keep(&mut low, &mut high, space, cubes, *spot, span)?;
+    }
     Ok(Sides { low, high })
 }
 
@@ -274,27 +410,29 @@ fn do_hold(space: &Space, literals: &[Literal]) -> bool
     true
 }
 
-/// The literals of a place's cube from the first on that may not hold in the whole space.
-fn open_literals<'a>(cubes: &[&'a Cube], spot: Spot) -> &'a [Literal] {
+/// The literals of a place's cube from the first on that doesn't hold in the whole space.
+fn open_literals<'a>(space: &Space, cubes: &[&'a Cube], spot: Spot) -> &'a [Literal] {
     let Some(cube) = cubes.get(spot.place as usize) else {
         return &[];
     };
     let literals = cube.literals();
-    let from = literals.len().min(spot.held as usize);
+    let from = literals
+        .len()
+        .min(held_on(space, literals, spot.held as usize));
     &literals[from..]
 }
 
 /// Counts the open literals of some places.
-fn count_all(cubes: &[&Cube], spots: &[Spot], tally: &mut Tally) {
+fn count_all(space: &Space, cubes: &[&Cube], spots: &[Spot], tally: &mut Tally) {
     for spot in spots {
-        tally.add(open_literals(cubes, *spot));
+        tally.add(open_literals(space, cubes, *spot));
     }
 }
 
 /// Takes these counts away.
-fn clear_all(cubes: &[&Cube], spots: &[Spot], tally: &mut Tally) {
+fn clear_all(space: &Space, cubes: &[&Cube], spots: &[Spot], tally: &mut Tally) {
     for spot in spots {
-        tally.clear(open_literals(cubes, *spot));
+        tally.clear(open_literals(space, cubes, *spot));
     }
 }
 
@@ -307,9 +445,9 @@ fn best_cut(space: &Space, cubes: &[&Cube], spots: &[Spot], tally: &mut Tally) -
     }
     let first = *spots.first()?;
     let count = u32::try_from(spots.len()).ok()?;
-    count_all(cubes, spots, tally);
-    let found = tally.best_by(open_literals(cubes, first), count);
-    clear_all(cubes, spots, tally);
+    count_all(space, cubes, spots, tally);
+    let found = tally.best_by(open_literals(space, cubes, first), count);
+    clear_all(space, cubes, spots, tally);
     let parting = found?;
     open_cut(space, parting.variable, parting.most)
 }
@@ -344,7 +482,7 @@ fn top_of(space: &Space, cubes: &[&Cube], spots: &[Spot], tally: &mut Tally) -> 
         return Top::Unknown;
     };
     let literals = cube.literals();
-    if let Some(literal) = open_literal(space, literals, first.held as usize) {
+    if let Some(literal) = open_literal(space, literals, first.held) {
         return match fork_at(space, cubes, spots, literal, tally) {
             Some(cut) => Top::Fork(cut),
             None => Top::Unknown,
@@ -384,7 +522,9 @@ fn forked(
     ensures same { IfOk result (λ r. IfSome r (λ _. space.new ≡ space.old)) }
 {
     let count = spots.len();
-    let sides = parted(alloc, space, cubes, spots, cut)?;
+    let span = span_of(space, cut);
+    let sides = parted(alloc, space, cubes, spots.as_slice(), span)?;
+    drop(spots);
     let rest = left_after(left, count, &sides);
     let most = space.close_above(cut.variable, cut.most);
     let Some(below) = sorted_out(alloc, space, cubes, sides.low, rest, tally)? else {
@@ -430,24 +570,55 @@ fn sorted_out(
     }
 }
 
-/// So many places, of whose cubes nothing is known.
-fn all_spots(alloc: Global, count: u32) -> Result<Vec<Spot>, OutOfMemory>
-    ensures { IfOk result (λ r. places_of r.items ≡ numbers_below count) }
-{
-    let mut spots = Vec::with_capacity(alloc, count as usize)?;
-    for place in 0..count {
-        spots.push(Spot { place, held: 0 })?;
+/// How many faults literals ask for.
+fn faults_asked(literals: &[Literal]) -> u8 {
+    let mut faults: u8 = 0;
+    for literal in literals {
+        if literal.variable >= FIRST_VALUE {
+            return faults;
+        }
+        faults = faults.saturating_add(literal.low);
     }
-    Ok(spots)
+    faults
 }
 
-/// The places whose cubes some scenario of a space may match.
-fn spots_of(alloc: Global, space: &Space, cubes: &[&Cube]) -> Result<Vec<Spot>, OutOfMemory>
+/// Adds a place, unless there are too few faults for its cube in the space of all scenarios of at most `k`.
+fn admit(
+    spots: &mut Vec<Spot>,
+    k: u8,
+    space: &Space,
+    cubes: &[&Cube],
+    place: u32,
+) -> Result<(), OutOfMemory>
+    ensures { OnOk result (IsKept (λ s. Lies space.now s × IsMatched (map (λ b. b.now) cubes.now) s place) place spots.old.items spots.new.items) }
+{
+    let Some(cube) = cubes.get(place as usize) else {
+        return Ok(());
+    };
+    let literals = cube.literals();
+    let asked = faults_asked(literals);
+    if asked > k {
+        if !space.affords(literals, 0) {
+            return Ok(());
+        }
+    }
+    spots.push(Spot {
+        place,
+        held: 0,
+        spare: k.saturating_sub(asked),
+    })?;
+    Ok(())
+}
+
+/// The places whose cubes some scenario of the space of all scenarios of at most `k` faults may match.
+fn spots_of(alloc: Global, k: u8, space: &Space, cubes: &[&Cube]) -> Result<Vec<Spot>, OutOfMemory>
     requires { length cubes.now ≤ MOST_LOAD }
     ensures { IfOk result (λ r. (s : Scenario) (i : ℕ) → Lies space.now s → IsMatched (map (λ b. b.now) cubes.now) s i → Contains (places_of r.items) i) }
 {
-    let all = all_spots(alloc, cubes.len() as u32)?;
-    let spots = kept_in(alloc, space, cubes, all.as_slice(), 0, true)?;
+    let mut spots = Vec::with_capacity(alloc, cubes.len())?;
+    for place in 0..cubes.len() as u32 {
+        admit(&mut spots, k, space, cubes, place)?;
+    }
     Ok(spots)
 }
 
@@ -464,7 +635,7 @@ fn all_sorted_by(
     ensures { IfOk result (λ r. IfSome r (λ n. (s : Scenario) → HasFew k s → tells_cube (map (λ b. b.now) cubes.now) (value_at n s) s)) }
 {
     let mut space = Space::whole(k);
-    let spots = spots_of(alloc, &space, cubes)?;
+    let spots = spots_of(alloc, k, &space, cubes)?;
     match sorted_out(alloc, &mut space, cubes, spots, nodes, tally)? {
         Some(sorted) => Ok(Some(sorted.node)),
         None => Ok(None),

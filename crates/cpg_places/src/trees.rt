@@ -1,11 +1,12 @@
-//! The trees of columns.
+//! The trees of columns, and those of all rows.
 ghost use Rattle.std.specs.Prelude.{◌≤◌, IfOk, IfSome, length};
 ghost use Rattle.cpg_base.specs.declared.limits.TheConstants.{MOST_LOAD};
-ghost use Rattle.cpg_places.specs.Trees.{IsRowTree};
+ghost use Rattle.cpg_places.specs.Trees.{AreRowTrees, IsRowTree};
 
 use crate::Places;
 use cpg_base::{OutOfMemory, Problem};
 use cpg_cube::{Entry, cubes_of};
+use cpg_table::Tables;
 use std::alloc::Global;
 
 /// The tree of columns, if they have one: not where two columns may match together, or where it would be too large.
@@ -20,4 +21,23 @@ pub fn tree_of(
     let cubes = cubes_of(alloc, columns)?;
     let places = Places::of(alloc, problem.faults(), cubes.as_slice())?;
     Ok(places)
+}
+
+/// For each item the tree of its row, if one is found: for each scenario the place of the one column that matches. The one error
+/// is want of memory.
+pub fn row_trees(
+    alloc: Global,
+    problem: &Problem,
+    tables: &Tables,
+) -> Result<Vec<Option<Places>>, OutOfMemory>
+    ensures { IfOk result (λ trees. AreRowTrees problem.now tables.now.nodes trees.items) }
+{
+    let count = problem.item_count();
+    let mut trees = Vec::new(alloc);
+    trees.reserve(count as usize)?;
+    for item in 0..count {
+        let tree = tree_of(alloc, problem, tables.columns_of(item))?;
+        trees.push(tree)?;
+    }
+    Ok(trees)
 }

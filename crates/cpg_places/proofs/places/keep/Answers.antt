@@ -1,24 +1,30 @@
-use Rattle.std.proofs.Common.{◌≡◌, true, refl, sym, subst, map, Bor, List}
-use Rattle.std.proofs.lemmas.Bool.{both_ways}
+use Rattle.std.proofs.Common.{◌≡◌, ◌≤◌, ◌<◌, true, sym, subst, map, Bor, List}
+use Rattle.cpg_base.specs.Scenario.{number_of}
 use Rattle.cpg_cube.specs.declared.literal.Literal.{Literal}
 use Rattle.cpg_cube.specs.Cube.{matches}
-use Rattle.cpg_places.specs.declared.places.Spot.{Spot}
-use Rattle.cpg_places.specs.Spots.{IsKept}
-use Rattle.cpg_tree.proofs.Forks.{from_false}
-use Rattle.cpg_places.proofs.SpotLaws.{cube_here, kept_out, kept_in}
+use Rattle.cpg_tree.specs.Space.{Lies}
+use Rattle.cpg_places.specs.Places.{IsMatched}
+use Rattle.cpg_places.proofs.SpotLaws.{cube_here, kept_for}
 use Rattle.cpg_places.proofs.places.keep.Goals as goal
 
-pub returns-then-not-may_match : goal.returns-then-not-may_match
-returns-then-not-may_match c =
+pub returns-clause-low : goal.returns-clause-low
+returns-clause-low c =
     let cubes : List (List Literal) = map (λ (b : Bor (List Literal)). b.now) c.args.cubes.now in
     let look = c.in-Some.ensures.lookup in
     let at = cube_here c.args.cubes.now c.args.spot.place c.in-Some.cube.now look.3.0 look.1 in
-    kept_out cubes c.args.space.now c.args.spot.place c.args.spots.now.items (λ s lies m.
-    both_ways (matches c.literals-literals.result.now s) (from_false c.may_match.result c.if-not-may_match.true c.may_match.ensures s lies)
-    (subst (λ xs. matches xs s ≡ true) (sym c.literals-literals.ensures.literals) (subst (λ xs. matches xs s ≡ true) at m.matched)))
+    let v = c.args.span.cut.variable in
+    kept_for (λ s. (number_of s v ≤ c.args.span.cut.most) × (c.said_on-said.result.low ≤ number_of s v)) c.args.spot.place
+    (λ s. (number_of s v ≤ c.args.span.cut.most) × IsMatched cubes s c.args.spot.place) c.args.low.now.items c.keep_below.new.low.items
+    (λ s h. (h.0, c.said_on-said.ensures.low s (subst (λ xs. matches xs s ≡ true) (sym c.literals-literals.ensures.literals) (subst (λ xs. matches xs s ≡ true) at h.1.matched))))
+    c.in_ok-keep_below.ensures
 
-pub returns : goal.returns
-returns c =
+pub returns-clause-high : goal.returns-clause-high
+returns-clause-high c =
     let cubes : List (List Literal) = map (λ (b : Bor (List Literal)). b.now) c.args.cubes.now in
-    subst (λ (es : List Spot). IsKept cubes c.args.space.now c.args.spot.place c.args.spots.now.items es) (sym c.in_ok-push.ensures.items)
-    (kept_in cubes c.args.space.now c.args.spot.place c.args.spots.now.items (record { place = c.args.spot.place; held = c.held_on.result }) refl)
+    let look = c.in-Some.ensures.lookup in
+    let at = cube_here c.args.cubes.now c.args.spot.place c.in-Some.cube.now look.3.0 look.1 in
+    let v = c.args.span.cut.variable in
+    kept_for (λ s. (Lies c.args.space.now s × (c.args.span.cut.most < number_of s v)) × (matches c.literals-literals.result.now s ≡ true)) c.args.spot.place
+    (λ s. (Lies c.args.space.now s × (c.args.span.cut.most < number_of s v)) × IsMatched cubes s c.args.spot.place) c.args.high.now.items c.keep_above.new.high.items
+    (λ s h. (h.0, subst (λ xs. matches xs s ≡ true) (sym c.literals-literals.ensures.literals) (subst (λ xs. matches xs s ≡ true) at h.1.matched)))
+    c.in_ok-keep_above.ensures.kept
