@@ -12,7 +12,7 @@ use Rattle.cpg_base.proofs.First.{first_same}
 use Rattle.cpg_rules.specs.Guards.{Guards, tree_of}
 use Rattle.cpg_cube.specs.Cube.{matches, holds}
 use Rattle.cpg_cube.specs.declared.literal.Literal.{Literal}
-use Rattle.cpg_cube.specs.Cover.{is_left}
+use Rattle.cpg_cover.specs.Cover.{is_left}
 use Rattle.cpg_rules.specs.Admission.{IsAdmitted}
 use Rattle.cpg_violation.specs.Activity.{comes_to, value_literal}
 use Rattle.cpg_violation.proofs.ActiveWhere.{value_holds}

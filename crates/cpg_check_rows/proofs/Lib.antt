@@ -3,3 +3,5 @@ pub mod TreeDoubles
 pub mod HearLaws
 pub mod PresentLaws
 pub mod ActivityLaws
+pub mod LawfulRows
+pub mod TreeRows

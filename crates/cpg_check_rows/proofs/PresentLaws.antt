@@ -14,8 +14,8 @@ use Rattle.cpg_base.proofs.First.{first_same}
 use Rattle.cpg_rules.specs.Guards.{Guards, is_passed, test_of, tree_of}
 use Rattle.cpg_cube.specs.Cube.{matches}
 use Rattle.cpg_cube.specs.declared.literal.Literal.{Literal}
-use Rattle.cpg_cube.specs.Cover.{is_left}
-use Rattle.cpg_cube.proofs.Kept.{any_map}
+use Rattle.cpg_cover.specs.Cover.{is_left}
+use Rattle.cpg_cube.proofs.Mapped.{any_map}
 use Rattle.cpg_rules.specs.Admission.{IsAdmitted}
 use Rattle.cpg_table.specs.Table.{NodeTable, columns_of}
 use Rattle.cpg_cube.specs.Column.{Column}

@@ -2,3 +2,4 @@ pub mod Single
 pub mod Hears
 pub mod Present
 pub mod Active
+pub mod Absent

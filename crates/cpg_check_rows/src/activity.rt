@@ -17,7 +17,8 @@ ghost use Rattle.cpg_violation.specs.Sure.{AreSure};
 ghost use Rattle.cpg_violation.specs.Violation.{Holds, IsFirstColumn, IsFirstViolation};
 
 use cpg_base::{Item, OutOfMemory, Problem, Scenario};
-use cpg_cube::{Cube, Entry, Literal, earlier};
+use cpg_cover::earlier;
+use cpg_cube::{Cube, Entry, Literal};
 use cpg_rules::Admitted;
 use cpg_table::{Fault, Rule, Tables};
 use cpg_violation::{is_marked, least_at, value_literal};

@@ -5,7 +5,7 @@ ghost use Rattle.cpg_base.specs.Graph.{broadcast_item, condition_count, edge_cou
 ghost use Rattle.cpg_base.specs.First.{IsFirst};
 ghost use Rattle.cpg_base.specs.Scenario.{Scenario};
 ghost use Rattle.cpg_cube.specs.Cube.{matches};
-ghost use Rattle.cpg_cube.specs.Cover.{is_left};
+ghost use Rattle.cpg_cover.specs.Cover.{is_left};
 ghost use Rattle.cpg_cube.specs.Fit.{IsKnown};
 ghost use Rattle.cpg_check_rows.specs.Present.{is_absent};
 ghost use Rattle.cpg_table.specs.declared.rule.Rule.{Rule};

@@ -18,7 +18,8 @@ ghost use Rattle.cpg_violation.specs.Violation.{Holds, IsFirstColumn, IsFirstVio
 ghost use Rattle.cpg_check_rows.specs.Single.{is_double};
 
 use cpg_base::{Order, OutOfMemory, Problem, Scenario};
-use cpg_cube::{Cube, Entry, earlier};
+use cpg_cover::earlier;
+use cpg_cube::{Cube, Entry};
 use cpg_places::tree_of;
 use cpg_rules::Admitted;
 use cpg_table::{Fault, Rule, Tables};

@@ -18,7 +18,7 @@ use Rattle.cpg_table.specs.declared.rule.Rule.{Rule}
 use Rattle.cpg_violation.specs.Sure.{IsSure}
 use Rattle.cpg_violation.proofs.Tests.{off_where}
 use Rattle.cpg_sure.specs.Order.{IsApart, execution, sending}
-use Rattle.cpg_sure.proofs.SureLaws.{sure_of}
+use Rattle.cpg_violation.proofs.SureLaws.{sure_of}
 
 -- a time at which an item acts is that of a column that matches
 at_parts : (tables : List NodeTable) (x : ℕ) (s : Scenario) (time : ℕ) → Contains (at tables x s) time → (d : Column) × Contains (columns_of tables x) d × (matches d.cube s ≡ true) × (d.time ≡ time)

@@ -21,7 +21,7 @@ use Rattle.cpg_table.specs.Valid.{ends_of, is_by}
 use Rattle.cpg_table.specs.declared.rule.Rule.{Rule}
 use Rattle.cpg_violation.specs.Sure.{IsSure}
 use Rattle.cpg_sure.specs.Hearing.{IsHeardIn}
-use Rattle.cpg_sure.proofs.SureLaws.{sure_of}
+use Rattle.cpg_violation.proofs.SureLaws.{sure_of}
 use Rattle.cpg_sure.proofs.Ends.{by_parts}
 
 module _ (g : Graph) (tables : List NodeTable) (node time : ℕ) (s : Scenario) (l : Literal) where

@@ -22,7 +22,7 @@ use Rattle.cpg_violation.proofs.Matching.{active_where}
 use Rattle.cpg_violation.proofs.Moments.{made, waits}
 use Rattle.cpg_sure.specs.Inputs.{IsFromBefore, IsInputOver, IsInputThere, IsLateEnough}
 use Rattle.cpg_sure.specs.Order.{IsBefore, IsOverBy, execution}
-use Rattle.cpg_sure.proofs.SureLaws.{sure_of}
+use Rattle.cpg_violation.proofs.SureLaws.{sure_of}
 use Rattle.cpg_sure.proofs.Ends.{over_arrived, over_ended}
 
 module _ (g : Graph) (tables : List NodeTable) where

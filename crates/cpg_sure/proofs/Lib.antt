@@ -1,14 +1,8 @@
 pub mod OrderLaws
 pub mod ClashLaws
-pub mod SpaceLaws
-pub mod SureLaws
-pub mod RowLaws
-pub mod TimeLaws
-pub mod GuardLaws
 pub mod Ends
 pub mod InputLaws
 pub mod HeardLaws
-pub mod ActivityLaws
 pub mod OwnLaws
 pub mod SpeakerLaws
 pub mod BoundLaws

@@ -21,7 +21,7 @@ use Rattle.cpg_places.specs.Trees.{IsRowTree}
 use Rattle.cpg_places.proofs.TreeLaws.{none_matches, place_only}
 use Rattle.cpg_violation.specs.Violation.{Holds}
 use Rattle.cpg_violation.proofs.Durations.{duration_grows, fault_within}
-use Rattle.cpg_sure.specs.Always.{IsUnconditional}
+use Rattle.cpg_violation.specs.Always.{IsUnconditional}
 use Rattle.cpg_sure.specs.declared.course.Course.{Course}
 use Rattle.cpg_sure.specs.declared.course.Courses.{Courses}
 use Rattle.cpg_sure.specs.declared.span.Span.{Span}

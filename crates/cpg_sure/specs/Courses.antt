@@ -6,7 +6,7 @@ use Rattle.cpg_base.specs.Scenario.{Scenario, IsScenario, number_of}
 use Rattle.cpg_cube.specs.Column.{column_at}
 use Rattle.cpg_table.specs.Table.{NodeTable, columns_of}
 use Rattle.cpg_places.specs.Trees.{IsRowTree}
-use Rattle.cpg_sure.specs.Always.{IsUnconditional}
+use Rattle.cpg_violation.specs.Always.{IsUnconditional}
 use Rattle.cpg_sure.specs.declared.span.Span.{Span}
 use Rattle.cpg_sure.specs.declared.course.Course.{Course}
 use Rattle.cpg_sure.specs.declared.course.Courses.{Courses}

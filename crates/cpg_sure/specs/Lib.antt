@@ -1,9 +1,6 @@
-pub mod Trees
 pub mod Order
 pub mod Courses
 pub mod Turns
-pub mod Always
-pub mod Absent
 pub mod Inputs
 pub mod Bounds
 pub mod Hearing

@@ -4,9 +4,8 @@ ghost use Rattle.cpg_base.specs.Graph.{item_count, process_count};
 ghost use Rattle.cpg_base.specs.Scenario.{Scenario};
 ghost use Rattle.cpg_sure.specs.Courses.{AreCourses, IsCourse, IsSpan};
 ghost use Rattle.cpg_sure.specs.Order.{execution, frame, sending};
-ghost use Rattle.cpg_sure.specs.Trees.{AreRowTrees};
+ghost use Rattle.cpg_places.specs.Trees.{AreRowTrees};
 
-use crate::guards::is_item_running;
 use crate::span::Span;
 use cpg_base::OutOfMemory;
 use cpg_cube::Entry;
@@ -14,7 +13,7 @@ use cpg_places::Places;
 use cpg_rules::Admitted;
 use cpg_table::Tables;
 use cpg_tree::Space;
-use cpg_violation::{first_time, last_time};
+use cpg_violation::{first_time, is_item_running, last_time};
 use std::alloc::Global;
 
 /// The columns of an item with their tree.

@@ -286,9 +286,11 @@ impl<'a> Listener<'a> {
         let literals = column.cube.literals();
         let problem = self.admitted.problem();
         let faults = problem.faults();
-        let Some(space) = Space::of(faults, literals) else {
+        // in place, since a space is long to copy
+        let mut space = Space::whole(faults);
+        if !space.narrow_to(literals) {
             return Ok(true);
-        };
+        }
         list_bounds(faults, literals, wanted)?;
         mark_known(&self.known, wanted.as_slice(), told)?;
         self.listen(column, wanted.as_slice(), &space, places, told)?;

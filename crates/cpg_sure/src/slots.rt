@@ -12,7 +12,7 @@ ghost use Rattle.cpg_table.specs.declared.rule.Rule.{Rule};
 ghost use Rattle.cpg_violation.specs.Sure.{AreSure, IsSure};
 ghost use Rattle.cpg_violation.specs.Violation.{AllHold, row_rules};
 ghost use Rattle.cpg_sure.specs.Order.{sending};
-ghost use Rattle.cpg_sure.specs.Trees.{AreRowTrees};
+ghost use Rattle.cpg_places.specs.Trees.{AreRowTrees};
 ghost use Rattle.cpg_sure.specs.Turns.{AreTurns};
 
 use crate::course::sends;

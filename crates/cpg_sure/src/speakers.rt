@@ -208,6 +208,9 @@ impl<'a> Speaker<'a> {
     {
         let mut at = 0;
         for (place, literal) in literals.iter().enumerate() {
+            if told[place] {
+                continue;
+            }
             at = place_from(own, at, literal.variable);
             told[place] = self.is_told_there(told[place], own, at, literal);
         }

@@ -1,13 +1,10 @@
 //! Items at which V4 to V9 hold.
 ghost use Rattle.std.specs.Prelude.{IfOk};
-ghost use Rattle.cpg_violation.specs.Heads.{IsHeadFor};
 ghost use Rattle.cpg_violation.specs.Violation.{AllHold, row_rules};
 ghost use Rattle.cpg_violation.specs.Sure.{AreTimeMarks};
-ghost use Rattle.cpg_sure.specs.Trees.{AreRowTrees};
+ghost use Rattle.cpg_places.specs.Trees.{AreRowTrees};
 
 use crate::course::frames;
-use crate::due::due_marks;
-use crate::frozen::frozen_marks;
 use crate::heard::heard_marks;
 use crate::inputs::inputs_marks;
 use crate::processor::processor_marks;
@@ -17,7 +14,7 @@ use cpg_base::OutOfMemory;
 use cpg_places::Places;
 use cpg_rules::Admitted;
 use cpg_table::Tables;
-use cpg_violation::TimeMarks;
+use cpg_violation::{TimeMarks, due_marks, frozen_marks};
 use std::alloc::Global;
 
 /// Items at which V4 to V9 hold in every scenario, of tables that keep V1 to V3, by the trees of all rows. No scenario is
@@ -28,7 +25,6 @@ pub fn time_marks(
     tables: &Tables,
     trees: &[Option<Places>],
 ) -> Result<TimeMarks, OutOfMemory>
-    requires head { IsHeadFor admitted.now.graph tables.now.head }
     requires rules { AllHold admitted.now.graph tables.now.nodes row_rules }
     requires trees { AreRowTrees admitted.now.graph tables.now.nodes trees.now }
     ensures { IfOk result (AreTimeMarks admitted.now.graph tables.now.nodes) }

@@ -9,7 +9,7 @@ ghost use Rattle.cpg_violation.specs.Violation.{AllHold, Holds, row_rules};
 ghost use Rattle.cpg_sure.specs.Courses.{AreCourses};
 ghost use Rattle.cpg_sure.specs.Turns.{AreTurns};
 ghost use Rattle.cpg_sure.specs.Order.{IsInTurn, IsOver, StandsBefore, execution};
-ghost use Rattle.cpg_sure.specs.Trees.{AreRowTrees};
+ghost use Rattle.cpg_places.specs.Trees.{AreRowTrees};
 
 use crate::course::{Courses, executions};
 use cpg_base::OutOfMemory;

@@ -11,13 +11,13 @@ ghost use Rattle.cpg_sure.specs.Inputs.{IsFromBefore, IsInputCourse, IsInputOver
 ghost use Rattle.cpg_sure.specs.Order.{IsBefore};
 
 use crate::course::{Course, Courses};
-use crate::guards::is_refused;
 use crate::turns::Turns;
 use cpg_base::OutOfMemory;
 use cpg_cube::Entry;
 use cpg_order::Links;
 use cpg_rules::Admitted;
 use cpg_tree::Space;
+use cpg_violation::is_refused;
 use std::alloc::Global;
 
 /// The inputs of each process, with what is known of executions and of frames.

@@ -15,7 +15,7 @@ use Rattle.cpg_base.specs.First.{IsFirst, earlier}
 use Rattle.cpg_base.proofs.First.{first_same, first_or}
 use Rattle.cpg_cube.specs.Cube.{matches, holds}
 use Rattle.cpg_cube.specs.declared.literal.Literal.{Literal}
-use Rattle.cpg_cube.specs.Cover.{is_left}
+use Rattle.cpg_cover.specs.Cover.{is_left}
 use Rattle.cpg_violation.specs.Activity.{comes_to, value_literal}
 use Rattle.cpg_violation.proofs.Tests.{with_true}
 

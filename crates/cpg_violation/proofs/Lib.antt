@@ -13,3 +13,7 @@ pub mod Moments
 pub mod Tests
 pub mod LiveEdges
 pub mod Durations
+pub mod SpaceLaws
+pub mod SureLaws
+pub mod GuardLaws
+pub mod TimeLaws

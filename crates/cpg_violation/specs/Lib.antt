@@ -11,3 +11,4 @@ pub mod PartedFalls
 pub mod Sieves
 pub mod Parts
 pub mod Lines
+pub mod Always

@@ -5,12 +5,13 @@ ghost use Rattle.cpg_base.specs.Graph.{IsVariable, condition_count};
 ghost use Rattle.cpg_rules.specs.Trees.{TestsBelow};
 ghost use Rattle.cpg_base.specs.First.{IsFirst};
 ghost use Rattle.cpg_cube.specs.Cube.{holds};
-ghost use Rattle.cpg_cube.specs.Cover.{is_left};
+ghost use Rattle.cpg_cover.specs.Cover.{is_left};
 ghost use Rattle.cpg_cube.specs.Fit.{IsKnown};
 ghost use Rattle.cpg_violation.specs.Activity.{comes_to, value_literal};
 
 use cpg_base::{FIRST_VALUE, OutOfMemory, Scenario};
-use cpg_cube::{Cube, Literal, earlier, uncovered};
+use cpg_cover::{earlier, uncovered};
+use cpg_cube::{Cube, Literal};
 use cpg_rules::{Admitted, GuardTop, GuardTree};
 use std::alloc::Global;
 

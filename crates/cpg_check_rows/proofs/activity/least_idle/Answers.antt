@@ -1,6 +1,6 @@
 use Rattle.std.proofs.Common.{◌≡◌, ◌&&◌, ◌∙◌, [], false, ap}
 use Rattle.cpg_base.specs.First.{IsFirst}
-use Rattle.cpg_cube.specs.Cover.{is_left}
+use Rattle.cpg_cover.specs.Cover.{is_left}
 use Rattle.cpg_rules.specs.Guards.{tree_of}
 use Rattle.cpg_violation.specs.Activity.{comes_to}
 use Rattle.cpg_check_rows.proofs.ActivityLaws.{idle_found}

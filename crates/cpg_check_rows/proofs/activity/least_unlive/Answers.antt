@@ -4,7 +4,7 @@ use Rattle.cpg_base.specs.Graph.{condition_of, edge_at, source}
 use Rattle.cpg_rules.specs.Guards.{is_passed, test_of}
 use Rattle.cpg_base.specs.First.{IsFirst}
 use Rattle.cpg_cube.specs.Cube.{matches, holds}
-use Rattle.cpg_cube.proofs.AlongLaws.{lawful_if_some}
+use Rattle.cpg_cover.proofs.AlongLaws.{lawful_if_some}
 use Rattle.cpg_violation.proofs.LiveEdges.{live_tested}
 use Rattle.cpg_violation.proofs.Violations.{long_order}
 use Rattle.cpg_check_rows.proofs.ActivityLaws.{unlive_idle, unlive_either}

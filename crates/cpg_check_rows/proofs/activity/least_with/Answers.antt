@@ -1,6 +1,6 @@
 use Rattle.std.proofs.Common.{rules, ◌≡◌, Some, subst}
 use Rattle.cpg_cube.specs.Fit.{IsKnown}
-use Rattle.cpg_cube.specs.Cover.{with_literal}
+use Rattle.cpg_cube.specs.Narrow.{with_literal}
 use Rattle.cpg_cube.proofs.CubeLaws.{with-is}
 use Rattle.cpg_cube.proofs.Narrow.{known-narrowed}
 use Rattle.cpg_check_rows.proofs.ActivityLaws.{with_part}

@@ -5,7 +5,7 @@ use Rattle.cpg_rules.specs.Guards.{is_passed, test_of}
 use Rattle.cpg_base.specs.First.{IsFirst}
 use Rattle.cpg_base.specs.Scenario.{Scenario}
 use Rattle.cpg_cube.specs.Cube.{matches}
-use Rattle.cpg_cube.specs.Cover.{is_left}
+use Rattle.cpg_cover.specs.Cover.{is_left}
 use Rattle.cpg_cube.specs.Column.{Column}
 use Rattle.cpg_check_rows.proofs.PresentLaws.{absent_from, message_active}
 use Rattle.cpg_check_rows.proofs.present.least_unsent.Goals as goal

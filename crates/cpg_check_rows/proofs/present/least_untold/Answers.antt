@@ -2,7 +2,7 @@ use Rattle.std.proofs.Common.{◌≡◌, ◌≤◌, ◌&&◌, ◌∙◌, [], map
 use Rattle.cpg_base.specs.Activity.{active}
 use Rattle.cpg_base.specs.Graph.{Graph, process_of, broadcast_item}
 use Rattle.cpg_base.specs.First.{IsFirst}
-use Rattle.cpg_cube.specs.Cover.{is_left}
+use Rattle.cpg_cover.specs.Cover.{is_left}
 use Rattle.cpg_cube.specs.Column.{Column}
 use Rattle.cpg_check_rows.proofs.PresentLaws.{absent_from, broadcast_active}
 use Rattle.cpg_check_rows.proofs.present.least_untold.Goals as goal

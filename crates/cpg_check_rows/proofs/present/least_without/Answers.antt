@@ -2,8 +2,8 @@ use Rattle.std.proofs.Common.{◌≡◌, ◌&&◌, ◌∙◌, true, sym, ap, sub
 use Rattle.cpg_base.specs.First.{IsFirst}
 use Rattle.cpg_cube.specs.declared.literal.Literal.{Literal}
 use Rattle.cpg_cube.specs.Fit.{IsKnown}
-use Rattle.cpg_cube.specs.Cover.{is_left}
-use Rattle.cpg_cube.proofs.Kept.{all_unmapped}
+use Rattle.cpg_cover.specs.Cover.{is_left}
+use Rattle.cpg_cover.proofs.Kept.{all_unmapped}
 use Rattle.cpg_rules.specs.Guards.{tree_of}
 use Rattle.cpg_cube.specs.Column.{Column}
 use Rattle.cpg_violation.specs.Activity.{comes_to}

@@ -2,7 +2,7 @@ use Rattle.std.proofs.Common.{get_or, ◌&&◌}
 use Rattle.cpg_cube.specs.Cube.{matches}
 use Rattle.cpg_violation.specs.Sieves.{is_at}
 use Rattle.cpg_violation.proofs.Columnwise.{first_any_more}
-use Rattle.cpg_cube.proofs.AlongLaws.{lawful_if_some}
+use Rattle.cpg_cover.proofs.AlongLaws.{lawful_if_some}
 use Rattle.cpg_check_rows.proofs.single.shared.Goals as goal
 
 pub earlier-found-requires-clause-second : goal.earlier-found-requires-clause-second

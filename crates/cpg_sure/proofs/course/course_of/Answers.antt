@@ -2,8 +2,8 @@ use Rattle.std.proofs.Common.{◌≡◌, ◌∙◌, ◌≤◌, All, List, ap, su
 use Rattle.std.proofs.lemmas.Bool.{OnTrue_at}
 use Rattle.cpg_base.specs.Graph.{Graph}
 use Rattle.cpg_cube.specs.Column.{Column}
-use Rattle.cpg_sure.proofs.SpaceLaws.{few_of}
-use Rattle.cpg_sure.proofs.RowLaws.{tree_of_row}
+use Rattle.cpg_violation.proofs.SpaceLaws.{few_of}
+use Rattle.cpg_places.proofs.TreeLaws.{tree_of_row}
 use Rattle.cpg_sure.proofs.course.course_of.Goals as goal
 
 pub returns : goal.returns

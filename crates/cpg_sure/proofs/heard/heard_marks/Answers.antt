@@ -2,7 +2,7 @@ use Rattle.std.proofs.Common.{◌<◌, ap, ◌∙◌, sym, arith}
 use Rattle.cpg_base.specs.Graph.{item_count}
 use Rattle.cpg_table.specs.declared.rule.Rule.{Rule}
 use Rattle.cpg_tree.proofs.Passes.{of_true}
-use Rattle.cpg_sure.proofs.SureLaws.{one_more}
+use Rattle.cpg_violation.proofs.SureLaws.{one_more}
 use Rattle.cpg_sure.proofs.heard.heard_marks.Goals as goal
 
 pub loop-item-preserved : goal.loop-item-preserved

@@ -1,6 +1,6 @@
 use Rattle.cpg_table.specs.declared.rule.Rule.{Rule}
 use Rattle.cpg_tree.proofs.Passes.{of_true}
-use Rattle.cpg_sure.proofs.SureLaws.{one_more}
+use Rattle.cpg_violation.proofs.SureLaws.{one_more}
 use Rattle.cpg_sure.proofs.inputs.inputs_marks.Goals as goal
 
 pub loop-item-preserved : goal.loop-item-preserved

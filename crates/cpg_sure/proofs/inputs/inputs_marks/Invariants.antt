@@ -1,5 +1,5 @@
 use Rattle.cpg_table.specs.declared.rule.Rule.{Rule}
-use Rattle.cpg_sure.proofs.SureLaws.{AreSoFar}
+use Rattle.cpg_violation.proofs.SureLaws.{AreSoFar}
 use Rattle.cpg_sure.proofs.inputs.inputs_marks.Given as goal
 
 abbrev pub invariant-loop-item : goal.invariant-loop-item

@@ -2,7 +2,7 @@ use Rattle.std.proofs.Common.{◌≡◌, get_or, true, false}
 use Rattle.std.proofs.lemmas.Bool.{OnTrue_from, and_parts}
 use Rattle.std.proofs.lemmas.List.Elements.{All-more}
 use Rattle.cpg_cube.specs.declared.literal.Literal.{Literal}
-use Rattle.cpg_sure.proofs.SureLaws.{each_all}
+use Rattle.cpg_violation.proofs.SureLaws.{each_all}
 use Rattle.cpg_sure.proofs.listening.are_known.Goals as goal
 
 pub loop-literal-preserved : goal.loop-literal-preserved

@@ -4,7 +4,7 @@ use Rattle.cpg_base.specs.Bus.{next_slot}
 use Rattle.cpg_base.specs.Scenario.{Scenario, IsScenario}
 use Rattle.cpg_cube.specs.Cube.{matches}
 use Rattle.cpg_cube.specs.Column.{Column}
-use Rattle.cpg_sure.proofs.SureLaws.{each_all, each_more}
+use Rattle.cpg_violation.proofs.SureLaws.{each_all, each_more}
 use Rattle.cpg_sure.proofs.slots.are_in_slots.Goals as goal
 
 pub loop-column-preserved : goal.loop-column-preserved

@@ -1,4 +1,4 @@
-use Rattle.cpg_sure.proofs.SpaceLaws.{not_none}
+use Rattle.cpg_violation.proofs.SpaceLaws.{not_none}
 use Rattle.cpg_sure.proofs.slots.is_in_slot.Goals as goal
 
 pub returns-in_default : goal.returns-in_default

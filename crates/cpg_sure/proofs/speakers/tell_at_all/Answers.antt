@@ -2,7 +2,7 @@ use Rattle.std.proofs.lemmas.Bool.{OnTrue_at}
 use Rattle.std.proofs.lemmas.List.Elements.{All-more}
 use Rattle.cpg_cube.specs.Column.{column_at}
 use Rattle.cpg_sure.specs.Speakers.{IsToldIn}
-use Rattle.cpg_sure.proofs.SureLaws.{each_all}
+use Rattle.cpg_violation.proofs.SureLaws.{each_all}
 use Rattle.cpg_sure.proofs.speakers.tell_at_all.Goals as goal
 
 pub loop-place-preserved : goal.loop-place-preserved

@@ -1,7 +1,7 @@
 use Rattle.std.proofs.Common.{rules, ◌≡◌, subst, Some, List, map, Bor}
 use Rattle.cpg_cube.specs.declared.literal.Literal.{Literal}
 use Rattle.cpg_cube.specs.Fit.{IsKnown}
-use Rattle.cpg_cube.specs.Cover.{with_literal}
+use Rattle.cpg_cube.specs.Narrow.{with_literal}
 use Rattle.cpg_cube.proofs.CubeLaws.{with-is}
 use Rattle.cpg_cube.proofs.Narrow.{known-narrowed}
 use Rattle.cpg_violation.proofs.ActiveWhere.{at_test, where_holds}

@@ -1,7 +1,7 @@
 use Rattle.std.proofs.lemmas.Bool.{OnTrue_at}
 use Rattle.cpg_tree.proofs.Passes.{of_true}
 use Rattle.cpg_sure.proofs.OrderLaws.{early_before, walked_before}
-use Rattle.cpg_sure.proofs.SpaceLaws.{few_of}
+use Rattle.cpg_violation.proofs.SpaceLaws.{few_of}
 use Rattle.cpg_sure.proofs.course.Course.ends_before.Goals as goal
 
 pub returns-then-has_come : goal.returns-then-has_come

@@ -4,7 +4,7 @@ use Rattle.cpg_cube.specs.Cube.{matches}
 use Rattle.cpg_cube.specs.Column.{Column}
 use Rattle.cpg_sure.specs.Order.{IsApartAt}
 use Rattle.cpg_sure.proofs.OrderLaws.{apart_all}
-use Rattle.cpg_sure.proofs.SureLaws.{each_all, each_more}
+use Rattle.cpg_violation.proofs.SureLaws.{each_all, each_more}
 use Rattle.cpg_sure.proofs.course.Courses.are_apart.Goals as goal
 
 pub loop-column-preserved : goal.loop-column-preserved

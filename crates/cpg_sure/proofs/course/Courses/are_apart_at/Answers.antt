@@ -1,5 +1,5 @@
 use Rattle.cpg_tree.proofs.Passes.{of_true}
-use Rattle.cpg_sure.proofs.SpaceLaws.{lies_in, not_none}
+use Rattle.cpg_violation.proofs.SpaceLaws.{lies_in, not_none}
 use Rattle.cpg_sure.proofs.course.Courses.are_apart_at.Goals as goal
 
 pub returns-in_default : goal.returns-in_default

@@ -3,7 +3,7 @@ use Rattle.std.proofs.lemmas.Bool.{OnTrue_at}
 use Rattle.std.proofs.lemmas.List.Elements.{All-more}
 use Rattle.cpg_sure.specs.Order.{IsOverBy}
 use Rattle.cpg_sure.proofs.OrderLaws.{course_at}
-use Rattle.cpg_sure.proofs.SureLaws.{each_all}
+use Rattle.cpg_violation.proofs.SureLaws.{each_all}
 use Rattle.cpg_sure.proofs.course.Courses.are_over.Goals as goal
 
 pub loop-item-preserved : goal.loop-item-preserved

@@ -1,6 +1,6 @@
 use Rattle.std.proofs.lemmas.Bool.{OnTrue_at}
 use Rattle.cpg_tree.proofs.Passes.{of_true}
-use Rattle.cpg_sure.proofs.SpaceLaws.{lies_in, not_none}
+use Rattle.cpg_violation.proofs.SpaceLaws.{lies_in, not_none}
 use Rattle.cpg_sure.proofs.course.Courses.are_over_at.Goals as goal
 
 pub returns-then-are_early : goal.returns-then-are_early

@@ -4,7 +4,7 @@ use Rattle.cpg_cube.specs.Cube.{matches}
 use Rattle.cpg_cube.specs.Column.{Column}
 use Rattle.cpg_sure.specs.Order.{IsOverBy}
 use Rattle.cpg_sure.proofs.OrderLaws.{over_all}
-use Rattle.cpg_sure.proofs.SureLaws.{each_all, each_more}
+use Rattle.cpg_violation.proofs.SureLaws.{each_all, each_more}
 use Rattle.cpg_sure.proofs.course.Courses.come_before.Goals as goal
 
 pub loop-column-preserved : goal.loop-column-preserved

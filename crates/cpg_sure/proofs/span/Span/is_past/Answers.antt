@@ -1,5 +1,5 @@
 use Rattle.std.proofs.Common.{◌-◌, arith, get_or}
-use Rattle.cpg_sure.proofs.SureLaws.{on_le}
+use Rattle.cpg_violation.proofs.SureLaws.{on_le}
 use Rattle.cpg_sure.proofs.span.Span.is_past.Goals as goal
 
 pub returns : goal.returns

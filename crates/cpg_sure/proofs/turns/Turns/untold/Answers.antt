@@ -2,7 +2,7 @@ use Rattle.std.proofs.Common.{get_or, inr}
 use Rattle.std.proofs.lemmas.Bool.{OnTrue_at}
 use Rattle.std.proofs.lemmas.List.Elements.{All-more}
 use Rattle.cpg_sure.proofs.OrderLaws.{Known, apart_over, known_push, over_apart}
-use Rattle.cpg_sure.proofs.SureLaws.{each_all}
+use Rattle.cpg_violation.proofs.SureLaws.{each_all}
 use Rattle.cpg_sure.proofs.turns.Turns.untold.Goals as goal
 
 pub loop-item-preserved-then-is_before : goal.loop-item-preserved-then-is_before

@@ -2,7 +2,7 @@ use Rattle.std.proofs.Common.{arith}
 use Rattle.std.proofs.lemmas.Bool.{OnTrue_at}
 use Rattle.std.proofs.lemmas.List.Elements.{All-contains}
 use Rattle.cpg_sure.specs.Inputs.{IsInputThere, IsLateEnough}
-use Rattle.cpg_sure.proofs.SureLaws.{each_all, each_more}
+use Rattle.cpg_violation.proofs.SureLaws.{each_all, each_more}
 use Rattle.cpg_sure.proofs.waiting.Waiting.are_late_enough.Goals as goal
 
 pub loop-column-preserved : goal.loop-column-preserved

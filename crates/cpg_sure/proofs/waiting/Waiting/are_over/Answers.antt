@@ -3,7 +3,7 @@ use Rattle.std.proofs.lemmas.Bool.{OnTrue_at}
 use Rattle.std.proofs.lemmas.List.Elements.{All-more}
 use Rattle.cpg_base.specs.Activity.{live}
 use Rattle.cpg_sure.specs.Inputs.{IsInputOver}
-use Rattle.cpg_sure.proofs.SureLaws.{each_all}
+use Rattle.cpg_violation.proofs.SureLaws.{each_all}
 use Rattle.cpg_sure.proofs.waiting.Waiting.are_over.Goals as goal
 
 pub loop-edge-preserved : goal.loop-edge-preserved

@@ -1,0 +1,39 @@
+-- Rows that keep V1: column by column, or since all processes are always active.
+use Rattle.std.proofs.Common.{ℕ, ◌-◌, ◌<◌, ◌≤◌, ◌≡◌, Bool, true, false, not, ◌||◌, List, All, arith, refl, ap, ap₂, subst, inl, inr}
+use Rattle.std.proofs.lemmas.List.Elements.{All-contains}
+use Rattle.cpg_base.specs.Activity.{active}
+use Rattle.cpg_base.specs.Graph.{Graph, IsVariable, process_count, process_of_variable}
+use Rattle.cpg_base.proofs.Items.{process_of_below}
+use Rattle.cpg_base.proofs.Lists.{list_any_false}
+use Rattle.cpg_base.proofs.Variables.{of_count, of_value}
+use Rattle.cpg_base.specs.Scenario.{Scenario, IsScenario}
+use Rattle.cpg_cube.specs.Cube.{matches}
+use Rattle.cpg_cube.specs.declared.literal.Literal.{Literal}
+use Rattle.cpg_cube.specs.Fit.{IsKnown}
+use Rattle.cpg_table.specs.Table.{NodeTable, columns_of}
+use Rattle.cpg_cube.specs.Column.{Column}
+use Rattle.cpg_table.specs.Valid.{breaks_activity}
+use Rattle.cpg_table.specs.declared.rule.Rule.{Rule}
+use Rattle.cpg_violation.specs.Sure.{IsSure}
+use Rattle.cpg_violation.specs.Always.{AllAlways, IsUnconditional}
+use Rattle.cpg_violation.proofs.SureLaws.{sure_of}
+
+-- the item is active, and no literal's process is inactive
+pub both_active : (item none : Bool) → item ≡ true → none ≡ false → (not item || none) ≡ false
+both_active item none e f = ap₂ (λ a b. not a || b) e f
+
+process_within : (g : Graph) → process_count g ≤ 128 → (v : ℕ) → IsVariable g v → process_of_variable g v < process_count g
+process_within g few v (inl l) = subst (λ p. p < process_count g) (of_count g v few l) l
+process_within g few v (inr r) = subst (λ p. p < process_count g) (of_value g v r.0) (process_of_below g (v - 128) (omega (arith, r.0, r.1)))
+
+module _ (g : Graph) (tables : List NodeTable) (x : ℕ) where
+  pub lawful_sure : All (λ (c : Column). (s : Scenario) → IsScenario g s → matches c.cube s ≡ true → breaks_activity g s x c ≡ false) (columns_of tables x) → IsSure g tables Rule.Activity x
+  lawful_sure all = sure_of g tables Rule.Activity x refl
+      (λ s c earlier law k m. All-contains (λ (c : Column). (s : Scenario) → IsScenario g s → matches c.cube s ≡ true → breaks_activity g s x c ≡ false) (columns_of tables x) c all k s law m)
+
+  pub always_sure : process_count g ≤ 128 → AllAlways g → All (λ (c : Column). IsKnown g c.cube) (columns_of tables x)
+      → IsUnconditional g x → IsSure g tables Rule.Activity x
+  always_sure few always known item = sure_of g tables Rule.Activity x refl (λ s c earlier law k m. both_active _ _ (item s law)
+      (list_any_false (λ (l : Literal). not (active g s.values (process_of_variable g l.variable))) c.cube
+      (λ l j. ap not (always (process_of_variable g l.variable)
+      (process_within g few l.variable (All-contains (λ (l : Literal). IsVariable g l.variable) c.cube l (All-contains (λ (c : Column). IsKnown g c.cube) (columns_of tables x) c known k) j)) s law))))

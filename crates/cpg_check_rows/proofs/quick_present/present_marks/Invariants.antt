@@ -1,0 +1,9 @@
+use Rattle.std.proofs.Common.{List}
+use Rattle.cpg_table.specs.Table.{NodeTable}
+use Rattle.cpg_table.specs.declared.rule.Rule.{Rule}
+use Rattle.cpg_places.specs.Trees.{AreRowTrees}
+use Rattle.cpg_violation.proofs.SureLaws.{AreSoFar}
+use Rattle.cpg_check_rows.proofs.quick_present.present_marks.Given as goal
+
+abbrev pub invariant-loop-item : goal.invariant-loop-item
+invariant-loop-item l = (tables : List NodeTable) → AreRowTrees l.admitted.graph tables l.trees → AreSoFar l.admitted.graph tables Rule.Present l.item l.marks.items

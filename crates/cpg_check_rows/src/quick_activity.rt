@@ -1,0 +1,139 @@
+//! The quick test of V1: where a column matches, its item and the processes of its literals are active.
+ghost use Rattle.std.specs.Prelude.{◌≡◌, ◌<◌, ℕ, All, IfOk, false, not, true};
+ghost use Rattle.std.specs.Bool.{OnTrue};
+ghost use Rattle.std.specs.List.{list_any};
+ghost use Rattle.cpg_base.specs.Activity.{active};
+ghost use Rattle.cpg_base.specs.Graph.{item_count, process_count, process_of_variable};
+ghost use Rattle.cpg_base.specs.Scenario.{Scenario, IsScenario};
+ghost use Rattle.cpg_cube.specs.Cube.{matches};
+ghost use Rattle.cpg_cube.specs.Fit.{IsKnown};
+ghost use Rattle.cpg_table.specs.Valid.{breaks_activity};
+ghost use Rattle.cpg_table.specs.declared.rule.Rule.{Rule};
+ghost use Rattle.cpg_tree.specs.Space.{Lies};
+ghost use Rattle.cpg_violation.specs.Heads.{IsHeadFor};
+ghost use Rattle.cpg_violation.specs.Sure.{AreSure, IsSure};
+ghost use Rattle.cpg_violation.specs.Always.{AllAlways, AreAlways, IsUnconditional};
+
+use cpg_base::OutOfMemory;
+use cpg_cube::{Entry, Literal};
+use cpg_rules::Admitted;
+use cpg_table::Tables;
+use cpg_tree::Space;
+use cpg_violation::{always_active, are_all, is_item_running, is_marked, is_running};
+use std::alloc::Global;
+
+/// Whether a process is active in each scenario of a space. Most are active in every scenario.
+fn is_active(admitted: &Admitted, always: &[bool], process: u32, space: &Space) -> bool
+    requires process { process < process_count admitted.now.graph }
+    requires always { AreAlways admitted.now.graph always.now }
+    ensures { OnTrue result ((s : Scenario) → IsScenario admitted.now.graph s → Lies space.now s → active admitted.now.graph s.values process ≡ true) }
+{
+    if is_marked(always, process) {
+        return true;
+    }
+    is_running(admitted, process, space)
+}
+
+/// Whether the processes of these literals are active in each scenario of a space.
+fn are_active(admitted: &Admitted, always: &[bool], literals: &[Literal], space: &Space) -> bool
+    requires literals { IsKnown admitted.now.graph literals.now }
+    requires always { AreAlways admitted.now.graph always.now }
+    ensures { OnTrue result ((s : Scenario) → IsScenario admitted.now.graph s → Lies space.now s →
+        list_any (λ l. not (active admitted.now.graph s.values (process_of_variable admitted.now.graph l.variable))) literals.now ≡ false) }
+{
+    for literal in literals {
+        let process = admitted.problem().process_of_variable(literal.variable);
+        if !is_active(admitted, always, process, space) {
+            return false;
+        }
+    }
+    true
+}
+
+/// Whether an item and the processes of a column's literals are active wherever the column matches.
+fn is_lawful(admitted: &Admitted, always: &[bool], item: u32, column: &Entry) -> bool
+    requires item { item < item_count admitted.now.graph }
+    requires column { IsKnown admitted.now.graph column.now.cube }
+    requires always { AreAlways admitted.now.graph always.now }
+    ensures { OnTrue result ((s : Scenario) → IsScenario admitted.now.graph s → matches column.now.cube s ≡ true →
+        breaks_activity admitted.now.graph s item column.now ≡ false) }
+{
+    let literals = column.cube.literals();
+    let Some(space) = Space::of(admitted.problem().faults(), literals) else {
+        return true;
+    };
+    if !is_item_running(admitted, item, &space) {
+        return false;
+    }
+    are_active(admitted, always, literals, &space)
+}
+
+/// The same for each of these columns.
+fn are_lawful(admitted: &Admitted, always: &[bool], item: u32, columns: &[Entry]) -> bool
+    requires item { item < item_count admitted.now.graph }
+    requires columns { All (λ c. IsKnown admitted.now.graph c.cube) columns.now }
+    requires always { AreAlways admitted.now.graph always.now }
+    ensures { OnTrue result (All (λ c. (s : Scenario) → IsScenario admitted.now.graph s → matches c.cube s ≡ true →
+        breaks_activity admitted.now.graph s item c ≡ false) columns.now) }
+{
+    for column in columns {
+        if !is_lawful(admitted, always, item, column) {
+            return false;
+        }
+    }
+    true
+}
+
+/// Whether all processes are always active, and an item is too.
+fn is_plain(admitted: &Admitted, all: bool, item: u32) -> bool
+    requires item { item < item_count admitted.now.graph }
+    requires all { OnTrue all (AllAlways admitted.now.graph) }
+    ensures all { OnTrue result (AllAlways admitted.now.graph) }
+    ensures item { OnTrue result (IsUnconditional admitted.now.graph item) }
+{
+    if !all {
+        return false;
+    }
+    let space = Space::whole(admitted.problem().faults());
+    is_item_running(admitted, item, &space)
+}
+
+/// Whether a row keeps the rule. Where all processes are always active no column is looked at.
+fn is_sure(admitted: &Admitted, tables: &Tables, always: &[bool], all: bool, item: u32) -> bool
+    requires head { IsHeadFor admitted.now.graph tables.now.head }
+    requires item { item < item_count admitted.now.graph }
+    requires always { AreAlways admitted.now.graph always.now }
+    requires all { OnTrue all (AllAlways admitted.now.graph) }
+    ensures { OnTrue result (IsSure admitted.now.graph tables.now.nodes Rule.Activity item) }
+{
+    // its clause tells that the graph is admitted
+    let _problem = admitted.problem();
+    let columns = tables.columns_of(item);
+    if is_plain(admitted, all, item) {
+        return true;
+    }
+    are_lawful(admitted, always, item, columns)
+}
+
+/// The items of which each column has an active item and active processes of its literals, wherever it matches.
+pub(crate) fn activity_marks(
+    alloc: Global,
+    admitted: &Admitted,
+    tables: &Tables,
+) -> Result<Vec<bool>, OutOfMemory>
+    requires { IsHeadFor admitted.now.graph tables.now.head }
+    ensures { IfOk result (λ marks. AreSure admitted.now.graph tables.now.nodes Rule.Activity marks.items) }
+{
+    let always = always_active(alloc, admitted)?;
+    let all = are_all(
+        always.as_slice(),
+        admitted.problem().processes().len() as u32,
+    );
+    let count = admitted.problem().item_count();
+    let mut marks = Vec::new(alloc);
+    marks.reserve(count as usize)?;
+    for item in 0..count {
+        marks.push(is_sure(admitted, tables, always.as_slice(), all, item))?;
+    }
+    Ok(marks)
+}

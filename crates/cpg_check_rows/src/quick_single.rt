@@ -1,0 +1,26 @@
+//! The quick test of V2: no two columns of one row match.
+ghost use Rattle.std.specs.Prelude.{List, IfOk};
+ghost use Rattle.cpg_base.specs.Graph.{Graph};
+ghost use Rattle.cpg_table.specs.Table.{NodeTable};
+ghost use Rattle.cpg_table.specs.declared.rule.Rule.{Rule};
+ghost use Rattle.cpg_violation.specs.Sure.{AreSure};
+ghost use Rattle.cpg_places.specs.Trees.{AreRowTrees};
+
+use cpg_base::OutOfMemory;
+use cpg_places::Places;
+use std::alloc::Global;
+
+/// The items whose rows have trees: no two of their columns match together.
+pub(crate) fn single_marks(
+    alloc: Global,
+    trees: &[Option<Places>],
+) -> Result<Vec<bool>, OutOfMemory>
+    ensures { IfOk result (λ marks. (g : Graph) (tables : List NodeTable) → AreRowTrees g tables trees.now → AreSure g tables Rule.Single marks.items) }
+{
+    let mut marks = Vec::new(alloc);
+    marks.reserve(trees.len())?;
+    for tree in trees {
+        marks.push(tree.is_some())?;
+    }
+    Ok(marks)
+}

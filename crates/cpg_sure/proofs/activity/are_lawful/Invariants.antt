@@ -1,8 +1,0 @@
-use Rattle.std.proofs.Common.{◌≡◌, All, false, true, take}
-use Rattle.cpg_base.specs.Scenario.{Scenario, IsScenario}
-use Rattle.cpg_cube.specs.Cube.{matches}
-use Rattle.cpg_table.specs.Valid.{breaks_activity}
-use Rattle.cpg_sure.proofs.activity.are_lawful.Given as goal
-
-abbrev pub invariant-loop-column : goal.invariant-loop-column
-invariant-loop-column l = All (λ c. (s : Scenario) → IsScenario l.admitted.graph s → matches c.cube s ≡ true → breaks_activity l.admitted.graph s l.item c ≡ false) (take l.column-index l.columns)

@@ -1,7 +1,0 @@
-use Rattle.std.proofs.Common.{◌≡◌}
-use Rattle.cpg_cube.specs.Column.{Column}
-use Rattle.cpg_sure.proofs.SureLaws.{each_all}
-use Rattle.cpg_sure.proofs.frozen.is_one_time.Goals as goal
-
-pub returns : goal.returns
-returns c = (c.in-Some.first.now.time, each_all (λ (d : Column). d.time ≡ c.in-Some.first.now.time) c.args.columns.now c.loop-column.column-index c.loop-column-test.false c.loop-column.invariant)

@@ -1,5 +1,0 @@
-use Rattle.std.proofs.Common.{◌≡◌, All, take}
-use Rattle.cpg_sure.proofs.frozen.is_one_time.Given as goal
-
-abbrev pub invariant-loop-column : goal.invariant-loop-column
-invariant-loop-column l = All (λ c. c.time ≡ l.time) (take l.column-index l.columns)

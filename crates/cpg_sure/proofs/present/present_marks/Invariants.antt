@@ -1,9 +1,0 @@
-use Rattle.std.proofs.Common.{List}
-use Rattle.cpg_table.specs.Table.{NodeTable}
-use Rattle.cpg_table.specs.declared.rule.Rule.{Rule}
-use Rattle.cpg_sure.specs.Trees.{AreRowTrees}
-use Rattle.cpg_sure.proofs.SureLaws.{AreSoFar}
-use Rattle.cpg_sure.proofs.present.present_marks.Given as goal
-
-abbrev pub invariant-loop-item : goal.invariant-loop-item
-invariant-loop-item l = (tables : List NodeTable) → AreRowTrees l.admitted.graph tables l.trees → AreSoFar l.admitted.graph tables Rule.Present l.item l.marks.items

@@ -1,0 +1,18 @@
+use Rattle.std.proofs.Common.{rules, ◌≡◌, true, subst}
+use Rattle.std.proofs.lemmas.Bool.{OnTrue_at}
+use Rattle.cpg_base.specs.Activity.{active, takes, value_of}
+use Rattle.cpg_base.specs.Graph.{edge_at, is_message, source}
+use Rattle.cpg_tree.proofs.Passes.{of_true}
+use Rattle.cpg_violation.proofs.GuardLaws.{all_three}
+use Rattle.cpg_violation.proofs.guards.is_message_running.Goals as goal
+
+pub returns : goal.returns
+returns c =
+    let g = c.args.admitted.now.graph in
+    let e = c.args.edge in
+    let given : is_message c.problem-problem.result.now e ≡ true = search rules in
+    let sent : is_message g e ≡ true = subst (λ h. is_message h e ≡ true) c.problem-problem.ensures.problem given in
+    of_true c.is_running.result c.is_running.ensures (λ on s law lies.
+    all_three (is_message g e) (active g s.values (source g e)) (takes (edge_at g e).when (value_of g s.values (source g e))) sent
+    (rw (c.source.ensures.source, c.problem-problem.ensures.problem) at (on s law lies))
+    (rw c.problem-problem.ensures.problem at (OnTrue_at c.if-not-is_taken.false c.is_taken.ensures s lies)))

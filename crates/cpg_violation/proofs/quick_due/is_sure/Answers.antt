@@ -1,0 +1,15 @@
+use Rattle.std.proofs.Common.{◌≡◌, ◌≤◌, ◌+◌, All, true, subst}
+use Rattle.cpg_base.specs.Duration.{duration, due}
+use Rattle.cpg_base.specs.Scenario.{Scenario, IsScenario, fault_of}
+use Rattle.cpg_cube.specs.Cube.{matches}
+use Rattle.cpg_cube.specs.Column.{Column}
+use Rattle.cpg_tree.proofs.Passes.{of_true}
+use Rattle.cpg_violation.proofs.TimeLaws.{due_sure}
+use Rattle.cpg_violation.proofs.quick_due.is_sure.Goals as goal
+
+pub returns : goal.returns
+returns c =
+    let g = c.args.problem.now in
+    let p = c.args.item in
+    of_true c.all_end_in_time.result c.all_end_in_time.ensures
+    (λ all. due_sure g c.args.tables.now.nodes p (subst (λ xs. All (λ (d : Column). (s : Scenario) → IsScenario g s → matches d.cube s ≡ true → d.time + duration g p (fault_of s p) ≤ due g p) xs) c.columns_of.ensures.columns all))

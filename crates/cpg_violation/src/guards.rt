@@ -1,0 +1,201 @@
+//! Whether processes and items are active in all scenarios of a space, or in none, as quick tests ask it: what a yes says is so,
+//! and a no says nothing.
+ghost use Rattle.std.specs.Prelude.{◌≡◌, ◌≤◌, ◌<◌, ℕ, IfOk, false, true};
+ghost use Rattle.std.specs.Bool.{OnTrue};
+ghost use Rattle.cpg_base.specs.declared.limits.TheConstants.{MOST_CONDITIONS};
+ghost use Rattle.cpg_base.specs.Activity.{active, item_active, takes, value_of};
+ghost use Rattle.cpg_base.specs.Graph.{condition_count, edge_at, edge_count, item_at, item_count, process_count, source};
+ghost use Rattle.cpg_base.specs.Limits.{IsWithinLimits};
+ghost use Rattle.cpg_base.specs.declared.item.Item.{Item};
+ghost use Rattle.cpg_base.specs.Scenario.{Scenario, IsScenario};
+ghost use Rattle.cpg_rules.specs.Trees.{TestsBelow};
+ghost use Rattle.cpg_tree.specs.Space.{Lies};
+ghost use Rattle.cpg_violation.specs.Activity.{comes_to};
+ghost use Rattle.cpg_violation.specs.Always.{AreAlways};
+
+use crate::value_literal;
+use cpg_base::{Edge, Item, OutOfMemory, Problem};
+use cpg_rules::{Admitted, GuardTop, GuardTree};
+use cpg_tree::Space;
+use std::alloc::Global;
+
+/// Whether a tree comes to an activation, or else to none, as wanted, in no scenario of a space.
+fn is_never(tree: &GuardTree, wanted: bool, space: &Space) -> bool
+    requires { (n : ℕ) × (n ≤ MOST_CONDITIONS) × TestsBelow n tree.now }
+    ensures { OnTrue result ((s : Scenario) → Lies space.now s → comes_to tree.now wanted s ≡ false) }
+{
+    match tree.top() {
+        GuardTop::Leaf(activation) => activation.is_active() != wanted,
+        GuardTop::Test { condition, no, yes } => {
+            let on = value_literal(condition, true);
+            if space.tells(&on) {
+                return is_never(yes, wanted, space);
+            }
+            if !is_never(no, wanted, space) {
+                return false;
+            }
+            let off = value_literal(condition, false);
+            if space.tells(&off) {
+                return true;
+            }
+            is_never(yes, wanted, space)
+        }
+    }
+}
+
+/// Whether a process is active in no scenario of a space.
+fn is_idle(admitted: &Admitted, process: u32, space: &Space) -> bool
+    requires { process < process_count admitted.now.graph }
+    ensures { OnTrue result ((s : Scenario) → IsScenario admitted.now.graph s → Lies space.now s → active admitted.now.graph s.values process ≡ false) }
+{
+    is_never(admitted.guards().guard_of(process), true, space)
+}
+
+/// Whether a process is active in each scenario of a space. A no tells nothing.
+pub fn is_running(admitted: &Admitted, process: u32, space: &Space) -> bool
+    requires { process < process_count admitted.now.graph }
+    ensures { OnTrue result ((s : Scenario) → IsScenario admitted.now.graph s → Lies space.now s → active admitted.now.graph s.values process ≡ true) }
+{
+    is_never(admitted.guards().guard_of(process), false, space)
+}
+
+/// Which processes are known to be active in every scenario: what isn't marked may be. The one error is want of memory.
+pub fn always_active(alloc: Global, admitted: &Admitted) -> Result<Vec<bool>, OutOfMemory>
+    ensures { IfOk result (λ marks. AreAlways admitted.now.graph marks.items) }
+{
+    let problem = admitted.problem();
+    let space = Space::whole(problem.faults());
+    let count = problem.processes().len() as u32;
+    let mut marks = Vec::new(alloc);
+    marks.reserve(count as usize)?;
+    for process in 0..count {
+        marks.push(is_running(admitted, process, &space))?;
+    }
+    Ok(marks)
+}
+
+/// An edge.
+fn edge_of(problem: &Problem, edge: u32) -> Edge
+    requires { edge < edge_count problem.now }
+    ensures edge { result ≡ edge_at problem.now edge }
+    ensures from { result.from < process_count problem.now }
+    ensures within { IsWithinLimits problem.now }
+{
+    problem.edges()[edge as usize]
+}
+
+/// Whether the source of an edge has the value that the edge asks for in no scenario of a space. A no tells nothing.
+pub fn is_refused(problem: &Problem, edge: u32, space: &Space) -> bool
+    requires { edge < edge_count problem.now }
+    ensures { OnTrue result ((s : Scenario) → Lies space.now s →
+        takes (edge_at problem.now edge).when (value_of problem.now s.values (source problem.now edge)) ≡ false) }
+{
+    let edge = edge_of(problem, edge);
+    let Some(value) = edge.when else {
+        return false;
+    };
+    let Some(condition) = problem.condition_of(edge.from) else {
+        return false;
+    };
+    space.tells(&value_literal(condition, !value))
+}
+
+/// Whether the source of an edge has the value that the edge asks for in each scenario of a space.
+fn is_taken(problem: &Problem, edge: u32, space: &Space) -> bool
+    requires { edge < edge_count problem.now }
+    ensures { OnTrue result ((s : Scenario) → Lies space.now s →
+        takes (edge_at problem.now edge).when (value_of problem.now s.values (source problem.now edge)) ≡ true) }
+{
+    let edge = edge_of(problem, edge);
+    let Some(value) = edge.when else {
+        return true;
+    };
+    let Some(condition) = problem.condition_of(edge.from) else {
+        return false;
+    };
+    space.tells(&value_literal(condition, value))
+}
+
+/// Whether an edge's message is active in no scenario of a space.
+fn is_message_idle(admitted: &Admitted, edge: u32, space: &Space) -> bool
+    requires { edge < edge_count admitted.now.graph }
+    ensures { OnTrue result ((s : Scenario) → IsScenario admitted.now.graph s → Lies space.now s →
+        item_active admitted.now.graph s.values (Item.Message edge) ≡ false) }
+{
+    let problem = admitted.problem();
+    if !problem.is_message(edge) {
+        return true;
+    }
+    if is_refused(problem, edge, space) {
+        return true;
+    }
+    is_idle(admitted, problem.source(edge), space)
+}
+
+/// Whether an edge's message is active in each scenario of a space.
+fn is_message_running(admitted: &Admitted, edge: u32, space: &Space) -> bool
+    requires { edge < edge_count admitted.now.graph }
+    ensures { OnTrue result ((s : Scenario) → IsScenario admitted.now.graph s → Lies space.now s →
+        item_active admitted.now.graph s.values (Item.Message edge) ≡ true) }
+{
+    let problem = admitted.problem();
+    if !problem.is_message(edge) {
+        return false;
+    }
+    if !is_taken(problem, edge, space) {
+        return false;
+    }
+    is_running(admitted, problem.source(edge), space)
+}
+
+/// Whether a condition's broadcast is active in no scenario of a space.
+fn is_broadcast_idle(admitted: &Admitted, condition: u32, space: &Space) -> bool
+    requires { condition < condition_count admitted.now.graph }
+    ensures { OnTrue result ((s : Scenario) → IsScenario admitted.now.graph s → Lies space.now s →
+        item_active admitted.now.graph s.values (Item.Broadcast condition) ≡ false) }
+{
+    let problem = admitted.problem();
+    if problem.nodes().len() < 2 {
+        return true;
+    }
+    is_idle(admitted, problem.process_of(condition), space)
+}
+
+/// Whether a condition's broadcast is active in each scenario of a space.
+fn is_broadcast_running(admitted: &Admitted, condition: u32, space: &Space) -> bool
+    requires { condition < condition_count admitted.now.graph }
+    ensures { OnTrue result ((s : Scenario) → IsScenario admitted.now.graph s → Lies space.now s →
+        item_active admitted.now.graph s.values (Item.Broadcast condition) ≡ true) }
+{
+    let problem = admitted.problem();
+    if problem.nodes().len() < 2 {
+        return false;
+    }
+    is_running(admitted, problem.process_of(condition), space)
+}
+
+/// Whether an item is active in no scenario of a space. A no tells nothing.
+pub fn is_item_idle(admitted: &Admitted, item: u32, space: &Space) -> bool
+    requires { item < item_count admitted.now.graph }
+    ensures { OnTrue result ((s : Scenario) → IsScenario admitted.now.graph s → Lies space.now s →
+        item_active admitted.now.graph s.values (item_at admitted.now.graph item) ≡ false) }
+{
+    match admitted.problem().item(item) {
+        Item::Start(process) => is_idle(admitted, process, space),
+        Item::Message(edge) => is_message_idle(admitted, edge, space),
+        Item::Broadcast(condition) => is_broadcast_idle(admitted, condition, space),
+    }
+}
+
+/// Whether an item is active in each scenario of a space. A no tells nothing.
+pub fn is_item_running(admitted: &Admitted, item: u32, space: &Space) -> bool
+    requires { item < item_count admitted.now.graph }
+    ensures { OnTrue result ((s : Scenario) → IsScenario admitted.now.graph s → Lies space.now s →
+        item_active admitted.now.graph s.values (item_at admitted.now.graph item) ≡ true) }
+{
+    match admitted.problem().item(item) {
+        Item::Start(process) => is_running(admitted, process, space),
+        Item::Message(edge) => is_message_running(admitted, edge, space),
+        Item::Broadcast(condition) => is_broadcast_running(admitted, condition, space),
+    }
+}

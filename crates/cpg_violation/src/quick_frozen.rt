@@ -1,0 +1,57 @@
+//! The quick test of V8, which asks nothing of other items: a frozen item has one time.
+ghost use Rattle.std.specs.Prelude.{◌≡◌, ◌<◌, ℕ, All, IfOk};
+ghost use Rattle.std.specs.Bool.{OnTrue};
+ghost use Rattle.cpg_base.specs.Graph.{item_count};
+ghost use Rattle.cpg_table.specs.declared.rule.Rule.{Rule};
+ghost use Rattle.cpg_violation.specs.Sure.{AreSure, IsSure};
+
+use cpg_base::{OutOfMemory, Problem};
+use cpg_cube::Entry;
+use cpg_rules::Admitted;
+use cpg_table::Tables;
+use std::alloc::Global;
+
+/// Whether all these columns are at one time, also those that match in no scenario.
+fn is_one_time(columns: &[Entry]) -> bool
+    ensures { OnTrue result ((time : ℕ) × All (λ c. c.time ≡ time) columns.now) }
+{
+    let Some(first) = columns.first() else {
+        return true;
+    };
+    let time = first.time;
+    for column in columns {
+        if column.time != time {
+            return false;
+        }
+    }
+    true
+}
+
+/// Whether a row keeps the rule.
+fn is_sure(problem: &Problem, tables: &Tables, item: u32) -> bool
+    requires { item < item_count problem.now }
+    ensures { OnTrue result (IsSure problem.now tables.now.nodes Rule.Frozen item) }
+{
+    if !problem.is_frozen(item) {
+        return true;
+    }
+    is_one_time(tables.columns_of(item))
+}
+
+/// Items that aren't frozen, or have one time; one that isn't marked may be one. The one error is want of memory.
+pub fn frozen_marks(
+    alloc: Global,
+    admitted: &Admitted,
+    tables: &Tables,
+) -> Result<Vec<bool>, OutOfMemory>
+    ensures { IfOk result (λ marks. AreSure admitted.now.graph tables.now.nodes Rule.Frozen marks.items) }
+{
+    let problem = admitted.problem();
+    let count = problem.item_count();
+    let mut marks = Vec::new(alloc);
+    marks.reserve(count as usize)?;
+    for item in 0..count {
+        marks.push(is_sure(problem, tables, item))?;
+    }
+    Ok(marks)
+}
