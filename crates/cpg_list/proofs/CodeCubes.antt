@@ -7,7 +7,7 @@ use Rattle.cpg_base.proofs.Lists.{Contains-first, Contains-rest, Contains-cases,
 use Rattle.cpg_base.proofs.Pairs.{AllPairs-nil}
 use Rattle.cpg_cube.specs.Cube.{IsRising, low_in, high_in}
 use Rattle.cpg_base.specs.Variable.{top}
-use Rattle.cpg_cube.specs.Cover.{meet_literal, narrowed_by}
+use Rattle.cpg_cube.specs.Narrow.{meet_literal, narrowed_by}
 use Rattle.cpg_cube.specs.declared.literal.Literal.{Literal}
 use Rattle.cpg_cube.proofs.Narrowed.{low-other, low-same, high-other, high-same}
 use Rattle.cpg_cube.proofs.Narrow.{narrowed-before, narrowed-here, narrowed-after, rising-narrowed, variables_of_narrowed}

@@ -9,8 +9,8 @@ use Rattle.cpg_base.specs.Numbers.{greatest}
 use Rattle.cpg_base.specs.Graph.{Graph, process_count, item_count, process_at, item_at, is_frozen, is_frozen_item}
 use Rattle.cpg_base.specs.Activity.{active, item_active}
 use Rattle.cpg_base.proofs.Items.{item_at-start}
-use Rattle.cpg_list.specs.Listing.{AreScenarios}
-use Rattle.cpg_list.specs.Runs.{AreRuns}
+use Rattle.cpg_all_runs.specs.Listing.{AreScenarios}
+use Rattle.cpg_all_runs.specs.Runs.{AreRuns}
 use Rattle.cpg_base.specs.Scenario.{Scenario, IsScenario}
 use Rattle.cpg_order.specs.Urgency.{IsTopological}
 use Rattle.cpg_base.specs.Order.{before_on_node}

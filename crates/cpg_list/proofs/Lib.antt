@@ -1,14 +1,4 @@
 pub mod FoundRows
-pub mod ActiveAlike
-pub mod Ends
-pub mod FewWays
-pub mod Firsts
-pub mod Latests
-pub mod Listed
-pub mod Measured
-pub mod Placed
-pub mod Showing
-pub mod Swept
 pub mod CodeCubes
 pub mod CodeFirst
 pub mod CodeLeast

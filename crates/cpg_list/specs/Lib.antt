@@ -1,11 +1,4 @@
-pub mod Active
-pub mod FirstAlike
 pub mod Found
-pub mod Listing
-pub mod Peaks
-pub mod Placed
-pub mod Runs
-pub mod Sweep
 pub mod Learning
 pub mod Frames
 pub mod Made

@@ -15,9 +15,9 @@ use Rattle.cpg_run.specs.RowLaws.{SameRowsBefore}
 use Rattle.cpg_run.specs.Run.{Times, IsRun}
 use Rattle.cpg_run.specs.Rows.{AreEntriesOf}
 use Rattle.cpg_list.specs.Learning.{EarlierTell}
-use Rattle.cpg_list.specs.Listing.{AreScenarios}
+use Rattle.cpg_all_runs.specs.Listing.{AreScenarios}
 use Rattle.cpg_list.specs.Made.{AreCarried, AreCubesOf, AreEndsOf, AreMade, IsBefore, IsStarted, passed_by, queued_by, sent_before}
-use Rattle.cpg_list.specs.Runs.{AreRuns}
+use Rattle.cpg_all_runs.specs.Runs.{AreRuns}
 use Rattle.cpg_list.specs.declared.scenario_runs.Listed.{Listed}
 
 abbrev pub graph_of : Listed → Graph

@@ -3,7 +3,7 @@ use Rattle.std.specs.Prelude.{ℕ, ◌≡◌, ◌≢◌, min, nat_lt, ◌==◌, 
 use Rattle.std.specs.List.{flat_map}
 use Rattle.cpg_base.specs.Graph.{Graph}
 use Rattle.cpg_base.specs.Scenario.{Scenario}
-use Rattle.cpg_cube.specs.Cover.{narrowed_by}
+use Rattle.cpg_cube.specs.Narrow.{narrowed_by}
 use Rattle.cpg_cube.specs.Cube.{matches}
 use Rattle.cpg_cube.specs.Fit.{lows}
 use Rattle.cpg_cube.specs.declared.literal.Literal.{Literal}

@@ -2,7 +2,7 @@
 ghost use Rattle.std.specs.Prelude.{◌≡◌, ◌++◌, ◌∷◌, [], ℕ, List, OnOk};
 ghost use Rattle.cpg_base.specs.Scenario.{IsScenario};
 ghost use Rattle.cpg_cube.specs.Cube.{IsRising};
-ghost use Rattle.cpg_cube.specs.Cover.{meet_literal};
+ghost use Rattle.cpg_cube.specs.Narrow.{meet_literal};
 ghost use Rattle.cpg_run.specs.Carried.{number_known};
 ghost use Rattle.cpg_list.specs.Narrowing.{met, IsNarrowed};
 ghost use Rattle.cpg_run.specs.Rows.{IsCubeOf};

@@ -3,7 +3,7 @@ ghost use Rattle.std.specs.Prelude.{◌≡◌, ◌<◌, ◌+◌, IfOk, OnOk, len
 ghost use Rattle.cpg_base.specs.Graph.{process_count, item_count};
 ghost use Rattle.cpg_base.specs.Numbers.{numbers_below};
 ghost use Rattle.cpg_bus.specs.Plan.{plan_of};
-ghost use Rattle.cpg_list.specs.Listing.{AreScenarios};
+ghost use Rattle.cpg_all_runs.specs.Listing.{AreScenarios};
 ghost use Rattle.cpg_order.specs.Urgency.{IsTopological};
 ghost use Rattle.cpg_base.specs.Order.{place};
 ghost use Rattle.cpg_run.specs.Frozen.{AreFrozenTimes};
@@ -12,7 +12,7 @@ ghost use Rattle.cpg_table.specs.Shape.{items_of};
 ghost use Rattle.cpg_list.specs.Listed.{Carries, HasEnds, HasMadeBefore, HasMadeStart, HasPassed, HasPassedBy, HasQueued, IsListed, KeepsEarlier, graph_of};
 ghost use Rattle.cpg_list.specs.Made.{IsRowSet};
 ghost use Rattle.cpg_run.specs.Rows.{AreRows};
-ghost use Rattle.cpg_list.specs.Runs.{AreRuns};
+ghost use Rattle.cpg_all_runs.specs.Runs.{AreRuns};
 
 use crate::items::empty_rows;
 use crate::scenario_runs::Listed;

@@ -4,7 +4,7 @@ ghost use Rattle.cpg_base.specs.Activity.{item_active};
 ghost use Rattle.cpg_base.specs.Graph.{process_count, item_at, is_frozen};
 ghost use Rattle.cpg_base.specs.Scenario.{IsScenario};
 ghost use Rattle.cpg_cube.specs.declared.literal.Literal.{Literal};
-ghost use Rattle.cpg_list.specs.Listing.{AreScenarios};
+ghost use Rattle.cpg_all_runs.specs.Listing.{AreScenarios};
 ghost use Rattle.cpg_bus.specs.Plan.{queue_of};
 ghost use Rattle.cpg_run.specs.Carried.{decided, number_known, sent_by_value};
 ghost use Rattle.cpg_list.specs.Learning.{IsEndOf, Within, send_after, queued_after, IsTimedIfActive, IsSentValue};

@@ -4,17 +4,18 @@ ghost use Rattle.cpg_base.specs.Graph.{item_count};
 ghost use Rattle.cpg_bus.specs.Plan.{plan_of};
 ghost use Rattle.cpg_run.specs.Frozen.{AreFrozenTimes};
 ghost use Rattle.cpg_run.specs.Known.{AreEarly};
-ghost use Rattle.cpg_list.specs.FirstAlike.{AreFirstAlike};
-ghost use Rattle.cpg_list.specs.Listing.{AreScenarios};
-ghost use Rattle.cpg_list.specs.Runs.{AreRuns};
+ghost use Rattle.cpg_all_runs.specs.FirstAlike.{AreFirstAlike};
+ghost use Rattle.cpg_all_runs.specs.Listing.{AreScenarios};
+ghost use Rattle.cpg_all_runs.specs.Runs.{AreRuns};
 
 use crate::columns::{Column, are_rows};
 use crate::fixtures::{FROZEN, PAIR, admitted};
+use cpg_all_runs::{
+    Peak, excess, first_alike, frozen_times, has_few_scenarios, runs, scenarios, worst,
+};
 use cpg_base::{OutOfMemory, Scenario};
 use cpg_bus::Plan;
-use cpg_list::{
-    Peak, excess, first_alike, frozen_times, has_few_scenarios, rows, runs, scenarios, worst,
-};
+use cpg_list::rows;
 use cpg_rules::Admitted;
 use cpg_run::{Frozen, RunTimes};
 use cpg_table::Row;

@@ -1,0 +1,10 @@
+pub mod ActiveAlike
+pub mod Ends
+pub mod FewWays
+pub mod Firsts
+pub mod Latests
+pub mod Listed
+pub mod Measured
+pub mod Placed
+pub mod Showing
+pub mod Swept

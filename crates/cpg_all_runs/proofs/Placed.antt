@@ -1,0 +1,177 @@
+-- Look-ups of places by numbers.
+use Rattle.std.proofs.Common.{Ordering, Less, Equal, Greater, ◌≡◌, ◌≢◌, ◌∙◌, ℕ, ◌+◌, ◌<◌, ◌≤◌, true, Bool, false, List, [], ◌∷◌, ◌++◌, map, All, length, length-append, get_or, Some, None, rules, refl, sym, ap, subst, inl, inr, arith}
+use Rattle.std.proofs.lemmas.Bool.{cases_Bool, cases_eq, cases_lt}
+use Rattle.std.proofs.lemmas.Option.{none-some}
+use Rattle.std.proofs.lemmas.List.{append_assoc, get_or_append_left}
+use Rattle.std.proofs.lemmas.List.Elements.{All-head, All-tail, All-cons, All-weaker}
+use Rattle.std.proofs.lemmas.Map.Entries.{lookup_head, lookup_tail}
+use Rattle.std.proofs.lemmas.Map.Lookups.{exact_bytes}
+use Rattle.std.proofs.Math.Seq.{get_or-append_seam}
+use Rattle.std.specs.BTreeMap.{is_at, insert_entry}
+use Rattle.std.specs.Cmp.{Equal-is}
+use Rattle.std.specs.Cmp.Lexicographic.{slice_cmp, bytes_decides, texts_ties}
+use Rattle.std.specs.Global.{Vec}
+use Rattle.std.specs.Map.{lookup}
+use Rattle.std.specs.Ordering.{nat_cmp, is_eq, match_ordering}
+use Rattle.cpg_base.specs.Numbers.{numbers_below}
+use Rattle.cpg_base.proofs.Lists.{map_below_push}
+use Rattle.cpg_all_runs.specs.FirstAlike.{AreFirstPlaces}
+use Rattle.cpg_all_runs.specs.Placed.{place_in, with_place, GetsPlace}
+
+-- numbers are told one after another behind others
+pub map_below_after : (f : ℕ → ℕ) (before xs more : List ℕ) (v n : ℕ) → xs ≡ before ++ map f (numbers_below n) → v ≡ f n → more ≡ xs ++ v ∷ [] → more ≡ before ++ map f (numbers_below (n + 1))
+map_below_after f before xs more v n is new pushed =
+    pushed ∙ ap (λ ys. ys ++ v ∷ []) is ∙ append_assoc before (map f (numbers_below n)) (v ∷ [])
+    ∙ ap (λ ys. before ++ ys) (map_below_push f (map f (numbers_below n)) (map f (numbers_below n) ++ v ∷ []) v n refl new refl)
+
+same_some : (a b : ℕ) → Some a ≡ Some b → a ≡ b
+same_some a b e = cc
+
+module _ (P : Vec ℕ × ℕ → Type 0) where
+  placed_found : (f : Vec ℕ → Ordering) (es : List (Vec ℕ × ℕ)) (i : ℕ) → All P es → lookup (is_at f) es ≡ Some i → (k : Vec ℕ) × (f k ≡ Equal) × P (k, i)
+  placed_found f [] i a e = absurd (none-some i e)
+  placed_found f (x ∷ es) i a e = elim (cases_Bool (is_at f x.0)) [
+    | inl t ↦ (x.0, (Equal-is (f x.0)).0 t, subst (λ n. P (x.0, n)) (same_some x.1 i (sym (lookup_head (is_at f) x es t) ∙ e)) (All-head P x es a))
+    | inr t ↦ placed_found f es i (All-tail P x es a) (sym (lookup_tail (is_at f) x es t) ∙ e)
+  ]
+
+  put_by_order : (k : Vec ℕ) (v : ℕ) (e : Vec ℕ × ℕ) (es rest : List (Vec ℕ × ℕ)) → P (k, v) → (o : Ordering) → (o ≡ Equal → P (e.0, v)) → All P (e ∷ es) → All P rest → All P (match_ordering o ((k, v) ∷ e ∷ es) ((e.0, v) ∷ es) (e ∷ rest))
+  put_by_order k v e es rest p Less q a r = All-cons P (k, v) (e ∷ es) p a
+  put_by_order k v e es rest p Equal q a r = All-cons P (e.0, v) es (q refl) (All-tail P e es a)
+  put_by_order k v e es rest p Greater q a r = All-cons P e rest (All-head P e es a) r
+
+  placed_inserted : (cmp : Vec ℕ → Vec ℕ → Ordering) (k : Vec ℕ) (v : ℕ) → P (k, v) → ((j : Vec ℕ) → cmp k j ≡ Equal → P (j, v)) → (es : List (Vec ℕ × ℕ)) → All P es → All P (insert_entry cmp es k v)
+  placed_inserted cmp k v p q [] a = All-cons P (k, v) [] p a
+  placed_inserted cmp k v p q (e ∷ es) a = put_by_order k v e es (insert_entry cmp es k v) p (cmp k e.0) (q e.0) a (placed_inserted cmp k v p q es (All-tail P e es a))
+
+-- an entry's place is below n, and the first that has its numbers
+abbrev pub IsPlaced : (ℕ → List ℕ) → ℕ → Vec ℕ × ℕ → Type 0
+IsPlaced f n e = (e.1 < n) × (f e.1 ≡ e.0.items) × ((j : ℕ) → f j ≡ e.0.items → e.1 ≤ j)
+
+-- the numbers of the first n places have their first places
+pub record ArePlaced (f : ℕ → List ℕ) (n : ℕ) (entries : List (Vec ℕ × ℕ)) : Type 0 where
+  pub each : All (IsPlaced f n) entries
+  pub all : (i : ℕ) → i < n → place_in entries (f i) ≢ None
+
+abbrev is_key : List ℕ → Vec ℕ → Bool
+is_key numbers k = is_at (λ (j : Vec ℕ). slice_cmp nat_cmp numbers j.items) k
+
+key_itself : (numbers : List ℕ) → is_eq (slice_cmp nat_cmp numbers numbers) ≡ true
+key_itself numbers = sym (texts_ties numbers numbers) ∙ (bytes_decides numbers numbers).1 refl
+
+module _ (numbers : List ℕ) where
+  known_head : (e : Vec ℕ × ℕ) (es : List (Vec ℕ × ℕ)) → is_key numbers e.0 ≡ true → place_in (e ∷ es) numbers ≢ None
+  known_head e es t none = none-some e.1 (sym none ∙ lookup_head (is_key numbers) e es t)
+
+  known_tail : (e : Vec ℕ × ℕ) (es : List (Vec ℕ × ℕ)) → place_in es numbers ≢ None → place_in (e ∷ es) numbers ≢ None
+  known_tail e es h none = elim (cases_Bool (is_key numbers e.0)) [
+    | inl t ↦ known_head e es t none
+    | inr t ↦ h (sym (lookup_tail (is_key numbers) e es t) ∙ none)
+  ]
+
+  known_behind : (e : Vec ℕ × ℕ) (es : List (Vec ℕ × ℕ)) → is_key numbers e.0 ≡ false → place_in (e ∷ es) numbers ≢ None → place_in es numbers ≢ None
+  known_behind e es t h none = h (lookup_tail (is_key numbers) e es t ∙ none)
+
+  known_again : (e : Vec ℕ × ℕ) (v : ℕ) (es : List (Vec ℕ × ℕ)) → place_in (e ∷ es) numbers ≢ None → place_in ((e.0, v) ∷ es) numbers ≢ None
+  known_again e v es h = elim (cases_Bool (is_key numbers e.0)) [
+    | inl t ↦ known_head (e.0, v) es t
+    | inr t ↦ known_tail (e.0, v) es (known_behind e es t h)
+  ]
+
+  module _ (k : Vec ℕ) (v : ℕ) where
+    kept_by_order : (e : Vec ℕ × ℕ) (es rest : List (Vec ℕ × ℕ)) → place_in (e ∷ es) numbers ≢ None → (place_in es numbers ≢ None → place_in rest numbers ≢ None) → (o : Ordering)
+        → place_in (match_ordering o ((k, v) ∷ e ∷ es) ((e.0, v) ∷ es) (e ∷ rest)) numbers ≢ None
+    kept_by_order e es rest h r Less = known_tail (k, v) (e ∷ es) h
+    kept_by_order e es rest h r Equal = known_again e v es h
+    kept_by_order e es rest h r Greater = elim (cases_Bool (is_key numbers e.0)) [
+      | inl t ↦ known_head e rest t
+      | inr t ↦ known_tail e rest (r (known_behind e es t h))
+    ]
+
+    -- what has a place keeps one
+    known_kept : (es : List (Vec ℕ × ℕ)) → place_in es numbers ≢ None → place_in (with_place es k v) numbers ≢ None
+    known_kept [] h = absurd (h refl)
+    known_kept (e ∷ es) h = kept_by_order e es (with_place es k v) h (known_kept es) (slice_cmp nat_cmp k.items e.0.items)
+
+module _ (k : Vec ℕ) (v : ℕ) where
+  put_in_order : (e : Vec ℕ × ℕ) (es rest : List (Vec ℕ × ℕ)) → place_in rest k.items ≢ None → (o : Ordering) → slice_cmp nat_cmp k.items e.0.items ≡ o
+      → place_in (match_ordering o ((k, v) ∷ e ∷ es) ((e.0, v) ∷ es) (e ∷ rest)) k.items ≢ None
+  put_in_order e es rest r Less at = known_head k.items (k, v) (e ∷ es) (key_itself k.items)
+  put_in_order e es rest r Equal at = known_head k.items (e.0, v) es (ap is_eq at)
+  put_in_order e es rest r Greater at = known_tail k.items e rest r
+
+  -- what is put has a place
+  known_put : (es : List (Vec ℕ × ℕ)) → place_in (with_place es k v) k.items ≢ None
+  known_put [] = known_head k.items (k, v) [] (key_itself k.items)
+  known_put (e ∷ es) = put_in_order e es (with_place es k v) (known_put es) (slice_cmp nat_cmp k.items e.0.items) refl
+
+module _ (f : ℕ → List ℕ) (n : ℕ) where
+  pub none_placed : ArePlaced f 0 []
+  none_placed = record { each = search rules; all = λ i l. absurd (omega arith) }
+
+  module _ (old new : List (Vec ℕ × ℕ)) (k : Vec ℕ) (place : ℕ) (a : ArePlaced f n old) (is : k.items ≡ f n) (gets : GetsPlace k n old new place) where
+    -- where the numbers have no place, none before n has them
+    unknown_least : place_in old k.items ≡ None → (j : ℕ) → f j ≡ f n → n ≤ j
+    unknown_least none j e = elim (cases_lt j n) [
+      | inl l ↦ absurd (a.all j l (ap (place_in old) (e ∙ sym is) ∙ none))
+      | inr h ↦ h
+    ]
+
+    pub first_place : (f place ≡ f n) × ((j : ℕ) → f j ≡ f n → place ≤ j)
+    first_place = elim gets [
+      | inl c ↦
+          let r = placed_found (IsPlaced f n) (λ (j : Vec ℕ). slice_cmp nat_cmp k.items j.items) old place a.each c.0 in
+          let same : k.items ≡ r.0.items = exact_bytes k.items r.0.items r.1 in
+          (r.2.1 ∙ sym same ∙ is, λ j e. r.2.2 j (e ∙ sym is ∙ same))
+      | inr c ↦ (ap f c.1, λ j e. let l = unknown_least c.0 j e in omega (arith, c.1))
+    ]
+
+    each_still : All (IsPlaced f (n + 1)) old
+    each_still = All-weaker (IsPlaced f n) (IsPlaced f (n + 1)) (λ e p. (omega (arith, p.0), p.1, p.2)) old a.each
+
+    each_more : All (IsPlaced f (n + 1)) new
+    each_more = elim gets [
+      | inl c ↦ subst (All (IsPlaced f (n + 1))) (sym c.1) each_still
+      | inr c ↦ subst (All (IsPlaced f (n + 1))) (sym c.2)
+          (placed_inserted (IsPlaced f (n + 1)) (λ x y. slice_cmp nat_cmp x.items y.items) k n
+          (omega arith, sym is, λ j e. unknown_least c.0 j (e ∙ is))
+          (λ j e. let same : k.items ≡ j.items = exact_bytes k.items j.items e in (omega arith, sym is ∙ same, λ i h. unknown_least c.0 i (h ∙ sym same ∙ is)))
+          old each_still)
+    ]
+
+    known_still : (numbers : List ℕ) → place_in old numbers ≢ None → place_in new numbers ≢ None
+    known_still numbers h = elim gets [
+      | inl c ↦ subst (λ es. place_in es numbers ≢ None) (sym c.1) h
+      | inr c ↦ subst (λ es. place_in es numbers ≢ None) (sym c.2) (known_kept numbers k n old h)
+    ]
+
+    known_now : place_in new k.items ≢ None
+    known_now = elim gets [
+      | inl c ↦ subst (λ es. place_in es k.items ≢ None) (sym c.1) (λ none. none-some place (sym none ∙ c.0))
+      | inr c ↦ subst (λ es. place_in es k.items ≢ None) (sym c.2) (known_put k n old)
+    ]
+
+    pub places_more : ArePlaced f (n + 1) new
+    places_more = record {
+      each = each_more;
+      all = λ i l. elim (cases_eq i n) [
+        | inl e ↦ subst (λ numbers. place_in new numbers ≢ None) (is ∙ ap f (sym e)) known_now
+        | inr apart ↦ known_still (f i) (a.all i (omega arith))
+      ];
+    }
+
+    pub firsts_more : (firsts more : List ℕ) → AreFirstPlaces f n firsts → more ≡ firsts ++ place ∷ [] → AreFirstPlaces f (n + 1) more
+    firsts_more firsts more b pushed =
+        let before : (i : ℕ) → i < n → get_or more i 0 ≡ get_or firsts i 0 = λ i l. ap (λ xs. get_or xs i 0) pushed ∙ get_or_append_left firsts (place ∷ []) 0 i (omega (arith, b.count)) in
+        let now : get_or more n 0 ≡ place = ap (λ xs. get_or xs n 0) pushed ∙ ap (λ i. get_or (firsts ++ place ∷ []) i 0) (sym b.count) ∙ get_or-append_seam firsts place [] 0 in
+        record {
+          count = ap length pushed ∙ length-append firsts (place ∷ []) ∙ ap (λ m. m + 1) b.count;
+          same = λ i l. elim (cases_eq i n) [
+            | inl e ↦ ap (λ j. f (get_or more j 0)) e ∙ ap f now ∙ first_place.0 ∙ ap f (sym e)
+            | inr apart ↦ ap f (before i (omega arith)) ∙ b.same i (omega arith)
+          ];
+          least = λ i j l h. elim (cases_eq i n) [
+            | inl e ↦ let k = first_place.1 j (h ∙ ap f e) in omega (arith, ap (λ j. get_or more j 0) e, now)
+            | inr apart ↦ let k = b.least i j (omega arith) h in omega (arith, before i (omega arith))
+          ];
+        }

@@ -1,0 +1,7 @@
+use Rattle.std.proofs.Common.{◌≡◌, ◌++◌, map}
+use Rattle.cpg_base.specs.Numbers.{numbers_below}
+use Rattle.cpg_all_runs.specs.Listing.{with_fault}
+use Rattle.cpg_all_runs.proofs.enumeration.add_faults.Given as goal
+
+abbrev pub invariant-loop-faults : goal.invariant-loop-faults
+invariant-loop-faults l = l.scenarios.items ≡ l.fn.scenarios.items ++ map (with_fault l.process l.scenario) (numbers_below l.faults)

@@ -1,0 +1,6 @@
+use Rattle.std.proofs.Common.{◌≡◌}
+use Rattle.cpg_all_runs.specs.Listing.{with_faults_below}
+use Rattle.cpg_all_runs.proofs.enumeration.faulty.Given as goal
+
+abbrev pub invariant-loop-process : goal.invariant-loop-process
+invariant-loop-process l = l.list.items ≡ with_faults_below l.problem l.process

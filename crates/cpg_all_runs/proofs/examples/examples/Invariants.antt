@@ -1,0 +1,8 @@
+use Rattle.cpg_base.specs.Graph.{Graph}
+use Rattle.cpg_all_runs.specs.FirstAlike.{AreFirstAlike}
+use Rattle.cpg_all_runs.specs.Listing.{AreScenarios}
+use Rattle.cpg_all_runs.proofs.Showing.{AreFirstExamples}
+use Rattle.cpg_all_runs.proofs.examples.examples.Given as goal
+
+abbrev pub invariant-loop-at : goal.invariant-loop-at
+invariant-loop-at l = (g : Graph) → AreScenarios g l.scenarios → AreFirstAlike g l.scenarios l.firsts → AreFirstExamples g l.at l.scenarios l.list.items

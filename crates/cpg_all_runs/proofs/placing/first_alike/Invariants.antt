@@ -1,0 +1,9 @@
+use Rattle.cpg_all_runs.specs.FirstAlike.{numbers_at, AreFirstPlaces}
+use Rattle.cpg_all_runs.proofs.Placed.{ArePlaced}
+use Rattle.cpg_all_runs.proofs.placing.first_alike.Given as goal
+
+abbrev pub invariant-loop-at : goal.invariant-loop-at
+invariant-loop-at l = record {
+  places : ArePlaced (numbers_at l.admitted.graph l.scenarios) l.at l.places.entries;
+  firsts : AreFirstPlaces (numbers_at l.admitted.graph l.scenarios) l.at l.firsts.items;
+}

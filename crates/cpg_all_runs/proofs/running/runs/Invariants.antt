@@ -1,0 +1,5 @@
+use Rattle.cpg_all_runs.specs.Runs.{AreFirstRuns}
+use Rattle.cpg_all_runs.proofs.running.runs.Given as goal
+
+abbrev pub invariant-loop-at : goal.invariant-loop-at
+invariant-loop-at l = AreFirstRuns l.admitted.graph l.order l.frozen l.at l.scenarios l.runs.items

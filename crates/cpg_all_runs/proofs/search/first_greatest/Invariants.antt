@@ -1,0 +1,5 @@
+use Rattle.cpg_all_runs.specs.Peaks.{IsFirstGreatest}
+use Rattle.cpg_all_runs.proofs.search.first_greatest.Given as goal
+
+abbrev pub invariant-loop-next : goal.invariant-loop-next
+invariant-loop-next l = IsFirstGreatest l.problem l.urgency l.next l.scenarios l.numbers l.at

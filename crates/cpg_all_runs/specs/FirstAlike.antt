@@ -1,0 +1,22 @@
+-- Which scenarios of a list have the same active numbers.
+use Rattle.std.specs.Prelude.{ℕ, ◌≡◌, ◌≤◌, ◌<◌, List, length, get_or}
+use Rattle.cpg_base.specs.Graph.{Graph}
+use Rattle.cpg_base.specs.Scenario.{Scenario, zero_scenario}
+use Rattle.cpg_all_runs.specs.Active.{active_numbers, HaveSameRuns}
+
+abbrev pub scenario_at : Graph → List Scenario → ℕ → Scenario
+scenario_at g list i = get_or list i (zero_scenario g)
+
+abbrev pub numbers_at : Graph → List Scenario → ℕ → List ℕ
+numbers_at g list i = active_numbers g (scenario_at g list i)
+
+-- for each of the first n places the first place where f has the same value
+pub record AreFirstPlaces (f : ℕ → List ℕ) (n : ℕ) (firsts : List ℕ) : Type 0 where
+  pub count : length firsts ≡ n
+  pub same : (i : ℕ) → i < n → f (get_or firsts i 0) ≡ f i
+  pub least : (i j : ℕ) → i < n → f j ≡ f i → get_or firsts i 0 ≤ j
+
+-- for each scenario of a list the place of the first one with the same active numbers, which has the same runs
+pub record AreFirstAlike (g : Graph) (list : List Scenario) (firsts : List ℕ) : Type 0 where
+  pub places : AreFirstPlaces (numbers_at g list) (length list) firsts
+  pub runs : (i : ℕ) → i < length list → HaveSameRuns g (scenario_at g list (get_or firsts i 0)) (scenario_at g list i)

@@ -1,0 +1,36 @@
+-- The first scenario of the greatest number, the first process that has it, and peaks that are read off given runs.
+use Rattle.std.specs.Prelude.{ℕ, ◌≡◌, ◌≢◌, ◌≤◌, ◌<◌, false, List, Option, Some, None, get_or}
+use Rattle.cpg_base.specs.Graph.{Graph}
+use Rattle.cpg_base.specs.Scenario.{Scenario, is_before}
+use Rattle.cpg_order.specs.Urgency.{IsTopological}
+use Rattle.cpg_run.specs.Run.{Times}
+use Rattle.cpg_run.specs.Finish.{excess_of, IsWorst, IsExcess}
+use Rattle.cpg_all_runs.specs.Runs.{AreRuns}
+
+-- of the first n the number at the place is the greatest, and of those that are as great its scenario comes first
+pub record IsFirstGreatest (g : Graph) (urgency : List ℕ) (n : ℕ) (list : List Scenario) (numbers : List ℕ) (at : ℕ) : Type 0 where
+  pub there : at < n
+  pub most : (i : ℕ) → i < n → get_or numbers i 0 ≤ get_or numbers at 0
+  pub first : (i : ℕ) (d : Scenario) → i < n → get_or numbers i 0 ≡ get_or numbers at 0 → is_before g urgency (get_or list i d) (get_or list at d) ≡ false
+
+-- the process ends at the time, and none before it does
+pub record IsFirstEnding (t : Times) (time p : ℕ) : Type 0 where
+  pub ends : get_or t.ends p None ≡ Some time
+  pub first : (q : ℕ) → q < p → get_or t.ends q None ≢ Some time
+
+-- the process has the excess, and none before it has
+pub record IsFirstExceeding (g : Graph) (t : Times) (excess p : ℕ) : Type 0 where
+  pub has : excess_of g t p ≡ excess
+  pub first : (q : ℕ) → q < p → excess_of g t q ≢ excess
+
+-- the greatest finish, under any order and frozen times that give the scenarios these runs
+abbrev pub IsWorstOfRuns : Graph → List ℕ → List Scenario → List Times → ℕ → Scenario → Option ℕ → Type 0
+IsWorstOfRuns g urgency list runs worst worst_in worst_by = (order : List ℕ) (frozen : List (Option ℕ)) → IsTopological g order →
+    AreRuns g order frozen list runs
+    → IsWorst g urgency order frozen worst worst_in worst_by
+
+-- the greatest excess, under any order and frozen times that give the scenarios these runs
+abbrev pub IsExcessOfRuns : Graph → List ℕ → List Scenario → List Times → ℕ → Scenario → Option ℕ → Type 0
+IsExcessOfRuns g urgency list runs excess excess_in excess_by = (order : List ℕ) (frozen : List (Option ℕ)) → IsTopological g order →
+    AreRuns g order frozen list runs
+    → IsExcess g urgency order frozen excess excess_in excess_by

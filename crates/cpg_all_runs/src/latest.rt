@@ -1,0 +1,93 @@
+//! The greatest time of an item over all scenarios.
+ghost use Rattle.std.specs.Prelude.{◌≡◌, ◌<◌, ℕ, IfOk, None, get_or, length};
+ghost use Rattle.cpg_base.specs.Graph.{process_count, item_count};
+ghost use Rattle.cpg_base.specs.Scenario.{IsScenario};
+ghost use Rattle.cpg_run.specs.Known.{AreEarly};
+ghost use Rattle.cpg_run.specs.Run.{Times, IsRun};
+ghost use Rattle.cpg_run.specs.Progress.{IsAlong};
+ghost use Rattle.cpg_run.specs.Setting.{IsSetting};
+ghost use Rattle.cpg_all_runs.specs.Active.{AreExamples};
+ghost use Rattle.cpg_run.specs.Latest.{later, IsUnfrozenTime};
+ghost use Rattle.cpg_all_runs.specs.Sweep.{AreAlong, place_of};
+
+use cpg_base::{OutOfMemory, Scenario};
+use cpg_run::{Frozen, Progress, Setting};
+use std::alloc::Global;
+
+/// The later of two times that may be missing.
+fn later(first: Option<u64>, second: Option<u64>) -> Option<u64>
+    ensures { result ≡ later first second }
+{
+    let Some(time) = first else {
+        return second;
+    };
+    match second {
+        Some(other) => Some(time.max(other)),
+        None => Some(time),
+    }
+}
+
+/// The time in a scenario of an item of the process at the place that the scenario's run is found before.
+fn time_there(
+    alloc: Global,
+    setting: &Setting<'_>,
+    frozen: &Frozen,
+    scenario: &Scenario,
+    progress: &Progress,
+    place: u32,
+    item: u32,
+) -> Result<Option<u64>, OutOfMemory>
+    requires setting { IsSetting setting.now }
+    requires frozen { length frozen.now ≡ item_count setting.now.problem.now }
+    requires early { AreEarly frozen.now }
+    requires scenario { IsScenario setting.now.problem.now scenario.now }
+    requires place { place < process_count setting.now.problem.now }
+    requires along { IsAlong setting.now.problem.now setting.now.order.now frozen.now scenario.now place progress.now }
+    requires item { item < item_count setting.now.problem.now }
+    requires there { place_of setting.now.problem.now setting.now.order.now item ≡ place }
+    ensures { IfOk result (λ time. (t : Times) → IsRun setting.now.problem.now setting.now.order.now frozen.now scenario.now t
+        → time ≡ get_or t.times item None) }
+{
+    let mut next = progress.copy()?;
+    next.step(alloc, setting, frozen, scenario, place)?;
+    Ok(next.time(item))
+}
+
+/// The greatest time over all scenarios that an item would have if it were not frozen, in time units, or `None` where it
+/// is never active: given scenarios that show what can be active and what is found of each before the item's place, and frozen
+/// times that leave the item out.
+pub(crate) fn unfrozen_time(
+    alloc: Global,
+    setting: &Setting<'_>,
+    frozen: &Frozen,
+    scenarios: &[Scenario],
+    found: &[Progress],
+    place: u32,
+    item: u32,
+) -> Result<Option<u64>, OutOfMemory>
+    requires setting { IsSetting setting.now }
+    requires frozen { length frozen.now ≡ item_count setting.now.problem.now }
+    requires early { AreEarly frozen.now }
+    requires scenarios { AreExamples setting.now.problem.now scenarios.now }
+    requires place { place < process_count setting.now.problem.now }
+    requires along { AreAlong setting.now.problem.now setting.now.order.now frozen.now place scenarios.now found.now }
+    requires item { item < item_count setting.now.problem.now }
+    requires there { place_of setting.now.problem.now setting.now.order.now item ≡ place }
+    requires unset { get_or frozen.now item None ≡ None }
+    ensures { IfOk result (IsUnfrozenTime setting.now.problem.now setting.now.order.now frozen.now item) }
+{
+    let mut latest = None;
+    for at in 0..scenarios.len() {
+        let time = time_there(
+            alloc,
+            setting,
+            frozen,
+            &scenarios[at],
+            &found[at],
+            place,
+            item,
+        )?;
+        latest = later(latest, time);
+    }
+    Ok(latest)
+}

@@ -1,0 +1,58 @@
+//! The first scenario of the greatest number.
+ghost use Rattle.std.specs.Prelude.{◌≡◌, ◌<◌, All, true, false, length};
+ghost use Rattle.cpg_base.specs.Graph.{process_count};
+ghost use Rattle.cpg_base.specs.Scenario.{IsScenario, is_before};
+ghost use Rattle.cpg_all_runs.specs.Peaks.{IsFirstGreatest};
+
+use cpg_base::{Order, Problem, Scenario, is_before};
+
+/// Whether a scenario has a greater number than another, or the same and comes before it.
+fn goes_first(
+    problem: &Problem,
+    urgency: &Order,
+    number: u64,
+    scenario: &Scenario,
+    other_number: u64,
+    other: &Scenario,
+) -> bool
+    requires urgency { length urgency.now ≡ process_count problem.now }
+    requires scenario { IsScenario problem.now scenario.now }
+    requires other { IsScenario problem.now other.now }
+    ensures above { other_number < number → result ≡ true }
+    ensures below { number < other_number → result ≡ false }
+    ensures level { number ≡ other_number → result ≡ is_before problem.now urgency.now scenario.now other.now }
+{
+    if number != other_number {
+        return number > other_number;
+    }
+    is_before(problem, urgency, scenario, other)
+}
+
+/// Where the greatest of the numbers of scenarios stands, and of equal ones that of the scenario that comes first.
+pub(crate) fn first_greatest(
+    problem: &Problem,
+    urgency: &Order,
+    scenarios: &[Scenario],
+    numbers: &[u64],
+) -> usize
+    requires urgency { length urgency.now ≡ process_count problem.now }
+    requires scenarios { All (IsScenario problem.now) scenarios.now }
+    requires long { length numbers.now ≡ length scenarios.now }
+    requires some { 0 < length scenarios.now }
+    ensures { IsFirstGreatest problem.now urgency.now (length scenarios.now) scenarios.now numbers.now result }
+{
+    let mut at = 0;
+    for next in 1..scenarios.len() {
+        if goes_first(
+            problem,
+            urgency,
+            numbers[next],
+            &scenarios[next],
+            numbers[at],
+            &scenarios[at],
+        ) {
+            at = next;
+        }
+    }
+    at
+}

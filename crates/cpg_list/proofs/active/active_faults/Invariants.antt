@@ -1,7 +1,0 @@
-use Rattle.std.proofs.Common.{◌≡◌, map}
-use Rattle.cpg_base.specs.Numbers.{numbers_below}
-use Rattle.cpg_list.specs.Active.{active_fault}
-use Rattle.cpg_list.proofs.active.active_faults.Given as goal
-
-abbrev pub invariant-loop-process : goal.invariant-loop-process
-invariant-loop-process l = l.numbers.items ≡ map (active_fault l.problem l.scenario) (numbers_below l.process)

@@ -1,7 +1,0 @@
-use Rattle.std.proofs.Common.{◌≡◌, ◌++◌, map}
-use Rattle.cpg_base.specs.Numbers.{numbers_below}
-use Rattle.cpg_list.specs.Listing.{with_fault}
-use Rattle.cpg_list.proofs.enumeration.add_faults.Given as goal
-
-abbrev pub invariant-loop-faults : goal.invariant-loop-faults
-invariant-loop-faults l = l.scenarios.items ≡ l.fn.scenarios.items ++ map (with_fault l.process l.scenario) (numbers_below l.faults)

@@ -1,6 +1,0 @@
-use Rattle.std.proofs.Common.{◌≡◌}
-use Rattle.cpg_list.specs.Listing.{with_faults_below}
-use Rattle.cpg_list.proofs.enumeration.faulty.Given as goal
-
-abbrev pub invariant-loop-process : goal.invariant-loop-process
-invariant-loop-process l = l.list.items ≡ with_faults_below l.problem l.process

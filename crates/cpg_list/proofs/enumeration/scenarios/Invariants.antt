@@ -1,6 +1,0 @@
-use Rattle.std.proofs.Common.{◌≡◌}
-use Rattle.cpg_list.specs.Listing.{with_values_below}
-use Rattle.cpg_list.proofs.enumeration.scenarios.Given as goal
-
-abbrev pub invariant-loop-condition : goal.invariant-loop-condition
-invariant-loop-condition l = l.list.items ≡ with_values_below l.problem l.condition

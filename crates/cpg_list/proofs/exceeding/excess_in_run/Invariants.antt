@@ -1,7 +1,0 @@
-use Rattle.std.proofs.Common.{◌≡◌, map}
-use Rattle.cpg_base.specs.Numbers.{greatest, numbers_below}
-use Rattle.cpg_run.specs.Finish.{excess_of}
-use Rattle.cpg_list.proofs.exceeding.excess_in_run.Given as goal
-
-abbrev pub invariant-loop-process : goal.invariant-loop-process
-invariant-loop-process l = l.most ≡ greatest (map (excess_of l.problem l.times) (numbers_below l.process))

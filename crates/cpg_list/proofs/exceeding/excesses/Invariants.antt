@@ -1,6 +1,0 @@
-use Rattle.std.proofs.Common.{◌≡◌, map, take}
-use Rattle.cpg_run.specs.Finish.{excess_in_run}
-use Rattle.cpg_list.proofs.exceeding.excesses.Given as goal
-
-abbrev pub invariant-loop-run : goal.invariant-loop-run
-invariant-loop-run l = l.numbers.items ≡ map (excess_in_run l.problem) (take l.run-index l.runs)

@@ -1,6 +1,0 @@
-use Rattle.std.proofs.Common.{ℕ, ◌<◌, ◌≢◌}
-use Rattle.cpg_run.specs.Finish.{excess_of}
-use Rattle.cpg_list.proofs.exceeding.first_exceeding.Given as goal
-
-abbrev pub invariant-loop-process : goal.invariant-loop-process
-invariant-loop-process l = (q : ℕ) → q < l.process → excess_of l.problem l.times q ≢ l.excess

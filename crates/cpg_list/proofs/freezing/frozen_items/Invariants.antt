@@ -1,6 +1,0 @@
-use Rattle.std.proofs.Common.{◌≡◌, take}
-use Rattle.cpg_run.specs.FrozenItems.{frozen_along}
-use Rattle.cpg_list.proofs.freezing.frozen_items.Given as goal
-
-abbrev pub invariant-loop-process : goal.invariant-loop-process
-invariant-loop-process l = l.items.items ≡ frozen_along l.problem (take l.process-index l.order)

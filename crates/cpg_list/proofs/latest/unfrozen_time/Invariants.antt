@@ -1,5 +1,0 @@
-use Rattle.cpg_list.proofs.Latests.{IsLatest}
-use Rattle.cpg_list.proofs.latest.unfrozen_time.Given as goal
-
-abbrev pub invariant-loop-at : goal.invariant-loop-at
-invariant-loop-at l = IsLatest l.setting.problem.now l.setting.order.now l.frozen l.item l.at l.scenarios l.latest

@@ -1,5 +1,0 @@
-use Rattle.std.proofs.Common.{◌≡◌, map, take}
-use Rattle.cpg_list.proofs.peaks.finishes.Given as goal
-
-abbrev pub invariant-loop-run : goal.invariant-loop-run
-invariant-loop-run l = l.numbers.items ≡ map (λ t. t.finish) (take l.run-index l.runs)

@@ -1,5 +1,0 @@
-use Rattle.std.proofs.Common.{ℕ, ◌<◌, ◌≢◌, get_or, Some, None}
-use Rattle.cpg_list.proofs.peaks.first_ending.Given as goal
-
-abbrev pub invariant-loop-process : goal.invariant-loop-process
-invariant-loop-process l = (q : ℕ) → q < l.process → get_or l.times.ends q None ≢ Some l.time

@@ -1,5 +1,0 @@
-use Rattle.cpg_list.specs.Peaks.{IsFirstGreatest}
-use Rattle.cpg_list.proofs.search.first_greatest.Given as goal
-
-abbrev pub invariant-loop-next : goal.invariant-loop-next
-invariant-loop-next l = IsFirstGreatest l.problem l.urgency l.next l.scenarios l.numbers l.at

@@ -1,5 +1,0 @@
-use Rattle.cpg_list.specs.Sweep.{AreAlong}
-use Rattle.cpg_list.proofs.sweeping.advance.Given as goal
-
-abbrev pub invariant-loop-place : goal.invariant-loop-place
-invariant-loop-place l = AreAlong l.setting.problem.now l.setting.order.now l.frozen l.place l.scenarios l.found.items

@@ -1,5 +1,0 @@
-use Rattle.cpg_list.proofs.Swept.{AreBeginnings}
-use Rattle.cpg_list.proofs.sweeping.beginnings.Given as goal
-
-abbrev pub invariant-loop : goal.invariant-loop
-invariant-loop l = AreBeginnings l.problem l.counter l.found.items
