@@ -23,13 +23,18 @@ use Rattle.cpg_run.proofs.RunExists.{a_run}
 use Rattle.cpg_run.specs.Carried.{row_at, carried}
 use Rattle.cpg_run.specs.RowLaws.{IsTimed}
 use Rattle.cpg_run.proofs.EntriesMerge.{the_one, every}
-use Rattle.cpg_tree.specs.Columns.{column_of, columns_of_paths, IsTidyColumn}
+use Rattle.cpg_paths.specs.Columns.{column_of, columns_of_paths, IsTidyColumn}
 use Rattle.cpg_cube.specs.Keys.{AreByLows}
-use Rattle.cpg_tree.specs.Tree.{Path, TreeState, is_on}
+use Rattle.cpg_cube.proofs.KeyOrder.{permutation_of_equal}
+use Rattle.cpg_tree.specs.Tree.{HasOnePathEach, Path, TreeState, is_on}
 use Rattle.cpg_run.specs.Carrying.{ContainsKept, IsCarryingRow}
 use Rattle.cpg_expand.specs.Agreeing.{Agrees}
 use Rattle.cpg_expand.specs.TreeRows.{AreListedOf, IsTreeOf}
 use Rattle.cpg_tree.proofs.OnePath.{scenario_few, the_path}
+
+-- what is listed as it is found
+pub listed_all : (g : Graph) (t : TreeState (Option ℕ)) (columns : List Column) → HasOnePathEach g.faults t.paths → columns ≡ columns_of_paths t.paths → All (IsTidyColumn g) columns → AreListedOf g t columns
+listed_all g t columns each is tidy = record { each = each; all = permutation_of_equal (columns_of_paths t.paths) columns (sym is); tidy = tidy }
 
 -- ---- no more columns match than paths
 

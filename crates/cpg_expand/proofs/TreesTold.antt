@@ -29,11 +29,11 @@ use Rattle.cpg_base.specs.Numbers.{same_bool}
 use Rattle.cpg_expand.specs.Sending.{IsTestedTree, IsSentTree, IsFreeTree}
 use Rattle.cpg_expand.specs.Ending.{durations_of, IsEndTree, IsReadyTree}
 use Rattle.cpg_expand.specs.Waiting.{ready_of, IsWaitTree}
-use Rattle.cpg_expand.specs.Later.{IsLaterTree, IsNoMore, IsLatest}
+use Rattle.cpg_expand.specs.Later.{IsLaterTree, IsNoMore, IsLatest, IsReleased}
 use Rattle.cpg_expand.specs.Forest.{ForestState, HasTrees, IsWait, no_tree, times_of, ends_of, later_tree, ready_at, heard_tree, heard_delay, input_tree, input_delay}
 use Rattle.cpg_expand.specs.declared.forest.Ready.{Ready}
 use Rattle.cpg_expand.specs.declared.forest.Ready.TheVariants.{At}
-use Rattle.cpg_expand.specs.Guarded.{value_known, values_known, PicksByValue, IsActiveTree, told_of, latest_of, IsHeardTree, IsStartAfter, awaited, start_says, start_at, IsStartBy, IsStartTree}
+use Rattle.cpg_expand.specs.Guarded.{value_known, values_known, PicksByValue, IsActiveTree, told_of, latest_of, AreThere, IsHeardTree, IsStartAfter, awaited, start_says, start_at, IsStartBy, IsStartTree}
 use Rattle.cpg_expand.proofs.AgreeingTrees.{agrees_weaker, agrees_constant, agrees_number, agrees_map, agrees_join, agrees_pick}
 
 -- ---- trees of at most k faults
@@ -94,11 +94,6 @@ module _ (delay : ℕ) (s : Scenario) (t : TreeState (Option ℕ)) (ls : List Li
 pub later_is : (g : Graph) (delay : ℕ) (tree : TreeState (Option ℕ)) → IsLaterTree g.faults delay tree (later_by delay tree)
 later_is g delay tree s few ls x tells = to_times delay s tree ls x tells
 
-no_more_by : (g : Graph) (delay : ℕ) (tree : TreeState (Option ℕ)) (t : TreeState ℕ) → IsTree g tree → IsMap (λ x z. z ≡ time_later delay x) tree t → IsNoMore g.faults (later_by delay tree) t
-no_more_by g delay tree t is made s few ls x tells =
-    agrees_map s (λ y z. z ≡ time_later delay y) tree t ls (λ y. time_later delay y ≡ x) (λ z. z ≡ x) (few_of g.faults tree.faults s is.faults few) (each_of g tree.faults tree is.faults is) made
-    (λ y z e f. f ∙ e) (from_times delay s tree ls x tells)
-
 -- ---- ends that tell when a node is ready
 
 module _ (s : Scenario) (t : TreeState (Option ℕ)) (ls : List Literal) where
@@ -109,53 +104,57 @@ module _ (s : Scenario) (t : TreeState (Option ℕ)) (ls : List Literal) where
   to_ends y tells = to_times 0 s t ls y tells
 
 pub no_more : (g : Graph) (tree : TreeState (Option ℕ)) (t : TreeState ℕ) → IsTree g tree → IsMap (λ x z. z ≡ time_later 0 x) tree t → IsNoMore g.faults (later_tree tree) t
-no_more g tree t is made = no_more_by g 0 tree t is made
-
-pub later_from : (k : ℕ) (tree : TreeState (Option ℕ)) (t : TreeState ℕ) → IsNoMore k (later_tree tree) t → IsLaterTree k 0 tree t
-later_from k tree t none s few ls x tells = none s few ls (time_later 0 x) (to_ends s tree ls x tells)
+no_more g tree t is made s few ls x tells =
+    agrees_map s (λ y z. z ≡ time_later 0 y) tree t ls (λ y. time_later 0 y ≡ x) (λ z. z ≡ x) (few_of g.faults tree.faults s is.faults few) (each_of g tree.faults tree is.faults is) made
+    (λ y z e f. f ∙ e) (from_ends s tree ls x tells)
 
 -- ---- the later of two
 
+-- what is made of the later of two trees that are read as numbers
+module _ {T U V : Type 0} (g : Graph) (number : T → ℕ) (other_number : U → ℕ) (makes : ℕ → V) (a : TreeState T) (b : TreeState U) (t : TreeState V) (of_a : IsTree g a) (of_b : IsTree g b)
+    (made : IsJoin (λ x y z. z ≡ makes (max (number x) (other_number y))) a b t) (s : Scenario) (few : HasFew g.faults s) (first second : List Literal) (x y : ℕ) where
+  pub made_told : Agrees s first (λ v. number v ≡ x) a → Agrees s second (λ w. other_number w ≡ y) b → Tells s (first ++ second) (makes (max x y)) t
+  made_told tells other =
+      agrees_join s (λ v w z. z ≡ makes (max (number v) (other_number w))) a b t first second (λ v. number v ≡ x) (λ w. other_number w ≡ y) (λ z. z ≡ makes (max x y)) (few_of g.faults a.faults s of_a.faults few) (of_b.faults ∙ sym of_a.faults)
+      (each_of g a.faults a of_a.faults of_a) (each_of g a.faults b of_a.faults of_b) made (λ v w z d e i. i ∙ ap₂ (λ m n. makes (max m n)) d e) tells other
+
+  -- what the second tells stands first
+  pub made_turned : Agrees s first (λ v. number v ≡ x) a → Agrees s second (λ w. other_number w ≡ y) b → Tells s (second ++ first) (makes (max y x)) t
+  made_turned tells other =
+      agrees_weaker s t (first ++ second) (second ++ first) (λ z. z ≡ makes (max x y)) (λ z. z ≡ makes (max y x))
+      (λ l j. elim (Contains-append_cases first second l j) [ inl i ↦ Contains-append_right second first l i | inr i ↦ Contains-append_left second first l i ])
+      (λ z e. e ∙ ap makes (let same : max x y ≡ max y x = omega arith in same)) (made_told tells other)
+
 pub latest_told : (g : Graph) (one two t : TreeState ℕ) → IsTree g one → IsTree g two → IsJoin (λ x y z. z ≡ max x y) one two t → IsLatest g.faults one two t
-latest_told g one two t of_one of_two made s few first second x y tells other =
-    agrees_join s (λ x y z. z ≡ max x y) one two t first second (λ z. z ≡ x) (λ z. z ≡ y) (λ z. z ≡ max x y) (few_of g.faults one.faults s of_one.faults few) (of_two.faults ∙ sym of_one.faults)
-    (each_of g one.faults one of_one.faults of_one) (each_of g one.faults two of_one.faults of_two) made (λ a b z d e i. i ∙ ap₂ max d e) tells other
+latest_told g one two t of_one of_two made s few first second x y tells other = made_told g (λ n. n) (λ n. n) (λ n. n) one two t of_one of_two made s few first second x y tells other
 
 -- where one are ends
 pub latest_ends : (g : Graph) (end : TreeState (Option ℕ)) (there t : TreeState ℕ) → IsTree g end → IsTree g there → IsJoin (λ x y z. z ≡ max x (time_later 0 y)) there end t → IsLatest g.faults (later_tree end) there t
 latest_ends g end there t of_end of_there made s few first second x y tells other =
-    agrees_weaker s t (second ++ first) (first ++ second) (λ z. z ≡ max y x) (λ z. z ≡ max x y)
-    (λ l j. elim (Contains-append_cases second first l j) [ inl i ↦ Contains-append_right first second l i | inr i ↦ Contains-append_left first second l i ])
-    (λ z e. omega (arith, e))
-    (agrees_join s (λ a b z. z ≡ max a (time_later 0 b)) there end t second first (λ z. z ≡ y) (λ z. time_later 0 z ≡ x) (λ z. z ≡ max y x) (few_of g.faults there.faults s of_there.faults few) (of_end.faults ∙ sym of_there.faults)
-    (each_of g there.faults there of_there.faults of_there) (each_of g there.faults end of_there.faults of_end) made (λ a b z d e i. i ∙ ap₂ max d e) other (from_ends s end first x tells))
+    made_turned g (λ n. n) (time_later 0) (λ n. n) there end t of_there of_end made s few second first y x other (from_ends s end first x tells)
 
--- where one is a frame
-pub latest_frame : (g : Graph) (delay : ℕ) (ready : TreeState ℕ) (times : TreeState (Option ℕ)) (t : TreeState ℕ) → IsTree g ready → IsTree g times → IsJoin (λ x y z. z ≡ max x (time_later delay y)) ready times t →
-    IsLatest g.faults ready (later_by delay times) t
-latest_frame g delay ready times t of_ready of_times made s few first second x y tells other =
-    agrees_join s (λ a b z. z ≡ max a (time_later delay b)) ready times t first second (λ z. z ≡ x) (λ z. time_later delay z ≡ y) (λ z. z ≡ max x y) (few_of g.faults ready.faults s of_ready.faults few) (of_times.faults ∙ sym of_ready.faults)
-    (each_of g ready.faults ready of_ready.faults of_ready) (each_of g ready.faults times of_ready.faults of_times) made (λ a b z d e i. i ∙ ap₂ max d e) tells (from_times delay s times second y other)
+-- what is told of a tree that is read of a forest
+module _ {V : Type 0} (g : Graph) (makes : ℕ → V) (delay d : ℕ) (same_delay : delay ≡ d) (times read : TreeState (Option ℕ)) (is : times ≡ read) (of_times : IsTree g times) where
+  as_read : (s : Scenario) (ls : List Literal) (n : ℕ) → Tells s ls n (later_by d read) → Agrees s ls (λ v. time_later delay v ≡ n) times
+  as_read s ls n h = from_times delay s times ls n (subst (λ (m : ℕ). Tells s ls n (later_by m times)) (sym same_delay) (subst (λ (u : TreeState (Option ℕ)). Tells s ls n (later_by d u)) (sym is) h))
 
--- and the other are ends
-pub latest_ends_frame : (g : Graph) (delay : ℕ) (end times : TreeState (Option ℕ)) (there t : TreeState ℕ) → IsTree g end → IsTree g times → IsTree g there → IsMap (λ x z. z ≡ time_later delay x) times there →
-    IsJoin (λ x y z. z ≡ max x (time_later 0 y)) there end t → IsLatest g.faults (later_tree end) (later_by delay times) t
-latest_ends_frame g delay end times there t of_end of_times of_there later made s few first second x y tells other =
-    latest_ends g end there t of_end of_there made s few first second x y tells (no_more_by g delay times there of_times later s few second y other)
+  -- and of another tree
+  pub told_and_read : (other : TreeState ℕ) (t : TreeState V) → IsTree g other → IsJoin (λ x y z. z ≡ makes (max x (time_later delay y))) other times t →
+      (s : Scenario) → HasFew g.faults s → (first second : List Literal) (x y : ℕ) → Tells s first x other → Tells s second y (later_by d read) → Tells s (first ++ second) (makes (max x y)) t
+  told_and_read other t of_other made s few first second x y tells there =
+      made_told g (λ n. n) (time_later delay) makes other times t of_other of_times made s few first second x y tells (as_read s second y there)
 
--- trees that are read of a forest
-pub read_and_frame : (g : Graph) (delay d : ℕ) (ready : TreeState ℕ) (times read : TreeState (Option ℕ)) (t : TreeState ℕ) → delay ≡ d → times ≡ read → IsTree g ready → IsTree g times →
-    IsJoin (λ x y z. z ≡ max x (time_later delay y)) ready times t → IsLatest g.faults ready (later_by d read) t
-read_and_frame g delay d ready times read t e is of_ready of_times made =
-    subst (λ (n : ℕ). IsLatest g.faults ready (later_by n read) t) e (subst (λ (u : TreeState (Option ℕ)). IsLatest g.faults ready (later_by delay u) t) is (latest_frame g delay ready times t of_ready of_times made))
+  pub read_and_told : (other : TreeState ℕ) (t : TreeState V) → IsTree g other → IsJoin (λ x y z. z ≡ makes (max (time_later delay x) y)) times other t →
+      (s : Scenario) → HasFew g.faults s → (first second : List Literal) (x y : ℕ) → Tells s first x (later_by d read) → Tells s second y other → Tells s (first ++ second) (makes (max x y)) t
+  read_and_told other t of_other made s few first second x y there tells =
+      made_told g (time_later delay) (λ n. n) makes times other t of_times of_other made s few first second x y (as_read s first x there) tells
 
-pub ends_and_frame : (g : Graph) (delay d : ℕ) (end read_end times read : TreeState (Option ℕ)) (there t : TreeState ℕ) → delay ≡ d → end ≡ read_end → times ≡ read → IsTree g end → IsTree g times → IsTree g there →
-    IsMap (λ x z. z ≡ time_later delay x) times there → IsJoin (λ x y z. z ≡ max x (time_later 0 y)) there end t → IsLatest g.faults (later_tree read_end) (later_by d read) t
-ends_and_frame g delay d end read_end times read there t e is_end is of_end of_times of_there later made =
-    subst (λ (n : ℕ). IsLatest g.faults (later_tree read_end) (later_by n read) t) e
-    (subst (λ (u : TreeState (Option ℕ)). IsLatest g.faults (later_tree read_end) (later_by delay u) t) is
-    (subst (λ (u : TreeState (Option ℕ)). IsLatest g.faults (later_tree u) (later_by delay times) t) is_end
-    (latest_ends_frame g delay end times there t of_end of_times of_there later made)))
+  -- and of ends
+  pub ends_and_read : (end read_end : TreeState (Option ℕ)) (t : TreeState V) → end ≡ read_end → IsTree g end → IsJoin (λ x y z. z ≡ makes (max (time_later delay x) (time_later 0 y))) times end t →
+      (s : Scenario) → HasFew g.faults s → (first second : List Literal) (x y : ℕ) → Tells s first x (later_tree read_end) → Tells s second y (later_by d read) → Tells s (first ++ second) (makes (max x y)) t
+  ends_and_read end read_end t is_end of_end made s few first second x y tells there =
+      made_turned g (time_later delay) (time_later 0) makes times end t of_times of_end made s few second first y x (as_read s second y there)
+      (from_ends s end first x (subst (λ (u : TreeState (Option ℕ)). Tells s first x (later_tree u)) (sym is_end) tells))
 
 -- ---- the tree that a condition's value picks
 
@@ -205,22 +204,20 @@ told_first s tell c ws l j = elim (Contains-append_cases (tell c) (value_known s
 pub latest-cons : (delay : ℕ → ℕ) (time : ℕ → Option ℕ) (x : ℕ) (xs : List ℕ) → latest_of delay time (x ∷ xs) ≡ max (time_later (delay x) (time x)) (latest_of delay time xs)
 latest-cons delay time x xs = greatest-cons (time_later (delay x) (time x)) (map (λ y. time_later (delay y) (time y)) xs)
 
-pub heard_test : (g : Graph) (f : ForestState) (node c : ℕ) (off on : Guard) (a b further there t : TreeState ℕ) → IsHeardTree g f node off a → IsHeardTree g f node on b → PicksByValue g.faults c b a further →
-    IsTree g further → IsTree g there → IsLaterTree g.faults (heard_delay g node c) (heard_tree g f node c) there → IsJoin (λ x y z. z ≡ max x y) there further t → IsHeardTree g f node (Test c off on) t
-heard_test g f node c off on a b further there t of_off of_on picks of_further of_there later made s few tell time told = go (get_or s.values c false) refl
+pub heard_test : (g : Graph) (f : ForestState) (node c : ℕ) (off on : Guard) (a b further t : TreeState ℕ) → IsHeardTree g f node off a → IsHeardTree g f node on b → PicksByValue g.faults c b a further →
+    IsLatest g.faults (later_by (heard_delay g node c) (heard_tree g f node c)) further t → IsHeardTree g f node (Test c off on) t
+heard_test g f node c off on a b further t of_off of_on picks latest s few tell time told = go (get_or s.values c false) refl
   where
     delay : ℕ → ℕ
     delay = heard_delay g node
 
-    first : Tells s (tell c) (time_later (delay c) (time c)) there
-    first = later s few (tell c) (time c) (told c (Contains-first c _))
+    first : Tells s (tell c) (time_later (delay c) (time c)) (later_by (delay c) (heard_tree g f node c))
+    first = to_times (delay c) s (heard_tree g f node c) (tell c) (time c) (told c (Contains-first c _))
 
     joined : (ws : List ℕ) → Tells s (value_known s c ∷ told_of s tell ws) (latest_of delay time ws) further → Tells s (told_of s tell (c ∷ ws)) (latest_of delay time (c ∷ ws)) t
     joined ws second = agrees_weaker s t (tell c ++ value_known s c ∷ told_of s tell ws) (told_of s tell (c ∷ ws))
         (λ z. z ≡ max (time_later (delay c) (time c)) (latest_of delay time ws)) (λ z. z ≡ latest_of delay time (c ∷ ws)) (λ l j. told_first s tell c ws l j) (λ z e. e ∙ sym (latest-cons delay time c ws))
-        (agrees_join s (λ x y z. z ≡ max x y) there further t (tell c) (value_known s c ∷ told_of s tell ws) (λ x. x ≡ time_later (delay c) (time c)) (λ y. y ≡ latest_of delay time ws) (λ z. z ≡ max (time_later (delay c) (time c)) (latest_of delay time ws))
-        (few_of g.faults there.faults s of_there.faults few) (of_further.faults ∙ sym of_there.faults) (each_of g there.faults there of_there.faults of_there) (each_of g there.faults further of_there.faults of_further) made
-        (λ x y z d e i. i ∙ ap₂ max d e) first second)
+        (latest s few (tell c) (value_known s c ∷ told_of s tell ws) (time_later (delay c) (time c)) (latest_of delay time ws) first second)
 
     go : (d : Bool) → get_or s.values c false ≡ d → Tells s (told_of s tell (c ∷ (if d then way on s.values else way off s.values))) (latest_of delay time (c ∷ (if d then way on s.values else way off s.values))) t
     go true e = joined (way on s.values) (picks s few (told_of s tell (way on s.values)) (latest_of delay time (way on s.values))
@@ -230,9 +227,25 @@ heard_test g f node c off on a b further there t of_off of_on picks of_further o
         (subst (λ (d : Bool). Tells s (told_of s tell (way off s.values)) (latest_of delay time (way off s.values)) (if d then b else a)) (sym e)
         (of_off s few tell time (λ x j. told x (Contains-rest c _ x (subst (λ (d : Bool). Contains (if d then way on s.values else way off s.values) x) (sym e) j))))))
 
+-- ---- what holds of all of a list holds of its parts
+
+pub all_parts : {X : Type 0} (P : X → Type 0) (whole : List X) (x : X) (xs : List X) → whole ≡ x ∷ xs → All P whole → P x × All P xs
+all_parts P whole x xs is h =
+    let all = subst (All P) is h in
+    (All-contains P (x ∷ xs) x all (Contains-first x xs), All-weaker (Contains xs) P (λ y j. All-contains P (x ∷ xs) y all (Contains-rest x xs y j)) xs (All-contains_itself xs))
+
 -- ---- inputs
 
--- one that the node sends itself
+-- one that the node sends itself is there once it is ready
+own_early : (g : Graph) (time : ℕ → Option ℕ) (x e : ℕ) (es : List ℕ) → is_message g e ≡ false → AreThere g time x (e ∷ es) → time_later (input_delay g e) (time e) ≤ x
+own_early g time x e es own there = subst (λ (b : Bool). time_later (if b then slot_length g (home g (message_item g e)) else 0) (time e) ≤ x) (sym own) (there e (Contains-first e es) own)
+
+own_latest : (g : Graph) (time : ℕ → Option ℕ) (x : ℕ) (es : List ℕ) → All (λ e. is_message g e ≡ false) es → AreThere g time x es → latest_of (input_delay g) time es ≤ x
+own_latest g time x [] own there = omega arith
+own_latest g time x (e ∷ es) own there =
+    let parts = all_parts (λ d. is_message g d ≡ false) (e ∷ es) e es refl own in
+    omega (arith, own_early g time x e es parts.0 there, own_latest g time x es parts.1 (λ d j. there d (Contains-rest e es d j)), latest-cons (input_delay g) time e es)
+
 pub own_input : (g : Graph) (f : ForestState) (wait : TreeState ℕ) (t : TreeState (Option ℕ)) (release e : ℕ) (es : List ℕ) → is_message g e ≡ false → IsStartAfter g f wait release es t → IsStartAfter g f wait release (e ∷ es) t
 own_input g f wait t release e es own starts s few base x tells tell time there told =
     let latest = latest_of (input_delay g) time es in
@@ -242,7 +255,7 @@ own_input g f wait t release e es own starts s few base x tells tell time there 
     (starts s few base x tells tell time (λ d j. there d (Contains-rest e es d j)) (λ d j. told d (Contains-rest e es d j)))
   where
     early : time_later (input_delay g e) (time e) ≤ x
-    early = subst (λ (b : Bool). time_later (if b then slot_length g (home g (message_item g e)) else 0) (time e) ≤ x) (sym own) (there e (Contains-first e es) own)
+    early = own_early g time x e es own there
 
     within : (l : Literal) → Contains base l ⊎ Contains (flat_map tell es) l → Contains (base ++ flat_map tell (e ∷ es)) l
     within l (inl j) = Contains-append_left base (tell e ++ flat_map tell es) l j
@@ -266,6 +279,21 @@ one_input g f wait there both t release e es later latest starts s few base x te
       | inl i ↦ Contains-append_left base (tell e ++ flat_map tell es) l i
       | inr i ↦ Contains-append_right base (tell e ++ flat_map tell es) l (Contains-append_left (tell e) (flat_map tell es) l i)
     ]
+
+-- the last that another node sends
+pub last_input : (g : Graph) (f : ForestState) (wait : TreeState ℕ) (t : TreeState (Option ℕ)) (release e : ℕ) (es : List ℕ) → All (λ d. is_message g d ≡ false) es →
+    IsReleased g.faults wait (later_by (input_delay g e) (input_tree g f e)) release t → IsStartAfter g f wait release (e ∷ es) t
+last_input g f wait t release e es own starts s few base x tells tell time there told =
+    let at = time_later (input_delay g e) (time e) in
+    let late : latest_of (input_delay g) time es ≤ x = own_latest g time x es own (λ d j. there d (Contains-rest e es d j)) in
+    agrees_weaker s t (base ++ tell e) (base ++ flat_map tell (e ∷ es)) (λ y. y ≡ Some (max (max x at) release)) (λ y. y ≡ Some (max (max x release) (latest_of (input_delay g) time (e ∷ es))))
+    (λ l j. within l (Contains-append_cases base (tell e) l j))
+    (λ y d. d ∙ ap Some (let same : max (max x at) release ≡ max (max x release) (latest_of (input_delay g) time (e ∷ es)) = omega (arith, late, latest-cons (input_delay g) time e es) in same))
+    (starts s few base (tell e) x at tells (to_times (input_delay g e) s (input_tree g f e) (tell e) (time e) (told e (Contains-first e es))))
+  where
+    within : (l : Literal) → Contains base l ⊎ Contains (tell e) l → Contains (base ++ flat_map tell (e ∷ es)) l
+    within l (inl i) = Contains-append_left base (tell e ++ flat_map tell es) l i
+    within l (inr i) = Contains-append_right base (tell e ++ flat_map tell es) l (Contains-append_left (tell e) (flat_map tell es) l i)
 
 -- ---- starts
 
@@ -328,25 +356,21 @@ times_tree g f has x l = All-get_or (IsTree g) f.times x (no_tree g.faults) (ome
 pub ends_tree : (g : Graph) (f : ForestState) → HasTrees g f → (p : ℕ) → p < process_count g → IsTree g (ends_of g f p)
 ends_tree g f has p l = All-get_or (IsTree g) f.ends p (no_tree g.faults) (omega (arith, l, has.ends)) has.all_ends
 
--- a tree that is read, later by a delay
-pub read_later : (g : Graph) (delay : ℕ) (v tree : TreeState (Option ℕ)) (t : TreeState ℕ) → v ≡ tree → IsTree g tree → IsMap (λ x z. z ≡ time_later delay x) v t → HasOnePathEach t.faults t.paths → ((test : ℕ → Bool) → DoPathsPass test v.paths → DoPathsPass test t.paths) → IsTree g t × IsLaterTree g.faults delay tree t
-read_later g delay v tree t is of made each known =
-    let made_of = subst (λ (u : TreeState (Option ℕ)). IsMap (λ x z. z ≡ time_later delay x) u t) is made in
-    (same_tree g tree t of.faults made_of.faults each (known (is_variable g) (subst (λ (u : TreeState (Option ℕ)). DoPathsPass (is_variable g) u.paths) (sym is) of.known)), later_tells g delay tree t of made_of)
-
+-- ends that are read
 pub read_end : (g : Graph) (v tree : TreeState (Option ℕ)) (t : TreeState ℕ) → v ≡ tree → IsTree g tree → IsMap (λ x z. z ≡ time_later 0 x) v t → HasOnePathEach t.faults t.paths → ((test : ℕ → Bool) → DoPathsPass test v.paths → DoPathsPass test t.paths) → IsTree g t × IsNoMore g.faults (later_tree tree) t
 read_end g v tree t is of made each known =
-    ((read_later g 0 v tree t is of made each known).0, no_more g tree t of (subst (λ (u : TreeState (Option ℕ)). IsMap (λ x z. z ≡ time_later 0 x) u t) is made))
+    let made_of = subst (λ (u : TreeState (Option ℕ)). IsMap (λ x z. z ≡ time_later 0 x) u t) is made in
+    (same_tree g tree t of.faults made_of.faults each (known (is_variable g) (subst (λ (u : TreeState (Option ℕ)). DoPathsPass (is_variable g) u.paths) (sym is) of.known)), no_more g tree t of made_of)
 
-module _ (g : Graph) (f : ForestState) (node c : ℕ) (t : TreeState ℕ) where
-  heard_if : (d : Bool) → (node_of g (process_of g c) == node) ≡ d → IsLaterTree g.faults (if d then 0 else slot_length g (home g (broadcast_item g c))) (if d then ends_of g f (process_of g c) else times_of g f (broadcast_item g c)) t →
-      IsLaterTree g.faults (heard_delay g node c) (heard_tree g f node c) t
-  heard_if d e is = subst (λ (b : Bool). IsLaterTree g.faults (if b then 0 else slot_length g (home g (broadcast_item g c))) (if b then ends_of g f (process_of g c) else times_of g f (broadcast_item g c)) t) (sym e) is
+module _ (g : Graph) (f : ForestState) (node c : ℕ) (further t : TreeState ℕ) where
+  heard_if : (d : Bool) → (node_of g (process_of g c) == node) ≡ d → IsLatest g.faults (later_by (if d then 0 else slot_length g (home g (broadcast_item g c))) (if d then ends_of g f (process_of g c) else times_of g f (broadcast_item g c))) further t →
+      IsLatest g.faults (later_by (heard_delay g node c) (heard_tree g f node c)) further t
+  heard_if d e is = subst (λ (b : Bool). IsLatest g.faults (later_by (if b then 0 else slot_length g (home g (broadcast_item g c))) (if b then ends_of g f (process_of g c) else times_of g f (broadcast_item g c))) further t) (sym e) is
 
-  pub heard_own : node_of g (process_of g c) ≡ node → IsLaterTree g.faults 0 (ends_of g f (process_of g c)) t → IsLaterTree g.faults (heard_delay g node c) (heard_tree g f node c) t
+  pub heard_own : node_of g (process_of g c) ≡ node → IsLatest g.faults (later_tree (ends_of g f (process_of g c))) further t → IsLatest g.faults (later_by (heard_delay g node c) (heard_tree g f node c)) further t
   heard_own e is = heard_if true (eq-eqb (node_of g (process_of g c)) node e) is
 
-  pub heard_other : (node_of g (process_of g c) ≡ node → ⊥) → IsLaterTree g.faults (slot_length g (home g (broadcast_item g c))) (times_of g f (broadcast_item g c)) t → IsLaterTree g.faults (heard_delay g node c) (heard_tree g f node c) t
+  pub heard_other : (node_of g (process_of g c) ≡ node → ⊥) → IsLatest g.faults (later_by (slot_length g (home g (broadcast_item g c))) (times_of g f (broadcast_item g c))) further t → IsLatest g.faults (later_by (heard_delay g node c) (heard_tree g f node c)) further t
   heard_other e is = heard_if false (ne_eqb (node_of g (process_of g c)) node e) is
 
 -- a frame that brings an input
@@ -355,12 +379,10 @@ pub latest_input : (g : Graph) (f : ForestState) (e : ℕ) (wait t : TreeState �
 latest_input g f e wait t message latest =
     subst (λ (d : Bool). IsLatest g.faults wait (later_by (if d then slot_length g (home g (message_item g e)) else 0) (if d then times_of g f (message_item g e) else ends_of g f (source g e))) t) (sym message) latest
 
--- ---- what holds of all of a list holds of its parts
-
-pub all_parts : {X : Type 0} (P : X → Type 0) (whole : List X) (x : X) (xs : List X) → whole ≡ x ∷ xs → All P whole → P x × All P xs
-all_parts P whole x xs is h =
-    let all = subst (All P) is h in
-    (All-contains P (x ∷ xs) x all (Contains-first x xs), All-weaker (Contains xs) P (λ y j. All-contains P (x ∷ xs) y all (Contains-rest x xs y j)) xs (All-contains_itself xs))
+pub released_input : (g : Graph) (f : ForestState) (e release : ℕ) (wait : TreeState ℕ) (t : TreeState (Option ℕ)) → is_message g e ≡ true →
+    IsReleased g.faults wait (later_by (slot_length g (home g (message_item g e))) (times_of g f (message_item g e))) release t → IsReleased g.faults wait (later_by (input_delay g e) (input_tree g f e)) release t
+released_input g f e release wait t message starts =
+    subst (λ (d : Bool). IsReleased g.faults wait (later_by (if d then slot_length g (home g (message_item g e)) else 0) (if d then times_of g f (message_item g e) else ends_of g f (source g e))) release t) (sym message) starts
 
 -- ---- ends, and what a node waits for
 

@@ -1,5 +1,5 @@
 -- Trees of times that are a delay after those of another, and of the later of two.
-use Rattle.std.specs.Prelude.{ℕ, max, List, ◌++◌, Option}
+use Rattle.std.specs.Prelude.{ℕ, max, List, ◌++◌, Option, Some}
 use Rattle.cpg_base.specs.Scenario.{Scenario}
 use Rattle.cpg_cube.specs.declared.literal.Literal.{Literal}
 use Rattle.cpg_tree.specs.Space.{HasFew}
@@ -19,3 +19,8 @@ IsNoMore k tree t = (s : Scenario) → HasFew k s → (literals : List Literal) 
 abbrev pub IsLatest : ℕ → TreeState ℕ → TreeState ℕ → TreeState ℕ → Type 0
 IsLatest k one two t = (s : Scenario) → HasFew k s → (first second : List Literal) (x y : ℕ) → Tells s first x one → Tells s second y two →
     Tells s (first ++ second) (max x y) t
+
+-- the later of the times of two trees or a release, whichever is later, as a time
+abbrev pub IsReleased : ℕ → TreeState ℕ → TreeState ℕ → ℕ → TreeState (Option ℕ) → Type 0
+IsReleased k one two release t = (s : Scenario) → HasFew k s → (first second : List Literal) (x y : ℕ) → Tells s first x one → Tells s second y two →
+    Tells s (first ++ second) (Some (max (max x y) release)) t

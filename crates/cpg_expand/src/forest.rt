@@ -5,12 +5,12 @@ ghost use Rattle.cpg_expand.specs.Agreeing.{IsTree};
 ghost use Rattle.cpg_expand.specs.Forest.{HasTrees, IsWait, ends_of, heard_delay, heard_tree, input_delay, input_tree, later_tree, ready_by, times_of};
 ghost use Rattle.cpg_expand.specs.Grown.{IsBare, IsReadyFirst};
 ghost use Rattle.cpg_expand.specs.Guarded.{IsStartAfter};
-ghost use Rattle.cpg_expand.specs.Later.{IsLaterTree, IsLatest, IsNoMore};
+ghost use Rattle.cpg_expand.specs.Later.{IsLatest, IsNoMore, IsReleased};
 ghost use Rattle.cpg_base.specs.Bus.{slot_length};
 ghost use Rattle.cpg_tree.specs.Read.{later_by};
 ghost use Rattle.cpg_tree.specs.Tree.{IsConstant};
 
-use crate::values::{later, started};
+use crate::values::{later, later_of, later_or, started, started_of, started_or};
 use cpg_base::{OutOfMemory, Problem};
 use cpg_tree::Tree;
 use std::alloc::Global;
@@ -112,18 +112,6 @@ impl Forest {
         self.times
     }
 
-    /// The times at which a frame is there, 0 where it isn't sent.
-    fn frame_there(&self, problem: &Problem, item: u32) -> Result<Tree<u64>, OutOfMemory>
-        requires forest { HasTrees problem.now self.now }
-        requires item { item < item_count problem.now }
-        ensures tree { IfOk result (IsTree problem.now) }
-        ensures later { IfOk result (IsLaterTree problem.now.faults (slot_length problem.now (home problem.now item)) (times_of problem.now self.now item)) }
-    {
-        let delay = problem.slot_length(problem.home(item));
-        let there = later(&self.times[item as usize], delay)?;
-        Ok(there)
-    }
-
     /// The ends of a process, 0 where it isn't active.
     pub(crate) fn end_there(
         &self,
@@ -139,25 +127,30 @@ impl Forest {
         Ok(there)
     }
 
-    /// The times at which a node has heard a condition.
-    pub(crate) fn heard_there(
+    /// The times from which on a node has heard a condition and something else is there.
+    pub(crate) fn heard_and(
         &self,
         problem: &Problem,
         node: u32,
         condition: u32,
+        further: &Tree<u64>,
     ) -> Result<Tree<u64>, OutOfMemory>
         requires forest { HasTrees problem.now self.now }
         requires condition { condition < condition_count problem.now }
+        requires further { IsTree problem.now further.now }
         ensures tree { IfOk result (IsTree problem.now) }
-        ensures later { IfOk result (IsLaterTree problem.now.faults (heard_delay problem.now node condition) (heard_tree problem.now self.now node condition)) }
+        ensures both { IfOk result (IsLatest problem.now.faults
+            (later_by (heard_delay problem.now node condition) (heard_tree problem.now self.now node condition)) further.now) }
     {
         let process = problem.process_of(condition);
         if problem.node_of(process) == node {
-            let there = self.end_there(problem, process)?;
-            Ok(there)
+            let both = later_or(&self.ends[process as usize], 0, further)?;
+            Ok(both)
         } else {
-            let there = self.frame_there(problem, problem.broadcast_item(condition))?;
-            Ok(there)
+            let item = problem.broadcast_item(condition);
+            let delay = problem.slot_length(problem.home(item));
+            let both = later_or(&self.times[item as usize], delay, further)?;
+            Ok(both)
         }
     }
 
@@ -206,8 +199,7 @@ impl Forest {
         let times = &self.times[item as usize];
         match ready {
             Ready::After(process) => {
-                let there = later(times, delay)?;
-                let both = there.max_later(&self.ends[*process as usize], 0)?;
+                let both = later_of(times, delay, &self.ends[*process as usize])?;
                 Ok(both)
             }
             Ready::At(tree) => {
@@ -234,6 +226,56 @@ impl Forest {
     {
         let both = self.ready_and_frame(problem, ready, problem.message_item(edge))?;
         Ok(both)
+    }
+
+    /// The starts of a process on a node once it is ready and a frame is there, and at a release or later.
+    fn started_by_frame(
+        &self,
+        problem: &Problem,
+        ready: &Ready,
+        item: u32,
+        release: u64,
+    ) -> Result<Tree<Option<u64>>, OutOfMemory>
+        requires forest { HasTrees problem.now self.now }
+        requires ready { IsWait problem.now ready.now }
+        requires item { item < item_count problem.now }
+        ensures tree { IfOk result (IsTree problem.now) }
+        ensures start { IfOk result (IsReleased problem.now.faults (ready_by problem.now self.now ready.now)
+            (later_by (slot_length problem.now (home problem.now item)) (times_of problem.now self.now item)) release) }
+    {
+        let delay = problem.slot_length(problem.home(item));
+        let times = &self.times[item as usize];
+        match ready {
+            Ready::After(process) => {
+                let start = started_of(times, delay, &self.ends[*process as usize], release)?;
+                Ok(start)
+            }
+            Ready::At(tree) => {
+                let start = started_or(tree, times, delay, release)?;
+                Ok(start)
+            }
+        }
+    }
+
+    /// The starts of a process on a node once it is ready and an input from another node is there, and at a release or later.
+    pub(crate) fn started_by_input(
+        &self,
+        problem: &Problem,
+        ready: &Ready,
+        edge: u32,
+        release: u64,
+    ) -> Result<Tree<Option<u64>>, OutOfMemory>
+        requires forest { HasTrees problem.now self.now }
+        requires ready { IsWait problem.now ready.now }
+        requires edge { edge < edge_count problem.now }
+        requires message { is_message problem.now edge ≡ true }
+        ensures tree { IfOk result (IsTree problem.now) }
+        ensures start { IfOk result (IsReleased problem.now.faults (ready_by problem.now self.now ready.now)
+            (later_by (input_delay problem.now edge) (input_tree problem.now self.now edge)) release) }
+    {
+        let item = problem.message_item(edge);
+        let start = self.started_by_frame(problem, ready, item, release)?;
+        Ok(start)
     }
 
     /// The starts of a process on a node once it is ready and at a release or later.

@@ -1,6 +1,7 @@
 //! Trees down guards.
-ghost use Rattle.std.specs.Prelude.{⊤, ◌≡◌, ◌<◌, ◌≤◌, All, IfOk, true};
-ghost use Rattle.cpg_base.specs.Graph.{condition_count, edge_count};
+ghost use Rattle.std.specs.Prelude.{⊤, ◌≡◌, ◌<◌, ◌≤◌, All, IfOk, false, true};
+ghost use Rattle.std.specs.Bool.{OnTrue};
+ghost use Rattle.cpg_base.specs.Graph.{condition_count, edge_count, is_message};
 ghost use Rattle.cpg_expand.specs.Agreeing.{IsTree};
 ghost use Rattle.cpg_expand.specs.Forest.{HasTrees, IsWait, ready_by};
 ghost use Rattle.cpg_expand.specs.Guarded.{IsActiveTree, IsHeardTree, IsStartAfter, IsStartBy, IsStartTree, IsTestedOn, LeadsBelow, PicksByValue, IsByBelow};
@@ -121,8 +122,9 @@ impl Descent<u64> for Hearing<'_> {
         yes: &Tree<u64>,
     ) -> Result<Tree<u64>, OutOfMemory> {
         let further = by_value(self.alloc, self.problem, condition, yes, no)?;
-        let there = self.forest.heard_there(self.problem, self.node, condition)?;
-        let both = there.max(&further)?;
+        let both = self
+            .forest
+            .heard_and(self.problem, self.node, condition, &further)?;
         Ok(both)
     }
 }
@@ -151,6 +153,20 @@ pub(crate) fn heard(
     Ok(heard)
 }
 
+/// Whether no input is from another node.
+fn are_own(problem: &Problem, edges: &[u32]) -> bool
+    requires { All (λ e. e < edge_count problem.now) edges.now }
+    ensures { OnTrue result (All (λ e. is_message problem.now e ≡ false) edges.now) }
+{
+    let Some((edge, others)) = edges.split_first() else {
+        return true;
+    };
+    if problem.is_message(*edge) {
+        return false;
+    }
+    are_own(problem, others)
+}
+
 /// The starts of a process that waits until its node is ready, its release and for these inputs.
 fn start_after(
     problem: &Problem,
@@ -172,6 +188,10 @@ fn start_after(
     // what comes from the node itself is there once the node is ready
     if !problem.is_message(*edge) {
         let start = start_after(problem, forest, wait, release, others)?;
+        return Ok(start);
+    }
+    if are_own(problem, others) {
+        let start = forest.started_by_input(problem, wait, *edge, release)?;
         return Ok(start);
     }
     let both = Ready::At(forest.ready_and_input(problem, wait, *edge)?);

@@ -9,7 +9,7 @@ ghost use Rattle.cpg_expand.specs.Agreeing.{IsTree};
 ghost use Rattle.cpg_expand.specs.Forest.{HasTrees, ends_of, heard_delay, heard_tree, times_of};
 ghost use Rattle.cpg_expand.specs.Latest.{HasEnded, HasEndedOf, HasHeardOf, HasInput, HasInputOf, HasLater, HasQueued, HasQueuedOf, IsLatestSend, IsLatestStart, IsRaised, or_later};
 ghost use Rattle.cpg_expand.specs.Tops.{IsTop};
-ghost use Rattle.cpg_tree.specs.Meeting.{HasWhere};
+ghost use Rattle.cpg_paths.specs.Meeting.{HasWhere};
 
 use crate::earlier::{Span, asked, stands_between};
 use crate::forest::Forest;
@@ -28,7 +28,7 @@ fn most_where(problem: &Problem, tree: &Tree<Option<u64>>, wanted: &Tree<bool>) 
 {
     // its clause tells that the graph is within its limits
     let _processes = problem.processes();
-    tree.most_where(wanted)
+    cpg_paths::most_where(tree, wanted)
 }
 
 /// A time, or another one later by a delay, whichever is greater.

@@ -10,6 +10,7 @@ ghost use Rattle.cpg_expand.specs.Tops.{AreTops};
 use crate::tops::{bar_of, past_tops, reaches};
 use crate::values::past;
 use cpg_base::{Order, OutOfMemory, Problem, Scenario, is_before};
+use cpg_paths::greatest;
 use cpg_tree::Tree;
 use std::alloc::Global;
 
@@ -95,7 +96,7 @@ impl Peak {
         requires tree { IsTree problem.now tree.now }
         ensures { IfOk result (IsNextPeak problem.now urgency.now tree.now.paths process self) }
     {
-        match tree.greatest(problem, urgency)? {
+        match greatest(tree, problem, urgency)? {
             Some(greatest) => Ok(self.or_time(problem, urgency, greatest.0, greatest.1, process)),
             None => Ok(self),
         }

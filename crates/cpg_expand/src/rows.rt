@@ -8,6 +8,7 @@ ghost use Rattle.cpg_expand.specs.MadeRows.{AreEntriesOf, AreMergedOf, AreRowsOf
 use cpg_base::{Order, OutOfMemory, Problem};
 use cpg_cube::Entry;
 use cpg_merging::merged_tidy;
+use cpg_paths::{columns, listing_along};
 use cpg_table::Row;
 use cpg_tree::Tree;
 use std::alloc::Global;
@@ -22,7 +23,7 @@ fn entries(
     requires tree { IsTree problem.now tree.now }
     ensures { IfOk result (λ entries. AreEntriesOf problem.now urgency.now tree.now entries.items) }
 {
-    let columns = tree.columns(problem, urgency)?;
+    let columns = columns(tree, problem, urgency)?;
     Ok(columns)
 }
 
@@ -39,9 +40,8 @@ fn start_entries(
 {
     // its clause tells that the graph is within its limits
     let _processes = problem.processes();
-    // merging sorts them, so they need no order before
-    let listed = tree.listed(problem)?;
-    let columns = merged_tidy(alloc, problem, urgency, listed)?;
+    let listing = listing_along(tree, problem, urgency)?;
+    let columns = merged_tidy(alloc, problem, urgency, listing)?;
     Ok(columns)
 }
 

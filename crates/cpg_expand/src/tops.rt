@@ -5,6 +5,7 @@ ghost use Rattle.cpg_expand.specs.Tops.{AreTops, bar_of, past_tops, reaches};
 
 use crate::values::time_past;
 use cpg_base::{OutOfMemory, Problem};
+use cpg_paths::most;
 use cpg_tree::Tree;
 use std::alloc::Global;
 
@@ -17,7 +18,7 @@ pub(crate) fn tops_of(
 {
     let mut tops = Vec::new(alloc);
     for tree in trees {
-        tops.push(tree.most())?;
+        tops.push(most(tree))?;
     }
     Ok(tops)
 }

@@ -6,7 +6,7 @@ ghost use Rattle.cpg_tree.specs.Tree.{HasOnePathEach, DoPathsPass, IsMap, IsJoin
 
 use cpg_base::OutOfMemory;
 use cpg_bus::Share;
-use cpg_tree::{Tree, time_later};
+use cpg_tree::{AsIs, Later, Tree, time_later};
 
 /// A time from which the next slot isn't asked for.
 const LATE: u64 = 1 << 59;
@@ -27,6 +27,80 @@ pub(crate) fn started(tree: &Tree<u64>, release: u64) -> Result<Tree<Option<u64>
     ensures pass { IfOk result (λ t. (test : ℕ → Bool) → DoPathsPass test tree.now.paths → DoPathsPass test t.paths) }
 {
     tree.map(&|time: u64| Some(time.max(release)))
+}
+
+/// The times of a tree, or 0, later by a delay, or the numbers of another tree, whichever are later.
+pub(crate) fn later_or(
+    tree: &Tree<Option<u64>>,
+    delay: u64,
+    other: &Tree<u64>,
+) -> Result<Tree<u64>, OutOfMemory>
+    requires { tree.now.faults ≡ other.now.faults }
+    ensures is { IfOk result (IsJoin (λ x y z. z ≡ max (time_later delay x) y) tree.now other.now) }
+    ensures each { IfOk result (λ t. HasOnePathEach t.faults t.paths) }
+    ensures pass { IfOk result (λ t. (test : ℕ → Bool) → DoPathsPass test tree.now.paths → DoPathsPass test other.now.paths → DoPathsPass test t.paths) }
+{
+    tree.greater(&Later { delay }, other, &AsIs, &|number: u64| number)
+}
+
+/// The times of a tree, or 0, later by a delay, or those of another tree, or 0, whichever are later.
+pub(crate) fn later_of(
+    tree: &Tree<Option<u64>>,
+    delay: u64,
+    other: &Tree<Option<u64>>,
+) -> Result<Tree<u64>, OutOfMemory>
+    requires { tree.now.faults ≡ other.now.faults }
+    ensures is { IfOk result (IsJoin (λ x y z. z ≡ max (time_later delay x) (time_later 0 y)) tree.now other.now) }
+    ensures each { IfOk result (λ t. HasOnePathEach t.faults t.paths) }
+    ensures pass { IfOk result (λ t. (test : ℕ → Bool) → DoPathsPass test tree.now.paths → DoPathsPass test other.now.paths → DoPathsPass test t.paths) }
+{
+    tree.greater(
+        &Later { delay },
+        other,
+        &Later { delay: 0 },
+        &|number: u64| number,
+    )
+}
+
+/// The numbers of a tree, the times of another one later by a delay, or a release, whichever are later, as starts in all
+/// scenarios.
+pub(crate) fn started_or(
+    tree: &Tree<u64>,
+    other: &Tree<Option<u64>>,
+    delay: u64,
+    release: u64,
+) -> Result<Tree<Option<u64>>, OutOfMemory>
+    requires { tree.now.faults ≡ other.now.faults }
+    ensures is { IfOk result (IsJoin (λ x y z. z ≡ Some (max (max x (time_later delay y)) release)) tree.now other.now) }
+    ensures each { IfOk result (λ t. HasOnePathEach t.faults t.paths) }
+    ensures pass { IfOk result (λ t. (test : ℕ → Bool) → DoPathsPass test tree.now.paths → DoPathsPass test other.now.paths → DoPathsPass test t.paths) }
+{
+    tree.greater(
+        &AsIs,
+        other,
+        &Later { delay },
+        &|number: u64| Some(number.max(release)),
+    )
+}
+
+/// The times of a tree later by a delay, those of another one, or a release, whichever are later, as starts in all scenarios.
+pub(crate) fn started_of(
+    tree: &Tree<Option<u64>>,
+    delay: u64,
+    other: &Tree<Option<u64>>,
+    release: u64,
+) -> Result<Tree<Option<u64>>, OutOfMemory>
+    requires { tree.now.faults ≡ other.now.faults }
+    ensures is { IfOk result (IsJoin (λ x y z. z ≡ Some (max (max (time_later delay x) (time_later 0 y)) release)) tree.now other.now) }
+    ensures each { IfOk result (λ t. HasOnePathEach t.faults t.paths) }
+    ensures pass { IfOk result (λ t. (test : ℕ → Bool) → DoPathsPass test tree.now.paths → DoPathsPass test other.now.paths → DoPathsPass test t.paths) }
+{
+    tree.greater(
+        &Later { delay },
+        other,
+        &Later { delay: 0 },
+        &|number: u64| Some(number.max(release)),
+    )
 }
 
 /// Where a tree has a value.

@@ -3,9 +3,10 @@ use Rattle.std.proofs.lemmas.List.{nil_from_length}
 use Rattle.std.proofs.lemmas.Option.{MatchOption-at_none}
 use Rattle.cpg_base.specs.Graph.{edge_count}
 use Rattle.cpg_tree.specs.Read.{later_by}
+use Rattle.cpg_tree.proofs.Forks.{from_true}
 use Rattle.cpg_expand.specs.Forest.{input_delay, input_tree, ready_by}
 use Rattle.cpg_expand.specs.Guarded.{IsStartAfter}
-use Rattle.cpg_expand.proofs.TreesTold.{all_parts, later_is, one_input, own_input}
+use Rattle.cpg_expand.proofs.TreesTold.{all_parts, last_input, later_is, one_input, own_input}
 use Rattle.cpg_expand.proofs.guarded.+start_after.Goals as goal
 
 pub returns-in_default-clause-start : goal.returns-in_default-clause-start
@@ -20,6 +21,14 @@ returns-then-not-is_message-clause-start t c =
     subst (λ (es : List ℕ). IsStartAfter g f wait c.args.release es c.in_ok-start-2.start) (sym c.in-Some.ensures.cases.0)
     (own_input g f wait c.in_ok-start-2.start c.args.release c.in-Some.edge.now c.in-Some.others.now (sym c.is_message.ensures ∙ c.if-not-is_message.true) c.in_ok-start-2.ensures.start)
 
+pub returns-then-are_own-clause-start : goal.returns-then-are_own-clause-start
+returns-then-are_own-clause-start t c =
+    let g = c.args.problem.now in
+    let f = c.args.forest.now in
+    let wait = ready_by g f c.args.wait.now in
+    subst (λ (es : List ℕ). IsStartAfter g f wait c.args.release es c.in_ok-start-3.start) (sym c.in-Some.ensures.cases.0)
+    (last_input g f wait c.in_ok-start-3.start c.args.release c.in-Some.edge.now c.in-Some.others.now (from_true c.are_own.result c.if-are_own.true c.are_own.ensures) c.in_ok-start-3.ensures.start)
+
 pub start_after-requires-2 : goal.start_after-requires-2
 start_after-requires-2 t c =
     let below = all_parts (λ e. e < edge_count c.args.problem.now) c.args.edges.now c.in-Some.edge.now c.in-Some.others.now c.in-Some.ensures.cases.0 c.requires.edges in
@@ -32,6 +41,6 @@ returns-clause-start t c =
     let g = c.args.problem.now in
     let f = c.args.forest.now in
     let wait = ready_by g f c.args.wait.now in
-    subst (λ (es : List ℕ). IsStartAfter g f wait c.args.release es c.in_ok-start-3.start) (sym c.in-Some.ensures.cases.0)
-    (one_input g f wait (later_by (input_delay g c.in-Some.edge.now) (input_tree g f c.in-Some.edge.now)) c.in_ok-ready_and_input.field-0 c.in_ok-start-3.start c.args.release c.in-Some.edge.now c.in-Some.others.now
-    (later_is g (input_delay g c.in-Some.edge.now) (input_tree g f c.in-Some.edge.now)) c.in_ok-ready_and_input.ensures.both c.in_ok-start-3.ensures.start)
+    subst (λ (es : List ℕ). IsStartAfter g f wait c.args.release es c.in_ok-start-4.start) (sym c.in-Some.ensures.cases.0)
+    (one_input g f wait (later_by (input_delay g c.in-Some.edge.now) (input_tree g f c.in-Some.edge.now)) c.in_ok-ready_and_input.field-0 c.in_ok-start-4.start c.args.release c.in-Some.edge.now c.in-Some.others.now
+    (later_is g (input_delay g c.in-Some.edge.now) (input_tree g f c.in-Some.edge.now)) c.in_ok-ready_and_input.ensures.both c.in_ok-start-4.ensures.start)

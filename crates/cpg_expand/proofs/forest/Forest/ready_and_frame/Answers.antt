@@ -7,7 +7,7 @@ use Rattle.cpg_expand.specs.Agreeing.{IsTree}
 use Rattle.cpg_expand.specs.Forest.{ForestState, IsWait, ends_of, ready_by, times_of}
 use Rattle.cpg_expand.specs.Later.{IsLatest}
 use Rattle.cpg_expand.specs.declared.forest.Ready.{Ready}
-use Rattle.cpg_expand.proofs.TreesTold.{ends_and_frame, ends_read, ends_tree, read_and_frame, same_tree, times_read, times_tree}
+use Rattle.cpg_expand.proofs.TreesTold.{ends_and_read, ends_read, ends_tree, same_tree, times_read, times_tree, told_and_read}
 use Rattle.cpg_expand.proofs.forest.Forest.ready_and_frame.Goals as goal
 
 pub returns-in_ok-both-in-After : goal.returns-in_ok-both-in-After
@@ -18,7 +18,6 @@ returns-in_ok-both-in-After c =
     let p = c.in-After.process in
     let times = c.index-times.result.now in
     let end = c.index.result.now in
-    let there = c.in_ok-there-in-After.there in
     let both = c.in_ok-both-in-After.both in
     let delay = c.slot_length-delay.result in
     let l : p < process_count g = subst (IsWait g) c.in-After.is c.requires.ready in
@@ -27,12 +26,10 @@ returns-in_ok-both-in-After c =
     let same_end : end ≡ ends_of g f p = ends_read g f c.requires.forest inside c.self.view_is end p p c.index.ensures refl l in
     let of_times : IsTree g times = subst (IsTree g) (sym same) (times_tree g f c.requires.forest x c.requires.item) in
     let of_end : IsTree g end = subst (IsTree g) (sym same_end) (ends_tree g f c.requires.forest p l) in
-    let of_there : IsTree g there = same_tree g times there of_times.faults c.in_ok-there-in-After.ensures.is.faults c.in_ok-there-in-After.ensures.each (c.in_ok-there-in-After.ensures.pass (is_variable g) of_times.known) in
     record {
-      tree = same_tree g there both of_there.faults c.in_ok-both-in-After.ensures.is.faults c.in_ok-both-in-After.ensures.each (c.in_ok-both-in-After.ensures.pass (is_variable g) of_there.known of_end.known);
+      tree = same_tree g times both of_times.faults c.in_ok-both-in-After.ensures.is.faults c.in_ok-both-in-After.ensures.each (c.in_ok-both-in-After.ensures.pass (is_variable g) of_times.known of_end.known);
       both = subst (λ (r : Ready). IsLatest g.faults (ready_by g f r) (later_by (slot_length g (home g x)) (times_of g f x)) both) (sym c.in-After.is)
-          (ends_and_frame g delay (slot_length g (home g x)) end (ends_of g f p) times (times_of g f x) there both (c.slot_length-delay.ensures ∙ ap (slot_length g) c.home.ensures.home) same_end same of_end of_times of_there
-          c.in_ok-there-in-After.ensures.is c.in_ok-both-in-After.ensures.is);
+          (ends_and_read g (λ n. n) delay (slot_length g (home g x)) (c.slot_length-delay.ensures ∙ ap (slot_length g) c.home.ensures.home) times (times_of g f x) same of_times end (ends_of g f p) both same_end of_end c.in_ok-both-in-After.ensures.is);
     }
 
 pub returns-in_ok-both-in-At : goal.returns-in_ok-both-in-At
@@ -51,5 +48,5 @@ returns-in_ok-both-in-At c =
     record {
       tree = same_tree g ready both of.faults c.in_ok-both-in-At.ensures.is.faults c.in_ok-both-in-At.ensures.each (c.in_ok-both-in-At.ensures.pass (is_variable g) of.known of_times.known);
       both = subst (λ (r : Ready). IsLatest g.faults (ready_by g f r) (later_by (slot_length g (home g x)) (times_of g f x)) both) (sym c.in-At.is)
-          (read_and_frame g delay (slot_length g (home g x)) ready times (times_of g f x) both (c.slot_length-delay.ensures ∙ ap (slot_length g) c.home.ensures.home) same of of_times c.in_ok-both-in-At.ensures.is);
+          (told_and_read g (λ n. n) delay (slot_length g (home g x)) (c.slot_length-delay.ensures ∙ ap (slot_length g) c.home.ensures.home) times (times_of g f x) same of_times ready both of c.in_ok-both-in-At.ensures.is);
     }
