@@ -12,12 +12,12 @@ use Rattle.std.proofs.lemmas.List.Sorted.{list_any-IsPermutation}
 use Rattle.cpg_base.specs.Graph.{Graph, IsVariable}
 use Rattle.cpg_base.proofs.Lists.{all_from}
 use Rattle.cpg_base.specs.Scenario.{Scenario, number_of}
-use Rattle.cpg_cube.specs.Cover.{is_left}
+use Rattle.cpg_cover.specs.Cover.{is_left}
 use Rattle.cpg_cube.specs.Cube.{holds, matches}
 use Rattle.cpg_cube.specs.Fit.{IsKnown}
 use Rattle.cpg_cube.specs.declared.literal.Literal.{Literal}
 use Rattle.cpg_cube.proofs.CubeLows.{holds-from}
-use Rattle.cpg_cube.proofs.Kept.{any_map}
+use Rattle.cpg_cube.proofs.Mapped.{any_map}
 use Rattle.cpg_tree.specs.Space.{Lies}
 use Rattle.cpg_tree.specs.declared.space.Space.{Space}
 use Rattle.cpg_audit.specs.Narrowing.{IsRange}

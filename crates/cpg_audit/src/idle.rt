@@ -14,6 +14,7 @@ use cpg_base::OutOfMemory;
 use cpg_cube::Entry;
 use cpg_expand::active_item;
 use cpg_log::Logged;
+use cpg_paths::columns;
 use cpg_rules::Admitted;
 use cpg_tree::Tree;
 use std::alloc::Global;
@@ -43,7 +44,7 @@ fn idle_columns(alloc: Global, admitted: &Admitted, item: u32) -> Result<Vec<Ent
 {
     let active = active_item(alloc, admitted, item)?;
     let idle = idle(&active)?;
-    let columns = idle.columns(admitted.problem(), admitted.order())?;
+    let columns = columns(&idle, admitted.problem(), admitted.order())?;
     Ok(columns)
 }
 

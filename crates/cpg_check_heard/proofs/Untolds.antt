@@ -8,7 +8,7 @@ use Rattle.cpg_base.specs.Graph.{Graph}
 use Rattle.cpg_base.proofs.First.{first_same}
 use Rattle.cpg_base.specs.First.{IsFirst}
 use Rattle.cpg_base.specs.Scenario.{Scenario, IsScenario, IsLeast}
-use Rattle.cpg_cube.specs.Cover.{is_left}
+use Rattle.cpg_cover.specs.Cover.{is_left}
 use Rattle.cpg_cube.specs.Cube.{matches}
 use Rattle.cpg_cube.specs.declared.literal.Literal.{Literal}
 use Rattle.cpg_violation.proofs.Tests.{off_where, same_where}

@@ -12,7 +12,8 @@ ghost use Rattle.cpg_table.specs.Table.{NodeTable};
 ghost use Rattle.cpg_check_time.specs.Columns.{IsColumn};
 
 use cpg_base::{OutOfMemory, Scenario};
-use cpg_cube::{Entry, earlier};
+use cpg_cover::earlier;
+use cpg_cube::Entry;
 use cpg_rules::Admitted;
 use cpg_table::Tables;
 use std::alloc::Global;

@@ -12,7 +12,8 @@ ghost use Rattle.cpg_check_time.specs.Columns.{IsColumn};
 
 use crate::lines::meeting;
 use cpg_base::{Order, OutOfMemory, Problem, Scenario};
-use cpg_cube::{Cube, Entry, earlier};
+use cpg_cover::earlier;
+use cpg_cube::{Cube, Entry};
 use cpg_rules::Admitted;
 use cpg_violation::Line;
 use std::alloc::Global;

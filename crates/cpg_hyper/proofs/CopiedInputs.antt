@@ -10,7 +10,7 @@ use Rattle.cpg_base.specs.declared.process.Edge.{Edge}
 use Rattle.cpg_base.proofs.Lists.{filter_none, from_range, numbers-Contains, same_filter, same_any, same_truth}
 use Rattle.cpg_base.proofs.Inputs.{outputs_parts}
 use Rattle.cpg_base.proofs.Sums.{filter-map}
-use Rattle.cpg_cube.proofs.Kept.{any_map}
+use Rattle.cpg_cube.proofs.Mapped.{any_map}
 use Rattle.cpg_table.proofs.GraphItems.{range-append}
 use Rattle.cpg_hyper.specs.Unrolled.{copied_edge}
 use Rattle.cpg_hyper.proofs.CopiedEdges.{no_edge}

@@ -5,7 +5,8 @@ ghost use Rattle.cpg_cube.specs.Fit.{IsKnown};
 
 use crate::fixtures::three;
 use cpg_base::{Problem, Scenario};
-use cpg_cube::{Cube, Literal, covers};
+use cpg_cover::covers;
+use cpg_cube::{Cube, Literal};
 use cpg_rules::Admitted;
 use std::alloc::Global;
 

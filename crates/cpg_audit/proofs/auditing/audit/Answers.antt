@@ -5,10 +5,10 @@ use Rattle.cpg_base.specs.Graph.{item_count}
 use Rattle.cpg_base.specs.Scenario.{Scenario, IsScenario}
 use Rattle.cpg_base.proofs.First.{first_same}
 use Rattle.cpg_cube.specs.Column.{Column}
-use Rattle.cpg_cube.specs.Cover.{is_left}
+use Rattle.cpg_cover.specs.Cover.{is_left}
 use Rattle.cpg_cube.specs.declared.literal.Literal.{Literal}
 use Rattle.cpg_cube.specs.Fit.{IsKnown}
-use Rattle.cpg_cube.proofs.Kept.{all_unmapped}
+use Rattle.cpg_cover.proofs.Kept.{all_unmapped}
 use Rattle.cpg_table.proofs.GraphTables.{has_shape}
 use Rattle.cpg_table.proofs.Settings.{Setting}
 use Rattle.cpg_violation.proofs.HeadLaws.{tables_of_graph}

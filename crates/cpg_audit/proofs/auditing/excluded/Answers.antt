@@ -7,7 +7,8 @@ use Rattle.cpg_base.specs.Numbers.{numbers_below}
 use Rattle.cpg_cube.specs.Cube.{matches}
 use Rattle.cpg_cube.specs.Fit.{IsKnown}
 use Rattle.cpg_cube.specs.declared.literal.Literal.{Literal}
-use Rattle.cpg_cube.proofs.Kept.{all_unmapped, any_map}
+use Rattle.cpg_cube.proofs.Mapped.{any_map}
+use Rattle.cpg_cover.proofs.Kept.{all_unmapped}
 use Rattle.cpg_audit.specs.Excluded.{excluded_of}
 use Rattle.cpg_audit.specs.declared.log_order.Timed.{Timed}
 use Rattle.cpg_audit.proofs.GivesLaws.{excluded_known}

@@ -1,6 +1,6 @@
 use Rattle.std.proofs.Common.{◌≡◌, ◌-◌, ◌&&◌, ◌∙◌, ap, arith, Some, subst, inl}
 use Rattle.cpg_base.specs.Graph.{IsVariable}
-use Rattle.cpg_cube.specs.Cover.{with_literal}
+use Rattle.cpg_cube.specs.Narrow.{with_literal}
 use Rattle.cpg_cube.specs.Cube.{holds, matches}
 use Rattle.cpg_cube.specs.Fit.{IsKnown}
 use Rattle.cpg_check_heard.specs.Bounds.{range_of}

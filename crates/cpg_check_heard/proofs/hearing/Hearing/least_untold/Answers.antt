@@ -2,7 +2,7 @@ use Rattle.std.proofs.Common.{rules, ◌≡◌, ◌<◌, ◌||◌, false, sym, a
 use Rattle.std.specs.List.{list_any}
 use Rattle.cpg_base.specs.Graph.{process_count, process_of_variable}
 use Rattle.cpg_base.specs.First.{IsFirst}
-use Rattle.cpg_cube.specs.Cover.{is_left}
+use Rattle.cpg_cover.specs.Cover.{is_left}
 use Rattle.cpg_cube.specs.Cube.{matches}
 use Rattle.cpg_table.specs.Heard.{facts}
 use Rattle.cpg_check_heard.specs.Bounds.{is_free, tells, variable_of}
