@@ -1,8 +1,8 @@
 #!/usr/bin/env python3
 """Runs the gate and says what it costs: processor seconds by crate and step, as a table for docs/CONTRIBUTING.md.
 
-    tools/gate_times.py            at the top of the repository: rt ci --anew, which proves and tries all
-    tools/gate_times.py NAME ..    rt ci NAME ..: some crates, and those below them that no earlier run proved
+    tools/gate_times.py            at the top of the repository: the whole gate, which proves and tries all anew
+    tools/gate_times.py NAME ..    rt ci NAME .., where the kit's takes names: some crates, and those below them that no earlier run proved
 
 The steps are a crate's proof, its tests (proved with them once more), the seed (the proof that its wrong bodies are tried over), and the
 wrong bodies. Each rattle process is looked at twice a second, with those that it started and that have ended, so that up to half a
@@ -55,8 +55,14 @@ def look(found, top):
             continue
 
 
+def all_anew():
+    """The words that have the whole gate run anew: in some kits rt ci does so by itself, and takes none."""
+    said = subprocess.run(["rt", "help"], capture_output=True, text=True)
+    return ["--anew"] if "--anew" in said.stdout + said.stderr else []
+
+
 def main():
-    gate = subprocess.Popen(["rt", "ci", *(sys.argv[1:] or ["--anew"])])
+    gate = subprocess.Popen(["rt", "ci", *(sys.argv[1:] or all_anew())])
     begun, found = time.time(), {}
     while gate.poll() is None:
         look(found, str(gate.pid))
