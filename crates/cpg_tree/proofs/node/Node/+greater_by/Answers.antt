@@ -14,7 +14,7 @@ pub returns-then-is_at_least-clause-made : goal.returns-then-is_at_least-clause-
 returns-then-is_at_least-clause-made g t c =
     let room : Space = c.args.space.now in
     let number : g.row.T.Denot → ℕ = g.R.Reading.number c.args.how.now.read.now in
-    let other_number : g.row.U.Denot → ℕ = g.S.Reading.number c.args.how.now.also.now in
+    let other_number : g.row.U.Denot → ℕ = g.S.Reading.number c.args.how.now.other_reading.now in
     let makes : ℕ → g.row.V.Denot → Type 0 = λ n z. g.F.Fn.post c.args.how.now.made.now (n, tt) z in
     let answers : g.row.T.Denot → g.row.U.Denot → g.row.V.Denot → Type 0 = λ x y z. makes (max (number x) (other_number y)) z in
     let a : Node g.row.T.Denot = c.args.self.now in
@@ -27,7 +27,7 @@ pub returns-then-is_at_least-2-clause-made : goal.returns-then-is_at_least-2-cla
 returns-then-is_at_least-2-clause-made g t c =
     let room : Space = c.args.space.now in
     let number : g.row.T.Denot → ℕ = g.R.Reading.number c.args.how.now.read.now in
-    let other_number : g.row.U.Denot → ℕ = g.S.Reading.number c.args.how.now.also.now in
+    let other_number : g.row.U.Denot → ℕ = g.S.Reading.number c.args.how.now.other_reading.now in
     let makes : ℕ → g.row.V.Denot → Type 0 = λ n z. g.F.Fn.post c.args.how.now.made.now (n, tt) z in
     let answers : g.row.T.Denot → g.row.U.Denot → g.row.V.Denot → Type 0 = λ x y z. makes (max (number x) (other_number y)) z in
     let a : Node g.row.T.Denot = c.args.self.now in
@@ -45,7 +45,7 @@ pub returns-in-Leaf-clause-made : goal.returns-in-Leaf-clause-made
 returns-in-Leaf-clause-made g t c =
     let room : Space = c.args.space.now in
     let number : g.row.T.Denot → ℕ = g.R.Reading.number c.args.how.now.read.now in
-    let other_number : g.row.U.Denot → ℕ = g.S.Reading.number c.args.how.now.also.now in
+    let other_number : g.row.U.Denot → ℕ = g.S.Reading.number c.args.how.now.other_reading.now in
     let makes : ℕ → g.row.V.Denot → Type 0 = λ n z. g.F.Fn.post c.args.how.now.made.now (n, tt) z in
     let answers : g.row.T.Denot → g.row.U.Denot → g.row.V.Denot → Type 0 = λ x y z. makes (max (number x) (other_number y)) z in
     let a : Node g.row.T.Denot = c.args.self.now in
@@ -63,7 +63,7 @@ pub returns-then-not-is_open_below-clause-made : goal.returns-then-not-is_open_b
 returns-then-not-is_open_below-clause-made g t c =
     let room : Space = c.args.space.now in
     let number : g.row.T.Denot → ℕ = g.R.Reading.number c.args.how.now.read.now in
-    let other_number : g.row.U.Denot → ℕ = g.S.Reading.number c.args.how.now.also.now in
+    let other_number : g.row.U.Denot → ℕ = g.S.Reading.number c.args.how.now.other_reading.now in
     let makes : ℕ → g.row.V.Denot → Type 0 = λ n z. g.F.Fn.post c.args.how.now.made.now (n, tt) z in
     let answers : g.row.T.Denot → g.row.U.Denot → g.row.V.Denot → Type 0 = λ x y z. makes (max (number x) (other_number y)) z in
     let a : Node g.row.T.Denot = c.args.self.now in
@@ -85,7 +85,7 @@ pub returns-then-not-is_open_above-clause-made : goal.returns-then-not-is_open_a
 returns-then-not-is_open_above-clause-made g t c =
     let room : Space = c.args.space.now in
     let number : g.row.T.Denot → ℕ = g.R.Reading.number c.args.how.now.read.now in
-    let other_number : g.row.U.Denot → ℕ = g.S.Reading.number c.args.how.now.also.now in
+    let other_number : g.row.U.Denot → ℕ = g.S.Reading.number c.args.how.now.other_reading.now in
     let makes : ℕ → g.row.V.Denot → Type 0 = λ n z. g.F.Fn.post c.args.how.now.made.now (n, tt) z in
     let answers : g.row.T.Denot → g.row.U.Denot → g.row.V.Denot → Type 0 = λ x y z. makes (max (number x) (other_number y)) z in
     let a : Node g.row.T.Denot = c.args.self.now in
@@ -107,7 +107,7 @@ pub returns-in_ok-high-in-Fork-clause-made : goal.returns-in_ok-high-in-Fork-cla
 returns-in_ok-high-in-Fork-clause-made g t c =
     let room : Space = c.args.space.now in
     let number : g.row.T.Denot → ℕ = g.R.Reading.number c.args.how.now.read.now in
-    let other_number : g.row.U.Denot → ℕ = g.S.Reading.number c.args.how.now.also.now in
+    let other_number : g.row.U.Denot → ℕ = g.S.Reading.number c.args.how.now.other_reading.now in
     let makes : ℕ → g.row.V.Denot → Type 0 = λ n z. g.F.Fn.post c.args.how.now.made.now (n, tt) z in
     let answers : g.row.T.Denot → g.row.U.Denot → g.row.V.Denot → Type 0 = λ x y z. makes (max (number x) (other_number y)) z in
     let a : Node g.row.T.Denot = c.args.self.now in

@@ -10,7 +10,7 @@ pub returns-in-Leaf-clause-made : goal.returns-in-Leaf-clause-made
 returns-in-Leaf-clause-made g c =
     let room : Space = c.args.space.now in
     let number : g.row.T.Denot → ℕ = g.R.Reading.number c.args.how.now.read.now in
-    let other_number : g.row.U.Denot → ℕ = g.S.Reading.number c.args.how.now.also.now in
+    let other_number : g.row.U.Denot → ℕ = g.S.Reading.number c.args.how.now.other_reading.now in
     let makes : ℕ → g.row.V.Denot → Type 0 = λ n z. g.F.Fn.post c.args.how.now.made.now (n, tt) z in
     let a : Node g.row.T.Denot = c.args.self.now in
     let b : Node g.row.U.Denot = c.args.other.now in
@@ -22,7 +22,7 @@ pub returns-in-Leaf-other-clause-made : goal.returns-in-Leaf-other-clause-made
 returns-in-Leaf-other-clause-made g c =
     let room : Space = c.args.space.now in
     let number : g.row.T.Denot → ℕ = g.R.Reading.number c.args.how.now.read.now in
-    let other_number : g.row.U.Denot → ℕ = g.S.Reading.number c.args.how.now.also.now in
+    let other_number : g.row.U.Denot → ℕ = g.S.Reading.number c.args.how.now.other_reading.now in
     let makes : ℕ → g.row.V.Denot → Type 0 = λ n z. g.F.Fn.post c.args.how.now.made.now (n, tt) z in
     let a : Node g.row.T.Denot = c.args.self.now in
     let b : Node g.row.U.Denot = c.args.other.now in
