@@ -39,6 +39,12 @@ fn high_of(faults: u8, literals: &[Literal], variable: u8) -> u8
 fn compare_others(variable: u8, a: &[Literal], b: &[Literal]) -> Ordering
     ensures { result ≡ slice_cmp literal_cmp (without variable a.now) (without variable b.now) }
 {
+    // most literals are equal
+    if let (Some((first, rest)), Some((other, others))) = (a.split_first(), b.split_first()) {
+        if first == other {
+            return compare_others(variable, rest, others);
+        }
+    }
     match (a.split_first(), b.split_first()) {
         (Some((first, rest)), _) if first.variable == variable => compare_others(variable, rest, b),
         (_, Some((first, rest))) if first.variable == variable => compare_others(variable, a, rest),
