@@ -32,5 +32,5 @@ is_candidate differing c = get_or differing (place_in (length differing) (kind_o
 
 -- all columns of one kind that ask differently are among the candidates
 abbrev pub HoldCandidates : List Column → List Column → Type 0
-HoldCandidates columns candidates = (c d : Column) → Contains columns c → Contains columns d → (kind_of c).number ≡ (kind_of d).number → (kind_of c).asked ≢ (kind_of d).asked →
-    Contains candidates c × Contains candidates d
+HoldCandidates columns candidates = (c d : Column) → Contains columns c → Contains columns d → (kind_of c).number ≡ (kind_of d).number →
+    (kind_of c).asked ≢ (kind_of d).asked → Contains candidates c × Contains candidates d
