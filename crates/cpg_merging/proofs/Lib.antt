@@ -8,3 +8,4 @@ pub mod MergingSteps
 pub mod MergingTotals
 pub mod MergingBlocks
 pub mod MergingDemands
+pub mod MergingKinds

@@ -1,22 +1,14 @@
--- Literals that all begin at 0: sums of what is asked above 0 have nothing of them, and no column ends where one of them begins.
-use Rattle.std.proofs.Common.{ℕ, ◌≡◌, ◌⊎◌, ◌==◌, Bool, true, List, [], ◌∷◌, ◌++◌, Contains, arith, refl, subst, sum_by, inl, inr}
+-- Literals that all begin at 0: no column ends where one of them begins.
+use Rattle.std.proofs.Common.{ℕ, ◌≡◌, ◌⊎◌, ◌==◌, true, List, [], ◌∷◌, ◌++◌, Contains, arith, subst, inl, inr}
 use Rattle.std.specs.List.{list_all}
-use Rattle.std.proofs.lemmas.Bool.{and_parts, cond-true, eqb-true}
+use Rattle.std.proofs.lemmas.Bool.{and_parts, eqb-true}
 use Rattle.std.proofs.lemmas.List.Elements.{Contains-append_cases}
-use Rattle.std.proofs.lemmas.List.Sums.{sum_by-cons}
 use Rattle.cpg_base.proofs.Lists.{Contains-cases, Contains-nil}
 use Rattle.cpg_cube.specs.declared.literal.Literal.{Literal}
-use Rattle.cpg_merging.specs.Totals.{HasNoPartner, hash_of, number_of, spread}
+use Rattle.cpg_merging.specs.Totals.{HasNoPartner}
 
 abbrev pub AllAtZero : List Literal → Type 0
 AllAtZero ls = list_all (λ (l : Literal). l.low == 0) ls ≡ true
-
-pub none_asked : (ls : List Literal) → AllAtZero ls → sum_by (hash_of true) ls ≡ 0
-none_asked [] h = refl
-none_asked (l ∷ ls) h =
-    let parts = and_parts (l.low == 0) (list_all (λ (m : Literal). m.low == 0) ls) h in
-    let here : hash_of true l ≡ 0 = cond-true (l.low == 0) 0 (spread (number_of l)) parts.0 in
-    omega (arith, sum_by-cons (hash_of true) l ls, here, none_asked ls parts.1)
 
 pub zero_in : (ls : List Literal) → AllAtZero ls → (l : Literal) → Contains ls l → l.low ≡ 0
 zero_in [] h l c = absurd (Contains-nil l c)
@@ -27,8 +19,8 @@ zero_in (m ∷ ls) h l c =
       | inr d ↦ zero_in ls parts.1 l d
     ]
 
-pub none_before : (asked : Bool) (sums : List ℕ) (total : ℕ) (ls : List Literal) → AllAtZero ls → (l : Literal) → Contains ls l → HasNoPartner asked sums total l
-none_before asked sums total ls h l c low rest lt e there = absurd (omega (arith, zero_in ls h l c, lt))
+pub none_before : (sums : List ℕ) (total : ℕ) (ls : List Literal) → AllAtZero ls → (l : Literal) → Contains ls l → HasNoPartner sums total l
+none_before sums total ls h l c low rest lt e there = absurd (omega (arith, zero_in ls h l c, lt))
 
 -- literals of which a block was marked
 pub marked_on : (P : Literal → Type 0) (Q : Literal → Type 0) (all left block rest : List Literal) → left ≡ block ++ rest → ((l : Literal) → P l → Q l) → ((l : Literal) → Contains block l → Q l) → ((l : Literal) → Contains all l → Contains left l ⊎ P l)

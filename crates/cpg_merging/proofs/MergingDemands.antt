@@ -59,7 +59,7 @@ same_time : (t a b : ℕ) → a < 256 → b < 256 → (t * 256 % 2 ^ 64 + a) % 2
 same_time t a b h k = omega (arith, h, k)
 
 module _ (g : Graph) (few : process_count g ≤ 128) (faults : g.faults ≤ 8) (v : ℕ) (known : IsVariable g v) where
-  top_small : top g.faults v ≤ 8
+  pub top_small : top g.faults v ≤ 8
   top_small = go (nat_lt v 128)
     where
       go : (b : Bool) → cond b g.faults 1 ≤ 8

@@ -1,11 +1,14 @@
 -- Columns of which no sum is that of another changed at a literal don't touch.
-use Rattle.std.proofs.Common.{ℕ, ◌+◌, ◌-◌, ◌%◌, ◌^◌, ◌<◌, ◌≤◌, ◌≡◌, ◌≢◌, ◌⊎◌, ◌==◌, Bool, true, false, not, List, [], ◌∷◌, length, take, get_or, map, sum_by, Contains, IsPermutation, arith, refl, sym, ap, ap₂, ◌∙◌, subst, inl, inr, eq-eqb, ne_eqb, true≢false}
+use Rattle.std.proofs.Common.{ℕ, ◌+◌, ◌-◌, ◌%◌, ◌^◌, ◌<◌, ◌≤◌, ◌≡◌, ◌≢◌, ◌⊎◌, ◌==◌, Bool, true, false, not, List, [], ◌∷◌, length, take, get_or, map, sum_by, Contains, IsPermutation, arith, refl, sym, ap, ap₂, ◌∙◌, subst, inl, inr, eq-eqb, ne_eqb, true≢false, Result, Ok, Err}
 use Rattle.std.specs.Prelude.{slice_set}
 use Rattle.std.specs.Bool.{OnFalse}
-use Rattle.std.proofs.lemmas.Bool.{cases_eq, cond-true, cond-false}
+use Rattle.std.specs.List.Sorted.{IsBinarySearchResult}
+use Rattle.std.specs.Ordering.{nat_cmp}
+use Rattle.std.specs.Result.{is_ok}
+use Rattle.std.proofs.lemmas.Bool.{cases_eq, cases_lt, cond-true, cond-false}
 use Rattle.std.proofs.lemmas.List.Elements.{All-contains, Contains-push_cases}
-use Rattle.std.proofs.lemmas.List.{take_more, take_all, get_or-map, get_or-set_other, get_or-set_same}
-use Rattle.std.proofs.lemmas.List.Sorted.{Contains-permutation, IsPermutation-sym}
+use Rattle.std.proofs.lemmas.List.{take_more, take_all, get_or_default, get_or-map, get_or-set_other, get_or-set_same, length-map}
+use Rattle.std.proofs.lemmas.List.Sorted.{Contains-permutation, IsPermutation-sym, searched}
 use Rattle.std.proofs.lemmas.List.Sums.{sum_by-cons}
 use Rattle.cpg_base.specs.Graph.{Graph, process_count, IsVariable}
 use Rattle.cpg_base.proofs.Lists.{Contains-first, Contains-rest, Contains-cases, Contains-nil, Contains-map}
@@ -15,7 +18,7 @@ use Rattle.cpg_base.specs.Variable.{top}
 use Rattle.cpg_cube.proofs.Ranges.{rising_rest, rising_first}
 use Rattle.cpg_cube.specs.Column.{Column}
 use Rattle.cpg_merging.specs.Merging.{without, TouchAt, IsSettledOn}
-use Rattle.cpg_merging.specs.Totals.{mixed, hash_of, total_of, ended, HasNoPartner, IsMarked, AreMarkedBy, AreMarked, place_in}
+use Rattle.cpg_merging.specs.Totals.{mixed, hash_of, total_of, ended, HasNoPartner, IsMarked, AreMarkedBy, AreMarked, DoNotFall, place_in}
 use Rattle.cpg_merging.proofs.MergingPairs.{IsGood, low-le-high, high_in-top}
 use Rattle.cpg_merging.proofs.MergingLists.{AreGood}
 use Rattle.cpg_merging.proofs.MergingSettled.{same_without}
@@ -80,12 +83,9 @@ sum_parts f v (m ∷ ms) rising l c e = elim (Contains-cases m ms l c) [
 pub one_rest : (x r h i : ℕ) → (x + h) % 2 ^ 64 ≡ (r + h) % 2 ^ 64 → (x + i) % 2 ^ 64 ≡ (r + i) % 2 ^ 64
 one_rest x r h i e = omega (arith, e)
 
-module _ (g : Graph) (few : process_count g ≤ 128) (asked : Bool) (v : ℕ) (known : IsVariable g v) where
-  abbrev hash : Literal → ℕ
-  hash l = hash_of asked l
-
-  touch_partner : (c d : Column) → IsGood g c.cube → IsGood g d.cube → c.time ≡ d.time → TouchAt g.faults v c.cube d.cube → (totals : List ℕ) → Contains totals (total_of asked c)
-      → ((l : Literal) → Contains d.cube l → l.variable ≡ v → HasNoPartner asked totals (total_of asked d) l) → ⊥
+module _ (g : Graph) (few : process_count g ≤ 128) (v : ℕ) (known : IsVariable g v) where
+  pub touch_partner : (c d : Column) → IsGood g c.cube → IsGood g d.cube → c.time ≡ d.time → TouchAt g.faults v c.cube d.cube → (totals : List ℕ) → Contains totals (total_of c)
+      → ((l : Literal) → Contains d.cube l → l.variable ≡ v → HasNoPartner totals (total_of d) l) → ⊥
   touch_partner c d good_c good_d same touch totals there none =
       let k = g.faults in
       let next : high_in k c.cube v + 1 ≡ low_in d.cube v = touch.next in
@@ -94,34 +94,24 @@ module _ (g : Graph) (few : process_count g ≤ 128) (asked : Bool) (v : ℕ) (k
       let high_d = high_in-top k d.cube (λ i e l. (good_d.narrow i e l).1) v in
       let lc : Contains c.cube (of_range k c.cube v) = spoken k c.cube v (inr (omega (arith, next, low_d, high_d))) in
       let ld : Contains d.cube (of_range k d.cube v) = spoken k d.cube v (inl (omega (arith, next))) in
-      let rest : ℕ = mixed 0 d.time + sum_by hash (without v d.cube) in
-      let sum_c : mixed 0 c.time + sum_by hash c.cube ≡ rest + hash (of_range k c.cube v) =
-      add_parts (mixed 0 c.time) (sum_by hash c.cube) (mixed 0 d.time) (sum_by hash (without v d.cube)) (hash (of_range k c.cube v)) (ap (mixed 0) same)
-      (sum_parts hash v c.cube good_c.cube.rising (of_range k c.cube v) lc refl ∙ ap (λ ls. sum_by hash ls + hash (of_range k c.cube v)) (same_without g few v known c.cube d.cube good_c good_d touch.others)) in
-      let sum_d : mixed 0 d.time + sum_by hash d.cube ≡ rest + hash (of_range k d.cube v) =
-      add_parts (mixed 0 d.time) (sum_by hash d.cube) (mixed 0 d.time) (sum_by hash (without v d.cube)) (hash (of_range k d.cube v)) refl
-      (sum_parts hash v d.cube good_d.cube.rising (of_range k d.cube v) ld refl) in
+      let rest : ℕ = mixed 0 d.time + sum_by hash_of (without v d.cube) in
+      let sum_c : mixed 0 c.time + sum_by hash_of c.cube ≡ rest + hash_of (of_range k c.cube v) =
+      add_parts (mixed 0 c.time) (sum_by hash_of c.cube) (mixed 0 d.time) (sum_by hash_of (without v d.cube)) (hash_of (of_range k c.cube v)) (ap (mixed 0) same)
+      (sum_parts hash_of v c.cube good_c.cube.rising (of_range k c.cube v) lc refl ∙ ap (λ ls. sum_by hash_of ls + hash_of (of_range k c.cube v)) (same_without g few v known c.cube d.cube good_c good_d touch.others)) in
+      let sum_d : mixed 0 d.time + sum_by hash_of d.cube ≡ rest + hash_of (of_range k d.cube v) =
+      add_parts (mixed 0 d.time) (sum_by hash_of d.cube) (mixed 0 d.time) (sum_by hash_of (without v d.cube)) (hash_of (of_range k d.cube v)) refl
+      (sum_parts hash_of v d.cube good_d.cube.rising (of_range k d.cube v) ld refl) in
       let high : high_in k c.cube v ≡ low_in d.cube v - 1 = omega (arith, next) in
       let end : of_range k c.cube v ≡ ended (of_range k d.cube v) (low_in c.cube v) = ap (λ (n : ℕ). record { variable = v; low = low_in c.cube v; high = n }) high in
       none (of_range k d.cube v) ld refl (low_in c.cube v) rest (omega (arith, low_c, next)) (ap (λ n. n % 2 ^ 64) (sym sum_d))
-      (subst (Contains totals) (ap (λ n. n % 2 ^ 64) sum_c ∙ ap (λ (l : Literal). (rest + hash l) % 2 ^ 64) end) there)
+      (subst (Contains totals) (ap (λ n. n % 2 ^ 64) sum_c ∙ ap (λ (l : Literal). (rest + hash_of l) % 2 ^ 64) end) there)
     where
       add_parts : (s t r w h : ℕ) → s ≡ r → t ≡ w + h → s + t ≡ r + w + h
       add_parts s t r w h e f = omega (arith, e, f)
 
-  -- so columns don't touch at a variable that isn't marked
-  settled_unmarked : (xs : List Column) → AreGood g xs → (marks : List Bool) → AreMarkedBy asked (map (total_of asked) xs) marks xs → ¬ IsMarked marks v → IsSettledOn g.faults v xs
-  settled_unmarked xs good marks all off c d m n e t = touch_partner c d (All-contains (λ (x : Column). IsGood g x.cube) xs c good m) (All-contains (λ (x : Column). IsGood g x.cube) xs d good n) e t
-      (map (total_of asked) xs) (Contains-map (total_of asked) xs c m) (λ l j i. all d l n j (λ on. off (subst (IsMarked marks) i on)))
-
--- marks by either sums tell where no two columns touch
-pub marked_by : (g : Graph) → process_count g ≤ 128 → (asked : Bool) (xs : List Column) → AreGood g xs → (marks : List Bool) → AreMarkedBy asked (map (total_of asked) xs) marks xs → AreMarked g marks xs
-marked_by g few asked xs good marks all v known off = settled_unmarked g few asked v known xs good marks all off
-
 -- marks by the sums are marks by the same sums sorted
-pub marked_sorted : (asked : Bool) (columns : List Column) (marks : List Bool) (sorted : List ℕ) → IsPermutation (map (total_of asked) columns) sorted → AreMarkedBy asked sorted marks columns
-    → AreMarkedBy asked (map (total_of asked) columns) marks columns
-marked_sorted asked columns marks sorted p h = λ d l m n off low rest less is there. h d l m n off low rest less is (Contains-permutation (map (total_of asked) columns) sorted _ p there)
+pub marked_sorted : (columns : List Column) (marks : List Bool) (sorted : List ℕ) → IsPermutation (map total_of columns) sorted → AreMarkedBy sorted marks columns → AreMarkedBy (map total_of columns) marks columns
+marked_sorted columns marks sorted p h = λ d l m n off low rest less is there. h d l m n off low rest less is (Contains-permutation (map total_of columns) sorted _ p there)
 
 -- and columns have the marks that they have in another order
 pub marked_permuted : (g : Graph) (xs ys : List Column) (marks : List Bool) → IsPermutation xs ys → AreMarked g marks xs → AreMarked g marks ys
@@ -160,6 +150,17 @@ sieve_more sieve count place numbers i d within long is inside before n c = all_
       | inr n ↦ get_or-set_other sieve place q true false n ∙ on
     ]
 
+-- what a search doesn't find isn't there
+pub not_there : (xs : List ℕ) (x : ℕ) (r : Result ℕ ℕ) → IsBinarySearchResult (λ y. nat_cmp y x) xs r → DoNotFall xs → OnFalse (is_ok r) (Contains xs x → ⊥)
+not_there xs x (Ok i) h up = tt
+not_there xs x (Err i) h up = λ there.
+    let parts = searched xs x (Err i) h up in
+    let is : get_or xs there.0 0 ≡ x = sym (get_or_default xs there.0 x 0 there.1) ∙ there.2 in
+    elim (cases_lt there.0 i) [
+      | inl low ↦ omega (arith, parts.1 there.0 low, is)
+      | inr high ↦ omega (arith, parts.2 there.0 high there.1, is)
+    ]
+
 -- ---- marks of variables
 
 -- a mark set where there was none leaves the others
@@ -174,6 +175,24 @@ pub mark_off : (marks : List Bool) (place : ℕ) (b : Bool) → place < length m
 mark_off marks place true within off = absurd (off (get_or-set_same marks place true false within))
 mark_off marks place false within off = refl
 
--- the sum at a place is that of the column there
-pub total_at : (asked : Bool) (columns : List Column) (totals : List ℕ) (place : ℕ) (d : Column) (n : ℕ) → totals ≡ map (total_of asked) columns → place < length columns → get_or columns place d ≡ d → get_or totals place n ≡ total_of asked d
-total_at asked columns totals place d n e within is = ap (λ (ns : List ℕ). get_or ns place n) e ∙ get_or-map (total_of asked) columns place d n within ∙ ap (total_of asked) is
+-- marks by the columns before a place and by that there are marks by those before the next
+module _ {X : Type 0} (f : X → Column) (sums : List ℕ) (columns : List X) where
+  pub marked_next : (totals : List ℕ) (old new : List Bool) (place : ℕ) (x : X) → place < length columns → x ≡ get_or columns place x → totals ≡ map total_of (map f columns) → ((v : ℕ) → IsMarked old v → IsMarked new v)
+      → ((l : Literal) → Contains (f x).cube l → ¬ IsMarked new l.variable → HasNoPartner sums (get_or totals place 0) l) → AreMarkedBy sums old (take place (map f columns)) → AreMarkedBy sums new (take (place + 1) (map f columns))
+  marked_next totals old new place x within is e kept here before d l m = all_more (λ (y : Column). (n : Literal) → Contains y.cube n → ¬ IsMarked new n.variable → HasNoPartner sums (total_of y) n) (map f columns) place (f x) long (λ y h n i off. before y n h i (λ on. off (kept n.variable on))) (subst (λ (y : Column). (n : Literal) → Contains y.cube n → ¬ IsMarked new n.variable → HasNoPartner sums (total_of y) n) (sym at) now) d m l
+    where
+      long : place < length (map f columns)
+      long = let same = length-map columns f in omega (arith, within, same)
+
+      at : get_or (map f columns) place (f x) ≡ f x
+      at = get_or-map f columns place x (f x) within ∙ ap f (sym is)
+
+      total : get_or totals place 0 ≡ total_of (f x)
+      total = ap (λ (ns : List ℕ). get_or ns place 0) e ∙ get_or-map total_of (map f columns) place (f x) 0 long ∙ ap total_of at
+
+      now : (n : Literal) → Contains (f x).cube n → ¬ IsMarked new n.variable → HasNoPartner sums (total_of (f x)) n
+      now = subst (λ (t : ℕ). (n : Literal) → Contains (f x).cube n → ¬ IsMarked new n.variable → HasNoPartner sums t n) total here
+
+  pub marked_all : (marks : List Bool) (place : ℕ) → length columns ≤ place → AreMarkedBy sums marks (take place (map f columns)) → AreMarkedBy sums marks (map f columns)
+  marked_all marks place long before d l m = all_of (λ (y : Column). (n : Literal) → Contains y.cube n → ¬ IsMarked marks n.variable → HasNoPartner sums (total_of y) n) (map f columns) place
+      (let same = length-map columns f in omega (arith, long, same)) (λ y h n. before y n h) d m l

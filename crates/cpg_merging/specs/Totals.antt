@@ -1,7 +1,6 @@
 -- Numbers of columns, each a sum over its literals, by which it is found whether any two of a row touch: where two do, the later
--- one's sum with one literal changed is the sum of the other. So is it for sums over all literals, and for those over the
--- literals that begin above 0, which are few.
-use Rattle.std.specs.Prelude.{ℕ, ◌+◌, ◌-◌, ◌*◌, ◌/◌, ◌^◌, ◌%◌, ◌<◌, ◌≤◌, ◌≡◌, ◌&&◌, ◌==◌, if◌then◌else◌, Bool, true, false, List, length, get_or, sum_by, Contains}
+-- one's sum with one literal changed is the sum of the other.
+use Rattle.std.specs.Prelude.{ℕ, ◌+◌, ◌-◌, ◌*◌, ◌/◌, ◌^◌, ◌%◌, ◌<◌, ◌≤◌, ◌≡◌, Bool, true, false, List, length, get_or, sum_by, Contains}
 use Rattle.cpg_base.specs.Graph.{Graph, IsVariable}
 use Rattle.cpg_cube.specs.declared.literal.Literal.{Literal}
 use Rattle.cpg_cube.specs.Column.{Column}
@@ -19,31 +18,35 @@ number_of l = l.variable * 65536 + l.low * 256 + l.high
 abbrev pub spread : ℕ → ℕ
 spread n = mixed 1 n * (mixed 1 n / 4294967296) % 2 ^ 64
 
--- and 0 for one that begins at 0, where only what is asked above that counts
-abbrev pub hash_of : Bool → Literal → ℕ
-hash_of asked l = if asked && (l.low == 0) then 0 else spread (number_of l)
+-- and so for a literal
+abbrev pub hash_of : Literal → ℕ
+hash_of l = spread (number_of l)
 
--- the sum of a column's time and literals
-abbrev pub total_of : Bool → Column → ℕ
-total_of asked c = (mixed 0 c.time + sum_by (hash_of asked) c.cube) % 2 ^ 64
+-- the sum of a time and literals
+abbrev pub total_by : ℕ → List Literal → ℕ
+total_by time literals = (mixed 0 time + sum_by hash_of literals) % 2 ^ 64
+
+-- the sum of a column
+abbrev pub total_of : Column → ℕ
+total_of c = total_by c.time c.cube
 
 -- a literal that ends where another begins
 abbrev pub ended : Literal → ℕ → Literal
 ended l low = record { variable = l.variable; low = low; high = l.low - 1 }
 
 -- none of the sums is that of a column with the literal changed so
-abbrev pub HasNoPartner : Bool → List ℕ → ℕ → Literal → Type 0
-HasNoPartner asked totals total l = (low rest : ℕ) → low < l.low → (rest + hash_of asked l) % 2 ^ 64 ≡ total →
-    Contains totals ((rest + hash_of asked (ended l low)) % 2 ^ 64) → ⊥
+abbrev pub HasNoPartner : List ℕ → ℕ → Literal → Type 0
+HasNoPartner totals total l = (low rest : ℕ) → low < l.low → (rest + hash_of l) % 2 ^ 64 ≡ total →
+    Contains totals ((rest + hash_of (ended l low)) % 2 ^ 64) → ⊥
 
 -- whether a number is marked
 abbrev pub IsMarked : List Bool → ℕ → Type 0
 IsMarked marks v = get_or marks v false ≡ true
 
 -- nor of any column with a literal changed that is on a variable which isn't marked
-abbrev pub AreMarkedBy : Bool → List ℕ → List Bool → List Column → Type 0
-AreMarkedBy asked totals marks columns = (d : Column) (l : Literal) → Contains columns d → Contains d.cube l → ¬ IsMarked marks l.variable →
-    HasNoPartner asked totals (total_of asked d) l
+abbrev pub AreMarkedBy : List ℕ → List Bool → List Column → Type 0
+AreMarkedBy totals marks columns = (d : Column) (l : Literal) → Contains columns d → Contains d.cube l → ¬ IsMarked marks l.variable →
+    HasNoPartner totals (total_of d) l
 
 -- no two columns of one time touch at a variable that isn't marked
 abbrev pub AreMarked : Graph → List Bool → List Column → Type 0
@@ -54,8 +57,8 @@ abbrev pub DoNotFall : List ℕ → Type 0
 DoNotFall ns = (i j : ℕ) → i ≤ j → j < length ns → get_or ns i 0 ≤ get_or ns j 0
 
 -- where a number has its mark in a sieve of so many
-abbrev pub place_in : ℕ → ℕ → ℕ
-place_in count n = n / 4294967296 % count
+unfoldable pub place_in : ℕ → ℕ → ℕ
+place_in count n = n / 4294967296 * count / 4294967296
 
 -- a sieve marks the place of each number
 abbrev pub IsSieve : List Bool → List ℕ → Type 0

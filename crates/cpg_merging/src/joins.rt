@@ -39,6 +39,12 @@ fn high_of(faults: u8, literals: &[Literal], variable: u8) -> u8
 fn compare_others(variable: u8, a: &[Literal], b: &[Literal]) -> Ordering
     ensures { result ≡ slice_cmp literal_cmp (without variable a.now) (without variable b.now) }
 {
+    // most literals are equal
+    if let (Some((first, rest)), Some((other, others))) = (a.split_first(), b.split_first()) {
+        if first == other {
+            return compare_others(variable, rest, others);
+        }
+    }
     match (a.split_first(), b.split_first()) {
         (Some((first, rest)), _) if first.variable == variable => compare_others(variable, rest, b),
         (_, Some((first, rest))) if first.variable == variable => compare_others(variable, a, rest),
@@ -197,21 +203,22 @@ fn join_neighbours(
     alloc: Global,
     faults: u8,
     variable: u8,
-    columns: &[Entry],
+    columns: Vec<Entry>,
 ) -> Result<Vec<Entry>, OutOfMemory>
-    ensures { IfOk result (λ r. r.items ≡ walked_over faults variable columns.now) }
+    ensures { IfOk result (λ r. r.items ≡ walked_over faults variable columns.items) }
 {
     let mut joined = Vec::new(alloc);
-    let Some((first, rest)) = columns.split_first() else {
+    joined.reserve(columns.len())?;
+    let mut rest = columns.into_iter();
+    let Some(first) = rest.next() else {
         return Ok(joined);
     };
-    joined.reserve(columns.len())?;
-    let mut current = first.copy()?;
+    let mut current = first;
     for next in rest {
-        if is_followed(faults, variable, &current, next) {
-            current = join(alloc, faults, variable, &current, next)?;
+        if is_followed(faults, variable, &current, &next) {
+            current = join(alloc, faults, variable, &current, &next)?;
         } else {
-            joined.push(mem::replace(&mut current, next.copy()?))?;
+            joined.push(mem::replace(&mut current, next))?;
         }
     }
     joined.push(current)?;
@@ -230,5 +237,5 @@ pub(crate) fn joined_columns(
     if !is_any_followed(faults, variable, columns.as_slice()) {
         return Ok(columns);
     }
-    join_neighbours(alloc, faults, variable, columns.as_slice())
+    join_neighbours(alloc, faults, variable, columns)
 }

@@ -3,6 +3,7 @@
 
 mod demands;
 mod joins;
+mod kinds;
 mod marks;
 mod merging;
 mod totals;

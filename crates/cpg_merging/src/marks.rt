@@ -5,19 +5,17 @@ ghost use Rattle.cpg_merging.specs.Totals.{AreMarked, AreMarkedBy, AreSums, HasN
 ghost use Rattle.cpg_merging.specs.Merging.{IsShorn};
 
 use crate::demands::have_many_demands;
+use crate::kinds::candidates;
 use crate::totals::{Sums, has_partner, sieve_of, totals};
 use cpg_base::{OutOfMemory, Problem};
-use cpg_cube::{BLOCK, Entry, Listing, Literal, begin_at_zero};
+use cpg_cube::{BLOCK, Entry, Listing, Literal, VARIABLES, begin_at_zero};
 use std::alloc::Global;
-
-/// How many variables there may be.
-const VARIABLES: usize = 256;
 
 /// Marks the variable of a literal if a column with this sum may follow another at it.
 fn mark_at(sums: Sums<'_>, total: u64, literal: Literal, marks: &mut [bool; VARIABLES])
     requires { AreSums sums.sorted.now sums.sieve.now }
     ensures kept { (v : ℕ) → IsMarked marks.old v → IsMarked marks.new v }
-    ensures marked { ¬ IsMarked marks.new literal.variable → HasNoPartner sums.entry.asked sums.entry.sorted.now total literal }
+    ensures marked { ¬ IsMarked marks.new literal.variable → HasNoPartner sums.entry.sorted.now total literal }
 {
     // as most literals begin at 0, which nothing comes before
     if literal.low == 0 {
@@ -34,7 +32,7 @@ fn mark_at(sums: Sums<'_>, total: u64, literal: Literal, marks: &mut [bool; VARI
 fn mark_each(sums: Sums<'_>, total: u64, literals: &[Literal], marks: &mut [bool; VARIABLES])
     requires { AreSums sums.sorted.now sums.sieve.now }
     ensures kept { (v : ℕ) → IsMarked marks.old v → IsMarked marks.new v }
-    ensures marked { (l : Literal) → Contains literals.now l → ¬ IsMarked marks.new l.variable → HasNoPartner sums.entry.asked sums.entry.sorted.now total l }
+    ensures marked { (l : Literal) → Contains literals.now l → ¬ IsMarked marks.new l.variable → HasNoPartner sums.entry.sorted.now total l }
 {
     for literal in literals {
         mark_at(sums, total, *literal, marks);
@@ -50,7 +48,7 @@ fn mark_block(
 )
     requires { AreSums sums.sorted.now sums.sieve.now }
     ensures kept { (v : ℕ) → IsMarked marks.old v → IsMarked marks.new v }
-    ensures marked { (l : Literal) → Contains literals.now l → ¬ IsMarked marks.new l.variable → HasNoPartner sums.entry.asked sums.entry.sorted.now total l }
+    ensures marked { (l : Literal) → Contains literals.now l → ¬ IsMarked marks.new l.variable → HasNoPartner sums.entry.sorted.now total l }
 {
     if begin_at_zero(literals) {
         return;
@@ -62,7 +60,7 @@ fn mark_block(
 fn mark(sums: Sums<'_>, total: u64, literals: &[Literal], marks: &mut [bool; VARIABLES])
     requires { AreSums sums.sorted.now sums.sieve.now }
     ensures kept { (v : ℕ) → IsMarked marks.old v → IsMarked marks.new v }
-    ensures marked { (l : Literal) → Contains literals.now l → ¬ IsMarked marks.new l.variable → HasNoPartner sums.entry.asked sums.entry.sorted.now total l }
+    ensures marked { (l : Literal) → Contains literals.now l → ¬ IsMarked marks.new l.variable → HasNoPartner sums.entry.sorted.now total l }
 {
     let mut left = literals;
     while let Some((block, rest)) = left.split_first_chunk::<BLOCK>() {
@@ -73,10 +71,10 @@ fn mark(sums: Sums<'_>, total: u64, literals: &[Literal], marks: &mut [bool; VAR
 }
 
 /// The variables at which some column may follow one with a sum among these, marked by number.
-fn marks_by(sums: Sums<'_>, totals: &[u64], columns: &[Entry]) -> [bool; VARIABLES]
+fn marks_by(sums: Sums<'_>, totals: &[u64], columns: &[&Entry]) -> [bool; VARIABLES]
     requires sums { AreSums sums.sorted.now sums.sieve.now }
-    requires totals { totals.now ≡ map (total_of sums.asked) columns.now }
-    ensures { AreMarkedBy sums.entry.asked sums.entry.sorted.now result columns.now }
+    requires totals { totals.now ≡ map total_of (map (λ b. b.now) columns.now) }
+    ensures { AreMarkedBy sums.entry.sorted.now result (map (λ b. b.now) columns.now) }
 {
     let mut marks = [false; VARIABLES];
     for (place, column) in columns.iter().enumerate() {
@@ -85,21 +83,16 @@ fn marks_by(sums: Sums<'_>, totals: &[u64], columns: &[Entry]) -> [bool; VARIABL
     marks
 }
 
-/// The variables at which some column may follow another by the sums of what is asked above 0, or of all, marked by number.
-fn marks_over(
-    alloc: Global,
-    asked: bool,
-    columns: &[Entry],
-) -> Result<[bool; VARIABLES], OutOfMemory>
-    ensures { IfOk result (λ marks. AreMarkedBy asked (map (total_of asked) columns.now) marks columns.now) }
+/// The variables at which some column may follow another by the sums, marked by number.
+fn marks_over(alloc: Global, columns: &[&Entry]) -> Result<[bool; VARIABLES], OutOfMemory>
+    ensures { IfOk result (λ marks. AreMarkedBy (map total_of (map (λ b. b.now) columns.now)) marks (map (λ b. b.now) columns.now)) }
 {
-    let totals = totals(alloc, asked, columns)?;
+    let totals = totals(alloc, columns)?;
     let mut sorted = Vec::new(alloc);
     sorted.extend_from_slice(totals.as_slice())?;
     sorted.sort_unstable();
     let sieve = sieve_of(alloc, sorted.as_slice())?;
     let sums = Sums {
-        asked,
         sorted: sorted.as_slice(),
         sieve: sieve.as_slice(),
     };
@@ -122,12 +115,11 @@ fn marks_of(
     if !many {
         return Ok([false; VARIABLES]);
     }
-    // and else what few literals ask for more than 0
-    let marks = marks_over(alloc, true, columns)?;
-    if !marks.contains(&true) {
-        return Ok(marks);
+    let candidates = candidates(alloc, columns)?;
+    if candidates.is_empty() {
+        return Ok([false; VARIABLES]);
     }
-    let marks = marks_over(alloc, false, columns)?;
+    let marks = marks_over(alloc, candidates.as_slice())?;
     Ok(marks)
 }
 

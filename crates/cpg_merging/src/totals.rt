@@ -1,10 +1,10 @@
 //! Sums over literals by which it is found whether any two columns touch.
-ghost use Rattle.std.specs.Prelude.{◌≡◌, ◌+◌, ◌%◌, ◌^◌, ◌<◌, Contains, IfOk, length, map, sum_by};
+ghost use Rattle.std.specs.Prelude.{◌≡◌, ◌+◌, ◌%◌, ◌^◌, ◌<◌, Contains, IfOk, length, map};
 ghost use Rattle.std.specs.Bool.{OnFalse};
-ghost use Rattle.cpg_merging.specs.Totals.{AreSums, HasNoPartner, IsSieve, hash_of, mixed, number_of, place_in, total_of};
+ghost use Rattle.cpg_merging.specs.Totals.{AreSums, HasNoPartner, IsSieve, hash_of, mixed, number_of, place_in, total_by, total_of};
 
 use cpg_base::OutOfMemory;
-use cpg_cube::{BLOCK, Entry, Literal, begin_at_zero};
+use cpg_cube::{Entry, Literal};
 use std::alloc::Global;
 
 /// The multiplier of Knuth's linear congruential generator of 64 bits.
@@ -17,7 +17,7 @@ const SPREAD: usize = 16;
 const HALF: u64 = 4_294_967_296;
 
 /// A sum with one number more, spread.
-fn mixed(sum: u64, number: u64) -> u64
+pub(crate) fn mixed(sum: u64, number: u64) -> u64
     ensures { result ≡ mixed sum number }
 {
     sum.wrapping_add(number).wrapping_mul(MULTIPLIER)
@@ -33,73 +33,58 @@ fn number_of(literal: Literal) -> u64
     variable * 65536 + low * 256 + high
 }
 
-/// A number for a literal: sums of several of these are equal by chance alone. Where only what is asked above 0 counts, it is 0
-/// for a literal that begins at 0.
-fn hash_of(asked: bool, literal: Literal) -> u64
-    ensures { result ≡ hash_of asked literal }
+/// A number for a literal: sums of several of these are equal by chance alone.
+fn hash_of(literal: Literal) -> u64
+    ensures { result ≡ hash_of literal }
 {
-    if asked && literal.low == 0 {
-        return 0;
-    }
     let first = mixed(1, number_of(literal));
     first.wrapping_mul(first / HALF)
 }
 
-/// A sum with those of literals.
-fn sum_with(asked: bool, first: u64, literals: &[Literal]) -> u64
-    ensures { result ≡ (first + sum_by (hash_of asked) literals.now) % 2 ^ 64 }
+/// The sum of a time and literals.
+fn total_by(time: u64, literals: &[Literal]) -> u64
+    ensures { result ≡ total_by time literals.now }
 {
-    let mut total = first;
+    let mut total = mixed(0, time);
     for literal in literals {
-        total = total.wrapping_add(hash_of(asked, *literal));
+        total = total.wrapping_add(hash_of(*literal));
     }
     total
 }
 
-/// The same, at once where nothing counts.
-fn sum_with_block(asked: bool, first: u64, literals: &[Literal; BLOCK]) -> u64
-    ensures { result ≡ (first + sum_by (hash_of asked) literals.now) % 2 ^ 64 }
-{
-    if asked {
-        if begin_at_zero(literals) {
-            return first;
-        }
-    }
-    sum_with(asked, first, literals)
-}
-
-/// The sum of a column.
-fn total_of(asked: bool, column: &Entry) -> u64
-    ensures { result ≡ total_of asked column.now }
-{
-    let mut total = mixed(0, column.time);
-    let mut left = column.cube.literals();
-    while let Some((block, rest)) = left.split_first_chunk::<BLOCK>() {
-        total = sum_with_block(asked, total, block);
-        left = rest;
-    }
-    sum_with(asked, total, left)
-}
-
 /// The sums of columns.
-pub(crate) fn totals(alloc: Global, asked: bool, columns: &[Entry]) -> Result<Vec<u64>, OutOfMemory>
-    ensures { IfOk result (λ totals. totals.items ≡ map (total_of asked) columns.now) }
+pub(crate) fn totals(alloc: Global, columns: &[&Entry]) -> Result<Vec<u64>, OutOfMemory>
+    ensures { IfOk result (λ totals. totals.items ≡ map total_of (map (λ b. b.now) columns.now)) }
 {
     let mut totals = Vec::new(alloc);
     totals.reserve(columns.len())?;
     for column in columns {
-        totals.push(total_of(asked, column))?;
+        totals.push(total_by(column.time, column.cube.literals()))?;
     }
     Ok(totals)
 }
 
 /// Where a number has its mark in a sieve of so many.
-fn place_in(count: usize, number: u64) -> usize
+#[tactic(auto, unfolding(crate::specs::Totals::place_in))]
+pub(crate) fn place_in(count: usize, number: u64) -> usize
     requires { 0 < count }
     ensures place { result ≡ place_in count number }
     ensures within { result < count }
 {
-    (number / HALF % count as u64) as usize
+    (u128::from(number / HALF) * count as u128 / u128::from(HALF)) as usize
+}
+
+/// Marks the place of each number.
+fn put_each(sieve: &mut [bool], numbers: &[u64])
+    requires { 0 < length sieve.old }
+    ensures long { length sieve.new ≡ length sieve.old }
+    ensures sieve { IsSieve sieve.new numbers.now }
+{
+    let count = sieve.len();
+    for number in numbers {
+        let place = place_in(count, *number);
+        sieve[place] = true;
+    }
 }
 
 /// A mark for each of some numbers, with which most others share none.
@@ -109,17 +94,13 @@ pub(crate) fn sieve_of(alloc: Global, numbers: &[u64]) -> Result<Vec<bool>, OutO
 {
     let count = numbers.len().saturating_add(1).saturating_mul(SPREAD);
     let mut sieve = vec![in alloc; false; count]?;
-    for number in numbers {
-        let place = place_in(count, *number);
-        sieve.as_mut_slice()[place] = true;
-    }
+    put_each(sieve.as_mut_slice(), numbers);
     Ok(sieve)
 }
 
-/// Sorted sums of columns, of what is asked above 0 or of all, with their sieve.
+/// Sorted sums of columns with their sieve.
 #[derive(Clone, Copy)]
 pub(crate) struct Sums<'a> {
-    pub(crate) asked: bool,
     pub(crate) sorted: &'a [u64],
     pub(crate) sieve: &'a [bool],
 }
@@ -146,19 +127,19 @@ fn is_there(sums: Sums<'_>, number: u64) -> bool
 /// Whether a column with this sum may follow another at a literal.
 pub(crate) fn has_partner(sums: Sums<'_>, total: u64, literal: Literal) -> bool
     requires { AreSums sums.sorted.now sums.sieve.now }
-    ensures { OnFalse result (HasNoPartner sums.entry.asked sums.entry.sorted.now total literal) }
+    ensures { OnFalse result (HasNoPartner sums.entry.sorted.now total literal) }
 {
     if literal.low == 0 {
         return false;
     }
-    let rest = rest_of(total, hash_of(sums.asked, literal));
+    let rest = rest_of(total, hash_of(literal));
     for low in 0..literal.low {
         let ended = Literal {
             variable: literal.variable,
             low,
             high: literal.low - 1,
         };
-        if is_there(sums, rest.wrapping_add(hash_of(sums.asked, ended))) {
+        if is_there(sums, rest.wrapping_add(hash_of(ended))) {
             return true;
         }
     }

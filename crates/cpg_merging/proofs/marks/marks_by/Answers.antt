@@ -1,18 +1,15 @@
-use Rattle.std.proofs.Common.{ℕ, List, Contains, arith, sym, subst, subst₂}
+use Rattle.std.proofs.Common.{Bor, List, Contains, get_or, arith, subst}
+use Rattle.cpg_cube.specs.declared.entry.Entry.{Entry}
 use Rattle.cpg_cube.specs.declared.literal.Literal.{Literal}
-use Rattle.cpg_cube.specs.Column.{Column}
-use Rattle.cpg_merging.specs.Totals.{HasNoPartner, IsMarked, total_of}
-use Rattle.cpg_merging.proofs.MergingTotals.{all_more, all_of, total_at}
+use Rattle.cpg_merging.specs.Totals.{HasNoPartner, IsMarked}
+use Rattle.cpg_merging.proofs.MergingTotals.{marked_all, marked_next}
 use Rattle.cpg_merging.proofs.marks.marks_by.Goals as goal
 
 pub loop-place-preserved : goal.loop-place-preserved
-loop-place-preserved c d l m = all_more (λ (x : Column). (n : Literal) → Contains x.cube n → ¬ IsMarked c.mark.new.marks n.variable → HasNoPartner c.args.sums.asked c.args.sums.sorted.now (total_of c.args.sums.asked x) n) c.args.columns.now c.loop-place.place c.index-columns-place.result (omega arith)
-    (λ x h n i off. c.loop-place.invariant x n h i (λ on. off (c.mark.ensures.kept n.variable on)))
-    (subst (λ (x : Column). (n : Literal) → Contains x.cube n → ¬ IsMarked c.mark.new.marks n.variable → HasNoPartner c.args.sums.asked c.args.sums.sorted.now (total_of c.args.sums.asked x) n) c.index-columns-place.is
-    (subst₂ (λ (ls : List Literal) (t : ℕ). (n : Literal) → Contains ls n → ¬ IsMarked c.mark.new.marks n.variable → HasNoPartner c.args.sums.asked c.args.sums.sorted.now t n) c.literals.ensures.literals
-    (total_at c.args.sums.asked c.args.columns.now c.args.totals.now c.loop-place.place c.index-columns-place.result 0 c.requires.totals (omega arith) (sym c.index-columns-place.is))
-    c.mark.ensures.marked)) d m l
+loop-place-preserved c = marked_next (λ (b : Bor Entry). b.now) c.args.sums.sorted.now c.args.columns.now c.args.totals.now c.loop-place.marks c.mark.new.marks c.loop-place.place c.index-columns-place.result (omega arith) c.index-columns-place.is
+    c.requires.totals c.mark.ensures.kept
+    (subst (λ (ls : List Literal). (n : Literal) → Contains ls n → ¬ IsMarked c.mark.new.marks n.variable → HasNoPartner c.args.sums.sorted.now (get_or c.args.totals.now c.loop-place.place 0) n) c.literals.ensures.literals c.mark.ensures.marked)
+    c.loop-place.invariant
 
 pub returns : goal.returns
-returns c d l m = all_of (λ (x : Column). (n : Literal) → Contains x.cube n → ¬ IsMarked c.loop-place.marks n.variable → HasNoPartner c.args.sums.asked c.args.sums.sorted.now (total_of c.args.sums.asked x) n) c.args.columns.now c.loop-place.place (omega arith)
-    (λ x h n. c.loop-place.invariant x n h) d m l
+returns c = marked_all (λ (b : Bor Entry). b.now) c.args.sums.sorted.now c.args.columns.now c.loop-place.marks c.loop-place.place (omega arith) c.loop-place.invariant

@@ -1,6 +1,6 @@
-use Rattle.std.proofs.Common.{take}
+use Rattle.std.proofs.Common.{map, take}
 use Rattle.cpg_merging.specs.Totals.{AreMarkedBy}
 use Rattle.cpg_merging.proofs.marks.marks_by.Given as goal
 
 abbrev pub invariant-loop-place : goal.invariant-loop-place
-invariant-loop-place l = AreMarkedBy l.sums.asked l.sums.sorted.now l.marks (take l.place l.columns)
+invariant-loop-place l = AreMarkedBy l.sums.sorted.now l.marks (take l.place (map (λ b. b.now) l.columns))

@@ -1,7 +1,10 @@
-use Rattle.std.proofs.Common.{true, false}
+use Rattle.std.proofs.Common.{◌≡◌, Bor, List, length, map, rules, subst}
+use Rattle.cpg_cube.specs.declared.entry.Entry.{Entry}
+use Rattle.cpg_merging.specs.Totals.{AreMarkedBy, total_of}
 use Rattle.cpg_merging.proofs.MergingSteps.{good_of}
 use Rattle.cpg_merging.proofs.MergingDemands.{settled_by_demands}
-use Rattle.cpg_merging.proofs.MergingTotals.{from_off, marked_by}
+use Rattle.cpg_merging.proofs.MergingKinds.{marked_by, settled_none}
+use Rattle.cpg_merging.proofs.MergingTotals.{from_off}
 use Rattle.cpg_merging.proofs.marks.marks_of.Goals as goal
 
 pub returns-then-not-many : goal.returns-then-not-many
@@ -11,14 +14,16 @@ returns-then-not-many c v known off =
     settled_by_demands g few c.processes-processes.ensures.within.faults v known c.args.columns.now (good_of g few c.args.columns.now c.requires)
     (from_off c.in_ok-many.many c.if-not-many.true c.in_ok-many.ensures)
 
-pub returns-then-not-contains : goal.returns-then-not-contains
-returns-then-not-contains c =
+pub returns-then-is_empty : goal.returns-then-is_empty
+returns-then-is_empty c v known off =
     let g = c.args.problem.now in
     let few = c.processes-processes.ensures.within.few_processes in
-    marked_by g few true c.args.columns.now (good_of g few c.args.columns.now c.requires) c.in_ok-marks.marks c.in_ok-marks.ensures
+    let none : length c.in_ok-candidates.candidates.items ≡ 0 = search rules in
+    settled_none g few c.processes-processes.ensures.within.faults v known c.args.columns.now (good_of g few c.args.columns.now c.requires) (λ (b : Bor Entry). b.now) c.in_ok-candidates.candidates.items c.in_ok-candidates.ensures none
 
 pub returns : goal.returns
 returns c =
     let g = c.args.problem.now in
     let few = c.processes-processes.ensures.within.few_processes in
-    marked_by g few false c.args.columns.now (good_of g few c.args.columns.now c.requires) c.in_ok-marks-2.marks c.in_ok-marks-2.ensures
+    marked_by g few c.processes-processes.ensures.within.faults c.args.columns.now (map (λ (b : Bor Entry). b.now) c.in_ok-candidates.candidates.items) (good_of g few c.args.columns.now c.requires) c.in_ok-candidates.ensures c.in_ok-marks.marks
+    (subst (λ (bs : List (Bor Entry)). AreMarkedBy (map total_of (map (λ (b : Bor Entry). b.now) bs)) c.in_ok-marks.marks (map (λ (b : Bor Entry). b.now) bs)) c.as_slice.ensures.value c.in_ok-marks.ensures)

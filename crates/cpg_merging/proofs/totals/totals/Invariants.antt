@@ -3,4 +3,4 @@ use Rattle.cpg_merging.specs.Totals.{total_of}
 use Rattle.cpg_merging.proofs.totals.totals.Given as goal
 
 abbrev pub invariant-loop-column : goal.invariant-loop-column
-invariant-loop-column l = l.totals.items ≡ map (total_of l.asked) (take l.column-index l.columns)
+invariant-loop-column l = l.totals.items ≡ map total_of (map (λ b. b.now) (take l.column-index l.columns))

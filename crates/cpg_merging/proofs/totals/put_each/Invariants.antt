@@ -1,9 +1,9 @@
 use Rattle.std.proofs.Common.{ℕ, ◌≡◌, Contains, length, take}
 use Rattle.cpg_merging.specs.Totals.{IsMarked, place_in}
-use Rattle.cpg_merging.proofs.totals.sieve_of.Given as goal
+use Rattle.cpg_merging.proofs.totals.put_each.Given as goal
 
 abbrev pub invariant-loop-number : goal.invariant-loop-number
 invariant-loop-number l = record {
-  long : length l.sieve.items ≡ l.count;
-  marked : (n : ℕ) → Contains (take l.number-index l.numbers) n → IsMarked l.sieve.items (place_in l.count n);
+  long : length l.sieve ≡ l.count;
+  marked : (n : ℕ) → Contains (take l.number-index l.numbers) n → IsMarked l.sieve (place_in l.count n);
 }

@@ -1,0 +1,90 @@
+-- Columns that touch are of one kind and ask differently much, so that both are candidates.
+use Rattle.std.proofs.Common.{ℕ, ◌+◌, ◌%◌, ◌^◌, ◌<◌, ◌≤◌, ◌≡◌, ◌≢◌, Bool, true, false, List, [], length, get_or, filter, map, sum_by, Contains, arith, refl, sym, ap, ◌∙◌, subst, inl, inr, true≢false}
+use Rattle.std.proofs.lemmas.List.Elements.{All-contains}
+use Rattle.cpg_base.specs.Graph.{Graph, process_count, IsVariable}
+use Rattle.cpg_base.specs.Variable.{top}
+use Rattle.cpg_base.proofs.Lists.{Contains-filter, Contains-map, Contains-nil}
+use Rattle.std.proofs.lemmas.List.{nil_from_length}
+use Rattle.cpg_cube.specs.declared.literal.Literal.{Literal}
+use Rattle.cpg_cube.specs.Cube.{low_in, high_in}
+use Rattle.cpg_cube.specs.Column.{Column}
+use Rattle.cpg_merging.specs.Demands.{low_of}
+use Rattle.cpg_merging.specs.Kinds.{AreTold, HoldCandidates, is_candidate, kind_of, square_of}
+use Rattle.cpg_merging.specs.Merging.{without, TouchAt, IsSettledOn}
+use Rattle.cpg_merging.specs.Totals.{AreMarked, AreMarkedBy, IsMarked, mixed, place_in, total_of}
+use Rattle.cpg_merging.proofs.MergingDemands.{top_small}
+use Rattle.cpg_merging.proofs.MergingLists.{AreGood}
+use Rattle.cpg_merging.proofs.MergingPairs.{IsGood, low-le-high, high_in-top}
+use Rattle.cpg_merging.proofs.MergingSettled.{same_without}
+use Rattle.cpg_merging.proofs.MergingTotals.{of_range, spoken, sum_parts, touch_partner}
+
+-- ---- which columns are chosen
+
+-- of two columns of one kind that ask differently either is, since a place tells but one
+pub both_chosen : (told : List ℕ) (differing : List Bool) (columns : List Column) → length differing ≡ length told → AreTold told differing (map kind_of columns) → HoldCandidates columns (filter (is_candidate differing) columns)
+both_chosen told differing columns long tell c d there other same apart = (
+  Contains-filter (is_candidate differing) columns c (chosen c d there other same apart) there,
+  Contains-filter (is_candidate differing) columns d (chosen d c other there (sym same) (λ e. apart (sym e))) other,
+)
+  where
+    at : Column → ℕ
+    at x = place_in (length told) (kind_of x).number
+
+    chosen : (x y : Column) → Contains columns x → Contains columns y → (kind_of x).number ≡ (kind_of y).number → (kind_of x).asked ≢ (kind_of y).asked → is_candidate differing x ≡ true
+    chosen x y cx cy e n = go (is_candidate differing x) refl
+      where
+        go : (b : Bool) → is_candidate differing x ≡ b → b ≡ true
+        go true on = refl
+        go false off =
+            let off_x : ¬ IsMarked differing (at x) = λ on. true≢false (sym on ∙ ap (λ (m : ℕ). get_or differing (place_in m (kind_of x).number) false) (sym long) ∙ off) in
+            let places : at x ≡ at y = ap (place_in (length told)) e in
+            absurd (n (sym (tell (kind_of x) (Contains-map kind_of columns x cx) off_x) ∙ ap (λ (p : ℕ). get_or told p 0) places ∙ tell (kind_of y) (Contains-map kind_of columns y cy) (subst (λ (p : ℕ). ¬ IsMarked differing p) places off_x)))
+
+-- ---- columns that touch
+
+module _ (g : Graph) (few : process_count g ≤ 128) (faults : g.faults ≤ 8) (v : ℕ) (known : IsVariable g v) where
+  touch_kinds : (c d : Column) → IsGood g c.cube → IsGood g d.cube → c.time ≡ d.time → TouchAt g.faults v c.cube d.cube → ((kind_of c).number ≡ (kind_of d).number) × ((kind_of c).asked ≢ (kind_of d).asked)
+  touch_kinds c d good_c good_d same touch =
+      let k = g.faults in
+      let next : high_in k c.cube v + 1 ≡ low_in d.cube v = touch.next in
+      let low_c = low-le-high k c.cube good_c.met v in
+      let low_d = low-le-high k d.cube good_d.met v in
+      let high_d = high_in-top k d.cube (λ i e l. (good_d.narrow i e l).1) v in
+      let lc : Contains c.cube (of_range k c.cube v) = spoken k c.cube v (inr (omega (arith, next, low_d, high_d))) in
+      let ld : Contains d.cube (of_range k d.cube v) = spoken k d.cube v (inl (omega (arith, next))) in
+      let sum_c : sum_by low_of c.cube ≡ sum_by low_of (without v c.cube) + low_in c.cube v = sum_parts low_of v c.cube good_c.cube.rising (of_range k c.cube v) lc refl in
+      let sum_d : sum_by low_of d.cube ≡ sum_by low_of (without v d.cube) + low_in d.cube v = sum_parts low_of v d.cube good_d.cube.rising (of_range k d.cube v) ld refl in
+      let squares_c = sum_parts square_of v c.cube good_c.cube.rising (of_range k c.cube v) lc refl in
+      let squares_d = sum_parts square_of v d.cube good_d.cube.rising (of_range k d.cube v) ld refl in
+      let others = same_without g few v known c.cube d.cube good_c good_d touch.others in (
+        numbers c.time d.time (sum_by square_of c.cube) (sum_by square_of d.cube) same (squares_c ∙ ap (λ (ls : List Literal). sum_by square_of ls + square_of (of_range k d.cube v)) others ∙ sym squares_d),
+        apart (sum_by low_of c.cube) (sum_by low_of d.cube) (sum_by low_of (without v d.cube)) (low_in c.cube v) (low_in d.cube v) (sum_c ∙ ap (λ (ls : List Literal). sum_by low_of ls + low_in c.cube v) others) sum_d
+            (omega (arith, low_c, next)) (omega (arith, low_d, high_d, top_small g few faults v known)),
+      )
+    where
+      numbers : (t u a b : ℕ) → t ≡ u → a ≡ b → mixed (mixed 0 t) (a % 2 ^ 64) ≡ mixed (mixed 0 u) (b % 2 ^ 64)
+      numbers t u a b e f = ap (λ (x : ℕ). mixed (mixed 0 x) (a % 2 ^ 64)) e ∙ ap (λ (x : ℕ). mixed (mixed 0 u) (x % 2 ^ 64)) f
+
+      apart : (a b w low high : ℕ) → a ≡ w + low → b ≡ w + high → low < high → high ≤ 8 → a % 256 ≢ b % 256
+      apart a b w low high e f less small same = omega (arith, e, f, less, small, same)
+
+  -- so they are candidates
+  module _ (xs : List Column) (good : AreGood g xs) (c d : Column) (m : Contains xs c) (n : Contains xs d) (same : c.time ≡ d.time) (touch : TouchAt g.faults v c.cube d.cube) where
+    good_in : (x : Column) → Contains xs x → IsGood g x.cube
+    good_in x h = All-contains (λ (y : Column). IsGood g y.cube) xs x good h
+
+    both_held : (ys : List Column) → HoldCandidates xs ys → Contains ys c × Contains ys d
+    both_held ys hold = let kinds = touch_kinds c d (good_in c m) (good_in d n) same touch in hold c d m n kinds.0 kinds.1
+
+    touch_held : (ys : List Column) → HoldCandidates xs ys → (marks : List Bool) → AreMarkedBy (map total_of ys) marks ys → ¬ IsMarked marks v → ⊥
+    touch_held ys hold marks all off =
+        let both = both_held ys hold in
+        touch_partner g few v known c d (good_in c m) (good_in d n) same touch (map total_of ys) (Contains-map total_of ys c both.0) (λ l j i. all d l both.1 j (λ on. off (subst (IsMarked marks) i on)))
+
+  -- and none touch where there are no candidates
+  pub settled_none : (xs : List Column) → AreGood g xs → {X : Type 0} (f : X → Column) (ys : List X) → HoldCandidates xs (map f ys) → length ys ≡ 0 → IsSettledOn g.faults v xs
+  settled_none xs good f ys hold none c d m n e t = Contains-nil c (subst (λ zs. Contains (map f zs) c) (nil_from_length ys none) (both_held xs good c d m n e t (map f ys) hold).0)
+
+-- marks of the candidates are marks of all columns
+pub marked_by : (g : Graph) → process_count g ≤ 128 → g.faults ≤ 8 → (xs ys : List Column) → AreGood g xs → HoldCandidates xs ys → (marks : List Bool) → AreMarkedBy (map total_of ys) marks ys → AreMarked g marks xs
+marked_by g few faults xs ys good hold marks all v known off c d m n e t = touch_held g few faults v known xs good c d m n e t ys hold marks all off

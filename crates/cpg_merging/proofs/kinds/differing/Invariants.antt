@@ -1,0 +1,9 @@
+use Rattle.std.proofs.Common.{◌≡◌, length, take}
+use Rattle.cpg_merging.specs.Kinds.{AreTold}
+use Rattle.cpg_merging.proofs.kinds.differing.Given as goal
+
+abbrev pub invariant-loop-kind : goal.invariant-loop-kind
+invariant-loop-kind l = record {
+  long : length l.differing.items ≡ length l.told;
+  told : AreTold l.told l.differing.items (take l.kind-index l.kinds);
+}

@@ -1,0 +1,36 @@
+-- Kinds of columns: columns that touch have one time and literals on the same variables, and ask differently much above 0 in all.
+use Rattle.std.specs.Prelude.{ℕ, ◌+◌, ◌*◌, ◌%◌, ◌^◌, ◌≡◌, ◌≢◌, Bool, false, List, length, get_or, sum_by, Contains}
+use Rattle.cpg_cube.specs.declared.literal.Literal.{Literal}
+use Rattle.cpg_cube.specs.Column.{Column}
+use Rattle.cpg_merging.specs.declared.kinds.Kind.{Kind}
+use Rattle.cpg_merging.specs.Demands.{low_of}
+use Rattle.cpg_merging.specs.Totals.{mixed, place_in, IsMarked}
+
+-- the square of a literal's variable
+abbrev pub square_of : Literal → ℕ
+square_of l = l.variable * l.variable % 2 ^ 64
+
+-- the kind of a column with this time and these literals
+abbrev pub kind_by : ℕ → List Literal → Kind
+kind_by time literals = record { number = mixed (mixed 0 time) (sum_by square_of literals % 2 ^ 64); asked = sum_by low_of literals % 256 }
+
+-- the kind of a column
+abbrev pub kind_of : Column → Kind
+kind_of c = kind_by c.time c.cube
+
+-- a column of this kind asks what its place tells, where no difference is noted
+abbrev pub IsTold : List ℕ → List Bool → Kind → Type 0
+IsTold told differing kind = ¬ IsMarked differing (place_in (length told) kind.number) → get_or told (place_in (length told) kind.number) 0 ≡ kind.asked
+
+-- so do those of these kinds
+abbrev pub AreTold : List ℕ → List Bool → List Kind → Type 0
+AreTold told differing kinds = (kind : Kind) → Contains kinds kind → IsTold told differing kind
+
+-- whether a column is one of a place where a difference is noted
+abbrev pub is_candidate : List Bool → Column → Bool
+is_candidate differing c = get_or differing (place_in (length differing) (kind_of c).number) false
+
+-- all columns of one kind that ask differently are among the candidates
+abbrev pub HoldCandidates : List Column → List Column → Type 0
+HoldCandidates columns candidates = (c d : Column) → Contains columns c → Contains columns d → (kind_of c).number ≡ (kind_of d).number →
+    (kind_of c).asked ≢ (kind_of d).asked → Contains candidates c × Contains candidates d

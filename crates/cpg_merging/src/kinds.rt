@@ -1,0 +1,127 @@
+//! Kinds of columns. Those that touch are of one kind, and ask differently much above 0 in all: so mostly few columns are left to
+//! be looked at.
+ghost use Rattle.std.specs.Prelude.{ℕ, ◌≡◌, ◌%◌, ◌^◌, ◌<◌, IfOk, filter, get_or, length, map, sum_by};
+ghost use Rattle.cpg_merging.specs.Demands.{low_of};
+ghost use Rattle.cpg_merging.specs.Kinds.{AreTold, HoldCandidates, IsTold, is_candidate, kind_by, kind_of, square_of};
+ghost use Rattle.cpg_merging.specs.Totals.{IsMarked, place_in};
+
+use crate::totals::{mixed, place_in};
+use cpg_base::OutOfMemory;
+use cpg_cube::{Entry, Literal};
+use std::alloc::Global;
+
+/// How many places of a table there are for each column.
+const SPREAD: usize = 8;
+
+/// What columns that touch have in common, and how much a column asks above 0 in all, in a byte.
+#[derive(Clone, Copy)]
+struct Kind {
+    /// A number for the time and the variables of the literals.
+    number: u64,
+    asked: u8,
+}
+
+/// The kind of a column with this time and these literals.
+fn kind_by(time: u64, literals: &[Literal]) -> Kind
+    ensures { result ≡ kind_by time literals.now }
+{
+    let mut squares: u64 = 0;
+    let mut asked: u8 = 0;
+    for literal in literals {
+        let variable = u64::from(literal.variable);
+        squares = squares.wrapping_add(variable.wrapping_mul(variable));
+        asked = asked.wrapping_add(literal.low);
+    }
+    Kind {
+        number: mixed(mixed(0, time), squares),
+        asked,
+    }
+}
+
+/// The kinds of columns.
+fn kinds(alloc: Global, columns: &[Entry]) -> Result<Vec<Kind>, OutOfMemory>
+    ensures { IfOk result (λ kinds. kinds.items ≡ map kind_of columns.now) }
+{
+    let mut kinds = Vec::new(alloc);
+    kinds.reserve(columns.len())?;
+    for column in columns {
+        kinds.push(kind_by(column.time, column.cube.literals()))?;
+    }
+    Ok(kinds)
+}
+
+/// How much the last column of each place asks.
+fn last_asked(alloc: Global, count: usize, kinds: &[Kind]) -> Result<Vec<u8>, OutOfMemory>
+    requires { 0 < count }
+    ensures { IfOk result (λ told. length told.items ≡ count) }
+{
+    let mut told = vec![in alloc; 0u8; count]?;
+    for kind in kinds {
+        let place = place_in(count, kind.number);
+        told.as_mut_slice()[place] = kind.asked;
+    }
+    Ok(told)
+}
+
+/// Notes it where a column asks otherwise than its place tells.
+fn note(told: &[u8], kind: Kind, differing: &mut [bool])
+    requires some { 0 < length told.now }
+    requires long { length differing.old ≡ length told.now }
+    ensures long { length differing.new ≡ length told.now }
+    ensures kept { (p : ℕ) → IsMarked differing.old p → IsMarked differing.new p }
+    ensures noted { IsTold told.now differing.new kind }
+{
+    let place = place_in(told.len(), kind.number);
+    if told[place] == kind.asked {
+        return;
+    }
+    differing[place] = true;
+}
+
+/// The places where some column asks otherwise than its place tells.
+fn differing(alloc: Global, told: &[u8], kinds: &[Kind]) -> Result<Vec<bool>, OutOfMemory>
+    requires { 0 < length told.now }
+    ensures long { IfOk result (λ differing. length differing.items ≡ length told.now) }
+    ensures told { IfOk result (λ differing. AreTold told.now differing.items kinds.now) }
+{
+    let mut differing = vec![in alloc; false; told.len()]?;
+    for kind in kinds {
+        note(told, *kind, differing.as_mut_slice());
+    }
+    Ok(differing)
+}
+
+/// The columns of these places.
+fn chosen<'a>(
+    alloc: Global,
+    differing: &[bool],
+    kinds: &[Kind],
+    columns: &'a [Entry],
+) -> Result<Vec<&'a Entry>, OutOfMemory>
+    requires some { 0 < length differing.now }
+    requires kinds { kinds.now ≡ map kind_of columns.now }
+    ensures { IfOk result (λ chosen. map (λ b. b.now) chosen.items ≡ filter (is_candidate differing.now) columns.now) }
+{
+    let mut chosen = Vec::new(alloc);
+    for (place, column) in columns.iter().enumerate() {
+        if differing[place_in(differing.len(), kinds[place].number)] {
+            chosen.push(column)?;
+        }
+    }
+    Ok(chosen)
+}
+
+/// Columns among which are all that touch another.
+pub(crate) fn candidates<'a>(
+    alloc: Global,
+    columns: &'a [Entry],
+) -> Result<Vec<&'a Entry>, OutOfMemory>
+    ensures { IfOk result (λ candidates. HoldCandidates columns.now (map (λ b. b.now) candidates.items)) }
+{
+    let kinds = kinds(alloc, columns)?;
+    let count = kinds.len().saturating_add(1).saturating_mul(SPREAD);
+    let told = last_asked(alloc, count, kinds.as_slice())?;
+    let differing = differing(alloc, told.as_slice(), kinds.as_slice())?;
+    let chosen = chosen(alloc, differing.as_slice(), kinds.as_slice(), columns)?;
+    Ok(chosen)
+}
