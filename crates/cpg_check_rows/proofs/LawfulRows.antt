@@ -1,13 +1,18 @@
 -- Rows that keep V1: column by column, or since all processes are always active.
-use Rattle.std.proofs.Common.{ℕ, ◌-◌, ◌<◌, ◌≤◌, ◌≡◌, Bool, true, false, not, ◌||◌, List, All, arith, refl, ap, ap₂, subst, inl, inr}
+use Rattle.std.proofs.Common.{ℕ, ◌-◌, ◌<◌, ◌≤◌, ◌≡◌, Bool, true, false, not, ◌||◌, List, All, arith, length, take, drop, refl, ap, ap₂, subst, sym, ◌∙◌, inl, inr}
+use Rattle.std.specs.List.{list_all}
+use Rattle.std.proofs.lemmas.Grind.{common_steps}
+use Rattle.std.proofs.lemmas.Bool.{and_parts}
+use Rattle.std.proofs.lemmas.List.{take-append-drop}
 use Rattle.std.proofs.lemmas.List.Elements.{All-contains}
+use Rattle.std.proofs.lemmas.List.Folds.{list_all-append}
 use Rattle.cpg_base.specs.Activity.{active}
 use Rattle.cpg_base.specs.Graph.{Graph, IsVariable, process_count, process_of_variable}
 use Rattle.cpg_base.proofs.Items.{process_of_below}
 use Rattle.cpg_base.proofs.Lists.{list_any_false}
 use Rattle.cpg_base.proofs.Variables.{of_count, of_value}
 use Rattle.cpg_base.specs.Scenario.{Scenario, IsScenario}
-use Rattle.cpg_cube.specs.Cube.{matches}
+use Rattle.cpg_cube.specs.Cube.{holds, matches}
 use Rattle.cpg_cube.specs.declared.literal.Literal.{Literal}
 use Rattle.cpg_cube.specs.Fit.{IsKnown}
 use Rattle.cpg_table.specs.Table.{NodeTable, columns_of}
@@ -21,6 +26,14 @@ use Rattle.cpg_violation.proofs.SureLaws.{sure_of}
 -- the item is active, and no literal's process is inactive
 pub both_active : (item none : Bool) → item ≡ true → none ≡ false → (not item || none) ≡ false
 both_active item none e f = ap₂ (λ a b. not a || b) e f
+
+rest_of : {T : Type 0} (at : ℕ) (xs : List T) → take (length xs - at) (drop at xs) ≡ drop at xs
+rest_of at xs = grind (arith, common_steps)
+
+-- literals match only where those from a place on do
+pub matches_from : (literals : List Literal) (at : ℕ) (s : Scenario) → matches literals s ≡ true → matches (take (length literals - at) (drop at literals)) s ≡ true
+matches_from literals at s m = subst (λ ls. matches ls s ≡ true) (sym (rest_of at literals)) (and_parts (matches (take at literals) s) (matches (drop at literals) s)
+    (sym (list_all-append (holds s) (take at literals) (drop at literals)) ∙ ap (list_all (holds s)) (take-append-drop at literals) ∙ m)).1
 
 process_within : (g : Graph) → process_count g ≤ 128 → (v : ℕ) → IsVariable g v → process_of_variable g v < process_count g
 process_within g few v (inl l) = subst (λ p. p < process_count g) (of_count g v few l) l

@@ -14,7 +14,7 @@ ghost use Rattle.cpg_violation.specs.Heads.{IsHeadFor};
 ghost use Rattle.cpg_violation.specs.Sure.{AreSure, IsSure};
 ghost use Rattle.cpg_violation.specs.Always.{AllAlways, AreAlways, IsUnconditional};
 
-use cpg_base::OutOfMemory;
+use cpg_base::{FIRST_VALUE, OutOfMemory};
 use cpg_cube::{Entry, Literal};
 use cpg_rules::Admitted;
 use cpg_table::Tables;
@@ -50,8 +50,28 @@ fn are_active(admitted: &Admitted, always: &[bool], literals: &[Literal], space:
     true
 }
 
+/// The literals on values, which are the last: no others tell what is active.
+fn on_values(literals: &[Literal]) -> &[Literal]
+    ensures { (s : Scenario) → matches literals.now s ≡ true → matches result.now s ≡ true }
+{
+    for later in 0..literals.len() {
+        let from = literals.len() - later;
+        if literals[from - 1].variable < FIRST_VALUE {
+            return &literals[from..];
+        }
+    }
+    literals
+}
+
 /// Whether an item and the processes of a column's literals are active wherever the column matches.
-fn is_lawful(admitted: &Admitted, always: &[bool], item: u32, column: &Entry) -> bool
+fn is_lawful(
+    admitted: &Admitted,
+    always: &[bool],
+    everywhere: &Space,
+    item: u32,
+    column: &Entry,
+) -> bool
+    requires everywhere { (s : Scenario) → IsScenario admitted.now.graph s → Lies everywhere.now s }
     requires item { item < item_count admitted.now.graph }
     requires column { IsKnown admitted.now.graph column.now.cube }
     requires always { AreAlways admitted.now.graph always.now }
@@ -59,9 +79,10 @@ fn is_lawful(admitted: &Admitted, always: &[bool], item: u32, column: &Entry) ->
         breaks_activity admitted.now.graph s item column.now ≡ false) }
 {
     let literals = column.cube.literals();
-    let Some(space) = Space::of(admitted.problem().faults(), literals) else {
+    let mut space = *everywhere;
+    if !space.narrow_to(on_values(literals)) {
         return true;
-    };
+    }
     if !is_item_running(admitted, item, &space) {
         return false;
     }
@@ -69,7 +90,14 @@ fn is_lawful(admitted: &Admitted, always: &[bool], item: u32, column: &Entry) ->
 }
 
 /// The same for each of these columns.
-fn are_lawful(admitted: &Admitted, always: &[bool], item: u32, columns: &[Entry]) -> bool
+fn are_lawful(
+    admitted: &Admitted,
+    always: &[bool],
+    everywhere: &Space,
+    item: u32,
+    columns: &[Entry],
+) -> bool
+    requires everywhere { (s : Scenario) → IsScenario admitted.now.graph s → Lies everywhere.now s }
     requires item { item < item_count admitted.now.graph }
     requires columns { All (λ c. IsKnown admitted.now.graph c.cube) columns.now }
     requires always { AreAlways admitted.now.graph always.now }
@@ -77,7 +105,7 @@ fn are_lawful(admitted: &Admitted, always: &[bool], item: u32, columns: &[Entry]
         breaks_activity admitted.now.graph s item c ≡ false) columns.now) }
 {
     for column in columns {
-        if !is_lawful(admitted, always, item, column) {
+        if !is_lawful(admitted, always, everywhere, item, column) {
             return false;
         }
     }
@@ -85,7 +113,8 @@ fn are_lawful(admitted: &Admitted, always: &[bool], item: u32, columns: &[Entry]
 }
 
 /// Whether all processes are always active, and an item is too.
-fn is_plain(admitted: &Admitted, all: bool, item: u32) -> bool
+fn is_plain(admitted: &Admitted, all: bool, everywhere: &Space, item: u32) -> bool
+    requires everywhere { (s : Scenario) → IsScenario admitted.now.graph s → Lies everywhere.now s }
     requires item { item < item_count admitted.now.graph }
     requires all { OnTrue all (AllAlways admitted.now.graph) }
     ensures all { OnTrue result (AllAlways admitted.now.graph) }
@@ -94,13 +123,20 @@ fn is_plain(admitted: &Admitted, all: bool, item: u32) -> bool
     if !all {
         return false;
     }
-    let space = Space::whole(admitted.problem().faults());
-    is_item_running(admitted, item, &space)
+    is_item_running(admitted, item, everywhere)
 }
 
 /// Whether a row keeps the rule. Where all processes are always active no column is looked at.
-fn is_sure(admitted: &Admitted, tables: &Tables, always: &[bool], all: bool, item: u32) -> bool
+fn is_sure(
+    admitted: &Admitted,
+    tables: &Tables,
+    always: &[bool],
+    all: bool,
+    everywhere: &Space,
+    item: u32,
+) -> bool
     requires head { IsHeadFor admitted.now.graph tables.now.head }
+    requires everywhere { (s : Scenario) → IsScenario admitted.now.graph s → Lies everywhere.now s }
     requires item { item < item_count admitted.now.graph }
     requires always { AreAlways admitted.now.graph always.now }
     requires all { OnTrue all (AllAlways admitted.now.graph) }
@@ -109,10 +145,10 @@ fn is_sure(admitted: &Admitted, tables: &Tables, always: &[bool], all: bool, ite
     // its clause tells that the graph is admitted
     let _problem = admitted.problem();
     let columns = tables.columns_of(item);
-    if is_plain(admitted, all, item) {
+    if is_plain(admitted, all, everywhere, item) {
         return true;
     }
-    are_lawful(admitted, always, item, columns)
+    are_lawful(admitted, always, everywhere, item, columns)
 }
 
 /// The items of which each column has an active item and active processes of its literals, wherever it matches.
@@ -129,11 +165,13 @@ pub(crate) fn activity_marks(
         always.as_slice(),
         admitted.problem().processes().len() as u32,
     );
+    let everywhere = Space::whole(admitted.problem().faults());
     let count = admitted.problem().item_count();
     let mut marks = Vec::new(alloc);
     marks.reserve(count as usize)?;
     for item in 0..count {
-        marks.push(is_sure(admitted, tables, always.as_slice(), all, item))?;
+        let sure = is_sure(admitted, tables, always.as_slice(), all, &everywhere, item);
+        marks.push(sure)?;
     }
     Ok(marks)
 }

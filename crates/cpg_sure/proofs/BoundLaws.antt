@@ -1,8 +1,8 @@
 -- Literals are heard where their bounds are.
-use Rattle.std.proofs.Common.{ℕ, ◌<◌, ◌≤◌, ◌≡◌, ◌==◌, Bool, true, false, cond, List, [], ◌∷◌, ◌++◌, filter, flat_map, map, All, Contains, refl, sym, subst, arith, inl, inr, le-leb, leb-true, ne_eqb, max}
+use Rattle.std.proofs.Common.{ℕ, ◌≡◌, ◌==◌, Bool, true, false, cond, List, [], ◌∷◌, filter, flat_map, get_or, map, Contains, refl, sym, subst, arith, inl, inr, le-leb, ne_eqb, max}
 use Rattle.std.specs.Prelude.{nat_le}
 use Rattle.std.proofs.lemmas.Bool.{and_from, and_parts, cases_eq, cases_lt, cond-false, lt-leb}
-use Rattle.std.proofs.lemmas.List.Elements.{All-contains_itself, All-weaker, Contains-append_cases, Contains-append_left, Contains-append_right}
+use Rattle.std.proofs.lemmas.List.Elements.{Contains-append_cases, Contains-append_left, Contains-append_right}
 use Rattle.cpg_base.specs.Graph.{Graph}
 use Rattle.cpg_base.specs.Variable.{top}
 use Rattle.cpg_base.proofs.Lists.{Contains-cases, Contains-first, Contains-flat_map, Contains-flat_map_parts, Contains-nil, least_bound}
@@ -10,9 +10,9 @@ use Rattle.cpg_cube.specs.declared.literal.Literal.{Literal}
 use Rattle.cpg_table.specs.Heard.{facts, is_heard, kept_high, kept_low}
 use Rattle.cpg_table.specs.Table.{NodeTable}
 use Rattle.cpg_cube.specs.Column.{Column}
-use Rattle.cpg_sure.specs.Bounds.{bounds_of, high_of, low_of}
+use Rattle.cpg_sure.specs.Bounds.{bounds_of, high_of, low_of, unknown_bounds}
 use Rattle.cpg_sure.specs.Hearing.{IsAllHeard, IsHeardIn}
-use Rattle.cpg_sure.specs.Speakers.{IsToldIn}
+use Rattle.cpg_sure.specs.Speakers.{AreToldIn, IsToldIn}
 
 -- the one element where there is one
 one_of : {X : Type 0} (b : Bool) (x y : X) → Contains (cond b [] (x ∷ [])) y → x ≡ y
@@ -31,8 +31,18 @@ bound_wider k literals l w there h = elim (Contains-append_cases (low_of k l) (h
       (record { by = l; there = there; variable = refl; low = omega arith; high = omega arith })
 ]
 
-bounds_wider : (k : ℕ) (literals : List Literal) (w : Literal) → Contains (flat_map (bounds_of k) literals) w → IsToldIn literals w
-bounds_wider k literals w h = let p = Contains-flat_map_parts (bounds_of k) literals w h in bound_wider k literals p.0 w p.1 p.2
+-- none where a literal is known
+unknown_there : {X : Type 0} (b : Bool) (xs : List X) (x : X) → b ≡ false → Contains xs x → Contains (cond b [] xs) x
+unknown_there b xs x e h = subst (λ ys. Contains ys x) (sym (cond-false b [] xs e)) h
+
+unknown_parts : {X : Type 0} (b : Bool) (xs : List X) (x : X) → Contains (cond b [] xs) x → Contains xs x
+unknown_parts true xs x h = absurd (Contains-nil x h)
+unknown_parts false xs x h = h
+
+bounds_wider : (k : ℕ) (known : List Bool) (literals : List Literal) (w : Literal) → Contains (flat_map (unknown_bounds k known) literals) w → IsToldIn literals w
+bounds_wider k known literals w h =
+    let p = Contains-flat_map_parts (unknown_bounds k known) literals w h in
+    bound_wider k literals p.0 w p.1 (unknown_parts (get_or known p.0.variable false) (bounds_of k p.0) w p.2)
 
 module _ (k : ℕ) (known : List Literal) (l : Literal) (heard : (w : Literal) → Contains (bounds_of k l) w → is_heard k known w ≡ true) where
   low_heard : nat_le l.low (kept_low known l.variable) ≡ true
@@ -55,13 +65,15 @@ module _ (k : ℕ) (known : List Literal) (l : Literal) (heard : (w : Literal) �
   bound_heard : is_heard k known l ≡ true
   bound_heard = and_from _ _ low_heard high_heard
 
-bounds_heard : (k : ℕ) (known literals : List Literal) (l : Literal) → Contains literals l → ((w : Literal) → Contains (flat_map (bounds_of k) literals) w → is_heard k known w ≡ true) → is_heard k known l ≡ true
-bounds_heard k known literals l there heard = bound_heard k known l (λ w h. heard w (Contains-flat_map (bounds_of k) literals l w there h))
+-- so all literals of a column are where those on known variables are, and all bounds of the others
+module _ (g : Graph) (tables : List NodeTable) (node : ℕ) (c : Column) (known : List Bool) (wanted : List Literal) (is : wanted ≡ flat_map (unknown_bounds g.faults known) c.cube) where
+  pub all_wider : AreToldIn c.cube wanted
+  all_wider w h = bounds_wider g.faults known c.cube w (subst (λ ws. Contains ws w) is h)
 
--- so all literals of a column are where all its bounds are
-module _ (g : Graph) (tables : List NodeTable) (node : ℕ) (c : Column) (wanted : List Literal) (is : wanted ≡ flat_map (bounds_of g.faults) c.cube) where
-  pub all_wider : All (IsToldIn c.cube) wanted
-  all_wider = All-weaker (Contains wanted) (IsToldIn c.cube) (λ w h. bounds_wider g.faults c.cube w (subst (λ ws. Contains ws w) is h)) wanted (All-contains_itself wanted)
-
-  pub column_heard : ((l : Literal) → Contains wanted l → IsHeardIn g tables node c l) → IsAllHeard g tables node c
-  column_heard heard l h s law m = bounds_heard g.faults (facts g tables node s c.time) c.cube l h (λ w k. heard w (subst (λ ws. Contains ws w) (sym is) k) s law m)
+  pub column_heard : ((l : Literal) → Contains c.cube l → get_or known l.variable false ≡ true → IsHeardIn g tables node c l) → ((l : Literal) → Contains wanted l → IsHeardIn g tables node c l) → IsAllHeard g tables node c
+  column_heard own heard l h s law m = go (get_or known l.variable false) refl
+    where
+      go : (b : Bool) → get_or known l.variable false ≡ b → is_heard g.faults (facts g tables node s c.time) l ≡ true
+      go true e = own l h e s law m
+      go false e = bound_heard g.faults (facts g tables node s c.time) l (λ w k. heard w (subst (λ ws. Contains ws w) (sym is)
+          (Contains-flat_map (unknown_bounds g.faults known) c.cube l w h (unknown_there (get_or known l.variable false) (bounds_of g.faults l) w e k))) s law m)

@@ -54,6 +54,10 @@ module _ (g : Graph) (tables : List NodeTable) (p : ℕ) where
   pub sure_alone : (lower : List ℕ) → lower ≡ filter (λ q. node_of g q == node_of g p) (numbers_below p) → All (λ q. IsApart (execution g) g tables q p) lower → IsSure g tables Rule.Processor p
   sure_alone lower is apart = lower_alone (subst (λ (ys : List ℕ). All (λ q. IsApart (execution g) g tables q p) ys) is apart)
 
+  -- what is no process has no execution
+  pub sure_none : process_count g ≤ p → IsSure g tables Rule.Processor p
+  sure_none none = sure_of g tables Rule.Processor p refl (λ s c earlier law there m. and_left (nat_lt p (process_count g)) _ (le-ltb p (process_count g) none))
+
 -- ---- V7
 
 module _ (g : Graph) (tables : List NodeTable) (x : ℕ) where

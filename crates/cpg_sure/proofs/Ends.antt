@@ -1,11 +1,11 @@
 -- What has ended or arrived by a time, by the columns that match.
-use Rattle.std.proofs.Common.{ℕ, ◌+◌, ◌<◌, ◌≤◌, ◌≡◌, true, false, List, map, Contains, sym, ap, ◌∙◌, arith, le-leb, leb-true}
+use Rattle.std.proofs.Common.{ℕ, ◌+◌, ◌<◌, ◌≤◌, ◌≡◌, true, List, map, Contains, ap, ◌∙◌, arith, le-leb, leb-true}
 use Rattle.std.specs.Prelude.{nat_le}
 use Rattle.std.proofs.lemmas.Bool.{and_from}
 use Rattle.cpg_base.specs.Activity.{active, live, item_active}
 use Rattle.cpg_base.specs.Bus.{slot_length}
 use Rattle.cpg_base.specs.Duration.{duration}
-use Rattle.cpg_base.specs.Graph.{Graph, edge_count, home, is_message, item_at, item_count, message_item, process_count, producer}
+use Rattle.cpg_base.specs.Graph.{Graph, edge_count, home, is_message, message_item, process_count}
 use Rattle.cpg_base.proofs.Items.{item_at-message, item_at-start}
 use Rattle.cpg_base.proofs.Lists.{Contains-map, Contains-map_parts, list_any_parts, list_any_true}
 use Rattle.cpg_base.specs.Scenario.{Scenario, IsScenario, fault_of}

@@ -1,15 +1,14 @@
 -- V4 at an item, by the literals of its columns: what the ends of a node's own processes and the frames that reached it tell.
-use Rattle.std.proofs.Common.{ℕ, ◌+◌, ◌-◌, ◌<◌, ◌≤◌, ◌≡◌, ◌==◌, Bool, true, false, cond, not, List, [], ◌∷◌, ◌++◌, filter, map, flat_map, Contains, Option, Some, None, refl, sym, ap, ◌∙◌, subst, arith, inl, inr, eq-eqb, le-leb, leb-true, leb, lt-ltb, le-ltb}
-use Rattle.std.specs.Prelude.{nat_le}
+use Rattle.std.proofs.Common.{ℕ, ◌+◌, ◌-◌, ◌<◌, ◌≤◌, ◌≡◌, ◌==◌, Bool, true, cond, not, List, [], ◌∷◌, ◌++◌, filter, map, flat_map, Contains, Some, refl, sym, ap, ◌∙◌, subst, arith, inl, inr, eq-eqb, le-leb, leb-true, leb, lt-ltb, le-ltb}
 use Rattle.std.proofs.lemmas.Bool.{and_from, and_parts, cond-true, cond-false}
 use Rattle.std.proofs.lemmas.List.Elements.{Contains-append_left, Contains-append_right}
 use Rattle.cpg_base.specs.Bus.{slot_length}
 use Rattle.cpg_base.specs.Duration.{duration}
-use Rattle.cpg_base.specs.Graph.{Graph, IsVariable, condition_count, condition_of, home, is_heard_by, item_at, item_count, node_of, process_count, process_of, process_of_variable, value_variable}
+use Rattle.cpg_base.specs.Graph.{Graph, IsVariable, condition_of, home, is_heard_by, item_at, item_count, node_of, process_count, process_of, process_of_variable, value_variable}
 use Rattle.cpg_base.specs.Numbers.{numbers_below}
 use Rattle.cpg_base.proofs.Lists.{Contains-filter, Contains-first, Contains-flat_map, Contains-map, Contains-numbers, Contains-rest, greatest_above, least_below, list_any_false}
 use Rattle.cpg_base.specs.Variable.{top}
-use Rattle.cpg_base.specs.Scenario.{Scenario, IsScenario, fault_of, number_of}
+use Rattle.cpg_base.specs.Scenario.{Scenario, fault_of, number_of}
 use Rattle.cpg_base.proofs.ConditionProcesses.{condition_of_process_of}
 use Rattle.cpg_base.proofs.NumbersOf.{number_of-fault}
 use Rattle.cpg_cube.specs.Cube.{holds, matches}

@@ -1,8 +1,8 @@
 -- V5 at an item, by its columns.
-use Rattle.std.proofs.Common.{ℕ, ◌+◌, ◌<◌, ◌≤◌, ◌≡◌, ◌⊎◌, Bool, true, false, cond, not, ◌||◌, List, [], ◌∷◌, ◌++◌, All, filter, get_or, length, take, Contains, refl, sym, ap, ap₂, ◌∙◌, subst, arith, inl, inr, le-ltb}
+use Rattle.std.proofs.Common.{ℕ, ◌+◌, ◌<◌, ◌≤◌, ◌≡◌, ◌⊎◌, Bool, true, false, cond, not, ◌||◌, List, [], ◌∷◌, ◌++◌, All, filter, get_or, length, take, Contains, refl, ap, ap₂, ◌∙◌, subst, arith, inl, inr, le-ltb}
 use Rattle.std.proofs.lemmas.Bool.{and_parts}
 use Rattle.std.proofs.lemmas.List.{take_more}
-use Rattle.std.proofs.lemmas.List.Elements.{All-contains, All-contains_itself, All-weaker, Contains-append_left, Contains-push, Contains-push_cases}
+use Rattle.std.proofs.lemmas.List.Elements.{All-contains, All-contains_itself, All-weaker, Contains-append_left, Contains-get_or, Contains-push, Contains-push_cases}
 use Rattle.cpg_base.specs.Activity.{active, live}
 use Rattle.cpg_base.specs.Bus.{slot_length}
 use Rattle.cpg_base.specs.Graph.{Graph, edge_count, home, inputs, is_message, item_count, message_item, process_at, process_count, producer, source}
@@ -83,18 +83,24 @@ module _ (g : Graph) (tables : List NodeTable) where
           | inr near ↦ before_there c e p (formed.sources e (inputs_parts g p e h).0) k near
         ])
 
--- inputs of which something is known, or that are kept
-module _ (fact : ℕ → Type 0) (edges kept : List ℕ) (k : ℕ) (within : k < length edges) where
-  one_of : (d : ℕ) → Contains (take (k + 1) edges) d → Contains (take k edges) d ⊎ (get_or edges k 0 ≡ d)
-  one_of d c = Contains-push_cases (take k edges) (get_or edges k 0) d (subst (λ xs. Contains xs d) (take_more edges k 0 within) c)
+-- elements of which something is known, or that are kept
+module _ {T : Type 0} (fact : T → Type 0) (edges kept : List T) (k : ℕ) (any : T) (within : k < length edges) where
+  one_of : (d : T) → Contains (take (k + 1) edges) d → Contains (take k edges) d ⊎ (get_or edges k any ≡ d)
+  one_of d c = Contains-push_cases (take k edges) (get_or edges k any) d (subst (λ xs. Contains xs d) (take_more edges k any within) c)
 
-  pub others_push : ((d : ℕ) → Contains (take k edges) d → Contains kept d ⊎ fact d) → (d : ℕ) → Contains (take (k + 1) edges) d → Contains (kept ++ get_or edges k 0 ∷ []) d ⊎ fact d
+  pub others_push : ((d : T) → Contains (take k edges) d → Contains kept d ⊎ fact d) → (d : T) → Contains (take (k + 1) edges) d → Contains (kept ++ get_or edges k any ∷ []) d ⊎ fact d
   others_push before d c = elim (one_of d c) [
-    | inl b ↦ elim (before d b) [ inl h ↦ inl (Contains-append_left kept (get_or edges k 0 ∷ []) d h) | inr f ↦ inr f ]
-    | inr q ↦ inl (subst (λ z. Contains (kept ++ get_or edges k 0 ∷ []) z) q (Contains-push kept (get_or edges k 0)))
+    | inl b ↦ elim (before d b) [ inl h ↦ inl (Contains-append_left kept (get_or edges k any ∷ []) d h) | inr f ↦ inr f ]
+    | inr q ↦ inl (subst (λ z. Contains (kept ++ get_or edges k any ∷ []) z) q (Contains-push kept (get_or edges k any)))
   ]
 
-  pub others_skip : fact (get_or edges k 0) → ((d : ℕ) → Contains (take k edges) d → Contains kept d ⊎ fact d) → (d : ℕ) → Contains (take (k + 1) edges) d → Contains kept d ⊎ fact d
+  pub others_among : ((d : T) → Contains kept d → Contains edges d) → (d : T) → Contains (kept ++ get_or edges k any ∷ []) d → Contains edges d
+  others_among before d c = elim (Contains-push_cases kept (get_or edges k any) d c) [
+    | inl b ↦ before d b
+    | inr q ↦ subst (Contains edges) q (Contains-get_or edges k any within)
+  ]
+
+  pub others_skip : fact (get_or edges k any) → ((d : T) → Contains (take k edges) d → Contains kept d ⊎ fact d) → (d : T) → Contains (take (k + 1) edges) d → Contains kept d ⊎ fact d
   others_skip f before d c = elim (one_of d c) [ inl b ↦ before d b | inr q ↦ inr (subst fact q f) ]
 
 -- the inputs of a process are edges

@@ -1,16 +1,14 @@
 -- What a node knows by the ends of its own processes.
-use Rattle.std.proofs.Common.{ℕ, zero, suc, replicate, true≢false, ◌+◌, ◌<◌, ◌≤◌, ◌≡◌, ◌⊎◌, Bool, true, false, not, List, All, Contains, get_or, length, map, sym, ap, ◌∙◌, subst, arith, inl, inr, refl, le-leb, leb-true}
+use Rattle.std.proofs.Common.{ℕ, zero, suc, replicate, true≢false, ◌+◌, ◌<◌, ◌≤◌, ◌≡◌, Bool, true, false, List, All, Contains, get_or, length, sym, ap, ◌∙◌, subst, arith, inl, inr, refl, le-leb, leb-true}
 use Rattle.std.specs.Bool.{OnTrue}
-use Rattle.std.specs.List.{list_any}
 use Rattle.std.specs.Prelude.{slice_set}
 use Rattle.std.proofs.lemmas.Bool.{OnTrue_at, and_from, and_parts, cases_eq, not-false}
-use Rattle.std.proofs.lemmas.List.{get_or-map, get_or-set_other, get_or-set_same, get_or_default, length-map}
-use Rattle.std.proofs.lemmas.List.Elements.{All-contains, Contains-get_or}
+use Rattle.std.proofs.lemmas.List.{get_or-set_other, get_or-set_same}
+use Rattle.std.proofs.lemmas.List.Elements.{All-contains}
 use Rattle.cpg_base.specs.Activity.{active}
 use Rattle.cpg_base.specs.Duration.{duration}
-use Rattle.cpg_base.specs.Graph.{Graph, IsVariable, home, item_at, item_count, node_of, process_count, process_of_variable, producer}
+use Rattle.cpg_base.specs.Graph.{Graph, home, item_at, item_count, process_count, process_of_variable, producer}
 use Rattle.cpg_base.specs.WellFormed.{WellFormed}
-use Rattle.cpg_base.proofs.Items.{producer_within}
 use Rattle.cpg_base.proofs.Lists.{from_all}
 use Rattle.cpg_base.specs.Scenario.{Scenario, IsScenario, fault_of, number_of}
 use Rattle.cpg_cube.specs.Cube.{holds, matches}
@@ -24,9 +22,9 @@ use Rattle.cpg_violation.specs.Sure.{IsSure}
 use Rattle.cpg_violation.specs.Violation.{AllHold, row_rules}
 use Rattle.cpg_violation.proofs.Matching.{active_where, literal_active, sure_rule}
 use Rattle.cpg_violation.proofs.Moments.{made, waits}
-use Rattle.cpg_sure.specs.Hearing.{AreHeardIn, AreOwnEnded, IsAllHeard, IsEndedBy, IsHeardIn, IsOwnEnded, IsOwnOver, literal_at}
-use Rattle.cpg_sure.specs.Speakers.{IsToldIn}
-use Rattle.cpg_sure.specs.Order.{IsBefore, IsOverBy, execution}
+use Rattle.cpg_sure.specs.Hearing.{AreLeft, AreOwnEnded, IsEndedBy, IsHeardIn, IsOwnEnded, IsOwnOver}
+use Rattle.cpg_sure.specs.Speakers.{AreToldIn, IsToldIn}
+use Rattle.cpg_sure.specs.Order.{IsBefore}
 use Rattle.cpg_sure.proofs.Ends.{by_parts, over_ended}
 use Rattle.cpg_sure.proofs.HeardLaws.{heard_end, heard_sure}
 
@@ -83,30 +81,19 @@ module _ (g : Graph) (tables : List NodeTable) (rules : AllHold g tables row_rul
         let marked = All-contains (λ (l : Literal). get_or known l.variable false ≡ true) c.cube l (All-contains (λ (c : Column). All (λ (l : Literal). get_or known l.variable false ≡ true) c.cube) (columns_of tables x) c all k) h in
         ended_heard few c l k (record { by = l; there = h; variable = refl; low = omega arith; high = omega arith }) (own l.variable marked))
 
-    module _ (few : process_count g ≤ 128) (c : Column) (k : Contains (columns_of tables x) c) (wanted : List Literal) (wider : All (IsToldIn c.cube) wanted) where
-      wider_at : (i : ℕ) → i < length wanted → IsToldIn c.cube (literal_at wanted i)
-      wider_at i l = All-contains (IsToldIn c.cube) wanted (literal_at wanted i) wider (Contains-get_or wanted i _ l)
+    module _ (few : process_count g ≤ 128) (c : Column) (k : Contains (columns_of tables x) c) where
+      -- a column's literal on such a variable
+      pub known_heard : (known : List Bool) → AreOwnEnded g tables x known → (l : Literal) → Contains c.cube l → get_or known l.variable false ≡ true → IsHeardIn g tables (home g x) c l
+      known_heard known own l h marked = ended_heard few c l k (record { by = l; there = h; variable = refl; low = omega arith; high = omega arith }) (own l.variable marked)
 
-      -- the wanted literals on these variables
-      pub known_heard : (known told : List Bool) → AreOwnEnded g tables x known → told ≡ map (λ (l : Literal). get_or known l.variable false) wanted → AreHeardIn g tables (home g x) c wanted told
-      known_heard known told own is = record {
-        long = ap length is ∙ length-map wanted (λ (l : Literal). get_or known l.variable false);
-        heard = λ i l t.
-            let marked : get_or known (literal_at wanted i).variable false ≡ true = sym (get_or-map (λ (l : Literal). get_or known l.variable false) wanted i (record { variable = 0; low = 0; high = 0 }) false l) ∙ sym (ap (λ marks. get_or marks i false) is) ∙ t in
-            ended_heard few c (literal_at wanted i) k (wider_at i l) (own (literal_at wanted i).variable marked);
-      }
-
-      -- with all others on variables of processes that are over
-      pub all_heard : (told : List Bool) → AreHeardIn g tables (home g x) c wanted told
-          → ((s : Scenario) (i : ℕ) → IsScenario g s → matches c.cube s ≡ true → i < length wanted → (get_or told i false ≡ true) ⊎ IsOwnOver g tables (home g x) (literal_at wanted i).variable c.time s)
+      -- the wanted literals, where those that are left are on variables of processes that are over
+      pub left_heard : (wanted left : List Literal) → AreToldIn c.cube wanted → AreLeft g tables (home g x) c wanted left
+          → ((s : Scenario) → IsScenario g s → matches c.cube s ≡ true → All (λ (l : Literal). IsOwnOver g tables (home g x) l.variable c.time s) left)
           → (l : Literal) → Contains wanted l → IsHeardIn g tables (home g x) c l
-      all_heard told heard others l h s law m =
-          let at : literal_at wanted h.0 ≡ l = get_or_default wanted h.0 (record { variable = 0; low = 0; high = 0 }) l h.1 ∙ h.2 in
-          subst (λ (l : Literal). is_heard g.faults (facts g tables (home g x) s c.time) l ≡ true) at
-          (elim (others s h.0 law m h.1) [
-            | inl t ↦ heard.heard h.0 h.1 t s law m
-            | inr own ↦ over_heard few c (literal_at wanted h.0) k (wider_at h.0 h.1) s law m own
-          ])
+      left_heard wanted left wider are over l h = elim (are.heard l h) [
+        | inl kept ↦ λ s law m. over_heard few c l k (wider l h) s law m (All-contains (λ (l : Literal). IsOwnOver g tables (home g x) l.variable c.time s) left l (over s law m) kept)
+        | inr heard ↦ heard
+      ]
 
 -- one variable more
 pub own_more : (g : Graph) (tables : List NodeTable) (x : ℕ) (known : List Bool) (k : ℕ) (b : Bool) → k < length known → AreOwnEnded g tables x known → OnTrue b (IsOwnEnded g tables x k) → AreOwnEnded g tables x (slice_set known k b)

@@ -1,9 +1,7 @@
 -- What frames that reach a node tell it.
-use Rattle.std.proofs.Common.{ℕ, ◌+◌, ◌<◌, ◌≤◌, ◌≡◌, ◌⊎◌, Bool, true, false, List, Option, None, Some, All, Contains, IfSome, get_or, length, refl, sym, ap, ◌∙◌, subst, arith, inl, inr, leb-true}
-use Rattle.std.specs.Bool.{OnTrue}
-use Rattle.std.specs.Prelude.{slice_set}
-use Rattle.std.proofs.lemmas.Bool.{OnTrue_at, and_parts, cases_eq}
-use Rattle.std.proofs.lemmas.List.{get_or_default, get_or-set_other, get_or-set_same}
+use Rattle.std.proofs.Common.{ℕ, ◌+◌, ◌<◌, ◌≤◌, ◌≡◌, ◌⊎◌, true, List, Option, None, Some, All, Contains, IfSome, get_or, length, refl, sym, ap, ◌∙◌, subst, arith, inl, inr, leb-true}
+use Rattle.std.proofs.lemmas.Bool.{and_parts}
+use Rattle.std.proofs.lemmas.List.{get_or_default}
 use Rattle.std.proofs.lemmas.List.Elements.{All-contains, Contains-append_left, Contains-append_right, Contains-get_or}
 use Rattle.cpg_base.specs.Bus.{slot_length}
 use Rattle.cpg_base.specs.Graph.{Graph, home, item_at}
@@ -16,8 +14,8 @@ use Rattle.cpg_table.specs.Table.{NodeTable, columns_of}
 use Rattle.cpg_cube.specs.Column.{Column, column_at}
 use Rattle.cpg_places.specs.Places.{IsAmong, place_at}
 use Rattle.cpg_places.proofs.TreeLaws.{place_matches, place_there}
-use Rattle.cpg_sure.specs.Hearing.{AreHeardIn, IsHeardIn, literal_at}
-use Rattle.cpg_sure.specs.Speakers.{HasCome, IsSpeaker, IsTold, IsToldIn}
+use Rattle.cpg_sure.specs.Hearing.{AreLeft, IsHeardIn}
+use Rattle.cpg_sure.specs.Speakers.{AreToldIn, HasCome, IsSpeaker, IsTold, IsToldIn}
 use Rattle.cpg_sure.specs.declared.speakers.Speaker.{Speaker}
 use Rattle.cpg_sure.proofs.HeardLaws.{heard_frame}
 
@@ -50,28 +48,27 @@ module _ {g : Graph} {tables : List NodeTable} {node : ℕ} {speaker : Speaker} 
       → IsTold speaker.value speaker.columns.now places l → IsHeardIn g tables node c l
   speaker_heard found told s law m = let r = found s law m in told_by s law m told (place_at speaker.tree.now s) refl r.0 r.1
 
--- the marked literals and those that the frames tell
-module _ {g : Graph} {tables : List NodeTable} {node : ℕ} {speaker : Speaker} (is : IsSpeaker g tables node speaker) (places : List ℕ) (c : Column) (wanted : List Literal) (wider : All (IsToldIn c.cube) wanted) where
-  pub more_heard : (old new : List Bool) → AreHeardIn g tables node c wanted old → length new ≡ length wanted
-      → ((i : ℕ) → get_or new i false ≡ true → (get_or old i false ≡ true) ⊎ IsTold speaker.value speaker.columns.now places (literal_at wanted i))
+-- the wanted literals that the frames don't tell
+module _ {g : Graph} {tables : List NodeTable} {node : ℕ} {speaker : Speaker} (is : IsSpeaker g tables node speaker) (places : List ℕ) (c : Column) (wanted left : List Literal) (wider : AreToldIn c.cube wanted) where
+  pub left_untold : ((l : Literal) → Contains left l → Contains wanted l) → ((l : Literal) → Contains wanted l → Contains left l ⊎ IsTold speaker.value speaker.columns.now places l)
       → ((s : Scenario) → IsScenario g s → matches c.cube s ≡ true → HasCome speaker.columns.now speaker.delay c.time (place_at speaker.tree.now s) × IsAmong places (place_at speaker.tree.now s))
-      → AreHeardIn g tables node c wanted new
-  more_heard old new before long told found = record {
-    long = long;
-    heard = λ i l t. elim (told i t) [
-      | inl o ↦ before.heard i l o
-      | inr by ↦ speaker_heard is places c (literal_at wanted i) (All-contains (IsToldIn c.cube) wanted (literal_at wanted i) wider (Contains-get_or wanted i _ l)) found by
-    ];
+      → AreLeft g tables node c wanted left
+  left_untold among told found = record {
+    among = among;
+    heard = λ l h. elim (told l h) [ inl kept ↦ inl kept | inr by ↦ inr (speaker_heard is places c l (wider l h) found by) ];
   }
 
--- one mark more
-pub mark_step : (fact : ℕ → Type 0) (old marks : List Bool) (k : ℕ) (b : Bool) → k < length marks → ((i : ℕ) → get_or marks i false ≡ true → (get_or old i false ≡ true) ⊎ fact i) → OnTrue b ((get_or marks k false ≡ true) ⊎ fact k)
-    → (i : ℕ) → get_or (slice_set marks k b) i false ≡ true → (get_or old i false ≡ true) ⊎ fact i
-mark_step fact old marks k b within before here i t = elim (cases_eq i k) [
-  | inl same ↦ subst (λ j. (get_or old j false ≡ true) ⊎ fact j) (sym same)
-      (elim (OnTrue_at (sym (get_or-set_same marks k b false within) ∙ ap (λ j. get_or (slice_set marks k b) j false) (sym same) ∙ t) here) [ inl o ↦ before k o | inr f ↦ inr f ])
-  | inr other ↦ before i (sym (get_or-set_other marks k i b false other) ∙ t)
-]
+module _ (g : Graph) (tables : List NodeTable) (node : ℕ) (c : Column) where
+  -- all, at first
+  pub left_first : (wanted : List Literal) → AreLeft g tables node c wanted wanted
+  left_first wanted = record { among = λ l h. h; heard = λ l h. inl h }
+
+  -- and of those that are left
+  pub left_more : (wanted left next : List Literal) → AreLeft g tables node c wanted left → AreLeft g tables node c left next → AreLeft g tables node c wanted next
+  left_more wanted left next before here = record {
+    among = λ l h. before.among l (here.among l h);
+    heard = λ l h. elim (before.heard l h) [ inl kept ↦ here.heard l kept | inr heard ↦ inr heard ];
+  }
 
 -- the column at the only place is that at all
 pub only_place : (columns : List Column) (places : List ℕ) (c : Column) → length places ≡ 1 → column_at columns (get_or places 0 0) ≡ c → All (λ i. column_at columns i ≡ c) places

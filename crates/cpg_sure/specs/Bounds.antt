@@ -1,5 +1,5 @@
 -- What a node has to hear of a literal: its low and its high, each as a literal that is open at the other end.
-use Rattle.std.specs.Prelude.{ℕ, ◌==◌, nat_le, if◌then◌else◌, List, [], ◌∷◌, ◌++◌, max}
+use Rattle.std.specs.Prelude.{ℕ, ◌==◌, nat_le, if◌then◌else◌, Bool, false, List, [], ◌∷◌, ◌++◌, get_or, max}
 use Rattle.cpg_base.specs.Variable.{top}
 use Rattle.cpg_cube.specs.declared.literal.Literal.{Literal}
 
@@ -14,3 +14,7 @@ high_of k l = if nat_le (top k l.variable) l.high then [] else record { variable
 -- both
 abbrev pub bounds_of : ℕ → Literal → List Literal
 bounds_of k l = low_of k l ++ high_of k l
+
+-- none, where a variable's number is known
+abbrev pub unknown_bounds : ℕ → List Bool → Literal → List Literal
+unknown_bounds k known l = if get_or known l.variable false then [] else bounds_of k l

@@ -5,6 +5,8 @@ use Rattle.cpg_base.specs.declared.limits.TheConstants.{MOST_FAULTS}
 use Rattle.cpg_base.specs.Scenario.{Scenario, IsScenario, number_of}
 use Rattle.cpg_cube.specs.Column.{column_at}
 use Rattle.cpg_table.specs.Table.{NodeTable, columns_of}
+use Rattle.cpg_tree.specs.Space.{Lies}
+use Rattle.cpg_tree.specs.declared.space.Space.{Space}
 use Rattle.cpg_places.specs.Trees.{IsRowTree}
 use Rattle.cpg_violation.specs.Always.{IsUnconditional}
 use Rattle.cpg_sure.specs.declared.span.Span.{Span}
@@ -37,7 +39,11 @@ pub record IsCourse (g : Graph) (tables : List NodeTable) (lasts : Scenario → 
   pub span : IsSpan g lasts course.span
   pub always : course.is_always ≡ true → IsUnconditional g x
 
--- those of the first items
+-- all scenarios lie in a space
+pub record HasAll (g : Graph) (space : Space) : Type 0 where
+  pub lies : (s : Scenario) → IsScenario g s → Lies space s
+
+-- those of the first items, and a space of all scenarios
 pub record AreCourses (lasts : ℕ → Scenario → ℕ) (g : Graph) (tables : List NodeTable) (courses : Courses) : Type 0 where
-  pub faults : courses.faults ≡ g.faults
+  pub everywhere : HasAll g courses.everywhere
   pub each : (x : ℕ) (d : Course) → x < length courses.list.items → IsCourse g tables (lasts x) x (get_or courses.list.items x d)

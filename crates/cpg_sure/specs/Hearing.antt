@@ -1,5 +1,5 @@
 -- Literals of columns that nodes have heard by the columns' times.
-use Rattle.std.specs.Prelude.{ℕ, ◌≡◌, ◌≤◌, ◌<◌, true, false, Bool, List, Contains, get_or, length}
+use Rattle.std.specs.Prelude.{ℕ, ◌≡◌, ◌<◌, ◌⊎◌, true, false, Bool, List, Contains, get_or}
 use Rattle.cpg_base.specs.Activity.{active}
 use Rattle.cpg_base.specs.Graph.{Graph, IsVariable, home, node_of, process_count, process_of_variable}
 use Rattle.cpg_base.specs.Scenario.{Scenario, IsScenario}
@@ -15,14 +15,10 @@ use Rattle.cpg_sure.specs.Order.{IsOverBy, execution}
 abbrev pub IsHeardIn : Graph → List NodeTable → ℕ → Column → Literal → Type 0
 IsHeardIn g tables node c l = (s : Scenario) → IsScenario g s → matches c.cube s ≡ true → is_heard g.faults (facts g tables node s c.time) l ≡ true
 
--- the literal at a place
-abbrev pub literal_at : List Literal → ℕ → Literal
-literal_at literals i = get_or literals i (record { variable = 0; low = 0; high = 0 })
-
--- so it is with those of some literals that are marked
-pub record AreHeardIn (g : Graph) (tables : List NodeTable) (node : ℕ) (c : Column) (wanted : List Literal) (marks : List Bool) : Type 0 where
-  pub long : length marks ≡ length wanted
-  pub heard : (i : ℕ) → i < length wanted → get_or marks i false ≡ true → IsHeardIn g tables node c (literal_at wanted i)
+-- so it is with those of some literals that aren't among those that are left
+pub record AreLeft (g : Graph) (tables : List NodeTable) (node : ℕ) (c : Column) (wanted left : List Literal) : Type 0 where
+  pub among : (l : Literal) → Contains left l → Contains wanted l
+  pub heard : (l : Literal) → Contains wanted l → Contains left l ⊎ IsHeardIn g tables node c l
 
 -- so it is with all literals of a column
 abbrev pub IsAllHeard : Graph → List NodeTable → ℕ → Column → Type 0

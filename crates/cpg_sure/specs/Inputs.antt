@@ -1,8 +1,7 @@
 -- Inputs that are there in time, and what is known of what items wait for.
 use Rattle.std.specs.Prelude.{ℕ, ◌≡◌, ◌≤◌, true, false, List, Contains}
 use Rattle.cpg_base.specs.Activity.{live}
-use Rattle.cpg_base.specs.Bus.{slot_length}
-use Rattle.cpg_base.specs.Graph.{Graph, home, is_message, message_item, source}
+use Rattle.cpg_base.specs.Graph.{Graph, is_message, message_item, source}
 use Rattle.cpg_order.specs.Links.{links_of}
 use Rattle.cpg_base.specs.Scenario.{Scenario, IsScenario}
 use Rattle.cpg_cube.specs.Cube.{matches}

@@ -35,3 +35,7 @@ pub record IsToldIn (literals : List Literal) (l : Literal) : Type 0 where
 -- a frame carries the value that a literal speaks of, or the column at each of these places has such a literal
 abbrev pub IsTold : Option ℕ → List Column → List ℕ → Literal → Type 0
 IsTold value columns places l = (value ≡ Some l.variable) ⊎ All (λ i. IsToldIn (column_at columns i).cube l) places
+
+-- one of some literals bounds each of others at least as closely
+abbrev pub AreToldIn : List Literal → List Literal → Type 0
+AreToldIn literals wanted = (l : Literal) → Contains wanted l → IsToldIn literals l

@@ -130,9 +130,10 @@ impl<'a> Courses<'a> {
         if self.are_clear(items, other, column.time) {
             return true;
         }
-        let Some(space) = Space::of(self.faults, column.cube.literals()) else {
+        let mut space = self.everywhere;
+        if !space.narrow_to(column.cube.literals()) {
             return true;
-        };
+        }
         self.are_apart_in(items, other, &space, column.time)
     }
 

@@ -7,7 +7,7 @@ ghost use Rattle.cpg_cube.specs.Cube.{matches};
 ghost use Rattle.cpg_table.specs.Table.{NodeTable, columns_of};
 ghost use Rattle.cpg_tree.specs.Space.{Lies};
 ghost use Rattle.cpg_cube.specs.Column.{column_at};
-ghost use Rattle.cpg_sure.specs.Courses.{AreCourses, IsCourse, IsOverAt, IsPast};
+ghost use Rattle.cpg_sure.specs.Courses.{AreCourses, HasAll, IsCourse, IsOverAt, IsPast};
 ghost use Rattle.cpg_sure.specs.Order.{IsOver, IsOverBy};
 
 use crate::course::{Course, Courses};
@@ -93,8 +93,8 @@ impl<'a> Course<'a> {
 
     /// Whether the item is over before another that has a tree: a walk down it and the own tree has the scenarios of each two
     /// columns.
-    fn ends_before(&self, faults: u8, other: &Course<'_>, tree: &Places) -> bool
-        ensures { OnTrue result ((g : Graph) (tables : List NodeTable) (lasts : ℕ → Scenario → ℕ) (y x : ℕ) → faults ≡ g.faults →
+    fn ends_before(&self, everywhere: &Space, other: &Course<'_>, tree: &Places) -> bool
+        ensures { OnTrue result ((g : Graph) (tables : List NodeTable) (lasts : ℕ → Scenario → ℕ) (y x : ℕ) → HasAll g everywhere.now →
             IsCourse g tables (lasts y) y self.now → IsCourse g tables (lasts x) x other.now → other.now.tree.now ≡ Some tree.now → IsOver lasts g tables y x) }
     {
         if has_come(self.last, self.span.longest, other.first) {
@@ -107,8 +107,7 @@ impl<'a> Course<'a> {
             course: self,
             columns: other.columns,
         };
-        let everywhere = Space::whole(faults);
-        tree.do_pass_with(own, &everywhere, &test)
+        tree.do_pass_with(own, everywhere, &test)
     }
 
     /// Whether the item is over by a time in the scenarios of a space, by the columns that match there.
@@ -173,9 +172,10 @@ impl<'a> Courses<'a> {
         if self.are_early(items, column.time) {
             return true;
         }
-        let Some(space) = Space::of(self.faults, column.cube.literals()) else {
+        let mut space = self.everywhere;
+        if !space.narrow_to(column.cube.literals()) {
             return true;
-        };
+        }
         self.are_over(items, &space, column.time)
     }
 
@@ -201,7 +201,7 @@ impl<'a> Courses<'a> {
             let Some(one) = self.list.get(*item as usize) else {
                 return false;
             };
-            if !one.ends_before(self.faults, course, tree) {
+            if !one.ends_before(&self.everywhere, course, tree) {
                 return false;
             }
         }

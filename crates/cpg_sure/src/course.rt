@@ -34,8 +34,8 @@ pub(crate) struct Course<'a> {
 /// The courses of the first items, by number.
 #[derive(Drop)]
 pub(crate) struct Courses<'a> {
-    /// How many faults there may be.
-    pub(crate) faults: u8,
+    /// All scenarios: made once, since a space is long to make.
+    pub(crate) everywhere: Space,
     pub(crate) list: Vec<Course<'a>>,
 }
 
@@ -83,7 +83,7 @@ pub(crate) fn executions<'a>(
         list.push(course_of(admitted, tables, trees, process, span))?;
     }
     Ok(Courses {
-        faults: problem.faults(),
+        everywhere: Space::whole(problem.faults()),
         list,
     })
 }
@@ -107,7 +107,7 @@ pub(crate) fn sends<'a>(
         list.push(course_of(admitted, tables, trees, item, Span::one()))?;
     }
     Ok(Courses {
-        faults: problem.faults(),
+        everywhere: Space::whole(problem.faults()),
         list,
     })
 }
@@ -131,7 +131,7 @@ pub(crate) fn frames<'a>(
         list.push(course_of(admitted, tables, trees, item, span))?;
     }
     Ok(Courses {
-        faults: problem.faults(),
+        everywhere: Space::whole(problem.faults()),
         list,
     })
 }

@@ -1,5 +1,5 @@
 //! What the node of an item knows by the times of the item's columns.
-ghost use Rattle.std.specs.Prelude.{◌≡◌, ◌<◌, ◌⊎◌, ℕ, All, Contains, IfOk, IfSome, List, false, get_or, length, map, true};
+ghost use Rattle.std.specs.Prelude.{◌≡◌, ◌<◌, ℕ, All, Contains, IfOk, IfSome, List, false, get_or, true};
 ghost use Rattle.std.specs.Bool.{OnTrue};
 ghost use Rattle.cpg_base.specs.Graph.{Graph, IsVariable, item_count, process_count};
 ghost use Rattle.cpg_base.specs.Scenario.{Scenario, IsScenario};
@@ -9,23 +9,21 @@ ghost use Rattle.cpg_table.specs.declared.rule.Rule.{Rule};
 ghost use Rattle.cpg_tree.specs.Space.{Lies};
 ghost use Rattle.cpg_violation.specs.Sure.{IsSure};
 ghost use Rattle.cpg_violation.specs.Violation.{AllHold, row_rules};
-ghost use Rattle.cpg_sure.specs.Hearing.{AreHeardIn, AreOwnEnded, IsAllHeard, IsEndedBy, IsOwnEnded, IsOwnOver, IsOwner, literal_at};
+ghost use Rattle.cpg_sure.specs.Hearing.{AreLeft, AreOwnEnded, IsAllHeard, IsEndedBy, IsOwnEnded, IsOwnOver, IsOwner};
 ghost use Rattle.cpg_sure.specs.Listening.{IsListener};
 ghost use Rattle.cpg_sure.specs.Order.{IsOverBy, execution};
-ghost use Rattle.cpg_sure.specs.Speakers.{IsSpeaker, IsToldIn};
+ghost use Rattle.cpg_sure.specs.Speakers.{AreToldIn, IsSpeaker};
 ghost use Rattle.cpg_sure.specs.Turns.{AreTurns};
 
-use crate::bounds::list_bounds;
+use crate::bounds::list_unknown;
 use crate::speakers::Speaker;
 use crate::turns::Turns;
 use cpg_base::{OutOfMemory, Problem, Variable};
-use cpg_cube::{Entry, Literal};
+use cpg_cube::{Entry, Literal, VARIABLES};
 use cpg_rules::Admitted;
 use cpg_tree::Space;
 use std::alloc::Global;
-
-/// How many variables there may be.
-const VARIABLES: usize = 256;
+use std::mem;
 
 /// The process that a variable belongs to.
 fn owner(problem: &Problem, variable: u8) -> Option<u32>
@@ -144,33 +142,6 @@ pub(crate) fn are_all_known(known: &[bool; VARIABLES], columns: &[Entry]) -> boo
     true
 }
 
-/// Marks the literals on marked variables.
-fn mark_known(
-    known: &[bool; VARIABLES],
-    literals: &[Literal],
-    told: &mut Vec<bool>,
-) -> Result<(), OutOfMemory>
-    ensures { IfOk result (λ _. told.new.items ≡ map (λ l. get_or known.now l.variable false) literals.now) }
-{
-    told.clear();
-    for literal in literals {
-        told.push(known[literal.variable as usize])?;
-    }
-    Ok(())
-}
-
-/// Whether all are marked.
-fn are_marked(marks: &[bool]) -> bool
-    ensures { OnTrue result ((i : ℕ) → i < length marks.now → get_or marks.now i false ≡ true) }
-{
-    for mark in marks {
-        if !*mark {
-            return false;
-        }
-    }
-    true
-}
-
 /// What the node of an item knows by the item's columns: the variables of its own processes that have always ended, and
 /// what it hears.
 #[derive(Drop)]
@@ -215,57 +186,45 @@ impl<'a> Listener<'a> {
         self.is_over(process, space, time)
     }
 
-    /// Whether a literal is marked, or this is so of its variable.
-    fn is_known(&self, is_marked: bool, variable: u8, space: &Space, time: u64) -> bool
+    /// Whether this is so of the variables of all these literals.
+    fn are_over(&self, literals: &[Literal], space: &Space, time: u64) -> bool
         ensures { OnTrue result ((tables : List NodeTable) (s : Scenario) →
             AreTurns (execution self.now.admitted.now.graph) self.now.admitted.now.graph tables self.now.turns.now →
-            IsScenario self.now.admitted.now.graph s → Lies space.now s → (is_marked ≡ true) ⊎
-            IsOwnOver self.now.admitted.now.graph tables self.now.node variable time s) }
+            IsScenario self.now.admitted.now.graph s → Lies space.now s →
+            All (λ l. IsOwnOver self.now.admitted.now.graph tables self.now.node l.variable time s) literals.now) }
     {
-        if is_marked {
-            return true;
-        }
-        self.is_own_over(variable, space, time)
-    }
-
-    /// Whether this is so of the variables of all literals that aren't marked.
-    fn are_others_over(&self, literals: &[Literal], told: &[bool], space: &Space, time: u64) -> bool
-        requires long { length told.now ≡ length literals.now }
-        ensures { OnTrue result ((tables : List NodeTable) (s : Scenario) (i : ℕ) →
-            AreTurns (execution self.now.admitted.now.graph) self.now.admitted.now.graph tables self.now.turns.now →
-            IsScenario self.now.admitted.now.graph s → Lies space.now s → i < length literals.now → (get_or told.now i false ≡ true) ⊎
-            IsOwnOver self.now.admitted.now.graph tables self.now.node (literal_at literals.now i).variable time s) }
-    {
-        for (place, literal) in literals.iter().enumerate() {
-            if !self.is_known(told[place], literal.variable, space, time) {
+        for literal in literals {
+            if !self.is_own_over(literal.variable, space, time) {
                 return false;
             }
         }
         true
     }
 
-    /// Marks those of the wanted literals, each as wide as one of a column, that the node has been told by others by the
-    /// column's time wherever that matches, in a space that has all these scenarios.
+    /// Keeps those of the wanted literals, each as wide as one of a column, that the node hasn't been told by others by the
+    /// column's time wherever that matches, in a space that has all these scenarios. `left` is for literals.
     fn listen(
         &self,
         column: &Entry,
-        wanted: &[Literal],
         space: &Space,
         places: &mut Vec<u32>,
-        told: &mut Vec<bool>,
+        wanted: &mut Vec<Literal>,
+        left: &mut Vec<Literal>,
     ) -> Result<(), OutOfMemory>
-        requires long { length told.old.items ≡ length wanted.now }
-        ensures long { IfOk result (λ _. length told.new.items ≡ length wanted.now) }
-        ensures heard { IfOk result (λ _. (g : Graph) (tables : List NodeTable) →
-            All (IsSpeaker g tables self.now.node) self.now.speakers.items → All (IsToldIn column.now.cube) wanted.now →
+        ensures { IfOk result (λ _. (g : Graph) (tables : List NodeTable) →
+            All (IsSpeaker g tables self.now.node) self.now.speakers.items → AreToldIn column.now.cube wanted.old.items →
             ((s : Scenario) → IsScenario g s → matches column.now.cube s ≡ true → Lies space.now s) →
-            AreHeardIn g tables self.now.node column.now wanted.now told.old.items → AreHeardIn g tables self.now.node column.now wanted.now told.new.items) }
+            AreLeft g tables self.now.node column.now wanted.old.items wanted.new.items) }
     {
         for speaker in self.speakers.as_slice() {
-            if are_marked(told.as_slice()) {
+            if wanted.is_empty() {
                 return Ok(());
             }
-            speaker.tell(column, wanted, space, places, told)?;
+            let has_told = speaker.tell(column, wanted.as_slice(), space, places, left)?;
+            if !has_told {
+                continue;
+            }
+            mem::swap(wanted, left);
         }
         Ok(())
     }
@@ -275,9 +234,9 @@ impl<'a> Listener<'a> {
     fn hears(
         &self,
         column: &Entry,
-        wanted: &mut Vec<Literal>,
         places: &mut Vec<u32>,
-        told: &mut Vec<bool>,
+        wanted: &mut Vec<Literal>,
+        left: &mut Vec<Literal>,
     ) -> Result<bool, OutOfMemory>
         ensures { IfOk result (λ all. OnTrue all ((tables : List NodeTable) (x : ℕ) → IsListener tables x self.now →
             AllHold self.now.admitted.now.graph tables row_rules → Contains (columns_of tables x) column.now →
@@ -285,16 +244,14 @@ impl<'a> Listener<'a> {
     {
         let literals = column.cube.literals();
         let problem = self.admitted.problem();
-        let faults = problem.faults();
         // in place, since a space is long to copy
-        let mut space = Space::whole(faults);
+        let mut space = self.turns.courses.everywhere;
         if !space.narrow_to(literals) {
             return Ok(true);
         }
-        list_bounds(faults, literals, wanted)?;
-        mark_known(&self.known, wanted.as_slice(), told)?;
-        self.listen(column, wanted.as_slice(), &space, places, told)?;
-        Ok(self.are_others_over(wanted.as_slice(), told.as_slice(), &space, column.time))
+        list_unknown(problem.faults(), &self.known, literals, wanted)?;
+        self.listen(column, &space, places, wanted, left)?;
+        Ok(self.are_over(wanted.as_slice(), &space, column.time))
     }
 
     /// Whether it has heard all literals of all of the item's columns.
@@ -303,11 +260,11 @@ impl<'a> Listener<'a> {
             AllHold self.now.admitted.now.graph tables row_rules → columns.now ≡ columns_of tables x →
             All (IsAllHeard self.now.admitted.now.graph tables self.now.node) columns.now)) }
     {
-        let mut wanted = Vec::new(alloc);
         let mut places = Vec::new(alloc);
-        let mut told = Vec::new(alloc);
+        let mut wanted = Vec::new(alloc);
+        let mut left = Vec::new(alloc);
         for column in columns {
-            let heard = self.hears(column, &mut wanted, &mut places, &mut told)?;
+            let heard = self.hears(column, &mut places, &mut wanted, &mut left)?;
             if !heard {
                 return Ok(false);
             }

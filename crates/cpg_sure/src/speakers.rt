@@ -1,17 +1,18 @@
 //! What a node hears of others: the rows of items whose frames reach it, and which literals these tell.
-ghost use Rattle.std.specs.Prelude.{◌≡◌, ◌≤◌, ◌+◌, ◌⊎◌, ℕ, Some, All, Contains, IfOk, IfSome, List, false, get_or, length, true};
+ghost use Rattle.std.specs.Prelude.{◌≡◌, ◌≤◌, ◌+◌, ◌⊎◌, ℕ, Some, All, Contains, IfOk, IfSome, List, true};
 ghost use Rattle.std.specs.Bool.{OnTrue};
 ghost use Rattle.cpg_base.specs.Graph.{Graph};
 ghost use Rattle.cpg_base.specs.Scenario.{Scenario, IsScenario, number_of};
 ghost use Rattle.cpg_cube.specs.Cube.{matches};
+ghost use Rattle.cpg_cube.specs.declared.literal.Literal.{Literal};
 ghost use Rattle.cpg_table.specs.Heard.{exactly, frame_value};
 ghost use Rattle.cpg_table.specs.Table.{NodeTable};
 ghost use Rattle.cpg_tree.specs.Space.{Lies};
 ghost use Rattle.cpg_cube.specs.Column.{column_at};
 ghost use Rattle.cpg_sure.specs.Courses.{AreCourses};
-ghost use Rattle.cpg_sure.specs.Hearing.{AreHeardIn, literal_at};
+ghost use Rattle.cpg_sure.specs.Hearing.{AreLeft};
 ghost use Rattle.cpg_sure.specs.Order.{frame};
-ghost use Rattle.cpg_sure.specs.Speakers.{HasCome, IsSpeaker, IsTold, IsToldIn};
+ghost use Rattle.cpg_sure.specs.Speakers.{AreToldIn, HasCome, IsSpeaker, IsTold, IsToldIn};
 
 use crate::course::Courses;
 use cpg_base::{FIRST_VALUE, Item, OutOfMemory, Problem};
@@ -176,90 +177,101 @@ impl<'a> Speaker<'a> {
         tell_at_all(self.columns, places, wanted)
     }
 
-    /// Whether a literal is told already, or by the frames of the columns at these places.
-    fn is_told(&self, already: bool, places: &[u32], wanted: &Literal) -> bool
-        ensures { OnTrue result ((already ≡ true) ⊎ IsTold self.now.value self.now.columns.now places.now wanted.now) }
+    /// Whether a literal is told by the frames of a column, by its literal at a place.
+    fn tells_by(&self, own: &[Literal], at: usize, wanted: &Literal) -> bool
+        ensures { OnTrue result ((self.now.value ≡ Some wanted.now.variable) ⊎ IsToldIn own.now wanted.now) }
     {
-        if already {
-            return true;
-        }
-        self.tells(places, wanted)
-    }
-
-    /// Whether a literal is told already, or by the frames of a column, by its literal at a place.
-    fn is_told_there(&self, already: bool, own: &[Literal], at: usize, wanted: &Literal) -> bool
-        ensures { OnTrue result ((already ≡ true) ⊎ ((self.now.value ≡ Some wanted.now.variable) ⊎ IsToldIn own.now wanted.now)) }
-    {
-        if already {
-            return true;
-        }
         if self.carries(wanted.variable) {
             return true;
         }
         tells_there(own, at, wanted)
     }
 
-    /// Marks the literals that the frames of one column tell, which has these literals: both go by rising variable.
-    fn mark_by(&self, own: &[Literal], literals: &[Literal], told: &mut Vec<bool>)
-        requires long { length told.old.items ≡ length literals.now }
-        ensures long { length told.new.items ≡ length literals.now }
-        ensures told { (i : ℕ) → get_or told.new.items i false ≡ true → (get_or told.old.items i false ≡ true) ⊎
-            ((self.now.value ≡ Some (literal_at literals.now i).variable) ⊎ IsToldIn own.now (literal_at literals.now i)) }
+    /// Lists those of the wanted literals that the frames of one column don't tell, which has these literals: both go by rising
+    /// variable.
+    fn leave_by(
+        &self,
+        own: &[Literal],
+        wanted: &[Literal],
+        left: &mut Vec<Literal>,
+    ) -> Result<(), OutOfMemory>
+        ensures among { IfOk result (λ _. (l : Literal) → Contains left.new.items l → Contains wanted.now l) }
+        ensures told { IfOk result (λ _. (l : Literal) → Contains wanted.now l →
+            Contains left.new.items l ⊎ ((self.now.value ≡ Some l.variable) ⊎ IsToldIn own.now l)) }
     {
+        left.clear();
         let mut at = 0;
-        for (place, literal) in literals.iter().enumerate() {
-            if told[place] {
+        for literal in wanted {
+            at = place_from(own, at, literal.variable);
+            if self.tells_by(own, at, literal) {
                 continue;
             }
-            at = place_from(own, at, literal.variable);
-            told[place] = self.is_told_there(told[place], own, at, literal);
+            left.push(*literal)?;
         }
+        Ok(())
     }
 
-    /// Marks the literals that the frames of the columns at these places tell.
-    fn mark_each(&self, places: &[u32], literals: &[Literal], told: &mut Vec<bool>)
-        requires long { length told.old.items ≡ length literals.now }
-        ensures long { length told.new.items ≡ length literals.now }
-        ensures told { (i : ℕ) → get_or told.new.items i false ≡ true → (get_or told.old.items i false ≡ true) ⊎
-            IsTold self.now.value self.now.columns.now places.now (literal_at literals.now i) }
+    /// Lists those that the frames of the columns at these places don't tell.
+    fn leave_each(
+        &self,
+        places: &[u32],
+        wanted: &[Literal],
+        left: &mut Vec<Literal>,
+    ) -> Result<(), OutOfMemory>
+        ensures among { IfOk result (λ _. (l : Literal) → Contains left.new.items l → Contains wanted.now l) }
+        ensures told { IfOk result (λ _. (l : Literal) → Contains wanted.now l →
+            Contains left.new.items l ⊎ IsTold self.now.value self.now.columns.now places.now l) }
     {
-        for (place, literal) in literals.iter().enumerate() {
-            told[place] = self.is_told(told[place], places, literal);
+        left.clear();
+        for literal in wanted {
+            if self.tells(places, literal) {
+                continue;
+            }
+            left.push(*literal)?;
         }
+        Ok(())
     }
 
     /// The same, where there is mostly one column.
-    fn mark(&self, places: &[u32], literals: &[Literal], told: &mut Vec<bool>)
-        requires long { length told.old.items ≡ length literals.now }
-        ensures long { length told.new.items ≡ length literals.now }
-        ensures told { (i : ℕ) → get_or told.new.items i false ≡ true → (get_or told.old.items i false ≡ true) ⊎
-            IsTold self.now.value self.now.columns.now places.now (literal_at literals.now i) }
+    fn leave(
+        &self,
+        places: &[u32],
+        wanted: &[Literal],
+        left: &mut Vec<Literal>,
+    ) -> Result<(), OutOfMemory>
+        ensures among { IfOk result (λ _. (l : Literal) → Contains left.new.items l → Contains wanted.now l) }
+        ensures told { IfOk result (λ _. (l : Literal) → Contains wanted.now l →
+            Contains left.new.items l ⊎ IsTold self.now.value self.now.columns.now places.now l) }
     {
         match alone(self.columns, places) {
-            Some(column) => self.mark_by(column.cube.literals(), literals, told),
-            None => self.mark_each(places, literals, told),
+            Some(column) => {
+                self.leave_by(column.cube.literals(), wanted, left)?;
+                Ok(())
+            }
+            None => {
+                self.leave_each(places, wanted, left)?;
+                Ok(())
+            }
         }
     }
 
-    /// Marks those of the wanted literals, each as wide as one of a column, that its frames have told by the column's time
-    /// wherever that matches, in a space that has all these scenarios. The places of its own columns that match there are
-    /// first written to `places`.
+    /// Lists those of the wanted literals, each as wide as one of a column, that its frames haven't told by the column's time
+    /// wherever that matches, in a space that has all these scenarios; false where it tells none. The places of its own columns
+    /// that match there are first written to `places`.
     pub(crate) fn tell(
         &self,
         column: &Entry,
         wanted: &[Literal],
         space: &Space,
         places: &mut Vec<u32>,
-        told: &mut Vec<bool>,
-    ) -> Result<(), OutOfMemory>
-        requires long { length told.old.items ≡ length wanted.now }
-        ensures long { IfOk result (λ _. length told.new.items ≡ length wanted.now) }
-        ensures heard { IfOk result (λ _. (g : Graph) (tables : List NodeTable) (node : ℕ) → IsSpeaker g tables node self.now →
-            All (IsToldIn column.now.cube) wanted.now → ((s : Scenario) → IsScenario g s → matches column.now.cube s ≡ true →
-            Lies space.now s) → AreHeardIn g tables node column.now wanted.now told.old.items → AreHeardIn g tables node column.now wanted.now told.new.items) }
+        left: &mut Vec<Literal>,
+    ) -> Result<bool, OutOfMemory>
+        ensures { IfOk result (λ told. OnTrue told ((g : Graph) (tables : List NodeTable) (node : ℕ) → IsSpeaker g tables node self.now →
+            AreToldIn column.now.cube wanted.now → ((s : Scenario) → IsScenario g s → matches column.now.cube s ≡ true → Lies space.now s) →
+            AreLeft g tables node column.now wanted.now left.new.items)) }
     {
         if !has_come(self.first, self.delay, column.time) {
-            return Ok(());
+            return Ok(false);
         }
         places.clear();
         let arrivals = Arrivals {
@@ -269,10 +281,10 @@ impl<'a> Speaker<'a> {
         };
         let all = self.tree.gather(space, &arrivals, places)?;
         if !all {
-            return Ok(());
+            return Ok(false);
         }
-        self.mark(places.as_slice(), wanted, told);
-        Ok(())
+        self.leave(places.as_slice(), wanted, left)?;
+        Ok(true)
     }
 }
 

@@ -107,13 +107,15 @@ impl<'a> Waiting<'a> {
         ensures { OnTrue result ((tables : List NodeTable) → IsWaiting self.now.admitted.now.graph tables self.now →
             AllHold self.now.admitted.now.graph tables row_rules → All (IsInputThere self.now.admitted.now.graph tables column.now) edges.now) }
     {
-        let problem = self.admitted.problem();
+        // its clause tells that the graph is admitted
+        let _problem = self.admitted.problem();
         if self.are_early(edges, column.time) {
             return true;
         }
-        let Some(space) = Space::of(problem.faults(), column.cube.literals()) else {
+        let mut space = self.frames.everywhere;
+        if !space.narrow_to(column.cube.literals()) {
             return true;
-        };
+        }
         self.are_over(edges, &space, column.time)
     }
 

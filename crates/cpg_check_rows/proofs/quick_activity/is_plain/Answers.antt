@@ -1,16 +1,10 @@
-use Rattle.std.proofs.Common.{◌≡◌, ◌∙◌, ap}
 use Rattle.std.proofs.lemmas.Bool.{OnTrue_at, OnTrue_from}
-use Rattle.cpg_base.specs.Graph.{Graph}
 use Rattle.cpg_tree.proofs.Passes.{of_true}
 use Rattle.cpg_violation.specs.Always.{AllAlways}
-use Rattle.cpg_violation.proofs.SpaceLaws.{few_of}
 use Rattle.cpg_check_rows.proofs.quick_activity.is_plain.Goals as goal
 
 pub returns-clause-all : goal.returns-clause-all
 returns-clause-all c = OnTrue_from c.is_item_running.result (AllAlways c.args.admitted.now.graph) (λ e. OnTrue_at c.if-not-all.false c.requires.all)
 
 pub returns-clause-item : goal.returns-clause-item
-returns-clause-item c =
-    let g = c.args.admitted.now.graph in
-    let faults : c.faults.result ≡ g.faults = c.faults.ensures.faults ∙ ap (λ (h : Graph). h.faults) c.problem.ensures.problem in
-    of_true c.is_item_running.result c.is_item_running.ensures (λ told s law. told s law (c.whole-space.ensures.lies s (few_of g c.faults.result faults s law)))
+returns-clause-item c = of_true c.is_item_running.result c.is_item_running.ensures (λ told s law. told s law (c.requires.everywhere s law))

@@ -1,4 +1,4 @@
-use Rattle.std.proofs.Common.{ℕ, ◌≡◌, ◌<◌, All, Contains, ap, sym, ◌∙◌, subst}
+use Rattle.std.proofs.Common.{◌≡◌, ◌<◌, All, Contains, ap, sym, ◌∙◌, subst}
 use Rattle.cpg_base.specs.Graph.{edge_count, inputs, process_at}
 use Rattle.cpg_tree.proofs.Passes.{of_true}
 use Rattle.cpg_sure.specs.Inputs.{IsLateEnough}

@@ -1,4 +1,4 @@
-use Rattle.std.proofs.Common.{ℕ, ◌≡◌, ◌≤◌, ap, length, sym, ◌∙◌, subst, arith}
+use Rattle.std.proofs.Common.{◌≡◌, ◌≤◌, ap, length, sym, ◌∙◌, subst, arith}
 use Rattle.cpg_base.specs.Graph.{process_count, producer}
 use Rattle.cpg_tree.proofs.Passes.{of_true}
 use Rattle.cpg_sure.specs.Hearing.{IsEndedBy}

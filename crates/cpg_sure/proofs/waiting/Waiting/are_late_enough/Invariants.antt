@@ -1,11 +1,7 @@
-use Rattle.std.proofs.Common.{ℕ, ◌≡◌, ◌<◌, ◌⊎◌, List, All, Contains, take, true}
-use Rattle.cpg_base.specs.Activity.{live}
-use Rattle.cpg_base.specs.Graph.{edge_count}
-use Rattle.cpg_base.specs.Scenario.{Scenario, IsScenario}
+use Rattle.std.proofs.Common.{List, All, take}
 use Rattle.cpg_table.specs.Table.{NodeTable}
-use Rattle.cpg_tree.specs.Space.{Lies}
 use Rattle.cpg_violation.specs.Violation.{AllHold, row_rules}
-use Rattle.cpg_sure.specs.Inputs.{IsFromBefore, IsInputOver, IsLateEnough, IsWaiting}
+use Rattle.cpg_sure.specs.Inputs.{IsLateEnough, IsWaiting}
 use Rattle.cpg_sure.proofs.waiting.Waiting.are_late_enough.Given as goal
 
 abbrev pub invariant-loop-column : goal.invariant-loop-column

@@ -1,11 +1,9 @@
-use Rattle.std.proofs.Common.{ℕ, ◌≡◌, ◌<◌, ◌⊎◌, List, All, Contains, take, true}
+use Rattle.std.proofs.Common.{◌≡◌, List, All, take, true}
 use Rattle.cpg_base.specs.Activity.{live}
-use Rattle.cpg_base.specs.Graph.{edge_count}
 use Rattle.cpg_base.specs.Scenario.{Scenario, IsScenario}
 use Rattle.cpg_table.specs.Table.{NodeTable}
 use Rattle.cpg_tree.specs.Space.{Lies}
-use Rattle.cpg_violation.specs.Violation.{AllHold, row_rules}
-use Rattle.cpg_sure.specs.Inputs.{IsFromBefore, IsInputOver, IsLateEnough, IsWaiting}
+use Rattle.cpg_sure.specs.Inputs.{IsInputOver, IsWaiting}
 use Rattle.cpg_sure.proofs.waiting.Waiting.are_over.Given as goal
 
 abbrev pub invariant-loop-edge : goal.invariant-loop-edge

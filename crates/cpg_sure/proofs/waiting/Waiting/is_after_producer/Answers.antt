@@ -1,4 +1,4 @@
-use Rattle.std.proofs.Common.{◌≡◌, ap, ◌∙◌, refl, subst, arith}
+use Rattle.std.proofs.Common.{ap, ◌∙◌, subst, arith}
 use Rattle.cpg_base.specs.Graph.{producer}
 use Rattle.cpg_tree.proofs.Passes.{of_true}
 use Rattle.cpg_sure.specs.Order.{IsBefore, execution}
