@@ -13,6 +13,7 @@ mod fixed;
 mod head_reading;
 mod head_writing;
 mod lawful;
+mod lawful_literals;
 mod reading;
 mod row_reading;
 mod row_taking;

@@ -13,9 +13,9 @@ use crate::fixed::{
     Fixed, column_literals, column_time, literal_high, literal_low, literal_variable,
 };
 use crate::row_taking::take_lawful;
-use crate::space::{is_variable, room};
+use crate::space::{high_end, is_range, is_variable, low_end, room};
 use crate::unread::Unread;
-use cpg_base::{FIRST_VALUE, MOST_COLUMNS, MOST_LOAD, OutOfMemory, top};
+use cpg_base::{MOST_COLUMNS, MOST_LOAD, OutOfMemory};
 use cpg_cube::{Cube, Entry, Literal};
 use cpg_head::{Head, TIME_END};
 use cpg_table::{NodeTable, Row, Space};
@@ -47,28 +47,6 @@ fn variable_of<'a>(
             }
             Ok((*byte, rest))
         }
-    }
-}
-
-/// The greatest low of a literal on this variable.
-fn low_end(space: &Space, variable: u8) -> u8
-    ensures { result ≡ low_end space.now variable }
-{
-    top(space.faults, variable)
-}
-
-/// The greatest high of a literal on this variable with this low.
-fn high_end(space: &Space, variable: u8, low: u8) -> u8
-    ensures { result ≡ high_end space.now variable low }
-{
-    if variable < FIRST_VALUE {
-        if low == 0 {
-            space.faults.saturating_sub(1)
-        } else {
-            space.faults
-        }
-    } else {
-        low
     }
 }
 
@@ -105,10 +83,7 @@ fn is_next(space: &Space, left: u32, least: u32, literal: Literal) -> bool
     if !variable_may(space, least, left, literal.variable) {
         return false;
     }
-    if literal.low > low_end(space, literal.variable) {
-        return false;
-    }
-    literal.low <= literal.high && literal.high <= high_end(space, literal.variable, literal.low)
+    is_range(space, literal)
 }
 
 /// A literal with `left` more behind it.

@@ -1,15 +1,18 @@
-//! Rows taken from bytes as they stand: their literals are judged once, where a whole row is made of them. Reading field by
-//! field tells where bytes that make no row go wrong.
-ghost use Rattle.std.specs.Prelude.{◌≡◌, ◌≤◌, ◌+◌, ◌++◌, ◌∷◌, length, Ok, IfOk};
+//! Rows taken from bytes as they stand: the literals of a column are judged together. Reading field by field tells where bytes
+//! that make no row go wrong.
+ghost use Rattle.std.specs.Prelude.{◌≡◌, ◌≤◌, ◌+◌, ◌++◌, ◌∷◌, All, length, Ok, IfOk};
 ghost use Rattle.std.specs.List.{flat_map};
 ghost use Rattle.std.specs.Int.{w64, to_be_bytes};
+ghost use Rattle.cpg_table.specs.Lawful.{IsLawfulColumn};
 ghost use Rattle.cpg_codec.specs.Spelling.{literal_bytes, column_bytes, row_bytes};
 ghost use Rattle.cpg_codec.specs.Grammar.{IsSpace, row_at};
 
 use crate::fault::Untaken;
-use cpg_base::MOST_LOAD;
+use crate::lawful_literals::are_lawful;
+use cpg_base::{MOST_COLUMNS, MOST_LOAD};
 use cpg_cube::{Cube, Entry, Literal};
-use cpg_table::{Row, Space, is_row};
+use cpg_head::TIME_END;
+use cpg_table::{Row, Space};
 use std::alloc::Global;
 
 /// The time of a column, in time units of the graph file, and how many literals it has.
@@ -119,53 +122,68 @@ fn take_literals<'a>(
     take_few(held, rest, left)
 }
 
-/// A column. `held` is for its literals, which a cube has in memory of its own.
+/// A lawful column. `held` is for its literals, which a cube has in memory of its own.
 fn take_column<'a>(
     alloc: Global,
     held: &mut Vec<Literal>,
     bytes: &'a [u8],
+    space: &Space,
 ) -> Result<(Entry, &'a [u8]), Untaken>
-    ensures { IfOk result (λ x. bytes.now ≡ column_bytes x.0 ++ x.1.now) }
+    requires { IsSpace space.now }
+    ensures taken { IfOk result (λ x. bytes.now ≡ column_bytes x.0 ++ x.1.now) }
+    ensures lawful { IfOk result (λ x. IsLawfulColumn space.now x.0) }
 {
     let (time, count, rest) = take_front(bytes)?;
-    let rest = take_literals(held, rest, count)?;
-    match Cube::new(alloc, held.as_slice())? {
-        Some(cube) => Ok((Entry { time, cube }, rest)),
-        None => Err(Untaken::Odd),
+    if time >= TIME_END {
+        return Err(Untaken::Odd);
     }
+    let rest = take_literals(held, rest, count)?;
+    let Some(cube) = Cube::new(alloc, held.as_slice())? else {
+        return Err(Untaken::Odd);
+    };
+    if !are_lawful(space, held.as_slice()) {
+        return Err(Untaken::Odd);
+    }
+    Ok((Entry { time, cube }, rest))
 }
 
-/// So many columns.
+/// So many lawful columns.
 fn take_columns<'a>(
     alloc: Global,
     held: &mut Vec<Literal>,
     bytes: &'a [u8],
+    space: &Space,
     count: u16,
 ) -> Result<(Vec<Entry>, &'a [u8]), Untaken>
+    requires { IsSpace space.now }
     ensures taken { IfOk result (λ x. bytes.now ≡ flat_map column_bytes x.0.items ++ x.1.now) }
     ensures count { IfOk result (λ x. length x.0.items ≡ count) }
+    ensures lawful { IfOk result (λ x. All (IsLawfulColumn space.now) x.0.items) }
 {
     let mut columns = Vec::with_capacity(alloc, count as usize)?;
     let mut rest = bytes;
     for _ in 0..count {
-        let (column, after) = take_column(alloc, held, rest)?;
+        let (column, after) = take_column(alloc, held, rest, space)?;
         columns.push(column)?;
         rest = after;
     }
     Ok((columns, rest))
 }
 
-/// A row of at most so many columns.
+/// A row of at most so many columns, each lawful.
 fn take_row<'a>(
     alloc: Global,
     held: &mut Vec<Literal>,
     bytes: &'a [u8],
+    space: &Space,
     item: u32,
     most: u64,
 ) -> Result<(Row, &'a [u8]), Untaken>
+    requires { IsSpace space.now }
     ensures taken { IfOk result (λ x. bytes.now ≡ row_bytes x.0 ++ x.1.now) }
     ensures item { IfOk result (λ x. x.0.item ≡ item) }
     ensures few { IfOk result (λ x. length x.0.columns ≤ most) }
+    ensures lawful { IfOk result (λ x. All (IsLawfulColumn space.now) x.0.columns) }
 {
     let [high, low, rest @ ..] = bytes else {
         return Err(Untaken::Odd);
@@ -174,7 +192,7 @@ fn take_row<'a>(
     if u64::from(count) > most {
         return Err(Untaken::Odd);
     }
-    let (columns, rest) = take_columns(alloc, held, rest, count)?;
+    let (columns, rest) = take_columns(alloc, held, rest, space, count)?;
     Ok((Row::new(item, columns), rest))
 }
 
@@ -192,10 +210,8 @@ pub fn take_lawful<'a>(
     ensures taken { IfOk result (λ x. row_at space.now item before bytes.now ≡ Ok (x.0, x.2.now)) }
     ensures total { IfOk result (λ x. (x.1 ≡ before + length x.0.columns) × (x.1 ≤ MOST_LOAD)) }
 {
-    let (row, rest) = take_row(alloc, held, bytes, item, MOST_LOAD - before)?;
-    if !is_row(*space, &row) {
-        return Err(Untaken::Odd);
-    }
+    let most = (MOST_LOAD - before).min(MOST_COLUMNS);
+    let (row, rest) = take_row(alloc, held, bytes, space, item, most)?;
     let total = before + row.entries().len() as u64;
     Ok((row, total, rest))
 }

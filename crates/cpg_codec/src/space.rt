@@ -1,8 +1,10 @@
-//! Which variables literals may speak of.
-ghost use Rattle.std.specs.Prelude.{◌≡◌};
+//! Which variables literals may speak of, and with which ranges.
+ghost use Rattle.std.specs.Prelude.{◌≡◌, ◌≤◌, IsTrue};
 ghost use Rattle.cpg_table.specs.Lawful.{space_of};
-ghost use Rattle.cpg_codec.specs.Grammar.{fault_end, is_variable, room, IsSpace};
+ghost use Rattle.cpg_codec.specs.Grammar.{fault_end, is_variable, room, IsSpace, low_end, high_end};
 
+use cpg_base::top;
+use cpg_cube::Literal;
 use cpg_head::Head;
 use cpg_table::Space;
 
@@ -46,4 +48,37 @@ pub fn room(space: &Space, variable: u32) -> u32
 {
     fault_end(space).saturating_sub(variable)
         + (FIRST_VALUE + space.conditions).saturating_sub(variable.max(FIRST_VALUE))
+}
+
+/// The greatest low of a literal on this variable.
+pub fn low_end(space: &Space, variable: u8) -> u8
+    ensures { result ≡ low_end space.now variable }
+{
+    top(space.faults, variable)
+}
+
+/// The greatest high of a literal on this variable with this low.
+pub fn high_end(space: &Space, variable: u8, low: u8) -> u8
+    ensures { result ≡ high_end space.now variable low }
+{
+    if u32::from(variable) < FIRST_VALUE {
+        if low == 0 {
+            space.faults.saturating_sub(1)
+        } else {
+            space.faults
+        }
+    } else {
+        low
+    }
+}
+
+/// Whether a literal has a range that one on its variable may have.
+pub fn is_range(space: &Space, literal: Literal) -> bool
+    ensures { IsTrue result → (literal.low ≤ low_end space.now literal.variable) × (literal.low ≤ literal.high)
+        × (literal.high ≤ high_end space.now literal.variable literal.low) }
+{
+    if literal.low > low_end(space, literal.variable) {
+        return false;
+    }
+    literal.low <= literal.high && literal.high <= high_end(space, literal.variable, literal.low)
 }

@@ -1,5 +1,6 @@
-use Rattle.std.proofs.Common.{◌≡◌, ◌++◌, length}
+use Rattle.std.proofs.Common.{◌≡◌, ◌++◌, All, length}
 use Rattle.std.specs.List.{flat_map}
+use Rattle.cpg_table.specs.Lawful.{IsLawfulColumn}
 use Rattle.cpg_codec.specs.Spelling.{column_bytes}
 use Rattle.cpg_codec.proofs.row_taking.take_columns.Given as goal
 
@@ -7,4 +8,5 @@ abbrev pub invariant-loop : goal.invariant-loop
 invariant-loop l = record {
   taken : l.fn.bytes ≡ flat_map column_bytes l.columns.items ++ l.rest;
   count : length l.columns.items ≡ l.counter;
+  lawful : All (IsLawfulColumn l.fn.space) l.columns.items;
 }
