@@ -27,6 +27,7 @@ pub(crate) fn send<O: Sink>(status: u8, bytes: &[u8], sink: &mut O) -> u8
 fn tell_fault<E: Sink>(err: &mut E)
     ensures { Whole (sent (E.state err.old) (E.state err.new)) write_fault_line ⊎ Part (sent (E.state err.old) (E.state err.new)) write_fault_line }
 {
+    // whether it went is told by the sink alone: the status is that of the first fault
     let _tried = write_all(err, b"cpgc: write fault\n");
 }
 

@@ -6,7 +6,7 @@ ghost use Rattle.cpg_tree.specs.Space.{Lies};
 ghost use Rattle.cpg_tree.specs.Decision.{value_at};
 ghost use Rattle.cpg_places.specs.Places.{IsAmong};
 
-use crate::walk::{Test, part_of};
+use crate::walk::Test;
 use cpg_base::OutOfMemory;
 use cpg_tree::{Node, Space};
 
@@ -120,7 +120,7 @@ pub(crate) fn gather<J: Test>(
         IsAmong found.new.items (value_at node.now s))) }
 {
     // mostly it comes to one place, and then the space isn't copied
-    let part = part_of(node, space);
+    let part = node.part_in(space);
     match part {
         Node::Leaf(place) => {
             let there = gather_one(*place, space, test, found)?;

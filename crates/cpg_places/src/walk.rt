@@ -111,29 +111,6 @@ pub(crate) fn do_pass<J: Test>(node: &Node<Option<u32>>, space: &Space, test: &J
     }
 }
 
-/// The part of a tree that a space comes to: without the forks at the top of which it closes a side.
-pub(crate) fn part_of<'a>(node: &'a Node<Option<u32>>, space: &Space) -> &'a Node<Option<u32>>
-    ensures { (s : Scenario) → Lies space.now s → value_at result.now s ≡ value_at node.now s }
-{
-    match node {
-        Node::Leaf(_) => node,
-        Node::Fork {
-            variable,
-            cut,
-            sides,
-        } => {
-            let (below, above) = &**sides;
-            if !space.is_open_below(*variable, *cut) {
-                return part_of(above, space);
-            }
-            if !space.is_open_above(*variable, *cut) {
-                return part_of(below, space);
-            }
-            node
-        }
-    }
-}
-
 /// Whether a test passes at a place of the first tree with each place of a second that scenarios of a space come to. The
 /// space is changed on the way, and is as before where it does.
 fn do_pass_at<J: PairTest>(
@@ -171,7 +148,7 @@ fn do_pass_both<J: PairTest>(
             sides,
         } => {
             let (below, above) = &**sides;
-            let part = part_of(second, space);
+            let part = second.part_in(space);
             if !space.is_open_below(*variable, *cut) {
                 return do_pass_both(above, part, space, test);
             }

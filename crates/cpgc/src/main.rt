@@ -54,7 +54,8 @@ fn words(alloc: Global, given: io::Result<Args>) -> Result<Vec<String>, WordsFau
     }
 }
 
-/// Runs words over files: the output goes to the standard output, the line of a run that stops to the standard error.
+/// Runs words over files: the output goes to the standard output, the line of a run that stops to the standard error. It has the
+/// words of the program's contract, of shelf and sinks as the machine has them: `run` speaks of any.
 fn run_on(
     alloc: Global,
     words: &[String],

@@ -14,18 +14,18 @@ use Rattle.cpg_places.proofs.walk.+do_pass_both.Goals as goal
 pub returns-then-not-is_open_below-clause-passed : goal.returns-then-not-is_open_below-clause-passed
 returns-then-not-is_open_below-clause-passed g t c =
     let room : Space = c.args.space.now in
-    let part : Node (Option ℕ) = c.part_of-part.result.now in
+    let part : Node (Option ℕ) = c.part_in-part.result.now in
     of_true c.do_pass_both.result (subst (λ (n : Node (Option ℕ)). OnTrue c.do_pass_both.result (IsToldAll (λ (x : Option ℕ) (s : Scenario). g.J.PairTest.tells c.args.test.now x (value_at part s) s) room n)) (same_above c.deref.ensures) c.do_pass_both.ensures.passed)
-    (λ all. told_beside (g.J.PairTest.tells c.args.test.now) room c.args.first.now part c.args.second.now c.part_of-part.ensures
+    (λ all. told_beside (g.J.PairTest.tells c.args.test.now) room c.args.first.now part c.args.second.now c.part_in-part.ensures.value
     (told_above (λ (x : Option ℕ) (s : Scenario). g.J.PairTest.tells c.args.test.now x (value_at part s) s) room c.in-Fork.variable c.in-Fork.cut c.in-Fork.sides.value.0 c.in-Fork.sides.value.1 c.args.first.now c.in-Fork.is all
     (from_false c.is_open_below.result c.if-not-is_open_below.true c.is_open_below.ensures.none)))
 
 pub returns-then-not-is_open_above-clause-passed : goal.returns-then-not-is_open_above-clause-passed
 returns-then-not-is_open_above-clause-passed g t c =
     let room : Space = c.args.space.now in
-    let part : Node (Option ℕ) = c.part_of-part.result.now in
+    let part : Node (Option ℕ) = c.part_in-part.result.now in
     of_true c.do_pass_both-then-not-is_open_above.result (subst (λ (n : Node (Option ℕ)). OnTrue c.do_pass_both-then-not-is_open_above.result (IsToldAll (λ (x : Option ℕ) (s : Scenario). g.J.PairTest.tells c.args.test.now x (value_at part s) s) room n)) (same_below c.deref.ensures) c.do_pass_both-then-not-is_open_above.ensures.passed)
-    (λ all. told_beside (g.J.PairTest.tells c.args.test.now) room c.args.first.now part c.args.second.now c.part_of-part.ensures
+    (λ all. told_beside (g.J.PairTest.tells c.args.test.now) room c.args.first.now part c.args.second.now c.part_in-part.ensures.value
     (told_below (λ (x : Option ℕ) (s : Scenario). g.J.PairTest.tells c.args.test.now x (value_at part s) s) room c.in-Fork.variable c.in-Fork.cut c.in-Fork.sides.value.0 c.in-Fork.sides.value.1 c.args.first.now c.in-Fork.is all
     (from_false c.is_open_above.result c.if-not-is_open_above.true c.is_open_above.ensures.none)))
 
@@ -34,7 +34,7 @@ returns-else-not-do_pass_both-2-clause-passed g t c =
     let room : Space = c.args.space.now in
     let v = c.in-Fork.variable in
     let cut = c.in-Fork.cut in
-    let part : Node (Option ℕ) = c.part_of-part.result.now in
+    let part : Node (Option ℕ) = c.part_in-part.result.now in
     let under : Space = c.close_above-most.new.self in
     let over : Space = c.close_below-was.new.self in
     let again : Space = c.reopen_above.new.self in
@@ -43,6 +43,6 @@ returns-else-not-do_pass_both-2-clause-passed g t c =
     let goes_over = goes_again room again over v cut back c.close_below-was.ensures.lies in
     let low : IsToldAll (λ (x : Option ℕ) (s : Scenario). g.J.PairTest.tells c.args.test.now x (value_at part s) s) under c.in-Fork.sides.value.0 = from_true c.do_pass_both-in-Fork.result c.if-not-do_pass_both.false (subst (λ (n : Node (Option ℕ)). OnTrue c.do_pass_both-in-Fork.result (IsToldAll (λ (x : Option ℕ) (s : Scenario). g.J.PairTest.tells c.args.test.now x (value_at part s) s) under n)) (same_below c.deref.ensures) c.do_pass_both-in-Fork.ensures.passed) in
     let high : IsToldAll (λ (x : Option ℕ) (s : Scenario). g.J.PairTest.tells c.args.test.now x (value_at part s) s) over c.in-Fork.sides.value.1 = from_true c.do_pass_both-in-Fork-2.result c.if-not-do_pass_both-2.false (subst (λ (n : Node (Option ℕ)). OnTrue c.do_pass_both-in-Fork-2.result (IsToldAll (λ (x : Option ℕ) (s : Scenario). g.J.PairTest.tells c.args.test.now x (value_at part s) s) over n)) (same_above c.deref.ensures) c.do_pass_both-in-Fork-2.ensures.passed) in
-    told_beside (g.J.PairTest.tells c.args.test.now) room c.args.first.now part c.args.second.now c.part_of-part.ensures
+    told_beside (g.J.PairTest.tells c.args.test.now) room c.args.first.now part c.args.second.now c.part_in-part.ensures.value
     (told_fork (λ (x : Option ℕ) (s : Scenario). g.J.PairTest.tells c.args.test.now x (value_at part s) s) room v cut c.in-Fork.sides.value.0 c.in-Fork.sides.value.1 c.args.first.now c.in-Fork.is
     (λ s lies h. low s (c.close_above-most.ensures.lies s lies h)) (λ s lies h. high s (goes_over s lies h)))
