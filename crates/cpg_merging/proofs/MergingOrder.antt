@@ -1,5 +1,5 @@
 -- The order in which columns stand while they are merged at a variable: what compares equal is equal on all other variables.
-use Rattle.std.proofs.Common.{ℕ, ◌≤◌, ◌≡◌, true, false, List, [], ◌∷◌, Ordering, Less, Equal, Greater, AllPairs, arith, refl, sym, ap, ap₂, ◌∙◌, subst}
+use Rattle.std.proofs.Common.{ℕ, ◌≤◌, ◌≡◌, true, false, List, [], ◌∷◌, Ordering, Less, Equal, Greater, AllPairs, arith, refl, sym, ap, ap₂, ◌∙◌}
 use Rattle.std.specs.Ordering.{nat_cmp, ordering_then, ordering_reverse, is_lt, is_eq}
 use Rattle.std.specs.Cmp.{IsTotalOrder}
 use Rattle.std.specs.Cmp.Lexicographic.{slice_cmp}

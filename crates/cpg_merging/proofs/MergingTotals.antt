@@ -2,25 +2,25 @@
 use Rattle.std.proofs.Common.{ℕ, ◌+◌, ◌-◌, ◌%◌, ◌^◌, ◌<◌, ◌≤◌, ◌≡◌, ◌≢◌, ◌⊎◌, ◌==◌, Bool, true, false, not, List, [], ◌∷◌, length, take, get_or, map, sum_by, Contains, IsPermutation, arith, refl, sym, ap, ap₂, ◌∙◌, subst, inl, inr, eq-eqb, ne_eqb, true≢false, Result, Ok, Err}
 use Rattle.std.specs.Prelude.{slice_set}
 use Rattle.std.specs.Bool.{OnFalse}
+use Rattle.std.specs.List.{list_any}
 use Rattle.std.specs.List.Sorted.{IsBinarySearchResult}
 use Rattle.std.specs.Ordering.{nat_cmp}
 use Rattle.std.specs.Result.{is_ok}
 use Rattle.std.proofs.lemmas.Bool.{cases_eq, cases_lt, cond-true, cond-false}
-use Rattle.std.proofs.lemmas.List.Elements.{All-contains, Contains-push_cases}
-use Rattle.std.proofs.lemmas.List.{take_more, take_all, get_or_default, get_or-map, get_or-set_other, get_or-set_same, length-map}
+use Rattle.std.proofs.lemmas.List.Elements.{Contains-get_or, Contains-push_cases}
+use Rattle.std.proofs.lemmas.List.{take_more, take_all, get_or_default, get_or_past, get_or-map, get_or-set_other, get_or-set_same, length-map}
 use Rattle.std.proofs.lemmas.List.Sorted.{Contains-permutation, IsPermutation-sym, searched}
 use Rattle.std.proofs.lemmas.List.Sums.{sum_by-cons}
 use Rattle.cpg_base.specs.Graph.{Graph, process_count, IsVariable}
-use Rattle.cpg_base.proofs.Lists.{Contains-first, Contains-rest, Contains-cases, Contains-nil, Contains-map}
+use Rattle.cpg_base.proofs.Lists.{from_any_false, Contains-first, Contains-rest, Contains-cases, Contains-nil}
 use Rattle.cpg_cube.specs.declared.literal.Literal.{Literal}
 use Rattle.cpg_cube.specs.Cube.{IsRising, low_in, high_in}
 use Rattle.cpg_base.specs.Variable.{top}
 use Rattle.cpg_cube.proofs.Ranges.{rising_rest, rising_first}
 use Rattle.cpg_cube.specs.Column.{Column}
-use Rattle.cpg_merging.specs.Merging.{without, TouchAt, IsSettledOn}
+use Rattle.cpg_merging.specs.Merging.{without, TouchAt}
 use Rattle.cpg_merging.specs.Totals.{mixed, hash_of, total_of, ended, HasNoPartner, IsMarked, AreMarkedBy, AreMarked, DoNotFall, place_in}
 use Rattle.cpg_merging.proofs.MergingPairs.{IsGood, low-le-high, high_in-top}
-use Rattle.cpg_merging.proofs.MergingLists.{AreGood}
 use Rattle.cpg_merging.proofs.MergingSettled.{same_without}
 
 -- the literal that a cube's range of a variable comes of
@@ -162,6 +162,13 @@ not_there xs x (Err i) h up = λ there.
     ]
 
 -- ---- marks of variables
+
+-- where none is found none is marked
+pub none_on : (p : Bool → Bool) → p true ≡ true → (marks : List Bool) → list_any p marks ≡ false → (v : ℕ) → ¬ IsMarked marks v
+none_on p is marks none v on = elim (cases_lt v (length marks)) [
+  | inl l ↦ true≢false (sym is ∙ from_any_false p marks true none (subst (Contains marks) on (Contains-get_or marks v false l)))
+  | inr l ↦ true≢false (sym on ∙ get_or_past marks v false l)
+]
 
 -- a mark set where there was none leaves the others
 pub mark_kept : (marks : List Bool) (place : ℕ) (b : Bool) → get_or marks place false ≡ false → (v : ℕ) → IsMarked marks v → IsMarked (slice_set marks place b) v

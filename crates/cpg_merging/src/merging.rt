@@ -103,6 +103,10 @@ fn joined_once(alloc: Global, problem: &Problem, marked: Marked) -> Result<Marke
     ensures marked { IfOk result (λ r. AreMarked problem.now r.marks r.listing.columns.items) }
     ensures sorted { IfOk result (λ r. IsSortedAs marked.listing r.listing) }
 {
+    // mostly none is marked
+    if !marked.marks.contains(&true) {
+        return Ok(marked);
+    }
     let processes = problem.processes().len() as u8;
     let marked = joined_over(alloc, problem, 0, processes, marked)?;
     let end = FIRST_VALUE + problem.conditions() as u8;

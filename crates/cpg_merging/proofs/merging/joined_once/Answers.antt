@@ -1,7 +1,10 @@
-use Rattle.std.proofs.Common.{◌+◌, ◌<◌, ◌≤◌, length, ⊎_elim, inl, inr, ap, arith, rules}
+use Rattle.std.proofs.Common.{◌+◌, ◌<◌, ◌≤◌, length, ⊎_elim, inl, inr, ap, arith, refl, rules, sym, ◌∙◌}
 use Rattle.std.proofs.lemmas.Result.{IfOk-weaker}
 use Rattle.cpg_base.specs.Graph.{IsVariable, process_count, condition_count, value_variable}
 use Rattle.cpg_merging.specs.Merging.{IsBetween, IsPassed, IsSortedAs}
+use Rattle.std.proofs.lemmas.List.Sorted.{IsPermutation-refl}
+use Rattle.cpg_merging.proofs.MergingLists.{joins_itself}
+use Rattle.cpg_merging.proofs.MergingTotals.{none_on}
 use Rattle.cpg_merging.proofs.MergingSteps.{passed_through, sorted_through}
 use Rattle.cpg_merging.proofs.merging.joined_once.Goals as goal
 
@@ -24,3 +27,13 @@ returns-clause-sorted c =
     IfOk-weaker _ (λ r. IsSortedAs c.in_ok-marked.marked.listing r.listing) (λ r. IsSortedAs c.args.marked.listing r.listing)
     (λ r h. sorted_through c.args.marked.listing c.in_ok-marked.marked.listing r.listing c.in_ok-marked.ensures.sorted h)
     (search rules)
+
+pub returns-then-not-contains-clause-passed : goal.returns-then-not-contains-clause-passed
+returns-then-not-contains-clause-passed c =
+    let g = c.args.problem.now in
+    let columns = c.args.marked.listing.columns.items in
+    record {
+      joins = joins_itself g columns;
+      good = c.requires.shorn;
+      fewer = inr (IsPermutation-refl columns, λ v known. c.requires.marked v known (none_on _ refl c.args.marked.marks (sym c.contains.ensures.value ∙ c.if-not-contains.true) v));
+    }
