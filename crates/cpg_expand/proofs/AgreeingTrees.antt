@@ -14,7 +14,7 @@ use Rattle.cpg_table.specs.Heard.{exactly, kept_low, kept_high}
 use Rattle.cpg_run.proofs.Hearing.{low_kept, high_kept, high_kept_top, kept_low_below, kept_high_above, kept_grows}
 use Rattle.cpg_tree.specs.Space.{HasFew}
 use Rattle.cpg_tree.proofs.OnePath.{the_path}
-use Rattle.cpg_tree.specs.Tree.{Path, TreeState, IsOn, HasOnePathEach, IsConstant, IsMap, IsJoin, IsPick, IsNumber}
+use Rattle.cpg_tree.specs.Tree.{Path, TreeState, IsOn, HasOnePathEach, IsConstant, IsMap, IsJoin, IsJoinWhere, IsPick, IsNumber}
 use Rattle.cpg_run.specs.Carrying.{ContainsKept}
 use Rattle.cpg_expand.specs.Agreeing.{Agrees}
 
@@ -89,6 +89,45 @@ module _ (s : Scenario) where
             subst (λ k. ContainsKept k z.0 (first ++ second)) (sym is.faults) (record {
               low = λ v. omega (arith, wide.low v, one.low v, two.low v, kept_low_both first second v);
               high = λ v. omega (arith, wide.high v, one.high v, two.high v, kept_high_both first second v a.faults);
+            });
+      }
+
+  -- where the chooser is true
+  pub agrees_where : {T U V : Type 0} (answers : T → U → V → Type 0) (none : V) (chooser : TreeState Bool) (a : TreeState T) (b : TreeState U) (r : TreeState V) (told first second : List Literal) (fact_a : T → Type 0) (fact_b : U → Type 0) (fact : V → Type 0) →
+      HasFew chooser.faults s → a.faults ≡ chooser.faults → b.faults ≡ chooser.faults → HasOnePathEach chooser.faults chooser.paths → HasOnePathEach chooser.faults a.paths → HasOnePathEach chooser.faults b.paths → IsJoinWhere answers none chooser a b r →
+      ((x : T) (y : U) (z : V) → fact_a x → fact_b y → answers x y z → fact z) → Agrees s told (λ c. c ≡ true) chooser → Agrees s first fact_a a → Agrees s second fact_b b → Agrees s (told ++ (first ++ second)) fact r
+  agrees_where answers none chooser a b r told first second fact_a fact_b fact few same_a same_b each_c each_a each_b is follows of_c of_a of_b =
+      let c = the_path chooser.faults chooser.paths each_c s few in
+      let x = the_path chooser.faults a.paths each_a s few in
+      let y = the_path chooser.faults b.paths each_b s few in
+      let chosen = of_c.value c.0 c.1 in
+      record {
+        value = λ z on. follows x.0.1 y.0.1 z.1 (of_a.value x.0 x.1) (of_b.value y.0 y.1) (is.on s c.0 x.0 y.0 z few c.1 chosen x.1 y.1 on);
+        says = λ z on.
+            let wide = is.on_ranges s c.0 x.0 y.0 z few c.1 chosen x.1 y.1 on in
+            let zero = of_c.says c.0 c.1 in
+            let one = subst (λ k. ContainsKept k x.0.0 first) same_a (of_a.says x.0 x.1) in
+            let two = subst (λ k. ContainsKept k y.0.0 second) same_b (of_b.says y.0 y.1) in
+            subst (λ k. ContainsKept k z.0 (told ++ (first ++ second))) (sym is.faults) (record {
+              low = λ v. omega (arith, wide.low v, zero.low v, one.low v, two.low v, kept_low_both first second v, kept_low_both told (first ++ second) v);
+              high = λ v. omega (arith, wide.high v, zero.high v, one.high v, two.high v, kept_high_both first second v chooser.faults, kept_high_both told (first ++ second) v chooser.faults);
+            });
+      }
+
+  -- and elsewhere
+  pub agrees_elsewhere : {T U V : Type 0} (answers : T → U → V → Type 0) (none : V) (chooser : TreeState Bool) (a : TreeState T) (b : TreeState U) (r : TreeState V) (told : List Literal) →
+      HasFew chooser.faults s → HasOnePathEach chooser.faults chooser.paths → IsJoinWhere answers none chooser a b r → Agrees s told (λ c. c ≡ false) chooser → Agrees s told (λ z. z ≡ none) r
+  agrees_elsewhere answers none chooser a b r told few each is of_c =
+      let c = the_path chooser.faults chooser.paths each s few in
+      let chosen = of_c.value c.0 c.1 in
+      record {
+        value = λ z on. is.off s c.0 z few c.1 chosen on;
+        says = λ z on.
+            let wide = is.off_ranges s c.0 z few c.1 chosen on in
+            let kept = of_c.says c.0 c.1 in
+            subst (λ k. ContainsKept k z.0 told) (sym is.faults) (record {
+              low = λ v. omega (arith, wide.low v, kept.low v);
+              high = λ v. omega (arith, wide.high v, kept.high v);
             });
       }
 

@@ -1,6 +1,7 @@
 pub mod AgreeingTrees
 pub mod TreeColumns
 pub mod TreesTold
+pub mod StartsWhere
 pub mod PartsKnown
 pub mod CarriedOn
 pub mod StartTimes

@@ -33,7 +33,7 @@ use Rattle.cpg_expand.specs.Later.{IsLaterTree, IsNoMore, IsLatest, IsReleased}
 use Rattle.cpg_expand.specs.Forest.{ForestState, HasTrees, IsWait, no_tree, times_of, ends_of, later_tree, ready_at, heard_tree, heard_delay, input_tree, input_delay}
 use Rattle.cpg_expand.specs.declared.forest.Ready.{Ready}
 use Rattle.cpg_expand.specs.declared.forest.Ready.TheVariants.{At}
-use Rattle.cpg_expand.specs.Guarded.{value_known, values_known, PicksByValue, IsActiveTree, told_of, latest_of, AreThere, IsHeardTree, IsStartAfter, awaited, start_says, start_at, IsStartBy, IsStartTree}
+use Rattle.cpg_expand.specs.Guarded.{value_known, values_known, PicksByValue, IsActiveTree, told_of, latest_of, AreThere, IsHeardTree, StartsAfter, IsStartAfter, awaited, start_says, start_at, IsStartBy, IsStartTree}
 use Rattle.cpg_expand.proofs.AgreeingTrees.{agrees_weaker, agrees_constant, agrees_number, agrees_map, agrees_join, agrees_pick}
 
 -- ---- trees of at most k faults
@@ -135,7 +135,7 @@ latest_ends g end there t of_end of_there made s few first second x y tells othe
 
 -- what is told of a tree that is read of a forest
 module _ {V : Type 0} (g : Graph) (makes : ℕ → V) (delay d : ℕ) (same_delay : delay ≡ d) (times read : TreeState (Option ℕ)) (is : times ≡ read) (of_times : IsTree g times) where
-  as_read : (s : Scenario) (ls : List Literal) (n : ℕ) → Tells s ls n (later_by d read) → Agrees s ls (λ v. time_later delay v ≡ n) times
+  pub as_read : (s : Scenario) (ls : List Literal) (n : ℕ) → Tells s ls n (later_by d read) → Agrees s ls (λ v. time_later delay v ≡ n) times
   as_read s ls n h = from_times delay s times ls n (subst (λ (m : ℕ). Tells s ls n (later_by m times)) (sym same_delay) (subst (λ (u : TreeState (Option ℕ)). Tells s ls n (later_by d u)) (sym is) h))
 
   -- and of another tree
@@ -246,54 +246,49 @@ own_latest g time x (e ∷ es) own there =
     let parts = all_parts (λ d. is_message g d ≡ false) (e ∷ es) e es refl own in
     omega (arith, own_early g time x e es parts.0 there, own_latest g time x es parts.1 (λ d j. there d (Contains-rest e es d j)), latest-cons (input_delay g) time e es)
 
-pub own_input : (g : Graph) (f : ForestState) (wait : TreeState ℕ) (t : TreeState (Option ℕ)) (release e : ℕ) (es : List ℕ) → is_message g e ≡ false → IsStartAfter g f wait release es t → IsStartAfter g f wait release (e ∷ es) t
-own_input g f wait t release e es own starts s few base x tells tell time there told =
-    let latest = latest_of (input_delay g) time es in
-    agrees_weaker s t (base ++ flat_map tell es) (base ++ flat_map tell (e ∷ es)) (λ y. y ≡ Some (max (max x release) latest)) (λ y. y ≡ Some (max (max x release) (latest_of (input_delay g) time (e ∷ es))))
-    (λ l j. within l (Contains-append_cases base (flat_map tell es) l j))
-    (λ y d. d ∙ ap Some (let same : max (max x release) latest ≡ max (max x release) (latest_of (input_delay g) time (e ∷ es)) = omega (arith, early, latest-cons (input_delay g) time e es) in same))
-    (starts s few base x tells tell time (λ d j. there d (Contains-rest e es d j)) (λ d j. told d (Contains-rest e es d j)))
-  where
-    early : time_later (input_delay g e) (time e) ≤ x
-    early = own_early g time x e es own there
+-- what is told first stays so
+pub told_as_first : (first some more : List Literal) → ((l : Literal) → Contains some l → Contains more l) → (l : Literal) → Contains (first ++ some) l → Contains (first ++ more) l
+told_as_first first some more within l j = elim (Contains-append_cases first some l j) [
+  | inl i ↦ Contains-append_left first more l i
+  | inr i ↦ Contains-append_right first more l (within l i)
+]
 
-    within : (l : Literal) → Contains base l ⊎ Contains (flat_map tell es) l → Contains (base ++ flat_map tell (e ∷ es)) l
-    within l (inl j) = Contains-append_left base (tell e ++ flat_map tell es) l j
-    within l (inr j) = Contains-append_right base (tell e ++ flat_map tell es) l (Contains-append_right (tell e) (flat_map tell es) l j)
+module _ (g : Graph) (f : ForestState) (s : Scenario) (first : List Literal) where
+  pub own_input : (wait : TreeState ℕ) (t : TreeState (Option ℕ)) (release e : ℕ) (es : List ℕ) → is_message g e ≡ false → StartsAfter g f s first wait release es t → StartsAfter g f s first wait release (e ∷ es) t
+  own_input wait t release e es own starts base x tells tell time there told =
+      let latest = latest_of (input_delay g) time es in
+      agrees_weaker s t (first ++ (base ++ flat_map tell es)) (first ++ (base ++ flat_map tell (e ∷ es))) (λ y. y ≡ Some (max (max x release) latest)) (λ y. y ≡ Some (max (max x release) (latest_of (input_delay g) time (e ∷ es))))
+      (told_as_first first (base ++ flat_map tell es) (base ++ flat_map tell (e ∷ es)) (told_as_first base (flat_map tell es) (flat_map tell (e ∷ es)) (λ l j. Contains-append_right (tell e) (flat_map tell es) l j)))
+      (λ y d. d ∙ ap Some (let same : max (max x release) latest ≡ max (max x release) (latest_of (input_delay g) time (e ∷ es)) = omega (arith, own_early g time x e es own there, latest-cons (input_delay g) time e es) in same))
+      (starts base x tells tell time (λ d j. there d (Contains-rest e es d j)) (λ d j. told d (Contains-rest e es d j)))
 
--- one that another node sends
-pub one_input : (g : Graph) (f : ForestState) (wait there both : TreeState ℕ) (t : TreeState (Option ℕ)) (release e : ℕ) (es : List ℕ) → IsLaterTree g.faults (input_delay g e) (input_tree g f e) there →
-    IsLatest g.faults wait there both → IsStartAfter g f both release es t → IsStartAfter g f wait release (e ∷ es) t
-one_input g f wait there both t release e es later latest starts s few base x tells tell time ready told =
-    let at = time_later (input_delay g e) (time e) in
-    let others = latest_of (input_delay g) time es in
-    let joined : Tells s (base ++ tell e) (max x at) both = latest s few base (tell e) x at tells (later s few (tell e) (time e) (told e (Contains-first e es))) in
-    agrees_weaker s t ((base ++ tell e) ++ flat_map tell es) (base ++ flat_map tell (e ∷ es)) (λ y. y ≡ Some (max (max (max x at) release) others)) (λ y. y ≡ Some (max (max x release) (latest_of (input_delay g) time (e ∷ es))))
-    (λ l j. within l (Contains-append_cases (base ++ tell e) (flat_map tell es) l j))
-    (λ y d. d ∙ ap Some (let same : max (max (max x at) release) others ≡ max (max x release) (latest_of (input_delay g) time (e ∷ es)) = omega (arith, latest-cons (input_delay g) time e es) in same))
-    (starts s few (base ++ tell e) (max x at) joined tell time (λ d j own. let h = ready d (Contains-rest e es d j) own in omega (arith, h)) (λ d j. told d (Contains-rest e es d j)))
-  where
-    within : (l : Literal) → Contains (base ++ tell e) l ⊎ Contains (flat_map tell es) l → Contains (base ++ flat_map tell (e ∷ es)) l
-    within l (inr j) = Contains-append_right base (tell e ++ flat_map tell es) l (Contains-append_right (tell e) (flat_map tell es) l j)
-    within l (inl j) = elim (Contains-append_cases base (tell e) l j) [
-      | inl i ↦ Contains-append_left base (tell e ++ flat_map tell es) l i
-      | inr i ↦ Contains-append_right base (tell e ++ flat_map tell es) l (Contains-append_left (tell e) (flat_map tell es) l i)
-    ]
+  -- one that another node sends
+  pub one_input : HasFew g.faults s → (wait there both : TreeState ℕ) (t : TreeState (Option ℕ)) (release e : ℕ) (es : List ℕ) → IsLaterTree g.faults (input_delay g e) (input_tree g f e) there →
+      IsLatest g.faults wait there both → StartsAfter g f s first both release es t → StartsAfter g f s first wait release (e ∷ es) t
+  one_input few wait there both t release e es later latest starts base x tells tell time ready told =
+      let at = time_later (input_delay g e) (time e) in
+      let others = latest_of (input_delay g) time es in
+      let joined : Tells s (base ++ tell e) (max x at) both = latest s few base (tell e) x at tells (later s few (tell e) (time e) (told e (Contains-first e es))) in
+      agrees_weaker s t (first ++ ((base ++ tell e) ++ flat_map tell es)) (first ++ (base ++ flat_map tell (e ∷ es))) (λ y. y ≡ Some (max (max (max x at) release) others)) (λ y. y ≡ Some (max (max x release) (latest_of (input_delay g) time (e ∷ es))))
+      (told_as_first first ((base ++ tell e) ++ flat_map tell es) (base ++ flat_map tell (e ∷ es)) (λ l j. within l (Contains-append_cases (base ++ tell e) (flat_map tell es) l j)))
+      (λ y d. d ∙ ap Some (let same : max (max (max x at) release) others ≡ max (max x release) (latest_of (input_delay g) time (e ∷ es)) = omega (arith, latest-cons (input_delay g) time e es) in same))
+      (starts (base ++ tell e) (max x at) joined tell time (λ d j own. let h = ready d (Contains-rest e es d j) own in omega (arith, h)) (λ d j. told d (Contains-rest e es d j)))
+    where
+      within : (l : Literal) → Contains (base ++ tell e) l ⊎ Contains (flat_map tell es) l → Contains (base ++ flat_map tell (e ∷ es)) l
+      within l (inr j) = Contains-append_right base (tell e ++ flat_map tell es) l (Contains-append_right (tell e) (flat_map tell es) l j)
+      within l (inl j) = told_as_first base (tell e) (tell e ++ flat_map tell es) (λ m i. Contains-append_left (tell e) (flat_map tell es) m i) l j
 
--- the last that another node sends
-pub last_input : (g : Graph) (f : ForestState) (wait : TreeState ℕ) (t : TreeState (Option ℕ)) (release e : ℕ) (es : List ℕ) → All (λ d. is_message g d ≡ false) es →
-    IsReleased g.faults wait (later_by (input_delay g e) (input_tree g f e)) release t → IsStartAfter g f wait release (e ∷ es) t
-last_input g f wait t release e es own starts s few base x tells tell time there told =
-    let at = time_later (input_delay g e) (time e) in
-    let late : latest_of (input_delay g) time es ≤ x = own_latest g time x es own (λ d j. there d (Contains-rest e es d j)) in
-    agrees_weaker s t (base ++ tell e) (base ++ flat_map tell (e ∷ es)) (λ y. y ≡ Some (max (max x at) release)) (λ y. y ≡ Some (max (max x release) (latest_of (input_delay g) time (e ∷ es))))
-    (λ l j. within l (Contains-append_cases base (tell e) l j))
-    (λ y d. d ∙ ap Some (let same : max (max x at) release ≡ max (max x release) (latest_of (input_delay g) time (e ∷ es)) = omega (arith, late, latest-cons (input_delay g) time e es) in same))
-    (starts s few base (tell e) x at tells (to_times (input_delay g e) s (input_tree g f e) (tell e) (time e) (told e (Contains-first e es))))
-  where
-    within : (l : Literal) → Contains base l ⊎ Contains (tell e) l → Contains (base ++ flat_map tell (e ∷ es)) l
-    within l (inl i) = Contains-append_left base (tell e ++ flat_map tell es) l i
-    within l (inr i) = Contains-append_right base (tell e ++ flat_map tell es) l (Contains-append_left (tell e) (flat_map tell es) l i)
+  -- the last that another node sends
+  pub last_input : (wait : TreeState ℕ) (t : TreeState (Option ℕ)) (release e : ℕ) (es : List ℕ) → All (λ d. is_message g d ≡ false) es →
+      ((base second : List Literal) (x y : ℕ) → Tells s base x wait → Tells s second y (later_by (input_delay g e) (input_tree g f e)) → Tells s (first ++ (base ++ second)) (Some (max (max x y) release)) t) →
+      StartsAfter g f s first wait release (e ∷ es) t
+  last_input wait t release e es own starts base x tells tell time there told =
+      let at = time_later (input_delay g e) (time e) in
+      let late : latest_of (input_delay g) time es ≤ x = own_latest g time x es own (λ d j. there d (Contains-rest e es d j)) in
+      agrees_weaker s t (first ++ (base ++ tell e)) (first ++ (base ++ flat_map tell (e ∷ es))) (λ y. y ≡ Some (max (max x at) release)) (λ y. y ≡ Some (max (max x release) (latest_of (input_delay g) time (e ∷ es))))
+      (told_as_first first (base ++ tell e) (base ++ flat_map tell (e ∷ es)) (told_as_first base (tell e) (flat_map tell (e ∷ es)) (λ l j. Contains-append_left (tell e) (flat_map tell es) l j)))
+      (λ y d. d ∙ ap Some (let same : max (max x at) release ≡ max (max x release) (latest_of (input_delay g) time (e ∷ es)) = omega (arith, late, latest-cons (input_delay g) time e es) in same))
+      (starts base (tell e) x at tells (to_times (input_delay g e) s (input_tree g f e) (tell e) (time e) (told e (Contains-first e es))))
 
 -- ---- starts
 

@@ -1,5 +1,5 @@
 -- Trees down guards.
-use Rattle.std.specs.Prelude.{ℕ, ◌<◌, ◌≤◌, ◌≡◌, ◌==◌, max, Bool, false, List, [], ◌∷◌, ◌++◌, Option, Some, None, map, if◌then◌else◌, Contains, get_or}
+use Rattle.std.specs.Prelude.{ℕ, ◌<◌, ◌≤◌, ◌≡◌, ◌==◌, max, Bool, false, true, List, [], ◌∷◌, ◌++◌, Option, Some, None, map, if◌then◌else◌, Contains, get_or}
 use Rattle.std.specs.List.{flat_map, list_any}
 use Rattle.cpg_base.specs.Numbers.{greatest}
 use Rattle.cpg_base.specs.Graph.{Graph, is_message, value_variable}
@@ -59,12 +59,20 @@ IsHeardTree g f node guard t = (s : Scenario) → HasFew g.faults s → (tell : 
 abbrev pub AreThere : Graph → (ℕ → Option ℕ) → ℕ → List ℕ → Type 0
 AreThere g time ready edges = (e : ℕ) → Contains edges e → is_message g e ≡ false → time_later 0 (time e) ≤ ready
 
--- the starts after a release and after these inputs are there too
+-- the starts of a scenario after a release and after these inputs are there too, where something is told first
+abbrev pub StartsAfter : Graph → ForestState → Scenario → List Literal → TreeState ℕ → ℕ → List ℕ → TreeState (Option ℕ) → Type 0
+StartsAfter g f s first wait release edges t = (base : List Literal) (x : ℕ) → Tells s base x wait → (tell : ℕ → List Literal) (time : ℕ → Option ℕ) →
+    AreThere g time x edges → ((e : ℕ) → Contains edges e → Tells s (tell e) (time e) (input_tree g f e)) →
+    Tells s (first ++ (base ++ flat_map tell edges)) (Some (max (max x release) (latest_of (input_delay g) time edges))) t
+
 abbrev pub IsStartAfter : Graph → ForestState → TreeState ℕ → ℕ → List ℕ → TreeState (Option ℕ) → Type 0
-IsStartAfter g f wait release edges t = (s : Scenario) → HasFew g.faults s → (base : List Literal) (x : ℕ) → Tells s base x wait →
-    (tell : ℕ → List Literal) (time : ℕ → Option ℕ) → AreThere g time x edges →
-    ((e : ℕ) → Contains edges e → Tells s (tell e) (time e) (input_tree g f e)) →
-    Tells s (base ++ flat_map tell edges) (Some (max (max x release) (latest_of (input_delay g) time edges))) t
+IsStartAfter g f wait release edges t = (s : Scenario) → HasFew g.faults s → StartsAfter g f s [] wait release edges t
+
+-- the same where a chooser is true, and no starts elsewhere
+pub record IsStartWhere (g : Graph) (f : ForestState) (chooser : TreeState Bool) (wait : TreeState ℕ) (release : ℕ) (edges : List ℕ)
+    (t : TreeState (Option ℕ)) : Type 0 where
+  pub on : (s : Scenario) → HasFew g.faults s → (told : List Literal) → Tells s told true chooser → StartsAfter g f s told wait release edges t
+  pub off : (s : Scenario) → HasFew g.faults s → (told : List Literal) → Tells s told false chooser → Tells s told None t
 
 -- the inputs that a process with an activation waits for
 abbrev pub awaited : List ℕ → Activation → List ℕ
@@ -92,6 +100,12 @@ IsStartTree g f wait release inputs guard t = (s : Scenario) → HasFew g.faults
     ((e : ℕ) → Contains (awaited inputs (outcome_at guard s.values)) e → Tells s (tell e) (time e) (input_tree g f e)) →
     Tells s (values_known s (way guard s.values) ++ start_says base tell inputs (outcome_at guard s.values))
     (start_at x release (input_delay g) time inputs (outcome_at guard s.values)) t
+
+-- an activation that waits for all inputs, if it is one
+abbrev pub WaitsForAll : Activation → Type 0
+WaitsForAll Inactive = Unit {0}
+WaitsForAll Plain = Unit {0}
+WaitsForAll (By e) = ⊥
 
 -- an activation by an input below a number, if by one
 abbrev pub IsByBelow : ℕ → Activation → Type 0

@@ -1,5 +1,5 @@
 -- Trees of times that are a delay after those of another, and of the later of two.
-use Rattle.std.specs.Prelude.{ℕ, max, List, ◌++◌, Option, Some}
+use Rattle.std.specs.Prelude.{ℕ, max, Bool, true, false, List, ◌++◌, Option, Some, None}
 use Rattle.cpg_base.specs.Scenario.{Scenario}
 use Rattle.cpg_cube.specs.declared.literal.Literal.{Literal}
 use Rattle.cpg_tree.specs.Space.{HasFew}
@@ -24,3 +24,9 @@ IsLatest k one two t = (s : Scenario) → HasFew k s → (first second : List Li
 abbrev pub IsReleased : ℕ → TreeState ℕ → TreeState ℕ → ℕ → TreeState (Option ℕ) → Type 0
 IsReleased k one two release t = (s : Scenario) → HasFew k s → (first second : List Literal) (x y : ℕ) → Tells s first x one → Tells s second y two →
     Tells s (first ++ second) (Some (max (max x y) release)) t
+
+-- where a chooser is true, they are, and elsewhere there are none
+pub record IsReleasedWhere (k : ℕ) (chooser : TreeState Bool) (one two : TreeState ℕ) (release : ℕ) (t : TreeState (Option ℕ)) : Type 0 where
+  pub on : (s : Scenario) → HasFew k s → (told first second : List Literal) (x y : ℕ) → Tells s told true chooser → Tells s first x one →
+      Tells s second y two → Tells s (told ++ (first ++ second)) (Some (max (max x y) release)) t
+  pub off : (s : Scenario) → HasFew k s → (told : List Literal) → Tells s told false chooser → Tells s told None t

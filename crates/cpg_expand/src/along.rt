@@ -103,7 +103,7 @@ fn begin_thawed(
     let active = active(alloc, problem, guard)?;
     let heard = waiting(alloc, problem, forest, node, guard)?;
     let wait = wait_for(problem, forest, node, &heard);
-    let start = unfrozen_start(alloc, problem, forest, wait, inputs, guard, process)?;
+    let start = unfrozen_start(problem, forest, wait, inputs, guard, process, &active)?;
     let next = follow(alloc, problem, forest, &active, &start, wait, process)?;
     put_begun(forest, process, start, next.end, node, next.ready);
     Ok(active)

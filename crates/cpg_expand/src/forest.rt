@@ -4,13 +4,15 @@ ghost use Rattle.cpg_base.specs.Graph.{condition_count, edge_count, is_message, 
 ghost use Rattle.cpg_expand.specs.Agreeing.{IsTree};
 ghost use Rattle.cpg_expand.specs.Forest.{HasTrees, IsWait, ends_of, heard_delay, heard_tree, input_delay, input_tree, later_tree, ready_by, times_of};
 ghost use Rattle.cpg_expand.specs.Grown.{IsBare, IsReadyFirst};
-ghost use Rattle.cpg_expand.specs.Guarded.{IsStartAfter};
-ghost use Rattle.cpg_expand.specs.Later.{IsLatest, IsNoMore, IsReleased};
+ghost use Rattle.cpg_expand.specs.Guarded.{IsStartAfter, IsStartWhere};
+ghost use Rattle.cpg_expand.specs.Later.{IsLatest, IsNoMore, IsReleased, IsReleasedWhere};
 ghost use Rattle.cpg_base.specs.Bus.{slot_length};
 ghost use Rattle.cpg_tree.specs.Read.{later_by};
 ghost use Rattle.cpg_tree.specs.Tree.{IsConstant};
 
-use crate::values::{later, later_of, later_or, started, started_of, started_or};
+use crate::values::{
+    later, later_of, later_or, started, started_of, started_of_where, started_or, started_or_where,
+};
 use cpg_base::{OutOfMemory, Problem};
 use cpg_tree::Tree;
 use std::alloc::Global;
@@ -278,6 +280,62 @@ impl Forest {
         Ok(start)
     }
 
+    /// Where a process is active, its starts on a node once it is ready and a frame is there, and at a release or later.
+    fn started_by_frame_where(
+        &self,
+        problem: &Problem,
+        ready: &Ready,
+        item: u32,
+        release: u64,
+        active: &Tree<bool>,
+    ) -> Result<Tree<Option<u64>>, OutOfMemory>
+        requires forest { HasTrees problem.now self.now }
+        requires ready { IsWait problem.now ready.now }
+        requires item { item < item_count problem.now }
+        requires active { IsTree problem.now active.now }
+        ensures tree { IfOk result (IsTree problem.now) }
+        ensures start { IfOk result (IsReleasedWhere problem.now.faults active.now (ready_by problem.now self.now ready.now)
+            (later_by (slot_length problem.now (home problem.now item)) (times_of problem.now self.now item)) release) }
+    {
+        let delay = problem.slot_length(problem.home(item));
+        let times = &self.times[item as usize];
+        match ready {
+            Ready::After(process) => {
+                let end = &self.ends[*process as usize];
+                let start = started_of_where(active, times, delay, end, release)?;
+                Ok(start)
+            }
+            Ready::At(tree) => {
+                let start = started_or_where(active, tree, times, delay, release)?;
+                Ok(start)
+            }
+        }
+    }
+
+    /// Where a process is active, its starts on a node once it is ready and an input from another node is there, and at a
+    /// release or later.
+    pub(crate) fn started_by_input_where(
+        &self,
+        problem: &Problem,
+        ready: &Ready,
+        edge: u32,
+        release: u64,
+        active: &Tree<bool>,
+    ) -> Result<Tree<Option<u64>>, OutOfMemory>
+        requires forest { HasTrees problem.now self.now }
+        requires ready { IsWait problem.now ready.now }
+        requires edge { edge < edge_count problem.now }
+        requires message { is_message problem.now edge ≡ true }
+        requires active { IsTree problem.now active.now }
+        ensures tree { IfOk result (IsTree problem.now) }
+        ensures start { IfOk result (IsReleasedWhere problem.now.faults active.now (ready_by problem.now self.now ready.now)
+            (later_by (input_delay problem.now edge) (input_tree problem.now self.now edge)) release) }
+    {
+        let item = problem.message_item(edge);
+        let start = self.started_by_frame_where(problem, ready, item, release, active)?;
+        Ok(start)
+    }
+
     /// The starts of a process on a node once it is ready and at a release or later.
     pub(crate) fn started(
         &self,
@@ -302,5 +360,25 @@ impl Forest {
                 Ok(start)
             }
         }
+    }
+
+    /// Where a process is active, its starts on a node once it is ready and at a release or later.
+    pub(crate) fn started_where(
+        &self,
+        problem: &Problem,
+        ready: &Ready,
+        release: u64,
+        active: &Tree<bool>,
+    ) -> Result<Tree<Option<u64>>, OutOfMemory>
+        requires forest { HasTrees problem.now self.now }
+        requires ready { IsWait problem.now ready.now }
+        requires active { IsTree problem.now active.now }
+        ensures tree { IfOk result (IsTree problem.now) }
+        ensures start { IfOk result (IsStartWhere problem.now self.now active.now (ready_by problem.now self.now ready.now) release []) }
+    {
+        let start = self.started(problem, ready, release)?;
+        let never = Tree::constant(active.alloc(), None, problem.faults())?;
+        let there = Tree::pick(active, &start, &never)?;
+        Ok(there)
     }
 }

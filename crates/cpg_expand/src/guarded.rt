@@ -3,8 +3,10 @@ ghost use Rattle.std.specs.Prelude.{⊤, ◌≡◌, ◌<◌, ◌≤◌, All, IfO
 ghost use Rattle.std.specs.Bool.{OnTrue};
 ghost use Rattle.cpg_base.specs.Graph.{condition_count, edge_count, is_message};
 ghost use Rattle.cpg_expand.specs.Agreeing.{IsTree};
+ghost use Rattle.cpg_expand.specs.Descent.{AreLeaves};
 ghost use Rattle.cpg_expand.specs.Forest.{HasTrees, IsWait, ready_by};
-ghost use Rattle.cpg_expand.specs.Guarded.{IsActiveTree, IsHeardTree, IsStartAfter, IsStartBy, IsStartTree, IsTestedOn, LeadsBelow, PicksByValue, IsByBelow};
+ghost use Rattle.cpg_expand.specs.Guarded.{IsActiveTree, IsByBelow, IsHeardTree, IsTestedOn, LeadsBelow, PicksByValue, WaitsForAll};
+ghost use Rattle.cpg_expand.specs.Guarded.{IsStartAfter, IsStartBy, IsStartTree, IsStartWhere};
 ghost use Rattle.cpg_rules.specs.Trees.{TestsBelow};
 
 use crate::descent::{Descent, tree_down};
@@ -199,6 +201,86 @@ fn start_after(
     Ok(start)
 }
 
+/// Where a process is active, its starts when it waits until its node is ready, its release and for these inputs.
+fn start_where(
+    problem: &Problem,
+    forest: &Forest,
+    wait: &Ready,
+    release: u64,
+    edges: &[u32],
+    active: &Tree<bool>,
+) -> Result<Tree<Option<u64>>, OutOfMemory>
+    requires forest { HasTrees problem.now forest.now }
+    requires wait { IsWait problem.now wait.now }
+    requires edges { All (λ e. e < edge_count problem.now) edges.now }
+    requires active { IsTree problem.now active.now }
+    ensures tree { IfOk result (IsTree problem.now) }
+    ensures start { IfOk result (IsStartWhere problem.now forest.now active.now (ready_by problem.now forest.now wait.now) release edges.now) }
+{
+    let Some((edge, others)) = edges.split_first() else {
+        let start = forest.started_where(problem, wait, release, active)?;
+        return Ok(start);
+    };
+    // what comes from the node itself is there once the node is ready
+    if !problem.is_message(*edge) {
+        let start = start_where(problem, forest, wait, release, others, active)?;
+        return Ok(start);
+    }
+    if are_own(problem, others) {
+        let start = forest.started_by_input_where(problem, wait, *edge, release, active)?;
+        return Ok(start);
+    }
+    let both = Ready::At(forest.ready_and_input(problem, wait, *edge)?);
+    let start = start_where(problem, forest, &both, release, others, active)?;
+    Ok(start)
+}
+
+/// Whether an activation waits for all inputs, if it is one.
+fn is_for_all(activation: Activation) -> bool
+    ensures { OnTrue result (WaitsForAll activation) }
+{
+    match activation {
+        Activation::Inactive => true,
+        Activation::Plain => true,
+        Activation::By(_) => false,
+    }
+}
+
+/// Whether each activation that a guard leads to waits for all inputs.
+fn waits_for_all(guard: &GuardTree) -> bool
+    ensures { OnTrue result (AreLeaves WaitsForAll guard.now) }
+{
+    match guard.top() {
+        GuardTop::Leaf(activation) => is_for_all(activation),
+        GuardTop::Test {
+            condition: _,
+            no,
+            yes,
+        } => {
+            if !waits_for_all(no) {
+                return false;
+            }
+            waits_for_all(yes)
+        }
+    }
+}
+
+/// Whether the starts with a guard are made only where it comes to an activation: it tests something, and each activation
+/// that it leads to waits for the same.
+fn is_by_activity(guard: &GuardTree) -> bool
+    ensures { OnTrue result (AreLeaves WaitsForAll guard.now) }
+{
+    match guard.top() {
+        // where nothing is tested, the starts may share the nodes of ends
+        GuardTop::Leaf(_) => false,
+        GuardTop::Test {
+            condition: _,
+            no: _,
+            yes: _,
+        } => waits_for_all(guard),
+    }
+}
+
 /// The starts of a process with an activation that waits until its node is ready, its release and for its inputs.
 fn start_by(
     alloc: Global,
@@ -277,15 +359,16 @@ impl Descent<Option<u64>> for Starting<'_> {
     }
 }
 
-/// The starts of a process with a guard that waits until its node is ready, its release and for its inputs.
+/// The starts of a process with a guard that waits until its node is ready, its release and for its inputs, by where the guard
+/// comes to an activation.
 pub(crate) fn start(
-    alloc: Global,
     problem: &Problem,
     forest: &Forest,
     wait: &Ready,
     release: u64,
     inputs: &[u32],
     guard: &GuardTree,
+    active: &Tree<bool>,
 ) -> Result<Tree<Option<u64>>, OutOfMemory>
     requires forest { HasTrees problem.now forest.now }
     requires wait { IsWait problem.now wait.now }
@@ -293,9 +376,16 @@ pub(crate) fn start(
     requires tests { TestsBelow (condition_count problem.now) guard.now }
     requires inputs { All (λ e. e < edge_count problem.now) inputs.now }
     requires leaves { LeadsBelow (edge_count problem.now) guard.now }
+    requires active { IsTree problem.now active.now }
+    requires actives { IsActiveTree problem.now.faults guard.now active.now }
     ensures tree { IfOk result (IsTree problem.now) }
     ensures start { IfOk result (IsStartTree problem.now forest.now (ready_by problem.now forest.now wait.now) release inputs.now guard.now) }
 {
+    if is_by_activity(guard) {
+        let start = start_where(problem, forest, wait, release, inputs, active)?;
+        return Ok(start);
+    }
+    let alloc = active.alloc();
     let starting = Starting {
         alloc,
         problem,

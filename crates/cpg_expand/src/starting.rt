@@ -4,7 +4,7 @@ ghost use Rattle.cpg_expand.specs.Freezing.{IsFrozenBy, set_if};
 ghost use Rattle.cpg_base.specs.Graph.{condition_count, edge_count, item_count, process_at, process_count};
 ghost use Rattle.cpg_expand.specs.Agreeing.{IsTree};
 ghost use Rattle.cpg_expand.specs.Forest.{HasTrees, IsWait, ready_by};
-ghost use Rattle.cpg_expand.specs.Guarded.{IsStartTree, LeadsBelow};
+ghost use Rattle.cpg_expand.specs.Guarded.{IsActiveTree, IsStartTree, LeadsBelow};
 ghost use Rattle.cpg_expand.specs.Waiting.{IsWaitTree, wait_of};
 ghost use Rattle.cpg_rules.specs.Trees.{TestsBelow};
 
@@ -65,15 +65,15 @@ pub(crate) fn wait_for<'a>(
     }
 }
 
-/// The starts of a process, its frozen time aside.
+/// The starts of a process, its frozen time aside, by where it is active.
 pub(crate) fn unfrozen_start(
-    alloc: Global,
     problem: &Problem,
     forest: &Forest,
     wait: &Ready,
     inputs: &[u32],
     guard: &GuardTree,
     process: u32,
+    active: &Tree<bool>,
 ) -> Result<Tree<Option<u64>>, OutOfMemory>
     requires process { process < process_count problem.now }
     requires forest { HasTrees problem.now forest.now }
@@ -82,18 +82,20 @@ pub(crate) fn unfrozen_start(
     requires tests { TestsBelow (condition_count problem.now) guard.now }
     requires inputs { All (λ e. e < edge_count problem.now) inputs.now }
     requires leaves { LeadsBelow (edge_count problem.now) guard.now }
+    requires active { IsTree problem.now active.now }
+    requires actives { IsActiveTree problem.now.faults guard.now active.now }
     ensures tree { IfOk result (IsTree problem.now) }
     ensures start { IfOk result (IsStartTree problem.now forest.now (ready_by problem.now forest.now wait.now)
         (process_at problem.now process).release inputs.now guard.now) }
 {
     start(
-        alloc,
         problem,
         forest,
         wait,
         problem.release(process),
         inputs,
         guard,
+        active,
     )
 }
 

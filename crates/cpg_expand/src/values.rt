@@ -1,8 +1,8 @@
 //! What becomes of the values of trees.
-ghost use Rattle.std.specs.Prelude.{ℕ, ◌≡◌, max, Bool, Some, IfOk};
+ghost use Rattle.std.specs.Prelude.{ℕ, ◌≡◌, max, Bool, None, Some, IfOk};
 ghost use Rattle.cpg_base.specs.Numbers.{same_bool};
 ghost use Rattle.cpg_expand.specs.Values.{time_later, time_if, ended, slot_at, slot_if, slot_from, time_past};
-ghost use Rattle.cpg_tree.specs.Tree.{HasOnePathEach, DoPathsPass, IsMap, IsJoin};
+ghost use Rattle.cpg_tree.specs.Tree.{HasOnePathEach, DoPathsPass, IsMap, IsJoin, IsJoinWhere};
 
 use cpg_base::OutOfMemory;
 use cpg_bus::Share;
@@ -100,6 +100,56 @@ pub(crate) fn started_of(
         other,
         &Later { delay: 0 },
         &|number: u64| Some(number.max(release)),
+    )
+}
+
+/// Where a tree is true, the starts that `started_or` has, and none elsewhere.
+pub(crate) fn started_or_where(
+    active: &Tree<bool>,
+    tree: &Tree<u64>,
+    other: &Tree<Option<u64>>,
+    delay: u64,
+    release: u64,
+) -> Result<Tree<Option<u64>>, OutOfMemory>
+    requires first { active.now.faults ≡ tree.now.faults }
+    requires second { active.now.faults ≡ other.now.faults }
+    ensures is { IfOk result (IsJoinWhere (λ x y z. z ≡ Some (max (max x (time_later delay y)) release)) None active.now tree.now other.now) }
+    ensures each { IfOk result (λ t. HasOnePathEach t.faults t.paths) }
+    ensures pass { IfOk result (λ t. (test : ℕ → Bool) → DoPathsPass test active.now.paths → DoPathsPass test tree.now.paths →
+        DoPathsPass test other.now.paths → DoPathsPass test t.paths) }
+{
+    active.greater_where(
+        tree,
+        &AsIs,
+        other,
+        &Later { delay },
+        &|number: u64| Some(number.max(release)),
+        None,
+    )
+}
+
+/// Where a tree is true, the starts that `started_of` has, and none elsewhere.
+pub(crate) fn started_of_where(
+    active: &Tree<bool>,
+    tree: &Tree<Option<u64>>,
+    delay: u64,
+    other: &Tree<Option<u64>>,
+    release: u64,
+) -> Result<Tree<Option<u64>>, OutOfMemory>
+    requires first { active.now.faults ≡ tree.now.faults }
+    requires second { active.now.faults ≡ other.now.faults }
+    ensures is { IfOk result (IsJoinWhere (λ x y z. z ≡ Some (max (max (time_later delay x) (time_later 0 y)) release)) None active.now tree.now other.now) }
+    ensures each { IfOk result (λ t. HasOnePathEach t.faults t.paths) }
+    ensures pass { IfOk result (λ t. (test : ℕ → Bool) → DoPathsPass test active.now.paths → DoPathsPass test tree.now.paths →
+        DoPathsPass test other.now.paths → DoPathsPass test t.paths) }
+{
+    active.greater_where(
+        tree,
+        &Later { delay },
+        other,
+        &Later { delay: 0 },
+        &|number: u64| Some(number.max(release)),
+        None,
     )
 }
 

@@ -1,4 +1,4 @@
-use Rattle.std.proofs.Common.{ℕ, ◌<◌, ◌∙◌, List, arith, sym, subst}
+use Rattle.std.proofs.Common.{ℕ, ◌<◌, ◌∙◌, List, [], arith, sym, subst}
 use Rattle.std.proofs.lemmas.List.{nil_from_length}
 use Rattle.std.proofs.lemmas.Option.{MatchOption-at_none}
 use Rattle.cpg_base.specs.Graph.{edge_count}
@@ -19,7 +19,7 @@ returns-then-not-is_message-clause-start t c =
     let f = c.args.forest.now in
     let wait = ready_by g f c.args.wait.now in
     subst (λ (es : List ℕ). IsStartAfter g f wait c.args.release es c.in_ok-start-2.start) (sym c.in-Some.ensures.cases.0)
-    (own_input g f wait c.in_ok-start-2.start c.args.release c.in-Some.edge.now c.in-Some.others.now (sym c.is_message.ensures ∙ c.if-not-is_message.true) c.in_ok-start-2.ensures.start)
+    (λ s few. own_input g f s [] wait c.in_ok-start-2.start c.args.release c.in-Some.edge.now c.in-Some.others.now (sym c.is_message.ensures ∙ c.if-not-is_message.true) (c.in_ok-start-2.ensures.start s few))
 
 pub returns-then-are_own-clause-start : goal.returns-then-are_own-clause-start
 returns-then-are_own-clause-start t c =
@@ -27,7 +27,7 @@ returns-then-are_own-clause-start t c =
     let f = c.args.forest.now in
     let wait = ready_by g f c.args.wait.now in
     subst (λ (es : List ℕ). IsStartAfter g f wait c.args.release es c.in_ok-start-3.start) (sym c.in-Some.ensures.cases.0)
-    (last_input g f wait c.in_ok-start-3.start c.args.release c.in-Some.edge.now c.in-Some.others.now (from_true c.are_own.result c.if-are_own.true c.are_own.ensures) c.in_ok-start-3.ensures.start)
+    (λ s few. last_input g f s [] wait c.in_ok-start-3.start c.args.release c.in-Some.edge.now c.in-Some.others.now (from_true c.are_own.result c.if-are_own.true c.are_own.ensures) (c.in_ok-start-3.ensures.start s few))
 
 pub start_after-requires-2 : goal.start_after-requires-2
 start_after-requires-2 t c =
@@ -42,5 +42,5 @@ returns-clause-start t c =
     let f = c.args.forest.now in
     let wait = ready_by g f c.args.wait.now in
     subst (λ (es : List ℕ). IsStartAfter g f wait c.args.release es c.in_ok-start-4.start) (sym c.in-Some.ensures.cases.0)
-    (one_input g f wait (later_by (input_delay g c.in-Some.edge.now) (input_tree g f c.in-Some.edge.now)) c.in_ok-ready_and_input.field-0 c.in_ok-start-4.start c.args.release c.in-Some.edge.now c.in-Some.others.now
-    (later_is g (input_delay g c.in-Some.edge.now) (input_tree g f c.in-Some.edge.now)) c.in_ok-ready_and_input.ensures.both c.in_ok-start-4.ensures.start)
+    (λ s few. one_input g f s [] few wait (later_by (input_delay g c.in-Some.edge.now) (input_tree g f c.in-Some.edge.now)) c.in_ok-ready_and_input.field-0 c.in_ok-start-4.start c.args.release c.in-Some.edge.now c.in-Some.others.now
+    (later_is g (input_delay g c.in-Some.edge.now) (input_tree g f c.in-Some.edge.now)) c.in_ok-ready_and_input.ensures.both (c.in_ok-start-4.ensures.start s few))

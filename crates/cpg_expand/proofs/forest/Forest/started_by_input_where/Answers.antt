@@ -1,0 +1,16 @@
+use Rattle.std.proofs.Common.{subst}
+use Rattle.cpg_base.specs.Bus.{slot_length}
+use Rattle.cpg_base.specs.Graph.{home}
+use Rattle.cpg_tree.specs.Read.{later_by}
+use Rattle.cpg_expand.specs.Forest.{ready_by, times_of}
+use Rattle.cpg_expand.specs.Later.{IsReleasedWhere}
+use Rattle.cpg_expand.proofs.StartsWhere.{input_where}
+use Rattle.cpg_expand.proofs.forest.Forest.started_by_input_where.Goals as goal
+
+pub returns-clause-start : goal.returns-clause-start
+returns-clause-start c =
+    let g = c.args.problem.now in
+    let f = c.args.self.now in
+    let wait = ready_by g f c.args.ready.now in
+    input_where g f c.args.edge c.args.release c.args.active.now wait c.in_ok-start.start c.requires.message
+    (subst (λ x. IsReleasedWhere g.faults c.args.active.now wait (later_by (slot_length g (home g x)) (times_of g f x)) c.args.release c.in_ok-start.start) c.message_item-item.ensures.item c.in_ok-start.ensures.start)

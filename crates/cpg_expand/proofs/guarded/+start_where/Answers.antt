@@ -1,0 +1,52 @@
+use Rattle.std.proofs.Common.{ℕ, ◌<◌, ◌∙◌, List, arith, sym, subst}
+use Rattle.std.proofs.lemmas.List.{nil_from_length}
+use Rattle.std.proofs.lemmas.Option.{MatchOption-at_none}
+use Rattle.cpg_base.specs.Graph.{edge_count}
+use Rattle.cpg_tree.specs.Read.{later_by}
+use Rattle.cpg_tree.proofs.Forks.{from_true}
+use Rattle.cpg_expand.specs.Forest.{input_delay, input_tree, ready_by}
+use Rattle.cpg_expand.specs.Guarded.{IsStartWhere}
+use Rattle.cpg_expand.proofs.StartsWhere.{last_where, one_where, own_where}
+use Rattle.cpg_expand.proofs.TreesTold.{all_parts, later_is}
+use Rattle.cpg_expand.proofs.guarded.+start_where.Goals as goal
+
+pub returns-in_default-clause-start : goal.returns-in_default-clause-start
+returns-in_default-clause-start t c =
+    subst (λ (es : List ℕ). IsStartWhere c.args.problem.now c.args.forest.now c.args.active.now (ready_by c.args.problem.now c.args.forest.now c.args.wait.now) c.args.release es c.in_ok-start.start)
+    (sym (nil_from_length c.args.edges.now (MatchOption-at_none _ _ c.in_default.is c.split_first.ensures.cases))) c.in_ok-start.ensures.start
+
+pub returns-then-not-is_message-clause-start : goal.returns-then-not-is_message-clause-start
+returns-then-not-is_message-clause-start t c =
+    let g = c.args.problem.now in
+    let f = c.args.forest.now in
+    let active = c.args.active.now in
+    let wait = ready_by g f c.args.wait.now in
+    subst (λ (es : List ℕ). IsStartWhere g f active wait c.args.release es c.in_ok-start-2.start) (sym c.in-Some.ensures.cases.0)
+    (own_where g f active wait c.in_ok-start-2.start c.args.release c.in-Some.edge.now c.in-Some.others.now (sym c.is_message.ensures ∙ c.if-not-is_message.true) c.in_ok-start-2.ensures.start)
+
+pub returns-then-are_own-clause-start : goal.returns-then-are_own-clause-start
+returns-then-are_own-clause-start t c =
+    let g = c.args.problem.now in
+    let f = c.args.forest.now in
+    let active = c.args.active.now in
+    let wait = ready_by g f c.args.wait.now in
+    subst (λ (es : List ℕ). IsStartWhere g f active wait c.args.release es c.in_ok-start-3.start) (sym c.in-Some.ensures.cases.0)
+    (last_where g f active wait c.in_ok-start-3.start c.args.release c.in-Some.edge.now c.in-Some.others.now (from_true c.are_own.result c.if-are_own.true c.are_own.ensures) c.in_ok-start-3.ensures.start)
+
+pub start_where-requires-2 : goal.start_where-requires-2
+start_where-requires-2 t c =
+    let below = all_parts (λ e. e < edge_count c.args.problem.now) c.args.edges.now c.in-Some.edge.now c.in-Some.others.now c.in-Some.ensures.cases.0 c.requires.edges in
+    let shorter = c.in-Some.ensures.cases.1 in
+    let at = c.decreases in
+    (omega arith, (c.requires.forest, (c.in_ok-ready_and_input.ensures.tree, (below.1, c.requires.active))))
+
+pub returns-clause-start : goal.returns-clause-start
+returns-clause-start t c =
+    let g = c.args.problem.now in
+    let f = c.args.forest.now in
+    let active = c.args.active.now in
+    let wait = ready_by g f c.args.wait.now in
+    let e = c.in-Some.edge.now in
+    subst (λ (es : List ℕ). IsStartWhere g f active wait c.args.release es c.in_ok-start-4.start) (sym c.in-Some.ensures.cases.0)
+    (one_where g f active wait c.in_ok-start-4.start c.args.release (later_by (input_delay g e) (input_tree g f e)) c.in_ok-ready_and_input.field-0 e c.in-Some.others.now
+    (later_is g (input_delay g e) (input_tree g f e)) c.in_ok-ready_and_input.ensures.both c.in_ok-start-4.ensures.start)
