@@ -1,6 +1,6 @@
 -- Where literals hold.
-use Rattle.std.proofs.Common.{arith, Option, None, Some, List, get_or, length, ◌-◌, ℕ, ◌≡◌, ◌≤◌, ◌<◌, ◌&&◌, true, false, ap, ◌∙◌, inl, inr}
-use Rattle.std.specs.Prelude.{nat_le, IfNone}
+use Rattle.std.proofs.Common.{arith, List, get_or, length, ◌-◌, ℕ, ◌≡◌, ◌≤◌, ◌<◌, ◌&&◌, true, false, ap, ◌∙◌, inl, inr}
+use Rattle.std.specs.Prelude.{nat_le}
 use Rattle.std.proofs.Math.Bool.{and-false}
 use Rattle.std.proofs.lemmas.Bool.{cases_lt, lt-leb, both_ways, true_from_ne_false}
 use Rattle.std.proofs.lemmas.List.Folds.{list_all_at}
@@ -29,8 +29,3 @@ module _ (s : Scenario) (ls : List Literal) (i : ℕ) (d : Literal) (there : i <
 
   pub each_holds : matches ls s ≡ true → holds s (get_or ls i d) ≡ true
   each_holds all = true_from_ne_false (holds s (get_or ls i d)) (λ h. both_ways (matches ls s) (unmatched h) all)
-
--- what the lack of an answer tells
-pub of_none : {X P Q : Type 0} (r : Option X) → IfNone r P → (P → Q) → IfNone r Q
-of_none None h f = f h
-of_none (Some x) h f = cc

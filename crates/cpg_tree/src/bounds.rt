@@ -5,7 +5,6 @@ ghost use Rattle.cpg_tree.specs.Bounds.{AreAbove, AreBelow, bounds_in, span_in};
 use crate::node::Node;
 use crate::reading::Reading;
 use cpg_base::OutOfMemory;
-use std::alloc::Global;
 
 /// The least and the greatest number of a tree.
 #[derive(Clone, Copy)]
@@ -72,7 +71,26 @@ pub(crate) fn bounds_above(bounds: &[Bound]) -> &[Bound]
 
 impl<T: Copy> Node<T> {
     /// Adds a bound of each fork, behind those of its sides; the least and the greatest number.
-    fn push_bounds<R: Reading<T>>(
+    #[cycle(push_bounds)]
+    #[inline]
+    pub(crate) fn push_bounds<R: Reading<T>>(
+        &self,
+        read: &R,
+        bounds: &mut Vec<Bound>,
+    ) -> Result<Span, OutOfMemory>
+        ensures bounds { IfOk result (λ _. bounds.new.items ≡ bounds.old.items ++ bounds_in (R.number read.now) self.now) }
+        ensures span { IfOk result (λ r. r ≡ span_in (R.number read.now) self.now) }
+    {
+        if let Node::Leaf(value) = self {
+            return Ok(Span::of(read.number(*value)));
+        }
+        self.push_fork_bounds(read, bounds)
+    }
+
+    /// The same of a tree that is a fork: a function of its own, since a call of it takes longer than a leaf.
+    #[cycle(push_bounds)]
+    #[inline(never)]
+    fn push_fork_bounds<R: Reading<T>>(
         &self,
         read: &R,
         bounds: &mut Vec<Bound>,
@@ -93,19 +111,6 @@ impl<T: Copy> Node<T> {
                 Ok(span)
             }
         }
-    }
-
-    /// A bound of each fork, behind those of its sides.
-    pub(crate) fn bounds<R: Reading<T>>(
-        &self,
-        alloc: Global,
-        read: &R,
-    ) -> Result<Vec<Bound>, OutOfMemory>
-        ensures { IfOk result (λ r. r.items ≡ bounds_in (R.number read.now) self.now) }
-    {
-        let mut bounds = Vec::new(alloc);
-        self.push_bounds(read, &mut bounds)?;
-        Ok(bounds)
     }
 
     /// The least and the greatest number, by the bounds of the forks.

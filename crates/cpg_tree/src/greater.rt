@@ -1,8 +1,10 @@
 //! The greater of two trees whose leaves are read as numbers.
 ghost use Rattle.std.specs.Prelude.{◌≡◌, max, ℕ, Bool, IfOk, true};
 ghost use Rattle.cpg_tree.specs.Results.{IsWithin, IsFillOf, IsJoinIn, IsJoinOf};
+ghost use Rattle.cpg_base.specs.Scenario.{Scenario};
 ghost use Rattle.cpg_tree.specs.Asked.{LiesInBoth};
-ghost use Rattle.cpg_tree.specs.Decision.{DoForksPass, IsFit};
+ghost use Rattle.cpg_tree.specs.Space.{Lies};
+ghost use Rattle.cpg_tree.specs.Decision.{DoForksPass, IsFit, value_at};
 ghost use Rattle.cpg_tree.specs.Bounds.{bounds_in};
 
 use crate::bounds::{Bound, bounds_above, bounds_below};
@@ -17,7 +19,7 @@ use std::alloc::Global;
 #[derive(Clone, Copy)]
 pub(crate) struct Greater<'a, R, S, F> {
     pub(crate) read: &'a R,
-    pub(crate) also: &'a S,
+    pub(crate) other_reading: &'a S,
     pub(crate) made: &'a F,
 }
 
@@ -55,7 +57,8 @@ impl<T: Copy> Node<T> {
     }
 
     /// The same part without bounds.
-    pub(crate) fn part_in(&self, space: &Space) -> &Node<T>
+    pub fn part_in(&self, space: &Space) -> &Node<T>
+        ensures value { (s : Scenario) → Lies space.now s → value_at result.now s ≡ value_at self.now s }
         ensures same { IsWithin space.now self.now result.now }
         ensures pass { (test : ℕ → Bool) → DoForksPass test self.now → DoForksPass test result.now }
     {
@@ -123,8 +126,8 @@ impl<T: Copy> Node<T> {
         requires callable { F.IsAlwaysCallable how.now.made.now }
         requires equal { (x y : V) → V.eq x y ≡ true → x ≡ y }
         requires own { bounds.now ≡ bounds_in (R.number how.now.read.now) self.now }
-        requires others { other.bounds.now ≡ bounds_in (S.number how.now.also.now) other.node.now }
-        ensures made { IfOk result (IsJoinIn (λ x y z. F.post how.now.made.now (max (R.number how.now.read.now x) (S.number how.now.also.now y)) z)
+        requires others { other.bounds.now ≡ bounds_in (S.number how.now.other_reading.now) other.node.now }
+        ensures made { IfOk result (IsJoinIn (λ x y z. F.post how.now.made.now (max (R.number how.now.read.now x) (S.number how.now.other_reading.now y)) z)
             (LiesInBoth rooms.old) self.now other.entry.node.now) }
         ensures back { IfOk result (λ _. rooms.new ≡ rooms.old) }
         ensures fit { IfOk result (IsFit rooms.old.asked) }
@@ -132,21 +135,21 @@ impl<T: Copy> Node<T> {
     {
         let other = other.node.part(other.bounds, &rooms.walked);
         let own = self.span(how.read, bounds);
-        let others = other.node.span(how.also, other.bounds);
+        let others = other.node.span(how.other_reading, other.bounds);
         if own.is_at_least(others) {
             return self.made_at_least(alloc, &mut rooms.asked, 0, how.read, how.made);
         }
         if others.is_at_least(own) {
             return other
                 .node
-                .made_at_least(alloc, &mut rooms.asked, 0, how.also, how.made);
+                .made_at_least(alloc, &mut rooms.asked, 0, how.other_reading, how.made);
         }
         match self {
             Node::Leaf(value) => {
                 let number = how.read.number(*value);
                 other
                     .node
-                    .made_at_least(alloc, &mut rooms.asked, number, how.also, how.made)
+                    .made_at_least(alloc, &mut rooms.asked, number, how.other_reading, how.made)
             }
             Node::Fork {
                 variable,
@@ -187,7 +190,7 @@ impl<T: Copy> Node<T> {
     ) -> Result<Node<V>, OutOfMemory>
         requires callable { F.IsAlwaysCallable how.now.made.now }
         requires equal { (x y : V) → V.eq x y ≡ true → x ≡ y }
-        ensures made { IfOk result (IsJoinOf (λ x y z. F.post how.now.made.now (max (R.number how.now.read.now x) (S.number how.now.also.now y)) z)
+        ensures made { IfOk result (IsJoinOf (λ x y z. F.post how.now.made.now (max (R.number how.now.read.now x) (S.number how.now.other_reading.now y)) z)
             space.old self.now other.now) }
         ensures back { IfOk result (λ _. space.new ≡ space.old) }
         ensures fit { IfOk result (IsFit space.old) }
@@ -195,22 +198,26 @@ impl<T: Copy> Node<T> {
     {
         if let Node::Leaf(value) = self {
             let number = how.read.number(*value);
-            return other.made_at_least(alloc, space, number, how.also, how.made);
+            return other.made_at_least(alloc, space, number, how.other_reading, how.made);
         }
         if let Node::Leaf(value) = other {
-            let number = how.also.number(*value);
+            let number = how.other_reading.number(*value);
             return self.made_at_least(alloc, space, number, how.read, how.made);
         }
-        let own = self.bounds(alloc, how.read)?;
-        let others = other.bounds(alloc, how.also)?;
+        // one list for both takes fewer and larger blocks than two
+        let mut bounds = Vec::new(alloc);
+        self.push_bounds(how.read, &mut bounds)?;
+        let forks = bounds.len();
+        other.push_bounds(how.other_reading, &mut bounds)?;
+        let (own, others) = bounds.split_at(forks);
         let other = Bounded {
             node: other,
-            bounds: others.as_slice(),
+            bounds: others,
         };
         let mut rooms = Rooms {
             asked: *space,
             walked: *space,
         };
-        self.greater_by(alloc, &mut rooms, own.as_slice(), other, how)
+        self.greater_by(alloc, &mut rooms, own, other, how)
     }
 }

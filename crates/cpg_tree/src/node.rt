@@ -113,9 +113,58 @@ impl<T: Copy + Eq> Node<T> {
         })
     }
 
+    /// Whether the tree begins with a fork.
+    fn begins_with(&self, variable: u8, cut: u8) -> bool {
+        match self {
+            Node::Leaf(_) => false,
+            Node::Fork {
+                variable: own,
+                cut: own_cut,
+                ..
+            } => *own == variable && *own_cut == cut,
+        }
+    }
+
+    /// Whether a look at their tops tells that this tree, below a fork on a variable, isn't equal to the tree above it, nor to
+    /// what that has below a fork on the same variable. No clause speaks of it: it only saves time.
+    fn is_apart(&self, variable: u8, above: &Node<T>) -> bool {
+        match above {
+            Node::Leaf(high) => match self {
+                Node::Leaf(low) => *low != *high,
+                Node::Fork { .. } => true,
+            },
+            Node::Fork {
+                variable: next,
+                cut,
+                ..
+            } => *next != variable && !self.begins_with(*next, *cut),
+        }
+    }
+
     /// A fork, or one tree where both sides are equal. Where the side above is a fork on the same variable with an equal
     /// side below, the first cut is left out.
     pub(crate) fn fork(
+        alloc: Global,
+        variable: u8,
+        cut: u8,
+        below: Node<T>,
+        above: Node<T>,
+    ) -> Result<Node<T>, OutOfMemory>
+        requires { (x y : T) → T.eq x y ≡ true → x ≡ y }
+        ensures made { IfOk result (IsForkOf variable cut below above) }
+        ensures fit { IfOk result (λ r. (room : Space) → is_open_below room variable cut ≡ true → is_open_above room variable cut ≡ true →
+            IsFit (below_cut room variable cut) below → IsFit (above_cut room variable cut) above → IsFit room r) }
+        ensures pass { IfOk result (λ r. (test : ℕ → Bool) → test variable ≡ true → DoForksPass test below → DoForksPass test above → DoForksPass test r) }
+    {
+        if below.is_apart(variable, &above) {
+            return Node::fork_of(alloc, variable, cut, below, above);
+        }
+        Node::fork_by_sides(alloc, variable, cut, below, above)
+    }
+
+    /// The same, by a look at the whole of both sides.
+    #[inline(never)]
+    fn fork_by_sides(
         alloc: Global,
         variable: u8,
         cut: u8,
@@ -157,7 +206,25 @@ impl<T: Copy + Eq> Node<T> {
     }
 
     /// The same tree for the scenarios of a space.
+    #[cycle(within)]
+    #[inline]
     pub(crate) fn within(&self, alloc: Global, space: &mut Space) -> Result<Node<T>, OutOfMemory>
+        requires { (x y : T) → T.eq x y ≡ true → x ≡ y }
+        ensures made { IfOk result (IsWithin space.old self.now) }
+        ensures back { IfOk result (λ _. space.new ≡ space.old) }
+        ensures fit { IfOk result (IsFit space.old) }
+        ensures pass { IfOk result (λ r. (test : ℕ → Bool) → DoForksPass test self.now → DoForksPass test r) }
+    {
+        if let Node::Leaf(value) = self {
+            return Ok(Node::Leaf(*value));
+        }
+        self.fork_within(alloc, space)
+    }
+
+    /// The same of a tree that is a fork: a function of its own, since a call of it takes longer than a leaf.
+    #[cycle(within)]
+    #[inline(never)]
+    fn fork_within(&self, alloc: Global, space: &mut Space) -> Result<Node<T>, OutOfMemory>
         requires { (x y : T) → T.eq x y ≡ true → x ≡ y }
         ensures made { IfOk result (IsWithin space.old self.now) }
         ensures back { IfOk result (λ _. space.new ≡ space.old) }
@@ -192,7 +259,29 @@ impl<T: Copy + Eq> Node<T> {
 
 impl<T: Copy> Node<T> {
     /// The answers of a function to the values.
+    #[cycle(map)]
+    #[inline]
     pub(crate) fn map<U: Copy + Eq, F: Fn(T) -> U>(
+        &self,
+        alloc: Global,
+        f: &F,
+    ) -> Result<Node<U>, OutOfMemory>
+        requires callable { F.IsAlwaysCallable f.now }
+        requires equal { (x y : U) → U.eq x y ≡ true → x ≡ y }
+        ensures made { IfOk result (IsMapOf (F.post f.now) self.now) }
+        ensures fit { IfOk result (λ r. (room : Space) → IsFit room self.now → IsFit room r) }
+        ensures pass { IfOk result (λ r. (test : ℕ → Bool) → DoForksPass test self.now → DoForksPass test r) }
+    {
+        if let Node::Leaf(value) = self {
+            return Ok(Node::Leaf(f(*value)));
+        }
+        self.map_fork(alloc, f)
+    }
+
+    /// The same of a tree that is a fork: a function of its own, since a call of it takes longer than a leaf.
+    #[cycle(map)]
+    #[inline(never)]
+    fn map_fork<U: Copy + Eq, F: Fn(T) -> U>(
         &self,
         alloc: Global,
         f: &F,
@@ -219,7 +308,32 @@ impl<T: Copy> Node<T> {
     }
 
     /// The answers of a function to a value and the values, for the scenarios of a space.
+    #[cycle(fill)]
+    #[inline]
     pub(crate) fn fill<U: Copy, V: Copy + Eq, F: Fn(U, T) -> V>(
+        &self,
+        alloc: Global,
+        space: &mut Space,
+        value: U,
+        f: &F,
+    ) -> Result<Node<V>, OutOfMemory>
+        requires callable { F.IsAlwaysCallable f.now }
+        requires equal { (x y : V) → V.eq x y ≡ true → x ≡ y }
+        ensures made { IfOk result (IsFillOf (F.post f.now) space.old value self.now) }
+        ensures back { IfOk result (λ _. space.new ≡ space.old) }
+        ensures fit { IfOk result (IsFit space.old) }
+        ensures pass { IfOk result (λ r. (test : ℕ → Bool) → DoForksPass test self.now → DoForksPass test r) }
+    {
+        if let Node::Leaf(other) = self {
+            return Ok(Node::Leaf(f(value, *other)));
+        }
+        self.fill_fork(alloc, space, value, f)
+    }
+
+    /// The same of a tree that is a fork: a function of its own, since a call of it takes longer than a leaf.
+    #[cycle(fill)]
+    #[inline(never)]
+    fn fill_fork<U: Copy, V: Copy + Eq, F: Fn(U, T) -> V>(
         &self,
         alloc: Global,
         space: &mut Space,

@@ -6,10 +6,7 @@ ghost use Rattle.cpg_base.specs.Scenario.{Scenario, number_of};
 ghost use Rattle.cpg_tree.specs.Space.{Lies, IsWhole, HasFew, is_open_below, is_open_above, below_cut, above_cut, reopened_below, faults_of};
 
 use cpg_base::FIRST_VALUE;
-use cpg_cube::Literal;
-
-/// How many variables there may be.
-const VARIABLES: usize = 256;
+use cpg_cube::{Literal, VARIABLES};
 
 /// How many faults a count of a variable is: a value is none.
 fn faults_of(variable: u8, count: u8) -> u8
@@ -215,16 +212,6 @@ impl Space {
             return true;
         }
         self.most(literal.variable) <= literal.high
-    }
-
-    /// Whether some number of a literal's range is in range.
-    pub fn meets(&self, literal: &Literal) -> bool
-        ensures { OnFalse result ((s : Scenario) → Lies self.now s → holds s literal.now ≡ false) }
-    {
-        if self.high[literal.variable as usize] < literal.low {
-            return false;
-        }
-        self.low[literal.variable as usize] <= literal.high
     }
 
     /// Whether the faults that are left suffice for the lows of literals from a place on.

@@ -1,13 +1,11 @@
 //! Counts of the numbers at which literals begin and end, to choose the fork that parts columns best. The choice is a guess:
 //! no clause speaks of it.
 use cpg_base::{MOST_FAULTS, OutOfMemory};
-use cpg_cube::Literal;
+use cpg_cube::{Literal, VARIABLES};
 use std::alloc::Global;
 
 /// How many numbers of a variable have a count of their own.
 const NUMBERS: usize = 16;
-/// How many variables there may be.
-const VARIABLES: usize = 256;
 /// How many counts a table has: one for each number of each variable.
 const COUNTS: usize = 4096;
 /// Of so many columns only the variables of the first are looked at.

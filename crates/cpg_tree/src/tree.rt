@@ -172,7 +172,11 @@ impl<T: Copy> Tree<T> {
         ensures pass { IfOk result (λ t. (test : ℕ → Bool) → DoPathsPass test self.now.paths → DoPathsPass test other.now.paths → DoPathsPass test t.paths) }
     {
         let mut space = Space::whole(self.faults);
-        let how = Greater { read, also, made };
+        let how = Greater {
+            read,
+            other_reading: also,
+            made,
+        };
         let root = self
             .root
             .greater_of(self.alloc, &mut space, &other.root, &how)?;

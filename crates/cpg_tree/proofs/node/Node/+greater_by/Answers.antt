@@ -18,7 +18,7 @@ returns-then-is_at_least-clause-made g t c =
     let rooms : Rooms = c.args.rooms.now in
     let both : Scenario → Type 0 = LiesInBoth rooms in
     let number : g.row.T.Denot → ℕ = g.R.Reading.number c.args.how.now.read.now in
-    let other_number : g.row.U.Denot → ℕ = g.S.Reading.number c.args.how.now.also.now in
+    let other_number : g.row.U.Denot → ℕ = g.S.Reading.number c.args.how.now.other_reading.now in
     let makes : ℕ → g.row.V.Denot → Type 0 = λ n z. g.F.Fn.post c.args.how.now.made.now (n, tt) z in
     let answers : g.row.T.Denot → g.row.U.Denot → g.row.V.Denot → Type 0 = λ x y z. makes (max (number x) (other_number y)) z in
     let a : Node g.row.T.Denot = c.args.self.now in
@@ -32,7 +32,7 @@ returns-then-is_at_least-2-clause-made g t c =
     let rooms : Rooms = c.args.rooms.now in
     let both : Scenario → Type 0 = LiesInBoth rooms in
     let number : g.row.T.Denot → ℕ = g.R.Reading.number c.args.how.now.read.now in
-    let other_number : g.row.U.Denot → ℕ = g.S.Reading.number c.args.how.now.also.now in
+    let other_number : g.row.U.Denot → ℕ = g.S.Reading.number c.args.how.now.other_reading.now in
     let makes : ℕ → g.row.V.Denot → Type 0 = λ n z. g.F.Fn.post c.args.how.now.made.now (n, tt) z in
     let answers : g.row.T.Denot → g.row.U.Denot → g.row.V.Denot → Type 0 = λ x y z. makes (max (number x) (other_number y)) z in
     let a : Node g.row.T.Denot = c.args.self.now in
@@ -51,7 +51,7 @@ returns-in-Leaf-clause-made g t c =
     let rooms : Rooms = c.args.rooms.now in
     let both : Scenario → Type 0 = LiesInBoth rooms in
     let number : g.row.T.Denot → ℕ = g.R.Reading.number c.args.how.now.read.now in
-    let other_number : g.row.U.Denot → ℕ = g.S.Reading.number c.args.how.now.also.now in
+    let other_number : g.row.U.Denot → ℕ = g.S.Reading.number c.args.how.now.other_reading.now in
     let makes : ℕ → g.row.V.Denot → Type 0 = λ n z. g.F.Fn.post c.args.how.now.made.now (n, tt) z in
     let answers : g.row.T.Denot → g.row.U.Denot → g.row.V.Denot → Type 0 = λ x y z. makes (max (number x) (other_number y)) z in
     let a : Node g.row.T.Denot = c.args.self.now in
@@ -70,7 +70,7 @@ returns-in_ok-high-in-Both-clause-made g t c =
     let rooms : Rooms = c.args.rooms.now in
     let both : Scenario → Type 0 = LiesInBoth rooms in
     let number : g.row.T.Denot → ℕ = g.R.Reading.number c.args.how.now.read.now in
-    let other_number : g.row.U.Denot → ℕ = g.S.Reading.number c.args.how.now.also.now in
+    let other_number : g.row.U.Denot → ℕ = g.S.Reading.number c.args.how.now.other_reading.now in
     let makes : ℕ → g.row.V.Denot → Type 0 = λ n z. g.F.Fn.post c.args.how.now.made.now (n, tt) z in
     let answers : g.row.T.Denot → g.row.U.Denot → g.row.V.Denot → Type 0 = λ x y z. makes (max (number x) (other_number y)) z in
     let a : Node g.row.T.Denot = c.args.self.now in
@@ -99,7 +99,7 @@ returns-in-Above-clause-made g t c =
     let both : Scenario → Type 0 = LiesInBoth rooms in
     let inner : Rooms = c.in-Above.inner in
     let number : g.row.T.Denot → ℕ = g.R.Reading.number c.args.how.now.read.now in
-    let other_number : g.row.U.Denot → ℕ = g.S.Reading.number c.args.how.now.also.now in
+    let other_number : g.row.U.Denot → ℕ = g.S.Reading.number c.args.how.now.other_reading.now in
     let makes : ℕ → g.row.V.Denot → Type 0 = λ n z. g.F.Fn.post c.args.how.now.made.now (n, tt) z in
     let answers : g.row.T.Denot → g.row.U.Denot → g.row.V.Denot → Type 0 = λ x y z. makes (max (number x) (other_number y)) z in
     let a : Node g.row.T.Denot = c.args.self.now in
@@ -124,7 +124,7 @@ returns-in-Below-clause-made g t c =
     let both : Scenario → Type 0 = LiesInBoth rooms in
     let inner : Rooms = c.in-Below.inner in
     let number : g.row.T.Denot → ℕ = g.R.Reading.number c.args.how.now.read.now in
-    let other_number : g.row.U.Denot → ℕ = g.S.Reading.number c.args.how.now.also.now in
+    let other_number : g.row.U.Denot → ℕ = g.S.Reading.number c.args.how.now.other_reading.now in
     let makes : ℕ → g.row.V.Denot → Type 0 = λ n z. g.F.Fn.post c.args.how.now.made.now (n, tt) z in
     let answers : g.row.T.Denot → g.row.U.Denot → g.row.V.Denot → Type 0 = λ x y z. makes (max (number x) (other_number y)) z in
     let a : Node g.row.T.Denot = c.args.self.now in
@@ -159,7 +159,7 @@ greater_by-requires-in-Both-2 g t c κs within =
     (c.requires.callable,
     (c.requires.equal,
     (c.bounds_above-in-Both.ensures _ _ _ (c.requires.own ∙ ap (bounds_in number) c.in-Fork.is) refl ∙ ap (bounds_in number) (sym (same_above c.deref.ensures)),
-    c.part-other.ensures.bounds (g.S.Reading.number c.args.how.now.also.now) c.requires.others))))))))))
+    c.part-other.ensures.bounds (g.S.Reading.number c.args.how.now.other_reading.now) c.requires.others))))))))))
 
 pub returns-in_ok-high-in-Both-clause-fit : goal.returns-in_ok-high-in-Both-clause-fit
 returns-in_ok-high-in-Both-clause-fit g t c =

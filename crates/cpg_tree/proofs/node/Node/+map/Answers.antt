@@ -8,16 +8,16 @@ use Rattle.cpg_tree.specs.Space.{below_cut, above_cut}
 use Rattle.cpg_tree.proofs.Forks.{fit_parts, passes_parts}
 use Rattle.cpg_tree.proofs.node.Node.+map.Goals as goal
 
-pub returns-in_ok-high-in-Fork-clause-made : goal.returns-in_ok-high-in-Fork-clause-made
-returns-in_ok-high-in-Fork-clause-made g t c =
+pub map_fork-returns-in_ok-high-in-Fork-clause-made : goal.map_fork-returns-in_ok-high-in-Fork-clause-made
+map_fork-returns-in_ok-high-in-Fork-clause-made g t c =
     of_answer c.fork.result (IsForkOf c.in-Fork.variable c.in-Fork.cut c.in_ok-low-in-Fork.low c.in_ok-high-in-Fork.high) (IsMapOf (λ (x : g.row.T.Denot) (z : g.row.U.Denot). g.F.Fn.post c.args.f.now (x, tt) z) c.args.self.now) c.fork.ensures.made
     (λ r fork. one_fork_of (λ s x z. (λ (x : g.row.T.Denot) (z : g.row.U.Denot). g.F.Fn.post c.args.f.now (x, tt) z) x z) (λ s. ⊤) c.in-Fork.variable c.in-Fork.cut c.in-Fork.sides.value.0 c.in-Fork.sides.value.1 c.args.self.now c.in-Fork.is r (λ s. ⊤) (λ s. ⊤) c.in_ok-low-in-Fork.low c.in_ok-high-in-Fork.high
     (subst (λ (n : Node g.row.T.Denot). IsMapOf (λ (x : g.row.T.Denot) (z : g.row.U.Denot). g.F.Fn.post c.args.f.now (x, tt) z) n c.in_ok-low-in-Fork.low) (same_below c.deref.ensures) c.in_ok-low-in-Fork.ensures.made)
     (subst (λ (n : Node g.row.T.Denot). IsMapOf (λ (x : g.row.T.Denot) (z : g.row.U.Denot). g.F.Fn.post c.args.f.now (x, tt) z) n c.in_ok-high-in-Fork.high) (same_above c.deref.ensures) c.in_ok-high-in-Fork.ensures.made)
     fork (λ s d le. d) (λ s d gt. d))
 
-pub returns-in_ok-high-in-Fork-clause-pass : goal.returns-in_ok-high-in-Fork-clause-pass
-returns-in_ok-high-in-Fork-clause-pass g t c =
+pub map_fork-returns-in_ok-high-in-Fork-clause-pass : goal.map_fork-returns-in_ok-high-in-Fork-clause-pass
+map_fork-returns-in_ok-high-in-Fork-clause-pass g t c =
     of_answer c.fork.result _ _ c.fork.ensures.pass
     (λ r fork test pass.
     let parts = passes_parts test c.in-Fork.variable c.in-Fork.cut c.in-Fork.sides.value.0 c.in-Fork.sides.value.1 c.args.self.now c.in-Fork.is pass in
@@ -25,8 +25,8 @@ returns-in_ok-high-in-Fork-clause-pass g t c =
     (c.in_ok-low-in-Fork.ensures.pass test (subst (λ (n : Node g.row.T.Denot). DoForksPass test n) (sym (same_below c.deref.ensures)) parts.1))
     (c.in_ok-high-in-Fork.ensures.pass test (subst (λ (n : Node g.row.T.Denot). DoForksPass test n) (sym (same_above c.deref.ensures)) parts.2)))
 
-pub returns-in_ok-high-in-Fork-clause-fit : goal.returns-in_ok-high-in-Fork-clause-fit
-returns-in_ok-high-in-Fork-clause-fit g t c =
+pub map_fork-returns-in_ok-high-in-Fork-clause-fit : goal.map_fork-returns-in_ok-high-in-Fork-clause-fit
+map_fork-returns-in_ok-high-in-Fork-clause-fit g t c =
     of_answer c.fork.result _ _ c.fork.ensures.fit
     (λ r fork room fit.
     let parts = fit_parts room c.in-Fork.variable c.in-Fork.cut c.in-Fork.sides.value.0 c.in-Fork.sides.value.1 c.args.self.now c.in-Fork.is fit in

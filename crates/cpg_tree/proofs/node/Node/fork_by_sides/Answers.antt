@@ -4,7 +4,7 @@ use Rattle.cpg_tree.specs.Space.{above_cut}
 use Rattle.cpg_tree.specs.Decision.{IsFit}
 use Rattle.cpg_tree.proofs.Forks.{from_true, same_above}
 use Rattle.cpg_tree.proofs.Fits.{fits_uncut, fits_joined}
-use Rattle.cpg_tree.proofs.node.Node.fork.Goals as goal
+use Rattle.cpg_tree.proofs.node.Node.fork_by_sides.Goals as goal
 
 pub returns-then-is_same-clause-fit : goal.returns-then-is_same-clause-fit
 returns-then-is_same-clause-fit g c room below above fit other = fits_uncut c.args.below room c.args.variable c.args.cut above fit
