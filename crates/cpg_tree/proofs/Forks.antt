@@ -7,7 +7,9 @@ use Rattle.cpg_base.specs.Scenario.{Scenario, number_of}
 use Rattle.cpg_tree.specs.declared.node.Node.{Node, Leaf, Fork'}
 use Rattle.cpg_tree.specs.Decision.{value_at, low_at, high_at, DoForksPass, IsFit}
 use Rattle.cpg_tree.specs.Space.{Space, Lies}
-use Rattle.cpg_tree.specs.Results.{IsForkOf, IsJoinOf, IsPickOf, IsMade, IsWithin, picked}
+use Rattle.cpg_tree.specs.Results.{IsForkOf, IsJoinIn, IsJoinOf, IsPickOf, IsMade, IsWithin, picked}
+use Rattle.cpg_tree.specs.Asked.{Rooms, LiesInBoth, lowered}
+use Rattle.cpg_tree.specs.declared.asked.Highs.{Highs}
 
 -- ---- what a scenario finds
 
@@ -95,6 +97,27 @@ made_weaker domain fact other_fact low other_low high other_high r made tells lo
   lows = λ s u d. omega (arith, made.lows s u d, lows s u d);
   highs = λ k s u d. omega (arith, made.highs k s u d, highs k s u d);
 }
+
+-- what is made in some scenarios is made in fewer
+pub made_narrower : {T : Type 0} (domain fewer : Scenario → Type 0) (fact : Scenario → T → Type 0) (low : Scenario → ℕ → ℕ) (high : ℕ → Scenario → ℕ → ℕ) (r : Node T) → IsMade domain fact low high r →
+    ((s : Scenario) → fewer s → domain s) → IsMade fewer fact low high r
+made_narrower domain fewer fact low high r made only = record {
+  value = λ s d. made.value s (only s d);
+  lows = λ s u d. made.lows s u (only s d);
+  highs = λ k s u d. made.highs k s u (only s d);
+}
+
+-- what is made in the space that is asked for is made in both
+pub made_in_both : {T U V : Type 0} (answers : T → U → V → Type 0) (rooms : Rooms) (a : Node T) (b : Node U) (r : Node V) → IsJoinOf answers rooms.asked a b r →
+    IsJoinIn answers (LiesInBoth rooms) a b r
+made_in_both answers rooms a b r made = made_narrower (Lies rooms.asked) (LiesInBoth rooms) _ _ _ r made (λ s d. d.0)
+
+-- what is made with the part of a tree that the space walked comes to is made with the tree
+pub both_whole : {T U V : Type 0} (answers : T → U → V → Type 0) (rooms : Rooms) (a : Node T) (b part : Node U) (r : Node V) → IsWithin rooms.walked b part →
+    IsJoinIn answers (LiesInBoth rooms) a part r → IsJoinIn answers (LiesInBoth rooms) a b r
+both_whole answers rooms a b part r same made = made_weaker (LiesInBoth rooms) _ _ _ _ _ _ r made
+    (λ s z d t. subst (λ y. answers (value_at a s) y z) (same.value s d.1) t)
+    (λ s u d. omega (arith, same.lows s u d.1)) (λ k s u d. omega (arith, same.highs k s u d.1))
 
 -- what is made with the part of a tree that a space comes to is made with the tree
 pub join_whole : {T U V : Type 0} (answers : T → U → V → Type 0) (room : Space) (a : Node T) (b part : Node U) (r : Node V) → IsWithin room b part →
@@ -285,3 +308,13 @@ module _ {T : Type 0} {one other : Node T × Node T} (same : one ≡ other) wher
 
   pub same_above : one.1 ≡ other.1
   same_above = ap (λ (sides : Node T × Node T). sides.1) same
+
+-- ---- two spaces, put back above a cut
+
+module _ (rooms shut inner opened : Rooms) (v : ℕ) (highs : Highs) (back : lowered shut v highs ≡ rooms) (same : inner ≡ shut) (put : opened ≡ lowered inner v highs) where
+  pub both_opened : opened ≡ rooms
+  both_opened = put ∙ ap (λ (r : Rooms). lowered r v highs) same ∙ back
+
+  -- what is above the cut in them is in those closed below it
+  pub both_reopened : (upper : Rooms) (cut : ℕ) → ((s : Scenario) → LiesInBoth opened s → cut < number_of s v → LiesInBoth upper s) → (s : Scenario) → LiesInBoth rooms s → cut < number_of s v → LiesInBoth upper s
+  both_reopened upper cut lies_upper s lies h = lies_upper s (subst (λ r. LiesInBoth r s) (sym both_opened) lies) h

@@ -1,3 +1,4 @@
+pub mod Asked
 pub mod Space
 pub mod Decision
 pub mod Results

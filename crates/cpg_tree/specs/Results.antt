@@ -1,6 +1,7 @@
 -- What the operations on decision trees make of these.
-use Rattle.std.specs.Prelude.{⊤, ℕ, ◌+◌, ◌≡◌, ◌≢◌, ◌≤◌, ◌<◌, max, min, Bool, if◌then◌else◌}
+use Rattle.std.specs.Prelude.{⊤, ℕ, ◌+◌, ◌≡◌, ◌≢◌, ◌≤◌, ◌<◌, max, min, Bool, true, false, if◌then◌else◌}
 use Rattle.cpg_base.specs.Scenario.{Scenario, number_of}
+use Rattle.cpg_base.specs.Variable.{top}
 use Rattle.cpg_tree.specs.declared.node.Node.{Node}
 use Rattle.cpg_tree.specs.Space.{Space, Lies}
 use Rattle.cpg_tree.specs.Decision.{value_at, low_at, high_at}
@@ -45,6 +46,22 @@ IsFillOf answers room x b r = IsMade (Lies room) (λ s z. answers x (value_at b 
 abbrev pub IsJoinOf : {T U V : Type 0} → (T → U → V → Type 0) → Space → Node T → Node U → Node V → Type 0
 IsJoinOf answers room a b r = IsMade (Lies room) (λ s z. answers (value_at a s) (value_at b s) z)
     (λ s v. max (low_at a s v) (low_at b s v)) (λ k s v. min (high_at k a s v) (high_at k b s v)) r
+
+-- a tree of a function's answers to the values of two, in the scenarios of a domain
+abbrev pub IsJoinIn : {T U V : Type 0} → (T → U → V → Type 0) → (Scenario → Type 0) → Node T → Node U → Node V → Type 0
+IsJoinIn answers domain a b r = IsMade domain (λ s z. answers (value_at a s) (value_at b s) z)
+    (λ s v. max (low_at a s v) (low_at b s v)) (λ k s v. min (high_at k a s v) (high_at k b s v)) r
+
+-- what is told of a value where a chooser is true: a fact, and else that it is another one
+abbrev pub TellsWhere : {V : Type 0} → Bool → Type 0 → V → V → Type 0
+TellsWhere true fact none z = fact
+TellsWhere false fact none z = z ≡ none
+
+-- a tree of a function's answers to the values of two where a chooser is true, and of one value elsewhere
+abbrev pub IsJoinWhereOf : {T U V : Type 0} → (T → U → V → Type 0) → V → (Scenario → Type 0) → Node Bool → Node T → Node U → Node V → Type 0
+IsJoinWhereOf answers none domain chooser a b r = IsMade domain (λ s z. TellsWhere (value_at chooser s) (answers (value_at a s) (value_at b s) z) none z)
+    (λ s v. max (low_at chooser s v) (if value_at chooser s then max (low_at a s v) (low_at b s v) else 0))
+    (λ k s v. min (high_at k chooser s v) (if value_at chooser s then min (high_at k a s v) (high_at k b s v) else top k v)) r
 
 -- the tree that a chooser picks
 abbrev pub picked : {T : Type 0} → Bool → Node T → Node T → Node T

@@ -1,7 +1,8 @@
 //! The greater of two trees whose leaves are read as numbers.
 ghost use Rattle.std.specs.Prelude.{◌≡◌, max, ℕ, Bool, IfOk, true};
-ghost use Rattle.cpg_tree.specs.Results.{IsWithin, IsFillOf, IsJoinOf};
+ghost use Rattle.cpg_tree.specs.Results.{IsWithin, IsFillOf, IsJoinIn, IsJoinOf};
 ghost use Rattle.cpg_base.specs.Scenario.{Scenario};
+ghost use Rattle.cpg_tree.specs.Asked.{LiesInBoth};
 ghost use Rattle.cpg_tree.specs.Space.{Lies};
 ghost use Rattle.cpg_tree.specs.Decision.{DoForksPass, IsFit, value_at};
 ghost use Rattle.cpg_tree.specs.Bounds.{bounds_in};
@@ -9,6 +10,7 @@ ghost use Rattle.cpg_tree.specs.Bounds.{bounds_in};
 use crate::bounds::{Bound, bounds_above, bounds_below};
 use crate::node::Node;
 use crate::reading::Reading;
+use crate::asked::{Rooms, Way};
 use crate::space::Space;
 use cpg_base::OutOfMemory;
 use std::alloc::Global;
@@ -23,9 +25,9 @@ pub(crate) struct Greater<'a, R, S, F> {
 
 /// A tree with the bounds of its forks.
 #[derive(Clone, Copy)]
-struct Bounded<'a, T> {
-    node: &'a Node<T>,
-    bounds: &'a [Bound],
+pub(crate) struct Bounded<'a, T> {
+    pub(crate) node: &'a Node<T>,
+    pub(crate) bounds: &'a [Bound],
 }
 
 impl<T: Copy> Node<T> {
@@ -110,12 +112,13 @@ impl<T: Copy> Node<T> {
         )
     }
 
-    /// In each scenario of a space what is made of the greater number of two trees with the bounds of their forks. Where one is
-    /// at least the other everywhere, nothing of the other is tested.
-    fn greater_by<U: Copy, V: Copy + Eq, R: Reading<T>, S: Reading<U>, F: Fn(u64) -> V>(
+    /// In each scenario of two spaces what is made of the greater number of two trees with the bounds of their forks. Where one
+    /// is at least the other everywhere, nothing of the other is tested. What is asked for is the first space alone: the second
+    /// is what the forks on the way have left, so that the answer has the forks that it has in the whole space.
+    pub(crate) fn greater_by<U: Copy, V: Copy + Eq, R: Reading<T>, S: Reading<U>, F: Fn(u64) -> V>(
         &self,
         alloc: Global,
-        space: &mut Space,
+        rooms: &mut Rooms,
         bounds: &[Bound],
         other: Bounded<'_, U>,
         how: &Greater<'_, R, S, F>,
@@ -124,29 +127,29 @@ impl<T: Copy> Node<T> {
         requires equal { (x y : V) → V.eq x y ≡ true → x ≡ y }
         requires own { bounds.now ≡ bounds_in (R.number how.now.read.now) self.now }
         requires others { other.bounds.now ≡ bounds_in (S.number how.now.other_reading.now) other.node.now }
-        ensures made { IfOk result (IsJoinOf (λ x y z. F.post how.now.made.now (max (R.number how.now.read.now x) (S.number how.now.other_reading.now y)) z)
-            space.old self.now other.entry.node.now) }
-        ensures back { IfOk result (λ _. space.new ≡ space.old) }
-        ensures fit { IfOk result (IsFit space.old) }
+        ensures made { IfOk result (IsJoinIn (λ x y z. F.post how.now.made.now (max (R.number how.now.read.now x) (S.number how.now.other_reading.now y)) z)
+            (LiesInBoth rooms.old) self.now other.entry.node.now) }
+        ensures back { IfOk result (λ _. rooms.new ≡ rooms.old) }
+        ensures fit { IfOk result (IsFit rooms.old.asked) }
         ensures pass { IfOk result (λ r. (test : ℕ → Bool) → DoForksPass test self.now → DoForksPass test other.entry.node.now → DoForksPass test r) }
     {
-        let other = other.node.part(other.bounds, space);
+        let other = other.node.part(other.bounds, &rooms.walked);
         let own = self.span(how.read, bounds);
         let others = other.node.span(how.other_reading, other.bounds);
         if own.is_at_least(others) {
-            return self.made_at_least(alloc, space, 0, how.read, how.made);
+            return self.made_at_least(alloc, &mut rooms.asked, 0, how.read, how.made);
         }
         if others.is_at_least(own) {
             return other
                 .node
-                .made_at_least(alloc, space, 0, how.other_reading, how.made);
+                .made_at_least(alloc, &mut rooms.asked, 0, how.other_reading, how.made);
         }
         match self {
             Node::Leaf(value) => {
                 let number = how.read.number(*value);
                 other
                     .node
-                    .made_at_least(alloc, space, number, how.other_reading, how.made)
+                    .made_at_least(alloc, &mut rooms.asked, number, how.other_reading, how.made)
             }
             Node::Fork {
                 variable,
@@ -154,19 +157,25 @@ impl<T: Copy> Node<T> {
                 sides,
             } => {
                 let (below, above) = &**sides;
-                if !space.is_open_below(*variable, *cut) {
-                    return above.greater_by(alloc, space, bounds_above(bounds), other, how);
+                match rooms.way(*variable, *cut) {
+                    Way::Above(mut inner) => {
+                        above.greater_by(alloc, &mut inner, bounds_above(bounds), other, how)
+                    }
+                    Way::Below(mut inner) => {
+                        below.greater_by(alloc, &mut inner, bounds_below(bounds), other, how)
+                    }
+                    Way::Both => {
+                        let highs = rooms.close_above(*variable, *cut);
+                        let low =
+                            below.greater_by(alloc, rooms, bounds_below(bounds), other, how)?;
+                        rooms.reopen_above(*variable, highs);
+                        let lows = rooms.close_below(*variable, *cut);
+                        let high =
+                            above.greater_by(alloc, rooms, bounds_above(bounds), other, how)?;
+                        rooms.reopen_below(*variable, lows);
+                        Node::fork(alloc, *variable, *cut, low, high)
+                    }
                 }
-                if !space.is_open_above(*variable, *cut) {
-                    return below.greater_by(alloc, space, bounds_below(bounds), other, how);
-                }
-                let most = space.close_above(*variable, *cut);
-                let low = below.greater_by(alloc, space, bounds_below(bounds), other, how)?;
-                space.reopen_above(*variable, most);
-                let least = space.close_below(*variable, *cut);
-                let high = above.greater_by(alloc, space, bounds_above(bounds), other, how)?;
-                space.reopen_below(*variable, least);
-                Node::fork(alloc, *variable, *cut, low, high)
             }
         }
     }
@@ -205,6 +214,10 @@ impl<T: Copy> Node<T> {
             node: other,
             bounds: others,
         };
-        self.greater_by(alloc, space, own, other, how)
+        let mut rooms = Rooms {
+            asked: *space,
+            walked: *space,
+        };
+        self.greater_by(alloc, &mut rooms, own, other, how)
     }
 }

@@ -1,11 +1,13 @@
 //! Trees of values by scenarios.
 #![tactic(auto)]
 
+mod asked;
 mod bounds;
 mod greater;
 mod node;
 mod picking;
 mod reading;
+
 mod space;
 mod tally;
 mod tree;

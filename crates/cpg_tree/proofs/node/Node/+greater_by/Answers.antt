@@ -1,40 +1,45 @@
-use Rattle.std.proofs.Common.{ℕ, max, sym, subst}
+use Rattle.std.proofs.Common.{arith, ℕ, ◌≡◌, ◌<◌, ◌≤◌, ◌∙◌, max, ap, refl, sym, subst}
 use Rattle.std.specs.Prelude.{IfOk}
+use Rattle.cpg_base.specs.Scenario.{Scenario, number_of}
 use Rattle.cpg_tree.specs.declared.node.Node.{Node}
-use Rattle.cpg_tree.specs.Space.{Space, Lies}
-use Rattle.cpg_tree.specs.Decision.{value_at, low_at, high_at, DoForksPass}
-use Rattle.cpg_tree.specs.Results.{IsJoinOf, IsFillOf, IsForkOf}
-use Rattle.cpg_tree.proofs.Spaces.{lies_reopened}
-use Rattle.cpg_tree.proofs.Forks.{join_whole, two_below_of, two_above_of, two_fork_of, of_answer, from_false, passes_parts, same_below, same_above}
+use Rattle.cpg_tree.specs.Decision.{value_at, low_at, high_at, DoForksPass, IsFit}
+use Rattle.cpg_tree.specs.Space.{Space, above_cut}
+use Rattle.cpg_tree.specs.Results.{IsFillOf, IsForkOf, IsJoinIn, IsJoinOf}
+use Rattle.cpg_tree.specs.Asked.{AreOpen, IsInner, IsWay, LiesInBoth, Rooms}
+use Rattle.cpg_tree.proofs.Forks.{both_opened, both_reopened, both_whole, made_in_both, made_narrower, two_below_of, two_above_of, two_fork_of, of_answer, passes_parts, same_below, same_above}
+use Rattle.cpg_tree.specs.Bounds.{bounds_in}
+use Rattle.cpg_tree.proofs.node.Node.TheLaws.{the_size}
 use Rattle.cpg_tree.proofs.BoundLaws.{at_least_by}
 use Rattle.cpg_tree.proofs.Greatness.{first_greater, first_leaf, second_greater}
 use Rattle.cpg_tree.proofs.node.Node.+greater_by.Goals as goal
 
 pub returns-then-is_at_least-clause-made : goal.returns-then-is_at_least-clause-made
 returns-then-is_at_least-clause-made g t c =
-    let room : Space = c.args.space.now in
+    let rooms : Rooms = c.args.rooms.now in
+    let both : Scenario → Type 0 = LiesInBoth rooms in
     let number : g.row.T.Denot → ℕ = g.R.Reading.number c.args.how.now.read.now in
     let other_number : g.row.U.Denot → ℕ = g.S.Reading.number c.args.how.now.other_reading.now in
     let makes : ℕ → g.row.V.Denot → Type 0 = λ n z. g.F.Fn.post c.args.how.now.made.now (n, tt) z in
     let answers : g.row.T.Denot → g.row.U.Denot → g.row.V.Denot → Type 0 = λ x y z. makes (max (number x) (other_number y)) z in
     let a : Node g.row.T.Denot = c.args.self.now in
     let b : Node g.row.U.Denot = c.part-other.result.node.now in
-    of_answer c.made_at_least.result (IsFillOf (λ (x : ℕ) (y : g.row.T.Denot) (z : g.row.V.Denot). makes (max x (number y)) z) room 0 a) (IsJoinOf answers room a c.args.other.node.now) c.made_at_least.ensures.made
-    (λ r made. join_whole answers room a c.args.other.node.now b r c.part-other.ensures.same
-    (first_greater number other_number makes room a b r (at_least_by number other_number a b c.span-own.result c.span-others.result c.is_at_least.result c.span-own.ensures c.span-others.ensures c.is_at_least.ensures c.if-is_at_least.true) made))
+    of_answer c.made_at_least.result (IsFillOf (λ (x : ℕ) (y : g.row.T.Denot) (z : g.row.V.Denot). makes (max x (number y)) z) rooms.asked 0 a) (IsJoinIn answers both a c.args.other.node.now) c.made_at_least.ensures.made
+    (λ r made. both_whole answers rooms a c.args.other.node.now b r c.part-other.ensures.same
+    (made_in_both answers rooms a b r (first_greater number other_number makes rooms.asked a b r (at_least_by number other_number a b c.span-own.result c.span-others.result c.is_at_least.result c.span-own.ensures c.span-others.ensures c.is_at_least.ensures c.if-is_at_least.true) made)))
 
 pub returns-then-is_at_least-2-clause-made : goal.returns-then-is_at_least-2-clause-made
 returns-then-is_at_least-2-clause-made g t c =
-    let room : Space = c.args.space.now in
+    let rooms : Rooms = c.args.rooms.now in
+    let both : Scenario → Type 0 = LiesInBoth rooms in
     let number : g.row.T.Denot → ℕ = g.R.Reading.number c.args.how.now.read.now in
     let other_number : g.row.U.Denot → ℕ = g.S.Reading.number c.args.how.now.other_reading.now in
     let makes : ℕ → g.row.V.Denot → Type 0 = λ n z. g.F.Fn.post c.args.how.now.made.now (n, tt) z in
     let answers : g.row.T.Denot → g.row.U.Denot → g.row.V.Denot → Type 0 = λ x y z. makes (max (number x) (other_number y)) z in
     let a : Node g.row.T.Denot = c.args.self.now in
     let b : Node g.row.U.Denot = c.part-other.result.node.now in
-    of_answer c.made_at_least-then-is_at_least-2.result (IsFillOf (λ (x : ℕ) (y : g.row.U.Denot) (z : g.row.V.Denot). makes (max x (other_number y)) z) room 0 b) (IsJoinOf answers room a c.args.other.node.now) c.made_at_least-then-is_at_least-2.ensures.made
-    (λ r made. join_whole answers room a c.args.other.node.now b r c.part-other.ensures.same
-    (second_greater number other_number makes room a b r (at_least_by other_number number b a c.span-others.result c.span-own.result c.is_at_least-2.result c.span-others.ensures c.span-own.ensures c.is_at_least-2.ensures c.if-is_at_least-2.true) made))
+    of_answer c.made_at_least-then-is_at_least-2.result (IsFillOf (λ (x : ℕ) (y : g.row.U.Denot) (z : g.row.V.Denot). makes (max x (other_number y)) z) rooms.asked 0 b) (IsJoinIn answers both a c.args.other.node.now) c.made_at_least-then-is_at_least-2.ensures.made
+    (λ r made. both_whole answers rooms a c.args.other.node.now b r c.part-other.ensures.same
+    (made_in_both answers rooms a b r (second_greater number other_number makes rooms.asked a b r (at_least_by other_number number b a c.span-others.result c.span-own.result c.is_at_least-2.result c.span-others.ensures c.span-own.ensures c.is_at_least-2.ensures c.if-is_at_least-2.true) made)))
 
 pub returns-then-is_at_least-2-clause-pass : goal.returns-then-is_at_least-2-clause-pass
 returns-then-is_at_least-2-clause-pass g t c =
@@ -43,89 +48,127 @@ returns-then-is_at_least-2-clause-pass g t c =
 
 pub returns-in-Leaf-clause-made : goal.returns-in-Leaf-clause-made
 returns-in-Leaf-clause-made g t c =
-    let room : Space = c.args.space.now in
+    let rooms : Rooms = c.args.rooms.now in
+    let both : Scenario → Type 0 = LiesInBoth rooms in
     let number : g.row.T.Denot → ℕ = g.R.Reading.number c.args.how.now.read.now in
     let other_number : g.row.U.Denot → ℕ = g.S.Reading.number c.args.how.now.other_reading.now in
     let makes : ℕ → g.row.V.Denot → Type 0 = λ n z. g.F.Fn.post c.args.how.now.made.now (n, tt) z in
     let answers : g.row.T.Denot → g.row.U.Denot → g.row.V.Denot → Type 0 = λ x y z. makes (max (number x) (other_number y)) z in
     let a : Node g.row.T.Denot = c.args.self.now in
     let b : Node g.row.U.Denot = c.part-other.result.node.now in
-    of_answer c.made_at_least-in-Leaf.result (IsFillOf (λ (x : ℕ) (y : g.row.U.Denot) (z : g.row.V.Denot). makes (max x (other_number y)) z) room c.number-number.result b) (IsJoinOf answers room a c.args.other.node.now) c.made_at_least-in-Leaf.ensures.made
-    (λ r made. join_whole answers room a c.args.other.node.now b r c.part-other.ensures.same
-    (first_leaf number other_number makes room a b r c.in-Leaf.value c.number-number.result c.in-Leaf.is c.number-number.ensures made))
+    of_answer c.made_at_least-in-Leaf.result (IsFillOf (λ (x : ℕ) (y : g.row.U.Denot) (z : g.row.V.Denot). makes (max x (other_number y)) z) rooms.asked c.number-number.result b) (IsJoinIn answers both a c.args.other.node.now) c.made_at_least-in-Leaf.ensures.made
+    (λ r made. both_whole answers rooms a c.args.other.node.now b r c.part-other.ensures.same
+    (made_in_both answers rooms a b r (first_leaf number other_number makes rooms.asked a b r c.in-Leaf.value c.number-number.result c.in-Leaf.is c.number-number.ensures made)))
 
 pub returns-in-Leaf-clause-pass : goal.returns-in-Leaf-clause-pass
 returns-in-Leaf-clause-pass g t c =
     of_answer c.made_at_least-in-Leaf.result _ _ c.made_at_least-in-Leaf.ensures.pass
     (λ r pass test first second. pass test (c.part-other.ensures.pass test second))
 
-pub returns-then-not-is_open_below-clause-made : goal.returns-then-not-is_open_below-clause-made
-returns-then-not-is_open_below-clause-made g t c =
-    let room : Space = c.args.space.now in
+pub returns-in_ok-high-in-Both-clause-made : goal.returns-in_ok-high-in-Both-clause-made
+returns-in_ok-high-in-Both-clause-made g t c =
+    let rooms : Rooms = c.args.rooms.now in
+    let both : Scenario → Type 0 = LiesInBoth rooms in
     let number : g.row.T.Denot → ℕ = g.R.Reading.number c.args.how.now.read.now in
     let other_number : g.row.U.Denot → ℕ = g.S.Reading.number c.args.how.now.other_reading.now in
     let makes : ℕ → g.row.V.Denot → Type 0 = λ n z. g.F.Fn.post c.args.how.now.made.now (n, tt) z in
     let answers : g.row.T.Denot → g.row.U.Denot → g.row.V.Denot → Type 0 = λ x y z. makes (max (number x) (other_number y)) z in
     let a : Node g.row.T.Denot = c.args.self.now in
     let b : Node g.row.U.Denot = c.part-other.result.node.now in
-    of_answer c.greater_by.result (IsJoinOf answers room c.in-Fork.sides.value.1 b) (IsJoinOf answers room a c.args.other.node.now)
-    (subst (λ (n : Node g.row.T.Denot). IfOk c.greater_by.result (IsJoinOf answers room n b)) (same_above c.deref.ensures) c.greater_by.ensures.made)
-    (λ r made. join_whole answers room a c.args.other.node.now b r c.part-other.ensures.same
-    (two_above_of (λ s x z. answers x (value_at b s) z) (λ s x v. low_at b s v) (λ k s x v. high_at k b s v) (Lies room) c.in-Fork.variable c.in-Fork.cut c.in-Fork.sides.value.0 c.in-Fork.sides.value.1 a c.in-Fork.is r made
-    (from_false c.is_open_below.result c.if-not-is_open_below.true c.is_open_below.ensures.none)))
+    of_answer c.fork.result (IsForkOf c.in-Fork.variable c.in-Fork.cut c.in_ok-low-in-Both.low c.in_ok-high-in-Both.high) (IsJoinIn answers both a c.args.other.node.now) c.fork.ensures.made
+    (λ r fork. both_whole answers rooms a c.args.other.node.now b r c.part-other.ensures.same
+    (two_fork_of (λ s x z. answers x (value_at b s) z) (λ s x v. low_at b s v) (λ k s x v. high_at k b s v) both c.in-Fork.variable c.in-Fork.cut c.in-Fork.sides.value.0 c.in-Fork.sides.value.1 a c.in-Fork.is r (LiesInBoth c.close_above-highs.new.self) (LiesInBoth c.close_below-lows.new.self) c.in_ok-low-in-Both.low c.in_ok-high-in-Both.high
+    (subst (λ (n : Node g.row.T.Denot). IsJoinIn answers (LiesInBoth c.close_above-highs.new.self) n b c.in_ok-low-in-Both.low) (same_below c.deref.ensures) c.in_ok-low-in-Both.ensures.made)
+    (subst (λ (n : Node g.row.T.Denot). IsJoinIn answers (LiesInBoth c.close_below-lows.new.self) n b c.in_ok-high-in-Both.high) (same_above c.deref.ensures) c.in_ok-high-in-Both.ensures.made)
+    fork c.close_above-highs.ensures.lies
+    (both_reopened rooms c.close_above-highs.new.self c.greater_by-in-Both.new.rooms c.reopen_above.new.self c.in-Fork.variable c.close_above-highs.result c.close_above-highs.ensures.back c.in_ok-low-in-Both.ensures.back c.reopen_above.ensures c.close_below-lows.new.self c.in-Fork.cut c.close_below-lows.ensures.lies)))
 
-pub returns-then-not-is_open_below-clause-pass : goal.returns-then-not-is_open_below-clause-pass
-returns-then-not-is_open_below-clause-pass g t c =
-    of_answer c.greater_by.result _ _ c.greater_by.ensures.pass
-    (λ r over test first second.
-    let parts = passes_parts test c.in-Fork.variable c.in-Fork.cut c.in-Fork.sides.value.0 c.in-Fork.sides.value.1 c.args.self.now c.in-Fork.is first in
-    over test (subst (λ (n : Node g.row.T.Denot). DoForksPass test n) (sym (same_above c.deref.ensures)) parts.2) (c.part-other.ensures.pass test second))
-
-pub returns-then-not-is_open_above-clause-made : goal.returns-then-not-is_open_above-clause-made
-returns-then-not-is_open_above-clause-made g t c =
-    let room : Space = c.args.space.now in
-    let number : g.row.T.Denot → ℕ = g.R.Reading.number c.args.how.now.read.now in
-    let other_number : g.row.U.Denot → ℕ = g.S.Reading.number c.args.how.now.other_reading.now in
-    let makes : ℕ → g.row.V.Denot → Type 0 = λ n z. g.F.Fn.post c.args.how.now.made.now (n, tt) z in
-    let answers : g.row.T.Denot → g.row.U.Denot → g.row.V.Denot → Type 0 = λ x y z. makes (max (number x) (other_number y)) z in
-    let a : Node g.row.T.Denot = c.args.self.now in
-    let b : Node g.row.U.Denot = c.part-other.result.node.now in
-    of_answer c.greater_by-then-not-is_open_above.result (IsJoinOf answers room c.in-Fork.sides.value.0 b) (IsJoinOf answers room a c.args.other.node.now)
-    (subst (λ (n : Node g.row.T.Denot). IfOk c.greater_by-then-not-is_open_above.result (IsJoinOf answers room n b)) (same_below c.deref.ensures) c.greater_by-then-not-is_open_above.ensures.made)
-    (λ r made. join_whole answers room a c.args.other.node.now b r c.part-other.ensures.same
-    (two_below_of (λ s x z. answers x (value_at b s) z) (λ s x v. low_at b s v) (λ k s x v. high_at k b s v) (Lies room) c.in-Fork.variable c.in-Fork.cut c.in-Fork.sides.value.0 c.in-Fork.sides.value.1 a c.in-Fork.is r made
-    (from_false c.is_open_above.result c.if-not-is_open_above.true c.is_open_above.ensures.none)))
-
-pub returns-then-not-is_open_above-clause-pass : goal.returns-then-not-is_open_above-clause-pass
-returns-then-not-is_open_above-clause-pass g t c =
-    of_answer c.greater_by-then-not-is_open_above.result _ _ c.greater_by-then-not-is_open_above.ensures.pass
-    (λ r over test first second.
-    let parts = passes_parts test c.in-Fork.variable c.in-Fork.cut c.in-Fork.sides.value.0 c.in-Fork.sides.value.1 c.args.self.now c.in-Fork.is first in
-    over test (subst (λ (n : Node g.row.T.Denot). DoForksPass test n) (sym (same_below c.deref.ensures)) parts.1) (c.part-other.ensures.pass test second))
-
-pub returns-in_ok-high-in-Fork-clause-made : goal.returns-in_ok-high-in-Fork-clause-made
-returns-in_ok-high-in-Fork-clause-made g t c =
-    let room : Space = c.args.space.now in
-    let number : g.row.T.Denot → ℕ = g.R.Reading.number c.args.how.now.read.now in
-    let other_number : g.row.U.Denot → ℕ = g.S.Reading.number c.args.how.now.other_reading.now in
-    let makes : ℕ → g.row.V.Denot → Type 0 = λ n z. g.F.Fn.post c.args.how.now.made.now (n, tt) z in
-    let answers : g.row.T.Denot → g.row.U.Denot → g.row.V.Denot → Type 0 = λ x y z. makes (max (number x) (other_number y)) z in
-    let a : Node g.row.T.Denot = c.args.self.now in
-    let b : Node g.row.U.Denot = c.part-other.result.node.now in
-    of_answer c.fork.result (IsForkOf c.in-Fork.variable c.in-Fork.cut c.in_ok-low-in-Fork.low c.in_ok-high-in-Fork.high) (IsJoinOf answers room a c.args.other.node.now) c.fork.ensures.made
-    (λ r fork. join_whole answers room a c.args.other.node.now b r c.part-other.ensures.same
-    (two_fork_of (λ s x z. answers x (value_at b s) z) (λ s x v. low_at b s v) (λ k s x v. high_at k b s v) (Lies room) c.in-Fork.variable c.in-Fork.cut c.in-Fork.sides.value.0 c.in-Fork.sides.value.1 a c.in-Fork.is r (Lies c.close_above-most.new.self) (Lies c.close_below-least.new.self) c.in_ok-low-in-Fork.low c.in_ok-high-in-Fork.high
-    (subst (λ (n : Node g.row.T.Denot). IsJoinOf answers c.close_above-most.new.self n b c.in_ok-low-in-Fork.low) (same_below c.deref.ensures) c.in_ok-low-in-Fork.ensures.made)
-    (subst (λ (n : Node g.row.T.Denot). IsJoinOf answers c.close_below-least.new.self n b c.in_ok-high-in-Fork.high) (same_above c.deref.ensures) c.in_ok-high-in-Fork.ensures.made)
-    fork c.close_above-most.ensures.lies
-    (lies_reopened room c.close_above-most.new.self c.greater_by-in-Fork.new.space c.reopen_above.new.self c.close_below-least.new.self c.in-Fork.variable c.close_above-most.result c.in-Fork.cut c.close_above-most.ensures.back c.in_ok-low-in-Fork.ensures.back c.reopen_above.ensures c.close_below-least.ensures.lies)))
-
-pub returns-in_ok-high-in-Fork-clause-pass : goal.returns-in_ok-high-in-Fork-clause-pass
-returns-in_ok-high-in-Fork-clause-pass g t c =
+pub returns-in_ok-high-in-Both-clause-pass : goal.returns-in_ok-high-in-Both-clause-pass
+returns-in_ok-high-in-Both-clause-pass g t c =
     of_answer c.fork.result _ _ c.fork.ensures.pass
     (λ r fork test first second.
     let others = c.part-other.ensures.pass test second in
     let parts = passes_parts test c.in-Fork.variable c.in-Fork.cut c.in-Fork.sides.value.0 c.in-Fork.sides.value.1 c.args.self.now c.in-Fork.is first in
     fork test parts.0
-    (c.in_ok-low-in-Fork.ensures.pass test (subst (λ (n : Node g.row.T.Denot). DoForksPass test n) (sym (same_below c.deref.ensures)) parts.1) others)
-    (c.in_ok-high-in-Fork.ensures.pass test (subst (λ (n : Node g.row.T.Denot). DoForksPass test n) (sym (same_above c.deref.ensures)) parts.2) others))
+    (c.in_ok-low-in-Both.ensures.pass test (subst (λ (n : Node g.row.T.Denot). DoForksPass test n) (sym (same_below c.deref.ensures)) parts.1) others)
+    (c.in_ok-high-in-Both.ensures.pass test (subst (λ (n : Node g.row.T.Denot). DoForksPass test n) (sym (same_above c.deref.ensures)) parts.2) others))
+
+pub returns-in-Above-clause-made : goal.returns-in-Above-clause-made
+returns-in-Above-clause-made g t c =
+    let rooms : Rooms = c.args.rooms.now in
+    let both : Scenario → Type 0 = LiesInBoth rooms in
+    let inner : Rooms = c.in-Above.inner in
+    let number : g.row.T.Denot → ℕ = g.R.Reading.number c.args.how.now.read.now in
+    let other_number : g.row.U.Denot → ℕ = g.S.Reading.number c.args.how.now.other_reading.now in
+    let makes : ℕ → g.row.V.Denot → Type 0 = λ n z. g.F.Fn.post c.args.how.now.made.now (n, tt) z in
+    let answers : g.row.T.Denot → g.row.U.Denot → g.row.V.Denot → Type 0 = λ x y z. makes (max (number x) (other_number y)) z in
+    let a : Node g.row.T.Denot = c.args.self.now in
+    let b : Node g.row.U.Denot = c.part-other.result.node.now in
+    let way : IsInner rooms (λ s. c.in-Fork.cut < number_of s c.in-Fork.variable) inner = subst (IsWay rooms c.in-Fork.variable c.in-Fork.cut) c.in-Above.is c.way.ensures in
+    of_answer c.greater_by.result (IsJoinIn answers (LiesInBoth inner) c.in-Fork.sides.value.1 b) (IsJoinIn answers both a c.args.other.node.now)
+    (subst (λ (n : Node g.row.T.Denot). IfOk c.greater_by.result (IsJoinIn answers (LiesInBoth inner) n b)) (same_above c.deref.ensures) c.greater_by.ensures.made)
+    (λ r made. both_whole answers rooms a c.args.other.node.now b r c.part-other.ensures.same
+    (two_above_of (λ s x z. answers x (value_at b s) z) (λ s x v. low_at b s v) (λ k s x v. high_at k b s v) both c.in-Fork.variable c.in-Fork.cut c.in-Fork.sides.value.0 c.in-Fork.sides.value.1 a c.in-Fork.is r
+    (made_narrower (LiesInBoth inner) both _ _ _ r made way.lies) way.goes))
+
+pub returns-in-Above-clause-pass : goal.returns-in-Above-clause-pass
+returns-in-Above-clause-pass g t c =
+    of_answer c.greater_by.result _ _ c.greater_by.ensures.pass
+    (λ r over test first second.
+    let parts = passes_parts test c.in-Fork.variable c.in-Fork.cut c.in-Fork.sides.value.0 c.in-Fork.sides.value.1 c.args.self.now c.in-Fork.is first in
+    over test (subst (λ (n : Node g.row.T.Denot). DoForksPass test n) (sym (same_above c.deref.ensures)) parts.2) (c.part-other.ensures.pass test second))
+
+pub returns-in-Below-clause-made : goal.returns-in-Below-clause-made
+returns-in-Below-clause-made g t c =
+    let rooms : Rooms = c.args.rooms.now in
+    let both : Scenario → Type 0 = LiesInBoth rooms in
+    let inner : Rooms = c.in-Below.inner in
+    let number : g.row.T.Denot → ℕ = g.R.Reading.number c.args.how.now.read.now in
+    let other_number : g.row.U.Denot → ℕ = g.S.Reading.number c.args.how.now.other_reading.now in
+    let makes : ℕ → g.row.V.Denot → Type 0 = λ n z. g.F.Fn.post c.args.how.now.made.now (n, tt) z in
+    let answers : g.row.T.Denot → g.row.U.Denot → g.row.V.Denot → Type 0 = λ x y z. makes (max (number x) (other_number y)) z in
+    let a : Node g.row.T.Denot = c.args.self.now in
+    let b : Node g.row.U.Denot = c.part-other.result.node.now in
+    let way : IsInner rooms (λ s. number_of s c.in-Fork.variable ≤ c.in-Fork.cut) inner = subst (IsWay rooms c.in-Fork.variable c.in-Fork.cut) c.in-Below.is c.way.ensures in
+    of_answer c.greater_by-in-Below.result (IsJoinIn answers (LiesInBoth inner) c.in-Fork.sides.value.0 b) (IsJoinIn answers both a c.args.other.node.now)
+    (subst (λ (n : Node g.row.T.Denot). IfOk c.greater_by-in-Below.result (IsJoinIn answers (LiesInBoth inner) n b)) (same_below c.deref.ensures) c.greater_by-in-Below.ensures.made)
+    (λ r made. both_whole answers rooms a c.args.other.node.now b r c.part-other.ensures.same
+    (two_below_of (λ s x z. answers x (value_at b s) z) (λ s x v. low_at b s v) (λ k s x v. high_at k b s v) both c.in-Fork.variable c.in-Fork.cut c.in-Fork.sides.value.0 c.in-Fork.sides.value.1 a c.in-Fork.is r
+    (made_narrower (LiesInBoth inner) both _ _ _ r made way.lies) way.goes))
+
+pub returns-in-Below-clause-pass : goal.returns-in-Below-clause-pass
+returns-in-Below-clause-pass g t c =
+    of_answer c.greater_by-in-Below.result _ _ c.greater_by-in-Below.ensures.pass
+    (λ r over test first second.
+    let parts = passes_parts test c.in-Fork.variable c.in-Fork.cut c.in-Fork.sides.value.0 c.in-Fork.sides.value.1 c.args.self.now c.in-Fork.is first in
+    over test (subst (λ (n : Node g.row.T.Denot). DoForksPass test n) (sym (same_below c.deref.ensures)) parts.1) (c.part-other.ensures.pass test second))
+
+pub greater_by-requires-in-Both-2 : goal.greater_by-requires-in-Both-2
+unfolding Rattle.cpg_tree.specs.declared.node.Node.TheBlock.the_depth denote.Hole.Rolled.depth denote.Hole.Carrier.fold
+greater_by-requires-in-Both-2 g t c κs within =
+    let size : Node g.row.T.Denot → ℕ = the_size g.row.T g.T.laws in
+    let number : g.row.T.Denot → ℕ = g.R.Reading.number c.args.how.now.read.now in
+    let small : size c.deref.result.now.1 < t = omega (arith, c.decreases, ap size c.in-Fork.is, ap size (same_above c.deref.ensures)) in
+    (small,
+    (within.0,
+    (within.1.0,
+    (within.1.1.0,
+    (within.1.1.1.0,
+    (within.1.1.1.1.0,
+    (within.1.1.1.1.1,
+    (c.requires.callable,
+    (c.requires.equal,
+    (c.bounds_above-in-Both.ensures _ _ _ (c.requires.own ∙ ap (bounds_in number) c.in-Fork.is) refl ∙ ap (bounds_in number) (sym (same_above c.deref.ensures)),
+    c.part-other.ensures.bounds (g.S.Reading.number c.args.how.now.other_reading.now) c.requires.others))))))))))
+
+pub returns-in_ok-high-in-Both-clause-fit : goal.returns-in_ok-high-in-Both-clause-fit
+returns-in_ok-high-in-Both-clause-fit g t c =
+    let rooms : Rooms = c.args.rooms.now in
+    let opens : AreOpen rooms c.in-Fork.variable c.in-Fork.cut = subst (IsWay rooms c.in-Fork.variable c.in-Fork.cut) c.in-Both.is c.way.ensures in
+    of_answer c.fork.result _ (IsFit rooms.asked) c.fork.ensures.fit
+    (λ r fits. fits rooms.asked opens.below opens.above
+    (subst (λ (room : Space). IsFit room c.in_ok-low-in-Both.low) c.close_above-highs.ensures.asked c.in_ok-low-in-Both.ensures.fit)
+    (subst (λ (room : Space). IsFit room c.in_ok-high-in-Both.high)
+    (c.close_below-lows.ensures.asked ∙ ap (λ (r : Rooms). above_cut r.asked c.in-Fork.variable c.in-Fork.cut)
+    (both_opened rooms c.close_above-highs.new.self c.greater_by-in-Both.new.rooms c.reopen_above.new.self c.in-Fork.variable c.close_above-highs.result c.close_above-highs.ensures.back c.in_ok-low-in-Both.ensures.back c.reopen_above.ensures))
+    c.in_ok-high-in-Both.ensures.fit))

@@ -1,0 +1,124 @@
+//! Two spaces at once: the scenarios that are asked for, and those that come to a place of a tree.
+ghost use Rattle.std.specs.Prelude.{◌≡◌, ◌≤◌, ◌<◌, true};
+ghost use Rattle.cpg_base.specs.Scenario.{Scenario, number_of};
+ghost use Rattle.cpg_tree.specs.Asked.{IsWay, LiesInBoth, lowered, raised_back};
+ghost use Rattle.cpg_tree.specs.Space.{above_cut, below_cut, is_open_above, is_open_below};
+
+use crate::space::{Lifted, Space};
+
+/// The scenarios that are asked for, and those that the forks on the way to a place of a tree leave.
+#[derive(Clone, Copy)]
+pub(crate) struct Rooms {
+    pub(crate) asked: Space,
+    pub(crate) walked: Space,
+}
+
+/// The greatest numbers of a variable in both spaces.
+#[derive(Clone, Copy)]
+pub(crate) struct Highs {
+    asked: u8,
+    walked: u8,
+}
+
+/// The lows of a variable in both spaces, with the faults that were left.
+#[derive(Clone, Copy)]
+pub(crate) struct Lows {
+    asked: Lifted,
+    walked: Lifted,
+}
+
+/// Where the scenarios asked for go at a fork.
+#[derive(Drop)]
+pub(crate) enum Way {
+    /// All below it, in these spaces.
+    Below(Rooms),
+    /// All above it, in these spaces.
+    Above(Rooms),
+    /// Both ways, as far as the spaces tell.
+    Both,
+}
+
+impl Rooms {
+    /// Leaves the scenarios up to a cut; the highs that it had.
+    pub(crate) fn close_above(&mut self, variable: u8, cut: u8) -> Highs
+        ensures asked { self.new.asked ≡ below_cut self.old.asked variable cut }
+        ensures back { lowered self.new variable result ≡ self.old }
+        ensures lies { (s : Scenario) → LiesInBoth self.old s → number_of s variable ≤ cut → LiesInBoth self.new s }
+    {
+        Highs {
+            asked: self.asked.close_above(variable, cut),
+            walked: self.walked.close_above(variable, cut),
+        }
+    }
+
+    /// Gives the highs back.
+    pub(crate) fn reopen_above(&mut self, variable: u8, highs: Highs)
+        ensures { self.new ≡ lowered self.old variable highs }
+    {
+        self.asked.reopen_above(variable, highs.asked);
+        self.walked.reopen_above(variable, highs.walked);
+    }
+
+    /// Leaves the scenarios above a cut; the lows that it had.
+    pub(crate) fn close_below(&mut self, variable: u8, cut: u8) -> Lows
+        requires below { is_open_below self.old.asked variable cut ≡ true }
+        requires above { is_open_above self.old.asked variable cut ≡ true }
+        requires walked_below { is_open_below self.old.walked variable cut ≡ true }
+        requires walked_above { is_open_above self.old.walked variable cut ≡ true }
+        ensures asked { self.new.asked ≡ above_cut self.old.asked variable cut }
+        ensures back { raised_back self.new variable result ≡ self.old }
+        ensures lies { (s : Scenario) → LiesInBoth self.old s → cut < number_of s variable → LiesInBoth self.new s }
+    {
+        Lows {
+            asked: self.asked.close_below(variable, cut),
+            walked: self.walked.close_below(variable, cut),
+        }
+    }
+
+    /// Gives the lows back.
+    pub(crate) fn reopen_below(&mut self, variable: u8, lows: Lows)
+        ensures { self.new ≡ raised_back self.old variable lows }
+    {
+        self.asked.reopen_below(variable, lows.asked);
+        self.walked.reopen_below(variable, lows.walked);
+    }
+
+    /// The scenarios walked alone up to a cut.
+    fn walked_below(mut self, variable: u8, cut: u8) -> Rooms
+        ensures asked { result.asked ≡ self.asked }
+        ensures lies { (s : Scenario) → LiesInBoth self s → number_of s variable ≤ cut → LiesInBoth result s }
+    {
+        let _high = self.walked.close_above(variable, cut);
+        self
+    }
+
+    /// The scenarios walked alone above a cut.
+    fn walked_above(mut self, variable: u8, cut: u8) -> Rooms
+        requires below { is_open_below self.walked variable cut ≡ true }
+        requires above { is_open_above self.walked variable cut ≡ true }
+        ensures asked { result.asked ≡ self.asked }
+        ensures lies { (s : Scenario) → LiesInBoth self s → cut < number_of s variable → LiesInBoth result s }
+    {
+        let _low = self.walked.close_below(variable, cut);
+        self
+    }
+
+    /// Where the scenarios asked for go at a fork, with the spaces that are left where they all go one way.
+    pub(crate) fn way(&self, variable: u8, cut: u8) -> Way
+        ensures { IsWay self.now variable cut result }
+    {
+        if !self.walked.is_open_below(variable, cut) {
+            return Way::Above(*self);
+        }
+        if !self.walked.is_open_above(variable, cut) {
+            return Way::Below(*self);
+        }
+        if !self.asked.is_open_below(variable, cut) {
+            return Way::Above(self.walked_above(variable, cut));
+        }
+        if !self.asked.is_open_above(variable, cut) {
+            return Way::Below(self.walked_below(variable, cut));
+        }
+        Way::Both
+    }
+}
