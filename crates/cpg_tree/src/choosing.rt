@@ -83,7 +83,8 @@ impl Node<bool> {
         requires equal { (x y : V) → V.eq x y ≡ true → x ≡ y }
         requires own { pair.now.own.bounds.now ≡ bounds_in (R.number how.now.read.now) pair.now.own.node.now }
         requires others { pair.now.other.bounds.now ≡ bounds_in (S.number how.now.other_reading.now) pair.now.other.node.now }
-        ensures made { IfOk result (IsJoinWhereOf (λ x y z. F.post how.now.made.now (max (R.number how.now.read.now x) (S.number how.now.other_reading.now y)) z)
+        ensures made { IfOk result (IsJoinWhereOf
+            (λ x y z. F.post how.now.made.now (max (R.number how.now.read.now x) (S.number how.now.other_reading.now y)) z)
             none (LiesInBoth rooms.old) self.now pair.now.own.node.now pair.now.other.node.now) }
         ensures back { IfOk result (λ _. rooms.new ≡ rooms.old) }
         ensures fit { IfOk result (IsFit rooms.old.asked) }
