@@ -16,3 +16,4 @@ pub mod Demands
 pub mod OnePath
 pub mod AtLeast
 pub mod Readings
+pub mod Where

@@ -1,4 +1,5 @@
 pub mod Asked
+pub mod Choosing
 pub mod Space
 pub mod Decision
 pub mod Results

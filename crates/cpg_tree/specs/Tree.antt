@@ -50,6 +50,11 @@ pub record IsAsWideAsBoth (k : ℕ) (wide : List Literal) (a b : List Literal) :
   pub low : (v : ℕ) → low_in wide v ≤ max (low_in a v) (low_in b v)
   pub high : (v : ℕ) → min (high_in k a v) (high_in k b v) ≤ high_in k wide v
 
+-- the first cube's range of each variable contains what the ranges of three cubes have in common
+pub record IsAsWideAsAll (k : ℕ) (wide : List Literal) (a b c : List Literal) : Type 0 where
+  pub low : (v : ℕ) → low_in wide v ≤ max (low_in a v) (max (low_in b v) (low_in c v))
+  pub high : (v : ℕ) → min (high_in k a v) (min (high_in k b v) (high_in k c v)) ≤ high_in k wide v
+
 -- the value of the path of a scenario
 pub record IsValueAt {T : Type 0} (t : TreeState T) (s : Scenario) (x : T) : Type 0 where
   pub of_path : (path : Path T) → IsOn t.paths s path → x ≡ path.1
@@ -79,6 +84,16 @@ pub record IsPick {T : Type 0} (chooser : TreeState Bool) (on off r : TreeState 
       IsOn (if c.1 then on.paths else off.paths) s x → IsOn r.paths s z → z.1 ≡ x.1
   pub ranges : (s : Scenario) (c : Path Bool) (x z : Path T) → HasFew chooser.faults s → IsOn chooser.paths s c →
       IsOn (if c.1 then on.paths else off.paths) s x → IsOn r.paths s z → IsAsWideAsBoth chooser.faults z.0 c.0 x.0
+
+-- in each scenario an answer of the function to the values there where a chooser is true, and one value elsewhere
+pub record IsJoinWhere {T U V : Type 0} (answers : T → U → V → Type 0) (none : V) (chooser : TreeState Bool) (a : TreeState T) (b : TreeState U) (r : TreeState V) : Type 0 where
+  pub faults : r.faults ≡ chooser.faults
+  pub on : (s : Scenario) (c : Path Bool) (x : Path T) (y : Path U) (z : Path V) → HasFew chooser.faults s → IsOn chooser.paths s c → c.1 ≡ true →
+      IsOn a.paths s x → IsOn b.paths s y → IsOn r.paths s z → answers x.1 y.1 z.1
+  pub on_ranges : (s : Scenario) (c : Path Bool) (x : Path T) (y : Path U) (z : Path V) → HasFew chooser.faults s → IsOn chooser.paths s c → c.1 ≡ true →
+      IsOn a.paths s x → IsOn b.paths s y → IsOn r.paths s z → IsAsWideAsAll chooser.faults z.0 c.0 x.0 y.0
+  pub off : (s : Scenario) (c : Path Bool) (z : Path V) → HasFew chooser.faults s → IsOn chooser.paths s c → c.1 ≡ false → IsOn r.paths s z → z.1 ≡ none
+  pub off_ranges : (s : Scenario) (c : Path Bool) (z : Path V) → HasFew chooser.faults s → IsOn chooser.paths s c → c.1 ≡ false → IsOn r.paths s z → IsAsWide chooser.faults z.0 c.0
 
 -- in each scenario the number of a variable, by forks on that variable alone
 pub record IsNumber {T : Type 0} (v k : ℕ) (number : T → ℕ) (t : TreeState T) : Type 0 where

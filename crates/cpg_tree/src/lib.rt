@@ -3,11 +3,11 @@
 
 mod asked;
 mod bounds;
+mod choosing;
 mod greater;
 mod node;
 mod picking;
 mod reading;
-
 mod space;
 mod tally;
 mod tree;
