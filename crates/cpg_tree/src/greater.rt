@@ -7,10 +7,10 @@ ghost use Rattle.cpg_tree.specs.Space.{Lies};
 ghost use Rattle.cpg_tree.specs.Decision.{DoForksPass, IsFit, value_at};
 ghost use Rattle.cpg_tree.specs.Bounds.{bounds_in};
 
+use crate::asked::{Rooms, Way};
 use crate::bounds::{Bound, bounds_above, bounds_below};
 use crate::node::Node;
 use crate::reading::Reading;
-use crate::asked::{Rooms, Way};
 use crate::space::Space;
 use cpg_base::OutOfMemory;
 use std::alloc::Global;
@@ -147,9 +147,13 @@ impl<T: Copy> Node<T> {
         match self {
             Node::Leaf(value) => {
                 let number = how.read.number(*value);
-                other
-                    .node
-                    .made_at_least(alloc, &mut rooms.asked, number, how.other_reading, how.made)
+                other.node.made_at_least(
+                    alloc,
+                    &mut rooms.asked,
+                    number,
+                    how.other_reading,
+                    how.made,
+                )
             }
             Node::Fork {
                 variable,
@@ -166,12 +170,16 @@ impl<T: Copy> Node<T> {
                     }
                     Way::Both => {
                         let highs = rooms.close_above(*variable, *cut);
-                        let low =
-                            below.greater_by(alloc, rooms, bounds_below(bounds), other, how)?;
+                        let low = below.greater_by(alloc, rooms, bounds_below(bounds), other, how)?;
                         rooms.reopen_above(*variable, highs);
                         let lows = rooms.close_below(*variable, *cut);
-                        let high =
-                            above.greater_by(alloc, rooms, bounds_above(bounds), other, how)?;
+                        let high = above.greater_by(
+                            alloc,
+                            rooms,
+                            bounds_above(bounds),
+                            other,
+                            how,
+                        )?;
                         rooms.reopen_below(*variable, lows);
                         Node::fork(alloc, *variable, *cut, low, high)
                     }

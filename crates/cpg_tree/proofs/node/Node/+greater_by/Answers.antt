@@ -148,18 +148,37 @@ unfolding Rattle.cpg_tree.specs.declared.node.Node.TheBlock.the_depth denote.Hol
 greater_by-requires-in-Both-2 g t c κs within =
     let size : Node g.row.T.Denot → ℕ = the_size g.row.T g.T.laws in
     let number : g.row.T.Denot → ℕ = g.R.Reading.number c.args.how.now.read.now in
-    let small : size c.deref.result.now.1 < t = omega (arith, c.decreases, ap size c.in-Fork.is, ap size (same_above c.deref.ensures)) in
-    (small,
-    (within.0,
-    (within.1.0,
-    (within.1.1.0,
-    (within.1.1.1.0,
-    (within.1.1.1.1.0,
-    (within.1.1.1.1.1,
-    (c.requires.callable,
-    (c.requires.equal,
-    (c.bounds_above-in-Both.ensures _ _ _ (c.requires.own ∙ ap (bounds_in number) c.in-Fork.is) refl ∙ ap (bounds_in number) (sym (same_above c.deref.ensures)),
-    c.part-other.ensures.bounds (g.S.Reading.number c.args.how.now.other_reading.now) c.requires.others))))))))))
+    let small : size c.deref.result.now.1 < t = omega (arith, c.decreases, ap size c.in-Fork.is, ap size (same_above c.deref.ensures)) in (
+      small,
+      (
+        within.0,
+        (
+          within.1.0,
+          (
+            within.1.1.0,
+            (
+              within.1.1.1.0,
+              (
+                within.1.1.1.1.0,
+                (
+                  within.1.1.1.1.1,
+                  (
+                    c.requires.callable,
+                    (
+                      c.requires.equal,
+                      (
+                        c.bounds_above-in-Both.ensures _ _ _ (c.requires.own ∙ ap (bounds_in number) c.in-Fork.is) refl ∙ ap (bounds_in number) (sym (same_above c.deref.ensures)),
+                        c.part-other.ensures.bounds (g.S.Reading.number c.args.how.now.other_reading.now) c.requires.others,
+                      ),
+                    ),
+                  ),
+                ),
+              ),
+            ),
+          ),
+        ),
+      ),
+    )
 
 pub returns-in_ok-high-in-Both-clause-fit : goal.returns-in_ok-high-in-Both-clause-fit
 returns-in_ok-high-in-Both-clause-fit g t c =
