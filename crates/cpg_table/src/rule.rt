@@ -1,5 +1,5 @@
 //! The rules of valid tables.
-ghost use Rattle.std.specs.Prelude.{◌≡◌, ◌≢◌, IfNone, IfSome};
+ghost use Rattle.std.specs.Prelude.{◌≡◌};
 ghost use Rattle.cpg_table.specs.Rules.{number_of_rule};
 
 /// A rule of valid tables (docs/RULES.md).
@@ -28,26 +28,6 @@ pub enum Rule {
 }
 
 impl Rule {
-    /// The rule of a number; `None` exactly where it is none from 1 to 10.
-    pub fn of(number: u8) -> Option<Rule>
-        ensures rule { IfSome result (λ r. number_of_rule r ≡ number) }
-        ensures none { IfNone result ((r : Rule) → number_of_rule r ≢ number) }
-    {
-        match number {
-            1 => Some(Rule::Activity),
-            2 => Some(Rule::Single),
-            3 => Some(Rule::Present),
-            4 => Some(Rule::Heard),
-            5 => Some(Rule::Inputs),
-            6 => Some(Rule::Processor),
-            7 => Some(Rule::Slot),
-            8 => Some(Rule::Frozen),
-            9 => Some(Rule::Due),
-            10 => Some(Rule::Hears),
-            _ => None,
-        }
-    }
-
     /// The number by which it is named, from 1 for V1 to 10 for V10.
     pub fn number(self) -> u8
         ensures { result ≡ number_of_rule self }

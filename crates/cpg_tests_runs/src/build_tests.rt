@@ -1,4 +1,4 @@
-//! The pair, built over all scenarios and by trees, worked by hand, and both builders on a graph of two nodes with a
+//! The pair, built over all scenarios, worked by hand, and both builders on a graph of two nodes with a
 //! choice, two faults, releases, deadlines and frozen items.
 ghost use Rattle.std.specs.Prelude.{◌≡◌, length};
 
@@ -69,14 +69,6 @@ fn is_pair(built: Option<&Built>) -> bool {
 fn the_pair_is_listed(rt: HostRuntime) -> Result<(), Fail> {
     let admitted = admitted(rt.alloc(), PAIR)?;
     let built = built_by_list(rt.alloc(), &admitted);
-    assert!(rt; is_pair(built.as_ref()));
-    Ok(())
-}
-
-#[test]
-fn the_pair_is_expanded(rt: HostRuntime) -> Result<(), Fail> {
-    let admitted = admitted(rt.alloc(), PAIR)?;
-    let built = built_by_trees(rt.alloc(), &admitted);
     assert!(rt; is_pair(built.as_ref()));
     Ok(())
 }

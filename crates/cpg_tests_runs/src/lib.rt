@@ -1,4 +1,4 @@
-//! Tests of what goes over scenarios: runs, lists, reaches, tracks and trees.
+//! Tests of what no case of the whole program shows: runs, lists, reaches, tracks and trees, and generated graphs.
 #![tactic(auto)]
 
 #[cfg(test)]
@@ -7,6 +7,8 @@ mod build_tests;
 mod columns;
 #[cfg(test)]
 mod fixtures;
+#[cfg(test)]
+mod generator_tests;
 #[cfg(test)]
 mod list_tests;
 #[cfg(test)]
