@@ -51,6 +51,7 @@ fn are_counts(space: &Space, literals: &[Literal]) -> bool
     are_parts(space, literals)
 }
 
+/// Whether a literal is on a variable of the tables, and its range a lawful part of the numbers of that.
 fn is_lawful(space: &Space, literal: Literal) -> bool
     requires { IsSpace space.now }
     ensures { IsTrue result → IsLawfulLiteral space.now literal }
@@ -58,6 +59,7 @@ fn is_lawful(space: &Space, literal: Literal) -> bool
     is_variable(space, literal.variable as u32) && is_range(space, literal)
 }
 
+/// Whether each literal is lawful, one after another.
 fn is_each_lawful(space: &Space, literals: &[Literal]) -> bool
     requires { IsSpace space.now }
     ensures { OnTrue result (All (IsLawfulLiteral space.now) literals.now) }

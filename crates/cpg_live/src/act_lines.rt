@@ -22,6 +22,7 @@ fn append(out: &mut Vec<u8>, bytes: &[u8])
     ensures len { vec_len out.new ≡ vec_len out.old + length bytes.now }
     ensures room { vec_capacity out.old ≤ vec_capacity out.new }
 {
+    // as there is room, it can't want memory
     let _done = out.extend_from_slice(bytes);
 }
 
