@@ -3,7 +3,7 @@ ghost use Rattle.std.specs.Prelude.{◌≡◌, ◌<◌, ℕ, All, Contains, IfOk
 ghost use Rattle.std.specs.Bool.{OnTrue};
 ghost use Rattle.cpg_base.specs.Graph.{Graph, IsVariable, item_count, process_count};
 ghost use Rattle.cpg_base.specs.Scenario.{Scenario, IsScenario};
-ghost use Rattle.cpg_cube.specs.Cube.{matches};
+ghost use Rattle.cpg_cube.specs.Cube.{IsRising, matches};
 ghost use Rattle.cpg_table.specs.Table.{NodeTable, columns_of};
 ghost use Rattle.cpg_table.specs.declared.rule.Rule.{Rule};
 ghost use Rattle.cpg_tree.specs.Space.{Lies};
@@ -19,7 +19,7 @@ use crate::bounds::list_unknown;
 use crate::speakers::Speaker;
 use crate::turns::Turns;
 use cpg_base::{OutOfMemory, Problem, Variable};
-use cpg_cube::{Entry, Literal, VARIABLES};
+use cpg_cube::{Cube, Entry, Literal, VARIABLES};
 use cpg_rules::Admitted;
 use cpg_tree::Space;
 use std::alloc::Global;
@@ -130,12 +130,50 @@ fn are_known(known: &[bool; VARIABLES], literals: &[Literal]) -> bool
     are_known
 }
 
+/// Whether the variables of literals that rise are all below one, by the last.
+fn are_below(literals: &[Literal], variable: usize) -> bool
+    requires { IsRising literals.now }
+    ensures { OnTrue result (All (λ l. l.variable < variable) literals.now) }
+{
+    match literals.last() {
+        Some(last) => (last.variable as usize) < variable,
+        None => true,
+    }
+}
+
+/// How many variables from the first on are marked without a gap.
+fn marked_from_start(known: &[bool; VARIABLES]) -> usize
+    ensures marked { (v : ℕ) → v < result → get_or known.now v false ≡ true }
+    ensures gap { get_or known.now result false ≡ false }
+{
+    for variable in 0..VARIABLES {
+        if !known[variable] {
+            return variable;
+        }
+    }
+    VARIABLES
+}
+
+/// Whether all literals of a cube are, with the first so many variables marked: at once where the last literal is on one of
+/// these, as the variables rise.
+fn is_cube_known(known: &[bool; VARIABLES], first: usize, cube: &Cube) -> bool
+    requires { (v : ℕ) → v < first → get_or known.now v false ≡ true }
+    ensures { OnTrue result (All (λ l. get_or known.now l.variable false ≡ true) cube.now) }
+{
+    let literals = cube.literals();
+    if are_below(literals, first) {
+        return true;
+    }
+    are_known(known, literals)
+}
+
 /// Whether all literals of all these columns are.
 pub(crate) fn are_all_known(known: &[bool; VARIABLES], columns: &[Entry]) -> bool
     ensures { OnTrue result (All (λ c. All (λ l. get_or known.now l.variable false ≡ true) c.cube) columns.now) }
 {
+    let first = marked_from_start(known);
     for column in columns {
-        if !are_known(known, column.cube.literals()) {
+        if !is_cube_known(known, first, &column.cube) {
             return false;
         }
     }
