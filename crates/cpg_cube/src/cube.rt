@@ -63,11 +63,14 @@ impl Narrowing {
 fn do_variables_rise(literals: &[Literal]) -> bool
     ensures { result ≡ rises_from 0 literals.now }
 {
+    let Some((first, rest)) = literals.split_first() else {
+        return true;
+    };
     let mut do_rise = true;
-    let mut least: u32 = 0;
-    for literal in literals {
-        do_rise &= least <= u32::from(literal.variable);
-        least = u32::from(literal.variable) + 1;
+    let mut before = first.variable;
+    for literal in rest {
+        do_rise &= before < literal.variable;
+        before = literal.variable;
     }
     do_rise
 }
