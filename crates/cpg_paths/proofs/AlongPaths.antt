@@ -1,5 +1,5 @@
 -- The columns of a tree whose forks stand along an order stand by their least scenarios.
-use Rattle.std.proofs.Common.{ℕ, ◌+◌, ◌<◌, ◌≤◌, ◌≡◌, ◌≢◌, min, max, false, Option, None, Some, List, [], ◌∷◌, ◌++◌, get_or, Contains, arith, sym, ap, ap₂, ◌∙◌, subst, inl, inr}
+use Rattle.std.proofs.Common.{ℕ, ◌<◌, ◌≤◌, ◌≡◌, ◌≢◌, false, Option, None, Some, List, [], ◌∷◌, get_or, Contains, arith, sym, ap, ap₂, ◌∙◌, subst, inl, inr}
 use Rattle.std.specs.List.{AllPairs}
 use Rattle.std.proofs.lemmas.Bool.{cases_eq}
 use Rattle.std.proofs.lemmas.List.Elements.{Contains-append_cases, Contains-append_left, Contains-append_right}

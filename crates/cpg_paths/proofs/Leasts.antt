@@ -35,11 +35,11 @@ from_time cube (Some t) c j = elim (Contains-cases (record { time = t; cube = cu
 ]
 
 module _ (paths : List (Path (Option ℕ))) (columns : List Column) (p : IsPermutation (columns_of_paths paths) columns) where
-  column_there : (x : Path (Option ℕ)) (time : ℕ) → Contains paths x → x.1 ≡ Some time → Contains columns (record { time = time; cube = x.0 })
+  pub column_there : (x : Path (Option ℕ)) (time : ℕ) → Contains paths x → x.1 ≡ Some time → Contains columns (record { time = time; cube = x.0 })
   column_there x time j e = Contains-permutation (columns_of_paths paths) columns (record { time = time; cube = x.0 }) p
       (Contains-flat_map (λ (p : Path (Option ℕ)). column_of p.0 p.1) paths x (record { time = time; cube = x.0 }) j (subst (λ o. Contains (column_of x.0 o) (record { time = time; cube = x.0 })) (sym e) (of_time x.0 time)))
 
-  path_there : (c : Column) → Contains columns c → (x : Path (Option ℕ)) × Contains paths x × (x.1 ≡ Some c.time) × (x.0 ≡ c.cube)
+  pub path_there : (c : Column) → Contains columns c → (x : Path (Option ℕ)) × Contains paths x × (x.1 ≡ Some c.time) × (x.0 ≡ c.cube)
   path_there c j =
       let back = Contains-permutation columns (columns_of_paths paths) c (IsPermutation-sym (columns_of_paths paths) columns p) j in
       let f = Contains-flat_map_parts (λ (p : Path (Option ℕ)). column_of p.0 p.1) paths c back in

@@ -1,5 +1,5 @@
--- The greatest number of a tree is that of the tree of this number alone.
-use Rattle.std.proofs.Common.{ℕ, ◌≤◌, ◌≡◌, ◌⊎◌, ◌==◌, max, List, [], length, filter, get_or, Option, Some, None, unwrap_or, All, Contains, arith, refl, sym, ap, ◌∙◌, subst, inl, inr, eq-eqb, ne_eqb}
+-- The greatest number of a tree; the least scenario of a number is that of the tree of this number alone.
+use Rattle.std.proofs.Common.{ℕ, ◌≤◌, ◌≡◌, ◌≢◌, ◌⊎◌, ◌==◌, max, List, [], length, filter, get_or, Option, Some, None, unwrap_or, All, Contains, arith, refl, sym, ap, ◌∙◌, subst, inl, inr, eq-eqb, ne_eqb}
 use Rattle.std.specs.Option.{IfNone, IfSome}
 use Rattle.std.proofs.lemmas.Bool.{cases_eq, cases_lt, cond-true, cond-false}
 use Rattle.std.proofs.lemmas.List.Elements.{All-contains, Contains-append_left, Contains-append_right, Contains-append_cases, Contains-get_or}
@@ -79,15 +79,20 @@ no_most k node none p c = by_value p.1 refl
     by_value None e = refl
     by_value (Some n) e = absurd (subst (λ o. IsUnder o n) none (under_most k node [] p n c e))
 
+-- some scenario has the number of a path
+path_reached : (g : Graph) (node : Node (Option ℕ)) → IsGood g.faults node → (m : ℕ) → process_count g ≤ 128 → All (λ p. IsKnown g p.0) (paths_of g.faults node) → (p : Path (Option ℕ)) → Contains (paths_of g.faults node) p → p.1 ≡ Some m → IsReached g (paths_of g.faults node) m
+path_reached g node good m processes known p there is =
+    let paths = paths_of g.faults node in
+    let column : Contains (columns_of_paths paths) (record { time = m; cube = p.0 }) = Contains-flat_map (λ (p : Path (Option ℕ)). column_of p.0 p.1) paths p (record { time = m; cube = p.0 }) there (subst (λ o. Contains (column_of p.0 o) (record { time = m; cube = p.0 })) (sym is) (Contains-first (record { time = m; cube = p.0 }) [])) in
+    let tidy = All-contains (IsTidyColumn g) (columns_of_paths paths) (record { time = m; cube = p.0 }) (tidy_columns g processes node good known (columns_of_paths paths) (IsPermutation-refl (columns_of_paths paths))) column in
+    let least = lows-least g processes p.0 tidy.cube tidy.met [] in
+    record { scenario = lows g p.0; lawful = least.lawful; has = (p, record { stands = there; matched = least.holds }, is) }
+
 -- some scenario has the greatest
 most_reached : (g : Graph) (node : Node (Option ℕ)) → IsGood g.faults node → (m : ℕ) → most_of node ≡ Some m → process_count g ≤ 128 → All (λ p. IsKnown g p.0) (paths_of g.faults node) → IsReached g (paths_of g.faults node) m
 most_reached g node good m most processes known =
-    let paths = paths_of g.faults node in
     let x = most_there g.faults node [] m most in
-    let column : Contains (columns_of_paths paths) (record { time = m; cube = x.0.0 }) = Contains-flat_map (λ (p : Path (Option ℕ)). column_of p.0 p.1) paths x.0 (record { time = m; cube = x.0.0 }) x.1 (subst (λ o. Contains (column_of x.0.0 o) (record { time = m; cube = x.0.0 })) (sym x.2) (Contains-first (record { time = m; cube = x.0.0 }) [])) in
-    let tidy = All-contains (IsTidyColumn g) (columns_of_paths paths) (record { time = m; cube = x.0.0 }) (tidy_columns g processes node good known (columns_of_paths paths) (IsPermutation-refl (columns_of_paths paths))) column in
-    let least = lows-least g processes x.0.0 tidy.cube tidy.met [] in
-    record { scenario = lows g x.0.0; lawful = least.lawful; has = (x.0, record { stands = x.1; matched = least.holds }, x.2) }
+    path_reached g node good m processes known x.0 x.1 x.2
 
 most_is : (k : ℕ) (node : Node (Option ℕ)) → IsGood k node → (m : ℕ) → most_of node ≡ Some m → IsMost (record { faults = k; paths = paths_of k node }) m
 most_is k node good m most = record {
@@ -107,7 +112,18 @@ pub most_some : (k : ℕ) (node : Node (Option ℕ)) → IsGood k node → (o : 
 most_some k node good None e = tt
 most_some k node good (Some m) e = most_is k node good m (sym e)
 
--- ---- the tree of the greatest alone
+-- ---- the greatest with its least scenario
+
+-- some path has it
+pub not_without : (k : ℕ) (node : Node (Option ℕ)) (m : ℕ) → most_of node ≡ Some m → All (λ (p : Path (Option ℕ)). p.1 ≢ Some m) (paths_of k node) → ⊥
+not_without k node m most none =
+    let x = most_there k node [] m most in
+    All-contains (λ (p : Path (Option ℕ)). p.1 ≢ Some m) (paths_of k node) x.0 none x.1 x.2
+
+pub greatest_of : (g : Graph) (order : List ℕ) (k : ℕ) (node : Node (Option ℕ)) (m : ℕ) → most_of node ≡ Some m → (s : Scenario) → IsLeast g order (HasValue (paths_of k node) (Some m)) s → IsGreatestOf g order (paths_of k node) m s
+greatest_of g order k node m most s least = record { most = λ p n c e. subst (λ o. IsUnder o n) most (under_most k node [] p n c e); least = least }
+
+-- ---- the tree of one number alone
 
 kept_same : (m : ℕ) → kept m (Some m) ≡ Some m
 kept_same m = cond-true (m == m) (Some m) None (eq-eqb m m refl)
@@ -121,7 +137,7 @@ kept_is m (Some x) n e = elim (cases_eq x m) [
   | inr differs ↦ absurd (none-some n (sym (cond-false (x == m) (Some x) None (ne_eqb x m differs)) ∙ e))
 ]
 
-module _ (g : Graph) (node : Node (Option ℕ)) (good : IsGood g.faults node) (m : ℕ) (most : most_of node ≡ Some m) (all only : TreeState (Option ℕ)) (is : record { faults = g.faults; paths = paths_of g.faults node } ≡ all)
+module _ (g : Graph) (node : Node (Option ℕ)) (good : IsGood g.faults node) (m : ℕ) (all only : TreeState (Option ℕ)) (is : record { faults = g.faults; paths = paths_of g.faults node } ≡ all)
     (each : HasOnePathEach g.faults only.paths) (map : IsMap (λ x z. z ≡ kept m x) all only) where
   few : (s : Scenario) → IsScenario g s → HasFew all.faults s
   few s law = subst (λ n. HasFew n s) (ap (λ (t : TreeState (Option ℕ)). t.faults) is) (scenario_few g s law)
@@ -129,30 +145,38 @@ module _ (g : Graph) (node : Node (Option ℕ)) (good : IsGood g.faults node) (m
   path_of : (s : Scenario) → IsScenario g s → (x : Path (Option ℕ)) × IsOn all.paths s x
   path_of s law = the_path g.faults all.paths (λ u f. subst (λ (t : TreeState (Option ℕ)). length (filter (is_on u) t.paths) ≡ 1) is (one_path g.faults node good u f)) s (scenario_few g s law)
 
-  -- where the tree has the greatest, so has the other
+  -- where the tree has the number, so has the other
   alone : (s : Scenario) → IsScenario g s → HasValue all.paths (Some m) s → HasValue only.paths (Some m) s
   alone s law has =
       let z = the_path g.faults only.paths each s (scenario_few g s law) in
       (z.0, z.1, map.value s has.0 z.0 (few s law) has.1 z.1 ∙ ap (kept m) has.2 ∙ kept_same m)
 
   -- the least scenario of the one is that of the other
-  pub least_alone : (order : List ℕ) (s : Scenario) → IsLeast g order (HasNumber only.paths) s → IsGreatestOf g order all.paths m s
+  least_alone : (order : List ℕ) (s : Scenario) → IsLeast g order (HasNumber only.paths) s → IsLeast g order (HasValue all.paths (Some m)) s
   least_alone order s h =
       let z = h.holds.has in
       let x = path_of s h.lawful in
       let parts = kept_is m x.0.1 h.holds.number (sym (map.value s x.0 z.0 (few s h.lawful) x.1 z.1) ∙ z.2) in
       record {
-        most = λ p n c e. subst (λ o. IsUnder o n) most (under_most g.faults node [] p n (subst (λ (t : TreeState (Option ℕ)). Contains t.paths p) (sym is) c) e);
-        least = record {
-          lawful = h.lawful;
-          holds = (x.0, x.1, parts.0);
-          least = λ u law has. h.least u law (record { number = m; has = alone u law has });
-        };
+        lawful = h.lawful;
+        holds = (x.0, x.1, parts.0);
+        least = λ u law has. h.least u law (record { number = m; has = alone u law has });
       }
 
-  -- some scenario has it
-  pub some_alone : process_count g ≤ 128 → All (λ p. IsKnown g p.0) (paths_of g.faults node) → All (λ (p : Path (Option ℕ)). p.1 ≡ None) only.paths → ⊥
-  some_alone processes known none =
-      let r = most_reached g node good m most processes known in
+  -- where the other has no number, no path has it
+  none_alone : process_count g ≤ 128 → All (λ p. IsKnown g p.0) (paths_of g.faults node) → All (λ (p : Path (Option ℕ)). p.1 ≡ None) only.paths → All (λ (p : Path (Option ℕ)). p.1 ≢ Some m) all.paths
+  none_alone processes known none i d l e =
+      let there = subst (λ (t : TreeState (Option ℕ)). Contains t.paths (get_or all.paths i d)) (sym is) (Contains-get_or all.paths i d l) in
+      let r = path_reached g node good m processes known (get_or all.paths i d) there e in
       let z = alone r.scenario r.lawful (subst (λ (t : TreeState (Option ℕ)). HasValue t.paths (Some m) r.scenario) is r.has) in
       none-some m (sym (All-contains (λ (p : Path (Option ℕ)). p.1 ≡ None) only.paths z.0 none z.1.stands) ∙ z.2)
+
+  -- ---- as what a call answers
+
+  pub listed_none : process_count g ≤ 128 → All (λ p. IsKnown g p.0) (paths_of g.faults node) → (o : Option Scenario) → IfNone o (All (λ (p : Path (Option ℕ)). p.1 ≡ None) only.paths) → IfNone o (All (λ (p : Path (Option ℕ)). p.1 ≢ Some m) all.paths)
+  listed_none processes known None h = none_alone processes known h
+  listed_none processes known (Some s) h = tt
+
+  pub listed_some : (order : List ℕ) (o : Option Scenario) → IfSome o (IsLeast g order (HasNumber only.paths)) → IfSome o (IsLeast g order (HasValue all.paths (Some m)))
+  listed_some order None h = tt
+  listed_some order (Some s) h = least_alone order s h

@@ -1,5 +1,5 @@
 -- Trees whose columns stand by their least scenarios as they are found.
-use Rattle.std.specs.Prelude.{ℕ, ◌≡◌, ◌≢◌, ◌≤◌, List, get_or}
+use Rattle.std.specs.Prelude.{ℕ, ◌≢◌, ◌≤◌, List, get_or}
 use Rattle.cpg_tree.specs.declared.node.Node.{Node, Leaf, Fork'}
 
 -- on each way down the variables of the forks have places left, none more than the one before

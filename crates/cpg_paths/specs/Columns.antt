@@ -1,5 +1,5 @@
 -- The columns of a tree of times: the paths with a number.
-use Rattle.std.specs.Prelude.{ℕ, ◌≡◌, ◌≤◌, true, false, Option, None, Some, List, [], ◌∷◌, ◌++◌, All}
+use Rattle.std.specs.Prelude.{ℕ, ◌≡◌, ◌≤◌, ◌==◌, if◌then◌else◌, true, false, Option, None, Some, List, [], ◌∷◌, ◌++◌, All}
 use Rattle.std.specs.List.{flat_map}
 use Rattle.std.specs.Option.{option_map_or}
 use Rattle.cpg_cube.specs.declared.literal.Literal.{Literal}
@@ -28,6 +28,11 @@ columns_from k cube (Leaf x) = column_of cube x
 columns_from k cube (Fork' v cut p below upper) =
     option_map_or (λ c. columns_from k c below) (with_literal (up_to v cut) cube) []
     ++ option_map_or (λ c. columns_from k c upper) (with_literal (above k v cut) cube) []
+
+-- the cube of the first column with a time
+abbrev pub first_with : ℕ → List Column → Option (List Literal)
+first_with wanted [] = None
+first_with wanted (c ∷ cs) = if c.time == wanted then Some c.cube else first_with wanted cs
 
 -- a column of the graph that some scenario matches, with no literal of a whole range or past one
 pub record IsTidyColumn (g : Graph) (c : Column) : Type 0 where

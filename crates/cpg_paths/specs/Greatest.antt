@@ -1,8 +1,12 @@
 -- The greatest number of a tree of times, with the first scenario that has it.
-use Rattle.std.specs.Prelude.{ℕ, ◌≡◌, ◌≤◌, ◌==◌, max, if◌then◌else◌, Option, Some, None, List, Contains, All}
+use Rattle.std.specs.Prelude.{ℕ, ◌≡◌, ◌≤◌, ◌==◌, max, if◌then◌else◌, Option, Some, None, List, Contains, All, IsPermutation}
 use Rattle.cpg_base.specs.Graph.{Graph, process_count}
 use Rattle.cpg_base.specs.Scenario.{Scenario, IsScenario, IsLeast}
+use Rattle.cpg_base.specs.Numbers.{numbers_below}
+use Rattle.cpg_cube.specs.Column.{Column}
 use Rattle.cpg_cube.specs.Fit.{IsKnown}
+use Rattle.cpg_cube.specs.Keys.{AreByLows}
+use Rattle.cpg_paths.specs.Columns.{columns_of_paths}
 use Rattle.cpg_tree.specs.declared.node.Node.{Node, Leaf, Fork'}
 use Rattle.cpg_tree.specs.Tree.{Path, TreeState, IsOn}
 
@@ -19,6 +23,11 @@ pub record IsGreatestOf (g : Graph) (order : List ℕ) (paths : List (Path (Opti
 pub record HasNumber (paths : List (Path (Option ℕ))) (s : Scenario) : Type 0 where
   pub number : ℕ
   pub has : HasValue paths (Some number) s
+
+-- no earlier scenario has the number in an order along which the columns stand
+abbrev pub IsLeastWhereSorted : Graph → List (Path (Option ℕ)) → ℕ → Scenario → Type 0
+IsLeastWhereSorted g paths number s = (order : List ℕ) → IsPermutation (numbers_below (process_count g)) order →
+    AreByLows (λ (c : Column). c.cube) g order (columns_of_paths paths) → IsLeast g order (HasValue paths (Some number)) s
 
 -- some scenario has the number
 pub record IsReached (g : Graph) (paths : List (Path (Option ℕ))) (number : ℕ) : Type 0 where

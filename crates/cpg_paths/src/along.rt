@@ -1,13 +1,22 @@
 //! Whether the columns of a tree stand by their least scenarios as they are found.
+ghost use Rattle.std.specs.Prelude.{IfOk, IsPermutation};
 ghost use Rattle.std.specs.Bool.{OnTrue};
+ghost use Rattle.cpg_base.specs.Graph.{process_count};
+ghost use Rattle.cpg_base.specs.Numbers.{numbers_below};
+ghost use Rattle.cpg_cube.specs.Keys.{AreByLows};
 ghost use Rattle.cpg_paths.specs.Along.{IsAlong};
+ghost use Rattle.cpg_paths.specs.Columns.{columns_of_paths};
 
-use cpg_cube::VARIABLES;
-use cpg_tree::Node;
+use cpg_base::{Order, OutOfMemory, Problem};
+use cpg_cube::{VARIABLES, places_along};
+use cpg_tree::{Node, Tree};
+
+/// How many places are left at the first variable along an order.
+const FIRST: u16 = 256;
 
 /// Whether the variables of the forks on each way down a tree stand along an order, by how many places are left at each: none
 /// at more than `left`, and none at 0.
-pub(crate) fn is_along<T>(node: &Node<T>, places: &[u16; VARIABLES], left: u16) -> bool
+fn is_along<T>(node: &Node<T>, places: &[u16; VARIABLES], left: u16) -> bool
     ensures { OnTrue result (IsAlong places.now left node.now) }
 {
     match node {
@@ -31,4 +40,19 @@ pub(crate) fn is_along<T>(node: &Node<T>, places: &[u16; VARIABLES], left: u16) 
             is_along(above, places, own)
         }
     }
+}
+
+/// Whether the paths with a number are known to stand by the least scenario along the order that they match. The one error is
+/// want of memory.
+pub(crate) fn stand_along(
+    tree: &Tree<Option<u64>>,
+    problem: &Problem,
+    order: &Order,
+) -> Result<bool, OutOfMemory>
+    requires { IsPermutation (numbers_below (process_count problem.now)) order.now }
+    ensures { IfOk result (λ r. OnTrue r (AreByLows (λ c. c.cube) problem.now order.now (columns_of_paths tree.now.paths))) }
+{
+    let places = places_along(tree.alloc(), problem, order)?;
+    let stand = is_along(tree.root(), &places, FIRST);
+    Ok(stand)
 }

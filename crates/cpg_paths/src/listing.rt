@@ -8,13 +8,10 @@ ghost use Rattle.cpg_cube.specs.Keys.{AreByLows};
 ghost use Rattle.cpg_paths.specs.Columns.{columns_from, columns_of_paths, IsTidyColumn};
 ghost use Rattle.cpg_tree.specs.Decision.{HasCuts};
 
-use crate::along::is_along;
+use crate::along::stand_along;
 use cpg_base::{Order, OutOfMemory, Problem, top};
-use cpg_cube::{Cube, Entry, Listing, Literal, places_along};
+use cpg_cube::{Cube, Entry, Listing, Literal};
 use cpg_tree::{Node, Tree};
-
-/// How many places are left at the first variable along an order.
-const FIRST: u16 = 256;
 
 /// Adds the columns on from a cube, which is narrowed on the way down and restored on the way up.
 fn push_columns(
@@ -106,8 +103,7 @@ pub fn listing_along(
     ensures all { IfOk result (λ r. r.columns.items ≡ columns_of_paths tree.now.paths) }
     ensures sorted { IfOk result (λ r. OnTrue r.is_sorted (AreByLows (λ c. c.cube) problem.now order.now r.columns.items)) }
 {
-    let places = places_along(tree.alloc(), problem, order)?;
-    let is_sorted = is_along(tree.root(), &places, FIRST);
+    let is_sorted = stand_along(tree, problem, order)?;
     let columns = listed(tree, problem)?;
     Ok(Listing { columns, is_sorted })
 }

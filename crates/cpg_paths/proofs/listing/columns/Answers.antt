@@ -1,4 +1,4 @@
-use Rattle.std.proofs.Common.{◌≡◌, All, IsPermutation, subst}
+use Rattle.std.proofs.Common.{All, IsPermutation, subst}
 use Rattle.std.proofs.lemmas.List.Sorted.{All-permutation}
 use Rattle.cpg_tree.proofs.Forks.{of_answer}
 use Rattle.cpg_paths.specs.Columns.{columns_of_paths, IsTidyColumn}

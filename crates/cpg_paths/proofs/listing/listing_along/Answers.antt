@@ -1,17 +1,9 @@
-use Rattle.std.proofs.Common.{ℕ, ◌≡◌, ◌∙◌, Option, sym, ap, subst}
-use Rattle.std.proofs.lemmas.Bool.{OnTrue_at, OnTrue_from}
+use Rattle.std.proofs.Common.{List, sym, subst}
+use Rattle.std.specs.Bool.{OnTrue}
 use Rattle.cpg_cube.specs.Column.{Column}
 use Rattle.cpg_cube.specs.Keys.{AreByLows}
-use Rattle.cpg_tree.specs.declared.node.Node.{Node}
-use Rattle.cpg_paths.specs.Columns.{columns_of_paths}
-use Rattle.cpg_paths.proofs.AlongPaths.{sorted_columns}
 use Rattle.cpg_paths.proofs.listing.listing_along.Goals as goal
 
 pub returns-clause-sorted : goal.returns-clause-sorted
 returns-clause-sorted c =
-    let g = c.args.problem.now in
-    let order = c.args.order.now in
-    let k : ℕ = c.args.tree.now.faults in
-    let root : Node (Option ℕ) = c.root.result.now in
-    OnTrue_from c.is_along-is_sorted.result _ (λ t. subst (AreByLows (λ (c : Column). c.cube) g order) (ap columns_of_paths (sym c.root.ensures.paths) ∙ sym c.in_ok-columns.ensures.all)
-    (sorted_columns g order c.in_ok-places.places c.in_ok-places.ensures k root c.root.ensures.good (OnTrue_at t c.is_along-is_sorted.ensures)))
+    subst (λ (columns : List Column). OnTrue c.in_ok-is_sorted.is_sorted (AreByLows (λ (d : Column). d.cube) c.args.problem.now c.args.order.now columns)) (sym c.in_ok-columns.ensures.all) c.in_ok-is_sorted.ensures
