@@ -8,7 +8,7 @@ ghost use Rattle.cpg_cube.specs.Keys.{AreByLows};
 ghost use Rattle.cpg_paths.specs.Columns.{columns_from, columns_of_paths, IsTidyColumn};
 ghost use Rattle.cpg_tree.specs.Decision.{HasCuts};
 
-use crate::along::stand_along;
+use crate::along::count_along;
 use cpg_base::{Order, OutOfMemory, Problem, top};
 use cpg_cube::{Cube, Entry, Listing, Literal};
 use cpg_tree::{Node, Tree};
@@ -72,8 +72,17 @@ fn push_columns(
     }
 }
 
-/// The paths with a number, each with its own cube, from the left to the right.
-pub(crate) fn listed(tree: &Tree<Option<u64>>, problem: &Problem) -> Result<Vec<Entry>, OutOfMemory>
+/// For how many columns of a tree there has to be room: there are no more than leaves.
+pub(crate) fn room_for(tree: &Tree<Option<u64>>) -> usize {
+    tree.leaves().unwrap_or(0) as usize
+}
+
+/// The paths with a number, each with its own cube, from the left to the right. Room is taken for so many at once.
+pub(crate) fn listed(
+    tree: &Tree<Option<u64>>,
+    problem: &Problem,
+    room: usize,
+) -> Result<Vec<Entry>, OutOfMemory>
     requires faults { tree.now.faults ≡ problem.now.faults }
     requires known { All (λ p. IsKnown problem.now p.0) tree.now.paths }
     ensures tidy { IfOk result (λ r. All (IsTidyColumn problem.now) r.items) }
@@ -83,8 +92,7 @@ pub(crate) fn listed(tree: &Tree<Option<u64>>, problem: &Problem) -> Result<Vec<
     let _processes = problem.processes();
     let mut whole = Cube::whole(tree.alloc());
     let mut columns = Vec::new(tree.alloc());
-    // room for all at once, as there are no more than leaves
-    columns.reserve(tree.leaves().unwrap_or(0) as usize)?;
+    columns.reserve(room)?;
     push_columns(tree.root(), tree.faults(), &mut whole, &mut columns)?;
     Ok(columns)
 }
@@ -103,9 +111,22 @@ pub fn listing_along(
     ensures all { IfOk result (λ r. r.columns.items ≡ columns_of_paths tree.now.paths) }
     ensures sorted { IfOk result (λ r. OnTrue r.is_sorted (AreByLows (λ c. c.cube) problem.now order.now r.columns.items)) }
 {
-    let is_sorted = stand_along(tree, problem, order)?;
-    let columns = listed(tree, problem)?;
-    Ok(Listing { columns, is_sorted })
+    match count_along(tree, problem, order)? {
+        Some(count) => {
+            let columns = listed(tree, problem, count)?;
+            Ok(Listing {
+                columns,
+                is_sorted: true,
+            })
+        }
+        None => {
+            let columns = listed(tree, problem, room_for(tree))?;
+            Ok(Listing {
+                columns,
+                is_sorted: false,
+            })
+        }
+    }
 }
 
 /// The paths with a number, each with its own cube, by the least scenario that it matches. The one error is want of memory.

@@ -12,7 +12,7 @@ ghost use Rattle.cpg_tree.specs.Decision.{HasCuts};
 ghost use Rattle.cpg_tree.specs.Tree.{HasOnePathEach, DoPathsPass, IsMap};
 
 use crate::along::stand_along;
-use crate::listing::listed;
+use crate::listing::{listed, room_for};
 use cpg_base::{Order, OutOfMemory, Problem, Scenario, top};
 use cpg_cube::{Cube, Literal, first_by_least_scenario};
 use cpg_tree::{Node, Tree};
@@ -74,7 +74,7 @@ fn first_with_number(
 {
     // its clause tells that the graph is within its limits
     let _processes = problem.processes();
-    let columns = listed(tree, problem)?;
+    let columns = listed(tree, problem, room_for(tree))?;
     let columns = columns.as_slice();
     let Some(place) = first_by_least_scenario(tree.alloc(), problem, order, columns)? else {
         return Ok(None);

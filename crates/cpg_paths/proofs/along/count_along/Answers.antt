@@ -1,11 +1,11 @@
 use Rattle.std.proofs.Common.{ℕ, Option, sym, ap, subst}
-use Rattle.std.proofs.lemmas.Bool.{OnTrue_at, OnTrue_from}
+use Rattle.std.proofs.lemmas.Option.{IfSome_then}
 use Rattle.cpg_cube.specs.Column.{Column}
 use Rattle.cpg_cube.specs.Keys.{AreByLows}
 use Rattle.cpg_tree.specs.declared.node.Node.{Node}
 use Rattle.cpg_paths.specs.Columns.{columns_of_paths}
 use Rattle.cpg_paths.proofs.AlongPaths.{sorted_columns}
-use Rattle.cpg_paths.proofs.along.stand_along.Goals as goal
+use Rattle.cpg_paths.proofs.along.count_along.Goals as goal
 
 pub returns : goal.returns
 returns c =
@@ -13,5 +13,5 @@ returns c =
     let order = c.args.order.now in
     let k : ℕ = c.args.tree.now.faults in
     let root : Node (Option ℕ) = c.root.result.now in
-    OnTrue_from c.is_along-stand.result _ (λ t. subst (AreByLows (λ (c : Column). c.cube) g order) (ap columns_of_paths (sym c.root.ensures.paths))
-    (sorted_columns g order c.in_ok-places.places c.in_ok-places.ensures k root c.root.ensures.good (OnTrue_at t c.is_along-stand.ensures)))
+    IfSome_then c.leaves_along-count.result c.leaves_along-count.ensures (λ count along. subst (AreByLows (λ (c : Column). c.cube) g order) (ap columns_of_paths (sym c.root.ensures.paths))
+    (sorted_columns g order c.in_ok-places.places c.in_ok-places.ensures k root c.root.ensures.good along))
