@@ -8,7 +8,7 @@ use Rattle.cpg_tree.specs.declared.node.Node.{Node, Leaf, Fork'}
 use Rattle.cpg_tree.specs.Decision.{value_at, low_at, high_at, DoForksPass, IsFit}
 use Rattle.cpg_tree.specs.Space.{Space, Lies}
 use Rattle.cpg_tree.specs.Results.{IsForkOf, IsJoinIn, IsJoinOf, IsPickOf, IsMade, IsWithin, picked}
-use Rattle.cpg_tree.specs.Asked.{Rooms, LiesInBoth, lowered}
+use Rattle.cpg_tree.specs.Asked.{Rooms, IsInner, LiesInBoth, lowered}
 use Rattle.cpg_tree.specs.declared.asked.Highs.{Highs}
 
 -- ---- what a scenario finds
@@ -318,3 +318,18 @@ module _ (rooms shut inner opened : Rooms) (v : ℕ) (highs : Highs) (back : low
   -- what is above the cut in them is in those closed below it
   pub both_reopened : (upper : Rooms) (cut : ℕ) → ((s : Scenario) → LiesInBoth opened s → cut < number_of s v → LiesInBoth upper s) → (s : Scenario) → LiesInBoth rooms s → cut < number_of s v → LiesInBoth upper s
   both_reopened upper cut lies_upper s lies h = lies_upper s (subst (λ r. LiesInBoth r s) (sym both_opened) lies) h
+
+-- ---- a fork at which all scenarios of two spaces go one way
+
+module _ {T U V : Type 0} (answers : T → U → V → Type 0) (rooms inner : Rooms) (v cut : ℕ) (below above n : Node T) {p : Box (Unit {0}) Global} (is : n ≡ Fork' v cut p below above)
+    (other part : Node U) (same : IsWithin rooms.walked other part) (r : Node V) where
+  -- what is made in the spaces left, with the part of the other tree that the space walked comes to, is made with both trees
+  pub made_all_below : IsInner rooms (λ s. number_of s v ≤ cut) inner → IsJoinIn answers (LiesInBoth inner) below part r → IsJoinIn answers (LiesInBoth rooms) n other r
+  made_all_below way made = both_whole answers rooms n other part r same
+      (two_below_of (λ s x z. answers x (value_at part s) z) (λ s x u. low_at part s u) (λ k s x u. high_at k part s u) (LiesInBoth rooms) v cut below above n is r
+      (made_narrower (LiesInBoth inner) (LiesInBoth rooms) _ _ _ r made way.lies) way.goes)
+
+  pub made_all_above : IsInner rooms (λ s. cut < number_of s v) inner → IsJoinIn answers (LiesInBoth inner) above part r → IsJoinIn answers (LiesInBoth rooms) n other r
+  made_all_above way made = both_whole answers rooms n other part r same
+      (two_above_of (λ s x z. answers x (value_at part s) z) (λ s x u. low_at part s u) (λ k s x u. high_at k part s u) (LiesInBoth rooms) v cut below above n is r
+      (made_narrower (LiesInBoth inner) (LiesInBoth rooms) _ _ _ r made way.lies) way.goes)

@@ -1,5 +1,5 @@
 -- Which scenarios lie in a space, and on which side of a cut.
-use Rattle.std.proofs.Common.{rules, ℕ, ◌+◌, ◌-◌, ◌<◌, ◌≤◌, ◌≡◌, ◌≢◌, Bool, true, false, ◌||◌, nat_lt, zero, suc, List, [], ◌∷◌, get_or, sum_by, length, arith, refl, sym, ap, ◌∙◌, subst, inl, inr, lt-ltb, le-ltb}
+use Rattle.std.proofs.Common.{rules, ℕ, ◌+◌, ◌-◌, ◌<◌, ◌≤◌, ◌≡◌, ◌≢◌, Bool, true, false, ◌||◌, nat_lt, List, get_or, sum_by, length, arith, refl, sym, ap, ◌∙◌, subst, inl, inr, lt-ltb, le-ltb}
 use Rattle.std.specs.Prelude.{nat_le, slice_set}
 use Rattle.std.specs.Bool.{OnFalse}
 use Rattle.std.proofs.lemmas.Bool.{cases_lt, cases_eq, or_parts, cond-true, cond-false, leb-true, le-leb, both_ways}
@@ -52,12 +52,6 @@ module _ (xs : List ℕ) (v y u : ℕ) where
 
   pub set_same : v < length xs → u ≡ v → get_or (slice_set xs v y) u 0 ≡ y
   set_same l e = subst (λ w. get_or (slice_set xs v y) w 0 ≡ y) (sym e) (get_or-set_same xs v y 0 l)
-
--- a number that is put back
-pub set_back : (xs : List ℕ) (v y : ℕ) → slice_set (slice_set xs v y) v (get_or xs v 0) ≡ xs
-set_back [] v y = refl
-set_back (x ∷ xs) zero y = refl
-set_back (x ∷ xs) (suc v) y = ap (λ l. x ∷ l) (set_back xs v y)
 
 none_less : (n left : ℕ) → n ≤ left → n ≤ left - 0
 none_less n left l = omega arith

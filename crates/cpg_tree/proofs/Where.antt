@@ -9,7 +9,6 @@ use Rattle.cpg_tree.specs.Decision.{value_at, low_at, high_at, DoForksPass, IsFi
 use Rattle.cpg_tree.specs.Paths.{paths_of}
 use Rattle.cpg_tree.specs.Results.{IsForkOf, IsJoinIn, IsJoinWhereOf, TellsWhere}
 use Rattle.cpg_tree.specs.Asked.{Rooms, LiesInBoth}
-use Rattle.cpg_tree.specs.Choosing.{asked_below}
 use Rattle.cpg_tree.specs.Tree.{Path, TreeState, DoPathsPass, IsJoinWhere}
 use Rattle.cpg_tree.proofs.Forks.{two_below_of, two_above_of, two_fork_of, two_leaf_of}
 use Rattle.cpg_tree.proofs.PathLaws.{found}
@@ -39,12 +38,6 @@ module _ {T U V : Type 0} (answers : T → U → V → Type 0) (none : V) (rooms
     pub where_fork : (shut upper : Rooms) (lo hi : Node V) → IsJoinWhereOf answers none (LiesInBoth shut) below a b lo → IsJoinWhereOf answers none (LiesInBoth upper) above a b hi → IsForkOf v cut lo hi r →
         ((s : Scenario) → LiesInBoth rooms s → number_of s v ≤ cut → LiesInBoth shut s) → ((s : Scenario) → LiesInBoth rooms s → cut < number_of s v → LiesInBoth upper s) → IsJoinWhereOf answers none (LiesInBoth rooms) n a b r
     where_fork shut upper lo hi of_lo of_hi fork goes_shut goes_upper = two_fork_of fact low high (LiesInBoth rooms) v cut below above n is r (LiesInBoth shut) (LiesInBoth upper) lo hi of_lo of_hi fork goes_shut goes_upper
-
--- what is above a cut in spaces whose high is put back is in those closed below it
-pub asked_reopened : (rooms shut inner opened upper : Rooms) (v high cut : ℕ) → asked_below shut v high ≡ rooms → inner ≡ shut → opened ≡ asked_below inner v high →
-    ((s : Scenario) → LiesInBoth opened s → cut < number_of s v → LiesInBoth upper s) → (s : Scenario) → LiesInBoth rooms s → cut < number_of s v → LiesInBoth upper s
-asked_reopened rooms shut inner opened upper v high cut back same put lies_upper s lies h =
-    lies_upper s (subst (λ (r : Rooms). LiesInBoth r s) (sym (put ∙ ap (λ (r : Rooms). asked_below r v high) same ∙ back)) lies) h
 
 -- the same, said of the paths
 module _ {T U V : Type 0} (k : ℕ) (domain : Scenario → Type 0) (all : (s : Scenario) → HasFew k s → domain s) (answers : T → U → V → Type 0) (none : V) (chooser : Node Bool) (a : Node T) (b : Node U) (r : Node V) where

@@ -1,5 +1,4 @@
 pub mod Asked
-pub mod Choosing
 pub mod Space
 pub mod Decision
 pub mod Results

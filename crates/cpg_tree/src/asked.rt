@@ -27,18 +27,38 @@ pub(crate) struct Lows {
     walked: Lifted,
 }
 
-/// Where the scenarios asked for go at a fork.
-#[derive(Drop)]
+/// Where the scenarios asked for go at a fork, with what takes the spaces back to what they were.
+#[derive(Clone, Copy)]
 pub(crate) enum Way {
-    /// All below it, in these spaces.
-    Below(Rooms),
-    /// All above it, in these spaces.
-    Above(Rooms),
+    /// All below it.
+    Below(Highs),
+    /// All above it.
+    Above(Lows),
     /// Both ways, as far as the spaces tell.
     Both,
 }
 
 impl Rooms {
+    /// The highs of a variable, for `reopen_above`.
+    fn highs(&self, variable: u8) -> Highs
+        ensures { lowered self.now variable result ≡ self.now }
+    {
+        Highs {
+            asked: self.asked.highest(variable),
+            walked: self.walked.highest(variable),
+        }
+    }
+
+    /// The lows of a variable, for `reopen_below`.
+    fn lows(&self, variable: u8) -> Lows
+        ensures { raised_back self.now variable result ≡ self.now }
+    {
+        Lows {
+            asked: self.asked.lowest(variable),
+            walked: self.walked.lowest(variable),
+        }
+    }
+
     /// Leaves the scenarios up to a cut; the highs that it had.
     pub(crate) fn close_above(&mut self, variable: u8, cut: u8) -> Highs
         ensures asked { self.new.asked ≡ below_cut self.old.asked variable cut }
@@ -83,41 +103,73 @@ impl Rooms {
         self.walked.reopen_below(variable, lows.walked);
     }
 
-    /// The scenarios walked alone up to a cut.
-    fn walked_below(mut self, variable: u8, cut: u8) -> Rooms
-        ensures asked { result.asked ≡ self.asked }
-        ensures lies { (s : Scenario) → LiesInBoth self s → number_of s variable ≤ cut → LiesInBoth result s }
+    /// Asks for the scenarios up to a cut alone; the highs that it had.
+    pub(crate) fn ask_below(&mut self, variable: u8, cut: u8) -> Highs
+        ensures asked { self.new.asked ≡ below_cut self.old.asked variable cut }
+        ensures back { lowered self.new variable result ≡ self.old }
+        ensures lies { (s : Scenario) → LiesInBoth self.old s → number_of s variable ≤ cut → LiesInBoth self.new s }
     {
-        let _high = self.walked.close_above(variable, cut);
-        self
+        Highs {
+            asked: self.asked.close_above(variable, cut),
+            walked: self.walked.highest(variable),
+        }
     }
 
-    /// The scenarios walked alone above a cut.
-    fn walked_above(mut self, variable: u8, cut: u8) -> Rooms
-        requires below { is_open_below self.walked variable cut ≡ true }
-        requires above { is_open_above self.walked variable cut ≡ true }
-        ensures asked { result.asked ≡ self.asked }
-        ensures lies { (s : Scenario) → LiesInBoth self s → cut < number_of s variable → LiesInBoth result s }
+    /// Asks for the scenarios above a cut alone; the lows that it had.
+    pub(crate) fn ask_above(&mut self, variable: u8, cut: u8) -> Lows
+        requires below { is_open_below self.old.asked variable cut ≡ true }
+        requires above { is_open_above self.old.asked variable cut ≡ true }
+        ensures asked { self.new.asked ≡ above_cut self.old.asked variable cut }
+        ensures back { raised_back self.new variable result ≡ self.old }
+        ensures lies { (s : Scenario) → LiesInBoth self.old s → cut < number_of s variable → LiesInBoth self.new s }
     {
-        let _low = self.walked.close_below(variable, cut);
-        self
+        Lows {
+            asked: self.asked.close_below(variable, cut),
+            walked: self.walked.lowest(variable),
+        }
     }
 
-    /// Where the scenarios asked for go at a fork, with the spaces that are left where they all go one way.
-    pub(crate) fn way(&self, variable: u8, cut: u8) -> Way
-        ensures { IsWay self.now variable cut result }
+    /// Walks the scenarios up to a cut alone; the highs that it had.
+    fn walk_below(&mut self, variable: u8, cut: u8) -> Highs
+        ensures asked { self.new.asked ≡ self.old.asked }
+        ensures back { lowered self.new variable result ≡ self.old }
+        ensures lies { (s : Scenario) → LiesInBoth self.old s → number_of s variable ≤ cut → LiesInBoth self.new s }
+    {
+        Highs {
+            asked: self.asked.highest(variable),
+            walked: self.walked.close_above(variable, cut),
+        }
+    }
+
+    /// Walks the scenarios above a cut alone; the lows that it had.
+    fn walk_above(&mut self, variable: u8, cut: u8) -> Lows
+        requires below { is_open_below self.old.walked variable cut ≡ true }
+        requires above { is_open_above self.old.walked variable cut ≡ true }
+        ensures asked { self.new.asked ≡ self.old.asked }
+        ensures back { raised_back self.new variable result ≡ self.old }
+        ensures lies { (s : Scenario) → LiesInBoth self.old s → cut < number_of s variable → LiesInBoth self.new s }
+    {
+        Lows {
+            asked: self.asked.lowest(variable),
+            walked: self.walked.close_below(variable, cut),
+        }
+    }
+
+    /// Where the scenarios asked for go at a fork. Where they all go one way, only those that go there are walked from now on.
+    pub(crate) fn way(&mut self, variable: u8, cut: u8) -> Way
+        ensures { IsWay self.old self.new variable cut result }
     {
         if !self.walked.is_open_below(variable, cut) {
-            return Way::Above(*self);
+            return Way::Above(self.lows(variable));
         }
         if !self.walked.is_open_above(variable, cut) {
-            return Way::Below(*self);
+            return Way::Below(self.highs(variable));
         }
         if !self.asked.is_open_below(variable, cut) {
-            return Way::Above(self.walked_above(variable, cut));
+            return Way::Above(self.walk_above(variable, cut));
         }
         if !self.asked.is_open_above(variable, cut) {
-            return Way::Below(self.walked_below(variable, cut));
+            return Way::Below(self.walk_below(variable, cut));
         }
         Way::Both
     }

@@ -1,12 +1,9 @@
 //! The greater of two trees where a chooser is true.
-ghost use Rattle.std.specs.Prelude.{◌≡◌, ◌≤◌, ◌<◌, max, ℕ, Bool, All, IfOk, true};
-ghost use Rattle.cpg_base.specs.Scenario.{Scenario, number_of};
+ghost use Rattle.std.specs.Prelude.{◌≡◌, max, ℕ, Bool, All, IfOk, true};
 ghost use Rattle.cpg_tree.specs.Asked.{LiesInBoth};
 ghost use Rattle.cpg_tree.specs.Bounds.{bounds_in};
-ghost use Rattle.cpg_tree.specs.Choosing.{asked_back, asked_below};
 ghost use Rattle.cpg_tree.specs.Decision.{DoForksPass, IsFit};
 ghost use Rattle.cpg_tree.specs.Results.{IsJoinWhereOf};
-ghost use Rattle.cpg_tree.specs.Space.{above_cut, below_cut, is_open_above, is_open_below};
 ghost use Rattle.cpg_tree.specs.Tree.{DoPathsPass, HasOnePathEach, IsJoinWhere, IsTidyPath};
 
 use crate::Tree;
@@ -14,7 +11,7 @@ use crate::asked::Rooms;
 use crate::greater::{Bounded, Greater};
 use crate::node::Node;
 use crate::reading::Reading;
-use crate::space::{Lifted, Space};
+use crate::space::Space;
 use cpg_base::OutOfMemory;
 use std::alloc::Global;
 
@@ -23,42 +20,6 @@ use std::alloc::Global;
 pub(crate) struct Pair<'a, T, U> {
     pub(crate) own: Bounded<'a, T>,
     pub(crate) other: Bounded<'a, U>,
-}
-
-impl Rooms {
-    /// Asks for the scenarios up to a cut alone; the high that was.
-    fn ask_below(&mut self, variable: u8, cut: u8) -> u8
-        ensures asked { self.new.asked ≡ below_cut self.old.asked variable cut }
-        ensures back { asked_below self.new variable result ≡ self.old }
-        ensures lies { (s : Scenario) → LiesInBoth self.old s → number_of s variable ≤ cut → LiesInBoth self.new s }
-    {
-        self.asked.close_above(variable, cut)
-    }
-
-    /// Asks for as high numbers as before.
-    fn ask_up_to(&mut self, variable: u8, high: u8)
-        ensures { self.new ≡ asked_below self.old variable high }
-    {
-        self.asked.reopen_above(variable, high);
-    }
-
-    /// Asks for the scenarios above a cut alone; what was.
-    fn ask_above(&mut self, variable: u8, cut: u8) -> Lifted
-        requires below { is_open_below self.old.asked variable cut ≡ true }
-        requires above { is_open_above self.old.asked variable cut ≡ true }
-        ensures asked { self.new.asked ≡ above_cut self.old.asked variable cut }
-        ensures back { asked_back self.new variable result ≡ self.old }
-        ensures lies { (s : Scenario) → LiesInBoth self.old s → cut < number_of s variable → LiesInBoth self.new s }
-    {
-        self.asked.close_below(variable, cut)
-    }
-
-    /// Asks for as low numbers as before.
-    fn ask_from(&mut self, variable: u8, was: Lifted)
-        ensures { self.new ≡ asked_back self.old variable was }
-    {
-        self.asked.reopen_below(variable, was);
-    }
 }
 
 impl Node<bool> {
@@ -113,12 +74,12 @@ impl Node<bool> {
                 if !rooms.asked.is_open_above(*variable, *cut) {
                     return below.greater_where(alloc, rooms, pair, how, none);
                 }
-                let most = rooms.ask_below(*variable, *cut);
+                let highs = rooms.ask_below(*variable, *cut);
                 let low = below.greater_where(alloc, rooms, pair, how, none)?;
-                rooms.ask_up_to(*variable, most);
-                let least = rooms.ask_above(*variable, *cut);
+                rooms.reopen_above(*variable, highs);
+                let lows = rooms.ask_above(*variable, *cut);
                 let high = above.greater_where(alloc, rooms, pair, how, none)?;
-                rooms.ask_from(*variable, least);
+                rooms.reopen_below(*variable, lows);
                 Node::fork(alloc, *variable, *cut, low, high)
             }
         }

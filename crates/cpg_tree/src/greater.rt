@@ -162,11 +162,15 @@ impl<T: Copy> Node<T> {
             } => {
                 let (below, above) = &**sides;
                 match rooms.way(*variable, *cut) {
-                    Way::Above(mut inner) => {
-                        above.greater_by(alloc, &mut inner, bounds_above(bounds), other, how)
+                    Way::Above(lows) => {
+                        let all = above.greater_by(alloc, rooms, bounds_above(bounds), other, how)?;
+                        rooms.reopen_below(*variable, lows);
+                        Ok(all)
                     }
-                    Way::Below(mut inner) => {
-                        below.greater_by(alloc, &mut inner, bounds_below(bounds), other, how)
+                    Way::Below(highs) => {
+                        let all = below.greater_by(alloc, rooms, bounds_below(bounds), other, how)?;
+                        rooms.reopen_above(*variable, highs);
+                        Ok(all)
                     }
                     Way::Both => {
                         let highs = rooms.close_above(*variable, *cut);

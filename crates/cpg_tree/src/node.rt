@@ -373,7 +373,32 @@ impl<T: Copy> Node<T> {
     }
 
     /// The answers of a function to the values and those of another tree, for the scenarios of a space.
+    #[cycle(join)]
+    #[inline]
     pub(crate) fn join<U: Copy, V: Copy + Eq, F: Fn(T, U) -> V>(
+        &self,
+        alloc: Global,
+        space: &mut Space,
+        other: &Node<U>,
+        f: &F,
+    ) -> Result<Node<V>, OutOfMemory>
+        requires callable { F.IsAlwaysCallable f.now }
+        requires equal { (x y : V) → V.eq x y ≡ true → x ≡ y }
+        ensures made { IfOk result (IsJoinOf (F.post f.now) space.old self.now other.now) }
+        ensures back { IfOk result (λ _. space.new ≡ space.old) }
+        ensures fit { IfOk result (IsFit space.old) }
+        ensures pass { IfOk result (λ r. (test : ℕ → Bool) → DoForksPass test self.now → DoForksPass test other.now → DoForksPass test r) }
+    {
+        if let Node::Leaf(value) = self {
+            return other.fill(alloc, space, *value, f);
+        }
+        self.join_fork(alloc, space, other, f)
+    }
+
+    /// The same of a tree that is a fork: a function of its own, since a call of it takes longer than a leaf.
+    #[cycle(join)]
+    #[inline(never)]
+    fn join_fork<U: Copy, V: Copy + Eq, F: Fn(T, U) -> V>(
         &self,
         alloc: Global,
         space: &mut Space,

@@ -100,13 +100,30 @@ impl Space {
         self.low[variable as usize]
     }
 
+    /// The high of a variable, for `reopen_above`.
+    pub(crate) fn highest(&self, variable: u8) -> u8
+        ensures { below_cut self.now variable result ≡ self.now }
+    {
+        self.high[variable as usize]
+    }
+
+    /// The low of a variable and the faults left, for `reopen_below`.
+    pub(crate) fn lowest(&self, variable: u8) -> Lifted
+        ensures { reopened_below self.now variable result ≡ self.now }
+    {
+        Lifted {
+            low: self.low[variable as usize],
+            left: self.left,
+        }
+    }
+
     /// Leaves the numbers up to the cut, where there are others; the high of before, for `reopen_above`.
     pub fn close_above(&mut self, variable: u8, cut: u8) -> u8
         ensures is { self.new ≡ below_cut self.old variable cut }
         ensures back { below_cut self.new variable result ≡ self.old }
         ensures lies { (s : Scenario) → Lies self.old s → number_of s variable ≤ cut → Lies self.new s }
     {
-        let high = self.high[variable as usize];
+        let high = self.highest(variable);
         self.high[variable as usize] = cut;
         high
     }
@@ -126,10 +143,7 @@ impl Space {
         ensures back { reopened_below self.new variable result ≡ self.old }
         ensures lies { (s : Scenario) → Lies self.old s → cut < number_of s variable → Lies self.new s }
     {
-        let was = Lifted {
-            low: self.low[variable as usize],
-            left: self.left,
-        };
+        let was = self.lowest(variable);
         self.raise(variable, cut);
         was
     }

@@ -4,8 +4,8 @@ use Rattle.cpg_tree.specs.declared.node.Node.{Node, Leaf}
 use Rattle.cpg_tree.specs.Asked.{Rooms, LiesInBoth}
 use Rattle.cpg_tree.specs.Decision.{DoForksPass}
 use Rattle.cpg_tree.specs.Results.{IsForkOf, IsJoinIn, IsJoinWhereOf}
-use Rattle.cpg_tree.proofs.Forks.{of_answer, from_false, same_below, same_above, passes_parts}
-use Rattle.cpg_tree.proofs.Where.{where_on, where_below, where_above, where_fork, asked_reopened}
+use Rattle.cpg_tree.proofs.Forks.{both_reopened, of_answer, from_false, same_below, same_above, passes_parts}
+use Rattle.cpg_tree.proofs.Where.{where_on, where_below, where_above, where_fork}
 use Rattle.cpg_tree.proofs.choosing.Node+bool.+greater_where.Goals as goal
 
 pub returns-then-not-is_open_below-clause-made : goal.returns-then-not-is_open_below-clause-made
@@ -45,16 +45,16 @@ returns-in_ok-high-in-Fork-clause-made g t c =
     let answers : g.row.T.Denot → g.row.U.Denot → g.row.V.Denot → Type 0 = λ x y z. g.F.Fn.post c.args.how.now.made.now (max (g.R.Reading.number c.args.how.now.read.now x) (g.S.Reading.number c.args.how.now.other_reading.now y), tt) z in
     let a : Node g.row.T.Denot = c.args.pair.now.own.node.now in
     let b : Node g.row.U.Denot = c.args.pair.now.other.node.now in
-    let shut : Rooms = c.ask_below-most.new.self in
-    let upper : Rooms = c.ask_above-least.new.self in
+    let shut : Rooms = c.ask_below-highs.new.self in
+    let upper : Rooms = c.ask_above-lows.new.self in
     let lo : Node g.row.V.Denot = c.in_ok-low-in-Fork.low in
     let hi : Node g.row.V.Denot = c.in_ok-high-in-Fork.high in
     of_answer c.fork.result (IsForkOf c.in-Fork.variable c.in-Fork.cut lo hi) (IsJoinWhereOf answers c.args.none (LiesInBoth rooms) c.args.self.now a b) c.fork.ensures.made
     (λ r fork. where_fork answers c.args.none rooms a b c.in-Fork.variable c.in-Fork.cut c.in-Fork.sides.value.0 c.in-Fork.sides.value.1 c.args.self.now c.in-Fork.is r shut upper lo hi
     (subst (λ (n : Node Bool). IsJoinWhereOf answers c.args.none (LiesInBoth shut) n a b lo) (same_below c.deref.ensures) c.in_ok-low-in-Fork.ensures.made)
     (subst (λ (n : Node Bool). IsJoinWhereOf answers c.args.none (LiesInBoth upper) n a b hi) (same_above c.deref.ensures) c.in_ok-high-in-Fork.ensures.made)
-    fork c.ask_below-most.ensures.lies
-    (asked_reopened rooms shut c.greater_where-in-Fork.new.rooms c.ask_up_to.new.self upper c.in-Fork.variable c.ask_below-most.result c.in-Fork.cut c.ask_below-most.ensures.back c.in_ok-low-in-Fork.ensures.back c.ask_up_to.ensures c.ask_above-least.ensures.lies))
+    fork c.ask_below-highs.ensures.lies
+    (both_reopened rooms shut c.greater_where-in-Fork.new.rooms c.reopen_above.new.self c.in-Fork.variable c.ask_below-highs.result c.ask_below-highs.ensures.back c.in_ok-low-in-Fork.ensures.back c.reopen_above.ensures upper c.in-Fork.cut c.ask_above-lows.ensures.lies))
 
 pub returns-in_ok-high-in-Fork-clause-pass : goal.returns-in_ok-high-in-Fork-clause-pass
 returns-in_ok-high-in-Fork-clause-pass g t c =

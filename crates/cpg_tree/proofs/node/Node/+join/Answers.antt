@@ -10,8 +10,16 @@ use Rattle.cpg_tree.specs.Decision.{DoForksPass, IsFit}
 use Rattle.cpg_tree.proofs.Forks.{passes_parts}
 use Rattle.cpg_tree.proofs.node.Node.+join.Goals as goal
 
-pub returns-then-not-is_open_below-clause-made : goal.returns-then-not-is_open_below-clause-made
-returns-then-not-is_open_below-clause-made g t c =
+pub join-returns-in-Leaf-clause-made : goal.join-returns-in-Leaf-clause-made
+join-returns-in-Leaf-clause-made g t c =
+    let room : Space = c.args.space.now in
+    let answers : g.row.T.Denot → g.row.U.Denot → g.row.V.Denot → Type 0 = λ x y z. g.F.Fn.post c.args.f.now (x, (y, tt)) z in
+    let b : Node g.row.U.Denot = c.args.other.now in
+    of_answer c.fill.result (IsFillOf answers room c.in-Leaf.value b) (IsJoinOf answers room c.args.self.now b) c.fill.ensures.made
+    (λ r made. two_leaf_of (λ s x z. answers x (value_at b s) z) (λ s x v. low_at b s v) (λ k s x v. high_at k b s v) (Lies room) c.in-Leaf.value c.args.self.now c.in-Leaf.is r made)
+
+pub join_fork-returns-then-not-is_open_below-clause-made : goal.join_fork-returns-then-not-is_open_below-clause-made
+join_fork-returns-then-not-is_open_below-clause-made g t c =
     let room : Space = c.args.space.now in
     let b : Node g.row.U.Denot = c.part_in-other.result.now in
     of_answer c.join.result (IsJoinOf (λ (x : g.row.T.Denot) (y : g.row.U.Denot) (z : g.row.V.Denot). g.F.Fn.post c.args.f.now (x, (y, tt)) z) room c.in-Fork.sides.value.1 b) (IsJoinOf (λ (x : g.row.T.Denot) (y : g.row.U.Denot) (z : g.row.V.Denot). g.F.Fn.post c.args.f.now (x, (y, tt)) z) room c.args.self.now c.args.other.now)
@@ -20,8 +28,8 @@ returns-then-not-is_open_below-clause-made g t c =
     (two_above_of (λ s x z. (λ (x : g.row.T.Denot) (y : g.row.U.Denot) (z : g.row.V.Denot). g.F.Fn.post c.args.f.now (x, (y, tt)) z) x (value_at b s) z) (λ s x v. low_at b s v) (λ k s x v. high_at k b s v) (Lies room) c.in-Fork.variable c.in-Fork.cut c.in-Fork.sides.value.0 c.in-Fork.sides.value.1 c.args.self.now c.in-Fork.is r made
     (from_false c.is_open_below.result c.if-not-is_open_below.true c.is_open_below.ensures.none)))
 
-pub returns-then-not-is_open_above-clause-made : goal.returns-then-not-is_open_above-clause-made
-returns-then-not-is_open_above-clause-made g t c =
+pub join_fork-returns-then-not-is_open_above-clause-made : goal.join_fork-returns-then-not-is_open_above-clause-made
+join_fork-returns-then-not-is_open_above-clause-made g t c =
     let room : Space = c.args.space.now in
     let b : Node g.row.U.Denot = c.part_in-other.result.now in
     of_answer c.join-then-not-is_open_above.result (IsJoinOf (λ (x : g.row.T.Denot) (y : g.row.U.Denot) (z : g.row.V.Denot). g.F.Fn.post c.args.f.now (x, (y, tt)) z) room c.in-Fork.sides.value.0 b) (IsJoinOf (λ (x : g.row.T.Denot) (y : g.row.U.Denot) (z : g.row.V.Denot). g.F.Fn.post c.args.f.now (x, (y, tt)) z) room c.args.self.now c.args.other.now)
@@ -30,8 +38,8 @@ returns-then-not-is_open_above-clause-made g t c =
     (two_below_of (λ s x z. (λ (x : g.row.T.Denot) (y : g.row.U.Denot) (z : g.row.V.Denot). g.F.Fn.post c.args.f.now (x, (y, tt)) z) x (value_at b s) z) (λ s x v. low_at b s v) (λ k s x v. high_at k b s v) (Lies room) c.in-Fork.variable c.in-Fork.cut c.in-Fork.sides.value.0 c.in-Fork.sides.value.1 c.args.self.now c.in-Fork.is r made
     (from_false c.is_open_above.result c.if-not-is_open_above.true c.is_open_above.ensures.none)))
 
-pub returns-in_ok-high-in-Fork-clause-made : goal.returns-in_ok-high-in-Fork-clause-made
-returns-in_ok-high-in-Fork-clause-made g t c =
+pub join_fork-returns-in_ok-high-in-Fork-clause-made : goal.join_fork-returns-in_ok-high-in-Fork-clause-made
+join_fork-returns-in_ok-high-in-Fork-clause-made g t c =
     let room : Space = c.args.space.now in
     let b : Node g.row.U.Denot = c.part_in-other.result.now in
     of_answer c.fork.result (IsForkOf c.in-Fork.variable c.in-Fork.cut c.in_ok-low-in-Fork.low c.in_ok-high-in-Fork.high) (IsJoinOf (λ (x : g.row.T.Denot) (y : g.row.U.Denot) (z : g.row.V.Denot). g.F.Fn.post c.args.f.now (x, (y, tt)) z) room c.args.self.now c.args.other.now) c.fork.ensures.made
@@ -42,8 +50,8 @@ returns-in_ok-high-in-Fork-clause-made g t c =
     fork c.close_above-most.ensures.lies
     (lies_reopened room c.close_above-most.new.self c.join-in-Fork.new.space c.reopen_above.new.self c.close_below-least.new.self c.in-Fork.variable c.close_above-most.result c.in-Fork.cut c.close_above-most.ensures.back c.in_ok-low-in-Fork.ensures.back c.reopen_above.ensures c.close_below-least.ensures.lies)))
 
-pub returns-in-Leaf-clause-made : goal.returns-in-Leaf-clause-made
-returns-in-Leaf-clause-made g t c =
+pub join_fork-returns-in-Leaf-clause-made : goal.join_fork-returns-in-Leaf-clause-made
+join_fork-returns-in-Leaf-clause-made g t c =
     let room : Space = c.args.space.now in
     let b : Node g.row.U.Denot = c.part_in-other.result.now in
     of_answer c.fill.result (IsFillOf (λ (x : g.row.T.Denot) (y : g.row.U.Denot) (z : g.row.V.Denot). g.F.Fn.post c.args.f.now (x, (y, tt)) z) room c.in-Leaf.value b) (IsJoinOf (λ (x : g.row.T.Denot) (y : g.row.U.Denot) (z : g.row.V.Denot). g.F.Fn.post c.args.f.now (x, (y, tt)) z) room c.args.self.now c.args.other.now) c.fill.ensures.made
@@ -51,8 +59,8 @@ returns-in-Leaf-clause-made g t c =
     (two_leaf_of (λ s x z. (λ (x : g.row.T.Denot) (y : g.row.U.Denot) (z : g.row.V.Denot). g.F.Fn.post c.args.f.now (x, (y, tt)) z) x (value_at b s) z) (λ s x v. low_at b s v) (λ k s x v. high_at k b s v)
     (Lies room) c.in-Leaf.value c.args.self.now c.in-Leaf.is r made))
 
-pub returns-in_ok-high-in-Fork-clause-pass : goal.returns-in_ok-high-in-Fork-clause-pass
-returns-in_ok-high-in-Fork-clause-pass g t c =
+pub join_fork-returns-in_ok-high-in-Fork-clause-pass : goal.join_fork-returns-in_ok-high-in-Fork-clause-pass
+join_fork-returns-in_ok-high-in-Fork-clause-pass g t c =
     of_answer c.fork.result _ _ c.fork.ensures.pass
     (λ r fork test pass second.
     let others = c.part_in-other.ensures.pass test second in
@@ -61,27 +69,27 @@ returns-in_ok-high-in-Fork-clause-pass g t c =
     (c.in_ok-low-in-Fork.ensures.pass test (subst (λ (n : Node g.row.T.Denot). DoForksPass test n) (sym (same_below c.deref.ensures)) parts.1) others)
     (c.in_ok-high-in-Fork.ensures.pass test (subst (λ (n : Node g.row.T.Denot). DoForksPass test n) (sym (same_above c.deref.ensures)) parts.2) others))
 
-pub returns-in-Leaf-clause-pass : goal.returns-in-Leaf-clause-pass
-returns-in-Leaf-clause-pass g t c =
+pub join_fork-returns-in-Leaf-clause-pass : goal.join_fork-returns-in-Leaf-clause-pass
+join_fork-returns-in-Leaf-clause-pass g t c =
     of_answer c.fill.result _ _ c.fill.ensures.pass
     (λ r pass test first second. pass test (c.part_in-other.ensures.pass test second))
 
-pub returns-then-not-is_open_below-clause-pass : goal.returns-then-not-is_open_below-clause-pass
-returns-then-not-is_open_below-clause-pass g t c =
+pub join_fork-returns-then-not-is_open_below-clause-pass : goal.join_fork-returns-then-not-is_open_below-clause-pass
+join_fork-returns-then-not-is_open_below-clause-pass g t c =
     of_answer c.join.result _ _ c.join.ensures.pass
     (λ r over test first second.
     let parts = passes_parts test c.in-Fork.variable c.in-Fork.cut c.in-Fork.sides.value.0 c.in-Fork.sides.value.1 c.args.self.now c.in-Fork.is first in
     over test (subst (λ (n : Node g.row.T.Denot). DoForksPass test n) (sym (same_above c.deref.ensures)) parts.2) (c.part_in-other.ensures.pass test second))
 
-pub returns-then-not-is_open_above-clause-pass : goal.returns-then-not-is_open_above-clause-pass
-returns-then-not-is_open_above-clause-pass g t c =
+pub join_fork-returns-then-not-is_open_above-clause-pass : goal.join_fork-returns-then-not-is_open_above-clause-pass
+join_fork-returns-then-not-is_open_above-clause-pass g t c =
     of_answer c.join-then-not-is_open_above.result _ _ c.join-then-not-is_open_above.ensures.pass
     (λ r over test first second.
     let parts = passes_parts test c.in-Fork.variable c.in-Fork.cut c.in-Fork.sides.value.0 c.in-Fork.sides.value.1 c.args.self.now c.in-Fork.is first in
     over test (subst (λ (n : Node g.row.T.Denot). DoForksPass test n) (sym (same_below c.deref.ensures)) parts.1) (c.part_in-other.ensures.pass test second))
 
-pub returns-in_ok-high-in-Fork-clause-fit : goal.returns-in_ok-high-in-Fork-clause-fit
-returns-in_ok-high-in-Fork-clause-fit g t c =
+pub join_fork-returns-in_ok-high-in-Fork-clause-fit : goal.join_fork-returns-in_ok-high-in-Fork-clause-fit
+join_fork-returns-in_ok-high-in-Fork-clause-fit g t c =
     let room : Space = c.args.space.now in
     of_answer c.fork.result _ _ c.fork.ensures.fit
     (λ r fit. fit room (sym c.is_open_below.ensures.is ∙ c.if-not-is_open_below.false) (sym c.is_open_above.ensures.is ∙ c.if-not-is_open_above.false)
