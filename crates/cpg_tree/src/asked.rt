@@ -39,26 +39,6 @@ pub(crate) enum Way {
 }
 
 impl Rooms {
-    /// The highs of a variable, for `reopen_above`.
-    fn highs(&self, variable: u8) -> Highs
-        ensures { lowered self.now variable result ≡ self.now }
-    {
-        Highs {
-            asked: self.asked.highest(variable),
-            walked: self.walked.highest(variable),
-        }
-    }
-
-    /// The lows of a variable, for `reopen_below`.
-    fn lows(&self, variable: u8) -> Lows
-        ensures { raised_back self.now variable result ≡ self.now }
-    {
-        Lows {
-            asked: self.asked.lowest(variable),
-            walked: self.walked.lowest(variable),
-        }
-    }
-
     /// Leaves the scenarios up to a cut; the highs that it had.
     pub(crate) fn close_above(&mut self, variable: u8, cut: u8) -> Highs
         ensures asked { self.new.asked ≡ below_cut self.old.asked variable cut }
@@ -160,10 +140,16 @@ impl Rooms {
         ensures { IsWay self.old self.new variable cut result }
     {
         if !self.walked.is_open_below(variable, cut) {
-            return Way::Above(self.lows(variable));
+            return Way::Above(Lows {
+                asked: self.asked.lowest(variable),
+                walked: self.walked.lowest(variable),
+            });
         }
         if !self.walked.is_open_above(variable, cut) {
-            return Way::Below(self.highs(variable));
+            return Way::Below(Highs {
+                asked: self.asked.highest(variable),
+                walked: self.walked.highest(variable),
+            });
         }
         if !self.asked.is_open_below(variable, cut) {
             return Way::Above(self.walk_above(variable, cut));

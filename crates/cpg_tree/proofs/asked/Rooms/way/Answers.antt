@@ -1,6 +1,11 @@
-use Rattle.std.proofs.Common.{refl}
+use Rattle.std.proofs.Common.{ap₂, refl}
+use Rattle.cpg_tree.specs.Asked.{Rooms}
+use Rattle.cpg_tree.specs.Space.{Space}
 use Rattle.cpg_tree.proofs.Forks.{from_false}
 use Rattle.cpg_tree.proofs.asked.Rooms.way.Goals as goal
+
+abbrev rooms_of : Space → Space → Rooms
+rooms_of asked walked = record { asked = asked; walked = walked }
 
 pub returns-then-not-is_open_below : goal.returns-then-not-is_open_below
 returns-then-not-is_open_below c = (
@@ -9,7 +14,7 @@ returns-then-not-is_open_below c = (
     goes = λ s d. from_false c.is_open_below.result c.if-not-is_open_below.true c.is_open_below.ensures.none s d.1;
     lies = λ s d. d;
   },
-  c.lows.ensures,
+  ap₂ rooms_of c.lowest.ensures c.lowest-then-not-is_open_below.ensures,
 )
 
 pub returns-then-not-is_open_above : goal.returns-then-not-is_open_above
@@ -19,7 +24,7 @@ returns-then-not-is_open_above c = (
     goes = λ s d. from_false c.is_open_above.result c.if-not-is_open_above.true c.is_open_above.ensures.none s d.1;
     lies = λ s d. d;
   },
-  c.highs.ensures,
+  ap₂ rooms_of c.highest.ensures c.highest-then-not-is_open_above.ensures,
 )
 
 pub returns-then-not-is_open_below-2 : goal.returns-then-not-is_open_below-2
