@@ -403,10 +403,26 @@ fn is_above(cubes: &[&Cube], place: u32, part: Part) -> bool {
     }
 }
 
+/// Where in a slice the first place has to be from which on all cubes ask for a number above a cut, if those that do are the
+/// last: from a place up to another. Looked for from the end in steps that double, as mostly few cubes do, and those near by
+/// were looked at before.
+fn around_border(cubes: &[&Cube], slice: Slice, part: Part) -> (u32, u32) {
+    let mut end = slice.to;
+    let mut step: u32 = 1;
+    while end > slice.from {
+        let place = end - step.min(end - slice.from);
+        if !is_above(cubes, place, part) {
+            return (place + 1, end);
+        }
+        end = place;
+        step = step.saturating_mul(2);
+    }
+    (end, end)
+}
+
 /// The first place of a slice from which on all cubes ask for a number above a cut, if those that do are the last.
 fn border_of(cubes: &[&Cube], slice: Slice, part: Part) -> u32 {
-    let mut first = slice.from;
-    let mut end = slice.to;
+    let (mut first, mut end) = around_border(cubes, slice, part);
     while first < end {
         let middle = first + (end - first) / 2;
         if is_above(cubes, middle, part) {
