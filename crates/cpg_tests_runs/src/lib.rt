@@ -12,6 +12,8 @@ mod generator_tests;
 #[cfg(test)]
 mod list_tests;
 #[cfg(test)]
+mod order_tests;
+#[cfg(test)]
 mod reach_tests;
 #[cfg(test)]
 mod run_tests;
