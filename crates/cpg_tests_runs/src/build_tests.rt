@@ -1,6 +1,5 @@
 //! The pair, built over all scenarios, worked by hand, and both builders on a graph of two nodes with a
 //! choice, two faults, releases, deadlines and frozen items.
-ghost use Rattle.std.specs.Prelude.{◌≡◌, length};
 
 use crate::columns::are_rows;
 use crate::fixtures::{MIXED, PAIR, admitted};
