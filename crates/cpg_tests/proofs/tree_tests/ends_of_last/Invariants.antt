@@ -1,5 +1,5 @@
 use Rattle.std.proofs.Common.{◌≡◌}
-use Rattle.cpg_tests_runs.proofs.tree_tests.ends_of_last.Given as goal
+use Rattle.cpg_tests.proofs.tree_tests.ends_of_last.Given as goal
 
 abbrev pub invariant-loop-process : goal.invariant-loop-process
 invariant-loop-process l = l.ready.faults ≡ 2

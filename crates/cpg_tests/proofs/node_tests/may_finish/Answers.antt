@@ -6,7 +6,7 @@ use Rattle.cpg_table.specs.Table.{NodeTable}
 use Rattle.cpg_node.specs.Dispatcher.{Dispatcher, Ended, Running, is_after, next}
 use Rattle.cpg_node.specs.State.{MayFinish, report_of, running_of, time_of}
 use Rattle.cpg_node.proofs.Next.{next_is}
-use Rattle.cpg_tests_plays.proofs.node_tests.may_finish.Goals as goal
+use Rattle.cpg_tests.proofs.node_tests.may_finish.Goals as goal
 
 -- an execution that has this start and no report
 record Unreported (o : Option Running) (start : ℕ) : Type 0 where

@@ -1,7 +1,7 @@
 use Rattle.std.proofs.lemmas.List.Elements.{All-nil}
 use Rattle.std.proofs.Common.{sym}
 use Rattle.cpg_node.specs.State.{EndsAt, ArrivesAt}
-use Rattle.cpg_tests_plays.proofs.node_tests.take_turn.Goals as goal
+use Rattle.cpg_tests.proofs.node_tests.take_turn.Goals as goal
 
 pub turn-requires : goal.turn-requires
 turn-requires c = record {

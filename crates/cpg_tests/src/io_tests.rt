@@ -1,9 +1,6 @@
-//! A shelf and a sink in memory call by call, and each adapter over a real file or a writer that fails.
+//! Each adapter over a real file or a writer that fails.
 
-use cpg_io::{
-    Failed, FileShelf, MemoryShelf, MemorySink, ReadAll, Shelf, Sink, StreamSink, read_all,
-    write_all,
-};
+use cpg_io::{Failed, FileShelf, ReadAll, Shelf, Sink, StreamSink, read_all, write_all};
 use std::alloc::Global;
 use std::io::{ErrorKind, Write};
 use std::test::Fail;
@@ -24,48 +21,6 @@ fn fault<S: Shelf>(alloc: Global, shelf: &mut S, name: &str, limit: usize) -> Op
     requires { S.may_fetch shelf.old name.now }
 {
     read_all(alloc, shelf, name, limit).err()
-}
-
-/// A shelf with a graph, whose second and fourth call fail.
-fn failing(alloc: Global) -> Result<MemoryShelf, Fail> {
-    let mut shelf = MemoryShelf::new(alloc)?;
-    shelf.put("graph", b"abc")?;
-    for call in [1u64, 3] {
-        shelf.fail_call(call)?;
-    }
-    Ok(shelf)
-}
-
-/// Whether the second and the fourth call of that shelf fail, and what the others do.
-fn fails_as_listed(shelf: &mut MemoryShelf) -> bool {
-    let mut piece = [0; 2];
-    shelf.fetch("graph") == Ok(())
-        && shelf.read(&mut piece) == Err(Failed)
-        && shelf.read(&mut piece) == Ok(2)
-        && piece == [b'a', b'b']
-        && shelf.fetch("graph") == Err(Failed)
-        && shelf.read(&mut piece) == Ok(0)
-}
-
-#[test]
-fn fails_at_listed_calls(rt: HostRuntime) -> Result<(), Fail> {
-    let mut shelf = failing(rt.alloc())?;
-    assert!(rt; fails_as_listed(&mut shelf));
-    Ok(())
-}
-
-/// Whether a sink takes a piece, and of a second what there is room for.
-fn takes_both(sink: &mut MemorySink) -> bool {
-    write_all(sink, b"order A") == Ok(())
-        && write_all(sink, b"\nworst") == Err(Failed)
-        && sink.taken() == b"order A\nwo".as_slice()
-}
-
-#[test]
-fn takes_up_to_its_room(rt: HostRuntime) -> Result<(), Fail> {
-    let mut sink = MemorySink::new(rt.alloc(), 10)?;
-    assert!(rt; takes_both(&mut sink));
-    Ok(())
 }
 
 /// Keeps what it is given, at most `room` bytes a write and none past `end`, and counts its flushes.
@@ -157,7 +112,7 @@ fn is_read_and_missed(rt: &HostRuntime, path: &str, bytes: &[u8]) -> bool {
 
 #[test]
 fn reads_a_file(rt: HostRuntime) -> Result<(), Fail> {
-    let path = "cpg_tests_plays_reads_a_file.tmp";
+    let path = "cpg_tests_reads_a_file.tmp";
     let bytes = vec![in rt.alloc(); 7u8; 200_000]?;
     assert!(rt; fs::write(&rt, path, bytes.as_slice()).is_ok());
     assert!(rt; is_read_and_missed(&rt, path, bytes.as_slice()));

@@ -1,4 +1,5 @@
-//! Tests of what no case of the whole program shows: runs, lists, reaches, tracks and trees, and generated graphs.
+//! Tests of what no case of the whole program shows: runs, lists, reaches, tracks, trees and nodes call by call, generated
+//! graphs, and the adapters of files and streams.
 #![tactic(auto)]
 
 #[cfg(test)]
@@ -10,7 +11,11 @@ mod fixtures;
 #[cfg(test)]
 mod generator_tests;
 #[cfg(test)]
+mod io_tests;
+#[cfg(test)]
 mod list_tests;
+#[cfg(test)]
+mod node_tests;
 #[cfg(test)]
 mod order_tests;
 #[cfg(test)]
