@@ -6,7 +6,7 @@ use Rattle.cpg_base.specs.Graph.{Graph}
 use Rattle.cpg_base.specs.declared.memory.OutOfMemory.{OutOfMemory}
 use Rattle.cpg_base.specs.Scenario.{Scenario}
 use Rattle.cpg_base.specs.WellFormed.{WellFormed}
-use Rattle.cpg_order.specs.Urgency.{IsTopological}
+use Rattle.cpg_order.specs.Urgency.{IsTopological, first_order}
 use Rattle.cpg_gen.specs.Generated.{generated}
 use Rattle.cpg_gen_laws.proofs.Kept.{no_fault}
 use Rattle.cpg_gen_laws.proofs.Narrow.{narrow}
@@ -42,9 +42,9 @@ admission_fault number g fault same shows = no_fault number fault (subst (λ x. 
 
 -- and its tables are made
 pub compile_fault : (g : Graph) (urgency : List ℕ) (fault : CompileFault) → IsGenerated g → IsTopological g urgency → ShowsCompileFault g urgency fault → fault ≡ CompileFault.OutOfMemory
-compile_fault g urgency (CompileFault.TooWide x) made topological shows = absurd (narrow made.0 urgency x (subst (λ g. IsWide g urgency x) made.1 shows.wide))
+compile_fault g urgency (CompileFault.TooWide x) made topological shows = absurd (narrow made.0 urgency x (subst (λ g. IsWide g (first_order g urgency) x) made.1 shows.0.wide))
 compile_fault g urgency (CompileFault.Late s p time) made topological shows =
-    let late : IsLateUnder (generated made.0) urgency urgency = subst (λ g. IsLateUnder g urgency urgency) made.1 shows.0.late in
+    let late : IsLateUnder (generated made.0) urgency urgency = subst (λ g. IsLateUnder g urgency (first_order g urgency)) made.1 shows.0.late in
     let measured = late.2 in
     let none = in_time made.0 urgency (subst (λ g. IsTopological g urgency) made.1 topological) measured.frozen measured.frozen_times urgency late.0 measured.excess_in measured.excess_by measured.is_excess in
     let some = late.3 in

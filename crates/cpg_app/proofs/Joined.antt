@@ -23,6 +23,7 @@ use Rattle.cpg_violation.specs.Heads.{IsHeadFor}
 use Rattle.cpg_violation.proofs.HeadLaws.{own_head}
 use Rattle.cpg_core.specs.declared.compiling.Compiled.{Compiled}
 use Rattle.cpg_core.specs.Compilation.{IsCompilation}
+use Rattle.cpg_core.proofs.CompiledLaws.{first_topological}
 use Rattle.cpg_core.proofs.OneCompilation.{ask_the_same}
 use Rattle.cpg_order.proofs.Urgent.{one_urgency_order}
 use Rattle.cpg_order.specs.Urgency.{IsUrgencyOrder}
@@ -165,5 +166,6 @@ show_and_compile_agree r q g text pack shows packs =
       admitted = one.admitted;
       shows = one.made_of;
       packs = made;
-      same = ask_the_same a.graph one.admitted.well_formed a.order one.admitted.topological one.made_of.compiled made.compiled one.made_of.compilation made.compilation;
+      same = ask_the_same a.graph one.admitted.well_formed a.order one.admitted.topological
+          (first_topological a.graph a.order one.admitted.topological one.admitted.given) one.made_of.compiled made.compiled one.made_of.compilation made.compilation;
     }

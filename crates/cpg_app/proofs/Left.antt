@@ -7,6 +7,7 @@ use Rattle.cpg_table.specs.Valid.{IsValid}
 use Rattle.cpg_codec.specs.Packs.{AreLawful}
 use Rattle.cpg_violation.specs.Heads.{IsHeadFor}
 use Rattle.cpg_check.proofs.Verdicts.{other_head, faulty_tables}
+use Rattle.cpg_order.specs.Urgency.{first_order}
 use Rattle.cpg_reach.specs.Wide.{IsWide}
 use Rattle.cpg_core.specs.Compiled.{IsLate}
 use Rattle.cpg_core.specs.declared.fault.CompileFault.{CompileFault}
@@ -27,11 +28,11 @@ use Rattle.cpg_app.specs.Outputs.{AreJudgedSafe}
 
 -- want of memory, late, or too wide
 abbrev pub CompileLeft : Admission → Halt → Type 0
-CompileLeft a h = (status_of h ≡ 8) ⊎ (((status_of h ≡ 5) × IsLate a.graph a.order) ⊎ ((status_of h ≡ 6) × ((x : ℕ) × IsWide a.graph a.order x)))
+CompileLeft a h = (status_of h ≡ 8) ⊎ (((status_of h ≡ 5) × IsLate a.graph a.order) ⊎ ((status_of h ≡ 6) × ((x : ℕ) × IsWide a.graph (first_order a.graph a.order) x)))
 
 module _ (a b : Admission) (same : AreAlike a b) (h : Halt) where
   of_fault : (fault : CompileFault) → h ≡ halt_of_compile b fault → ShowsCompileFault b.graph b.order fault → CompileLeft a h
-  of_fault (CompileFault.TooWide x) e shows = inr (inr (ap status_of e, (x, moved a b same (λ g o. IsWide g o x) shows.wide)))
+  of_fault (CompileFault.TooWide x) e shows = inr (inr (ap status_of e, (x, moved a b same (λ g o. IsWide g (first_order g o) x) shows.0.wide)))
   of_fault (CompileFault.Late s p time) e shows = inr (inl (ap status_of e, moved a b same IsLate shows.0))
   of_fault CompileFault.OutOfMemory e shows = inl (ap status_of e)
 
@@ -69,6 +70,7 @@ refused_left parts h (HyperFault.Over p) e shows = inr (ap status_of e, (HyperFa
 refused_left parts h HyperFault.Period e shows = inr (ap status_of e, (HyperFault.Period, shows, λ k. cc))
 refused_left parts h (HyperFault.Count what) e shows = inr (ap status_of e, (HyperFault.Count what, shows, λ k. cc))
 refused_left parts h (HyperFault.LongName p) e shows = inr (ap status_of e, (HyperFault.LongName p, shows, λ k. cc))
+refused_left parts h (HyperFault.Order p) e shows = inr (ap status_of e, (HyperFault.Order p, shows, λ k. cc))
 refused_left parts h HyperFault.OutOfMemory e shows = inl (ap status_of e)
 
 pub parts_left : (parts : List Part) (h : Halt) → IsNotUnrolled parts h → PartsLeft parts h

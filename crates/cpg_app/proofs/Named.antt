@@ -50,10 +50,11 @@ of_rules g RuleFault.TooManyTracks shows = tt
 of_rules g (RuleFault.TwoAlternatives p s) shows = room_of g s shows.2.least.lawful
 of_rules g (RuleFault.NoSlot node) shows = tt
 of_rules g (RuleFault.TooBig e) shows = tt
+of_rules g (RuleFault.BadOrder p) shows = tt
 of_rules g RuleFault.OutOfMemory shows = tt
 
 of_compile : (a : Admission) (fault : CompileFault) → ShowsCompileFault a.graph a.order fault → IsNamed (halt_of_compile a fault)
-of_compile a (CompileFault.TooWide x) shows = shows.wide.within
+of_compile a (CompileFault.TooWide x) shows = shows.0.wide.within
 of_compile a (CompileFault.Late s p time) shows = room_of a.graph s shows.1.is_excess.least.lawful
 of_compile a CompileFault.OutOfMemory shows = tt
 
@@ -113,6 +114,7 @@ of_parts (HyperFault.Over p) = tt
 of_parts HyperFault.Period = tt
 of_parts (HyperFault.Count what) = tt
 of_parts (HyperFault.LongName p) = tt
+of_parts (HyperFault.Order p) = tt
 of_parts HyperFault.OutOfMemory = tt
 
 pub work_named : (c : Command) (vs : List Value) (h : Halt) → StopsWork c vs h → IsNamed h

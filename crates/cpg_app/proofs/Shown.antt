@@ -14,10 +14,11 @@ use Rattle.cpg_base.specs.Scenario.{Scenario}
 use Rattle.cpg_base.specs.WellFormed.{WellFormed}
 use Rattle.cpg_order.specs.Urgency.{IsTopological}
 use Rattle.cpg_rules.specs.Admission.{Admission, IsAdmitted}
+use Rattle.cpg_order.specs.Urgency.{first_order}
 use Rattle.cpg_reach.specs.Wide.{IsNarrow, IsWide}
 use Rattle.cpg_core.specs.declared.compiling.Compiled.{Compiled}
 use Rattle.cpg_core.specs.Compiled.{IsCompiled, IsTimely, IsLate}
-use Rattle.cpg_core.proofs.CompiledLaws.{not_late_and_compiled, not_timely_and_late}
+use Rattle.cpg_core.proofs.CompiledLaws.{first_topological, not_late_and_compiled, not_timely_and_late}
 use Rattle.cpg_table.specs.declared.fault.Fault.{Fault}
 use Rattle.cpg_table.specs.Lawful.{Tables}
 use Rattle.cpg_table.specs.Valid.{IsValid}
@@ -41,7 +42,7 @@ use Rattle.cpg_app.specs.Causes.{IsNotUnrolled, IsUncompiled, StopsVerdict, Stop
 use Rattle.cpg_app.specs.Outputs.{IsMadeOf, PutsOut, packed, shown}
 use Rattle.cpg_outputs.specs.Told.{Untouched}
 use Rattle.cpg_app.specs.Endings.{Ran, EndsBy, EndsWith, Follows, Has, IsPrinted, IsTold, Prints, Stops}
-use Rattle.cpg_app.specs.Lawful.{Asks, AsksForTables, AsksVerdict, IsClosedStream, IsFailed, IsFaultless, IsLawful, IsUnreadStream}
+use Rattle.cpg_app.specs.Lawful.{Asks, AsksForTables, AsksVerdict, IsClosedStream, IsFailed, IsFaultless, IsLawful, IsUnreadStream, IsRefusedAsWide}
 use Rattle.cpg_app.proofs.Asked.{on_graph, on_judged, on_logged, on_parts, on_played, on_tables, printed, stopped_by}
 use Rattle.cpg_app.proofs.Left.{CheckLeft, CompileLeft, PartsLeft, check_left, compile_left, judged_is, parts_left}
 use Rattle.cpg_app.proofs.Statuses.{late_of, not_three, not_zero, of_files, of_work, read_of, refused_of, unsafe_of, wide_of}
@@ -73,6 +74,9 @@ module _ (r : Ran) where
 
   topological : (a : Admission) → AsksForTables r a → IsTopological a.graph a.order
   topological a asks = (admitted_here a asks).topological
+
+  first_is_topological : (a : Admission) → AsksForTables r a → IsTopological a.graph (first_order a.graph a.order)
+  first_is_topological a asks = let is = admitted_here a asks in first_topological a.graph a.order is.topological is.given
 
   tables_faultless : (a : Admission) → AsksForTables r a → IsFaultless r
   tables_faultless a (graph, inl asks) = asks.faultless
@@ -174,13 +178,13 @@ module _ (r : Ran) where
     with_safe : IsFaultless r → (r.status ≡ 0) ⊎ (r.status ≡ 8)
     with_safe faultless = elim with.ending [ inl p ↦ inl p.status | inr c ↦ absurd (faultless.out c.out.rose) ]
 
-    with_wide : (a : Admission) (x : ℕ) → AsksForTables r a → IsWide a.graph a.order x → (r.status ≡ 6) ⊎ (r.status ≡ 8)
-    with_wide a x asks wide = let made = made_here a asks text with.prints in
-        absurd (moved a made.1 made.2 IsNarrow made.3.compilation.compiled.narrow x wide)
+    with_wide : (a : Admission) (x : ℕ) → AsksForTables r a → a.graph.order ≡ None → IsWide a.graph (first_order a.graph a.order) x → (r.status ≡ 6) ⊎ (r.status ≡ 8)
+    with_wide a x asks ungiven wide = let made = made_here a asks text with.prints in
+        absurd (moved a made.1 made.2 (λ g o. g.order ≡ None → IsNarrow g (first_order g o)) made.3.compilation.compiled.narrow ungiven x wide)
 
-    with_late : (a : Admission) → AsksForTables r a → IsLate a.graph a.order → (r.status ≡ 5) ⊎ (r.status ≡ 8)
+    with_late : (a : Admission) → AsksForTables r a → IsLate a.graph a.order → ((r.status ≡ 5) ⊎ (r.status ≡ 8)) ⊎ IsRefusedAsWide r a
     with_late a asks late = let made = made_here a asks text with.prints in
-        absurd (not_late_and_compiled a.graph (formed a asks) a.order (topological a asks) made.3.compiled.order late (moved a made.1 made.2 (λ g o. IsCompiled g o made.3.compiled.order) made.3.compilation.compiled))
+        absurd (not_late_and_compiled a.graph (formed a asks) a.order (topological a asks) (first_is_topological a asks) made.3.compiled.order late (moved a made.1 made.2 (λ g o. IsCompiled g o made.3.compiled.order) made.3.compilation.compiled))
 
     with_nameless : (pack name : Text) (t : Tables) → Asks r (Node pack name) (tables_value t ∷ []) → first_named t.head name ≡ None → (r.status ≡ 4) ⊎ (r.status ≡ 8)
     with_nameless pack name t asks none = let q = printed r _ _ asks.has text with.prints in let k = on_tables t q.0 _ q.1 q.2 in absurd (none-some k.node (sym none ∙ k.named))
@@ -205,7 +209,7 @@ module _ (r : Ran) where
       is_unsafe = λ seven. absurd (other_status 7 seven (λ e. omega arith) (λ e. omega arith));
       silent = λ zero three. absurd (elim with_status [ inl z ↦ zero z | inr t ↦ three t ]);
       wide = with_wide;
-      made = λ a asks narrow timely. with_safe (tables_faultless a asks);
+      made = λ a asks timely. inl (with_safe (tables_faultless a asks));
       late = with_late;
       other = λ a t asks differs. absurd (differs (judged_here a t asks text with.prints).0);
       safe = λ a t asks head valid. with_safe (check_faultless a t asks);
@@ -305,25 +309,28 @@ module _ (r : Ran) where
       here : r.status ≡ status_of halt
       here = told_here (tables_faultless a asks)
 
-      by_wide : (x : ℕ) → IsWide a.graph a.order x → (r.status ≡ 6) ⊎ (r.status ≡ 8)
-      by_wide x wide = elim (tables_left a asks halt by.stops) [
+      by_wide : (x : ℕ) → a.graph.order ≡ None → IsWide a.graph (first_order a.graph a.order) x → (r.status ≡ 6) ⊎ (r.status ≡ 8)
+      by_wide x ungiven wide = elim (tables_left a asks halt by.stops) [
         | inl e ↦ inr (here ∙ e)
-        | inr (inl late) ↦ absurd (late.1.narrow x wide)
+        | inr (inl late) ↦ absurd (late.1.narrow ungiven x wide)
         | inr (inr shows) ↦ inl (here ∙ shows.0)
       ]
 
-      by_made : IsNarrow a.graph a.order → IsTimely a.graph a.order → (r.status ≡ 0) ⊎ (r.status ≡ 8)
-      by_made narrow timely = elim (tables_left a asks halt by.stops) [
-        | inl e ↦ inr (here ∙ e)
-        | inr (inl late) ↦ absurd (not_timely_and_late a.graph (formed a asks) a.order (topological a asks) timely late.1)
-        | inr (inr wide) ↦ absurd (narrow wide.1.0 wide.1.1)
+      refused_as_wide : (status_of halt ≡ 6) × ((x : ℕ) × IsWide a.graph (first_order a.graph a.order) x) → IsRefusedAsWide r a
+      refused_as_wide w = record { status = here ∙ w.0; item = w.1.0; wide = w.1.1 }
+
+      by_made : IsTimely a.graph a.order → ((r.status ≡ 0) ⊎ (r.status ≡ 8)) ⊎ IsRefusedAsWide r a
+      by_made timely = elim (tables_left a asks halt by.stops) [
+        | inl e ↦ inl (inr (here ∙ e))
+        | inr (inl late) ↦ absurd (not_timely_and_late a.graph (formed a asks) a.order (topological a asks) (first_is_topological a asks) timely late.1)
+        | inr (inr wide) ↦ inr (refused_as_wide wide)
       ]
 
-      by_late : IsLate a.graph a.order → (r.status ≡ 5) ⊎ (r.status ≡ 8)
+      by_late : IsLate a.graph a.order → ((r.status ≡ 5) ⊎ (r.status ≡ 8)) ⊎ IsRefusedAsWide r a
       by_late is_late = elim (tables_left a asks halt by.stops) [
-        | inl e ↦ inr (here ∙ e)
-        | inr (inl late) ↦ inl (here ∙ late.0)
-        | inr (inr wide) ↦ absurd (is_late.narrow wide.1.0 wide.1.1)
+        | inl e ↦ inl (inr (here ∙ e))
+        | inr (inl late) ↦ inl (inl (here ∙ late.0))
+        | inr (inr wide) ↦ inr (refused_as_wide wide)
       ]
 
     module _ (a : Admission) (t : Tables) (asks : AsksVerdict r a t) where
@@ -417,7 +424,7 @@ module _ (r : Ran) where
       is_wide = by_width;
       is_unsafe = by_fault;
       silent = λ zero three. inl by_silent;
-      wide = λ a x asks wide. by_wide a asks x wide;
+      wide = λ a x asks ungiven wide. by_wide a asks x ungiven wide;
       made = by_made;
       late = by_late;
       other = by_other;

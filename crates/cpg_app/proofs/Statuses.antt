@@ -121,6 +121,7 @@ of_rules g RuleFault.TooManyTracks = omega arith
 of_rules g (RuleFault.TwoAlternatives p s) = omega arith
 of_rules g (RuleFault.NoSlot node) = omega arith
 of_rules g (RuleFault.TooBig e) = omega arith
+of_rules g (RuleFault.BadOrder p) = omega arith
 of_rules g RuleFault.OutOfMemory = omega arith
 
 of_scenario : (fault : ScenarioFault) → 4 ≤ status_of (halt_of_scenario fault)
@@ -180,6 +181,7 @@ of_parts (HyperFault.Over p) = omega arith
 of_parts HyperFault.Period = omega arith
 of_parts (HyperFault.Count what) = omega arith
 of_parts (HyperFault.LongName p) = omega arith
+of_parts (HyperFault.Order p) = omega arith
 of_parts HyperFault.OutOfMemory = omega arith
 
 pub of_work : (c : Command) (vs : List Value) (h : Halt) → StopsWork c vs h → 4 ≤ status_of h

@@ -115,8 +115,8 @@ module _ (r : Ran) (ends : EndsAtClose r) where
     is_wide = λ six. absurd (zero_alone 6 six (λ e. omega arith));
     is_unsafe = λ seven. absurd (zero_alone 7 seven (λ e. omega arith));
     silent = λ zero three. absurd (zero ends.status);
-    wide = λ a x asks wide. absurd (not_shown r closed_stream a asks);
-    made = λ a asks narrow timely. absurd (not_shown r closed_stream a asks);
+    wide = λ a x asks ungiven wide. absurd (not_shown r closed_stream a asks);
+    made = λ a asks timely. absurd (not_shown r closed_stream a asks);
     late = λ a asks late. absurd (not_shown r closed_stream a asks);
     other = λ a t asks differs. absurd (not_judged r closed_stream a t asks);
     safe = λ a t asks head valid. absurd (not_judged r closed_stream a t asks);
@@ -206,8 +206,8 @@ module _ (r : Ran) (ends : EndsInStream r) where
     is_wide = λ six. absurd (other_status 6 six (λ e. omega arith) (λ e. omega arith) (λ e. omega arith));
     is_unsafe = λ seven. absurd (other_status 7 seven (λ e. omega arith) (λ e. omega arith) (λ e. omega arith));
     silent = silent;
-    wide = λ a x asks wide. absurd (not_shown r stream a asks);
-    made = λ a asks narrow timely. absurd (not_shown r stream a asks);
+    wide = λ a x asks ungiven wide. absurd (not_shown r stream a asks);
+    made = λ a asks timely. absurd (not_shown r stream a asks);
     late = λ a asks late. absurd (not_shown r stream a asks);
     other = λ a t asks differs. absurd (not_judged r stream a t asks);
     safe = λ a t asks head valid. absurd (not_judged r stream a t asks);

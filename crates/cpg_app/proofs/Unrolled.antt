@@ -8,7 +8,7 @@ use Rattle.cpg_hyper.specs.declared.part.Part.{Part}
 use Rattle.cpg_hyper.specs.declared.part.HyperFault.{HyperFault}
 use Rattle.cpg_hyper.specs.declared.part.HyperFault.TheVariants.{OutOfMemory}
 use Rattle.cpg_hyper.specs.Hyperperiod.{IsHyperperiod}
-use Rattle.cpg_hyper.specs.Refusals.{Exceeds, FailsFirst, HasFewEnough, HasShortNames, HoldsOfEach, IsAlike, IsInRange, FitsPeriod, ShowsUnrolled}
+use Rattle.cpg_hyper.specs.Refusals.{Exceeds, FailsFirst, HasFewEnough, HasShortNames, HoldsOfEach, IsAlike, IsInRange, FitsPeriod, GivesNoOrder, ShowsUnrolled}
 use Rattle.cpg_hyper.specs.Unrolled.{first_graph, unrolled}
 
 none_fails : (P : ℕ → Part → Type 0) (parts : List Part) (p : ℕ) → HoldsOfEach P parts → FailsFirst P parts p → ⊥
@@ -37,4 +37,5 @@ not_both parts g (HyperFault.Count what) made refused other =
 not_both parts g (HyperFault.LongName p) made refused other =
     let same = one_hyperperiod parts refused.0 made.0 refused.1.hyperperiod made.1.hyperperiod in
     none_fails (HasShortNames made.0) parts p made.3 (subst (λ n. FailsFirst (HasShortNames n) parts p) same refused.3)
+not_both parts g (HyperFault.Order p) made refused other = none_fails (λ q part. GivesNoOrder part) parts p made.4 refused.4
 not_both parts g HyperFault.OutOfMemory made refused other = other refl

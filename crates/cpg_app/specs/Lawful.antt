@@ -10,7 +10,8 @@ use Rattle.cpg_words.specs.declared.command.Pair.{Pair}
 use Rattle.cpg_words.specs.declared.command.Command.{Command}
 use Rattle.cpg_words.specs.declared.command.Command.TheVariants.{Show, Compile, Check, Play, Node, Trial, Live, Hyper, Tune, Audit}
 use Rattle.cpg_rules.specs.Admission.{Admission}
-use Rattle.cpg_reach.specs.Wide.{IsNarrow, IsWide}
+use Rattle.cpg_reach.specs.Wide.{IsWide}
+use Rattle.cpg_order.specs.Urgency.{first_order}
 use Rattle.cpg_core.specs.Compiled.{IsTimely, IsLate}
 use Rattle.cpg_table.specs.declared.fault.Fault.{Fault}
 use Rattle.cpg_table.specs.Lawful.{Tables}
@@ -100,6 +101,12 @@ pub record IsRefusedStream (r : Ran) : Type 0 where
   pub out : Whole r.out lines
   pub err : Whole r.err (fault_line fault)
 
+-- an item is too wide by its views under the first order, and the graph is refused so
+pub record IsRefusedAsWide (r : Ran) (a : Admission) : Type 0 where
+  pub status : r.status ≡ 6
+  pub item : ℕ
+  pub wide : IsWide a.graph (first_order a.graph a.order) item
+
 -- what each exit status says
 pub record IsLawful (r : Ran) : Type 0 where
   -- the run has an output or a reason to stop, and all of it was written but where a sink met a fault
@@ -124,12 +131,14 @@ pub record IsLawful (r : Ran) : Type 0 where
   -- but under 0 and 3, nothing was written to `out` except, where a stream that is followed meets a fault of the shelf or is
   -- refused, the lines of the records before
   pub silent : r.status ≢ 0 → r.status ≢ 3 → Untouched r.out ⊎ (((r.status ≡ 2) × IsUnreadStream r) ⊎ ((r.status ≡ 4) × IsRefusedStream r))
-  -- a graph is refused as too wide where some item is under its urgency order; else it is shown or packed where every
-  -- process ends by its due in every scenario, under that order or under the track order, and refused as late where some
-  -- process doesn't under either; but for want of memory
-  pub wide : (a : Admission) (x : ℕ) → AsksForTables r a → IsWide a.graph a.order x → (r.status ≡ 6) ⊎ (r.status ≡ 8)
-  pub made : (a : Admission) → AsksForTables r a → IsNarrow a.graph a.order → IsTimely a.graph a.order → (r.status ≡ 0) ⊎ (r.status ≡ 8)
-  pub late : (a : Admission) → AsksForTables r a → IsLate a.graph a.order → (r.status ≡ 5) ⊎ (r.status ≡ 8)
+  -- A graph that gives no order is refused as too wide if some item is by its views under its urgency order. Else a graph is shown or
+  -- packed if every process ends by its due in every scenario, under the order that it gives, or under its urgency order or its track order,
+  -- and refused as late if some process doesn't; or, if it gives an order under which some item is too wide by its views, it may be refused
+  -- as too wide. Or memory runs out.
+  pub wide : (a : Admission) (x : ℕ) → AsksForTables r a → a.graph.order ≡ None → IsWide a.graph (first_order a.graph a.order) x →
+      (r.status ≡ 6) ⊎ (r.status ≡ 8)
+  pub made : (a : Admission) → AsksForTables r a → IsTimely a.graph a.order → ((r.status ≡ 0) ⊎ (r.status ≡ 8)) ⊎ IsRefusedAsWide r a
+  pub late : (a : Admission) → AsksForTables r a → IsLate a.graph a.order → ((r.status ≡ 5) ⊎ (r.status ≡ 8)) ⊎ IsRefusedAsWide r a
   -- tables are refused as another graph's where their head is, and else found safe, played, or a log audited by them, where
   -- they keep the ten rules, and found unsafe where they don't, but for want of memory
   pub other : (a : Admission) (t : Tables) → AsksVerdict r a t → (IsHeadFor a.graph t.head → ⊥) → (r.status ≡ 4) ⊎ (r.status ≡ 8)

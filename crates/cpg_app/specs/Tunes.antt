@@ -3,6 +3,8 @@ use Rattle.std.specs.Prelude.{ℕ, ◌≡◌, List}
 use Rattle.cpg_base.specs.Graph.{Graph}
 use Rattle.cpg_base.specs.Scenario.{Scenario}
 use Rattle.cpg_words.specs.Parts.{Text}
+use Rattle.cpg_order.specs.Urgency.{first_order}
+use Rattle.cpg_reach.specs.Wide.{IsLeastWide, IsNarrow}
 use Rattle.cpg_rules.specs.Guards.{Guards}
 use Rattle.cpg_rules.specs.Admission.{IsAdmitted}
 use Rattle.cpg_core.specs.declared.compiling.Compiled.{Compiled}
@@ -13,12 +15,13 @@ use Rattle.cpg_tune.specs.declared.judge.Judged.TheVariants.{Worst, Late, Wide}
 use Rattle.cpg_tune.specs.Tuned.{Tuning, IsTuning}
 use Rattle.cpg_outputs.specs.Tunes.{tuning_text}
 
--- what the compile of a graph says: the greatest finish of its tables, the end of a process that is late, or an item that is
--- too wide
+-- what is said of a graph: the first item that is too wide by its views under the first order; and if there is none, what the compile
+-- says: the greatest finish of the tables, or the end of a process that is late
 abbrev pub IsCompileAnswer : Graph → List ℕ → Judged → Type 0
-IsCompileAnswer g urgency (Worst finish) = (c : Compiled) × IsCompilation g urgency c × (c.built.worst ≡ finish)
-IsCompileAnswer g urgency (Late finish) = (s : Scenario) × (p : ℕ) × ShowsCompileFault g urgency (CompileFault.Late s p finish)
-IsCompileAnswer g urgency (Wide item) = ShowsCompileFault g urgency (CompileFault.TooWide item)
+IsCompileAnswer g urgency (Worst finish) = IsNarrow g (first_order g urgency) × (c : Compiled) × IsCompilation g urgency c × (c.built.worst ≡ finish)
+IsCompileAnswer g urgency (Late finish) =
+    IsNarrow g (first_order g urgency) × (s : Scenario) × (p : ℕ) × ShowsCompileFault g urgency (CompileFault.Late s p finish)
+IsCompileAnswer g urgency (Wide item) = IsLeastWide g (first_order g urgency) item
 
 -- the graph is admitted, and its compile says so
 pub record IsJudged (g : Graph) (judged : Judged) : Type 0 where

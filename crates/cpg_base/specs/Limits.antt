@@ -1,5 +1,5 @@
 -- The limits of a graph file: how much of each there may be, and in which range each number lies.
-use Rattle.std.specs.Prelude.{ℕ, ◌≢◌, ◌≤◌, ◌<◌, length, All, AllPairs, IfSome}
+use Rattle.std.specs.Prelude.{ℕ, ◌≢◌, ◌≤◌, ◌<◌, List, length, All, AllPairs, IfSome}
 use Rattle.cpg_base.specs.declared.limits.TheConstants.{MOST_FAULTS, MOST_NODES, MOST_PROCESSES, MOST_EDGES, MOST_CONDITIONS, MOST_PARTS, LONGEST, LARGEST}
 use Rattle.cpg_base.specs.Graph.{Graph, Process, Edge, Slot, process_count, edge_count, condition_count}
 
@@ -31,6 +31,11 @@ pub record IsEdgeWithin (processes : ℕ) (e : Edge) : Type 0 where
   pub sized : 1 ≤ e.size
   pub size : e.size ≤ LARGEST
 
+-- different processes
+pub record IsOrderWithin (processes : ℕ) (order : List ℕ) : Type 0 where
+  pub there : All (λ p. p < processes) order
+  pub once : AllPairs (λ p q. p ≢ q) order
+
 -- how many there are of each, what each number is, and that no two of a kind have one name, nor two slots one node
 pub record IsWithinLimits (g : Graph) : Type 0 where
   pub faults : g.faults ≤ MOST_FAULTS
@@ -46,3 +51,4 @@ pub record IsWithinLimits (g : Graph) : Type 0 where
   pub node_names : AllPairs (λ a b. a ≢ b) g.nodes
   pub process_names : AllPairs (λ p q. p.name ≢ q.name) g.processes
   pub own_slots : AllPairs (λ s t. s.node ≢ t.node) g.slots
+  pub order : IfSome g.order (IsOrderWithin (process_count g))

@@ -1,9 +1,10 @@
 //! A graph within its limits.
-ghost use Rattle.std.specs.Prelude.{◌≡◌, ◌<◌, ◌≤◌, ◌↔◌, IsTrue, IfOk, IfSome, IfNone, Some, sum_by, ◌^◌};
+ghost use Rattle.std.specs.Prelude.{◌≡◌, ◌<◌, ◌≤◌, ◌↔◌, IsTrue, IfOk, IfSome, IfNone, Some, None, sum_by, ◌^◌};
+ghost use Rattle.std.specs.Option.{option_map};
 ghost use Rattle.cpg_base.specs.Graph.{process_count, condition_count, condition_of, process_of, process_at};
 ghost use Rattle.cpg_base.specs.Bus.{round};
 ghost use Rattle.cpg_base.specs.Duration.{duration, due};
-ghost use Rattle.cpg_base.specs.Limits.{IsWithinLimits};
+ghost use Rattle.cpg_base.specs.Limits.{IsWithinLimits, IsOrderWithin};
 
 use crate::conditions::Conditions;
 use crate::limits::{
@@ -14,7 +15,8 @@ use crate::{Edge, Name, OutOfMemory, Process, Slot};
 use std::marker::Model;
 
 /// A conditional process graph within the limits of a graph file (docs/FORMATS.md), seen as its fault number, its
-/// deadline, its nodes' names, its slots in the order of the round, its processes and its edges.
+/// deadline, its nodes' names, its slots in the order of the round, its processes, its edges, and the order to compile
+/// under, if it gives one.
 #[derive(Drop)]
 pub struct Problem {
     faults: u8,
@@ -23,11 +25,13 @@ pub struct Problem {
     slots: Vec<Slot>,
     processes: Vec<Process>,
     edges: Vec<Edge>,
+    order: Option<Vec<u32>>,
     conditions: Conditions,
 }
 
 impl Model for Problem {
     ghost use Rattle.std.specs.Prelude.{◌≡◌};
+    ghost use Rattle.std.specs.Option.{option_map};
     ghost use Rattle.cpg_base.specs.Graph.{Graph, disjunctions};
     ghost use Rattle.cpg_base.specs.Limits.{IsWithinLimits};
 
@@ -40,6 +44,7 @@ impl Model for Problem {
       slots = p.slots.items;
       processes = p.processes.items;
       edges = p.edges.items;
+      order = option_map (λ v. v.items) p.order;
     } };
 
     ghost invariant = { λ p. let g : Graph = record {
@@ -49,6 +54,7 @@ impl Model for Problem {
       slots = p.slots.items;
       processes = p.processes.items;
       edges = p.edges.items;
+      order = option_map (λ v. v.items) p.order;
     } in IsWithinLimits g × (p.conditions ≡ disjunctions g) };
 }
 
@@ -79,7 +85,7 @@ fn round_of(slots: &[Slot]) -> u64
 }
 
 impl Problem {
-    /// The graph of these parts, and `None` exactly where one of the limits is broken.
+    /// The graph of these parts, which gives no order, and `None` exactly if one of the limits is broken.
     pub fn new(
         faults: u8,
         deadline: u64,
@@ -95,6 +101,7 @@ impl Problem {
           slots = slots.items;
           processes = processes.items;
           edges = edges.items;
+          order = None;
         }) }
         ensures within { IfSome result IsWithinLimits }
         ensures refused { IfNone result (¬ IsWithinLimits (record {
@@ -104,6 +111,7 @@ impl Problem {
           slots = slots.items;
           processes = processes.items;
           edges = edges.items;
+          order = None;
         })) }
     {
         if !are_counts_within(
@@ -144,11 +152,12 @@ impl Problem {
             slots,
             processes,
             edges,
+            order: None,
             conditions,
         })
     }
 
-    /// The graph of these parts, which were judged before.
+    /// The graph of these parts, which were judged before. It gives no order.
     pub fn of(
         faults: u8,
         deadline: u64,
@@ -164,6 +173,7 @@ impl Problem {
           slots = slots.items;
           processes = processes.items;
           edges = edges.items;
+          order = None;
         }) }
         ensures { result ≡ record {
           faults = faults;
@@ -172,6 +182,7 @@ impl Problem {
           slots = slots.items;
           processes = processes.items;
           edges = edges.items;
+          order = None;
         } }
     {
         let Some(conditions) = Conditions::of(processes.len(), edges.as_slice()) else {
@@ -184,8 +195,17 @@ impl Problem {
             slots,
             processes,
             edges,
+            order: None,
             conditions,
         }
+    }
+
+    /// The same graph with this order to compile under, in place of the one that it gives.
+    pub fn with_order(self, order: Option<Vec<u32>>) -> Problem
+        requires { IfSome order (λ list. IsOrderWithin (process_count self) list.items) }
+        ensures { result ≡ record self { order = option_map (λ list. list.items) order } }
+    {
+        Problem { order, ..self }
     }
 
     /// The greatest number of faults in a cycle.
@@ -234,6 +254,14 @@ impl Problem {
         ensures within { IsWithinLimits self.now }
     {
         self.edges.as_slice()
+    }
+
+    /// The order to compile under, as numbers of processes, and `None` if the graph gives none.
+    pub fn given_order(&self) -> Option<&[u32]>
+        ensures order { option_map (λ list. list.now) result ≡ self.now.order }
+        ensures within { IsWithinLimits self.now }
+    {
+        self.order.as_ref().map(|order| order.as_slice())
     }
 
     /// The length of a round of the bus, in time units.
@@ -299,6 +327,16 @@ impl Problem {
         }
     }
 
+    /// A copy of the order to compile under.
+    pub fn order_copy(&self) -> Result<Option<Vec<u32>>, OutOfMemory>
+        ensures { IfOk result (λ copy. option_map (λ list. list.items) copy ≡ self.now.order) }
+    {
+        match &self.order {
+            Some(order) => Ok(Some(order.clone()?)),
+            None => Ok(None),
+        }
+    }
+
     /// An equal problem.
     pub fn copy(&self) -> Result<Problem, OutOfMemory>
         ensures { IfOk result (λ problem. problem ≡ self.now) }
@@ -310,6 +348,7 @@ impl Problem {
             slots: self.slots.clone()?,
             processes: self.processes.clone()?,
             edges: self.edges.clone()?,
+            order: self.order_copy()?,
             conditions: self.conditions.copy(),
         })
     }

@@ -1,17 +1,15 @@
 //! Worked cases of the whole program: files and words, run over a shelf and sinks in memory.
 //!
-//! The list of the cases is read from the standard input. An empty line, or one that begins with `#`, says nothing; each
-//! other line is an item:
+//! Each line of the standard input names a list of cases, a file of the folder. What an item of one list makes, the later lists
+//! have too. In a list, an empty line, or one that begins with `#`, says nothing; each other line is an item:
 //!
 //! | item | what it does |
 //! |---|---|
 //! | `case TITLE` | prints a title |
-//! | `file NAME ..` | takes files of the folder, each under its name |
-//! | `hex NAME ..` | takes the bytes that files of the folder spell, two digits each, up to a `#` in a line |
 //! | `feeds NAME COUNT` | makes a file of so many line feeds |
 //! | `edit NAME FROM OLD => NEW` | makes a text of another file's, with NEW in place of its first OLD |
 //! | `set NAME FROM PLACE BYTE ..` | makes bytes of another file's, with others from a place on |
-//! | `keep NAME` | the last output stands under a name |
+//! | `keep NAME` | makes a file of the last output |
 //! | `room OUT ERR` | the sinks of the next run take so many bytes |
 //! | `fail CALL` | a call of the shelf in the next run fails, counted from 0 |
 //! | `first LINES` | of the next output only the first lines are printed |
@@ -20,6 +18,9 @@
 //! | `refusals WORD ..` | runs them, which are refused, with an error output of each room below the line that they write |
 //! | `calls WORD ..` | runs them with each call of the shelf failing in turn, until a run has status 0 |
 //! | `parts COUNT NAME WORD ..` | runs them with the longest proper beginnings of a pack in its place |
+//!
+//! A name is that of a file that an item made, or else of one of the folder. A file NAME.hex of the folder spells its bytes, two
+//! digits each, up to a `#` in a line.
 //!
 //! A run prints its words, each line of its output behind `>` and of its error output behind `!`, or the bytes by two
 //! digits where they are no text, and its status. The last four print of how many runs how many ended as they are to: by
@@ -36,31 +37,41 @@ mod sweeps;
 
 use crate::session::Session;
 use crate::stopped::Stopped;
+use std::fs;
 use std::process::ExitCode;
 
-/// Takes a line of the list.
+/// Takes a line of a list.
 fn take_line(rt: &HostRuntime, session: &mut Session, line: &str) -> Result<(), Stopped> {
-    if line.starts_with('#') {
+    if line.is_empty() || line.starts_with('#') {
         return Ok(());
     }
-    if session.take_line(rt, line).is_err() {
+    if session.take(rt, line).is_err() {
         println!(rt; "stopped at: {line}")?;
         return Err(Stopped);
     }
     Ok(())
 }
 
-/// Takes the lines of the list.
-fn take_lines(rt: &HostRuntime) -> Result<(), Stopped> {
+/// Takes the lines of a list.
+fn take_list(rt: &HostRuntime, session: &mut Session, name: &str) -> Result<(), Stopped> {
+    let list = fs::read_to_string(rt, name)?;
+    for line in list.as_str().lines() {
+        take_line(rt, session, line)?;
+    }
+    Ok(())
+}
+
+/// Takes all lists.
+fn take_lists(rt: &HostRuntime) -> Result<(), Stopped> {
     let mut session = Session::new(rt.alloc())?;
-    for line in rt.lines(rt.alloc()) {
-        take_line(rt, &mut session, line?.as_str())?;
+    for name in rt.lines(rt.alloc()) {
+        take_list(rt, &mut session, name?.as_str())?;
     }
     Ok(())
 }
 
 fn main(rt: HostRuntime) -> ExitCode {
-    match take_lines(&rt) {
+    match take_lists(&rt) {
         Ok(()) => ExitCode::from(0),
         Err(Stopped) => ExitCode::from(1),
     }

@@ -1,20 +1,30 @@
 //! Runs of the top call.
 
+use crate::files::bytes_of;
 use crate::stopped::Stopped;
 use cpg_app::run;
-use cpg_base::OutOfMemory;
-use cpg_io::{MemoryShelf, MemorySink, ReadAll, read_all};
-use std::alloc::Global;
+use cpg_io::{MemoryShelf, MemorySink};
 
-/// The most bytes of a file.
-pub const MOST_BYTES: usize = 1_000_000_000;
-
-/// How many bytes the sinks of a run take.
+/// What a run has of its own.
 #[derive(Clone, Copy)]
-pub struct Room {
+pub struct Setting {
+    /// How many bytes the output takes.
     pub out: usize,
+    /// How many bytes the error output takes.
     pub err: usize,
+    /// The number of a call of the shelf that fails.
+    pub failing: Option<u64>,
+    /// How many lines of the output are printed.
+    pub lines: usize,
 }
+
+/// What a run has where nothing is said.
+pub const USUAL: Setting = Setting {
+    out: 10_000_000,
+    err: 1000,
+    failing: None,
+    lines: usize::MAX,
+};
 
 /// What a run answered and wrote.
 #[derive(Drop)]
@@ -24,55 +34,51 @@ pub struct Outcome {
     pub err: MemorySink,
 }
 
-/// Lets the file of this name stand on a shelf too, where there is one.
-fn lend(
-    alloc: Global,
-    files: &mut MemoryShelf,
-    shelf: &mut MemoryShelf,
-    name: &str,
-) -> Result<(), Stopped> {
-    match read_all(alloc, files, name, MOST_BYTES) {
-        Ok(bytes) => shelf.put(name, bytes.as_slice())?,
-        Err(ReadAll::Failed) => {}
-        Err(_) => return Err(Stopped),
+impl Outcome {
+    /// Whether a run answered and wrote just this.
+    pub fn is(&self, status: u8, out: &[u8], err: &[u8]) -> bool {
+        self.status == status && self.out.taken() == out && self.err.taken() == err
     }
-    Ok(())
 }
 
 /// A shelf of the files that some words name.
-pub fn shelf_for(
-    alloc: Global,
+fn shelf_for(
+    rt: &HostRuntime,
     files: &mut MemoryShelf,
     words: &[String],
 ) -> Result<MemoryShelf, Stopped> {
-    let mut shelf = MemoryShelf::new(alloc)?;
+    let mut shelf = MemoryShelf::new(rt.alloc())?;
     for word in words {
-        lend(alloc, files, &mut shelf, word.as_str())?;
+        if let Ok(bytes) = bytes_of(rt, files, word.as_str()) {
+            shelf.put(word.as_str(), bytes.as_slice())?;
+        }
     }
     Ok(shelf)
 }
 
 /// Runs words over a shelf.
-pub fn run_over(
-    alloc: Global,
+fn run_over(
+    rt: &HostRuntime,
     shelf: &mut MemoryShelf,
     words: &[String],
-    room: Room,
-) -> Result<Outcome, OutOfMemory> {
-    let mut out = MemorySink::new(alloc, room.out)?;
-    let mut err = MemorySink::new(alloc, room.err)?;
-    let status = run(alloc, words, shelf, &mut out, &mut err);
+    setting: Setting,
+) -> Result<Outcome, Stopped> {
+    if let Some(call) = setting.failing {
+        shelf.fail_call(call)?;
+    }
+    let mut out = MemorySink::new(rt.alloc(), setting.out)?;
+    let mut err = MemorySink::new(rt.alloc(), setting.err)?;
+    let status = run(rt.alloc(), words, shelf, &mut out, &mut err);
     Ok(Outcome { status, out, err })
 }
 
 /// Runs words over the files that they name.
 pub fn run_words(
-    alloc: Global,
+    rt: &HostRuntime,
     files: &mut MemoryShelf,
     words: &[String],
-    room: Room,
+    setting: Setting,
 ) -> Result<Outcome, Stopped> {
-    let mut shelf = shelf_for(alloc, files, words)?;
-    let outcome = run_over(alloc, &mut shelf, words, room)?;
-    Ok(outcome)
+    let mut shelf = shelf_for(rt, files, words)?;
+    run_over(rt, &mut shelf, words, setting)
 }

@@ -1,31 +1,13 @@
-//! The items of the list.
+//! The items of a list.
 
-use crate::files::number;
+use crate::files::{bytes_of, changed, replaced};
 use crate::printing::{print_outcome, print_sweep, print_words};
-use crate::runs::{Room, run_over, shelf_for};
+use crate::runs::{Setting, USUAL, run_words};
 use crate::stopped::Stopped;
-use crate::{files, sweeps};
+use crate::sweeps::{Sweep, calls, parts, refusals, rooms};
 use cpg_base::OutOfMemory;
 use cpg_io::MemoryShelf;
 use std::alloc::Global;
-
-/// What the next run has of its own.
-#[derive(Clone, Copy)]
-struct Setting {
-    room: Room,
-    failing: Option<u64>,
-    lines: usize,
-}
-
-/// What a run has where nothing is said.
-const USUAL: Setting = Setting {
-    room: Room {
-        out: 10_000_000,
-        err: 1000,
-    },
-    failing: None,
-    lines: usize::MAX,
-};
 
 /// What the items so far leave to the next one.
 #[derive(Drop)]
@@ -33,6 +15,24 @@ pub struct Session {
     files: MemoryShelf,
     next: Setting,
     wrote: Vec<u8>,
+}
+
+/// A text before a blank, and after it.
+fn split(text: &str) -> Result<(&str, &str), Stopped> {
+    text.split_once(' ').ok_or(Stopped)
+}
+
+fn number(text: &str) -> Result<usize, Stopped> {
+    Ok(text.parse::<usize>()?)
+}
+
+/// The words of a line.
+fn words_of(alloc: Global, line: &str) -> Result<Vec<String>, Stopped> {
+    let mut words = Vec::new(alloc);
+    for word in line.split_whitespace() {
+        words.push(String::from_str(alloc, word)?)?;
+    }
+    Ok(words)
 }
 
 impl Session {
@@ -45,163 +45,112 @@ impl Session {
         })
     }
 
-    /// The number of a call of the shelf that fails in the next run.
-    fn fail(&mut self, words: &[String]) -> Result<(), Stopped> {
-        let [call] = words else {
-            return Err(Stopped);
-        };
-        self.next.failing = Some(call.as_str().parse::<u64>()?);
+    fn feeds(&mut self, alloc: Global, rest: &str) -> Result<(), Stopped> {
+        let (name, count) = split(rest)?;
+        let bytes = vec![in alloc; b'\n'; number(count)?]?;
+        Ok(self.files.put(name, bytes.as_slice())?)
+    }
+
+    fn edit(&mut self, rt: &HostRuntime, rest: &str) -> Result<(), Stopped> {
+        let (name, rest) = split(rest)?;
+        let (from, rest) = split(rest)?;
+        let (old, new) = rest.split_once(" => ").ok_or(Stopped)?;
+        let bytes = bytes_of(rt, &mut self.files, from)?;
+        let text = replaced(rt.alloc(), bytes.as_slice(), old, new)?;
+        Ok(self.files.put(name, text.as_bytes())?)
+    }
+
+    fn set(&mut self, rt: &HostRuntime, rest: &str) -> Result<(), Stopped> {
+        let (name, rest) = split(rest)?;
+        let (from, rest) = split(rest)?;
+        let (place, words) = split(rest)?;
+        let place = number(place)?;
+        let bytes = bytes_of(rt, &mut self.files, from)?;
+        let made = changed(rt.alloc(), bytes.as_slice(), place, words)?;
+        Ok(self.files.put(name, made.as_slice())?)
+    }
+
+    fn keep(&mut self, name: &str) -> Result<(), Stopped> {
+        Ok(self.files.put(name, self.wrote.as_slice())?)
+    }
+
+    fn room(&mut self, rest: &str) -> Result<(), Stopped> {
+        let (out, err) = split(rest)?;
+        self.next.out = number(out)?;
+        self.next.err = number(err)?;
         Ok(())
     }
 
-    /// How many bytes the sinks of the next run take.
-    fn room(&mut self, words: &[String]) -> Result<(), Stopped> {
-        let [out, err] = words else {
-            return Err(Stopped);
-        };
-        self.next.room = Room {
-            out: number(out.as_str())?,
-            err: number(err.as_str())?,
-        };
+    fn fail(&mut self, call: &str) -> Result<(), Stopped> {
+        self.next.failing = Some(call.parse::<u64>()?);
         Ok(())
     }
 
-    /// How many lines of the next output are printed.
-    fn first(&mut self, words: &[String]) -> Result<(), Stopped> {
-        let [lines] = words else {
-            return Err(Stopped);
-        };
-        self.next.lines = number(lines.as_str())?;
+    fn first(&mut self, lines: &str) -> Result<(), Stopped> {
+        self.next.lines = number(lines)?;
         Ok(())
     }
 
-    /// The last output stands under a name.
-    fn keep(&mut self, words: &[String]) -> Result<(), Stopped> {
-        let [name] = words else {
-            return Err(Stopped);
-        };
-        self.files.put(name.as_str(), self.wrote.as_slice())?;
-        Ok(())
-    }
-
-    /// The shelf of the next run.
-    fn shelf(&mut self, alloc: Global, words: &[String]) -> Result<MemoryShelf, Stopped> {
-        let mut shelf = shelf_for(alloc, &mut self.files, words)?;
-        if let Some(call) = self.next.failing {
-            shelf.fail_call(call)?;
-        }
-        Ok(shelf)
-    }
-
-    /// Runs the words after the program's name.
     fn run(&mut self, rt: &HostRuntime, words: &[String]) -> Result<(), Stopped> {
-        print_words(rt, words)?;
-        let alloc = rt.alloc();
-        let mut shelf = self.shelf(alloc, words)?;
-        let got = run_over(alloc, &mut shelf, words, self.next.room)?;
+        let got = run_words(rt, &mut self.files, words, self.next)?;
         print_outcome(rt, &got, self.next.lines)?;
-        self.wrote = Vec::from_slice(alloc, got.out.taken())?;
+        self.wrote = Vec::from_slice(rt.alloc(), got.out.taken())?;
         self.next = USUAL;
         Ok(())
     }
 
-    /// Runs words with each room of the output that is too small.
-    fn rooms(&mut self, rt: &HostRuntime, words: &[String]) -> Result<(), Stopped> {
-        print_words(rt, words)?;
-        let sweep = sweeps::rooms(rt.alloc(), &mut self.files, words)?;
-        Ok(print_sweep(rt, "rooms", sweep)?)
-    }
-
-    /// Runs words that are refused with each room of the error output that is too small.
-    fn refusals(&mut self, rt: &HostRuntime, words: &[String]) -> Result<(), Stopped> {
-        print_words(rt, words)?;
-        let sweep = sweeps::refusals(rt.alloc(), &mut self.files, words)?;
-        Ok(print_sweep(rt, "refusals", sweep)?)
-    }
-
-    /// Runs words with each call of the shelf failing.
-    fn calls(&mut self, rt: &HostRuntime, words: &[String]) -> Result<(), Stopped> {
-        print_words(rt, words)?;
-        let sweep = sweeps::calls(rt.alloc(), &mut self.files, words)?;
-        Ok(print_sweep(rt, "calls", sweep)?)
-    }
-
-    /// Runs words with beginnings of a pack: `COUNT NAME WORD ..`.
-    fn parts(&mut self, rt: &HostRuntime, words: &[String]) -> Result<(), Stopped> {
-        let [count, name, words @ ..] = words else {
-            return Err(Stopped);
-        };
-        print_words(rt, words)?;
-        let count = number(count.as_str())?;
-        let sweep = sweeps::parts(rt.alloc(), &mut self.files, count, name.as_str(), words)?;
-        Ok(print_sweep(rt, "parts", sweep)?)
-    }
-
-    /// Takes an item that runs words.
-    fn take_run(&mut self, rt: &HostRuntime, item: &str, words: &[String]) -> Result<(), Stopped> {
+    /// Many runs, by the name of their item.
+    fn sweep(&mut self, rt: &HostRuntime, item: &str, words: &[String]) -> Result<Sweep, Stopped> {
         match item {
-            "run" => self.run(rt, words),
-            "rooms" => self.rooms(rt, words),
-            "refusals" => self.refusals(rt, words),
-            "calls" => self.calls(rt, words),
-            "parts" => self.parts(rt, words),
+            "rooms" => rooms(rt, &mut self.files, words),
+            "refusals" => refusals(rt, &mut self.files, words),
+            "calls" => calls(rt, &mut self.files, words),
             _ => Err(Stopped),
         }
     }
 
+    /// Takes an item that runs words.
+    fn take_run(&mut self, rt: &HostRuntime, item: &str, rest: &str) -> Result<(), Stopped> {
+        let words = words_of(rt.alloc(), rest)?;
+        print_words(rt, words.as_slice())?;
+        if item == "run" {
+            return self.run(rt, words.as_slice());
+        }
+        let sweep = self.sweep(rt, item, words.as_slice())?;
+        Ok(print_sweep(rt, item, sweep)?)
+    }
+
+    fn parts(&mut self, rt: &HostRuntime, rest: &str) -> Result<(), Stopped> {
+        let (count, rest) = split(rest)?;
+        let (name, rest) = split(rest)?;
+        let count = number(count)?;
+        let words = words_of(rt.alloc(), rest)?;
+        print_words(rt, words.as_slice())?;
+        let sweep = parts(rt, &mut self.files, words.as_slice(), name, count)?;
+        Ok(print_sweep(rt, "parts", sweep)?)
+    }
+
     /// Takes an item that says what the next run has.
-    fn take_setting(
-        &mut self,
-        rt: &HostRuntime,
-        item: &str,
-        words: &[String],
-    ) -> Result<(), Stopped> {
+    fn take_setting(&mut self, rt: &HostRuntime, item: &str, rest: &str) -> Result<(), Stopped> {
         match item {
-            "keep" => self.keep(words),
-            "room" => self.room(words),
-            "fail" => self.fail(words),
-            "first" => self.first(words),
-            _ => self.take_run(rt, item, words),
+            "room" => self.room(rest),
+            "fail" => self.fail(rest),
+            "first" => self.first(rest),
+            "parts" => self.parts(rt, rest),
+            _ => self.take_run(rt, item, rest),
         }
     }
 
-    /// Takes an item of its name and its words.
-    fn take(&mut self, rt: &HostRuntime, item: &str, words: &[String]) -> Result<(), Stopped> {
+    /// Takes an item.
+    pub fn take(&mut self, rt: &HostRuntime, line: &str) -> Result<(), Stopped> {
+        let (item, rest) = line.split_once(' ').unwrap_or((line, ""));
         match item {
-            "file" => files::take_files(rt, &mut self.files, words),
-            "hex" => files::take_packs(rt, &mut self.files, words),
-            "set" => files::set(rt.alloc(), &mut self.files, words),
-            "feeds" => files::feeds(rt.alloc(), &mut self.files, words),
-            _ => self.take_setting(rt, item, words),
+            "case" => Ok(println!(rt; "\n{rest}")?),
+            "feeds" => self.feeds(rt.alloc(), rest),
+            "edit" => self.edit(rt, rest),
+            "set" => self.set(rt, rest),
+            "keep" => self.keep(rest),
+            _ => self.take_setting(rt, item, rest),
         }
     }
-
-    /// Takes a line of words.
-    fn take_words(&mut self, rt: &HostRuntime, line: &str) -> Result<(), Stopped> {
-        let words = words_of(rt.alloc(), line)?;
-        match words.as_slice() {
-            [item, words @ ..] => self.take(rt, item.as_str(), words),
-            [] => Ok(()),
-        }
-    }
-
-    /// Takes a line.
-    pub fn take_line(&mut self, rt: &HostRuntime, line: &str) -> Result<(), Stopped> {
-        if let Some(title) = line.strip_prefix("case ") {
-            return Ok(println!(rt; "\n{title}")?);
-        }
-        match line.strip_prefix("edit ") {
-            Some(rest) => files::edit(rt.alloc(), &mut self.files, rest),
-            None => self.take_words(rt, line),
-        }
-    }
-}
-
-/// The words of a line.
-fn words_of(alloc: Global, line: &str) -> Result<Vec<String>, Stopped> {
-    let mut words = Vec::new(alloc);
-    for word in line.split_whitespace() {
-        words.push(String::from_str(alloc, word)?)?;
-    }
-    Ok(words)
 }

@@ -1,12 +1,11 @@
-//! Why the list isn't gone through to its end.
+//! Why the lists aren't gone through to their end.
 
 use cpg_base::OutOfMemory;
-use cpg_io::ReadAll;
 use std::alloc::{AllocError, AllocFailed};
 use std::io;
 use std::num::ParseIntError;
 
-/// A line has no form, a file isn't there, the output can't be written, or memory is wanting.
+/// A line has no form, a file isn't there, the output can't be written, or memory ran out.
 #[derive(Clone, Copy)]
 pub struct Stopped;
 
@@ -24,12 +23,6 @@ impl<T: Drop> From<AllocFailed<T>> for Stopped {
 
 impl From<OutOfMemory> for Stopped {
     fn from(_: OutOfMemory) -> Stopped {
-        Stopped
-    }
-}
-
-impl From<ReadAll> for Stopped {
-    fn from(_: ReadAll) -> Stopped {
         Stopped
     }
 }

@@ -17,15 +17,16 @@ use Rattle.cpg_table.specs.Table.{NodeTable, Row, table_at, empty_table}
 use Rattle.cpg_head.specs.GraphHead.{head_of}
 use Rattle.cpg_table.specs.Lawful.{AreTablesOf}
 use Rattle.cpg_table.specs.Valid.{IsValid, hear_row, hear_rows}
-use Rattle.cpg_table.proofs.GraphTables.{has_shape, suits_graph}
+use Rattle.cpg_table.proofs.GraphTables.{has_shape}
 use Rattle.cpg_node.specs.Dispatcher.{Dispatcher, opening}
 use Rattle.cpg_node.specs.State.{NodeState}
-use Rattle.cpg_cluster.specs.Cluster.{World, own_table, dispatchers_from, open_cluster}
+use Rattle.cpg_cluster.specs.Cluster.{World, dispatchers_from, open_cluster}
 use Rattle.cpg_cluster.specs.Correct.{IsWorld, IsCorrect}
 use Rattle.cpg_cluster.specs.Playing.{IsPlaying, opened}
 use Rattle.cpg_cluster.specs.Keeping.{AreIndexed, noted_of, IsOpen, AreOpen, HearsItems, AllFit}
 use Rattle.cpg_cluster.specs.Kept.{cluster_of}
 use Rattle.cpg_cluster.specs.declared.member.Member.{Member}
+use Rattle.cpg_cluster.proofs.Owning.{own_is}
 use Rattle.cpg_cluster.proofs.Passed.{played_open}
 use Rattle.cpg_cluster.proofs.Plays.{valid_tables_are_correct}
 use Rattle.cpg_cluster.proofs.Reached.{dispatchers_at, dispatchers_count}
@@ -63,16 +64,8 @@ hears_items g tables v i l = subst (All (λ (row : Row). row.item < item_count g
     subst (λ (row : Row). row.item < item_count g) q.2 (numbers-Contains (item_count g) q.0 p.0)) (hear_rows g tables i) (All-contains_itself (hear_rows g tables i)))
 
 module _ (g : Graph) (tables : List NodeTable) (w : World) (within : IsWithinLimits g) (of : AreTablesOf (head_of g) tables) (ms : List Member) (open' : AreOpen g tables (length tables) ms) where
-  count : length tables ≡ length g.nodes
-  count = of.count
-
   table_here : (i : ℕ) (d : Member) → i < length tables → (get_or ms i d).node.dispatcher ≡ opening (table_at tables i)
   table_here i d l = ap (λ (s : NodeState). s.dispatcher) (open'.each i d l).node
-
-  -- each table says of the graph what its node needs
-  own_is : (i : ℕ) → i < length tables → own_table g i (table_at tables i) ≡ table_at tables i
-  own_is i l = let s = suits_graph g within tables of i (omega (arith, l, count)) in
-      λ j. record { faults = sym s.faults j; first_broadcast = sym s.first_broadcast j; own = sym s.own j; starts = (table_at tables i).starts; sends = (table_at tables i).sends; hears = (table_at tables i).hears }
 
   pub tables_are : tables_of ms ≡ tables
   tables_are = same_lists (tables_of ms) tables (length-map ms (λ (m : Member). m.node.dispatcher.table) ∙ open'.count) (λ i t l.
@@ -84,7 +77,7 @@ module _ (g : Graph) (tables : List NodeTable) (w : World) (within : IsWithinLim
   nodes_are = same_lists (cluster_of ms).nodes (dispatchers_from g 0 tables) (length-map ms (λ (m : Member). m.node.dispatcher) ∙ open'.count ∙ sym (dispatchers_count g 0 tables)) (λ i d l.
       let k : i < length ms = omega (arith, l, length-map ms (λ (m : Member). m.node.dispatcher)) in
       let t : i < length tables = omega (arith, k, open'.count) in
-      get_or-map (λ (m : Member). m.node.dispatcher) ms i (get_member ms i k) d k ∙ table_here i (get_member ms i k) t ∙ ap opening (sym (own_is i t)) ∙ sym (dispatchers_at g 0 tables i i d empty_table t (omega arith)))
+      get_or-map (λ (m : Member). m.node.dispatcher) ms i (get_member ms i k) d k ∙ table_here i (get_member ms i k) t ∙ ap opening (sym (own_is g tables within of i t)) ∙ sym (dispatchers_at g 0 tables i i d empty_table t (omega arith)))
 
   -- nothing has been done
   none_are : {X : Type 0} (f : Member → List X) → ((i : ℕ) (d : Member) → i < length tables → f (get_or ms i d) ≡ []) → map f ms ≡ replicate (length tables) []

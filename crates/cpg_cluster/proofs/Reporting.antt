@@ -61,7 +61,8 @@ told g w time o (Some run) q h = go (is_none run.report && leb (run.start + get_
     no_report None t = refl
     no_report (Some r) t = absurd (true≢false (sym t))
 
-    go : (b : Bool) → (is_none run.report && leb (run.start + get_or w.lengths o.process 0) time) ≡ b → Contains (cond b ((run.start + get_or w.lengths o.process 0, ended_of g w o) ∷ []) []) q → Told g w time o (Some run) q
+    go : (b : Bool) → (is_none run.report && leb (run.start + get_or w.lengths o.process 0) time) ≡ b →
+        Contains (cond b ((run.start + get_or w.lengths o.process 0, ended_of g w o) ∷ []) []) q → Told g w time o (Some run) q
     go false _ h = absurd (Contains-nil q h)
     go true b h =
         let p = and_parts (is_none run.report) (leb (run.start + get_or w.lengths o.process 0) time) b in
@@ -87,7 +88,8 @@ module _ {g : Graph} {tables : List NodeTable} {w : World} (k : Played g tables 
   of_own : (o : Own) (q : ℕ × Ended) → Contains (report_of g w time o (planned g tables w last o)) q → q.1.process ≡ o.process
   of_own o q h = ap (λ (q : ℕ × Ended). q.1.process) (told g w time o (planned g tables w last o) q h).is
 
-  own_apart : (ps : List ℕ) → Rises (λ x y. x < y) ps → Rises (λ (x y : Own). (a b : ℕ × Ended) → Contains (report_of g w time x (planned g tables w last x)) a → Contains (report_of g w time y (planned g tables w last y)) b → a.1.process ≢ b.1.process) (map (own_process g) ps)
+  own_apart : (ps : List ℕ) → Rises (λ x y. x < y) ps →
+      Rises (λ (x y : Own). (a b : ℕ × Ended) → Contains (report_of g w time x (planned g tables w last x)) a → Contains (report_of g w time y (planned g tables w last y)) b → a.1.process ≢ b.1.process) (map (own_process g) ps)
   own_apart [] h = tt
   own_apart (p ∷ ps) h = (
     λ o m a b u v e.
@@ -100,7 +102,9 @@ module _ {g : Graph} {tables : List NodeTable} {w : World} (k : Played g tables 
   )
 
   now_apart : Rises (λ (a b : ℕ × Ended). a.1.process ≢ b.1.process) now
-  now_apart = Rises-flat_map (λ (a b : ℕ × Ended). a.1.process ≢ b.1.process) (λ o. report_of g w time o (planned g tables w last o)) (own_of_node g node) (λ o _. single g w time o (planned g tables w last o))
+  now_apart =
+      Rises-flat_map (λ (a b : ℕ × Ended). a.1.process ≢ b.1.process) (λ o. report_of g w time o (planned g tables w last o)) (own_of_node g node)
+      (λ o _. single g w time o (planned g tables w last o))
       (own_apart (processes_on g node) (Rises-filter (λ x y. x < y) (λ p. node_of g p == node) (numbers_below (process_count g)) (numbers_go_up (process_count g))))
 
   pub reports_more : (heard : List Range) → NextIs (node_state g tables w node heard last) time → (reports : List (ℕ × Ended)) → HasReported g tables w node last reports →
@@ -124,6 +128,22 @@ module _ {g : Graph} {tables : List NodeTable} {w : World} (k : Played g tables 
     pub count : length c.reports ≡ length g.nodes
     pub each : (node : ℕ) → node < length g.nodes → HasReported g tables w node (dispatcher_at c node).last (get_or c.reports node [])
 
+  -- what a node reports before its turn at a time
+  now_is : (c : Cluster) (r : Reached g tables w c) (a : ℕ) (l : a < length g.nodes) (time : ℕ) → reports_now g w (dispatcher_at c a) time ≡ now k a (r.holds a l).last time
+  now_is c r a l time =
+      let last = (r.holds a l).last in
+      ap (λ d. reports_now g w d time) (r.holds a l).is ∙ ap (flat_map (λ rs. rs)) (zip_with-map (report_of g w time) (planned g tables w last) (own_of_node g a))
+      ∙ flat_id (λ o. report_of g w time o (planned g tables w last o)) (own_of_node g a)
+
+  -- is of different processes
+  pub reports_apart : (c : Cluster) → Reached g tables w c → (a : ℕ) → a < length g.nodes → (time : ℕ) →
+      Rises (λ (x y : ℕ × Ended). x.1.process ≢ y.1.process) (reports_now g w (dispatcher_at c a) time)
+  reports_apart c r a l time = subst (Rises (λ (x y : ℕ × Ended). x.1.process ≢ y.1.process)) (sym (now_is c r a l time)) (now_apart k a (r.holds a l).last time)
+
+  -- and each is that of an execution
+  pub report_is : (c : Cluster) (r : Reached g tables w c) (a : ℕ) → a < length g.nodes → (time : ℕ) (q : ℕ × Ended) → Contains (reports_now g w (dispatcher_at c a) time) q → OneReport g tables w a q
+  report_is c r a l time q h = (now_parts k a (r.holds a l).last time q (subst (λ rs. Contains rs q) (now_is c r a l time) h)).0
+
   hold_open : ReportsHold (open_cluster g tables)
   hold_open = record {
     count = length-replicate (length tables) [] ∙ k.setting.shape.count;
@@ -144,8 +164,7 @@ module _ {g : Graph} {tables : List NodeTable} {w : World} (k : Played g tables 
         let before = subst (λ o. HasReported g tables w a o (get_or c.reports a [])) (ap (λ (d : Dispatcher). d.last) m.is) (h.each a l) in
         let after = reports_more k a m.last time m.heard coming (get_or c.reports a []) before in
         let last = ap (λ (d : Dispatcher). d.last) (get_or-set_same c.nodes a _ _ within ∙ turn_is k c r a l time n free) in
-        let reports = get_or-set_same c.reports a _ [] counted ∙ ap (λ rs. get_or c.reports a [] ++ rs) (ap (λ d. reports_now g w d time) m.is
-        ∙ ap (flat_map (λ rs. rs)) (zip_with-map (report_of g w time) (planned g tables w m.last) (own_of_node g a)) ∙ flat_id (λ o. report_of g w time o (planned g tables w m.last o)) (own_of_node g a)) in
+        let reports = get_or-set_same c.reports a _ [] counted ∙ ap (λ rs. get_or c.reports a [] ++ rs) (now_is c r a l time) in
         subst (λ o. HasReported g tables w a o (get_or (take_turn g w c a time).reports a [])) (sym last) (subst (HasReported g tables w a (Some time)) (sym reports) after)
 
     hold_turn : (a time : ℕ) → answer g c a ≡ Took → next (dispatcher_at c a) ≡ Some time → ReportsHold (take_turn g w c a time)

@@ -5,7 +5,7 @@ use Rattle.cpg_base.specs.Bus.{slot_length}
 use Rattle.cpg_base.specs.Duration.{duration}
 use Rattle.cpg_base.specs.WellFormed.{WellFormed, HasSingleJoins}
 use Rattle.cpg_base.specs.Scenario.{Scenario, IsScenario, fault_of, value_in_key}
-use Rattle.cpg_order.specs.Urgency.{IsTopological, IsUrgencyOrder}
+use Rattle.cpg_order.specs.Urgency.{IsTopological, IsUrgencyOrder, first_order}
 use Rattle.cpg_table.specs.Table.{NodeTable}
 use Rattle.cpg_run.specs.Alike.{seen, value_of_frame, seen_end, seen_frame, AreAlike}
 use Rattle.cpg_run.specs.declared.built.Built.{Built}
@@ -34,12 +34,13 @@ module _ (g : Graph) (order : List ℕ) (frozen : List (Option ℕ)) (tables : L
   pub frame_is_seen : (time x : ℕ) → seen_frame g s t time x ≡ frame_seen g tables s time x
   frame_is_seen time x = ap (λ o. seen time (option_map (λ start. start + slot_length g (home g x)) o) (value_of_frame s (item_at g x))) (sym (time_is x))
 
-module _ (g : Graph) (w : WellFormed g) (joins : HasSingleJoins g) (urgency : List ℕ) (urgent : IsUrgencyOrder g urgency) (top : IsTopological g urgency) where
+module _ (g : Graph) (w : WellFormed g) (joins : HasSingleJoins g) (urgency : List ℕ) (urgent : IsUrgencyOrder g urgency) (top : IsTopological g urgency)
+    (first_top : IsTopological g (first_order g urgency)) where
   pub know_locally : (order : List ℕ) → IsCompileOrder g urgency order → (b : Built) → IsBuiltFor g urgency order b → KnowLocally g b.tables.nodes
   know_locally order taken b is node time s u ls lu alike =
       let tables = b.tables.nodes in
       let times = is.exact.times in
-      let topological = compile_topological g w urgency top order taken in
+      let topological = compile_topological g w urgency top first_top order taken in
       let one = a_run g order b.frozen s topological in
       let other = a_run g order b.frozen u topological in
       let same : AreAlike g node time s one.0 u other.0 = record {

@@ -3,7 +3,7 @@ use Rattle.std.proofs.Common.{ℕ, ◌≡◌, ◌∙◌, List, sym, subst}
 use Rattle.cpg_base.specs.Graph.{Graph}
 use Rattle.cpg_base.specs.WellFormed.{WellFormed}
 use Rattle.cpg_base.specs.Scenario.{Scenario, IsScenario}
-use Rattle.cpg_order.specs.Urgency.{IsTopological}
+use Rattle.cpg_order.specs.Urgency.{IsTopological, first_order}
 use Rattle.cpg_table.specs.Table.{at}
 use Rattle.cpg_run.specs.declared.built.Built.{Built}
 use Rattle.cpg_run.specs.Built.{IsBuiltFor}
@@ -17,7 +17,8 @@ use Rattle.cpg_core.specs.CompileLaws.{AskTheSame}
 use Rattle.cpg_core.proofs.BuiltUnique.{one_worst}
 use Rattle.cpg_core.proofs.CompiledLaws.{compile_topological, one_compile_order}
 
-module _ (g : Graph) (w : WellFormed g) (urgency : List ℕ) (top : IsTopological g urgency) where
+module _ (g : Graph) (w : WellFormed g) (urgency : List ℕ) (top : IsTopological g urgency)
+    (first_top : IsTopological g (first_order g urgency)) where
   -- what is built under one order
   module _ (order : List ℕ) (topological : IsTopological g order) (b d : Built) (x : IsBuiltFor g urgency order b) (y : IsBuiltFor g urgency order d) where
     same_frozen : b.frozen ≡ d.frozen
@@ -34,8 +35,8 @@ module _ (g : Graph) (w : WellFormed g) (urgency : List ℕ) (top : IsTopologica
 
   pub ask_the_same : (c d : Compiled) → IsCompilation g urgency c → IsCompilation g urgency d → AskTheSame g c d
   ask_the_same c d x y =
-      let same : d.order ≡ c.order = one_compile_order g w urgency top d.order c.order y.compiled.taken x.compiled.taken in
-      let topological = compile_topological g w urgency top c.order x.compiled.taken in
+      let same : d.order ≡ c.order = one_compile_order g w urgency top first_top d.order c.order y.compiled.taken x.compiled.taken in
+      let topological = compile_topological g w urgency top first_top c.order x.compiled.taken in
       let built : IsBuiltFor g urgency c.order d.built = subst (λ order. IsBuiltFor g urgency order d.built) same y.built in
       let worst = same_worst c.order topological c.built d.built x.built built in
       record {

@@ -1,10 +1,12 @@
 -- What a compile answers: tables of the compile's order, or why there are none.
-use Rattle.std.specs.Prelude.{ℕ, ◌≡◌, ◌⊎◌, List, ⊤}
+use Rattle.std.specs.Prelude.{ℕ, ◌≡◌, ◌≢◌, ◌⊎◌, List, None, ⊤}
 use Rattle.cpg_base.specs.Graph.{Graph}
-use Rattle.cpg_order.specs.Urgency.{IsTopological}
+use Rattle.cpg_order.specs.Urgency.{IsTopological, first_order}
 use Rattle.cpg_table.specs.Valid.{IsValid}
 use Rattle.cpg_expand.specs.declared.expanding.Grown.{Grown}
 use Rattle.cpg_expand.specs.GrownFor.{IsGrownFor}
+use Rattle.cpg_expand.specs.Large.{HasLargeTree}
+use Rattle.cpg_expand.specs.WideRows.{DoTablesFit, HaveWideRows}
 use Rattle.cpg_run.specs.Built.{IsBuiltFor}
 use Rattle.cpg_run.specs.Knowledge.{KnowLocally}
 use Rattle.cpg_core.specs.declared.compiling.Compiled.{Compiled}
@@ -14,48 +16,61 @@ use Rattle.cpg_reach.specs.Wide.{IsWide, IsNarrow, IsLeastWide}
 use Rattle.cpg_tracks.specs.Tracks.{HasTrackOrder, HasManyTracks}
 use Rattle.cpg_core.specs.Compiled.{IsCompiled, IsLate, IsShownLate, IsBetter, IsPreferred, IsHelpless}
 
--- the tables of the compile's order: exact, valid by all ten rules, with their greatest finish; nothing is too wide under
--- the urgency order, and nothing late; and no node knows more than it has seen
+-- the tables of the compile's order: exact, valid by all ten rules, with their greatest finish; no row has too many columns, nor all
+-- rows together, and nothing is late; and no node knows more than it has seen
 pub record IsCompilation (g : Graph) (urgency : List ℕ) (c : Compiled) : Type 0 where
   pub compiled : IsCompiled g urgency c.order
   pub built : IsBuiltFor g urgency c.order c.built
   pub in_time : c.built.excess ≡ 0
   pub valid : IsValid g c.built.tables.nodes
+  pub fit : DoTablesFit g c.built.tables.nodes
   pub local : KnowLocally g c.built.tables.nodes
 
--- what a fault shows: the first item that is too wide under the urgency order; or that the graph is late, and the scenario,
--- the process and its end of the greatest excess under that order
+-- what is made under the order that a graph gives is too large: a tree on the way to its rows, or, if nothing is late, its rows
+pub record HasWideRows (g : Graph) (urgency order : List ℕ) : Type 0 where
+  pub grown : Grown
+  pub is : IsGrownFor g urgency order grown
+  pub in_time : grown.excess.time ≡ 0
+  pub rows : HaveWideRows g urgency grown.trees.forest.times
+
+abbrev pub IsTooLarge : Graph → List ℕ → List ℕ → Type 0
+IsTooLarge g urgency order = HasLargeTree g urgency order ⊎ HasWideRows g urgency order
+
+-- what a fault shows: the first item that is too wide by its views under the first order, and, if the graph gives that order, that what is
+-- made is too large; or that the graph is late, and the scenario, the process and its end of the greatest excess under that order
 abbrev pub ShowsCompileFault : Graph → List ℕ → CompileFault → Type 0
-ShowsCompileFault g urgency (TooWide x) = IsLeastWide g urgency x
+ShowsCompileFault g urgency (TooWide x) = IsLeastWide g (first_order g urgency) x × (g.order ≢ None → IsTooLarge g urgency (first_order g urgency))
 ShowsCompileFault g urgency (Late scenario process finish) = IsLate g urgency × IsShownLate g urgency scenario process finish
 ShowsCompileFault g urgency OutOfMemory = ⊤
 
 -- ---- on the way
 
--- what is found under the track order, under which nothing is too wide
+-- what is found under the track order of a graph that gives none, under which nothing is too wide
 pub record IsTracked (g : Graph) (urgency : List ℕ) (t : Grown) : Type 0 where
+  pub ungiven : g.order ≡ None
   pub track : HasTrackOrder g t.order
   pub topological : IsTopological g t.order
   pub narrow : IsNarrow g t.order
   pub grown : IsGrownFor g urgency t.order t
 
--- there is no track order, or an item is too wide under it
+-- the graph gives an order, or there is no track order, or an item is too wide under it
 abbrev pub HasNoTables : Graph → Type 0
-HasNoTables g = HasManyTracks g ⊎ ((order : List ℕ) × HasTrackOrder g order × (x : ℕ) × IsWide g order x)
+HasNoTables g = (g.order ≢ None) ⊎ (HasManyTracks g ⊎ ((order : List ℕ) × HasTrackOrder g order × (x : ℕ) × IsWide g order x))
 
--- it is better than the urgency order
-pub record IsPreferredTo (g : Graph) (urgency : List ℕ) (urgent : Grown) (t : Grown) : Type 0 where
+-- it is better than the first order
+pub record IsPreferredTo (g : Graph) (urgency : List ℕ) (first : Grown) (t : Grown) : Type 0 where
   pub tracked : IsTracked g urgency t
-  pub better : IsBetter t.excess.time t.worst.time urgent.excess.time urgent.worst.time
+  pub better : IsBetter t.excess.time t.worst.time first.excess.time first.worst.time
 
--- no order is better than the urgency order, and none helps where that is late
-pub record HasNoBetter (g : Graph) (urgency : List ℕ) (urgent : Grown) : Type 0 where
+-- no order is preferred to the first order, and none helps if that is late
+pub record HasNoBetter (g : Graph) (urgency : List ℕ) (first : Grown) : Type 0 where
   pub none : (other : List ℕ) → IsPreferred g urgency other → ⊥
-  pub late : IsHelpless g urgency ⊎ (urgent.excess.time ≡ 0)
+  pub late : IsHelpless g urgency ⊎ (first.excess.time ≡ 0)
 
 -- the tables of what is found under an order
 pub record IsMadeOf (g : Graph) (urgency : List ℕ) (grown : Grown) (c : Compiled) : Type 0 where
   pub order : c.order ≡ grown.order
   pub built : IsBuiltFor g urgency grown.order c.built
+  pub fit : DoTablesFit g c.built.tables.nodes
   pub excess : c.built.excess ≡ grown.excess.time
   pub worst : c.built.worst ≡ grown.worst.time

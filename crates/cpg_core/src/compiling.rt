@@ -1,7 +1,7 @@
 //! From an admitted graph to its tables.
-ghost use Rattle.std.specs.Prelude.{◌≡◌, ◌≤◌, ◌<◌, ◌+◌, ◌↔◌, IfOk, IfErr, IfSome, IfNone, IsTrue, Some};
+ghost use Rattle.std.specs.Prelude.{◌≡◌, ◌≤◌, ◌<◌, ◌+◌, ◌↔◌, IfOk, IfErr, IfSome, IfNone, IsTrue, None, Some};
 ghost use Rattle.std.specs.Bool.{OnTrue};
-ghost use Rattle.cpg_order.specs.Urgency.{IsTopological};
+ghost use Rattle.cpg_order.specs.Urgency.{IsTopological, first_order};
 ghost use Rattle.cpg_reach.specs.Wide.{IsNarrow};
 ghost use Rattle.cpg_expand.specs.GrownFor.{IsGrownFor};
 ghost use Rattle.cpg_run.specs.Built.{IsBuiltFor};
@@ -10,8 +10,8 @@ ghost use Rattle.cpg_core.specs.Compiled.{IsHelpless};
 ghost use Rattle.cpg_core.specs.Compilation.{IsCompilation, IsMadeOf, IsPreferredTo, HasNoBetter, ShowsCompileFault};
 
 use crate::CompileFault;
-use cpg_base::{Order, OutOfMemory, Problem};
-use cpg_expand::{Grown, grow};
+use cpg_base::{Order, OutOfMemory};
+use cpg_expand::{Grown, grow, grow_bounded};
 use cpg_rules::Admitted;
 use cpg_run::{BuildFault, Built};
 use cpg_tracks::merged_order;
@@ -34,18 +34,16 @@ fn end_past(due: u64, excess: u64, worst: u64) -> u64
     due + excess
 }
 
-/// That a process ends past its due under the urgency order, by the greatest excess, with its end in the scenario of that.
-fn late(problem: &Problem, order: &Order, urgent: Grown) -> CompileFault
-    requires topological { IsTopological problem.now order.now }
-    requires grown { IsGrownFor problem.now order.now order.now urgent }
-    requires narrow { IsNarrow problem.now order.now }
-    requires late { 0 < urgent.excess.time }
-    requires helpless { IsHelpless problem.now order.now }
-    ensures { ShowsCompileFault problem.now order.now result }
+/// That a process ends past its due under the first order, by the greatest excess, with its end in the scenario of that.
+fn late(admitted: &Admitted, first: Grown) -> CompileFault
+    requires grown { IsGrownFor admitted.now.graph admitted.now.order (first_order admitted.now.graph admitted.now.order) first }
+    requires narrow { admitted.now.graph.order ≡ None → IsNarrow admitted.now.graph (first_order admitted.now.graph admitted.now.order) }
+    requires late { 0 < first.excess.time }
+    requires helpless { IsHelpless admitted.now.graph admitted.now.order }
+    ensures { ShowsCompileFault admitted.now.graph admitted.now.order result }
 {
-    // its clause tells that no process is twice in the order
-    let _places = order.len();
-    let Grown { worst, excess, .. } = urgent;
+    let problem = admitted.problem();
+    let Grown { worst, excess, .. } = first;
     let Some(process) = excess.process else {
         unreachable!()
     };
@@ -63,25 +61,27 @@ fn are_same(first: &Order, second: &Order) -> bool
     first.processes() == second.processes()
 }
 
-/// What is found under a track order, where no item is too wide under it and it is better than the urgency order.
+/// What is found under the track order of a graph that gives none, if no item is too wide under it and it is better than the first
+/// order.
 fn better(
     alloc: Global,
     admitted: &Admitted,
     order: Order,
-    urgent: &Grown,
+    first: &Grown,
 ) -> Result<Option<Grown>, OutOfMemory>
+    requires ungiven { admitted.now.graph.order ≡ None }
     requires track { HasTrackOrder admitted.now.graph order }
     requires topological { IsTopological admitted.now.graph order }
-    requires grown { IsGrownFor admitted.now.graph admitted.now.order admitted.now.order urgent.now }
-    requires narrow { IsNarrow admitted.now.graph admitted.now.order }
-    ensures better { IfOk result (λ found. IfSome found (IsPreferredTo admitted.now.graph admitted.now.order urgent.now)) }
-    ensures none { IfOk result (λ found. IfNone found (HasNoBetter admitted.now.graph admitted.now.order urgent.now)) }
+    requires grown { IsGrownFor admitted.now.graph admitted.now.order (first_order admitted.now.graph admitted.now.order) first.now }
+    requires narrow { admitted.now.graph.order ≡ None → IsNarrow admitted.now.graph (first_order admitted.now.graph admitted.now.order) }
+    ensures better { IfOk result (λ found. IfSome found (IsPreferredTo admitted.now.graph admitted.now.order first.now)) }
+    ensures none { IfOk result (λ found. IfNone found (HasNoBetter admitted.now.graph admitted.now.order first.now)) }
 {
     // its clause tells that the graph is admitted
-    let _order = admitted.order();
+    let _order = admitted.first_order();
     match grow(alloc, admitted, order) {
         Ok(grown) => {
-            if grown.is_better(urgent) {
+            if grown.is_better(first) {
                 Ok(Some(grown))
             } else {
                 Ok(None)
@@ -92,30 +92,82 @@ fn better(
     }
 }
 
-/// What is found under the track order, where that is better than the urgency order.
+/// What is found under the track order, if the graph gives no order and the track order is better than the first.
 fn preferred(
     alloc: Global,
     admitted: &Admitted,
-    urgent: &Grown,
+    first: &Grown,
 ) -> Result<Option<Grown>, OutOfMemory>
-    requires grown { IsGrownFor admitted.now.graph admitted.now.order admitted.now.order urgent.now }
-    requires narrow { IsNarrow admitted.now.graph admitted.now.order }
-    ensures better { IfOk result (λ found. IfSome found (IsPreferredTo admitted.now.graph admitted.now.order urgent.now)) }
-    ensures none { IfOk result (λ found. IfNone found (HasNoBetter admitted.now.graph admitted.now.order urgent.now)) }
+    requires grown { IsGrownFor admitted.now.graph admitted.now.order (first_order admitted.now.graph admitted.now.order) first.now }
+    requires narrow { admitted.now.graph.order ≡ None → IsNarrow admitted.now.graph (first_order admitted.now.graph admitted.now.order) }
+    ensures better { IfOk result (λ found. IfSome found (IsPreferredTo admitted.now.graph admitted.now.order first.now)) }
+    ensures none { IfOk result (λ found. IfNone found (HasNoBetter admitted.now.graph admitted.now.order first.now)) }
 {
-    let urgency = admitted.order();
+    let first_order = admitted.first_order();
+    if admitted.given().is_some() {
+        return Ok(None);
+    }
     let Some(order) = merged_order(alloc, admitted)? else {
         return Ok(None);
     };
-    if are_same(&order, urgency) {
+    if are_same(&order, first_order) {
         return Ok(None);
     }
-    let found = better(alloc, admitted, order, urgent)?;
+    let found = better(alloc, admitted, order, first)?;
     Ok(found)
 }
 
-/// The tables of an order.
-fn with_tables(alloc: Global, admitted: &Admitted, grown: Grown) -> Result<Compiled, OutOfMemory>
+/// What is found under the order that a graph gives. `TooWide` shows that a tree on the way is too large.
+fn grow_given(alloc: Global, admitted: &Admitted, order: Order) -> Result<Grown, CompileFault>
+    requires topological { IsTopological admitted.now.graph order }
+    requires first { order ≡ first_order admitted.now.graph admitted.now.order }
+    ensures grown { IfOk result (IsGrownFor admitted.now.graph admitted.now.order (first_order admitted.now.graph admitted.now.order)) }
+    ensures fault { IfErr result (ShowsCompileFault admitted.now.graph admitted.now.order) }
+{
+    match grow_bounded(alloc, admitted, order) {
+        Ok(grown) => Ok(grown),
+        Err(BuildFault::TooWide(item)) => Err(CompileFault::TooWide(item)),
+        Err(BuildFault::OutOfMemory) => Err(CompileFault::OutOfMemory),
+    }
+}
+
+/// What is found under the urgency order of a graph that gives none. `TooWide` shows that an item has too many views.
+fn grow_urgent(alloc: Global, admitted: &Admitted, order: Order) -> Result<Grown, CompileFault>
+    requires topological { IsTopological admitted.now.graph order }
+    requires first { order ≡ first_order admitted.now.graph admitted.now.order }
+    requires ungiven { admitted.now.graph.order ≡ None }
+    ensures grown { IfOk result (IsGrownFor admitted.now.graph admitted.now.order (first_order admitted.now.graph admitted.now.order)) }
+    ensures narrow { IfOk result (λ _. IsNarrow admitted.now.graph (first_order admitted.now.graph admitted.now.order)) }
+    ensures fault { IfErr result (ShowsCompileFault admitted.now.graph admitted.now.order) }
+{
+    match grow(alloc, admitted, order) {
+        Ok(grown) => Ok(grown),
+        Err(BuildFault::TooWide(item)) => Err(CompileFault::TooWide(item)),
+        Err(BuildFault::OutOfMemory) => Err(CompileFault::OutOfMemory),
+    }
+}
+
+/// What is found under the first order.
+fn grow_first(alloc: Global, admitted: &Admitted) -> Result<Grown, CompileFault>
+    ensures grown { IfOk result (IsGrownFor admitted.now.graph admitted.now.order (first_order admitted.now.graph admitted.now.order)) }
+    ensures narrow { IfOk result (λ _. admitted.now.graph.order ≡ None → IsNarrow admitted.now.graph (first_order admitted.now.graph admitted.now.order)) }
+    ensures fault { IfErr result (ShowsCompileFault admitted.now.graph admitted.now.order) }
+{
+    let order = admitted.first_order().copy()?;
+    if admitted.given().is_some() {
+        let grown = grow_given(alloc, admitted, order)?;
+        return Ok(grown);
+    }
+    let grown = grow_urgent(alloc, admitted, order)?;
+    Ok(grown)
+}
+
+/// The tables of the track order.
+fn tables_of_tracks(
+    alloc: Global,
+    admitted: &Admitted,
+    grown: Grown,
+) -> Result<Compiled, OutOfMemory>
     requires topological { IsTopological admitted.now.graph grown.order }
     requires narrow { IsNarrow admitted.now.graph grown.order }
     requires grown { IsGrownFor admitted.now.graph admitted.now.order grown.order grown }
@@ -126,32 +178,49 @@ fn with_tables(alloc: Global, admitted: &Admitted, grown: Grown) -> Result<Compi
     Ok(Compiled { built, order })
 }
 
-/// The tables of a graph under the order that compiles it: the track order where it gives a lesser greatest excess than the
-/// urgency order, or an equal one and an earlier greatest finish, and else the urgency order. Under it every process ends by its
-/// due in every scenario, and each node starts and sends the same wherever it has seen the same.
+/// The tables of the first order. `TooWide` shows that their rows have too many columns.
+fn tables_of_first(
+    alloc: Global,
+    admitted: &Admitted,
+    grown: Grown,
+) -> Result<Compiled, CompileFault>
+    requires topological { IsTopological admitted.now.graph grown.order }
+    requires first { grown.order ≡ first_order admitted.now.graph admitted.now.order }
+    requires grown { IsGrownFor admitted.now.graph admitted.now.order grown.order grown }
+    requires in_time { grown.excess.time ≡ 0 }
+    ensures made { IfOk result (IsMadeOf admitted.now.graph admitted.now.order grown) }
+    ensures fault { IfErr result (ShowsCompileFault admitted.now.graph admitted.now.order) }
+{
+    let order = grown.order.copy()?;
+    match grown.build_bounded(alloc, admitted) {
+        Ok(built) => Ok(Compiled { built, order }),
+        Err(BuildFault::TooWide(item)) => Err(CompileFault::TooWide(item)),
+        Err(BuildFault::OutOfMemory) => Err(CompileFault::OutOfMemory),
+    }
+}
+
+/// The tables of a graph under the order that compiles it: the order that the graph gives; else the track order if it gives a lesser
+/// greatest excess than the urgency order, or an equal one and an earlier greatest finish; and else the urgency order. Under it every
+/// process ends by its due in every scenario, and each node starts and sends the same if it has seen the same.
 pub fn compile(alloc: Global, admitted: &Admitted) -> Result<Compiled, CompileFault>
     ensures compiled { IfOk result (IsCompilation admitted.now.graph admitted.now.order) }
     ensures fault { IfErr result (ShowsCompileFault admitted.now.graph admitted.now.order) }
 {
-    let problem = admitted.problem();
-    let order = admitted.order();
-    let urgent = match grow(alloc, admitted, order.copy()?) {
-        Ok(grown) => grown,
-        Err(BuildFault::TooWide(item)) => return Err(CompileFault::TooWide(item)),
-        Err(BuildFault::OutOfMemory) => return Err(CompileFault::OutOfMemory),
-    };
+    // its clause tells that the graph is admitted
+    let _order = admitted.first_order();
+    let first = grow_first(alloc, admitted)?;
     // tables are made of the better one's trees alone
-    if let Some(tracked) = preferred(alloc, admitted, &urgent)? {
+    if let Some(tracked) = preferred(alloc, admitted, &first)? {
         if tracked.excess.time > 0 {
-            return Err(late(problem, order, urgent));
+            return Err(late(admitted, first));
         }
-        drop(urgent);
-        let compiled = with_tables(alloc, admitted, tracked)?;
+        drop(first);
+        let compiled = tables_of_tracks(alloc, admitted, tracked)?;
         return Ok(compiled);
     }
-    if urgent.excess.time > 0 {
-        return Err(late(problem, order, urgent));
+    if first.excess.time > 0 {
+        return Err(late(admitted, first));
     }
-    let compiled = with_tables(alloc, admitted, urgent)?;
+    let compiled = tables_of_first(alloc, admitted, first)?;
     Ok(compiled)
 }

@@ -66,7 +66,7 @@ ready_waits g p (At t) l is = is
 
 -- a tree for each is kept
 pub has_begun : (g : Graph) (f new : ForestState) (p node : ℕ) (times ends : TreeState (Option ℕ)) (ready : Ready) → p < process_count g → node ≡ node_of g p → HasTrees g f → IsTree g times → IsTree g ends → IsReadyAfter g p ready →
-    new ≡ record { times = set f.times p times; ends = set f.ends p ends; ready = set f.ready node ready; free = f.free } → HasTrees g new
+    new ≡ record { times = set f.times p times; ends = set f.ends p ends; ready = set f.ready node ready; free = f.free; wide = f.wide } → HasTrees g new
 has_begun g f new p node times ends ready l at has of_times of_ends of_ready is = subst (HasTrees g) (sym is) (record {
   times = length-set f.times p times ∙ has.times;
   ends = length-set f.ends p ends ∙ has.ends;
@@ -88,7 +88,7 @@ has_begun g f new p node times ends ready l at has of_times of_ends of_ready is 
 pub begun_made : (how : Graph → Guard → TreeState Bool → TreeState (Option ℕ) → Type 0) (g h : Graph) → h ≡ g → (order : List ℕ) (p : ℕ) (guard found : Guard) → found ≡ guard → (node : ℕ) → node ≡ node_of h p →
     (old new : ForestState) (chooser : TreeState Bool) → IsTree h chooser → IsActiveTree h.faults found chooser → (start : TreeState (Option ℕ)) → how h found chooser start →
     (end : TreeState (Option ℕ)) → IsEndTree h p start end → (ready : Ready) → IsReadyAfter h p ready → IsReadyIfWaited h order old p found chooser end (goes_on end ready) →
-    new ≡ record { times = set old.times p start; ends = set old.ends p end; ready = set old.ready node ready; free = old.free } → IsBegunBy (how g guard) g order p guard old new chooser
+    new ≡ record { times = set old.times p start; ends = set old.ends p end; ready = set old.ready node ready; free = old.free; wide = old.wide } → IsBegunBy (how g guard) g order p guard old new chooser
 begun_made how g h same order p guard found the_guard node there old new chooser chooser_tree actives start starts end ends ready ready_after readies is =
     subst (λ k. IsBegunBy (how k guard) k order p guard old new chooser) same (subst (λ t. IsBegunBy (how h t) h order p t old new chooser) the_guard (record {
       chooser_tree = chooser_tree;
@@ -100,5 +100,5 @@ begun_made how g h same order p guard found the_guard node there old new chooser
       ready = ready;
       ready_after = ready_after;
       readies = readies;
-      is = is ∙ ap (λ n. record { times = set old.times p start; ends = set old.ends p end; ready = set old.ready n ready; free = old.free }) there;
+      is = is ∙ ap (λ n. record { times = set old.times p start; ends = set old.ends p end; ready = set old.ready n ready; free = old.free; wide = old.wide }) there;
     }))

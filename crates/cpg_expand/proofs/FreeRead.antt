@@ -13,7 +13,7 @@ free_tree g f has node l = All-get_or (IsTree g) f.free node (no_tree g.faults) 
 
 -- trees that are put keep a tree for each
 pub has_put : (g : Graph) (f new : ForestState) (x node : ℕ) (times : TreeState (Option ℕ)) (free : TreeState ℕ) → HasTrees g f → IsTree g times → IsTree g free →
-    new ≡ record { times = set f.times x times; ends = f.ends; ready = f.ready; free = set f.free node free } → HasTrees g new
+    new ≡ record { times = set f.times x times; ends = f.ends; ready = f.ready; free = set f.free node free; wide = f.wide } → HasTrees g new
 has_put g f new x node times free has of_times of_free is = subst (HasTrees g) (sym is) (record {
   times = length-set f.times x times ∙ has.times;
   ends = has.ends;

@@ -32,7 +32,6 @@ pub mod SentBefore
 pub mod SentOne
 pub mod FreeRead
 pub mod SentTrees
-pub mod SentAll
 pub mod ItemKept
 pub mod SendingOver
 pub mod SendingNext
@@ -45,3 +44,6 @@ pub mod SlotTrees
 pub mod ReadyMade
 pub mod TestedTrees
 pub mod EarlierFound
+pub mod LargeShown
+pub mod LargeParts
+pub mod WideRowsMade

@@ -1,7 +1,7 @@
 -- When a node goes on after a frozen process, as the code finds it.
 use Rattle.std.proofs.Common.{ℕ, ◌+◌, ◌<◌, ◌≡◌, ◌==◌, ◌&&◌, ◌≤◌, nat_le, nat_lt, not, Bool, true, false, List, Option, arith, eq-eqb, lt-ltb, inl, inr, sym, ap, ◌∙◌, subst}
-use Rattle.std.proofs.lemmas.Bool.{and_from, cases_lt, le-leb}
-use Rattle.cpg_base.specs.Graph.{Graph, node_of, home, producer, is_frozen, is_sent}
+use Rattle.std.proofs.lemmas.Bool.{and_from, and_parts, cases_lt, eqb-true, le-leb, leb-true, not-true}
+use Rattle.cpg_base.specs.Graph.{Graph, item_count, node_of, home, producer, is_frozen, is_sent}
 use Rattle.cpg_base.specs.Order.{place}
 use Rattle.cpg_base.specs.Scenario.{Scenario}
 use Rattle.cpg_base.proofs.Lists.{Contains-nil}
@@ -10,7 +10,7 @@ use Rattle.cpg_order.specs.Guard.{Guard}
 use Rattle.cpg_tree.specs.Tree.{TreeState, IsConstant}
 use Rattle.cpg_expand.specs.Agreeing.{Agrees}
 use Rattle.cpg_expand.specs.Forest.{ForestState, later_tree, no_tree}
-use Rattle.cpg_expand.specs.Waited.{IsReadyOnce}
+use Rattle.cpg_expand.specs.Waited.{IsQueuedFor, IsReadyOnce}
 use Rattle.cpg_expand.proofs.TreesTold.{ready_always}
 
 -- a tree without paths tells anything
@@ -57,3 +57,19 @@ none_goes_by g order node at k b before is off y below sent there behind thawed 
     by e = apart (sym (and_from (is_sent g k && not (is_frozen g k)) ((home g k == node) && nat_le at (place order (producer g k)))
         (and_from (is_sent g k) (not (is_frozen g k)) (ap (is_sent g) (sym e) ∙ sent) (ap not (ap (is_frozen g) (sym e) ∙ thawed)))
         (and_from (home g k == node) (nat_le at (place order (producer g k))) (eq-eqb (home g k) node (ap (home g) (sym e) ∙ there)) (le-leb at (place order (producer g k)) (subst (λ n. at ≤ place order (producer g n)) e behind)))) ∙ sym is ∙ off)
+
+-- one that does
+pub one_goes_by : (g : Graph) (order : List ℕ) (node at y : ℕ) (b : Bool) → y < item_count g →
+    b ≡ ((is_sent g y && not (is_frozen g y)) && ((home g y == node) && nat_le at (place order (producer g y)))) → b ≡ true → IsQueuedFor g order at node
+one_goes_by g order node at y b within is on =
+    let both = and_parts (is_sent g y && not (is_frozen g y)) ((home g y == node) && nat_le at (place order (producer g y))) (sym is ∙ on) in
+    let goes = and_parts (is_sent g y) (not (is_frozen g y)) both.0 in
+    let behind = and_parts (home g y == node) (nat_le at (place order (producer g y))) both.1 in
+    record {
+      other = y;
+      within = within;
+      sent = goes.0;
+      there = eqb-true (home g y) node behind.0;
+      later = leb-true at (place order (producer g y)) behind.1;
+      thawed = not-true (is_frozen g y) goes.1;
+    }

@@ -34,7 +34,7 @@ sent_count g order goes x f before after t (inr fz) = ap length fz.1.frozen.set 
 pub item_added : (g : Graph) (order : List ℕ) (chooser : TreeState Bool) (x at : ℕ) → at ≡ home g x → (old new : ForestState) (before after : List (Option ℕ)) (goes : TreeState Bool) → IsTree g goes → IsGoesTree g x chooser goes →
     (sent : TreeState (Option ℕ)) → IsTree g sent → IsSentFor g order goes x old before after sent →
     (freed : TreeState ℕ) → IsTree g freed → (IsQueuedFor g order (place order (producer g x)) (home g x) → IsFreeTree g.faults (round g) goes sent (free_of g old (home g x)) freed) →
-    new ≡ record { times = set old.times x sent; ends = old.ends; ready = old.ready; free = set old.free at freed } → IsItemAdded g order chooser x old new before after
+    new ≡ record { times = set old.times x sent; ends = old.ends; ready = old.ready; free = set old.free at freed; wide = old.wide } → IsItemAdded g order chooser x old new before after
 item_added g order chooser x at there old new before after goes goes_tree goes_where sent sent_tree sends freed freed_tree frees is = record {
   goes = goes;
   goes_tree = goes_tree;
@@ -45,7 +45,7 @@ item_added g order chooser x at there old new before after goes goes_tree goes_w
   freed = freed;
   freed_tree = freed_tree;
   frees = frees;
-  is = is ∙ ap (λ n. record { times = set old.times x sent; ends = old.ends; ready = old.ready; free = set old.free n freed }) there;
+  is = is ∙ ap (λ n. record { times = set old.times x sent; ends = old.ends; ready = old.ready; free = set old.free n freed; wide = old.wide }) there;
 }
 
 -- ---- one after another

@@ -34,6 +34,7 @@ pub record IsBegunBy (how : TreeState Bool → TreeState (Option ℕ) → Type 0
     ends = slice_set old.ends p end;
     ready = slice_set old.ready (node_of g p) ready;
     free = old.free;
+    wide = old.wide;
   }
 
 -- by all that it waits for in each scenario

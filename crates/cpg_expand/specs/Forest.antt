@@ -8,12 +8,14 @@ use Rattle.cpg_expand.specs.Agreeing.{IsTree}
 use Rattle.cpg_expand.specs.declared.forest.Ready.{Ready}
 use Rattle.cpg_expand.specs.declared.forest.Ready.TheVariants.{After, At}
 
--- of the times of each item, of the ends of each process, and by node from when on it is ready and its slots are free
+-- of the times of each item, of the ends of each process, and by node from when on it is ready and its slots are free; and the item to
+-- name where one on the way has too many leaves
 pub record ForestState : Type 0 where
   pub times : List (TreeState (Option ℕ))
   pub ends : List (TreeState (Option ℕ))
   pub ready : List Ready
   pub free : List (TreeState ℕ)
+  pub wide : Option ℕ
 
 -- a tree without paths
 abbrev pub no_tree : {T : Type 0} → ℕ → TreeState T

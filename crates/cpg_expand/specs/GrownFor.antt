@@ -1,14 +1,21 @@
 -- What is found under an order before its tables are made.
-use Rattle.std.specs.Prelude.{ℕ, ◌≡◌, List}
+use Rattle.std.specs.Prelude.{ℕ, ◌≡◌, List, Option, Some, None}
 use Rattle.cpg_base.specs.Graph.{Graph, process_count}
+use Rattle.cpg_reach.specs.Wide.{IsLeastWide, IsNarrow}
 use Rattle.cpg_run.specs.Finish.{IsWorst, IsExcess}
 use Rattle.cpg_run.specs.Frozen.{AreFrozenTimes}
 use Rattle.cpg_expand.specs.Grown.{IsGrown}
 use Rattle.cpg_expand.specs.declared.expanding.Grown.{Grown}
 
+-- the least item that is too wide under an order, where there is one
+abbrev pub IsWidth : Graph → List ℕ → Option ℕ → Type 0
+IsWidth g order None = IsNarrow g order
+IsWidth g order (Some x) = IsLeastWide g order x
+
 -- the trees of all processes under the order, which tell its runs, and how good it is
 pub record IsGrownFor (g : Graph) (urgency order : List ℕ) (grown : Grown) : Type 0 where
   pub same : grown.order ≡ order
+  pub wide : IsWidth g order grown.wide
   pub trees : IsGrown g order (process_count g) grown.trees.frozen grown.trees.forest
   pub frozen : AreFrozenTimes g order grown.trees.frozen
   pub worst : IsWorst g urgency order grown.trees.frozen grown.worst.time grown.worst.scenario grown.worst.process

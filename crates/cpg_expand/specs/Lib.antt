@@ -22,3 +22,5 @@ pub mod Active
 pub mod Measured
 pub mod GrownFor
 pub mod Waited
+pub mod Large
+pub mod WideRows

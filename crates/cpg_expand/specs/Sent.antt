@@ -59,7 +59,7 @@ pub record IsItemAdded (g : Graph) (order : List ℕ) (chooser : TreeState Bool)
   pub freed : TreeState ℕ
   pub freed_tree : IsTree g freed
   pub frees : IsQueuedFor g order (place order (producer g x)) (home g x) → IsFreeTree g.faults (round g) goes sent (free_of g old (home g x)) freed
-  pub is : new ≡ record { times = slice_set old.times x sent; ends = old.ends; ready = old.ready; free = slice_set old.free (home g x) freed }
+  pub is : new ≡ record { times = slice_set old.times x sent; ends = old.ends; ready = old.ready; free = slice_set old.free (home g x) freed; wide = old.wide }
 
 -- these are added one after another
 abbrev pub AreItemsAdded : Graph → List ℕ → TreeState Bool → List ℕ → ForestState → ForestState → List (Option ℕ) → List (Option ℕ) → Type 0

@@ -1,5 +1,5 @@
 //! One process after another.
-ghost use Rattle.std.specs.Prelude.{ℕ, ◌≡◌, ◌<◌, IfOk, List, length, slice_set};
+ghost use Rattle.std.specs.Prelude.{ℕ, ◌≡◌, ◌<◌, ◌⊎◌, IfErr, IfOk, List, length, slice_set};
 ghost use Rattle.cpg_base.specs.Graph.{item_count, process_count};
 ghost use Rattle.cpg_bus.specs.Plan.{plan_of};
 ghost use Rattle.cpg_expand.specs.Begun.{IsBegun, IsBegunFrozen, IsBegunThawed};
@@ -7,9 +7,11 @@ ghost use Rattle.cpg_expand.specs.Agreeing.{IsTree};
 ghost use Rattle.cpg_expand.specs.Ending.{IsEndTree, IsReadyAfter, IsReadyTree, goes_on};
 ghost use Rattle.cpg_expand.specs.Forest.{HasTrees, IsWait, ready_by};
 ghost use Rattle.cpg_expand.specs.Grown.{IsGrownBy};
+ghost use Rattle.cpg_expand.specs.Large.{IsLargeBegun, IsLargeEnd, IsLargeFrozen, IsLargeThawed, ShowsLarge};
 ghost use Rattle.cpg_expand.specs.Waited.{IsReadyIfWaited};
 ghost use Rattle.cpg_rules.specs.Guards.{tree_of};
 
+use crate::bounding::few;
 use crate::earlier::span_before;
 use crate::ending::{end, ready};
 use crate::forest::{Forest, Ready};
@@ -21,7 +23,7 @@ use crate::waited::is_waited_for;
 use cpg_base::{Order, OutOfMemory, Problem};
 use cpg_bus::Plan;
 use cpg_rules::Admitted;
-use cpg_run::Frozen;
+use cpg_run::{BuildFault, Frozen};
 use cpg_tree::Tree;
 use std::alloc::Global;
 
@@ -42,6 +44,7 @@ fn put_begun(
       ends = slice_set forest.old.ends process ends;
       ready = slice_set forest.old.ready node ready;
       free = forest.old.free;
+      wide = forest.old.wide;
     } }
 {
     forest.times[process as usize] = times;
@@ -65,7 +68,7 @@ fn follow(
     start: &Tree<Option<u64>>,
     wait: &Ready,
     process: u32,
-) -> Result<EndAndReady, OutOfMemory>
+) -> Result<EndAndReady, BuildFault>
     requires process { process < process_count problem.now }
     requires forest { HasTrees problem.now forest.now }
     requires active { IsTree problem.now active.now }
@@ -75,8 +78,11 @@ fn follow(
     ensures end { IfOk result (λ e. IsEndTree problem.now process start.now e.end) }
     ensures of { IfOk result (λ e. IsReadyAfter problem.now process e.ready) }
     ensures ready { IfOk result (λ e. IsReadyTree problem.now.faults active.now e.end (ready_by problem.now forest.now wait.now) (goes_on e.end e.ready)) }
+    ensures fault { IfErr result (ShowsLarge forest.now.wide (IsLargeEnd problem.now process start.now)) }
 {
+    few(start, forest.wide)?;
     let end = end(alloc, problem, start, process)?;
+    few(&end, forest.wide)?;
     let ready = ready(problem, forest, active, &end, wait, process)?;
     Ok(EndAndReady { end, ready })
 }
@@ -88,13 +94,14 @@ fn begin_thawed(
     plan: &Plan,
     forest: &mut Forest,
     process: u32,
-) -> Result<Tree<bool>, OutOfMemory>
+) -> Result<Tree<bool>, BuildFault>
     requires plan { plan.now ≡ plan_of admitted.now.graph }
     requires process { process < process_count admitted.now.graph }
     requires forest { HasTrees admitted.now.graph forest.old }
     ensures trees { IfOk result (λ active. HasTrees admitted.now.graph forest.new) }
     ensures begun { IfOk result (λ active. (order : List ℕ) →
         IsBegunThawed admitted.now.graph order process (tree_of admitted.now.guards process) forest.old forest.new active) }
+    ensures fault { IfErr result (ShowsLarge forest.old.wide (IsLargeThawed admitted.now.graph process forest.old (tree_of admitted.now.guards process))) }
 {
     let problem = admitted.problem();
     let guard = admitted.guards().guard_of(process);
@@ -119,7 +126,7 @@ fn ready_after(
     active: &Tree<bool>,
     end: &Tree<Option<u64>>,
     process: u32,
-) -> Result<Ready, OutOfMemory>
+) -> Result<Ready, BuildFault>
     requires process { process < process_count admitted.now.graph }
     requires order { length order.now ≡ process_count admitted.now.graph }
     requires forest { HasTrees admitted.now.graph forest.now }
@@ -128,6 +135,7 @@ fn ready_after(
     ensures of { IfOk result (IsReadyAfter admitted.now.graph process) }
     ensures ready { IfOk result (λ ready.
         IsReadyIfWaited admitted.now.graph order.now forest.now process (tree_of admitted.now.guards process) active.now end.now (goes_on end.now ready)) }
+    ensures fault { IfErr result (ShowsLarge forest.now.wide (IsLargeFrozen admitted.now.graph order.now process forest.now (tree_of admitted.now.guards process))) }
 {
     let problem = admitted.problem();
     if active.is_true() {
@@ -155,7 +163,7 @@ fn begin_frozen(
     frozen: &mut Frozen,
     forest: &mut Forest,
     process: u32,
-) -> Result<Tree<bool>, OutOfMemory>
+) -> Result<Tree<bool>, BuildFault>
     requires plan { plan.now ≡ plan_of admitted.now.graph }
     requires process { process < process_count admitted.now.graph }
     requires order { length order.now ≡ process_count admitted.now.graph }
@@ -164,6 +172,7 @@ fn begin_frozen(
     ensures trees { IfOk result (λ active. HasTrees admitted.now.graph forest.new) }
     ensures count { IfOk result (λ active. length frozen.new ≡ item_count admitted.now.graph) }
     ensures begun { IfOk result (IsBegunFrozen admitted.now.graph order.now admitted.now.guards process forest.old forest.new frozen.old frozen.new) }
+    ensures fault { IfErr result (ShowsLarge forest.old.wide (IsLargeFrozen admitted.now.graph order.now process forest.old (tree_of admitted.now.guards process))) }
 {
     let problem = admitted.problem();
     let guards = admitted.guards();
@@ -188,7 +197,7 @@ fn begin(
     frozen: &mut Frozen,
     forest: &mut Forest,
     process: u32,
-) -> Result<Tree<bool>, OutOfMemory>
+) -> Result<Tree<bool>, BuildFault>
     requires plan { plan.now ≡ plan_of admitted.now.graph }
     requires process { process < process_count admitted.now.graph }
     requires order { length order.now ≡ process_count admitted.now.graph }
@@ -197,6 +206,7 @@ fn begin(
     ensures trees { IfOk result (λ active. HasTrees admitted.now.graph forest.new) }
     ensures count { IfOk result (λ active. length frozen.new ≡ item_count admitted.now.graph) }
     ensures begun { IfOk result (IsBegun admitted.now.graph order.now admitted.now.guards process forest.old forest.new frozen.old frozen.new) }
+    ensures fault { IfErr result (ShowsLarge forest.old.wide (IsLargeBegun admitted.now.graph order.now admitted.now.guards process forest.old)) }
 {
     if admitted.problem().is_frozen(process) {
         let active = begin_frozen(alloc, admitted, plan, order, frozen, forest, process)?;
@@ -215,7 +225,7 @@ pub(crate) fn step(
     frozen: &mut Frozen,
     forest: &mut Forest,
     process: u32,
-) -> Result<(), OutOfMemory>
+) -> Result<(), BuildFault>
     requires plan { plan.now ≡ plan_of admitted.now.graph }
     requires process { process < process_count admitted.now.graph }
     requires order { length order.now ≡ process_count admitted.now.graph }
@@ -224,6 +234,8 @@ pub(crate) fn step(
     ensures trees { IfOk result (λ u. HasTrees admitted.now.graph forest.new) }
     ensures count { IfOk result (λ u. length frozen.new ≡ item_count admitted.now.graph) }
     ensures grown { IfOk result (λ u. IsGrownBy admitted.now.graph order.now process frozen.old forest.old frozen.new forest.new) }
+    ensures wide { IfOk result (λ u. forest.new.wide ≡ forest.old.wide) }
+    ensures fault { IfErr result (ShowsLarge forest.old.wide (IsLargeBegun admitted.now.graph order.now admitted.now.guards process forest.old)) }
 {
     let problem = admitted.problem();
     let active = begin(alloc, admitted, plan, order, frozen, forest, process)?;

@@ -1,14 +1,17 @@
 //! Trees down guards.
-ghost use Rattle.std.specs.Prelude.{◌≡◌, ◌<◌, ℕ, IfOk, IfSome};
+ghost use Rattle.std.specs.Prelude.{◌≡◌, ◌<◌, ℕ, IfErr, IfOk, IfSome, Option};
 ghost use Rattle.std.specs.Bool.{OnTrue};
 ghost use Rattle.cpg_base.specs.declared.activation.Activation.{Activation};
 ghost use Rattle.cpg_order.specs.Guard.{Guard, Leaf, Test};
 ghost use Rattle.cpg_tree.specs.Tree.{TreeState};
 ghost use Rattle.cpg_expand.specs.Descent.{AreKept, AreKnown, AreLeaves, IsAdded, IsAt, IsFound, IsThere, IsTreeOf};
+ghost use Rattle.cpg_expand.specs.Large.{IsLargeDown, ShowsLarge};
 ghost use Rattle.cpg_rules.specs.Trees.{TestsBelow};
 
+use crate::bounding::few;
 use cpg_base::{Activation, OutOfMemory};
 use cpg_rules::{GuardTop, GuardTree};
+use cpg_run::BuildFault;
 use cpg_tree::Tree;
 use std::alloc::Global;
 
@@ -27,12 +30,21 @@ pub(crate) trait Descent<T> {
 
     ghost told: { Self → Guard → TreeState T → Type 0 };
 
+    ghost wide: { Self → Option ℕ };
+
+    ghost large: { Self → Activation → Type 0 };
+
+    /// The item to name where a tree has too many leaves.
+    fn wide(&self) -> Option<u32>
+        ensures { result ≡ wide self.now };
+
     /// The tree of an activation.
-    fn leaf(&self, activation: Activation) -> Result<Tree<T>, OutOfMemory>
+    fn leaf(&self, activation: Activation) -> Result<Tree<T>, BuildFault>
         requires begun { begun self.now }
         requires may { may self.now activation }
         ensures made { IfOk result (made self.now) }
-        ensures told { IfOk result (told self.now (Leaf activation)) };
+        ensures told { IfOk result (told self.now (Leaf activation)) }
+        ensures fault { IfErr result (ShowsLarge (wide self.now) (large self.now activation)) };
 
     /// The tree of a test of a condition.
     fn test(&self, condition: u32, no: &Tree<T>, yes: &Tree<T>) -> Result<Tree<T>, OutOfMemory>
@@ -142,7 +154,7 @@ fn found<'a, T: Copy + Eq, D: Descent<T>>(
     descent: &D,
     guard: &'a GuardTree,
     known: &mut Vec<Known<'a, T>>,
-) -> Result<Source<T>, OutOfMemory>
+) -> Result<Source<T>, BuildFault>
     requires begun { D.begun descent.now }
     requires tests { TestsBelow (D.conditions descent.now) guard.now }
     requires leaves { AreLeaves (D.may descent.now) guard.now }
@@ -150,6 +162,7 @@ fn found<'a, T: Copy + Eq, D: Descent<T>>(
     ensures known { IfOk result (λ _. AreKnown (D.made descent.now) (D.told descent.now) known.new.items) }
     ensures kept { IfOk result (λ _. AreKept known.old.items known.new.items) }
     ensures found { IfOk result (IsFound (D.made descent.now) (D.told descent.now) known.new.items guard.now) }
+    ensures fault { IfErr result (ShowsLarge (D.wide descent.now) (IsLargeDown (D.large descent.now) (D.told descent.now) guard.now)) }
 {
     if let Some(place) = place_of(known.as_slice(), guard) {
         return Ok(Source::At(place));
@@ -157,14 +170,17 @@ fn found<'a, T: Copy + Eq, D: Descent<T>>(
     match guard.top() {
         GuardTop::Leaf(activation) => {
             let tree = descent.leaf(activation)?;
-            keep(known, guard, tree)
+            let source = keep(known, guard, tree)?;
+            Ok(source)
         }
         GuardTop::Test { condition, no, yes } => {
             let no = found(descent, no, known)?;
             let yes = found(descent, yes, known)?;
             let kept = known.as_slice();
             let tree = descent.test(condition, tree_of(&no, kept), tree_of(&yes, kept))?;
-            keep(known, guard, tree)
+            few(&tree, descent.wide())?;
+            let source = keep(known, guard, tree)?;
+            Ok(source)
         }
     }
 }
@@ -174,12 +190,13 @@ pub(crate) fn tree_down<T: Copy + Eq, D: Descent<T>>(
     alloc: Global,
     descent: &D,
     guard: &GuardTree,
-) -> Result<Tree<T>, OutOfMemory>
+) -> Result<Tree<T>, BuildFault>
     requires begun { D.begun descent.now }
     requires tests { TestsBelow (D.conditions descent.now) guard.now }
     requires leaves { AreLeaves (D.may descent.now) guard.now }
     ensures made { IfOk result (D.made descent.now) }
     ensures told { IfOk result (D.told descent.now guard.now) }
+    ensures fault { IfErr result (ShowsLarge (D.wide descent.now) (IsLargeDown (D.large descent.now) (D.told descent.now) guard.now)) }
 {
     let mut known = Vec::new(alloc);
     match found(descent, guard, &mut known)? {

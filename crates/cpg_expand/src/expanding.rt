@@ -1,7 +1,11 @@
 //! From an order to what a builder answers, by trees.
-ghost use Rattle.std.specs.Prelude.{◌≡◌, ◌↔◌, IfOk, IfErr, IsTrue};
+ghost use Rattle.std.specs.Prelude.{ℕ, ◌≡◌, ◌↔◌, IfOk, IfErr, IsTrue, None};
 ghost use Rattle.cpg_expand.specs.Measured.{IsBetter};
-ghost use Rattle.cpg_expand.specs.GrownFor.{IsGrownFor};
+ghost use Rattle.cpg_expand.specs.GrownFor.{IsGrownFor, IsWidth};
+ghost use Rattle.cpg_expand.specs.Large.{HasLargeTree, ShowsLarge};
+ghost use Rattle.cpg_expand.specs.WideRows.{DoTablesFit, HaveWideRows};
+ghost use Rattle.cpg_expand.specs.Grown.{IsGrown};
+ghost use Rattle.cpg_base.specs.Graph.{process_count};
 ghost use Rattle.cpg_order.specs.Urgency.{IsTopological};
 ghost use Rattle.cpg_reach.specs.Wide.{IsLeastWide, IsNarrow};
 ghost use Rattle.cpg_run.specs.Built.{IsBuiltFor, ShowsBuildFault};
@@ -23,6 +27,8 @@ use std::alloc::Global;
 pub struct Grown {
     /// The order.
     pub order: Order,
+    /// The least item that is too wide under it by its views, where there is one.
+    pub wide: Option<u32>,
     pub(crate) trees: GrownForest,
     /// The greatest finish of all runs, in time units, with its first scenario by the urgency order.
     pub worst: Peak,
@@ -30,24 +36,50 @@ pub struct Grown {
     pub excess: Peak,
 }
 
-/// The trees under an order, and how good it is.
-fn measured(alloc: Global, admitted: &Admitted, order: Order) -> Result<Grown, OutOfMemory>
+/// How good an order is, by its trees.
+fn measured(
+    alloc: Global,
+    admitted: &Admitted,
+    order: Order,
+    wide: Option<u32>,
+    trees: GrownForest,
+) -> Result<Grown, OutOfMemory>
     requires topological { IsTopological admitted.now.graph order }
+    requires wide { IsWidth admitted.now.graph order wide }
+    requires grown { IsGrown admitted.now.graph order (process_count admitted.now.graph) trees.frozen trees.forest }
     ensures { IfOk result (IsGrownFor admitted.now.graph admitted.now.order order) }
 {
     let problem = admitted.problem();
     let urgency = admitted.order();
-    let trees = grown(alloc, admitted, &order)?;
     let ends = trees.forest.ends.as_slice();
     let tops = tops_of(alloc, ends)?;
     let worst = worst(alloc, problem, urgency, ends, tops.as_slice())?;
     let excess = excess(alloc, problem, urgency, ends, tops.as_slice())?;
     Ok(Grown {
         order,
+        wide,
         trees,
         worst,
         excess,
     })
+}
+
+/// The trees under an order, and how good it is. Where there is an item that is too wide, `TooWide` names it where a tree on the
+/// way has too many leaves.
+fn grow_with(
+    alloc: Global,
+    admitted: &Admitted,
+    order: Order,
+    wide: Option<u32>,
+) -> Result<Grown, BuildFault>
+    requires topological { IsTopological admitted.now.graph order }
+    requires wide { IsWidth admitted.now.graph order wide }
+    ensures grown { IfOk result (IsGrownFor admitted.now.graph admitted.now.order order) }
+    ensures fault { IfErr result (ShowsLarge wide (HasLargeTree admitted.now.graph admitted.now.order order)) }
+{
+    let trees = grown(alloc, admitted, &order, wide)?;
+    let grown = measured(alloc, admitted, order, wide, trees)?;
+    Ok(grown)
 }
 
 /// The trees under an order, and how good it is. `TooWide` shows the least item whose row would have too many columns, before
@@ -61,7 +93,20 @@ pub fn grow(alloc: Global, admitted: &Admitted, order: Order) -> Result<Grown, B
     if let Some(item) = too_wide(alloc, admitted, &order)? {
         return Err(BuildFault::TooWide(item));
     }
-    let grown = measured(alloc, admitted, order)?;
+    let grown = grow_with(alloc, admitted, order, None)?;
+    Ok(grown)
+}
+
+/// The same, but an item isn't refused for its views. Where one has too many, the leaves of trees are counted on the way, and
+/// `TooWide` shows the least such item where a tree has more than 147,456.
+pub fn grow_bounded(alloc: Global, admitted: &Admitted, order: Order) -> Result<Grown, BuildFault>
+    requires topological { IsTopological admitted.now.graph order }
+    ensures grown { IfOk result (IsGrownFor admitted.now.graph admitted.now.order order) }
+    ensures fault { IfErr result
+        (ShowsBuildFault (λ x. IsLeastWide admitted.now.graph order x × HasLargeTree admitted.now.graph admitted.now.order order)) }
+{
+    let wide = too_wide(alloc, admitted, &order)?;
+    let grown = grow_with(alloc, admitted, order, wide)?;
     Ok(grown)
 }
 
@@ -76,17 +121,22 @@ impl Grown {
         self.excess.time < other.excess.time
     }
 
-    /// The exact tables, with the frozen times and the measures. Each tree is given back once its row is made.
-    pub fn build(self, alloc: Global, admitted: &Admitted) -> Result<Built, OutOfMemory>
+    /// The exact tables, with the frozen times and the measures. Each tree is given back once its row is made. Where an item has
+    /// too many views, the columns of rows are counted as they are made, and `TooWide` shows the least such item where a row has
+    /// more than 16,384, or all rows of all tables more than 524,288.
+    pub fn build_bounded(self, alloc: Global, admitted: &Admitted) -> Result<Built, BuildFault>
         requires topological { IsTopological admitted.now.graph self.order }
-        requires narrow { IsNarrow admitted.now.graph self.order }
         requires grown { IsGrownFor admitted.now.graph admitted.now.order self.order self }
         ensures built { IfOk result (λ built. IsBuiltFor admitted.now.graph admitted.now.order self.order built) }
         ensures measures { IfOk result (λ built. (built.excess ≡ self.excess.time) × (built.worst ≡ self.worst.time)) }
+        ensures fit { IfOk result (λ built. DoTablesFit admitted.now.graph built.tables.nodes) }
+        ensures fault { IfErr result (ShowsBuildFault
+            (λ x. IsLeastWide admitted.now.graph self.order x × HaveWideRows admitted.now.graph admitted.now.order self.trees.forest.times)) }
     {
         let problem = admitted.problem();
         let urgency = admitted.order();
         let Grown {
+            wide,
             trees,
             worst,
             excess,
@@ -94,7 +144,7 @@ impl Grown {
         } = self;
         let GrownForest { frozen, forest } = trees;
         let times = forest.into_times();
-        let rows = rows(alloc, problem, urgency, times)?;
+        let rows = rows(alloc, problem, urgency, times, wide)?;
         let tables = tables_of(alloc, problem, rows)?;
         Ok(Built {
             tables,
@@ -106,6 +156,22 @@ impl Grown {
             excess_in: excess.scenario,
             excess_by: excess.process,
         })
+    }
+
+    /// The same, where no item has too many views.
+    pub fn build(self, alloc: Global, admitted: &Admitted) -> Result<Built, OutOfMemory>
+        requires topological { IsTopological admitted.now.graph self.order }
+        requires narrow { IsNarrow admitted.now.graph self.order }
+        requires grown { IsGrownFor admitted.now.graph admitted.now.order self.order self }
+        ensures built { IfOk result (λ built. IsBuiltFor admitted.now.graph admitted.now.order self.order built) }
+        ensures measures { IfOk result (λ built. (built.excess ≡ self.excess.time) × (built.worst ≡ self.worst.time)) }
+        ensures fit { IfOk result (λ built. DoTablesFit admitted.now.graph built.tables.nodes) }
+    {
+        match self.build_bounded(alloc, admitted) {
+            Ok(built) => Ok(built),
+            Err(BuildFault::TooWide(_)) => unreachable!(),
+            Err(BuildFault::OutOfMemory) => Err(OutOfMemory),
+        }
     }
 }
 

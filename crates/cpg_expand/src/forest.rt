@@ -35,6 +35,8 @@ pub(crate) struct Forest {
     pub(crate) ends: Vec<Tree<Option<u64>>>,
     pub(crate) ready: Vec<Ready>,
     pub(crate) free: Vec<Tree<u64>>,
+    /// The item to name where a tree on the way has too many leaves; `None` where they aren't counted.
+    pub(crate) wide: Option<u32>,
 }
 
 impl Model for Forest {
@@ -42,7 +44,7 @@ impl Model for Forest {
 
     ghost Value = { ForestState };
 
-    ghost view = { λ f. record { times = f.times.items; ends = f.ends.items; ready = f.ready.items; free = f.free.items } };
+    ghost view = { λ f. record { times = f.times.items; ends = f.ends.items; ready = f.ready.items; free = f.free.items; wide = f.wide } };
 }
 
 /// So many trees without times.
@@ -94,9 +96,14 @@ fn ready_first(alloc: Global, problem: &Problem, count: usize) -> Result<Vec<Rea
 
 impl Forest {
     /// Nothing is found of a graph.
-    pub(crate) fn none(alloc: Global, problem: &Problem) -> Result<Forest, OutOfMemory>
+    pub(crate) fn none(
+        alloc: Global,
+        problem: &Problem,
+        wide: Option<u32>,
+    ) -> Result<Forest, OutOfMemory>
         ensures trees { IfOk result (HasTrees problem.now) }
         ensures bare { IfOk result (IsBare problem.now) }
+        ensures wide { IfOk result (λ forest. forest.wide ≡ wide) }
     {
         let nodes = problem.nodes().len();
         Ok(Forest {
@@ -104,6 +111,7 @@ impl Forest {
             ends: without_times(alloc, problem, problem.processes().len())?,
             ready: ready_first(alloc, problem, nodes)?,
             free: zeros(alloc, problem, nodes)?,
+            wide,
         })
     }
 

@@ -1,18 +1,21 @@
 //! Trees down guards.
-ghost use Rattle.std.specs.Prelude.{⊤, ◌≡◌, ◌<◌, ◌≤◌, All, IfOk, false, true};
+ghost use Rattle.std.specs.Prelude.{⊤, ◌≡◌, ◌<◌, ◌≤◌, All, IfErr, IfOk, false, true};
 ghost use Rattle.std.specs.Bool.{OnTrue};
 ghost use Rattle.cpg_base.specs.Graph.{condition_count, edge_count, is_message};
 ghost use Rattle.cpg_expand.specs.Agreeing.{IsTree};
 ghost use Rattle.cpg_expand.specs.Descent.{AreLeaves};
 ghost use Rattle.cpg_expand.specs.Forest.{HasTrees, IsWait, ready_by};
 ghost use Rattle.cpg_expand.specs.Guarded.{IsActiveTree, IsByBelow, IsHeardTree, IsTestedOn, LeadsBelow, PicksByValue, WaitsForAll};
-ghost use Rattle.cpg_expand.specs.Guarded.{IsStartAfter, IsStartBy, IsStartTree, IsStartWhere};
+ghost use Rattle.cpg_expand.specs.Guarded.{IsStartAfter, IsStartBy, IsStartTree, IsStartWhere, awaited};
+ghost use Rattle.cpg_expand.specs.Large.{IsLargeHeard, IsLargeStart, IsLargeWith, ShowsLarge};
 ghost use Rattle.cpg_rules.specs.Trees.{TestsBelow};
 
+use crate::bounding::few;
 use crate::descent::{Descent, tree_down};
 use crate::forest::{Forest, Ready};
 use cpg_base::{Activation, OutOfMemory, Problem};
 use cpg_rules::{GuardTop, GuardTree};
+use cpg_run::BuildFault;
 use cpg_tree::{Tree, value};
 use std::alloc::Global;
 
@@ -112,7 +115,16 @@ impl Descent<u64> for Hearing<'_> {
 
     ghost told = { λ h guard t. IsHeardTree h.problem.now h.forest.now h.node guard t };
 
-    fn leaf(&self, _activation: Activation) -> Result<Tree<u64>, OutOfMemory> {
+    ghost wide = { λ h. h.forest.now.wide };
+
+    ghost large = { λ h a. ⊥ };
+
+    fn wide(&self) -> Option<u32> {
+        let forest = self.forest;
+        forest.wide
+    }
+
+    fn leaf(&self, _activation: Activation) -> Result<Tree<u64>, BuildFault> {
         let constant = Tree::constant(self.alloc, 0, self.problem.faults())?;
         Ok(constant)
     }
@@ -138,12 +150,13 @@ pub(crate) fn heard(
     forest: &Forest,
     node: u32,
     guard: &GuardTree,
-) -> Result<Tree<u64>, OutOfMemory>
+) -> Result<Tree<u64>, BuildFault>
     requires few { condition_count problem.now ≤ 32 }
     requires forest { HasTrees problem.now forest.now }
     requires tests { TestsBelow (condition_count problem.now) guard.now }
     ensures tree { IfOk result (IsTree problem.now) }
     ensures heard { IfOk result (IsHeardTree problem.now forest.now node guard.now) }
+    ensures fault { IfErr result (ShowsLarge forest.now.wide (IsLargeHeard problem.now forest.now node guard.now)) }
 {
     let hearing = Hearing {
         alloc,
@@ -176,12 +189,13 @@ fn start_after(
     wait: &Ready,
     release: u64,
     edges: &[u32],
-) -> Result<Tree<Option<u64>>, OutOfMemory>
+) -> Result<Tree<Option<u64>>, BuildFault>
     requires forest { HasTrees problem.now forest.now }
     requires wait { IsWait problem.now wait.now }
     requires edges { All (λ e. e < edge_count problem.now) edges.now }
     ensures tree { IfOk result (IsTree problem.now) }
     ensures start { IfOk result (IsStartAfter problem.now forest.now (ready_by problem.now forest.now wait.now) release edges.now) }
+    ensures fault { IfErr result (ShowsLarge forest.now.wide (IsLargeWith problem.now forest.now (ready_by problem.now forest.now wait.now) edges.now)) }
 {
     let Some((edge, others)) = edges.split_first() else {
         let start = forest.started(problem, wait, release)?;
@@ -196,7 +210,9 @@ fn start_after(
         let start = forest.started_by_input(problem, wait, *edge, release)?;
         return Ok(start);
     }
-    let both = Ready::At(forest.ready_and_input(problem, wait, *edge)?);
+    let there = forest.ready_and_input(problem, wait, *edge)?;
+    few(&there, forest.wide)?;
+    let both = Ready::At(there);
     let start = start_after(problem, forest, &both, release, others)?;
     Ok(start)
 }
@@ -209,13 +225,14 @@ fn start_where(
     release: u64,
     edges: &[u32],
     active: &Tree<bool>,
-) -> Result<Tree<Option<u64>>, OutOfMemory>
+) -> Result<Tree<Option<u64>>, BuildFault>
     requires forest { HasTrees problem.now forest.now }
     requires wait { IsWait problem.now wait.now }
     requires edges { All (λ e. e < edge_count problem.now) edges.now }
     requires active { IsTree problem.now active.now }
     ensures tree { IfOk result (IsTree problem.now) }
     ensures start { IfOk result (IsStartWhere problem.now forest.now active.now (ready_by problem.now forest.now wait.now) release edges.now) }
+    ensures fault { IfErr result (ShowsLarge forest.now.wide (IsLargeWith problem.now forest.now (ready_by problem.now forest.now wait.now) edges.now)) }
 {
     let Some((edge, others)) = edges.split_first() else {
         let start = forest.started_where(problem, wait, release, active)?;
@@ -230,7 +247,9 @@ fn start_where(
         let start = forest.started_by_input_where(problem, wait, *edge, release, active)?;
         return Ok(start);
     }
-    let both = Ready::At(forest.ready_and_input(problem, wait, *edge)?);
+    let there = forest.ready_and_input(problem, wait, *edge)?;
+    few(&there, forest.wide)?;
+    let both = Ready::At(there);
     let start = start_where(problem, forest, &both, release, others, active)?;
     Ok(start)
 }
@@ -290,13 +309,14 @@ fn start_by(
     release: u64,
     inputs: &[u32],
     activation: Activation,
-) -> Result<Tree<Option<u64>>, OutOfMemory>
+) -> Result<Tree<Option<u64>>, BuildFault>
     requires forest { HasTrees problem.now forest.now }
     requires wait { IsWait problem.now wait.now }
     requires inputs { All (λ e. e < edge_count problem.now) inputs.now }
     requires by { IsByBelow (edge_count problem.now) activation }
     ensures tree { IfOk result (IsTree problem.now) }
     ensures start { IfOk result (IsStartBy problem.now forest.now (ready_by problem.now forest.now wait.now) release inputs.now activation) }
+    ensures fault { IfErr result (ShowsLarge forest.now.wide (IsLargeWith problem.now forest.now (ready_by problem.now forest.now wait.now) (awaited inputs.now activation))) }
 {
     match activation {
         Activation::Inactive => {
@@ -337,7 +357,16 @@ impl Descent<Option<u64>> for Starting<'_> {
 
     ghost told = { λ s guard t. IsStartTree s.problem.now s.forest.now (ready_by s.problem.now s.forest.now s.wait.now) s.release s.inputs.now guard t };
 
-    fn leaf(&self, activation: Activation) -> Result<Tree<Option<u64>>, OutOfMemory> {
+    ghost wide = { λ s. s.forest.now.wide };
+
+    ghost large = { λ s a. IsLargeWith s.problem.now s.forest.now (ready_by s.problem.now s.forest.now s.wait.now) (awaited s.inputs.now a) };
+
+    fn wide(&self) -> Option<u32> {
+        let forest = self.forest;
+        forest.wide
+    }
+
+    fn leaf(&self, activation: Activation) -> Result<Tree<Option<u64>>, BuildFault> {
         start_by(
             self.alloc,
             self.problem,
@@ -369,7 +398,7 @@ pub(crate) fn start(
     inputs: &[u32],
     guard: &GuardTree,
     active: &Tree<bool>,
-) -> Result<Tree<Option<u64>>, OutOfMemory>
+) -> Result<Tree<Option<u64>>, BuildFault>
     requires forest { HasTrees problem.now forest.now }
     requires wait { IsWait problem.now wait.now }
     requires few { condition_count problem.now ≤ 32 }
@@ -380,6 +409,7 @@ pub(crate) fn start(
     requires actives { IsActiveTree problem.now.faults guard.now active.now }
     ensures tree { IfOk result (IsTree problem.now) }
     ensures start { IfOk result (IsStartTree problem.now forest.now (ready_by problem.now forest.now wait.now) release inputs.now guard.now) }
+    ensures fault { IfErr result (ShowsLarge forest.now.wide (IsLargeStart problem.now forest.now (ready_by problem.now forest.now wait.now) release inputs.now guard.now)) }
 {
     if is_by_activity(guard) {
         let start = start_where(problem, forest, wait, release, inputs, active)?;

@@ -5,6 +5,7 @@
 
 mod activity;
 mod along;
+mod bounding;
 mod descent;
 mod earlier;
 mod ending;
@@ -22,5 +23,6 @@ mod values;
 mod waited;
 
 pub use activity::active_item;
-pub use expanding::{Grown, expand, grow};
+pub use bounding::leaf_limit_is_this;
+pub use expanding::{Grown, expand, grow, grow_bounded};
 pub use measuring::Peak;

@@ -1,14 +1,20 @@
 //! Rows of trees.
-ghost use Rattle.std.specs.Prelude.{◌≡◌, All, IfOk, IsPermutation, length};
-ghost use Rattle.cpg_base.specs.Graph.{item_count, process_count};
+ghost use Rattle.std.specs.Prelude.{◌+◌, ◌*◌, ◌≡◌, ◌≤◌, ◌<◌, ◌⊎◌, All, IfErr, IfOk, IfSome, IsPermutation, Some, length};
+ghost use Rattle.cpg_base.specs.Graph.{item_at, item_count, process_count};
 ghost use Rattle.cpg_base.specs.Numbers.{numbers_below};
 ghost use Rattle.cpg_expand.specs.Agreeing.{IsTree};
 ghost use Rattle.cpg_expand.specs.MadeRows.{AreEntriesOf, AreMergedOf, AreRowsOf, IsRowOf};
+ghost use Rattle.cpg_expand.specs.Large.{ShowsLarge};
+ghost use Rattle.cpg_expand.specs.WideRows.{AreFewIf, HaveWideRows, IsLoadIf};
+ghost use Rattle.cpg_order.specs.Reach.{rows_of_item};
+ghost use Rattle.cpg_run.specs.Found.{DoRowsFit};
 
-use cpg_base::{Order, OutOfMemory, Problem};
+use cpg_base::{MOST_COLUMNS, MOST_LOAD, Order, OutOfMemory, Problem};
 use cpg_cube::Entry;
 use cpg_merging::merged_tidy;
 use cpg_paths::{columns, listing_along};
+use cpg_reach::rows_of_item;
+use cpg_run::BuildFault;
 use cpg_table::Row;
 use cpg_tree::Tree;
 use std::alloc::Global;
@@ -66,24 +72,60 @@ fn row(
     Ok(Row::new(item, columns))
 }
 
-/// A row for each item. Its tree, which is the larger, isn't kept beside it.
+/// The columns of the rows so far in all tables with those of one more, where there is an item to name: `TooWide` names it where
+/// that row or all of them have too many.
+fn load_with(
+    problem: &Problem,
+    wide: Option<u32>,
+    row: &Row,
+    item: u32,
+    load: u64,
+) -> Result<u64, BuildFault>
+    requires item { item < item_count problem.now }
+    requires load { load ≤ MOST_LOAD }
+    ensures load { IfOk result (IsLoadIf wide problem.now row.now item load) }
+    ensures few { IfOk result (λ sum. sum ≤ MOST_LOAD) }
+    ensures fault { IfErr result (ShowsLarge wide ((MOST_COLUMNS < length row.now.columns)
+        ⊎ (MOST_LOAD < load + length row.now.columns * rows_of_item problem.now (item_at problem.now item)))) }
+{
+    let Some(name) = wide else {
+        return Ok(load);
+    };
+    let columns = row.entries().len() as u64;
+    if columns > MOST_COLUMNS {
+        return Err(BuildFault::TooWide(name));
+    }
+    let sum = load + columns * rows_of_item(problem, item);
+    if sum > MOST_LOAD {
+        return Err(BuildFault::TooWide(name));
+    }
+    Ok(sum)
+}
+
+/// A row for each item. Its tree, which is the larger, isn't kept beside it. Where there is an item to name, columns are counted:
+/// `TooWide` names it where a row has more than 16,384, or all rows of all tables more than 524,288.
 pub(crate) fn rows(
     alloc: Global,
     problem: &Problem,
     urgency: &Order,
     times: Vec<Tree<Option<u64>>>,
-) -> Result<Vec<Row>, OutOfMemory>
+    wide: Option<u32>,
+) -> Result<Vec<Row>, BuildFault>
     requires order { IsPermutation (numbers_below (process_count problem.now)) urgency.now }
     requires count { length times.items ≡ item_count problem.now }
     requires trees { All (IsTree problem.now) times.items }
-    ensures { IfOk result (λ rows. AreRowsOf problem.now urgency.now times.items rows.items) }
+    ensures rows { IfOk result (λ rows. AreRowsOf problem.now urgency.now times.items rows.items) }
+    ensures few { IfOk result (λ rows. IfSome wide (λ _. DoRowsFit problem.now rows.items)) }
+    ensures fault { IfErr result (ShowsLarge wide (HaveWideRows problem.now urgency.now times.items)) }
 {
     let count = problem.item_count();
     let mut rows = Vec::new(alloc);
     rows.reserve(count as usize)?;
     let mut item = 0;
+    let mut load = 0;
     for tree in times {
         let row = row(alloc, problem, urgency, &tree, item)?;
+        load = load_with(problem, wide, &row, item, load)?;
         rows.push(row)?;
         item += 1;
     }

@@ -233,6 +233,7 @@ fn put(forest: &mut Forest, item: u32, times: Tree<Option<u64>>, node: u32, free
       ends = forest.old.ends;
       ready = forest.old.ready;
       free = slice_set forest.old.free node free;
+      wide = forest.old.wide;
     } }
 {
     forest.times[item as usize] = times;

@@ -1,21 +1,35 @@
 //! Starts of processes.
-ghost use Rattle.std.specs.Prelude.{◌≡◌, ◌<◌, ◌≤◌, All, IfOk, length};
+ghost use Rattle.std.specs.Prelude.{◌≡◌, ◌<◌, ◌≤◌, All, IfErr, IfOk, length};
 ghost use Rattle.cpg_expand.specs.Freezing.{IsFrozenBy, set_if};
 ghost use Rattle.cpg_base.specs.Graph.{condition_count, edge_count, item_count, process_at, process_count};
 ghost use Rattle.cpg_expand.specs.Agreeing.{IsTree};
 ghost use Rattle.cpg_expand.specs.Forest.{HasTrees, IsWait, ready_by};
 ghost use Rattle.cpg_expand.specs.Guarded.{IsActiveTree, IsStartTree, LeadsBelow};
-ghost use Rattle.cpg_expand.specs.Waiting.{IsWaitTree, wait_of};
+ghost use Rattle.cpg_expand.specs.Large.{IsLarge, IsLargeStart, IsLargeWait, ShowsLarge};
+ghost use Rattle.cpg_expand.specs.Waiting.{IsWaitTree, ready_of, wait_of};
 ghost use Rattle.cpg_rules.specs.Trees.{TestsBelow};
 
+use crate::bounding::few;
 use crate::forest::{Forest, Ready};
 use crate::guarded::{heard, start};
 use crate::values::fixed;
 use cpg_base::{OutOfMemory, Problem};
 use cpg_rules::{GuardTop, GuardTree};
-use cpg_run::Frozen;
+use cpg_run::{BuildFault, Frozen};
 use cpg_tree::Tree;
 use std::alloc::Global;
+
+/// Refuses a tree of when a node is ready that has too many leaves. The ends of a process are counted when they are made.
+fn few_ready(problem: &Problem, forest: &Forest, node: u32) -> Result<(), BuildFault>
+    requires forest { HasTrees problem.now forest.now }
+    requires node { node < length problem.now.nodes }
+    ensures { IfErr result (ShowsLarge forest.now.wide (IsLarge (ready_of problem.now forest.now node))) }
+{
+    match &forest.ready[node as usize] {
+        Ready::After(_) => Ok(()),
+        Ready::At(tree) => few(tree, forest.wide),
+    }
+}
 
 /// From when on a node is ready for a process with a guard and has heard what it tests. `None` where it tests nothing: from
 /// when on the node is ready.
@@ -25,7 +39,7 @@ pub(crate) fn waiting(
     forest: &Forest,
     node: u32,
     guard: &GuardTree,
-) -> Result<Option<Ready>, OutOfMemory>
+) -> Result<Option<Ready>, BuildFault>
     requires few { condition_count problem.now ≤ 32 }
     requires forest { HasTrees problem.now forest.now }
     requires node { node < length problem.now.nodes }
@@ -33,7 +47,9 @@ pub(crate) fn waiting(
     ensures of { IfOk result (λ heard. IsWait problem.now (wait_of problem.now forest.now node heard)) }
     ensures wait { IfOk result (λ heard.
         IsWaitTree problem.now forest.now node guard.now (ready_by problem.now forest.now (wait_of problem.now forest.now node heard))) }
+    ensures fault { IfErr result (ShowsLarge forest.now.wide (IsLargeWait problem.now forest.now node guard.now)) }
 {
+    few_ready(problem, forest, node)?;
     match guard.top() {
         GuardTop::Leaf(_) => Ok(None),
         GuardTop::Test {
@@ -43,6 +59,7 @@ pub(crate) fn waiting(
         } => {
             let heard = heard(alloc, problem, forest, node, guard)?;
             let wait = forest.ready_and(problem, &forest.ready[node as usize], &heard)?;
+            few(&wait, forest.wide)?;
             Ok(Some(Ready::At(wait)))
         }
     }
@@ -74,7 +91,7 @@ pub(crate) fn unfrozen_start(
     guard: &GuardTree,
     process: u32,
     active: &Tree<bool>,
-) -> Result<Tree<Option<u64>>, OutOfMemory>
+) -> Result<Tree<Option<u64>>, BuildFault>
     requires process { process < process_count problem.now }
     requires forest { HasTrees problem.now forest.now }
     requires wait { IsWait problem.now wait.now }
@@ -87,6 +104,8 @@ pub(crate) fn unfrozen_start(
     ensures tree { IfOk result (IsTree problem.now) }
     ensures start { IfOk result (IsStartTree problem.now forest.now (ready_by problem.now forest.now wait.now)
         (process_at problem.now process).release inputs.now guard.now) }
+    ensures fault { IfErr result (ShowsLarge forest.now.wide
+        (IsLargeStart problem.now forest.now (ready_by problem.now forest.now wait.now) (process_at problem.now process).release inputs.now guard.now)) }
 {
     start(
         problem,

@@ -20,7 +20,8 @@ fn waits_behind(problem: &Problem, order: &Order, node: u32, at: u32, other: u32
 pub(crate) fn is_waited_for(problem: &Problem, order: &Order, process: u32) -> bool
     requires process { process < process_count problem.now }
     requires order { length order.now ≡ process_count problem.now }
-    ensures { IsWaitedFor problem.now order.now (place order.now process + 1) (node_of problem.now process) → result ≡ true }
+    ensures waited { IsWaitedFor problem.now order.now (place order.now process + 1) (node_of problem.now process) → result ≡ true }
+    ensures by { result ≡ true → IsWaitedFor problem.now order.now (place order.now process + 1) (node_of problem.now process) }
 {
     let node = problem.node_of(process);
     let at = order.place(process);
@@ -43,6 +44,20 @@ fn is_sent_later(problem: &Problem, order: &Order, node: u32, at: u32, other: u3
         && (problem.home(other) == node && at <= order.place(problem.producer(other)))
 }
 
+/// Whether an item that isn't frozen is sent by a node, for a process at a place or later.
+pub(crate) fn is_queued_from(problem: &Problem, order: &Order, node: u32, at: u32) -> bool
+    requires order { length order.now ≡ process_count problem.now }
+    ensures queued { IsQueuedFor problem.now order.now at node → result ≡ true }
+    ensures by { result ≡ true → IsQueuedFor problem.now order.now at node }
+{
+    for other in 0..problem.item_count() {
+        if is_sent_later(problem, order, node, at, other) {
+            return true;
+        }
+    }
+    false
+}
+
 /// Whether an item that isn't frozen goes by when the slots of an item's node are free once that one is sent. One that is
 /// frozen rests on no tree of that.
 pub(crate) fn is_queued_for(problem: &Problem, order: &Order, item: u32) -> bool
@@ -53,14 +68,12 @@ pub(crate) fn is_queued_for(problem: &Problem, order: &Order, item: u32) -> bool
     if !problem.is_frozen(item) {
         return true;
     }
-    let node = problem.home(item);
-    let at = order.place(problem.producer(item));
-    for other in 0..problem.item_count() {
-        if is_sent_later(problem, order, node, at, other) {
-            return true;
-        }
-    }
-    false
+    is_queued_from(
+        problem,
+        order,
+        problem.home(item),
+        order.place(problem.producer(item)),
+    )
 }
 
 /// Whether what is sent for a process goes before something else that is.

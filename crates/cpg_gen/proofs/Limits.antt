@@ -163,6 +163,7 @@ module _ (number : ℕ) where
     node_names = pairs_by (λ a b. a ≢ b) node_name 4 (λ i j l m. numbered_differ 78 i j l (omega arith));
     process_names = pairs_by (λ p q. p.name ≢ q.name) (generated_process number) 60 (λ i j l m. numbered_differ 112 i j l m);
     own_slots = pairs_by (λ s t. s.node ≢ t.node) slot_of 4 (λ i j l m e. absurd (omega (arith, e)));
+    order = tt;
   }
 
   pub senders_have_slots : HasSenderSlots (generated number)
@@ -177,7 +178,7 @@ module _ (number : ℕ) where
   generated_well_formed = well_formed (generated number) within_limits senders_have_slots
 
 abbrev pub graph_of : List (List ℕ) → List Slot → List Process → List Edge → Graph
-graph_of nodes slots processes edges = record { faults = 2; deadline = 1000000000; nodes = nodes; slots = slots; processes = processes; edges = edges }
+graph_of nodes slots processes edges = record { faults = 2; deadline = 1000000000; nodes = nodes; slots = slots; processes = processes; edges = edges; order = None }
 
 -- so are its parts, put together
 pub parts_within : (number : ℕ) (nodes : List (List ℕ)) (slots : List Slot) (processes : List Process) (edges : List Edge) →
@@ -185,5 +186,5 @@ pub parts_within : (number : ℕ) (nodes : List (List ℕ)) (slots : List Slot) 
     IsWithinLimits (graph_of nodes slots processes edges)
 parts_within number nodes slots processes edges n s p e =
     let same : graph_of nodes slots processes edges ≡ generated number =
-    λ i. record { faults = 2; deadline = 1000000000; nodes = n i; slots = s i; processes = p i; edges = e i } in
+    λ i. record { faults = 2; deadline = 1000000000; nodes = n i; slots = s i; processes = p i; edges = e i; order = None } in
     subst IsWithinLimits (sym same) (within_limits number)

@@ -89,4 +89,5 @@ generated number = record {
   slots = map slot_of (numbers_below 4);
   processes = map (generated_process number) (numbers_below 60);
   edges = flat_map (generated_edges number) (numbers_below 60);
+  order = None;
 }

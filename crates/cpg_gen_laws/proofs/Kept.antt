@@ -2,6 +2,7 @@
 use Rattle.std.proofs.Common.{ℕ, ◌^◌, zero, suc, ◌-◌, ◌<◌, ◌≤◌, ◌≡◌, ◌==◌, Bool, true, false, cond, not, ◌&&◌, List, [], ◌∷◌, length, get_or, filter, map, Some, refl, sym, ap, ap₂, ◌∙◌, subst, arith, eqb-true, eq-eqb, ltb-true, le-ltb}
 use Rattle.std.specs.Prelude.{nat_lt}
 use Rattle.std.proofs.lemmas.Bool.{and_parts, and_right, both_ways}
+use Rattle.std.proofs.lemmas.Option.{none-some}
 use Rattle.cpg_base.specs.declared.process.Process.{Process}
 use Rattle.cpg_base.specs.declared.process.Edge.{Edge}
 use Rattle.cpg_base.specs.declared.process.Slot.{Slot}
@@ -16,7 +17,7 @@ use Rattle.cpg_order.specs.Cycle.{HasCycle, has_edge}
 use Rattle.cpg_order.specs.Deciding.{outcomes}
 use Rattle.cpg_order.specs.Track.{is_track, track_count}
 use Rattle.cpg_rules.specs.declared.admission.RuleFault.{RuleFault}
-use Rattle.cpg_rules.specs.declared.admission.RuleFault.TheVariants.{Cycle, TooManyTracks, TwoAlternatives, NoSlot, TooBig, OutOfMemory}
+use Rattle.cpg_rules.specs.declared.admission.RuleFault.TheVariants.{Cycle, TooManyTracks, TwoAlternatives, NoSlot, TooBig, BadOrder, OutOfMemory}
 use Rattle.cpg_rules.specs.Rules.{is_sender, has_slot, bytes_in, slot_bytes, is_too_big, AllFit}
 use Rattle.cpg_rules.specs.Faults.{ShowsFault}
 use Rattle.cpg_gen.specs.Generated.{generated, generated_process, edge_of, slot_of}
@@ -146,4 +147,5 @@ module _ (number : ℕ) where
       let lacks = shows.2 in
       absurd (not_both (has_slot (generated number) node) (slot_there node lacks.within) (and_parts (is_sender (generated number) node) (not (has_slot (generated number) node)) lacks.lacks).1)
   no_fault (TooBig e) shows = absurd (both_ways (is_too_big (generated number) e) (all_fit e shows.2.within) shows.2.above)
+  no_fault (BadOrder p) shows = absurd (none-some shows.2.order shows.2.given)
   no_fault OutOfMemory shows = refl

@@ -1,5 +1,5 @@
 -- The answers of unrolling.
-use Rattle.std.proofs.Common.{◌≡◌, ℕ, ◌≤◌, List, length, get_or, filter, Err, ap, ap₂, ◌∙◌}
+use Rattle.std.proofs.Common.{◌≡◌, ℕ, ◌≤◌, List, length, get_or, filter, Err, None, ap, ap₂, ◌∙◌}
 use Rattle.cpg_base.specs.Numbers.{numbers_below}
 use Rattle.cpg_base.specs.Graph.{Graph, process_count, condition_count}
 use Rattle.cpg_base.specs.Conditions.{has_conditional_output}
@@ -10,7 +10,7 @@ use Rattle.cpg_base.specs.declared.process.Slot.{Slot}
 use Rattle.cpg_base.proofs.Found.{conditions_found}
 use Rattle.cpg_hyper.specs.declared.part.Part.{Part}
 use Rattle.cpg_hyper.specs.declared.part.HyperFault.{HyperFault}
-use Rattle.cpg_hyper.specs.declared.part.HyperFault.TheVariants.{Range, Differ, Over, Period, Count, LongName, OutOfMemory}
+use Rattle.cpg_hyper.specs.declared.part.HyperFault.TheVariants.{Range, Differ, Over, Period, Count, LongName, Order, OutOfMemory}
 use Rattle.cpg_hyper.specs.Unrolled.{processes_from, edges_from, first_graph, unrolled}
 use Rattle.cpg_hyper.specs.Refusals.{HoldsOfEach, HasFewEnough, AreOver, ShowsProcesses, ShowsUnrolled}
 use Rattle.cpg_hyper.proofs.Whole.{unrolled_within, first_there}
@@ -19,7 +19,7 @@ use Rattle.cpg_hyper.proofs.Whole.{unrolled_within, first_there}
 pub made_within : (whole : ℕ) (parts : List Part) → 1 ≤ length parts → length parts ≤ 4 → AreOver parts whole → HoldsOfEach (λ p part. IsWithinLimits part.problem) parts → HasFewEnough (unrolled whole parts)
     → (first : Graph) (faults : ℕ) (nodes : List (List ℕ)) (slots : List Slot) (ps : List Process) (es : List Edge)
     → first ≡ first_graph parts → faults ≡ first.faults → nodes ≡ first.nodes → slots ≡ first.slots → ps ≡ processes_from whole 0 parts → es ≡ edges_from whole 0 parts
-    → IsWithinLimits (record { faults = faults; deadline = whole; nodes = nodes; slots = slots; processes = ps; edges = es })
+    → IsWithinLimits (record { faults = faults; deadline = whole; nodes = nodes; slots = slots; processes = ps; edges = es; order = None })
 made_within whole parts some few over within counts first faults nodes slots ps es is a b c d e =
     rw (a, b, c, d, e, is) (unrolled_within whole parts some few over within counts)
 
@@ -36,4 +36,5 @@ from_processes whole parts over few (Over p) h = absurd h
 from_processes whole parts over few Period h = absurd h
 from_processes whole parts over few (Count what) h = absurd h
 from_processes whole parts over few (LongName p) h = (whole, over, few, h)
+from_processes whole parts over few (Order p) h = absurd h
 from_processes whole parts over few OutOfMemory h = tt

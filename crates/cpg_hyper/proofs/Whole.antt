@@ -200,4 +200,5 @@ module _ (whole : ℕ) (parts : List Part) (some : 1 ≤ length parts) (few : le
         node_names = first_within.node_names;
         process_names = names_differ whole 0 parts over.short (omega (arith, few)) limits;
         own_slots = first_within.own_slots;
+        order = tt;
       }

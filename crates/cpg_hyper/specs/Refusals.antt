@@ -1,5 +1,5 @@
 -- What is answered of parts, and why.
-use Rattle.std.specs.Prelude.{ℕ, ◌≡◌, ◌<◌, ◌≤◌, ◌/◌, Bool, true, false, List, ◌++◌, length, get_or, All, Result, Ok, Err, Vec, ⊤}
+use Rattle.std.specs.Prelude.{ℕ, ◌≡◌, ◌<◌, ◌≤◌, ◌/◌, Bool, true, false, List, ◌++◌, None, length, get_or, All, Result, Ok, Err, Vec, ⊤}
 use Rattle.std.specs.declared.alloc.Global.{Global}
 use Rattle.cpg_base.specs.declared.limits.TheConstants.{LONGEST, MOST_PROCESSES, MOST_EDGES, MOST_CONDITIONS}
 use Rattle.cpg_base.specs.declared.process.Process.{Process}
@@ -8,7 +8,7 @@ use Rattle.cpg_reader.specs.declared.place.What.{What}
 use Rattle.cpg_reader.specs.declared.place.What.TheVariants.{Processes, Edges, Conditions}
 use Rattle.cpg_hyper.specs.declared.part.Part.{Part}
 use Rattle.cpg_hyper.specs.declared.part.HyperFault.{HyperFault}
-use Rattle.cpg_hyper.specs.declared.part.HyperFault.TheVariants.{Range, Differ, Over, Period, Count, LongName, OutOfMemory}
+use Rattle.cpg_hyper.specs.declared.part.HyperFault.TheVariants.{Range, Differ, Over, Period, Count, LongName, Order, OutOfMemory}
 use Rattle.cpg_hyper.specs.Hyperperiod.{IsHyperperiod}
 use Rattle.cpg_hyper.specs.Unrolled.{unrolled, first_graph, name_in, processes_from}
 
@@ -31,6 +31,10 @@ pub record FitsPeriod (part : Part) : Type 0 where
 -- each made name of a part is short enough
 abbrev pub HasShortNames : ℕ → ℕ → Part → Type 0
 HasShortNames whole p part = (i : ℕ) → i < whole / part.period → All (λ q. length (name_in p i q.name) ≤ 32) part.problem.processes
+
+-- a part gives no order to compile under
+abbrev pub GivesNoOrder : Part → Type 0
+GivesNoOrder part = part.problem.order ≡ None
 
 -- a fact on the parts by number holds of each
 abbrev pub HoldsOfEach : (ℕ → Part → Type 0) → List Part → Type 0
@@ -81,9 +85,11 @@ ShowsUnrolled parts (Err (Over p)) = AreAlike parts × FailsFirst (λ p part. Fi
 ShowsUnrolled parts (Err Period) = AreFitting parts × ((whole : ℕ) → IsHyperperiod parts whole → LONGEST < whole)
 ShowsUnrolled parts (Err (Count what)) = (whole : ℕ) × AreOver parts whole × Exceeds what (unrolled whole parts)
 ShowsUnrolled parts (Err (LongName p)) = (whole : ℕ) × AreOver parts whole × HasFewEnough (unrolled whole parts) × FailsFirst (HasShortNames whole) parts p
+ShowsUnrolled parts (Err (Order p)) = (whole : ℕ) × AreOver parts whole × HasFewEnough (unrolled whole parts) ×
+    HoldsOfEach (HasShortNames whole) parts × FailsFirst (λ q part. GivesNoOrder part) parts p
 ShowsUnrolled parts (Err OutOfMemory) = ⊤
 ShowsUnrolled parts (Ok g) = (whole : ℕ) × AreOver parts whole × HasFewEnough (unrolled whole parts) ×
-    HoldsOfEach (HasShortNames whole) parts × (g ≡ unrolled whole parts)
+    HoldsOfEach (HasShortNames whole) parts × HoldsOfEach (λ p part. GivesNoOrder part) parts × (g ≡ unrolled whole parts)
 
 -- the made names of one instance are short enough
 abbrev pub AreShort : ℕ → Part → ℕ → Type 0

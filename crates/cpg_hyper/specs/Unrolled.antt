@@ -1,5 +1,5 @@
 -- The graph of several parts, each with as many copies as it has periods in the whole.
-use Rattle.std.specs.Prelude.{ℕ, ◌+◌, ◌*◌, ◌/◌, List, [], ◌∷◌, ◌++◌, Some, codes, length, map}
+use Rattle.std.specs.Prelude.{ℕ, ◌+◌, ◌*◌, ◌/◌, List, [], ◌∷◌, ◌++◌, Some, None, codes, length, map}
 use Rattle.std.specs.List.{flat_map}
 use Rattle.std.specs.Fmt.{decimal}
 use Rattle.cpg_base.specs.Numbers.{numbers_below}
@@ -65,10 +65,10 @@ edges_from whole first (part ∷ parts) = edges_of whole first part ++ edges_fro
 
 -- the graph of the first part
 abbrev pub first_graph : List Part → Graph
-first_graph [] = record { faults = 0; deadline = 0; nodes = []; slots = []; processes = []; edges = [] }
+first_graph [] = record { faults = 0; deadline = 0; nodes = []; slots = []; processes = []; edges = []; order = None }
 first_graph (part ∷ parts) = part.problem
 
--- all parts over the whole: the first part's faults, nodes and slots, and the whole as deadline
+-- all parts over the whole: the first part's faults, nodes and slots, the whole as deadline, and no order
 abbrev pub unrolled : ℕ → List Part → Graph
 unrolled whole parts =
     record {
@@ -78,4 +78,5 @@ unrolled whole parts =
       slots = (first_graph parts).slots;
       processes = processes_from whole 0 parts;
       edges = edges_from whole 0 parts;
+      order = None;
     }

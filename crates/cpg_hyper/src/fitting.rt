@@ -1,7 +1,7 @@
 //! What parts have to have in common, and within their periods.
 ghost use Rattle.std.specs.Prelude.{◌≡◌, ◌≤◌, ◌<◌, ◌↔◌, IsTrue, IfSome, IfNone, All, length};
 ghost use Rattle.cpg_base.specs.Limits.{IsWithinLimits};
-ghost use Rattle.cpg_hyper.specs.Refusals.{IsInRange, IsAlike, FitsPeriod, HoldsOfEach, FailsFirst};
+ghost use Rattle.cpg_hyper.specs.Refusals.{IsInRange, IsAlike, FitsPeriod, GivesNoOrder, HoldsOfEach, FailsFirst};
 
 use crate::Part;
 use cpg_base::{LONGEST, Problem, Process, Slot, are_same_names};
@@ -97,6 +97,26 @@ pub fn first_over(parts: &[Part]) -> Option<u32>
 {
     for place in 0..parts.len() {
         if !fits_period(&parts[place]) {
+            return Some(place as u32);
+        }
+    }
+    None
+}
+
+fn gives_no_order(part: &Part) -> bool
+    ensures { IsTrue result ↔ GivesNoOrder part.now }
+{
+    part.problem.given_order().is_none()
+}
+
+/// The first part that gives an order to compile under.
+pub fn first_with_order(parts: &[Part]) -> Option<u32>
+    requires { length parts.now ≤ 4 }
+    ensures first { IfSome result (FailsFirst (λ p part. GivesNoOrder part) parts.now) }
+    ensures all { IfNone result (HoldsOfEach (λ p part. GivesNoOrder part) parts.now) }
+{
+    for place in 0..parts.len() {
+        if !gives_no_order(&parts[place]) {
             return Some(place as u32);
         }
     }

@@ -25,6 +25,8 @@ pub enum HyperFault {
     Count(What),
     /// A made name of it has more than 32 bytes.
     LongName(u32),
+    /// It gives an order to compile under.
+    Order(u32),
     /// Want of memory.
     OutOfMemory,
 }

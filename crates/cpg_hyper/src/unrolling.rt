@@ -5,7 +5,7 @@ ghost use Rattle.cpg_hyper.specs.Refusals.{HoldsOfEach, HasFewEnough, HasShortNa
 ghost use Rattle.cpg_hyper.specs.Unrolled.{unrolled, processes_from, edges_from};
 
 use crate::edges::{condition_total, edge_total, process_total, unrolled_edges};
-use crate::fitting::{first_different, first_out_of_range, first_over};
+use crate::fitting::{first_different, first_out_of_range, first_over, first_with_order};
 use crate::period::hyperperiod;
 use crate::processes::unrolled_processes;
 use crate::{HyperFault, Part};
@@ -46,7 +46,7 @@ fn built(
     Ok(Problem::of(first.faults(), whole, nodes, slots, processes, edges))
 }
 
-/// The graph over a hyperperiod, where there are few enough of each and the made names are short.
+/// The graph over a hyperperiod, if there are few enough of each, the made names are short and no part gives an order.
 fn over(alloc: Global, whole: u64, parts: &[Part]) -> Result<Problem, HyperFault>
     requires some { 1 ≤ length parts.now }
     requires few { length parts.now ≤ 4 }
@@ -66,7 +66,12 @@ fn over(alloc: Global, whole: u64, parts: &[Part]) -> Result<Problem, HyperFault
         return Err(HyperFault::Count(What::Conditions));
     }
     match unrolled_processes(alloc, whole, parts) {
-        Ok(processes) => Ok(built(alloc, whole, parts, processes, edges)?),
+        Ok(processes) => {
+            if let Some(part) = first_with_order(parts) {
+                return Err(HyperFault::Order(part));
+            }
+            Ok(built(alloc, whole, parts, processes, edges)?)
+        }
         Err(fault) => Err(fault),
     }
 }
@@ -77,8 +82,8 @@ fn over(alloc: Global, whole: u64, parts: &[Part]) -> Result<Problem, HyperFault
 ///
 /// The refusals come in this order: a period out of its range; other faults, nodes or slots than the first part's; a
 /// deadline or a release above its period; a hyperperiod above 10^9; too many processes, edges or conditions; too long a
-/// made name. One of a range, a difference, a time or a name shows the first part that it is true of. Want of memory may
-/// come in place of any.
+/// made name; an order to compile under, for it names no copies. One of a range, a difference, a time, a name or an order
+/// shows the first part that it is true of. Want of memory may come in place of any.
 pub fn unroll(alloc: Global, parts: &[Part]) -> Result<Problem, HyperFault>
     requires some { 1 ≤ length parts.now }
     requires few { length parts.now ≤ 4 }

@@ -4,12 +4,12 @@ use Rattle.toml.specs.Data.{Data, Members, get_member, as_integer, as_bool}
 use Rattle.cpg_reader.specs.declared.place.Table.{Table}
 use Rattle.cpg_reader.specs.declared.place.Table.TheVariants as tables
 use Rattle.cpg_reader.specs.declared.place.Key.{Key}
-use Rattle.cpg_reader.specs.declared.place.Key.TheVariants.{Faults, Deadline, Node, Slot, Process, Edge, Name, Length, Bytes, Wcet, Parts, Alpha, Chi, Mu, Join, Frozen, Release, From, To, When}
+use Rattle.cpg_reader.specs.declared.place.Key.TheVariants.{Faults, Deadline, Node, Slot, Process, Edge, Order, Name, Length, Bytes, Wcet, Parts, Alpha, Chi, Mu, Join, Frozen, Release, From, To, When}
 use Rattle.cpg_reader.specs.declared.shape.RawSlot.{RawSlot}
 use Rattle.cpg_reader.specs.declared.shape.RawProcess.{RawProcess}
 use Rattle.cpg_reader.specs.declared.shape.RawEdge.{RawEdge}
 use Rattle.cpg_reader.specs.Reading.{Reading, pure, ◌>>=◌, ◌>>◌, each}
-use Rattle.cpg_reader.specs.Rows.{Row, value_at, text_of, as_name, as_tables, typed_in, optional_in, optional, required_in, required, with_default, name_at, integer_at, integer_or, flag_or, tables_at}
+use Rattle.cpg_reader.specs.Rows.{Row, value_at, text_of, as_name, as_names, as_tables, typed_in, optional_in, optional, required_in, required, with_default, name_at, integer_at, integer_or, flag_or, tables_at}
 use Rattle.cpg_reader.specs.Shape.{RawGraph, node_at, slot_at, process_at, edge_at, rows_at, raw_graph_at}
 use Rattle.cpg_laws.specs.GraphFiles.{top_of, elements}
 
@@ -84,7 +84,7 @@ edge_in ms = record { from = name_in ms From; to = name_in ms To; bytes = intege
 
 -- the whole document
 abbrev pub graph_in : Members → RawGraph
-graph_in ms = record { faults = integer_in ms Faults (pos 0); deadline = integer_in ms Deadline (pos 0); nodes = map node_in (elements ms Node); slots = map slot_in (elements ms Slot); processes = map process_in (elements ms Process); edges = map edge_in (elements ms Edge) }
+graph_in ms = record { faults = integer_in ms Faults (pos 0); deadline = integer_in ms Deadline (pos 0); nodes = map node_in (elements ms Node); slots = map slot_in (elements ms Slot); processes = map process_in (elements ms Process); edges = map edge_in (elements ms Edge); order = value_in as_names ms Order }
 
 module _ (row : Row) where
   name_gives : (key : Key) → Gives (name_at row key) (name_in row.members key)
@@ -134,8 +134,8 @@ unfolding raw_graph_at
 graph_gives ms =
     bind_gives _ _ _ _ (integer_gives (top_of ms) Faults (pos 0)) (bind_gives _ _ _ _ (integer_gives (top_of ms) Deadline (pos 0))
     (bind_gives _ _ _ _ (list_gives (top_of ms) Node) (bind_gives _ _ _ _ (list_gives (top_of ms) Slot) (bind_gives _ _ _ _ (list_gives (top_of ms) Process) (bind_gives _ _ _ _ (list_gives (top_of ms) Edge)
-    (seq_gives _ _ _ (bind_gives _ _ _ _ (rows_give tables.Node node_at node_in node_gives (elements ms Node)) (bind_gives _ _ _ _ (rows_give tables.Slot slot_at slot_in slot_gives (elements ms Slot))
-    (bind_gives _ _ _ _ (rows_give tables.Process process_at process_in process_gives (elements ms Process)) (bind_gives _ _ _ _ (rows_give tables.Edge edge_at edge_in edge_gives (elements ms Edge)) (pure_gives _)))))))))))
+    (bind_gives _ _ _ _ (optional_gives as_names (top_of ms) Order) (seq_gives _ _ _ (bind_gives _ _ _ _ (rows_give tables.Node node_at node_in node_gives (elements ms Node)) (bind_gives _ _ _ _ (rows_give tables.Slot slot_at slot_in slot_gives (elements ms Slot))
+    (bind_gives _ _ _ _ (rows_give tables.Process process_at process_in process_gives (elements ms Process)) (bind_gives _ _ _ _ (rows_give tables.Edge edge_at edge_in edge_gives (elements ms Edge)) (pure_gives _))))))))))))
 
 -- the graph that is read is the one of the document
 pub graph_is : (ms : Members) (g : RawGraph) → raw_graph_at ms ≡ Ok g → g ≡ graph_in ms

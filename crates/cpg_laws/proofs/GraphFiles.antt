@@ -1,14 +1,14 @@
 -- Step by step: where each step is refused by the first of its faults, so is a document.
-use Rattle.std.proofs.Common.{◌≡◌, ℕ, ◌+◌, Bool, true, false, not, List, [], ◌∷◌, ◌++◌, Option, Some, None, is_some, unwrap_or, option_and_then, Ok, Err, length, position, pos, refl, sym, ap, subst, if◌then◌else◌}
+use Rattle.std.proofs.Common.{◌≡◌, ℕ, ◌+◌, ◌&&◌, Bool, true, false, not, List, [], ◌∷◌, ◌++◌, Option, Some, None, is_some, unwrap_or, option_and_then, Ok, Err, length, position, pos, refl, sym, ap, subst, if◌then◌else◌}
 use Rattle.std.specs.Prelude.{bytes_eq, nat_le}
-use Rattle.std.specs.List.{list_any}
+use Rattle.std.specs.List.{list_any, list_all}
 use Rattle.toml.specs.Data.{Data, Members, as_integer, as_bool}
 use Rattle.cpg_base.specs.declared.limits.TheConstants.{MOST_NODES, MOST_PROCESSES, MOST_EDGES, MOST_CONDITIONS}
 use Rattle.cpg_reader.specs.declared.place.Table.{Table}
 use Rattle.cpg_reader.specs.declared.place.Table.TheVariants as tables
 use Rattle.cpg_reader.specs.declared.place.Place.{Place}
 use Rattle.cpg_reader.specs.declared.place.Key.{Key}
-use Rattle.cpg_reader.specs.declared.place.Key.TheVariants.{Faults, Deadline, Node, Slot, Process, Edge, Name, Length, Bytes, Wcet, Parts, Alpha, Chi, Mu, Join, Frozen, Release, From, To, When, Unknown}
+use Rattle.cpg_reader.specs.declared.place.Key.TheVariants.{Faults, Deadline, Node, Slot, Process, Edge, Order, Name, Length, Bytes, Wcet, Parts, Alpha, Chi, Mu, Join, Frozen, Release, From, To, When, Unknown}
 use Rattle.cpg_reader.specs.declared.place.What.{What}
 use Rattle.cpg_reader.specs.declared.place.What.TheVariants.{Nodes, Slots, Processes, Edges, Number, Conditions}
 use Rattle.cpg_reader.specs.declared.place.ReadFault.{ReadFault}
@@ -18,12 +18,12 @@ use Rattle.cpg_reader.specs.declared.shape.RawSlot.{RawSlot}
 use Rattle.cpg_reader.specs.declared.shape.RawProcess.{RawProcess}
 use Rattle.cpg_reader.specs.declared.shape.RawEdge.{RawEdge}
 use Rattle.cpg_reader.specs.Reading.{Reading, pure, done, ◌>>=◌, ◌>>◌, each}
-use Rattle.cpg_reader.specs.Rows.{Row, place_in, bad, value_at, as_name, as_tables, are_listed, typed_in, optional_in, optional, required_in, required, with_default, only, name_at, integer_at, integer_or, flag_or, tables_at}
+use Rattle.cpg_reader.specs.Rows.{Row, place_in, bad, value_at, as_name, as_names, as_tables, are_listed, typed_in, optional_in, optional, required_in, required, with_default, only, name_at, integer_at, integer_or, flag_or, tables_at}
 use Rattle.cpg_reader.specs.Shape.{RawGraph, node_at, slot_at, process_at, edge_at, rows_at, raw_graph_at}
 use Rattle.cpg_reader.specs.Ranges.{top_numbers, slot_numbers, process_numbers, edge_numbers, is_within, in_range, all_in_range, at_most, sources, different, limits}
-use Rattle.cpg_reader.specs.Names.{place, apart_from, apart, known, number_of, slot_of, process_of, edge_of, slot_names, process_names, resolved, graph_of}
+use Rattle.cpg_reader.specs.Names.{place, name_place, apart_from, apart, known, number_of, slot_of, process_of, edge_of, ordered, order_of, order_apart, slot_names, process_names, resolved, graph_of}
 use Rattle.cpg_reader.specs.Document.{document_of, problem_at, problem_of}
-use Rattle.cpg_laws.specs.GraphFiles.{unless, of_each, Field, is_good_value, needed_name, needed_integer, list, node_fields, slot_fields, process_fields, edge_fields, bad_in, top_of, elements, bad_elements, field_faults, too_many, out_of_range, limit_faults, doubles_from, double_faults, unknown, unknown_ends, unknown_faults, graph_faults, document_faults, IsFirst, GraphFilesShowFirstFaults}
+use Rattle.cpg_laws.specs.GraphFiles.{unless, of_each, Field, is_good_value, needed_name, needed_integer, list, node_fields, slot_fields, process_fields, edge_fields, bad_in, top_of, elements, bad_elements, field_faults, too_many, out_of_range, limit_faults, doubles_from, differ_from, order_place, order_doubles, double_faults, is_known, order_unknowns, unknown, unknown_ends, unknown_faults, graph_faults, document_faults, IsFirst, GraphFilesShowFirstFaults}
 
 -- ---- steps one after another
 
@@ -172,11 +172,12 @@ fields_first ms =
     bind_within _ _ _ _ _ (list_first (top_of ms) Slot) (λ slot_tables slots_are.
     bind_within _ _ _ _ _ (list_first (top_of ms) Process) (λ process_tables processes_are.
     bind_within _ _ _ _ _ (list_first (top_of ms) Edge) (λ edge_tables edges_are.
-    seq _ _ _ _ (only_first (top_of ms) (Faults ∷ Deadline ∷ Node ∷ Slot ∷ Process ∷ Edge ∷ []))
+    bind_within _ _ _ _ _ (optional_first (top_of ms) Order as_names) (λ order e6.
+    seq _ _ _ _ (only_first (top_of ms) (Faults ∷ Deadline ∷ Node ∷ Slot ∷ Process ∷ Edge ∷ Order ∷ []))
     (bind _ _ _ _ (rows_of ms Node tables.Node node_fields node_at node_first node_tables nodes_are) (λ nodes e3.
     bind _ _ _ _ (rows_of ms Slot tables.Slot slot_fields slot_at slot_first slot_tables slots_are) (λ slots e4.
     bind _ _ _ _ (rows_of ms Process tables.Process process_fields process_at process_first process_tables processes_are) (λ processes e5.
-    bind_last _ _ _ (rows_of ms Edge tables.Edge edge_fields edge_at edge_first edge_tables edges_are)))))))))))
+    bind_last _ _ _ (rows_of ms Edge tables.Edge edge_fields edge_at edge_first edge_tables edges_are))))))))))))
 
 -- ---- limits
 
@@ -210,14 +211,33 @@ limits_first g =
 
 -- ---- names
 
-apart_from_first : (table : Table) (key : Key) (i : ℕ) (earlier names : List (List ℕ)) → IsFirst (doubles_from table key i earlier names) (apart_from table key i earlier names)
-apart_from_first table key i earlier [] = (tt, refl)
-apart_from_first table key i earlier (name ∷ names) = if_next (list_any (bytes_eq name) earlier) (DoubleName (place table i key)) (doubles_from table key (i + 1) (earlier ++ name ∷ []) names) (apart_from table key (i + 1) (earlier ++ name ∷ []) names)
-    (apart_from_first table key (i + 1) (earlier ++ name ∷ []) names)
+-- names of elements, each at a place of its own
+module _ (table : Table) (key : Key) (own : (i : ℕ) → name_place table i key ≡ place table i key) where
+  apart_from_first : (i : ℕ) (earlier names : List (List ℕ)) → IsFirst (doubles_from table key i earlier names) (apart_from table key i earlier names)
+  apart_from_first i earlier [] = (tt, refl)
+  apart_from_first i earlier (name ∷ names) =
+      subst (λ at. IsFirst (unless (not (list_any (bytes_eq name) earlier)) (DoubleName at) ++ doubles_from table key (i + 1) (earlier ++ name ∷ []) names) (apart_from table key i earlier (name ∷ names))) (own i)
+      (if_next (list_any (bytes_eq name) earlier) (DoubleName (name_place table i key)) (doubles_from table key (i + 1) (earlier ++ name ∷ []) names) (apart_from table key (i + 1) (earlier ++ name ∷ []) names)
+      (apart_from_first (i + 1) (earlier ++ name ∷ []) names))
 
-apart_first : (table : Table) (key : Key) (names : List (List ℕ)) → IsFirst (doubles_from table key 0 [] names) (apart table key names)
-unfolding apart
-apart_first table key names = apart_from_first table key 0 [] names
+  apart_first : (names : List (List ℕ)) → IsFirst (doubles_from table key 0 [] names) (apart table key names)
+  unfolding apart
+  apart_first names = apart_from_first 0 [] names
+
+-- names of the order, all at one place
+if_one : {T : Type 0} (b c : Bool) (fault : ReadFault) (next : Reading T) → IsFirst (unless c fault) next → IsFirst (unless (not b && c) fault) (if b then Err fault else next)
+if_one true c fault next h = refl
+if_one false c fault next h = h
+
+order_apart_from : (i : ℕ) (earlier names : List (List ℕ)) → IsFirst (unless (differ_from earlier names) (DoubleName order_place)) (apart_from tables.Top Order i earlier names)
+order_apart_from i earlier [] = (tt, refl)
+order_apart_from i earlier (name ∷ names) = if_one (list_any (bytes_eq name) earlier) (differ_from (earlier ++ name ∷ []) names) (DoubleName order_place) (apart_from tables.Top Order (i + 1) (earlier ++ name ∷ []) names)
+    (order_apart_from (i + 1) (earlier ++ name ∷ []) names)
+
+order_apart_first : (order : Option (List (List ℕ))) → IsFirst (order_doubles (unwrap_or order [])) (order_apart order)
+unfolding order_apart apart
+order_apart_first None = (tt, refl)
+order_apart_first (Some names) = order_apart_from 0 [] names
 
 known_first : (at : Place) (o : Option ℕ) → IsFirst (unless (is_some o) (UnknownName at)) (known at o)
 known_first at None = refl
@@ -239,19 +259,36 @@ ends_first : (names : List (List ℕ)) (i : ℕ) (e : RawEdge) → IsFirst (unkn
 unfolding edge_of
 ends_first names i e = bind _ _ _ _ (number_first names e.from tables.Edge i From) (λ from e1. bind_last _ _ _ (number_first names e.to tables.Edge i To))
 
+known_next : {T : Type 0} (at : Place) (o : Option ℕ) (c : Bool) (next : ℕ → Reading T) → ((n : ℕ) → IsFirst (unless c (UnknownName at)) (next n)) → IsFirst (unless (is_some o && c) (UnknownName at)) (known at o >>= next)
+known_next at None c next h = refl
+known_next at (Some n) c next h = h n
+
+order_numbers : (names : List (List ℕ)) (i : ℕ) (order : List (List ℕ)) → IsFirst (order_unknowns names order) (each (ordered names) i order)
+unfolding number_of
+order_numbers names i [] = ([], refl)
+order_numbers names i (name ∷ order) = known_next order_place (position (bytes_eq name) names) (list_all (is_known names) order) (λ y. each (ordered names) (i + 1) order >>= (λ ys. pure (y ∷ ys)))
+    (λ n. bind_last (order_unknowns names order) (each (ordered names) (i + 1) order) (λ ys. n ∷ ys) (order_numbers names (i + 1) order))
+
+order_first : (names : List (List ℕ)) (order : Option (List (List ℕ))) → IsFirst (order_unknowns names (unwrap_or order [])) (order_of names order)
+unfolding order_of
+order_first names None = (None, refl)
+order_first names (Some order) = bind_last _ _ (λ numbers. Some numbers) (order_numbers names 0 order)
+
 resolved_first : (g : RawGraph) → IsFirst (unknown_faults g) (resolved g)
 unfolding resolved
 resolved_first g =
     bind _ _ _ _ (each_first (λ i s. unknown g.nodes s.node tables.Slot i Node) (slot_of g.nodes) (slot_number_first g.nodes) 0 g.slots) (λ slots e1.
     bind _ _ _ _ (each_first (λ i p. unknown g.nodes p.node tables.Process i Node) (process_of g.nodes) (process_number_first g.nodes) 0 g.processes) (λ processes e2.
-    bind_last _ _ _ (each_first (unknown_ends (process_names g.processes)) (edge_of (process_names g.processes)) (ends_first (process_names g.processes)) 0 g.edges)))
+    bind _ _ _ _ (each_first (unknown_ends (process_names g.processes)) (edge_of (process_names g.processes)) (ends_first (process_names g.processes)) 0 g.edges) (λ edges e3.
+    bind_last _ _ _ (order_first (process_names g.processes) g.order))))
 
 names_first : (g : RawGraph) → IsFirst (double_faults g ++ unknown_faults g) (graph_of g)
 unfolding graph_of
 names_first g =
-    seq_within _ _ _ _ _ (apart_first tables.Node Name g.nodes)
-    (seq_within _ _ _ _ _ (apart_first tables.Slot Node (slot_names g.slots))
-    (seq _ _ _ _ (apart_first tables.Process Name (process_names g.processes)) (resolved_first g)))
+    seq_within _ _ _ _ _ (apart_first tables.Node Name (λ i. refl) g.nodes)
+    (seq_within _ _ _ _ _ (apart_first tables.Slot Node (λ i. refl) (slot_names g.slots))
+    (seq_within _ _ _ _ _ (apart_first tables.Process Name (λ i. refl) (process_names g.processes))
+    (seq _ _ _ _ (order_apart_first g.order) (resolved_first g))))
 
 -- ---- the whole
 

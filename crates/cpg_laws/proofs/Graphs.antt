@@ -1,6 +1,6 @@
 -- A graph that is refused for anything but a cycle has a topological order, and so no cycle.
 use Rattle.std.proofs.Common.{◌≡◌, ◌≢◌, ℕ, ◌<◌, ◌≤◌, Bool, true, false, List, Ok, Err, length, filter, refl, sym, ap, ◌∙◌, subst, arith, inl, inr, ltb-true, true≢false}
-use Rattle.std.proofs.lemmas.Bool.{cases_lt}
+use Rattle.std.proofs.lemmas.Bool.{cases_lt, both_ways}
 use Rattle.std.specs.Prelude.{Result}
 use Rattle.cpg_base.specs.Graph.{Graph, inputs}
 use Rattle.cpg_base.specs.Activity.{live}
@@ -14,10 +14,11 @@ use Rattle.cpg_order.proofs.Urgent.{one_urgency_order}
 use Rattle.cpg_rules.specs.Alternatives.{AreAlternatives, IsSingleJoin, has_two_live}
 use Rattle.cpg_rules.specs.Admission.{Admission}
 use Rattle.cpg_rules.specs.Faults.{IsOrdered, ShowsFault}
-use Rattle.cpg_rules.specs.Rules.{is_too_big, lacks_slot}
+use Rattle.cpg_rules.specs.Rules.{is_too_big, lacks_slot, AllFit}
 use Rattle.cpg_rules.proofs.Exact.{no_lack}
+use Rattle.cpg_rules.proofs.GivenOrders.{one_bad}
 use Rattle.cpg_rules.specs.declared.admission.RuleFault.{RuleFault}
-use Rattle.cpg_rules.specs.declared.admission.RuleFault.TheVariants.{Cycle, TooManyTracks, TwoAlternatives, NoSlot, TooBig, OutOfMemory}
+use Rattle.cpg_rules.specs.declared.admission.RuleFault.TheVariants.{Cycle, TooManyTracks, TwoAlternatives, NoSlot, TooBig, BadOrder, OutOfMemory}
 use Rattle.cpg_laws.specs.Graphs.{RefusesCycles, CyclesAreRefusedFirst, HasTwoInputs, place_of, IsFirstCause, GraphsShowFirstCauses}
 
 -- a graph in order is refused for no cycle
@@ -40,6 +41,7 @@ cycles_are_refused_first g (Err TooManyTracks) may kept = none g (Err TooManyTra
 cycles_are_refused_first g (Err (TwoAlternatives p least)) may kept = none g (Err (TwoAlternatives p least)) (λ walk e. cc) (acyclic g may.0 may.1.ordered)
 cycles_are_refused_first g (Err (NoSlot node)) may kept = none g (Err (NoSlot node)) (λ walk e. cc) (acyclic g may.0 may.1.tracks.ordered)
 cycles_are_refused_first g (Err (TooBig e)) may kept = none g (Err (TooBig e)) (λ walk e. cc) (acyclic g may.0 may.1.inputs.tracks.ordered)
+cycles_are_refused_first g (Err (BadOrder p)) may kept = none g (Err (BadOrder p)) (λ walk e. cc) (acyclic g may.0 may.1.slots.inputs.tracks.ordered)
 cycles_are_refused_first g (Err OutOfMemory) may kept = absurd (kept refl)
 
 -- A refusal tells the first cause.
@@ -50,44 +52,59 @@ first g TooManyTracks h = (acyclic g h.0 h.1, h.2)
 first g (TwoAlternatives p least) h = (acyclic g h.0 h.1.ordered, h.1.few, record { order = h.0; urgency = h.1.ordered.urgency; two = h.2 })
 first g (NoSlot node) h = (acyclic g h.0 h.1.tracks.ordered, h.1.tracks.few, h.1.joins, h.2)
 first g (TooBig e) h = (acyclic g h.0 h.1.inputs.tracks.ordered, h.1.inputs.tracks.few, h.1.inputs.joins, h.1.slots, h.2)
+first g (BadOrder p) h =
+    (acyclic g h.0 h.1.slots.inputs.tracks.ordered, h.1.slots.inputs.tracks.few, h.1.slots.inputs.joins, h.1.slots.slots, h.1.sizes, h.2)
 first g OutOfMemory h = tt
 
 -- What a later cause says of the earlier ones.
 
 module _ (g : Graph) where
-  no_cycle_then : (fault : RuleFault) → 0 < place_of fault → place_of fault < 5 → IsFirstCause g fault → HasCycle g → ⊥
+  no_cycle_then : (fault : RuleFault) → 0 < place_of fault → place_of fault < 6 → IsFirstCause g fault → HasCycle g → ⊥
   no_cycle_then (Cycle walk) l m h = absurd (omega (arith, l))
   no_cycle_then TooManyTracks l m h = h.0
   no_cycle_then (TwoAlternatives p least) l m h = h.0
   no_cycle_then (NoSlot node) l m h = h.0
   no_cycle_then (TooBig e) l m h = h.0
+  no_cycle_then (BadOrder p) l m h = h.0
   no_cycle_then OutOfMemory l m h = absurd (omega (arith, m))
 
-  few_then : (fault : RuleFault) → 1 < place_of fault → place_of fault < 5 → IsFirstCause g fault → track_count g ≤ most_tracks
+  few_then : (fault : RuleFault) → 1 < place_of fault → place_of fault < 6 → IsFirstCause g fault → track_count g ≤ most_tracks
   few_then (Cycle walk) l m h = absurd (omega (arith, l))
   few_then TooManyTracks l m h = absurd (omega (arith, l))
   few_then (TwoAlternatives p least) l m h = h.1
   few_then (NoSlot node) l m h = h.1
   few_then (TooBig e) l m h = h.1
+  few_then (BadOrder p) l m h = h.1
   few_then OutOfMemory l m h = absurd (omega (arith, m))
 
-  joins_then : (fault : RuleFault) → 2 < place_of fault → place_of fault < 5 → IsFirstCause g fault → HasSingleJoins g
+  joins_then : (fault : RuleFault) → 2 < place_of fault → place_of fault < 6 → IsFirstCause g fault → HasSingleJoins g
   joins_then (Cycle walk) l m h = absurd (omega (arith, l))
   joins_then TooManyTracks l m h = absurd (omega (arith, l))
   joins_then (TwoAlternatives p least) l m h = absurd (omega (arith, l))
   joins_then (NoSlot node) l m h = h.2
   joins_then (TooBig e) l m h = h.2
+  joins_then (BadOrder p) l m h = h.2
   joins_then OutOfMemory l m h = absurd (omega (arith, m))
 
-  slots_then : (fault : RuleFault) → 3 < place_of fault → place_of fault < 5 → IsFirstCause g fault → HasSenderSlots g
+  slots_then : (fault : RuleFault) → 3 < place_of fault → place_of fault < 6 → IsFirstCause g fault → HasSenderSlots g
   slots_then (Cycle walk) l m h = absurd (omega (arith, l))
   slots_then TooManyTracks l m h = absurd (omega (arith, l))
   slots_then (TwoAlternatives p least) l m h = absurd (omega (arith, l))
   slots_then (NoSlot node) l m h = absurd (omega (arith, l))
   slots_then (TooBig e) l m h = h.3
+  slots_then (BadOrder p) l m h = h.3
   slots_then OutOfMemory l m h = absurd (omega (arith, m))
 
-  apart : (fault other : RuleFault) → place_of fault < place_of other → place_of other < 5 → IsFirstCause g fault → IsFirstCause g other → ⊥
+  sizes_then : (fault : RuleFault) → 4 < place_of fault → place_of fault < 6 → IsFirstCause g fault → AllFit g
+  sizes_then (Cycle walk) l m h = absurd (omega (arith, l))
+  sizes_then TooManyTracks l m h = absurd (omega (arith, l))
+  sizes_then (TwoAlternatives p least) l m h = absurd (omega (arith, l))
+  sizes_then (NoSlot node) l m h = absurd (omega (arith, l))
+  sizes_then (TooBig e) l m h = absurd (omega (arith, l))
+  sizes_then (BadOrder p) l m h = h.4
+  sizes_then OutOfMemory l m h = absurd (omega (arith, m))
+
+  apart : (fault other : RuleFault) → place_of fault < place_of other → place_of other < 6 → IsFirstCause g fault → IsFirstCause g other → ⊥
   apart (Cycle walk) other l m h k = no_cycle_then other l m k (walk, h)
   apart TooManyTracks other l m h k = let f = few_then other l m k in let n = h.1 in omega (arith, f, n)
   apart (TwoAlternatives p least) other l m h k =
@@ -96,15 +113,17 @@ module _ (g : Graph) where
       let more = ltb-true 1 (length (filter (live g least.values) (inputs g p))) two.least.holds in
       omega (arith, one, more)
   apart (NoSlot node) other l m h k = no_lack g (slots_then other l m k) node h.3.lacks
-  apart (TooBig e) other l m h k = omega (arith, l, m)
+  apart (TooBig e) other l m h k = both_ways (is_too_big g e) (sizes_then other l m k e h.4.within) h.4.above
+  apart (BadOrder p) other l m h k = omega (arith, l, m)
   apart OutOfMemory other l m h k = omega (arith, l, m)
 
-  below : (fault : RuleFault) → fault ≢ OutOfMemory → place_of fault < 5
+  below : (fault : RuleFault) → fault ≢ OutOfMemory → place_of fault < 6
   below (Cycle walk) kept = omega arith
   below TooManyTracks kept = omega arith
   below (TwoAlternatives p least) kept = omega arith
   below (NoSlot node) kept = omega arith
   below (TooBig e) kept = omega arith
+  below (BadOrder p) kept = omega arith
   below OutOfMemory kept = absurd (kept refl)
 
   one : (fault other : RuleFault) → fault ≢ OutOfMemory → other ≢ OutOfMemory → IsFirstCause g fault → IsFirstCause g other → place_of fault ≡ place_of other
@@ -148,7 +167,7 @@ module _ (g : Graph) where
       let least = subst (λ (o : List ℕ). IsLeast g o (λ u. has_two_live g u.values q ≡ true) t) order k.two.least in
       λ i. TwoAlternatives (join i) (one_least g h.order h.urgency.all (λ u. has_two_live g u.values q ≡ true) s t (subst (λ r. IsLeast g h.order (λ u. has_two_live g u.values r ≡ true) s) join h.two.least) least i)
 
-  alike : (fault other : RuleFault) → place_of fault ≡ place_of other → 0 < place_of fault → place_of fault < 5 → IsFirstCause g fault → IsFirstCause g other → fault ≡ other
+  alike : (fault other : RuleFault) → place_of fault ≡ place_of other → 0 < place_of fault → place_of fault < 6 → IsFirstCause g fault → IsFirstCause g other → fault ≡ other
   alike (Cycle walk) other e l m h k = absurd (omega (arith, l))
   alike OutOfMemory other e l m h k = absurd (omega (arith, m))
   alike TooManyTracks TooManyTracks e l m h k = refl
@@ -156,25 +175,36 @@ module _ (g : Graph) where
   alike TooManyTracks (TwoAlternatives q t) e l m h k = absurd (omega (arith, e))
   alike TooManyTracks (NoSlot node) e l m h k = absurd (omega (arith, e))
   alike TooManyTracks (TooBig b) e l m h k = absurd (omega (arith, e))
+  alike TooManyTracks (BadOrder r) e l m h k = absurd (omega (arith, e))
   alike TooManyTracks OutOfMemory e l m h k = absurd (omega (arith, e))
   alike (TwoAlternatives p s) (TwoAlternatives q t) e l m h k = same_two p q s t h.2 k.2
   alike (TwoAlternatives p s) (Cycle walk) e l m h k = absurd (omega (arith, e))
   alike (TwoAlternatives p s) TooManyTracks e l m h k = absurd (omega (arith, e))
   alike (TwoAlternatives p s) (NoSlot node) e l m h k = absurd (omega (arith, e))
   alike (TwoAlternatives p s) (TooBig b) e l m h k = absurd (omega (arith, e))
+  alike (TwoAlternatives p s) (BadOrder r) e l m h k = absurd (omega (arith, e))
   alike (TwoAlternatives p s) OutOfMemory e l m h k = absurd (omega (arith, e))
   alike (NoSlot node) (NoSlot other) e l m h k = ap NoSlot (one_first (lacks_slot g) node other h.3.lacks h.3.before k.3.lacks k.3.before)
   alike (NoSlot node) (Cycle walk) e l m h k = absurd (omega (arith, e))
   alike (NoSlot node) TooManyTracks e l m h k = absurd (omega (arith, e))
   alike (NoSlot node) (TwoAlternatives q t) e l m h k = absurd (omega (arith, e))
   alike (NoSlot node) (TooBig b) e l m h k = absurd (omega (arith, e))
+  alike (NoSlot node) (BadOrder r) e l m h k = absurd (omega (arith, e))
   alike (NoSlot node) OutOfMemory e l m h k = absurd (omega (arith, e))
   alike (TooBig a) (TooBig b) e l m h k = ap TooBig (one_first (is_too_big g) a b h.4.above h.4.before k.4.above k.4.before)
   alike (TooBig a) (Cycle walk) e l m h k = absurd (omega (arith, e))
   alike (TooBig a) TooManyTracks e l m h k = absurd (omega (arith, e))
   alike (TooBig a) (TwoAlternatives q t) e l m h k = absurd (omega (arith, e))
   alike (TooBig a) (NoSlot node) e l m h k = absurd (omega (arith, e))
+  alike (TooBig a) (BadOrder r) e l m h k = absurd (omega (arith, e))
   alike (TooBig a) OutOfMemory e l m h k = absurd (omega (arith, e))
+  alike (BadOrder p) (BadOrder q) e l m h k = ap BadOrder (one_bad g p q h.5 k.5)
+  alike (BadOrder p) (Cycle walk) e l m h k = absurd (omega (arith, e))
+  alike (BadOrder p) TooManyTracks e l m h k = absurd (omega (arith, e))
+  alike (BadOrder p) (TwoAlternatives q t) e l m h k = absurd (omega (arith, e))
+  alike (BadOrder p) (NoSlot node) e l m h k = absurd (omega (arith, e))
+  alike (BadOrder p) (TooBig b) e l m h k = absurd (omega (arith, e))
+  alike (BadOrder p) OutOfMemory e l m h k = absurd (omega (arith, e))
 
 pub graphs_show_first_causes : GraphsShowFirstCauses
 graphs_show_first_causes g = record {

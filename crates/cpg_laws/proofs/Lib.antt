@@ -9,3 +9,4 @@ pub mod LimitFaults
 pub mod NameFaults
 pub mod DocumentFaults
 pub mod Packs
+pub mod Fronts

@@ -1,7 +1,7 @@
 -- Names that stand twice, or name nothing, do so in the document.
-use Rattle.std.proofs.Common.{◌≡◌, ◌≢◌, ℕ, zero, suc, ◌+◌, ◌<◌, ◌⊎◌, Bool, true, false, not, ◌||◌, List, [], ◌∷◌, ◌++◌, Option, Some, None, is_some, unwrap_or, option_and_then, option_map, Contains, map, position, cond, slice_get, refl, sym, ap, ◌∙◌, subst, inl, inr, true≢false, arith, add-zero, zero-add}
+use Rattle.std.proofs.Common.{◌≡◌, ◌≢◌, ℕ, zero, suc, ◌+◌, ◌<◌, ◌⊎◌, Bool, true, false, not, ◌&&◌, ◌||◌, List, [], ◌∷◌, ◌++◌, Option, Some, None, is_some, unwrap_or, option_and_then, option_map, Contains, length, map, position, append_assoc, cond, slice_get, refl, sym, ap, ◌∙◌, subst, inl, inr, true≢false, arith, add-zero, zero-add}
 use Rattle.std.specs.Prelude.{bytes_eq}
-use Rattle.std.specs.List.{list_any}
+use Rattle.std.specs.List.{list_any, list_all}
 use Rattle.std.proofs.Math.Bool.{or-false}
 use Rattle.std.proofs.lemmas.Bool.{false_from_ne_true, not-false, or_cases, or_left, or_right}
 use Rattle.std.proofs.lemmas.Option.{slice_get-map}
@@ -9,7 +9,7 @@ use Rattle.std.proofs.lemmas.List.Folds.{list_any-append}
 use Rattle.std.proofs.lemmas.List.Elements.{Contains-append_left, Contains-append_right}
 use Rattle.std.proofs.lemmas.Slice.Eq.{bytes_eq-Decides}
 use Rattle.toml.specs.Data.{Data, string, integer, float, boolean, datetime, array, table, Members, get_member}
-use Rattle.cpg_base.proofs.Lists.{Contains-slice_get, slice_get-Contains, list_any_true, list_any_parts}
+use Rattle.cpg_base.proofs.Lists.{Contains-first, Contains-rest, Contains-cases, Contains-nil, Contains-slice_get, slice_get-Contains, list_any_true, list_any_parts}
 use Rattle.cpg_reader.specs.declared.place.Table.{Table}
 use Rattle.cpg_reader.specs.declared.place.Table.TheVariants as tables
 use Rattle.cpg_reader.specs.declared.place.Key.{Key}
@@ -19,8 +19,8 @@ use Rattle.cpg_reader.specs.declared.place.ReadFault.{ReadFault}
 use Rattle.cpg_reader.specs.declared.place.ReadFault.TheVariants.{DoubleName, UnknownName}
 use Rattle.cpg_reader.specs.Rows.{text_of, as_name, is_name}
 use Rattle.cpg_reader.specs.Names.{place, slot_names, process_names}
-use Rattle.cpg_laws.specs.GraphFiles.{unless, of_each, is_good_value, needed_name, elements, doubles_from, double_faults, unknown, unknown_ends, unknown_faults}
-use Rattle.cpg_laws.specs.DocumentFaults.{table_at, found_at, fields_of, HasGoodFields, is_own_name, IsDouble, named_in, IsUnknown}
+use Rattle.cpg_laws.specs.GraphFiles.{unless, of_each, is_good_value, needed_name, elements, doubles_from, differ_from, order_place, order_doubles, double_faults, is_known, order_unknowns, unknown, unknown_ends, unknown_faults}
+use Rattle.cpg_laws.specs.DocumentFaults.{table_at, found_at, fields_of, HasGoodFields, is_own_name, order_names, HasTwice, IsDouble, named_in, IsUnknown}
 use Rattle.cpg_laws.proofs.DocumentValues.{name_in, slot_in, process_in, edge_in, graph_in}
 use Rattle.cpg_laws.proofs.FaultLists.{Each, Stand, each_joined, each_unless, each_of_each, unless_contains, stand_all, of_each_contains, of_each_mapped, some_position}
 use Rattle.cpg_laws.proofs.LimitFaults.{good_value, found_in, found_parts}
@@ -121,7 +121,7 @@ module _ (ms : Members) (t : Table) (key : Key) (own : is_own_name t key ≡ tru
   doubles_are_twice : (i : ℕ) (before names : List (List ℕ)) → ((name : List ℕ) → list_any (bytes_eq name) before ≡ true → StandsBefore i name) → Stand (λ i name. found_at ms t i key ≡ Some (string name)) i names → Each (IsTwice ms) (doubles_from t key i before names)
   doubles_are_twice i before [] seen stand = tt
   doubles_are_twice i before (name ∷ names) seen stand = each_joined (IsTwice ms) (unless (not (list_any (bytes_eq name) before)) (DoubleName (place t i key))) (doubles_from t key (i + 1) (before ++ name ∷ []) names)
-      (each_unless (IsTwice ms) (not (list_any (bytes_eq name) before)) (DoubleName (place t i key)) (λ e. let (j, l, found) = seen name (not-false (list_any (bytes_eq name) before) e) in (place t i key, refl, (own, name, stand.0, j, l, found))))
+      (each_unless (IsTwice ms) (not (list_any (bytes_eq name) before)) (DoubleName (place t i key)) (λ e. let (j, l, found) = seen name (not-false (list_any (bytes_eq name) before) e) in (place t i key, refl, inl (own, name, stand.0, j, l, found))))
       (doubles_are_twice (i + 1) (before ++ name ∷ []) names (λ other e. more other (among_more other before name e)) stand.1)
     where
       more : (other : List ℕ) → (list_any (bytes_eq other) before ≡ true) ⊎ (other ≡ name) → StandsBefore (i + 1) other
@@ -145,6 +145,76 @@ module _ (t : Table) (key : Key) where
 
   double_at : (i j : ℕ) (names : List (List ℕ)) (name : List ℕ) → slice_get names i ≡ Some name → j < i → slice_get names j ≡ Some name → Contains (doubles_from t key 0 [] names) (DoubleName (place t i key))
   double_at i j names name here l there = subst (λ at. Contains (doubles_from t key 0 [] names) (DoubleName (place t at key))) (zero-add i) (double_from 0 i [] names name here (inr (j, l, there)))
+
+-- ---- names of a list
+
+append_here : (xs ys : List (List ℕ)) (y : List ℕ) → slice_get (xs ++ y ∷ ys) (length xs) ≡ Some y
+append_here [] ys y = refl
+append_here (x ∷ xs) ys y = append_here xs ys y
+
+append_there : (xs ys : List (List ℕ)) (k : ℕ) (x : List ℕ) → slice_get xs k ≡ Some x → slice_get (xs ++ ys) k ≡ Some x
+append_there [] ys k x e = cc
+append_there (z ∷ xs) ys zero x e = e
+append_there (z ∷ xs) ys (suc k) x e = append_there xs ys k x e
+
+below_length : (xs : List (List ℕ)) (k : ℕ) (x : List ℕ) → slice_get xs k ≡ Some x → k < length xs
+below_length [] k x e = cc
+below_length (z ∷ xs) zero x e = omega arith
+below_length (z ∷ xs) (suc k) x e = omega (arith, below_length xs k x e)
+
+two_from : (before names : List (List ℕ)) → differ_from before names ≡ false → HasTwice (before ++ names)
+two_from before [] e = absurd (true≢false e)
+two_from before (name ∷ names) e = by (list_any (bytes_eq name) before) refl (two_from (before ++ name ∷ []) names) e
+  where
+    by : (b : Bool) → list_any (bytes_eq name) before ≡ b → (differ_from (before ++ name ∷ []) names ≡ false → HasTwice ((before ++ name ∷ []) ++ names)) →
+        (not b && differ_from (before ++ name ∷ []) names) ≡ false → HasTwice (before ++ name ∷ names)
+    by true is later h =
+        let (other, c, same) = list_any_parts (bytes_eq name) before is in
+        let (j, at) = slice_get-Contains before other c in (
+          name,
+          length before,
+          append_here before names name,
+          j,
+          below_length before j other at,
+          append_there before (name ∷ names) j name (at ∙ ap (λ n. Some n) (sym (same_bytes name other same))),
+        )
+    by false is later h = subst HasTwice (append_assoc before (name ∷ []) names) (later h)
+
+stand_in_two : (names : List (List ℕ)) → differ_from [] names ≡ false → HasTwice names
+stand_in_two names e = two_from [] names e
+
+none_double : (t : Table) (key : Key) (i : ℕ) (before names : List (List ℕ)) → differ_from before names ≡ true → doubles_from t key i before names ≡ []
+none_double t key i before [] e = refl
+none_double t key i before (name ∷ names) e = by (list_any (bytes_eq name) before) (none_double t key (i + 1) (before ++ name ∷ []) names) e
+  where
+    by : (b : Bool) → (differ_from (before ++ name ∷ []) names ≡ true → doubles_from t key (i + 1) (before ++ name ∷ []) names ≡ []) →
+        (not b && differ_from (before ++ name ∷ []) names) ≡ true → (unless (not b) (DoubleName (place t i key)) ++ doubles_from t key (i + 1) (before ++ name ∷ []) names) ≡ []
+    by true later h = absurd (true≢false (sym h))
+    by false later h = later h
+
+two_differ_not : (names : List (List ℕ)) → HasTwice names → differ_from [] names ≡ false
+two_differ_not names (name, i, here, j, l, there) = false_from_ne_true (differ_from [] names)
+    (λ e. Contains-nil (DoubleName (place tables.Node i Name)) (subst (λ faults. Contains faults (DoubleName (place tables.Node i Name))) (none_double tables.Node Name 0 [] names e) (double_at tables.Node Name i j names name here l there)))
+
+some_fails : (test : List ℕ → Bool) (xs : List (List ℕ)) → list_all test xs ≡ false → (x : List ℕ) × Contains xs x × (test x ≡ false)
+some_fails test [] e = absurd (true≢false e)
+some_fails test (x ∷ xs) e = by (test x) refl (some_fails test xs) e
+  where
+    by : (b : Bool) → test x ≡ b → (list_all test xs ≡ false → (y : List ℕ) × Contains xs y × (test y ≡ false)) →
+        (b && list_all test xs) ≡ false → (y : List ℕ) × Contains (x ∷ xs) y × (test y ≡ false)
+    by true is later h = let (y, c, fails) = later h in (y, Contains-rest x xs y c, fails)
+    by false is later h = (x, Contains-first x xs, is)
+
+and_fails : (b c : Bool) → c ≡ false → (b && c) ≡ false
+and_fails true c e = e
+and_fails false c e = refl
+
+one_fails : (test : List ℕ → Bool) (xs : List (List ℕ)) (x : List ℕ) → Contains xs x → test x ≡ false → list_all test xs ≡ false
+one_fails test [] x c fails = absurd (Contains-nil x c)
+one_fails test (z ∷ xs) x c fails = elim (Contains-cases z xs x c) [
+  | inl same ↦ ap (λ b. b && list_all test xs) (ap test same ∙ fails)
+  | inr rest ↦ and_fails (test z) (list_all test xs) (one_fails test xs x rest fails)
+]
 
 module _ (ms : Members) (good : HasGoodFields ms) where
   abbrev node_names : List (List ℕ)
@@ -170,7 +240,8 @@ module _ (ms : Members) (good : HasGoodFields ms) where
   doubles_stand =
       each_joined (IsTwice ms) _ _ (stand_twice tables.Node Name (elements ms Node) (λ i. refl) (0, omega arith, refl) refl node_names refl)
       (each_joined (IsTwice ms) _ _ (stand_twice tables.Slot Node (elements ms Slot) (λ i. refl) (0, omega arith, refl) refl (slot_names (map slot_in (elements ms Slot))) slots_named)
-      (stand_twice tables.Process Name (elements ms Process) (λ i. refl) (0, omega arith, refl) refl (process_names (map process_in (elements ms Process))) processes_named))
+      (each_joined (IsTwice ms) _ _ (stand_twice tables.Process Name (elements ms Process) (λ i. refl) (0, omega arith, refl) refl (process_names (map process_in (elements ms Process))) processes_named)
+      (each_unless (IsTwice ms) (differ_from [] (order_names ms)) (DoubleName order_place) (λ e. (order_place, refl, inr (refl, stand_in_two (order_names ms) e))))))
 
   double_of : (t : Table) (key : Key) (rows : List Members) → ((i : ℕ) → table_at ms t i ≡ slice_get rows i) → Contains (fields_of t) (needed_name key) → (texts : List (List ℕ)) → texts ≡ map (λ row. name_in row key) rows →
       (i j : ℕ) (name : List ℕ) → found_at ms t i key ≡ Some (string name) → j < i → found_at ms t j key ≡ Some (string name) → Contains (doubles_from t key 0 [] texts) (DoubleName (place t i key))
@@ -181,15 +252,21 @@ module _ (ms : Members) (good : HasGoodFields ms) where
   double_in tables.Node Name own i j name here l there = Contains-append_left (doubles_from tables.Node Name 0 [] node_names) _ (DoubleName (place tables.Node i Name))
       (double_of tables.Node Name (elements ms Node) (λ i. refl) (0, omega arith, refl) node_names refl i j name here l there)
   double_in tables.Slot Node own i j name here l there = Contains-append_right (doubles_from tables.Node Name 0 [] node_names) _ (DoubleName (place tables.Slot i Node))
-      (Contains-append_left (doubles_from tables.Slot Node 0 [] (slot_names (map slot_in (elements ms Slot)))) (doubles_from tables.Process Name 0 [] (process_names (map process_in (elements ms Process)))) (DoubleName (place tables.Slot i Node))
+      (Contains-append_left (doubles_from tables.Slot Node 0 [] (slot_names (map slot_in (elements ms Slot)))) _ (DoubleName (place tables.Slot i Node))
       (double_of tables.Slot Node (elements ms Slot) (λ i. refl) (0, omega arith, refl) (slot_names (map slot_in (elements ms Slot))) slots_named i j name here l there))
   double_in tables.Process Name own i j name here l there = Contains-append_right (doubles_from tables.Node Name 0 [] node_names) _ (DoubleName (place tables.Process i Name))
-      (Contains-append_right (doubles_from tables.Slot Node 0 [] (slot_names (map slot_in (elements ms Slot)))) (doubles_from tables.Process Name 0 [] (process_names (map process_in (elements ms Process)))) (DoubleName (place tables.Process i Name))
-      (double_of tables.Process Name (elements ms Process) (λ i. refl) (0, omega arith, refl) (process_names (map process_in (elements ms Process))) processes_named i j name here l there))
+      (Contains-append_right (doubles_from tables.Slot Node 0 [] (slot_names (map slot_in (elements ms Slot)))) _ (DoubleName (place tables.Process i Name))
+      (Contains-append_left (doubles_from tables.Process Name 0 [] (process_names (map process_in (elements ms Process)))) (order_doubles (order_names ms)) (DoubleName (place tables.Process i Name))
+      (double_of tables.Process Name (elements ms Process) (λ i. refl) (0, omega arith, refl) (process_names (map process_in (elements ms Process))) processes_named i j name here l there)))
   double_in t key own i j name here l there = absurd (true≢false (sym own))
 
   pub double_there : (at : Place) → IsDouble ms at → Contains (double_faults (graph_in ms)) (DoubleName at)
-  double_there at (own, name, here, j, l, there) = double_in at.table at.key own at.index j name here l there
+  double_there at (inl (own, name, here, j, l, there)) = double_in at.table at.key own at.index j name here l there
+  double_there at (inr (same, twice)) = subst (λ p. Contains (double_faults (graph_in ms)) (DoubleName p)) (sym same)
+      (Contains-append_right (doubles_from tables.Node Name 0 [] node_names) _ (DoubleName order_place)
+      (Contains-append_right (doubles_from tables.Slot Node 0 [] (slot_names (map slot_in (elements ms Slot)))) _ (DoubleName order_place)
+      (Contains-append_right (doubles_from tables.Process Name 0 [] (process_names (map process_in (elements ms Process)))) (order_doubles (order_names ms)) (DoubleName order_place)
+      (unless_contains (differ_from [] (order_names ms)) (DoubleName order_place) (two_differ_not (order_names ms) twice)))))
 
 -- ---- names that name nothing
 
@@ -216,7 +293,7 @@ module _ (ms : Members) (good : HasGoodFields ms) where
   nameless : (t : Table) (key : Key) (others : Table) (names : List (List ℕ)) (i : ℕ) (row : Members) → table_at ms t i ≡ Some row → Contains (fields_of t) (needed_name key) → named_in t key ≡ Some others →
       ((name : List ℕ) → is_some (position (bytes_eq name) names) ≡ false → (j : ℕ) → found_at ms others j Name ≢ Some (string name)) → Each (IsNameless ms) (unknown names (name_in row key) t i key)
   nameless t key others names i row at field named missing = each_unless (IsNameless ms) (is_some (position (bytes_eq (name_in row key)) names)) (UnknownName (place t i key))
-      (λ e. (place t i key, refl, (others, named, name_in row key, name_stands ms good t i row key at field, missing (name_in row key) e)))
+      (λ e. (place t i key, refl, inl (others, named, name_in row key, name_stands ms good t i row key at field, missing (name_in row key) e)))
 
   abbrev stands_in : Key → ℕ → Members → Type 0
   stands_in key i row = slice_get (elements ms key) i ≡ Some row
@@ -227,10 +304,12 @@ module _ (ms : Members) (good : HasGoodFields ms) where
       (each_of_each (IsNameless ms) (stands_in Slot) (λ i row. unknown (node_names ms good) (name_in row Node) tables.Slot i Node) (λ i row at. nameless tables.Slot Node tables.Node (node_names ms good) i row at (0, omega arith, refl) refl no_node) 0 (elements ms Slot) (stand_all (stands_in Slot) (elements ms Slot) (λ k row e. e))))
       (each_joined (IsNameless ms) _ _ (subst (Each (IsNameless ms)) (sym (of_each_mapped (λ i p. unknown (node_names ms good) p.node tables.Process i Node) process_in 0 (elements ms Process)))
       (each_of_each (IsNameless ms) (stands_in Process) (λ i row. unknown (node_names ms good) (name_in row Node) tables.Process i Node) (λ i row at. nameless tables.Process Node tables.Node (node_names ms good) i row at (1, omega arith, refl) refl no_node) 0 (elements ms Process) (stand_all (stands_in Process) (elements ms Process) (λ k row e. e))))
-      (subst (Each (IsNameless ms)) (sym (of_each_mapped (unknown_ends process_texts) edge_in 0 (elements ms Edge)))
+      (each_joined (IsNameless ms) _ _ (subst (Each (IsNameless ms)) (sym (of_each_mapped (unknown_ends process_texts) edge_in 0 (elements ms Edge)))
       (each_of_each (IsNameless ms) (stands_in Edge) (λ i row. unknown_ends process_texts i (edge_in row))
       (λ i row at. each_joined (IsNameless ms) (unknown process_texts (name_in row From) tables.Edge i From) (unknown process_texts (name_in row To) tables.Edge i To) (nameless tables.Edge From tables.Process process_texts i row at (0, omega arith, refl) refl no_process) (nameless tables.Edge To tables.Process process_texts i row at (1, omega arith, refl) refl no_process))
-      0 (elements ms Edge) (stand_all (stands_in Edge) (elements ms Edge) (λ k row e. e)))))
+      0 (elements ms Edge) (stand_all (stands_in Edge) (elements ms Edge) (λ k row e. e))))
+      (each_unless (IsNameless ms) (list_all (is_known process_texts) (order_names ms)) (UnknownName order_place)
+      (λ e. let (name, c, not_known) = some_fails (is_known process_texts) (order_names ms) e in (order_place, refl, inr (refl, (name, c, no_process name not_known)))))))
 
   -- the parts of the unknown names
   abbrev slots_part : List ReadFault
@@ -242,6 +321,9 @@ module _ (ms : Members) (good : HasGoodFields ms) where
   abbrev edges_part : List ReadFault
   edges_part = of_each (unknown_ends process_texts) 0 (map edge_in (elements ms Edge))
 
+  abbrev order_part : List ReadFault
+  order_part = order_unknowns process_texts (order_names ms)
+
   -- a name that names nothing is told of its place
   name_told : (names : List (List ℕ)) (name other : List ℕ) (t : Table) (i : ℕ) (key : Key) → other ≡ name → is_some (position (bytes_eq name) names) ≡ false → Contains (unknown names other t i key) (UnknownName (place t i key))
   name_told names name other t i key same e = unless_contains (is_some (position (bytes_eq other) names)) (UnknownName (place t i key)) (ap (λ n. is_some (position (bytes_eq n) names)) same ∙ e)
@@ -250,30 +332,33 @@ module _ (ms : Members) (good : HasGoodFields ms) where
   unknown_in tables.Slot Node others named i name found none =
       let (row, at, same) = name_is ms good tables.Slot i Node name (0, omega arith, refl) found in
       let is : others ≡ tables.Node = cc in
-      Contains-append_left slots_part (processes_part ++ edges_part) (UnknownName (place tables.Slot i Node))
+      Contains-append_left slots_part (processes_part ++ (edges_part ++ order_part)) (UnknownName (place tables.Slot i Node))
       (of_each_contains (λ i s. unknown (node_names ms good) s.node tables.Slot i Node) (UnknownName (place tables.Slot i Node)) i (map slot_in (elements ms Slot)) (slot_in row) (slice_get-map slot_in (elements ms Slot) i ∙ ap (option_map slot_in) at)
       (name_told (node_names ms good) name (name_in row Node) tables.Slot i Node same (node_missing name (subst (λ t. (j : ℕ) → found_at ms t j Name ≢ Some (string name)) is none))))
   unknown_in tables.Process Node others named i name found none =
       let (row, at, same) = name_is ms good tables.Process i Node name (1, omega arith, refl) found in
       let is : others ≡ tables.Node = cc in
-      Contains-append_right slots_part (processes_part ++ edges_part) (UnknownName (place tables.Process i Node)) (Contains-append_left processes_part edges_part (UnknownName (place tables.Process i Node))
+      Contains-append_right slots_part (processes_part ++ (edges_part ++ order_part)) (UnknownName (place tables.Process i Node)) (Contains-append_left processes_part (edges_part ++ order_part) (UnknownName (place tables.Process i Node))
       (of_each_contains (λ i p. unknown (node_names ms good) p.node tables.Process i Node) (UnknownName (place tables.Process i Node)) i (map process_in (elements ms Process)) (process_in row) (slice_get-map process_in (elements ms Process) i ∙ ap (option_map process_in) at)
       (name_told (node_names ms good) name (name_in row Node) tables.Process i Node same (node_missing name (subst (λ t. (j : ℕ) → found_at ms t j Name ≢ Some (string name)) is none)))))
   unknown_in tables.Edge From others named i name found none =
       let (row, at, same) = name_is ms good tables.Edge i From name (0, omega arith, refl) found in
       let is : others ≡ tables.Process = cc in
-      Contains-append_right slots_part (processes_part ++ edges_part) (UnknownName (place tables.Edge i From)) (Contains-append_right processes_part edges_part (UnknownName (place tables.Edge i From))
+      Contains-append_right slots_part (processes_part ++ (edges_part ++ order_part)) (UnknownName (place tables.Edge i From)) (Contains-append_right processes_part (edges_part ++ order_part) (UnknownName (place tables.Edge i From)) (Contains-append_left edges_part order_part (UnknownName (place tables.Edge i From))
       (of_each_contains (unknown_ends process_texts) (UnknownName (place tables.Edge i From)) i (map edge_in (elements ms Edge)) (edge_in row) (slice_get-map edge_in (elements ms Edge) i ∙ ap (option_map edge_in) at)
       (Contains-append_left (unknown process_texts (name_in row From) tables.Edge i From) (unknown process_texts (name_in row To) tables.Edge i To) (UnknownName (place tables.Edge i From))
-      (name_told process_texts name (name_in row From) tables.Edge i From same (process_missing name (subst (λ t. (j : ℕ) → found_at ms t j Name ≢ Some (string name)) is none))))))
+      (name_told process_texts name (name_in row From) tables.Edge i From same (process_missing name (subst (λ t. (j : ℕ) → found_at ms t j Name ≢ Some (string name)) is none)))))))
   unknown_in tables.Edge To others named i name found none =
       let (row, at, same) = name_is ms good tables.Edge i To name (1, omega arith, refl) found in
       let is : others ≡ tables.Process = cc in
-      Contains-append_right slots_part (processes_part ++ edges_part) (UnknownName (place tables.Edge i To)) (Contains-append_right processes_part edges_part (UnknownName (place tables.Edge i To))
+      Contains-append_right slots_part (processes_part ++ (edges_part ++ order_part)) (UnknownName (place tables.Edge i To)) (Contains-append_right processes_part (edges_part ++ order_part) (UnknownName (place tables.Edge i To)) (Contains-append_left edges_part order_part (UnknownName (place tables.Edge i To))
       (of_each_contains (unknown_ends process_texts) (UnknownName (place tables.Edge i To)) i (map edge_in (elements ms Edge)) (edge_in row) (slice_get-map edge_in (elements ms Edge) i ∙ ap (option_map edge_in) at)
       (Contains-append_right (unknown process_texts (name_in row From) tables.Edge i From) (unknown process_texts (name_in row To) tables.Edge i To) (UnknownName (place tables.Edge i To))
-      (name_told process_texts name (name_in row To) tables.Edge i To same (process_missing name (subst (λ t. (j : ℕ) → found_at ms t j Name ≢ Some (string name)) is none))))))
+      (name_told process_texts name (name_in row To) tables.Edge i To same (process_missing name (subst (λ t. (j : ℕ) → found_at ms t j Name ≢ Some (string name)) is none)))))))
   unknown_in t key others named i name found none = absurd (nothing others named)
 
   pub unknown_there : (at : Place) → IsUnknown ms at → Contains (unknown_faults (graph_in ms)) (UnknownName at)
-  unknown_there at (others, named, name, found, none) = unknown_in at.table at.key others named at.index name found none
+  unknown_there at (inl (others, named, name, found, none)) = unknown_in at.table at.key others named at.index name found none
+  unknown_there at (inr (same, other)) = let (name, c, none) = other in subst (λ p. Contains (unknown_faults (graph_in ms)) (UnknownName p)) (sym same)
+      (Contains-append_right slots_part (processes_part ++ (edges_part ++ order_part)) (UnknownName order_place) (Contains-append_right processes_part (edges_part ++ order_part) (UnknownName order_place) (Contains-append_right edges_part order_part (UnknownName order_place)
+      (unless_contains (list_all (is_known process_texts) (order_names ms)) (UnknownName order_place) (one_fails (is_known process_texts) (order_names ms) name c (process_missing name none))))))

@@ -1,7 +1,7 @@
 -- The faults of a graph file rise: each stands before those that come after it in the list.
-use Rattle.std.proofs.Common.{◌≡◌, ℕ, zero, suc, ◌+◌, ◌<◌, ◌≤◌, ◌⊎◌, Bool, true, false, not, List, [], ◌∷◌, ◌++◌, ◌&&◌, Ok, Err, Contains, AllPairs, length, get_or, map, position, is_some, refl, ◌∙◌, subst, inl, inr, arith}
+use Rattle.std.proofs.Common.{◌≡◌, ℕ, zero, suc, ◌+◌, ◌<◌, ◌≤◌, ◌⊎◌, Bool, true, false, not, List, [], ◌∷◌, ◌++◌, ◌&&◌, Ok, Err, Contains, AllPairs, length, get_or, map, position, is_some, unwrap_or, refl, ◌∙◌, subst, inl, inr, arith}
 use Rattle.std.specs.Prelude.{bytes_eq, nat_le}
-use Rattle.std.specs.List.{list_any}
+use Rattle.std.specs.List.{list_any, list_all}
 use Rattle.std.proofs.lemmas.Bool.{and_parts, leb-true}
 use Rattle.toml.specs.Data.{Members}
 use Rattle.cpg_base.specs.declared.limits.TheConstants.{MOST_NODES, MOST_PROCESSES, MOST_EDGES, MOST_CONDITIONS}
@@ -20,8 +20,8 @@ use Rattle.cpg_reader.specs.Shape.{RawGraph, raw_graph_at}
 use Rattle.cpg_reader.specs.Ranges.{top_numbers, slot_numbers, process_numbers, edge_numbers, is_within, sources, different}
 use Rattle.cpg_reader.specs.Names.{place, slot_names, process_names}
 use Rattle.cpg_reader.specs.Document.{document_of, problem_of}
-use Rattle.cpg_laws.specs.GraphFiles.{unless, of_each, Field, is_good_value, top_fields, node_fields, slot_fields, process_fields, edge_fields, bad_fields, bad_in, top_of, elements, bad_elements, field_faults, out_of_range, all_out_of_range, limit_faults, doubles_from, double_faults, unknown, unknown_ends, unknown_faults, graph_faults, document_faults, faults_of, IsFirst}
-use Rattle.cpg_laws.specs.Refusals.{kind_of, table_number, position_of, place_of, IsEarlier, ComesBefore, IsFirstOf, RefusalsAreFirst}
+use Rattle.cpg_laws.specs.GraphFiles.{unless, of_each, Field, is_good_value, top_fields, node_fields, slot_fields, process_fields, edge_fields, bad_fields, bad_in, top_of, elements, bad_elements, field_faults, out_of_range, all_out_of_range, limit_faults, doubles_from, differ_from, order_place, double_faults, is_known, unknown, unknown_ends, unknown_faults, graph_faults, document_faults, faults_of, IsFirst}
+use Rattle.cpg_laws.specs.Refusals.{kind_of, table_number, name_table, position_of, place_of, IsEarlier, ComesBefore, IsFirstOf, RefusalsAreFirst}
 use Rattle.cpg_laws.proofs.GraphFiles.{graph_files_show_first_faults}
 
 -- ---- the order
@@ -137,19 +137,20 @@ limit_faults_rise g =
     (joined (2 ∷ 4 ∷ 4 ∷ []) (2 ∷ 4 ∷ 5 ∷ []) (3 ∷ []) _ _ (number_rows_rise tables.Edge edge_numbers g.edges (λ e. refl))
     (one (nat_le (length (different [] (sources g.edges))) MOST_CONDITIONS) (OverLimit Conditions) (2 ∷ 4 ∷ 5 ∷ []) (3 ∷ []) (inr (refl, inl (omega arith))) (inl (omega arith))))))))))
 
-doubles_rise : (table : Table) (key : Key) (i : ℕ) (before names : List (List ℕ)) → Rise (3 ∷ table_number table ∷ i ∷ []) (doubles_from table key i before names) (3 ∷ (table_number table + 1) ∷ [])
+doubles_rise : (table : Table) (key : Key) (i : ℕ) (before names : List (List ℕ)) → Rise (3 ∷ name_table table ∷ i ∷ []) (doubles_from table key i before names) (3 ∷ (name_table table + 1) ∷ [])
 doubles_rise table key i before [] = inr (refl, inl (omega arith))
-doubles_rise table key i before (name ∷ names) = one_more (not (list_any (bytes_eq name) before)) (DoubleName (place table i key)) (doubles_from table key (i + 1) (before ++ name ∷ []) names) (3 ∷ table_number table ∷ i ∷ []) (3 ∷ (table_number table + 1) ∷ []) (inr (refl, inr (refl, inr (refl, tt))))
-    (from_below (3 ∷ table_number table ∷ i ∷ position_of table key ∷ []) (3 ∷ table_number table ∷ (i + 1) ∷ []) (3 ∷ (table_number table + 1) ∷ []) (doubles_from table key (i + 1) (before ++ name ∷ []) names) (inr (refl, inr (refl, inl (omega arith)))) (doubles_rise table key (i + 1) (before ++ name ∷ []) names))
+doubles_rise table key i before (name ∷ names) = one_more (not (list_any (bytes_eq name) before)) (DoubleName (place table i key)) (doubles_from table key (i + 1) (before ++ name ∷ []) names) (3 ∷ name_table table ∷ i ∷ []) (3 ∷ (name_table table + 1) ∷ []) (inr (refl, inr (refl, inr (refl, tt))))
+    (from_below (3 ∷ name_table table ∷ i ∷ position_of table key ∷ []) (3 ∷ name_table table ∷ (i + 1) ∷ []) (3 ∷ (name_table table + 1) ∷ []) (doubles_from table key (i + 1) (before ++ name ∷ []) names) (inr (refl, inr (refl, inl (omega arith)))) (doubles_rise table key (i + 1) (before ++ name ∷ []) names))
 
 double_faults_rise : (g : RawGraph) → Rise (3 ∷ []) (double_faults g) (4 ∷ [])
 double_faults_rise g =
     joined (3 ∷ []) (3 ∷ 2 ∷ 0 ∷ []) (4 ∷ []) _ _ (from_below (3 ∷ []) (3 ∷ 1 ∷ 0 ∷ []) (3 ∷ 2 ∷ 0 ∷ []) (doubles_from tables.Node Name 0 [] g.nodes) (inr (refl, tt)) (to_above (3 ∷ 1 ∷ 0 ∷ []) (3 ∷ 2 ∷ []) (3 ∷ 2 ∷ 0 ∷ []) (doubles_from tables.Node Name 0 [] g.nodes) (doubles_rise tables.Node Name 0 [] g.nodes) (inr (refl, inr (refl, tt)))))
     (joined (3 ∷ 2 ∷ 0 ∷ []) (3 ∷ 3 ∷ 0 ∷ []) (4 ∷ []) _ _ (to_above (3 ∷ 2 ∷ 0 ∷ []) (3 ∷ 3 ∷ []) (3 ∷ 3 ∷ 0 ∷ []) (doubles_from tables.Slot Node 0 [] (slot_names g.slots)) (doubles_rise tables.Slot Node 0 [] (slot_names g.slots)) (inr (refl, inr (refl, tt))))
-    (to_above (3 ∷ 3 ∷ 0 ∷ []) (3 ∷ 4 ∷ []) (4 ∷ []) (doubles_from tables.Process Name 0 [] (process_names g.processes)) (doubles_rise tables.Process Name 0 [] (process_names g.processes)) (inl (omega arith))))
+    (joined (3 ∷ 3 ∷ 0 ∷ []) (3 ∷ 4 ∷ []) (4 ∷ []) _ _ (doubles_rise tables.Process Name 0 [] (process_names g.processes))
+    (one (differ_from [] (unwrap_or g.order [])) (DoubleName order_place) (3 ∷ 4 ∷ []) (4 ∷ []) (inr (refl, inl (omega arith))) (inl (omega arith)))))
 
-unknown_rises : (names : List (List ℕ)) (name : List ℕ) (table : Table) (key : Key) (i : ℕ) → Rise (4 ∷ table_number table ∷ i ∷ []) (unknown names name table i key) (4 ∷ table_number table ∷ (i + 1) ∷ [])
-unknown_rises names name table key i = one (is_some (position (bytes_eq name) names)) (UnknownName (place table i key)) (4 ∷ table_number table ∷ i ∷ []) (4 ∷ table_number table ∷ (i + 1) ∷ []) (inr (refl, inr (refl, inr (refl, tt)))) (inr (refl, inr (refl, inl (omega arith))))
+unknown_rises : (names : List (List ℕ)) (name : List ℕ) (table : Table) (key : Key) (i : ℕ) → Rise (4 ∷ name_table table ∷ i ∷ []) (unknown names name table i key) (4 ∷ name_table table ∷ (i + 1) ∷ [])
+unknown_rises names name table key i = one (is_some (position (bytes_eq name) names)) (UnknownName (place table i key)) (4 ∷ name_table table ∷ i ∷ []) (4 ∷ name_table table ∷ (i + 1) ∷ []) (inr (refl, inr (refl, inr (refl, tt)))) (inr (refl, inr (refl, inl (omega arith))))
 
 ends_rise : (names : List (List ℕ)) (i : ℕ) (e : RawEdge) → Rise (4 ∷ 4 ∷ i ∷ []) (unknown_ends names i e) (4 ∷ 4 ∷ (i + 1) ∷ [])
 ends_rise names i e = one_more (is_some (position (bytes_eq e.from) names)) (UnknownName (place tables.Edge i From)) (unknown names e.to tables.Edge i To) (4 ∷ 4 ∷ i ∷ []) (4 ∷ 4 ∷ (i + 1) ∷ []) (inr (refl, inr (refl, inr (refl, tt))))
@@ -159,7 +160,8 @@ unknown_faults_rise : (g : RawGraph) → Rise (4 ∷ []) (unknown_faults g) (5 �
 unknown_faults_rise g =
     joined (4 ∷ []) (4 ∷ 3 ∷ 0 ∷ []) (5 ∷ []) _ _ (from_below (4 ∷ []) (4 ∷ 2 ∷ 0 ∷ []) (4 ∷ 3 ∷ 0 ∷ []) _ (inr (refl, tt)) (each_rises (λ i. 4 ∷ 2 ∷ i ∷ []) (4 ∷ 3 ∷ 0 ∷ []) (λ i s. unknown g.nodes s.node tables.Slot i Node) (λ i s. unknown_rises g.nodes s.node tables.Slot Node i) (λ i. inr (refl, inl (omega arith))) 0 g.slots))
     (joined (4 ∷ 3 ∷ 0 ∷ []) (4 ∷ 4 ∷ 0 ∷ []) (5 ∷ []) _ _ (each_rises (λ i. 4 ∷ 3 ∷ i ∷ []) (4 ∷ 4 ∷ 0 ∷ []) (λ i p. unknown g.nodes p.node tables.Process i Node) (λ i p. unknown_rises g.nodes p.node tables.Process Node i) (λ i. inr (refl, inl (omega arith))) 0 g.processes)
-    (each_rises (λ i. 4 ∷ 4 ∷ i ∷ []) (5 ∷ []) (unknown_ends (process_names g.processes)) (ends_rise (process_names g.processes)) (λ i. inl (omega arith)) 0 g.edges))
+    (joined (4 ∷ 4 ∷ 0 ∷ []) (4 ∷ 5 ∷ []) (5 ∷ []) _ _ (each_rises (λ i. 4 ∷ 4 ∷ i ∷ []) (4 ∷ 5 ∷ []) (unknown_ends (process_names g.processes)) (ends_rise (process_names g.processes)) (λ i. inr (refl, inl (omega arith))) 0 g.edges)
+    (one (list_all (is_known (process_names g.processes)) (unwrap_or g.order [])) (UnknownName order_place) (4 ∷ 5 ∷ []) (5 ∷ []) (inr (refl, inr (refl, tt))) (inl (omega arith)))))
 
 -- ---- all faults
 

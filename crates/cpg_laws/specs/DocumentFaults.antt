@@ -8,16 +8,16 @@ use Rattle.cpg_base.specs.declared.limits.TheConstants.{MOST_FAULTS, MOST_NODES,
 use Rattle.cpg_reader.specs.declared.place.Table.{Table}
 use Rattle.cpg_reader.specs.declared.place.Table.TheVariants as tables
 use Rattle.cpg_reader.specs.declared.place.Key.{Key}
-use Rattle.cpg_reader.specs.declared.place.Key.TheVariants.{Faults, Deadline, Node, Slot, Process, Edge, Name, Length, Bytes, Wcet, Parts, Alpha, Chi, Mu, Release, From, To, When, Unknown}
+use Rattle.cpg_reader.specs.declared.place.Key.TheVariants.{Faults, Deadline, Node, Slot, Process, Edge, Order, Name, Length, Bytes, Wcet, Parts, Alpha, Chi, Mu, Release, From, To, When, Unknown}
 use Rattle.cpg_reader.specs.declared.place.Place.{Place}
 use Rattle.cpg_reader.specs.declared.place.What.{What}
 use Rattle.cpg_reader.specs.declared.place.What.TheVariants.{Nodes, Slots, Processes, Edges, Number, Conditions}
 use Rattle.cpg_reader.specs.declared.place.ReadFault.{ReadFault}
 use Rattle.cpg_reader.specs.declared.place.ReadFault.TheVariants.{NotToml, BadField, DoubleName, UnknownName, OverLimit, OutOfMemory}
-use Rattle.cpg_reader.specs.Rows.{text_of, as_name}
+use Rattle.cpg_reader.specs.Rows.{text_of, as_name, as_names}
 use Rattle.cpg_reader.specs.Ranges.{is_within, different}
 use Rattle.cpg_reader.specs.Document.{problem_of}
-use Rattle.cpg_laws.specs.GraphFiles.{Field, is_good_value, top_fields, node_fields, slot_fields, process_fields, edge_fields, elements, faults_of}
+use Rattle.cpg_laws.specs.GraphFiles.{Field, is_good_value, top_fields, node_fields, slot_fields, process_fields, edge_fields, elements, order_place, faults_of}
 use Rattle.cpg_laws.specs.Refusals.{IsFirstOf}
 
 -- the document that the bytes are, if they are one
@@ -109,11 +109,23 @@ is_own_name tables.Slot Node = true
 is_own_name tables.Process Name = true
 is_own_name table key = false
 
+-- the names of the order, if the document has one
+abbrev pub order_names : Members → List (List ℕ)
+order_names ms = unwrap_or (option_and_then as_names (get_member (text_of Order) ms)) []
+
+-- some name stands at two places
+abbrev pub HasTwice : List (List ℕ) → Type 0
+HasTwice names = (name : List ℕ) × (i : ℕ) × (slice_get names i ≡ Some name) × (j : ℕ) × (j < i) × (slice_get names j ≡ Some name)
+
 -- the name stands earlier in its kind
-abbrev pub IsDouble : Members → Place → Type 0
-IsDouble ms place = (is_own_name place.table place.key ≡ true) × (name : List ℕ) ×
+abbrev pub IsDoubleName : Members → Place → Type 0
+IsDoubleName ms place = (is_own_name place.table place.key ≡ true) × (name : List ℕ) ×
     (found_at ms place.table place.index place.key ≡ Some (string name)) × (j : ℕ) × (j < place.index) ×
     (found_at ms place.table j place.key ≡ Some (string name))
+
+-- or one stands twice in the order
+abbrev pub IsDouble : Members → Place → Type 0
+IsDouble ms place = IsDoubleName ms place ⊎ ((place ≡ order_place) × HasTwice (order_names ms))
 
 -- the table that has what a name names
 abbrev pub named_in : Table → Key → Option Table
@@ -124,9 +136,16 @@ named_in tables.Edge To = Some tables.Process
 named_in table key = None
 
 -- none there has the name
-abbrev pub IsUnknown : Members → Place → Type 0
-IsUnknown ms place = (others : Table) × (named_in place.table place.key ≡ Some others) × (name : List ℕ) ×
+abbrev pub IsUnknownName : Members → Place → Type 0
+IsUnknownName ms place = (others : Table) × (named_in place.table place.key ≡ Some others) × (name : List ℕ) ×
     (found_at ms place.table place.index place.key ≡ Some (string name)) × ((j : ℕ) → found_at ms others j Name ≢ Some (string name))
+
+-- the order has a name that no process has
+abbrev pub HasUnknown : Members → Type 0
+HasUnknown ms = (name : List ℕ) × Contains (order_names ms) name × ((j : ℕ) → found_at ms tables.Process j Name ≢ Some (string name))
+
+abbrev pub IsUnknown : Members → Place → Type 0
+IsUnknown ms place = IsUnknownName ms place ⊎ ((place ≡ order_place) × HasUnknown ms)
 
 -- ---- all
 

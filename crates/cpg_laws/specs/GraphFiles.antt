@@ -1,12 +1,13 @@
 -- All faults of a graph file, kind after kind, each kind in the order of tables, indexes and keys.
-use Rattle.std.specs.Prelude.{ℕ, ◌+◌, ◌≡◌, Bool, true, false, not, List, [], ◌∷◌, ◌++◌, Option, Some, None, is_some, unwrap_or, option_and_then, Ok, Err, length, map, position, nat_le, bytes_eq, if◌then◌else◌}
-use Rattle.std.specs.List.{list_any}
+use Rattle.std.specs.Prelude.{ℕ, ◌+◌, ◌≡◌, ◌&&◌, Bool, true, false, not, List, [], ◌∷◌, ◌++◌, Option, Some, None, is_some, unwrap_or, option_and_then, Ok, Err, length, map, position, nat_le, bytes_eq, if◌then◌else◌}
+use Rattle.std.specs.List.{list_any, list_all}
 use Rattle.toml.specs.Data.{Data, Members, as_integer, as_bool}
 use Rattle.cpg_base.specs.declared.limits.TheConstants.{MOST_NODES, MOST_PROCESSES, MOST_EDGES, MOST_CONDITIONS}
 use Rattle.cpg_reader.specs.declared.place.Table.{Table}
 use Rattle.cpg_reader.specs.declared.place.Table.TheVariants as tables
 use Rattle.cpg_reader.specs.declared.place.Key.{Key}
-use Rattle.cpg_reader.specs.declared.place.Key.TheVariants.{Faults, Deadline, Node, Slot, Process, Edge, Name, Length, Bytes, Wcet, Parts, Alpha, Chi, Mu, Join, Frozen, Release, From, To, When, Unknown}
+use Rattle.cpg_reader.specs.declared.place.Key.TheVariants.{Faults, Deadline, Node, Slot, Process, Edge, Order, Name, Length, Bytes, Wcet, Parts, Alpha, Chi, Mu, Join, Frozen, Release, From, To, When, Unknown}
+use Rattle.cpg_reader.specs.declared.place.Place.{Place}
 use Rattle.cpg_reader.specs.declared.place.What.{What}
 use Rattle.cpg_reader.specs.declared.place.What.TheVariants.{Nodes, Slots, Processes, Edges, Number, Conditions}
 use Rattle.cpg_reader.specs.declared.place.ReadFault.{ReadFault}
@@ -14,7 +15,7 @@ use Rattle.cpg_reader.specs.declared.place.ReadFault.TheVariants.{BadField, Doub
 use Rattle.cpg_reader.specs.declared.ranges.Bounded.{Bounded}
 use Rattle.cpg_reader.specs.declared.shape.RawEdge.{RawEdge}
 use Rattle.cpg_reader.specs.Reading.{Reading}
-use Rattle.cpg_reader.specs.Rows.{Row, place_in, value_at, as_name, as_tables, are_listed}
+use Rattle.cpg_reader.specs.Rows.{Row, place_in, value_at, as_name, as_names, as_tables, are_listed}
 use Rattle.cpg_reader.specs.Shape.{RawGraph, raw_graph_at}
 use Rattle.cpg_reader.specs.Ranges.{top_numbers, slot_numbers, process_numbers, edge_numbers, is_within, sources, different}
 use Rattle.cpg_reader.specs.Names.{place, slot_names, process_names}
@@ -53,6 +54,9 @@ is_flag d = is_some (as_bool d)
 abbrev pub are_tables : Data → Bool
 are_tables d = is_some (as_tables d)
 
+abbrev pub are_names : Data → Bool
+are_names d = is_some (as_names d)
+
 abbrev pub needed_name : Key → Field
 needed_name key = record { key = key; needed = true; fits = is_name }
 
@@ -68,8 +72,11 @@ flag key = record { key = key; needed = false; fits = is_flag }
 abbrev pub list : Key → Field
 list key = record { key = key; needed = false; fits = are_tables }
 
+abbrev pub name_list : Key → Field
+name_list key = record { key = key; needed = false; fits = are_names }
+
 abbrev pub top_fields : List Field
-top_fields = needed_integer Faults ∷ needed_integer Deadline ∷ list Node ∷ list Slot ∷ list Process ∷ list Edge ∷ []
+top_fields = needed_integer Faults ∷ needed_integer Deadline ∷ list Node ∷ list Slot ∷ list Process ∷ list Edge ∷ name_list Order ∷ []
 
 abbrev pub node_fields : List Field
 node_fields = needed_name Name ∷ []
@@ -142,9 +149,24 @@ doubles_from table key i earlier [] = []
 doubles_from table key i earlier (name ∷ names) = unless (not (list_any (bytes_eq name) earlier)) (DoubleName (place table i key))
     ++ doubles_from table key (i + 1) (earlier ++ name ∷ []) names
 
+-- no name stands among those before it
+abbrev pub differ_from : List (List ℕ) → List (List ℕ) → Bool
+differ_from earlier [] = true
+differ_from earlier (name ∷ names) = not (list_any (bytes_eq name) earlier) && differ_from (earlier ++ name ∷ []) names
+
+-- the names of the order have one place
+abbrev pub order_place : Place
+order_place = place tables.Top 0 Order
+
+abbrev pub order_doubles : List (List ℕ) → List ReadFault
+order_doubles order = unless (differ_from [] order) (DoubleName order_place)
+
+-- those of nodes, slots and processes, and then that of the order
 abbrev pub double_faults : RawGraph → List ReadFault
 double_faults g = doubles_from tables.Node Name 0 [] g.nodes
-    ++ (doubles_from tables.Slot Node 0 [] (slot_names g.slots) ++ doubles_from tables.Process Name 0 [] (process_names g.processes))
+    ++ (doubles_from tables.Slot Node 0 [] (slot_names g.slots)
+    ++ (doubles_from tables.Process Name 0 [] (process_names g.processes)
+    ++ order_doubles (unwrap_or g.order [])))
 
 -- ---- names that name nothing
 
@@ -154,9 +176,17 @@ unknown names name table i key = unless (is_some (position (bytes_eq name) names
 abbrev pub unknown_ends : List (List ℕ) → ℕ → RawEdge → List ReadFault
 unknown_ends names i e = unknown names e.from tables.Edge i From ++ unknown names e.to tables.Edge i To
 
+abbrev pub is_known : List (List ℕ) → List ℕ → Bool
+is_known names name = is_some (position (bytes_eq name) names)
+
+abbrev pub order_unknowns : List (List ℕ) → List (List ℕ) → List ReadFault
+order_unknowns names order = unless (list_all (is_known names) order) (UnknownName order_place)
+
 abbrev pub unknown_faults : RawGraph → List ReadFault
 unknown_faults g = of_each (λ i s. unknown g.nodes s.node tables.Slot i Node) 0 g.slots
-    ++ (of_each (λ i p. unknown g.nodes p.node tables.Process i Node) 0 g.processes ++ of_each (unknown_ends (process_names g.processes)) 0 g.edges)
+    ++ (of_each (λ i p. unknown g.nodes p.node tables.Process i Node) 0 g.processes
+    ++ (of_each (unknown_ends (process_names g.processes)) 0 g.edges
+    ++ order_unknowns (process_names g.processes) (unwrap_or g.order [])))
 
 -- ---- all
 

@@ -9,9 +9,10 @@ use Rattle.cpg_order.specs.Urgency.{IsUrgencyOrder}
 use Rattle.cpg_rules.specs.Alternatives.{AreAlternatives}
 use Rattle.cpg_rules.specs.Admission.{Admission, IsAdmitted}
 use Rattle.cpg_rules.specs.Faults.{ShowsFault}
-use Rattle.cpg_rules.specs.Rules.{LacksSlot, IsAboveSlot}
+use Rattle.cpg_rules.specs.Given.{IsBadOrder}
+use Rattle.cpg_rules.specs.Rules.{AllFit, LacksSlot, IsAboveSlot}
 use Rattle.cpg_rules.specs.declared.admission.RuleFault.{RuleFault}
-use Rattle.cpg_rules.specs.declared.admission.RuleFault.TheVariants.{Cycle, TooManyTracks, TwoAlternatives, NoSlot, TooBig, OutOfMemory}
+use Rattle.cpg_rules.specs.declared.admission.RuleFault.TheVariants.{Cycle, TooManyTracks, TwoAlternatives, NoSlot, TooBig, BadOrder, OutOfMemory}
 
 -- what `admit` may answer of a graph, by its contract
 abbrev pub MayAnswer : Graph → Result Admission RuleFault → Type 0
@@ -38,7 +39,8 @@ place_of TooManyTracks = 1
 place_of (TwoAlternatives p least) = 2
 place_of (NoSlot node) = 3
 place_of (TooBig e) = 4
-place_of OutOfMemory = 5
+place_of (BadOrder p) = 5
+place_of OutOfMemory = 6
 
 -- a join with two live inputs: the least, with the least scenario along the urgency order
 pub record HasTwoInputs (g : Graph) (p : ℕ) (least : Scenario) : Type 0 where
@@ -53,6 +55,7 @@ IsFirstCause g TooManyTracks = (HasCycle g → ⊥) × (most_tracks < track_coun
 IsFirstCause g (TwoAlternatives p least) = (HasCycle g → ⊥) × (track_count g ≤ most_tracks) × HasTwoInputs g p least
 IsFirstCause g (NoSlot node) = (HasCycle g → ⊥) × (track_count g ≤ most_tracks) × HasSingleJoins g × LacksSlot g node
 IsFirstCause g (TooBig e) = (HasCycle g → ⊥) × (track_count g ≤ most_tracks) × HasSingleJoins g × HasSenderSlots g × IsAboveSlot g e
+IsFirstCause g (BadOrder p) = (HasCycle g → ⊥) × (track_count g ≤ most_tracks) × HasSingleJoins g × HasSenderSlots g × AllFit g × IsBadOrder g p
 IsFirstCause g OutOfMemory = ⊤
 
 -- a refusal tells the first cause, of which a graph has one at most; of cycles it may have several

@@ -1,5 +1,5 @@
 -- A law on packs and their refusal.
-use Rattle.std.specs.Prelude.{ℕ, ◌≡◌, ◌⊎◌, List}
+use Rattle.std.specs.Prelude.{ℕ, ◌≡◌, ◌<◌, ◌⊎◌, List, length, take}
 use Rattle.cpg_table.specs.Lawful.{Tables}
 use Rattle.cpg_codec.specs.Packs.{AreLawful, IsBadPack}
 use Rattle.cpg_codec.specs.Spelling.{spelling}
@@ -12,3 +12,7 @@ pub record ArePackOrRefused (bytes : List ℕ) : Type 0 where
 -- so are any bytes
 abbrev pub PacksAreRefusedAtOnePlace : Type 0
 PacksAreRefusedAtOnePlace = (bytes : List ℕ) → ArePackOrRefused bytes
+
+-- A proper front of a pack is no pack, and it is refused where it ends.
+abbrev pub FrontsOfPacksAreRefused : Type 0
+FrontsOfPacksAreRefused = (t : Tables) (n : ℕ) → AreLawful t → n < length (spelling t) → IsBadPack (take n (spelling t)) n

@@ -3,7 +3,7 @@ use Rattle.std.specs.Prelude.{ℕ, ◌≡◌, ◌<◌, ◌≤◌, ◌⊎◌, ◌
 use Rattle.cpg_reader.specs.declared.place.Table.{Table}
 use Rattle.cpg_reader.specs.declared.place.Table.TheVariants as tables
 use Rattle.cpg_reader.specs.declared.place.Key.{Key}
-use Rattle.cpg_reader.specs.declared.place.Key.TheVariants.{Faults, Deadline, Node, Slot, Process, Edge, Name, Length, Bytes, Wcet, Parts, Alpha, Chi, Mu, Join, Frozen, Release, From, To, When}
+use Rattle.cpg_reader.specs.declared.place.Key.TheVariants.{Faults, Deadline, Node, Slot, Process, Edge, Order, Name, Length, Bytes, Wcet, Parts, Alpha, Chi, Mu, Join, Frozen, Release, From, To, When}
 use Rattle.cpg_reader.specs.declared.place.Place.{Place}
 use Rattle.cpg_reader.specs.declared.place.What.{What}
 use Rattle.cpg_reader.specs.declared.place.What.TheVariants.{Nodes, Slots, Processes, Edges, Number, Conditions}
@@ -37,7 +37,8 @@ position_of tables.Top Node = 2
 position_of tables.Top Slot = 3
 position_of tables.Top Process = 4
 position_of tables.Top Edge = 5
-position_of tables.Top key = 6
+position_of tables.Top Order = 6
+position_of tables.Top key = 7
 position_of tables.Node Name = 0
 position_of tables.Node key = 1
 position_of tables.Slot Node = 0
@@ -67,6 +68,14 @@ position_of tables.Edge key = 5
 abbrev pub numbers_of : Place → List ℕ
 numbers_of place = table_number place.table ∷ place.index ∷ position_of place.table place.key ∷ []
 
+-- names go by table, too, but those of the top come last
+abbrev pub name_table : Table → ℕ
+name_table tables.Top = 5
+name_table table = table_number table
+
+abbrev pub name_numbers_of : Place → List ℕ
+name_numbers_of place = name_table place.table ∷ place.index ∷ position_of place.table place.key ∷ []
+
 -- limits: how many there are of something, then the numbers by their places, then the conditions
 abbrev pub limit_of : What → List ℕ
 limit_of Nodes = 0 ∷ []
@@ -81,8 +90,8 @@ abbrev pub place_of : ReadFault → List ℕ
 place_of NotToml = []
 place_of (BadField place) = numbers_of place
 place_of (OverLimit what) = limit_of what
-place_of (DoubleName place) = numbers_of place
-place_of (UnknownName place) = numbers_of place
+place_of (DoubleName place) = name_numbers_of place
+place_of (UnknownName place) = name_numbers_of place
 place_of OutOfMemory = []
 
 -- the first number that differs decides, and a list comes before those that go on after it

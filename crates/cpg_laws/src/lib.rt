@@ -4,7 +4,7 @@
 ghost use Rattle.cpg_laws.specs.DocumentFaults.{FilesAreRefusedByDocument};
 ghost use Rattle.cpg_laws.specs.GraphFiles.{GraphFilesShowFirstFaults};
 ghost use Rattle.cpg_laws.specs.Graphs.{CyclesAreRefusedFirst, GraphsShowFirstCauses};
-ghost use Rattle.cpg_laws.specs.Packs.{PacksAreRefusedAtOnePlace};
+ghost use Rattle.cpg_laws.specs.Packs.{FrontsOfPacksAreRefused, PacksAreRefusedAtOnePlace};
 ghost use Rattle.cpg_laws.specs.Refusals.{RefusalsAreFirst};
 ghost use Rattle.cpg_laws.specs.Tables.{FormedRowsHaveFewColumns, HeardLiteralsAreTrue};
 
@@ -35,7 +35,7 @@ pub fn cycles_are_refused_first()
 {}
 
 /// A graph is refused for its first cause, of which it has one at most, but that it may have several cycles: a cycle, too many
-/// tracks, two live inputs of a join, a node without its slot, a message that is too big.
+/// tracks, two live inputs of a join, a node without its slot, a message that is too big, a given order that isn't topological.
 pub fn graphs_show_first_causes()
     ensures { GraphsShowFirstCauses }
 {}
@@ -43,6 +43,11 @@ pub fn graphs_show_first_causes()
 /// Bytes are a pack, or are no pack from one place on, at which they are refused.
 pub fn packs_are_refused_at_one_place()
     ensures { PacksAreRefusedAtOnePlace }
+{}
+
+/// A proper front of a pack is no pack, and it is refused where it ends.
+pub fn fronts_of_packs_are_refused()
+    ensures { FrontsOfPacksAreRefused }
 {}
 
 /// What a node has heard is true of the scenario, whatever the tables are.

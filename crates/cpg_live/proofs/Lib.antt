@@ -7,3 +7,7 @@ pub mod Counting
 pub mod Streams
 pub mod Digits
 pub mod Along
+pub mod Fewer
+pub mod Told
+pub mod Spelling
+pub mod Reorder

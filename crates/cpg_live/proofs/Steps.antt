@@ -57,7 +57,7 @@ none_is : {A : Type 0} (o : Option A) → is_none o ≡ true → o ≡ None
 none_is None e = refl
 none_is (Some x) e = absurd (true≢false (sym e))
 
-unreported : (d : Dispatcher) (time : ℕ) (e : Ended) (o : Option Running) → may_end_now d time e o ≡ true → Unreported o time (time_of d e.process e.faults)
+pub unreported : (d : Dispatcher) (time : ℕ) (e : Ended) (o : Option Running) → may_end_now d time e o ≡ true → Unreported o time (time_of d e.process e.faults)
 unreported d time e None h = absurd (true≢false (sym h))
 unreported d time e (Some run) h =
     let a = and_parts (is_none run.report && nat_lt run.start time) (nat_le time (run.start + time_of d e.process e.faults)) h in

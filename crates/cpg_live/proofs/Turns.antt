@@ -7,22 +7,20 @@ use Rattle.cpg_node.specs.Dispatcher.{Dispatcher, next, is_after}
 use Rattle.cpg_node.specs.Instants.{instants_left}
 use Rattle.cpg_node.proofs.Next.{next_is}
 use Rattle.cpg_live.specs.Stream.{Progress, take_turn, instant_below, turn_if, turn_below, turns_below, turned}
+use Rattle.cpg_live.specs.Told.{after_last}
 use Rattle.cpg_live.specs.Feeding.{IsTurned, AreFewTurns}
 
--- the first time after the last turn
-abbrev pub floor : Option ℕ → ℕ
-floor None = 0
-floor (Some last) = last + 1
+-- the instants after the last turn
 
-pub floor_after : (last : Option ℕ) (t : ℕ) → is_after last t ≡ true → floor last ≤ t
+pub floor_after : (last : Option ℕ) (t : ℕ) → is_after last t ≡ true → after_last last ≤ t
 floor_after None t e = omega arith
 floor_after (Some l) t e = omega (arith, ltb-true l t e)
 
-pub after_floor : (last : Option ℕ) (t : ℕ) → floor last ≤ t → is_after last t ≡ true
+pub after_floor : (last : Option ℕ) (t : ℕ) → after_last last ≤ t → is_after last t ≡ true
 after_floor None t h = refl
 after_floor (Some l) t h = lt-ltb l t (omega arith)
 
-next_floor : (d : Dispatcher) (t : ℕ) → next d ≡ Some t → floor d.last ≤ t
+next_floor : (d : Dispatcher) (t : ℕ) → next d ≡ Some t → after_last d.last ≤ t
 next_floor d t e = floor_after d.last t (next_is d t e).after
 
 -- an instant below a limit, or none
@@ -57,14 +55,14 @@ still zero limit p e = refl
 still (suc n) limit p e = ap (λ o. turns_below n limit (turn_if p o)) e ∙ still n limit p e
 
 -- nor where so many turns are allowed
-no_more : (n limit : ℕ) (p : Progress) → limit ≤ n + floor p.dispatcher.last → turns_below n limit p ≡ turns_below (suc n) limit p
+no_more : (n limit : ℕ) (p : Progress) → limit ≤ n + after_last p.dispatcher.last → turns_below n limit p ≡ turns_below (suc n) limit p
 unfolding turns_below
 no_more zero limit p h = elim (below_or_not limit (next p.dispatcher)) [
   | inl b ↦ absurd (omega (arith, h, b.less, next_floor p.dispatcher b.time b.is))
   | inr n ↦ sym (ap (turn_if p) n.none)
 ]
 no_more (suc n) limit p h = elim (below_or_not limit (next p.dispatcher)) [
-  | inl b ↦ no_more n limit (turn_below limit p) (subst (λ (q : Progress). limit ≤ n + floor q.dispatcher.last) (sym (ap (turn_if p) b.found)) (omega (arith, h, next_floor p.dispatcher b.time b.is)))
+  | inl b ↦ no_more n limit (turn_below limit p) (subst (λ (q : Progress). limit ≤ n + after_last q.dispatcher.last) (sym (ap (turn_if p) b.found)) (omega (arith, h, next_floor p.dispatcher b.time b.is)))
   | inr m ↦ ap (λ o. turns_below n limit (turn_if p o)) m.none ∙ still n limit p m.none
       ∙ sym (ap (λ o. turns_below (suc n) limit (turn_if p o)) m.none ∙ still (suc n) limit p m.none)
 ]
@@ -80,14 +78,14 @@ pub turned_last : (limit : ℕ) (p : Progress) → instant_below limit (next p.d
 turned_last limit p e = still limit limit p e
 
 -- after them no instant is left below the limit
-turns_end : (n limit : ℕ) (p : Progress) → limit ≤ n + floor p.dispatcher.last → IsTurned (turns_below n limit p).dispatcher limit
+turns_end : (n limit : ℕ) (p : Progress) → limit ≤ n + after_last p.dispatcher.last → IsTurned (turns_below n limit p).dispatcher limit
 unfolding turns_below
 turns_end zero limit p h = elim (below_or_not limit (next p.dispatcher)) [
   | inl b ↦ absurd (omega (arith, h, b.less, next_floor p.dispatcher b.time b.is))
   | inr n ↦ n.past
 ]
 turns_end (suc n) limit p h = elim (below_or_not limit (next p.dispatcher)) [
-  | inl b ↦ turns_end n limit (turn_below limit p) (subst (λ (q : Progress). limit ≤ n + floor q.dispatcher.last) (sym (ap (turn_if p) b.found)) (omega (arith, h, next_floor p.dispatcher b.time b.is)))
+  | inl b ↦ turns_end n limit (turn_below limit p) (subst (λ (q : Progress). limit ≤ n + after_last q.dispatcher.last) (sym (ap (turn_if p) b.found)) (omega (arith, h, next_floor p.dispatcher b.time b.is)))
   | inr m ↦ subst (λ (q : Progress). IsTurned q.dispatcher limit) (sym (still (suc n) limit p m.none)) m.past
 ]
 

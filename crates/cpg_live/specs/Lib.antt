@@ -8,3 +8,7 @@ pub mod Streams
 pub mod Follower
 pub mod LinesKept
 pub mod Following
+pub mod Fewer
+pub mod Told
+pub mod Spelling
+pub mod Reorder

@@ -1,6 +1,11 @@
 //! One node on a stream of records, however the stream is cut, and the lines of what it does.
 #![tactic(auto)]
 
+ghost use Rattle.cpg_live.specs.Fewer.{TurnsMayBeLeftOut};
+ghost use Rattle.cpg_live.specs.Reorder.{EventsOfOneTimeCommute};
+ghost use Rattle.cpg_live.specs.Spelling.{BytesSpellEvents};
+ghost use Rattle.cpg_live.specs.Told.{ClosesAreFollowed, TurnsAreFollowed};
+
 mod act_lines;
 mod bad;
 mod ending;
@@ -13,3 +18,29 @@ mod reading;
 pub use bad::{Bad, Why};
 pub use following::{Broken, Follower, STREAM_LIMIT, StreamFault, stream_limit_is_this};
 pub use live::Live;
+
+/// A node that takes no more turns than it must, those at the times of its columns and at the ends that it awaits, does the
+/// same on each stream.
+pub fn turns_may_be_left_out()
+    ensures { TurnsMayBeLeftOut }
+{}
+
+/// A turn that takes reports and frames is followed on their records.
+pub fn turns_are_followed()
+    ensures { TurnsAreFollowed }
+{}
+
+/// A close after the last instant of a node leaves the node as it is.
+pub fn closes_are_followed()
+    ensures { ClosesAreFollowed }
+{}
+
+/// Events of one time lead to the same in any order.
+pub fn events_of_one_time_commute()
+    ensures { EventsOfOneTimeCommute }
+{}
+
+/// The bytes that spell lawful events and a close are a lawful stream, on which the node does what it does on the events.
+pub fn bytes_spell_events()
+    ensures { BytesSpellEvents }
+{}

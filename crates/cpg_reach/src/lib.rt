@@ -10,4 +10,4 @@ mod variables;
 mod ways;
 mod width;
 
-pub use width::{too_wide, views};
+pub use width::{rows_of_item, too_wide, views};

@@ -14,7 +14,7 @@ use cpg_rules::Admitted;
 use std::alloc::Global;
 
 /// In how many rows an item stands: a start in one, and what is sent in one at its sender and one at each receiver.
-fn rows_of_item(problem: &Problem, item: u32) -> u64
+pub fn rows_of_item(problem: &Problem, item: u32) -> u64
     requires { item < item_count problem.now }
     ensures rows { result ≡ rows_of_item problem.now (item_at problem.now item) }
     ensures few { result ≤ 16 }

@@ -1,6 +1,6 @@
 pub mod NameTexts
 pub mod Each
-pub mod Tables
+pub mod Items
 pub mod Texts
 pub mod Parts
 pub mod Steps

@@ -1,13 +1,13 @@
 -- The names of a written document stand for the numbers that they were written for.
 use Rattle.std.proofs.Common.{◌≡◌, ◌≢◌, ℕ, ◌+◌, ◌<◌, Bool, false, List, [], ◌∷◌, ◌++◌, length, get_or, map, Option, Some, None, Ok, Err, AllPairs, refl, sym, ap, ◌∙◌, subst, arith, lt-ltb, append_assoc, zero, suc}
-use Rattle.std.specs.Prelude.{bytes_eq, position}
+use Rattle.std.specs.Prelude.{bytes_eq, position, option_map, IfSome}
 use Rattle.std.specs.List.{AllByRecursion, list_any, position_or_len}
 use Rattle.std.proofs.lemmas.Bool.{cond-true, false_from_ne_true}
 use Rattle.std.proofs.lemmas.List.{length-map, get_or-map}
 use Rattle.std.proofs.lemmas.List.Sums.{position_or_len_is}
 use Rattle.std.proofs.lemmas.Slice.Eq.{bytes_eq-Decides}
 use Rattle.cpg_base.specs.Graph.{Graph, process_count}
-use Rattle.cpg_base.specs.Limits.{IsProcessWithin, IsSlotWithin, IsEdgeWithin, IsWithinLimits}
+use Rattle.cpg_base.specs.Limits.{IsProcessWithin, IsSlotWithin, IsEdgeWithin, IsOrderWithin, IsWithinLimits}
 use Rattle.cpg_base.specs.declared.process.Process.{Process}
 use Rattle.cpg_base.specs.declared.process.Edge.{Edge}
 use Rattle.cpg_base.specs.declared.process.Slot.{Slot}
@@ -19,8 +19,8 @@ use Rattle.cpg_reader.specs.declared.place.Key.{Key}
 use Rattle.cpg_reader.specs.declared.place.Key.TheVariants as keys
 use Rattle.cpg_reader.specs.declared.place.Place.{Place}
 use Rattle.cpg_reader.specs.Reading.{Reading, each}
-use Rattle.cpg_reader.specs.Names.{apart_from, apart, number_of, slot_of, process_of, edge_of, graph_of, resolved}
-use Rattle.cpg_reader.specs.RawOf.{raw_slot, raw_process, raw_edge, raw_of, names_of}
+use Rattle.cpg_reader.specs.Names.{apart_from, apart, number_of, slot_of, process_of, edge_of, ordered, order_of, order_apart, graph_of, resolved}
+use Rattle.cpg_reader.specs.RawOf.{raw_slot, raw_process, raw_edge, raw_of, name_in, names_of}
 use Rattle.cpg_reader.proofs.RawReads.{all_by_recursion}
 
 abbrev pub AreApart : List (List ℕ) → Type 0
@@ -77,6 +77,32 @@ abbrev number_value : Reading ℕ → ℕ
 number_value (Ok n) = n
 number_value (Err e) = 0
 
+-- no two numbers have one name
+only : (names : List (List ℕ)) → AreApart names → (m n : ℕ) → m < length names → n < length names → get_or names m [] ≡ get_or names n [] → m ≡ n
+only names h m n l k e =
+    let somewhere : Place = record { table = places.Slot; index = 0; key = keys.Node } in
+    ap number_value (sym (number_at names somewhere m h l) ∙ ap (number_of names somewhere) e ∙ number_at names somewhere n h k)
+
+-- the names of an order differ, and stand for its numbers
+module _ (names : List (List ℕ)) (names_differ : AreApart names) where
+  order_names_apart : (o : List ℕ) → IsOrderWithin (length names) o → AreApart (map (name_in names) o)
+  order_names_apart o h i j d lt l same =
+      let l' : j < length o = omega (arith, l, length-map o (name_in names)) in
+      let i' : i < length o = omega (arith, lt, l') in
+      h.once i j 0 lt l' (only names names_differ (get_or o i 0) (get_or o j 0) (h.there i 0 i') (h.there j 0 l')
+      (sym (get_or-map (name_in names) o i 0 d i') ∙ same ∙ get_or-map (name_in names) o j 0 d l'))
+
+  order_differs : (order : Option (List ℕ)) → IfSome order (IsOrderWithin (length names)) → order_apart (option_map (map (name_in names)) order) ≡ Ok tt
+  unfolding order_apart
+  order_differs None h = refl
+  order_differs (Some o) h = apart-names places.Top keys.Order (map (name_in names) o) (order_names_apart o h)
+
+  order_back : (order : Option (List ℕ)) → IfSome order (IsOrderWithin (length names)) → order_of names (option_map (map (name_in names)) order) ≡ Ok order
+  unfolding order_of
+  order_back None h = refl
+  order_back (Some o) h =
+      rw (each_back (ordered names) (name_in names) (λ p. p < length names) (λ i p l. number_at names _ p names_differ l) 0 o (all_by_recursion _ o h.there)) refl
+
 module _ (g : Graph) (limited : IsWithinLimits g) where
   slot_back : (i : ℕ) (s : Slot) → IsSlotWithin (length g.nodes) s → slot_of g.nodes i (raw_slot g.nodes s) ≡ Ok s
   unfolding slot_of
@@ -90,11 +116,6 @@ module _ (g : Graph) (limited : IsWithinLimits g) where
   names_apart : AreApart (names_of g.processes)
   names_apart = AllPairs-map (λ (p : Process) (q : Process). p.name ≢ q.name) (λ a b. a ≢ b) (λ (p : Process). p.name) g.processes (λ p q d. d) limited.process_names
 
-  only : (m n : ℕ) → m < length g.nodes → n < length g.nodes → get_or g.nodes m [] ≡ get_or g.nodes n [] → m ≡ n
-  only m n l k e =
-      let somewhere : Place = record { table = places.Slot; index = 0; key = keys.Node } in
-      ap number_value (sym (number_at g.nodes somewhere m limited.node_names l) ∙ ap (number_of g.nodes somewhere) e ∙ number_at g.nodes somewhere n limited.node_names k)
-
   slots_apart : AreApart (map (λ (s : Slot). get_or g.nodes s.node []) g.slots)
   slots_apart i j d lt l same =
       let l' : j < length g.slots = omega (arith, l, length-map g.slots (λ (s : Slot). get_or g.nodes s.node [])) in
@@ -106,13 +127,16 @@ module _ (g : Graph) (limited : IsWithinLimits g) where
       let equal : get_or g.nodes m [] ≡ get_or g.nodes n [] = sym a ∙ same ∙ b in
       let mi = (limited.slots i none (omega (arith, lt, l'))).node in
       let ni = (limited.slots j none l').node in
-      limited.own_slots i j none lt l' (only m n mi ni equal)
+      limited.own_slots i j none lt l' (only g.nodes limited.node_names m n mi ni equal)
 
   edge_back : (i : ℕ) (e : Edge) → IsEdgeWithin (process_count g) e → edge_of (names_of g.processes) i (raw_edge (names_of g.processes) e) ≡ Ok e
   unfolding edge_of
   edge_back i e h =
       let count = length-map g.processes (λ (p : Process). p.name) in
       rw (number_at (names_of g.processes) _ e.from names_apart (omega (arith, count, h.from)), number_at (names_of g.processes) _ e.to names_apart (omega (arith, count, h.to))) refl
+
+  order_within : IfSome g.order (IsOrderWithin (length (names_of g.processes)))
+  order_within = subst (λ n. IfSome g.order (IsOrderWithin n)) (sym (length-map g.processes (λ (p : Process). p.name))) limited.order
 
   pub graph_back : graph_of (raw_of g) ≡ Ok g
   unfolding graph_of resolved
@@ -122,4 +146,15 @@ module _ (g : Graph) (limited : IsWithinLimits g) where
       let slots = each_back (slot_of g.nodes) (raw_slot g.nodes) (IsSlotWithin (length g.nodes)) slot_back 0 g.slots (all_by_recursion _ g.slots limited.slots) in
       let processes = each_back (process_of g.nodes) (raw_process g.nodes) (IsProcessWithin (length g.nodes)) (λ i p h. process_by i p p.deadline refl h) 0 g.processes (all_by_recursion _ g.processes limited.processes) in
       let edges = each_back (edge_of (names_of g.processes)) (raw_edge (names_of g.processes)) (IsEdgeWithin (process_count g)) edge_back 0 g.edges (all_by_recursion _ g.edges limited.edges) in
-      rw (slot_name, process_name, apart-names places.Node _ g.nodes limited.node_names, apart-names places.Slot _ _ slots_apart, apart-names places.Process _ _ names_apart, slots, processes, edges) refl
+      rw (
+        slot_name,
+        process_name,
+        apart-names places.Node _ g.nodes limited.node_names,
+        apart-names places.Slot _ _ slots_apart,
+        apart-names places.Process _ _ names_apart,
+        order_differs (names_of g.processes) names_apart g.order order_within,
+        slots,
+        processes,
+        edges,
+        order_back (names_of g.processes) names_apart g.order order_within,
+      ) refl

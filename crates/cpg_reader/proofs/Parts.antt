@@ -2,11 +2,11 @@
 use Rattle.std.proofs.Common.{◌≡◌, ℕ, ℤ, pos, Bool, false, Option, List, [], ◌∷◌, Ok, Err, refl}
 use Rattle.toml.specs.Data.{Members, as_integer, as_bool}
 use Rattle.cpg_reader.specs.declared.place.Table.TheVariants as tables
-use Rattle.cpg_reader.specs.declared.place.Key.TheVariants.{Faults, Deadline, Node, Slot, Process, Edge, Name, Bytes, Wcet, Parts, Alpha, Chi, Mu, Join, Frozen, Release, From, To, When}
+use Rattle.cpg_reader.specs.declared.place.Key.TheVariants.{Faults, Deadline, Node, Slot, Process, Edge, Order, Name, Bytes, Wcet, Parts, Alpha, Chi, Mu, Join, Frozen, Release, From, To, When}
 use Rattle.cpg_reader.specs.declared.shape.RawWork.{RawWork}
 use Rattle.cpg_reader.specs.declared.shape.RawLink.{RawLink}
 use Rattle.cpg_reader.specs.Reading.{Reading, pure, ◌>>=◌, ◌>>◌}
-use Rattle.cpg_reader.specs.Rows.{Row, name_at, integer_at, integer_or, flag_or, optional, tables_at, only}
+use Rattle.cpg_reader.specs.Rows.{Row, name_at, integer_at, integer_or, flag_or, optional, as_names, tables_at, only}
 use Rattle.cpg_reader.specs.Shape.{process_at, work_at, process_with, edge_at, link_at, edge_with, Tops, lists_at, tops_at, elements_at, raw_graph_at}
 
 after_work : {T : Type 0} (wcet_at : Reading ℤ) (parts_at : Reading ℤ) (alpha_at : Reading ℤ) (chi_at : Reading ℤ) (mu_at : Reading ℤ) (join_at : Reading Bool) (frozen_at : Reading Bool) (release_at : Reading ℤ) (deadline_at : Reading (Option ℤ)) (end : Reading (Unit {0})) (next : RawWork → Reading T)
@@ -47,21 +47,22 @@ edge-parts row from to is_from is_to = rw (is_from, is_to)
     (after_link (integer_or (pos 1) row Bytes) (optional as_bool row When) (flag_or false row Frozen) (only (From ∷ To ∷ Bytes ∷ When ∷ Frozen ∷ []) row)
     (λ link. pure (edge_with from to link)))
 
-after_top : {T : Type 0} (faults_at : Reading ℤ) (deadline_at : Reading ℤ) (nodes_at : Reading (List Members)) (slots_at : Reading (List Members)) (processes_at : Reading (List Members)) (edges_at : Reading (List Members)) (end : Reading (Unit {0})) (next : Tops → Reading T)
-    → (faults_at >>= (λ faults. deadline_at >>= (λ deadline. nodes_at >>= (λ nodes. slots_at >>= (λ slots. processes_at >>= (λ processes. edges_at >>= (λ edges. end >> next (record { faults = faults; deadline = deadline; nodes = nodes; slots = slots; processes = processes; edges = edges })))))))) ≡ ((faults_at >>= (λ faults. deadline_at >>= (λ deadline. nodes_at >>= (λ nodes. slots_at >>= (λ slots. processes_at >>= (λ processes. edges_at >>= (λ edges. end >> pure (record { faults = faults; deadline = deadline; nodes = nodes; slots = slots; processes = processes; edges = edges })))))))) >>= next)
-after_top (Err fault) deadline_at nodes_at slots_at processes_at edges_at end next = refl
-after_top (Ok faults) (Err fault) nodes_at slots_at processes_at edges_at end next = refl
-after_top (Ok faults) (Ok deadline) (Err fault) slots_at processes_at edges_at end next = refl
-after_top (Ok faults) (Ok deadline) (Ok nodes) (Err fault) processes_at edges_at end next = refl
-after_top (Ok faults) (Ok deadline) (Ok nodes) (Ok slots) (Err fault) edges_at end next = refl
-after_top (Ok faults) (Ok deadline) (Ok nodes) (Ok slots) (Ok processes) (Err fault) end next = refl
-after_top (Ok faults) (Ok deadline) (Ok nodes) (Ok slots) (Ok processes) (Ok edges) (Err fault) next = refl
-after_top (Ok faults) (Ok deadline) (Ok nodes) (Ok slots) (Ok processes) (Ok edges) (Ok done) next = refl
+after_top : {T : Type 0} (faults_at : Reading ℤ) (deadline_at : Reading ℤ) (nodes_at : Reading (List Members)) (slots_at : Reading (List Members)) (processes_at : Reading (List Members)) (edges_at : Reading (List Members)) (order_at : Reading (Option (List (List ℕ)))) (end : Reading (Unit {0})) (next : Tops → Reading T)
+    → (faults_at >>= (λ faults. deadline_at >>= (λ deadline. nodes_at >>= (λ nodes. slots_at >>= (λ slots. processes_at >>= (λ processes. edges_at >>= (λ edges. order_at >>= (λ order. end >> next (record { faults = faults; deadline = deadline; nodes = nodes; slots = slots; processes = processes; edges = edges; order = order }))))))))) ≡ ((faults_at >>= (λ faults. deadline_at >>= (λ deadline. nodes_at >>= (λ nodes. slots_at >>= (λ slots. processes_at >>= (λ processes. edges_at >>= (λ edges. order_at >>= (λ order. end >> pure (record { faults = faults; deadline = deadline; nodes = nodes; slots = slots; processes = processes; edges = edges; order = order }))))))))) >>= next)
+after_top (Err fault) deadline_at nodes_at slots_at processes_at edges_at order_at end next = refl
+after_top (Ok faults) (Err fault) nodes_at slots_at processes_at edges_at order_at end next = refl
+after_top (Ok faults) (Ok deadline) (Err fault) slots_at processes_at edges_at order_at end next = refl
+after_top (Ok faults) (Ok deadline) (Ok nodes) (Err fault) processes_at edges_at order_at end next = refl
+after_top (Ok faults) (Ok deadline) (Ok nodes) (Ok slots) (Err fault) edges_at order_at end next = refl
+after_top (Ok faults) (Ok deadline) (Ok nodes) (Ok slots) (Ok processes) (Err fault) order_at end next = refl
+after_top (Ok faults) (Ok deadline) (Ok nodes) (Ok slots) (Ok processes) (Ok edges) (Err fault) end next = refl
+after_top (Ok faults) (Ok deadline) (Ok nodes) (Ok slots) (Ok processes) (Ok edges) (Ok order) (Err fault) next = refl
+after_top (Ok faults) (Ok deadline) (Ok nodes) (Ok slots) (Ok processes) (Ok edges) (Ok order) (Ok done) next = refl
 
 -- a document, whose keys are read before its elements
 pub graph-parts : (ms : Members) → raw_graph_at ms ≡ (tops_at (record { table = tables.Top; index = 0; members = ms }) >>= elements_at)
 unfolding raw_graph_at tops_at lists_at elements_at
 graph-parts ms =
     let top : Row = record { table = tables.Top; index = 0; members = ms } in
-    after_top (integer_at top Faults) (integer_at top Deadline) (tables_at top Node) (tables_at top Slot) (tables_at top Process) (tables_at top Edge)
-    (only (Faults ∷ Deadline ∷ Node ∷ Slot ∷ Process ∷ Edge ∷ []) top) elements_at
+    after_top (integer_at top Faults) (integer_at top Deadline) (tables_at top Node) (tables_at top Slot) (tables_at top Process) (tables_at top Edge) (optional as_names top Order)
+    (only (Faults ∷ Deadline ∷ Node ∷ Slot ∷ Process ∷ Edge ∷ Order ∷ []) top) elements_at

@@ -1,8 +1,8 @@
 -- What is read of a written document, as far as its keys and types go.
 use Rattle.std.proofs.Common.{◌≡◌, ℕ, ◌+◌, suc, Bool, List, [], ◌∷◌, get_or, map, Option, Some, None, Ok, refl, ap, ◌∙◌, arith}
-use Rattle.std.specs.Prelude.{All}
+use Rattle.std.specs.Prelude.{All, IfSome}
 use Rattle.std.specs.List.{AllByRecursion}
-use Rattle.toml.specs.Data.{Members, table}
+use Rattle.toml.specs.Data.{Members, string, table, as_table}
 use Rattle.toml.specs.View.{items_of}
 use Rattle.cpg_base.specs.Graph.{Graph}
 use Rattle.cpg_base.specs.Name.{IsName}
@@ -11,11 +11,11 @@ use Rattle.cpg_base.specs.declared.process.Edge.{Edge}
 use Rattle.cpg_base.specs.declared.process.Slot.{Slot}
 use Rattle.cpg_reader.specs.declared.place.Table.TheVariants as places
 use Rattle.cpg_reader.specs.Reading.{Reading, each}
-use Rattle.cpg_reader.specs.Rows.{name_if, tables_in, name_at, integer_at, integer_or, flag_or, optional, only, tables_at}
-use Rattle.cpg_reader.specs.Shape.{node_at, slot_at, process_at, edge_at, raw_graph_at}
+use Rattle.cpg_reader.specs.Rows.{name_if, items_as, as_name, name_at, integer_at, integer_or, flag_or, optional, only, tables_at}
+use Rattle.cpg_reader.specs.Shape.{node_at, slot_at, process_at, edge_at, rows_at, raw_graph_at}
 use Rattle.cpg_reader.proofs.NameTexts.{is_name-from_IsName}
 use Rattle.cpg_reader.specs.WrittenTree.{node_members, slot_members, process_members, edge_members, graph_members}
-use Rattle.cpg_reader.specs.RawOf.{raw_slot, raw_process, raw_edge, raw_of, names_of}
+use Rattle.cpg_reader.specs.RawOf.{raw_slot, raw_process, raw_edge, raw_of, name_in, names_of}
 
 pub all_by_recursion : {X : Type 0} (P : X → Type 0) (xs : List X) → All P xs → AllByRecursion P xs
 all_by_recursion P [] h = tt
@@ -57,9 +57,13 @@ each_read : {S T U : Type 0} (step : ℕ → T → Reading U) (f : S → T) (r :
 each_read step f r P h i [] a = refl
 each_read step f r P h i (x ∷ xs) a = rw (h i x a.0, each_read step f r P h (i + 1) xs a.1) refl
 
-tables_read : {T : Type 0} (f : T → Members) (xs : List T) → tables_in (items_of (map (λ x. table (f x)) xs)) ≡ Some (map f xs)
+tables_read : {T : Type 0} (f : T → Members) (xs : List T) → items_as as_table (items_of (map (λ x. table (f x)) xs)) ≡ Some (map f xs)
 tables_read f [] = refl
 tables_read f (x ∷ xs) = rw (tables_read f xs) refl
+
+names_read : (names : List (List ℕ)) (order : List ℕ) → AllByRecursion (λ p. IsName (name_in names p)) order → items_as as_name (items_of (map (λ p. string (name_in names p)) order)) ≡ Some (map (name_in names) order)
+names_read names [] h = refl
+names_read names (p ∷ ps) h = rw (name_read (name_in names p) h.0, names_read names ps h.1) refl
 
 map_same : {X : Type 0} (xs : List X) → map (λ x. x) xs ≡ xs
 map_same [] = refl
@@ -71,12 +75,50 @@ pub record AreNames (g : Graph) : Type 0 where
   pub slots : AllByRecursion (λ s. IsName (get_or g.nodes s.node [])) g.slots
   pub processes : AllByRecursion (IsCalled g.nodes) g.processes
   pub edges : AllByRecursion (IsJoined (names_of g.processes)) g.edges
+  pub order : IfSome g.order (AllByRecursion (λ p. IsName (name_in (names_of g.processes) p)))
+
+nodes_read : (g : Graph) → AreNames g → rows_at places.Node node_at (map node_members g.nodes) ≡ Ok g.nodes
+nodes_read g h = each_read (λ i ms. node_at (record { table = places.Node; index = i; members = ms })) node_members (λ n. n) IsName node_read 0 g.nodes h.nodes ∙ ap (λ l. Ok l) (map_same g.nodes)
+
+slots_read : (g : Graph) → AreNames g → rows_at places.Slot slot_at (map (slot_members g.nodes) g.slots) ≡ Ok (map (raw_slot g.nodes) g.slots)
+slots_read g h = each_read (λ i ms. slot_at (record { table = places.Slot; index = i; members = ms })) (slot_members g.nodes) (raw_slot g.nodes) _ (slot_read g.nodes) 0 g.slots h.slots
+
+processes_read : (g : Graph) → AreNames g → rows_at places.Process process_at (map (process_members g.nodes) g.processes) ≡ Ok (map (raw_process g.nodes) g.processes)
+processes_read g h = each_read (λ i ms. process_at (record { table = places.Process; index = i; members = ms })) (process_members g.nodes) (raw_process g.nodes) (IsCalled g.nodes)
+    (λ i p c. process_by g.nodes i p p.deadline refl c) 0 g.processes h.processes
+
+edges_read : (g : Graph) → AreNames g → rows_at places.Edge edge_at (map (edge_members g.processes) g.edges) ≡ Ok (map (raw_edge (names_of g.processes)) g.edges)
+edges_read g h = each_read (λ i ms. edge_at (record { table = places.Edge; index = i; members = ms })) (edge_members g.processes) (raw_edge (names_of g.processes)) (IsJoined (names_of g.processes))
+    (λ i e c. edge_by g.processes i e e.when refl c) 0 g.edges h.edges
+
+-- a written document is read as what the graph says, whatever order it gives
+raw_by : (g : Graph) (order : Option (List ℕ)) → g.order ≡ order → AreNames g → IfSome order (AllByRecursion (λ p. IsName (name_in (names_of g.processes) p))) → raw_graph_at (graph_members g) ≡ Ok (raw_of g)
+unfolding raw_graph_at integer_at tables_at optional only
+raw_by g None is h named =
+    rw (
+      is,
+      tables_read node_members g.nodes,
+      tables_read (slot_members g.nodes) g.slots,
+      tables_read (process_members g.nodes) g.processes,
+      tables_read (edge_members g.processes) g.edges,
+      nodes_read g h,
+      slots_read g h,
+      processes_read g h,
+      edges_read g h,
+    ) refl
+raw_by g (Some order) is h named =
+    rw (
+      is,
+      tables_read node_members g.nodes,
+      tables_read (slot_members g.nodes) g.slots,
+      tables_read (process_members g.nodes) g.processes,
+      tables_read (edge_members g.processes) g.edges,
+      names_read (names_of g.processes) order named,
+      nodes_read g h,
+      slots_read g h,
+      processes_read g h,
+      edges_read g h,
+    ) refl
 
 pub raw_read : (g : Graph) → AreNames g → raw_graph_at (graph_members g) ≡ Ok (raw_of g)
-unfolding raw_graph_at integer_at tables_at optional only
-raw_read g h =
-    let nodes = each_read (λ i ms. node_at (record { table = places.Node; index = i; members = ms })) node_members (λ n. n) IsName node_read 0 g.nodes h.nodes ∙ ap (λ l. Ok l) (map_same g.nodes) in
-    let slots = each_read (λ i ms. slot_at (record { table = places.Slot; index = i; members = ms })) (slot_members g.nodes) (raw_slot g.nodes) _ (slot_read g.nodes) 0 g.slots h.slots in
-    let processes = each_read (λ i ms. process_at (record { table = places.Process; index = i; members = ms })) (process_members g.nodes) (raw_process g.nodes) (IsCalled g.nodes) (λ i p c. process_by g.nodes i p p.deadline refl c) 0 g.processes h.processes in
-    let edges = each_read (λ i ms. edge_at (record { table = places.Edge; index = i; members = ms })) (edge_members g.processes) (raw_edge (names_of g.processes)) (IsJoined (names_of g.processes)) (λ i e c. edge_by g.processes i e e.when refl c) 0 g.edges h.edges in
-    rw (tables_read node_members g.nodes, tables_read (slot_members g.nodes) g.slots, tables_read (process_members g.nodes) g.processes, tables_read (edge_members g.processes) g.edges, nodes, slots, processes, edges) refl
+raw_read g h = raw_by g g.order refl h h.order

@@ -10,7 +10,7 @@ use Rattle.cpg_reader.specs.declared.place.Key.{Key}
 use Rattle.cpg_reader.specs.declared.place.ReadFault.TheVariants.{DoubleName}
 use Rattle.cpg_reader.specs.Reading.{Reading}
 use Rattle.cpg_reader.specs.Ranges.{different, sources}
-use Rattle.cpg_reader.specs.Names.{apart_from, place}
+use Rattle.cpg_reader.specs.Names.{apart_from, name_place}
 use Rattle.cpg_reader.proofs.Each.{drop-here}
 
 abbrev pub Texts : Type 0
@@ -83,13 +83,13 @@ module _ (ks : Texts) (k : Bor (List ℕ)) (new : Texts) (keys : new ≡ insert_
 
 module _ (table : Table) (key : Key) where
   apart-test : (i : ℕ) (seen : List (List ℕ)) (name : List ℕ) (names : List (List ℕ)) (b : Bool) → list_any (bytes_eq name) seen ≡ b
-      → apart_from table key i seen (name ∷ names) ≡ cond b (Err (DoubleName (place table i key))) (apart_from table key (i + 1) (seen ++ name ∷ []) names)
+      → apart_from table key i seen (name ∷ names) ≡ cond b (Err (DoubleName (name_place table i key))) (apart_from table key (i + 1) (seen ++ name ∷ []) names)
   apart-test i seen name names b e = rw e refl
 
   module _ {T : Type 0} (named : T → List ℕ) (xs : List T) (i : ℕ) (x : T) (ks : Texts) (k : Bor (List ℕ)) (whole : Reading (Unit {0})) where
     -- a name that stands earlier
     pub is_double : i < length xs → x ≡ get_or xs i x → k.now ≡ named x → list_any (same_text k) ks ≡ true
-        → whole ≡ apart_from table key i (texts ks) (map named (drop i xs)) → whole ≡ Err (DoubleName (place table i key))
+        → whole ≡ apart_from table key i (texts ks) (map named (drop i xs)) → whole ≡ Err (DoubleName (name_place table i key))
     is_double h is name e so_far = so_far ∙ rw (drop-here xs i x h is, ← name) (apart-test i (texts ks) k.now (map named (drop (i + 1) xs)) true (sym (any-texts k.now ks) ∙ e))
 
     -- a name that is new

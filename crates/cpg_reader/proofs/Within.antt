@@ -11,7 +11,7 @@ use Rattle.cpg_base.specs.declared.process.Slot.{Slot}
 use Rattle.cpg_base.specs.Numbers.{numbers_below}
 use Rattle.cpg_base.specs.Graph.{Graph, condition_count}
 use Rattle.cpg_base.specs.Conditions.{is_conditional_output, has_conditional_output}
-use Rattle.cpg_base.specs.Limits.{IsProcessWithin, IsSlotWithin, IsEdgeWithin, IsWithinLimits}
+use Rattle.cpg_base.specs.Limits.{IsProcessWithin, IsSlotWithin, IsEdgeWithin, IsOrderWithin, IsWithinLimits}
 use Rattle.cpg_base.proofs.Lists.{Contains-map, Contains-map_parts, Contains-filter, Contains-filter_parts, numbers-Contains, numbers_rise, list_any_parts}
 use Rattle.cpg_base.proofs.Pairs.{length-le_of_apart}
 use Rattle.cpg_base.proofs.Found.{conditions_found}
@@ -19,12 +19,12 @@ use Rattle.cpg_reader.specs.declared.shape.RawSlot.{RawSlot}
 use Rattle.cpg_reader.specs.declared.shape.RawProcess.{RawProcess}
 use Rattle.cpg_reader.specs.declared.shape.RawEdge.{RawEdge}
 use Rattle.cpg_reader.specs.declared.place.Table.TheVariants as tables
-use Rattle.cpg_reader.specs.declared.place.Key.TheVariants.{Name, Node, From, To}
+use Rattle.cpg_reader.specs.declared.place.Key.TheVariants.{Name, Node, From, To, Order}
 use Rattle.cpg_reader.specs.Reading.{each}
 use Rattle.cpg_reader.specs.Shape.{RawGraph}
 use Rattle.cpg_reader.specs.Ranges.{sources, different, limits}
 use Rattle.cpg_base.specs.Natural.{natural}
-use Rattle.cpg_reader.specs.Names.{place, number_of, slot_of, process_of, edge_of, slot_names, process_names, graph_with, resolved, graph_of}
+use Rattle.cpg_reader.specs.Names.{place, number_of, slot_of, process_of, edge_of, ordered, order_of, order_apart, slot_names, process_names, graph_with, resolved, graph_of}
 use Rattle.cpg_reader.proofs.Steps.{then-parts, bind-parts, same_ok, each-length, each-at}
 use Rattle.cpg_reader.proofs.Limits.{AreLimits, are_limits}
 use Rattle.cpg_reader.proofs.Numbering.{number-is, apart-pairs, different-Contains}
@@ -84,14 +84,34 @@ shows_edge processes i raw e h =
     let is = same_ok _ e rest in
     record { from = found ∙ ap (λ (x : Edge). Ok x.from) is; to = met ∙ ap (λ (x : Edge). Ok x.to) is; size = ap (λ (x : Edge). x.size) is; when = ap (λ (x : Edge). x.when) is }
 
+-- the numbers of an order are different ones below the number of names
+order_within : (names : List (List ℕ)) (raw : Option (List (List ℕ))) (order : Option (List ℕ)) → order_apart raw ≡ Ok tt → order_of names raw ≡ Ok order
+    → IfSome order (λ o. (n : ℕ) → length names ≡ n → IsOrderWithin n o)
+unfolding order_apart order_of
+order_within names None order h e = subst (λ o. IfSome o (λ o. (n : ℕ) → length names ≡ n → IsOrderWithin n o)) (same_ok None order e) tt
+order_within names (Some called) order h e =
+    let (o, found, is) = bind-parts (each (ordered names) 0 called) _ order e in
+    let differ = apart-pairs tables.Top Order called tt h in
+    let count = each-length (ordered names) 0 called o found in
+    let at : (k d : ℕ) → k < length o → (get_or o k d < length names) × (get_or names (get_or o k d) [] ≡ get_or called k []) =
+    λ k d l. number-is names _ _ _ (each-at (ordered names) 0 called o found k k [] d (zero-add k) (omega (arith, l, count))) [] in
+    subst (λ o. IfSome o (λ o. (n : ℕ) → length names ≡ n → IsOrderWithin n o)) (same_ok (Some o) order is)
+    (λ n same. record {
+      there = λ k d l. omega (arith, (at k d l).0, same);
+      once = λ i j d lt l twice. differ i j [] lt (omega (arith, l, count))
+          (sym (at i d (omega (arith, lt, l))).1 ∙ ap (λ p. get_or names p []) twice ∙ (at j d l).1);
+    })
+
 -- the parts of the graph of a document
-record AreParts (g : RawGraph) (ss : List Slot) (ps : List Process) (es : List Edge) : Type 0 where
+record AreParts (g : RawGraph) (ss : List Slot) (ps : List Process) (es : List Edge) (found : Option (List ℕ)) : Type 0 where
   pub nodes_apart : AllPairs (λ a b. a ≢ b) g.nodes
   pub slots_apart : AllPairs (λ a b. a ≢ b) (slot_names g.slots)
   pub processes_apart : AllPairs (λ a b. a ≢ b) (process_names g.processes)
   pub slots : each (slot_of g.nodes) 0 g.slots ≡ Ok ss
   pub processes : each (process_of g.nodes) 0 g.processes ≡ Ok ps
   pub edges : each (edge_of (process_names g.processes)) 0 g.edges ≡ Ok es
+  pub order_apart : order_apart g.order ≡ Ok tt
+  pub order : order_of (process_names g.processes) g.order ≡ Ok found
 
 deadline_within : (own : Option ℤ) (most : ℕ) → natural (unwrap_or own (pos 0)) ≤ most → IfSome (option_map natural own) (λ d. d ≤ most)
 deadline_within (Some d) most h = h
@@ -106,7 +126,7 @@ some_process = record { name = []; node = []; wcet = pos 0; parts = pos 0; alpha
 some_edge : RawEdge
 some_edge = record { from = []; to = []; bytes = pos 0; when = None; frozen = false }
 
-module _ (g : RawGraph) (ss : List Slot) (ps : List Process) (es : List Edge) (limited : AreLimits g) (parts : AreParts g ss ps es) where
+module _ (g : RawGraph) (ss : List Slot) (ps : List Process) (es : List Edge) (order : Option (List ℕ)) (limited : AreLimits g) (parts : AreParts g ss ps es order) where
   slot_count : length ss ≡ length g.slots
   slot_count = each-length (slot_of g.nodes) 0 g.slots ss parts.slots
 
@@ -228,11 +248,15 @@ module _ (g : RawGraph) (ss : List Slot) (ps : List Process) (es : List Edge) (l
       different-Contains [] (sources g.edges) name (inr (subst (Contains (sources g.edges)) is (conditional_named p there)))) in
       omega (arith, all, limited.conditions, length-map conditional name_of)
 
-  conditions_within : condition_count (graph_with g ss ps es) ≤ 32
+  conditions_within : condition_count (graph_with g ss ps es order) ≤ 32
   unfolding conditional
-  conditions_within = subst (λ n. n ≤ 32) (ap length (conditions_found (graph_with g ss ps es))) few_conditional
+  conditions_within = subst (λ n. n ≤ 32) (ap length (conditions_found (graph_with g ss ps es order))) few_conditional
 
-  all_within : IsWithinLimits (graph_with g ss ps es)
+  order_there : (o : Option (List ℕ)) → IfSome o (λ o. (n : ℕ) → length (process_names g.processes) ≡ n → IsOrderWithin n o) → IfSome o (IsOrderWithin (length ps))
+  order_there None h = tt
+  order_there (Some o) h = h (length ps) name_count
+
+  all_within : IsWithinLimits (graph_with g ss ps es order)
   all_within = record {
     faults = limited.top_range.1;
     deadline = limited.top_range.2.1;
@@ -247,6 +271,7 @@ module _ (g : RawGraph) (ss : List Slot) (ps : List Process) (es : List Edge) (l
     node_names = parts.nodes_apart;
     process_names = names_differ;
     own_slots = slots_differ;
+    order = order_there order (order_within (process_names g.processes) g.order order parts.order_apart parts.order);
   }
 
 pub graph-within : (g : RawGraph) (graph : Graph) → limits g ≡ Ok tt → graph_of g ≡ Ok graph → IsWithinLimits graph
@@ -255,15 +280,43 @@ graph-within g graph limited h =
     let (_, nodes, h1) = then-parts _ _ graph h in
     let (_, own_slots, h2) = then-parts _ _ graph h1 in
     let (_, names, h3) = then-parts _ _ graph h2 in
-    let (ss, slots, h4) = bind-parts (each (slot_of g.nodes) 0 g.slots) _ graph h3 in
-    let (ps, processes, h5) = bind-parts (each (process_of g.nodes) 0 g.processes) _ graph h4 in
-    let (es, edges, h6) = bind-parts (each (edge_of (process_names g.processes)) 0 g.edges) _ graph h5 in
-    let parts : AreParts g ss ps es = record {
+    let (_, differs, h4) = then-parts _ _ graph h3 in
+    let (ss, slots, h5) = bind-parts (each (slot_of g.nodes) 0 g.slots) _ graph h4 in
+    let (ps, processes, h6) = bind-parts (each (process_of g.nodes) 0 g.processes) _ graph h5 in
+    let (es, edges, h7) = bind-parts (each (edge_of (process_names g.processes)) 0 g.edges) _ graph h6 in
+    let (order, ordered, h8) = bind-parts (order_of (process_names g.processes) g.order) _ graph h7 in
+    let parts : AreParts g ss ps es order = record {
       nodes_apart = apart-pairs tables.Node Name g.nodes _ nodes;
       slots_apart = apart-pairs tables.Slot Node (slot_names g.slots) _ own_slots;
       processes_apart = apart-pairs tables.Process Name (process_names g.processes) _ names;
       slots = slots;
       processes = processes;
       edges = edges;
+      order_apart = differs;
+      order = ordered;
     } in
-    subst IsWithinLimits (same_ok (graph_with g ss ps es) graph h6) (all_within g ss ps es (are_limits g limited) parts)
+    subst IsWithinLimits (same_ok (graph_with g ss ps es order) graph h8) (all_within g ss ps es order (are_limits g limited) parts)
+
+-- it is within them without its order, too
+pub unordered-within : (graph : Graph) → IsWithinLimits graph → IsWithinLimits (record graph { order = None })
+unordered-within graph h = record {
+  faults = h.faults;
+  deadline = h.deadline;
+  few_nodes = h.few_nodes;
+  few_slots = h.few_slots;
+  few_processes = h.few_processes;
+  few_edges = h.few_edges;
+  few_conditions = h.few_conditions;
+  slots = h.slots;
+  processes = h.processes;
+  edges = h.edges;
+  node_names = h.node_names;
+  process_names = h.process_names;
+  own_slots = h.own_slots;
+  order = tt;
+}
+
+-- what holds of what a value is made into
+pub of_mapped : {S T : Type 0} (f : S → T) (P : T → Type 0) (o : Option S) → IfSome (option_map f o) P → IfSome o (λ x. P (f x))
+of_mapped f P None h = tt
+of_mapped f P (Some x) h = h

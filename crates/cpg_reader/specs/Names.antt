@@ -9,7 +9,7 @@ use Rattle.cpg_base.specs.declared.process.Slot.{Slot}
 use Rattle.cpg_reader.specs.declared.place.Table.{Table}
 use Rattle.cpg_reader.specs.declared.place.Table.TheVariants as tables
 use Rattle.cpg_reader.specs.declared.place.Key.{Key}
-use Rattle.cpg_reader.specs.declared.place.Key.TheVariants.{Name, Node, From, To}
+use Rattle.cpg_reader.specs.declared.place.Key.TheVariants.{Name, Node, From, To, Order}
 use Rattle.cpg_reader.specs.declared.place.Place.{Place}
 use Rattle.cpg_reader.specs.declared.place.ReadFault.TheVariants.{DoubleName, UnknownName}
 use Rattle.cpg_reader.specs.declared.shape.RawSlot.{RawSlot}
@@ -21,11 +21,16 @@ use Rattle.cpg_reader.specs.Shape.{RawGraph}
 abbrev pub place : Table → ℕ → Key → Place
 place table index key = record { table = table; index = index; key = key }
 
+-- the place of a name in a list: the key of the element that has it, or the key of the top at which the list stands
+abbrev pub name_place : Table → ℕ → Key → Place
+name_place tables.Top index key = place tables.Top 0 key
+name_place table index key = place table index key
+
 -- no name stands among those before it
 abbrev pub apart_from : Table → Key → ℕ → List (List ℕ) → List (List ℕ) → Reading (Unit {0})
 apart_from table key i earlier [] = done
 apart_from table key i earlier (name ∷ names) = if list_any (bytes_eq name) earlier
-    then Err (DoubleName (place table i key))
+    then Err (DoubleName (name_place table i key))
     else apart_from table key (i + 1) (earlier ++ name ∷ []) names
 
 unfoldable pub apart : Table → Key → List (List ℕ) → Reading (Unit {0})
@@ -67,20 +72,37 @@ edge_of processes i e = do
   to ← number_of processes (place tables.Edge i To) e.to
   pure (record { from = from; to = to; size = natural e.bytes; when = e.when; frozen = e.frozen })
 
+-- the number of a process of the order
+abbrev pub ordered : List (List ℕ) → ℕ → List ℕ → Reading ℕ
+ordered processes i name = number_of processes (name_place tables.Top i Order) name
+
+-- the numbers of the processes of the order, if there is one
+unfoldable pub order_of : List (List ℕ) → Option (List (List ℕ)) → Reading (Option (List ℕ))
+order_of processes None = pure None
+order_of processes (Some names) = do
+  order ← each (ordered processes) 0 names
+  pure (Some order)
+
+-- no name stands twice in the order
+unfoldable pub order_apart : Option (List (List ℕ)) → Reading (Unit {0})
+order_apart None = done
+order_apart (Some names) = apart tables.Top Order names
+
 abbrev pub slot_names : List RawSlot → List (List ℕ)
 slot_names slots = map (λ s. s.node) slots
 
 abbrev pub process_names : List RawProcess → List (List ℕ)
 process_names processes = map (λ p. p.name) processes
 
-abbrev pub graph_with : RawGraph → List Slot → List Process → List Edge → Graph
-graph_with g slots processes edges = record {
+abbrev pub graph_with : RawGraph → List Slot → List Process → List Edge → Option (List ℕ) → Graph
+graph_with g slots processes edges order = record {
   faults = natural g.faults;
   deadline = natural g.deadline;
   nodes = g.nodes;
   slots = slots;
   processes = processes;
   edges = edges;
+  order = order;
 }
 
 -- the graph of a document in which no name is double: each names something
@@ -89,12 +111,14 @@ resolved g = do
   slots ← each (slot_of g.nodes) 0 g.slots
   processes ← each (process_of g.nodes) 0 g.processes
   edges ← each (edge_of (process_names g.processes)) 0 g.edges
-  pure (graph_with g slots processes edges)
+  order ← order_of (process_names g.processes) g.order
+  pure (graph_with g slots processes edges order)
 
--- the same where the names of processes are looked at first
+-- the same where the names of processes and of the order are looked at first
 unfoldable pub named : RawGraph → Reading Graph
 named g = do
   apart tables.Process Name (process_names g.processes)
+  order_apart g.order
   resolved g
 
 -- the graph of a document within the limits: first no name of a kind is double, then each names something
@@ -103,4 +127,5 @@ graph_of g = do
   apart tables.Node Name g.nodes
   apart tables.Slot Node (slot_names g.slots)
   apart tables.Process Name (process_names g.processes)
+  order_apart g.order
   resolved g

@@ -30,6 +30,10 @@ raw_process nodes p = record {
 abbrev pub raw_edge : List (List ℕ) → Edge → RawEdge
 raw_edge names e = record { from = get_or names e.from []; to = get_or names e.to []; bytes = pos e.size; when = e.when; frozen = e.frozen }
 
+-- the name at a number
+abbrev pub name_in : List (List ℕ) → ℕ → List ℕ
+name_in names p = get_or names p []
+
 -- what processes are called
 abbrev pub names_of : List Process → List (List ℕ)
 names_of processes = map (λ p. p.name) processes
@@ -42,4 +46,5 @@ raw_of g = record {
   slots = map (raw_slot g.nodes) g.slots;
   processes = map (raw_process g.nodes) g.processes;
   edges = map (raw_edge (names_of g.processes)) g.edges;
+  order = option_map (map (name_in (names_of g.processes))) g.order;
 }

@@ -1,13 +1,13 @@
 -- The tables of a document, and what stands at their keys.
 use Rattle.std.specs.Prelude.{ℕ, ℤ, ◌&&◌, Bool, true, List, [], ◌∷◌, Option, Some, None, Err, codes, bytes_eq, nat_le, length, option_and_then, option_map, unwrap_or, if◌then◌else◌}
 use Rattle.std.specs.List.{list_any, list_all}
-use Rattle.toml.specs.Data.{Data, table, Items, no_items, item, Members, no_members, member, get_member, as_str, as_integer, as_bool, as_array}
+use Rattle.toml.specs.Data.{Data, Items, no_items, item, Members, no_members, member, get_member, as_str, as_integer, as_bool, as_array, as_table}
 use Rattle.toml.specs.View.{table_view}
 use Rattle.cpg_base.specs.Name.{is_name_byte}
 use Rattle.cpg_reader.specs.declared.place.Place.{Place}
 use Rattle.cpg_reader.specs.declared.place.Table.{Table}
 use Rattle.cpg_reader.specs.declared.place.Key.{Key}
-use Rattle.cpg_reader.specs.declared.place.Key.TheVariants.{Faults, Deadline, Node, Slot, Process, Edge, Name, Length, Bytes, Wcet, Parts, Alpha, Chi, Mu, Join, Frozen, Release, From, To, When, Unknown}
+use Rattle.cpg_reader.specs.declared.place.Key.TheVariants.{Faults, Deadline, Node, Slot, Process, Edge, Order, Name, Length, Bytes, Wcet, Parts, Alpha, Chi, Mu, Join, Frozen, Release, From, To, When, Unknown}
 use Rattle.cpg_reader.specs.declared.place.ReadFault.TheVariants.{BadField}
 use Rattle.cpg_reader.specs.declared.row.Row.{Row as RowOfCode}
 use Rattle.cpg_reader.specs.Reading.{Reading, pure, done, ◌>>=◌}
@@ -20,6 +20,7 @@ text_of Node = codes "node"
 text_of Slot = codes "slot"
 text_of Process = codes "process"
 text_of Edge = codes "edge"
+text_of Order = codes "order"
 text_of Name = codes "name"
 text_of Length = codes "length"
 text_of Bytes = codes "bytes"
@@ -93,14 +94,16 @@ name_if text = if is_name text then Some text else None
 abbrev pub as_name : Data → Option (List ℕ)
 as_name d = option_and_then name_if (as_str d)
 
--- an array of tables
-abbrev pub tables_in : Items → Option (List Members)
-tables_in no_items = Some []
-tables_in (item (table ms) ds) = option_map (λ rest. ms ∷ rest) (tables_in ds)
-tables_in (item _ ds) = None
+-- an array of elements that all are what they have to be
+abbrev pub items_as : {T : Type 0} → (Data → Option T) → Items → Option (List T)
+items_as as_type no_items = Some []
+items_as as_type (item d ds) = option_and_then (λ x. option_map (λ rest. x ∷ rest) (items_as as_type ds)) (as_type d)
 
 abbrev pub as_tables : Data → Option (List Members)
-as_tables d = option_and_then tables_in (as_array d)
+as_tables d = option_and_then (items_as as_table) (as_array d)
+
+abbrev pub as_names : Data → Option (List (List ℕ))
+as_names d = option_and_then (items_as as_name) (as_array d)
 
 -- whether each key of a table is one of these
 abbrev pub are_listed : List Key → Members → Bool

@@ -1,10 +1,10 @@
 -- What a document says, as far as its keys and types go: the refusals of a bad field.
-use Rattle.std.specs.Prelude.{ℕ, ℤ, pos, false, List, [], ◌∷◌, map}
+use Rattle.std.specs.Prelude.{ℕ, ℤ, pos, false, List, [], ◌∷◌, Option, option_map, map}
 use Rattle.toml.specs.Data.{Members, as_integer, as_bool}
 use Rattle.toml.specs.View.{table_view}
 use Rattle.cpg_reader.specs.declared.place.Table.{Table}
 use Rattle.cpg_reader.specs.declared.place.Table.TheVariants as tables
-use Rattle.cpg_reader.specs.declared.place.Key.TheVariants.{Faults, Deadline, Node, Slot, Process, Edge, Name, Length, Bytes, Wcet, Parts, Alpha, Chi, Mu, Join, Frozen, Release, From, To, When}
+use Rattle.cpg_reader.specs.declared.place.Key.TheVariants.{Faults, Deadline, Node, Slot, Process, Edge, Order, Name, Length, Bytes, Wcet, Parts, Alpha, Chi, Mu, Join, Frozen, Release, From, To, When}
 use Rattle.cpg_reader.specs.declared.shape.RawSlot.{RawSlot}
 use Rattle.cpg_reader.specs.declared.shape.RawProcess.{RawProcess}
 use Rattle.cpg_reader.specs.declared.shape.RawEdge.{RawEdge}
@@ -13,7 +13,7 @@ use Rattle.cpg_reader.specs.declared.shape.RawWork.{RawWork}
 use Rattle.cpg_reader.specs.declared.shape.RawLink.{RawLink}
 use Rattle.cpg_reader.specs.declared.shape.Tops.{Tops as TopsOfCode}
 use Rattle.cpg_reader.specs.Reading.{Reading, pure, ◌>>=◌, ◌>>◌, each}
-use Rattle.cpg_reader.specs.Rows.{Row, name_at, integer_at, integer_or, flag_or, optional, tables_at, only}
+use Rattle.cpg_reader.specs.Rows.{Row, name_at, integer_at, integer_or, flag_or, optional, as_names, tables_at, only}
 
 unfoldable pub node_at : Row → Reading (List ℕ)
 node_at row = do
@@ -123,6 +123,7 @@ pub record RawGraph : Type 0 where
   pub slots : List RawSlot
   pub processes : List RawProcess
   pub edges : List RawEdge
+  pub order : Option (List (List ℕ))
 
 abbrev pub raw_view : RawProblem → RawGraph
 raw_view p = record {
@@ -132,6 +133,7 @@ raw_view p = record {
   slots = p.slots.items;
   processes = p.processes.items;
   edges = p.edges.items;
+  order = option_map (λ names. names.items) p.order;
 }
 
 -- the whole document: first the keys of the top, then each element of each list
@@ -144,14 +146,15 @@ raw_graph_at ms = do
   slot_tables ← tables_at top Slot
   process_tables ← tables_at top Process
   edge_tables ← tables_at top Edge
-  only (Faults ∷ Deadline ∷ Node ∷ Slot ∷ Process ∷ Edge ∷ []) top
+  order ← optional as_names top Order
+  only (Faults ∷ Deadline ∷ Node ∷ Slot ∷ Process ∷ Edge ∷ Order ∷ []) top
   nodes ← rows_at tables.Node node_at node_tables
   slots ← rows_at tables.Slot slot_at slot_tables
   processes ← rows_at tables.Process process_at process_tables
   edges ← rows_at tables.Edge edge_at edge_tables
-  pure (record { faults = faults; deadline = deadline; nodes = nodes; slots = slots; processes = processes; edges = edges })
+  pure (record { faults = faults; deadline = deadline; nodes = nodes; slots = slots; processes = processes; edges = edges; order = order })
 
--- what stands at the keys of the top: two numbers, and the tables of each list
+-- what stands at the keys of the top: two numbers, the tables of each list, and the names of the order
 pub record Tops : Type 0 where
   pub faults : ℤ
   pub deadline : ℤ
@@ -159,27 +162,29 @@ pub record Tops : Type 0 where
   pub slots : List Members
   pub processes : List Members
   pub edges : List Members
+  pub order : Option (List (List ℕ))
 
 abbrev pub tops_view : TopsOfCode → Tops
 tops_view t = record {
   faults = t.faults;
   deadline = t.deadline;
   nodes = map (λ m. table_view m.now) t.nodes.items;
-  slots = map (λ m.
-      table_view m.now) t.slots.items;
+  slots = map (λ m. table_view m.now) t.slots.items;
   processes = map (λ m. table_view m.now) t.processes.items;
   edges = map (λ m. table_view m.now) t.edges.items;
+  order = option_map (λ names. names.items) t.order;
 }
 
--- the tables of each list, and the end of the top
+-- the tables of each list, the names of the order, and the end of the top
 unfoldable pub lists_at : Row → ℤ → ℤ → Reading Tops
 lists_at top faults deadline = do
   node_tables ← tables_at top Node
   slot_tables ← tables_at top Slot
   process_tables ← tables_at top Process
   edge_tables ← tables_at top Edge
-  only (Faults ∷ Deadline ∷ Node ∷ Slot ∷ Process ∷ Edge ∷ []) top
-  pure (record { faults = faults; deadline = deadline; nodes = node_tables; slots = slot_tables; processes = process_tables; edges = edge_tables })
+  order ← optional as_names top Order
+  only (Faults ∷ Deadline ∷ Node ∷ Slot ∷ Process ∷ Edge ∷ Order ∷ []) top
+  pure (record { faults = faults; deadline = deadline; nodes = node_tables; slots = slot_tables; processes = process_tables; edges = edge_tables; order = order })
 
 -- all keys of the top
 unfoldable pub tops_at : Row → Reading Tops
@@ -195,4 +200,4 @@ elements_at t = do
   slots ← rows_at tables.Slot slot_at t.slots
   processes ← rows_at tables.Process process_at t.processes
   edges ← rows_at tables.Edge edge_at t.edges
-  pure (record { faults = t.faults; deadline = t.deadline; nodes = nodes; slots = slots; processes = processes; edges = edges })
+  pure (record { faults = t.faults; deadline = t.deadline; nodes = nodes; slots = slots; processes = processes; edges = edges; order = t.order })

@@ -58,10 +58,19 @@ edge_members processes e =
     member (codes "bytes") (number e.size) (member (codes "from") (string (get_or (map (λ p. p.name) processes) e.from []))
     (member (codes "frozen") (boolean e.frozen) (member (codes "to") (string (get_or (map (λ p. p.name) processes) e.to [])) (when_members e.when))))
 
+-- the processes and the slots
+abbrev pub last_members : Graph → Members
+last_members g = member (codes "process") (tables (process_members g.nodes) g.processes) (member (codes "slot") (tables (slot_members g.nodes) g.slots) no_members)
+
+-- the order to compile under, if there is one
+abbrev pub with_order : List Process → Option (List ℕ) → Members → Members
+with_order processes None ms = ms
+with_order processes (Some order) ms =
+    member (codes "order") (array (items_of (map (λ p. string (get_or (map (λ q. q.name) processes) p [])) order))) ms
+
 -- the end of the document, after its numbers and its edges
 abbrev pub list_members : Graph → Members
-list_members g = member (codes "node") (tables node_members g.nodes)
-    (member (codes "process") (tables (process_members g.nodes) g.processes) (member (codes "slot") (tables (slot_members g.nodes) g.slots) no_members))
+list_members g = member (codes "node") (tables node_members g.nodes) (with_order g.processes g.order (last_members g))
 
 -- the whole document
 abbrev pub graph_members : Graph → Members

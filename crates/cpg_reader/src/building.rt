@@ -4,12 +4,12 @@ ghost use Rattle.cpg_reader.specs.Reading.{Gives, each};
 ghost use Rattle.cpg_reader.specs.Shape.{raw_view};
 ghost use Rattle.cpg_reader.specs.Ranges.{limits};
 ghost use Rattle.cpg_base.specs.Natural.{natural};
-ghost use Rattle.cpg_reader.specs.Names.{slot_of, process_of, edge_of, slot_names, process_names, apart, graph_with, resolved, named, graph_of};
+ghost use Rattle.cpg_reader.specs.Names.{slot_of, process_of, edge_of, ordered, slot_names, process_names, apart, graph_with, order_apart, order_of, resolved, named, graph_of};
 
 use crate::names::Names;
 use crate::place::{Key, Place, ReadFault, Table};
 use crate::shape::{RawEdge, RawProblem, RawProcess, RawSlot};
-use cpg_base::{Edge, Problem, Process, Slot};
+use cpg_base::{Edge, Name, Problem, Process, Slot};
 use std::alloc::Global;
 
 fn natural(number: i64) -> u64
@@ -23,6 +23,19 @@ fn small(number: i64) -> u32
     ensures { result ≡ natural number }
 {
     natural(number) as u32
+}
+
+/// The numbers of the names of an order.
+fn numbers_of(alloc: Global, order: &[Name], processes: &Names<'_>) -> Result<Vec<u32>, ReadFault>
+    requires few { length processes.now ≤ 128 }
+    ensures { Gives (λ v. v.items) result (each (ordered processes.now) 0 order.now) }
+{
+    let place = Place::of_name(Table::Top, 0, Key::Order);
+    let mut numbers = Vec::with_capacity(alloc, order.len())?;
+    for name in order {
+        numbers.push(processes.number(place, name.as_str())?)?;
+    }
+    Ok(numbers)
 }
 
 fn optional_natural(number: Option<i64>) -> Option<u64>
@@ -147,12 +160,30 @@ fn edges_of(alloc: Global, raw: &RawProblem, processes: &Names<'_>) -> Result<Ve
     Ok(edges)
 }
 
+/// The numbers of the processes of the order, where there is one.
+#[tactic(auto, unfolding(crate::specs::Names::order_of))]
+fn order_of(
+    alloc: Global,
+    raw: &RawProblem,
+    processes: &Names<'_>,
+) -> Result<Option<Vec<u32>>, ReadFault>
+    requires limits { limits (raw_view raw.now) ≡ Ok tt }
+    requires processes { processes.now ≡ process_names (raw_view raw.now).processes }
+    ensures { Gives (λ order. option_map (λ v. v.items) order) result (order_of processes.now (raw_view raw.now).order) }
+{
+    match &raw.order {
+        Some(names) => Ok(Some(numbers_of(alloc, names.as_slice(), processes)?)),
+        None => Ok(None),
+    }
+}
+
 /// The parts of a document that hold numbers in place of names.
 #[derive(Drop)]
 struct Parts {
     slots: Vec<Slot>,
     processes: Vec<Process>,
     edges: Vec<Edge>,
+    order: Option<Vec<u32>>,
 }
 
 #[tactic(auto, unfolding(crate::specs::Names::resolved))]
@@ -165,15 +196,17 @@ fn resolved(
     requires limits { limits (raw_view raw.now) ≡ Ok tt }
     requires nodes { nodes.now ≡ (raw_view raw.now).nodes }
     requires names { names.now ≡ process_names (raw_view raw.now).processes }
-    ensures { Gives (λ p. graph_with (raw_view raw.now) p.slots.items p.processes.items p.edges.items) result (resolved (raw_view raw.now)) }
+    ensures { Gives (λ p. graph_with (raw_view raw.now) p.slots.items p.processes.items p.edges.items (option_map (λ v. v.items) p.order)) result (resolved (raw_view raw.now)) }
 {
     let slots = slots_of(alloc, raw, nodes)?;
     let processes = processes_of(alloc, raw, nodes)?;
     let edges = edges_of(alloc, raw, names)?;
+    let order = order_of(alloc, raw, names)?;
     Ok(Parts {
         slots,
         processes,
         edges,
+        order,
     })
 }
 
@@ -198,21 +231,33 @@ fn process_names<'a>(alloc: Global, raw: &'a RawProblem) -> Result<Names<'a>, Re
     Names::of(alloc, Table::Process, Key::Name, raw.processes.as_slice())
 }
 
+/// Refuses an order in which a name stands twice.
+#[tactic(auto, unfolding(crate::specs::Names::order_apart))]
+fn order_differs(alloc: Global, raw: &RawProblem) -> Result<(), ReadFault>
+    ensures { Gives (λ _. tt) result (order_apart (raw_view raw.now).order) }
+{
+    if let Some(order) = &raw.order {
+        Names::of(alloc, Table::Top, Key::Order, order.as_slice())?;
+    }
+    Ok(())
+}
+
 /// The parts of a document whose nodes have these names.
 #[tactic(auto, unfolding(crate::specs::Names::named))]
 fn parts_on(alloc: Global, raw: &RawProblem, nodes: &Names<'_>) -> Result<Parts, ReadFault>
     requires limits { limits (raw_view raw.now) ≡ Ok tt }
     requires nodes { nodes.now ≡ (raw_view raw.now).nodes }
-    ensures { Gives (λ p. graph_with (raw_view raw.now) p.slots.items p.processes.items p.edges.items) result (named (raw_view raw.now)) }
+    ensures { Gives (λ p. graph_with (raw_view raw.now) p.slots.items p.processes.items p.edges.items (option_map (λ v. v.items) p.order)) result (named (raw_view raw.now)) }
 {
     let names = process_names(alloc, raw)?;
+    order_differs(alloc, raw)?;
     resolved(alloc, raw, nodes, &names)
 }
 
 #[tactic(auto, unfolding(crate::specs::Names::graph_of, crate::specs::Names::named))]
 fn parts_of(alloc: Global, raw: &RawProblem) -> Result<Parts, ReadFault>
     requires { limits (raw_view raw.now) ≡ Ok tt }
-    ensures { Gives (λ p. graph_with (raw_view raw.now) p.slots.items p.processes.items p.edges.items) result (graph_of (raw_view raw.now)) }
+    ensures { Gives (λ p. graph_with (raw_view raw.now) p.slots.items p.processes.items p.edges.items (option_map (λ v. v.items) p.order)) result (graph_of (raw_view raw.now)) }
 {
     let nodes = node_names(alloc, raw)?;
     slots_differ(alloc, raw)?;
@@ -234,12 +279,13 @@ pub fn problem_of(alloc: Global, raw: RawProblem) -> Result<Problem, ReadFault>
     let parts = parts_of(alloc, &raw)?;
     let faults = faults_of(&raw);
     let deadline = natural(raw.deadline);
-    Ok(Problem::of(
+    let problem = Problem::of(
         faults,
         deadline,
         raw.nodes,
         parts.slots,
         parts.processes,
         parts.edges,
-    ))
+    );
+    Ok(problem.with_order(parts.order))
 }

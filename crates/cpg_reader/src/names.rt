@@ -71,11 +71,7 @@ impl<'a> Names<'a> {
         let mut names = IndexSet::new(alloc);
         for (index, element) in elements.iter().enumerate() {
             if !names.insert(element.name())? {
-                return Err(ReadFault::DoubleName(Place {
-                    table,
-                    index: index as u64,
-                    key,
-                }));
+                return Err(ReadFault::DoubleName(Place::of_name(table, index as u64, key)));
             }
         }
         Ok(Names { names })

@@ -2,6 +2,7 @@
 
 ghost use Rattle.std.specs.Prelude.{◌≡◌};
 ghost use Rattle.cpg_reader.specs.Rows.{text_of};
+ghost use Rattle.cpg_reader.specs.Names.{name_place};
 ghost use Rattle.cpg_reader.specs.declared.place.ReadFault.TheVariants.{OutOfMemory as MemoryFault};
 
 use std::alloc::{AllocError, AllocFailed};
@@ -25,6 +26,7 @@ pub enum Key {
     Slot,
     Process,
     Edge,
+    Order,
     Name,
     Length,
     Bytes,
@@ -50,6 +52,19 @@ pub struct Place {
     pub key: Key,
 }
 
+impl Place {
+    /// The place of a name in a list: the key of the element that has it, or the key of the top at which the list stands.
+    pub fn of_name(table: Table, index: u64, key: Key) -> Place
+        ensures { result ≡ name_place table index key }
+    {
+        let index = match table {
+            Table::Top => 0,
+            _ => index,
+        };
+        Place { table, index, key }
+    }
+}
+
 /// What is beyond its limit: how many there are of something, or a number at a place. A condition is a process with a
 /// conditional edge.
 #[derive(Clone, Copy, Debug, PartialEq, Eq)]
@@ -70,7 +85,7 @@ pub enum ReadFault {
     /// A required key is missing, a value has another type, a text isn't a name, or a key isn't of this table. The first
     /// place counts by table, then by element, then by the key's place in the format, where an unknown key comes last.
     BadField(Place),
-    /// A name of a node or a process, or the node of a slot, stands earlier in its kind.
+    /// A name of a node or a process, or the node of a slot, stands earlier in its kind, or a name stands twice in the order.
     DoubleName(Place),
     /// A name of a node or a process names nothing.
     UnknownName(Place),
@@ -116,6 +131,7 @@ impl Key {
             Key::Slot => "slot",
             Key::Process => "process",
             Key::Edge => "edge",
+            Key::Order => "order",
             Key::Name => "name",
             Key::Length => "length",
             Key::Bytes => "bytes",

@@ -1,10 +1,10 @@
 //! A table of the document, and readers of its fields.
 ghost use Rattle.std.specs.Prelude.{◌≡◌, map, option_map, bytes_eq, false, IfOk};
 ghost use Rattle.std.specs.List.{list_any};
-ghost use Rattle.toml.specs.Data.{as_integer, as_bool};
+ghost use Rattle.toml.specs.Data.{as_integer, as_bool, as_table};
 ghost use Rattle.toml.specs.View.{view, array_view, table_view};
 ghost use Rattle.cpg_reader.specs.Reading.{Gives};
-ghost use Rattle.cpg_reader.specs.Rows.{row_view, place_in, value_at, as_name, as_tables, tables_in, are_listed, optional, name_at, integer_at, integer_or, flag_or, tables_at, only, text_of};
+ghost use Rattle.cpg_reader.specs.Rows.{row_view, place_in, value_at, as_name, as_tables, items_as, as_names, are_listed, optional, name_at, integer_at, integer_or, flag_or, tables_at, only, text_of};
 
 use crate::place::{Key, Place, ReadFault, Table};
 use cpg_base::{Name, OutOfMemory};
@@ -122,6 +122,20 @@ impl<'a> Row<'a> {
         }
     }
 
+    /// An array of names, where anything stands at the key.
+    #[tactic(auto, unfolding(crate::specs::Rows::optional))]
+    pub fn optional_names(&self, alloc: Global, key: Key) -> Result<Option<Vec<Name>>, ReadFault>
+        ensures { Gives (λ names. option_map (λ v. v.items) names) result (optional as_names (row_view self.now) key) }
+    {
+        let Some(value) = self.value(key) else {
+            return Ok(None);
+        };
+        match as_names(alloc, value)? {
+            Some(names) => Ok(Some(names)),
+            None => Err(self.bad(key)),
+        }
+    }
+
     /// Refuses a key that isn't one of these.
     #[tactic(auto, unfolding(crate::specs::Rows::only))]
     pub fn only(&self, keys: &[Key]) -> Result<(), ReadFault>
@@ -177,7 +191,7 @@ fn tables_in<'a>(
     alloc: Global,
     array: &'a Array,
 ) -> Result<Option<Vec<&'a toml::Table>>, AllocError>
-    ensures { IfOk result (λ tables. option_map (λ v. map (λ t. table_view t.now) v.items) tables ≡ tables_in (array_view array.now)) }
+    ensures { IfOk result (λ tables. option_map (λ v. map (λ t. table_view t.now) v.items) tables ≡ items_as as_table (array_view array.now)) }
 {
     let mut tables = Vec::with_capacity(alloc, array.len())?;
     for element in array.iter() {
@@ -187,4 +201,27 @@ fn tables_in<'a>(
         tables.push(table)?;
     }
     Ok(Some(tables))
+}
+
+fn as_names(alloc: Global, value: &Value) -> Result<Option<Vec<Name>>, OutOfMemory>
+    ensures { IfOk result (λ names. option_map (λ v. v.items) names ≡ as_names (view value.now)) }
+{
+    match value.as_array() {
+        Some(array) => names_in(alloc, array),
+        None => Ok(None),
+    }
+}
+
+/// The elements of an array, and `None` where one isn't a name.
+fn names_in(alloc: Global, array: &Array) -> Result<Option<Vec<Name>>, OutOfMemory>
+    ensures { IfOk result (λ names. option_map (λ v. v.items) names ≡ items_as as_name (array_view array.now)) }
+{
+    let mut names = Vec::with_capacity(alloc, array.len())?;
+    for element in array.iter() {
+        let Some(name) = as_name(alloc, element)? else {
+            return Ok(None);
+        };
+        names.push(name)?;
+    }
+    Ok(Some(names))
 }

@@ -61,6 +61,7 @@ pub struct RawProblem {
     pub slots: Vec<RawSlot>,
     pub processes: Vec<RawProcess>,
     pub edges: Vec<RawEdge>,
+    pub order: Option<Vec<Name>>,
 }
 
 impl Element for Name {
@@ -231,7 +232,7 @@ fn rows<T: Element + Drop>(
     Ok(rows)
 }
 
-/// The keys of the top: the numbers, and the tables of each list.
+/// The keys of the top: the numbers, the tables of each list, and the names of the order.
 #[derive(Drop)]
 struct Tops<'a> {
     faults: i64,
@@ -240,9 +241,10 @@ struct Tops<'a> {
     slots: Vec<&'a toml::Table>,
     processes: Vec<&'a toml::Table>,
     edges: Vec<&'a toml::Table>,
+    order: Option<Vec<Name>>,
 }
 
-/// The tables of each list of the top, where it has no other key.
+/// The tables of each list of the top and the names of the order, where it has no other key.
 #[tactic(auto, unfolding(crate::specs::Shape::lists_at))]
 fn read_lists<'a>(
     alloc: Global,
@@ -256,6 +258,7 @@ fn read_lists<'a>(
     let slots = top.tables(alloc, Key::Slot)?;
     let processes = top.tables(alloc, Key::Process)?;
     let edges = top.tables(alloc, Key::Edge)?;
+    let order = top.optional_names(alloc, Key::Order)?;
     top.only(&[
         Key::Faults,
         Key::Deadline,
@@ -263,6 +266,7 @@ fn read_lists<'a>(
         Key::Slot,
         Key::Process,
         Key::Edge,
+        Key::Order,
     ])?;
     Ok(Tops {
         faults,
@@ -271,6 +275,7 @@ fn read_lists<'a>(
         slots,
         processes,
         edges,
+        order,
     })
 }
 
@@ -286,8 +291,8 @@ fn read_top<'a>(alloc: Global, top: &Row<'a>) -> Result<Tops<'a>, ReadFault>
 
 /// The elements of each list, one list after the other.
 #[tactic(auto, unfolding(crate::specs::Shape::elements_at))]
-fn read_elements(alloc: Global, tops: &Tops<'_>) -> Result<RawProblem, ReadFault>
-    ensures { Gives raw_view result (elements_at (tops_view tops.now)) }
+fn read_elements(alloc: Global, tops: Tops<'_>) -> Result<RawProblem, ReadFault>
+    ensures { Gives raw_view result (elements_at (tops_view tops.entry)) }
 {
     let nodes = rows(alloc, Table::Node, tops.nodes.as_slice())?;
     let slots = rows(alloc, Table::Slot, tops.slots.as_slice())?;
@@ -300,6 +305,7 @@ fn read_elements(alloc: Global, tops: &Tops<'_>) -> Result<RawProblem, ReadFault
         slots,
         processes,
         edges,
+        order: tops.order,
     })
 }
 
@@ -313,5 +319,5 @@ pub fn raw_problem(alloc: Global, members: &toml::Table) -> Result<RawProblem, R
         members,
     };
     let tops = read_top(alloc, &top)?;
-    read_elements(alloc, &tops)
+    read_elements(alloc, tops)
 }

@@ -1,17 +1,17 @@
 //! Writing of a graph file.
-ghost use Rattle.std.specs.Prelude.{◌≡◌, IfOk, Ok, All, map, string_bytes};
-ghost use Rattle.toml.specs.Data.{table};
+ghost use Rattle.std.specs.Prelude.{◌≡◌, ◌<◌, IfOk, Ok, All, map, length, get_or, [], string_bytes};
+ghost use Rattle.toml.specs.Data.{string, table};
 ghost use Rattle.toml.specs.View.{view, table_view};
 ghost use Rattle.cpg_base.specs.Name.{IsName};
 ghost use Rattle.cpg_reader.specs.Document.{problem_of};
-ghost use Rattle.cpg_reader.specs.WrittenTree.{with_member, tables, node_members, slot_members, process_members, edge_members, list_members, graph_members};
+ghost use Rattle.cpg_reader.specs.WrittenTree.{with_member, tables, node_members, slot_members, process_members, edge_members, with_order, last_members, list_members, graph_members};
 
 use crate::written_rows::{edge_table, node_table, process_table, slot_table};
 use crate::written_tables::{push, with_array, with_number};
-use cpg_base::{OutOfMemory, Problem};
+use cpg_base::{OutOfMemory, Problem, Process};
 use std::alloc::Global;
-use toml::Table;
 use toml::value::Array;
+use toml::{Table, Value};
 
 fn node_tables(alloc: Global, problem: &Problem) -> Result<Array, OutOfMemory>
     ensures tables { IfOk result (λ a. map view a.items ≡ map (λ n. table (node_members n)) problem.now.nodes) }
@@ -55,16 +55,52 @@ fn edge_tables(alloc: Global, problem: &Problem) -> Result<Array, OutOfMemory>
     Ok(made)
 }
 
-/// The end of the document: nodes, processes and slots.
-fn lists(alloc: Global, problem: &Problem) -> Result<Table, OutOfMemory>
-    ensures table { IfOk result (λ t. table_view t ≡ list_members problem.now) }
-    ensures nodes { IfOk result (λ _. All IsName problem.now.nodes) }
+/// The processes and the slots.
+fn last_lists(alloc: Global, problem: &Problem) -> Result<Table, OutOfMemory>
+    ensures table { IfOk result (λ t. table_view t ≡ last_members problem.now) }
     ensures processes { IfOk result (λ _. All (λ p. IsName p.name) problem.now.processes) }
 {
     let slots = slot_tables(alloc, problem)?;
     let table = with_array(alloc, Table::new(alloc), "slot", slots)?;
     let processes = process_tables(alloc, problem)?;
-    let table = with_array(alloc, table, "process", processes)?;
+    with_array(alloc, table, "process", processes)
+}
+
+/// The names of the processes of an order.
+fn order_names(alloc: Global, order: &[u32], processes: &[Process]) -> Result<Array, OutOfMemory>
+    requires { All (λ p. p < length processes.now) order.now }
+    ensures { IfOk result (λ a. map view a.items ≡ map (λ p. string (get_or (map (λ q. q.name) processes.now) p [])) order.now) }
+{
+    let mut names = Vec::new(alloc);
+    for process in order {
+        let name = &processes[*process as usize].name;
+        names.push(Value::string(alloc, name.as_str())?)?;
+    }
+    Ok(names)
+}
+
+/// The order to compile under, if there is one, and then the processes and the slots.
+fn order_and_last(alloc: Global, problem: &Problem) -> Result<Table, OutOfMemory>
+    ensures table { IfOk result (λ t. table_view t ≡ with_order problem.now.processes problem.now.order (last_members problem.now)) }
+    ensures processes { IfOk result (λ _. All (λ p. IsName p.name) problem.now.processes) }
+{
+    let table = last_lists(alloc, problem)?;
+    match problem.given_order() {
+        Some(order) => {
+            let names = order_names(alloc, order, problem.processes())?;
+            with_array(alloc, table, "order", names)
+        }
+        None => Ok(table),
+    }
+}
+
+/// The end of the document: nodes, the order, processes and slots.
+fn lists(alloc: Global, problem: &Problem) -> Result<Table, OutOfMemory>
+    ensures table { IfOk result (λ t. table_view t ≡ list_members problem.now) }
+    ensures nodes { IfOk result (λ _. All IsName problem.now.nodes) }
+    ensures processes { IfOk result (λ _. All (λ p. IsName p.name) problem.now.processes) }
+{
+    let table = order_and_last(alloc, problem)?;
     let nodes = node_tables(alloc, problem)?;
     with_array(alloc, table, "node", nodes)
 }

@@ -6,7 +6,7 @@ use Rattle.cpg_codec.specs.declared.fault.PackFault.{PackFault}
 use Rattle.cpg_scenario.specs.declared.fault.ScenarioFault.{ScenarioFault}
 use Rattle.cpg_rules.specs.declared.admission.RuleFault.{RuleFault}
 use Rattle.cpg_hyper.specs.declared.part.HyperFault.{HyperFault}
-use Rattle.cpg_refusal.specs.declared.halt.Refusal.TheVariants.{NotToml, BadField, DoubleName, UnknownName, OverLimit, Cycle, TwoAlternatives, NoSlot, TooBig, BadPack, BadScenario, TooManyTracks, NoHypergraph}
+use Rattle.cpg_refusal.specs.declared.halt.Refusal.TheVariants.{NotToml, BadField, DoubleName, UnknownName, OverLimit, Cycle, TwoAlternatives, NoSlot, TooBig, BadOrder, BadPack, BadScenario, TooManyTracks, NoHypergraph}
 use Rattle.cpg_refusal.specs.declared.halt.Halt.{Halt}
 use Rattle.cpg_refusal.specs.declared.halt.Halt.TheVariants.{Words, Refused, Memory}
 
@@ -41,6 +41,7 @@ halt_of_rules g RuleFault.TooManyTracks = Refused TooManyTracks
 halt_of_rules g (RuleFault.TwoAlternatives p s) = Refused (TwoAlternatives g p s)
 halt_of_rules g (RuleFault.NoSlot node) = Refused (NoSlot g node)
 halt_of_rules g (RuleFault.TooBig e) = Refused (TooBig e)
+halt_of_rules g (RuleFault.BadOrder p) = Refused (BadOrder g p)
 halt_of_rules g RuleFault.OutOfMemory = Memory
 
 -- of parts that have no graph together
@@ -51,4 +52,5 @@ halt_of_parts (HyperFault.Over p) = Refused (NoHypergraph (HyperFault.Over p))
 halt_of_parts HyperFault.Period = Refused (NoHypergraph HyperFault.Period)
 halt_of_parts (HyperFault.Count what) = Refused (NoHypergraph (HyperFault.Count what))
 halt_of_parts (HyperFault.LongName p) = Refused (NoHypergraph (HyperFault.LongName p))
+halt_of_parts (HyperFault.Order p) = Refused (NoHypergraph (HyperFault.Order p))
 halt_of_parts HyperFault.OutOfMemory = Memory

@@ -23,7 +23,7 @@ use Rattle.cpg_label.specs.Labels.{labels_of}
 use Rattle.cpg_label.specs.ItemText.{done_text}
 use Rattle.cpg_table.specs.declared.fault.Fault.{Fault}
 use Rattle.cpg_refusal.specs.declared.halt.Refusal.{Refusal}
-use Rattle.cpg_refusal.specs.declared.halt.Refusal.TheVariants.{NotToml, BadField, DoubleName, UnknownName, OverLimit, Cycle, TwoAlternatives, NoSlot, TooBig, BadPack, BadScenario, BadLog, LongGraph, LongPack, LongScenario, LongLog, OtherGraph, TooManyTracks, UnknownNode, NoHypergraph}
+use Rattle.cpg_refusal.specs.declared.halt.Refusal.TheVariants.{NotToml, BadField, DoubleName, UnknownName, OverLimit, Cycle, TwoAlternatives, NoSlot, TooBig, BadOrder, BadPack, BadScenario, BadLog, LongGraph, LongPack, LongScenario, LongLog, OtherGraph, TooManyTracks, UnknownNode, NoHypergraph}
 use Rattle.cpg_refusal.specs.declared.halt.Halt.{Halt}
 use Rattle.cpg_refusal.specs.declared.halt.Halt.TheVariants.{Words, Read, Refused, Late, TooWide, Unsafe, Memory}
 
@@ -96,6 +96,7 @@ parts_text (HyperFault.Over p) = codes "over " ++ decimal p
 parts_text HyperFault.Period = codes "period"
 parts_text (HyperFault.Count what) = what_text what
 parts_text (HyperFault.LongName p) = codes "name " ++ decimal p
+parts_text (HyperFault.Order p) = codes "order " ++ decimal p
 parts_text HyperFault.OutOfMemory = codes "memory"
 
 -- a refusal: its number, its kind, and where it is
@@ -120,6 +121,7 @@ refusal_text TooManyTracks = codes "18 tracks"
 refusal_text UnknownNode = codes "19 node"
 refusal_text (NoHypergraph fault) = codes "22 hyper " ++ parts_text fault
 refusal_text (BadLog line) = codes "23 log " ++ decimal line
+refusal_text (BadOrder g p) = codes "24 order " ++ name_of g p
 
 abbrev pub refused_text : Refusal → List ℕ
 refused_text refusal = codes "refused " ++ refusal_text refusal

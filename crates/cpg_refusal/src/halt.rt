@@ -51,6 +51,14 @@ pub enum Refusal {
     },
     /// A message has a size above its sender's slot: the least such edge.
     TooBig(u32),
+    /// The order that the graph gives isn't topological.
+    BadOrder {
+        /// The graph.
+        graph: Problem,
+        /// The least process that is lacking in it, or if none is lacking, the first in it that stands before the source of
+        /// one of its inputs.
+        process: u32,
+    },
     /// The bytes are no pack. The number is the length of the longest prefix of them that is a prefix of some pack.
     BadPack(u64),
     /// The bytes are no scenario file of the graph.
@@ -183,6 +191,7 @@ impl Halt {
             }
             RuleFault::NoSlot(node) => Halt::Refused(Refusal::NoSlot { graph, node }),
             RuleFault::TooBig(edge) => Halt::Refused(Refusal::TooBig(edge)),
+            RuleFault::BadOrder(process) => Halt::Refused(Refusal::BadOrder { graph, process }),
             RuleFault::OutOfMemory => Halt::Memory,
         }
     }

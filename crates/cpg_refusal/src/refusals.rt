@@ -109,6 +109,13 @@ fn write_slot(out: &mut String, problem: &Problem, node: u32) -> Result<(), Allo
     write!(out, "8 slot {name}")
 }
 
+fn write_order(out: &mut String, problem: &Problem, process: u32) -> Result<(), AllocError>
+    ensures { OnOk result (string_bytes out.new ≡ string_bytes out.old ++ (codes "24 order " ++ name_of problem.now process)) }
+{
+    let name = name_of(problem, process);
+    write!(out, "24 order {name}")
+}
+
 fn cause_text(cause: Cause) -> &'static str
     ensures { result.now ≡ cause_text cause }
 {
@@ -162,6 +169,7 @@ fn write_parts(out: &mut String, fault: HyperFault) -> Result<(), AllocError>
         HyperFault::Period => out.push_str("period"),
         HyperFault::Count(what) => write_what(out, what),
         HyperFault::LongName(part) => write!(out, "name {part}"),
+        HyperFault::Order(part) => write!(out, "order {part}"),
         HyperFault::OutOfMemory => out.push_str("memory"),
     }
 }
@@ -202,6 +210,7 @@ fn write_refusal(out: &mut String, refusal: &Refusal) -> Result<(), AllocError>
         Refusal::UnknownNode => out.push_str("19 node"),
         Refusal::NoHypergraph(fault) => write_hyper(out, *fault),
         Refusal::BadLog(line) => write!(out, "23 log {line}"),
+        Refusal::BadOrder { graph, process } => write_order(out, graph, *process),
     }
 }
 

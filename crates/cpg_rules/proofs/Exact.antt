@@ -1,6 +1,6 @@
 -- A graph that keeps all rules shows no fault but want of memory.
 use Rattle.std.proofs.Common.{ℕ, ◌<◌, ◌≤◌, ◌≡◌, Bool, true, false, not, ◌&&◌, ◌==◌, List, length, filter, refl, ap, ◌∙◌, subst, arith, inl, inr, eqb-true, ltb-true}
-use Rattle.std.specs.Prelude.{nat_lt}
+use Rattle.std.specs.Prelude.{nat_lt, IfSome}
 use Rattle.std.proofs.lemmas.Bool.{and_parts, or_cases, both_ways}
 use Rattle.cpg_base.specs.Numbers.{numbers_below}
 use Rattle.cpg_base.specs.Graph.{Graph, edge_count, condition_count, inputs, source, node_of, process_of, producer_of_item, is_message, is_sent_item, message_item, broadcast_item}
@@ -8,13 +8,15 @@ use Rattle.cpg_base.specs.Activity.{live}
 use Rattle.cpg_base.specs.WellFormed.{HasSenderSlots}
 use Rattle.cpg_base.proofs.Items.{item_at-message, item_at-broadcast}
 use Rattle.cpg_base.proofs.Lists.{list_any_parts, numbers-Contains}
+use Rattle.cpg_order.specs.Urgency.{IsTopological}
 use Rattle.cpg_order.proofs.Cycles.{no_cycle}
 use Rattle.cpg_rules.specs.Guards.{Guards}
 use Rattle.cpg_rules.specs.declared.admission.RuleFault.{RuleFault}
-use Rattle.cpg_rules.specs.declared.admission.RuleFault.TheVariants.{Cycle, TooManyTracks, TwoAlternatives, NoSlot, TooBig, OutOfMemory}
+use Rattle.cpg_rules.specs.declared.admission.RuleFault.TheVariants.{Cycle, TooManyTracks, TwoAlternatives, NoSlot, TooBig, BadOrder, OutOfMemory}
 use Rattle.cpg_rules.specs.Rules.{is_message_of, sends_message, decides, is_sender, has_slot, lacks_slot}
 use Rattle.cpg_rules.specs.Admission.{IsAdmitted}
 use Rattle.cpg_rules.specs.Faults.{ShowsFault}
+use Rattle.cpg_rules.proofs.GivenOrders.{none_bad}
 
 module _ (g : Graph) (senders : HasSenderSlots g) (node : ℕ) where
   slot_of_message : (e : ℕ) → e < edge_count g → is_message g e ≡ true → node_of g (source g e) ≡ node → has_slot g node ≡ true
@@ -59,4 +61,7 @@ no_fault g order trees is (TwoAlternatives p s) shows =
     absurd (two_live (length (filter (live g s.values) (inputs g p))) (is.joins p s.values a.within a.join a.least.lawful.values) a.least.holds)
 no_fault g order trees is (NoSlot node) shows = absurd (no_lack g is.slots node shows.2.lacks)
 no_fault g order trees is (TooBig e) shows = absurd (both_ways _ (is.sizes e shows.2.within) shows.2.above)
+no_fault g order trees is (BadOrder p) shows =
+    let bad = shows.2 in
+    absurd (none_bad g bad.order (subst (λ o. IfSome o (IsTopological g)) bad.given is.given) p bad.bad)
 no_fault g order trees is OutOfMemory shows = refl

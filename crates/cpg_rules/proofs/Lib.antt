@@ -1,4 +1,5 @@
 pub mod Senders
+pub mod GivenOrders
 pub mod Exact
 pub mod Collect
 pub mod Inputs

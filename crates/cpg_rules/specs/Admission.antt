@@ -7,6 +7,7 @@ use Rattle.cpg_order.specs.Urgency.{IsUrgencyOrder, IsTopological}
 use Rattle.cpg_order.specs.Track.{track_count, most_tracks}
 use Rattle.cpg_rules.specs.Guards.{Guards, AreGuardsOf}
 use Rattle.cpg_rules.specs.Rules.{AllFit}
+use Rattle.cpg_rules.specs.Given.{GivesTopological}
 
 -- a graph, an order of its processes and guards
 pub record Admission : Type 0 where
@@ -14,7 +15,7 @@ pub record Admission : Type 0 where
   pub order : List ℕ
   pub guards : Guards
 
--- the graph keeps all rules, the order is its urgency order, and the guards are theirs
+-- the graph keeps all rules, the order that it gives among them, the order is its urgency order, and the guards are theirs
 pub record IsAdmitted (g : Graph) (order : List ℕ) (trees : Guards) : Type 0 where
   pub limits : IsWithinLimits g
   pub well_formed : WellFormed g
@@ -25,3 +26,4 @@ pub record IsAdmitted (g : Graph) (order : List ℕ) (trees : Guards) : Type 0 w
   pub joins : HasSingleJoins g
   pub slots : HasSenderSlots g
   pub sizes : AllFit g
+  pub given : GivesTopological g

@@ -8,8 +8,9 @@ use Rattle.cpg_order.specs.Cycle.{IsCycle}
 use Rattle.cpg_rules.specs.Alternatives.{AreAlternatives}
 use Rattle.cpg_rules.specs.Guards.{Guards}
 use Rattle.cpg_rules.specs.declared.admission.RuleFault.{RuleFault}
-use Rattle.cpg_rules.specs.declared.admission.RuleFault.TheVariants.{Cycle, TooManyTracks, TwoAlternatives, NoSlot, TooBig, OutOfMemory}
-use Rattle.cpg_rules.specs.Rules.{LacksSlot, IsAboveSlot}
+use Rattle.cpg_rules.specs.declared.admission.RuleFault.TheVariants.{Cycle, TooManyTracks, TwoAlternatives, NoSlot, TooBig, BadOrder, OutOfMemory}
+use Rattle.cpg_rules.specs.Rules.{AllFit, LacksSlot, IsAboveSlot}
+use Rattle.cpg_rules.specs.Given.{IsBadOrder}
 use Rattle.cpg_rules.specs.Admission.{IsAdmitted}
 
 -- the graph has no cycle: this is its urgency order
@@ -32,6 +33,11 @@ pub record HasSlots (g : Graph) (order : List ℕ) : Type 0 where
   pub inputs : HasFewInputs g order
   pub slots : HasSenderSlots g
 
+-- and no message is above its slot
+pub record HasSizes (g : Graph) (order : List ℕ) : Type 0 where
+  pub slots : HasSlots g order
+  pub sizes : AllFit g
+
 -- what a refusal shows
 abbrev pub ShowsFault : Graph → RuleFault → Type 0
 ShowsFault g (Cycle walk) = IsCycle g walk
@@ -39,6 +45,7 @@ ShowsFault g TooManyTracks = (order : List ℕ) × IsOrdered g order × (most_tr
 ShowsFault g (TwoAlternatives p least) = (order : List ℕ) × HasFewTracks g order × AreAlternatives g order p least
 ShowsFault g (NoSlot node) = (order : List ℕ) × HasFewInputs g order × LacksSlot g node
 ShowsFault g (TooBig e) = (order : List ℕ) × HasSlots g order × IsAboveSlot g e
+ShowsFault g (BadOrder p) = (order : List ℕ) × HasSizes g order × IsBadOrder g p
 ShowsFault g OutOfMemory = ⊤
 
 -- an admitted graph shows no fault but want of memory, so `admit` refuses exactly the others

@@ -1,4 +1,5 @@
 pub mod Rules
+pub mod Given
 pub mod Admission
 pub mod Admitted
 pub mod Faults

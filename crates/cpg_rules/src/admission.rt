@@ -1,15 +1,18 @@
 //! The admission of a graph.
-ghost use Rattle.std.specs.Prelude.{◌≡◌, List, ℕ, IfOk, IfErr};
+ghost use Rattle.std.specs.Prelude.{◌≡◌, List, ℕ, IfOk, IfErr, IfSome};
+ghost use Rattle.std.specs.Option.{option_map};
 ghost use Rattle.cpg_base.specs.Limits.{IsWithinLimits};
 ghost use Rattle.cpg_base.specs.WellFormed.{HasSenderSlots};
-ghost use Rattle.cpg_order.specs.Urgency.{IsTopological};
+ghost use Rattle.cpg_order.specs.Urgency.{IsTopological, first_order};
 ghost use Rattle.cpg_rules.specs.Guards.{AreGuardsOf};
 ghost use Rattle.cpg_rules.specs.Rules.{AllFit};
+ghost use Rattle.cpg_rules.specs.Given.{GivesTopological};
 ghost use Rattle.cpg_rules.specs.Sharing.{trees_of, AreRoots, AreTreesOf};
 ghost use Rattle.cpg_base.specs.Graph.{process_count};
 ghost use Rattle.cpg_rules.specs.Admission.{IsAdmitted};
-ghost use Rattle.cpg_rules.specs.Faults.{IsOrdered, HasFewTracks, HasFewInputs, ShowsFault};
+ghost use Rattle.cpg_rules.specs.Faults.{IsOrdered, HasFewTracks, HasFewInputs, HasSizes, ShowsFault};
 
+use crate::given::{GivenFault, given_order};
 use crate::joins::least_alternatives;
 use crate::shared::Parts;
 use crate::slots::{above_slot, without_slot};
@@ -20,15 +23,17 @@ use cpg_order::{OrderFault, Walk, urgency};
 use std::alloc::Global;
 use std::marker::Model;
 
-/// A graph that keeps all rules, with its urgency order and its guards.
+/// A graph that keeps all rules, with its urgency order, the order that it gives, if any, and its guards.
 #[derive(Drop)]
 pub struct Admitted {
     problem: Problem,
     order: Order,
+    given: Option<Order>,
     guards: GuardTrees,
 }
 
 impl Model for Admitted {
+    ghost use Rattle.std.specs.Prelude.{◌≡◌};
     ghost use Rattle.std.specs.Coded.{codes};
     ghost use Rattle.cpg_rules.specs.TreeCode.{tree_code};
     ghost use Rattle.cpg_rules.specs.Admission.{Admission, IsAdmitted};
@@ -39,7 +44,7 @@ impl Model for Admitted {
 
     ghost view = { λ a. record { graph = a.problem; order = a.order; guards = a.guards } };
 
-    ghost invariant = { λ a. IsAdmitted a.problem a.order a.guards };
+    ghost invariant = { λ a. IsAdmitted a.problem a.order a.guards × (a.given ≡ a.problem.order) };
 }
 
 /// Why a graph isn't admitted. The first of these that is there is told.
@@ -60,6 +65,9 @@ pub enum RuleFault {
     NoSlot(u32),
     /// A message has a size above its sender's slot: the least such edge.
     TooBig(u32),
+    /// The order that the graph gives isn't topological: the least process that is lacking in it, or if none is lacking, the
+    /// first in it that stands before the source of one of its inputs.
+    BadOrder(u32),
     /// Want of memory.
     OutOfMemory,
 }
@@ -142,9 +150,32 @@ fn slotted(problem: &Problem) -> Result<(), RuleFault>
     Ok(())
 }
 
-/// The order and the guards of a graph that keeps all rules.
-fn judged(alloc: Global, problem: &Problem) -> Result<(Order, GuardTrees), RuleFault>
-    ensures admitted { IfOk result (λ parts. IsAdmitted problem.now parts.0 parts.1) }
+/// The order that a graph gives, if it gives one.
+fn given(alloc: Global, problem: &Problem) -> Result<Option<Order>, RuleFault>
+    requires { (order : List ℕ) × HasSizes problem.now order }
+    ensures given { IfOk result (λ given. given ≡ problem.now.order) }
+    ensures topological { IfOk result (λ _. GivesTopological problem.now) }
+    ensures fault { IfErr result (ShowsFault problem.now) }
+{
+    match given_order(alloc, problem) {
+        Ok(given) => Ok(given),
+        Err(GivenFault::Bad(process)) => Err(RuleFault::BadOrder(process)),
+        Err(GivenFault::OutOfMemory) => Err(RuleFault::OutOfMemory),
+    }
+}
+
+/// The orders and the guards of a graph that keeps all rules.
+#[derive(Drop)]
+struct Judged {
+    order: Order,
+    given: Option<Order>,
+    guards: GuardTrees,
+}
+
+/// Judges a graph by all rules.
+fn judge(alloc: Global, problem: &Problem) -> Result<Judged, RuleFault>
+    ensures admitted { IfOk result (λ judged. IsAdmitted problem.now judged.order judged.guards) }
+    ensures given { IfOk result (λ judged. judged.given ≡ problem.now.order) }
     ensures fault { IfErr result (ShowsFault problem.now) }
 {
     let order = ordered(alloc, problem)?;
@@ -152,22 +183,34 @@ fn judged(alloc: Global, problem: &Problem) -> Result<(Order, GuardTrees), RuleF
     let roots = shared.roots.as_slice();
     joined(alloc, problem, &order, &mut shared.parts, roots)?;
     slotted(problem)?;
-    Ok((order, shared.guards))
+    let given = given(alloc, problem)?;
+    Ok(Judged {
+        order,
+        given,
+        guards: shared.guards,
+    })
 }
 
 /// Admits a graph that keeps all rules: it has no cycle, at most 16,384 tracks, no join with two live inputs, a slot for
-/// each node that sends, and no message above its sender's slot. A refusal tells the first of these that is broken, and
-/// hands the graph back as it was.
+/// each node that sends, no message above its sender's slot, and if it gives an order, a topological one. A refusal tells
+/// the first of these that is broken, and hands the graph back as it was.
 pub fn admit(alloc: Global, problem: Problem) -> Result<Admitted, Refused>
     ensures problem { IfOk result (λ admitted. admitted.graph ≡ problem) }
     ensures admitted { IfOk result (λ admitted. IsAdmitted admitted.graph admitted.order admitted.guards) }
     ensures back { IfErr result (λ refused. refused.problem ≡ problem) }
     ensures fault { IfErr result (λ refused. ShowsFault problem refused.fault) }
 {
-    match judged(alloc, &problem) {
-        Ok((order, guards)) => Ok(Admitted {
+    match judge(alloc, &problem) {
+        Ok(
+            Judged {
+                order,
+                given,
+                guards,
+            },
+        ) => Ok(Admitted {
             problem,
             order,
+            given,
             guards,
         }),
         Err(fault) => Err(Refused { problem, fault }),
@@ -189,6 +232,27 @@ impl Admitted {
         ensures admitted { IsAdmitted self.now.graph self.now.order self.now.guards }
     {
         &self.order
+    }
+
+    /// The order that it gives, and `None` if it gives none.
+    pub fn given(&self) -> Option<&Order>
+        ensures given { option_map (λ order. order.now) result ≡ self.now.graph.order }
+        ensures topological { IfSome result (λ order. IsTopological self.now.graph order.now) }
+        ensures admitted { IsAdmitted self.now.graph self.now.order self.now.guards }
+    {
+        self.given.as_ref()
+    }
+
+    /// The order that it is compiled under first: the one that it gives, or else its urgency order.
+    pub fn first_order(&self) -> &Order
+        ensures order { result.now ≡ first_order self.now.graph self.now.order }
+        ensures topological { IsTopological self.now.graph result.now }
+        ensures admitted { IsAdmitted self.now.graph self.now.order self.now.guards }
+    {
+        match &self.given {
+            Some(order) => order,
+            None => &self.order,
+        }
     }
 
     /// Its guards.

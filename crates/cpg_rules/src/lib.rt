@@ -7,6 +7,7 @@ mod admission;
 mod apart;
 mod composing;
 mod edges;
+mod given;
 mod growing;
 mod joins;
 mod laws;

@@ -31,7 +31,7 @@ use Rattle.cpg_table.proofs.NodeRows.{no_row}
 use Rattle.cpg_run.specs.Alike.{Admitted}
 use Rattle.cpg_run.specs.Carried.{row_at}
 use Rattle.cpg_run.specs.Carrying.{IsCarryingRow, AreTablesCarrying, AreExactAndLawful}
-use Rattle.cpg_run.specs.Found.{columns_of_rows, AreRowsFound, NoneIsTooWide, FoundRowsAreWritable}
+use Rattle.cpg_run.specs.Found.{columns_of_rows, AreRowsFound, NoneIsTooWide, DoRowsFit, FoundRowsFit, FoundRowsAreWritable}
 use Rattle.cpg_run.specs.Known.{AreSmall}
 use Rattle.cpg_run.specs.RowLaws.{IsTimed}
 use Rattle.cpg_run.proofs.CarryingTables.{carrying_tables_are_lawful}
@@ -209,15 +209,24 @@ module _ (g : Graph) (within : IsWithinLimits g) (urgency order : List ℕ) (adm
           (λ x c. mul-le-mul (row_views reach reached x (numbers-Contains (item_count g) x c)) (let e : rows_of_item g (item_at g x) ≤ rows_of_item g (item_at g x) = omega arith in e)),
     )
 
-    writable : AreWritable g rows
-    writable = record {
-      items = is.items;
-      lawful = All-from_get_or (λ (row : Row). All (IsWritable g) row.columns) rows no_row
-          (λ x l. subst (All (IsWritable g)) (columns_at rows x) (row_writable x (omega (arith, l, long))));
+    fit : DoRowsFit g rows
+    fit = record {
       few = All-from_get_or (λ (row : Row). length row.columns ≤ MOST_COLUMNS) rows no_row (λ x l. row_few x (omega (arith, l, long)));
       loads = loads;
-      unsent = unsent_row;
     }
 
+  writable : DoRowsFit g rows → AreWritable g rows
+  writable fits = record {
+    items = is.items;
+    lawful = All-from_get_or (λ (row : Row). All (IsWritable g) row.columns) rows no_row
+        (λ x l. subst (All (IsWritable g)) (columns_at rows x) (row_writable x (omega (arith, l, long))));
+    few = fits.few;
+    loads = fits.loads;
+    unsent = unsent_row;
+  }
+
+pub found_rows_fit : FoundRowsFit
+found_rows_fit g urgency order frozen rows within admitted is narrow = fit g within urgency order admitted frozen rows is narrow
+
 pub found_rows_are_writable : FoundRowsAreWritable
-found_rows_are_writable g urgency order frozen rows within admitted is narrow = writable g within urgency order admitted frozen rows is narrow
+found_rows_are_writable g urgency order frozen rows within admitted is fits = writable g within urgency order admitted frozen rows is fits

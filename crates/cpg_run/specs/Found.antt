@@ -1,13 +1,14 @@
 -- What a builder finds of a graph before it writes the tables, and what it answers then.
-use Rattle.std.specs.Prelude.{ℕ, ◌≡◌, ◌<◌, false, List, Option, map}
+use Rattle.std.specs.Prelude.{ℕ, ◌*◌, ◌≡◌, ◌≤◌, ◌<◌, false, All, List, Option, length, map, sum_by}
 use Rattle.cpg_base.specs.Numbers.{numbers_below}
-use Rattle.cpg_base.specs.Graph.{Graph, item_count}
+use Rattle.cpg_base.specs.Graph.{Graph, item_at, item_count}
+use Rattle.cpg_base.specs.declared.limits.TheConstants.{MOST_COLUMNS, MOST_LOAD}
 use Rattle.cpg_base.specs.Limits.{IsWithinLimits}
-use Rattle.cpg_order.specs.Reach.{Reach, IsReach, is_too_wide}
+use Rattle.cpg_order.specs.Reach.{Reach, IsReach, is_too_wide, rows_of_item}
 use Rattle.cpg_table.specs.Shape.{items_of}
 use Rattle.cpg_table.specs.Table.{Row}
 use Rattle.cpg_cube.specs.Column.{Column}
-use Rattle.cpg_table.specs.Writing.{AreWritable, AreTablesWith}
+use Rattle.cpg_table.specs.Writing.{AreWritable, AreTablesWith, row_for}
 use Rattle.cpg_run.specs.declared.built.Built.{Built}
 use Rattle.cpg_run.specs.Alike.{Admitted}
 use Rattle.cpg_run.specs.Built.{IsBuiltFor}
@@ -38,10 +39,20 @@ pub record AreTablesFound (g : Graph) (urgency order : List ℕ) (rows : List Ro
 abbrev pub NoneIsTooWide : Graph → List ℕ → Type 0
 NoneIsTooWide g order = (r : Reach) → IsReach g order r → (x : ℕ) → x < item_count g → is_too_wide g r x ≡ false
 
--- such rows can be written
+-- rows that have few columns each, and together in all tables
+pub record DoRowsFit (g : Graph) (rows : List Row) : Type 0 where
+  pub few : All (λ row. length row.columns ≤ MOST_COLUMNS) rows
+  pub loads : sum_by (λ x. length (row_for rows x).columns * rows_of_item g (item_at g x)) (numbers_below (item_count g)) ≤ MOST_LOAD
+
+-- such rows fit where nothing is too wide
+abbrev pub FoundRowsFit : Type 0
+FoundRowsFit = (g : Graph) (urgency order : List ℕ) (frozen : List (Option ℕ)) (rows : List Row) → IsWithinLimits g → Admitted g urgency order →
+    AreRowsFound g urgency order frozen rows → NoneIsTooWide g order → DoRowsFit g rows
+
+-- and where they fit they can be written
 abbrev pub FoundRowsAreWritable : Type 0
 FoundRowsAreWritable = (g : Graph) (urgency order : List ℕ) (frozen : List (Option ℕ)) (rows : List Row) → IsWithinLimits g → Admitted g urgency order →
-    AreRowsFound g urgency order frozen rows → NoneIsTooWide g order → AreWritable g rows
+    AreRowsFound g urgency order frozen rows → DoRowsFit g rows → AreWritable g rows
 
 -- and such tables are what a builder answers
 abbrev pub FoundTablesAreBuilt : Type 0

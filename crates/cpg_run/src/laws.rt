@@ -1,7 +1,7 @@
 //! The laws of rows.
 
 ghost use Rattle.cpg_run.specs.Carrying.{CarryingTablesAreLawful, ListedRowsCarry};
-ghost use Rattle.cpg_run.specs.Found.{FoundRowsAreWritable, FoundTablesAreBuilt};
+ghost use Rattle.cpg_run.specs.Found.{FoundRowsAreWritable, FoundRowsFit, FoundTablesAreBuilt};
 ghost use Rattle.cpg_run.specs.RowLaws.{CarriedDecides, CarriedRestsOnEarlier, EntriesHaveTimes, RowsHaveTimes};
 
 /// What is carried beside a time is found in the rows of earlier processes alone.
@@ -34,7 +34,12 @@ pub fn listed_rows_carry()
     ensures { ListedRowsCarry }
 {}
 
-/// Rows that carry no more than they may can be written as tables where no item is too wide.
+/// Rows that carry no more than they may are within the limits of a row and of all rows where no item is too wide.
+pub fn found_rows_fit()
+    ensures { FoundRowsFit }
+{}
+
+/// Within those limits they can be written as tables.
 pub fn found_rows_are_writable()
     ensures { FoundRowsAreWritable }
 {}

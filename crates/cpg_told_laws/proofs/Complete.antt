@@ -8,7 +8,8 @@ use Rattle.cpg_words.specs.Forms.{command_of}
 use Rattle.cpg_words.specs.declared.command.Pair.{Pair}
 use Rattle.cpg_words.specs.declared.command.Command.{Command}
 use Rattle.cpg_words.specs.declared.command.Command.TheVariants.{Show, Compile, Check, Play, Node, Trial, Live, Hyper, Tune, Audit}
-use Rattle.cpg_reach.specs.Wide.{IsNarrow, IsWide}
+use Rattle.cpg_reach.specs.Wide.{IsWide}
+use Rattle.cpg_order.specs.Urgency.{first_order}
 use Rattle.cpg_core.specs.Compiled.{IsLate, IsTimely}
 use Rattle.cpg_rules.specs.Admission.{Admission}
 use Rattle.cpg_table.specs.Lawful.{Tables}
@@ -31,11 +32,11 @@ use Rattle.cpg_inputs.specs.Files.{file, files_of, part_files}
 use Rattle.cpg_inputs.specs.Says.{Value, graph_value, part_value, tables_value, played_value, log_value}
 use Rattle.cpg_inputs.specs.Shapes.{HavePeriods, part_values}
 use Rattle.cpg_inputs.specs.Reading.{StopsReading}
-use Rattle.cpg_inputs.proofs.OneReading.{AllAlike, AreAlike}
+use Rattle.cpg_inputs.proofs.OneReading.{AllAlike, AreAlike, moved}
 use Rattle.cpg_app.specs.Causes.{first_named}
 use Rattle.cpg_app.specs.Endings.{Ran as Run, Ends as EndsRun, Follows as FollowsRun, Has, IsMuted as IsMutedRun, IsTold as IsToldRun, Stops as StopsRun}
-use Rattle.cpg_app.specs.Lawful.{IsLawful as IsLawfulRun, IsFaultless as IsFaultlessRun, Asks as AsksRun, AsksForTables, AsksVerdict as AsksVerdictRun}
-use Rattle.cpg_told_laws.specs.Lawful.{AreAdmitted, AreTold as AreTellingParts, Asks, AsksNode, AsksTuning, AsksUnrolling, AsksVerdict, IsFaultless}
+use Rattle.cpg_app.specs.Lawful.{IsLawful as IsLawfulRun, IsFaultless as IsFaultlessRun, Asks as AsksRun, AsksForTables, AsksVerdict as AsksVerdictRun, IsRefusedAsWide as WideRun}
+use Rattle.cpg_told_laws.specs.Lawful.{AreAdmitted, AreTold as AreTellingParts, Asks, AsksNode, AsksTuning, AsksUnrolling, AsksVerdict, IsFaultless, IsRefusedAsWide as WideTold}
 use Rattle.cpg_told_laws.specs.Told.{told_of}
 use Rattle.cpg_told_laws.proofs.Telling.{AreTold, Tells, none_stops, read_as_told}
 
@@ -217,22 +218,29 @@ module _ (r : Run) (w : IsLawfulRun r) (k : KeepsShelf r.shelf.old r.shelf.new) 
         ]
       ]
 
-  pub wide : (a : Admission) (x : ℕ) → Asks (told_of r) a → IsWide a.graph a.order x → Answer 6
-  wide a x q is = elim (tables_asked a q) [
-    | inl h ↦ w.wide h.0 x h.1 (moved_on a h.0 h.2 (λ g o. IsWide g o x) is)
+  pub wide : (a : Admission) (x : ℕ) → Asks (told_of r) a → a.graph.order ≡ None → IsWide a.graph (first_order a.graph a.order) x → Answer 6
+  wide a x q ungiven is = elim (tables_asked a q) [
+    | inl h ↦ w.wide h.0 x h.1 (moved_on a h.0 h.2 (λ g o. g.order ≡ None) ungiven) (moved_on a h.0 h.2 (λ g o. IsWide g (first_order g o) x) is)
     | inr memory ↦ inr memory
   ]
 
-  pub made : (a : Admission) → Asks (told_of r) a → IsNarrow a.graph a.order → IsTimely a.graph a.order → Answer 0
-  made a q narrow timely = elim (tables_asked a q) [
-    | inl h ↦ w.made h.0 h.1 (moved_on a h.0 h.2 IsNarrow narrow) (moved_on a h.0 h.2 IsTimely timely)
-    | inr memory ↦ inr memory
+  -- what is refused as too wide of a graph is so of one that is alike
+  as_wide : (a b : Admission) → AreAlike a b → (n : ℕ) → Answer n ⊎ WideRun r b → Answer n ⊎ WideTold (told_of r) a
+  as_wide a b same n answer = elim answer [
+    | inl e ↦ inl e
+    | inr refused ↦ inr (record { status = refused.status; item = refused.item; wide = moved a b same (λ g o. IsWide g (first_order g o) refused.item) refused.wide })
   ]
 
-  pub late : (a : Admission) → Asks (told_of r) a → IsLate a.graph a.order → Answer 5
+  pub made : (a : Admission) → Asks (told_of r) a → IsTimely a.graph a.order → Answer 0 ⊎ WideTold (told_of r) a
+  made a q timely = elim (tables_asked a q) [
+    | inl h ↦ as_wide a h.0 h.2 0 (w.made h.0 h.1 (moved_on a h.0 h.2 IsTimely timely))
+    | inr memory ↦ inl (inr memory)
+  ]
+
+  pub late : (a : Admission) → Asks (told_of r) a → IsLate a.graph a.order → Answer 5 ⊎ WideTold (told_of r) a
   late a q is = elim (tables_asked a q) [
-    | inl h ↦ w.late h.0 h.1 (moved_on a h.0 h.2 IsLate is)
-    | inr memory ↦ inr memory
+    | inl h ↦ as_wide a h.0 h.2 5 (w.late h.0 h.1 (moved_on a h.0 h.2 IsLate is))
+    | inr memory ↦ inl (inr memory)
   ]
 
   pub tuned : (a : Admission) → AsksTuning (told_of r) a → Answer 0

@@ -69,8 +69,8 @@ module _ (r : Run) (w : IsLawfulRun r) (k : KeepsShelf r.shelf.old r.shelf.new) 
     is_wide = is_wide;
     is_unsafe = is_unsafe;
     silent = silent;
-    wide = λ a x q is. wide r w k q.faultless a x q is;
-    made = λ a q narrow timely. made r w k q.faultless a q narrow timely;
+    wide = λ a x q ungiven is. wide r w k q.faultless a x q ungiven is;
+    made = λ a q timely. made r w k q.faultless a q timely;
     late = λ a q is. late r w k q.faultless a q is;
     other = λ a t q differs. other r w k q.faultless a t q differs;
     safe = λ a t q head valid. safe r w k q.faultless a t q head valid;

@@ -1,11 +1,11 @@
 -- What other parts and another fault number leave as it was.
-use Rattle.std.proofs.Common.{ℕ, zero, suc, ◌+◌, ◌<◌, ◌≤◌, ◌≡◌, ◌⊎◌, List, [], ◌∷◌, ◌++◌, length, get_or, take, filter, All, refl, sym, ap, ap₂, ◌∙◌, subst, inl, inr, arith, append-nil}
+use Rattle.std.proofs.Common.{ℕ, zero, suc, ◌+◌, ◌<◌, ◌≤◌, ◌≡◌, ◌⊎◌, IfSome, None, List, [], ◌∷◌, ◌++◌, length, get_or, take, filter, All, refl, sym, ap, ap₂, ◌∙◌, subst, inl, inr, arith, append-nil}
 use Rattle.std.proofs.lemmas.List.{length-map, get_or-map, get_or_default, take_more}
 use Rattle.std.proofs.lemmas.List.Elements.{All-map}
 use Rattle.cpg_base.specs.declared.process.Process.{Process}
 use Rattle.cpg_base.specs.Numbers.{numbers_below}
 use Rattle.cpg_base.specs.Graph.{Graph, process_count, condition_count, process_at, disjunctions, is_disjunction}
-use Rattle.cpg_base.specs.Limits.{IsWithinLimits, IsProcessWithin, IsEdgeWithin}
+use Rattle.cpg_base.specs.Limits.{IsWithinLimits, IsProcessWithin, IsEdgeWithin, IsOrderWithin}
 use Rattle.cpg_base.specs.declared.limits.TheConstants.{MOST_FAULTS, MOST_PARTS}
 use Rattle.cpg_base.specs.Duration.{duration_of, duration}
 use Rattle.cpg_tune.specs.Best.{in_parts, duration_in, best_of, best_parts}
@@ -60,6 +60,7 @@ retuned_within g parts faults w a few = record {
   node_names = w.node_names;
   process_names = λ i j d before l. (let within : j < length g.processes = subst (λ n. j < n) (count_same g parts faults a.one_each) l in λ same. w.process_names i j d before within (sym (name_at i d (omega (arith, before, within))) ∙ (same ∙ name_at j d within)));
   own_slots = w.own_slots;
+  order = subst (λ n. IfSome g.order (IsOrderWithin n)) (sym (count_same g parts faults a.one_each)) w.order;
 }
   where
     process_within : (i : ℕ) (d : Process) → i < length g.processes → IsProcessWithin (length g.nodes) (in_parts (get_or g.processes i d) (get_or parts i 0))
@@ -68,6 +69,25 @@ retuned_within g parts faults w a few = record {
 
     name_at : (i : ℕ) (d : Process) → i < length g.processes → (get_or (in_parts_each g.processes parts) i d).name ≡ (get_or g.processes i d).name
     name_at i d l = ap (λ (p : Process). p.name) (each_at g.processes parts i d a.one_each l)
+
+-- so does each without its order
+pub orderless_within : (g : Graph) → IsWithinLimits g → IsWithinLimits (record g { order = None })
+orderless_within g w = record {
+  faults = w.faults;
+  deadline = w.deadline;
+  few_nodes = w.few_nodes;
+  few_slots = w.few_slots;
+  few_processes = w.few_processes;
+  few_edges = w.few_edges;
+  few_conditions = w.few_conditions;
+  slots = w.slots;
+  processes = w.processes;
+  edges = w.edges;
+  node_names = w.node_names;
+  process_names = w.process_names;
+  own_slots = w.own_slots;
+  order = tt;
+}
 
 -- the best parts are from 1 to 255
 pub best_parts_of : (g : Graph) → ArePartsOf g (best_parts g)

@@ -1,6 +1,6 @@
 -- What the rules read of a graph is as it was with other parts and another fault number.
 use Rattle.std.proofs.Common.{ℕ, zero, suc, ◌+◌, ◌-◌, ◌<◌, ◌≤◌, ◌≡◌, ◌==◌, if◌then◌else◌, Bool, true, false, not, ◌&&◌, ◌||◌, List, [], ◌∷◌, length, get_or, filter, refl, sym, ap, ap₂, ◌∙◌, subst, arith, ltb-true}
-use Rattle.std.specs.Prelude.{nat_lt, position, unwrap_or}
+use Rattle.std.specs.Prelude.{nat_lt, position, unwrap_or, IfSome, IsPermutation, Option, None, Some}
 use Rattle.std.proofs.lemmas.Bool.{both_ways}
 use Rattle.std.specs.List.{list_any, list_all}
 use Rattle.cpg_base.specs.declared.process.Process.{Process}
@@ -16,12 +16,15 @@ use Rattle.cpg_base.proofs.Lists.{same_filter, same_all}
 use Rattle.cpg_order.specs.Cycle.{HasCycle}
 use Rattle.cpg_order.specs.Deciding.{outcomes}
 use Rattle.cpg_order.specs.Track.{is_track, track_count}
+use Rattle.cpg_order.specs.Urgency.{IsTopological}
 use Rattle.cpg_order.proofs.Cycles.{no_cycle}
 use Rattle.cpg_rules.specs.Guards.{Guards}
-use Rattle.cpg_rules.specs.declared.admission.RuleFault.TheVariants.{Cycle, TooManyTracks, TwoAlternatives, NoSlot, TooBig, OutOfMemory}
+use Rattle.cpg_rules.specs.declared.admission.RuleFault.TheVariants.{Cycle, TooManyTracks, TwoAlternatives, NoSlot, TooBig, BadOrder, OutOfMemory}
 use Rattle.cpg_rules.specs.Rules.{slot_bytes, AllFit}
+use Rattle.cpg_rules.specs.Given.{GivesTopological}
 use Rattle.cpg_rules.specs.Admission.{IsAdmitted}
 use Rattle.cpg_rules.proofs.Exact.{no_lack}
+use Rattle.cpg_rules.proofs.GivenOrders.{none_bad}
 use Rattle.cpg_tune.specs.Best.{best_parts}
 use Rattle.cpg_tune.specs.Retuned.{in_parts_each, retuned}
 use Rattle.cpg_tune.specs.Asked.{row_graph}
@@ -132,8 +135,19 @@ module _ (g : Graph) (parts : List ℕ) (faults : ℕ) (one_each : length parts 
   cycle_same : HasCycle h → HasCycle g
   cycle_same (walk, c) = (walk, record { some = c.some; apart = c.apart; least = c.least; next = c.next; back = c.back })
 
+  -- so is the order that the graph gives
+  topological_same : (order : List ℕ) → IsTopological g order → IsTopological h order
+  topological_same order top = record { all = subst (λ n. IsPermutation (numbers_below n) order) (sym processes_same) top.all; forward = top.forward }
+
+  given_same : GivesTopological g → GivesTopological h
+  given_same = go g.order
+    where
+      go : (o : Option (List ℕ)) → IfSome o (IsTopological g) → IfSome o (IsTopological h)
+      go None none = none
+      go (Some order) top = topological_same order top
+
   pub keeps_rules : KeepsRules g h
-  keeps_rules = record { cycle = cycle_same; tracks = tracks_same; joins = joins_same; slots = slots_same; sizes = sizes_same }
+  keeps_rules = record { cycle = cycle_same; tracks = tracks_same; joins = joins_same; slots = slots_same; sizes = sizes_same; given = given_same }
 
 -- two live inputs are more than one
 two_live : (n : ℕ) → n ≤ 1 → nat_lt 1 n ≡ true → ⊥
@@ -147,6 +161,9 @@ no_fault g h order guards is keeps (TwoAlternatives p s) shows =
     absurd (two_live (length (filter (live h s.values) (inputs h p))) (keeps.joins is.joins p s.values a.within a.join a.least.lawful.values) a.least.holds)
 no_fault g h order guards is keeps (NoSlot node) shows = absurd (no_lack h (keeps.slots is.slots) node shows.2.lacks)
 no_fault g h order guards is keeps (TooBig e) shows = absurd (both_ways _ (keeps.sizes is.sizes e shows.2.within) shows.2.above)
+no_fault g h order guards is keeps (BadOrder p) shows =
+    let bad = shows.2 in
+    absurd (none_bad h bad.order (subst (λ o. IfSome o (IsTopological h)) bad.given (keeps.given is.given)) p bad.bad)
 no_fault g h order guards is keeps OutOfMemory shows = refl
 
 -- so it is with the best parts

@@ -8,6 +8,7 @@ use Rattle.cpg_rules.specs.Guards.{Guards}
 use Rattle.cpg_rules.specs.declared.admission.RuleFault.{RuleFault}
 use Rattle.cpg_rules.specs.declared.admission.RuleFault.TheVariants.{OutOfMemory}
 use Rattle.cpg_rules.specs.Rules.{AllFit}
+use Rattle.cpg_rules.specs.Given.{GivesTopological}
 use Rattle.cpg_rules.specs.Admission.{IsAdmitted}
 use Rattle.cpg_rules.specs.Faults.{ShowsFault}
 use Rattle.cpg_tune.specs.Retuned.{retuned}
@@ -20,6 +21,7 @@ pub record KeepsRules (g h : Graph) : Type 0 where
   pub joins : HasSingleJoins g → HasSingleJoins h
   pub slots : HasSenderSlots g → HasSenderSlots h
   pub sizes : AllFit g → AllFit h
+  pub given : GivesTopological g → GivesTopological h
 
 -- with a number of parts for each process, and any fault number
 abbrev pub RetunedKeepRules : Type 0

@@ -46,5 +46,7 @@ pub fn retuned(
     let slots = Vec::from_slice(alloc, problem.slots())?;
     let processes = in_parts_each(alloc, problem.processes(), parts)?;
     let edges = Vec::from_slice(alloc, problem.edges())?;
-    Ok(Problem::of(faults, problem.deadline(), nodes, slots, processes, edges))
+    let order = problem.order_copy()?;
+    let retuned = Problem::of(faults, problem.deadline(), nodes, slots, processes, edges);
+    Ok(retuned.with_order(order))
 }

@@ -1,24 +1,23 @@
 //! `cpgc`, a design-time scheduler for time-triggered controllers.
 #![tactic(auto)]
 
-ghost use Rattle.std.specs.Prelude.{◌≡◌, ◌↔◌, IfErr, IfOk, IsErr, drop, map, string_bytes};
+ghost use Rattle.std.specs.Prelude.{◌≡◌, ◌↔◌, ◌⊎◌, IfErr, IfOk, IsErr, List, ℕ, drop, map, string_bytes};
 ghost use Rattle.std.specs.IoError.{error_kind};
 ghost use Rattle.std.specs.Vec.Iter.{into_iter_items};
 ghost use Rattle.std.specs.declared.io.ErrorKind.{ErrorKind};
 ghost use Rattle.cpg_words.specs.declared.fault.WordsFault.{WordsFault};
-ghost use Rattle.cpg_io.specs.Adapters.{shelf_of, sink_of};
 ghost use Rattle.cpg_app.specs.Endings.{seen};
 ghost use Rattle.cpg_app.specs.Lawful.{IsLawful};
 ghost use Rattle.cpg_outputs.specs.Told.{sent};
-ghost use Rattle.cpgc.specs.Statuses.{program_run, EndsWithout};
+ghost use Rattle.cpgc.specs.Statuses.{EndsWithout};
 
 use cpg_app::{run, run_without_words};
-use cpg_io::{FileShelf, StreamSink};
+use cpg_io::{FileShelf, Shelf, Sink, StreamSink};
 use cpg_words::WordsFault;
 use std::alloc::{AllocError, Global};
 use std::env;
 use std::env::Args;
-use std::io::{self, ErrorKind, Stderr, Stdout};
+use std::io::{self, ErrorKind};
 use std::process::ExitCode;
 
 /// The arguments after the first, which is the program's name.
@@ -54,80 +53,38 @@ fn words(alloc: Global, given: io::Result<Args>) -> Result<Vec<String>, WordsFau
     }
 }
 
-/// Runs words over files: the output goes to the standard output, the line of a run that stops to the standard error. It has the
-/// words of the program's contract, of shelf and sinks as the machine has them: `run` speaks of any.
-fn run_on(
+/// A run of these words over a shelf and two sinks or, without words, one that says why: then nothing is fetched, and nothing goes
+/// to the first sink. It is handed nothing else of the machine: what it does to it, it does through these three.
+fn outcome<S: Shelf, O: Sink, E: Sink>(
     alloc: Global,
-    words: &[String],
-    shelf: &mut FileShelf<&HostRuntime>,
-    out: &mut StreamSink<Stdout>,
-    err: &mut StreamSink<Stderr>,
+    words: Result<Vec<String>, WordsFault>,
+    shelf: &mut S,
+    out: &mut O,
+    err: &mut E,
 ) -> u8
-    ensures { IsLawful (record {
-      words = map string_bytes words.now;
-      shelf = seen (shelf_of shelf.old) (shelf_of shelf.new);
-      out = sent (sink_of out.old) (sink_of out.new);
-      err = sent (sink_of err.old) (sink_of err.new);
+    requires { (name : List ℕ) → S.may_fetch shelf.old name }
+    ensures of_words { IfOk words (λ all. IsLawful (record {
+      words = map string_bytes all.items;
+      shelf = seen (S.state shelf.old) (S.state shelf.new);
+      out = sent (O.state out.old) (O.state out.new);
+      err = sent (E.state err.old) (E.state err.new);
       status = result;
-    }) }
-{
-    run(alloc, words, shelf, out, err)
-}
-
-/// What a run leaves of the machine's files and streams, and its exit status.
-#[derive(Drop)]
-struct Ended<'a> {
-    shelf: FileShelf<&'a HostRuntime>,
-    out: StreamSink<Stdout>,
-    err: StreamSink<Stderr>,
-    status: u8,
-}
-
-/// A run of these words over the machine's files and streams, of which nothing was read or written before.
-fn run_of<'a>(rt: &'a HostRuntime, words: &[String]) -> Ended<'a>
-    ensures { IsLawful (program_run (map string_bytes words.now) (shelf_of result.shelf) (sink_of result.out) (sink_of result.err) result.status) }
-{
-    let mut out = StreamSink::new(rt.stdout());
-    let mut err = StreamSink::new(rt.stderr());
-    let mut shelf = FileShelf::new(rt);
-    let status = run_on(rt.alloc(), words, &mut shelf, &mut out, &mut err);
-    Ended {
-        shelf,
-        out,
-        err,
-        status,
-    }
-}
-
-/// A run that has no words: a line that says why goes to the standard error, to which nothing was written before.
-fn run_without<'a>(rt: &'a HostRuntime, fault: WordsFault) -> Ended<'a>
-    ensures { EndsWithout fault (shelf_of result.shelf) (sink_of result.out) (sink_of result.err) result.status }
-{
-    let out = StreamSink::new(rt.stdout());
-    let mut err = StreamSink::new(rt.stderr());
-    let shelf = FileShelf::new(rt);
-    let status = run_without_words(rt.alloc(), fault, &mut err);
-    Ended {
-        shelf,
-        out,
-        err,
-        status,
-    }
-}
-
-/// A run of these words, or, where there are none, one that says why.
-fn outcome<'a>(rt: &'a HostRuntime, words: Result<Vec<String>, WordsFault>) -> Ended<'a>
-    ensures of_words { IfOk words (λ all. IsLawful (program_run (map string_bytes all.items) (shelf_of result.shelf) (sink_of result.out)
-        (sink_of result.err) result.status)) }
-    ensures without { IfErr words (λ fault. EndsWithout fault (shelf_of result.shelf) (sink_of result.out) (sink_of result.err) result.status) }
+    })) }
+    ensures without { IfErr words (λ fault. EndsWithout fault (S.state shelf.old) (S.state shelf.new) (O.state out.old) (O.state out.new)
+        (E.state err.old) (E.state err.new) result) }
 {
     match words {
-        Ok(words) => run_of(rt, words.as_slice()),
-        Err(fault) => run_without(rt, fault),
+        Ok(words) => run(alloc, words.as_slice(), shelf, out, err),
+        Err(fault) => run_without_words(alloc, fault, err),
     }
 }
 
+/// The program: a run over the machine's arguments, files, standard output and standard error, and its status. No other function is
+/// handed the runtime.
 fn main(rt: HostRuntime) -> ExitCode {
     let words = words(rt.alloc(), env::args(&rt));
-    ExitCode::from(outcome(&rt, words).status)
+    let mut shelf = FileShelf::new(&rt);
+    let mut out = StreamSink::new(rt.stdout());
+    let mut err = StreamSink::new(rt.stderr());
+    ExitCode::from(outcome(rt.alloc(), words, &mut shelf, &mut out, &mut err))
 }

@@ -1,5 +1,8 @@
-use Rattle.std.proofs.Common.{◌≡◌, ◌∙◌, false, refl, sym, subst, inl}
+use Rattle.std.proofs.Common.{◌≡◌, ◌∙◌, false, true, refl, sym, subst, inl, inr}
 use Rattle.cpg_base.specs.Graph.{Graph, is_frozen}
+use Rattle.cpg_rules.specs.Guards.{tree_of}
+use Rattle.cpg_expand.specs.Large.{IsLargeBegun, IsLargeFrozen, IsLargeThawed}
+use Rattle.cpg_expand.proofs.LargeShown.{handed_as}
 use Rattle.cpg_expand.proofs.along.begin.Goals as goal
 
 pub returns-clause-begun : goal.returns-clause-begun
@@ -17,3 +20,21 @@ returns-clause-begun c =
       readies = b.readies;
       is = b.is;
     }
+
+pub returns-in_err-active-clause-fault : goal.returns-in_err-active-clause-fault
+returns-in_err-active-clause-fault c =
+    let g = c.args.admitted.now.graph in
+    let p = c.args.process in
+    let f = c.args.forest.now in
+    let frozen : is_frozen g p ≡ true = subst (λ (k : Graph). is_frozen k p ≡ true) c.problem.ensures.problem (sym c.is_frozen.ensures ∙ c.if-is_frozen.true) in
+    handed_as (IsLargeFrozen g c.args.order.now p f (tree_of c.args.admitted.now.guards p)) (IsLargeBegun g c.args.order.now c.args.admitted.now.guards p f) f.wide
+    c.from_residual.result c.in_err-active.field-0.0 c.from_residual.ensures.1 (λ x. inr (frozen, x)) c.in_err-active.ensures.fault
+
+pub returns-in_err-active-2-clause-fault : goal.returns-in_err-active-2-clause-fault
+returns-in_err-active-2-clause-fault c =
+    let g = c.args.admitted.now.graph in
+    let p = c.args.process in
+    let f = c.args.forest.now in
+    let thawed : is_frozen g p ≡ false = subst (λ (k : Graph). is_frozen k p ≡ false) c.problem.ensures.problem (sym c.is_frozen.ensures ∙ c.if-is_frozen.false) in
+    handed_as (IsLargeThawed g p f (tree_of c.args.admitted.now.guards p)) (IsLargeBegun g c.args.order.now c.args.admitted.now.guards p f) f.wide
+    c.from_residual-in_err-active-2.result c.in_err-active-2.field-0.0 c.from_residual-in_err-active-2.ensures.1 (λ x. inl (thawed, x)) c.in_err-active-2.ensures.fault

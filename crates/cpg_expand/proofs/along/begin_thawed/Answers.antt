@@ -1,4 +1,4 @@
-use Rattle.std.proofs.Common.{◌<◌, ◌∙◌, ap, sym, subst, length, arith}
+use Rattle.std.proofs.Common.{◌<◌, ◌≡◌, ◌∙◌, ap, sym, subst, length, arith, inl, inr}
 use Rattle.cpg_base.specs.Graph.{Graph, process_count, process_at, node_of}
 use Rattle.cpg_rules.specs.Guards.{Guards, tree_of}
 use Rattle.cpg_expand.specs.Begun.{thawed_start}
@@ -7,6 +7,9 @@ use Rattle.cpg_expand.specs.Guarded.{IsStartTree}
 use Rattle.cpg_expand.specs.Waiting.{IsWaitTree}
 use Rattle.cpg_expand.specs.declared.forest.Ready.{Ready}
 use Rattle.cpg_expand.proofs.BegunMade.{few_here, tests_here, leads_here, inputs_here, has_begun, begun_made}
+use Rattle.cpg_order.specs.Guard.{Guard}
+use Rattle.cpg_expand.specs.Large.{IsLargeEnd, IsLargeStart, IsLargeThawed, IsLargeWait}
+use Rattle.cpg_expand.proofs.LargeShown.{handed_as, thawed_as}
 use Rattle.cpg_expand.proofs.along.begin_thawed.Goals as goal
 
 pub guard_of-guard-requires : goal.guard_of-guard-requires
@@ -60,3 +63,51 @@ returns-clause-begun c order =
 
 pub follow-requires-clause-wait : goal.follow-requires-clause-wait
 follow-requires-clause-wait c = subst (IsWait c.problem-problem.result.now) (sym c.wait_for-wait.ensures) c.in_ok-heard.ensures.of
+
+pub returns-in_err-heard-clause-fault : goal.returns-in_err-heard-clause-fault
+returns-in_err-heard-clause-fault c =
+    let h = c.problem-problem.result.now in
+    let f = c.args.forest.now in
+    let p = c.args.process in
+    let found = c.guard_of-guard.result.now in
+    let guard = tree_of c.args.admitted.now.guards p in
+    let is : found ≡ guard = c.guard_of-guard.ensures.tree ∙ ap (λ (x : Guards). tree_of x p) c.guards.ensures.guards in
+    handed_as (IsLargeWait h f c.node_of-node.result found) (IsLargeThawed c.args.admitted.now.graph p f guard) f.wide c.from_residual-in_err-heard.result c.in_err-heard.field-0.0 c.from_residual-in_err-heard.ensures.1
+    (λ x. thawed_as c.args.admitted.now.graph h c.problem-problem.ensures.problem p f guard found is (inl (subst (λ n. IsLargeWait h f n found) c.node_of-node.ensures.node x))) c.in_err-heard.ensures.fault
+
+pub returns-in_err-start-clause-fault : goal.returns-in_err-start-clause-fault
+returns-in_err-start-clause-fault c =
+    let h = c.problem-problem.result.now in
+    let f = c.args.forest.now in
+    let p = c.args.process in
+    let found = c.guard_of-guard.result.now in
+    let guard = tree_of c.args.admitted.now.guards p in
+    let is : found ≡ guard = c.guard_of-guard.ensures.tree ∙ ap (λ (x : Guards). tree_of x p) c.guards.ensures.guards in
+    let wait = ready_by h f c.wait_for-wait.result.now in
+    let waits : IsWaitTree h f (node_of h p) found wait = subst (λ n. IsWaitTree h f n found wait) c.node_of-node.ensures.node
+    (subst (λ (r : Ready). IsWaitTree h f c.node_of-node.result found (ready_by h f r)) (sym c.wait_for-wait.ensures) c.in_ok-heard.ensures.wait) in
+    handed_as (IsLargeStart h f wait (process_at h p).release c.inputs-inputs.result.now found) (IsLargeThawed c.args.admitted.now.graph p f guard) f.wide c.from_residual-in_err-start.result c.in_err-start.field-0.0 c.from_residual-in_err-start.ensures.1
+    (λ x. thawed_as c.args.admitted.now.graph h c.problem-problem.ensures.problem p f guard found is (inr (record {
+      wait = wait;
+      waits = waits;
+      large = inl (subst (λ es. IsLargeStart h f wait (process_at h p).release es found) c.inputs-inputs.ensures x);
+    }))) c.in_err-start.ensures.fault
+
+pub returns-in_err-next-clause-fault : goal.returns-in_err-next-clause-fault
+returns-in_err-next-clause-fault c =
+    let h = c.problem-problem.result.now in
+    let f = c.args.forest.now in
+    let p = c.args.process in
+    let found = c.guard_of-guard.result.now in
+    let guard = tree_of c.args.admitted.now.guards p in
+    let is : found ≡ guard = c.guard_of-guard.ensures.tree ∙ ap (λ (x : Guards). tree_of x p) c.guards.ensures.guards in
+    let start = c.in_ok-start.start in
+    let wait = ready_by h f c.wait_for-wait.result.now in
+    let waits : IsWaitTree h f (node_of h p) found wait = subst (λ n. IsWaitTree h f n found wait) c.node_of-node.ensures.node
+    (subst (λ (r : Ready). IsWaitTree h f c.node_of-node.result found (ready_by h f r)) (sym c.wait_for-wait.ensures) c.in_ok-heard.ensures.wait) in
+    handed_as (IsLargeEnd h p start) (IsLargeThawed c.args.admitted.now.graph p f guard) f.wide c.from_residual-in_err-next.result c.in_err-next.field-0.0 c.from_residual-in_err-next.ensures.1
+    (λ x. thawed_as c.args.admitted.now.graph h c.problem-problem.ensures.problem p f guard found is (inr (record {
+      wait = wait;
+      waits = waits;
+      large = inr (start, subst (λ es. IsStartTree h f wait (process_at h p).release es found start) c.inputs-inputs.ensures c.in_ok-start.ensures.start, x);
+    }))) c.in_err-next.ensures.fault

@@ -1,4 +1,4 @@
-use Rattle.std.proofs.Common.{◌≡◌, ◌∙◌, ap, sym, subst}
+use Rattle.std.proofs.Common.{◌+◌, ◌≡◌, ◌∙◌, ap, sym, subst}
 use Rattle.cpg_base.specs.Graph.{Graph, node_of}
 use Rattle.cpg_order.specs.Guard.{Guard}
 use Rattle.cpg_rules.specs.Guards.{Guards, tree_of}
@@ -8,6 +8,10 @@ use Rattle.cpg_expand.specs.Waited.{IsReadyOnce}
 use Rattle.cpg_expand.specs.Waiting.{IsWaitTree}
 use Rattle.cpg_expand.specs.declared.forest.Ready.{Ready}
 use Rattle.cpg_expand.proofs.ReadyMade.{ready_everywhere}
+use Rattle.cpg_base.specs.Order.{place}
+use Rattle.cpg_expand.specs.Large.{IsLargeFrozen, IsLargeWait}
+use Rattle.cpg_expand.specs.Waited.{IsWaitedFor}
+use Rattle.cpg_expand.proofs.LargeShown.{handed_as}
 use Rattle.cpg_expand.proofs.along.ready_after.Goals as goal
 
 pub returns-then-is_true-clause-ready : goal.returns-then-is_true-clause-ready
@@ -28,3 +32,18 @@ returns-clause-ready c waited =
     let made : IsReadyOnce h f (node_of h p) found c.args.active.now c.args.end.now then = record { wait = wait; waits = waits; is = c.in_ok-ready.ensures.ready } in
     subst (λ (g : Graph). IsReadyOnce g f (node_of g p) (tree_of c.args.admitted.now.guards p) c.args.active.now c.args.end.now then) c.problem-problem.ensures.problem
     (subst (λ (k : Guard). IsReadyOnce h f (node_of h p) k c.args.active.now c.args.end.now then) is_found made)
+
+pub returns-in_err-heard-clause-fault : goal.returns-in_err-heard-clause-fault
+returns-in_err-heard-clause-fault c =
+    let g = c.args.admitted.now.graph in
+    let h = c.problem-problem.result.now in
+    let f = c.args.forest.now in
+    let p = c.args.process in
+    let order = c.args.order.now in
+    let found = c.guard_of-guard.result.now in
+    let guard = tree_of c.args.admitted.now.guards p in
+    let is : found ≡ guard = c.guard_of-guard.ensures.tree ∙ ap (λ (x : Guards). tree_of x p) c.guards.ensures.guards in
+    let same = c.problem-problem.ensures.problem in
+    let waited : IsWaitedFor g order (place order p + 1) (node_of g p) = subst (λ (k : Graph). IsWaitedFor k order (place order p + 1) (node_of k p)) same (c.is_waited_for.ensures.by c.if-not-is_waited_for.false) in
+    handed_as (IsLargeWait h f c.node_of-node.result found) (IsLargeFrozen g order p f guard) f.wide c.from_residual-in_err-heard.result c.in_err-heard.field-0.0 c.from_residual-in_err-heard.ensures.1
+    (λ x. (waited, subst (λ (k : Graph). IsLargeWait k f (node_of k p) guard) same (subst (IsLargeWait h f (node_of h p)) is (subst (λ n. IsLargeWait h f n found) c.node_of-node.ensures.node x)))) c.in_err-heard.ensures.fault

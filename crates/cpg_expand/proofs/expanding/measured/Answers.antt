@@ -15,17 +15,17 @@ returns c =
     let order = c.args.order in
     let guards = c.args.admitted.now.guards in
     let a = c.problem-problem.ensures.admitted in
-    let same = c.trees.view_is in
-    let frozen : List (Option ℕ) = c.in_ok-trees.trees.frozen in
-    let forest : ForestState = c.in_ok-trees.trees.forest in
-    let grown : IsGrown g order (process_count g) frozen forest = c.in_ok-trees.ensures in
+    let frozen : List (Option ℕ) = c.args.trees.frozen in
+    let forest : ForestState = c.args.trees.forest in
+    let grown : IsGrown g order (process_count g) frozen forest = c.requires.grown in
     let tells : TellEnds g order frozen forest.ends = grown_tells_ends g urgency guards a order c.requires.topological frozen forest grown in
     let worst : IsWorstOfTrees g urgency forest.ends c.in_ok-worst.worst = said_of (λ h us ts. IsWorstOfTrees h us ts c.in_ok-worst.worst) g c.problem-problem.result.now urgency c.order-urgency.result.now forest.ends c.as_slice-ends.result.now
-    c.problem-problem.ensures.problem c.order-urgency.ensures.order (c.as_slice-ends.ensures.value ∙ ap (λ (m : GrownForest). m.forest.ends) same) c.in_ok-worst.ensures.worst in
+    c.problem-problem.ensures.problem c.order-urgency.ensures.order (c.as_slice-ends.ensures.value ∙ ap (λ (m : GrownForest). m.forest.ends) c.trees.view_is) c.in_ok-worst.ensures.worst in
     let excess : IsExcessOfTrees g urgency forest.ends c.in_ok-excess.excess = said_of (λ h us ts. IsExcessOfTrees h us ts c.in_ok-excess.excess) g c.problem-problem.result.now urgency c.order-urgency.result.now forest.ends c.as_slice-ends.result.now
-    c.problem-problem.ensures.problem c.order-urgency.ensures.order (c.as_slice-ends.ensures.value ∙ ap (λ (m : GrownForest). m.forest.ends) same) c.in_ok-excess.ensures.excess in
+    c.problem-problem.ensures.problem c.order-urgency.ensures.order (c.as_slice-ends.ensures.value ∙ ap (λ (m : GrownForest). m.forest.ends) c.trees.view_is) c.in_ok-excess.ensures.excess in
     record {
       same = refl;
+      wide = c.requires.wide;
       trees = grown;
       frozen = grown_frozen g urgency guards a order c.requires.topological frozen forest grown;
       worst = worst order frozen c.requires.topological tells;

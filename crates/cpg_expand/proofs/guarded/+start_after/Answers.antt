@@ -1,12 +1,15 @@
-use Rattle.std.proofs.Common.{ℕ, ◌<◌, ◌∙◌, List, [], arith, sym, subst}
+use Rattle.std.proofs.Common.{ap, ℕ, ◌<◌, ◌∙◌, List, [], arith, sym, subst}
 use Rattle.std.proofs.lemmas.List.{nil_from_length}
 use Rattle.std.proofs.lemmas.Option.{MatchOption-at_none}
 use Rattle.cpg_base.specs.Graph.{edge_count}
 use Rattle.cpg_tree.specs.Read.{later_by}
 use Rattle.cpg_tree.proofs.Forks.{from_true}
-use Rattle.cpg_expand.specs.Forest.{input_delay, input_tree, ready_by}
+use Rattle.cpg_expand.specs.Large.{IsLarge}
+use Rattle.cpg_expand.specs.Forest.{ForestState, input_delay, input_tree, ready_by}
 use Rattle.cpg_expand.specs.Guarded.{IsStartAfter}
 use Rattle.cpg_expand.proofs.TreesTold.{all_parts, last_input, later_is, one_input, own_input}
+use Rattle.cpg_expand.proofs.LargeParts.{large_both, large_later, large_own}
+use Rattle.cpg_expand.proofs.LargeShown.{handed_on, named_as}
 use Rattle.cpg_expand.proofs.guarded.+start_after.Goals as goal
 
 pub returns-in_default-clause-start : goal.returns-in_default-clause-start
@@ -34,7 +37,7 @@ start_after-requires-2 t c =
     let below = all_parts (λ e. e < edge_count c.args.problem.now) c.args.edges.now c.in-Some.edge.now c.in-Some.others.now c.in-Some.ensures.cases.0 c.requires.edges in
     let shorter = c.in-Some.ensures.cases.1 in
     let at = c.decreases in
-    (omega arith, (c.requires.forest, (c.in_ok-ready_and_input.ensures.tree, below.1)))
+    (omega arith, (c.requires.forest, (c.in_ok-there.ensures.tree, below.1)))
 
 pub returns-clause-start : goal.returns-clause-start
 returns-clause-start t c =
@@ -42,5 +45,21 @@ returns-clause-start t c =
     let f = c.args.forest.now in
     let wait = ready_by g f c.args.wait.now in
     subst (λ (es : List ℕ). IsStartAfter g f wait c.args.release es c.in_ok-start-4.start) (sym c.in-Some.ensures.cases.0)
-    (λ s few. one_input g f s [] few wait (later_by (input_delay g c.in-Some.edge.now) (input_tree g f c.in-Some.edge.now)) c.in_ok-ready_and_input.field-0 c.in_ok-start-4.start c.args.release c.in-Some.edge.now c.in-Some.others.now
-    (later_is g (input_delay g c.in-Some.edge.now) (input_tree g f c.in-Some.edge.now)) c.in_ok-ready_and_input.ensures.both (c.in_ok-start-4.ensures.start s few))
+    (λ s few. one_input g f s [] few wait (later_by (input_delay g c.in-Some.edge.now) (input_tree g f c.in-Some.edge.now)) c.in_ok-there.there c.in_ok-start-4.start c.args.release c.in-Some.edge.now c.in-Some.others.now
+    (later_is g (input_delay g c.in-Some.edge.now) (input_tree g f c.in-Some.edge.now)) c.in_ok-there.ensures.both (c.in_ok-start-4.ensures.start s few))
+
+pub returns-in_err-start-2-clause-fault : goal.returns-in_err-start-2-clause-fault
+returns-in_err-start-2-clause-fault t c =
+    handed_on _ c.from_residual-in_err-start-2.result c.in_err-start-2.field-0.0 c.from_residual-in_err-start-2.ensures.1
+    (large_own c.args.problem.now c.args.forest.now (ready_by c.args.problem.now c.args.forest.now c.args.wait.now) c.args.forest.now.wide c.in_err-start-2.field-0.0 c.args.edges.now c.in-Some.edge.now c.in-Some.others.now c.in-Some.ensures.cases.0 (sym c.is_message.ensures ∙ c.if-not-is_message.true) c.in_err-start-2.ensures.fault)
+
+pub returns-in_err-few-clause-fault : goal.returns-in_err-few-clause-fault
+returns-in_err-few-clause-fault t c =
+    handed_on _ c.from_residual-in_err-few.result c.in_err-few.field-0.0 c.from_residual-in_err-few.ensures.1
+    (large_both c.args.problem.now c.args.forest.now (ready_by c.args.problem.now c.args.forest.now c.args.wait.now) c.args.forest.now.wide c.in_err-few.field-0.0 c.args.edges.now c.in-Some.edge.now c.in-Some.others.now c.in-Some.ensures.cases.0 c.in_ok-there.there c.in_ok-there.ensures.both
+    (named_as (IsLarge c.in_ok-there.there) c.forest.inside.wide c.args.forest.now.wide c.in_err-few.field-0.0 (ap (λ (x : ForestState). x.wide) c.forest.view_is) c.in_err-few.ensures))
+
+pub returns-in_err-start-4-clause-fault : goal.returns-in_err-start-4-clause-fault
+returns-in_err-start-4-clause-fault t c =
+    handed_on _ c.from_residual-in_err-start-4.result c.in_err-start-4.field-0.0 c.from_residual-in_err-start-4.ensures.1
+    (large_later c.args.problem.now c.args.forest.now (ready_by c.args.problem.now c.args.forest.now c.args.wait.now) c.args.forest.now.wide c.in_err-start-4.field-0.0 c.args.edges.now c.in-Some.edge.now c.in-Some.others.now c.in-Some.ensures.cases.0 c.in_ok-there.there c.in_ok-there.ensures.both c.in_err-start-4.ensures.fault)

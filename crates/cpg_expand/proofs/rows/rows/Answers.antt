@@ -3,6 +3,10 @@ use Rattle.cpg_expand.specs.Agreeing.{IsTree}
 use Rattle.cpg_expand.specs.Forest.{no_tree}
 use Rattle.cpg_expand.specs.MadeRows.{IsRowOf}
 use Rattle.cpg_expand.proofs.RowsMade.{next_left, rows_more}
+use Rattle.cpg_expand.proofs.WideRowsMade.{few_all, few_first, few_more, wide_shown}
+use Rattle.cpg_expand.specs.Large.{ShowsLarge}
+use Rattle.cpg_expand.specs.WideRows.{HaveWideRows}
+use Rattle.cpg_expand.proofs.LargeShown.{handed_on}
 use Rattle.cpg_expand.proofs.rows.rows.Goals as goal
 
 pub row-requires-clause-tree : goal.row-requires-clause-tree
@@ -30,4 +34,35 @@ loop-tree-preserved c =
       left = next.1;
       rows = rows_more g c.args.urgency.now times n c.loop-tree.rows.items c.push.new.self.items c.in_ok-row.row inv.rows
           (subst (λ t. IsRowOf g c.args.urgency.now t n c.in_ok-row.row) (sym next.0) c.in_ok-row.ensures) c.in_ok-push.ensures.items;
+      few = few_more g c.loop-tree.rows.items c.push.new.self.items c.in_ok-row.row n inv.rows.count c.in_ok-push.ensures.items c.args.wide c.loop-tree.load c.in_ok-load.load inv.few c.in_ok-load.ensures.load;
+      load = c.in_ok-load.ensures.few;
     }
+
+pub loop-tree-init : goal.loop-tree-init
+loop-tree-init c = record {
+  count = search rules;
+  left = search rules;
+  rows = search rules;
+  few = few_first c.args.wide c.args.problem.now _ (search rules);
+  load = omega arith;
+}
+
+pub returns-clause-few : goal.returns-clause-few
+returns-clause-few c =
+    let inv = c.loop-tree.invariant in
+    few_all c.args.wide c.args.problem.now c.loop-tree.rows.items c.loop-tree.item c.loop-tree.load (search rules) inv.few
+
+pub returns-in_err-load-clause-fault : goal.returns-in_err-load-clause-fault
+returns-in_err-load-clause-fault c =
+    let g = c.args.problem.now in
+    let times = c.args.times.items in
+    let n = c.loop-tree.item in
+    let inv = c.loop-tree.invariant in
+    let rest = c.next.new.self.rest.items in
+    let is : c.loop-tree.tree-iterator.rest.items ≡ c.in-Some.tree ∷ rest = search rules in
+    let within : n < length times = omega (arith, inv.count, ap length is) in
+    let next = next_left times rest c.in-Some.tree (no_tree g.faults) n (sym is ∙ inv.left) in
+    let fault = c.in_err-load.field-0.0 in
+    handed_on _ c.from_residual-in_err-load.result fault c.from_residual-in_err-load.ensures.1
+    (wide_shown c.args.wide fault g c.args.urgency.now times c.loop-tree.rows.items c.in_ok-row.row n c.loop-tree.load (omega (arith, within, c.requires.count)) inv.rows
+    (subst (λ t. IsRowOf g c.args.urgency.now t n c.in_ok-row.row) (sym next.0) c.in_ok-row.ensures) inv.few c.in_err-load.ensures.fault)

@@ -1,5 +1,7 @@
-use Rattle.std.proofs.Common.{◌≡◌, ◌+◌, drop, length}
+use Rattle.std.proofs.Common.{◌≡◌, ◌≤◌, ◌+◌, drop, length}
+use Rattle.cpg_base.specs.declared.limits.TheConstants.{MOST_LOAD}
 use Rattle.cpg_expand.specs.MadeRows.{AreFirstRows}
+use Rattle.cpg_expand.specs.WideRows.{AreFewIf}
 use Rattle.cpg_expand.proofs.rows.rows.Given as goal
 
 abbrev pub invariant-loop-tree : goal.invariant-loop-tree
@@ -7,4 +9,6 @@ invariant-loop-tree l = record {
   count : l.item + length l.tree-iterator.rest.items ≡ length l.fn.times.items;
   left : l.tree-iterator.rest.items ≡ drop l.item l.fn.times.items;
   rows : AreFirstRows l.problem l.urgency l.fn.times.items l.item l.rows.items;
+  few : AreFewIf l.wide l.problem l.rows.items l.item l.load;
+  load : l.load ≤ MOST_LOAD;
 }

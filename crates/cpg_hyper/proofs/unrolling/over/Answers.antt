@@ -25,6 +25,17 @@ returns-in-Err c =
     } in
     from_processes c.args.whole c.args.parts.now c.requires.over few c.in-Err.fault c.in-Err.ensures
 
+pub returns-in-Some : goal.returns-in-Some
+returns-in-Some c =
+    let g = unrolled c.args.whole c.args.parts.now in
+    let count : c.condition_total.result ≡ condition_count g = count_is g c.as_slice.result.now c.process_total-process_count.result c.condition_total.result (c.as_slice.ensures.value ∙ c.in_ok-edges.ensures) c.process_total-process_count.ensures c.condition_total.ensures in
+    let few : HasFewEnough g = record {
+      processes = omega (arith, c.process_total-process_count.ensures, c.if-process_count-gt-MOST_PROCESSES.false);
+      edges = omega (arith, c.edge_total.ensures, c.if-edge_total-gt-MOST_EDGES.false);
+      conditions = omega (arith, count, c.if-condition_total-gt-MOST_CONDITIONS.false);
+    } in
+    (c.args.whole, c.requires.over, few, c.in-Ok.ensures.1, c.in-Some.ensures.first)
+
 pub built-requires-clause-counts : goal.built-requires-clause-counts
 built-requires-clause-counts c =
     let g = unrolled c.args.whole c.args.parts.now in

@@ -5,7 +5,7 @@ use Rattle.cpg_table.specs.Writing.{AreWritable, AreTablesWith}
 use Rattle.cpg_reach.proofs.Narrow.{none_too_wide}
 use Rattle.cpg_run.specs.Found.{AreRowsFound}
 use Rattle.cpg_run.specs.RowLaws.{IsTimed}
-use Rattle.cpg_run.proofs.Written.{found_rows_are_writable}
+use Rattle.cpg_run.proofs.Written.{found_rows_are_writable, found_rows_fit}
 use Rattle.cpg_list.proofs.CodeMade.{timed_of}
 use Rattle.cpg_list.proofs.FoundRows.{found_rows}
 use Rattle.cpg_list.proofs.listing.tables.Goals as goal
@@ -20,7 +20,8 @@ tables_of-requires-clause-rows c =
     let timed : IsTimed g urgency order frozen = timed_of g urgency order c.args.admitted.now.guards frozen c.problem-problem.ensures.admitted c.requires.topological c.requires.frozen in
     let found : AreRowsFound g urgency order frozen rows = found_rows g urgency order frozen rows timed c.requires.early c.in_ok-rows.ensures.items c.in_ok-rows.ensures.rows in
     subst (λ (h : Graph). AreWritable h rows) (sym c.problem-problem.ensures.problem)
-    (found_rows_are_writable g urgency order frozen rows c.problem-problem.ensures.admitted.limits timed.admitted found (none_too_wide g order c.requires.narrow))
+    (found_rows_are_writable g urgency order frozen rows c.problem-problem.ensures.admitted.limits timed.admitted found
+    (found_rows_fit g urgency order frozen rows c.problem-problem.ensures.admitted.limits timed.admitted found (none_too_wide g order c.requires.narrow)))
 
 pub returns : goal.returns
 returns c =

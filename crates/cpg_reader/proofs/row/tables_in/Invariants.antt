@@ -1,7 +1,9 @@
-use Rattle.std.proofs.Common.{◌≡◌, ◌++◌, drop, map, option_map}
+use Rattle.std.proofs.Common.{◌≡◌, map, drop}
+use Rattle.toml.specs.Data.{as_table}
 use Rattle.toml.specs.View.{items_view, table_view}
-use Rattle.cpg_reader.specs.Rows.{tables_in}
+use Rattle.cpg_reader.specs.Rows.{items_as}
+use Rattle.cpg_reader.proofs.Items.{after}
 use Rattle.cpg_reader.proofs.row.tables_in.Given as goal
 
 abbrev pub invariant-loop-element : goal.invariant-loop-element
-invariant-loop-element l = tables_in (items_view l.element-items) ≡ option_map (λ rest. map (λ t. table_view t.now) l.tables.items ++ rest) (tables_in (items_view (drop l.element-index l.element-items)))
+invariant-loop-element l = items_as as_table (items_view l.element-items) ≡ after (map (λ t. table_view t.now) l.tables.items) (items_as as_table (items_view (drop l.element-index l.element-items)))

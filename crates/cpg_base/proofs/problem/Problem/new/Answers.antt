@@ -1,4 +1,4 @@
-use Rattle.std.proofs.Common.{◌≡◌, ℕ, ◌≤◌, ◌<◌, rules, ◌∙◌, ap, ap₂, length, filter, arith}
+use Rattle.std.proofs.Common.{◌≡◌, None, ℕ, ◌≤◌, ◌<◌, rules, ◌∙◌, ap, ap₂, length, filter, arith}
 use Rattle.cpg_base.specs.Numbers.{numbers_below}
 use Rattle.cpg_base.specs.Conditions.{has_conditional_output}
 use Rattle.cpg_base.specs.Graph.{Graph, disjunctions}
@@ -10,7 +10,7 @@ above a b h l = omega arith
 
 pub returns-in_default-clause-refused : goal.returns-in_default-clause-refused
 returns-in_default-clause-refused c =
-    let g : Graph = record { faults = c.args.faults; deadline = c.args.deadline; nodes = c.args.nodes.items; slots = c.args.slots.items; processes = c.args.processes.items; edges = c.args.edges.items } in
+    let g : Graph = record { faults = c.args.faults; deadline = c.args.deadline; nodes = c.args.nodes.items; slots = c.args.slots.items; processes = c.args.processes.items; edges = c.args.edges.items; order = None } in
     let count : c.len-8.result ≡ length c.args.processes.items = search rules in
     let found : filter (has_conditional_output c.as_slice-7.result.now) (numbers_below c.len-8.result) ≡ disjunctions g = ap₂ (λ es n. filter (has_conditional_output es) (numbers_below n)) c.as_slice-7.ensures.value count ∙ conditions_found g in
     let many : 32 < length (filter (has_conditional_output c.as_slice-7.result.now) (numbers_below c.len-8.result)) = c.in_default.ensures.many in
@@ -19,7 +19,7 @@ returns-in_default-clause-refused c =
 
 pub invariant_of-result : goal.invariant_of-result
 invariant_of-result c =
-    let g : Graph = record { faults = c.args.faults; deadline = c.args.deadline; nodes = c.args.nodes.items; slots = c.args.slots.items; processes = c.args.processes.items; edges = c.args.edges.items } in
+    let g : Graph = record { faults = c.args.faults; deadline = c.args.deadline; nodes = c.args.nodes.items; slots = c.args.slots.items; processes = c.args.processes.items; edges = c.args.edges.items; order = None } in
     let count : c.len-8.result ≡ length c.args.processes.items = search rules in
     let found : c.in-Some.conditions ≡ disjunctions g = c.in-Some.ensures.found ∙ ap₂ (λ es n. filter (has_conditional_output es) (numbers_below n)) c.as_slice-7.ensures.value count ∙ conditions_found g in (
       record {
@@ -36,13 +36,14 @@ invariant_of-result c =
         node_names = search rules;
         process_names = search rules;
         own_slots = search rules;
+        order = tt;
       },
       found,
     )
 
 pub returns-clause-within : goal.returns-clause-within
 returns-clause-within c =
-    let g : Graph = record { faults = c.args.faults; deadline = c.args.deadline; nodes = c.args.nodes.items; slots = c.args.slots.items; processes = c.args.processes.items; edges = c.args.edges.items } in
+    let g : Graph = record { faults = c.args.faults; deadline = c.args.deadline; nodes = c.args.nodes.items; slots = c.args.slots.items; processes = c.args.processes.items; edges = c.args.edges.items; order = None } in
     let count : c.len-8.result ≡ length c.args.processes.items = search rules in
     let found : c.in-Some.conditions ≡ disjunctions g = c.in-Some.ensures.found ∙ ap₂ (λ es n. filter (has_conditional_output es) (numbers_below n)) c.as_slice-7.ensures.value count ∙ conditions_found g in
     record {
@@ -59,4 +60,5 @@ returns-clause-within c =
       node_names = search rules;
       process_names = search rules;
       own_slots = search rules;
+      order = tt;
     }

@@ -1,4 +1,4 @@
-use Rattle.std.proofs.Common.{◌≡◌, ◌<◌, rules, ◌∙◌, ap₂, length, filter, arith}
+use Rattle.std.proofs.Common.{◌≡◌, None, ◌<◌, rules, ◌∙◌, ap₂, length, filter, arith}
 use Rattle.cpg_base.specs.Numbers.{numbers_below}
 use Rattle.cpg_base.specs.Conditions.{has_conditional_output}
 use Rattle.cpg_base.specs.Graph.{Graph, disjunctions}
@@ -7,7 +7,7 @@ use Rattle.cpg_base.proofs.problem.Problem.of.Goals as goal
 
 pub unreachable-requires : goal.unreachable-requires
 unreachable-requires c =
-    let g : Graph = record { faults = c.args.faults; deadline = c.args.deadline; nodes = c.args.nodes.items; slots = c.args.slots.items; processes = c.args.processes.items; edges = c.args.edges.items } in
+    let g : Graph = record { faults = c.args.faults; deadline = c.args.deadline; nodes = c.args.nodes.items; slots = c.args.slots.items; processes = c.args.processes.items; edges = c.args.edges.items; order = None } in
     let count : c.len.result ≡ length c.args.processes.items = search rules in
     let found : filter (has_conditional_output c.as_slice.result.now) (numbers_below c.len.result) ≡ disjunctions g = ap₂ (λ es n. filter (has_conditional_output es) (numbers_below n)) c.as_slice.ensures.value count ∙ conditions_found g in
     let many : 32 < length (filter (has_conditional_output c.as_slice.result.now) (numbers_below c.len.result)) = c.in_default.ensures.many in
@@ -16,6 +16,6 @@ unreachable-requires c =
 
 pub invariant_of-result : goal.invariant_of-result
 invariant_of-result c =
-    let g : Graph = record { faults = c.args.faults; deadline = c.args.deadline; nodes = c.args.nodes.items; slots = c.args.slots.items; processes = c.args.processes.items; edges = c.args.edges.items } in
+    let g : Graph = record { faults = c.args.faults; deadline = c.args.deadline; nodes = c.args.nodes.items; slots = c.args.slots.items; processes = c.args.processes.items; edges = c.args.edges.items; order = None } in
     let count : c.len.result ≡ length c.args.processes.items = search rules in
     (c.requires, c.in-Some.ensures.found ∙ ap₂ (λ es n. filter (has_conditional_output es) (numbers_below n)) c.as_slice.ensures.value count ∙ conditions_found g)

@@ -17,7 +17,7 @@ returns-in_ok-both c =
     let end = c.index.result.now in
     let further = c.args.further.now in
     let both = c.in_ok-both.both in
-    let inside : ForestState = record { times = c.self.inside.times.items; ends = c.self.inside.ends.items; ready = c.self.inside.ready.items; free = c.self.inside.free.items } in
+    let inside : ForestState = record { times = c.self.inside.times.items; ends = c.self.inside.ends.items; ready = c.self.inside.ready.items; free = c.self.inside.free.items; wide = c.self.inside.wide } in
     let same : end ≡ ends_of g f p = ends_read g f c.requires.forest inside c.self.view_is end p p c.index.ensures refl c.process_of-process.ensures.within in
     let of_end : IsTree g end = subst (IsTree g) (sym same) (ends_tree g f c.requires.forest p c.process_of-process.ensures.within) in
     record {
@@ -36,7 +36,7 @@ returns-in_ok-both-2 c =
     let further = c.args.further.now in
     let both = c.in_ok-both-2.both in
     let delay = c.slot_length-delay.result in
-    let inside : ForestState = record { times = c.self.inside.times.items; ends = c.self.inside.ends.items; ready = c.self.inside.ready.items; free = c.self.inside.free.items } in
+    let inside : ForestState = record { times = c.self.inside.times.items; ends = c.self.inside.ends.items; ready = c.self.inside.ready.items; free = c.self.inside.free.items; wide = c.self.inside.wide } in
     let same : times ≡ times_of g f x = times_read g f c.requires.forest inside c.self.view_is times x x c.index-else-node_of-node.ensures refl c.broadcast_item-item.ensures.within in
     let of_times : IsTree g times = subst (IsTree g) (sym same) (times_tree g f c.requires.forest x c.broadcast_item-item.ensures.within) in
     record {

@@ -21,7 +21,7 @@ returns-in_ok-start-in-After c =
     let start = c.in_ok-start-in-After.start in
     let delay = c.slot_length-delay.result in
     let l : p < process_count g = subst (IsWait g) c.in-After.is c.requires.ready in
-    let inside : ForestState = record { times = c.self.inside.times.items; ends = c.self.inside.ends.items; ready = c.self.inside.ready.items; free = c.self.inside.free.items } in
+    let inside : ForestState = record { times = c.self.inside.times.items; ends = c.self.inside.ends.items; ready = c.self.inside.ready.items; free = c.self.inside.free.items; wide = c.self.inside.wide } in
     let same : times ≡ times_of g f x = times_read g f c.requires.forest inside c.self.view_is times x x c.index-times.ensures refl c.requires.item in
     let same_end : end ≡ ends_of g f p = ends_read g f c.requires.forest inside c.self.view_is end p p c.index.ensures refl l in
     let of_times : IsTree g times = subst (IsTree g) (sym same) (times_tree g f c.requires.forest x c.requires.item) in
@@ -42,7 +42,7 @@ returns-in_ok-start-in-At c =
     let start = c.in_ok-start-in-At.start in
     let delay = c.slot_length-delay.result in
     let of : IsTree g ready = subst (IsWait g) c.in-At.is c.requires.ready in
-    let inside : ForestState = record { times = c.self.inside.times.items; ends = c.self.inside.ends.items; ready = c.self.inside.ready.items; free = c.self.inside.free.items } in
+    let inside : ForestState = record { times = c.self.inside.times.items; ends = c.self.inside.ends.items; ready = c.self.inside.ready.items; free = c.self.inside.free.items; wide = c.self.inside.wide } in
     let same : times ≡ times_of g f x = times_read g f c.requires.forest inside c.self.view_is times x x c.index-times.ensures refl c.requires.item in
     let of_times : IsTree g times = subst (IsTree g) (sym same) (times_tree g f c.requires.forest x c.requires.item) in
     record {

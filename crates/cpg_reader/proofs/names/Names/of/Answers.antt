@@ -1,4 +1,5 @@
-use Rattle.std.proofs.Common.{◌∙◌, sym, map, []}
+use Rattle.std.proofs.Common.{◌∙◌, Err, sym, ap, map, []}
+use Rattle.cpg_reader.specs.declared.place.ReadFault.TheVariants.{DoubleName}
 use Rattle.cpg_reader.specs.Names.{apart, apart_from}
 use Rattle.cpg_reader.proofs.Texts.{was_there, was_new, is_double, is_new, seen_more}
 use Rattle.cpg_reader.proofs.names.Names.of.Goals as goal
@@ -10,6 +11,7 @@ returns-then-not-branch-clause-apart g c =
     is_double c.args.table c.args.key g.T.Named.named c.args.elements.now c.loop-index.index c.index-elements-index.result c.loop-index.names.keys c.name.result
     (apart_from c.args.table c.args.key 0 [] (map g.T.Named.named c.args.elements.now))
     c.loop-index-test.true c.index-elements-index.is c.name.ensures there c.loop-index.invariant.same
+    ∙ ap (λ place. Err (DoubleName place)) (sym c.of_name.ensures)
 
 pub loop-index-preserved : goal.loop-index-preserved
 loop-index-preserved g c =

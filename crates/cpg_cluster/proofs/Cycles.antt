@@ -1,0 +1,180 @@
+-- All of a cycle is over at its end.
+use Rattle.std.proofs.Common.{◌≡◌, ℕ, suc, ◌+◌, ◌-◌, ◌*◌, ◌<◌, ◌≤◌, max, true, ◌==◌, List, [], ◌∷◌, length, take, get_or, Contains, Option, Some, None, refl, sym, ap, ◌∙◌, arith, inl, inr, eq-eqb, ne_eqb, mul-le-mul_right, ltb-true}
+use Rattle.std.specs.Prelude.{nat_lt, sum_by, map, zero}
+use Rattle.std.specs.Int.{div_ceil}
+use Rattle.std.proofs.lemmas.Bool.{cases_eq, cases_lt, and_from, not_from_false}
+use Rattle.std.proofs.lemmas.Grind.{div_ceil_times}
+use Rattle.std.proofs.lemmas.List.Elements.{Contains-get_or}
+use Rattle.std.proofs.lemmas.List.Sums.{sum_by-cons}
+use Rattle.cpg_base.specs.Numbers.{numbers_below}
+use Rattle.cpg_base.specs.Graph.{Graph, process_count, item_count, item_at, is_sent, is_heard_by, is_sent_item, home, node_of, target, process_at, process_of}
+use Rattle.cpg_base.specs.declared.process.Slot.{Slot}
+use Rattle.cpg_base.specs.WellFormed.{WellFormed}
+use Rattle.cpg_base.specs.Bus.{round, offset, slot_length, slot_place}
+use Rattle.cpg_base.specs.Duration.{duration, lesser_due}
+use Rattle.cpg_base.specs.Scenario.{fault_of}
+use Rattle.cpg_base.proofs.Items.{item_cases}
+use Rattle.cpg_base.proofs.Lists.{Contains-map, Contains-flat_map, Contains-filter_parts, numbers-Contains, greatest_above}
+use Rattle.cpg_base.proofs.Slots.{slot_place-lt}
+use Rattle.cpg_cube.specs.Column.{Column}
+use Rattle.cpg_table.specs.Table.{Row, NodeTable, table_at, empty_table, columns_of}
+use Rattle.cpg_table.specs.Shape.{processes_on}
+use Rattle.cpg_table.specs.Valid.{hear_row, later_by}
+use Rattle.cpg_table.proofs.Rows.{not_both}
+use Rattle.cpg_table.proofs.Settings.{Match, match_due}
+use Rattle.cpg_node.specs.Dispatcher.{times_in}
+use Rattle.cpg_cluster.specs.Cluster.{World, Cluster, open_cluster, play, IsPlayed}
+use Rattle.cpg_cluster.specs.Cycles.{last_arrival, cycle_step, IsCycle, LeastCyclesAreLeast, IsOverBy, CyclesHoldAll, CyclesHaveTheSameSlots, CyclesAreApart}
+use Rattle.cpg_cluster.proofs.Asked.{asked_match}
+use Rattle.cpg_cluster.proofs.Nodes.{Played, hear_row_in}
+use Rattle.cpg_cluster.proofs.Ends.{ended_by}
+use Rattle.cpg_cluster.proofs.Reached.{reached}
+use Rattle.cpg_cluster.proofs.Reporting.{reports_hold}
+use Rattle.cpg_cluster.proofs.Plays.{played_of}
+
+-- The least cycle.
+
+below_turns : (bound step rounds : ℕ) → 0 < step → bound ≤ rounds * step → div_ceil bound step ≤ rounds
+below_turns bound step rounds h k = elim (cases_lt rounds (div_ceil bound step)) [
+  | inl l ↦ absurd (omega (arith, div_ceil_times bound step h, mul-le-mul_right step l))
+  | inr l ↦ l
+]
+
+pub least_cycles : LeastCyclesAreLeast
+least_cycles g tables =
+    let step : ℕ = cycle_step g in
+    let bound : ℕ = max (max g.deadline (last_arrival tables)) 1 in
+    let there : 0 < step = omega arith in
+    let over : bound ≤ div_ceil bound step * step = (div_ceil_times bound step there).0 in
+    record {
+      is = record { some = omega (arith, over); rounds = div_ceil bound step; whole = refl; deadline = omega (arith, over); arrivals = omega (arith, over) };
+      least = λ other c.
+          let within : bound ≤ c.rounds * step = omega (arith, c.some, c.whole, c.deadline, c.arrivals) in
+          let fewer : div_ceil bound step * step ≤ c.rounds * step = mul-le-mul_right step (below_turns bound step c.rounds there within) in
+          omega (arith, fewer, c.whole);
+    }
+
+-- Each frame has a node that hears it.
+
+record Hearer (g : Graph) (x : ℕ) : Type 0 where
+  node : ℕ
+  within : node < length g.nodes
+  hears : is_heard_by g node (item_at g x) ≡ true
+
+hearer : (g : Graph) → WellFormed g → (x : ℕ) → x < item_count g → is_sent g x ≡ true → Hearer g x
+hearer g f x l sent = elim (item_cases g x l) [
+  | inl q ↦ absurd (not_both g x q.0 sent)
+  | inr (inl q) ↦ record {
+    node = node_of g (target g q.0);
+    within = f.nodes (target g q.0) (f.targets q.0 q.1);
+    hears = ap (is_heard_by g (node_of g (target g q.0))) q.3 ∙ and_from _ _ (sym (ap (is_sent_item g) q.3) ∙ sent) (eq-eqb _ _ refl);
+  }
+  | inr (inr q) ↦
+      let two : nat_lt 1 (length g.nodes) ≡ true = sym (ap (is_sent_item g) q.3) ∙ sent in
+      let many : 1 < length g.nodes = ltb-true 1 (length g.nodes) two in
+      elim (cases_eq (node_of g (process_of g q.0)) 0) [
+        | inl e ↦ record {
+          node = 1;
+          within = omega (arith, many);
+          hears = ap (is_heard_by g 1) q.3 ∙ and_from _ _ two (not_from_false _ (ne_eqb _ _ (λ s. absurd (omega (arith, e, s)))));
+        }
+        | inr ne ↦ record {
+          node = 0;
+          within = omega (arith, many);
+          hears = ap (is_heard_by g 0) q.3 ∙ and_from _ _ two (not_from_false _ (ne_eqb _ _ ne));
+        }
+      ]
+]
+
+lesser : (deadline : ℕ) (own : Option ℕ) → lesser_due deadline own ≤ deadline
+lesser deadline None = omega arith
+lesser deadline (Some own) = omega arith
+
+module _ {g : Graph} {tables : List NodeTable} {w : World} (k : Played g tables w) (time : ℕ) (cycle : IsCycle g tables time) where
+  -- what a node hears arrives in the cycle
+  arrives : (x : ℕ) (c : Column) → x < item_count g → is_sent g x ≡ true → Contains (columns_of tables x) c → c.time + slot_length g (home g x) ≤ time
+  arrives x c l sent m =
+      let h = hearer g k.setting.formed x l sent in
+      let row = hear_row_in k h.node h.within [] None x l h.hears in
+      let here : Contains (times_in (table_at tables h.node).hears) (c.time + slot_length g (home g x)) =
+      Contains-flat_map (λ (row : Row). map (λ (c : Column). c.time) row.columns) (table_at tables h.node).hears (hear_row g tables x) (c.time + slot_length g (home g x)) row
+      (Contains-map (λ (c : Column). c.time) (hear_row g tables x).columns (later_by (slot_length g (home g x)) c) (Contains-map (later_by (slot_length g (home g x))) (columns_of tables x) c m)) in
+      let all = Contains-flat_map (λ (t : NodeTable). times_in t.hears) tables (table_at tables h.node) (c.time + slot_length g (home g x))
+      (Contains-get_or tables h.node empty_table (omega (arith, k.setting.shape.count, h.within))) here in
+      omega (arith, greatest_above _ (c.time + slot_length g (home g x)) all, cycle.arrivals)
+
+  planned_end : (p : ℕ) (c : Column) → Match tables w.scenario p c → p < process_count g → c.time + duration g p (fault_of w.scenario p) ≤ time
+  planned_end p c m l = omega (arith, match_due k.setting p c m l, lesser g.deadline (process_at g p).deadline, cycle.deadline)
+
+  known : (node p : ℕ) → Contains (processes_on g node) p → p < process_count g
+  known node p m = numbers-Contains (process_count g) p (Contains-filter_parts (λ p. node_of g p == node) (numbers_below (process_count g)) p m).0
+
+  pub over : (turns : List ℕ) → IsOverBy g w.scenario (play g w (open_cluster g tables) turns) time
+  over turns =
+      let c : Cluster = play g w (open_cluster g tables) turns in
+      let played : IsPlayed g tables w c = record { turns = turns; is = refl } in
+      record {
+        starts = λ node a l m p. let q = ((reached k turns).holds node l).done.only a m in omega (arith, planned_end a.item q.0.column (asked_match q.0) p, q.0.time);
+        sends = λ node a l m p. let q = ((reached k turns).holds node l).done.only a m in
+            omega (arith, arrives a.item q.0.column q.0.row.within (elim q.0.row.kind [ inl less ↦ absurd (omega (arith, less, p)) | inr e ↦ e ]) (asked_match q.0).there, q.0.time);
+        ends = λ node e l m. let q = ((ended_by k c played node l).only e m).0 in omega (arith, planned_end q.process q.column q.match (known node q.process q.on), q.time);
+        reports = λ node e l m. let q = (((reports_hold k c played).each node l).only e m).0 in
+            omega (arith, planned_end q.process q.column q.match (known node q.process q.on), (k.world.lengths q.process (known node q.process q.on)).1, q.time);
+      }
+
+pub cycles_hold_all : CyclesHoldAll
+cycles_hold_all g tables time f h v cycle w turns is = over (played_of g tables f h v w is) time cycle turns
+
+-- Slots.
+
+front_sum : (slots : List Slot) (n : ℕ) (d : Slot) → n < length slots → sum_by (λ (s : Slot). s.length) (take n slots) + (get_or slots n d).length ≤ sum_by (λ (s : Slot). s.length) slots
+front_sum [] n d l = absurd (omega arith)
+front_sum (s ∷ slots) zero d l = omega (arith, sum_by-cons (λ (s : Slot). s.length) s slots)
+front_sum (s ∷ slots) (suc n) d l = omega (arith, sum_by-cons (λ (s : Slot). s.length) s slots, sum_by-cons (λ (s : Slot). s.length) s (take n slots), front_sum slots n d (omega arith))
+
+-- over plain numbers
+fewer_rounds : (a b r off t : ℕ) → off < r → a * r + t ≡ b * r + off → a ≤ b
+fewer_rounds a b r off t l e = elim (cases_lt b a) [
+  | inr le ↦ le
+  | inl lt ↦ absurd (let m : suc b * r ≤ a * r = mul-le-mul_right r lt in omega (arith, m, l, e))
+]
+
+pub same_slots : CyclesHaveTheSameSlots
+same_slots g tables time cycle node f c has = record {
+  later = λ t at. (all + at.0, omega (arith, at.1, begin, parts all at.0 (round g)));
+  earlier = λ t at.
+      let fewer : all ≤ at.0 = fewer_rounds all at.0 (round g) (offset g node) t inside (sym (ap (λ n. n + t) begin) ∙ at.1) in (
+        at.0 - all,
+        let both : all + (at.0 - all) ≡ at.0 = omega (arith, fewer) in
+            let whole : at.0 * round g ≡ all * round g + (at.0 - all) * round g = ap (λ n. n * round g) (sym both) ∙ parts all (at.0 - all) (round g) in omega (arith, at.1, begin, whole),
+      );
+}
+  where
+    all : ℕ
+    all = cycle * c.rounds
+
+    parts : (a b r : ℕ) → (a + b) * r ≡ a * r + b * r
+    parts a b r = omega arith
+
+    inside : offset g node < round g
+    inside =
+        let l = slot_place-lt g node has in
+        let one = f.slot_lengths (slot_place g node) (record { node = 0; length = 0; bytes = 0 }) l in
+        omega (arith, front_sum g.slots (slot_place g node) (record { node = 0; length = 0; bytes = 0 }) l, one)
+
+    begin : cycle * time ≡ all * round g
+    begin = let step : cycle_step g ≡ round g = omega (arith, inside) in ap (λ t. cycle * t) (c.whole ∙ ap (λ n. c.rounds * n) step) ∙ assoc cycle c.rounds (round g)
+      where
+        assoc : (a b r : ℕ) → a * (b * r) ≡ a * b * r
+        assoc a b r = omega arith
+
+-- Cycles.
+
+pub cycles_are_apart : CyclesAreApart
+cycles_are_apart g tables time f h v cycle w z turns others one later is iz less =
+    let o = over (played_of g tables f h v w is) time cycle turns in
+    let gap : suc one * time ≤ later * time = mul-le-mul_right time less in
+    record {
+      executions = λ node there a b l m n p. omega (arith, o.starts node a l m p, gap);
+      frames = λ node there a b l m n p. omega (arith, o.sends node a l m p, gap);
+    }

@@ -1,0 +1,15 @@
+-- The tables of a pack have what their nodes need of the graph.
+use Rattle.std.proofs.Common.{◌≡◌, ℕ, ◌<◌, List, length, sym, arith}
+use Rattle.cpg_base.specs.Graph.{Graph}
+use Rattle.cpg_base.specs.Limits.{IsWithinLimits}
+use Rattle.cpg_head.specs.GraphHead.{head_of}
+use Rattle.cpg_table.specs.Table.{NodeTable, table_at}
+use Rattle.cpg_table.specs.Lawful.{AreTablesOf}
+use Rattle.cpg_table.proofs.GraphTables.{suits_graph}
+use Rattle.cpg_cluster.specs.Cluster.{own_table}
+
+-- each table says of the graph what its node needs
+pub own_is : (g : Graph) (tables : List NodeTable) → IsWithinLimits g → AreTablesOf (head_of g) tables → (i : ℕ) → i < length tables → own_table g i (table_at tables i) ≡ table_at tables i
+own_is g tables within of i l =
+    let s = suits_graph g within tables of i (let many : length tables ≡ length g.nodes = of.count in omega (arith, l, many)) in
+    λ j. record { faults = sym s.faults j; first_broadcast = sym s.first_broadcast j; own = sym s.own j; starts = (table_at tables i).starts; sends = (table_at tables i).sends; hears = (table_at tables i).hears }

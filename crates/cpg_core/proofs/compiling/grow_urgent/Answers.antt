@@ -1,0 +1,6 @@
+use Rattle.std.proofs.Common.{subst}
+use Rattle.cpg_reach.specs.Wide.{IsNarrow}
+use Rattle.cpg_core.proofs.compiling.grow_urgent.Goals as goal
+
+pub returns-in-Ok-clause-narrow : goal.returns-in-Ok-clause-narrow
+returns-in-Ok-clause-narrow c = subst (IsNarrow c.args.admitted.now.graph) c.requires.first c.in-Ok.ensures.narrow

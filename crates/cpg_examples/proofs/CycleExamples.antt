@@ -1,0 +1,86 @@
+-- Cycles of worked examples, as `tools/cycle` says them too, and times that are none.
+use Rattle.std.proofs.Common.{◌≡◌, ◌≤◌, ◌*◌, max, List, [], ◌∷◌, Some, None, true, false, refl, ap, arith}
+use Rattle.std.specs.Int.{div_ceil}
+use Rattle.cpg_base.specs.Graph.{Graph}
+use Rattle.cpg_base.specs.declared.process.Slot.{Slot}
+use Rattle.cpg_table.specs.Table.{NodeTable, empty_table}
+use Rattle.cpg_cluster.specs.Cycles.{last_arrival, least_cycle, IsCycle}
+use Rattle.cpg_examples.proofs.Examples.{n1, n2, process, edge, two_slots, pair, count, column, item_row}
+
+-- A starts at 0, e0 is sent at 40 or 80 and there at 50 or 90, and B starts then
+abbrev pub pair_tables : List NodeTable
+pair_tables =
+    record empty_table {
+      starts = item_row 0 (column 0 [] ∷ []) ∷ [];
+      sends = item_row 2 (column 40 (count 0 0 ∷ []) ∷ column 80 (count 0 1 ∷ []) ∷ []) ∷ [];
+      hears = [];
+    }
+    ∷ record empty_table {
+      starts = item_row 1 (column 50 (count 0 0 ∷ []) ∷ column 90 (count 0 1 ∷ []) ∷ []) ∷ [];
+      sends = [];
+      hears = item_row 2 (column 50 (count 0 0 ∷ []) ∷ column 90 (count 0 1 ∷ []) ∷ []) ∷ [];
+    } ∷ []
+
+-- the least multiple of 20 that isn't before the deadline 105
+pub pair-cycle : least_cycle pair pair_tables ≡ 120
+pair-cycle = refl
+
+-- one unit less is no multiple of the round, and one round less is before the deadline
+pub pair-one_shorter : IsCycle pair pair_tables 119 → ⊥
+pair-one_shorter c = let whole : 119 ≡ c.rounds * 20 = c.whole in absurd (omega (arith, whole))
+
+pub pair-one_round_shorter : IsCycle pair pair_tables 100 → ⊥
+pair-one_round_shorter c = let deadline : 105 ≤ 100 = c.deadline in absurd (omega (arith, deadline))
+
+-- a deadline on the bus's own time, and one past it
+pub pair-by_120 : least_cycle (record pair { deadline = 120 }) pair_tables ≡ 120
+pair-by_120 = refl
+
+pub pair-by_121 : least_cycle (record pair { deadline = 121 }) pair_tables ≡ 140
+pair-by_121 = refl
+
+-- the value of A is broadcast from 40 to 50, after the deadline
+abbrev pub late_broadcast : Graph
+late_broadcast = record {
+  faults = 0;
+  deadline = 40;
+  nodes = n1 ∷ n2 ∷ [];
+  slots = two_slots;
+  processes = process 0 25 false ∷ process 0 5 false ∷ process 1 5 false ∷ [];
+  edges = edge 0 1 (Some true) ∷ [];
+  order = None;
+}
+
+abbrev pub late_tables : List NodeTable
+late_tables = record empty_table { starts = []; sends = item_row 4 (column 40 [] ∷ []) ∷ []; hears = [] }
+    ∷ record empty_table { starts = []; sends = []; hears = item_row 4 (column 50 [] ∷ []) ∷ [] } ∷ []
+
+pub late-cycle : least_cycle late_broadcast late_tables ≡ 60
+late-cycle = refl
+
+-- by the deadline alone that frame would stand in the next cycle
+pub late-at_the_deadline : IsCycle late_broadcast late_tables 40 → ⊥
+late-at_the_deadline c = let arrivals : 50 ≤ 40 = c.arrivals in absurd (omega (arith, arrivals))
+
+-- one node, without a bus
+abbrev pub alone : Graph
+alone = record { faults = 0; deadline = 7; nodes = n1 ∷ []; slots = []; processes = process 0 3 false ∷ []; edges = []; order = None }
+
+abbrev pub alone_tables : List NodeTable
+alone_tables = record empty_table { starts = item_row 0 (column 0 [] ∷ []) ∷ []; sends = []; hears = [] } ∷ []
+
+pub alone-cycle : least_cycle alone alone_tables ≡ 7
+alone-cycle = refl
+
+pub alone-one_shorter : IsCycle alone alone_tables 6 → ⊥
+alone-one_shorter c = let deadline : 7 ≤ 6 = c.deadline in absurd (omega (arith, deadline))
+
+-- the bus and the deadline of the cruise controller, by any tables whose frames arrive by then
+abbrev pub three_slots : List Slot
+three_slots = record { node = 0; length = 10; bytes = 16 } ∷ record { node = 1; length = 10; bytes = 16 } ∷ record { node = 2; length = 10; bytes = 16 } ∷ []
+
+pub controller-cycle : (g : Graph) (tables : List NodeTable) → last_arrival tables ≤ 2000 → least_cycle (record g { deadline = 2000; slots = three_slots }) tables ≡ 2010
+controller-cycle g tables h = let bound : max 2000 (last_arrival tables) ≡ 2000 = omega (arith, h) in ap (λ n. div_ceil (max n 1) 30 * 30) bound
+
+pub controller-one_round_shorter : (g : Graph) (tables : List NodeTable) → IsCycle (record g { deadline = 2000; slots = three_slots }) tables 1980 → ⊥
+controller-one_round_shorter g tables c = let deadline : 2000 ≤ 1980 = c.deadline in absurd (omega (arith, deadline))

@@ -1,0 +1,11 @@
+use Rattle.std.proofs.Common.{subst}
+use Rattle.std.specs.Prelude.{IfErr}
+use Rattle.cpg_expand.specs.Forest.{ready_by}
+use Rattle.cpg_expand.specs.Large.{IsLargeStart, ShowsLarge}
+use Rattle.cpg_expand.proofs.starting.unfrozen_start.Goals as goal
+
+pub returns-clause-fault : goal.returns-clause-fault
+returns-clause-fault c =
+    let g = c.args.problem.now in
+    let f = c.args.forest.now in
+    subst (λ r. IfErr c.start.result (ShowsLarge f.wide (IsLargeStart g f (ready_by g f c.args.wait.now) r c.args.inputs.now c.args.guard.now))) c.release.ensures c.start.ensures.fault

@@ -1,0 +1,65 @@
+-- Rows of trees that are too many columns: one alone, or those of the first items together.
+use Rattle.std.specs.Prelude.{ℕ, ◌+◌, ◌*◌, ◌≡◌, ◌≤◌, ◌<◌, ◌⊎◌, List, Option, Some, None, All, get_or, length, sum_by}
+use Rattle.cpg_base.specs.Graph.{Graph, item_at, item_count}
+use Rattle.cpg_base.specs.Numbers.{numbers_below}
+use Rattle.cpg_base.specs.declared.limits.TheConstants.{MOST_COLUMNS, MOST_LOAD}
+use Rattle.cpg_order.specs.Reach.{rows_of_item}
+use Rattle.cpg_table.specs.Table.{NodeTable, Row, columns_of}
+use Rattle.cpg_table.specs.Writing.{row_for}
+use Rattle.cpg_tree.specs.Tree.{TreeState}
+use Rattle.cpg_expand.specs.Forest.{no_tree}
+use Rattle.cpg_expand.specs.MadeRows.{AreFirstRows, IsRowOf}
+
+-- how many columns an item's row takes in all tables
+abbrev pub row_load : Graph → List Row → ℕ → ℕ
+row_load g rows x = length (row_for rows x).columns * rows_of_item g (item_at g x)
+
+-- and those of the first n items
+abbrev pub rows_load : Graph → List Row → ℕ → ℕ
+rows_load g rows n = sum_by (row_load g rows) (numbers_below n)
+
+-- the row of an item has too many columns
+pub record IsWideRow (g : Graph) (urgency : List ℕ) (times : List (TreeState (Option ℕ))) : Type 0 where
+  pub item : ℕ
+  pub within : item < item_count g
+  pub row : Row
+  pub made : IsRowOf g urgency (get_or times item (no_tree g.faults)) item row
+  pub many : MOST_COLUMNS < length row.columns
+
+-- the rows of the first items have too many
+pub record AreWideRows (g : Graph) (urgency : List ℕ) (times : List (TreeState (Option ℕ))) : Type 0 where
+  pub count : ℕ
+  pub within : count ≤ item_count g
+  pub rows : List Row
+  pub made : AreFirstRows g urgency times count rows
+  pub many : MOST_LOAD < rows_load g rows count
+
+abbrev pub HaveWideRows : Graph → List ℕ → List (TreeState (Option ℕ)) → Type 0
+HaveWideRows g urgency times = IsWideRow g urgency times ⊎ AreWideRows g urgency times
+
+-- ---- those that aren't
+
+-- the rows of the first n items are within the limits, with their columns in all tables; or no item is to be named
+pub record AreFewSoFar (g : Graph) (rows : List Row) (n load : ℕ) : Type 0 where
+  pub few : All (λ row. length row.columns ≤ MOST_COLUMNS) rows
+  pub is : load ≡ rows_load g rows n
+  pub within : load ≤ MOST_LOAD
+
+abbrev pub AreFewIf : Option ℕ → Graph → List Row → ℕ → ℕ → Type 0
+AreFewIf None g rows n load = Unit {0}
+AreFewIf (Some item) g rows n load = AreFewSoFar g rows n load
+
+-- and a row more is
+pub record IsLoadWith (g : Graph) (row : Row) (x before after : ℕ) : Type 0 where
+  pub few : length row.columns ≤ MOST_COLUMNS
+  pub is : after ≡ before + length row.columns * rows_of_item g (item_at g x)
+  pub within : after ≤ MOST_LOAD
+
+abbrev pub IsLoadIf : Option ℕ → Graph → Row → ℕ → ℕ → ℕ → Type 0
+IsLoadIf None g row x before after = Unit {0}
+IsLoadIf (Some item) g row x before after = IsLoadWith g row x before after
+
+-- tables whose rows have few columns each, and together in all tables
+pub record DoTablesFit (g : Graph) (nodes : List NodeTable) : Type 0 where
+  pub few : (x : ℕ) → x < item_count g → length (columns_of nodes x) ≤ MOST_COLUMNS
+  pub loads : sum_by (λ x. length (columns_of nodes x) * rows_of_item g (item_at g x)) (numbers_below (item_count g)) ≤ MOST_LOAD

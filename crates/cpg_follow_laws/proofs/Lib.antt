@@ -1,0 +1,5 @@
+pub mod Reports
+pub mod Follow
+pub mod Rising
+pub mod Room
+pub mod Streams

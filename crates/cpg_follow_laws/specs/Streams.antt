@@ -1,0 +1,39 @@
+-- The bytes that a node of a play is fed, and what it does on them.
+use Rattle.std.specs.Prelude.{ℕ, ◌+◌, ◌≡◌, ◌<◌, ◌≤◌, ◌^◌, List, length, Ok}
+use Rattle.cpg_base.specs.Graph.{Graph}
+use Rattle.cpg_base.specs.Limits.{IsWithinLimits}
+use Rattle.cpg_base.specs.WellFormed.{WellFormed}
+use Rattle.cpg_head.specs.GraphHead.{head_of}
+use Rattle.cpg_table.specs.Table.{NodeTable, table_at}
+use Rattle.cpg_table.specs.Lawful.{AreTablesOf}
+use Rattle.cpg_table.specs.Valid.{IsValid}
+use Rattle.cpg_node.specs.Dispatcher.{Act}
+use Rattle.cpg_cluster.specs.Cluster.{World, Done, open_cluster, dispatcher_at, answer, play}
+use Rattle.cpg_cluster.specs.Correct.{IsWorld, IsDue}
+use Rattle.cpg_live.specs.declared.event.Event.{Event}
+use Rattle.cpg_live.specs.Stream.{after, outcome}
+use Rattle.cpg_live.specs.Told.{after_last}
+use Rattle.cpg_live.specs.Spelling.{RiseWithin, closed_at, stream_bytes}
+use Rattle.cpg_live.specs.Reorder.{AreThoseOf}
+use Rattle.cpg_follow_laws.specs.Follow.{told_in}
+
+-- All that a node is told in a play in which it is done, in any order that rises in time, up to a close that isn't before its
+-- last turn.
+pub record IsToldAll (g : Graph) (tables : List NodeTable) (w : World) (turns : List ℕ) (node close : ℕ) (es : List (ℕ × Event)) : Type 0 where
+  pub those : AreThoseOf es (told_in g w (open_cluster g tables) node turns)
+  pub rise : RiseWithin 0 close es
+  pub done : answer g (play g w (open_cluster g tables) turns) node ≡ Done
+  pub late : after_last (dispatcher_at (play g w (open_cluster g tables) turns) node).last ≤ close + 1
+  pub small : close < 2 ^ 64
+
+-- a stream is lawful to its close, and the acts of a node on it are those that are due
+pub record DoesWhatIsDue (g : Graph) (tables : List NodeTable) (w : World) (node close : ℕ) (bytes : List ℕ) : Type 0 where
+  pub ends : outcome (after (table_at tables node) bytes) ≡ Ok close
+  pub acts : (acts : List Act) → IsDue g tables w.scenario node acts → (after (table_at tables node) bytes).progress.acts ≡ acts
+
+-- So is the stream that spells what a node is told, with a close behind it: in each play of valid tables, in every scenario of the
+-- graph and however early executions end.
+abbrev pub BytesOfPlaysGiveWhatIsDue : Type 0
+BytesOfPlaysGiveWhatIsDue = (g : Graph) (tables : List NodeTable) → IsWithinLimits g → AreTablesOf (head_of g) tables → WellFormed g → IsValid g tables →
+    (w : World) (turns : List ℕ) (node close : ℕ) (es : List (ℕ × Event)) → IsWorld g w → node < length g.nodes → IsToldAll g tables w turns node close es →
+    DoesWhatIsDue g tables w node close (stream_bytes (closed_at es close))

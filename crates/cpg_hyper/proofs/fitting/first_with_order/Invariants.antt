@@ -1,0 +1,5 @@
+use Rattle.cpg_hyper.specs.Refusals.{HoldsBefore, GivesNoOrder}
+use Rattle.cpg_hyper.proofs.fitting.first_with_order.Given as goal
+
+abbrev pub invariant-loop-place : goal.invariant-loop-place
+invariant-loop-place l = HoldsBefore (λ p part. GivesNoOrder part) l.parts l.place

@@ -1,0 +1,31 @@
+-- Fronts of packs.
+use Rattle.std.proofs.Common.{ℕ, zero, suc, ◌≡◌, List, [], ◌∷◌, ◌++◌, length, take, drop, refl, sym, ap, ◌∙◌, subst, arith}
+use Rattle.std.proofs.lemmas.List.{length-append, length-take}
+use Rattle.cpg_codec.specs.Packs.{BeginsPack}
+use Rattle.cpg_codec.specs.Spelling.{spelling}
+use Rattle.cpg_codec.proofs.Theorems.{no_proper_prefix}
+use Rattle.cpg_laws.specs.Packs.{FrontsOfPacksAreRefused}
+
+parted : {X : Type 0} (n : ℕ) (xs : List X) → xs ≡ take n xs ++ drop n xs
+parted zero xs = refl
+parted (suc n) [] = refl
+parted (suc n) (x ∷ xs) = ap (λ l. x ∷ l) (parted n xs)
+
+again : {X : Type 0} (n : ℕ) (xs : List X) → take n (take n xs) ≡ take n xs
+again zero xs = refl
+again (suc n) [] = refl
+again (suc n) (x ∷ xs) = ap (λ l. x ∷ l) (again n xs)
+
+pub fronts_of_packs : FrontsOfPacksAreRefused
+fronts_of_packs t n h l =
+    let front : length (take n (spelling t)) ≡ n = omega (arith, length-take n (spelling t), l) in
+    record {
+      place = omega (arith, front);
+      goes_on = subst BeginsPack (sym (again n (spelling t))) (t, drop n (spelling t), h, parted n (spelling t));
+      no_further = λ less _. absurd (omega (arith, front, less));
+      longest = λ m le _. omega (arith, front, le);
+      no_pack = λ u f e.
+          let rest = no_proper_prefix t u (drop n (spelling t)) h f (parted n (spelling t) ∙ ap (λ b. b ++ drop n (spelling t)) e) in
+          let none : length (drop n (spelling t)) ≡ 0 = ap length rest in
+          absurd (omega (arith, none, front, l, ap length (parted n (spelling t)), length-append (take n (spelling t)) (drop n (spelling t))));
+    }

@@ -1,0 +1,5 @@
+use Rattle.cpg_live.proofs.Told.{turns_are_followed as law}
+use Rattle.cpg_live.proofs.turns_are_followed.Goals as goal
+
+pub returns : goal.returns
+returns c = law

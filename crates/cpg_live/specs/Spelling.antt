@@ -1,0 +1,75 @@
+-- Events as bytes: the stream that spells them.
+use Rattle.std.specs.Prelude.{ℕ, ◌≡◌, ◌<◌, ◌≤◌, ◌^◌, Bool, false, if◌then◌else◌, List, [], ◌∷◌, ◌++◌, None, Ok}
+use Rattle.std.specs.List.{flat_map, AllByRecursion}
+use Rattle.byteorder.specs.Endian.{big_bytes}
+use Rattle.cpg_table.specs.Table.{NodeTable}
+use Rattle.cpg_live.specs.declared.reading.Record.{Record}
+use Rattle.cpg_live.specs.declared.event.Event.{Event}
+use Rattle.cpg_live.specs.declared.event.Event.TheVariants.{Frame as Arrival, End as Ending, Close}
+use Rattle.cpg_live.specs.Stream.{lawful, start, is_close, after, outcome}
+use Rattle.cpg_live.specs.Told.{follow}
+
+abbrev pub bit : Bool → ℕ
+bit value = if value then 1 else 0
+
+-- The numbers of an event's record.
+
+abbrev pub kind_of : Event → ℕ
+kind_of (Arrival f) = 0
+kind_of (Ending process faults value) = 1
+kind_of Close = 2
+
+abbrev pub item_of : Event → ℕ
+item_of (Arrival f) = f.item
+item_of (Ending process faults value) = process
+item_of Close = 0
+
+abbrev pub number_of : Event → ℕ
+number_of (Arrival f) = f.column
+number_of (Ending process faults value) = faults
+number_of Close = 0
+
+abbrev pub value_of : Event → ℕ
+value_of (Arrival f) = bit f.value
+value_of (Ending process faults value) = bit value
+value_of Close = 0
+
+-- the record of an event at a time
+abbrev pub record_with : ℕ → Event → Record
+record_with time event = record { kind = kind_of event; time = time; item = item_of event; number = number_of event; value = value_of event }
+
+-- its 14 bytes, each number with its highest byte first
+abbrev pub record_bytes : Record → List ℕ
+record_bytes r = r.kind ∷ (big_bytes 8 r.time ++ (big_bytes 2 r.item ++ (big_bytes 2 r.number ++ r.value ∷ [])))
+
+abbrev pub event_bytes : ℕ × Event → List ℕ
+event_bytes e = record_bytes (record_with e.0 e.1)
+
+-- the bytes of events, one after another
+abbrev pub stream_bytes : List (ℕ × Event) → List ℕ
+stream_bytes es = flat_map event_bytes es
+
+-- an event whose numbers have room in a record; a message carries no value
+abbrev pub HasRoom : NodeTable → Event → Type 0
+HasRoom table (Arrival f) = (f.item < 2 ^ 16) × (f.column < 2 ^ 16) × (f.item < table.first_broadcast → f.value ≡ false)
+HasRoom table (Ending process faults value) = (process < 2 ^ 16) × (faults < 2 ^ 16)
+HasRoom table Close = Unit {0}
+
+-- events in order of time, from one moment to another, none of them a close
+abbrev pub RiseWithin : ℕ → ℕ → List (ℕ × Event) → Type 0
+RiseWithin from to [] = from ≤ to
+RiseWithin from to (e ∷ es) = (from ≤ e.0) × (is_close e.1 ≡ false) × RiseWithin e.0 to es
+
+-- events, and a close behind them
+abbrev pub closed_at : List (ℕ × Event) → ℕ → List (ℕ × Event)
+closed_at es close = es ++ ((close, Close) ∷ [])
+
+-- The bytes are a lawful stream to its close, and the node does on them what it does on the events.
+pub record AreTaken (table : NodeTable) (es : List (ℕ × Event)) (close : ℕ) : Type 0 where
+  pub ends : outcome (after table (stream_bytes (closed_at es close))) ≡ Ok close
+  pub comes : (after table (stream_bytes (closed_at es close))).progress ≡ (follow (lawful (start table)) (closed_at es close)).progress
+
+-- So are the bytes of all events that are lawful one after another, rise in time and have room.
+abbrev pub BytesSpellEvents : Type 0
+BytesSpellEvents = (table : NodeTable) (es : List (ℕ × Event)) (close : ℕ) → close < 2 ^ 64 → RiseWithin 0 close es → AllByRecursion (λ (e : ℕ × Event). HasRoom table e.1) es →
+    (follow (lawful (start table)) es).fault ≡ None → AreTaken table es close

@@ -1,0 +1,67 @@
+-- What a node is told in a play, as records: a turn that takes reports and frames is followed on them.
+use Rattle.std.specs.Prelude.{ℕ, ◌+◌, ◌≡◌, ◌≤◌, List, [], ◌∷◌, ◌++◌, Option, Some, None, map, fold, Contains}
+use Rattle.cpg_node.specs.Dispatcher.{Dispatcher, Act, Ended, Frame, next, finished, hear_all, AllFine, EndFits, due_reports, turn, acts_of_turn}
+use Rattle.cpg_node.specs.State.{MayFinish}
+use Rattle.cpg_live.specs.declared.event.Event.{Event}
+use Rattle.cpg_live.specs.declared.event.Event.TheVariants.{Frame as Arrival, End as Ending, Close}
+use Rattle.cpg_live.specs.declared.bad.Why.{Why}
+use Rattle.cpg_live.specs.Stream.{Progress, Step, lawful, step, turned}
+
+-- the event of a report, at its time
+abbrev pub end_event : ℕ × Ended → ℕ × Event
+end_event e = (e.0, Ending e.1.process e.1.faults e.1.value)
+
+-- the event of a frame, at its arrival
+abbrev pub frame_event : ℕ → Frame → ℕ × Event
+frame_event time f = (time, Arrival f)
+
+-- one more event, where all before were lawful
+abbrev pub follow_if : Step → ℕ × Event → Option Why → Step
+follow_if s e None = step e.0 e.1 s.progress
+follow_if s e (Some why) = s
+
+abbrev pub follow_one : Step → ℕ × Event → Step
+follow_one s e = follow_if s e s.fault
+
+-- events, one after another
+abbrev pub follow : Step → List (ℕ × Event) → Step
+follow s es = fold follow_one s es
+
+-- the first instant after the last turn
+abbrev pub after_last : Option ℕ → ℕ
+after_last None = 0
+after_last (Some last) = last + 1
+
+-- with all turns up to its last one, a node on a stream is a node of a play
+abbrev pub HasCome : Progress → Dispatcher → List Act → Type 0
+HasCome p d acts = turned (after_last d.last) p ≡ record { dispatcher = d; acts = acts }
+
+-- reports that a node may take one after another, in order of time, none before a moment
+abbrev pub MayTell : Dispatcher → ℕ → List (ℕ × Ended) → Type 0
+MayTell d from [] = Unit {0}
+MayTell d from (e ∷ es) = (from ≤ e.0) × MayFinish d e.0 e.1 × MayTell (finished d e.1) e.0 es
+
+-- the node after them
+abbrev pub told_ends : Dispatcher → List (ℕ × Ended) → Dispatcher
+told_ends d es = fold finished d (map {A = ℕ × Ended} {B = Ended} (λ e. e.1) es)
+
+-- what a node is told before and in a turn, in order of time
+abbrev pub turn_events : ℕ → List (ℕ × Ended) → List Frame → List (ℕ × Event)
+turn_events time reports frames = map end_event reports ++ map (frame_event time) frames
+
+-- the events are lawful, and lead to the node after the turn, and to its acts
+pub record IsFollowed (p : Progress) (d : Dispatcher) (acts : List Act) (time : ℕ) (reports : List (ℕ × Ended)) (frames : List Frame) : Type 0 where
+  pub none : (follow (lawful p) (turn_events time reports frames)).fault ≡ None
+  pub comes : HasCome (follow (lawful p) (turn_events time reports frames)).progress (turn (told_ends d reports) time [] frames) (acts ++ acts_of_turn (told_ends d reports) time [] frames)
+
+-- So it is for each turn whose reports may be told and whose frames are fine, and contradict no end.
+abbrev pub TurnsAreFollowed : Type 0
+TurnsAreFollowed = (p : Progress) (d : Dispatcher) (acts : List Act) (time : ℕ) (reports : List (ℕ × Ended)) (frames : List Frame) → HasCome p d acts → next d ≡ Some time →
+    MayTell d (after_last d.last) reports → AllFine (told_ends d reports) time frames →
+    ((e : Ended) → Contains (due_reports (told_ends d reports) time) e → EndFits (told_ends d reports).table (hear_all (told_ends d reports) frames).heard e) →
+    IsFollowed p d acts time reports frames
+
+-- A close that isn't before the last turn of a node with no next instant leaves just that node.
+abbrev pub ClosesAreFollowed : Type 0
+ClosesAreFollowed = (p : Progress) (d : Dispatcher) (acts : List Act) (time : ℕ) → HasCome p d acts → next d ≡ None → after_last d.last ≤ time + 1 →
+    step time Close p ≡ lawful (record { dispatcher = d; acts = acts })

@@ -1,0 +1,5 @@
+use Rattle.cpg_node.proofs.Quiet.{turns_left_out}
+use Rattle.cpg_node.proofs.turns_left_out_are_quiet.Goals as goal
+
+pub returns : goal.returns
+returns c = turns_left_out

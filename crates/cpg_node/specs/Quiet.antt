@@ -1,0 +1,46 @@
+-- Turns that a node may leave out, and the instants that are left.
+use Rattle.std.specs.Prelude.{ℕ, ◌≡◌, ◌≤◌, ◌+◌, List, [], ◌∷◌, ◌++◌, Option, Some, None, filter, get_or, length, All, IfSome, Contains}
+use Rattle.std.specs.List.{flat_map}
+use Rattle.cpg_table.specs.Lawful.{IsTable}
+use Rattle.cpg_node.specs.Dispatcher.{Dispatcher, Own, Running, Ended, Range, times_in, zip_with, candidates, is_after, least_of, due_reports, acts_at, turn, acts_of_turn}
+
+-- no report is due at an instant, and no entry that is heard
+pub record IsQuiet (d : Dispatcher) (time : ℕ) : Type 0 where
+  pub ends : due_reports d time ≡ []
+  pub acts : acts_at d.table d.heard time ≡ []
+
+-- A turn at which nothing ends, arrives or is due changes nothing but the last instant.
+abbrev pub QuietTurnsChangeNothing : Type 0
+QuietTurnsChangeNothing = (d : Dispatcher) (time : ℕ) → length d.running ≡ length d.table.own → IsQuiet d time →
+    (turn d time [] [] ≡ record d { last = Some time }) × (acts_of_turn d time [] [] ≡ [])
+
+-- the faults with which an execution is awaited: those of its report, and the most where it has none
+abbrev pub awaited_faults : ℕ → Option Ended → ℕ
+awaited_faults k None = k
+awaited_faults k (Some e) = e.faults
+
+-- the end at which it is awaited
+abbrev pub awaited_end : ℕ → Own → Option Running → List ℕ
+awaited_end k own None = []
+awaited_end k own (Some run) = (run.start + get_or own.times (awaited_faults k run.report) 0) ∷ []
+
+-- The instants of a node that takes no more turns than it must: the times of its columns, and one end of each execution.
+abbrev pub awaited : Dispatcher → List ℕ
+awaited d = times_in d.table.starts ++ times_in d.table.sends ++ times_in d.table.hears
+    ++ flat_map (λ ends. ends) (zip_with (awaited_end d.table.faults) d.table.own d.running)
+
+-- the least of them after the last turn
+abbrev pub next_awaited : Dispatcher → Option ℕ
+next_awaited d = least_of (filter (is_after d.last) (awaited d))
+
+-- At all other instants a turn is quiet, whatever was heard.
+abbrev pub TurnsLeftOutAreQuiet : Type 0
+TurnsLeftOutAreQuiet = (d : Dispatcher) (time : ℕ) → (Contains (awaited d) time → ⊥) → (heard : List Range) → IsQuiet (record d { heard = heard }) time
+
+-- a report tells no more faults than there may be
+abbrev pub TellsFew : ℕ → Option Running → Type 0
+TellsFew k run = IfSome run (λ (run : Running). IfSome run.report (λ (e : Ended). e.faults ≤ k))
+
+-- Each of these instants is one of the node of all turns.
+abbrev pub AwaitedAreCandidates : Type 0
+AwaitedAreCandidates = (d : Dispatcher) → IsTable d.table → All (TellsFew d.table.faults) d.running → (time : ℕ) → Contains (awaited d) time → Contains (candidates d) time

@@ -1,0 +1,7 @@
+use Rattle.std.proofs.Common.{◌≡◌, take, map, get_or, []}
+use Rattle.toml.specs.Data.{string}
+use Rattle.toml.specs.View.{view}
+use Rattle.cpg_reader.proofs.writing.order_names.Given as goal
+
+abbrev pub invariant-loop-process : goal.invariant-loop-process
+invariant-loop-process l = map view l.names.items ≡ map (λ p. string (get_or (map (λ q. q.name) l.processes) p [])) (take l.process-index l.fn.order)

@@ -1,0 +1,46 @@
+use Rattle.std.proofs.Common.{◌≡◌, ◌<◌, false, length, arith, sym, ap, subst, inl, inr}
+use Rattle.std.proofs.lemmas.Bool.{cases_eq, false_from_ne_true}
+use Rattle.cpg_base.specs.Graph.{edge_count, source, target}
+use Rattle.cpg_base.specs.Order.{comes_before}
+use Rattle.cpg_order.proofs.ListChecks.{comes_before_at, not_before_at}
+use Rattle.cpg_rules.proofs.GivenOrders.{early_by, early_by_none}
+use Rattle.cpg_rules.proofs.given.is_early.Goals as goal
+use Rattle.cpg_rules.proofs.given.is_early.Goals.{then-edge-process+else-place, else-edge-process}
+
+pub returns-then-place : goal.returns-then-place
+returns-then-place c =
+    let g = c.args.problem.now in
+    let e = c.loop-edge.edge-index in
+    let l : e < edge_count g = omega (arith, ap length c.edges-edge-items.ensures.edges) in
+    let at = rw c.edges-edge-items.ensures.edges at c.if-edge-process.true in
+    let from = rw c.edges-edge-items.ensures.edges at c.place.ensures.place in
+    let inside : c.args.process < length c.args.order.now = omega (arith, c.requires.process, c.requires.order) in
+    sym (early_by g c.args.order.now c.args.process e l at
+    (comes_before_at c.args.order.now c.place-place.ensures.order c.args.process (source g e) c.place-place.result c.place.result inside c.place-place.ensures.place from c.if-place.true))
+
+pub loop-edge-preserved : goal.loop-edge-preserved
+loop-edge-preserved c e l at =
+    let g = c.args.problem.now in
+    let i = c.loop-edge.edge-index in
+    elim c.if-edge-process.branch [
+      | then-edge-process+else-place w ↦ elim (cases_eq e i) [
+        | inl same ↦
+            let from = rw c.edges-edge-items.ensures.edges at w.place.ensures.place in
+            subst (λ f. comes_before c.args.order.now c.args.process (source g f) ≡ false) (sym same)
+            (false_from_ne_true (comes_before c.args.order.now c.args.process (source g i))
+            (not_before_at c.args.order.now c.args.process (source g i) c.place-place.result w.place.result c.place-place.ensures.place from w.if-place.false))
+        | inr other ↦ c.loop-edge.invariant e (omega (arith, l, other)) at
+      ]
+      | else-edge-process w ↦ elim (cases_eq e i) [
+        | inl same ↦
+            let apart = rw c.edges-edge-items.ensures.edges at w.if-edge-process.false in
+            absurd (apart (subst (λ f. target g f ≡ c.args.process) same at))
+        | inr other ↦ c.loop-edge.invariant e (omega (arith, l, other)) at
+      ]
+    ]
+
+pub returns : goal.returns
+returns c =
+    let done = c.loop-edge-test.false in
+    sym (early_by_none c.args.problem.now c.args.order.now c.args.process
+    (λ e l at. c.loop-edge.invariant e (omega (arith, l, done, ap length c.edges-edge-items.ensures.edges)) at))
