@@ -72,13 +72,13 @@ def graph(random):
         "]", ""])
 
 
-def scenario(random, pack):
+def scenario(random, tables):
     """A scenario of a pack's graph: the faults and the value of each process, and how long some executions really run."""
-    processes = pack["processes"]
+    processes = tables.processes
     faults = [0] * len(processes)
-    for _ in range(random.randint(0, pack["faults"]) if processes else 0):
+    for _ in range(random.randint(0, tables.faults) if processes else 0):
         faults[random.randrange(len(processes))] += 1
-    values = [process["condition"] == 1 and random.random() < .5 for process in processes]
-    lengths = [random.randint(1, process["durations"][n]) if random.random() < .4 and process["durations"][n] > 0 else 0
+    values = [process.condition == 1 and random.random() < .5 for process in processes]
+    lengths = [random.randint(1, process.durations[n]) if random.random() < .4 and process.durations[n] > 0 else 0
                for process, n in zip(processes, faults)]
     return faults, values, lengths

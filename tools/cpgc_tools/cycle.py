@@ -1,0 +1,40 @@
+"""Says the least cycle time at which the tables of a pack may be repeated.
+
+    cycle GRAPH PACK
+    cycle --more GRAPH PACK
+
+It is the least multiple of the bus round that is neither before the graph's deadline nor before the last arrival of a frame
+(docs/MODEL.md, "Repeating a cycle"). The pack is checked first. --more adds what it comes from: the round, the deadline, the last
+arrival, and the latest end, down to which the deadline can be lowered.
+
+For example, `cpgc compile pair.toml > pair.pack && cycle pair.toml pair.pack` writes `cycle 120`.
+"""
+from __future__ import annotations
+
+from cpgc_tools import cli, graph, pack
+from cpgc_tools.program import Program
+
+
+def parts(it: graph.Graph, tables: pack.Pack) -> dict[str, int]:
+    bound = max(it.deadline, tables.last_arrival(), 1)
+    step = max(it.round, 1)
+    return {
+        "cycle": -(-bound // step) * step,
+        "round": it.round,
+        "deadline": it.deadline,
+        "last arrival": tables.last_arrival(),
+        "latest end": max(tables.latest_ends().values(), default=0),
+    }
+
+
+def main() -> None:
+    words = cli.Words(__doc__).with_program()
+    words.add_argument("--more", action="store_true", help="say what the cycle time comes from, too")
+    words.add_argument("graph", metavar="GRAPH")
+    words.add_argument("pack", metavar="PACK")
+    said = words.parse_args()
+    with Program(said.program) as cpgc:
+        content, tables = cli.read(said.graph, cli.GRAPH), cli.read(said.pack, cli.PACK)
+        cpgc.asked("check", cpgc.file("graph.toml", content), cpgc.file("tables.pack", tables))
+    shown = parts(graph.parsed(said.graph, content), pack.of_file(said.pack, tables))
+    cli.write_lines(f"{name} {number}" for name, number in list(shown.items())[:None if said.more else 1])

@@ -1,0 +1,89 @@
+"""Draws the tables of a pack, or plays of it, as an SVG picture on standard output.
+
+    draw GRAPH PACK > tables.svg
+    draw GRAPH PACK SCENARIO .. > plays.svg
+    draw GRAPH PACK --worst > worst.svg
+
+Without a scenario it draws the tables: for each node its processes and what it sends on the bus, a row for each. A bar is a column,
+from its time to the end without faults; it stands lower and is darker by the faults that its literals ask for, and the thin line
+behind it goes to the latest end, with the faults that are left. A line leads to the latest end of all scenarios, through what it waits for.
+
+With scenarios it draws a play of each, as `cpgc play` tells it, and with --worst one of a scenario of the latest end: what each node runs,
+with faults, recoveries and overheads, and each message from its slot to the start that it is for.
+
+Tables that `cpgc` doesn't find safe for the graph aren't drawn.
+
+For example, `draw pair.toml pair.pack pair-scenario.toml --rows 2 > play.svg`.
+"""
+from __future__ import annotations
+
+import argparse
+import os
+from collections.abc import Iterator, Sequence
+
+from cpgc_tools import cli, graph, pack, play, schedule
+from cpgc_tools.draw.plays import Plays, Shown
+from cpgc_tools.draw.shared import Options
+from cpgc_tools.draw.tables import Tables
+from cpgc_tools.graph import Graph
+from cpgc_tools.program import Program
+
+
+def options_of(words: Sequence[str] | None = None) -> argparse.Namespace:
+    parser = cli.Words(__doc__).with_program()
+    parser.add_argument("graph", metavar="GRAPH")
+    parser.add_argument("pack", metavar="PACK")
+    parser.add_argument("scenarios", metavar="SCENARIO", nargs="*")
+    parser.add_argument("--worst", action="store_true", help="also a play of a scenario of the latest end")
+    parser.add_argument("--due", metavar="GRAPH", help="in plays, draws the dues of another file of the graph: of one that is refused as late")
+    parser.add_argument("--node", action="append", metavar="NAME", help="only this node; may be said again")
+    parser.add_argument("--from", dest="begin", type=cli.whole(0, 10**12), default=0, metavar="TIME", help="only what is at this time or later")
+    parser.add_argument("--to", dest="end", type=cli.whole(0, 10**12), metavar="TIME", help="only what is at this time or before")
+    parser.add_argument("--rows", type=cli.whole(1, 100), default=1, metavar="N", help="wraps the time into so many rows")
+    parser.add_argument("--width", type=cli.whole(400, 10000), default=900, metavar="N", help="of the picture, in pixels; 900 where nothing is said")
+    said = parser.parse_intermixed_args(words)
+    if said.due and not (said.scenarios or said.worst):
+        parser.error("--due is of plays: name a scenario too, or --worst")
+    return said
+
+
+def nodes_of(it: Graph, named: Sequence[str] | None) -> frozenset[int]:
+    unknown = [name for name in named or [] if name not in it.nodes]
+    if unknown:
+        cli.fail(f"no such node: {unknown[0]}")
+    return frozenset(n for n, name in enumerate(it.nodes) if not named or name in named)
+
+
+def dues_of(it: Graph, path: str | None) -> tuple[int, list[int]]:
+    """The deadline, and when each process is due, by the graph or by another file of it."""
+    other = graph.read(path) if path else it
+    if list(other.number) != list(it.number):
+        cli.fail(f"{path}: its processes are others")
+    return other.deadline, [process.due for process in other.processes]
+
+
+def picture(said: argparse.Namespace) -> Iterator[str]:
+    """The lines of the picture. The first thing is that `cpgc` takes the files."""
+    name = os.path.basename(said.graph)
+    with Program(said.program) as cpgc:
+        contents = cli.read(said.graph, cli.GRAPH), cli.read(said.pack, cli.PACK)
+        files = cpgc.file("graph.toml", contents[0]), cpgc.file("tables.pack", contents[1])
+        cpgc.asked("check", *files)
+        it, tables = graph.parsed(said.graph, contents[0]), pack.of_file(said.pack, contents[1])
+        options = Options(nodes_of(it, said.node), said.begin, said.end, said.rows, said.width, said.due)
+        plays = []
+        for path in said.scenarios:
+            content = cli.read(path, cli.SCENARIO)
+            acts = play.parsed(cpgc.text("play", *files, cpgc.file("scenario.toml", content), "--turns", "0").splitlines())
+            plays.append(Shown.of(it, play.scenario_of_document(graph.toml_of(path, content)[1]), acts))
+        if said.worst:
+            _, scenario, _ = schedule.worst(it, schedule.rows_of(tables))
+            file = cpgc.file("scenario.toml", play.scenario_file(scenario, it.number))
+            plays.append(Shown.of(it, scenario, play.parsed(cpgc.text("play", *files, file, "--turns", "0").splitlines())))
+    if not plays:
+        return Tables(it, tables, options).draw(name)
+    return Plays(it, *dues_of(it, said.due), options).draw(name, plays)
+
+
+def main() -> None:
+    cli.write_lines(picture(options_of()))

@@ -1,0 +1,81 @@
+"""Says what a line of cpgc on its error stream means: which entry it is about, with its file and line, and what mends it.
+
+    explain -- cpgc check graph.toml x.pack
+    cpgc check graph.toml x.pack 2>&1 | explain graph.toml x.pack
+    explain --patterns
+
+Behind `--` stands a command. It is run, its outputs stay as they are, and behind its line on the error stream comes what that line
+means. The status is that of the command. It may also be another tool that passes a line of cpgc on.
+
+Without `--` the lines come on standard input, and all of them are written again. The files are those of the command, in its order. The
+status is the one that cpgc has with such a line, and 0 where there is none.
+
+Where no place is said, as for a text that spells keys in a strange way, the sentence alone stands. --patterns writes the status and a
+regular expression for each line that cpgc may write, one a line.
+
+For example, `explain -- cpgc show late.toml` says by how much control is late, and which tools tell more.
+"""
+from __future__ import annotations
+
+import os
+import shutil
+import sys
+from collections.abc import Sequence
+
+from cpgc_tools import cli, program
+from cpgc_tools.explain import graph, pack, run, scenario, stream
+from cpgc_tools.explain.files import COMMANDS, Files
+from cpgc_tools.explain.table import explained, patterns
+
+PARTS = graph, pack, run, scenario, stream  # whose functions explain the lines of the table
+
+
+def run_command(words: Sequence[str]) -> int:
+    """Runs a command, and explains its line."""
+    ran = program.run(words, seconds=None, passed_on=True)
+    cli.tell_bytes(ran.err)
+    if ran.err:
+        files = files_of(words)
+        for line in ran.err.decode(errors="replace").splitlines():
+            for said in explained(line, files)[1]:
+                cli.tell(said)
+    return ran.status if ran.status >= 0 else 128 - ran.status
+
+
+def files_of(words: Sequence[str]) -> Files:
+    """The files of a command: of cpgc by its form, of another tool by what they are."""
+    name, *rest = words
+    if os.path.basename(name) == "cpgc" or rest and rest[0] in COMMANDS:
+        return Files(rest[1:], rest[0] if rest else "")
+    return Files(rest)
+
+
+def read(words: Sequence[str]) -> int:
+    """Writes what comes on standard input again, with what its lines mean."""
+    last = 0
+    if sys.stdin is None:
+        cli.fail("standard input: it is closed")
+    for line in iter(lambda: sys.stdin.buffer.readline(cli.GRAPH), b""):
+        cli.write(line if line.endswith(b"\n") or not line.startswith(b"cpgc: ") else line + b"\n")
+        text = line.decode(errors="replace").rstrip("\n")
+        if text.startswith("cpgc: "):
+            status, said = explained(text, Files(words))
+            last = status or last
+            cli.write_lines(map(cli.shown, said))
+    return last
+
+
+def main() -> int:
+    given = sys.argv[1:]
+    if given[:1] == ["--"] and len(given) > 1:
+        return run_command(given[1:])
+    words = cli.Words(__doc__)
+    words.add_argument("--patterns", action="store_true", help="write the status and the expression of each line of cpgc")
+    words.add_argument("files", metavar="FILE", nargs="*", help="the files of the command")
+    said = words.parse_args()
+    if said.patterns:
+        cli.write_lines(f"{status}  {pattern}" for status, pattern in patterns())
+        return 0
+    if said.files and not os.path.exists(said.files[0]) and shutil.which(said.files[0]):
+        cli.fail(f"-- is missing before the command: explain -- {' '.join(said.files)}")
+    return read(said.files)

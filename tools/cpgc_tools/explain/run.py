@@ -1,0 +1,147 @@
+"""The lines that aren't refusals of a file, and those on what a graph comes to."""
+from __future__ import annotations
+
+import os
+import re
+
+from cpgc_tools import cli
+from cpgc_tools.explain.files import COMMANDS, MOST, Files, graph_with, listed, mend, near, nearest
+from cpgc_tools.explain.table import Sentences, explains
+from cpgc_tools.explore.offer import offered
+from cpgc_tools.graph import File
+
+
+def listed_in(folder: str) -> list[str]:
+    """The names in a folder, none where it can't be looked at."""
+    try:
+        return os.listdir(folder)
+    except OSError:
+        return []
+
+
+def edge_of(name: str) -> int:
+    """The number of an edge that is called e and its number, else -1."""
+    return int(name[1:]) if re.fullmatch("e[0-9]{1,9}", name) else -1
+
+
+@explains(1, "^cpgc: words$")
+def words(files: Files) -> Sentences:
+    forms = [f"{name} {form}" for name, form in COMMANDS.items()]
+    if files.command is None:
+        yield f"the words of the command have no form; the forms are: {', '.join(forms)}"
+        yield mend("write the command as one of these")
+    elif files.command not in COMMANDS:
+        found = nearest(files.command, COMMANDS, 0.5)
+        yield (f"{files.command} is no command" if files.command else "a command is missing") + f": {', '.join(COMMANDS)}"
+        yield mend(f"cpgc {found} {COMMANDS[found]}" if found else "begin with one of these; man cpgc has their forms")
+    else:
+        yield f"{files.command} is written as: cpgc {files.command} {COMMANDS[files.command]}; here is {wrong_word(files)}"
+        yield mend("write it so; nothing is shortened, and a word that begins with - stands behind --")
+
+
+def wrong_word(files: Files) -> str:
+    """What is wrong in the words of a command."""
+    rest = files.words[:files.words.index("--")] if "--" in files.words else files.words
+    form = COMMANDS[files.command or ""].split(" ")
+    turns = [it.partition("=")[2] or (rest[i + 1:] or [""])[0] for i, it in enumerate(rest) if it == "--turns" or it.startswith("--turns=")]
+    options = [it for it in rest if it.startswith("-") and len(it) > 1 and not re.fullmatch("--turns(=.*)?", it, re.S)]
+    if options:
+        return f"the option {options[0]}, which there isn't{near(options[0], ['--turns'])}"
+    if turns and files.command != "play":
+        return "--turns, which play alone has"
+    if files.command == "play" and len(turns) != 1:
+        return "no --turns N" if not turns else "--turns more than once"
+    count = len(files.words) - ("--" in files.words) - len(turns) - sum(it == "--turns" for it in rest)
+    least = 2 if files.command == "hyper" else len(form) - 2 * ("--turns" in form)
+    if files.command == "hyper" and (count % 2 or not 2 <= count <= 8):
+        return f"not one to four pairs, but {count} words"
+    if files.command != "hyper" and count != least:
+        return f"{count} where {least} belong{'s' * (least == 1)}"
+    numbers = turns + list(files.words[::2] if files.command == "hyper" else files.words if files.command == "trial" else [])
+    bad = [it for it in numbers if not re.fullmatch("[0-9]{1,20}", it) or int(it) >= 2**64]
+    return f"{bad[0]!r}, which is no whole number below 2^64" if bad else "a word that isn't UTF-8"
+
+
+@explains(2, "^cpgc: read fault$")
+def read_fault(files: Files) -> Sentences:
+    for kind, file in files.order:
+        if file.fault:
+            yield f"{file.path}: the {kind if kind != 'other' else 'file'} can't be read: {file.fault}"
+            folder = os.path.dirname(file.path) or "."
+            names = listed_in(folder)
+            found = nearest(os.path.basename(file.path), [it for it in names if it != os.path.basename(file.path)])
+            yield mend(f"is {os.path.join(os.path.dirname(file.path), found)} meant?" if found else "name a file that is there and may be read")
+            return
+    yield "a file can't be read" + (f": one of {listed(file.path for _, file in files.order)}" if files.order else "")
+    yield mend("look whether each file of the command is there and may be read; standard input is /dev/stdin")
+
+
+@explains(3, "^cpgc: write fault$")
+def write_fault(_: Files) -> Sentences:
+    yield "standard output took only a beginning of what was to be written"
+    yield mend("is the disk full, or did the reader of a pipe go away? What was written is no whole output: write it again")
+
+
+@explains(4, "^cpgc: refused 16 long (graph|pack|scenario|log|stream)$")
+def long(files: Files, kind: str) -> Sentences:
+    file = files.get(kind) if kind != "graph" else graph_with(files, lambda it: it.size > MOST["graph"])
+    most = "16,777,216 records" if kind == "stream" else f"{MOST[kind]:,} bytes"
+    size = f"has {file.size:,} bytes and " if file and file.known else ""
+    yield (f"{file.path}: " if file and file.path else "") + f"the {kind} {size}is longer than {most}"
+    yield mend({"log": "split the log: a beginning of it is audited, too", "stream": "close the stream by then; each cycle is a stream of its own"}.get(
+        kind, "is it the right file? No lawful one is so long"))
+
+
+@explains(5, "^cpgc: late ([0-9]+) by ([^ ]+) in (.+)$")
+def late(files: Files, finish: str, name: str, in_: str) -> Sentences:
+    file = graph_with(files, lambda it: it.of_name("process", name) is not None)
+    number = file.of_name("process", name)
+    own = file.entry("process", number) if number is not None else {}
+    dues = [it for it in (file.entry("top", 0).get("deadline"), own.get("deadline")) if it is not None]
+    due = f", {int(finish) - min(dues)} after its due of {min(dues)}" if dues else ""
+    yield file.named(f"process {name} ends at {finish}{due}, in {in_}", "process", name)
+    if "order" in file.entry("top", 0):
+        yield file.at("it is so under this order; no other one is tried", "order")
+    yield mend(f"ask `{cli.named('why')} {file.path or 'GRAPH'}` what held it up: another process may be what misses by less; `{cli.named('slack')}` "
+               "says how far a wcet has to shrink")
+    yield from another_order(file)
+
+
+def another_order(file: File) -> Sentences:
+    """A sentence on an order that is in time and fits, as it is reckoned."""
+    it = file.graph()
+    offer = offered(it) if it else None
+    if offer:
+        yield mend(f"or take another order: under that of `{cli.named('explore')} --quick {file.path or 'GRAPH'}` its latest end would be {offer.worst}")
+
+
+@explains(6, "^cpgc: too wide (start|send|tell) ([^ ]+)$")
+def wide(files: Files, kind: str, name: str) -> Sentences:
+    file = files.get("graph") or File("")
+    yield item_at(file, kind, name, f"{item_said(file, kind, name)} might need more than 16,384 columns, or all rows up to it more than 524,288")
+    if "order" in file.entry("top", 0):
+        yield file.at("under this order a row as made has more than 16,384 columns, all rows have more than 524,288, or a tree on the way to them has more "
+                      "than 147,456 leaves", "order")
+    yield mend("freeze it, or messages that lead to it (frozen = true), so that less depends on faults; or lower faults")
+    yield from another_order(file)
+
+
+def item_at(graph: File, kind: str, name: str, what: str) -> str:
+    """A sentence on an item, at its entry."""
+    if kind != "send":
+        return graph.named(what, "process", name)
+    number = edge_of(name)
+    return graph.at(what, "edge", number) if 0 <= number < len(graph.entries("edge")) else graph.at(what)
+
+
+def item_said(graph: File, kind: str, name: str) -> str:
+    if kind == "send":
+        number = edge_of(name)
+        return f"the message of {graph.called('edge', number) if number >= 0 and graph.entry('edge', number) else name}"
+    return f"the {'start' if kind == 'start' else 'broadcast of the value'} of {name}"
+
+
+@explains(8, "^cpgc: memory$")
+def memory(_: Files) -> Sentences:
+    yield "memory ran out"
+    yield mend("give the program more memory (see ulimit -v), or make the graph smaller: fewer faults, more frozen items")

@@ -1,0 +1,64 @@
+"""Makes of a play the stream of what one of its nodes is told, for `cpgc live`. docs/FORMATS.md says the bytes.
+
+    cpgc play GRAPH PACK SCENARIO --turns 0 | stream PACK NODE > node.stream
+    cpgc live PACK NODE node.stream
+
+A frame for each message and broadcast that the node hears, an end for each execution of its own, when it really ends, and the close
+when the play's last event is over. A node whose name begins with - stands behind `--`.
+
+For example, `cpgc play pair.toml pair.pack pair-scenario.toml --turns 0 | stream pair.pack N2 > n2.stream`.
+"""
+from __future__ import annotations
+
+from collections.abc import Iterator
+
+from cpgc_tools import cli, pack, play
+from cpgc_tools.pack import VALUES, Pack
+
+FRAME, END, CLOSE = range(3)
+MOST_TIME = 2**64
+
+
+def record(kind: int, time: int, item: int = 0, number: int = 0, value: bool = False) -> bytes:
+    return bytes([kind]) + time.to_bytes(8, "big") + item.to_bytes(2, "big") + number.to_bytes(2, "big") + bytes([value])
+
+
+def number_of(tables: Pack, acts: play.Play, variable: int) -> int:
+    """What a variable is in a play: the faults of a process, or the value of a condition."""
+    process = variable if variable < VALUES else tables.deciding[variable - VALUES]
+    end = acts.ends.get(tables.processes[process].name)
+    return 0 if end is None else end.faults if variable < VALUES else int(end.value == "true")
+
+
+def stream(tables: Pack, node: int, acts: play.Play) -> Iterator[tuple[int, bytes]]:
+    """Records with their times. Raises ValueError where the play isn't one of the pack."""
+    for item, heard, columns in tables.rows[node]:
+        name = tables.name_of(item)
+        if heard and (item.kind, name) in acts.sends:
+            found = [(column, time) for column, (time, cube) in enumerate(columns)
+                     if all(low <= number_of(tables, acts, variable) <= high for variable, low, high in pack.literals(cube))]
+            if len(found) != 1:
+                raise ValueError(name)
+            [(column, time)] = found
+            yield time, record(FRAME, time, item.number, column, item.kind == "tell" and acts.ends[name].value == "true")
+        elif item.kind == "start" and name in acts.ends:
+            end, time = acts.ends[name], acts.really_ends(name)
+            yield time, record(END, time, item.number, end.faults, end.value == "true")
+
+
+def main() -> None:
+    words = cli.Words(__doc__, short_help=False)
+    words.add_argument("pack", metavar="PACK", help="the pack that was played")
+    words.add_argument("node", metavar="NODE", help="the name of the node")
+    said = words.parse_args()
+    said.node = said.node or "--"  # which argparse takes out, wherever it stands
+    tables = pack.read(said.pack)
+    if said.node not in tables.nodes:
+        cli.fail(f"{said.pack}: no node is named {said.node}; its nodes are {', '.join(tables.nodes)}")
+    try:
+        acts = play.parsed(cli.lines_of_input())
+        records = sorted(stream(tables, tables.nodes.index(said.node), acts))
+        made = b"".join(it for _, it in records) + record(CLOSE, max([acts.last, *(time for time, _ in records)]))
+    except (ValueError, KeyError, IndexError, OverflowError):
+        cli.fail(f"no play of {said.pack} on standard input: cpgc play GRAPH PACK SCENARIO --turns 0 | stream PACK NODE")
+    cli.write(made)

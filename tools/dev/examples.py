@@ -1,0 +1,77 @@
+"""Runs the examples, and tells where one writes something else than stands beside it.
+
+    tools/examples [PROGRAM [NAME ..]]
+
+A file whose first line is `needs PROGRAM ..` is left out, with a line, where one of these programs isn't there.
+
+PROGRAM is crates/cpgc/out/cpgc where nothing is said. Each file examples/NAME.out is a list of commands with what they write: a
+command behind `$`, its lines on standard output behind `>`, its lines on the error stream behind `!`, and its status. They run in a
+copy of examples/, with docs/examples/ where it is seen from there, and with `cpgc` and the scripts of tools/ on the path, so that what
+they write is gone afterwards.
+"""
+import os
+import shutil
+import subprocess
+import tempfile
+from pathlib import Path
+
+from cpgc_tools import cli, program
+
+TOP = Path(__file__).resolve().parents[2]
+
+
+def missing(text: str) -> list[str]:
+    """The programs that a file needs and that aren't there."""
+    first = text.partition("\n")[0].split()
+    return [name for name in first[1:] if shutil.which(name) is None] if first[:1] == ["needs"] else []
+
+
+def commands(text: str) -> list[tuple[str, list[str]]]:
+    """The commands of a file, each with the lines that are wanted of it."""
+    found: list[tuple[str, list[str]]] = []
+    for line in text.splitlines()[text.startswith("needs "):]:
+        if line.startswith("$ "):
+            found.append((line[2:], []))
+        else:
+            found[-1][1].append(line)
+    return found
+
+
+def told(mark: str, bytes: bytes) -> list[str]:
+    return [f"{mark} {line}" for line in bytes.decode(errors="replace").splitlines()]
+
+
+def run(command: str, folder: Path, path: str) -> list[str]:
+    done = subprocess.run(["sh", "-c", command], cwd=folder, env={**os.environ, "PATH": path}, capture_output=True)
+    return told(">", done.stdout) + told("!", done.stderr) + [f"status {done.returncode}"]
+
+
+def run_all(cpgc: str, names: list[str]) -> int:
+    files = [TOP / "examples" / f"{name}.out" for name in names] or sorted((TOP / "examples").glob("*.out"))
+    wrong = 0
+    with tempfile.TemporaryDirectory() as place:
+        folder = shutil.copytree(TOP / "examples", Path(place) / "examples")
+        shutil.copytree(TOP / "docs/examples", Path(place) / "docs/examples")
+        (Path(place) / "cpgc").symlink_to(cpgc)
+        for file in files:
+            if missing(file.read_text()):
+                print(f"{file.name} is left out: there is no {', '.join(missing(file.read_text()))}")
+                continue
+            for command, wanted in commands(file.read_text()):
+                got = run(command, folder, f"{place}:{TOP}/tools:{os.environ['PATH']}")
+                if got != wanted:
+                    wrong += 1
+                    print(f"{file.name}: $ {command}", *(f"  wanted {line}" for line in wanted), *(f"  got    {line}" for line in got), sep="\n")
+    print(f"{len(files)} files, {wrong} commands wrong")
+    return int(wrong > 0)
+
+
+def main() -> int:
+    words = cli.Words(__doc__)
+    words.add_argument("program", metavar="PROGRAM", nargs="?", type=program.found, default=str(TOP / "crates/cpgc/out/cpgc"), help="the built cpgc")
+    words.add_argument("names", metavar="NAME", nargs="*", help="of a file examples/NAME.out")
+    said = words.parse_args()
+    unknown = [name for name in said.names if not (TOP / "examples" / f"{name}.out").exists()]
+    if unknown:
+        cli.fail(f"there is no examples/{unknown[0]}.out")
+    return run_all(program.found(said.program), said.names)

@@ -1,0 +1,253 @@
+"""Tests of tools/unproved and of the programs of tools/dev, over small trees of their own: none builds or proves anything.
+
+    python3 tools/tests/test_dev.py
+"""
+import hashlib
+import os
+import shutil
+import subprocess
+import sys
+import tempfile
+import unittest
+from pathlib import Path
+
+sys.dont_write_bytecode = True
+TOP = Path(__file__).resolve().parent.parent.parent
+
+
+class Tree(unittest.TestCase):
+    """A copy of what a tool reads, which a test may spoil."""
+
+    copied: tuple[str, ...] = ()
+
+    def setUp(self) -> None:
+        room = tempfile.TemporaryDirectory()
+        self.addCleanup(room.cleanup)
+        self.top = Path(room.name) / "tree"
+        for name in self.copied:
+            place = self.top / name
+            place.parent.mkdir(parents=True, exist_ok=True)
+            if (TOP / name).is_dir():
+                shutil.copytree(TOP / name, place, ignore=shutil.ignore_patterns("out", "__pycache__"))
+            else:
+                shutil.copy(TOP / name, place)
+
+    def run_tool(self, *words: object, **env: str) -> tuple[int, str, str]:
+        done = subprocess.run([str(it) for it in words], cwd=self.top, env={**os.environ, **env}, capture_output=True, text=True)
+        return done.returncode, done.stdout, done.stderr
+
+    def script(self, name: str, text: str) -> Path:
+        place = self.top / name
+        place.parent.mkdir(parents=True, exist_ok=True)
+        place.write_text(f"#!/bin/sh\n{text}\n")
+        place.chmod(0o755)
+        return place
+
+
+class Unproved(Tree):
+    copied = ("tools/unproved",)
+    said = "unproved: nothing is proved of the program that this builds\n"
+
+    def test_another_kit(self) -> None:
+        rt = self.script("kit/rt", "echo rattle-kit-99a logic 0123456789abcdef")
+        status, out, err = self.run_tool("tools/unproved", "program", PATH=f"{rt.parent}:{os.environ['PATH']}")
+        self.assertEqual((status, out), (1, self.said))
+        self.assertEqual(err, "unproved: this kit is another one: rattle-kit-99a logic 0123456789abcdef; wanted is one with logic dac8208d650f15bf\n")
+
+    def test_no_kit(self) -> None:
+        python = self.top / "python"
+        python.mkdir()
+        (python / "python3").symlink_to(sys.executable)
+        status, out, err = self.run_tool("tools/unproved", "program", PATH=f"{python}:/usr/bin:/bin")
+        if shutil.which("rt", path="/usr/bin:/bin") is None:
+            self.assertEqual((status, out, err), (1, self.said, "unproved: Rattle's kit isn't on the path: there is no rt\n"))
+
+    def test_a_kit_that_makes_nothing(self) -> None:
+        """`rt try` that ends without a program: its last lines are shown, and nothing is left."""
+        rt = self.script("kit/bin/rt", 'if [ "$1" = version ]; then echo rattle-kit-13b logic dac8208d650f15bf; else echo no such crate >&2; exit 2; fi')
+        self.script("kit/bin/rtlib.py", "")
+        self.script("kit/toolchain/bin/clang", "exit 1")
+        (self.top / "crates/cpgc").mkdir(parents=True)
+        status, out, err = self.run_tool("tools/unproved", "program", PATH=f"{rt.parent}:{os.environ['PATH']}")
+        self.assertEqual((status, out), (1, self.said))
+        self.assertEqual(err, "unproved: the kit made no program of this text\n  no such crate\n")
+        self.assertFalse((self.top / "program").exists())
+
+    def test_words(self) -> None:
+        self.assertEqual(self.run_tool("tools/unproved")[0], 1)
+        self.assertEqual(self.run_tool("tools/unproved", "--help")[0], 0)
+
+
+class Documents(Tree):
+    """A small repository: one crate, three documents, and the commands of two of them."""
+
+    copied = ("tools/dev/docs",)
+    files = {
+        "README.md": "# One\n\nSee [the guide](docs/GUIDE.md#a-graph), `cpg_one` `Graph`, `IsGraph` and `cpg_one::run`.\n\n```\n$ cpgc show x\nworst 1\n```\n",
+        "docs/GUIDE.md": "# Guide\n\n## A graph\n\n`cpg_one/specs/Graph` and [here](../README.md).\n\n```\n$ cpgc tune x\nA parts 2\n...\n```\n",
+        "docs/MORE.md": "# More\n",
+        "crates.txt": "cpg_one:   # the only one\n",
+        "crates/cpg_one/specs/Graph.antt": "pub record IsGraph : Type 0 where\n",
+        "crates/cpg_one/src/lib.rt": "pub fn run() {}\n",
+        "examples/readme.out": "$ cpgc show x\n> worst 1\nstatus 0\n",
+        "examples/guide.out": "needs cc\n$ cpgc tune x\n> A parts 2\n> k 0 worst 40\nstatus 0\n",
+        "runtime/c/x.h": "int cpg_call(void);\n",
+    }
+
+    def setUp(self) -> None:
+        super().setUp()
+        for name, text in self.files.items():
+            (self.top / name).parent.mkdir(parents=True, exist_ok=True)
+            (self.top / name).write_text(text)
+
+    def spoil(self, name: str, old: str, new: str) -> list[str]:
+        """What the tool says of it after an edit of a document, but for its last line."""
+        text = (self.top / name).read_text()
+        self.assertIn(old, text)
+        (self.top / name).write_text(text.replace(old, new, 1))
+        status, out, _ = self.run_tool("tools/dev/docs")
+        self.assertEqual(status, 1, out)
+        return out.splitlines()[:-1]
+
+    def test_as_they_are(self) -> None:
+        status, out, _ = self.run_tool("tools/dev/docs", "--words")
+        self.assertEqual((status, out), (0, "    18 README.md\n    18 docs/GUIDE.md\n     2 docs/MORE.md\n3 documents, 38 words, 0 wrong\n"))
+
+    def test_a_name_of_the_node_in_c(self) -> None:
+        (self.top / "docs/MORE.md").write_text("# More\n\n`cpg_call`\n")
+        self.assertEqual(self.run_tool("tools/dev/docs")[0], 0)
+
+    def test_a_link(self) -> None:
+        self.assertEqual(self.spoil("docs/GUIDE.md", "../README.md", "../READYOU.md"), ["docs/GUIDE.md: there is no ../READYOU.md"])
+
+    def test_a_path(self) -> None:
+        text = "# More `docs/GUIDE.md x` `docs/NAME.md` `crates/cpg_one/out/it` `docs/LESS.md`"
+        self.assertEqual(self.spoil("docs/MORE.md", "# More", text), ["docs/MORE.md: there is no `docs/LESS.md`"])
+
+    def test_a_version(self) -> None:
+        (self.top / "VERSION").write_text("1.2.3\n")
+        (self.top / "CHANGELOG.md").write_text("# Changelog\n\n## 1.2.2\n\n## 1.2.1\n")
+        self.assertIn("CHANGELOG.md: version 1.2.2, and VERSION has 1.2.3\n", self.run_tool("tools/dev/docs")[1])
+
+    def test_a_heading(self) -> None:
+        self.assertEqual(self.spoil("README.md", "#a-graph", "#a-pack"), ["README.md: docs/GUIDE.md has no heading #a-pack"])
+
+    def test_a_crate(self) -> None:
+        self.assertEqual(self.spoil("docs/GUIDE.md", "`cpg_one/specs/Graph`", "`cpg_two/specs/Graph`"), ["docs/GUIDE.md: `cpg_two/specs/Graph` names no crate"])
+
+    def test_a_file(self) -> None:
+        self.assertEqual(self.spoil("docs/GUIDE.md", "specs/Graph", "specs/Pack"), ["docs/GUIDE.md: there is no `cpg_one/specs/Pack`"])
+
+    def test_a_definition(self) -> None:
+        self.assertEqual(self.spoil("README.md", "`cpg_one` `Graph`", "`cpg_one` `Pack`"), ["README.md: cpg_one has no `Pack`"])
+
+    def test_a_definition_alone(self) -> None:
+        self.assertEqual(self.spoil("README.md", "`IsGraph`", "`IsPack`"), ["README.md: no crate has `IsPack`"])
+
+    def test_a_function(self) -> None:
+        self.assertEqual(self.spoil("README.md", "cpg_one::run", "cpg_one::walk"), ["README.md: `cpg_one::walk` is not in cpg_one"])
+
+    def test_a_command(self) -> None:
+        self.assertEqual(self.spoil("README.md", "$ cpgc show x", "$ cpgc show y"), ["README.md: $ cpgc show y", "  in readme.out: $ cpgc show x"])
+
+    def test_lines_of_a_command(self) -> None:
+        self.assertEqual(self.spoil("docs/GUIDE.md", "A parts 2", "A parts 3"), ["docs/GUIDE.md: $ cpgc tune x: guide.out has other lines"])
+
+    def test_a_command_elsewhere(self) -> None:
+        (self.top / "docs/MORE.md").write_text("# More\n\n```\n$ cpgc show x\nworst 1\n```\n")
+        self.assertEqual(self.run_tool("tools/dev/docs")[0], 0)
+        why = ["docs/MORE.md: $ cpgc show x: no file of examples has it with these lines"]
+        self.assertEqual(self.spoil("docs/MORE.md", "worst 1", "worst 2"), why)
+
+    def test_one_command_more(self) -> None:
+        self.assertEqual(self.spoil("docs/GUIDE.md", "...", "...\n$ cpgc"), ["docs/GUIDE.md has 2 commands, and guide.out 1"])
+
+    def test_length_of_readme(self) -> None:
+        self.assertEqual(self.spoil("README.md", "# One", "# One" + " word" * 1400), ["README.md has 1418 words, and 1400 are the most"])
+
+
+class Cases(Tree):
+    copied = ("tools/dev/cases", "crates/cpg_cases")
+
+    def test_a_wrong_program(self) -> None:
+        program = self.script("program", "exit 8")
+        status, out, _ = self.run_tool("tools/dev/cases", program)
+        self.assertEqual(status, 1)
+        self.assertRegex(out.splitlines()[-1], r"^\d+ runs, \d+ wrong, \d+ left out, 0 not asked for$")
+
+
+class Release(Tree):
+    """A tree with one commit, a program that a gate has built, and tools that put it into a folder."""
+
+    copied = ("tools/dev/release", "VERSION", "LICENSE")
+
+    def setUp(self) -> None:
+        super().setUp()
+        self.script("tools/dev/cases", "exit 0")
+        self.script("tools/install", 'mkdir -p "$3/bin" && cp "$2" "$3/bin/cpgc"')
+        rt = self.script("kit/rt", "echo rattle-kit-13b logic dac8208d650f15bf")
+        self.path = f"{rt.parent}:{os.environ['PATH']}"
+        for name in ("README.md", "CHANGELOG.md", "SECURITY.md", "CITATION.cff", "docs/x.md", "examples/x.toml", "runtime/x.c"):
+            (self.top / name).parent.mkdir(exist_ok=True)
+            (self.top / name).write_text(name)
+        (self.top / ".gitignore").write_text("out/\n")
+        git = ["git", "-c", "user.name=x", "-c", "user.email=x@example.org"]
+        for words in (["init", "-q"], ["add", "-A"], ["commit", "-qm", "x"]):
+            subprocess.run([*git, *words], cwd=self.top, check=True)
+        self.program = self.script("crates/cpgc/out/cpgc", "exit 0")
+        self.log = self.top / "out/log"
+        (self.top / "out/place").mkdir(parents=True)
+        self.log.write_text("proved\n7 passed, 0 failed\n")
+
+    def release(self) -> tuple[int, str, str]:
+        return self.run_tool("tools/dev/release", self.log, self.top / "out/place", PATH=self.path)
+
+    def test_a_release(self) -> None:
+        status, out, err = self.release()
+        self.assertEqual((status, err), (0, ""))
+        sum_ = hashlib.sha256(self.program.read_bytes()).hexdigest()
+        self.assertIn(f"gate 7 passed, 0 failed\nsha256 {sum_}\n", out)
+        name = f"cpgc-{(TOP / 'VERSION').read_text().strip()}"
+        folder = self.top / "out/place" / name
+        self.assertTrue((folder / "docs/x.md").exists())
+        checked = subprocess.run(["sha256sum", "--check", "--quiet", "SHA256SUMS"], cwd=folder)
+        self.assertEqual(checked.returncode, 0)
+        first = (folder.parent / f"{name}.tar.gz").read_bytes()
+        self.assertEqual(self.release()[0], 1)  # it is there already
+        shutil.rmtree(folder)
+        (folder.parent / f"{name}.tar.gz").unlink()
+        self.assertEqual(self.release()[0], 0)
+        self.assertEqual((folder.parent / f"{name}.tar.gz").read_bytes(), first)
+
+    def refused(self, why: str) -> None:
+        status, out, err = self.release()
+        self.assertEqual((status, out), (1, ""))
+        self.assertIn(why, err)
+        self.assertEqual(list((self.top / "out/place").iterdir()), [])
+
+    def test_a_gate_that_failed(self) -> None:
+        self.log.write_text("6 passed, 1 failed\n")
+        self.refused("its last line isn't N passed, 0 failed")
+
+    def test_changes(self) -> None:
+        (self.top / "README.md").write_text("other")
+        self.refused("the tree has changes that aren't committed")
+
+    def test_a_later_program(self) -> None:
+        os.utime(self.program, (4e9, 4e9))
+        self.refused("newer than the log")
+
+    def test_an_older_program(self) -> None:
+        os.utime(self.program, (1, 1))
+        self.refused("older than the commit")
+
+    def test_a_wrong_program(self) -> None:
+        self.script("tools/dev/cases", "exit 1")
+        subprocess.run(["git", "-c", "user.name=x", "-c", "user.email=x@example.org", "commit", "-qam", "y"], cwd=self.top, check=True)
+        self.program.touch()
+        self.log.touch()
+        self.refused("the program fails a case")
+
+
+if __name__ == "__main__":
+    unittest.main()
