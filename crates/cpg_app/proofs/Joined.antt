@@ -1,5 +1,5 @@
 -- What a run packed, the others take, and it asks what `show` prints.
-use Rattle.std.proofs.Common.{ℕ, ◌≡◌, ◌<◌, ◌≤◌, ◌∙◌, Bool, true, false, List, [], ◌∷◌, ◌++◌, Option, Some, None, append-nil, get_or, length, refl, sym, ap, subst, arith, inl, inr, lt-ltb, true≢false}
+use Rattle.std.proofs.Common.{ℕ, ◌≡◌, ◌<◌, ◌≤◌, ◌∙◌, Bool, true, false, List, [], ◌∷◌, Option, Some, None, append-nil, get_or, length, refl, sym, ap, subst, arith, inl, inr, lt-ltb, true≢false}
 use Rattle.std.specs.Prelude.{position}
 use Rattle.std.specs.List.{position_or_len}
 use Rattle.std.specs.Str.{bytes_eq}
@@ -59,11 +59,11 @@ made_again a b same spell bytes made =
     record { compiled = c; compilation = all.0; pack = all.1; safe = all.2; spelled = all.3 }
 
 -- a graph is admitted, and bytes are spelled from its tables
-record IsOutputFor (spell : Graph → Compiled → Text) (g : Graph) (made : Text) : Type 0 where
-  admission : Admission
-  of : admission.graph ≡ g
-  admitted : IsAdmitted admission.graph admission.order admission.guards
-  made_of : IsMadeOf admission spell made
+pub record IsOutputFor (spell : Graph → Compiled → Text) (g : Graph) (made : Text) : Type 0 where
+  pub admission : Admission
+  pub of : admission.graph ≡ g
+  pub admitted : IsAdmitted admission.graph admission.order admission.guards
+  pub made_of : IsMadeOf admission spell made
 
 -- so it is where a command's output is made of a graph file
 output_of : (asked : Text → Command) (spell : Graph → Compiled → Text) → ((graph text : Text) (vs : List Value) → PutsOut (asked graph) vs text → OnGraph vs (λ a. IsMadeOf a spell text)) → ((graph : Text) → is_live (Some (asked graph)) ≡ false) →
@@ -85,7 +85,7 @@ output_of asked spell puts dead files r g made has = elim (has.lawful.done has.d
 shown_of : (r : Ran) (g : Graph) (text : Text) → HasShown r g text → IsOutputFor shown g text
 shown_of = output_of Show shown (λ graph text vs puts. puts) (λ graph. refl) (λ graph. refl)
 
-pack_of : (r : Ran) (g : Graph) (pack : Text) → HasPacked r g pack → IsOutputFor packed_of g pack
+pub pack_of : (r : Ran) (g : Graph) (pack : Text) → HasPacked r g pack → IsOutputFor packed_of g pack
 pack_of = output_of Compile packed_of (λ graph text vs puts. puts) (λ graph. refl) (λ graph. refl)
 
 -- ---- names of nodes

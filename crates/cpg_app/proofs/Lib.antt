@@ -11,6 +11,7 @@ pub mod Safe
 pub mod Worked
 pub mod Answered
 pub mod Joined
+pub mod Fronts
 pub mod TunedRows
 pub mod Finishes
 pub mod Figures

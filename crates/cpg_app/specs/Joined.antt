@@ -1,5 +1,5 @@
 -- Runs one after another: what one wrote, the others read; and runs for one graph.
-use Rattle.std.specs.Prelude.{ℕ, ◌≡◌, ◌<◌, ◌⊎◌, true, false, [], ◌∷◌, ◌++◌, Option, get_or, length}
+use Rattle.std.specs.Prelude.{ℕ, ◌≡◌, ◌<◌, ◌⊎◌, true, false, [], ◌∷◌, Option, get_or, length, take}
 use Rattle.cpg_base.specs.Graph.{Graph}
 use Rattle.cpg_tale.specs.Fetch.{Fetch}
 use Rattle.cpg_words.specs.Parts.{Text}
@@ -10,10 +10,11 @@ use Rattle.cpg_table.specs.Lawful.{Tables}
 use Rattle.cpg_codec.specs.Spelling.{spelling}
 use Rattle.cpg_core.specs.CompileLaws.{AskTheSame}
 use Rattle.cpg_refusal.specs.declared.halt.Halt.{Halt}
-use Rattle.cpg_refusal.specs.declared.halt.Halt.TheVariants.{Memory}
+use Rattle.cpg_refusal.specs.declared.halt.Halt.TheVariants.{Memory, Refused}
+use Rattle.cpg_refusal.specs.declared.halt.Refusal.TheVariants.{BadPack}
 use Rattle.cpg_inputs.specs.declared.kind.Kind.TheVariants.{PackFile}
 use Rattle.cpg_inputs.specs.Files.{file}
-use Rattle.cpg_inputs.specs.Says.{graph_value, tables_value}
+use Rattle.cpg_inputs.specs.Says.{Value, graph_value, tables_value}
 use Rattle.cpg_inputs.specs.Reading.{IsRead, StopsAt}
 use Rattle.cpg_app.specs.Endings.{Has, Ran}
 use Rattle.cpg_app.specs.Lawful.{Asks, AsksVerdict, IsLawful}
@@ -65,6 +66,18 @@ pub record IsTaken (g : Graph) (pack : Text) : Type 0 where
 -- audits each log of the graph by, and `node` prints for each of its nodes, want of memory aside.
 abbrev pub PacksAreTaken : Type 0
 PacksAreTaken = (r : Ran) (g : Graph) (pack : Text) → HasPacked r g pack → IsTaken g pack
+
+-- bytes that end where they should go on are refused there by each command that reads packs
+pub record IsCutShort (bytes : Text) : Type 0 where
+  -- a fetch that gave all of them is read as no value
+  pub unread : (o : Option Graph) (fetch : Fetch) (value : Value) → GaveAll fetch bytes → IsRead o (file PackFile fetch.name) fetch value → ⊥
+  -- and stops a run by the refusal of a pack at the place where they end, or as out of memory
+  pub stops : (o : Option Graph) (fetch : Fetch) (halt : Halt) → GaveAll fetch bytes → StopsAt o (file PackFile fetch.name) fetch halt →
+      (halt ≡ Refused (BadPack (length bytes))) ⊎ (halt ≡ Memory)
+
+-- What `compile` wrote, cut short anywhere, is refused by each command that reads packs, at the place where it ends.
+abbrev pub FrontsAreRefused : Type 0
+FrontsAreRefused = (r : Ran) (g : Graph) (pack : Text) (n : ℕ) → HasPacked r g pack → n < length pack → IsCutShort (take n pack)
 
 -- A text and a pack are of two compilations of one admitted graph, which ask the same in every scenario.
 pub record AreOfOneGraph (g : Graph) (text pack : Text) : Type 0 where

@@ -1,7 +1,7 @@
 //! The top call: from command words over a shelf and two sinks to an exit status.
 #![tactic(auto)]
 
-ghost use Rattle.cpg_app.specs.Joined.{PacksAreTaken, ShowAndCompileAgree};
+ghost use Rattle.cpg_app.specs.Joined.{FrontsAreRefused, PacksAreTaken, ShowAndCompileAgree};
 
 mod auditing;
 mod column_counts;
@@ -23,6 +23,11 @@ pub use trial_figures::run_trial;
 /// `audit` audits each log of the graph by, and `node` prints for each of its nodes, want of memory aside.
 pub fn packs_are_taken()
     ensures { PacksAreTaken }
+{}
+
+/// What `compile` wrote, cut short anywhere, is refused by each command that reads packs, at the place where it ends.
+pub fn fronts_are_refused()
+    ensures { FrontsAreRefused }
 {}
 
 /// What `show` printed for a graph file and what `compile` wrote for it are of one graph, with one order and one greatest finish,
