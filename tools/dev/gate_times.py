@@ -1,4 +1,4 @@
-"""Runs the gate and says what it costs: processor seconds by crate and step, as a table for docs/CONTRIBUTING.md.
+"""Runs the gate and says what it costs: processor seconds by crate and step, as a table for docs/GATE.md.
 
     tools/gate_times.py            at the top of the repository: the whole gate, which proves and tries all anew
     tools/gate_times.py NAME ..    rt ci NAME .., where the kit's takes names: some crates, and those below them that no earlier run proved
