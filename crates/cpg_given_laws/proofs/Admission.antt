@@ -1,0 +1,100 @@
+-- A graph that is admitted is so with a topological order of its processes as the order that it gives.
+use Rattle.std.proofs.Common.{ℕ, ◌+◌, ◌≡◌, ◌<◌, ◌≤◌, ◌||◌, not, false, List, Option, Some, AllPairs, IsTrue, filter, length, get_or, sym, ap, ◌∙◌, subst}
+use Rattle.std.specs.List.{list_all}
+use Rattle.std.proofs.lemmas.List.Elements.{All-from_get_or, Contains-get_or}
+use Rattle.cpg_base.specs.Numbers.{numbers_below}
+use Rattle.cpg_base.specs.Graph.{Graph, process_count, condition_count, process_of, inputs}
+use Rattle.cpg_base.specs.Activity.{is_active}
+use Rattle.cpg_base.specs.Limits.{IsOrderWithin}
+use Rattle.cpg_base.specs.WellFormed.{WellFormed, HasSingleJoins}
+use Rattle.cpg_base.specs.Order.{place}
+use Rattle.cpg_base.proofs.Pairs.{order_apart}
+use Rattle.cpg_base.proofs.Places.{from_order}
+use Rattle.cpg_order.specs.Guard.{Guard, Leaf, Test, IsOrderedFrom}
+use Rattle.cpg_order.specs.Track.{track_count, most_tracks}
+use Rattle.cpg_order.specs.Deciding.{outcomes}
+use Rattle.cpg_order.specs.Urgency.{IsUrgencyOrder, IsTopological}
+use Rattle.cpg_rules.specs.Admission.{IsAdmitted}
+use Rattle.cpg_rules.specs.Guards.{Guards, AreGuardsOf, tree_of}
+use Rattle.cpg_given_laws.proofs.Runs.{other, same_activations, same_urgency, same_live}
+
+module _ (g : Graph) (given : Option (List ℕ)) where
+  pub formed_of_other : WellFormed g → WellFormed (other g given)
+  formed_of_other w = record {
+    sources = w.sources;
+    targets = w.targets;
+    nodes = w.nodes;
+    works = w.works;
+    parts = w.parts;
+    slot_nodes = w.slot_nodes;
+    slot_lengths = w.slot_lengths;
+    own_slots = w.own_slots;
+    senders = w.senders;
+    few_processes = w.few_processes;
+    few_conditions = w.few_conditions;
+  }
+
+  pub topological_of_other : (order : List ℕ) → IsTopological g order → IsTopological (other g given) order
+  topological_of_other order top = record { all = top.all; forward = top.forward }
+
+  urgency_of_other : (order : List ℕ) → IsUrgencyOrder g order → IsUrgencyOrder (other g given) order
+  urgency_of_other order is = record { all = is.all; falling = subst (λ f. AllPairs (λ p q. IsTrue (f p q)) order) (sym (same_urgency g given)) is.falling }
+
+  same_tracks : track_count (other g given) ≡ track_count g
+  same_tracks = ap (λ f. length (filter (λ o. list_all (λ c. not (get_or o c false) || is_active (f o (process_of g c))) (numbers_below (condition_count g))) (outcomes (condition_count g)))) (same_activations g given)
+
+  ordered_of_other : (order : List ℕ) (tree : Guard) (k : ℕ) → IsOrderedFrom g order k tree → IsOrderedFrom (other g given) order k tree
+  ordered_of_other order (Leaf a) k is = is
+  ordered_of_other order (Test c off on) k is =
+      let next = place order (process_of g c) + 1 in
+      (is.0, is.1, ordered_of_other order off next is.2, ordered_of_other order on next is.3)
+
+  guards_of_other : (order : List ℕ) (guards : Guards) → AreGuardsOf g order guards → AreGuardsOf (other g given) order guards
+  guards_of_other order guards are = record {
+    conditions = are.conditions;
+    count = are.count;
+    trees = λ p l. let is = are.trees p l in record {
+      is = λ o long. is.is o long ∙ ap (λ f. f o p) (sym (same_activations g given));
+      ordered = ordered_of_other order (tree_of guards p) 0 is.ordered;
+      reduced = is.reduced;
+    };
+    edges = are.edges;
+  }
+
+  joins_of_other : HasSingleJoins g → HasSingleJoins (other g given)
+  joins_of_other joins p values l join long = subst (λ f. length (filter (f values) (inputs g p)) ≤ 1) (sym (same_live g given)) (joins p values l join long)
+
+pub admitted_with : (g : Graph) (urgency order : List ℕ) (guards : Guards) → IsAdmitted g urgency guards → IsTopological g order → IsAdmitted (other g (Some order)) urgency guards
+admitted_with g urgency order guards is top =
+    let limits = is.limits in
+    let within : IsOrderWithin (process_count g) order = record {
+      there = All-from_get_or (λ p. p < process_count g) order 0 (λ i l. from_order (process_count g) order top.all (get_or order i 0) (Contains-get_or order i 0 l));
+      once = order_apart (process_count g) order top.all;
+    } in
+    record {
+      limits = record {
+        faults = limits.faults;
+        deadline = limits.deadline;
+        few_nodes = limits.few_nodes;
+        few_slots = limits.few_slots;
+        few_processes = limits.few_processes;
+        few_edges = limits.few_edges;
+        few_conditions = limits.few_conditions;
+        slots = limits.slots;
+        processes = limits.processes;
+        edges = limits.edges;
+        node_names = limits.node_names;
+        process_names = limits.process_names;
+        own_slots = limits.own_slots;
+        order = within;
+      };
+      well_formed = formed_of_other g (Some order) is.well_formed;
+      urgency = urgency_of_other g (Some order) urgency is.urgency;
+      topological = topological_of_other g (Some order) urgency is.topological;
+      tracks = subst (λ n. n ≤ most_tracks) (sym (same_tracks g (Some order))) is.tracks;
+      guards = guards_of_other g (Some order) urgency guards is.guards;
+      joins = joins_of_other g (Some order) is.joins;
+      slots = is.slots;
+      sizes = is.sizes;
+      given = topological_of_other g (Some order) order top;
+    }

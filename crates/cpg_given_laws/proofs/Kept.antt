@@ -1,0 +1,106 @@
+-- A graph that gives the order of a compile is compiled under it, to tables that ask the same.
+use Rattle.std.proofs.Common.{ℕ, ◌≡◌, ◌↔◌, List, Some, None, inl, inr, refl, sym, ap, ◌∙◌, subst, unwrap_or}
+use Rattle.std.proofs.lemmas.Option.{none-some}
+use Rattle.cpg_base.specs.Graph.{Graph}
+use Rattle.cpg_base.specs.Scenario.{Scenario, IsScenario}
+use Rattle.cpg_order.specs.Urgency.{IsTopological, first_order}
+use Rattle.cpg_rules.specs.Guards.{Guards}
+use Rattle.cpg_rules.specs.Admission.{IsAdmitted}
+use Rattle.cpg_table.specs.Table.{at}
+use Rattle.cpg_run.specs.declared.built.Built.{Built}
+use Rattle.cpg_run.specs.Built.{IsBuiltFor}
+use Rattle.cpg_run.specs.Finish.{IsWorst}
+use Rattle.cpg_run.specs.Run.{IsRun}
+use Rattle.cpg_run.proofs.FrozenUnique.{frozen_unique}
+use Rattle.cpg_run.proofs.RunExists.{a_run}
+use Rattle.cpg_reach.specs.Wide.{IsNarrow}
+use Rattle.cpg_core.specs.declared.compiling.Compiled.{Compiled}
+use Rattle.cpg_core.specs.declared.fault.CompileFault.{CompileFault}
+use Rattle.cpg_core.specs.declared.fault.CompileFault.TheVariants.{TooWide, Late, OutOfMemory}
+use Rattle.cpg_core.specs.Compilation.{IsCompilation, ShowsCompileFault}
+use Rattle.cpg_core.specs.CompileLaws.{AskTheSame}
+use Rattle.cpg_core.specs.Compiled.{IsMeasured, IsPreferred, IsCompileOrder, IsCompiled}
+use Rattle.cpg_core.proofs.BuiltUnique.{one_worst}
+use Rattle.cpg_core.proofs.CompiledLaws.{compile_topological, not_late_and_compiled}
+use Rattle.cpg_given_laws.specs.Kept.{with_order, KeepsTables}
+use Rattle.cpg_given_laws.proofs.Runs.{other, run_of_other}
+use Rattle.cpg_given_laws.proofs.Measures.{scenario_of_other, frozen_back, worst_back, measured_of_other}
+use Rattle.cpg_given_laws.proofs.Width.{narrow_of_other}
+use Rattle.cpg_given_laws.proofs.Admission.{formed_of_other, topological_of_other, admitted_with}
+
+pub same_measures : (g : Graph) (urgency given order : List ℕ) (excess worst : ℕ) →
+    IsMeasured (with_order g given) urgency order excess worst ↔ IsMeasured g urgency order excess worst
+same_measures g urgency given order excess worst =
+    (measured_of_other (other g (Some given)) g.order urgency order excess worst, measured_of_other g (Some given) urgency order excess worst)
+
+module _ (g : Graph) (urgency : List ℕ) (guards : Guards) (c : Compiled) (is : IsAdmitted g urgency guards) (ungiven : g.order ≡ None) (made : IsCompilation g urgency c) where
+  -- its first order is the urgency order
+  first_is : first_order g urgency ≡ urgency
+  first_is = ap (λ o. unwrap_or o urgency) ungiven
+
+  topological : IsTopological g c.order
+  topological = compile_topological g is.well_formed urgency is.topological (subst (IsTopological g) (sym first_is) is.topological) c.order made.compiled.taken
+
+  narrow : IsNarrow g c.order
+  narrow = elim made.compiled.taken [
+    | inl p ↦ p.narrow
+    | inr first ↦ subst (IsNarrow g) (sym first.0) (made.compiled.narrow ungiven)
+  ]
+
+  admitted : IsAdmitted (with_order g c.order) urgency guards
+  admitted = admitted_with g urgency c.order guards is topological
+
+  -- no order is preferred to one that is given
+  none_preferred : (order : List ℕ) → IsPreferred (with_order g c.order) urgency order → ⊥
+  none_preferred order p = none-some c.order (sym p.ungiven)
+
+  taken : (order : List ℕ) → IsCompileOrder (with_order g c.order) urgency order ↔ (order ≡ c.order)
+  taken order = (λ t. elim t [ inl p ↦ absurd (none_preferred order p) | inr first ↦ first.0 ], λ e. inr (e, none_preferred))
+
+  compiled : IsCompiled (with_order g c.order) urgency c.order
+  compiled = record {
+    narrow = λ none. absurd (none-some c.order (sym none));
+    taken = (taken c.order).1 refl;
+    in_time = let m = made.compiled.in_time in (m.0, measured_of_other g (Some c.order) urgency c.order 0 m.0 m.1);
+  }
+
+  no_fault : (fault : CompileFault) → ShowsCompileFault (with_order g c.order) urgency fault → fault ≡ OutOfMemory
+  no_fault (TooWide x) shows = absurd (narrow_of_other g (Some c.order) c.order narrow x shows.0.wide)
+  no_fault (Late s p finish) shows = absurd (not_late_and_compiled (with_order g c.order) (formed_of_other g (Some c.order) is.well_formed) urgency
+      (topological_of_other g (Some c.order) urgency is.topological) (topological_of_other g (Some c.order) c.order topological) c.order shows.0 compiled)
+  no_fault OutOfMemory shows = refl
+
+  -- ---- tables under one order
+
+  module _ (b : Built) (built : IsBuiltFor (with_order g c.order) urgency c.order b) where
+    same_frozen : c.built.frozen ≡ b.frozen
+    same_frozen = frozen_unique g c.order topological c.built.frozen b.frozen made.built.frozen (frozen_back g (Some c.order) c.order b.frozen built.frozen)
+
+    same_worst : (c.built.worst ≡ b.worst) × (c.built.worst_in ≡ b.worst_in) × (c.built.worst_by ≡ b.worst_by)
+    same_worst = one_worst g urgency is.topological.all c.order topological c.built.frozen c.built.worst b.worst c.built.worst_in b.worst_in c.built.worst_by b.worst_by made.built.worst
+        (subst (λ f. IsWorst g urgency c.order f b.worst b.worst_in b.worst_by) (sym same_frozen) (worst_back g (Some c.order) c.order b.frozen urgency b.worst b.worst_in b.worst_by built.worst))
+
+    same_times : (x : ℕ) (s : Scenario) → IsScenario g s → at c.built.tables.nodes x s ≡ at b.tables.nodes x s
+    same_times x s law =
+        let run = a_run g c.order c.built.frozen s topological in
+        made.built.exact.times s run.0 x law run.1
+        ∙ sym (built.exact.times s run.0 x (scenario_of_other g (Some c.order) s law)
+        (run_of_other g (Some c.order) c.order s run.0 b.frozen (subst (λ f. IsRun g c.order f s run.0) same_frozen run.1)))
+
+  same : (d : Compiled) → IsCompilation (with_order g c.order) urgency d → AskTheSame g c d
+  same d again =
+      let order : d.order ≡ c.order = (taken d.order).0 again.compiled.taken in
+      let built = subst (λ o. IsBuiltFor (with_order g c.order) urgency o d.built) order again.built in
+      let worst = same_worst d.built built in
+      record {
+        order = sym order;
+        frozen = same_frozen d.built built;
+        worst = worst.0;
+        worst_in = worst.1;
+        worst_by = worst.2;
+        head = made.built.head ∙ sym again.built.head;
+        times = same_times d.built built;
+      }
+
+  pub keeps_tables : KeepsTables g urgency guards c
+  keeps_tables = record { admitted = admitted; taken = taken; made = no_fault; same = same }

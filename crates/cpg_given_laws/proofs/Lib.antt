@@ -1,0 +1,5 @@
+pub mod Runs
+pub mod Measures
+pub mod Width
+pub mod Admission
+pub mod Kept

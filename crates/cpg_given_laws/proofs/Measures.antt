@@ -1,0 +1,87 @@
+-- So frozen times, greatest finishes and greatest excesses under an order are those of a graph that gives another order, or none.
+use Rattle.std.proofs.Common.{ℕ, List, Option, IsTrue, sym, ◌∙◌, subst}
+use Rattle.cpg_base.specs.Graph.{Graph, item_at}
+use Rattle.cpg_base.specs.Scenario.{Scenario, IsScenario}
+use Rattle.cpg_run.specs.Run.{Times, IsRun}
+use Rattle.cpg_run.specs.Frozen.{WouldHave, IsFrozenTime, AreFrozenTimes}
+use Rattle.cpg_run.specs.Finish.{IsWorst, IsExcess}
+use Rattle.cpg_expand.specs.Measured.{IsMeasured}
+use Rattle.cpg_given_laws.proofs.Runs.{other, same_item_active, same_unfrozen, run_of_other}
+
+-- a scenario of a graph is one of each
+pub scenario_of_other : (g : Graph) (given : Option (List ℕ)) (s : Scenario) → IsScenario g s → IsScenario (other g given) s
+scenario_of_other g given s is = record { values = is.values; faults = is.faults; budget = is.budget }
+
+-- a run of a graph that gives an order is one of the graph
+pub run_back : (g : Graph) (given : Option (List ℕ)) (order : List ℕ) (frozen : List (Option ℕ)) (s : Scenario) (t : Times) → IsRun (other g given) order frozen s t → IsRun g order frozen s t
+run_back g given order frozen s t = run_of_other (other g given) g.order order s t frozen
+
+pub scenario_back : (g : Graph) (given : Option (List ℕ)) (s : Scenario) → IsScenario (other g given) s → IsScenario g s
+scenario_back g given = scenario_of_other (other g given) g.order
+
+module _ (g : Graph) (given : Option (List ℕ)) (order : List ℕ) (frozen : List (Option ℕ)) where
+  would_have : (x time : ℕ) → WouldHave g order frozen x time → WouldHave (other g given) order frozen x time
+  would_have x time h = record {
+    scenario = h.scenario;
+    lawful = scenario_of_other g given h.scenario h.lawful;
+    times = h.times;
+    run = run_of_other g given order h.scenario h.times frozen h.run;
+    active = subst IsTrue (sym (same_item_active g given h.scenario.values (item_at g x))) h.active;
+    has = same_unfrozen g given order h.scenario h.times x ∙ h.has;
+  }
+
+module _ (g : Graph) (given : Option (List ℕ)) (order : List ℕ) (frozen : List (Option ℕ)) where
+  would_back : (x time : ℕ) → WouldHave (other g given) order frozen x time → WouldHave g order frozen x time
+  would_back = would_have (other g given) g.order order frozen
+
+  frozen_time : (x : ℕ) → IsFrozenTime g order frozen x → IsFrozenTime (other g given) order frozen x
+  frozen_time x is = record {
+    reached = λ time e. would_have g given order frozen x time (is.reached time e);
+    greatest = λ time most e h. is.greatest time most e (would_back x most h);
+    none = λ e time h. is.none e time (would_back x time h);
+  }
+
+  pub frozen_of_other : AreFrozenTimes g order frozen → AreFrozenTimes (other g given) order frozen
+  frozen_of_other are = record { count = are.count; each = λ x l f. frozen_time x (are.each x l f); others = are.others }
+
+  module _ (urgency : List ℕ) where
+    pub worst_of_other : (worst : ℕ) (s : Scenario) (by : Option ℕ) → IsWorst g urgency order frozen worst s by → IsWorst (other g given) urgency order frozen worst s by
+    worst_of_other worst s by is = record {
+      greatest = λ u t law run. is.greatest u t (scenario_back g given u law) (run_back g given order frozen u t run);
+      least = record {
+        lawful = scenario_of_other g given s is.least.lawful;
+        holds = let h = is.least.holds in (h.0, run_of_other g given order s h.0 frozen h.1, h.2);
+        least = λ u law h. is.least.least u (scenario_back g given u law) (h.0, run_back g given order frozen u h.0 h.1, h.2);
+      };
+      by = λ t run. is.by t (run_back g given order frozen s t run);
+    }
+
+    pub excess_of_other : (excess : ℕ) (s : Scenario) (by : Option ℕ) → IsExcess g urgency order frozen excess s by → IsExcess (other g given) urgency order frozen excess s by
+    excess_of_other excess s by is = record {
+      greatest = λ u t law run. is.greatest u t (scenario_back g given u law) (run_back g given order frozen u t run);
+      least = record {
+        lawful = scenario_of_other g given s is.least.lawful;
+        holds = let h = is.least.holds in (h.0, run_of_other g given order s h.0 frozen h.1, h.2);
+        least = λ u law h. is.least.least u (scenario_back g given u law) (h.0, run_back g given order frozen u h.0 h.1, h.2);
+      };
+      by = λ t run. is.by t (run_back g given order frozen s t run);
+    }
+
+pub frozen_back : (g : Graph) (given : Option (List ℕ)) (order : List ℕ) (frozen : List (Option ℕ)) → AreFrozenTimes (other g given) order frozen → AreFrozenTimes g order frozen
+frozen_back g given = frozen_of_other (other g given) g.order
+
+pub worst_back : (g : Graph) (given : Option (List ℕ)) (order : List ℕ) (frozen : List (Option ℕ)) (urgency : List ℕ) (worst : ℕ) (s : Scenario) (by : Option ℕ) →
+    IsWorst (other g given) urgency order frozen worst s by → IsWorst g urgency order frozen worst s by
+worst_back g given = worst_of_other (other g given) g.order
+
+pub measured_of_other : (g : Graph) (given : Option (List ℕ)) (urgency order : List ℕ) (excess worst : ℕ) → IsMeasured g urgency order excess worst → IsMeasured (other g given) urgency order excess worst
+measured_of_other g given urgency order excess worst is = record {
+  frozen = is.frozen;
+  frozen_times = frozen_of_other g given order is.frozen is.frozen_times;
+  excess_in = is.excess_in;
+  excess_by = is.excess_by;
+  is_excess = excess_of_other g given order is.frozen urgency excess is.excess_in is.excess_by is.is_excess;
+  worst_in = is.worst_in;
+  worst_by = is.worst_by;
+  is_worst = worst_of_other g given order is.frozen urgency worst is.worst_in is.worst_by is.is_worst;
+}

@@ -1,0 +1,14 @@
+//! Laws on the order that a graph gives by the key `order`: the order that a compile took, once it is given, keeps the tables as they are.
+#![tactic(auto)]
+
+ghost use Rattle.cpg_given_laws.specs.Kept.{GivenOrdersKeepMeasures, GivenOrdersKeepTables};
+
+/// A graph that is given the order of its tables is compiled under that order, and to tables that ask the same in every scenario.
+pub fn given_orders_keep_tables()
+    ensures { GivenOrdersKeepTables }
+{}
+
+/// A graph is as late under an order, and in the same way, whatever order it gives.
+pub fn given_orders_keep_measures()
+    ensures { GivenOrdersKeepMeasures }
+{}
