@@ -5,7 +5,7 @@ use Rattle.std.proofs.lemmas.List.Elements.{All-from_get_or, Contains-get_or}
 use Rattle.cpg_base.specs.Numbers.{numbers_below}
 use Rattle.cpg_base.specs.Graph.{Graph, process_count, condition_count, process_of, inputs}
 use Rattle.cpg_base.specs.Activity.{is_active}
-use Rattle.cpg_base.specs.Limits.{IsOrderWithin}
+use Rattle.cpg_base.specs.Limits.{IsWithinLimits, IsOrderWithin}
 use Rattle.cpg_base.specs.WellFormed.{WellFormed, HasSingleJoins}
 use Rattle.cpg_base.specs.Order.{place}
 use Rattle.cpg_base.proofs.Pairs.{order_apart}
@@ -64,37 +64,41 @@ module _ (g : Graph) (given : Option (List ℕ)) where
   joins_of_other : HasSingleJoins g → HasSingleJoins (other g given)
   joins_of_other joins p values l join long = subst (λ f. length (filter (f values) (inputs g p)) ≤ 1) (sym (same_live g given)) (joins p values l join long)
 
+-- the processes of a topological order are different ones
+order_within : (g : Graph) (order : List ℕ) → IsTopological g order → IsOrderWithin (process_count g) order
+order_within g order top = record {
+  there = All-from_get_or (λ p. p < process_count g) order 0 (λ i l. from_order (process_count g) order top.all (get_or order i 0) (Contains-get_or order i 0 l));
+  once = order_apart (process_count g) order top.all;
+}
+
+pub limits_with : (g : Graph) (order : List ℕ) → IsWithinLimits g → IsOrderWithin (process_count g) order → IsWithinLimits (other g (Some order))
+limits_with g order limits within = record {
+  faults = limits.faults;
+  deadline = limits.deadline;
+  few_nodes = limits.few_nodes;
+  few_slots = limits.few_slots;
+  few_processes = limits.few_processes;
+  few_edges = limits.few_edges;
+  few_conditions = limits.few_conditions;
+  slots = limits.slots;
+  processes = limits.processes;
+  edges = limits.edges;
+  node_names = limits.node_names;
+  process_names = limits.process_names;
+  own_slots = limits.own_slots;
+  order = within;
+}
+
 pub admitted_with : (g : Graph) (urgency order : List ℕ) (guards : Guards) → IsAdmitted g urgency guards → IsTopological g order → IsAdmitted (other g (Some order)) urgency guards
-admitted_with g urgency order guards is top =
-    let limits = is.limits in
-    let within : IsOrderWithin (process_count g) order = record {
-      there = All-from_get_or (λ p. p < process_count g) order 0 (λ i l. from_order (process_count g) order top.all (get_or order i 0) (Contains-get_or order i 0 l));
-      once = order_apart (process_count g) order top.all;
-    } in
-    record {
-      limits = record {
-        faults = limits.faults;
-        deadline = limits.deadline;
-        few_nodes = limits.few_nodes;
-        few_slots = limits.few_slots;
-        few_processes = limits.few_processes;
-        few_edges = limits.few_edges;
-        few_conditions = limits.few_conditions;
-        slots = limits.slots;
-        processes = limits.processes;
-        edges = limits.edges;
-        node_names = limits.node_names;
-        process_names = limits.process_names;
-        own_slots = limits.own_slots;
-        order = within;
-      };
-      well_formed = formed_of_other g (Some order) is.well_formed;
-      urgency = urgency_of_other g (Some order) urgency is.urgency;
-      topological = topological_of_other g (Some order) urgency is.topological;
-      tracks = subst (λ n. n ≤ most_tracks) (sym (same_tracks g (Some order))) is.tracks;
-      guards = guards_of_other g (Some order) urgency guards is.guards;
-      joins = joins_of_other g (Some order) is.joins;
-      slots = is.slots;
-      sizes = is.sizes;
-      given = topological_of_other g (Some order) order top;
-    }
+admitted_with g urgency order guards is top = record {
+  limits = limits_with g order is.limits (order_within g order top);
+  well_formed = formed_of_other g (Some order) is.well_formed;
+  urgency = urgency_of_other g (Some order) urgency is.urgency;
+  topological = topological_of_other g (Some order) urgency is.topological;
+  tracks = subst (λ n. n ≤ most_tracks) (sym (same_tracks g (Some order))) is.tracks;
+  guards = guards_of_other g (Some order) urgency guards is.guards;
+  joins = joins_of_other g (Some order) is.joins;
+  slots = is.slots;
+  sizes = is.sizes;
+  given = topological_of_other g (Some order) order top;
+}

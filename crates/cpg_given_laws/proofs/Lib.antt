@@ -3,3 +3,9 @@ pub mod Measures
 pub mod Width
 pub mod Admission
 pub mod Kept
+pub mod Members
+pub mod Opened
+pub mod Names
+pub mod Documents
+pub mod Read
+mod Examples

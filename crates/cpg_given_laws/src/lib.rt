@@ -2,6 +2,7 @@
 #![tactic(auto)]
 
 ghost use Rattle.cpg_given_laws.specs.Kept.{GivenOrdersKeepMeasures, GivenOrdersKeepTables};
+ghost use Rattle.cpg_given_laws.specs.Read.{GivenOrdersAreRead};
 
 /// A graph that is given the order of its tables is compiled under that order, and to tables that ask the same in every scenario.
 pub fn given_orders_keep_tables()
@@ -11,4 +12,9 @@ pub fn given_orders_keep_tables()
 /// A graph is as late under an order, and in the same way, whatever order it gives.
 pub fn given_orders_keep_measures()
     ensures { GivenOrdersKeepMeasures }
+{}
+
+/// A graph file into which the names of an order are put, at the key `order`, says the same graph with that order given.
+pub fn given_orders_are_read()
+    ensures { GivenOrdersAreRead }
 {}

@@ -1,0 +1,93 @@
+-- The names of an order, as a document has them, and the numbers that they stand for.
+use Rattle.std.proofs.Common.{◌≡◌, ℕ, ◌+◌, ◌<◌, List, [], ◌∷◌, length, get_or, map, Option, Some, None, Ok, refl, sym, ap, ◌∙◌, subst, inl, inr}
+use Rattle.std.specs.Prelude.{All, option_and_then}
+use Rattle.std.specs.List.{AllByRecursion}
+use Rattle.std.proofs.lemmas.Bool.{cases_Bool}
+use Rattle.std.proofs.lemmas.List.Elements.{All-from_recursion}
+use Rattle.toml.specs.Data.{Data, Members, string, array, as_str}
+use Rattle.toml.specs.View.{items_of}
+use Rattle.cpg_base.specs.declared.process.Process.{Process}
+use Rattle.cpg_reader.specs.declared.place.Table.TheVariants as tables
+use Rattle.cpg_reader.specs.declared.place.Key.TheVariants.{Name, Node}
+use Rattle.cpg_reader.specs.declared.shape.RawProcess.{RawProcess}
+use Rattle.cpg_reader.specs.Reading.{pure, each}
+use Rattle.cpg_reader.specs.Rows.{Row, is_name, name_if, as_name, items_as, as_names, value_at, optional_in, optional, typed_in, required_in, name_at}
+use Rattle.cpg_reader.specs.Shape.{process_at, work_at, process_with}
+use Rattle.cpg_reader.specs.Names.{process_of, number_of, place, process_names}
+use Rattle.cpg_reader.proofs.Steps.{same_ok, each-parts}
+use Rattle.cpg_reader.proofs.Parts.{process-parts}
+use Rattle.cpg_reader.proofs.RawReads.{all_by_recursion}
+use Rattle.cpg_given_laws.proofs.Opened.{opened}
+
+-- a text that is read as a name
+abbrev pub IsRead : List ℕ → Type 0
+IsRead name = name_if name ≡ Some name
+
+read_text : (text name : List ℕ) → name_if text ≡ Some name → IsRead name
+read_text text name h = elim (cases_Bool (is_name text)) [
+  | inl t ↦ let same : text ≡ name = some_is (rw t at h) in subst IsRead same (rw t refl)
+  | inr f ↦ absurd (none_is (rw f at h))
+]
+  where
+    some_is : Some text ≡ Some name → text ≡ name
+    some_is e = cc
+
+    none_is : None ≡ Some name → ⊥
+    none_is e = cc
+
+read_name : (found : Option (List ℕ)) (name : List ℕ) → option_and_then name_if found ≡ Some name → IsRead name
+read_name None name h = cc
+read_name (Some text) name h = read_text text name h
+
+read_value : (row : Row) (found : Option Data) (name : List ℕ) → optional_in row Name as_name found ≡ Ok (Some name) → IsRead name
+read_value row None name h = cc
+read_value row (Some d) name h = typed (as_name d) refl h
+  where
+    typed : (o : Option (List ℕ)) → as_name d ≡ o → typed_in row Name o ≡ Ok (Some name) → IsRead name
+    typed None is e = cc
+    typed (Some text) is e = let same : text ≡ name = cc in read_name (as_str d) name (is ∙ ap Some same)
+
+read_at : (row : Row) (name : List ℕ) → name_at row Name ≡ Ok name → IsRead name
+unfolding name_at optional
+read_at row name h = opened (optional as_name row Name) (required_in row Name) name h (by row name)
+  where
+    by : (row : Row) (name : List ℕ) (found : Option (List ℕ)) → optional_in row Name as_name (value_at row Name) ≡ Ok found → required_in row Name found ≡ Ok name → IsRead name
+    by row name None is e = cc
+    by row name (Some text) is e = let same : text ≡ name = cc in read_value row (value_at row Name) name (is ∙ ap (λ t. Ok (Some t)) same)
+
+-- the name of a process that is read
+read_process : (row : Row) (p : RawProcess) → process_at row ≡ Ok p → IsRead p.name
+unfolding process_at
+read_process row p h =
+    opened (name_at row Name) _ p h λ name a rest.
+    opened (name_at row Node) _ p rest λ node b rest.
+    opened (work_at row) (λ work. pure (process_with name node work)) p (sym (process-parts row name node a b) ∙ h) λ work c last.
+    subst IsRead (ap (λ (p : RawProcess). p.name) (same_ok (process_with name node work) p last)) (read_at row name a)
+
+pub read_processes : (i : ℕ) (members : List Members) (ps : List RawProcess) → each (λ i ms. process_at (record { table = tables.Process; index = i; members = ms })) i members ≡ Ok ps → AllByRecursion IsRead (process_names ps)
+read_processes i [] ps h = subst (λ ps. AllByRecursion IsRead (process_names ps)) (same_ok [] ps h) tt
+read_processes i (ms ∷ rest) ps h =
+    let p = each-parts (λ i ms. process_at (record { table = tables.Process; index = i; members = ms })) i ms rest ps h in
+    subst (λ ps. AllByRecursion IsRead (process_names ps)) (sym p.2) (read_process _ p.0 p.3, read_processes (i + 1) rest p.1 p.4)
+
+-- a process is called as the document calls it
+called : (nodes : List (List ℕ)) (i : ℕ) (raw : RawProcess) (p : Process) → process_of nodes i raw ≡ Ok p → p.name ≡ raw.name
+unfolding process_of
+called nodes i raw p h = opened (number_of nodes (place tables.Process i Node) raw.node) _ p h λ node a last. sym (ap (λ (p : Process). p.name) (same_ok _ p last))
+
+pub all_called : (nodes : List (List ℕ)) (i : ℕ) (raws : List RawProcess) (ps : List Process) → each (process_of nodes) i raws ≡ Ok ps → map (λ (p : Process). p.name) ps ≡ process_names raws
+all_called nodes i [] ps h = ap (map (λ (p : Process). p.name)) (sym (same_ok [] ps h))
+all_called nodes i (raw ∷ raws) ps h =
+    let p = each-parts (process_of nodes) i raw raws ps h in
+    ap (map (λ (p : Process). p.name)) p.2 ∙ rw (called nodes i raw p.0 p.3, all_called nodes (i + 1) raws p.1 p.4) refl
+
+-- the names of an order are read as they are
+pub names_read : (names : List (List ℕ)) (order : List ℕ) → AllByRecursion IsRead names → All (λ p. p < length names) order
+    → as_names (array (items_of (map (λ p. string (get_or names p [])) order))) ≡ Some (map (λ p. get_or names p []) order)
+names_read names order are below = go order (all_by_recursion (λ p. p < length names) order below)
+  where
+    go : (order : List ℕ) → AllByRecursion (λ p. p < length names) order → items_as as_name (items_of (map (λ p. string (get_or names p [])) order)) ≡ Some (map (λ p. get_or names p []) order)
+    go [] h = refl
+    go (p ∷ ps) h =
+        let here : IsRead (get_or names p []) = All-from_recursion IsRead names are p [] h.0 in
+        rw (here, go ps h.1) refl
