@@ -11,7 +11,7 @@ use Rattle.cpg_core.specs.Compilation.{IsCompilation, ShowsCompileFault}
 use Rattle.cpg_core.specs.CompileLaws.{AskTheSame}
 use Rattle.cpg_core.specs.Compiled.{IsCompileOrder}
 
--- the same graph, but that its file gives this order by the key `order`
+-- the same graph, but that its file gives this order by the key `order`: it has the same items and the same scenarios
 abbrev pub with_order : Graph → List ℕ → Graph
 with_order g order = record g { order = Some order }
 
