@@ -1,7 +1,6 @@
 """Runs the gate and says what it costs: processor seconds by crate and step, as a table for docs/GATE.md.
 
-    tools/gate_times.py            at the top of the repository: the whole gate, which proves and tries all anew
-    tools/gate_times.py NAME ..    rt ci NAME .., where the kit's takes names: some crates, and those below them that no earlier run proved
+    tools/gate_times.py    at the top of the repository: .ci/run, which proves and tries all anew
 
 The steps are a crate's proof, its tests (proved with them once more), the seed (the proof that its wrong bodies are tried over), and the
 wrong bodies. Each rattle process is looked at twice a second, with those that it started and that have ended, so that up to half a
@@ -60,16 +59,9 @@ def look(found: Found, top: str) -> None:
             continue
 
 
-def all_anew() -> list[str]:
-    """The words that have the whole gate run anew: in some kits rt ci does so by itself, and takes none."""
-    said = subprocess.run(["rt", "help"], capture_output=True, text=True)
-    return ["--anew"] if "--anew" in said.stdout + said.stderr else []
-
-
 def main() -> int:
-    words = cli.Words(__doc__)
-    words.add_argument("names", metavar="NAME", nargs="*", help="a crate")
-    gate = subprocess.Popen(["rt", "ci", *(words.parse_args().names or all_anew())])
+    cli.Words(__doc__).parse_args()
+    gate = subprocess.Popen([".ci/run"])
     begun = time.time()
     found: Found = {}
     while gate.poll() is None:
