@@ -23,11 +23,12 @@ document = member (codes "deadline") (integer (pos 20))
     (member (codes "node") (array (item (table (member (codes "name") (string (codes "N")) no_members)) no_items))
     (member (codes "process") (array (item (table (row (codes "Y"))) (item (table (row (codes "X"))) no_items))) no_members)))
 
-is_document : parse_document (codes "faults = 0\ndeadline = 20\nnode = [{ name = \"N\" }]\nprocess = [{ name = \"Y\", node = \"N\", wcet = 9 }, { name = \"X\", node = \"N\", wcet = 9 }]\n") ≡ Some document
+is_document : parse_document (codes "faults = 0\ndeadline = 20\nnode = [{ name = \"N\" }]\nprocess = [{name=\"Y\",node=\"N\",wcet=9}, {name=\"X\",node=\"N\",wcet=9}]\n") ≡ Some document
 unfolding toml_on_literals
 is_document = refl
 
 -- with the names of an order at the key it is that of the longer file
-one_line_more : parse_document (codes "order = [\"X\", \"Y\"]\nfaults = 0\ndeadline = 20\nnode = [{ name = \"N\" }]\nprocess = [{ name = \"Y\", node = \"N\", wcet = 9 }, { name = \"X\", node = \"N\", wcet = 9 }]\n") ≡ Some (with_key graph (1 ∷ 0 ∷ []) document)
+one_line_more : parse_document (codes "order = [\"X\", \"Y\"]\nfaults = 0\ndeadline = 20\nnode = [{ name = \"N\" }]\nprocess = [{name=\"Y\",node=\"N\",wcet=9}, {name=\"X\",node=\"N\",wcet=9}]\n") ≡
+    Some (with_key graph (1 ∷ 0 ∷ []) document)
 unfolding toml_on_literals
 one_line_more = refl
