@@ -8,4 +8,5 @@ pub mod Opened
 pub mod Names
 pub mod Documents
 pub mod Read
+pub mod Without
 mod Examples

@@ -1,0 +1,5 @@
+use Rattle.cpg_given_laws.proofs.Without.{nothing_changes_without_the_key}
+use Rattle.cpg_given_laws.proofs.nothing_changes_without_the_key.Goals as goal
+
+pub returns : goal.returns
+returns c = nothing_changes_without_the_key

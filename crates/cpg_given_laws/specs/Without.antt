@@ -1,0 +1,64 @@
+-- What a compile answers for a graph that gives no order, in words that know nothing of given orders: as it was before there was the key.
+use Rattle.std.specs.Prelude.{ℕ, ◌≡◌, ◌⊎◌, ◌↔◌, List, Option, None, Some, get_or}
+use Rattle.cpg_base.specs.Graph.{Graph}
+use Rattle.cpg_base.specs.Scenario.{Scenario}
+use Rattle.cpg_run.specs.Run.{Times, IsRun}
+use Rattle.cpg_run.specs.Frozen.{AreFrozenTimes}
+use Rattle.cpg_run.specs.Finish.{IsExcess}
+use Rattle.cpg_reach.specs.Wide.{IsWide, IsNarrow, IsLeastWide}
+use Rattle.cpg_tracks.specs.Tracks.{HasTrackOrder, HasManyTracks}
+use Rattle.cpg_core.specs.declared.fault.CompileFault.TheVariants.{TooWide}
+use Rattle.cpg_core.specs.Compilation.{ShowsCompileFault}
+use Rattle.cpg_core.specs.Compiled.{IsMeasured, IsBetter, IsLateUnder, IsInTimeUnder, IsCompileOrder, IsCompiled, IsLate, IsShownLate}
+
+-- the track order, if no item is too wide under it and it is better than the urgency order
+pub record IsTrackOrderPreferred (g : Graph) (urgency order : List ℕ) : Type 0 where
+  pub track : HasTrackOrder g order
+  pub narrow : IsNarrow g order
+  pub excess : ℕ
+  pub worst : ℕ
+  pub measured : IsMeasured g urgency order excess worst
+  pub urgency_excess : ℕ
+  pub urgency_worst : ℕ
+  pub urgency_measured : IsMeasured g urgency urgency urgency_excess urgency_worst
+  pub better : IsBetter excess worst urgency_excess urgency_worst
+
+-- the track order exactly if it is preferred, and otherwise the urgency order
+abbrev pub IsBetterOfTwo : Graph → List ℕ → List ℕ → Type 0
+IsBetterOfTwo g urgency order = IsTrackOrderPreferred g urgency order ⊎
+    ((order ≡ urgency) × ((other : List ℕ) → IsTrackOrderPreferred g urgency other → ⊥))
+
+-- the tables are written: for the better of the two, under which every process ends by its due
+pub record IsCompiledByTwo (g : Graph) (urgency order : List ℕ) : Type 0 where
+  pub narrow : IsNarrow g urgency
+  pub taken : IsBetterOfTwo g urgency order
+  pub in_time : IsInTimeUnder g urgency order
+
+-- no tables are written: under the urgency order some process is late, and no track order exists, or an item is too wide under it, or
+-- its excess is above 0
+pub record IsLateByTwo (g : Graph) (urgency : List ℕ) : Type 0 where
+  pub narrow : IsNarrow g urgency
+  pub late : IsLateUnder g urgency urgency
+  pub helpless : HasManyTracks g ⊎ ((order : List ℕ) × HasTrackOrder g order × (((x : ℕ) × IsWide g order x) ⊎ IsLateUnder g urgency order))
+
+-- what a late compile shows, all under the urgency order: the excess's scenario, its process, and the end of that process there
+pub record IsShownLateByUrgency (g : Graph) (urgency : List ℕ) (s : Scenario) (p time : ℕ) : Type 0 where
+  pub frozen : List (Option ℕ)
+  pub frozen_times : AreFrozenTimes g urgency frozen
+  pub excess : ℕ
+  pub is_excess : IsExcess g urgency urgency frozen excess s (Some p)
+  pub times : Times
+  pub run : IsRun g urgency frozen s times
+  pub ends : get_or times.ends p None ≡ Some time
+
+-- a compile's answers are these, and no others
+pub record IsAsWithoutTheKey (g : Graph) (urgency : List ℕ) : Type 0 where
+  pub taken : (order : List ℕ) → IsCompileOrder g urgency order ↔ IsBetterOfTwo g urgency order
+  pub compiled : (order : List ℕ) → IsCompiled g urgency order ↔ IsCompiledByTwo g urgency order
+  pub late : IsLate g urgency ↔ IsLateByTwo g urgency
+  pub shown : (s : Scenario) (p time : ℕ) → IsShownLate g urgency s p time ↔ IsShownLateByUrgency g urgency s p time
+  pub wide : (x : ℕ) → ShowsCompileFault g urgency (TooWide x) ↔ IsLeastWide g urgency x
+
+-- So it is with each graph that gives no order.
+abbrev pub NothingChangesWithoutTheKey : Type 0
+NothingChangesWithoutTheKey = (g : Graph) (urgency : List ℕ) → g.order ≡ None → IsAsWithoutTheKey g urgency
