@@ -2,12 +2,13 @@
 
 use cpg_base::{OutOfMemory, Scenario};
 
-/// Why a graph isn't compiled. The first of these that is there is told.
+/// Why a graph isn't compiled. Of a graph that gives no order the first of these that holds is shown; of one that gives an order, a tree
+/// that is too large comes before a late process, and rows that are too long come after it.
 #[derive(Drop)]
 pub enum CompileFault {
-    /// An item is too wide under the urgency order: the least such item.
+    /// An item is too wide under the first order: the least such item.
     TooWide(u32),
-    /// Some process ends past its due, under the urgency order.
+    /// Some process ends past its due, under the first order.
     Late {
         /// The least scenario with the greatest excess.
         scenario: Scenario,
@@ -16,7 +17,7 @@ pub enum CompileFault {
         /// The end of that process there, in time units.
         finish: u64,
     },
-    /// Want of memory.
+    /// Out of memory.
     OutOfMemory,
 }
 
