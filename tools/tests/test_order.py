@@ -38,6 +38,8 @@ class Order(Case):
         with self.subTest("apart, no item rests on the ones before it"):
             self.assertEqual(self.answer(in_turn(11, apart=10_000, listed=False)), (6, "cpgc: too wide start p9"))
             self.assertEqual(self.answer(in_turn(11, apart=10_000)), (0, "order " + " ".join(f"p{n}" for n in range(11))))
+        with self.subTest("so far apart that each tree has one leaf, though one that kept all faults would have 203,490"):
+            self.assertEqual(self.answer(in_turn(14, deadline=10**8, apart=10**6))[0], 0)
         with self.subTest("a row as made is too long; the line names the item that is the least too wide by its views"):
             self.assertEqual(self.answer(in_turn(11)), (6, "cpgc: too wide start p9"))
         with self.subTest("what is late comes before rows"):
