@@ -1,4 +1,4 @@
--- Why the work of a command stops, by what its files say.
+-- Why a command's work stops, given what its files say.
 use Rattle.std.specs.Prelude.{ℕ, ◌≡◌, ◌⊎◌, List, Option, None, Err, position}
 use Rattle.std.specs.Str.{bytes_eq}
 use Rattle.cpg_words.specs.Parts.{Text}
@@ -24,30 +24,30 @@ use Rattle.cpg_inputs.specs.Says.{Value}
 use Rattle.cpg_inputs.specs.Shapes.{OnGraph, OnJudged, OnLogged, OnParts, OnPlayed, OnTables}
 use Rattle.cpg_app.specs.Halts.{halt_of_compile}
 
--- it is late or too wide
+-- a graph isn't compiled: it is late or too wide
 pub record IsUncompiled (a : Admission) (halt : Halt) : Type 0 where
   pub fault : CompileFault
   pub halt_is : halt ≡ halt_of_compile a fault
   pub shows : ShowsCompileFault a.graph a.order fault
 
--- the tables are another graph's: the first part of the head that differs
+-- the tables are another graph's; `part` is the first part of the head that differs
 pub record IsOtherGraph (a : Admission) (t : Tables) (halt : Halt) : Type 0 where
   pub part : HeadPart
   pub halt_is : halt ≡ Refused (OtherGraph part)
   pub first : IsFirstDifference a.graph t.head part
 
--- they break a rule: the first violation
+-- the tables break a rule; `fault` is the first violation
 pub record IsUnsafe (a : Admission) (t : Tables) (halt : Halt) : Type 0 where
   pub fault : Fault
   pub halt_is : halt ≡ Unsafe a fault
   pub head : IsHeadFor a.graph t.head
   pub first : IsFirstFault a.graph a.order t.nodes fault
 
--- to check tables for a graph
+-- why a check of tables for a graph stops
 abbrev pub StopsVerdict : Admission → Tables → Halt → Type 0
 StopsVerdict a t halt = IsOtherGraph a t halt ⊎ IsUnsafe a t halt
 
--- the number of the first node of a name
+-- the number of the first node of that name
 abbrev pub first_named : Head → Text → Option ℕ
 first_named h name = position (λ node. bytes_eq node name) h.nodes
 
@@ -56,13 +56,13 @@ pub record StopsNaming (t : Tables) (name : Text) (halt : Halt) : Type 0 where
   pub halt_is : halt ≡ Refused UnknownNode
   pub none : first_named t.head name ≡ None
 
--- parts have no graph together
+-- the parts have no common graph
 pub record IsNotUnrolled (parts : List Part) (halt : Halt) : Type 0 where
   pub fault : HyperFault
   pub halt_is : halt ≡ halt_of_parts fault
   pub shows : ShowsUnrolled parts (Err fault)
 
--- the work of a command on what its files say stops, but for want of memory
+-- why a command's work on what its files say stops, apart from running out of memory
 abbrev pub StopsWork : Command → List Value → Halt → Type 0
 StopsWork (Show graph) values halt = OnGraph values (λ a. IsUncompiled a halt)
 StopsWork (Compile graph) values halt = OnGraph values (λ a. IsUncompiled a halt)
@@ -75,6 +75,6 @@ StopsWork (Hyper pairs) values halt = OnParts pairs values (λ parts. IsNotUnrol
 StopsWork (Tune graph) values halt = ⊥
 StopsWork (Audit graph pack log) values halt = OnLogged values (λ a t l. StopsVerdict a t halt)
 
--- or memory is wanting
+-- a reason to stop, or out of memory
 abbrev pub OrMemory : (Halt → Type 0) → Halt → Type 0
 OrMemory Stops halt = Stops halt ⊎ (halt ≡ Memory)

@@ -1,4 +1,5 @@
--- The ways in which a run ends: its output or its line is taken whole, or the sink meets a fault; a stream has its own.
+-- How a run ends: either its output or its line is taken whole, or a sink meets a fault. A run that follows a stream has
+-- endings of its own.
 use Rattle.std.specs.Prelude.{ℕ, ◌≡◌, ◌⊎◌, List, ◌∷◌, Some, None, All}
 use Rattle.cpg_tale.specs.Fetch.{Fetch}
 use Rattle.cpg_io.specs.State.{ShelfState}
@@ -41,38 +42,38 @@ pub record Ran : Type 0 where
   pub err : SinkSeen
   pub status : ℕ
 
--- ---- what it read
+-- ---- what a run read
 
--- the files of its words were read, one after the other, and say these values
+-- the files that the run's words name were read, one after the other, and say these values
 pub record Has (r : Ran) (command : Command) (values : List Value) : Type 0 where
   pub words : command_of r.words ≡ Some command
   pub reads : Reads None (files_of command) r.shelf.old.history r.shelf.new.history values
 
--- so of inputs, from one state of a shelf to a later one
+-- the same for inputs, from one state of a shelf to a later one
 pub record HasAt (asked : List Text) (old new : ShelfState) (inputs : Inputs) : Type 0 where
   pub command : Command
   pub words : command_of asked ≡ Some command
   pub has : HasInputs command old.history new.history inputs
 
--- inputs are those of some command, of which each file may be fetched
+-- the inputs are those of some command, and each of its files may be fetched
 pub record MayRun (may : Text → Type 0) (inputs : Inputs) : Type 0 where
   pub command : Command
   pub values : List Value
   pub are : AreInputs command values inputs
   pub files : All may (file_words command)
 
--- nothing was fetched: the words have no form, or memory was wanting
+-- nothing was fetched, because the words form no command or memory ran out
 pub record StopsInWords (r : Ran) (halt : Halt) : Type 0 where
   pub unread : r.shelf.new.history ≡ r.shelf.old.history
   pub cause : ((halt ≡ Words) × (command_of r.words ≡ None)) ⊎ (halt ≡ Memory)
 
--- a file stops it, the first that does: every earlier one was read, and none was fetched after it
+-- a file stops the run: every earlier file was read, and none was fetched after it
 pub record StopsInFiles (r : Ran) (halt : Halt) : Type 0 where
   pub command : Command
   pub words : command_of r.words ≡ Some command
   pub stops : StopsReading None (files_of command) r.shelf.old.history r.shelf.new.history halt
 
--- the work on what all of them say stops it
+-- all files were read, and the work on what they say stops the run
 pub record StopsInWork (r : Ran) (halt : Halt) : Type 0 where
   pub command : Command
   pub values : List Value
@@ -83,14 +84,14 @@ pub record StopsInWork (r : Ran) (halt : Halt) : Type 0 where
 abbrev pub Stops : Ran → Halt → Type 0
 Stops r halt = StopsInWords r halt ⊎ (StopsInFiles r halt ⊎ StopsInWork r halt)
 
--- it puts out a text
+-- the run puts out a text
 pub record Prints (r : Ran) (text : Text) : Type 0 where
   pub command : Command
   pub values : List Value
   pub has : Has r command values
   pub puts : PutsOut command values text
 
--- ---- how it ends
+-- ---- how a run ends
 
 -- the output was taken whole
 pub record IsPrinted (r : Ran) (text : Text) : Type 0 where
@@ -98,13 +99,13 @@ pub record IsPrinted (r : Ran) (text : Text) : Type 0 where
   pub out : Whole r.out text
   pub err : Untouched r.err
 
--- `out` met a fault; the line of that was tried once
+-- `out` met a fault, and the line that reports it was tried once
 pub record IsCut (r : Ran) (text : Text) : Type 0 where
   pub status : r.status ≡ 3
   pub out : Part r.out text
   pub err : Whole r.err write_fault_line ⊎ Part r.err write_fault_line
 
--- the line of a run that stops was taken whole
+-- the line that says why the run stops was taken whole
 pub record IsTold (r : Ran) (halt : Halt) : Type 0 where
   pub status : r.status ≡ status_of halt
   pub out : Untouched r.out
@@ -116,18 +117,18 @@ pub record IsMuted (r : Ran) (halt : Halt) : Type 0 where
   pub out : Untouched r.out
   pub err : Part r.err (line_of halt)
 
--- a run with an output
+-- a run that has an output
 pub record EndsWith (r : Ran) (text : Text) : Type 0 where
   pub prints : Prints r text
   pub ending : IsPrinted r text ⊎ IsCut r text
 
--- a run that stops without one
+-- a run that stops without an output
 pub record EndsBy (r : Ran) (halt : Halt) : Type 0 where
   pub stops : Stops r halt
   pub ending : IsTold r halt ⊎ IsMuted r halt
 
--- a run that follows a stream, with the first node of a name in the tables of a pack: the pack was read, then the stream was
--- fetched, and nothing else
+-- A run in which a node follows a stream: the first node of the given name in the tables of a pack. The pack was read, then the
+-- stream was fetched, and nothing else was.
 pub record Follows (r : Ran) : Type 0 where
   pub pack : Text
   pub name : Text
@@ -142,7 +143,7 @@ pub record Follows (r : Ran) : Type 0 where
   pub of : fetch.name ≡ stream
   pub history : r.shelf.new.history ≡ fetch ∷ read ∷ r.shelf.old.history
 
--- the table of its node
+-- the table of the run's node
 abbrev pub table_of : {r : Ran} → Follows r → NodeTable
 table_of f = table_at f.tables.nodes f.node
 
@@ -157,13 +158,13 @@ pub record EndsAtClose (r : Ran) : Type 0 where
   pub status : r.status ≡ 0
   pub err : Untouched r.err
 
--- a run that doesn't
+-- a run that doesn't follow its stream to the close
 pub record EndsInStream (r : Ran) : Type 0 where
   pub follows : Follows r
   pub broken : Broken
   pub breaks : Breaks follows.tables.head (table_of follows) (stream_of r follows) broken
   pub said : IsSaid r.err r.status broken
 
--- a run has an output or a reason to stop, or follows a stream, and ends by it
+-- how any run ends: it has an output, or a reason to stop, or follows a stream
 abbrev pub Ends : Ran → Type 0
 Ends r = ((text : Text) × EndsWith r text) ⊎ (((halt : Halt) × EndsBy r halt) ⊎ (EndsAtClose r ⊎ EndsInStream r))

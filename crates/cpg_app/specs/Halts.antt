@@ -1,4 +1,4 @@
--- What a compile stops a run with.
+-- The halt of a run whose compile fails.
 use Rattle.cpg_rules.specs.Admission.{Admission}
 use Rattle.cpg_core.specs.declared.fault.CompileFault.{CompileFault}
 use Rattle.cpg_refusal.specs.declared.halt.Halt.{Halt}

@@ -21,7 +21,7 @@ use Rattle.cpg_app.specs.Lawful.{Asks, AsksVerdict, IsLawful}
 use Rattle.cpg_app.specs.Outputs.{IsMadeOf, shown, packed as packed_of}
 use Rattle.cpg_outputs.specs.Told.{Whole}
 
--- a run wrote these bytes, whole, as a command asked of a graph file that says this graph
+-- a command ran on a graph file that says this graph, and wrote these bytes, whole
 pub record HasMade (asked : Text → Command) (r : Ran) (g : Graph) (made : Text) : Type 0 where
   pub lawful : IsLawful r
   pub graph : Text
@@ -31,55 +31,56 @@ pub record HasMade (asked : Text → Command) (r : Ran) (g : Graph) (made : Text
   pub done : r.status ≡ 0
   pub wrote : Whole r.out made
 
--- the text of its tables
+-- `show` wrote the text of the graph's tables
 abbrev pub HasShown : Ran → Graph → Text → Type 0
 HasShown r g text = HasMade Show r g text
 
--- or their pack
+-- `compile` wrote the pack of the graph's tables
 abbrev pub HasPacked : Ran → Graph → Text → Type 0
 HasPacked r g pack = HasMade Compile r g pack
 
--- a run ends well, or memory is wanting
+-- a run succeeds, or is out of memory
 abbrev pub EndsWell : Ran → Type 0
 EndsWell r = (r.status ≡ 0) ⊎ (r.status ≡ 8)
 
--- a fetch gave these bytes, and they are the whole of its file
+-- a fetch gave these bytes, which are the whole file
 pub record GaveAll (fetch : Fetch) (bytes : Text) : Type 0 where
   pub given : fetch.given ≡ bytes
   pub ended : fetch.ended ≡ true
   pub sound : fetch.failed ≡ false
 
--- a pack of a graph is taken by the commands that read packs, where no sink meets a fault
+-- commands that read packs accept this pack of a graph, if no sink meets a fault
 pub record IsTaken (g : Graph) (pack : Text) : Type 0 where
-  -- a fetch that gave all of it is read as its tables, and stops no run but for want of memory
+  -- A fetch that gave the whole pack is read as its tables. It stops no run unless memory runs out.
   pub read : (o : Option Graph) (fetch : Fetch) → GaveAll fetch pack → (t : Tables) ×
       IsRead o (file PackFile fetch.name) fetch (tables_value t) × (pack ≡ spelling t)
   pub unstopped : (o : Option Graph) (fetch : Fetch) (halt : Halt) → GaveAll fetch pack → StopsAt o (file PackFile fetch.name) fetch halt → halt ≡ Memory
-  -- with a file that says the graph it is found safe, played as each scenario file of the graph says, and each log of the graph
-  -- audited by it
+  -- With a file that says the graph, the pack is found safe, played for each scenario file of the graph, and used to audit each
+  -- log of the graph.
   pub judged : (r : Ran) (a : Admission) (t : Tables) → IsLawful r → a.graph ≡ g → pack ≡ spelling t → AsksVerdict r a t → EndsWell r
-  -- and the table of each of its nodes is printed
+  -- the table of each of its nodes is printed
   pub printed : (r : Ran) (name : Text) (t : Tables) (node : ℕ) → IsLawful r → pack ≡ spelling t → node < length g.nodes →
       Asks r (Node name (get_or g.nodes node [])) (tables_value t ∷ []) → EndsWell r
 
--- What `compile` wrote for a graph, `check` with that graph finds safe, `play` plays for each scenario file of the graph, `audit`
--- audits each log of the graph by, and `node` prints for each of its nodes, want of memory aside.
+-- If memory suffices, the other commands accept the pack that `compile` wrote for a graph. With that graph, `check` finds it
+-- safe, `play` plays it for each scenario file of the graph, and `audit` audits each log of the graph by it. `node` prints the
+-- table of each of its nodes.
 abbrev pub PacksAreTaken : Type 0
 PacksAreTaken = (r : Ran) (g : Graph) (pack : Text) → HasPacked r g pack → IsTaken g pack
 
--- bytes that end where they should go on are refused there by each command that reads packs
+-- each command that reads packs rejects these bytes, at the place where they end
 pub record IsCutShort (bytes : Text) : Type 0 where
-  -- a fetch that gave all of them is read as no value
+  -- a fetch that gave all of the bytes isn't read as any value
   pub unread : (o : Option Graph) (fetch : Fetch) (value : Value) → GaveAll fetch bytes → IsRead o (file PackFile fetch.name) fetch value → ⊥
-  -- and stops a run by the refusal of a pack at the place where they end, or as out of memory
+  -- If it stops a run, the bytes are rejected as no pack from the place where they end, or memory runs out.
   pub stops : (o : Option Graph) (fetch : Fetch) (halt : Halt) → GaveAll fetch bytes → StopsAt o (file PackFile fetch.name) fetch halt →
       (halt ≡ Refused (BadPack (length bytes))) ⊎ (halt ≡ Memory)
 
--- What `compile` wrote, cut short anywhere, is refused by each command that reads packs, at the place where it ends.
+-- If what `compile` wrote is cut short anywhere, each command that reads packs rejects it, at the place where it ends.
 abbrev pub FrontsAreRefused : Type 0
 FrontsAreRefused = (r : Ran) (g : Graph) (pack : Text) (n : ℕ) → HasPacked r g pack → n < length pack → IsCutShort (take n pack)
 
--- A text and a pack are of two compilations of one admitted graph, which ask the same in every scenario.
+-- A text and a pack come from two compilations of one admitted graph. These ask the same in every scenario.
 pub record AreOfOneGraph (g : Graph) (text pack : Text) : Type 0 where
   pub admission : Admission
   pub of : admission.graph ≡ g
@@ -88,6 +89,6 @@ pub record AreOfOneGraph (g : Graph) (text pack : Text) : Type 0 where
   pub packs : IsMadeOf admission packed_of pack
   pub same : AskTheSame admission.graph shows.compiled packs.compiled
 
--- what `show` printed for a graph, and what `compile` wrote for it
+-- what `show` printed and what `compile` wrote for a graph belong together
 abbrev pub ShowAndCompileAgree : Type 0
 ShowAndCompileAgree = (r q : Ran) (g : Graph) (text pack : Text) → HasShown r g text → HasPacked q g pack → AreOfOneGraph g text pack

@@ -1,4 +1,4 @@
--- The compile of a graph says one thing.
+-- A graph's compile has one answer.
 use Rattle.std.proofs.Common.{ℕ, ◌≡◌, ◌∙◌, List, sym, ap, subst, inl, inr}
 use Rattle.cpg_base.specs.Graph.{Graph}
 use Rattle.cpg_base.specs.WellFormed.{WellFormed}

@@ -1,4 +1,4 @@
--- What a command puts out, by what its files say.
+-- What a command puts out, given what its files say.
 use Rattle.std.specs.Prelude.{ℕ, ◌≡◌, ◌<◌, ◌≤◌, ◌++◌, List, Option, Some, None, IfNone, IfSome, Ok, codes, length, string_bytes}
 use Rattle.cpg_base.specs.Graph.{Graph}
 use Rattle.cpg_base.specs.Scenario.{Scenario, IsScenario, IsLeast}
@@ -39,9 +39,9 @@ use Rattle.cpg_app.specs.Trial.{IsTrial}
 use Rattle.cpg_outputs.specs.Trials.{trial_text}
 use Rattle.cpg_app.specs.Tunes.{IsTuningText}
 
--- Tables that keep the ten rules, and what follows for the nodes that have them: in every scenario, with all lengths of
--- executions and in every order of turns, each node starts and sends just what is due, in order and in time, can always go
--- on, and takes no notice of how early an execution ends.
+-- Tables that keep the ten rules, and what follows for the nodes that have them. It holds in every scenario, for all lengths of
+-- executions and for every order of turns. Each node starts and sends just what is due, in order and in time. It can always go
+-- on, and what it does doesn't depend on how early an execution ends.
 pub record AreSafe (g : Graph) (tables : List NodeTable) : Type 0 where
   pub valid : IsValid g tables
   pub correct : IsCorrect g tables
@@ -49,14 +49,14 @@ pub record AreSafe (g : Graph) (tables : List NodeTable) : Type 0 where
   pub steady : IsSteady g tables
   pub planned : EndsAsPlanned g tables
 
--- Tables that are a pack of the graph. Each row is one that its head allows: cubes of lawful literals with rising
--- variables, none of them whole, and times below 2^60. Their spelling is so short that it is read again.
+-- Tables that are a pack of the graph. Their head allows each row: its cubes have lawful literals with rising variables, none
+-- of them whole, and its times are below 2^60. The spelling of the tables is short enough to be read again.
 pub record ArePackOf (g : Graph) (t : Tables) : Type 0 where
   pub head : t.head ≡ head_of g
   pub lawful : AreLawful t
   pub short : length (spelling t) ≤ limit_of PackFile
 
--- the bytes are spelled from the safe tables that a compile makes of an admitted graph; no node knows more than it has seen
+-- The bytes spell the safe tables that a compile makes of an admitted graph. No node knows more than it has seen.
 pub record IsMadeOf (a : Admission) (spell : Graph → Compiled → Text) (bytes : Text) : Type 0 where
   pub compiled : Compiled
   pub compilation : IsCompilation a.graph a.order compiled
@@ -68,11 +68,11 @@ pub record IsMadeOf (a : Admission) (spell : Graph → Compiled → Text) (bytes
 abbrev pub shown : Graph → Compiled → Text
 shown g c = table_text g c.order c.built.tables.nodes c.built.worst
 
--- their pack
+-- the pack of tables
 abbrev pub packed : Graph → Compiled → Text
 packed g c = spelling c.built.tables
 
--- the text is that of the table of the first node of a name
+-- the text is that of the table of the first node of that name
 pub record IsNodeText (t : Tables) (name text : Text) : Type 0 where
   pub node : ℕ
   pub named : first_named t.head name ≡ Some node
@@ -83,33 +83,33 @@ pub record AreJudgedSafe (a : Admission) (t : Tables) : Type 0 where
   pub head : IsHeadFor a.graph t.head
   pub safe : AreSafe a.graph t.nodes
 
--- and the text says so
+-- the tables have the graph's head and are safe, and the text says so
 abbrev pub IsSafeText : Admission → Tables → Text → Type 0
 IsSafeText a t text = AreJudgedSafe a t × (text ≡ codes "safe\n")
 
--- so is what was played, and the text is that of the play
+-- the tables that were played have the graph's head and are safe, and the text is that of the play
 pub record IsPlayedText (a : Admission) (t : Tables) (played : Played) (turns : ℕ) (text : Text) : Type 0 where
   pub judged : AreJudgedSafe a t
   pub play : IsPlayText a.graph t.nodes (world_of played) turns text
 
--- the text of the scenario that gives a log, if one does
+-- the text of the scenario that gives a log or, if there is none, the text that says so
 abbrev pub given_text : Graph → Option Scenario → Text
 given_text g None = codes "impossible\n"
 given_text g (Some s) = codes "scenario " ++ scenario_text g s ++ codes "\n"
 
--- it is that of the least scenario that gives a log, and says so where none gives it
+-- the text of the least scenario that gives a log, or, if none gives it, the text that says so
 pub record IsAuditText (g : Graph) (order : List ℕ) (tables : List NodeTable) (log : Log) (text : Text) : Type 0 where
   pub found : Option Scenario
   pub least : IfSome found (IsLeast g order (Gives g tables log))
   pub none : IfNone found ((s : Scenario) → IsScenario g s → ¬ Gives g tables log s)
   pub spelled : text ≡ given_text g found
 
--- so of safe tables
+-- the tables have the graph's head and are safe, and the text is that of the audit by them
 pub record IsAuditedText (a : Admission) (t : Tables) (log : Log) (text : Text) : Type 0 where
   pub judged : AreJudgedSafe a t
   pub audited : IsAuditText a.graph a.order t.nodes log text
 
--- the text is read as the graph of all instances of parts
+-- the text is read as the graph of all instances of the parts
 abbrev pub IsUnrolledText : List Part → Text → Type 0
 IsUnrolledText parts text = (g : Graph) × ShowsUnrolled parts (Ok g) × (problem_of text ≡ Ok g)
 
@@ -120,13 +120,13 @@ pub record IsTrialText (number : ℕ) (text : Text) : Type 0 where
   pub safe : AreSafe is.admission.graph is.compiled.built.tables.nodes
   pub spelled : text ≡ trial_text number trial
 
--- a follower is of the first node of a name, before its stream
+-- the follower is the first node of that name, before its stream
 pub record IsFollower (t : Tables) (name : Text) (f : Follower) : Type 0 where
   pub node : ℕ
   pub named : first_named t.head name ≡ Some node
   pub opened : f ≡ open_follower t.head (table_at t.nodes node)
 
--- what a command puts out, by what its files say; `live` writes as it goes
+-- what a command puts out, given what its files say; `live` writes as it goes, and so has no such text
 abbrev pub PutsOut : Command → List Value → Text → Type 0
 PutsOut (Show graph) values text = OnGraph values (λ a. IsMadeOf a shown text)
 PutsOut (Compile graph) values text = OnGraph values (λ a. IsMadeOf a packed text)
@@ -139,7 +139,7 @@ PutsOut (Hyper pairs) values text = OnParts pairs values (λ parts. IsUnrolledTe
 PutsOut (Tune graph) values text = OnGraph values (λ a. IsTuningText a.graph text)
 PutsOut (Audit graph pack log) values text = OnLogged values (λ a t l. IsAuditedText a t l text)
 
--- a text or a pack is put out; a node whose table is, is one of its tables
+-- the text or the pack that is put out is as stated; if it is a node's table, the tables have that node
 abbrev pub Puts : Output → (Text → Type 0) → Type 0
 Puts (Lines text) Is = Is (string_bytes text)
 Puts (Shown made) Is = Is (shown made.admitted.graph made.compiled)
@@ -147,12 +147,12 @@ Puts (OfNode tables node) Is = (node < length tables.head.nodes) × Is (node_tex
 Puts (Pack tables) Is = Is (spelling tables)
 Puts (Stream follower path) Is = ⊥
 
--- the first node of a name is to follow a stream
+-- the first node of that name is to follow a stream
 abbrev pub Opens : Tables → Text → Text → Output → Type 0
 Opens t name stream (Stream follower path) = IsFollower t name follower × (path ≡ stream)
 Opens t name stream output = ⊥
 
--- the answer of the work of a command on what its files say
+-- this is the answer of a command's work on what its files say
 abbrev pub Answers : Command → List Value → Output → Type 0
 Answers (Live pack name stream) values output = OnTables values (λ t. Opens t name stream output)
 Answers command values output = Puts output (PutsOut command values)

@@ -1,4 +1,4 @@
--- The text of a play: what all nodes did in one scenario, with lengths of executions, until each was done.
+-- The text of a play: what all nodes did in one scenario, with given lengths of executions, until each was done.
 use Rattle.std.specs.Prelude.{ℕ, ◌≡◌, ◌++◌, List, codes}
 use Rattle.std.specs.Fmt.{decimal}
 use Rattle.cpg_base.specs.Graph.{Graph}
@@ -14,11 +14,11 @@ use Rattle.cpg_show.specs.TraceText.{IsTraceText}
 abbrev pub world_of : Played → World
 world_of p = record { scenario = p.scenario; lengths = p.lengths }
 
--- how often a node that was asked waited
+-- how often a node that was asked had to wait
 abbrev pub waits_line : ℕ → Text
 waits_line waits = codes "waits " ++ decimal waits ++ codes "\n"
 
--- the trace of the nodes after a play that a number drives until each is done, and how many asks waited
+-- the nodes' trace after a play that a number drives until each is done, and how often a node that was asked had to wait
 pub record IsPlayText (g : Graph) (tables : List NodeTable) (w : World) (number : ℕ) (text : Text) : Type 0 where
   pub cluster : Cluster
   pub waits : ℕ

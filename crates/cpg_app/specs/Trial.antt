@@ -20,32 +20,33 @@ use Rattle.cpg_outputs.specs.declared.figures.Trial.{Trial}
 abbrev pub IsGenerated : Graph → Type 0
 IsGenerated g = (number : ℕ) × (g ≡ generated number)
 
--- each execution as long as planned
+-- each execution lasts as long as planned
 abbrev pub planned_world : Graph → Scenario → World
 planned_world g s = record { scenario = s; lengths = full_lengths g s }
 
--- the play of a scenario that a number drives until each node is done: its greatest end, and how many asks waited
+-- a scenario's play, which a number drives until each node is done: its greatest end, and how often a node that was asked had
+-- to wait
 pub record IsEnding (g : Graph) (tables : List NodeTable) (s : Scenario) (number : ℕ) (e : Ending) : Type 0 where
   pub cluster : Cluster
   pub driven : IsDriven g (planned_world g s) number (open_cluster g tables) cluster e.waits
   pub whole : IsWholePlay g tables (planned_world g s) cluster
   pub finish : e.finish ≡ finish_of g cluster.ends
 
--- every value true, and two faults of the first process
+-- every value is true, and the first process has two faults
 abbrev pub true_scenario : Graph → Scenario
 true_scenario g = record { values = replicate (condition_count g) true; faults = slice_set (replicate (process_count g) 0) 0 2 }
 
--- the plays of no faults and no true value, of the least scenario of the greatest finish, and of all values true
+-- three plays: with no fault and no true value, in the least scenario that has the greatest finish, and with every value true
 pub record AreEndings (g : Graph) (c : Compiled) (number : ℕ) (e : Endings) : Type 0 where
   pub fault_free : IsEnding g c.built.tables.nodes (zero_scenario g) number e.fault_free
   pub worst_case : IsEnding g c.built.tables.nodes c.built.worst_in number e.worst_case
   pub all_true : IsEnding g c.built.tables.nodes (true_scenario g) number e.all_true
 
--- how many columns all tables have, those of what is heard among them
+-- how many columns all tables have, with those for what is heard
 abbrev pub columns_in : List NodeTable → ℕ
 columns_in tables = sum_by (λ t. column_count (rows_of t)) tables
 
--- how large a graph and its tables are, and their three plays, the second of which has the greatest finish
+-- the sizes of a graph and of its tables, and their three plays; the second play has the greatest finish
 pub record AreFiguresOf (g : Graph) (c : Compiled) (number : ℕ) (t : Trial) : Type 0 where
   pub processes : t.processes ≡ process_count g
   pub edges : t.edges ≡ edge_count g
@@ -55,7 +56,7 @@ pub record AreFiguresOf (g : Graph) (c : Compiled) (number : ℕ) (t : Trial) : 
   pub plays : AreEndings g c number t.endings
   pub reached : t.endings.worst_case.finish ≡ t.worst
 
--- the figures are those of the graph of the number and of what a compile answers for it
+-- the figures are those of the number's graph and of its compile
 pub record IsTrial (number : ℕ) (t : Trial) : Type 0 where
   pub admission : Admission
   pub graph : admission.graph ≡ generated number

@@ -14,7 +14,7 @@ use cpg_scenario::scenario_text;
 use cpg_table::Tables;
 use std::alloc::Global;
 
-/// The text of a scenario that gives a log.
+/// The line of a scenario that gives a log.
 fn scenario_line(
     alloc: Global,
     problem: &Problem,
@@ -37,7 +37,7 @@ fn impossible(alloc: Global, problem: &Problem) -> Result<String, OutOfMemory>
     Ok(text)
 }
 
-/// The text of the least scenario that gives a log, or that none does.
+/// The text of an audit: the least scenario that gives the log, or that there is none.
 pub fn audit_text(
     alloc: Global,
     admitted: &Admitted,

@@ -1,4 +1,4 @@
-//! What a compile stops a run with.
+//! The halt of a run whose compile fails.
 ghost use Rattle.std.specs.Prelude.{◌≡◌};
 ghost use Rattle.cpg_app.specs.Halts.{halt_of_compile};
 
@@ -6,7 +6,7 @@ use cpg_core::CompileFault;
 use cpg_refusal::Halt;
 use cpg_rules::Admitted;
 
-/// What a graph that isn't compiled stops a run with.
+/// The halt of a run whose graph isn't compiled.
 pub fn halt_of_compile(graph: Admitted, fault: CompileFault) -> Halt
     ensures { result ≡ halt_of_compile graph fault }
 {

@@ -19,19 +19,20 @@ mod work;
 pub use top::{run, run_without_words};
 pub use trial_figures::run_trial;
 
-/// What `compile` wrote for a graph, `check` with that graph finds safe, `play` plays for each scenario file of the graph,
-/// `audit` audits each log of the graph by, and `node` prints for each of its nodes, want of memory aside.
+/// If memory suffices, the other commands accept the pack that `compile` wrote for a graph. With that graph, `check` finds it
+/// safe, `play` plays it for each scenario file of the graph, and `audit` audits each log of the graph by it. `node` prints the
+/// table of each of its nodes.
 pub fn packs_are_taken()
     ensures { PacksAreTaken }
 {}
 
-/// What `compile` wrote, cut short anywhere, is refused by each command that reads packs, at the place where it ends.
+/// If what `compile` wrote is cut short anywhere, each command that reads packs rejects it, at the place where it ends.
 pub fn fronts_are_refused()
     ensures { FrontsAreRefused }
 {}
 
-/// What `show` printed for a graph file and what `compile` wrote for it are of one graph, with one order and one greatest finish,
-/// and of tables that ask the same in every scenario.
+/// What `show` printed and what `compile` wrote for a graph file belong to one graph, with one order and one greatest finish.
+/// Their tables ask the same in every scenario.
 pub fn show_and_compile_agree()
     ensures { ShowAndCompileAgree }
 {}

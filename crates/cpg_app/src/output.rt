@@ -16,7 +16,7 @@ use cpg_words::Word;
 use std::alloc::Global;
 use std::mem::forget;
 
-/// An admitted graph, and what its compile answers.
+/// An admitted graph, and the answer of its compile.
 #[derive(Drop)]
 pub struct Made {
     /// The graph.
@@ -50,8 +50,8 @@ pub enum Output {
     },
 }
 
-// The run ends by what it writes, and the system takes its memory back at once. So the tables are forgotten: a drop would go
-// through all their columns.
+// The run ends when it has written its output, and the system then takes back its memory at once. The tables are therefore
+// forgotten: dropping them would visit every column.
 
 /// Writes the tables of a graph as a text.
 pub fn put_tables<O: Sink>(alloc: Global, made: Made, out: &mut O) -> Result<(), WriteFault>

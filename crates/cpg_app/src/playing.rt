@@ -14,8 +14,8 @@ use cpg_show::trace_text;
 use cpg_table::Tables;
 use std::alloc::Global;
 
-/// The text of a play of valid tables that a number drives: the trace of all nodes once each is done, and how many of
-/// the asks waited.
+/// The text of a play of valid tables, driven by a number: the trace of all nodes until each is done, and how often a node that
+/// was asked had to wait.
 pub fn play_text(
     alloc: Global,
     admitted: &Admitted,

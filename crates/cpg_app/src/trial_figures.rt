@@ -20,7 +20,7 @@ use cpg_rules::{Admitted, Refused, RuleFault, admit};
 use cpg_table::Tables;
 use std::alloc::Global;
 
-/// The want of memory that an admission tells.
+/// The only fault of this admission: out of memory.
 fn unadmitted(fault: RuleFault) -> OutOfMemory
     requires { fault ≡ RuleFault.OutOfMemory }
 {
@@ -30,7 +30,7 @@ fn unadmitted(fault: RuleFault) -> OutOfMemory
     }
 }
 
-/// The want of memory that a compile tells.
+/// The only fault of this compile: out of memory.
 fn uncompiled(fault: CompileFault) -> OutOfMemory
     requires { fault ≡ CompileFault.OutOfMemory }
 {
@@ -55,12 +55,12 @@ fn admitted_of(alloc: Global, number: u64) -> Result<Admitted, OutOfMemory>
     }
 }
 
-/// The tables of a graph that a number generates.
+/// The tables of a generated graph.
 fn compiled_of(alloc: Global, admitted: &Admitted) -> Result<Compiled, OutOfMemory>
     requires { IsGenerated admitted.now.graph }
     ensures { IfOk result (IsCompilation admitted.now.graph admitted.now.order) }
 {
-    // its clause tells that the graph is admitted
+    // its contract says that the graph is admitted
     let _graph = admitted.problem();
     match compile(alloc, admitted) {
         Ok(compiled) => Ok(compiled),
@@ -72,7 +72,7 @@ fn compiled_of(alloc: Global, admitted: &Admitted) -> Result<Compiled, OutOfMemo
 fn are_valid(alloc: Global, admitted: &Admitted, tables: &Tables) -> Result<bool, OutOfMemory>
     ensures { IfOk result (λ found. IsTrue found ↔ (IsHeadFor admitted.now.graph tables.now.head × IsValid admitted.now.graph tables.now.nodes)) }
 {
-    // its clause tells that the tables are lawful under their head
+    // its contract says that the tables are lawful under their head
     let _head = tables.head();
     match check(alloc, admitted, tables)? {
         Verdict::Yes => Ok(true),
@@ -108,8 +108,8 @@ fn figures_of(
     })
 }
 
-/// Generates the graph of a number, admits and compiles it, and plays its tables in three scenarios as the number drives
-/// them. No such graph is refused, too wide or late, so it errs by want of memory alone.
+/// Generates the graph of a number, admits and compiles it, and plays its tables in three scenarios, driven by the number. No
+/// such graph is rejected, too wide or late, so the only error is to be out of memory.
 pub fn run_trial(alloc: Global, number: u64) -> Result<Trial, OutOfMemory>
     ensures { IfOk result (IsTrial number) }
 {

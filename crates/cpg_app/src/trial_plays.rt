@@ -16,7 +16,7 @@ use cpg_show::finish;
 use cpg_table::Tables;
 use std::alloc::Global;
 
-/// Plays valid tables in a scenario to the end as a number drives it, each execution as long as planned.
+/// Plays valid tables in a scenario to the end, driven by a number. Each execution lasts as long as planned.
 fn ending_of(
     alloc: Global,
     admitted: &Admitted,
@@ -29,7 +29,7 @@ fn ending_of(
     requires scenario { IsScenario admitted.now.graph scenario.now }
     ensures { IfOk result (IsEnding admitted.now.graph tables.now.nodes scenario.now number) }
 {
-    // its clause tells that the tables are lawful under their head
+    // its contract says that the tables are lawful under their head
     let _head = tables.head();
     let mut cluster = Cluster::new(alloc, admitted, tables.copy()?, scenario)?;
     let waits = cluster.drive(number);
@@ -39,7 +39,7 @@ fn ending_of(
     })
 }
 
-/// Makes every value true.
+/// Sets every value to true.
 fn set_values(scenario: &mut Scenario, count: u32)
     requires { scenario.old.values ≡ replicate count false }
     ensures values { scenario.new.values ≡ replicate count true }
@@ -50,7 +50,7 @@ fn set_values(scenario: &mut Scenario, count: u32)
     }
 }
 
-/// Every value true, and two faults of the first process.
+/// The scenario in which every value is true and the first process has two faults.
 fn true_scenario(alloc: Global, problem: &Problem) -> Result<Scenario, OutOfMemory>
     requires { 0 < process_count problem.now }
     ensures { IfOk result (λ s. s ≡ true_scenario problem.now) }
@@ -61,7 +61,7 @@ fn true_scenario(alloc: Global, problem: &Problem) -> Result<Scenario, OutOfMemo
     Ok(scenario)
 }
 
-/// The play without faults and with every value false.
+/// The play without faults in which every value is false.
 fn fault_free(
     alloc: Global,
     admitted: &Admitted,
@@ -76,7 +76,7 @@ fn fault_free(
     ending_of(alloc, admitted, tables, &scenario, number)
 }
 
-/// The play with every value true and two faults of the first process.
+/// The play in which every value is true and the first process has two faults.
 fn all_true(
     alloc: Global,
     admitted: &Admitted,

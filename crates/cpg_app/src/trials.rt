@@ -9,7 +9,7 @@ use cpg_outputs::trial_text;
 use cpg_refusal::Halt;
 use std::alloc::Global;
 
-/// Writes the figures of a trial of a number. It stops for want of memory alone.
+/// Writes the figures of the trial of a number. Nothing stops it but being out of memory.
 pub fn trial(alloc: Global, number: u64) -> Result<Output, Halt>
     ensures text { IfOk result (λ o. Puts o (IsTrialText number)) }
     ensures halt { IfErr result (λ halt. halt ≡ Memory) }

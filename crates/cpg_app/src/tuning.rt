@@ -35,7 +35,8 @@ fn admit_again(alloc: Global, problem: &Problem) -> Result<Admitted, OutOfMemory
     }
 }
 
-/// The least item that is too wide by its views under the order that a graph gives. A graph that gives none isn't asked: its compile says so.
+/// The least item that is too wide by its views under the order that a graph gives. A graph that gives no order isn't examined
+/// here: its compile reports such an item.
 fn wide_as_given(alloc: Global, admitted: &Admitted) -> Result<Option<u32>, OutOfMemory>
     ensures some { IfOk result (λ found. IfSome found (IsLeastWide admitted.now.graph (first_order admitted.now.graph admitted.now.order))) }
     ensures none { IfOk result (λ found. IfNone found
@@ -48,7 +49,7 @@ fn wide_as_given(alloc: Global, admitted: &Admitted) -> Result<Option<u32>, OutO
     Ok(found)
 }
 
-/// What is said of an admitted graph.
+/// The answer for an admitted graph.
 fn compile_answer(alloc: Global, admitted: &Admitted) -> Result<Judged, OutOfMemory>
     ensures { IfOk result (IsCompileAnswer admitted.now.graph admitted.now.order) }
 {
@@ -63,7 +64,7 @@ fn compile_answer(alloc: Global, admitted: &Admitted) -> Result<Judged, OutOfMem
     }
 }
 
-/// Judges graphs by their compile.
+/// Judges a graph by its compile.
 #[derive(Drop)]
 struct Compiler {
     alloc: Global,
@@ -86,7 +87,7 @@ impl Judge for Compiler {
     ghost one_answer = { λ _ g a b _ x y. one_judged g a b x y };
 }
 
-/// The tuning of an admitted graph by its compiles.
+/// The tuning of an admitted graph by compiles.
 fn tuned(alloc: Global, admitted: &Admitted) -> Result<Tuned, OutOfMemory>
     ensures tuning { IfOk result (IsTuning IsJudged admitted.now.graph) }
     ensures named { IfOk result (λ t. All (IsNamedRow admitted.now.graph) t.rows) }

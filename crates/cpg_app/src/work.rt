@@ -42,7 +42,7 @@ fn compile_graph(alloc: Global, admitted: Admitted) -> Result<Made, Halt>
     ensures safe { IfOk result (λ made. AreSafe admitted.graph made.compiled.built.tables.nodes) }
     ensures halt { IfErr result (IsUncompiled admitted) }
 {
-    // its clause tells that the graph is admitted
+    // its contract says that the graph is admitted
     let _graph = admitted.problem();
     match compile(alloc, &admitted) {
         Ok(compiled) => {
@@ -74,15 +74,15 @@ fn pack_of(alloc: Global, admitted: Admitted) -> Result<Output, Halt>
     Ok(Output::Pack(tables))
 }
 
-/// Whether tables are valid for an admitted graph, which comes back where they are.
+/// Checks that tables are valid for an admitted graph, and hands the graph back if they are.
 fn judged(alloc: Global, admitted: Admitted, tables: &Tables) -> Result<Admitted, Halt>
     ensures same { IfOk result (λ a. a ≡ admitted) }
     ensures safe { IfOk result (λ _. AreJudgedSafe admitted tables.now) }
     ensures halt { IfErr result (OrMemory (StopsVerdict admitted tables.now)) }
 {
-    // its clause tells that the graph is admitted
+    // its contract says that the graph is admitted
     let _graph = admitted.problem();
-    // and its clause that the tables are lawful under their head
+    // its contract says that the tables are lawful under their head
     let _head = tables.head();
     match check(alloc, &admitted, tables) {
         Ok(Verdict::Yes) => Ok(admitted),
@@ -95,13 +95,13 @@ fn judged(alloc: Global, admitted: Admitted, tables: &Tables) -> Result<Admitted
     }
 }
 
-/// The output of a check of tables for an admitted graph.
+/// The output when tables are checked for an admitted graph.
 fn verdict_of(alloc: Global, admitted: Admitted, tables: Tables) -> Result<Output, Halt>
     ensures text { IfOk result (λ o. Puts o (IsSafeText admitted tables)) }
     ensures halt { IfErr result (OrMemory (StopsVerdict admitted tables)) }
 {
     let judged = judged(alloc, admitted, &tables);
-    // the run ends by the answer, and a drop would go through all columns
+    // the run ends with the answer, and a drop would visit all columns
     forget(tables);
     let _admitted = judged?;
     match String::from_str(alloc, "safe\n") {
@@ -110,7 +110,7 @@ fn verdict_of(alloc: Global, admitted: Admitted, tables: Tables) -> Result<Outpu
     }
 }
 
-/// Plays tables, once they are found valid.
+/// Plays tables after finding them valid.
 fn play(
     alloc: Global,
     admitted: Admitted,
@@ -122,7 +122,7 @@ fn play(
     ensures text { IfOk result (λ o. Puts o (IsPlayedText admitted tables played.now turns)) }
     ensures halt { IfErr result (OrMemory (StopsVerdict admitted tables)) }
 {
-    // its clause tells that the tables are lawful under their head
+    // its contract says that the tables are lawful under their head
     let _head = tables.head();
     let admitted = judged(alloc, admitted, &tables)?;
     match play_text(alloc, &admitted, tables, played, turns) {
@@ -131,7 +131,7 @@ fn play(
     }
 }
 
-/// Audits a log by tables, once they are found valid.
+/// Audits a log by tables after finding them valid.
 fn audited(alloc: Global, admitted: Admitted, tables: &Tables, log: &Log) -> Result<Output, Halt>
     requires { IsLog admitted.graph log.now }
     ensures text { IfOk result (λ o. Puts o (IsAuditedText admitted tables.now log.now)) }
@@ -151,7 +151,7 @@ fn is_named(node: &Name, name: &str) -> bool
     node.as_str() == name
 }
 
-/// The number of the first node of a name.
+/// The number of the first node of that name.
 fn first_named(head: &Head, name: &str) -> Option<usize>
     ensures first { result ≡ first_named head.now name.now }
     ensures within { IfSome result (λ node. node < length head.now.nodes) }
@@ -160,7 +160,7 @@ fn first_named(head: &Head, name: &str) -> Option<usize>
     head.nodes().iter().position(|node| is_named(node, name))
 }
 
-/// The text of the table of the first node of a name.
+/// The text of the table of the first node of that name.
 fn node_named(tables: Tables, name: &str) -> Result<Output, Halt>
     ensures text { IfOk result (λ o. Puts o (IsNodeText tables name.now)) }
     ensures halt { IfErr result (OrMemory (StopsNaming tables name.now)) }
@@ -172,7 +172,7 @@ fn node_named(tables: Tables, name: &str) -> Result<Output, Halt>
     Ok(Output::NodeTable { tables, node })
 }
 
-/// The first node of a name, before its stream.
+/// The first node of that name, before its stream.
 fn opened(alloc: Global, tables: Tables, name: &str, stream: Word) -> Result<Output, Halt>
     ensures opens { IfOk result (Opens tables name.now stream) }
     ensures halt { IfErr result (OrMemory (StopsNaming tables name.now)) }
