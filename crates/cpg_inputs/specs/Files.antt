@@ -1,4 +1,4 @@
--- The files that a command reads before it does its work: what each is read as, and its name, in the order of the words.
+-- The files that a command reads before its work, in the order of the words: the name of each, and the kind that it is read as.
 use Rattle.std.specs.Prelude.{ℕ, List, [], ◌∷◌}
 use Rattle.cpg_words.specs.Parts.{Text}
 use Rattle.cpg_words.specs.declared.command.Pair.{Pair}
@@ -17,12 +17,12 @@ pub record File : Type 0 where
 abbrev pub file : Kind → Text → File
 file kind name = record { kind = kind; name = name }
 
--- the graphs of parts
+-- the graph files of parts
 abbrev pub part_files : List Pair → List File
 part_files [] = []
 part_files (pair ∷ pairs) = file PartFile pair.graph ∷ part_files pairs
 
--- the stream of `live` isn't among them: it is followed, after them
+-- A command's files. The stream of `live` isn't one of them: the node follows it after they are read.
 abbrev pub files_of : Command → List File
 files_of (Show graph) = file GraphFile graph ∷ []
 files_of (Compile graph) = file GraphFile graph ∷ []
@@ -35,7 +35,7 @@ files_of (Hyper pairs) = part_files pairs
 files_of (Tune graph) = file GraphFile graph ∷ []
 files_of (Audit graph pack log) = file GraphFile graph ∷ file PackFile pack ∷ file LogFile log ∷ []
 
--- the most bytes that a file may have
+-- the most bytes that a file of this kind may have
 abbrev pub limit_of : Kind → ℕ
 limit_of GraphFile = GRAPH_LIMIT
 limit_of PartFile = GRAPH_LIMIT
@@ -43,7 +43,7 @@ limit_of PackFile = PACK_LIMIT
 limit_of ScenarioFile = SCENARIO_LIMIT
 limit_of LogFile = LOG_LIMIT
 
--- and how it is refused where it gives more
+-- the refusal of a file that gives more
 abbrev pub long_of : Kind → Refusal
 long_of GraphFile = LongGraph
 long_of PartFile = LongGraph

@@ -1,4 +1,4 @@
--- What a log stops a run with.
+-- The halt of a run whose log can't be read.
 use Rattle.cpg_log.specs.declared.fault.LogFault.{LogFault}
 use Rattle.cpg_refusal.specs.declared.halt.Refusal.TheVariants.{BadLog}
 use Rattle.cpg_refusal.specs.declared.halt.Halt.{Halt}

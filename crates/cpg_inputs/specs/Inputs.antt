@@ -36,12 +36,12 @@ pub record HasInputs (command : Command) (past now : List Fetch) (inputs : Input
   pub reads : Reads None (files_of command) past now values
   pub are : AreInputs command values inputs
 
--- the answer of the reading of a command's files
+-- the answer when a command's files are read
 abbrev pub ReadsInputs : Command → ShelfState → ShelfState → Result Inputs Halt → Type 0
 ReadsInputs command old new (Ok inputs) = HasInputs command old.history new.history inputs
 ReadsInputs command old new (Err halt) = StopsReading None (files_of command) old.history new.history halt
 
--- what happens in a play, and what a log says, is of the graph
+-- the scenario that is played, or the log that is audited, fits the graph
 abbrev pub AreFit : Inputs → Type 0
 AreFit (Inputs.Play a t p turns) = IsPlayed a.graph p
 AreFit (Inputs.Audit a t l) = IsLog a.graph l

@@ -8,37 +8,37 @@ use Rattle.cpg_refusal.specs.declared.halt.Halt.TheVariants.{Read, Refused, Memo
 use Rattle.cpg_inputs.specs.Files.{File, limit_of, long_of}
 use Rattle.cpg_inputs.specs.Says.{Value, graph_after, Says, Refuses}
 
--- a fetch is of the file
+-- the fetch is of this file
 pub record IsFetchOf (file : File) (fetch : Fetch) : Type 0 where
   pub named : fetch.name ≡ file.name
 
--- it gave the whole of it, within its limit
+-- the fetch gave the whole file, within its limit
 pub record IsWhole (file : File) (fetch : Fetch) : Type 0 where
   pub named : fetch.name ≡ file.name
   pub ended : fetch.ended ≡ true
   pub sound : fetch.failed ≡ false
   pub short : length fetch.given ≤ limit_of file.kind
 
--- and its bytes say a value
+-- the fetch gave the whole file, and its bytes say the value
 pub record IsRead (g : Option Graph) (file : File) (fetch : Fetch) (value : Value) : Type 0 where
   pub whole : IsWhole file fetch
   pub says : Says g file.kind fetch.given value
 
--- the shelf met a fault as the file was fetched or read, before it gave more than the limit
+-- the shelf failed while the file was fetched or read, before it gave more than the limit
 pub record IsUnread (file : File) (fetch : Fetch) (halt : Halt) : Type 0 where
   pub of : IsFetchOf file fetch
   pub few : length fetch.given ≤ limit_of file.kind
   pub failed : fetch.failed ≡ true
   pub halt_is : halt ≡ Read
 
--- it gave a byte more than the limit, and was asked for no more
+-- the file gave one byte more than the limit, and no more was read
 pub record IsLong (file : File) (fetch : Fetch) (halt : Halt) : Type 0 where
   pub of : IsFetchOf file fetch
   pub sound : fetch.failed ≡ false
   pub over : length fetch.given ≡ limit_of file.kind + 1
   pub halt_is : halt ≡ Refused (long_of file.kind)
 
--- it was read whole, and is refused for its bytes
+-- the file was read whole, and its bytes are rejected
 pub record IsRefused (g : Option Graph) (file : File) (fetch : Fetch) (halt : Halt) : Type 0 where
   pub whole : IsWhole file fetch
   pub refuses : Refuses g file.kind fetch.given halt
@@ -60,7 +60,7 @@ Reads g [] past now (value ∷ values) = ⊥
 Reads g (file ∷ files) past now [] = ⊥
 Reads g (file ∷ files) past now (value ∷ values) = (fetch : Fetch) × IsRead g file fetch value × Reads (graph_after g value) files (fetch ∷ past) now values
 
--- the first file that isn't read stops a run: every earlier one was, and none was fetched after it
+-- a file stops the run: every earlier file was read, and none was fetched after it
 abbrev pub StopsReading : Option Graph → List File → List Fetch → List Fetch → Halt → Type 0
 StopsReading g [] past now halt = ⊥
 StopsReading g (file ∷ files) past now halt = (fetch : Fetch)

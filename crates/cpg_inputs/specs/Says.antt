@@ -1,4 +1,4 @@
--- What the bytes of a file say, by its kind, and why they are refused.
+-- What the bytes of a file of each kind say, and why they are rejected.
 use Rattle.std.specs.Prelude.{ℕ, ◌≡◌, ◌⊎◌, Option, Some, None, Ok, Err}
 use Rattle.cpg_base.specs.Graph.{Graph}
 use Rattle.cpg_words.specs.Parts.{Text}
@@ -31,7 +31,7 @@ pub data Value : Type 0 where
   played_value : Played → Value
   log_value : Log → Value
 
--- the graph that the files after it are of
+-- the graph that the next files belong to
 abbrev pub graph_after : Option Graph → Value → Option Graph
 graph_after g (graph_value a) = Some a.graph
 graph_after g (part_value h) = g
@@ -44,22 +44,22 @@ pub record AreAdmitted (bytes : Text) (a : Admission) : Type 0 where
   pub says : problem_of bytes ≡ Ok a.graph
   pub admitted : IsAdmitted a.graph a.order a.guards
 
--- they spell tables
+-- the bytes spell tables
 pub record AreSpelled (bytes : Text) (t : Tables) : Type 0 where
   pub spelled : bytes ≡ spelling t
   pub lawful : AreLawful t
 
--- they say a scenario of the graph, and lengths of executions
+-- the bytes say a scenario of the graph, and lengths of executions
 pub record ArePlayed (bytes : Text) (g : Graph) (p : Played) : Type 0 where
   pub says : file_of g bytes ≡ Ok p
   pub lawful : IsPlayed g p
 
--- they are a log of the graph
+-- the bytes are a log of the graph
 pub record AreLogged (bytes : Text) (g : Graph) (log : Log) : Type 0 where
   pub says : IsLogOf g bytes log
   pub lawful : IsLog g log
 
--- a file of this kind, behind a graph if one was read, says a value by its bytes
+-- the bytes of a file of this kind say a value; `g` is the graph that was read before, if any
 abbrev pub Says : Option Graph → Kind → Text → Value → Type 0
 Says g GraphFile bytes value = (a : Admission) × (value ≡ graph_value a) × AreAdmitted bytes a
 Says g PartFile bytes value = (h : Graph) × (value ≡ part_value h) × (problem_of bytes ≡ Ok h)
@@ -69,43 +69,43 @@ Says (Some g) LogFile bytes value = (l : Log) × (value ≡ log_value l) × AreL
 Says None ScenarioFile bytes value = ⊥
 Says None LogFile bytes value = ⊥
 
--- the bytes are those of no graph, and this is the first refusal of them
+-- the bytes say no graph, and this is the first fault
 pub record AreFaulty (bytes : Text) (halt : Halt) : Type 0 where
   pub fault : ReadFault
   pub first : problem_of bytes ≡ Err fault
   pub halt_is : halt ≡ halt_of_reading fault
 
--- the graph breaks a rule, the first that it breaks
+-- the graph breaks a rule, and this is the first that it breaks
 pub record BreaksRule (g : Graph) (halt : Halt) : Type 0 where
   pub fault : RuleFault
   pub shows : ShowsFault g fault
   pub halt_is : halt ≡ halt_of_rules g fault
 
--- they say a graph that isn't admitted
+-- the bytes say a graph that isn't admitted
 pub record AreOfNone (bytes : Text) (halt : Halt) : Type 0 where
   pub graph : Graph
   pub says : problem_of bytes ≡ Ok graph
   pub breaks : BreaksRule graph halt
 
--- they are no pack, from this place on
+-- the bytes are no pack from this place on
 pub record AreNoPack (bytes : Text) (halt : Halt) : Type 0 where
   pub length : ℕ
   pub bad : IsBadPack bytes length
   pub halt_is : halt ≡ Refused (BadPack length)
 
--- they say no scenario of the graph, and this is the first cause
+-- the bytes say no scenario of the graph, and this is the first cause
 pub record AreNoScenario (bytes : Text) (g : Graph) (halt : Halt) : Type 0 where
   pub fault : ScenarioFault
   pub first : file_of g bytes ≡ Err fault
   pub halt_is : halt ≡ halt_of_scenario fault
 
--- they are no log of the graph, and this is the first line that makes them none
+-- the bytes are no log of the graph, and this is the first line to blame
 pub record AreNoLog (bytes : Text) (g : Graph) (halt : Halt) : Type 0 where
   pub line : ℕ
   pub bad : IsBadLine g (lines bytes) line
   pub halt_is : halt ≡ Refused (BadLog line)
 
--- a file of this kind is refused for its bytes
+-- a file of this kind is rejected because of its bytes
 abbrev pub Refuses : Option Graph → Kind → Text → Halt → Type 0
 Refuses g GraphFile bytes halt = AreFaulty bytes halt ⊎ AreOfNone bytes halt
 Refuses g PartFile bytes halt = AreFaulty bytes halt

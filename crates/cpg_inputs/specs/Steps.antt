@@ -9,14 +9,14 @@ use Rattle.cpg_inputs.specs.Files.{File}
 use Rattle.cpg_inputs.specs.Says.{Value, AreFaulty, AreOfNone}
 use Rattle.cpg_inputs.specs.Reading.{IsRead, IsUnread, IsLong, IsWanting, IsWhole, StopsAt}
 
--- a file was fetched and read whole, with these bytes
+-- the file was fetched and read whole, and gave these bytes
 pub record Gives (file : File) (past now : List Fetch) (bytes : Text) : Type 0 where
   pub fetch : Fetch
   pub whole : IsWhole file fetch
   pub given : fetch.given ≡ bytes
   pub history : now ≡ fetch ∷ past
 
--- it wasn't
+-- the file wasn't read whole
 pub record GivesNone (file : File) (past now : List Fetch) (halt : Halt) : Type 0 where
   pub fetch : Fetch
   pub stops : IsUnread file fetch halt ⊎ (IsLong file fetch halt ⊎ IsWanting file fetch halt)
@@ -26,13 +26,13 @@ pub record GivesNone (file : File) (past now : List Fetch) (halt : Halt) : Type 
 abbrev pub RefusesGraph : Text → Halt → Type 0
 RefusesGraph bytes halt = (AreFaulty bytes halt ⊎ AreOfNone bytes halt) ⊎ (halt ≡ Memory)
 
--- it says a value
+-- the next file was fetched, and says a value
 pub record ReadsNext (g : Option Graph) (file : File) (past now : List Fetch) (value : Value) : Type 0 where
   pub fetch : Fetch
   pub read : IsRead g file fetch value
   pub history : now ≡ fetch ∷ past
 
--- it stops a run
+-- the next file was fetched, and stops the run
 pub record StopsNext (g : Option Graph) (file : File) (past now : List Fetch) (halt : Halt) : Type 0 where
   pub fetch : Fetch
   pub stops : StopsAt g file fetch halt

@@ -1,4 +1,4 @@
-//! One file: its bytes, and what they say by its kind.
+//! One file: its bytes, and what they say as a file of its kind.
 ghost use Rattle.std.specs.Prelude.{◌≡◌, IfErr, IfOk, None, Option, Some};
 ghost use Rattle.cpg_base.specs.Graph.{Graph};
 ghost use Rattle.cpg_io.specs.Shelf.{KeepsShelf, SameLeave};
@@ -41,7 +41,7 @@ fn read_file<S: Shelf>(
     }
 }
 
-/// Reads the graph of a part. It isn't admitted.
+/// Reads a part's graph, which isn't admitted.
 pub fn read_part<S: Shelf>(alloc: Global, shelf: &mut S, name: &str) -> Result<Problem, Halt>
     requires { S.may_fetch shelf.old name.now }
     ensures keeps { KeepsShelf (S.state shelf.old) (S.state shelf.new) }
@@ -56,7 +56,7 @@ pub fn read_part<S: Shelf>(alloc: Global, shelf: &mut S, name: &str) -> Result<P
     }
 }
 
-/// The graph that bytes say, admitted.
+/// The admitted graph that the bytes say.
 fn admitted_graph(alloc: Global, bytes: &[u8]) -> Result<Admitted, Halt>
     ensures graph { IfOk result (AreAdmitted bytes.now) }
     ensures halt { IfErr result (RefusesGraph bytes.now) }

@@ -1,11 +1,11 @@
-//! What a log stops a run with.
+//! The halt of a run whose log is rejected.
 ghost use Rattle.std.specs.Prelude.{◌≡◌};
 ghost use Rattle.cpg_inputs.specs.Halts.{halt_of_log};
 
 use cpg_log::LogFault;
 use cpg_refusal::{Halt, Refusal};
 
-/// What a log that can't be read stops a run with.
+/// The halt of a run whose log can't be read.
 pub fn halt_of_log(fault: LogFault) -> Halt
     ensures { result ≡ halt_of_log fault }
 {

@@ -1,4 +1,4 @@
-//! A command with what its files say.
+//! A command together with what its files say.
 
 use crate::parts::Parts;
 use cpg_log::Log;
@@ -29,9 +29,9 @@ pub enum Inputs {
         graph: Admitted,
         /// Tables, of this graph or another.
         tables: Tables,
-        /// What happens, in the graph.
+        /// What happens in the play.
         played: Played,
-        /// The number that the order of the nodes' turns comes from.
+        /// The number that fixes the order of the nodes' turns.
         turns: u64,
     },
     /// The audit of a log by tables of a graph.
@@ -50,7 +50,7 @@ pub enum Inputs {
         /// A node's name.
         name: Word,
     },
-    /// What a node does on a stream.
+    /// What a node does as it follows a stream.
     Live {
         /// The tables of all nodes.
         tables: Tables,

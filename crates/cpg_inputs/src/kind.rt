@@ -45,7 +45,7 @@ impl Kind {
         }
     }
 
-    /// How one of more bytes is refused.
+    /// The refusal of a file that is longer.
     pub fn long(self) -> Refusal
         ensures { result ≡ long_of self }
     {

@@ -1,7 +1,8 @@
-//! What the files of a command say: each is fetched, read whole, parsed and, where it is a graph to be compiled or judged by,
-//! admitted, one after the other in the order of the words. A file that is refused ends that before the next is fetched.
+//! What the files of a command say. Each file is fetched, read whole and parsed, one after the other in the order of the words.
+//! A graph is also admitted if it is to be compiled, or if tables are judged by it. A rejected file ends the reading before the
+//! next is fetched.
 //!
-//! What is done with [`Inputs`] needs no shelf, but for the stream that a node follows.
+//! The work on [`Inputs`] needs no shelf, except for the stream that a node follows.
 #![tactic(auto)]
 
 mod files;
