@@ -1,4 +1,4 @@
--- What `err` and the status say at the end of a run.
+-- What `err` and the exit status report at the end of a run.
 use Rattle.std.specs.Prelude.{ℕ, ◌≡◌, ◌⊎◌, List, ◌∷◌, Result, Ok, Err}
 use Rattle.cpg_tale.specs.Fetch.{Fetch}
 use Rattle.cpg_words.specs.Parts.{Text}
@@ -12,7 +12,7 @@ use Rattle.cpg_live.specs.Following.{Breaks, Completes, Stream}
 use Rattle.cpg_live.specs.Streams.{fault_line}
 use Rattle.cpg_outputs.specs.Told.{SinkSeen, Sent, Whole, Untouched, Part}
 
--- what `err` and the status say of an output that was written, or wasn't
+-- what `err` and the status report of an output that was written, or wasn't
 abbrev pub IsEnded : Result Unit WriteFault → SinkSeen → ℕ → Type 0
 IsEnded (Ok done) err status = (status ≡ 0) × Untouched err
 IsEnded (Err WriteFault.Failed) err status = (status ≡ 3) × (Whole err write_fault_line ⊎ Part err write_fault_line)
@@ -22,17 +22,17 @@ IsEnded (Err WriteFault.OutOfMemory) err status = Sent err status (status_of Mem
 abbrev pub streamed : Fetch → SinkSeen → Stream
 streamed fetch out = record { fetch = fetch; before = out.before; now = out.now; old = out.old; new = out.new }
 
--- what `err` and the status say of a stream that isn't followed to its close
+-- what `err` and the status report of a stream that isn't followed to its close
 abbrev pub IsSaid : SinkSeen → ℕ → Broken → Type 0
 IsSaid err status Broken.Shelf = Sent err status 2 (line_of Read)
 IsSaid err status Broken.Sink = (status ≡ 3) × (Whole err write_fault_line ⊎ Part err write_fault_line)
 IsSaid err status (Broken.Refused fault) = Sent err status 4 (fault_line fault)
 
--- a stream is followed to its close, and nothing said, or it isn't, and what is wrong is said
+-- the stream is followed to its close and nothing is reported, or it isn't and the cause is reported
 abbrev pub IsToldTo : Head → NodeTable → Stream → SinkSeen → ℕ → Type 0
 IsToldTo h table s err status = (Completes h table s × (status ≡ 0) × Untouched err) ⊎ ((broken : Broken) × Breaks h table s broken × IsSaid err status broken)
 
--- how a stream that a node follows ends, which is fetched once
+-- how a run ends whose node follows a stream, which is fetched once
 pub record IsFollowedAt (h : Head) (table : NodeTable) (name : Text) (past now : List Fetch) (out err : SinkSeen) (status : ℕ) : Type 0 where
   pub fetch : Fetch
   pub named : fetch.name ≡ name

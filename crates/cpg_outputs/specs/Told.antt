@@ -12,7 +12,7 @@ pub record SinkSeen : Type 0 where
   pub old : List ℕ
   pub new : List ℕ
 
--- by its states before and after
+-- the same, from the sink's states before and after
 abbrev pub sent : SinkState → SinkState → SinkSeen
 sent old new = record { before = old.faults; now = new.faults; old = old.taken; new = new.taken }
 
@@ -29,12 +29,13 @@ pub record Part (sink : SinkSeen) (bytes : List ℕ) : Type 0 where
   pub rose : Rose sink.before sink.now
   pub prefix : TookPrefix sink.old sink.new bytes
 
--- Bytes were sent to a sink for a status: status 3 is that of a fault, and under each other one they were taken whole.
+-- Bytes were sent to a sink under a status. Status 3 means that the sink met a fault; under any other they were taken whole.
 pub record Sent (sink : SinkSeen) (status wanted : ℕ) (bytes : List ℕ) : Type 0 where
   pub whole : status ≢ 3 → (status ≡ wanted) × Whole sink bytes
   pub part : status ≡ 3 → Part sink bytes
 
--- An output was written: whole at Ok, and nothing of it for want of memory.
+-- The result of writing an output. At Ok it was taken whole. After a fault only a part was taken, and if memory ran out,
+-- nothing was.
 abbrev pub IsWritten : SinkSeen → Result Unit WriteFault → List ℕ → Type 0
 IsWritten sink (Ok done) bytes = Whole sink bytes
 IsWritten sink (Err WriteFault.Failed) bytes = Part sink bytes

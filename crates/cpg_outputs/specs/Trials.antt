@@ -6,11 +6,11 @@ use Rattle.cpg_outputs.specs.declared.figures.Ending.{Ending}
 use Rattle.cpg_outputs.specs.declared.figures.Endings.{Endings}
 use Rattle.cpg_outputs.specs.declared.figures.Trial.{Trial}
 
--- how large the graph is
+-- the size of the graph
 abbrev pub sizes_text : Trial → Text
 sizes_text t = codes "processes " ++ decimal t.processes ++ codes "\nedges " ++ decimal t.edges ++ codes "\nconditions " ++ decimal t.conditions ++ codes "\n"
 
--- how large its tables are, and their greatest finish
+-- the size of its tables, and their greatest finish
 abbrev pub tables_text : Trial → Text
 tables_text t = codes "columns " ++ decimal t.columns ++ codes "\nworst " ++ decimal t.worst ++ codes "\nsafe\n"
 

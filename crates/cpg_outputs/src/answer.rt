@@ -1,4 +1,4 @@
-//! The writing at the end of a run.
+//! What is written when a run ends.
 ghost use Rattle.std.specs.Prelude.{◌≡◌, ◌≢◌, ◌⊎◌, Err, OnOk, string_bytes};
 ghost use Rattle.cpg_refusal.specs.Lines.{line_of, status_of, write_fault_line, IsNamed};
 ghost use Rattle.cpg_outputs.specs.Said.{IsEnded};
@@ -12,7 +12,7 @@ use std::alloc::Global;
 /// The status of a fault of a sink.
 pub(crate) const WRITE_FAULT: u8 = 3;
 
-/// Writes bytes, and answers the status, or that of a fault.
+/// Writes bytes. Answers the given status, or that of a fault.
 pub(crate) fn send<O: Sink>(status: u8, bytes: &[u8], sink: &mut O) -> u8
     requires { status ≢ WRITE_FAULT }
     ensures { Sent (sent (O.state sink.old) (O.state sink.new)) result status bytes.now }
@@ -23,11 +23,11 @@ pub(crate) fn send<O: Sink>(status: u8, bytes: &[u8], sink: &mut O) -> u8
     }
 }
 
-/// Tries once to write the line of a fault of `out`.
+/// Tries once to write the line that reports a fault of `out`.
 fn tell_fault<E: Sink>(err: &mut E)
     ensures { Whole (sent (E.state err.old) (E.state err.new)) write_fault_line ⊎ Part (sent (E.state err.old) (E.state err.new)) write_fault_line }
 {
-    // whether it went is told by the sink alone: the status is that of the first fault
+    // only the sink shows whether the line was written: the status stays that of the first fault
     let _tried = write_all(err, b"cpgc: write fault\n");
 }
 
@@ -41,7 +41,7 @@ pub fn put<O: Sink>(text: &str, out: &mut O) -> Result<(), WriteFault>
     }
 }
 
-/// Ends a run whose output met a fault: tries once to write the line of that.
+/// Ends a run whose output met a fault. Tries once to write the line that reports it.
 pub(crate) fn cut<E: Sink>(err: &mut E) -> u8
     ensures status { result ≡ WRITE_FAULT }
     ensures told { Whole (sent (E.state err.old) (E.state err.new)) write_fault_line ⊎ Part (sent (E.state err.old) (E.state err.new)) write_fault_line }

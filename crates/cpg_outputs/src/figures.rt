@@ -1,27 +1,26 @@
 //! The figures of a trial.
 
-/// What a play comes to.
+/// The result of a play.
 #[derive(Clone, Copy)]
 pub struct Ending {
-    /// The greatest end of an execution, in time units; 0 where there is none.
+    /// The greatest end of an execution, in time units; 0 if there is none.
     pub finish: u64,
-    /// How many of the asks waited.
+    /// How often a node that was asked had to wait.
     pub waits: u64,
 }
 
-/// What the plays of a trial come to.
+/// The results of a trial's plays.
 #[derive(Clone, Copy)]
 pub struct Endings {
     /// The play without faults and with every value false.
     pub fault_free: Ending,
-    /// The play of the least scenario of the greatest finish.
+    /// The play of the least scenario that has the greatest finish.
     pub worst_case: Ending,
     /// The play with every value true and two faults of the first process.
     pub all_true: Ending,
 }
 
-/// The figures of a trial: how large the graph of its number and the tables of that are, and what three plays of them come
-/// to.
+/// The figures of a trial: the sizes of its number's graph and of the tables, and the results of three plays.
 #[derive(Clone, Copy)]
 pub struct Trial {
     /// How many processes there are.
@@ -30,10 +29,10 @@ pub struct Trial {
     pub edges: u32,
     /// How many conditions.
     pub conditions: u32,
-    /// How many columns all tables have, those of what is heard among them.
+    /// How many columns all tables have, with those for what is heard.
     pub columns: u64,
-    /// The greatest finish of all scenarios, in time units.
+    /// The greatest finish in any scenario, in time units.
     pub worst: u64,
-    /// What the plays come to.
+    /// The results of the plays.
     pub endings: Endings,
 }

@@ -1,5 +1,5 @@
-//! What a run writes: its output, the line of why it stops or of a fault, the lines of a node that follows a stream, and the texts
-//! of trials and tunings.
+//! What a run writes: its output, the line that says why it stops or reports a fault, the lines of a node that follows a
+//! stream, and the texts of trials and tunings.
 #![tactic(auto)]
 
 mod answer;

@@ -1,4 +1,4 @@
-//! The node that a command lets follow a stream.
+//! A command's node, which follows a stream.
 ghost use Rattle.std.specs.Prelude.{◌≡◌};
 ghost use Rattle.cpg_io.specs.Shelf.{KeepsShelf, SameLeave};
 ghost use Rattle.cpg_live.specs.Follower.{open_follower};
@@ -11,7 +11,7 @@ use crate::streaming;
 use cpg_io::{Failed, Shelf, Sink};
 use cpg_live::{Broken, Follower, StreamFault};
 
-/// Says that a stream is refused.
+/// Reports that a stream is rejected.
 fn refuse<E: Sink>(follower: &mut Follower, fault: StreamFault, err: &mut E) -> u8
     ensures { Sent (sent (E.state err.old) (E.state err.new)) result 4 (fault_line fault) }
 {
@@ -21,7 +21,7 @@ fn refuse<E: Sink>(follower: &mut Follower, fault: StreamFault, err: &mut E) -> 
     }
 }
 
-/// Says why a stream isn't followed to its close.
+/// Reports why a stream isn't followed to its close.
 fn say<E: Sink>(follower: &mut Follower, broken: Broken, err: &mut E) -> u8
     ensures { IsSaid (sent (E.state err.old) (E.state err.new)) result broken }
 {

@@ -1,4 +1,4 @@
-//! A stream that is followed, piece by piece.
+//! A stream that a node follows, piece by piece.
 ghost use Rattle.std.specs.Prelude.{◌≡◌, ◌≤◌, Err, IfErr, IfOk};
 ghost use Rattle.cpg_io.specs.Agreement.{AreFetched, LeavesRest};
 ghost use Rattle.cpg_io.specs.Causes.{Rose};
@@ -65,8 +65,8 @@ fn follow_rest<S: Shelf, O: Sink>(
     }
 }
 
-/// Follows the stream of a name to its close, and writes the lines of what the node does after each piece, at last that
-/// of the close.
+/// Follows the named stream to its close. After each piece it writes the lines of what the node does, and at last the line of
+/// the close.
 pub fn follow<S: Shelf, O: Sink>(
     follower: &mut Follower,
     shelf: &mut S,

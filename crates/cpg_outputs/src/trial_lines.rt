@@ -41,7 +41,7 @@ fn write_endings(out: &mut String, endings: &Endings) -> Result<(), AllocError>
     write_ending(out, endings.all_true)
 }
 
-/// The lines of a trial of a number.
+/// The text of a number's trial.
 pub fn trial_text(alloc: Global, number: u64, trial: &Trial) -> Result<String, AllocError>
     ensures { IfOk result (λ text. string_bytes text ≡ trial_text number trial.now) }
 {

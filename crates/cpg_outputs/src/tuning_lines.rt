@@ -16,7 +16,7 @@ fn write_part(out: &mut String, process: &Process, parts: u32) -> Result<(), All
     write!(out, "{name} parts {parts}\n")
 }
 
-/// The best parts of each process.
+/// Writes the best parts of each process.
 fn write_parts(out: &mut String, problem: &Problem, parts: &[u32]) -> Result<(), AllocError>
     ensures { OnOk result (string_bytes out.new ≡ string_bytes out.old ++ parts_lines problem.now.processes parts.now) }
 {
@@ -59,7 +59,7 @@ fn write_row(
     out.push_str("\n")
 }
 
-/// What was said of the graph, by fault number.
+/// Writes the answer for each fault number.
 fn write_rows(out: &mut String, problem: &Problem, rows: &[Judged]) -> Result<(), AllocError>
     requires { All (IsNamedRow problem.now) rows.now }
     ensures { OnOk result (string_bytes out.new ≡ string_bytes out.old ++ row_lines problem.now 0 rows.now) }
@@ -70,7 +70,7 @@ fn write_rows(out: &mut String, problem: &Problem, rows: &[Judged]) -> Result<()
     Ok(())
 }
 
-/// How many faults are tolerated.
+/// Writes how many faults are tolerated.
 fn write_tolerates(out: &mut String, tolerates: Option<u8>) -> Result<(), AllocError>
     ensures { OnOk result (string_bytes out.new ≡ string_bytes out.old ++ tolerates_line tolerates) }
 {
