@@ -37,7 +37,7 @@ fn fault_of(kind: ErrorKind) -> WordsFault
     }
 }
 
-/// The words after the program's name, of the arguments that the runtime gave, or why there are none.
+/// The words after the program's name, from the arguments that the runtime gave, or why there are none.
 fn words(alloc: Global, given: io::Result<Args>) -> Result<Vec<String>, WordsFault>
     ensures words { IfOk given (λ args. IfOk result (λ words. words.items ≡ drop 1 (into_iter_items args))) }
     ensures wanting { IfOk given (λ _. IfErr result (λ fault. fault ≡ WordsFault.OutOfMemory)) }
@@ -53,8 +53,8 @@ fn words(alloc: Global, given: io::Result<Args>) -> Result<Vec<String>, WordsFau
     }
 }
 
-/// A run of these words over a shelf and two sinks or, without words, one that says why: then nothing is fetched, and nothing goes
-/// to the first sink. It is handed nothing else of the machine: what it does to it, it does through these three.
+/// Runs the program over a shelf and two sinks. If there are words, it does what they ask. If not, it reports why: nothing is
+/// fetched, and nothing goes to the first sink. It gets nothing else of the machine, and acts on it through these three alone.
 fn outcome<S: Shelf, O: Sink, E: Sink>(
     alloc: Global,
     words: Result<Vec<String>, WordsFault>,
@@ -79,8 +79,8 @@ fn outcome<S: Shelf, O: Sink, E: Sink>(
     }
 }
 
-/// The program: a run over the machine's arguments, files, standard output and standard error, and its status. No other function is
-/// handed the runtime.
+/// The program: a run over the machine's arguments, files, standard output and standard error, which ends with its status. No
+/// other function is handed the runtime.
 fn main(rt: HostRuntime) -> ExitCode {
     let words = words(rt.alloc(), env::args(&rt));
     let mut shelf = FileShelf::new(&rt);
