@@ -10,7 +10,7 @@ pub record Scenario : Type 0 where
   pub values : List Bool
   pub faults : List ℕ
 
--- one value for each condition and one count for each process, with no more faults than the graph allows
+-- there is a value for each condition and a count for each process, with no more faults in all than the graph allows
 pub record IsScenario (g : Graph) (s : Scenario) : Type 0 where
   pub values : length s.values ≡ condition_count g
   pub faults : length s.faults ≡ process_count g
@@ -25,15 +25,15 @@ abbrev pub number_of_value : Bool → ℕ
 number_of_value false = 0
 number_of_value true = 1
 
--- how often a process fails
+-- how many faults a process has
 abbrev pub fault_of : Scenario → ℕ → ℕ
 fault_of s p = get_or s.faults p 0
 
--- what a variable is in a scenario
+-- the number that a variable has in a scenario
 abbrev pub number_of : Scenario → ℕ → ℕ
 number_of s v = if nat_lt v 128 then fault_of s v else number_of_value (get_or s.values (v - 128) false)
 
--- how long each execution takes at most in a scenario
+-- how long each execution lasts at most in a scenario
 abbrev pub full_lengths : Graph → Scenario → List ℕ
 full_lengths g s = map (λ p. duration g p (fault_of s p)) (numbers_below (process_count g))
 
@@ -42,15 +42,15 @@ abbrev pub value_in_key : List Bool → Option ℕ → List ℕ
 value_in_key values None = []
 value_in_key values (Some c) = number_of_value (get_or values c false) ∷ []
 
--- what scenarios are compared by: along an order, of each process its count and then its value
+-- the key by which scenarios are compared: along an order, each process's fault count and then its condition's value
 abbrev pub key : Graph → List ℕ → Scenario → List ℕ
 key g order s = flat_map (λ p. fault_of s p ∷ value_in_key s.values (condition_of g p)) order
 
--- whether the first scenario comes first
+-- whether the first scenario comes before the second
 abbrev pub is_before : Graph → List ℕ → Scenario → Scenario → Bool
 is_before g order s t = is_below (key g order s) (key g order t)
 
--- the scenario has the fact, and no earlier one has it
+-- the fact holds in this scenario, and in none that comes before it
 pub record IsLeast (g : Graph) (order : List ℕ) (fact : Scenario → Type 0) (s : Scenario) : Type 0 where
   pub lawful : IsScenario g s
   pub holds : fact s
