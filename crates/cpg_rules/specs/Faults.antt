@@ -1,4 +1,4 @@
--- What each refusal tells: its own cause, and that no earlier one is there.
+-- What each refusal means: its own cause is there, and no earlier one is.
 use Rattle.std.specs.Prelude.{ℕ, ◌≡◌, ◌<◌, ◌≤◌, List, ⊤}
 use Rattle.cpg_base.specs.Graph.{Graph}
 use Rattle.cpg_base.specs.WellFormed.{HasSingleJoins, HasSenderSlots}
@@ -13,32 +13,32 @@ use Rattle.cpg_rules.specs.Rules.{AllFit, LacksSlot, IsAboveSlot}
 use Rattle.cpg_rules.specs.Given.{IsBadOrder}
 use Rattle.cpg_rules.specs.Admission.{IsAdmitted}
 
--- the graph has no cycle: this is its urgency order
+-- the graph has no cycle, and this is its urgency order
 pub record IsOrdered (g : Graph) (order : List ℕ) : Type 0 where
   pub urgency : IsUrgencyOrder g order
   pub topological : IsTopological g order
 
--- and it has few tracks
+-- the graph also has few enough tracks
 pub record HasFewTracks (g : Graph) (order : List ℕ) : Type 0 where
   pub ordered : IsOrdered g order
   pub few : track_count g ≤ most_tracks
 
--- and no join has two live inputs
+-- no join has two live inputs, either
 pub record HasFewInputs (g : Graph) (order : List ℕ) : Type 0 where
   pub tracks : HasFewTracks g order
   pub joins : HasSingleJoins g
 
--- and each node that sends has a slot
+-- each node that sends has a slot, too
 pub record HasSlots (g : Graph) (order : List ℕ) : Type 0 where
   pub inputs : HasFewInputs g order
   pub slots : HasSenderSlots g
 
--- and no message is above its slot
+-- and no message is larger than its slot holds
 pub record HasSizes (g : Graph) (order : List ℕ) : Type 0 where
   pub slots : HasSlots g order
   pub sizes : AllFit g
 
--- what a refusal shows
+-- what each refusal means
 abbrev pub ShowsFault : Graph → RuleFault → Type 0
 ShowsFault g (Cycle walk) = IsCycle g walk
 ShowsFault g TooManyTracks = (order : List ℕ) × IsOrdered g order × (most_tracks < track_count g)
@@ -48,6 +48,6 @@ ShowsFault g (TooBig e) = (order : List ℕ) × HasSlots g order × IsAboveSlot 
 ShowsFault g (BadOrder p) = (order : List ℕ) × HasSizes g order × IsBadOrder g p
 ShowsFault g OutOfMemory = ⊤
 
--- an admitted graph shows no fault but want of memory, so `admit` refuses exactly the others
+-- An admitted graph has no fault, except that memory may run out. So `admit` rejects exactly the other graphs.
 abbrev pub AdmittedShowNoFault : Type 0
 AdmittedShowNoFault = (g : Graph) (order : List ℕ) (trees : Guards) → IsAdmitted g order trees → (fault : RuleFault) → ShowsFault g fault → fault ≡ OutOfMemory

@@ -12,34 +12,34 @@ use Rattle.cpg_rules.specs.declared.given.GivenFault.TheVariants.{Bad, OutOfMemo
 abbrev pub GivesTopological : Graph → Type 0
 GivesTopological g = IfSome g.order (IsTopological g)
 
--- no process is lacking in a list
+-- no process is missing from a list
 abbrev pub LacksNone : Graph → List ℕ → Type 0
 LacksNone g list = (p : ℕ) → p < process_count g → is_in list p ≡ true
 
--- the least process that is lacking in a list
+-- the least process that is missing from a list
 pub record IsLacking (g : Graph) (list : List ℕ) (p : ℕ) : Type 0 where
   pub within : p < process_count g
   pub lacks : is_in list p ≡ false
   pub before : (q : ℕ) → q < p → is_in list q ≡ true
 
--- whether a process stands in a list before the source of one of its inputs
+-- whether a process comes in a list before the source of one of its inputs
 abbrev pub is_early : Graph → List ℕ → ℕ → Bool
 is_early g list p = list_any (λ e. comes_before list p (source g e)) (inputs g p)
 
--- none is lacking, and this is the first in the list that stands before the source of one of its inputs
+-- no process is missing, and this is the first in the list that comes before the source of one of its inputs
 pub record IsFirstEarly (g : Graph) (list : List ℕ) (p : ℕ) : Type 0 where
   pub all : LacksNone g list
   pub within : p < process_count g
   pub early : is_early g list p ≡ true
   pub before : (q : ℕ) → comes_before list q p ≡ true → is_early g list q ≡ false
 
--- the graph gives an order that isn't topological: this process is lacking in it, or else is the first that stands too early
+-- the graph gives an order that isn't topological: this process is missing from it, or is the first that comes too early
 pub record IsBadOrder (g : Graph) (p : ℕ) : Type 0 where
   pub order : List ℕ
   pub given : g.order ≡ Some order
   pub bad : IsLacking g order p ⊎ IsFirstEarly g order p
 
--- what a fault of a given order tells
+-- what a fault of a given order means
 abbrev pub ShowsGivenFault : Graph → GivenFault → Type 0
 ShowsGivenFault g (Bad p) = IsBadOrder g p
 ShowsGivenFault g OutOfMemory = ⊤

@@ -1,4 +1,4 @@
--- The guards of a graph, as the code keeps them: a tree for each process, and for each edge when it is live.
+-- The guards of a graph, as the code keeps them: a tree for each process, and for each edge the test for when it is live.
 use Rattle.std.specs.Prelude.{ℕ, ◌≡◌, ◌<◌, Bool, true, false, ◌&&◌, List, Option, Some, None, All, IfSome, get_or, length, map}
 use Rattle.cpg_base.specs.declared.activation.Activation.TheVariants.{Inactive}
 use Rattle.cpg_base.specs.Numbers.{numbers_below, same_bool}
@@ -23,13 +23,13 @@ tree_of guards p = get_or guards.trees p (Leaf Inactive)
 abbrev pub edge_guard : Guards → ℕ → EdgeGuard
 edge_guard guards e = get_or guards.edges e (record { source = 0; test = None })
 
--- the value that an edge asks for, where its source has a condition
+-- the value that an edge requires, if its source has a condition
 abbrev pub test_of : Option ℕ → Option Bool → Option ValueTest
 test_of None when = None
 test_of (Some c) None = None
 test_of (Some c) (Some value) = Some (record { condition = c; value = value })
 
--- when an edge is live: its source is active and the condition has the value
+-- when an edge is live: its source is active, and the condition has the required value
 abbrev pub edge_guard_of : Graph → ℕ → EdgeGuard
 edge_guard_of g e = record { source = source g e; test = test_of (condition_of g (source g e)) (edge_at g e).when }
 
@@ -46,17 +46,17 @@ active_by guards values p = is_active (outcome_at (tree_of guards p) values)
 abbrev pub live_by : Guards → List Bool → ℕ → Bool
 live_by guards values e = active_by guards values (edge_guard guards e).source && is_passed (edge_guard guards e).test values
 
--- an edge's guard speaks of processes and conditions that there are
+-- an edge's guard refers to an existing process and condition
 pub record IsEdgeBelow (processes conditions : ℕ) (edge : EdgeGuard) : Type 0 where
   pub source : edge.source < processes
   pub test : IfSome edge.test (λ test. test.condition < conditions)
 
--- and so do all guards
+-- all guards refer to existing processes and conditions
 pub record AreBelow (guards : Guards) : Type 0 where
   pub trees : All (TestsBelow guards.conditions) guards.trees
   pub edges : All (IsEdgeBelow (length guards.trees) guards.conditions) guards.edges
 
--- they are the guards of a graph and an order
+-- the guards are those of a graph and an order
 pub record AreGuardsOf (g : Graph) (order : List ℕ) (guards : Guards) : Type 0 where
   pub conditions : guards.conditions ≡ condition_count g
   pub count : length guards.trees ≡ process_count g

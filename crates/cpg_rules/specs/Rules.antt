@@ -1,4 +1,4 @@
--- The rules on slots: each node that sends has one, and no message is above its sender's.
+-- The rules on slots: each node that sends has one, and no message is larger than its sender's slot holds.
 use Rattle.std.specs.Prelude.{ℕ, ◌≡◌, ◌<◌, Bool, true, false, not, ◌&&◌, ◌||◌, ◌==◌, nat_lt, if◌then◌else◌, List, [], ◌∷◌, length}
 use Rattle.std.specs.List.{list_any}
 use Rattle.cpg_base.specs.Numbers.{numbers_below}
@@ -17,7 +17,7 @@ sends_message g node = list_any (λ e. is_message_of g e node) (numbers_below (e
 abbrev pub decides : Graph → ℕ → Bool
 decides g node = list_any (λ c. node_of g (process_of g c) == node) (numbers_below (condition_count g))
 
--- whether a node sends messages, or broadcasts where there are two nodes or more
+-- whether a node sends messages or, if there are at least two nodes, broadcasts
 abbrev pub is_sender : Graph → ℕ → Bool
 is_sender g node = sends_message g node || (nat_lt 1 (length g.nodes) && decides g node)
 
@@ -29,7 +29,7 @@ has_slot g node = list_any (λ s. s.node == node) g.slots
 abbrev pub lacks_slot : Graph → ℕ → Bool
 lacks_slot g node = is_sender g node && not (has_slot g node)
 
--- how many bytes a frame in the first slot of a node holds, or 0 where it has none
+-- how many bytes a frame in the first slot of a node holds, or 0 if it has none
 abbrev pub bytes_in : List Slot → ℕ → ℕ
 bytes_in [] node = 0
 bytes_in (s ∷ ss) node = if s.node == node then s.bytes else bytes_in ss node
@@ -37,11 +37,11 @@ bytes_in (s ∷ ss) node = if s.node == node then s.bytes else bytes_in ss node
 abbrev pub slot_bytes : Graph → ℕ → ℕ
 slot_bytes g node = bytes_in g.slots node
 
--- whether an edge is a message whose size is above its sender's slot
+-- whether an edge is a message that is larger than its sender's slot holds
 abbrev pub is_too_big : Graph → ℕ → Bool
 is_too_big g e = is_message g e && nat_lt (slot_bytes g (node_of g (source g e))) (edge_at g e).size
 
--- no message is above its slot
+-- no message is larger than its slot holds
 abbrev pub AllFit : Graph → Type 0
 AllFit g = (e : ℕ) → e < edge_count g → is_too_big g e ≡ false
 
@@ -51,7 +51,7 @@ pub record LacksSlot (g : Graph) (node : ℕ) : Type 0 where
   pub lacks : lacks_slot g node ≡ true
   pub before : (other : ℕ) → other < node → lacks_slot g other ≡ false
 
--- the least message that is above its slot
+-- the least message that is larger than its slot holds
 pub record IsAboveSlot (g : Graph) (e : ℕ) : Type 0 where
   pub within : e < edge_count g
   pub above : is_too_big g e ≡ true
