@@ -1,4 +1,4 @@
--- Which items a node starts, sends and hears by a head, and what it needs to know of its own processes.
+-- Which items a node starts, sends and hears, given a head, and what it needs to know of its own processes.
 use Rattle.std.specs.Prelude.{ℕ, ◌+◌, Bool, false, not, ◌&&◌, ◌==◌, nat_lt, if◌then◌else◌, List, [], ◌∷◌, ◌++◌, Option, Some, None, length, filter, get_or, map}
 use Rattle.cpg_head.specs.Head.{Head}
 use Rattle.cpg_head.specs.declared.head_parts.HeadProcess.{HeadProcess}
@@ -17,7 +17,7 @@ numbers_where test i (x ∷ xs) = if test x then i ∷ numbers_where test (i + 1
 abbrev pub head_node_of : Head → ℕ → ℕ
 head_node_of h p = (get_or h.processes p (record { name = []; node = 0; condition = false; times = [] })).node
 
--- the processes that have a condition, by number of the condition
+-- the processes that have a condition, in the order of their conditions
 abbrev pub conditioned : Head → List HeadProcess
 conditioned h = filter (λ p. p.condition) h.processes
 
@@ -41,27 +41,27 @@ first_broadcast h = length h.processes + length h.edges
 abbrev pub starts_of : Head → ℕ → List ℕ
 starts_of h node = numbers_where (λ p. p.node == node) 0 h.processes
 
--- it sends the messages to other nodes and, where there are some, the broadcasts of its own conditions
+-- a node sends the messages to other nodes and, if there are some, the broadcasts of its own conditions
 abbrev pub sends_of : Head → ℕ → List ℕ
 sends_of h node = numbers_where (leaves h node) (first_message h) h.edges
     ++ (if nat_lt 1 (length h.nodes) then numbers_where (λ p. p.node == node) (first_broadcast h) (conditioned h) else [])
 
--- it hears the messages and broadcasts of others
+-- a node hears the messages and broadcasts of the others
 abbrev pub hears_of : Head → ℕ → List ℕ
 hears_of h node = numbers_where (enters h node) (first_message h) h.edges
     ++ numbers_where (λ p. not (p.node == node)) (first_broadcast h) (conditioned h)
 
--- what a node starts, sends and hears, by number
+-- what a node starts, sends and hears, each by number
 pub record ItemLists : Type 0 where
   pub starts : List ℕ
   pub sends : List ℕ
   pub hears : List ℕ
 
--- by a head
+-- these lists, given a head
 abbrev pub lists_of : Head → ℕ → ItemLists
 lists_of h node = record { starts = starts_of h node; sends = sends_of h node; hears = hears_of h node }
 
--- a process, where it is on the node, with the number of its condition
+-- a process with the number of its condition, if it is on the node
 abbrev pub own_front : ℕ → ℕ → ℕ → HeadProcess → List Own
 own_front node p c q = if q.node == node then record { process = p; condition = if q.condition then Some c else None; times = q.times } ∷ [] else []
 
@@ -74,7 +74,7 @@ own_from node p c (q ∷ qs) = own_front node p c q ++ own_from node (p + 1) (if
 abbrev pub own_of : Head → ℕ → List Own
 own_of h node = own_from node 0 0 h.processes
 
--- what stands after rows of these items, if they come first
+-- the rows after those of these items, if these come first
 abbrev pub after_items : List ℕ → List Row → Option (List Row)
 after_items [] rows = Some rows
 after_items (x ∷ xs) [] = None

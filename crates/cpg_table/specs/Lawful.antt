@@ -1,4 +1,4 @@
--- Which rows a table may have under a head.
+-- Which rows a table may have, given a head.
 use Rattle.std.specs.Prelude.{ℕ, ◌≡◌, ◌+◌, ◌^◌, ◌≤◌, ◌<◌, ◌⊎◌, List, ◌++◌, length, count_by, sum_by, All}
 use Rattle.cpg_base.specs.declared.limits.TheConstants.{MOST_COLUMNS, MOST_LOAD}
 use Rattle.cpg_cube.specs.Cube.{IsRising}
@@ -10,7 +10,7 @@ use Rattle.cpg_table.specs.Shape.{items_of}
 use Rattle.cpg_table.specs.Items.{first_broadcast, starts_of, sends_of, hears_of, own_of}
 use Rattle.cpg_table.specs.declared.space.Space.{Space}
 
--- the variables that there are under a head
+-- the variables that exist under a head
 abbrev pub space_of : Head → Space
 space_of h = record { faults = h.faults; processes = length h.processes; conditions = count_by (λ p. p.condition) h.processes }
 
@@ -28,11 +28,11 @@ pub record IsValueLiteral (s : Space) (l : Literal) : Type 0 where
   pub one : l.low ≡ l.high
   pub within : l.high ≤ 1
 
--- a literal on a variable that there is, with a range that leaves some of its numbers out
+-- a literal on a variable that exists, with a range that leaves out some of its numbers
 abbrev pub IsLawfulLiteral : Space → Literal → Type 0
 IsLawfulLiteral s l = IsCountLiteral s l ⊎ IsValueLiteral s l
 
--- a time below 2 to the 60, and a cube of lawful literals
+-- a time below 2^60, and a cube of lawful literals
 pub record IsLawfulColumn (s : Space) (c : Column) : Type 0 where
   pub time : c.time < 2 ^ 60
   pub literals : All (IsLawfulLiteral s) c.cube

@@ -1,4 +1,4 @@
--- The numbers by which the rules of valid tables are named.
+-- The numbers that name the rules of valid tables.
 use Rattle.std.specs.Prelude.{ℕ}
 use Rattle.cpg_table.specs.declared.rule.Rule.{Rule}
 use Rattle.cpg_table.specs.declared.rule.Rule.TheVariants.{Activity, Single, Present, Heard, Inputs, Processor, Slot, Frozen, Due, Hears}
