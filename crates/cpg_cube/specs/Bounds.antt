@@ -1,9 +1,9 @@
--- The ranges of a cube as the code keeps them: a low and a high for each variable; and budgets that demands are taken from.
+-- A cube's ranges as the code keeps them: a low and a high for each variable. Also budgets, from which demands are taken.
 use Rattle.std.specs.Prelude.{ℕ, ◌+◌, ◌-◌, ◌<◌, ◌≡◌, max, min, Bool, ◌&&◌, ◌==◌, nat_lt, nat_le, if◌then◌else◌, List, [], ◌∷◌, Option, Some, None, get_or}
 use Rattle.cpg_cube.specs.Cube.{Literal, low_in}
 use Rattle.cpg_cube.specs.Fit.{is_open}
 
--- the greatest number of a cube's range of a variable, 255 where it has no literal on it
+-- the greatest number of a cube's range for a variable, or 255 without a literal on it
 abbrev pub bound_in : List Literal → ℕ → ℕ
 bound_in [] v = 255
 bound_in (l ∷ ls) v = if l.variable == v then l.high else bound_in ls v
@@ -13,24 +13,25 @@ pub record AreBounds (cube : List Literal) (lows highs : List ℕ) : Type 0 wher
   pub low : (v : ℕ) → v < 256 → get_or lows v 0 ≡ low_in cube v
   pub high : (v : ℕ) → v < 256 → get_or highs v 0 ≡ bound_in cube v
 
--- the later lows are the greater of the earlier ones and a cube's
+-- each later low is the greater of the earlier one and the cube's
 abbrev pub AreRaised : List Literal → List ℕ → List ℕ → Type 0
 AreRaised cube lows later = (v : ℕ) → v < 256 → get_or later v 0 ≡ max (get_or lows v 0) (low_in cube v)
 
--- what is left of a budget where each literal passes a test and takes its demand, or None where one doesn't pass or more is demanded
+-- what is left of a budget if each literal passes a test and takes its demand, or None if one doesn't pass or demands more than
+-- is left
 abbrev pub budget_left : (Literal → Bool) → (Literal → ℕ) → ℕ → List Literal → Option ℕ
 budget_left test demand left [] = Some left
 budget_left test demand left (l ∷ ls) = if test l && nat_le (demand l) left then budget_left test demand (left - demand l) ls else None
 
--- whether a literal's range is open, and has a number in common with the range of its variable
+-- whether a literal's range is open, and shares a number with the range of its variable
 abbrev pub touches : ℕ → List ℕ → List ℕ → Literal → Bool
 touches k low high l = is_open k l && nat_le (get_or low l.variable 0) l.high && nat_le l.low (get_or high l.variable 0)
 
--- how many faults a literal asks for beyond those that the low of its variable asks for
+-- how many more faults a literal requires than the low of its variable does
 abbrev pub more_asked : List ℕ → Literal → ℕ
 more_asked low l = if nat_lt l.variable 128 then l.low - get_or low l.variable 0 else 0
 
--- whether a literal's range has all numbers that its variable has where so many faults are left
+-- whether a literal's range has all numbers that its variable can have when this many faults are left
 abbrev pub spans : List ℕ → List ℕ → ℕ → Literal → Bool
 spans low high left l = nat_le l.low (get_or low l.variable 0)
     && nat_le (min (get_or high l.variable 0) (if nat_lt l.variable 128 then get_or low l.variable 0 + left else 1)) l.high
