@@ -12,15 +12,15 @@ left_of last times = length (filter (is_after last) times)
 abbrev pub planned_times : Dispatcher → List ℕ
 planned_times d = if is_some d.last then fixed_times d.table else 0 ∷ fixed_times d.table
 
--- when what runs may end
+-- the times at which running executions may end
 abbrev pub end_times : Dispatcher → List ℕ
 end_times d = flat_map (λ ends. ends) (zip_with possible_ends d.table.own d.running)
 
--- the times after the last turn of the columns of what a node sends and starts
+-- the times of the columns that a node sends and starts, after the last turn
 abbrev pub entries_left : Dispatcher → List ℕ
 entries_left d = filter (is_after d.last) (times_in (d.table.sends ++ d.table.starts))
 
--- How many instants a node may still come to: those that its table plans, the ends of what runs, and those of what its
--- entries may still start. An execution may end at 9 times.
+-- How many instants a node may still come to: those that its table plans, the ends of running executions, and those of
+-- executions that its entries may still start. An execution may end at 9 times.
 abbrev pub instants_left : Dispatcher → ℕ
 instants_left d = left_of d.last (planned_times d) + left_of d.last (end_times d) + length (entries_left d) * 9

@@ -8,12 +8,12 @@ use Rattle.cpg_cube.specs.Column.{Column}
 use Rattle.cpg_node.specs.Dispatcher.{OwnTable, Act, Range, times_in, is_after, has_heard, no_column}
 pub use Rattle.cpg_node.specs.declared.plan.Planned.{Planned}
 
--- the columns of a row of an item, the first of which has the number i
+-- the columns of an item's row; the first has the number i
 abbrev pub plan_of_columns : ℕ → ℕ → ℕ → List Column → List Planned
 plan_of_columns row x i [] = []
 plan_of_columns row x i (c ∷ cs) = record { time = c.time; row = row; item = x; column = i } ∷ plan_of_columns row x (i + 1) cs
 
--- the columns of rows, the first of which has this place
+-- the columns of rows; the first row has this place
 abbrev pub plan_from : ℕ → List Row → List Planned
 plan_from place [] = []
 plan_from place (row ∷ rows) = plan_of_columns place row.item 0 row.columns ++ plan_from (place + 1) rows
@@ -22,7 +22,7 @@ plan_from place (row ∷ rows) = plan_of_columns place row.item 0 row.columns ++
 abbrev pub plan_of : OwnTable → List Planned
 plan_of table = plan_from 0 (table.sends ++ table.starts)
 
--- stands where there is no row
+-- a stand-in if there is no row
 abbrev pub no_row : Row
 no_row = record { item = 0; columns = [] }
 
@@ -42,11 +42,11 @@ act_of p = record { time = p.time; item = p.item; column = p.column }
 abbrev pub fixed_times : OwnTable → List ℕ
 fixed_times table = times_in table.starts ++ times_in table.sends ++ times_in table.hears
 
--- both lists have the same entries of each time, in one order
+-- both lists have the same entries at each time, in the same order
 abbrev pub SameAtEachTime : List Planned → List Planned → Type 0
 SameAtEachTime ps qs = (time : ℕ) → filter (λ (p : Planned). p.time == time) ps ≡ filter (λ (p : Planned). p.time == time) qs
 
--- of things in order of time, those before the place have been reached by the last turn, and the others are after it
+-- xs are in order of time; the last turn has reached those before the place, and the others are after it
 pub record IsLine {X : Type 0} (time : X → ℕ) (last : Option ℕ) (xs : List X) (place : ℕ) : Type 0 where
   pub within : place ≤ length xs
   pub rises : IsNonDecreasingBy time xs

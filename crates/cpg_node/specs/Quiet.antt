@@ -4,7 +4,7 @@ use Rattle.std.specs.List.{flat_map}
 use Rattle.cpg_table.specs.Lawful.{IsTable}
 use Rattle.cpg_node.specs.Dispatcher.{Dispatcher, Own, Running, Ended, Range, times_in, zip_with, candidates, is_after, least_of, due_reports, acts_at, turn, acts_of_turn}
 
--- no report is due at an instant, and no entry that is heard
+-- at this instant no report is due, and no entry whose literals have been heard
 pub record IsQuiet (d : Dispatcher) (time : ℕ) : Type 0 where
   pub ends : due_reports d time ≡ []
   pub acts : acts_at d.table d.heard time ≡ []
@@ -14,17 +14,17 @@ abbrev pub QuietTurnsChangeNothing : Type 0
 QuietTurnsChangeNothing = (d : Dispatcher) (time : ℕ) → length d.running ≡ length d.table.own → IsQuiet d time →
     (turn d time [] [] ≡ record d { last = Some time }) × (acts_of_turn d time [] [] ≡ [])
 
--- the faults with which an execution is awaited: those of its report, and the most where it has none
+-- the faults with which an execution is expected to end: those of its report, or the most if it has none
 abbrev pub awaited_faults : ℕ → Option Ended → ℕ
 awaited_faults k None = k
 awaited_faults k (Some e) = e.faults
 
--- the end at which it is awaited
+-- the expected end of an execution
 abbrev pub awaited_end : ℕ → Own → Option Running → List ℕ
 awaited_end k own None = []
 awaited_end k own (Some run) = (run.start + get_or own.times (awaited_faults k run.report) 0) ∷ []
 
--- The instants of a node that takes no more turns than it must: the times of its columns, and one end of each execution.
+-- The instants of a node that takes no more turns than it must: the times of its columns, and one end for each execution.
 abbrev pub awaited : Dispatcher → List ℕ
 awaited d = times_in d.table.starts ++ times_in d.table.sends ++ times_in d.table.hears
     ++ flat_map (λ ends. ends) (zip_with (awaited_end d.table.faults) d.table.own d.running)
@@ -37,10 +37,10 @@ next_awaited d = least_of (filter (is_after d.last) (awaited d))
 abbrev pub TurnsLeftOutAreQuiet : Type 0
 TurnsLeftOutAreQuiet = (d : Dispatcher) (time : ℕ) → (Contains (awaited d) time → ⊥) → (heard : List Range) → IsQuiet (record d { heard = heard }) time
 
--- a report tells no more faults than there may be
+-- a report has no more faults than are allowed
 abbrev pub TellsFew : ℕ → Option Running → Type 0
 TellsFew k run = IfSome run (λ (run : Running). IfSome run.report (λ (e : Ended). e.faults ≤ k))
 
--- Each of these instants is one of the node of all turns.
+-- Each of these instants is also one of a node that takes all turns.
 abbrev pub AwaitedAreCandidates : Type 0
 AwaitedAreCandidates = (d : Dispatcher) → IsTable d.table → All (TellsFew d.table.faults) d.running → (time : ℕ) → Contains (awaited d) time → Contains (candidates d) time

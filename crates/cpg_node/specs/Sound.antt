@@ -1,4 +1,4 @@
--- What a node keeps for its calls.
+-- The invariant of a node between its calls.
 use Rattle.std.specs.Prelude.{◌≡◌, ◌≤◌, ◌<◌, ◌^◌, length, All, IsPermutation}
 use Rattle.std.specs.Vec.{vec_capacity}
 use Rattle.cpg_table.specs.Lawful.{IsTable}
@@ -15,7 +15,7 @@ dispatcher_of n = record { table = n.table; heard = n.heard.items; running = n.r
 abbrev pub state_of : Inside → NodeState
 state_of n = record { dispatcher = dispatcher_of n; acts = n.acts.items }
 
--- the entries and the times in order, the next instant, and room for a turn
+-- the entries and the times are in order, the next instant is known, and there is room for a turn
 pub record IsSound (n : Inside) : Type 0 where
   pub made : IsTable n.table
   pub count : length n.running.items ≡ length n.table.own

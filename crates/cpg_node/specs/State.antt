@@ -1,4 +1,4 @@
--- The state of a node, and what its calls ask for.
+-- The state of a node, and what its calls require.
 use Rattle.std.specs.Prelude.{ℕ, ◌≡◌, ◌<◌, ◌≤◌, ◌+◌, ◌^◌, min, nat_lt, ◌&&◌, Bool, true, false, ◌==◌, if◌then◌else◌, List, [], ◌∷◌, Option, Some, None, option_map, option_and_then, is_some, get_or, length, All, IfSome}
 use Rattle.std.specs.List.{list_any}
 use Rattle.cpg_table.specs.Table.{Row, columns_in}
@@ -9,17 +9,17 @@ pub record NodeState : Type 0 where
   pub dispatcher : Dispatcher
   pub acts : List Act
 
--- the execution of a process, where it runs, by the processes of the node and what runs
+-- the execution of a process if it runs, given the node's processes and what they run
 abbrev pub running_in : List Own → List (Option Running) → ℕ → Option Running
 running_in [] runs p = None
 running_in (o ∷ os) [] p = None
 running_in (o ∷ os) (run ∷ runs) p = if o.process == p then run else running_in os runs p
 
--- the execution of a process, where it runs on the node
+-- the execution of a process, if it runs on the node
 abbrev pub running_of : Dispatcher → ℕ → Option Running
 running_of d p = running_in d.table.own d.running p
 
--- when the execution of a process started, where it runs on the node
+-- when the execution of a process started, if it runs on the node
 abbrev pub start_of : Dispatcher → ℕ → Option ℕ
 start_of d p = option_map (λ (run : Running). run.start) (running_of d p)
 
@@ -31,11 +31,11 @@ report_of d p = option_and_then (λ (run : Running). run.report) (running_of d p
 abbrev pub has_reported : Dispatcher → ℕ → Bool
 has_reported d p = is_some (report_of d p)
 
--- how long an execution of a process of the node takes with so many faults
+-- how long an execution of a process of the node lasts with this many faults
 abbrev pub time_of : Dispatcher → ℕ → ℕ → ℕ
 time_of d p faults = get_or (own_of d.table p).times faults 0
 
--- an execution that hasn't reported, and ends at the time by its faults
+-- an execution that hasn't reported, and with its faults ends at this time
 pub record EndsAt (d : Dispatcher) (time : ℕ) (e : Ended) : Type 0 where
   pub run : Running
   pub runs : running_of d e.process ≡ Some run
@@ -43,7 +43,7 @@ pub record EndsAt (d : Dispatcher) (time : ℕ) (e : Ended) : Type 0 where
   pub few : e.faults ≤ d.table.faults
   pub planned : run.start + time_of d e.process e.faults ≡ time
 
--- a frame of a column that arrives at the time
+-- a frame whose column arrives at the time
 pub record ArrivesAt (d : Dispatcher) (time : ℕ) (f : Frame) : Type 0 where
   pub there : f.column < length (columns_in d.table.hears f.item)
   pub arrives : (get_or (columns_in d.table.hears f.item) f.column no_column).time ≡ time
@@ -55,8 +55,8 @@ pub record MayTurn (d : Dispatcher) (ended : List Ended) (frames : List Frame) :
   pub ends : All (EndsAt d time) ended
   pub arrive : All (ArrivesAt d time) frames
 
--- an execution that hasn't reported may have ended at the time: after its start and not later than planned, after the last
--- turn and not later than the next instant
+-- An execution that hasn't reported may have ended at this time: after its start and no later than planned, and after the last
+-- turn and no later than the next instant.
 pub record MayFinish (d : Dispatcher) (time : ℕ) (e : Ended) : Type 0 where
   pub run : Running
   pub runs : running_of d e.process ≡ Some run
@@ -73,13 +73,13 @@ abbrev pub arrives : OwnTable → ℕ → Frame → Bool
 arrives table arrival f = list_any (λ (row : Row). row.item == f.item) table.hears && nat_lt f.column (length (columns_in table.hears f.item))
     && ((get_or (columns_in table.hears f.item) f.column no_column).time == arrival)
 
--- the lesser of two times, where there are some
+-- the lesser of two times, if they are given
 abbrev pub earlier : Option ℕ → Option ℕ → Option ℕ
 earlier None other = other
 earlier (Some time) None = Some time
 earlier (Some time) (Some other) = Some (min time other)
 
--- what runs has started at a time that is not too great for a sum
+-- every running execution has started at a time that is small enough to be added to
 abbrev pub IsTimed : Option Running → Type 0
 IsTimed running = IfSome running (λ (run : Running). run.start < 2 ^ 60)
 
