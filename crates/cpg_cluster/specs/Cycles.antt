@@ -1,4 +1,4 @@
--- Cycles: the tables of a graph are used again and again, each time from a new begin on.
+-- Cycles: the tables of a graph are used again and again, each time from a new beginning.
 use Rattle.std.specs.Prelude.{ℕ, ◌+◌, ◌*◌, ◌≡◌, ◌<◌, ◌≤◌, ◌==◌, max, List, [], get_or, length, IsTrue, Contains}
 use Rattle.std.specs.Int.{div_ceil}
 use Rattle.std.specs.List.{flat_map, list_any}
@@ -14,15 +14,16 @@ use Rattle.cpg_node.specs.Dispatcher.{Act, Ended, times_in}
 use Rattle.cpg_cluster.specs.Cluster.{World, Cluster, open_cluster, play}
 use Rattle.cpg_cluster.specs.Correct.{IsWorld, end_of_act, arrival_of_act}
 
--- the greatest time in what the nodes hear, and 0 where nothing is sent
+-- the greatest time of anything that a node hears, or 0 if nothing is sent
 abbrev pub last_arrival : List NodeTable → ℕ
 last_arrival tables = greatest (flat_map (λ (t : NodeTable). times_in t.hears) tables)
 
--- the round, and 1 where there are no slots
+-- the length of the round, or 1 if there are no slots
 abbrev pub cycle_step : Graph → ℕ
 cycle_step g = max (round g) 1
 
--- A time after which the tables may be used again: whole rounds, neither before the deadline nor before the last arrival.
+-- A time after which the tables may be used again. It is a whole number of rounds, and at least the deadline and the last
+-- arrival.
 pub record IsCycle (g : Graph) (tables : List NodeTable) (time : ℕ) : Type 0 where
   pub some : 1 ≤ time
   pub rounds : ℕ
@@ -41,15 +42,15 @@ pub record IsLeastCycle (g : Graph) (tables : List NodeTable) (time : ℕ) : Typ
 abbrev pub LeastCyclesAreLeast : Type 0
 LeastCyclesAreLeast = (g : Graph) (tables : List NodeTable) → IsLeastCycle g tables (least_cycle g tables)
 
--- All that nodes do from the begin on is over by a time: each execution that started, by plan and as it was told, and each
--- frame, which arrives at the end of its slot.
+-- All that nodes do is over by a time: each execution that started, both as planned and as reported, and each frame, which
+-- arrives at the end of its slot.
 pub record IsOverBy (g : Graph) (s : Scenario) (c : Cluster) (time : ℕ) : Type 0 where
   pub starts : (node : ℕ) (a : Act) → node < length g.nodes → Contains (get_or c.acts node []) a → a.item < process_count g → end_of_act g s a ≤ time
   pub sends : (node : ℕ) (a : Act) → node < length g.nodes → Contains (get_or c.acts node []) a → process_count g ≤ a.item → arrival_of_act g a ≤ time
   pub ends : (node : ℕ) (e : ℕ × Ended) → node < length g.nodes → Contains (get_or c.ends node []) e → e.0 ≤ time
   pub reports : (node : ℕ) (e : ℕ × Ended) → node < length g.nodes → Contains (get_or c.reports node []) e → e.0 ≤ time
 
--- So it is in each state of each play of valid tables, at the end of a cycle.
+-- In every state of every play of valid tables, all that nodes do is over at the end of a cycle.
 abbrev pub CyclesHoldAll : Type 0
 CyclesHoldAll = (g : Graph) (tables : List NodeTable) (time : ℕ) → WellFormed g → HasShape g tables → IsValid g tables → IsCycle g tables time →
     (w : World) (turns : List ℕ) → IsWorld g w → IsOverBy g w.scenario (play g w (open_cluster g tables) turns) time
@@ -58,7 +59,7 @@ CyclesHoldAll = (g : Graph) (tables : List NodeTable) (time : ℕ) → WellForme
 abbrev pub IsOccurrence : Graph → ℕ → ℕ → Type 0
 IsOccurrence g node time = (j : ℕ) × (time ≡ occurrence g node j)
 
--- A node's slots stand in each cycle where they stand in the first.
+-- A node's slots have the same places in a later cycle as in the first.
 pub record HasSlotsAt (g : Graph) (node begin : ℕ) : Type 0 where
   pub later : (time : ℕ) → IsOccurrence g node time → IsOccurrence g node (begin + time)
   pub earlier : (time : ℕ) → IsOccurrence g node (begin + time) → IsOccurrence g node time
@@ -67,15 +68,15 @@ abbrev pub CyclesHaveTheSameSlots : Type 0
 CyclesHaveTheSameSlots = (g : Graph) (tables : List NodeTable) (time cycle node : ℕ) → WellFormed g → IsCycle g tables time →
     IsTrue (list_any (λ s. s.node == node) g.slots) → HasSlotsAt g node (cycle * time)
 
--- What nodes do in a cycle is over before they do anything in a later one: an execution and an act on any node, so also two
--- executions on one processor; a frame and an act on any node, so also two frames in slots.
+-- What nodes do in a cycle is over before they do anything in a later one. An execution, or a frame, of the first is over
+-- before an act of the second on any node. So two executions on one processor, or two frames in slots, are apart.
 pub record AreApart (g : Graph) (s : Scenario) (one other : Cluster) (begin later : ℕ) : Type 0 where
   pub executions : (node there : ℕ) (a b : Act) → node < length g.nodes → Contains (get_or one.acts node []) a → Contains (get_or other.acts there []) b →
       a.item < process_count g → begin + end_of_act g s a ≤ later + b.time
   pub frames : (node there : ℕ) (a b : Act) → node < length g.nodes → Contains (get_or one.acts node []) a → Contains (get_or other.acts there []) b →
       process_count g ≤ a.item → begin + arrival_of_act g a ≤ later + b.time
 
--- Cycles with any worlds and plays, which begin at multiples of such a time, are apart.
+-- Cycles that begin at multiples of such a time are apart, whatever their worlds and plays.
 abbrev pub CyclesAreApart : Type 0
 CyclesAreApart = (g : Graph) (tables : List NodeTable) (time : ℕ) → WellFormed g → HasShape g tables → IsValid g tables → IsCycle g tables time →
     (w v : World) (turns others : List ℕ) (cycle later : ℕ) → IsWorld g w → IsWorld g v → cycle < later →

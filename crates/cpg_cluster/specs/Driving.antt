@@ -1,4 +1,5 @@
--- A play that is driven to its end: which node is asked first comes from a number, and then the others are asked round the circle until one takes its turn.
+-- A play that is driven to its end. A number decides which node is asked first; then the others are asked round the circle
+-- until one takes its turn.
 use Rattle.std.specs.Prelude.{ℕ, zero, suc, ◌≡◌, ◌<◌, ◌+◌, ◌^◌, ◌%◌, ◌/◌, Bool, true, false, List, [], ◌∷◌, map, length, sum_by}
 use Rattle.cpg_base.specs.Graph.{Graph}
 use Rattle.cpg_base.specs.Draws.{next_number}
@@ -10,7 +11,7 @@ use Rattle.cpg_cluster.specs.Cluster.{World, Cluster, Answer, Took, Waits, Done,
 abbrev pub first_asked : ℕ → ℕ → ℕ
 first_asked nodes x = (x / 2 ^ 33) % nodes
 
--- the nodes from one on, round the circle
+-- the nodes from the given one on, round the circle
 abbrev pub circle : ℕ → ℕ → List ℕ
 circle nodes first = map (λ i. (first + i) % nodes) (numbers_below nodes)
 
@@ -34,11 +35,11 @@ abbrev pub choose : Graph → World → Cluster → List ℕ → Choice
 choose g w c [] = record { cluster = c; waits = 0; took = false }
 choose g w c (a ∷ rest) = chosen g w c a (answer g c a) (choose g w c rest)
 
--- the choice of a number
+-- the choice that a number makes
 abbrev pub choice : Graph → World → Cluster → ℕ → Choice
 choice g w c x = choose g w c (circle (length g.nodes) (first_asked (length g.nodes) x))
 
--- so many choices, from a number on: the state then, and how many nodes waited
+-- the state after this many choices, made by the numbers that follow one, and how many nodes waited
 abbrev pub driven : Graph → World → ℕ → ℕ → Cluster → Cluster × ℕ
 driven g w zero x c = (c, 0)
 driven g w (suc turns) x c = let one = choice g w c (next_number x) in let rest = driven g w turns (next_number x) one.cluster in (rest.0, one.waits + rest.1)
@@ -47,7 +48,7 @@ driven g w (suc turns) x c = let one = choice g w c (next_number x) in let rest 
 abbrev pub AllDone : Graph → Cluster → Type 0
 AllDone g c = (node : ℕ) → node < length g.nodes → answer g c node ≡ Done
 
--- choices are made until every node is done
+-- choices are made until every node is done, and no longer
 pub record IsDriven (g : Graph) (w : World) (x : ℕ) (before after : Cluster) (waits : ℕ) : Type 0 where
   pub turns : ℕ
   pub is : driven g w turns x before ≡ (after, waits)

@@ -1,4 +1,4 @@
--- What a cluster keeps for its calls.
+-- The invariant of a cluster between its calls.
 use Rattle.std.specs.Prelude.{ℕ, ◌≡◌, ◌≤◌, ◌<◌, ◌+◌, ◌&&◌, ◌==◌, Bool, cond, IsPermutation, nat_le, List, [], Option, Some, None, option_to_list, slice_get, slice_set, length, map, filter, fold, replicate, get_or, All}
 use Rattle.std.specs.List.{flat_map, list_any}
 use Rattle.std.specs.List.Sorted.{IsNonDecreasingBy}
@@ -14,19 +14,19 @@ use Rattle.cpg_cluster.specs.Cluster.{Answer, Took, Waits}
 use Rattle.cpg_cluster.specs.Taking.{value_of_item, frames_from}
 use Rattle.cpg_cluster.specs.declared.member.Member.{Member}
 
--- whether a time of arrival is one whose frame a node may still send, by that node's next instant and slot
+-- whether a frame that arrives at this time may still be sent by a node, given that node's next instant and slot
 abbrev pub waits_until : ℕ → Option ℕ → ℕ → ℕ → Bool
 waits_until time comes slot arrival = nat_le arrival time && list_any (λ u. nat_le (u + slot) arrival) (option_to_list comes)
 
--- whether a column is
+-- whether a column's frame may
 abbrev pub waits_for : ℕ → Option ℕ → ℕ → Column → Bool
 waits_for time comes slot col = waits_until time comes slot col.time
 
--- whether a row of a sender has such a column
+-- whether a row of the sender has such a column
 abbrev pub waits_by : ℕ → ℕ → Option ℕ → ℕ → Row → ℕ → Bool
 waits_by other time comes slot row sender = (sender == other) && list_any (waits_for time comes slot) row.columns
 
--- whether a node waits on another, by the other's next instant and slot
+-- whether a node waits on another, given the other's next instant and slot
 abbrev pub waits_between : ℕ → Member → ℕ → Member → Bool
 waits_between time m other o = list_any (λ w. w) (zip_with (waits_by other time (next o.node.dispatcher) o.slot) m.node.dispatcher.table.hears m.senders.items)
 
@@ -38,23 +38,23 @@ frames_of_member members value x time sender = option_map_or (λ (m : Member). f
 abbrev pub frames_of_sender : Graph → List Bool → List Member → ℕ → Row → ℕ → List Frame
 frames_of_sender g values members time row sender = frames_of_member members (value_of_item values (item_at g row.item)) row.item time sender
 
--- the frames that arrive by rows with their senders
+-- the frames that arrive, given rows and their senders
 abbrev pub frames_by : Graph → List Bool → List Member → ℕ → List Row → List ℕ → List Frame
 frames_by g values members time rows senders = flat_map (λ fs. fs) (zip_with (frames_of_sender g values members time) rows senders)
 
--- when columns arrive that a sender sends, row by row
+-- the arrival times of the columns of one sender, row by row
 abbrev pub times_by : ℕ → Row → ℕ → List ℕ
 times_by other row sender = cond (sender == other) (map {A = Column} {B = ℕ} (λ c. c.time) row.columns) []
 
 abbrev pub arrival_times : ℕ → List Row → List ℕ → List ℕ
 arrival_times other rows senders = flat_map (λ ts. ts) (zip_with (times_by other) rows senders)
 
--- these times, in order
+-- the same times, in order
 pub record IsIndex (rows : List Row) (senders : List ℕ) (other : ℕ) (times : List ℕ) : Type 0 where
   pub same : IsPermutation (arrival_times other rows senders) times
   pub rises : IsNonDecreasingBy (λ (t : ℕ). t) times
 
--- so for each of the senders below a number
+-- the same for each sender below a number
 pub record AreIndexed (rows : List Row) (senders : List ℕ) (number : ℕ) (index : List (Vec ℕ)) : Type 0 where
   pub count : length index ≡ number
   pub each : (b : ℕ) (d : Vec ℕ) → b < number → IsIndex rows senders b (get_or index b d).items
@@ -68,15 +68,15 @@ answer_if (Some b) = Waits b
 abbrev pub note : List (Option Act) → Act → List (Option Act)
 note noted act = slice_set noted act.item (Some act)
 
--- what is noted of acts, by item
+-- the acts that are noted, by item
 abbrev pub noted_of : ℕ → List Act → List (Option Act)
 noted_of count acts = fold note (replicate count None) acts
 
--- what a node has noted of an item is what it has done of it
+-- what a node has noted for an item is what it has done
 abbrev pub HasNoted : Member → ℕ → Type 0
 HasNoted m x = filter (λ (act : Act). act.item == x) m.acts.items ≡ option_to_list (get_or m.noted.items x None)
 
--- what a node keeps of the graph, what it notes of its acts, and room for all that it does in a play
+-- what a node keeps of the graph, what it notes of its acts, and the room for all that it does in a play
 pub record Fits (g : Graph) (number : ℕ) (m : Member) : Type 0 where
   pub senders : m.senders.items ≡ map (λ (row : Row). home g row.item) m.node.dispatcher.table.hears
   pub slot : m.slot ≡ slot_length g number
@@ -86,7 +86,7 @@ pub record Fits (g : Graph) (number : ℕ) (m : Member) : Type 0 where
   pub ends : length m.node.dispatcher.table.own ≤ vec_capacity m.ends
   pub reports : length m.node.dispatcher.table.own ≤ vec_capacity m.reports
 
--- so does each node, from a number on
+-- the same for each node, by number
 abbrev pub AllFit : Graph → List Member → Type 0
 AllFit g members = (i : ℕ) (d : Member) → i < length members → Fits g i (get_or members i d)
 
@@ -104,11 +104,11 @@ pub record IsOpen (g : Graph) (number : ℕ) (t : NodeTable) (m : Member) : Type
   pub ends_room : length t.own ≤ vec_capacity m.ends
   pub reports_room : length t.own ≤ vec_capacity m.reports
 
--- what a node hears is of items that there are
+-- a node hears only items that exist
 abbrev pub HearsItems : Graph → NodeTable → Type 0
 HearsItems g t = All (λ (row : Row). row.item < item_count g) t.hears
 
--- so are the first nodes, up to a number
+-- the same for the first nodes, up to a number
 pub record AreOpen (g : Graph) (tables : List NodeTable) (number : ℕ) (members : List Member) : Type 0 where
   pub count : length members ≡ number
   pub each : (i : ℕ) (d : Member) → i < number → IsOpen g i (table_at tables i) (get_or members i d)

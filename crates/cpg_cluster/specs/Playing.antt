@@ -21,15 +21,16 @@ pub record Playing : Type 0 where
   pub world : World
   pub cluster : Cluster
 
--- before the first turn
+-- a play before the first turn
 abbrev pub opened : Graph → List NodeTable → World → Playing
 opened g tables w = record { graph = g; tables = tables; world = w; cluster = open_cluster g tables }
 
--- after a node is asked
+-- a play after a node is asked
 abbrev pub stepped : Playing → ℕ → Playing
 stepped p node = record p { cluster = step p.graph p.world p.cluster node }
 
--- a graph within the limits, valid tables that are lawful for it, a lawful world, and a state that some play reaches
+-- the graph is within the limits, the tables are valid and lawful for it, the world is one of it, and some play reaches the
+-- state
 pub record IsPlaying (p : Playing) : Type 0 where
   pub limits : IsWithinLimits p.graph
   pub formed : WellFormed p.graph
@@ -49,7 +50,7 @@ pub record HasLeastInstant (p : Playing) (node : ℕ) : Type 0 where
 abbrev pub HasDoneAll : Playing → ℕ → Type 0
 HasDoneAll p node = (acts : List Act) → IsDue p.graph p.tables p.world.scenario node acts → get_or p.cluster.acts node [] ≡ acts
 
--- the answer of an ask
+-- the answer of a node that is asked
 abbrev pub answer_of : Step → Answer
 answer_of StepTook = Took
 answer_of (StepWaits on) = Waits on

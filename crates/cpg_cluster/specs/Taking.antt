@@ -20,7 +20,7 @@ abbrev pub frames_from : Bool → ℕ → ℕ → ℕ → List Act → List Fram
 frames_from value x slot time acts = map (λ (act : Act). record { item = act.item; column = act.column; value = value })
     (filter (λ (act : Act). (act.item == x) && (act.time + slot == time)) acts)
 
--- what a node's table says of a process of its own is what the graph says
+-- a node's table says of a process of the node what the graph says
 pub record IsOwnOf (g : Graph) (o : Own) : Type 0 where
   pub known : o.process < process_count g
   pub condition : o.condition ≡ condition_of g o.process
@@ -38,7 +38,7 @@ abbrev pub AllFinish : Dispatcher → List (ℕ × Ended) → Type 0
 AllFinish d [] = Unit {0}
 AllFinish d (e ∷ es) = MayFinish d e.0 e.1 × AllFinish (finished d e.1) es
 
--- the dispatcher after them
+-- the dispatcher after these executions have finished
 abbrev pub all_finished : Dispatcher → List (ℕ × Ended) → Dispatcher
 all_finished d es = fold finished d (map {A = ℕ × Ended} {B = Ended} (λ e. e.1) es)
 
