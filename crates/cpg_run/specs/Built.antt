@@ -15,8 +15,8 @@ use Rattle.cpg_run.specs.Finish.{IsWorst, IsExcess}
 use Rattle.cpg_run.specs.Exact.{IsExact}
 use Rattle.cpg_run.specs.Laws.{Keeps}
 
--- the times of the runs in merged rows of at most as many columns as the item has views, under the graph's head; every
--- rule is kept, but for the one on dues where an end is past its due; scenarios are compared by the urgency order
+-- The tables have the times of the runs, in merged rows, and the graph's head. No row has more columns than its item has views.
+-- Every rule is kept, except the one on dues if an end is past its due. Scenarios are compared by the urgency order.
 pub record IsBuiltFor (g : Graph) (urgency order : List ℕ) (b : Built) : Type 0 where
   pub head : b.tables.head ≡ head_of g
   pub shape : HasShape g b.tables.nodes
@@ -31,7 +31,7 @@ pub record IsBuiltFor (g : Graph) (urgency order : List ℕ) (b : Built) : Type 
   pub due : b.excess ≡ 0 → Keeps Rule.Due g b.tables.nodes
   pub hears : (node : ℕ) (t : NodeTable) → slice_get b.tables.nodes node ≡ Some t → t.hears ≡ hear_rows g b.tables.nodes node
 
--- why no tables are built: the item that shows that one is too wide, and want of memory at any time
+-- why no tables are built: the item that shows that one is too wide, or that memory ran out at any point
 abbrev pub ShowsBuildFault : (ℕ → Type 0) → BuildFault → Type 0
 ShowsBuildFault is_shown (TooWide x) = is_shown x
 ShowsBuildFault is_shown OutOfMemory = ⊤

@@ -1,4 +1,4 @@
--- What a builder finds of a graph before it writes the tables, and what it answers then.
+-- What a builder finds about a graph before it writes the tables, and what it then answers.
 use Rattle.std.specs.Prelude.{ℕ, ◌*◌, ◌≡◌, ◌≤◌, ◌<◌, false, All, List, Option, length, map, sum_by}
 use Rattle.cpg_base.specs.Numbers.{numbers_below}
 use Rattle.cpg_base.specs.Graph.{Graph, item_at, item_count}
@@ -21,7 +21,7 @@ use Rattle.cpg_run.specs.Known.{AreEarly}
 abbrev pub columns_of_rows : List Row → List (List Column)
 columns_of_rows rows = map (λ (r : Row). r.columns) rows
 
--- the frozen times, and by number the row of each item, which carries no more than it may
+-- the frozen times, and the row of each item, in numerical order, which carries no more than it may
 pub record AreRowsFound (g : Graph) (urgency order : List ℕ) (frozen : List (Option ℕ)) (rows : List Row) : Type 0 where
   pub frozen_times : AreFrozenTimes g order frozen
   pub early : AreEarly frozen
@@ -35,26 +35,26 @@ pub record AreTablesFound (g : Graph) (urgency order : List ℕ) (rows : List Ro
   pub worst : IsWorst g urgency order b.frozen b.worst b.worst_in b.worst_by
   pub excess : IsExcess g urgency order b.frozen b.excess b.excess_in b.excess_by
 
--- by no reach is an item too wide
+-- no item is too wide, by any reach
 abbrev pub NoneIsTooWide : Graph → List ℕ → Type 0
 NoneIsTooWide g order = (r : Reach) → IsReach g order r → (x : ℕ) → x < item_count g → is_too_wide g r x ≡ false
 
--- rows that have few columns each, and together in all tables
+-- each row has few enough columns, and so have all rows of all tables together
 pub record DoRowsFit (g : Graph) (rows : List Row) : Type 0 where
   pub few : All (λ row. length row.columns ≤ MOST_COLUMNS) rows
   pub loads : sum_by (λ x. length (row_for rows x).columns * rows_of_item g (item_at g x)) (numbers_below (item_count g)) ≤ MOST_LOAD
 
--- such rows fit where nothing is too wide
+-- such rows fit if nothing is too wide
 abbrev pub FoundRowsFit : Type 0
 FoundRowsFit = (g : Graph) (urgency order : List ℕ) (frozen : List (Option ℕ)) (rows : List Row) → IsWithinLimits g → Admitted g urgency order →
     AreRowsFound g urgency order frozen rows → NoneIsTooWide g order → DoRowsFit g rows
 
--- and where they fit they can be written
+-- if they fit, they can be written
 abbrev pub FoundRowsAreWritable : Type 0
 FoundRowsAreWritable = (g : Graph) (urgency order : List ℕ) (frozen : List (Option ℕ)) (rows : List Row) → IsWithinLimits g → Admitted g urgency order →
     AreRowsFound g urgency order frozen rows → DoRowsFit g rows → AreWritable g rows
 
--- and such tables are what a builder answers
+-- and a builder answers with such tables
 abbrev pub FoundTablesAreBuilt : Type 0
 FoundTablesAreBuilt = (g : Graph) (urgency order : List ℕ) (rows : List Row) (b : Built) → IsWithinLimits g → Admitted g urgency order →
     AreTablesFound g urgency order rows b → IsBuiltFor g urgency order b

@@ -12,21 +12,21 @@ use Rattle.cpg_cube.specs.Column.{Column}
 use Rattle.cpg_run.specs.Run.{Times, IsRun}
 use Rattle.cpg_run.specs.Carried.{row_at, carried}
 
--- a cube with the ranges that the literals leave together, on their variables alone
+-- a cube with the ranges that the literals leave together, on no other variables than theirs
 pub record IsCubeOf (k : ℕ) (literals cube : List Literal) : Type 0 where
   pub rising : IsRising cube
   pub spoken : (l : Literal) → Contains cube l → (m : Literal) × Contains literals m × (m.variable ≡ l.variable)
   pub low : (v : ℕ) → low_in cube v ≡ kept_low literals v
   pub high : (v : ℕ) → high_in k cube v ≡ kept_high k literals v
 
--- an entry of an item for a scenario in which it is active: its time there, beside what is carried there
+-- an entry of an item for a scenario in which it is active: its time in that scenario, with what is carried there
 pub record IsEntryIn (g : Graph) (order : List ℕ) (frozen : List (Option ℕ)) (rows : List (List Column)) (x : ℕ) (s : Scenario) (e : Column) : Type 0 where
   pub lawful : IsScenario g s
   pub active : IsTrue (item_active g s.values (item_at g x))
   pub time : (t : Times) → IsRun g order frozen s t → get_or t.times x None ≡ Some e.time
   pub cube : IsCubeOf g.faults (carried g order rows s x) e.cube
 
--- entries of the scenarios that are the least of their cubes: one for each of these
+-- the entries, one for each scenario that is the least of its cube
 pub record AreEntriesOf (g : Graph) (order : List ℕ) (frozen : List (Option ℕ)) (rows : List (List Column)) (x : ℕ) (entries : List Column) : Type 0 where
   pub each : (e : Column) → Contains entries e → IsEntryIn g order frozen rows x (lows g e.cube) e
   pub apart : AllPairs (λ d e. lows g d.cube ≢ lows g e.cube) entries
