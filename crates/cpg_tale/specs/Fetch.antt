@@ -1,7 +1,7 @@
 -- What a shelf gave, fetch by fetch.
 use Rattle.std.specs.Prelude.{ℕ, ◌++◌, ◌||◌, Bool, true, false, List, [], ◌∷◌}
 
--- a fetch: the name, the bytes that reads gave since, whether a read gave none, and whether the fetch or a read failed
+-- a fetch: the name, the bytes that reads have given since, whether a read gave none, and whether the fetch or a read failed
 pub record Fetch : Type 0 where
   pub name : List ℕ
   pub given : List ℕ
@@ -12,21 +12,21 @@ abbrev pub is_none : List ℕ → Bool
 is_none [] = true
 is_none (x ∷ xs) = false
 
--- a history, newest fetch first, after a name is fetched
+-- the history, newest fetch first, after a name is fetched
 abbrev pub fetched : List ℕ → List Fetch → List Fetch
 fetched name past = record { name = name; given = []; ended = false; failed = false } ∷ past
 
--- after bytes are given, none at the end; before the first fetch none are noted
+-- The history after a read, which gives no bytes at the end of the file. Before the first fetch nothing is noted.
 abbrev pub gave : List ℕ → List Fetch → List Fetch
 gave piece [] = []
 gave piece (f ∷ past) = record { name = f.name; given = f.given ++ piece; ended = is_none piece || f.ended; failed = f.failed } ∷ past
 
--- after a call failed
+-- the history after a call failed
 abbrev pub failed : List Fetch → List Fetch
 failed [] = []
 failed (f ∷ past) = record f { failed = true } ∷ past
 
--- the bytes of the newest fetch
+-- the bytes that the newest fetch gave
 abbrev pub newest_given : List Fetch → List ℕ
 newest_given [] = []
 newest_given (f ∷ past) = f.given
