@@ -1,5 +1,5 @@
--- What contracts see of the adapters over files and over a writer: counts, whether a file is open, what the file and the writer
--- tell of their bytes, which those of the machine don't, and what calls gave and took.
+-- What contracts see of the adapters over files and over a writer: counts, whether a file is open, what calls gave and took,
+-- and what the file and the writer report of their bytes, which those of the machine don't.
 use Rattle.std.specs.Prelude.{ℕ, Bool, List, [], Option, Some, None}
 use Rattle.cpg_tale.specs.Fetch.{Fetch}
 use Rattle.cpg_io.specs.State.{ShelfState, SinkState}
@@ -10,12 +10,12 @@ pub record FileShelfState : Type 0 where
   pub faults : ℕ
   pub history : List Fetch
 
--- what is left to read: nothing where no file is open, and else what the file tells
+-- what is left to read: nothing if no file is open, and else what the file reports
 abbrev pub left_in : {File : Type 0} → (File → Option (List ℕ)) → Option File → Option (List ℕ)
 left_in remaining None = Some []
 left_in remaining (Some file) = remaining file
 
--- of what stands under names it tells nothing
+-- the shelf's state, which doesn't report what stands under names
 abbrev pub shelf_of : FileShelfState → ShelfState
 shelf_of s = record { stands = λ _. None; left = s.left; faults = s.faults; history = s.history }
 

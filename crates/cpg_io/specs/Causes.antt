@@ -1,11 +1,11 @@
--- When a fault may be answered: where a count of faults rose in the call.
+-- When a call may answer with a fault: if a count of faults rose during it.
 use Rattle.std.specs.Prelude.{ℕ, ◌+◌, ◌-◌, ◌^◌, ◌≤◌, min, Result, OnErr}
 
--- a count of 64 bits after n more, which stands still at its end
+-- a 64-bit count after n more, which stops at its greatest number
 abbrev pub counted : ℕ → ℕ → ℕ
 counted before n = min (before + n) (2 ^ 64 - 1)
 
--- the count rose in this call, or stands at its end
+-- the count rose during this call, or is at its greatest number
 abbrev pub Rose : ℕ → ℕ → Type 0
 Rose before now = counted before 1 ≤ now
 

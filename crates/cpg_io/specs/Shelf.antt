@@ -1,33 +1,33 @@
--- What a shelf's calls do to what it tells.
+-- How calls change what a shelf reports.
 use Rattle.std.specs.Prelude.{ℕ, ◌≡◌, ◌≤◌, ◌↔◌, ◌⊎◌, Bool, true, false, List, [], ◌∷◌, Option, Some, None, Result, MatchResult, take, ⊤}
 use Rattle.cpg_tale.specs.Fetch.{Fetch, gave, failed}
 use Rattle.cpg_io.specs.Agreement.{AreFetched}
 use Rattle.cpg_io.specs.Causes.{Rose}
 use Rattle.cpg_io.specs.State.{ShelfState}
 
--- after a fetch the bytes that are told of the name are left, from their start
+-- after a fetch, all bytes that the shelf reports for the name are left to read
 abbrev pub StartsAt : Option (List ℕ) → Option (List ℕ) → Type 0
 StartsAt None left = ⊤
 StartsAt (Some bytes) left = left ≡ Some bytes
 
--- what stands under each name is as it was
+-- the shelf reports the same bytes for each name as before
 abbrev pub SameNames : ShelfState → ShelfState → Type 0
 SameNames old new = (name : List ℕ) → new.stands name ≡ old.stands name
 
--- the same names may be fetched
+-- the same names may be fetched as before
 abbrev pub SameLeave : (List ℕ → Type 0) → (List ℕ → Type 0) → Type 0
 SameLeave old new = (name : List ℕ) → old name ↔ new name
 
--- a history after a fetch of a name, which gave nothing so far
+-- the history after a name was fetched, before any bytes were given
 abbrev pub opened : List ℕ → Bool → List Fetch → List Fetch
 opened name fails past = record { name = name; given = []; ended = false; failed = fails } ∷ past
 
--- a read gave the front of the buffer, or failed
+-- a read gave the first bytes of the buffer, or it failed
 abbrev pub HasGiven : {E : Type 0} → List Fetch → List Fetch → Result ℕ E → List ℕ → Type 0
 HasGiven old new result buf = MatchResult result (λ n. new ≡ gave (take n buf) old) (λ _. new ≡ failed old)
 
--- Names stand for what they stood for, and no count fell. Each fetch gave what stands under its name, where the shelf tells that.
--- Where files were fetched, and the last one failed, the count rose.
+-- What names stand for is unchanged, and the count of faults didn't fall. Each fetch gave the bytes of its name, if the shelf
+-- reports them. If files were fetched and the last one failed, the count rose.
 pub record KeepsShelf (old new : ShelfState) : Type 0 where
   pub names : SameNames old new
   pub fetched : AreFetched old new

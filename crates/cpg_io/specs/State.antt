@@ -1,9 +1,9 @@
--- What a shelf and a sink tell, each as one value.
+-- What a shelf and a sink report, each as one value.
 use Rattle.std.specs.Prelude.{ℕ, List, Option, length}
 use Rattle.cpg_tale.specs.Fetch.{Fetch, newest_given}
 
--- the bytes that stand under each name and those that are left of the fetched one, where the shelf tells them, how many faults
--- there were, and all fetches, newest first, with what they gave
+-- The bytes of each name and those that are left of the fetched one, if the shelf reports them; the number of faults; and all
+-- fetches, newest first, with what they gave.
 pub record ShelfState : Type 0 where
   pub stands : List ℕ → Option (List ℕ)
   pub left : Option (List ℕ)
@@ -14,7 +14,7 @@ pub record ShelfState : Type 0 where
 abbrev pub given_count : ShelfState → ℕ
 given_count s = length (newest_given s.history)
 
--- the bytes taken, and how many faults there were
+-- the bytes that were taken, and the number of faults
 pub record SinkState : Type 0 where
   pub taken : List ℕ
   pub faults : ℕ

@@ -15,9 +15,9 @@ use std::io::Read;
 use std::marker::Model;
 use std::rt::Files;
 
-/// A shelf over the runtime's files, where a name is a path. It tells nothing of what stands under a name. What is left
-/// it tells as far as the open file does, which one of the machine doesn't, and that nothing is left where no file is
-/// open. What its reads gave it tells in any case. Every name may be fetched.
+/// A shelf over the runtime's files, whose names are paths. Every name may be fetched. The shelf always reports what its reads
+/// gave, and never what stands under a name. If a file is open, it reports what is left if the file does, which a file of the
+/// machine doesn't; if no file is open, it reports that nothing is left.
 #[derive(Drop)]
 pub struct FileShelf<R: Files> {
     rt: R,

@@ -6,14 +6,14 @@ ghost use Rattle.cpg_io.specs.State.{SinkState};
 
 use crate::Failed;
 
-/// Takes bytes, and counts its faults by 64 bits, where the count stands still at its end.
+/// Takes bytes, and counts its faults in 64 bits; the count stops at its greatest number.
 pub trait Sink {
-    /// The bytes taken, and how many faults there were.
+    /// The bytes that were taken, and the number of faults.
     ghost state: { Self → SinkState };
 
-    /// Takes at least one byte of the front of `piece`, and says how many.
+    /// Takes at least one byte from the front of `piece`, and answers how many.
     ///
-    /// `Failed` only where the count of faults rose. Nothing is taken then.
+    /// `Failed` only if the count of faults rose. Nothing is taken then.
     fn write(&mut self, piece: &[u8]) -> Result<usize, Failed>
         requires { 0 < length piece.now }
         ensures some { IfOk result (λ n. 0 < n) }

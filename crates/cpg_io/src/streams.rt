@@ -10,9 +10,9 @@ use cpg_tale::Taken;
 use std::io::Write;
 use std::marker::Model;
 
-/// A sink over a writer of std, which it flushes after each write. It tells the bytes that a write took and the flush after it
-/// acknowledged. Where a write or its flush fails, the writer may have taken some of that piece all the same: those bytes
-/// the sink doesn't tell.
+/// A sink over a writer of std, which it flushes after each write. It reports the bytes that a write took and the flush after
+/// it acknowledged. If a write or its flush fails, the writer may still have taken some of that piece; the sink doesn't report
+/// those bytes.
 #[derive(Drop)]
 pub struct StreamSink<W: Write> {
     writer: W,
