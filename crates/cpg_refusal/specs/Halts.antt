@@ -1,4 +1,4 @@
--- What a refusal of a layer stops a run with.
+-- The halt of a run, given the refusal of a layer.
 use Rattle.cpg_base.specs.Graph.{Graph}
 use Rattle.cpg_words.specs.declared.fault.WordsFault.{WordsFault}
 use Rattle.cpg_reader.specs.declared.place.ReadFault.{ReadFault}
@@ -10,12 +10,12 @@ use Rattle.cpg_refusal.specs.declared.halt.Refusal.TheVariants.{NotToml, BadFiel
 use Rattle.cpg_refusal.specs.declared.halt.Halt.{Halt}
 use Rattle.cpg_refusal.specs.declared.halt.Halt.TheVariants.{Words, Refused, Memory}
 
--- of the reading of the words
+-- when the words are read
 abbrev pub halt_of_words : WordsFault → Halt
 halt_of_words WordsFault.Bad = Words
 halt_of_words WordsFault.OutOfMemory = Memory
 
--- of the reading of a graph file
+-- when a graph file is read
 abbrev pub halt_of_reading : ReadFault → Halt
 halt_of_reading ReadFault.NotToml = Refused NotToml
 halt_of_reading (ReadFault.BadField place) = Refused (BadField place)
@@ -24,17 +24,17 @@ halt_of_reading (ReadFault.UnknownName place) = Refused (UnknownName place)
 halt_of_reading (ReadFault.OverLimit what) = Refused (OverLimit what)
 halt_of_reading ReadFault.OutOfMemory = Memory
 
--- of the reading of a pack
+-- when a pack is read
 abbrev pub halt_of_pack : PackFault → Halt
 halt_of_pack (PackFault.BadPack length) = Refused (BadPack length)
 halt_of_pack PackFault.OutOfMemory = Memory
 
--- of the reading of a scenario file
+-- when a scenario file is read
 abbrev pub halt_of_scenario : ScenarioFault → Halt
 halt_of_scenario (ScenarioFault.Bad cause) = Refused (BadScenario cause)
 halt_of_scenario ScenarioFault.OutOfMemory = Memory
 
--- of the admission of a graph
+-- when a graph is admitted
 abbrev pub halt_of_rules : Graph → RuleFault → Halt
 halt_of_rules g (RuleFault.Cycle walk) = Refused (Cycle g walk)
 halt_of_rules g RuleFault.TooManyTracks = Refused TooManyTracks
@@ -44,7 +44,7 @@ halt_of_rules g (RuleFault.TooBig e) = Refused (TooBig e)
 halt_of_rules g (RuleFault.BadOrder p) = Refused (BadOrder g p)
 halt_of_rules g RuleFault.OutOfMemory = Memory
 
--- of parts that have no graph together
+-- when parts have no common graph
 abbrev pub halt_of_parts : HyperFault → Halt
 halt_of_parts (HyperFault.Range p) = Refused (NoHypergraph (HyperFault.Range p))
 halt_of_parts (HyperFault.Differ p) = Refused (NoHypergraph (HyperFault.Differ p))

@@ -41,7 +41,7 @@ abbrev pub key_text : Key → List ℕ
 key_text Unknown = codes "unknown"
 key_text key = text_of key
 
--- a table that is a list, and the index of one of its elements; the top has no index
+-- a table that is a list, with the index of one of its elements; the top table has no index
 abbrev pub table_text : Table → ℕ → List ℕ
 table_text Top index = codes "top"
 table_text Node index = codes "node " ++ decimal index
@@ -130,11 +130,11 @@ refused_text refusal = codes "refused " ++ refusal_text refusal
 abbrev pub late_text : Graph → Scenario → ℕ → ℕ → List ℕ
 late_text g s p time = codes "late " ++ decimal time ++ codes " by " ++ case_text g p s
 
--- what starts, is sent or is told: an item, by its number, as a trace says it
+-- an item by its number, in the words of a trace: what is started, sent or broadcast
 abbrev pub item_text : Graph → ℕ → List ℕ
 item_text g x = done_text (labels_of g) (item_at g x)
 
--- the number of a column, or a dash where there is none
+-- the number of a column, or a dash if there is none
 abbrev pub column_text : Option ℕ → List ℕ
 column_text None = codes "-"
 column_text (Some column) = decimal column
@@ -157,11 +157,11 @@ reason_text Memory = codes "memory"
 abbrev pub line_of : Halt → List ℕ
 line_of halt = codes "cpgc: " ++ reason_text halt ++ codes "\n"
 
--- the line on `err` where `out` met a fault
+-- the line on `err` when `out` met a fault
 abbrev pub write_fault_line : List ℕ
 write_fault_line = codes "cpgc: write fault\n"
 
--- What a line names is there: a scenario has the graph's lengths, and an item is one of its items.
+-- What a line names exists: a scenario has the graph's lengths, and an item is one of the graph's.
 
 abbrev pub IsNamedRefusal : Refusal → Type 0
 IsNamedRefusal (TwoAlternatives g p s) = HasRoom g s
