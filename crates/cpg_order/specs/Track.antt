@@ -1,4 +1,4 @@
--- Tracks: the ways through the conditions, each told by one outcome.
+-- Tracks: the ways through the conditions. Each is represented by one outcome.
 use Rattle.std.specs.Prelude.{ℕ, Bool, false, not, ◌||◌, ◌&&◌, List, filter, get_or, length, IsTrue, IsPermutation, AllPairs}
 use Rattle.std.specs.List.{list_all, list_any}
 use Rattle.cpg_base.specs.Numbers.{numbers_below}
@@ -7,7 +7,7 @@ use Rattle.cpg_base.specs.declared.limits.TheConstants.{MOST_TRACKS}
 use Rattle.cpg_base.specs.Activity.{active}
 use Rattle.cpg_order.specs.Deciding.{outcomes, agree_on, earlier_conditions}
 
--- an outcome whose inactive conditions are false
+-- whether all inactive conditions of an outcome are false
 abbrev pub is_track : Graph → List Bool → Bool
 is_track g o = list_all (λ c. not (get_or o c false) || active g o (process_of g c)) (numbers_below (condition_count g))
 
@@ -15,7 +15,7 @@ is_track g o = list_all (λ c. not (get_or o c false) || active g o (process_of 
 abbrev pub track_count : Graph → ℕ
 track_count g = length (filter (is_track g) (outcomes (condition_count g)))
 
--- the most tracks of a graph that is taken
+-- the most tracks that an admitted graph may have
 abbrev pub most_tracks : ℕ
 most_tracks = MOST_TRACKS
 
@@ -24,7 +24,7 @@ abbrev pub is_outcome_before : Graph → List Bool → List Bool → Bool
 is_outcome_before g o p = list_any
     (λ c. not (get_or o c false) && get_or p c false && agree_on (earlier_conditions g c) o p) (numbers_below (condition_count g))
 
--- every track once, in order
+-- each track once, in order
 pub record AreTracks (g : Graph) (tracks : List (List Bool)) : Type 0 where
   pub all : IsPermutation (filter (is_track g) (outcomes (condition_count g))) tracks
   pub in_order : AllPairs (λ o p. IsTrue (is_outcome_before g o p)) tracks
