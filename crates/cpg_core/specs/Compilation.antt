@@ -1,4 +1,4 @@
--- What a compile answers: tables of the compile's order, or why there are none.
+-- What a compile answers: tables for the compile's order, or why there are none.
 use Rattle.std.specs.Prelude.{ℕ, ◌≡◌, ◌≢◌, ◌⊎◌, List, None, ⊤}
 use Rattle.cpg_base.specs.Graph.{Graph}
 use Rattle.cpg_order.specs.Urgency.{IsTopological, first_order}
@@ -16,8 +16,8 @@ use Rattle.cpg_reach.specs.Wide.{IsWide, IsNarrow, IsLeastWide}
 use Rattle.cpg_tracks.specs.Tracks.{HasTrackOrder, HasManyTracks}
 use Rattle.cpg_core.specs.Compiled.{IsCompiled, IsLate, IsShownLate, IsBetter, IsPreferred, IsHelpless}
 
--- the tables of the compile's order: exact, valid by all ten rules, with their greatest finish; no row has too many columns, nor all
--- rows together, and nothing is late; and no node knows more than it has seen
+-- The tables for the compile's order are exact and keep all ten rules, and `c` has their greatest finish. No row has too many
+-- columns, nor have all rows together. Nothing is late, and no node knows more than it has seen.
 pub record IsCompilation (g : Graph) (urgency : List ℕ) (c : Compiled) : Type 0 where
   pub compiled : IsCompiled g urgency c.order
   pub built : IsBuiltFor g urgency c.order c.built
@@ -26,7 +26,8 @@ pub record IsCompilation (g : Graph) (urgency : List ℕ) (c : Compiled) : Type 
   pub fit : DoTablesFit g c.built.tables.nodes
   pub local : KnowLocally g c.built.tables.nodes
 
--- what is made under the order that a graph gives is too large: a tree on the way to its rows, or, if nothing is late, its rows
+-- What is made under the order that a graph gives is too large: a tree on the way to its rows, or, if nothing is late, the
+-- rows.
 pub record HasWideRows (g : Graph) (urgency order : List ℕ) : Type 0 where
   pub grown : Grown
   pub is : IsGrownFor g urgency order grown
@@ -36,16 +37,17 @@ pub record HasWideRows (g : Graph) (urgency order : List ℕ) : Type 0 where
 abbrev pub IsTooLarge : Graph → List ℕ → List ℕ → Type 0
 IsTooLarge g urgency order = HasLargeTree g urgency order ⊎ HasWideRows g urgency order
 
--- what a fault shows: the first item that is too wide by its views under the first order, and, if the graph gives that order, that what is
--- made is too large; or that the graph is late, and the scenario, the process and its end of the greatest excess under that order
+-- What a fault of a compile means. Either it is the first item that is too wide by its views under the first order, and, if the
+-- graph gives that order, what is made is too large. Or the graph is late, and the fault is the scenario, the process and the
+-- end of the greatest excess under that order.
 abbrev pub ShowsCompileFault : Graph → List ℕ → CompileFault → Type 0
 ShowsCompileFault g urgency (TooWide x) = IsLeastWide g (first_order g urgency) x × (g.order ≢ None → IsTooLarge g urgency (first_order g urgency))
 ShowsCompileFault g urgency (Late scenario process finish) = IsLate g urgency × IsShownLate g urgency scenario process finish
 ShowsCompileFault g urgency OutOfMemory = ⊤
 
--- ---- on the way
+-- ---- steps of the compile
 
--- what is found under the track order of a graph that gives none, under which nothing is too wide
+-- what is found under the track order, if the graph gives no order and nothing is too wide under this one
 pub record IsTracked (g : Graph) (urgency : List ℕ) (t : Grown) : Type 0 where
   pub ungiven : g.order ≡ None
   pub track : HasTrackOrder g t.order
@@ -53,21 +55,21 @@ pub record IsTracked (g : Graph) (urgency : List ℕ) (t : Grown) : Type 0 where
   pub narrow : IsNarrow g t.order
   pub grown : IsGrownFor g urgency t.order t
 
--- the graph gives an order, or there is no track order, or an item is too wide under it
+-- the graph gives an order, or it has no track order, or an item is too wide under the track order
 abbrev pub HasNoTables : Graph → Type 0
 HasNoTables g = (g.order ≢ None) ⊎ (HasManyTracks g ⊎ ((order : List ℕ) × HasTrackOrder g order × (x : ℕ) × IsWide g order x))
 
--- it is better than the first order
+-- what is found under the track order is better than under the first order
 pub record IsPreferredTo (g : Graph) (urgency : List ℕ) (first : Grown) (t : Grown) : Type 0 where
   pub tracked : IsTracked g urgency t
   pub better : IsBetter t.excess.time t.worst.time first.excess.time first.worst.time
 
--- no order is preferred to the first order, and none helps if that is late
+-- no order is preferred to the first order; if the first is late, no other helps
 pub record HasNoBetter (g : Graph) (urgency : List ℕ) (first : Grown) : Type 0 where
   pub none : (other : List ℕ) → IsPreferred g urgency other → ⊥
   pub late : IsHelpless g urgency ⊎ (first.excess.time ≡ 0)
 
--- the tables of what is found under an order
+-- the tables of what was found under an order
 pub record IsMadeOf (g : Graph) (urgency : List ℕ) (grown : Grown) (c : Compiled) : Type 0 where
   pub order : c.order ≡ grown.order
   pub built : IsBuiltFor g urgency grown.order c.built
