@@ -7,12 +7,12 @@ use Rattle.cpg_run.specs.Frozen.{AreFrozenTimes}
 use Rattle.cpg_expand.specs.Grown.{IsGrown}
 use Rattle.cpg_expand.specs.declared.expanding.Grown.{Grown}
 
--- the least item that is too wide under an order, where there is one
+-- the least item that is too wide under an order, if there is one
 abbrev pub IsWidth : Graph → List ℕ → Option ℕ → Type 0
 IsWidth g order None = IsNarrow g order
 IsWidth g order (Some x) = IsLeastWide g order x
 
--- the trees of all processes under the order, which tell its runs, and how good it is
+-- the trees of all processes under the order, which give its runs, with its excess and its finish
 pub record IsGrownFor (g : Graph) (urgency order : List ℕ) (grown : Grown) : Type 0 where
   pub same : grown.order ≡ order
   pub wide : IsWidth g order grown.wide

@@ -16,6 +16,6 @@ pub record IsMeasured (g : Graph) (urgency order : List ℕ) (excess worst : ℕ
   pub worst_by : Option ℕ
   pub is_worst : IsWorst g urgency order frozen worst worst_in worst_by
 
--- less excess, or as much and an earlier finish
+-- less excess, or the same excess and an earlier finish
 abbrev pub IsBetter : (excess worst : ℕ) → (other_excess other_worst : ℕ) → Type 0
 IsBetter e w f v = (e < f) ⊎ ((e ≡ f) × (w < v))

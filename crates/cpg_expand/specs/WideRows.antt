@@ -1,4 +1,4 @@
--- Rows of trees that are too many columns: one alone, or those of the first items together.
+-- Rows of trees that have too many columns: one row alone, or the rows of the first items together.
 use Rattle.std.specs.Prelude.{ℕ, ◌+◌, ◌*◌, ◌≡◌, ◌≤◌, ◌<◌, ◌⊎◌, List, Option, Some, None, All, get_or, length, sum_by}
 use Rattle.cpg_base.specs.Graph.{Graph, item_at, item_count}
 use Rattle.cpg_base.specs.Numbers.{numbers_below}
@@ -10,11 +10,11 @@ use Rattle.cpg_tree.specs.Tree.{TreeState}
 use Rattle.cpg_expand.specs.Forest.{no_tree}
 use Rattle.cpg_expand.specs.MadeRows.{AreFirstRows, IsRowOf}
 
--- how many columns an item's row takes in all tables
+-- how many columns an item's row has in all tables together
 abbrev pub row_load : Graph → List Row → ℕ → ℕ
 row_load g rows x = length (row_for rows x).columns * rows_of_item g (item_at g x)
 
--- and those of the first n items
+-- how many columns the rows of the first n items have in all tables together
 abbrev pub rows_load : Graph → List Row → ℕ → ℕ
 rows_load g rows n = sum_by (row_load g rows) (numbers_below n)
 
@@ -26,7 +26,7 @@ pub record IsWideRow (g : Graph) (urgency : List ℕ) (times : List (TreeState (
   pub made : IsRowOf g urgency (get_or times item (no_tree g.faults)) item row
   pub many : MOST_COLUMNS < length row.columns
 
--- the rows of the first items have too many
+-- the rows of the first items have too many columns together
 pub record AreWideRows (g : Graph) (urgency : List ℕ) (times : List (TreeState (Option ℕ))) : Type 0 where
   pub count : ℕ
   pub within : count ≤ item_count g
@@ -37,9 +37,10 @@ pub record AreWideRows (g : Graph) (urgency : List ℕ) (times : List (TreeState
 abbrev pub HaveWideRows : Graph → List ℕ → List (TreeState (Option ℕ)) → Type 0
 HaveWideRows g urgency times = IsWideRow g urgency times ⊎ AreWideRows g urgency times
 
--- ---- those that aren't
+-- ---- rows within the limits
 
--- the rows of the first n items are within the limits, with their columns in all tables; or no item is to be named
+-- The rows of the first n items are within the limits, and `load` counts their columns in all tables. If there is no item,
+-- nothing is required.
 pub record AreFewSoFar (g : Graph) (rows : List Row) (n load : ℕ) : Type 0 where
   pub few : All (λ row. length row.columns ≤ MOST_COLUMNS) rows
   pub is : load ≡ rows_load g rows n
@@ -49,7 +50,7 @@ abbrev pub AreFewIf : Option ℕ → Graph → List Row → ℕ → ℕ → Type
 AreFewIf None g rows n load = Unit {0}
 AreFewIf (Some item) g rows n load = AreFewSoFar g rows n load
 
--- and a row more is
+-- one more row is within the limits, and `after` counts its columns too; if there is no item, nothing is required
 pub record IsLoadWith (g : Graph) (row : Row) (x before after : ℕ) : Type 0 where
   pub few : length row.columns ≤ MOST_COLUMNS
   pub is : after ≡ before + length row.columns * rows_of_item g (item_at g x)
@@ -59,7 +60,7 @@ abbrev pub IsLoadIf : Option ℕ → Graph → Row → ℕ → ℕ → ℕ → T
 IsLoadIf None g row x before after = Unit {0}
 IsLoadIf (Some item) g row x before after = IsLoadWith g row x before after
 
--- tables whose rows have few columns each, and together in all tables
+-- each row of the tables has few enough columns, and so have all rows of all tables together
 pub record DoTablesFit (g : Graph) (nodes : List NodeTable) : Type 0 where
   pub few : (x : ℕ) → x < item_count g → length (columns_of nodes x) ≤ MOST_COLUMNS
   pub loads : sum_by (λ x. length (columns_of nodes x) * rows_of_item g (item_at g x)) (numbers_below (item_count g)) ≤ MOST_LOAD
