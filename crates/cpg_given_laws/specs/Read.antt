@@ -1,4 +1,4 @@
--- What a graph file says once the names of an order are put into it, at the key `order`.
+-- What a graph file says when the names of an order are put into it, at the key `order`.
 use Rattle.std.specs.Prelude.{ℕ, ◌≡◌, List, Ok, codes, map}
 use Rattle.toml.specs.Data.{Data, Members, array, string}
 use Rattle.toml.specs.View.{items_of}
@@ -9,15 +9,15 @@ use Rattle.cpg_reader.specs.Document.{document_of, problem_of}
 use Rattle.cpg_reader.specs.WrittenTree.{with_member}
 use Rattle.cpg_given_laws.specs.Kept.{with_order}
 
--- the names of the processes along an order, as `show` prints them, as an array of a document
+-- the names of the processes along an order, as `show` prints them, in an array of a document
 abbrev pub names_along : Graph → List ℕ → Data
 names_along g order = array (items_of (map (λ p. string (process_name (labels_of g) p)) order))
 
--- a document with these names at its key `order`, and all else as it is
+-- a document with these names at its key `order`, and otherwise unchanged
 abbrev pub with_key : Graph → List ℕ → Members → Members
 with_key g order ms = with_member (codes "order") (names_along g order) ms
 
--- A file says a graph. A file whose document is the same but for this key says the graph that gives the order.
+-- If a file says a graph, a file whose document is the same but for this key says the graph that gives the order.
 abbrev pub GivenOrdersAreRead : Type 0
 GivenOrdersAreRead = (bytes new : List ℕ) (ms : Members) (g : Graph) (order : List ℕ) → document_of bytes ≡ Ok ms → problem_of bytes ≡ Ok g →
     IsOrderWithin (process_count g) order → document_of new ≡ Ok (with_key g order ms) → problem_of new ≡ Ok (with_order g order)

@@ -1,21 +1,22 @@
-//! Laws on the order that a graph gives by the key `order`: the order that a compile took, once it is given, keeps the tables as they are.
+//! Laws on the order that a graph gives at the key `order`: if it gives the order that a compile took, the tables stay as they
+//! are.
 #![tactic(auto)]
 
 ghost use Rattle.cpg_given_laws.specs.Kept.{GivenOrdersKeepMeasures, GivenOrdersKeepTables};
 ghost use Rattle.cpg_given_laws.specs.Read.{GivenOrdersAreRead};
 ghost use Rattle.cpg_given_laws.specs.Without.{NothingChangesWithoutTheKey};
 
-/// A graph that is given the order of its tables is compiled under that order, and to tables that ask the same in every scenario.
+/// If a graph gives the order of its tables, it is compiled under that order, and its tables ask the same in every scenario.
 pub fn given_orders_keep_tables()
     ensures { GivenOrdersKeepTables }
 {}
 
-/// A graph is as late under an order, and in the same way, whatever order it gives.
+/// How late a graph is under an order, and in what way, doesn't depend on the order that it gives.
 pub fn given_orders_keep_measures()
     ensures { GivenOrdersKeepMeasures }
 {}
 
-/// A graph file into which the names of an order are put, at the key `order`, says the same graph with that order given.
+/// If the names of an order are put into a graph file, at the key `order`, the file says the same graph with that order.
 pub fn given_orders_are_read()
     ensures { GivenOrdersAreRead }
 {}
