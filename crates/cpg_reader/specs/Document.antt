@@ -14,17 +14,17 @@ abbrev pub members_if : Option Members → Reading Members
 members_if None = Err NotToml
 members_if (Some ms) = pure ms
 
--- the table that the bytes are, where they are UTF-8 and a document
+-- the table that the bytes spell, if they are UTF-8 and a document
 unfoldable pub document_of : List ℕ → Reading Members
 document_of bytes = members_if (if is_utf8 bytes then parse_document bytes else None)
 
--- the graph of a table: its keys and types are looked at first, then its limits, then its names
+-- The graph of a table. Its keys and types are checked first, then its limits, and then its names.
 unfoldable pub problem_at : Members → Reading Graph
 problem_at ms = do
   g ← raw_graph_at ms
   limits g
   graph_of g
 
--- the graph that the bytes of a file say, or the first refusal
+-- the graph that a file's bytes say, or their first refusal
 unfoldable pub problem_of : List ℕ → Reading Graph
 problem_of bytes = document_of bytes >>= problem_at

@@ -1,4 +1,4 @@
--- Reading, step by step: each step gives a value or the refusal of the document.
+-- Reading, step by step. Each step gives a value or rejects the document.
 use Rattle.std.specs.Prelude.{◌≡◌, ℕ, ◌+◌, List, [], ◌∷◌, Result, Ok, Err}
 use Rattle.cpg_reader.specs.declared.place.ReadFault.{ReadFault}
 use Rattle.cpg_reader.specs.declared.place.ReadFault.TheVariants.{NotToml, BadField, DoubleName, UnknownName, OverLimit, OutOfMemory}
@@ -12,7 +12,7 @@ pure x = Ok x
 abbrev pub done : Reading (Unit {0})
 done = Ok tt
 
--- a step and the next one, which isn't taken where the first refuses
+-- a step and the next one, which isn't taken if the first rejects the document
 infixl 10 ◌>>=◌
 abbrev pub ◌>>=◌ : {T U : Type 0} → Reading T → (T → Reading U) → Reading U
 (Ok x >>= next) = next x
@@ -31,7 +31,7 @@ each step i (x ∷ xs) = do
   ys ← each step (i + 1) xs
   pure (y ∷ ys)
 
--- what code answers whose only other refusal is want of memory
+-- the answer of code that may also be out of memory
 abbrev pub Refuses : {T : Type 0} → ReadFault → Reading T → Type 0
 Refuses NotToml reading = reading ≡ Err NotToml
 Refuses (BadField place) reading = reading ≡ Err (BadField place)
