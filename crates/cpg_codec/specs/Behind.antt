@@ -1,11 +1,11 @@
--- What stands in a head behind the names of the nodes.
+-- What comes in a head after the names of the nodes.
 use Rattle.std.specs.Prelude.{ℕ, List}
 use Rattle.cpg_base.specs.declared.limits.TheConstants.{MOST_PROCESSES, MOST_EDGES}
 use Rattle.cpg_head.specs.Head.{Head}
 use Rattle.cpg_codec.specs.Reading.{Reader, pure, ◌>>=◌, number_at, within, times_at}
 use Rattle.cpg_codec.specs.Grammar.{small_at, limit, processes_at, edge_at, head_from}
 
--- the processes and the edges, behind so many nodes of these names
+-- the processes and the edges, after the names of the nodes
 unfoldable pub behind_names : ℕ → ℕ → ℕ → List (List ℕ) → Reader Head
 behind_names version faults nodes names = do
   count ← small_at 0 (limit nodes MOST_PROCESSES)

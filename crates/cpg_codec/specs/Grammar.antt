@@ -1,4 +1,4 @@
--- The fields of a pack, each with the bytes that may stand there.
+-- The fields of a pack, and the bytes that each may have.
 use Rattle.std.specs.Prelude.{ℕ, zero, suc, ◌≤◌, ◌+◌, ◌-◌, min, max, List, [], ◌∷◌, ◌++◌, length, map, take, drop, Bool, ◌&&◌, ◌||◌, Option, Some, None, Result, Ok, Err, nat_lt, nat_le, ◌==◌, if◌then◌else◌}
 use Rattle.std.specs.List.{flat_map}
 use Rattle.cpg_base.specs.Name.{is_name_byte}
@@ -36,7 +36,7 @@ own_at = do
   number ← number_at 8 own_may
   pure (if number == 18446744073709551615 then None else Some number)
 
--- version 2 alone has it
+-- only version 2 has this
 unfoldable pub extra_at : ℕ → Reader (Option Extra)
 extra_at version = if version == 2
     then (do
@@ -45,7 +45,7 @@ extra_at version = if version == 2
       pure (Some (record { release = release; deadline = deadline })))
     else pure None
 
--- the node of a process, and 1 where it has a condition; `ones` processes before have one
+-- the node of a process, and 1 if it has a condition; `ones` is how many processes before it have one
 unfoldable pub place_at : ℕ → ℕ → Reader (ℕ × ℕ)
 place_at nodes ones = do
   node ← small_at 0 (nodes - 1)
@@ -70,17 +70,17 @@ edge_at processes = do
   to ← small_at 0 (processes - 1)
   pure (from, to)
 
--- none where there is none below
+-- the most, or none if there are none of what it refers to
 abbrev pub limit : ℕ → ℕ → ℕ
 limit zero most = 0
 limit (suc below) most = most
 
--- what version 2 says of a process, as a list
+-- what version 2 adds for a process, as a list
 abbrev pub listed : Option Extra → List Extra
 listed None = []
 listed (Some e) = e ∷ []
 
--- the head of these parts
+-- the head with these parts
 abbrev pub head_from : ℕ → ℕ → List (List ℕ) → List Written → List (ℕ × ℕ) → Head
 head_from version faults nodes ws edges = record {
   faults = faults;

@@ -1,17 +1,17 @@
--- Packs: the spellings of lawful tables, and what holds of them.
+-- Packs: the spellings of lawful tables, and the laws on them.
 use Rattle.std.specs.Prelude.{◌≡◌, ℕ, ◌+◌, ◌<◌, ◌≤◌, List, [], ◌++◌, length, take, All}
 use Rattle.cpg_base.specs.Name.{IsName}
 use Rattle.cpg_head.specs.Head.{Head, IsHead}
 use Rattle.cpg_table.specs.Lawful.{Tables, AreTablesOf}
 use Rattle.cpg_codec.specs.Spelling.{spelling}
 
--- a head within its limits, whose names are names
+-- a head is within its limits, and its names are well-formed
 pub record IsPackHead (h : Head) : Type 0 where
   pub within : IsHead h
   pub nodes : All IsName h.nodes
   pub processes : All (λ p. IsName p.name) h.processes
 
--- such a head, with the tables of its nodes
+-- the tables have such a head, and a table for each of its nodes
 pub record AreLawful (t : Tables) : Type 0 where
   pub head : IsPackHead t.head
   pub nodes : AreTablesOf t.head t.nodes
@@ -20,7 +20,7 @@ pub record AreLawful (t : Tables) : Type 0 where
 abbrev pub BeginsPack : List ℕ → Type 0
 BeginsPack front = (t : Tables) × (rest : List ℕ) × AreLawful t × (spelling t ≡ front ++ rest)
 
--- the bytes are no pack, and the first n of them are the longest front that some pack begins with
+-- the bytes are no pack, and the first n of them are the longest prefix with which some pack begins
 pub record IsBadPack (bytes : List ℕ) (n : ℕ) : Type 0 where
   pub place : n ≤ length bytes
   pub goes_on : BeginsPack (take n bytes)

@@ -23,7 +23,7 @@ bit b = if b then 1 else 0
 abbrev pub name_bytes : List ℕ → List ℕ
 name_bytes text = byte (length text) ++ text
 
--- no own deadline is eight bytes ff
+-- a process without a deadline of its own has eight bytes ff
 abbrev pub own_number : Option ℕ → ℕ
 own_number None = 18446744073709551615
 own_number (Some d) = d
@@ -32,7 +32,7 @@ abbrev pub extra_bytes : Option Extra → List ℕ
 extra_bytes None = []
 extra_bytes (Some e) = to_be_bytes w64 e.release ++ to_be_bytes w64 (own_number e.deadline)
 
--- a process with what version 2 says of it
+-- a process, with what version 2 adds to it
 pub record Written : Type 0 where
   pub process : HeadProcess
   pub extra : Option Extra
@@ -40,7 +40,7 @@ pub record Written : Type 0 where
 abbrev pub written_with : HeadProcess → Option Extra → Written
 written_with p o = record { process = p; extra = o }
 
--- processes, each with its part of a list that may be too short
+-- processes, each with its element of a list, which may be too short
 abbrev pub written_by : List HeadProcess → List Extra → List Written
 written_by [] es = []
 written_by (p ∷ ps) [] = record { process = p; extra = None } ∷ written_by ps []
@@ -73,7 +73,7 @@ column_bytes c = to_be_bytes w64 c.time ++ byte (length c.cube) ++ flat_map lite
 abbrev pub row_bytes : Row → List ℕ
 row_bytes r = to_be_bytes w16 (length r.columns) ++ flat_map column_bytes r.columns
 
--- the rows of what a node starts, then of what it sends, then of what it hears
+-- the rows of a node: of what it starts, then of what it sends, then of what it hears
 abbrev pub table_bytes : NodeTable → List ℕ
 table_bytes t = flat_map row_bytes (rows_of t)
 
