@@ -1,5 +1,5 @@
--- When a run stops for a reason: what is then true of the words and of what the shelf tells, as the contract of a run said it
--- while it spoke of what stands under a name.
+-- Why a run stops, and what is then true of its words and of what its shelf reports. This is as an earlier contract of a run
+-- said it, which was stated over what stands under a name.
 use Rattle.std.specs.Prelude.{ℕ, ◌≡◌, ◌≢◌, ◌<◌, ◌≤◌, ◌+◌, ◌⊎◌, List, [], ◌∷◌, Option, Some, None, IfSome, Ok, Err, length, take, get_or, ⊤}
 use Rattle.cpg_base.specs.Graph.{Graph}
 use Rattle.cpg_io.specs.Causes.{Rose}
@@ -35,15 +35,15 @@ use Rattle.cpg_inputs.specs.Halts.{halt_of_log}
 use Rattle.cpg_inputs.specs.Says.{BreaksRule}
 use Rattle.cpg_app.specs.Causes.{IsUncompiled, IsOtherGraph, IsUnsafe, IsNotUnrolled, first_named}
 
--- what a run sees of its shelf: what stands under each name, how many bytes the last fetched name gave, and the count
--- of faults before and after
+-- What a run sees of its shelf: what stands under each name, how many bytes the last fetch gave, and the count of faults before
+-- and after.
 pub record Seen : Type 0 where
   pub stands : Text → Option Text
   pub given : ℕ
   pub before : ℕ
   pub now : ℕ
 
--- by its states before and after
+-- the same, from the shelf's states before and after
 abbrev pub seen : ShelfState → ShelfState → Seen
 seen old new = record { stands = old.stands; given = given_count new; before = old.faults; now = new.faults }
 
@@ -60,15 +60,15 @@ SCENARIO_LIMIT = limit_of ScenarioFile
 abbrev pub LOG_LIMIT : ℕ
 LOG_LIMIT = limit_of LogFile
 
--- a file, where the shelf tells its bytes, has so many at most
+-- if the shelf reports the bytes of a file, there are no more than the limit
 abbrev pub IsShort : ℕ → Option Text → Type 0
 IsShort limit told = IfSome told (λ bytes. length bytes ≤ limit)
 
--- the bytes of a graph file, where the shelf tells them, are those of a graph
+-- if the shelf reports the bytes of a graph file, they say the graph
 abbrev pub Says : Option Text → Graph → Type 0
 Says told g = IsShort GRAPH_LIMIT told × IfSome told (λ bytes. problem_of bytes ≡ Ok g)
 
--- and the graph keeps all rules, with its urgency order and its guards
+-- the file says the graph, which keeps all rules, with its urgency order and its guards
 pub record Admits (told : Option Text) (a : Admission) : Type 0 where
   pub says : Says told a.graph
   pub admitted : IsAdmitted a.graph a.order a.guards
@@ -78,21 +78,21 @@ pub record IsUnread (seen : Seen) (halt : Halt) : Type 0 where
   pub halt_is : halt ≡ Read
   pub rose : Rose seen.before seen.now
 
--- a file gave more bytes than the limit, by one
+-- a file gave one byte more than the limit
 pub record IsLong (limit : ℕ) (refusal : Refusal) (seen : Seen) (told : Option Text) (halt : Halt) : Type 0 where
   pub halt_is : halt ≡ Refused refusal
   pub given : limit < seen.given
   pub most : seen.given ≤ limit + 1
   pub long : IfSome told (λ bytes. limit < length bytes)
 
--- its bytes, no more than the limit, are those of no graph, and this is the first refusal of them
+-- the bytes of a file within the limit say no graph, and this is the first fault
 pub record IsFaulty (seen : Seen) (told : Option Text) (halt : Halt) : Type 0 where
   pub fault : ReadFault
   pub halt_is : halt ≡ halt_of_reading fault
   pub within : fault ≢ ReadFault.OutOfMemory → seen.given ≤ GRAPH_LIMIT
   pub first : fault ≢ ReadFault.OutOfMemory → IsShort GRAPH_LIMIT told × IfSome told (λ bytes. problem_of bytes ≡ Err fault)
 
--- something stops a run after a file was read, which gave no more bytes than its limit
+-- something stops a run after a file was read that gave no more bytes than its limit
 pub record IsAfterReading {T : Type 0} (given limit : ℕ) (Stops : T → Halt → Type 0) (x : T) (halt : Halt) : Type 0 where
   pub stops : Stops x halt
   pub within : given ≤ limit
@@ -100,21 +100,21 @@ pub record IsAfterReading {T : Type 0} (given limit : ℕ) (Stops : T → Halt �
 abbrev pub StopsReading : Seen → Option Text → Halt → Type 0
 StopsReading seen told halt = IsUnread seen halt ⊎ (IsLong GRAPH_LIMIT LongGraph seen told halt ⊎ IsFaulty seen told halt)
 
--- a graph file isn't admitted: as it is read, or by a rule
+-- a graph file isn't admitted: its reading stops, or the graph breaks a rule
 abbrev pub StopsAdmission : Seen → Option Text → Halt → Type 0
 StopsAdmission seen told halt = StopsReading seen told halt ⊎ ((g : Graph) × Says told g × IsAfterReading seen.given GRAPH_LIMIT BreaksRule g halt)
 
--- a graph file stops a run: it isn't admitted, or what the command does with the admitted graph stops it
+-- a graph file stops a run: it isn't admitted, or the command's work on the admitted graph stops
 abbrev pub StopsGraph : Seen → Option Text → (Admission → Halt → Type 0) → Halt → Type 0
 StopsGraph seen told work halt = StopsAdmission seen told halt ⊎ ((a : Admission) × Admits told a × work a halt)
 
--- the bytes of a pack, where the shelf tells them, spell tables
+-- if the shelf reports the bytes of a pack, they spell the tables
 pub record Spells (told : Option Text) (t : Tables) : Type 0 where
   pub lawful : AreLawful t
   pub short : IsShort PACK_LIMIT told
   pub spelled : IfSome told (λ bytes. bytes ≡ spelling t)
 
--- they spell none
+-- the bytes of a pack spell no tables
 abbrev pub ShowsPackFault : Option Text → PackFault → Type 0
 ShowsPackFault told (PackFault.BadPack n) = IsShort PACK_LIMIT told × IfSome told (λ bytes. IsBadPack bytes n)
 ShowsPackFault told PackFault.OutOfMemory = ⊤
@@ -128,19 +128,19 @@ pub record IsNoPack (seen : Seen) (told : Option Text) (halt : Halt) : Type 0 wh
 abbrev pub StopsPack : Seen → Option Text → Halt → Type 0
 StopsPack seen told halt = IsUnread seen halt ⊎ (IsLong PACK_LIMIT LongPack seen told halt ⊎ IsNoPack seen told halt)
 
--- a pack stops a run: its bytes spell no tables, or what the command does with them stops it
+-- a pack stops a run: its bytes spell no tables, or the command's work on the tables stops
 abbrev pub StopsTables : Seen → Option Text → (Tables → Halt → Type 0) → Halt → Type 0
 StopsTables seen told work halt = StopsPack seen told halt ⊎ ((t : Tables) × Spells told t × work t halt)
 
--- to check tables for a graph
+-- why a check of tables for a graph stops
 abbrev pub StopsVerdict : Admission → Tables → Halt → Type 0
 StopsVerdict a t halt = IsOtherGraph a t halt ⊎ (IsUnsafe a t halt ⊎ (halt ≡ Memory))
 
--- the bytes of a scenario file, where the shelf tells them, say a scenario of the graph and lengths
+-- if the shelf reports the bytes of a scenario file, they say this scenario of the graph, and lengths
 abbrev pub SaysPlayed : Option Text → Graph → Played → Type 0
 SaysPlayed told g p = IsShort SCENARIO_LIMIT told × IfSome told (λ bytes. file_of g bytes ≡ Ok p)
 
--- they say none, and this is the first cause
+-- the bytes say no scenario of the graph, and this is the first cause
 pub record IsNoScenario (seen : Seen) (told : Option Text) (g : Graph) (halt : Halt) : Type 0 where
   pub fault : ScenarioFault
   pub halt_is : halt ≡ halt_of_scenario fault
@@ -150,16 +150,16 @@ pub record IsNoScenario (seen : Seen) (told : Option Text) (g : Graph) (halt : H
 abbrev pub StopsPlayed : Seen → Option Text → Graph → Halt → Type 0
 StopsPlayed seen told g halt = IsUnread seen halt ⊎ (IsLong SCENARIO_LIMIT LongScenario seen told halt ⊎ IsNoScenario seen told g halt)
 
--- a scenario file stops a run: as it is read, or by the check that comes before its play
+-- a scenario file stops a run: its reading stops, or the check before its play does
 abbrev pub StopsPlay : Seen → Option Text → Admission → Tables → Halt → Type 0
 StopsPlay seen told a t halt = StopsPlayed seen told a.graph halt ⊎ ((p : Played) × SaysPlayed told a.graph p ×
     IsAfterReading seen.given SCENARIO_LIMIT (StopsVerdict a) t halt)
 
--- the bytes of a log, where the shelf tells them, are those of a log of the graph
+-- if the shelf reports the bytes of a log, they are this log of the graph
 abbrev pub SaysLog : Option Text → Graph → Log → Type 0
 SaysLog told g log = IsShort LOG_LIMIT told × IfSome told (λ bytes. IsLogOf g bytes log)
 
--- they are those of none, and this is the first line that makes them so
+-- the bytes are no log of the graph, and this is the first line to blame
 abbrev pub ShowsLogFault : Option Text → Graph → LogFault → Type 0
 ShowsLogFault told g (LogFault.Bad line) = IsShort LOG_LIMIT told × IfSome told (λ bytes. IsBadLine g (lines bytes) line)
 ShowsLogFault told g LogFault.OutOfMemory = ⊤
@@ -173,23 +173,23 @@ pub record IsNoLog (seen : Seen) (told : Option Text) (g : Graph) (halt : Halt) 
 abbrev pub StopsLog : Seen → Option Text → Graph → Halt → Type 0
 StopsLog seen told g halt = IsUnread seen halt ⊎ (IsLong LOG_LIMIT LongLog seen told halt ⊎ IsNoLog seen told g halt)
 
--- a log stops a run: as it is read, or by the check that comes before its audit
+-- a log stops a run: its reading stops, or the check before its audit does
 abbrev pub StopsAudit : Seen → Option Text → Admission → Tables → Halt → Type 0
 StopsAudit seen told a t halt = StopsLog seen told a.graph halt ⊎ ((log : Log) × SaysLog told a.graph log ×
     IsAfterReading seen.given LOG_LIMIT (StopsVerdict a) t halt)
 
--- no node has the name
+-- no node has the name, or memory ran out
 abbrev pub StopsNaming : Tables → Text → Halt → Type 0
 StopsNaming t name halt = ((halt ≡ Refused UnknownNode) × (first_named t.head name ≡ None)) ⊎ (halt ≡ Memory)
 
--- parts with the periods of the words, whose graphs the files say
+-- parts with the periods that the words give, and with the graphs that the files say
 abbrev pub AreSaid : (Text → Option Text) → List Pair → List Part → Type 0
 AreSaid stands [] [] = ⊤
 AreSaid stands [] (part ∷ parts) = ⊥
 AreSaid stands (pair ∷ pairs) [] = ⊥
 AreSaid stands (pair ∷ pairs) (part ∷ parts) = (part.period ≡ pair.period) × Says (stands pair.graph) part.problem × AreSaid stands pairs parts
 
--- the first file that isn't read as a graph
+-- this is the first file that isn't read as a graph
 pub record IsUnsaid (seen : Seen) (pairs : List Pair) (halt : Halt) : Type 0 where
   pub place : ℕ
   pub within : place < length pairs
@@ -200,12 +200,12 @@ pub record IsUnsaid (seen : Seen) (pairs : List Pair) (halt : Halt) : Type 0 whe
 abbrev pub StopsReadingParts : Seen → List Pair → Halt → Type 0
 StopsReadingParts seen pairs halt = IsUnsaid seen pairs halt ⊎ (halt ≡ Memory)
 
--- to unroll the parts of the words
+-- why the unrolling of the words' parts stops
 abbrev pub StopsParts : Seen → List Pair → Halt → Type 0
 StopsParts seen pairs halt = StopsReadingParts seen pairs halt ⊎ ((parts : List Part) × AreSaid seen.stands pairs parts ×
     IsAfterReading seen.given GRAPH_LIMIT IsNotUnrolled parts halt)
 
--- what a command does with an admitted graph stops it for want of memory alone
+-- nothing stops a command's work on an admitted graph but being out of memory
 abbrev pub IsOutOfMemory : Admission → Halt → Type 0
 IsOutOfMemory a halt = halt ≡ Memory
 
@@ -224,11 +224,11 @@ StopsCommand seen (Tune graph) halt = StopsGraph seen (seen.stands graph) (IsAft
 StopsCommand seen (Audit graph pack log) halt = StopsGraph seen (seen.stands graph) (λ a.
     StopsTables seen (seen.stands pack) (StopsAudit seen (seen.stands log) a)) halt
 
--- words without a form stop a run as such, or for want of memory
+-- words that form no command stop a run, as such or because memory runs out
 abbrev pub StopsAsked : Seen → Option Command → Halt → Type 0
 StopsAsked seen None halt = (halt ≡ Words) ⊎ (halt ≡ Memory)
 StopsAsked seen (Some command) halt = StopsCommand seen command halt
 
--- a run of the words stops for a reason
+-- why a run of the words stops
 abbrev pub Stops : Seen → List Text → Halt → Type 0
 Stops seen words halt = StopsAsked seen (command_of words) halt

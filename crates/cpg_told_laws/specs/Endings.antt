@@ -1,4 +1,5 @@
--- The ways in which a run ends: its output or its line is taken whole, or the sink meets a fault; a stream has its own.
+-- How a run ends: either its output or its line is taken whole, or a sink meets a fault. A run that follows a stream has
+-- endings of its own.
 use Rattle.std.specs.Prelude.{ℕ, ◌≡◌, ◌⊎◌, List, Some}
 use Rattle.cpg_words.specs.Parts.{Text}
 use Rattle.cpg_words.specs.Forms.{command_of}
@@ -30,13 +31,13 @@ pub record IsPrinted (r : Ran) (text : Text) : Type 0 where
   pub out : Whole r.out text
   pub err : Untouched r.err
 
--- `out` met a fault; the line of that was tried once
+-- `out` met a fault, and the line that reports it was tried once
 pub record IsCut (r : Ran) (text : Text) : Type 0 where
   pub status : r.status ≡ 3
   pub out : Part r.out text
   pub err : Whole r.err write_fault_line ⊎ Part r.err write_fault_line
 
--- the line of a run that stops was taken whole
+-- the line that says why the run stops was taken whole
 pub record IsTold (r : Ran) (halt : Halt) : Type 0 where
   pub status : r.status ≡ status_of halt
   pub out : Untouched r.out
@@ -48,17 +49,17 @@ pub record IsMuted (r : Ran) (halt : Halt) : Type 0 where
   pub out : Untouched r.out
   pub err : Part r.err (line_of halt)
 
--- a run with an output
+-- a run that has an output
 pub record EndsWith (r : Ran) (text : Text) : Type 0 where
   pub prints : Prints r.shelf r.words text
   pub ending : IsPrinted r text ⊎ IsCut r text
 
--- a run that stops without one
+-- a run that stops without an output
 pub record EndsBy (r : Ran) (halt : Halt) : Type 0 where
   pub stops : Stops r.shelf r.words halt
   pub ending : IsTold r halt ⊎ IsMuted r halt
 
--- a run that follows a stream: with the first node of a name in the tables of a pack
+-- a run in which a node follows a stream: the first node of the given name in the tables of a pack
 pub record Follows (r : Ran) : Type 0 where
   pub pack : Text
   pub name : Text
@@ -69,11 +70,11 @@ pub record Follows (r : Ran) : Type 0 where
   pub node : ℕ
   pub named : first_named tables.head name ≡ Some node
 
--- the table of its node
+-- the table of the run's node
 abbrev pub table_of : {r : Ran} → Follows r → NodeTable
 table_of f = table_at f.tables.nodes f.node
 
--- what it sees of the stream's shelf and of `out`
+-- what the run sees of the stream's shelf and of `out`
 abbrev pub stream_of : (r : Ran) → Follows r → Stream
 stream_of r f = record {
   told = r.shelf.stands f.stream;
@@ -86,7 +87,7 @@ stream_of r f = record {
   new = r.out.new;
 }
 
--- what `err` and the status say of a stream that isn't followed to its close
+-- what `err` and the status report of a stream that isn't followed to its close
 abbrev pub IsSaid : SinkSeen → ℕ → Broken → Type 0
 IsSaid err status Broken.Shelf = Sent err status 2 (line_of Read)
 IsSaid err status Broken.Sink = (status ≡ 3) × (Whole err write_fault_line ⊎ Part err write_fault_line)
@@ -99,6 +100,6 @@ pub record EndsInStream (r : Ran) : Type 0 where
   pub breaks : Breaks follows.tables.head (table_of follows) (stream_of r follows) broken
   pub said : IsSaid r.err r.status broken
 
--- a run has an output, a reason to stop, or a stream that isn't followed to its close, and ends by it
+-- how any run ends: it has an output, a reason to stop, or a stream that isn't followed to its close
 abbrev pub Ends : Ran → Type 0
 Ends r = ((text : Text) × EndsWith r text) ⊎ (((halt : Halt) × EndsBy r halt) ⊎ EndsInStream r)

@@ -1,4 +1,4 @@
--- What a command puts out, by what the shelf tells of its files.
+-- What a command puts out, in terms of what the shelf reports for its files.
 use Rattle.std.specs.Prelude.{ℕ, ◌≡◌, ◌≤◌, List, Option, None, Some, ⊤}
 use Rattle.cpg_base.specs.Graph.{Graph}
 use Rattle.cpg_words.specs.Parts.{Text}
@@ -22,18 +22,18 @@ use Rattle.cpg_app.specs.Tunes.{IsTuningText}
 use Rattle.cpg_told_laws.specs.Causes.{Seen, Admits, AreSaid, SaysPlayed, Spells, SaysLog, GRAPH_LIMIT, SCENARIO_LIMIT, LOG_LIMIT, PACK_LIMIT}
 use Rattle.cpg_told_laws.specs.Streams.{IsClosed}
 
--- the graph is that of the file
+-- the bytes are made of the graph that the file says
 abbrev pub IsMade : Option Text → (Graph → Compiled → Text) → Text → Type 0
 IsMade told spell bytes = (a : Admission) × Admits told a × IsMadeOf a spell bytes
 
--- so of the tables that the bytes of a pack spell
+-- the fact holds of the tables that the bytes of a pack spell
 abbrev pub IsSpelled : Option Text → (Tables → Type 0) → Type 0
 IsSpelled told fact = (t : Tables) × Spells told t × fact t
 
 abbrev pub IsNodeOf : Option Text → Text → Text → Type 0
 IsNodeOf told name text = IsSpelled told (λ t. IsNodeText t name text)
 
--- the lines are all those of a stream that the first node of a name follows to its close
+-- the text has all lines of a stream, which the first node of that name follows to its close
 pub record IsFollowed (t : Tables) (name : Text) (stream : Option Text) (text : Text) : Type 0 where
   pub node : ℕ
   pub named : first_named t.head name ≡ Some node
@@ -42,11 +42,11 @@ pub record IsFollowed (t : Tables) (name : Text) (stream : Option Text) (text : 
 abbrev pub IsFollowedOf : Option Text → Text → Option Text → Text → Type 0
 IsFollowedOf pack name stream text = IsSpelled pack (λ t. IsFollowed t name stream text)
 
--- of the graph of a file and the tables of a pack
+-- the text says that the tables of a pack are safe for the graph of a file
 abbrev pub IsChecked : Option Text → Option Text → Text → Type 0
 IsChecked graph pack text = (a : Admission) × Admits graph a × IsSpelled pack (λ t. IsSafeText a t text)
 
--- the text of the play of what a scenario file says
+-- the text is that of the play of a scenario file by safe tables
 pub record IsPlayedText (told : Option Text) (a : Admission) (t : Tables) (number : ℕ) (text : Text) : Type 0 where
   pub judged : AreJudgedSafe a t
   pub played : Played
@@ -54,11 +54,11 @@ pub record IsPlayedText (told : Option Text) (a : Admission) (t : Tables) (numbe
   pub lawful : IsPlayed a.graph played
   pub played_text : IsPlayText a.graph t.nodes (world_of played) number text
 
--- of the graph of a file and the tables of a pack
+-- the same, with the graph of a file and the tables of a pack
 abbrev pub IsPlayOf : Option Text → Option Text → Option Text → ℕ → Text → Type 0
 IsPlayOf graph pack scenario number text = (a : Admission) × Admits graph a × IsSpelled pack (λ t. IsPlayedText scenario a t number text)
 
--- so of what a log says, and of safe tables
+-- the text is that of the audit of a log by safe tables
 pub record IsAuditedText (told : Option Text) (a : Admission) (t : Tables) (text : Text) : Type 0 where
   pub judged : AreJudgedSafe a t
   pub log : Log
@@ -66,19 +66,19 @@ pub record IsAuditedText (told : Option Text) (a : Admission) (t : Tables) (text
   pub lawful : IsLog a.graph log
   pub audited : IsAuditText a.graph a.order t.nodes log text
 
--- of the graph of a file and the tables of a pack
+-- the same, with the graph of a file and the tables of a pack
 abbrev pub IsAuditOf : Option Text → Option Text → Option Text → Text → Type 0
 IsAuditOf graph pack log text = (a : Admission) × Admits graph a × IsSpelled pack (λ t. IsAuditedText log a t text)
 
--- of the parts that the words and their files say
+-- the text is that of the unrolled parts that the words and their files say
 abbrev pub IsUnrolledOf : (Text → Option Text) → List Pair → Text → Type 0
 IsUnrolledOf stands pairs text = (parts : List Part) × AreSaid stands pairs parts × IsUnrolledText parts text
 
--- the text of the tuning of the graph of a file
+-- the text is that of the tuning of a file's graph
 abbrev pub IsTunedOf : Option Text → Text → Type 0
 IsTunedOf told text = (a : Admission) × Admits told a × IsTuningText a.graph text
 
--- a command's output, by its files
+-- a command's output, in terms of its files
 abbrev pub IsOutputOf : Seen → Command → Text → Type 0
 IsOutputOf seen (Show graph) text = IsMade (seen.stands graph) shown text
 IsOutputOf seen (Compile graph) text = IsMade (seen.stands graph) packed text
@@ -91,7 +91,7 @@ IsOutputOf seen (Hyper parts) text = IsUnrolledOf seen.stands parts text
 IsOutputOf seen (Tune graph) text = IsTunedOf (seen.stands graph) text
 IsOutputOf seen (Audit graph pack log) text = IsAuditOf (seen.stands graph) (seen.stands pack) (seen.stands log) text
 
--- the file that a command reads last gave no more bytes than it may have
+-- the file that a command reads last gave no more bytes than its limit
 abbrev pub ReadsWithin : Command → ℕ → Type 0
 ReadsWithin (Show graph) given = given ≤ GRAPH_LIMIT
 ReadsWithin (Compile graph) given = given ≤ GRAPH_LIMIT
@@ -104,12 +104,13 @@ ReadsWithin (Hyper parts) given = given ≤ GRAPH_LIMIT
 ReadsWithin (Tune graph) given = given ≤ GRAPH_LIMIT
 ReadsWithin (Audit graph pack log) given = given ≤ LOG_LIMIT
 
--- A command puts out a text. Where a shelf tells nothing of its files, the bytes that it gave tell that none was too long.
+-- A command puts out a text. The file that it reads last gave no more bytes than its limit, even if the shelf reports nothing
+-- of it.
 pub record PrintsCommand (seen : Seen) (command : Command) (text : Text) : Type 0 where
   pub output : IsOutputOf seen command text
   pub within : ReadsWithin command seen.given
 
--- words without a form have none
+-- words that form no command put out nothing
 abbrev pub PrintsAsked : Seen → Option Command → Text → Type 0
 PrintsAsked seen None text = ⊥
 PrintsAsked seen (Some command) text = PrintsCommand seen command text

@@ -1,10 +1,11 @@
--- What a run saw of its sinks while a sink might tell nothing of what it took: then nothing is asked of that.
+-- What a run saw of its sinks while a sink didn't have to report what it took. If a sink reports nothing, nothing is required
+-- of what it took.
 use Rattle.std.specs.Prelude.{ℕ, ◌≡◌, ◌≢◌, ◌<◌, List, Option, Some, length, take}
 use Rattle.std.specs.Io.KnownBytes.{Appends, Keeps}
 use Rattle.cpg_io.specs.Causes.{Rose}
 use Rattle.cpg_outputs.specs.Told.{SinkSeen as SinkSeenRun}
 
--- the known bytes grew by a proper front of the piece
+-- the known bytes grew by a proper prefix of the piece
 abbrev pub TookPrefix : Option (List ℕ) → Option (List ℕ) → List ℕ → Type 0
 TookPrefix old new piece = (n : ℕ) × (n < length piece) × Appends old new (take n piece)
 
@@ -28,11 +29,11 @@ pub record Part (sink : SinkSeen) (bytes : List ℕ) : Type 0 where
   pub rose : Rose sink.before sink.now
   pub prefix : TookPrefix sink.old sink.new bytes
 
--- Bytes were sent to a sink for a status: status 3 is that of a fault, and under each other one they were taken whole.
+-- Bytes were sent to a sink under a status. Status 3 means that the sink met a fault; under any other they were taken whole.
 pub record Sent (sink : SinkSeen) (status wanted : ℕ) (bytes : List ℕ) : Type 0 where
   pub whole : status ≢ 3 → (status ≡ wanted) × Whole sink bytes
   pub part : status ≡ 3 → Part sink bytes
 
--- a sink of today, which always tells what it took
+-- a sink as it is now, which always reports what it took
 abbrev pub telling : SinkSeenRun → SinkSeen
 telling s = record { before = s.before; now = s.now; old = Some s.old; new = Some s.new }

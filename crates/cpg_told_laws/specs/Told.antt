@@ -1,4 +1,5 @@
--- A run, as it was seen while its contract spoke of what the shelf tells of the names; and that it keeps that contract too.
+-- A run as the earlier contract saw it, which was stated over what the shelf reports for the names. The run keeps that contract
+-- too.
 use Rattle.cpg_io.specs.Shelf.{KeepsShelf}
 use Rattle.cpg_app.specs.Endings.{Ran as Run}
 use Rattle.cpg_app.specs.Lawful.{IsLawful as IsLawfulRun}
@@ -10,6 +11,6 @@ use Rattle.cpg_told_laws.specs.Sinks.{telling}
 abbrev pub told_of : Run → Ran
 told_of r = record { words = r.words; shelf = seen r.shelf.old r.shelf.new; out = telling r.out; err = telling r.err; status = r.status }
 
--- what a run says of the bytes that its fetches gave says so of what stands under their names, where the shelf tells that
+-- What a run says of the bytes that its fetches gave, it also says of what stands under their names, if the shelf reports that.
 abbrev pub RunsKeepWhatWasTold : Type 0
 RunsKeepWhatWasTold = (r : Run) → IsLawfulRun r → KeepsShelf r.shelf.old r.shelf.new → IsLawful (told_of r)
