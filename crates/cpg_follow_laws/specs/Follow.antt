@@ -1,4 +1,4 @@
--- What the nodes of a play are told, in order, is a stream that each of them follows.
+-- What each node of a play hears and reports, in order, is a stream that the node can follow.
 use Rattle.std.specs.Prelude.{ℕ, ◌+◌, ◌≡◌, ◌<◌, ◌≤◌, ◌==◌, nat_le, if◌then◌else◌, List, [], ◌∷◌, ◌++◌, Option, Some, None, get_or, length}
 use Rattle.cpg_base.specs.Graph.{Graph}
 use Rattle.cpg_base.specs.WellFormed.{WellFormed}
@@ -13,7 +13,7 @@ use Rattle.cpg_live.specs.Stream.{Step, lawful, start}
 use Rattle.cpg_live.specs.Told.{follow, HasCome, after_last, turn_events}
 use Rattle.cpg_live.specs.Spelling.{RiseWithin, closed_at}
 
--- reports in order of time
+-- the reports in order of time
 abbrev pub inserted : ℕ × Ended → List (ℕ × Ended) → List (ℕ × Ended)
 inserted e [] = e ∷ []
 inserted e (f ∷ fs) = if nat_le e.0 f.0 then e ∷ f ∷ fs else f ∷ inserted e fs
@@ -22,26 +22,26 @@ abbrev pub by_time : List (ℕ × Ended) → List (ℕ × Ended)
 by_time [] = []
 by_time (e ∷ es) = inserted e (by_time es)
 
--- what a node is told up to its turn at a time: the reports of executions that are over, each at its actual end, and the frames
--- that arrive at the time
+-- The records of a node up to its turn at a time: the reports of its executions that are over, each at its actual end, and the
+-- frames that arrive at the time.
 abbrev pub told_at : Graph → World → Cluster → ℕ → ℕ → List (ℕ × Event)
 told_at g w c a time = turn_events time (by_time (reports_now g w (dispatcher_at c a) time)) (frames_now g w c (reported g w (dispatcher_at c a) time) time)
 
--- by its answer: a node that waits or is done is told nothing
+-- the same by the node's answer: a node that waits or is done has no records
 abbrev pub told_by : Graph → World → Cluster → ℕ → Answer → Option ℕ → List (ℕ × Event)
 told_by g w c a Took (Some time) = told_at g w c a time
 told_by g w c a _ _ = []
 
--- when a node is asked, that node alone
+-- when a node is asked, only that node has records
 abbrev pub told_in_step : Graph → World → Cluster → ℕ → ℕ → List (ℕ × Event)
 told_in_step g w c a node = if a == node then told_by g w c a (answer g c a) (next (dispatcher_at c a)) else []
 
--- in a play
+-- the records of a node in a play
 abbrev pub told_in : Graph → World → Cluster → ℕ → List ℕ → List (ℕ × Event)
 told_in g w c node [] = []
 told_in g w c node (a ∷ rest) = told_in_step g w c a node ++ told_in g w (step g w c a) node rest
 
--- What a node is told is in order of time, and not after a close that isn't before its last turn.
+-- A node's records are in order of time. A close that isn't before the node's last turn isn't before any of them.
 abbrev pub RecordsRise : Type 0
 RecordsRise = (g : Graph) (tables : List NodeTable) → WellFormed g → HasShape g tables → IsValid g tables → (w : World) (turns : List ℕ) (node close : ℕ) → IsWorld g w → node < length g.nodes →
     after_last (dispatcher_at (play g w (open_cluster g tables) turns) node).last ≤ close + 1 → RiseWithin 0 close (told_in g w (open_cluster g tables) node turns)
@@ -50,18 +50,18 @@ RecordsRise = (g : Graph) (tables : List NodeTable) → WellFormed g → HasShap
 abbrev pub opened : Graph → List NodeTable → ℕ → Step
 opened g tables node = lawful (start (own_table g node (table_at tables node)))
 
--- the stream is lawful so far, and with all turns up to the last one of the play the node has done what it did in the play
+-- the stream is lawful so far, and with all turns up to the play's last the node has done what it did in the play
 pub record IsFollowedSoFar (g : Graph) (tables : List NodeTable) (w : World) (turns : List ℕ) (node : ℕ) : Type 0 where
   pub none : (follow (opened g tables node) (told_in g w (open_cluster g tables) node turns)).fault ≡ None
   pub comes : let c = play g w (open_cluster g tables) turns in
       HasCome (follow (opened g tables node) (told_in g w (open_cluster g tables) node turns)).progress (dispatcher_at c node) (get_or c.acts node [])
 
--- So is each play of valid tables, at each node.
+-- This holds for each play of valid tables, at each node.
 abbrev pub PlaysAreFollowed : Type 0
 PlaysAreFollowed = (g : Graph) (tables : List NodeTable) → WellFormed g → HasShape g tables → IsValid g tables →
     (w : World) (turns : List ℕ) (node : ℕ) → IsWorld g w → node < length g.nodes → IsFollowedSoFar g tables w turns node
 
--- with a close behind it
+-- the records of a node in a play, with a close after them
 abbrev pub stream_of : Graph → List NodeTable → World → List ℕ → ℕ → ℕ → List (ℕ × Event)
 stream_of g tables w turns node close = closed_at (told_in g w (open_cluster g tables) node turns) close
 
@@ -70,7 +70,7 @@ pub record GivesWhatIsDue (g : Graph) (tables : List NodeTable) (w : World) (tur
   pub none : (follow (opened g tables node) (stream_of g tables w turns node close)).fault ≡ None
   pub acts : (acts : List Act) → IsDue g tables w.scenario node acts → (follow (opened g tables node) (stream_of g tables w turns node close)).progress.acts ≡ acts
 
--- So is each play after which the node is done, with a close that isn't before its last turn.
+-- This holds for each play after which the node is done, with a close that isn't before its last turn.
 abbrev pub StreamsGiveWhatIsDue : Type 0
 StreamsGiveWhatIsDue = (g : Graph) (tables : List NodeTable) → WellFormed g → HasShape g tables → IsValid g tables →
     (w : World) (turns : List ℕ) (node close : ℕ) → IsWorld g w → node < length g.nodes → answer g (play g w (open_cluster g tables) turns) node ≡ Done →

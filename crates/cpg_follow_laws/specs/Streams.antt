@@ -1,4 +1,4 @@
--- The bytes that a node of a play is fed, and what it does on them.
+-- The bytes that a node of a play is fed, and what it does with them.
 use Rattle.std.specs.Prelude.{ℕ, ◌+◌, ◌≡◌, ◌<◌, ◌≤◌, ◌^◌, List, length, Ok}
 use Rattle.cpg_base.specs.Graph.{Graph}
 use Rattle.cpg_base.specs.Limits.{IsWithinLimits}
@@ -17,8 +17,8 @@ use Rattle.cpg_live.specs.Spelling.{RiseWithin, closed_at, stream_bytes}
 use Rattle.cpg_live.specs.Reorder.{AreThoseOf}
 use Rattle.cpg_follow_laws.specs.Follow.{told_in}
 
--- All that a node is told in a play in which it is done, in any order that rises in time, up to a close that isn't before its
--- last turn.
+-- The records are all those of the node in a play in which it is done. They are in any order that rises in time, up to a close
+-- that isn't before its last turn.
 pub record IsToldAll (g : Graph) (tables : List NodeTable) (w : World) (turns : List ℕ) (node close : ℕ) (es : List (ℕ × Event)) : Type 0 where
   pub those : AreThoseOf es (told_in g w (open_cluster g tables) node turns)
   pub rise : RiseWithin 0 close es
@@ -31,8 +31,8 @@ pub record DoesWhatIsDue (g : Graph) (tables : List NodeTable) (w : World) (node
   pub ends : outcome (after (table_at tables node) bytes) ≡ Ok close
   pub acts : (acts : List Act) → IsDue g tables w.scenario node acts → (after (table_at tables node) bytes).progress.acts ≡ acts
 
--- So is the stream that spells what a node is told, with a close behind it: in each play of valid tables, in every scenario of the
--- graph and however early executions end.
+-- This holds for the stream that spells a node's records and a close after them. It does so in each play of valid tables, in
+-- every scenario of the graph, and however early executions end.
 abbrev pub BytesOfPlaysGiveWhatIsDue : Type 0
 BytesOfPlaysGiveWhatIsDue = (g : Graph) (tables : List NodeTable) → IsWithinLimits g → AreTablesOf (head_of g) tables → WellFormed g → IsValid g tables →
     (w : World) (turns : List ℕ) (node close : ℕ) (es : List (ℕ × Event)) → IsWorld g w → node < length g.nodes → IsToldAll g tables w turns node close es →

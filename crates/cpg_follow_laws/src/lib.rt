@@ -1,15 +1,15 @@
-//! Laws that join plays and streams: what a node is told in a play is a lawful stream, on which it does what is due.
+//! Laws that join plays and streams: a node's records in a play are a lawful stream, on which the node does what is due.
 #![tactic(auto)]
 
 ghost use Rattle.cpg_follow_laws.specs.Follow.{PlaysAreFollowed, RecordsRise, StreamsGiveWhatIsDue};
 ghost use Rattle.cpg_follow_laws.specs.Streams.{BytesOfPlaysGiveWhatIsDue};
 
-/// The records of a play are a lawful stream of each node, on which it does what it does in the play.
+/// The records of each node of a play are a lawful stream, on which the node does what it does in the play.
 pub fn plays_are_followed()
     ensures { PlaysAreFollowed }
 {}
 
-/// At the close of a play in which a node is done it has done what is due.
+/// At the close of the stream, a node that is done in the play has done what is due.
 pub fn streams_give_what_is_due()
     ensures { StreamsGiveWhatIsDue }
 {}
@@ -19,8 +19,8 @@ pub fn records_rise()
     ensures { RecordsRise }
 {}
 
-/// The bytes that spell what a node is told in a play, in any order that rises in time, are a stream that is lawful to its
-/// close, and on it the node does what is due.
+/// The bytes that spell a node's records, in any order that rises in time, are a stream that is lawful to its close. On that
+/// stream the node does what is due.
 pub fn bytes_of_plays_give_what_is_due()
     ensures { BytesOfPlaysGiveWhatIsDue }
 {}
