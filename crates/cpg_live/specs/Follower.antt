@@ -8,11 +8,11 @@ pub record Follower : Type 0 where
   pub head : Head
   pub table : NodeTable
   pub live : LiveState
-  -- how many of its acts are told
+  -- how many of the node's acts have been written
   pub told : ℕ
-  -- how many bytes were fed
+  -- how many bytes have been fed
   pub read : ℕ
 
--- before the first byte
+-- a follower before the first byte
 abbrev pub open_follower : Head → NodeTable → Follower
 open_follower h table = record { head = h; table = table; live = open_stream table; told = 0; read = 0 }

@@ -15,12 +15,12 @@ use Rattle.cpg_live.specs.declared.following.StreamFault.TheVariants.{Lawless, L
 use Rattle.cpg_live.specs.Follower.{Follower}
 use Rattle.cpg_live.specs.Streams.{act_lines, closed_line, IsClosed, IsRefused, IsLawfulSoFar, IsCutOff}
 
--- a node of the same pack
+-- both followers are of the same node
 pub record IsOfSame (old new : Follower) : Type 0 where
   pub head : new.head ≡ old.head
   pub table : new.table ≡ old.table
 
--- a piece of so many bytes was read and fed
+-- a piece of this many bytes was read and fed
 pub record TakesPiece (shelf rest : ShelfState) (old new : Follower) (count : ℕ) : Type 0 where
   pub piece : List ℕ
   pub long : length piece ≡ count
@@ -29,20 +29,21 @@ pub record TakesPiece (shelf rest : ShelfState) (old new : Follower) (count : �
   pub few : new.read ≤ STREAM_LIMIT + 1
   pub fed : Feeds old.live piece new.live
 
--- so, and the lines of all acts were told
+-- a piece was read and fed, and the lines of all acts were written
 pub record TakesAndTells (shelf rest : ShelfState) (old new : Follower) : Type 0 where
   pub count : ℕ
   pub fed : Follower
   pub piece : TakesPiece shelf rest old fed count
   pub told : new ≡ record fed { told = length fed.live.progress.acts }
 
--- what is left of a follower by a call for the next piece: where the shelf met a fault, what it was
+-- What a call for the next piece leaves of a follower: it took the piece and wrote its lines or, if the shelf met a fault, is
+-- as it was.
 abbrev pub IsLeftBy : Result ℕ Broken → ShelfState → ShelfState → Follower → Follower → Type 0
 IsLeftBy (Err Shelf) shelf rest old new = new ≡ old
 IsLeftBy other shelf rest old new = TakesAndTells shelf rest old new
 
--- A follower along a stream: what the shelf gave of its name, in one fetch more than before, was fed and lawful, and all lines of
--- it are written.
+-- A follower along a stream. What the shelf gave of its name, in one fetch more than before, was fed and is lawful, and all its
+-- lines are written.
 pub record IsAlong (name : List ℕ) (past history : List Fetch) (start now : List ℕ) (f : Follower) : Type 0 where
   pub fetch : Fetch
   pub named : fetch.name ≡ name
@@ -55,12 +56,12 @@ pub record IsAlong (name : List ℕ) (past history : List Fetch) (start now : Li
   pub all_told : f.told ≡ length f.live.progress.acts
   pub wrote : Took start now (act_lines f.head f.live.progress.acts)
 
--- so after a piece of so many bytes, of which none ends the stream
+-- the same after a piece of this many bytes; a piece of no bytes is the end of the stream
 pub record IsAlongAt (count : ℕ) (name : List ℕ) (past history : List Fetch) (start now : List ℕ) (f : Follower) : Type 0 where
   pub along : IsAlong name past history start now f
   pub end : count ≡ 0 → along.fetch.ended ≡ true
 
--- what a run sees of a stream and of `out`: what its fetch gave, and the count of faults and what was taken before and after
+-- what a run sees of a stream and of `out`: what the fetch gave, and the count of faults and what was taken, before and after
 pub record Stream : Type 0 where
   pub fetch : Fetch
   pub before : ℕ
@@ -72,21 +73,21 @@ pub record Stream : Type 0 where
 abbrev pub Completes : Head → NodeTable → Stream → Type 0
 Completes h table s = (lines : List ℕ) × IsClosed h table s.fetch lines × Took s.old s.new lines
 
--- it isn't
+-- a stream isn't followed to its close
 abbrev pub Breaks : Head → NodeTable → Stream → Broken → Type 0
 Breaks h table s Shelf = (lines : List ℕ) × IsLawfulSoFar h table s.fetch lines × Took s.old s.new lines
 Breaks h table s Sink = Rose s.before s.now × IsCutOff h table s.fetch s.old s.new
 Breaks h table s (Refused fault) = (lines : List ℕ) × IsRefused h table s.fetch fault lines × Took s.old s.new lines
 
--- a stream of the name, which was fetched once, with what was taken since a start
+-- the fact holds of the stream of the name, which was fetched once, with what was taken since a start
 pub record IsStreamed (Is : Stream → Type 0) (name : List ℕ) (past history : List Fetch) (start : List ℕ) (old new : SinkState) : Type 0 where
   pub fetch : Fetch
   pub named : fetch.name ≡ name
   pub history_is : history ≡ fetch ∷ past
   pub is : Is (record { fetch = fetch; before = old.faults; now = new.faults; old = start; new = new.taken })
 
--- What an answer says of each stream that a follower was along, by its start, its name and what was fetched before: at Ok as is
--- handed, and at Err how the stream broke.
+-- What an answer says of each stream that a follower was along, by its start, its name and what was fetched before. At Ok it is
+-- the given fact; at Err it is how the stream broke.
 abbrev pub GoesOn : {T : Type 0} → Follower → ShelfState → ShelfState → SinkState → SinkState →
     (T → List ℕ → List ℕ → List Fetch → Type 0) → Result T Broken → Type 0
 GoesOn f shelf rest old new Is result = (start name : List ℕ) (past : List Fetch) → IsAlong name past shelf.history start old.taken f →

@@ -1,4 +1,4 @@
--- What a follower keeps for its calls.
+-- The invariant of a follower between its calls.
 use Rattle.std.specs.Prelude.{ℕ, ◌≡◌, ◌+◌, ◌*◌, ◌≤◌, List, length}
 use Rattle.std.specs.Vec.{vec_capacity}
 use Rattle.cpg_table.specs.Table.{NodeTable}
@@ -9,11 +9,11 @@ use Rattle.cpg_live.specs.declared.following.TheConstants.{STREAM_LIMIT}
 use Rattle.cpg_live.specs.declared.following.Follower.TheInside.{Inside}
 use Rattle.cpg_live.specs.Follower.{Follower}
 
--- the table of its node
+-- the table of the follower's node
 abbrev pub table_in : Inside → NodeTable
 table_in f = f.live.progress.dispatcher.table
 
--- the fields as they are seen
+-- the state that the fields stand for
 abbrev pub follower_of : Inside → Follower
 follower_of f = record { head = f.head; table = table_in f; live = f.live; told = f.told; read = f.read }
 
@@ -21,7 +21,7 @@ follower_of f = record { head = f.head; table = table_in f; live = f.live; told 
 abbrev pub entry_count : NodeTable → ℕ
 entry_count table = column_count table.sends + column_count table.starts
 
--- its state is that after so many bytes, and there is room for the lines of all acts, and for one more
+-- the state is that after this many bytes, and there is room for the lines of all acts, and for one more line
 pub record IsFollowing (f : Inside) : Type 0 where
   pub fed : List ℕ
   pub live : f.live ≡ after (table_in f) fed

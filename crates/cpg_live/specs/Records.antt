@@ -1,4 +1,4 @@
--- The records of a stream, which tell a node what happens.
+-- The records of a stream, from which a node learns what happens.
 use Rattle.std.specs.Prelude.{ℕ, ◌+◌, Bool, not, ◌&&◌, ◌||◌, ◌==◌, nat_lt, if◌then◌else◌, List, [], ◌∷◌, ◌++◌, Option, Some, None, fold, length, drop, slice_index}
 use Rattle.byteorder.specs.Endian.{big_number}
 use Rattle.cpg_table.specs.Table.{NodeTable}
@@ -11,7 +11,7 @@ pub record Cut : Type 0 where
   pub whole : List (List ℕ)
   pub rest : List ℕ
 
--- one more byte; a record has 14
+-- one more byte is cut off; a record has 14
 abbrev pub cut_byte : Cut → ℕ → Cut
 cut_byte c byte = if length c.rest + 1 == 14 then record { whole = c.whole ++ ((c.rest ++ byte ∷ []) ∷ []); rest = [] }
     else record { whole = c.whole; rest = c.rest ++ byte ∷ [] }
@@ -29,23 +29,24 @@ record_of bytes = record {
   value = slice_index bytes 13;
 }
 
--- A kind above 2, a value byte above 1, a close that tells something, or a message's frame with a value.
+-- A record's kind is unlawful if the kind is above 2, the value byte is above 1, a close has other numbers than 0, or a
+-- message's frame has a value.
 
--- whether a close tells nothing
+-- whether all other numbers of a record are 0, as those of a close must be
 abbrev pub is_plain : Record → Bool
 is_plain r = (r.item == 0) && (r.number == 0) && (r.value == 0)
 
--- whether a record has no lawful kind
+-- whether a record's kind is unlawful
 abbrev pub is_unkind : NodeTable → Record → Bool
 is_unkind table r = nat_lt 2 r.kind || nat_lt 1 r.value || ((r.kind == 2) && not (is_plain r))
     || ((r.kind == 0) && nat_lt r.item table.first_broadcast && (r.value == 1))
 
--- what a record of a lawful kind tells
+-- the event of a record whose kind is lawful
 abbrev pub told : Record → Event
 told r = if r.kind == 0 then Arrival (record { item = r.item; column = r.number; value = r.value == 1 })
     else if r.kind == 1 then End r.item r.number (r.value == 1)
     else Close
 
--- what a record tells, where its kind is lawful
+-- the event of a record, if its kind is lawful
 abbrev pub event_of : NodeTable → Record → Option Event
 event_of table r = if is_unkind table r then None else Some (told r)

@@ -38,7 +38,7 @@ value_of Close = 0
 abbrev pub record_with : ℕ → Event → Record
 record_with time event = record { kind = kind_of event; time = time; item = item_of event; number = number_of event; value = value_of event }
 
--- its 14 bytes, each number with its highest byte first
+-- the record's 14 bytes, each number with its highest byte first
 abbrev pub record_bytes : Record → List ℕ
 record_bytes r = r.kind ∷ (big_bytes 8 r.time ++ (big_bytes 2 r.item ++ (big_bytes 2 r.number ++ r.value ∷ [])))
 
@@ -49,7 +49,7 @@ event_bytes e = record_bytes (record_with e.0 e.1)
 abbrev pub stream_bytes : List (ℕ × Event) → List ℕ
 stream_bytes es = flat_map event_bytes es
 
--- an event whose numbers have room in a record; a message carries no value
+-- the event's numbers have room in a record, and a message carries no value
 abbrev pub HasRoom : NodeTable → Event → Type 0
 HasRoom table (Arrival f) = (f.item < 2 ^ 16) × (f.column < 2 ^ 16) × (f.item < table.first_broadcast → f.value ≡ false)
 HasRoom table (Ending process faults value) = (process < 2 ^ 16) × (faults < 2 ^ 16)
@@ -60,7 +60,7 @@ abbrev pub RiseWithin : ℕ → ℕ → List (ℕ × Event) → Type 0
 RiseWithin from to [] = from ≤ to
 RiseWithin from to (e ∷ es) = (from ≤ e.0) × (is_close e.1 ≡ false) × RiseWithin e.0 to es
 
--- events, and a close behind them
+-- the events, and a close after them
 abbrev pub closed_at : List (ℕ × Event) → ℕ → List (ℕ × Event)
 closed_at es close = es ++ ((close, Close) ∷ [])
 
@@ -69,7 +69,7 @@ pub record AreTaken (table : NodeTable) (es : List (ℕ × Event)) (close : ℕ)
   pub ends : outcome (after table (stream_bytes (closed_at es close))) ≡ Ok close
   pub comes : (after table (stream_bytes (closed_at es close))).progress ≡ (follow (lawful (start table)) (closed_at es close)).progress
 
--- So are the bytes of all events that are lawful one after another, rise in time and have room.
+-- This holds for the bytes of all events that are lawful one after another, rise in time and have room.
 abbrev pub BytesSpellEvents : Type 0
 BytesSpellEvents = (table : NodeTable) (es : List (ℕ × Event)) (close : ℕ) → close < 2 ^ 64 → RiseWithin 0 close es → AllByRecursion (λ (e : ℕ × Event). HasRoom table e.1) es →
     (follow (lawful (start table)) es).fault ≡ None → AreTaken table es close

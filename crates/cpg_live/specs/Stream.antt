@@ -1,4 +1,4 @@
--- One node on a stream of records: what it does, and the first record that is lawless.
+-- One node on a stream of records: what it does, and which record is the first unlawful one.
 use Rattle.std.specs.Prelude.{ℕ, zero, suc, ◌+◌, ◌-◌, ◌^◌, min, Bool, true, false, not, ◌&&◌, ◌||◌, nat_lt, nat_le, if◌then◌else◌, List, [], ◌++◌, Option, Some, None, is_some, is_none, fold, length, Result, Ok, Err}
 use Rattle.cpg_table.specs.Table.{NodeTable}
 use Rattle.cpg_node.specs.Dispatcher.{Dispatcher, Act, Ended, Frame, Running, opening, next, turn, acts_of_turn, hear, is_strange, finished, own_of}
@@ -19,12 +19,12 @@ pub record Progress : Type 0 where
 abbrev pub start : NodeTable → Progress
 start table = record { dispatcher = opening table; acts = [] }
 
--- Turns, in which the node is told nothing: it has taken frames and ends before.
+-- A turn that is given no ends and no frames, since the node has taken them before.
 
 abbrev pub take_turn : ℕ → Progress → Progress
 take_turn time p = record { dispatcher = turn p.dispatcher time [] []; acts = p.acts ++ acts_of_turn p.dispatcher time [] [] }
 
--- an instant, where it is below a limit
+-- the instant, if it is below a limit
 abbrev pub instant_below : ℕ → Option ℕ → Option ℕ
 instant_below limit None = None
 instant_below limit (Some time) = if nat_lt time limit then Some time else None
@@ -34,55 +34,55 @@ abbrev pub turn_if : Progress → Option ℕ → Progress
 turn_if p None = p
 turn_if p (Some time) = take_turn time p
 
--- the turn of the next instant, where that is below a limit
+-- the turn of the next instant, if that is below a limit
 abbrev pub turn_below : ℕ → Progress → Progress
 turn_below limit p = turn_if p (instant_below limit (next p.dispatcher))
 
--- so many of these
+-- up to this many such turns
 unfoldable pub turns_below : ℕ → ℕ → Progress → Progress
 turns_below zero limit p = p
 turns_below (suc count) limit p = turns_below count limit (turn_below limit p)
 
--- All turns at instants below a limit. The instants of turns rise, so that there are at most `limit` of them.
+-- All turns at instants below a limit. The instants of turns rise, so there are at most `limit` of them.
 abbrev pub turned : ℕ → Progress → Progress
 turned limit p = turns_below limit limit p
 
--- What an event does, and where it is lawless. The turns that came before stay.
+-- What an event does, and when it is unlawful. The turns that came before it are kept.
 
--- where a node is after an event, and what is wrong with that
+-- where a node is after an event, and what is wrong with the event, if anything
 pub record Step : Type 0 where
   pub progress : Progress
   pub fault : Option Why
 
--- an event that is lawless, and one that isn't
+-- the step of an unlawful event, and that of a lawful one
 abbrev pub faulty : Progress → Why → Step
 faulty p why = record { progress = p; fault = Some why }
 
 abbrev pub lawful : Progress → Step
 lawful p = record { progress = p; fault = None }
 
--- an execution that hasn't reported may end at the time: after its start, and not later than planned
+-- an execution that hasn't reported may end at this time: after its start, and not later than planned
 abbrev pub may_end_now : Dispatcher → ℕ → Ended → Option Running → Bool
 may_end_now d time e None = false
 may_end_now d time e (Some run) = is_none run.report && nat_lt run.start time && nat_le time (run.start + time_of d e.process e.faults)
 
--- no more faults than there may be, and a value only of a condition
+-- the end has no more faults than are allowed, and a true value only if the process has a condition
 abbrev pub may_tell : Dispatcher → Ended → Bool
 may_tell d e = nat_le e.faults d.table.faults && (is_some (own_of d.table e.process).condition || not e.value)
 
--- whether the end of a process may be told at a time
+-- whether a process may report its end at this time
 abbrev pub may_end : Dispatcher → ℕ → Ended → Bool
 may_end d time e = may_tell d e && may_end_now d time e (running_of d e.process)
 
--- a frame that arrives at a time
+-- a frame arrives at a time
 abbrev pub arrived : ℕ → Frame → Progress → Step
 arrived time f p = if is_strange p.dispatcher time f then faulty p StrangeFrame else lawful (record p { dispatcher = hear p.dispatcher f })
 
--- an end that is told at a time
+-- an end is reported at a time
 abbrev pub ended : ℕ → Ended → Progress → Step
 ended time e p = if may_end p.dispatcher time e then lawful (record p { dispatcher = finished p.dispatcher e }) else faulty p FalseEnd
 
--- Turns come first: those before the time, and at a close those at the time as well.
+-- The turns come first: those before the time and, at a close, also those at the time.
 abbrev pub step : ℕ → Event → Progress → Step
 step time (Arrival f) p = arrived time f (turned time p)
 step time (Ending process faults value) p = ended time (record { process = process; faults = faults; value = value }) (turned time p)
@@ -93,21 +93,21 @@ step time Close p = lawful (turned (time + 1) p)
 -- the state after bytes of a stream
 pub record LiveState : Type 0 where
   pub progress : Progress
-  -- how many records were taken; the count stands still at 2 ^ 64 - 1
+  -- how many records were taken; the count stops at 2 ^ 64 - 1
   pub taken : ℕ
-  -- the time of the last of them, and 0 before the first
+  -- the time of the last of them, or 0 before the first
   pub time : ℕ
-  -- the bytes of the next one so far
+  -- the bytes of the next record so far
   pub rest : List ℕ
   -- whether a close was taken
   pub closed : Bool
-  -- the first lawless record, and why
+  -- the first unlawful record, and why it is
   pub bad : Option Bad
 
 abbrev pub open_stream : NodeTable → LiveState
 open_stream table = record { progress = start table; taken = 0; time = 0; rest = []; closed = false; bad = None }
 
--- the record that is awaited is lawless
+-- the next record is unlawful
 abbrev pub refused : LiveState → Why → LiveState
 refused s why = record s { bad = Some (record { index = s.taken; why = why }) }
 
@@ -117,34 +117,34 @@ is_close (Arrival f) = false
 is_close (Ending process faults value) = false
 is_close Close = true
 
--- a lawful record is taken
+-- the state after a lawful record is taken
 abbrev pub take : LiveState → ℕ → Event → LiveState
 take s time event = record s { taken = min (s.taken + 1) (2 ^ 64 - 1); time = time; closed = is_close event }
 
--- a record after its step
+-- the state after a record, by what is wrong with it, if anything
 abbrev pub settled : LiveState → ℕ → Event → Option Why → LiveState
 settled s time event None = take s time event
 settled s time event (Some why) = refused s why
 
--- a record of a lawful kind and time
+-- the state after a record of a lawful kind and time
 abbrev pub stepped : LiveState → ℕ → Event → Step → LiveState
 stepped s time event q = settled (record s { progress = q.progress }) time event q.fault
 
--- a record by its kind and its time
+-- the state after a record, by its kind and its time
 abbrev pub judged : LiveState → ℕ → Option Event → LiveState
 judged s time None = refused s Kind
 judged s time (Some event) = if nat_lt time s.time then refused s Order else stepped s time event (step time event s.progress)
 
--- one more record; after a lawless one nothing changes, and after a close each is lawless
+-- The state after one more record. After an unlawful record nothing changes, and after a close any record is unlawful.
 abbrev pub take_record : LiveState → List ℕ → LiveState
 take_record s bytes = if is_some s.bad then s else if s.closed then refused s Length
     else judged s (record_of bytes).time (event_of s.progress.dispatcher.table (record_of bytes))
 
--- the bytes of the next record so far, none of which may follow a close
+-- the state with the bytes of the next record so far; after a close there may be none
 abbrev pub with_rest : LiveState → List ℕ → LiveState
 with_rest s rest = if is_some s.bad then s else if s.closed && nat_lt 0 (length rest) then refused s Length else record s { rest = rest }
 
--- the state after whole records and the bytes of the next one so far
+-- the state after whole records, with the bytes of the next one so far
 abbrev pub after_cut : NodeTable → Cut → LiveState
 after_cut table c = with_rest (fold take_record (open_stream table) c.whole) c.rest
 
@@ -152,16 +152,16 @@ after_cut table c = with_rest (fold take_record (open_stream table) c.whole) c.r
 abbrev pub after : NodeTable → List ℕ → LiveState
 after table bytes = after_cut table (cut bytes)
 
--- the answer of a feed
+-- the answer when bytes are fed
 abbrev pub answer_of : Option Bad → Result Unit Bad
 answer_of None = Ok tt
 answer_of (Some bad) = Err bad
 
--- a stream that ends in a state, where no record was lawless
+-- how a stream ends in a state, by its first unlawful record, if there is one
 abbrev pub outcome_if : LiveState → Option Bad → Result ℕ Bad
 outcome_if s (Some bad) = Err bad
 outcome_if s None = if s.closed then Ok s.time else Err (record { index = s.taken; why = Length })
 
--- a stream that ends in a state: the time of its close, or its first lawless record
+-- how a stream ends in a state: with the time of its close, or with its first unlawful record
 abbrev pub outcome : LiveState → Result ℕ Bad
 outcome s = outcome_if s s.bad

@@ -1,4 +1,4 @@
--- A stream that a node of a pack follows: the lines of what it does, and how the stream ends.
+-- A stream that a node of a pack follows: the lines of what the node does, and how the stream ends.
 use Rattle.std.specs.Prelude.{ℕ, ◌+◌, ◌≡◌, ◌≢◌, ◌<◌, ◌≤◌, ◌⊎◌, true, false, ◌&&◌, nat_lt, if◌then◌else◌, List, [], ◌++◌, None, is_none, Result, Ok, Err, codes, length, take}
 use Rattle.std.specs.List.{flat_map}
 use Rattle.std.specs.Fmt.{decimal}
@@ -17,7 +17,7 @@ use Rattle.cpg_live.specs.declared.following.StreamFault.{StreamFault}
 use Rattle.cpg_live.specs.declared.following.StreamFault.TheVariants.{Lawless, Long}
 use Rattle.cpg_live.specs.declared.following.TheConstants.{STREAM_LIMIT}
 
--- when an act was, and what
+-- the line of an act: its time, and what it is
 abbrev pub act_line : Head → Act → List ℕ
 act_line h a = decimal a.time ++ codes " " ++ done_text (head_labels h) (item_of (head_labels h) a.item) ++ codes "\n"
 
@@ -36,7 +36,7 @@ why_text Order = codes "order"
 why_text Frame = codes "frame"
 why_text End = codes "end"
 
--- why a stream is refused
+-- why a stream is rejected
 abbrev pub fault_text : StreamFault → List ℕ
 fault_text (Lawless bad) = codes "21 stream " ++ decimal bad.index ++ codes " " ++ why_text bad.why
 fault_text Long = codes "16 long stream"
@@ -44,34 +44,34 @@ fault_text Long = codes "16 long stream"
 abbrev pub fault_line : StreamFault → List ℕ
 fault_line fault = codes "cpgc: refused " ++ fault_text fault ++ codes "\n"
 
--- No more bytes of a stream are read than those of 16,777,216 records, and one.
+-- At most the bytes of 16,777,216 records and one more byte are read of a stream.
 abbrev pub read_part : List ℕ → List ℕ
 read_part bytes = take (STREAM_LIMIT + 1) bytes
 
--- the close of a stream, or its first lawless record
+-- the close of a stream, or its first unlawful record
 abbrev pub end_by : Result ℕ Bad → Result ℕ StreamFault
 end_by (Ok time) = Ok time
 end_by (Err bad) = Err (Lawless bad)
 
--- how a stream ends after so many bytes in a state: where none was lawless, more bytes than the limit are too many
+-- How a stream ends in a state after this many bytes. If no record was unlawful, more bytes than the limit are too many.
 abbrev pub end_of : LiveState → ℕ → Result ℕ StreamFault
 end_of s count = if is_none s.bad && nat_lt STREAM_LIMIT count then Err Long else end_by (outcome s)
 
--- how a stream of these bytes ends: the time of its close, or why it is refused
+-- how a stream of these bytes ends: the time of its close, or why it is rejected
 abbrev pub stream_end : NodeTable → List ℕ → Result ℕ StreamFault
 stream_end table bytes = end_of (after table (read_part bytes)) (length (read_part bytes))
 
--- the line of a stream's close, if it has one
+-- the line of a stream's close, if the stream has one
 abbrev pub close_of : Result ℕ StreamFault → List ℕ
 close_of (Ok time) = closed_line time
 close_of (Err fault) = []
 
--- all lines of a stream: those of the acts for the records before the first lawless one, and that of its close where it is
--- lawful to its end
+-- All lines of a stream: those of the acts for the records before the first unlawful one and, if the stream is lawful to its
+-- end, that of its close.
 abbrev pub stream_lines : Head → NodeTable → List ℕ → List ℕ
 stream_lines h table bytes = act_lines h (after table (read_part bytes)).progress.acts ++ close_of (stream_end table bytes)
 
--- a stream was read to its end, and is lawful to it; and all its lines
+-- a stream that was read to its end and is lawful to it, with all its lines
 pub record IsClosed (h : Head) (table : NodeTable) (fetch : Fetch) (lines : List ℕ) : Type 0 where
   pub ended : fetch.ended ≡ true
   pub sound : fetch.failed ≡ false
@@ -80,15 +80,15 @@ pub record IsClosed (h : Head) (table : NodeTable) (fetch : Fetch) (lines : List
   pub ends : stream_end table fetch.given ≡ Ok time
   pub spelled : lines ≡ stream_lines h table fetch.given
 
--- A stream is too long: as many records as are taken are lawful, none of them is a close, and another byte came.
+-- A stream is too long: as many records as the limit allows are lawful, none of them is a close, and another byte came.
 pub record IsTooLong (table : NodeTable) (bytes : List ℕ) : Type 0 where
   pub more : STREAM_LIMIT < length bytes
   pub lawful : (after table (read_part bytes)).bad ≡ None
   pub taken : (after table (read_part bytes)).taken ≡ 16777216
   pub not_closed : (after table (read_part bytes)).closed ≡ false
 
--- A stream is refused by the bytes that came, and the lines of the records before. They have a lawless record, are too many, or
--- are all that there are.
+-- A stream is rejected because of the bytes that came; these are the lines of the records before. The bytes have an unlawful
+-- record, are too many, or are all that there are.
 pub record IsRefused (h : Head) (table : NodeTable) (fetch : Fetch) (fault : StreamFault) (lines : List ℕ) : Type 0 where
   pub sound : fetch.failed ≡ false
   pub few : length fetch.given ≤ STREAM_LIMIT + 1
@@ -97,14 +97,15 @@ pub record IsRefused (h : Head) (table : NodeTable) (fetch : Fetch) (fault : Str
   pub all : fault ≢ Long → (after table fetch.given).bad ≡ None → fetch.ended ≡ true
   pub spelled : lines ≡ stream_lines h table fetch.given
 
--- the shelf met a fault; the records of the bytes that came before are all lawful, and their lines
+-- the shelf met a fault; the records of the bytes that came before it are all lawful, and these are their lines
 pub record IsLawfulSoFar (h : Head) (table : NodeTable) (fetch : Fetch) (lines : List ℕ) : Type 0 where
   pub failed : fetch.failed ≡ true
   pub few : length fetch.given ≤ STREAM_LIMIT
   pub lawful : (after table fetch.given).bad ≡ None
   pub spelled : lines ≡ act_lines h (after table fetch.given).progress.acts
 
--- A proper front of all lines of the bytes that came was written; of the close something only where they came to their end.
+-- A proper prefix of all lines of the bytes that came was written. It has a part of the close's line only if the bytes came to
+-- their end.
 pub record IsCutOff (h : Head) (table : NodeTable) (fetch : Fetch) (old new : List ℕ) : Type 0 where
   pub sound : fetch.failed ≡ false
   pub few : length fetch.given ≤ STREAM_LIMIT + 1

@@ -1,4 +1,5 @@
--- What a node is told in a play, as records: a turn that takes reports and frames is followed on them.
+-- What a node hears and reports in a play, as records: on these, a node on a stream follows each turn that takes reports and
+-- frames.
 use Rattle.std.specs.Prelude.{ℕ, ◌+◌, ◌≡◌, ◌≤◌, List, [], ◌∷◌, ◌++◌, Option, Some, None, map, fold, Contains}
 use Rattle.cpg_node.specs.Dispatcher.{Dispatcher, Act, Ended, Frame, next, finished, hear_all, AllFine, EndFits, due_reports, turn, acts_of_turn}
 use Rattle.cpg_node.specs.State.{MayFinish}
@@ -15,7 +16,7 @@ end_event e = (e.0, Ending e.1.process e.1.faults e.1.value)
 abbrev pub frame_event : ℕ → Frame → ℕ × Event
 frame_event time f = (time, Arrival f)
 
--- one more event, where all before were lawful
+-- the step of one more event, if all before it were lawful
 abbrev pub follow_if : Step → ℕ × Event → Option Why → Step
 follow_if s e None = step e.0 e.1 s.progress
 follow_if s e (Some why) = s
@@ -23,7 +24,7 @@ follow_if s e (Some why) = s
 abbrev pub follow_one : Step → ℕ × Event → Step
 follow_one s e = follow_if s e s.fault
 
--- events, one after another
+-- the step of several events, one after another
 abbrev pub follow : Step → List (ℕ × Event) → Step
 follow s es = fold follow_one s es
 
@@ -32,29 +33,29 @@ abbrev pub after_last : Option ℕ → ℕ
 after_last None = 0
 after_last (Some last) = last + 1
 
--- with all turns up to its last one, a node on a stream is a node of a play
+-- with all turns up to its last one, a node on a stream is in the state of a node in a play
 abbrev pub HasCome : Progress → Dispatcher → List Act → Type 0
 HasCome p d acts = turned (after_last d.last) p ≡ record { dispatcher = d; acts = acts }
 
--- reports that a node may take one after another, in order of time, none before a moment
+-- the node may take these reports one after another; they are in order of time, and none is before a moment
 abbrev pub MayTell : Dispatcher → ℕ → List (ℕ × Ended) → Type 0
 MayTell d from [] = Unit {0}
 MayTell d from (e ∷ es) = (from ≤ e.0) × MayFinish d e.0 e.1 × MayTell (finished d e.1) e.0 es
 
--- the node after them
+-- the node after these reports
 abbrev pub told_ends : Dispatcher → List (ℕ × Ended) → Dispatcher
 told_ends d es = fold finished d (map {A = ℕ × Ended} {B = Ended} (λ e. e.1) es)
 
--- what a node is told before and in a turn, in order of time
+-- the records of a node before and in a turn, in order of time
 abbrev pub turn_events : ℕ → List (ℕ × Ended) → List Frame → List (ℕ × Event)
 turn_events time reports frames = map end_event reports ++ map (frame_event time) frames
 
--- the events are lawful, and lead to the node after the turn, and to its acts
+-- the events are lawful, and lead to the node after the turn and to its acts
 pub record IsFollowed (p : Progress) (d : Dispatcher) (acts : List Act) (time : ℕ) (reports : List (ℕ × Ended)) (frames : List Frame) : Type 0 where
   pub none : (follow (lawful p) (turn_events time reports frames)).fault ≡ None
   pub comes : HasCome (follow (lawful p) (turn_events time reports frames)).progress (turn (told_ends d reports) time [] frames) (acts ++ acts_of_turn (told_ends d reports) time [] frames)
 
--- So it is for each turn whose reports may be told and whose frames are fine, and contradict no end.
+-- This holds for each turn whose reports the node may take, and whose frames aren't strange and contradict no end.
 abbrev pub TurnsAreFollowed : Type 0
 TurnsAreFollowed = (p : Progress) (d : Dispatcher) (acts : List Act) (time : ℕ) (reports : List (ℕ × Ended)) (frames : List Frame) → HasCome p d acts → next d ≡ Some time →
     MayTell d (after_last d.last) reports → AllFine (told_ends d reports) time frames →

@@ -19,13 +19,13 @@ pub use bad::{Bad, Why};
 pub use following::{Broken, Follower, STREAM_LIMIT, StreamFault, stream_limit_is_this};
 pub use live::Live;
 
-/// A node that takes no more turns than it must, those at the times of its columns and at the ends that it awaits, does the
-/// same on each stream.
+/// A node that takes no more turns than it must does the same on each stream. These turns are at the times of its columns and
+/// at the ends that it awaits.
 pub fn turns_may_be_left_out()
     ensures { TurnsMayBeLeftOut }
 {}
 
-/// A turn that takes reports and frames is followed on their records.
+/// A turn that takes reports and frames is followed on the records of these.
 pub fn turns_are_followed()
     ensures { TurnsAreFollowed }
 {}
@@ -35,7 +35,7 @@ pub fn closes_are_followed()
     ensures { ClosesAreFollowed }
 {}
 
-/// Events of one time lead to the same in any order.
+/// Events at the same time lead to the same state in any order.
 pub fn events_of_one_time_commute()
     ensures { EventsOfOneTimeCommute }
 {}

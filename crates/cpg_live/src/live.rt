@@ -16,9 +16,9 @@ use cpg_table::NodeTable;
 use std::alloc::Global;
 use std::marker::Model;
 
-/// One node on a stream of records (docs/FORMATS.md) that comes in pieces. It is seen as the node's state, the acts so far,
-/// the number of records taken, the time of the last one, the bytes of the next one so far, whether a close was taken, and
-/// the first lawless record, if there was one.
+/// One node on a stream of records (docs/FORMATS.md) that comes in pieces. It is seen as the node's state, the acts so far, the
+/// number of records taken, the time of the last one, the bytes of the next one so far, whether a close was taken, and the
+/// first unlawful record, if there is one.
 #[derive(Drop)]
 pub struct Live {
     progress: Progress,
@@ -41,7 +41,7 @@ impl Model for Live {
 }
 
 impl Live {
-    /// The node of a table before the first byte of its stream. It takes all room that will be needed.
+    /// The node of a table before the first byte of its stream. It reserves all the memory that it will need.
     pub fn new(alloc: Global, table: NodeTable) -> Result<Live, OutOfMemory>
         ensures { IfOk result (λ live. live ≡ open_stream table) }
     {
@@ -65,8 +65,8 @@ impl Live {
         self.progress.acts()
     }
 
-    /// The time of the close, in time units of the graph file, where the stream is lawful and ends here. Else its first
-    /// lawless record, which is the one that is awaited where no close was taken.
+    /// The time of the close, in time units of the graph file, if the stream is lawful and ends here. Otherwise its first
+    /// unlawful record; if no record is unlawful and no close was taken, that is the next record.
     pub fn closed(&self) -> Result<u64, Bad>
         ensures { result ≡ outcome self.now }
     {
@@ -82,8 +82,8 @@ impl Live {
         })
     }
 
-    /// Takes the next bytes of the stream: all records that they complete, up to the first that is lawless, which is
-    /// answered from then on. It doesn't matter how the stream is cut into pieces.
+    /// Takes the next bytes of the stream: all records that they complete, up to the first unlawful one, which is the answer
+    /// from then on. It doesn't matter how the stream is cut into pieces.
     pub fn feed(&mut self, piece: &[u8]) -> Result<(), Bad>
         ensures whole { Feeds self.old piece.now self.new }
         ensures grows { Grows self.old.progress.acts self.new.progress.acts }
@@ -125,7 +125,7 @@ impl Live {
         }
     }
 
-    /// The record that is awaited is lawless.
+    /// Notes that the next record is unlawful.
     fn refuse(&mut self, why: Why)
         ensures { self.new ≡ refused self.old why }
     {
@@ -133,7 +133,7 @@ impl Live {
         self.bad = Some(Bad { index, why });
     }
 
-    /// Takes a record of a lawful kind and time, unless it is lawless after the turns that come first.
+    /// Takes a record of a lawful kind and time, unless it is unlawful after the turns that come first.
     fn take(&mut self, time: u64, event: Event)
         requires { is_after self.old.progress.dispatcher.last time ≡ true }
         ensures { self.new ≡ stepped self.old time event (step time event self.old.progress) }
@@ -148,7 +148,7 @@ impl Live {
         self.closed = is_close(&event);
     }
 
-    /// Takes a record, unless it is lawless.
+    /// Takes a record, unless it is unlawful.
     fn judge(&mut self, told: Record)
         requires open { self.old.closed ≡ false }
         requires lawful { self.old.bad ≡ None }
