@@ -2,7 +2,7 @@
 use Rattle.std.specs.Prelude.{ℕ, zero, suc, ◌^◌, ◌/◌, ◌%◌}
 use Rattle.cpg_base.specs.Draws.{next_number}
 
--- the number after so many draws
+-- the number after this many draws
 unfoldable pub number_after : ℕ → ℕ → ℕ
 number_after x zero = x
 number_after x (suc n) = next_number (number_after x n)
@@ -11,6 +11,6 @@ number_after x (suc n) = next_number (number_after x n)
 abbrev pub draw_of : ℕ → ℕ → ℕ
 draw_of x bound = (x / 2 ^ 33) % bound
 
--- the n-th draw after a number, the first being number 1
+-- the n-th draw after a number; the first is draw 1
 abbrev pub nth_draw : ℕ → ℕ → ℕ → ℕ
 nth_draw x n bound = draw_of (number_after x n) bound

@@ -1,4 +1,4 @@
--- The graph that a number generates: each part by the draws that are its own.
+-- The graph that a number generates. Each part comes from draws of its own.
 use Rattle.std.specs.Prelude.{ℕ, ◌+◌, ◌-◌, ◌%◌, min, Bool, true, false, not, ◌&&◌, ◌||◌, ◌==◌, if◌then◌else◌, List, [], ◌∷◌, ◌++◌, Option, Some, None, map, sum_by, codes}
 use Rattle.std.specs.List.{flat_map}
 use Rattle.std.specs.Fmt.{decimal}
@@ -13,7 +13,7 @@ use Rattle.cpg_gen.specs.Draws.{number_after, draw_of, nth_draw}
 abbrev pub has_predecessor : ℕ → Bool
 has_predecessor i = not (i == 0) && not (i == 40)
 
--- how many draws a process takes: five for its costs, and one more for its predecessor
+-- how many draws a process takes: five for its costs, and one more if it has a predecessor
 abbrev pub draws_of : ℕ → ℕ
 draws_of i = if has_predecessor i then 6 else 5
 
@@ -59,7 +59,7 @@ process_from x i = record {
 abbrev pub predecessor_by : ℕ → ℕ → ℕ
 predecessor_by x i = i - 1 - draw_of x (min i 6)
 
--- two processes have a condition: odd targets run where it is true, even ones where it is false
+-- Two processes have a condition: targets with an odd number run if it is true, those with an even number if it is false.
 abbrev pub when_of : ℕ → ℕ → Option Bool
 when_of source target = if (source == 10) || (source == 20) then Some (target % 2 == 1) else None
 
@@ -80,7 +80,7 @@ generated_process number i = process_from (number_before number i) i
 abbrev pub generated_edges : ℕ → ℕ → List Edge
 generated_edges number i = edges_by (number_after (number_before number i) 6) i
 
--- 60 processes on four nodes, with the edges to each by rising number
+-- 60 processes on four nodes, with the edges to each process, in numerical order
 abbrev pub generated : ℕ → Graph
 generated number = record {
   faults = 2;
