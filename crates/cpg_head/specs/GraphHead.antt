@@ -16,7 +16,7 @@ head_process g p = record {
   times = map (duration g p) (numbers_below (g.faults + 1));
 }
 
--- what it says beside in version 2
+-- what version 2 adds for a process
 abbrev pub extra_of : Process → Extra
 extra_of p = record { release = p.release; deadline = p.deadline }
 
@@ -24,7 +24,7 @@ extra_of p = record { release = p.release; deadline = p.deadline }
 abbrev pub is_plain : Process → Bool
 is_plain p = (p.release == 0) && is_none p.deadline
 
--- version 1 where each process is plain, else version 2
+-- version 1 if each process is plain, and else version 2
 abbrev pub extras_of : Graph → Option (List Extra)
 extras_of g = if list_all is_plain g.processes then None else Some (map extra_of g.processes)
 

@@ -4,7 +4,8 @@ use Rattle.cpg_base.specs.declared.limits.TheConstants.{MOST_FAULTS, MOST_NODES,
 pub use Rattle.cpg_head.specs.declared.head_parts.HeadProcess.{HeadProcess}
 pub use Rattle.cpg_head.specs.declared.head_parts.Extra.{Extra}
 
--- how many faults there may be, the nodes' names, the processes, the ends of the edges and, in version 2, what it says of each process beside
+-- The number of faults, the names of the nodes, the processes and the ends of the edges; in version 2 also what it adds for
+-- each process.
 pub record Head : Type 0 where
   pub faults : ℕ
   pub nodes : List (List ℕ)
@@ -23,17 +24,17 @@ pub record IsHeadEdge (processes : ℕ) (e : ℕ × ℕ) : Type 0 where
   pub from : e.0 < processes
   pub to : e.1 < processes
 
--- what version 2 may say of a process
+-- what version 2 may add for a process
 pub record IsExtra (e : Extra) : Type 0 where
   pub release : e.release ≤ LONGEST
   pub deadline : IfSome e.deadline (λ d. d ≤ LONGEST)
 
--- one for each process
+-- the additions, one for each process
 pub record AreExtras (processes : ℕ) (extras : List Extra) : Type 0 where
   pub count : length extras ≡ processes
   pub each : All IsExtra extras
 
--- how many there are of each, and what each number is
+-- there are few enough of each, and each number is in its range
 pub record IsHead (h : Head) : Type 0 where
   pub faults : h.faults ≤ MOST_FAULTS
   pub few_nodes : length h.nodes ≤ MOST_NODES
@@ -48,6 +49,6 @@ pub record IsHead (h : Head) : Type 0 where
 abbrev pub version_of : Head → ℕ
 version_of h = if is_some h.extras then 2 else 1
 
--- what version 2 says of a process
+-- what version 2 adds for a process
 abbrev pub extra_at : Head → ℕ → Option Extra
 extra_at h p = option_and_then (λ extras. slice_get extras p) h.extras
