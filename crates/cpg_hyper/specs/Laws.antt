@@ -24,7 +24,7 @@ InstancesHaveScenarios = (whole : ℕ) (parts : List Part) (p i : ℕ) (s : Scen
     IsScenario (unrolled whole parts) s
     → IsScenario (part_at parts p).problem (scenario_of whole parts p i s)
 
--- executions last as long as the part's in that scenario
+-- executions last as long as those of the part in that scenario
 abbrev pub InstancesLastAsLong : Type 0
 InstancesLastAsLong = (whole : ℕ) (parts : List Part) (p i q : ℕ) (s : Scenario) → IsInstance whole parts p i →
     q < size_of (part_at parts p) → IsScenario (unrolled whole parts) s
@@ -36,35 +36,36 @@ abbrev pub InstancesHaveEdges : Type 0
 InstancesHaveEdges = (whole : ℕ) (parts : List Part) (p i e : ℕ) → IsInstance whole parts p i → e < length (part_at parts p).problem.edges
     → edge_at (unrolled whole parts) (first_edge_of whole parts p i + e) ≡ copied_edge (first_of whole parts p i) (edge_at (part_at parts p).problem e)
 
--- the parts are within the limits of graph files, so that their edges are between their processes
+-- the parts are within the limits of graph files, so their edges are between their processes
 abbrev pub AreWithinLimits : List Part → Type 0
 AreWithinLimits parts = HoldsOfEach (λ p part. IsWithinLimits part.problem) parts
 
--- a process of an instance has a condition where its part's has one
+-- a process of an instance has a condition if the part's process has one
 abbrev pub InstancesHaveConditions : Type 0
 InstancesHaveConditions = (whole : ℕ) (parts : List Part) (p i q : ℕ) → AreWithinLimits parts → IsInstance whole parts p i → q < size_of (part_at parts p)
     → is_disjunction (unrolled whole parts) (first_of whole parts p i + q) ≡ is_disjunction (part_at parts p).problem q
 
--- where the graph of all instances has a topological order, a process of an instance is activated as in its part in that scenario
+-- If the graph of all instances has a topological order, a process of an instance is activated as in its part, in that
+-- scenario.
 abbrev pub InstancesAreActivatedAlike : Type 0
 InstancesAreActivatedAlike = (whole : ℕ) (parts : List Part) (p i q : ℕ) (s : Scenario) (order : List ℕ) → AreWithinLimits parts →
     IsInstance whole parts p i → q < size_of (part_at parts p) → IsTopological (unrolled whole parts) order
     → activation (unrolled whole parts) s.values (first_of whole parts p i + q)
     ≡ copied_activation (first_edge_of whole parts p i) (activation (part_at parts p).problem (scenario_of whole parts p i s).values q)
 
--- and so it is active in the same scenarios
+-- so it is active in the same scenarios
 abbrev pub InstancesAreActiveAlike : Type 0
 InstancesAreActiveAlike = (whole : ℕ) (parts : List Part) (p i q : ℕ) (s : Scenario) (order : List ℕ) → AreWithinLimits parts →
     IsInstance whole parts p i → q < size_of (part_at parts p) → IsTopological (unrolled whole parts) order
     → active (unrolled whole parts) s.values (first_of whole parts p i + q) ≡ active (part_at parts p).problem (scenario_of whole parts p i s).values q
 
--- and its edges are live in the same
+-- and its edges are live in the same scenarios
 abbrev pub InstancesAreLiveAlike : Type 0
 InstancesAreLiveAlike = (whole : ℕ) (parts : List Part) (p i e : ℕ) (s : Scenario) (order : List ℕ) → AreWithinLimits parts →
     IsInstance whole parts p i → e < length (part_at parts p).problem.edges → IsTopological (unrolled whole parts) order
     → live (unrolled whole parts) s.values (first_edge_of whole parts p i + e) ≡ live (part_at parts p).problem (scenario_of whole parts p i s).values e
 
--- a start and its end, within the release and the due of a process of a part, from the begin of its instance
+-- a start and its end respect the release and the due of a part's process, counted from the beginning of its instance
 pub record KeepsPeriod (part : Part) (i q start end : ℕ) : Type 0 where
   pub released : i * part.period + (process_at part.problem q).release ≤ start
   pub ended : end ≤ i * part.period + due part.problem q
@@ -75,7 +76,7 @@ ValidTablesStartInstances = (whole : ℕ) (parts : List Part) (p i q : ℕ) (s :
     IsInstance whole parts p i → q < size_of (part_at parts p) → IsScenario (unrolled whole parts) s → IsValid (unrolled whole parts) tables
     → active (unrolled whole parts) s.values (first_of whole parts p i + q) ≡ true → (start : ℕ) × Contains (at tables (first_of whole parts p i + q) s) start
 
--- in valid tables each start of an instance comes at its release or later, and its end comes by its due
+-- in valid tables each start in an instance is at its release or later, and its end comes by its due
 abbrev pub ValidTablesKeepPeriods : Type 0
 ValidTablesKeepPeriods = (whole : ℕ) (parts : List Part) (p i q : ℕ) (s : Scenario) (tables : List NodeTable) (start : ℕ) →
     IsInstance whole parts p i → q < size_of (part_at parts p) → IsScenario (unrolled whole parts) s → IsValid (unrolled whole parts) tables

@@ -1,4 +1,4 @@
--- What is answered of parts, and why.
+-- The answer for parts, and why it is given.
 use Rattle.std.specs.Prelude.{ℕ, ◌≡◌, ◌<◌, ◌≤◌, ◌/◌, Bool, true, false, List, ◌++◌, None, length, get_or, All, Result, Ok, Err, Vec, ⊤}
 use Rattle.std.specs.declared.alloc.Global.{Global}
 use Rattle.cpg_base.specs.declared.limits.TheConstants.{LONGEST, MOST_PROCESSES, MOST_EDGES, MOST_CONDITIONS}
@@ -28,7 +28,7 @@ pub record FitsPeriod (part : Part) : Type 0 where
   pub deadline : part.problem.deadline ≤ part.period
   pub releases : All (λ q. q.release ≤ part.period) part.problem.processes
 
--- each made name of a part is short enough
+-- each name made for a part is short enough
 abbrev pub HasShortNames : ℕ → ℕ → Part → Type 0
 HasShortNames whole p part = (i : ℕ) → i < whole / part.period → All (λ q. length (name_in p i q.name) ≤ 32) part.problem.processes
 
@@ -36,20 +36,20 @@ HasShortNames whole p part = (i : ℕ) → i < whole / part.period → All (λ q
 abbrev pub GivesNoOrder : Part → Type 0
 GivesNoOrder part = part.problem.order ≡ None
 
--- a fact on the parts by number holds of each
+-- a fact about the parts, by number, holds of each part
 abbrev pub HoldsOfEach : (ℕ → Part → Type 0) → List Part → Type 0
 HoldsOfEach P parts = (p : ℕ) (d : Part) → p < length parts → P p (get_or parts p d)
 
 abbrev pub HoldsBefore : (ℕ → Part → Type 0) → List Part → ℕ → Type 0
 HoldsBefore P parts n = (p : ℕ) (d : Part) → p < n → P p (get_or parts p d)
 
--- the least part of which it doesn't
+-- the first part of which the fact doesn't hold
 pub record FailsFirst (P : ℕ → Part → Type 0) (parts : List Part) (p : ℕ) : Type 0 where
   pub within : p < length parts
   pub fails : (d : Part) → P p (get_or parts p d) → ⊥
   pub before : (q : ℕ) (d : Part) → q < p → P q (get_or parts q d)
 
--- too many of something, where there are few enough of what is counted before it
+-- there are too many of something, and few enough of whatever is counted before it
 abbrev pub Exceeds : What → Graph → Type 0
 Exceeds Processes g = MOST_PROCESSES < process_count g
 Exceeds Edges g = (process_count g ≤ MOST_PROCESSES) × (MOST_EDGES < edge_count g)
@@ -61,7 +61,7 @@ pub record HasFewEnough (g : Graph) : Type 0 where
   pub edges : edge_count g ≤ MOST_EDGES
   pub conditions : condition_count g ≤ MOST_CONDITIONS
 
--- the refusals that come before: of ranges; of differences; of what doesn't fit
+-- the parts pass the checks before: of ranges, of differences, and of what fits the period
 pub record AreAlike (parts : List Part) : Type 0 where
   pub ranges : HoldsOfEach (λ p part. IsInRange part) parts
   pub alike : HoldsOfEach (λ p part. IsAlike (first_graph parts) part) parts
@@ -71,13 +71,13 @@ pub record AreFitting (parts : List Part) : Type 0 where
   pub alike : HoldsOfEach (λ p part. IsAlike (first_graph parts) part) parts
   pub fitting : HoldsOfEach (λ p part. FitsPeriod part) parts
 
--- parts over their hyperperiod
+-- the parts pass those checks, and their hyperperiod is short enough
 pub record AreOver (parts : List Part) (whole : ℕ) : Type 0 where
   pub fitting : AreFitting parts
   pub hyperperiod : IsHyperperiod parts whole
   pub short : whole ≤ LONGEST
 
--- each answer, exactly where it comes
+-- each answer, with the exact condition for it
 abbrev pub ShowsUnrolled : List Part → Result Graph HyperFault → Type 0
 ShowsUnrolled parts (Err (Range p)) = FailsFirst (λ p part. IsInRange part) parts p
 ShowsUnrolled parts (Err (Differ p)) = HoldsOfEach (λ p part. IsInRange part) parts × FailsFirst (λ p part. IsAlike (first_graph parts) part) parts p
@@ -91,16 +91,16 @@ ShowsUnrolled parts (Err OutOfMemory) = ⊤
 ShowsUnrolled parts (Ok g) = (whole : ℕ) × AreOver parts whole × HasFewEnough (unrolled whole parts) ×
     HoldsOfEach (HasShortNames whole) parts × HoldsOfEach (λ p part. GivesNoOrder part) parts × (g ≡ unrolled whole parts)
 
--- the made names of one instance are short enough
+-- the names made for one instance are short enough
 abbrev pub AreShort : ℕ → Part → ℕ → Type 0
 AreShort p part i = All (λ q. length (name_in p i q.name) ≤ 32) part.problem.processes
 
--- processes are added where their names are short enough, and else nothing is said of what was added
+-- processes are added if their names are short enough; if not, nothing is said of what was added
 abbrev pub AddsShort : Bool → List Process → List Process → List Process → Type 0 → Type 0
 AddsShort true old new more short = (new ≡ old ++ more) × short
 AddsShort false old new more short = short → ⊥
 
--- the processes of all instances, or the first part with too long a name
+-- the processes of all instances, or the first part that has too long a name
 abbrev pub ShowsProcesses : ℕ → List Part → Result (Vec Process Global) HyperFault → Type 0
 ShowsProcesses whole parts (Ok processes) = (processes.items ≡ processes_from whole 0 parts) × HoldsOfEach (HasShortNames whole) parts
 ShowsProcesses whole parts (Err (LongName p)) = FailsFirst (HasShortNames whole) parts p

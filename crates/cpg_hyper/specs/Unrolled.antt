@@ -1,4 +1,4 @@
--- The graph of several parts, each with as many copies as it has periods in the whole.
+-- The graph of several parts. Each part has as many copies as the whole has of its periods.
 use Rattle.std.specs.Prelude.{ℕ, ◌+◌, ◌*◌, ◌/◌, List, [], ◌∷◌, ◌++◌, Some, None, codes, length, map}
 use Rattle.std.specs.List.{flat_map}
 use Rattle.std.specs.Fmt.{decimal}
@@ -9,11 +9,11 @@ use Rattle.cpg_base.specs.declared.process.Process.{Process}
 use Rattle.cpg_base.specs.declared.process.Edge.{Edge}
 use Rattle.cpg_hyper.specs.declared.part.Part.{Part}
 
--- what a copy is called: the numbers of its part and its instance, and its name in the part
+-- the name of a copy: the numbers of its part and its instance, and its name in the part
 abbrev pub name_in : ℕ → ℕ → List ℕ → List ℕ
 name_in p i name = decimal p ++ codes "." ++ decimal i ++ codes "." ++ name
 
--- the copy of a process, whose times count from the begin of its instance
+-- the copy of a process, whose times count from the beginning of its instance
 abbrev pub copied_process : ℕ → ℕ → Part → Process → Process
 copied_process p i part q = record q {
   name = name_in p i q.name;
@@ -21,7 +21,7 @@ copied_process p i part q = record q {
   deadline = Some (i * part.period + lesser_due part.problem.deadline q.deadline);
 }
 
--- the copy of an edge, whose instance's first process has this number
+-- the copy of an edge; `first` is the number of its instance's first process
 abbrev pub copied_edge : ℕ → Edge → Edge
 copied_edge first e = record e { from = first + e.from; to = first + e.to }
 
@@ -33,19 +33,19 @@ size_of part = length part.problem.processes
 abbrev pub instances : ℕ → Part → List ℕ
 instances whole part = numbers_below (whole / part.period)
 
--- the processes of one instance, and of all instances
+-- the processes of one instance, and those of all instances of a part
 abbrev pub processes_in : ℕ → Part → ℕ → List Process
 processes_in p part i = map (copied_process p i part) part.problem.processes
 
 abbrev pub processes_of : ℕ → ℕ → Part → List Process
 processes_of whole p part = flat_map (processes_in p part) (instances whole part)
 
--- those of the parts from a number on
+-- the processes of the parts from a number on
 abbrev pub processes_from : ℕ → ℕ → List Part → List Process
 processes_from whole p [] = []
 processes_from whole p (part ∷ parts) = processes_of whole p part ++ processes_from whole (p + 1) parts
 
--- the number of an instance's first process, where that of the part's first is given
+-- the number of an instance's first process, given that of the part's first
 abbrev pub first_in : ℕ → Part → ℕ → ℕ
 first_in first part i = first + i * size_of part
 
@@ -68,7 +68,7 @@ abbrev pub first_graph : List Part → Graph
 first_graph [] = record { faults = 0; deadline = 0; nodes = []; slots = []; processes = []; edges = []; order = None }
 first_graph (part ∷ parts) = part.problem
 
--- all parts over the whole: the first part's faults, nodes and slots, the whole as deadline, and no order
+-- all parts in one graph: the first part's faults, nodes and slots, the whole as the deadline, and no order
 abbrev pub unrolled : ℕ → List Part → Graph
 unrolled whole parts =
     record {
