@@ -1,4 +1,4 @@
--- The text of columns: a line of each, with its time and its literals.
+-- The text of columns: a line for each, with its time and its literals.
 use Rattle.std.specs.Prelude.{ℕ, ◌==◌, if◌then◌else◌, List, [], ◌∷◌, ◌++◌, codes}
 use Rattle.std.specs.List.{flat_map, join_by}
 use Rattle.std.specs.Fmt.{decimal}
@@ -26,7 +26,7 @@ known_text labels (Value c) low high = condition_name labels c ++ codes " " ++ v
 abbrev pub literal_text : Labels → Literal → List ℕ
 literal_text labels l = known_text labels (variable_at l.variable) l.low l.high
 
--- the literals with a comma and a space between each two, and `always` of none
+-- the literals, separated by a comma and a space, or `always` if there are none
 abbrev pub cube_text : Labels → List Literal → List ℕ
 cube_text labels [] = codes "always"
 cube_text labels (l ∷ ls) = join_by (literal_text labels) (codes ", ") (l ∷ ls)

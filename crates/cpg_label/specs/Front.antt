@@ -1,4 +1,4 @@
--- What stands in a text although no more could be put behind it.
+-- What a text begins with, even if no more could be put after it.
 use Rattle.std.specs.Prelude.{◌≡◌, ℕ, List, ◌++◌}
 
 -- the other text begins with this one

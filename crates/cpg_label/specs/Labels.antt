@@ -1,4 +1,4 @@
--- What texts call processes, conditions and edges.
+-- The names of processes, conditions and edges in texts.
 use Rattle.std.specs.Prelude.{ℕ, List, [], map, get_or}
 use Rattle.cpg_base.specs.Graph.{Graph, process_at, disjunctions}
 use Rattle.cpg_base.specs.declared.process.Process.{Process}
@@ -13,11 +13,11 @@ pub record Labels : Type 0 where
   pub conditions : List (List ℕ)
   pub edges : List (ℕ × ℕ)
 
--- what a process is called
+-- the name of a process
 abbrev pub process_name : Labels → ℕ → List ℕ
 process_name labels p = get_or labels.processes p []
 
--- what the process of a condition is called
+-- the name of a condition's process
 abbrev pub condition_name : Labels → ℕ → List ℕ
 condition_name labels c = get_or labels.conditions c []
 
@@ -25,7 +25,7 @@ condition_name labels c = get_or labels.conditions c []
 abbrev pub edge_ends : Labels → ℕ → ℕ × ℕ
 edge_ends labels e = get_or labels.edges e (0, 0)
 
--- what a graph calls its parts
+-- the labels of a graph
 abbrev pub labels_of : Graph → Labels
 labels_of g = record {
   processes = map (λ (p : Process). p.name) g.processes;
@@ -33,7 +33,7 @@ labels_of g = record {
   edges = map (λ (e : Edge). (e.from, e.to)) g.edges;
 }
 
--- what a head calls them
+-- the labels that a head gives
 abbrev pub head_labels : Head → Labels
 head_labels h = record {
   processes = map (λ (p : HeadProcess). p.name) h.processes;
