@@ -6,21 +6,21 @@ use Rattle.cpg_label.specs.Labels.{labels_of}
 use Rattle.cpg_label.specs.ItemText.{done_text}
 pub use Rattle.cpg_log.specs.declared.log.Logged.{Logged}
 
--- until when the log goes, and its acts
+-- the time up to which the log goes, and its acts
 pub record Log : Type 0 where
   pub until : ℕ
   pub acts : List Logged
 
--- whether a number is that of what a node starts or sends: a process, a message between two nodes, or a broadcast where there
--- are two nodes or more
+-- Whether a number is that of something a node starts or sends: a process, a message between two nodes, or, if there are at
+-- least two nodes, a broadcast.
 abbrev pub is_act : Graph → ℕ → Bool
 is_act g x = nat_lt x (process_count g) || (nat_lt x (item_count g) && is_sent g x)
 
--- by which node, and what is done, as a trace says it
+-- the node, and what it does, in the words of a trace
 abbrev pub act_text : Graph → ℕ → List ℕ
 act_text g x = get_or g.nodes (home g x) [] ++ codes " " ++ done_text (labels_of g) (item_at g x)
 
--- when, by which node, and what
+-- the line of an act: its time, its node, and what is done
 abbrev pub act_line : Graph → Logged → List ℕ
 act_line g l = decimal l.time ++ codes " " ++ act_text g l.item
 
@@ -31,18 +31,18 @@ until_line until = codes "until " ++ decimal until
 abbrev pub log_lines : Graph → Log → List (List ℕ)
 log_lines g log = until_line log.until ∷ map (act_line g) log.acts
 
--- an act up to a time
+-- the act can be in a log up to a time
 pub record IsActBy (g : Graph) (until : ℕ) (l : Logged) : Type 0 where
   pub item : is_act g l.item ≡ true
   pub time : l.time ≤ until
 
--- the acts of a log are up to its time, and no two of them are of one item
+-- the log's acts are up to its time, and no two of them are of one item
 pub record IsLog (g : Graph) (log : Log) : Type 0 where
   pub until : log.until < 2 ^ 60
   pub acts : All (IsActBy g log.until) log.acts
   pub apart : AllPairs (λ a b. a.item ≢ b.item) log.acts
 
--- when an item is logged, if it is
+-- the time at which an item is logged, if it is
 abbrev pub logged_time : List Logged → ℕ → Option ℕ
 logged_time [] x = None
 logged_time (l ∷ ls) x = if l.item == x then Some l.time else logged_time ls x
