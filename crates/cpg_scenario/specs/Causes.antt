@@ -1,4 +1,4 @@
--- What can be wrong with a scenario file, cause by cause, and which of the causes is told.
+-- What can be wrong with a scenario file, cause by cause, and which of the causes is reported.
 use Rattle.std.specs.Prelude.{ℕ, ℤ, pos, negsuc, ◌≡◌, ◌<◌, ◌⊎◌, ◌↔◌, ⊤, Bool, true, false, if◌then◌else◌, List, Contains, Option, Some, None, IsSomeAnd, Ok, Err, option_and_then, sum_by, codes}
 use Rattle.std.specs.Str.{is_utf8}
 use Rattle.toml.specs.Data.{Data, Members, no_members, member, table, get_member, as_table}
@@ -12,53 +12,53 @@ use Rattle.cpg_scenario.specs.declared.fault.ScenarioFault.TheVariants.{Bad}
 use Rattle.cpg_scenario.specs.declared.reading.Played.{Played}
 use Rattle.cpg_scenario.specs.File.{top_keys, is_typed, process_names, value_given, count_given, count_of, length_given, file_of}
 
--- the document that the bytes are, if they are UTF-8 and one
+-- the document that the bytes spell, if they are UTF-8 and a document
 abbrev pub document_of : List ℕ → Option Members
 document_of bytes = if is_utf8 bytes then parse_document bytes else None
 
--- an entry stands in a table
+-- the table has this entry
 abbrev pub Stands : Members → List ℕ → Data → Type 0
 Stands no_members key d = ⊥
 Stands (member text e ms) key d = ((key ≡ text) × (d ≡ e)) ⊎ Stands ms key d
 
--- a table has an entry of which something is so
+-- the table has an entry for which the fact holds
 pub record HasEntry (ms : Members) (Fact : List ℕ → Data → Type 0) : Type 0 where
   pub key : List ℕ
   pub value : Data
   pub stands : Stands ms key value
   pub fact : Fact key value
 
--- one whose key isn't among these
+-- the table has an entry whose key isn't among these
 abbrev pub HasOtherKey : List (List ℕ) → Members → Type 0
 HasOtherKey keys ms = HasEntry ms (λ key d. Contains keys key → ⊥)
 
--- one that is no boolean, or else no integer
+-- the table has an entry that is no boolean, or else no integer
 abbrev pub HasOtherType : Bool → Members → Type 0
 HasOtherType flags ms = HasEntry ms (λ key d. is_typed flags d ≡ false)
 
--- something is no table of booleans, or else of integers
+-- this is no table of booleans, or else of integers
 abbrev pub IsNoTableOf : Bool → Data → Type 0
 IsNoTableOf flags (table ms) = HasOtherType flags ms
 IsNoTableOf flags _ = ⊤
 
--- it stands at a key
+-- the key is there, and has no such table
 abbrev pub HasBadTable : Bool → List ℕ → Members → Type 0
 HasBadTable flags key ms = IsSomeAnd (get_member key ms) (IsNoTableOf flags)
 
--- another key at the top, something else than a table at one, or an entry of another type
+-- the top has another key, something other than a table at one of its keys, or an entry of another type
 abbrev pub HasBadField : Members → Type 0
 HasBadField ms = HasOtherKey top_keys ms ⊎ (HasBadTable false (codes "faults") ms
     ⊎ (HasBadTable true (codes "values") ms ⊎ HasBadTable false (codes "lengths") ms))
 
--- a key of the table at a key is no process name
+-- the table at a key has a key that is no process name
 abbrev pub HasBadName : Graph → List ℕ → Members → Type 0
 HasBadName g key ms = IsSomeAnd (option_and_then as_table (get_member key ms)) (HasOtherKey (process_names g))
 
--- a key of a table is none
+-- one of the three tables has a key that is no process name
 abbrev pub HasUnknownName : Graph → Members → Type 0
 HasUnknownName g ms = HasBadName g (codes "faults") ms ⊎ (HasBadName g (codes "values") ms ⊎ HasBadName g (codes "lengths") ms)
 
--- a process with a value has no condition
+-- a process is given a value, and has no condition
 pub record HasBadValue (g : Graph) (ms : Members) : Type 0 where
   pub process : ℕ
   pub within : process < process_count g
@@ -76,16 +76,16 @@ pub record HasNegativeCount (g : Graph) (ms : Members) : Type 0 where
   pub within : process < process_count g
   pub negative : IsNegative (count_given g ms process)
 
--- or they add up to more than the graph's fault number
+-- a fault count is below 0, or the counts add up to more than the graph's fault number
 abbrev pub IsOverBudget : Graph → Members → Type 0
 IsOverBudget g ms = HasNegativeCount g ms ⊎ (g.faults < sum_by (count_of g ms) (numbers_below (process_count g)))
 
--- a length is below 1, or above the longest
+-- a length is below 1 or above the longest
 abbrev pub IsNoLength : ℕ → ℤ → Type 0
 IsNoLength longest (pos n) = (n < 1) ⊎ (longest < n)
 IsNoLength longest (negsuc n) = ⊤
 
--- the longest is the duration of the process with its faults
+-- a length isn't from 1 to the duration of the process with its faults
 pub record HasBadLength (g : Graph) (ms : Members) : Type 0 where
   pub process : ℕ
   pub within : process < process_count g
@@ -93,7 +93,7 @@ pub record HasBadLength (g : Graph) (ms : Members) : Type 0 where
   pub given : length_given g ms process ≡ Some length
   pub bad : IsNoLength (duration g process (count_of g ms process)) length
 
--- a cause is there, in what the bytes are as a document
+-- the cause is there, given what the bytes are as a document
 abbrev pub IsIn : Graph → Option Members → Cause → Type 0
 IsIn g document Toml = document ≡ None
 IsIn g document Field = IsSomeAnd document HasBadField
@@ -102,11 +102,11 @@ IsIn g document Condition = IsSomeAnd document (HasBadValue g)
 IsIn g document Budget = IsSomeAnd document (IsOverBudget g)
 IsIn g document Length = IsSomeAnd document (HasBadLength g)
 
--- it is there, in the bytes of a file
+-- the cause is there, in the bytes of a file
 abbrev pub IsThere : Graph → List ℕ → Cause → Type 0
 IsThere g bytes cause = IsIn g (document_of bytes) cause
 
--- the place of a cause among all
+-- the place of a cause in the order in which they are looked for
 abbrev pub place_of : Cause → ℕ
 place_of Toml = 0
 place_of Field = 1
@@ -115,12 +115,12 @@ place_of Condition = 3
 place_of Budget = 4
 place_of Length = 5
 
--- a cause is there, and none before it
+-- the cause is there, and none before it is
 pub record IsFirstCauseOf (g : Graph) (bytes : List ℕ) (cause : Cause) : Type 0 where
   pub there : IsThere g bytes cause
   pub none : (other : Cause) → place_of other < place_of cause → IsThere g bytes other → ⊥
 
--- a file is refused for its first cause, and says a scenario where none is there
+-- a file is rejected for its first cause, and says a scenario if there is no cause
 pub record IsJudgedByCauses (g : Graph) (bytes : List ℕ) : Type 0 where
   pub refused : (cause : Cause) → file_of g bytes ≡ Err (Bad cause) ↔ IsFirstCauseOf g bytes cause
   pub played : ((p : Played) × (file_of g bytes ≡ Ok p)) ↔ ((cause : Cause) → IsThere g bytes cause → ⊥)

@@ -1,4 +1,4 @@
--- What the bytes of a scenario file say of a graph: a scenario and the lengths of its executions, or the first refusal.
+-- What the bytes of a scenario file say, for a graph: a scenario and the lengths of its executions, or the first refusal.
 use Rattle.std.specs.Prelude.{ℕ, ℤ, pos, negsuc, Bool, true, false, not, ◌&&◌, ◌||◌, nat_le, if◌then◌else◌, List, [], ◌∷◌, Option, Some, None, Result, Ok, Err, is_some, unwrap_or, option_and_then, map, sum_by, codes, bytes_eq, ◌≡◌, ◌<◌, ◌≤◌, length, get_or}
 use Rattle.std.specs.List.{list_any, list_all}
 use Rattle.std.specs.Str.{is_utf8}
@@ -17,7 +17,7 @@ use Rattle.cpg_scenario.specs.declared.reading.Played.{Played}
 
 -- ---- fields
 
--- the keys of the top
+-- the keys at the top
 abbrev pub top_keys : List (List ℕ)
 top_keys = codes "faults" ∷ codes "values" ∷ codes "lengths" ∷ []
 
@@ -26,11 +26,11 @@ abbrev pub are_among : List (List ℕ) → Members → Bool
 are_among texts no_members = true
 are_among texts (member text d ms) = list_any (bytes_eq text) texts && are_among texts ms
 
--- whether an entry is of its table's type: a boolean, or else an integer
+-- whether an entry has the type that its table requires: a boolean, or else an integer
 abbrev pub is_typed : Bool → Data → Bool
 is_typed flags d = if flags then is_some (as_bool d) else is_some (as_integer d)
 
--- whether all entries of a table are
+-- whether all entries of a table have that type
 abbrev pub are_typed : Bool → Members → Bool
 are_typed flags no_members = true
 are_typed flags (member text d ms) = is_typed flags d && are_typed flags ms
@@ -39,7 +39,7 @@ abbrev pub is_typed_table : Bool → Option Members → Bool
 is_typed_table flags None = false
 is_typed_table flags (Some ms) = are_typed flags ms
 
--- whether a table with such entries stands at a key, if anything does
+-- whether a key has a table with such entries, if the key is there
 abbrev pub is_table_of : Bool → Option Data → Bool
 is_table_of flags None = true
 is_table_of flags (Some d) = is_typed_table flags (as_table d)
@@ -52,14 +52,14 @@ has_fields ms = are_among top_keys ms
 
 -- ---- names
 
--- the entry of a name in the table at a key
+-- the entry with a name, in the table at a key
 abbrev pub entry_at : Members → List ℕ → List ℕ → Option Data
 entry_at ms key name = option_and_then (get_member name) (option_and_then as_table (get_member key ms))
 
 abbrev pub process_names : Graph → List (List ℕ)
 process_names g = map (λ p. p.name) g.processes
 
--- whether the keys of a table are names of processes, if there is one
+-- whether all keys of a table are names of processes, if there is a table
 abbrev pub are_named : Graph → Option Members → Bool
 are_named g None = true
 are_named g (Some ms) = are_among (process_names g) ms
@@ -75,7 +75,7 @@ has_names g ms = names_at g ms (codes "faults") && names_at g ms (codes "values"
 abbrev pub value_given : Graph → Members → ℕ → Option Bool
 value_given g ms p = option_and_then as_bool (entry_at ms (codes "values") (name_of g p))
 
--- whether a process has a condition, where it has a value
+-- whether a process has a condition, if it is given a value
 abbrev pub may_have_value : Graph → Members → ℕ → Bool
 may_have_value g ms p = not (is_some (value_given g ms p)) || is_some (condition_of g p)
 
@@ -109,7 +109,7 @@ scenario_of g ms = record { values = values_of g ms; faults = map (count_of g ms
 abbrev pub length_given : Graph → Members → ℕ → Option ℤ
 length_given g ms p = option_and_then as_integer (entry_at ms (codes "lengths") (name_of g p))
 
--- from 1 to the longest
+-- whether a length is from 1 to the longest
 abbrev pub is_length : ℕ → ℤ → Bool
 is_length longest (pos n) = nat_le 1 n && nat_le n longest
 is_length longest (negsuc n) = false
@@ -133,7 +133,7 @@ lengths_of g ms = map (λ p. length_or (duration g p (count_of g ms p)) (length_
 abbrev pub Reading : Type 0
 Reading = Result Played ScenarioFault
 
--- each cause is looked for in the whole file before the next
+-- the whole file is searched for each cause before the next one
 abbrev pub played_of : Graph → Members → Reading
 played_of g ms = if not (has_fields ms) then Err (Bad Field)
     else if not (has_names g ms) then Err (Bad Unknown)
@@ -146,7 +146,7 @@ abbrev pub played_if : Graph → Option Members → Reading
 played_if g None = Err (Bad Toml)
 played_if g (Some ms) = played_of g ms
 
--- the scenario and the lengths that the bytes say, or the first cause
+-- the scenario and the lengths that the bytes say, or the first refusal
 unfoldable pub file_of : Graph → List ℕ → Reading
 file_of g bytes = played_if g (if is_utf8 bytes then parse_document bytes else None)
 
