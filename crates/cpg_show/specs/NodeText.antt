@@ -1,4 +1,4 @@
--- The text of a node's table: its name, and the lines of what it starts, sends and hears.
+-- The text of a node's table: the node's name, and the lines of what it starts, sends and hears.
 use Rattle.std.specs.Prelude.{ℕ, List, [], ◌++◌, codes, get_or}
 use Rattle.std.specs.List.{flat_map}
 use Rattle.cpg_head.specs.Head.{Head}
@@ -8,22 +8,22 @@ use Rattle.cpg_label.specs.Labels.{Labels, head_labels}
 use Rattle.cpg_label.specs.CubeText.{columns_text}
 use Rattle.cpg_label.specs.ItemText.{item_of, act_text, hear_text}
 
--- a row of what the node starts or sends
+-- the lines of a row that the node starts or sends
 abbrev pub act_row : Labels → Row → List ℕ
 act_row labels row = act_text labels (item_of labels row.item) ++ codes "\n" ++ columns_text labels row.columns
 
--- a row of what it hears
+-- the lines of a row that the node hears
 abbrev pub hear_row : Labels → Row → List ℕ
 hear_row labels row = hear_text labels (item_of labels row.item) ++ codes "\n" ++ columns_text labels row.columns
 
--- the rows of a table
+-- the lines of all rows of a table
 abbrev pub rows_text : Labels → NodeTable → List ℕ
 rows_text labels t = flat_map (act_row labels) t.starts ++ flat_map (act_row labels) t.sends ++ flat_map (hear_row labels) t.hears
 
--- the name of a node
+-- the line of a node's name
 abbrev pub name_line : Head → ℕ → List ℕ
 name_line h node = codes "node " ++ get_or h.nodes node [] ++ codes "\n"
 
--- the name of the node, then its rows
+-- the line of the node's name, then the lines of its rows
 abbrev pub node_text : Tables → ℕ → List ℕ
 node_text tables node = name_line tables.head node ++ rows_text (head_labels tables.head) (table_at tables.nodes node)

@@ -1,4 +1,4 @@
--- Texts of rows: lines, each with the columns below it.
+-- Texts of rows: lines, each followed by the lines of its columns.
 use Rattle.std.specs.Prelude.{ℕ, List, ◌++◌, string_bytes}
 use Rattle.std.specs.List.{flat_map}
 use Rattle.cpg_label.specs.Labels.{Labels}
@@ -10,6 +10,6 @@ use Rattle.cpg_show.specs.declared.sheet.Sheet.{Sheet}
 abbrev pub part_text : Labels → Part → List ℕ
 part_text labels part = string_bytes part.head ++ columns_text labels part.columns.now
 
--- what stands in front, then the parts
+-- what comes before the parts, then the parts
 abbrev pub sheet_text : Sheet → List ℕ
 sheet_text sheet = string_bytes sheet.front ++ flat_map (part_text sheet.labels) sheet.parts.items

@@ -11,17 +11,17 @@ use Rattle.cpg_label.specs.Labels.{labels_of, process_name}
 use Rattle.cpg_label.specs.CubeText.{columns_text}
 use Rattle.cpg_label.specs.ItemText.{act_text}
 
--- whether an item has lines: an edge within a node has none, nor has a broadcast where there is one node
+-- whether an item has lines: an edge within a node has none, nor has a broadcast if there is only one node
 abbrev pub is_shown_item : Graph → Item → Bool
 is_shown_item g (Start p) = true
 is_shown_item g (Message e) = is_sent_item g (Message e)
 is_shown_item g (Broadcast c) = is_sent_item g (Broadcast c)
 
--- so of the item of a number
+-- the same, by the item's number
 abbrev pub is_shown : Graph → ℕ → Bool
 is_shown g x = is_shown_item g (item_at g x)
 
--- what is done, and on which node
+-- the line that says what is done, and on which node
 abbrev pub head_line : Graph → ℕ → List ℕ
 head_line g x = act_text (labels_of g) (item_at g x) ++ codes " on " ++ get_or g.nodes (home g x) [] ++ codes "\n"
 
@@ -29,7 +29,7 @@ head_line g x = act_text (labels_of g) (item_at g x) ++ codes " on " ++ get_or g
 abbrev pub item_text : Graph → List NodeTable → ℕ → List ℕ
 item_text g tables x = if is_shown g x then head_line g x ++ columns_text (labels_of g) (columns_of tables x) else []
 
--- the names of the processes in their order
+-- the names of the processes in the order
 abbrev pub order_line : Graph → List ℕ → List ℕ
 order_line g order = codes "order" ++ flat_map (λ p. codes " " ++ process_name (labels_of g) p) order ++ codes "\n"
 
@@ -37,6 +37,6 @@ order_line g order = codes "order" ++ flat_map (λ p. codes " " ++ process_name 
 abbrev pub worst_line : ℕ → List ℕ
 worst_line worst = codes "worst " ++ decimal worst ++ codes "\n"
 
--- by item number
+-- the text of tables: the order, the greatest finish, and the items by number
 abbrev pub table_text : Graph → List ℕ → List NodeTable → ℕ → List ℕ
 table_text g order tables worst = order_line g order ++ worst_line worst ++ flat_map (item_text g tables) (numbers_below (item_count g))

@@ -1,4 +1,4 @@
--- What the nodes did, as events, and the order in which a trace tells these.
+-- What the nodes did, as events, and the order of these in a trace.
 use Rattle.std.specs.Prelude.{ℕ, ◌≡◌, ◌≤◌, ◌<◌, false, List, [], ◌∷◌, ◌++◌, map, get_or, length, IsPermutation, AllPairs}
 use Rattle.std.specs.List.{flat_map}
 use Rattle.cpg_base.specs.Numbers.{numbers_below, is_below}
@@ -24,47 +24,47 @@ deed_of (StartItem p) x = Start p
 deed_of (Message e) x = Send x
 deed_of (Broadcast c) x = Send x
 
--- what an act is
+-- the event of an act
 abbrev pub event_of_act : Graph → ℕ → Act → Event
 event_of_act g node a = record { time = a.time; node = node; deed = deed_of (item_at g a.item) a.item }
 
--- an execution of a node ends
+-- the event of an execution's end
 abbrev pub event_of_end : ℕ → ℕ × Ended → Event
 event_of_end node e = record { time = e.0; node = node; deed = End e.1.process e.1.faults e.1.value }
 
--- what the node of a number did, of the acts and the ends of all nodes
+-- what one node did, out of the acts and the ends of all nodes
 abbrev pub node_events : Graph → List (List Act) → List (List (ℕ × Ended)) → ℕ → List Event
 node_events g acts ends node = map (event_of_act g node) (get_or acts node []) ++ map (event_of_end node) (get_or ends node [])
 
--- what all of them did
+-- what all nodes did
 abbrev pub all_events : Graph → List (List Act) → List (List (ℕ × Ended)) → List Event
 all_events g acts ends = flat_map (node_events g acts ends) (numbers_below (length g.nodes))
 
--- ends come first, then sends and then starts, and of one kind the lower number
+-- the key that orders deeds: ends, then sends, then starts, and within a kind by number
 abbrev pub deed_key : Deed → List ℕ
 deed_key (End process faults value) = 0 ∷ process ∷ []
 deed_key (Send item) = 1 ∷ item ∷ []
 deed_key (Start process) = 2 ∷ process ∷ []
 
--- by time, by number of the node, and then by what it did
+-- the key that orders events: by time, then by node number, then by deed
 abbrev pub event_key : Event → List ℕ
 event_key e = e.time ∷ e.node ∷ deed_key e.deed
 
--- all events, in order; where no two of them have one key, there is one such list
+-- all events, in order; if no two of them have the same key, there is just one such list
 pub record AreToldInOrder (g : Graph) (acts : List (List Act)) (ends : List (List (ℕ × Ended))) (events : List Event) : Type 0 where
   pub all : IsPermutation (all_events g acts ends) events
   pub in_order : AllPairs (λ a b. is_below (event_key b) (event_key a) ≡ false) events
 
--- the end of a process of the graph, with no more faults than there may be
+-- the end is of a process of the graph, and has no more faults than are allowed
 pub record IsEndWithin (g : Graph) (e : ℕ × Ended) : Type 0 where
   pub process : e.1.process < process_count g
   pub faults : e.1.faults ≤ g.faults
 
--- a start or a send of an item of the graph
+-- the act is of an item of the graph
 abbrev pub IsActWithin : Graph → Act → Type 0
 IsActWithin g a = a.item < item_count g
 
--- the same of what a node did
+-- the same for what a node did
 abbrev pub IsDeedWithin : Graph → Deed → Type 0
 IsDeedWithin g (End process faults value) = (process < process_count g) × (faults ≤ g.faults)
 IsDeedWithin g (Send item) = item < item_count g

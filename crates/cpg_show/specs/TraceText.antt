@@ -1,4 +1,4 @@
--- The text of a trace: a line of each event, in order, and the greatest end.
+-- The text of a trace: a line for each event, in order, and the greatest end.
 use Rattle.std.specs.Prelude.{ℕ, ◌≡◌, Bool, nat_lt, if◌then◌else◌, List, [], ◌++◌, codes, is_some, map, get_or, length}
 use Rattle.std.specs.List.{flat_map}
 use Rattle.std.specs.Fmt.{decimal}
@@ -14,11 +14,11 @@ use Rattle.cpg_label.specs.Labels.{labels_of, process_name}
 use Rattle.cpg_show.specs.TraceEvents.{Deed, Event, AreToldInOrder}
 use Rattle.cpg_label.specs.ItemText.{done_text}
 
--- the value of a process's condition, and nothing where it has none
+-- the value of a process's condition, or nothing if it has none
 abbrev pub outcome_text : Graph → ℕ → Bool → List ℕ
 outcome_text g process value = if is_some (condition_of g process) then codes " value " ++ value_text (number_of_value value) else []
 
--- how long an execution ran, where that is less than its full duration
+-- how long an execution ran, if that is less than its full duration
 abbrev pub ran_text : ℕ → ℕ → List ℕ
 ran_text length full = if nat_lt length full then codes " ran " ++ decimal length else []
 
@@ -33,7 +33,7 @@ deed_text g lengths (End process faults value) = end_text g lengths process faul
 deed_text g lengths (Send item) = done_text (labels_of g) (item_at g item)
 deed_text g lengths (Start process) = done_text (labels_of g) (StartItem process)
 
--- when it was, on which node, and what
+-- the line of an event: its time, its node, and what it was
 abbrev pub event_line : Graph → List ℕ → Event → List ℕ
 event_line g lengths e = decimal e.time ++ codes " " ++ get_or g.nodes e.node [] ++ codes " " ++ deed_text g lengths e.deed ++ codes "\n"
 
@@ -41,7 +41,7 @@ event_line g lengths e = decimal e.time ++ codes " " ++ get_or g.nodes e.node []
 abbrev pub end_times : List (List (ℕ × Ended)) → ℕ → List ℕ
 end_times ends node = map {A = ℕ × Ended} {B = ℕ} (λ e. e.0) (get_or ends node [])
 
--- the greatest end of all nodes, and 0 where there is none
+-- the greatest end on any node, or 0 if there is none
 abbrev pub finish_of : Graph → List (List (ℕ × Ended)) → ℕ
 finish_of g ends = greatest (flat_map (end_times ends) (numbers_below (length g.nodes)))
 
@@ -49,7 +49,7 @@ finish_of g ends = greatest (flat_map (end_times ends) (numbers_below (length g.
 abbrev pub finish_line : Graph → List (List (ℕ × Ended)) → List ℕ
 finish_line g ends = codes "finish " ++ decimal (finish_of g ends) ++ codes "\n"
 
--- the text of what the nodes did, of executions with these lengths by process
+-- the text is that of what the nodes did; `lengths` has the length of each process's execution
 abbrev pub IsTraceText : Graph → List ℕ → List (List Act) → List (List (ℕ × Ended)) → List ℕ → Type 0
 IsTraceText g lengths acts ends text = (events : List Event) × AreToldInOrder g acts ends events ×
     (text ≡ flat_map (event_line g lengths) events ++ finish_line g ends)
