@@ -1,4 +1,4 @@
--- What a judge is asked about a graph with its best parts: whether it is accepted, for each fault number.
+-- What is asked of a judge: for each fault number, whether the graph with its best parts is accepted.
 use Rattle.std.specs.Prelude.{ℕ, ◌≤◌, ◌↔◌}
 use Rattle.cpg_base.specs.declared.limits.TheConstants.{MOST_FAULTS}
 use Rattle.cpg_base.specs.Graph.{Graph}
@@ -6,15 +6,15 @@ use Rattle.cpg_tune.specs.declared.judge.Judged.{Judged}
 use Rattle.cpg_tune.specs.Best.{best_parts}
 use Rattle.cpg_tune.specs.Retuned.{retuned}
 
--- the graph of a row: with its best parts and a fault number
+-- the graph of a row, with its best parts and a fault number
 abbrev pub row_graph : Graph → ℕ → Graph
 row_graph g faults = retuned g (best_parts g) faults
 
--- the graph of each row may be asked
+-- the judge may be asked about the graph of each row
 abbrev pub MayAskRows : (Graph → Type 0) → Graph → Type 0
 MayAskRows may g = (faults : ℕ) → faults ≤ MOST_FAULTS → may (row_graph g faults)
 
--- the same graphs may be asked
+-- the judge may be asked about the same graphs
 abbrev pub SameLeave : (Graph → Type 0) → (Graph → Type 0) → Type 0
 SameLeave old new = (g : Graph) → old g ↔ new g
 

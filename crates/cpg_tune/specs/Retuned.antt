@@ -6,11 +6,11 @@ use Rattle.cpg_base.specs.declared.process.Process.{Process}
 use Rattle.cpg_base.specs.Graph.{Graph, process_count}
 use Rattle.cpg_tune.specs.Best.{in_parts}
 
--- each process in the number of parts at its place
+-- each process with the number of parts at its place
 abbrev pub in_parts_each : List Process → List ℕ → List Process
 in_parts_each ps parts = map (λ pair. in_parts pair.0 pair.1) (zip ps parts)
 
--- all else is as it was
+-- all else is unchanged
 abbrev pub retuned : Graph → List ℕ → ℕ → Graph
 retuned g parts faults = record g { faults = faults; processes = in_parts_each g.processes parts }
 

@@ -7,7 +7,7 @@ use Rattle.cpg_tune.specs.declared.judge.Judged.TheVariants.{Worst, Late, Wide}
 use Rattle.cpg_tune.specs.Best.{best_parts}
 use Rattle.cpg_tune.specs.Asked.{row_graph}
 
--- the parts by process, the answers by fault number, and the faults that are tolerated
+-- the parts by process, the answers by fault number, and how many faults are tolerated
 pub record Tuning : Type 0 where
   pub parts : List ℕ
   pub rows : List Judged
@@ -23,7 +23,7 @@ is_accepted (Wide item) = false
 abbrev pub row_at : List Judged → ℕ → Judged
 row_at rows faults = get_or rows faults (Wide 0)
 
--- the last place of an accepted row, where places go from `faults` on and `found` is the last one before
+-- the place of the last accepted row, if `faults` is the place of the first row here, and `found` is the last one before it
 abbrev pub tolerated_from : ℕ → Option ℕ → List Judged → Option ℕ
 tolerated_from faults found [] = found
 tolerated_from faults found (row ∷ rows) = tolerated_from (faults + 1) (if is_accepted row then Some faults else found) rows
@@ -32,18 +32,18 @@ tolerated_from faults found (row ∷ rows) = tolerated_from (faults + 1) (if is_
 abbrev pub tolerated : List Judged → Option ℕ
 tolerated rows = tolerated_from 0 None rows
 
--- one row for each fault number from 0 on, with the judge's answer for the graph with its best parts
+-- one row for each fault number from 0 on: the judge's answer for the graph with its best parts and that number
 pub record AreRows (answers : Graph → Judged → Type 0) (g : Graph) (count : ℕ) (rows : List Judged) : Type 0 where
   pub long : length rows ≡ count
   pub each : (faults : ℕ) → faults < count → answers (row_graph g faults) (row_at rows faults)
 
--- the best parts, nine rows, and what is tolerated by them
+-- the best parts, nine rows, and what they tolerate
 pub record IsTuning (answers : Graph → Judged → Type 0) (g : Graph) (t : Tuning) : Type 0 where
   pub parts : t.parts ≡ best_parts g
   pub rows : AreRows answers g (MOST_FAULTS + 1) t.rows
   pub tolerates : t.tolerates ≡ tolerated t.rows
 
--- it is accepted, and none after it is; or none is
+-- this row is accepted, and none after it is; or no row is accepted
 abbrev pub IsGreatestAccepted : List Judged → Option ℕ → Type 0
 IsGreatestAccepted rows None = (faults : ℕ) → faults < length rows → is_accepted (row_at rows faults) ≡ false
 IsGreatestAccepted rows (Some found) = (found < length rows) × (is_accepted (row_at rows found) ≡ true)
