@@ -1,4 +1,4 @@
--- Whether the head of a pack is that of a graph, and else the first part in which it differs.
+-- Whether the head of a pack is that of a graph, and if not, the first part in which it differs.
 use Rattle.std.specs.Prelude.{◌≡◌, ◌≢◌, IfSome, map}
 use Rattle.cpg_base.specs.Graph.{Graph}
 use Rattle.cpg_head.specs.GraphHead.{extra_of, head_of}
@@ -6,34 +6,34 @@ use Rattle.cpg_head.specs.Head.{Head}
 use Rattle.cpg_violation.specs.declared.heads.HeadPart.{HeadPart}
 use Rattle.cpg_violation.specs.declared.heads.HeadPart.TheVariants.{Faults, Nodes, Processes, Edges}
 
--- what it says of the processes is so, and in version 2 what it says beside
+-- the head says of the processes what the graph does, also what version 2 adds
 pub record AreProcessesOf (g : Graph) (h : Head) : Type 0 where
   pub processes : h.processes ≡ (head_of g).processes
   pub extras : IfSome h.extras (λ extras. extras ≡ map extra_of g.processes)
 
--- all that it says is so
+-- the head says the same as the graph
 pub record IsHeadFor (g : Graph) (h : Head) : Type 0 where
   pub faults : h.faults ≡ g.faults
   pub nodes : h.nodes ≡ g.nodes
   pub processes : AreProcessesOf g h
   pub edges : h.edges ≡ (head_of g).edges
 
--- another number of faults
+-- the number of faults differs
 abbrev pub HasOtherFaults : Graph → Head → Type 0
 HasOtherFaults g h = h.faults ≢ g.faults
 
--- other names of nodes, where that is the same
+-- the names of nodes differ, and the number of faults is the same
 pub record HasOtherNodes (g : Graph) (h : Head) : Type 0 where
   pub faults : h.faults ≡ g.faults
   pub nodes : h.nodes ≢ g.nodes
 
--- other processes, where those are the same
+-- the processes differ, and what comes before them is the same
 pub record HasOtherProcesses (g : Graph) (h : Head) : Type 0 where
   pub faults : h.faults ≡ g.faults
   pub nodes : h.nodes ≡ g.nodes
   pub processes : AreProcessesOf g h → ⊥
 
--- other edges, where all of that is the same
+-- the edges differ, and what comes before them is the same
 pub record HasOtherEdges (g : Graph) (h : Head) : Type 0 where
   pub faults : h.faults ≡ g.faults
   pub nodes : h.nodes ≡ g.nodes
