@@ -18,11 +18,11 @@ file_words (Hyper parts) = map (λ part. part.graph) parts
 file_words (Tune graph) = graph ∷ []
 file_words (Audit graph pack log) = graph ∷ pack ∷ log ∷ []
 
--- No command names no file.
+-- If there is no command, no files are named.
 abbrev pub file_words_if : Option Command → List Text
 file_words_if None = []
 file_words_if (Some command) = file_words command
 
--- The files of the command that the words ask for; none where they have no form.
+-- The files of the command that the words ask for, or none if they form no command.
 abbrev pub file_words_of : List Text → List Text
 file_words_of words = file_words_if (command_of words)

@@ -1,4 +1,4 @@
--- The rule on words: which lists of words have a form, and which command each of them is.
+-- The rule on words: which lists of words form a command, and which one.
 use Rattle.std.specs.Prelude.{ℕ, ◌&&◌, List, [], ◌∷◌, length, codes, Option, Some, None, option_map, option_and_then, if◌then◌else◌, nat_le, nat_lt, find}
 use Rattle.std.specs.Str.{bytes_eq}
 use Rattle.cpg_words.specs.declared.command.Pair.{Pair}
@@ -24,7 +24,7 @@ abbrev pub three_words : (Text → Text → Text → Command) → Reads
 three_words make (a ∷ b ∷ c ∷ []) [] = Some (make a b c)
 three_words make _ _ = None
 
--- GRAPH PACK SCENARIO, and `--turns N` once.
+-- GRAPH PACK SCENARIO, and once `--turns N`.
 abbrev pub play_of : Reads
 play_of (graph ∷ pack ∷ scenario ∷ []) (turns ∷ []) = option_map (Play graph pack scenario) (number turns)
 play_of _ _ = None
@@ -45,7 +45,7 @@ pairs_of [] = Some []
 pairs_of (n ∷ []) = None
 pairs_of (n ∷ graph ∷ rest) = with_pair (number n) graph (pairs_of rest)
 
--- The pairs, where they are one to four.
+-- The pairs, if there are one to four.
 abbrev pub one_to_four : List Pair → Option (List Pair)
 one_to_four pairs = if nat_lt 0 (length pairs) && nat_le (length pairs) 4 then Some pairs else None
 
@@ -76,7 +76,7 @@ abbrev pub in_form : Parts → Option Form → Option Command
 in_form p None = None
 in_form p (Some form) = form.1 p.positionals p.turns
 
--- What the command of this name makes of the parts; None where no command has the name.
+-- What the command of this name makes of the parts, or None if no command has the name.
 abbrev pub command_named : List Form → Text → Parts → Option Command
 command_named fs name p = in_form p (find (λ f. bytes_eq f.0 name) fs)
 
@@ -85,6 +85,6 @@ abbrev pub command_in : List Form → List Text → Option Command
 command_in fs [] = None
 command_in fs (name ∷ words) = option_and_then (command_named fs name) (parts_of words)
 
--- The command that the words ask for, and None where they have no form.
+-- The command that the words ask for, or None if they form none.
 abbrev pub command_of : List Text → Option Command
 command_of words = command_in forms words

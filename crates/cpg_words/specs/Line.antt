@@ -1,4 +1,4 @@
--- The command line as `clap` is told of it: for each command a list of words and a list of values of `--turns`.
+-- The command line as `clap` sees it: each command has a list of words and a list of values of `--turns`.
 use Rattle.std.specs.Prelude.{List, codes, Some, true, fold, map}
 use Rattle.clap.specs.Words.{App, Rule, new_app, new_rule, with_rule, with_subcommand}
 use Rattle.clap.specs.declared.builder.ArgAction.TheVariants.{Append}

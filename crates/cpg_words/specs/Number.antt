@@ -7,6 +7,6 @@ use Rattle.std.specs.Str.Parse.{digits_value}
 abbrev pub is_numeral : List ℕ → Bool
 is_numeral w = all_ascii_digits w && (nat_lt 0 (length w) && nat_le (length w) 20)
 
--- The number that a numeral writes in base ten, where it is below 2^64.
+-- The number that a numeral writes in base ten, if it is below 2^64.
 abbrev pub number : List ℕ → Option ℕ
 number w = if is_numeral w && nat_lt (digits_value 10 w) (2 ^ 64) then Some (digits_value 10 w) else None

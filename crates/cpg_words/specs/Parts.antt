@@ -12,7 +12,7 @@ Text = List ℕ
 abbrev pub texts : List (Bor Text) → List Text
 texts = map (λ w. w.now)
 
--- The positionals, and the values of `--turns`, in the order in which they stand.
+-- The positionals, and the values of `--turns`, in the order of the words.
 pub record Parts : Type 0 where
   pub positionals : List Text
   pub turns : List Text
@@ -47,9 +47,9 @@ abbrev pub with_option : Text → Option Parts → Option Parts → Option Parts
 with_option w others value_first =
     if is_turns w then (elim (value_in w) [ Some v ↦ with_turns v others | None ↦ value_first ]) else None
 
--- The parts of a list of words; None where an option is not `--turns`, or `--turns` lacks its value. The flag is true
--- where `--turns` stands right before the list, so that the first word is its value, whatever it is. The first `--`
--- that is no value ends the options: each word after it is a positional.
+-- The parts of a list of words, or None if an option isn't `--turns`, or `--turns` lacks its value. The flag is true if
+-- `--turns` comes right before the list: then the first word is its value, whatever it is. The first `--` that isn't a value
+-- ends the options; each word after it is a positional.
 abbrev pub parts_from : Bool → List Text → Option Parts
 parts_from true [] = None
 parts_from false [] = Some (record { positionals = []; turns = [] })
