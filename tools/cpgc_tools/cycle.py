@@ -1,11 +1,11 @@
-"""Says the least cycle time at which the tables of a pack may be repeated.
+"""Writes the least cycle time at which the tables of a pack may be repeated.
 
     cycle GRAPH PACK
     cycle --more GRAPH PACK
 
-It is the least multiple of the bus round that is neither before the graph's deadline nor before the last arrival of a frame
-(docs/MODEL.md, "Repeating a cycle"). The pack is checked first. --more adds what it comes from: the round, the deadline, the last
-arrival, and the latest end, down to which the deadline can be lowered.
+The cycle time is the least multiple of the bus round that is before neither the graph's deadline nor the last arrival of a frame
+(docs/MODEL.md, "Repeating a cycle"). The pack is checked first. --more also writes what the cycle time comes from: the round, the
+deadline, the last arrival, and the latest end, to which the deadline could be lowered.
 
 For example, `cpgc compile pair.toml > pair.pack && cycle pair.toml pair.pack` writes `cycle 120`.
 """
@@ -29,7 +29,7 @@ def parts(it: graph.Graph, tables: pack.Pack) -> dict[str, int]:
 
 def main() -> None:
     words = cli.Words(__doc__).with_program()
-    words.add_argument("--more", action="store_true", help="say what the cycle time comes from, too")
+    words.add_argument("--more", action="store_true", help="also write what the cycle time comes from")
     words.add_argument("graph", metavar="GRAPH")
     words.add_argument("pack", metavar="PACK")
     said = words.parse_args()

@@ -1,27 +1,27 @@
-"""Makes a graph file of a task graph of TGFF, by a mapping of its tasks to nodes.
+"""Makes a graph file from a TGFF task graph and a mapping of its tasks to nodes.
 
     from-tgff FILE MAPPING > graph.toml
     from-tgff --graph N FILE MAPPING > graph.toml
 
-FILE is what TGFF writes (.tgff): blocks @TASK_GRAPH with TASK, ARC and HARD_DEADLINE, and blocks of tables that tell numbers by type,
-as @PE 0; a table is read by the names in the comment above it. MAPPING is a TOML file with what TGFF doesn't know:
+FILE is what TGFF writes (.tgff): blocks @TASK_GRAPH with TASK, ARC and HARD_DEADLINE, and blocks of tables that give numbers by type, such
+as @PE 0. The columns of a table are named in the comment above it. MAPPING is a TOML file with what TGFF doesn't know:
 
     faults = 1                      required, k
-    scale = 10                      time units for one of FILE; 1 where nothing is said
-    deadline = 300                  of the graph, in its time units; the period where nothing is said
+    scale = 10                      time units for one of FILE (1 by default)
+    deadline = 300                  of the graph, in its time units (the period by default)
     bytes = 4                       of each message; or by the type of its arc: bytes = { table = "COMMUN 0", column = "bytes" }
-    node = [{ name = "N1", table = "PE 0", column = "exec_time" }, ..]     where the times of its tasks stand, by type
+    node = [{ name = "N1", table = "PE 0", column = "exec_time" }, ..]     where the times of its tasks are, by type
     slot = [{ node = "N1", length = 10, bytes = 8 }, ..]                   as in a graph file
     [task]                          on which node a task runs; `*` in a name stands for anything, and the first that fits counts
     "t0_*" = "N1"
     [process]                       keys of all processes
     alpha = 1
-    [process.t0_3]                  keys of one, as parts, release, frozen
+    [process.t0_3]                  keys of one, such as parts, release, frozen
     parts = 2
 
-A task becomes a process, an arc an edge, a hard deadline an own deadline; soft deadlines and what else there is are left out. Times are
-rounded up, deadlines down, and a time is at least 1. Where a table has a column `valid`, a row with a 0 there doesn't count; of several
-rows of a type the greatest number does. Of several task graphs N says which; `cpgc hyper` joins the graphs of several.
+A task becomes a process, an arc an edge, and a hard deadline the process's own deadline. Soft deadlines and everything else are left out.
+Times are rounded up and deadlines down, and a time is at least 1. If a table has a column `valid`, rows with a 0 there don't count; if a
+type has several rows, the greatest number counts. If FILE has several task graphs, N says which; `cpgc hyper` joins the graphs of several.
 
 For example, `from-tgff --graph 0 engine.tgff engine-mapping.toml > engine.toml` with the files of docs/examples.
 """

@@ -18,16 +18,16 @@ from typing import Any, NamedTuple
 from cpgc_tools import cli
 from cpgc_tools.graph import Graph, is_name
 
-HELP = """Reads a pack of schedule tables as JSON, or writes one from it. docs/FORMATS.md says the bytes.
+HELP = """Reads a pack of schedule tables as JSON, or writes one from JSON. docs/FORMATS.md describes the bytes.
 
     pack read [FILE] > tables.json
     pack write [FILE] > tables.pack
 
-Without a file they take standard input. Each process and each row is a line. A column is [time, [[variable, low, high], ..]]. Variable p
-below 128 is the fault count of process p, and 128 + c the value of condition c; rows stand by node, each with the item that it is of.
+Without a file, standard input is read. Each process and each row is a line. A column is [time, [[variable, low, high], ..]]. Variable p
+below 128 is the fault count of process p, and 128 + c is the value of condition c. Rows are listed by node, each with its item.
 
-Beside the numbers stand names: keys that end in _name or _names, those of columns as `cpgc show` writes literals. `pack write` doesn't
-look at them. Nothing is judged: `cpgc check` does that.
+Names are written beside the numbers, at keys that end in _name or _names; those of columns are as `cpgc show` writes literals. `pack write`
+ignores the names. The tool doesn't judge a pack: `cpgc check` does that.
 
 For example, `pack read pair.pack | sed 's/\\[50, /[49, /' | pack write > wrong.pack` makes a frame come one time unit earlier.
 """

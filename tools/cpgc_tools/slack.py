@@ -1,18 +1,19 @@
-"""Says how far the wcet of each process may grow, if it alone does, until the graph is refused.
+"""Shows how far the wcet of each process may grow on its own until the graph is rejected.
 
     slack GRAPH [NAME ..]
     slack --samples N GRAPH [NAME ..]
 
-The bound is found by halving: the graph compiles with that wcet, and not with one more. Of a graph with at most two conditions it is
-reckoned whether it would compile, and cpgc is asked of what is found; where it says something else, and of other graphs, it is asked of
-each try. A longer execution can change the order of the processes, so that a
-graph may be refused with a wcet and compile with a greater one. So values between the wcet and the bound are tried as well: all where
-there are at most 64, and 32 evenly spread where there are more (or N, all where there are no more). The bound is then below the least
-refused value that was found. Where greater ones compile too, the greatest that was found is said behind it. What wasn't tried isn't
-known: how many values were is said in the head line.
+The bound is found by bisection: the graph compiles with that wcet, and not with one more. For a graph with at most two conditions the
+tool computes itself whether the graph would compile, and lets cpgc confirm what it finds. If cpgc disagrees, and for other graphs, cpgc
+makes every try.
 
-Of a graph that is late it says to what each wcet would have to shrink, if it alone did, and `none` where none of the values and 1
-helps. The processes that need the least change, in proportion, come first. With names it says this of these processes alone. As many
+A longer execution can change the order of the processes, so a graph may be rejected with one wcet and compile with a greater one.
+Therefore values between the wcet and the bound are tried as well: all of them if there are at most 64, and otherwise 32 that are evenly
+spread (or N of them, or all if there are no more). The bound is then below the least value found to be rejected. If greater values compile
+too, the greatest that was found comes after it. Nothing is known of values that weren't tried; the head line says how many were.
+
+For a late graph it shows to what each wcet would have to shrink on its own, or `none` if neither 1 nor any other value that was tried
+helps. The processes that need the least change, in proportion, come first. With names it shows this for these processes alone. As many
 tries run at once as there are processors.
 
 For example, `slack pair.toml A` writes `up to 34` of A, whose wcet is 30.
@@ -134,7 +135,7 @@ def row(tries: Tries, number: int, late: bool) -> Row:
 
 def main() -> None:
     words = cli.Words(__doc__).with_program()
-    words.add_argument("--samples", metavar="N", type=cli.whole(0, 10**6), help="how many values below the bound are tried, too")
+    words.add_argument("--samples", metavar="N", type=cli.whole(0, 10**6), help="how many values below the bound are tried as well")
     words.add_argument("graph", metavar="GRAPH")
     words.add_argument("names", metavar="NAME", nargs="*", help="a process")
     said = words.parse_args()

@@ -1,10 +1,10 @@
-"""Makes of a play the stream of what one of its nodes is told, for `cpgc live`. docs/FORMATS.md says the bytes.
+"""Makes the stream of one node from a play, for `cpgc live`: what the node hears and reports. docs/FORMATS.md describes the bytes.
 
     cpgc play GRAPH PACK SCENARIO --turns 0 | stream PACK NODE > node.stream
     cpgc live PACK NODE node.stream
 
-A frame for each message and broadcast that the node hears, an end for each execution of its own, when it really ends, and the close
-when the play's last event is over. A node whose name begins with - stands behind `--`.
+The stream has a frame for each message and broadcast that the node hears, an end for each of its executions, when it really ends, and a
+close after the play's last event. Put `--` before a node's name that begins with -.
 
 For example, `cpgc play pair.toml pair.pack pair-scenario.toml --turns 0 | stream pair.pack N2 > n2.stream`.
 """

@@ -1,11 +1,11 @@
-"""Draws what `cpgc play` prints as a time line: a lane for the executions of each node, and one for what it sends.
+"""Draws what `cpgc play` prints as a time line: for each node a lane for its executions, and one for what it sends.
 
     cpgc play GRAPH PACK SCENARIO --turns 0 | timeline [GRAPH]
     cpgc play GRAPH PACK SCENARIO --turns 0 | timeline --svg [GRAPH] > play.svg
 
-An execution stands from its start to its end, with a `!` for each fault; a frame at the time at which its slot begins. Where a bar is
-too short, its name and marks are cut. Nodes stand in the order of the graph file, and those that do nothing are shown too; without the
-file by name, but for those of which the play tells their order.
+An execution is drawn from its start to its end, with a `!` for each fault, and a frame at the time at which its slot begins. If a bar is
+too short, its name and marks are cut. With the graph file, nodes are in its order, and those that do nothing are shown too. Without it they
+are in the order of their names, except for those whose order the play shows.
 
 For example, `cpgc play pair.toml pair.pack pair-scenario.toml --turns 0 | timeline pair.toml`.
 """

@@ -1,15 +1,17 @@
-"""Writes a graph file with the best number of parts of each process, as `cpgc tune` finds them.
+"""Writes a graph file with the best number of parts for each process, as `cpgc tune` finds them.
 
     tuned GRAPH > better.toml
     tuned --search GRAPH > better.toml
 
-The text stays as it is but for the `parts`: the number is changed where one stands, and else put behind the wcet. Where the parts don't
-stand in the text as a key of their process, the graph is written anew, without the comments, and a line on the error stream says so.
+Only the `parts` change in the text: a number that is there is replaced, and any other is added after the wcet. If the text doesn't have
+the parts as a key of their process, the graph is written anew, without the comments, and a line on the error stream says so.
 
-The best parts are those with which an execution with all faults lasts shortest. The graph need not be better with them, as each execution
-without a fault lasts longer. Where its latest end doesn't come earlier, a line on the error stream says so. --search looks for parts with
-which the latest end comes earlier: it changes those of what leads to it, again and again, beginning at the best ones and at those of the
-file, and shows what it finds to `cpgc`. That no other parts are better isn't said.
+The best parts are those with which an execution with all faults is shortest. The graph needn't be better with them, since each execution
+without a fault lasts longer. If its latest end doesn't come earlier, a line on the error stream says so.
+
+--search looks for parts with which the latest end comes earlier. It repeatedly changes the parts of processes that lead to that end,
+starting from the best parts and from those of the file, and compiles what it finds with `cpgc`. It never says that no other parts are
+better.
 
 For example, `tuned pair.toml > better.toml` puts `parts = 2` behind the wcet of A.
 """

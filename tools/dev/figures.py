@@ -1,15 +1,18 @@
-"""Measures the built program on graphs that it makes itself, and prints the rows of docs/PERFORMANCE.md.
+"""Measures the built program on graphs that it generates, and prints the rows of docs/PERFORMANCE.md.
 
     tools/figures PROGRAM [NAME ..]
     tools/figures PROGRAM --beside OTHER [NAME ..]
     tools/figures PROGRAM --more [NAME ..]
 
-With `--beside` it runs another program that takes the words `show`, `compile` and `check` next to each run, and prints the processor
-time of both and how many times the other's `cpgc` takes; the packs that both check are those of `cpgc`, and then those of the other.
-With `--more` it prints by how much a pack's play and audits of it take longer than its check, by the least of nine runs in turn: of the
-logs of plays without faults, with one in the middle, with all that there may be there, and with all apart, of the first half of a log,
-and of one that no scenario gives. Otherwise each run is the best of three, by processor time, with the most memory that it held.
-Execution times and edges are drawn by a fixed seed, so the graphs are the same on every machine.
+With `--beside` it also runs another program that takes the words `show`, `compile` and `check` next to each run. It prints the processor
+time of both, and the ratio of the time of `cpgc` to that of the other. Both check the packs of `cpgc`, and then those of the other.
+
+With `--more` it prints how much longer a play and audits of a pack take than its check, by the least of nine runs in turn. The audits are
+of the logs of plays without faults, with one fault in the middle, with all possible faults there, and with all of them apart; of the first
+half of a log; and of a log that no scenario gives.
+
+Otherwise each run is the best of three, by processor time, with the most memory that it held. Execution times and edges are drawn from a
+fixed seed, so the graphs are the same on every machine.
 """
 from __future__ import annotations
 

@@ -1,19 +1,19 @@
-"""Runs the built program on damaged, huge and deep input, and with memory that runs out. Nothing of it is part of the gate.
+"""Runs the built program on damaged, huge and deep input, and with memory that runs out. None of this is part of the gate.
 
     tools/hostile PROGRAM [damage] [limits] [depth] [files] [memory] [extremes] [--quick]
 
 damage   each byte of worked packs, graph files, scenario files, logs and streams changed to each of eight values, each byte
-         doubled, and each beginning: the program ends by a status of its own, within a time, and says one line or none
-limits   files of just their limit and of one byte more, a stream of the most records and of one byte more
-depth    deep nesting, long keys, many tables, long numbers, packs that claim more than they have
-files    for each command outputs that take every number of bytes below what it writes, error outputs that take every number below
+         doubled, and each prefix: the program ends in time, with a status of its own and at most one line
+limits   files of exactly the limit and of one byte more, and streams of the most records and of one byte more
+depth    deep nesting, long keys, many tables, long numbers, and packs that claim more than they have
+files    for each command, outputs that take every number of bytes below what it writes, error outputs that take every number below
          the line of a refusal of each status, and each of its files missing or a folder
-memory   each allocation refused in turn, by a library that is made with cc and loaded before malloc: status 8 and no output, or
-         what the run gives with enough memory (of long runs every allocation at first, and then one of many)
-extremes small files whose answer is small, and that take minutes or gigabytes where a program does too much: each within a time, so
-         much memory, and a stack of 1 MiB
+memory   each allocation fails in turn, by a library that is made with cc and loaded before malloc: status 8 and no output, or
+         what the run writes with enough memory (for long runs every allocation at first, and then one of many)
+extremes small files with small answers that take minutes or gigabytes if a program does too much: each within limits of time and
+         memory, and with a stack of 1 MiB
 
---quick takes a sample of each. The last line says how many runs there were and how many of them ended as they must not.
+--quick takes a sample of each. The last line says how many runs there were, and how many of them ended as they must not.
 """
 from __future__ import annotations
 

@@ -1,19 +1,19 @@
-"""Puts cpgc, its tools, their page of the manual and the completion of its words where a PATH finds them.
+"""Installs cpgc, its tools, their manual page and the completion of its words where a PATH finds them.
 
     tools/install [--program CPGC] DIR
     tools/install --remove DIR
 
-CPGC is crates/cpgc/out/cpgc where nothing is said, DIR for example ~/.local or /usr/local. Below it are then
+CPGC is crates/cpgc/out/cpgc by default. DIR is for example ~/.local or /usr/local, and then has
 
     bin/cpgc, bin/cpgc-explain, bin/cpgc-why ..    the program, and each tool with a name that begins with cpgc-
     lib/cpgc/tools                                 the tools as one file, to which these names link
-    share/cpgc/graph.schema.json                   what editors know a graph file by
+    share/cpgc/graph.schema.json                   the schema by which editors know a graph file
     share/cpgc/c                                   the node in C, for the tables that cpgc-c-table writes
     share/man/man1/cpgc.1
     share/bash-completion/completions/cpgc
-    share/cpgc/installed                           a list of all these, by which --remove takes them away
+    share/cpgc/installed                           a list of all these, by which --remove deletes them
 
-It can be run again: what was installed before and isn't any more goes away. Nothing is written or taken away through a link that leads
+It can be run again: whatever was installed before and no longer belongs is deleted. Nothing is written or deleted through a link that leads
 out of DIR. For example, `tools/install ~/.local`.
 """
 from __future__ import annotations

@@ -2,9 +2,9 @@
 
     tools/prove-runtime [FUNCTION ...] [--machine M] [--seconds S] [--provers N]
 
-WP is run with the checks of RTE on one function after another of cpg_node.c, by the contracts that stand there. A line says of
-each function how many goals were proved, and one names each goal that wasn't. The status is 0 where all were. Where frama-c,
-why3, cvc4 or z3 is missing, a line says so, and nothing is done.
+WP runs with the checks of RTE on one function of cpg_node.c after another, by the contracts in that file. A line for each function says
+how many of its goals were proved, and a line after it names each goal that wasn't. The status is 0 if all were proved. If frama-c, why3, cvc4
+or z3 is missing, a line says so, and nothing is done.
 """
 import argparse
 import os
@@ -41,11 +41,11 @@ def prove(function: str, asked: argparse.Namespace) -> tuple[int, int, list[str]
 
 def words() -> argparse.Namespace:
     parser = cli.Words(__doc__)
-    parser.add_argument("functions", nargs="*", metavar="FUNCTION", help="of cpg_node.c (all)")
+    parser.add_argument("functions", nargs="*", metavar="FUNCTION", help="a function of cpg_node.c (all by default)")
     parser.add_argument("--machine", default="x86_64", metavar="M", help="a machine model of frama-c (x86_64); x86_32 has "
                         "the sizes of a Cortex-M")
-    parser.add_argument("--seconds", type=int, default=10, metavar="S", help="for which a prover may work on a goal (10)")
-    parser.add_argument("--provers", type=int, default=1, metavar="N", help="that work at a time (1)")
+    parser.add_argument("--seconds", type=int, default=10, metavar="S", help="how long a prover may work on a goal (10)")
+    parser.add_argument("--provers", type=int, default=1, metavar="N", help="how many provers work at a time (1)")
     return parser.parse_args()
 
 

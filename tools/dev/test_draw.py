@@ -3,7 +3,7 @@
     tools/test-draw PROGRAM
     tools/test-draw PROGRAM --make
 
-The pictures have to be the same to the byte; --make writes them instead. The tests are those of tools/tests/test_draw.py.
+The pictures must be the same to the byte; --make writes them instead. The tests are those of tools/tests/test_draw.py.
 """
 from __future__ import annotations
 

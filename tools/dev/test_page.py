@@ -1,14 +1,15 @@
-"""Holds what the page of tools/page shows against what `cpgc play` writes, in a headless browser.
+"""Compares what the page of tools/page shows with what `cpgc play` writes, in a headless browser.
 
     tools/test-page PROGRAM [--quick]
     tools/test-page PROGRAM --measure
     tools/test-page PROGRAM --screenshot FILE
 
-PROGRAM is a built cpgc. Pages of generated graphs and of the examples are opened, and scenarios are given to each by its address. What is
-drawn then, and the play as text, is compared with the play of the program; each process's latest end with that of all scenarios, where a
-graph has few; and what a node is said to have heard with the play and the rows of the pack. With `--measure` it times clicks in the page of a
-graph of 128 processes over 16 nodes. With `--screenshot` it writes the picture of the controller's page. Needs Chromium; where there is
-none it says so and ends with status 0.
+PROGRAM is a built cpgc. Pages of generated graphs and of the examples are opened, and scenarios are given to each by its address. Three
+things are compared: what is drawn then, and the play as text, with the play of the program; each process's latest end with that of all
+scenarios, if the graph has few; and what a node is said to have heard with the play and the rows of the pack.
+
+With `--measure` it times clicks in the page of a graph of 128 processes over 16 nodes. With `--screenshot` it writes the picture of the
+controller's page. It needs Chromium; if there is none, it says so and ends with status 0.
 """
 from __future__ import annotations
 
@@ -633,7 +634,7 @@ def main() -> int:
     words.add_argument("--quick", action="store_true", help="three generated graphs in place of thirty")
     words.add_argument("--measure", action="store_true", help="time clicks in a large page")
     words.add_argument("--screenshot", metavar="FILE", help="write the picture of the controller's page")
-    words.add_argument("--browser", metavar="PATH", help="the browser, where it isn't found by its name")
+    words.add_argument("--browser", metavar="PATH", help="the browser, if it isn't found by its name")
     given = words.parse_args()
     browser = given.browser or next((it for it in map(shutil.which, BROWSERS) if it), None)
     if browser is None:

@@ -4,19 +4,19 @@
 
 It builds the node with gcc under the address and undefined-behaviour sanitizers, and compares
 
-- what it answers to calls that are wrong, or where a premise breaks, with what is wanted;
+- its answers to wrong calls, and to calls when a premise is broken, with what is expected;
 - how it opens lawful and damaged packs, with `cpgc live`;
-- that any calls by damaged packs end, and touch nothing else;
-- what it does on streams of records, lawful and spoilt, by the packs of the examples, of generated graphs and of no graph, with
+- that any calls with damaged packs end, and touch nothing else;
+- what it does on streams of records, lawful and damaged, by the packs of the examples, of generated graphs and of no graph, with
   `cpgc live`;
-- what a cluster of such nodes does, that exchange frames alone, with `cpgc play`; and that its watch tells nothing then, but each
-  execution that hangs, and of frames that are lost what it can;
-- what nodes do that are programs of their own, each with its table alone (runtime/c/example), with `cpgc play`; also cycle after cycle;
+- what a cluster of such nodes does, which exchange nothing but frames, with `cpgc play`; its watch then reports nothing except each
+  execution that hangs and, of lost frames, what it can;
+- what nodes do that are separate programs, each with only its own table (runtime/c/example), with `cpgc play`; also cycle after cycle;
 
-and asks cppcheck, clang-tidy and clang, which have to be silent.
+and runs cppcheck, clang-tidy and clang, which must report nothing.
 
---arm runs these on an emulated Cortex-M3 too. Where gcc, or for --arm a package, is missing, a line says so and it is left out.
-The status is 0 where nothing differs.
+--arm also runs these on an emulated Cortex-M3. If gcc, or for --arm a package, is missing, a line says so and it is left out.
+The status is 0 if nothing differs.
 """
 from __future__ import annotations
 
@@ -452,7 +452,7 @@ def words() -> argparse.Namespace:
     parser.add_argument("program", metavar="PROGRAM", help="the built cpgc")
     parser.add_argument("--streams", type=int, default=300, metavar="N", help="how many streams (300)")
     parser.add_argument("--plays", type=int, default=60, metavar="N", help="how many plays (60)")
-    parser.add_argument("--seed", type=int, default=1, metavar="S", help="from which all are drawn (1)")
+    parser.add_argument("--seed", type=int, default=1, metavar="S", help="the seed from which all are drawn (1)")
     parser.add_argument("--arm", action="store_true", help="run the emulated Cortex-M3 too")
     parser.add_argument("--keep", metavar="FOLDER", help="leave the programs, packs and last files in this folder, an empty one")
     return parser.parse_args()

@@ -2,8 +2,8 @@
 
     tools/test-tools [PROGRAM [NAME ..]]
 
-PROGRAM is crates/cpgc/out/cpgc where nothing is said, a NAME a module of tools/tests or what is in one, as test_slack or
-test_slack.Slack.test_pair; all of them where nothing is said. tools/test-draw PROGRAM --make writes the pictures of docs/pictures.
+PROGRAM is crates/cpgc/out/cpgc by default. A NAME is a module of tools/tests or something in one, such as test_slack or
+test_slack.Slack.test_pair; without names, all tests run. tools/test-draw PROGRAM --make writes the pictures of docs/pictures.
 
 For example, `tools/test-tools PROGRAM test_cycle`.
 """

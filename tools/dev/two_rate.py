@@ -1,12 +1,12 @@
-"""Systems of two periods, drawn by number: how many a search for an order brings in time.
+"""Draws systems with two periods by number, and shows how many of them a search for an order brings in time.
 
     tools/two-rate PROGRAM FROM TO
     tools/two-rate --choice --seconds 10 --any 20 PROGRAM FROM TO
 
-Each is made of two parts by `cpgc hyper`: 3 to 6 processes on 1 to 3 nodes, a node loaded to 87% at most, k 0 or 1; with --choice each part
-has a condition, and k is 0 to 2. A line says of each the status of the program as it is, under what `explore --quick` finds, under what
-`explore --goal in-time` finds in some processor seconds, and in a longer search with another seed, with the processor seconds of each. A search
-isn't made where one before it was in time, or where no order can be.
+`cpgc hyper` makes each of two parts. They have 3 to 6 processes on 1 to 3 nodes, each node is loaded to at most 87%, and k is 0 or 1. With
+--choice each part has a condition, and k is 0 to 2. A line for each system has its status with the program as it is, with what
+`explore --quick` finds, with what `explore --goal in-time` finds in some processor seconds, and with a longer search from another seed, and
+the processor seconds of each. A search isn't made if an earlier one was in time, or if no order can be.
 
 For example, `tools/two-rate cpgc 0 80` draws 80 systems.
 """
@@ -99,8 +99,8 @@ def found(program: str, folder: Path, it: graph.Graph, words: Words, seconds: fl
 def main() -> None:
     words = cli.Words(__doc__)
     words.add_argument("--choice", action="store_true", help="parts with a condition")
-    words.add_argument("--seconds", type=float, default=10.0, help="of the search (10)")
-    words.add_argument("--any", type=float, default=20.0, help="of the longer search (20)")
+    words.add_argument("--seconds", type=float, default=10.0, help="processor seconds of the search (10)")
+    words.add_argument("--any", type=float, default=20.0, help="processor seconds of the longer search (20)")
     words.add_argument("program", metavar="PROGRAM")
     words.add_argument("first", metavar="FROM", type=int)
     words.add_argument("last", metavar="TO", type=int)

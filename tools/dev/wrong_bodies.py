@@ -2,9 +2,9 @@
 
     tools/wrong-bodies NAME ..
 
-Each file crates/NAME/wrong-bodies/WRONG.edit turns one body to a wrong one, in the form of the gate's must-fail edits. They are tried in
-a copy, where they and the crate's must-fail edits stand together: the prover has to refuse each. The copy takes the proved libraries that
-stand in out/, so prove the crates below first (`rt check` in the crate's folder does). The status is 0 where each was refused.
+Each file crates/NAME/wrong-bodies/WRONG.edit changes one body to a wrong one, in the form of the gate's must-fail edits. Both kinds are
+tried together in a copy, and the prover must refuse each. The copy takes the proved libraries that are in out/, so prove the crates below
+first (`rt check` in the crate's folder does that). The status is 0 if each was refused.
 """
 import os
 import shutil

@@ -1,4 +1,4 @@
-"""The tools as one file, a zip that Python runs: it does what its own name says, as cpgc-why, else what its first word does.
+"""Writes the tools as one file, a zip that Python runs. It acts as the tool of its own name, such as cpgc-why, or else of its first word.
 
     tools/zipped FILE
 

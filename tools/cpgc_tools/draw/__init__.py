@@ -1,15 +1,16 @@
-"""Draws the tables of a pack, or plays of it, as an SVG picture on standard output.
+"""Draws the tables of a pack, or plays of them, as an SVG picture on standard output.
 
     draw GRAPH PACK > tables.svg
     draw GRAPH PACK SCENARIO .. > plays.svg
     draw GRAPH PACK --worst > worst.svg
 
-Without a scenario it draws the tables: for each node its processes and what it sends on the bus, a row for each. A bar is a column,
-from its time to the end without faults; it stands lower and is darker by the faults that its literals ask for, and the thin line
-behind it goes to the latest end, with the faults that are left. A line leads to the latest end of all scenarios, through what it waits for.
+Without a scenario it draws the tables: for each node, a row for each of its processes and for each item that it sends on the bus. A bar
+is a column, from its time to its end without faults. The more faults the column's literals require, the lower and darker the bar is. The
+thin line behind it goes to the latest end, with the faults that are left. A line leads to the latest end of all scenarios, through what
+that waits for.
 
-With scenarios it draws a play of each, as `cpgc play` tells it, and with --worst one of a scenario of the latest end: what each node runs,
-with faults, recoveries and overheads, and each message from its slot to the start that it is for.
+With scenarios it draws a play of each, as `cpgc play` writes it, and with --worst a play of a scenario that has the latest end. A play
+shows what each node runs, with faults, recoveries and overheads, and each message from its slot to the start that it is for.
 
 Tables that `cpgc` doesn't find safe for the graph aren't drawn.
 
@@ -34,13 +35,13 @@ def options_of(words: Sequence[str] | None = None) -> argparse.Namespace:
     parser.add_argument("graph", metavar="GRAPH")
     parser.add_argument("pack", metavar="PACK")
     parser.add_argument("scenarios", metavar="SCENARIO", nargs="*")
-    parser.add_argument("--worst", action="store_true", help="also a play of a scenario of the latest end")
-    parser.add_argument("--due", metavar="GRAPH", help="in plays, draws the dues of another file of the graph: of one that is refused as late")
-    parser.add_argument("--node", action="append", metavar="NAME", help="only this node; may be said again")
+    parser.add_argument("--worst", action="store_true", help="also draws a play of a scenario that has the latest end")
+    parser.add_argument("--due", metavar="GRAPH", help="in plays, draws the due times of this other file of the graph, such as one that is rejected as late")
+    parser.add_argument("--node", action="append", metavar="NAME", help="only this node; may be given more than once")
     parser.add_argument("--from", dest="begin", type=cli.whole(0, 10**12), default=0, metavar="TIME", help="only what is at this time or later")
     parser.add_argument("--to", dest="end", type=cli.whole(0, 10**12), metavar="TIME", help="only what is at this time or before")
-    parser.add_argument("--rows", type=cli.whole(1, 100), default=1, metavar="N", help="wraps the time into so many rows")
-    parser.add_argument("--width", type=cli.whole(400, 10000), default=900, metavar="N", help="of the picture, in pixels; 900 where nothing is said")
+    parser.add_argument("--rows", type=cli.whole(1, 100), default=1, metavar="N", help="wraps the time axis into this many rows")
+    parser.add_argument("--width", type=cli.whole(400, 10000), default=900, metavar="N", help="the width of the picture in pixels (900)")
     said = parser.parse_intermixed_args(words)
     if said.due and not (said.scenarios or said.worst):
         parser.error("--due is of plays: name a scenario too, or --worst")

@@ -1,11 +1,11 @@
-"""Writes a page that shows a graph's tables in every scenario: one file for a browser, without network.
+"""Writes a page that shows a graph's tables in every scenario: one file for a browser, which needs no network.
 
     page GRAPH PACK > page.html
     page GRAPH PACK --due OTHER > page.html
 
-With `--due` the due times are those of another graph file with the same processes: for a graph that is refused as late, of which a copy
-with later deadlines was compiled. The page picks the column of each item that fits the scenario; whether a pack is right is asked of
-`cpgc check`.
+With `--due` the due times are those of another graph file with the same processes. This is for a graph that is rejected as late: compile
+a copy of it with later deadlines, and show the due times of the original. The page picks the column of each item that fits the scenario.
+It doesn't judge the pack: `cpgc check` does that.
 
 For example, `cpgc compile pair.toml > pair.pack && page pair.toml pair.pack > pair.html`.
 """
