@@ -6,6 +6,7 @@ use Rattle.std.proofs.lemmas.List.Sums.{fold-append}
 use Rattle.cpg_base.specs.Graph.{Graph, value_variable}
 use Rattle.cpg_base.specs.Scenario.{number_of, number_of_value}
 use Rattle.cpg_base.proofs.Lists.{Contains-first, Contains-rest}
+use Rattle.cpg_base.proofs.Sorted.{sorted, permutation_sorted}
 use Rattle.cpg_cube.specs.Cube.{holds}
 use Rattle.cpg_cube.specs.declared.literal.Literal.{Literal}
 use Rattle.cpg_table.specs.Table.{NodeTable, table_at, empty_table}
@@ -14,6 +15,8 @@ use Rattle.cpg_node.specs.Dispatcher.{Dispatcher, Range, Ended, Frame, Act, next
 use Rattle.cpg_node.proofs.Kept.{Keeps, keeps_cut_all, keeps_frames, within_kept, ToldBy, IsTrueEnd}
 use Rattle.cpg_node.proofs.Next.{by}
 use Rattle.cpg_cluster.specs.Cluster.{World, Cluster, Answer, Took, Waits, Done as IsDone, own_table, open_cluster, dispatcher_at, answer, reports_now, reported, frames_now, waits_on, take_turn, step_by, step, play}
+use Rattle.cpg_cluster.specs.Correct.{IsDue, asked_of, due_key}
+use Rattle.cpg_cluster.proofs.Dues.{precedes, in_order_sorted}
 use Rattle.cpg_cluster.proofs.Nodes.{Played}
 use Rattle.cpg_cluster.proofs.Executions.{ends_parts}
 use Rattle.cpg_cluster.proofs.Turns.{true_end}
@@ -200,7 +203,13 @@ streams_give g tables f h v w turns node close is l over late =
     let closed : follow (opened g tables node) (stream_of g tables w turns node close) ≡ lawful (record { dispatcher = dispatcher_at c node; acts = get_or c.acts node [] }) =
     fold-append follow_one (opened g tables node) (told_in g w (open_cluster g tables) node turns) ((close, Close) ∷ [])
     ∙ ap (λ z. follow_one z (close, Close)) (sym (whole s q.0)) ∙ closes_are_followed s.progress (dispatcher_at c node) (get_or c.acts node []) close q.1 (done_next g c node over) late in
+    let acts : List Act = sorted (precedes (due_key g)) (asked_of tables w.scenario node) in
+    let due : IsDue g tables w.scenario node acts = record {
+      all = permutation_sorted (precedes (due_key g)) (asked_of tables w.scenario node);
+      in_order = in_order_sorted (due_key g) (asked_of tables w.scenario node);
+    } in
+    let done : get_or c.acts node [] ≡ acts = ((valid_tables_are_correct g tables f h v).plays w turns is).whole node acts l due over in
     record {
       none = ap (λ (z : Step). z.fault) closed;
-      acts = λ acts due. ap (λ (z : Step). z.progress.acts) closed ∙ ((valid_tables_are_correct g tables f h v).plays w turns is).whole node acts l due over;
+      acts = subst (IsDue g tables w.scenario node) (sym (ap (λ (z : Step). z.progress.acts) closed ∙ done)) due;
     }

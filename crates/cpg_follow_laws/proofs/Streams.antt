@@ -1,16 +1,23 @@
 -- The bytes that a node of a play is fed give what is due.
-use Rattle.std.proofs.Common.{◌≡◌, ℕ, List, [], ◌∷◌, length, sym, ap, ◌∙◌, subst, arith}
-use Rattle.std.specs.Prelude.{Ok}
+use Rattle.std.proofs.Common.{◌≡◌, ℕ, ◌+◌, ◌≤◌, Bool, true, false, cond, ◌&&◌, List, [], ◌∷◌, ◌++◌, length, refl, sym, ap, ap₂, ◌∙◌, subst, arith, le-ltb}
+use Rattle.std.specs.Prelude.{is_none, Result, Ok, Err}
+use Rattle.std.proofs.lemmas.List.{take_all}
 use Rattle.std.proofs.lemmas.List.Sums.{fold-append}
+use Rattle.cpg_head.specs.Head.{Head}
 use Rattle.cpg_table.specs.Table.{NodeTable, table_at}
 use Rattle.cpg_table.proofs.GraphTables.{has_shape}
 use Rattle.cpg_cluster.specs.Cluster.{own_table, open_cluster}
+use Rattle.cpg_cluster.specs.Correct.{IsDue}
 use Rattle.cpg_cluster.proofs.Owning.{own_is}
 use Rattle.cpg_cluster.proofs.Reached.{reached_open}
 use Rattle.cpg_cluster.proofs.Plays.{played_of}
 use Rattle.cpg_live.specs.declared.event.Event.{Event}
 use Rattle.cpg_live.specs.declared.event.Event.TheVariants.{Close}
+use Rattle.cpg_live.specs.declared.following.StreamFault.{StreamFault}
+use Rattle.cpg_live.specs.declared.following.StreamFault.TheVariants.{Long}
+use Rattle.cpg_live.specs.declared.following.TheConstants.{STREAM_LIMIT}
 use Rattle.cpg_live.specs.Stream.{Progress, Step, lawful, start, after, outcome}
+use Rattle.cpg_live.specs.Streams.{act_lines, closed_line, close_of, end_by, end_of, read_part, stream_end, stream_lines}
 use Rattle.cpg_live.specs.Told.{follow_one, follow}
 use Rattle.cpg_live.specs.Spelling.{HasRoom, closed_at, stream_bytes}
 use Rattle.cpg_live.proofs.Spelling.{bytes_spell}
@@ -20,6 +27,24 @@ use Rattle.cpg_follow_laws.specs.Streams.{BytesOfPlaysGiveWhatIsDue}
 use Rattle.cpg_follow_laws.proofs.Follow.{plays_are_followed, streams_give}
 use Rattle.cpg_follow_laws.proofs.Rising.{records_rise}
 use Rattle.cpg_follow_laws.proofs.Room.{all_fit}
+
+-- a lawful close of bytes that aren't too many is their end as they are read
+module _ (table : NodeTable) (bytes : List ℕ) (short : length bytes ≤ STREAM_LIMIT) where
+  whole : read_part bytes ≡ bytes
+  whole = take_all (STREAM_LIMIT + 1) bytes (omega (arith, short))
+
+  not_long : (b : Bool) (end : Result ℕ StreamFault) → cond (b && false) (Err Long) end ≡ end
+  not_long true end = refl
+  not_long false end = refl
+
+  read_end : (close : ℕ) → outcome (after table bytes) ≡ Ok close → stream_end table bytes ≡ Ok close
+  read_end close e =
+      ap (λ bytes. end_of (after table bytes) (length bytes)) whole
+      ∙ ap (λ b. cond (is_none (after table bytes).bad && b) (Err Long) (end_by (outcome (after table bytes)))) (le-ltb STREAM_LIMIT (length bytes) short)
+      ∙ not_long (is_none (after table bytes).bad) (end_by (outcome (after table bytes))) ∙ ap end_by e
+
+  read_lines : (h : Head) (close : ℕ) → stream_end table bytes ≡ Ok close → stream_lines h table bytes ≡ act_lines h (after table bytes).progress.acts ++ closed_line close
+  read_lines h close e = ap₂ (λ (bytes : List ℕ) end. act_lines h (after table bytes).progress.acts ++ close_of end) whole e
 
 pub bytes_give : BytesOfPlaysGiveWhatIsDue
 bytes_give g tables within of f v w turns node close es is l t =
@@ -35,12 +60,14 @@ bytes_give g tables within of f v w turns node close es is l t =
     let closed : follow (lawful (start table)) (closed_at es close) ≡ follow (lawful (start table)) (closed_at told close) =
     fold-append follow_one (lawful (start table)) es ((close, Close) ∷ []) ∙ ap (λ s. follow_one s (close, Close)) same
     ∙ sym (fold-append follow_one (lawful (start table)) told ((close, Close) ∷ [])) in
-    let given = (streams_give g tables f h v w turns node close is l t.done t.late).acts in
+    let due = (streams_give g tables f h v w turns node close is l t.done t.late).acts in
     let count : length tables ≡ length g.nodes = h.count in
     let own : table ≡ table_at tables node = own_is g tables within of node (omega (arith, l, count)) in
+    let ends = subst (λ t. outcome (after t (stream_bytes (closed_at es close))) ≡ Ok close) own taken.ends in
     record {
-      ends = subst (λ t. outcome (after t (stream_bytes (closed_at es close))) ≡ Ok close) own taken.ends;
-      acts =
-          λ acts due. subst (λ t. (after t (stream_bytes (closed_at es close))).progress.acts ≡ acts) own
-          (ap (λ (p : Progress). p.acts) (taken.comes ∙ ap (λ (s : Step). s.progress) closed) ∙ given acts due);
+      ends = ends;
+      acts = subst (λ t. IsDue g tables w.scenario node (after t (stream_bytes (closed_at es close))).progress.acts) own
+          (subst (λ (p : Progress). IsDue g tables w.scenario node p.acts) (sym (taken.comes ∙ ap (λ (s : Step). s.progress) closed)) due);
+      read = λ short. read_end (table_at tables node) (stream_bytes (closed_at es close)) short close ends;
+      lines = λ h short. read_lines (table_at tables node) (stream_bytes (closed_at es close)) short h close (read_end (table_at tables node) (stream_bytes (closed_at es close)) short close ends);
     }

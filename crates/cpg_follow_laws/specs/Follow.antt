@@ -5,7 +5,7 @@ use Rattle.cpg_base.specs.WellFormed.{WellFormed}
 use Rattle.cpg_table.specs.Table.{NodeTable, table_at}
 use Rattle.cpg_table.specs.Shape.{HasShape}
 use Rattle.cpg_table.specs.Valid.{IsValid}
-use Rattle.cpg_node.specs.Dispatcher.{Act, Ended, next}
+use Rattle.cpg_node.specs.Dispatcher.{Ended, next}
 use Rattle.cpg_cluster.specs.Cluster.{World, Cluster, Answer, Took, Done, own_table, open_cluster, dispatcher_at, answer, reports_now, reported, frames_now, step, play}
 use Rattle.cpg_cluster.specs.Correct.{IsWorld, IsDue}
 use Rattle.cpg_live.specs.declared.event.Event.{Event}
@@ -68,7 +68,7 @@ stream_of g tables w turns node close = closed_at (told_in g w (open_cluster g t
 -- the stream is lawful to its close, and the acts are those that are due
 pub record GivesWhatIsDue (g : Graph) (tables : List NodeTable) (w : World) (turns : List ℕ) (node close : ℕ) : Type 0 where
   pub none : (follow (opened g tables node) (stream_of g tables w turns node close)).fault ≡ None
-  pub acts : (acts : List Act) → IsDue g tables w.scenario node acts → (follow (opened g tables node) (stream_of g tables w turns node close)).progress.acts ≡ acts
+  pub acts : IsDue g tables w.scenario node (follow (opened g tables node) (stream_of g tables w turns node close)).progress.acts
 
 -- This holds for each play after which the node is done, with a close that isn't before its last turn.
 abbrev pub StreamsGiveWhatIsDue : Type 0

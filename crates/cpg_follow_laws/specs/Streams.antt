@@ -1,17 +1,19 @@
 -- The bytes that a node of a play is fed, and what it does with them.
-use Rattle.std.specs.Prelude.{ℕ, ◌+◌, ◌≡◌, ◌<◌, ◌≤◌, ◌^◌, List, length, Ok}
+use Rattle.std.specs.Prelude.{ℕ, ◌+◌, ◌≡◌, ◌<◌, ◌≤◌, ◌^◌, List, ◌++◌, length, Ok}
 use Rattle.cpg_base.specs.Graph.{Graph}
 use Rattle.cpg_base.specs.Limits.{IsWithinLimits}
 use Rattle.cpg_base.specs.WellFormed.{WellFormed}
+use Rattle.cpg_head.specs.Head.{Head}
 use Rattle.cpg_head.specs.GraphHead.{head_of}
 use Rattle.cpg_table.specs.Table.{NodeTable, table_at}
 use Rattle.cpg_table.specs.Lawful.{AreTablesOf}
 use Rattle.cpg_table.specs.Valid.{IsValid}
-use Rattle.cpg_node.specs.Dispatcher.{Act}
 use Rattle.cpg_cluster.specs.Cluster.{World, Done, open_cluster, dispatcher_at, answer, play}
 use Rattle.cpg_cluster.specs.Correct.{IsWorld, IsDue}
 use Rattle.cpg_live.specs.declared.event.Event.{Event}
+use Rattle.cpg_live.specs.declared.following.TheConstants.{STREAM_LIMIT}
 use Rattle.cpg_live.specs.Stream.{after, outcome}
+use Rattle.cpg_live.specs.Streams.{act_lines, closed_line, stream_end, stream_lines}
 use Rattle.cpg_live.specs.Told.{after_last}
 use Rattle.cpg_live.specs.Spelling.{RiseWithin, closed_at, stream_bytes}
 use Rattle.cpg_live.specs.Reorder.{AreThoseOf}
@@ -26,10 +28,14 @@ pub record IsToldAll (g : Graph) (tables : List NodeTable) (w : World) (turns : 
   pub late : after_last (dispatcher_at (play g w (open_cluster g tables) turns) node).last ≤ close + 1
   pub small : close < 2 ^ 64
 
--- a stream is lawful to its close, and the acts of a node on it are those that are due
+-- A stream is lawful to its close, and the acts of a node on it are those that are due. If it isn't too long to be read, its end as
+-- it is read is that close, and its lines are those of the acts and of the close.
 pub record DoesWhatIsDue (g : Graph) (tables : List NodeTable) (w : World) (node close : ℕ) (bytes : List ℕ) : Type 0 where
   pub ends : outcome (after (table_at tables node) bytes) ≡ Ok close
-  pub acts : (acts : List Act) → IsDue g tables w.scenario node acts → (after (table_at tables node) bytes).progress.acts ≡ acts
+  pub acts : IsDue g tables w.scenario node (after (table_at tables node) bytes).progress.acts
+  pub read : length bytes ≤ STREAM_LIMIT → stream_end (table_at tables node) bytes ≡ Ok close
+  pub lines : (h : Head) → length bytes ≤ STREAM_LIMIT →
+      stream_lines h (table_at tables node) bytes ≡ act_lines h (after (table_at tables node) bytes).progress.acts ++ closed_line close
 
 -- This holds for the stream that spells a node's records and a close after them. It does so in each play of valid tables, in
 -- every scenario of the graph, and however early executions end.
