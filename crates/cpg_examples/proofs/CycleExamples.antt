@@ -1,11 +1,12 @@
--- Cycles of worked examples, as `tools/cycle` says them too, and times that are none.
-use Rattle.std.proofs.Common.{◌≡◌, ◌≤◌, ◌*◌, max, List, [], ◌∷◌, Some, None, true, false, refl, ap, arith}
+-- Cycles of worked examples, as `tools/cycle` says them too, and times that are none: what holds of cycles fails of them.
+use Rattle.std.proofs.Common.{◌≡◌, ℕ, ◌+◌, ◌≤◌, ◌*◌, max, List, [], ◌∷◌, Some, None, true, false, refl, ap, arith}
 use Rattle.std.specs.Int.{div_ceil}
 use Rattle.cpg_base.specs.Graph.{Graph}
 use Rattle.cpg_base.specs.declared.process.Slot.{Slot}
 use Rattle.cpg_table.specs.Table.{NodeTable, empty_table}
-use Rattle.cpg_cluster.specs.Cycles.{last_arrival, least_cycle, IsCycle}
-use Rattle.cpg_examples.proofs.Examples.{n1, n2, process, edge, two_slots, pair, count, column, item_row}
+use Rattle.cpg_cluster.specs.Cluster.{World, Cluster, open_cluster, play}
+use Rattle.cpg_cluster.specs.Cycles.{last_arrival, least_cycle, AreApart, HasSlotsAt, IsCycle, IsOccurrence, IsOverBy}
+use Rattle.cpg_examples.proofs.Examples.{n1, n2, process, edge, two_slots, pair, count, column, item_row, value, act, numbers, scenario}
 
 -- A starts at 0, e0 is sent at 40 or 80 and there at 50 or 90, and B starts then
 abbrev pub pair_tables : List NodeTable
@@ -32,6 +33,29 @@ pair-one_shorter c = let whole : 119 ≡ c.rounds * 20 = c.whole in absurd (omeg
 pub pair-one_round_shorter : IsCycle pair pair_tables 100 → ⊥
 pair-one_round_shorter c = let deadline : 105 ≤ 100 = c.deadline in absurd (omega (arith, deadline))
 
+-- after one unit less the slots stand elsewhere: that of N1 starts at 0, and none of N1 at 119
+pub pair-slots_elsewhere : HasSlotsAt pair 0 119 → ⊥
+pair-slots_elsewhere h =
+    let there : IsOccurrence pair 0 119 = h.later 0 (0, refl) in
+    let at : 119 ≡ there.0 * 20 + 0 = there.1 in absurd (omega (arith, at))
+
+-- A has a fault, and each execution takes as long as planned; N1 is asked until it is done, and then N2
+abbrev pub pair_world : World
+pair_world = record { scenario = scenario (numbers 1 0); lengths = numbers 72 15 }
+
+abbrev pub pair_turns : List ℕ
+pair_turns = 0 ∷ 0 ∷ 0 ∷ 0 ∷ 0 ∷ 1 ∷ 1 ∷ 1 ∷ 1 ∷ []
+
+abbrev pub pair_play : Cluster
+pair_play = play pair pair_world (open_cluster pair pair_tables) pair_turns
+
+pub pair-acts : pair_play.acts ≡ (act 0 0 0 ∷ act 80 2 1 ∷ []) ∷ (act 90 1 1 ∷ []) ∷ []
+pair-acts = refl
+
+-- after one round less B still runs: it ends at 105
+pub pair-not_over_by_100 : IsOverBy pair pair_world.scenario pair_play 100 → ⊥
+pair-not_over_by_100 o = let end : 105 ≤ 100 = o.starts 1 (act 90 1 1) (omega arith) (0, omega arith, refl) (omega arith) in absurd (omega (arith, end))
+
 -- a deadline on the bus's own time, and one past it
 pub pair-by_120 : least_cycle (record pair { deadline = 120 }) pair_tables ≡ 120
 pair-by_120 = refl
@@ -39,7 +63,7 @@ pair-by_120 = refl
 pub pair-by_121 : least_cycle (record pair { deadline = 121 }) pair_tables ≡ 140
 pair-by_121 = refl
 
--- the value of A is broadcast from 40 to 50, after the deadline
+-- A, which ends at 30, its follower B from 30 to 40, and C on N2; the value of A is broadcast from 40 to 50, after the deadline
 abbrev pub late_broadcast : Graph
 late_broadcast = record {
   faults = 0;
@@ -52,8 +76,13 @@ late_broadcast = record {
 }
 
 abbrev pub late_tables : List NodeTable
-late_tables = record empty_table { starts = []; sends = item_row 4 (column 40 [] ∷ []) ∷ []; hears = [] }
-    ∷ record empty_table { starts = []; sends = []; hears = item_row 4 (column 50 [] ∷ []) ∷ [] } ∷ []
+late_tables =
+    record empty_table {
+      starts = item_row 0 (column 0 [] ∷ []) ∷ item_row 1 (column 30 (value 1 ∷ []) ∷ []) ∷ [];
+      sends = item_row 4 (column 40 [] ∷ []) ∷ [];
+      hears = [];
+    }
+    ∷ record empty_table { starts = item_row 2 (column 0 [] ∷ []) ∷ []; sends = []; hears = item_row 4 (column 50 [] ∷ []) ∷ [] } ∷ []
 
 pub late-cycle : least_cycle late_broadcast late_tables ≡ 60
 late-cycle = refl
@@ -61,6 +90,30 @@ late-cycle = refl
 -- by the deadline alone that frame would stand in the next cycle
 pub late-at_the_deadline : IsCycle late_broadcast late_tables 40 → ⊥
 late-at_the_deadline c = let arrivals : 50 ≤ 40 = c.arrivals in absurd (omega (arith, arrivals))
+
+-- and so it does in a play in which A says that B follows
+abbrev pub late_world : World
+late_world = record { scenario = record { values = true ∷ []; faults = 0 ∷ 0 ∷ 0 ∷ [] }; lengths = 30 ∷ 10 ∷ 10 ∷ [] }
+
+abbrev pub late_play : Cluster
+late_play = play late_broadcast late_world (open_cluster late_broadcast late_tables) (0 ∷ 0 ∷ 0 ∷ [])
+
+pub late-acts : late_play.acts ≡ (act 0 0 0 ∷ act 30 1 0 ∷ act 40 4 0 ∷ []) ∷ [] ∷ []
+late-acts = refl
+
+-- that frame isn't there by 40
+pub late-not_over_by_40 : IsOverBy late_broadcast late_world.scenario late_play 40 → ⊥
+late-not_over_by_40 o = let arrival : 50 ≤ 40 = o.sends 0 (act 40 4 0) (omega arith) (2, omega arith, refl) (omega arith) in absurd (omega (arith, arrival))
+
+-- so a cycle that begins at 40 starts A before the frame of the one before is there
+pub late-not_apart_at_40 : AreApart late_broadcast late_world.scenario late_play late_play 0 40 → ⊥
+late-not_apart_at_40 a =
+    let before : 50 ≤ 40 = a.frames 0 0 (act 40 4 0) (act 0 0 0) (omega arith) (2, omega arith, refl) (0, omega arith, refl) (omega arith) in absurd (omega (arith, before))
+
+-- and no cycle is apart from itself
+pub late-not_apart_from_itself : AreApart late_broadcast late_world.scenario late_play late_play 60 60 → ⊥
+late-not_apart_from_itself a =
+    let before : 110 ≤ 60 = a.frames 0 0 (act 40 4 0) (act 0 0 0) (omega arith) (2, omega arith, refl) (0, omega arith, refl) (omega arith) in absurd (omega (arith, before))
 
 -- one node, without a bus
 abbrev pub alone : Graph

@@ -1,21 +1,28 @@
--- What isn't quiet, and streams that are lawful or not.
-use Rattle.std.proofs.Common.{◌≡◌, ℕ, List, [], ◌∷◌, length, Some, false, refl, ap, arith}
-use Rattle.std.specs.Prelude.{Ok}
+-- What isn't quiet, streams that are lawful or not, and a stream that is what a node is told in a play.
+use Rattle.std.proofs.Common.{◌≡◌, ℕ, ◌==◌, List, [], ◌∷◌, length, Contains, Some, None, true, false, true≢false, refl, sym, ap, arith}
+use Rattle.std.specs.Prelude.{get_or, is_some, Ok, Err}
+use Rattle.std.proofs.lemmas.List.Sorted.{length_permutation}
+use Rattle.cpg_base.proofs.Lists.{from_any_false}
 use Rattle.cpg_table.specs.Table.{NodeTable, table_at}
-use Rattle.cpg_node.specs.Dispatcher.{Dispatcher, opening}
-use Rattle.cpg_node.specs.Quiet.{IsQuiet}
-use Rattle.cpg_cluster.specs.Cluster.{own_table}
+use Rattle.cpg_node.specs.Dispatcher.{Dispatcher, acts_of_turn, candidates, opening, turn}
+use Rattle.cpg_node.specs.Quiet.{IsQuiet, awaited}
+use Rattle.cpg_cluster.specs.Cluster.{own_table, open_cluster}
 use Rattle.cpg_live.specs.declared.event.Event.{Event}
 use Rattle.cpg_live.specs.declared.event.Event.TheVariants.{Frame as Arrival, End as Ending}
-use Rattle.cpg_live.specs.declared.bad.Why.TheVariants.{Order}
+use Rattle.cpg_live.specs.declared.bad.Why.TheVariants.{Order, End as FalseEnd}
 use Rattle.cpg_live.specs.Stream.{after, outcome, turns_below}
 use Rattle.cpg_live.specs.Spelling.{closed_at, stream_bytes}
-use Rattle.cpg_examples.proofs.Examples.{pair}
-use Rattle.cpg_examples.proofs.CycleExamples.{pair_tables}
+use Rattle.cpg_follow_laws.specs.Follow.{told_in, GivesWhatIsDue}
+use Rattle.cpg_follow_laws.specs.Streams.{IsToldAll}
+use Rattle.cpg_examples.proofs.Examples.{pair, branching, branching_tables, act}
+use Rattle.cpg_examples.proofs.CycleExamples.{pair_tables, pair_world, pair_turns}
 
 -- N1 starts A at 0, so that a turn at 0 may not be left out
 pub start-is_not_quiet : IsQuiet (opening (own_table pair 0 (table_at pair_tables 0))) 0 → ⊥
 start-is_not_quiet q = let one : 1 ≡ 0 = ap length q.acts in absurd (omega (arith, one))
+
+pub start-is_done : acts_of_turn (opening (own_table pair 0 (table_at pair_tables 0))) 0 [] [] ≡ [] → ⊥
+start-is_done e = let one : 1 ≡ 0 = ap length e in absurd (omega (arith, one))
 
 -- nor one at which the report of an execution is due
 abbrev pub reported : Dispatcher
@@ -27,9 +34,23 @@ reported = record (opening (own_table pair 0 (table_at pair_tables 0))) {
 pub report-is_not_quiet : IsQuiet reported 35 → ⊥
 report-is_not_quiet q = let one : 1 ≡ 0 = ap length q.ends in absurd (omega (arith, one))
 
+-- after which it doesn't run
+pub report-is_taken : turn reported 35 [] [] ≡ record reported { last = Some 35 } → ⊥
+report-is_taken e = true≢false (sym (ap (λ (d : Dispatcher). is_some (get_or d.running 0 None)) e))
+
 -- where it isn't due a turn is quiet
 pub between-is_quiet : IsQuiet reported 34
 between-is_quiet = record { ends = refl; acts = refl }
+
+-- a report of more faults than there may be is awaited at 7, which is no instant of the node
+abbrev pub overtold : Dispatcher
+overtold = record reported { running = Some (record { start = 7; report = Some (record { process = 0; faults = 2; value = false }) }) ∷ [] }
+
+pub overtold-awaited : Contains (awaited overtold) 7
+overtold-awaited = (3, omega arith, refl)
+
+pub overtold-no_candidate : Contains (candidates overtold) 7 → ⊥
+overtold-no_candidate c = true≢false (from_any_false (λ t. t == 7) (candidates overtold) 7 refl c)
 
 -- N2, where A had a fault
 abbrev pub second : NodeTable
@@ -45,7 +66,51 @@ pub stream-is_lawful : outcome (after second (stream_bytes (closed_at lawful_eve
 unfolding turns_below
 stream-is_lawful = refl
 
--- the frame of column 0 behind that of column 1 is out of order
-pub stream-out_of_order : (after second (stream_bytes (closed_at (frame 90 1 ∷ frame 50 0 ∷ []) 105))).bad ≡ Some (record { index = 1; why = Order })
+-- Of the same events in falling order of time the first is lawless: B can't end before it has started.
+pub stream-falling : outcome (after second (stream_bytes (closed_at ((105, Ending 1 0 false) ∷ frame 90 1 ∷ []) 105))) ≡ Err (record { index = 0; why = FalseEnd })
 unfolding turns_below
-stream-out_of_order = refl
+stream-falling = refl
+
+-- N2 of the branching graph, where A goes on to B: the broadcast of A, and the message of A to B
+abbrev pub branching_second : NodeTable
+branching_second = own_table branching 1 (table_at branching_tables 1)
+
+abbrev pub broadcast : ℕ × Event
+broadcast = (50, Arrival (record { item = 8; column = 0; value = true }))
+
+abbrev pub message : ℕ × Event
+message = (70, Arrival (record { item = 4; column = 0; value = false }))
+
+pub branching-is_lawful : outcome (after branching_second (stream_bytes (closed_at (broadcast ∷ message ∷ []) 95))) ≡ Ok 95
+unfolding turns_below
+branching-is_lawful = refl
+
+-- in falling order of time the second of them is refused for that alone
+pub branching-falling : outcome (after branching_second (stream_bytes (closed_at (message ∷ broadcast ∷ []) 95))) ≡ Err (record { index = 1; why = Order })
+unfolding turns_below
+branching-falling = refl
+
+-- ---- plays and streams
+
+-- N2 is told just the lawful events in the play of the pair in which A has a fault
+pub told-is_lawful_events : told_in pair pair_world (open_cluster pair pair_tables) 1 pair_turns ≡ lawful_events
+told-is_lawful_events = refl
+
+pub told-all : IsToldAll pair pair_tables pair_world pair_turns 1 105 lawful_events
+told-all = record {
+  those = ([], (105, Ending 1 0 false) ∷ [], refl, ([], [], refl, refl));
+  rise = (omega arith, refl, (omega arith, refl, omega arith));
+  done = refl;
+  late = omega arith;
+  small = omega arith;
+}
+
+-- and does on them what it does there
+pub told-acts : (after second (stream_bytes (closed_at lawful_events 105))).progress.acts ≡ act 90 1 1 ∷ []
+unfolding turns_below
+told-acts = refl
+
+-- where a node isn't done not all is done that is due: of N1, which was never asked, the start of A alone
+pub unasked-not_due : GivesWhatIsDue pair pair_tables pair_world [] 0 0 → ⊥
+unfolding turns_below
+unasked-not_due gives = let two : 1 ≡ 2 = length_permutation _ _ gives.acts.all in absurd (omega (arith, two))

@@ -1,0 +1,13 @@
+-- What a pack isn't.
+use Rattle.std.proofs.Common.{ℕ, length, take, refl, arith}
+use Rattle.std.proofs.lemmas.List.{take_all}
+use Rattle.cpg_table.specs.Lawful.{Tables}
+use Rattle.cpg_codec.specs.Packs.{AreLawful, IsBadPack}
+use Rattle.cpg_codec.specs.Spelling.{spelling}
+
+-- A pack is refused nowhere, also not where it ends: only a proper front of it is.
+pub whole-is_not_bad : (t : Tables) → AreLawful t → (n : ℕ) → IsBadPack (spelling t) n → ⊥
+whole-is_not_bad t lawful n bad = bad.no_pack t lawful refl
+
+pub whole_front-is_not_bad : (t : Tables) → AreLawful t → IsBadPack (take (length (spelling t)) (spelling t)) (length (spelling t)) → ⊥
+whole_front-is_not_bad t lawful bad = bad.no_pack t lawful (take_all (length (spelling t)) (spelling t) (omega arith))
