@@ -1,5 +1,5 @@
 -- A run ends lawfully by what its work answered and its sinks took.
-use Rattle.std.proofs.Common.{◌≡◌, List, [], ◌∷◌, Option, None, refl, inl, inr}
+use Rattle.std.proofs.Common.{◌≡◌, ◌≢◌, List, [], ◌∷◌, Option, None, arith, refl, inl, inr}
 use Rattle.std.specs.Prelude.{◌⊎◌, Result, Ok, Err}
 use Rattle.cpg_base.specs.Graph.{Graph}
 use Rattle.cpg_tale.specs.Fetch.{Fetch}
@@ -8,7 +8,7 @@ use Rattle.cpg_words.specs.Forms.{command_of}
 use Rattle.cpg_words.specs.declared.fault.WordsFault.{WordsFault}
 use Rattle.cpg_codec.specs.declared.fault.WriteFault.{WriteFault}
 use Rattle.cpg_refusal.specs.declared.halt.Halt.{Halt}
-use Rattle.cpg_refusal.specs.declared.halt.Halt.TheVariants.{Words, Memory}
+use Rattle.cpg_refusal.specs.declared.halt.Halt.TheVariants.{Words, Read, Refused, Late, TooWide, Unsafe, Memory}
 use Rattle.cpg_refusal.specs.Halts.{halt_of_words}
 use Rattle.cpg_refusal.specs.Lines.{line_of, status_of}
 use Rattle.cpg_inputs.specs.Files.{File}
@@ -16,40 +16,50 @@ use Rattle.cpg_inputs.specs.Says.{graph_after}
 use Rattle.cpg_inputs.specs.Reading.{IsFetchOf, IsWanting, IsWhole, StopsAt, StopsReading}
 use Rattle.cpg_outputs.specs.Told.{IsWritten, Sent, Untouched}
 use Rattle.cpg_app.specs.Endings.{Prints, Ran, Stops}
-use Rattle.cpg_outputs.specs.Said.{IsEnded}
+use Rattle.cpg_outputs.specs.Said.{IsEnded, IsStopped}
 use Rattle.cpg_app.specs.Lawful.{IsLawful}
 use Rattle.cpg_app.proofs.Shown.{lawful_by, lawful_with}
 use Rattle.cpg_app.proofs.Written.{stopped}
 
--- ---- memory may want wherever a run stops
+-- ---- memory may run out wherever a run stops, but for a fault of the shelf
 
 of_whole : (f : File) (fetch : Fetch) → IsWhole f fetch → IsFetchOf f fetch
 of_whole f fetch w = record { named = w.named }
 
-wants_too : (g : Option Graph) (f : File) (fetch : Fetch) (h : Halt) → StopsAt g f fetch h → IsWanting f fetch Memory
-wants_too g f fetch h (inl unread) = record { of = unread.of; few = inl unread.few; halt_is = refl }
-wants_too g f fetch h (inr (inl long)) = record { of = long.of; few = inr (long.over, long.sound); halt_is = refl }
-wants_too g f fetch h (inr (inr (inl refused))) = record { of = of_whole f fetch refused.whole; few = inl refused.whole.short; halt_is = refl }
-wants_too g f fetch h (inr (inr (inr wanting))) = record { of = wanting.of; few = wanting.few; halt_is = refl }
+wants_too : (g : Option Graph) (f : File) (fetch : Fetch) (h : Halt) → h ≢ Read → StopsAt g f fetch h → IsWanting f fetch Memory
+wants_too g f fetch h other (inl unread) = absurd (other unread.halt_is)
+wants_too g f fetch h other (inr (inl long)) = record { of = long.of; sound = long.sound; few = (let o = long.over in omega (arith, o)); halt_is = refl }
+wants_too g f fetch h other (inr (inr (inl refused))) = record { of = of_whole f fetch refused.whole; sound = refused.whole.sound; few = (let s = refused.whole.short in omega (arith, s)); halt_is = refl }
+wants_too g f fetch h other (inr (inr (inr wanting))) = record { of = wanting.of; sound = wanting.sound; few = wanting.few; halt_is = refl }
 
-files_memory : (g : Option Graph) (files : List File) (past now : List Fetch) (h : Halt) → StopsReading g files past now h → StopsReading g files past now Memory
-files_memory g [] past now h s = absurd s
-files_memory g (f ∷ fs) past now h (fetch, inl here) = (fetch, inl (inr (inr (inr (wants_too g f fetch h here.0))), here.1))
-files_memory g (f ∷ fs) past now h (fetch, inr (v, read, there)) = (fetch, inr (v, read, files_memory (graph_after g v) fs (fetch ∷ past) now h there))
+files_memory : (g : Option Graph) (files : List File) (past now : List Fetch) (h : Halt) → h ≢ Read → StopsReading g files past now h → StopsReading g files past now Memory
+files_memory g [] past now h other s = absurd s
+files_memory g (f ∷ fs) past now h other (fetch, inl here) = (fetch, inl (inr (inr (inr (wants_too g f fetch h other here.0))), here.1))
+files_memory g (f ∷ fs) past now h other (fetch, inr (v, read, there)) = (fetch, inr (v, read, files_memory (graph_after g v) fs (fetch ∷ past) now h other there))
 
 module _ (r : Ran) where
-  memory_too : (h : Halt) → Stops r h → Stops r Memory
-  memory_too h (inl words) = inl (record { unread = words.unread; cause = inr refl })
-  memory_too h (inr (inl files)) = inr (inl (record { command = files.command; words = files.words; stops = files_memory None _ _ _ h files.stops }))
-  memory_too h (inr (inr work)) = inr (inr (record { command = work.command; values = work.values; has = work.has; stops = inr refl }))
+  memory_too : (h : Halt) → h ≢ Read → Stops r h → Stops r Memory
+  memory_too h other (inl words) = inl (record { unread = words.unread; cause = inr refl })
+  memory_too h other (inr (inl files)) = inr (inl (record { command = files.command; words = files.words; stops = files_memory None _ _ _ h other files.stops }))
+  memory_too h other (inr (inr work)) = inr (inr (record { command = work.command; values = work.values; has = work.has; stops = inr refl }))
 
-  by_memory : Stops r Memory → Untouched r.out → Sent r.err r.status (status_of Memory) (line_of Memory) → IsLawful r
-  by_memory stops silent sent = lawful_by r Memory (record { stops = stops; ending = stopped r Memory silent sent })
+  -- it stops, and its line was sent
+  told_lawful : (h : Halt) → Stops r h → Untouched r.out → Sent r.err r.status (status_of h) (line_of h) → IsLawful r
+  told_lawful h stops silent sent = lawful_by r h (record { stops = stops; ending = stopped r h silent sent })
 
-  -- it stops, and its line was sent, or that of want of memory
-  pub stopped_lawful : (h : Halt) → Stops r h → Untouched r.out → Sent r.err r.status (status_of h) (line_of h) ⊎ Sent r.err r.status (status_of Memory) (line_of Memory) → IsLawful r
-  stopped_lawful h stops silent (inl sent) = lawful_by r h (record { stops = stops; ending = stopped r h silent sent })
-  stopped_lawful h stops silent (inr sent) = by_memory (memory_too h stops) silent sent
+  -- or that of out of memory
+  either_lawful : (h : Halt) → h ≢ Read → Stops r h → Untouched r.out → Sent r.err r.status (status_of h) (line_of h) ⊎ Sent r.err r.status (status_of Memory) (line_of Memory) → IsLawful r
+  either_lawful h other stops silent (inl sent) = told_lawful h stops silent sent
+  either_lawful h other stops silent (inr sent) = told_lawful Memory (memory_too h other stops) silent sent
+
+  pub stopped_lawful : (h : Halt) → Stops r h → Untouched r.out → IsStopped h r.err r.status → IsLawful r
+  stopped_lawful Words stops silent said = told_lawful Words stops silent said
+  stopped_lawful Read stops silent said = told_lawful Read stops silent said
+  stopped_lawful (Refused refusal) stops silent said = either_lawful (Refused refusal) (λ e. cc) stops silent said
+  stopped_lawful (Late a s p time) stops silent said = either_lawful (Late a s p time) (λ e. cc) stops silent said
+  stopped_lawful (TooWide a x) stops silent said = either_lawful (TooWide a x) (λ e. cc) stops silent said
+  stopped_lawful (Unsafe a fault) stops silent said = either_lawful (Unsafe a fault) (λ e. cc) stops silent said
+  stopped_lawful Memory stops silent said = told_lawful Memory stops silent said
 
   -- its output was written
   pub written_lawful : (text : Text) (written : Result Unit WriteFault) → Prints r text → IsWritten r.out written text → IsEnded written r.err r.status → IsLawful r
@@ -57,10 +67,10 @@ module _ (r : Ran) where
   written_lawful text (Err WriteFault.Failed) prints out ended = lawful_with r text (record { prints = prints; ending = inr (record { status = ended.0; out = out; err = ended.1 }) })
   written_lawful text (Err WriteFault.OutOfMemory) prints out ended =
       let stops : Stops r Memory = inr (inr (record { command = prints.command; values = prints.values; has = prints.has; stops = inr refl })) in
-      by_memory stops out ended
+      told_lawful Memory stops out ended
 
   -- its words can't be had
   pub wordless_lawful : (fault : WordsFault) → (fault ≡ WordsFault.Bad → command_of r.words ≡ None) → r.shelf.new.history ≡ r.shelf.old.history → Untouched r.out →
-      Sent r.err r.status (status_of (halt_of_words fault)) (line_of (halt_of_words fault)) ⊎ Sent r.err r.status (status_of Memory) (line_of Memory) → IsLawful r
-  wordless_lawful WordsFault.Bad none unread silent sent = stopped_lawful Words (inl (record { unread = unread; cause = inl (refl, none refl) })) silent sent
-  wordless_lawful WordsFault.OutOfMemory none unread silent sent = stopped_lawful Memory (inl (record { unread = unread; cause = inr refl })) silent sent
+      Sent r.err r.status (status_of (halt_of_words fault)) (line_of (halt_of_words fault)) → IsLawful r
+  wordless_lawful WordsFault.Bad none unread silent sent = told_lawful Words (inl (record { unread = unread; cause = inl (refl, none refl) })) silent sent
+  wordless_lawful WordsFault.OutOfMemory none unread silent sent = told_lawful Memory (inl (record { unread = unread; cause = inr refl })) silent sent

@@ -31,16 +31,17 @@ use Rattle.cpg_hyper.specs.Refusals.{ShowsUnrolled}
 use Rattle.cpg_refusal.specs.declared.halt.Refusal.{Refusal}
 use Rattle.cpg_refusal.specs.declared.halt.Halt.{Halt}
 use Rattle.cpg_refusal.specs.declared.halt.Halt.TheVariants.{Read, Refused, Late, TooWide, Unsafe, Memory}
-use Rattle.cpg_refusal.specs.Lines.{status_of}
+use Rattle.cpg_refusal.specs.Lines.{line_of, status_of}
 use Rattle.cpg_inputs.specs.declared.kind.Kind.TheVariants.{PackFile}
 use Rattle.cpg_inputs.specs.Files.{file, files_of}
 use Rattle.cpg_inputs.specs.Says.{Value, graph_value, tables_value, played_value, log_value}
 use Rattle.cpg_inputs.specs.Shapes.{HavePeriods, part_values}
-use Rattle.cpg_inputs.specs.Reading.{Reads, StopsReading}
+use Rattle.cpg_inputs.specs.Reading.{AreSound, Reads, StopsReading}
 use Rattle.cpg_inputs.proofs.OneReading.{AreAlike, moved, values_lawful}
+use Rattle.cpg_inputs.proofs.Soundness.{reads_sound, sound_none, stops_sound}
 use Rattle.cpg_app.specs.Causes.{IsNotUnrolled, IsUncompiled, StopsVerdict, StopsWork, first_named}
 use Rattle.cpg_app.specs.Outputs.{IsMadeOf, PutsOut, packed, shown}
-use Rattle.cpg_outputs.specs.Told.{Untouched}
+use Rattle.cpg_outputs.specs.Told.{Part as TookPart, Untouched}
 use Rattle.cpg_app.specs.Endings.{Ran, EndsBy, EndsWith, Follows, Has, IsPrinted, IsTold, Prints, Stops}
 use Rattle.cpg_app.specs.Lawful.{Asks, AsksForTables, AsksVerdict, IsClosedStream, IsFailed, IsFaultless, IsLawful, IsUnreadStream, IsRefusedAsWide}
 use Rattle.cpg_app.proofs.Asked.{on_graph, on_judged, on_logged, on_parts, on_played, on_tables, printed, stopped_by}
@@ -202,6 +203,7 @@ module _ (r : Ran) where
       words = λ one. absurd (other_status 1 one (λ e. omega arith) (λ e. omega arith));
       formless = λ none other. absurd (none-some with.prints.command (sym none ∙ with.prints.has.words));
       read = λ two. absurd (other_status 2 two (λ e. omega arith) (λ e. omega arith));
+      unread = inl (reads_sound None (files_of with.prints.command) _ _ with.prints.values with.prints.has.reads);
       write = with_write;
       refused = λ four. absurd (other_status 4 four (λ e. omega arith) (λ e. omega arith));
       is_late = λ five. absurd (other_status 5 five (λ e. omega arith) (λ e. omega arith));
@@ -278,6 +280,20 @@ module _ (r : Ran) where
         let at = status_at 2 two (λ e. omega arith) in
         let is = read_of halt at in
         (failed_at at by.stops, inl (subst (Stops r) is by.stops, subst (IsTold r) is (told_at 2 two (λ e. omega arith))))
+
+    sound_at : Stops r halt → AreSound r.shelf.old.history r.shelf.new.history ⊎ (halt ≡ Read)
+    sound_at (inl words) = inl (sound_none r.shelf.old.history r.shelf.new.history words.unread)
+    sound_at (inr (inl files)) = stops_sound None (files_of files.command) _ _ halt files.stops
+    sound_at (inr (inr work)) = inl (reads_sound None (files_of work.command) _ _ work.values work.has.reads)
+
+    by_unread : AreSound r.shelf.old.history r.shelf.new.history ⊎ ((r.status ≡ 2) ⊎ ((r.status ≡ 3) × TookPart r.err (line_of Read)))
+    by_unread = elim (sound_at by.stops) [
+      | inl sound ↦ inl sound
+      | inr read ↦ elim by.ending [
+        | inl t ↦ inr (inl (t.status ∙ ap status_of read))
+        | inr m ↦ inr (inr (m.status, subst (λ h. TookPart r.err (line_of h)) read m.err))
+      ]
+    ]
 
     by_write : r.status ≡ 3 → Rose r.out.before r.out.now ⊎ Rose r.err.before r.err.now
     by_write three = elim by.ending [ inl t ↦ absurd (not_three halt (sym t.status ∙ three)) | inr m ↦ inr m.err.rose ]
@@ -418,6 +434,7 @@ module _ (r : Ran) where
       words = λ one. words_at (status_at 1 one (λ e. omega arith)) by.stops;
       formless = by_formless;
       read = by_read;
+      unread = by_unread;
       write = by_write;
       refused = λ four. inl (by_refused four);
       is_late = by_tardy;

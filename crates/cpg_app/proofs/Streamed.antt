@@ -17,12 +17,14 @@ use Rattle.cpg_refusal.specs.declared.halt.Halt.TheVariants.{Read}
 use Rattle.cpg_refusal.specs.Lines.{line_of}
 use Rattle.cpg_inputs.specs.declared.kind.Kind.TheVariants.{PackFile}
 use Rattle.cpg_inputs.specs.Says.{Says, tables_value}
+use Rattle.cpg_inputs.specs.Reading.{AreSound}
 use Rattle.cpg_inputs.proofs.OneReading.{says_alike}
+use Rattle.cpg_inputs.proofs.Soundness.{sound_none, sound_on}
 use Rattle.cpg_live.specs.declared.following.Broken.{Broken}
 use Rattle.cpg_live.specs.Following.{Breaks}
 use Rattle.cpg_live.specs.Streams.{fault_line, stream_end}
 use Rattle.cpg_app.specs.Causes.{first_named}
-use Rattle.cpg_outputs.specs.Told.{Sent, SinkSeen, Untouched}
+use Rattle.cpg_outputs.specs.Told.{Part, Sent, SinkSeen, Untouched}
 use Rattle.cpg_app.specs.Endings.{Ran, EndsAtClose, EndsInStream, Follows, stream_of, table_of}
 use Rattle.cpg_outputs.specs.Said.{IsSaid}
 use Rattle.cpg_app.specs.Lawful.{AsksForTables, AsksVerdict, IsFailed, IsFaultless, IsLawful, IsRefusedStream, IsUnreadStream, status_of_end}
@@ -90,6 +92,13 @@ module _ (r : Ran) (f g : Follows r) where
   pub same_end : stream_end (table_of g) g.fetch.given ≡ stream_end (table_of f) f.fetch.given
   same_end = ap (λ (e : Fetch). stream_end (table_of g) e.given) (sym same_fetch) ∙ ap (λ t. stream_end t f.fetch.given) same_table
 
+-- where its stream didn't fail, no fetch did
+sound_all : (r : Ran) (f : Follows r) → f.fetch.failed ≡ false → AreSound r.shelf.old.history r.shelf.new.history
+sound_all r f sound =
+    let past = f.read ∷ r.shelf.old.history in
+    let here = sound_none (f.fetch ∷ past) r.shelf.new.history f.history in
+    sound_on f.read r.shelf.old.history r.shelf.new.history f.spelled.whole.sound (sound_on f.fetch past r.shelf.new.history sound here)
+
 -- ---- followed to its close
 
 module _ (r : Ran) (ends : EndsAtClose r) where
@@ -109,6 +118,7 @@ module _ (r : Ran) (ends : EndsAtClose r) where
     words = λ one. absurd (zero_alone 1 one (λ e. omega arith));
     formless = λ none other. absurd (none-some (Live closed_stream.pack closed_stream.name closed_stream.stream) (sym none ∙ closed_stream.words));
     read = λ two. absurd (zero_alone 2 two (λ e. omega arith));
+    unread = inl (sound_all r closed_stream ends.completes.1.sound);
     write = λ three. absurd (zero_alone 3 three (λ e. omega arith));
     refused = λ four. absurd (zero_alone 4 four (λ e. omega arith));
     is_late = λ five. absurd (zero_alone 5 five (λ e. omega arith));
@@ -175,6 +185,11 @@ module _ (r : Ran) (ends : EndsInStream r) where
   unread_stream Broken.Sink breaks said two = absurd (let three = said.0 in omega arith)
   unread_stream (Broken.Refused fault) breaks said two = absurd (let four = status_sent r.err r.status 4 2 (fault_line fault) said two (λ e. omega arith) in omega arith)
 
+  sound_stream : (broken : Broken) → Breaks head table (stream_of r stream) broken → IsSaid r.err r.status broken → AreSound r.shelf.old.history r.shelf.new.history ⊎ ((r.status ≡ 2) ⊎ ((r.status ≡ 3) × Part r.err (line_of Read)))
+  sound_stream Broken.Shelf breaks said = elim (cases_eq r.status 3) [ inl three ↦ inr (inr (three, said.part three)) | inr other ↦ inr (inl (said.whole other).0) ]
+  sound_stream Broken.Sink breaks said = inl (sound_all r stream breaks.1.sound)
+  sound_stream (Broken.Refused fault) breaks said = inl (sound_all r stream breaks.1.sound)
+
   failed_stream : IsUnreadStream r → IsFailed r
   failed_stream unread = let f = unread.follows in record { fetch = f.fetch; past = f.read ∷ r.shelf.old.history; last = f.history; failed = unread.lawful.failed }
 
@@ -200,6 +215,7 @@ module _ (r : Ran) (ends : EndsInStream r) where
     words = λ one. absurd (other_status 1 one (λ e. omega arith) (λ e. omega arith) (λ e. omega arith));
     formless = λ none other. absurd (none-some (Live stream.pack stream.name stream.stream) (sym none ∙ stream.words));
     read = λ two. let unread = unread_stream ends.broken ends.breaks ends.said two in (failed_stream unread, inr unread);
+    unread = sound_stream ends.broken ends.breaks ends.said;
     write = write_rose ends.broken ends.breaks ends.said;
     refused = λ four. inr (refused_stream ends.broken ends.breaks ends.said four);
     is_late = λ five. absurd (other_status 5 five (λ e. omega arith) (λ e. omega arith) (λ e. omega arith));

@@ -28,11 +28,12 @@ use Rattle.cpg_refusal.specs.declared.halt.Halt.TheVariants.{Read, Refused, Late
 use Rattle.cpg_refusal.specs.Lines.{line_of}
 use Rattle.cpg_inputs.specs.Shapes.{HavePeriods, part_values}
 use Rattle.cpg_inputs.specs.Says.{Value, graph_value, log_value, played_value, tables_value}
+use Rattle.cpg_inputs.specs.Reading.{AreSound}
 use Rattle.cpg_live.specs.declared.following.StreamFault.{StreamFault}
 use Rattle.cpg_live.specs.Streams.{IsClosed, IsLawfulSoFar, IsRefused, fault_line, stream_end}
 use Rattle.cpg_app.specs.Causes.{first_named}
 use Rattle.cpg_app.specs.Endings.{Ran, Ends, Follows, Has, IsPrinted, IsTold, Prints, Stops, table_of}
-use Rattle.cpg_outputs.specs.Told.{Untouched, Whole}
+use Rattle.cpg_outputs.specs.Told.{Part as TookPart, Untouched, Whole}
 
 -- no sink met a fault
 pub record IsFaultless (r : Ran) : Type 0 where
@@ -119,6 +120,8 @@ pub record IsLawful (r : Ran) : Type 0 where
   pub formless : command_of r.words ≡ None → r.status ≢ 3 → (r.status ≡ 1) ⊎ (r.status ≡ 8)
   -- 2: the shelf met a fault at the last file; every earlier file was read, and none was rejected
   pub read : r.status ≡ 2 → IsFailed r × ((Stops r Read × IsTold r Read) ⊎ IsUnreadStream r)
+  -- and a fetch that failed ends the run with 2, or with 3 if `err` met a fault in the line of that
+  pub unread : AreSound r.shelf.old.history r.shelf.new.history ⊎ ((r.status ≡ 2) ⊎ ((r.status ≡ 3) × TookPart r.err (line_of Read)))
   -- 3: a sink met a fault
   pub write : r.status ≡ 3 → Rose r.out.before r.out.now ⊎ Rose r.err.before r.err.now
   -- 4: a refusal whose cause holds and whose line was written whole, or a rejected stream

@@ -1,5 +1,5 @@
 //! The top call.
-ghost use Rattle.std.specs.Prelude.{◌≡◌, ◌⊎◌, All, List, map, string_bytes};
+ghost use Rattle.std.specs.Prelude.{◌≡◌, All, List, map, string_bytes};
 ghost use Rattle.cpg_io.specs.Shelf.{KeepsShelf, SameLeave};
 ghost use Rattle.cpg_io.specs.State.{ShelfState};
 ghost use Rattle.cpg_words.specs.FileWords.{file_words_of};
@@ -90,11 +90,10 @@ pub fn run<S: Shelf, O: Sink, E: Sink>(
     }
 }
 
-/// Ends a run whose words can't be had: one of them is no text, or memory ran out. Writes the line that says so to `err`, or
-/// that of want of memory where there is none for the line, and answers the exit status.
+/// Ends a run whose words can't be had: one of them is no text, or memory ran out. Writes the line that says so to `err`, which
+/// needs no memory, and answers the exit status.
 pub fn run_without_words<E: Sink>(alloc: Global, fault: WordsFault, err: &mut E) -> u8
-    ensures { Sent (sent (E.state err.old) (E.state err.new)) result (status_of (halt_of_words fault)) (line_of (halt_of_words fault)) ⊎
-        Sent (sent (E.state err.old) (E.state err.new)) result (status_of Halt.Memory) (line_of Halt.Memory) }
+    ensures { Sent (sent (E.state err.old) (E.state err.new)) result (status_of (halt_of_words fault)) (line_of (halt_of_words fault)) }
 {
     match fault {
         WordsFault::Bad => stop(alloc, &Halt::Words, err),

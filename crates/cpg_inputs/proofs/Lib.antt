@@ -1,5 +1,6 @@
 pub mod Readings
 pub mod Keeping
 pub mod OneReading
+pub mod Soundness
 pub mod PartsRead
 pub mod Fitting

@@ -1,5 +1,5 @@
 -- The graphs of parts that files say, file by file.
-use Rattle.std.proofs.Common.{◌≡◌, ℕ, ◌+◌, ◌<◌, ◌≤◌, List, [], ◌∷◌, ◌++◌, length, map, take, drop, get_or, None, refl, sym, ap, ◌∙◌, subst, arith, inl, inr}
+use Rattle.std.proofs.Common.{◌≡◌, ℕ, ◌+◌, ◌<◌, ◌≤◌, List, [], ◌∷◌, ◌++◌, length, map, take, drop, get_or, None, refl, sym, ap, ◌∙◌, subst, arith, inr}
 use Rattle.std.specs.Prelude.{All}
 use Rattle.std.proofs.lemmas.List.{get_or-map, length-map, take_all, take_more, take-append-drop}
 use Rattle.cpg_base.specs.Graph.{Graph}
@@ -76,11 +76,11 @@ module _ (pairs : List Pair) (i : ℕ) (pair : Pair) (l : i < length pairs) (is 
       let here = stops_after None (part_files (take i pairs)) (file PartFile pair.graph ∷ []) past mid now (part_values parts) h read one in
       subst (λ fs. StopsReading None fs past now h) (sym files_all) (stops_more None (part_files (take i pairs) ++ file PartFile pair.graph ∷ []) (part_files (drop (i + 1) pairs)) past now h here)
 
-  -- that was read, where memory is wanting then
+  -- that was read, where memory runs out then
   pub wants_next : (g : Graph) (h : Halt) → ReadsNext None (file PartFile pair.graph) mid now (part_value g) → h ≡ Memory → StopsReading None (part_files pairs) past now h
   wants_next g h r e =
       let w = r.read.whole in
-      stops_next h (record { fetch = r.fetch; stops = inr (inr (inr (record { of = record { named = w.named }; few = inl w.short; halt_is = e }))); history = r.history })
+      stops_next h (record { fetch = r.fetch; stops = inr (inr (inr (record { of = record { named = w.named }; sound = w.sound; few = (let s = w.short in omega (arith, s)); halt_is = e }))); history = r.history })
 
 -- all files
 pub read_all : (pairs : List Pair) (i : ℕ) (parts : List Part) (past now : List Fetch) → length pairs ≤ i → Reads None (part_files (take i pairs)) past now (part_values parts) → Reads None (part_files pairs) past now (part_values parts)

@@ -1,6 +1,6 @@
 -- What a run has read: its files one after another, each fetched once, in the order of the words. A history is that of a shelf:
 -- its fetches, the newest first.
-use Rattle.std.specs.Prelude.{◌≡◌, ◌≤◌, ◌+◌, ◌⊎◌, true, false, List, [], ◌∷◌, Option, length}
+use Rattle.std.specs.Prelude.{◌≡◌, ◌≤◌, ◌+◌, ◌⊎◌, true, false, All, List, [], ◌∷◌, ◌++◌, Option, length}
 use Rattle.cpg_base.specs.Graph.{Graph}
 use Rattle.cpg_tale.specs.Fetch.{Fetch}
 use Rattle.cpg_refusal.specs.declared.halt.Halt.{Halt}
@@ -43,10 +43,11 @@ pub record IsRefused (g : Option Graph) (file : File) (fetch : Fetch) (halt : Ha
   pub whole : IsWhole file fetch
   pub refuses : Refuses g file.kind fetch.given halt
 
--- memory was wanting: before it gave more than the limit, or for the line of a file that is too long
+-- memory ran out: the shelf met no fault, and gave at most a byte more than the limit
 pub record IsWanting (file : File) (fetch : Fetch) (halt : Halt) : Type 0 where
   pub of : IsFetchOf file fetch
-  pub few : (length fetch.given ≤ limit_of file.kind) ⊎ ((length fetch.given ≡ limit_of file.kind + 1) × (fetch.failed ≡ false))
+  pub sound : fetch.failed ≡ false
+  pub few : length fetch.given ≤ limit_of file.kind + 1
   pub halt_is : halt ≡ Memory
 
 -- a file stops a run
@@ -66,3 +67,9 @@ StopsReading g [] past now halt = ⊥
 StopsReading g (file ∷ files) past now halt = (fetch : Fetch)
     × ((StopsAt g file fetch halt × (now ≡ fetch ∷ past)) ⊎ ((value : Value) × IsRead g file fetch value ×
     StopsReading (graph_after g value) files (fetch ∷ past) now halt))
+
+-- from one history to a later one none of the fetches failed
+pub record AreSound (past now : List Fetch) : Type 0 where
+  pub fetches : List Fetch
+  pub history : now ≡ fetches ++ past
+  pub sound : All (λ fetch. fetch.failed ≡ false) fetches

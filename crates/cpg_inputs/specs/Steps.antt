@@ -22,7 +22,7 @@ pub record GivesNone (file : File) (past now : List Fetch) (halt : Halt) : Type 
   pub stops : IsUnread file fetch halt ⊎ (IsLong file fetch halt ⊎ IsWanting file fetch halt)
   pub history : now ≡ fetch ∷ past
 
--- the bytes say no graph that is admitted, or memory is wanting
+-- the bytes say no graph that is admitted, or memory ran out
 abbrev pub RefusesGraph : Text → Halt → Type 0
 RefusesGraph bytes halt = (AreFaulty bytes halt ⊎ AreOfNone bytes halt) ⊎ (halt ≡ Memory)
 

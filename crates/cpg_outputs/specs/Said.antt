@@ -5,7 +5,8 @@ use Rattle.cpg_words.specs.Parts.{Text}
 use Rattle.cpg_head.specs.Head.{Head}
 use Rattle.cpg_table.specs.Table.{NodeTable}
 use Rattle.cpg_codec.specs.declared.fault.WriteFault.{WriteFault}
-use Rattle.cpg_refusal.specs.declared.halt.Halt.TheVariants.{Read, Memory}
+use Rattle.cpg_refusal.specs.declared.halt.Halt.{Halt}
+use Rattle.cpg_refusal.specs.declared.halt.Halt.TheVariants.{Words, Read, Memory}
 use Rattle.cpg_refusal.specs.Lines.{line_of, status_of, write_fault_line}
 use Rattle.cpg_live.specs.declared.following.Broken.{Broken}
 use Rattle.cpg_live.specs.Following.{Breaks, Completes, Stream}
@@ -18,13 +19,21 @@ IsEnded (Ok done) err status = (status ≡ 0) × Untouched err
 IsEnded (Err WriteFault.Failed) err status = (status ≡ 3) × (Whole err write_fault_line ⊎ Part err write_fault_line)
 IsEnded (Err WriteFault.OutOfMemory) err status = Sent err status (status_of Memory) (line_of Memory)
 
+-- what `err` and the status say of a run that stops: its line, or that of out of memory if there is none for it. The lines of words
+-- without a form, of a read fault and of out of memory need none.
+abbrev pub IsStopped : Halt → SinkSeen → ℕ → Type 0
+IsStopped Words err status = Sent err status (status_of Words) (line_of Words)
+IsStopped Read err status = Sent err status (status_of Read) (line_of Read)
+IsStopped Memory err status = Sent err status (status_of Memory) (line_of Memory)
+IsStopped halt err status = Sent err status (status_of halt) (line_of halt) ⊎ Sent err status (status_of Memory) (line_of Memory)
+
 -- what a run sees of a stream and of `out`
 abbrev pub streamed : Fetch → SinkSeen → Stream
 streamed fetch out = record { fetch = fetch; before = out.before; now = out.now; old = out.old; new = out.new }
 
 -- what `err` and the status report of a stream that isn't followed to its close
 abbrev pub IsSaid : SinkSeen → ℕ → Broken → Type 0
-IsSaid err status Broken.Shelf = Sent err status 2 (line_of Read)
+IsSaid err status Broken.Shelf = Sent err status (status_of Read) (line_of Read)
 IsSaid err status Broken.Sink = (status ≡ 3) × (Whole err write_fault_line ⊎ Part err write_fault_line)
 IsSaid err status (Broken.Refused fault) = Sent err status 4 (fault_line fault)
 

@@ -1,7 +1,7 @@
 //! What is written when a run ends.
 ghost use Rattle.std.specs.Prelude.{◌≡◌, ◌≢◌, ◌⊎◌, Err, OnOk, string_bytes};
 ghost use Rattle.cpg_refusal.specs.Lines.{line_of, status_of, write_fault_line, IsNamed};
-ghost use Rattle.cpg_outputs.specs.Said.{IsEnded};
+ghost use Rattle.cpg_outputs.specs.Said.{IsEnded, IsStopped};
 ghost use Rattle.cpg_outputs.specs.Told.{IsWritten, Part, Sent, Whole, sent};
 
 use cpg_codec::WriteFault;
@@ -50,15 +50,22 @@ pub(crate) fn cut<E: Sink>(err: &mut E) -> u8
     WRITE_FAULT
 }
 
-/// Writes the line of want of memory.
+/// Writes the line of a read fault.
+pub(crate) fn miss<E: Sink>(err: &mut E) -> u8
+    ensures { Sent (sent (E.state err.old) (E.state err.new)) result (status_of Halt.Read) (line_of Halt.Read) }
+{
+    send(Halt::Read.status(), b"cpgc: read fault\n", err)
+}
+
+/// Writes the line of out of memory.
 fn want<E: Sink>(err: &mut E) -> u8
     ensures { Sent (sent (E.state err.old) (E.state err.new)) result (status_of Halt.Memory) (line_of Halt.Memory) }
 {
     send(Halt::Memory.status(), b"cpgc: memory\n", err)
 }
 
-/// Writes the line of a run that stops, or that of want of memory where there is none for the line.
-pub fn stop<E: Sink>(alloc: Global, halt: &Halt, err: &mut E) -> u8
+/// Makes the line of a run that stops and writes it, or that of out of memory if there is none for the line.
+fn tell<E: Sink>(alloc: Global, halt: &Halt, err: &mut E) -> u8
     requires { IsNamed halt.now }
     ensures { Sent (sent (E.state err.old) (E.state err.new)) result (status_of halt.now) (line_of halt.now) ⊎
         Sent (sent (E.state err.old) (E.state err.new)) result (status_of Halt.Memory) (line_of Halt.Memory) }
@@ -66,6 +73,19 @@ pub fn stop<E: Sink>(alloc: Global, halt: &Halt, err: &mut E) -> u8
     match line(alloc, halt) {
         Ok(line) => send(halt.status(), line.as_bytes(), err),
         Err(_) => want(err),
+    }
+}
+
+/// Writes the line of a run that stops, or that of out of memory if there is none for the line. Lines that are constants need none.
+pub fn stop<E: Sink>(alloc: Global, halt: &Halt, err: &mut E) -> u8
+    requires { IsNamed halt.now }
+    ensures { IsStopped halt.now (sent (E.state err.old) (E.state err.new)) result }
+{
+    match halt {
+        Halt::Words => send(Halt::Words.status(), b"cpgc: words\n", err),
+        Halt::Read => miss(err),
+        Halt::Memory => want(err),
+        other => tell(alloc, other, err),
     }
 }
 

@@ -6,7 +6,7 @@ ghost use Rattle.cpg_live.specs.Streams.{fault_line};
 ghost use Rattle.cpg_outputs.specs.Said.{IsFollowedAt, IsSaid};
 ghost use Rattle.cpg_outputs.specs.Told.{Sent, sent};
 
-use crate::answer::{WRITE_FAULT, cut, send};
+use crate::answer::{WRITE_FAULT, cut, miss};
 use crate::streaming;
 use cpg_io::{Failed, Shelf, Sink};
 use cpg_live::{Broken, Follower, StreamFault};
@@ -26,7 +26,7 @@ fn say<E: Sink>(follower: &mut Follower, broken: Broken, err: &mut E) -> u8
     ensures { IsSaid (sent (E.state err.old) (E.state err.new)) result broken }
 {
     match broken {
-        Broken::Shelf => send(2, b"cpgc: read fault\n", err),
+        Broken::Shelf => miss(err),
         Broken::Sink => cut(err),
         Broken::Refused(fault) => refuse(follower, fault, err),
     }
