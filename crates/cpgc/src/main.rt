@@ -1,11 +1,12 @@
 //! `cpgc`, a design-time scheduler for time-triggered controllers.
 #![tactic(auto)]
 
-ghost use Rattle.std.specs.Prelude.{◌≡◌, ◌↔◌, ◌⊎◌, IfErr, IfOk, IsErr, List, ℕ, drop, map, string_bytes};
+ghost use Rattle.std.specs.Prelude.{◌≡◌, ◌↔◌, IfErr, IfOk, IsErr, List, ℕ, drop, map, string_bytes};
 ghost use Rattle.std.specs.IoError.{error_kind};
 ghost use Rattle.std.specs.Vec.Iter.{into_iter_items};
 ghost use Rattle.std.specs.declared.io.ErrorKind.{ErrorKind};
 ghost use Rattle.cpg_words.specs.declared.fault.WordsFault.{WordsFault};
+ghost use Rattle.cpg_io.specs.Shelf.{KeepsShelf, SameLeave};
 ghost use Rattle.cpg_app.specs.Endings.{seen};
 ghost use Rattle.cpg_app.specs.Lawful.{IsLawful};
 ghost use Rattle.cpg_outputs.specs.Told.{sent};
@@ -63,6 +64,8 @@ fn outcome<S: Shelf, O: Sink, E: Sink>(
     err: &mut E,
 ) -> u8
     requires { (name : List ℕ) → S.may_fetch shelf.old name }
+    ensures keeps { KeepsShelf (S.state shelf.old) (S.state shelf.new) }
+    ensures leave { SameLeave (S.may_fetch shelf.old) (S.may_fetch shelf.new) }
     ensures of_words { IfOk words (λ all. IsLawful (record {
       words = map string_bytes all.items;
       shelf = seen (S.state shelf.old) (S.state shelf.new);
