@@ -1,10 +1,12 @@
 -- What isn't quiet, streams that are lawful or not, and a stream that is what a node is told in a play.
 use Rattle.std.proofs.Common.{◌≡◌, ℕ, ◌==◌, List, [], ◌∷◌, length, Contains, Some, None, true, false, true≢false, refl, sym, ap, arith}
 use Rattle.std.specs.Prelude.{get_or, is_some, Ok, Err}
+use Rattle.std.specs.List.{list_any}
 use Rattle.std.proofs.lemmas.List.Sorted.{length_permutation}
 use Rattle.cpg_base.proofs.Lists.{from_any_false}
+use Rattle.cpg_cube.specs.declared.literal.Literal.{Literal}
 use Rattle.cpg_table.specs.Table.{NodeTable, table_at}
-use Rattle.cpg_node.specs.Dispatcher.{Dispatcher, acts_of_turn, candidates, opening, turn}
+use Rattle.cpg_node.specs.Dispatcher.{Dispatcher, Frame, Range, acts_of_turn, candidates, frame_literals, hear_frame, is_contradicted, opening, range_of, turn}
 use Rattle.cpg_node.specs.Quiet.{IsQuiet, awaited}
 use Rattle.cpg_cluster.specs.Cluster.{own_table, open_cluster}
 use Rattle.cpg_live.specs.declared.event.Event.{Event}
@@ -114,3 +116,16 @@ told-acts = refl
 pub unasked-not_due : GivesWhatIsDue pair pair_tables pair_world [] 0 0 → ⊥
 unfolding turns_below
 unasked-not_due gives = let two : 1 ≡ 2 = length_permutation _ _ gives.acts.all in absurd (omega (arith, two))
+
+-- ---- ranges
+
+-- a frame that tells nothing, heard with an empty range, leaves that empty
+abbrev pub hollow : List Range
+hollow = record { low = 1; high = 0 } ∷ []
+
+abbrev pub silent : Frame
+silent = record { item = 0; column = 0; value = false }
+
+pub hollow-stays : list_any is_contradicted (hear_frame second hollow silent) ≡
+    list_any (λ (l : Literal). is_contradicted (range_of (hear_frame second hollow silent) l.variable)) (frame_literals second silent) → ⊥
+hollow-stays e = true≢false e

@@ -3,3 +3,4 @@ pub mod Follow
 pub mod Rising
 pub mod Room
 pub mod Streams
+pub mod Ranges

@@ -1,2 +1,3 @@
 pub mod Follow
 pub mod Streams
+pub mod Ranges

@@ -2,6 +2,7 @@
 #![tactic(auto)]
 
 ghost use Rattle.cpg_follow_laws.specs.Follow.{PlaysAreFollowed, RecordsRise, StreamsGiveWhatIsDue};
+ghost use Rattle.cpg_follow_laws.specs.Ranges.{FramesContradictWhereTheyTell, NoRangeIsEmpty};
 ghost use Rattle.cpg_follow_laws.specs.Streams.{BytesOfPlaysGiveWhatIsDue};
 
 /// The records of each node of a play are a lawful stream, on which the node does what it does in the play.
@@ -23,4 +24,14 @@ pub fn records_rise()
 /// stream the node does what is due.
 pub fn bytes_of_plays_give_what_is_due()
     ensures { BytesOfPlaysGiveWhatIsDue }
+{}
+
+/// No range that a node holds is empty, after any bytes.
+pub fn no_range_is_empty()
+    ensures { NoRangeIsEmpty }
+{}
+
+/// If no range is empty, a frame leaves an empty one exactly if it does so at a variable of which it tells.
+pub fn frames_contradict_where_they_tell()
+    ensures { FramesContradictWhereTheyTell }
 {}
