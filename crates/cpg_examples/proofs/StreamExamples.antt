@@ -8,16 +8,17 @@ use Rattle.cpg_cube.specs.declared.literal.Literal.{Literal}
 use Rattle.cpg_table.specs.Table.{NodeTable, table_at}
 use Rattle.cpg_node.specs.Dispatcher.{Dispatcher, Frame, Range, acts_of_turn, candidates, frame_literals, hear_frame, is_contradicted, opening, range_of, turn}
 use Rattle.cpg_node.specs.Quiet.{IsQuiet, awaited}
-use Rattle.cpg_cluster.specs.Cluster.{own_table, open_cluster}
+use Rattle.cpg_cluster.specs.Cluster.{dispatcher_at, own_table, open_cluster}
 use Rattle.cpg_live.specs.declared.event.Event.{Event}
 use Rattle.cpg_live.specs.declared.event.Event.TheVariants.{Frame as Arrival, End as Ending}
 use Rattle.cpg_live.specs.declared.bad.Why.TheVariants.{Order, End as FalseEnd}
 use Rattle.cpg_live.specs.Stream.{after, outcome, turns_below}
 use Rattle.cpg_live.specs.Spelling.{closed_at, stream_bytes}
 use Rattle.cpg_follow_laws.specs.Follow.{told_in, GivesWhatIsDue}
+use Rattle.cpg_follow_laws.specs.Sent.{only}
 use Rattle.cpg_follow_laws.specs.Streams.{IsToldAll}
 use Rattle.cpg_examples.proofs.Examples.{pair, branching, branching_tables, act}
-use Rattle.cpg_examples.proofs.CycleExamples.{pair_tables, pair_world, pair_turns}
+use Rattle.cpg_examples.proofs.CycleExamples.{pair_tables, pair_world, pair_turns, late_broadcast, late_tables, late_play}
 
 -- N1 starts A at 0, so that a turn at 0 may not be left out
 pub start-is_not_quiet : IsQuiet (opening (own_table pair 0 (table_at pair_tables 0))) 0 → ⊥
@@ -129,3 +130,10 @@ silent = record { item = 0; column = 0; value = false }
 pub hollow-stays : list_any is_contradicted (hear_frame second hollow silent) ≡
     list_any (λ (l : Literal). is_contradicted (range_of (hear_frame second hollow silent) l.variable)) (frame_literals second silent) → ⊥
 hollow-stays e = true≢false e
+
+-- N1 has sent the value of A, and knows it; at first it doesn't
+pub sent-known : range_of (dispatcher_at late_play 0).heard 128 ≡ only 1
+sent-known = refl
+
+pub unsent-unknown : range_of (dispatcher_at (open_cluster late_broadcast late_tables) 0).heard 128 ≡ only 1 → ⊥
+unsent-unknown e = let low : 0 ≡ 1 = ap (λ (r : Range). r.low) e in absurd (omega (arith, low))

@@ -4,3 +4,4 @@ pub mod Rising
 pub mod Room
 pub mod Streams
 pub mod Ranges
+pub mod Sent

@@ -1,3 +1,4 @@
 pub mod Follow
 pub mod Streams
 pub mod Ranges
+pub mod Sent

@@ -3,6 +3,7 @@
 
 ghost use Rattle.cpg_follow_laws.specs.Follow.{PlaysAreFollowed, RecordsRise, StreamsGiveWhatIsDue};
 ghost use Rattle.cpg_follow_laws.specs.Ranges.{FramesContradictWhereTheyTell, NoRangeIsEmpty};
+ghost use Rattle.cpg_follow_laws.specs.Sent.{SentValuesAreKnown};
 ghost use Rattle.cpg_follow_laws.specs.Streams.{BytesOfPlaysGiveWhatIsDue};
 
 /// The records of each node of a play are a lawful stream, on which the node does what it does in the play.
@@ -34,4 +35,9 @@ pub fn no_range_is_empty()
 /// If no range is empty, a frame leaves an empty one exactly if it does so at a variable of which it tells.
 pub fn frames_contradict_where_they_tell()
     ensures { FramesContradictWhereTheyTell }
+{}
+
+/// In a play of valid tables a node that has sent the value of a condition holds just that value.
+pub fn sent_values_are_known()
+    ensures { SentValuesAreKnown }
 {}
