@@ -1,14 +1,17 @@
 -- What isn't quiet, streams that are lawful or not, and a stream that is what a node is told in a play.
-use Rattle.std.proofs.Common.{◌≡◌, ℕ, ◌==◌, List, [], ◌∷◌, length, Contains, Some, None, true, false, true≢false, refl, sym, ap, arith}
+use Rattle.std.proofs.Common.{◌≡◌, ℕ, zero, suc, ◌<◌, ◌≤◌, ◌==◌, List, [], ◌∷◌, length, Contains, Some, None, true, false, true≢false, refl, sym, ap, arith}
 use Rattle.std.specs.Prelude.{get_or, is_some, Ok, Err}
 use Rattle.std.specs.List.{list_any}
 use Rattle.std.proofs.lemmas.List.Sorted.{length_permutation}
+use Rattle.cpg_base.specs.Duration.{duration}
+use Rattle.cpg_base.specs.Scenario.{fault_of}
 use Rattle.cpg_base.proofs.Lists.{from_any_false}
 use Rattle.cpg_cube.specs.declared.literal.Literal.{Literal}
 use Rattle.cpg_table.specs.Table.{NodeTable, table_at}
 use Rattle.cpg_node.specs.Dispatcher.{Dispatcher, Frame, Range, acts_of_turn, candidates, frame_literals, hear_frame, is_contradicted, opening, range_of, turn}
 use Rattle.cpg_node.specs.Quiet.{IsQuiet, awaited}
 use Rattle.cpg_cluster.specs.Cluster.{dispatcher_at, own_table, open_cluster}
+use Rattle.cpg_cluster.specs.Correct.{IsWorld}
 use Rattle.cpg_live.specs.declared.event.Event.{Event}
 use Rattle.cpg_live.specs.declared.event.Event.TheVariants.{Frame as Arrival, End as Ending}
 use Rattle.cpg_live.specs.declared.bad.Why.TheVariants.{Order, End as FalseEnd}
@@ -17,7 +20,11 @@ use Rattle.cpg_live.specs.Spelling.{closed_at, stream_bytes}
 use Rattle.cpg_follow_laws.specs.Follow.{told_in, GivesWhatIsDue}
 use Rattle.cpg_follow_laws.specs.Sent.{only}
 use Rattle.cpg_follow_laws.specs.Streams.{IsToldAll}
-use Rattle.cpg_examples.proofs.Examples.{pair, branching, branching_tables, act}
+use Rattle.cpg_follow_laws.proofs.Follow.{streams_give}
+use Rattle.cpg_examples.proofs.Examples.{pair, frozen_pair, branching, branching_tables, act}
+use Rattle.cpg_examples.proofs.Pair.{formed}
+use Rattle.cpg_examples.proofs.Instance.{tables}
+use Rattle.cpg_examples.proofs.ValidInstance.{shape, valid}
 use Rattle.cpg_examples.proofs.CycleExamples.{pair_tables, pair_world, pair_turns, late_broadcast, late_tables, late_play}
 
 -- N1 starts A at 0, so that a turn at 0 may not be left out
@@ -113,9 +120,22 @@ pub told-acts : (after second (stream_bytes (closed_at lawful_events 105))).prog
 unfolding turns_below
 told-acts = refl
 
--- where a node isn't done not all is done that is due: of N1, which was never asked, the start of A alone
-pub unasked-not_due : GivesWhatIsDue pair pair_tables pair_world [] 0 0 → ⊥
-unfolding turns_below
+-- the tables of the frozen pair are valid, so that the law on streams speaks of a play of them
+pub frozen_world : IsWorld frozen_pair pair_world
+frozen_world = record { scenario = record { values = refl; faults = refl; budget = omega arith }; count = refl; lengths = lengths }
+  where
+    lengths : (p : ℕ) → p < 2 → (1 ≤ get_or pair_world.lengths p 0) × (get_or pair_world.lengths p 0 ≤ duration frozen_pair p (fault_of pair_world.scenario p))
+    lengths zero l = (omega arith, omega arith)
+    lengths (suc zero) l = (omega arith, omega arith)
+    lengths (suc (suc p)) l = absurd (omega arith)
+
+pub frozen-gives : GivesWhatIsDue frozen_pair tables pair_world pair_turns 1 105
+unfolding tables
+frozen-gives = streams_give frozen_pair tables (formed true) shape valid pair_world pair_turns 1 105 frozen_world (omega arith) refl (omega arith)
+
+-- without a node that is done it doesn't hold: of what is due on N1, which was never asked, the start of A alone is done
+pub unasked-not_due : GivesWhatIsDue frozen_pair tables pair_world [] 0 0 → ⊥
+unfolding tables turns_below
 unasked-not_due gives = let two : 1 ≡ 2 = length_permutation _ _ gives.acts.all in absurd (omega (arith, two))
 
 -- ---- ranges
