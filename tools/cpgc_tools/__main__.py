@@ -20,6 +20,7 @@ TOOLS = {
     "explore": "searches for a better order or design",
     "from-tgff": "makes a graph file of a task graph of TGFF",
     "pack": "reads a pack as JSON, or writes one",
+    "lint": "warns of what a graph can hardly mean",
     "page": "makes a page that shows tables in a browser",
     "run-nodes": "runs the nodes of a pack as programs in C",
     "slack": "says how far each wcet may grow",

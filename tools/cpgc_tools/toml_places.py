@@ -149,6 +149,10 @@ class Places:
         """The line on which it begins, or nothing."""
         return self.text.count("\n", 0, self.begins[path]) + 1 if path in self.begins else None
 
+    def column(self, *path: str | int) -> int | None:
+        """How many letters from the begin of its line it begins, counted from 1, or nothing."""
+        return self.begins[path] - self.text.rfind("\n", 0, self.begins[path]) if path in self.begins else None
+
     def keys(self, *path: str | int) -> list[str]:
         """The keys of a table, in the order of the text."""
         found = (it for it in self.begins if len(it) == len(path) + 1 and it[:-1] == path)

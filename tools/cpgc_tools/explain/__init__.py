@@ -5,7 +5,8 @@
     explain --patterns
 
 Behind `--` stands a command. It is run, its outputs stay as they are, and behind its line on the error stream comes what that line
-means. The status is that of the command. It may also be another tool that passes a line of cpgc on.
+means. The status is that of the command. It may also be another tool that passes a line of cpgc on. Behind `cpgc show`, `compile` and `check`
+stand the warnings that `lint` has of the graph, such as that of a process that never runs.
 
 Without `--` the lines come on standard input, and all of them are written again. The files are those of the command, in its order. The
 status is the one that cpgc has with such a line, and 0 where there is none.
@@ -22,11 +23,13 @@ import shutil
 import sys
 from collections.abc import Sequence
 
-from cpgc_tools import cli, program
+from cpgc_tools import cli, lint, program
 from cpgc_tools.explain import graph, pack, run, scenario, stream
 from cpgc_tools.explain.files import COMMANDS, Files
 from cpgc_tools.explain.table import explained, patterns
 
+LINTED, TAKEN = ("show", "compile", "check"), (0, 5, 6, 7)  # the commands behind which warnings stand, and the statuses of a graph that is one
+MOST_WARNINGS = 5
 PARTS = graph, pack, run, scenario, stream  # whose functions explain the lines of the table
 
 
@@ -39,7 +42,18 @@ def run_command(words: Sequence[str]) -> int:
         for line in ran.err.decode(errors="replace").splitlines():
             for said in explained(line, files)[1]:
                 cli.tell(said)
+    if words[1:2] and words[1] in LINTED and ran.status in TAKEN:
+        warn(files_of(words))
     return ran.status if ran.status >= 0 else 128 - ran.status
+
+
+def warn(files: Files) -> None:
+    """The warnings of the graph of a command."""
+    found = lint.high(files.graphs[0]) if files.graphs else []
+    for line in found[:MOST_WARNINGS]:
+        cli.tell(line)
+    if len(found) > MOST_WARNINGS:
+        cli.tell(f"and {len(found) - MOST_WARNINGS} more warnings, which `{cli.named('lint')} {files.graphs[0].path}` has")
 
 
 def files_of(words: Sequence[str]) -> Files:
